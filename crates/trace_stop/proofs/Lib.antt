@@ -1,0 +1,4 @@
+pub mod Every
+pub mod FromSound
+pub mod Placed
+pub mod Born
