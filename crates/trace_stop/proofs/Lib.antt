@@ -1,2 +1,4 @@
 pub mod Every
 pub mod FromSound
+pub mod Passes
+pub mod Doomed
