@@ -1,0 +1,6 @@
+pub mod Every
+pub mod FromSound
+pub mod Placed
+pub mod Born
+pub mod Passes
+pub mod Doomed
