@@ -2,3 +2,5 @@ pub mod Every
 pub mod FromSound
 pub mod Placed
 pub mod Born
+pub mod Passes
+pub mod Doomed
