@@ -1,5 +1,5 @@
 -- Words on rows that proofs use beside those of Lwps, and how they agree where the LWPs' numbers differ.
-use Rattle.std.proofs.Common.{◌≡◌, ◌≢◌, ℕ, Bool, true, false, not, ◌||◌, List, [], ◌∷◌, Some, None, refl, sym, ap, subst, ◌∙◌, arith, cond, nat_eq}
+use Rattle.std.proofs.Common.{◌≡◌, ◌≢◌, ℕ, Bool, true, false, not, ◌||◌, List, [], ◌∷◌, Some, None, refl, sym, ap, subst, ◌∙◌, arith, cond, nat_eq, is_some}
 use Rattle.std.proofs.lemmas.Bool.Decides.{nat_tests}
 use Rattle.lwp_table.specs.declared.LwpData.{LwpData}
 use Rattle.lwp_table.specs.Lwps.{lwp_of, first_lwp, next_lwp, has_lwp, with_lwp, without_lwp, LacksLwp, Differ}
@@ -40,6 +40,14 @@ lwp_of-fresh tid (x ∷ xs) fresh = by (nat_eq x.tid tid) fresh (lwp_of-fresh ti
     by : (c : Bool) → (c || has_lwp tid xs) ≡ false → (has_lwp tid xs ≡ false → lwp_of tid xs ≡ None) → cond c (Some x) (lwp_of tid xs) ≡ None
     by true fresh later = absurd (cc (fresh))
     by false fresh later = later fresh
+
+pub has_lwp-found : (tid : ℕ) (xs : List LwpData) → is_some (lwp_of tid xs) ≡ has_lwp tid xs
+has_lwp-found tid [] = refl
+has_lwp-found tid (x ∷ xs) = by (nat_eq x.tid tid) (has_lwp-found tid xs)
+  where
+    by : (c : Bool) → is_some (lwp_of tid xs) ≡ has_lwp tid xs → is_some (cond c (Some x) (lwp_of tid xs)) ≡ (c || has_lwp tid xs)
+    by true later = refl
+    by false later = later
 
 -- an edit at a number that no row has
 without-lacks : (tid : ℕ) (xs : List LwpData) → LacksLwp tid xs → without_lwp tid xs ≡ xs

@@ -1,8 +1,9 @@
 -- How a table keeps its rows: in slots, with a birth number each, and with links in order of birth.
-use Rattle.std.specs.Prelude.{◌≡◌, ℕ, zero, suc, ◌+◌, ◌-◌, ◌/◌, ◌<◌, Bool, ◌==◌, List, [], ◌∷◌, Option, Some, None, nat_eq, count_by, length, if◌then◌else◌, unwrap_or, slice_index, IfSome, IsSomeAnd}
+use Rattle.std.specs.Prelude.{◌≡◌, ℕ, zero, suc, ◌+◌, ◌-◌, ◌<◌, Bool, ◌==◌, List, [], ◌∷◌, Option, Some, None, nat_eq, count_by, length, if◌then◌else◌, unwrap_or, slice_index, IfSome, IsSomeAnd}
 use Rattle.std.specs.List.{cons_option}
 use Rattle.std.specs.Option.{option_map}
 use Rattle.std.specs.Map.{lookup}
+use Rattle.pid_blocks.specs.Blocks.{slot, tid_owner}
 use Rattle.lwp_table.specs.declared.LwpData.{LwpData}
 use Rattle.lwp_table.specs.declared.links.Slot.{Slot}
 use Rattle.lwp_table.specs.declared.links.Ends.{Ends}
@@ -16,7 +17,7 @@ is_of pid row = row.pid == pid
 
 -- the place among the 64 users of the one in whose block this number lies
 abbrev pub place_of : ℕ → ℕ
-place_of tid = (tid - 100000) / 4000
+place_of tid = slot (tid_owner tid)
 
 -- whether a row's number is of the user at this place
 abbrev pub is_at : ℕ → LwpData → Bool

@@ -8,7 +8,7 @@ ghost use Rattle.lwp_table.specs.Kept.{linked, ends_at, no_ends, place_of};
 
 use crate::LwpData;
 use indexmap::IndexMap;
-use pid_blocks::Tid;
+use pid_blocks::{Tid, owner_of_tid};
 use slab::Slab;
 
 /// The slots before and after one in a list.
@@ -128,5 +128,5 @@ pub fn user_place(tid: Tid) -> usize
     ensures place { result ≡ place_of tid }
     ensures below { result < 64 }
 {
-    ((tid.get() - 100000) / 4000) as usize
+    owner_of_tid(tid.get()).unwrap().slot()
 }

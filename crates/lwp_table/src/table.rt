@@ -122,6 +122,14 @@ impl LwpTable {
         self.users[user_place(row.tid)] += 1;
     }
 
+    /// Whether a row has this number.
+    pub fn has(&self, tid: Tid) -> bool
+        ensures has { result ≡ has_lwp tid self.now.rows }
+        ensures differ { Differ self.now.rows }
+    {
+        self.get(tid).is_some()
+    }
+
     /// The row with this number.
     pub fn get(&self, tid: Tid) -> Option<LwpData>
         ensures row { result ≡ lwp_of tid self.now.rows }
@@ -231,7 +239,7 @@ impl LwpTable {
         ensures count { result ≡ count_by (λ l. tid_owner l.tid == uid) self.now.rows }
         ensures differ { Differ self.now.rows }
     {
-        self.users[(uid.get() - 1001) as usize]
+        self.users[uid.slot()]
     }
 
     /// How many rows there are.

@@ -22,7 +22,7 @@ invariant_of-self c =
     let put = c.insert_reserved-slot.ensures in
     let fresh = lwp_of-fresh c.args.row.tid (rows_of f c.self.inside.slots.entries c.self.inside.births) (ap (λ v. has_lwp c.args.row.tid v.rows) c.self.view_is ∙ c.requires.fresh) in
     added-kept f _ _ c.self.inside.all c.self.inside.births c.self.inside.users c.self.invariant c.args.row c.insert_reserved-slot.result
-    (slot_get c.insert_reserved-slot.new.self) (slot_get c.set_link.new.slots) _ _ _ c.get-tid.result c.get-pid.result c.get-tid.ensures.number c.get-pid.ensures c.ends_of-own.result c.ends_of-own.ensures put.was_vacant put.updates.changed put.updates.others
+    (slot_get c.insert_reserved-slot.new.self) (slot_get c.set_link.new.slots) _ _ _ c.get-tid.result c.get-pid.result c.get-tid.ensures.number c.get-pid.ensures.number c.ends_of-own.result c.ends_of-own.ensures put.was_vacant put.updates.changed put.updates.others
     c.set_link.ensures.linked c.set_link-2.ensures.linked (rw c.unwrap.ensures at c.insert.ensures.updates).0 c.or.result c.or.ensures (rw c.unwrap-2.ensures at c.insert-2.ensures.updates).0 fresh
     c.user_place.result c.user_place.ensures.place c.user_place.ensures.below c.self.told c.or-2.result c.or-2.ensures
 
@@ -32,6 +32,6 @@ returns-clause-rows c =
     let put = c.insert_reserved-slot.ensures in
     let fresh = lwp_of-fresh c.args.row.tid (rows_of f c.self.inside.slots.entries c.self.inside.births) (ap (λ v. has_lwp c.args.row.tid v.rows) c.self.view_is ∙ c.requires.fresh) in
     rw (← c.self.view_is) (added-rows f _ _ c.self.inside.all c.self.inside.births c.self.inside.users c.self.invariant c.args.row c.insert_reserved-slot.result
-    (slot_get c.insert_reserved-slot.new.self) (slot_get c.set_link.new.slots) (slot_get c.set_link-2.new.slots) c.insert.new.self.entries c.insert-2.new.self.entries c.get-tid.result c.get-pid.result c.get-tid.ensures.number c.get-pid.ensures c.ends_of-own.result c.ends_of-own.ensures put.was_vacant put.updates.changed put.updates.others
+    (slot_get c.insert_reserved-slot.new.self) (slot_get c.set_link.new.slots) (slot_get c.set_link-2.new.slots) c.insert.new.self.entries c.insert-2.new.self.entries c.get-tid.result c.get-pid.result c.get-tid.ensures.number c.get-pid.ensures.number c.ends_of-own.result c.ends_of-own.ensures put.was_vacant put.updates.changed put.updates.others
     c.set_link.ensures.linked c.set_link-2.ensures.linked (rw c.unwrap.ensures at c.insert.ensures.updates).0 c.or.result c.or.ensures (rw c.unwrap-2.ensures at c.insert-2.ensures.updates).0 fresh
     c.user_place.result c.user_place.ensures.place c.user_place.ensures.below c.self.told)

@@ -22,7 +22,7 @@ returns-clause-rows c =
     let pid = c.get-pid.result in
     ap (λ e. filter (is_of pid) (rows_from f es c.self.inside.births e.first)) c.ends_of.ensures
     ∙ sym (left-first f es c.self.inside.births c.self.invariant.indexed pid _ (c.self.invariant.own pid).first_is)
-    ∙ ap (λ n. lwps_of n (rows_of f es c.self.inside.births)) c.get-pid.ensures ∙ ap (λ v. lwps_of c.args.pid v.rows) c.self.view_is
+    ∙ ap (λ n. lwps_of n (rows_of f es c.self.inside.births)) c.get-pid.ensures.number ∙ ap (λ v. lwps_of c.args.pid v.rows) c.self.view_is
 
 pub returns-clause-differ : goal.returns-clause-differ
 returns-clause-differ c =

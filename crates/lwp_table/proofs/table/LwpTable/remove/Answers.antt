@@ -44,7 +44,7 @@ set_link-requires-4 c =
 
 pub without-requires : goal.without-requires
 without-requires c =
-    let own = c.ends_of-own.ensures ∙ ap (ends_at c.self.inside.heads.entries) c.get-pid.ensures in
+    let own = c.ends_of-own.ensures ∙ ap (ends_at c.self.inside.heads.entries) c.get-pid.ensures.number in
     omega (arith, ap (λ (e : Ends). e.count) own, own_positive (slot_get c.self.inside.rows) _ _ c.self.inside.all c.self.inside.births c.self.inside.users c.self.invariant c.unwrap-slot.result c.remove-gone.result c.remove-gone.ensures.value)
 
 pub overflow_sub-self : goal.overflow_sub-self
@@ -61,12 +61,12 @@ invariant_of-self c =
     let gone = c.remove-gone.result in
     let tid = (lwp_of-found f c.self.inside.slots.entries c.self.inside.births c.self.invariant.indexed c.get.result c.unwrap-slot.result gone (sym c.swap_remove.ensures.value ∙ c.unwrap-slot.ensures) c.remove-gone.ensures.value).0 in
     let change = subst (λ n. (p : ℕ) → lookup (nat_eq p) c.swap_remove.new.self.entries ≡ cond (nat_eq n p) None (lookup (nat_eq p) c.self.inside.slots.entries)) (sym tid) c.swap_remove.ensures.updates.0 in
-    let own = c.ends_of-own.ensures ∙ ap (ends_at c.self.inside.heads.entries) c.get-pid.ensures in
+    let own = c.ends_of-own.ensures ∙ ap (ends_at c.self.inside.heads.entries) c.get-pid.ensures.number in
     let owner = c.user_place.ensures.place ∙ ap place_of (sym (tid ∙ c.get.ensures.number)) in
     IsKept-removed f _ _ c.self.inside.all c.self.inside.births c.self.inside.users c.self.invariant c.unwrap-slot.result gone
     (slot_get c.remove-gone.new.self) (slot_get c.set_link.new.slots) (slot_get c.set_link-2.new.slots) (slot_get c.set_link-3.new.slots) (slot_get c.set_link-4.new.slots) c.swap_remove.new.self.entries c.put_ends.new.heads.entries c.without.result c.without-self-inside.result
     c.remove-gone.ensures.value c.remove-gone.ensures.updates.changed c.remove-gone.ensures.updates.others c.set_link.ensures.linked c.set_link-2.ensures.linked c.set_link-3.ensures.linked c.set_link-4.ensures.linked change
-    (λ p. c.put_ends.ensures.ends p ∙ ap (λ n. cond (nat_eq n p) c.without.result (ends_at c.self.inside.heads.entries p)) c.get-pid.ensures)
+    (λ p. c.put_ends.ensures.ends p ∙ ap (λ n. cond (nat_eq n p) c.without.result (ends_at c.self.inside.heads.entries p)) c.get-pid.ensures.number)
     (c.without.ensures.first ∙ ap (λ (e : Ends). cond (is_none gone.own.prev) gone.own.next e.first) own)
     (c.without.ensures.last ∙ ap (λ (e : Ends). cond (is_none gone.own.next) gone.own.prev e.last) own)
     (c.without.ensures.count ∙ ap (λ (e : Ends). e.count) own)
@@ -91,7 +91,7 @@ put_ends-requires-clause-empty c =
     let gone = c.remove-gone.result in
     let tid = (lwp_of-found f c.self.inside.slots.entries c.self.inside.births c.self.invariant.indexed c.get.result c.unwrap-slot.result gone (sym c.swap_remove.ensures.value ∙ c.unwrap-slot.ensures) c.remove-gone.ensures.value).0 in
     let change = subst (λ n. (p : ℕ) → lookup (nat_eq p) c.swap_remove.new.self.entries ≡ cond (nat_eq n p) None (lookup (nat_eq p) c.self.inside.slots.entries)) (sym tid) c.swap_remove.ensures.updates.0 in
-    let own = c.ends_of-own.ensures ∙ ap (ends_at c.self.inside.heads.entries) c.get-pid.ensures in
+    let own = c.ends_of-own.ensures ∙ ap (ends_at c.self.inside.heads.entries) c.get-pid.ensures.number in
     left_empty f _ _ c.self.inside.all c.self.inside.births c.self.inside.users c.self.invariant c.unwrap-slot.result gone
     (slot_get c.remove-gone.new.self) (slot_get c.set_link.new.slots) (slot_get c.set_link-2.new.slots) (slot_get c.set_link-3.new.slots) (slot_get c.set_link-4.new.slots) c.swap_remove.new.self.entries c.self.inside.heads.entries c.without.result c.self.inside.all
     c.remove-gone.ensures.value c.remove-gone.ensures.updates.changed c.remove-gone.ensures.updates.others c.set_link.ensures.linked c.set_link-2.ensures.linked c.set_link-3.ensures.linked c.set_link-4.ensures.linked change

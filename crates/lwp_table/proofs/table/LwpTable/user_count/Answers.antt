@@ -8,8 +8,8 @@ use Rattle.lwp_table.proofs.table.LwpTable.user_count.Goals as goal
 
 pub returns-clause-count : goal.returns-clause-count
 returns-clause-count c =
-    let place = c.get.result - 1001 in
-    c.self.invariant.homes place (omega (arith, c.get.ensures.number, c.get.ensures.user)) ∙ count-owner c.args.uid place (rows_of (slot_get c.self.inside.rows) c.self.inside.slots.entries c.self.inside.births) (omega (arith, c.get.ensures.number, c.get.ensures.user))
+    let rows = rows_of (slot_get c.self.inside.rows) c.self.inside.slots.entries c.self.inside.births in
+    c.self.invariant.homes c.slot.result c.slot.ensures.below ∙ count-owner c.args.uid c.slot.result rows (omega (arith, c.slot.ensures.place, c.slot.ensures.user))
     ∙ ap (λ v. count_by (λ l. tid_owner l.tid == c.args.uid) v.rows) c.self.view_is
 
 pub returns-clause-differ : goal.returns-clause-differ
