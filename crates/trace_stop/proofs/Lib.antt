@@ -6,3 +6,4 @@ pub mod Turned
 pub mod Twice
 pub mod Tells
 pub mod LeafFirst
+pub mod LeafLaw

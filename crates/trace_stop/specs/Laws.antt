@@ -1,11 +1,12 @@
 -- The end of a process, taken apart into ends of processes that trace no live one.
 use Rattle.std.specs.Prelude.{◌≡◌, ℕ, Bool, true, false, ◌==◌, ◌&&◌}
 use Rattle.std.specs.List.{list_any}
+use Rattle.signals.specs.Table.{SIGKILL}
 use Rattle.proc_table.specs.Processes.{is_live, traces}
 use Rattle.proc_table.specs.Rows.{Rows}
 use Rattle.proc_table.specs.Fresh.{is_process}
 use Rattle.trace_stop.specs.declared.Settings.{Settings}
-use Rattle.trace_stop.specs.End.{left_alone, end_each, end}
+use Rattle.trace_stop.specs.End.{dooms, left_alone, end_each, end}
 use Rattle.trace_stop.specs.Facts.{Stands}
 
 -- whether the process numbered q traces a live one
@@ -25,3 +26,9 @@ LeafEnd = (settings : Settings) (rows : Rows) (q status : ℕ) → settings.kill
 abbrev pub DetachedEnd : Type 0
 DetachedEnd = (settings : Settings) (rows : Rows) (q status : ℕ) → settings.kill_on_debugger_exit ≡ false
     → is_process rows q ≡ true → end settings q status rows ≡ end_alone q status (left_alone settings q rows)
+
+-- where a debugger's end kills, the processes that end with p may end before it, each once it traces no live one
+abbrev pub LeafLaw : Type 0
+LeafLaw = (settings : Settings) (rows : Rows) (p q status : ℕ) → settings.kill_on_debugger_exit ≡ true → Stands rows
+    → (q == p) ≡ false → dooms settings rows.processes p q ≡ true → traces_live q rows ≡ false
+    → end settings p status rows ≡ end settings p status (end settings q SIGKILL rows)
