@@ -161,7 +161,7 @@ If-map : {X : Type 0} (P Q : X → Type 0) → ((x : X) → P x → Q x) → (o 
 If-map P Q h None k = tt
 If-map P Q h (Some x) k = h x k
 
-number_found : (n : ℕ) (ps : List ProcData) (r : ProcData) → process_of n ps ≡ Some r → (r.pid == n) ≡ true
+pub number_found : (n : ℕ) (ps : List ProcData) (r : ProcData) → process_of n ps ≡ Some r → (r.pid == n) ≡ true
 number_found n ps r is = (find_some (λ x. x.pid == n) (λ x. Unit {0}) ps (All-any (λ x. Unit {0}) (λ x. tt) ps) r is).1
 
 uncollected_safe : (t : ProcData → Bool) (z : ProcData) → t z ≡ false → passes t (uncollected z) ≡ false
@@ -187,6 +187,33 @@ alone-false : (q n : ℕ) → (n == q) ≡ false → alone q n ≡ false
 unfolding alone
 alone-false q n e = e
 
+module _ (settings : Settings) (rows : Rows) (p : ℕ) (s : Stands rows) where
+  -- who is doomed and isn't p is live and has a chain to p
+  pub doomed_chained : (r : ProcData) (n : ℕ) → r.pid ≡ n → (n == p) ≡ false → is_doomed settings rows.processes p r ≡ true → (is_live r ≡ true) × (meets 250 rows.processes p n ≡ true)
+  doomed_chained r n same other is =
+      let k : (settings.kill_on_debugger_exit && is_live r && meets 250 rows.processes p r.pid) ≡ true = sym (ap (λ b. b || (settings.kill_on_debugger_exit && is_live r && meets 250 rows.processes p r.pid)) (ap (λ m. eqb m p) same ∙ other)) ∙ is in
+      (and_right _ (is_live r) (and_left _ (meets 250 rows.processes p r.pid) k), ap (meets 250 rows.processes p) (sym same) ∙ and_right _ (meets 250 rows.processes p r.pid) k)
+
+  pub dooms_meets : (n : ℕ) → (n == p) ≡ false → dooms settings rows.processes p n ≡ true → IsLiveRow rows.processes n × (meets 250 rows.processes p n ≡ true)
+  dooms_meets n other is = at_row (process_of n rows.processes) refl (sym (dooms-at settings rows.processes p n s.rising) ∙ is)
+    where
+      at_row : (o : Option ProcData) → process_of n rows.processes ≡ o → passes (is_doomed settings rows.processes p) o ≡ true → IsLiveRow rows.processes n × (meets 250 rows.processes p n ≡ true)
+      at_row None at h = absurd (true≢false (sym h))
+      at_row (Some r) at h = let k = doomed_chained r n (eqb-true r.pid n (number_found n rows.processes r at)) other h in (ap (passes is_live) at ∙ k.0, k.1)
+
+  -- a live process with a chain to p is doomed
+  pub dooms_chained : settings.kill_on_debugger_exit ≡ true → (t : ℕ) → IsLiveRow rows.processes t → ((t == p) || meets 250 rows.processes p t) ≡ true → dooms settings rows.processes p t ≡ true
+  dooms_chained kills t live is = dooms-at settings rows.processes p t s.rising ∙ at_row (process_of t rows.processes) refl live
+    where
+      doomed : (r : ProcData) → r.pid ≡ t → is_live r ≡ true → is_doomed settings rows.processes p r ≡ true
+      doomed r same alive = ap (λ m. (m == p) || (settings.kill_on_debugger_exit && is_live r && meets 250 rows.processes p m)) same
+          ∙ ap (λ b. (t == p) || (b && is_live r && meets 250 rows.processes p t)) kills
+          ∙ ap (λ b. (t == p) || (b && meets 250 rows.processes p t)) alive ∙ is
+
+      at_row : (o : Option ProcData) → process_of t rows.processes ≡ o → passes is_live o ≡ true → passes (is_doomed settings rows.processes p) o ≡ true
+      at_row None at h = absurd (true≢false (sym h))
+      at_row (Some r) at h = doomed r (eqb-true r.pid t (number_found t rows.processes r at)) h
+
 module _ (settings : Settings) (rows : Rows) (p q status : ℕ) (kills : settings.kill_on_debugger_exit ≡ true) (s : Stands rows) (qp : (q == p) ≡ false)
     (dq : dooms settings rows.processes p q ≡ true) (leaf : traces_live q rows ≡ false) where
   abbrev ps : List ProcData
@@ -195,44 +222,18 @@ module _ (settings : Settings) (rows : Rows) (p q status : ℕ) (kills : setting
   abbrev d : ℕ → Bool
   d = dooms settings ps p
 
-  abbrev Chained : ProcData → ℕ → Type 0
-  Chained r n = (is_live r ≡ true) × (meets 250 ps p n ≡ true)
-
-  -- who is doomed and isn't p is live and has a chain to p
-  chained : (r : ProcData) (n : ℕ) → r.pid ≡ n → (n == p) ≡ false → is_doomed settings ps p r ≡ true → Chained r n
-  chained r n same other is =
-      let k : (settings.kill_on_debugger_exit && is_live r && meets 250 ps p r.pid) ≡ true = sym (ap (λ b. b || (settings.kill_on_debugger_exit && is_live r && meets 250 ps p r.pid)) (ap (λ m. eqb m p) same ∙ other)) ∙ is in
-      (and_right _ (is_live r) (and_left _ (meets 250 ps p r.pid) k), ap (meets 250 ps p) (sym same) ∙ and_right _ (meets 250 ps p r.pid) k)
-
   q_row : IsLiveRow ps q × (meets 250 ps p q ≡ true)
-  q_row = at_row (process_of q ps) refl (sym (dooms-at settings ps p q s.rising) ∙ dq)
-    where
-      at_row : (o : Option ProcData) → process_of q ps ≡ o → passes (is_doomed settings ps p) o ≡ true → IsLiveRow ps q × (meets 250 ps p q ≡ true)
-      at_row None is h = absurd (true≢false (sym h))
-      at_row (Some r) is h = let k = chained r q (eqb-true r.pid q (number_found q ps r is)) qp h in (ap (passes is_live) is ∙ k.0, k.1)
+  q_row = dooms_meets settings rows p s q qp dq
 
   p_live : IsLiveRow ps p
   p_live = meets_live ps p (tracer_lives rows s) 250 q q_row.1
-
-  -- a live process with a chain to p is doomed
-  dooms_chained : (t : ℕ) → IsLiveRow ps t → ((t == p) || meets 250 ps p t) ≡ true → d t ≡ true
-  dooms_chained t live is = dooms-at settings ps p t s.rising ∙ at_row (process_of t ps) refl live
-    where
-      doomed : (r : ProcData) → r.pid ≡ t → is_live r ≡ true → is_doomed settings ps p r ≡ true
-      doomed r same alive = ap (λ m. (m == p) || (settings.kill_on_debugger_exit && is_live r && meets 250 ps p m)) same
-          ∙ ap (λ b. (t == p) || (b && is_live r && meets 250 ps p t)) kills
-          ∙ ap (λ b. (t == p) || (b && meets 250 ps p t)) alive ∙ is
-
-      at_row : (o : Option ProcData) → process_of t ps ≡ o → passes is_live o ≡ true → passes (is_doomed settings ps p) o ≡ true
-      at_row None at h = absurd (true≢false (sym h))
-      at_row (Some r) at h = doomed r (eqb-true r.pid t (number_found t ps r at)) h
 
   q_traced : holds_of d (tracer_of ps q) ≡ true
   q_traced = at_tracer (tracer_of ps q) (tracer_lives rows s q) (sym (meets-suc 249 ps p q) ∙ q_row.1)
     where
       at_tracer : (o : Option ℕ) → IfSome o (IsLiveRow ps) → holds_of (λ t. (t == p) || meets 249 ps p t) o ≡ true → holds_of d o ≡ true
       at_tracer None live h = absurd (true≢false (sym h))
-      at_tracer (Some t) live h = dooms_chained t live (or_more (t == p) (meets 249 ps p t) (meets 250 ps p t) (meets-more 249 ps p t) h)
+      at_tracer (Some t) live h = dooms_chained settings rows p s kills t live (or_more (t == p) (meets 249 ps p t) (meets 250 ps p t) (meets-more 249 ps p t) h)
 
   own : AllByRecursion (λ r. process_of r.pid ps ≡ Some r) ps
   own = own_rows ps s.rising

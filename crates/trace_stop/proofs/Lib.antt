@@ -7,3 +7,5 @@ pub mod Twice
 pub mod Tells
 pub mod LeafFirst
 pub mod LeafLaw
+pub mod Chains
+pub mod Leaves
