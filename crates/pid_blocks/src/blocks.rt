@@ -1,0 +1,97 @@
+//! Each user's own block of process numbers and of LWP numbers, and the choice of a free number.
+
+ghost use Rattle.std.specs.Prelude.{◌≡◌, ◌+◌, ◌-◌, ◌^◌, ◌≤◌, ◌<◌, ℕ, Bool, true, false, SomeIff, IfSome, IfNone};
+ghost use Rattle.pid_blocks.specs.Users.{IsUser};
+ghost use Rattle.pid_blocks.specs.Blocks.{pid_block, tid_block, cursor_after, next_free, first_free, InBlock, pid_owner, tid_owner};
+ghost use Rattle.pid_blocks.specs.Search.{Decides};
+
+use crate::{Block, Uid};
+
+/// The process numbers of a user.
+pub fn pid_block(user: Uid) -> Block
+    ensures block { result ≡ pid_block user }
+    ensures user { IsUser user }
+{
+    Block {
+        first: 1000 * (user.slot() as u32 + 1),
+        size: 1000,
+    }
+}
+
+/// The LWP numbers of a user.
+pub fn tid_block(user: Uid) -> Block
+    ensures block { result ≡ tid_block user }
+    ensures user { IsUser user }
+{
+    Block {
+        first: 100000 + 4000 * user.slot() as u32,
+        size: 4000,
+    }
+}
+
+/// The user in whose block the process number lies; `None` where it lies in no user's block.
+#[tactic(auto, unfolding(crate::specs::Blocks::pid_owner))]
+pub fn owner_of_pid(number: u32) -> Option<Uid>
+    ensures owner { SomeIff result ((1000 ≤ number) × (number < 65000)) (pid_owner number) }
+    ensures home { IfSome result (λ u. IsUser u × InBlock (pid_block u) number) }
+    ensures stranger { IfNone result ((u : ℕ) → IsUser u → ¬ InBlock (pid_block u) number) }
+{
+    Uid::new(number / 1000 + 1000).ok()
+}
+
+/// The user in whose block the LWP number lies; `None` where it lies in no user's block.
+#[tactic(auto, unfolding(crate::specs::Blocks::tid_owner))]
+pub fn owner_of_tid(number: u32) -> Option<Uid>
+    ensures owner { SomeIff result ((100000 ≤ number) × (number < 356000)) (tid_owner number) }
+    ensures home { IfSome result (λ u. IsUser u × InBlock (tid_block u) number) }
+    ensures stranger { IfNone result ((u : ℕ) → IsUser u → ¬ InBlock (tid_block u) number) }
+{
+    let offset = number.checked_sub(100000)?;
+    Uid::new(offset / 4000 + 1001).ok()
+}
+
+/// The first number that isn't taken, from the cursor to the block's end and then from the block's
+/// first number up to the cursor; `None` where all numbers of the block are taken.
+pub fn next_free<F: Fn(u32) -> bool>(block: Block, cursor: u32, taken: F) -> Option<u32>
+    requires fits { block.first + block.size < 2 ^ 32 }
+    requires within { InBlock block cursor }
+    requires callable { F.IsAlwaysCallable taken }
+    // the answer of the definition, for whatever test the closure decides on the block
+    ensures exact { (test : ℕ → Bool) → Decides (F.post taken) block.first (block.first + block.size) test → result ≡ next_free block cursor test }
+    ensures home { IfSome result (InBlock block) }
+    ensures free { IfSome result (λ n. F.post taken n false) }
+    ensures full { IfNone result ((n : ℕ) → InBlock block n → F.post taken n true) }
+{
+    match first_free(cursor, block.first + block.size, &taken) {
+        Some(number) => Some(number),
+        None => first_free(block.first, cursor, &taken),
+    }
+}
+
+/// The first number from `from` to below `end` that isn't taken.
+fn first_free<F: Fn(u32) -> bool>(from: u32, end: u32, taken: &F) -> Option<u32>
+    requires callable { F.IsAlwaysCallable taken.now }
+    ensures exact { (test : ℕ → Bool) → Decides (F.post taken.now) from end test → result ≡ first_free test (end - from) from }
+    ensures home { IfSome result (λ n. (from ≤ n) × (n < end)) }
+    ensures free { IfSome result (λ n. F.post taken.now n false) }
+    ensures full { IfNone result ((n : ℕ) → from ≤ n → n < end → F.post taken.now n true) }
+{
+    for number in from..end {
+        if !taken(number) {
+            return Some(number);
+        }
+    }
+    None
+}
+
+/// Where the search for a free number begins after `number` was given: at the number after it, or
+/// at the block's first number after its last.
+pub fn cursor_after(block: Block, number: u32) -> u32
+    requires fits { block.first + block.size < 2 ^ 32 }
+    ensures { result ≡ cursor_after block number }
+{
+    match number.checked_add(1) {
+        Some(next) if next < block.first + block.size => next,
+        _ => block.first,
+    }
+}
