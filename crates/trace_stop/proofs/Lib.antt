@@ -4,3 +4,10 @@ pub mod Placed
 pub mod Born
 pub mod Passes
 pub mod Doomed
+pub mod Turned
+pub mod Twice
+pub mod Tells
+pub mod LeafFirst
+pub mod LeafLaw
+pub mod Chains
+pub mod Leaves

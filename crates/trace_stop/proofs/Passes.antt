@@ -5,7 +5,7 @@ use Rattle.std.specs.List.{AllByRecursion, list_any, cons_option}
 use Rattle.std.proofs.lemmas.Bool.Decides.{nat_tests}
 use Rattle.proc_table.specs.declared.ProcData.{ProcData}
 use Rattle.lwp_table.specs.declared.LwpData.{LwpData}
-use Rattle.proc_table.specs.Processes.{process_of}
+use Rattle.proc_table.specs.Processes.{process_of, is_live}
 use Rattle.proc_table.specs.Rows.{Rows, by_owner, each}
 use Rattle.proc_table.specs.Kept.{AllAbove, Rise}
 use Rattle.trace_stop.proofs.Every.{find_some, All-imply, All-both}
@@ -111,3 +111,49 @@ each_same f g lwp lwp' rows all =
     every : (ls : List LwpData) → AllByRecursion (λ l. by_owner lwp l (process_of l.pid rows.processes) ≡ by_owner lwp' l (process_of l.pid rows.processes)) ls
     every [] = tt
     every (l ∷ ls) = (at_owner l (process_of l.pid rows.processes) refl, every ls)
+
+-- an edit of LWPs that keeps their processes
+abbrev pub KeepsOwners : (ProcData → LwpData → Option LwpData) → Type 0
+KeepsOwners lwp = (p : ProcData) (l : LwpData) → IfSome (lwp p l) (λ k. k.pid ≡ l.pid)
+
+-- one edit after another
+pub each_twice : (f g : ProcData → Option ProcData) (lwp lwp' : ProcData → LwpData → Option LwpData) (rows : Rows) → Rise rows.processes → KeepsNumbers f → KeepsOwners lwp
+    → each g lwp' (each f lwp rows) ≡ each (λ p. option_and_then g (f p)) (λ p l. option_and_then (λ k. by_owner lwp' k (f p)) (lwp p l)) rows
+each_twice f g lwp lwp' rows rise keeps owners =
+    ap (λ (ps : List ProcData). record rows { processes = ps; lwps = filter_map (λ k. by_owner lwp' k (process_of k.pid after)) (filter_map (λ l. by_owner lwp l (process_of l.pid rows.processes)) rows.lwps) })
+    (filter_map_twice f g rows.processes)
+    ∙ ap (λ (ls : List LwpData). record rows { processes = filter_map (λ p. option_and_then g (f p)) rows.processes; lwps = ls })
+    (filter_map_twice (λ l. by_owner lwp l (process_of l.pid rows.processes)) (λ k. by_owner lwp' k (process_of k.pid after)) rows.lwps ∙ filter_map_same _ _ rows.lwps (every rows.lwps))
+  where
+    after : List ProcData
+    after = filter_map f rows.processes
+
+    at_lwp : (l : LwpData) (p : ProcData) (o : Option LwpData) → IfSome o (λ k. k.pid ≡ l.pid) → process_of l.pid after ≡ f p
+        → option_and_then (λ k. by_owner lwp' k (process_of k.pid after)) o ≡ option_and_then (λ k. by_owner lwp' k (f p)) o
+    at_lwp l p None same found = refl
+    at_lwp l p (Some k) same found = ap (by_owner lwp' k) (ap (λ n. process_of n after) same ∙ found)
+
+    at_owner : (l : LwpData) (o : Option ProcData) → process_of l.pid after ≡ option_and_then f o
+        → option_and_then (λ k. by_owner lwp' k (process_of k.pid after)) (by_owner lwp l o) ≡ by_owner (λ p j. option_and_then (λ k. by_owner lwp' k (f p)) (lwp p j)) l o
+    at_owner l None found = ap (by_owner lwp' l) found
+    at_owner l (Some p) found = at_lwp l p (lwp p l) (owners p l) found
+
+    every : (ls : List LwpData) → AllByRecursion (λ l. option_and_then (λ k. by_owner lwp' k (process_of k.pid after)) (by_owner lwp l (process_of l.pid rows.processes))
+        ≡ by_owner (λ p j. option_and_then (λ k. by_owner lwp' k (f p)) (lwp p j)) l (process_of l.pid rows.processes)) ls
+    every [] = tt
+    every (l ∷ ls) = (at_owner l (process_of l.pid rows.processes) (process_edited f keeps l.pid rows.processes rise), every ls)
+
+-- edits that agree on the rows, and on the LWPs of live ones, which are all LWPs
+pub each_agree : (f g : ProcData → Option ProcData) (lwp lwp' : ProcData → LwpData → Option LwpData) (rows : Rows)
+    → AllByRecursion (λ p. (f p ≡ g p) × (is_live p ≡ true → (l : LwpData) → lwp p l ≡ lwp' p l)) rows.processes
+    → AllByRecursion (λ l. (p : ProcData) → process_of l.pid rows.processes ≡ Some p → is_live p ≡ true) rows.lwps → each f lwp rows ≡ each g lwp' rows
+each_agree f g lwp lwp' rows all owners =
+    ap (λ (ps : List ProcData). record rows { processes = ps; lwps = filter_map (λ l. by_owner lwp l (process_of l.pid rows.processes)) rows.lwps })
+    (filter_map_same f g rows.processes (All-imply _ (λ p. f p ≡ g p) (λ p h. h.0) rows.processes all))
+    ∙ ap (λ (ls : List LwpData). record rows { processes = filter_map g rows.processes; lwps = ls })
+    (filter_map_same _ _ rows.lwps (All-imply (λ l. (p : ProcData) → process_of l.pid rows.processes ≡ Some p → is_live p ≡ true) _ (λ l live. at_owner l (process_of l.pid rows.processes) refl live) rows.lwps owners))
+  where
+    at_owner : (l : LwpData) (o : Option ProcData) → process_of l.pid rows.processes ≡ o → ((p : ProcData) → process_of l.pid rows.processes ≡ Some p → is_live p ≡ true) → by_owner lwp l o ≡ by_owner lwp' l o
+    at_owner l None is live = refl
+    at_owner l (Some p) is live =
+        (find_some (λ q. q.pid == l.pid) (λ q. (f q ≡ g q) × (is_live q ≡ true → (k : LwpData) → lwp q k ≡ lwp' q k)) rows.processes all p is).0.1 (live p is) l

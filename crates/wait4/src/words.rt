@@ -1,0 +1,85 @@
+ghost use Rattle.std.specs.Prelude.{◌≡◌, ◌≢◌, ◌↔◌, Some, SomeIff, IfSome};
+ghost use Rattle.signals.specs.Table.{SIGCONT};
+ghost use Rattle.wait4.specs.Status.{word, IsStatus};
+ghost use Rattle.wait4.specs.declared.StatusKind.{StatusKind};
+ghost use Rattle.wait4.specs.declared.StatusKind.TheVariants.{Exited, Signaled, Stopped, Continued};
+
+use crate::{Status, StatusKind};
+use signals::Signal;
+
+impl Status {
+    /// The process exited by itself.
+    pub fn exited(code: u8) -> Status
+        ensures { result ≡ Exited code }
+    {
+        Status {
+            kind: StatusKind::Exited(code),
+        }
+    }
+
+    /// The signal ended the process. None for SIGCONT, which ends no process.
+    pub fn signaled(signal: Signal) -> Option<Status>
+        ensures { SomeIff result (signal ≢ SIGCONT) (Signaled signal) }
+    {
+        if signal.number() == 19 {
+            None
+        } else {
+            Some(Status {
+                kind: StatusKind::Signaled(signal),
+            })
+        }
+    }
+
+    /// The signal stopped the process.
+    pub fn stopped(signal: Signal) -> Status
+        ensures { result ≡ Stopped signal }
+    {
+        Status {
+            kind: StatusKind::Stopped(signal),
+        }
+    }
+
+    /// The process goes on after a stop.
+    pub fn continued() -> Status
+        ensures { result ≡ Continued }
+    {
+        Status {
+            kind: StatusKind::Continued,
+        }
+    }
+
+    /// What the status tells.
+    pub fn kind(&self) -> StatusKind
+        ensures { result ≡ self.now }
+    {
+        self.kind
+    }
+
+    /// The status as the word that wait(2) gives.
+    pub fn word(&self) -> u32
+        ensures { result ≡ word self.now }
+    {
+        match self.kind {
+            StatusKind::Exited(code) => code as u32 * 256,
+            StatusKind::Signaled(signal) => signal.number(),
+            StatusKind::Stopped(signal) => signal.number() * 256 + 127,
+            StatusKind::Continued => 19,
+        }
+    }
+
+    /// The status with this word. None where no status has it.
+    pub fn of_word(number: u32) -> Option<Status>
+        ensures exact { (s : StatusKind) → IsStatus s → ((result ≡ Some s) ↔ (word s ≡ number)) }
+        ensures found { IfSome result (λ s. word s ≡ number) }
+    {
+        match number {
+            19 => Some(Status::continued()),
+            1..=31 => Status::signaled(Signal::new(number).ok()?),
+            _ => match number % 256 {
+                0 => Some(Status::exited(u8::try_from(number / 256).ok()?)),
+                127 => Some(Status::stopped(Signal::new(number / 256).ok()?)),
+                _ => None,
+            },
+        }
+    }
+}
