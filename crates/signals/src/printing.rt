@@ -29,3 +29,19 @@ impl Iterator for Signals {
         Some(signal)
     }
 }
+
+/// Prints the signals' numbers, rising, with `,` between them, or `none`.
+impl fmt::Display for SigSet {
+    ghost output = { λ set. Some (set_text set) };
+
+    fn fmt<W: fmt::Write>(&self, f: &mut fmt::Formatter<W>) -> fmt::Result {
+        let Some(first) = self.lowest() else {
+            return f.write_str("none");
+        };
+        write!(f, "{}", first.number())?;
+        for signal in self.without(first).signals() {
+            write!(f, ",{}", signal.number())?;
+        }
+        Ok(())
+    }
+}
