@@ -4,3 +4,4 @@ pub mod Placed
 pub mod Born
 pub mod Passes
 pub mod Doomed
+pub mod Edited
