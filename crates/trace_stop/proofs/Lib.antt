@@ -11,3 +11,4 @@ pub mod LeafFirst
 pub mod LeafLaw
 pub mod Chains
 pub mod Leaves
+pub mod Edited
