@@ -87,11 +87,11 @@ or_true : (b : Bool) → (b || true) ≡ true
 or_true true = refl
 or_true false = refl
 
-holds_more : (f g : ℕ → Bool) (o : Option ℕ) → ((t : ℕ) → f t ≡ true → g t ≡ true) → holds_of f o ≡ true → holds_of g o ≡ true
+pub holds_more : (f g : ℕ → Bool) (o : Option ℕ) → ((t : ℕ) → f t ≡ true → g t ≡ true) → holds_of f o ≡ true → holds_of g o ≡ true
 holds_more f g None h is = is
 holds_more f g (Some t) h is = h t is
 
-or_more : (a b c : Bool) → (b ≡ true → c ≡ true) → (a || b) ≡ true → (a || c) ≡ true
+pub or_more : (a b c : Bool) → (b ≡ true → c ≡ true) → (a || b) ≡ true → (a || c) ≡ true
 or_more true b c h is = refl
 or_more false b c h is = h is
 
@@ -131,7 +131,7 @@ tracer_lives rows s n = at_row (process_of n rows.processes) refl
     at_row None is = tt
     at_row (Some r) is = at_tracer r.uid r.tracer (find_some (λ x. x.pid == n) (Linked rows) rows.processes s.linked r is).0.tracer
 
-named : (rows : Rows) → Stands rows → (r : ProcData) → Linked rows r → (x : ℕ) → Names r x → NoZombie rows.processes x
+pub named : (rows : Rows) → Stands rows → (r : ProcData) → Linked rows r → (x : ℕ) → Names r x → NoZombie rows.processes x
 named rows s r l x h = elim h.names [
   | inl tracer ↦ at_tracer r.tracer l.tracer tracer
   | inr parent ↦ subst (NoZombie rows.processes) (eqb-true r.parent x parent.0) (no_zombie rows s.rising r.uid r.parent (l.parent (λ one. true≢false (sym (eq-eqb r.parent 1 one) ∙ parent.1))))
@@ -144,12 +144,12 @@ named rows s r l x h = elim h.names [
 owners_live : (rows : Rows) → Stands rows → AllByRecursion (λ l. (r : ProcData) → process_of l.pid rows.processes ≡ Some r → is_live r ≡ true) rows.lwps
 owners_live rows s = All-imply (WithOwner rows (Standing rows)) _ (λ l h r is. (h r is).live) rows.lwps s.standing
 
-this_holds : (q : ℕ) (o : Option ℕ) → holds_of (alone q) o ≡ is_this q o
+pub this_holds : (q : ℕ) (o : Option ℕ) → holds_of (alone q) o ≡ is_this q o
 unfolding alone
 this_holds q None = refl
 this_holds q (Some t) = refl
 
-kept-tracer : (t o : ℕ → Bool) (r : ProcData) → (told_row t (moved o r)).tracer ≡ r.tracer
+pub kept-tracer : (t o : ℕ → Bool) (r : ProcData) → (told_row t (moved o r)).tracer ≡ r.tracer
 unfolding told_row moved heard
 kept-tracer t o r = at (t r.pid)
   where
@@ -157,7 +157,7 @@ kept-tracer t o r = at (t r.pid)
     at true = refl
     at false = refl
 
-If-map : {X : Type 0} (P Q : X → Type 0) → ((x : X) → P x → Q x) → (o : Option X) → IfSome o P → IfSome o Q
+pub If-map : {X : Type 0} (P Q : X → Type 0) → ((x : X) → P x → Q x) → (o : Option X) → IfSome o P → IfSome o Q
 If-map P Q h None k = tt
 If-map P Q h (Some x) k = h x k
 
@@ -179,11 +179,11 @@ number_listed n (p ∷ ps) r is = by_head (eqb p.pid n) refl is (number_listed n
     by_head true e h rest = refl
     by_head false e h rest = rest h
 
-alone-true : (q n : ℕ) → alone q n ≡ true → n ≡ q
+pub alone-true : (q n : ℕ) → alone q n ≡ true → n ≡ q
 unfolding alone
 alone-true q n e = eqb-true n q e
 
-alone-false : (q n : ℕ) → (n == q) ≡ false → alone q n ≡ false
+pub alone-false : (q n : ℕ) → (n == q) ≡ false → alone q n ≡ false
 unfolding alone
 alone-false q n e = e
 

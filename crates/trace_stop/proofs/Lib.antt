@@ -9,3 +9,5 @@ pub mod LeafFirst
 pub mod LeafLaw
 pub mod Chains
 pub mod Leaves
+pub mod Remains
+pub mod LeafStands
