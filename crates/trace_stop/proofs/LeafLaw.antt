@@ -1,5 +1,5 @@
 -- Who is doomed before a process that traces no live one has ended, and after.
-use Rattle.std.proofs.Common.{◌≡◌, ℕ, zero, suc, List, [], ◌∷◌, filter_map, Bool, true, false, ◌&&◌, ◌||◌, ◌==◌, if◌then◌else◌, Option, Some, None, IfSome, refl, sym, ap, ◌∙◌, eqb, true≢false, eqb-true, eq-eqb, subst, inl, inr}
+use Rattle.std.proofs.Common.{◌≡◌, ℕ, zero, suc, List, [], ◌∷◌, filter_map, Bool, true, false, not, ◌&&◌, ◌||◌, ◌==◌, if◌then◌else◌, Option, Some, None, IfSome, refl, sym, ap, ◌∙◌, eqb, true≢false, eqb-true, eq-eqb, subst, inl, inr}
 use Rattle.std.proofs.Math.Path.{fun_ext}
 use Rattle.std.specs.Option.{option_and_then}
 use Rattle.std.specs.List.{AllByRecursion, list_any}
@@ -14,7 +14,7 @@ use Rattle.trace_stop.specs.declared.Settings.{Settings}
 use Rattle.trace_stop.specs.Free.{detached}
 use Rattle.trace_stop.specs.End.{tracer_in, tracer_of, holds_of, meets, is_doomed, dooms, orphaned, dead, uncollected, end_each, end_of, end}
 use Rattle.trace_stop.specs.Facts.{IsLiveOf, Linked, Standing, Stands, WithOwner}
-use Rattle.trace_stop.specs.Laws.{traces_live, LeafLaw}
+use Rattle.trace_stop.specs.Laws.{traces_live, LeafLaw, LeafDooms}
 use Rattle.trace_stop.proofs.Every.{and_left, and_right, by_bool, All-imply, All-any, All-both, find_some}
 use Rattle.trace_stop.proofs.Passes.{passes, own_rows, above_none, process_edited}
 use Rattle.trace_stop.proofs.Doomed.{live_row, NoZombie, no_zombie, Untracing, untracing, end_each_same, dooms_alone, doomed_alone}
@@ -354,17 +354,32 @@ module _ (settings : Settings) (rows : Rows) (p q status : ℕ) (kills : setting
           at_row None is h = absurd (true≢false (sym h))
           at_row (Some r) is h = number_listed q ps r is
 
+  abbrev first_left : Rows
+  first_left = left rows d p q status dq qp s.rising ready
+
+  left_same : first_left.processes ≡ qs
+  left_same = ap (λ (rs : Rows). rs.processes) (left-is rows d p q status dq qp s.rising ready)
+
+  left_rise : Rise first_left.processes
+  left_rise = left-rises rows d p q status dq qp s.rising ready
+
+  left_dooms : (n : ℕ) → dooms settings first_left.processes p n ≡ rest d q n
+  left_dooms = subst (λ (xs : List ProcData). Rise xs → (n : ℕ) → dooms settings xs p n ≡ rest d q n) (sym left_same) doom_after left_rise
+
+  pub dooms_left : (n : ℕ) → dooms settings (end settings q SIGKILL rows).processes p n ≡ (d n && not (n == q))
+  unfolding rest
+  dooms_left n = ap (λ (rs : Rows). dooms settings rs.processes p n) q_first ∙ left_dooms n
+
   pub law : end settings p status rows ≡ end settings p status (end settings q SIGKILL rows)
   law =
-      let made = left-is rows d p q status dq qp s.rising ready in
-      let rises = left-rises rows d p q status dq qp s.rising ready in
-      let rows' : Rows = left rows d p q status dq qp s.rising ready in
-      let same : rows'.processes ≡ qs = ap (λ (rs : Rows). rs.processes) made in
       end-fallen settings p status rows kills s.rising p_live
       ∙ sym (rows_twice rows d p q status dq qp s.rising ready (owners_live rows s))
-      ∙ ap (λ (over : ℕ → Bool). end_each (fallen over) over p status rows') (sym (fun_ext (subst (λ (xs : List ProcData). Rise xs → (n : ℕ) → dooms settings xs p n ≡ rest d q n) (sym same) doom_after rises)))
-      ∙ sym (end-fallen settings p status rows' kills rises (subst (λ (xs : List ProcData). IsLiveRow xs p) (sym same) p_left))
+      ∙ ap (λ (over : ℕ → Bool). end_each (fallen over) over p status first_left) (sym (fun_ext left_dooms))
+      ∙ sym (end-fallen settings p status first_left kills left_rise (subst (λ (xs : List ProcData). IsLiveRow xs p) (sym left_same) p_left))
       ∙ ap (end settings p status) (sym q_first)
 
 pub leaf_law : LeafLaw
 leaf_law settings rows p q status kills s qp dq leaf = law settings rows p q status kills s qp dq leaf
+
+pub leaf_dooms : LeafDooms
+leaf_dooms settings rows p q n kills s qp dq leaf = dooms_left settings rows p q 0 kills s qp dq leaf n

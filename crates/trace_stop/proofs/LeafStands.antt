@@ -67,7 +67,7 @@ differ_edited f (l ∷ ls) all differ = at_head (f l) all.0 (lacks_edited f l.ti
 some_same : {X : Type 0} (a b : X) → Some a ≡ Some b → a ≡ b
 some_same a b e = cc
 
-passes_none : {X : Type 0} (t : X → Bool) (o : Option X) → IfSome o (λ x. t x ≡ false) → passes t o ≡ false
+pub passes_none : {X : Type 0} (t : X → Bool) (o : Option X) → IfSome o (λ x. t x ≡ false) → passes t o ≡ false
 passes_none t None h = refl
 passes_none t (Some x) h = h
 

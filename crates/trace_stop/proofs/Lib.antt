@@ -11,3 +11,4 @@ pub mod Chains
 pub mod Leaves
 pub mod Remains
 pub mod LeafStands
+pub mod LeafLives
