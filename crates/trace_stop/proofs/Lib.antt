@@ -12,3 +12,5 @@ pub mod Leaves
 pub mod Remains
 pub mod LeafStands
 pub mod LeafLives
+pub mod LeafSound
+pub mod EndSound

@@ -8,7 +8,8 @@ use Rattle.proc_table.specs.Rows.{Rows}
 use Rattle.proc_table.specs.Fresh.{is_process}
 use Rattle.trace_stop.specs.declared.Settings.{Settings}
 use Rattle.trace_stop.specs.End.{tracer_of, meets, dooms, left_alone, end_each, end}
-use Rattle.trace_stop.specs.Facts.{Stands}
+use Rattle.trace_stop.specs.Sound.{is_end}
+use Rattle.trace_stop.specs.Facts.{Stands, IsSound}
 
 -- whether the process numbered q traces a live one
 abbrev pub traces_live : ℕ → Rows → Bool
@@ -98,3 +99,13 @@ abbrev pub LeafDooms : Type 0
 LeafDooms = (settings : Settings) (rows : Rows) (p q n : ℕ) → settings.kill_on_debugger_exit ≡ true → Stands rows
     → (q == p) ≡ false → dooms settings rows.processes p q ≡ true → traces_live q rows ≡ false
     → dooms settings (end settings q SIGKILL rows).processes p n ≡ (dooms settings rows.processes p n && not (n == q))
+
+-- each row is as it must be, where the status is the word of an end
+abbrev pub LeafSound : Type 0
+LeafSound = (settings : Settings) (rows : Rows) (q status : ℕ) → settings.kill_on_debugger_exit ≡ true → IsSound rows → is_end status ≡ true
+    → is_live_at q rows ≡ true → traces_live q rows ≡ false → IsSound (end settings q status rows)
+
+-- so sound rows are sound after the end of any live process
+abbrev pub EndSound : Type 0
+EndSound = (settings : Settings) (rows : Rows) (p status : ℕ) → settings.kill_on_debugger_exit ≡ true → IsSound rows → is_end status ≡ true
+    → is_live_at p rows ≡ true → IsSound (end settings p status rows)

@@ -1,6 +1,6 @@
 //! Laws of the end of a process.
 
-ghost use Rattle.trace_stop.specs.Laws.{LeafEnd, DetachedEnd, LeafLaw, ChainsEnd, ChainsMeet, TraceeDeeper, TraceeDoomed, LeafExists, LeafStands, LeafLives, LeafFewer, LeafDooms};
+ghost use Rattle.trace_stop.specs.Laws.{LeafEnd, DetachedEnd, LeafLaw, ChainsEnd, ChainsMeet, TraceeDeeper, TraceeDoomed, LeafExists, LeafStands, LeafLives, LeafFewer, LeafDooms, LeafSound, EndSound};
 
 /// A process that traces no live one ends alone.
 pub fn leaf_end()
@@ -60,4 +60,14 @@ pub fn leaf_fewer()
 /// Who was to end with a process before a tracee of its ended is still to end with it, but for the tracee.
 pub fn leaf_dooms()
     ensures { LeafDooms }
+{}
+
+/// Sound rows are sound after the end of a process that traces no live one.
+pub fn leaf_sound()
+    ensures { LeafSound }
+{}
+
+/// Where a debugger's end kills, sound rows are sound after the end of a live process.
+pub fn end_sound()
+    ensures { EndSound }
 {}
