@@ -1,6 +1,6 @@
 -- Sets of flags as numbers.
-use Rattle.std.proofs.Common.{◌≡◌, ℕ, ◌+◌, ◌-◌, ◌%◌, ◌^◌, min, max, ◌<◌, ◌≤◌, Bool, true, false, arith, refl, sym, ap, ◌∙◌, bit_and, bit_or, w32, inl, inr}
-use Rattle.std.specs.Prelude.{◌==◌, ◌↔◌, ◌≢◌, Option, Some, None, IfSome, IsSome, ◌⊎◌, if◌then◌else◌}
+use Rattle.std.proofs.Common.{◌≡◌, ℕ, ◌+◌, ◌-◌, ◌%◌, ◌^◌, min, max, ◌<◌, ◌≤◌, true, false, arith, refl, sym, ap, ◌∙◌, bit_and, bit_or, w32, inl, inr}
+use Rattle.std.specs.Prelude.{◌==◌, ◌↔◌, Option, Some, None, IfSome, IsSome, ◌⊎◌, if◌then◌else◌}
 use Rattle.std.specs.Int.RustNames.{bit_xor}
 use Rattle.std.specs.Int.{bit_at}
 use Rattle.std.specs.Int.Bits.{or_add_and}

@@ -1,8 +1,7 @@
 -- The names of flags, with their bits, in the order of printing.
-use Rattle.std.specs.Prelude.{ℕ, ◌==◌, nat_eq, List, [], ◌∷◌, map, filter, codes, Option, Some, None, option_map, if◌then◌else◌}
-use Rattle.std.specs.Int.RustNames.{bit_and, bit_or}
+use Rattle.std.specs.Prelude.{ℕ, ◌==◌, List, [], ◌∷◌, map, filter, codes}
+use Rattle.std.specs.Int.RustNames.{bit_and}
 use Rattle.std.specs.List.{join_with_byte}
-use Rattle.std.specs.Cmp.Lexicographic.{pointwise}
 
 abbrev pub event_table : List (List ℕ × ℕ)
 event_table =

@@ -1,6 +1,6 @@
 -- The search for a free number, one number further.
 use Rattle.std.proofs.Common.{◌≡◌, ℕ, zero, suc, ◌+◌, ◌-◌, ◌<◌, Bool, true, false, arith, refl}
-use Rattle.std.specs.Prelude.{Option, Some}
+use Rattle.std.specs.Prelude.{Some}
 use Rattle.pid_blocks.specs.Blocks.{first_free}
 
 -- a taken number is passed over

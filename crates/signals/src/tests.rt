@@ -1,59 +1,7 @@
-//! The table of signals and the printed sets, written out.
+//! Sets and dispositions, with values written out.
 
 use super::*;
 use std::test::Fail;
-
-const TABLE: [(&str, Action); 31] = [
-    ("SIGHUP", Action::End),
-    ("SIGINT", Action::End),
-    ("SIGQUIT", Action::End),
-    ("SIGILL", Action::End),
-    ("SIGTRAP", Action::End),
-    ("SIGABRT", Action::End),
-    ("SIGEMT", Action::End),
-    ("SIGFPE", Action::End),
-    ("SIGKILL", Action::End),
-    ("SIGBUS", Action::End),
-    ("SIGSEGV", Action::End),
-    ("SIGSYS", Action::End),
-    ("SIGPIPE", Action::End),
-    ("SIGALRM", Action::End),
-    ("SIGTERM", Action::End),
-    ("SIGURG", Action::Discard),
-    ("SIGSTOP", Action::Stop),
-    ("SIGTSTP", Action::Stop),
-    ("SIGCONT", Action::Discard),
-    ("SIGCHLD", Action::Discard),
-    ("SIGTTIN", Action::Stop),
-    ("SIGTTOU", Action::Stop),
-    ("SIGIO", Action::Discard),
-    ("SIGXCPU", Action::End),
-    ("SIGXFSZ", Action::End),
-    ("SIGVTALRM", Action::End),
-    ("SIGPROF", Action::End),
-    ("SIGWINCH", Action::Discard),
-    ("SIGINFO", Action::Discard),
-    ("SIGUSR1", Action::End),
-    ("SIGUSR2", Action::End),
-];
-
-#[test]
-fn signals_have_their_names_and_actions(rt: HostRuntime) -> Result<(), Fail> {
-    let mut number = 0u32;
-    for (name, action) in TABLE {
-        number = number.wrapping_add(1);
-        let signal = Signal::new(number)?;
-        assert_eq!(rt; signal.number(), number);
-        assert_eq!(rt; signal.name(), name);
-        assert_eq!(rt; Signal::by_name(name), Some(signal), "{name}");
-        assert_eq!(rt; default_action(signal), action, "{name}");
-    }
-    assert_eq!(rt; Signal::new(0), Err(BadSignal));
-    assert_eq!(rt; Signal::new(32), Err(BadSignal));
-    assert_eq!(rt; Signal::by_name("SIGUSR"), None);
-    assert_eq!(rt; Signal::by_name(""), None);
-    Ok(())
-}
 
 #[test]
 fn sets_have_bit_n_less_1_for_signal_n(rt: HostRuntime) -> Result<(), Fail> {

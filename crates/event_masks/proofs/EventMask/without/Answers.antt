@@ -1,4 +1,4 @@
-use Rattle.std.proofs.Common.{ap, rules, ◌≡◌, ◌<◌, ◌^◌, ℕ}
+use Rattle.std.proofs.Common.{ap, rules, ℕ}
 use Rattle.event_masks.specs.declared.EventMask.{EventMask}
 use Rattle.event_masks.proofs.Bits.{difference-is}
 use Rattle.event_masks.proofs.EventMask.without.Goals as goal
