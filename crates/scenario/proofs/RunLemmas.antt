@@ -1,15 +1,16 @@
 -- One more step of a run.
-use Rattle.std.proofs.Common.{◌≡◌, ℕ, ◌+◌, ◌<◌, List, [], ◌∷◌, ◌++◌, length, get_or, map, drop, sym, ap, ◌∙◌}
-use Rattle.std.proofs.lemmas.List.{append_assoc, at_drop_more, map-append}
+use Rattle.std.proofs.Common.{◌≡◌, ℕ, ◌+◌, ◌<◌, ◌≤◌, List, [], ◌∷◌, ◌++◌, length, get_or, map, drop, sym, ap, ◌∙◌}
+use Rattle.std.proofs.lemmas.List.{append_assoc, append-nil, at_drop_more, drop_all, map-append}
 use Rattle.requests.specs.declared.Reply.{Reply}
 use Rattle.requests.specs.declared.host.Step.{Step}
-use Rattle.requests.specs.Machine.{Machine}
+use Rattle.requests.specs.Machine.{Machine, empty}
+use Rattle.trace_stop.specs.declared.Settings.{Settings}
 use Rattle.requests.specs.Plain.{plain}
 use Rattle.requests.specs.Run.{Asked, replies}
 use Rattle.requests.specs.Step.{step}
 use Rattle.scenario.specs.Lines.{Answered}
-use Rattle.scenario.specs.Plan.{asked}
-use Rattle.scenario.specs.Runs.{answered, paired}
+use Rattle.scenario.specs.Plan.{Plan, asked}
+use Rattle.scenario.specs.Runs.{answered, answers_of, paired}
 
 -- the answers of steps from a host on
 abbrev pub answers_from : List Asked → Machine → List Answered
@@ -30,3 +31,17 @@ one_more ss i s m after r done all h here after_is reply_is whole =
     ∙ ap (λ x. map answered done ++ (answered (s.0, x) ∷ answers_from rest after)) reply_is
     ∙ ap (λ x. map answered done ++ (answered (s.0, (step s.0 (plain s.1) m).reply) ∷ answers_from rest x)) after_is
     ∙ ap (λ xs. map answered done ++ xs) (sym next) ∙ whole
+
+-- before the first step
+pub none_made : (ss : List (ℕ × Step)) (plan : Plan) (m : Machine) (settings : Settings) (done : List (ℕ × Reply))
+    → done ≡ [] → map asked ss ≡ plan.steps → m ≡ empty settings → settings ≡ plan.settings
+    → map answered done ++ answers_from (map asked ss) m ≡ answers_of plan
+none_made ss plan m settings done none steps_are host_is settings_are =
+    ap (λ d. map answered d ++ answers_from (map asked ss) m) none ∙ ap (λ steps. answers_from steps m) steps_are
+    ∙ ap (λ h. answers_from plan.steps h) (host_is ∙ ap empty settings_are)
+
+-- after the last one
+pub all_made : (ss : List (ℕ × Step)) (i : ℕ) (m : Machine) (done : List (ℕ × Reply)) (all : List Answered) → length ss ≤ i
+    → map answered done ++ answers_from (map asked (drop i ss)) m ≡ all → map answered done ≡ all
+all_made ss i m done all h whole =
+    sym (append-nil (map answered done)) ∙ ap (λ xs. map answered done ++ answers_from (map asked xs) m) (sym (drop_all i ss h)) ∙ whole

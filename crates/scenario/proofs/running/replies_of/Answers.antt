@@ -1,16 +1,27 @@
-use Rattle.std.proofs.Common.{rules, ◌≡◌, ◌+◌, ◌++◌, ◌∷◌, [], get_or, map, drop, ap, ◌∙◌}
+use Rattle.std.proofs.Common.{◌≡◌, ◌+◌, ◌++◌, ◌∷◌, [], get_or, map, drop, ap, sym, ◌∙◌}
 use Rattle.scenario.specs.Plan.{asked}
 use Rattle.scenario.specs.Runs.{answered}
-use Rattle.scenario.proofs.RunLemmas.{one_more, answers_from}
+use Rattle.scenario.proofs.RunLemmas.{none_made, one_more, all_made, answers_from}
 use Rattle.scenario.proofs.running.replies_of.Goals as goal
+
+pub loop-step-init : goal.loop-step-init
+loop-step-init c =
+    none_made c.steps-step-items.result.now c.args.scenario.now c.in_ok-host.host c.settings.result c.new-replies.result.items
+    c.new-replies.ensures.items c.steps-step-items.ensures.steps c.in_ok-host.ensures c.settings.ensures
 
 pub loop-step-preserved : goal.loop-step-preserved
 loop-step-preserved c =
     let ss = c.steps-step-items.result.now in
     let i = c.loop-step.step-index in
     let s = c.step-item.result in
-    let here : get_or ss i s ≡ s = search rules in
-    let made = c.step-reply.ensures.machine (search rules) in
-    let pushed : c.push.new.self.items ≡ c.loop-step.replies.items ++ (s.0, c.step-reply.result) ∷ [] = search rules in
+    let here : get_or ss i s ≡ s = sym c.step-item.is in
+    let known = c.is_refused_memory.ensures in
+    let test = c.if-is_refused_memory.false in
+    let made = c.step-reply.ensures.machine (λ e. let yes = known.1 e in (cc)) in
+    let pushed : c.push.new.self.items ≡ c.loop-step.replies.items ++ (s.0, c.step-reply.result) ∷ [] = c.in_ok-push.ensures.items in
     ap (λ items. map answered items ++ answers_from (map asked (drop (i + 1) ss)) c.step-reply.new.self) pushed
     ∙ one_more ss i s c.loop-step.host c.step-reply.new.self c.step-reply.result c.loop-step.replies.items _ c.loop-step-test.true here made.0 made.1 c.loop-step.invariant
+
+pub returns-clause-ok : goal.returns-clause-ok
+returns-clause-ok c =
+    all_made c.steps-step-items.result.now c.loop-step.step-index c.loop-step.host c.loop-step.replies.items _ c.loop-step-test.false c.loop-step.invariant
