@@ -5,3 +5,4 @@ pub mod Born
 pub mod Passes
 pub mod Doomed
 pub mod Edited
+pub mod Changed
