@@ -6,3 +6,5 @@ pub mod Passes
 pub mod Doomed
 pub mod Edited
 pub mod Changed
+pub mod Bits
+pub mod Changes
