@@ -8,3 +8,4 @@ pub mod Edited
 pub mod Changed
 pub mod Bits
 pub mod Changes
+pub mod Posting
