@@ -17,3 +17,7 @@ pub mod LeafStands
 pub mod LeafLives
 pub mod LeafSound
 pub mod EndSound
+pub mod Changed
+pub mod Bits
+pub mod Changes
+pub mod Posting

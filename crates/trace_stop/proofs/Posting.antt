@@ -1,0 +1,131 @@
+-- Settling and posting keep rows sound.
+use Rattle.std.proofs.Common.{◌≡◌, ◌≢◌, ◌⊎◌, inl, inr, ℕ, Bool, true, false, ◌==◌, ◌&&◌, if◌then◌else◌, List, [], ◌∷◌, Option, Some, None, is_some, is_none, not, refl, sym, ap, ◌∙◌, true≢false, subst, bit_and, eqb-true}
+use Rattle.std.specs.List.{AllByRecursion, list_any}
+use Rattle.signals.specs.Sets.{with, without}
+use Rattle.signals.specs.Table.{SIGCONT, SIGCHLD, nothing}
+use Rattle.lwp_table.specs.declared.LwpData.{LwpData}
+use Rattle.proc_table.specs.declared.ProcData.{ProcData}
+use Rattle.proc_table.specs.declared.State.{State}
+use Rattle.proc_table.specs.declared.State.TheVariants.{Run, Trace, Job, Zombie}
+use Rattle.proc_table.specs.Processes.{is_live, is_zombie_state, is_job, is_job_state, is_run, reporting, named_by, is_this}
+use Rattle.proc_table.specs.Rows.{Rows, change, is_numbered}
+use Rattle.trace_stop.specs.Post.{unwanted, settled_process, settled_lwp, settle, opposed, continues, posted_set, posted_process, posted_lwp, notified}
+use Rattle.trace_stop.specs.Facts.{Ended, IfEnded, Untraced, FitProcess, UntracedLwp, FitLwp, Silent}
+use Rattle.trace_stop.proofs.Every.{and_left, and_right, by_bool}
+use Rattle.trace_stop.proofs.Bits.{without_apart}
+use Rattle.trace_stop.proofs.Changed.{Holds}
+use Rattle.trace_stop.proofs.Changes.{Changes, changes_hold}
+
+-- a live process is no zombie
+pub live_fits : (p : ProcData) (s : State) → is_zombie_state s ≡ false → IfEnded p s
+live_fits p Run live = tt
+live_fits p (Trace tid sig seen) live = tt
+live_fits p (Job sig seen) live = tt
+live_fits p (Zombie w) live = absurd (true≢false live)
+
+pub live_state : (p : ProcData) → is_live p ≡ true → is_zombie_state p.state ≡ false
+live_state p live = by_test (is_zombie_state p.state) live
+  where
+    by_test : (b : Bool) → not b ≡ true → b ≡ false
+    by_test true h = absurd (true≢false (sym h))
+    by_test false h = refl
+
+-- the same row with another pending set, which has nothing that is unwanted
+pending_fits : (p : ProcData) (n : ℕ) → FitProcess p → is_live p ≡ true → (p.tracer ≡ None → bit_and n (unwanted p) ≡ 0) → FitProcess (record p { pending = n })
+pending_fits p n fit live apart = record {
+  stopped = fit.stopped;
+  job = fit.job;
+  continued = fit.continued;
+  untraced = λ none. record { mask = (fit.untraced none).mask; pending = apart none };
+  ended = live_fits (record p { pending = n }) p.state (live_state p live);
+}
+
+lwp_pending_fits : (p q : ProcData) (l : LwpData) (n : ℕ) → FitLwp p l → q.tracer ≡ p.tracer → (reporting q ≡ reporting p) ⊎ (reporting q ≡ None) → (reporting q ≡ None → reporting p ≡ None) → (q.tracer ≡ None → bit_and n (unwanted q) ≡ 0) → FitLwp q (record l { pending = n })
+lwp_pending_fits p q l n fit same by none apart = record {
+  untraced = λ free. let was = fit.untraced (sym same ∙ free) in record { due = was.due; stepping = was.stepping; suspended = was.suspended; pending = apart free };
+  silent = λ other. by_report by other;
+  blocked = fit.blocked;
+}
+  where
+    by_report : (reporting q ≡ reporting p) ⊎ (reporting q ≡ None) → is_this l.tid (reporting q) ≡ false → Silent (record l { pending = n })
+    by_report (inl e) other = let was = fit.silent (ap (is_this l.tid) (sym e) ∙ other) in record { flags = was.flags; child = was.child; code = was.code }
+    by_report (inr e) other = let was = fit.silent (ap (is_this l.tid) (none e)) in record { flags = was.flags; child = was.child; code = was.code }
+
+-- A process that a signal is posted to
+
+pub job_quiet : (s : State) → is_job_state s ≡ true → named_by s ≡ None
+job_quiet Run is = refl
+job_quiet (Trace tid sig seen) is = absurd (true≢false (sym is))
+job_quiet (Job sig seen) is = refl
+job_quiet (Zombie w) is = refl
+
+pub posted_fits : (s : ℕ) (to : Option ℕ) (p : ProcData) → FitProcess p → is_live p ≡ true → FitProcess (posted_process s to p)
+posted_fits s to p fit live = by_continue (continues s p) refl
+  where
+    q : ProcData
+    q = record p { pending = posted_set s (is_none to) p p.pending }
+
+    calm : FitProcess q
+    calm = pending_fits p (posted_set s (is_none to) p p.pending) fit live (λ none. without_apart (if is_none to then with (without p.pending (opposed s)) s else without p.pending (opposed s)) (unwanted p))
+
+    by_continue : (b : Bool) → continues s p ≡ b → FitProcess (if b then record q { state = Run; continued = true } else q)
+    by_continue false e = calm
+    by_continue true e =
+        let free = fit.job (and_right (s == SIGCONT) (is_job p) e) in
+        record {
+          stopped = λ is. absurd (true≢false (sym is));
+          job = λ is. free;
+          continued = λ is. (free, refl);
+          untraced = λ none. record { mask = (fit.untraced none).mask; pending = (calm.untraced none).pending };
+          ended = tt;
+        }
+
+pub posted_report : (s : ℕ) (to : Option ℕ) (p : ProcData) → reporting (posted_process s to p) ≡ reporting p
+posted_report s to p = by_continue (continues s p) refl
+  where
+    by_continue : (b : Bool) → continues s p ≡ b → reporting (if b then record p { pending = posted_set s (is_none to) p p.pending; state = Run; continued = true } else record p { pending = posted_set s (is_none to) p p.pending }) ≡ reporting p
+    by_continue true e = sym (job_quiet p.state (and_right (s == SIGCONT) (is_job p) e))
+    by_continue false e = refl
+
+same_of : {X : Type 0} (view : ProcData → X) (b : Bool) (x y p : ProcData) → view x ≡ view p → view y ≡ view p → view (if b then x else y) ≡ view p
+same_of view true x y p h k = h
+same_of view false x y p h k = k
+
+posted_same : {X : Type 0} (view : ProcData → X) (s : ℕ) (to : Option ℕ) (p : ProcData) → ((n : ℕ) → view (record p { pending = n }) ≡ view p) → ((n : ℕ) → view (record p { pending = n; state = Run; continued = true }) ≡ view p) → view (posted_process s to p) ≡ view p
+posted_same view s to p h k = same_of view (continues s p) (record p { pending = posted_set s (is_none to) p p.pending; state = Run; continued = true }) (record p { pending = posted_set s (is_none to) p p.pending }) p (k _) (h _)
+
+pub posted_live : (s : ℕ) (to : Option ℕ) (p : ProcData) → is_live p ≡ true → is_live (posted_process s to p) ≡ true
+posted_live s to p live = by_continue (continues s p)
+  where
+    by_continue : (b : Bool) → is_live (if b then record p { pending = posted_set s (is_none to) p p.pending; state = Run; continued = true } else record p { pending = posted_set s (is_none to) p p.pending }) ≡ true
+    by_continue true = refl
+    by_continue false = live
+
+unwanted_posted : (s : ℕ) (to : Option ℕ) (p : ProcData) → unwanted (posted_process s to p) ≡ unwanted p
+unwanted_posted s to p = posted_same unwanted s to p (λ n. refl) (λ n. refl)
+
+pub posted_fit_lwp : (s : ℕ) (to : Option ℕ) (p : ProcData) (l : LwpData) → FitLwp p l → FitLwp (posted_process s to p) (posted_lwp s to p l)
+posted_fit_lwp s to p l fit = lwp_pending_fits p (posted_process s to p) l (posted_set s (is_this l.tid to) p l.pending) fit (posted_same (λ q. q.tracer) s to p (λ n. refl) (λ n. refl)) (inl (posted_report s to p)) (λ e. sym (posted_report s to p) ∙ e)
+    (λ none. ap (bit_and (posted_set s (is_this l.tid to) p l.pending)) (unwanted_posted s to p) ∙ without_apart (if is_this l.tid to then with (without l.pending (opposed s)) s else without l.pending (opposed s)) (unwanted p))
+
+-- Posting to chosen live processes
+abbrev pub LiveFit : (ProcData → Bool) → ProcData → Type 0
+LiveFit chosen p = FitProcess p × (chosen p ≡ true → is_live p ≡ true)
+
+pub post_chosen : (rows : Rows) (chosen : ProcData → Bool) (s : ℕ) (to : Option ℕ) → Holds (LiveFit chosen) FitLwp rows → Holds FitProcess FitLwp (change chosen (posted_process s to) (posted_lwp s to) rows)
+post_chosen rows chosen s to held = changes_hold rows chosen (posted_process s to) (posted_lwp s to) (LiveFit chosen) FitLwp FitProcess FitLwp held (record {
+  pid = λ p. posted_same (λ q. q.pid) s to p (λ n. refl) (λ n. refl);
+  uid = λ p. posted_same (λ q. q.uid) s to p (λ n. refl) (λ n. refl);
+  tracer = λ p. posted_same (λ q. q.tracer) s to p (λ n. refl) (λ n. refl);
+  parent = λ p. posted_same (λ q. q.parent) s to p (λ n. refl) (λ n. refl);
+  tid = λ p l. refl;
+  own = λ p l. refl;
+  flags = λ p l. refl;
+  mode = λ p l. refl;
+  live = λ p fit is. posted_live s to p (fit.1 is) ∙ sym (fit.1 is);
+  named = λ p fit is. inl (posted_report s to p);
+  fits = λ p fit is. posted_fits s to p fit.0 (fit.1 is);
+  rest = λ p fit is. fit.0;
+  fit_lwp = λ p l fit own is. posted_fit_lwp s to p l own;
+  rest_lwp = λ p l fit own is. own;
+})
