@@ -33,7 +33,7 @@ impl EventMask {
     pub fn without(&self, event: EventMask) -> EventMask
         ensures { result ≡ mask_without self.now event }
     {
-        self.difference(event)
+        EventMask(self.0 & !event.0)
     }
 
     /// The mask with these bits; `None` where one of them is no event's.

@@ -10,9 +10,10 @@ impl Dispositions {
     pub fn standard() -> Dispositions
         ensures { result ≡ all_default }
     {
+        let none = SigSet::empty();
         Dispositions {
-            ignored: SigSet::empty(),
-            caught: SigSet::empty(),
+            ignored: none,
+            caught: none,
         }
     }
 

@@ -132,6 +132,7 @@ impl SigSet {
         ensures bits { result ≡ self.now }
         ensures below { result < 2 ^ 31 }
     {
-        self.bits
+        let SigSet { bits } = *self;
+        bits
     }
 }

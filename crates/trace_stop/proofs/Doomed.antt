@@ -120,7 +120,7 @@ one_number q n ps found = by_number (eqb n q) refl
     by_number true same = any_same _ (λ r. r.pid == q) ps (each_hit same ps) ∙ found
     by_number false other = missed other ps
 
-dooms_alone : (settings : Settings) (ps : List ProcData) (q : ℕ) → list_any (λ r. r.pid == q) ps ≡ true → AllByRecursion (λ r. is_doomed settings ps q r ≡ (r.pid == q)) ps → (n : ℕ) → dooms settings ps q n ≡ (n == q)
+pub dooms_alone : (settings : Settings) (ps : List ProcData) (q : ℕ) → list_any (λ r. r.pid == q) ps ≡ true → AllByRecursion (λ r. is_doomed settings ps q r ≡ (r.pid == q)) ps → (n : ℕ) → dooms settings ps q n ≡ (n == q)
 dooms_alone settings ps q found all n =
     any_same (λ r. (r.pid == n) && is_doomed settings ps q r) (λ r. (r.pid == n) && (r.pid == q)) ps
     (All-imply (λ r. is_doomed settings ps q r ≡ (r.pid == q)) _ (λ r e. ap (λ b. (r.pid == n) && b) e) ps all)

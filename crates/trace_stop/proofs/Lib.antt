@@ -8,3 +8,6 @@ pub mod Turned
 pub mod Twice
 pub mod Tells
 pub mod LeafFirst
+pub mod LeafLaw
+pub mod Chains
+pub mod Leaves
