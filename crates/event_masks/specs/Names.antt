@@ -1,0 +1,45 @@
+-- The names of flags, with their bits, in the order of printing.
+use Rattle.std.specs.Prelude.{ℕ, ◌==◌, nat_eq, List, [], ◌∷◌, map, filter, codes, Option, Some, None, option_map, if◌then◌else◌}
+use Rattle.std.specs.Int.RustNames.{bit_and, bit_or}
+use Rattle.std.specs.List.{join_with_byte}
+use Rattle.std.specs.Cmp.Lexicographic.{pointwise}
+
+abbrev pub event_table : List (List ℕ × ℕ)
+event_table =
+    (codes "PTRACE_EXEC", 1)
+    ∷ (codes "PTRACE_SCE", 2)
+    ∷ (codes "PTRACE_SCX", 4)
+    ∷ (codes "PTRACE_FORK", 8)
+    ∷ (codes "PTRACE_LWP", 16)
+    ∷ (codes "PTRACE_VFORK", 32)
+    ∷ []
+
+abbrev pub stop_table : List (List ℕ × ℕ)
+stop_table =
+    (codes "PL_FLAG_SCE", 1)
+    ∷ (codes "PL_FLAG_SCX", 2)
+    ∷ (codes "PL_FLAG_EXEC", 4)
+    ∷ (codes "PL_FLAG_FORKED", 8)
+    ∷ (codes "PL_FLAG_CHILD", 16)
+    ∷ (codes "PL_FLAG_BORN", 32)
+    ∷ (codes "PL_FLAG_EXITED", 64)
+    ∷ (codes "PL_FLAG_VFORKED", 128)
+    ∷ (codes "PL_FLAG_VFORK_DONE", 256)
+    ∷ []
+
+-- the names of the flags of a set, in order
+abbrev pub names_of : List (List ℕ × ℕ) → ℕ → List (List ℕ)
+names_of table bits = map (λ row. row.0) (filter (λ row. bit_and bits row.1 == row.1) table)
+
+-- words with a byte between each two, and `none` for no word
+abbrev pub joined : ℕ → List (List ℕ) → List ℕ
+joined byte [] = codes "none"
+joined byte (w ∷ ws) = join_with_byte byte (w ∷ ws)
+
+-- the text of a set of flags: its names with `+`, which is 43, between them
+abbrev pub flag_text : List (List ℕ × ℕ) → ℕ → List ℕ
+flag_text table bits = joined 43 (names_of table bits)
+
+-- PTRACE_SYSCALL stands for the two events of a system call
+abbrev pub syscall_name : List ℕ
+syscall_name = codes "PTRACE_SYSCALL"

@@ -1,0 +1,74 @@
+//! The stops at the entry and the exit of system calls.
+
+ghost use Rattle.std.specs.Prelude.{◌≡◌};
+ghost use Rattle.event_masks.specs.Exits.{default_mask, entry_flags, stop_where, event_or_exit, exit_flags, call_code};
+
+use crate::{Call, EventMask, StopFlags};
+
+/// The mask that tracing begins with.
+pub fn default_mask() -> EventMask
+    ensures { result ≡ default_mask }
+{
+    EventMask::PTRACE_EXEC
+}
+
+/// The flags of the stop at a call's entry; `None` where the mask asks for none.
+pub fn entry_flags(mask: EventMask) -> Option<StopFlags>
+    ensures { result ≡ entry_flags mask }
+{
+    stop_where(mask, EventMask::PTRACE_SCE, StopFlags::PL_FLAG_SCE)
+}
+
+/// The flags of the stop at a call's exit; `None` where the mask asks for none. For a thread's exit
+/// this knows nothing of other LWPs: who asks leaves the stop out for a process's last LWP.
+pub fn exit_flags(mask: EventMask, call: Call) -> Option<StopFlags>
+    ensures { result ≡ exit_flags mask call }
+{
+    match call {
+        Call::Fork => event_or_exit(mask, EventMask::PTRACE_FORK, StopFlags::PL_FLAG_FORKED),
+        Call::Vfork => event_or_exit(
+            mask,
+            EventMask::PTRACE_FORK,
+            StopFlags::PL_FLAG_FORKED.with(StopFlags::PL_FLAG_VFORKED),
+        ),
+        Call::Exec => event_or_exit(mask, EventMask::PTRACE_EXEC, StopFlags::PL_FLAG_EXEC),
+        Call::ThrNew | Call::Other(_) => {
+            stop_where(mask, EventMask::PTRACE_SCX, StopFlags::PL_FLAG_SCX)
+        }
+        Call::ThrExit => stop_where(mask, EventMask::PTRACE_LWP, StopFlags::PL_FLAG_EXITED),
+        Call::Exit(_) => None,
+    }
+}
+
+/// A stop with these flags, where the mask asks for the event.
+fn stop_where(mask: EventMask, event: EventMask, flags: StopFlags) -> Option<StopFlags>
+    ensures { result ≡ stop_where mask event flags }
+{
+    if mask.asks(event) { Some(flags) } else { None }
+}
+
+/// The stop of a call with an event of its own, or else of any call's exit.
+fn event_or_exit(mask: EventMask, event: EventMask, flags: StopFlags) -> Option<StopFlags>
+    ensures { result ≡ event_or_exit mask event flags }
+{
+    if mask.asks(event) {
+        Some(flags.with(StopFlags::PL_FLAG_SCX))
+    } else {
+        stop_where(mask, EventMask::PTRACE_SCX, StopFlags::PL_FLAG_SCX)
+    }
+}
+
+/// The number of the system call.
+pub fn call_code(call: Call) -> u32
+    ensures { result ≡ call_code call }
+{
+    match call {
+        Call::Exit(_) => 1,
+        Call::Fork => 2,
+        Call::Exec => 59,
+        Call::Vfork => 66,
+        Call::ThrExit => 431,
+        Call::ThrNew => 455,
+        Call::Other(code) => code,
+    }
+}

@@ -1,0 +1,320 @@
+-- What becomes of a list where a node joins at its end, or leaves.
+use Rattle.std.proofs.Common.{◌≡◌, ◌≢◌, ℕ, ◌<◌, ◌≤◌, Bool, true, false, Option, Some, None, refl, sym, ap, subst, ◌∙◌, arith, inl, inr, ◌⊎◌, cond, nat_eq, is_none}
+use Rattle.std.proofs.lemmas.Bool.{cases_eq}
+use Rattle.std.proofs.lemmas.Bool.Decides.{nat_tests}
+use Rattle.std.proofs.lemmas.Option.{same_Some}
+use Rattle.std.specs.Option.{option_map, option_or}
+use Rattle.lwp_table.specs.Chain.{Node, IsNearest, IsChain, AreApart, up, down, anywhere, above, below, leads_to, joined, bridged}
+
+pub lt_or_le : (a b : ℕ) → (a < b) ⊎ (b ≤ a)
+lt_or_le a b = grind (arith)
+
+moved : (le : ℕ → ℕ → Type 0) (a b c d : ℕ) → a ≡ c → b ≡ d → le a b → le c d
+moved le a b c d p q h = subst (λ x. le c x) q (subst (λ x. le x b) p h)
+
+pub leads_to-self : (s : ℕ) → leads_to (Some s) s ≡ true
+leads_to-self s = grind (arith, nat_tests)
+
+-- a link that leads to a slot is that slot's
+pub leads : (o : Option ℕ) (s : ℕ) → leads_to o s ≡ true → o ≡ Some s
+leads None s is = absurd (cc)
+leads (Some a) s is = let same : a ≡ s = grind (arith, nat_tests, is) in ap Some same
+
+-- the node that a mapped slot comes from
+pub mapped : (h : Node → Node) (o : Option Node) (node : Node) → option_map h o ≡ Some node → (was : Node) × (o ≡ Some was) × (h was ≡ node)
+mapped h None node is = absurd (cc)
+mapped h (Some was) node is = (was, refl, same_Some (h was) node is)
+
+-- where only nodes of the list are left that were there, the nearest stays so if it is left
+nearest-fewer : (le : ℕ → ℕ → Type 0) (f g : ℕ → Option Node) (t : ℕ) (P Q : ℕ → Type 0) (o : Option ℕ)
+    → ((j : ℕ) (node : Node) → g j ≡ Some node → node.list ≡ t → Q node.key → (was : Node) × (f j ≡ Some was) × (was.list ≡ t) × (was.key ≡ node.key) × P was.key)
+    → ((s : ℕ) (was : Node) → o ≡ Some s → f s ≡ Some was → was.list ≡ t → P was.key → (node : Node) × (g s ≡ Some node) × (node.list ≡ t) × (was.key ≡ node.key) × Q node.key)
+    → IsNearest le f t P o → IsNearest le g t Q o
+nearest-fewer le f g t P Q None comes stays near = λ j node there on q. let was = comes j node there on q in near j was.0 was.1 was.2 was.4
+nearest-fewer le f g t P Q (Some s) comes stays near =
+    let new = stays s near.0 refl near.1 near.2 near.3 in
+    (new.0, new.1, new.2, new.4, λ j other there on q. let was = comes j other there on q in moved le near.0.key was.0.key new.0.key other.key new.3 was.3 (near.4 j was.0 was.1 was.2 was.4))
+
+-- a list whose nodes stay as they are
+pub IsChain-kept : (f g : ℕ → Option Node) (t : ℕ) (first last : Option ℕ) → ((s : ℕ) (node : Node) → f s ≡ Some node → node.list ≡ t → g s ≡ Some node) → ((s : ℕ) (node : Node) → g s ≡ Some node → node.list ≡ t → f s ≡ Some node)
+    → IsChain f t first last → IsChain g t first last
+IsChain-kept f g t first last forth back chain = record {
+  first_is = same up anywhere first chain.first_is;
+  last_is = same down anywhere last chain.last_is;
+  next_is = λ s node there on. same up (above node.key) node.next (chain.next_is s node (back s node there on) on);
+  prev_is = λ s node there on. same down (below node.key) node.prev (chain.prev_is s node (back s node there on) on);
+}
+  where
+    same : (le : ℕ → ℕ → Type 0) (P : ℕ → Type 0) (o : Option ℕ) → IsNearest le f t P o → IsNearest le g t P o
+    same le P o near = nearest-fewer le f g t P P o (λ j node there on p. (node, back j node there on, on, refl, p)) (λ s was is there on p. (was, forth s was there on, on, refl, p)) near
+
+-- a node with a later key than all comes last
+module _ (f g : ℕ → Option Node) (apart : AreApart f) (t : ℕ) (first last : Option ℕ) (chain : IsChain f t first last) (q : ℕ) (new : Node)
+    (vacant : f q ≡ None) (has : g q ≡ Some new) (list : new.list ≡ t) (prev : new.prev ≡ last) (next : new.next ≡ None)
+    (others : (s : ℕ) → s ≢ q → g s ≡ option_map (joined last q s) (f s)) (later : (s : ℕ) (was : Node) → f s ≡ Some was → was.key < new.key) where
+  not_q : (s : ℕ) (was : Node) → f s ≡ Some was → s ≢ q
+  not_q s was there same = cc (there, ap f same, vacant)
+
+  forth : (s : ℕ) (was : Node) → f s ≡ Some was → g s ≡ Some (joined last q s was)
+  forth s was there = others s (not_q s was there) ∙ ap (option_map (joined last q s)) there
+
+  back : (s : ℕ) (node : Node) → s ≢ q → g s ≡ Some node → (was : Node) × (f s ≡ Some was) × (joined last q s was ≡ node)
+  back s node off there = mapped (joined last q s) (f s) node (sym (others s off) ∙ there)
+
+  its : (s : ℕ) (node : Node) → s ≡ q → g s ≡ Some node → new ≡ node
+  its s node same there = same_Some new node (sym has ∙ ap g (sym same) ∙ there)
+
+  -- the one that was nearest stays so
+  stays_in : (P : ℕ → Type 0) (s : ℕ) → IsNearest up f t P (Some s) → IsNearest up g t P (Some s)
+  stays_in P s near = (
+    joined last q s near.0,
+    forth s near.0 near.1,
+    near.2,
+    near.3,
+    λ j other there on p. elim (cases_eq j q) [
+      | inl same ↦ omega (arith, later s near.0 near.1, ap (λ n. n.key) (its j other same there))
+      | inr off ↦ let was = back j other off there in let key : was.0.key ≡ other.key = ap (λ n. n.key) was.2 in moved up near.0.key was.0.key near.0.key other.key refl key (near.4 j was.0 was.1 (ap (λ n. n.list) was.2 ∙ on) (subst P (sym key) p))
+    ],
+  )
+
+  -- the new one is the nearest where there was none
+  comes_in : (P : ℕ → Type 0) → P new.key → IsNearest up f t P None → IsNearest up g t P (Some q)
+  comes_in P p none = (
+    new,
+    has,
+    list,
+    p,
+    λ j other there on p. elim (cases_eq j q) [
+      | inl same ↦ omega (arith, ap (λ n. n.key) (its j other same there))
+      | inr off ↦ let was = back j other off there in absurd (none j was.0 was.1 (ap (λ n. n.list) was.2 ∙ on) (subst P (sym (ap (λ n. n.key) was.2)) p))
+    ],
+  )
+
+  first_in : (o : Option ℕ) → IsNearest up f t anywhere o → IsNearest up g t anywhere (option_or o (Some q))
+  first_in None near = comes_in anywhere tt near
+  first_in (Some s) near = stays_in anywhere s near
+
+  last_in : IsNearest down g t anywhere (Some q)
+  last_in = (
+    new,
+    has,
+    list,
+    tt,
+    λ j other there on p. elim (cases_eq j q) [
+      | inl same ↦ omega (arith, ap (λ n. n.key) (its j other same there))
+      | inr off ↦ let was = back j other off there in omega (arith, later j was.0 was.1, ap (λ n. n.key) was.2)
+    ],
+  )
+
+  -- the last one has no later one
+  end : (s : ℕ) (was : Node) (o : Option ℕ) → IsNearest down f t anywhere o → o ≡ Some s → f s ≡ Some was → IsNearest up f t (above was.key) None
+  end s was None near is there = absurd (cc)
+  end s was (Some l) near is there = λ j other at on more.
+      let slot : l ≡ s = cc in
+      let same = same_Some near.0 was (sym near.1 ∙ ap f slot ∙ there) in
+      omega (arith, near.4 j other at on tt, more, ap (λ n. n.key) same)
+
+  -- and each other has one
+  goes_on : (s : ℕ) (was : Node) (o : Option ℕ) → IsNearest down f t anywhere o → leads_to o s ≡ false → f s ≡ Some was → was.list ≡ t → IsNearest up f t (above was.key) None → ⊥
+  goes_on s was None near off there on none = near s was there on tt
+  goes_on s was (Some l) near off there on none =
+      let differs : l ≢ s = grind (arith, nat_tests, off) in
+      let keys : near.0.key ≢ was.key = λ e. differs (apart l s near.0 was near.1 there e) in
+      none l near.0 near.1 near.2 (omega (arith, near.4 s was there on tt, keys))
+
+  next_in : (s : ℕ) (was : Node) → f s ≡ Some was → was.list ≡ t → (b : Bool) → leads_to last s ≡ b → (o : Option ℕ) → IsNearest up f t (above was.key) o → IsNearest up g t (above was.key) (cond b (Some q) o)
+  next_in s was there on true is o near = comes_in (above was.key) (later s was there) (end s was last chain.last_is (leads last s is) there)
+  next_in s was there on false is None near = absurd (goes_on s was last chain.last_is is there on near)
+  next_in s was there on false is (Some n) near = stays_in (above was.key) n near
+
+  prev_in : (P Q : ℕ → Type 0) (o : Option ℕ) → ((k : ℕ) → k < new.key → Q k → P k) → ((s : ℕ) (was : Node) → f s ≡ Some was → P was.key → Q was.key) → (Q new.key → ⊥) → IsNearest down f t P o → IsNearest down g t Q o
+  prev_in P Q o to from not near = nearest-fewer down f g t P Q o
+      (λ j node there on p. elim (cases_eq j q) [
+        | inl same ↦ absurd (not (subst Q (sym (ap (λ n. n.key) (its j node same there))) p))
+        | inr off ↦ let was = back j node off there in let key : was.0.key ≡ node.key = ap (λ n. n.key) was.2 in (was.0, was.1, ap (λ n. n.list) was.2 ∙ on, key, to was.0.key (later j was.0 was.1) (subst Q (sym key) p))
+      ])
+      (λ s was is there on p. (joined last q s was, forth s was there, on, refl, from s was there p)) near
+
+  pub IsChain-joined : IsChain g t (option_or first (Some q)) (Some q)
+  IsChain-joined = record {
+    first_is = first_in first chain.first_is;
+    last_is = last_in;
+    next_is = λ s node there on. elim (cases_eq s q) [
+      | inl same ↦ let is = its s node same there in rw (← is, next) (λ j other at on p. elim (cases_eq j q) [
+        | inl here ↦ omega (arith, p, ap (λ n. n.key) (its j other here at))
+        | inr off ↦ let was = back j other off at in omega (arith, p, later j was.0 was.1, ap (λ n. n.key) was.2)
+      ])
+      | inr off ↦ let was = back s node off there in let list : was.0.list ≡ t = ap (λ n. n.list) was.2 ∙ on in rw (← was.2) (next_in s was.0 was.1 list (leads_to last s) refl was.0.next (chain.next_is s was.0 was.1 list))
+    ];
+    prev_is = λ s node there on. elim (cases_eq s q) [
+      | inl same ↦ let is = its s node same there in rw (← is, prev) (prev_in anywhere (below new.key) last (λ k less p. tt) (λ s was at p. later s was at) (λ p. omega (arith, p)) chain.last_is)
+      | inr off ↦
+          let was = back s node off there in
+          let list : was.0.list ≡ t = ap (λ n. n.list) was.2 ∙ on in
+          rw (← was.2) (prev_in (below was.0.key) (below was.0.key) was.0.prev (λ k less p. p) (λ s was at p. p) (λ p. omega (arith, p, later s was.0 was.1)) (chain.prev_is s was.0 was.1 list))
+    ];
+  }
+
+  -- the last node is of the list
+  last_of : (o : Option ℕ) → IsNearest down f t anywhere o → (s : ℕ) (was : Node) → f s ≡ Some was → was.list ≢ t → leads_to o s ≡ false
+  last_of None near s was there off = refl
+  last_of (Some l) near s was there off = by (nat_eq l s) refl
+    where
+      by : (b : Bool) → nat_eq l s ≡ b → nat_eq l s ≡ false
+      by false is = is
+      by true is = let same : l ≡ s = grind (arith, nat_tests, is) in absurd (off (sym (ap (λ n. n.list) (same_Some near.0 was (sym near.1 ∙ ap f same ∙ there))) ∙ near.2))
+
+  -- the other lists stay
+  pub IsChain-joined_other : (u : ℕ) (a b : Option ℕ) → u ≢ t → IsChain f u a b → IsChain g u a b
+  IsChain-joined_other u a b off other = IsChain-kept f g u a b
+      (λ s node there on. forth s node there ∙ ap (λ c. Some (record node { next = cond c (Some q) node.next })) (last_of last chain.last_is s node there (λ same. off (sym on ∙ same))))
+      (λ s node there on.
+      let apart : s ≢ q = λ same. off (sym on ∙ sym (ap (λ n. n.list) (its s node same there)) ∙ list) in
+      let was = back s node apart there in
+      let same = ap (λ c. record was.0 { next = cond c (Some q) was.0.next }) (last_of last chain.last_is s was.0 was.1 (λ same. off (sym on ∙ sym (ap (λ n. n.list) was.2) ∙ same))) in
+      was.1 ∙ ap Some (sym same ∙ was.2))
+      other
+
+-- a node leaves its list, and its neighbours there are linked
+module _ (f g : ℕ → Option Node) (apart : AreApart f) (t : ℕ) (first last : Option ℕ) (chain : IsChain f t first last) (q : ℕ) (old : Node)
+    (has : f q ≡ Some old) (list : old.list ≡ t) (gone : g q ≡ None) (others : (s : ℕ) → s ≢ q → g s ≡ option_map (bridged old.prev old.next s) (f s)) where
+  remains : (s : ℕ) (was : Node) → s ≢ q → f s ≡ Some was → g s ≡ Some (bridged old.prev old.next s was)
+  remains s was off there = others s off ∙ ap (option_map (bridged old.prev old.next s)) there
+
+  not_gone : (s : ℕ) (node : Node) → g s ≡ Some node → s ≢ q
+  not_gone s node there same = cc (there, ap g same, gone)
+
+  before : (s : ℕ) (node : Node) → g s ≡ Some node → (was : Node) × (f s ≡ Some was) × (bridged old.prev old.next s was ≡ node)
+  before s node there = mapped (bridged old.prev old.next s) (f s) node (sym (others s (not_gone s node there)) ∙ there)
+
+  differ : (s : ℕ) (was : Node) → s ≢ q → f s ≡ Some was → was.key ≢ old.key
+  differ s was off there e = off (apart s q was old there has e)
+
+  -- a place that did not lead to the node finds what it found
+  pass_by : (le : ℕ → ℕ → Type 0) (P : ℕ → Type 0) (o : Option ℕ) → o ≢ Some q → IsNearest le f t P o → IsNearest le g t P o
+  pass_by le P o off near = nearest-fewer le f g t P P o
+      (λ j node there on p. let was = before j node there in let key : was.0.key ≡ node.key = ap (λ n. n.key) was.2 in (was.0, was.1, ap (λ n. n.list) was.2 ∙ on, key, subst P (sym key) p))
+      (λ s was is there on p. (bridged old.prev old.next s was, remains s was (λ same. off (is ∙ ap Some same)) there, on, refl, p)) near
+
+  -- the place that led to it finds what it led to
+  take_over : (le : ℕ → ℕ → Type 0) (P R : ℕ → Type 0) (o : Option ℕ) → ((j : ℕ) (was : Node) → j ≢ q → f j ≡ Some was → was.list ≡ t → P was.key → R was.key) → ((k : ℕ) → R k → P k) → (R old.key → ⊥)
+      → IsNearest le f t R o → IsNearest le g t P o
+  take_over le P R o each back not near = nearest-fewer le f g t R P o
+      (λ j node there on p.
+      let was = before j node there in
+      let key : was.0.key ≡ node.key = ap (λ n. n.key) was.2 in
+      let in_list = ap (λ n. n.list) was.2 ∙ on in
+      (was.0, was.1, in_list, key, each j was.0 (not_gone j node there) was.1 in_list (subst P (sym key) p)))
+      (λ s was is there on r.
+      let off : s ≢ q = λ same. not (subst R (ap (λ n. n.key) (same_Some was old (sym there ∙ ap f same ∙ has))) r) in
+      (bridged old.prev old.next s was, remains s was off there, on, refl, back was.key r)) near
+
+  -- the node that a nearest link leads to
+  found : (le : ℕ → ℕ → Type 0) (P : ℕ → Type 0) (o : Option ℕ) (s : ℕ) (was : Node) → o ≡ Some s → f s ≡ Some was → IsNearest le f t P o → P was.key × ((j : ℕ) (other : Node) → f j ≡ Some other → other.list ≡ t → P other.key → le was.key other.key)
+  found le P None s was is there near = absurd (cc)
+  found le P (Some a) s was is there near =
+      let slot : a ≡ s = cc in
+      let same : near.0 ≡ was = same_Some near.0 was (sym near.1 ∙ ap f slot ∙ there) in
+      (subst P (ap (λ n. n.key) same) near.3, λ j other at on p. subst (λ k. le k other.key) (ap (λ n. n.key) same) (near.4 j other at on p))
+
+  -- who is nearest before the node is the only place that leads to it
+  no_link_up : (P : ℕ → Type 0) (o b : Option ℕ) → IsNearest up f t P o → IsNearest down f t (below old.key) b → ((s : ℕ) (was : Node) → b ≡ Some s → f s ≡ Some was → was.list ≡ t → P was.key) → b ≢ None → o ≢ Some q
+  no_link_up P o None near prev after some is = some refl
+  no_link_up P o (Some p) near prev after some is =
+      let its = found up P o q old is has near in
+      omega (arith, its.1 p prev.0 prev.1 prev.2 (after p prev.0 refl prev.1 prev.2), prev.3)
+
+  no_link_down : (P : ℕ → Type 0) (o b : Option ℕ) → IsNearest down f t P o → IsNearest up f t (above old.key) b → ((s : ℕ) (was : Node) → b ≡ Some s → f s ≡ Some was → was.list ≡ t → P was.key) → b ≢ None → o ≢ Some q
+  no_link_down P o None near next after some is = some refl
+  no_link_down P o (Some p) near next after some is =
+      let its = found down P o q old is has near in
+      omega (arith, its.1 p next.0 next.1 next.2 (after p next.0 refl next.1 next.2), next.3)
+
+  prev_q : IsNearest down f t (below old.key) old.prev
+  prev_q = chain.prev_is q old has list
+
+  next_q : IsNearest up f t (above old.key) old.next
+  next_q = chain.next_is q old has list
+
+  first_out : (b : Option ℕ) → old.prev ≡ b → IsNearest down f t (below old.key) b → IsNearest up g t anywhere (cond (is_none b) old.next first)
+  first_out None is prev = take_over up anywhere (above old.key) old.next (λ j was off there on p. elim (lt_or_le was.key old.key) [ inl less ↦ absurd (prev j was there on less) | inr more ↦ omega (arith, more, differ j was off there) ]) (λ k r. tt) (λ r. omega (arith, r)) next_q
+  first_out (Some p) is prev = pass_by up anywhere first (no_link_up anywhere first (Some p) chain.first_is prev (λ s was is there on. tt) (λ none. cc (none))) chain.first_is
+
+  last_out : (b : Option ℕ) → old.next ≡ b → IsNearest up f t (above old.key) b → IsNearest down g t anywhere (cond (is_none b) old.prev last)
+  last_out None is next = take_over down anywhere (below old.key) old.prev (λ j was off there on p. elim (lt_or_le old.key was.key) [ inl more ↦ absurd (next j was there on more) | inr less ↦ omega (arith, less, differ j was off there) ]) (λ k r. tt) (λ r. omega (arith, r)) prev_q
+  last_out (Some p) is next = pass_by down anywhere last (no_link_down anywhere last (Some p) chain.last_is next (λ s was is there on. tt) (λ none. cc (none))) chain.last_is
+
+  next_out : (s : ℕ) (was : Node) → s ≢ q → f s ≡ Some was → was.list ≡ t → (b : Bool) → leads_to old.prev s ≡ b → IsNearest up g t (above was.key) (cond b old.next was.next)
+  next_out s was off there on true is =
+      let its = found down (below old.key) old.prev s was (leads old.prev s is) there prev_q in
+      take_over up (above was.key) (above old.key) old.next
+      (λ j other away at in_list p. elim (lt_or_le other.key old.key) [ inl less ↦ omega (arith, its.1 j other at in_list less, p) | inr more ↦ omega (arith, more, differ j other away at) ])
+      (λ k r. omega (arith, its.0, r)) (λ r. omega (arith, r)) next_q
+  next_out s was off there on false is = elim (lt_or_le was.key old.key) [
+    | inl less ↦ pass_by up (above was.key) was.next (no_link_up (above was.key) was.next old.prev (chain.next_is s was there on) prev_q
+        (λ p other at_p at in_list.
+        let its = found down (below old.key) old.prev p other at_p at prev_q in
+        let away : p ≢ s = λ same. cc (is, sym (leads_to-self s), ap (λ o. leads_to o s) (at_p ∙ ap Some same)) in
+        let keys : other.key ≢ was.key = λ e. away (apart p s other was at there e) in
+        omega (arith, its.1 s was there on less, keys))
+        (λ none. at_none old.prev prev_q none less)) (chain.next_is s was there on)
+    | inr more ↦ pass_by up (above was.key) was.next (λ is. let its = found up (above was.key) was.next q old is has (chain.next_is s was there on) in omega (arith, its.0, more)) (chain.next_is s was there on)
+  ]
+    where
+      at_none : (o : Option ℕ) → IsNearest down f t (below old.key) o → o ≡ None → was.key < old.key → ⊥
+      at_none None near none less = near s was there on less
+      at_none (Some p) near none less = absurd (cc (none))
+
+  prev_out : (s : ℕ) (was : Node) → s ≢ q → f s ≡ Some was → was.list ≡ t → (b : Bool) → leads_to old.next s ≡ b → IsNearest down g t (below was.key) (cond b old.prev was.prev)
+  prev_out s was off there on true is =
+      let its = found up (above old.key) old.next s was (leads old.next s is) there next_q in
+      take_over down (below was.key) (below old.key) old.prev
+      (λ j other away at in_list p. elim (lt_or_le old.key other.key) [ inl more ↦ omega (arith, its.1 j other at in_list more, p) | inr less ↦ omega (arith, less, differ j other away at) ])
+      (λ k r. omega (arith, its.0, r)) (λ r. omega (arith, r)) prev_q
+  prev_out s was off there on false is = elim (lt_or_le old.key was.key) [
+    | inl more ↦ pass_by down (below was.key) was.prev (no_link_down (below was.key) was.prev old.next (chain.prev_is s was there on) next_q
+        (λ p other at_p at in_list.
+        let its = found up (above old.key) old.next p other at_p at next_q in
+        let away : p ≢ s = λ same. cc (is, sym (leads_to-self s), ap (λ o. leads_to o s) (at_p ∙ ap Some same)) in
+        let keys : other.key ≢ was.key = λ e. away (apart p s other was at there e) in
+        omega (arith, its.1 s was there on more, keys))
+        (λ none. at_none old.next next_q none more)) (chain.prev_is s was there on)
+    | inr less ↦ pass_by down (below was.key) was.prev (λ is. let its = found down (below was.key) was.prev q old is has (chain.prev_is s was there on) in omega (arith, its.0, less)) (chain.prev_is s was there on)
+  ]
+    where
+      at_none : (o : Option ℕ) → IsNearest up f t (above old.key) o → o ≡ None → old.key < was.key → ⊥
+      at_none None near none more = near s was there on more
+      at_none (Some p) near none more = absurd (cc (none))
+
+  pub IsChain-left : IsChain g t (cond (is_none old.prev) old.next first) (cond (is_none old.next) old.prev last)
+  IsChain-left = record {
+    first_is = first_out old.prev refl prev_q;
+    last_is = last_out old.next refl next_q;
+    next_is = λ s node there on. let was = before s node there in rw (← was.2) (next_out s was.0 (not_gone s node there) was.1 (ap (λ n. n.list) was.2 ∙ on) (leads_to old.prev s) refl);
+    prev_is = λ s node there on. let was = before s node there in rw (← was.2) (prev_out s was.0 (not_gone s node there) was.1 (ap (λ n. n.list) was.2 ∙ on) (leads_to old.next s) refl);
+  }
+
+  -- a neighbour is of the list
+  neighbour : (le : ℕ → ℕ → Type 0) (P : ℕ → Type 0) (o : Option ℕ) → IsNearest le f t P o → (s : ℕ) (was : Node) → f s ≡ Some was → was.list ≢ t → leads_to o s ≡ false
+  neighbour le P None near s was there off = refl
+  neighbour le P (Some l) near s was there off = by (nat_eq l s) refl
+    where
+      by : (b : Bool) → nat_eq l s ≡ b → nat_eq l s ≡ false
+      by false is = is
+      by true is = let same : l ≡ s = grind (arith, nat_tests, is) in absurd (off (sym (ap (λ n. n.list) (same_Some near.0 was (sym near.1 ∙ ap f same ∙ there))) ∙ near.2))
+
+  stays_same : (s : ℕ) (was : Node) → f s ≡ Some was → was.list ≢ t → bridged old.prev old.next s was ≡ was
+  stays_same s was there off =
+      ap (λ c. record was { prev = cond c old.prev was.prev; next = cond (leads_to old.prev s) old.next was.next }) (neighbour up (above old.key) old.next next_q s was there off)
+      ∙ ap (λ c. record was { next = cond c old.next was.next }) (neighbour down (below old.key) old.prev prev_q s was there off)
+
+  -- the other lists stay
+  pub IsChain-left_other : (u : ℕ) (a b : Option ℕ) → u ≢ t → IsChain f u a b → IsChain g u a b
+  IsChain-left_other u a b off other = IsChain-kept f g u a b
+      (λ s node there on.
+      let apart : s ≢ q = λ same. off (sym on ∙ sym (ap (λ n. n.list) (same_Some old node (sym has ∙ ap f (sym same) ∙ there))) ∙ list) in
+      remains s node apart there ∙ ap Some (stays_same s node there (λ same. off (sym on ∙ same))))
+      (λ s node there on.
+      let was = before s node there in
+      was.1 ∙ ap Some (sym (stays_same s was.0 was.1 (λ same. off (sym on ∙ sym (ap (λ n. n.list) was.2) ∙ same))) ∙ was.2))
+      other

@@ -1,0 +1,105 @@
+-- Counts of rows.
+use Rattle.std.proofs.Common.{◌≡◌, ◌≢◌, ℕ, zero, suc, ◌+◌, ◌-◌, ◌/◌, ◌<◌, ◌≤◌, nat_lt, not, ◌&&◌, inl, inr, get_or, set, Bool, true, false, List, [], ◌∷◌, ◌++◌, Option, Some, None, refl, sym, ap, ◌∙◌, arith, cond, nat_eq, length, count_by, ◌==◌}
+use Rattle.std.specs.List.{cons_option, find}
+use Rattle.std.proofs.lemmas.List.Sums.{sum_by-cons, count_by-le-length}
+use Rattle.std.proofs.lemmas.Option.{same_Some}
+use Rattle.std.proofs.lemmas.Bool.{cases_eq}
+use Rattle.std.proofs.lemmas.Bool.Decides.{nat_tests}
+use Rattle.std.proofs.lemmas.List.{get_or-set_same, get_or-set_other}
+use Rattle.lwp_table.specs.declared.LwpData.{LwpData}
+use Rattle.pid_blocks.specs.Blocks.{tid_owner}
+use Rattle.lwp_table.specs.Lwps.{lwp_of}
+use Rattle.lwp_table.specs.Kept.{listing, place_of, is_at}
+use Rattle.lwp_table.proofs.WordLemmas.{test_same, test_apart, with_row, without_row}
+
+-- one for yes
+abbrev pub one : Bool → ℕ
+one c = cond c 1 0
+
+module _ (p : LwpData → Bool) where
+  pub count-cons : (x : LwpData) (xs : List LwpData) → count_by p (x ∷ xs) ≡ cond (p x) 1 0 + count_by p xs
+  count-cons x xs = sum_by-cons (λ r. cond (p r) 1 0) x xs
+
+  pub count-end : (xs : List LwpData) (new : LwpData) → count_by p (xs ++ new ∷ []) ≡ count_by p xs + cond (p new) 1 0
+  count-end [] new = omega (arith, count-cons new [])
+  count-end (x ∷ xs) new = omega (arith, count-cons x (xs ++ new ∷ []), count-cons x xs, count-end xs new)
+
+  pub count-without : (tid : ℕ) (row : LwpData) (xs : List LwpData) → lwp_of tid xs ≡ Some row → count_by p (without_row tid xs) + cond (p row) 1 0 ≡ count_by p xs
+  count-without tid row [] there = absurd (cc)
+  count-without tid row (x ∷ xs) there = by (nat_eq x.tid tid) (count-without tid row xs) there
+    where
+      by : (c : Bool) → (lwp_of tid xs ≡ Some row → count_by p (without_row tid xs) + cond (p row) 1 0 ≡ count_by p xs) → cond c (Some x) (lwp_of tid xs) ≡ Some row → count_by p (cond c xs (x ∷ without_row tid xs)) + cond (p row) 1 0 ≡ count_by p (x ∷ xs)
+      by true later there = let same = ap (λ r. one (p r)) (same_Some x row there) in omega (arith, count-cons x xs, same)
+      by false later there = omega (arith, count-cons x xs, count-cons x (without_row tid xs), later there)
+
+  pub count-with : (new was : LwpData) (xs : List LwpData) → lwp_of new.tid xs ≡ Some was → p was ≡ p new → count_by p (with_row new xs) ≡ count_by p xs
+  count-with new was [] there same = absurd (cc)
+  count-with new was (x ∷ xs) there same = by (nat_eq x.tid new.tid) (λ later. count-with new was xs later same) there
+    where
+      by : (c : Bool) → (lwp_of new.tid xs ≡ Some was → count_by p (with_row new xs) ≡ count_by p xs) → cond c (Some x) (lwp_of new.tid xs) ≡ Some was → count_by p (cond c (new ∷ xs) (x ∷ with_row new xs)) ≡ count_by p (x ∷ xs)
+      by true later there = let here = ap (λ r. one (p r)) (same_Some x was there) in
+          let after = ap one same in omega (arith, count-cons x xs, count-cons new xs, here, after)
+      by false later there = omega (arith, count-cons x xs, count-cons x (with_row new xs), later there)
+
+pub length-listing : (b : ℕ → Option LwpData) (from count : ℕ) → length (listing b from count) ≤ count
+length-listing b from zero = omega arith
+length-listing b from (suc count) = by (b from) (length-listing b (from + 1) count)
+  where
+    by : (o : Option LwpData) → length (listing b (from + 1) count) ≤ count → length (cons_option o (listing b (from + 1) count)) ≤ suc count
+    by None less = omega (arith, less)
+    by (Some x) less = omega (arith, less)
+
+pub count-below : (p : LwpData → Bool) (b : ℕ → Option LwpData) (from count : ℕ) → count_by p (listing b from count) ≤ count
+count-below p b from count = omega (arith, count_by-le-length p (listing b from count), length-listing b from count)
+
+pub length-end : (xs : List LwpData) (new : LwpData) → length (xs ++ new ∷ []) ≡ length xs + 1
+length-end [] new = refl
+length-end (x ∷ xs) new = omega (arith, length-end xs new)
+
+pub length-without : (tid : ℕ) (row : LwpData) (xs : List LwpData) → lwp_of tid xs ≡ Some row → length (without_row tid xs) + 1 ≡ length xs
+length-without tid row [] there = absurd (cc)
+length-without tid row (x ∷ xs) there = by (nat_eq x.tid tid) (length-without tid row xs) there
+  where
+    by : (c : Bool) → (lwp_of tid xs ≡ Some row → length (without_row tid xs) + 1 ≡ length xs) → cond c (Some x) (lwp_of tid xs) ≡ Some row → length (cond c xs (x ∷ without_row tid xs)) + 1 ≡ length (x ∷ xs)
+    by true later there = omega arith
+    by false later there = omega (arith, later there)
+
+pub length-with : (new : LwpData) (xs : List LwpData) → length (with_row new xs) ≡ length xs
+length-with new [] = refl
+length-with new (x ∷ xs) = by (nat_eq x.tid new.tid) (length-with new xs)
+  where
+    by : (c : Bool) → length (with_row new xs) ≡ length xs → length (cond c (new ∷ xs) (x ∷ with_row new xs)) ≡ length (x ∷ xs)
+    by true same = refl
+    by false same = omega (arith, same)
+
+-- a row's number is of one user's
+pub at_yes : (owner : ℕ) (row : LwpData) → owner ≡ place_of row.tid → is_at owner row ≡ true
+at_yes owner row is = ap (nat_eq (place_of row.tid)) is ∙ test_same (place_of row.tid)
+
+pub at_no : (owner place : ℕ) (row : LwpData) → owner ≡ place_of row.tid → place ≢ owner → is_at place row ≡ false
+at_no owner place row is off = test_apart (place_of row.tid) place (λ same. off (sym same ∙ sym is))
+
+-- the users' places stand for the users
+pub count-owner : (uid place : ℕ) (xs : List LwpData) → uid ≡ place + 1001 → count_by (is_at place) xs ≡ count_by (λ l. tid_owner l.tid == uid) xs
+unfolding tid_owner
+count-owner uid place xs is = ap (λ p. count_by p xs) (λ i l. same l.tid i)
+  where
+    same : (n : ℕ) → nat_eq (place_of n) place ≡ nat_eq (tid_owner n) uid
+    same n = grind (arith, nat_tests, is)
+
+-- the counts of users after a change of one of them
+pub users_set : (users : List ℕ) (xs ys : List LwpData) (owner n : ℕ) → length users ≡ 64 → owner < 64 → n ≡ count_by (is_at owner) ys → ((place : ℕ) → place ≢ owner → count_by (is_at place) ys ≡ count_by (is_at place) xs)
+    → ((place : ℕ) → place < 64 → get_or users place 0 ≡ count_by (is_at place) xs) → (place : ℕ) → place < 64 → get_or (set users owner n) place 0 ≡ count_by (is_at place) ys
+users_set users xs ys owner n long within own others counted place its = elim (cases_eq place owner) [
+  | inl same ↦ rw same (get_or-set_same users owner n 0 (omega (arith, within, long)) ∙ own)
+  | inr off ↦ get_or-set_other users owner place n 0 off ∙ counted place its ∙ sym (others place off)
+]
+
+-- no row passes, so none is counted
+pub count-none : (p : LwpData → Bool) (xs : List LwpData) → find p xs ≡ None → count_by p xs ≡ 0
+count-none p [] none = refl
+count-none p (x ∷ xs) none = by (p x) refl none (count-none p xs)
+  where
+    by : (c : Bool) → p x ≡ c → cond c (Some x) (find p xs) ≡ None → (find p xs ≡ None → count_by p xs ≡ 0) → count_by p (x ∷ xs) ≡ 0
+    by true is none later = absurd (cc (none))
+    by false is none later = omega (arith, count-cons p x xs, ap one is, later none)

@@ -1,0 +1,187 @@
+-- The list of what rising birth numbers find.
+use Rattle.std.proofs.Common.{◌≡◌, ◌≢◌, ℕ, zero, suc, ◌+◌, ◌-◌, ◌<◌, ◌≤◌, Bool, true, false, List, [], ◌∷◌, ◌++◌, Option, Some, None, refl, sym, ap, ◌∙◌, arith, inl, inr, cond, nat_eq, add-zero, slice_get, filter}
+use Rattle.std.specs.List.{cons_option, find}
+use Rattle.std.proofs.lemmas.Bool.{cases_eq}
+use Rattle.std.proofs.lemmas.Bool.Decides.{nat_tests}
+use Rattle.lwp_table.specs.declared.LwpData.{LwpData}
+use Rattle.lwp_table.specs.Lwps.{lwp_of, LacksLwp, Differ}
+use Rattle.lwp_table.proofs.WordLemmas.{test_same, test_apart, with_row, without_row, rows_after}
+use Rattle.lwp_table.specs.Kept.{listing}
+
+cons_option-append : (o : Option LwpData) (xs ys : List LwpData) → cons_option o (xs ++ ys) ≡ cons_option o xs ++ ys
+cons_option-append None xs ys = refl
+cons_option-append (Some x) xs ys = refl
+
+-- one birth number more
+pub listing-end : (b : ℕ → Option LwpData) (from count : ℕ) → listing b from (suc count) ≡ listing b from count ++ cons_option (b (from + count)) []
+listing-end b from zero = rw add-zero refl
+listing-end b from (suc count) =
+    let shift : from + suc count ≡ from + 1 + count = omega arith in
+    rw shift (ap (cons_option (b from)) (listing-end b (from + 1) count) ∙ cons_option-append (b from) (listing b (from + 1) count) (cons_option (b (from + 1 + count)) []))
+
+pub listing-same : (a b : ℕ → Option LwpData) (from count : ℕ) → ((k : ℕ) → from ≤ k → k < from + count → a k ≡ b k) → listing a from count ≡ listing b from count
+listing-same a b from zero same = refl
+listing-same a b from (suc count) same = rw (same from (omega arith) (omega arith), listing-same a b (from + 1) count (λ k least less. same k (omega arith) (omega arith))) refl
+
+-- each birth number that finds a row finds one of another LWP
+abbrev pub AreNumbered : (ℕ → Option LwpData) → Type 0
+AreNumbered b = (j k : ℕ) (x y : LwpData) → b j ≡ Some x → b k ≡ Some y → x.tid ≡ y.tid → j ≡ k
+
+lacks-listing : (b : ℕ → Option LwpData) (tid from count : ℕ) → ((k : ℕ) (row : LwpData) → from ≤ k → b k ≡ Some row → row.tid ≢ tid) → LacksLwp tid (listing b from count)
+lacks-listing b tid from zero off = tt
+lacks-listing b tid from (suc count) off = by (b from) refl (lacks-listing b tid (from + 1) count (λ k row least is. off k row (omega (arith, least)) is))
+  where
+    by : (o : Option LwpData) → b from ≡ o → LacksLwp tid (listing b (from + 1) count) → LacksLwp tid (cons_option o (listing b (from + 1) count))
+    by None is rest = rest
+    by (Some x) is rest = (off from x (omega arith) is, rest)
+
+pub differ-listing : (b : ℕ → Option LwpData) → AreNumbered b → (from count : ℕ) → Differ (listing b from count)
+differ-listing b numbered from zero = tt
+differ-listing b numbered from (suc count) = by (b from) refl (differ-listing b numbered (from + 1) count)
+  where
+    by : (o : Option LwpData) → b from ≡ o → Differ (listing b (from + 1) count) → Differ (cons_option o (listing b (from + 1) count))
+    by None is rest = rest
+    by (Some x) is rest = (lacks-listing b x.tid (from + 1) count (λ k row least at same. omega (arith, least, numbered from k x row is at (sym same))), rest)
+
+pub lwp_of-none : (b : ℕ → Option LwpData) (tid from count : ℕ) → ((k : ℕ) (row : LwpData) → b k ≡ Some row → row.tid ≢ tid) → lwp_of tid (listing b from count) ≡ None
+lwp_of-none b tid from zero off = refl
+lwp_of-none b tid from (suc count) off = by (b from) refl (lwp_of-none b tid (from + 1) count off)
+  where
+    by : (o : Option LwpData) → b from ≡ o → lwp_of tid (listing b (from + 1) count) ≡ None → lwp_of tid (cons_option o (listing b (from + 1) count)) ≡ None
+    by None is rest = rest
+    by (Some x) is rest = let other : nat_eq x.tid tid ≡ false = test_apart x.tid tid (off from x is) in rw other rest
+
+module _ (b : ℕ → Option LwpData) (numbered : AreNumbered b) (k : ℕ) (row : LwpData) (at : b k ≡ Some row) where
+  other : (from : ℕ) (x : LwpData) → from ≢ k → b from ≡ Some x → x.tid ≢ row.tid
+  other from x off is same = off (numbered from k x row is at same)
+
+  pub lwp_of-listing : (from count : ℕ) → from ≤ k → k < from + count → lwp_of row.tid (listing b from count) ≡ Some row
+  lwp_of-listing from zero least less = absurd (omega arith)
+  lwp_of-listing from (suc count) least less = elim (cases_eq from k) [
+    | inl here ↦ ap (λ o. lwp_of row.tid (cons_option o (listing b (from + 1) count))) (ap b here ∙ at) ∙ ap (λ c. cond c (Some row) (lwp_of row.tid (listing b (from + 1) count))) (test_same row.tid)
+    | inr off ↦ by (b from) refl off (lwp_of-listing (from + 1) count (omega arith) (omega arith))
+  ]
+    where
+      by : (o : Option LwpData) → b from ≡ o → from ≢ k → lwp_of row.tid (listing b (from + 1) count) ≡ Some row → lwp_of row.tid (cons_option o (listing b (from + 1) count)) ≡ Some row
+      by None is off rest = rest
+      by (Some x) is off rest = let differs : nat_eq x.tid row.tid ≡ false = test_apart x.tid row.tid (other from x off is) in rw differs rest
+
+  -- the rows after this one
+  pub rows_after-listing : (from count : ℕ) → from ≤ k → k < from + count → rows_after row.tid (listing b from count) ≡ listing b (k + 1) (from + count - (k + 1))
+  rows_after-listing from zero least less = absurd (omega arith)
+  rows_after-listing from (suc count) least less = elim (cases_eq from k) [
+    | inl here ↦
+        let left : from + suc count - (k + 1) ≡ count = omega arith in
+        rw (left, ← here) (ap (λ o. rows_after row.tid (cons_option o (listing b (from + 1) count))) (ap b here ∙ at) ∙ ap (λ c. cond c (listing b (from + 1) count) (rows_after row.tid (listing b (from + 1) count))) (test_same row.tid))
+    | inr off ↦
+        let left : from + suc count - (k + 1) ≡ from + 1 + count - (k + 1) = omega arith in
+        rw left (by (b from) refl off (rows_after-listing (from + 1) count (omega arith) (omega arith)))
+  ]
+    where
+      by : (o : Option LwpData) → b from ≡ o → from ≢ k → rows_after row.tid (listing b (from + 1) count) ≡ listing b (k + 1) (from + 1 + count - (k + 1)) → rows_after row.tid (cons_option o (listing b (from + 1) count)) ≡ listing b (k + 1) (from + 1 + count - (k + 1))
+      by None is off rest = rest
+      by (Some x) is off rest = let differs : nat_eq x.tid row.tid ≡ false = test_apart x.tid row.tid (other from x off is) in rw differs rest
+
+  module _ (a : ℕ → Option LwpData) (others : (j : ℕ) → j ≢ k → a j ≡ b j) where
+    rest_same : (from count : ℕ) → k < from → listing a from count ≡ listing b from count
+    rest_same from count past = listing-same a b from count (λ j least less. others j (λ same. omega (arith, same)))
+
+    -- the row goes
+    pub listing-removed : a k ≡ None → (from count : ℕ) → from ≤ k → k < from + count → listing a from count ≡ without_row row.tid (listing b from count)
+    listing-removed none from zero least less = absurd (omega arith)
+    listing-removed none from (suc count) least less = elim (cases_eq from k) [
+      | inl here ↦
+          ap (λ o. cons_option o (listing a (from + 1) count)) (ap a here ∙ none) ∙ rest_same (from + 1) count (omega arith)
+          ∙ sym (ap (λ o. without_row row.tid (cons_option o (listing b (from + 1) count))) (ap b here ∙ at) ∙ ap (λ c. cond c (listing b (from + 1) count) (row ∷ without_row row.tid (listing b (from + 1) count))) (test_same row.tid))
+      | inr off ↦ rw (others from off) (by (b from) refl off (listing-removed none (from + 1) count (omega arith) (omega arith)))
+    ]
+      where
+        by : (o : Option LwpData) → b from ≡ o → from ≢ k → listing a (from + 1) count ≡ without_row row.tid (listing b (from + 1) count) → cons_option o (listing a (from + 1) count) ≡ without_row row.tid (cons_option o (listing b (from + 1) count))
+        by None is off rest = rest
+        by (Some x) is off rest = let differs : nat_eq x.tid row.tid ≡ false = test_apart x.tid row.tid (other from x off is) in rw differs (ap (λ xs. x ∷ xs) rest)
+
+    -- the row is replaced
+    pub listing-set : (new : LwpData) → a k ≡ Some new → new.tid ≡ row.tid → (from count : ℕ) → from ≤ k → k < from + count → listing a from count ≡ with_row new (listing b from count)
+    listing-set new is_new tids from zero least less = absurd (omega arith)
+    listing-set new is_new tids from (suc count) least less = elim (cases_eq from k) [
+      | inl here ↦
+          ap (λ o. cons_option o (listing a (from + 1) count)) (ap a here ∙ is_new) ∙ ap (λ xs. new ∷ xs) (rest_same (from + 1) count (omega arith))
+          ∙ sym (ap (λ o. with_row new (cons_option o (listing b (from + 1) count))) (ap b here ∙ at) ∙ ap (λ c. cond c (new ∷ listing b (from + 1) count) (row ∷ with_row new (listing b (from + 1) count))) (ap (nat_eq row.tid) tids ∙ test_same row.tid))
+      | inr off ↦ rw (others from off) (by (b from) refl off (listing-set new is_new tids (from + 1) count (omega arith) (omega arith)))
+    ]
+      where
+        by : (o : Option LwpData) → b from ≡ o → from ≢ k → listing a (from + 1) count ≡ with_row new (listing b (from + 1) count) → cons_option o (listing a (from + 1) count) ≡ with_row new (cons_option o (listing b (from + 1) count))
+        by None is off rest = rest
+        by (Some x) is off rest = let differs : nat_eq x.tid new.tid ≡ false = test_apart x.tid new.tid (λ same. other from x off is (same ∙ tids)) in rw differs (ap (λ xs. x ∷ xs) rest)
+
+module _ (b : ℕ → Option LwpData) (test : LwpData → Bool) where
+  pub first-none : (from count : ℕ) → ((j : ℕ) (x : LwpData) → from ≤ j → b j ≡ Some x → test x ≡ false) → find test (listing b from count) ≡ None
+  first-none from zero off = refl
+  first-none from (suc count) off = by (b from) refl (first-none (from + 1) count (λ j x least is. off j x (omega arith) is))
+    where
+      by : (o : Option LwpData) → b from ≡ o → find test (listing b (from + 1) count) ≡ None → find test (cons_option o (listing b (from + 1) count)) ≡ None
+      by None is rest = rest
+      by (Some x) is rest = rw (off from x (omega arith) is) rest
+
+  pub first-found : (k : ℕ) (row : LwpData) → b k ≡ Some row → test row ≡ true → (from count : ℕ) → from ≤ k → k < from + count → ((j : ℕ) (x : LwpData) → from ≤ j → j < k → b j ≡ Some x → test x ≡ false) → find test (listing b from count) ≡ Some row
+  first-found k row at passes from zero least less off = absurd (omega arith)
+  first-found k row at passes from (suc count) least less off = elim (cases_eq from k) [
+    | inl here ↦ ap (λ o. find test (cons_option o (listing b (from + 1) count))) (ap b here ∙ at) ∙ ap (λ c. cond c (Some row) (find test (listing b (from + 1) count))) passes
+    | inr apart ↦ by (b from) refl (omega (arith, apart)) (first-found k row at passes (from + 1) count (omega (arith, apart)) (omega arith) (λ j x least less is. off j x (omega arith) less is))
+  ]
+    where
+      by : (o : Option LwpData) → b from ≡ o → from < k → find test (listing b (from + 1) count) ≡ Some row → find test (cons_option o (listing b (from + 1) count)) ≡ Some row
+      by None is before rest = rest
+      by (Some x) is before rest = rw (off from x (omega arith) before is) rest
+
+module _ (b : ℕ → Option LwpData) where
+  -- no birth number from here on finds a row
+  pub listing-empty : (from count : ℕ) → ((j : ℕ) (x : LwpData) → from ≤ j → b j ≡ Some x → ⊥) → listing b from count ≡ []
+  listing-empty from zero none = refl
+  listing-empty from (suc count) none = by (b from) refl (listing-empty (from + 1) count (λ j x least is. none j x (omega arith) is))
+    where
+      by : (o : Option LwpData) → b from ≡ o → listing b (from + 1) count ≡ [] → cons_option o (listing b (from + 1) count) ≡ []
+      by None is rest = rest
+      by (Some x) is rest = absurd (none from x (omega arith) is)
+
+  -- the first birth number from here on that finds a row
+  pub listing-skip : (k : ℕ) (row : LwpData) → b k ≡ Some row → (from count : ℕ) → from ≤ k → k < from + count → ((j : ℕ) (x : LwpData) → from ≤ j → j < k → b j ≡ Some x → ⊥) → listing b from count ≡ row ∷ listing b (k + 1) (from + count - (k + 1))
+  listing-skip k row at from zero least less none = absurd (omega arith)
+  listing-skip k row at from (suc count) least less none = elim (cases_eq from k) [
+    | inl here ↦
+        let left : from + suc count - (k + 1) ≡ count = omega arith in
+        rw (left, ← here) (ap (λ o. cons_option o (listing b (from + 1) count)) (ap b here ∙ at))
+    | inr off ↦
+        let left : from + suc count - (k + 1) ≡ from + 1 + count - (k + 1) = omega arith in
+        rw left (by (b from) refl (omega (arith, off)) (listing-skip k row at (from + 1) count (omega (arith, off)) (omega arith) (λ j x least less is. none j x (omega arith) less is)))
+  ]
+    where
+      by : (o : Option LwpData) → b from ≡ o → from < k → listing b (from + 1) count ≡ row ∷ listing b (k + 1) (from + 1 + count - (k + 1)) → cons_option o (listing b (from + 1) count) ≡ row ∷ listing b (k + 1) (from + 1 + count - (k + 1))
+      by None is before rest = rest
+      by (Some x) is before rest = absurd (none from x (omega arith) before is)
+
+-- a place past the first
+pub slice_get-past : (x : LwpData) (xs : List LwpData) (place : ℕ) → place ≢ 0 → slice_get (x ∷ xs) place ≡ slice_get xs (place - 1)
+slice_get-past x xs zero off = absurd (off refl)
+slice_get-past x xs (suc n) off = let less : suc n - 1 ≡ n = omega arith in rw less refl
+
+module _ (b : ℕ → Option LwpData) (p : LwpData → Bool) where
+  -- rows that fail the test are passed over
+  pub filter-skip : (k from count : ℕ) → from ≤ k → k ≤ from + count → ((j : ℕ) (x : LwpData) → from ≤ j → j < k → b j ≡ Some x → p x ≡ false) → filter p (listing b from count) ≡ filter p (listing b k (from + count - k))
+  filter-skip k from zero least most fails = let none : from + 0 - k ≡ 0 = omega arith in rw none refl
+  filter-skip k from (suc count) least most fails = elim (cases_eq from k) [
+    | inl here ↦ let left : from + suc count - k ≡ suc count = omega arith in rw (left, ← here) refl
+    | inr off ↦
+        let left : from + suc count - k ≡ from + 1 + count - k = omega arith in
+        rw left (by (b from) refl (omega (arith, off)) (filter-skip k (from + 1) count (omega (arith, off)) (omega arith) (λ j x least less is. fails j x (omega arith) less is)))
+  ]
+    where
+      by : (o : Option LwpData) → b from ≡ o → from < k → filter p (listing b (from + 1) count) ≡ filter p (listing b k (from + 1 + count - k)) → filter p (cons_option o (listing b (from + 1) count)) ≡ filter p (listing b k (from + 1 + count - k))
+      by None is before rest = rest
+      by (Some x) is before rest = rw (fails from x (omega arith) before is) rest
+
+  -- a row that passes comes first
+  pub filter-first : (k births : ℕ) (row : LwpData) → b k ≡ Some row → p row ≡ true → k < births → filter p (listing b k (births - k)) ≡ row ∷ filter p (listing b (k + 1) (births - (k + 1)))
+  filter-first k births row at passes less =
+      let more : births - k ≡ suc (births - (k + 1)) = omega arith in
+      rw more (ap (λ o. filter p (cons_option o (listing b (k + 1) (births - (k + 1))))) at ∙ ap (λ c. cond c (row ∷ filter p (listing b (k + 1) (births - (k + 1)))) (filter p (listing b (k + 1) (births - (k + 1))))) passes)

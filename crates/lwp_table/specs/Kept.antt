@@ -1,0 +1,108 @@
+-- How a table keeps its rows: in slots, with a birth number each, and with links in order of birth.
+use Rattle.std.specs.Prelude.{◌≡◌, ℕ, zero, suc, ◌+◌, ◌-◌, ◌<◌, Bool, ◌==◌, List, [], ◌∷◌, Option, Some, None, nat_eq, count_by, length, if◌then◌else◌, unwrap_or, slice_index, IfSome, IsSomeAnd}
+use Rattle.std.specs.List.{cons_option}
+use Rattle.std.specs.Option.{option_map}
+use Rattle.std.specs.Map.{lookup}
+use Rattle.pid_blocks.specs.Blocks.{slot, tid_owner}
+use Rattle.lwp_table.specs.declared.LwpData.{LwpData}
+use Rattle.lwp_table.specs.declared.links.Slot.{Slot}
+use Rattle.lwp_table.specs.declared.links.Ends.{Ends}
+use Rattle.lwp_table.specs.declared.links.Link.{Link}
+use Rattle.lwp_table.specs.declared.links.Link.TheVariants.{NextOwn, PrevOwn, NextAll, PrevAll}
+use Rattle.lwp_table.specs.Chain.{Node, IsChain, IsNearest, up, above, leads_to}
+
+-- whether a row is of this process
+abbrev pub is_of : ℕ → LwpData → Bool
+is_of pid row = row.pid == pid
+
+-- the place among the 64 users of the one in whose block this number lies
+abbrev pub place_of : ℕ → ℕ
+place_of tid = slot (tid_owner tid)
+
+-- whether a row's number is of the user at this place
+abbrev pub is_at : ℕ → LwpData → Bool
+is_at place row = place_of row.tid == place
+
+-- the slot as its process's list sees it
+abbrev pub own_node : Slot → Node
+own_node slot = record { key = slot.born; list = slot.row.pid; prev = slot.own.prev; next = slot.own.next }
+
+abbrev pub own_nodes : (ℕ → Option Slot) → ℕ → Option Node
+own_nodes f s = option_map own_node (f s)
+
+-- the slot as the list of all rows sees it
+abbrev pub all_node : Slot → Node
+all_node slot = record { key = slot.born; list = 0; prev = slot.all.prev; next = slot.all.next }
+
+abbrev pub all_nodes : (ℕ → Option Slot) → ℕ → Option Node
+all_nodes f s = option_map all_node (f s)
+
+-- the slot with one of its links changed
+abbrev pub with_link : Link → Slot → Option ℕ → Slot
+with_link NextOwn slot to = record slot { own = record slot.own { next = to } }
+with_link PrevOwn slot to = record slot { own = record slot.own { prev = to } }
+with_link NextAll slot to = record slot { all = record slot.all { next = to } }
+with_link PrevAll slot to = record slot { all = record slot.all { prev = to } }
+
+-- the slot s, once the link of the slot `at` was changed
+abbrev pub linked : Link → Option ℕ → Option ℕ → ℕ → Slot → Slot
+linked link at to s slot = if leads_to at s then with_link link slot to else slot
+
+-- the ends of an empty list
+abbrev pub no_ends : Ends
+no_ends = record { first = None; last = None; count = 0 }
+
+-- the ends of the list of a process
+abbrev pub ends_at : List (ℕ × Ends) → ℕ → Ends
+ends_at hs pid = unwrap_or (lookup (nat_eq pid) hs) no_ends
+
+-- the row of this slot, if it has this birth number
+abbrev pub if_born : ℕ → Option LwpData → Option Slot → Option LwpData
+if_born birth other None = other
+if_born birth other (Some slot) = if nat_eq slot.born birth then Some slot.row else other
+
+-- the row with this birth number
+abbrev pub born_row : (ℕ → Option Slot) → List (ℕ × ℕ) → ℕ → Option LwpData
+born_row f [] birth = None
+born_row f (e ∷ es) birth = if_born birth (born_row f es birth) (f e.1)
+
+-- the rows that so many birth numbers find, from `from` on
+abbrev pub listing : (ℕ → Option LwpData) → ℕ → ℕ → List LwpData
+listing b from zero = []
+listing b from (suc count) = cons_option (b from) (listing b (from + 1) count)
+
+-- the rows in order of birth
+abbrev pub rows_of : (ℕ → Option Slot) → List (ℕ × ℕ) → ℕ → List LwpData
+rows_of f es births = listing (born_row f es) 0 births
+
+-- each number has its slot, each row a number, and each a birth number of its own
+pub record IsIndexed (f : ℕ → Option Slot) (es : List (ℕ × ℕ)) (births : ℕ) : Type 0 where
+  pub listed : (s : ℕ) (slot : Slot) → f s ≡ Some slot → lookup (nat_eq slot.row.tid) es ≡ Some s
+  pub named : (tid s : ℕ) → lookup (nat_eq tid) es ≡ Some s → (slot : Slot) × (f s ≡ Some slot) × (slot.row.tid ≡ tid)
+  pub earlier : (s : ℕ) (slot : Slot) → f s ≡ Some slot → slot.born < births
+  pub apart : (i j : ℕ) (a b : Slot) → f i ≡ Some a → f j ≡ Some b → a.born ≡ b.born → i ≡ j
+
+-- what a table keeps
+pub record IsKept (f : ℕ → Option Slot) (es : List (ℕ × ℕ)) (hs : List (ℕ × Ends)) (all : Ends) (births : ℕ) (users : List ℕ) : Type 0 where
+  pub indexed : IsIndexed f es births
+  pub own : (pid : ℕ) → IsChain (own_nodes f) pid (ends_at hs pid).first (ends_at hs pid).last
+  pub whole : IsChain (all_nodes f) 0 all.first all.last
+  pub counted : (pid : ℕ) → (ends_at hs pid).count ≡ count_by (is_of pid) (rows_of f es births)
+  pub total : all.count ≡ length (rows_of f es births)
+  pub homes : (place : ℕ) → place < 64 → slice_index users place ≡ count_by (is_at place) (rows_of f es births)
+
+-- the rows from a slot's on
+abbrev pub from_slot : (ℕ → Option Slot) → List (ℕ × ℕ) → ℕ → Option Slot → List LwpData
+from_slot f es births None = []
+from_slot f es births (Some slot) = listing (born_row f es) slot.born (births - slot.born)
+
+-- the rows from a link on
+abbrev pub rows_from : (ℕ → Option Slot) → List (ℕ × ℕ) → ℕ → Option ℕ → List LwpData
+rows_from f es births None = []
+rows_from f es births (Some s) = from_slot f es births (f s)
+
+-- what a walk along a list of slots keeps, where `node` is the slot as this list sees it
+pub record IsWalk (f : ℕ → Option Slot) (es : List (ℕ × ℕ)) (births : ℕ) (node : Slot → Node) (list : ℕ) (link : Option ℕ) : Type 0 where
+  pub indexed : IsIndexed f es births
+  pub next_is : (s : ℕ) (slot : Slot) → f s ≡ Some slot → (node slot).list ≡ list → IsNearest up (λ j. option_map node (f j)) list (above (node slot).key) (node slot).next
+  pub there : IfSome link (λ s. IsSomeAnd (f s) (λ slot. (node slot).list ≡ list))

@@ -1,0 +1,132 @@
+//! The slots that rows stand in, and the lists that links make of them.
+
+ghost use Rattle.std.specs.Prelude.{◌≡◌, ℕ, ◌+◌, ◌<◌, ◌≤◌, None, IsSome, IfSome, is_none, if◌then◌else◌, nat_eq};
+ghost use Rattle.std.specs.Option.{option_map};
+ghost use Rattle.slab.specs.Slab.{get, slab_len, ContainsKey};
+ghost use Rattle.indexmap.specs.IndexMap.{get as index_get, spare};
+ghost use Rattle.lwp_table.specs.Kept.{linked, ends_at, no_ends, place_of};
+
+use crate::LwpData;
+use indexmap::IndexMap;
+use pid_blocks::{Tid, owner_of_tid};
+use slab::Slab;
+
+/// The slots before and after one in a list.
+#[derive(Clone, Copy, Debug)]
+pub struct Links {
+    pub prev: Option<usize>,
+    pub next: Option<usize>,
+}
+
+/// The first and the last slot of a list, and how many it has.
+#[derive(Clone, Copy, Debug)]
+pub struct Ends {
+    pub first: Option<usize>,
+    pub last: Option<usize>,
+    pub count: usize,
+}
+
+impl Ends {
+    /// The ends of a list with no slot.
+    pub fn empty() -> Ends
+        ensures { result ≡ no_ends }
+    {
+        Ends {
+            first: None,
+            last: None,
+            count: 0,
+        }
+    }
+}
+
+/// A row with its birth number, and its links in its process's list and in that of all rows.
+#[derive(Clone, Copy, Debug)]
+pub struct Slot {
+    pub row: LwpData,
+    pub born: usize,
+    pub own: Links,
+    pub all: Links,
+}
+
+/// One of a slot's links.
+#[derive(Clone, Copy, Debug)]
+pub enum Link {
+    NextOwn,
+    PrevOwn,
+    NextAll,
+    PrevAll,
+}
+
+/// Changes a link of the slot `at`, if there is one.
+pub fn set_link(slots: &mut Slab<Slot>, link: Link, at: Option<usize>, to: Option<usize>)
+    requires { IfSome at (λ s. ContainsKey slots.old s) }
+    ensures linked { (s : ℕ) → get slots.new s ≡ option_map (linked link at to s) (get slots.old s) }
+    ensures len { slab_len slots.new ≡ slab_len slots.old }
+    ensures capacity { slots.new.capacity ≡ slots.old.capacity }
+{
+    if let Some(s) = at {
+        let mut slot = slots[s];
+        match link {
+            Link::NextOwn => slot.own.next = to,
+            Link::PrevOwn => slot.own.prev = to,
+            Link::NextAll => slot.all.next = to,
+            Link::PrevAll => slot.all.prev = to,
+        }
+        slots[s] = slot;
+    }
+}
+
+/// The ends of the list of a process.
+pub fn ends_of(heads: &IndexMap<u32, Ends>, pid: u32) -> Ends
+    ensures { result ≡ ends_at heads.now.entries pid }
+{
+    match heads.get(&pid) {
+        Some(ends) => *ends,
+        None => Ends::empty(),
+    }
+}
+
+/// Changes the ends of the list of a process that has some. Where the list is now empty, its entry
+/// goes.
+pub fn put_ends(heads: &mut IndexMap<u32, Ends>, pid: u32, ends: Ends)
+    requires there { IsSome (index_get nat_eq heads.old pid) }
+    requires empty { ends.first ≡ None → ends ≡ no_ends }
+    ensures ends { (q : ℕ) → ends_at heads.new.entries q ≡ (if nat_eq pid q then ends else ends_at heads.old.entries q) }
+    ensures spare { spare heads.old ≤ spare heads.new }
+{
+    if ends.first.is_none() {
+        heads.swap_remove(&pid);
+    } else if let Some(place) = heads.get_mut(&pid) {
+        *place = ends;
+    }
+}
+
+/// The ends of a list that a slot with these links has left.
+pub fn without(ends: Ends, gone: Links) -> Ends
+    requires { 0 < ends.count }
+    ensures first { result.first ≡ (if is_none gone.prev then gone.next else ends.first) }
+    ensures last { result.last ≡ (if is_none gone.next then gone.prev else ends.last) }
+    ensures count { result.count + 1 ≡ ends.count }
+{
+    Ends {
+        first: if gone.prev.is_none() {
+            gone.next
+        } else {
+            ends.first
+        },
+        last: if gone.next.is_none() {
+            gone.prev
+        } else {
+            ends.last
+        },
+        count: ends.count - 1,
+    }
+}
+
+/// The place among the users of the one in whose block the number lies.
+pub fn user_place(tid: Tid) -> usize
+    ensures place { result ≡ place_of tid }
+    ensures below { result < 64 }
+{
+    owner_of_tid(tid.get()).unwrap().slot()
+}

@@ -1,0 +1,252 @@
+//! The table of all LWPs of a host.
+//!
+//! Order of birth is kept by links and birth numbers, and not by the order of the index's entries:
+//! an index that closes up at a removal moves each entry behind the one that goes, so that a
+//! removal costs as much as the table is long. Here a removal changes at most four links and swaps
+//! one entry of the index, and a walk over a process meets the rows of that process alone.
+//! The birth numbers only rise, so a row that is added comes last in both lists. No walk reads
+//! them: they say which order the links must have.
+
+ghost use Rattle.std.specs.Prelude.{◌≡◌, ◌==◌, ◌+◌, ◌<◌, ◌≤◌, ◌++◌, [], ◌∷◌, false, IsSome, IsSomeAnd, OnOk, IfOk, count_by, length, slice_get};
+ghost use Rattle.pid_blocks.specs.Blocks.{tid_owner};
+ghost use Rattle.lwp_table.specs.Lwps.{lwp_of, lwps_of, first_lwp, next_lwp, has_lwp, with_lwp, without_lwp, Differ};
+
+use crate::LwpData;
+use crate::links::{Ends, Link, Links, Slot, ends_of, put_ends, set_link, user_place, without};
+use crate::walks::{Iter, OfProcess};
+use indexmap::IndexMap;
+use pid_blocks::{Pid, Tid, Uid};
+use slab::Slab;
+use std::alloc::{AllocError, Global};
+use std::marker::Model;
+
+/// LWP rows in order of birth, each found by its number.
+///
+/// All but `at` take the same time in a table of any length.
+#[derive(Drop)]
+pub struct LwpTable {
+    rows: Slab<Slot>,
+    slots: IndexMap<u32, usize>,
+    heads: IndexMap<u32, Ends>,
+    all: Ends,
+    births: usize,
+    users: [usize; 64],
+}
+
+impl Model for LwpTable {
+    ghost use Rattle.std.specs.Prelude.{◌-◌, min};
+    ghost use Rattle.slab.specs.Slab.{slab_len, get};
+    ghost use Rattle.indexmap.specs.IndexMap.{spare};
+    ghost use Rattle.lwp_table.specs.Lwps.{Lwps};
+    ghost use Rattle.lwp_table.specs.Kept.{rows_of, IsKept};
+
+    ghost Value = { Lwps };
+
+    ghost view = { λ t. record {
+      rows = rows_of (get t.rows) t.slots.entries t.births;
+      spare = min (min (t.rows.capacity - slab_len t.rows) (spare t.slots)) (min (spare t.heads) (18446744073709551615 - t.births));
+    } };
+
+    ghost invariant = { λ t. IsKept (get t.rows) t.slots.entries t.heads.entries t.all t.births t.users };
+}
+
+impl LwpTable {
+    /// An empty table.
+    pub fn new(alloc: Global) -> Result<LwpTable, AllocError>
+        ensures { IfOk result (λ table. table.rows ≡ []) }
+    {
+        let users = [0; 64];
+        Ok(LwpTable {
+            rows: Slab::new(alloc),
+            slots: IndexMap::new(alloc),
+            heads: IndexMap::new(alloc),
+            all: Ends::empty(),
+            births: 0,
+            users,
+        })
+    }
+
+    /// Makes room for `count` more rows. It is refused where memory is wanting, and leaves the rows
+    /// as they were.
+    pub fn reserve(&mut self, count: usize) -> Result<(), AllocError>
+        ensures room { OnOk result (count ≤ self.new.spare) }
+        ensures rows { self.new.rows ≡ self.old.rows }
+        ensures spare { self.old.spare ≤ self.new.spare }
+    {
+        if count > usize::MAX - self.births {
+            return Err(AllocError);
+        }
+        self.rows.reserve(count)?;
+        self.slots.reserve(count)?;
+        self.heads.reserve(count)
+    }
+
+    /// Adds a row at the end. Takes no memory.
+    pub fn add(&mut self, row: LwpData)
+        requires room { 0 < self.old.spare }
+        requires fresh { has_lwp row.tid self.old.rows ≡ false }
+        ensures rows { self.new.rows ≡ self.old.rows ++ (row ∷ []) }
+        ensures spare { self.old.spare ≤ self.new.spare + 1 }
+    {
+        let tid = row.tid.get();
+        let pid = row.pid.get();
+        let own = ends_of(&self.heads, pid);
+        let all = self.all;
+        let slot = self.rows.insert_reserved(Slot {
+            row,
+            born: self.births,
+            own: Links {
+                prev: own.last,
+                next: None,
+            },
+            all: Links {
+                prev: all.last,
+                next: None,
+            },
+        });
+        set_link(&mut self.rows, Link::NextOwn, own.last, Some(slot));
+        set_link(&mut self.rows, Link::NextAll, all.last, Some(slot));
+        self.slots.insert(tid, slot).unwrap();
+        let ends = Ends {
+            first: own.first.or(Some(slot)),
+            last: Some(slot),
+            count: own.count + 1,
+        };
+        self.heads.insert(pid, ends).unwrap();
+        self.all = Ends {
+            first: all.first.or(Some(slot)),
+            last: Some(slot),
+            count: all.count + 1,
+        };
+        self.births += 1;
+        self.users[user_place(row.tid)] += 1;
+    }
+
+    /// Whether a row has this number.
+    pub fn has(&self, tid: Tid) -> bool
+        ensures has { result ≡ has_lwp tid self.now.rows }
+        ensures differ { Differ self.now.rows }
+    {
+        self.get(tid).is_some()
+    }
+
+    /// The row with this number.
+    pub fn get(&self, tid: Tid) -> Option<LwpData>
+        ensures row { result ≡ lwp_of tid self.now.rows }
+        ensures differ { Differ self.now.rows }
+    {
+        let slot = *self.slots.get(&tid.get())?;
+        Some(self.rows[slot].row)
+    }
+
+    /// Puts a row in the place of the one with its number, which stays in that process.
+    pub fn set(&mut self, row: LwpData)
+        requires { IsSomeAnd (lwp_of row.tid self.old.rows) (λ was. was.pid ≡ row.pid) }
+        ensures rows { self.new.rows ≡ with_lwp row self.old.rows }
+        ensures spare { self.new.spare ≡ self.old.spare }
+    {
+        let slot = self.slots[&row.tid.get()];
+        let mut place = self.rows[slot];
+        place.row = row;
+        self.rows[slot] = place;
+    }
+
+    /// Takes the row with this number out. The others keep their order.
+    pub fn remove(&mut self, tid: Tid)
+        requires { IsSome (lwp_of tid self.old.rows) }
+        ensures rows { self.new.rows ≡ without_lwp tid self.old.rows }
+        ensures spare { self.old.spare ≤ self.new.spare }
+    {
+        let slot = self.slots.swap_remove(&tid.get()).unwrap();
+        let gone = self.rows.remove(slot);
+        set_link(&mut self.rows, Link::NextOwn, gone.own.prev, gone.own.next);
+        set_link(&mut self.rows, Link::PrevOwn, gone.own.next, gone.own.prev);
+        set_link(&mut self.rows, Link::NextAll, gone.all.prev, gone.all.next);
+        set_link(&mut self.rows, Link::PrevAll, gone.all.next, gone.all.prev);
+        let pid = gone.row.pid.get();
+        let own = ends_of(&self.heads, pid);
+        put_ends(&mut self.heads, pid, without(own, gone.own));
+        self.all = without(self.all, gone.all);
+        self.users[user_place(tid)] -= 1;
+    }
+
+    /// The row at this place by birth, by a walk from the first.
+    pub fn at(&self, place: usize) -> Option<LwpData>
+        ensures row { result ≡ slice_get self.now.rows place }
+        ensures differ { Differ self.now.rows }
+    {
+        self.iter().nth(place)
+    }
+
+    /// The first row of this process.
+    pub fn first_of(&self, pid: Pid) -> Option<LwpData>
+        ensures row { result ≡ first_lwp pid self.now.rows }
+        ensures differ { Differ self.now.rows }
+    {
+        let slot = ends_of(&self.heads, pid.get()).first?;
+        Some(self.rows[slot].row)
+    }
+
+    /// The row of this process that was born next after this one.
+    pub fn next_of(&self, pid: Pid, after: Tid) -> Option<LwpData>
+        requires { IsSomeAnd (lwp_of after self.now.rows) (λ row. row.pid ≡ pid) }
+        ensures row { result ≡ next_lwp pid after self.now.rows }
+        ensures differ { Differ self.now.rows }
+    {
+        let at = self.slots[&after.get()];
+        let slot = self.rows[at].own.next?;
+        Some(self.rows[slot].row)
+    }
+
+    /// The rows of this process, in order of birth.
+    pub fn of_process(&self, pid: Pid) -> OfProcess<'_>
+        ensures rows { result ≡ lwps_of pid self.now.rows }
+        ensures differ { Differ self.now.rows }
+    {
+        let pid = pid.get();
+        OfProcess {
+            rows: &self.rows,
+            slots: &self.slots,
+            births: self.births,
+            pid,
+            link: ends_of(&self.heads, pid).first,
+        }
+    }
+
+    /// All rows, in order of birth.
+    pub fn iter(&self) -> Iter<'_>
+        ensures rows { result ≡ self.now.rows }
+        ensures differ { Differ self.now.rows }
+    {
+        Iter {
+            rows: &self.rows,
+            slots: &self.slots,
+            births: self.births,
+            link: self.all.first,
+        }
+    }
+
+    /// How many rows are of this process.
+    pub fn count(&self, pid: Pid) -> usize
+        ensures count { result ≡ count_by (λ l. l.pid == pid) self.now.rows }
+        ensures differ { Differ self.now.rows }
+    {
+        ends_of(&self.heads, pid.get()).count
+    }
+
+    /// How many rows have numbers of this user.
+    pub fn user_count(&self, uid: Uid) -> usize
+        ensures count { result ≡ count_by (λ l. tid_owner l.tid == uid) self.now.rows }
+        ensures differ { Differ self.now.rows }
+    {
+        self.users[uid.slot()]
+    }
+
+    /// How many rows there are.
+    pub fn len(&self) -> usize
+        ensures len { result ≡ length self.now.rows }
+        ensures differ { Differ self.now.rows }
+    {
+        self.all.count
+    }
+}

@@ -1,0 +1,84 @@
+//! Walks over the rows of a table.
+
+use crate::LwpData;
+use crate::links::Slot;
+use indexmap::IndexMap;
+use slab::Slab;
+use std::marker::Model;
+
+/// The rows of one process in order of birth, seen as the list of those that are left.
+#[derive(Drop)]
+pub struct OfProcess<'a> {
+    pub(crate) rows: &'a Slab<Slot>,
+    pub(crate) slots: &'a IndexMap<u32, usize>,
+    pub(crate) births: usize,
+    pub(crate) pid: u32,
+    pub(crate) link: Option<usize>,
+}
+
+impl<'a> Model for OfProcess<'a> {
+    ghost use Rattle.std.specs.Prelude.{List, filter};
+    ghost use Rattle.slab.specs.Slab.{get};
+    ghost use Rattle.lwp_table.specs.declared.LwpData.{LwpData};
+    ghost use Rattle.lwp_table.specs.Kept.{own_node, is_of, rows_from, IsWalk};
+
+    ghost Value = { List LwpData };
+
+    ghost view = { λ it. filter (is_of it.pid) (rows_from (get it.rows.now) it.slots.now.entries it.births it.link) };
+
+    ghost invariant = { λ it. IsWalk (get it.rows.now) it.slots.now.entries it.births own_node it.pid it.link };
+}
+
+impl<'a> Iterator for OfProcess<'a> {
+    type Item = LwpData;
+
+    ghost use Rattle.std.specs.Iterator.{YieldsFirst, item_count};
+
+    ghost next_gives = { YieldsFirst (λ rest. rest) };
+
+    ghost remaining = { item_count (λ rest. rest) };
+
+    fn next(&mut self) -> Option<LwpData> {
+        let slot = self.rows[self.link?];
+        self.link = slot.own.next;
+        Some(slot.row)
+    }
+}
+
+/// All rows of a table in order of birth, seen as the list of those that are left.
+#[derive(Drop)]
+pub struct Iter<'a> {
+    pub(crate) rows: &'a Slab<Slot>,
+    pub(crate) slots: &'a IndexMap<u32, usize>,
+    pub(crate) births: usize,
+    pub(crate) link: Option<usize>,
+}
+
+impl<'a> Model for Iter<'a> {
+    ghost use Rattle.std.specs.Prelude.{List};
+    ghost use Rattle.slab.specs.Slab.{get};
+    ghost use Rattle.lwp_table.specs.declared.LwpData.{LwpData};
+    ghost use Rattle.lwp_table.specs.Kept.{all_node, rows_from, IsWalk};
+
+    ghost Value = { List LwpData };
+
+    ghost view = { λ it. rows_from (get it.rows.now) it.slots.now.entries it.births it.link };
+
+    ghost invariant = { λ it. IsWalk (get it.rows.now) it.slots.now.entries it.births all_node 0 it.link };
+}
+
+impl<'a> Iterator for Iter<'a> {
+    type Item = LwpData;
+
+    ghost use Rattle.std.specs.Iterator.{YieldsFirst, item_count};
+
+    ghost next_gives = { YieldsFirst (λ rest. rest) };
+
+    ghost remaining = { item_count (λ rest. rest) };
+
+    fn next(&mut self) -> Option<LwpData> {
+        let slot = self.rows[self.link?];
+        self.link = slot.all.next;
+        Some(slot.row)
+    }
+}

@@ -1,0 +1,53 @@
+-- Cursors of the users' blocks.
+use Rattle.std.proofs.Common.{◌≡◌, ℕ, zero, suc, ◌+◌, ◌-◌, ◌<◌, List, ◌∷◌, ◌++◌, length, set, get_or, map, refl, ap, ◌∙◌, arith, inl, inr, nat_eq}
+use Rattle.std.specs.Prelude.{◌≢◌, leb, replicate}
+use Rattle.std.proofs.lemmas.List.{get_or-set_same, get_or-set_other}
+use Rattle.std.proofs.lemmas.Bool.{cases_Bool}
+use Rattle.std.proofs.lemmas.Bool.Decides.{nat_tests}
+use Rattle.pid_blocks.specs.Users.{IsUser}
+use Rattle.pid_blocks.specs.Blocks.{slot, users, rising, cursor_after, InBlock}
+use Rattle.pid_blocks.specs.declared.Block.{Block}
+
+-- cursors stay in their blocks
+pub InBlock-after : (b : Block) (n : ℕ) → InBlock b n → 0 < b.size → InBlock b (cursor_after b n)
+InBlock-after b n h some = elim (cases_Bool (leb (b.first + b.size) (n + 1))) [
+  | inl e ↦ rw e (omega arith, omega arith)
+  | inr e ↦ let more : n + 1 < b.first + b.size = grind (arith, nat_tests) in rw e (omega (arith, h.0), more)
+]
+
+pub cursors-set : (block : ℕ → Block) (cursors : List ℕ) (v c : ℕ) → IsUser v → length cursors ≡ 64 → InBlock (block v) c
+    → ((u : ℕ) → IsUser u → InBlock (block u) (get_or cursors (slot u) 0))
+    → (u : ℕ) → IsUser u → InBlock (block u) (get_or (set cursors (slot v) c) (slot u) 0)
+cursors-set block cursors v c user len home all u its = elim (cases_Bool (nat_eq u v)) [
+  | inl e ↦ let same : u ≡ v = grind (arith, nat_tests) in let here : get_or (set cursors (slot v) c) (slot v) 0 ≡ c = get_or-set_same cursors (slot v) c 0 (omega (arith, user.0, user.1, len)) in rw same (rw here home)
+  | inr e ↦ let other : slot u ≢ slot v = grind (arith, nat_tests, user.0, user.1, its.0, its.1) in let there : get_or (set cursors (slot v) c) (slot u) 0 ≡ get_or cursors (slot u) 0 = get_or-set_other cursors (slot v) (slot u) c 0 other in rw there (all u its)
+]
+
+-- a list of one value for each of some numbers that rise
+pub get_or-rising : (f : ℕ → ℕ) (n m k d : ℕ) → k < n → get_or (map f (rising n m)) k d ≡ f (m + k)
+get_or-rising f zero m k d h = absurd (omega arith)
+get_or-rising f (suc n) m zero d h = ap f (omega arith)
+get_or-rising f (suc n) m (suc k) d h = get_or-rising f n (m + 1) k d (omega arith) ∙ ap f (omega arith)
+
+pub length-rising : (f : ℕ → ℕ) (n m : ℕ) → length (map f (rising n m)) ≡ n
+length-rising f zero m = refl
+length-rising f (suc n) m = ap suc (length-rising f n (m + 1))
+
+-- the first number of each user's block
+pub cursors-first : (block : ℕ → Block) → ((u : ℕ) → 0 < (block u).size) → (u : ℕ) → IsUser u → InBlock (block u) (get_or (map (λ v. (block v).first) users) (slot u) 0)
+cursors-first block some u its =
+    let at : get_or (map (λ v. (block v).first) (rising 64 1001)) (slot u) 0 ≡ (block (1001 + slot u)).first = get_or-rising (λ v. (block v).first) 64 1001 (slot u) 0 (omega (arith, its.0, its.1)) in
+    let same : 1001 + slot u ≡ u = omega (arith, its.0, its.1) in
+    rw (at, same) (omega arith, omega (arith, some u))
+
+-- a list filled from its start, one place further
+pub filled : (f : ℕ → ℕ) (n i : ℕ) (numbers : List ℕ) (v : ℕ) → i < n → numbers ≡ map f (rising i 1001) ++ replicate (n - i) 0 → v ≡ f (1001 + i)
+    → set numbers i v ≡ map f (rising (i + 1) 1001) ++ replicate (n - (i + 1)) 0
+filled f n i numbers v h e same = rw (e, same) (from i (n - i) (n - (i + 1)) 1001 (omega arith))
+  where
+    from : (i left less m : ℕ) → left ≡ less + 1 → set (map f (rising i m) ++ replicate left 0) i (f (m + i)) ≡ map f (rising (i + 1) m) ++ replicate less 0
+    from zero left less m e = let one : left ≡ suc less = omega arith in let at : m + 0 ≡ m = omega arith in rw (one, at) refl
+    from (suc i) left less m e =
+        let at : m + suc i ≡ m + 1 + i = omega arith in
+        let more : suc i + 1 ≡ suc (i + 1) = omega arith in
+        rw (at, more) (ap (λ xs. f m ∷ xs) (from i left less (m + 1) e))

@@ -1,0 +1,52 @@
+-- Lists of which each element is something.
+use Rattle.std.proofs.Common.{◌≡◌, Bool, true, false, List, [], ◌∷◌, ◌++◌, map, inl, inr, Some, None}
+use Rattle.std.specs.Prelude.{filter, find}
+use Rattle.std.specs.List.{AllByRecursion}
+use Rattle.std.proofs.lemmas.Bool.{cases_Bool}
+
+module _ {A : Type 0} (P Q : A → Type 0) where
+  pub every_both : (xs : List A) → AllByRecursion P xs → AllByRecursion Q xs → AllByRecursion (λ a. P a × Q a) xs
+  every_both [] p q = tt
+  every_both (a ∷ xs) p q = ((p.0, q.0), every_both xs p.1 q.1)
+
+  pub every_weaken : ((a : A) → P a → Q a) → (xs : List A) → AllByRecursion P xs → AllByRecursion Q xs
+  every_weaken step [] p = tt
+  every_weaken step (a ∷ xs) p = (step a p.0, every_weaken step xs p.1)
+
+  pub every_map : (f : A → A) → ((a : A) → P a → Q (f a)) → (xs : List A) → AllByRecursion P xs → AllByRecursion Q (map f xs)
+  every_map f step [] p = tt
+  every_map f step (a ∷ xs) p = (step a p.0, every_map f step xs p.1)
+
+  pub every_filter : (test : A → Bool) → ((a : A) → test a ≡ true → P a → Q a) → (xs : List A) → AllByRecursion P xs → AllByRecursion Q (filter test xs)
+  every_filter test step [] p = tt
+  every_filter test step (a ∷ xs) p = elim (cases_Bool (test a)) [
+    | inl e ↦ rw e (step a e p.0, every_filter test step xs p.1)
+    | inr e ↦ rw e (every_filter test step xs p.1)
+  ]
+
+module _ {A : Type 0} (P : A → Type 0) where
+  pub every_append : (xs ys : List A) → AllByRecursion P xs → AllByRecursion P ys → AllByRecursion P (xs ++ ys)
+  every_append [] ys p q = q
+  every_append (a ∷ xs) ys p q = (p.0, every_append xs ys p.1 q)
+
+  pub every_found : (test : A → Bool) (xs : List A) (a : A) → AllByRecursion P xs → find test xs ≡ Some a → P a
+  every_found test [] a p found = absurd (cc)
+  every_found test (b ∷ xs) a p found = elim (cases_Bool (test b)) [
+    | inl e ↦ let its : Some b ≡ Some a = rw e at found in let same : b ≡ a = cc in rw (← same) p.0
+    | inr e ↦ every_found test xs a p.1 (rw e at found)
+  ]
+
+module _ {A : Type 0} (test : A → Bool) where
+  pub every_untested : (xs : List A) → find test xs ≡ None → AllByRecursion (λ a. test a ≡ false) xs
+  every_untested [] none = tt
+  every_untested (a ∷ xs) none = elim (cases_Bool (test a)) [
+    | inl e ↦ absurd (let h : Some a ≡ None = rw e at none in cc)
+    | inr e ↦ (e, every_untested xs (rw e at none))
+  ]
+
+  pub found_tested : (xs : List A) (a : A) → find test xs ≡ Some a → test a ≡ true
+  found_tested [] a found = absurd (cc)
+  found_tested (b ∷ xs) a found = elim (cases_Bool (test b)) [
+    | inl e ↦ let its : Some b ≡ Some a = rw e at found in let same : b ≡ a = cc in rw (← same) e
+    | inr e ↦ found_tested xs a (rw e at found)
+  ]

@@ -1,0 +1,84 @@
+-- What edits of an LWP's row keep, and the rows of a host that nobody has used.
+use Rattle.std.proofs.Common.{◌≡◌, ℕ, true, false, [], ◌∷◌, ◌∙◌, arith, inl, inr, nat_eq}
+use Rattle.std.specs.Prelude.{not, IsSomeAnd}
+use Rattle.std.proofs.lemmas.List.{length-set}
+use Rattle.std.proofs.lemmas.Bool.{cases_Bool}
+use Rattle.pid_blocks.specs.Users.{IsUser}
+use Rattle.pid_blocks.specs.Blocks.{slot, pid_block, tid_block, InBlock}
+use Rattle.lwp_table.specs.declared.LwpData.{LwpData}
+use Rattle.lwp_table.specs.Lwps.{lwp_of, put_lwp}
+use Rattle.proc_table.specs.Seen.{owns}
+use Rattle.proc_table.specs.Rows.{Rows}
+use Rattle.proc_table.specs.Fresh.{is_lwp, add_lwp, no_rows}
+use Rattle.proc_table.specs.Kept.{Named, Housed, IsKept, set_lwp, drop_lwp}
+use Rattle.proc_table.proofs.Every.{every_weaken, every_map, every_filter, every_found, every_append}
+use Rattle.proc_table.proofs.Rows.{lwp_of-tid}
+use Rattle.proc_table.proofs.Rising.{owned_found}
+use Rattle.proc_table.proofs.Lwps.{Differ-with_lwp, Differ-filter, Differ-push, LacksLwp-from_any}
+use Rattle.proc_table.proofs.Cursors.{InBlock-after, cursors-set, cursors-first, length-rising}
+use Rattle.proc_table.proofs.KeepsProcesses.{some_and, Named-more}
+
+pub keeps-set_lwp : (new : LwpData) (rows : Rows) → IsKept rows → IsSomeAnd (lwp_of new.tid rows.lwps) (λ was. was.pid ≡ new.pid) → IsKept (set_lwp new rows)
+keeps-set_lwp new rows kept there = record {
+  rising = kept.rising;
+  differ = Differ-with_lwp new rows.lwps kept.differ;
+  homes = kept.homes;
+  named = every_weaken (Named rows) (Named (set_lwp new rows)) (Named-more rows (set_lwp new rows) (λ n h. h)) rows.processes kept.named;
+  housed = every_map (Housed rows) (Housed (set_lwp new rows)) (put_lwp new) housed rows.lwps kept.housed;
+  pid_slots = kept.pid_slots;
+  tid_slots = kept.tid_slots;
+  pid_cursors = kept.pid_cursors;
+  tid_cursors = kept.tid_cursors;
+}
+  where
+    housed : (l : LwpData) → Housed rows l → Housed (set_lwp new rows) (put_lwp new l)
+    housed l h = elim (cases_Bool (nat_eq l.tid new.tid)) [
+      | inl e ↦
+          let was = some_and (λ k. k.pid ≡ new.pid) (lwp_of new.tid rows.lwps) there in
+          let its = every_found (Housed rows) (λ k. nat_eq k.tid new.tid) rows.lwps was.0 kept.housed was.1 in
+          let number = lwp_of-tid new.tid was.0 rows.lwps was.1 in
+          rw e (its.0, rw was.2 at its.1, rw number at its.2)
+      | inr e ↦ rw e h
+    ]
+
+pub keeps-drop_lwp : (tid : ℕ) (rows : Rows) → IsKept rows → IsKept (drop_lwp tid rows)
+keeps-drop_lwp tid rows kept = record {
+  rising = kept.rising;
+  differ = Differ-filter (λ l. not (nat_eq l.tid tid)) rows.lwps kept.differ;
+  homes = kept.homes;
+  named = every_weaken (Named rows) (Named (drop_lwp tid rows)) (Named-more rows (drop_lwp tid rows) (λ n h. h)) rows.processes kept.named;
+  housed = every_filter (Housed rows) (Housed (drop_lwp tid rows)) (λ l. not (nat_eq l.tid tid)) (λ l e h. h) rows.lwps kept.housed;
+  pid_slots = kept.pid_slots;
+  tid_slots = kept.tid_slots;
+  pid_cursors = kept.pid_cursors;
+  tid_cursors = kept.tid_cursors;
+}
+
+pub keeps-add_lwp : (u : ℕ) (new : LwpData) (rows : Rows) → IsUser u → IsKept rows → is_lwp rows new.tid ≡ false → InBlock (tid_block u) new.tid → owns u new.pid rows.processes ≡ true → IsKept (add_lwp u new rows)
+keeps-add_lwp u new rows user kept fresh home owner =
+    let owned = owned_found u new.pid rows.processes kept.rising owner in
+    let housed : Housed rows new = (owned.0, owned.1, rw owned.2 home) in
+    record {
+      rising = kept.rising;
+      differ = Differ-push rows.lwps new kept.differ (LacksLwp-from_any new.tid rows.lwps fresh);
+      homes = kept.homes;
+      named = every_weaken (Named rows) (Named (add_lwp u new rows)) (Named-more rows (add_lwp u new rows) (λ n h. h)) rows.processes kept.named;
+      housed = every_append (Housed rows) rows.lwps (new ∷ []) kept.housed (housed, tt);
+      pid_slots = kept.pid_slots;
+      tid_slots = length-set rows.tid_cursors (slot u) _ ∙ kept.tid_slots;
+      pid_cursors = kept.pid_cursors;
+      tid_cursors = cursors-set tid_block rows.tid_cursors u _ user kept.tid_slots (InBlock-after (tid_block u) new.tid home (omega arith)) kept.tid_cursors;
+    }
+
+pub keeps-none : IsKept no_rows
+keeps-none = record {
+  rising = tt;
+  differ = tt;
+  homes = tt;
+  named = tt;
+  housed = tt;
+  pid_slots = length-rising (λ u. (pid_block u).first) 64 1001;
+  tid_slots = length-rising (λ u. (tid_block u).first) 64 1001;
+  pid_cursors = cursors-first pid_block (λ u. omega arith);
+  tid_cursors = cursors-first tid_block (λ u. omega arith);
+}

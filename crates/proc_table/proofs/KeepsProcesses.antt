@@ -1,0 +1,159 @@
+-- What edits of a process's row keep.
+use Rattle.std.proofs.Common.{◌≡◌, ℕ, ◌<◌, true, false, refl, sym, ap, ◌∙◌, arith, inl, inr, nat_eq, Option, Some, None}
+use Rattle.std.specs.Prelude.{filter, not, ltb, option_map, IfSome, IsSomeAnd, ◌&&◌, ◌≢◌}
+use Rattle.std.specs.List.{AllByRecursion}
+use Rattle.std.proofs.lemmas.List.{length-set}
+use Rattle.std.proofs.lemmas.Bool.{cases_Bool}
+use Rattle.std.proofs.lemmas.Bool.Decides.{nat_tests}
+use Rattle.pid_blocks.specs.Blocks.{slot, pid_block}
+use Rattle.lwp_table.specs.declared.LwpData.{LwpData}
+use Rattle.lwp_table.specs.Lwps.{first_lwp}
+use Rattle.proc_table.specs.declared.ProcData.{ProcData}
+use Rattle.proc_table.specs.Processes.{process_of, traces, is_this}
+use Rattle.proc_table.specs.Rows.{Rows}
+use Rattle.proc_table.specs.Fresh.{is_process, add_process}
+use Rattle.proc_table.specs.Walks.{next_tracee, next_child}
+use Rattle.proc_table.specs.Kept.{IsRow, AtHome, Named, Housed, IsKept, put_process, set_process, drop_process}
+use Rattle.proc_table.proofs.Every.{every_both, every_weaken, every_map, every_filter, every_found, every_untested}
+use Rattle.proc_table.proofs.Rows.{process_of-pid, row_found, found_row, process_of-map, is_process-map, process_of-without, put_process-pid}
+use Rattle.proc_table.proofs.Rising.{Rise-map, Rise-filter, Lacks, Lacks-from_any}
+use Rattle.proc_table.proofs.Placed.{every_placed, process_of-placed, is_process-placed, Rise-placed}
+use Rattle.proc_table.proofs.Cursors.{InBlock-after, cursors-set}
+
+pub some_and : {A : Type 0} (P : A → Type 0) (o : Option A) → IsSomeAnd o P → (a : A) × (o ≡ Some a) × P a
+some_and P None h = absurd (h)
+some_and P (Some a) h = (a, refl, h)
+
+pub Named-more : (rows rows' : Rows) → ((n : ℕ) → IsRow rows n → IsRow rows' n) → (p : ProcData) → Named rows p → Named rows' p
+Named-more rows rows' more p h = record { tracer = of_tracer p.tracer h.tracer; parent = λ apart. more p.parent (h.parent apart) }
+  where
+    of_tracer : (o : Option ℕ) → IfSome o (IsRow rows) → IfSome o (IsRow rows')
+    of_tracer None t = t
+    of_tracer (Some n) t = more n t
+
+module _ (new : ProcData) (rows : Rows) (kept : IsKept rows)
+    (there : IsSomeAnd (process_of new.pid rows.processes) (λ was. was.uid ≡ new.uid)) (named : Named rows new) where
+  still : (n : ℕ) → IsRow rows n → IsRow (set_process new rows) n
+  still n row = is_process-map (put_process new) (put_process-pid new) n rows.processes ∙ row
+
+  home : AtHome new
+  home =
+      let was = some_and (λ p. p.uid ≡ new.uid) (process_of new.pid rows.processes) there in
+      let its = every_found AtHome (λ p. nat_eq p.pid new.pid) rows.processes was.0 kept.homes was.1 in
+      let number = process_of-pid new.pid was.0 rows.processes was.1 in
+      record { user = rw was.2 at its.user; block = rw (number, was.2) at its.block }
+
+  put : (P : ProcData → Type 0) → P new → (p : ProcData) → P p → P (put_process new p)
+  put P its p h = elim (cases_Bool (nat_eq p.pid new.pid)) [ inl e ↦ rw e its | inr e ↦ rw e h ]
+
+  same_user : (n : ℕ) (p : ProcData) → process_of n rows.processes ≡ Some p → (put_process new p).uid ≡ p.uid
+  same_user n p at = elim (cases_Bool (nat_eq p.pid new.pid)) [
+    | inl e ↦
+        let was = some_and (λ q. q.uid ≡ new.uid) (process_of new.pid rows.processes) there in
+        let number : n ≡ new.pid = sym (process_of-pid n p rows.processes at) ∙ grind (arith, nat_tests) in
+        let found : process_of new.pid rows.processes ≡ Some p = rw number at at in
+        let both : Some p ≡ Some was.0 = sym found ∙ was.1 in
+        let same : p ≡ was.0 = cc in
+        rw e (sym (ap (λ q. q.uid) same ∙ was.2))
+    | inr e ↦ rw e refl
+  ]
+
+  housed : (l : LwpData) → Housed rows l → Housed (set_process new rows) l
+  housed l h =
+      (put_process new h.0, process_of-map (put_process new) (put_process-pid new) l.pid rows.processes ∙ ap (option_map (put_process new)) h.1, rw (same_user l.pid h.0 h.1) h.2)
+
+  pub keeps-set_process : IsKept (set_process new rows)
+  keeps-set_process = record {
+    rising = Rise-map (put_process new) (put_process-pid new) rows.processes kept.rising;
+    differ = kept.differ;
+    homes = every_map AtHome AtHome (put_process new) (put AtHome home) rows.processes kept.homes;
+    named = every_map (Named rows) (Named (set_process new rows)) (put_process new)
+        (λ p h. put (Named (set_process new rows)) (Named-more rows (set_process new rows) still new named) p (Named-more rows (set_process new rows) still p h)) rows.processes kept.named;
+    housed = every_weaken (Housed rows) (Housed (set_process new rows)) housed rows.lwps kept.housed;
+    pid_slots = kept.pid_slots;
+    tid_slots = kept.tid_slots;
+    pid_cursors = kept.pid_cursors;
+    tid_cursors = kept.tid_cursors;
+  }
+
+module _ (pid : ℕ) (rows : Rows) (kept : IsKept rows)
+    (tracees : next_tracee pid 0 rows.processes ≡ None) (children : next_child pid 0 rows.processes ≡ None) (lwps : first_lwp pid rows.lwps ≡ None) where
+  left : (n : ℕ) → n ≢ pid → IsRow rows n → IsRow (drop_process pid rows) n
+  left n apart row =
+      let its = row_found n rows.processes row in
+      found_row n its.0 (filter (λ p. not (nat_eq p.pid pid)) rows.processes) (process_of-without pid n apart rows.processes ∙ its.1)
+
+  -- a row that names another process than this one
+  abbrev Apart : ProcData → Type 0
+  Apart p = ((ltb 0 p.pid && traces pid p) ≡ false) × ((ltb 0 p.pid && nat_eq p.parent pid) ≡ false)
+
+  apart : AllByRecursion Apart rows.processes
+  apart =
+      every_both (λ p. (ltb 0 p.pid && traces pid p) ≡ false) (λ p. (ltb 0 p.pid && nat_eq p.parent pid) ≡ false) rows.processes
+      (every_untested (λ p. ltb 0 p.pid && traces pid p) rows.processes tracees) (every_untested (λ p. ltb 0 p.pid && nat_eq p.parent pid) rows.processes children)
+
+  some : (p : ProcData) → AtHome p → ltb 0 p.pid ≡ true
+  some p home = let more : 0 < p.pid = omega (arith, home.block.0) in grind (arith, nat_tests)
+
+  names_others : (p : ProcData) → (Named rows p × AtHome p) × Apart p → Named (drop_process pid rows) p
+  names_others p h =
+      let positive = some p h.0.1 in
+      let tracer : traces pid p ≡ false = rw positive at h.1.0 in
+      let parent : nat_eq p.parent pid ≡ false = rw positive at h.1.1 in
+      record {
+        tracer = of_tracer p.tracer tracer h.0.0.tracer;
+        parent = λ other. left p.parent (λ same. grind (arith, nat_tests, same, parent)) (h.0.0.parent other);
+      }
+    where
+      of_tracer : (o : Option ℕ) → is_this pid o ≡ false → IfSome o (IsRow rows) → IfSome o (IsRow (drop_process pid rows))
+      of_tracer None e t = t
+      of_tracer (Some n) e t = left n (λ same. grind (arith, nat_tests, same, e)) t
+
+  still_housed : (l : LwpData) → Housed rows l × (nat_eq l.pid pid ≡ false) → Housed (drop_process pid rows) l
+  still_housed l h =
+      let other : nat_eq l.pid pid ≡ false = h.1 in
+      (h.0.0, process_of-without pid l.pid (λ same. grind (arith, nat_tests, same, other)) rows.processes ∙ h.0.1, h.0.2)
+
+  pub keeps-drop_process : IsKept (drop_process pid rows)
+  keeps-drop_process = record {
+    rising = Rise-filter (λ p. not (nat_eq p.pid pid)) rows.processes kept.rising;
+    differ = kept.differ;
+    homes = every_filter AtHome AtHome (λ p. not (nat_eq p.pid pid)) (λ p e h. h) rows.processes kept.homes;
+    named = every_filter (λ p. (Named rows p × AtHome p) × Apart p) (Named (drop_process pid rows)) (λ p. not (nat_eq p.pid pid)) (λ p e h. names_others p h) rows.processes
+        (every_both (λ p. Named rows p × AtHome p) Apart rows.processes (every_both (Named rows) AtHome rows.processes kept.named kept.homes) apart);
+    housed = every_weaken (λ l. Housed rows l × (nat_eq l.pid pid ≡ false)) (Housed (drop_process pid rows)) still_housed rows.lwps
+        (every_both (Housed rows) (λ l. nat_eq l.pid pid ≡ false) rows.lwps kept.housed (every_untested (λ l. nat_eq l.pid pid) rows.lwps lwps));
+    pid_slots = kept.pid_slots;
+    tid_slots = kept.tid_slots;
+    pid_cursors = kept.pid_cursors;
+    tid_cursors = kept.tid_cursors;
+  }
+
+module _ (new : ProcData) (rows : Rows) (kept : IsKept rows) (fresh : is_process rows new.pid ≡ false) (home : AtHome new) (named : Named rows new) where
+  lacks : Lacks new.pid rows.processes
+  lacks = Lacks-from_any new.pid rows.processes fresh
+
+  more : (n : ℕ) → IsRow rows n → IsRow (add_process new rows) n
+  more n row = is_process-placed new n rows.processes row kept.rising lacks
+
+  housed_more : (l : LwpData) → Housed rows l → Housed (add_process new rows) l
+  housed_more l h =
+      let apart : l.pid ≢ new.pid = λ same. (
+      let its : is_process rows l.pid ≡ true = found_row l.pid h.0 rows.processes h.1 in
+      let row : is_process rows new.pid ≡ true = rw same at its in
+      cc) in
+      (h.0, process_of-placed new l.pid apart rows.processes kept.rising lacks ∙ h.1, h.2)
+
+  pub keeps-add_process : IsKept (add_process new rows)
+  keeps-add_process = record {
+    rising = Rise-placed new rows.processes kept.rising lacks;
+    differ = kept.differ;
+    homes = every_placed AtHome new rows.processes home kept.homes;
+    named = every_placed (Named (add_process new rows)) new rows.processes (Named-more rows (add_process new rows) more new named)
+        (every_weaken (Named rows) (Named (add_process new rows)) (Named-more rows (add_process new rows) more) rows.processes kept.named);
+    housed = every_weaken (Housed rows) (Housed (add_process new rows)) housed_more rows.lwps kept.housed;
+    pid_slots = length-set rows.pid_cursors (slot new.uid) _ ∙ kept.pid_slots;
+    tid_slots = kept.tid_slots;
+    pid_cursors = cursors-set pid_block rows.pid_cursors new.uid _ home.user kept.pid_slots (InBlock-after (pid_block new.uid) new.pid home.block (omega arith)) kept.pid_cursors;
+    tid_cursors = kept.tid_cursors;
+  }

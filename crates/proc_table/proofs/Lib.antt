@@ -1,0 +1,10 @@
+pub mod Every
+pub mod Rows
+pub mod Rising
+pub mod Lwps
+pub mod Cursors
+pub mod KeepsProcesses
+pub mod KeepsLwps
+pub mod FirstFree
+pub mod Placed
+pub mod Writes

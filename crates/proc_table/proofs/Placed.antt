@@ -1,0 +1,142 @@
+-- Where a new process stands among rising numbers.
+use Rattle.std.proofs.Common.{◌≡◌, ℕ, suc, ◌<◌, ◌≤◌, Bool, true, false, List, [], ◌∷◌, ◌++◌, arith, refl, sym, ap, ◌∙◌, subst}
+use Rattle.std.specs.Prelude.{◌≢◌, cond, filter, count_by, ltb, insert}
+use Rattle.std.specs.List.{list_any, AllByRecursion}
+use Rattle.std.proofs.Common.{inl, inr, nat_eq, Some, ◌⊎◌}
+use Rattle.std.proofs.lemmas.Bool.{cases_Bool}
+use Rattle.std.proofs.lemmas.Bool.Decides.{nat_tests}
+use Rattle.std.proofs.lemmas.List.Sums.{sum_by-cons}
+use Rattle.proc_table.specs.declared.ProcData.{ProcData}
+use Rattle.proc_table.specs.Processes.{placed, process_of}
+use Rattle.proc_table.specs.Kept.{AllAbove, Rise}
+use Rattle.proc_table.proofs.Every.{every_append, every_filter}
+use Rattle.proc_table.proofs.Rows.{same_number, other_number}
+use Rattle.proc_table.proofs.Rising.{Lacks, AllAbove-append, AllAbove-filter, AllAbove-lower as lower}
+
+abbrev pub below : ℕ → ProcData → Bool
+below n q = ltb q.pid n
+
+abbrev pub above : ℕ → ProcData → Bool
+above n q = ltb n q.pid
+
+ltb-yes : (m n : ℕ) → m < n → ltb m n ≡ true
+ltb-yes m n h = grind (arith, nat_tests)
+
+ltb-no : (m n : ℕ) → n ≤ m → ltb m n ≡ false
+ltb-no m n h = grind (arith, nat_tests)
+
+none_below : (n : ℕ) (qs : List ProcData) → AllAbove n qs → filter (below n) qs ≡ []
+none_below n [] a = refl
+none_below n (q ∷ qs) a = let no : ltb q.pid n ≡ false = ltb-no q.pid n (omega arith) in rw no (none_below n qs a.1)
+
+all_above : (n : ℕ) (qs : List ProcData) → AllAbove n qs → filter (above n) qs ≡ qs
+all_above n [] a = refl
+all_above n (q ∷ qs) a = let yes : ltb n q.pid ≡ true = ltb-yes n q.pid a.0 in rw yes (ap (λ xs. q ∷ xs) (all_above n qs a.1))
+
+none_counted : (n : ℕ) (qs : List ProcData) → AllAbove n qs → count_by (below n) qs ≡ 0
+none_counted n [] a = refl
+none_counted n (q ∷ qs) a = let no : ltb q.pid n ≡ false = ltb-no q.pid n (omega arith) in rw no (none_counted n qs a.1)
+
+-- inserted after the rows with smaller numbers, a new row stands at its place
+inserted : (p : ProcData) (q : ProcData) (qs : List ProcData) (b : Bool) → ltb q.pid p.pid ≡ b
+    → AllAbove q.pid qs → (q.pid ≡ p.pid → ⊥)
+    → insert qs (count_by (below p.pid) qs) p ≡ placed p qs
+    → insert (q ∷ qs) (count_by (below p.pid) (q ∷ qs)) p ≡ placed p (q ∷ qs)
+inserted p q qs true e a lacks rest =
+    let less : q.pid < p.pid = grind (arith, nat_tests) in
+    let no : ltb p.pid q.pid ≡ false = ltb-no p.pid q.pid (omega arith) in
+    let more : count_by (below p.pid) (q ∷ qs) ≡ suc (count_by (below p.pid) qs) =
+    sum_by-cons (λ x. cond (below p.pid x) 1 0) q qs ∙ rw e (omega arith)
+    in
+    let P : ℕ → Type 0 = λ i. insert (q ∷ qs) i p ≡ placed p (q ∷ qs) in
+    subst P (sym more) (rw (e, no) (ap (λ xs. q ∷ xs) rest))
+inserted p q qs false e a lacks rest =
+    let differ : q.pid ≢ p.pid = lacks in
+    let least : p.pid ≤ q.pid = grind (arith, nat_tests) in
+    let greater : p.pid < q.pid = omega arith in
+    let all : AllAbove p.pid (q ∷ qs) = (greater, lower p.pid q.pid (omega arith) qs a) in
+    let P : ℕ → Type 0 = λ i. insert (q ∷ qs) i p ≡ placed p (q ∷ qs) in
+    subst P (sym (none_counted p.pid (q ∷ qs) all))
+    (sym (ap (λ xs. xs ++ (p ∷ filter (above p.pid) (q ∷ qs))) (none_below p.pid (q ∷ qs) all)
+    ∙ ap (λ xs. p ∷ xs) (all_above p.pid (q ∷ qs) all)))
+
+pub inserted-placed : (p : ProcData) (ps : List ProcData) → Rise ps → Lacks p.pid ps
+    → insert ps (count_by (below p.pid) ps) p ≡ placed p ps
+inserted-placed p [] r l = refl
+inserted-placed p (q ∷ qs) r l =
+    inserted p q qs (ltb q.pid p.pid) refl r.0 l.0 (inserted-placed p qs r.1 l.1)
+
+placed-later : (p q : ProcData) (qs : List ProcData) → q.pid < p.pid → placed p (q ∷ qs) ≡ q ∷ placed p qs
+placed-later p q qs less = rw (ltb-yes q.pid p.pid less, ltb-no p.pid q.pid (omega (arith, less))) refl
+
+placed-first : (p : ProcData) (qs : List ProcData) → AllAbove p.pid qs → placed p qs ≡ p ∷ qs
+placed-first p qs all =
+    ap (λ xs. xs ++ (p ∷ filter (above p.pid) qs)) (none_below p.pid qs all) ∙ ap (λ xs. p ∷ xs) (all_above p.pid qs all)
+
+-- a row either stands before the new one, or after it with all that follow
+pub record Stands (p q : ProcData) (qs : List ProcData) : Type 0 where
+  pub greater : p.pid < q.pid
+  pub first : placed p (q ∷ qs) ≡ p ∷ (q ∷ qs)
+
+pub stands : (p q : ProcData) (qs : List ProcData) → Rise (q ∷ qs) → (q.pid ≡ p.pid → ⊥) → (placed p (q ∷ qs) ≡ q ∷ placed p qs) ⊎ Stands p q qs
+stands p q qs r lacks = elim (cases_Bool (ltb q.pid p.pid)) [
+  | inl e ↦ inl (placed-later p q qs (grind (arith, nat_tests)))
+  | inr e ↦
+      let differ : q.pid ≢ p.pid = lacks in
+      let least : p.pid ≤ q.pid = grind (arith, nat_tests) in
+      let greater : p.pid < q.pid = omega arith in
+      inr record { greater = greater; first = placed-first p (q ∷ qs) (greater, lower p.pid q.pid (omega arith) qs r.0) }
+]
+
+module _ (p : ProcData) where
+  pub process_of-placed : (n : ℕ) → n ≢ p.pid → (ps : List ProcData) → Rise ps → Lacks p.pid ps → process_of n (placed p ps) ≡ process_of n ps
+  process_of-placed n apart [] r l = let no : nat_eq p.pid n ≡ false = other_number p.pid n (λ e. apart (sym e)) in rw no refl
+  process_of-placed n apart (q ∷ qs) r l = elim (stands p q qs r l.0) [
+    | inl e ↦ rw e (elim (cases_Bool (nat_eq q.pid n)) [
+      | inl k ↦ rw k refl
+      | inr k ↦ rw k (process_of-placed n apart qs r.1 l.1)
+    ])
+    | inr s ↦ let no : nat_eq p.pid n ≡ false = other_number p.pid n (λ e. apart (sym e)) in rw s.first (rw no refl)
+  ]
+
+  pub placed-found : (ps : List ProcData) → Rise ps → Lacks p.pid ps → process_of p.pid (placed p ps) ≡ Some p
+  placed-found [] r l = rw (same_number p.pid) refl
+  placed-found (q ∷ qs) r l = elim (stands p q qs r l.0) [
+    | inl e ↦ let no : nat_eq q.pid p.pid ≡ false = other_number q.pid p.pid l.0 in rw e (rw no (placed-found qs r.1 l.1))
+    | inr s ↦ rw s.first (rw (same_number p.pid) refl)
+  ]
+
+  pub is_process-placed : (n : ℕ) (ps : List ProcData) → list_any (λ q. nat_eq q.pid n) ps ≡ true → Rise ps → Lacks p.pid ps → list_any (λ q. nat_eq q.pid n) (placed p ps) ≡ true
+  is_process-placed n [] any r l = absurd (cc)
+  is_process-placed n (q ∷ qs) any r l = elim (stands p q qs r l.0) [
+    | inl e ↦ rw e (elim (cases_Bool (nat_eq q.pid n)) [
+      | inl k ↦ rw k refl
+      | inr k ↦ rw k (is_process-placed n qs (rw k at any) r.1 l.1)
+    ])
+    | inr s ↦ rw s.first (elim (cases_Bool (nat_eq p.pid n)) [
+      | inl k ↦ rw k refl
+      | inr k ↦ rw k any
+    ])
+  ]
+
+pub every_placed : (P : ProcData → Type 0) (p : ProcData) (ps : List ProcData) → P p → AllByRecursion P ps → AllByRecursion P (placed p ps)
+every_placed P p ps new all =
+    every_append P (filter (below p.pid) ps) (p ∷ filter (above p.pid) ps) (every_filter P P (below p.pid) (λ q e h. h) ps all)
+    (new, every_filter P P (above p.pid) (λ q e h. h) ps all)
+
+-- numbers rise with a new one at its place
+AllAbove-placed : (n : ℕ) (p : ProcData) → n < p.pid → (ps : List ProcData) → AllAbove n ps → AllAbove n (placed p ps)
+AllAbove-placed n p less [] a = (less, tt)
+AllAbove-placed n p less (q ∷ qs) a =
+    AllAbove-append n (filter (below p.pid) (q ∷ qs)) (p ∷ filter (above p.pid) (q ∷ qs)) (AllAbove-filter (below p.pid) n (q ∷ qs) a) (less, AllAbove-filter (above p.pid) n (q ∷ qs) a)
+
+pub Rise-placed : (p : ProcData) (ps : List ProcData) → Rise ps → Lacks p.pid ps → Rise (placed p ps)
+Rise-placed p [] r l = (tt, tt)
+Rise-placed p (q ∷ qs) r l = elim (cases_Bool (ltb q.pid p.pid)) [
+  | inl e ↦ let less : q.pid < p.pid = grind (arith, nat_tests) in rw (placed-later p q qs less) (AllAbove-placed q.pid p less qs r.0, Rise-placed p qs r.1 l.1)
+  | inr e ↦
+      let differ : q.pid ≢ p.pid = l.0 in
+      let least : p.pid ≤ q.pid = grind (arith, nat_tests) in
+      let all : AllAbove p.pid (q ∷ qs) = (omega arith, lower p.pid q.pid (omega arith) qs r.0) in
+      rw (placed-first p (q ∷ qs) all) (all, r)
+]

@@ -1,0 +1,480 @@
+//! The rows of a host, kept in lists.
+
+ghost use Rattle.std.specs.Prelude.{◌≡◌, ℕ, ◌+◌, ◌-◌, ◌*◌, ◌<◌, ◌≤◌, ◌^◌, ◌==◌, true, false, None, IsSome, IsSomeAnd, OnOk, IfOk, IfSome, count_by, ltb, length, get_or, map, option_map, slice_get};
+ghost use Rattle.pid_blocks.specs.Users.{IsUser};
+ghost use Rattle.pid_blocks.specs.Blocks.{slot, users, pid_block, tid_block, first_free, next_free, InBlock};
+ghost use Rattle.lwp_table.specs.Lwps.{first_lwp, lwp_of, next_lwp, put_lwp};
+ghost use Rattle.proc_table.specs.Processes.{process_of};
+ghost use Rattle.proc_table.specs.Seen.{seen_process, seen_lwp, find_seen, owns};
+ghost use Rattle.proc_table.specs.Walks.{next_of, next_tracee, next_child};
+ghost use Rattle.proc_table.specs.Fresh.{no_rows, fresh_pid, fresh_tid, add_process, add_lwp, process_count, lwp_count_of, lwp_count, is_process, is_lwp};
+ghost use Rattle.proc_table.specs.Kept.{IsKept, IsRow, AtHome, Named, put_process, set_process, set_lwp, drop_process, drop_lwp};
+
+use crate::ProcData;
+use lwp_table::LwpData;
+use pid_blocks::{Block, Pid, Tid, Uid, cursor_after, pid_block, tid_block};
+use std::alloc::{AllocError, Global};
+use std::marker::Model;
+
+/// The rows of processes and LWPs, and the users' cursors.
+#[derive(Drop)]
+pub struct Tables {
+    processes: Vec<ProcData>,
+    lwps: Vec<LwpData>,
+    pid_cursors: [u32; 64],
+    tid_cursors: [u32; 64],
+}
+
+impl Model for Tables {
+    ghost use Rattle.std.specs.Prelude.{◌-◌, vec_capacity, vec_len};
+    ghost use Rattle.proc_table.specs.Kept.{Table, IsKept};
+
+    ghost Value = { Table };
+
+    ghost view = { λ t. record {
+      rows = record { processes = t.processes.items; lwps = t.lwps.items; pid_cursors = t.pid_cursors; tid_cursors = t.tid_cursors };
+      spare_processes = vec_capacity t.processes - vec_len t.processes;
+      spare_lwps = vec_capacity t.lwps - vec_len t.lwps;
+    } };
+
+    ghost invariant = { λ t. IsKept (record { processes = t.processes.items; lwps = t.lwps.items; pid_cursors = t.pid_cursors; tid_cursors = t.tid_cursors }) };
+}
+
+/// The row in the place of the one with its number.
+fn process_put(row: &ProcData, p: ProcData) -> ProcData
+    ensures { result ≡ put_process row.now p }
+{
+    if p.pid == row.pid { *row } else { p }
+}
+
+fn lwp_put(row: &LwpData, l: LwpData) -> LwpData
+    ensures { result ≡ put_lwp row.now l }
+{
+    if l.tid == row.tid { *row } else { l }
+}
+
+/// Numbers that rise from the first one by steps, one for each user.
+fn cursors(first: u32, step: u32) -> [u32; 64]
+    requires { first + step * 64 < 2 ^ 32 }
+    ensures { result ≡ map (λ u. first + step * slot u) users }
+{
+    let mut numbers = [0; 64];
+    for user in 0u32..64 {
+        numbers[user as usize] = first + step * user;
+    }
+    numbers
+}
+
+impl Tables {
+    /// The tables of a host that nobody has used.
+    pub fn new(alloc: Global) -> Result<Tables, AllocError>
+        ensures { IfOk result (λ tables. tables.rows ≡ no_rows) }
+    {
+        Ok(Tables {
+            processes: Vec::new(alloc),
+            lwps: Vec::new(alloc),
+            pid_cursors: cursors(1000, 1000),
+            tid_cursors: cursors(100000, 4000),
+        })
+    }
+
+    /// Makes room for more processes.
+    pub fn reserve_process(&mut self, count: usize) -> Result<(), AllocError>
+        ensures room { OnOk result (count ≤ self.new.spare_processes) }
+        ensures rows { self.new.rows ≡ self.old.rows }
+        ensures spare { self.old.spare_processes ≤ self.new.spare_processes }
+        ensures others { self.new.spare_lwps ≡ self.old.spare_lwps }
+    {
+        self.processes.reserve(count)
+    }
+
+    /// Makes room for more LWPs.
+    pub fn reserve_lwp(&mut self, count: usize) -> Result<(), AllocError>
+        ensures room { OnOk result (count ≤ self.new.spare_lwps) }
+        ensures rows { self.new.rows ≡ self.old.rows }
+        ensures spare { self.old.spare_lwps ≤ self.new.spare_lwps }
+        ensures others { self.new.spare_processes ≡ self.old.spare_processes }
+    {
+        self.lwps.reserve(count)
+    }
+
+    /// What the tables keep; for proofs.
+    pub fn kept(&self)
+        ensures { IsKept self.now.rows }
+    {
+        let _ = &self.processes;
+    }
+
+    /// The process with this number.
+    pub fn process(&self, pid: Pid) -> Option<ProcData>
+        ensures row { result ≡ process_of pid self.now.rows.processes }
+        ensures kept { IsKept self.now.rows }
+    {
+        self.processes.iter().copied().find(|p| p.pid == pid)
+    }
+
+    /// The process with this number, if it is one's.
+    pub fn numbered(&self, number: u32) -> Option<ProcData>
+        ensures row { result ≡ process_of number self.now.rows.processes }
+        ensures kept { IsKept self.now.rows }
+    {
+        self.processes
+            .iter()
+            .copied()
+            .find(|p| p.pid.get() == number)
+    }
+
+    /// The LWP with this number.
+    pub fn lwp(&self, tid: Tid) -> Option<LwpData>
+        ensures row { result ≡ lwp_of tid self.now.rows.lwps }
+        ensures kept { IsKept self.now.rows }
+    {
+        self.lwps.iter().copied().find(|l| l.tid == tid)
+    }
+
+    /// The oldest LWP of a process.
+    pub fn first_lwp(&self, pid: Pid) -> Option<LwpData>
+        ensures row { result ≡ first_lwp pid self.now.rows.lwps }
+        ensures kept { IsKept self.now.rows }
+    {
+        self.lwps.iter().copied().find(|l| l.pid == pid)
+    }
+
+    /// The LWP of a process that was born next after this one.
+    pub fn next_lwp(&self, pid: Pid, after: Tid) -> Option<LwpData>
+        requires { IsSomeAnd (lwp_of after self.now.rows.lwps) (λ l. l.pid ≡ pid) }
+        ensures row { result ≡ next_lwp pid after self.now.rows.lwps }
+        ensures kept { IsKept self.now.rows }
+    {
+        let mut passed = false;
+        for l in &self.lwps {
+            if passed && l.pid == pid {
+                return Some(*l);
+            }
+            if l.tid == after {
+                passed = true;
+            }
+        }
+        None
+    }
+
+    /// The LWP at this place by birth.
+    pub fn lwp_at(&self, place: usize) -> Option<LwpData>
+        ensures row { result ≡ slice_get self.now.rows.lwps place }
+        ensures kept { IsKept self.now.rows }
+    {
+        self.lwps.get(place).copied()
+    }
+
+    /// The user's process with this number.
+    pub fn seen_process(&self, uid: Uid, number: u32) -> Option<ProcData>
+        ensures row { result ≡ seen_process uid number self.now.rows }
+        ensures kept { IsKept self.now.rows }
+    {
+        self.processes
+            .iter()
+            .copied()
+            .find(|p| p.pid.get() == number && p.uid == uid)
+    }
+
+    /// Whether the user has the process.
+    fn owns(&self, uid: Uid, pid: Pid) -> bool
+        ensures { result ≡ owns uid pid self.now.rows.processes }
+    {
+        self.processes.iter().any(|p| p.pid == pid && p.uid == uid)
+    }
+
+    /// The LWP with this number, of a process of the user.
+    pub fn seen_lwp(&self, uid: Uid, number: u32) -> Option<LwpData>
+        ensures row { result ≡ seen_lwp uid number self.now.rows }
+        ensures kept { IsKept self.now.rows }
+    {
+        self.lwps
+            .iter()
+            .copied()
+            .find(|l| l.tid.get() == number && self.owns(uid, l.pid))
+    }
+
+    /// The number, where it is that of one of the user's processes.
+    fn seen_pid(&self, uid: Uid, number: u32) -> Option<Pid>
+        ensures { result ≡ option_map (λ p. p.pid) (seen_process uid number self.now.rows) }
+    {
+        self.processes
+            .iter()
+            .find(|p| p.pid.get() == number && p.uid == uid)
+            .map(|p| p.pid)
+    }
+
+    /// The process of the user's LWP with this number.
+    fn seen_lwp_pid(&self, uid: Uid, number: u32) -> Option<Pid>
+        ensures { result ≡ option_map (λ l. l.pid) (seen_lwp uid number self.now.rows) }
+    {
+        self.lwps
+            .iter()
+            .find(|l| l.tid.get() == number && self.owns(uid, l.pid))
+            .map(|l| l.pid)
+    }
+
+    /// The process that a number names for the user: up to 99999 its own number, above that of one of its LWPs.
+    pub fn find_seen(&self, uid: Uid, number: u32) -> Option<Pid>
+        ensures seen { result ≡ find_seen uid number self.now.rows }
+        ensures kept { IsKept self.now.rows }
+    {
+        let _ = &self.processes;
+        if number <= 99999 {
+            self.seen_pid(uid, number)
+        } else {
+            self.seen_lwp_pid(uid, number)
+        }
+    }
+
+    /// The user's first process above a number.
+    pub fn next_of(&self, uid: Uid, after: u32) -> Option<ProcData>
+        ensures row { result ≡ next_of uid after self.now.rows.processes }
+        ensures kept { IsKept self.now.rows }
+    {
+        self.processes
+            .iter()
+            .copied()
+            .find(|p| after < p.pid.get() && p.uid == uid)
+    }
+
+    /// The first process above a number that this one traces.
+    pub fn next_tracee(&self, pid: Pid, after: u32) -> Option<ProcData>
+        ensures row { result ≡ next_tracee pid after self.now.rows.processes }
+        ensures kept { IsKept self.now.rows }
+    {
+        self.processes
+            .iter()
+            .copied()
+            .find(|p| after < p.pid.get() && p.tracer == Some(pid))
+    }
+
+    /// The first process above a number whose parent is this one.
+    pub fn next_child(&self, pid: Pid, after: u32) -> Option<ProcData>
+        ensures row { result ≡ next_child pid after self.now.rows.processes }
+        ensures kept { IsKept self.now.rows }
+    {
+        self.processes
+            .iter()
+            .copied()
+            .find(|p| after < p.pid.get() && p.parent == pid.get())
+    }
+
+    /// How many processes the user has.
+    pub fn process_count(&self, uid: Uid) -> usize
+        ensures count { result ≡ process_count uid self.now.rows }
+        ensures kept { IsKept self.now.rows }
+    {
+        self.processes.iter().filter(|p| p.uid == uid).count()
+    }
+
+    /// How many LWPs the user has.
+    pub fn lwp_count_of(&self, uid: Uid) -> usize
+        ensures count { result ≡ lwp_count_of uid self.now.rows }
+        ensures kept { IsKept self.now.rows }
+    {
+        self.lwps.iter().filter(|l| self.owns(uid, l.pid)).count()
+    }
+
+    /// How many LWPs a process has.
+    pub fn lwp_count(&self, pid: Pid) -> usize
+        ensures count { result ≡ lwp_count pid self.now.rows }
+        ensures kept { IsKept self.now.rows }
+    {
+        self.lwps.iter().filter(|l| l.pid == pid).count()
+    }
+
+    /// Where the search for the user's next process number begins.
+    pub fn pid_cursor(&self, uid: Uid) -> u32
+        ensures cursor { result ≡ get_or self.now.rows.pid_cursors (slot uid) 0 }
+        ensures kept { IsKept self.now.rows }
+    {
+        self.pid_cursors[uid.slot()]
+    }
+
+    /// Where the search for the user's next LWP number begins.
+    pub fn tid_cursor(&self, uid: Uid) -> u32
+        ensures cursor { result ≡ get_or self.now.rows.tid_cursors (slot uid) 0 }
+        ensures kept { IsKept self.now.rows }
+    {
+        self.tid_cursors[uid.slot()]
+    }
+
+    /// Whether a process has the number.
+    fn is_process(&self, number: u32) -> bool
+        ensures { result ≡ is_process self.now.rows number }
+    {
+        self.processes.iter().any(|p| p.pid.get() == number)
+    }
+
+    /// Whether an LWP has the number.
+    fn is_lwp(&self, number: u32) -> bool
+        ensures { result ≡ is_lwp self.now.rows number }
+    {
+        self.lwps.iter().any(|l| l.tid.get() == number)
+    }
+
+    /// The first of so many numbers that no process has.
+    fn free_pid(&self, from: u32, count: u32) -> Option<u32>
+        requires { from + count < 2 ^ 32 }
+        ensures { result ≡ first_free (is_process self.now.rows) count from }
+    {
+        for n in from..from + count {
+            if !self.is_process(n) {
+                return Some(n);
+            }
+        }
+        None
+    }
+
+    /// The first of so many numbers that no LWP has.
+    fn free_tid(&self, from: u32, count: u32) -> Option<u32>
+        requires { from + count < 2 ^ 32 }
+        ensures { result ≡ first_free (is_lwp self.now.rows) count from }
+    {
+        for n in from..from + count {
+            if !self.is_lwp(n) {
+                return Some(n);
+            }
+        }
+        None
+    }
+
+    /// The first number of the block that no row has, from the cursor on and round.
+    fn next_pid(&self, block: Block, cursor: u32) -> Option<u32>
+        requires size { block.first + block.size < 2 ^ 32 }
+        requires cursor { InBlock block cursor }
+        ensures { result ≡ next_free block cursor (is_process self.now.rows) }
+    {
+        if let Some(n) = self.free_pid(cursor, block.first + block.size - cursor) {
+            return Some(n);
+        }
+        self.free_pid(block.first, cursor - block.first)
+    }
+
+    /// The number of the user's next row.
+    pub fn fresh_pid(&self, uid: Uid) -> Option<Pid>
+        ensures free { result ≡ fresh_pid uid self.now.rows }
+        ensures home { IfSome result (λ n. InBlock (pid_block uid) n) }
+        ensures fresh { IfSome result (λ n. is_process self.now.rows n ≡ false) }
+        ensures kept { IsKept self.now.rows }
+    {
+        let _user = uid.get();
+        let n = self.next_pid(pid_block(uid), self.pid_cursors[uid.slot()])?;
+        Pid::new(n)
+    }
+
+    /// The first number of the block that no row has, from the cursor on and round.
+    fn next_tid(&self, block: Block, cursor: u32) -> Option<u32>
+        requires size { block.first + block.size < 2 ^ 32 }
+        requires cursor { InBlock block cursor }
+        ensures { result ≡ next_free block cursor (is_lwp self.now.rows) }
+    {
+        if let Some(n) = self.free_tid(cursor, block.first + block.size - cursor) {
+            return Some(n);
+        }
+        self.free_tid(block.first, cursor - block.first)
+    }
+
+    /// The number of the user's next row.
+    pub fn fresh_tid(&self, uid: Uid) -> Option<Tid>
+        ensures free { result ≡ fresh_tid uid self.now.rows }
+        ensures home { IfSome result (λ n. InBlock (tid_block uid) n) }
+        ensures fresh { IfSome result (λ n. is_lwp self.now.rows n ≡ false) }
+        ensures kept { IsKept self.now.rows }
+    {
+        let _user = uid.get();
+        let n = self.next_tid(tid_block(uid), self.tid_cursors[uid.slot()])?;
+        Tid::new(n)
+    }
+
+    /// How many processes have lower numbers.
+    fn place_of(&self, pid: Pid) -> usize
+        ensures { result ≡ count_by (λ q. ltb q.pid pid) self.now.rows.processes }
+    {
+        self.processes
+            .iter()
+            .filter(|q| q.pid.get() < pid.get())
+            .count()
+    }
+
+    /// Adds a process. Takes no memory.
+    pub fn add_process(&mut self, row: ProcData)
+        requires room { 0 < self.old.spare_processes }
+        requires fresh { is_process self.old.rows row.pid ≡ false }
+        requires home { AtHome row }
+        requires named { Named self.old.rows row }
+        ensures rows { self.new.rows ≡ add_process row self.old.rows }
+        ensures spare { self.old.spare_processes ≤ self.new.spare_processes + 1 }
+        ensures others { self.new.spare_lwps ≡ self.old.spare_lwps }
+    {
+        let _user = row.uid.get();
+        let slot = row.uid.slot();
+        let at = self.place_of(row.pid);
+        self.processes.insert(at, row).unwrap();
+        self.pid_cursors[slot] = cursor_after(pid_block(row.uid), row.pid.get());
+    }
+
+    /// Adds an LWP of a process of the user. Takes no memory.
+    pub fn add_lwp(&mut self, uid: Uid, row: LwpData)
+        requires room { 0 < self.old.spare_lwps }
+        requires fresh { is_lwp self.old.rows row.tid ≡ false }
+        requires home { InBlock (tid_block uid) row.tid }
+        requires owner { owns uid row.pid self.old.rows.processes ≡ true }
+        ensures rows { self.new.rows ≡ add_lwp uid row self.old.rows }
+        ensures spare { self.old.spare_lwps ≤ self.new.spare_lwps + 1 }
+        ensures others { self.new.spare_processes ≡ self.old.spare_processes }
+    {
+        let _user = uid.get();
+        let slot = uid.slot();
+        self.lwps.push(row).unwrap();
+        self.tid_cursors[slot] = cursor_after(tid_block(uid), row.tid.get());
+    }
+
+    /// Puts a row in the place of the one with its number, which is of the same user.
+    pub fn set_process(&mut self, row: ProcData)
+        requires there { IsSomeAnd (process_of row.pid self.old.rows.processes) (λ was. was.uid ≡ row.uid) }
+        requires named { Named self.old.rows row }
+        ensures rows { self.new.rows ≡ set_process row self.old.rows }
+        ensures spare { self.new.spare_processes ≡ self.old.spare_processes }
+        ensures others { self.new.spare_lwps ≡ self.old.spare_lwps }
+    {
+        for p in self.processes.iter_mut() {
+            *p = process_put(&row, *p);
+        }
+    }
+
+    /// Puts a row in the place of the one with its number, which is of the same process.
+    pub fn set_lwp(&mut self, row: LwpData)
+        requires { IsSomeAnd (lwp_of row.tid self.old.rows.lwps) (λ was. was.pid ≡ row.pid) }
+        ensures rows { self.new.rows ≡ set_lwp row self.old.rows }
+        ensures spare { self.new.spare_lwps ≡ self.old.spare_lwps }
+        ensures others { self.new.spare_processes ≡ self.old.spare_processes }
+    {
+        for l in self.lwps.iter_mut() {
+            *l = lwp_put(&row, *l);
+        }
+    }
+
+    /// Takes out a process that no row names.
+    pub fn remove_process(&mut self, pid: Pid)
+        requires there { IsRow self.old.rows pid }
+        requires tracees { next_tracee pid 0 self.old.rows.processes ≡ None }
+        requires children { next_child pid 0 self.old.rows.processes ≡ None }
+        requires lwps { first_lwp pid self.old.rows.lwps ≡ None }
+        ensures rows { self.new.rows ≡ drop_process pid self.old.rows }
+        ensures others { self.new.spare_lwps ≡ self.old.spare_lwps }
+    {
+        self.processes.retain(|p| p.pid != pid);
+    }
+
+    /// Takes an LWP out.
+    pub fn remove_lwp(&mut self, tid: Tid)
+        requires { IsSome (lwp_of tid self.old.rows.lwps) }
+        ensures rows { self.new.rows ≡ drop_lwp tid self.old.rows }
+        ensures others { self.new.spare_processes ≡ self.old.spare_processes }
+    {
+        self.lwps.retain(|l| l.tid != tid);
+    }
+}

@@ -1,0 +1,117 @@
+-- The empty host is sound, and spawning keeps a host sound.
+use Rattle.std.proofs.Common.{◌≡◌, ℕ, zero, suc, ◌+◌, ◌<◌, map, Bool, true, false, Option, Some, None, IfSome, refl, sym, ap, ◌∙◌, arith, true≢false, subst, get_or}
+use Rattle.pid_blocks.specs.Users.{IsUser}
+use Rattle.pid_blocks.specs.Blocks.{slot, pid_block, tid_block, users, rising, InBlock}
+use Rattle.proc_table.specs.declared.ProcData.{ProcData}
+use Rattle.lwp_table.specs.declared.Due.TheVariants as due
+use Rattle.lwp_table.specs.Lwps.{born}
+use Rattle.proc_table.specs.Processes.{spawned, is_live, is_run, of_user}
+use Rattle.proc_table.specs.Seen.{seen_process}
+use Rattle.pid_blocks.specs.declared.Errno.TheVariants.{ESRCH}
+use Rattle.requests.specs.declared.Reply.{Reply}
+use Rattle.requests.specs.declared.Reply.TheVariants as reply
+use Rattle.proc_table.specs.Rows.{Rows}
+use Rattle.trace_stop.specs.declared.Settings.{Settings}
+use Rattle.trace_stop.specs.Facts.{FitProcess, FitLwp, IsSound}
+use Rattle.trace_stop.proofs.Every.{both}
+use Rattle.trace_stop.proofs.FromSound.{sound_rows-from}
+use Rattle.trace_stop.proofs.Born.{born_sound}
+use Rattle.requests.specs.Outcome.{answers}
+use Rattle.requests.specs.Leave.{Numbers, room_for_process}
+use Rattle.requests.specs.Calls.{spawn, spawn_with}
+use Rattle.requests.specs.Machine.{Machine, no_rows, empty, after}
+use Rattle.requests.specs.Sound.{sound}
+use Rattle.requests.specs.declared.PlainStep.TheVariants as op
+use Rattle.requests.specs.Step.{step, checked}
+use Rattle.requests.proofs.Room.{ProcessRoom, process_room}
+use Rattle.requests.proofs.After.{rows_sound, after_sound, answers_same}
+
+get_or-rising : {X : Type 0} (f : ℕ → X) (d : X) (count n k : ℕ) → k < count → get_or (map f (rising count n)) k d ≡ f (n + k)
+get_or-rising f d zero n k lt = absurd (omega arith)
+get_or-rising f d (suc count) n zero lt = ap f (omega arith)
+get_or-rising f d (suc count) n (suc k) lt = get_or-rising f d count (n + 1) k (omega arith) ∙ ap f (omega arith)
+
+at_slot : {X : Type 0} (f : ℕ → X) (u : ℕ) (d : X) → IsUser u → get_or (map f users) (slot u) d ≡ f u
+at_slot f u d user = let from = user.0 in let to = user.1 in get_or-rising f d 64 1001 (slot u) (omega arith) ∙ ap f (omega arith)
+
+no_rows_sound : IsSound no_rows
+no_rows_sound = record {
+  stands = record {
+    rising = tt;
+    differ = tt;
+    homes = tt;
+    housed = tt;
+    pid_slots = refl;
+    tid_slots = refl;
+    pid_cursors = λ u user. subst (InBlock (pid_block u)) (sym (at_slot (λ w. (pid_block w).first) u 0 user)) (omega arith, omega arith);
+    tid_cursors = λ u user. subst (InBlock (tid_block u)) (sym (at_slot (λ w. (tid_block w).first) u 0 user)) (omega arith, omega arith);
+    few_processes = λ u user. omega arith;
+    few_lwps = λ u user. omega arith;
+    linked = tt;
+    standing = tt;
+  };
+  processes = tt;
+  lwps = tt;
+}
+
+pub empty_sound : (settings : Settings) → sound (empty settings) ≡ true
+empty_sound settings = both _ _ (sound_rows-from no_rows no_rows_sound) refl
+
+spawned_fits : (pid u : ℕ) → FitProcess (spawned pid u)
+spawned_fits pid u = record {
+  stopped = λ is. absurd (true≢false (sym is));
+  job = λ is. absurd (true≢false (sym is));
+  continued = λ is. absurd (true≢false (sym is));
+  untraced = λ none. record { mask = refl; pending = refl };
+  ended = tt;
+}
+
+born_fits : (tid pid u : ℕ) → FitLwp (spawned pid u) (born tid pid 0 due.Nothing)
+born_fits tid pid u = record {
+  untraced = λ none. record { due = refl; stepping = refl; suspended = refl; pending = refl };
+  silent = λ other. record { flags = refl; child = refl; code = refl };
+  blocked = refl;
+}
+
+spawned_sound : (u : ℕ) (rows : Rows) → IsUser u → IsSound rows → (o : Option Numbers) → IfSome o (ProcessRoom u rows) → IsSound (spawn_with u rows o).rows
+spawned_sound u rows user s None room = s
+spawned_sound u rows user s (Some new) room = born_sound rows (spawned new.pid u) (born new.tid new.pid 0 due.Nothing) s (record {
+  home = record { user = user; block = room.pid };
+  free = room.free;
+  tid = room.lwp.tid;
+  new = room.lwp.new;
+  own = refl;
+  processes = room.few;
+  lwps = room.lwp.few;
+  live = refl;
+  quiet = refl;
+  tracer = tt;
+  parent = λ ne. absurd (ne refl);
+  here = refl;
+  waits = refl;
+  fits = spawned_fits new.pid u;
+  fit_lwp = born_fits new.tid new.pid u;
+})
+
+pub spawn_rows : (u : ℕ) (rows : Rows) → IsUser u → IsSound rows → IsSound (spawn u rows).rows
+spawn_rows u rows user s = spawned_sound u rows user s (room_for_process u rows) (process_room u rows user s.stands)
+
+-- a spawn keeps a host sound
+pub spawn_sound : (m : Machine) (u : ℕ) → IsUser u → sound m ≡ true → sound (step u op.Spawn m).machine ≡ true
+spawn_sound m u user is = after_sound m (spawn u m.rows) is (spawn_rows u m.rows user (rows_sound m is))
+
+-- so does a list
+pub list_sound : (m : Machine) (u caller : ℕ) → sound m ≡ true → sound (step u (op.List caller) m).machine ≡ true
+list_sound m u caller is = by_caller (seen_process u caller m.rows)
+  where
+    stays : (r : Reply) → sound (after m (answers r m.rows)).machine ≡ true
+    stays r = subst (λ k. sound k ≡ true) (sym (answers_same m r is)) is
+
+    at_run : (p : ProcData) (b : Bool) → is_run p ≡ b → (live : Bool) → is_live p ≡ live → sound (checked u (op.List caller) (Some p) m).machine ≡ true
+    at_run p b run false e = rw e (stays (reply.Errno ESRCH))
+    at_run p false run true e = rw (e, run) (stays reply.Held)
+    at_run p true run true e = rw (e, run) (stays (reply.Pids (map (λ p. p.pid) (of_user u m.rows.processes))))
+
+    by_caller : (o : Option ProcData) → sound (checked u (op.List caller) o m).machine ≡ true
+    by_caller None = stays (reply.Errno ESRCH)
+    by_caller (Some p) = at_run p (is_run p) refl (is_live p) refl

@@ -1,0 +1,82 @@
+-- Sets of signals as numbers, bit by bit.
+use Rattle.std.proofs.Common.{◌≡◌, ℕ, zero, suc, ◌+◌, ◌-◌, ◌*◌, ◌/◌, ◌%◌, ◌^◌, min, max, ◌<◌, ◌≤◌, Bool, true, false, arith, refl, sym, ap, ◌∙◌, bit_and, bit_or, w32, inl, inr, ◌⊎◌}
+use Rattle.std.specs.Int.RustNames.{bit_xor}
+use Rattle.std.specs.Int.{bit_at, trailing_zeros}
+use Rattle.std.proofs.lemmas.Nat.{or_lt, xor_lt, one_shl, pow_pos, and_le_l}
+use Rattle.std.proofs.lemmas.Nat.Bits.{bit_at_and, bit_at_or, bit_at_xor, bit_at_not, bit_at-lt, same_from_bits_below, and_pow, bit_at-trailing_zeros, bit_at_above}
+use Rattle.std.specs.Prelude.{Option, Some, None, find, ◌≢◌, not, eqb, Result, Ok, Err, OkIff}
+use Rattle.std.specs.Result.{result_ok}
+use Rattle.std.proofs.lemmas.Bool.{cases_lt}
+use Rattle.std.specs.List.{range_with_len}
+use Rattle.signals.specs.Sets.{without, has, bit, lowest}
+use Rattle.signals.proofs.Rising.{find-over, find-here}
+
+-- one bit of a difference, computed in the two ways
+one_less : (x y : ℕ) → x < 2 → y < 2 → min x (1 - y) ≡ (max x y + y) % 2
+one_less x y a b = omega arith
+
+pub difference-is : (a b : ℕ) → a < 2 ^ 31 → b < 2 ^ 31 → bit_and a (2 ^ 32 - 1 - b) ≡ without a b
+difference-is a b small other =
+    let narrow : a < 2 ^ 32 = omega arith in
+    let wide : b < 2 ^ 32 = omega arith in
+    let below : bit_and a (2 ^ 32 - 1 - b) ≤ a = and_le_l a (2 ^ 32 - 1 - b) in
+    same_from_bits_below 32 (bit_and a (2 ^ 32 - 1 - b)) (without a b) (omega arith) (xor_lt 32 (bit_or a b) b (or_lt 32 a b narrow wide) wide)
+    (λ i within.
+    bit_at_and a (2 ^ 32 - 1 - b) i
+    ∙ (ap (min (bit_at a i)) (bit_at_not w32 b i wide within)
+    ∙ (one_less (bit_at a i) (bit_at b i) (bit_at-lt a i) (bit_at-lt b i)
+    ∙ sym (bit_at_xor (bit_or a b) b i ∙ ap (λ x. (x + bit_at b i) % 2) (bit_at_or a b i)))))
+
+-- a number is in the set where its bit is 1
+pub has-one : (set k : ℕ) → bit_at set k ≡ 1 → has set (k + 1) ≡ true
+has-one set k one =
+    let same : bit_and set (2 ^ k) ≡ 2 ^ k = and_pow set k ∙ (ap (λ x. x * 2 ^ k) one ∙ omega arith) in
+    let some : 0 < 2 ^ k = pow_pos k in
+    let there : bit_and set (2 ^ k) ≢ 0 = λ none. omega arith in
+    grind arith
+
+pub has-zero : (set k : ℕ) → bit_at set k ≡ 0 → has set (k + 1) ≡ false
+has-zero set k none =
+    let place : k + 1 - 1 ≡ k = omega arith in
+    let gone : bit_and set (bit (k + 1)) ≡ 0 = ap (λ j. bit_and set (2 ^ j)) place ∙ (and_pow set k ∙ (ap (λ x. x * 2 ^ k) none ∙ omega arith)) in
+    ap (λ x. not (eqb x 0)) gone
+
+-- the first of the numbers that passes
+find-first : (p : ℕ → Bool) (n left k : ℕ) → k < left → ((i : ℕ) → i < k → p (n + i) ≡ false) → p (n + k) ≡ true → find p (range_with_len n left) ≡ Some (n + k)
+find-first p n left zero within before here =
+    let same : n + 0 ≡ n = omega arith in
+    find-here p n left within (rw same at here) ∙ ap (λ x. Some x) (sym same)
+find-first p n left (suc k) within before here =
+    let next : n + suc k ≡ n + 1 + k = omega arith in
+    find-over p n left (omega arith) (let same : n + 0 ≡ n = omega arith in rw same at (before 0 (omega arith)))
+    ∙ (find-first p (n + 1) (left - 1) k (omega arith) (λ i less. let e : n + (i + 1) ≡ n + 1 + i = omega arith in rw e at (before (i + 1) (omega arith))) (rw next at here)
+    ∙ ap (λ x. Some x) (sym next))
+
+-- the signal of the least number, by the zeros below its bit
+least-some : (set : ℕ) → 0 < set → set < 2 ^ 31 → (trailing_zeros w32 set < 31) × (lowest set ≡ Some (trailing_zeros w32 set + 1))
+least-some set some small =
+    let k = trailing_zeros w32 set in
+    let at = bit_at-trailing_zeros w32 set some (omega arith) in
+    let within : k < 31 = by_place (cases_lt k 31) at.1 in
+    let turned : 1 + k ≡ k + 1 = omega arith in
+    (within, find-first (has set) 1 31 k within (λ i less. let e : i + 1 ≡ 1 + i = omega arith in rw e at (has-zero set i (at.2 i less))) (let e : k + 1 ≡ 1 + k = omega arith in rw e at (has-one set k at.1)) ∙ ap (λ x. Some x) turned)
+  where
+    by_place : (trailing_zeros w32 set < 31) ⊎ (31 ≤ trailing_zeros w32 set) → bit_at set (trailing_zeros w32 set) ≡ 1 → trailing_zeros w32 set < 31
+    by_place (inl below) one = below
+    by_place (inr above) one = absurd (let none : bit_at set (trailing_zeros w32 set) ≡ 0 = bit_at_above set 31 _ small above in let clash : 0 ≡ 1 = sym none ∙ one in omega arith)
+
+zeros-of-none : trailing_zeros w32 0 ≡ 32
+unfolding lib.Count.count_trailing_zeros
+zeros-of-none = refl
+
+pub lowest-is : {E : Type 0} (set : ℕ) (r : Result ℕ E) → set < 2 ^ 31 → OkIff r ((1 ≤ trailing_zeros w32 set + 1) × (trailing_zeros w32 set + 1 ≤ 31)) (trailing_zeros w32 set + 1) → result_ok r ≡ lowest set
+lowest-is set (Ok n) small h = ap (λ x. Some x) h.1 ∙ sym (of_some (cases_lt 0 set) h.0)
+  where
+    of_some : (0 < set) ⊎ (set ≤ 0) → (1 ≤ trailing_zeros w32 set + 1) × (trailing_zeros w32 set + 1 ≤ 31) → lowest set ≡ Some (trailing_zeros w32 set + 1)
+    of_some (inl some) h = (least-some set some small).1
+    of_some (inr none) h = absurd (let empty : set ≡ 0 = omega arith in let all : trailing_zeros w32 set ≡ 32 = ap (trailing_zeros w32) empty ∙ zeros-of-none in omega (arith, h))
+lowest-is set (Err e) small h = of_none (cases_lt 0 set)
+  where
+    of_none : (0 < set) ⊎ (set ≤ 0) → None ≡ lowest set
+    of_none (inl some) = absurd (h (omega arith, (let within = (least-some set some small).0 in omega arith)))
+    of_none (inr none) = let empty : set ≡ 0 = omega arith in sym (ap lowest empty)

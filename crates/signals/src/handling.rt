@@ -1,0 +1,82 @@
+//! What a process does with signals, as set by sigaction(2).
+
+ghost use Rattle.std.specs.Prelude.{◌≡◌, ◌↔◌, IsOk, IsTrue, OnOk, OnErr};
+ghost use Rattle.signals.specs.Table.{all_default, disposition_of, set_disposition, may_have, after_exec, nothing, ends};
+
+use crate::{BadDisposition, Disposition, Dispositions, SigSet, Signal};
+
+impl Dispositions {
+    /// Each signal has its default disposition.
+    pub fn standard() -> Dispositions
+        ensures { result ≡ all_default }
+    {
+        let none = SigSet::empty();
+        Dispositions {
+            ignored: none,
+            caught: none,
+        }
+    }
+
+    /// What the process does with the signal.
+    pub fn get(&self, signal: Signal) -> Disposition
+        ensures { result ≡ disposition_of self.now signal }
+    {
+        if self.ignored.contains(signal) {
+            Disposition::Ignore
+        } else if self.caught.contains(signal) {
+            Disposition::Catch
+        } else {
+            Disposition::Default
+        }
+    }
+
+    /// Sets what the process does with the signal. To ignore or catch SIGKILL or SIGSTOP is refused,
+    /// and leaves the dispositions as they were.
+    pub fn set(&mut self, signal: Signal, disposition: Disposition) -> Result<(), BadDisposition>
+        ensures allowed { IsOk result ↔ IsTrue (may_have signal disposition) }
+        ensures set { OnOk result (self.new ≡ set_disposition self.old signal disposition) }
+        ensures refused { OnErr result (self.new ≡ self.old) }
+    {
+        if SigSet::unmaskable().contains(signal) && disposition != Disposition::Default {
+            return Err(BadDisposition);
+        }
+        self.ignored = match disposition {
+            Disposition::Ignore => self.ignored.with(signal),
+            Disposition::Default | Disposition::Catch => self.ignored.without(signal),
+        };
+        self.caught = match disposition {
+            Disposition::Catch => self.caught.with(signal),
+            Disposition::Default | Disposition::Ignore => self.caught.without(signal),
+        };
+        Ok(())
+    }
+
+    /// The dispositions after exec, when no signal is caught.
+    pub fn after_exec(&self) -> Dispositions
+        ensures { result ≡ after_exec self.now }
+    {
+        Dispositions {
+            ignored: self.ignored,
+            caught: SigSet::empty(),
+        }
+    }
+
+    /// The signals whose action is nothing: those ignored, and those that are discarded by default
+    /// and aren't caught.
+    pub fn nothing(&self) -> SigSet
+        ensures { result ≡ nothing self.now }
+    {
+        self.ignored
+            .union(SigSet::discarded().difference(self.caught))
+    }
+
+    /// Whether the signal ends the process.
+    pub fn ends(&self, signal: Signal) -> bool
+        ensures { result ≡ ends self.now signal }
+    {
+        !(self.ignored.contains(signal)
+            || self.caught.contains(signal)
+            || signal.stops()
+            || signal.is_discarded())
+    }
+}

@@ -1,0 +1,138 @@
+//! Sets of signals.
+
+ghost use Rattle.std.specs.Prelude.{◌≡◌, ◌<◌, ◌^◌, ◌==◌};
+ghost use Rattle.std.specs.Int.RustNames.{bit_or};
+ghost use Rattle.signals.specs.Sets.{bit, has, with, without, lowest};
+ghost use Rattle.signals.specs.Table.{stop_set, unmaskable_set, discard_set, maskable, opposed};
+
+use crate::{SigSet, Signal};
+
+impl SigSet {
+    /// The set without a signal.
+    pub fn empty() -> SigSet
+        ensures { result ≡ 0 }
+    {
+        SigSet { bits: 0 }
+    }
+
+    /// The set of the one signal.
+    pub fn of(signal: Signal) -> SigSet
+        ensures { result ≡ bit signal }
+    {
+        SigSet {
+            bits: 1 << (signal.number() - 1),
+        }
+    }
+
+    /// The signals that stop a process by default.
+    pub fn stops() -> SigSet
+        ensures { result ≡ stop_set }
+    {
+        SigSet::of(Signal { number: 17 })
+            .with(Signal { number: 18 })
+            .with(Signal { number: 21 })
+            .with(Signal { number: 22 })
+    }
+
+    /// The signals that are discarded by default.
+    pub fn discarded() -> SigSet
+        ensures { result ≡ discard_set }
+    {
+        SigSet::of(Signal { number: 16 })
+            .with(Signal { number: 19 })
+            .with(Signal { number: 20 })
+            .with(Signal { number: 23 })
+            .with(Signal { number: 28 })
+            .with(Signal { number: 29 })
+    }
+
+    /// SIGKILL and SIGSTOP, which can't be blocked, ignored or caught.
+    pub fn unmaskable() -> SigSet
+        ensures { result ≡ unmaskable_set }
+    {
+        SigSet::of(Signal::kill()).with(Signal::stop())
+    }
+
+    /// The pending signals that posting the signal takes away: SIGCONT takes away those that stop a
+    /// process, and each of these takes away SIGCONT.
+    pub fn opposed(signal: Signal) -> SigSet
+        ensures { result ≡ opposed signal }
+    {
+        if signal.stops() {
+            SigSet::of(Signal::cont())
+        } else if signal == Signal::cont() {
+            SigSet::stops()
+        } else {
+            SigSet::empty()
+        }
+    }
+
+    /// Whether the signal is in the set.
+    pub fn contains(&self, signal: Signal) -> bool
+        ensures { result ≡ has self.now signal }
+    {
+        self.bits & SigSet::of(signal).bits != 0
+    }
+
+    /// Whether no signal is in the set.
+    pub fn is_empty(&self) -> bool
+        ensures { result ≡ (self.now == 0) }
+    {
+        self.bits == 0
+    }
+
+    /// The set with the signal.
+    pub fn with(&self, signal: Signal) -> SigSet
+        ensures { result ≡ with self.now signal }
+    {
+        self.union(SigSet::of(signal))
+    }
+
+    /// The set without the signal.
+    pub fn without(&self, signal: Signal) -> SigSet
+        ensures { result ≡ without self.now (bit signal) }
+    {
+        self.difference(SigSet::of(signal))
+    }
+
+    /// The signals of both sets.
+    pub fn union(&self, other: SigSet) -> SigSet
+        ensures { result ≡ bit_or self.now other }
+    {
+        SigSet {
+            bits: self.bits | other.bits,
+        }
+    }
+
+    /// The signals of the set that aren't in the other.
+    pub fn difference(&self, other: SigSet) -> SigSet
+        ensures { result ≡ without self.now other }
+    {
+        SigSet {
+            bits: self.bits & !other.bits,
+        }
+    }
+
+    /// The signals of the set that may be blocked.
+    pub fn maskable(&self) -> SigSet
+        ensures { result ≡ maskable self.now }
+    {
+        self.difference(SigSet::unmaskable())
+    }
+
+    /// The signal of the least number in the set; `None` where the set is empty.
+    pub fn lowest(&self) -> Option<Signal>
+        ensures { result ≡ lowest self.now }
+    {
+        Signal::new(self.bits.trailing_zeros() + 1).ok()
+    }
+
+    /// The set as a number, in which signal n has bit n - 1.
+    pub fn bits(&self) -> u32
+        ensures bits { result ≡ self.now }
+        ensures below { result < 2 ^ 31 }
+    {
+        let SigSet { bits } = *self;
+        bits
+    }
+}

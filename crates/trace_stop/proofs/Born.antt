@@ -1,0 +1,247 @@
+-- A sound host with one more process and its first LWP, or with one more LWP, is sound.
+use Rattle.std.proofs.Common.{◌≡◌, ◌≢◌, ℕ, ◌+◌, ◌<◌, ◌≤◌, List, [], ◌∷◌, ◌++◌, length, find, Bool, true, false, cond, ◌==◌, ◌&&◌, ◌||◌, leb, Option, Some, None, IfSome, refl, sym, ap, ◌∙◌, arith, eqb, true≢false, eqb-true, subst, eq-eqb, get_or, set, get_or-set_same, get_or-set_other, length-set, if◌then◌else◌}
+use Rattle.std.specs.Prelude.{count_by}
+use Rattle.std.specs.List.{AllByRecursion, list_any}
+use Rattle.std.proofs.lemmas.Bool.{leb-false}
+use Rattle.std.proofs.lemmas.List.Folds.{list_any-append}
+use Rattle.pid_blocks.specs.Users.{IsUser}
+use Rattle.pid_blocks.specs.declared.Block.{Block}
+use Rattle.pid_blocks.specs.Blocks.{slot, pid_block, tid_block, InBlock, cursor_after}
+use Rattle.event_masks.specs.Exits.{shows}
+use Rattle.event_masks.specs.declared.TheConstants.StopFlags.{PL_FLAG_EXITED}
+use Rattle.lwp_table.specs.declared.LwpData.{LwpData}
+use Rattle.lwp_table.specs.Lwps.{Differ, LacksLwp, has_lwp}
+use Rattle.proc_table.specs.declared.ProcData.{ProcData}
+use Rattle.proc_table.specs.Processes.{is_live, reporting, process_of, placed}
+use Rattle.proc_table.specs.Rows.{Rows}
+use Rattle.proc_table.specs.Seen.{owns}
+use Rattle.proc_table.specs.Fresh.{is_process, is_lwp, add_process, add_lwp, process_count, lwp_count_of}
+use Rattle.proc_table.specs.Kept.{AtHome, Housed}
+use Rattle.trace_stop.specs.End.{tracer_in, tracer_of}
+use Rattle.trace_stop.specs.Sound.{names_own}
+use Rattle.trace_stop.specs.Facts.{IsLiveOf, Linked, FitProcess, waited_for, Standing, FitLwp, WithOwner, IsSound}
+use Rattle.trace_stop.proofs.Every.{and_left, or_true, by_bool, All-imply, All-both, All-append, find_some, any_holds, none_of, any_more, count-cons, count-append, count_same}
+use Rattle.trace_stop.proofs.Placed.{Rise-placed, any-placed, count-placed, process_of-other, process_of-placed, All-placed, TracesNone, meets_other, meets_new}
+
+-- a new process with its first LWP, whose user has room for both
+pub record Born (rows : Rows) (p : ProcData) (l : LwpData) : Type 0 where
+  pub home : AtHome p
+  pub free : is_process rows p.pid ≡ false
+  pub tid : InBlock (tid_block p.uid) l.tid
+  pub new : is_lwp rows l.tid ≡ false
+  pub own : l.pid ≡ p.pid
+  pub processes : process_count p.uid rows < 250
+  pub lwps : lwp_count_of p.uid rows < 1000
+  pub live : is_live p ≡ true
+  pub quiet : reporting p ≡ None
+  pub tracer : IfSome p.tracer (IsLiveOf rows p.uid)
+  pub parent : p.parent ≢ 1 → IsLiveOf rows p.uid p.parent
+  pub here : shows l.flags PL_FLAG_EXITED ≡ false
+  pub waits : waited_for l.mode ≡ None
+  pub fits : FitProcess p
+  pub fit_lwp : FitLwp p l
+
+-- numbers
+
+pub not_same : (a b : ℕ) → eqb a b ≡ false → a ≢ b
+not_same a b is same = true≢false (sym (eq-eqb a b same) ∙ is)
+
+LacksLwp-from : (n : ℕ) (ls : List LwpData) → has_lwp n ls ≡ false → LacksLwp n ls
+LacksLwp-from n [] is = tt
+LacksLwp-from n (l ∷ ls) is = by_head (eqb l.tid n) refl is (LacksLwp-from n ls)
+  where
+    by_head : (b : Bool) → eqb l.tid n ≡ b → (b || has_lwp n ls) ≡ false → (has_lwp n ls ≡ false → LacksLwp n ls) → (l.tid ≢ n) × LacksLwp n ls
+    by_head true e h rest = absurd (true≢false h)
+    by_head false e h rest = (not_same l.tid n e, rest h)
+
+lacks_push : (n : ℕ) (ls : List LwpData) (l : LwpData) → LacksLwp n ls → l.tid ≢ n → LacksLwp n (ls ++ (l ∷ []))
+lacks_push n [] l all other = (other, tt)
+lacks_push n (k ∷ ls) l all other = (all.0, lacks_push n ls l all.1 other)
+
+Differ-push : (ls : List LwpData) (l : LwpData) → Differ ls → LacksLwp l.tid ls → Differ (ls ++ (l ∷ []))
+Differ-push [] l all new = (tt, tt)
+Differ-push (k ∷ ls) l all new = (lacks_push k.tid ls l all.0 (λ e. new.0 (sym e)), Differ-push ls l all.1 new.1)
+
+pub differ_new : (rows : Rows) (l : LwpData) → Differ rows.lwps → is_lwp rows l.tid ≡ false → Differ (rows.lwps ++ (l ∷ []))
+differ_new rows l all new = Differ-push rows.lwps l all (LacksLwp-from l.tid rows.lwps new)
+
+InBlock-after : (b : Block) (n : ℕ) → InBlock b n → 0 < b.size → InBlock b (cursor_after b n)
+InBlock-after b n home some = by_end (leb (b.first + b.size) (n + 1)) refl
+  where
+    by_end : (c : Bool) → leb (b.first + b.size) (n + 1) ≡ c → InBlock b (if c then b.first else n + 1)
+    by_end true e = (omega arith, omega arith)
+    by_end false e = let more = leb-false (b.first + b.size) (n + 1) e in let from = home.0 in (omega arith, more)
+
+pub cursors_set : (block : ℕ → Block) (cursors : List ℕ) (v n : ℕ) → IsUser v → length cursors ≡ 64 → InBlock (block v) n → 0 < (block v).size
+    → ((u : ℕ) → IsUser u → InBlock (block u) (get_or cursors (slot u) 0))
+    → (u : ℕ) → IsUser u → InBlock (block u) (get_or (set cursors (slot v) (cursor_after (block v) n)) (slot u) 0)
+cursors_set block cursors v n user len home some all u its = by_user (eqb u v) refl
+  where
+    by_user : (b : Bool) → eqb u v ≡ b → InBlock (block u) (get_or (set cursors (slot v) (cursor_after (block v) n)) (slot u) 0)
+    by_user true e = let same = eqb-true u v e in let at : get_or (set cursors (slot v) (cursor_after (block v) n)) (slot v) 0 ≡ cursor_after (block v) n = get_or-set_same cursors (slot v) (cursor_after (block v) n) 0 (omega (arith, user.0, user.1, len)) in rw (same, at) (InBlock-after (block v) n home some)
+    by_user false e = let ne = not_same u v e in let other : slot v ≢ slot u = omega (arith, user.0, user.1, its.0, its.1) in rw (get_or-set_other cursors (slot v) (slot u) (cursor_after (block v) n) 0 (λ same. other (sym same))) (all u its)
+
+-- What is asked of the rows, with one LWP more
+
+abbrev pub with_last : LwpData → Rows → Rows
+with_last l rows = record rows { lwps = rows.lwps ++ (l ∷ []) }
+
+count_last : {X : Type 0} (q : X → Bool) (xs : List X) (x : X) → count_by q (xs ++ (x ∷ [])) ≡ count_by q xs + cond (q x) 1 0
+count_last q xs x = let all = count-append q xs (x ∷ []) in let last = count-cons q x [] in let none : count_by q [] ≡ 0 = refl in omega (arith, all, last, none)
+
+pub count_more : {X : Type 0} (q : X → Bool) (xs : List X) (x : X) → count_by q xs ≤ count_by q (xs ++ (x ∷ []))
+count_more q xs x = let all = count_last q xs x in omega (arith, all)
+
+any_last : {X : Type 0} (q : X → Bool) (xs : List X) (x : X) → list_any q xs ≡ true → list_any q (xs ++ (x ∷ [])) ≡ true
+any_last q xs x is = list_any-append q xs (x ∷ []) ∙ rw is refl
+
+-- Who is named, in rows where no process is p
+
+pub named_other : (rows : Rows) (n : ℕ) → is_process rows n ≡ false → (u m : ℕ) → IsLiveOf rows u m → m ≢ n
+named_other rows n free u m live = any_holds (λ p. (p.pid == m) && (p.uid == u) && is_live p) (λ p. (p.pid == n) ≡ false) (m ≢ n)
+    (λ p other is same. true≢false (sym (eq-eqb p.pid n (eqb-true p.pid m (and_left (p.pid == m) (p.uid == u) (and_left _ (is_live p) is)) ∙ same)) ∙ other)) rows.processes (none_of (λ p. p.pid == n) rows.processes free) live
+
+traces_none : (rows : Rows) (n : ℕ) → is_process rows n ≡ false → AllByRecursion (Linked rows) rows.processes → TracesNone rows.processes n
+traces_none rows n free all m t is = at_row (process_of m rows.processes) refl is
+  where
+    at_row : (o : Option ProcData) → process_of m rows.processes ≡ o → tracer_in o ≡ Some t → t ≢ n
+    at_row None e h = absurd (grind (arith, h))
+    at_row (Some q) e h = named_other rows n free q.uid t (subst (λ o. IfSome o (IsLiveOf rows q.uid)) h (find_some (λ p. p.pid == m) (Linked rows) rows.processes all q e).0.tracer)
+
+home_other : (rows : Rows) (n : ℕ) → is_process rows n ≡ false → (l : LwpData) → Housed rows l → l.pid ≢ n
+home_other rows n free l home same = true≢false (sym (any_at (λ p. p.pid == n) (λ p. p.pid == l.pid) (λ p e. eq-eqb p.pid n (eqb-true p.pid l.pid e ∙ same)) rows.processes home.0 home.1) ∙ free)
+  where
+    any_at : (q t : ProcData → Bool) → ((p : ProcData) → t p ≡ true → q p ≡ true) → (ps : List ProcData) (p : ProcData) → find t ps ≡ Some p → list_any q ps ≡ true
+    any_at q t h [] p is = absurd (grind (arith, is))
+    any_at q t h (x ∷ ps) p is = grind (arith, h x, any_at q t h ps p, is)
+
+If_more : {X : Type 0} (P Q : X → Type 0) → ((x : X) → P x → Q x) → (o : Option X) → IfSome o P → IfSome o Q
+If_more P Q h None is = tt
+If_more P Q h (Some x) is = h x is
+
+find_any : {X : Type 0} (q : X → Bool) (xs : List X) (x : X) → find q xs ≡ Some x → list_any q xs ≡ true
+find_any q [] x is = absurd (grind (arith, is))
+find_any q (y ∷ xs) x is = grind (arith, find_any q xs x, is)
+
+cond_at_most : (b : Bool) → cond b 1 0 ≤ 1
+cond_at_most true = omega arith
+cond_at_most false = omega arith
+
+module _ (rows : Rows) (p : ProcData) (l : LwpData) (s : IsSound rows) (b : Born rows p l) where
+  abbrev ps : List ProcData
+  ps = rows.processes
+
+  abbrev made : Rows
+  made = add_lwp p.uid l (add_process p rows)
+
+  live_more : (u n : ℕ) → IsLiveOf rows u n → IsLiveOf made u n
+  live_more u n is = any-placed p ps s.stands.rising b.free (λ q. (q.pid == n) && (q.uid == u) && is_live q) ∙ rw is (or_true ((p.pid == n) && (p.uid == u) && is_live p))
+
+  other : AllByRecursion (λ q. q.pid ≢ p.pid) ps
+  other = All-imply (λ q. (q.pid == p.pid) ≡ false) (λ q. q.pid ≢ p.pid) (λ q is. not_same q.pid p.pid is) ps (none_of (λ q. q.pid == p.pid) ps b.free)
+
+  same_tracer : (n : ℕ) → n ≢ p.pid → tracer_of (placed p ps) n ≡ tracer_of ps n
+  same_tracer n ne = ap tracer_in (process_of-other p ps s.stands.rising b.free n ne)
+
+  none : TracesNone ps p.pid
+  none = traces_none rows p.pid b.free s.stands.linked
+
+  linked_old : (q : ProcData) → (q.pid ≢ p.pid) × Linked rows q → Linked made q
+  linked_old q h = record {
+    tracer = If_more (IsLiveOf rows q.uid) (IsLiveOf made q.uid) (live_more q.uid) q.tracer h.1.tracer;
+    parent = λ ne. live_more q.uid q.parent (h.1.parent ne);
+    chain = meets_other ps (placed p ps) p.pid same_tracer none 250 q.pid q.pid h.0 ∙ h.1.chain;
+    named = If_more (λ tid. names_own rows q tid ≡ true) (λ tid. names_own made q tid ≡ true) (λ tid is. any_last (λ k. (k.tid == tid) && (k.pid == q.pid)) rows.lwps l is) (reporting q) h.1.named;
+    peopled = λ live. let few = h.1.peopled live in let more = count_more (λ k. k.pid == q.pid) rows.lwps l in omega (arith, few, more);
+  }
+
+  linked_new : Linked made p
+  linked_new = record {
+    tracer = If_more (IsLiveOf rows p.uid) (IsLiveOf made p.uid) (live_more p.uid) p.tracer b.tracer;
+    parent = λ ne. live_more p.uid p.parent (b.parent ne);
+    chain = meets_new ps (placed p ps) p.pid same_tracer none p.tracer (ap tracer_in (process_of-placed p ps s.stands.rising b.free)) (If_more (IsLiveOf rows p.uid) (λ t. t ≢ p.pid) (named_other rows p.pid b.free p.uid) p.tracer b.tracer) 250;
+    named = subst (λ o. IfSome o (λ tid. names_own made p tid ≡ true)) (sym b.quiet) tt;
+    peopled = λ live. let all = count_last (λ k. k.pid == p.pid) rows.lwps l in let here : cond {A = ℕ} (l.pid == p.pid) 1 0 ≡ 1 = rw (eq-eqb l.pid p.pid b.own) refl in omega (arith, all, here);
+  }
+
+  apart : AllByRecursion (λ k. k.pid ≢ p.pid) rows.lwps
+  apart = All-imply (Housed rows) (λ k. k.pid ≢ p.pid) (home_other rows p.pid b.free) rows.lwps s.stands.housed
+
+  owner_old : (k : LwpData) → k.pid ≢ p.pid → process_of k.pid (placed p ps) ≡ process_of k.pid ps
+  owner_old k ne = process_of-other p ps s.stands.rising b.free k.pid ne
+
+  owner_new : process_of l.pid (placed p ps) ≡ Some p
+  owner_new = ap (λ n. process_of n (placed p ps)) b.own ∙ process_of-placed p ps s.stands.rising b.free
+
+  the_owner : (q : ProcData) → process_of l.pid (placed p ps) ≡ Some q → p ≡ q
+  the_owner q is = let same = sym owner_new ∙ is in grind (arith, same)
+
+  standing_old : (k : LwpData) → (k.pid ≢ p.pid) × WithOwner rows (Standing rows) k → WithOwner made (Standing made) k
+  standing_old k h q at =
+      let old = h.1 q (sym (owner_old k h.0) ∙ at) in
+      record {
+        live = old.live;
+        exited = λ shown. let few = old.exited shown in let more = count_more (λ j. j.pid == q.pid) rows.lwps l in omega (arith, few, more);
+        waits = If_more (IsLiveOf rows q.uid) (IsLiveOf made q.uid) (live_more q.uid) (waited_for k.mode) old.waits;
+      }
+
+  standing_new : WithOwner made (Standing made) l
+  standing_new q at = subst (λ r. Standing made r l) (the_owner q at) (record {
+    live = b.live;
+    exited = λ shown. absurd (true≢false (sym shown ∙ b.here));
+    waits = subst (λ o. IfSome o (IsLiveOf made p.uid)) (sym b.waits) tt;
+  })
+
+  owns_old : (u n : ℕ) → n ≢ p.pid → owns u n (placed p ps) ≡ owns u n ps
+  owns_old u n ne = any-placed p ps s.stands.rising b.free (λ q. (q.pid == n) && (q.uid == u)) ∙ rw (by_bool (p.pid == n) (λ e. ne (sym (eqb-true p.pid n e)))) refl
+
+  owns_new : (u : ℕ) → p.uid ≢ u → owns u l.pid (placed p ps) ≡ false
+  owns_new u ne = any-placed p ps s.stands.rising b.free (λ q. (q.pid == l.pid) && (q.uid == u))
+      ∙ rw (by_bool (p.uid == u) (λ e. ne (eqb-true p.uid u e))) (and_false (p.pid == l.pid) (by_bool (owns u l.pid ps) (λ is. true≢false (sym (any_more (λ q. (q.pid == l.pid) && (q.uid == u)) (λ q. q.pid == p.pid) (λ q e. eq-eqb q.pid p.pid (eqb-true q.pid l.pid (and_left (q.pid == l.pid) (q.uid == u) e) ∙ b.own)) ps is) ∙ b.free))))
+    where
+      and_false : (c : Bool) {d : Bool} → d ≡ false → ((c && false) || d) ≡ false
+      and_false true is = is
+      and_false false is = is
+
+  few_processes : (u : ℕ) → IsUser u → process_count u made ≤ 250
+  few_processes u user = by_user (eqb p.uid u) refl
+    where
+      all : process_count u made ≡ cond (p.uid == u) 1 0 + process_count u rows
+      all = count-placed p ps s.stands.rising b.free (λ q. q.uid == u)
+
+      by_user : (c : Bool) → eqb p.uid u ≡ c → process_count u made ≤ 250
+      by_user true e = let room = b.processes in let same = eqb-true p.uid u e in let most : process_count u rows < 250 = subst (λ w. process_count w rows < 250) same room in let one = cond_at_most (p.uid == u) in omega (arith, all, most, one)
+      by_user false e = let most = s.stands.few_processes u user in let none : cond {A = ℕ} (p.uid == u) 1 0 ≡ 0 = rw e refl in omega (arith, all, most, none)
+
+  few_lwps : (u : ℕ) → IsUser u → lwp_count_of u made ≤ 1000
+  few_lwps u user = by_user (eqb p.uid u) refl
+    where
+      all : lwp_count_of u made ≡ lwp_count_of u rows + cond (owns u l.pid (placed p ps)) 1 0
+      all = count_last (λ k. owns u k.pid (placed p ps)) rows.lwps l ∙ ap (λ n. n + cond (owns u l.pid (placed p ps)) 1 0) (count_same (λ k. owns u k.pid (placed p ps)) (λ k. owns u k.pid ps) rows.lwps (All-imply (λ k. k.pid ≢ p.pid) (λ k. owns u k.pid (placed p ps) ≡ owns u k.pid ps) (λ k ne. owns_old u k.pid ne) rows.lwps apart))
+
+      by_user : (c : Bool) → eqb p.uid u ≡ c → lwp_count_of u made ≤ 1000
+      by_user true e = let same = eqb-true p.uid u e in let most : lwp_count_of u rows < 1000 = subst (λ w. lwp_count_of w rows < 1000) same b.lwps in let one = cond_at_most (owns u l.pid (placed p ps)) in omega (arith, all, most, one)
+      by_user false e = let most = s.stands.few_lwps u user in let none : cond {A = ℕ} (owns u l.pid (placed p ps)) 1 0 ≡ 0 = rw (owns_new u (not_same p.uid u e)) refl in omega (arith, all, most, none)
+
+  housed_old : (k : LwpData) → (k.pid ≢ p.pid) × Housed rows k → Housed made k
+  housed_old k h = (h.1.0, owner_old k h.0 ∙ h.1.1, h.1.2)
+
+  pub born_sound : IsSound made
+  born_sound = record {
+    stands = record {
+      rising = Rise-placed p ps s.stands.rising;
+      differ = differ_new rows l s.stands.differ b.new;
+      homes = All-placed AtHome p ps s.stands.homes b.home;
+      housed = All-append (Housed made) rows.lwps (l ∷ []) (All-imply (λ k. (k.pid ≢ p.pid) × Housed rows k) (Housed made) housed_old rows.lwps (All-both _ (Housed rows) rows.lwps apart s.stands.housed)) ((p, owner_new, b.tid), tt);
+      pid_slots = length-set rows.pid_cursors (slot p.uid) _ ∙ s.stands.pid_slots;
+      tid_slots = length-set rows.tid_cursors (slot p.uid) _ ∙ s.stands.tid_slots;
+      pid_cursors = cursors_set pid_block rows.pid_cursors p.uid p.pid b.home.user s.stands.pid_slots b.home.block (omega arith) s.stands.pid_cursors;
+      tid_cursors = cursors_set tid_block rows.tid_cursors p.uid l.tid b.home.user s.stands.tid_slots b.tid (omega arith) s.stands.tid_cursors;
+      few_processes = few_processes;
+      few_lwps = few_lwps;
+      linked = All-placed (Linked made) p ps (All-imply (λ q. (q.pid ≢ p.pid) × Linked rows q) (Linked made) linked_old ps (All-both _ (Linked rows) ps other s.stands.linked)) linked_new;
+      standing = All-append (WithOwner made (Standing made)) rows.lwps (l ∷ []) (All-imply (λ k. (k.pid ≢ p.pid) × WithOwner rows (Standing rows) k) _ standing_old rows.lwps (All-both _ (WithOwner rows (Standing rows)) rows.lwps apart s.stands.standing)) (standing_new, tt);
+    };
+    processes = All-placed FitProcess p ps s.processes b.fits;
+    lwps = All-append (WithOwner made FitLwp) rows.lwps (l ∷ []) (All-imply (λ k. (k.pid ≢ p.pid) × WithOwner rows FitLwp k) (WithOwner made FitLwp) (λ k h q at. h.1 q (sym (owner_old k h.0) ∙ at)) rows.lwps (All-both _ (WithOwner rows FitLwp) rows.lwps apart s.lwps)) ((λ q at. subst (λ r. FitLwp r l) (the_owner q at) b.fit_lwp), tt);
+  }

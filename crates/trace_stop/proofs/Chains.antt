@@ -1,0 +1,262 @@
+-- Chains of tracers end within as many links as a user has processes, less one.
+use Rattle.std.proofs.Common.{◌≡◌, ℕ, zero, suc, ◌+◌, ◌-◌, ◌≤◌, List, [], ◌∷◌, length, filter, find, Bool, true, false, cond, not, ◌&&◌, ◌||◌, ◌==◌, Option, Some, None, IfSome, is_some, refl, sym, ap, ◌∙◌, arith, eqb, true≢false, eqb-true, eq-eqb, subst, inl, inr}
+use Rattle.std.specs.Prelude.{count_by}
+use Rattle.std.specs.List.{AllByRecursion, list_any}
+use Rattle.std.proofs.lemmas.Bool.{cases_lt}
+use Rattle.proc_table.specs.declared.ProcData.{ProcData}
+use Rattle.proc_table.specs.Processes.{process_of, is_live}
+use Rattle.proc_table.specs.Rows.{Rows}
+use Rattle.proc_table.specs.Kept.{AtHome}
+use Rattle.trace_stop.specs.End.{tracer_in, tracer_of, holds_of, meets}
+use Rattle.trace_stop.specs.Facts.{IsLiveOf, Linked, Stands}
+use Rattle.trace_stop.specs.Laws.{onward, chain, ChainsEnd, ChainsMeet, TraceeDeeper}
+use Rattle.trace_stop.proofs.Every.{and_left, and_right, by_bool, All-imply, All-both, any_holds, any_more, find_some, count-cons}
+use Rattle.trace_stop.proofs.Passes.{own_rows}
+use Rattle.trace_stop.proofs.LeafLaw.{meets-suc, meets-zero, meets-more}
+
+-- Numbers that differ, each of a user's row, are no more than the user has rows
+
+abbrev pub is_in : List ℕ → ℕ → Bool
+is_in xs x = list_any (λ y. y == x) xs
+
+abbrev AllDiffer : List ℕ → Type 0
+AllDiffer [] = Unit {0}
+AllDiffer (x ∷ xs) = (is_in xs x ≡ false) × AllDiffer xs
+
+abbrev is_row_of : ℕ → ℕ → ProcData → Bool
+is_row_of u x p = (p.pid == x) && (p.uid == u)
+
+abbrev without_row : ℕ → List ProcData → List ProcData
+without_row x ps = filter (λ p. not (p.pid == x)) ps
+
+abbrev of_user : ℕ → ProcData → Bool
+of_user u p = p.uid == u
+
+count-le : (u x : ℕ) (ps : List ProcData) → count_by (of_user u) (without_row x ps) ≤ count_by (of_user u) ps
+count-le u x [] = omega arith
+count-le u x (p ∷ ps) = at_head (eqb p.pid x) (count-le u x ps) (count-cons (of_user u) p ps)
+  where
+    at_head : (b : Bool) → count_by (of_user u) (without_row x ps) ≤ count_by (of_user u) ps → count_by (of_user u) (p ∷ ps) ≡ cond (of_user u p) 1 0 + count_by (of_user u) ps
+        → count_by (of_user u) (cond (not b) (p ∷ without_row x ps) (without_row x ps)) ≤ count_by (of_user u) (p ∷ ps)
+    at_head true le all = omega (arith, le, all)
+    at_head false le all = let some = count-cons (of_user u) p (without_row x ps) in omega (arith, le, all, some)
+
+count-less : (u x : ℕ) (ps : List ProcData) → list_any (is_row_of u x) ps ≡ true → suc (count_by (of_user u) (without_row x ps)) ≤ count_by (of_user u) ps
+count-less u x [] is = absurd (true≢false (sym is))
+count-less u x (p ∷ ps) is = at_head (eqb p.pid x) (eqb p.uid u) refl is (count-less u x ps) (count-le u x ps) (count-cons (of_user u) p ps)
+  where
+    at_head : (b c : Bool) → eqb p.uid u ≡ c → ((b && c) || list_any (is_row_of u x) ps) ≡ true → (list_any (is_row_of u x) ps ≡ true → suc (count_by (of_user u) (without_row x ps)) ≤ count_by (of_user u) ps)
+        → count_by (of_user u) (without_row x ps) ≤ count_by (of_user u) ps → count_by (of_user u) (p ∷ ps) ≡ cond (of_user u p) 1 0 + count_by (of_user u) ps
+        → suc (count_by (of_user u) (cond (not b) (p ∷ without_row x ps) (without_row x ps))) ≤ count_by (of_user u) (p ∷ ps)
+    at_head true true e h rest le all = let one : ◌≡◌ {A = ℕ} (cond (of_user u p) 1 0) 1 = ap (λ b. cond {A = ℕ} b 1 0) e in omega (arith, le, all, one)
+    at_head true false e h rest le all = let less = rest h in omega (arith, less, all)
+    at_head false c e h rest le all = let less = rest h in let some = count-cons (of_user u) p (without_row x ps) in omega (arith, less, all, some)
+
+still_in : (u x y : ℕ) → (y == x) ≡ false → (ps : List ProcData) → list_any (is_row_of u y) ps ≡ true → list_any (is_row_of u y) (without_row x ps) ≡ true
+still_in u x y other [] is = is
+still_in u x y other (p ∷ ps) is = at_head (eqb p.pid x) refl is (still_in u x y other ps)
+  where
+    drop_head : eqb p.pid x ≡ true → (b : Bool) → eqb p.pid y ≡ b → ((b && (p.uid == u)) || list_any (is_row_of u y) ps) ≡ true → list_any (is_row_of u y) ps ≡ true
+    drop_head here true same h = absurd (true≢false (sym (eq-eqb y x (sym (eqb-true p.pid y same) ∙ eqb-true p.pid x here)) ∙ other))
+    drop_head here false e h = h
+
+    keep_head : (b : Bool) → (b || list_any (is_row_of u y) ps) ≡ true → (list_any (is_row_of u y) ps ≡ true → list_any (is_row_of u y) (without_row x ps) ≡ true) → (b || list_any (is_row_of u y) (without_row x ps)) ≡ true
+    keep_head true h rest = refl
+    keep_head false h rest = rest h
+
+    at_head : (b : Bool) → eqb p.pid x ≡ b → (is_row_of u y p || list_any (is_row_of u y) ps) ≡ true → (list_any (is_row_of u y) ps ≡ true → list_any (is_row_of u y) (without_row x ps) ≡ true)
+        → list_any (is_row_of u y) (cond (not b) (p ∷ without_row x ps) (without_row x ps)) ≡ true
+    at_head true here h rest = rest (drop_head here (eqb p.pid y) refl h)
+    at_head false e h rest = keep_head (is_row_of u y p) h rest
+
+others : (x : ℕ) (xs : List ℕ) → is_in xs x ≡ false → AllByRecursion (λ y. (y == x) ≡ false) xs
+others x [] is = tt
+others x (y ∷ ys) is = at_head (eqb y x) refl is (others x ys)
+  where
+    at_head : (b : Bool) → eqb y x ≡ b → (b || is_in ys x) ≡ false → (is_in ys x ≡ false → AllByRecursion (λ z. (z == x) ≡ false) ys) → ((y == x) ≡ false) × AllByRecursion (λ z. (z == x) ≡ false) ys
+    at_head true e h rest = absurd (true≢false h)
+    at_head false e h rest = (e, rest h)
+
+no_more : (u : ℕ) (xs : List ℕ) (ps : List ProcData) → AllDiffer xs → AllByRecursion (λ x. list_any (is_row_of u x) ps ≡ true) xs → length xs ≤ count_by (of_user u) ps
+no_more u [] ps differ rows = omega arith
+no_more u (x ∷ xs) ps differ rows =
+    let rest = no_more u xs (without_row x ps) differ.1
+    (All-imply (λ y. ((y == x) ≡ false) × (list_any (is_row_of u y) ps ≡ true)) _ (λ y h. still_in u x y h.0 ps h.1) xs (All-both _ _ xs (others x xs differ.0) rows.1)) in
+    let less = count-less u x ps rows.0 in
+    omega (arith, rest, less)
+
+-- What a chain passes is what its links meet
+
+any_found : {X : Type 0} (q t : X → Bool) (xs : List X) (x : X) → find q xs ≡ Some x → t x ≡ true → list_any (λ y. q y && t y) xs ≡ true
+any_found q t [] x is has = absurd (true≢false (sym (ap is_some is)))
+any_found {X} q t (y ∷ ys) x is has = at_head (q y) refl is (any_found q t ys x)
+  where
+    some_same : (a b : X) → Some a ≡ Some b → a ≡ b
+    some_same a b e = cc
+
+    at_head : (b : Bool) → q y ≡ b → cond b (Some y) (find q ys) ≡ Some x → (find q ys ≡ Some x → t x ≡ true → list_any (λ z. q z && t z) ys ≡ true) → ((b && t y) || list_any (λ z. q z && t z) ys) ≡ true
+    at_head true e h rest = rw (ap t (some_same y x h) ∙ has) refl
+    at_head false e h rest = rest h has
+
+pub chain-suc : (k : ℕ) (ps : List ProcData) (n : ℕ) → chain (suc k) ps n ≡ n ∷ onward (chain k ps) (tracer_of ps n)
+unfolding chain
+chain-suc k ps n = refl
+
+pub chain-zero : (ps : List ProcData) (n : ℕ) → chain zero ps n ≡ n ∷ []
+unfolding chain
+chain-zero ps n = refl
+
+onward_meets : (k : ℕ) (ps : List ProcData) (x : ℕ) → ((t : ℕ) → is_in (chain k ps t) x ≡ ((t == x) || meets k ps x t)) → (o : Option ℕ) → is_in (onward (chain k ps) o) x ≡ holds_of (λ t. (t == x) || meets k ps x t) o
+onward_meets k ps x h None = refl
+onward_meets k ps x h (Some t) = h t
+
+pub chain_meets : (k : ℕ) (ps : List ProcData) (x t : ℕ) → is_in (chain k ps t) x ≡ ((t == x) || meets k ps x t)
+chain_meets zero ps x t = ap (λ xs. is_in xs x) (chain-zero ps t) ∙ ap (λ b. (t == x) || b) (sym (meets-zero ps x t))
+chain_meets (suc k) ps x t =
+    ap (λ xs. is_in xs x) (chain-suc k ps t)
+    ∙ ap (λ b. (t == x) || b) (onward_meets k ps x (chain_meets k ps x) (tracer_of ps t) ∙ sym (meets-suc k ps x t))
+
+pub meets-onward : (k : ℕ) (ps : List ProcData) (x n : ℕ) → meets (suc k) ps x n ≡ is_in (onward (chain k ps) (tracer_of ps n)) x
+meets-onward k ps x n = meets-suc k ps x n ∙ sym (onward_meets k ps x (chain_meets k ps x) (tracer_of ps n))
+
+pub meets-up : (j k : ℕ) (ps : List ProcData) (x n : ℕ) → meets k ps x n ≡ true → meets (j + k) ps x n ≡ true
+meets-up zero k ps x n is = subst (λ m. meets m ps x n ≡ true) (omega arith) is
+meets-up (suc j) k ps x n is = subst (λ m. meets m ps x n ≡ true) (omega arith) (meets-more (j + k) ps x n (meets-up j k ps x n is))
+
+meets_within : (k m : ℕ) → k ≤ m → (ps : List ProcData) (x n : ℕ) → meets k ps x n ≡ true → meets m ps x n ≡ true
+meets_within k m le ps x n is = subst (λ i. meets i ps x n ≡ true) (omega (arith, le)) (meets-up (m - k) k ps x n is)
+
+-- A chain of rows without a ring
+
+module _ (rows : Rows) (s : Stands rows) where
+  abbrev ps : List ProcData
+  ps = rows.processes
+
+  pub no_ring : (n : ℕ) → meets 250 ps n n ≡ false
+  no_ring n = at_row (process_of n ps) refl
+    where
+      at_row : (o : Option ProcData) → process_of n ps ≡ o → meets 250 ps n n ≡ false
+      at_row None is = meets-suc 249 ps n n ∙ ap (λ o. holds_of (λ t. (t == n) || meets 249 ps n t) (tracer_in o)) is
+      at_row (Some r) is = let h = find_some (λ x. x.pid == n) (Linked rows) ps s.linked r is in subst (λ m. meets 250 ps m m ≡ false) (eqb-true r.pid n h.1) h.0.chain
+
+  onward_differs : (k : ℕ) → ((t : ℕ) → AllDiffer (chain k ps t)) → (o : Option ℕ) → AllDiffer (onward (chain k ps) o)
+  onward_differs k h None = tt
+  onward_differs k h (Some t) = h t
+
+  chain_differs : (k : ℕ) → k ≤ 250 → (n : ℕ) → AllDiffer (chain k ps n)
+  chain_differs zero le n = subst AllDiffer (sym (chain-zero ps n)) (refl, tt)
+  chain_differs (suc k) le n = subst AllDiffer (sym (chain-suc k ps n)) (
+    by_bool (is_in (onward (chain k ps) (tracer_of ps n)) n) (λ is. true≢false (sym (meets_within (suc k) 250 le ps n n (meets-onward k ps n n ∙ is)) ∙ no_ring n)),
+    onward_differs k (chain_differs k (omega (arith, le))) (tracer_of ps n),
+  )
+
+  abbrev OfUser : ℕ → ℕ → Type 0
+  OfUser u x = list_any (is_row_of u x) ps ≡ true
+
+  of_user-found : (u x : ℕ) (r : ProcData) → process_of x ps ≡ Some r → r.uid ≡ u → OfUser u x
+  of_user-found u x r is mine = any_found (λ p. p.pid == x) (of_user u) ps r is (eq-eqb r.uid u mine)
+
+  of_user-live : (u x : ℕ) → IsLiveOf rows u x → OfUser u x
+  of_user-live u x is = any_more (λ p. (p.pid == x) && (p.uid == u) && is_live p) (is_row_of u x) (λ p h. and_left (is_row_of u x p) (is_live p) h) ps is
+
+  -- the row of a user, or nobody: its tracer is of the same user
+  tracer_of_user : (u x : ℕ) → OfUser u x → IfSome (tracer_of ps x) (OfUser u)
+  tracer_of_user u x is = any_holds (is_row_of u x) (λ r. (process_of r.pid ps ≡ Some r) × Linked rows r) (IfSome (tracer_of ps x) (OfUser u))
+      (λ r h e.
+      let same = eqb-true r.pid x (and_left (r.pid == x) (r.uid == u) e) in
+      let mine = eqb-true r.uid u (and_right (r.pid == x) (r.uid == u) e) in
+      subst (λ o. IfSome (tracer_in o) (OfUser u)) (sym h.0 ∙ ap (λ m. process_of m ps) same) (subst (λ v. IfSome r.tracer (OfUser v)) mine (at_tracer r.uid r.tracer h.1.tracer)))
+      ps (All-both _ (Linked rows) ps (own_rows ps s.rising) s.linked) is
+    where
+      at_tracer : (v : ℕ) (o : Option ℕ) → IfSome o (IsLiveOf rows v) → IfSome o (OfUser v)
+      at_tracer v None h = tt
+      at_tracer v (Some t) h = of_user-live v t h
+
+  onward_rows : (u k : ℕ) → ((t : ℕ) → OfUser u t → AllByRecursion (OfUser u) (chain k ps t)) → (o : Option ℕ) → IfSome o (OfUser u) → AllByRecursion (OfUser u) (onward (chain k ps) o)
+  onward_rows u k h None is = tt
+  onward_rows u k h (Some t) is = h t is
+
+  chain_rows : (u k n : ℕ) → OfUser u n → AllByRecursion (OfUser u) (chain k ps n)
+  chain_rows u zero n is = subst (AllByRecursion (OfUser u)) (sym (chain-zero ps n)) (is, tt)
+  chain_rows u (suc k) n is = subst (AllByRecursion (OfUser u)) (sym (chain-suc k ps n)) (is, onward_rows u k (chain_rows u k) (tracer_of ps n) (tracer_of_user u n is))
+
+  short : (n : ℕ) → length (chain 250 ps n) ≤ 250
+  short n = at_row (process_of n ps) refl
+    where
+      at_row : (o : Option ProcData) → process_of n ps ≡ o → length (chain 250 ps n) ≤ 250
+      at_row None is =
+          let bare : chain 250 ps n ≡ n ∷ [] = chain-suc 249 ps n ∙ ap (λ o. n ∷ onward (chain 249 ps) (tracer_in o)) is in
+          let one : length (chain 250 ps n) ≡ 1 = ap length bare in
+          omega (arith, one)
+      at_row (Some r) is =
+          let home = (find_some (λ x. x.pid == n) AtHome ps s.homes r is).0 in
+          let few = s.few_processes r.uid home.user in
+          let no = no_more r.uid (chain 250 ps n) ps (chain_differs 250 (omega arith) n) (chain_rows r.uid 250 n (of_user-found r.uid n r is refl)) in
+          omega (arith, few, no)
+
+-- one link more finds nothing more where a chain has ended
+pub chain-ended : (k : ℕ) (xs : List ProcData) (n : ℕ) → length (chain (suc k) xs n) ≤ suc k → chain (suc k) xs n ≡ chain k xs n
+chain-ended zero xs n le = chain-suc zero xs n ∙ at_link (tracer_of xs n) (subst (λ (ns : List ℕ). length ns ≤ 1) (chain-suc zero xs n) le) ∙ sym (chain-zero xs n)
+  where
+    at_link : (o : Option ℕ) → length (n ∷ onward (chain zero xs) o) ≤ 1 → n ∷ onward (chain zero xs) o ≡ n ∷ []
+    at_link None h = refl
+    at_link (Some t) h = let two : length (n ∷ chain zero xs t) ≤ 1 = h in let one : length (chain zero xs t) ≡ 1 = ap length (chain-zero xs t) in absurd (omega (arith, two, one))
+chain-ended (suc k) xs n le =
+    chain-suc (suc k) xs n ∙ at_link (tracer_of xs n) (subst (λ (ns : List ℕ). length ns ≤ suc (suc k)) (chain-suc (suc k) xs n) le) (chain-ended k xs) ∙ sym (chain-suc k xs n)
+  where
+    at_link : (o : Option ℕ) → length (n ∷ onward (chain (suc k) xs) o) ≤ suc (suc k) → ((t : ℕ) → length (chain (suc k) xs t) ≤ suc k → chain (suc k) xs t ≡ chain k xs t)
+        → n ∷ onward (chain (suc k) xs) o ≡ n ∷ onward (chain k xs) o
+    at_link None h next = refl
+    at_link (Some t) h next = ap (λ ns. n ∷ ns) (next t (omega (arith, h)))
+
+onward_same : (f g : ℕ → List ℕ) → ((t : ℕ) → f t ≡ g t) → (o : Option ℕ) → onward f o ≡ onward g o
+onward_same f g h None = refl
+onward_same f g h (Some t) = h t
+
+module _ (rows : Rows) (s : Stands rows) where
+  abbrev qs : List ProcData
+  qs = rows.processes
+
+  settled : (n : ℕ) → chain 250 qs n ≡ chain 249 qs n
+  settled n = chain-ended 249 qs n (short rows s n)
+
+  chain-later : (j n : ℕ) → chain (j + 249) qs n ≡ chain 249 qs n
+  chain-later zero n = refl
+  chain-later (suc j) n =
+      subst (λ k. chain k qs n ≡ n ∷ onward (chain (j + 249) qs) (tracer_of qs n)) (omega arith) (chain-suc (j + 249) qs n)
+      ∙ ap (λ ns. n ∷ ns) (onward_same (chain (j + 249) qs) (chain 249 qs) (chain-later j) (tracer_of qs n))
+      ∙ sym (chain-suc 249 qs n) ∙ settled n
+
+  -- a tracer's chain is shorter
+  tracer_short : (n t : ℕ) → tracer_of qs n ≡ Some t → chain 249 qs t ≡ chain 248 qs t
+  tracer_short n t is =
+      let made : chain 250 qs n ≡ n ∷ chain 249 qs t = chain-suc 249 qs n ∙ ap (λ o. n ∷ onward (chain 249 qs) o) is in
+      let le = short rows s n in
+      let one : length (chain 250 qs n) ≡ suc (length (chain 249 qs t)) = ap length made in
+      chain-ended 248 qs t (omega (arith, le, one))
+
+  found_again : (k n x : ℕ) → 249 ≤ k → is_in (onward (chain k qs) (tracer_of qs n)) x ≡ is_in (onward (chain 248 qs) (tracer_of qs n)) x
+  found_again k n x le = at_link (tracer_of qs n) refl
+    where
+      at_link : (o : Option ℕ) → tracer_of qs n ≡ o → is_in (onward (chain k qs) o) x ≡ is_in (onward (chain 248 qs) o) x
+      at_link None is = refl
+      at_link (Some t) is = ap (λ ns. is_in ns x) (subst (λ i. chain i qs t ≡ chain 249 qs t) (omega (arith, le)) (chain-later (k - 249) t) ∙ tracer_short n t is)
+
+  meets_all : (links x n : ℕ) → meets links qs x n ≡ true → meets 249 qs x n ≡ true
+  meets_all zero x n is = absurd (true≢false (sym is ∙ meets-zero qs x n))
+  meets_all (suc k) x n is = elim (cases_lt k 249) [
+    | inl small ↦ meets_within (suc k) 249 (omega (arith, small)) qs x n is
+    | inr large ↦ meets-onward 248 qs x n ∙ sym (found_again k n x large) ∙ sym (meets-onward k qs x n) ∙ is
+  ]
+
+  deeper : (y x : ℕ) → tracer_of qs y ≡ Some x → length (chain 250 qs y) ≡ suc (length (chain 250 qs x))
+  deeper y x is = ap length (chain-suc 249 qs y ∙ ap (λ o. y ∷ onward (chain 249 qs) o) is) ∙ ap (λ (ns : List ℕ). suc (length ns)) (sym (settled x))
+
+pub chains_end : ChainsEnd
+chains_end rows n s = short rows s n
+
+pub chains_meet : ChainsMeet
+chains_meet rows links p n s is = meets_all rows s links p n is
+
+pub tracee_deeper : TraceeDeeper
+tracee_deeper rows tracee tracer s is = deeper rows s tracee tracer is

@@ -1,0 +1,135 @@
+-- A fact of each element of a list, and tests and counts on lists.
+use Rattle.std.proofs.Common.{◌≡◌, ◌+◌, List, [], ◌∷◌, ◌++◌, filter, find, filter_map, Bool, true, false, cond, not, ◌&&◌, ◌||◌, Option, Some, None, IfSome, refl, sym, ◌∙◌, arith, true≢false, subst}
+use Rattle.std.specs.Prelude.{count_by}
+use Rattle.std.specs.List.{AllByRecursion, list_any, list_all, cons_option}
+use Rattle.std.proofs.lemmas.List.Sums.{sum_by-cons, sum_by-append}
+
+pub and_left : (a b : Bool) → (a && b) ≡ true → a ≡ true
+and_left true b is = refl
+and_left false b is = absurd (true≢false (sym is))
+
+pub and_right : (a b : Bool) → (a && b) ≡ true → b ≡ true
+and_right true b is = is
+and_right false b is = absurd (true≢false (sym is))
+
+pub both : (a b : Bool) → a ≡ true → b ≡ true → (a && b) ≡ true
+both true b is it = it
+both false b is it = is
+
+pub implies_at : (a b : Bool) → (not a || b) ≡ true → a ≡ true → b ≡ true
+implies_at true b is it = is
+implies_at false b is it = absurd (true≢false (sym it))
+
+pub implies_from : (a b : Bool) → (a ≡ true → b ≡ true) → (not a || b) ≡ true
+implies_from true b h = h refl
+implies_from false b h = refl
+
+pub not_true : (a : Bool) → not a ≡ true → a ≡ false
+not_true true is = absurd (true≢false (sym is))
+not_true false is = refl
+
+pub or_true : (b : Bool) → (b || true) ≡ true
+or_true true = refl
+or_true false = refl
+
+pub or_left : (a b : Bool) → a ≡ true → (a || b) ≡ true
+or_left true b is = refl
+or_left false b is = absurd (true≢false (sym is))
+
+pub by_bool : (b : Bool) → (b ≡ true → ⊥) → b ≡ false
+by_bool true h = absurd (h refl)
+by_bool false h = refl
+
+-- a fact of each element
+
+pub All-from_list_all : {X : Type 0} (q : X → Bool) (xs : List X) → list_all q xs ≡ true → AllByRecursion (λ x. q x ≡ true) xs
+All-from_list_all q [] is = tt
+All-from_list_all q (x ∷ xs) is = (and_left (q x) (list_all q xs) is, All-from_list_all q xs (and_right (q x) (list_all q xs) is))
+
+pub list_all-from_All : {X : Type 0} (q : X → Bool) (xs : List X) → AllByRecursion (λ x. q x ≡ true) xs → list_all q xs ≡ true
+list_all-from_All q [] all = refl
+list_all-from_All q (x ∷ xs) all = both (q x) (list_all q xs) all.0 (list_all-from_All q xs all.1)
+
+pub All-imply : {X : Type 0} (P Q : X → Type 0) → ((x : X) → P x → Q x) → (xs : List X) → AllByRecursion P xs → AllByRecursion Q xs
+All-imply P Q h [] all = tt
+All-imply P Q h (x ∷ xs) all = (h x all.0, All-imply P Q h xs all.1)
+
+pub All-any : {X : Type 0} (P : X → Type 0) → ((x : X) → P x) → (xs : List X) → AllByRecursion P xs
+All-any P h [] = tt
+All-any P h (x ∷ xs) = (h x, All-any P h xs)
+
+pub All-both : {X : Type 0} (P Q : X → Type 0) (xs : List X) → AllByRecursion P xs → AllByRecursion Q xs → AllByRecursion (λ x. P x × Q x) xs
+All-both P Q [] all every = tt
+All-both P Q (x ∷ xs) all every = ((all.0, every.0), All-both P Q xs all.1 every.1)
+
+pub All-append : {X : Type 0} (P : X → Type 0) (xs ys : List X) → AllByRecursion P xs → AllByRecursion P ys → AllByRecursion P (xs ++ ys)
+All-append P [] ys all every = every
+All-append P (x ∷ xs) ys all every = (all.0, All-append P xs ys all.1 every)
+
+pub All-filter : {X : Type 0} (q : X → Bool) (P : X → Type 0) (xs : List X) → AllByRecursion P xs → AllByRecursion P (filter q xs)
+All-filter q P [] all = tt
+All-filter q P (x ∷ xs) all = kept (q x) (All-filter q P xs all.1)
+  where
+    kept : (b : Bool) → AllByRecursion P (filter q xs) → AllByRecursion P (cond b (x ∷ filter q xs) (filter q xs))
+    kept false rest = rest
+    kept true rest = (all.0, rest)
+
+pub All-edit : {X Y : Type 0} (f : X → Option Y) (P : X → Type 0) (Q : Y → Type 0) → ((x : X) → P x → IfSome (f x) Q) → (xs : List X) → AllByRecursion P xs → AllByRecursion Q (filter_map f xs)
+All-edit f P Q h [] all = tt
+All-edit {X} {Y} f P Q h (x ∷ xs) all = kept (f x) (h x all.0) (All-edit f P Q h xs all.1)
+  where
+    kept : (o : Option Y) → IfSome o Q → AllByRecursion Q (filter_map f xs) → AllByRecursion Q (cons_option o (filter_map f xs))
+    kept None g rest = rest
+    kept (Some y) g rest = (g, rest)
+
+pub find_some : {X : Type 0} (q : X → Bool) (P : X → Type 0) (xs : List X) → AllByRecursion P xs → (x : X) → find q xs ≡ Some x → P x × (q x ≡ true)
+find_some q P [] all x is = grind (arith, is)
+find_some {X} q P (y ∷ xs) all x is = at_head (q y) refl is (find_some q P xs all.1 x)
+  where
+    at_head : (b : Bool) → q y ≡ b → cond b (Some y) (find q xs) ≡ Some x → (find q xs ≡ Some x → P x × (q x ≡ true)) → P x × (q x ≡ true)
+    at_head true e h rest = let same : y ≡ x = grind (arith, h) in subst (λ z. P z × (q z ≡ true)) same (all.0, e)
+    at_head false e h rest = rest h
+
+-- what holds of every element holds of one that passes
+pub any_holds : {X : Type 0} (q : X → Bool) (P : X → Type 0) (R : Type 0) → ((x : X) → P x → q x ≡ true → R) → (xs : List X) → AllByRecursion P xs → list_any q xs ≡ true → R
+any_holds q P R h [] all is = absurd (true≢false (sym is))
+any_holds {X} q P R h (x ∷ xs) all is = by_head (q x) refl is (any_holds q P R h xs all.1)
+  where
+    by_head : (b : Bool) → q x ≡ b → (b || list_any q xs) ≡ true → (list_any q xs ≡ true → R) → R
+    by_head true here k rest = h x all.0 here
+    by_head false here k rest = rest k
+
+pub none_of : {X : Type 0} (q : X → Bool) (xs : List X) → list_any q xs ≡ false → AllByRecursion (λ x. q x ≡ false) xs
+none_of q [] is = tt
+none_of {X} q (x ∷ xs) is = by_head (q x) refl is (none_of q xs)
+  where
+    by_head : (b : Bool) → q x ≡ b → (b || list_any q xs) ≡ false → (list_any q xs ≡ false → AllByRecursion (λ y. q y ≡ false) xs) → (q x ≡ false) × AllByRecursion (λ y. q y ≡ false) xs
+    by_head true e h rest = absurd (true≢false h)
+    by_head false e h rest = (e, rest h)
+
+pub none_passes : {X : Type 0} (q : X → Bool) (P : X → Type 0) → ((x : X) → P x → q x ≡ false) → (xs : List X) → AllByRecursion P xs → list_any q xs ≡ false
+none_passes q P h [] all = refl
+none_passes q P h (x ∷ xs) all = rw (h x all.0) (none_passes q P h xs all.1)
+
+pub any_more : {X : Type 0} (q t : X → Bool) → ((x : X) → q x ≡ true → t x ≡ true) → (xs : List X) → list_any q xs ≡ true → list_any t xs ≡ true
+any_more q t h [] is = is
+any_more {X} q t h (x ∷ xs) is = by_head (q x) refl is (any_more q t h xs)
+  where
+    by_head : (b : Bool) → q x ≡ b → (b || list_any q xs) ≡ true → (list_any q xs ≡ true → list_any t xs ≡ true) → (t x || list_any t xs) ≡ true
+    by_head true e k rest = rw (h x e) refl
+    by_head false e k rest = rw (rest k) (or_true (t x))
+
+pub count-cons : {X : Type 0} (q : X → Bool) (x : X) (xs : List X) → count_by q (x ∷ xs) ≡ cond (q x) 1 0 + count_by q xs
+count-cons q x xs = sum_by-cons (λ y. cond (q y) 1 0) x xs
+
+pub count-append : {X : Type 0} (q : X → Bool) (xs ys : List X) → count_by q (xs ++ ys) ≡ count_by q xs + count_by q ys
+count-append q xs ys = sum_by-append (λ y. cond (q y) 1 0) xs ys
+
+-- tests that agree on each element
+pub count_same : {X : Type 0} (q t : X → Bool) (xs : List X) → AllByRecursion (λ x. q x ≡ t x) xs → count_by q xs ≡ count_by t xs
+count_same q t [] all = refl
+count_same q t (x ∷ xs) all = count-cons q x xs ∙ (rw (all.0, count_same q t xs all.1) refl ∙ sym (count-cons t x xs))
+
+pub find_same : {X : Type 0} (q t : X → Bool) (xs : List X) → AllByRecursion (λ x. q x ≡ t x) xs → find q xs ≡ find t xs
+find_same q t [] all = refl
+find_same q t (x ∷ xs) all = grind (arith, all.0, find_same q t xs all.1)

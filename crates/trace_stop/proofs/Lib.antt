@@ -1,0 +1,13 @@
+pub mod Every
+pub mod FromSound
+pub mod Placed
+pub mod Born
+pub mod Passes
+pub mod Doomed
+pub mod Turned
+pub mod Twice
+pub mod Tells
+pub mod LeafFirst
+pub mod LeafLaw
+pub mod Chains
+pub mod Leaves

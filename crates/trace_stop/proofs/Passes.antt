@@ -1,0 +1,159 @@
+-- Lists edited twice, and what is found after an edit.
+use Rattle.std.proofs.Common.{◌≡◌, ℕ, ◌<◌, List, [], ◌∷◌, filter_map, Bool, true, false, cond, ◌||◌, ◌==◌, Option, Some, None, IfSome, refl, sym, ap, ◌∙◌, arith, eqb, eqb-true, eq-eqb}
+use Rattle.std.specs.Option.{option_and_then}
+use Rattle.std.specs.List.{AllByRecursion, list_any, cons_option}
+use Rattle.std.proofs.lemmas.Bool.Decides.{nat_tests}
+use Rattle.proc_table.specs.declared.ProcData.{ProcData}
+use Rattle.lwp_table.specs.declared.LwpData.{LwpData}
+use Rattle.proc_table.specs.Processes.{process_of, is_live}
+use Rattle.proc_table.specs.Rows.{Rows, by_owner, each}
+use Rattle.proc_table.specs.Kept.{AllAbove, Rise}
+use Rattle.trace_stop.proofs.Every.{find_some, All-imply, All-both}
+
+pub filter_map_same : {X Y : Type 0} (f g : X → Option Y) (xs : List X) → AllByRecursion (λ x. f x ≡ g x) xs → filter_map f xs ≡ filter_map g xs
+filter_map_same f g [] all = refl
+filter_map_same f g (x ∷ xs) all = rw (all.0, filter_map_same f g xs all.1) refl
+
+pub filter_map_twice : {X Y Z : Type 0} (f : X → Option Y) (g : Y → Option Z) (xs : List X) → filter_map g (filter_map f xs) ≡ filter_map (λ x. option_and_then g (f x)) xs
+filter_map_twice f g [] = refl
+filter_map_twice {X} {Y} {Z} f g (x ∷ xs) = at_head (f x) (filter_map_twice f g xs)
+  where
+    at_head : (o : Option Y) → filter_map g (filter_map f xs) ≡ filter_map (λ y. option_and_then g (f y)) xs
+        → filter_map g (cons_option o (filter_map f xs)) ≡ cons_option (option_and_then g o) (filter_map (λ y. option_and_then g (f y)) xs)
+    at_head None rest = rest
+    at_head (Some y) rest = ap (cons_option (g y)) rest
+
+pub any_same : {X : Type 0} (q t : X → Bool) (xs : List X) → AllByRecursion (λ x. q x ≡ t x) xs → list_any q xs ≡ list_any t xs
+any_same q t [] all = refl
+any_same q t (x ∷ xs) all = rw (all.0, any_same q t xs all.1) refl
+
+pub any_or : {X : Type 0} (f g h : X → Bool) (xs : List X) → AllByRecursion (λ x. f x ≡ (g x || h x)) xs → list_any f xs ≡ (list_any g xs || list_any h xs)
+any_or f g h [] same = refl
+any_or f g h (x ∷ xs) same = grind (arith, nat_tests, same.0, any_or f g h xs same.1)
+
+-- whether the test holds of what there is
+abbrev pub passes : {X : Type 0} → (X → Bool) → Option X → Bool
+passes q None = false
+passes q (Some x) = q x
+
+pub any_edited : {X Y : Type 0} (f : X → Option Y) (q : Y → Bool) (xs : List X) → list_any q (filter_map f xs) ≡ list_any (λ x. passes q (f x)) xs
+any_edited f q [] = refl
+any_edited {X} {Y} f q (x ∷ xs) = at_head (f x) (any_edited f q xs)
+  where
+    at_head : (o : Option Y) → list_any q (filter_map f xs) ≡ list_any (λ y. passes q (f y)) xs → list_any q (cons_option o (filter_map f xs)) ≡ (passes q o || list_any (λ y. passes q (f y)) xs)
+    at_head None rest = rest
+    at_head (Some y) rest = ap (λ b. q y || b) rest
+
+-- Rows by their numbers
+
+pub above_none : (n : ℕ) (ps : List ProcData) → AllAbove n ps → process_of n ps ≡ None
+above_none n [] above = refl
+above_none n (p ∷ ps) above = let other : eqb p.pid n ≡ false = let lt = above.0 in grind (arith, nat_tests) in rw other (above_none n ps above.1)
+
+pub above_less : (n m : ℕ) → n < m → (ps : List ProcData) → AllAbove m ps → AllAbove n ps
+above_less n m lt [] above = tt
+above_less n m lt (p ∷ ps) above = (let more = above.0 in omega arith, above_less n m lt ps above.1)
+
+-- an edit that keeps the numbers of rows
+abbrev pub KeepsNumbers : (ProcData → Option ProcData) → Type 0
+KeepsNumbers f = (p : ProcData) → IfSome (f p) (λ q. q.pid ≡ p.pid)
+
+pub above_edited : (f : ProcData → Option ProcData) → KeepsNumbers f → (n : ℕ) (ps : List ProcData) → AllAbove n ps → AllAbove n (filter_map f ps)
+above_edited f keeps n [] above = tt
+above_edited f keeps n (p ∷ ps) above = at_head (f p) (keeps p) (above_edited f keeps n ps above.1)
+  where
+    at_head : (o : Option ProcData) → IfSome o (λ q. q.pid ≡ p.pid) → AllAbove n (filter_map f ps) → AllAbove n (cons_option o (filter_map f ps))
+    at_head None same rest = rest
+    at_head (Some q) same rest = (let lt = above.0 in omega (arith, same), rest)
+
+pub rise_edited : (f : ProcData → Option ProcData) → KeepsNumbers f → (ps : List ProcData) → Rise ps → Rise (filter_map f ps)
+rise_edited f keeps [] rise = tt
+rise_edited f keeps (p ∷ ps) rise = at_head (f p) (keeps p) (above_edited f keeps p.pid ps rise.0) (rise_edited f keeps ps rise.1)
+  where
+    at_head : (o : Option ProcData) → IfSome o (λ q. q.pid ≡ p.pid) → AllAbove p.pid (filter_map f ps) → Rise (filter_map f ps) → Rise (cons_option o (filter_map f ps))
+    at_head None same above rest = rest
+    at_head (Some q) same above rest = (rw same above, rest)
+
+pub process_edited : (f : ProcData → Option ProcData) → KeepsNumbers f → (n : ℕ) (ps : List ProcData) → Rise ps → process_of n (filter_map f ps) ≡ option_and_then f (process_of n ps)
+process_edited f keeps n [] rise = refl
+process_edited f keeps n (p ∷ ps) rise = at_head (f p) refl (keeps p) (eqb p.pid n) refl (process_edited f keeps n ps rise.1)
+  where
+    at_head : (o : Option ProcData) → f p ≡ o → IfSome o (λ q. q.pid ≡ p.pid) → (b : Bool) → eqb p.pid n ≡ b → process_of n (filter_map f ps) ≡ option_and_then f (process_of n ps)
+        → process_of n (cons_option o (filter_map f ps)) ≡ option_and_then f (cond b (Some p) (process_of n ps))
+    at_head None is same true here rest = rw (eqb-true p.pid n here) at (above_none p.pid (filter_map f ps) (above_edited f keeps p.pid ps rise.0)) ∙ sym is
+    at_head None is same false here rest = rest
+    at_head (Some q) is same true here rest = let hit : eqb q.pid n ≡ true = ap (λ m. eqb m n) same ∙ here in rw hit (sym is)
+    at_head (Some q) is same false here rest = let miss : eqb q.pid n ≡ false = ap (λ m. eqb m n) same ∙ here in rw miss rest
+
+pub own_rows : (ps : List ProcData) → Rise ps → AllByRecursion (λ p. process_of p.pid ps ≡ Some p) ps
+own_rows [] rise = tt
+own_rows (p ∷ ps) rise = (rw (eq-eqb p.pid p.pid refl) refl, All-imply (λ q. (p.pid < q.pid) × (process_of q.pid ps ≡ Some q)) (λ q. process_of q.pid (p ∷ ps) ≡ Some q) later ps (All-both (λ q. p.pid < q.pid) (λ q. process_of q.pid ps ≡ Some q) ps (all_above ps rise.0) (own_rows ps rise.1)))
+  where
+    all_above : (qs : List ProcData) → AllAbove p.pid qs → AllByRecursion (λ q. p.pid < q.pid) qs
+    all_above [] above = tt
+    all_above (q ∷ qs) above = (above.0, all_above qs above.1)
+
+    later : (q : ProcData) → (p.pid < q.pid) × (process_of q.pid ps ≡ Some q) → process_of q.pid (p ∷ ps) ≡ Some q
+    later q h = let lt = h.0 in let other : eqb p.pid q.pid ≡ false = grind (arith, nat_tests) in rw other h.1
+
+-- edits that agree on the rows
+pub each_same : (f g : ProcData → Option ProcData) (lwp lwp' : ProcData → LwpData → Option LwpData) (rows : Rows)
+    → AllByRecursion (λ p. (f p ≡ g p) × ((l : LwpData) → lwp p l ≡ lwp' p l)) rows.processes → each f lwp rows ≡ each g lwp' rows
+each_same f g lwp lwp' rows all =
+    ap (λ (ps : List ProcData). record rows { processes = ps; lwps = filter_map (λ l. by_owner lwp l (process_of l.pid rows.processes)) rows.lwps })
+    (filter_map_same f g rows.processes (All-imply _ (λ p. f p ≡ g p) (λ p h. h.0) rows.processes all))
+    ∙ ap (λ (ls : List LwpData). record rows { processes = filter_map g rows.processes; lwps = ls }) (filter_map_same _ _ rows.lwps (every rows.lwps))
+  where
+    at_owner : (l : LwpData) (o : Option ProcData) → process_of l.pid rows.processes ≡ o → by_owner lwp l o ≡ by_owner lwp' l o
+    at_owner l None is = refl
+    at_owner l (Some p) is = (find_some (λ q. q.pid == l.pid) (λ q. (f q ≡ g q) × ((k : LwpData) → lwp q k ≡ lwp' q k)) rows.processes all p is).0.1 l
+
+    every : (ls : List LwpData) → AllByRecursion (λ l. by_owner lwp l (process_of l.pid rows.processes) ≡ by_owner lwp' l (process_of l.pid rows.processes)) ls
+    every [] = tt
+    every (l ∷ ls) = (at_owner l (process_of l.pid rows.processes) refl, every ls)
+
+-- an edit of LWPs that keeps their processes
+abbrev pub KeepsOwners : (ProcData → LwpData → Option LwpData) → Type 0
+KeepsOwners lwp = (p : ProcData) (l : LwpData) → IfSome (lwp p l) (λ k. k.pid ≡ l.pid)
+
+-- one edit after another
+pub each_twice : (f g : ProcData → Option ProcData) (lwp lwp' : ProcData → LwpData → Option LwpData) (rows : Rows) → Rise rows.processes → KeepsNumbers f → KeepsOwners lwp
+    → each g lwp' (each f lwp rows) ≡ each (λ p. option_and_then g (f p)) (λ p l. option_and_then (λ k. by_owner lwp' k (f p)) (lwp p l)) rows
+each_twice f g lwp lwp' rows rise keeps owners =
+    ap (λ (ps : List ProcData). record rows { processes = ps; lwps = filter_map (λ k. by_owner lwp' k (process_of k.pid after)) (filter_map (λ l. by_owner lwp l (process_of l.pid rows.processes)) rows.lwps) })
+    (filter_map_twice f g rows.processes)
+    ∙ ap (λ (ls : List LwpData). record rows { processes = filter_map (λ p. option_and_then g (f p)) rows.processes; lwps = ls })
+    (filter_map_twice (λ l. by_owner lwp l (process_of l.pid rows.processes)) (λ k. by_owner lwp' k (process_of k.pid after)) rows.lwps ∙ filter_map_same _ _ rows.lwps (every rows.lwps))
+  where
+    after : List ProcData
+    after = filter_map f rows.processes
+
+    at_lwp : (l : LwpData) (p : ProcData) (o : Option LwpData) → IfSome o (λ k. k.pid ≡ l.pid) → process_of l.pid after ≡ f p
+        → option_and_then (λ k. by_owner lwp' k (process_of k.pid after)) o ≡ option_and_then (λ k. by_owner lwp' k (f p)) o
+    at_lwp l p None same found = refl
+    at_lwp l p (Some k) same found = ap (by_owner lwp' k) (ap (λ n. process_of n after) same ∙ found)
+
+    at_owner : (l : LwpData) (o : Option ProcData) → process_of l.pid after ≡ option_and_then f o
+        → option_and_then (λ k. by_owner lwp' k (process_of k.pid after)) (by_owner lwp l o) ≡ by_owner (λ p j. option_and_then (λ k. by_owner lwp' k (f p)) (lwp p j)) l o
+    at_owner l None found = ap (by_owner lwp' l) found
+    at_owner l (Some p) found = at_lwp l p (lwp p l) (owners p l) found
+
+    every : (ls : List LwpData) → AllByRecursion (λ l. option_and_then (λ k. by_owner lwp' k (process_of k.pid after)) (by_owner lwp l (process_of l.pid rows.processes))
+        ≡ by_owner (λ p j. option_and_then (λ k. by_owner lwp' k (f p)) (lwp p j)) l (process_of l.pid rows.processes)) ls
+    every [] = tt
+    every (l ∷ ls) = (at_owner l (process_of l.pid rows.processes) (process_edited f keeps l.pid rows.processes rise), every ls)
+
+-- edits that agree on the rows, and on the LWPs of live ones, which are all LWPs
+pub each_agree : (f g : ProcData → Option ProcData) (lwp lwp' : ProcData → LwpData → Option LwpData) (rows : Rows)
+    → AllByRecursion (λ p. (f p ≡ g p) × (is_live p ≡ true → (l : LwpData) → lwp p l ≡ lwp' p l)) rows.processes
+    → AllByRecursion (λ l. (p : ProcData) → process_of l.pid rows.processes ≡ Some p → is_live p ≡ true) rows.lwps → each f lwp rows ≡ each g lwp' rows
+each_agree f g lwp lwp' rows all owners =
+    ap (λ (ps : List ProcData). record rows { processes = ps; lwps = filter_map (λ l. by_owner lwp l (process_of l.pid rows.processes)) rows.lwps })
+    (filter_map_same f g rows.processes (All-imply _ (λ p. f p ≡ g p) (λ p h. h.0) rows.processes all))
+    ∙ ap (λ (ls : List LwpData). record rows { processes = filter_map g rows.processes; lwps = ls })
+    (filter_map_same _ _ rows.lwps (All-imply (λ l. (p : ProcData) → process_of l.pid rows.processes ≡ Some p → is_live p ≡ true) _ (λ l live. at_owner l (process_of l.pid rows.processes) refl live) rows.lwps owners))
+  where
+    at_owner : (l : LwpData) (o : Option ProcData) → process_of l.pid rows.processes ≡ o → ((p : ProcData) → process_of l.pid rows.processes ≡ Some p → is_live p ≡ true) → by_owner lwp l o ≡ by_owner lwp' l o
+    at_owner l None is live = refl
+    at_owner l (Some p) is live =
+        (find_some (λ q. q.pid == l.pid) (λ q. (f q ≡ g q) × (is_live q ≡ true → (k : LwpData) → lwp q k ≡ lwp' q k)) rows.processes all p is).0.1 (live p is) l

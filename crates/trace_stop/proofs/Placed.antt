@@ -1,0 +1,173 @@
+-- A new process at its place among the others.
+use Rattle.std.proofs.Common.{◌≡◌, ◌≢◌, ℕ, zero, suc, ◌+◌, ◌<◌, List, [], ◌∷◌, ◌++◌, filter, find, Bool, true, false, cond, ◌==◌, ◌||◌, ltb, Option, Some, None, IfSome, refl, sym, ap, ◌∙◌, arith, eqb, true≢false, eqb-true, eq-eqb, ltb-true, ltb-false, lt-ltb}
+use Rattle.std.specs.Prelude.{count_by}
+use Rattle.std.specs.List.{AllByRecursion, list_any}
+use Rattle.std.proofs.lemmas.Bool.{le-ltb}
+use Rattle.proc_table.specs.declared.ProcData.{ProcData}
+use Rattle.proc_table.specs.Processes.{process_of, placed}
+use Rattle.proc_table.specs.Kept.{Rise, AllAbove}
+use Rattle.trace_stop.specs.End.{tracer_of, meets}
+use Rattle.trace_stop.proofs.Every.{or_true, by_bool, All-append, All-filter, count-cons, count-append}
+
+-- one element more in the middle
+
+any_mid : {X : Type 0} (q : X → Bool) (x : X) (xs ys : List X) → list_any q (xs ++ (x ∷ ys)) ≡ (q x || list_any q (xs ++ ys))
+any_mid q x [] ys = refl
+any_mid q x (y ∷ xs) ys = rw (any_mid q x xs ys) (swap (q y) (q x) (list_any q (xs ++ ys)))
+  where
+    swap : (a b c : Bool) → (a || (b || c)) ≡ (b || (a || c))
+    swap true b c = sym (or_true b)
+    swap false b c = refl
+
+count_mid : {X : Type 0} (q : X → Bool) (x : X) (xs ys : List X) → count_by q (xs ++ (x ∷ ys)) ≡ cond (q x) 1 0 + count_by q (xs ++ ys)
+count_mid q x xs ys = let all = count-append q xs (x ∷ ys) in let some = count-append q xs ys in let head = count-cons q x ys in omega (arith, all, some, head)
+
+find_mid : {X : Type 0} (q : X → Bool) (x : X) (xs ys : List X) → q x ≡ false → find q (xs ++ (x ∷ ys)) ≡ find q (xs ++ ys)
+find_mid q x [] ys is = rw is refl
+find_mid q x (y ∷ xs) ys is = ap (λ o. cond (q y) (Some y) o) (find_mid q x xs ys is)
+
+find_here : {X : Type 0} (q : X → Bool) (x : X) (xs ys : List X) → list_any q (xs ++ ys) ≡ false → q x ≡ true → find q (xs ++ (x ∷ ys)) ≡ Some x
+find_here q x [] ys none is = rw is refl
+find_here {X} q x (y ∷ xs) ys none is = at_head (q y) refl none (find_here q x xs ys)
+  where
+    at_head : (b : Bool) → q y ≡ b → (b || list_any q (xs ++ ys)) ≡ false → (list_any q (xs ++ ys) ≡ false → q x ≡ true → find q (xs ++ (x ∷ ys)) ≡ Some x) → cond b (Some y) (find q (xs ++ (x ∷ ys))) ≡ Some x
+    at_head true e h rest = absurd (true≢false h)
+    at_head false e h rest = rest h is
+
+All_mid : {X : Type 0} (P : X → Type 0) (x : X) (xs ys : List X) → AllByRecursion P xs → P x → AllByRecursion P ys → AllByRecursion P (xs ++ (x ∷ ys))
+All_mid P x xs ys all here rest = All-append P xs (x ∷ ys) all (here, rest)
+
+-- rising rows
+
+above_lower : (m n : ℕ) → m < n → (ps : List ProcData) → AllAbove n ps → AllAbove m ps
+above_lower m n lt [] all = tt
+above_lower m n lt (p ∷ ps) all = (omega (arith, all.0), above_lower m n lt ps all.1)
+
+above_filter : (q : ProcData → Bool) (n : ℕ) (ps : List ProcData) → AllAbove n ps → AllAbove n (filter q ps)
+above_filter q n [] all = tt
+above_filter q n (p ∷ ps) all = kept (q p) (above_filter q n ps all.1)
+  where
+    kept : (b : Bool) → AllAbove n (filter q ps) → AllAbove n (cond b (p ∷ filter q ps) (filter q ps))
+    kept true rest = (all.0, rest)
+    kept false rest = rest
+
+pub Rise-filter : (q : ProcData → Bool) (ps : List ProcData) → Rise ps → Rise (filter q ps)
+Rise-filter q [] rise = tt
+Rise-filter q (p ∷ ps) rise = kept (q p) (Rise-filter q ps rise.1)
+  where
+    kept : (b : Bool) → Rise (filter q ps) → Rise (cond b (p ∷ filter q ps) (filter q ps))
+    kept true rest = (above_filter q p.pid ps rise.0, rest)
+    kept false rest = rest
+
+above_append : (n : ℕ) (xs ys : List ProcData) → AllAbove n xs → AllAbove n ys → AllAbove n (xs ++ ys)
+above_append n [] ys all rest = rest
+above_append n (x ∷ xs) ys all rest = (all.0, above_append n xs ys all.1 rest)
+
+above_beyond : (n : ℕ) (ps : List ProcData) → AllAbove n (filter (λ q. ltb n q.pid) ps)
+above_beyond n [] = tt
+above_beyond n (p ∷ ps) = kept (ltb n p.pid) refl (above_beyond n ps)
+  where
+    kept : (b : Bool) → ltb n p.pid ≡ b → AllAbove n (filter (λ q. ltb n q.pid) ps) → AllAbove n (cond b (p ∷ filter (λ q. ltb n q.pid) ps) (filter (λ q. ltb n q.pid) ps))
+    kept true e rest = (ltb-true n p.pid e, rest)
+    kept false e rest = rest
+
+all_below : (n : ℕ) (ps : List ProcData) → AllByRecursion (λ q. q.pid < n) (filter (λ q. ltb q.pid n) ps)
+all_below n [] = tt
+all_below n (p ∷ ps) = kept (ltb p.pid n) refl (all_below n ps)
+  where
+    kept : (b : Bool) → ltb p.pid n ≡ b → AllByRecursion (λ q. q.pid < n) (filter (λ q. ltb q.pid n) ps) → AllByRecursion (λ q. q.pid < n) (cond b (p ∷ filter (λ q. ltb q.pid n) ps) (filter (λ q. ltb q.pid n) ps))
+    kept true e rest = (ltb-true p.pid n e, rest)
+    kept false e rest = rest
+
+Rise_mid : (p : ProcData) (xs ys : List ProcData) → Rise xs → AllByRecursion (λ q. q.pid < p.pid) xs → Rise ys → AllAbove p.pid ys → Rise (xs ++ (p ∷ ys))
+Rise_mid p [] ys rise below rest above = (above, rest)
+Rise_mid p (x ∷ xs) ys rise below rest above = (above_append x.pid xs (p ∷ ys) rise.0 (below.0, above_lower x.pid p.pid below.0 ys above), Rise_mid p xs ys rise.1 below.1 rest above)
+
+pub Rise-placed : (p : ProcData) (ps : List ProcData) → Rise ps → Rise (placed p ps)
+Rise-placed p ps rise = Rise_mid p (filter (λ q. ltb q.pid p.pid) ps) (filter (λ q. ltb p.pid q.pid) ps) (Rise-filter (λ q. ltb q.pid p.pid) ps rise) (all_below p.pid ps) (Rise-filter (λ q. ltb p.pid q.pid) ps rise) (above_beyond p.pid ps)
+
+-- a number that no row has
+abbrev pub IsFree : ℕ → List ProcData → Type 0
+IsFree n ps = list_any (λ q. q.pid == n) ps ≡ false
+
+none_below : (n : ℕ) (ps : List ProcData) → AllAbove n ps → filter (λ q. ltb q.pid n) ps ≡ []
+none_below n [] above = refl
+none_below n (p ∷ ps) above = let other : ltb p.pid n ≡ false = le-ltb p.pid n (omega (arith, above.0)) in rw other (none_below n ps above.1)
+
+all_above : (n : ℕ) (ps : List ProcData) → AllAbove n ps → filter (λ q. ltb n q.pid) ps ≡ ps
+all_above n [] above = refl
+all_above n (p ∷ ps) above = rw (lt-ltb n p.pid above.0) (ap (λ qs. p ∷ qs) (all_above n ps above.1))
+
+-- a number that no row has splits the rows
+split : (n : ℕ) (ps : List ProcData) → Rise ps → IsFree n ps → filter (λ q. ltb q.pid n) ps ++ filter (λ q. ltb n q.pid) ps ≡ ps
+split n [] rise free = refl
+split n (p ∷ ps) rise free = by_head (eqb p.pid n) refl free (split n ps rise.1)
+  where
+    beyond : (ltb p.pid n ≡ false) → p.pid ≢ n → filter (λ q. ltb q.pid n) ps ++ cond (ltb n p.pid) (p ∷ filter (λ q. ltb n q.pid) ps) (filter (λ q. ltb n q.pid) ps) ≡ p ∷ ps
+    beyond is ne =
+        let from = ltb-false p.pid n is in
+        let lt : n < p.pid = omega arith in
+        let over = above_lower n p.pid lt ps rise.0 in
+        rw (none_below n ps over, lt-ltb n p.pid lt, all_above n ps over) refl
+
+    at_head : (b : Bool) → ltb p.pid n ≡ b → p.pid ≢ n → filter (λ q. ltb q.pid n) ps ++ filter (λ q. ltb n q.pid) ps ≡ ps
+        → cond b (p ∷ filter (λ q. ltb q.pid n) ps) (filter (λ q. ltb q.pid n) ps) ++ cond (ltb n p.pid) (p ∷ filter (λ q. ltb n q.pid) ps) (filter (λ q. ltb n q.pid) ps) ≡ p ∷ ps
+    at_head true is ne rest = let lt = ltb-true p.pid n is in let other : ltb n p.pid ≡ false = le-ltb n p.pid (omega arith) in rw other (ap (λ qs. p ∷ qs) rest)
+    at_head false is ne rest = beyond is ne
+
+    by_head : (b : Bool) → eqb p.pid n ≡ b → (b || list_any (λ q. q.pid == n) ps) ≡ false → (IsFree n ps → filter (λ q. ltb q.pid n) ps ++ filter (λ q. ltb n q.pid) ps ≡ ps)
+        → filter (λ q. ltb q.pid n) (p ∷ ps) ++ filter (λ q. ltb n q.pid) (p ∷ ps) ≡ p ∷ ps
+    by_head true e h rest = absurd (true≢false h)
+    by_head false e h rest = at_head (ltb p.pid n) refl (λ same. true≢false (sym (eq-eqb p.pid n same) ∙ e)) (rest h)
+
+module _ (p : ProcData) (ps : List ProcData) (rise : Rise ps) (free : IsFree p.pid ps) where
+  abbrev low : List ProcData
+  low = filter (λ q. ltb q.pid p.pid) ps
+
+  abbrev high : List ProcData
+  high = filter (λ q. ltb p.pid q.pid) ps
+
+  pub any-placed : (q : ProcData → Bool) → list_any q (placed p ps) ≡ (q p || list_any q ps)
+  any-placed q = any_mid q p low high ∙ ap (λ xs. q p || list_any q xs) (split p.pid ps rise free)
+
+  pub count-placed : (q : ProcData → Bool) → count_by q (placed p ps) ≡ cond (q p) 1 0 + count_by q ps
+  count-placed q = count_mid q p low high ∙ ap (λ xs. cond (q p) 1 0 + count_by q xs) (split p.pid ps rise free)
+
+  pub process_of-other : (n : ℕ) → n ≢ p.pid → process_of n (placed p ps) ≡ process_of n ps
+  process_of-other n other = find_mid (λ q. q.pid == n) p low high (by_bool (p.pid == n) (λ e. other (sym (eqb-true p.pid n e)))) ∙ ap (find (λ q. q.pid == n)) (split p.pid ps rise free)
+
+  pub process_of-placed : process_of p.pid (placed p ps) ≡ Some p
+  process_of-placed = find_here (λ q. q.pid == p.pid) p low high (ap (list_any (λ q. q.pid == p.pid)) (split p.pid ps rise free) ∙ free) (eq-eqb p.pid p.pid refl)
+
+pub All-placed : (P : ProcData → Type 0) (p : ProcData) (ps : List ProcData) → AllByRecursion P ps → P p → AllByRecursion P (placed p ps)
+All-placed P p ps all here = All_mid P p (filter (λ q. ltb q.pid p.pid) ps) (filter (λ q. ltb p.pid q.pid) ps) (All-filter (λ q. ltb q.pid p.pid) P ps all) here (All-filter (λ q. ltb p.pid q.pid) P ps all)
+
+-- Chains of tracers
+
+-- nobody's tracer is p
+abbrev pub TracesNone : List ProcData → ℕ → Type 0
+TracesNone ps p = (n t : ℕ) → tracer_of ps n ≡ Some t → t ≢ p
+
+pub meets_other : (ps qs : List ProcData) (p : ℕ) → ((n : ℕ) → n ≢ p → tracer_of qs n ≡ tracer_of ps n) → TracesNone ps p → (links q n : ℕ) → n ≢ p → meets links qs q n ≡ meets links ps q n
+unfolding meets
+meets_other ps qs p same none zero q n other = refl
+meets_other ps qs p same none (suc links) q n other = by_tracer (tracer_of ps n) refl (same n other) (meets_other ps qs p same none links q)
+  where
+    by_tracer : (o : Option ℕ) → tracer_of ps n ≡ o → tracer_of qs n ≡ tracer_of ps n → ((t : ℕ) → t ≢ p → meets links qs q t ≡ meets links ps q t) → meets (suc links) qs q n ≡ meets (suc links) ps q n
+    by_tracer None e k rest = rw (k ∙ e, e) refl
+    by_tracer (Some t) e k rest = rw (k ∙ e, e) (ap (λ b. (t == q) || b) (rest t (none n t e)))
+
+pub meets_none : (ps : List ProcData) (p : ℕ) → TracesNone ps p → (links n : ℕ) → meets links ps p n ≡ false
+unfolding meets
+meets_none ps p none zero n = refl
+meets_none ps p none (suc links) n = by_tracer (tracer_of ps n) refl (meets_none ps p none links)
+  where
+    by_tracer : (o : Option ℕ) → tracer_of ps n ≡ o → ((t : ℕ) → meets links ps p t ≡ false) → meets (suc links) ps p n ≡ false
+    by_tracer None e rest = rw e refl
+    by_tracer (Some t) e rest = rw (e, by_bool (t == p) (λ h. none n t e (eqb-true t p h))) (rest t)
+
+pub meets_new : (ps qs : List ProcData) (p : ℕ) → ((n : ℕ) → n ≢ p → tracer_of qs n ≡ tracer_of ps n) → TracesNone ps p → (o : Option ℕ) → tracer_of qs p ≡ o → IfSome o (λ t. t ≢ p) → (links : ℕ) → meets links qs p p ≡ false
+unfolding meets
+meets_new ps qs p same none o is other zero = refl
+meets_new ps qs p same none None is other (suc links) = rw is refl
+meets_new ps qs p same none (Some t) is other (suc links) = rw (is, by_bool (t == p) (λ h. other (eqb-true t p h))) (meets_other ps qs p same none links p t other ∙ meets_none ps p none links t)

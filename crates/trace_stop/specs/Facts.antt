@@ -1,0 +1,116 @@
+-- What the rows of a host always keep, as a fact of each row.
+use Rattle.std.specs.Prelude.{◌≡◌, ◌≢◌, ◌≤◌, ℕ, true, false, Option, Some, None, IfSome, is_some, length, get_or}
+use Rattle.std.specs.Int.RustNames.{bit_and}
+use Rattle.std.specs.List.{AllByRecursion}
+use Rattle.pid_blocks.specs.Users.{IsUser}
+use Rattle.pid_blocks.specs.Blocks.{slot, pid_block, tid_block, InBlock}
+use Rattle.signals.specs.Table.{unmaskable_set}
+use Rattle.event_masks.specs.Exits.{shows}
+use Rattle.event_masks.specs.declared.TheConstants.StopFlags.{PL_FLAG_EXITED}
+use Rattle.lwp_table.specs.declared.LwpData.{LwpData}
+use Rattle.lwp_table.specs.declared.Mode.{Mode}
+use Rattle.lwp_table.specs.declared.Mode.TheVariants.{User, InCall, VforkWait}
+use Rattle.lwp_table.specs.Lwps.{Differ}
+use Rattle.proc_table.specs.declared.ProcData.{ProcData}
+use Rattle.proc_table.specs.declared.State.{State}
+use Rattle.proc_table.specs.declared.State.TheVariants.{Run, Trace, Job, Zombie}
+use Rattle.proc_table.specs.Processes.{is_live, is_run, is_job, reporting, is_this, process_of}
+use Rattle.proc_table.specs.Rows.{Rows}
+use Rattle.proc_table.specs.Fresh.{process_count, lwp_count_of, lwp_count}
+use Rattle.proc_table.specs.Kept.{Rise, AtHome, Housed}
+use Rattle.trace_stop.specs.Post.{unwanted}
+use Rattle.trace_stop.specs.End.{meets}
+use Rattle.trace_stop.specs.Sound.{is_live_of, is_end, names_own, is_due}
+
+-- the number is that of a live process of the user
+abbrev pub IsLiveOf : Rows → ℕ → ℕ → Type 0
+IsLiveOf rows u n = is_live_of rows u n ≡ true
+
+-- what a process names: live processes of its user, in no ring of tracers, and an LWP of its own; a live one has an LWP
+pub record Linked (rows : Rows) (p : ProcData) : Type 0 where
+  pub tracer : IfSome p.tracer (IsLiveOf rows p.uid)
+  pub parent : p.parent ≢ 1 → IsLiveOf rows p.uid p.parent
+  pub chain : meets 250 rows.processes p.pid p.pid ≡ false
+  pub named : IfSome (reporting p) (λ tid. names_own rows p tid ≡ true)
+  pub peopled : is_live p ≡ true → 1 ≤ lwp_count p.pid rows
+
+-- a zombie has ended, asks for no events, has nothing pending, and somebody collects it
+pub record Ended (p : ProcData) (w : ℕ) : Type 0 where
+  pub word : is_end w ≡ true
+  pub mask : p.mask.0 ≡ 0
+  pub pending : p.pending ≡ 0
+  pub collector : p.tracer ≡ None → p.parent ≢ 1
+
+abbrev pub IfEnded : ProcData → State → Type 0
+IfEnded p Run = Unit {0}
+IfEnded p (Trace tid sig seen) = Unit {0}
+IfEnded p (Job sig seen) = Unit {0}
+IfEnded p (Zombie w) = Ended p w
+
+-- nothing that only a tracer gives, and no signal pending whose action is nothing
+pub record Untraced (p : ProcData) : Type 0 where
+  pub mask : p.mask.0 ≡ 0
+  pub pending : bit_and p.pending (unwanted p) ≡ 0
+
+-- a process by itself
+pub record FitProcess (p : ProcData) : Type 0 where
+  pub stopped : is_some (reporting p) ≡ true → is_some p.tracer ≡ true
+  pub job : is_job p ≡ true → p.tracer ≡ None
+  pub continued : p.continued ≡ true → (p.tracer ≡ None) × (is_run p ≡ true)
+  pub untraced : p.tracer ≡ None → Untraced p
+  pub ended : IfEnded p p.state
+
+-- the process that an LWP waits for
+abbrev pub waited_for : Mode → Option ℕ
+waited_for User = None
+waited_for (InCall call) = None
+waited_for (VforkWait c) = Some c
+
+-- an LWP of a live process p; one that has exited isn't the last one
+pub record Standing (rows : Rows) (p : ProcData) (l : LwpData) : Type 0 where
+  pub live : is_live p ≡ true
+  pub exited : shows l.flags PL_FLAG_EXITED ≡ true → 2 ≤ lwp_count p.pid rows
+  pub waits : IfSome (waited_for l.mode) (IsLiveOf rows p.uid)
+
+pub record UntracedLwp (p : ProcData) (l : LwpData) : Type 0 where
+  pub due : is_due l.due ≡ false
+  pub stepping : l.stepping ≡ false
+  pub suspended : l.suspended ≡ false
+  pub pending : bit_and l.pending (unwanted p) ≡ 0
+
+-- an LWP shows nothing where it doesn't report its process's stop
+pub record Silent (l : LwpData) : Type 0 where
+  pub flags : l.flags.0 ≡ 0
+  pub child : l.child ≡ 0
+  pub code : l.code ≡ 0
+
+-- an LWP beside its process
+pub record FitLwp (p : ProcData) (l : LwpData) : Type 0 where
+  pub untraced : p.tracer ≡ None → UntracedLwp p l
+  pub silent : is_this l.tid (reporting p) ≡ false → Silent l
+  pub blocked : bit_and l.blocked unmaskable_set ≡ 0
+
+-- a fact of an LWP and the process that it belongs to
+abbrev pub WithOwner : Rows → (ProcData → LwpData → Type 0) → LwpData → Type 0
+WithOwner rows P l = (p : ProcData) → process_of l.pid rows.processes ≡ Some p → P p l
+
+-- the numbers, limits and links of rows
+pub record Stands (rows : Rows) : Type 0 where
+  pub rising : Rise rows.processes
+  pub differ : Differ rows.lwps
+  pub homes : AllByRecursion AtHome rows.processes
+  pub housed : AllByRecursion (Housed rows) rows.lwps
+  pub pid_slots : length rows.pid_cursors ≡ 64
+  pub tid_slots : length rows.tid_cursors ≡ 64
+  pub pid_cursors : (u : ℕ) → IsUser u → InBlock (pid_block u) (get_or rows.pid_cursors (slot u) 0)
+  pub tid_cursors : (u : ℕ) → IsUser u → InBlock (tid_block u) (get_or rows.tid_cursors (slot u) 0)
+  pub few_processes : (u : ℕ) → IsUser u → process_count u rows ≤ 250
+  pub few_lwps : (u : ℕ) → IsUser u → lwp_count_of u rows ≤ 1000
+  pub linked : AllByRecursion (Linked rows) rows.processes
+  pub standing : AllByRecursion (WithOwner rows (Standing rows)) rows.lwps
+
+-- the same with each row as it must be
+pub record IsSound (rows : Rows) : Type 0 where
+  pub stands : Stands rows
+  pub processes : AllByRecursion FitProcess rows.processes
+  pub lwps : AllByRecursion (WithOwner rows FitLwp) rows.lwps

@@ -1,0 +1,71 @@
+-- The end of a process, taken apart into ends of processes that trace no live one.
+use Rattle.std.specs.Prelude.{◌≡◌, ◌≤◌, ℕ, zero, suc, Bool, true, false, ◌==◌, ◌&&◌, ◌||◌, List, [], ◌∷◌, Option, Some, None, length}
+use Rattle.std.specs.List.{list_any}
+use Rattle.signals.specs.Table.{SIGKILL}
+use Rattle.proc_table.specs.declared.ProcData.{ProcData}
+use Rattle.proc_table.specs.Processes.{process_of, is_live, traces}
+use Rattle.proc_table.specs.Rows.{Rows}
+use Rattle.proc_table.specs.Fresh.{is_process}
+use Rattle.trace_stop.specs.declared.Settings.{Settings}
+use Rattle.trace_stop.specs.End.{tracer_of, meets, dooms, left_alone, end_each, end}
+use Rattle.trace_stop.specs.Facts.{Stands}
+
+-- whether the process numbered q traces a live one
+abbrev pub traces_live : ℕ → Rows → Bool
+traces_live q rows = list_any (λ r. is_live r && traces q r) rows.processes
+
+-- what a link leads to
+abbrev pub onward : (ℕ → List ℕ) → Option ℕ → List ℕ
+onward chain None = []
+onward chain (Some t) = chain t
+
+-- the numbers of a process, of its tracer, of that one's tracer and so on, by at most so many links
+unfoldable pub chain : ℕ → List ProcData → ℕ → List ℕ
+chain zero processes n = n ∷ []
+chain (suc links) processes n = n ∷ onward (chain links processes) (tracer_of processes n)
+
+-- the rows after q alone has ended
+abbrev pub end_alone : ℕ → ℕ → Rows → Rows
+end_alone q status rows = end_each (λ r. r.pid == q) (λ n. n == q) q status rows
+
+-- a process that traces no live one ends alone
+abbrev pub LeafEnd : Type 0
+LeafEnd = (settings : Settings) (rows : Rows) (q status : ℕ) → settings.kill_on_debugger_exit ≡ true → Stands rows
+    → is_process rows q ≡ true → traces_live q rows ≡ false → end settings q status rows ≡ end_alone q status rows
+
+-- and so does one whose tracees are detached
+abbrev pub DetachedEnd : Type 0
+DetachedEnd = (settings : Settings) (rows : Rows) (q status : ℕ) → settings.kill_on_debugger_exit ≡ false
+    → is_process rows q ≡ true → end settings q status rows ≡ end_alone q status (left_alone settings q rows)
+
+-- where a debugger's end kills, the processes that end with p may end before it, each once it traces no live one
+abbrev pub LeafLaw : Type 0
+LeafLaw = (settings : Settings) (rows : Rows) (p q status : ℕ) → settings.kill_on_debugger_exit ≡ true → Stands rows
+    → (q == p) ≡ false → dooms settings rows.processes p q ≡ true → traces_live q rows ≡ false
+    → end settings p status rows ≡ end settings p status (end settings q SIGKILL rows)
+
+-- a chain of tracers has at most 249 links
+abbrev pub ChainsEnd : Type 0
+ChainsEnd = (rows : Rows) (n : ℕ) → Stands rows → length (chain 250 rows.processes n) ≤ 250
+
+-- so what any number of links meets, 249 meet
+abbrev pub ChainsMeet : Type 0
+ChainsMeet = (rows : Rows) (links p n : ℕ) → Stands rows → meets links rows.processes p n ≡ true → meets 249 rows.processes p n ≡ true
+
+-- from a tracee one link more leads on than from its tracer
+abbrev pub TraceeDeeper : Type 0
+TraceeDeeper = (rows : Rows) (tracee tracer : ℕ) → Stands rows → tracer_of rows.processes tracee ≡ Some tracer
+    → length (chain 250 rows.processes tracee) ≡ suc (length (chain 250 rows.processes tracer))
+
+-- a live tracee of p, or of one that ends with p, is another and ends with p
+abbrev pub TraceeDoomed : Type 0
+TraceeDoomed = (settings : Settings) (rows : Rows) (p x : ℕ) (y : ProcData) → settings.kill_on_debugger_exit ≡ true → Stands rows
+    → ((x == p) || dooms settings rows.processes p x) ≡ true
+    → process_of y.pid rows.processes ≡ Some y → (is_live y && traces x y) ≡ true
+    → ((y.pid == p) ≡ false) × (dooms settings rows.processes p y.pid ≡ true)
+
+-- of the others that end with p, one traces no live process
+abbrev pub LeafExists : Type 0
+LeafExists = (settings : Settings) (rows : Rows) (p x : ℕ) → settings.kill_on_debugger_exit ≡ true → Stands rows
+    → (x == p) ≡ false → dooms settings rows.processes p x ≡ true
+    → (q : ℕ) × ((q == p) ≡ false) × (dooms settings rows.processes p q ≡ true) × (traces_live q rows ≡ false)
