@@ -8,9 +8,9 @@ use Rattle.std.proofs.lemmas.Bool.Decides.{nat_tests}
 use Rattle.std.proofs.lemmas.Option.{same_Some, some_pair_parts}
 use Rattle.lwp_table.specs.declared.LwpData.{LwpData}
 use Rattle.lwp_table.specs.declared.links.Slot.{Slot}
-use Rattle.lwp_table.specs.Lwps.{lwp_of, with_lwp, without_lwp, Differ}
+use Rattle.lwp_table.specs.Lwps.{lwp_of, Differ}
 use Rattle.lwp_table.specs.Kept.{if_born, born_row, listing, rows_of, IsIndexed}
-use Rattle.lwp_table.proofs.WordLemmas.{test_same, test_apart, with_row, without_row, with_row-same, without_row-same}
+use Rattle.lwp_table.proofs.WordLemmas.{test_same, test_apart, with_row, without_row}
 use Rattle.lwp_table.proofs.ListLemmas.{AreNumbered, differ-listing, listing-end, listing-same, lwp_of-none, lwp_of-listing, listing-removed, listing-set}
 
 -- what rows are listed by: the birth number and the row

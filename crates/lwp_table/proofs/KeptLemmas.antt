@@ -1,5 +1,5 @@
 -- What a table keeps after each change, and the rows that it then has.
-use Rattle.std.proofs.Common.{◌≡◌, ◌≢◌, ℕ, ◌+◌, ◌-◌, ◌/◌, ◌<◌, ◌≤◌, Bool, true, false, List, [], ◌∷◌, ◌++◌, Option, Some, None, IsSome, IfSome, is_some, refl, sym, ap, subst, ◌∙◌, arith, inl, inr, cond, nat_eq, is_none, length, count_by, get_or, set, unwrap_or, replicate, filter}
+use Rattle.std.proofs.Common.{◌≡◌, ◌≢◌, ℕ, ◌+◌, ◌-◌, ◌/◌, ◌<◌, ◌≤◌, Bool, true, false, List, [], ◌∷◌, ◌++◌, Option, Some, None, IsSome, IfSome, is_some, refl, sym, ap, subst, ◌∙◌, arith, inl, inr, cond, nat_eq, is_none, length, count_by, get_or, set, unwrap_or, replicate}
 use Rattle.std.specs.Map.{lookup}
 use Rattle.std.specs.Option.{option_map, option_or, IsSomeAnd}
 use Rattle.std.proofs.lemmas.Bool.{cases_eq}
@@ -12,10 +12,10 @@ use Rattle.lwp_table.specs.declared.links.Link.{Link}
 use Rattle.lwp_table.specs.declared.links.Link.TheVariants.{NextOwn, PrevOwn, NextAll, PrevAll}
 use Rattle.lwp_table.specs.Lwps.{lwp_of, first_lwp, next_lwp, Differ}
 use Rattle.lwp_table.specs.Chain.{Node, IsNearest, IsChain, AreApart, up, down, anywhere, above, below, leads_to, joined, bridged}
-use Rattle.lwp_table.specs.Kept.{own_node, own_nodes, all_node, all_nodes, is_of, is_at, place_of, linked, with_link, ends_at, no_ends, born_row, listing, rows_of, IsIndexed, IsKept, from_slot, rows_from, IsWalk}
+use Rattle.lwp_table.specs.Kept.{own_node, own_nodes, all_node, all_nodes, is_of, is_at, place_of, linked, with_link, ends_at, no_ends, born_row, listing, rows_of, IsIndexed, IsKept}
 use Rattle.lwp_table.proofs.WordLemmas.{test_same, test_apart, with_row, without_row, rows_after, next_lwp-after}
 use Rattle.lwp_table.proofs.ChainLemmas.{IsChain-joined, IsChain-joined_other, IsChain-left, IsChain-left_other}
-use Rattle.lwp_table.proofs.ListLemmas.{first-none, first-found, rows_after-listing, listing-empty, listing-skip, filter-skip, filter-first}
+use Rattle.lwp_table.proofs.ListLemmas.{first-none, first-found, rows_after-listing}
 use Rattle.lwp_table.proofs.CountLemmas.{one, count-end, count-without, count-with, count-below, count-none, length-end, length-without, length-with, length-listing, at_yes, at_no, users_set}
 use Rattle.lwp_table.proofs.IndexLemmas.{differ, face, born_in, born_of, numbered, lwp_of-slot, no_slot, IsIndexed-added, rows_of-added, IsIndexed-removed, rows_of-removed, IsIndexed-set, rows_of-set}
 

@@ -2,7 +2,6 @@
 use Rattle.std.proofs.Common.{◌≡◌, ◌≢◌, ℕ, zero, suc, ◌+◌, ◌-◌, ◌<◌, ◌≤◌, Bool, true, false, List, [], ◌∷◌, ◌++◌, Option, Some, None, refl, sym, ap, ◌∙◌, arith, inl, inr, cond, nat_eq, add-zero, slice_get, filter}
 use Rattle.std.specs.List.{cons_option, find}
 use Rattle.std.proofs.lemmas.Bool.{cases_eq}
-use Rattle.std.proofs.lemmas.Bool.Decides.{nat_tests}
 use Rattle.lwp_table.specs.declared.LwpData.{LwpData}
 use Rattle.lwp_table.specs.Lwps.{lwp_of, LacksLwp, Differ}
 use Rattle.lwp_table.proofs.WordLemmas.{test_same, test_apart, with_row, without_row, rows_after}

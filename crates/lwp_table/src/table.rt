@@ -7,7 +7,7 @@
 //! The birth numbers only rise, so a row that is added comes last in both lists. No walk reads
 //! them: they say which order the links must have.
 
-ghost use Rattle.std.specs.Prelude.{◌≡◌, ◌==◌, ◌+◌, ◌<◌, ◌≤◌, ◌++◌, [], ◌∷◌, false, IsSome, IsSomeAnd, OnOk, IfOk, count_by, length, slice_get};
+ghost use Rattle.std.specs.Prelude.{◌≡◌, ◌==◌, ◌+◌, ◌<◌, ◌≤◌, ◌++◌, [], ◌∷◌, false, IsSome, IsSomeAnd, OnOk, IfOk, count_by, length, option_map, slice_get};
 ghost use Rattle.pid_blocks.specs.Blocks.{tid_owner};
 ghost use Rattle.lwp_table.specs.Lwps.{lwp_of, lwps_of, first_lwp, next_lwp, has_lwp, with_lwp, without_lwp, Differ};
 
@@ -137,6 +137,15 @@ impl LwpTable {
     {
         let slot = *self.slots.get(&tid.get())?;
         Some(self.rows[slot].row)
+    }
+
+    /// The process of the row with this number.
+    pub fn process(&self, tid: Tid) -> Option<Pid>
+        ensures process { result ≡ option_map (λ l. l.pid) (lwp_of tid self.now.rows) }
+        ensures differ { Differ self.now.rows }
+    {
+        let slot = *self.slots.get(&tid.get())?;
+        Some(self.rows[slot].row.pid)
     }
 
     /// Puts a row in the place of the one with its number, which stays in that process.

@@ -3,15 +3,12 @@
 use super::*;
 use pid_blocks::Uid;
 use std::alloc::{AllocError, Global};
-use std::process::Abort;
 use std::test::Fail;
 
-fn lwp(number: u32) -> Result<Tid, Fail> {
-    Ok(Tid::new(number).ok_or("no LWP's number")?)
-}
-
-fn process(number: u32) -> Result<Pid, Fail> {
-    Ok(Pid::new(number).ok_or("no process's number")?)
+fn born_as(tid: u32, pid: u32) -> Result<LwpData, Fail> {
+    let tid = Tid::new(tid).ok_or("no LWP's number")?;
+    let pid = Pid::new(pid).ok_or("no process's number")?;
+    Ok(LwpData::born(tid, pid, SigSet::empty(), Due::Nothing))
 }
 
 // Adds a row, if its number is free.
@@ -35,83 +32,144 @@ fn step(table: &mut LwpTable, tid: Tid) {
     }
 }
 
-fn drop_row(table: &mut LwpTable, tid: Tid) {
+// Takes the row with this number out, if there is one.
+fn end(table: &mut LwpTable, tid: Tid) {
     if table.get(tid).is_some() {
         table.remove(tid);
     }
 }
 
-fn next(table: &LwpTable, tid: Tid) -> Option<LwpData> {
-    let row = table.get(tid)?;
-    table.next_of(row.pid, tid)
-}
-
-fn numbers(alloc: Global, rows: impl Iterator<Item = LwpData>) -> Result<Vec<u32>, Fail> {
-    let mut numbers = Vec::new(alloc);
-    for row in rows {
-        numbers.push(row.tid.get())?;
+// The number of the row born next in the process of this one, or 0.
+fn younger(table: &LwpTable, tid: Tid) -> u32 {
+    match table.get(tid) {
+        Some(row) => match table.next_of(row.pid, tid) {
+            Some(next) => next.tid.get(),
+            None => 0,
+        },
+        None => 0,
     }
-    Ok(numbers)
 }
 
-#[test]
-fn rows_stand_in_order_of_birth(rt: HostRuntime) -> Result<(), Fail> {
-    let alloc = rt.alloc();
+fn all_are(table: &LwpTable, numbers: &[u32]) -> bool {
+    table
+        .iter()
+        .map(|row| row.tid.get())
+        .eq(numbers.iter().copied())
+}
+
+fn own_are(table: &LwpTable, pid: Pid, numbers: &[u32]) -> bool {
+    table
+        .of_process(pid)
+        .map(|row| row.tid.get())
+        .eq(numbers.iter().copied())
+}
+
+// The LWP 104000 of the process 2000, and three of the process 1000.
+fn four(alloc: Global) -> Result<LwpTable, Fail> {
     let mut table = LwpTable::new(alloc)?;
-    assert_eq!(rt; table.at(0), None);
     for (tid, pid) in [
         (100002, 1000),
         (104000, 2000),
         (100001, 1000),
         (100000, 1000),
     ] {
-        let row = LwpData::born(lwp(tid)?, process(pid)?, SigSet::empty(), Due::Nothing);
-        assert!(rt; admit(&mut table, row)?);
+        let row = born_as(tid, pid)?;
+        admit(&mut table, row)?;
     }
-    let one = process(1000)?;
-    assert_eq!(rt;
-        numbers(alloc, table.iter())?.as_slice(),
-        [100002, 104000, 100001, 100000].as_slice()
-    );
-    assert_eq!(rt;
-        numbers(alloc, table.of_process(one))?.as_slice(),
-        [100002, 100001, 100000].as_slice()
-    );
-    assert_eq!(rt; table.first_of(one).map(|row| row.tid.get()), Some(100002));
-    assert_eq!(rt;
-        next(&table, lwp(100002)?).map(|row| row.tid.get()),
-        Some(100001)
-    );
-    assert_eq!(rt; next(&table, lwp(104000)?), None);
-    assert_eq!(rt; table.at(1).map(|row| row.tid.get()), Some(104000));
-    assert_eq!(rt; table.at(4), None);
-    assert_eq!(rt; table.len(), 4);
-    assert_eq!(rt; table.count(one), 3);
-    assert_eq!(rt; table.user_count(Uid::new(1001)?), 3);
-    assert_eq!(rt; table.user_count(Uid::new(1002)?), 1);
-    assert_eq!(rt; table.user_count(Uid::new(1064)?), 0);
-    // one that goes and comes again is the youngest
-    let again = LwpData::born(lwp(100002)?, one, SigSet::empty(), Due::Born);
-    assert!(rt; !admit(&mut table, again)?);
-    drop_row(&mut table, again.tid);
-    assert!(rt; admit(&mut table, again)?);
-    assert_eq!(rt;
-        numbers(alloc, table.of_process(one))?.as_slice(),
-        [100001, 100000, 100002].as_slice()
-    );
-    assert_eq!(rt; table.get(again.tid), Some(again));
-    step(&mut table, again.tid);
-    assert_eq!(rt; table.get(again.tid).map(|row| row.stepping), Some(true));
-    assert_eq!(rt;
-        table.get(lwp(100001)?).map(|row| row.stepping),
-        Some(false)
-    );
-    assert!(rt; table.reserve(usize::MAX).is_err());
-    assert_eq!(rt;
-        numbers(alloc, table.iter())?.as_slice(),
-        [104000, 100001, 100000, 100002].as_slice()
-    );
+    Ok(table)
+}
+
+#[test]
+fn rows_stand_in_order_of_birth(rt: HostRuntime) -> Result<(), Fail> {
+    let table = four(rt.alloc())?;
+    let oldest = born_as(100002, 1000)?;
+    let other = born_as(104000, 2000)?;
+    let pid = oldest.pid;
+    assert!(rt; all_are(&table, &[100002, 104000, 100001, 100000]));
+    assert!(rt; own_are(&table, pid, &[100002, 100001, 100000]));
+    let first = table.first_of(pid);
+    assert_eq!(rt; first, Some(oldest));
+    assert!(rt; younger(&table, oldest.tid) == 100001);
+    assert!(rt; younger(&table, other.tid) == 0);
+    let second = table.at(1);
+    assert_eq!(rt; second, Some(other));
+    assert!(rt; table.at(4).is_none());
     Ok(())
+}
+
+#[test]
+fn rows_are_counted(rt: HostRuntime) -> Result<(), Fail> {
+    let table = four(rt.alloc())?;
+    assert!(rt; table.len() == 4);
+    for (pid, rows) in [(1000, 3), (2000, 1), (1001, 0)] {
+        let row = born_as(100003, pid)?;
+        assert_eq!(rt; table.count(row.pid), rows);
+    }
+    for (user, rows) in [(1001, 3), (1002, 1), (1064, 0)] {
+        assert_eq!(rt; table.user_count(Uid::new(user)?), rows);
+    }
+    Ok(())
+}
+
+#[test]
+fn a_row_that_comes_again_is_the_youngest(rt: HostRuntime) -> Result<(), Fail> {
+    let mut table = four(rt.alloc())?;
+    let again = born_as(100002, 1000)?;
+    assert!(rt; !admit(&mut table, again)?);
+    end(&mut table, again.tid);
+    assert!(rt; own_are(&table, again.pid, &[100001, 100000]));
+    assert!(rt; admit(&mut table, again)?);
+    step(&mut table, again.tid);
+    let stepping = table.get(again.tid).map(|row| row.stepping);
+    assert_eq!(rt; stepping, Some(true));
+    assert!(rt; table.reserve(usize::MAX).is_err());
+    assert!(rt; all_are(&table, &[104000, 100001, 100000, 100002]));
+    Ok(())
+}
+
+fn mark(rows: &mut [LwpData], tid: Tid) {
+    for row in rows.iter_mut() {
+        if row.tid == tid {
+            row.stepping = true;
+        }
+    }
+}
+
+// The same birth, mark or end in both.
+fn turn(table: &mut LwpTable, rows: &mut Vec<LwpData>, pick: u32) -> Result<(), Fail> {
+    let row = born_as(
+        100000 + 4000 * (pick % 2) + pick / 2 % 8,
+        1000 + pick / 64 % 3,
+    )?;
+    match pick / 16 % 4 {
+        0 => {
+            rows.retain(|other| other.tid != row.tid);
+            end(table, row.tid);
+        }
+        1 => {
+            mark(rows.as_mut_slice(), row.tid);
+            step(table, row.tid);
+        }
+        _ => {
+            if admit(table, row)? {
+                rows.push(row)?;
+            }
+        }
+    }
+    Ok(())
+}
+
+// Whether walks and counts over the process show these rows.
+fn agrees_on(table: &LwpTable, rows: &[LwpData], pid: Pid) -> bool {
+    let own = rows.iter().filter(|row| row.pid == pid).count();
+    let walk = table
+        .of_process(pid)
+        .eq(rows.iter().copied().filter(|row| row.pid == pid));
+    walk && table.count(pid) == own
+}
+
+fn agrees(table: &LwpTable, rows: &[LwpData]) -> bool {
+    table.iter().eq(rows.iter().copied()) && table.len() == rows.len()
 }
 
 #[test]
@@ -120,71 +178,18 @@ fn many_births_and_ends_agree_with_a_list(rt: HostRuntime) -> Result<(), Fail> {
     let mut table = LwpTable::new(alloc)?;
     let mut rows: Vec<LwpData> = Vec::new(alloc);
     let mut seed = 7u32;
-    for turn in 0..600 {
+    for turn_number in 0..600 {
         seed = seed.wrapping_mul(1103515245).wrapping_add(12345);
-        let pick = seed >> 16;
-        let tid = lwp(100000 + 4000 * (pick % 2) + pick / 2 % 8)?;
-        match pick / 16 % 4 {
-            0 => {
-                rows.retain(|row| row.tid != tid);
-                drop_row(&mut table, tid);
-            }
-            1 => {
-                for row in rows.iter_mut() {
-                    if row.tid == tid {
-                        row.stepping = true;
-                    }
-                }
-                step(&mut table, tid);
-            }
-            _ => {
-                let pid = process(1000 + pick / 64 % 3)?;
-                let row = LwpData::born(tid, pid, SigSet::empty(), Due::Nothing);
-                let fresh = !rows.iter().any(|other| other.tid == tid);
-                assert_eq!(rt; admit(&mut table, row)?, fresh, "at turn {turn}");
-                if fresh {
-                    rows.push(row)?;
-                }
-            }
+        turn(&mut table, &mut rows, seed >> 16)?;
+        assert!(rt; agrees(&table, rows.as_slice()), "at turn {turn_number}");
+        for pid in 1000..1003 {
+            let row = born_as(100000, pid)?;
+            assert!(rt;
+                agrees_on(&table, rows.as_slice(), row.pid),
+                "at turn {turn_number}"
+            );
         }
-        agree(&rt, &table, rows.as_slice())?;
     }
     assert!(rt; rows.len() > 4);
-    Ok(())
-}
-
-// Whether a table shows these rows by each of its readers.
-fn agree(rt: &impl Abort, table: &LwpTable, rows: &[LwpData]) -> Result<(), Fail> {
-    assert!(rt; table.iter().eq(rows.iter().copied()));
-    assert_eq!(rt; table.len(), rows.len());
-    for (place, row) in rows.iter().enumerate() {
-        assert_eq!(rt; table.at(place), Some(*row));
-        assert_eq!(rt; table.get(row.tid), Some(*row));
-        let later = rows[place..]
-            .iter()
-            .skip(1)
-            .find(|other| other.pid == row.pid);
-        assert_eq!(rt; next(table, row.tid), later.copied());
-    }
-    for number in 1000..1003 {
-        let pid = process(number)?;
-        let own = rows.iter().copied().filter(|row| row.pid == pid);
-        assert!(rt; table.of_process(pid).eq(own));
-        assert_eq!(rt;
-            table.first_of(pid),
-            rows.iter().copied().find(|row| row.pid == pid)
-        );
-        assert_eq!(rt;
-            table.count(pid),
-            rows.iter().filter(|row| row.pid == pid).count()
-        );
-    }
-    for (number, from) in [(1001, 100000), (1002, 104000)] {
-        let own = rows
-            .iter()
-            .filter(|row| (from..from + 4000).contains(&row.tid.get()))
-            .count();
-        assert_eq!(rt; table.user_count(Uid::new(number)?), own);
-    }
     Ok(())
 }

@@ -11,12 +11,12 @@ use Rattle.proc_table.specs.Seen.{owns}
 use Rattle.proc_table.specs.Rows.{Rows}
 use Rattle.proc_table.specs.Fresh.{is_lwp, add_lwp, no_rows}
 use Rattle.proc_table.specs.Kept.{Named, Housed, IsKept, set_lwp, drop_lwp}
-use Rattle.proc_table.proofs.Every.{every_weaken, every_map, every_filter, every_found, every_append}
+use Rattle.proc_table.proofs.Every.{every_weaken, every_map, every_filter, every_found, every_append, some_and}
 use Rattle.proc_table.proofs.Rows.{lwp_of-tid}
 use Rattle.proc_table.proofs.Rising.{owned_found}
 use Rattle.proc_table.proofs.Lwps.{Differ-with_lwp, Differ-filter, Differ-push, LacksLwp-from_any}
 use Rattle.proc_table.proofs.Cursors.{InBlock-after, cursors-set, cursors-first, length-rising}
-use Rattle.proc_table.proofs.KeepsProcesses.{some_and, Named-more}
+use Rattle.proc_table.proofs.KeepsProcesses.{Named-more}
 
 pub keeps-set_lwp : (new : LwpData) (rows : Rows) → IsKept rows → IsSomeAnd (lwp_of new.tid rows.lwps) (λ was. was.pid ≡ new.pid) → IsKept (set_lwp new rows)
 keeps-set_lwp new rows kept there = record {

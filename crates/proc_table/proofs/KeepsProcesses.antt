@@ -14,15 +14,11 @@ use Rattle.proc_table.specs.Rows.{Rows}
 use Rattle.proc_table.specs.Fresh.{is_process, add_process}
 use Rattle.proc_table.specs.Walks.{next_tracee, next_child}
 use Rattle.proc_table.specs.Kept.{IsRow, AtHome, Named, Housed, IsKept, put_process, set_process, drop_process}
-use Rattle.proc_table.proofs.Every.{every_both, every_weaken, every_map, every_filter, every_found, every_untested}
+use Rattle.proc_table.proofs.Every.{every_both, every_weaken, every_map, every_filter, every_found, every_untested, some_and}
 use Rattle.proc_table.proofs.Rows.{process_of-pid, row_found, found_row, process_of-map, is_process-map, process_of-without, put_process-pid}
 use Rattle.proc_table.proofs.Rising.{Rise-map, Rise-filter, Lacks, Lacks-from_any}
 use Rattle.proc_table.proofs.Placed.{every_placed, process_of-placed, is_process-placed, Rise-placed}
 use Rattle.proc_table.proofs.Cursors.{InBlock-after, cursors-set}
-
-pub some_and : {A : Type 0} (P : A → Type 0) (o : Option A) → IsSomeAnd o P → (a : A) × (o ≡ Some a) × P a
-some_and P None h = absurd (h)
-some_and P (Some a) h = (a, refl, h)
 
 pub Named-more : (rows rows' : Rows) → ((n : ℕ) → IsRow rows n → IsRow rows' n) → (p : ProcData) → Named rows p → Named rows' p
 Named-more rows rows' more p h = record { tracer = of_tracer p.tracer h.tracer; parent = λ apart. more p.parent (h.parent apart) }

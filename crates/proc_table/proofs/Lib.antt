@@ -5,6 +5,10 @@ pub mod Lwps
 pub mod Cursors
 pub mod KeepsProcesses
 pub mod KeepsLwps
-pub mod FirstFree
 pub mod Placed
-pub mod Writes
+pub mod Finds
+pub mod Listing
+pub mod Counts
+pub mod Slots
+pub mod NextOf
+pub mod Seen

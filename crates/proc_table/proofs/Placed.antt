@@ -1,11 +1,10 @@
 -- Where a new process stands among rising numbers.
-use Rattle.std.proofs.Common.{◌≡◌, ℕ, suc, ◌<◌, ◌≤◌, Bool, true, false, List, [], ◌∷◌, ◌++◌, arith, refl, sym, ap, ◌∙◌, subst}
-use Rattle.std.specs.Prelude.{◌≢◌, cond, filter, count_by, ltb, insert}
+use Rattle.std.proofs.Common.{◌≡◌, ℕ, ◌<◌, ◌≤◌, Bool, true, false, List, [], ◌∷◌, ◌++◌, arith, refl, sym, ap, ◌∙◌}
+use Rattle.std.specs.Prelude.{◌≢◌, filter, ltb}
 use Rattle.std.specs.List.{list_any, AllByRecursion}
 use Rattle.std.proofs.Common.{inl, inr, nat_eq, Some, ◌⊎◌}
 use Rattle.std.proofs.lemmas.Bool.{cases_Bool}
 use Rattle.std.proofs.lemmas.Bool.Decides.{nat_tests}
-use Rattle.std.proofs.lemmas.List.Sums.{sum_by-cons}
 use Rattle.proc_table.specs.declared.ProcData.{ProcData}
 use Rattle.proc_table.specs.Processes.{placed, process_of}
 use Rattle.proc_table.specs.Kept.{AllAbove, Rise}
@@ -32,39 +31,6 @@ none_below n (q ∷ qs) a = let no : ltb q.pid n ≡ false = ltb-no q.pid n (ome
 all_above : (n : ℕ) (qs : List ProcData) → AllAbove n qs → filter (above n) qs ≡ qs
 all_above n [] a = refl
 all_above n (q ∷ qs) a = let yes : ltb n q.pid ≡ true = ltb-yes n q.pid a.0 in rw yes (ap (λ xs. q ∷ xs) (all_above n qs a.1))
-
-none_counted : (n : ℕ) (qs : List ProcData) → AllAbove n qs → count_by (below n) qs ≡ 0
-none_counted n [] a = refl
-none_counted n (q ∷ qs) a = let no : ltb q.pid n ≡ false = ltb-no q.pid n (omega arith) in rw no (none_counted n qs a.1)
-
--- inserted after the rows with smaller numbers, a new row stands at its place
-inserted : (p : ProcData) (q : ProcData) (qs : List ProcData) (b : Bool) → ltb q.pid p.pid ≡ b
-    → AllAbove q.pid qs → (q.pid ≡ p.pid → ⊥)
-    → insert qs (count_by (below p.pid) qs) p ≡ placed p qs
-    → insert (q ∷ qs) (count_by (below p.pid) (q ∷ qs)) p ≡ placed p (q ∷ qs)
-inserted p q qs true e a lacks rest =
-    let less : q.pid < p.pid = grind (arith, nat_tests) in
-    let no : ltb p.pid q.pid ≡ false = ltb-no p.pid q.pid (omega arith) in
-    let more : count_by (below p.pid) (q ∷ qs) ≡ suc (count_by (below p.pid) qs) =
-    sum_by-cons (λ x. cond (below p.pid x) 1 0) q qs ∙ rw e (omega arith)
-    in
-    let P : ℕ → Type 0 = λ i. insert (q ∷ qs) i p ≡ placed p (q ∷ qs) in
-    subst P (sym more) (rw (e, no) (ap (λ xs. q ∷ xs) rest))
-inserted p q qs false e a lacks rest =
-    let differ : q.pid ≢ p.pid = lacks in
-    let least : p.pid ≤ q.pid = grind (arith, nat_tests) in
-    let greater : p.pid < q.pid = omega arith in
-    let all : AllAbove p.pid (q ∷ qs) = (greater, lower p.pid q.pid (omega arith) qs a) in
-    let P : ℕ → Type 0 = λ i. insert (q ∷ qs) i p ≡ placed p (q ∷ qs) in
-    subst P (sym (none_counted p.pid (q ∷ qs) all))
-    (sym (ap (λ xs. xs ++ (p ∷ filter (above p.pid) (q ∷ qs))) (none_below p.pid (q ∷ qs) all)
-    ∙ ap (λ xs. p ∷ xs) (all_above p.pid (q ∷ qs) all)))
-
-pub inserted-placed : (p : ProcData) (ps : List ProcData) → Rise ps → Lacks p.pid ps
-    → insert ps (count_by (below p.pid) ps) p ≡ placed p ps
-inserted-placed p [] r l = refl
-inserted-placed p (q ∷ qs) r l =
-    inserted p q qs (ltb q.pid p.pid) refl r.0 l.0 (inserted-placed p qs r.1 l.1)
 
 placed-later : (p q : ProcData) (qs : List ProcData) → q.pid < p.pid → placed p (q ∷ qs) ≡ q ∷ placed p qs
 placed-later p q qs less = rw (ltb-yes q.pid p.pid less, ltb-no p.pid q.pid (omega (arith, less))) refl

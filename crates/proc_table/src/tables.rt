@@ -1,4 +1,4 @@
-//! The rows of a host, kept in lists.
+//! The tables of a host: its processes and LWPs, and where the search for each user's next number begins.
 
 ghost use Rattle.std.specs.Prelude.{◌≡◌, ℕ, ◌+◌, ◌-◌, ◌*◌, ◌<◌, ◌≤◌, ◌^◌, ◌==◌, true, false, None, IsSome, IsSomeAnd, OnOk, IfOk, IfSome, count_by, ltb, length, get_or, map, option_map, slice_get};
 ghost use Rattle.pid_blocks.specs.Users.{IsUser};
@@ -11,46 +11,33 @@ ghost use Rattle.proc_table.specs.Fresh.{no_rows, fresh_pid, fresh_tid, add_proc
 ghost use Rattle.proc_table.specs.Kept.{IsKept, IsRow, AtHome, Named, put_process, set_process, set_lwp, drop_process, drop_lwp};
 
 use crate::ProcData;
-use lwp_table::LwpData;
-use pid_blocks::{Block, Pid, Tid, Uid, cursor_after, pid_block, tid_block};
+use crate::processes::Processes;
+use lwp_table::{LwpData, LwpTable};
+use pid_blocks::{Pid, Tid, Uid, cursor_after, next_free, pid_block, tid_block};
 use std::alloc::{AllocError, Global};
 use std::marker::Model;
 
 /// The rows of processes and LWPs, and the users' cursors.
 #[derive(Drop)]
 pub struct Tables {
-    processes: Vec<ProcData>,
-    lwps: Vec<LwpData>,
+    processes: Processes,
+    lwps: LwpTable,
     pid_cursors: [u32; 64],
     tid_cursors: [u32; 64],
 }
 
 impl Model for Tables {
-    ghost use Rattle.std.specs.Prelude.{◌-◌, vec_capacity, vec_len};
     ghost use Rattle.proc_table.specs.Kept.{Table, IsKept};
 
     ghost Value = { Table };
 
     ghost view = { λ t. record {
-      rows = record { processes = t.processes.items; lwps = t.lwps.items; pid_cursors = t.pid_cursors; tid_cursors = t.tid_cursors };
-      spare_processes = vec_capacity t.processes - vec_len t.processes;
-      spare_lwps = vec_capacity t.lwps - vec_len t.lwps;
+      rows = record { processes = t.processes.rows; lwps = t.lwps.rows; pid_cursors = t.pid_cursors; tid_cursors = t.tid_cursors };
+      spare_processes = t.processes.spare;
+      spare_lwps = t.lwps.spare;
     } };
 
-    ghost invariant = { λ t. IsKept (record { processes = t.processes.items; lwps = t.lwps.items; pid_cursors = t.pid_cursors; tid_cursors = t.tid_cursors }) };
-}
-
-/// The row in the place of the one with its number.
-fn process_put(row: &ProcData, p: ProcData) -> ProcData
-    ensures { result ≡ put_process row.now p }
-{
-    if p.pid == row.pid { *row } else { p }
-}
-
-fn lwp_put(row: &LwpData, l: LwpData) -> LwpData
-    ensures { result ≡ put_lwp row.now l }
-{
-    if l.tid == row.tid { *row } else { l }
+    ghost invariant = { λ t. IsKept (record { processes = t.processes.rows; lwps = t.lwps.rows; pid_cursors = t.pid_cursors; tid_cursors = t.tid_cursors }) };
 }
 
 /// Numbers that rise from the first one by steps, one for each user.
@@ -71,8 +58,8 @@ impl Tables {
         ensures { IfOk result (λ tables. tables.rows ≡ no_rows) }
     {
         Ok(Tables {
-            processes: Vec::new(alloc),
-            lwps: Vec::new(alloc),
+            processes: Processes::new(alloc),
+            lwps: LwpTable::new(alloc)?,
             pid_cursors: cursors(1000, 1000),
             tid_cursors: cursors(100000, 4000),
         })
@@ -110,7 +97,7 @@ impl Tables {
         ensures row { result ≡ process_of pid self.now.rows.processes }
         ensures kept { IsKept self.now.rows }
     {
-        self.processes.iter().copied().find(|p| p.pid == pid)
+        self.processes.get(pid.get())
     }
 
     /// The process with this number, if it is one's.
@@ -118,10 +105,7 @@ impl Tables {
         ensures row { result ≡ process_of number self.now.rows.processes }
         ensures kept { IsKept self.now.rows }
     {
-        self.processes
-            .iter()
-            .copied()
-            .find(|p| p.pid.get() == number)
+        self.processes.get(number)
     }
 
     /// The LWP with this number.
@@ -129,7 +113,7 @@ impl Tables {
         ensures row { result ≡ lwp_of tid self.now.rows.lwps }
         ensures kept { IsKept self.now.rows }
     {
-        self.lwps.iter().copied().find(|l| l.tid == tid)
+        self.lwps.get(tid)
     }
 
     /// The oldest LWP of a process.
@@ -137,7 +121,7 @@ impl Tables {
         ensures row { result ≡ first_lwp pid self.now.rows.lwps }
         ensures kept { IsKept self.now.rows }
     {
-        self.lwps.iter().copied().find(|l| l.pid == pid)
+        self.lwps.first_of(pid)
     }
 
     /// The LWP of a process that was born next after this one.
@@ -146,16 +130,7 @@ impl Tables {
         ensures row { result ≡ next_lwp pid after self.now.rows.lwps }
         ensures kept { IsKept self.now.rows }
     {
-        let mut passed = false;
-        for l in &self.lwps {
-            if passed && l.pid == pid {
-                return Some(*l);
-            }
-            if l.tid == after {
-                passed = true;
-            }
-        }
-        None
+        self.lwps.next_of(pid, after)
     }
 
     /// The LWP at this place by birth.
@@ -163,7 +138,7 @@ impl Tables {
         ensures row { result ≡ slice_get self.now.rows.lwps place }
         ensures kept { IsKept self.now.rows }
     {
-        self.lwps.get(place).copied()
+        self.lwps.at(place)
     }
 
     /// The user's process with this number.
@@ -171,17 +146,18 @@ impl Tables {
         ensures row { result ≡ seen_process uid number self.now.rows }
         ensures kept { IsKept self.now.rows }
     {
-        self.processes
-            .iter()
-            .copied()
-            .find(|p| p.pid.get() == number && p.uid == uid)
+        if self.processes.owner(number) == Some(uid) {
+            self.processes.get(number)
+        } else {
+            None
+        }
     }
 
     /// Whether the user has the process.
     fn owns(&self, uid: Uid, pid: Pid) -> bool
         ensures { result ≡ owns uid pid self.now.rows.processes }
     {
-        self.processes.iter().any(|p| p.pid == pid && p.uid == uid)
+        self.processes.owner(pid.get()) == Some(uid)
     }
 
     /// The LWP with this number, of a process of the user.
@@ -189,30 +165,28 @@ impl Tables {
         ensures row { result ≡ seen_lwp uid number self.now.rows }
         ensures kept { IsKept self.now.rows }
     {
-        self.lwps
-            .iter()
-            .copied()
-            .find(|l| l.tid.get() == number && self.owns(uid, l.pid))
+        let pid = self.lwp_process(number)?;
+        if !self.owns(uid, pid) {
+            return None;
+        }
+        self.lwps.get(Tid::new(number)?)
     }
 
     /// The number, where it is that of one of the user's processes.
     fn seen_pid(&self, uid: Uid, number: u32) -> Option<Pid>
         ensures { result ≡ option_map (λ p. p.pid) (seen_process uid number self.now.rows) }
     {
-        self.processes
-            .iter()
-            .find(|p| p.pid.get() == number && p.uid == uid)
-            .map(|p| p.pid)
+        let _ = &self.processes;
+        let pid = Pid::new(number)?;
+        if self.owns(uid, pid) { Some(pid) } else { None }
     }
 
     /// The process of the user's LWP with this number.
     fn seen_lwp_pid(&self, uid: Uid, number: u32) -> Option<Pid>
         ensures { result ≡ option_map (λ l. l.pid) (seen_lwp uid number self.now.rows) }
     {
-        self.lwps
-            .iter()
-            .find(|l| l.tid.get() == number && self.owns(uid, l.pid))
-            .map(|l| l.pid)
+        let pid = self.lwp_process(number)?;
+        if self.owns(uid, pid) { Some(pid) } else { None }
     }
 
     /// The process that a number names for the user: up to 99999 its own number, above that of one of its LWPs.
@@ -233,10 +207,7 @@ impl Tables {
         ensures row { result ≡ next_of uid after self.now.rows.processes }
         ensures kept { IsKept self.now.rows }
     {
-        self.processes
-            .iter()
-            .copied()
-            .find(|p| after < p.pid.get() && p.uid == uid)
+        self.processes.next_of(uid, after)
     }
 
     /// The first process above a number that this one traces.
@@ -244,10 +215,7 @@ impl Tables {
         ensures row { result ≡ next_tracee pid after self.now.rows.processes }
         ensures kept { IsKept self.now.rows }
     {
-        self.processes
-            .iter()
-            .copied()
-            .find(|p| after < p.pid.get() && p.tracer == Some(pid))
+        self.processes.next_tracee(pid, after)
     }
 
     /// The first process above a number whose parent is this one.
@@ -255,10 +223,7 @@ impl Tables {
         ensures row { result ≡ next_child pid after self.now.rows.processes }
         ensures kept { IsKept self.now.rows }
     {
-        self.processes
-            .iter()
-            .copied()
-            .find(|p| after < p.pid.get() && p.parent == pid.get())
+        self.processes.next_child(pid, after)
     }
 
     /// How many processes the user has.
@@ -266,7 +231,7 @@ impl Tables {
         ensures count { result ≡ process_count uid self.now.rows }
         ensures kept { IsKept self.now.rows }
     {
-        self.processes.iter().filter(|p| p.uid == uid).count()
+        self.processes.count(uid)
     }
 
     /// How many LWPs the user has.
@@ -274,7 +239,7 @@ impl Tables {
         ensures count { result ≡ lwp_count_of uid self.now.rows }
         ensures kept { IsKept self.now.rows }
     {
-        self.lwps.iter().filter(|l| self.owns(uid, l.pid)).count()
+        self.lwps.user_count(uid)
     }
 
     /// How many LWPs a process has.
@@ -282,7 +247,7 @@ impl Tables {
         ensures count { result ≡ lwp_count pid self.now.rows }
         ensures kept { IsKept self.now.rows }
     {
-        self.lwps.iter().filter(|l| l.pid == pid).count()
+        self.lwps.count(pid)
     }
 
     /// Where the search for the user's next process number begins.
@@ -301,56 +266,28 @@ impl Tables {
         self.tid_cursors[uid.slot()]
     }
 
+    /// The process of the LWP with this number.
+    fn lwp_process(&self, number: u32) -> Option<Pid>
+        ensures process { result ≡ option_map (λ l. l.pid) (lwp_of number self.now.rows.lwps) }
+        ensures kept { IsKept self.now.rows }
+    {
+        let _ = &self.lwps;
+        let tid = Tid::new(number)?;
+        self.lwps.process(tid)
+    }
+
     /// Whether a process has the number.
     fn is_process(&self, number: u32) -> bool
         ensures { result ≡ is_process self.now.rows number }
     {
-        self.processes.iter().any(|p| p.pid.get() == number)
+        self.processes.has(number)
     }
 
     /// Whether an LWP has the number.
     fn is_lwp(&self, number: u32) -> bool
         ensures { result ≡ is_lwp self.now.rows number }
     {
-        self.lwps.iter().any(|l| l.tid.get() == number)
-    }
-
-    /// The first of so many numbers that no process has.
-    fn free_pid(&self, from: u32, count: u32) -> Option<u32>
-        requires { from + count < 2 ^ 32 }
-        ensures { result ≡ first_free (is_process self.now.rows) count from }
-    {
-        for n in from..from + count {
-            if !self.is_process(n) {
-                return Some(n);
-            }
-        }
-        None
-    }
-
-    /// The first of so many numbers that no LWP has.
-    fn free_tid(&self, from: u32, count: u32) -> Option<u32>
-        requires { from + count < 2 ^ 32 }
-        ensures { result ≡ first_free (is_lwp self.now.rows) count from }
-    {
-        for n in from..from + count {
-            if !self.is_lwp(n) {
-                return Some(n);
-            }
-        }
-        None
-    }
-
-    /// The first number of the block that no row has, from the cursor on and round.
-    fn next_pid(&self, block: Block, cursor: u32) -> Option<u32>
-        requires size { block.first + block.size < 2 ^ 32 }
-        requires cursor { InBlock block cursor }
-        ensures { result ≡ next_free block cursor (is_process self.now.rows) }
-    {
-        if let Some(n) = self.free_pid(cursor, block.first + block.size - cursor) {
-            return Some(n);
-        }
-        self.free_pid(block.first, cursor - block.first)
+        self.lwp_process(number).is_some()
     }
 
     /// The number of the user's next row.
@@ -360,21 +297,9 @@ impl Tables {
         ensures fresh { IfSome result (λ n. is_process self.now.rows n ≡ false) }
         ensures kept { IsKept self.now.rows }
     {
-        let _user = uid.get();
-        let n = self.next_pid(pid_block(uid), self.pid_cursors[uid.slot()])?;
-        Pid::new(n)
-    }
-
-    /// The first number of the block that no row has, from the cursor on and round.
-    fn next_tid(&self, block: Block, cursor: u32) -> Option<u32>
-        requires size { block.first + block.size < 2 ^ 32 }
-        requires cursor { InBlock block cursor }
-        ensures { result ≡ next_free block cursor (is_lwp self.now.rows) }
-    {
-        if let Some(n) = self.free_tid(cursor, block.first + block.size - cursor) {
-            return Some(n);
-        }
-        self.free_tid(block.first, cursor - block.first)
+        let cursor = self.pid_cursors[uid.slot()];
+        let number = next_free(pid_block(uid), cursor, |n| self.is_process(n))?;
+        Pid::new(number)
     }
 
     /// The number of the user's next row.
@@ -384,19 +309,9 @@ impl Tables {
         ensures fresh { IfSome result (λ n. is_lwp self.now.rows n ≡ false) }
         ensures kept { IsKept self.now.rows }
     {
-        let _user = uid.get();
-        let n = self.next_tid(tid_block(uid), self.tid_cursors[uid.slot()])?;
-        Tid::new(n)
-    }
-
-    /// How many processes have lower numbers.
-    fn place_of(&self, pid: Pid) -> usize
-        ensures { result ≡ count_by (λ q. ltb q.pid pid) self.now.rows.processes }
-    {
-        self.processes
-            .iter()
-            .filter(|q| q.pid.get() < pid.get())
-            .count()
+        let cursor = self.tid_cursors[uid.slot()];
+        let number = next_free(tid_block(uid), cursor, |n| self.is_lwp(n))?;
+        Tid::new(number)
     }
 
     /// Adds a process. Takes no memory.
@@ -409,11 +324,9 @@ impl Tables {
         ensures spare { self.old.spare_processes ≤ self.new.spare_processes + 1 }
         ensures others { self.new.spare_lwps ≡ self.old.spare_lwps }
     {
-        let _user = row.uid.get();
         let slot = row.uid.slot();
-        let at = self.place_of(row.pid);
-        self.processes.insert(at, row).unwrap();
         self.pid_cursors[slot] = cursor_after(pid_block(row.uid), row.pid.get());
+        self.processes.add(row);
     }
 
     /// Adds an LWP of a process of the user. Takes no memory.
@@ -426,10 +339,8 @@ impl Tables {
         ensures spare { self.old.spare_lwps ≤ self.new.spare_lwps + 1 }
         ensures others { self.new.spare_processes ≡ self.old.spare_processes }
     {
-        let _user = uid.get();
-        let slot = uid.slot();
-        self.lwps.push(row).unwrap();
-        self.tid_cursors[slot] = cursor_after(tid_block(uid), row.tid.get());
+        self.tid_cursors[uid.slot()] = cursor_after(tid_block(uid), row.tid.get());
+        self.lwps.add(row);
     }
 
     /// Puts a row in the place of the one with its number, which is of the same user.
@@ -440,9 +351,7 @@ impl Tables {
         ensures spare { self.new.spare_processes ≡ self.old.spare_processes }
         ensures others { self.new.spare_lwps ≡ self.old.spare_lwps }
     {
-        for p in self.processes.iter_mut() {
-            *p = process_put(&row, *p);
-        }
+        self.processes.set(row);
     }
 
     /// Puts a row in the place of the one with its number, which is of the same process.
@@ -452,9 +361,7 @@ impl Tables {
         ensures spare { self.new.spare_lwps ≡ self.old.spare_lwps }
         ensures others { self.new.spare_processes ≡ self.old.spare_processes }
     {
-        for l in self.lwps.iter_mut() {
-            *l = lwp_put(&row, *l);
-        }
+        self.lwps.set(row);
     }
 
     /// Takes out a process that no row names.
@@ -466,7 +373,7 @@ impl Tables {
         ensures rows { self.new.rows ≡ drop_process pid self.old.rows }
         ensures others { self.new.spare_lwps ≡ self.old.spare_lwps }
     {
-        self.processes.retain(|p| p.pid != pid);
+        self.processes.remove(pid);
     }
 
     /// Takes an LWP out.
@@ -475,6 +382,6 @@ impl Tables {
         ensures rows { self.new.rows ≡ drop_lwp tid self.old.rows }
         ensures others { self.new.spare_processes ≡ self.old.spare_processes }
     {
-        self.lwps.retain(|l| l.tid != tid);
+        self.lwps.remove(tid);
     }
 }

@@ -19,7 +19,8 @@ use Rattle.trace_stop.proofs.Born.{born_sound}
 use Rattle.requests.specs.Outcome.{answers}
 use Rattle.requests.specs.Leave.{Numbers, room_for_process}
 use Rattle.requests.specs.Calls.{spawn, spawn_with}
-use Rattle.requests.specs.Machine.{Machine, no_rows, empty, after}
+use Rattle.requests.specs.Machine.{Machine, empty, after}
+use Rattle.proc_table.specs.Fresh.{no_rows}
 use Rattle.requests.specs.Sound.{sound}
 use Rattle.requests.specs.declared.PlainStep.TheVariants as op
 use Rattle.requests.specs.Step.{step, checked}

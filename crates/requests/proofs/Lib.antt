@@ -1,3 +1,6 @@
 pub mod Room
 pub mod After
 pub mod Born
+pub mod Walk
+pub mod Replies
+pub mod Hosted

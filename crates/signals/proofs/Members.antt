@@ -50,8 +50,8 @@ has-one_signal n m one some = has-bit (bit n) m some ∙ by_place (cases_Bool (m
         let other : m - 1 ≢ n - 1 = λ same. let clash : m ≡ n = omega arith in grind (arith, clash) in
         ap (λ x. x == 1) (bit_at-pow_other (n - 1) (m - 1) other) ∙ sym e
 
-pub members : (set other n m : ℕ) → IsSignal n → IsSignal m → MembersAfter set other n m
-members set other n m one some = record {
+pub members_after : (set other n m : ℕ) → IsSignal n → IsSignal m → MembersAfter set other n m
+members_after set other n m one some = record {
   added = has-union set (bit n) m some.0 ∙ ap (λ x. has set m || x) (has-one_signal n m one.0 some.0);
   removed = has-difference set (bit n) m some.0 ∙ ap (λ x. has set m && not x) (has-one_signal n m one.0 some.0);
   joined = has-union set other m some.0;

@@ -1,5 +1,5 @@
 -- Who is doomed before a process that traces no live one has ended, and after.
-use Rattle.std.proofs.Common.{◌≡◌, ℕ, zero, suc, List, [], ◌∷◌, filter_map, Bool, true, false, ◌&&◌, ◌||◌, ◌==◌, if◌then◌else◌, Option, Some, None, IfSome, refl, sym, ap, ◌∙◌, eqb, true≢false, eqb-true, eq-eqb, subst, inl, inr}
+use Rattle.std.proofs.Common.{◌≡◌, ℕ, zero, suc, List, [], ◌∷◌, filter_map, Bool, true, false, not, ◌&&◌, ◌||◌, ◌==◌, if◌then◌else◌, Option, Some, None, IfSome, refl, sym, ap, ◌∙◌, eqb, true≢false, eqb-true, eq-eqb, subst, inl, inr}
 use Rattle.std.proofs.Math.Path.{fun_ext}
 use Rattle.std.specs.Option.{option_and_then}
 use Rattle.std.specs.List.{AllByRecursion, list_any}
@@ -14,7 +14,7 @@ use Rattle.trace_stop.specs.declared.Settings.{Settings}
 use Rattle.trace_stop.specs.Free.{detached}
 use Rattle.trace_stop.specs.End.{tracer_in, tracer_of, holds_of, meets, is_doomed, dooms, orphaned, dead, uncollected, end_each, end_of, end}
 use Rattle.trace_stop.specs.Facts.{IsLiveOf, Linked, Standing, Stands, WithOwner}
-use Rattle.trace_stop.specs.Laws.{traces_live, LeafLaw}
+use Rattle.trace_stop.specs.Laws.{traces_live, LeafLaw, LeafDooms}
 use Rattle.trace_stop.proofs.Every.{and_left, and_right, by_bool, All-imply, All-any, All-both, find_some}
 use Rattle.trace_stop.proofs.Passes.{passes, own_rows, above_none, process_edited}
 use Rattle.trace_stop.proofs.Doomed.{live_row, NoZombie, no_zombie, Untracing, untracing, end_each_same, dooms_alone, doomed_alone}
@@ -87,11 +87,11 @@ or_true : (b : Bool) → (b || true) ≡ true
 or_true true = refl
 or_true false = refl
 
-holds_more : (f g : ℕ → Bool) (o : Option ℕ) → ((t : ℕ) → f t ≡ true → g t ≡ true) → holds_of f o ≡ true → holds_of g o ≡ true
+pub holds_more : (f g : ℕ → Bool) (o : Option ℕ) → ((t : ℕ) → f t ≡ true → g t ≡ true) → holds_of f o ≡ true → holds_of g o ≡ true
 holds_more f g None h is = is
 holds_more f g (Some t) h is = h t is
 
-or_more : (a b c : Bool) → (b ≡ true → c ≡ true) → (a || b) ≡ true → (a || c) ≡ true
+pub or_more : (a b c : Bool) → (b ≡ true → c ≡ true) → (a || b) ≡ true → (a || c) ≡ true
 or_more true b c h is = refl
 or_more false b c h is = h is
 
@@ -131,7 +131,7 @@ tracer_lives rows s n = at_row (process_of n rows.processes) refl
     at_row None is = tt
     at_row (Some r) is = at_tracer r.uid r.tracer (find_some (λ x. x.pid == n) (Linked rows) rows.processes s.linked r is).0.tracer
 
-named : (rows : Rows) → Stands rows → (r : ProcData) → Linked rows r → (x : ℕ) → Names r x → NoZombie rows.processes x
+pub named : (rows : Rows) → Stands rows → (r : ProcData) → Linked rows r → (x : ℕ) → Names r x → NoZombie rows.processes x
 named rows s r l x h = elim h.names [
   | inl tracer ↦ at_tracer r.tracer l.tracer tracer
   | inr parent ↦ subst (NoZombie rows.processes) (eqb-true r.parent x parent.0) (no_zombie rows s.rising r.uid r.parent (l.parent (λ one. true≢false (sym (eq-eqb r.parent 1 one) ∙ parent.1))))
@@ -144,12 +144,12 @@ named rows s r l x h = elim h.names [
 owners_live : (rows : Rows) → Stands rows → AllByRecursion (λ l. (r : ProcData) → process_of l.pid rows.processes ≡ Some r → is_live r ≡ true) rows.lwps
 owners_live rows s = All-imply (WithOwner rows (Standing rows)) _ (λ l h r is. (h r is).live) rows.lwps s.standing
 
-this_holds : (q : ℕ) (o : Option ℕ) → holds_of (alone q) o ≡ is_this q o
+pub this_holds : (q : ℕ) (o : Option ℕ) → holds_of (alone q) o ≡ is_this q o
 unfolding alone
 this_holds q None = refl
 this_holds q (Some t) = refl
 
-kept-tracer : (t o : ℕ → Bool) (r : ProcData) → (told_row t (moved o r)).tracer ≡ r.tracer
+pub kept-tracer : (t o : ℕ → Bool) (r : ProcData) → (told_row t (moved o r)).tracer ≡ r.tracer
 unfolding told_row moved heard
 kept-tracer t o r = at (t r.pid)
   where
@@ -157,7 +157,7 @@ kept-tracer t o r = at (t r.pid)
     at true = refl
     at false = refl
 
-If-map : {X : Type 0} (P Q : X → Type 0) → ((x : X) → P x → Q x) → (o : Option X) → IfSome o P → IfSome o Q
+pub If-map : {X : Type 0} (P Q : X → Type 0) → ((x : X) → P x → Q x) → (o : Option X) → IfSome o P → IfSome o Q
 If-map P Q h None k = tt
 If-map P Q h (Some x) k = h x k
 
@@ -179,11 +179,11 @@ number_listed n (p ∷ ps) r is = by_head (eqb p.pid n) refl is (number_listed n
     by_head true e h rest = refl
     by_head false e h rest = rest h
 
-alone-true : (q n : ℕ) → alone q n ≡ true → n ≡ q
+pub alone-true : (q n : ℕ) → alone q n ≡ true → n ≡ q
 unfolding alone
 alone-true q n e = eqb-true n q e
 
-alone-false : (q n : ℕ) → (n == q) ≡ false → alone q n ≡ false
+pub alone-false : (q n : ℕ) → (n == q) ≡ false → alone q n ≡ false
 unfolding alone
 alone-false q n e = e
 
@@ -354,17 +354,32 @@ module _ (settings : Settings) (rows : Rows) (p q status : ℕ) (kills : setting
           at_row None is h = absurd (true≢false (sym h))
           at_row (Some r) is h = number_listed q ps r is
 
+  abbrev first_left : Rows
+  first_left = left rows d p q status dq qp s.rising ready
+
+  left_same : first_left.processes ≡ qs
+  left_same = ap (λ (rs : Rows). rs.processes) (left-is rows d p q status dq qp s.rising ready)
+
+  left_rise : Rise first_left.processes
+  left_rise = left-rises rows d p q status dq qp s.rising ready
+
+  left_dooms : (n : ℕ) → dooms settings first_left.processes p n ≡ rest d q n
+  left_dooms = subst (λ (xs : List ProcData). Rise xs → (n : ℕ) → dooms settings xs p n ≡ rest d q n) (sym left_same) doom_after left_rise
+
+  pub dooms_left : (n : ℕ) → dooms settings (end settings q SIGKILL rows).processes p n ≡ (d n && not (n == q))
+  unfolding rest
+  dooms_left n = ap (λ (rs : Rows). dooms settings rs.processes p n) q_first ∙ left_dooms n
+
   pub law : end settings p status rows ≡ end settings p status (end settings q SIGKILL rows)
   law =
-      let made = left-is rows d p q status dq qp s.rising ready in
-      let rises = left-rises rows d p q status dq qp s.rising ready in
-      let rows' : Rows = left rows d p q status dq qp s.rising ready in
-      let same : rows'.processes ≡ qs = ap (λ (rs : Rows). rs.processes) made in
       end-fallen settings p status rows kills s.rising p_live
       ∙ sym (rows_twice rows d p q status dq qp s.rising ready (owners_live rows s))
-      ∙ ap (λ (over : ℕ → Bool). end_each (fallen over) over p status rows') (sym (fun_ext (subst (λ (xs : List ProcData). Rise xs → (n : ℕ) → dooms settings xs p n ≡ rest d q n) (sym same) doom_after rises)))
-      ∙ sym (end-fallen settings p status rows' kills rises (subst (λ (xs : List ProcData). IsLiveRow xs p) (sym same) p_left))
+      ∙ ap (λ (over : ℕ → Bool). end_each (fallen over) over p status first_left) (sym (fun_ext left_dooms))
+      ∙ sym (end-fallen settings p status first_left kills left_rise (subst (λ (xs : List ProcData). IsLiveRow xs p) (sym left_same) p_left))
       ∙ ap (end settings p status) (sym q_first)
 
 pub leaf_law : LeafLaw
 leaf_law settings rows p q status kills s qp dq leaf = law settings rows p q status kills s qp dq leaf
+
+pub leaf_dooms : LeafDooms
+leaf_dooms settings rows p q n kills s qp dq leaf = dooms_left settings rows p q 0 kills s qp dq leaf n

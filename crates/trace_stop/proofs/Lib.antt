@@ -11,3 +11,9 @@ pub mod LeafFirst
 pub mod LeafLaw
 pub mod Chains
 pub mod Leaves
+pub mod Edited
+pub mod Remains
+pub mod LeafStands
+pub mod LeafLives
+pub mod LeafSound
+pub mod EndSound

@@ -1,5 +1,5 @@
 -- The end of a process, taken apart into ends of processes that trace no live one.
-use Rattle.std.specs.Prelude.{◌≡◌, ◌≤◌, ℕ, zero, suc, Bool, true, false, ◌==◌, ◌&&◌, ◌||◌, List, [], ◌∷◌, Option, Some, None, length}
+use Rattle.std.specs.Prelude.{◌≡◌, ◌≤◌, ◌<◌, ℕ, zero, suc, Bool, true, false, ◌==◌, ◌&&◌, ◌||◌, List, [], ◌∷◌, Option, Some, None, length, not, count_by}
 use Rattle.std.specs.List.{list_any}
 use Rattle.signals.specs.Table.{SIGKILL}
 use Rattle.proc_table.specs.declared.ProcData.{ProcData}
@@ -8,11 +8,16 @@ use Rattle.proc_table.specs.Rows.{Rows}
 use Rattle.proc_table.specs.Fresh.{is_process}
 use Rattle.trace_stop.specs.declared.Settings.{Settings}
 use Rattle.trace_stop.specs.End.{tracer_of, meets, dooms, left_alone, end_each, end}
-use Rattle.trace_stop.specs.Facts.{Stands}
+use Rattle.trace_stop.specs.Sound.{is_end}
+use Rattle.trace_stop.specs.Facts.{Stands, IsSound}
 
 -- whether the process numbered q traces a live one
 abbrev pub traces_live : ℕ → Rows → Bool
 traces_live q rows = list_any (λ r. is_live r && traces q r) rows.processes
+
+-- whether a live process has the number
+abbrev pub is_live_at : ℕ → Rows → Bool
+is_live_at n rows = list_any (λ r. (r.pid == n) && is_live r) rows.processes
 
 -- what a link leads to
 abbrev pub onward : (ℕ → List ℕ) → Option ℕ → List ℕ
@@ -69,3 +74,38 @@ abbrev pub LeafExists : Type 0
 LeafExists = (settings : Settings) (rows : Rows) (p x : ℕ) → settings.kill_on_debugger_exit ≡ true → Stands rows
     → (x == p) ≡ false → dooms settings rows.processes p x ≡ true
     → (q : ℕ) × ((q == p) ≡ false) × (dooms settings rows.processes p q ≡ true) × (traces_live q rows ≡ false)
+
+-- After the end of a live process q that traces no live one, where a debugger's end kills
+
+-- what the rows always keep of numbers, limits and links stands
+abbrev pub LeafStands : Type 0
+LeafStands = (settings : Settings) (rows : Rows) (q status : ℕ) → settings.kill_on_debugger_exit ≡ true → Stands rows
+    → is_live_at q rows ≡ true → traces_live q rows ≡ false → Stands (end settings q status rows)
+
+-- all who lived but q live
+abbrev pub LeafLives : Type 0
+LeafLives = (settings : Settings) (rows : Rows) (q status n : ℕ) → settings.kill_on_debugger_exit ≡ true → Stands rows
+    → is_live_at q rows ≡ true → traces_live q rows ≡ false
+    → is_live_at n (end settings q status rows) ≡ (is_live_at n rows && not (n == q))
+
+-- so there are fewer
+abbrev pub LeafFewer : Type 0
+LeafFewer = (settings : Settings) (rows : Rows) (q status : ℕ) → settings.kill_on_debugger_exit ≡ true → Stands rows
+    → is_live_at q rows ≡ true → traces_live q rows ≡ false
+    → count_by is_live (end settings q status rows).processes < count_by is_live rows.processes
+
+-- and all who were to end with p but q are still to end with it
+abbrev pub LeafDooms : Type 0
+LeafDooms = (settings : Settings) (rows : Rows) (p q n : ℕ) → settings.kill_on_debugger_exit ≡ true → Stands rows
+    → (q == p) ≡ false → dooms settings rows.processes p q ≡ true → traces_live q rows ≡ false
+    → dooms settings (end settings q SIGKILL rows).processes p n ≡ (dooms settings rows.processes p n && not (n == q))
+
+-- each row is as it must be, where the status is the word of an end
+abbrev pub LeafSound : Type 0
+LeafSound = (settings : Settings) (rows : Rows) (q status : ℕ) → settings.kill_on_debugger_exit ≡ true → IsSound rows → is_end status ≡ true
+    → is_live_at q rows ≡ true → traces_live q rows ≡ false → IsSound (end settings q status rows)
+
+-- so sound rows are sound after the end of any live process
+abbrev pub EndSound : Type 0
+EndSound = (settings : Settings) (rows : Rows) (p status : ℕ) → settings.kill_on_debugger_exit ≡ true → IsSound rows → is_end status ≡ true
+    → is_live_at p rows ≡ true → IsSound (end settings p status rows)

@@ -1,0 +1,204 @@
+-- Look-ups by a number that elements have once, with a further test.
+use Rattle.std.proofs.Common.{◌≡◌, ℕ, ◌<◌, ◌≤◌, Bool, true, false, List, [], ◌∷◌, Option, Some, None, refl, sym, ap, ◌∙◌, nat_eq, cond, arith, inl, inr, is_some}
+use Rattle.std.specs.Prelude.{◌&&◌, find, count_by, option_map, IfSome, SomeIff}
+use Rattle.std.specs.Option.{option_eq}
+use Rattle.std.specs.List.{AllByRecursion, list_any}
+use Rattle.std.proofs.lemmas.Bool.{cases_Bool}
+use Rattle.std.proofs.lemmas.Bool.Decides.{nat_tests}
+use Rattle.std.proofs.lemmas.List.Sums.{sum_by-cons}
+use Rattle.pid_blocks.specs.Users.{IsUser}
+use Rattle.pid_blocks.specs.Blocks.{tid_block, tid_owner, InBlock}
+use Rattle.lwp_table.specs.declared.LwpData.{LwpData}
+use Rattle.lwp_table.specs.Lwps.{LacksLwp, Differ, lwp_of}
+use Rattle.proc_table.specs.declared.ProcData.{ProcData}
+use Rattle.proc_table.specs.Processes.{process_of}
+use Rattle.proc_table.specs.Seen.{seen_lwp, owns}
+use Rattle.proc_table.specs.Rows.{Rows}
+use Rattle.proc_table.specs.Kin.{keep}
+use Rattle.proc_table.specs.Kept.{AllAbove, Rise, AtHome, Housed, IsKept}
+use Rattle.proc_table.proofs.Every.{every_found}
+use Rattle.proc_table.proofs.Rows.{other_number, process_of-pid, lwp_of-tid}
+use Rattle.proc_table.proofs.Finds.{equal_or_not}
+
+module _ {A : Type 0} (number : A → ℕ) where
+  -- each number is had once
+  abbrev pub Once : List A → Type 0
+  Once [] = Unit {0}
+  Once (x ∷ xs) = AllByRecursion (λ y. nat_eq (number y) (number x) ≡ false) xs × Once xs
+
+  module _ (test : A → Bool) (n : ℕ) where
+    none_found : (xs : List A) → AllByRecursion (λ y. nat_eq (number y) n ≡ false) xs → find (λ a. nat_eq (number a) n && test a) xs ≡ None
+    none_found [] all = refl
+    none_found (x ∷ xs) all = rw all.0 (none_found xs all.1)
+
+    pub find-kept : (xs : List A) → Once xs → find (λ a. nat_eq (number a) n && test a) xs ≡ keep test (find (λ a. nat_eq (number a) n) xs)
+    find-kept [] once = refl
+    find-kept (x ∷ xs) once = elim (equal_or_not (number x) n) [
+      | inl h ↦ elim (cases_Bool (test x)) [
+        | inl e ↦ rw (h.0, e) refl
+        | inr e ↦ rw (h.0, e) (none_found xs (rw h.1 at once.0))
+      ]
+      | inr h ↦ rw h.0 (find-kept xs once.1)
+    ]
+
+  pub any-found : (test : A → Bool) (xs : List A) → list_any test xs ≡ is_some (find test xs)
+  any-found test [] = refl
+  any-found test (x ∷ xs) = elim (cases_Bool (test x)) [ inl e ↦ rw e refl | inr e ↦ rw e (any-found test xs) ]
+
+once-processes : (ps : List ProcData) → Rise ps → Once (λ (p : ProcData). p.pid) ps
+once-processes [] r = tt
+once-processes (p ∷ ps) r = (others ps r.0, once-processes ps r.1)
+  where
+    others : (qs : List ProcData) → AllAbove p.pid qs → AllByRecursion (λ q. nat_eq q.pid p.pid ≡ false) qs
+    others [] a = tt
+    others (q ∷ qs) a = (grind (arith, nat_tests, a.0), others qs a.1)
+
+once-lwps : (ls : List LwpData) → Differ ls → Once (λ (l : LwpData). l.tid) ls
+once-lwps [] d = tt
+once-lwps (l ∷ ls) d = (others ls d.0, once-lwps ls d.1)
+  where
+    others : (ks : List LwpData) → LacksLwp l.tid ks → AllByRecursion (λ k. nat_eq k.tid l.tid ≡ false) ks
+    others [] a = tt
+    others (k ∷ ks) a = (other_number k.tid l.tid a.0, others ks a.1)
+
+-- by what the look-up alone finds
+module _ (u n : ℕ) (ps : List ProcData) (r : Rise ps) where
+  pub seen_process-kept : find (λ p. nat_eq p.pid n && nat_eq p.uid u) ps ≡ keep (λ (p : ProcData). nat_eq p.uid u) (process_of n ps)
+  seen_process-kept = find-kept (λ (p : ProcData). p.pid) (λ p. nat_eq p.uid u) n ps (once-processes ps r)
+
+  pub owns-kept : owns u n ps ≡ is_some (keep (λ (p : ProcData). nat_eq p.uid u) (process_of n ps))
+  owns-kept = any-found (λ (p : ProcData). p.pid) (λ p. nat_eq p.pid n && nat_eq p.uid u) ps ∙ ap is_some seen_process-kept
+
+pub seen_lwp-kept : (u n : ℕ) (rows : Rows) → Differ rows.lwps → seen_lwp u n rows ≡ keep (λ (l : LwpData). owns u l.pid rows.processes) (lwp_of n rows.lwps)
+seen_lwp-kept u n rows d = find-kept (λ (l : LwpData). l.tid) (λ l. owns u l.pid rows.processes) n rows.lwps (once-lwps rows.lwps d)
+
+pub has_row : (n : ℕ) (ps : List ProcData) → is_some (process_of n ps) ≡ list_any (λ p. nat_eq p.pid n) ps
+has_row n ps = sym (any-found (λ (p : ProcData). p.pid) (λ p. nat_eq p.pid n) ps)
+
+-- the owner of an LWP's number owns its process
+tid-owner : (u n : ℕ) → IsUser u → InBlock (tid_block u) n → tid_owner n ≡ u
+unfolding tid_owner
+tid-owner u n user home = omega (arith, user.0, user.1, home.0, home.1)
+
+module _ (u : ℕ) (rows : Rows) (kept : IsKept rows) where
+  same_owner : (l : LwpData) → Housed rows l → nat_eq (tid_owner l.tid) u ≡ owns u l.pid rows.processes
+  same_owner l h =
+      let home = every_found AtHome (λ p. nat_eq p.pid l.pid) rows.processes h.0 kept.homes h.1 in
+      let its : tid_owner l.tid ≡ h.0.uid = tid-owner h.0.uid l.tid home.user h.2 in
+      let found = owns-kept u l.pid rows.processes kept.rising ∙ ap (λ o. is_some (keep (λ (p : ProcData). nat_eq p.uid u) o)) h.1 in
+      ap (λ m. nat_eq m u) its ∙ (by (nat_eq h.0.uid u) ∙ sym found)
+    where
+      by : (b : Bool) → ◌≡◌ {A = Bool} b (is_some (cond {A = Option ProcData} b (Some h.0) None))
+      by true = refl
+      by false = refl
+
+  pub lwps-counted : count_by (λ l. nat_eq (tid_owner l.tid) u) rows.lwps ≡ count_by (λ l. owns u l.pid rows.processes) rows.lwps
+  lwps-counted = counted rows.lwps kept.housed
+    where
+      counted : (ls : List LwpData) → AllByRecursion (Housed rows) ls → count_by (λ l. nat_eq (tid_owner l.tid) u) ls ≡ count_by (λ l. owns u l.pid rows.processes) ls
+      counted [] all = refl
+      counted (l ∷ ls) all =
+          sum_by-cons (λ k. cond (nat_eq (tid_owner k.tid) u) 1 0) l ls ∙ omega (arith, counted ls all.1, ap {B = ℕ} (λ b. cond b 1 0) (same_owner l all.0), sum_by-cons (λ k. cond (owns u k.pid rows.processes) 1 0) l ls)
+
+  -- no LWP has a number outside all blocks
+  pub lwp-within : (n : ℕ) (l : LwpData) → lwp_of n rows.lwps ≡ Some l → (100000 ≤ l.tid) × (l.tid < 356000)
+  lwp-within n l found =
+      let h = every_found (Housed rows) (λ k. nat_eq k.tid n) rows.lwps l kept.housed found in
+      let home = every_found AtHome (λ p. nat_eq p.pid l.pid) rows.processes h.0 kept.homes h.1 in
+      (omega (arith, h.2.0), omega (arith, h.2.1, home.user.0, home.user.1))
+
+  pub home-outside : (n : ℕ) → (((100000 ≤ n) × (n < 356000)) → ⊥) → lwp_of n rows.lwps ≡ None
+  home-outside n out = by (lwp_of n rows.lwps) refl
+    where
+      by : (o : Option LwpData) → lwp_of n rows.lwps ≡ o → o ≡ None
+      by None e = refl
+      by (Some l) e =
+          let its = lwp-within n l e in
+          let same = lwp_of-tid n l rows.lwps e in
+          absurd (out (omega (arith, its.0, same), omega (arith, its.1, same)))
+
+-- a row is kept or not by what its process is
+module _ (u : ℕ) (ps : List ProcData) where
+  abbrev mine : LwpData → Bool
+  mine l = owns u l.pid ps
+
+  pub home-none : (o : Option LwpData) → option_map (λ (l : LwpData). l.pid) o ≡ None → keep mine o ≡ None
+  home-none None h = refl
+  home-none (Some l) h = absurd (cc)
+
+  pub home-own : (pid : ℕ) (o : Option LwpData) → option_map (λ (l : LwpData). l.pid) o ≡ Some pid → owns u pid ps ≡ true → keep mine o ≡ o
+  home-own pid None h own = refl
+  home-own pid (Some l) h own = let same : l.pid ≡ pid = cc in let its : owns u l.pid ps ≡ true = rw same own in rw its refl
+
+  pub home-other : (pid : ℕ) (o : Option LwpData) → option_map (λ (l : LwpData). l.pid) o ≡ Some pid → owns u pid ps ≡ false → keep mine o ≡ None
+  home-other pid None h own = refl
+  home-other pid (Some l) h own = let same : l.pid ≡ pid = cc in let its : owns u l.pid ps ≡ false = rw same own in rw its refl
+
+-- and a process by its user
+module _ (u : ℕ) where
+  abbrev its_user : ProcData → Bool
+  its_user p = nat_eq p.uid u
+
+  pub user-own : (o : Option ProcData) → option_map (λ (p : ProcData). p.uid) o ≡ Some u → keep its_user o ≡ o
+  user-own None h = refl
+  user-own (Some p) h = let same : p.uid ≡ u = cc in let its : nat_eq p.uid u ≡ true = grind (arith, nat_tests, same) in rw its refl
+
+  pub user-other : (o : Option ProcData) → (option_map (λ (p : ProcData). p.uid) o ≡ Some u → ⊥) → keep its_user o ≡ None
+  user-other None h = refl
+  user-other (Some p) h = let its : nat_eq p.uid u ≡ false = other_number p.uid u (λ e. h (ap Some e)) in rw its refl
+
+  pub eq-kept : (o : Option ProcData) → option_eq nat_eq (option_map (λ (p : ProcData). p.uid) o) (Some u) ≡ is_some (keep its_user o)
+  eq-kept None = refl
+  eq-kept (Some p) = elim (cases_Bool (nat_eq p.uid u)) [ inl e ↦ rw e refl | inr e ↦ rw e refl ]
+
+  pub eq-own : (o : Option ProcData) → option_eq nat_eq (option_map (λ (p : ProcData). p.uid) o) (Some u) ≡ true → keep its_user o ≡ o
+  eq-own None h = refl
+  eq-own (Some p) h = rw h refl
+
+  pub eq-other : (o : Option ProcData) → option_eq nat_eq (option_map (λ (p : ProcData). p.uid) o) (Some u) ≡ false → keep its_user o ≡ None
+  eq-other None h = refl
+  eq-other (Some p) h = rw h refl
+
+  pub own-pid : (n : ℕ) (ps : List ProcData) → Rise ps → owns u n ps ≡ true → option_map (λ (p : ProcData). p.pid) (find (λ p. nat_eq p.pid n && nat_eq p.uid u) ps) ≡ Some n
+  own-pid n ps r own = ap (option_map (λ (p : ProcData). p.pid)) (seen_process-kept u n ps r) ∙ by (process_of n ps) refl (sym (owns-kept u n ps r) ∙ own)
+    where
+      by : (o : Option ProcData) → process_of n ps ≡ o → is_some (keep (λ (p : ProcData). nat_eq p.uid u) o) ≡ true → option_map (λ (p : ProcData). p.pid) (keep (λ (p : ProcData). nat_eq p.uid u) o) ≡ Some n
+      by None e own = absurd (cc)
+      by (Some p) e own = elim (cases_Bool (nat_eq p.uid u)) [
+        | inl k ↦ rw k (ap Some (process_of-pid n p ps e))
+        | inr k ↦ absurd (cc (rw k at own))
+      ]
+
+  pub other-pid : (n : ℕ) (ps : List ProcData) → Rise ps → owns u n ps ≡ false → option_map (λ (p : ProcData). p.pid) (find (λ p. nat_eq p.pid n && nat_eq p.uid u) ps) ≡ None
+  other-pid n ps r own = ap (option_map (λ (p : ProcData). p.pid)) (seen_process-kept u n ps r) ∙ by (keep (λ (p : ProcData). nat_eq p.uid u) (process_of n ps)) (sym (owns-kept u n ps r) ∙ own)
+    where
+      by : (o : Option ProcData) → is_some o ≡ false → option_map (λ (p : ProcData). p.pid) o ≡ None
+      by None own = refl
+      by (Some p) own = absurd (cc)
+
+-- no process has a number outside all blocks
+pub pid-outside : (n : ℕ) (rows : Rows) → IsKept rows → (((1000 ≤ n) × (n < 65000)) → ⊥) → process_of n rows.processes ≡ None
+pid-outside n rows kept out = by (process_of n rows.processes) refl
+  where
+    by : (o : Option ProcData) → process_of n rows.processes ≡ o → o ≡ None
+    by None e = refl
+    by (Some p) e =
+        let home = every_found AtHome (λ q. nat_eq q.pid n) rows.processes p kept.homes e in
+        let same = process_of-pid n p rows.processes e in
+        absurd (out (omega (arith, home.block.0, same), omega (arith, home.block.1, home.user.0, home.user.1, same)))
+
+pub some-iff : (Q : ℕ → Type 0) (P : Type 0) (r : Option ℕ) (n : ℕ) → SomeIff r P n → Q n → IfSome r Q
+some-iff Q P None n made q = tt
+some-iff Q P (Some m) n made q = rw made.1 q
+
+-- an element that is found and passes
+pub keep-some : {A : Type 0} (test : A → Bool) (o : Option A) → is_some (keep test o) ≡ true → (a : A) × (o ≡ Some a) × (test a ≡ true)
+keep-some test None h = absurd (cc)
+keep-some test (Some a) h = elim (cases_Bool (test a)) [ inl e ↦ (a, refl, e) | inr e ↦ absurd (cc (rw e at h)) ]
+
+pub keep-none : {A : Type 0} (test : A → Bool) (o : Option A) (a : A) → is_some (keep test o) ≡ false → o ≡ Some a → test a ≡ false
+keep-none test None a h is = absurd (cc)
+keep-none test (Some b) a h is = let same : b ≡ a = cc in elim (cases_Bool (test b)) [ inl e ↦ absurd (cc (rw e at h)) | inr e ↦ rw (← same) e ]
+
+pub nobody : (u n : ℕ) (ps : List ProcData) → Rise ps → process_of n ps ≡ None → option_map (λ (p : ProcData). p.pid) (find (λ p. nat_eq p.pid n && nat_eq p.uid u) ps) ≡ None
+nobody u n ps r none = ap (option_map (λ (p : ProcData). p.pid)) (seen_process-kept u n ps r ∙ ap (keep (λ (p : ProcData). nat_eq p.uid u)) none)

@@ -1,0 +1,219 @@
+-- What a change of one slot does to what each number finds.
+use Rattle.std.proofs.Common.{◌≡◌, ◌≢◌, ℕ, ◌+◌, ◌-◌, ◌<◌, ◌≤◌, true, false, List, [], Option, Some, None, IsSome, is_some, refl, sym, ap, ◌∙◌, nat_eq, cond, arith, inl, inr, length, get_or, set, replicate, map}
+use Rattle.std.specs.Prelude.{filter, not, count_by}
+use Rattle.std.specs.List.{list_any}
+use Rattle.std.specs.Option.{option_and_then}
+use Rattle.std.specs.Map.{lookup}
+use Rattle.std.proofs.lemmas.Bool.Decides.{nat_tests}
+use Rattle.std.proofs.lemmas.List.{get_or-replicate}
+use Rattle.pid_blocks.specs.Users.{IsUser}
+use Rattle.pid_blocks.specs.Blocks.{slot}
+use Rattle.proc_table.specs.declared.ProcData.{ProcData}
+use Rattle.proc_table.specs.Processes.{process_of, placed}
+use Rattle.proc_table.specs.Kept.{AtHome, Rise, put_process}
+use Rattle.proc_table.specs.Slots.{all_rows, look, IsStored, IsSlotted}
+use Rattle.proc_table.proofs.Rows.{same_number}
+use Rattle.proc_table.proofs.Rising.{Lacks-from_any}
+use Rattle.proc_table.proofs.Finds.{equal_or_not}
+use Rattle.proc_table.proofs.Listing.{IsFound, Rise-all_rows, homes-all_rows, find-all_rows, all_rows-added, all_rows-set, all_rows-removed, all_rows-none}
+use Rattle.proc_table.proofs.Counts.{of, count-placed, count-set, count-without, count-below, tally-set}
+
+-- numbers with slots, and slots with rows
+module _ (slots : ℕ → Option ProcData) (es : List (ℕ × ℕ)) where
+  pub look-slot : (pid slot : ℕ) → lookup (nat_eq pid) es ≡ Some slot → look slots es pid ≡ slots slot
+  look-slot pid slot is = ap (option_and_then slots) is
+
+  -- a number with a row has a slot
+  pub slot_of : (pid : ℕ) → IsSome (look slots es pid) → IsSome (lookup (nat_eq pid) es)
+  slot_of pid there = by (lookup (nat_eq pid) es) refl
+    where
+      by : (o : Option ℕ) → lookup (nat_eq pid) es ≡ o → IsSome (lookup (nat_eq pid) es)
+      by (Some slot) is = ap is_some is
+      by None is = absurd (cc (there, ap (option_and_then slots) is))
+
+  pub found : IsStored slots es → IsFound (look slots es)
+  found owned = record {
+    named = λ pid row is. by pid row (lookup (nat_eq pid) es) refl is;
+    home = owned.home;
+  }
+    where
+      by : (pid : ℕ) (row : ProcData) (o : Option ℕ) → lookup (nat_eq pid) es ≡ o → look slots es pid ≡ Some row → row.pid ≡ pid
+      by pid row None none is = absurd (cc (sym (ap (option_and_then slots) none) ∙ is))
+      by pid row (Some slot) at is =
+          let its = owned.named pid slot at in
+          let same : Some its.0 ≡ Some row = sym its.1 ∙ sym (look-slot pid slot at) ∙ is in
+          cc (its.2)
+
+module _ (slots : ℕ → Option ProcData) (es : List (ℕ × ℕ)) (owned : IsStored slots es) where
+  -- two numbers have different slots
+  pub slots_apart : (pid other slot at : ℕ) → lookup (nat_eq pid) es ≡ Some slot → lookup (nat_eq other) es ≡ Some at → other ≢ pid → at ≢ slot
+  slots_apart pid other slot at one two apart same =
+      let a = owned.named pid slot one in
+      let b = owned.named other at two in
+      let rows : Some b.0 ≡ Some a.0 = sym b.1 ∙ ap slots same ∙ a.1 in
+      apart (cc (a.2, b.2))
+
+  module _ (slots' : ℕ → Option ProcData) (es' : List (ℕ × ℕ)) (slot : ℕ) (others : (k : ℕ) → k ≢ slot → slots' k ≡ slots k) where
+    -- a number whose slot is another keeps its row
+    kept_apart : (pid at : ℕ) → lookup (nat_eq pid) es' ≡ lookup (nat_eq pid) es → lookup (nat_eq pid) es' ≡ Some at → ((k : ℕ) → lookup (nat_eq pid) es ≡ Some k → k ≢ slot) → (row : ProcData) × (slots' at ≡ Some row) × (row.pid ≡ pid)
+    kept_apart pid at same is apart =
+        let before = sym same ∙ is in
+        let its = owned.named pid at before in
+        (its.0, others at (apart at before) ∙ its.1, its.2)
+
+    look-apart : (pid : ℕ) → lookup (nat_eq pid) es' ≡ lookup (nat_eq pid) es → ((k : ℕ) → lookup (nat_eq pid) es ≡ Some k → k ≢ slot) → look slots' es' pid ≡ look slots es pid
+    look-apart pid same apart = ap (option_and_then slots') same ∙ by (lookup (nat_eq pid) es) refl
+      where
+        by : (o : Option ℕ) → lookup (nat_eq pid) es ≡ o → option_and_then slots' o ≡ option_and_then slots o
+        by None is = refl
+        by (Some at) is = others at (apart at is)
+
+    -- a row more, in a slot that had none
+    module _ (new : ProcData) (vacant : slots slot ≡ None) (has : slots' slot ≡ Some new) (change : (pid : ℕ) → lookup (nat_eq pid) es' ≡ cond (nat_eq new.pid pid) (Some slot) (lookup (nat_eq pid) es)) where
+      elsewhere : (pid k : ℕ) → lookup (nat_eq pid) es ≡ Some k → k ≢ slot
+      elsewhere pid k is same = let its = owned.named pid k is in cc (its.1, ap slots same, vacant)
+
+      pub look-added : (pid : ℕ) → look slots' es' pid ≡ cond (nat_eq pid new.pid) (Some new) (look slots es pid)
+      look-added pid = elim (equal_or_not pid new.pid) [
+        | inl here ↦ let turned : nat_eq new.pid pid ≡ true = grind (arith, nat_tests, here.1) in rw here.0 (ap (option_and_then slots') (rw turned at (change pid)) ∙ has)
+        | inr apart ↦ let turned : nat_eq new.pid pid ≡ false = grind (arith, nat_tests, apart.1) in rw apart.0 (look-apart pid (rw turned at (change pid)) (elsewhere pid))
+      ]
+
+      pub IsStored-added : AtHome new → IsStored slots' es'
+      IsStored-added own = record {
+        named = λ pid at is. elim (equal_or_not new.pid pid) [
+          | inl here ↦ let its : Some slot ≡ Some at = sym (rw here.0 at (change pid)) ∙ is in let same : slot ≡ at = cc in (new, sym (ap slots' same) ∙ has, here.1)
+          | inr apart ↦ kept_apart pid at (rw apart.0 at (change pid)) is (elsewhere pid)
+        ];
+        home = λ pid row is. elim (equal_or_not pid new.pid) [
+          | inl here ↦ let its : Some new ≡ Some row = sym (rw here.0 at (look-added pid)) ∙ is in let same : new ≡ row = cc in rw (← same) own
+          | inr apart ↦ owned.home pid row (sym (rw apart.0 at (look-added pid)) ∙ is)
+        ];
+      }
+
+    -- the row in the number's slot is another
+    module _ (new : ProcData) (has : slots' slot ≡ Some new) (at : lookup (nat_eq new.pid) es ≡ Some slot) (same : es' ≡ es) where
+      pub look-set : (pid : ℕ) → look slots' es' pid ≡ cond (nat_eq pid new.pid) (Some new) (look slots es pid)
+      look-set pid = elim (equal_or_not pid new.pid) [
+        | inl here ↦ rw (here.0, here.1, same) (ap (option_and_then slots') at ∙ has)
+        | inr apart ↦ rw apart.0 (look-apart pid (ap (lookup (nat_eq pid)) same) (λ k is. slots_apart new.pid pid slot k at is apart.1))
+      ]
+
+      pub IsStored-set : AtHome new → IsStored slots' es'
+      IsStored-set own = record {
+        named = λ pid k is. elim (equal_or_not pid new.pid) [
+          | inl here ↦
+              let there : lookup (nat_eq pid) es ≡ Some slot = rw here.1 at in
+              let its : Some slot ≡ Some k = sym there ∙ sym (ap (lookup (nat_eq pid)) same) ∙ is in
+              let slots_same : slot ≡ k = cc in
+              (new, sym (ap slots' slots_same) ∙ has, sym here.1)
+          | inr apart ↦ kept_apart pid k (ap (lookup (nat_eq pid)) same) is (λ k is. slots_apart new.pid pid slot k at is apart.1)
+        ];
+        home = λ pid row is. elim (equal_or_not pid new.pid) [
+          | inl here ↦ let its : Some new ≡ Some row = sym (rw here.0 at (look-set pid)) ∙ is in let rows_same : new ≡ row = cc in rw (← rows_same) own
+          | inr apart ↦ owned.home pid row (sym (rw apart.0 at (look-set pid)) ∙ is)
+        ];
+      }
+
+    -- the number has no slot any more
+    module _ (gone : ℕ) (at : lookup (nat_eq gone) es ≡ Some slot) (change : (pid : ℕ) → lookup (nat_eq pid) es' ≡ cond (nat_eq gone pid) None (lookup (nat_eq pid) es)) where
+      pub look-removed : (pid : ℕ) → look slots' es' pid ≡ cond (nat_eq pid gone) None (look slots es pid)
+      look-removed pid = elim (equal_or_not pid gone) [
+        | inl here ↦ let turned : nat_eq gone pid ≡ true = grind (arith, nat_tests, here.1) in rw here.0 (ap (option_and_then slots') (rw turned at (change pid)))
+        | inr apart ↦ let turned : nat_eq gone pid ≡ false = grind (arith, nat_tests, apart.1) in rw apart.0 (look-apart pid (rw turned at (change pid)) (λ k is. slots_apart gone pid slot k at is apart.1))
+      ]
+
+      pub IsStored-removed : IsStored slots' es'
+      IsStored-removed = record {
+        named = λ pid k is. elim (equal_or_not gone pid) [
+          | inl here ↦ absurd (cc (rw here.0 at (change pid), is))
+          | inr apart ↦ kept_apart pid k (rw apart.0 at (change pid)) is (λ k is. slots_apart gone pid slot k at is (λ same. apart.1 (sym same)))
+        ];
+        home = λ pid row is. elim (equal_or_not pid gone) [
+          | inl here ↦ absurd (cc (rw here.0 at (look-removed pid), is))
+          | inr apart ↦ owned.home pid row (sym (rw apart.0 at (look-removed pid)) ∙ is)
+        ];
+      }
+
+-- what is kept after each change, and the rows that there are then
+module _ (slots : ℕ → Option ProcData) (es : List (ℕ × ℕ)) (counts : List ℕ) (kept : IsSlotted slots es counts) where
+  pub finds : IsFound (look slots es)
+  finds = found slots es kept.stored
+
+  pub rising : Rise (all_rows (look slots es))
+  rising = Rise-all_rows _ finds
+
+  pub tally-below : (u : ℕ) → IsUser u → get_or counts (slot u) 0 ≤ 1000
+  tally-below u user = omega (arith, kept.tally u user, count-below u (all_rows (look slots es)) user rising (homes-all_rows _ finds))
+
+  -- a number whose row is in the list has a slot
+  pub slot_there : (pid : ℕ) → IsSome (process_of pid (all_rows (look slots es))) → IsSome (lookup (nat_eq pid) es)
+  slot_there pid there = slot_of slots es pid (sym (ap is_some (find-all_rows _ finds pid)) ∙ there)
+
+  module _ (slots' : ℕ → Option ProcData) (es' : List (ℕ × ℕ)) (at : ℕ) (others : (k : ℕ) → k ≢ at → slots' k ≡ slots k) where
+    pub IsSlotted-added : (new : ProcData) → slots at ≡ None → slots' at ≡ Some new → ((pid : ℕ) → lookup (nat_eq pid) es' ≡ cond (nat_eq new.pid pid) (Some at) (lookup (nat_eq pid) es))
+        → list_any (λ p. nat_eq p.pid new.pid) (all_rows (look slots es)) ≡ false → AtHome new → length counts ≡ 64
+        → IsSlotted slots' es' (set counts (slot new.uid) (get_or counts (slot new.uid) 0 + 1)) × (all_rows (look slots' es') ≡ placed new (all_rows (look slots es)))
+    IsSlotted-added new vacant has change fresh home long =
+        let stored = IsStored-added slots es kept.stored slots' es' at others new vacant has change home in
+        let what = look-added slots es kept.stored slots' es' at others new vacant has change in
+        let rows = all_rows-added _ _ finds (found slots' es' stored) new fresh what in
+        let count = λ (u : ℕ). count-placed u new _ rising (Lacks-from_any new.pid _ fresh) in (
+          record {
+            stored = stored;
+            tally = tally-set counts (all_rows (look slots es)) (all_rows (look slots' es')) new.uid _ long home.user
+                (rw (rows, count new.uid, same_number new.uid) (omega (arith, kept.tally new.uid home.user)))
+                (λ u apart. let other : nat_eq new.uid u ≡ false = grind (arith, nat_tests, apart) in rw (rows, count u, other) (omega arith))
+                kept.tally;
+          },
+          rows,
+        )
+
+    pub IsSlotted-set : (new : ProcData) → slots' at ≡ Some new → lookup (nat_eq new.pid) es ≡ Some at → es' ≡ es
+        → (before : ProcData) → process_of new.pid (all_rows (look slots es)) ≡ Some before → before.uid ≡ new.uid
+        → IsSlotted slots' es' counts × (all_rows (look slots' es') ≡ map (put_process new) (all_rows (look slots es)))
+    IsSlotted-set new has is same before there uids =
+        let its = sym (find-all_rows _ finds new.pid) ∙ there in
+        let home = kept.stored.home new.pid before its in
+        let number : before.pid ≡ new.pid = finds.named new.pid before its in
+        let at_home : AtHome new = record { user = rw uids at home.user; block = rw (uids, number) at home.block } in
+        let stored = IsStored-set slots es kept.stored slots' es' at others new has is same at_home in
+        let what = look-set slots es kept.stored slots' es' at others new has is same in
+        let rows = all_rows-set _ _ finds (found slots' es' stored) new (ap is_some its) what in
+        (record { stored = stored; tally = λ u user. rw rows (kept.tally u user ∙ sym (count-set u new before (all_rows (look slots es)) rising there uids)) }, rows)
+
+    pub IsSlotted-removed : (gone : ℕ) (before : ProcData) → slots at ≡ Some before → lookup (nat_eq gone) es ≡ Some at → ((pid : ℕ) → lookup (nat_eq pid) es' ≡ cond (nat_eq gone pid) None (lookup (nat_eq pid) es)) → length counts ≡ 64
+        → IsUser before.uid × (0 < get_or counts (slot before.uid) 0) × IsSlotted slots' es' (set counts (slot before.uid) (get_or counts (slot before.uid) 0 - 1)) × (all_rows (look slots' es') ≡ filter (λ p. not (nat_eq p.pid gone)) (all_rows (look slots es)))
+    IsSlotted-removed gone before has is change long =
+        let stored = IsStored-removed slots es kept.stored slots' es' at others gone is change in
+        let what = look-removed slots es kept.stored slots' es' at others gone is change in
+        let rows = all_rows-removed _ _ finds (found slots' es' stored) gone what in
+        let its = look-slot slots es gone at is ∙ has in
+        let user = (kept.stored.home gone before its).user in
+        let there = find-all_rows _ finds gone ∙ its in
+        let less = rw (same_number before.uid) at (count-without before.uid gone before (all_rows (look slots es)) rising there) in (
+          user,
+          omega (arith, less, kept.tally before.uid user),
+          record {
+            stored = stored;
+            tally = tally-set counts (all_rows (look slots es)) (all_rows (look slots' es')) before.uid _ long user
+                (rw rows (omega (arith, less, kept.tally before.uid user)))
+                (λ u apart. let other : nat_eq before.uid u ≡ false = grind (arith, nat_tests, apart) in let same = rw other at (count-without u gone before (all_rows (look slots es)) rising there) in rw rows (omega (arith, same)))
+                kept.tally;
+          },
+          rows,
+        )
+
+-- no slot
+pub IsSlotted-none : (slots : ℕ → Option ProcData) (es : List (ℕ × ℕ)) → es ≡ [] → IsSlotted slots es (replicate 64 0) × (all_rows (look slots es) ≡ [])
+IsSlotted-none slots es none =
+    let rows = all_rows-none (look slots es) (λ pid. ap (λ es. look slots es pid) none) in (
+      record {
+        stored = record {
+          named = λ pid slot is. absurd (cc (rw none at is));
+          home = λ pid row is. absurd (cc (rw none at is));
+        };
+        tally = λ u user. get_or-replicate 64 (slot u) 0 0 (omega (arith, user.0, user.1)) ∙ sym (ap (count_by (of u)) rows);
+      },
+      rows,
+    )

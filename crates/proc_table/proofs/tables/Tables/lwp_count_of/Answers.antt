@@ -1,0 +1,7 @@
+use Rattle.std.proofs.Common.{ap, ◌∙◌}
+use Rattle.proc_table.specs.Fresh.{lwp_count_of}
+use Rattle.proc_table.proofs.Seen.{lwps-counted}
+use Rattle.proc_table.proofs.tables.Tables.lwp_count_of.Goals as goal
+
+pub returns-clause-count : goal.returns-clause-count
+returns-clause-count c = c.user_count.ensures.count ∙ lwps-counted c.args.uid _ c.self.invariant ∙ ap (λ v. lwp_count_of c.args.uid v.rows) c.self.view_is

@@ -1,0 +1,7 @@
+pub mod FieldLemmas
+pub mod StepLemmas
+pub mod Answering
+pub mod Joins
+pub mod WriteLemmas
+pub mod LineLemmas
+pub mod RunLemmas

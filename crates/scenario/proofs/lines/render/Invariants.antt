@@ -1,0 +1,13 @@
+use Rattle.std.proofs.Common.{◌≡◌, ◌++◌, ℕ, List, length, map, drop, string_bytes}
+use Rattle.scenario.specs.Runs.{answered, shown}
+use Rattle.scenario.proofs.LineLemmas.{Counted, shown_after}
+use Rattle.scenario.proofs.lines.render.Given as goal
+
+-- `before` are the users of the replies so far
+abbrev pub invariant-loop-reply : goal.invariant-loop-reply
+invariant-loop-reply l = record {
+  before : List ℕ;
+  few : length before ≡ l.reply-index;
+  counted : Counted l.made before;
+  text : string_bytes l.text ++ shown_after l.user before (map answered (drop l.reply-index l.replies)) ≡ shown l.user (map answered l.replies);
+}

@@ -1,0 +1,16 @@
+use Rattle.std.proofs.Common.{rules, arith}
+use Rattle.scenario.specs.Scenarios.{StandsFor, too_long, no_value, value, plan_of}
+use Rattle.serde_json.specs.View.{view}
+use Rattle.scenario.proofs.Answering.{answers_of}
+use Rattle.scenario.proofs.parsing.parse.Goals as goal
+
+pub returns-then-bytes-gt4194304-clause-stands : goal.returns-then-bytes-gt4194304-clause-stands
+returns-then-bytes-gt4194304-clause-stands c = too_long (omega arith)
+
+pub returns-in-Ok-clause-stands : goal.returns-in-Ok-clause-stands
+returns-in-Ok-clause-stands c =
+    answers_of (StandsFor c.args.bytes.now) (plan_of (view c.in-Ok.value)) c.plan_of.result c.plan_of.ensures.yields
+    (value (view c.in-Ok.value) (omega arith) (search rules))
+
+pub returns-in-Err-2-clause-stands : goal.returns-in-Err-2-clause-stands
+returns-in-Err-2-clause-stands c = no_value (omega arith) (search rules)

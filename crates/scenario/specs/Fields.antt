@@ -1,0 +1,86 @@
+-- The keys of a JSON object, one by one, and what is wrong with each.
+use Rattle.std.specs.Prelude.{⊤, ◌≡◌, ℕ, ◌&&◌, Bool, true, false, ℤ, pos, negsuc, List, [], ◌∷◌, Option, Some, None, is_some, Result, Ok, Err, option_and_then, nat_lt, if◌then◌else◌}
+use Rattle.std.specs.Option.{ok_or}
+use Rattle.std.specs.List.{list_any}
+use Rattle.std.specs.Str.{bytes_eq}
+use Rattle.serde_json.specs.Data.{Data, null, boolean, number, string, array, object, Items, no_items, item, Members, no_members, member}
+use Rattle.serde_json.specs.Find.{get, as_number, as_i64, as_str, as_array, as_object}
+use Rattle.scenario.specs.declared.fields.Flaw.{Flaw}
+use Rattle.scenario.specs.declared.fields.Flaw.TheVariants.{Shape, Name, Number}
+
+infixl 10 ◌>>=◌
+abbrev pub ◌>>=◌ : {E A B : Type 0} → Result A E → (A → Result B E) → Result B E
+(Ok x) >>= f = f x
+(Err e) >>= f = Err e
+
+-- a result, seen by view
+abbrev pub seen : {E X Y : Type 0} → (X → Y) → Result X E → Result Y E
+seen view (Ok x) = Ok (view x)
+seen view (Err e) = Err e
+
+abbrev pub Gives : {E X Y : Type 0} → (X → Y) → Result X E → Result Y E → Type 0
+Gives view result reading = seen view result ≡ reading
+
+abbrev pub member_at : List ℕ → Data → Result Data Flaw
+member_at key d = ok_or (get key d) Shape
+
+-- a whole number that fits 64 bits with a sign
+abbrev pub integer_of : Data → Result ℤ Flaw
+integer_of d = ok_or (option_and_then as_i64 (as_number d)) Shape
+
+abbrev pub integer_at : List ℕ → Data → Result ℤ Flaw
+integer_at key d = member_at key d >>= integer_of
+
+abbrev pub within : ℕ → ℕ → Flaw → ℤ → Result ℕ Flaw
+within low high flaw (pos n) = if nat_lt n low then Err flaw else (if nat_lt high n then Err flaw else Ok n)
+within low high flaw (negsuc n) = Err flaw
+
+abbrev pub word_at : List ℕ → Data → Result ℕ Flaw
+word_at key d = integer_at key d >>= within 0 4294967295 Number
+
+abbrev pub array_at : List ℕ → Data → Result Items Flaw
+array_at key d = member_at key d >>= (λ v. ok_or (as_array v) Shape)
+
+abbrev pub members_among : List (List ℕ) → Members → Bool
+members_among keys no_members = true
+members_among keys (member k d ms) = list_any (bytes_eq k) keys && members_among keys ms
+
+-- an object with no other key than these
+abbrev pub has_only : List (List ℕ) → Data → Bool
+has_only keys null = false
+has_only keys (boolean b) = false
+has_only keys (number n) = false
+has_only keys (string s) = false
+has_only keys (array ds) = false
+has_only keys (object ms) = members_among keys ms
+
+abbrev pub only : List (List ℕ) → Data → Result ⊤ Flaw
+only keys d = if has_only keys d then Ok tt else Err Shape
+
+abbrev pub object_of : Data → Result ⊤ Flaw
+object_of d = if is_some (as_object d) then Ok tt else Err Shape
+
+-- the items one after another, up to the first that fails
+abbrev pub each : {X E : Type 0} → (Data → Result X E) → Items → Result (List X) E
+each f no_items = Ok []
+each f (item d ds) = do
+  x ← f d
+  xs ← each f ds
+  Ok (x ∷ xs)
+
+-- a name of a table
+abbrev pub name_in : {X : Type 0} → (List ℕ → Option X) → Data → Result X Flaw
+name_in table d = do
+  text ← ok_or (as_str d) Shape
+  ok_or (table text) Name
+
+abbrev pub name_at : {X : Type 0} → List ℕ → (List ℕ → Option X) → Data → Result X Flaw
+name_at key table d = member_at key d >>= name_in table
+
+-- the value at a key that may be missing
+abbrev pub optional : {X : Type 0} → X → (Data → Result X Flaw) → Option Data → Result X Flaw
+optional default f None = Ok default
+optional default f (Some d) = f d
+
+abbrev pub optional_at : {X : Type 0} → List ℕ → X → (Data → Result X Flaw) → Data → Result X Flaw
+optional_at key default f d = optional default f (get key d)

@@ -1,0 +1,22 @@
+-- Texts as they are written.
+use Rattle.std.specs.Prelude.{ℕ, List, [], ◌∷◌, ◌++◌, codes, decimal}
+use Rattle.std.specs.Borrow.{Bor}
+use Rattle.stop_handlers.specs.declared.StopView.{StopView}
+use Rattle.scenario.specs.Words.{flags_word, signal_text}
+use Rattle.lwpinfo.specs.declared.LwpInfo.{LwpInfo}
+
+-- a name with its bit
+abbrev pub named_bit : Bor (List ℕ) × ℕ → List ℕ × ℕ
+named_bit n = (n.0.now, n.1)
+
+-- what a handler sees of a stop
+abbrev pub view_words : StopView → List (List ℕ)
+view_words view =
+    decimal view.tid ∷ (codes "signal=" ++ decimal view.sig) ∷ flags_word view.flags
+    ∷ (codes "child=" ++ decimal view.child) ∷ (codes "code=" ++ decimal view.code) ∷ []
+
+-- what is told of an LWP behind its flags
+abbrev pub rest_words : LwpInfo → List (List ℕ)
+rest_words i =
+    (codes "mask=" ++ signal_text i.sigmask) ∷ (codes "pending=" ++ signal_text i.siglist)
+    ∷ (codes "child=" ++ decimal i.child) ∷ (codes "code=" ++ decimal i.code) ∷ []

@@ -1,0 +1,65 @@
+//! The lines of replies.
+ghost use Rattle.std.specs.Prelude.{◌≡◌, ◌+◌, ◌-◌, ◌^◌, ◌<◌, ◌≤◌, ◌++◌, ◌==◌, ℕ, map, Option, IfOk, OnOk, string_bytes, slice_index, slice_set};
+ghost use Rattle.pid_blocks.specs.Blocks.{slot};
+ghost use Rattle.scenario.specs.Lines.{line};
+ghost use Rattle.scenario.specs.Runs.{answered, shown};
+ghost use Rattle.scenario.specs.Shown.{shown_line};
+
+use crate::words::Words;
+use pid_blocks::Uid;
+use requests::Reply;
+use std::alloc::{AllocError, Global};
+
+/// Adds the line of a reply, where it is to be shown.
+fn push_line(
+    text: &mut String,
+    user: &Option<Uid>,
+    uid: Uid,
+    number: usize,
+    reply: &Reply,
+) -> Result<(), AllocError>
+    ensures { OnOk result (string_bytes text.new
+        ≡ string_bytes text.old ++ shown_line user.now (line number (answered (uid, reply.now)))) }
+{
+    let is_shown = match user {
+        Some(user) => uid == *user,
+        None => true,
+    };
+    if is_shown {
+        let uid = uid.get();
+        let words = Words(reply);
+        writeln!(text, "{uid} {number} {words}")?;
+    }
+    Ok(())
+}
+
+/// Counts one more reply of the user, and answers how many that makes.
+fn count_reply(made: &mut [usize; 64], uid: Uid) -> usize
+    requires { (k : ℕ) → slice_index made.old k + 1 < 2 ^ 64 }
+    ensures range { (1001 ≤ uid) × (uid ≤ 1064) }
+    ensures number { result ≡ slice_index made.old (uid - 1001) + 1 }
+    ensures after { made.new ≡ slice_set made.old (uid - 1001) result }
+{
+    let slot = uid.slot();
+    let _user = uid.get();
+    made[slot] += 1;
+    made[slot]
+}
+
+/// The text of the replies in order, a line for each with its user and the user's own step number, or of one user's lines
+/// alone where a user is given. Refused where no memory is left.
+pub fn render(
+    alloc: Global,
+    replies: &[(Uid, Reply)],
+    user: Option<Uid>,
+) -> Result<String, AllocError>
+    ensures { IfOk result (λ s. string_bytes s ≡ shown user (map answered replies.now)) }
+{
+    let mut text = String::new(alloc);
+    let mut made = [0usize; 64];
+    for reply in replies {
+        let number = count_reply(&mut made, reply.0);
+        push_line(&mut text, &user, reply.0, number, &reply.1)?;
+    }
+    Ok(text)
+}

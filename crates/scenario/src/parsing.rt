@@ -1,0 +1,127 @@
+//! Bytes to a scenario.
+ghost use Rattle.std.specs.Prelude.{List, ℕ, Result, ◌≡◌, ◌≢◌, ◌≤◌, length, map, IfOk, IfErr, codes, pos};
+ghost use Rattle.serde_json.specs.View.{view, items_view};
+ghost use Rattle.scenario.specs.Fields.{Gives, integer_of, optional_at};
+ghost use Rattle.scenario.specs.Plan.{Plan, most_steps, asked};
+ghost use Rattle.scenario.specs.declared.fault.Fault.{Fault};
+ghost use Rattle.scenario.specs.declared.fault.Fault.TheVariants.{Read as ReadFault};
+ghost use Rattle.scenario.specs.Scenarios.{at_step, settings_of, steps_from, head_of, plan_of, bounded, StandsFor, Yields, Answers};
+
+use crate::fault::Fault;
+use crate::fields::{Flaw, member, object_of, only};
+use crate::plan::Scenario;
+use crate::steps::step_of;
+use pid_blocks::Uid;
+use requests::Step;
+use serde_json::Value;
+use std::alloc::Global;
+use trace_stop::Settings;
+
+impl Flaw {
+    fn at(self, number: u32) -> Fault
+        ensures { result ≡ at_step number self }
+    {
+        match self {
+            Flaw::Shape => Fault::BadShape(number),
+            Flaw::User => Fault::BadUser(number),
+            Flaw::Name => Fault::BadName(number),
+            Flaw::Number => Fault::BadNumber(number),
+            Flaw::TooManyRules => Fault::TooManyRules(number),
+        }
+    }
+}
+
+fn steps_of(alloc: Global, items: &[Value]) -> Result<Vec<(Uid, Step)>, Fault>
+    requires { length items.now ≤ most_steps }
+    ensures yields { Yields (λ v. map asked v.items) result (steps_from 1 (items_view items.now)) }
+    ensures bound { IfOk result (λ v. length v.items ≤ most_steps) }
+    ensures no_read { IfErr result (λ e. e ≢ ReadFault) }
+{
+    let mut steps = Vec::new(alloc);
+    for (i, item) in items.iter().enumerate() {
+        let number = i as u32 + 1;
+        let step = step_of(item).map_err(|flaw| flaw.at(number))?;
+        steps.push(step)?;
+    }
+    Ok(steps)
+}
+
+fn kill_at(value: &Value) -> Result<i64, Flaw>
+    ensures { result ≡ optional_at (codes "kill_on_debugger_exit") (pos 1) integer_of (view value.now) }
+{
+    match value.get("kill_on_debugger_exit") {
+        Some(value) => value.as_i64().ok_or(Flaw::Shape),
+        None => Ok(1),
+    }
+}
+
+fn settings_of(kill: i64) -> Result<Settings, Flaw>
+    ensures { result ≡ settings_of kill }
+{
+    match kill {
+        0 => Ok(Settings::detach_on_exit()),
+        1 => Ok(Settings::standard()),
+        _ => Err(Flaw::Number),
+    }
+}
+
+#[tactic(auto, unfolding(crate::specs::Scenarios::head_of))]
+fn head_of(value: &Value) -> Result<(&Vec<Value>, Settings), Flaw>
+    ensures { Gives (λ x. (items_view x.0.now.items, x.1)) result (head_of (view value.now)) }
+{
+    object_of(value)?;
+    let items = member(value, "steps")?.as_array().ok_or(Flaw::Shape)?;
+    let kill = kill_at(value)?;
+    only(value, &["steps", "kill_on_debugger_exit"])?;
+    let settings = settings_of(kill)?;
+    Ok((items, settings))
+}
+
+#[tactic(auto, using(crate::proofs::StepLemmas::many_steps, crate::proofs::StepLemmas::few_steps))]
+fn bounded_steps(alloc: Global, items: &[Value]) -> Result<Vec<(Uid, Step)>, Fault>
+    ensures yields { Yields (λ v. map asked v.items) result
+        (bounded (items_view items.now) (steps_from 1 (items_view items.now))) }
+    ensures bound { IfOk result (λ v. length v.items ≤ most_steps) }
+    ensures no_read { IfErr result (λ e. e ≢ ReadFault) }
+{
+    if items.len() > 100000 {
+        return Err(Fault::TooManySteps);
+    }
+    steps_of(alloc, items)
+}
+
+#[tactic(auto, unfolding(crate::specs::Scenarios::plan_of))]
+fn plan_of(alloc: Global, value: &Value) -> Result<Scenario, Fault>
+    ensures yields { Yields (λ s. s) result (plan_of (view value.now)) }
+    ensures no_read { IfErr result (λ e. e ≢ ReadFault) }
+{
+    let (items, settings) = head_of(value).map_err(|flaw| flaw.at(0))?;
+    let steps = bounded_steps(alloc, items.as_slice())?;
+    Ok(Scenario::new(settings, steps))
+}
+
+/// The scenario that the bytes of a JSON text stand for.
+///
+/// # Errors
+///
+/// The first check that fails: more than 4194304 bytes, no JSON text, the shape of the whole, more than 100000 steps, and then
+/// each step in order, with its keys in the order of its op, and last a key that its op doesn't have. `Memory` where no
+/// memory was left. Never `Read`.
+pub fn parse(alloc: Global, bytes: &[u8]) -> Result<Scenario, Fault>
+    ensures stands { Answers result (StandsFor bytes.now) }
+    ensures no_read { IfErr result (λ e. e ≢ ReadFault) }
+{
+    if bytes.len() > 4194304 {
+        return Err(Fault::TooLong);
+    }
+    match Value::from_slice(alloc, bytes) {
+        Ok(value) => plan_of(alloc, &value),
+        Err(error) if error.is_memory() => Err(Fault::Memory),
+        Err(_) => Err(Fault::BadJson),
+    }
+}
+
+/// No bytes stand for two scenarios, nor for one and a fault, nor have two faults.
+pub fn one_answer()
+    ensures { (bytes : List ℕ) (r q : Result Plan Fault) → StandsFor bytes r → StandsFor bytes q → r ≡ q }
+{}

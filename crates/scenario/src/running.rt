@@ -1,0 +1,108 @@
+//! Runs a scenario, and writes its lines.
+ghost use Rattle.std.specs.Prelude.{◌≡◌, ◌↔◌, ℕ, map, IsTrue, IfOk, IfErr};
+ghost use Rattle.pid_blocks.specs.declared.Errno.TheVariants as errno;
+ghost use Rattle.requests.specs.declared.Reply.TheVariants as replies;
+ghost use Rattle.scenario.specs.Lines.{text};
+ghost use Rattle.scenario.specs.Runs.{answered, answers_of, Writes};
+ghost use Rattle.scenario.specs.Faults.{run_fault_status};
+ghost use Rattle.scenario.specs.declared.running.RunFault.TheVariants.{Memory, Write as WriteFault};
+
+use crate::lines::render;
+use crate::plan::Scenario;
+use pid_blocks::{Errno, Uid};
+use requests::{Host, Reply};
+use std::alloc::{AllocError, AllocFailed, Global};
+use std::io::Write;
+use thiserror::Error;
+
+/// Why a run came to no end.
+#[derive(Clone, Copy, Debug, PartialEq, Eq, Error)]
+pub enum RunFault {
+    /// No memory was left. Nothing was written.
+    #[error("tracehost: out of memory")]
+    Memory,
+    /// The writer failed, or took no byte. What it took before is a front of the text.
+    #[error("tracehost: cannot write")]
+    Write,
+}
+
+impl RunFault {
+    /// The exit status of a program that ends by the fault.
+    pub fn status(&self) -> u8
+        ensures { result ≡ run_fault_status self.now }
+    {
+        match self {
+            RunFault::Memory | RunFault::Write => 3,
+        }
+    }
+}
+
+impl From<AllocError> for RunFault {
+    ghost from_gives = { λ _ e. e ≡ Memory };
+
+    fn from(_refused: AllocError) -> RunFault {
+        RunFault::Memory
+    }
+}
+
+impl<T: Drop> From<AllocFailed<T>> for RunFault {
+    ghost from_gives = { λ _ e. e ≡ Memory };
+
+    fn from(_refused: AllocFailed<T>) -> RunFault {
+        RunFault::Memory
+    }
+}
+
+/// Whether the step found no memory.
+fn is_refused_memory(reply: &Reply) -> bool
+    ensures { IsTrue result ↔ (reply.now ≡ replies.Errno errno.ENOMEM) }
+{
+    matches!(reply, Reply::Errno(Errno::ENOMEM))
+}
+
+/// The replies to the steps, made one after another by a new host. A step that is answered ENOMEM ends the run.
+fn replies_of(alloc: Global, scenario: &Scenario) -> Result<Vec<(Uid, Reply)>, RunFault>
+    ensures ok { IfOk result (λ v. map answered v.items ≡ answers_of scenario.now) }
+    ensures err { IfErr result (λ e. e ≡ Memory) }
+{
+    let mut replies = Vec::new(alloc);
+    let mut host = Host::new(alloc, scenario.settings())?;
+    for step in scenario.steps() {
+        let reply = host.step(alloc, step.0, step.1);
+        if is_refused_memory(&reply) {
+            return Err(RunFault::Memory);
+        }
+        replies.push((step.0, reply))?;
+    }
+    Ok(replies)
+}
+
+/// Writes all the bytes, or a front of them.
+fn write_whole<W: Write>(writer: &mut W, bytes: &[u8]) -> Result<(), RunFault>
+    ensures writes { Writes result (W.contents writer.old) (W.contents writer.new) bytes.now }
+    ensures kind { IfErr result (λ e. e ≡ WriteFault) }
+{
+    let mut rest = bytes;
+    while !rest.is_empty() {
+        match writer.write(rest) {
+            Ok(0) => return Err(RunFault::Write),
+            Ok(n) => rest = &rest[n..],
+            Err(_) => return Err(RunFault::Write),
+        }
+    }
+    Ok(())
+}
+
+/// Makes the steps of the scenario one after another on a new host, and then writes the lines of the replies.
+///
+/// # Errors
+///
+/// `Memory` where no memory was left, for a step too: then nothing was written. `Write` where the writer failed or took no
+/// byte: then it has a front of the text.
+pub fn run<W: Write>(alloc: Global, scenario: &Scenario, writer: &mut W) -> Result<(), RunFault>
+    ensures { Writes result (W.contents writer.old) (W.contents writer.new) (text (answers_of scenario.now)) }
+{
+    let replies = replies_of(alloc, scenario)?;
+    let text = render(alloc, replies.as_slice(), None)?;
+    write_whole(writer, text.as_bytes())
+}

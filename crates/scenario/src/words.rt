@@ -1,0 +1,317 @@
+//! The words of replies.
+ghost use Rattle.std.specs.Prelude.{◌≡◌, ◌∷◌, Some, map, decimal};
+ghost use Rattle.std.specs.List.{join_with_byte};
+ghost use Rattle.scenario.specs.Words.{stop_flag_names, event_names, errno_text, event_text, index_text, flag_text, signal_text, decision_words, reply_words};
+ghost use Rattle.scenario.specs.Texts.{named_bit, view_words, rest_words};
+
+use event_masks::{EventMask, StopFlags};
+use lwpinfo::{Event, LwpInfo, NumList};
+use pid_blocks::Errno;
+use requests::Reply;
+use signals::{SigSet, Signal};
+use std::fmt;
+use stop_handlers::{Decision, StopView};
+
+/// The flags of a stop in the order of printing, with their bits.
+const STOP_FLAGS: [(&str, u32); 9] = [
+    ("PL_FLAG_SCE", 1),
+    ("PL_FLAG_SCX", 2),
+    ("PL_FLAG_EXEC", 4),
+    ("PL_FLAG_FORKED", 8),
+    ("PL_FLAG_CHILD", 16),
+    ("PL_FLAG_BORN", 32),
+    ("PL_FLAG_EXITED", 64),
+    ("PL_FLAG_VFORKED", 128),
+    ("PL_FLAG_VFORK_DONE", 256),
+];
+
+/// The flags of an event mask in the order of printing, with their bits.
+const EVENTS: [(&str, u32); 6] = [
+    ("PTRACE_EXEC", 1),
+    ("PTRACE_SCE", 2),
+    ("PTRACE_SCX", 4),
+    ("PTRACE_FORK", 8),
+    ("PTRACE_LWP", 16),
+    ("PTRACE_VFORK", 32),
+];
+
+fn errno_name<'a>(errno: Errno) -> &'a str
+    ensures { result.now ≡ errno_text errno }
+{
+    match errno {
+        Errno::EPERM => "EPERM",
+        Errno::ESRCH => "ESRCH",
+        Errno::ECHILD => "ECHILD",
+        Errno::ENOMEM => "ENOMEM",
+        Errno::EBUSY => "EBUSY",
+        Errno::EINVAL => "EINVAL",
+        Errno::EAGAIN => "EAGAIN",
+    }
+}
+
+fn event_name<'a>(event: Event) -> &'a str
+    ensures { result.now ≡ event_text event }
+{
+    match event {
+        Event::Nothing => "NONE",
+        Event::Signal => "SIGNAL",
+    }
+}
+
+/// The flags of a set by name, joined by `+`, or `none`.
+#[derive(Clone, Copy, Drop)]
+struct Flags<'a> {
+    bits: u32,
+    names: &'a [(&'a str, u32)],
+}
+
+impl fmt::Display for Flags<'_> {
+    ghost output = { λ f. Some (flag_text (map named_bit f.names.now) f.bits) };
+
+    fn fmt<W: fmt::Write>(&self, f: &mut fmt::Formatter<W>) -> fmt::Result {
+        let bits = self.bits;
+        let mut empty = true;
+        for (name, bit) in self.names {
+            if bits & *bit != *bit {
+                continue;
+            }
+            if empty {
+                write!(f, "{name}")?;
+                empty = false;
+                continue;
+            }
+            write!(f, "+{name}")?;
+        }
+        if empty {
+            return write!(f, "none");
+        }
+        Ok(())
+    }
+}
+
+/// The numbers of a set of signals, rising, joined by `,`, or `none`.
+#[derive(Clone, Copy, Drop)]
+struct Signals(SigSet);
+
+impl fmt::Display for Signals {
+    ghost output = { λ s. Some (signal_text s.0) };
+
+    fn fmt<W: fmt::Write>(&self, f: &mut fmt::Formatter<W>) -> fmt::Result {
+        let set = self.0;
+        let mut empty = true;
+        for place in 0..31u32 {
+            let number = place + 1;
+            let signal = Signal::new(number).map_err(|_| fmt::Error)?;
+            if !set.contains(signal) {
+                continue;
+            }
+            if empty {
+                write!(f, "{number}")?;
+                empty = false;
+                continue;
+            }
+            write!(f, ",{number}")?;
+        }
+        if empty {
+            return write!(f, "none");
+        }
+        Ok(())
+    }
+}
+
+/// A word and numbers, with a space between each two.
+#[derive(Clone, Copy, Drop)]
+struct Listed<'a> {
+    word: &'a str,
+    numbers: &'a NumList,
+}
+
+impl fmt::Display for Listed<'_> {
+    ghost output = { λ l. Some (join_with_byte 32 (l.word.now ∷ map (λ n. decimal n) l.numbers.now)) };
+
+    fn fmt<W: fmt::Write>(&self, f: &mut fmt::Formatter<W>) -> fmt::Result {
+        let word = self.word;
+        write!(f, "{word}")?;
+        for number in self.numbers.as_slice() {
+            write!(f, " {number}")?;
+        }
+        Ok(())
+    }
+}
+
+/// The place of a rule in its policy, or `none`.
+#[derive(Clone, Copy, Drop)]
+struct Place(Option<u32>);
+
+impl fmt::Display for Place {
+    ghost output = { λ p. Some (index_text p.0) };
+
+    fn fmt<W: fmt::Write>(&self, f: &mut fmt::Formatter<W>) -> fmt::Result {
+        match self.0 {
+            Some(place) => write!(f, "{place}"),
+            None => write!(f, "none"),
+        }
+    }
+}
+
+/// What a debugger does, with the signal that it passes on.
+#[derive(Clone, Copy, Drop)]
+struct Doing(Decision);
+
+impl fmt::Display for Doing {
+    ghost output = { λ d. Some (join_with_byte 32 (decision_words d.0)) };
+
+    fn fmt<W: fmt::Write>(&self, f: &mut fmt::Formatter<W>) -> fmt::Result {
+        match self.0 {
+            Decision::Decline => write!(f, "decline"),
+            Decision::Leave => write!(f, "leave"),
+            Decision::Continue(pass) => {
+                let signal = pass.number();
+                write!(f, "continue {signal}")
+            }
+            Decision::Detach(pass) => {
+                let signal = pass.number();
+                write!(f, "detach {signal}")
+            }
+            Decision::Kill => write!(f, "kill"),
+        }
+    }
+}
+
+/// The flags of a stop.
+fn stop_flags<'a>(flags: StopFlags) -> Flags<'a>
+    ensures { flag_text (map named_bit result.names.now) result.bits ≡ flag_text stop_flag_names flags.0 }
+{
+    Flags {
+        bits: flags.0,
+        names: &STOP_FLAGS,
+    }
+}
+
+/// The flags of an event mask.
+fn events<'a>(mask: EventMask) -> Flags<'a>
+    ensures { flag_text (map named_bit result.names.now) result.bits ≡ flag_text event_names mask.0 }
+{
+    Flags {
+        bits: mask.0,
+        names: &EVENTS,
+    }
+}
+
+/// A trace stop as a handler saw it.
+#[derive(Clone, Copy, Drop)]
+struct Seen<'a>(&'a StopView);
+
+impl fmt::Display for Seen<'_> {
+    ghost output = { λ v. Some (join_with_byte 32 (view_words v.0.now)) };
+
+    fn fmt<W: fmt::Write>(&self, f: &mut fmt::Formatter<W>) -> fmt::Result {
+        let tid = self.0.tid.get();
+        let signal = self.0.sig.number();
+        let flags = stop_flags(self.0.flags);
+        let child = self.0.child;
+        let code = self.0.code;
+        write!(
+            f,
+            "{tid} signal={signal} flags={flags} child={child} code={code}"
+        )
+    }
+}
+
+/// What PT_LWPINFO told of an LWP's signals, its child and its call.
+#[derive(Clone, Copy, Drop)]
+struct Rest<'a>(&'a LwpInfo);
+
+impl fmt::Display for Rest<'_> {
+    ghost output = { λ i. Some (join_with_byte 32 (rest_words i.0.now)) };
+
+    fn fmt<W: fmt::Write>(&self, f: &mut fmt::Formatter<W>) -> fmt::Result {
+        let mask = Signals(self.0.sigmask);
+        let pending = Signals(self.0.siglist);
+        let child = self.0.child;
+        let code = self.0.code;
+        write!(f, "mask={mask} pending={pending} child={child} code={code}")
+    }
+}
+
+/// The words of a reply, with a space between each two.
+#[derive(Clone, Copy, Drop)]
+pub(crate) struct Words<'a>(pub(crate) &'a Reply);
+
+impl fmt::Display for Words<'_> {
+    ghost output = { λ w. Some (join_with_byte 32 (reply_words w.0.now)) };
+
+    fn fmt<W: fmt::Write>(&self, f: &mut fmt::Formatter<W>) -> fmt::Result {
+        match self.0 {
+            Reply::Done => write!(f, "ok"),
+            Reply::New { pid, tid } => {
+                let pid = pid.get();
+                let tid = tid.get();
+                write!(f, "new {pid} {tid}")
+            }
+            Reply::Number(number) => write!(f, "number {number}"),
+            Reply::Status { pid, status } => {
+                let pid = pid.get();
+                let word = status.word();
+                write!(f, "status {pid} {word}")
+            }
+            Reply::Nothing => write!(f, "nothing"),
+            Reply::Info(info) => {
+                let tid = info.tid.get();
+                let event = event_name(info.event);
+                let flags = stop_flags(info.flags);
+                let rest = Rest(info);
+                write!(f, "info {tid} {event} flags={flags} {rest}")
+            }
+            Reply::Lwps(tids) => {
+                let listed = Listed {
+                    word: "lwps",
+                    numbers: tids,
+                };
+                write!(f, "{listed}")
+            }
+            Reply::Pids(pids) => {
+                let listed = Listed {
+                    word: "pids",
+                    numbers: pids,
+                };
+                write!(f, "{listed}")
+            }
+            Reply::Mask(mask) => {
+                let mask = events(*mask);
+                write!(f, "mask {mask}")
+            }
+            Reply::Handled {
+                pid,
+                status,
+                view,
+                index,
+                decision,
+            } => {
+                let pid = pid.get();
+                let word = status.word();
+                let seen = Seen(view);
+                let place = Place(*index);
+                let doing = Doing(*decision);
+                write!(f, "handled {pid} {word} at {seen} by {place} {doing}")
+            }
+            Reply::Stopped { tid, sig, flags } => {
+                let tid = tid.get();
+                let signal = sig.number();
+                let flags = stop_flags(*flags);
+                write!(f, "stopped {tid} {signal} flags={flags}")
+            }
+            Reply::Caught(sig) => {
+                let signal = sig.number();
+                write!(f, "caught {signal}")
+            }
+            Reply::Ended(status) => write!(f, "ended {status}"),
+            Reply::Held => write!(f, "held"),
+            Reply::Errno(errno) => {
+                let name = errno_name(*errno);
+                let number = errno.number();
+                write!(f, "error {name} {number}")
+            }
+        }
+    }
+}
