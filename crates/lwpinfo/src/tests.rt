@@ -1,7 +1,8 @@
-use crate::{Event, NumList, lwp_info};
+use crate::{Event, NumList, info, lwp_count, lwp_info, lwp_list};
 use event_masks::StopFlags;
 use lwp_table::{Due, LwpData};
 use pid_blocks::{Pid, Tid};
+use proc_table::Tables;
 use signals::SigSet;
 use std::test::Fail;
 
@@ -41,5 +42,16 @@ fn what_is_told_of_an_lwp(rt: HostRuntime) -> Result<(), Fail> {
     assert_eq!(rt; (other.tid, other.flags), (tid, StopFlags(0)));
     assert_eq!(rt; (other.child, other.code), (0, 0));
     assert_eq!(rt; other.event, Event::Nothing);
+    Ok(())
+}
+
+#[test]
+fn no_process_is_told_of(rt: HostRuntime) -> Result<(), Fail> {
+    let tables = Tables::new(rt.alloc())?;
+    let tid = Tid::new(100000).ok_or("no LWP")?;
+    let pid = Pid::new(1000).ok_or("no process")?;
+    assert_eq!(rt; info(&tables, pid, tid), None);
+    assert_eq!(rt; lwp_count(&tables, pid), 0);
+    assert!(rt; lwp_list(rt.alloc(), &tables, pid, 8)?.is_empty());
     Ok(())
 }

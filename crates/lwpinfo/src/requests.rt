@@ -1,0 +1,63 @@
+ghost use Rattle.std.specs.Prelude.{◌≡◌, IfOk, option_map};
+ghost use Rattle.proc_table.specs.Fresh.{lwp_count};
+ghost use Rattle.proc_table.specs.Processes.{reporting, is_this};
+ghost use Rattle.lwpinfo.specs.Info.{info_of, lwp_info, lwp_list};
+
+use crate::{LwpInfo, NumList, lwp_info};
+use lwp_table::LwpData;
+use pid_blocks::{Pid, Tid};
+use proc_table::{ProcData, State, Tables};
+use std::alloc::{AllocError, Global};
+
+/// What PT_LWPINFO of ptrace(2) tells of an LWP of the process. None where no process or no LWP has the number.
+pub fn info(tables: &Tables, pid: Pid, tid: Tid) -> Option<LwpInfo>
+    ensures { result ≡ info_of pid tid tables.now.rows }
+{
+    match tables.process(pid) {
+        Some(process) => told(reports(&process, tid), tables.lwp(tid)),
+        None => None,
+    }
+}
+
+/// Whether the LWP reports the stop that the process is in.
+fn reports(process: &ProcData, tid: Tid) -> bool
+    ensures { result ≡ is_this tid (reporting process.now) }
+{
+    match process.state {
+        State::Trace { tid: reporting, .. } => reporting == tid,
+        State::Run | State::Job { .. } | State::Zombie { .. } => false,
+    }
+}
+
+/// What is told of an LWP, if there is one.
+fn told(reports: bool, lwp: Option<LwpData>) -> Option<LwpInfo>
+    ensures { result ≡ option_map (lwp_info reports) lwp }
+{
+    match &lwp {
+        Some(row) => Some(lwp_info(reports, row)),
+        None => None,
+    }
+}
+
+/// How many LWPs the process has, as PT_GETNUMLWPS of ptrace(2) tells.
+pub fn lwp_count(tables: &Tables, pid: Pid) -> usize
+    ensures { result ≡ lwp_count pid tables.now.rows }
+{
+    tables.lwp_count(pid)
+}
+
+/// The numbers of the process's first `count` LWPs by birth, as PT_GETLWPLIST of ptrace(2) tells. Refused where memory for the list runs out.
+pub fn lwp_list(alloc: Global, tables: &Tables, pid: Pid, count: u32) -> Result<NumList, AllocError>
+    ensures { IfOk result (λ list. list ≡ lwp_list pid count tables.now.rows) }
+{
+    let mut numbers = Vec::new(alloc);
+    let mut next = tables.first_lwp(pid);
+    for place in 0..count {
+        let Some(lwp) = next else {
+            break;
+        };
+        numbers.push(lwp.tid.get())?;
+        next = tables.next_lwp(pid, lwp.tid);
+    }
+    Ok(NumList::of(numbers))
+}
