@@ -14,3 +14,4 @@ pub mod LeafStands
 pub mod LeafLives
 pub mod LeafSound
 pub mod EndSound
+pub mod Freed
