@@ -23,7 +23,7 @@ use Rattle.trace_stop.proofs.LeafStands.{stands_left, passes_none}
 pub live_from : (rows : Rows) (q : ℕ) → Stands rows → is_live_at q rows ≡ true → IsLiveRow rows.processes q
 live_from rows q s is = sym (any_by_number is_live q rows.processes s.rising) ∙ is
 
-listed : (rows : Rows) (q : ℕ) → is_live_at q rows ≡ true → is_process rows q ≡ true
+pub listed : (rows : Rows) (q : ℕ) → is_live_at q rows ≡ true → is_process rows q ≡ true
 listed rows q is = any_more (λ r. (r.pid == q) && is_live r) (λ r. r.pid == q) (λ r h. and_left (r.pid == q) (is_live r) h) rows.processes is
 
 -- the end as an edit of each row

@@ -28,7 +28,7 @@ use Rattle.trace_stop.proofs.LeafStands.{dead_silent, stands_left, by_owner_row,
 use Rattle.trace_stop.proofs.LeafLives.{live_from, end_after}
 
 -- a live process has not ended
-ended_live : (z : ProcData) (st : State) → not (is_zombie_state st) ≡ true → IfEnded z st
+pub ended_live : (z : ProcData) (st : State) → not (is_zombie_state st) ≡ true → IfEnded z st
 ended_live z Run live = tt
 ended_live z (Trace tid sig seen) live = tt
 ended_live z (Job sig seen) live = tt
@@ -124,7 +124,7 @@ fit_lwp q r l n m fits = at (waits_where (alone q) l.mode)
       blocked = fits.blocked;
     }
 
-sound_left : (rows : Rows) (q status : ℕ) (s : IsSound rows) → is_end status ≡ true → (live : IsLiveRow rows.processes q) (leaf : traces_live q rows ≡ false) → IsSound (after rows q status s.stands live leaf)
+pub sound_left : (rows : Rows) (q status : ℕ) (s : IsSound rows) → is_end status ≡ true → (live : IsLiveRow rows.processes q) (leaf : traces_live q rows ≡ false) → IsSound (after rows q status s.stands live leaf)
 sound_left rows q status s word live leaf = record {
   stands = stands_left rows q status s.stands live leaf;
   processes = All-edit (edit rows q status s.stands live leaf) (λ r. (process_of r.pid rows.processes ≡ Some r) × FitProcess r) FitProcess

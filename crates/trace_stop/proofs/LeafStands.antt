@@ -56,7 +56,7 @@ lacks_edited f n (l ∷ ls) all lacks = at_head (f l) all.0 (lacks_edited f n ls
     at_head None same rest = rest
     at_head (Some k) same rest = (λ e. lacks.0 (sym same ∙ e), rest)
 
-differ_edited : (f : LwpData → Option LwpData) (ls : List LwpData) → AllByRecursion (λ l. IfSome (f l) (λ k. k.tid ≡ l.tid)) ls → Differ ls → Differ (filter_map f ls)
+pub differ_edited : (f : LwpData → Option LwpData) (ls : List LwpData) → AllByRecursion (λ l. IfSome (f l) (λ k. k.tid ≡ l.tid)) ls → Differ ls → Differ (filter_map f ls)
 differ_edited f [] all differ = tt
 differ_edited f (l ∷ ls) all differ = at_head (f l) all.0 (lacks_edited f l.tid ls all.1 differ.0) (differ_edited f ls all.1 differ.1)
   where
@@ -64,14 +64,14 @@ differ_edited f (l ∷ ls) all differ = at_head (f l) all.0 (lacks_edited f l.ti
     at_head None same lacks rest = rest
     at_head (Some k) same lacks rest = (subst (λ n. LacksLwp n (filter_map f ls)) (sym same) lacks, rest)
 
-some_same : {X : Type 0} (a b : X) → Some a ≡ Some b → a ≡ b
+pub some_same : {X : Type 0} (a b : X) → Some a ≡ Some b → a ≡ b
 some_same a b e = cc
 
 pub passes_none : {X : Type 0} (t : X → Bool) (o : Option X) → IfSome o (λ x. t x ≡ false) → passes t o ≡ false
 passes_none t None h = refl
 passes_none t (Some x) h = h
 
-passes_only : {X : Type 0} (t : X → Bool) (R : Type 0) (o : Option X) → IfSome o (λ x. t x ≡ true → R) → passes t o ≡ true → R
+pub passes_only : {X : Type 0} (t : X → Bool) (R : Type 0) (o : Option X) → IfSome o (λ x. t x ≡ true → R) → passes t o ≡ true → R
 passes_only t R None h is = absurd (true≢false (sym is))
 passes_only t R (Some x) h is = h is
 

@@ -21,3 +21,4 @@ pub mod Changed
 pub mod Bits
 pub mod Changes
 pub mod Posting
+pub mod Freed

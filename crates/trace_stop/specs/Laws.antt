@@ -7,6 +7,7 @@ use Rattle.proc_table.specs.Processes.{process_of, is_live, traces}
 use Rattle.proc_table.specs.Rows.{Rows}
 use Rattle.proc_table.specs.Fresh.{is_process}
 use Rattle.trace_stop.specs.declared.Settings.{Settings}
+use Rattle.trace_stop.specs.Free.{detached}
 use Rattle.trace_stop.specs.End.{tracer_of, meets, dooms, left_alone, end_each, end}
 use Rattle.trace_stop.specs.Sound.{is_end}
 use Rattle.trace_stop.specs.Facts.{Stands, IsSound}
@@ -105,7 +106,13 @@ abbrev pub LeafSound : Type 0
 LeafSound = (settings : Settings) (rows : Rows) (q status : ℕ) → settings.kill_on_debugger_exit ≡ true → IsSound rows → is_end status ≡ true
     → is_live_at q rows ≡ true → traces_live q rows ≡ false → IsSound (end settings q status rows)
 
--- so sound rows are sound after the end of any live process
+-- sound rows are sound once live processes are detached from their tracers
+abbrev pub DetachedSound : Type 0
+DetachedSound = (rows : Rows) (chosen : ProcData → Bool) (lost : ProcData → ℕ) → IsSound rows
+    → ((r : ProcData) → process_of r.pid rows.processes ≡ Some r → chosen r ≡ true → is_live r ≡ true)
+    → IsSound (detached chosen lost rows)
+
+-- so sound rows are sound after the end of any live process, whatever a debugger's end does
 abbrev pub EndSound : Type 0
-EndSound = (settings : Settings) (rows : Rows) (p status : ℕ) → settings.kill_on_debugger_exit ≡ true → IsSound rows → is_end status ≡ true
+EndSound = (settings : Settings) (rows : Rows) (p status : ℕ) → IsSound rows → is_end status ≡ true
     → is_live_at p rows ≡ true → IsSound (end settings p status rows)

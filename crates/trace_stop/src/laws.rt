@@ -1,6 +1,6 @@
 //! Laws of the end of a process.
 
-ghost use Rattle.trace_stop.specs.Laws.{LeafEnd, DetachedEnd, LeafLaw, ChainsEnd, ChainsMeet, TraceeDeeper, TraceeDoomed, LeafExists, LeafStands, LeafLives, LeafFewer, LeafDooms, LeafSound, EndSound};
+ghost use Rattle.trace_stop.specs.Laws.{LeafEnd, DetachedEnd, LeafLaw, ChainsEnd, ChainsMeet, TraceeDeeper, TraceeDoomed, LeafExists, LeafStands, LeafLives, LeafFewer, LeafDooms, LeafSound, DetachedSound, EndSound};
 
 /// A process that traces no live one ends alone.
 pub fn leaf_end()
@@ -67,7 +67,12 @@ pub fn leaf_sound()
     ensures { LeafSound }
 {}
 
-/// Where a debugger's end kills, sound rows are sound after the end of a live process.
+/// Sound rows are sound after the end of a live process.
 pub fn end_sound()
     ensures { EndSound }
+{}
+
+/// Sound rows are sound once live processes are detached from their tracers.
+pub fn detached_sound()
+    ensures { DetachedSound }
 {}
