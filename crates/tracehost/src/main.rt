@@ -1,0 +1,121 @@
+//! `tracehost [FILE]`: runs the scenario of a file or of standard input, and writes its lines to standard output.
+#![tactic(auto)]
+
+use clap::error::ErrorKind;
+use clap::{Arg, Command};
+use scenario::{Fault, RunFault, Scenario, read, run};
+use std::alloc::{AllocError, Global};
+use std::process::ExitCode;
+use std::rt::{Env, Files};
+use std::{env, fs, io};
+
+/// Why the program ends with another status than 0.
+#[derive(Drop)]
+enum Trouble {
+    /// The command line is refused, or asks for help.
+    Command(clap::Error),
+    /// An argument is no text.
+    Words,
+    /// There is no scenario.
+    Fault(Fault),
+    /// The run came to no end.
+    Run(RunFault),
+}
+
+impl From<clap::Error> for Trouble {
+    fn from(error: clap::Error) -> Trouble {
+        if error.kind() == ErrorKind::OutOfMemory {
+            Trouble::Fault(Fault::Memory)
+        } else {
+            Trouble::Command(error)
+        }
+    }
+}
+
+impl From<io::Error> for Trouble {
+    fn from(error: io::Error) -> Trouble {
+        if error.kind() == io::ErrorKind::OutOfMemory {
+            Trouble::Fault(Fault::Memory)
+        } else {
+            Trouble::Words
+        }
+    }
+}
+
+impl From<AllocError> for Trouble {
+    fn from(_refused: AllocError) -> Trouble {
+        Trouble::Fault(Fault::Memory)
+    }
+}
+
+impl From<Fault> for Trouble {
+    fn from(fault: Fault) -> Trouble {
+        Trouble::Fault(fault)
+    }
+}
+
+impl From<RunFault> for Trouble {
+    fn from(fault: RunFault) -> Trouble {
+        Trouble::Run(fault)
+    }
+}
+
+/// The file that the command line names, if it names one.
+fn file_of(alloc: Global, words: &[String]) -> Result<Option<&str>, Trouble> {
+    let file = Arg::new(alloc, "FILE");
+    let command = Command::new(alloc, "tracehost").arg(file)?;
+    let matches = command.try_get_matches_from(words)?;
+    Ok(matches.get_str("FILE"))
+}
+
+/// The scenario of the file, or of standard input.
+fn scenario_of<R: Files + Input + AllocGlobal>(
+    rt: &R,
+    file: Option<&str>,
+) -> Result<Scenario, Fault> {
+    match file {
+        Some(path) => {
+            let mut file = fs::open(rt, path).map_err(|_| Fault::Read)?;
+            read(rt.alloc(), &mut file)
+        }
+        None => read(rt.alloc(), &mut rt.reader()),
+    }
+}
+
+/// Reads the command line, then the scenario, and then runs it. The first trouble ends it.
+fn go<R: Files + Input + Print + Eprint + Env + AllocGlobal>(rt: &R) -> Result<(), Trouble> {
+    let words: Vec<String> = env::args(rt)?.collect(rt.alloc())?;
+    let file = file_of(rt.alloc(), words.as_slice())?;
+    let scenario = scenario_of(rt, file)?;
+    run(rt.alloc(), &scenario, &mut io::writer(rt))?;
+    Ok(())
+}
+
+/// Tells the trouble on standard error, and answers its status.
+fn told(rt: &impl Eprint, trouble: &Trouble) -> u8 {
+    match trouble {
+        Trouble::Command(error) => {
+            let _ = eprint!(rt; "{error}");
+            2
+        }
+        Trouble::Words => {
+            let _ = eprintln!(rt; "error: an argument is no text");
+            2
+        }
+        Trouble::Fault(fault) => {
+            let _ = eprintln!(rt; "{fault}");
+            fault.status()
+        }
+        Trouble::Run(fault) => {
+            let _ = eprintln!(rt; "{fault}");
+            fault.status()
+        }
+    }
+}
+
+fn main(rt: HostRuntime) -> ExitCode {
+    match go(&rt) {
+        Ok(()) => ExitCode::SUCCESS,
+        Err(trouble) => ExitCode::from(told(&rt, &trouble)),
+    }
+}
