@@ -138,7 +138,7 @@ module _ (rows : Rows) (f : ProcData → Option ProcData) (h : LwpData → LwpDa
   pids : (p : ProcData) → IfSome (f p) (λ q. q.pid ≡ p.pid)
   pids p = If_more _ (λ q. q.pid ≡ p.pid) (λ q e. e.0) (f p) (c.same.process p)
 
-  live_after : (u n : ℕ) → IsLiveOf rows u n → IsLiveOf after u n
+  pub live_after : (u n : ℕ) → IsLiveOf rows u n → IsLiveOf after u n
   live_after u n is = any_forward (λ p. (p.pid == n) && (p.uid == u) && is_live p) (λ p. (p.pid == n) && (p.uid == u) && is_live p) P f (λ p fact e.
       let here = and_left ((p.pid == n) && (p.uid == u)) (is_live p) e in
       let y = lives_at (f p) (c.live p fact (and_right ((p.pid == n) && (p.uid == u)) (is_live p) e)) in

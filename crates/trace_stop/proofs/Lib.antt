@@ -9,3 +9,4 @@ pub mod Changed
 pub mod Bits
 pub mod Changes
 pub mod Posting
+pub mod Stopping
