@@ -10,3 +10,4 @@ pub mod Bits
 pub mod Changes
 pub mod Posting
 pub mod Stopping
+pub mod Single
