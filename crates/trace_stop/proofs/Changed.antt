@@ -114,7 +114,7 @@ pub record Change (rows : Rows) (f : ProcData → Option ProcData) (h : LwpData 
   pub parent : (p : ProcData) → P p → IfSome (f p) (λ q. q.parent ≡ p.parent)
   pub named : (p : ProcData) → P p → Linked rows p → IfSome (f p) (λ q. IfSome (reporting q) (λ tid. names_own rows p tid ≡ true))
   pub exited : (p : ProcData) (l : LwpData) → P p → Q p l → Standing rows p l → process_of l.pid rows.processes ≡ Some p → shows (h l).flags PL_FLAG_EXITED ≡ true → 2 ≤ lwp_count p.pid rows
-  pub waits : (p : ProcData) (l : LwpData) → Standing rows p l → IfSome (waited_for (h l).mode) (IsLiveOf rows p.uid)
+  pub waits : (p : ProcData) (l : LwpData) → Q p l → Standing rows p l → process_of l.pid rows.processes ≡ Some p → IfSome (waited_for (h l).mode) (IsLiveOf rows p.uid)
   pub fits : (p : ProcData) → P p → Linked rows p → IfSome (f p) P'
   pub fit_lwp : (p q : ProcData) (l : LwpData) → P p → Q p l → Standing rows p l → process_of l.pid rows.processes ≡ Some p → f p ≡ Some q → Q' q (h l)
 
@@ -138,7 +138,7 @@ module _ (rows : Rows) (f : ProcData → Option ProcData) (h : LwpData → LwpDa
   pids : (p : ProcData) → IfSome (f p) (λ q. q.pid ≡ p.pid)
   pids p = If_more _ (λ q. q.pid ≡ p.pid) (λ q e. e.0) (f p) (c.same.process p)
 
-  live_after : (u n : ℕ) → IsLiveOf rows u n → IsLiveOf after u n
+  pub live_after : (u n : ℕ) → IsLiveOf rows u n → IsLiveOf after u n
   live_after u n is = any_forward (λ p. (p.pid == n) && (p.uid == u) && is_live p) (λ p. (p.pid == n) && (p.uid == u) && is_live p) P f (λ p fact e.
       let here = and_left ((p.pid == n) && (p.uid == u)) (is_live p) e in
       let y = lives_at (f p) (c.live p fact (and_right ((p.pid == n) && (p.uid == u)) (is_live p) e)) in
@@ -208,7 +208,7 @@ module _ (rows : Rows) (f : ProcData → Option ProcData) (h : LwpData → LwpDa
       subst (Standing after q) (some_is (h l) k to) (record {
         live = let y = lives_at (f p) (c.live p r.0 stood.live) in subst (λ x. is_live x ≡ true) (some_is y.0 q (sym y.1 ∙ is)) y.2;
         exited = λ shown. subst (λ n. 2 ≤ lwp_count n after) (sym same.0) (subst (λ n. 2 ≤ n) (sym (count_after p.pid)) (c.exited p l r.0 (b.0 p at) stood at shown));
-        waits = subst (λ u. IfSome (waited_for (h l).mode) (IsLiveOf after u)) (sym same.1) (If_more (IsLiveOf rows p.uid) (IsLiveOf after p.uid) (live_after p.uid) (waited_for (h l).mode) (c.waits p l stood));
+        waits = subst (λ u. IfSome (waited_for (h l).mode) (IsLiveOf after u)) (sym same.1) (If_more (IsLiveOf rows p.uid) (IsLiveOf after p.uid) (live_after p.uid) (waited_for (h l).mode) (c.waits p l (b.0 p at) stood at));
       })
 
   pub change_holds : Holds P' Q' after

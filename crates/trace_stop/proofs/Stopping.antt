@@ -1,0 +1,98 @@
+-- Notifying, trace stops and changes of one LWP keep rows sound.
+use Rattle.std.proofs.Common.{◌≡◌, ◌≢◌, ◌⊎◌, inl, inr, ℕ, ◌<◌, ◌≤◌, Bool, true, false, cond, ◌==◌, ◌&&◌, ◌||◌, if◌then◌else◌, List, [], ◌∷◌, find, filter_map, Option, Some, None, IfSome, is_some, is_none, refl, sym, ap, ◌∙◌, true≢false, subst, arith, eqb-true, eq-eqb}
+use Rattle.std.specs.List.{AllByRecursion, list_any}
+use Rattle.event_masks.specs.Exits.{shows}
+use Rattle.event_masks.specs.declared.TheConstants.StopFlags.{PL_FLAG_EXITED}
+use Rattle.signals.specs.Table.{SIGCHLD}
+use Rattle.lwp_table.specs.declared.LwpData.{LwpData}
+use Rattle.lwp_table.specs.Lwps.{lwp_of, Differ, LacksLwp}
+use Rattle.proc_table.specs.declared.ProcData.{ProcData}
+use Rattle.proc_table.specs.declared.State.TheVariants.{Trace}
+use Rattle.proc_table.specs.Processes.{is_live, is_run, reporting, is_this, process_of}
+use Rattle.proc_table.specs.Rows.{Rows, change_process, change_lwp}
+use Rattle.proc_table.specs.Fresh.{lwp_count}
+use Rattle.proc_table.specs.Kept.{Rise, AllAbove, AtHome}
+use Rattle.trace_stop.specs.Post.{notified}
+use Rattle.trace_stop.specs.End.{tracer_in, tracer_of}
+use Rattle.trace_stop.specs.Stop.{Shown, tracers, stop}
+use Rattle.trace_stop.specs.Sound.{is_live_of, names_own}
+use Rattle.trace_stop.specs.Facts.{IsLiveOf, Linked, FitProcess, waited_for, Standing, FitLwp, WithOwner, Stands, IsSound}
+use Rattle.trace_stop.proofs.Every.{and_left, and_right, both, by_bool, All-imply, All-both, All-any, find_some, any_more}
+use Rattle.trace_stop.proofs.Edited.{edited, If_more, some_is}
+use Rattle.trace_stop.proofs.Changed.{Holds, holds_sound, sound_holds, found_number, Change, change_holds, live_after}
+use Rattle.trace_stop.proofs.Changes.{edit_none}
+use Rattle.trace_stop.proofs.Posting.{LiveFit, post_chosen}
+
+-- A number has one row
+
+apart_above : (n : ℕ) (t : ProcData → Bool) (ps : List ProcData) → AllAbove n ps → list_any (λ q. (q.pid == n) && t q) ps ≡ false
+apart_above n t [] all = refl
+apart_above n t (p ∷ ps) all = let other : (p.pid == n) ≡ false = by_bool (p.pid == n) (λ e. let same = eqb-true p.pid n e in let lt = all.0 in absurd (omega arith)) in rw other (apart_above n t ps all.1)
+
+one_more : (t : ProcData → Bool) (p : ProcData) (ps qs : List ProcData) → AllAbove p.pid qs → AllByRecursion (λ r. list_any (λ q. (q.pid == r.pid) && t q) ps ≡ true → t r ≡ true) qs
+    → AllByRecursion (λ r. list_any (λ q. (q.pid == r.pid) && t q) (p ∷ ps) ≡ true → t r ≡ true) qs
+one_more t p ps [] above all = tt
+one_more t p ps (r ∷ qs) above all = (λ is. all.0 (skip (by_bool (p.pid == r.pid) (λ e. let same = eqb-true p.pid r.pid e in let lt = above.0 in absurd (omega arith))) is), one_more t p ps qs above.1 all.1)
+  where
+    skip : (p.pid == r.pid) ≡ false → list_any (λ q. (q.pid == r.pid) && t q) (p ∷ ps) ≡ true → list_any (λ q. (q.pid == r.pid) && t q) ps ≡ true
+    skip other is = rw other at is
+
+pub one_row : (t : ProcData → Bool) (ps : List ProcData) → Rise ps → AllByRecursion (λ p. list_any (λ q. (q.pid == p.pid) && t q) ps ≡ true → t p ≡ true) ps
+one_row t [] rise = tt
+one_row t (p ∷ ps) rise = (here, one_more t p ps ps rise.0 (one_row t ps rise.1))
+  where
+    by_or : (a b : Bool) → (a || b) ≡ true → b ≡ false → a ≡ true
+    by_or true b k none = refl
+    by_or false b k none = absurd (true≢false (sym k ∙ none))
+
+    here : list_any (λ q. (q.pid == p.pid) && t q) (p ∷ ps) ≡ true → t p ≡ true
+    here is = and_right (p.pid == p.pid) (t p) (by_or ((p.pid == p.pid) && t p) (list_any (λ q. (q.pid == p.pid) && t q) ps) is (apart_above p.pid t ps rise.0))
+
+pub the_row : (n : ℕ) (ps : List ProcData) (p : ProcData) → Rise ps → process_of n ps ≡ Some p → AllByRecursion (λ q. q.pid ≡ n → q ≡ p) ps
+the_row n [] p rise at = tt
+the_row n (q ∷ ps) p rise at = by_head (q.pid == n) refl at (the_row n ps p rise.1)
+  where
+    none_above : (m : ℕ) (qs : List ProcData) → AllAbove m qs → AllByRecursion (λ r. m < r.pid) qs
+    none_above m [] all = tt
+    none_above m (r ∷ qs) all = (all.0, none_above m qs all.1)
+
+    by_head : (b : Bool) → (q.pid == n) ≡ b → cond b (Some q) (process_of n ps) ≡ Some p → (process_of n ps ≡ Some p → AllByRecursion (λ r. r.pid ≡ n → r ≡ p) ps) → (q.pid ≡ n → q ≡ p) × AllByRecursion (λ r. r.pid ≡ n → r ≡ p) ps
+    by_head true e k rest = (λ same. some_is q p k, All-imply (λ r. q.pid < r.pid) (λ r. r.pid ≡ n → r ≡ p) (λ r lt same. let here = eqb-true q.pid n e in absurd (omega arith)) ps (none_above q.pid ps rise.0))
+    by_head false e k rest = (λ same. absurd (true≢false (sym (eq-eqb q.pid n same) ∙ e)), rest k)
+
+lacks_all : (n : ℕ) (ls : List LwpData) → LacksLwp n ls → AllByRecursion (λ l. l.tid ≢ n) ls
+lacks_all n [] all = tt
+lacks_all n (l ∷ ls) all = (all.0, lacks_all n ls all.1)
+
+pub the_lwp : (n : ℕ) (ls : List LwpData) (k : LwpData) → Differ ls → lwp_of n ls ≡ Some k → AllByRecursion (λ l. l.tid ≡ n → l ≡ k) ls
+the_lwp n [] k all at = tt
+the_lwp n (l ∷ ls) k all at = by_head (l.tid == n) refl at (the_lwp n ls k all.1)
+  where
+    by_head : (b : Bool) → (l.tid == n) ≡ b → cond b (Some l) (lwp_of n ls) ≡ Some k → (lwp_of n ls ≡ Some k → AllByRecursion (λ j. j.tid ≡ n → j ≡ k) ls) → (l.tid ≡ n → l ≡ k) × AllByRecursion (λ j. j.tid ≡ n → j ≡ k) ls
+    by_head true e h rest = (λ same. some_is l k h, All-imply (λ j. j.tid ≢ l.tid) (λ j. j.tid ≡ n → j ≡ k) (λ j other same. absurd (other (same ∙ sym (eqb-true l.tid n e)))) ls (lacks_all l.tid ls all.0))
+    by_head false e h rest = (λ same. absurd (true≢false (sym (eq-eqb l.tid n same) ∙ e)), rest h)
+
+-- Telling live processes
+
+abbrev pub MayTell : Rows → ℕ → Type 0
+MayTell rows n = n ≢ 1 → list_any (λ p. (p.pid == n) && is_live p) rows.processes ≡ true
+
+pub live_told : (rows : Rows) (u n : ℕ) → IsLiveOf rows u n → MayTell rows n
+live_told rows u n is ne = any_more (λ p. (p.pid == n) && (p.uid == u) && is_live p) (λ p. (p.pid == n) && is_live p)
+    (λ p e. both (p.pid == n) (is_live p) (and_left (p.pid == n) (p.uid == u) (and_left ((p.pid == n) && (p.uid == u)) (is_live p) e)) (and_right ((p.pid == n) && (p.uid == u)) (is_live p) e)) rows.processes is
+
+told_rows : (rows : Rows) (pids : List ℕ) → AllByRecursion (MayTell rows) pids → (p : ProcData) → AtHome p → (list_any (λ q. (q.pid == p.pid) && is_live q) rows.processes ≡ true → is_live p ≡ true) → list_any (λ n. n == p.pid) pids ≡ true → is_live p ≡ true
+told_rows rows [] all p home one is = absurd (true≢false (sym is))
+told_rows rows (n ∷ pids) all p home one is = by_head (n == p.pid) refl is (told_rows rows pids all.1 p home one)
+  where
+    by_head : (b : Bool) → (n == p.pid) ≡ b → (b || list_any (λ m. m == p.pid) pids) ≡ true → (list_any (λ m. m == p.pid) pids ≡ true → is_live p ≡ true) → is_live p ≡ true
+    by_head true e h rest = let same = eqb-true n p.pid e in one (subst (λ m. list_any (λ q. (q.pid == m) && is_live q) rows.processes ≡ true) same (all.0 (λ e1. let low = home.block.0 in let user = home.user.0 in absurd (omega arith))))
+    by_head false e h rest = rest h
+
+pub notified_sound : (rows : Rows) (pids : List ℕ) → IsSound rows → AllByRecursion (MayTell rows) pids → IsSound (notified pids rows)
+notified_sound rows pids s tell = sound_holds _ (post_chosen rows (λ p. list_any (λ n. n == p.pid) pids) SIGCHLD None (record {
+  stands = s.stands;
+  processes = All-imply (λ p. FitProcess p × (AtHome p × (list_any (λ q. (q.pid == p.pid) && is_live q) rows.processes ≡ true → is_live p ≡ true))) (LiveFit (λ p. list_any (λ n. n == p.pid) pids)) (λ p h. (h.0, told_rows rows pids tell p h.1.0 h.1.1)) rows.processes
+      (All-both FitProcess _ rows.processes s.processes (All-both AtHome _ rows.processes s.stands.homes (one_row is_live rows.processes s.stands.rising)));
+  lwps = s.lwps;
+}))
