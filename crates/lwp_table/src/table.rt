@@ -144,8 +144,8 @@ impl LwpTable {
         ensures process { result ≡ option_map (λ l. l.pid) (lwp_of tid self.now.rows) }
         ensures differ { Differ self.now.rows }
     {
-        let slot = *self.slots.get(&tid.get())?;
-        Some(self.rows[slot].row.pid)
+        let place = *self.slots.get(&tid.get())?;
+        Some(self.rows[place].row.pid)
     }
 
     /// Puts a row in the place of the one with its number, which stays in that process.

@@ -8,13 +8,13 @@ use Rattle.lwp_table.proofs.IndexLemmas.{lwp_of-absent, lwp_of-found}
 use Rattle.lwp_table.proofs.KeptLemmas.{differ-seen}
 use Rattle.lwp_table.proofs.table.LwpTable.process.Goals as goal
 
-pub returns-in_err-slot-clause-process : goal.returns-in_err-slot-clause-process
-returns-in_err-slot-clause-process c =
+pub returns-in_err-place-clause-process : goal.returns-in_err-place-clause-process
+returns-in_err-place-clause-process c =
     let f = slot_get c.self.inside.rows in
     let es = c.self.inside.slots.entries in
     let key = ap (λ n. option_map (λ (l : LwpData). l.pid) (lwp_of n (rows_of f es c.self.inside.births))) c.get.ensures.number in
     let seen = ap (λ v. option_map (λ (l : LwpData). l.pid) (lwp_of c.args.tid v.rows)) c.self.view_is in
-    c.from_residual.ensures ∙ sym (ap (option_map (λ (l : LwpData). l.pid)) (lwp_of-absent f es c.self.inside.births c.self.invariant.indexed c.get.result (sym c.in_err-slot.ensures.value))) ∙ key ∙ seen
+    c.from_residual.ensures ∙ sym (ap (option_map (λ (l : LwpData). l.pid)) (lwp_of-absent f es c.self.inside.births c.self.invariant.indexed c.get.result (sym c.in_err-place.ensures.value))) ∙ key ∙ seen
 
 pub returns-clause-process : goal.returns-clause-process
 returns-clause-process c =
@@ -22,10 +22,10 @@ returns-clause-process c =
     let es = c.self.inside.slots.entries in
     let key = ap (λ n. option_map (λ (l : LwpData). l.pid) (lwp_of n (rows_of f es c.self.inside.births))) c.get.ensures.number in
     let seen = ap (λ v. option_map (λ (l : LwpData). l.pid) (lwp_of c.args.tid v.rows)) c.self.view_is in
-    sym (ap (option_map (λ (l : LwpData). l.pid)) (lwp_of-found f es c.self.inside.births c.self.invariant.indexed c.get.result c.in_ok-slot.field-0.now c.index.result.now (sym c.in_ok-slot.ensures.value) c.index.ensures).1) ∙ key ∙ seen
+    sym (ap (option_map (λ (l : LwpData). l.pid)) (lwp_of-found f es c.self.inside.births c.self.invariant.indexed c.get.result c.in_ok-place.field-0.now c.index.result.now (sym c.in_ok-place.ensures.value) c.index.ensures).1) ∙ key ∙ seen
 
-pub returns-in_err-slot-clause-differ : goal.returns-in_err-slot-clause-differ
-returns-in_err-slot-clause-differ c =
+pub returns-in_err-place-clause-differ : goal.returns-in_err-place-clause-differ
+returns-in_err-place-clause-differ c =
     differ-seen c.self.invariant.indexed (ap (λ v. v.rows) c.self.view_is)
 
 pub returns-clause-differ : goal.returns-clause-differ
