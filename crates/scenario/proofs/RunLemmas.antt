@@ -1,5 +1,8 @@
 -- One more step of a run.
 use Rattle.std.proofs.Common.{◌≡◌, ℕ, ◌+◌, ◌<◌, ◌≤◌, List, [], ◌∷◌, ◌++◌, length, get_or, map, drop, sym, ap, ◌∙◌}
+use Rattle.std.specs.Prelude.{Result, Ok, Err, IfErr}
+use Rattle.std.specs.Result.{IsErrAnd}
+use Rattle.scenario.specs.declared.running.RunFault.{RunFault}
 use Rattle.std.proofs.lemmas.List.{append_assoc, append-nil, at_drop_more, drop_all, map-append}
 use Rattle.requests.specs.declared.Reply.{Reply}
 use Rattle.requests.specs.declared.host.Step.{Step}
@@ -45,3 +48,8 @@ pub all_made : (ss : List (ℕ × Step)) (i : ℕ) (m : Machine) (done : List (�
     → map answered done ++ answers_from (map asked (drop i ss)) m ≡ all → map answered done ≡ all
 all_made ss i m done all h whole =
     sym (append-nil (map answered done)) ∙ ap (λ xs. map answered done ++ answers_from (map asked xs) m) (sym (drop_all i ss h)) ∙ whole
+
+-- a fault of which P holds
+pub fault_with : {X : Type 0} (P : RunFault → Type 0) (r : Result X RunFault) → IsErrAnd r P → IfErr r P
+fault_with P (Ok x) h = tt
+fault_with P (Err e) h = h

@@ -1,7 +1,8 @@
 use Rattle.std.proofs.Common.{◌≡◌, ◌+◌, ◌++◌, ◌∷◌, [], get_or, map, drop, ap, sym, ◌∙◌}
 use Rattle.scenario.specs.Plan.{asked}
+use Rattle.scenario.specs.declared.running.RunFault.TheVariants.{Memory}
 use Rattle.scenario.specs.Runs.{answered}
-use Rattle.scenario.proofs.RunLemmas.{none_made, one_more, all_made, answers_from}
+use Rattle.scenario.proofs.RunLemmas.{fault_with, none_made, one_more, all_made, answers_from}
 use Rattle.scenario.proofs.running.replies_of.Goals as goal
 
 pub loop-step-init : goal.loop-step-init
@@ -25,3 +26,6 @@ loop-step-preserved c =
 pub returns-clause-ok : goal.returns-clause-ok
 returns-clause-ok c =
     all_made c.steps-step-items.result.now c.loop-step.step-index c.loop-step.host c.loop-step.replies.items _ c.loop-step-test.false c.loop-step.invariant
+
+pub returns-in_err-push-clause-err : goal.returns-in_err-push-clause-err
+returns-in_err-push-clause-err c = fault_with (λ e. e ≡ Memory) c.from_residual-in_err-push.result c.from_residual-in_err-push.ensures.1
