@@ -11,3 +11,4 @@ pub mod Changes
 pub mod Posting
 pub mod Stopping
 pub mod Single
+pub mod Stops
