@@ -12,3 +12,4 @@ pub mod Posting
 pub mod Stopping
 pub mod Single
 pub mod Stops
+pub mod Settling
