@@ -52,7 +52,7 @@ settle_sound rows pid s = sound_holds (settle pid rows) (changes_hold rows (is_n
   rest_lwp = λ p l fact own is. own.0 (other p.pid pid is);
 }))
 
-zero_apart : (n : ℕ) → bit_and 0 n ≡ 0
+pub zero_apart : (n : ℕ) → bit_and 0 n ≡ 0
 zero_apart n = let most = and_le_l 0 n in omega arith
 
 -- a live process with other dispositions is fit but for what is pending
