@@ -24,3 +24,5 @@ pub mod Posting
 pub mod Freed
 pub mod Stopping
 pub mod Single
+pub mod Stops
+pub mod Settling

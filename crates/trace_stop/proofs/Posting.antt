@@ -31,7 +31,7 @@ live_state p live = by_test (is_zombie_state p.state) live
     by_test false h = refl
 
 -- the same row with another pending set, which has nothing that is unwanted
-pending_fits : (p : ProcData) (n : ℕ) → FitProcess p → is_live p ≡ true → (p.tracer ≡ None → bit_and n (unwanted p) ≡ 0) → FitProcess (record p { pending = n })
+pub pending_fits : (p : ProcData) (n : ℕ) → FitProcess p → is_live p ≡ true → (p.tracer ≡ None → bit_and n (unwanted p) ≡ 0) → FitProcess (record p { pending = n })
 pending_fits p n fit live apart = record {
   stopped = fit.stopped;
   job = fit.job;
@@ -40,7 +40,7 @@ pending_fits p n fit live apart = record {
   ended = live_fits (record p { pending = n }) p.state (live_state p live);
 }
 
-lwp_pending_fits : (p q : ProcData) (l : LwpData) (n : ℕ) → FitLwp p l → q.tracer ≡ p.tracer → (reporting q ≡ reporting p) ⊎ (reporting q ≡ None) → (reporting q ≡ None → reporting p ≡ None) → (q.tracer ≡ None → bit_and n (unwanted q) ≡ 0) → FitLwp q (record l { pending = n })
+pub lwp_pending_fits : (p q : ProcData) (l : LwpData) (n : ℕ) → FitLwp p l → q.tracer ≡ p.tracer → (reporting q ≡ reporting p) ⊎ (reporting q ≡ None) → (reporting q ≡ None → reporting p ≡ None) → (q.tracer ≡ None → bit_and n (unwanted q) ≡ 0) → FitLwp q (record l { pending = n })
 lwp_pending_fits p q l n fit same by none apart = record {
   untraced = λ free. let was = fit.untraced (sym same ∙ free) in record { due = was.due; stepping = was.stepping; suspended = was.suspended; pending = apart free };
   silent = λ other. by_report by other;

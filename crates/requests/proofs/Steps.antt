@@ -1,0 +1,93 @@
+-- Steps of a caller keep a host sound, kind by kind.
+use Rattle.std.proofs.Common.{◌≡◌, ◌≢◌, ℕ, ℤ, ◌+◌, ◌<◌, ◌≤◌, Bool, true, false, cond, ◌==◌, ◌&&◌, ◌||◌, not, leb, if◌then◌else◌, List, [], ◌∷◌, ◌++◌, length, length-append, filter, find, zip, Option, Some, None, refl, sym, ap, ◌∙◌, arith, true≢false, subst, eqb-true, eq-eqb, get_or, set, get_or-set_same, get_or-set_other, length-set}
+use Rattle.std.specs.List.{AllByRecursion, list_any, list_all}
+use Rattle.std.proofs.lemmas.Bool.{leb-true, le-leb, leb-false}
+use Rattle.std.proofs.lemmas.List.Folds.{list_all-append}
+use Rattle.pid_blocks.specs.Users.{IsUser}
+use Rattle.pid_blocks.specs.Blocks.{slot, users}
+use Rattle.pid_blocks.specs.declared.Errno.TheVariants.{ESRCH, EINVAL, EAGAIN}
+use Rattle.signals.specs.Table.{is_signal, set_disposition}
+use Rattle.signals.specs.declared.Disposition.{Disposition}
+use Rattle.proc_table.specs.declared.ProcData.{ProcData}
+use Rattle.proc_table.specs.Processes.{is_live, is_run, process_of}
+use Rattle.proc_table.specs.Rows.{Rows}
+use Rattle.proc_table.specs.Seen.{seen_process}
+use Rattle.proc_table.specs.Kept.{Rise, AllAbove}
+use Rattle.trace_stop.specs.Sound.{is_live_of, sound_rows}
+use Rattle.trace_stop.specs.Facts.{IsLiveOf, IsSound}
+use Rattle.trace_stop.proofs.Every.{and_left, and_right, both, by_bool, All-filter, All-imply, find_some}
+use Rattle.trace_stop.proofs.FromSound.{sound_rows-from, user_at, zip_users}
+use Rattle.trace_stop.proofs.Settling.{disposed_sound}
+use Rattle.stop_handlers.specs.declared.Rule.{Rule}
+use Rattle.wait4.specs.declared.Options.{Options}
+use Rattle.wait4.specs.Collect.{reportable, candidates, is_child, fits, reported, rows_after, without_report}
+use Rattle.requests.specs.declared.Reply.{Reply}
+use Rattle.requests.specs.declared.Reply.TheVariants as reply
+use Rattle.requests.specs.declared.PlainStep.{PlainStep}
+use Rattle.requests.specs.declared.PlainStep.TheVariants as op
+use Rattle.requests.specs.Outcome.{Outcome, answers, refuses}
+use Rattle.requests.specs.Calls.{sigaction, is_default, wait}
+use Rattle.requests.specs.Reach.{is_which}
+use Rattle.requests.specs.Handle.{install}
+use Rattle.requests.specs.Machine.{Installed, Machine, installed_by, after}
+use Rattle.requests.specs.Sound.{sound_installed, sound}
+use Rattle.requests.specs.Step.{step, checked, calls}
+use Rattle.requests.proofs.After.{pairs_test, rows_sound, after_sound, answers_same}
+use Rattle.requests.proofs.Collecting.{collect_sound}
+
+-- each row is found by its number
+skip_rows : (p : ProcData) (ps qs : List ProcData) → AllAbove p.pid qs → AllByRecursion (λ q. process_of q.pid ps ≡ Some q) qs → AllByRecursion (λ q. process_of q.pid (p ∷ ps) ≡ Some q) qs
+skip_rows p ps [] above all = tt
+skip_rows p ps (q ∷ qs) above all = (rw (by_bool (p.pid == q.pid) (λ e. let same = eqb-true p.pid q.pid e in let lt = above.0 in absurd (omega arith))) all.0, skip_rows p ps qs above.1 all.1)
+
+pub own_rows : (ps : List ProcData) → Rise ps → AllByRecursion (λ p. process_of p.pid ps ≡ Some p) ps
+own_rows [] rise = tt
+own_rows (p ∷ ps) rise = (rw (eq-eqb p.pid p.pid refl) refl, skip_rows p ps ps rise.0 (own_rows ps rise.1))
+
+-- a caller: a live process of the user that runs
+pub record Caller (u : ℕ) (rows : Rows) (p : ProcData) : Type 0 where
+  pub at : process_of p.pid rows.processes ≡ Some p
+  pub uid : p.uid ≡ u
+  pub live : is_live p ≡ true
+  pub run : is_run p ≡ true
+
+pub checked_sound : (u : ℕ) (s : PlainStep) (m : Machine) (n : ℕ) → sound m ≡ true → ((p : ProcData) → Caller u m.rows p → sound (calls u s p m).machine ≡ true) → sound (checked u s (seen_process u n m.rows) m).machine ≡ true
+checked_sound u s m n is done = by_caller (seen_process u n m.rows) refl
+  where
+    stays : (r : Reply) → sound (after m (answers r m.rows)).machine ≡ true
+    stays r = subst (λ k. sound k ≡ true) (sym (answers_same m r is)) is
+
+    caller : (p : ProcData) → seen_process u n m.rows ≡ Some p → is_live p ≡ true → is_run p ≡ true → Caller u m.rows p
+    caller p seen live run =
+        let found = find_some (λ q. (q.pid == n) && (q.uid == u)) (λ q. process_of q.pid m.rows.processes ≡ Some q) m.rows.processes (own_rows m.rows.processes (rows_sound m is).stands.rising) p seen in
+        record { at = found.0; uid = eqb-true p.uid u (and_right (p.pid == n) (p.uid == u) found.1); live = live; run = run }
+
+    at_run : (p : ProcData) → seen_process u n m.rows ≡ Some p → (live : Bool) → is_live p ≡ live → (run : Bool) → is_run p ≡ run → sound (checked u s (Some p) m).machine ≡ true
+    at_run p seen false e run r = rw e (stays (reply.Errno ESRCH))
+    at_run p seen true e false r = rw (e, r) (stays reply.Held)
+    at_run p seen true e true r = rw (e, r) (done p (caller p seen e r))
+
+    by_caller : (o : Option ProcData) → seen_process u n m.rows ≡ o → sound (checked u s o m).machine ≡ true
+    by_caller None e = stays (reply.Errno ESRCH)
+    by_caller (Some p) e = at_run p e (is_live p) refl (is_run p) refl
+
+choose : {X : Type 0} (b : Bool) (x y : X) (R : X → Type 0) → R x → R y → R (if b then x else y)
+choose true x y R h k = h
+choose false x y R h k = k
+
+pub sigaction_sound : (m : Machine) (u n sig : ℕ) (d : Disposition) → sound m ≡ true → sound (step u (op.Sigaction n sig d) m).machine ≡ true
+sigaction_sound m u n sig d is = checked_sound u (op.Sigaction n sig d) m n is (λ p c. after_sound m (sigaction p sig d m.rows) is
+    (choose (not (is_signal sig) || (((sig == 9) || (sig == 17)) && not (is_default d))) (refuses EINVAL m.rows) _ (λ o. IsSound o.rows) (rows_sound m is)
+        (disposed_sound m.rows p.pid p (λ q. set_disposition q.dispositions sig d) (rows_sound m is) c.at c.live)))
+
+pub rows_after_sound : (rows : Rows) (caller : ℕ) (which : ℤ) (options : Options) → IsSound rows → IsSound (rows_after caller which options rows)
+rows_after_sound rows caller which options s = by_report (reported caller which options rows) refl
+  where
+    by_report : (o : Option ProcData) → reported caller which options rows ≡ o → IsSound (without_report caller o rows)
+    by_report None e = s
+    by_report (Some q) e = collect_sound caller q rows s (find_some (reportable options caller) (λ r. process_of r.pid rows.processes ≡ Some r) (candidates caller which rows)
+        (All-filter (λ r. is_child caller r && fits which r) (λ r. process_of r.pid rows.processes ≡ Some r) rows.processes (own_rows rows.processes s.stands.rising)) q e).0
+
+pub wait_sound : (m : Machine) (u n : ℕ) (which : ℤ) (options : Options) → sound m ≡ true → sound (step u (op.Wait4 n which options) m).machine ≡ true
+wait_sound m u n which options is = checked_sound u (op.Wait4 n which options) m n is (λ p c. after_sound m (wait p which options m.rows) is
+    (choose (not (is_which which)) (refuses EINVAL m.rows) _ (λ o. IsSound o.rows) (rows_sound m is) (rows_after_sound m.rows p.pid which options (rows_sound m is))))

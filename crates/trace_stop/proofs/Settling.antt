@@ -1,0 +1,106 @@
+-- Settling makes rows sound that are so but for the pending sets of one process.
+use Rattle.std.proofs.Common.{◌≡◌, ◌≢◌, ◌⊎◌, inl, inr, ℕ, Bool, true, false, ◌==◌, List, Option, Some, None, refl, sym, ap, ◌∙◌, true≢false, subst, eqb-true, eq-eqb, bit_and, arith}
+use Rattle.std.proofs.lemmas.Nat.{and_le_l}
+use Rattle.std.specs.List.{AllByRecursion}
+use Rattle.signals.specs.Dispositions.{Actions}
+use Rattle.signals.specs.Sets.{without}
+use Rattle.lwp_table.specs.declared.LwpData.{LwpData}
+use Rattle.proc_table.specs.declared.ProcData.{ProcData}
+use Rattle.proc_table.specs.Processes.{is_live, reporting, process_of}
+use Rattle.proc_table.specs.Rows.{Rows, change, change_process, is_numbered}
+use Rattle.trace_stop.specs.Post.{unwanted, settled_process, settled_lwp, settle}
+use Rattle.trace_stop.specs.Facts.{FitProcess, FitLwp, WithOwner, IsSound}
+use Rattle.trace_stop.proofs.Every.{All-both}
+use Rattle.trace_stop.proofs.Bits.{without_apart, without_less}
+use Rattle.trace_stop.proofs.Changed.{Holds, sound_holds}
+use Rattle.trace_stop.proofs.Changes.{Changes, changes_hold}
+use Rattle.trace_stop.proofs.Posting.{pending_fits, lwp_pending_fits, live_fits, live_state}
+use Rattle.trace_stop.proofs.Single.{process_alone}
+use Rattle.trace_stop.proofs.Stopping.{the_row}
+
+-- fit but for what is pending
+abbrev pub Loose : ℕ → ProcData → Type 0
+Loose pid p = (p.pid ≢ pid → FitProcess p) × (p.pid ≡ pid → FitProcess (record p { pending = 0 }) × (is_live p ≡ true))
+
+abbrev pub LooseLwp : ℕ → ProcData → LwpData → Type 0
+LooseLwp pid p l = (p.pid ≢ pid → FitLwp p l) × (p.pid ≡ pid → FitLwp p (record l { pending = 0 }))
+
+other : (a b : ℕ) → (a == b) ≡ false → a ≢ b
+other a b e same = true≢false (sym (eq-eqb a b same) ∙ e)
+
+settled_fits : (p : ProcData) → FitProcess (record p { pending = 0 }) × (is_live p ≡ true) → FitProcess (settled_process p)
+settled_fits p h = pending_fits (record p { pending = 0 }) (without p.pending (unwanted p)) h.0 h.1 (λ none. without_apart p.pending (unwanted p))
+
+settled_lwp_fits : (p : ProcData) (l : LwpData) → FitLwp p (record l { pending = 0 }) → FitLwp (settled_process p) (settled_lwp p l)
+settled_lwp_fits p l fit = lwp_pending_fits p (settled_process p) (record l { pending = 0 }) (without l.pending (unwanted p)) fit refl (inl refl) (λ e. e) (λ none. without_apart l.pending (unwanted p))
+
+pub settle_sound : (rows : Rows) (pid : ℕ) → Holds (Loose pid) (LooseLwp pid) rows → IsSound (settle pid rows)
+settle_sound rows pid s = sound_holds (settle pid rows) (changes_hold rows (is_numbered pid) settled_process settled_lwp (Loose pid) (LooseLwp pid) FitProcess FitLwp s (record {
+  pid = λ p. refl;
+  uid = λ p. refl;
+  tracer = λ p. refl;
+  parent = λ p. refl;
+  tid = λ p l. refl;
+  own = λ p l. refl;
+  flags = λ p l. refl;
+  mode = λ p l. refl;
+  live = λ p fact is. refl;
+  named = λ p fact is. inl refl;
+  fits = λ p fact is. settled_fits p (fact.1 (eqb-true p.pid pid is));
+  rest = λ p fact is. fact.0 (other p.pid pid is);
+  fit_lwp = λ p l fact own is. settled_lwp_fits p l (own.1 (eqb-true p.pid pid is));
+  rest_lwp = λ p l fact own is. own.0 (other p.pid pid is);
+}))
+
+pub zero_apart : (n : ℕ) → bit_and 0 n ≡ 0
+zero_apart n = let most = and_le_l 0 n in omega arith
+
+-- a live process with other dispositions is fit but for what is pending
+pub redisposed : (d : Actions) (p : ProcData) → FitProcess p → is_live p ≡ true → FitProcess (record p { dispositions = d; pending = 0 })
+redisposed d p fit live = record {
+  stopped = fit.stopped;
+  job = fit.job;
+  continued = fit.continued;
+  untraced = λ none. record { mask = (fit.untraced none).mask; pending = zero_apart (unwanted (record p { dispositions = d })) };
+  ended = live_fits (record p { dispositions = d; pending = 0 }) p.state (live_state p live);
+}
+
+pub redisposed_lwp : (d : Actions) (p : ProcData) (l : LwpData) → FitLwp p l → FitLwp (record p { dispositions = d }) (record l { pending = 0 })
+redisposed_lwp d p l fit = lwp_pending_fits p (record p { dispositions = d }) l 0 fit refl (inl refl) (λ e. e) (λ none. zero_apart (unwanted (record p { dispositions = d })))
+
+-- A live process gets other dispositions, and is settled
+module _ (rows : Rows) (pid : ℕ) (p : ProcData) (dispose : ProcData → Actions) (s : IsSound rows) (at : process_of pid rows.processes ≡ Some p) (live : is_live p ≡ true) where
+  abbrev to : ProcData → ProcData
+  to q = record q { dispositions = dispose q }
+
+  abbrev Known : ProcData → Type 0
+  Known q = FitProcess q × (q.pid ≡ pid → q ≡ p)
+
+  known : (q : ProcData) → Known q → (q.pid == pid) ≡ true → is_live q ≡ true
+  known q fact is = subst (λ r. is_live r ≡ true) (sym (fact.1 (eqb-true q.pid pid is))) live
+
+  apart : (q : ProcData) (R : Type 0) → (q.pid == pid) ≡ true → q.pid ≢ pid → R
+  apart q R is ne = absurd (ne (eqb-true q.pid pid is))
+
+  loose : Holds (Loose pid) (LooseLwp pid) (change (is_numbered pid) to (λ q l. l) rows)
+  loose = changes_hold rows (is_numbered pid) to (λ q l. l) Known FitLwp (Loose pid) (LooseLwp pid)
+      (record { stands = s.stands; processes = All-both FitProcess (λ q. q.pid ≡ pid → q ≡ p) rows.processes s.processes (the_row pid rows.processes p s.stands.rising at); lwps = s.lwps })
+      (record {
+        pid = λ q. refl;
+        uid = λ q. refl;
+        tracer = λ q. refl;
+        parent = λ q. refl;
+        tid = λ q l. refl;
+        own = λ q l. refl;
+        flags = λ q l. refl;
+        mode = λ q l. refl;
+        live = λ q fact is. refl;
+        named = λ q fact is. inl refl;
+        fits = λ q fact is. (apart q (FitProcess (to q)) is, λ same. (redisposed (dispose q) q fact.0 (known q fact is), known q fact is));
+        rest = λ q fact is. (λ ne. fact.0, λ same. absurd (other q.pid pid is same));
+        fit_lwp = λ q l fact own is. (apart q (FitLwp (to q) l) is, λ same. redisposed_lwp (dispose q) q l own);
+        rest_lwp = λ q l fact own is. (λ ne. own, λ same. absurd (other q.pid pid is same));
+      })
+
+  pub disposed_sound : IsSound (settle pid (change_process pid to rows))
+  disposed_sound = subst (λ r. IsSound (settle pid r)) (process_alone pid to rows) (settle_sound (change (is_numbered pid) to (λ q l. l) rows) pid loose)
