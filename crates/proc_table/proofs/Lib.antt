@@ -12,3 +12,9 @@ pub mod Counts
 pub mod Slots
 pub mod NextOf
 pub mod Seen
+pub mod Next
+pub mod Linked
+pub mod Births
+pub mod Lanes
+pub mod Laced
+pub mod Tied

@@ -14,7 +14,7 @@ use Rattle.proc_table.specs.declared.ProcData.{ProcData}
 use Rattle.proc_table.specs.Processes.{process_of}
 use Rattle.proc_table.specs.Seen.{seen_lwp, owns}
 use Rattle.proc_table.specs.Rows.{Rows}
-use Rattle.proc_table.specs.Kin.{keep}
+use Rattle.proc_table.specs.Keep.{keep}
 use Rattle.proc_table.specs.Kept.{AllAbove, Rise, AtHome, Housed, IsKept}
 use Rattle.proc_table.proofs.Every.{every_found}
 use Rattle.proc_table.proofs.Rows.{other_number, process_of-pid, lwp_of-tid}
@@ -190,15 +190,6 @@ pid-outside n rows kept out = by (process_of n rows.processes) refl
 pub some-iff : (Q : ℕ → Type 0) (P : Type 0) (r : Option ℕ) (n : ℕ) → SomeIff r P n → Q n → IfSome r Q
 some-iff Q P None n made q = tt
 some-iff Q P (Some m) n made q = rw made.1 q
-
--- an element that is found and passes
-pub keep-some : {A : Type 0} (test : A → Bool) (o : Option A) → is_some (keep test o) ≡ true → (a : A) × (o ≡ Some a) × (test a ≡ true)
-keep-some test None h = absurd (cc)
-keep-some test (Some a) h = elim (cases_Bool (test a)) [ inl e ↦ (a, refl, e) | inr e ↦ absurd (cc (rw e at h)) ]
-
-pub keep-none : {A : Type 0} (test : A → Bool) (o : Option A) (a : A) → is_some (keep test o) ≡ false → o ≡ Some a → test a ≡ false
-keep-none test None a h is = absurd (cc)
-keep-none test (Some b) a h is = let same : b ≡ a = cc in elim (cases_Bool (test b)) [ inl e ↦ absurd (cc (rw e at h)) | inr e ↦ rw (← same) e ]
 
 pub nobody : (u n : ℕ) (ps : List ProcData) → Rise ps → process_of n ps ≡ None → option_map (λ (p : ProcData). p.pid) (find (λ p. nat_eq p.pid n && nat_eq p.uid u) ps) ≡ None
 nobody u n ps r none = ap (option_map (λ (p : ProcData). p.pid)) (seen_process-kept u n ps r ∙ ap (keep (λ (p : ProcData). nat_eq p.uid u)) none)

@@ -1,40 +1,64 @@
-//! The rows of processes, each found by its number.
+//! The rows of processes, each found by its number, with the lists of each one's tracees and children.
 
-ghost use Rattle.std.specs.Prelude.{◌≡◌, ℕ, ◌+◌, ◌<◌, ◌≤◌, ◌==◌, [], false, not, filter, map, count_by, option_map, is_some, IsSome, IsSomeAnd, OnOk};
+ghost use Rattle.std.specs.Prelude.{◌≡◌, ℕ, ◌+◌, ◌<◌, ◌≤◌, ◌==◌, [], true, false, not, filter, map, count_by, option_map, Some, None, IsSome, IsSomeAnd, OnOk};
 ghost use Rattle.std.specs.List.{list_any};
-ghost use Rattle.proc_table.specs.Processes.{process_of, placed, is_this};
-ghost use Rattle.proc_table.specs.Kin.{chief, next_named, keep};
+ghost use Rattle.proc_table.specs.Processes.{process_of, placed};
+ghost use Rattle.proc_table.specs.Lanes.{chief, parent_named, unlinked, next_named};
 ghost use Rattle.proc_table.specs.Walks.{next_of, next_tracee, next_child};
 ghost use Rattle.proc_table.specs.Kept.{AtHome, put_process};
 
 use crate::ProcData;
+use crate::links::{Kin, Links, Slot, next_slot, relink_both};
 use indexmap::IndexMap;
 use pid_blocks::{Pid, Uid, pid_block};
 use slab::Slab;
 use std::alloc::{AllocError, Global};
 use std::marker::Model;
 
-/// Rows that name a process: as their tracer, or as their parent.
-#[derive(Clone, Copy, Debug, PartialEq, Eq, Drop)]
-pub enum Kin {
-    Tracees,
-    Children,
+/// The process whose list of tracees the row is in.
+fn tracer_of(row: &ProcData) -> Option<u32>
+    ensures { result ≡ row.now.tracer }
+{
+    row.tracer.map(|tracer| tracer.get())
 }
 
-/// Whether the row names this process.
-fn names(kin: Kin, row: &ProcData, pid: Pid) -> bool
-    ensures { result ≡ is_this pid (chief kin row.now) }
+/// The process whose list of children the row is in. No row has the number 1.
+fn parent_of(row: &ProcData) -> Option<u32>
+    ensures { result ≡ parent_named row.now.parent }
 {
-    match kin {
-        Kin::Tracees => row.tracer == Some(pid),
-        Kin::Children => row.parent == pid.get(),
+    if row.parent == 1 {
+        None
+    } else {
+        Some(row.parent)
+    }
+}
+
+/// The slot of a row that is in no list yet.
+fn unlinked(row: ProcData) -> Slot
+    ensures { result ≡ unlinked row }
+{
+    Slot {
+        row,
+        tracees: Links::none(),
+        children: Links::none(),
+    }
+}
+
+/// The slot with another row.
+fn with_row(slot: &Slot, row: ProcData) -> Slot
+    ensures { result ≡ record slot.now { row = row } }
+{
+    Slot {
+        row,
+        tracees: slot.tracees,
+        children: slot.children,
     }
 }
 
 /// Process rows by rising number. Each stands in a slot, which its number finds.
 #[derive(Drop)]
 pub struct Processes {
-    rows: Slab<ProcData>,
+    nodes: Slab<Slot>,
     slots: IndexMap<u32, usize>,
     counts: [usize; 64],
 }
@@ -43,16 +67,17 @@ impl Model for Processes {
     ghost use Rattle.std.specs.Prelude.{◌-◌, min};
     ghost use Rattle.slab.specs.Slab.{slab_len, get};
     ghost use Rattle.indexmap.specs.IndexMap.{spare};
-    ghost use Rattle.proc_table.specs.Slots.{ProcRows, all_rows, look, IsSlotted};
+    ghost use Rattle.proc_table.specs.Slots.{ProcRows, all_rows, look};
+    ghost use Rattle.proc_table.specs.Lanes.{rows_of, IsTied};
 
     ghost Value = { ProcRows };
 
     ghost view = { λ t. record {
-      rows = all_rows (look (get t.rows) t.slots.entries);
-      spare = min (t.rows.capacity - slab_len t.rows) (spare t.slots);
+      rows = all_rows (look (rows_of (get t.nodes)) t.slots.entries);
+      spare = min (t.nodes.capacity - slab_len t.nodes) (spare t.slots);
     } };
 
-    ghost invariant = { λ t. IsSlotted (get t.rows) t.slots.entries t.counts };
+    ghost invariant = { λ t. IsTied (get t.nodes) t.slots.entries t.counts };
 }
 
 impl Processes {
@@ -62,7 +87,7 @@ impl Processes {
     {
         let counts = [0; 64];
         Processes {
-            rows: Slab::new(alloc),
+            nodes: Slab::new(alloc),
             slots: IndexMap::new(alloc),
             counts,
         }
@@ -75,7 +100,7 @@ impl Processes {
         ensures rows { self.new.rows ≡ self.old.rows }
         ensures spare { self.old.spare ≤ self.new.spare }
     {
-        self.rows.reserve(count)?;
+        self.nodes.reserve(count)?;
         self.slots.reserve(count)
     }
 
@@ -84,7 +109,7 @@ impl Processes {
         ensures { result ≡ process_of number self.now.rows }
     {
         let slot = *self.slots.get(&number)?;
-        self.rows.get(slot).copied()
+        Some(self.nodes[slot].row)
     }
 
     /// The user of the row with this number.
@@ -92,7 +117,7 @@ impl Processes {
         ensures { result ≡ option_map (λ p. p.uid) (process_of number self.now.rows) }
     {
         let slot = *self.slots.get(&number)?;
-        Some(self.rows[slot].uid)
+        Some(self.nodes[slot].row.uid)
     }
 
     /// Whether a row has this number.
@@ -102,27 +127,13 @@ impl Processes {
         self.get(number).is_some()
     }
 
-    /// Whether the row with this number names this process.
-    fn is_named(&self, number: u32, kin: Kin, pid: Pid) -> bool
-        ensures { result ≡ is_some (keep (λ p. is_this pid (chief kin p)) (process_of number self.now.rows)) }
-    {
-        match self.slots.get(&number) {
-            Some(slot) => names(kin, &self.rows[*slot], pid),
-            None => false,
-        }
-    }
-
     /// The first row above a number that names this process.
     fn next_named(&self, kin: Kin, pid: Pid, after: u32) -> Option<ProcData>
         ensures { result ≡ next_named kin pid after self.now.rows }
     {
-        let _ = &self.slots;
-        for number in after.saturating_add(1)..65000 {
-            if self.is_named(number, kin, pid) {
-                return self.get(number);
-            }
-        }
-        None
+        let head = *self.slots.get(&pid.get())?;
+        let slot = next_slot(&self.nodes, &self.slots, kin, head, pid.get(), after)?;
+        Some(self.nodes[slot].row)
     }
 
     /// The first row above a number that this process traces.
@@ -136,6 +147,7 @@ impl Processes {
     pub fn next_child(&self, pid: Pid, after: u32) -> Option<ProcData>
         ensures { result ≡ next_child pid after self.now.rows }
     {
+        let _number = pid.get();
         self.next_named(Kin::Children, pid, after)
     }
 
@@ -166,32 +178,48 @@ impl Processes {
         requires room { 0 < self.old.spare }
         requires fresh { list_any (λ p. p.pid == row.pid) self.old.rows ≡ false }
         requires home { AtHome row }
+        requires named { (kin : Kin) (t : ℕ) → chief kin row ≡ Some t → list_any (λ p. p.pid == t) self.old.rows ≡ true }
         ensures rows { self.new.rows ≡ placed row self.old.rows }
         ensures spare { self.old.spare ≤ self.new.spare + 1 }
     {
-        let slot = self.rows.insert_reserved(row);
+        let tracer = tracer_of(&row);
+        let parent = parent_of(&row);
+        let slot = self.nodes.insert_reserved(unlinked(row));
         self.slots.insert(row.pid.get(), slot).unwrap();
+        relink_both(&mut self.nodes, &self.slots, slot, tracer, parent);
         self.counts[row.uid.slot()] += 1;
     }
 
-    /// Puts a row in the place of the one with its number, which is of the same user.
+    /// Puts a row in the place of the one with its number, which is of the same user. It moves to
+    /// the lists of its tracer and parent. Takes no memory.
     pub fn set(&mut self, row: ProcData)
-        requires { IsSomeAnd (process_of row.pid self.old.rows) (λ was. was.uid ≡ row.uid) }
+        requires there { IsSomeAnd (process_of row.pid self.old.rows) (λ was. was.uid ≡ row.uid) }
+        requires named { (kin : Kin) (t : ℕ) → chief kin row ≡ Some t → list_any (λ p. p.pid == t) self.old.rows ≡ true }
         ensures rows { self.new.rows ≡ map (put_process row) self.old.rows }
         ensures spare { self.new.spare ≡ self.old.spare }
     {
         let slot = self.slots[&row.pid.get()];
-        self.rows[slot] = row;
+        relink_both(
+            &mut self.nodes,
+            &self.slots,
+            slot,
+            tracer_of(&row),
+            parent_of(&row),
+        );
+        self.nodes[slot] = with_row(&self.nodes[slot], row);
     }
 
-    /// Takes out the row with this number.
+    /// Takes out the row with this number, which no row names.
     pub fn remove(&mut self, pid: Pid)
-        requires { IsSome (process_of pid self.old.rows) }
+        requires there { IsSome (process_of pid self.old.rows) }
+        requires unnamed { (kin : Kin) → next_named kin pid 0 self.old.rows ≡ None }
         ensures rows { self.new.rows ≡ filter (λ p. not (p.pid == pid)) self.old.rows }
         ensures spare { self.old.spare ≤ self.new.spare }
     {
-        let slot = self.slots.swap_remove(&pid.get()).unwrap();
-        let row = self.rows.remove(slot);
-        self.counts[row.uid.slot()] -= 1;
+        let slot = self.slots[&pid.get()];
+        relink_both(&mut self.nodes, &self.slots, slot, None, None);
+        self.slots.swap_remove(&pid.get());
+        let gone = self.nodes.remove(slot);
+        self.counts[gone.row.uid.slot()] -= 1;
     }
 }

@@ -97,7 +97,7 @@ impl Tables {
         ensures row { result ≡ process_of pid self.now.rows.processes }
         ensures kept { IsKept self.now.rows }
     {
-        self.processes.get(pid.get())
+        self.numbered(pid.get())
     }
 
     /// The process with this number, if it is one's.
@@ -147,7 +147,7 @@ impl Tables {
         ensures kept { IsKept self.now.rows }
     {
         if self.processes.owner(number) == Some(uid) {
-            self.processes.get(number)
+            self.numbered(number)
         } else {
             None
         }
@@ -297,7 +297,7 @@ impl Tables {
         ensures fresh { IfSome result (λ n. is_process self.now.rows n ≡ false) }
         ensures kept { IsKept self.now.rows }
     {
-        let cursor = self.pid_cursors[uid.slot()];
+        let cursor = self.pid_cursor(uid);
         let number = next_free(pid_block(uid), cursor, |n| self.is_process(n))?;
         Pid::new(number)
     }
@@ -309,7 +309,7 @@ impl Tables {
         ensures fresh { IfSome result (λ n. is_lwp self.now.rows n ≡ false) }
         ensures kept { IsKept self.now.rows }
     {
-        let cursor = self.tid_cursors[uid.slot()];
+        let cursor = self.tid_cursor(uid);
         let number = next_free(tid_block(uid), cursor, |n| self.is_lwp(n))?;
         Tid::new(number)
     }
@@ -339,7 +339,8 @@ impl Tables {
         ensures spare { self.old.spare_lwps ≤ self.new.spare_lwps + 1 }
         ensures others { self.new.spare_processes ≡ self.old.spare_processes }
     {
-        self.tid_cursors[uid.slot()] = cursor_after(tid_block(uid), row.tid.get());
+        let slot = uid.slot();
+        self.tid_cursors[slot] = cursor_after(tid_block(uid), row.tid.get());
         self.lwps.add(row);
     }
 

@@ -1,6 +1,7 @@
 use Rattle.std.proofs.Common.{◌<◌, arith, sym, ap, ◌∙◌}
 use Rattle.std.specs.List.{AllByRecursion}
-use Rattle.slab.specs.Slab.{get as slot_get}
+use Rattle.slab.specs.Slab.{get}
+use Rattle.proc_table.specs.Lanes.{rows_of}
 use Rattle.pid_blocks.specs.Blocks.{pid_block, InBlock}
 use Rattle.proc_table.specs.Kept.{Rise, AtHome}
 use Rattle.proc_table.proofs.Every.{some_of}
@@ -11,7 +12,7 @@ use Rattle.proc_table.proofs.processes.Processes.next_of.Goals as goal
 
 pub returns-then-is_some : goal.returns-then-is_some
 returns-then-is_some c =
-    let is = finds (slot_get c.self.inside.rows) c.self.inside.slots.entries c.self.inside.counts c.self.invariant in
+    let is = finds (rows_of (get c.self.inside.nodes)) c.self.inside.slots.entries c.self.inside.counts c.self.invariant.slotted in
     let up : Rise c.args.self.now.rows = rw (← c.self.view_is) (Rise-all_rows _ is) in
     let homes : AllByRecursion AtHome c.args.self.now.rows = rw (← c.self.view_is) (homes-all_rows _ is) in
     let row = some_of _ (sym c.is_some.ensures ∙ c.if-is_some.true) in
@@ -24,7 +25,7 @@ returns-then-is_some c =
 
 pub returns : goal.returns
 returns c =
-    let is = finds (slot_get c.self.inside.rows) c.self.inside.slots.entries c.self.inside.counts c.self.invariant in
+    let is = finds (rows_of (get c.self.inside.nodes)) c.self.inside.slots.entries c.self.inside.counts c.self.invariant.slotted in
     let up : Rise c.args.self.now.rows = rw (← c.self.view_is) (Rise-all_rows _ is) in
     let homes : AllByRecursion AtHome c.args.self.now.rows = rw (← c.self.view_is) (homes-all_rows _ is) in
     let first = ap (λ b. b.first) c.pid_block-block.ensures.block in

@@ -1,28 +1,51 @@
-use Rattle.std.proofs.Common.{◌≡◌, ap, ◌∙◌, is_some, refl}
-use Rattle.slab.specs.Slab.{get as slot_get}
+use Rattle.std.proofs.Common.{◌≡◌, Some, ap, sym, ◌∙◌, is_some, nat_eq}
+use Rattle.std.specs.List.{list_any}
+use Rattle.std.specs.Map.{lookup}
+use Rattle.std.specs.Option.{option_map}
+use Rattle.std.proofs.lemmas.Option.{same_Some}
+use Rattle.slab.specs.Slab.{get, with_value}
 use Rattle.slab.proofs.SlabLemmas.{Updates-with_value}
 use Rattle.proc_table.specs.declared.ProcData.{ProcData}
+use Rattle.proc_table.specs.declared.links.Slot.{Slot}
 use Rattle.proc_table.specs.Processes.{process_of}
+use Rattle.proc_table.specs.Lanes.{pick, chief, rows_of}
 use Rattle.proc_table.proofs.Every.{some_and}
-use Rattle.proc_table.proofs.Slots.{slot_there, IsSlotted-set}
+use Rattle.proc_table.proofs.Slots.{slot_there}
+use Rattle.proc_table.proofs.Tied.{head-row, written}
 use Rattle.proc_table.proofs.processes.Processes.set.Goals as goal
 
 pub index-slot-requires : goal.index-slot-requires
 index-slot-requires c =
-    let was = some_and (λ (was : ProcData). was.uid ≡ c.args.row.uid) (process_of c.args.row.pid c.args.self.now.rows) c.requires in
+    let was = some_and (λ (was : ProcData). was.uid ≡ c.args.row.uid) (process_of c.args.row.pid c.args.self.now.rows) c.requires.there in
     let there = ap (λ v. process_of c.args.row.pid v.rows) c.self.view_is ∙ was.1 in
-    rw c.get.ensures.number (slot_there (slot_get c.self.inside.rows) c.self.inside.slots.entries c.self.inside.counts c.self.invariant c.args.row.pid (ap is_some there))
+    rw c.get.ensures.number (slot_there (rows_of (get c.self.inside.nodes)) c.self.inside.slots.entries c.self.inside.counts c.self.invariant.slotted c.args.row.pid (ap is_some there))
+
+pub relink_both-requires-clause-chiefs : goal.relink_both-requires-clause-chiefs
+relink_both-requires-clause-chiefs c = λ k t is.
+    let same : pick k c.tracer_of.result c.parent_of.result ≡ chief k c.args.row = ap (λ u. pick k u c.parent_of.result) c.tracer_of.ensures ∙ ap (λ u. pick k c.args.row.tracer u) c.parent_of.ensures in
+    let any = ap (λ v. list_any (λ p. nat_eq p.pid t) v.rows) c.self.view_is ∙ c.requires.named k t (sym same ∙ is) in
+    head-row (get c.self.inside.nodes) c.self.inside.slots.entries c.self.inside.counts c.self.invariant t any
 
 pub invariant_of-self : goal.invariant_of-self
 invariant_of-self c =
-    let was = some_and (λ (was : ProcData). was.uid ≡ c.args.row.uid) (process_of c.args.row.pid c.args.self.now.rows) c.requires in
+    let was = some_and (λ (was : ProcData). was.uid ≡ c.args.row.uid) (process_of c.args.row.pid c.args.self.now.rows) c.requires.there in
     let there = ap (λ v. process_of c.args.row.pid v.rows) c.self.view_is ∙ was.1 in
-    let updates = Updates-with_value c.self.inside.rows c.index-slot.result.now c.args.row (ap is_some c.index_mut.ensures.value) in
-    (IsSlotted-set (slot_get c.self.inside.rows) _ _ c.self.invariant _ _ _ updates.others c.args.row updates.changed (rw c.get.ensures.number at c.index-slot.ensures) refl was.0 there was.2).0
+    let updates = Updates-with_value c.relink_both.new.nodes c.index-slot.result.now c.with_row.result (ap is_some c.index_mut.ensures.value) in
+    let number : lookup (nat_eq c.args.row.pid) c.self.inside.slots.entries ≡ Some c.index-slot.result.now = rw c.get.ensures.number at c.index-slot.ensures in
+    let named = c.self.invariant.slotted.stored.named c.args.row.pid c.index-slot.result.now number in
+    let pid = ap (λ (p : ProcData). p.pid) (same_Some c.index.result.now.row named.0 (sym (ap (option_map (λ (x : Slot). x.row)) c.index.ensures) ∙ (c.relink_both.ensures.rows c.index-slot.result.now ∙ named.1))) ∙ named.2 in
+    (written (get c.self.inside.nodes) c.self.inside.slots.entries c.self.inside.counts c.self.invariant (get c.relink_both.new.nodes) (get (with_value c.relink_both.new.nodes c.index-slot.result.now c.with_row.result)) c.index-slot.result.now c.args.row
+    c.index.result.now c.index.ensures (updates.changed ∙ ap Some c.with_row.ensures) updates.others number pid _ _ c.tracer_of.ensures c.parent_of.ensures c.relink_both.ensures.laced c.relink_both.ensures.rows c.relink_both.ensures.here
+    c.relink_both.ensures.others was.0 there was.2).0
 
 pub returns-clause-rows : goal.returns-clause-rows
 returns-clause-rows c =
-    let was = some_and (λ (was : ProcData). was.uid ≡ c.args.row.uid) (process_of c.args.row.pid c.args.self.now.rows) c.requires in
+    let was = some_and (λ (was : ProcData). was.uid ≡ c.args.row.uid) (process_of c.args.row.pid c.args.self.now.rows) c.requires.there in
     let there = ap (λ v. process_of c.args.row.pid v.rows) c.self.view_is ∙ was.1 in
-    let updates = Updates-with_value c.self.inside.rows c.index-slot.result.now c.args.row (ap is_some c.index_mut.ensures.value) in
-    rw (← c.self.view_is) (IsSlotted-set (slot_get c.self.inside.rows) _ _ c.self.invariant _ _ _ updates.others c.args.row updates.changed (rw c.get.ensures.number at c.index-slot.ensures) refl was.0 there was.2).1
+    let updates = Updates-with_value c.relink_both.new.nodes c.index-slot.result.now c.with_row.result (ap is_some c.index_mut.ensures.value) in
+    let number : lookup (nat_eq c.args.row.pid) c.self.inside.slots.entries ≡ Some c.index-slot.result.now = rw c.get.ensures.number at c.index-slot.ensures in
+    let named = c.self.invariant.slotted.stored.named c.args.row.pid c.index-slot.result.now number in
+    let pid = ap (λ (p : ProcData). p.pid) (same_Some c.index.result.now.row named.0 (sym (ap (option_map (λ (x : Slot). x.row)) c.index.ensures) ∙ (c.relink_both.ensures.rows c.index-slot.result.now ∙ named.1))) ∙ named.2 in
+    rw (← c.self.view_is) (written (get c.self.inside.nodes) c.self.inside.slots.entries c.self.inside.counts c.self.invariant (get c.relink_both.new.nodes) (get (with_value c.relink_both.new.nodes c.index-slot.result.now c.with_row.result)) c.index-slot.result.now c.args.row
+    c.index.result.now c.index.ensures (updates.changed ∙ ap Some c.with_row.ensures) updates.others number pid _ _ c.tracer_of.ensures c.parent_of.ensures c.relink_both.ensures.laced c.relink_both.ensures.rows c.relink_both.ensures.here
+    c.relink_both.ensures.others was.0 there was.2).1

@@ -1,0 +1,172 @@
+-- The lists of both kinds after a row has moved from one to another.
+use Rattle.std.proofs.Common.{◌≡◌, ◌≢◌, ℕ, List, Option, Some, None, sym, ap, ◌∙◌, inl, inr, nat_eq, cond, ◌<◌}
+use Rattle.std.specs.Map.{lookup}
+use Rattle.std.specs.Option.{option_map}
+use Rattle.std.proofs.lemmas.Bool.{cases_eq}
+use Rattle.std.proofs.lemmas.Option.{same_Some, some_pair_parts}
+use Rattle.proc_table.specs.declared.ProcData.{ProcData}
+use Rattle.proc_table.specs.declared.links.Kin.{Kin}
+use Rattle.proc_table.specs.declared.links.Kin.TheVariants.{Tracees, Children}
+use Rattle.proc_table.specs.declared.links.Slot.{Slot}
+use Rattle.proc_table.specs.Links.{Node, IsLinked, keys, key_of}
+use Rattle.proc_table.specs.Lanes.{other, lane, lanes, rows_of, IsLaced, IsHead}
+use Rattle.proc_table.proofs.Every.{some_and}
+use Rattle.proc_table.proofs.Linked.{key_node}
+use Rattle.proc_table.proofs.Rows.{same_number}
+use Rattle.proc_table.proofs.Finds.{equal_or_not}
+use Rattle.proc_table.proofs.Births.{IsLinked-same, IsLinked-born, IsLinked-gone}
+use Rattle.proc_table.proofs.Lanes.{slot_at, row_slot}
+
+-- what holds of one kind and of the other holds of both
+pub each_kin : (P : Kin → Type 0) (kin : Kin) → P kin → P (other kin) → (k : Kin) → P k
+each_kin P Tracees a b Tracees = a
+each_kin P Tracees a b Children = b
+each_kin P Children a b Tracees = b
+each_kin P Children a b Children = a
+
+-- a head stays one where rows stay
+pub head-kept : (f g : ℕ → Option Slot) (h t : ℕ) → rows_of g h ≡ rows_of f h → IsHead f h t → IsHead g h t
+head-kept f g h t rows there =
+    let was = some_and (λ (slot : Slot). slot.row.pid ≡ t) (f h) there in
+    let now = row_slot g h was.0.row (rows ∙ ap (option_map (λ (x : Slot). x.row)) was.1) in
+    rw now.1 (ap (λ (p : ProcData). p.pid) now.2 ∙ was.2)
+
+-- where a process's list begins
+abbrev pub HasHead : (ℕ → Option Slot) → List (ℕ × ℕ) → ℕ → Type 0
+HasHead f es t = (h : ℕ) × (lookup (nat_eq t) es ≡ Some h) × IsHead f h t
+
+module _ (kin : Kin) (f g : ℕ → Option Slot) (es : List (ℕ × ℕ)) (laced : IsLaced f es) (at : ℕ) (chief : Option ℕ) (linked : IsLinked (lanes kin g))
+    (here : keys (lanes kin g) at ≡ option_map (λ (was : Slot). (was.row.pid, chief)) (f at)) (others : (s : ℕ) → s ≢ at → keys (lanes kin g) s ≡ keys (lanes kin f) s)
+    (rows : (s : ℕ) → rows_of g s ≡ rows_of f s) (apart : (s : ℕ) → lanes (other kin) g s ≡ lanes (other kin) f s) (heads : (t : ℕ) → chief ≡ Some t → HasHead f es t) where
+  moved : (t : ℕ) → HasHead f es t → HasHead g es t
+  moved t h = (h.0, h.1, head-kept f g h.0 t (rows h.0) h.2)
+
+  was : (s : ℕ) (slot : Slot) → g s ≡ Some slot → (old : Slot) × (f s ≡ Some old) × (old.row ≡ slot.row)
+  was s slot is = row_slot f s slot.row (sym (rows s) ∙ ap (option_map (λ (x : Slot). x.row)) is)
+
+  headed-here : (s : ℕ) (slot : Slot) (t : ℕ) → g s ≡ Some slot → (lane kin slot).chief ≡ Some t → HasHead g es t
+  headed-here s slot t is its = elim (cases_eq s at) [
+    | inl same ↦
+        let old = was s slot is in
+        let key : ◌≡◌ {A = Option (ℕ × Option ℕ)} (Some (slot.row.pid, (lane kin slot).chief)) (Some (old.0.row.pid, chief)) =
+        sym (ap (option_map key_of) (ap (option_map (lane kin)) is)) ∙ (ap (keys (lanes kin g)) same ∙ (here ∙ ap (option_map (λ (was : Slot). (was.row.pid, chief))) (sym (ap f same) ∙ old.1))) in
+        let parts = some_pair_parts slot.row.pid old.0.row.pid (lane kin slot).chief chief key in
+        moved t (heads t (sym parts.1 ∙ its))
+    | inr off ↦
+        let key : ◌≡◌ {A = Option (ℕ × Option ℕ)} (keys (lanes kin f) s) (Some (slot.row.pid, Some t)) =
+        sym (others s off) ∙ (ap (option_map key_of) (ap (option_map (lane kin)) is) ∙ ap (λ u. Some (slot.row.pid, u)) its) in
+        let node = key_node (lanes kin f) s slot.row.pid (Some t) key in
+        let old = slot_at kin f s node.0 node.1 in
+        moved t (laced.headed kin s old.0 t old.1 (ap (λ (n : Node). n.chief) old.2 ∙ node.3))
+  ]
+
+  headed-there : (s : ℕ) (slot : Slot) (t : ℕ) → g s ≡ Some slot → (lane (other kin) slot).chief ≡ Some t → HasHead g es t
+  headed-there s slot t is its =
+      let old = slot_at (other kin) f s (lane (other kin) slot) (sym (apart s) ∙ ap (option_map (lane (other kin))) is) in
+      moved t (laced.headed (other kin) s old.0 t old.1 (ap (λ (n : Node). n.chief) old.2 ∙ its))
+
+  pub laced-moved : IsLaced g es
+  laced-moved = record {
+    listed = λ s slot is. let old = was s slot is in rw (← old.2) (laced.listed s old.0 old.1);
+    linked = each_kin (λ k. IsLinked (lanes k g)) kin linked (IsLinked-same (lanes (other kin) f) (lanes (other kin) g) (λ s. sym (apart s)) (laced.linked (other kin)));
+    headed = each_kin (λ k. (s : ℕ) (slot : Slot) (t : ℕ) → g s ≡ Some slot → (lane k slot).chief ≡ Some t → HasHead g es t) kin headed-here headed-there;
+  }
+
+-- all that is kept of the lists is seen in the lanes
+pub laced-same : (f g : ℕ → Option Slot) (es : List (ℕ × ℕ)) → ((k : Kin) (s : ℕ) → lanes k g s ≡ lanes k f s) → IsLaced f es → IsLaced g es
+laced-same f g es same laced = record {
+  listed = λ s slot is. let old = before Tracees s slot is in rw (← ap (λ (n : Node). n.pid) old.2) (laced.listed s old.0 old.1);
+  linked = λ k. IsLinked-same (lanes k f) (lanes k g) (λ s. sym (same k s)) (laced.linked k);
+  headed = λ k s slot t is its.
+      let old = before k s slot is in
+      let head = laced.headed k s old.0 t old.1 (ap (λ (n : Node). n.chief) old.2 ∙ its) in
+      (head.0, head.1, stays head.0 t head.2);
+}
+  where
+    before : (k : Kin) (s : ℕ) (slot : Slot) → g s ≡ Some slot → (old : Slot) × (f s ≡ Some old) × (lane k old ≡ lane k slot)
+    before k s slot is = slot_at k f s (lane k slot) (sym (same k s) ∙ ap (option_map (lane k)) is)
+
+    stays : (h t : ℕ) → IsHead f h t → IsHead g h t
+    stays h t there =
+        let was = some_and (λ (slot : Slot). slot.row.pid ≡ t) (f h) there in
+        let now = slot_at Tracees g h (lane Tracees was.0) (same Tracees h ∙ ap (option_map (lane Tracees)) was.1) in
+        rw now.1 (ap (λ (n : Node). n.pid) now.2 ∙ was.2)
+
+-- a slot more, or one less
+module _ (f g : ℕ → Option Slot) (es es' : List (ℕ × ℕ)) (q : ℕ) (laced : IsLaced f es) (others : (s : ℕ) → s ≢ q → g s ≡ f s) where
+  lane_others : (k : Kin) (s : ℕ) → s ≢ q → lanes k g s ≡ lanes k f s
+  lane_others k s apart = ap (option_map (lane k)) (others s apart)
+
+  -- heads stay where their slots do
+  module _ (h t : ℕ) (apart : h ≢ q) where
+    pub head-apart : IsHead f h t → IsHead g h t
+    head-apart there = rw (others h apart) there
+
+  pub laced-born : (new : Slot) → f q ≡ None → g q ≡ Some new → ((k : Kin) → (lane k new).chief ≡ None) → ((k : Kin) → (lane k new).first ≡ None) → 0 < new.row.pid
+      → lookup (nat_eq new.row.pid) es ≡ None → ((pid : ℕ) → lookup (nat_eq pid) es' ≡ cond (nat_eq new.row.pid pid) (Some q) (lookup (nat_eq pid) es)) → IsLaced g es'
+  laced-born new vacant has free empty positive fresh change = record {
+    listed = λ s slot is. elim (cases_eq s q) [
+      | inl here ↦ let its = same_Some new slot (sym has ∙ ap g (sym here) ∙ is) in rw (← its, here) (rw (same_number new.row.pid) at (change new.row.pid))
+      | inr apart ↦ kept slot.row.pid s (laced.listed s slot (sym (others s apart) ∙ is))
+    ];
+    linked = λ k. IsLinked-born (lanes k f) (lanes k g) q (lane_others k) (lane k new) (laced.linked k) (ap (option_map (lane k)) vacant) (ap (option_map (lane k)) has) (free k) (empty k) positive
+        (λ s node there same. let slot = slot_at k f s node there in cc (fresh, laced.listed s slot.0 slot.1, ap (λ (n : Node). n.pid) slot.2, same))
+        (λ s node there names. let slot = slot_at k f s node there in let head = laced.headed k s slot.0 new.row.pid slot.1 (ap (λ (n : Node). n.chief) slot.2 ∙ names) in cc (fresh, head.1));
+    headed = λ k s slot t is its. elim (cases_eq s q) [
+      | inl here ↦ let same = same_Some new slot (sym has ∙ ap g (sym here) ∙ is) in absurd (cc (free k, ap (λ (x : Slot). (lane k x).chief) same ∙ its))
+      | inr apart ↦ heads t (laced.headed k s slot t (sym (others s apart) ∙ is) its)
+    ];
+  }
+    where
+      kept : (pid s : ℕ) → lookup (nat_eq pid) es ≡ Some s → lookup (nat_eq pid) es' ≡ Some s
+      kept pid s at = elim (equal_or_not new.row.pid pid) [
+        | inl same ↦ absurd (cc (fresh, at, ap (λ p. lookup (nat_eq p) es) same.1))
+        | inr apart ↦ rw apart.0 at (change pid) ∙ at
+      ]
+
+      heads : (t : ℕ) → HasHead f es t → HasHead g es' t
+      heads t head =
+          let was = some_and (λ (slot : Slot). slot.row.pid ≡ t) (f head.0) head.2 in
+          (head.0, kept t head.0 head.1, head-apart head.0 t (λ here. cc (vacant, ap f here, was.1)) head.2)
+
+  pub laced-gone : (old : Slot) → f q ≡ Some old → g q ≡ None → ((k : Kin) → (lane k old).chief ≡ None) → ((k : Kin) (s : ℕ) (slot : Slot) → f s ≡ Some slot → (lane k slot).chief ≢ Some old.row.pid)
+      → ((pid : ℕ) → lookup (nat_eq pid) es' ≡ cond (nat_eq old.row.pid pid) None (lookup (nat_eq pid) es)) → IsLaced g es'
+  laced-gone old was vacant free unnamed change = record {
+    listed = λ s slot is.
+        let apart = off s slot is in
+        let at = laced.listed s slot (sym (others s apart) ∙ is) in
+        kept slot.row.pid s at (λ same. apart (same_Some s q (sym at ∙ ap (λ p. lookup (nat_eq p) es) (sym same) ∙ laced.listed q old was)));
+    linked = λ k. IsLinked-gone (lanes k f) (lanes k g) q (lane_others k) (lane k old) (laced.linked k) (ap (option_map (lane k)) was) (free k) (ap (option_map (lane k)) vacant);
+    headed = λ k s slot t is its.
+        let there = sym (others s (off s slot is)) ∙ is in
+        let head = laced.headed k s slot t there its in
+        let differs : old.row.pid ≢ t = λ same. unnamed k s slot there (its ∙ ap Some (sym same)) in
+        (head.0, kept t head.0 head.1 differs, head-apart head.0 t (λ here. differs (number head.0 t here head.2)) head.2);
+  }
+    where
+      off : (s : ℕ) (slot : Slot) → g s ≡ Some slot → s ≢ q
+      off s slot is here = cc (vacant, ap g here, is)
+
+      number : (h t : ℕ) → h ≡ q → IsHead f h t → old.row.pid ≡ t
+      number h t here there =
+          let head = some_and (λ (slot : Slot). slot.row.pid ≡ t) (f h) there in
+          ap (λ (x : Slot). x.row.pid) (same_Some old head.0 (sym was ∙ ap f (sym here) ∙ head.1)) ∙ head.2
+
+      kept : (pid s : ℕ) → lookup (nat_eq pid) es ≡ Some s → old.row.pid ≢ pid → lookup (nat_eq pid) es' ≡ Some s
+      kept pid s at apart = elim (equal_or_not old.row.pid pid) [ inl same ↦ absurd (apart same.1) | inr test ↦ rw test.0 at (change pid) ∙ at ]
+
+-- no slot
+pub laced-none : (f : ℕ → Option Slot) (es : List (ℕ × ℕ)) → ((s : ℕ) → f s ≡ None) → IsLaced f es
+laced-none f es vacant = record {
+  listed = λ s slot is. absurd (cc (vacant s, is));
+  linked = λ k. record {
+    apart = λ i j a b ia jb same. absurd (nothing k i a ia);
+    above_zero = λ s node is. absurd (nothing k s node is);
+    heads = λ s node is. absurd (nothing k s node is);
+    links = λ s node t is its. absurd (nothing k s node is);
+  };
+  headed = λ k s slot t is its. absurd (cc (vacant s, is));
+}
+  where
+    nothing : (k : Kin) (s : ℕ) (node : Node) → lanes k f s ≡ Some node → ⊥
+    nothing k s node is = let slot = slot_at k f s node is in cc (vacant s, slot.1)

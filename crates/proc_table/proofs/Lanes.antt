@@ -1,0 +1,129 @@
+-- What a write of links does to what the lists and the table's rows see of a slot.
+use Rattle.std.proofs.Common.{◌≡◌, ◌≢◌, ℕ, ◌<◌, ◌≤◌, Option, Some, None, refl, sym, ap, ◌∙◌, inl, inr, unwrap_or, arith}
+use Rattle.std.specs.Option.{option_map}
+use Rattle.std.proofs.lemmas.Bool.{cases_eq}
+use Rattle.std.proofs.lemmas.Option.{same_Some}
+use Rattle.proc_table.specs.declared.ProcData.{ProcData}
+use Rattle.proc_table.specs.declared.links.Kin.{Kin}
+use Rattle.proc_table.specs.declared.links.Kin.TheVariants.{Tracees, Children}
+use Rattle.proc_table.specs.declared.links.Links.{Links}
+use Rattle.proc_table.specs.declared.links.Slot.{Slot}
+use Rattle.proc_table.specs.Links.{Node, IsLinked, IsPlace, with_link}
+use Rattle.proc_table.specs.Lanes.{links_in, put_links, other, lane, lanes, rows_of}
+use Rattle.proc_table.proofs.Linked.{next_at, key_node, IsLinked-joined, IsLinked-left}
+
+put-row : (kin : Kin) (l : Links) (slot : Slot) → (put_links kin l slot).row ≡ slot.row
+put-row Tracees l slot = refl
+put-row Children l slot = refl
+
+put-other : (kin : Kin) (l : Links) (slot : Slot) → lane (other kin) (put_links kin l slot) ≡ lane (other kin) slot
+put-other Tracees l slot = refl
+put-other Children l slot = refl
+
+pub put-lane : (kin : Kin) (l : Links) (slot : Slot) → lane kin (put_links kin l slot) ≡ record { pid = slot.row.pid; chief = l.chief; first = l.first; next = l.next }
+put-lane Tracees l slot = refl
+put-lane Children l slot = refl
+
+-- the links of one kind written in one slot
+module _ (f g : ℕ → Option Slot) (at : ℕ) (kin : Kin) (l : Links) (was : Slot) (has : f at ≡ Some was) (gets : g at ≡ Some (put_links kin l was)) (others : (s : ℕ) → s ≢ at → g s ≡ f s) where
+  pub put-rows : (s : ℕ) → rows_of g s ≡ rows_of f s
+  put-rows s = elim (cases_eq s at) [
+    | inl here ↦ rw here (ap (option_map (λ (x : Slot). x.row)) gets ∙ ap Some (put-row kin l was) ∙ sym (ap (option_map (λ (x : Slot). x.row)) has))
+    | inr apart ↦ ap (option_map (λ (x : Slot). x.row)) (others s apart)
+  ]
+
+  pub put-others : (s : ℕ) → lanes (other kin) g s ≡ lanes (other kin) f s
+  put-others s = elim (cases_eq s at) [
+    | inl here ↦ rw here (ap (option_map (lane (other kin))) gets ∙ ap Some (put-other kin l was) ∙ sym (ap (option_map (lane (other kin))) has))
+    | inr apart ↦ ap (option_map (lane (other kin))) (others s apart)
+  ]
+
+-- the links that a slot had, with one or two of them changed
+module _ (f g : ℕ → Option Slot) (at : ℕ) (kin : Kin) (x : Slot) (r : Links) (has : f at ≡ Some x) (read : r ≡ links_in kin x) where
+  same : (was : Slot) → f at ≡ Some was → r ≡ links_in kin was
+  same was there = read ∙ ap (links_in kin) (same_Some x was (sym has ∙ there))
+
+  pub put-first : (link : Option ℕ) → ((slot : Slot) → f at ≡ Some slot → g at ≡ Some (put_links kin (record { chief = r.chief; first = link; next = r.next }) slot))
+      → (was : Slot) → f at ≡ Some was → lanes kin g at ≡ Some (with_link None (lane kin was) link)
+  put-first link writes was there =
+      ap (option_map (lane kin)) (writes was there) ∙ ap Some (put-lane kin _ was)
+      ∙ ap (λ (l : Links). Some (record { pid = was.row.pid; chief = l.chief; first = link; next = l.next })) (same was there)
+
+  pub put-next : (p : ℕ) (link : Option ℕ) → ((slot : Slot) → f at ≡ Some slot → g at ≡ Some (put_links kin (record { chief = r.chief; first = r.first; next = link }) slot))
+      → (was : Slot) → f at ≡ Some was → lanes kin g at ≡ Some (with_link (Some p) (lane kin was) link)
+  put-next p link writes was there =
+      ap (option_map (lane kin)) (writes was there) ∙ ap Some (put-lane kin _ was)
+      ∙ ap (λ (l : Links). Some (record { pid = was.row.pid; chief = l.chief; first = l.first; next = link })) (same was there)
+
+  pub put-chief : (chief next : Option ℕ) → ((slot : Slot) → f at ≡ Some slot → g at ≡ Some (put_links kin (record { chief = chief; first = r.first; next = next }) slot))
+      → (was : Slot) → f at ≡ Some was → lanes kin g at ≡ Some (record { pid = was.row.pid; chief = chief; first = (lane kin was).first; next = next })
+  put-chief chief next writes was there =
+      ap (option_map (lane kin)) (writes was there) ∙ ap Some (put-lane kin _ was)
+      ∙ ap (λ (l : Links). Some (record { pid = was.row.pid; chief = chief; first = l.first; next = next })) (same was there)
+
+-- from what a list sees of a slot to the slot
+pub slot_at : (kin : Kin) (f : ℕ → Option Slot) (s : ℕ) (node : Node) → lanes kin f s ≡ Some node → (slot : Slot) × (f s ≡ Some slot) × (lane kin slot ≡ node)
+slot_at kin f s node there = by (f s) refl
+  where
+    by : (o : Option Slot) → f s ≡ o → (slot : Slot) × (f s ≡ Some slot) × (lane kin slot ≡ node)
+    by None is = absurd (cc (sym (ap (option_map (lane kin)) is) ∙ there))
+    by (Some slot) is = (slot, is, same_Some (lane kin slot) node (sym (ap (option_map (lane kin)) is) ∙ there))
+
+pub row_slot : (f : ℕ → Option Slot) (s : ℕ) (row : ProcData) → rows_of f s ≡ Some row → (slot : Slot) × (f s ≡ Some slot) × (slot.row ≡ row)
+row_slot f s row there = by (f s) refl
+  where
+    by : (o : Option Slot) → f s ≡ o → (slot : Slot) × (f s ≡ Some slot) × (slot.row ≡ row)
+    by None is = absurd (cc (sym (ap (option_map (λ (x : Slot). x.row)) is) ∙ there))
+    by (Some slot) is = (slot, is, same_Some slot.row row (sym (ap (option_map (λ (x : Slot). x.row)) is) ∙ there))
+
+-- a link leads to a member of the list, further on
+module _ (kin : Kin) (f : ℕ → Option Slot) (linked : IsLinked (lanes kin f)) (head t : ℕ) (at : Option ℕ) (passed : ℕ) (link : Option ℕ) (place : IsPlace (lanes kin f) head t at passed link)
+    (s : ℕ) (on : link ≡ Some s) where
+  pub member : (slot : Slot) × (f s ≡ Some slot) × (passed < slot.row.pid) × ((lane kin slot).chief ≡ Some t)
+  member =
+      let next = rw on at (next_at (lanes kin f) linked (unwrap_or at head) t passed at link place.node place.there place.stands) in
+      let node = key_node (lanes kin f) s next.0 (Some t) next.1 in
+      let slot = slot_at kin f s node.0 node.1 in
+      (slot.0, slot.1, omega (arith, next.2, node.2, ap (λ (n : Node). n.pid) slot.2), ap (λ (n : Node). n.chief) slot.2 ∙ node.3)
+
+  pub further : (slot : Slot) → f s ≡ Some slot → IsPlace (lanes kin f) head t (Some s) slot.row.pid (lane kin slot).next
+  further slot there =
+      let its = member in
+      record {
+        node = lane kin slot;
+        there = ap (option_map (lane kin)) there;
+        stands = (ap (λ (x : Slot). (lane kin x).chief) (same_Some slot its.0 (sym there ∙ its.1)) ∙ its.3, refl, refl);
+      }
+
+  pub past : (slot : Slot) → f s ≡ Some slot → passed < slot.row.pid
+  past slot there = let its = member in omega (arith, its.2, ap (λ (x : Slot). x.row.pid) (same_Some slot its.0 (sym there ∙ its.1)))
+
+-- a row joins a list at a place, or leaves it there: its slot is written after the place's, which may be the same
+module _ (kin : Kin) (f g z : ℕ → Option Slot) (linked : IsLinked (lanes kin f)) (head t q passed : ℕ) (at link fresh : Option ℕ) (was : Slot) (has : f q ≡ Some was)
+    (place : IsPlace (lanes kin f) head t at passed link) (below : passed < was.row.pid)
+    (writes : (slot : Slot) → f (unwrap_or at head) ≡ Some slot → lanes kin g (unwrap_or at head) ≡ Some (with_link at (lane kin slot) fresh))
+    (keeps : (s : ℕ) → s ≢ unwrap_or at head → g s ≡ f s) (rows : (s : ℕ) → rows_of g s ≡ rows_of f s) (chief next : Option ℕ)
+    (gets : (mid : Slot) → g q ≡ Some mid → lanes kin z q ≡ Some (record { pid = mid.row.pid; chief = chief; first = (lane kin mid).first; next = next }))
+    (stays : (s : ℕ) → s ≢ q → z s ≡ g s)
+    (last : (s : ℕ) (slot : Slot) → link ≡ Some s → f s ≡ Some slot → was.row.pid ≤ slot.row.pid) where
+  abbrev mid : (slot : Slot) × (g q ≡ Some slot) × (slot.row ≡ was.row)
+  mid = row_slot g q was.row (rows q ∙ ap (option_map (λ (x : Slot). x.row)) has)
+
+  abbrev new : Node
+  new = record { pid = mid.0.row.pid; chief = chief; first = (lane kin mid.0).first; next = next }
+
+  pub joined : (lane kin was).chief ≡ None → chief ≡ Some t → next ≡ link → fresh ≡ Some q → IsLinked (lanes kin z)
+  joined free names on pointed =
+      IsLinked-joined (lanes kin f) (lanes kin g) (lanes kin z) linked head t q passed at link fresh (lane kin was) new place (ap (option_map (lane kin)) has) below
+      (λ node there. let slot = slot_at kin f _ node there in writes slot.0 slot.1 ∙ ap (λ n. Some (with_link at n fresh)) slot.2)
+      (λ s apart. ap (option_map (lane kin)) (keeps s apart)) (gets mid.0 mid.1) (λ s apart. ap (option_map (lane kin)) (stays s apart))
+      (λ s node on there. let slot = slot_at kin f s node there in rw (← slot.2) (last s slot.0 on slot.1)) (ap (λ (p : ProcData). p.pid) mid.2)
+      (λ m there. ap (λ (n : Node). n.first) (same_Some (lane kin mid.0) m (sym (ap (option_map (lane kin)) mid.1) ∙ there))) free names on pointed
+
+  pub left : (lane kin was).chief ≡ Some t → chief ≡ None → fresh ≡ (lane kin was).next → IsLinked (lanes kin z)
+  left its names pointed =
+      IsLinked-left (lanes kin f) (lanes kin g) (lanes kin z) linked head t q passed at link fresh (lane kin was) new place (ap (option_map (lane kin)) has) below
+      (λ node there. let slot = slot_at kin f _ node there in writes slot.0 slot.1 ∙ ap (λ n. Some (with_link at n fresh)) slot.2)
+      (λ s apart. ap (option_map (lane kin)) (keeps s apart)) (gets mid.0 mid.1) (λ s apart. ap (option_map (lane kin)) (stays s apart))
+      (λ s node on there. let slot = slot_at kin f s node there in rw (← slot.2) (last s slot.0 on slot.1)) (ap (λ (p : ProcData). p.pid) mid.2)
+      (λ m there. ap (λ (n : Node). n.first) (same_Some (lane kin mid.0) m (sym (ap (option_map (lane kin)) mid.1) ∙ there))) its names pointed

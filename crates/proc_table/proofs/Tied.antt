@@ -1,0 +1,285 @@
+-- What is kept of rows, lists and counts together.
+use Rattle.std.proofs.Common.{◌≡◌, ◌≢◌, ℕ, ◌+◌, ◌-◌, ◌<◌, true, false, List, [], Option, Some, None, is_some, refl, sym, ap, ◌∙◌, ◌∷◌, inl, inr, nat_eq, cond, arith, length, get_or, set, map, replicate}
+use Rattle.std.specs.Prelude.{filter, not, ltb, ◌&&◌, find}
+use Rattle.std.specs.List.{list_any}
+use Rattle.std.specs.Map.{lookup}
+use Rattle.std.specs.Option.{option_map}
+use Rattle.std.proofs.lemmas.Bool.{cases_eq, cases_Bool}
+use Rattle.std.proofs.lemmas.Bool.Decides.{nat_tests}
+use Rattle.std.proofs.lemmas.Option.{same_Some}
+use Rattle.pid_blocks.specs.Users.{IsUser}
+use Rattle.pid_blocks.specs.Blocks.{slot}
+use Rattle.proc_table.specs.declared.ProcData.{ProcData}
+use Rattle.proc_table.specs.declared.links.Kin.{Kin}
+use Rattle.proc_table.specs.declared.links.Kin.TheVariants.{Tracees, Children}
+use Rattle.proc_table.specs.declared.links.Slot.{Slot}
+use Rattle.proc_table.specs.Processes.{process_of, placed, is_this}
+use Rattle.proc_table.specs.Walks.{next_child}
+use Rattle.proc_table.specs.Rows.{Rows}
+use Rattle.proc_table.specs.Kept.{AtHome, Named, IsRow, put_process}
+use Rattle.proc_table.specs.Slots.{all_rows, look}
+use Rattle.proc_table.specs.Links.{Node, keys, key_of, IsNext}
+use Rattle.proc_table.specs.Lanes.{pick, parent_named, chief, lane, lanes, rows_of, IsLaced, IsHead, IsTied, next_named, unlinked}
+use Rattle.proc_table.proofs.Every.{some_of, some_and}
+use Rattle.proc_table.proofs.Rows.{same_number, row_found, found_row}
+use Rattle.proc_table.proofs.Finds.{equal_or_not}
+use Rattle.proc_table.proofs.Listing.{find-all_rows, Rise-all_rows}
+use Rattle.proc_table.proofs.NextOf.{next-found, next-none}
+use Rattle.proc_table.proofs.Slots.{finds, slot_of, look-slot, IsSlotted-added, IsSlotted-set, IsSlotted-removed, IsSlotted-none}
+use Rattle.proc_table.proofs.Linked.{key_node}
+use Rattle.proc_table.proofs.Lanes.{slot_at, row_slot}
+use Rattle.proc_table.proofs.Laced.{HasHead, each_kin, head-apart, laced-same, laced-born, laced-gone, laced-none}
+
+module _ (f : ℕ → Option Slot) (es : List (ℕ × ℕ)) (counts : List ℕ) (tied : IsTied f es counts) where
+  -- a number's slot has its row
+  pub head-of : (t h : ℕ) → lookup (nat_eq t) es ≡ Some h → IsHead f h t
+  head-of t h at =
+      let named = tied.slotted.stored.named t h at in
+      let slot = row_slot f h named.0 named.1 in
+      rw slot.1 (ap (λ (p : ProcData). p.pid) slot.2 ∙ named.2)
+
+  -- a row's number has a slot
+  pub head-row : (t : ℕ) → list_any (λ p. nat_eq p.pid t) (all_rows (look (rows_of f) es)) ≡ true → HasHead f es t
+  head-row t any =
+      let row = row_found t _ any in
+      let at = some_of _ (slot_of (rows_of f) es t (ap is_some (sym (find-all_rows _ (finds (rows_of f) es counts tied.slotted) t) ∙ row.1))) in
+      (at.0, at.1, head-of t at.0 at.1)
+
+  -- and a number that no row has has none
+  pub no-slot : (t : ℕ) → list_any (λ p. nat_eq p.pid t) (all_rows (look (rows_of f) es)) ≡ false → lookup (nat_eq t) es ≡ None
+  no-slot t none = by (lookup (nat_eq t) es) refl
+    where
+      by : (o : Option ℕ) → lookup (nat_eq t) es ≡ o → o ≡ None
+      by None at = refl
+      by (Some h) at =
+          let named = tied.slotted.stored.named t h at in
+          let there : process_of t (all_rows (look (rows_of f) es)) ≡ Some named.0 = find-all_rows _ (finds (rows_of f) es counts tied.slotted) t ∙ (look-slot (rows_of f) es t h at ∙ named.1) in
+          absurd (let any = found_row t named.0 _ there in cc)
+
+  -- a slot's row is in the list of all
+  pub row-of : (s : ℕ) (slot : Slot) → f s ≡ Some slot → process_of slot.row.pid (all_rows (look (rows_of f) es)) ≡ Some slot.row
+  row-of s slot is =
+      find-all_rows _ (finds (rows_of f) es counts tied.slotted) slot.row.pid
+      ∙ (look-slot (rows_of f) es slot.row.pid s (tied.laced.listed s slot is) ∙ ap (option_map (λ (x : Slot). x.row)) is)
+
+  pub home-of : (s : ℕ) (slot : Slot) → f s ≡ Some slot → AtHome slot.row
+  home-of s slot is = tied.slotted.stored.home slot.row.pid slot.row (look-slot (rows_of f) es slot.row.pid s (tied.laced.listed s slot is) ∙ ap (option_map (λ (x : Slot). x.row)) is)
+
+  pub below : (s : ℕ) (slot : Slot) → f s ≡ Some slot → slot.row.pid < 65000
+  below s slot is = let home = home-of s slot is in omega (arith, home.block.1, home.user.0, home.user.1)
+
+  -- a row that names t is a member of its list
+  key-of-row : (kin : Kin) (t : ℕ) (r : ProcData) → process_of r.pid (all_rows (look (rows_of f) es)) ≡ Some r → chief kin r ≡ Some t → (s : ℕ) × (keys (lanes kin f) s ≡ Some (r.pid, Some t))
+  key-of-row kin t r there names =
+      let its = sym (find-all_rows _ (finds (rows_of f) es counts tied.slotted) r.pid) ∙ there in
+      let at = some_of _ (slot_of (rows_of f) es r.pid (ap is_some its)) in
+      let row = sym (look-slot (rows_of f) es r.pid at.0 at.1) ∙ its in
+      (at.0, tied.chiefs kin at.0 ∙ (ap (option_map (λ (p : ProcData). (p.pid, chief kin p))) row ∙ ap (λ u. Some (r.pid, u)) names))
+
+  chief-of : (kin : Kin) (s : ℕ) (slot : Slot) (t : ℕ) → f s ≡ Some slot → (lane kin slot).chief ≡ Some t → chief kin slot.row ≡ Some t
+  chief-of kin s slot t is names =
+      let key : ◌≡◌ {A = Option (ℕ × Option ℕ)} (Some (slot.row.pid, (lane kin slot).chief)) (Some (slot.row.pid, chief kin slot.row)) =
+      sym (ap (option_map key_of) (ap (option_map (lane kin)) is)) ∙ (tied.chiefs kin s ∙ ap (option_map (λ (p : ProcData). (p.pid, chief kin p))) (ap (option_map (λ (x : Slot). x.row)) is)) in
+      sym (ap (λ (p : ℕ × Option ℕ). p.1) (same_Some _ _ key)) ∙ names
+
+  -- what the links find is what the list of rows has
+  module _ (kin : Kin) (t after : ℕ) where
+    pub walk-none : IsNext (keys (lanes kin f)) t after None → next_named kin t after (all_rows (look (rows_of f) es)) ≡ None
+    walk-none next = next-none (λ (p : ProcData). is_this t (chief kin p)) after _ (Rise-all_rows _ (finds (rows_of f) es counts tied.slotted))
+        (λ r there names. let key = key-of-row kin t r there (this-is t (chief kin r) names) in next key.0 r.pid key.1)
+      where
+        this-is : (n : ℕ) (o : Option ℕ) → is_this n o ≡ true → o ≡ Some n
+        this-is n None h = absurd (cc)
+        this-is n (Some m) h = let same : m ≡ n = grind (arith, nat_tests, h) in ap Some same
+
+    pub walk-some : (s : ℕ) (slot : Slot) → f s ≡ Some slot → IsNext (keys (lanes kin f)) t after (Some s) → next_named kin t after (all_rows (look (rows_of f) es)) ≡ Some slot.row
+    walk-some s slot there next =
+        let node = key_node (lanes kin f) s next.0 (Some t) next.1 in
+        let its = slot_at kin f s node.0 node.1 in
+        let own : slot ≡ its.0 = same_Some slot its.0 (sym there ∙ its.1) in
+        let pid : slot.row.pid ≡ next.0 = ap (λ (x : Slot). x.row.pid) own ∙ ap (λ (n : Node). n.pid) its.2 ∙ node.2 in
+        let names : (lane kin slot).chief ≡ Some t = ap (λ (x : Slot). (lane kin x).chief) own ∙ ap (λ (n : Node). n.chief) its.2 ∙ node.3 in
+        next-found (λ (p : ProcData). is_this t (chief kin p)) after slot.row.pid slot.row _ (Rise-all_rows _ (finds (rows_of f) es counts tied.slotted)) (row-of s slot there)
+        (ap (is_this t) (chief-of kin s slot t there names) ∙ same_number t) (omega (arith, next.2, pid))
+        (λ r at test more. let key = key-of-row kin t r at (this-is t (chief kin r) test) in omega (arith, next.3 key.0 r.pid key.1 more, pid))
+      where
+        this-is : (n : ℕ) (o : Option ℕ) → is_this n o ≡ true → o ≡ Some n
+        this-is n None h = absurd (cc)
+        this-is n (Some m) h = let same : m ≡ n = grind (arith, nat_tests, h) in ap Some same
+
+    -- no row names a number that has no slot
+    pub unnamed-slot : lookup (nat_eq t) es ≡ None → next_named kin t after (all_rows (look (rows_of f) es)) ≡ None
+    unnamed-slot none = walk-none (λ j p there.
+        let node = key_node (lanes kin f) j p (Some t) there in
+        let its = slot_at kin f j node.0 node.1 in
+        let head = tied.laced.headed kin j its.0 t its.1 (ap (λ (n : Node). n.chief) its.2 ∙ node.3) in
+        absurd (cc (none, head.1)))
+
+  -- where no row names a number, no slot's list is its
+  pub nobody-names : (kin : Kin) (t : ℕ) → next_named kin t 0 (all_rows (look (rows_of f) es)) ≡ None → (s : ℕ) (slot : Slot) → f s ≡ Some slot → (lane kin slot).chief ≢ Some t
+  nobody-names kin t none s slot is names =
+      let home = home-of s slot is in
+      let test = every-found (all_rows (look (rows_of f) es)) (row-of s slot is) none in
+      absurd (let yes = ap (is_this t) (chief-of kin s slot t is names) ∙ same_number t in cc (yes, test (omega (arith, home.block.0))))
+    where
+      every-found : (ps : List ProcData) → process_of slot.row.pid ps ≡ Some slot.row → find (λ p. ltb 0 p.pid && is_this t (chief kin p)) ps ≡ None → 0 < slot.row.pid → is_this t (chief kin slot.row) ≡ false
+      every-found [] found none more = absurd (cc)
+      every-found (p ∷ ps) found none more = elim (cases_Bool (ltb 0 p.pid && is_this t (chief kin p))) [
+        | inl e ↦ absurd (let h : Some p ≡ None = rw e at none in cc)
+        | inr e ↦ elim (equal_or_not p.pid slot.row.pid) [
+          | inl h ↦
+              let same : Some p ≡ Some slot.row = rw h.0 at found in
+              let its : p ≡ slot.row = cc in
+              let positive : ltb 0 p.pid ≡ true = grind (arith, nat_tests, h.1, more) in
+              ap (λ q. is_this t (chief kin q)) (sym its) ∙ rw positive at e
+          | inr h ↦ every-found ps (rw h.0 at found) (rw e at none) more
+        ]
+      ]
+
+  -- a row more: its slot is taken, and then linked
+  module _ (f1 g : ℕ → Option Slot) (es' : List (ℕ × ℕ)) (at : ℕ) (new : ProcData) (vacant : f at ≡ None) (has : f1 at ≡ Some (unlinked new)) (others : (s : ℕ) → s ≢ at → f1 s ≡ f s)
+      (change : (pid : ℕ) → lookup (nat_eq pid) es' ≡ cond (nat_eq new.pid pid) (Some at) (lookup (nat_eq pid) es))
+      (fresh : list_any (λ p. nat_eq p.pid new.pid) (all_rows (look (rows_of f) es)) ≡ false) (home : AtHome new) where
+    pub added-laced : IsLaced f1 es'
+    added-laced = laced-born f f1 es es' at tied.laced others (unlinked new) vacant has (each_kin (λ k. (lane k (unlinked new)).chief ≡ None) Tracees refl refl) (each_kin (λ k. (lane k (unlinked new)).first ≡ None) Tracees refl refl)
+        (omega (arith, home.block.0)) (no-slot new.pid fresh) change
+
+    pub added-head : (t : ℕ) → HasHead f es t → HasHead f1 es' t
+    added-head t head =
+        let was = some_and (λ (slot : Slot). slot.row.pid ≡ t) (f head.0) head.2 in
+        let none = no-slot new.pid fresh in
+        let kept : lookup (nat_eq t) es' ≡ Some head.0 = elim (equal_or_not new.pid t) [
+          | inl same ↦ absurd (cc (none, head.1, ap (λ p. lookup (nat_eq p) es) same.1))
+          | inr apart ↦ rw apart.0 at (change t) ∙ head.1
+        ] in
+        (head.0, kept, head-apart f f1 es es' at tied.laced others head.0 t (λ here. cc (vacant, ap f here, was.1)) head.2)
+
+    pub added : (tracer parent : Option ℕ) → tracer ≡ new.tracer → parent ≡ parent_named new.parent → IsLaced g es' → ((s : ℕ) → rows_of g s ≡ rows_of f1 s)
+        → ((k : Kin) → keys (lanes k g) at ≡ option_map (λ (was : Slot). (was.row.pid, pick k tracer parent)) (f1 at)) → ((k : Kin) (s : ℕ) → s ≢ at → keys (lanes k g) s ≡ keys (lanes k f1) s) → length counts ≡ 64
+        → IsTied g es' (set counts (slot new.uid) (get_or counts (slot new.uid) 0 + 1)) × (all_rows (look (rows_of g) es') ≡ placed new (all_rows (look (rows_of f) es)))
+    added tracer parent traced parted laced rows here elsewhere long =
+        let row_at : rows_of g at ≡ Some new = rows at ∙ ap (option_map (λ (x : Slot). x.row)) has in
+        let row_off : (s : ℕ) → s ≢ at → rows_of g s ≡ rows_of f s = λ s apart. rows s ∙ ap (option_map (λ (x : Slot). x.row)) (others s apart) in
+        let all = IsSlotted-added (rows_of f) es counts tied.slotted (rows_of g) es' at row_off new (ap (option_map (λ (x : Slot). x.row)) vacant) row_at change fresh home long in (
+          record {
+            slotted = all.0;
+            laced = laced;
+            chiefs = λ k s. elim (cases_eq s at) [
+              | inl same ↦ rw same (here k ∙ (ap (option_map (λ (was : Slot). (was.row.pid, pick k tracer parent))) has ∙ (ap (λ u. Some (new.pid, pick k u parent)) traced ∙ ap (λ u. Some (new.pid, pick k new.tracer u)) parted))
+                  ∙ sym (ap (option_map (λ (p : ProcData). (p.pid, chief k p))) row_at))
+              | inr apart ↦ elsewhere k s apart ∙ (ap (option_map key_of) (ap (option_map (lane k)) (others s apart)) ∙ (tied.chiefs k s ∙ sym (ap (option_map (λ (p : ProcData). (p.pid, chief k p))) (row_off s apart))))
+            ];
+          },
+          all.1,
+        )
+
+  -- another row in a number's slot, which was linked anew
+  module _ (f1 g : ℕ → Option Slot) (at : ℕ) (new : ProcData) (mid : Slot) (has1 : f1 at ≡ Some mid) (has : g at ≡ Some (record mid { row = new })) (others : (s : ℕ) → s ≢ at → g s ≡ f1 s)
+      (number : lookup (nat_eq new.pid) es ≡ Some at) (same_pid : mid.row.pid ≡ new.pid) where
+    set-lane : (k : Kin) → lane k (record mid { row = new }) ≡ lane k mid
+    set-lane Tracees = λ i. record { pid = (sym same_pid) i; chief = mid.tracees.chief; first = mid.tracees.first; next = mid.tracees.next }
+    set-lane Children = λ i. record { pid = (sym same_pid) i; chief = mid.children.chief; first = mid.children.first; next = mid.children.next }
+
+    set-lanes : (k : Kin) (s : ℕ) → lanes k g s ≡ lanes k f1 s
+    set-lanes k s = elim (cases_eq s at) [
+      | inl same ↦ rw same (ap (option_map (lane k)) has ∙ (ap Some (set-lane k) ∙ sym (ap (option_map (lane k)) has1)))
+      | inr apart ↦ ap (option_map (lane k)) (others s apart)
+    ]
+
+    pub written : (tracer parent : Option ℕ) → tracer ≡ new.tracer → parent ≡ parent_named new.parent → IsLaced f1 es → ((s : ℕ) → rows_of f1 s ≡ rows_of f s)
+        → ((k : Kin) → keys (lanes k f1) at ≡ option_map (λ (was : Slot). (was.row.pid, pick k tracer parent)) (f at)) → ((k : Kin) (s : ℕ) → s ≢ at → keys (lanes k f1) s ≡ keys (lanes k f) s)
+        → (before : ProcData) → process_of new.pid (all_rows (look (rows_of f) es)) ≡ Some before → before.uid ≡ new.uid
+        → IsTied g es counts × (all_rows (look (rows_of g) es) ≡ map (put_process new) (all_rows (look (rows_of f) es)))
+    written tracer parent traced parted laced rows here elsewhere before there uids =
+        let row_at : rows_of g at ≡ Some new = ap (option_map (λ (x : Slot). x.row)) has in
+        let row_off : (s : ℕ) → s ≢ at → rows_of g s ≡ rows_of f s = λ s apart. ap (option_map (λ (x : Slot). x.row)) (others s apart) ∙ rows s in
+        let all = IsSlotted-set (rows_of f) es counts tied.slotted (rows_of g) es at row_off new row_at number refl before there uids in
+        let was = row_slot f at mid.row (sym (rows at) ∙ ap (option_map (λ (x : Slot). x.row)) has1) in
+        let pid : was.0.row.pid ≡ new.pid = ap (λ (p : ProcData). p.pid) was.2 ∙ same_pid in (
+          record {
+            slotted = all.0;
+            laced = laced-same f1 g es set-lanes laced;
+            chiefs = λ k s. ap (option_map key_of) (set-lanes k s) ∙ elim (cases_eq s at) [
+              | inl same ↦ rw same (here k ∙ (ap (option_map (λ (was : Slot). (was.row.pid, pick k tracer parent))) was.1
+                  ∙ (ap (λ n. Some (n, pick k tracer parent)) pid ∙ (ap (λ u. Some (new.pid, pick k u parent)) traced ∙ ap (λ u. Some (new.pid, pick k new.tracer u)) parted)))
+                  ∙ sym (ap (option_map (λ (p : ProcData). (p.pid, chief k p))) row_at))
+              | inr apart ↦ elsewhere k s apart ∙ (tied.chiefs k s ∙ sym (ap (option_map (λ (p : ProcData). (p.pid, chief k p))) (row_off s apart)))
+            ];
+          },
+          all.1,
+        )
+
+  -- one row less, which was taken out of its lists and whose number no row names
+  module _ (f1 g : ℕ → Option Slot) (es' : List (ℕ × ℕ)) (at pid : ℕ) (mid : Slot) (has1 : f1 at ≡ Some mid) (gone : g at ≡ None) (others : (s : ℕ) → s ≢ at → g s ≡ f1 s)
+      (number : lookup (nat_eq pid) es ≡ Some at) (change : (n : ℕ) → lookup (nat_eq n) es' ≡ cond (nat_eq pid n) None (lookup (nat_eq n) es)) where
+    pub removed : IsLaced f1 es → ((s : ℕ) → rows_of f1 s ≡ rows_of f s) → ((k : Kin) → keys (lanes k f1) at ≡ option_map (λ (was : Slot). (was.row.pid, pick k None None)) (f at))
+        → ((k : Kin) (s : ℕ) → s ≢ at → keys (lanes k f1) s ≡ keys (lanes k f) s) → ((k : Kin) → next_named k pid 0 (all_rows (look (rows_of f) es)) ≡ None) → length counts ≡ 64
+        → IsUser mid.row.uid × (0 < get_or counts (slot mid.row.uid) 0) × IsTied g es' (set counts (slot mid.row.uid) (get_or counts (slot mid.row.uid) 0 - 1))
+        × (all_rows (look (rows_of g) es') ≡ filter (λ p. not (nat_eq p.pid pid)) (all_rows (look (rows_of f) es)))
+    removed laced rows here elsewhere unnamed long =
+        let row_off : (s : ℕ) → s ≢ at → rows_of g s ≡ rows_of f s = λ s apart. ap (option_map (λ (x : Slot). x.row)) (others s apart) ∙ rows s in
+        let row_was : rows_of f at ≡ Some mid.row = sym (rows at) ∙ ap (option_map (λ (x : Slot). x.row)) has1 in
+        let all = IsSlotted-removed (rows_of f) es counts tied.slotted (rows_of g) es' at row_off pid mid.row row_was number change long in
+        let was = row_slot f at mid.row row_was in
+        let named = tied.slotted.stored.named pid at number in
+        let its : mid.row.pid ≡ pid = ap (λ (p : ProcData). p.pid) (same_Some mid.row named.0 (sym row_was ∙ named.1)) ∙ named.2 in
+        let free : (k : Kin) → (lane k mid).chief ≡ None = λ k. (
+        let key : ◌≡◌ {A = Option (ℕ × Option ℕ)} (Some (mid.row.pid, (lane k mid).chief)) (Some (was.0.row.pid, pick k None None)) =
+        sym (ap (option_map key_of) (ap (option_map (lane k)) has1)) ∙ (here k ∙ ap (option_map (λ (x : Slot). (x.row.pid, pick k None None))) was.1) in
+        ap (λ (p : ℕ × Option ℕ). p.1) (same_Some _ _ key) ∙ each_kin (λ k. pick k None None ≡ None) Tracees refl refl k) in
+        let unnamed1 : (k : Kin) (s : ℕ) (x : Slot) → f1 s ≡ Some x → (lane k x).chief ≢ Some mid.row.pid = λ k s x is names. elim (cases_eq s at) [
+          | inl same ↦
+              let own = same_Some mid x (sym has1 ∙ ap f1 (sym same) ∙ is) in
+              let none = free k in
+              cc (none, ap (λ (y : Slot). (lane k y).chief) own ∙ names)
+          | inr apart ↦
+              let key : ◌≡◌ {A = Option (ℕ × Option ℕ)} (keys (lanes k f) s) (Some (x.row.pid, Some pid)) =
+              sym (elsewhere k s apart) ∙ (ap (option_map key_of) (ap (option_map (lane k)) is) ∙ ap (λ u. Some (x.row.pid, u)) (names ∙ ap Some its)) in
+              let node = key_node (lanes k f) s x.row.pid (Some pid) key in
+              let old = slot_at k f s node.0 node.1 in
+              nobody-names k pid (unnamed k) s old.0 old.1 (ap (λ (n : Node). n.chief) old.2 ∙ node.3)
+        ] in (
+          all.0,
+          all.1,
+          record {
+            slotted = all.2;
+            laced = laced-gone f1 g es es' at laced others mid has1 gone free unnamed1 (λ n. rw its (change n));
+            chiefs = λ k s. elim (cases_eq s at) [
+              | inl same ↦ rw same (ap (option_map key_of) (ap (option_map (lane k)) gone) ∙ sym (ap (option_map (λ (p : ProcData). (p.pid, chief k p))) (ap (option_map (λ (x : Slot). x.row)) gone)))
+              | inr apart ↦ ap (option_map key_of) (ap (option_map (lane k)) (others s apart)) ∙ (elsewhere k s apart ∙ (tied.chiefs k s ∙ sym (ap (option_map (λ (p : ProcData). (p.pid, chief k p))) (row_off s apart))))
+            ];
+          },
+          all.3,
+        )
+
+-- no slot
+pub tied-none : (f : ℕ → Option Slot) (es : List (ℕ × ℕ)) → ((s : ℕ) → f s ≡ None) → es ≡ [] → IsTied f es (replicate 64 0) × (all_rows (look (rows_of f) es) ≡ [])
+tied-none f es vacant none =
+    let all = IsSlotted-none (rows_of f) es none in (
+      record {
+        slotted = all.0;
+        laced = laced-none f es vacant;
+        chiefs = λ k s. ap (option_map key_of) (ap (option_map (lane k)) (vacant s)) ∙ sym (ap (option_map (λ (p : ProcData). (p.pid, chief k p))) (ap (option_map (λ (x : Slot). x.row)) (vacant s)));
+      },
+      all.1,
+    )
+
+-- who a row names is a row
+pub named-chiefs : (rows : Rows) (p : ProcData) → Named rows p → (k : Kin) (t : ℕ) → chief k p ≡ Some t → IsRow rows t
+named-chiefs rows p named = each_kin (λ k. (t : ℕ) → chief k p ≡ Some t → IsRow rows t) Tracees (λ t is. rw is at named.tracer) parents
+  where
+    parents : (t : ℕ) → parent_named p.parent ≡ Some t → IsRow rows t
+    parents t is = elim (equal_or_not p.parent 1) [
+      | inl h ↦ absurd (let none : None ≡ Some t = rw h.0 at is in cc)
+      | inr h ↦ let its : Some p.parent ≡ Some t = rw h.0 at is in let same : p.parent ≡ t = cc in rw (← same) (named.parent h.1)
+    ]
+
+-- who has this parent names it, but for the number 1
+pub children-named : (n after : ℕ) → n ≢ 1 → (ps : List ProcData) → next_named Children n after ps ≡ next_child n after ps
+children-named n after apart [] = refl
+children-named n after apart (p ∷ ps) =
+    let test : is_this n (parent_named p.parent) ≡ nat_eq p.parent n = elim (equal_or_not p.parent 1) [
+      | inl h ↦ let differs : nat_eq p.parent n ≡ false = grind (arith, nat_tests, h.1, apart) in rw (h.0, differs) refl
+      | inr h ↦ rw h.0 refl
+    ] in
+    rw test (elim (cases_Bool (ltb after p.pid && nat_eq p.parent n)) [ inl e ↦ rw e refl | inr e ↦ rw e (children-named n after apart ps) ])

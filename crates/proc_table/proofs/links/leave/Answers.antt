@@ -1,0 +1,21 @@
+use Rattle.std.proofs.Common.{None, ap, sym, ◌∙◌, is_some, subst}
+use Rattle.std.proofs.lemmas.Option.{same_Some}
+use Rattle.slab.specs.Slab.{get}
+use Rattle.proc_table.specs.Lanes.{IsHead}
+use Rattle.proc_table.proofs.Laced.{laced-moved}
+use Rattle.proc_table.proofs.links.leave.Goals as goal
+
+pub index-head-requires : goal.index-head-requires
+index-head-requires c =
+    let head = c.requires.laced.headed c.args.kin c.args.slot c.index.result.now c.in-Some.chief c.index.ensures (ap (λ l. l.chief) (sym c.links_of.ensures) ∙ c.in-Some.is) in
+    ap is_some head.1
+
+pub unlink-requires-clause-there : goal.unlink-requires-clause-there
+unlink-requires-clause-there c =
+    let head = c.requires.laced.headed c.args.kin c.args.slot c.index.result.now c.in-Some.chief c.index.ensures (ap (λ l. l.chief) (sym c.links_of.ensures) ∙ c.in-Some.is) in
+    subst (λ h. IsHead (get c.args.nodes.now) h c.in-Some.chief) (same_Some head.0 c.index-head.result.now (sym head.1 ∙ c.index-head.ensures)) head.2
+
+pub returns-in-Some-clause-laced : goal.returns-in-Some-clause-laced
+returns-in-Some-clause-laced c =
+    laced-moved c.args.kin (get c.args.nodes.now) (get c.unlink.new.nodes) c.args.slots.now.entries c.requires.laced c.args.slot None c.unlink.ensures.linked c.unlink.ensures.leaves c.unlink.ensures.others
+    c.unlink.ensures.rows c.unlink.ensures.apart (λ t is. absurd (cc (is)))

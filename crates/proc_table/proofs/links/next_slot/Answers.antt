@@ -1,0 +1,41 @@
+use Rattle.std.proofs.Common.{◌≡◌, ℕ, Some, None, Option, true, ap, sym, ◌∙◌, is_some, arith, nat_eq}
+use Rattle.std.specs.Option.{option_map, option_eq}
+use Rattle.std.proofs.lemmas.Bool.Decides.{nat_tests}
+use Rattle.std.proofs.lemmas.Option.{same_Some}
+use Rattle.slab.specs.Slab.{get}
+use Rattle.proc_table.specs.declared.links.Slot.{Slot}
+use Rattle.proc_table.specs.Links.{keys, Node}
+use Rattle.proc_table.specs.Lanes.{lane, lanes}
+use Rattle.proc_table.proofs.Every.{some_and}
+use Rattle.proc_table.proofs.Linked.{IsNext-later, next_at, key_node}
+use Rattle.proc_table.proofs.Lanes.{slot_at}
+use Rattle.proc_table.proofs.links.next_slot.Goals as goal
+
+equal : (o : Option ℕ) (n : ℕ) → option_eq nat_eq o (Some n) ≡ true → o ≡ Some n
+equal None n h = absurd (cc)
+equal (Some m) n h = let same : m ≡ n = grind (arith, nat_tests, h) in ap Some same
+
+pub index-requires : goal.index-requires
+index-requires c =
+    let there = some_and (λ (slot : Slot). slot.row.pid ≡ c.args.after) _ (c.requires.at c.args.after c.in-Some.at.now (sym c.in-Some.ensures.value)) in
+    ap is_some there.1
+
+pub returns-then-eq : goal.returns-then-eq
+returns-then-eq c =
+    let kin = c.args.kin in
+    let there = some_and (λ (slot : Slot). slot.row.pid ≡ c.args.after) _ (c.requires.at c.args.after c.in-Some.at.now (sym c.in-Some.ensures.value)) in
+    let same = same_Some c.index.result.now there.0 (sym c.index.ensures ∙ there.1) in
+    let number : c.index.result.now.row.pid ≡ c.args.after = ap (λ (x : Slot). x.row.pid) same ∙ there.2 in
+    let chief : (lane kin c.index.result.now).chief ≡ Some c.args.chief = ap (λ l. l.chief) (sym c.links_of-links.ensures) ∙ equal c.links_of-links.result.chief c.args.chief (sym c.eq.ensures ∙ c.if-eq.true) in
+    rw (← number, ap (λ l. l.next) c.links_of-links.ensures) ((c.requires.laced.linked kin).links c.in-Some.at.now (lane kin c.index.result.now) c.args.chief (ap (option_map (lane kin)) c.index.ensures) chief)
+
+pub returns : goal.returns
+returns c =
+    let kin = c.args.kin in
+    let f = get c.args.nodes.now in
+    let place = c.place_before.ensures in
+    IsNext-later (keys (lanes kin f)) c.args.chief _ c.args.after _ (omega (arith, place.before)) (next_at (lanes kin f) (c.requires.laced.linked kin) _ _ _ _ _ place.place.node place.place.there place.place.stands)
+    (λ s p on there.
+    let node = key_node (lanes kin f) s p _ there in
+    let slot = slot_at kin f s node.0 node.1 in
+    omega (arith, place.last s slot.0 on slot.1, c.requires.below s slot.0 slot.1, ap (λ (n : Node). n.pid) slot.2, node.2))

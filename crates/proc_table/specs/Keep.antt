@@ -1,0 +1,7 @@
+-- Options under a test.
+use Rattle.std.specs.Prelude.{Bool, Option, Some, None, if◌then◌else◌}
+
+-- what passes a test
+abbrev pub keep : {A : Type 0} → (A → Bool) → Option A → Option A
+keep test None = None
+keep test (Some a) = if test a then Some a else None

@@ -1,0 +1,72 @@
+-- What the lists of each kind see of a slot, and what the table's rows see of it.
+use Rattle.std.specs.Prelude.{◌≡◌, ℕ, List, Option, Some, None, nat_eq, ◌==◌, ltb, ◌&&◌, find, if◌then◌else◌}
+use Rattle.std.specs.Map.{lookup}
+use Rattle.std.specs.Option.{option_map, IsSomeAnd}
+use Rattle.proc_table.specs.declared.ProcData.{ProcData}
+use Rattle.proc_table.specs.declared.links.Kin.{Kin}
+use Rattle.proc_table.specs.declared.links.Kin.TheVariants.{Tracees, Children}
+use Rattle.proc_table.specs.declared.links.Links.{Links}
+use Rattle.proc_table.specs.declared.links.Slot.{Slot}
+use Rattle.proc_table.specs.Links.{Node, IsLinked, keys}
+use Rattle.proc_table.specs.Slots.{IsSlotted}
+use Rattle.proc_table.specs.Processes.{is_this}
+
+abbrev pub links_in : Kin → Slot → Links
+links_in Tracees slot = slot.tracees
+links_in Children slot = slot.children
+
+abbrev pub put_links : Kin → Links → Slot → Slot
+put_links Tracees links slot = record slot { tracees = links }
+put_links Children links slot = record slot { children = links }
+
+abbrev pub other : Kin → Kin
+other Tracees = Children
+other Children = Tracees
+
+-- one for each kind
+abbrev pub pick : Kin → Option ℕ → Option ℕ → Option ℕ
+pick Tracees tracer parent = tracer
+pick Children tracer parent = parent
+
+-- the number of the row that a row names. No row has the number 1
+abbrev pub parent_named : ℕ → Option ℕ
+parent_named parent = if parent == 1 then None else Some parent
+
+abbrev pub chief : Kin → ProcData → Option ℕ
+chief kin p = pick kin p.tracer (parent_named p.parent)
+
+abbrev pub lane : Kin → Slot → Node
+lane kin slot = record { pid = slot.row.pid; chief = (links_in kin slot).chief; first = (links_in kin slot).first; next = (links_in kin slot).next }
+
+abbrev pub lanes : Kin → (ℕ → Option Slot) → ℕ → Option Node
+lanes kin f s = option_map (lane kin) (f s)
+
+abbrev pub rows_of : (ℕ → Option Slot) → ℕ → Option ProcData
+rows_of f s = option_map (λ slot. slot.row) (f s)
+
+-- the slot has the row with this number
+abbrev pub IsHead : (ℕ → Option Slot) → ℕ → ℕ → Type 0
+IsHead f head t = IsSomeAnd (f head) (λ slot. slot.row.pid ≡ t)
+
+-- a slot for each row, and the lists of both kinds, whose heads are rows
+pub record IsLaced (nodes : ℕ → Option Slot) (es : List (ℕ × ℕ)) : Type 0 where
+  pub listed : (s : ℕ) (slot : Slot) → nodes s ≡ Some slot → lookup (nat_eq slot.row.pid) es ≡ Some s
+  pub linked : (kin : Kin) → IsLinked (lanes kin nodes)
+  pub headed : (kin : Kin) (s : ℕ) (slot : Slot) (t : ℕ) → nodes s ≡ Some slot → (lane kin slot).chief ≡ Some t → (h : ℕ) × (lookup (nat_eq t) es ≡ Some h) × IsHead nodes h t
+
+-- what is kept of the slots: rows, lists, and in whose lists the rows are
+pub record IsTied (nodes : ℕ → Option Slot) (es : List (ℕ × ℕ)) (counts : List ℕ) : Type 0 where
+  pub slotted : IsSlotted (rows_of nodes) es counts
+  pub laced : IsLaced nodes es
+  pub chiefs : (kin : Kin) (s : ℕ) → keys (lanes kin nodes) s ≡ option_map (λ p. (p.pid, chief kin p)) (rows_of nodes s)
+
+-- the first row above a number that names this one
+abbrev pub next_named : Kin → ℕ → ℕ → List ProcData → Option ProcData
+next_named kin n after processes = find (λ p. ltb after p.pid && is_this n (chief kin p)) processes
+
+-- a row in no list, with none of its own
+abbrev pub no_links : Links
+no_links = record { chief = None; first = None; next = None }
+
+abbrev pub unlinked : ProcData → Slot
+unlinked row = record { row = row; tracees = no_links; children = no_links }

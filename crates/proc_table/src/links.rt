@@ -1,0 +1,320 @@
+//! The lists of each process's tracees and children. They run through the slots of the rows, in
+//! rising order of pid, so that a walk meets the rows of one list alone and a change takes no memory.
+
+ghost use Rattle.std.specs.Prelude.{◌≡◌, ◌≢◌, ℕ, ◌<◌, ◌≤◌, Some, None, IsSomeAnd, unwrap_or, nat_eq};
+ghost use Rattle.std.specs.Option.{option_map};
+ghost use Rattle.std.specs.Map.{lookup};
+ghost use Rattle.slab.specs.Slab.{get, slab_len, ContainsKey};
+ghost use Rattle.proc_table.specs.Links.{keys, key_of, IsNext, IsLinked, IsPlace, with_link};
+ghost use Rattle.proc_table.specs.Lanes.{links_in, put_links, other, pick, lane, lanes, rows_of, IsLaced, IsHead};
+
+use crate::ProcData;
+use indexmap::IndexMap;
+use slab::Slab;
+
+/// Rows that name a process: as their tracer, or as their parent.
+#[derive(Clone, Copy, Debug, PartialEq, Eq, Drop)]
+pub enum Kin {
+    Tracees,
+    Children,
+}
+
+/// What a row's slot has of the lists of one kind.
+#[derive(Clone, Copy, Debug, PartialEq, Eq, Drop)]
+pub struct Links {
+    /// The process whose list the row is in.
+    pub chief: Option<u32>,
+    /// The slot of the first row of the process's own list.
+    pub first: Option<usize>,
+    /// The slot of the row after it in the list that it is in.
+    pub next: Option<usize>,
+}
+
+/// A row with its links.
+#[derive(Clone, Copy, Debug, Drop)]
+pub struct Slot {
+    pub row: ProcData,
+    pub tracees: Links,
+    pub children: Links,
+}
+
+/// A place in a list: the head, or the row in the slot `at`, with the pid that it stands at and its link.
+#[derive(Clone, Copy, Debug, PartialEq, Eq, Drop)]
+pub struct Place {
+    pub at: Option<usize>,
+    pub passed: u32,
+    pub link: Option<usize>,
+}
+
+impl Links {
+    /// In no list, with none of its own.
+    pub fn none() -> Links
+        ensures { result ≡ record { chief = None; first = None; next = None } }
+    {
+        Links {
+            chief: None,
+            first: None,
+            next: None,
+        }
+    }
+}
+
+/// The links of one kind.
+pub fn links_of(kin: Kin, slot: &Slot) -> Links
+    ensures { result ≡ links_in kin slot.now }
+{
+    match kin {
+        Kin::Tracees => slot.tracees,
+        Kin::Children => slot.children,
+    }
+}
+
+/// The slot with other links of one kind.
+fn with_links(kin: Kin, links: Links, slot: &Slot) -> Slot
+    ensures { result ≡ put_links kin links slot.now }
+{
+    match kin {
+        Kin::Tracees => Slot {
+            row: slot.row,
+            tracees: links,
+            children: slot.children,
+        },
+        Kin::Children => Slot {
+            row: slot.row,
+            tracees: slot.tracees,
+            children: links,
+        },
+    }
+}
+
+/// Writes the links of one kind.
+fn set_links(nodes: &mut Slab<Slot>, kin: Kin, at: usize, links: Links)
+    requires { ContainsKey nodes.old at }
+    ensures here { (slot : Slot) → get nodes.old at ≡ Some slot → get nodes.new at ≡ Some (put_links kin links slot) }
+    ensures others { (s : ℕ) → s ≢ at → get nodes.new s ≡ get nodes.old s }
+    ensures rows { (s : ℕ) → rows_of (get nodes.new) s ≡ rows_of (get nodes.old) s }
+    ensures apart { (s : ℕ) → lanes (other kin) (get nodes.new) s ≡ lanes (other kin) (get nodes.old) s }
+    ensures len { slab_len nodes.new ≡ slab_len nodes.old }
+    ensures capacity { nodes.new.capacity ≡ nodes.old.capacity }
+{
+    nodes[at] = with_links(kin, links, &nodes[at]);
+}
+
+/// The last place before `pid` in the list of `chief`, whose head is in this slot.
+pub fn place_before(nodes: &Slab<Slot>, kin: Kin, head: usize, chief: u32, pid: u32) -> Place
+    requires linked { IsLinked (lanes kin (get nodes.now)) }
+    requires there { IsHead (get nodes.now) head chief }
+    requires positive { 0 < pid }
+    ensures place { IsPlace (lanes kin (get nodes.now)) head chief result.at result.passed result.link }
+    ensures before { result.passed < pid }
+    ensures last { (s : ℕ) (slot : Slot) → result.link ≡ Some s → get nodes.now s ≡ Some slot → pid ≤ slot.row.pid }
+{
+    let mut at = None;
+    let mut passed = 0;
+    let mut link = links_of(kin, &nodes[head]).first;
+    while let Some(slot) = link {
+        let number = nodes[slot].row.pid.get();
+        if number >= pid {
+            return Place { at, passed, link };
+        }
+        at = Some(slot);
+        passed = number;
+        link = links_of(kin, &nodes[slot]).next;
+    }
+    Place { at, passed, link }
+}
+
+/// Writes the link of a place.
+fn set_link(nodes: &mut Slab<Slot>, kin: Kin, head: usize, at: Option<usize>, link: Option<usize>)
+    requires { ContainsKey nodes.old (unwrap_or at head) }
+    ensures here { (slot : Slot) → get nodes.old (unwrap_or at head) ≡ Some slot → lanes kin (get nodes.new) (unwrap_or at head) ≡ Some (with_link at (lane kin slot) link) }
+    ensures others { (s : ℕ) → s ≢ unwrap_or at head → get nodes.new s ≡ get nodes.old s }
+    ensures rows { (s : ℕ) → rows_of (get nodes.new) s ≡ rows_of (get nodes.old) s }
+    ensures apart { (s : ℕ) → lanes (other kin) (get nodes.new) s ≡ lanes (other kin) (get nodes.old) s }
+    ensures len { slab_len nodes.new ≡ slab_len nodes.old }
+    ensures capacity { nodes.new.capacity ≡ nodes.old.capacity }
+{
+    match at {
+        None => {
+            let mut links = links_of(kin, &nodes[head]);
+            links.first = link;
+            set_links(nodes, kin, head, links);
+        }
+        Some(slot) => {
+            let mut links = links_of(kin, &nodes[slot]);
+            links.next = link;
+            set_links(nodes, kin, slot, links);
+        }
+    }
+}
+
+/// Writes in whose list a row is, and its link there.
+fn set_chief(nodes: &mut Slab<Slot>, kin: Kin, slot: usize, chief: Option<u32>, next: Option<usize>)
+    requires { ContainsKey nodes.old slot }
+    ensures here { (was : Slot) → get nodes.old slot ≡ Some was → lanes kin (get nodes.new) slot ≡ Some (record { pid = was.row.pid; chief = chief; first = (lane kin was).first; next = next }) }
+    ensures others { (s : ℕ) → s ≢ slot → get nodes.new s ≡ get nodes.old s }
+    ensures rows { (s : ℕ) → rows_of (get nodes.new) s ≡ rows_of (get nodes.old) s }
+    ensures apart { (s : ℕ) → lanes (other kin) (get nodes.new) s ≡ lanes (other kin) (get nodes.old) s }
+    ensures len { slab_len nodes.new ≡ slab_len nodes.old }
+    ensures capacity { nodes.new.capacity ≡ nodes.old.capacity }
+{
+    let mut links = links_of(kin, &nodes[slot]);
+    links.chief = chief;
+    links.next = next;
+    set_links(nodes, kin, slot, links);
+}
+
+/// Puts the row in `slot`, which is in no list, into the list of `chief`.
+fn link(nodes: &mut Slab<Slot>, kin: Kin, head: usize, chief: u32, slot: usize)
+    requires linked { IsLinked (lanes kin (get nodes.old)) }
+    requires there { IsHead (get nodes.old) head chief }
+    requires free { IsSomeAnd (get nodes.old slot) (λ was. (lane kin was).chief ≡ None) }
+    ensures linked { IsLinked (lanes kin (get nodes.new)) }
+    ensures joins { keys (lanes kin (get nodes.new)) slot ≡ option_map (λ was. (was.row.pid, Some chief)) (get nodes.old slot) }
+    ensures others { (s : ℕ) → s ≢ slot → keys (lanes kin (get nodes.new)) s ≡ keys (lanes kin (get nodes.old)) s }
+    ensures rows { (s : ℕ) → rows_of (get nodes.new) s ≡ rows_of (get nodes.old) s }
+    ensures apart { (s : ℕ) → lanes (other kin) (get nodes.new) s ≡ lanes (other kin) (get nodes.old) s }
+    ensures len { slab_len nodes.new ≡ slab_len nodes.old }
+    ensures capacity { nodes.new.capacity ≡ nodes.old.capacity }
+{
+    let pid = nodes[slot].row.pid.get();
+    let place = place_before(nodes, kin, head, chief, pid);
+    set_link(nodes, kin, head, place.at, Some(slot));
+    set_chief(nodes, kin, slot, Some(chief), place.link);
+}
+
+/// Takes the row in `slot` out of the list of `chief`.
+fn unlink(nodes: &mut Slab<Slot>, kin: Kin, head: usize, chief: u32, slot: usize)
+    requires linked { IsLinked (lanes kin (get nodes.old)) }
+    requires there { IsHead (get nodes.old) head chief }
+    requires its { IsSomeAnd (get nodes.old slot) (λ was. (lane kin was).chief ≡ Some chief) }
+    ensures linked { IsLinked (lanes kin (get nodes.new)) }
+    ensures leaves { keys (lanes kin (get nodes.new)) slot ≡ option_map (λ was. (was.row.pid, None)) (get nodes.old slot) }
+    ensures others { (s : ℕ) → s ≢ slot → keys (lanes kin (get nodes.new)) s ≡ keys (lanes kin (get nodes.old)) s }
+    ensures rows { (s : ℕ) → rows_of (get nodes.new) s ≡ rows_of (get nodes.old) s }
+    ensures apart { (s : ℕ) → lanes (other kin) (get nodes.new) s ≡ lanes (other kin) (get nodes.old) s }
+    ensures len { slab_len nodes.new ≡ slab_len nodes.old }
+    ensures capacity { nodes.new.capacity ≡ nodes.old.capacity }
+{
+    let pid = nodes[slot].row.pid.get();
+    let next = links_of(kin, &nodes[slot]).next;
+    let place = place_before(nodes, kin, head, chief, pid);
+    set_link(nodes, kin, head, place.at, next);
+    set_chief(nodes, kin, slot, None, None);
+}
+
+/// Takes the row in `slot` out of the list that it is in, if any.
+fn leave(nodes: &mut Slab<Slot>, slots: &IndexMap<u32, usize>, kin: Kin, slot: usize)
+    requires laced { IsLaced (get nodes.old) slots.now.entries }
+    requires there { ContainsKey nodes.old slot }
+    ensures laced { IsLaced (get nodes.new) slots.now.entries }
+    ensures here { keys (lanes kin (get nodes.new)) slot ≡ option_map (λ was. (was.row.pid, None)) (get nodes.old slot) }
+    ensures others { (s : ℕ) → s ≢ slot → keys (lanes kin (get nodes.new)) s ≡ keys (lanes kin (get nodes.old)) s }
+    ensures rows { (s : ℕ) → rows_of (get nodes.new) s ≡ rows_of (get nodes.old) s }
+    ensures apart { (s : ℕ) → lanes (other kin) (get nodes.new) s ≡ lanes (other kin) (get nodes.old) s }
+    ensures len { slab_len nodes.new ≡ slab_len nodes.old }
+    ensures capacity { nodes.new.capacity ≡ nodes.old.capacity }
+{
+    if let Some(chief) = links_of(kin, &nodes[slot]).chief {
+        let head = slots[&chief];
+        unlink(nodes, kin, head, chief, slot);
+    }
+}
+
+/// Puts the row in `slot`, which is in no list, into the list of `chief`, if any.
+fn join(
+    nodes: &mut Slab<Slot>,
+    slots: &IndexMap<u32, usize>,
+    kin: Kin,
+    slot: usize,
+    chief: Option<u32>,
+)
+    requires laced { IsLaced (get nodes.old) slots.now.entries }
+    requires free { IsSomeAnd (get nodes.old slot) (λ was. (lane kin was).chief ≡ None) }
+    requires chief { (t : ℕ) → chief ≡ Some t → (h : ℕ) × (lookup (nat_eq t) slots.now.entries ≡ Some h) × IsHead (get nodes.old) h t }
+    ensures laced { IsLaced (get nodes.new) slots.now.entries }
+    ensures here { keys (lanes kin (get nodes.new)) slot ≡ option_map (λ was. (was.row.pid, chief)) (get nodes.old slot) }
+    ensures others { (s : ℕ) → s ≢ slot → keys (lanes kin (get nodes.new)) s ≡ keys (lanes kin (get nodes.old)) s }
+    ensures rows { (s : ℕ) → rows_of (get nodes.new) s ≡ rows_of (get nodes.old) s }
+    ensures apart { (s : ℕ) → lanes (other kin) (get nodes.new) s ≡ lanes (other kin) (get nodes.old) s }
+    ensures len { slab_len nodes.new ≡ slab_len nodes.old }
+    ensures capacity { nodes.new.capacity ≡ nodes.old.capacity }
+{
+    if let Some(chief) = chief {
+        let head = slots[&chief];
+        link(nodes, kin, head, chief, slot);
+    }
+}
+
+/// Moves the row in `slot` into the list of `chief`, or into none. Takes no memory.
+pub fn relink(
+    nodes: &mut Slab<Slot>,
+    slots: &IndexMap<u32, usize>,
+    kin: Kin,
+    slot: usize,
+    chief: Option<u32>,
+)
+    requires laced { IsLaced (get nodes.old) slots.now.entries }
+    requires there { ContainsKey nodes.old slot }
+    requires chief { (t : ℕ) → chief ≡ Some t → (h : ℕ) × (lookup (nat_eq t) slots.now.entries ≡ Some h) × IsHead (get nodes.old) h t }
+    ensures laced { IsLaced (get nodes.new) slots.now.entries }
+    ensures here { keys (lanes kin (get nodes.new)) slot ≡ option_map (λ was. (was.row.pid, chief)) (get nodes.old slot) }
+    ensures others { (s : ℕ) → s ≢ slot → keys (lanes kin (get nodes.new)) s ≡ keys (lanes kin (get nodes.old)) s }
+    ensures rows { (s : ℕ) → rows_of (get nodes.new) s ≡ rows_of (get nodes.old) s }
+    ensures apart { (s : ℕ) → lanes (other kin) (get nodes.new) s ≡ lanes (other kin) (get nodes.old) s }
+    ensures len { slab_len nodes.new ≡ slab_len nodes.old }
+    ensures capacity { nodes.new.capacity ≡ nodes.old.capacity }
+{
+    if links_of(kin, &nodes[slot]).chief == chief {
+        return;
+    }
+    leave(nodes, slots, kin, slot);
+    join(nodes, slots, kin, slot, chief);
+}
+
+/// Moves the row in `slot` into the lists of its tracer and of its parent, or into none.
+pub fn relink_both(
+    nodes: &mut Slab<Slot>,
+    slots: &IndexMap<u32, usize>,
+    slot: usize,
+    tracer: Option<u32>,
+    parent: Option<u32>,
+)
+    requires laced { IsLaced (get nodes.old) slots.now.entries }
+    requires there { ContainsKey nodes.old slot }
+    requires chiefs { (kin : Kin) (t : ℕ) → pick kin tracer parent ≡ Some t → (h : ℕ) × (lookup (nat_eq t) slots.now.entries ≡ Some h) × IsHead (get nodes.old) h t }
+    ensures laced { IsLaced (get nodes.new) slots.now.entries }
+    ensures here { (kin : Kin) → keys (lanes kin (get nodes.new)) slot ≡ option_map (λ was. (was.row.pid, pick kin tracer parent)) (get nodes.old slot) }
+    ensures others { (kin : Kin) (s : ℕ) → s ≢ slot → keys (lanes kin (get nodes.new)) s ≡ keys (lanes kin (get nodes.old)) s }
+    ensures rows { (s : ℕ) → rows_of (get nodes.new) s ≡ rows_of (get nodes.old) s }
+    ensures len { slab_len nodes.new ≡ slab_len nodes.old }
+    ensures capacity { nodes.new.capacity ≡ nodes.old.capacity }
+{
+    relink(nodes, slots, Kin::Tracees, slot, tracer);
+    relink(nodes, slots, Kin::Children, slot, parent);
+}
+
+/// The slot of the first row above `after` in the list of `chief`: by the link of `after` where it is
+/// in the list, and else by a walk of the list.
+pub fn next_slot(
+    nodes: &Slab<Slot>,
+    slots: &IndexMap<u32, usize>,
+    kin: Kin,
+    head: usize,
+    chief: u32,
+    after: u32,
+) -> Option<usize>
+    requires laced { IsLaced (get nodes.now) slots.now.entries }
+    requires there { IsHead (get nodes.now) head chief }
+    requires at { (n h : ℕ) → lookup (nat_eq n) slots.now.entries ≡ Some h → IsHead (get nodes.now) h n }
+    requires below { (s : ℕ) (slot : Slot) → get nodes.now s ≡ Some slot → slot.row.pid < 65000 }
+    ensures { IsNext (keys (lanes kin (get nodes.now))) chief after result }
+{
+    if let Some(at) = slots.get(&after) {
+        let links = links_of(kin, &nodes[*at]);
+        if links.chief == Some(chief) {
+            return links.next;
+        }
+    }
+    place_before(nodes, kin, head, chief, after.saturating_add(1)).link
+}
