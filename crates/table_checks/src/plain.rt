@@ -1,0 +1,282 @@
+//! The rows of a host in two plain lists, gone through by loops.
+
+ghost use Rattle.std.specs.Prelude.{◌≤◌};
+
+use lwp_table::LwpData;
+use pid_blocks::{Pid, Tid, Uid};
+use proc_table::ProcData;
+use std::alloc::{AllocError, Global};
+
+/// Processes by rising number, LWPs in order of birth, and where the search for each user's next
+/// numbers begins.
+#[derive(Drop)]
+pub struct Plain {
+    pub processes: Vec<ProcData>,
+    pub lwps: Vec<LwpData>,
+    pid_cursors: [u32; 64],
+    tid_cursors: [u32; 64],
+}
+
+/// The user's first process number.
+fn first_pid(uid: Uid) -> u32
+    ensures { result ≤ 64000 }
+{
+    1000 * (uid.get() - 1000)
+}
+
+/// The user's first LWP number.
+fn first_tid(uid: Uid) -> u32
+    ensures { result ≤ 352000 }
+{
+    100000 + 4000 * (uid.get() - 1001)
+}
+
+impl Plain {
+    pub fn new(alloc: Global) -> Plain {
+        let mut pid_cursors = [0; 64];
+        let mut tid_cursors = [0; 64];
+        for user in 0u32..64 {
+            pid_cursors[user as usize] = 1000 + 1000 * user;
+            tid_cursors[user as usize] = 100000 + 4000 * user;
+        }
+        Plain {
+            processes: Vec::new(alloc),
+            lwps: Vec::new(alloc),
+            pid_cursors,
+            tid_cursors,
+        }
+    }
+
+    pub fn process(&self, number: u32) -> Option<ProcData> {
+        for p in &self.processes {
+            if p.pid.get() == number {
+                return Some(*p);
+            }
+        }
+        None
+    }
+
+    pub fn lwp(&self, number: u32) -> Option<LwpData> {
+        for l in &self.lwps {
+            if l.tid.get() == number {
+                return Some(*l);
+            }
+        }
+        None
+    }
+
+    pub fn first_lwp(&self, pid: Pid) -> Option<LwpData> {
+        for l in &self.lwps {
+            if l.pid == pid {
+                return Some(*l);
+            }
+        }
+        None
+    }
+
+    /// The LWP of the same process that was born next after this one.
+    pub fn next_sibling(&self, tid: Tid) -> Option<LwpData> {
+        let row = self.lwp(tid.get())?;
+        let mut passed = false;
+        for l in &self.lwps {
+            if passed && l.pid == row.pid {
+                return Some(*l);
+            }
+            passed = passed || l.tid == tid;
+        }
+        None
+    }
+
+    pub fn next_of(&self, uid: Uid, after: u32) -> Option<ProcData> {
+        for p in &self.processes {
+            if p.pid.get() > after && p.uid == uid {
+                return Some(*p);
+            }
+        }
+        None
+    }
+
+    pub fn next_tracee(&self, pid: Pid, after: u32) -> Option<ProcData> {
+        for p in &self.processes {
+            if p.pid.get() > after && p.tracer == Some(pid) {
+                return Some(*p);
+            }
+        }
+        None
+    }
+
+    pub fn next_child(&self, pid: Pid, after: u32) -> Option<ProcData> {
+        for p in &self.processes {
+            if p.pid.get() > after && p.parent == pid.get() {
+                return Some(*p);
+            }
+        }
+        None
+    }
+
+    pub fn seen_process(&self, uid: Uid, number: u32) -> Option<ProcData> {
+        match self.process(number) {
+            Some(p) if p.uid == uid => Some(p),
+            _ => None,
+        }
+    }
+
+    pub fn seen_lwp(&self, uid: Uid, number: u32) -> Option<LwpData> {
+        match self.lwp(number) {
+            Some(l) if self.seen_process(uid, l.pid.get()).is_some() => Some(l),
+            _ => None,
+        }
+    }
+
+    /// The user's process that a number names: up to 99999 its own number, above that an LWP's.
+    pub fn find_seen(&self, uid: Uid, number: u32) -> Option<Pid> {
+        if number < 100000 {
+            match self.seen_process(uid, number) {
+                Some(p) => Some(p.pid),
+                None => None,
+            }
+        } else {
+            match self.seen_lwp(uid, number) {
+                Some(l) => Some(l.pid),
+                None => None,
+            }
+        }
+    }
+
+    pub fn process_count(&self, uid: Uid) -> usize {
+        self.processes.iter().filter(|p| p.uid == uid).count()
+    }
+
+    pub fn lwp_count(&self, pid: Pid) -> usize {
+        self.lwps.iter().filter(|l| l.pid == pid).count()
+    }
+
+    /// How many LWPs the user's processes have.
+    pub fn lwp_count_of(&self, uid: Uid) -> usize {
+        self.lwps
+            .iter()
+            .filter(|l| self.seen_process(uid, l.pid.get()).is_some())
+            .count()
+    }
+
+    pub fn pid_cursor(&self, uid: Uid) -> u32 {
+        self.pid_cursors[uid.slot()]
+    }
+
+    pub fn tid_cursor(&self, uid: Uid) -> u32 {
+        self.tid_cursors[uid.slot()]
+    }
+
+    /// The first number of the user's block that no process has, from the cursor on and round.
+    pub fn fresh_pid(&self, uid: Uid) -> Option<Pid> {
+        let first = first_pid(uid);
+        let from = self.pid_cursor(uid).wrapping_sub(first);
+        for step in 0..1000 {
+            let number = first + from.wrapping_add(step) % 1000;
+            if self.process(number).is_none() {
+                return Pid::new(number);
+            }
+        }
+        None
+    }
+
+    /// The first number of the user's block that no LWP has, from the cursor on and round.
+    pub fn fresh_tid(&self, uid: Uid) -> Option<Tid> {
+        let first = first_tid(uid);
+        let from = self.tid_cursor(uid).wrapping_sub(first);
+        for step in 0..4000 {
+            let number = first + from.wrapping_add(step) % 4000;
+            if self.lwp(number).is_none() {
+                return Tid::new(number);
+            }
+        }
+        None
+    }
+
+    /// Whether the row's tracer and parent are processes.
+    fn names_rows(&self, row: ProcData) -> bool {
+        if let Some(tracer) = row.tracer {
+            if self.process(tracer.get()).is_none() {
+                return false;
+            }
+        }
+        row.parent == 1 || self.process(row.parent).is_some()
+    }
+
+    /// Adds a process, if its number is the next of its user, and its tracer and parent are
+    /// processes.
+    pub fn spawn(&mut self, row: ProcData) -> Result<bool, AllocError> {
+        if self.fresh_pid(row.uid) != Some(row.pid) || !self.names_rows(row) {
+            return Ok(false);
+        }
+        match self.processes.iter().position(|p| p.pid > row.pid) {
+            Some(at) => self.processes.insert(at, row)?,
+            None => self.processes.push(row)?,
+        }
+        let first = first_pid(row.uid);
+        let next = row.pid.get() + 1;
+        self.pid_cursors[row.uid.slot()] = if next < first + 1000 { next } else { first };
+        Ok(true)
+    }
+
+    /// Puts a row in the place of the one with its number, if there is one, of the same user, and
+    /// its tracer and parent are processes.
+    pub fn turn(&mut self, row: ProcData) -> bool {
+        if self.seen_process(row.uid, row.pid.get()).is_none() || !self.names_rows(row) {
+            return false;
+        }
+        for p in self.processes.iter_mut() {
+            if p.pid == row.pid {
+                *p = row;
+            }
+        }
+        true
+    }
+
+    /// Takes a process out, if there is one with the number and no row names it.
+    pub fn forget(&mut self, pid: Pid) -> bool {
+        let mut found = false;
+        for p in &self.processes {
+            if p.tracer == Some(pid) || p.parent == pid.get() {
+                return false;
+            }
+            found = found || p.pid == pid;
+        }
+        if !found || self.lwp_count(pid) != 0 {
+            return false;
+        }
+        self.processes.retain(|p| p.pid != pid);
+        true
+    }
+
+    /// Adds an LWP, if its number is the next of the user, who has its process.
+    pub fn start(&mut self, uid: Uid, row: LwpData) -> Result<bool, AllocError> {
+        if self.fresh_tid(uid) != Some(row.tid) || self.seen_process(uid, row.pid.get()).is_none() {
+            return Ok(false);
+        }
+        self.lwps.push(row)?;
+        let first = first_tid(uid);
+        let next = row.tid.get() + 1;
+        self.tid_cursors[uid.slot()] = if next < first + 4000 { next } else { first };
+        Ok(true)
+    }
+
+    /// Puts a row in the place of the one with its number, if there is one, of the same process.
+    pub fn change(&mut self, row: LwpData) -> bool {
+        let mut made = false;
+        for l in self.lwps.iter_mut() {
+            if l.tid == row.tid && l.pid == row.pid {
+                *l = row;
+                made = true;
+            }
+        }
+        made
+    }
+
+    /// Takes an LWP out, if there is one with the number.
+    pub fn stop(&mut self, tid: Tid) -> bool {
+        let before = self.lwps.len();
+        self.lwps.retain(|l| l.tid != tid);
+        self.lwps.len() < before
+    }
+}

@@ -1,0 +1,183 @@
+//! A host of 64 users, and timed operations on rows of it that a fixed rule chooses.
+
+use crate::edits;
+use pid_blocks::{Pid, Tid, Uid};
+use proc_table::Tables;
+use std::alloc::{AllocError, Global};
+
+/// How many LWPs a process has.
+const LWPS: usize = 8;
+
+/// A process and its user.
+#[derive(Clone, Copy, Debug, Drop)]
+struct Owner {
+    uid: Uid,
+    pid: Pid,
+}
+
+/// The tables, with what rows there are.
+#[derive(Drop)]
+pub struct Host {
+    tables: Tables,
+    seed: u64,
+    owners: Vec<Owner>,
+    tids: Vec<Tid>,
+    answers: usize,
+}
+
+impl Host {
+    /// A host with so many LWPs.
+    pub fn filled(alloc: Global, lwps: usize) -> Result<Host, AllocError> {
+        let mut host = Host {
+            tables: Tables::new(alloc)?,
+            seed: 2026,
+            owners: Vec::new(alloc),
+            tids: Vec::new(alloc),
+            answers: 0,
+        };
+        for at in 0..lwps.div_ceil(LWPS) {
+            if let Ok(uid) = Uid::new(1001 + (at % 64) as u32) {
+                if let Some(pid) = edits::spawn(&mut host.tables, uid)? {
+                    host.owners.push(Owner { uid, pid })?;
+                }
+            }
+        }
+        host.trace(2000);
+        host.add(lwps)?;
+        host.answers = 0;
+        Ok(host)
+    }
+
+    pub fn processes(&self) -> usize {
+        self.owners.len()
+    }
+
+    pub fn lwps(&self) -> usize {
+        self.tids.len()
+    }
+
+    /// How many rows the readers answered.
+    pub fn answers(&self) -> usize {
+        self.answers
+    }
+
+    /// The next number.
+    fn roll(&mut self) -> usize {
+        self.seed = self
+            .seed
+            .wrapping_mul(6364136223846793005)
+            .wrapping_add(1442695040888963407);
+        (self.seed >> 33) as usize
+    }
+
+    fn owner(&mut self) -> Option<Owner> {
+        let at = self.roll();
+        if self.owners.is_empty() {
+            return None;
+        }
+        Some(self.owners[at % self.owners.len()])
+    }
+
+    fn tid(&mut self) -> Option<Tid> {
+        let at = self.roll();
+        if self.tids.is_empty() {
+            return None;
+        }
+        Some(self.tids[at % self.tids.len()])
+    }
+
+    fn count(&mut self, rows: usize) {
+        self.answers = self.answers.wrapping_add(rows);
+    }
+
+    /// Adds LWPs to processes.
+    pub fn add(&mut self, count: usize) -> Result<(), AllocError> {
+        for _ in 0..count {
+            if let Some(owner) = self.owner() {
+                if let Some(tid) = edits::start(&mut self.tables, owner.uid, owner.pid)? {
+                    self.tids.push(tid)?;
+                }
+            }
+        }
+        Ok(())
+    }
+
+    /// Takes LWPs out.
+    pub fn remove(&mut self, count: usize) {
+        for _ in 0..count {
+            let at = self.roll();
+            if !self.tids.is_empty() {
+                let tid = self.tids.swap_remove(at % self.tids.len());
+                edits::stop(&mut self.tables, tid);
+            }
+        }
+    }
+
+    /// Reads LWPs.
+    pub fn get(&mut self, count: usize) {
+        for _ in 0..count {
+            if let Some(tid) = self.tid() {
+                let found = self.tables.lwp(tid).is_some();
+                self.count(usize::from(found));
+            }
+        }
+    }
+
+    /// Changes LWPs' rows.
+    pub fn set(&mut self, count: usize) {
+        for at in 0..count {
+            if let Some(tid) = self.tid() {
+                let found = edits::suspend(&mut self.tables, tid, at % 2 == 0);
+                self.count(usize::from(found));
+            }
+        }
+    }
+
+    /// Walks over the LWPs of processes.
+    pub fn walk(&mut self, count: usize) {
+        for _ in 0..count {
+            if let Some(owner) = self.owner() {
+                let met = edits::walk(&self.tables, owner.pid);
+                self.count(met);
+            }
+        }
+    }
+
+    /// Reads users' next processes.
+    pub fn next_of(&mut self, count: usize) {
+        for _ in 0..count {
+            if let Some(owner) = self.owner() {
+                let found = self.tables.next_of(owner.uid, owner.pid.get()).is_some();
+                self.count(usize::from(found));
+            }
+        }
+    }
+
+    /// Reads the next process that the same process traces.
+    pub fn next_tracee(&mut self, count: usize) {
+        for _ in 0..count {
+            if let Some(owner) = self.owner() {
+                if let Some(row) = self.tables.process(owner.pid) {
+                    if let Some(tracer) = row.tracer {
+                        let next = self.tables.next_tracee(tracer, owner.pid.get());
+                        self.count(usize::from(next.is_some()));
+                    }
+                }
+            }
+        }
+    }
+
+    /// Gives processes other tracers, of the same user.
+    pub fn trace(&mut self, count: usize) {
+        for _ in 0..count {
+            let after = self.roll() % 60;
+            if let Some(owner) = self.owner() {
+                let first = 1000 * (owner.uid.get() - 1000);
+                if let Some(tracer) = self.tables.next_of(owner.uid, first + after as u32) {
+                    let found = edits::trace(&mut self.tables, owner.pid, tracer.pid);
+                    self.count(usize::from(found));
+                }
+            }
+        }
+    }
+}
