@@ -12,3 +12,5 @@ pub mod Counts
 pub mod Slots
 pub mod NextOf
 pub mod Seen
+pub mod Least
+pub mod OwnRows
