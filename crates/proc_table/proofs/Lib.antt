@@ -18,3 +18,5 @@ pub mod Births
 pub mod Lanes
 pub mod Laced
 pub mod Tied
+pub mod Least
+pub mod OwnRows

@@ -1,0 +1,128 @@
+-- A user's questions, where nobody else has rows.
+use Rattle.std.proofs.Common.{◌≡◌, ℕ, zero, suc, ◌+◌, ◌-◌, ◌<◌, ◌≤◌, List, [], ◌∷◌, filter, find, Bool, true, false, cond, ◌&&◌, leb, ltb, if◌then◌else◌, Option, Some, None, refl, sym, ap, ap₂, ◌∙◌, arith, inl, inr, nat_eq}
+use Rattle.std.specs.Prelude.{count_by, get_or, option_map}
+use Rattle.std.specs.List.{AllByRecursion, list_any}
+use Rattle.std.proofs.Math.Path.{fun_ext}
+use Rattle.std.proofs.lemmas.Bool.{cases_Bool}
+use Rattle.std.proofs.lemmas.List.Sums.{sum_by-cons}
+use Rattle.pid_blocks.specs.Users.{IsUser}
+use Rattle.pid_blocks.specs.declared.Block.{Block}
+use Rattle.pid_blocks.specs.Blocks.{pid_block, tid_block, slot, first_free, next_free, InBlock}
+use Rattle.proc_table.specs.declared.ProcData.{ProcData}
+use Rattle.lwp_table.specs.declared.LwpData.{LwpData}
+use Rattle.proc_table.specs.Processes.{of_user}
+use Rattle.proc_table.specs.Rows.{Rows}
+use Rattle.proc_table.specs.Seen.{owns}
+use Rattle.proc_table.specs.Fresh.{is_process, is_lwp, process_count, lwp_count_of, fresh_pid, fresh_tid}
+use Rattle.proc_table.specs.Kept.{AtHome, Housed, IsKept}
+use Rattle.proc_table.specs.Laws.{only_of, SeesOwn, NextSeesOwn, ProcessSeesOwn, LwpSeesOwn, NumberSeesOwn, CountsSeeOwn, FreshSeesOwn}
+use Rattle.proc_table.proofs.Every.{every_found}
+use Rattle.proc_table.proofs.Finds.{equal_or_not}
+use Rattle.proc_table.proofs.Seen.{owns-kept}
+
+-- where all that pass q pass p, those that fail p don't matter to q
+module _ {A : Type 0} (q p : A → Bool) (P : A → Type 0) (narrow : (a : A) → P a → q a ≡ true → p a ≡ true) where
+  pub find-only : (xs : List A) → AllByRecursion P xs → find q (filter p xs) ≡ find q xs
+  find-only [] all = refl
+  find-only (x ∷ xs) all = grind (arith, narrow x all.0, find-only xs all.1)
+
+  pub any-only : (xs : List A) → AllByRecursion P xs → list_any q (filter p xs) ≡ list_any q xs
+  any-only [] all = refl
+  any-only (x ∷ xs) all = grind (arith, narrow x all.0, any-only xs all.1)
+
+  count-cons : (x : A) (xs : List A) → count_by q (x ∷ xs) ≡ cond (q x) 1 0 + count_by q xs
+  count-cons x xs = sum_by-cons (λ a. cond (q a) 1 0) x xs
+
+  pub count-only : (xs : List A) → AllByRecursion P xs → count_by q (filter p xs) ≡ count_by q xs
+  count-only [] all = refl
+  count-only (x ∷ xs) all = elim (cases_Bool (p x)) [
+    | inl e ↦ rw e (count-cons x (filter p xs) ∙ (ap (λ n. cond (q x) 1 0 + n) (count-only xs all.1) ∙ sym (count-cons x xs)))
+    | inr e ↦
+        let fails : q x ≡ false = elim (cases_Bool (q x)) [ inl k ↦ absurd (cc (narrow x all.0 k, e)) | inr k ↦ k ] in
+        rw e (omega (arith, count-only xs all.1, count-cons x xs, ap {B = ℕ} (λ b. cond b 1 0) fails))
+  ]
+
+always : {A : Type 0} (xs : List A) → AllByRecursion (λ a. Unit {0}) xs
+always [] = tt
+always (x ∷ xs) = (tt, always xs)
+
+second : (a b : Bool) → (a && b) ≡ true → b ≡ true
+second true b e = e
+second false b e = absurd (cc)
+
+abbrev own : ℕ → ProcData → Bool
+own u p = nat_eq p.uid u
+
+abbrev its_lwp : ℕ → Rows → LwpData → Bool
+its_lwp u rows l = owns u l.pid rows.processes
+
+owns_own : (u n : ℕ) (ps : List ProcData) → owns u n (of_user u ps) ≡ owns u n ps
+owns_own u n ps = any-only (λ p. nat_eq p.pid n && nat_eq p.uid u) (own u) (λ p. Unit {0}) (λ p any is. second (nat_eq p.pid n) (nat_eq p.uid u) is) ps (always ps)
+
+pub next_own : NextSeesOwn
+next_own after u rows = find-only (λ p. ltb after p.pid && nat_eq p.uid u) (own u) (λ p. Unit {0}) (λ p any is. second (ltb after p.pid) (nat_eq p.uid u) is) rows.processes (always rows.processes)
+
+pub process_own : ProcessSeesOwn
+process_own n u rows = find-only (λ p. nat_eq p.pid n && nat_eq p.uid u) (own u) (λ p. Unit {0}) (λ p any is. second (nat_eq p.pid n) (nat_eq p.uid u) is) rows.processes (always rows.processes)
+
+pub lwp_own : LwpSeesOwn
+lwp_own n u rows =
+    ap (λ (test : LwpData → Bool). find (λ l. nat_eq l.tid n && test l) (filter (its_lwp u rows) rows.lwps)) (fun_ext (λ l. owns_own u l.pid rows.processes))
+    ∙ find-only (λ l. nat_eq l.tid n && its_lwp u rows l) (its_lwp u rows) (λ l. Unit {0}) (λ l any is. second (nat_eq l.tid n) (its_lwp u rows l) is) rows.lwps (always rows.lwps)
+
+pub number_own : NumberSeesOwn
+number_own n u rows = ap₂ (λ (o : Option ProcData) (k : Option LwpData). if leb n 99999 then option_map (λ (p : ProcData). p.pid) o else option_map (λ (l : LwpData). l.pid) k) (process_own n u rows) (lwp_own n u rows)
+
+pub process_count_own : SeesOwn process_count
+process_count_own u rows = count-only (own u) (own u) (λ p. Unit {0}) (λ p any is. is) rows.processes (always rows.processes)
+
+pub lwp_count_own : SeesOwn lwp_count_of
+lwp_count_own u rows =
+    ap (λ (test : LwpData → Bool). count_by test (filter (its_lwp u rows) rows.lwps)) (fun_ext (λ l. owns_own u l.pid rows.processes))
+    ∙ count-only (its_lwp u rows) (its_lwp u rows) (λ l. Unit {0}) (λ l any is. is) rows.lwps (always rows.lwps)
+
+pub counts_own : CountsSeeOwn
+counts_own = (process_count_own, lwp_count_own)
+
+-- the next free number of a block depends on that block's numbers alone
+first_free-same : (taken other : ℕ → Bool) (count n : ℕ) → ((m : ℕ) → n ≤ m → m < n + count → taken m ≡ other m) → first_free taken count n ≡ first_free other count n
+first_free-same taken other zero n h = refl
+first_free-same taken other (suc count) n h = ap₂ (λ (b : Bool) (r : Option ℕ). elim b [ true ↦ r | false ↦ Some n ]) (h n (omega arith) (omega arith)) (first_free-same taken other count (n + 1) (λ m le lt. h m (omega arith) (omega arith)))
+
+abbrev or_next : Option ℕ → Option ℕ → Option ℕ
+or_next o p = elim o [ Some n ↦ Some n | None ↦ p ]
+
+pub next_free-same : (b : Block) (cursor : ℕ) (taken other : ℕ → Bool) → InBlock b cursor → ((n : ℕ) → InBlock b n → taken n ≡ other n) → next_free b cursor taken ≡ next_free b cursor other
+next_free-same b cursor taken other i h = let from = i.0 in let to = i.1 in ap₂ or_next
+    (first_free-same taken other (b.first + b.size - cursor) cursor (λ m le lt. h m (omega arith, omega arith)))
+    (first_free-same taken other (cursor - b.first) b.first (λ m le lt. h m (omega arith, omega arith)))
+
+module _ (u : ℕ) (rows : Rows) (user : IsUser u) (kept : IsKept rows) where
+  -- who has a number of the user's block is the user's
+  at_home : (n : ℕ) → InBlock (pid_block u) n → (p : ProcData) → AtHome p → nat_eq p.pid n ≡ true → own u p ≡ true
+  at_home n its p home is = elim (equal_or_not p.pid n) [
+    | inr h ↦ absurd (cc (is, h.0))
+    | inl h ↦ elim (equal_or_not p.uid u) [ inl k ↦ k.0 | inr k ↦ absurd (k.1 (omega (arith, user.0, user.1, home.user.0, home.user.1, home.block.0, home.block.1, its.0, its.1, h.1))) ]
+  ]
+
+  housed : (n : ℕ) → InBlock (tid_block u) n → (l : LwpData) → Housed rows l → nat_eq l.tid n ≡ true → its_lwp u rows l ≡ true
+  housed n its l house is = elim (equal_or_not l.tid n) [
+    | inr h ↦ absurd (cc (is, h.0))
+    | inl h ↦
+        let home = every_found AtHome (λ p. nat_eq p.pid l.pid) rows.processes house.0 kept.homes house.1 in
+        elim (equal_or_not house.0.uid u) [
+          | inl k ↦ rw (owns-kept u l.pid rows.processes kept.rising, house.1, k.0) refl
+          | inr k ↦ absurd (k.1 (omega (arith, user.0, user.1, home.user.0, home.user.1, house.2.0, house.2.1, its.0, its.1, h.1)))
+        ]
+  ]
+
+  pub fresh_pid_own : fresh_pid u (only_of u rows) ≡ fresh_pid u rows
+  fresh_pid_own = next_free-same (pid_block u) (get_or rows.pid_cursors (slot u) 0) (is_process (only_of u rows)) (is_process rows) (kept.pid_cursors u user)
+      (λ n its. any-only (λ p. nat_eq p.pid n) (own u) AtHome (at_home n its) rows.processes kept.homes)
+
+  pub fresh_tid_own : fresh_tid u (only_of u rows) ≡ fresh_tid u rows
+  fresh_tid_own = next_free-same (tid_block u) (get_or rows.tid_cursors (slot u) 0) (is_lwp (only_of u rows)) (is_lwp rows) (kept.tid_cursors u user)
+      (λ n its. any-only (λ l. nat_eq l.tid n) (its_lwp u rows) (Housed rows) (housed n its) rows.lwps kept.housed)
+
+pub fresh_own : FreshSeesOwn
+fresh_own = (fresh_pid_own, fresh_tid_own)

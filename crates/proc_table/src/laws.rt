@@ -1,0 +1,21 @@
+//! Laws of walks, look-ups, counts and new numbers.
+
+ghost use Rattle.proc_table.specs.Laws.{NextOfLeast, NextTraceeLeast, NextChildLeast, NextSeesOwn, ProcessSeesOwn, LwpSeesOwn, NumberSeesOwn, CountsSeeOwn, FreshSeesOwn};
+
+/// A walk over processes in rising order gives the one with the least number above the given one
+/// that passes the walk's test, and none where none passes.
+pub fn walks_give_the_least()
+    ensures users { NextOfLeast }
+    ensures tracees { NextTraceeLeast }
+    ensures children { NextChildLeast }
+{}
+
+/// A user's walk, look-ups, counts and new numbers are the same where nobody else has rows.
+pub fn a_user_sees_own_rows()
+    ensures walks { NextSeesOwn }
+    ensures processes { ProcessSeesOwn }
+    ensures lwps { LwpSeesOwn }
+    ensures numbers { NumberSeesOwn }
+    ensures counts { CountsSeeOwn }
+    ensures fresh { FreshSeesOwn }
+{}
