@@ -35,17 +35,32 @@ module _ (caller : ℕ) (p : ProcData) where
 
   pub collected_kept : (s : State) → p.state ≡ s → IfSome (collected_in caller p s) (Kept p)
   collected_kept Run is = record {
-    pid = refl; uid = refl; live = refl; tracer = inl refl; parent = refl; reporting = refl;
+    pid = refl;
+    uid = refl;
+    live = refl;
+    tracer = inl refl;
+    parent = refl;
+    reporting = refl;
     fits = λ fit. record { stopped = fit.stopped; job = fit.job; continued = λ on. absurd (true≢false (sym on)); untraced = λ none. record { mask = (fit.untraced none).mask; pending = (fit.untraced none).pending }; ended = subst (λ s. IfEnded (record p { continued = false }) s) (sym is) tt };
     fit_lwp = λ l live fit. record { untraced = λ none. let was = fit.untraced none in record { due = was.due; stepping = was.stepping; suspended = was.suspended; pending = was.pending }; silent = fit.silent; blocked = fit.blocked };
   }
   collected_kept (Trace tid sig seen) is = record {
-    pid = refl; uid = refl; live = sym (ap (λ s. not (is_zombie_state s)) is); tracer = inl refl; parent = refl; reporting = sym (ap named_by is);
+    pid = refl;
+    uid = refl;
+    live = sym (ap (λ s. not (is_zombie_state s)) is);
+    tracer = inl refl;
+    parent = refl;
+    reporting = sym (ap named_by is);
     fits = λ fit. record { stopped = λ r. fit.stopped (subst (λ s. is_some (named_by s) ≡ true) (sym is) refl); job = λ j. absurd (true≢false (sym j)); continued = λ on. absurd (true≢false (sym (fit.continued on).1 ∙ ap is_run_state is)); untraced = λ none. record { mask = (fit.untraced none).mask; pending = (fit.untraced none).pending }; ended = tt };
     fit_lwp = λ l live fit. record { untraced = λ none. let was = fit.untraced none in record { due = was.due; stepping = was.stepping; suspended = was.suspended; pending = was.pending }; silent = λ off. fit.silent (ap (λ s. is_this l.tid (named_by s)) is ∙ off); blocked = fit.blocked };
   }
   collected_kept (Job sig seen) is = record {
-    pid = refl; uid = refl; live = sym (ap (λ s. not (is_zombie_state s)) is); tracer = inl refl; parent = refl; reporting = sym (ap named_by is);
+    pid = refl;
+    uid = refl;
+    live = sym (ap (λ s. not (is_zombie_state s)) is);
+    tracer = inl refl;
+    parent = refl;
+    reporting = sym (ap named_by is);
     fits = λ fit. record { stopped = λ r. absurd (true≢false (sym r)); job = λ j. fit.job (ap is_job_state is); continued = λ on. absurd (true≢false (sym (fit.continued on).1 ∙ ap is_run_state is)); untraced = λ none. record { mask = (fit.untraced none).mask; pending = (fit.untraced none).pending }; ended = tt };
     fit_lwp = λ l live fit. record { untraced = λ none. let was = fit.untraced none in record { due = was.due; stepping = was.stepping; suspended = was.suspended; pending = was.pending }; silent = λ off. fit.silent (ap (λ s. is_this l.tid (named_by s)) is ∙ off); blocked = fit.blocked };
   }
@@ -57,7 +72,12 @@ module _ (caller : ℕ) (p : ProcData) where
       by_stay : (b : Bool) → stays caller p ≡ b → IfSome (if b then Some (record p { tracer = None }) else None) (Kept p)
       by_stay false e = tt
       by_stay true e = record {
-        pid = refl; uid = refl; live = refl; tracer = inr refl; parent = refl; reporting = refl;
+        pid = refl;
+        uid = refl;
+        live = refl;
+        tracer = inr refl;
+        parent = refl;
+        reporting = refl;
         fits = λ fit. record {
           stopped = λ r. absurd (true≢false (sym r ∙ ap is_some (none_zombie w is)));
           job = λ j. refl;

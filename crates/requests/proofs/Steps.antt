@@ -78,7 +78,7 @@ choose false x y R h k = k
 pub sigaction_sound : (m : Machine) (u n sig : ℕ) (d : Disposition) → sound m ≡ true → sound (step u (op.Sigaction n sig d) m).machine ≡ true
 sigaction_sound m u n sig d is = checked_sound u (op.Sigaction n sig d) m n is (λ p c. after_sound m (sigaction p sig d m.rows) is
     (choose (not (is_signal sig) || (((sig == 9) || (sig == 17)) && not (is_default d))) (refuses EINVAL m.rows) _ (λ o. IsSound o.rows) (rows_sound m is)
-        (disposed_sound m.rows p.pid p (λ q. set_disposition q.dispositions sig d) (rows_sound m is) c.at c.live)))
+    (disposed_sound m.rows p.pid p (λ q. set_disposition q.dispositions sig d) (rows_sound m is) c.at c.live)))
 
 pub rows_after_sound : (rows : Rows) (caller : ℕ) (which : ℤ) (options : Options) → IsSound rows → IsSound (rows_after caller which options rows)
 rows_after_sound rows caller which options s = by_report (reported caller which options rows) refl
