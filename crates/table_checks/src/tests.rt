@@ -19,7 +19,7 @@ fn mixed_edits_of_three_users_agree(rt: HostRuntime) -> Result<(), Fail> {
         both.edit(&rt, users.as_slice())?;
         most.0 = most.0.max(both.plain.processes.len());
         most.1 = most.1.max(both.plain.lwps.len());
-        if turn % 16 == 0 {
+        if turn % 4 == 0 {
             agree::all(&rt, &both.tables, &both.plain, users.as_slice())?;
             agree::user(&rt, &both.tables, &both.plain, idle);
         }
@@ -111,7 +111,7 @@ fn a_table_of_lwps_alone_agrees(rt: HostRuntime) -> Result<(), Fail> {
     let mut dice = Dice::new(11);
     for turn in 0..4000 {
         edit_lwps(&rt, &mut table, &mut rows, &mut dice)?;
-        if turn % 8 == 0 {
+        if turn % 4 == 0 {
             agree::lwp_table(&rt, &table, rows.as_slice(), users.as_slice());
         }
     }
