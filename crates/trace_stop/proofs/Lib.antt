@@ -13,3 +13,4 @@ pub mod Stopping
 pub mod Single
 pub mod Stops
 pub mod Settling
+pub mod Ending
