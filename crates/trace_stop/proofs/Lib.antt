@@ -26,3 +26,4 @@ pub mod Stopping
 pub mod Single
 pub mod Stops
 pub mod Settling
+pub mod Ending
