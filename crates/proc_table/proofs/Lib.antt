@@ -14,3 +14,6 @@ pub mod NextOf
 pub mod Seen
 pub mod Least
 pub mod OwnRows
+pub mod LwpWalk
+pub mod Changes
+pub mod Stays
