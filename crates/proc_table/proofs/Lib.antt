@@ -20,3 +20,6 @@ pub mod Laced
 pub mod Tied
 pub mod Least
 pub mod OwnRows
+pub mod LwpWalk
+pub mod Changes
+pub mod Stays

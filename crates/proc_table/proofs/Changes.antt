@@ -1,0 +1,173 @@
+-- Changes of a process, of an LWP, and of a process with its LWPs, as edits of single rows.
+use Rattle.std.proofs.Common.{◌≡◌, ℕ, true, false, List, [], ◌∷◌, map, refl, sym, ap, ◌∙◌, arith, inl, inr, cond, nat_eq, Option, Some, None}
+use Rattle.std.specs.Prelude.{filter_map}
+use Rattle.std.proofs.Math.Path.{fun_ext}
+use Rattle.std.proofs.lemmas.Bool.{cases_Bool}
+use Rattle.std.proofs.lemmas.Bool.Decides.{nat_tests}
+use Rattle.lwp_table.specs.declared.LwpData.{LwpData}
+use Rattle.lwp_table.specs.Lwps.{LacksLwp, Differ, lwp_of, put_lwp, with_lwp, without_lwp}
+use Rattle.proc_table.specs.declared.ProcData.{ProcData}
+use Rattle.proc_table.specs.Processes.{process_of}
+use Rattle.proc_table.specs.Rows.{Rows, change, change_process, change_lwp, remove_lwp, by_owner, is_numbered}
+use Rattle.proc_table.specs.Edits.{own_lwp, map_lwps}
+use Rattle.proc_table.specs.Kept.{AllAbove, Rise, put_process, set_process, set_lwp, drop_lwp}
+use Rattle.proc_table.proofs.Rows.{other_number, process_of-pid}
+
+pub map-id : {X : Type 0} (xs : List X) → map (λ x. x) xs ≡ xs
+map-id [] = refl
+map-id (x ∷ xs) = ap (λ ys. x ∷ ys) (map-id xs)
+
+pub filter_map-map : {X Y : Type 0} (f : X → Option Y) (g : X → Y) → ((x : X) → f x ≡ Some (g x)) → (xs : List X) → filter_map f xs ≡ map g xs
+filter_map-map f g same [] = refl
+filter_map-map f g same (x ∷ xs) = rw (same x, filter_map-map f g same xs) refl
+
+-- a process changed by its number, as the edit of its row
+module _ (pid : ℕ) (f : ProcData → ProcData) where
+  abbrev pub changed : ProcData → ProcData
+  changed q = cond (nat_eq q.pid pid) (f q) q
+
+  past : (new : ProcData) → new.pid ≡ pid → (qs : List ProcData) → AllAbove pid qs → map changed qs ≡ map (put_process new) qs
+  past new its [] a = refl
+  past new its (q ∷ qs) a =
+      let other : nat_eq q.pid pid ≡ false = grind (arith, nat_tests, a.0) in
+      let apart : nat_eq q.pid new.pid ≡ false = rw its other in
+      rw (other, apart, past new its qs a.1) refl
+
+  pub changed-at : (p : ProcData) (ps : List ProcData) → Rise ps → process_of pid ps ≡ Some p → (f p).pid ≡ pid → map changed ps ≡ map (put_process (f p)) ps
+  changed-at p [] r found its = refl
+  changed-at p (q ∷ qs) r found its = elim (cases_Bool (nat_eq q.pid pid)) [
+    | inl e ↦
+        let at : Some q ≡ Some p = rw e at found in
+        let same : q ≡ p = cc in
+        let number : q.pid ≡ pid = grind (arith, nat_tests) in
+        let here : nat_eq q.pid (f p).pid ≡ true = rw its e in
+        rw (e, here) (ap (λ x. f x ∷ map changed qs) same ∙ ap (λ xs. f p ∷ xs) (past (f p) its qs (rw (← number) r.0)))
+    | inr e ↦
+        let there : nat_eq q.pid (f p).pid ≡ false = rw its e in
+        rw (e, there) (ap (λ xs. q ∷ xs) (changed-at p qs r.1 (rw e at found) its))
+  ]
+
+-- and an LWP
+module _ (tid : ℕ) (f : LwpData → LwpData) where
+  abbrev pub changed_lwp : LwpData → LwpData
+  changed_lwp l = cond (nat_eq l.tid tid) (f l) l
+
+  past_lwp : (new : LwpData) → new.tid ≡ tid → (ls : List LwpData) → LacksLwp tid ls → map changed_lwp ls ≡ map (put_lwp new) ls
+  past_lwp new its [] a = refl
+  past_lwp new its (l ∷ ls) a =
+      let other : nat_eq l.tid tid ≡ false = other_number l.tid tid a.0 in
+      let apart : nat_eq l.tid new.tid ≡ false = rw its other in
+      rw (other, apart, past_lwp new its ls a.1) refl
+
+  pub changed_lwp-at : (k : LwpData) (ls : List LwpData) → Differ ls → lwp_of tid ls ≡ Some k → (f k).tid ≡ tid → map changed_lwp ls ≡ with_lwp (f k) ls
+  changed_lwp-at k [] d found its = refl
+  changed_lwp-at k (l ∷ ls) d found its = elim (cases_Bool (nat_eq l.tid tid)) [
+    | inl e ↦
+        let at : Some l ≡ Some k = rw e at found in
+        let same : l ≡ k = cc in
+        let number : l.tid ≡ tid = grind (arith, nat_tests) in
+        let here : nat_eq l.tid (f k).tid ≡ true = rw its e in
+        rw (e, here) (ap (λ x. f x ∷ map changed_lwp ls) same ∙ ap (λ xs. f k ∷ xs) (past_lwp (f k) its ls (rw (← number) d.0)))
+    | inr e ↦
+        let there : nat_eq l.tid (f k).tid ≡ false = rw its e in
+        rw (e, there) (ap (λ xs. l ∷ xs) (changed_lwp-at k ls d.1 (rw e at found) its))
+  ]
+
+pub change_process-at : (pid : ℕ) (f : ProcData → ProcData) (rows : Rows) (p : ProcData) → Rise rows.processes → process_of pid rows.processes ≡ Some p → (f p).pid ≡ pid
+    → change_process pid f rows ≡ set_process (f p) rows
+change_process-at pid f rows p r found its = ap (λ ps. record rows { processes = ps }) (changed-at pid f p rows.processes r found its)
+
+pub change_lwp-at : (tid : ℕ) (f : LwpData → LwpData) (rows : Rows) (k : LwpData) → Differ rows.lwps → lwp_of tid rows.lwps ≡ Some k → (f k).tid ≡ tid
+    → change_lwp tid f rows ≡ set_lwp (f k) rows
+change_lwp-at tid f rows k d found its = ap (λ ls. record rows { lwps = ls }) (changed_lwp-at tid f k rows.lwps d found its)
+
+-- a process and its LWPs changed, as an edit of its row and then of its LWPs
+module _ (pid : ℕ) (f : ProcData → ProcData) (g : ProcData → LwpData → LwpData) where
+  abbrev pub lwp_changed : ProcData → LwpData → Option LwpData
+  lwp_changed p l = Some (cond (nat_eq p.pid pid) (g p l) l)
+
+  by_found : (p : ProcData) (l : LwpData) (o : Option ProcData) (ps : List ProcData) → process_of pid ps ≡ Some p → process_of l.pid ps ≡ o
+      → by_owner lwp_changed l o ≡ Some (own_lwp pid (g p) l)
+  by_found p l None ps found at = elim (cases_Bool (nat_eq l.pid pid)) [
+    | inl e ↦ let same : l.pid ≡ pid = grind (arith, nat_tests) in absurd (let h : process_of pid ps ≡ None = rw (← same) at in cc)
+    | inr e ↦ rw e refl
+  ]
+  by_found p l (Some q) ps found at =
+      let named = process_of-pid l.pid q ps at in
+      elim (cases_Bool (nat_eq l.pid pid)) [
+        | inl e ↦
+            let same : l.pid ≡ pid = grind (arith, nat_tests) in
+            let its : process_of pid ps ≡ Some q = rw (← same) at in
+            let row : q ≡ p = cc in
+            let test : nat_eq q.pid pid ≡ true = rw named e in
+            rw (e, test) (ap (λ x. Some (g x l)) row)
+        | inr e ↦ let test : nat_eq q.pid pid ≡ false = rw named e in rw (e, test) refl
+      ]
+
+  pub change-at : (rows : Rows) (p : ProcData) → Rise rows.processes → process_of pid rows.processes ≡ Some p → (f p).pid ≡ pid
+      → change (is_numbered pid) f g rows ≡ map_lwps pid (g p) (set_process (f p) rows)
+  change-at rows p r found its =
+      ap (λ ps. record rows { processes = ps; lwps = filter_map (λ l. by_owner lwp_changed l (process_of l.pid rows.processes)) rows.lwps })
+      (filter_map-map (λ q. Some (changed pid f q)) (changed pid f) (λ q. refl) rows.processes ∙ changed-at pid f p rows.processes r found its)
+      ∙ ap (λ ls. record rows { processes = map (put_process (f p)) rows.processes; lwps = ls })
+      (filter_map-map (λ l. by_owner lwp_changed l (process_of l.pid rows.processes)) (own_lwp pid (g p)) (λ l. by_found p l (process_of l.pid rows.processes) rows.processes found refl) rows.lwps)
+
+-- a change of a process that isn't there
+absent : (n : ℕ) (q : ProcData) (m : ℕ) (ps : List ProcData) → process_of n ps ≡ None → process_of m ps ≡ Some q → nat_eq q.pid n ≡ false
+absent n q m [] none found = absurd (cc)
+absent n q m (p ∷ ps) none found = elim (cases_Bool (nat_eq p.pid n)) [
+  | inl e ↦ absurd (let h : Some p ≡ None = rw e at none in cc)
+  | inr e ↦ elim (cases_Bool (nat_eq p.pid m)) [
+    | inl k ↦ let its : Some p ≡ Some q = rw k at found in let same : p ≡ q = cc in rw (← same) e
+    | inr k ↦ absent n q m ps (rw e at none) (rw k at found)
+  ]
+]
+
+module _ (n : ℕ) (f : ProcData → ProcData) (g : ProcData → LwpData → LwpData) where
+  none-changed : (ps : List ProcData) → process_of n ps ≡ None → map (changed n f) ps ≡ ps
+  none-changed [] none = refl
+  none-changed (p ∷ ps) none = elim (cases_Bool (nat_eq p.pid n)) [
+    | inl e ↦ absurd (let h : Some p ≡ None = rw e at none in cc)
+    | inr e ↦ rw e (ap (λ xs. p ∷ xs) (none-changed ps (rw e at none)))
+  ]
+
+  none-own : (l : LwpData) (o : Option ProcData) (ps : List ProcData) → process_of n ps ≡ None → process_of l.pid ps ≡ o → by_owner (lwp_changed n f g) l o ≡ Some l
+  none-own l None ps none at = refl
+  none-own l (Some q) ps none at = rw (absent n q l.pid ps none at) refl
+
+  pub change-none : (rows : Rows) → process_of n rows.processes ≡ None → change (is_numbered n) f g rows ≡ rows
+  change-none rows none =
+      ap (λ ps. record rows { processes = ps; lwps = filter_map (λ l. by_owner (lwp_changed n f g) l (process_of l.pid rows.processes)) rows.lwps })
+      (filter_map-map (λ q. Some (changed n f q)) (changed n f) (λ q. refl) rows.processes ∙ none-changed rows.processes none)
+      ∙ ap (λ ls. record rows { lwps = ls })
+      (filter_map-map (λ l. by_owner (lwp_changed n f g) l (process_of l.pid rows.processes)) (λ l. l) (λ l. none-own l (process_of l.pid rows.processes) rows.processes none refl) rows.lwps ∙ map-id rows.lwps)
+
+-- the LWPs of a process left as they are
+pub map_lwps-none : (pid : ℕ) (rows : Rows) → map_lwps pid (λ l. l) rows ≡ rows
+map_lwps-none pid rows = ap (λ ls. record rows { lwps = ls }) (unchanged rows.lwps)
+  where
+    unchanged : (ls : List LwpData) → map (own_lwp pid (λ l. l)) ls ≡ ls
+    unchanged [] = refl
+    unchanged (l ∷ ls) = elim (cases_Bool (nat_eq l.pid pid)) [
+      | inl e ↦ rw e (ap (λ xs. l ∷ xs) (unchanged ls))
+      | inr e ↦ rw e (ap (λ xs. l ∷ xs) (unchanged ls))
+    ]
+
+-- an LWP taken out
+pub remove_lwp-is : (tid : ℕ) (rows : Rows) → remove_lwp tid rows ≡ drop_lwp tid rows
+remove_lwp-is tid rows = ap (λ ls. record rows { lwps = ls }) (gone rows.lwps)
+  where
+    gone : (ls : List LwpData) → filter_map (λ l. cond (nat_eq l.tid tid) None (Some l)) ls ≡ without_lwp tid ls
+    gone [] = refl
+    gone (l ∷ ls) = elim (cases_Bool (nat_eq l.tid tid)) [
+      | inl e ↦ rw e (gone ls)
+      | inr e ↦ rw e (ap (λ xs. l ∷ xs) (gone ls))
+    ]
+
+-- the row of a process edited, and then its LWPs
+pub change-done : (pid : ℕ) (f : ProcData → ProcData) (g : ProcData → LwpData → LwpData) (h : LwpData → LwpData) (p q : ProcData) (rows rows1 rows2 : Rows)
+    → Rise rows.processes → process_of pid rows.processes ≡ Some p → (f p).pid ≡ pid → q ≡ f p → rows1 ≡ set_process q rows → ((l : LwpData) → h l ≡ g p l) → rows2 ≡ map_lwps pid h rows1
+    → rows2 ≡ change (is_numbered pid) f g rows
+change-done pid f g h p q rows rows1 rows2 up at its row put same done =
+    done ∙ (ap (map_lwps pid h) (put ∙ ap (λ r. set_process r rows) row)
+    ∙ (ap (λ k. map_lwps pid k (set_process (f p) rows)) (fun_ext same) ∙ sym (change-at pid f g rows p up at its)))
