@@ -14,3 +14,4 @@ pub mod Single
 pub mod Stops
 pub mod Settling
 pub mod Ending
+pub mod Distances
