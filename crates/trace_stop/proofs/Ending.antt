@@ -13,7 +13,7 @@ use Rattle.lwp_table.specs.declared.Due.TheVariants.{VforkDone}
 use Rattle.proc_table.specs.declared.ProcData.{ProcData}
 use Rattle.proc_table.specs.declared.State.{State}
 use Rattle.proc_table.specs.declared.State.TheVariants.{Run, Trace, Job, Zombie}
-use Rattle.proc_table.specs.Processes.{is_live, is_zombie_state, reporting, named_by, is_this, process_of}
+use Rattle.proc_table.specs.Processes.{is_live, is_zombie_state, is_job_state, is_run_state, reporting, named_by, is_this, process_of}
 use Rattle.proc_table.specs.Rows.{Rows, owner, by_owner, each}
 use Rattle.proc_table.specs.Fresh.{lwp_count}
 use Rattle.proc_table.specs.Kept.{Rise, AllAbove}
@@ -159,3 +159,245 @@ module _ (rows : Rows) (ends : ProcData → Bool) (over : ℕ → Bool) (p statu
   named_on q tid fact e is = any_forward (λ l. (l.tid == tid) && (l.pid == q.pid)) (λ l. (l.tid == tid) && (l.pid == q.pid)) (λ l. Unit {0}) to_lwp (λ l u h.
       let own = and_right (l.tid == tid) (l.pid == q.pid) h in
       (released over q l, own_lwp q l fact e (eqb-true l.pid q.pid own), both ((released over q l).tid == tid) ((released over q l).pid == q.pid) (ap (λ n. n == tid) (released_same q l).0 ∙ and_left (l.tid == tid) (l.pid == q.pid) h) (ap (λ n. n == q.pid) (released_same q l).1 ∙ own))) rows.lwps (All-any (λ l. Unit {0}) (λ l. tt) rows.lwps) is
+
+  -- links after the end
+  unless_at : (o : Option ℕ) (t : ℕ) → unless over o ≡ Some t → (o ≡ Some t) × (over t ≡ false)
+  unless_at None t is = absurd (grind (arith, is))
+  unless_at (Some n) t is = by_over (over n) refl is
+    where
+      by_over : (b : Bool) → over n ≡ b → (if b then None else Some n) ≡ Some t → (Some n ≡ Some t) × (over t ≡ false)
+      by_over true e h = absurd (grind (arith, h))
+      by_over false e h = (h, subst (λ m. over m ≡ false) (some_is n t h) e)
+
+  tracer_left : (u : ℕ) (o : Option ℕ) → IfSome o (IsLiveOf rows u) → IfSome (unless over o) (IsLiveOf after u)
+  tracer_left u None live = tt
+  tracer_left u (Some t) live = by_over (over t) refl
+    where
+      by_over : (b : Bool) → over t ≡ b → IfSome (if b then None else Some t) (IsLiveOf after u)
+      by_over true e = tt
+      by_over false e = live_on u t e live
+
+  parent_left : (u n : ℕ) → (n ≢ 1 → IsLiveOf rows u n) → (if over n then 1 else n) ≢ 1 → IsLiveOf after u (if over n then 1 else n)
+  parent_left u n live = by_over (over n) refl
+    where
+      by_over : (b : Bool) → over n ≡ b → (if b then 1 else n) ≢ 1 → IsLiveOf after u (if b then 1 else n)
+      by_over true e ne = absurd (ne refl)
+      by_over false e ne = live_on u n e (live ne)
+
+  tracer_sub : (q : ProcData) (t : ℕ) → IfSome (to q) (λ r. r.tracer ≡ Some t → q.tracer ≡ Some t)
+  tracer_sub q t = by_case R q (λ e. if_left (dead (last q) (orphaned over q)) R tt (λ left is. (unless_at q.tracer t is).0)) (λ e live is. is) (λ e zombie. if_left (orphaned over q) R tt (λ left is. (unless_at q.tracer t is).0))
+    where
+      R : Option ProcData → Type 0
+      R o = IfSome o (λ r. r.tracer ≡ Some t → q.tracer ≡ Some t)
+
+  tracer_before : (n t : ℕ) → tracer_of after.processes n ≡ Some t → tracer_of rows.processes n ≡ Some t
+  tracer_before n t is = at_row (process_of n after.processes) refl is
+    where
+      at_row : (o : Option ProcData) → process_of n after.processes ≡ o → tracer_in o ≡ Some t → tracer_of rows.processes n ≡ Some t
+      at_row None e k = absurd (grind (arith, k))
+      at_row (Some r) e k =
+          let x = process_from to (λ q. If_more _ (λ z. z.pid ≡ q.pid) (λ z h. h.0) (to q) (same_row q)) n rows.processes r s.stands.rising e in
+          ap tracer_in x.at ∙ if_at (λ z. z.tracer ≡ Some t → x.was.tracer ≡ Some t) (to x.was) r x.to (tracer_sub x.was t) k
+
+  chain : (q : ProcData) → Fact rows ends over q → meets 250 after.processes q.pid q.pid ≡ false
+  chain q fact = no_ring rows.processes after.processes tracer_before 250 q.pid fact.link.chain
+
+  zombie_quiet : (q : ProcData) → is_live q ≡ false → reporting q ≡ None
+  zombie_quiet q no_longer = by_state q.state no_longer
+    where
+      by_state : (x : State) → not (is_zombie_state x) ≡ false → named_by x ≡ None
+      by_state Run is = refl
+      by_state (Trace tid sig seen) is = absurd (true≢false is)
+      by_state (Job sig seen) is = refl
+      by_state (Zombie w) is = refl
+
+  linked_row : (q : ProcData) → Fact rows ends over q → IfSome (to q) (Linked after)
+  linked_row q fact = by_case (λ o. IfSome o (Linked after)) q
+      (λ e. if_left (dead (last q) (orphaned over q)) (λ o. IfSome o (Linked after)) tt (λ left. record {
+        tracer = tracer_left q.uid q.tracer fact.link.tracer;
+        parent = parent_left q.uid q.parent fact.link.parent;
+        chain = chain q fact;
+        named = tt;
+        peopled = λ live. absurd (true≢false (sym live));
+      }))
+      (λ e live. record {
+        tracer = still q.tracer fact.link.tracer (fact.end.kept live e);
+        parent = parent_left q.uid q.parent fact.link.parent;
+        chain = chain q fact;
+        named = If_more (λ tid. names_own rows q tid ≡ true) (λ tid. names_own after q tid ≡ true) (λ tid. named_on q tid fact e) (reporting q) fact.link.named;
+        peopled = λ again. let some = fact.link.peopled live in let more = count_on q fact e in omega (arith, some, more);
+      })
+      (λ e zombie. if_left (orphaned over q) (λ o. IfSome o (Linked after)) tt (λ left. record {
+        tracer = tracer_left q.uid q.tracer fact.link.tracer;
+        parent = parent_left q.uid q.parent fact.link.parent;
+        chain = chain q fact;
+        named = subst (λ o. IfSome o (λ tid. names_own after q tid ≡ true)) (sym (zombie_quiet q zombie)) tt;
+        peopled = λ live. absurd (true≢false (sym live ∙ zombie));
+      }))
+    where
+      still : (o : Option ℕ) → IfSome o (IsLiveOf rows q.uid) → IfSome o (λ t. over t ≡ false) → IfSome o (IsLiveOf after q.uid)
+      still None live spared = tt
+      still (Some t) live spared = live_on q.uid t spared live
+
+  linked_after : AllByRecursion (Linked after) after.processes
+  linked_after = All-edit to (Fact rows ends over) (Linked after) linked_row rows.processes facts
+
+  -- rows by themselves after the end
+  last_word : (q : ProcData) → is_end (last q) ≡ true
+  last_word q = by_number (q.pid == p)
+    where
+      by_number : (b : Bool) → is_end (if b then status else SIGKILL) ≡ true
+      by_number true = word
+      by_number false = refl
+
+  none_of : (o : Option ℕ) → is_some o ≡ true → o ≡ None → ⊥
+  none_of o is none = true≢false (sym is ∙ ap is_some none)
+
+  fit_row : (q : ProcData) → Fact rows ends over q → IfSome (to q) FitProcess
+  fit_row q fact = by_case (λ o. IfSome o FitProcess) q
+      (λ e. if_left (dead (last q) (orphaned over q)) (λ o. IfSome o FitProcess) tt (λ left. record {
+        stopped = λ is. absurd (true≢false (sym is));
+        job = λ is. absurd (true≢false (sym is));
+        continued = λ is. absurd (true≢false (sym is));
+        untraced = λ none. record { mask = refl; pending = zero_apart (unwanted (dead (last q) (orphaned over q))) };
+        ended = record { word = last_word q; mask = refl; pending = refl; collector = left };
+      }))
+      (λ e live. record {
+        stopped = fact.fit.stopped;
+        job = fact.fit.job;
+        continued = fact.fit.continued;
+        untraced = λ none. let was = fact.fit.untraced none in record { mask = was.mask; pending = was.pending };
+        ended = live_fits (heir q) q.state (live_state q live);
+      })
+      (λ e zombie. if_left (orphaned over q) (λ o. IfSome o FitProcess) tt (λ left.
+        let z = zombie_ended q q.state (is_zombie q zombie) in
+        let end : Ended q z.0 = subst (IfEnded q) z.1 fact.fit.ended in
+        record {
+          stopped = λ is. absurd (true≢false (sym is ∙ ap is_some (zombie_quiet q zombie)));
+          job = λ is. absurd (true≢false (sym is ∙ ap is_job_state z.1));
+          continued = λ on. absurd (true≢false (sym (fact.fit.continued on).1 ∙ ap is_run_state z.1));
+          untraced = λ none. record { mask = end.mask; pending = subst (λ n. bit_and n (unwanted (orphaned over q)) ≡ 0) (sym end.pending) (zero_apart (unwanted (orphaned over q))) };
+          ended = subst (IfEnded (orphaned over q)) (sym z.1) (record { word = end.word; mask = end.mask; pending = end.pending; collector = left });
+        }))
+    where
+      is_zombie : (x : ProcData) → is_live x ≡ false → is_zombie_state x.state ≡ true
+      is_zombie x e = by_test (is_zombie_state x.state) e
+        where
+          by_test : (b : Bool) → not b ≡ false → b ≡ true
+          by_test true h = refl
+          by_test false h = absurd (true≢false h)
+
+  -- LWPs after the end
+  released_fits : (q : ProcData) (l : LwpData) → FitLwp q l → FitLwp (heir q) (released over q l)
+  released_fits q l fit = by_wait (waits_where over l.mode)
+    where
+      by_wait : (b : Bool) → FitLwp (heir q) (if b then record l { mode = User; due = if is_some q.tracer && asks q.mask PTRACE_VFORK then VforkDone else l.due } else l)
+      by_wait false = record { untraced = λ none. let was = fit.untraced none in record { due = was.due; stepping = was.stepping; suspended = was.suspended; pending = was.pending }; silent = fit.silent; blocked = fit.blocked }
+      by_wait true = record {
+        untraced = λ none. let was = fit.untraced none in record {
+          due = subst (λ o. is_due (if is_some o && asks q.mask PTRACE_VFORK then VforkDone else l.due) ≡ false) (sym none) was.due;
+          stepping = was.stepping; suspended = was.suspended; pending = was.pending };
+        silent = λ off. let was = fit.silent off in record { flags = was.flags; child = was.child; code = was.code };
+        blocked = fit.blocked;
+      }
+
+  released_flags : (q : ProcData) (l : LwpData) → (released over q l).flags ≡ l.flags
+  released_flags q l = by_wait (waits_where over l.mode)
+    where
+      by_wait : (b : Bool) → (if b then record l { mode = User; due = if is_some q.tracer && asks q.mask PTRACE_VFORK then VforkDone else l.due } else l).flags ≡ l.flags
+      by_wait true = refl
+      by_wait false = refl
+
+  released_waits : (q : ProcData) (l : LwpData) → IfSome (waited_for l.mode) (IsLiveOf rows q.uid) → IfSome (waited_for (released over q l).mode) (IsLiveOf after q.uid)
+  released_waits q l live = by_mode l.mode refl live
+    where
+      by_over : (c : ℕ) → l.mode ≡ VforkWait c → IsLiveOf rows q.uid c → (b : Bool) → over c ≡ b → IfSome (waited_for (if b then record l { mode = User; due = if is_some q.tracer && asks q.mask PTRACE_VFORK then VforkDone else l.due } else l).mode) (IsLiveOf after q.uid)
+      by_over c is h true e = tt
+      by_over c is h false e = subst (λ m. IfSome (waited_for m) (IsLiveOf after q.uid)) (sym is) (live_on q.uid c e h)
+
+      by_mode : (m : Mode) → l.mode ≡ m → IfSome (waited_for m) (IsLiveOf rows q.uid) → IfSome (waited_for (if waits_where over l.mode then record l { mode = User; due = if is_some q.tracer && asks q.mask PTRACE_VFORK then VforkDone else l.due } else l).mode) (IsLiveOf after q.uid)
+      by_mode User is h = rw is tt
+      by_mode (InCall call) is h = rw is tt
+      by_mode (VforkWait c) is h = subst (λ b. IfSome (waited_for (if b then record l { mode = User; due = if is_some q.tracer && asks q.mask PTRACE_VFORK then VforkDone else l.due } else l).mode) (IsLiveOf after q.uid)) (sym (ap (waits_where over) is)) (by_over c is h (over c) refl)
+
+  abbrev Beside : LwpData → Type 0
+  Beside l = WithOwner rows FitLwp l × WithOwner rows (Standing rows) l
+
+  besides : AllByRecursion Beside rows.lwps
+  besides = All-both (WithOwner rows FitLwp) (WithOwner rows (Standing rows)) rows.lwps s.lwps s.stands.standing
+
+  lwp_of_ended : (l : LwpData) (q : ProcData) → process_of l.pid rows.processes ≡ Some q → ends q ≡ true → to_lwp l ≡ None
+  lwp_of_ended l q at e = ap (by_owner (lwp_after ends over) l) at ∙ rw e refl
+
+  -- an LWP that is left, and its process
+  record Left (l k : LwpData) (q r : ProcData) : Type 0 where
+    pub stays : ends q ≡ false
+    pub lwp : released over q l ≡ k
+    pub row : heir q ≡ r
+
+  left_both : (l k : LwpData) (q r : ProcData) → Beside l → process_of l.pid rows.processes ≡ Some q → to q ≡ Some r → to_lwp l ≡ Some k → Left l k q r
+  left_both l k q r b at is to_k = by_end (ends q) refl
+    where
+      none_some : None ≡ Some k → ⊥
+      none_some e = grind (arith, e)
+
+      by_end : (c : Bool) → ends q ≡ c → Left l k q r
+      by_end true e = absurd (none_some (sym (lwp_of_ended l q at e) ∙ to_k))
+      by_end false e = record {
+        stays = e;
+        lwp = some_is (released over q l) k (sym (ap (by_owner (lwp_after ends over) l) at ∙ rw e refl) ∙ to_k);
+        row = some_is (heir q) r (sym (lives_on q e (b.1 q at).live) ∙ is);
+      }
+
+  gone : (l : LwpData) (q : ProcData) → Beside l → process_of l.pid rows.processes ≡ Some q → to q ≡ None → to_lwp l ≡ None
+  gone l q b at none = by_end (ends q) refl
+    where
+      none_some : None ≡ Some (heir q) → ⊥
+      none_some e = grind (arith, e)
+
+      by_end : (c : Bool) → ends q ≡ c → to_lwp l ≡ None
+      by_end true e = lwp_of_ended l q at e
+      by_end false e = absurd (none_some (sym none ∙ lives_on q e (b.1 q at).live))
+
+  standing_row : (l k : LwpData) (q r : ProcData) → Beside l → process_of l.pid rows.processes ≡ Some q → to q ≡ Some r → to_lwp l ≡ Some k → Standing after r k
+  standing_row l k q r b at is to_k =
+      let x = left_both l k q r b at is to_k in
+      let stood = b.1 q at in
+      let fact = fact_of l.pid q at in
+      subst (λ j. Standing after r j) x.lwp (subst (λ z. Standing after z (released over q l)) x.row (record {
+        live = stood.live;
+        exited = λ shown. let few = stood.exited (subst (λ f. shows f PL_FLAG_EXITED ≡ true) (released_flags q l) shown) in let more = count_on q fact x.stays in omega (arith, few, more);
+        waits = released_waits q l stood.waits;
+      }))
+
+  fit_lwp_row : (l k : LwpData) (q r : ProcData) → Beside l → process_of l.pid rows.processes ≡ Some q → to q ≡ Some r → to_lwp l ≡ Some k → FitLwp r k
+  fit_lwp_row l k q r b at is to_k = let x = left_both l k q r b at is to_k in subst (λ j. FitLwp r j) x.lwp (subst (λ z. FitLwp z (released over q l)) x.row (released_fits q l (b.0 q at)))
+
+  each_sound : IsSound after
+  each_sound = record {
+    stands = edited_stands rows to to_lwp same Beside gone besides s.stands linked_after (owners_after rows to to_lwp same Beside (Standing after) gone standing_row s.stands.housed besides);
+    processes = All-edit to (Fact rows ends over) FitProcess fit_row rows.processes facts;
+    lwps = owners_after rows to to_lwp same Beside FitLwp gone fit_lwp_row s.stands.housed besides;
+  }
+
+  -- who is told
+  may_tell : (z : ProcData) → Linked after z → MayTell after (collector z)
+  may_tell z link = by_tracer z.tracer link.tracer
+    where
+      by_tracer : (o : Option ℕ) → IfSome o (IsLiveOf after z.uid) → MayTell after (unwrap_or o z.parent)
+      by_tracer None live = λ ne. live_told after z.uid z.parent (link.parent ne) ne
+      by_tracer (Some t) live = live_told after z.uid t live
+
+  told_row : (q : ProcData) → Fact rows ends over q → IfSome (told_of ends over p status q) (MayTell after)
+  told_row q fact = by_test (ends q || (not (is_live q) && holds_of over q.tracer))
+    where
+      by_row : (o : Option ProcData) → IfSome o (Linked after) → IfSome (option_map collector o) (MayTell after)
+      by_row None link = tt
+      by_row (Some z) link = may_tell z link
+
+      by_test : (b : Bool) → IfSome (if b then option_map collector (to q) else None) (MayTell after)
+      by_test true = by_row (to q) (linked_row q fact)
+      by_test false = tt
+
+  pub end_each_sound : IsSound (end_each ends over p status rows)
+  end_each_sound = notified_sound after (filter_map (told_of ends over p status) rows.processes) each_sound (All-edit (told_of ends over p status) (Fact rows ends over) (MayTell after) told_row rows.processes facts)

@@ -27,3 +27,4 @@ pub mod Single
 pub mod Stops
 pub mod Settling
 pub mod Ending
+pub mod Distances
