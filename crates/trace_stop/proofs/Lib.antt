@@ -22,3 +22,5 @@ pub mod Bits
 pub mod Changes
 pub mod Posting
 pub mod Freed
+pub mod Runs
+pub mod Told
