@@ -24,3 +24,4 @@ pub mod Posting
 pub mod Freed
 pub mod Runs
 pub mod Told
+pub mod Stopped

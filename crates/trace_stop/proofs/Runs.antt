@@ -1,5 +1,5 @@
 -- A stopped process runs on: its reporting LWP, and its LWPs.
-use Rattle.std.proofs.Common.{◌≡◌, ℕ, Bool, true, false, List, [], ◌∷◌, map, refl, sym, ap, ◌∙◌, arith, inl, inr, cond, nat_eq, Option, Some, None}
+use Rattle.std.proofs.Common.{◌≡◌, ℕ, Bool, true, false, List, [], ◌∷◌, map, refl, ap, ◌∙◌, arith, inl, inr, cond, nat_eq, Option, Some, None}
 use Rattle.std.specs.Prelude.{filter_map, option_map}
 use Rattle.std.proofs.lemmas.Bool.{cases_Bool}
 use Rattle.std.proofs.lemmas.Bool.Decides.{nat_tests}
@@ -75,6 +75,7 @@ module _ (pid tid : ℕ) (p : ProcData) (g : LwpData → LwpData) (h : LwpData �
           let lacks : LacksLwp l.tid ls = rw its a in
           let here : nat_eq l.pid pid ≡ true = rw its_own (same_number pid) in
           rw (stays, test, unput (unreported l) ls lacks, here) (ap (λ xs. g (unreported l) ∷ xs) (quiet ls a))
+
       later : (l : LwpData) (b : Bool) → l.tid ≡ tid → (x : LwpData) (ls : List LwpData) → nat_eq x.tid tid ≡ false → h x ≡ Some (own_lwp pid g x) → filter_map h ls ≡ map (own_lwp pid g) (dropped b l ls)
           → filter_map h (x ∷ ls) ≡ map (own_lwp pid g) (dropped b l (x ∷ ls))
       later l true its x ls k same rest = let test : nat_eq x.tid l.tid ≡ false = rw its k in rw (same, test) (ap (λ xs. own_lwp pid g x ∷ xs) rest)

@@ -1,5 +1,5 @@
 -- Who is told of a signal or a stop: one process, or none.
-use Rattle.std.proofs.Common.{◌≡◌, ℕ, Bool, false, List, [], ◌∷◌, refl, ap, ◌∙◌, arith, inl, inr, nat_eq, Option, Some, None}
+use Rattle.std.proofs.Common.{◌≡◌, ℕ, false, [], ◌∷◌, refl, ap, ◌∙◌, arith, inl, inr, nat_eq, Option, Some, None}
 use Rattle.std.specs.Prelude.{◌||◌, filter_map}
 use Rattle.std.proofs.Math.Path.{fun_ext}
 use Rattle.std.proofs.lemmas.Bool.{cases_Bool}
@@ -33,14 +33,7 @@ notified-none rows =
     same l None = refl
     same l (Some p) = refl
 
-pub posted_process-pid : (s : ℕ) (to : Option ℕ) (p : ProcData) → (posted_process s to p).pid ≡ p.pid
-posted_process-pid s to p = elim (cases_Bool (continues s p)) [ inl e ↦ rw e refl | inr e ↦ rw e refl ]
-
-pub posted_process-uid : (s : ℕ) (to : Option ℕ) (p : ProcData) → (posted_process s to p).uid ≡ p.uid
-posted_process-uid s to p = elim (cases_Bool (continues s p)) [ inl e ↦ rw e refl | inr e ↦ rw e refl ]
-
-pub posted_process-tracer : (s : ℕ) (to : Option ℕ) (p : ProcData) → (posted_process s to p).tracer ≡ p.tracer
-posted_process-tracer s to p = elim (cases_Bool (continues s p)) [ inl e ↦ rw e refl | inr e ↦ rw e refl ]
-
-pub posted_process-parent : (s : ℕ) (to : Option ℕ) (p : ProcData) → (posted_process s to p).parent ≡ p.parent
-posted_process-parent s to p = elim (cases_Bool (continues s p)) [ inl e ↦ rw e refl | inr e ↦ rw e refl ]
+-- a process keeps its numbers, and whom it names
+pub posted_process-same : (s : ℕ) (to : Option ℕ) (p : ProcData)
+    → ((posted_process s to p).pid ≡ p.pid) × ((posted_process s to p).uid ≡ p.uid) × ((posted_process s to p).tracer ≡ p.tracer) × ((posted_process s to p).parent ≡ p.parent)
+posted_process-same s to p = elim (cases_Bool (continues s p)) [ inl e ↦ rw e (refl, refl, refl, refl) | inr e ↦ rw e (refl, refl, refl, refl) ]
