@@ -28,3 +28,6 @@ pub mod Stops
 pub mod Settling
 pub mod Ending
 pub mod Distances
+pub mod Runs
+pub mod Told
+pub mod Stopped

@@ -1,0 +1,122 @@
+-- A stopped process runs on: its reporting LWP, and its LWPs.
+use Rattle.std.proofs.Common.{◌≡◌, ℕ, Bool, true, false, List, [], ◌∷◌, map, refl, ap, ◌∙◌, arith, inl, inr, cond, nat_eq, Option, Some, None}
+use Rattle.std.specs.Prelude.{filter_map, option_map}
+use Rattle.std.proofs.lemmas.Bool.{cases_Bool}
+use Rattle.std.proofs.lemmas.Bool.Decides.{nat_tests}
+use Rattle.event_masks.specs.Exits.{shows}
+use Rattle.event_masks.specs.declared.TheConstants.StopFlags.{PL_FLAG_EXITED}
+use Rattle.lwp_table.specs.declared.LwpData.{LwpData}
+use Rattle.lwp_table.specs.Lwps.{LacksLwp, Differ, lwp_of, with_lwp, without_lwp}
+use Rattle.proc_table.specs.declared.ProcData.{ProcData}
+use Rattle.proc_table.specs.Processes.{process_of, reporting}
+use Rattle.proc_table.specs.Rows.{Rows, by_owner, is_numbered}
+use Rattle.proc_table.specs.Edits.{own_lwp, map_lwps}
+use Rattle.proc_table.specs.Kept.{IsKept, put_process, set_process}
+use Rattle.proc_table.proofs.Rows.{same_number, other_number, process_of-pid, lwp_of-tid}
+use Rattle.proc_table.proofs.LwpWalk.{unput}
+use Rattle.proc_table.proofs.Changes.{changed, changed-at, filter_map-map, map_lwps-none}
+use Rattle.trace_stop.specs.Free.{run_on, reported, resumed, running}
+use Rattle.trace_stop.specs.Reports.{IsStopped, unreported, report_dropped}
+
+-- the LWPs without what one of them has reported, and without it where it has exited
+abbrev pub dropped : Bool → LwpData → List LwpData → List LwpData
+dropped gone l ls = cond gone (without_lwp l.tid ls) (with_lwp (unreported l) ls)
+
+swapped : (m n : ℕ) (b : Bool) → nat_eq m n ≡ b → nat_eq n m ≡ b
+swapped m n true e = grind (arith, nat_tests)
+swapped m n false e = grind (arith, nat_tests)
+
+removed-none : (n : ℕ) (ls : List LwpData) → LacksLwp n ls → without_lwp n ls ≡ ls
+removed-none n [] a = refl
+removed-none n (l ∷ ls) a = rw (other_number l.tid n a.0, removed-none n ls a.1) refl
+
+module _ (pid tid : ℕ) (p : ProcData) (g : LwpData → LwpData) (h : LwpData → Option LwpData)
+    (reports : reporting p ≡ Some tid)
+    (mine : (x : LwpData) → nat_eq x.pid pid ≡ true → h x ≡ option_map g (reported p x))
+    (others : (x : LwpData) → nat_eq x.pid pid ≡ false → h x ≡ Some x) where
+  silent : (x : LwpData) → nat_eq x.tid tid ≡ false → h x ≡ Some (own_lwp pid g x)
+  silent x e = elim (cases_Bool (nat_eq x.pid pid)) [
+    | inl k ↦ mine x k ∙ (rw (reports, swapped x.tid tid false e, k) refl)
+    | inr k ↦ others x k ∙ (rw k refl)
+  ]
+
+  quiet : (ls : List LwpData) → LacksLwp tid ls → filter_map h ls ≡ map (own_lwp pid g) ls
+  quiet [] a = refl
+  quiet (x ∷ ls) a = rw (silent x (other_number x.tid tid a.0), quiet ls a.1) refl
+
+  reporter : (l : LwpData) (b : Bool) → l.tid ≡ tid → l.pid ≡ pid → shows l.flags PL_FLAG_EXITED ≡ b → h l ≡ cond b None (Some (g (unreported l)))
+  reporter l b its own e =
+      let here : nat_eq l.pid pid ≡ true = rw own (same_number pid) in
+      let named : nat_eq tid l.tid ≡ true = rw its (same_number tid) in
+      mine l here ∙ (rw (reports, named) (at b e))
+    where
+      at : (b : Bool) → shows l.flags PL_FLAG_EXITED ≡ b → option_map g (cond (shows l.flags PL_FLAG_EXITED) None (Some (unreported l))) ≡ cond b None (Some (g (unreported l)))
+      at true e = rw e refl
+      at false e = rw e refl
+
+  pub reported-lwps : (l : LwpData) (b : Bool) → l.tid ≡ tid → l.pid ≡ pid → shows l.flags PL_FLAG_EXITED ≡ b → (ls : List LwpData) → Differ ls → lwp_of tid ls ≡ Some l
+      → filter_map h ls ≡ map (own_lwp pid g) (dropped b l ls)
+  reported-lwps l b its own e [] d found = absurd (cc)
+  reported-lwps l b its own_ e (x ∷ ls) d found = elim (cases_Bool (nat_eq x.tid tid)) [
+    | inl k ↦ let at : Some x ≡ Some l = rw k at found in let same : x ≡ l = cc in first l b its own_ e x ls same (rw (same, its) at d.0)
+    | inr k ↦ later l b its x ls k (silent x k) (reported-lwps l b its own_ e ls d.1 (rw k at found))
+  ]
+    where
+      first : (l : LwpData) (b : Bool) → l.tid ≡ tid → l.pid ≡ pid → shows l.flags PL_FLAG_EXITED ≡ b → (x : LwpData) (ls : List LwpData) → x ≡ l → LacksLwp tid ls
+          → filter_map h (x ∷ ls) ≡ map (own_lwp pid g) (dropped b l (x ∷ ls))
+      first l true its its_own e x ls same a =
+          let gone : h x ≡ None = ap h same ∙ reporter l true its its_own e in
+          let test : nat_eq x.tid l.tid ≡ true = rw same (same_number l.tid) in
+          let lacks : LacksLwp l.tid ls = rw its a in
+          rw (gone, test, removed-none l.tid ls lacks) (quiet ls a)
+      first l false its its_own e x ls same a =
+          let stays : h x ≡ Some (g (unreported l)) = ap h same ∙ reporter l false its its_own e in
+          let test : nat_eq x.tid l.tid ≡ true = rw same (same_number l.tid) in
+          let lacks : LacksLwp l.tid ls = rw its a in
+          let here : nat_eq l.pid pid ≡ true = rw its_own (same_number pid) in
+          rw (stays, test, unput (unreported l) ls lacks, here) (ap (λ xs. g (unreported l) ∷ xs) (quiet ls a))
+
+      later : (l : LwpData) (b : Bool) → l.tid ≡ tid → (x : LwpData) (ls : List LwpData) → nat_eq x.tid tid ≡ false → h x ≡ Some (own_lwp pid g x) → filter_map h ls ≡ map (own_lwp pid g) (dropped b l ls)
+          → filter_map h (x ∷ ls) ≡ map (own_lwp pid g) (dropped b l (x ∷ ls))
+      later l true its x ls k same rest = let test : nat_eq x.tid l.tid ≡ false = rw its k in rw (same, test) (ap (λ xs. own_lwp pid g x ∷ xs) rest)
+      later l false its x ls k same rest = let test : nat_eq x.tid l.tid ≡ false = rw its k in rw (same, test) (ap (λ xs. own_lwp pid g x ∷ xs) rest)
+
+module _ (pid : ℕ) (f : ProcData → ProcData) (g : ProcData → LwpData → LwpData) where
+  abbrev runs : ProcData → LwpData → Option LwpData
+  runs q x = cond (nat_eq q.pid pid) (option_map (g q) (reported q x)) (Some x)
+
+  its : (p : ProcData) (ps : List ProcData) → process_of pid ps ≡ Some p → (x : LwpData) → nat_eq x.pid pid ≡ true → by_owner runs x (process_of x.pid ps) ≡ option_map (g p) (reported p x)
+  its p ps at x e =
+      let same : x.pid ≡ pid = grind (arith, nat_tests) in
+      let owner : process_of x.pid ps ≡ Some p = ap (λ n. process_of n ps) same ∙ at in
+      let test : nat_eq p.pid pid ≡ true = rw (process_of-pid pid p ps at) (same_number pid) in
+      rw owner (rw test refl)
+
+  not_its : (ps : List ProcData) (x : LwpData) → nat_eq x.pid pid ≡ false → by_owner runs x (process_of x.pid ps) ≡ Some x
+  not_its ps x e = of_found (process_of x.pid ps) refl
+    where
+      of_found : (o : Option ProcData) → process_of x.pid ps ≡ o → by_owner runs x o ≡ Some x
+      of_found None k = refl
+      of_found (Some q) k = let test : nat_eq q.pid pid ≡ false = rw (process_of-pid x.pid q ps k) e in rw test refl
+
+  pub run_on-at : (rows : Rows) (s : IsStopped pid rows) → IsKept rows → (f s.p).pid ≡ pid
+      → run_on (is_numbered pid) f g rows ≡ map_lwps pid (g s.p) (report_dropped (Some s.l) (set_process (f s.p) rows))
+  run_on-at rows s k named =
+      let ps = rows.processes in
+      let tid = lwp_of-tid s.tid s.l rows.lwps s.named in
+      ap (λ qs. record rows { processes = qs; lwps = filter_map (λ x. by_owner runs x (process_of x.pid ps)) rows.lwps })
+      (filter_map-map (λ q. Some (changed pid f q)) (changed pid f) (λ q. refl) ps ∙ changed-at pid f s.p ps k.rising s.at named)
+      ∙ (ap (λ ls. record rows { processes = map (put_process (f s.p)) ps; lwps = ls })
+      (reported-lwps pid s.tid s.p (g s.p) (λ x. by_owner runs x (process_of x.pid ps)) s.reports (its s.p ps s.at) (not_its ps) s.l (shows s.l.flags PL_FLAG_EXITED) tid s.own refl rows.lwps k.differ s.named)
+      ∙ by_flag (shows s.l.flags PL_FLAG_EXITED) refl)
+    where
+      by_flag : (b : Bool) → shows s.l.flags PL_FLAG_EXITED ≡ b
+          → record rows { processes = map (put_process (f s.p)) rows.processes; lwps = map (own_lwp pid (g s.p)) (dropped b s.l rows.lwps) } ≡ map_lwps pid (g s.p) (report_dropped (Some s.l) (set_process (f s.p) rows))
+      by_flag true e = rw e refl
+      by_flag false e = rw e refl
+
+-- a resumed process
+pub resumed-at : (pid : ℕ) (rows : Rows) (s : IsStopped pid rows) → IsKept rows → resumed pid rows ≡ report_dropped (Some s.l) (set_process (running s.p) rows)
+resumed-at pid rows s kept =
+    run_on-at pid running (λ p l. l) rows s kept (process_of-pid pid s.p rows.processes s.at)
+    ∙ map_lwps-none pid (report_dropped (Some s.l) (set_process (running s.p) rows))

@@ -1,0 +1,43 @@
+-- A process in a trace stop is stopped by an LWP of its own.
+use Rattle.std.proofs.Common.{◌≡◌, ◌∙◌, ℕ, true, List, [], ◌∷◌, Some, None, refl, arith, inl, inr, nat_eq}
+use Rattle.std.specs.Prelude.{◌&&◌}
+use Rattle.std.specs.List.{list_any}
+use Rattle.std.proofs.lemmas.Bool.{cases_Bool}
+use Rattle.std.proofs.lemmas.Bool.Decides.{nat_tests}
+use Rattle.lwp_table.specs.declared.LwpData.{LwpData}
+use Rattle.lwp_table.specs.Lwps.{LacksLwp, Differ, lwp_of}
+use Rattle.proc_table.specs.declared.ProcData.{ProcData}
+use Rattle.proc_table.specs.Processes.{process_of, reporting}
+use Rattle.proc_table.specs.Rows.{Rows}
+use Rattle.proc_table.proofs.Every.{every_found}
+use Rattle.proc_table.proofs.Rows.{other_number, process_of-pid}
+use Rattle.trace_stop.specs.Sound.{names_own}
+use Rattle.trace_stop.specs.Facts.{Linked, Stands}
+use Rattle.trace_stop.specs.Reports.{IsStopped}
+
+none_there : (n : ℕ) (ls : List LwpData) → LacksLwp n ls → lwp_of n ls ≡ None
+none_there n [] lacks = refl
+none_there n (l ∷ ls) lacks = rw (other_number l.tid n lacks.0) (none_there n ls lacks.1)
+
+-- the LWP with the number is the process's, where one of the process's has it
+pub own_found : (tid pid : ℕ) (ls : List LwpData) → Differ ls → list_any (λ l. nat_eq l.tid tid && nat_eq l.pid pid) ls ≡ true → (l : LwpData) × (lwp_of tid ls ≡ Some l) × (l.pid ≡ pid)
+own_found tid pid [] d any = absurd (cc)
+own_found tid pid (l ∷ ls) d any = elim (cases_Bool (nat_eq l.tid tid)) [
+  | inl e ↦ elim (cases_Bool (nat_eq l.pid pid)) [
+    | inl k ↦ (l, rw e refl, grind (arith, nat_tests))
+    | inr k ↦ absurd (
+        let number : l.tid ≡ tid = grind (arith, nat_tests) in
+        let rest = own_found tid pid ls d.1 (rw (e, k) at any) in
+        let none : lwp_of tid ls ≡ None = none_there tid ls (rw number at d.0) in
+        let some : lwp_of tid ls ≡ Some rest.0 = rest.1 in
+        cc)
+  ]
+  | inr e ↦ rw e (own_found tid pid ls d.1 (rw e at any))
+]
+
+pub IsStopped-from : (pid tid : ℕ) (rows : Rows) (p : ProcData) → Stands rows → process_of pid rows.processes ≡ Some p → reporting p ≡ Some tid → IsStopped pid rows
+IsStopped-from pid tid rows p stands at reports =
+    let link = every_found (Linked rows) (λ q. nat_eq q.pid pid) rows.processes p stands.linked at in
+    let named : names_own rows p tid ≡ true = rw reports at link.named in
+    let l = own_found tid p.pid rows.lwps stands.differ named in
+    record { p = p; at = at; tid = tid; reports = reports; l = l.0; named = l.1; own = l.2 ∙ process_of-pid pid p rows.processes at }

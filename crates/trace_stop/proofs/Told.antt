@@ -1,0 +1,39 @@
+-- Who is told of a signal or a stop: one process, or none.
+use Rattle.std.proofs.Common.{◌≡◌, ℕ, false, [], ◌∷◌, refl, ap, ◌∙◌, arith, inl, inr, nat_eq, Option, Some, None}
+use Rattle.std.specs.Prelude.{◌||◌, filter_map}
+use Rattle.std.proofs.Math.Path.{fun_ext}
+use Rattle.std.proofs.lemmas.Bool.{cases_Bool}
+use Rattle.std.proofs.lemmas.Bool.Decides.{nat_tests}
+use Rattle.signals.specs.Table.{SIGCHLD}
+use Rattle.lwp_table.specs.declared.LwpData.{LwpData}
+use Rattle.proc_table.specs.declared.ProcData.{ProcData}
+use Rattle.proc_table.specs.Processes.{process_of}
+use Rattle.proc_table.specs.Rows.{Rows, change, by_owner, is_numbered}
+use Rattle.proc_table.proofs.Changes.{map-id, filter_map-map, change-none}
+use Rattle.trace_stop.specs.Post.{notified, posted_process, posted_lwp, continues}
+
+pub notified-one : (n : ℕ) (rows : Rows) → notified (n ∷ []) rows ≡ change (is_numbered n) (posted_process SIGCHLD None) (posted_lwp SIGCHLD None) rows
+notified-one n rows = ap (λ chosen. change chosen (posted_process SIGCHLD None) (posted_lwp SIGCHLD None) rows) (fun_ext (λ p. same p.pid))
+  where
+    same : (m : ℕ) → (nat_eq n m || false) ≡ nat_eq m n
+    same m = grind (arith, nat_tests)
+
+-- nobody is told where the number is no process's
+pub notified-absent : (n : ℕ) (rows : Rows) → process_of n rows.processes ≡ None → notified (n ∷ []) rows ≡ rows
+notified-absent n rows none = notified-one n rows ∙ change-none n (posted_process SIGCHLD None) (posted_lwp SIGCHLD None) rows none
+
+pub notified-none : (rows : Rows) → notified [] rows ≡ rows
+notified-none rows =
+    ap (λ ps. record rows { processes = ps; lwps = filter_map (λ l. by_owner (λ p k. Some k) l (process_of l.pid rows.processes)) rows.lwps })
+    (filter_map-map (λ q. Some q) (λ q. q) (λ q. refl) rows.processes ∙ map-id rows.processes)
+    ∙ ap (λ ls. record rows { lwps = ls })
+    (filter_map-map (λ l. by_owner (λ p k. Some k) l (process_of l.pid rows.processes)) (λ l. l) (λ l. same l (process_of l.pid rows.processes)) rows.lwps ∙ map-id rows.lwps)
+  where
+    same : (l : LwpData) (o : Option ProcData) → by_owner (λ p k. Some k) l o ≡ Some l
+    same l None = refl
+    same l (Some p) = refl
+
+-- a process keeps its numbers, and whom it names
+pub posted_process-same : (s : ℕ) (to : Option ℕ) (p : ProcData)
+    → ((posted_process s to p).pid ≡ p.pid) × ((posted_process s to p).uid ≡ p.uid) × ((posted_process s to p).tracer ≡ p.tracer) × ((posted_process s to p).parent ≡ p.parent)
+posted_process-same s to p = elim (cases_Bool (continues s p)) [ inl e ↦ rw e (refl, refl, refl, refl) | inr e ↦ rw e (refl, refl, refl, refl) ]
