@@ -15,3 +15,4 @@ pub mod Stops
 pub mod Settling
 pub mod Ending
 pub mod Distances
+pub mod Killing
