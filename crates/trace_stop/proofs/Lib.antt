@@ -16,3 +16,4 @@ pub mod Settling
 pub mod Ending
 pub mod Distances
 pub mod Killing
+pub mod Running
