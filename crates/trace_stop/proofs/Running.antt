@@ -12,8 +12,9 @@ use Rattle.proc_table.specs.Rows.{Rows, owner, by_owner, each}
 use Rattle.proc_table.specs.Fresh.{lwp_count}
 use Rattle.trace_stop.specs.End.{tracer_in, tracer_of, meets}
 use Rattle.trace_stop.specs.Free.{reported, run_on}
+use Rattle.trace_stop.specs.Sound.{names_own}
 use Rattle.trace_stop.specs.Facts.{IsLiveOf, Linked, FitProcess, waited_for, Standing, FitLwp, Silent, WithOwner, Stands, IsSound}
-use Rattle.trace_stop.proofs.Every.{and_left, and_right, both, by_bool, All-imply, All-both, All-edit, All-any, find_some, any_holds, count-cons}
+use Rattle.trace_stop.proofs.Every.{and_left, and_right, both, by_bool, All-imply, All-both, All-edit, All-any, find_some, any_holds, none_of, count-cons}
 use Rattle.trace_stop.proofs.Edited.{Same, edited, If_more, some_is, if_at, owners_after, edited_stands}
 use Rattle.trace_stop.proofs.Changed.{no_ring, process_from, any_forward}
 use Rattle.trace_stop.proofs.Ending.{own_rows}
@@ -97,3 +98,131 @@ pub record Shape (f : ProcData → ProcData) (g : ProcData → LwpData → LwpDa
   pub own : (p : ProcData) (l : LwpData) → (g p l).pid ≡ l.pid
   pub flags : (p : ProcData) (l : LwpData) → (g p l).flags ≡ l.flags
   pub mode : (p : ProcData) (l : LwpData) → (g p l).mode ≡ l.mode
+
+this_is : (n : ℕ) (o : Option ℕ) → is_this n o ≡ true → o ≡ Some n
+this_is n None is = absurd (true≢false (sym is))
+this_is n (Some m) is = ap (λ k. Some k) (eqb-true m n is)
+
+none_gone : {X : Type 0} (q : X → Bool) (xs : List X) → list_any q xs ≡ false → AllByRecursion (λ x. q x ≡ false) xs
+none_gone q xs is = none_of q xs is
+
+module _ (rows : Rows) (chosen : ProcData → Bool) (f : ProcData → ProcData) (g : ProcData → LwpData → LwpData) (s : IsSound rows) (shape : Shape f g) (runs : AllByRecursion (Runs chosen f g) rows.processes) where
+  abbrev to : ProcData → Option ProcData
+  to p = Some (if chosen p then f p else p)
+
+  abbrev to_own : ProcData → LwpData → Option LwpData
+  to_own p l = if chosen p then option_map (g p) (reported p l) else Some l
+
+  abbrev to_lwp : LwpData → Option LwpData
+  to_lwp l = by_owner to_own l (owner rows l)
+
+  abbrev after : Rows
+  after = edited to to_lwp rows
+
+  abbrev cleared : LwpData → LwpData
+  cleared l = record l { flags = no_flags; child = 0; code = 0 }
+
+  choose : {X : Type 0} (b : Bool) (x y : X) (R : X → Type 0) → (b ≡ true → R x) → (b ≡ false → R y) → R (if b then x else y)
+  choose true x y R h k = h refl
+  choose false x y R h k = k refl
+
+  -- an LWP of p, by cases
+  by_lwp : (R : Option LwpData → Type 0) (p : ProcData) (l : LwpData) → (chosen p ≡ false → R (Some l)) → (chosen p ≡ true → is_this l.tid (reporting p) ≡ true → shows l.flags PL_FLAG_EXITED ≡ true → R None)
+      → (chosen p ≡ true → is_this l.tid (reporting p) ≡ true → shows l.flags PL_FLAG_EXITED ≡ false → R (Some (g p (cleared l)))) → (chosen p ≡ true → is_this l.tid (reporting p) ≡ false → R (Some (g p l))) → R (to_own p l)
+  by_lwp R p l other gone named rest = choose (chosen p) (option_map (g p) (reported p l)) (Some l) R
+      (λ c. choose (is_this l.tid (reporting p)) (if shows l.flags PL_FLAG_EXITED then None else Some (cleared l)) (Some l) (λ o. R (option_map (g p) o))
+          (λ t. choose (shows l.flags PL_FLAG_EXITED) None (Some (cleared l)) (λ o. R (option_map (g p) o)) (gone c t) (named c t)) (rest c)) other
+
+  abbrev Numbers : LwpData → Option LwpData → Type 0
+  Numbers l o = IfSome o (λ k. (k.tid ≡ l.tid) × (k.pid ≡ l.pid))
+
+  same : Same to to_lwp
+  same = record {
+    process = λ p. choose (chosen p) (f p) p (λ q. (q.pid ≡ p.pid) × (q.uid ≡ p.uid)) (λ e. (shape.pid p, shape.uid p)) (λ e. (refl, refl));
+    lwp = λ l. by_row l (owner rows l);
+  }
+    where
+      by_row : (l : LwpData) (o : Option ProcData) → Numbers l (by_owner to_own l o)
+      by_row l None = (refl, refl)
+      by_row l (Some p) = by_lwp (Numbers l) p l (λ e. (refl, refl)) (λ c t e. tt) (λ c t e. (shape.tid p (cleared l), shape.own p (cleared l))) (λ c t. (shape.tid p l, shape.own p l))
+
+  record Fact (p : ProcData) : Type 0 where
+    found : process_of p.pid rows.processes ≡ Some p
+    fit : FitProcess p
+    link : Linked rows p
+    run : Runs chosen f g p
+
+  facts : AllByRecursion Fact rows.processes
+  facts = All-imply (λ p. (process_of p.pid rows.processes ≡ Some p) × (FitProcess p × (Linked rows p × Runs chosen f g p))) Fact (λ p h. record { found = h.0; fit = h.1.0; link = h.1.1.0; run = h.1.1.1 }) rows.processes
+      (All-both _ _ rows.processes (own_rows rows.processes s.stands.rising) (All-both _ _ rows.processes s.processes (All-both _ _ rows.processes s.stands.linked runs)))
+
+  live_after : (u n : ℕ) → IsLiveOf rows u n → IsLiveOf after u n
+  live_after u n is = any_forward (λ p. (p.pid == n) && (p.uid == u) && is_live p) (λ p. (p.pid == n) && (p.uid == u) && is_live p) (λ p. Unit {0}) to (λ p u1 e.
+      ((if chosen p then f p else p), refl, choose (chosen p) (f p) p (λ q. ((q.pid == n) && (q.uid == u) && is_live q) ≡ true)
+          (λ c. let here = and_left ((p.pid == n) && (p.uid == u)) (is_live p) e in
+              both (((f p).pid == n) && ((f p).uid == u)) (is_live (f p)) (both ((f p).pid == n) ((f p).uid == u) (ap (λ m. m == n) (shape.pid p) ∙ and_left (p.pid == n) (p.uid == u) here) (ap (λ m. m == u) (shape.uid p) ∙ and_right (p.pid == n) (p.uid == u) here)) (shape.lives p)) (λ c. e))) rows.processes (All-any (λ p. Unit {0}) (λ p. tt) rows.processes) is
+
+  tracer_before : (n t : ℕ) → tracer_of after.processes n ≡ Some t → tracer_of rows.processes n ≡ Some t
+  tracer_before n t is = at_row (process_of n after.processes) refl is
+    where
+      by_link : (p : ProcData) → ((f p).tracer ≡ p.tracer) ⊎ ((f p).tracer ≡ None) → (f p).tracer ≡ Some t → p.tracer ≡ Some t
+      by_link p (inl e) k = sym e ∙ k
+      by_link p (inr e) k = absurd (none_some (sym e ∙ k))
+        where
+          none_some : None ≡ Some t → ⊥
+          none_some x = grind (arith, x)
+
+      at_row : (o : Option ProcData) → process_of n after.processes ≡ o → tracer_in o ≡ Some t → tracer_of rows.processes n ≡ Some t
+      at_row None e k = absurd (grind (arith, k))
+      at_row (Some r) e k =
+          let x = process_from to (λ p. (same.process p).0) n rows.processes r s.stands.rising e in
+          ap tracer_in x.at ∙ choose (chosen x.was) (f x.was) x.was (λ q. q.tracer ≡ Some t → x.was.tracer ≡ Some t) (λ c. by_link x.was (shape.tracer x.was)) (λ c k. k) (ap (λ q. q.tracer) (some_is (if chosen x.was then f x.was else x.was) r x.to) ∙ k)
+
+  -- the LWPs of a process that stay
+  stays : (p : ProcData) (l : LwpData) → Fact p → l.pid ≡ p.pid → (chosen p ≡ true → (is_this l.tid (reporting p) && shows l.flags PL_FLAG_EXITED) ≡ false) → (k : LwpData) × (to_lwp l ≡ Some k) × (k.tid ≡ l.tid) × (k.pid ≡ l.pid)
+  stays p l fact own left = subst (λ o. (k : LwpData) × (o ≡ Some k) × (k.tid ≡ l.tid) × (k.pid ≡ l.pid)) (sym (ap (by_owner to_own l) (ap (λ n. process_of n rows.processes) own ∙ fact.found)))
+      (by_lwp (λ o. (k : LwpData) × (o ≡ Some k) × (k.tid ≡ l.tid) × (k.pid ≡ l.pid)) p l
+          (λ e. (l, refl, refl, refl))
+          (λ c t e. absurd (true≢false (sym (both (is_this l.tid (reporting p)) (shows l.flags PL_FLAG_EXITED) t e) ∙ left c)))
+          (λ c t e. (g p (cleared l), refl, shape.tid p (cleared l), shape.own p (cleared l)))
+          (λ c t. (g p l, refl, shape.tid p l, shape.own p l)))
+
+  count_other : (p : ProcData) → Fact p → chosen p ≡ false → lwp_count p.pid rows ≤ lwp_count p.pid after
+  count_other p fact e = count_kept (λ l. l.pid == p.pid) (λ l. l.pid == p.pid) to_lwp (λ l. Unit {0}) (λ l u is.
+      let k = stays p l fact (eqb-true l.pid p.pid is) (λ c. absurd (true≢false (sym c ∙ e))) in (k.0, k.1, ap (λ n. n == p.pid) k.3 ∙ is)) rows.lwps (All-any (λ l. Unit {0}) (λ l. tt) rows.lwps)
+
+  names_other : (p : ProcData) (tid : ℕ) → Fact p → chosen p ≡ false → names_own rows p tid ≡ true → names_own after p tid ≡ true
+  names_other p tid fact e is = any_forward (λ l. (l.tid == tid) && (l.pid == p.pid)) (λ l. (l.tid == tid) && (l.pid == p.pid)) (λ l. Unit {0}) to_lwp (λ l u h.
+      let own = and_right (l.tid == tid) (l.pid == p.pid) h in
+      let k = stays p l fact (eqb-true l.pid p.pid own) (λ c. absurd (true≢false (sym c ∙ e))) in
+      (k.0, k.1, both (k.0.tid == tid) (k.0.pid == p.pid) (ap (λ n. n == tid) k.2 ∙ and_left (l.tid == tid) (l.pid == p.pid) h) (ap (λ n. n == p.pid) k.3 ∙ own))) rows.lwps (All-any (λ l. Unit {0}) (λ l. tt) rows.lwps) is
+
+  -- a process that runs on has an LWP left
+  peopled : (p : ProcData) → Fact p → chosen p ≡ true → 1 ≤ lwp_count p.pid after
+  peopled p fact c = by_gone (list_any leaves rows.lwps) refl
+    where
+      leaves : LwpData → Bool
+      leaves l = (l.pid == p.pid) && (is_this l.tid (reporting p) && shows l.flags PL_FLAG_EXITED)
+
+      by_gone : (b : Bool) → list_any leaves rows.lwps ≡ b → 1 ≤ lwp_count p.pid after
+      by_gone false e =
+          let kept = count_kept (λ l. l.pid == p.pid) (λ l. l.pid == p.pid) to_lwp (λ l. leaves l ≡ false) (λ l none is.
+              let k = stays p l fact (eqb-true l.pid p.pid is) (λ c1. by_bool (is_this l.tid (reporting p) && shows l.flags PL_FLAG_EXITED) (λ x. true≢false (sym (both (l.pid == p.pid) (is_this l.tid (reporting p) && shows l.flags PL_FLAG_EXITED) is x) ∙ none))) in
+              (k.0, k.1, ap (λ n. n == p.pid) k.3 ∙ is)) rows.lwps (none_gone leaves rows.lwps e) in
+          let some = fact.link.peopled (fact.run.live c) in
+          omega (arith, kept, some)
+      by_gone true e = any_holds leaves (WithOwner rows (Standing rows)) (1 ≤ lwp_count p.pid after) (λ l stood is.
+          let own = eqb-true l.pid p.pid (and_left (l.pid == p.pid) (is_this l.tid (reporting p) && shows l.flags PL_FLAG_EXITED) is) in
+          let this = and_right (l.pid == p.pid) (is_this l.tid (reporting p) && shows l.flags PL_FLAG_EXITED) is in
+          let two = (stood p (ap (λ n. process_of n rows.processes) own ∙ fact.found)).exited (and_right (is_this l.tid (reporting p)) (shows l.flags PL_FLAG_EXITED) this) in
+          let report = this_is l.tid (reporting p) (and_left (is_this l.tid (reporting p)) (shows l.flags PL_FLAG_EXITED) this) in
+          one_stays (λ k. k.pid == p.pid) l.tid to_lwp rows.lwps s.stands.differ (λ k h.
+              let mine = and_left (k.pid == p.pid) (not (k.tid == l.tid)) h in
+              let x = stays p k fact (eqb-true k.pid p.pid mine) (λ c1. by_bool (is_this k.tid (reporting p) && shows k.flags PL_FLAG_EXITED) (λ y.
+                  let named = and_left (is_this k.tid (reporting p)) (shows k.flags PL_FLAG_EXITED) y in
+                  true≢false (sym (eq-eqb k.tid l.tid (some_is k.tid l.tid (sym (this_is k.tid (reporting p) named) ∙ report))) ∙ by_not (k.tid == l.tid) (and_right (k.pid == p.pid) (not (k.tid == l.tid)) h)))) in
+              (x.0, x.1, ap (λ n. n == p.pid) x.3 ∙ mine)) two) rows.lwps s.stands.standing e
+        where
+          by_not : (b : Bool) → not b ≡ true → b ≡ false
+          by_not true n = absurd (true≢false (sym n))
+          by_not false n = refl
