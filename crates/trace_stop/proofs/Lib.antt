@@ -31,3 +31,5 @@ pub mod Distances
 pub mod Runs
 pub mod Told
 pub mod Stopped
+pub mod Killing
+pub mod Running

@@ -61,7 +61,7 @@ pub record Stops (rows : Rows) (pid tid : ℕ) (shown : Shown) (p : ProcData) (l
   pub own : l.pid ≡ pid
   pub exits : shows shown.flags PL_FLAG_EXITED ≡ true → 2 ≤ lwp_count pid rows
 
-find_passes : {X : Type 0} (q t : X → Bool) (xs : List X) (x : X) → find q xs ≡ Some x → t x ≡ true → list_any t xs ≡ true
+pub find_passes : {X : Type 0} (q t : X → Bool) (xs : List X) (x : X) → find q xs ≡ Some x → t x ≡ true → list_any t xs ≡ true
 find_passes q t [] x is pass = absurd (grind (arith, is))
 find_passes q t (y ∷ xs) x is pass = grind (arith, find_passes q t xs x, is, pass)
 

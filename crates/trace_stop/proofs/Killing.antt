@@ -1,0 +1,127 @@
+-- The end of a process keeps rows sound.
+use Rattle.std.proofs.Common.{◌≡◌, ◌≢◌, ◌⊎◌, inl, inr, ℕ, zero, suc, ◌≤◌, Bool, true, false, ◌==◌, ◌&&◌, ◌||◌, not, if◌then◌else◌, List, [], ◌∷◌, Option, Some, None, IfSome, refl, sym, ap, ◌∙◌, true≢false, subst, arith, eqb-true, eq-eqb}
+use Rattle.std.specs.List.{AllByRecursion, list_any}
+use Rattle.pid_blocks.specs.Users.{IsUser}
+use Rattle.proc_table.specs.declared.ProcData.{ProcData}
+use Rattle.proc_table.specs.Processes.{is_live, traces, is_this, process_of}
+use Rattle.proc_table.specs.Rows.{Rows}
+use Rattle.proc_table.specs.Seen.{owns}
+use Rattle.proc_table.specs.Kept.{AtHome}
+use Rattle.trace_stop.specs.declared.Settings.{Settings}
+use Rattle.trace_stop.specs.End.{tracer_in, tracer_of, holds_of, meets, is_doomed, dooms, end_each, end_of, left_alone, end}
+use Rattle.trace_stop.specs.Sound.{is_live_of, is_end}
+use Rattle.trace_stop.specs.Facts.{IsLiveOf, Linked, Stands, IsSound}
+use Rattle.trace_stop.proofs.Every.{and_left, and_right, both, by_bool, or_true, or_left, All-imply, All-both, All-any, find_some, any_holds, any_more}
+use Rattle.trace_stop.proofs.Changed.{found_number}
+use Rattle.trace_stop.proofs.Stopping.{one_row, the_row}
+use Rattle.trace_stop.proofs.Stops.{find_passes}
+use Rattle.trace_stop.proofs.Ending.{Ends, own_rows, end_each_sound}
+use Rattle.trace_stop.proofs.Distances.{near_enough}
+
+meets_step : (ps : List ProcData) (links p n t : ℕ) → tracer_of ps n ≡ Some t → ((t == p) || meets links ps p t) ≡ true → meets (suc links) ps p n ≡ true
+unfolding meets
+meets_step ps links p n t is near = rw is near
+
+same_test : (a b : Bool) → (a ≡ true → b ≡ true) → (b ≡ true → a ≡ true) → a ≡ b
+same_test true b h k = sym (h refl)
+same_test false true h k = k refl
+same_test false false h k = refl
+
+or_second : (a b : Bool) → b ≡ true → (a || b) ≡ true
+or_second true b is = refl
+or_second false b is = is
+
+or_cases : (a b : Bool) (R : Type 0) → (a || b) ≡ true → (a ≡ true → R) → (b ≡ true → R) → R
+or_cases true b R is h k = h refl
+or_cases false b R is h k = k is
+
+-- a user's processes are traced by that user's
+pub own_tracer : (rows : Rows) → Stands rows → (u n t : ℕ) → owns u n rows.processes ≡ true → tracer_of rows.processes n ≡ Some t → owns u t rows.processes ≡ true
+own_tracer rows s u n t own is = at_row (process_of n rows.processes) refl is
+  where
+    owned : (v : ℕ) → IsLiveOf rows v t → owns v t rows.processes ≡ true
+    owned v live = any_more (λ r. (r.pid == t) && (r.uid == v) && is_live r) (λ r. (r.pid == t) && (r.uid == v)) (λ r e. and_left ((r.pid == t) && (r.uid == v)) (is_live r) e) rows.processes live
+
+    at_row : (o : Option ProcData) → process_of n rows.processes ≡ o → tracer_in o ≡ Some t → owns u t rows.processes ≡ true
+    at_row None e k = absurd (grind (arith, k))
+    at_row (Some r) e k =
+        let fact = (find_some (λ q. q.pid == n) (λ q. Linked rows q × (list_any (λ x. (x.pid == q.pid) && (x.uid == u)) rows.processes ≡ true → (q.uid == u) ≡ true)) rows.processes (All-both (Linked rows) _ rows.processes s.linked (one_row (λ x. x.uid == u) rows.processes s.rising)) r e).0 in
+        let number = found_number n rows.processes r e in
+        let mine : r.uid ≡ u = eqb-true r.uid u (fact.1 (subst (λ m. list_any (λ x. (x.pid == m) && (x.uid == u)) rows.processes ≡ true) (sym number) own)) in
+        subst (λ v. owns v t rows.processes ≡ true) mine (owned r.uid (subst (λ o. IfSome o (IsLiveOf rows r.uid)) k fact.0.tracer))
+
+module _ (settings : Settings) (rows : Rows) (p : ProcData) (s : IsSound rows) (at : process_of p.pid rows.processes ≡ Some p) (live : is_live p ≡ true) where
+  abbrev ends : ProcData → Bool
+  ends q = is_doomed settings rows.processes p.pid q
+
+  abbrev over : ℕ → Bool
+  over n = dooms settings rows.processes p.pid n
+
+  -- what each row of the list is
+  record Known (q : ProcData) : Type 0 where
+    found : process_of q.pid rows.processes ≡ Some q
+    one : list_any (λ r. (r.pid == q.pid) && ends r) rows.processes ≡ true → ends q ≡ true
+    same : q.pid ≡ p.pid → q ≡ p
+    home : AtHome q
+    link : Linked rows q
+
+  known : AllByRecursion Known rows.processes
+  known = All-imply (λ q. (process_of q.pid rows.processes ≡ Some q) × ((list_any (λ r. (r.pid == q.pid) && ends r) rows.processes ≡ true → ends q ≡ true) × ((q.pid ≡ p.pid → q ≡ p) × (AtHome q × Linked rows q)))) Known
+      (λ q h. record { found = h.0; one = h.1.0; same = h.1.1.0; home = h.1.1.1.0; link = h.1.1.1.1 }) rows.processes
+      (All-both _ _ rows.processes (own_rows rows.processes s.stands.rising) (All-both _ _ rows.processes (one_row ends rows.processes s.stands.rising) (All-both _ _ rows.processes (the_row p.pid rows.processes p s.stands.rising at) (All-both AtHome (Linked rows) rows.processes s.stands.homes s.stands.linked))))
+
+  over_is : (q : ProcData) → Known q → over q.pid ≡ ends q
+  over_is q k = same_test (over q.pid) (ends q) k.one (λ e. find_passes (λ r. r.pid == q.pid) (λ r. (r.pid == q.pid) && ends r) rows.processes q k.found (both (q.pid == q.pid) (ends q) (eq-eqb q.pid q.pid refl) e))
+
+  ends_live : (q : ProcData) → Known q → ends q ≡ true → is_live q ≡ true
+  ends_live q k e = or_cases (q.pid == p.pid) (settings.kill_on_debugger_exit && is_live q && meets 250 rows.processes p.pid q.pid) (is_live q ≡ true) e
+      (λ same. subst (λ r. is_live r ≡ true) (sym (k.same (eqb-true q.pid p.pid same))) live)
+      (λ doomed. and_right settings.kill_on_debugger_exit (is_live q) (and_left (settings.kill_on_debugger_exit && is_live q) (meets 250 rows.processes p.pid q.pid) doomed))
+
+  -- where debuggers kill, a chain of tracers is doomed whole
+  killed : settings.kill_on_debugger_exit ≡ true → (q : ProcData) → Known q → is_live q ≡ true → ends q ≡ false → IfSome q.tracer (λ t. over t ≡ false)
+  killed kills q k alive stays = by_tracer q.tracer refl
+    where
+      far : meets 250 rows.processes p.pid q.pid ≡ true → ⊥
+      far near = true≢false (sym (by_kill near) ∙ stays)
+        where
+          by_kill : meets 250 rows.processes p.pid q.pid ≡ true → ends q ≡ true
+          by_kill e = rw (kills, alive, e) (or_true (q.pid == p.pid))
+
+      by_tracer : (o : Option ℕ) → q.tracer ≡ o → IfSome o (λ t. over t ≡ false)
+      by_tracer None e = tt
+      by_tracer (Some t) e = by_bool (over t) (λ is. any_holds (λ r. (r.pid == t) && ends r) Known ⊥ (λ r k' h.
+          let here : r.pid ≡ t = eqb-true r.pid t (and_left (r.pid == t) (ends r) h) in
+          let link : tracer_of rows.processes q.pid ≡ Some t = ap tracer_in k.found ∙ e in
+          or_cases (r.pid == p.pid) (settings.kill_on_debugger_exit && is_live r && meets 250 rows.processes p.pid r.pid) ⊥ (and_right (r.pid == t) (ends r) h)
+              (λ same. far (meets_step rows.processes 249 p.pid q.pid t link (or_left (t == p.pid) (meets 249 rows.processes p.pid t) (eq-eqb t p.pid (sym here ∙ eqb-true r.pid p.pid same)))))
+              (λ doomed. far (near_enough rows.processes q.uid p.pid (λ n m own tr. own_tracer rows s.stands q.uid n m own tr) (s.stands.few_processes q.uid k.home.user) q.pid
+                  (find_passes (λ x. x.pid == q.pid) (λ x. (x.pid == q.pid) && (x.uid == q.uid)) rows.processes q k.found (both (q.pid == q.pid) (q.uid == q.uid) (eq-eqb q.pid q.pid refl) (eq-eqb q.uid q.uid refl)))
+                  (meets_step rows.processes 250 p.pid q.pid t link (or_second (t == p.pid) (meets 250 rows.processes p.pid t) (subst (λ n. meets 250 rows.processes p.pid n ≡ true) here (and_right (settings.kill_on_debugger_exit && is_live r) (meets 250 rows.processes p.pid r.pid) doomed)))))))
+          rows.processes known is)
+
+  -- where they don't, and nobody live is traced by p, p ends alone
+  alone : settings.kill_on_debugger_exit ≡ false → AllByRecursion (λ q. is_live q ≡ true → traces p.pid q ≡ false) rows.processes → (q : ProcData) → Known q → (is_live q ≡ true → traces p.pid q ≡ false) → is_live q ≡ true → IfSome q.tracer (λ t. over t ≡ false)
+  alone spares none q k free alive = by_tracer q.tracer refl
+    where
+      by_tracer : (o : Option ℕ) → q.tracer ≡ o → IfSome o (λ t. over t ≡ false)
+      by_tracer None e = tt
+      by_tracer (Some t) e = by_bool (over t) (λ is. any_holds (λ r. (r.pid == t) && ends r) Known ⊥ (λ r k' h.
+          let here : r.pid ≡ t = eqb-true r.pid t (and_left (r.pid == t) (ends r) h) in
+          or_cases (r.pid == p.pid) (settings.kill_on_debugger_exit && is_live r && meets 250 rows.processes p.pid r.pid) ⊥ (and_right (r.pid == t) (ends r) h)
+              (λ same. true≢false (sym (eq-eqb t p.pid (sym here ∙ eqb-true r.pid p.pid same)) ∙ (sym (ap (is_this p.pid) e) ∙ free alive)))
+              (λ doomed. true≢false (sym (and_left settings.kill_on_debugger_exit (is_live r) (and_left (settings.kill_on_debugger_exit && is_live r) (meets 250 rows.processes p.pid r.pid) doomed)) ∙ spares)))
+          rows.processes known is)
+
+  pub end_of_killing : (status : ℕ) → is_end status ≡ true → settings.kill_on_debugger_exit ≡ true → IsSound (end_of settings p.pid status rows)
+  end_of_killing status word kills = end_each_sound rows ends over p.pid status s word (All-imply Known (Ends rows ends over) (λ q k. record { same = over_is q k; live = ends_live q k; kept = killed kills q k }) rows.processes known)
+
+  pub end_of_sparing : (status : ℕ) → is_end status ≡ true → settings.kill_on_debugger_exit ≡ false → AllByRecursion (λ q. is_live q ≡ true → traces p.pid q ≡ false) rows.processes → IsSound (end_of settings p.pid status rows)
+  end_of_sparing status word spares none = end_each_sound rows ends over p.pid status s word (All-imply (λ q. Known q × (is_live q ≡ true → traces p.pid q ≡ false)) (Ends rows ends over) (λ q h. record { same = over_is q h.0; live = ends_live q h.0; kept = λ alive stays. alone spares none q h.0 h.1 alive }) rows.processes (All-both Known _ rows.processes known none))
+
+-- where debuggers kill, the end of a live process keeps rows sound
+pub end_killing : (settings : Settings) (rows : Rows) (p : ProcData) (status : ℕ) → IsSound rows → process_of p.pid rows.processes ≡ Some p → is_live p ≡ true → is_end status ≡ true → settings.kill_on_debugger_exit ≡ true → IsSound (end settings p.pid status rows)
+end_killing settings rows p status s at live word kills = subst (λ r. IsSound (end_of settings p.pid status r)) (sym same) (end_of_killing settings rows p s at live status word kills)
+  where
+    same : left_alone settings p.pid rows ≡ rows
+    same = rw kills refl
