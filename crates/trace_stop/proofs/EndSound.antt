@@ -19,7 +19,7 @@ use Rattle.trace_stop.proofs.LeafLives.{live_from, listed, leaf_lives, leaf_fewe
 use Rattle.trace_stop.proofs.LeafSound.{leaf_sound, sound_left}
 use Rattle.trace_stop.proofs.Remains.{after-is}
 use Rattle.trace_stop.proofs.Doomed.{detached_end}
-use Rattle.trace_stop.proofs.Freed.{sound_freed, lives_at, traces_none}
+use Rattle.trace_stop.proofs.Detached.{sound_freed, lives_at, traces_none}
 use Rattle.trace_stop.proofs.Leaves.{tracee_doomed, leaf_exists}
 
 -- what ends first, where p traces a live process

@@ -21,7 +21,7 @@ pub mod Changed
 pub mod Bits
 pub mod Changes
 pub mod Posting
-pub mod Freed
+pub mod Detached
 pub mod Stopping
 pub mod Single
 pub mod Stops
