@@ -17,3 +17,4 @@ pub mod Ending
 pub mod Distances
 pub mod Killing
 pub mod Running
+pub mod Freed
