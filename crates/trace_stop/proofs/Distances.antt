@@ -87,10 +87,10 @@ module _ (ps : List ProcData) (u p : ℕ) (closed : (n t : ℕ) → owns u n ps 
   more : (links n : ℕ) → owns u n ps ≡ true → meets (suc links) ps p n ≡ true → meets links ps p n ≡ false → count_by (within links) ps < count_by (within (suc links)) ps
   more links n own near far = count_less (within links) (within (suc links)) (λ r is. both (r.uid == u) (meets (suc links) ps p r.pid) (and_left (r.uid == u) (meets links ps p r.pid) is) (meets_more ps links p r.pid (and_right (r.uid == u) (meets links ps p r.pid) is))) ps
       (any_more (λ r. (r.pid == n) && (r.uid == u)) (λ r. within (suc links) r && not (within links r)) (λ r is.
-        let here = eqb-true r.pid n (and_left (r.pid == n) (r.uid == u) is) in
-        let mine = and_right (r.pid == n) (r.uid == u) is in
-        both (within (suc links) r) (not (within links r)) (both (r.uid == u) (meets (suc links) ps p r.pid) mine (subst (λ m. meets (suc links) ps p m ≡ true) (sym here) near))
-            (ap not (by_bool (within links r) (λ e. true≢false (sym (and_right (r.uid == u) (meets links ps p r.pid) e) ∙ subst (λ m. meets links ps p m ≡ false) (sym here) far))))) ps own)
+      let here = eqb-true r.pid n (and_left (r.pid == n) (r.uid == u) is) in
+      let mine = and_right (r.pid == n) (r.uid == u) is in
+      both (within (suc links) r) (not (within links r)) (both (r.uid == u) (meets (suc links) ps p r.pid) mine (subst (λ m. meets (suc links) ps p m ≡ true) (sym here) near))
+      (ap not (by_bool (within links r) (λ e. true≢false (sym (and_right (r.uid == u) (meets links ps p r.pid) e) ∙ subst (λ m. meets links ps p m ≡ false) (sym here) far))))) ps own)
 
   counted : (links n : ℕ) → owns u n ps ≡ true → meets (suc links) ps p n ≡ true → meets links ps p n ≡ false → suc links ≤ count_by (within (suc links)) ps
   counted zero n own near far = let one = more zero n own near far in omega (arith, one)

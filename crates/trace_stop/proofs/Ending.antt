@@ -270,15 +270,15 @@ module _ (rows : Rows) (ends : ProcData → Bool) (over : ℕ → Bool) (p statu
         ended = live_fits (heir q) q.state (live_state q live);
       })
       (λ e zombie. if_left (orphaned over q) (λ o. IfSome o FitProcess) tt (λ left.
-        let z = zombie_ended q q.state (is_zombie q zombie) in
-        let end : Ended q z.0 = subst (IfEnded q) z.1 fact.fit.ended in
-        record {
-          stopped = λ is. absurd (true≢false (sym is ∙ ap is_some (zombie_quiet q zombie)));
-          job = λ is. absurd (true≢false (sym is ∙ ap is_job_state z.1));
-          continued = λ on. absurd (true≢false (sym (fact.fit.continued on).1 ∙ ap is_run_state z.1));
-          untraced = λ none. record { mask = end.mask; pending = subst (λ n. bit_and n (unwanted (orphaned over q)) ≡ 0) (sym end.pending) (zero_apart (unwanted (orphaned over q))) };
-          ended = subst (IfEnded (orphaned over q)) (sym z.1) (record { word = end.word; mask = end.mask; pending = end.pending; collector = left });
-        }))
+      let z = zombie_ended q q.state (is_zombie q zombie) in
+      let end : Ended q z.0 = subst (IfEnded q) z.1 fact.fit.ended in
+      record {
+        stopped = λ is. absurd (true≢false (sym is ∙ ap is_some (zombie_quiet q zombie)));
+        job = λ is. absurd (true≢false (sym is ∙ ap is_job_state z.1));
+        continued = λ on. absurd (true≢false (sym (fact.fit.continued on).1 ∙ ap is_run_state z.1));
+        untraced = λ none. record { mask = end.mask; pending = subst (λ n. bit_and n (unwanted (orphaned over q)) ≡ 0) (sym end.pending) (zero_apart (unwanted (orphaned over q))) };
+        ended = subst (IfEnded (orphaned over q)) (sym z.1) (record { word = end.word; mask = end.mask; pending = end.pending; collector = left });
+      }))
     where
       is_zombie : (x : ProcData) → is_live x ≡ false → is_zombie_state x.state ≡ true
       is_zombie x e = by_test (is_zombie_state x.state) e
@@ -296,7 +296,10 @@ module _ (rows : Rows) (ends : ProcData → Bool) (over : ℕ → Bool) (p statu
       by_wait true = record {
         untraced = λ none. let was = fit.untraced none in record {
           due = subst (λ o. is_due (if is_some o && asks q.mask PTRACE_VFORK then VforkDone else l.due) ≡ false) (sym none) was.due;
-          stepping = was.stepping; suspended = was.suspended; pending = was.pending };
+          stepping = was.stepping;
+          suspended = was.suspended;
+          pending = was.pending;
+        };
         silent = λ off. let was = fit.silent off in record { flags = was.flags; child = was.child; code = was.code };
         blocked = fit.blocked;
       }

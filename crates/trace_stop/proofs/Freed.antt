@@ -4,7 +4,6 @@ use Rattle.std.specs.List.{AllByRecursion}
 use Rattle.signals.specs.Dispositions.{Actions}
 use Rattle.signals.specs.Sets.{has, without, bit}
 use Rattle.signals.specs.Table.{SIGTRAP, is_signal, stops, is_discarded}
-
 use Rattle.lwp_table.specs.declared.LwpData.{LwpData}
 use Rattle.proc_table.specs.declared.ProcData.{ProcData}
 use Rattle.proc_table.specs.Processes.{is_live, traces, reporting, process_of}
@@ -108,8 +107,8 @@ module _ (settings : Settings) (rows : Rows) (p : ProcData) (s : IsSound rows) (
   sparing lost spares = subst (λ n. IsSound (end_of settings n status left)) number (end_of_sparing settings left q (detached_sound (tracee p.pid) lost rows s (All-any (λ r. tracee p.pid r ≡ true → is_live r ≡ true) (λ r is. and_left (is_live r) (traces p.pid r) is) rows.processes))
       (subst (λ n. process_of n left.processes ≡ Some q) (sym number) (detached_row (tracee p.pid) lost rows p.pid p at)) alive status word spares
       (subst (λ n. AllByRecursion (λ r. is_live r ≡ true → traces n r ≡ false) left.processes) (sym number)
-          (All-edit (λ r. Some (if tracee p.pid r then untraced (lost r) r else r)) (λ r. Unit {0}) (λ r. is_live r ≡ true → traces p.pid r ≡ false)
-              (λ r u. choose (tracee p.pid r) (untraced (lost r) r) r (λ x. is_live x ≡ true → traces p.pid x ≡ false) (λ e is. refl) (λ e is. by_bool (traces p.pid r) (λ t. true≢false (sym (both (is_live r) (traces p.pid r) is t) ∙ e)))) rows.processes (All-any (λ r. Unit {0}) (λ r. tt) rows.processes))))
+      (All-edit (λ r. Some (if tracee p.pid r then untraced (lost r) r else r)) (λ r. Unit {0}) (λ r. is_live r ≡ true → traces p.pid r ≡ false)
+      (λ r u. choose (tracee p.pid r) (untraced (lost r) r) r (λ x. is_live x ≡ true → traces p.pid x ≡ false) (λ e is. refl) (λ e is. by_bool (traces p.pid r) (λ t. true≢false (sym (both (is_live r) (traces p.pid r) is t) ∙ e)))) rows.processes (All-any (λ r. Unit {0}) (λ r. tt) rows.processes))))
     where
       left : Rows
       left = detached (tracee p.pid) lost rows

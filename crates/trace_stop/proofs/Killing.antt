@@ -94,10 +94,10 @@ module _ (settings : Settings) (rows : Rows) (p : ProcData) (s : IsSound rows) (
           let here : r.pid ≡ t = eqb-true r.pid t (and_left (r.pid == t) (ends r) h) in
           let link : tracer_of rows.processes q.pid ≡ Some t = ap tracer_in k.found ∙ e in
           or_cases (r.pid == p.pid) (settings.kill_on_debugger_exit && is_live r && meets 250 rows.processes p.pid r.pid) ⊥ (and_right (r.pid == t) (ends r) h)
-              (λ same. far (meets_step rows.processes 249 p.pid q.pid t link (or_left (t == p.pid) (meets 249 rows.processes p.pid t) (eq-eqb t p.pid (sym here ∙ eqb-true r.pid p.pid same)))))
-              (λ doomed. far (near_enough rows.processes q.uid p.pid (λ n m own tr. own_tracer rows s.stands q.uid n m own tr) (s.stands.few_processes q.uid k.home.user) q.pid
-                  (find_passes (λ x. x.pid == q.pid) (λ x. (x.pid == q.pid) && (x.uid == q.uid)) rows.processes q k.found (both (q.pid == q.pid) (q.uid == q.uid) (eq-eqb q.pid q.pid refl) (eq-eqb q.uid q.uid refl)))
-                  (meets_step rows.processes 250 p.pid q.pid t link (or_second (t == p.pid) (meets 250 rows.processes p.pid t) (subst (λ n. meets 250 rows.processes p.pid n ≡ true) here (and_right (settings.kill_on_debugger_exit && is_live r) (meets 250 rows.processes p.pid r.pid) doomed)))))))
+          (λ same. far (meets_step rows.processes 249 p.pid q.pid t link (or_left (t == p.pid) (meets 249 rows.processes p.pid t) (eq-eqb t p.pid (sym here ∙ eqb-true r.pid p.pid same)))))
+          (λ doomed. far (near_enough rows.processes q.uid p.pid (λ n m own tr. own_tracer rows s.stands q.uid n m own tr) (s.stands.few_processes q.uid k.home.user) q.pid
+          (find_passes (λ x. x.pid == q.pid) (λ x. (x.pid == q.pid) && (x.uid == q.uid)) rows.processes q k.found (both (q.pid == q.pid) (q.uid == q.uid) (eq-eqb q.pid q.pid refl) (eq-eqb q.uid q.uid refl)))
+          (meets_step rows.processes 250 p.pid q.pid t link (or_second (t == p.pid) (meets 250 rows.processes p.pid t) (subst (λ n. meets 250 rows.processes p.pid n ≡ true) here (and_right (settings.kill_on_debugger_exit && is_live r) (meets 250 rows.processes p.pid r.pid) doomed)))))))
           rows.processes known is)
 
   -- where they don't, and nobody live is traced by p, p ends alone
@@ -109,8 +109,8 @@ module _ (settings : Settings) (rows : Rows) (p : ProcData) (s : IsSound rows) (
       by_tracer (Some t) e = by_bool (over t) (λ is. any_holds (λ r. (r.pid == t) && ends r) Known ⊥ (λ r k' h.
           let here : r.pid ≡ t = eqb-true r.pid t (and_left (r.pid == t) (ends r) h) in
           or_cases (r.pid == p.pid) (settings.kill_on_debugger_exit && is_live r && meets 250 rows.processes p.pid r.pid) ⊥ (and_right (r.pid == t) (ends r) h)
-              (λ same. true≢false (sym (eq-eqb t p.pid (sym here ∙ eqb-true r.pid p.pid same)) ∙ (sym (ap (is_this p.pid) e) ∙ free alive)))
-              (λ doomed. true≢false (sym (and_left settings.kill_on_debugger_exit (is_live r) (and_left (settings.kill_on_debugger_exit && is_live r) (meets 250 rows.processes p.pid r.pid) doomed)) ∙ spares)))
+          (λ same. true≢false (sym (eq-eqb t p.pid (sym here ∙ eqb-true r.pid p.pid same)) ∙ (sym (ap (is_this p.pid) e) ∙ free alive)))
+          (λ doomed. true≢false (sym (and_left settings.kill_on_debugger_exit (is_live r) (and_left (settings.kill_on_debugger_exit && is_live r) (meets 250 rows.processes p.pid r.pid) doomed)) ∙ spares)))
           rows.processes known is)
 
   pub end_of_killing : (status : ℕ) → is_end status ≡ true → settings.kill_on_debugger_exit ≡ true → IsSound (end_of settings p.pid status rows)

@@ -18,3 +18,4 @@ pub mod Distances
 pub mod Killing
 pub mod Running
 pub mod Freed
+pub mod Posts

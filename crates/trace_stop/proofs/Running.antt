@@ -131,7 +131,7 @@ module _ (rows : Rows) (chosen : ProcData → Bool) (f : ProcData → ProcData) 
       → (chosen p ≡ true → is_this l.tid (reporting p) ≡ true → shows l.flags PL_FLAG_EXITED ≡ false → R (Some (g p (cleared l)))) → (chosen p ≡ true → is_this l.tid (reporting p) ≡ false → R (Some (g p l))) → R (to_own p l)
   by_lwp R p l other gone named rest = choose (chosen p) (option_map (g p) (reported p l)) (Some l) R
       (λ c. choose (is_this l.tid (reporting p)) (if shows l.flags PL_FLAG_EXITED then None else Some (cleared l)) (Some l) (λ o. R (option_map (g p) o))
-          (λ t. choose (shows l.flags PL_FLAG_EXITED) None (Some (cleared l)) (λ o. R (option_map (g p) o)) (gone c t) (named c t)) (rest c)) other
+      (λ t. choose (shows l.flags PL_FLAG_EXITED) None (Some (cleared l)) (λ o. R (option_map (g p) o)) (gone c t) (named c t)) (rest c)) other
 
   abbrev Numbers : LwpData → Option LwpData → Type 0
   Numbers l o = IfSome o (λ k. (k.tid ≡ l.tid) × (k.pid ≡ l.pid))
@@ -157,10 +157,13 @@ module _ (rows : Rows) (chosen : ProcData → Bool) (f : ProcData → ProcData) 
       (All-both _ _ rows.processes (own_rows rows.processes s.stands.rising) (All-both _ _ rows.processes s.processes (All-both _ _ rows.processes s.stands.linked runs)))
 
   live_after : (u n : ℕ) → IsLiveOf rows u n → IsLiveOf after u n
-  live_after u n is = any_forward (λ p. (p.pid == n) && (p.uid == u) && is_live p) (λ p. (p.pid == n) && (p.uid == u) && is_live p) (λ p. Unit {0}) to (λ p u1 e.
-      ((if chosen p then f p else p), refl, choose (chosen p) (f p) p (λ q. ((q.pid == n) && (q.uid == u) && is_live q) ≡ true)
-          (λ c. let here = and_left ((p.pid == n) && (p.uid == u)) (is_live p) e in
-              both (((f p).pid == n) && ((f p).uid == u)) (is_live (f p)) (both ((f p).pid == n) ((f p).uid == u) (ap (λ m. m == n) (shape.pid p) ∙ and_left (p.pid == n) (p.uid == u) here) (ap (λ m. m == u) (shape.uid p) ∙ and_right (p.pid == n) (p.uid == u) here)) (shape.lives p)) (λ c. e))) rows.processes (All-any (λ p. Unit {0}) (λ p. tt) rows.processes) is
+  live_after u n is = any_forward (λ p. (p.pid == n) && (p.uid == u) && is_live p) (λ p. (p.pid == n) && (p.uid == u) && is_live p) (λ p. Unit {0}) to (λ p u1 e. (
+    (if chosen p then f p else p),
+    refl,
+    choose (chosen p) (f p) p (λ q. ((q.pid == n) && (q.uid == u) && is_live q) ≡ true)
+        (λ c. let here = and_left ((p.pid == n) && (p.uid == u)) (is_live p) e in
+        both (((f p).pid == n) && ((f p).uid == u)) (is_live (f p)) (both ((f p).pid == n) ((f p).uid == u) (ap (λ m. m == n) (shape.pid p) ∙ and_left (p.pid == n) (p.uid == u) here) (ap (λ m. m == u) (shape.uid p) ∙ and_right (p.pid == n) (p.uid == u) here)) (shape.lives p)) (λ c. e),
+  )) rows.processes (All-any (λ p. Unit {0}) (λ p. tt) rows.processes) is
 
   tracer_before : (n t : ℕ) → tracer_of after.processes n ≡ Some t → tracer_of rows.processes n ≡ Some t
   tracer_before n t is = at_row (process_of n after.processes) refl is
@@ -182,10 +185,10 @@ module _ (rows : Rows) (chosen : ProcData → Bool) (f : ProcData → ProcData) 
   stays : (p : ProcData) (l : LwpData) → Fact p → l.pid ≡ p.pid → (chosen p ≡ true → (is_this l.tid (reporting p) && shows l.flags PL_FLAG_EXITED) ≡ false) → (k : LwpData) × (to_lwp l ≡ Some k) × (k.tid ≡ l.tid) × (k.pid ≡ l.pid)
   stays p l fact own left = subst (λ o. (k : LwpData) × (o ≡ Some k) × (k.tid ≡ l.tid) × (k.pid ≡ l.pid)) (sym (ap (by_owner to_own l) (ap (λ n. process_of n rows.processes) own ∙ fact.found)))
       (by_lwp (λ o. (k : LwpData) × (o ≡ Some k) × (k.tid ≡ l.tid) × (k.pid ≡ l.pid)) p l
-          (λ e. (l, refl, refl, refl))
-          (λ c t e. absurd (true≢false (sym (both (is_this l.tid (reporting p)) (shows l.flags PL_FLAG_EXITED) t e) ∙ left c)))
-          (λ c t e. (g p (cleared l), refl, shape.tid p (cleared l), shape.own p (cleared l)))
-          (λ c t. (g p l, refl, shape.tid p l, shape.own p l)))
+      (λ e. (l, refl, refl, refl))
+      (λ c t e. absurd (true≢false (sym (both (is_this l.tid (reporting p)) (shows l.flags PL_FLAG_EXITED) t e) ∙ left c)))
+      (λ c t e. (g p (cleared l), refl, shape.tid p (cleared l), shape.own p (cleared l)))
+      (λ c t. (g p l, refl, shape.tid p l, shape.own p l)))
 
   count_other : (p : ProcData) → Fact p → chosen p ≡ false → lwp_count p.pid rows ≤ lwp_count p.pid after
   count_other p fact e = count_kept (λ l. l.pid == p.pid) (λ l. l.pid == p.pid) to_lwp (λ l. Unit {0}) (λ l u is.
@@ -207,8 +210,8 @@ module _ (rows : Rows) (chosen : ProcData → Bool) (f : ProcData → ProcData) 
       by_gone : (b : Bool) → list_any leaves rows.lwps ≡ b → 1 ≤ lwp_count p.pid after
       by_gone false e =
           let kept = count_kept (λ l. l.pid == p.pid) (λ l. l.pid == p.pid) to_lwp (λ l. leaves l ≡ false) (λ l none is.
-              let k = stays p l fact (eqb-true l.pid p.pid is) (λ c1. by_bool (is_this l.tid (reporting p) && shows l.flags PL_FLAG_EXITED) (λ x. true≢false (sym (both (l.pid == p.pid) (is_this l.tid (reporting p) && shows l.flags PL_FLAG_EXITED) is x) ∙ none))) in
-              (k.0, k.1, ap (λ n. n == p.pid) k.3 ∙ is)) rows.lwps (none_gone leaves rows.lwps e) in
+          let k = stays p l fact (eqb-true l.pid p.pid is) (λ c1. by_bool (is_this l.tid (reporting p) && shows l.flags PL_FLAG_EXITED) (λ x. true≢false (sym (both (l.pid == p.pid) (is_this l.tid (reporting p) && shows l.flags PL_FLAG_EXITED) is x) ∙ none))) in
+          (k.0, k.1, ap (λ n. n == p.pid) k.3 ∙ is)) rows.lwps (none_gone leaves rows.lwps e) in
           let some = fact.link.peopled (fact.run.live c) in
           omega (arith, kept, some)
       by_gone true e = any_holds leaves (WithOwner rows (Standing rows)) (1 ≤ lwp_count p.pid after) (λ l stood is.
@@ -217,11 +220,11 @@ module _ (rows : Rows) (chosen : ProcData → Bool) (f : ProcData → ProcData) 
           let two = (stood p (ap (λ n. process_of n rows.processes) own ∙ fact.found)).exited (and_right (is_this l.tid (reporting p)) (shows l.flags PL_FLAG_EXITED) this) in
           let report = this_is l.tid (reporting p) (and_left (is_this l.tid (reporting p)) (shows l.flags PL_FLAG_EXITED) this) in
           one_stays (λ k. k.pid == p.pid) l.tid to_lwp rows.lwps s.stands.differ (λ k h.
-              let mine = and_left (k.pid == p.pid) (not (k.tid == l.tid)) h in
-              let x = stays p k fact (eqb-true k.pid p.pid mine) (λ c1. by_bool (is_this k.tid (reporting p) && shows k.flags PL_FLAG_EXITED) (λ y.
-                  let named = and_left (is_this k.tid (reporting p)) (shows k.flags PL_FLAG_EXITED) y in
-                  true≢false (sym (eq-eqb k.tid l.tid (some_is k.tid l.tid (sym (this_is k.tid (reporting p) named) ∙ report))) ∙ by_not (k.tid == l.tid) (and_right (k.pid == p.pid) (not (k.tid == l.tid)) h)))) in
-              (x.0, x.1, ap (λ n. n == p.pid) x.3 ∙ mine)) two) rows.lwps s.stands.standing e
+          let mine = and_left (k.pid == p.pid) (not (k.tid == l.tid)) h in
+          let x = stays p k fact (eqb-true k.pid p.pid mine) (λ c1. by_bool (is_this k.tid (reporting p) && shows k.flags PL_FLAG_EXITED) (λ y.
+          let named = and_left (is_this k.tid (reporting p)) (shows k.flags PL_FLAG_EXITED) y in
+          true≢false (sym (eq-eqb k.tid l.tid (some_is k.tid l.tid (sym (this_is k.tid (reporting p) named) ∙ report))) ∙ by_not (k.tid == l.tid) (and_right (k.pid == p.pid) (not (k.tid == l.tid)) h)))) in
+          (x.0, x.1, ap (λ n. n == p.pid) x.3 ∙ mine)) two) rows.lwps s.stands.standing e
         where
           by_not : (b : Bool) → not b ≡ true → b ≡ false
           by_not true n = absurd (true≢false (sym n))
@@ -275,11 +278,11 @@ module _ (rows : Rows) (chosen : ProcData → Bool) (f : ProcData → ProcData) 
       → to p ≡ Some q → to_lwp l ≡ Some k → R q k
   left_row R l k p q at fit other run is to_k = subst (λ x. R x k) (some_is (if chosen p then f p else p) q is)
       (by_lwp (λ o. o ≡ Some k → R (if chosen p then f p else p) k) p l
-          (λ c e. subst (λ j. R (if chosen p then f p else p) j) (some_is l k e) (rw c (other c)))
-          (λ c t x e. absurd (grind (arith, e)))
-          (λ c t x e. subst (λ j. R (if chosen p then f p else p) j) (some_is (g p (cleared l)) k e) (rw c (run c (cleared l) (record { flags = refl; child = refl; code = refl }) (cleared_fits p l fit) refl)))
-          (λ c t e. subst (λ j. R (if chosen p then f p else p) j) (some_is (g p l) k e) (rw c (run c l (fit.silent t) fit refl)))
-          (sym (ap (by_owner to_own l) at) ∙ to_k))
+      (λ c e. subst (λ j. R (if chosen p then f p else p) j) (some_is l k e) (rw c (other c)))
+      (λ c t x e. absurd (grind (arith, e)))
+      (λ c t x e. subst (λ j. R (if chosen p then f p else p) j) (some_is (g p (cleared l)) k e) (rw c (run c (cleared l) (record { flags = refl; child = refl; code = refl }) (cleared_fits p l fit) refl)))
+      (λ c t e. subst (λ j. R (if chosen p then f p else p) j) (some_is (g p l) k e) (rw c (run c l (fit.silent t) fit refl)))
+      (sym (ap (by_owner to_own l) at) ∙ to_k))
 
   standing_row : (l k : LwpData) (p q : ProcData) → Beside l → process_of l.pid rows.processes ≡ Some p → to p ≡ Some q → to_lwp l ≡ Some k → Standing after q k
   standing_row l k p q b at is to_k =

@@ -104,17 +104,17 @@ module _ (rows : Rows) (tid : ℕ) (p : ProcData) (l : LwpData) (g : LwpData →
   pub lwp_sound : IsSound (change_lwp tid g rows)
   lwp_sound = subst IsSound (ap (λ ps. record rows { processes = ps; lwps = filter_map (λ k. Some (to k)) rows.lwps }) (edit_none (λ q. Some q) (λ q. refl) rows.processes))
       (sound_holds (edited (λ q. Some q) (λ k. Some (to k)) rows) (change_holds rows (λ q. Some q) to FitProcess Known FitProcess FitLwp held (record {
-    same = record { process = λ q. (refl, refl); lwp = λ k. (either k (λ j. j.tid ≡ k.tid) (λ e. c.tid k) (λ e. refl), either k (λ j. j.pid ≡ k.pid) (λ e. c.own k) (λ e. refl)) };
-    live = λ q fact is. is;
-    ended = λ q fact is. is;
-    tracer = λ q fact. inl refl;
-    parent = λ q fact. refl;
-    named = λ q fact link. link.named;
-    exited = λ q k fact own stood there shown. stood.exited (subst (λ x. shows x PL_FLAG_EXITED ≡ true) (either k (λ j. j.flags ≡ k.flags) (λ e. c.flags k) (λ e. refl)) shown);
-    waits = λ q k fact stood there. either k (λ j. IfSome (waited_for j.mode) (IsLiveOf rows q.uid)) (λ e. known (λ x j. IfSome (waited_for (g j).mode) (IsLiveOf rows x.uid)) q k fact there e c.waits) (λ e. stood.waits);
-    fits = λ q fact link. fact;
-    fit_lwp = λ q r k fact own stood there is. subst (λ x. FitLwp x (to k)) (some_is q r is) (either k (FitLwp q) (λ e. known (λ x j. FitLwp x (g j)) q k own there e (c.fit (known_back k q own there e))) (λ e. own.0));
-  })))
+        same = record { process = λ q. (refl, refl); lwp = λ k. (either k (λ j. j.tid ≡ k.tid) (λ e. c.tid k) (λ e. refl), either k (λ j. j.pid ≡ k.pid) (λ e. c.own k) (λ e. refl)) };
+        live = λ q fact is. is;
+        ended = λ q fact is. is;
+        tracer = λ q fact. inl refl;
+        parent = λ q fact. refl;
+        named = λ q fact link. link.named;
+        exited = λ q k fact own stood there shown. stood.exited (subst (λ x. shows x PL_FLAG_EXITED ≡ true) (either k (λ j. j.flags ≡ k.flags) (λ e. c.flags k) (λ e. refl)) shown);
+        waits = λ q k fact stood there. either k (λ j. IfSome (waited_for j.mode) (IsLiveOf rows q.uid)) (λ e. known (λ x j. IfSome (waited_for (g j).mode) (IsLiveOf rows x.uid)) q k fact there e c.waits) (λ e. stood.waits);
+        fits = λ q fact link. fact;
+        fit_lwp = λ q r k fact own stood there is. subst (λ x. FitLwp x (to k)) (some_is q r is) (either k (FitLwp q) (λ e. known (λ x j. FitLwp x (g j)) q k own there e (c.fit (known_back k q own there e))) (λ e. own.0));
+      })))
     where
       known_back : (k : LwpData) (q : ProcData) → Known q k → process_of k.pid rows.processes ≡ Some q → (k.tid == tid) ≡ true → FitLwp p l
       known_back k q own there is =
