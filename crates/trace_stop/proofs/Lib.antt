@@ -33,3 +33,5 @@ pub mod Told
 pub mod Stopped
 pub mod Killing
 pub mod Running
+pub mod Freed
+pub mod Posts

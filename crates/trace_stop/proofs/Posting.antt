@@ -91,7 +91,7 @@ same_of : {X : Type 0} (view : ProcData → X) (b : Bool) (x y p : ProcData) →
 same_of view true x y p h k = h
 same_of view false x y p h k = k
 
-posted_same : {X : Type 0} (view : ProcData → X) (s : ℕ) (to : Option ℕ) (p : ProcData) → ((n : ℕ) → view (record p { pending = n }) ≡ view p) → ((n : ℕ) → view (record p { pending = n; state = Run; continued = true }) ≡ view p) → view (posted_process s to p) ≡ view p
+pub posted_same : {X : Type 0} (view : ProcData → X) (s : ℕ) (to : Option ℕ) (p : ProcData) → ((n : ℕ) → view (record p { pending = n }) ≡ view p) → ((n : ℕ) → view (record p { pending = n; state = Run; continued = true }) ≡ view p) → view (posted_process s to p) ≡ view p
 posted_same view s to p h k = same_of view (continues s p) (record p { pending = posted_set s (is_none to) p p.pending; state = Run; continued = true }) (record p { pending = posted_set s (is_none to) p p.pending }) p (k _) (h _)
 
 pub posted_live : (s : ℕ) (to : Option ℕ) (p : ProcData) → is_live p ≡ true → is_live (posted_process s to p) ≡ true

@@ -1,5 +1,5 @@
 -- Processes that run on keep rows sound: an LWP that has exited is gone, and it isn't the last one.
-use Rattle.std.proofs.Common.{◌≡◌, ◌≢◌, ◌⊎◌, inl, inr, ℕ, zero, suc, ◌+◌, ◌<◌, ◌≤◌, Bool, true, false, cond, ◌==◌, ◌&&◌, ◌||◌, not, if◌then◌else◌, List, [], ◌∷◌, filter_map, option_map, Option, Some, None, IfSome, is_some, refl, sym, ap, ◌∙◌, true≢false, subst, arith, eqb-true, eq-eqb}
+use Rattle.std.proofs.Common.{◌≡◌, ◌≢◌, ◌⊎◌, inl, inr, ℕ, zero, suc, ◌+◌, ◌<◌, ◌≤◌, Bool, true, false, cond, ◌==◌, ◌&&◌, ◌||◌, not, if◌then◌else◌, List, [], ◌∷◌, filter_map, option_map, Option, Some, None, IfSome, is_some, refl, sym, ap, ◌∙◌, true≢false, subst, arith, eqb-true, eq-eqb, bit_and}
 use Rattle.std.specs.Prelude.{count_by}
 use Rattle.std.specs.List.{AllByRecursion, list_any, cons_option}
 use Rattle.event_masks.specs.Exits.{shows, no_flags}
@@ -229,3 +229,83 @@ module _ (rows : Rows) (chosen : ProcData → Bool) (f : ProcData → ProcData) 
           by_not : (b : Bool) → not b ≡ true → b ≡ false
           by_not true n = absurd (true≢false (sym n))
           by_not false n = refl
+
+  linked_row : (p : ProcData) → Fact p → Linked after (if chosen p then f p else p)
+  linked_row p fact = choose (chosen p) (f p) p (Linked after)
+      (λ c. record {
+        tracer = subst (λ u. IfSome (f p).tracer (IsLiveOf after u)) (sym (shape.uid p)) (by_tracer (shape.tracer p));
+        parent = λ ne. subst (λ u. IsLiveOf after u (f p).parent) (sym (shape.uid p)) (subst (IsLiveOf after p.uid) (sym (shape.parent p)) (live_after p.uid p.parent (fact.link.parent (λ one. ne (shape.parent p ∙ one)))));
+        chain = subst (λ n. meets 250 after.processes n n ≡ false) (sym (shape.pid p)) (chain p fact);
+        named = subst (λ o. IfSome o (λ tid. names_own after (f p) tid ≡ true)) (sym (shape.quiet p)) tt;
+        peopled = λ live. subst (λ n. 1 ≤ lwp_count n after) (sym (shape.pid p)) (peopled p fact c);
+      })
+      (λ c. record {
+        tracer = If_more (IsLiveOf rows p.uid) (IsLiveOf after p.uid) (live_after p.uid) p.tracer fact.link.tracer;
+        parent = λ ne. live_after p.uid p.parent (fact.link.parent ne);
+        chain = chain p fact;
+        named = If_more (λ tid. names_own rows p tid ≡ true) (λ tid. names_own after p tid ≡ true) (λ tid. names_other p tid fact c) (reporting p) fact.link.named;
+        peopled = λ live. let some = fact.link.peopled live in let more = count_other p fact c in omega (arith, some, more);
+      })
+    where
+      chain : (q : ProcData) → Fact q → meets 250 after.processes q.pid q.pid ≡ false
+      chain q fact = no_ring rows.processes after.processes tracer_before 250 q.pid fact.link.chain
+
+      by_tracer : ((f p).tracer ≡ p.tracer) ⊎ ((f p).tracer ≡ None) → IfSome (f p).tracer (IsLiveOf after p.uid)
+      by_tracer (inl e) = subst (λ o. IfSome o (IsLiveOf after p.uid)) (sym e) (If_more (IsLiveOf rows p.uid) (IsLiveOf after p.uid) (live_after p.uid) p.tracer fact.link.tracer)
+      by_tracer (inr e) = subst (λ o. IfSome o (IsLiveOf after p.uid)) (sym e) tt
+
+  abbrev Beside : LwpData → Type 0
+  Beside l = WithOwner rows FitLwp l × WithOwner rows (Standing rows) l
+
+  besides : AllByRecursion Beside rows.lwps
+  besides = All-both (WithOwner rows FitLwp) (WithOwner rows (Standing rows)) rows.lwps s.lwps s.stands.standing
+
+  gone : (l : LwpData) (p : ProcData) → Beside l → process_of l.pid rows.processes ≡ Some p → to p ≡ None → to_lwp l ≡ None
+  gone l p b at none = absurd (grind (arith, none))
+
+  fact_of : (n : ℕ) (p : ProcData) → process_of n rows.processes ≡ Some p → Fact p
+  fact_of n p at = (find_some (λ q. q.pid == n) Fact rows.processes facts p at).0
+
+  silent_shows : (l : LwpData) → Silent l → shows l.flags PL_FLAG_EXITED ≡ false
+  silent_shows l silent = subst (λ n. (bit_and n PL_FLAG_EXITED.0 == PL_FLAG_EXITED.0) ≡ false) (sym silent.flags) refl
+
+  cleared_fits : (p : ProcData) (l : LwpData) → FitLwp p l → FitLwp p (cleared l)
+  cleared_fits p l fit = record { untraced = λ none. let was = fit.untraced none in record { due = was.due; stepping = was.stepping; suspended = was.suspended; pending = was.pending }; silent = λ off. record { flags = refl; child = refl; code = refl }; blocked = fit.blocked }
+
+  -- what holds of an LWP that is left beside its process: for one that lives on as it was, and for a silent one that runs on
+  left_row : (R : ProcData → LwpData → Type 0) (l k : LwpData) (p q : ProcData) → process_of l.pid rows.processes ≡ Some p → FitLwp p l
+      → (chosen p ≡ false → R p l) → (chosen p ≡ true → (j : LwpData) → Silent j → FitLwp p j → j.mode ≡ l.mode → R (f p) (g p j))
+      → to p ≡ Some q → to_lwp l ≡ Some k → R q k
+  left_row R l k p q at fit other run is to_k = subst (λ x. R x k) (some_is (if chosen p then f p else p) q is)
+      (by_lwp (λ o. o ≡ Some k → R (if chosen p then f p else p) k) p l
+      (λ c e. subst (λ j. R (if chosen p then f p else p) j) (some_is l k e) (rw c (other c)))
+      (λ c t x e. absurd (grind (arith, e)))
+      (λ c t x e. subst (λ j. R (if chosen p then f p else p) j) (some_is (g p (cleared l)) k e) (rw c (run c (cleared l) (record { flags = refl; child = refl; code = refl }) (cleared_fits p l fit) refl)))
+      (λ c t e. subst (λ j. R (if chosen p then f p else p) j) (some_is (g p l) k e) (rw c (run c l (fit.silent t) fit refl)))
+      (sym (ap (by_owner to_own l) at) ∙ to_k))
+
+  standing_row : (l k : LwpData) (p q : ProcData) → Beside l → process_of l.pid rows.processes ≡ Some p → to p ≡ Some q → to_lwp l ≡ Some k → Standing after q k
+  standing_row l k p q b at is to_k =
+      let fact = fact_of l.pid p at in
+      let stood = b.1 p at in
+      left_row (Standing after) l k p q at (b.0 p at)
+      (λ c. record {
+        live = stood.live;
+        exited = λ shown. let few = stood.exited shown in let more = count_other p fact c in omega (arith, few, more);
+        waits = If_more (IsLiveOf rows p.uid) (IsLiveOf after p.uid) (live_after p.uid) (waited_for l.mode) stood.waits;
+      })
+      (λ c j silent fit mode. record {
+        live = shape.lives p;
+        exited = λ shown. absurd (true≢false (sym (subst (λ x. shows x PL_FLAG_EXITED ≡ true) (shape.flags p j) shown) ∙ silent_shows j silent));
+        waits = subst (λ u. IfSome (waited_for (g p j).mode) (IsLiveOf after u)) (sym (shape.uid p)) (subst (λ m. IfSome (waited_for m) (IsLiveOf after p.uid)) (sym (shape.mode p j ∙ mode)) (If_more (IsLiveOf rows p.uid) (IsLiveOf after p.uid) (live_after p.uid) (waited_for l.mode) stood.waits));
+      }) is to_k
+
+  fit_row : (l k : LwpData) (p q : ProcData) → Beside l → process_of l.pid rows.processes ≡ Some p → to p ≡ Some q → to_lwp l ≡ Some k → FitLwp q k
+  fit_row l k p q b at is to_k = left_row FitLwp l k p q at (b.0 p at) (λ c. b.0 p at) (λ c j silent fit mode. (fact_of l.pid p at).run.fit_lwp c j silent fit) is to_k
+
+  pub run_on_sound : IsSound (run_on chosen f g rows)
+  run_on_sound = record {
+    stands = edited_stands rows to to_lwp same Beside gone besides s.stands (All-edit to Fact (Linked after) linked_row rows.processes facts) (owners_after rows to to_lwp same Beside (Standing after) gone standing_row s.stands.housed besides);
+    processes = All-edit to Fact FitProcess (λ p fact. choose (chosen p) (f p) p FitProcess (λ c. fact.run.fits c fact.fit) (λ c. fact.fit)) rows.processes facts;
+    lwps = owners_after rows to to_lwp same Beside FitLwp gone fit_row s.stands.housed besides;
+  }

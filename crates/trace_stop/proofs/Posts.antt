@@ -1,0 +1,89 @@
+-- Posting any signal, and resuming or detaching with one, keep rows sound.
+use Rattle.std.proofs.Common.{◌≡◌, ◌≢◌, ℕ, ◌≤◌, Bool, true, false, ◌==◌, ◌&&◌, ◌||◌, not, if◌then◌else◌, List, [], ◌∷◌, Option, Some, None, IfSome, refl, sym, ap, ◌∙◌, true≢false, subst, eqb-true, eq-eqb}
+use Rattle.std.specs.List.{AllByRecursion}
+use Rattle.signals.specs.Dispositions.{Actions}
+use Rattle.signals.specs.Sets.{has}
+use Rattle.signals.specs.Table.{SIGKILL, is_signal, stops, is_discarded, ends}
+use Rattle.lwp_table.specs.declared.LwpData.{LwpData}
+use Rattle.proc_table.specs.declared.ProcData.{ProcData}
+use Rattle.proc_table.specs.Processes.{is_live, process_of}
+use Rattle.proc_table.specs.Rows.{Rows, change, is_numbered}
+use Rattle.trace_stop.specs.declared.Settings.{Settings}
+use Rattle.trace_stop.specs.Post.{continues, posted_process, posted_lwp, notified, told, posted}
+use Rattle.trace_stop.specs.Free.{running, resumed, detached}
+use Rattle.trace_stop.specs.End.{end}
+use Rattle.trace_stop.specs.Stop.{post, ends_process, resume, detach}
+use Rattle.trace_stop.specs.Sound.{is_end}
+use Rattle.trace_stop.specs.Facts.{IsLiveOf, Linked, FitProcess, FitLwp, IsSound}
+use Rattle.trace_stop.proofs.Every.{and_left, and_right, both, by_bool, not_true, or_true, All-imply, All-both, find_some}
+use Rattle.trace_stop.proofs.Edited.{owner_after}
+use Rattle.trace_stop.proofs.Changed.{Holds, sound_holds, found_number}
+use Rattle.trace_stop.proofs.Posting.{LiveFit, post_chosen, posted_same}
+use Rattle.trace_stop.proofs.Stopping.{the_row, MayTell, live_told, notified_sound}
+use Rattle.trace_stop.proofs.Freed.{resumed_sound, resumed_row, detached_sound, end_sound}
+
+choose : {X : Type 0} (b : Bool) (x y : X) (R : X → Type 0) → (b ≡ true → R x) → (b ≡ false → R y) → R (if b then x else y)
+choose true x y R h k = h refl
+choose false x y R h k = k refl
+
+-- a signal that ends a process is the word of an end
+or_last : (a b : Bool) → not (a || b) ≡ true → b ≡ false
+or_last true b is = absurd (true≢false (sym is))
+or_last false b is = not_true b is
+
+pub ends_word : (d : Actions) (n : ℕ) → ends d n ≡ true → is_end n ≡ true
+ends_word d n is = or_second _ (both (is_signal n) (not (n == 19)) (and_left (is_signal n) _ is) (ap not (by_bool (n == 19) (λ e.
+    true≢false (sym (subst (λ m. is_discarded m ≡ true) (sym (eqb-true n 19 e)) refl) ∙ or_last (has d.ignored n || has d.caught n || stops n) (is_discarded n) (and_right (is_signal n) _ is))))))
+  where
+    or_second : (a : Bool) {b : Bool} → b ≡ true → (a || b) ≡ true
+    or_second true h = refl
+    or_second false h = h
+
+module _ (rows : Rows) (pid : ℕ) (p : ProcData) (s : IsSound rows) (at : process_of pid rows.processes ≡ Some p) (live : is_live p ≡ true) where
+  number : p.pid ≡ pid
+  number = found_number pid rows.processes p at
+
+  pub end_at : (settings : Settings) (status : ℕ) → is_end status ≡ true → IsSound (end settings pid status rows)
+  end_at settings status word = subst (λ n. IsSound (end settings n status rows)) number (end_sound settings rows p s (subst (λ n. process_of n rows.processes ≡ Some p) (sym number) at) live status word)
+
+  pub posted_sound : (sig : ℕ) (to : Option ℕ) → IsSound (posted sig to pid rows)
+  posted_sound sig to = subst (λ o. IsSound (notified (told sig o) made)) (sym at) (notified_sound made (told sig (Some p)) made_sound (choose (continues sig p) (p.parent ∷ []) [] (AllByRecursion (MayTell made)) (λ e. (tell, tt)) (λ e. tt)))
+    where
+      made : Rows
+      made = change (is_numbered pid) (posted_process sig to) (posted_lwp sig to) rows
+
+      made_sound : IsSound made
+      made_sound = sound_holds made (post_chosen rows (is_numbered pid) sig to (record {
+        stands = s.stands;
+        processes = All-imply (λ q. FitProcess q × (q.pid ≡ pid → q ≡ p)) (LiveFit (is_numbered pid)) (λ q h. (h.0, λ is. subst (λ r. is_live r ≡ true) (sym (h.1 (eqb-true q.pid pid is))) live)) rows.processes (All-both FitProcess (λ q. q.pid ≡ pid → q ≡ p) rows.processes s.processes (the_row pid rows.processes p s.stands.rising at));
+        lwps = s.lwps;
+      }))
+
+      q : ProcData
+      q = posted_process sig to p
+
+      found : process_of pid made.processes ≡ Some q
+      found = owner_after rows (λ r. Some (if r.pid == pid then posted_process sig to r else r)) (λ l. Some l)
+          (record { process = λ r. choose (r.pid == pid) (posted_process sig to r) r (λ x. (x.pid ≡ r.pid) × (x.uid ≡ r.uid)) (λ e. (posted_same (λ x. x.pid) sig to r (λ n. refl) (λ n. refl), posted_same (λ x. x.uid) sig to r (λ n. refl) (λ n. refl))) (λ e. (refl, refl)); lwp = λ l. (refl, refl) })
+          pid p q at (rw (eq-eqb p.pid pid number) refl)
+
+      same : q.parent ≡ p.parent
+      same = posted_same (λ x. x.parent) sig to p (λ n. refl) (λ n. refl)
+
+      tell : MayTell made p.parent
+      tell ne = subst (λ n. MayTell made n) same (λ other. live_told made q.uid q.parent ((find_some (λ r. r.pid == pid) (Linked made) made.processes made_sound.stands.linked q found).0.parent other) other) ne
+
+  pub post_sound : (settings : Settings) (sig : ℕ) (to : Option ℕ) → IsSound (post settings sig to pid rows)
+  post_sound settings sig to = choose (sig == SIGKILL) (end settings pid SIGKILL rows) (posted sig to pid rows) IsSound (λ e. end_at settings SIGKILL refl) (λ e. posted_sound sig to)
+
+-- Resuming and detaching with a signal
+module _ (settings : Settings) (rows : Rows) (pid : ℕ) (p : ProcData) (s : IsSound rows) (at : process_of pid rows.processes ≡ Some p) (live : is_live p ≡ true) where
+  ends_at : (sig : ℕ) → ends_process sig (process_of pid rows.processes) ≡ true → IsSound (end settings pid sig (resumed pid rows))
+  ends_at sig is = end_at (resumed pid rows) pid (running p) (resumed_sound rows pid p s at live) (resumed_row rows pid p s at live) refl settings sig (ends_word p.dispositions sig (subst (λ o. ends_process sig o ≡ true) at is))
+
+  pub resume_sound : (sig : ℕ) → IsSound (resume settings pid sig rows)
+  resume_sound sig = choose (ends_process sig (process_of pid rows.processes)) (end settings pid sig (resumed pid rows)) (resumed pid rows) IsSound (ends_at sig) (λ e. resumed_sound rows pid p s at live)
+
+  pub detach_sound : (sig : ℕ) → IsSound (detach settings pid sig rows)
+  detach_sound sig = choose (ends_process sig (process_of pid rows.processes)) (end settings pid sig (resumed pid rows)) (detached (is_numbered pid) (λ q. 0) rows) IsSound (ends_at sig)
+      (λ e. detached_sound (is_numbered pid) (λ q. 0) rows s (All-imply (λ q. q.pid ≡ pid → q ≡ p) (λ q. (q.pid == pid) ≡ true → is_live q ≡ true) (λ q one is. subst (λ r. is_live r ≡ true) (sym (one (eqb-true q.pid pid is))) live) rows.processes (the_row pid rows.processes p s.stands.rising at)))
