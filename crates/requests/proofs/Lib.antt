@@ -6,3 +6,4 @@ pub mod Replies
 pub mod Hosted
 pub mod Collecting
 pub mod Steps
+pub mod Kills

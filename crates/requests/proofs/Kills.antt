@@ -1,0 +1,99 @@
+-- Kills and installed policies keep a host sound.
+use Rattle.std.proofs.Common.{◌≡◌, ◌≢◌, ℕ, ℤ, ◌+◌, ◌<◌, ◌≤◌, Bool, true, false, ◌==◌, ◌&&◌, ◌||◌, not, leb, if◌then◌else◌, List, [], ◌∷◌, ◌++◌, length, length-append, zip, Option, Some, None, refl, sym, ap, ◌∙◌, arith, true≢false, subst, eqb-true, eq-eqb, get_or, set, get_or-set_same, get_or-set_other, length-set}
+use Rattle.std.specs.List.{list_all}
+use Rattle.std.proofs.lemmas.Bool.{leb-true, le-leb, leb-false}
+use Rattle.std.proofs.lemmas.List.Folds.{list_all-append}
+use Rattle.pid_blocks.specs.Users.{IsUser}
+use Rattle.pid_blocks.specs.Blocks.{slot, users}
+use Rattle.pid_blocks.specs.declared.Errno.TheVariants.{ESRCH, EINVAL, EAGAIN}
+use Rattle.proc_table.specs.declared.ProcData.{ProcData}
+use Rattle.proc_table.specs.Processes.{is_live, process_of}
+use Rattle.proc_table.specs.Rows.{Rows}
+use Rattle.trace_stop.specs.declared.Settings.{Settings}
+use Rattle.trace_stop.specs.Stop.{post}
+use Rattle.trace_stop.specs.Sound.{is_live_of, sound_rows}
+use Rattle.trace_stop.specs.Facts.{IsLiveOf, IsSound}
+use Rattle.trace_stop.proofs.Every.{and_left, and_right, both}
+use Rattle.trace_stop.proofs.Changed.{found_number}
+use Rattle.trace_stop.proofs.FromSound.{user_at, zip_users}
+use Rattle.trace_stop.proofs.Posts.{post_sound}
+use Rattle.trace_stop.proofs.Stops.{find_passes}
+use Rattle.stop_handlers.specs.declared.Rule.{Rule}
+use Rattle.requests.specs.declared.PlainStep.TheVariants as op
+use Rattle.requests.specs.Outcome.{Outcome, refuses}
+use Rattle.requests.specs.Reach.{is_which, reach, post_if_live, post_all, reached, kill}
+use Rattle.requests.specs.Handle.{install}
+use Rattle.requests.specs.Machine.{Installed, Machine, installed_by, after}
+use Rattle.requests.specs.Sound.{sound_installed, sound}
+use Rattle.requests.specs.Step.{step}
+use Rattle.requests.proofs.After.{pairs_test, rows_sound, after_sound}
+use Rattle.requests.proofs.Steps.{Caller, checked_sound}
+
+choose : {X : Type 0} (b : Bool) (x y : X) (R : X → Type 0) → (b ≡ true → R x) → (b ≡ false → R y) → R (if b then x else y)
+choose true x y R h k = h refl
+choose false x y R h k = k refl
+
+posted_if_live : (settings : Settings) (sig n : ℕ) (rows : Rows) → IsSound rows → (o : Option ProcData) → process_of n rows.processes ≡ o → IsSound (post_if_live settings sig o rows)
+posted_if_live settings sig n rows s None at = s
+posted_if_live settings sig n rows s (Some p) at = choose (is_live p && not (sig == 0)) (post settings sig None p.pid rows) rows IsSound
+    (λ e. post_sound rows p.pid p s (subst (λ m. process_of m rows.processes ≡ Some p) (sym (found_number n rows.processes p at)) at) (and_left (is_live p) (not (sig == 0)) e) settings sig None) (λ e. s)
+
+posted_all : (settings : Settings) (sig : ℕ) (ps : List ProcData) (rows : Rows) → IsSound rows → IsSound (post_all settings sig ps rows)
+posted_all settings sig [] rows s = s
+posted_all settings sig (p ∷ ps) rows s = posted_all settings sig ps (post_if_live settings sig (process_of p.pid rows.processes) rows) (posted_if_live settings sig p.pid rows s (process_of p.pid rows.processes) refl)
+
+reached_sound : (settings : Settings) (sig : ℕ) (ps : List ProcData) (rows : Rows) → IsSound rows → IsSound (reached settings sig ps rows).rows
+reached_sound settings sig [] rows s = s
+reached_sound settings sig (p ∷ ps) rows s = posted_all settings sig (p ∷ ps) rows s
+
+pub kill_sound : (m : Machine) (u n : ℕ) (which : ℤ) (sig : ℕ) → sound m ≡ true → sound (step u (op.Kill n which sig) m).machine ≡ true
+kill_sound m u n which sig is = checked_sound u (op.Kill n which sig) m n is (λ p c. after_sound m (kill m.settings u p.pid which sig m.rows) is
+    (choose (not (leb sig 31) || not (is_which which)) (refuses EINVAL m.rows) (reached m.settings sig (reach u p.pid which m.rows) m.rows) (λ o. IsSound o.rows) (λ e. rows_sound m is) (λ e. reached_sound m.settings sig (reach u p.pid which m.rows) m.rows (rows_sound m is))))
+
+-- Installed policies
+
+live_caller : (rows : Rows) (u : ℕ) (p : ProcData) → Caller u rows p → IsLiveOf rows u p.pid
+live_caller rows u p c = find_passes (λ q. q.pid == p.pid) (λ q. (q.pid == p.pid) && (q.uid == u) && is_live q) rows.processes p c.at (both ((p.pid == p.pid) && (p.uid == u)) (is_live p) (both (p.pid == p.pid) (p.uid == u) (eq-eqb p.pid p.pid refl) (eq-eqb p.uid u c.uid)) c.live)
+
+module _ (m : Machine) (u : ℕ) (p : ProcData) (policy : List Rule) (user : IsUser u) (is : sound m ≡ true) (c : Caller u m.rows p) where
+  abbrev pair : Installed
+  pair = record { debugger = p.pid; policy = policy }
+
+  abbrev more : List (List Installed)
+  more = set m.installed (slot u) (installed_by u m ++ (pair ∷ []))
+
+  had : sound_installed m ≡ true
+  had = and_right (sound_rows m.rows) (sound_installed m) is
+
+  slots : length m.installed ≡ 64
+  slots = eqb-true (length m.installed) 64 (and_left (length m.installed == 64) (list_all (pairs_test m.rows) (zip users m.installed)) had)
+
+  each : (w : ℕ) → IsUser w → pairs_test m.rows (w, installed_by w m) ≡ true
+  each w its = user_at (pairs_test m.rows) m.installed [] slots (and_right (length m.installed == 64) (list_all (pairs_test m.rows) (zip users m.installed)) had) w its
+
+  room : leb 64 (length (installed_by u m)) ≡ false → (w : ℕ) → IsUser w → pairs_test m.rows (w, get_or more (slot w) []) ≡ true
+  room few w its = by_user (w == u) refl
+    where
+      by_user : (b : Bool) → (w == u) ≡ b → pairs_test m.rows (w, get_or more (slot w) []) ≡ true
+      by_user true e =
+          let same = eqb-true w u e in
+          let here : get_or more (slot u) [] ≡ installed_by u m ++ (pair ∷ []) = get_or-set_same m.installed (slot u) (installed_by u m ++ (pair ∷ [])) [] (omega (arith, user.0, user.1, slots)) in
+          let less = leb-false 64 (length (installed_by u m)) few in
+          let count = length-append (installed_by u m) (pair ∷ []) in
+          let one : length {A = Installed} (pair ∷ []) ≡ 1 = refl in
+          let all = list_all-append (λ i. is_live_of m.rows u i.debugger) (installed_by u m) (pair ∷ []) in
+          subst (λ v. pairs_test m.rows (v, get_or more (slot v) []) ≡ true) (sym same) (rw here (both (leb (length (installed_by u m ++ (pair ∷ []))) 64) (list_all (λ i. is_live_of m.rows u i.debugger) (installed_by u m ++ (pair ∷ [])))
+              (le-leb (length (installed_by u m ++ (pair ∷ []))) 64 (omega (arith, less, count, one)))
+              (all ∙ both (list_all (λ i. is_live_of m.rows u i.debugger) (installed_by u m)) (list_all (λ i. is_live_of m.rows u i.debugger) (pair ∷ [])) (and_right (leb (length (installed_by u m)) 64) (list_all (λ i. is_live_of m.rows u i.debugger) (installed_by u m)) (each u user)) (both (is_live_of m.rows u p.pid) true (live_caller m.rows u p c) refl))))
+      by_user false e =
+          let ne : w ≢ u = λ same. true≢false (sym (eq-eqb w u same) ∙ e) in
+          let other : slot w ≢ slot u = omega (arith, ne, user.0, user.1, its.0, its.1) in
+          rw (get_or-set_other m.installed (slot u) (slot w) (installed_by u m ++ (pair ∷ [])) [] other) (each w its)
+
+  pub installed_sound : sound (install u p policy m).machine ≡ true
+  installed_sound = choose (leb 64 (length (installed_by u m))) (after m (refuses EAGAIN m.rows)) _ (λ a. sound a.machine ≡ true) (λ e. after_sound m (refuses EAGAIN m.rows) is (rows_sound m is))
+      (λ few. both (sound_rows m.rows) (sound_installed (record m { installed = more })) (and_left (sound_rows m.rows) (sound_installed m) is)
+          (both (length more == 64) (list_all (pairs_test m.rows) (zip users more)) (eq-eqb (length more) 64 (length-set m.installed (slot u) (installed_by u m ++ (pair ∷ [])) ∙ slots)) (zip_users (pairs_test m.rows) more [] (room few))))
+
+pub install_sound : (m : Machine) (u n : ℕ) (policy : List Rule) → IsUser u → sound m ≡ true → sound (step u (op.Install n policy) m).machine ≡ true
+install_sound m u n policy user is = checked_sound u (op.Install n policy) m n is (λ p c. installed_sound m u p policy user is c)
