@@ -83,8 +83,8 @@ module _ (m : Machine) (u : ℕ) (p : ProcData) (policy : List Rule) (user : IsU
           let one : length {A = Installed} (pair ∷ []) ≡ 1 = refl in
           let all = list_all-append (λ i. is_live_of m.rows u i.debugger) (installed_by u m) (pair ∷ []) in
           subst (λ v. pairs_test m.rows (v, get_or more (slot v) []) ≡ true) (sym same) (rw here (both (leb (length (installed_by u m ++ (pair ∷ []))) 64) (list_all (λ i. is_live_of m.rows u i.debugger) (installed_by u m ++ (pair ∷ [])))
-              (le-leb (length (installed_by u m ++ (pair ∷ []))) 64 (omega (arith, less, count, one)))
-              (all ∙ both (list_all (λ i. is_live_of m.rows u i.debugger) (installed_by u m)) (list_all (λ i. is_live_of m.rows u i.debugger) (pair ∷ [])) (and_right (leb (length (installed_by u m)) 64) (list_all (λ i. is_live_of m.rows u i.debugger) (installed_by u m)) (each u user)) (both (is_live_of m.rows u p.pid) true (live_caller m.rows u p c) refl))))
+          (le-leb (length (installed_by u m ++ (pair ∷ []))) 64 (omega (arith, less, count, one)))
+          (all ∙ both (list_all (λ i. is_live_of m.rows u i.debugger) (installed_by u m)) (list_all (λ i. is_live_of m.rows u i.debugger) (pair ∷ [])) (and_right (leb (length (installed_by u m)) 64) (list_all (λ i. is_live_of m.rows u i.debugger) (installed_by u m)) (each u user)) (both (is_live_of m.rows u p.pid) true (live_caller m.rows u p c) refl))))
       by_user false e =
           let ne : w ≢ u = λ same. true≢false (sym (eq-eqb w u same) ∙ e) in
           let other : slot w ≢ slot u = omega (arith, ne, user.0, user.1, its.0, its.1) in
@@ -93,7 +93,7 @@ module _ (m : Machine) (u : ℕ) (p : ProcData) (policy : List Rule) (user : IsU
   pub installed_sound : sound (install u p policy m).machine ≡ true
   installed_sound = choose (leb 64 (length (installed_by u m))) (after m (refuses EAGAIN m.rows)) _ (λ a. sound a.machine ≡ true) (λ e. after_sound m (refuses EAGAIN m.rows) is (rows_sound m is))
       (λ few. both (sound_rows m.rows) (sound_installed (record m { installed = more })) (and_left (sound_rows m.rows) (sound_installed m) is)
-          (both (length more == 64) (list_all (pairs_test m.rows) (zip users more)) (eq-eqb (length more) 64 (length-set m.installed (slot u) (installed_by u m ++ (pair ∷ [])) ∙ slots)) (zip_users (pairs_test m.rows) more [] (room few))))
+      (both (length more == 64) (list_all (pairs_test m.rows) (zip users more)) (eq-eqb (length more) 64 (length-set m.installed (slot u) (installed_by u m ++ (pair ∷ [])) ∙ slots)) (zip_users (pairs_test m.rows) more [] (room few))))
 
 pub install_sound : (m : Machine) (u n : ℕ) (policy : List Rule) → IsUser u → sound m ≡ true → sound (step u (op.Install n policy) m).machine ≡ true
 install_sound m u n policy user is = checked_sound u (op.Install n policy) m n is (λ p c. installed_sound m u p policy user is c)
