@@ -1,17 +1,16 @@
 -- A change of chosen processes and of their LWPs, and a change of one LWP.
-use Rattle.std.proofs.Common.{◌≡◌, ◌≢◌, ◌⊎◌, inl, inr, ℕ, ◌≤◌, List, [], ◌∷◌, filter_map, Bool, true, false, ◌==◌, if◌then◌else◌, Option, Some, None, IfSome, refl, sym, ap, ap₂, ◌∙◌, arith, true≢false, subst}
-use Rattle.std.specs.List.{AllByRecursion, cons_option}
+use Rattle.std.proofs.Common.{◌≡◌, ◌⊎◌, inl, inr, List, [], ◌∷◌, filter_map, Bool, true, false, if◌then◌else◌, Option, Some, None, IfSome, refl, sym, ap, ap₂, ◌∙◌, subst}
+use Rattle.std.specs.List.{cons_option}
 use Rattle.event_masks.specs.Exits.{shows}
 use Rattle.event_masks.specs.declared.TheConstants.StopFlags.{PL_FLAG_EXITED}
 use Rattle.lwp_table.specs.declared.LwpData.{LwpData}
 use Rattle.proc_table.specs.declared.ProcData.{ProcData}
-use Rattle.proc_table.specs.Processes.{is_live, reporting, process_of}
-use Rattle.proc_table.specs.Rows.{Rows, owner, by_owner, change, change_process, change_lwp, is_numbered}
-use Rattle.proc_table.specs.Fresh.{lwp_count}
+use Rattle.proc_table.specs.Processes.{is_live, reporting}
+use Rattle.proc_table.specs.Rows.{Rows, owner, by_owner, change}
 use Rattle.trace_stop.specs.Sound.{names_own}
-use Rattle.trace_stop.specs.Facts.{IsLiveOf, Linked, waited_for, Standing}
-use Rattle.trace_stop.proofs.Edited.{edited, some_is}
-use Rattle.trace_stop.proofs.Changed.{Holds, Lives, Change, change_holds}
+use Rattle.trace_stop.specs.Facts.{IsLiveOf, Linked, waited_for}
+use Rattle.trace_stop.proofs.Edited.{some_is}
+use Rattle.trace_stop.proofs.Changed.{Holds, Change, change_holds}
 
 pub edits_same : {X : Type 0} (f g : X → Option X) → ((x : X) → f x ≡ g x) → (xs : List X) → filter_map f xs ≡ filter_map g xs
 edits_same f g h [] = refl

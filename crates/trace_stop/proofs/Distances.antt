@@ -1,18 +1,11 @@
 -- A user has at most 250 processes, so a chain of tracers that comes to a process does so within 250 links.
-use Rattle.std.proofs.Common.{◌≡◌, ◌≢◌, ℕ, zero, suc, ◌+◌, ◌<◌, ◌≤◌, Bool, true, false, cond, ◌==◌, ◌&&◌, ◌||◌, not, List, [], ◌∷◌, Option, Some, None, IfSome, refl, sym, ap, ◌∙◌, true≢false, subst, arith, eqb-true, eq-eqb}
+use Rattle.std.proofs.Common.{◌≡◌, ℕ, zero, suc, ◌+◌, ◌<◌, ◌≤◌, Bool, true, false, cond, ◌==◌, ◌&&◌, ◌||◌, not, List, [], ◌∷◌, Option, Some, None, refl, sym, ap, ◌∙◌, true≢false, subst, arith, eqb-true}
 use Rattle.std.specs.Prelude.{count_by}
-use Rattle.std.specs.List.{AllByRecursion, list_any}
+use Rattle.std.specs.List.{list_any}
 use Rattle.proc_table.specs.declared.ProcData.{ProcData}
-use Rattle.proc_table.specs.Processes.{is_live, process_of}
-use Rattle.proc_table.specs.Rows.{Rows}
 use Rattle.proc_table.specs.Seen.{owns}
-use Rattle.proc_table.specs.Fresh.{process_count}
-use Rattle.trace_stop.specs.End.{holds_of, tracer_in, tracer_of, meets}
-use Rattle.trace_stop.specs.Sound.{is_live_of}
-use Rattle.trace_stop.specs.Facts.{IsLiveOf, Linked, Stands}
-use Rattle.trace_stop.proofs.Every.{and_left, and_right, both, or_true, by_bool, All-both, find_some, any_more, count-cons}
-use Rattle.trace_stop.proofs.Changed.{found_number}
-use Rattle.trace_stop.proofs.Stopping.{one_row}
+use Rattle.trace_stop.specs.End.{holds_of, tracer_of, meets}
+use Rattle.trace_stop.proofs.Every.{and_left, and_right, both, by_bool, any_more, count-cons}
 
 -- counts of a test and of a wider one
 cond_less : (a b : Bool) → (a ≡ true → b ≡ true) → cond {A = ℕ} a 1 0 ≤ cond b 1 0

@@ -1,7 +1,7 @@
 -- Ends keep rows sound, where no live process is left whose tracer ends.
-use Rattle.std.proofs.Common.{◌≡◌, ◌≢◌, ◌⊎◌, inl, inr, ℕ, ◌+◌, ◌≤◌, Bool, true, false, cond, ◌==◌, ◌&&◌, ◌||◌, not, if◌then◌else◌, List, [], ◌∷◌, filter_map, find, option_map, Option, Some, None, IfSome, is_some, is_none, unwrap_or, refl, sym, ap, ◌∙◌, true≢false, subst, arith, eqb-true, eq-eqb, bit_and}
+use Rattle.std.proofs.Common.{◌≡◌, ◌≢◌, ℕ, ◌≤◌, Bool, true, false, cond, ◌==◌, ◌&&◌, ◌||◌, not, if◌then◌else◌, List, [], ◌∷◌, filter_map, option_map, Option, Some, None, IfSome, is_some, is_none, unwrap_or, refl, sym, ap, ◌∙◌, true≢false, subst, arith, eqb-true, eq-eqb, bit_and}
 use Rattle.std.specs.Prelude.{count_by}
-use Rattle.std.specs.List.{AllByRecursion, list_any, cons_option}
+use Rattle.std.specs.List.{AllByRecursion, cons_option}
 use Rattle.event_masks.specs.Exits.{shows, asks}
 use Rattle.event_masks.specs.declared.TheConstants.StopFlags.{PL_FLAG_EXITED}
 use Rattle.event_masks.specs.declared.TheConstants.EventMask.{PTRACE_VFORK}
@@ -13,17 +13,17 @@ use Rattle.lwp_table.specs.declared.Due.TheVariants.{VforkDone}
 use Rattle.proc_table.specs.declared.ProcData.{ProcData}
 use Rattle.proc_table.specs.declared.State.{State}
 use Rattle.proc_table.specs.declared.State.TheVariants.{Run, Trace, Job, Zombie}
-use Rattle.proc_table.specs.Processes.{is_live, is_zombie_state, is_job_state, is_run_state, reporting, named_by, is_this, process_of}
-use Rattle.proc_table.specs.Rows.{Rows, owner, by_owner, each}
+use Rattle.proc_table.specs.Processes.{is_live, is_zombie_state, is_job_state, is_run_state, reporting, named_by, process_of}
+use Rattle.proc_table.specs.Rows.{Rows, owner, by_owner}
 use Rattle.proc_table.specs.Fresh.{lwp_count}
 use Rattle.proc_table.specs.Kept.{Rise, AllAbove}
-use Rattle.trace_stop.specs.Post.{unwanted, notified}
+use Rattle.trace_stop.specs.Post.{unwanted}
 use Rattle.trace_stop.specs.End.{holds_of, unless, orphaned, dead, uncollected, process_after, waits_where, released, lwp_after, collector, told_of, end_each, tracer_in, tracer_of, meets}
-use Rattle.trace_stop.specs.Sound.{is_live_of, is_end, names_own, is_due}
-use Rattle.trace_stop.specs.Facts.{IsLiveOf, Linked, Ended, IfEnded, Untraced, FitProcess, waited_for, Standing, UntracedLwp, Silent, FitLwp, WithOwner, Stands, IsSound}
+use Rattle.trace_stop.specs.Sound.{is_end, names_own, is_due}
+use Rattle.trace_stop.specs.Facts.{IsLiveOf, Linked, Ended, IfEnded, FitProcess, waited_for, Standing, FitLwp, WithOwner, IsSound}
 use Rattle.trace_stop.proofs.Every.{and_left, and_right, both, by_bool, All-imply, All-both, All-edit, All-any, find_some, count-cons}
 use Rattle.trace_stop.proofs.Edited.{edited, Same, If_more, some_is, if_at, owners_after, edited_stands}
-use Rattle.trace_stop.proofs.Changed.{no_ring, process_from, any_forward, Lives, lives_at, found_number}
+use Rattle.trace_stop.proofs.Changed.{no_ring, process_from, any_forward}
 use Rattle.trace_stop.proofs.Posting.{live_fits, live_state}
 use Rattle.trace_stop.proofs.Settling.{zero_apart}
 use Rattle.trace_stop.proofs.Stopping.{MayTell, live_told, notified_sound}

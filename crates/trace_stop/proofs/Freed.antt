@@ -1,9 +1,8 @@
 -- Resuming, detaching and ending keep rows sound.
-use Rattle.std.proofs.Common.{◌≡◌, ◌≢◌, ◌⊎◌, inl, inr, ℕ, ◌≤◌, Bool, true, false, ◌==◌, ◌&&◌, ◌||◌, not, leb, if◌then◌else◌, List, [], ◌∷◌, Option, Some, None, IfSome, is_some, refl, sym, ap, ◌∙◌, true≢false, subst, eqb-true, eq-eqb}
+use Rattle.std.proofs.Common.{◌≡◌, inl, inr, ℕ, Bool, true, false, ◌==◌, ◌&&◌, if◌then◌else◌, Some, is_some, refl, sym, ◌∙◌, true≢false, subst, eqb-true, eq-eqb}
 use Rattle.std.specs.List.{AllByRecursion}
-use Rattle.signals.specs.Dispositions.{Actions}
-use Rattle.signals.specs.Sets.{has, without, bit}
-use Rattle.signals.specs.Table.{SIGTRAP, is_signal, stops, is_discarded}
+use Rattle.signals.specs.Sets.{without, bit}
+use Rattle.signals.specs.Table.{SIGTRAP}
 use Rattle.lwp_table.specs.declared.LwpData.{LwpData}
 use Rattle.proc_table.specs.declared.ProcData.{ProcData}
 use Rattle.proc_table.specs.Processes.{is_live, traces, reporting, process_of}
@@ -12,11 +11,10 @@ use Rattle.trace_stop.specs.declared.Settings.{Settings}
 use Rattle.trace_stop.specs.Post.{unwanted}
 use Rattle.trace_stop.specs.Free.{running, untraced, untraced_lwp, resumed, detached}
 use Rattle.trace_stop.specs.End.{left_alone, end_of, end}
-use Rattle.trace_stop.specs.Stop.{ends_process, resume, detach}
 use Rattle.trace_stop.specs.Sound.{is_end}
 use Rattle.trace_stop.specs.Facts.{FitProcess, FitLwp, Silent, IsSound}
-use Rattle.trace_stop.proofs.Every.{and_left, and_right, both, by_bool, not_true, All-imply, All-both, All-edit, All-any}
-use Rattle.trace_stop.proofs.Edited.{some_is, owner_after}
+use Rattle.trace_stop.proofs.Every.{and_left, both, by_bool, All-imply, All-edit, All-any}
+use Rattle.trace_stop.proofs.Edited.{owner_after}
 use Rattle.trace_stop.proofs.Changed.{found_number}
 use Rattle.trace_stop.proofs.Bits.{without_apart}
 use Rattle.trace_stop.proofs.Stopping.{the_row}

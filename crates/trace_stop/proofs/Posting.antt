@@ -1,20 +1,19 @@
 -- Settling and posting keep rows sound.
-use Rattle.std.proofs.Common.{◌≡◌, ◌≢◌, ◌⊎◌, inl, inr, ℕ, Bool, true, false, ◌==◌, ◌&&◌, if◌then◌else◌, List, [], ◌∷◌, Option, Some, None, is_some, is_none, not, refl, sym, ap, ◌∙◌, true≢false, subst, bit_and, eqb-true}
-use Rattle.std.specs.List.{AllByRecursion, list_any}
+use Rattle.std.proofs.Common.{◌≡◌, ◌⊎◌, inl, inr, ℕ, Bool, true, false, ◌==◌, if◌then◌else◌, Option, None, is_none, not, refl, sym, ap, ◌∙◌, true≢false, bit_and}
 use Rattle.signals.specs.Sets.{with, without}
-use Rattle.signals.specs.Table.{SIGCONT, SIGCHLD, nothing}
+use Rattle.signals.specs.Table.{SIGCONT}
 use Rattle.lwp_table.specs.declared.LwpData.{LwpData}
 use Rattle.proc_table.specs.declared.ProcData.{ProcData}
 use Rattle.proc_table.specs.declared.State.{State}
 use Rattle.proc_table.specs.declared.State.TheVariants.{Run, Trace, Job, Zombie}
-use Rattle.proc_table.specs.Processes.{is_live, is_zombie_state, is_job, is_job_state, is_run, reporting, named_by, is_this}
-use Rattle.proc_table.specs.Rows.{Rows, change, is_numbered}
-use Rattle.trace_stop.specs.Post.{unwanted, settled_process, settled_lwp, settle, opposed, continues, posted_set, posted_process, posted_lwp, notified}
-use Rattle.trace_stop.specs.Facts.{Ended, IfEnded, Untraced, FitProcess, UntracedLwp, FitLwp, Silent}
-use Rattle.trace_stop.proofs.Every.{and_left, and_right, by_bool}
+use Rattle.proc_table.specs.Processes.{is_live, is_zombie_state, is_job, is_job_state, reporting, named_by, is_this}
+use Rattle.proc_table.specs.Rows.{Rows, change}
+use Rattle.trace_stop.specs.Post.{unwanted, opposed, continues, posted_set, posted_process, posted_lwp}
+use Rattle.trace_stop.specs.Facts.{IfEnded, FitProcess, FitLwp, Silent}
+use Rattle.trace_stop.proofs.Every.{and_right}
 use Rattle.trace_stop.proofs.Bits.{without_apart}
 use Rattle.trace_stop.proofs.Changed.{Holds}
-use Rattle.trace_stop.proofs.Changes.{Changes, changes_hold}
+use Rattle.trace_stop.proofs.Changes.{changes_hold}
 
 -- a live process is no zombie
 pub live_fits : (p : ProcData) (s : State) → is_zombie_state s ≡ false → IfEnded p s

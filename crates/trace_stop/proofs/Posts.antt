@@ -1,10 +1,9 @@
 -- Posting any signal, and resuming or detaching with one, keep rows sound.
-use Rattle.std.proofs.Common.{◌≡◌, ◌≢◌, ℕ, ◌≤◌, Bool, true, false, ◌==◌, ◌&&◌, ◌||◌, not, if◌then◌else◌, List, [], ◌∷◌, Option, Some, None, IfSome, refl, sym, ap, ◌∙◌, true≢false, subst, eqb-true, eq-eqb}
+use Rattle.std.proofs.Common.{◌≡◌, ℕ, Bool, true, false, ◌==◌, ◌||◌, not, if◌then◌else◌, [], ◌∷◌, Option, Some, refl, sym, ap, ◌∙◌, true≢false, subst, eqb-true, eq-eqb}
 use Rattle.std.specs.List.{AllByRecursion}
 use Rattle.signals.specs.Dispositions.{Actions}
 use Rattle.signals.specs.Sets.{has}
 use Rattle.signals.specs.Table.{SIGKILL, is_signal, stops, is_discarded, ends}
-use Rattle.lwp_table.specs.declared.LwpData.{LwpData}
 use Rattle.proc_table.specs.declared.ProcData.{ProcData}
 use Rattle.proc_table.specs.Processes.{is_live, process_of}
 use Rattle.proc_table.specs.Rows.{Rows, change, is_numbered}
@@ -14,10 +13,10 @@ use Rattle.trace_stop.specs.Free.{running, resumed, detached}
 use Rattle.trace_stop.specs.End.{end}
 use Rattle.trace_stop.specs.Stop.{post, ends_process, resume, detach}
 use Rattle.trace_stop.specs.Sound.{is_end}
-use Rattle.trace_stop.specs.Facts.{IsLiveOf, Linked, FitProcess, FitLwp, IsSound}
-use Rattle.trace_stop.proofs.Every.{and_left, and_right, both, by_bool, not_true, or_true, All-imply, All-both, find_some}
+use Rattle.trace_stop.specs.Facts.{Linked, FitProcess, IsSound}
+use Rattle.trace_stop.proofs.Every.{and_left, and_right, both, by_bool, not_true, All-imply, All-both, find_some}
 use Rattle.trace_stop.proofs.Edited.{owner_after}
-use Rattle.trace_stop.proofs.Changed.{Holds, sound_holds, found_number}
+use Rattle.trace_stop.proofs.Changed.{sound_holds, found_number}
 use Rattle.trace_stop.proofs.Posting.{LiveFit, post_chosen, posted_same}
 use Rattle.trace_stop.proofs.Stopping.{the_row, MayTell, live_told, notified_sound}
 use Rattle.trace_stop.proofs.Freed.{resumed_sound, resumed_row, detached_sound, end_sound}

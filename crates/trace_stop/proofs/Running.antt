@@ -1,5 +1,5 @@
 -- Processes that run on keep rows sound: an LWP that has exited is gone, and it isn't the last one.
-use Rattle.std.proofs.Common.{◌≡◌, ◌≢◌, ◌⊎◌, inl, inr, ℕ, zero, suc, ◌+◌, ◌<◌, ◌≤◌, Bool, true, false, cond, ◌==◌, ◌&&◌, ◌||◌, not, if◌then◌else◌, List, [], ◌∷◌, filter_map, option_map, Option, Some, None, IfSome, is_some, refl, sym, ap, ◌∙◌, true≢false, subst, arith, eqb-true, eq-eqb, bit_and}
+use Rattle.std.proofs.Common.{◌≡◌, ◌⊎◌, inl, inr, ℕ, ◌+◌, ◌≤◌, Bool, true, false, cond, ◌==◌, ◌&&◌, not, if◌then◌else◌, List, [], ◌∷◌, filter_map, option_map, Option, Some, None, IfSome, refl, sym, ap, ◌∙◌, true≢false, subst, arith, eqb-true, eq-eqb, bit_and}
 use Rattle.std.specs.Prelude.{count_by}
 use Rattle.std.specs.List.{AllByRecursion, list_any, cons_option}
 use Rattle.event_masks.specs.Exits.{shows, no_flags}
@@ -8,14 +8,14 @@ use Rattle.lwp_table.specs.declared.LwpData.{LwpData}
 use Rattle.lwp_table.specs.Lwps.{Differ, LacksLwp}
 use Rattle.proc_table.specs.declared.ProcData.{ProcData}
 use Rattle.proc_table.specs.Processes.{is_live, reporting, is_this, process_of}
-use Rattle.proc_table.specs.Rows.{Rows, owner, by_owner, each}
+use Rattle.proc_table.specs.Rows.{Rows, owner, by_owner}
 use Rattle.proc_table.specs.Fresh.{lwp_count}
 use Rattle.trace_stop.specs.End.{tracer_in, tracer_of, meets}
 use Rattle.trace_stop.specs.Free.{reported, run_on}
 use Rattle.trace_stop.specs.Sound.{names_own}
-use Rattle.trace_stop.specs.Facts.{IsLiveOf, Linked, FitProcess, waited_for, Standing, FitLwp, Silent, WithOwner, Stands, IsSound}
+use Rattle.trace_stop.specs.Facts.{IsLiveOf, Linked, FitProcess, waited_for, Standing, FitLwp, Silent, WithOwner, IsSound}
 use Rattle.trace_stop.proofs.Every.{and_left, and_right, both, by_bool, All-imply, All-both, All-edit, All-any, find_some, any_holds, none_of, count-cons}
-use Rattle.trace_stop.proofs.Edited.{Same, edited, If_more, some_is, if_at, owners_after, edited_stands}
+use Rattle.trace_stop.proofs.Edited.{Same, edited, If_more, some_is, owners_after, edited_stands}
 use Rattle.trace_stop.proofs.Changed.{no_ring, process_from, any_forward}
 use Rattle.trace_stop.proofs.Ending.{own_rows}
 

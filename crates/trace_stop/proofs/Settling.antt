@@ -1,19 +1,18 @@
 -- Settling makes rows sound that are so but for the pending sets of one process.
-use Rattle.std.proofs.Common.{◌≡◌, ◌≢◌, ◌⊎◌, inl, inr, ℕ, Bool, true, false, ◌==◌, List, Option, Some, None, refl, sym, ap, ◌∙◌, true≢false, subst, eqb-true, eq-eqb, bit_and, arith}
+use Rattle.std.proofs.Common.{◌≡◌, ◌≢◌, inl, ℕ, true, false, ◌==◌, Some, refl, sym, ◌∙◌, true≢false, subst, eqb-true, eq-eqb, bit_and, arith}
 use Rattle.std.proofs.lemmas.Nat.{and_le_l}
-use Rattle.std.specs.List.{AllByRecursion}
 use Rattle.signals.specs.Dispositions.{Actions}
 use Rattle.signals.specs.Sets.{without}
 use Rattle.lwp_table.specs.declared.LwpData.{LwpData}
 use Rattle.proc_table.specs.declared.ProcData.{ProcData}
-use Rattle.proc_table.specs.Processes.{is_live, reporting, process_of}
+use Rattle.proc_table.specs.Processes.{is_live, process_of}
 use Rattle.proc_table.specs.Rows.{Rows, change, change_process, is_numbered}
 use Rattle.trace_stop.specs.Post.{unwanted, settled_process, settled_lwp, settle}
-use Rattle.trace_stop.specs.Facts.{FitProcess, FitLwp, WithOwner, IsSound}
+use Rattle.trace_stop.specs.Facts.{FitProcess, FitLwp, IsSound}
 use Rattle.trace_stop.proofs.Every.{All-both}
-use Rattle.trace_stop.proofs.Bits.{without_apart, without_less}
+use Rattle.trace_stop.proofs.Bits.{without_apart}
 use Rattle.trace_stop.proofs.Changed.{Holds, sound_holds}
-use Rattle.trace_stop.proofs.Changes.{Changes, changes_hold}
+use Rattle.trace_stop.proofs.Changes.{changes_hold}
 use Rattle.trace_stop.proofs.Posting.{pending_fits, lwp_pending_fits, live_fits, live_state}
 use Rattle.trace_stop.proofs.Single.{process_alone}
 use Rattle.trace_stop.proofs.Stopping.{the_row}

@@ -1,6 +1,5 @@
 -- A change of one process, and of one LWP.
-use Rattle.std.proofs.Common.{◌≡◌, ◌≢◌, ◌⊎◌, inl, inr, ℕ, ◌≤◌, Bool, true, false, ◌==◌, if◌then◌else◌, List, [], ◌∷◌, filter_map, Option, Some, None, IfSome, is_some, refl, sym, ap, ◌∙◌, true≢false, subst, eqb-true, eq-eqb}
-use Rattle.std.specs.List.{AllByRecursion}
+use Rattle.std.proofs.Common.{◌≡◌, ◌⊎◌, inl, ℕ, Bool, true, false, ◌==◌, if◌then◌else◌, filter_map, Option, Some, None, IfSome, refl, sym, ap, ◌∙◌, subst, eqb-true}
 use Rattle.event_masks.specs.Exits.{shows}
 use Rattle.event_masks.specs.declared.TheConstants.StopFlags.{PL_FLAG_EXITED}
 use Rattle.lwp_table.specs.declared.LwpData.{LwpData}
@@ -8,12 +7,11 @@ use Rattle.lwp_table.specs.Lwps.{lwp_of}
 use Rattle.proc_table.specs.declared.ProcData.{ProcData}
 use Rattle.proc_table.specs.Processes.{is_live, reporting, process_of}
 use Rattle.proc_table.specs.Rows.{Rows, owner, by_owner, change, change_process, change_lwp, is_numbered}
-use Rattle.trace_stop.specs.Sound.{names_own}
-use Rattle.trace_stop.specs.Facts.{IsLiveOf, Linked, FitProcess, waited_for, Standing, FitLwp, WithOwner, Stands, IsSound}
+use Rattle.trace_stop.specs.Facts.{IsLiveOf, FitProcess, waited_for, FitLwp, WithOwner, IsSound}
 use Rattle.trace_stop.proofs.Every.{All-imply, All-both}
 use Rattle.trace_stop.proofs.Edited.{edited, some_is}
-use Rattle.trace_stop.proofs.Changed.{Holds, sound_holds, Change, change_holds}
-use Rattle.trace_stop.proofs.Changes.{edits_same, edit_none, Changes, changes_hold}
+use Rattle.trace_stop.proofs.Changed.{Holds, sound_holds, change_holds}
+use Rattle.trace_stop.proofs.Changes.{edit_none, changes_hold}
 use Rattle.trace_stop.proofs.Stopping.{the_row, the_lwp}
 
 -- One process

@@ -1,26 +1,18 @@
 -- Notifying, trace stops and changes of one LWP keep rows sound.
-use Rattle.std.proofs.Common.{◌≡◌, ◌≢◌, ◌⊎◌, inl, inr, ℕ, ◌<◌, ◌≤◌, Bool, true, false, cond, ◌==◌, ◌&&◌, ◌||◌, if◌then◌else◌, List, [], ◌∷◌, find, filter_map, Option, Some, None, IfSome, is_some, is_none, refl, sym, ap, ◌∙◌, true≢false, subst, arith, eqb-true, eq-eqb}
+use Rattle.std.proofs.Common.{◌≡◌, ◌≢◌, ℕ, ◌<◌, Bool, true, false, cond, ◌==◌, ◌&&◌, ◌||◌, List, [], ◌∷◌, Some, None, refl, sym, ◌∙◌, true≢false, subst, arith, eqb-true, eq-eqb}
 use Rattle.std.specs.List.{AllByRecursion, list_any}
-use Rattle.event_masks.specs.Exits.{shows}
-use Rattle.event_masks.specs.declared.TheConstants.StopFlags.{PL_FLAG_EXITED}
 use Rattle.signals.specs.Table.{SIGCHLD}
 use Rattle.lwp_table.specs.declared.LwpData.{LwpData}
 use Rattle.lwp_table.specs.Lwps.{lwp_of, Differ, LacksLwp}
 use Rattle.proc_table.specs.declared.ProcData.{ProcData}
-use Rattle.proc_table.specs.declared.State.TheVariants.{Trace}
-use Rattle.proc_table.specs.Processes.{is_live, is_run, reporting, is_this, process_of}
-use Rattle.proc_table.specs.Rows.{Rows, change_process, change_lwp}
-use Rattle.proc_table.specs.Fresh.{lwp_count}
+use Rattle.proc_table.specs.Processes.{is_live, process_of}
+use Rattle.proc_table.specs.Rows.{Rows}
 use Rattle.proc_table.specs.Kept.{Rise, AllAbove, AtHome}
 use Rattle.trace_stop.specs.Post.{notified}
-use Rattle.trace_stop.specs.End.{tracer_in, tracer_of}
-use Rattle.trace_stop.specs.Stop.{Shown, tracers, stop}
-use Rattle.trace_stop.specs.Sound.{is_live_of, names_own}
-use Rattle.trace_stop.specs.Facts.{IsLiveOf, Linked, FitProcess, waited_for, Standing, FitLwp, WithOwner, Stands, IsSound}
-use Rattle.trace_stop.proofs.Every.{and_left, and_right, both, by_bool, All-imply, All-both, All-any, find_some, any_more}
-use Rattle.trace_stop.proofs.Edited.{edited, If_more, some_is}
-use Rattle.trace_stop.proofs.Changed.{Holds, holds_sound, sound_holds, found_number, Change, change_holds, live_after}
-use Rattle.trace_stop.proofs.Changes.{edit_none}
+use Rattle.trace_stop.specs.Facts.{IsLiveOf, FitProcess, IsSound}
+use Rattle.trace_stop.proofs.Every.{and_left, and_right, both, by_bool, All-imply, All-both, any_more}
+use Rattle.trace_stop.proofs.Edited.{some_is}
+use Rattle.trace_stop.proofs.Changed.{sound_holds}
 use Rattle.trace_stop.proofs.Posting.{LiveFit, post_chosen}
 
 -- A number has one row

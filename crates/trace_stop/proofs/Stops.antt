@@ -1,5 +1,5 @@
 -- A trace stop keeps rows sound.
-use Rattle.std.proofs.Common.{◌≡◌, ◌≢◌, ◌⊎◌, inl, inr, ℕ, ◌≤◌, Bool, true, false, ◌==◌, ◌&&◌, if◌then◌else◌, List, [], ◌∷◌, filter_map, find, Option, Some, None, IfSome, is_some, not, refl, sym, ap, ◌∙◌, true≢false, subst, arith, eqb-true, eq-eqb}
+use Rattle.std.proofs.Common.{◌≡◌, ◌≢◌, ◌⊎◌, inl, ℕ, ◌≤◌, Bool, true, false, ◌==◌, ◌&&◌, if◌then◌else◌, List, [], ◌∷◌, find, Option, Some, None, IfSome, is_some, not, refl, sym, ap, ◌∙◌, true≢false, subst, arith, eqb-true, eq-eqb}
 use Rattle.std.specs.List.{AllByRecursion, list_any}
 use Rattle.event_masks.specs.Exits.{shows}
 use Rattle.event_masks.specs.declared.TheConstants.StopFlags.{PL_FLAG_EXITED}
@@ -9,12 +9,12 @@ use Rattle.proc_table.specs.declared.ProcData.{ProcData}
 use Rattle.proc_table.specs.declared.State.{State}
 use Rattle.proc_table.specs.declared.State.TheVariants.{Run, Trace, Job, Zombie}
 use Rattle.proc_table.specs.Processes.{is_live, is_run, is_run_state, is_zombie_state, named_by, reporting, is_this, process_of}
-use Rattle.proc_table.specs.Rows.{Rows, change_process, change_lwp}
+use Rattle.proc_table.specs.Rows.{Rows}
 use Rattle.proc_table.specs.Fresh.{lwp_count}
 use Rattle.trace_stop.specs.End.{tracer_in, tracer_of}
 use Rattle.trace_stop.specs.Stop.{Shown, tracers, stop}
 use Rattle.trace_stop.specs.Sound.{names_own}
-use Rattle.trace_stop.specs.Facts.{IsLiveOf, Linked, FitProcess, waited_for, Standing, FitLwp, Silent, WithOwner, Stands, IsSound}
+use Rattle.trace_stop.specs.Facts.{IsLiveOf, Linked, FitProcess, waited_for, Standing, FitLwp, WithOwner, IsSound}
 use Rattle.trace_stop.proofs.Every.{by_bool, both, All-imply, All-both, All-any, find_some}
 use Rattle.trace_stop.proofs.Edited.{edited, some_is}
 use Rattle.trace_stop.proofs.Changed.{Holds, sound_holds, found_number, Change, change_holds, live_after}
