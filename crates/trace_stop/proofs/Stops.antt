@@ -12,7 +12,8 @@ use Rattle.proc_table.specs.Processes.{is_live, is_run, is_run_state, is_zombie_
 use Rattle.proc_table.specs.Rows.{Rows}
 use Rattle.proc_table.specs.Fresh.{lwp_count}
 use Rattle.trace_stop.specs.End.{tracer_in, tracer_of}
-use Rattle.trace_stop.specs.Stop.{Shown, tracers, stop}
+use Rattle.trace_stop.specs.Stop.{tracers, stop}
+use Rattle.trace_stop.specs.declared.Shown.{Shown}
 use Rattle.trace_stop.specs.Sound.{names_own}
 use Rattle.trace_stop.specs.Facts.{IsLiveOf, Linked, FitProcess, waited_for, Standing, FitLwp, WithOwner, IsSound}
 use Rattle.trace_stop.proofs.Every.{by_bool, both, All-imply, All-both, All-any, find_some}
