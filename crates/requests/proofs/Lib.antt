@@ -7,3 +7,16 @@ pub mod Hosted
 pub mod Collecting
 pub mod Steps
 pub mod Kills
+pub mod ViewLists
+pub mod ViewSame
+pub mod ViewEdits
+pub mod ViewSignals
+pub mod ViewEnds
+pub mod ViewStops
+pub mod ViewFresh
+pub mod ViewTurns
+pub mod ViewSteps
+pub mod ViewHosts
+pub mod ViewLaws
+pub mod ViewSound
+pub mod Living

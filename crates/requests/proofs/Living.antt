@@ -1,0 +1,27 @@
+-- Whether the row with a number is live.
+use Rattle.std.proofs.Common.{◌≡◌, ℕ, List, [], ◌∷◌, Bool, true, false, refl, sym, ap, ◌∙◌, ◌==◌, ◌&&◌, Some, None, inl, inr, true≢false, eq-eqb, eqb-true}
+use Rattle.std.specs.List.{list_any}
+use Rattle.std.proofs.lemmas.Bool.{cases_Bool}
+use Rattle.proc_table.specs.declared.ProcData.{ProcData}
+use Rattle.proc_table.specs.Processes.{is_live, process_of}
+use Rattle.proc_table.specs.Kept.{Rise}
+use Rattle.proc_table.proofs.Rows.{process_of-pid}
+use Rattle.trace_stop.proofs.Every.{and_left, and_right, both, by_bool, any_holds}
+use Rattle.trace_stop.proofs.Stopping.{the_row}
+use Rattle.trace_stop.proofs.Stops.{find_passes}
+
+pub live_found : (n : ℕ) (ps : List ProcData) (p : ProcData) → Rise ps → process_of n ps ≡ Some p → list_any (λ q. (q.pid == n) && is_live q) ps ≡ is_live p
+live_found n ps p rise at = by_live (is_live p) refl
+  where
+    by_live : (b : Bool) → is_live p ≡ b → list_any (λ q. (q.pid == n) && is_live q) ps ≡ b
+    by_live true e = find_passes (λ q. q.pid == n) (λ q. (q.pid == n) && is_live q) ps p at (both (p.pid == n) (is_live p) (eq-eqb p.pid n (process_of-pid n p ps at)) e)
+    by_live false e = by_bool (list_any (λ q. (q.pid == n) && is_live q) ps)
+        (λ any. any_holds (λ q. (q.pid == n) && is_live q) (λ q. q.pid ≡ n → q ≡ p) ⊥
+        (λ q same is. true≢false (sym (and_right (q.pid == n) (is_live q) is) ∙ ap is_live (same (eqb-true q.pid n (and_left (q.pid == n) (is_live q) is))) ∙ e)) ps (the_row n ps p rise at) any)
+
+pub live_none : (n : ℕ) (ps : List ProcData) → process_of n ps ≡ None → list_any (λ q. (q.pid == n) && is_live q) ps ≡ false
+live_none n [] none = refl
+live_none n (q ∷ ps) none = elim (cases_Bool (q.pid == n)) [
+  | inl e ↦ absurd (let bad : Some q ≡ None = rw e at none in cc)
+  | inr e ↦ rw e (live_none n ps (rw e at none))
+]

@@ -1,0 +1,9 @@
+use Rattle.std.proofs.Common.{rules, filter, ap, ◌∙◌}
+use Rattle.std.proofs.lemmas.Fn.{filter_same}
+use Rattle.requests.specs.Machine.{is_live_number}
+use Rattle.requests.proofs.handlers.HandlerList.drop_ended.Goals as goal
+
+pub returns : goal.returns
+returns g c =
+    filter_same _ (λ i. is_live_number c.args.tables.now.rows i.debugger) _ (λ x b f' k. search rules) _ _ c.retain.ensures.filtered
+    ∙ ap (filter (λ i. is_live_number c.args.tables.now.rows i.debugger)) c.self.view_is

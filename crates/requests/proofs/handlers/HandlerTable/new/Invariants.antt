@@ -1,0 +1,6 @@
+use Rattle.std.proofs.Common.{◌≡◌, [], ◌≤◌}
+use Rattle.std.proofs.Math.ListN.{replicate}
+use Rattle.requests.proofs.handlers.HandlerTable.new.Given as goal
+
+abbrev pub invariant-loop : goal.invariant-loop
+invariant-loop g l = l.lists.items ≡ replicate l.counter []

@@ -1,0 +1,205 @@
+//! What the debuggers of each user have installed.
+
+ghost use Rattle.std.specs.Prelude.{◌≡◌, ℕ, ◌≤◌, ◌<◌, ◌++◌, ◌∷◌, [], Some, None, map, filter, length, set, get_or, option_map, slice_get, OnOk, OnErr, IfOk};
+ghost use Rattle.pid_blocks.specs.Blocks.{slot, users};
+ghost use Rattle.requests.specs.Machine.{Installed, is_live_number};
+ghost use Rattle.requests.specs.Handle.{decided, is_decline, policies_in};
+
+use pid_blocks::{Pid, Uid};
+use proc_table::Tables;
+use std::alloc::{AllocError, Global};
+use std::marker::Model;
+use stop_handlers::{Decider, Decision, Handler, Policy, StopView};
+
+/// The answer of a debugger's handlers about a stop.
+#[derive(Clone, Copy, Debug, PartialEq, Eq, Drop)]
+pub struct Decided {
+    /// The place of the handler that decided among the debugger's, counted from 0; none where all decline.
+    pub index: Option<u32>,
+    pub decision: Decision,
+}
+
+/// A handler, and the debugger that installed it.
+#[derive(Drop)]
+struct Installed<F: Decider + Send + Drop> {
+    debugger: Pid,
+    handler: Handler<F>,
+}
+
+impl<F: Decider + Send + Drop> Model for Installed<F> {
+    ghost use Rattle.requests.specs.Machine.{Installed};
+
+    ghost Value = { Installed };
+
+    ghost view = { λ i. record { debugger = i.debugger; policy = i.handler } };
+}
+
+impl<F: Decider + Send + Drop> Installed<F> {
+    fn debugger(&self) -> Pid
+        ensures { result ≡ self.now.debugger }
+    {
+        self.debugger
+    }
+
+    fn policy(&self) -> Policy
+        ensures { result ≡ self.now.policy }
+    {
+        self.handler.policy()
+    }
+}
+
+/// What the debuggers of one user have installed, in order.
+#[derive(Drop)]
+struct HandlerList<F: Decider + Send + Drop> {
+    installed: Vec<Installed<F>>,
+}
+
+impl<F: Decider + Send + Drop> Model for HandlerList<F> {
+    ghost use Rattle.std.specs.Prelude.{List};
+    ghost use Rattle.requests.specs.Machine.{Installed};
+
+    ghost Value = { List Installed };
+
+    ghost view = { λ l. l.installed.items };
+}
+
+impl<F: Decider + Send + Drop> HandlerList<F> {
+    fn new(alloc: Global) -> HandlerList<F>
+        ensures { result ≡ [] }
+    {
+        HandlerList {
+            installed: Vec::new(alloc),
+        }
+    }
+
+    fn len(&self) -> usize
+        ensures { result ≡ length self.now }
+    {
+        self.installed.len()
+    }
+
+    /// Adds what a debugger installs. An error is want of memory, and changes nothing.
+    fn push(&mut self, debugger: Pid, handler: Handler<F>) -> Result<(), AllocError>
+        ensures done { OnOk result (self.new ≡ self.old ++ (record { debugger = debugger; policy = handler } ∷ [])) }
+        ensures refused { OnErr result (self.new ≡ self.old) }
+    {
+        self.installed.push(Installed { debugger, handler })?;
+        Ok(())
+    }
+
+    /// What was installed at this place.
+    fn at(&self, index: usize) -> Option<(Pid, Policy)>
+        ensures { result ≡ option_map (λ i. (i.debugger, i.policy)) (slice_get self.now index) }
+    {
+        let installed = self.installed.get(index)?;
+        Some((installed.debugger(), installed.policy()))
+    }
+
+    /// What the debugger's handlers answer about a stop.
+    fn decided(&self, debugger: Pid, view: &StopView) -> Decided
+        requires { length self.now ≤ 64 }
+        ensures { result ≡ decided (policies_in debugger self.now) 0 view.now }
+    {
+        let mut index = 0;
+        for installed in &self.installed {
+            if installed.debugger == debugger {
+                let decision = installed.handler.ask(view);
+                if decision != Decision::Decline {
+                    return Decided {
+                        index: Some(index),
+                        decision,
+                    };
+                }
+                index += 1;
+            }
+        }
+        Decided {
+            index: None,
+            decision: Decision::Decline,
+        }
+    }
+
+    /// Drops what processes installed that have ended.
+    fn drop_ended(&mut self, tables: &Tables)
+        ensures { self.new ≡ filter (λ i. is_live_number tables.now.rows i.debugger) self.old }
+    {
+        self.installed.retain(|installed| is_live(tables, installed.debugger));
+    }
+}
+
+/// Whether a live process has the number.
+fn is_live(tables: &Tables, pid: Pid) -> bool
+    ensures { result ≡ is_live_number tables.now.rows pid }
+{
+    match tables.process(pid) {
+        Some(p) => p.is_live(),
+        None => false,
+    }
+}
+
+/// What the debuggers of all users have installed.
+#[derive(Drop)]
+pub struct HandlerTable<F: Decider + Send + Drop> {
+    users: Vec<HandlerList<F>>,
+}
+
+impl<F: Decider + Send + Drop> Model for HandlerTable<F> {
+    ghost use Rattle.std.specs.Prelude.{◌≡◌, List, length};
+    ghost use Rattle.requests.specs.Machine.{Installed};
+
+    ghost Value = { List (List Installed) };
+
+    ghost view = { λ t. t.users.items };
+
+    ghost invariant = { λ t. length t.users.items ≡ 64 };
+}
+
+impl<F: Decider + Send + Drop> HandlerTable<F> {
+    /// Nothing is installed. An error is want of memory.
+    pub fn new(alloc: Global) -> Result<HandlerTable<F>, AllocError>
+        ensures { IfOk result (λ t. t ≡ map (λ u. []) users) }
+    {
+        let mut lists = Vec::with_capacity(alloc, 64)?;
+        for _ in 0u32..64 {
+            lists.push(HandlerList::new(alloc))?;
+        }
+        Ok(HandlerTable { users: lists })
+    }
+
+    /// How many handlers the user's debuggers have installed.
+    pub fn count(&self, user: Uid) -> usize
+        ensures { result ≡ length (get_or self.now (slot user) []) }
+    {
+        self.users[user.slot()].len()
+    }
+
+    /// What the user's debuggers have installed at this place.
+    pub fn at(&self, user: Uid, index: usize) -> Option<(Pid, Policy)>
+        ensures { result ≡ option_map (λ i. (i.debugger, i.policy)) (slice_get (get_or self.now (slot user) []) index) }
+    {
+        self.users[user.slot()].at(index)
+    }
+
+    /// Adds what a debugger of the user installs. An error is want of memory, and changes nothing.
+    pub fn install(&mut self, user: Uid, debugger: Pid, handler: Handler<F>) -> Result<(), AllocError>
+        ensures done { OnOk result (self.new ≡ set self.old (slot user) (get_or self.old (slot user) [] ++ (record { debugger = debugger; policy = handler } ∷ []))) }
+        ensures refused { OnErr result (self.new ≡ self.old) }
+    {
+        self.users[user.slot()].push(debugger, handler)
+    }
+
+    /// What the handlers of a debugger of the user answer about a stop.
+    pub fn decided(&self, user: Uid, debugger: Pid, view: &StopView) -> Decided
+        requires { length (get_or self.now (slot user) []) ≤ 64 }
+        ensures { result ≡ decided (policies_in debugger (get_or self.now (slot user) [])) 0 view.now }
+    {
+        self.users[user.slot()].decided(debugger, view)
+    }
+
+    /// Drops what processes of the user installed that have ended.
+    pub fn drop_ended(&mut self, user: Uid, tables: &Tables)
+        ensures { self.new ≡ set self.old (slot user) (filter (λ i. is_live_number tables.now.rows i.debugger) (get_or self.old (slot user) [])) }
+    {
+        self.users[user.slot()].drop_ended(tables);
+    }
+}
