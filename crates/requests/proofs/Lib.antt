@@ -20,3 +20,8 @@ pub mod ViewHosts
 pub mod ViewLaws
 pub mod ViewSound
 pub mod Living
+pub mod Drops
+pub mod Called
+pub mod Finished
+pub mod Pending
+pub mod Installing
