@@ -7,3 +7,5 @@ pub mod Hosted
 pub mod Collecting
 pub mod Steps
 pub mod Kills
+pub mod Acting
+pub mod Masks
