@@ -25,6 +25,11 @@ pub choose : {X : Type 0} (b : Bool) (x y : X) (R : X → Type 0) → (b ≡ tru
 choose true x y R h k = h refl
 choose false x y R h k = k refl
 
+-- a process that isn't untraced is traced
+pub traced_where : {X : Type 0} (o : Option X) → (o ≡ None → ⊥) → is_some o ≡ true
+traced_where None h = absurd (h refl)
+traced_where (Some x) h = refl
+
 pub record Acting (rows : Rows) (p : ProcData) (l : LwpData) : Type 0 where
   pub sound : IsSound rows
   pub home : process_of p.pid rows.processes ≡ Some p

@@ -9,3 +9,4 @@ pub mod Steps
 pub mod Kills
 pub mod Acting
 pub mod Masks
+pub mod Signals

@@ -56,7 +56,7 @@ changed_lwp n chosen f g rows l p same there home = find_edit (λ k. k.tid == n)
 
 -- No LWP steps
 
-stepless_fits : (p : ProcData) (l : LwpData) → FitLwp p l → FitLwp p (record l { stepping = false })
+pub stepless_fits : (p : ProcData) (l : LwpData) → FitLwp p l → FitLwp p (record l { stepping = false })
 stepless_fits p l fit = record {
   untraced = λ none. let was = fit.untraced none in record { due = was.due; stepping = refl; suspended = was.suspended; pending = was.pending };
   silent = λ off. let was = fit.silent off in record { flags = was.flags; child = was.child; code = was.code };
