@@ -42,7 +42,7 @@ module _ (caller : ℕ) (p : ProcData) where
     parent = refl;
     reporting = refl;
     fits = λ fit. record { stopped = fit.stopped; job = fit.job; continued = λ on. absurd (true≢false (sym on)); untraced = λ none. record { mask = (fit.untraced none).mask; pending = (fit.untraced none).pending }; ended = subst (λ s. IfEnded (record p { continued = false }) s) (sym is) tt };
-    fit_lwp = λ l live fit. record { untraced = λ none. let was = fit.untraced none in record { due = was.due; stepping = was.stepping; suspended = was.suspended; pending = was.pending }; silent = fit.silent; blocked = fit.blocked };
+    fit_lwp = λ l live fit. record { untraced = λ none. let was = fit.untraced none in record { due = was.due; stepping = was.stepping; suspended = was.suspended; pending = was.pending }; silent = fit.silent; blocked = fit.blocked; mode = fit.mode };
   }
   collected_kept (Trace tid sig seen) is = record {
     pid = refl;
@@ -52,7 +52,7 @@ module _ (caller : ℕ) (p : ProcData) where
     parent = refl;
     reporting = sym (ap named_by is);
     fits = λ fit. record { stopped = λ r. fit.stopped (subst (λ s. is_some (named_by s) ≡ true) (sym is) refl); job = λ j. absurd (true≢false (sym j)); continued = λ on. absurd (true≢false (sym (fit.continued on).1 ∙ ap is_run_state is)); untraced = λ none. record { mask = (fit.untraced none).mask; pending = (fit.untraced none).pending }; ended = tt };
-    fit_lwp = λ l live fit. record { untraced = λ none. let was = fit.untraced none in record { due = was.due; stepping = was.stepping; suspended = was.suspended; pending = was.pending }; silent = λ off. fit.silent (ap (λ s. is_this l.tid (named_by s)) is ∙ off); blocked = fit.blocked };
+    fit_lwp = λ l live fit. record { untraced = λ none. let was = fit.untraced none in record { due = was.due; stepping = was.stepping; suspended = was.suspended; pending = was.pending }; silent = λ off. fit.silent (ap (λ s. is_this l.tid (named_by s)) is ∙ off); blocked = fit.blocked; mode = fit.mode };
   }
   collected_kept (Job sig seen) is = record {
     pid = refl;
@@ -62,7 +62,7 @@ module _ (caller : ℕ) (p : ProcData) where
     parent = refl;
     reporting = sym (ap named_by is);
     fits = λ fit. record { stopped = λ r. absurd (true≢false (sym r)); job = λ j. fit.job (ap is_job_state is); continued = λ on. absurd (true≢false (sym (fit.continued on).1 ∙ ap is_run_state is)); untraced = λ none. record { mask = (fit.untraced none).mask; pending = (fit.untraced none).pending }; ended = tt };
-    fit_lwp = λ l live fit. record { untraced = λ none. let was = fit.untraced none in record { due = was.due; stepping = was.stepping; suspended = was.suspended; pending = was.pending }; silent = λ off. fit.silent (ap (λ s. is_this l.tid (named_by s)) is ∙ off); blocked = fit.blocked };
+    fit_lwp = λ l live fit. record { untraced = λ none. let was = fit.untraced none in record { due = was.due; stepping = was.stepping; suspended = was.suspended; pending = was.pending }; silent = λ off. fit.silent (ap (λ s. is_this l.tid (named_by s)) is ∙ off); blocked = fit.blocked; mode = fit.mode };
   }
   collected_kept (Zombie w) is = by_stay (stays caller p) refl
     where

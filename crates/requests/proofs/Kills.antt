@@ -52,7 +52,7 @@ kill_sound m u n which sig is = checked_sound u (op.Kill n which sig) m n is (λ
 
 -- Installed policies
 
-live_caller : (rows : Rows) (u : ℕ) (p : ProcData) → Caller u rows p → IsLiveOf rows u p.pid
+pub live_caller : (rows : Rows) (u : ℕ) (p : ProcData) → Caller u rows p → IsLiveOf rows u p.pid
 live_caller rows u p c = find_passes (λ q. q.pid == p.pid) (λ q. (q.pid == p.pid) && (q.uid == u) && is_live q) rows.processes p c.at (both ((p.pid == p.pid) && (p.uid == u)) (is_live p) (both (p.pid == p.pid) (p.uid == u) (eq-eqb p.pid p.pid refl) (eq-eqb p.uid u c.uid)) c.live)
 
 module _ (m : Machine) (u : ℕ) (p : ProcData) (policy : List Rule) (user : IsUser u) (is : sound m ≡ true) (c : Caller u m.rows p) where

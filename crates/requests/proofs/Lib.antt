@@ -10,3 +10,4 @@ pub mod Kills
 pub mod Acting
 pub mod Masks
 pub mod Signals
+pub mod Attaching

@@ -61,6 +61,7 @@ stepless_fits p l fit = record {
   untraced = λ none. let was = fit.untraced none in record { due = was.due; stepping = refl; suspended = was.suspended; pending = was.pending };
   silent = λ off. let was = fit.silent off in record { flags = was.flags; child = was.child; code = was.code };
   blocked = fit.blocked;
+  mode = fit.mode;
 }
 
 pub not_stepping_sound : (rows : Rows) (pid : ℕ) → IsSound rows → IsSound (not_stepping pid rows)
@@ -122,7 +123,7 @@ module _ (rows : Rows) (p : ProcData) (t : Tracee rows p) where
       own = λ k. refl;
       flags = λ k. refl;
       waits = stood.waits;
-      fit = λ fit. record { untraced = not_free _; silent = λ off. let was = fit.silent off in record { flags = was.flags; child = was.child; code = was.code }; blocked = fit.blocked };
+      fit = λ fit. record { untraced = not_free _; silent = λ off. let was = fit.silent off in record { flags = was.flags; child = was.child; code = was.code }; blocked = fit.blocked; mode = fit.mode };
     })
 
     pub step_sound : IsSound (change_lwp tid (λ l. record l { stepping = true }) rows)
@@ -131,7 +132,7 @@ module _ (rows : Rows) (p : ProcData) (t : Tracee rows p) where
       own = λ k. refl;
       flags = λ k. refl;
       waits = stood.waits;
-      fit = λ fit. record { untraced = not_free _; silent = λ off. let was = fit.silent off in record { flags = was.flags; child = was.child; code = was.code }; blocked = fit.blocked };
+      fit = λ fit. record { untraced = not_free _; silent = λ off. let was = fit.silent off in record { flags = was.flags; child = was.child; code = was.code }; blocked = fit.blocked; mode = fit.mode };
     })
 
   -- Its mask
@@ -148,7 +149,7 @@ module _ (rows : Rows) (p : ProcData) (t : Tracee rows p) where
     live = refl;
     named = inl refl;
     fits = record { stopped = its_fit.stopped; job = its_fit.job; continued = its_fit.continued; untraced = λ none. absurd (true≢false (sym t.traced ∙ ap is_some none)); ended = live_fits (masked mask p) p.state (live_state p t.live) };
-    fit_lwp = λ l fit. record { untraced = λ none. absurd (true≢false (sym t.traced ∙ ap is_some none)); silent = fit.silent; blocked = fit.blocked };
+    fit_lwp = λ l fit. record { untraced = λ none. absurd (true≢false (sym t.traced ∙ ap is_some none)); silent = fit.silent; blocked = fit.blocked; mode = fit.mode };
   })
 
   pub set_mask_tracee : (mask : EventMask → EventMask) → Tracee (set_mask mask p.pid rows) (masked mask p)

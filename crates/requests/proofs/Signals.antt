@@ -55,6 +55,7 @@ fewer_pending_lwp p l s fit = record {
   untraced = λ none. let was = fit.untraced none in record { due = was.due; stepping = was.stepping; suspended = was.suspended; pending = without_less l.pending (unwanted p) (bit s) was.pending };
   silent = λ off. let was = fit.silent off in record { flags = was.flags; child = was.child; code = was.code };
   blocked = fit.blocked;
+  mode = fit.mode;
 }
 
 module _ (rows : Rows) (p : ProcData) (l : LwpData) (a : Acting rows p l) where
@@ -86,7 +87,7 @@ module _ (rows : Rows) (p : ProcData) (l : LwpData) (a : Acting rows p l) where
           live = refl;
           named = inl refl;
           fits = fewer_pending p s (its_fit rows p l a) (its_live rows p l a);
-          fit_lwp = λ k fit. record { untraced = λ none. let was = fit.untraced none in record { due = was.due; stepping = was.stepping; suspended = was.suspended; pending = was.pending }; silent = fit.silent; blocked = fit.blocked };
+          fit_lwp = λ k fit. record { untraced = λ none. let was = fit.untraced none in record { due = was.due; stepping = was.stepping; suspended = was.suspended; pending = was.pending }; silent = fit.silent; blocked = fit.blocked; mode = fit.mode };
         }) a.run;
         pid = refl;
         tid = refl;
@@ -118,6 +119,7 @@ module _ (rows : Rows) (p : ProcData) (l : LwpData) (a : Acting rows p l) where
       untraced = λ none. let was = fit.untraced none in record { due = was.due; stepping = was.stepping; suspended = was.suspended; pending = was.pending };
       silent = λ off. fit.silent (ap (is_this k.tid) (its_quiet rows p l a));
       blocked = fit.blocked;
+      mode = fit.mode;
     };
   })
 
@@ -205,6 +207,7 @@ module _ (rows : Rows) (p : ProcData) (l : LwpData) (a : Acting rows p l) where
       untraced = λ none. let was = fit.untraced none in record { due = was.due; stepping = was.stepping; suspended = was.suspended; pending = was.pending };
       silent = λ off. let was = fit.silent off in record { flags = was.flags; child = was.child; code = was.code };
       blocked = without_apart set unmaskable_set;
+      mode = fit.mode;
     };
   })).sound
 

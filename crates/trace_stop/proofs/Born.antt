@@ -158,15 +158,20 @@ module _ (rows : Rows) (p : ProcData) (l : LwpData) (s : IsSound rows) (b : Born
   linked_old q h = record {
     tracer = If_more (IsLiveOf rows q.uid) (IsLiveOf made q.uid) (live_more q.uid) q.tracer h.1.tracer;
     parent = λ ne. live_more q.uid q.parent (h.1.parent ne);
+    other = h.1.other;
     chain = meets_other ps (placed p ps) p.pid same_tracer none 250 q.pid q.pid h.0 ∙ h.1.chain;
     named = If_more (λ tid. names_own rows q tid ≡ true) (λ tid. names_own made q tid ≡ true) (λ tid is. any_last (λ k. (k.tid == tid) && (k.pid == q.pid)) rows.lwps l is) (reporting q) h.1.named;
     peopled = λ live. let few = h.1.peopled live in let more = count_more (λ k. k.pid == q.pid) rows.lwps l in omega (arith, few, more);
   }
 
+  other_parent : p.parent ≢ p.pid
+  other_parent same = let low = b.home.block.0 in let user = b.home.user.0 in let ne : p.parent ≢ 1 = omega (arith, same) in named_other rows p.pid b.free p.uid p.parent (b.parent ne) same
+
   linked_new : Linked made p
   linked_new = record {
     tracer = If_more (IsLiveOf rows p.uid) (IsLiveOf made p.uid) (live_more p.uid) p.tracer b.tracer;
     parent = λ ne. live_more p.uid p.parent (b.parent ne);
+    other = other_parent;
     chain = meets_new ps (placed p ps) p.pid same_tracer none p.tracer (ap tracer_in (process_of-placed p ps s.stands.rising b.free)) (If_more (IsLiveOf rows p.uid) (λ t. t ≢ p.pid) (named_other rows p.pid b.free p.uid) p.tracer b.tracer) 250;
     named = subst (λ o. IfSome o (λ tid. names_own made p tid ≡ true)) (sym b.quiet) tt;
     peopled = λ live. let all = count_last (λ k. k.pid == p.pid) rows.lwps l in let here : cond {A = ℕ} (l.pid == p.pid) 1 0 ≡ 1 = rw (eq-eqb l.pid p.pid b.own) refl in omega (arith, all, here);

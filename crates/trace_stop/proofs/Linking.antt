@@ -179,6 +179,7 @@ module _ (rows : Rows) (p : ProcData) (n : ℕ) (mask : EventMask) (s : IsSound 
       (λ e. record {
         tracer = lives_on q.uid n (subst (λ r. IsLiveOf rows r.uid n) (sym (k.1 (eqb-true q.pid p.pid e))) tracer);
         parent = λ ne. lives_on q.uid q.parent (k.0.1.parent ne);
+        other = k.0.1.other;
         chain = ring q.pid k.0.1.chain;
         named = If_more (λ tid. names_own rows q tid ≡ true) (λ tid. names_own left q tid ≡ true) (names_on q) (reporting q) k.0.1.named;
         peopled = λ live. counts_on 1 q.pid (k.0.1.peopled live);
@@ -186,6 +187,7 @@ module _ (rows : Rows) (p : ProcData) (n : ℕ) (mask : EventMask) (s : IsSound 
       (λ e. record {
         tracer = If_more (IsLiveOf rows q.uid) (IsLiveOf left q.uid) (lives_on q.uid) q.tracer k.0.1.tracer;
         parent = λ ne. lives_on q.uid q.parent (k.0.1.parent ne);
+        other = k.0.1.other;
         chain = ring q.pid k.0.1.chain;
         named = If_more (λ tid. names_own rows q tid ≡ true) (λ tid. names_own left q tid ≡ true) (names_on q) (reporting q) k.0.1.named;
         peopled = λ live. counts_on 1 q.pid (k.0.1.peopled live);
@@ -207,7 +209,7 @@ module _ (rows : Rows) (p : ProcData) (n : ℕ) (mask : EventMask) (s : IsSound 
 
   lwp_fits : (l : LwpData) (q : ProcData) → FitLwp q l → FitLwp (if q.pid == p.pid then linked q else q) l
   lwp_fits l q fit = choose (q.pid == p.pid) (linked q) q (λ r. FitLwp r l)
-      (λ e. record { untraced = λ none. absurd (some_none none); silent = fit.silent; blocked = fit.blocked })
+      (λ e. record { untraced = λ none. absurd (some_none none); silent = fit.silent; blocked = fit.blocked; mode = fit.mode })
       (λ e. fit)
     where
       some_none : Some n ≡ None → ⊥
