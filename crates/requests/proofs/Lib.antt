@@ -11,3 +11,4 @@ pub mod Acting
 pub mod Masks
 pub mod Signals
 pub mod Attaching
+pub mod Tracing
