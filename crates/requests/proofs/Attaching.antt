@@ -16,10 +16,11 @@ use Rattle.trace_stop.proofs.Changed.{Holds, sound_holds}
 use Rattle.trace_stop.proofs.Posting.{live_fits, live_state}
 use Rattle.trace_stop.proofs.Stops.{Ready, Readied, stop_sound}
 use Rattle.trace_stop.proofs.Linking.{Traced, linked_holds, linked_row}
+use Rattle.trace_stop.proofs.Stopping.{own_lwps}
 use Rattle.requests.specs.Outcome.{Outcome}
 use Rattle.requests.specs.Turn.{plain}
 use Rattle.requests.specs.Ptrace.{closes_chain, traced_by, trace_me, stop_first, attach}
-use Rattle.requests.proofs.Acting.{choose, own_lwps}
+use Rattle.requests.proofs.Acting.{choose}
 
 none_where : {X : Type 0} (o : Option X) → (is_some o ≡ true → ⊥) → o ≡ None
 none_where None h = refl

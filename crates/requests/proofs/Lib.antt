@@ -12,3 +12,4 @@ pub mod Masks
 pub mod Signals
 pub mod Attaching
 pub mod Tracing
+pub mod Lwps

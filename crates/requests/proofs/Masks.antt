@@ -17,8 +17,9 @@ use Rattle.trace_stop.proofs.Changes.{changes_hold}
 use Rattle.trace_stop.proofs.Posting.{live_fits, live_state}
 use Rattle.trace_stop.proofs.Single.{OneLwp, process_sound, lwp_sound}
 use Rattle.trace_stop.proofs.Posts.{resume_sound}
+use Rattle.trace_stop.proofs.Stopping.{own_lwps}
 use Rattle.requests.specs.Ptrace.{not_stepping, stepping, suspend, set_mask, continues_with}
-use Rattle.requests.proofs.Acting.{choose, own_lwps}
+use Rattle.requests.proofs.Acting.{choose}
 
 -- a live traced process in sound rows
 pub record Tracee (rows : Rows) (p : ProcData) : Type 0 where

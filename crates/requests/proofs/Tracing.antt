@@ -19,7 +19,7 @@ use Rattle.trace_stop.specs.Facts.{IsLiveOf, Linked, IsSound}
 use Rattle.trace_stop.proofs.Every.{and_left, and_right, both, All-any, find_some}
 use Rattle.trace_stop.proofs.Edited.{some_is, if_at}
 use Rattle.trace_stop.proofs.Changed.{found_number}
-use Rattle.trace_stop.proofs.Stopping.{one_row}
+use Rattle.trace_stop.proofs.Stopping.{one_row, own_lwps}
 use Rattle.trace_stop.proofs.Stops.{find_passes}
 use Rattle.trace_stop.proofs.Posts.{detach_sound}
 use Rattle.lwpinfo.specs.declared.LwpInfo.{LwpInfo}
@@ -32,7 +32,7 @@ use Rattle.requests.specs.Ptrace.{attach, told_stop, bad_argument, not_stepping,
 use Rattle.requests.specs.Machine.{Machine}
 use Rattle.requests.specs.Sound.{sound}
 use Rattle.requests.specs.Step.{step}
-use Rattle.requests.proofs.Acting.{choose, own_lwps}
+use Rattle.requests.proofs.Acting.{choose}
 use Rattle.requests.proofs.After.{rows_sound, after_sound}
 use Rattle.requests.proofs.Steps.{Caller, checked_sound}
 use Rattle.requests.proofs.Kills.{live_caller}

@@ -87,13 +87,13 @@ cursors_set block cursors v n user len home some all u its = by_user (eqb u v) r
 abbrev pub with_last : LwpData → Rows → Rows
 with_last l rows = record rows { lwps = rows.lwps ++ (l ∷ []) }
 
-count_last : {X : Type 0} (q : X → Bool) (xs : List X) (x : X) → count_by q (xs ++ (x ∷ [])) ≡ count_by q xs + cond (q x) 1 0
+pub count_last : {X : Type 0} (q : X → Bool) (xs : List X) (x : X) → count_by q (xs ++ (x ∷ [])) ≡ count_by q xs + cond (q x) 1 0
 count_last q xs x = let all = count-append q xs (x ∷ []) in let last = count-cons q x [] in let none : count_by q [] ≡ 0 = refl in omega (arith, all, last, none)
 
 pub count_more : {X : Type 0} (q : X → Bool) (xs : List X) (x : X) → count_by q xs ≤ count_by q (xs ++ (x ∷ []))
 count_more q xs x = let all = count_last q xs x in omega (arith, all)
 
-any_last : {X : Type 0} (q : X → Bool) (xs : List X) (x : X) → list_any q xs ≡ true → list_any q (xs ++ (x ∷ [])) ≡ true
+pub any_last : {X : Type 0} (q : X → Bool) (xs : List X) (x : X) → list_any q xs ≡ true → list_any q (xs ++ (x ∷ [])) ≡ true
 any_last q xs x is = list_any-append q xs (x ∷ []) ∙ rw is refl
 
 -- Who is named, in rows where no process is p
@@ -124,7 +124,7 @@ find_any : {X : Type 0} (q : X → Bool) (xs : List X) (x : X) → find q xs ≡
 find_any q [] x is = absurd (grind (arith, is))
 find_any q (y ∷ xs) x is = grind (arith, find_any q xs x, is)
 
-cond_at_most : (b : Bool) → cond b 1 0 ≤ 1
+pub cond_at_most : (b : Bool) → cond b 1 0 ≤ 1
 cond_at_most true = omega arith
 cond_at_most false = omega arith
 

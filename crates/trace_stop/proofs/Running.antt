@@ -22,7 +22,7 @@ use Rattle.trace_stop.proofs.Ending.{own_rows}
 
 -- Counts where at most one is gone
 
-count_kept : {X : Type 0} (t r : X → Bool) (h : X → Option X) (R : X → Type 0) → ((x : X) → R x → t x ≡ true → (y : X) × (h x ≡ Some y) × (r y ≡ true)) → (xs : List X) → AllByRecursion R xs → count_by t xs ≤ count_by r (filter_map h xs)
+pub count_kept : {X : Type 0} (t r : X → Bool) (h : X → Option X) (R : X → Type 0) → ((x : X) → R x → t x ≡ true → (y : X) × (h x ≡ Some y) × (r y ≡ true)) → (xs : List X) → AllByRecursion R xs → count_by t xs ≤ count_by r (filter_map h xs)
 count_kept t r h R keep [] all = omega arith
 count_kept {X} t r h R keep (x ∷ xs) all = by_head (t x) refl (count_kept t r h R keep xs all.1)
   where
