@@ -13,3 +13,6 @@ pub mod Signals
 pub mod Attaching
 pub mod Tracing
 pub mod Lwps
+pub mod Execs
+pub mod Exits
+pub mod Forking
