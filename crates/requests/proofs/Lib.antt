@@ -16,3 +16,6 @@ pub mod Lwps
 pub mod Execs
 pub mod Exits
 pub mod Forking
+pub mod Turns
+pub mod Handling
+pub mod Laws
