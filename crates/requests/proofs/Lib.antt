@@ -18,4 +18,4 @@ pub mod Exits
 pub mod Forking
 pub mod Turns
 pub mod Handling
-pub mod Laws
+pub mod StaysSound

@@ -1,12 +1,15 @@
 -- What every step keeps.
-use Rattle.std.specs.Prelude.{◌≡◌, ℕ, Bool, true}
+use Rattle.std.specs.Prelude.{◌≡◌, ℕ, Bool, true, List}
+use Rattle.std.specs.List.{AllByRecursion}
 use Rattle.pid_blocks.specs.Users.{IsUser}
 use Rattle.trace_stop.specs.Sound.{status_fits}
 use Rattle.requests.specs.declared.Act.{Act}
 use Rattle.requests.specs.declared.Act.TheVariants as act
 use Rattle.requests.specs.declared.PlainStep.{PlainStep}
 use Rattle.requests.specs.declared.PlainStep.TheVariants as op
-use Rattle.requests.specs.Machine.{Machine}
+use Rattle.trace_stop.specs.declared.Settings.{Settings}
+use Rattle.requests.specs.Machine.{Machine, empty}
+use Rattle.requests.specs.Run.{Asked, last}
 use Rattle.requests.specs.Sound.{sound}
 use Rattle.requests.specs.Step.{step}
 
@@ -25,3 +28,13 @@ step_fits s = true
 -- every step of every user keeps a host sound
 abbrev pub SoundKept : Type 0
 SoundKept = (u : ℕ) → IsUser u → (s : PlainStep) → step_fits s ≡ true → (m : Machine) → sound m ≡ true → sound (step u s m).machine ≡ true
+
+-- so does every list of steps, and a host that nobody has used is sound
+abbrev pub IsStep : Asked → Type 0
+IsStep a = IsUser a.uid × (step_fits a.step ≡ true)
+
+abbrev pub SoundRuns : Type 0
+SoundRuns = (list : List Asked) (m : Machine) → AllByRecursion IsStep list → sound m ≡ true → sound (last list m) ≡ true
+
+abbrev pub SoundAtFirst : Type 0
+SoundAtFirst = (settings : Settings) → sound (empty settings) ≡ true

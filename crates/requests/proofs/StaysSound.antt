@@ -1,8 +1,9 @@
 -- Every step keeps a host sound.
-use Rattle.std.proofs.Common.{◌≡◌, ℕ, true}
+use Rattle.std.proofs.Common.{◌≡◌, ℕ, true, [], ◌∷◌}
 use Rattle.requests.specs.declared.PlainStep.{PlainStep}
 use Rattle.requests.specs.declared.PlainStep.TheVariants as op
-use Rattle.requests.specs.Laws.{SoundKept}
+use Rattle.requests.specs.Laws.{SoundKept, SoundRuns}
+use Rattle.requests.specs.Step.{step}
 use Rattle.requests.proofs.Born.{spawn_sound, list_sound}
 use Rattle.requests.proofs.Steps.{sigaction_sound, wait_sound}
 use Rattle.requests.proofs.Kills.{kill_sound, install_sound}
@@ -20,3 +21,7 @@ sound_kept u user (op.Install caller policy) fits m is = install_sound m u calle
 sound_kept u user (op.Handle caller) fits m is = handle_sound m u caller is
 sound_kept u user (op.Ptrace caller r target arg) fits m is = ptrace_sound m u caller r target arg is
 sound_kept u user (op.Turn tid a) fits m is = turn_sound m u tid a fits is
+
+pub sound_runs : SoundRuns
+sound_runs [] m all is = is
+sound_runs (a ∷ list) m all is = sound_runs list (step a.uid a.step m).machine all.1 (sound_kept a.uid all.0.0 a.step all.0.1 m is)
