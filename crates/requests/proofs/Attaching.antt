@@ -1,5 +1,5 @@
 -- A process that gets a tracer, by its own request or by an attach, keeps rows sound.
-use Rattle.std.proofs.Common.{◌≡◌, ◌≢◌, ℕ, ◌≤◌, Bool, true, false, cond, ◌==◌, if◌then◌else◌, List, [], ◌∷◌, find, Option, Some, None, is_some, refl, sym, ap, ◌∙◌, true≢false, subst, arith, eqb-true, eq-eqb}
+use Rattle.std.proofs.Common.{◌≡◌, ◌≢◌, ℕ, Bool, true, false, cond, ◌==◌, List, [], ◌∷◌, find, Option, Some, None, is_some, refl, sym, ap, ◌∙◌, true≢false, subst, arith, eqb-true, eq-eqb}
 use Rattle.std.specs.Prelude.{count_by}
 use Rattle.event_masks.specs.Exits.{default_mask}
 use Rattle.signals.specs.Table.{SIGSTOP}

@@ -1,5 +1,5 @@
 -- An exec keeps rows sound.
-use Rattle.std.proofs.Common.{◌≡◌, ◌≢◌, ℕ, ◌+◌, ◌≤◌, Bool, true, false, cond, ◌==◌, ◌&&◌, if◌then◌else◌, List, [], ◌∷◌, find, Option, Some, None, IfSome, is_some, refl, sym, ap, ◌∙◌, true≢false, subst, arith, eqb, eqb-true, eq-eqb}
+use Rattle.std.proofs.Common.{◌≡◌, ◌≢◌, ℕ, ◌≤◌, Bool, true, false, cond, ◌==◌, ◌&&◌, if◌then◌else◌, List, [], ◌∷◌, find, Option, Some, None, IfSome, is_some, refl, sym, ap, ◌∙◌, subst, arith, eqb, eqb-true, eq-eqb}
 use Rattle.std.specs.Prelude.{count_by}
 use Rattle.event_masks.specs.declared.TheConstants.EventMask.{PTRACE_VFORK}
 use Rattle.event_masks.specs.Exits.{asks}
@@ -10,13 +10,12 @@ use Rattle.lwp_table.specs.declared.Due.{Due}
 use Rattle.lwp_table.specs.declared.Due.TheVariants.{VforkDone}
 use Rattle.lwp_table.specs.Lwps.{lwp_of}
 use Rattle.proc_table.specs.declared.ProcData.{ProcData}
-use Rattle.proc_table.specs.Processes.{is_live, process_of}
+use Rattle.proc_table.specs.Processes.{process_of}
 use Rattle.proc_table.specs.Rows.{Rows, owner, by_owner, edit_lwps, change_process, is_numbered}
-use Rattle.proc_table.specs.Fresh.{lwp_count}
 use Rattle.trace_stop.specs.Post.{settled_process, settled_lwp, settle}
 use Rattle.trace_stop.specs.End.{waits_where, released}
 use Rattle.trace_stop.specs.Sound.{is_due}
-use Rattle.trace_stop.specs.Facts.{IsLiveChild, waited_for, FitLwp, Standing, IsSound}
+use Rattle.trace_stop.specs.Facts.{IsLiveChild, waited_for, FitLwp, IsSound}
 use Rattle.trace_stop.proofs.Every.{count-cons}
 use Rattle.trace_stop.proofs.Edited.{If_more, some_is, find_edit}
 use Rattle.trace_stop.proofs.Changed.{found_number}

@@ -1,5 +1,5 @@
 -- The stops at the entry and the exit of calls may be made: they are of traced processes.
-use Rattle.std.proofs.Common.{◌≡◌, ℕ, ◌<◌, ◌*◌, ◌%◌, Bool, true, false, ◌==◌, ◌||◌, ltb, if◌then◌else◌, Option, Some, None, IfSome, option_map, is_some, refl, sym, ap, ◌∙◌, true≢false, subst, arith, eq-eqb, bit_and, lt-ltb}
+use Rattle.std.proofs.Common.{◌≡◌, ℕ, ◌*◌, ◌%◌, true, false, ◌==◌, ltb, if◌then◌else◌, Option, Some, None, IfSome, option_map, is_some, refl, sym, ap, ◌∙◌, true≢false, subst, arith, eq-eqb, bit_and, lt-ltb}
 use Rattle.std.proofs.lemmas.Bool.{ltb-true}
 use Rattle.event_masks.specs.declared.EventMask.{EventMask}
 use Rattle.event_masks.specs.declared.StopFlags.{StopFlags}

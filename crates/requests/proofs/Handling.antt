@@ -1,12 +1,12 @@
 -- A stop that installed policies decide on keeps a host sound.
-use Rattle.std.proofs.Common.{◌≡◌, ℕ, negsuc, Bool, true, false, ◌==◌, ◌&&◌, if◌then◌else◌, List, [], ◌∷◌, Option, Some, None, IfSome, is_some, refl, sym, ap, ◌∙◌, true≢false, subst, eqb, eq-eqb}
+use Rattle.std.proofs.Common.{◌≡◌, ℕ, negsuc, Bool, true, ◌==◌, ◌&&◌, if◌then◌else◌, List, Option, Some, None, IfSome, is_some, refl, sym, ap, ◌∙◌, subst, eqb, eq-eqb}
 use Rattle.signals.specs.Table.{SIGKILL}
 use Rattle.lwp_table.specs.declared.LwpData.{LwpData}
 use Rattle.lwp_table.specs.Lwps.{lwp_of}
 use Rattle.proc_table.specs.declared.ProcData.{ProcData}
 use Rattle.proc_table.specs.declared.State.{State}
 use Rattle.proc_table.specs.declared.State.TheVariants.{Run, Trace, Job, Zombie}
-use Rattle.proc_table.specs.Processes.{is_live, named_by, process_of}
+use Rattle.proc_table.specs.Processes.{named_by, process_of}
 use Rattle.proc_table.specs.Rows.{Rows, each}
 use Rattle.trace_stop.specs.declared.Settings.{Settings}
 use Rattle.trace_stop.specs.Stop.{resume, detach}
@@ -14,7 +14,7 @@ use Rattle.trace_stop.specs.Facts.{FitProcess, IsSound}
 use Rattle.trace_stop.proofs.Every.{All-filter, find_some}
 use Rattle.trace_stop.proofs.Edited.{If_more, find_edit}
 use Rattle.trace_stop.proofs.Ending.{own_rows}
-use Rattle.trace_stop.proofs.Posts.{resume_sound, detach_sound}
+use Rattle.trace_stop.proofs.Posts.{detach_sound}
 use Rattle.stop_handlers.specs.declared.Rule.{Rule}
 use Rattle.stop_handlers.specs.declared.Decision.{Decision}
 use Rattle.stop_handlers.specs.declared.Decision.TheVariants as decision

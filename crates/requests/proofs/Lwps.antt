@@ -1,6 +1,5 @@
 -- An LWP that changes its mode, that is made, or that exits keeps rows sound.
 use Rattle.std.proofs.Common.{◌≡◌, ◌≢◌, ℕ, ◌≤◌, Bool, true, false, cond, ◌==◌, ◌&&◌, not, leb, if◌then◌else◌, List, [], ◌∷◌, ◌++◌, find, Option, Some, None, IfSome, is_some, refl, sym, ap, ◌∙◌, true≢false, subst, arith, eqb-true, eq-eqb, bit_and}
-use Rattle.std.specs.List.{AllByRecursion}
 use Rattle.std.proofs.lemmas.Bool.{leb-false}
 use Rattle.pid_blocks.specs.Users.{IsUser}
 use Rattle.event_masks.specs.declared.StopFlags.{StopFlags}
@@ -10,12 +9,11 @@ use Rattle.event_masks.specs.declared.Call.TheVariants as call
 use Rattle.event_masks.specs.Exits.{asks, shows}
 use Rattle.lwp_table.specs.declared.LwpData.{LwpData}
 use Rattle.lwp_table.specs.declared.Mode.{Mode}
-use Rattle.lwp_table.specs.declared.Mode.TheVariants.{User}
 use Rattle.lwp_table.specs.declared.Due.{Due}
 use Rattle.lwp_table.specs.declared.Due.TheVariants as due
 use Rattle.lwp_table.specs.Lwps.{born, lwp_of}
 use Rattle.proc_table.specs.declared.ProcData.{ProcData}
-use Rattle.proc_table.specs.Processes.{is_live, reporting, is_this, process_of}
+use Rattle.proc_table.specs.Processes.{reporting, is_this, process_of}
 use Rattle.proc_table.specs.Rows.{Rows, edit_lwps, change_lwp, remove_lwp}
 use Rattle.proc_table.specs.Fresh.{add_lwp, lwp_count}
 use Rattle.proc_table.specs.Kept.{AtHome}
@@ -24,8 +22,8 @@ use Rattle.trace_stop.specs.declared.Shown.{Shown}
 use Rattle.trace_stop.specs.Post.{unwanted}
 use Rattle.trace_stop.specs.Stop.{stop}
 use Rattle.trace_stop.specs.Sound.{names_own, is_due, mode_fits}
-use Rattle.trace_stop.specs.Facts.{IsLiveChild, Linked, FitProcess, waited_for, Standing, FitLwp, IsSound}
-use Rattle.trace_stop.proofs.Every.{and_left, and_right, both, by_bool, not_true, any_forward, find_some}
+use Rattle.trace_stop.specs.Facts.{IsLiveChild, waited_for, Standing, FitLwp, IsSound}
+use Rattle.trace_stop.proofs.Every.{and_left, and_right, both, not_true, any_forward, find_some}
 use Rattle.trace_stop.proofs.Edited.{some_is, if_at}
 use Rattle.trace_stop.proofs.Changed.{found_number}
 use Rattle.trace_stop.proofs.Stopping.{own_lwps}
@@ -36,7 +34,7 @@ use Rattle.trace_stop.proofs.Joining.{joined_sound}
 use Rattle.requests.specs.Outcome.{Outcome, trap}
 use Rattle.requests.specs.Turn.{due_stop}
 use Rattle.requests.specs.Leave.{in_mode, due_at_birth, exits_lwp}
-use Rattle.requests.proofs.Acting.{choose, traced_where, Acting, owner_is, its_live, its_quiet, lwp_fit, lwp_stands, acting_lwp, acting_stops}
+use Rattle.requests.proofs.Acting.{choose, traced_where, Acting, its_live, its_quiet, lwp_fit, lwp_stands, acting_lwp, acting_stops}
 use Rattle.requests.proofs.Room.{LwpRoom}
 use Rattle.requests.proofs.Signals.{end_sound}
 

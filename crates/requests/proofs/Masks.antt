@@ -12,10 +12,10 @@ use Rattle.trace_stop.specs.Sound.{names_own}
 use Rattle.trace_stop.specs.Facts.{FitProcess, Standing, FitLwp, WithOwner, IsSound}
 use Rattle.trace_stop.proofs.Every.{and_left, and_right, find_some, any_holds}
 use Rattle.trace_stop.proofs.Edited.{find_edit}
-use Rattle.trace_stop.proofs.Changed.{found_number, holds_sound, sound_holds}
+use Rattle.trace_stop.proofs.Changed.{holds_sound, sound_holds}
 use Rattle.trace_stop.proofs.Changes.{changes_hold}
 use Rattle.trace_stop.proofs.Posting.{live_fits, live_state}
-use Rattle.trace_stop.proofs.Single.{OneLwp, process_sound, lwp_sound}
+use Rattle.trace_stop.proofs.Single.{process_sound, lwp_sound}
 use Rattle.trace_stop.proofs.Posts.{resume_sound}
 use Rattle.trace_stop.proofs.Stopping.{own_lwps}
 use Rattle.requests.specs.Ptrace.{not_stepping, stepping, suspend, set_mask, continues_with}

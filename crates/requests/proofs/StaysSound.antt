@@ -1,6 +1,5 @@
 -- Every step keeps a host sound.
-use Rattle.std.proofs.Common.{◌≡◌, ℕ, true, [], ◌∷◌}
-use Rattle.requests.specs.declared.PlainStep.{PlainStep}
+use Rattle.std.proofs.Common.{[], ◌∷◌}
 use Rattle.requests.specs.declared.PlainStep.TheVariants as op
 use Rattle.requests.specs.Laws.{SoundKept, SoundRuns}
 use Rattle.requests.specs.Step.{step}

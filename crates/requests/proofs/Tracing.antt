@@ -1,6 +1,6 @@
 -- Each request of a debugger keeps a host sound.
-use Rattle.std.proofs.Common.{◌≡◌, ◌≢◌, ℕ, Bool, true, false, ◌==◌, ◌&&◌, not, leb, if◌then◌else◌, Option, Some, None, option_map, is_some, refl, sym, ap, ◌∙◌, true≢false, subst, arith, eqb-true, eq-eqb}
-use Rattle.std.specs.List.{AllByRecursion, list_any}
+use Rattle.std.proofs.Common.{◌≡◌, ℕ, Bool, true, false, ◌==◌, ◌&&◌, not, leb, if◌then◌else◌, Option, Some, None, option_map, is_some, refl, sym, ◌∙◌, true≢false, subst, arith, eqb-true, eq-eqb}
+use Rattle.std.specs.List.{list_any}
 use Rattle.pid_blocks.specs.declared.Errno.TheVariants.{ESRCH}
 use Rattle.event_masks.specs.declared.TheConstants.EventMask.{PTRACE_SCE, PTRACE_SCX, PTRACE_FORK, PTRACE_LWP}
 use Rattle.event_masks.specs.Exits.{mask_with}
@@ -28,7 +28,7 @@ use Rattle.requests.specs.declared.Request.{Request}
 use Rattle.requests.specs.declared.Request.TheVariants as request
 use Rattle.requests.specs.declared.PlainStep.TheVariants as op
 use Rattle.requests.specs.Outcome.{Outcome, refuses}
-use Rattle.requests.specs.Ptrace.{attach, told_stop, bad_argument, not_stepping, stepping, set_mask, switched, shows_info, does, commands_stopped, commands, is_attach, about, process_by, target_of, is_trace_me, ptrace}
+use Rattle.requests.specs.Ptrace.{attach, told_stop, bad_argument, stepping, switched, shows_info, does, commands_stopped, commands, is_attach, about, process_by, target_of, is_trace_me, ptrace}
 use Rattle.requests.specs.Machine.{Machine}
 use Rattle.requests.specs.Sound.{sound}
 use Rattle.requests.specs.Step.{step}

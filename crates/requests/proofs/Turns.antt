@@ -1,5 +1,5 @@
 -- The turn of an LWP keeps a host sound.
-use Rattle.std.proofs.Common.{◌≡◌, ℕ, ◌*◌, Bool, true, false, ◌||◌, not, if◌then◌else◌, Option, Some, None, IfSome, refl, sym, ap, ◌∙◌, true≢false, subst, arith}
+use Rattle.std.proofs.Common.{◌≡◌, ℕ, ◌*◌, Bool, true, false, ◌||◌, not, Option, Some, None, IfSome, refl, sym, ap, ◌∙◌, true≢false, subst}
 use Rattle.event_masks.specs.declared.Call.{Call}
 use Rattle.event_masks.specs.declared.Call.TheVariants as call
 use Rattle.lwp_table.specs.declared.LwpData.{LwpData}
@@ -20,7 +20,7 @@ use Rattle.requests.specs.declared.Act.{Act}
 use Rattle.requests.specs.declared.Act.TheVariants as act
 use Rattle.requests.specs.declared.PlainStep.TheVariants as op
 use Rattle.requests.specs.declared.Reply.TheVariants as reply
-use Rattle.requests.specs.Outcome.{Outcome, stops_or}
+use Rattle.requests.specs.Outcome.{Outcome}
 use Rattle.requests.specs.Leave.{Numbers, room_for_lwp, room_for_process, in_mode, exit_stop, with_child, forks, exec_rows, due_at_birth, makes_lwp, leaves}
 use Rattle.requests.specs.Turn.{waits, due_stop, next_signal, without_signal, acts, signal_or_act, due_or_more, turn_of, turn_by, turn_seen, turn}
 use Rattle.requests.specs.Machine.{Machine}

@@ -1,6 +1,6 @@
 -- A process with one more LWP keeps rows sound.
-use Rattle.std.proofs.Common.{◌≡◌, ℕ, ◌+◌, ◌<◌, ◌≤◌, List, [], ◌∷◌, ◌++◌, Bool, true, false, cond, ◌==◌, ◌&&◌, Option, Some, None, IfSome, refl, sym, ap, ◌∙◌, true≢false, subst, arith, eqb-true, eq-eqb, length-set}
-use Rattle.std.specs.List.{AllByRecursion, list_any}
+use Rattle.std.proofs.Common.{◌≡◌, ℕ, ◌+◌, ◌<◌, ◌≤◌, [], ◌∷◌, Bool, true, false, cond, ◌==◌, ◌&&◌, Some, None, IfSome, refl, sym, ap, ◌∙◌, true≢false, subst, arith, eqb-true, length-set}
+use Rattle.std.specs.List.{list_any}
 use Rattle.pid_blocks.specs.Users.{IsUser}
 use Rattle.pid_blocks.specs.Blocks.{slot, tid_block, InBlock}
 use Rattle.event_masks.specs.Exits.{shows}
@@ -10,7 +10,7 @@ use Rattle.proc_table.specs.declared.ProcData.{ProcData}
 use Rattle.proc_table.specs.Processes.{is_live, reporting, process_of}
 use Rattle.proc_table.specs.Rows.{Rows}
 use Rattle.proc_table.specs.Seen.{owns}
-use Rattle.proc_table.specs.Fresh.{is_lwp, add_lwp, lwp_count, lwp_count_of}
+use Rattle.proc_table.specs.Fresh.{is_lwp, add_lwp, lwp_count_of}
 use Rattle.proc_table.specs.Kept.{AtHome, Housed}
 use Rattle.trace_stop.specs.Sound.{names_own}
 use Rattle.trace_stop.specs.Facts.{IsLiveChild, Linked, waited_for, Standing, FitLwp, WithOwner, IsSound}

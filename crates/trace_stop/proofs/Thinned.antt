@@ -1,5 +1,5 @@
 -- Changes of LWPs alone, of which some may go, keep rows sound.
-use Rattle.std.proofs.Common.{◌≡◌, ℕ, ◌≤◌, true, ◌==◌, List, filter_map, Option, Some, None, IfSome, refl, sym, ap, ◌∙◌, subst, arith}
+use Rattle.std.proofs.Common.{◌≡◌, ◌≤◌, true, filter_map, Option, Some, None, IfSome, refl, sym, ap, ◌∙◌, subst, arith}
 use Rattle.std.specs.List.{AllByRecursion}
 use Rattle.lwp_table.specs.declared.LwpData.{LwpData}
 use Rattle.lwp_table.specs.Lwps.{lwp_of}
@@ -8,7 +8,7 @@ use Rattle.proc_table.specs.Processes.{is_live, reporting, process_of}
 use Rattle.proc_table.specs.Rows.{Rows, edit_lwps}
 use Rattle.proc_table.specs.Fresh.{lwp_count}
 use Rattle.trace_stop.specs.Sound.{names_own}
-use Rattle.trace_stop.specs.Facts.{Linked, FitProcess, Standing, FitLwp, WithOwner, Stands, IsSound}
+use Rattle.trace_stop.specs.Facts.{Linked, Standing, FitLwp, WithOwner, Stands, IsSound}
 use Rattle.trace_stop.proofs.Every.{All-imply, All-any, All-both, All-edit}
 use Rattle.trace_stop.proofs.Edited.{edited, edited_stands}
 use Rattle.trace_stop.proofs.Changes.{edit_none}
