@@ -25,3 +25,15 @@ pub mod Called
 pub mod Finished
 pub mod Pending
 pub mod Installing
+pub mod Acting
+pub mod Masks
+pub mod Signals
+pub mod Attaching
+pub mod Tracing
+pub mod Lwps
+pub mod Execs
+pub mod Exits
+pub mod Forking
+pub mod Turns
+pub mod Handling
+pub mod StaysSound

@@ -31,7 +31,7 @@ pub record Ready (p : ProcData) : Type 0 where
 abbrev pub Readied : ℕ → ProcData → Type 0
 Readied pid p = (p.pid ≢ pid → FitProcess p) × (p.pid ≡ pid → Ready p)
 
-run_quiet : (s : State) → is_run_state s ≡ true → (named_by s ≡ None) × (is_zombie_state s ≡ false)
+pub run_quiet : (s : State) → is_run_state s ≡ true → (named_by s ≡ None) × (is_zombie_state s ≡ false)
 run_quiet Run is = (refl, refl)
 run_quiet (Trace tid sig seen) is = absurd (true≢false (sym is))
 run_quiet (Job sig seen) is = absurd (true≢false (sym is))
@@ -122,11 +122,13 @@ module _ (rows : Rows) (pid tid : ℕ) (shown : Shown) (p : ProcData) (l : LwpDa
     untraced = λ none. absurd (none_some q.tracer none ready.traced);
     silent = λ off. absurd (true≢false (sym (eq-eqb tid k.tid (sym (eqb-true k.tid tid d))) ∙ off));
     blocked = known.0.blocked;
+    mode = known.0.mode;
   }
   fit_lwp q k fact known at true e false d = let ready = fact.1 (eqb-true q.pid pid e) in record {
     untraced = λ none. absurd (none_some q.tracer none ready.traced);
     silent = λ off. known.0.silent (ap (is_this k.tid) ready.quiet);
     blocked = known.0.blocked;
+    mode = known.0.mode;
   }
 
   the_change : Change rows to to_lwp (Readied pid) Known FitProcess FitLwp
