@@ -11,6 +11,7 @@ pub mod Disposing
 pub mod Others
 pub mod Remaining
 pub mod Sending
+pub mod Refusing
 pub mod ViewLists
 pub mod ViewSame
 pub mod ViewEdits

@@ -4,7 +4,7 @@ use Rattle.pid_blocks.specs.declared.Errno.TheVariants as errno
 use Rattle.requests.specs.declared.Reply.{Reply}
 use Rattle.requests.specs.declared.Reply.TheVariants as reply
 
-abbrev wants : Reply → Bool
+abbrev pub wants : Reply → Bool
 wants (reply.Errno errno.ENOMEM) = true
 wants r = false
 

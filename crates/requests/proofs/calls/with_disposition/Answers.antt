@@ -1,4 +1,4 @@
-use Rattle.std.proofs.Common.{◌≡◌, Some, None, Bool, true, false, not, if◌then◌else◌, ap, sym, ◌∙◌, inl, inr, refl, true≢false}
+use Rattle.std.proofs.Common.{◌≡◌, true, false, not, ap, sym, ◌∙◌, inl, inr, refl, true≢false}
 use Rattle.std.proofs.lemmas.Bool.{cases_Bool}
 use Rattle.signals.specs.Table.{may_have}
 use Rattle.requests.specs.Calls.{is_refused}

@@ -1,4 +1,4 @@
-use Rattle.std.proofs.Common.{◌≡◌, Some, None, true, false, sym, ap, ◌∙◌, true≢false, eq-eqb, eqb-true}
+use Rattle.std.proofs.Common.{◌≡◌, Some, None, sym, ap, ◌∙◌, true≢false, eq-eqb, eqb-true}
 use Rattle.std.specs.Prelude.{option_map}
 use Rattle.proc_table.specs.Walks.{next_of}
 use Rattle.trace_stop.proofs.Edited.{some_is}
