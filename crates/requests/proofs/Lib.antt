@@ -7,6 +7,11 @@ pub mod Hosted
 pub mod Collecting
 pub mod Steps
 pub mod Kills
+pub mod Disposing
+pub mod Others
+pub mod Remaining
+pub mod Sending
+pub mod Refusing
 pub mod ViewLists
 pub mod ViewSame
 pub mod ViewEdits

@@ -1,6 +1,7 @@
-//! Laws of steps: what a host always keeps.
+//! Laws of the tracing machine's steps.
 
 ghost use Rattle.requests.specs.Laws.{SoundKept, SoundAtFirst, SoundRuns};
+ghost use Rattle.requests.specs.Refusals.{NeverMemory, RefusedSame};
 
 /// Every step of every user keeps a host sound.
 pub fn stays_sound()
@@ -11,4 +12,14 @@ pub fn stays_sound()
 pub fn runs_stay_sound()
     ensures first { SoundAtFirst }
     ensures runs { SoundRuns }
+{}
+
+/// A refused step changes nothing.
+pub fn refused_same()
+    ensures { RefusedSame }
+{}
+
+/// No step of the machine wants memory: the host alone answers ENOMEM.
+pub fn never_memory()
+    ensures { NeverMemory }
 {}
