@@ -20,3 +20,5 @@ pub mod ViewHosts
 pub mod ViewLaws
 pub mod ViewSound
 pub mod Living
+pub mod Acting
+pub mod Masks
