@@ -22,3 +22,5 @@ pub mod ViewSound
 pub mod Living
 pub mod Acting
 pub mod Masks
+pub mod Tracees
+pub mod Links
