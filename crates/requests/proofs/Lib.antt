@@ -23,4 +23,5 @@ pub mod Living
 pub mod Acting
 pub mod Masks
 pub mod Tracees
+pub mod Asked
 pub mod Links

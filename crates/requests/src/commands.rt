@@ -1,32 +1,137 @@
 //! What a tracer asks of a stopped tracee by ptrace(2).
 
-ghost use Rattle.std.specs.Prelude.{◌≡◌, ◌≢◌, ◌==◌, ◌<◌, Some, IsSome, IsSomeAnd, true, false, is_some, leb, not, if◌then◌else◌};
+ghost use Rattle.std.specs.Prelude.{◌≡◌, ◌≢◌, ◌==◌, ◌<◌, Some, IfSome, IsSome, IsSomeAnd, true, false, is_some, leb, not, if◌then◌else◌};
 ghost use Rattle.std.specs.Int.RustNames.{bit_or};
 ghost use Rattle.pid_blocks.specs.declared.Errno.TheVariants as errno;
 ghost use Rattle.event_masks.specs.Exits.{all_events};
 ghost use Rattle.signals.specs.Table.{SIGKILL};
 ghost use Rattle.lwp_table.specs.Lwps.{lwp_of};
-ghost use Rattle.proc_table.specs.Processes.{process_of, reporting};
+ghost use Rattle.proc_table.specs.Kept.{IsKept};
+ghost use Rattle.proc_table.specs.Processes.{process_of, reporting, traces};
 ghost use Rattle.proc_table.specs.Rows.{change_lwp};
 ghost use Rattle.trace_stop.specs.Stop.{resume, detach};
 ghost use Rattle.trace_stop.specs.Facts.{IsSound};
 ghost use Rattle.lwpinfo.specs.Info.{info, lwp_list};
 ghost use Rattle.requests.specs.declared.Reply.TheVariants as reply;
 ghost use Rattle.requests.specs.Outcome.{answers, refuses};
-ghost use Rattle.requests.specs.Ptrace.{stepping, suspend, set_mask, continues_with, switched, shows_info};
+ghost use Rattle.requests.specs.Ptrace.{ptrace, is_trace_me, is_attach, target_of, told_stop, stepping, suspend, set_mask, continues_with, switched, shows_info};
+ghost use Rattle.requests.specs.Callers.{IsCaller};
 ghost use Rattle.requests.specs.Commands.{command, with_signal};
 ghost use Rattle.requests.specs.Memory.{lists, is_refusal};
 
 use crate::stubs::{clear_stepping, detach, resume};
+use crate::tracing::{attach, trace_me};
 use crate::{Reply, Request};
 use event_masks::EventMask;
 use lwp_table::LwpData;
 use lwpinfo::{info, lwp_count, lwp_list};
-use pid_blocks::{Errno, Pid, Tid};
-use proc_table::{ProcData, Tables};
+use pid_blocks::{Errno, Pid, Tid, Uid};
+use proc_table::{ProcData, State, Tables};
 use signals::{Pass, Signal};
 use std::alloc::Global;
 use trace_stop::Settings;
+
+/// A request of ptrace(2) by a process that runs. A target up to 99999 names a process, and its LWP that reports
+/// a stop; a greater one names an LWP, and its process. Refused as the manual page says, and PT_GETLWPLIST
+/// with ENOMEM where memory runs out; a request that is refused changes nothing.
+pub fn ptrace(
+    tables: &mut Tables,
+    alloc: Global,
+    settings: Settings,
+    user: Uid,
+    caller: &ProcData,
+    request: Request,
+    target: u32,
+    arg: u32,
+) -> Reply
+    requires sound { IsSound tables.old.rows }
+    requires caller { IsCaller user caller.now tables.old.rows }
+    ensures machine { result ≢ reply.Errno errno.ENOMEM →
+        (tables.new.rows ≡ (ptrace settings user caller.now request target arg tables.old.rows).rows)
+        × (result ≡ (ptrace settings user caller.now request target arg tables.old.rows).reply) }
+    ensures memory { result ≡ reply.Errno errno.ENOMEM → (tables.new.rows ≡ tables.old.rows) × (lists request ≡ true)
+        × (is_refusal (ptrace settings user caller.now request target arg tables.old.rows).reply ≡ false) }
+{
+    if is_trace_me(request) {
+        return trace_me(tables, caller);
+    }
+    let Some(process) = target_of(tables, user, target) else {
+        return Reply::Errno(Errno::ESRCH);
+    };
+    if !process.is_live() {
+        return Reply::Errno(Errno::ESRCH);
+    }
+    if is_attach(request) {
+        return attach(tables, caller, &process);
+    }
+    if process.tracer.is_none() {
+        return Reply::Errno(Errno::EPERM);
+    }
+    if !traces(caller.pid, &process) {
+        return Reply::Errno(Errno::EBUSY);
+    }
+    let Some(reporting) = told_stop(&process) else {
+        return Reply::Errno(Errno::EBUSY);
+    };
+    let lwp = named_lwp(target, reporting);
+    command(tables, alloc, settings, request, arg, lwp, &process)
+}
+
+fn is_trace_me(request: Request) -> bool
+    ensures { result ≡ is_trace_me request }
+{
+    matches!(request, Request::TraceMe)
+}
+
+fn is_attach(request: Request) -> bool
+    ensures { result ≡ is_attach request }
+{
+    matches!(request, Request::Attach)
+}
+
+/// The user's process that the target names.
+fn target_of(tables: &Tables, user: Uid, target: u32) -> Option<ProcData>
+    ensures process { result ≡ target_of user target tables.now.rows }
+    ensures row { IfSome result (λ p. process_of p.pid tables.now.rows.processes ≡ Some p) }
+    ensures kept { IsKept tables.now.rows }
+{
+    tables.kept();
+    match tables.find_seen(user, target) {
+        Some(pid) => tables.process(pid),
+        None => None,
+    }
+}
+
+/// Whether the process with this number traces the other one.
+fn traces(pid: Pid, process: &ProcData) -> bool
+    ensures { result ≡ traces pid process.now }
+{
+    match process.tracer {
+        Some(tracer) => tracer == pid,
+        None => false,
+    }
+}
+
+/// The LWP of a trace stop that the tracer was told of.
+fn told_stop(process: &ProcData) -> Option<Tid>
+    ensures { result ≡ told_stop process.now.state }
+{
+    match process.state {
+        State::Trace { tid, seen, .. } => { if seen { Some(tid) } else { None } }
+        State::Run | State::Job { .. } | State::Zombie { .. } => None,
+    }
+}
+
+/// The LWP that the target names: that with its number, or for the number of a process the LWP that reports its stop.
+fn named_lwp(target: u32, reporting: Tid) -> Tid
+    requires lwp { leb target 99999 ≡ false → target < 356000 }
+    ensures { result ≡ (if leb target 99999 then reporting else target) }
+{
+    match Tid::new(target) {
+        Some(lwp) => lwp,
+        None => reporting,
+    }
+}
 
 /// Does what the tracer asks of its stopped tracee, by an LWP of it. Refused with EINVAL where the argument is
 /// wrong, and with ENOMEM where memory for a list of LWPs runs out.

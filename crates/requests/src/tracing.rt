@@ -1,11 +1,13 @@
 //! How a process comes to be traced, as by PT_TRACE_ME and PT_ATTACH of ptrace(2).
 
-ghost use Rattle.std.specs.Prelude.{◌≡◌, ◌==◌, Some, None, IfSome, if◌then◌else◌};
+ghost use Rattle.std.specs.Prelude.{◌≡◌, ◌≢◌, ◌==◌, Some, None, IfSome, if◌then◌else◌};
+ghost use Rattle.pid_blocks.specs.declared.Errno.TheVariants as errno;
 ghost use Rattle.lwp_table.specs.Lwps.{first_lwp};
 ghost use Rattle.proc_table.specs.Kept.{IsRow};
 ghost use Rattle.proc_table.specs.Processes.{process_of};
 ghost use Rattle.proc_table.specs.Rows.{change_process};
 ghost use Rattle.trace_stop.specs.End.{tracer_of};
+ghost use Rattle.requests.specs.declared.Reply.TheVariants as reply;
 ghost use Rattle.requests.specs.Ptrace.{closes_chain, traced_by, trace_me, stop_first, attach};
 ghost use Rattle.requests.specs.Turn.{plain};
 
@@ -23,6 +25,7 @@ pub fn trace_me(tables: &mut Tables, caller: &ProcData) -> Reply
     requires at { process_of caller.now.pid tables.old.rows.processes ≡ Some caller.now }
     ensures rows { tables.new.rows ≡ (trace_me caller.now tables.old.rows).rows }
     ensures reply { result ≡ (trace_me caller.now tables.old.rows).reply }
+    ensures memory { result ≢ reply.Errno errno.ENOMEM }
 {
     if caller.tracer.is_some() {
         return Reply::Errno(Errno::EBUSY);
@@ -45,6 +48,7 @@ pub fn attach(tables: &mut Tables, caller: &ProcData, process: &ProcData) -> Rep
     requires at { process_of process.now.pid tables.old.rows.processes ≡ Some process.now }
     ensures rows { tables.new.rows ≡ (attach caller.now process.now tables.old.rows).rows }
     ensures reply { result ≡ (attach caller.now process.now tables.old.rows).reply }
+    ensures memory { result ≢ reply.Errno errno.ENOMEM }
 {
     if process.pid == caller.pid {
         return Reply::Errno(Errno::EINVAL);

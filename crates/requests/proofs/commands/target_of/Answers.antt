@@ -1,0 +1,8 @@
+use Rattle.std.proofs.Common.{◌≡◌, Option, Some, None, IfSome, refl, sym, ap, ◌∙◌}
+use Rattle.proc_table.specs.declared.ProcData.{ProcData}
+use Rattle.proc_table.specs.Processes.{process_of}
+use Rattle.requests.proofs.Asked.{own_row}
+use Rattle.requests.proofs.commands.target_of.Goals as goal
+
+pub returns-in-Some-clause-row : goal.returns-in-Some-clause-row
+returns-in-Some-clause-row c = own_row c.in-Some.pid c.args.tables.now.rows.processes c.process.result c.process.ensures.row
