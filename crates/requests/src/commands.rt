@@ -4,7 +4,6 @@ ghost use Rattle.std.specs.Prelude.{◌≡◌, ◌≢◌, ◌==◌, ◌<◌, Som
 ghost use Rattle.std.specs.Int.RustNames.{bit_or};
 ghost use Rattle.pid_blocks.specs.declared.Errno.TheVariants as errno;
 ghost use Rattle.event_masks.specs.Exits.{all_events};
-ghost use Rattle.signals.specs.Table.{SIGKILL};
 ghost use Rattle.lwp_table.specs.Lwps.{lwp_of};
 ghost use Rattle.proc_table.specs.Kept.{IsKept};
 ghost use Rattle.proc_table.specs.Processes.{process_of, reporting, traces};
@@ -13,7 +12,7 @@ ghost use Rattle.trace_stop.specs.Stop.{resume, detach};
 ghost use Rattle.trace_stop.specs.Facts.{IsSound};
 ghost use Rattle.lwpinfo.specs.Info.{info, lwp_list};
 ghost use Rattle.requests.specs.declared.Reply.TheVariants as reply;
-ghost use Rattle.requests.specs.Outcome.{answers, refuses};
+ghost use Rattle.requests.specs.Outcome.{answers};
 ghost use Rattle.requests.specs.Ptrace.{ptrace, is_trace_me, is_attach, target_of, told_stop, stepping, suspend, set_mask, continues_with, switched, shows_info};
 ghost use Rattle.requests.specs.Callers.{IsCaller};
 ghost use Rattle.requests.specs.Commands.{command, with_signal};
@@ -117,8 +116,8 @@ fn told_stop(process: &ProcData) -> Option<Tid>
     ensures { result ≡ told_stop process.now.state }
 {
     match process.state {
-        State::Trace { tid, seen, .. } => { if seen { Some(tid) } else { None } }
-        State::Run | State::Job { .. } | State::Zombie { .. } => None,
+        State::Trace { tid, seen, .. } if seen => Some(tid),
+        _ => None,
     }
 }
 
@@ -135,7 +134,7 @@ fn named_lwp(target: u32, reporting: Tid) -> Tid
 
 /// Does what the tracer asks of its stopped tracee, by an LWP of it. Refused with EINVAL where the argument is
 /// wrong, and with ENOMEM where memory for a list of LWPs runs out.
-pub fn command(
+fn command(
     tables: &mut Tables,
     alloc: Global,
     settings: Settings,

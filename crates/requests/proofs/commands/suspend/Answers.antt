@@ -1,5 +1,4 @@
-use Rattle.std.proofs.Common.{◌≡◌, Some, refl, sym, ◌∙◌}
-use Rattle.lwp_table.specs.Lwps.{lwp_of}
+use Rattle.std.proofs.Common.{refl, sym, ◌∙◌}
 use Rattle.requests.proofs.Tracees.{lwp_may_change, lwp_changed}
 use Rattle.requests.proofs.commands.suspend.Goals as goal
 

@@ -1,6 +1,3 @@
-use Rattle.std.proofs.Common.{◌≡◌, Option, Some, None, IfSome, refl, sym, ap, ◌∙◌}
-use Rattle.proc_table.specs.declared.ProcData.{ProcData}
-use Rattle.proc_table.specs.Processes.{process_of}
 use Rattle.requests.proofs.Asked.{own_row}
 use Rattle.requests.proofs.commands.target_of.Goals as goal
 

@@ -1,6 +1,6 @@
-use Rattle.std.proofs.Common.{◌≡◌, ◌-◌, ◌+◌, ◌<◌, None, Some, true, false, arith, sym, ap, ◌∙◌, rules}
+use Rattle.std.proofs.Common.{◌≡◌, ◌-◌, ◌+◌, ◌<◌, None, true, false, arith, sym, ap, ◌∙◌, rules}
 use Rattle.std.specs.Prelude.{◌==◌}
-use Rattle.trace_stop.specs.End.{meets, tracer_of}
+use Rattle.trace_stop.specs.End.{meets}
 use Rattle.requests.proofs.Links.{meets-none, meets-here, meets-next, meets-over}
 use Rattle.requests.proofs.tracing.closes_chain.Goals as goal
 

@@ -1,8 +1,7 @@
-use Rattle.std.proofs.Common.{◌≡◌, ◌≢◌, true, false, Option, Some, None, arith, rules, sym, ap, ◌∙◌, nat_eq}
+use Rattle.std.proofs.Common.{◌≡◌, false, Some, None, arith, sym, ap, ◌∙◌, nat_eq}
 use Rattle.std.proofs.lemmas.Bool.Decides.{nat_tests}
-use Rattle.proc_table.specs.declared.ProcData.{ProcData}
 use Rattle.proc_table.specs.Processes.{process_of}
-use Rattle.proc_table.specs.Kept.{Named, IsRow}
+use Rattle.proc_table.specs.Kept.{Named}
 use Rattle.proc_table.proofs.Every.{every_found}
 use Rattle.proc_table.proofs.Rows.{process_of-pid, found_row, row_found}
 use Rattle.requests.proofs.tracing.parent_of.Goals as goal

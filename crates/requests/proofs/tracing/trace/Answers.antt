@@ -1,6 +1,4 @@
-use Rattle.std.proofs.Common.{◌≡◌, Some, sym, ap, ◌∙◌, refl, nat_eq}
-use Rattle.proc_table.specs.declared.ProcData.{ProcData}
-use Rattle.proc_table.specs.Processes.{process_of}
+use Rattle.std.proofs.Common.{sym, ap, ◌∙◌, refl, nat_eq}
 use Rattle.proc_table.specs.Kept.{Named, set_process}
 use Rattle.proc_table.proofs.Every.{every_found}
 use Rattle.proc_table.proofs.Changes.{change_process-at}
