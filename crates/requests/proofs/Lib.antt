@@ -25,3 +25,13 @@ pub mod Masks
 pub mod Tracees
 pub mod Asked
 pub mod Links
+pub mod Signals
+pub mod Attaching
+pub mod Tracing
+pub mod Lwps
+pub mod Execs
+pub mod Exits
+pub mod Forking
+pub mod Turns
+pub mod Handling
+pub mod StaysSound

@@ -36,3 +36,6 @@ pub mod Killing
 pub mod Running
 pub mod Freed
 pub mod Posts
+pub mod Linking
+pub mod Thinned
+pub mod Joining

@@ -1,0 +1,14 @@
+//! Laws of steps: what a host always keeps.
+
+ghost use Rattle.requests.specs.Laws.{SoundKept, SoundAtFirst, SoundRuns};
+
+/// Every step of every user keeps a host sound.
+pub fn stays_sound()
+    ensures { SoundKept }
+{}
+
+/// A host that nobody has used is sound, and so is a sound host after any list of steps.
+pub fn runs_stay_sound()
+    ensures first { SoundAtFirst }
+    ensures runs { SoundRuns }
+{}
