@@ -32,6 +32,9 @@ pub mod Pending
 pub mod Installing
 pub mod Acting
 pub mod Masks
+pub mod Tracees
+pub mod Asked
+pub mod Links
 pub mod Signals
 pub mod Attaching
 pub mod Tracing
