@@ -28,7 +28,6 @@ pub mod Living
 pub mod Drops
 pub mod Called
 pub mod Finished
-pub mod Pending
 pub mod Installing
 pub mod Acting
 pub mod Masks
@@ -37,7 +36,7 @@ pub mod Asked
 pub mod Links
 pub mod Signals
 pub mod Attaching
-pub mod Tracing
+pub mod Traced
 pub mod Lwps
 pub mod Execs
 pub mod Exits
