@@ -1,4 +1,4 @@
-use Rattle.std.proofs.Common.{◌≡◌, Some, subst, sym, refl}
+use Rattle.std.proofs.Common.{subst, sym, refl}
 use Rattle.proc_table.specs.Kept.{IsRow}
 use Rattle.proc_table.specs.Rows.{Rows}
 use Rattle.proc_table.proofs.Rows.{found_row}
