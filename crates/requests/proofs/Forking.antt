@@ -42,6 +42,7 @@ pub record Heard (rows : Rows) (n : ℕ) (p : ProcData) : Type 0 where
   pub uid : row.uid ≡ p.uid
   pub tracer : row.tracer ≡ p.tracer
   pub parent : row.parent ≡ p.parent
+  pub state : row.state ≡ p.state
   pub live : is_live p ≡ true → is_live row ≡ true
   pub run : is_run p ≡ true → is_run row ≡ true
 
@@ -56,6 +57,7 @@ heard rows pids n p at = record {
   uid = either (λ q. q.uid ≡ p.uid) (posted_same (λ x. x.uid) SIGCHLD None p (λ m. refl) (λ m. refl)) refl;
   tracer = either (λ q. q.tracer ≡ p.tracer) (posted_same (λ x. x.tracer) SIGCHLD None p (λ m. refl) (λ m. refl)) refl;
   parent = either (λ q. q.parent ≡ p.parent) (posted_same (λ x. x.parent) SIGCHLD None p (λ m. refl) (λ m. refl)) refl;
+  state = either (λ q. q.state ≡ p.state) refl refl;
   live = λ is. either (λ q. is_live q ≡ true) (posted_live SIGCHLD None p is) is;
   run = λ is. either (λ q. is_run q ≡ true) (posted_run SIGCHLD None p is) is;
 }

@@ -44,3 +44,4 @@ pub mod Forking
 pub mod Turns
 pub mod Handling
 pub mod StaysSound
+pub mod Handled

@@ -187,7 +187,7 @@ fn command(
 
 /// PT_CONTINUE, PT_TO_SCE, PT_TO_SCX and PT_SYSCALL: the process runs on with a signal or with 0, stopped from
 /// now on at the events of the mask, and none of its LWPs steps. Refused with EINVAL where the argument is above 31.
-fn continue_with(
+pub fn continue_with(
     tables: &mut Tables,
     settings: Settings,
     process: &ProcData,
@@ -260,7 +260,7 @@ fn suspend(tables: &mut Tables, lwp: Tid, suspended: bool) -> Reply
 
 /// PT_DETACH: nobody traces the process from now on, and it runs on with a signal or with 0. Refused with EINVAL
 /// where the argument is above 31.
-fn detach_with(tables: &mut Tables, settings: Settings, process: &ProcData, arg: u32) -> Reply
+pub fn detach_with(tables: &mut Tables, settings: Settings, process: &ProcData, arg: u32) -> Reply
     requires sound { IsSound tables.old.rows }
     requires at { process_of process.now.pid tables.old.rows.processes ≡ Some process.now }
     requires stopped { is_some (reporting process.now) ≡ true }
@@ -277,7 +277,7 @@ fn detach_with(tables: &mut Tables, settings: Settings, process: &ProcData, arg:
 }
 
 /// The process runs on with a signal or with 0. Refused with EINVAL where the number is above 31.
-fn resume_with(tables: &mut Tables, settings: Settings, process: &ProcData, number: u32) -> Reply
+pub fn resume_with(tables: &mut Tables, settings: Settings, process: &ProcData, number: u32) -> Reply
     requires sound { IsSound tables.old.rows }
     requires at { process_of process.now.pid tables.old.rows.processes ≡ Some process.now }
     requires stopped { is_some (reporting process.now) ≡ true }
