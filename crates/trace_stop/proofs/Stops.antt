@@ -19,17 +19,8 @@ use Rattle.trace_stop.specs.Facts.{IsLiveOf, Linked, FitProcess, waited_for, Sta
 use Rattle.trace_stop.proofs.Every.{by_bool, both, All-imply, All-both, All-any, find_some}
 use Rattle.trace_stop.proofs.Edited.{edited, some_is}
 use Rattle.trace_stop.proofs.Changed.{Holds, sound_holds, found_number, Change, change_holds, live_after}
-use Rattle.trace_stop.proofs.Stopping.{the_row, the_lwp, MayTell, live_told, notified_sound}
-
--- a traced process that may stop
-pub record Ready (p : ProcData) : Type 0 where
-  pub live : is_live p ≡ true
-  pub traced : is_some p.tracer ≡ true
-  pub quiet : reporting p ≡ None
-  pub calm : p.continued ≡ false
-
-abbrev pub Readied : ℕ → ProcData → Type 0
-Readied pid p = (p.pid ≢ pid → FitProcess p) × (p.pid ≡ pid → Ready p)
+use Rattle.trace_stop.specs.Before.{MayTell, Ready, FitOrReady}
+use Rattle.trace_stop.proofs.Stopping.{the_row, the_lwp, live_told, notified_sound}
 
 run_quiet : (s : State) → is_run_state s ≡ true → (named_by s ≡ None) × (is_zombie_state s ≡ false)
 run_quiet Run is = (refl, refl)
@@ -49,10 +40,10 @@ run_ready p fit run traced = record {
   calm = by_bool p.continued (λ on. none_some p.tracer (fit.continued on).0 traced);
 }
 
-pub sound_ready : (rows : Rows) (pid : ℕ) (p : ProcData) → IsSound rows → process_of pid rows.processes ≡ Some p → Ready p → Holds (Readied pid) FitLwp rows
+pub sound_ready : (rows : Rows) (pid : ℕ) (p : ProcData) → IsSound rows → process_of pid rows.processes ≡ Some p → Ready p → Holds (FitOrReady pid) FitLwp rows
 sound_ready rows pid p s at ready = record {
   stands = s.stands;
-  processes = All-imply (λ q. FitProcess q × (q.pid ≡ pid → q ≡ p)) (Readied pid) (λ q h. (λ other. h.0, λ same. subst Ready (sym (h.1 same)) ready)) rows.processes (All-both FitProcess (λ q. q.pid ≡ pid → q ≡ p) rows.processes s.processes (the_row pid rows.processes p s.stands.rising at));
+  processes = All-imply (λ q. FitProcess q × (q.pid ≡ pid → q ≡ p)) (FitOrReady pid) (λ q h. (λ other. h.0, λ same. subst Ready (sym (h.1 same)) ready)) rows.processes (All-both FitProcess (λ q. q.pid ≡ pid → q ≡ p) rows.processes s.processes (the_row pid rows.processes p s.stands.rising at));
   lwps = s.lwps;
 }
 
@@ -69,7 +60,7 @@ find_passes q t (y ∷ xs) x is pass = grind (arith, find_passes q t xs x, is, p
 pub found_tid : (n : ℕ) (ls : List LwpData) (l : LwpData) → lwp_of n ls ≡ Some l → l.tid ≡ n
 found_tid n ls l is = eqb-true l.tid n (find_some (λ k. k.tid == n) (λ k. Unit {0}) ls (All-any (λ k. Unit {0}) (λ k. tt) ls) l is).1
 
-module _ (rows : Rows) (pid tid : ℕ) (shown : Shown) (p : ProcData) (l : LwpData) (s : Holds (Readied pid) FitLwp rows) (c : Stops rows pid tid shown p l) where
+module _ (rows : Rows) (pid tid : ℕ) (shown : Shown) (p : ProcData) (l : LwpData) (s : Holds (FitOrReady pid) FitLwp rows) (c : Stops rows pid tid shown p l) where
   abbrev stopped : ProcData → ProcData
   stopped q = record q { state = Trace tid shown.sig false }
 
@@ -92,7 +83,7 @@ module _ (rows : Rows) (pid tid : ℕ) (shown : Shown) (p : ProcData) (l : LwpDa
   other : (q : ProcData) → (q.pid == pid) ≡ false → q.pid ≢ pid
   other q e same = true≢false (sym (eq-eqb q.pid pid same) ∙ e)
 
-  held : Holds (Readied pid) Known rows
+  held : Holds (FitOrReady pid) Known rows
   held = record { stands = s.stands; processes = s.processes; lwps = All-imply (λ k. WithOwner rows FitLwp k × (k.tid ≡ tid → k ≡ l)) (WithOwner rows Known) (λ k h q at. (h.0 q at, h.1)) rows.lwps (All-both (WithOwner rows FitLwp) (λ k. k.tid ≡ tid → k ≡ l) rows.lwps s.lwps (the_lwp tid rows.lwps l s.stands.differ c.there)) }
 
   number : p.pid ≡ pid
@@ -115,7 +106,7 @@ module _ (rows : Rows) (pid tid : ℕ) (shown : Shown) (p : ProcData) (l : LwpDa
     ended = tt;
   }
 
-  fit_lwp : (q : ProcData) (k : LwpData) → Readied pid q → Known q k → process_of k.pid rows.processes ≡ Some q → (b : Bool) → (q.pid == pid) ≡ b → (d : Bool) → (k.tid == tid) ≡ d → FitLwp (if b then stopped q else q) (if d then showing k else k)
+  fit_lwp : (q : ProcData) (k : LwpData) → FitOrReady pid q → Known q k → process_of k.pid rows.processes ≡ Some q → (b : Bool) → (q.pid == pid) ≡ b → (d : Bool) → (k.tid == tid) ≡ d → FitLwp (if b then stopped q else q) (if d then showing k else k)
   fit_lwp q k fact known at false e true d = absurd (other q e (its_own q k known at d))
   fit_lwp q k fact known at false e false d = known.0
   fit_lwp q k fact known at true e true d = let ready = fact.1 (eqb-true q.pid pid e) in record {
@@ -129,7 +120,7 @@ module _ (rows : Rows) (pid tid : ℕ) (shown : Shown) (p : ProcData) (l : LwpDa
     blocked = known.0.blocked;
   }
 
-  the_change : Change rows to to_lwp (Readied pid) Known FitProcess FitLwp
+  the_change : Change rows to to_lwp (FitOrReady pid) Known FitProcess FitLwp
   the_change = record {
     same = record {
       process = λ q. choose (q.pid == pid) (stopped q) q (λ r. (r.pid ≡ q.pid) × (r.uid ≡ q.uid)) (λ e. (refl, refl)) (λ e. (refl, refl));
@@ -154,9 +145,9 @@ module _ (rows : Rows) (pid tid : ℕ) (shown : Shown) (p : ProcData) (l : LwpDa
   made = edited to (λ k. Some (to_lwp k)) rows
 
   pub stop_sound : IsSound (stop pid tid shown rows)
-  stop_sound = notified_sound made (tracers (tracer_of rows.processes pid)) (sound_holds made (change_holds rows to to_lwp (Readied pid) Known FitProcess FitLwp held the_change))
+  stop_sound = notified_sound made (tracers (tracer_of rows.processes pid)) (sound_holds made (change_holds rows to to_lwp (FitOrReady pid) Known FitProcess FitLwp held the_change))
       (subst (λ o. AllByRecursion (MayTell made) (tracers (tracer_in o))) (sym c.at) (tell p.tracer (find_some (λ q. q.pid == pid) (Linked rows) rows.processes s.stands.linked p c.at).0.tracer))
     where
       tell : (o : Option ℕ) → IfSome o (IsLiveOf rows p.uid) → AllByRecursion (MayTell made) (tracers o)
       tell None live = tt
-      tell (Some t) live = (live_told made p.uid t (live_after rows to to_lwp (Readied pid) Known FitProcess FitLwp held the_change p.uid t live), tt)
+      tell (Some t) live = (live_told made p.uid t (live_after rows to to_lwp (FitOrReady pid) Known FitProcess FitLwp held the_change p.uid t live), tt)
