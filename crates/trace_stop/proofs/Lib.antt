@@ -36,3 +36,4 @@ pub mod Running
 pub mod Freed
 pub mod Posts
 pub mod Found
+pub mod Shows

@@ -1,6 +1,7 @@
 -- A trace stop keeps rows sound.
 use Rattle.std.proofs.Common.{◌≡◌, ◌≢◌, ◌⊎◌, inl, ℕ, ◌≤◌, Bool, true, false, ◌==◌, ◌&&◌, if◌then◌else◌, List, [], ◌∷◌, find, Option, Some, None, IfSome, is_some, not, refl, sym, ap, ◌∙◌, true≢false, subst, arith, eqb-true, eq-eqb}
 use Rattle.std.specs.List.{AllByRecursion, list_any}
+use Rattle.std.specs.Option.{IsSomeAnd}
 use Rattle.event_masks.specs.Exits.{shows}
 use Rattle.event_masks.specs.declared.TheConstants.StopFlags.{PL_FLAG_EXITED}
 use Rattle.lwp_table.specs.declared.LwpData.{LwpData}
@@ -19,7 +20,7 @@ use Rattle.trace_stop.specs.Facts.{IsLiveOf, Linked, FitProcess, waited_for, Sta
 use Rattle.trace_stop.proofs.Every.{by_bool, both, All-imply, All-both, All-any, find_some}
 use Rattle.trace_stop.proofs.Edited.{edited, some_is}
 use Rattle.trace_stop.proofs.Changed.{Holds, sound_holds, found_number, Change, change_holds, live_after}
-use Rattle.trace_stop.specs.Before.{MayTell, Ready, FitOrReady}
+use Rattle.trace_stop.specs.Before.{MayTell, Ready, FitOrReady, MayStop}
 use Rattle.trace_stop.proofs.Stopping.{the_row, the_lwp, live_told, notified_sound}
 
 run_quiet : (s : State) → is_run_state s ≡ true → (named_by s ≡ None) × (is_zombie_state s ≡ false)
@@ -40,12 +41,21 @@ run_ready p fit run traced = record {
   calm = by_bool p.continued (λ on. none_some p.tracer (fit.continued on).0 traced);
 }
 
-pub sound_ready : (rows : Rows) (pid : ℕ) (p : ProcData) → IsSound rows → process_of pid rows.processes ≡ Some p → Ready p → Holds (FitOrReady pid) FitLwp rows
-sound_ready rows pid p s at ready = record {
+-- so an LWP of it may stop it
+pub sound_ready : (rows : Rows) (pid tid : ℕ) (shown : Shown) (p : ProcData) → IsSound rows → process_of pid rows.processes ≡ Some p → Ready p
+    → IsSomeAnd (lwp_of tid rows.lwps) (λ l. l.pid ≡ pid) → (shows shown.flags PL_FLAG_EXITED ≡ true → 2 ≤ lwp_count pid rows) → MayStop pid tid shown rows
+sound_ready rows pid tid shown p s at ready own exits = record {
+  own = own;
+  exits = exits;
   stands = s.stands;
   processes = All-imply (λ q. FitProcess q × (q.pid ≡ pid → q ≡ p)) (FitOrReady pid) (λ q h. (λ other. h.0, λ same. subst Ready (sym (h.1 same)) ready)) rows.processes (All-both FitProcess (λ q. q.pid ≡ pid → q ≡ p) rows.processes s.processes (the_row pid rows.processes p s.stands.rising at));
   lwps = s.lwps;
 }
+
+-- and so it may where the process runs
+pub may_stop : (rows : Rows) (pid tid : ℕ) (shown : Shown) (p : ProcData) → IsSound rows → process_of pid rows.processes ≡ Some p → is_run p ≡ true → is_some p.tracer ≡ true
+    → IsSomeAnd (lwp_of tid rows.lwps) (λ l. l.pid ≡ pid) → (shows shown.flags PL_FLAG_EXITED ≡ true → 2 ≤ lwp_count pid rows) → MayStop pid tid shown rows
+may_stop rows pid tid shown p s at run traced own exits = sound_ready rows pid tid shown p s at (run_ready p (find_some (λ q. q.pid == pid) FitProcess rows.processes s.processes p at).0 run traced) own exits
 
 pub record Stops (rows : Rows) (pid tid : ℕ) (shown : Shown) (p : ProcData) (l : LwpData) : Type 0 where
   pub at : process_of pid rows.processes ≡ Some p
@@ -151,3 +161,7 @@ module _ (rows : Rows) (pid tid : ℕ) (shown : Shown) (p : ProcData) (l : LwpDa
       tell : (o : Option ℕ) → IfSome o (IsLiveOf rows p.uid) → AllByRecursion (MayTell made) (tracers o)
       tell None live = tt
       tell (Some t) live = (live_told made p.uid t (live_after rows to to_lwp (FitOrReady pid) Known FitProcess FitLwp held the_change p.uid t live), tt)
+
+pub stopped_sound : (rows : Rows) (pid tid : ℕ) (shown : Shown) (p : ProcData) (l : LwpData) → process_of pid rows.processes ≡ Some p → lwp_of tid rows.lwps ≡ Some l → MayStop pid tid shown rows → IsSound (stop pid tid shown rows)
+stopped_sound rows pid tid shown p l at there may =
+    stop_sound rows pid tid shown p l (record { stands = may.stands; processes = may.processes; lwps = may.lwps }) (record { at = at; there = there; own = rw there at may.own; exits = may.exits })

@@ -1,9 +1,11 @@
 -- What rows must be before a change that makes them sound.
 use Rattle.std.specs.Prelude.{◌≡◌, ◌≢◌, ◌≤◌, ℕ, true, false, None, is_some}
 use Rattle.std.specs.List.{AllByRecursion}
+use Rattle.std.specs.Option.{IsSomeAnd}
 use Rattle.event_masks.specs.Exits.{shows}
 use Rattle.event_masks.specs.declared.TheConstants.StopFlags.{PL_FLAG_EXITED}
 use Rattle.lwp_table.specs.declared.LwpData.{LwpData}
+use Rattle.lwp_table.specs.Lwps.{lwp_of}
 use Rattle.proc_table.specs.declared.ProcData.{ProcData}
 use Rattle.proc_table.specs.Processes.{is_live, reporting}
 use Rattle.proc_table.specs.Rows.{Rows}
@@ -41,9 +43,10 @@ pub record Ready (p : ProcData) : Type 0 where
 abbrev pub FitOrReady : ℕ → ProcData → Type 0
 FitOrReady pid p = (p.pid ≢ pid → FitProcess p) × (p.pid ≡ pid → Ready p)
 
--- rows that are sound once an LWP of the process pid stops it; an LWP that shows that it exits isn't the last one
-pub record MayStop (pid : ℕ) (shown : Shown) (rows : Rows) : Type 0 where
+-- rows that are sound once the LWP tid stops the process pid. One that shows that it exits isn't the last LWP
+pub record MayStop (pid tid : ℕ) (shown : Shown) (rows : Rows) : Type 0 where
   pub stands : Stands rows
   pub processes : AllByRecursion (FitOrReady pid) rows.processes
   pub lwps : AllByRecursion (WithOwner rows FitLwp) rows.lwps
+  pub own : IsSomeAnd (lwp_of tid rows.lwps) (λ l. l.pid ≡ pid)
   pub exits : shows shown.flags PL_FLAG_EXITED ≡ true → 2 ≤ lwp_count pid rows

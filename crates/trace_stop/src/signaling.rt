@@ -6,8 +6,10 @@ ghost use Rattle.proc_table.specs.Rows.{change, is_numbered};
 ghost use Rattle.proc_table.specs.Kept.{IsRow, IsKept};
 ghost use Rattle.trace_stop.specs.declared.edits.Edit.TheVariants as edit;
 ghost use Rattle.trace_stop.specs.Facts.{IsSound};
+ghost use Rattle.trace_stop.specs.Laws.{is_live_at};
 ghost use Rattle.trace_stop.specs.Before.{IsSoundButPending, MayTell};
-ghost use Rattle.trace_stop.specs.Post.{unwanted, continues, settle, settled_process, posted_process, posted_lwp, notified};
+ghost use Rattle.trace_stop.specs.Post.{unwanted, continues, settle, settled_process, posted_process, posted_lwp, notified, told, posted};
+ghost use Rattle.trace_stop.specs.Stop.{tracers, post};
 
 use crate::edits::{Edit, edit_lwps, put_signal};
 use pid_blocks::{Pid, Tid};

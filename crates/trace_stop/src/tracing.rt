@@ -8,18 +8,21 @@ ghost use Rattle.proc_table.specs.Processes.{process_of, reporting};
 ghost use Rattle.proc_table.specs.Rows.{is_numbered};
 ghost use Rattle.proc_table.specs.Kept.{IsRow};
 ghost use Rattle.trace_stop.specs.Before.{MayStop};
+ghost use Rattle.trace_stop.specs.Edits.{steps_cleared};
 ghost use Rattle.trace_stop.specs.Facts.{IsSound};
 ghost use Rattle.trace_stop.specs.Free.{resumed, detached};
 ghost use Rattle.trace_stop.specs.Laws.{is_live_at};
 ghost use Rattle.trace_stop.specs.Reports.{IsStopped, reporter, report_dropped, unreported};
 ghost use Rattle.trace_stop.specs.Stop.{stop};
 
+use crate::Shown;
 use crate::edits::{Edit, edit_lwps};
+use crate::signaling::notify;
 use event_masks::{EventMask, StopFlags};
 use lwp_table::LwpData;
 use pid_blocks::{Pid, Tid};
 use proc_table::{ProcData, State, Tables};
-use signals::{SigSet, Signal};
+use signals::SigSet;
 
 /// The LWP that stopped a process for its tracer.
 fn reporting(p: &ProcData) -> Option<Tid>
@@ -84,4 +87,39 @@ pub fn free(tables: &mut Tables, pid: Pid, lost: SigSet)
     });
     drop_stop(tables, &reporting(&p));
     edit_lwps(tables, pid, &Edit::Free { lost, unwanted });
+}
+
+/// A trace stop of a process by an LWP of it, of which its tracer is told.
+pub fn stop(tables: &mut Tables, pid: Pid, tid: Tid, shown: &Shown)
+    requires process { IsRow tables.old.rows pid }
+    requires lwp { IsSomeAnd (lwp_of tid tables.old.rows.lwps) (λ l. l.pid ≡ pid) }
+    ensures rows { tables.new.rows ≡ stop pid tid shown.now tables.old.rows }
+    ensures sound { MayStop pid tid shown.now tables.old.rows → IsSound tables.new.rows }
+{
+    let p = tables.process(pid).unwrap();
+    let l = tables.lwp(tid).unwrap();
+    tables.set_process(ProcData {
+        state: State::Trace {
+            tid,
+            sig: shown.sig,
+            seen: false,
+        },
+        ..p
+    });
+    tables.set_lwp(LwpData {
+        flags: shown.flags,
+        child: shown.child,
+        code: shown.code,
+        ..l
+    });
+    if let Some(tracer) = p.tracer {
+        notify(tables, tracer.get());
+    }
+}
+
+/// No LWP of the process steps any more.
+pub fn clear_stepping(tables: &mut Tables, pid: Pid)
+    ensures rows { tables.new.rows ≡ steps_cleared pid tables.old.rows }
+{
+    edit_lwps(tables, pid, &Edit::ClearStepping);
 }
