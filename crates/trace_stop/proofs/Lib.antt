@@ -37,3 +37,4 @@ pub mod Freed
 pub mod Posts
 pub mod Found
 pub mod Shows
+pub mod Steps
