@@ -39,3 +39,12 @@ pub mod Posts
 pub mod Found
 pub mod Shows
 pub mod Steps
+pub mod Descents
+pub mod LwpEdits
+pub mod Leaving
+pub mod LeafSteps
+pub mod LeafTells
+pub mod Unnamed
+pub mod Orphans
+pub mod Burial
+pub mod LwpsEnd
