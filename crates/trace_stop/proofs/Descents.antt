@@ -5,7 +5,6 @@ use Rattle.signals.specs.Table.{SIGKILL}
 use Rattle.proc_table.specs.declared.ProcData.{ProcData}
 use Rattle.proc_table.specs.Processes.{process_of, is_live, is_this, traces}
 use Rattle.proc_table.specs.Rows.{Rows}
-use Rattle.proc_table.specs.Fresh.{is_process}
 use Rattle.proc_table.specs.Walks.{next_tracee}
 use Rattle.proc_table.specs.Kept.{AtHome, IsKept}
 use Rattle.proc_table.specs.Laws.{LeastOrNone, IsLeast, NonePasses}
@@ -16,13 +15,13 @@ use Rattle.trace_stop.specs.End.{tracer_in, tracer_of, holds_of, meets, dooms, e
 use Rattle.trace_stop.specs.Facts.{Stands, IsSound}
 use Rattle.trace_stop.specs.Laws.{chain, traces_live, is_live_at, end_alone}
 use Rattle.trace_stop.specs.Descent.{kills, IsLiveTracee, EndsToo}
-use Rattle.trace_stop.proofs.Every.{any_more, or_true, and_left, and_right, both, by_bool, All-both, none_passes}
+use Rattle.trace_stop.proofs.Every.{or_true, and_left, and_right, both, by_bool, All-both, none_passes}
 use Rattle.trace_stop.proofs.Edited.{some_is}
 use Rattle.trace_stop.proofs.Passes.{passes, own_rows}
 use Rattle.trace_stop.proofs.LeafLaw.{any_by_number, dooms_meets, meets-suc, q_traced, leaf_law, leaf_dooms}
 use Rattle.trace_stop.proofs.Leaves.{tracee_doomed}
 use Rattle.trace_stop.proofs.Chains.{no_ring, chains_end, tracee_deeper}
-use Rattle.trace_stop.proofs.LeafLives.{leaf_lives, leaf_fewer}
+use Rattle.trace_stop.proofs.LeafLives.{listed, leaf_lives, leaf_fewer}
 use Rattle.trace_stop.proofs.LeafSound.{leaf_sound}
 use Rattle.trace_stop.proofs.Doomed.{leaf_end}
 
@@ -92,7 +91,7 @@ pub record TraceeRow (n : ℕ) (rows : Rows) (t : ℕ) : Type 0 where
   pub number : row.pid ≡ t
   pub traced : (is_live row && traces n row) ≡ true
 
-tracee_row : (n : ℕ) (rows : Rows) (t : ℕ) → Stands rows → IsLiveTracee n rows t → TraceeRow n rows t
+pub tracee_row : (n : ℕ) (rows : Rows) (t : ℕ) → Stands rows → IsLiveTracee n rows t → TraceeRow n rows t
 tracee_row n rows t s is = at_row (process_of t rows.processes) refl (sym (live_number t rows s) ∙ is.live) is.link
   where
     at_row : (o : Option ProcData) → process_of t rows.processes ≡ o → passes is_live o ≡ true → tracer_in o ≡ Some n → TraceeRow n rows t
@@ -119,9 +118,6 @@ module _ (rows : Rows) (s : Stands rows) where
       let least = chains_end rows t s in
       omega (arith, more, least)
 
-listed : (n : ℕ) (rows : Rows) → is_live_at n rows ≡ true → is_process rows n ≡ true
-listed n rows live = any_more (λ r. (r.pid == n) && is_live r) (λ r. r.pid == n) (λ r h. and_left (r.pid == n) (is_live r) h) rows.processes live
-
 turned_round : (m n : ℕ) → (m == n) ≡ false → (n == m) ≡ false
 turned_round m n e = by_bool (n == m) (λ same. true≢false (sym (eq-eqb m n (sym (eqb-true n m same))) ∙ e))
 
@@ -134,7 +130,7 @@ module _ (rows rows' : Rows) (p q status : ℕ) (s : IsSound rows) (other : (q =
   lives = live_number q rows s.stands ∙ (dooms_meets kills rows p s.stands q other doomed).0
 
   made : rows' ≡ end kills q SIGKILL rows
-  made = ended ∙ sym (leaf_end kills rows q SIGKILL refl s.stands (listed q rows lives) leaf)
+  made = ended ∙ sym (leaf_end kills rows q SIGKILL refl s.stands (listed rows q lives) leaf)
 
   pub turn_sound : IsSound rows'
   turn_sound = subst IsSound (sym made) (leaf_sound kills rows q SIGKILL refl s refl lives leaf)
@@ -164,4 +160,4 @@ module _ (rows rows' : Rows) (p q status : ℕ) (s : IsSound rows) (other : (q =
 
 -- the last turn
 pub last_turn : (rows rows' : Rows) (p status : ℕ) → Stands rows → is_live_at p rows ≡ true → traces_live p rows ≡ false → rows' ≡ end_alone p status rows → rows' ≡ end kills p status rows
-last_turn rows rows' p status s live leaf ended = ended ∙ sym (leaf_end kills rows p status refl s (listed p rows live) leaf)
+last_turn rows rows' p status s live leaf ended = ended ∙ sym (leaf_end kills rows p status refl s (listed rows p live) leaf)

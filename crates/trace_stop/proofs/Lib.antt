@@ -47,3 +47,4 @@ pub mod Unnamed
 pub mod Orphans
 pub mod Burial
 pub mod LwpsEnd
+pub mod LeftAlone
