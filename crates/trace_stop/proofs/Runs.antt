@@ -142,7 +142,8 @@ module _ (pid : ℕ) (f : ProcData → ProcData) (g : ProcData → LwpData → L
       ∙ ap (λ x. map_lwps pid (g p) (report_dropped x (set_process (f p) rows))) (sym l.1)
 
 -- a resumed process
-pub resumed-at : (pid : ℕ) (rows : Rows) (s : IsStopped pid rows) → IsKept rows → resumed pid rows ≡ report_dropped (Some s.l) (set_process (running s.p) rows)
-resumed-at pid rows s kept =
-    run_on-at pid running (λ p l. l) rows s kept (process_of-pid pid s.p rows.processes s.at)
-    ∙ map_lwps-none pid (report_dropped (Some s.l) (set_process (running s.p) rows))
+pub resumed-is : (pid : ℕ) (rows : Rows) (p : ProcData) → Stands rows → IsKept rows → process_of pid rows.processes ≡ Some p → (o : Option ℕ) → reporting p ≡ o
+    → resumed pid rows ≡ report_dropped (reporter o rows.lwps) (set_process (running p) rows)
+resumed-is pid rows p s k at o e =
+    run_on-is pid running (λ q l. l) rows p s k at (process_of-pid pid p rows.processes at) o e
+    ∙ map_lwps-none pid (report_dropped (reporter o rows.lwps) (set_process (running p) rows))

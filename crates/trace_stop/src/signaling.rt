@@ -6,10 +6,9 @@ ghost use Rattle.proc_table.specs.Rows.{change, is_numbered};
 ghost use Rattle.proc_table.specs.Kept.{IsRow, IsKept};
 ghost use Rattle.trace_stop.specs.declared.edits.Edit.TheVariants as edit;
 ghost use Rattle.trace_stop.specs.Facts.{IsSound};
-ghost use Rattle.trace_stop.specs.Laws.{is_live_at};
 ghost use Rattle.trace_stop.specs.Before.{IsSoundButPending, MayTell};
 ghost use Rattle.trace_stop.specs.Post.{unwanted, continues, settle, settled_process, posted_process, posted_lwp, notified, told, posted};
-ghost use Rattle.trace_stop.specs.Stop.{tracers, post};
+ghost use Rattle.trace_stop.specs.Stop.{tracers};
 
 use crate::edits::{Edit, edit_lwps, put_signal};
 use pid_blocks::{Pid, Tid};
@@ -77,19 +76,33 @@ fn posted_lwps(p: &ProcData, signal: Signal, to: &Option<Tid>) -> Edit
     }
 }
 
+/// The parent of a process that the signal continues.
+fn parent_to_tell(p: &ProcData, signal: Signal) -> Option<u32>
+    ensures { tracers result ≡ told signal (Some p.now) }
+{
+    if continues(signal, p) {
+        Some(p.parent)
+    } else {
+        None
+    }
+}
+
 /// Puts a signal into the pending set of a process or of an LWP of it. SIGCONT continues a process
-/// that is stopped by job control.
-fn put(tables: &mut Tables, pid: Pid, signal: Signal, to: &Option<Tid>)
+/// that is stopped by job control, and the answer is then its parent, which is to be told.
+fn put(tables: &mut Tables, pid: Pid, signal: Signal, to: &Option<Tid>) -> Option<u32>
     requires there { IsRow tables.old.rows pid }
-    ensures { tables.new.rows ≡ change (is_numbered pid) (posted_process signal to.now) (posted_lwp signal to.now) tables.old.rows }
+    ensures rows { tables.new.rows ≡ change (is_numbered pid) (posted_process signal to.now) (posted_lwp signal to.now) tables.old.rows }
+    ensures told { tracers result ≡ told signal (process_of pid tables.old.rows.processes) }
 {
     let p = tables.process(pid).unwrap();
+    let parent = parent_to_tell(&p, signal);
     let edit = posted_lwps(&p, signal, to);
     tables.set_process(ProcData {
         pid,
         ..posted_process(&p, signal, to)
     });
     edit_lwps(tables, pid, &edit);
+    parent
 }
 
 /// Posts SIGCHLD to the process with this number, if there is one.
@@ -98,6 +111,16 @@ pub fn notify(tables: &mut Tables, number: u32)
     ensures sound { IsSound tables.old.rows → MayTell tables.old.rows number → IsSound tables.new.rows }
 {
     if let Some(p) = tables.numbered(number) {
-        put(tables, p.pid, Signal::chld(), &None);
+        let _ = put(tables, p.pid, Signal::chld(), &None);
+    }
+}
+
+/// Posts a signal other than SIGKILL to a process, or to an LWP of it.
+fn post_other(tables: &mut Tables, pid: Pid, signal: Signal, to: &Option<Tid>)
+    requires { IsRow tables.old.rows pid }
+    ensures { tables.new.rows ≡ posted signal to.now pid tables.old.rows }
+{
+    if let Some(parent) = put(tables, pid, signal, to) {
+        notify(tables, parent);
     }
 }

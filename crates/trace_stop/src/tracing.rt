@@ -9,20 +9,20 @@ ghost use Rattle.proc_table.specs.Rows.{is_numbered};
 ghost use Rattle.proc_table.specs.Kept.{IsRow};
 ghost use Rattle.trace_stop.specs.Before.{MayStop};
 ghost use Rattle.trace_stop.specs.Edits.{steps_cleared};
-ghost use Rattle.trace_stop.specs.Facts.{IsSound};
+ghost use Rattle.trace_stop.specs.Facts.{IsSound, Stands};
 ghost use Rattle.trace_stop.specs.Free.{resumed, detached};
 ghost use Rattle.trace_stop.specs.Laws.{is_live_at};
 ghost use Rattle.trace_stop.specs.Reports.{IsStopped, reporter, report_dropped, unreported};
-ghost use Rattle.trace_stop.specs.Stop.{stop};
+ghost use Rattle.trace_stop.specs.Stop.{stop, ends_process};
 
-use crate::Shown;
 use crate::edits::{Edit, edit_lwps};
 use crate::signaling::notify;
+use crate::Shown;
 use event_masks::{EventMask, StopFlags};
 use lwp_table::LwpData;
 use pid_blocks::{Pid, Tid};
 use proc_table::{ProcData, State, Tables};
-use signals::SigSet;
+use signals::{Pass, SigSet};
 
 /// The LWP that stopped a process for its tracer.
 fn reporting(p: &ProcData) -> Option<Tid>
@@ -87,6 +87,32 @@ pub fn free(tables: &mut Tables, pid: Pid, lost: SigSet)
     });
     drop_stop(tables, &reporting(&p));
     edit_lwps(tables, pid, &Edit::Free { lost, unwanted });
+}
+
+/// A process runs on from a trace stop.
+fn run_on(tables: &mut Tables, pid: Pid)
+    requires stands { Stands tables.old.rows }
+    requires there { IsRow tables.old.rows pid }
+    ensures { tables.new.rows ≡ resumed pid tables.old.rows }
+{
+    let p = tables.process(pid).unwrap();
+    tables.set_process(ProcData {
+        state: State::Run,
+        ..p
+    });
+    drop_stop(tables, &reporting(&p));
+}
+
+/// Whether a process ends when it is resumed with the signal.
+fn ends(tables: &Tables, pid: Pid, pass: Pass) -> bool
+    requires { IsRow tables.now.rows pid }
+    ensures { result ≡ ends_process pass (process_of pid tables.now.rows.processes) }
+{
+    let p = tables.process(pid).unwrap();
+    match pass.signal() {
+        Some(signal) => p.dispositions.ends(signal),
+        None => false,
+    }
 }
 
 /// A trace stop of a process by an LWP of it, of which its tracer is told.

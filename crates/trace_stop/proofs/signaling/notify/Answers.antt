@@ -20,7 +20,7 @@ returns-in-Some c =
     let rows = c.args.tables.now.rows in
     let at : process_of c.args.number rows.processes ≡ Some c.in-Some.p = sym c.numbered.ensures.row ∙ c.in-Some.is in
     let its = process_of-pid c.args.number c.in-Some.p rows.processes at in
-    let done : c.put.new.tables.rows ≡ notified (c.args.number ∷ []) rows = c.put.ensures ∙ (rw (its, c.chld.ensures) (sym (notified-one c.args.number rows))) in
+    let done : c.put.new.tables.rows ≡ notified (c.args.number ∷ []) rows = c.put.ensures.rows ∙ (rw (its, c.chld.ensures) (sym (notified-one c.args.number rows))) in
     record { rows = done; sound = λ s tell. subst IsSound (sym done) (notified_sound rows (c.args.number ∷ []) s (tell, tt)) }
 
 pub returns-in_default-clause-rows : goal.returns-in_default-clause-rows

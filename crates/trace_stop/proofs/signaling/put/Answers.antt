@@ -23,8 +23,8 @@ set_process-requires-clause-named c =
     let new : ProcData = record c.posted_process.result { pid = c.args.pid } in
     named-same rows p new at c.process.ensures.kept (ap (λ q. q.tracer) posted ∙ same.2) (ap (λ q. q.parent) posted ∙ same.3)
 
-pub returns : goal.returns
-returns c =
+pub returns-clause-rows : goal.returns-clause-rows
+returns-clause-rows c =
     let rows = c.args.tables.now.rows in
     let pid = c.args.pid in
     let s = c.args.signal in
