@@ -1,5 +1,6 @@
 -- The way down the tracees of a process that ends, and one turn of its end.
-use Rattle.std.proofs.Common.{◌≡◌, ℕ, ◌-◌, ◌<◌, ◌≤◌, List, Bool, true, false, ◌&&◌, ◌||◌, ◌==◌, not, Option, Some, None, length, refl, sym, ap, ◌∙◌, arith, true≢false, eqb-true, eq-eqb, subst, inl, inr, unwrap_or}
+use Rattle.std.proofs.Common.{◌≡◌, ℕ, ◌-◌, ◌<◌, ◌≤◌, List, true, false, ◌&&◌, ◌||◌, ◌==◌, not, Option, Some, None, length, refl, sym, ap, ◌∙◌, arith, true≢false, eqb-true, eq-eqb, subst, inl, inr, unwrap_or}
+use Rattle.std.proofs.Math.Bool.{and-false}
 use Rattle.std.specs.Prelude.{count_by}
 use Rattle.signals.specs.Table.{SIGKILL}
 use Rattle.proc_table.specs.declared.ProcData.{ProcData}
@@ -33,10 +34,6 @@ NoneUpTo q ps after = (r : ProcData) → process_of r.pid ps ≡ Some r → 0 < 
 
 pub none_at_first : (q : ℕ) (ps : List ProcData) → NoneUpTo q ps 0
 none_at_first q ps = λ r own above less. absurd (omega (arith, above, less))
-
-and_false : (b : Bool) → (b && false) ≡ false
-and_false true = refl
-and_false false = refl
 
 module _ (q after : ℕ) (rows : Rows) (kept : IsKept rows) where
   abbrev ps : List ProcData
@@ -74,7 +71,7 @@ module _ (q after : ℕ) (rows : Rows) (kept : IsKept rows) where
       let past : NonePasses (traces q) after ps = subst (LeastOrNone (traces q) after ps) at (next_tracee-least q after ps kept.rising) in
       none_passes (λ r. is_live r && traces q r) (λ r. (process_of r.pid ps ≡ Some r) × AtHome r)
       (λ r h. elim (below_or_not after r.pid) [
-        | inl late ↦ ap (λ b. is_live r && b) (past r h.0 late.1) ∙ and_false (is_live r)
+        | inl late ↦ ap (λ b. is_live r && b) (past r h.0 late.1) ∙ and-false (is_live r)
         | inr early ↦ let home = h.1.block in none r h.0 (omega (arith, home.0)) early.1
       ])
       ps (All-both _ AtHome ps (own_rows ps kept.rising) kept.homes)

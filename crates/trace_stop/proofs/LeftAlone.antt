@@ -1,5 +1,6 @@
 -- Tracees detached one after another.
 use Rattle.std.proofs.Common.{◌≡◌, ℕ, ◌<◌, List, filter_map, Bool, true, false, not, ◌&&◌, ◌==◌, if◌then◌else◌, Option, Some, None, IfSome, refl, sym, ap, ◌∙◌, eqb-true}
+use Rattle.std.proofs.Math.Bool.{and-false, and-true}
 use Rattle.std.specs.Prelude.{count_by, option_map}
 use Rattle.std.specs.Option.{option_and_then}
 use Rattle.std.specs.List.{AllByRecursion}
@@ -48,10 +49,6 @@ freed_by rows n c lost p rise at is =
 -- the live tracees of q
 abbrev pub is_tracee : ℕ → ProcData → Bool
 is_tracee q r = is_live r && traces q r
-
-and_false : (b : Bool) → (b && false) ≡ false
-and_false true = refl
-and_false false = refl
 
 module _ (q : ℕ) (rows : Rows) (s : Stands rows) (t : ℕ) (is : IsLiveTracee q rows t) where
   row : TraceeRow q rows t
@@ -113,12 +110,8 @@ module _ (q : ℕ) (rows : Rows) (s : Stands rows) (t : ℕ) (is : IsLiveTracee 
       (any_by_number (is_tracee q) t rows.processes s.rising ∙ ap (λ n. passes (is_tracee q) (process_of n rows.processes)) (sym row.number) ∙ ap (passes (is_tracee q)) row.own ∙ row.traced)
     where
       passes_at : (r : ProcData) (b : Bool) → is_tracee q (if b then untraced (lost_signals r) r else r) ≡ (is_tracee q r && not b)
-      passes_at r true = sym (and_false (is_tracee q r))
-      passes_at r false = and_true (is_tracee q r)
-        where
-          and_true : (b : Bool) → b ≡ (b && true)
-          and_true true = refl
-          and_true false = refl
+      passes_at r true = sym (and-false (is_tracee q r))
+      passes_at r false = sym (and-true (is_tracee q r))
 
   pub left_lives : (n : ℕ) → is_live_at n rows ≡ true → is_live_at n (detached (is_numbered t) lost_signals rows) ≡ true
   left_lives n live = any_forward (λ r. (r.pid == n) && is_live r) (λ r. (r.pid == n) && is_live r) (λ r. Unit {0}) (freed_row (is_numbered t) lost_signals)

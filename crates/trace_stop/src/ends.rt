@@ -61,6 +61,7 @@ fn end_with_tracees(tables: &mut Tables, pid: Pid, status: u32)
     requires word { is_end status ≡ true }
     ensures { tables.new.rows ≡ end kills pid status tables.old.rows }
 {
+    let killed = Signal::kill().number();
     let mut at = pid;
     loop {
         let leaf = leaf_below(tables, at);
@@ -69,7 +70,7 @@ fn end_with_tracees(tables: &mut Tables, pid: Pid, status: u32)
             return;
         }
         let tracer = tracer_of(tables, leaf);
-        end_leaf(tables, leaf, Signal::kill().number());
+        end_leaf(tables, leaf, killed);
         at = tracer.unwrap_or(pid);
     }
 }
