@@ -1,5 +1,6 @@
 -- The end of a process that has no LWP, that no row names and for which nobody waits: its own row, and the one who collects it.
 use Rattle.std.proofs.Common.{◌≡◌, ℕ, List, [], ◌∷◌, filter_map, Bool, true, false, not, ◌&&◌, ◌||◌, ◌==◌, if◌then◌else◌, Option, Some, None, is_none, refl, sym, ap, ◌∙◌, true≢false, eqb-true}
+use Rattle.std.proofs.Math.Bool.{or-false}
 use Rattle.std.specs.Prelude.{option_map, unwrap_or}
 use Rattle.std.specs.List.{AllByRecursion, list_any}
 use Rattle.std.proofs.Math.Path.{fun_ext}
@@ -23,7 +24,7 @@ use Rattle.trace_stop.proofs.Twice.{alone, Told, told_lwp-moved}
 use Rattle.trace_stop.proofs.Tells.{tells, tells-value, told_by, parent_after}
 use Rattle.trace_stop.proofs.LeafFirst.{told, told-is}
 use Rattle.trace_stop.proofs.LeafLaw.{any_by_number, this_holds}
-use Rattle.trace_stop.proofs.Leaving.{end_alone_turned, live_q, told_alive, Told-of, out, same_lwp, put_tell, put_tell_lwp, drop_each, set_tell}
+use Rattle.trace_stop.proofs.Leaving.{is_alone, end_alone_turned, live_q, told_alive, Told-of, out, same_lwp, put_tell, put_tell_lwp, drop_each, set_tell}
 use Rattle.trace_stop.proofs.LeafSteps.{untold_gone}
 use Rattle.trace_stop.proofs.LeafTells.{same_test}
 use Rattle.trace_stop.proofs.Orphans.{collector_none, collector_some}
@@ -63,10 +64,6 @@ parent_other : (q n : ℕ) → (n == q) ≡ false → parent_after (alone q) n �
 unfolding alone
 parent_other q n e = ap (λ b. if b then 1 else n) e
 
-alone_is : (q n : ℕ) → (n == q) ≡ alone q n
-unfolding alone
-alone_is q n = refl
-
 module _ (q : ℕ) (r : ProcData) (untraced : traces q r ≡ false) (childless : (r.parent == q) ≡ false) where
   orphaned_same : orphaned (alone q) r ≡ r
   orphaned_same =
@@ -105,7 +102,7 @@ module _ (q w : ℕ) (rows : Rows) (rise : Rise rows.processes) (v : IsLeaving q
   p_row = find_some (λ r. r.pid == q) Row ps all p at
 
   p_alone : alone q p.pid ≡ true
-  p_alone = sym (alone_is q p.pid) ∙ p_row.1
+  p_alone = sym (is_alone q p.pid) ∙ p_row.1
 
   p_live : is_live p ≡ true
   p_live = (find_some (λ r. r.pid == q) (λ r. (r.pid == q) ≡ true → is_live r ≡ true) ps (live_q q rows v) p at).0 p_row.1
@@ -121,19 +118,15 @@ module _ (q w : ℕ) (rows : Rows) (rise : Rise rows.processes) (v : IsLeaving q
       ∙ any_by_number (λ r. told_by p.tracer p.parent x) q ps rise
       ∙ ap (passes (λ r. told_by p.tracer p.parent x)) at
     where
-      or_none : (b : Bool) → (b || false) ≡ b
-      or_none true = refl
-      or_none false = refl
-
       of_p : tells (alone q) x p ≡ told_by p.tracer p.parent x
       of_p =
-          tells-value (alone q) x p true (ap (λ b. (b && alone q p.pid) || (not b && holds_of (alone q) p.tracer)) p_live ∙ or_none (alone q p.pid) ∙ p_alone)
+          tells-value (alone q) x p true (ap (λ b. (b && alone q p.pid) || (not b && holds_of (alone q) p.tracer)) p_live ∙ or-false (alone q p.pid) ∙ p_alone)
           ∙ ap (λ (o : Option ℕ). told_by o (parent_after (alone q) p.parent) x) (unless_other q p.tracer p_row.0.free)
           ∙ ap (λ n. told_by p.tracer n x) (parent_other q p.parent p_row.0.other)
 
       tell : (r : ProcData) → Row r → (b : Bool) → (r.pid == q) ≡ b → (c : Bool) → is_live r ≡ c → tells (alone q) x r ≡ (b && told_by p.tracer p.parent x)
       tell r h true same c e = ap (tells (alone q) x) (h.one (eqb-true r.pid q same)) ∙ of_p
-      tell r h false other true live = tells-value (alone q) x r false (ap (λ b. (b && alone q r.pid) || (not b && holds_of (alone q) r.tracer)) live ∙ or_none (alone q r.pid) ∙ sym (alone_is q r.pid) ∙ other)
+      tell r h false other true live = tells-value (alone q) x r false (ap (λ b. (b && alone q r.pid) || (not b && holds_of (alone q) r.tracer)) live ∙ or-false (alone q r.pid) ∙ sym (is_alone q r.pid) ∙ other)
       tell r h false other false ended = tells-value (alone q) x r false (ap (λ b. (b && alone q r.pid) || (not b && holds_of (alone q) r.tracer)) ended ∙ this_holds q r.tracer ∙ h.free)
 
   not_told : (r : ProcData) → Row r → Told (alone q) t r
@@ -147,7 +140,7 @@ module _ (q w : ℕ) (rows : Rows) (rise : Rise rows.processes) (v : IsLeaving q
   of_other r h other = by_live (is_live r) refl
     where
       by_live : (b : Bool) → is_live r ≡ b → ended r ≡ Some (told_row t r)
-      by_live true live = turned-safe (alone q) q w t r live (sym (alone_is q r.pid) ∙ other) ∙ ap (λ k. Some (told_row t k)) (moved_same q r h.free h.other)
+      by_live true live = turned-safe (alone q) q w t r live (sym (is_alone q r.pid) ∙ other) ∙ ap (λ k. Some (told_row t k)) (moved_same q r h.free h.other)
       by_live false gone =
           turned-dead (alone q) q w t r gone ((not_told r h).dead gone) ∙ ap uncollected (orphaned_same q r h.free h.other) ∙ gone-false r (h.fits.left gone)
           ∙ ap Some (sym (told-miss t r ((not_told r h).dead gone)))
@@ -162,7 +155,7 @@ module _ (q w : ℕ) (rows : Rows) (rise : Rise rows.processes) (v : IsLeaving q
   of_lwp l h r found =
       let own = find_some (λ k. k.pid == l.pid) Row ps all r found in
       let same = eqb-true r.pid l.pid own.1 in
-      turned_lwp-safe (alone q) q w t r l (own.0.fits.lives ∙ ap v.alive same ∙ h.lives) (sym (alone_is q r.pid) ∙ ap (λ n. n == q) same ∙ h.other)
+      turned_lwp-safe (alone q) q w t r l (own.0.fits.lives ∙ ap v.alive same ∙ h.lives) (sym (is_alone q r.pid) ∙ ap (λ n. n == q) same ∙ h.other)
       ∙ ap (λ k. Some (told_lwp t (moved (alone q) r) k)) (released_none (alone q) r l (sym (waits_alone q l) ∙ h.waits))
       ∙ ap Some (told_lwp-moved (alone q) t r l)
 

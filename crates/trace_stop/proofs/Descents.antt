@@ -1,11 +1,11 @@
 -- The way down the tracees of a process that ends, and one turn of its end.
-use Rattle.std.proofs.Common.{◌≡◌, ℕ, ◌-◌, ◌<◌, ◌≤◌, List, Bool, true, false, ◌&&◌, ◌||◌, ◌==◌, not, Option, Some, None, length, refl, sym, ap, ◌∙◌, arith, true≢false, eqb-true, eq-eqb, subst, inl, inr, unwrap_or}
+use Rattle.std.proofs.Common.{◌≡◌, ℕ, ◌-◌, ◌<◌, ◌≤◌, List, true, false, ◌&&◌, ◌||◌, ◌==◌, not, Option, Some, None, length, refl, sym, ap, ◌∙◌, arith, true≢false, eqb-true, eq-eqb, subst, inl, inr, unwrap_or}
+use Rattle.std.proofs.Math.Bool.{and-false}
 use Rattle.std.specs.Prelude.{count_by}
 use Rattle.signals.specs.Table.{SIGKILL}
 use Rattle.proc_table.specs.declared.ProcData.{ProcData}
 use Rattle.proc_table.specs.Processes.{process_of, is_live, is_this, traces}
 use Rattle.proc_table.specs.Rows.{Rows}
-use Rattle.proc_table.specs.Fresh.{is_process}
 use Rattle.proc_table.specs.Walks.{next_tracee}
 use Rattle.proc_table.specs.Kept.{AtHome, IsKept}
 use Rattle.proc_table.specs.Laws.{LeastOrNone, IsLeast, NonePasses}
@@ -16,13 +16,13 @@ use Rattle.trace_stop.specs.End.{tracer_in, tracer_of, holds_of, meets, dooms, e
 use Rattle.trace_stop.specs.Facts.{Stands, IsSound}
 use Rattle.trace_stop.specs.Laws.{chain, traces_live, is_live_at, end_alone}
 use Rattle.trace_stop.specs.Descent.{kills, IsLiveTracee, EndsToo}
-use Rattle.trace_stop.proofs.Every.{any_more, or_true, and_left, and_right, both, by_bool, All-both, none_passes}
+use Rattle.trace_stop.proofs.Every.{or_true, and_left, and_right, both, by_bool, All-both, none_passes}
 use Rattle.trace_stop.proofs.Edited.{some_is}
 use Rattle.trace_stop.proofs.Passes.{passes, own_rows}
 use Rattle.trace_stop.proofs.LeafLaw.{any_by_number, dooms_meets, meets-suc, q_traced, leaf_law, leaf_dooms}
 use Rattle.trace_stop.proofs.Leaves.{tracee_doomed}
 use Rattle.trace_stop.proofs.Chains.{no_ring, chains_end, tracee_deeper}
-use Rattle.trace_stop.proofs.LeafLives.{leaf_lives, leaf_fewer}
+use Rattle.trace_stop.proofs.LeafLives.{listed, leaf_lives, leaf_fewer}
 use Rattle.trace_stop.proofs.LeafSound.{leaf_sound}
 use Rattle.trace_stop.proofs.Doomed.{leaf_end}
 
@@ -34,10 +34,6 @@ NoneUpTo q ps after = (r : ProcData) → process_of r.pid ps ≡ Some r → 0 < 
 
 pub none_at_first : (q : ℕ) (ps : List ProcData) → NoneUpTo q ps 0
 none_at_first q ps = λ r own above less. absurd (omega (arith, above, less))
-
-and_false : (b : Bool) → (b && false) ≡ false
-and_false true = refl
-and_false false = refl
 
 module _ (q after : ℕ) (rows : Rows) (kept : IsKept rows) where
   abbrev ps : List ProcData
@@ -75,7 +71,7 @@ module _ (q after : ℕ) (rows : Rows) (kept : IsKept rows) where
       let past : NonePasses (traces q) after ps = subst (LeastOrNone (traces q) after ps) at (next_tracee-least q after ps kept.rising) in
       none_passes (λ r. is_live r && traces q r) (λ r. (process_of r.pid ps ≡ Some r) × AtHome r)
       (λ r h. elim (below_or_not after r.pid) [
-        | inl late ↦ ap (λ b. is_live r && b) (past r h.0 late.1) ∙ and_false (is_live r)
+        | inl late ↦ ap (λ b. is_live r && b) (past r h.0 late.1) ∙ and-false (is_live r)
         | inr early ↦ let home = h.1.block in none r h.0 (omega (arith, home.0)) early.1
       ])
       ps (All-both _ AtHome ps (own_rows ps kept.rising) kept.homes)
@@ -92,7 +88,7 @@ pub record TraceeRow (n : ℕ) (rows : Rows) (t : ℕ) : Type 0 where
   pub number : row.pid ≡ t
   pub traced : (is_live row && traces n row) ≡ true
 
-tracee_row : (n : ℕ) (rows : Rows) (t : ℕ) → Stands rows → IsLiveTracee n rows t → TraceeRow n rows t
+pub tracee_row : (n : ℕ) (rows : Rows) (t : ℕ) → Stands rows → IsLiveTracee n rows t → TraceeRow n rows t
 tracee_row n rows t s is = at_row (process_of t rows.processes) refl (sym (live_number t rows s) ∙ is.live) is.link
   where
     at_row : (o : Option ProcData) → process_of t rows.processes ≡ o → passes is_live o ≡ true → tracer_in o ≡ Some n → TraceeRow n rows t
@@ -119,9 +115,6 @@ module _ (rows : Rows) (s : Stands rows) where
       let least = chains_end rows t s in
       omega (arith, more, least)
 
-listed : (n : ℕ) (rows : Rows) → is_live_at n rows ≡ true → is_process rows n ≡ true
-listed n rows live = any_more (λ r. (r.pid == n) && is_live r) (λ r. r.pid == n) (λ r h. and_left (r.pid == n) (is_live r) h) rows.processes live
-
 turned_round : (m n : ℕ) → (m == n) ≡ false → (n == m) ≡ false
 turned_round m n e = by_bool (n == m) (λ same. true≢false (sym (eq-eqb m n (sym (eqb-true n m same))) ∙ e))
 
@@ -134,7 +127,7 @@ module _ (rows rows' : Rows) (p q status : ℕ) (s : IsSound rows) (other : (q =
   lives = live_number q rows s.stands ∙ (dooms_meets kills rows p s.stands q other doomed).0
 
   made : rows' ≡ end kills q SIGKILL rows
-  made = ended ∙ sym (leaf_end kills rows q SIGKILL refl s.stands (listed q rows lives) leaf)
+  made = ended ∙ sym (leaf_end kills rows q SIGKILL refl s.stands (listed rows q lives) leaf)
 
   pub turn_sound : IsSound rows'
   turn_sound = subst IsSound (sym made) (leaf_sound kills rows q SIGKILL refl s refl lives leaf)
@@ -164,4 +157,4 @@ module _ (rows rows' : Rows) (p q status : ℕ) (s : IsSound rows) (other : (q =
 
 -- the last turn
 pub last_turn : (rows rows' : Rows) (p status : ℕ) → Stands rows → is_live_at p rows ≡ true → traces_live p rows ≡ false → rows' ≡ end_alone p status rows → rows' ≡ end kills p status rows
-last_turn rows rows' p status s live leaf ended = ended ∙ sym (leaf_end kills rows p status refl s (listed p rows live) leaf)
+last_turn rows rows' p status s live leaf ended = ended ∙ sym (leaf_end kills rows p status refl s (listed rows p live) leaf)

@@ -1,5 +1,6 @@
 -- Rows that name a process that ends, each taken from it: its end is as it was.
 use Rattle.std.proofs.Common.{◌≡◌, ℕ, Bool, true, false, not, ◌&&◌, ◌==◌, if◌then◌else◌, Option, Some, None, IfSome, is_none, refl, sym, ap, ◌∙◌, true≢false, eqb-true, subst}
+use Rattle.std.proofs.Math.Bool.{and-false}
 use Rattle.std.specs.Option.{option_and_then}
 use Rattle.std.specs.List.{AllByRecursion}
 use Rattle.lwp_table.specs.declared.LwpData.{LwpData}
@@ -20,10 +21,6 @@ use Rattle.trace_stop.proofs.Tells.{tells, told_by, tells_any, parent_after}
 use Rattle.trace_stop.proofs.LeafFirst.{told}
 use Rattle.trace_stop.proofs.Leaving.{Fit, leaving_each, Ends, stepped_same, told_alive, Told-of, put, out, same_lwp}
 
-and_false : (b : Bool) → (b && false) ≡ false
-and_false true = refl
-and_false false = refl
-
 -- A zombie whom nobody would collect, taken out
 
 pub untold_gone : (o : Option ℕ) (n x : ℕ) → (is_none o && (n == 1)) ≡ true → told_by o n x ≡ false
@@ -33,7 +30,7 @@ untold_gone (Some t) n x gone = absurd (true≢false (sym gone))
 
 tells_gone : (over : ℕ → Bool) (x : ℕ) (z : ProcData) → is_gone (orphaned over z) ≡ true → tells over x z ≡ false
 unfolding tells
-tells_gone over x z gone = ap (λ b. tells_any over z && b) (untold_gone (unless over z.tracer) (parent_after over z.parent) x gone) ∙ and_false (tells_any over z)
+tells_gone over x z gone = ap (λ b. tells_any over z && b) (untold_gone (unless over z.tracer) (parent_after over z.parent) x gone) ∙ and-false (tells_any over z)
 
 module _ (q n : ℕ) (rows : Rows) (v : IsLeaving q rows) (rise : Rise rows.processes) (z : ProcData) (at : process_of n rows.processes ≡ Some z)
     (ended : is_live z ≡ false) (gone : is_gone (orphaned (alone q) z) ≡ true) where

@@ -1,5 +1,6 @@
 -- A zombie taken from its tracer, which ends, and its parent told of it: the tracer's end is as it was.
 use Rattle.std.proofs.Common.{◌≡◌, ℕ, Bool, true, false, not, ◌&&◌, ◌||◌, ◌==◌, if◌then◌else◌, Option, Some, None, IfSome, refl, sym, ap, ◌∙◌, true≢false, eqb-true, eq-eqb}
+use Rattle.std.proofs.Math.Bool.{or-false, or_comm}
 use Rattle.std.specs.List.{AllByRecursion, list_any}
 use Rattle.lwp_table.specs.declared.LwpData.{LwpData}
 use Rattle.proc_table.specs.declared.ProcData.{ProcData}
@@ -54,19 +55,9 @@ told_lwp_keeps t r l = at (t r.pid)
     at true = refl
     at false = refl
 
-or_false : (b : Bool) → (b || false) ≡ b
-or_false true = refl
-or_false false = refl
-
 first_false : (a b c : Bool) → a ≡ (b || c) → a ≡ false → b ≡ false
 first_false a true c is none = absurd (true≢false (sym is ∙ none))
 first_false a false c is none = refl
-
-or_round : (a b : Bool) → (a || b) ≡ (b || a)
-or_round true true = refl
-or_round true false = refl
-or_round false true = refl
-or_round false false = refl
 
 pub same_test : (a b : ℕ) → (a == b) ≡ (b == a)
 same_test a b = by_test (a == b) refl (b == a) refl
@@ -193,7 +184,7 @@ module _ (q n : ℕ) (rows : Rows) (v : IsLeaving q rows) (rise : Rise rows.proc
         ∙ ap (λ b. after x || b) (any_by_number (λ r. alone m x) n rows.processes rise ∙ ap (passes (λ r. alone m x)) at)
       where
         tell : (r : ProcData) → (r.pid ≡ n → r ≡ z) → (b : Bool) → (r.pid == n) ≡ b → tells (alone q) x r ≡ (tells (alone q) x (told_row (alone m) (if b then untrace r else r)) || (b && alone m x))
-        tell r one false apart = sym (or_false (tells (alone q) x (told_row (alone m) r)) ∙ tells-told (alone m) r (alone q) x)
+        tell r one false apart = sym (or-false (tells (alone q) x (told_row (alone m) r)) ∙ tells-told (alone m) r (alone q) x)
         tell r one true same =
             let is = one (eqb-true r.pid n same) in
             ap (tells (alone q) x) is ∙ z_tells x
@@ -239,7 +230,7 @@ module _ (q n : ℕ) (rows : Rows) (v : IsLeaving q rows) (rise : Rise rows.proc
               ∙ sym (turned_lwp-fallen (alone q) q w before r l live falls),
         )
         by_doom live false safe =
-            let told_both : before r.pid ≡ (alone m r.pid || after r.pid) = both_tell r.pid ∙ or_round (after r.pid) (alone m r.pid) in (
+            let told_both : before r.pid ≡ (alone m r.pid || after r.pid) = both_tell r.pid ∙ or_comm (after r.pid) (alone m r.pid) in (
               turned-safe (alone q) q w after (told_row (alone m) r) (live_made live) (ap (alone q) (told-pid (alone m) r) ∙ safe)
                   ∙ ap Some (told_twice (alone q) (alone m) after before r (moved (alone q) r) refl (ap before (moved-pid (alone q) r) ∙ told_both))
                   ∙ sym (turned-safe (alone q) q w before r live safe),

@@ -1,5 +1,6 @@
 -- A step on the way to the end of a process that traces no live one, as an edit of each row.
 use Rattle.std.proofs.Common.{◌≡◌, ℕ, List, filter, filter_map, Bool, true, false, not, ◌&&◌, ◌==◌, if◌then◌else◌, cond, Option, Some, None, IfSome, refl, sym, ap, ◌∙◌, true≢false, eqb-true, eq-eqb, subst, inl, inr, [], ◌∷◌}
+use Rattle.std.proofs.Math.Bool.{and-false}
 use Rattle.std.proofs.Math.Path.{fun_ext}
 use Rattle.std.specs.Option.{option_and_then}
 use Rattle.std.specs.List.{AllByRecursion, list_any, cons_option}
@@ -23,7 +24,7 @@ use Rattle.trace_stop.proofs.Told.{notified-one}
 
 -- The end of q alone, row by row
 
-is_alone : (q n : ℕ) → (n == q) ≡ alone q n
+pub is_alone : (q n : ℕ) → (n == q) ≡ alone q n
 unfolding alone
 is_alone q n = refl
 
@@ -34,13 +35,9 @@ end_alone_turned q w rows rise live =
     (All-imply (λ r. (r.pid == q) ≡ true → is_live r ≡ true) _ (λ r h. by_number r h (r.pid == q) refl) rows.processes live) (is_alone q)
     ∙ end_turned (alone q) q w rows rise
   where
-    and_false : (b : Bool) → (b && false) ≡ false
-    and_false true = refl
-    and_false false = refl
-
     by_number : (r : ProcData) → ((r.pid == q) ≡ true → is_live r ≡ true) → (b : Bool) → (r.pid == q) ≡ b → (r.pid == q) ≡ fallen (alone q) r
     by_number r h true is = is ∙ sym (ap (λ b. b && alone q r.pid) (h is) ∙ sym (is_alone q r.pid) ∙ is)
-    by_number r h false is = is ∙ sym (ap (λ b. is_live r && b) (sym (is_alone q r.pid) ∙ is) ∙ and_false (is_live r))
+    by_number r h false is = is ∙ sym (ap (λ b. is_live r && b) (sym (is_alone q r.pid) ∙ is) ∙ and-false (is_live r))
 
 -- What the rows keep
 

@@ -48,3 +48,4 @@ pub mod Unnamed
 pub mod Orphans
 pub mod Burial
 pub mod LwpsEnd
+pub mod LeftAlone

@@ -22,6 +22,7 @@ use Rattle.trace_stop.specs.Laws.{traces_live, is_live_at, end_alone}
 use Rattle.trace_stop.specs.Leaving.{without_lwps, lwps_ended, LeavingRow, LeavingLwp, IsLeaving}
 use Rattle.trace_stop.proofs.Every.{by_bool, and_left, and_right, both, All-imply, All-both, All-edit, any_holds, any_more, none_of}
 use Rattle.trace_stop.proofs.Passes.{passes, own_rows, filter_map_same, filter_map_twice}
+use Rattle.trace_stop.proofs.FromSound.{none_is}
 use Rattle.trace_stop.proofs.Children.{child_test, child_from}
 use Rattle.trace_stop.proofs.Edited.{some_is}
 use Rattle.trace_stop.proofs.Stopping.{the_row}
@@ -125,9 +126,6 @@ module _ (rows : Rows) (s : IsSound rows) (q : ℕ) (p : ProcData) (at : process
   -- Then p is leaving
 
   module _ (live : is_live_at q rows ≡ true) (leaf : traces_live q rows ≡ false) where
-    alive : ℕ → Bool
-    alive n = is_live_at n rows
-
     of_user : (u n : ℕ) → IsLiveOf rows u n → is_live_at n rows ≡ true
     of_user u n is = any_more (λ k. (k.pid == n) && (k.uid == u) && is_live k) (λ k. (k.pid == n) && is_live k)
         (λ k h. both (k.pid == n) (is_live k) (and_left (k.pid == n) (k.uid == u) (and_left _ (is_live k) h)) (and_right _ (is_live k) h)) ps is
@@ -144,10 +142,6 @@ module _ (rows : Rows) (s : IsSound rows) (q : ℕ) (p : ProcData) (at : process
         at_tracer : (o : Option ℕ) → IfSome o (IsLiveOf rows r.uid) → IfSome o (λ t. is_live_at t rows ≡ true)
         at_tracer None h = tt
         at_tracer (Some t) h = of_user r.uid t h
-
-        none_is : (o : Option ℕ) → is_none o ≡ true → o ≡ None
-        none_is None h = refl
-        none_is (Some t) h = absurd (true≢false (sym h))
 
         at_state : (st : State) → IfEnded r st → not (is_zombie_state st) ≡ false → (is_none r.tracer && (r.parent == 1)) ≡ false
         at_state Run h gone = absurd (true≢false gone)

@@ -20,7 +20,7 @@ use Rattle.trace_stop.proofs.Every.{by_bool, and_left, any_holds, All-any, find_
 use Rattle.trace_stop.proofs.Edited.{some_is}
 use Rattle.trace_stop.proofs.Turned.{is_gone, gone-true, gone-false}
 use Rattle.trace_stop.proofs.Twice.{alone}
-use Rattle.trace_stop.proofs.Leaving.{same_lwp, put, out, set_each, drop_each, set_tell}
+use Rattle.trace_stop.proofs.Leaving.{is_alone, same_lwp, put, out, set_each, drop_each, set_tell}
 use Rattle.trace_stop.proofs.LeafSteps.{orphan, out_leaving, out_same, put_leaving, put_same}
 use Rattle.trace_stop.proofs.LeafTells.{untrace, unless_this, untold, untold_lwp, untold_leaving, untold_same}
 use Rattle.trace_stop.proofs.Unnamed.{one_fewer, its_row, out_passes, orphan_passes, untold_passes, none_edited}
@@ -60,10 +60,6 @@ orphan_of q z = record z { tracer = None; parent = if z.parent == q then 1 else 
 orphan_is : (q : ℕ) (z : ProcData) → traces q z ≡ true → orphaned (alone q) z ≡ orphan_of q z
 unfolding alone
 orphan_is q z traced = ap (λ (o : Option ℕ). record z { tracer = o; parent = if z.parent == q then 1 else z.parent }) (unless_this q z.tracer traced)
-
-alone_is : (q n : ℕ) → alone q n ≡ (n == q)
-unfolding alone
-alone_is q n = refl
 
 module _ (q : ℕ) (rows rows' : Rows) (kept : IsKept rows) (v : IsLeaving q rows) (z : ProcData) (at : process_of z.pid rows.processes ≡ Some z) where
   pub listed : IsRow rows z.pid
@@ -114,7 +110,7 @@ module _ (q : ℕ) (rows rows' : Rows) (kept : IsKept rows) (v : IsLeaving q row
         tracee-not_one = ap (λ n. n == 1) (sym tracee-parent) ∙ tracee-left
 
         tracee-apart : alone q z.parent ≡ false
-        tracee-apart = alone_is q z.parent ∙ tracee-other
+        tracee-apart = sym (is_alone q z.parent) ∙ tracee-other
 
         tracee-told : rows' ≡ each (untold q z.pid rows v kept.rising z at tracee-ended traced tracee-not_one tracee-apart) (untold_lwp q z.pid rows v kept.rising z at tracee-ended traced tracee-not_one tracee-apart) rows
         tracee-told =
@@ -145,7 +141,7 @@ module _ (q : ℕ) (rows rows' : Rows) (kept : IsKept rows) (v : IsLeaving q row
 
     module _ (stays : (is_live z || is_some z.tracer) ≡ false) (made : rows' ≡ drop_process z.pid rows) where
       child-gone : is_gone (orphaned (alone q) z) ≡ true
-      child-gone = ap (λ b. is_none (unless (alone q) z.tracer) && ((if b then 1 else z.parent) == 1)) (alone_is q z.parent ∙ child) ∙ at_tracer z.tracer (sym (ap (λ b. b || is_some z.tracer) (child-ended stays)) ∙ stays)
+      child-gone = ap (λ b. is_none (unless (alone q) z.tracer) && ((if b then 1 else z.parent) == 1)) (sym (is_alone q z.parent) ∙ child) ∙ at_tracer z.tracer (sym (ap (λ b. b || is_some z.tracer) (child-ended stays)) ∙ stays)
         where
           at_tracer : (o : Option ℕ) → is_some o ≡ false → (is_none (unless (alone q) o) && true) ≡ true
           at_tracer None h = refl
@@ -188,7 +184,7 @@ module _ (q : ℕ) (rows rows' : Rows) (kept : IsKept rows) (v : IsLeaving q row
       child-put = made ∙ set_each z.pid orphan rows z kept.rising at refl
 
       pub child_put-leaving : IsLeaving q rows'
-      child_put-leaving = subst (IsLeaving q) (sym child-put) (put_leaving q z.pid rows v kept.rising z at (alone_is q z.parent ∙ child) child-some)
+      child_put-leaving = subst (IsLeaving q) (sym child-put) (put_leaving q z.pid rows v kept.rising z at (sym (is_alone q z.parent) ∙ child) child-some)
 
       pub child_put-untraced : list_any (traces q) rows'.processes ≡ false
       child_put-untraced = ap (λ (rs : Rows). list_any (traces q) rs.processes) child-put ∙ none_edited (traces q) (put z.pid orphan) rows.processes (λ r is. same r (r.pid == z.pid) is) untraced
@@ -202,4 +198,4 @@ module _ (q : ℕ) (rows rows' : Rows) (kept : IsKept rows) (v : IsLeaving q row
           (one_fewer (λ r. r.parent == q) (put z.pid orphan) z.pid rows.processes (All-any _ (orphan_passes q z.pid q_row) rows.processes) (its_row (λ r. r.parent == q) rows z.pid z kept at child))
 
       pub child_put-same : (w : ℕ) → end_alone q w rows' ≡ end_alone q w rows
-      child_put-same w = ap (end_alone q w) child-put ∙ put_same q z.pid rows v kept.rising z at (alone_is q z.parent ∙ child) child-some w
+      child_put-same w = ap (end_alone q w) child-put ∙ put_same q z.pid rows v kept.rising z at (sym (is_alone q z.parent) ∙ child) child-some w

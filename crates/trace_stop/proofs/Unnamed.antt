@@ -1,5 +1,6 @@
 -- A row that no row names may be taken out, and what each step on the way to a process's end leaves fewer of.
 use Rattle.std.proofs.Common.{◌≡◌, ℕ, ◌<◌, List, [], ◌∷◌, find, filter_map, Bool, true, false, not, ◌&&◌, ◌||◌, ◌==◌, if◌then◌else◌, Option, Some, None, IfSome, refl, sym, ap, ◌∙◌, arith, true≢false, eqb-true, eq-eqb}
+use Rattle.std.proofs.Math.Bool.{and-false, and-true}
 use Rattle.std.proofs.lemmas.Bool.Decides.{nat_tests}
 use Rattle.std.specs.Prelude.{count_by, ltb}
 use Rattle.std.specs.List.{AllByRecursion, list_any}
@@ -20,14 +21,6 @@ use Rattle.trace_stop.proofs.LeafLaw.{any_by_number}
 use Rattle.trace_stop.proofs.Leaving.{put, out, put_tell}
 use Rattle.trace_stop.proofs.LeafSteps.{orphan}
 use Rattle.trace_stop.proofs.LeafTells.{untrace}
-
-and_false : (b : Bool) → (b && false) ≡ false
-and_false true = refl
-and_false false = refl
-
-and_true : (b : Bool) → b ≡ (b && true)
-and_true true = refl
-and_true false = refl
 
 pub find_none : {X : Type 0} (q : X → Bool) (xs : List X) → AllByRecursion (λ x. q x ≡ false) xs → find q xs ≡ None
 find_none q [] all = refl
@@ -61,7 +54,7 @@ module _ (q : ℕ) (rows : Rows) (kept : IsKept rows) (v : IsLeaving q rows) (z 
 
   pub zombie-tracees : next_tracee z.pid 0 rows.processes ≡ None
   zombie-tracees = find_none _ rows.processes (All-imply (LeavingRow v.alive q) _ (λ r h.
-      ap (λ b. ltb 0 r.pid && b) (by_bool (is_this z.pid r.tracer) (λ is. at_tracer r.tracer h.tracer is)) ∙ and_false (ltb 0 r.pid)) rows.processes v.processes)
+      ap (λ b. ltb 0 r.pid && b) (by_bool (is_this z.pid r.tracer) (λ is. at_tracer r.tracer h.tracer is)) ∙ and-false (ltb 0 r.pid)) rows.processes v.processes)
     where
       at_tracer : (o : Option ℕ) → IfSome o (λ t. v.alive t ≡ true) → is_this z.pid o ≡ true → ⊥
       at_tracer None live is = true≢false (sym is)
@@ -72,7 +65,7 @@ module _ (q : ℕ) (rows : Rows) (kept : IsKept rows) (v : IsLeaving q rows) (z 
       ap (λ b. ltb 0 r.pid && b) (by_bool (r.parent == z.pid) (λ is.
       let same = eqb-true r.parent z.pid is in
       true≢false (sym (h.parent (λ one. true≢false (sym (eq-eqb z.pid 1 (sym same ∙ one)) ∙ not_one z.pid rows.processes kept.homes z at))) ∙ ap v.alive same ∙ dead)))
-      ∙ and_false (ltb 0 r.pid)) rows.processes v.processes)
+      ∙ and-false (ltb 0 r.pid)) rows.processes v.processes)
 
   pub zombie-lwps : first_lwp z.pid rows.lwps ≡ None
   zombie-lwps = find_none _ rows.lwps (All-imply (LeavingLwp v.alive q) _ (λ l h. by_bool (l.pid == z.pid) (λ is. true≢false (sym h.lives ∙ ap v.alive (eqb-true l.pid z.pid is) ∙ dead))) rows.lwps v.lwps)
@@ -80,7 +73,7 @@ module _ (q : ℕ) (rows : Rows) (kept : IsKept rows) (v : IsLeaving q rows) (z 
 -- The process that ends, once nobody names it
 
 pub unnamed : (t : ProcData → Bool) (ps : List ProcData) → list_any t ps ≡ false → find (λ p. ltb 0 p.pid && t p) ps ≡ None
-unnamed t ps none = find_none _ ps (All-imply _ _ (λ r e. ap (λ b. ltb 0 r.pid && b) e ∙ and_false (ltb 0 r.pid)) ps (none_of t ps none))
+unnamed t ps none = find_none _ ps (All-imply _ _ (λ r e. ap (λ b. ltb 0 r.pid && b) e ∙ and-false (ltb 0 r.pid)) ps (none_of t ps none))
 
 pub left-lwps : (q : ℕ) (rows : Rows) → IsLeaving q rows → first_lwp q rows.lwps ≡ None
 left-lwps q rows v = find_none _ rows.lwps (All-imply (LeavingLwp v.alive q) _ (λ l h. h.other) rows.lwps v.lwps)
@@ -103,15 +96,15 @@ pub out_passes : (t : ProcData → Bool) (n : ℕ) (r : ProcData) → passes t (
 out_passes t n r = at (r.pid == n)
   where
     at : (b : Bool) → passes t (if b then None else Some r) ≡ (t r && not b)
-    at true = sym (and_false (t r))
-    at false = and_true (t r)
+    at true = sym (and-false (t r))
+    at false = sym (and-true (t r))
 
 pub orphan_passes : (q n : ℕ) → (q == 1) ≡ false → (r : ProcData) → passes (λ k. k.parent == q) (put n orphan r) ≡ ((r.parent == q) && not (r.pid == n))
 orphan_passes q n other r = at (r.pid == n)
   where
     at : (b : Bool) → ((if b then orphan r else r).parent == q) ≡ ((r.parent == q) && not b)
-    at true = by_bool (1 == q) (λ is. true≢false (sym (eq-eqb q 1 (sym (eqb-true 1 q is))) ∙ other)) ∙ sym (and_false (r.parent == q))
-    at false = and_true (r.parent == q)
+    at true = by_bool (1 == q) (λ is. true≢false (sym (eq-eqb q 1 (sym (eqb-true 1 q is))) ∙ other)) ∙ sym (and-false (r.parent == q))
+    at false = sym (and-true (r.parent == q))
 
 pub untold_passes : (q n m : ℕ) (r : ProcData) → passes (traces q) (put_tell n untrace m r) ≡ (traces q r && not (r.pid == n))
 unfolding told_row heard
@@ -122,8 +115,8 @@ untold_passes q n m r = at (r.pid == n)
     told_same k false = refl
 
     at : (b : Bool) → traces q (told_row (alone m) (if b then untrace r else r)) ≡ (traces q r && not b)
-    at true = told_same (untrace r) (alone m (untrace r).pid) ∙ sym (and_false (traces q r))
-    at false = told_same r (alone m r.pid) ∙ and_true (traces q r)
+    at true = told_same (untrace r) (alone m (untrace r).pid) ∙ sym (and-false (traces q r))
+    at false = told_same r (alone m r.pid) ∙ sym (and-true (traces q r))
 
 -- the other links stay
 pub none_edited : (t : ProcData → Bool) (f : ProcData → Option ProcData) (ps : List ProcData) → ((r : ProcData) → passes t (f r) ≡ true → t r ≡ true) → list_any t ps ≡ false → list_any t (filter_map f ps) ≡ false

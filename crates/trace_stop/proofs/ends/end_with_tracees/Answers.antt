@@ -32,7 +32,7 @@ pub loop-leaf-smaller : goal.loop-leaf-smaller
 loop-leaf-smaller c =
     let other : (c.leaf_below-leaf.result == c.args.pid) ≡ false = search rules in
     let ended : c.end_leaf-in-loop-leaf.new.tables.rows ≡ end_alone c.leaf_below-leaf.result SIGKILL c.loop-leaf.tables.rows =
-    c.end_leaf-in-loop-leaf.ensures ∙ ap (λ w. end_alone c.leaf_below-leaf.result w c.loop-leaf.tables.rows) (c.number.ensures.number ∙ c.kill.ensures) in
+    c.end_leaf-in-loop-leaf.ensures ∙ ap (λ w. end_alone c.leaf_below-leaf.result w c.loop-leaf.tables.rows) (c.number-killed.ensures.number ∙ c.kill.ensures) in
     turn_fewer c.loop-leaf.tables.rows c.end_leaf-in-loop-leaf.new.tables.rows c.args.pid c.leaf_below-leaf.result c.args.status c.loop-leaf.invariant.sound other
     (c.leaf_below-leaf.ensures.below c.args.pid c.loop-leaf.invariant.ends) c.leaf_below-leaf.ensures.leaf ended
 
@@ -46,7 +46,7 @@ loop-leaf-preserved c =
     let other : (q == p) ≡ false = search rules in
     let ends = c.leaf_below-leaf.ensures.below p c.loop-leaf.invariant.ends in
     let leaf = c.leaf_below-leaf.ensures.leaf in
-    let ended : left ≡ end_alone q SIGKILL rows = c.end_leaf-in-loop-leaf.ensures ∙ ap (λ w. end_alone q w rows) (c.number.ensures.number ∙ c.kill.ensures) in
+    let ended : left ≡ end_alone q SIGKILL rows = c.end_leaf-in-loop-leaf.ensures ∙ ap (λ w. end_alone q w rows) (c.number-killed.ensures.number ∙ c.kill.ensures) in
     record {
       sound = turn_sound rows left p q c.args.status s other ends leaf ended;
       live = turn_lives rows left p q c.args.status s other ends leaf ended c.loop-leaf.invariant.live;
