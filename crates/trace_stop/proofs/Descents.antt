@@ -1,7 +1,8 @@
 -- The way down the tracees of a process that ends, and one turn of its end.
 use Rattle.std.proofs.Common.{◌≡◌, ℕ, ◌-◌, ◌<◌, ◌≤◌, List, true, false, ◌&&◌, ◌||◌, ◌==◌, not, Option, Some, None, length, refl, sym, ap, ◌∙◌, arith, true≢false, eqb-true, eq-eqb, subst, inl, inr, unwrap_or}
 use Rattle.std.proofs.Math.Bool.{and-false}
-use Rattle.std.specs.Prelude.{count_by}
+use Rattle.std.specs.Prelude.{count_by, ltb, MatchOption}
+use Rattle.std.specs.List.{AllByRecursion}
 use Rattle.signals.specs.Table.{SIGKILL}
 use Rattle.proc_table.specs.declared.ProcData.{ProcData}
 use Rattle.proc_table.specs.Processes.{process_of, is_live, is_this, traces}
@@ -15,8 +16,8 @@ use Rattle.proc_table.proofs.Rows.{process_of-pid}
 use Rattle.trace_stop.specs.End.{tracer_in, tracer_of, holds_of, meets, dooms, end}
 use Rattle.trace_stop.specs.Facts.{Stands, IsSound}
 use Rattle.trace_stop.specs.Laws.{chain, traces_live, is_live_at, end_alone}
-use Rattle.trace_stop.specs.Descent.{kills, IsLiveTracee, EndsToo}
-use Rattle.trace_stop.proofs.Every.{or_true, and_left, and_right, both, by_bool, All-both, none_passes}
+use Rattle.trace_stop.specs.Descent.{kills, traces_live_above, IsLiveTracee, EndsToo}
+use Rattle.trace_stop.proofs.Every.{or_true, and_left, and_right, both, by_bool, All-both, none_of, none_passes}
 use Rattle.trace_stop.proofs.Edited.{some_is}
 use Rattle.trace_stop.proofs.Passes.{passes, own_rows}
 use Rattle.trace_stop.proofs.LeafLaw.{any_by_number, dooms_meets, meets-suc, q_traced, leaf_law, leaf_dooms}
@@ -28,12 +29,12 @@ use Rattle.trace_stop.proofs.Doomed.{leaf_end}
 
 -- What a walk over tracees has found
 
--- no live process that q traces has a number up to this one
-abbrev pub NoneUpTo : ℕ → List ProcData → ℕ → Type 0
-NoneUpTo q ps after = (r : ProcData) → process_of r.pid ps ≡ Some r → 0 < r.pid → r.pid ≤ after → (is_live r && traces q r) ≡ false
+-- no live process that q traces has a number above the first and up to the second
+abbrev pub NoneBetween : ℕ → List ProcData → ℕ → ℕ → Type 0
+NoneBetween q ps from after = (r : ProcData) → process_of r.pid ps ≡ Some r → from < r.pid → r.pid ≤ after → (is_live r && traces q r) ≡ false
 
-pub none_at_first : (q : ℕ) (ps : List ProcData) → NoneUpTo q ps 0
-none_at_first q ps = λ r own above less. absurd (omega (arith, above, less))
+pub none_at_first : (q : ℕ) (ps : List ProcData) (from : ℕ) → NoneBetween q ps from from
+none_at_first q ps from = λ r own above less. absurd (omega (arith, above, less))
 
 module _ (q after : ℕ) (rows : Rows) (kept : IsKept rows) where
   abbrev ps : List ProcData
@@ -56,8 +57,8 @@ module _ (q after : ℕ) (rows : Rows) (kept : IsKept rows) where
   pub walk_over : (t : ProcData) → next_tracee q after ps ≡ Some t → after < t.pid
   walk_over t at = (least t at).above
 
-  pub walk_more : (t : ProcData) → next_tracee q after ps ≡ Some t → is_live t ≡ false → NoneUpTo q ps after → NoneUpTo q ps t.pid
-  walk_more t at ended none = λ r own above less. elim (below_or_not after r.pid) [
+  pub walk_more : (t : ProcData) (from : ℕ) → next_tracee q after ps ≡ Some t → is_live t ≡ false → NoneBetween q ps from after → NoneBetween q ps from t.pid
+  walk_more t from at ended none = λ r own above less. elim (below_or_not after r.pid) [
     | inr early ↦ none r own above early.1
     | inl late ↦ by_bool (is_live r && traces q r) (λ is.
         let more = (least t at).least r own late.1 (and_right (is_live r) (traces q r) is) in
@@ -66,15 +67,32 @@ module _ (q after : ℕ) (rows : Rows) (kept : IsKept rows) where
         true≢false (sym (and_left (is_live r) (traces q r) is) ∙ ap is_live (sym (some_is t r here)) ∙ ended))
   ]
 
-  pub walk_none : next_tracee q after ps ≡ None → NoneUpTo q ps after → traces_live q rows ≡ false
-  walk_none at none =
+  pub walk_none : (from : ℕ) → next_tracee q after ps ≡ None → NoneBetween q ps from after → traces_live_above from q rows ≡ false
+  walk_none from at none =
       let past : NonePasses (traces q) after ps = subst (LeastOrNone (traces q) after ps) at (next_tracee-least q after ps kept.rising) in
-      none_passes (λ r. is_live r && traces q r) (λ r. (process_of r.pid ps ≡ Some r) × AtHome r)
-      (λ r h. elim (below_or_not after r.pid) [
-        | inl late ↦ ap (λ b. is_live r && b) (past r h.0 late.1) ∙ and-false (is_live r)
-        | inr early ↦ let home = h.1.block in none r h.0 (omega (arith, home.0)) early.1
+      none_passes (λ r. ltb from r.pid && (is_live r && traces q r)) (λ r. process_of r.pid ps ≡ Some r)
+      (λ r own. elim (below_or_not from r.pid) [
+        | inr low ↦ ap (λ b. b && (is_live r && traces q r)) low.0
+        | inl high ↦ ap (λ b. ltb from r.pid && b) (elim (below_or_not after r.pid) [
+          | inl late ↦ ap (λ b. is_live r && b) (past r own late.1) ∙ and-false (is_live r)
+          | inr early ↦ none r own high.1 early.1
+        ]) ∙ and-false (ltb from r.pid)
       ])
-      ps (All-both _ AtHome ps (own_rows ps kept.rising) kept.homes)
+      ps (own_rows ps kept.rising)
+
+-- every number is above 0
+pub none_above_zero : (q : ℕ) (rows : Rows) → AllByRecursion AtHome rows.processes → traces_live_above 0 q rows ≡ false → traces_live q rows ≡ false
+none_above_zero q rows homes none =
+    none_passes (λ r. is_live r && traces q r) (λ r. AtHome r × ((ltb 0 r.pid && (is_live r && traces q r)) ≡ false))
+    (λ r h. let low = h.0.block.0 in elim (below_or_not 0 r.pid) [
+      | inl above ↦ sym (ap (λ b. b && (is_live r && traces q r)) above.0) ∙ h.1
+      | inr below ↦ let zero = below.1 in absurd (omega (arith, low, zero))
+    ])
+    rows.processes (All-both AtHome _ rows.processes homes (none_of (λ r. ltb 0 r.pid && (is_live r && traces q r)) rows.processes none))
+
+pub sought : (q : ℕ) (rows : Rows) → AllByRecursion AtHome rows.processes → (o : Option ℕ) → MatchOption o (traces_live_above 0 q rows ≡ false) (IsLiveTracee q rows) → MatchOption o (traces_live q rows ≡ false) (IsLiveTracee q rows)
+sought q rows homes None none = none_above_zero q rows homes none
+sought q rows homes (Some t) is = is
 
 -- The way down
 

@@ -1,9 +1,10 @@
 -- The way down the tracees of a process that ends, where a debugger's end kills, and where it spares them.
-use Rattle.std.specs.Prelude.{◌≡◌, ℕ, true, false, ◌==◌, ◌||◌, Option, Some, None, is_some, if◌then◌else◌}
+use Rattle.std.specs.Prelude.{◌≡◌, ℕ, Bool, true, false, ltb, ◌==◌, ◌&&◌, ◌||◌, Option, Some, None, is_some, if◌then◌else◌}
+use Rattle.std.specs.List.{list_any}
 use Rattle.signals.specs.Sets.{bit}
 use Rattle.signals.specs.Table.{SIGTRAP}
 use Rattle.proc_table.specs.declared.ProcData.{ProcData}
-use Rattle.proc_table.specs.Processes.{reporting}
+use Rattle.proc_table.specs.Processes.{is_live, traces, reporting}
 use Rattle.proc_table.specs.Rows.{Rows}
 use Rattle.trace_stop.specs.declared.Settings.{Settings}
 use Rattle.trace_stop.specs.End.{tracer_of, dooms}
@@ -23,6 +24,10 @@ lost_signals p = if is_some (reporting p) then bit SIGTRAP else 0
 abbrev pub lost_at : Option ProcData → ℕ
 lost_at None = 0
 lost_at (Some p) = lost_signals p
+
+-- whether the process numbered n traces a live one above a number
+abbrev pub traces_live_above : ℕ → ℕ → Rows → Bool
+traces_live_above number n rows = list_any (λ r. ltb number r.pid && (is_live r && traces n r)) rows.processes
 
 -- the process numbered t lives, and the one numbered n traces it
 pub record IsLiveTracee (n : ℕ) (rows : Rows) (t : ℕ) : Type 0 where

@@ -8,7 +8,7 @@ ghost use Rattle.trace_stop.specs.Free.{detached};
 ghost use Rattle.trace_stop.specs.Facts.{IsSound};
 ghost use Rattle.trace_stop.specs.Laws.{traces_live, is_live_at};
 ghost use Rattle.trace_stop.specs.Sound.{is_end};
-ghost use Rattle.trace_stop.specs.Descent.{kills, spares, lost_signals, lost_at, IsLiveTracee, EndsToo};
+ghost use Rattle.trace_stop.specs.Descent.{kills, spares, lost_signals, lost_at, traces_live_above, IsLiveTracee, EndsToo};
 
 use crate::Settings;
 use crate::leaf::end_leaf;
@@ -17,11 +17,11 @@ use pid_blocks::Pid;
 use proc_table::{State, Tables};
 use signals::{SigSet, Signal};
 
-/// A live process that this one traces.
-fn live_tracee(tables: &Tables, pid: Pid) -> Option<Pid>
-    ensures { MatchOption result (traces_live pid tables.now.rows ≡ false) (IsLiveTracee pid tables.now.rows) }
+/// A live process above a number that this one traces.
+fn live_tracee_above(tables: &Tables, pid: Pid, number: u32) -> Option<Pid>
+    ensures { MatchOption result (traces_live_above number pid tables.now.rows ≡ false) (IsLiveTracee pid tables.now.rows) }
 {
-    let mut after = 0;
+    let mut after = number;
     while let Some(tracee) = tables.next_tracee(pid, after) {
         if tracee.is_live() {
             return Some(tracee.pid);
@@ -31,15 +31,29 @@ fn live_tracee(tables: &Tables, pid: Pid) -> Option<Pid>
     None
 }
 
-/// The process itself or one down its tracees, which traces no live process.
-fn leaf_below(tables: &Tables, from: Pid) -> Pid
+/// A live process that this one traces, one above the number `passed` where there is one.
+fn live_tracee(tables: &Tables, pid: Pid, passed: u32) -> Option<Pid>
+    requires { IsSound tables.now.rows }
+    ensures { MatchOption result (traces_live pid tables.now.rows ≡ false) (IsLiveTracee pid tables.now.rows) }
+{
+    match live_tracee_above(tables, pid, passed) {
+        Some(tracee) => Some(tracee),
+        None => live_tracee_above(tables, pid, 0),
+    }
+}
+
+/// The process itself or one down its tracees, which traces no live process. Its own tracees up to
+/// the number `passed` are looked at last.
+fn leaf_below(tables: &Tables, from: Pid, passed: u32) -> Pid
     requires { IsSound tables.now.rows }
     ensures leaf { traces_live result tables.now.rows ≡ false }
     ensures below { (p : ℕ) → EndsToo p tables.now.rows from → EndsToo p tables.now.rows result }
 {
     let mut at = from;
-    while let Some(tracee) = live_tracee(tables, at) {
+    let mut above = passed;
+    while let Some(tracee) = live_tracee(tables, at, above) {
         at = tracee;
+        above = 0;
     }
     at
 }
@@ -63,8 +77,9 @@ fn end_with_tracees(tables: &mut Tables, pid: Pid, status: u32)
 {
     let killed = Signal::kill().number();
     let mut at = pid;
+    let mut passed = 0;
     loop {
-        let leaf = leaf_below(tables, at);
+        let leaf = leaf_below(tables, at, passed);
         if leaf == pid {
             end_leaf(tables, pid, status);
             return;
@@ -72,6 +87,7 @@ fn end_with_tracees(tables: &mut Tables, pid: Pid, status: u32)
         let tracer = tracer_of(tables, leaf);
         end_leaf(tables, leaf, killed);
         at = tracer.unwrap_or(pid);
+        passed = leaf.get();
     }
 }
 
@@ -105,7 +121,7 @@ fn leave_tracees(tables: &mut Tables, pid: Pid)
     ensures live { is_live_at pid tables.new.rows ≡ true }
     ensures leaf { traces_live pid tables.new.rows ≡ false }
 {
-    while let Some(tracee) = live_tracee(tables, pid) {
+    while let Some(tracee) = live_tracee(tables, pid, 0) {
         leave_tracee(tables, tracee);
     }
 }
