@@ -36,3 +36,5 @@ pub mod Killing
 pub mod Running
 pub mod Freed
 pub mod Posts
+pub mod Found
+pub mod Shows
