@@ -38,3 +38,11 @@ pub mod Freed
 pub mod Posts
 pub mod Found
 pub mod Shows
+pub mod ViewLists
+pub mod ViewSame
+pub mod ViewEdits
+pub mod ViewSignals
+pub mod ViewEnds
+pub mod ViewStops
+pub mod ViewRows
+pub mod ViewLaws

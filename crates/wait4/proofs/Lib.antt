@@ -5,3 +5,5 @@ pub mod Candidates
 pub mod Ended
 pub mod CollectRows
 pub mod Unnamed
+pub mod ViewReports
+pub mod ViewLaws
