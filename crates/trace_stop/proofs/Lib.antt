@@ -49,3 +49,11 @@ pub mod Orphans
 pub mod Burial
 pub mod LwpsEnd
 pub mod LeftAlone
+pub mod ViewLists
+pub mod ViewSame
+pub mod ViewEdits
+pub mod ViewSignals
+pub mod ViewEnds
+pub mod ViewStops
+pub mod ViewRows
+pub mod ViewLaws
