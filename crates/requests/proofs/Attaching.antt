@@ -1,5 +1,6 @@
 -- A process that gets a tracer, by its own request or by an attach, keeps rows sound.
 use Rattle.std.proofs.Common.{◌≡◌, ◌≢◌, ℕ, Bool, true, false, cond, ◌==◌, List, [], ◌∷◌, find, Option, Some, None, is_some, refl, sym, ap, ◌∙◌, true≢false, subst, arith, eqb-true, eq-eqb}
+use Rattle.std.specs.Option.{IsSomeAnd}
 use Rattle.std.specs.Prelude.{count_by}
 use Rattle.event_masks.specs.Exits.{default_mask}
 use Rattle.signals.specs.Table.{SIGSTOP}
@@ -10,11 +11,12 @@ use Rattle.proc_table.specs.declared.State.{State}
 use Rattle.proc_table.specs.declared.State.TheVariants.{Run, Trace, Job, Zombie}
 use Rattle.proc_table.specs.Processes.{is_live, is_run, is_run_state, is_job_state, reporting, process_of}
 use Rattle.proc_table.specs.Rows.{Rows, change_process}
+use Rattle.trace_stop.specs.Before.{Ready, FitOrReady, MayStop}
 use Rattle.trace_stop.specs.Facts.{IsLiveOf, Linked, FitProcess, FitLwp, IsSound}
 use Rattle.trace_stop.proofs.Every.{All-imply, find_some, count-cons}
 use Rattle.trace_stop.proofs.Changed.{Holds, sound_holds}
 use Rattle.trace_stop.proofs.Posting.{live_fits, live_state}
-use Rattle.trace_stop.proofs.Stops.{Ready, Readied, stop_sound}
+use Rattle.trace_stop.proofs.Stops as stops
 use Rattle.trace_stop.proofs.Linking.{Traced, linked_holds, linked_row}
 use Rattle.trace_stop.proofs.Stopping.{own_lwps}
 use Rattle.requests.specs.Outcome.{Outcome}
@@ -89,10 +91,17 @@ module _ (rows : Rows) (p : ProcData) (n : ℕ) (s : IsSound rows) (at : process
   ready : Ready tracee
   ready = record { live = live; traced = refl; quiet = none_where (reporting p) (λ is. true≢false (sym (fit.stopped is) ∙ ap is_some free)); calm = refl }
 
+  pub attached_may_stop : (l : LwpData) → lwp_of l.tid rows.lwps ≡ Some l → l.pid ≡ p.pid → MayStop p.pid l.tid (plain SIGSTOP) made
+  attached_may_stop l there own = record {
+    stands = held.stands;
+    processes = All-imply Others (FitOrReady p.pid) (λ q h. (h.0, λ same. subst Ready (sym (h.1 same)) ready)) made.processes held.processes;
+    lwps = held.lwps;
+    own = subst (λ o. IsSomeAnd o (λ (k : LwpData). k.pid ≡ p.pid)) (sym there) own;
+    exits = λ is. absurd (true≢false (sym is));
+  }
+
   stopped_sound : (l : LwpData) → lwp_of l.tid rows.lwps ≡ Some l → l.pid ≡ p.pid → IsSound (stop_first p.pid (Some l) made)
-  stopped_sound l there own = stop_sound made p.pid l.tid (plain SIGSTOP) tracee l
-      (record { stands = held.stands; processes = All-imply Others (Readied p.pid) (λ q h. (h.0, λ same. subst Ready (sym (h.1 same)) ready)) made.processes held.processes; lwps = held.lwps })
-      (record { at = linked_row rows p n default_mask s at tracer other far; there = there; own = own; exits = λ is. absurd (true≢false (sym is)) })
+  stopped_sound l there own = stops.stopped_sound made p.pid l.tid (plain SIGSTOP) tracee l (linked_row rows p n default_mask s at tracer other far) there (attached_may_stop l there own)
 
   pub attached_sound : IsSound (stop_first p.pid (first_lwp p.pid rows.lwps) made)
   attached_sound = by_first (first_lwp p.pid rows.lwps) refl

@@ -31,7 +31,7 @@ use Rattle.requests.specs.Sound.{sound}
 use Rattle.requests.specs.Step.{step}
 use Rattle.requests.proofs.Acting.{choose}
 use Rattle.requests.proofs.After.{rows_sound, after_sound}
-use Rattle.requests.proofs.Collecting.{Kept, collected_kept}
+use Rattle.wait4.proofs.CollectSound.{Kept, collected_kept}
 use Rattle.requests.proofs.Forking.{Heard, heard}
 use Rattle.requests.proofs.Masks.{Tracee, resumes_sound, continues_sound}
 use Rattle.requests.proofs.Steps.{checked_sound, rows_after_sound}

@@ -4,7 +4,6 @@ pub mod Born
 pub mod Walk
 pub mod Replies
 pub mod Hosted
-pub mod Collecting
 pub mod Steps
 pub mod Kills
 pub mod Acting

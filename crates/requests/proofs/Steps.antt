@@ -25,7 +25,7 @@ use Rattle.requests.specs.Machine.{Machine, after}
 use Rattle.requests.specs.Sound.{sound}
 use Rattle.requests.specs.Step.{step, checked, calls}
 use Rattle.requests.proofs.After.{rows_sound, after_sound, answers_same}
-use Rattle.requests.proofs.Collecting.{collect_sound}
+use Rattle.wait4.proofs.CollectSound.{collect_sound}
 
 -- each row is found by its number
 skip_rows : (p : ProcData) (ps qs : List ProcData) → AllAbove p.pid qs → AllByRecursion (λ q. process_of q.pid ps ≡ Some q) qs → AllByRecursion (λ q. process_of q.pid (p ∷ ps) ≡ Some q) qs

@@ -7,6 +7,7 @@ use Rattle.proc_table.specs.Processes.{of_user}
 use Rattle.proc_table.specs.Walks.{next_of}
 use Rattle.proc_table.specs.Kept.{AllAbove, Rise, AtHome}
 use Rattle.trace_stop.proofs.Every.{and_left}
+use Rattle.trace_stop.proofs.Changed.{found_above}
 
 -- the user's processes above a number
 abbrev pub above : ℕ → ℕ → List ProcData → List ProcData
@@ -23,14 +24,6 @@ above_first u (p ∷ ps) all = let low = all.0.block.0 in let some : ltb 0 p.pid
 above_under : (u n m : ℕ) (ps : List ProcData) → n < m → AllAbove m ps → above u n ps ≡ above u m ps
 above_under u n m [] lt all = refl
 above_under u n m (p ∷ ps) lt all = let over : ltb n p.pid ≡ true = lt-ltb n p.pid (omega (arith, lt, all.0)) in rw (over, lt-ltb m p.pid all.0, above_under u n m ps lt all.1) refl
-
-found_above : (t : ProcData → Bool) (n : ℕ) (ps : List ProcData) (p : ProcData) → AllAbove n ps → find t ps ≡ Some p → n < p.pid
-found_above t n [] p all is = absurd (grind (arith, is))
-found_above t n (q ∷ ps) p all is = by_head (t q) is (found_above t n ps p all.1)
-  where
-    by_head : (b : Bool) → cond b (Some q) (find t ps) ≡ Some p → (find t ps ≡ Some p → n < p.pid) → n < p.pid
-    by_head true h rest = let same : q ≡ p = grind (arith, h) in subst (λ r. n < r.pid) same all.0
-    by_head false h rest = rest h
 
 pub above_next : (u n : ℕ) (ps : List ProcData) (p : ProcData) → Rise ps → next_of u n ps ≡ Some p → above u n ps ≡ p ∷ above u p.pid ps
 above_next u n [] p rise is = absurd (grind (arith, is))

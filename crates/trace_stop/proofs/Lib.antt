@@ -39,3 +39,5 @@ pub mod Posts
 pub mod Linking
 pub mod Thinned
 pub mod Joining
+pub mod Found
+pub mod Shows

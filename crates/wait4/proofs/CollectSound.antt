@@ -15,7 +15,8 @@ use Rattle.trace_stop.proofs.Edited.{edited}
 use Rattle.trace_stop.proofs.Changed.{Holds, sound_holds, Change, change_holds, Lives, live_after}
 use Rattle.trace_stop.proofs.Changes.{edit_none}
 use Rattle.trace_stop.proofs.Settling.{zero_apart}
-use Rattle.trace_stop.proofs.Stopping.{the_row, MayTell, live_told, notified_sound}
+use Rattle.trace_stop.specs.Before.{MayTell}
+use Rattle.trace_stop.proofs.Stopping.{the_row, live_told, notified_sound}
 use Rattle.wait4.specs.Collect.{stays, collected_in, collected, told, collect_one}
 
 -- What the collected row keeps
