@@ -1,5 +1,5 @@
 -- An LWP at its turn, in sound rows, and changes of it and of its process.
-use Rattle.std.proofs.Common.{◌≡◌, ℕ, ◌≤◌, Bool, true, false, ◌==◌, ◌&&◌, not, if◌then◌else◌, Option, Some, None, IfSome, is_some, refl, sym, ap, ◌∙◌, true≢false, subst, eqb, eq-eqb}
+use Rattle.std.proofs.Common.{◌≡◌, ℕ, ◌≤◌, true, false, ◌==◌, ◌&&◌, not, if◌then◌else◌, Option, Some, None, IfSome, is_some, refl, sym, ap, ◌∙◌, true≢false, subst, eqb, eq-eqb}
 use Rattle.std.specs.Option.{IsSomeAnd}
 use Rattle.event_masks.specs.Exits.{shows}
 use Rattle.event_masks.specs.declared.TheConstants.StopFlags.{PL_FLAG_EXITED}
@@ -14,7 +14,7 @@ use Rattle.trace_stop.specs.declared.Shown.{Shown}
 use Rattle.trace_stop.specs.Stop.{stop}
 use Rattle.trace_stop.specs.Before.{MayStop}
 use Rattle.trace_stop.specs.Facts.{Linked, FitProcess, Standing, FitLwp, WithOwner, IsSound}
-use Rattle.trace_stop.proofs.Every.{find_some}
+use Rattle.trace_stop.proofs.Every.{find_some, choose}
 use Rattle.trace_stop.proofs.Edited.{find_edit}
 use Rattle.trace_stop.proofs.Changed.{found_number}
 use Rattle.trace_stop.proofs.Single.{OneProcess, process_sound, OneLwp, lwp_sound}
@@ -22,10 +22,6 @@ use Rattle.trace_stop.proofs.Stopping.{own_lwps}
 use Rattle.trace_stop.proofs.Stops.{run_quiet, may_stop, stopped_sound}
 use Rattle.requests.specs.declared.Reply.{Reply}
 use Rattle.requests.specs.Outcome.{stops_or}
-
-pub choose : {X : Type 0} (b : Bool) (x y : X) (R : X → Type 0) → (b ≡ true → R x) → (b ≡ false → R y) → R (if b then x else y)
-choose true x y R h k = h refl
-choose false x y R h k = k refl
 
 -- a process that isn't untraced is traced
 pub traced_where : {X : Type 0} (o : Option X) → (o ≡ None → ⊥) → is_some o ≡ true

@@ -13,7 +13,7 @@ use Rattle.proc_table.specs.Processes.{is_live, is_run, is_run_state, is_job_sta
 use Rattle.proc_table.specs.Rows.{Rows, change_process}
 use Rattle.trace_stop.specs.Before.{Ready, FitOrReady, MayStop}
 use Rattle.trace_stop.specs.Facts.{IsLiveOf, Linked, FitProcess, FitLwp, IsSound}
-use Rattle.trace_stop.proofs.Every.{All-imply, find_some, count-cons}
+use Rattle.trace_stop.proofs.Every.{All-imply, find_some, count-cons, choose, not_some}
 use Rattle.trace_stop.proofs.Changed.{Holds, sound_holds}
 use Rattle.trace_stop.proofs.Posting.{live_fits, live_state}
 use Rattle.trace_stop.proofs.Stops as stops
@@ -22,15 +22,10 @@ use Rattle.trace_stop.proofs.Stopping.{own_lwps}
 use Rattle.requests.specs.Outcome.{Outcome}
 use Rattle.requests.specs.Turn.{plain}
 use Rattle.requests.specs.Ptrace.{closes_chain, traced_by, trace_me, stop_first, attach}
-use Rattle.requests.proofs.Acting.{choose}
 
 none_where : {X : Type 0} (o : Option X) → (is_some o ≡ true → ⊥) → o ≡ None
 none_where None h = refl
 none_where (Some x) h = absurd (h refl)
-
-pub none_is : {X : Type 0} (o : Option X) → is_some o ≡ false → o ≡ None
-none_is None is = refl
-none_is (Some x) is = absurd (true≢false is)
 
 none_counted : {X : Type 0} (t : X → Bool) (xs : List X) → find t xs ≡ None → count_by t xs ≡ 0
 none_counted t [] is = refl
@@ -121,11 +116,11 @@ trace_me_sound rows p s at live run =
     choose (is_some p.tracer) _ _ (λ (o : Outcome). IsSound o.rows) (λ e. s) (λ untraced.
     choose (p.parent == 1) _ _ (λ (o : Outcome). IsSound o.rows) (λ e. s) (λ has.
     choose (closes_chain p.pid p.parent rows) _ _ (λ (o : Outcome). IsSound o.rows) (λ e. s) (λ far.
-    run_traced_sound rows p p.parent s at live (none_is p.tracer untraced) (link.parent (λ one. true≢false (sym (eq-eqb p.parent 1 one) ∙ has))) link.other far run)))
+    run_traced_sound rows p p.parent s at live (not_some p.tracer untraced) (link.parent (λ one. true≢false (sym (eq-eqb p.parent 1 one) ∙ has))) link.other far run)))
 
 pub attach_sound : (rows : Rows) (caller p : ProcData) → IsSound rows → process_of p.pid rows.processes ≡ Some p → is_live p ≡ true → IsLiveOf rows p.uid caller.pid → IsSound (attach caller p rows).rows
 attach_sound rows caller p s at live tracer =
     choose (p.pid == caller.pid) _ _ (λ (o : Outcome). IsSound o.rows) (λ e. s) (λ differs.
     choose (is_some p.tracer) _ _ (λ (o : Outcome). IsSound o.rows) (λ e. s) (λ untraced.
     choose (closes_chain p.pid caller.pid rows) _ _ (λ (o : Outcome). IsSound o.rows) (λ e. s) (λ far.
-    attached_sound rows p caller.pid s at live (none_is p.tracer untraced) tracer (λ same. true≢false (sym (eq-eqb p.pid caller.pid (sym same)) ∙ differs)) far)))
+    attached_sound rows p caller.pid s at live (not_some p.tracer untraced) tracer (λ same. true≢false (sym (eq-eqb p.pid caller.pid (sym same)) ∙ differs)) far)))

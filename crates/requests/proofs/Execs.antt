@@ -16,12 +16,12 @@ use Rattle.trace_stop.specs.Post.{settled_process, settled_lwp, settle}
 use Rattle.trace_stop.specs.End.{waits_where, released}
 use Rattle.trace_stop.specs.Sound.{is_due}
 use Rattle.trace_stop.specs.Facts.{IsLiveChild, waited_for, FitLwp, IsSound}
-use Rattle.trace_stop.proofs.Every.{count-cons}
+use Rattle.trace_stop.proofs.Every.{count-cons, choose}
 use Rattle.trace_stop.proofs.Edited.{If_more, some_is, find_edit}
 use Rattle.trace_stop.proofs.Changed.{found_number}
 use Rattle.trace_stop.proofs.Settling.{disposed_sound}
 use Rattle.requests.specs.Leave.{exec_rows}
-use Rattle.requests.proofs.Acting.{choose, Acting, owner_is, its_live}
+use Rattle.requests.proofs.Acting.{Acting, owner_is, its_live}
 use Rattle.requests.proofs.Masks.{changed_process, changed_lwp}
 use Rattle.requests.proofs.Signals.{Alike}
 use Rattle.requests.proofs.Lwps.{Thins, thins_sound}

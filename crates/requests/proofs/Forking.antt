@@ -20,7 +20,7 @@ use Rattle.trace_stop.specs.Stop.{tracers, stop}
 use Rattle.trace_stop.specs.declared.Shown.{Shown}
 use Rattle.trace_stop.specs.Before.{MayStop}
 use Rattle.trace_stop.specs.Facts.{IsLiveOf, IsLiveChild, FitProcess, IsSound}
-use Rattle.trace_stop.proofs.Every.{and_left, both, by_bool}
+use Rattle.trace_stop.proofs.Every.{and_left, both, by_bool, choose}
 use Rattle.trace_stop.proofs.Edited.{find_edit}
 use Rattle.trace_stop.proofs.Children.{child_test, child_passes}
 use Rattle.trace_stop.proofs.Placed.{process_of-other, process_of-placed}
@@ -29,7 +29,7 @@ use Rattle.trace_stop.proofs.Posting.{posted_same, posted_live}
 use Rattle.trace_stop.proofs.Settling.{zero_apart}
 use Rattle.trace_stop.proofs.Stops.{find_passes, sound_ready, stopped_sound}
 use Rattle.requests.specs.Leave.{Numbers, forked, child_stop, with_child}
-use Rattle.requests.proofs.Acting.{choose, Acting, its_live, its_link, lwp_fit}
+use Rattle.requests.proofs.Acting.{Acting, its_live, its_link, lwp_fit}
 use Rattle.requests.proofs.Masks.{changed_process, changed_lwp}
 use Rattle.requests.proofs.Signals.{Alike}
 use Rattle.requests.proofs.Lwps.{find_more, its_user}

@@ -1,6 +1,9 @@
 //! Laws of steps: what a host always keeps.
 
-ghost use Rattle.requests.specs.Laws.{SoundKept, SoundAtFirst, SoundRuns};
+ghost use Rattle.std.specs.Prelude.{◌≡◌, true};
+ghost use Rattle.requests.specs.Laws.{SoundKept, SoundAtFirst, SoundRuns, step_fits};
+
+use crate::PlainStep;
 
 /// Every step of every user keeps a host sound.
 pub fn stays_sound()
@@ -11,4 +14,9 @@ pub fn stays_sound()
 pub fn runs_stay_sound()
     ensures first { SoundAtFirst }
     ensures runs { SoundRuns }
+{}
+
+/// An exit status is a byte, as its type says.
+pub fn fits(step: PlainStep)
+    ensures { step_fits step ≡ true }
 {}
