@@ -41,3 +41,4 @@ pub mod Thinned
 pub mod Joining
 pub mod Found
 pub mod Shows
+pub mod Steps
