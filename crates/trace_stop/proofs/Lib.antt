@@ -41,4 +41,14 @@ pub mod Thinned
 pub mod Joining
 pub mod Found
 pub mod Shows
+pub mod Descents
+pub mod LwpEdits
+pub mod Leaving
+pub mod LeafSteps
+pub mod LeafTells
+pub mod Unnamed
+pub mod Orphans
+pub mod Burial
+pub mod LwpsEnd
+pub mod LeftAlone
 pub mod Steps

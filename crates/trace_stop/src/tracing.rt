@@ -15,9 +15,9 @@ ghost use Rattle.trace_stop.specs.Laws.{is_live_at};
 ghost use Rattle.trace_stop.specs.Reports.{IsStopped, reporter, report_dropped, unreported};
 ghost use Rattle.trace_stop.specs.Stop.{stop, ends_process};
 
+use crate::Shown;
 use crate::edits::{Edit, edit_lwps};
 use crate::signaling::notify;
-use crate::Shown;
 use event_masks::{EventMask, StopFlags};
 use lwp_table::LwpData;
 use pid_blocks::{Pid, Tid};
