@@ -14,17 +14,13 @@ use Rattle.trace_stop.specs.End.{end}
 use Rattle.trace_stop.specs.Stop.{post, ends_process, resume, detach}
 use Rattle.trace_stop.specs.Sound.{is_end}
 use Rattle.trace_stop.specs.Facts.{Linked, FitProcess, IsSound}
-use Rattle.trace_stop.proofs.Every.{and_left, and_right, both, by_bool, not_true, All-imply, All-both, find_some}
+use Rattle.trace_stop.proofs.Every.{and_left, and_right, both, by_bool, not_true, All-imply, All-both, find_some, choose}
 use Rattle.trace_stop.proofs.Edited.{owner_after}
 use Rattle.trace_stop.proofs.Changed.{sound_holds, found_number}
 use Rattle.trace_stop.proofs.Posting.{LiveFit, post_chosen, posted_same}
 use Rattle.trace_stop.specs.Before.{MayTell}
 use Rattle.trace_stop.proofs.Stopping.{the_row, live_told, notified_sound}
 use Rattle.trace_stop.proofs.Freed.{resumed_sound, resumed_row, detached_sound, end_sound}
-
-choose : {X : Type 0} (b : Bool) (x y : X) (R : X → Type 0) → (b ≡ true → R x) → (b ≡ false → R y) → R (if b then x else y)
-choose true x y R h k = h refl
-choose false x y R h k = k refl
 
 -- a signal that ends a process is the word of an end
 or_last : (a b : Bool) → not (a || b) ≡ true → b ≡ false

@@ -95,5 +95,8 @@ module _ (rows : Rows) (pid : ℕ) (p : ProcData) (dispose : ProcData → Action
         rest_lwp = λ q l fact own is. (λ ne. own, λ same. absurd (other q.pid pid is same));
       })
 
+  pub disposed_but_pending : IsSoundButPending pid (change_process pid to rows)
+  disposed_but_pending = subst (IsSoundButPending pid) (process_alone pid to rows) (record { stands = loose.stands; processes = loose.processes; lwps = loose.lwps })
+
   pub disposed_sound : IsSound (settle pid (change_process pid to rows))
-  disposed_sound = subst (λ r. IsSound (settle pid r)) (process_alone pid to rows) (settle_sound (change (is_numbered pid) to (λ q l. l) rows) pid (record { stands = loose.stands; processes = loose.processes; lwps = loose.lwps }))
+  disposed_sound = settle_sound (change_process pid to rows) pid disposed_but_pending

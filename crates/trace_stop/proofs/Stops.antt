@@ -17,7 +17,7 @@ use Rattle.trace_stop.specs.Stop.{tracers, stop}
 use Rattle.trace_stop.specs.declared.Shown.{Shown}
 use Rattle.trace_stop.specs.Sound.{names_own}
 use Rattle.trace_stop.specs.Facts.{IsLiveOf, IsLiveChild, Linked, FitProcess, waited_for, Standing, FitLwp, WithOwner, IsSound}
-use Rattle.trace_stop.proofs.Every.{by_bool, both, All-imply, All-both, All-any, find_some}
+use Rattle.trace_stop.proofs.Every.{by_bool, both, All-imply, All-both, All-any, find_some, choose}
 use Rattle.trace_stop.proofs.Edited.{edited, some_is}
 use Rattle.trace_stop.proofs.Changed.{Holds, sound_holds, found_number, Change, change_holds, live_after}
 use Rattle.trace_stop.specs.Before.{MayTell, Ready, FitOrReady, MayStop}
@@ -85,10 +85,6 @@ module _ (rows : Rows) (pid tid : ℕ) (shown : Shown) (p : ProcData) (l : LwpDa
 
   abbrev Known : ProcData → LwpData → Type 0
   Known q k = FitLwp q k × (k.tid ≡ tid → k ≡ l)
-
-  choose : {X : Type 0} (b : Bool) (x y : X) (R : X → Type 0) → (b ≡ true → R x) → (b ≡ false → R y) → R (if b then x else y)
-  choose true x y R h k = h refl
-  choose false x y R h k = k refl
 
   other : (q : ProcData) → (q.pid == pid) ≡ false → q.pid ≢ pid
   other q e same = true≢false (sym (eq-eqb q.pid pid same) ∙ e)
