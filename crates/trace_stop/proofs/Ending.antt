@@ -16,14 +16,15 @@ use Rattle.proc_table.specs.declared.State.TheVariants.{Run, Trace, Job, Zombie}
 use Rattle.proc_table.specs.Processes.{is_live, is_zombie_state, is_job_state, is_run_state, reporting, named_by, process_of}
 use Rattle.proc_table.specs.Rows.{Rows, owner, by_owner}
 use Rattle.proc_table.specs.Fresh.{lwp_count}
-use Rattle.proc_table.specs.Kept.{Rise, AllAbove}
+use Rattle.proc_table.specs.Kept.{Rise, AllAbove, AtHome}
 use Rattle.trace_stop.specs.Post.{unwanted}
 use Rattle.trace_stop.specs.End.{holds_of, unless, orphaned, dead, uncollected, process_after, waits_where, released, lwp_after, collector, told_of, end_each, tracer_in, tracer_of, meets}
 use Rattle.trace_stop.specs.Sound.{is_end, names_own, is_due}
-use Rattle.trace_stop.specs.Facts.{IsLiveOf, Linked, Ended, IfEnded, FitProcess, waited_for, Standing, FitLwp, WithOwner, IsSound}
-use Rattle.trace_stop.proofs.Every.{and_left, and_right, both, by_bool, All-imply, All-both, All-edit, All-any, find_some, count-cons}
+use Rattle.trace_stop.specs.Facts.{IsLiveOf, IsLiveChild, Linked, Ended, IfEnded, FitProcess, waited_for, Standing, FitLwp, WithOwner, IsSound}
+use Rattle.trace_stop.proofs.Every.{and_left, and_right, both, by_bool, All-imply, All-both, All-edit, All-any, find_some, any_forward, count-cons}
+use Rattle.trace_stop.proofs.Children.{child_after}
 use Rattle.trace_stop.proofs.Edited.{edited, Same, If_more, some_is, if_at, owners_after, edited_stands}
-use Rattle.trace_stop.proofs.Changed.{no_ring, process_from, any_forward}
+use Rattle.trace_stop.proofs.Changed.{no_ring, process_from}
 use Rattle.trace_stop.proofs.Posting.{live_fits, live_state}
 use Rattle.trace_stop.proofs.Settling.{zero_apart}
 use Rattle.trace_stop.proofs.Stopping.{MayTell, live_told, notified_sound}
@@ -148,6 +149,12 @@ module _ (rows : Rows) (ends : ProcData → Bool) (over : ℕ → Bool) (p statu
       let stays : ends q ≡ false = sym end.same ∙ (ap over (eqb-true q.pid n here) ∙ spared) in
       (heir q, lives_on q stays (and_right ((q.pid == n) && (q.uid == u)) (is_live q) e), e)) rows.processes all is
 
+  -- so do its children that don't end, as its children
+  child_on : (q : ProcData) (n : ℕ) → over q.pid ≡ false → over n ≡ false → IsLiveChild rows q n → IsLiveChild after q n
+  child_on q n own spared = child_after q q n to (Ends rows ends over) refl refl (λ k end child.
+      let stays : ends k ≡ false = sym end.same ∙ (ap over child.pid ∙ spared) in
+      (heir k, lives_on k stays child.live, record { pid = refl; uid = refl; live = child.live; parent = ap (λ (b : Bool). if b then 1 else k.parent) (ap over child.parent ∙ own) })) rows.processes all
+
   -- the LWPs of one that lives on
   own_lwp : (q : ProcData) (l : LwpData) → Fact rows ends over q → ends q ≡ false → l.pid ≡ q.pid → to_lwp l ≡ Some (released over q l)
   own_lwp q l fact e own = ap (by_owner (lwp_after ends over) l) (ap (λ n. process_of n rows.processes) own ∙ fact.at) ∙ rw e refl
@@ -184,6 +191,13 @@ module _ (rows : Rows) (ends : ProcData → Bool) (over : ℕ → Bool) (p statu
       by_over true e ne = absurd (ne refl)
       by_over false e ne = live_on u n e (live ne)
 
+  other_left : (q : ProcData) → Fact rows ends over q → (if over q.parent then 1 else q.parent) ≢ q.pid
+  other_left q fact = by_over (over q.parent)
+    where
+      by_over : (b : Bool) → (if b then 1 else q.parent) ≢ q.pid
+      by_over true same = let home = (find_some (λ r. r.pid == q.pid) AtHome rows.processes s.stands.homes q fact.at).0 in let low = home.block.0 in let user = home.user.0 in absurd (omega (arith, same))
+      by_over false same = fact.link.other same
+
   tracer_sub : (q : ProcData) (t : ℕ) → IfSome (to q) (λ r. r.tracer ≡ Some t → q.tracer ≡ Some t)
   tracer_sub q t = by_case R q (λ e. if_left (dead (last q) (orphaned over q)) R tt (λ left is. (unless_at q.tracer t is).0)) (λ e live is. is) (λ e zombie. if_left (orphaned over q) R tt (λ left is. (unless_at q.tracer t is).0))
     where
@@ -216,6 +230,7 @@ module _ (rows : Rows) (ends : ProcData → Bool) (over : ℕ → Bool) (p statu
       (λ e. if_left (dead (last q) (orphaned over q)) (λ o. IfSome o (Linked after)) tt (λ left. record {
         tracer = tracer_left q.uid q.tracer fact.link.tracer;
         parent = parent_left q.uid q.parent fact.link.parent;
+        other = other_left q fact;
         chain = chain q fact;
         named = tt;
         peopled = λ live. absurd (true≢false (sym live));
@@ -223,6 +238,7 @@ module _ (rows : Rows) (ends : ProcData → Bool) (over : ℕ → Bool) (p statu
       (λ e live. record {
         tracer = still q.tracer fact.link.tracer (fact.end.kept live e);
         parent = parent_left q.uid q.parent fact.link.parent;
+        other = other_left q fact;
         chain = chain q fact;
         named = If_more (λ tid. names_own rows q tid ≡ true) (λ tid. names_own after q tid ≡ true) (λ tid. named_on q tid fact e) (reporting q) fact.link.named;
         peopled = λ again. let some = fact.link.peopled live in let more = count_on q fact e in omega (arith, some, more);
@@ -230,6 +246,7 @@ module _ (rows : Rows) (ends : ProcData → Bool) (over : ℕ → Bool) (p statu
       (λ e zombie. if_left (orphaned over q) (λ o. IfSome o (Linked after)) tt (λ left. record {
         tracer = tracer_left q.uid q.tracer fact.link.tracer;
         parent = parent_left q.uid q.parent fact.link.parent;
+        other = other_left q fact;
         chain = chain q fact;
         named = subst (λ o. IfSome o (λ tid. names_own after q tid ≡ true)) (sym (zombie_quiet q zombie)) tt;
         peopled = λ live. absurd (true≢false (sym live ∙ zombie));
@@ -292,7 +309,7 @@ module _ (rows : Rows) (ends : ProcData → Bool) (over : ℕ → Bool) (p statu
   released_fits q l fit = by_wait (waits_where over l.mode)
     where
       by_wait : (b : Bool) → FitLwp (heir q) (if b then record l { mode = User; due = if is_some q.tracer && asks q.mask PTRACE_VFORK then VforkDone else l.due } else l)
-      by_wait false = record { untraced = λ none. let was = fit.untraced none in record { due = was.due; stepping = was.stepping; suspended = was.suspended; pending = was.pending }; silent = fit.silent; blocked = fit.blocked }
+      by_wait false = record { untraced = λ none. let was = fit.untraced none in record { due = was.due; stepping = was.stepping; suspended = was.suspended; pending = was.pending }; silent = fit.silent; blocked = fit.blocked; mode = fit.mode }
       by_wait true = record {
         untraced = λ none. let was = fit.untraced none in record {
           due = subst (λ o. is_due (if is_some o && asks q.mask PTRACE_VFORK then VforkDone else l.due) ≡ false) (sym none) was.due;
@@ -302,6 +319,7 @@ module _ (rows : Rows) (ends : ProcData → Bool) (over : ℕ → Bool) (p statu
         };
         silent = λ off. let was = fit.silent off in record { flags = was.flags; child = was.child; code = was.code };
         blocked = fit.blocked;
+        mode = refl;
       }
 
   released_flags : (q : ProcData) (l : LwpData) → (released over q l).flags ≡ l.flags
@@ -311,17 +329,17 @@ module _ (rows : Rows) (ends : ProcData → Bool) (over : ℕ → Bool) (p statu
       by_wait true = refl
       by_wait false = refl
 
-  released_waits : (q : ProcData) (l : LwpData) → IfSome (waited_for l.mode) (IsLiveOf rows q.uid) → IfSome (waited_for (released over q l).mode) (IsLiveOf after q.uid)
-  released_waits q l live = by_mode l.mode refl live
+  released_waits : (q : ProcData) (l : LwpData) → over q.pid ≡ false → IfSome (waited_for l.mode) (IsLiveChild rows q) → IfSome (waited_for (released over q l).mode) (IsLiveChild after q)
+  released_waits q l own child = by_mode l.mode refl child
     where
-      by_over : (c : ℕ) → l.mode ≡ VforkWait c → IsLiveOf rows q.uid c → (b : Bool) → over c ≡ b → IfSome (waited_for (if b then record l { mode = User; due = if is_some q.tracer && asks q.mask PTRACE_VFORK then VforkDone else l.due } else l).mode) (IsLiveOf after q.uid)
+      by_over : (c : ℕ) → l.mode ≡ VforkWait c → IsLiveChild rows q c → (b : Bool) → over c ≡ b → IfSome (waited_for (if b then record l { mode = User; due = if is_some q.tracer && asks q.mask PTRACE_VFORK then VforkDone else l.due } else l).mode) (IsLiveChild after q)
       by_over c is h true e = tt
-      by_over c is h false e = subst (λ m. IfSome (waited_for m) (IsLiveOf after q.uid)) (sym is) (live_on q.uid c e h)
+      by_over c is h false e = subst (λ m. IfSome (waited_for m) (IsLiveChild after q)) (sym is) (child_on q c own e h)
 
-      by_mode : (m : Mode) → l.mode ≡ m → IfSome (waited_for m) (IsLiveOf rows q.uid) → IfSome (waited_for (if waits_where over l.mode then record l { mode = User; due = if is_some q.tracer && asks q.mask PTRACE_VFORK then VforkDone else l.due } else l).mode) (IsLiveOf after q.uid)
+      by_mode : (m : Mode) → l.mode ≡ m → IfSome (waited_for m) (IsLiveChild rows q) → IfSome (waited_for (if waits_where over l.mode then record l { mode = User; due = if is_some q.tracer && asks q.mask PTRACE_VFORK then VforkDone else l.due } else l).mode) (IsLiveChild after q)
       by_mode User is h = rw is tt
       by_mode (InCall call) is h = rw is tt
-      by_mode (VforkWait c) is h = subst (λ b. IfSome (waited_for (if b then record l { mode = User; due = if is_some q.tracer && asks q.mask PTRACE_VFORK then VforkDone else l.due } else l).mode) (IsLiveOf after q.uid)) (sym (ap (waits_where over) is)) (by_over c is h (over c) refl)
+      by_mode (VforkWait c) is h = subst (λ b. IfSome (waited_for (if b then record l { mode = User; due = if is_some q.tracer && asks q.mask PTRACE_VFORK then VforkDone else l.due } else l).mode) (IsLiveChild after q)) (sym (ap (waits_where over) is)) (by_over c is h (over c) refl)
 
   abbrev Beside : LwpData → Type 0
   Beside l = WithOwner rows FitLwp l × WithOwner rows (Standing rows) l
@@ -370,7 +388,7 @@ module _ (rows : Rows) (ends : ProcData → Bool) (over : ℕ → Bool) (p statu
       subst (λ j. Standing after r j) x.lwp (subst (λ z. Standing after z (released over q l)) x.row (record {
         live = stood.live;
         exited = λ shown. let few = stood.exited (subst (λ f. shows f PL_FLAG_EXITED ≡ true) (released_flags q l) shown) in let more = count_on q fact x.stays in omega (arith, few, more);
-        waits = released_waits q l stood.waits;
+        waits = released_waits q l (fact.end.same ∙ x.stays) stood.waits;
       }))
 
   fit_lwp_row : (l k : LwpData) (q r : ProcData) → Beside l → process_of l.pid rows.processes ≡ Some q → to q ≡ Some r → to_lwp l ≡ Some k → FitLwp r k

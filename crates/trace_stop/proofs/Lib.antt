@@ -1,4 +1,5 @@
 pub mod Every
+pub mod Children
 pub mod FromSound
 pub mod Placed
 pub mod Born
@@ -35,3 +36,6 @@ pub mod Killing
 pub mod Running
 pub mod Freed
 pub mod Posts
+pub mod Linking
+pub mod Thinned
+pub mod Joining

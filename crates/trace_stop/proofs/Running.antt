@@ -13,15 +13,16 @@ use Rattle.proc_table.specs.Fresh.{lwp_count}
 use Rattle.trace_stop.specs.End.{tracer_in, tracer_of, meets}
 use Rattle.trace_stop.specs.Free.{reported, run_on}
 use Rattle.trace_stop.specs.Sound.{names_own}
-use Rattle.trace_stop.specs.Facts.{IsLiveOf, Linked, FitProcess, waited_for, Standing, FitLwp, Silent, WithOwner, IsSound}
-use Rattle.trace_stop.proofs.Every.{and_left, and_right, both, by_bool, All-imply, All-both, All-edit, All-any, find_some, any_holds, none_of, count-cons}
+use Rattle.trace_stop.specs.Facts.{IsLiveOf, IsLiveChild, Linked, FitProcess, waited_for, Standing, FitLwp, Silent, WithOwner, IsSound}
+use Rattle.trace_stop.proofs.Every.{and_left, and_right, both, by_bool, All-imply, All-both, All-edit, All-any, find_some, any_holds, none_of, any_forward, count-cons}
+use Rattle.trace_stop.proofs.Children.{Follows, child_after}
 use Rattle.trace_stop.proofs.Edited.{Same, edited, If_more, some_is, owners_after, edited_stands}
-use Rattle.trace_stop.proofs.Changed.{no_ring, process_from, any_forward}
+use Rattle.trace_stop.proofs.Changed.{no_ring, process_from}
 use Rattle.trace_stop.proofs.Ending.{own_rows}
 
 -- Counts where at most one is gone
 
-count_kept : {X : Type 0} (t r : X → Bool) (h : X → Option X) (R : X → Type 0) → ((x : X) → R x → t x ≡ true → (y : X) × (h x ≡ Some y) × (r y ≡ true)) → (xs : List X) → AllByRecursion R xs → count_by t xs ≤ count_by r (filter_map h xs)
+pub count_kept : {X : Type 0} (t r : X → Bool) (h : X → Option X) (R : X → Type 0) → ((x : X) → R x → t x ≡ true → (y : X) × (h x ≡ Some y) × (r y ≡ true)) → (xs : List X) → AllByRecursion R xs → count_by t xs ≤ count_by r (filter_map h xs)
 count_kept t r h R keep [] all = omega arith
 count_kept {X} t r h R keep (x ∷ xs) all = by_head (t x) refl (count_kept t r h R keep xs all.1)
   where
@@ -165,6 +166,15 @@ module _ (rows : Rows) (chosen : ProcData → Bool) (f : ProcData → ProcData) 
         both (((f p).pid == n) && ((f p).uid == u)) (is_live (f p)) (both ((f p).pid == n) ((f p).uid == u) (ap (λ m. m == n) (shape.pid p) ∙ and_left (p.pid == n) (p.uid == u) here) (ap (λ m. m == u) (shape.uid p) ∙ and_right (p.pid == n) (p.uid == u) here)) (shape.lives p)) (λ c. e),
   )) rows.processes (All-any (λ p. Unit {0}) (λ p. tt) rows.processes) is
 
+  child_lives_on : (p q : ProcData) → q.pid ≡ p.pid → q.uid ≡ p.uid → (n : ℕ) → IsLiveChild rows p n → IsLiveChild after q n
+  child_lives_on p q same_pid same_uid n is = child_after p q n to (λ k. Unit {0}) same_pid same_uid (λ k u child. (
+    if chosen k then f k else k,
+    refl,
+    choose (chosen k) (f k) k (Follows k)
+        (λ c. record { pid = shape.pid k; uid = shape.uid k; live = shape.lives k; parent = shape.parent k })
+        (λ c. record { pid = refl; uid = refl; live = child.live; parent = refl }),
+  )) rows.processes (All-any (λ k. Unit {0}) (λ k. tt) rows.processes) is
+
   tracer_before : (n t : ℕ) → tracer_of after.processes n ≡ Some t → tracer_of rows.processes n ≡ Some t
   tracer_before n t is = at_row (process_of n after.processes) refl is
     where
@@ -235,6 +245,7 @@ module _ (rows : Rows) (chosen : ProcData → Bool) (f : ProcData → ProcData) 
       (λ c. record {
         tracer = subst (λ u. IfSome (f p).tracer (IsLiveOf after u)) (sym (shape.uid p)) (by_tracer (shape.tracer p));
         parent = λ ne. subst (λ u. IsLiveOf after u (f p).parent) (sym (shape.uid p)) (subst (IsLiveOf after p.uid) (sym (shape.parent p)) (live_after p.uid p.parent (fact.link.parent (λ one. ne (shape.parent p ∙ one)))));
+        other = λ self. fact.link.other (sym (shape.parent p) ∙ (self ∙ shape.pid p));
         chain = subst (λ n. meets 250 after.processes n n ≡ false) (sym (shape.pid p)) (chain p fact);
         named = subst (λ o. IfSome o (λ tid. names_own after (f p) tid ≡ true)) (sym (shape.quiet p)) tt;
         peopled = λ live. subst (λ n. 1 ≤ lwp_count n after) (sym (shape.pid p)) (peopled p fact c);
@@ -242,6 +253,7 @@ module _ (rows : Rows) (chosen : ProcData → Bool) (f : ProcData → ProcData) 
       (λ c. record {
         tracer = If_more (IsLiveOf rows p.uid) (IsLiveOf after p.uid) (live_after p.uid) p.tracer fact.link.tracer;
         parent = λ ne. live_after p.uid p.parent (fact.link.parent ne);
+        other = fact.link.other;
         chain = chain p fact;
         named = If_more (λ tid. names_own rows p tid ≡ true) (λ tid. names_own after p tid ≡ true) (λ tid. names_other p tid fact c) (reporting p) fact.link.named;
         peopled = λ live. let some = fact.link.peopled live in let more = count_other p fact c in omega (arith, some, more);
@@ -270,7 +282,7 @@ module _ (rows : Rows) (chosen : ProcData → Bool) (f : ProcData → ProcData) 
   silent_shows l silent = subst (λ n. (bit_and n PL_FLAG_EXITED.0 == PL_FLAG_EXITED.0) ≡ false) (sym silent.flags) refl
 
   cleared_fits : (p : ProcData) (l : LwpData) → FitLwp p l → FitLwp p (cleared l)
-  cleared_fits p l fit = record { untraced = λ none. let was = fit.untraced none in record { due = was.due; stepping = was.stepping; suspended = was.suspended; pending = was.pending }; silent = λ off. record { flags = refl; child = refl; code = refl }; blocked = fit.blocked }
+  cleared_fits p l fit = record { untraced = λ none. let was = fit.untraced none in record { due = was.due; stepping = was.stepping; suspended = was.suspended; pending = was.pending }; silent = λ off. record { flags = refl; child = refl; code = refl }; blocked = fit.blocked; mode = fit.mode }
 
   -- what holds of an LWP that is left beside its process: for one that lives on as it was, and for a silent one that runs on
   left_row : (R : ProcData → LwpData → Type 0) (l k : LwpData) (p q : ProcData) → process_of l.pid rows.processes ≡ Some p → FitLwp p l
@@ -292,12 +304,12 @@ module _ (rows : Rows) (chosen : ProcData → Bool) (f : ProcData → ProcData) 
       (λ c. record {
         live = stood.live;
         exited = λ shown. let few = stood.exited shown in let more = count_other p fact c in omega (arith, few, more);
-        waits = If_more (IsLiveOf rows p.uid) (IsLiveOf after p.uid) (live_after p.uid) (waited_for l.mode) stood.waits;
+        waits = If_more (IsLiveChild rows p) (IsLiveChild after p) (child_lives_on p p refl refl) (waited_for l.mode) stood.waits;
       })
       (λ c j silent fit mode. record {
         live = shape.lives p;
         exited = λ shown. absurd (true≢false (sym (subst (λ x. shows x PL_FLAG_EXITED ≡ true) (shape.flags p j) shown) ∙ silent_shows j silent));
-        waits = subst (λ u. IfSome (waited_for (g p j).mode) (IsLiveOf after u)) (sym (shape.uid p)) (subst (λ m. IfSome (waited_for m) (IsLiveOf after p.uid)) (sym (shape.mode p j ∙ mode)) (If_more (IsLiveOf rows p.uid) (IsLiveOf after p.uid) (live_after p.uid) (waited_for l.mode) stood.waits));
+        waits = subst (λ m. IfSome (waited_for m) (IsLiveChild after (f p))) (sym (shape.mode p j ∙ mode)) (If_more (IsLiveChild rows p) (IsLiveChild after (f p)) (child_lives_on p (f p) (shape.pid p) (shape.uid p)) (waited_for l.mode) stood.waits);
       }) is to_k
 
   fit_row : (l k : LwpData) (p q : ProcData) → Beside l → process_of l.pid rows.processes ≡ Some p → to p ≡ Some q → to_lwp l ≡ Some k → FitLwp q k

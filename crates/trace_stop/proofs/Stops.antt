@@ -15,7 +15,7 @@ use Rattle.trace_stop.specs.End.{tracer_in, tracer_of}
 use Rattle.trace_stop.specs.Stop.{tracers, stop}
 use Rattle.trace_stop.specs.declared.Shown.{Shown}
 use Rattle.trace_stop.specs.Sound.{names_own}
-use Rattle.trace_stop.specs.Facts.{IsLiveOf, Linked, FitProcess, waited_for, Standing, FitLwp, WithOwner, IsSound}
+use Rattle.trace_stop.specs.Facts.{IsLiveOf, IsLiveChild, Linked, FitProcess, waited_for, Standing, FitLwp, WithOwner, IsSound}
 use Rattle.trace_stop.proofs.Every.{by_bool, both, All-imply, All-both, All-any, find_some}
 use Rattle.trace_stop.proofs.Edited.{edited, some_is}
 use Rattle.trace_stop.proofs.Changed.{Holds, sound_holds, found_number, Change, change_holds, live_after}
@@ -31,7 +31,7 @@ pub record Ready (p : ProcData) : Type 0 where
 abbrev pub Readied : ℕ → ProcData → Type 0
 Readied pid p = (p.pid ≢ pid → FitProcess p) × (p.pid ≡ pid → Ready p)
 
-run_quiet : (s : State) → is_run_state s ≡ true → (named_by s ≡ None) × (is_zombie_state s ≡ false)
+pub run_quiet : (s : State) → is_run_state s ≡ true → (named_by s ≡ None) × (is_zombie_state s ≡ false)
 run_quiet Run is = (refl, refl)
 run_quiet (Trace tid sig seen) is = absurd (true≢false (sym is))
 run_quiet (Job sig seen) is = absurd (true≢false (sym is))
@@ -122,11 +122,13 @@ module _ (rows : Rows) (pid tid : ℕ) (shown : Shown) (p : ProcData) (l : LwpDa
     untraced = λ none. absurd (none_some q.tracer none ready.traced);
     silent = λ off. absurd (true≢false (sym (eq-eqb tid k.tid (sym (eqb-true k.tid tid d))) ∙ off));
     blocked = known.0.blocked;
+    mode = known.0.mode;
   }
   fit_lwp q k fact known at true e false d = let ready = fact.1 (eqb-true q.pid pid e) in record {
     untraced = λ none. absurd (none_some q.tracer none ready.traced);
     silent = λ off. known.0.silent (ap (is_this k.tid) ready.quiet);
     blocked = known.0.blocked;
+    mode = known.0.mode;
   }
 
   the_change : Change rows to to_lwp (Readied pid) Known FitProcess FitLwp
@@ -141,7 +143,7 @@ module _ (rows : Rows) (pid tid : ℕ) (shown : Shown) (p : ProcData) (l : LwpDa
     parent = λ q fact. choose (q.pid == pid) (stopped q) q (λ r. r.parent ≡ q.parent) (λ e. refl) (λ e. refl);
     named = λ q fact link. choose (q.pid == pid) (stopped q) q (λ r. IfSome (reporting r) (λ n. names_own rows q n ≡ true)) (λ e. named q e) (λ e. link.named);
     exited = λ q k fact known stood at shown_is. exited q k known stood at (k.tid == tid) refl shown_is;
-    waits = λ q k known stood at. choose (k.tid == tid) (showing k) k (λ j. IfSome (waited_for j.mode) (IsLiveOf rows q.uid)) (λ e. stood.waits) (λ e. stood.waits);
+    waits = λ q k known stood at. choose (k.tid == tid) (showing k) k (λ j. IfSome (waited_for j.mode) (IsLiveChild rows q)) (λ e. stood.waits) (λ e. stood.waits);
     fits = λ q fact link. choose (q.pid == pid) (stopped q) q FitProcess (λ e. fits q (fact.1 (eqb-true q.pid pid e))) (λ e. fact.0 (other q e));
     fit_lwp = λ q r k fact known stood at is. subst (λ x. FitLwp x (to_lwp k)) (some_is (if q.pid == pid then stopped q else q) r is) (fit_lwp q k fact known at (q.pid == pid) refl (k.tid == tid) refl);
   }
