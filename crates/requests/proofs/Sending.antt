@@ -258,9 +258,9 @@ module _ (u n : ℕ) where
       by_head false true e rest = rest
       by_head false false e rest = rest
 
-module _ (settings : Settings) (s u caller n : ℕ) (rows : Rows) (rise : Rise rows.processes) where
+module _ (settings : Settings) (s u n : ℕ) (rows : Rows) (rise : Rise rows.processes) where
   abbrev one : List ProcData
-  one = reach u caller (pos n) rows
+  one = filter (λ p. p.pid == n) (of_user u rows.processes)
 
   pub unseen_reached : option_map (λ p. p.pid) (seen_process u n rows) ≡ None → one ≡ []
   unseen_reached none = only u n rows.processes rise ∙ by_row (seen_process u n rows) none

@@ -53,7 +53,7 @@ checked_sound u s m n is done = by_caller (seen_process u n m.rows) refl
     by_caller None e = stays (reply.Errno ESRCH)
     by_caller (Some p) e = at_run p e (is_live p) refl (is_run p) refl
 
-choose : {X : Type 0} (b : Bool) (x y : X) (R : X → Type 0) → R x → R y → R (if b then x else y)
+pub choose : {X : Type 0} (b : Bool) (x y : X) (R : X → Type 0) → R x → R y → R (if b then x else y)
 choose true x y R h k = h
 choose false x y R h k = k
 
