@@ -19,8 +19,9 @@ use Rattle.proc_table.specs.Fresh.{is_process, is_lwp, add_process, add_lwp, pro
 use Rattle.proc_table.specs.Kept.{AtHome, Housed}
 use Rattle.trace_stop.specs.End.{tracer_in, tracer_of}
 use Rattle.trace_stop.specs.Sound.{names_own}
-use Rattle.trace_stop.specs.Facts.{IsLiveOf, Linked, FitProcess, waited_for, Standing, FitLwp, WithOwner, IsSound}
+use Rattle.trace_stop.specs.Facts.{IsLiveOf, IsLiveChild, Linked, FitProcess, waited_for, Standing, FitLwp, WithOwner, IsSound}
 use Rattle.trace_stop.proofs.Every.{and_left, or_true, by_bool, All-imply, All-both, All-append, find_some, any_holds, none_of, any_more, count-cons, count-append, count_same}
+use Rattle.trace_stop.proofs.Children.{child_test, child_passes}
 use Rattle.trace_stop.proofs.Placed.{Rise-placed, any-placed, count-placed, process_of-other, process_of-placed, All-placed, TracesNone, meets_other, meets_new}
 
 -- a new process with its first LWP, whose user has room for both
@@ -137,6 +138,13 @@ module _ (rows : Rows) (p : ProcData) (l : LwpData) (s : IsSound rows) (b : Born
   live_more : (u n : ℕ) → IsLiveOf rows u n → IsLiveOf made u n
   live_more u n is = any-placed p ps s.stands.rising b.free (λ q. (q.pid == n) && (q.uid == u) && is_live q) ∙ rw is (or_true ((p.pid == n) && (p.uid == u) && is_live p))
 
+  child_more : (q : ProcData) (n : ℕ) → IsLiveChild rows q n → IsLiveChild made q n
+  child_more q n is = any-placed p ps s.stands.rising b.free (child_test q n) ∙ rw is (or_true (child_test q n p))
+
+  -- the new process is a live child of its parent
+  pub born_child : (q : ProcData) → p.parent ≡ q.pid → p.uid ≡ q.uid → IsLiveChild made q p.pid
+  born_child q parent uid = any-placed p ps s.stands.rising b.free (child_test q p.pid) ∙ rw (child_passes q p.pid p (record { pid = refl; uid = uid; live = b.live; parent = parent })) refl
+
   other : AllByRecursion (λ q. q.pid ≢ p.pid) ps
   other = All-imply (λ q. (q.pid == p.pid) ≡ false) (λ q. q.pid ≢ p.pid) (λ q is. not_same q.pid p.pid is) ps (none_of (λ q. q.pid == p.pid) ps b.free)
 
@@ -182,14 +190,14 @@ module _ (rows : Rows) (p : ProcData) (l : LwpData) (s : IsSound rows) (b : Born
       record {
         live = old.live;
         exited = λ shown. let few = old.exited shown in let more = count_more (λ j. j.pid == q.pid) rows.lwps l in omega (arith, few, more);
-        waits = If_more (IsLiveOf rows q.uid) (IsLiveOf made q.uid) (live_more q.uid) (waited_for k.mode) old.waits;
+        waits = If_more (IsLiveChild rows q) (IsLiveChild made q) (child_more q) (waited_for k.mode) old.waits;
       }
 
   standing_new : WithOwner made (Standing made) l
   standing_new q at = subst (λ r. Standing made r l) (the_owner q at) (record {
     live = b.live;
     exited = λ shown. absurd (true≢false (sym shown ∙ b.here));
-    waits = subst (λ o. IfSome o (IsLiveOf made p.uid)) (sym b.waits) tt;
+    waits = subst (λ o. IfSome o (IsLiveChild made p)) (sym b.waits) tt;
   })
 
   owns_old : (u n : ℕ) → n ≢ p.pid → owns u n (placed p ps) ≡ owns u n ps

@@ -1,7 +1,7 @@
 -- Sound rows, changed so that live processes stay live and keep their links, or lose their tracers, and no LWP goes.
 use Rattle.std.proofs.Common.{◌≡◌, ◌⊎◌, inl, inr, ℕ, zero, suc, ◌<◌, ◌≤◌, List, [], ◌∷◌, find, filter_map, Bool, true, false, cond, ◌==◌, ◌&&◌, ◌||◌, Option, Some, None, IfSome, refl, sym, ap, ◌∙◌, arith, eqb, true≢false, eqb-true, subst, eq-eqb}
 use Rattle.std.specs.Prelude.{count_by}
-use Rattle.std.specs.List.{AllByRecursion, list_any, cons_option}
+use Rattle.std.specs.List.{AllByRecursion, cons_option}
 use Rattle.event_masks.specs.Exits.{shows}
 use Rattle.event_masks.specs.declared.TheConstants.StopFlags.{PL_FLAG_EXITED}
 use Rattle.lwp_table.specs.declared.LwpData.{LwpData}
@@ -12,8 +12,9 @@ use Rattle.proc_table.specs.Fresh.{lwp_count}
 use Rattle.proc_table.specs.Kept.{Rise, AllAbove}
 use Rattle.trace_stop.specs.End.{holds_of, tracer_in, tracer_of, meets}
 use Rattle.trace_stop.specs.Sound.{names_own}
-use Rattle.trace_stop.specs.Facts.{IsLiveOf, Linked, FitProcess, waited_for, Standing, FitLwp, WithOwner, Stands, IsSound}
-use Rattle.trace_stop.proofs.Every.{and_left, and_right, both, or_true, by_bool, All-both, All-edit, All-any, find_some, count-cons}
+use Rattle.trace_stop.specs.Facts.{IsLiveOf, IsLiveChild, Linked, FitProcess, waited_for, Standing, FitLwp, WithOwner, Stands, IsSound}
+use Rattle.trace_stop.proofs.Every.{and_left, and_right, both, by_bool, All-both, All-edit, All-any, find_some, any_forward, count-cons}
+use Rattle.trace_stop.proofs.Children.{child_after}
 use Rattle.trace_stop.proofs.Edited.{edited, Same, If_more, some_is, if_at, owners_after, edited_stands}
 
 -- rows that stand, with a fact of each process, and of each LWP beside its process
@@ -79,19 +80,7 @@ process_from f h n (r ∷ ps) q rise is = by_row (f r) refl (h r) is (process_fr
         at_head true here j = record { was = r; at = rw (eq-eqb r.pid n (sym g ∙ eqb-true s.pid n here)) refl; to = e ∙ j }
         at_head false here j = skip (rest j)
 
--- Who lives, and what is counted
-
-pub any_forward : {X : Type 0} (q t : X → Bool) (P : X → Type 0) (f : X → Option X) → ((x : X) → P x → q x ≡ true → (y : X) × (f x ≡ Some y) × (t y ≡ true)) → (xs : List X) → AllByRecursion P xs → list_any q xs ≡ true → list_any t (filter_map f xs) ≡ true
-any_forward q t P f h [] all is = is
-any_forward {X} q t P f h (x ∷ xs) all is = by_head (q x) refl is (any_forward q t P f h xs all.1)
-  where
-    more : (o : Option X) → list_any t (filter_map f xs) ≡ true → list_any t (cons_option o (filter_map f xs)) ≡ true
-    more None k = k
-    more (Some y) k = rw k (or_true (t y))
-
-    by_head : (b : Bool) → q x ≡ b → (b || list_any q xs) ≡ true → (list_any q xs ≡ true → list_any t (filter_map f xs) ≡ true) → list_any t (cons_option (f x) (filter_map f xs)) ≡ true
-    by_head true e k rest = let y = h x all.0 e in subst (λ o. list_any t (cons_option o (filter_map f xs)) ≡ true) (sym y.1) (rw y.2 refl)
-    by_head false e k rest = more (f x) (rest k)
+-- What is counted, and who lives
 
 pub count_total : {X : Type 0} (q : X → Bool) (f : X → X) → ((x : X) → q (f x) ≡ q x) → (xs : List X) → count_by q (filter_map (λ x. Some (f x)) xs) ≡ count_by q xs
 count_total q f h [] = refl
@@ -114,7 +103,7 @@ pub record Change (rows : Rows) (f : ProcData → Option ProcData) (h : LwpData 
   pub parent : (p : ProcData) → P p → IfSome (f p) (λ q. q.parent ≡ p.parent)
   pub named : (p : ProcData) → P p → Linked rows p → IfSome (f p) (λ q. IfSome (reporting q) (λ tid. names_own rows p tid ≡ true))
   pub exited : (p : ProcData) (l : LwpData) → P p → Q p l → Standing rows p l → process_of l.pid rows.processes ≡ Some p → shows (h l).flags PL_FLAG_EXITED ≡ true → 2 ≤ lwp_count p.pid rows
-  pub waits : (p : ProcData) (l : LwpData) → Q p l → Standing rows p l → process_of l.pid rows.processes ≡ Some p → IfSome (waited_for (h l).mode) (IsLiveOf rows p.uid)
+  pub waits : (p : ProcData) (l : LwpData) → Q p l → Standing rows p l → process_of l.pid rows.processes ≡ Some p → IfSome (waited_for (h l).mode) (IsLiveChild rows p)
   pub fits : (p : ProcData) → P p → Linked rows p → IfSome (f p) P'
   pub fit_lwp : (p q : ProcData) (l : LwpData) → P p → Q p l → Standing rows p l → process_of l.pid rows.processes ≡ Some p → f p ≡ Some q → Q' q (h l)
 
@@ -144,6 +133,12 @@ module _ (rows : Rows) (f : ProcData → Option ProcData) (h : LwpData → LwpDa
       let y = lives_at (f p) (c.live p fact (and_right ((p.pid == n) && (p.uid == u)) (is_live p) e)) in
       let same = if_at _ (f p) y.0 y.1 (c.same.process p) in
       (y.0, y.1, both ((y.0.pid == n) && (y.0.uid == u)) (is_live y.0) (both (y.0.pid == n) (y.0.uid == u) (ap (λ m. m == n) same.0 ∙ and_left (p.pid == n) (p.uid == u) here) (ap (λ m. m == u) same.1 ∙ and_right (p.pid == n) (p.uid == u) here)) y.2)) rows.processes s.processes is
+
+  child_lives_on : (p q : ProcData) → q.pid ≡ p.pid → q.uid ≡ p.uid → (n : ℕ) → IsLiveChild rows p n → IsLiveChild after q n
+  child_lives_on p q same_pid same_uid n = child_after p q n f P same_pid same_uid (λ k fact child.
+      let r = lives_at (f k) (c.live k fact child.live) in
+      let same = if_at _ (f k) r.0 r.1 (c.same.process k) in
+      (r.0, r.1, record { pid = same.0; uid = same.1; live = r.2; parent = if_at _ (f k) r.0 r.1 (c.parent k fact) })) rows.processes s.processes
 
   names_after : (p q : ProcData) (tid : ℕ) → q.pid ≡ p.pid → names_own rows p tid ≡ true → names_own after q tid ≡ true
   names_after p q tid same is = any_forward (λ l. (l.tid == tid) && (l.pid == p.pid)) (λ l. (l.tid == tid) && (l.pid == q.pid)) (λ l. Unit {0}) to_lwp (λ l u e.
@@ -208,7 +203,7 @@ module _ (rows : Rows) (f : ProcData → Option ProcData) (h : LwpData → LwpDa
       subst (Standing after q) (some_is (h l) k to) (record {
         live = let y = lives_at (f p) (c.live p r.0 stood.live) in subst (λ x. is_live x ≡ true) (some_is y.0 q (sym y.1 ∙ is)) y.2;
         exited = λ shown. subst (λ n. 2 ≤ lwp_count n after) (sym same.0) (subst (λ n. 2 ≤ n) (sym (count_after p.pid)) (c.exited p l r.0 (b.0 p at) stood at shown));
-        waits = subst (λ u. IfSome (waited_for (h l).mode) (IsLiveOf after u)) (sym same.1) (If_more (IsLiveOf rows p.uid) (IsLiveOf after p.uid) (live_after p.uid) (waited_for (h l).mode) (c.waits p l (b.0 p at) stood at));
+        waits = If_more (IsLiveChild rows p) (IsLiveChild after q) (child_lives_on p q same.0 same.1) (waited_for (h l).mode) (c.waits p l (b.0 p at) stood at);
       })
 
   pub change_holds : Holds P' Q' after

@@ -8,7 +8,7 @@ use Rattle.proc_table.specs.declared.ProcData.{ProcData}
 use Rattle.proc_table.specs.Processes.{is_live, reporting}
 use Rattle.proc_table.specs.Rows.{Rows, owner, by_owner, change}
 use Rattle.trace_stop.specs.Sound.{names_own}
-use Rattle.trace_stop.specs.Facts.{IsLiveOf, Linked, waited_for}
+use Rattle.trace_stop.specs.Facts.{IsLiveChild, Linked, waited_for}
 use Rattle.trace_stop.proofs.Edited.{some_is}
 use Rattle.trace_stop.proofs.Changed.{Holds, Change, change_holds}
 
@@ -77,7 +77,7 @@ module _ (rows : Rows) (chosen : ProcData → Bool) (f : ProcData → ProcData) 
     parent = λ p fact. either (chosen p) (f p) p (λ q. q.parent ≡ p.parent) (λ e. c.parent p) (λ e. refl);
     named = λ p fact link. either (chosen p) (f p) p (λ q. IfSome (reporting q) (λ tid. names_own rows p tid ≡ true)) (λ e. by_report p link (c.named p fact e)) (λ e. link.named);
     exited = λ p l fact own stood at shown. stood.exited (subst (λ x. shows x PL_FLAG_EXITED ≡ true) (lwp_at (λ k. k.flags) c.flags l) shown);
-    waits = λ p l own stood at. subst (λ m. IfSome (waited_for m) (IsLiveOf rows p.uid)) (sym (lwp_at (λ k. k.mode) c.mode l)) stood.waits;
+    waits = λ p l own stood at. subst (λ m. IfSome (waited_for m) (IsLiveChild rows p)) (sym (lwp_at (λ k. k.mode) c.mode l)) stood.waits;
     fits = λ p fact link. either (chosen p) (f p) p P' (λ e. c.fits p fact e) (λ e. c.rest p fact e);
     fit_lwp = λ p q l fact own stood at is. subst (λ k. Q' q k) (sym (ap (beside to_own l) at)) (subst (λ r. Q' r (to_own p l)) (some_is (if chosen p then f p else p) q is) (both_ways p l fact own (chosen p) refl));
   }

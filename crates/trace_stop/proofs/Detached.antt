@@ -20,9 +20,10 @@ use Rattle.trace_stop.specs.Post.{unwanted}
 use Rattle.trace_stop.specs.Free.{reported, untraced, untraced_lwp, detached}
 use Rattle.trace_stop.specs.End.{tracer_in, tracer_of, holds_of, meets}
 use Rattle.trace_stop.specs.Sound.{names_own}
-use Rattle.trace_stop.specs.Facts.{IsLiveOf, Linked, FitProcess, waited_for, Standing, Silent, FitLwp, WithOwner, IsSound}
+use Rattle.trace_stop.specs.Facts.{IsLiveOf, IsLiveChild, Linked, FitProcess, waited_for, Standing, Silent, FitLwp, WithOwner, IsSound}
 use Rattle.trace_stop.specs.Laws.{is_live_at, traces_live, DetachedSound}
 use Rattle.trace_stop.proofs.Every.{and_left, and_right, both, by_bool, not_true, All-imply, All-any, All-both, All-edit, any_holds, none_of, none_passes, any_more, count-cons}
+use Rattle.trace_stop.proofs.Children.{Follows, child_after}
 use Rattle.trace_stop.proofs.Passes.{passes, any_edited, KeepsNumbers, own_rows, rise_edited, process_edited}
 use Rattle.trace_stop.proofs.LeafLaw.{number_found, If-map, meets-suc, meets-zero, holds_more, or_more}
 use Rattle.trace_stop.proofs.Chains.{no_ring}
@@ -120,6 +121,10 @@ module _ (rows : Rows) (s : IsSound rows) (chosen : ProcData → Bool) (lost : P
       any_edited (λ r. Some (new r)) (λ p. (p.pid == n) && (p.uid == u) && is_live p) ps
       ∙ any_more (λ p. (p.pid == n) && (p.uid == u) && is_live p) (λ r. ((new r).pid == n) && ((new r).uid == u) && is_live (new r))
       (λ r h. by_row (λ z. ((z.pid == n) && (z.uid == u) && is_live z) ≡ true) r (λ c. both ((r.pid == n) && (r.uid == u)) true (and_left ((r.pid == n) && (r.uid == u)) (is_live r) h) refl) (λ c. h)) ps is
+
+  child_lives_on : (r : ProcData) (n : ℕ) → IsLiveChild rows r n → IsLiveChild left r n
+  child_lives_on r n is = child_after r r n (λ k. Some (new k)) (λ k. Unit {0}) refl refl (λ k u child.
+      (new k, refl, by_row (Follows k) k (λ c. record { pid = refl; uid = refl; live = refl; parent = refl }) (λ c. record { pid = refl; uid = refl; live = child.live; parent = refl }))) ps (All-any (λ k. Unit {0}) (λ k. tt) ps) is
 
   tracer_before : (f : ℕ → Bool) (n : ℕ) → holds_of f (tracer_of left.processes n) ≡ true → holds_of f (tracer_of ps n) ≡ true
   tracer_before f n is = at_row (process_of n ps) refl (sym (ap (λ o. holds_of f (tracer_in o)) (process_edited (λ r. Some (new r)) numbers n ps s.stands.rising)) ∙ is)
@@ -310,12 +315,12 @@ module _ (rows : Rows) (s : IsSound rows) (chosen : ProcData → Bool) (lost : P
       (λ r found c f q. record {
         live = refl;
         exited = λ shown. absurd (true≢false (sym shown ∙ shows_none f q.silent.flags));
-        waits = subst (λ m. IfSome (waited_for m) (IsLiveOf left r.uid)) (sym q.mode) (If-map (IsLiveOf rows r.uid) (IsLiveOf left r.uid) (λ t. lives_on r.uid t) (waited_for l.mode) (h.0.1 r found).waits);
+        waits = subst (λ m. IfSome (waited_for m) (IsLiveChild left r)) (sym q.mode) (If-map (IsLiveChild rows r) (IsLiveChild left r) (λ t. child_lives_on r t) (waited_for l.mode) (h.0.1 r found).waits);
       })
       (λ r found c. record {
         live = (h.0.1 r found).live;
         exited = λ shown. let two = (h.0.1 r found).exited shown in let same = same_count r (row_at l r found) c in omega (arith, two, same);
-        waits = If-map (IsLiveOf rows r.uid) (IsLiveOf left r.uid) (λ t. lives_on r.uid t) (waited_for l.mode) (h.0.1 r found).waits;
+        waits = If-map (IsLiveChild rows r) (IsLiveChild left r) (λ t. child_lives_on r t) (waited_for l.mode) (h.0.1 r found).waits;
       }))
 
   housed_left : (l : LwpData) → Beside l → IfSome (lwp_at l) (Housed left)

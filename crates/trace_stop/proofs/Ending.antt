@@ -20,10 +20,11 @@ use Rattle.proc_table.specs.Kept.{Rise, AllAbove}
 use Rattle.trace_stop.specs.Post.{unwanted}
 use Rattle.trace_stop.specs.End.{holds_of, unless, orphaned, dead, uncollected, process_after, waits_where, released, lwp_after, collector, told_of, end_each, tracer_in, tracer_of, meets}
 use Rattle.trace_stop.specs.Sound.{is_end, names_own, is_due}
-use Rattle.trace_stop.specs.Facts.{IsLiveOf, Linked, Ended, IfEnded, FitProcess, waited_for, Standing, FitLwp, WithOwner, IsSound}
-use Rattle.trace_stop.proofs.Every.{and_left, and_right, both, by_bool, All-imply, All-both, All-edit, All-any, find_some, count-cons}
+use Rattle.trace_stop.specs.Facts.{IsLiveOf, IsLiveChild, Linked, Ended, IfEnded, FitProcess, waited_for, Standing, FitLwp, WithOwner, IsSound}
+use Rattle.trace_stop.proofs.Every.{and_left, and_right, both, by_bool, All-imply, All-both, All-edit, All-any, find_some, any_forward, count-cons}
+use Rattle.trace_stop.proofs.Children.{child_after}
 use Rattle.trace_stop.proofs.Edited.{edited, Same, If_more, some_is, if_at, owners_after, edited_stands}
-use Rattle.trace_stop.proofs.Changed.{no_ring, process_from, any_forward}
+use Rattle.trace_stop.proofs.Changed.{no_ring, process_from}
 use Rattle.trace_stop.proofs.Posting.{live_fits, live_state}
 use Rattle.trace_stop.proofs.Settling.{zero_apart}
 use Rattle.trace_stop.proofs.Stopping.{MayTell, live_told, notified_sound}
@@ -147,6 +148,12 @@ module _ (rows : Rows) (ends : ProcData → Bool) (over : ℕ → Bool) (p statu
       let here = and_left (q.pid == n) (q.uid == u) (and_left ((q.pid == n) && (q.uid == u)) (is_live q) e) in
       let stays : ends q ≡ false = sym end.same ∙ (ap over (eqb-true q.pid n here) ∙ spared) in
       (heir q, lives_on q stays (and_right ((q.pid == n) && (q.uid == u)) (is_live q) e), e)) rows.processes all is
+
+  -- so do its children that don't end, as its children
+  child_on : (q : ProcData) (n : ℕ) → over q.pid ≡ false → over n ≡ false → IsLiveChild rows q n → IsLiveChild after q n
+  child_on q n own spared = child_after q q n to (Ends rows ends over) refl refl (λ k end child.
+      let stays : ends k ≡ false = sym end.same ∙ (ap over child.pid ∙ spared) in
+      (heir k, lives_on k stays child.live, record { pid = refl; uid = refl; live = child.live; parent = ap (λ (b : Bool). if b then 1 else k.parent) (ap over child.parent ∙ own) })) rows.processes all
 
   -- the LWPs of one that lives on
   own_lwp : (q : ProcData) (l : LwpData) → Fact rows ends over q → ends q ≡ false → l.pid ≡ q.pid → to_lwp l ≡ Some (released over q l)
@@ -311,17 +318,17 @@ module _ (rows : Rows) (ends : ProcData → Bool) (over : ℕ → Bool) (p statu
       by_wait true = refl
       by_wait false = refl
 
-  released_waits : (q : ProcData) (l : LwpData) → IfSome (waited_for l.mode) (IsLiveOf rows q.uid) → IfSome (waited_for (released over q l).mode) (IsLiveOf after q.uid)
-  released_waits q l live = by_mode l.mode refl live
+  released_waits : (q : ProcData) (l : LwpData) → over q.pid ≡ false → IfSome (waited_for l.mode) (IsLiveChild rows q) → IfSome (waited_for (released over q l).mode) (IsLiveChild after q)
+  released_waits q l own child = by_mode l.mode refl child
     where
-      by_over : (c : ℕ) → l.mode ≡ VforkWait c → IsLiveOf rows q.uid c → (b : Bool) → over c ≡ b → IfSome (waited_for (if b then record l { mode = User; due = if is_some q.tracer && asks q.mask PTRACE_VFORK then VforkDone else l.due } else l).mode) (IsLiveOf after q.uid)
+      by_over : (c : ℕ) → l.mode ≡ VforkWait c → IsLiveChild rows q c → (b : Bool) → over c ≡ b → IfSome (waited_for (if b then record l { mode = User; due = if is_some q.tracer && asks q.mask PTRACE_VFORK then VforkDone else l.due } else l).mode) (IsLiveChild after q)
       by_over c is h true e = tt
-      by_over c is h false e = subst (λ m. IfSome (waited_for m) (IsLiveOf after q.uid)) (sym is) (live_on q.uid c e h)
+      by_over c is h false e = subst (λ m. IfSome (waited_for m) (IsLiveChild after q)) (sym is) (child_on q c own e h)
 
-      by_mode : (m : Mode) → l.mode ≡ m → IfSome (waited_for m) (IsLiveOf rows q.uid) → IfSome (waited_for (if waits_where over l.mode then record l { mode = User; due = if is_some q.tracer && asks q.mask PTRACE_VFORK then VforkDone else l.due } else l).mode) (IsLiveOf after q.uid)
+      by_mode : (m : Mode) → l.mode ≡ m → IfSome (waited_for m) (IsLiveChild rows q) → IfSome (waited_for (if waits_where over l.mode then record l { mode = User; due = if is_some q.tracer && asks q.mask PTRACE_VFORK then VforkDone else l.due } else l).mode) (IsLiveChild after q)
       by_mode User is h = rw is tt
       by_mode (InCall call) is h = rw is tt
-      by_mode (VforkWait c) is h = subst (λ b. IfSome (waited_for (if b then record l { mode = User; due = if is_some q.tracer && asks q.mask PTRACE_VFORK then VforkDone else l.due } else l).mode) (IsLiveOf after q.uid)) (sym (ap (waits_where over) is)) (by_over c is h (over c) refl)
+      by_mode (VforkWait c) is h = subst (λ b. IfSome (waited_for (if b then record l { mode = User; due = if is_some q.tracer && asks q.mask PTRACE_VFORK then VforkDone else l.due } else l).mode) (IsLiveChild after q)) (sym (ap (waits_where over) is)) (by_over c is h (over c) refl)
 
   abbrev Beside : LwpData → Type 0
   Beside l = WithOwner rows FitLwp l × WithOwner rows (Standing rows) l
@@ -370,7 +377,7 @@ module _ (rows : Rows) (ends : ProcData → Bool) (over : ℕ → Bool) (p statu
       subst (λ j. Standing after r j) x.lwp (subst (λ z. Standing after z (released over q l)) x.row (record {
         live = stood.live;
         exited = λ shown. let few = stood.exited (subst (λ f. shows f PL_FLAG_EXITED ≡ true) (released_flags q l) shown) in let more = count_on q fact x.stays in omega (arith, few, more);
-        waits = released_waits q l stood.waits;
+        waits = released_waits q l (fact.end.same ∙ x.stays) stood.waits;
       }))
 
   fit_lwp_row : (l k : LwpData) (q r : ProcData) → Beside l → process_of l.pid rows.processes ≡ Some q → to q ≡ Some r → to_lwp l ≡ Some k → FitLwp r k

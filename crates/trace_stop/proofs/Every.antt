@@ -119,6 +119,19 @@ any_more {X} q t h (x ∷ xs) is = by_head (q x) refl is (any_more q t h xs)
     by_head true e k rest = rw (h x e) refl
     by_head false e k rest = rw (rest k) (or_true (t x))
 
+-- one that passes is followed by one that passes
+pub any_forward : {X : Type 0} (q t : X → Bool) (P : X → Type 0) (f : X → Option X) → ((x : X) → P x → q x ≡ true → (y : X) × (f x ≡ Some y) × (t y ≡ true)) → (xs : List X) → AllByRecursion P xs → list_any q xs ≡ true → list_any t (filter_map f xs) ≡ true
+any_forward q t P f h [] all is = is
+any_forward {X} q t P f h (x ∷ xs) all is = by_head (q x) refl is (any_forward q t P f h xs all.1)
+  where
+    more : (o : Option X) → list_any t (filter_map f xs) ≡ true → list_any t (cons_option o (filter_map f xs)) ≡ true
+    more None k = k
+    more (Some y) k = rw k (or_true (t y))
+
+    by_head : (b : Bool) → q x ≡ b → (b || list_any q xs) ≡ true → (list_any q xs ≡ true → list_any t (filter_map f xs) ≡ true) → list_any t (cons_option (f x) (filter_map f xs)) ≡ true
+    by_head true e k rest = let y = h x all.0 e in subst (λ o. list_any t (cons_option o (filter_map f xs)) ≡ true) (sym y.1) (rw y.2 refl)
+    by_head false e k rest = more (f x) (rest k)
+
 pub count-cons : {X : Type 0} (q : X → Bool) (x : X) (xs : List X) → count_by q (x ∷ xs) ≡ cond (q x) 1 0 + count_by q xs
 count-cons q x xs = sum_by-cons (λ y. cond (q y) 1 0) x xs
 

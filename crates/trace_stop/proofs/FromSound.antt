@@ -23,7 +23,7 @@ use Rattle.proc_table.specs.Kept.{Rise, AllAbove, AtHome, Housed}
 use Rattle.trace_stop.specs.Post.{unwanted}
 use Rattle.trace_stop.specs.End.{meets}
 use Rattle.trace_stop.specs.Sound.{rises, differ, implies, holds, exists, of_owner, is_live_of, sound_numbers, sound_limits, sound_links, sound_owners, names_own, is_state, sound_states, is_due, waits_for, sound_lwp, sound_lwps, sound_rows}
-use Rattle.trace_stop.specs.Facts.{IsLiveOf, Linked, IfEnded, FitProcess, waited_for, Standing, FitLwp, WithOwner, Stands, IsSound}
+use Rattle.trace_stop.specs.Facts.{IsLiveOf, IsLiveChild, Linked, IfEnded, FitProcess, waited_for, Standing, FitLwp, WithOwner, Stands, IsSound}
 use Rattle.trace_stop.proofs.Every.{and_left, and_right, both, implies_at, implies_from, not_true, by_bool, All-from_list_all, list_all-from_All, All-imply, All-both}
 
 -- users, and lists beside them
@@ -262,21 +262,21 @@ fit_test rows p named f = both _ _ (both _ _ (both _ _ (both _ _
 
 -- LWPs
 
-waits_from : (rows : Rows) (u : ℕ) (m : Mode) → waits_for rows u m ≡ true → IfSome (waited_for m) (IsLiveOf rows u)
-waits_from rows u User is = tt
-waits_from rows u (InCall call) is = tt
-waits_from rows u (VforkWait c) is = is
+waits_from : (rows : Rows) (p : ProcData) (m : Mode) → waits_for rows p m ≡ true → IfSome (waited_for m) (IsLiveChild rows p)
+waits_from rows p User is = tt
+waits_from rows p (InCall call) is = tt
+waits_from rows p (VforkWait c) is = is
 
-waits_test : (rows : Rows) (u : ℕ) (m : Mode) → IfSome (waited_for m) (IsLiveOf rows u) → waits_for rows u m ≡ true
-waits_test rows u User w = refl
-waits_test rows u (InCall call) w = refl
-waits_test rows u (VforkWait c) w = w
+waits_test : (rows : Rows) (p : ProcData) (m : Mode) → IfSome (waited_for m) (IsLiveChild rows p) → waits_for rows p m ≡ true
+waits_test rows p User w = refl
+waits_test rows p (InCall call) w = refl
+waits_test rows p (VforkWait c) w = w
 
 standing_from : (rows : Rows) (p : ProcData) (l : LwpData) → is_live p ≡ true → sound_lwp rows p l ≡ true → Standing rows p l
 standing_from rows p l live is = record {
   live = live;
   exited = λ shown. leb-true 2 (lwp_count p.pid rows) (implies_at (shows l.flags PL_FLAG_EXITED) _ (and_right _ _ (and_left _ _ (and_left _ _ is))) shown);
-  waits = waits_from rows p.uid l.mode (and_right _ _ is);
+  waits = waits_from rows p l.mode (and_right _ _ is);
 }
 
 fit_lwp_from : (rows : Rows) (p : ProcData) (l : LwpData) → sound_lwp rows p l ≡ true → FitLwp p l
@@ -301,7 +301,7 @@ lwp_test rows p l s f = both _ _ (both _ _ (both _ _ (both _ _
     (implies_from (not (is_this l.tid (reporting p))) _ (λ other. let h = f.silent (not_true _ other) in both _ _ (both _ _ (eq-eqb l.flags.0 0 h.flags) (eq-eqb l.child 0 h.child)) (eq-eqb l.code 0 h.code))))
     (implies_from (shows l.flags PL_FLAG_EXITED) _ (λ shown. le-leb 2 (lwp_count p.pid rows) (s.exited shown))))
     (eq-eqb (bit_and l.blocked unmaskable_set) 0 f.blocked))
-    (waits_test rows p.uid l.mode s.waits)
+    (waits_test rows p l.mode s.waits)
 
 -- all rows
 

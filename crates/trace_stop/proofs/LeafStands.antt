@@ -20,9 +20,10 @@ use Rattle.proc_table.specs.Seen.{owns}
 use Rattle.proc_table.specs.Kept.{AtHome, Housed}
 use Rattle.trace_stop.specs.End.{tracer_in, tracer_of, holds_of, meets, unless, orphaned, dead, waits_where, released}
 use Rattle.trace_stop.specs.Sound.{names_own}
-use Rattle.trace_stop.specs.Facts.{IsLiveOf, Linked, waited_for, Standing, WithOwner, Stands}
+use Rattle.trace_stop.specs.Facts.{IsLiveOf, IsLiveChild, Linked, waited_for, Standing, WithOwner, Stands}
 use Rattle.trace_stop.specs.Laws.{traces_live}
 use Rattle.trace_stop.proofs.Every.{and_left, and_right, by_bool, All-imply, All-both, All-edit}
+use Rattle.trace_stop.proofs.Children.{child_after}
 use Rattle.trace_stop.proofs.Passes.{passes, any_same, any_edited, own_rows, rise_edited, process_edited}
 use Rattle.trace_stop.proofs.Doomed.{Untracing, untracing}
 use Rattle.trace_stop.proofs.Twice.{alone}
@@ -108,6 +109,14 @@ module _ (rows : Rows) (q status : ℕ) (s : Stands rows) (live : IsLiveRow rows
       let away : alone q r.pid ≡ false = ap (alone q) (eqb-true r.pid n (and_left (r.pid == n) (r.uid == u) two)) ∙ other in
       ap (passes (λ p. (p.pid == n) && (p.uid == u) && is_live p)) (edit-safe rows q status s live leaf r alive away) ∙ h)
       ps own is
+
+  child_lives_on : (r : ProcData) (n : ℕ) → alone q r.pid ≡ false → alone q n ≡ false → IsLiveChild rows r n → IsLiveChild left r n
+  child_lives_on r n own_safe other = child_after r r n change (λ k. process_of k.pid ps ≡ Some k) refl refl (λ k at child. (
+    remaining (alone q) k (kept_pending rows q status s live leaf k),
+    edit-safe rows q status s live leaf k child.live (ap (alone q) child.pid ∙ other),
+    record { pid = refl; uid = refl; live = child.live; parent = ap (λ (b : Bool). if b then 1 else k.parent) (ap (alone q) child.parent ∙ own_safe) },
+  ))
+      ps own
 
   tracer_left : (u : ℕ) (o : Option ℕ) → IfSome o (IsLiveOf rows u) → IfSome (unless (alone q) o) (IsLiveOf left u)
   tracer_left u None h = tt
@@ -270,14 +279,14 @@ module _ (rows : Rows) (q status : ℕ) (s : Stands rows) (live : IsLiveRow rows
   pub with_owner : (R : ProcData → LwpData → Type 0) (o : Option LwpData) → IfSome o (λ k. (z : ProcData) × (process_of k.pid left.processes ≡ Some z) × R z k) → IfSome o (WithOwner left R)
   with_owner R o h = If-map (λ k. (z : ProcData) × (process_of k.pid left.processes ≡ Some z) × R z k) (WithOwner left R) (λ k g p at. subst (λ z. R z k) (some_same g.0 p (sym g.1 ∙ at)) g.2) o h
 
-  waits_left : (u : ℕ) (m : Mode) → IfSome (waited_for m) (IsLiveOf rows u) → IfSome (waited_for (if waits_where (alone q) m then User else m)) (IsLiveOf left u)
-  waits_left u User h = tt
-  waits_left u (InCall call) h = tt
-  waits_left u (VforkWait c) h = by_q (alone q c) refl
+  waits_left : (r : ProcData) → alone q r.pid ≡ false → (m : Mode) → IfSome (waited_for m) (IsLiveChild rows r) → IfSome (waited_for (if waits_where (alone q) m then User else m)) (IsLiveChild left r)
+  waits_left r own_safe User h = tt
+  waits_left r own_safe (InCall call) h = tt
+  waits_left r own_safe (VforkWait c) h = by_q (alone q c) refl
     where
-      by_q : (b : Bool) → alone q c ≡ b → IfSome (waited_for (if b then User else VforkWait c)) (IsLiveOf left u)
+      by_q : (b : Bool) → alone q c ≡ b → IfSome (waited_for (if b then User else VforkWait c)) (IsLiveChild left r)
       by_q true same = tt
-      by_q false other = lives_on u c other h
+      by_q false other = child_lives_on r c own_safe other h
 
   standing_left : (l : LwpData) → Housed rows l × WithOwner rows (Standing rows) l → IfSome (lwp_change l) (λ k. (z : ProcData) × (process_of k.pid left.processes ≡ Some z) × Standing left z k)
   standing_left l h = by_owner_row (Standing left) l h (λ r found alive other n m ok okl at.
@@ -285,7 +294,7 @@ module _ (rows : Rows) (q status : ℕ) (s : Stands rows) (live : IsLiveRow rows
       record {
         live = alive;
         exited = λ shown. let two = st.exited (sym (ap (λ f. shows f PL_FLAG_EXITED) (released-flags r l)) ∙ shown) in let same = count_left r.pid other in omega (arith, two, same);
-        waits = subst (λ w. IfSome (waited_for w) (IsLiveOf left r.uid)) (sym (released-mode r l)) (waits_left r.uid l.mode st.waits);
+        waits = subst (λ w. IfSome (waited_for w) (IsLiveChild left r)) (sym (released-mode r l)) (waits_left r other l.mode st.waits);
       })
     where
       released-flags : (r : ProcData) (k : LwpData) → (released (alone q) r k).flags ≡ k.flags

@@ -1,4 +1,5 @@
 pub mod Every
+pub mod Children
 pub mod FromSound
 pub mod Placed
 pub mod Born

@@ -13,10 +13,11 @@ use Rattle.proc_table.specs.Fresh.{lwp_count}
 use Rattle.trace_stop.specs.End.{tracer_in, tracer_of, meets}
 use Rattle.trace_stop.specs.Free.{reported, run_on}
 use Rattle.trace_stop.specs.Sound.{names_own}
-use Rattle.trace_stop.specs.Facts.{IsLiveOf, Linked, FitProcess, waited_for, Standing, FitLwp, Silent, WithOwner, IsSound}
-use Rattle.trace_stop.proofs.Every.{and_left, and_right, both, by_bool, All-imply, All-both, All-edit, All-any, find_some, any_holds, none_of, count-cons}
+use Rattle.trace_stop.specs.Facts.{IsLiveOf, IsLiveChild, Linked, FitProcess, waited_for, Standing, FitLwp, Silent, WithOwner, IsSound}
+use Rattle.trace_stop.proofs.Every.{and_left, and_right, both, by_bool, All-imply, All-both, All-edit, All-any, find_some, any_holds, none_of, any_forward, count-cons}
+use Rattle.trace_stop.proofs.Children.{Follows, child_after}
 use Rattle.trace_stop.proofs.Edited.{Same, edited, If_more, some_is, owners_after, edited_stands}
-use Rattle.trace_stop.proofs.Changed.{no_ring, process_from, any_forward}
+use Rattle.trace_stop.proofs.Changed.{no_ring, process_from}
 use Rattle.trace_stop.proofs.Ending.{own_rows}
 
 -- Counts where at most one is gone
@@ -165,6 +166,15 @@ module _ (rows : Rows) (chosen : ProcData → Bool) (f : ProcData → ProcData) 
         both (((f p).pid == n) && ((f p).uid == u)) (is_live (f p)) (both ((f p).pid == n) ((f p).uid == u) (ap (λ m. m == n) (shape.pid p) ∙ and_left (p.pid == n) (p.uid == u) here) (ap (λ m. m == u) (shape.uid p) ∙ and_right (p.pid == n) (p.uid == u) here)) (shape.lives p)) (λ c. e),
   )) rows.processes (All-any (λ p. Unit {0}) (λ p. tt) rows.processes) is
 
+  child_lives_on : (p q : ProcData) → q.pid ≡ p.pid → q.uid ≡ p.uid → (n : ℕ) → IsLiveChild rows p n → IsLiveChild after q n
+  child_lives_on p q same_pid same_uid n is = child_after p q n to (λ k. Unit {0}) same_pid same_uid (λ k u child. (
+    if chosen k then f k else k,
+    refl,
+    choose (chosen k) (f k) k (Follows k)
+        (λ c. record { pid = shape.pid k; uid = shape.uid k; live = shape.lives k; parent = shape.parent k })
+        (λ c. record { pid = refl; uid = refl; live = child.live; parent = refl }),
+  )) rows.processes (All-any (λ k. Unit {0}) (λ k. tt) rows.processes) is
+
   tracer_before : (n t : ℕ) → tracer_of after.processes n ≡ Some t → tracer_of rows.processes n ≡ Some t
   tracer_before n t is = at_row (process_of n after.processes) refl is
     where
@@ -292,12 +302,12 @@ module _ (rows : Rows) (chosen : ProcData → Bool) (f : ProcData → ProcData) 
       (λ c. record {
         live = stood.live;
         exited = λ shown. let few = stood.exited shown in let more = count_other p fact c in omega (arith, few, more);
-        waits = If_more (IsLiveOf rows p.uid) (IsLiveOf after p.uid) (live_after p.uid) (waited_for l.mode) stood.waits;
+        waits = If_more (IsLiveChild rows p) (IsLiveChild after p) (child_lives_on p p refl refl) (waited_for l.mode) stood.waits;
       })
       (λ c j silent fit mode. record {
         live = shape.lives p;
         exited = λ shown. absurd (true≢false (sym (subst (λ x. shows x PL_FLAG_EXITED ≡ true) (shape.flags p j) shown) ∙ silent_shows j silent));
-        waits = subst (λ u. IfSome (waited_for (g p j).mode) (IsLiveOf after u)) (sym (shape.uid p)) (subst (λ m. IfSome (waited_for m) (IsLiveOf after p.uid)) (sym (shape.mode p j ∙ mode)) (If_more (IsLiveOf rows p.uid) (IsLiveOf after p.uid) (live_after p.uid) (waited_for l.mode) stood.waits));
+        waits = subst (λ m. IfSome (waited_for m) (IsLiveChild after (f p))) (sym (shape.mode p j ∙ mode)) (If_more (IsLiveChild rows p) (IsLiveChild after (f p)) (child_lives_on p (f p) (shape.pid p) (shape.uid p)) (waited_for l.mode) stood.waits);
       }) is to_k
 
   fit_row : (l k : LwpData) (p q : ProcData) → Beside l → process_of l.pid rows.processes ≡ Some p → to p ≡ Some q → to_lwp l ≡ Some k → FitLwp q k

@@ -7,7 +7,7 @@ use Rattle.lwp_table.specs.Lwps.{lwp_of}
 use Rattle.proc_table.specs.declared.ProcData.{ProcData}
 use Rattle.proc_table.specs.Processes.{is_live, reporting, process_of}
 use Rattle.proc_table.specs.Rows.{Rows, owner, by_owner, change, change_process, change_lwp, is_numbered}
-use Rattle.trace_stop.specs.Facts.{IsLiveOf, FitProcess, waited_for, FitLwp, WithOwner, IsSound}
+use Rattle.trace_stop.specs.Facts.{IsLiveChild, FitProcess, waited_for, FitLwp, WithOwner, IsSound}
 use Rattle.trace_stop.proofs.Every.{All-imply, All-both}
 use Rattle.trace_stop.proofs.Edited.{edited, some_is}
 use Rattle.trace_stop.proofs.Changed.{Holds, sound_holds, change_holds}
@@ -72,7 +72,7 @@ pub record OneLwp (rows : Rows) (p : ProcData) (l : LwpData) (g : LwpData → Lw
   pub tid : (k : LwpData) → (g k).tid ≡ k.tid
   pub own : (k : LwpData) → (g k).pid ≡ k.pid
   pub flags : (k : LwpData) → (g k).flags ≡ k.flags
-  pub waits : IfSome (waited_for (g l).mode) (IsLiveOf rows p.uid)
+  pub waits : IfSome (waited_for (g l).mode) (IsLiveChild rows p)
   pub fit : FitLwp p l → FitLwp p (g l)
 
 module _ (rows : Rows) (tid : ℕ) (p : ProcData) (l : LwpData) (g : LwpData → LwpData) (s : IsSound rows) (at : lwp_of tid rows.lwps ≡ Some l) (home : process_of l.pid rows.processes ≡ Some p) (c : OneLwp rows p l g) where
@@ -109,7 +109,7 @@ module _ (rows : Rows) (tid : ℕ) (p : ProcData) (l : LwpData) (g : LwpData →
         parent = λ q fact. refl;
         named = λ q fact link. link.named;
         exited = λ q k fact own stood there shown. stood.exited (subst (λ x. shows x PL_FLAG_EXITED ≡ true) (either k (λ j. j.flags ≡ k.flags) (λ e. c.flags k) (λ e. refl)) shown);
-        waits = λ q k fact stood there. either k (λ j. IfSome (waited_for j.mode) (IsLiveOf rows q.uid)) (λ e. known (λ x j. IfSome (waited_for (g j).mode) (IsLiveOf rows x.uid)) q k fact there e c.waits) (λ e. stood.waits);
+        waits = λ q k fact stood there. either k (λ j. IfSome (waited_for j.mode) (IsLiveChild rows q)) (λ e. known (λ x j. IfSome (waited_for (g j).mode) (IsLiveChild rows x)) q k fact there e c.waits) (λ e. stood.waits);
         fits = λ q fact link. fact;
         fit_lwp = λ q r k fact own stood there is. subst (λ x. FitLwp x (to k)) (some_is q r is) (either k (FitLwp q) (λ e. known (λ x j. FitLwp x (g j)) q k own there e (c.fit (known_back k q own there e))) (λ e. own.0));
       })))

@@ -15,7 +15,7 @@ use Rattle.trace_stop.specs.End.{tracer_in, tracer_of}
 use Rattle.trace_stop.specs.Stop.{tracers, stop}
 use Rattle.trace_stop.specs.declared.Shown.{Shown}
 use Rattle.trace_stop.specs.Sound.{names_own}
-use Rattle.trace_stop.specs.Facts.{IsLiveOf, Linked, FitProcess, waited_for, Standing, FitLwp, WithOwner, IsSound}
+use Rattle.trace_stop.specs.Facts.{IsLiveOf, IsLiveChild, Linked, FitProcess, waited_for, Standing, FitLwp, WithOwner, IsSound}
 use Rattle.trace_stop.proofs.Every.{by_bool, both, All-imply, All-both, All-any, find_some}
 use Rattle.trace_stop.proofs.Edited.{edited, some_is}
 use Rattle.trace_stop.proofs.Changed.{Holds, sound_holds, found_number, Change, change_holds, live_after}
@@ -141,7 +141,7 @@ module _ (rows : Rows) (pid tid : ℕ) (shown : Shown) (p : ProcData) (l : LwpDa
     parent = λ q fact. choose (q.pid == pid) (stopped q) q (λ r. r.parent ≡ q.parent) (λ e. refl) (λ e. refl);
     named = λ q fact link. choose (q.pid == pid) (stopped q) q (λ r. IfSome (reporting r) (λ n. names_own rows q n ≡ true)) (λ e. named q e) (λ e. link.named);
     exited = λ q k fact known stood at shown_is. exited q k known stood at (k.tid == tid) refl shown_is;
-    waits = λ q k known stood at. choose (k.tid == tid) (showing k) k (λ j. IfSome (waited_for j.mode) (IsLiveOf rows q.uid)) (λ e. stood.waits) (λ e. stood.waits);
+    waits = λ q k known stood at. choose (k.tid == tid) (showing k) k (λ j. IfSome (waited_for j.mode) (IsLiveChild rows q)) (λ e. stood.waits) (λ e. stood.waits);
     fits = λ q fact link. choose (q.pid == pid) (stopped q) q FitProcess (λ e. fits q (fact.1 (eqb-true q.pid pid e))) (λ e. fact.0 (other q e));
     fit_lwp = λ q r k fact known stood at is. subst (λ x. FitLwp x (to_lwp k)) (some_is (if q.pid == pid then stopped q else q) r is) (fit_lwp q k fact known at (q.pid == pid) refl (k.tid == tid) refl);
   }

@@ -20,11 +20,15 @@ use Rattle.proc_table.specs.Fresh.{process_count, lwp_count_of, lwp_count}
 use Rattle.proc_table.specs.Kept.{Rise, AtHome, Housed}
 use Rattle.trace_stop.specs.Post.{unwanted}
 use Rattle.trace_stop.specs.End.{meets}
-use Rattle.trace_stop.specs.Sound.{is_live_of, is_end, names_own, is_due}
+use Rattle.trace_stop.specs.Sound.{is_live_of, is_live_child, is_end, names_own, is_due}
 
 -- the number is that of a live process of the user
 abbrev pub IsLiveOf : Rows → ℕ → ℕ → Type 0
 IsLiveOf rows u n = is_live_of rows u n ≡ true
+
+-- the number is that of a live child of p
+abbrev pub IsLiveChild : Rows → ProcData → ℕ → Type 0
+IsLiveChild rows p n = is_live_child rows p n ≡ true
 
 -- what a process names: live processes of its user, in no ring of tracers, and an LWP of its own; a live one has an LWP
 pub record Linked (rows : Rows) (p : ProcData) : Type 0 where
@@ -66,11 +70,11 @@ waited_for User = None
 waited_for (InCall call) = None
 waited_for (VforkWait c) = Some c
 
--- an LWP of a live process p; one that has exited isn't the last one
+-- an LWP of a live process p; one that has exited isn't the last one, and one that waits does so for a live child of p
 pub record Standing (rows : Rows) (p : ProcData) (l : LwpData) : Type 0 where
   pub live : is_live p ≡ true
   pub exited : shows l.flags PL_FLAG_EXITED ≡ true → 2 ≤ lwp_count p.pid rows
-  pub waits : IfSome (waited_for l.mode) (IsLiveOf rows p.uid)
+  pub waits : IfSome (waited_for l.mode) (IsLiveChild rows p)
 
 pub record UntracedLwp (p : ProcData) (l : LwpData) : Type 0 where
   pub due : is_due l.due ≡ false
