@@ -20,3 +20,4 @@ pub mod ViewHosts
 pub mod ViewLaws
 pub mod ViewSound
 pub mod Living
+pub mod Actors

@@ -123,7 +123,8 @@ impl<F: Decider + Send + Drop> HandlerList<F> {
     fn drop_ended(&mut self, tables: &Tables)
         ensures { self.new ≡ filter (λ i. is_live_number tables.now.rows i.debugger) self.old }
     {
-        self.installed.retain(|installed| is_live(tables, installed.debugger));
+        self.installed
+            .retain(|installed| is_live(tables, installed.debugger));
     }
 }
 
@@ -181,7 +182,12 @@ impl<F: Decider + Send + Drop> HandlerTable<F> {
     }
 
     /// Adds what a debugger of the user installs. An error is want of memory, and changes nothing.
-    pub fn install(&mut self, user: Uid, debugger: Pid, handler: Handler<F>) -> Result<(), AllocError>
+    pub fn install(
+        &mut self,
+        user: Uid,
+        debugger: Pid,
+        handler: Handler<F>,
+    ) -> Result<(), AllocError>
         ensures done { OnOk result (self.new ≡ set self.old (slot user) (get_or self.old (slot user) [] ++ (record { debugger = debugger; policy = handler } ∷ []))) }
         ensures refused { OnErr result (self.new ≡ self.old) }
     {
