@@ -21,3 +21,6 @@ pub mod ViewLaws
 pub mod ViewSound
 pub mod Living
 pub mod Actors
+pub mod Acting
+pub mod Masks
+pub mod Signals

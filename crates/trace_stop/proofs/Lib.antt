@@ -36,3 +36,4 @@ pub mod Killing
 pub mod Running
 pub mod Freed
 pub mod Posts
+pub mod Linking

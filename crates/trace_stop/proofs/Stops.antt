@@ -31,7 +31,7 @@ pub record Ready (p : ProcData) : Type 0 where
 abbrev pub Readied : ℕ → ProcData → Type 0
 Readied pid p = (p.pid ≢ pid → FitProcess p) × (p.pid ≡ pid → Ready p)
 
-run_quiet : (s : State) → is_run_state s ≡ true → (named_by s ≡ None) × (is_zombie_state s ≡ false)
+pub run_quiet : (s : State) → is_run_state s ≡ true → (named_by s ≡ None) × (is_zombie_state s ≡ false)
 run_quiet Run is = (refl, refl)
 run_quiet (Trace tid sig seen) is = absurd (true≢false (sym is))
 run_quiet (Job sig seen) is = absurd (true≢false (sym is))

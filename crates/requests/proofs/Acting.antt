@@ -1,0 +1,120 @@
+-- An LWP at its turn, in sound rows, and changes of it and of its process.
+use Rattle.std.proofs.Common.{◌≡◌, ◌≢◌, ℕ, ◌≤◌, Bool, true, false, cond, ◌==◌, ◌&&◌, not, if◌then◌else◌, List, [], ◌∷◌, find, Option, Some, None, IfSome, is_some, refl, sym, ap, ◌∙◌, true≢false, subst, eqb, eqb-true, eq-eqb}
+use Rattle.std.specs.List.{AllByRecursion}
+use Rattle.event_masks.specs.Exits.{shows}
+use Rattle.event_masks.specs.declared.TheConstants.StopFlags.{PL_FLAG_EXITED}
+use Rattle.lwp_table.specs.declared.LwpData.{LwpData}
+use Rattle.lwp_table.specs.Lwps.{lwp_of, Differ, LacksLwp}
+use Rattle.proc_table.specs.declared.ProcData.{ProcData}
+use Rattle.proc_table.specs.Processes.{is_live, is_run, reporting, process_of}
+use Rattle.proc_table.specs.Rows.{Rows, change_process, change_lwp}
+use Rattle.proc_table.specs.Fresh.{lwp_count}
+use Rattle.proc_table.specs.Seen.{owns, seen_lwp}
+use Rattle.trace_stop.specs.declared.Shown.{Shown}
+use Rattle.trace_stop.specs.Stop.{stop}
+use Rattle.trace_stop.specs.Facts.{Linked, FitProcess, Standing, FitLwp, WithOwner, IsSound}
+use Rattle.trace_stop.proofs.Every.{find_some}
+use Rattle.trace_stop.proofs.Edited.{find_edit}
+use Rattle.trace_stop.proofs.Changed.{found_number}
+use Rattle.trace_stop.proofs.Single.{OneProcess, process_sound, OneLwp, lwp_sound}
+use Rattle.trace_stop.proofs.Stops.{run_quiet, run_ready, sound_ready, stop_sound}
+use Rattle.requests.specs.declared.Reply.{Reply}
+use Rattle.requests.specs.Outcome.{stops_or}
+
+pub choose : {X : Type 0} (b : Bool) (x y : X) (R : X → Type 0) → (b ≡ true → R x) → (b ≡ false → R y) → R (if b then x else y)
+choose true x y R h k = h refl
+choose false x y R h k = k refl
+
+-- a process that isn't untraced is traced
+pub traced_where : {X : Type 0} (o : Option X) → (o ≡ None → ⊥) → is_some o ≡ true
+traced_where None h = absurd (h refl)
+traced_where (Some x) h = refl
+
+pub record Acting (rows : Rows) (p : ProcData) (l : LwpData) : Type 0 where
+  pub sound : IsSound rows
+  pub home : process_of p.pid rows.processes ≡ Some p
+  pub there : lwp_of l.tid rows.lwps ≡ Some l
+  pub own : l.pid ≡ p.pid
+  pub run : is_run p ≡ true
+
+-- each LWP is found by its number
+skip_lwps : (l : LwpData) (ls ks : List LwpData) → LacksLwp l.tid ks → AllByRecursion (λ k. lwp_of k.tid ls ≡ Some k) ks → AllByRecursion (λ k. lwp_of k.tid (l ∷ ls) ≡ Some k) ks
+skip_lwps l ls [] lacks all = tt
+skip_lwps l ls (k ∷ ks) lacks all = (other (l.tid == k.tid) refl, skip_lwps l ls ks lacks.1 all.1)
+  where
+    other : (b : Bool) → (l.tid == k.tid) ≡ b → cond b (Some l) (lwp_of k.tid ls) ≡ Some k
+    other true e = absurd (lacks.0 (sym (eqb-true l.tid k.tid e)))
+    other false e = all.0
+
+pub own_lwps : (ls : List LwpData) → Differ ls → AllByRecursion (λ l. lwp_of l.tid ls ≡ Some l) ls
+own_lwps [] all = tt
+own_lwps (l ∷ ls) all = (rw (eq-eqb l.tid l.tid refl) refl, skip_lwps l ls ls all.0 (own_lwps ls all.1))
+
+-- the LWP that a user sees by its number, beside its process
+pub seen_acting : (u tid : ℕ) (rows : Rows) (l : LwpData) (p : ProcData) → IsSound rows → seen_lwp u tid rows ≡ Some l → process_of l.pid rows.processes ≡ Some p → is_run p ≡ true → Acting rows p l
+seen_acting u tid rows l p s seen at run = record {
+  sound = s;
+  home = subst (λ n. process_of n rows.processes ≡ Some p) own at;
+  there = (find_some (λ k. (k.tid == tid) && owns u k.pid rows.processes) (λ k. lwp_of k.tid rows.lwps ≡ Some k) rows.lwps (own_lwps rows.lwps s.stands.differ) l seen).0;
+  own = own;
+  run = run;
+}
+  where
+    own : l.pid ≡ p.pid
+    own = sym (found_number l.pid rows.processes p at)
+
+module _ (rows : Rows) (p : ProcData) (l : LwpData) (a : Acting rows p l) where
+  pub owner_is : process_of l.pid rows.processes ≡ Some p
+  owner_is = ap (λ n. process_of n rows.processes) a.own ∙ a.home
+
+  pub its_live : is_live p ≡ true
+  its_live = ap (λ b. not b) (run_quiet p.state a.run).1
+
+  pub its_quiet : reporting p ≡ None
+  its_quiet = (run_quiet p.state a.run).0
+
+  pub its_fit : FitProcess p
+  its_fit = (find_some (λ q. q.pid == p.pid) FitProcess rows.processes a.sound.processes p a.home).0
+
+  pub its_link : Linked rows p
+  its_link = (find_some (λ q. q.pid == p.pid) (Linked rows) rows.processes a.sound.stands.linked p a.home).0
+
+  pub lwp_fit : FitLwp p l
+  lwp_fit = (find_some (λ k. k.tid == l.tid) (WithOwner rows FitLwp) rows.lwps a.sound.lwps l a.there).0 p owner_is
+
+  pub lwp_stands : Standing rows p l
+  lwp_stands = (find_some (λ k. k.tid == l.tid) (WithOwner rows (Standing rows)) rows.lwps a.sound.stands.standing l a.there).0 p owner_is
+
+  -- the LWP changed, and its process changed
+  pub acting_lwp : (g : LwpData → LwpData) → OneLwp rows p l g → Acting (change_lwp l.tid g rows) p (g l)
+  acting_lwp g c = record {
+    sound = lwp_sound rows l.tid p l g a.sound a.there owner_is c;
+    home = a.home;
+    there = subst (λ n. lwp_of n (change_lwp l.tid g rows).lwps ≡ Some (g l)) (sym (c.tid l)) (find_edit (λ k. k.tid == l.tid) (λ k. Some (if k.tid == l.tid then g k else k))
+        (λ k. choose (k.tid == l.tid) (g k) k (λ j. (j.tid == l.tid) ≡ (k.tid == l.tid)) (λ e. ap (λ n. eqb n l.tid) (c.tid k)) (λ e. refl)) rows.lwps l (g l) a.there (rw (eq-eqb l.tid l.tid refl) refl));
+    own = c.own l ∙ a.own;
+    run = a.run;
+  }
+
+  pub acting_process : (f : ProcData → ProcData) → OneProcess p f → is_run (f p) ≡ true → Acting (change_process p.pid f rows) (f p) l
+  acting_process f c run = record {
+    sound = process_sound rows p.pid p f a.sound a.home c;
+    home = subst (λ n. process_of n (change_process p.pid f rows).processes ≡ Some (f p)) (sym (c.pid p)) (find_edit (λ q. q.pid == p.pid) (λ q. Some (if q.pid == p.pid then f q else q))
+        (λ q. choose (q.pid == p.pid) (f q) q (λ r. (r.pid == p.pid) ≡ (q.pid == p.pid)) (λ e. ap (λ n. eqb n p.pid) (c.pid q)) (λ e. refl)) rows.processes p (f p) a.home (rw (eq-eqb p.pid p.pid refl) refl));
+    there = a.there;
+    own = a.own ∙ sym (c.pid p);
+    run = run;
+  }
+
+  -- a trace stop of the LWP
+  pub acting_stops : (shown : Shown) → is_some p.tracer ≡ true → (shows shown.flags PL_FLAG_EXITED ≡ true → 2 ≤ lwp_count p.pid rows) → IsSound (stop p.pid l.tid shown rows)
+  acting_stops shown traced exits = stop_sound rows p.pid l.tid shown p l (sound_ready rows p.pid p a.sound a.home (run_ready p its_fit a.run traced)) (record { at = a.home; there = a.there; own = a.own; exits = exits })
+
+-- a stop that may be made: of a traced process, and not of an LWP's exit
+pub record MayMake (p : ProcData) (shown : Shown) : Type 0 where
+  pub traced : is_some p.tracer ≡ true
+  pub stays : shows shown.flags PL_FLAG_EXITED ≡ false
+
+pub stops_or_sound : (rows : Rows) (p q : ProcData) (l k : LwpData) (o : Option Shown) (r : Reply) → Acting rows q k → q.pid ≡ p.pid → k.tid ≡ l.tid → IfSome o (MayMake q) → IsSound (stops_or o r p l rows).rows
+stops_or_sound rows p q l k None r a pid tid may = a.sound
+stops_or_sound rows p q l k (Some shown) r a pid tid may = subst (λ n. IsSound (stop n l.tid shown rows)) pid (subst (λ n. IsSound (stop q.pid n shown rows)) tid (acting_stops rows q k a shown may.traced (λ is. absurd (true≢false (sym is ∙ may.stays)))))

@@ -1,0 +1,174 @@
+-- Masks, steps and suspended LWPs of a traced process keep rows sound.
+use Rattle.std.proofs.Common.{◌≡◌, inl, ℕ, Bool, true, false, ◌==◌, ◌&&◌, if◌then◌else◌, Option, Some, None, IfSome, is_some, refl, sym, ap, ◌∙◌, true≢false, subst, eqb, eqb-true, eq-eqb}
+use Rattle.event_masks.specs.declared.EventMask.{EventMask}
+use Rattle.lwp_table.specs.declared.LwpData.{LwpData}
+use Rattle.lwp_table.specs.Lwps.{lwp_of}
+use Rattle.proc_table.specs.declared.ProcData.{ProcData}
+use Rattle.proc_table.specs.Processes.{is_live, process_of}
+use Rattle.proc_table.specs.Rows.{Rows, owner, by_owner, change, change_lwp, is_numbered}
+use Rattle.trace_stop.specs.declared.Settings.{Settings}
+use Rattle.trace_stop.specs.Stop.{resume}
+use Rattle.trace_stop.specs.Sound.{names_own}
+use Rattle.trace_stop.specs.Facts.{FitProcess, Standing, FitLwp, WithOwner, IsSound}
+use Rattle.trace_stop.proofs.Every.{and_left, and_right, find_some, any_holds}
+use Rattle.trace_stop.proofs.Edited.{find_edit}
+use Rattle.trace_stop.proofs.Changed.{found_number, holds_sound, sound_holds}
+use Rattle.trace_stop.proofs.Changes.{changes_hold}
+use Rattle.trace_stop.proofs.Posting.{live_fits, live_state}
+use Rattle.trace_stop.proofs.Single.{OneLwp, process_sound, lwp_sound}
+use Rattle.trace_stop.proofs.Posts.{resume_sound}
+use Rattle.requests.specs.Ptrace.{not_stepping, stepping, suspend, set_mask, continues_with}
+use Rattle.requests.proofs.Acting.{choose, own_lwps}
+
+-- a live traced process in sound rows
+pub record Tracee (rows : Rows) (p : ProcData) : Type 0 where
+  pub sound : IsSound rows
+  pub home : process_of p.pid rows.processes ≡ Some p
+  pub live : is_live p ≡ true
+  pub traced : is_some p.tracer ≡ true
+
+-- an LWP of it, by its number
+pub record OwnLwp (rows : Rows) (p : ProcData) (tid : ℕ) : Type 0 where
+  pub lwp : LwpData
+  pub there : lwp_of tid rows.lwps ≡ Some lwp
+  pub own : lwp.pid ≡ p.pid
+
+pub named_lwp : (rows : Rows) (p : ProcData) (tid : ℕ) → IsSound rows → names_own rows p tid ≡ true → OwnLwp rows p tid
+named_lwp rows p tid s named = any_holds (λ l. (l.tid == tid) && (l.pid == p.pid)) (λ l. lwp_of l.tid rows.lwps ≡ Some l) (OwnLwp rows p tid)
+    (λ l at is. record { lwp = l; there = subst (λ n. lwp_of n rows.lwps ≡ Some l) (eqb-true l.tid tid (and_left (l.tid == tid) (l.pid == p.pid) is)) at; own = eqb-true l.pid p.pid (and_right (l.tid == tid) (l.pid == p.pid) is) }) rows.lwps (own_lwps rows.lwps s.stands.differ) named
+
+-- rows that are found after a change
+
+pub changed_process : (n : ℕ) (chosen : ProcData → Bool) (f : ProcData → ProcData) (g : ProcData → LwpData → LwpData) (rows : Rows) (p : ProcData) → ((q : ProcData) → (f q).pid ≡ q.pid)
+    → process_of n rows.processes ≡ Some p → process_of n (change chosen f g rows).processes ≡ Some (if chosen p then f p else p)
+changed_process n chosen f g rows p same at = find_edit (λ q. q.pid == n) (λ q. Some (if chosen q then f q else q)) (λ q. choose (chosen q) (f q) q (λ r. (r.pid == n) ≡ (q.pid == n)) (λ e. ap (λ m. eqb m n) (same q)) (λ e. refl)) rows.processes p (if chosen p then f p else p) at refl
+
+pub changed_lwp : (n : ℕ) (chosen : ProcData → Bool) (f : ProcData → ProcData) (g : ProcData → LwpData → LwpData) (rows : Rows) (l : LwpData) (p : ProcData) → ((q : ProcData) (k : LwpData) → (g q k).tid ≡ k.tid)
+    → lwp_of n rows.lwps ≡ Some l → process_of l.pid rows.processes ≡ Some p → lwp_of n (change chosen f g rows).lwps ≡ Some (if chosen p then g p l else l)
+changed_lwp n chosen f g rows l p same there home = find_edit (λ k. k.tid == n) (λ k. by_owner to k (owner rows k)) (λ k. by_row k (owner rows k)) rows.lwps l (if chosen p then g p l else l) there (ap (by_owner to l) home)
+  where
+    to : ProcData → LwpData → Option LwpData
+    to q k = Some (if chosen q then g q k else k)
+
+    by_row : (k : LwpData) (o : Option ProcData) → IfSome (by_owner to k o) (λ j. (j.tid == n) ≡ (k.tid == n))
+    by_row k None = refl
+    by_row k (Some q) = choose (chosen q) (g q k) k (λ j. (j.tid == n) ≡ (k.tid == n)) (λ e. ap (λ m. eqb m n) (same q k)) (λ e. refl)
+
+-- No LWP steps
+
+pub stepless_fits : (p : ProcData) (l : LwpData) → FitLwp p l → FitLwp p (record l { stepping = false })
+stepless_fits p l fit = record {
+  untraced = λ none. let was = fit.untraced none in record { due = was.due; stepping = refl; suspended = was.suspended; pending = was.pending };
+  silent = λ off. let was = fit.silent off in record { flags = was.flags; child = was.child; code = was.code };
+  blocked = fit.blocked;
+}
+
+pub not_stepping_sound : (rows : Rows) (pid : ℕ) → IsSound rows → IsSound (not_stepping pid rows)
+not_stepping_sound rows pid s = sound_holds (not_stepping pid rows) (changes_hold rows (is_numbered pid) (λ p. p) (λ p l. record l { stepping = false }) FitProcess FitLwp FitProcess FitLwp (holds_sound rows s) (record {
+  pid = λ p. refl;
+  uid = λ p. refl;
+  tracer = λ p. refl;
+  parent = λ p. refl;
+  tid = λ p l. refl;
+  own = λ p l. refl;
+  flags = λ p l. refl;
+  mode = λ p l. refl;
+  live = λ p fact is. refl;
+  named = λ p fact is. inl refl;
+  fits = λ p fact is. fact;
+  rest = λ p fact is. fact;
+  fit_lwp = λ p l fact own is. stepless_fits p l own;
+  rest_lwp = λ p l fact own is. own;
+}))
+
+same_either : {X : Type 0} (b : Bool) (x : X) → (if b then x else x) ≡ x
+same_either true x = refl
+same_either false x = refl
+
+module _ (rows : Rows) (p : ProcData) (t : Tracee rows p) where
+  pub not_stepping_tracee : Tracee (not_stepping p.pid rows) p
+  not_stepping_tracee = record {
+    sound = not_stepping_sound rows p.pid t.sound;
+    home = subst (λ q. process_of p.pid (not_stepping p.pid rows).processes ≡ Some q) (same_either (p.pid == p.pid) p) (changed_process p.pid (is_numbered p.pid) (λ q. q) (λ q l. record l { stepping = false }) rows p (λ q. refl) t.home);
+    live = t.live;
+    traced = t.traced;
+  }
+
+  its_fit : FitProcess p
+  its_fit = (find_some (λ q. q.pid == p.pid) FitProcess rows.processes t.sound.processes p t.home).0
+
+  -- An LWP of it
+
+  module _ (tid : ℕ) (o : OwnLwp rows p tid) where
+    owner_is : process_of o.lwp.pid rows.processes ≡ Some p
+    owner_is = ap (λ n. process_of n rows.processes) o.own ∙ t.home
+
+    stood : Standing rows p o.lwp
+    stood = (find_some (λ k. k.tid == tid) (WithOwner rows (Standing rows)) rows.lwps t.sound.stands.standing o.lwp o.there).0 p owner_is
+
+    pub not_stepping_lwp : OwnLwp (not_stepping p.pid rows) p tid
+    not_stepping_lwp = record {
+      lwp = record o.lwp { stepping = false };
+      there = subst (λ b. lwp_of tid (not_stepping p.pid rows).lwps ≡ Some (if b then record o.lwp { stepping = false } else o.lwp)) (eq-eqb p.pid p.pid refl) (changed_lwp tid (is_numbered p.pid) (λ q. q) (λ q l. record l { stepping = false }) rows o.lwp p (λ q k. refl) o.there owner_is);
+      own = o.own;
+    }
+
+    not_free : (R : Type 0) → p.tracer ≡ None → R
+    not_free R none = absurd (true≢false (sym t.traced ∙ ap is_some none))
+
+    pub suspend_sound : (on : Bool) → IsSound (suspend on tid rows)
+    suspend_sound on = lwp_sound rows tid p o.lwp (λ l. record l { suspended = on }) t.sound o.there owner_is (record {
+      tid = λ k. refl;
+      own = λ k. refl;
+      flags = λ k. refl;
+      waits = stood.waits;
+      fit = λ fit. record { untraced = not_free _; silent = λ off. let was = fit.silent off in record { flags = was.flags; child = was.child; code = was.code }; blocked = fit.blocked };
+    })
+
+    pub step_sound : IsSound (change_lwp tid (λ l. record l { stepping = true }) rows)
+    step_sound = lwp_sound rows tid p o.lwp (λ l. record l { stepping = true }) t.sound o.there owner_is (record {
+      tid = λ k. refl;
+      own = λ k. refl;
+      flags = λ k. refl;
+      waits = stood.waits;
+      fit = λ fit. record { untraced = not_free _; silent = λ off. let was = fit.silent off in record { flags = was.flags; child = was.child; code = was.code }; blocked = fit.blocked };
+    })
+
+  -- Its mask
+
+  abbrev masked : (EventMask → EventMask) → ProcData → ProcData
+  masked mask q = record q { mask = mask q.mask }
+
+  pub set_mask_sound : (mask : EventMask → EventMask) → IsSound (set_mask mask p.pid rows)
+  set_mask_sound mask = process_sound rows p.pid p (masked mask) t.sound t.home (record {
+    pid = λ q. refl;
+    uid = λ q. refl;
+    tracer = λ q. refl;
+    parent = λ q. refl;
+    live = refl;
+    named = inl refl;
+    fits = record { stopped = its_fit.stopped; job = its_fit.job; continued = its_fit.continued; untraced = λ none. absurd (true≢false (sym t.traced ∙ ap is_some none)); ended = live_fits (masked mask p) p.state (live_state p t.live) };
+    fit_lwp = λ l fit. record { untraced = λ none. absurd (true≢false (sym t.traced ∙ ap is_some none)); silent = fit.silent; blocked = fit.blocked };
+  })
+
+  pub set_mask_tracee : (mask : EventMask → EventMask) → Tracee (set_mask mask p.pid rows) (masked mask p)
+  set_mask_tracee mask = record {
+    sound = set_mask_sound mask;
+    home = find_edit (λ q. q.pid == p.pid) (λ q. Some (if q.pid == p.pid then masked mask q else q)) (λ q. choose (q.pid == p.pid) (masked mask q) q (λ r. (r.pid == p.pid) ≡ (q.pid == p.pid)) (λ e. refl) (λ e. refl)) rows.processes p (masked mask p) t.home (rw (eq-eqb p.pid p.pid refl) refl);
+    live = t.live;
+    traced = t.traced;
+  }
+
+  pub resumes_sound : (settings : Settings) (sig : ℕ) → IsSound (resume settings p.pid sig rows)
+  resumes_sound settings sig = resume_sound settings rows p.pid p t.sound t.home t.live sig
+
+pub stepping_tracee : (rows : Rows) (p : ProcData) (tid : ℕ) → Tracee rows p → OwnLwp rows p tid → Tracee (stepping p.pid tid rows) p
+stepping_tracee rows p tid t o =
+    let less = not_stepping_tracee rows p t in
+    record { sound = step_sound (not_stepping p.pid rows) p less tid (not_stepping_lwp rows p t tid o); home = less.home; live = t.live; traced = t.traced }
+
+pub continues_sound : (settings : Settings) (mask : EventMask → EventMask) (sig : ℕ) (rows : Rows) (p : ProcData) → Tracee rows p → IsSound (continues_with settings mask sig p rows).rows
+continues_sound settings mask sig rows p t =
+    let masks = set_mask_tracee rows p t mask in
+    let less = not_stepping_tracee (set_mask mask p.pid rows) (masked rows p t mask p) masks in
+    resumes_sound (not_stepping p.pid (set_mask mask p.pid rows)) (masked rows p t mask p) less settings sig
