@@ -156,7 +156,7 @@ is_end_action action.Stop = false
 is_end_action action.Discard = false
 
 -- the signals that end a process by default are words of ends
-ends_by_default : (s : ℕ) → IsSignal s → default_action s ≡ action.End → is_end s ≡ true
+pub ends_by_default : (s : ℕ) → IsSignal s → default_action s ≡ action.End → is_end s ≡ true
 ends_by_default s sig is = or_second _ (both (leb 1 s && leb s 31) (not (s == 19)) (both (leb 1 s) (leb s 31) (le-leb 1 s sig.0) (le-leb s 31 sig.1))
     (ap not (by_bool (s == 19) (λ e. true≢false (sym (ap is_end_action (sym (ap default_action (eqb-true s 19 e)) ∙ is)))))))
   where

@@ -1,6 +1,10 @@
--- Whose turn it is.
+-- Whose turn it is, and what it does after a fork.
 use Rattle.std.specs.Prelude.{◌≡◌, ℕ, Some, IsSomeAnd}
+use Rattle.event_masks.specs.declared.Call.{Call}
+use Rattle.event_masks.specs.declared.Call.TheVariants as call
 use Rattle.lwp_table.specs.declared.LwpData.{LwpData}
+use Rattle.lwp_table.specs.declared.Mode.{Mode}
+use Rattle.lwp_table.specs.declared.Mode.TheVariants.{User, VforkWait}
 use Rattle.lwp_table.specs.Lwps.{lwp_of}
 use Rattle.proc_table.specs.declared.ProcData.{ProcData}
 use Rattle.proc_table.specs.Processes.{process_of, is_run}
@@ -17,3 +21,13 @@ pub record IsActing (p : ProcData) (l : LwpData) (rows : Rows) : Type 0 where
 pub record HasLwp (pid tid : ℕ) (rows : Rows) : Type 0 where
   pub process : IsRow rows pid
   pub lwp : IsSomeAnd (lwp_of tid rows.lwps) (λ l. l.pid ≡ pid)
+
+-- what an LWP does after a fork: after a vfork it waits for the child
+abbrev pub mode_after : Call → ℕ → Mode
+mode_after call.Vfork child = VforkWait child
+mode_after call.Fork child = User
+mode_after call.Exec child = User
+mode_after call.ThrNew child = User
+mode_after call.ThrExit child = User
+mode_after (call.Exit status) child = User
+mode_after (call.Other code) child = User

@@ -1,4 +1,4 @@
-//! What an LWP in user mode does at its turn, and how a turn stops a process.
+//! What an LWP in user mode does at its turn.
 
 ghost use Rattle.std.specs.Prelude.{◌≡◌, ◌≢◌, Some, true, false};
 ghost use Rattle.pid_blocks.specs.declared.Errno.TheVariants as errno;
@@ -9,76 +9,18 @@ ghost use Rattle.proc_table.specs.Rows.{change_lwp};
 ghost use Rattle.signals.specs.Table.{maskable};
 ghost use Rattle.trace_stop.specs.Facts.{IsSound};
 ghost use Rattle.requests.specs.declared.Reply.TheVariants as reply;
-ghost use Rattle.requests.specs.Actors.{IsActing, HasLwp};
-ghost use Rattle.requests.specs.Outcome.{stops_with, stops_or, trap};
-ghost use Rattle.requests.specs.Leave.{in_mode};
-ghost use Rattle.requests.specs.Turn.{plain, computes, raises, enters, acts};
+ghost use Rattle.requests.specs.Actors.{IsActing};
+ghost use Rattle.requests.specs.Turn.{computes, raises, enters, acts};
 
-use crate::stubs::{post_lwp, stop};
+use crate::stopping::{plain, set_mode, stop_with, trap};
+use crate::stubs::post_lwp;
 use crate::{Act, Reply};
-use event_masks::{Call, StopFlags, call_code, entry_flags};
+use event_masks::{Call, entry_flags};
 use lwp_table::{LwpData, Mode};
-use pid_blocks::{Errno, Pid, Tid};
+use pid_blocks::Errno;
 use proc_table::{ProcData, Tables};
 use signals::{SigSet, Signal};
-use trace_stop::{Settings, Shown};
-
-/// A stop with no more than a signal.
-pub fn plain(signal: Signal) -> Shown
-    ensures { result ≡ plain signal }
-{
-    Shown {
-        sig: signal,
-        flags: StopFlags::none(),
-        child: 0,
-        code: 0,
-    }
-}
-
-/// A SIGTRAP stop in a call; it shows the call's code at the call's entry and exit.
-pub fn trap(flags: StopFlags, child: u32, call: Call) -> Shown
-    ensures { result ≡ trap flags child call }
-{
-    let at_edge = flags.shows(StopFlags::PL_FLAG_SCE) || flags.shows(StopFlags::PL_FLAG_SCX);
-    Shown {
-        sig: Signal::trap(),
-        flags,
-        child,
-        code: if at_edge { call_code(call) } else { 0 },
-    }
-}
-
-fn stopped(tid: Tid, shown: &Shown) -> Reply
-    ensures { result ≡ reply.Stopped tid shown.now.sig shown.now.flags }
-{
-    Reply::Stopped {
-        tid,
-        sig: shown.sig,
-        flags: shown.flags,
-    }
-}
-
-/// A trace stop of the LWP, with its reply.
-pub fn stop_with(tables: &mut Tables, p: &ProcData, l: &LwpData, shown: &Shown) -> Reply
-    requires { HasLwp p.now.pid l.now.tid tables.old.rows }
-    ensures rows { tables.new.rows ≡ (stops_with shown.now p.now l.now tables.old.rows).rows }
-    ensures reply { result ≡ (stops_with shown.now p.now l.now tables.old.rows).reply }
-    ensures given { result ≢ reply.Errno errno.ENOMEM }
-{
-    stop(tables, p.pid, l.tid, shown);
-    stopped(l.tid, shown)
-}
-
-/// The LWP is in this mode from now on.
-pub fn set_mode(tables: &mut Tables, pid: Pid, tid: Tid, mode: Mode)
-    requires { HasLwp pid tid tables.old.rows }
-    ensures rows { tables.new.rows ≡ in_mode mode tid tables.old.rows }
-    ensures there { HasLwp pid tid tables.new.rows }
-{
-    let l = tables.lwp(tid).unwrap();
-    tables.set_lwp(LwpData { mode, ..l });
-    let _unused = pid;
-}
+use trace_stop::Settings;
 
 /// The LWP steps no more.
 fn stop_stepping(tables: &mut Tables, l: &LwpData)

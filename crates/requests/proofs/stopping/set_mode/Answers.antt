@@ -8,7 +8,7 @@ use Rattle.proc_table.proofs.Changes.{change_lwp-at}
 use Rattle.requests.specs.Actors.{HasLwp}
 use Rattle.requests.specs.Leave.{in_mode}
 use Rattle.requests.proofs.Actors.{found_itself, has-lwp_changed}
-use Rattle.requests.proofs.acts.set_mode.Goals as goal
+use Rattle.requests.proofs.stopping.set_mode.Goals as goal
 
 pub set_lwp-requires : goal.set_lwp-requires
 set_lwp-requires c = lwp_there c.args.tables.now.rows c.unwrap-l.result c.unwrap-l.result (found_itself c.args.tid c.unwrap-l.result c.args.tables.now.rows.lwps (sym c.lwp.ensures.row ∙ c.unwrap-l.ensures)) refl
