@@ -8,7 +8,8 @@ use Rattle.proc_table.specs.declared.ProcData.{ProcData}
 use Rattle.proc_table.specs.declared.State.{State}
 use Rattle.proc_table.specs.declared.State.TheVariants.{Run, Trace, Job, Zombie}
 use Rattle.proc_table.specs.Processes.{process_of, is_live, is_run, is_run_state, is_zombie_state}
-use Rattle.proc_table.specs.Rows.{Rows, change, change_process, change_lwp}
+use Rattle.proc_table.specs.Rows.{Rows, change, change_process, change_lwp, is_numbered}
+use Rattle.proc_table.specs.Edits.{own_lwp, map_lwps}
 use Rattle.proc_table.specs.Fresh.{is_process, add_process, add_lwp}
 use Rattle.proc_table.specs.Kept.{IsKept, IsRow}
 use Rattle.proc_table.specs.Seen.{owns, seen_lwp}
@@ -18,7 +19,7 @@ use Rattle.proc_table.proofs.Every.{some_and}
 use Rattle.proc_table.proofs.Rising.{Lacks-from_any}
 use Rattle.proc_table.proofs.Placed.{is_process-placed}
 use Rattle.proc_table.proofs.Changes.{changed, changed_lwp, filter_map-map}
-use Rattle.proc_table.proofs.Stays.{changed-pid, changed_lwp-keeps}
+use Rattle.proc_table.proofs.Stays.{changed-pid, changed_lwp-keeps, own_lwp-keeps}
 use Rattle.trace_stop.specs.Laws.{is_live_at}
 use Rattle.trace_stop.proofs.Every.{and_left, any_more, find_some}
 use Rattle.trace_stop.proofs.Stops.{find_passes}
@@ -28,7 +29,7 @@ use Rattle.requests.specs.Turn.{without_signal}
 use Rattle.requests.proofs.Acting.{choose, Acting, own_lwps}
 use Rattle.requests.proofs.Signals.{taken_alike}
 use Rattle.signals.specs.Table.{SIGCHLD}
-use Rattle.trace_stop.specs.Post.{posted_process, posted_lwp, notified}
+use Rattle.trace_stop.specs.Post.{settled_process, settled_lwp, settle, posted_process, posted_lwp, notified}
 use Rattle.trace_stop.specs.End.{tracer_of}
 use Rattle.trace_stop.specs.Stop.{tracers, stop}
 use Rattle.trace_stop.specs.declared.Shown.{Shown}
@@ -151,3 +152,15 @@ lwp_added new (l ∷ ls) free = elim (cases_Bool (nat_eq l.tid new.tid)) [
   | inl e ↦ absurd (true≢false (sym (rw e refl) ∙ free))
   | inr e ↦ rw e (lwp_added new ls (rw e at free))
 ]
+
+pub has-settled : (n pid tid : ℕ) (rows : Rows) → HasLwp pid tid rows → HasLwp pid tid (settle n rows)
+has-settled n pid tid rows h = has-change (is_numbered n) settled_process settled_lwp (λ p. refl) (λ p l. refl) (λ p l. refl) pid tid rows h
+
+-- and after changes of one process's LWPs
+pub has-lwps_mapped : (n : ℕ) (g : LwpData → LwpData) → ((k : LwpData) → (g k).tid ≡ k.tid) → ((k : LwpData) → (g k).pid ≡ k.pid)
+    → (pid tid : ℕ) (rows : Rows) → HasLwp pid tid rows → HasLwp pid tid (map_lwps n g rows)
+has-lwps_mapped n g same own pid tid rows h = record {
+  process = h.process;
+  lwp = subst (λ o. IsSomeAnd o (λ l. l.pid ≡ pid)) (sym (lwp_of-map (own_lwp n g) (own_lwp-keeps (λ l. l.tid) g same n) tid rows.lwps))
+      (owner_kept pid (own_lwp n g) (own_lwp-keeps (λ l. l.pid) g own n) (lwp_of tid rows.lwps) h.lwp);
+}

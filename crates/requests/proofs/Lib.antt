@@ -24,3 +24,4 @@ pub mod Actors
 pub mod Acting
 pub mod Masks
 pub mod Signals
+pub mod Programs

@@ -95,6 +95,26 @@ pub fn exit_stop(p: &ProcData, call: Call, child: u32) -> Option<Shown>
     }
 }
 
+/// A trace stop of the LWP where there is a stop; else the answer.
+pub fn stop_or(
+    tables: &mut Tables,
+    shown: &Option<Shown>,
+    answer: Reply,
+    p: &ProcData,
+    l: &LwpData,
+) -> Reply
+    requires there { HasLwp p.now.pid l.now.tid tables.old.rows }
+    requires given { answer ≢ reply.Errno errno.ENOMEM }
+    ensures rows { tables.new.rows ≡ (stops_or shown.now answer p.now l.now tables.old.rows).rows }
+    ensures reply { result ≡ (stops_or shown.now answer p.now l.now tables.old.rows).reply }
+    ensures given { result ≢ reply.Errno errno.ENOMEM }
+{
+    match shown {
+        Some(shown) => stop_with(tables, p, l, shown),
+        None => answer,
+    }
+}
+
 /// A call is over: its LWP is in another mode, and stops where there is a stop; else the call has its answer.
 pub fn finish(
     tables: &mut Tables,
@@ -111,8 +131,5 @@ pub fn finish(
     ensures given { result ≢ reply.Errno errno.ENOMEM }
 {
     set_mode(tables, p.pid, l.tid, mode);
-    match shown {
-        Some(shown) => stop_with(tables, p, l, shown),
-        None => answer,
-    }
+    stop_or(tables, shown, answer, p, l)
 }

@@ -1,7 +1,5 @@
 use Rattle.std.proofs.Common.{◌≡◌, Some, sym, refl, ◌∙◌, subst}
-use Rattle.lwp_table.specs.declared.LwpData.{LwpData}
 use Rattle.lwp_table.specs.Lwps.{lwp_of}
-use Rattle.proc_table.specs.Rows.{Rows, change_lwp}
 use Rattle.proc_table.proofs.Rows.{lwp_of-tid}
 use Rattle.proc_table.proofs.Stays.{lwp_there}
 use Rattle.proc_table.proofs.Changes.{change_lwp-at}
