@@ -100,7 +100,8 @@ fn release_parent(tables: &mut Tables, p: &ProcData)
 /// The process catches no signal any more.
 fn drop_handlers(tables: &mut Tables, pid: Pid)
     requires { IsRow tables.old.rows pid }
-    ensures { tables.new.rows ≡ change_process pid (λ q. record q { dispositions = after_exec q.dispositions }) tables.old.rows }
+    ensures { tables.new.rows
+        ≡ change_process pid (λ q. record q { dispositions = after_exec q.dispositions }) tables.old.rows }
 {
     let row = tables.process(pid).unwrap();
     tables.set_process(ProcData {
@@ -127,8 +128,10 @@ fn run_program(tables: &mut Tables, p: &ProcData, l: &LwpData)
 pub fn exec(tables: &mut Tables, p: &ProcData, l: &LwpData) -> Reply
     requires sound { IsSound tables.old.rows }
     requires acting { IsActing p.now l.now tables.old.rows }
-    ensures rows { tables.new.rows ≡ (stops_or (exit_stop p.now call.Exec 0) reply.Done p.now l.now (exec_rows p.now l.now tables.old.rows)).rows }
-    ensures reply { result ≡ (stops_or (exit_stop p.now call.Exec 0) reply.Done p.now l.now (exec_rows p.now l.now tables.old.rows)).reply }
+    ensures rows { let replaced = exec_rows p.now l.now tables.old.rows in
+        tables.new.rows ≡ (stops_or (exit_stop p.now call.Exec 0) reply.Done p.now l.now replaced).rows }
+    ensures reply { let replaced = exec_rows p.now l.now tables.old.rows in
+        result ≡ (stops_or (exit_stop p.now call.Exec 0) reply.Done p.now l.now replaced).reply }
     ensures given { result ≢ reply.Errno errno.ENOMEM }
 {
     run_program(tables, p, l);

@@ -88,11 +88,12 @@ fn add_child(tables: &mut Tables, call: Call, p: &ProcData, l: &LwpData, pid: Pi
 /// with ENOMEM where memory runs out.
 pub fn fork(tables: &mut Tables, call: Call, p: &ProcData, l: &LwpData) -> Reply
     requires { IsActing p.now l.now tables.old.rows }
-    ensures machine { result ≢ reply.Errno errno.ENOMEM →
-        (tables.new.rows ≡ (forks call (mode_after call) p.now l.now tables.old.rows (room_for_process p.now.uid tables.old.rows)).rows)
-        × (result ≡ (forks call (mode_after call) p.now l.now tables.old.rows (room_for_process p.now.uid tables.old.rows)).reply) }
-    ensures memory { result ≡ reply.Errno errno.ENOMEM → (tables.new.rows ≡ tables.old.rows)
-        × (is_refusal (forks call (mode_after call) p.now l.now tables.old.rows (room_for_process p.now.uid tables.old.rows)).reply ≡ false) }
+    ensures machine { let room = room_for_process p.now.uid tables.old.rows in
+        let after = forks call (mode_after call) p.now l.now tables.old.rows room in
+        result ≢ reply.Errno errno.ENOMEM → (tables.new.rows ≡ after.rows) × (result ≡ after.reply) }
+    ensures memory { let room = room_for_process p.now.uid tables.old.rows in
+        let after = forks call (mode_after call) p.now l.now tables.old.rows room in
+        result ≡ reply.Errno errno.ENOMEM → (tables.new.rows ≡ tables.old.rows) × (is_refusal after.reply ≡ false) }
 {
     let Some(pid) = room_for_pid(tables, p.uid) else {
         return Reply::Errno(Errno::EAGAIN);

@@ -73,11 +73,10 @@ fn due_at_birth(p: &ProcData) -> Due
 /// out.
 fn make_lwp(tables: &mut Tables, p: &ProcData, l: &LwpData) -> Reply
     requires { IsActing p.now l.now tables.old.rows }
-    ensures machine { result ≢ reply.Errno errno.ENOMEM →
-        (tables.new.rows ≡ (makes_lwp p.now l.now tables.old.rows (room_for_lwp p.now.uid tables.old.rows)).rows)
-        × (result ≡ (makes_lwp p.now l.now tables.old.rows (room_for_lwp p.now.uid tables.old.rows)).reply) }
-    ensures memory { result ≡ reply.Errno errno.ENOMEM → (tables.new.rows ≡ tables.old.rows)
-        × (is_refusal (makes_lwp p.now l.now tables.old.rows (room_for_lwp p.now.uid tables.old.rows)).reply ≡ false) }
+    ensures machine { let after = makes_lwp p.now l.now tables.old.rows (room_for_lwp p.now.uid tables.old.rows) in
+        result ≢ reply.Errno errno.ENOMEM → (tables.new.rows ≡ after.rows) × (result ≡ after.reply) }
+    ensures memory { let after = makes_lwp p.now l.now tables.old.rows (room_for_lwp p.now.uid tables.old.rows) in
+        result ≡ reply.Errno errno.ENOMEM → (tables.new.rows ≡ tables.old.rows) × (is_refusal after.reply ≡ false) }
 {
     let Some(tid) = room_for_lwp(tables, p.uid) else {
         return Reply::Errno(Errno::EAGAIN);

@@ -1,23 +1,21 @@
 //! The turn of an LWP: a due stop, a signal, or its act.
 
-ghost use Rattle.std.specs.Prelude.{◌≡◌, ◌≢◌, [], ◌∷◌, true, false, Some};
+ghost use Rattle.std.specs.Prelude.{◌≡◌, ◌≢◌, true, false, Some};
 ghost use Rattle.pid_blocks.specs.declared.Errno.TheVariants as errno;
 ghost use Rattle.signals.specs.Table.{disposition_of};
 ghost use Rattle.lwp_table.specs.declared.Due.TheVariants as due;
 ghost use Rattle.trace_stop.specs.Laws.{is_live_at};
 ghost use Rattle.event_masks.specs.Exits.{no_flags};
 ghost use Rattle.proc_table.specs.Kept.{IsRow};
-ghost use Rattle.proc_table.specs.Rows.{change_process, change_lwp};
-ghost use Rattle.proc_table.specs.declared.State.TheVariants as state;
-ghost use Rattle.trace_stop.specs.Post.{notified};
+ghost use Rattle.proc_table.specs.Rows.{change_lwp};
 ghost use Rattle.proc_table.specs.Processes.{is_run};
 ghost use Rattle.trace_stop.specs.Facts.{IsSound};
 ghost use Rattle.requests.specs.declared.Reply.TheVariants as reply;
 ghost use Rattle.requests.specs.Actors.{IsActing, HasLwp};
-ghost use Rattle.requests.specs.Turn.{without_signal, takes, takes_untraced, next_signal, due_stop, waits, acts, turn_of, turn};
+ghost use Rattle.requests.specs.Turn.{without_signal, job_stops, takes, takes_untraced, next_signal, due_stop, waits, acts, turn_of, turn};
 ghost use Rattle.requests.specs.Memory.{leaves_making, turn_makes, is_refusal};
 ghost use Rattle.proc_table.specs.Seen.{seen_lwp};
-ghost use Rattle.requests.specs.Outcome.{stops_with};
+ghost use Rattle.trace_stop.specs.Stop.{stop};
 
 use crate::acts::act_in_user_mode;
 use crate::leaves::leave;
@@ -83,10 +81,22 @@ fn drop_signal(tables: &mut Tables, signal: Signal, p: &ProcData, l: &LwpData)
     }
 }
 
+fn job_stopped(tid: Tid, signal: Signal) -> Reply
+    ensures { result ≡ reply.Stopped tid signal no_flags }
+{
+    Reply::Stopped {
+        tid,
+        sig: signal,
+        flags: StopFlags::none(),
+    }
+}
+
 /// A process stops for job control, and its parent is told.
-fn job_stop(tables: &mut Tables, signal: Signal, p: &ProcData)
+fn job_stop(tables: &mut Tables, signal: Signal, p: &ProcData, l: &LwpData) -> Reply
     requires { IsRow tables.old.rows p.now.pid }
-    ensures { tables.new.rows ≡ notified (p.now.parent ∷ []) (change_process p.now.pid (λ q. record q { state = state.Job signal false; continued = false }) tables.old.rows) }
+    ensures rows { tables.new.rows ≡ (job_stops signal p.now l.now tables.old.rows).rows }
+    ensures reply { result ≡ (job_stops signal p.now l.now tables.old.rows).reply }
+    ensures given { result ≢ reply.Errno errno.ENOMEM }
 {
     let row = tables.process(p.pid).unwrap();
     tables.set_process(ProcData {
@@ -98,16 +108,7 @@ fn job_stop(tables: &mut Tables, signal: Signal, p: &ProcData)
         ..row
     });
     notify(tables, p.parent);
-}
-
-fn job_stopped(tid: Tid, signal: Signal) -> Reply
-    ensures { result ≡ reply.Stopped tid signal no_flags }
-{
-    Reply::Stopped {
-        tid,
-        sig: signal,
-        flags: StopFlags::none(),
-    }
+    job_stopped(l.tid, signal)
 }
 
 /// What an untraced process does with a signal that it takes.
@@ -120,8 +121,10 @@ fn take_untraced(
 ) -> Reply
     requires sound { IsSound tables.old.rows }
     requires live { is_live_at p.now.pid tables.old.rows ≡ true }
-    ensures rows { tables.new.rows ≡ (takes_untraced settings signal (disposition_of p.now.dispositions signal) p.now l.now tables.old.rows).rows }
-    ensures reply { result ≡ (takes_untraced settings signal (disposition_of p.now.dispositions signal) p.now l.now tables.old.rows).reply }
+    ensures rows { tables.new.rows
+        ≡ (takes_untraced settings signal (disposition_of p.now.dispositions signal) p.now l.now tables.old.rows).rows }
+    ensures reply { result
+        ≡ (takes_untraced settings signal (disposition_of p.now.dispositions signal) p.now l.now tables.old.rows).reply }
     ensures given { result ≢ reply.Errno errno.ENOMEM }
 {
     match p.dispositions.get(signal) {
@@ -132,10 +135,7 @@ fn take_untraced(
                 end(tables, settings, p.pid, signal.number());
                 Reply::Ended(signal.number())
             }
-            Action::Stop => {
-                job_stop(tables, signal, p);
-                job_stopped(l.tid, signal)
-            }
+            Action::Stop => job_stop(tables, signal, p, l),
             Action::Discard => Reply::Done,
         },
     }
@@ -152,8 +152,10 @@ fn take_signal(
     requires sound { IsSound tables.old.rows }
     requires acting { IsActing p.now l.now tables.old.rows }
     requires runs { is_run p.now ≡ true }
-    ensures rows { tables.new.rows ≡ (takes settings signal p.now l.now (without_signal signal p.now l.now tables.old.rows)).rows }
-    ensures reply { result ≡ (takes settings signal p.now l.now (without_signal signal p.now l.now tables.old.rows)).reply }
+    ensures rows { tables.new.rows
+        ≡ (takes settings signal p.now l.now (without_signal signal p.now l.now tables.old.rows)).rows }
+    ensures reply { result
+        ≡ (takes settings signal p.now l.now (without_signal signal p.now l.now tables.old.rows)).reply }
     ensures given { result ≢ reply.Errno errno.ENOMEM }
 {
     drop_signal(tables, signal, p, l);
@@ -167,8 +169,9 @@ fn take_signal(
 /// The due stop of an LWP, which is due no more.
 fn take_due(tables: &mut Tables, p: &ProcData, l: &LwpData, shown: &Shown) -> Reply
     requires { IsActing p.now l.now tables.old.rows }
-    ensures rows { tables.new.rows ≡ (stops_with shown.now p.now l.now (change_lwp l.now.tid (λ k. record k { due = due.Nothing }) tables.old.rows)).rows }
-    ensures reply { result ≡ (stops_with shown.now p.now l.now (change_lwp l.now.tid (λ k. record k { due = due.Nothing }) tables.old.rows)).reply }
+    ensures rows { tables.new.rows
+        ≡ stop p.now.pid l.now.tid shown.now (change_lwp l.now.tid (λ k. record k { due = due.Nothing }) tables.old.rows) }
+    ensures reply { result ≡ reply.Stopped l.now.tid shown.now.sig shown.now.flags }
     ensures given { result ≢ reply.Errno errno.ENOMEM }
 {
     tables.kept();

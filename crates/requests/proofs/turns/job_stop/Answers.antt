@@ -22,8 +22,8 @@ set_process-requires c =
       named = named-same rows row (record row { state = state.Job c.args.signal false; continued = false }) at c.process.ensures.kept refl refl;
     }
 
-pub returns : goal.returns
-returns c =
+pub returns-clause-rows : goal.returns-clause-rows
+returns-clause-rows c =
     let rows = c.args.tables.now.rows in
     let pid = c.args.p.now.pid in
     let row = c.unwrap-row.result in
