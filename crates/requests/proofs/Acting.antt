@@ -1,10 +1,9 @@
 -- An LWP at its turn, in sound rows, and changes of it and of its process.
-use Rattle.std.proofs.Common.{◌≡◌, ◌≢◌, ℕ, ◌≤◌, Bool, true, false, cond, ◌==◌, ◌&&◌, not, if◌then◌else◌, List, [], ◌∷◌, find, Option, Some, None, IfSome, is_some, refl, sym, ap, ◌∙◌, true≢false, subst, eqb, eqb-true, eq-eqb}
-use Rattle.std.specs.List.{AllByRecursion}
+use Rattle.std.proofs.Common.{◌≡◌, ℕ, ◌≤◌, Bool, true, false, ◌==◌, ◌&&◌, not, if◌then◌else◌, Option, Some, None, IfSome, is_some, refl, sym, ap, ◌∙◌, true≢false, subst, eqb, eq-eqb}
 use Rattle.event_masks.specs.Exits.{shows}
 use Rattle.event_masks.specs.declared.TheConstants.StopFlags.{PL_FLAG_EXITED}
 use Rattle.lwp_table.specs.declared.LwpData.{LwpData}
-use Rattle.lwp_table.specs.Lwps.{lwp_of, Differ, LacksLwp}
+use Rattle.lwp_table.specs.Lwps.{lwp_of}
 use Rattle.proc_table.specs.declared.ProcData.{ProcData}
 use Rattle.proc_table.specs.Processes.{is_live, is_run, reporting, process_of}
 use Rattle.proc_table.specs.Rows.{Rows, change_process, change_lwp}
@@ -17,6 +16,7 @@ use Rattle.trace_stop.proofs.Every.{find_some}
 use Rattle.trace_stop.proofs.Edited.{find_edit}
 use Rattle.trace_stop.proofs.Changed.{found_number}
 use Rattle.trace_stop.proofs.Single.{OneProcess, process_sound, OneLwp, lwp_sound}
+use Rattle.trace_stop.proofs.Stopping.{own_lwps}
 use Rattle.trace_stop.proofs.Stops.{run_quiet, run_ready, sound_ready, stop_sound}
 use Rattle.requests.specs.declared.Reply.{Reply}
 use Rattle.requests.specs.Outcome.{stops_or}
@@ -36,19 +36,6 @@ pub record Acting (rows : Rows) (p : ProcData) (l : LwpData) : Type 0 where
   pub there : lwp_of l.tid rows.lwps ≡ Some l
   pub own : l.pid ≡ p.pid
   pub run : is_run p ≡ true
-
--- each LWP is found by its number
-skip_lwps : (l : LwpData) (ls ks : List LwpData) → LacksLwp l.tid ks → AllByRecursion (λ k. lwp_of k.tid ls ≡ Some k) ks → AllByRecursion (λ k. lwp_of k.tid (l ∷ ls) ≡ Some k) ks
-skip_lwps l ls [] lacks all = tt
-skip_lwps l ls (k ∷ ks) lacks all = (other (l.tid == k.tid) refl, skip_lwps l ls ks lacks.1 all.1)
-  where
-    other : (b : Bool) → (l.tid == k.tid) ≡ b → cond b (Some l) (lwp_of k.tid ls) ≡ Some k
-    other true e = absurd (lacks.0 (sym (eqb-true l.tid k.tid e)))
-    other false e = all.0
-
-pub own_lwps : (ls : List LwpData) → Differ ls → AllByRecursion (λ l. lwp_of l.tid ls ≡ Some l) ls
-own_lwps [] all = tt
-own_lwps (l ∷ ls) all = (rw (eq-eqb l.tid l.tid refl) refl, skip_lwps l ls ls all.0 (own_lwps ls all.1))
 
 -- the LWP that a user sees by its number, beside its process
 pub seen_acting : (u tid : ℕ) (rows : Rows) (l : LwpData) (p : ProcData) → IsSound rows → seen_lwp u tid rows ≡ Some l → process_of l.pid rows.processes ≡ Some p → is_run p ≡ true → Acting rows p l

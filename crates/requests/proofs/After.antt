@@ -61,7 +61,7 @@ filter_each : {X : Type 0} (q : X → Bool) (xs : List X) → AllByRecursion (λ
 filter_each q [] all = refl
 filter_each q (x ∷ xs) all = rw all.0 (ap (λ ys. x ∷ ys) (filter_each q xs all.1))
 
-get_or-filter : {X : Type 0} (q : X → Bool) (xss : List (List X)) (k : ℕ) → get_or (map (filter q) xss) k [] ≡ filter q (get_or xss k [])
+pub get_or-filter : {X : Type 0} (q : X → Bool) (xss : List (List X)) (k : ℕ) → get_or (map (filter q) xss) k [] ≡ filter q (get_or xss k [])
 get_or-filter q [] k = refl
 get_or-filter q (xs ∷ xss) zero = refl
 get_or-filter q (xs ∷ xss) (suc k) = get_or-filter q xss k
@@ -95,6 +95,16 @@ after_sound m o is s = both (sound_rows o.rows) (sound_installed (after m o).mac
         (list_all-from_All (λ i. is_live_of o.rows u i.debugger) (filter left (installed_by u m))
         (filter_all left (λ i. is_live_of m.rows u i.debugger ≡ true) (λ i. is_live_of o.rows u i.debugger ≡ true)
         (λ i was still. any_of_user o.rows u i.debugger user (home_of m.rows (rows_sound m is).stands u i.debugger was) o.rows.processes s.stands.homes still) (installed_by u m) live)))
+
+-- What soundness says of a user's pairs
+pub slots_of : (m : Machine) → sound m ≡ true → length m.installed ≡ 64
+slots_of m is = eqb-true (length m.installed) 64 (and_left (length m.installed == 64) (list_all (pairs_test m.rows) (zip users m.installed)) (and_right (sound_rows m.rows) (sound_installed m) is))
+
+pairs_of : (m : Machine) → sound m ≡ true → (u : ℕ) → IsUser u → pairs_test m.rows (u, installed_by u m) ≡ true
+pairs_of m is u user = user_at (pairs_test m.rows) m.installed [] (slots_of m is) (and_right (length m.installed == 64) (list_all (pairs_test m.rows) (zip users m.installed)) (and_right (sound_rows m.rows) (sound_installed m) is)) u user
+
+pub few_installed : (m : Machine) → sound m ≡ true → (u : ℕ) → IsUser u → length (installed_by u m) ≤ 64
+few_installed m is u user = leb-true (length (installed_by u m)) 64 (and_left (leb (length (installed_by u m)) 64) (list_all (λ i. is_live_of m.rows u i.debugger) (installed_by u m)) (pairs_of m is u user))
 
 -- Where no debugger ends, what was installed stays
 
@@ -131,3 +141,8 @@ after_same m o is lives = ap (λ xs. record m { rows = o.rows; installed = xs })
 -- an answer that changes no row leaves the host
 pub answers_same : (m : Machine) (r : Reply) → sound m ≡ true → (after m (answers r m.rows)).machine ≡ m
 answers_same m r is = after_same m (answers r m.rows) is (λ n live. live)
+
+-- no pair of a user goes where the rows are as they were
+pub all_left : (m : Machine) → sound m ≡ true → (u : ℕ) → IsUser u → filter (λ i. is_live_number m.rows i.debugger) (installed_by u m) ≡ installed_by u m
+all_left m is u user = filter_each (λ i. is_live_number m.rows i.debugger) (installed_by u m) (All-imply (λ i. is_live_of m.rows u i.debugger ≡ true) (λ i. is_live_number m.rows i.debugger ≡ true) (λ i was. live_number m.rows u i.debugger was) (installed_by u m)
+    (All-from_list_all (λ i. is_live_of m.rows u i.debugger) (installed_by u m) (and_right (leb (length (installed_by u m)) 64) (list_all (λ i. is_live_of m.rows u i.debugger) (installed_by u m)) (pairs_of m is u user))))

@@ -72,6 +72,7 @@ born_fits tid pid u = record {
   untraced = λ none. record { due = refl; stepping = refl; suspended = refl; pending = refl };
   silent = λ other. record { flags = refl; child = refl; code = refl };
   blocked = refl;
+  mode = refl;
 }
 
 spawned_sound : (u : ℕ) (rows : Rows) → IsUser u → IsSound rows → (o : Option Numbers) → IfSome o (ProcessRoom u rows) → IsSound (spawn_with u rows o).rows

@@ -1,17 +1,17 @@
 -- Collecting a status keeps rows sound.
-use Rattle.std.proofs.Common.{◌≡◌, ◌≢◌, ◌⊎◌, inl, inr, ℕ, ℤ, ◌≤◌, Bool, true, false, ◌==◌, ◌&&◌, not, if◌then◌else◌, List, [], ◌∷◌, filter, filter_map, find, Option, Some, None, IfSome, is_some, refl, sym, ap, ap₂, ◌∙◌, true≢false, subst, eqb-true, eq-eqb, bit_and}
+use Rattle.std.proofs.Common.{◌≡◌, ◌⊎◌, inl, inr, ℕ, Bool, true, false, ◌==◌, ◌&&◌, not, if◌then◌else◌, [], ◌∷◌, filter_map, Option, Some, None, IfSome, is_some, refl, sym, ap, ◌∙◌, true≢false, subst, eq-eqb, bit_and}
 use Rattle.std.specs.List.{AllByRecursion}
 use Rattle.lwp_table.specs.declared.LwpData.{LwpData}
 use Rattle.proc_table.specs.declared.ProcData.{ProcData}
 use Rattle.proc_table.specs.declared.State.{State}
 use Rattle.proc_table.specs.declared.State.TheVariants.{Run, Trace, Job, Zombie}
-use Rattle.proc_table.specs.Processes.{is_live, is_run, is_job, is_zombie_state, is_run_state, is_job_state, named_by, reporting, is_this, traces, process_of}
+use Rattle.proc_table.specs.Processes.{is_live, is_zombie_state, is_run_state, is_job_state, named_by, reporting, is_this, traces, process_of}
 use Rattle.proc_table.specs.Rows.{Rows, owner, by_owner, each}
 use Rattle.trace_stop.specs.Post.{unwanted, notified}
 use Rattle.trace_stop.specs.Sound.{names_own}
-use Rattle.trace_stop.specs.Facts.{IsLiveOf, Linked, FitProcess, Untraced, waited_for, Standing, FitLwp, UntracedLwp, Silent, WithOwner, Stands, IsSound, IfEnded, Ended}
-use Rattle.trace_stop.proofs.Every.{and_left, and_right, All-imply, All-both, find_some}
-use Rattle.trace_stop.proofs.Edited.{edited, some_is}
+use Rattle.trace_stop.specs.Facts.{Linked, FitProcess, FitLwp, IsSound, IfEnded, Ended}
+use Rattle.trace_stop.proofs.Every.{and_left, and_right, All-both, find_some}
+use Rattle.trace_stop.proofs.Edited.{edited}
 use Rattle.trace_stop.proofs.Changed.{Holds, sound_holds, Change, change_holds, Lives, live_after}
 use Rattle.trace_stop.proofs.Changes.{edit_none}
 use Rattle.trace_stop.proofs.Settling.{zero_apart}
@@ -42,7 +42,7 @@ module _ (caller : ℕ) (p : ProcData) where
     parent = refl;
     reporting = refl;
     fits = λ fit. record { stopped = fit.stopped; job = fit.job; continued = λ on. absurd (true≢false (sym on)); untraced = λ none. record { mask = (fit.untraced none).mask; pending = (fit.untraced none).pending }; ended = subst (λ s. IfEnded (record p { continued = false }) s) (sym is) tt };
-    fit_lwp = λ l live fit. record { untraced = λ none. let was = fit.untraced none in record { due = was.due; stepping = was.stepping; suspended = was.suspended; pending = was.pending }; silent = fit.silent; blocked = fit.blocked };
+    fit_lwp = λ l live fit. record { untraced = λ none. let was = fit.untraced none in record { due = was.due; stepping = was.stepping; suspended = was.suspended; pending = was.pending }; silent = fit.silent; blocked = fit.blocked; mode = fit.mode };
   }
   collected_kept (Trace tid sig seen) is = record {
     pid = refl;
@@ -52,7 +52,7 @@ module _ (caller : ℕ) (p : ProcData) where
     parent = refl;
     reporting = sym (ap named_by is);
     fits = λ fit. record { stopped = λ r. fit.stopped (subst (λ s. is_some (named_by s) ≡ true) (sym is) refl); job = λ j. absurd (true≢false (sym j)); continued = λ on. absurd (true≢false (sym (fit.continued on).1 ∙ ap is_run_state is)); untraced = λ none. record { mask = (fit.untraced none).mask; pending = (fit.untraced none).pending }; ended = tt };
-    fit_lwp = λ l live fit. record { untraced = λ none. let was = fit.untraced none in record { due = was.due; stepping = was.stepping; suspended = was.suspended; pending = was.pending }; silent = λ off. fit.silent (ap (λ s. is_this l.tid (named_by s)) is ∙ off); blocked = fit.blocked };
+    fit_lwp = λ l live fit. record { untraced = λ none. let was = fit.untraced none in record { due = was.due; stepping = was.stepping; suspended = was.suspended; pending = was.pending }; silent = λ off. fit.silent (ap (λ s. is_this l.tid (named_by s)) is ∙ off); blocked = fit.blocked; mode = fit.mode };
   }
   collected_kept (Job sig seen) is = record {
     pid = refl;
@@ -62,7 +62,7 @@ module _ (caller : ℕ) (p : ProcData) where
     parent = refl;
     reporting = sym (ap named_by is);
     fits = λ fit. record { stopped = λ r. absurd (true≢false (sym r)); job = λ j. fit.job (ap is_job_state is); continued = λ on. absurd (true≢false (sym (fit.continued on).1 ∙ ap is_run_state is)); untraced = λ none. record { mask = (fit.untraced none).mask; pending = (fit.untraced none).pending }; ended = tt };
-    fit_lwp = λ l live fit. record { untraced = λ none. let was = fit.untraced none in record { due = was.due; stepping = was.stepping; suspended = was.suspended; pending = was.pending }; silent = λ off. fit.silent (ap (λ s. is_this l.tid (named_by s)) is ∙ off); blocked = fit.blocked };
+    fit_lwp = λ l live fit. record { untraced = λ none. let was = fit.untraced none in record { due = was.due; stepping = was.stepping; suspended = was.suspended; pending = was.pending }; silent = λ off. fit.silent (ap (λ s. is_this l.tid (named_by s)) is ∙ off); blocked = fit.blocked; mode = fit.mode };
   }
   collected_kept (Zombie w) is = by_stay (stays caller p) refl
     where

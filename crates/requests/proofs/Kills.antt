@@ -1,11 +1,11 @@
 -- Kills and installed policies keep a host sound.
-use Rattle.std.proofs.Common.{◌≡◌, ◌≢◌, ℕ, ℤ, ◌+◌, ◌<◌, ◌≤◌, Bool, true, false, ◌==◌, ◌&&◌, ◌||◌, not, leb, if◌then◌else◌, List, [], ◌∷◌, ◌++◌, length, length-append, zip, Option, Some, None, refl, sym, ap, ◌∙◌, arith, true≢false, subst, eqb-true, eq-eqb, get_or, set, get_or-set_same, get_or-set_other, length-set}
+use Rattle.std.proofs.Common.{◌≡◌, ◌≢◌, ℕ, ℤ, Bool, true, false, ◌==◌, ◌&&◌, ◌||◌, not, leb, if◌then◌else◌, List, [], ◌∷◌, ◌++◌, length, length-append, zip, Option, Some, None, refl, sym, ◌∙◌, arith, true≢false, subst, eqb-true, eq-eqb, get_or, set, get_or-set_same, get_or-set_other, length-set}
 use Rattle.std.specs.List.{list_all}
-use Rattle.std.proofs.lemmas.Bool.{leb-true, le-leb, leb-false}
+use Rattle.std.proofs.lemmas.Bool.{le-leb, leb-false}
 use Rattle.std.proofs.lemmas.List.Folds.{list_all-append}
 use Rattle.pid_blocks.specs.Users.{IsUser}
 use Rattle.pid_blocks.specs.Blocks.{slot, users}
-use Rattle.pid_blocks.specs.declared.Errno.TheVariants.{ESRCH, EINVAL, EAGAIN}
+use Rattle.pid_blocks.specs.declared.Errno.TheVariants.{EINVAL, EAGAIN}
 use Rattle.proc_table.specs.declared.ProcData.{ProcData}
 use Rattle.proc_table.specs.Processes.{is_live, process_of}
 use Rattle.proc_table.specs.Rows.{Rows}
@@ -20,7 +20,7 @@ use Rattle.trace_stop.proofs.Posts.{post_sound}
 use Rattle.trace_stop.proofs.Stops.{find_passes}
 use Rattle.stop_handlers.specs.declared.Rule.{Rule}
 use Rattle.requests.specs.declared.PlainStep.TheVariants as op
-use Rattle.requests.specs.Outcome.{Outcome, refuses}
+use Rattle.requests.specs.Outcome.{refuses}
 use Rattle.requests.specs.Reach.{is_which, reach, post_if_live, post_all, reached, kill}
 use Rattle.requests.specs.Handle.{install}
 use Rattle.requests.specs.Machine.{Installed, Machine, installed_by, after}
@@ -52,7 +52,7 @@ kill_sound m u n which sig is = checked_sound u (op.Kill n which sig) m n is (λ
 
 -- Installed policies
 
-live_caller : (rows : Rows) (u : ℕ) (p : ProcData) → Caller u rows p → IsLiveOf rows u p.pid
+pub live_caller : (rows : Rows) (u : ℕ) (p : ProcData) → Caller u rows p → IsLiveOf rows u p.pid
 live_caller rows u p c = find_passes (λ q. q.pid == p.pid) (λ q. (q.pid == p.pid) && (q.uid == u) && is_live q) rows.processes p c.at (both ((p.pid == p.pid) && (p.uid == u)) (is_live p) (both (p.pid == p.pid) (p.uid == u) (eq-eqb p.pid p.pid refl) (eq-eqb p.uid u c.uid)) c.live)
 
 module _ (m : Machine) (u : ℕ) (p : ProcData) (policy : List Rule) (user : IsUser u) (is : sound m ≡ true) (c : Caller u m.rows p) where

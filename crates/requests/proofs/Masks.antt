@@ -12,13 +12,14 @@ use Rattle.trace_stop.specs.Sound.{names_own}
 use Rattle.trace_stop.specs.Facts.{FitProcess, Standing, FitLwp, WithOwner, IsSound}
 use Rattle.trace_stop.proofs.Every.{and_left, and_right, find_some, any_holds}
 use Rattle.trace_stop.proofs.Edited.{find_edit}
-use Rattle.trace_stop.proofs.Changed.{found_number, holds_sound, sound_holds}
+use Rattle.trace_stop.proofs.Changed.{holds_sound, sound_holds}
 use Rattle.trace_stop.proofs.Changes.{changes_hold}
 use Rattle.trace_stop.proofs.Posting.{live_fits, live_state}
-use Rattle.trace_stop.proofs.Single.{OneLwp, process_sound, lwp_sound}
+use Rattle.trace_stop.proofs.Single.{process_sound, lwp_sound}
 use Rattle.trace_stop.proofs.Posts.{resume_sound}
+use Rattle.trace_stop.proofs.Stopping.{own_lwps}
 use Rattle.requests.specs.Ptrace.{not_stepping, stepping, suspend, set_mask, continues_with}
-use Rattle.requests.proofs.Acting.{choose, own_lwps}
+use Rattle.requests.proofs.Acting.{choose}
 
 -- a live traced process in sound rows
 pub record Tracee (rows : Rows) (p : ProcData) : Type 0 where
@@ -61,6 +62,7 @@ stepless_fits p l fit = record {
   untraced = λ none. let was = fit.untraced none in record { due = was.due; stepping = refl; suspended = was.suspended; pending = was.pending };
   silent = λ off. let was = fit.silent off in record { flags = was.flags; child = was.child; code = was.code };
   blocked = fit.blocked;
+  mode = fit.mode;
 }
 
 pub not_stepping_sound : (rows : Rows) (pid : ℕ) → IsSound rows → IsSound (not_stepping pid rows)
@@ -122,7 +124,7 @@ module _ (rows : Rows) (p : ProcData) (t : Tracee rows p) where
       own = λ k. refl;
       flags = λ k. refl;
       waits = stood.waits;
-      fit = λ fit. record { untraced = not_free _; silent = λ off. let was = fit.silent off in record { flags = was.flags; child = was.child; code = was.code }; blocked = fit.blocked };
+      fit = λ fit. record { untraced = not_free _; silent = λ off. let was = fit.silent off in record { flags = was.flags; child = was.child; code = was.code }; blocked = fit.blocked; mode = fit.mode };
     })
 
     pub step_sound : IsSound (change_lwp tid (λ l. record l { stepping = true }) rows)
@@ -131,7 +133,7 @@ module _ (rows : Rows) (p : ProcData) (t : Tracee rows p) where
       own = λ k. refl;
       flags = λ k. refl;
       waits = stood.waits;
-      fit = λ fit. record { untraced = not_free _; silent = λ off. let was = fit.silent off in record { flags = was.flags; child = was.child; code = was.code }; blocked = fit.blocked };
+      fit = λ fit. record { untraced = not_free _; silent = λ off. let was = fit.silent off in record { flags = was.flags; child = was.child; code = was.code }; blocked = fit.blocked; mode = fit.mode };
     })
 
   -- Its mask
@@ -148,7 +150,7 @@ module _ (rows : Rows) (p : ProcData) (t : Tracee rows p) where
     live = refl;
     named = inl refl;
     fits = record { stopped = its_fit.stopped; job = its_fit.job; continued = its_fit.continued; untraced = λ none. absurd (true≢false (sym t.traced ∙ ap is_some none)); ended = live_fits (masked mask p) p.state (live_state p t.live) };
-    fit_lwp = λ l fit. record { untraced = λ none. absurd (true≢false (sym t.traced ∙ ap is_some none)); silent = fit.silent; blocked = fit.blocked };
+    fit_lwp = λ l fit. record { untraced = λ none. absurd (true≢false (sym t.traced ∙ ap is_some none)); silent = fit.silent; blocked = fit.blocked; mode = fit.mode };
   })
 
   pub set_mask_tracee : (mask : EventMask → EventMask) → Tracee (set_mask mask p.pid rows) (masked mask p)

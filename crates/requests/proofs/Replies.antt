@@ -4,11 +4,11 @@ use Rattle.pid_blocks.specs.declared.Errno.TheVariants as errno
 use Rattle.requests.specs.declared.Reply.{Reply}
 use Rattle.requests.specs.declared.Reply.TheVariants as reply
 
-abbrev wants : Reply → Bool
+abbrev pub wants : Reply → Bool
 wants (reply.Errno errno.ENOMEM) = true
 wants r = false
 
-other : (r : Reply) → wants r ≡ false → r ≢ reply.Errno errno.ENOMEM
+pub other : (r : Reply) → wants r ≡ false → r ≢ reply.Errno errno.ENOMEM
 other r none is = true≢false (sym (ap wants is) ∙ none)
 
 pub cases_memory : (r : Reply) → (r ≡ reply.Errno errno.ENOMEM) ⊎ (r ≢ reply.Errno errno.ENOMEM)

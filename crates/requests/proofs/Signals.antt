@@ -1,9 +1,8 @@
 -- Pending signals that an LWP takes, and what they do, keep rows sound.
-use Rattle.std.proofs.Common.{◌≡◌, ◌≢◌, inl, inr, ℕ, ◌≤◌, Bool, true, false, ◌==◌, ◌&&◌, ◌||◌, not, leb, if◌then◌else◌, [], ◌∷◌, Option, Some, None, IfSome, is_some, is_none, refl, sym, ap, ◌∙◌, true≢false, subst, arith, eqb-true, eq-eqb, bit_and, bit_or}
-use Rattle.std.specs.List.{AllByRecursion}
+use Rattle.std.proofs.Common.{◌≡◌, inl, inr, ℕ, Bool, true, false, ◌==◌, ◌&&◌, ◌||◌, not, leb, if◌then◌else◌, [], ◌∷◌, Option, Some, None, IfSome, is_some, refl, sym, ap, ◌∙◌, true≢false, subst, eqb-true, eq-eqb, bit_or}
 use Rattle.std.proofs.lemmas.Bool.{le-leb}
 use Rattle.signals.specs.Sets.{has, bit, without, lowest}
-use Rattle.signals.specs.Table.{SIGTRAP, unmaskable_set, is_signal, maskable, is_discarded, stops, disposition_of, default_action}
+use Rattle.signals.specs.Table.{SIGTRAP, unmaskable_set, is_signal, maskable, disposition_of, default_action}
 use Rattle.signals.specs.Laws.{IsSignal, IsLowest}
 use Rattle.signals.specs.declared.Action.{Action}
 use Rattle.signals.specs.declared.Action.TheVariants as action
@@ -15,24 +14,24 @@ use Rattle.lwp_table.specs.declared.Mode.{Mode}
 use Rattle.lwp_table.specs.declared.Mode.TheVariants.{User, InCall, VforkWait}
 use Rattle.proc_table.specs.declared.ProcData.{ProcData}
 use Rattle.proc_table.specs.declared.State.TheVariants.{Job}
-use Rattle.proc_table.specs.Processes.{is_live, is_run, reporting, is_this, process_of}
+use Rattle.proc_table.specs.Processes.{is_live, is_this, process_of}
 use Rattle.proc_table.specs.Rows.{Rows, change_process, change_lwp}
 use Rattle.trace_stop.specs.declared.Settings.{Settings}
 use Rattle.trace_stop.specs.Post.{unwanted, notified}
 use Rattle.trace_stop.specs.End.{end}
-use Rattle.trace_stop.specs.Stop.{stop, post}
+use Rattle.trace_stop.specs.Stop.{stop}
 use Rattle.trace_stop.specs.Sound.{is_end}
 use Rattle.trace_stop.specs.Facts.{Linked, FitProcess, FitLwp, IsSound}
 use Rattle.trace_stop.proofs.Bits.{without_apart, without_less}
 use Rattle.trace_stop.proofs.Every.{both, by_bool, find_some}
 use Rattle.trace_stop.proofs.Edited.{If_more, find_edit}
 use Rattle.trace_stop.proofs.Single.{process_sound}
-use Rattle.trace_stop.proofs.Posting.{pending_fits, live_fits}
+use Rattle.trace_stop.proofs.Posting.{pending_fits}
 use Rattle.trace_stop.proofs.Posts.{end_at, post_sound}
-use Rattle.trace_stop.proofs.Stopping.{MayTell, live_told, notified_sound}
+use Rattle.trace_stop.proofs.Stopping.{live_told, notified_sound}
 use Rattle.requests.specs.Outcome.{Outcome}
-use Rattle.requests.specs.Turn.{in_user_mode, next_signal, without_signal, plain, job_stops, takes_by_default, takes_untraced, takes, computes, raises}
-use Rattle.requests.proofs.Acting.{choose, Acting, its_live, its_quiet, its_fit, its_link, lwp_stands, lwp_fit, acting_lwp, acting_process, acting_stops, traced_where}
+use Rattle.requests.specs.Turn.{in_user_mode, next_signal, without_signal, plain, takes_by_default, takes_untraced, takes, computes, raises}
+use Rattle.requests.proofs.Acting.{choose, Acting, its_live, its_quiet, its_fit, lwp_stands, lwp_fit, acting_lwp, acting_process, acting_stops, traced_where}
 use Rattle.requests.proofs.Masks.{stepless_fits}
 
 -- the row of the process and that of the LWP, with the same numbers and the same tracer and parent
@@ -55,6 +54,7 @@ fewer_pending_lwp p l s fit = record {
   untraced = λ none. let was = fit.untraced none in record { due = was.due; stepping = was.stepping; suspended = was.suspended; pending = without_less l.pending (unwanted p) (bit s) was.pending };
   silent = λ off. let was = fit.silent off in record { flags = was.flags; child = was.child; code = was.code };
   blocked = fit.blocked;
+  mode = fit.mode;
 }
 
 module _ (rows : Rows) (p : ProcData) (l : LwpData) (a : Acting rows p l) where
@@ -86,7 +86,7 @@ module _ (rows : Rows) (p : ProcData) (l : LwpData) (a : Acting rows p l) where
           live = refl;
           named = inl refl;
           fits = fewer_pending p s (its_fit rows p l a) (its_live rows p l a);
-          fit_lwp = λ k fit. record { untraced = λ none. let was = fit.untraced none in record { due = was.due; stepping = was.stepping; suspended = was.suspended; pending = was.pending }; silent = fit.silent; blocked = fit.blocked };
+          fit_lwp = λ k fit. record { untraced = λ none. let was = fit.untraced none in record { due = was.due; stepping = was.stepping; suspended = was.suspended; pending = was.pending }; silent = fit.silent; blocked = fit.blocked; mode = fit.mode };
         }) a.run;
         pid = refl;
         tid = refl;
@@ -118,6 +118,7 @@ module _ (rows : Rows) (p : ProcData) (l : LwpData) (a : Acting rows p l) where
       untraced = λ none. let was = fit.untraced none in record { due = was.due; stepping = was.stepping; suspended = was.suspended; pending = was.pending };
       silent = λ off. fit.silent (ap (is_this k.tid) (its_quiet rows p l a));
       blocked = fit.blocked;
+      mode = fit.mode;
     };
   })
 
@@ -156,7 +157,7 @@ is_end_action action.Stop = false
 is_end_action action.Discard = false
 
 -- the signals that end a process by default are words of ends
-pub ends_by_default : (s : ℕ) → IsSignal s → default_action s ≡ action.End → is_end s ≡ true
+ends_by_default : (s : ℕ) → IsSignal s → default_action s ≡ action.End → is_end s ≡ true
 ends_by_default s sig is = or_second _ (both (leb 1 s && leb s 31) (not (s == 19)) (both (leb 1 s) (leb s 31) (le-leb 1 s sig.0) (le-leb s 31 sig.1))
     (ap not (by_bool (s == 19) (λ e. true≢false (sym (ap is_end_action (sym (ap default_action (eqb-true s 19 e)) ∙ is)))))))
   where
@@ -205,6 +206,7 @@ module _ (rows : Rows) (p : ProcData) (l : LwpData) (a : Acting rows p l) where
       untraced = λ none. let was = fit.untraced none in record { due = was.due; stepping = was.stepping; suspended = was.suspended; pending = was.pending };
       silent = λ off. let was = fit.silent off in record { flags = was.flags; child = was.child; code = was.code };
       blocked = without_apart set unmaskable_set;
+      mode = fit.mode;
     };
   })).sound
 

@@ -1,11 +1,7 @@
 -- Steps of a caller keep a host sound, kind by kind.
-use Rattle.std.proofs.Common.{◌≡◌, ◌≢◌, ℕ, ℤ, ◌+◌, ◌<◌, ◌≤◌, Bool, true, false, cond, ◌==◌, ◌&&◌, ◌||◌, not, leb, if◌then◌else◌, List, [], ◌∷◌, ◌++◌, length, length-append, filter, find, zip, Option, Some, None, refl, sym, ap, ◌∙◌, arith, true≢false, subst, eqb-true, eq-eqb, get_or, set, get_or-set_same, get_or-set_other, length-set}
-use Rattle.std.specs.List.{AllByRecursion, list_any, list_all}
-use Rattle.std.proofs.lemmas.Bool.{leb-true, le-leb, leb-false}
-use Rattle.std.proofs.lemmas.List.Folds.{list_all-append}
-use Rattle.pid_blocks.specs.Users.{IsUser}
-use Rattle.pid_blocks.specs.Blocks.{slot, users}
-use Rattle.pid_blocks.specs.declared.Errno.TheVariants.{ESRCH, EINVAL, EAGAIN}
+use Rattle.std.proofs.Common.{◌≡◌, ℕ, ℤ, Bool, true, false, ◌==◌, ◌&&◌, ◌||◌, not, if◌then◌else◌, List, [], ◌∷◌, Option, Some, None, refl, sym, arith, subst, eqb-true, eq-eqb}
+use Rattle.std.specs.List.{AllByRecursion}
+use Rattle.pid_blocks.specs.declared.Errno.TheVariants.{ESRCH, EINVAL}
 use Rattle.signals.specs.Table.{is_signal, set_disposition}
 use Rattle.signals.specs.declared.Disposition.{Disposition}
 use Rattle.proc_table.specs.declared.ProcData.{ProcData}
@@ -13,26 +9,22 @@ use Rattle.proc_table.specs.Processes.{is_live, is_run, process_of}
 use Rattle.proc_table.specs.Rows.{Rows}
 use Rattle.proc_table.specs.Seen.{seen_process}
 use Rattle.proc_table.specs.Kept.{Rise, AllAbove}
-use Rattle.trace_stop.specs.Sound.{is_live_of, sound_rows}
-use Rattle.trace_stop.specs.Facts.{IsLiveOf, IsSound}
-use Rattle.trace_stop.proofs.Every.{and_left, and_right, both, by_bool, All-filter, All-imply, find_some}
-use Rattle.trace_stop.proofs.FromSound.{sound_rows-from, user_at, zip_users}
+use Rattle.trace_stop.specs.Facts.{IsSound}
+use Rattle.trace_stop.proofs.Every.{and_right, by_bool, All-filter, find_some}
 use Rattle.trace_stop.proofs.Settling.{disposed_sound}
-use Rattle.stop_handlers.specs.declared.Rule.{Rule}
 use Rattle.wait4.specs.declared.Options.{Options}
 use Rattle.wait4.specs.Collect.{reportable, candidates, is_child, fits, reported, rows_after, without_report}
 use Rattle.requests.specs.declared.Reply.{Reply}
 use Rattle.requests.specs.declared.Reply.TheVariants as reply
 use Rattle.requests.specs.declared.PlainStep.{PlainStep}
 use Rattle.requests.specs.declared.PlainStep.TheVariants as op
-use Rattle.requests.specs.Outcome.{Outcome, answers, refuses}
+use Rattle.requests.specs.Outcome.{answers, refuses}
 use Rattle.requests.specs.Calls.{sigaction, is_default, wait}
 use Rattle.requests.specs.Reach.{is_which}
-use Rattle.requests.specs.Handle.{install}
-use Rattle.requests.specs.Machine.{Installed, Machine, installed_by, after}
-use Rattle.requests.specs.Sound.{sound_installed, sound}
+use Rattle.requests.specs.Machine.{Machine, after}
+use Rattle.requests.specs.Sound.{sound}
 use Rattle.requests.specs.Step.{step, checked, calls}
-use Rattle.requests.proofs.After.{pairs_test, rows_sound, after_sound, answers_same}
+use Rattle.requests.proofs.After.{rows_sound, after_sound, answers_same}
 use Rattle.requests.proofs.Collecting.{collect_sound}
 
 -- each row is found by its number

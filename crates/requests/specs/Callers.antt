@@ -1,11 +1,30 @@
 -- Who makes a step.
-use Rattle.std.specs.Prelude.{◌≡◌, ℕ, true, Some}
+use Rattle.std.specs.Prelude.{◌≡◌, ◌≢◌, ℕ, true, Some}
+use Rattle.pid_blocks.specs.declared.Errno.TheVariants as errno
 use Rattle.proc_table.specs.declared.ProcData.{ProcData}
-use Rattle.proc_table.specs.Processes.{process_of, is_run}
+use Rattle.proc_table.specs.Processes.{process_of, is_live, is_run}
 use Rattle.proc_table.specs.Rows.{Rows}
+use Rattle.proc_table.specs.Seen.{seen_process}
+use Rattle.requests.specs.declared.PlainStep.{PlainStep}
+use Rattle.requests.specs.declared.Reply.{Reply}
+use Rattle.requests.specs.declared.Reply.TheVariants as reply
+use Rattle.requests.specs.Outcome.{answers}
+use Rattle.requests.specs.Machine.{Machine, after}
+use Rattle.requests.specs.Step.{step, caller_of}
 
 -- a process of the user that runs
 pub record IsCaller (user : ℕ) (p : ProcData) (rows : Rows) : Type 0 where
   pub at : process_of p.pid rows.processes ≡ Some p
   pub own : p.uid ≡ user
   pub runs : is_run p ≡ true
+
+-- the process that a user's number names, where it may make steps
+pub record Calls (user n : ℕ) (rows : Rows) (p : ProcData) : Type 0 where
+  pub seen : seen_process user n rows ≡ Some p
+  pub live : is_live p ≡ true
+  pub runs : is_run p ≡ true
+
+-- every step with that number as its caller is answered so, and nothing else happens
+pub record Barred (user n : ℕ) (m : Machine) (r : Reply) : Type 0 where
+  pub answer : (s : PlainStep) → caller_of s ≡ Some n → step user s m ≡ after m (answers r m.rows)
+  pub other : r ≢ reply.Errno errno.ENOMEM

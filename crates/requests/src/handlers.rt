@@ -129,7 +129,7 @@ impl<F: Decider + Send + Drop> HandlerList<F> {
 }
 
 /// Whether a live process has the number.
-fn is_live(tables: &Tables, pid: Pid) -> bool
+pub fn is_live(tables: &Tables, pid: Pid) -> bool
     ensures { result ≡ is_live_number tables.now.rows pid }
 {
     match tables.process(pid) {

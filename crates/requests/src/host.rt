@@ -1,53 +1,40 @@
 //! A host, and the steps that it makes.
 
-ghost use Rattle.std.specs.Prelude.{◌≡◌, ◌≢◌, true, IfOk};
+ghost use Rattle.std.specs.Prelude.{◌≡◌, ◌≢◌, Some, true, IfOk, IfErr, option_map, slice_get};
 ghost use Rattle.pid_blocks.specs.declared.Errno.TheVariants as errno;
 ghost use Rattle.requests.specs.declared.Reply.TheVariants as reply;
 ghost use Rattle.requests.specs.declared.PlainStep.TheVariants as op;
-ghost use Rattle.requests.specs.Machine.{empty};
+ghost use Rattle.requests.specs.Callers.{Calls, Barred};
+ghost use Rattle.requests.specs.Machine.{empty, installed_by};
 ghost use Rattle.requests.specs.Memory.{is_refusal, may_want};
 ghost use Rattle.requests.specs.Plain.{plain};
 ghost use Rattle.requests.specs.Sound.{sound};
 ghost use Rattle.requests.specs.Step.{step};
 
-use crate::lists::pids_of;
+use crate::handlers::HandlerTable;
+use crate::handling::handle;
 use crate::spawns::spawn;
-use crate::{PlainStep, Reply};
-use pid_blocks::{Errno, Uid};
-use proc_table::Tables;
+use crate::lists::pids_of;
+use crate::parts::{kill, ptrace, sigaction, turn, wait};
+use crate::{Act, Reply, Request, Step};
+use pid_blocks::{Errno, Pid, Uid};
+use proc_table::{ProcData, Tables};
+use signals::Disposition;
 use std::alloc::{AllocError, Global};
 use std::marker::Model;
+use stop_handlers::{Decider, Handler, Policy};
 use trace_stop::Settings;
+use wait4::Options;
 
-/// A step that a host can make.
-#[derive(Clone, Copy, Debug, PartialEq, Eq, Drop)]
-pub enum Step {
-    /// A new process of the user, with one LWP.
-    Spawn,
-    /// The user's processes, asked by one of them.
-    List { caller: u32 },
-}
-
-impl Step {
-    /// The same step, as definitions speak of it.
-    pub fn plain(&self) -> PlainStep
-        ensures { result ≡ plain self.now }
-    {
-        match *self {
-            Step::Spawn => PlainStep::Spawn,
-            Step::List { caller } => PlainStep::List { caller },
-        }
-    }
-}
-
-/// A host: its rows of processes and LWPs, and its settings.
+/// A host: its rows of processes and LWPs, what debuggers have installed, and its settings.
 #[derive(Drop)]
-pub struct Host {
+pub struct Host<F: Decider + Send + Drop> {
     tables: Tables,
+    handlers: HandlerTable<F>,
     settings: Settings,
 }
 
-impl Model for Host {
+impl<F: Decider + Send + Drop> Model for Host<F> {
     ghost use Rattle.std.specs.Prelude.{◌≡◌, true};
     ghost use Rattle.requests.specs.Machine.{Machine};
     ghost use Rattle.requests.specs.Hosts.{machine_of};
@@ -55,18 +42,23 @@ impl Model for Host {
 
     ghost Value = { Machine };
 
-    ghost view = { λ h. machine_of h.settings h.tables };
+    ghost view = { λ h. machine_of h.settings h.tables h.handlers };
 
-    ghost invariant = { λ h. sound (machine_of h.settings h.tables) ≡ true };
+    ghost invariant = { λ h. sound (machine_of h.settings h.tables h.handlers) ≡ true };
 }
 
-impl Host {
+impl<F: Decider + Send + Drop> Host<F> {
     /// A host that nobody has used. An error is want of memory.
-    pub fn new(alloc: Global, settings: Settings) -> Result<Host, AllocError>
+    pub fn new(alloc: Global, settings: Settings) -> Result<Host<F>, AllocError>
         ensures { IfOk result (λ host. host ≡ empty settings) }
     {
         let tables = Tables::new(alloc)?;
-        Ok(Host { tables, settings })
+        let handlers = HandlerTable::new(alloc)?;
+        Ok(Host {
+            tables,
+            handlers,
+            settings,
+        })
     }
 
     /// Whether a debugger's end kills its tracees.
@@ -83,20 +75,12 @@ impl Host {
         &self.tables
     }
 
-    /// Makes a step of the user. Refused as the manual page of its call says, and with ENOMEM where memory runs out;
-    /// a step that is refused changes nothing.
-    pub fn step(&mut self, alloc: Global, user: Uid, asked: Step) -> Reply
-        ensures machine { result ≢ reply.Errno errno.ENOMEM →
-            (self.new ≡ (step user (plain asked) self.old).machine) × (result ≡ (step user (plain asked) self.old).reply) }
-        ensures memory { result ≡ reply.Errno errno.ENOMEM →
-            (self.new ≡ self.old) × (may_want user (plain asked) self.old ≡ true) }
-        ensures refused { is_refusal result ≡ true → self.new ≡ self.old }
-        ensures sound { sound self.new ≡ true }
+    /// What the user's debuggers have installed at this place, counted from 0: the debugger and its policy.
+    pub fn policy(&self, user: Uid, index: usize) -> Option<(Pid, Policy)>
+        ensures { result ≡ option_map (λ i. (i.debugger, i.policy)) (slice_get (installed_by user self.now) index) }
     {
-        match asked {
-            Step::Spawn => self.spawn(user),
-            Step::List { caller } => self.list(alloc, user, caller),
-        }
+        let _settings = self.settings;
+        self.handlers.at(user, index)
     }
 
     /// Makes a process of the user.
@@ -110,29 +94,231 @@ impl Host {
     {
         let _settings = self.settings;
         let _user = user.get();
-        spawn(&mut self.tables, user)
+        let reply = spawn(&mut self.tables, user);
+        self.handlers.drop_ended(user, &self.tables);
+        reply
     }
 
-    /// Answers the user's processes to one that runs.
-    fn list(&self, alloc: Global, user: Uid, caller: u32) -> Reply
+    /// The turn of an LWP.
+    fn turn(&mut self, user: Uid, tid: u32, act: Act) -> Reply
         ensures machine { result ≢ reply.Errno errno.ENOMEM →
-            (self.now ≡ (step user (op.List caller) self.now).machine) × (result ≡ (step user (op.List caller) self.now).reply) }
-        ensures memory { result ≡ reply.Errno errno.ENOMEM → may_want user (op.List caller) self.now ≡ true }
-        ensures sound { sound self.now ≡ true }
+            (self.new ≡ (step user (op.Turn tid act) self.old).machine) × (result ≡ (step user (op.Turn tid act) self.old).reply) }
+        ensures memory { result ≡ reply.Errno errno.ENOMEM →
+            (self.new ≡ self.old) × (may_want user (op.Turn tid act) self.old ≡ true) }
+        ensures refused { is_refusal result ≡ true → self.new ≡ self.old }
+        ensures sound { sound self.new ≡ true }
+    {
+        let _user = user.get();
+        let reply = turn(&mut self.tables, self.settings, user, tid, act);
+        self.handlers.drop_ended(user, &self.tables);
+        reply
+    }
+
+    /// The process that makes a step with this number as its caller, or how such a step is refused.
+    fn caller(&self, user: Uid, caller: u32) -> Result<ProcData, Reply>
+        ensures found { IfOk result (Calls user caller self.now.rows) }
+        ensures barred { IfErr result (Barred user caller self.now) }
     {
         let _settings = self.settings;
         let Some(asking) = self.tables.seen_process(user, caller) else {
-            return Reply::Errno(Errno::ESRCH);
+            return Err(Reply::Errno(Errno::ESRCH));
         };
         if !asking.is_live() {
-            return Reply::Errno(Errno::ESRCH);
+            return Err(Reply::Errno(Errno::ESRCH));
         }
         if !asking.is_run() {
-            return Reply::Held;
+            return Err(Reply::Held);
         }
+        Ok(asking)
+    }
+
+    /// Answers the user's processes to one that runs.
+    fn list(&mut self, alloc: Global, user: Uid, caller: u32) -> Reply
+        ensures machine { result ≢ reply.Errno errno.ENOMEM →
+            (self.new ≡ (step user (op.List caller) self.old).machine) × (result ≡ (step user (op.List caller) self.old).reply) }
+        ensures memory { result ≡ reply.Errno errno.ENOMEM →
+            (self.new ≡ self.old) × (may_want user (op.List caller) self.old ≡ true) }
+        ensures refused { is_refusal result ≡ true → self.new ≡ self.old }
+        ensures sound { sound self.new ≡ true }
+    {
+        let _user = user.get();
+        let caller = match self.caller(user, caller) {
+            Ok(caller) => caller,
+            Err(refusal) => return refusal,
+        };
+        let _pid = caller.pid;
         match pids_of(&self.tables, alloc, user) {
             Ok(pids) => Reply::Pids(pids),
             Err(_) => Reply::Errno(Errno::ENOMEM),
+        }
+    }
+
+    /// Changes what a signal does to the caller.
+    fn sigaction(&mut self, user: Uid, caller: u32, sig: u32, disposition: Disposition) -> Reply
+        ensures machine { result ≢ reply.Errno errno.ENOMEM →
+            (self.new ≡ (step user (op.Sigaction caller sig disposition) self.old).machine) × (result ≡ (step user (op.Sigaction caller sig disposition) self.old).reply) }
+        ensures memory { result ≡ reply.Errno errno.ENOMEM →
+            (self.new ≡ self.old) × (may_want user (op.Sigaction caller sig disposition) self.old ≡ true) }
+        ensures refused { is_refusal result ≡ true → self.new ≡ self.old }
+        ensures sound { sound self.new ≡ true }
+    {
+        let _user = user.get();
+        let caller = match self.caller(user, caller) {
+            Ok(caller) => caller,
+            Err(refusal) => return refusal,
+        };
+        let reply = sigaction(&mut self.tables, &caller, sig, disposition);
+        self.handlers.drop_ended(user, &self.tables);
+        reply
+    }
+
+    /// Sends a signal.
+    fn kill(&mut self, user: Uid, caller: u32, which: i64, sig: u32) -> Reply
+        ensures machine { result ≢ reply.Errno errno.ENOMEM →
+            (self.new ≡ (step user (op.Kill caller which sig) self.old).machine) × (result ≡ (step user (op.Kill caller which sig) self.old).reply) }
+        ensures memory { result ≡ reply.Errno errno.ENOMEM →
+            (self.new ≡ self.old) × (may_want user (op.Kill caller which sig) self.old ≡ true) }
+        ensures refused { is_refusal result ≡ true → self.new ≡ self.old }
+        ensures sound { sound self.new ≡ true }
+    {
+        let _user = user.get();
+        let caller = match self.caller(user, caller) {
+            Ok(caller) => caller,
+            Err(refusal) => return refusal,
+        };
+        let reply = kill(&mut self.tables, self.settings, user, caller.pid, which, sig);
+        self.handlers.drop_ended(user, &self.tables);
+        reply
+    }
+
+    /// Collects what a child reports.
+    fn wait(&mut self, user: Uid, caller: u32, which: i64, options: Options) -> Reply
+        ensures machine { result ≢ reply.Errno errno.ENOMEM →
+            (self.new ≡ (step user (op.Wait4 caller which options) self.old).machine) × (result ≡ (step user (op.Wait4 caller which options) self.old).reply) }
+        ensures memory { result ≡ reply.Errno errno.ENOMEM →
+            (self.new ≡ self.old) × (may_want user (op.Wait4 caller which options) self.old ≡ true) }
+        ensures refused { is_refusal result ≡ true → self.new ≡ self.old }
+        ensures sound { sound self.new ≡ true }
+    {
+        let _user = user.get();
+        let caller = match self.caller(user, caller) {
+            Ok(caller) => caller,
+            Err(refusal) => return refusal,
+        };
+        let reply = wait(&mut self.tables, &caller, which, options);
+        self.handlers.drop_ended(user, &self.tables);
+        reply
+    }
+
+    /// A request of a debugger.
+    fn ptrace(&mut self, alloc: Global, user: Uid, caller: u32, request: Request, target: u32, arg: u32) -> Reply
+        ensures machine { result ≢ reply.Errno errno.ENOMEM →
+            (self.new ≡ (step user (op.Ptrace caller request target arg) self.old).machine) × (result ≡ (step user (op.Ptrace caller request target arg) self.old).reply) }
+        ensures memory { result ≡ reply.Errno errno.ENOMEM →
+            (self.new ≡ self.old) × (may_want user (op.Ptrace caller request target arg) self.old ≡ true) }
+        ensures refused { is_refusal result ≡ true → self.new ≡ self.old }
+        ensures sound { sound self.new ≡ true }
+    {
+        let _user = user.get();
+        let caller = match self.caller(user, caller) {
+            Ok(caller) => caller,
+            Err(refusal) => return refusal,
+        };
+        let reply = ptrace(
+            &mut self.tables,
+            alloc,
+            self.settings,
+            user,
+            &caller,
+            request,
+            target,
+            arg,
+        );
+        self.handlers.drop_ended(user, &self.tables);
+        reply
+    }
+
+    /// Installs a handler.
+    fn install(&mut self, user: Uid, caller: u32, handler: Handler<F>) -> Reply
+        ensures machine { result ≢ reply.Errno errno.ENOMEM →
+            (self.new ≡ (step user (op.Install caller handler) self.old).machine) × (result ≡ (step user (op.Install caller handler) self.old).reply) }
+        ensures memory { result ≡ reply.Errno errno.ENOMEM →
+            (self.new ≡ self.old) × (may_want user (op.Install caller handler) self.old ≡ true) }
+        ensures refused { is_refusal result ≡ true → self.new ≡ self.old }
+        ensures sound { sound self.new ≡ true }
+    {
+        let _user = user.get();
+        let caller = match self.caller(user, caller) {
+            Ok(caller) => caller,
+            Err(refusal) => return refusal,
+        };
+        if self.handlers.count(user) >= 64 {
+            return Reply::Errno(Errno::EAGAIN);
+        }
+        match self.handlers.install(user, caller.pid, handler) {
+            Ok(()) => Reply::Done,
+            Err(_) => Reply::Errno(Errno::ENOMEM),
+        }
+    }
+
+    /// Collects what a child reports, and asks the caller's handlers about a trace stop.
+    fn handle(&mut self, user: Uid, caller: u32) -> Reply
+        ensures machine { result ≢ reply.Errno errno.ENOMEM →
+            (self.new ≡ (step user (op.Handle caller) self.old).machine) × (result ≡ (step user (op.Handle caller) self.old).reply) }
+        ensures memory { result ≡ reply.Errno errno.ENOMEM →
+            (self.new ≡ self.old) × (may_want user (op.Handle caller) self.old ≡ true) }
+        ensures refused { is_refusal result ≡ true → self.new ≡ self.old }
+        ensures sound { sound self.new ≡ true }
+    {
+        let _user = user.get();
+        let caller = match self.caller(user, caller) {
+            Ok(caller) => caller,
+            Err(refusal) => return refusal,
+        };
+        let reply = handle(
+            &mut self.tables,
+            &self.handlers,
+            self.settings,
+            user,
+            &caller,
+        );
+        self.handlers.drop_ended(user, &self.tables);
+        reply
+    }
+
+    /// Makes a step of the user. Refused as the manual page of its call says, and with ENOMEM where memory runs out;
+    /// a step that is refused changes nothing.
+    pub fn step(&mut self, alloc: Global, user: Uid, asked: Step<F>) -> Reply
+        ensures machine { result ≢ reply.Errno errno.ENOMEM →
+            (self.new ≡ (step user (plain asked) self.old).machine) × (result ≡ (step user (plain asked) self.old).reply) }
+        ensures memory { result ≡ reply.Errno errno.ENOMEM →
+            (self.new ≡ self.old) × (may_want user (plain asked) self.old ≡ true) }
+        ensures refused { is_refusal result ≡ true → self.new ≡ self.old }
+        ensures sound { sound self.new ≡ true }
+    {
+        match asked {
+            Step::Spawn => self.spawn(user),
+            Step::List { caller } => self.list(alloc, user, caller),
+            Step::Sigaction {
+                caller,
+                sig,
+                disposition,
+            } => self.sigaction(user, caller, sig, disposition),
+            Step::Kill { caller, which, sig } => self.kill(user, caller, which, sig),
+            Step::Wait4 {
+                caller,
+                which,
+                options,
+            } => self.wait(user, caller, which, options),
+            Step::Install { caller, handler } => self.install(user, caller, handler),
+            Step::Handle { caller } => self.handle(user, caller),
+            Step::Ptrace {
+                caller,
+                request,
+                target,
+                arg,
+            } => self.ptrace(alloc, user, caller, request, target, arg),
+            Step::Turn { tid, act } => self.turn(user, tid, act),
         }
     }
 }

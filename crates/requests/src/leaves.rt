@@ -12,7 +12,7 @@ ghost use Rattle.requests.specs.Leave.{exits_lwp, due_at_birth, room_for_lwp, ma
 ghost use Rattle.requests.specs.Memory.{makes, is_refusal};
 
 use crate::Reply;
-use crate::execs::exec;
+use crate::execve::exec;
 use crate::forks::fork;
 use crate::spawns::{new_reply, room_for_lwp};
 use crate::stopping::{exit_stop, finish, is_asked, stop_with, trap};

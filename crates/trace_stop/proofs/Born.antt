@@ -87,13 +87,13 @@ cursors_set block cursors v n user len home some all u its = by_user (eqb u v) r
 abbrev pub with_last : LwpData → Rows → Rows
 with_last l rows = record rows { lwps = rows.lwps ++ (l ∷ []) }
 
-count_last : {X : Type 0} (q : X → Bool) (xs : List X) (x : X) → count_by q (xs ++ (x ∷ [])) ≡ count_by q xs + cond (q x) 1 0
+pub count_last : {X : Type 0} (q : X → Bool) (xs : List X) (x : X) → count_by q (xs ++ (x ∷ [])) ≡ count_by q xs + cond (q x) 1 0
 count_last q xs x = let all = count-append q xs (x ∷ []) in let last = count-cons q x [] in let none : count_by q [] ≡ 0 = refl in omega (arith, all, last, none)
 
 pub count_more : {X : Type 0} (q : X → Bool) (xs : List X) (x : X) → count_by q xs ≤ count_by q (xs ++ (x ∷ []))
 count_more q xs x = let all = count_last q xs x in omega (arith, all)
 
-any_last : {X : Type 0} (q : X → Bool) (xs : List X) (x : X) → list_any q xs ≡ true → list_any q (xs ++ (x ∷ [])) ≡ true
+pub any_last : {X : Type 0} (q : X → Bool) (xs : List X) (x : X) → list_any q xs ≡ true → list_any q (xs ++ (x ∷ [])) ≡ true
 any_last q xs x is = list_any-append q xs (x ∷ []) ∙ rw is refl
 
 -- Who is named, in rows where no process is p
@@ -124,7 +124,7 @@ find_any : {X : Type 0} (q : X → Bool) (xs : List X) (x : X) → find q xs ≡
 find_any q [] x is = absurd (grind (arith, is))
 find_any q (y ∷ xs) x is = grind (arith, find_any q xs x, is)
 
-cond_at_most : (b : Bool) → cond b 1 0 ≤ 1
+pub cond_at_most : (b : Bool) → cond b 1 0 ≤ 1
 cond_at_most true = omega arith
 cond_at_most false = omega arith
 
@@ -158,15 +158,20 @@ module _ (rows : Rows) (p : ProcData) (l : LwpData) (s : IsSound rows) (b : Born
   linked_old q h = record {
     tracer = If_more (IsLiveOf rows q.uid) (IsLiveOf made q.uid) (live_more q.uid) q.tracer h.1.tracer;
     parent = λ ne. live_more q.uid q.parent (h.1.parent ne);
+    other = h.1.other;
     chain = meets_other ps (placed p ps) p.pid same_tracer none 250 q.pid q.pid h.0 ∙ h.1.chain;
     named = If_more (λ tid. names_own rows q tid ≡ true) (λ tid. names_own made q tid ≡ true) (λ tid is. any_last (λ k. (k.tid == tid) && (k.pid == q.pid)) rows.lwps l is) (reporting q) h.1.named;
     peopled = λ live. let few = h.1.peopled live in let more = count_more (λ k. k.pid == q.pid) rows.lwps l in omega (arith, few, more);
   }
 
+  other_parent : p.parent ≢ p.pid
+  other_parent same = let low = b.home.block.0 in let user = b.home.user.0 in let ne : p.parent ≢ 1 = omega (arith, same) in named_other rows p.pid b.free p.uid p.parent (b.parent ne) same
+
   linked_new : Linked made p
   linked_new = record {
     tracer = If_more (IsLiveOf rows p.uid) (IsLiveOf made p.uid) (live_more p.uid) p.tracer b.tracer;
     parent = λ ne. live_more p.uid p.parent (b.parent ne);
+    other = other_parent;
     chain = meets_new ps (placed p ps) p.pid same_tracer none p.tracer (ap tracer_in (process_of-placed p ps s.stands.rising b.free)) (If_more (IsLiveOf rows p.uid) (λ t. t ≢ p.pid) (named_other rows p.pid b.free p.uid) p.tracer b.tracer) 250;
     named = subst (λ o. IfSome o (λ tid. names_own made p tid ≡ true)) (sym b.quiet) tt;
     peopled = λ live. let all = count_last (λ k. k.pid == p.pid) rows.lwps l in let here : cond {A = ℕ} (l.pid == p.pid) 1 0 ≡ 1 = rw (eq-eqb l.pid p.pid b.own) refl in omega (arith, all, here);

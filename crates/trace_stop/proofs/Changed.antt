@@ -170,6 +170,7 @@ module _ (rows : Rows) (f : ProcData → Option ProcData) (h : LwpData → LwpDa
       record {
         tracer = by_tracer (if_at _ (f p) q is (c.tracer p r.0));
         parent = λ ne. let e = if_at _ (f p) q is (c.parent p r.0) in subst (λ u. IsLiveOf after u q.parent) (sym same.1) (subst (IsLiveOf after p.uid) (sym e) (live_after p.uid p.parent (r.1.parent (λ one. ne (e ∙ one)))));
+        other = λ self. r.1.other (sym (if_at _ (f p) q is (c.parent p r.0)) ∙ (self ∙ same.0));
         chain = no_ring rows.processes after.processes tracer_before 250 q.pid (subst (λ n. meets 250 rows.processes n n ≡ false) (sym same.0) r.1.chain);
         named = If_more _ (λ tid. names_own after q tid ≡ true) (λ tid. names_after p q tid same.0) (reporting q) (if_at _ (f p) q is (c.named p r.0 r.1));
         peopled = λ live. subst (λ n. 1 ≤ lwp_count n after) (sym same.0) (subst (λ n. 1 ≤ n) (sym (count_after p.pid)) (r.1.peopled (if_at _ (f p) q is (c.ended p r.0) live)));

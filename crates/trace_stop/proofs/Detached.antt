@@ -19,7 +19,7 @@ use Rattle.proc_table.specs.Kept.{AtHome, Housed}
 use Rattle.trace_stop.specs.Post.{unwanted}
 use Rattle.trace_stop.specs.Free.{reported, untraced, untraced_lwp, detached}
 use Rattle.trace_stop.specs.End.{tracer_in, tracer_of, holds_of, meets}
-use Rattle.trace_stop.specs.Sound.{names_own}
+use Rattle.trace_stop.specs.Sound.{names_own, mode_fits}
 use Rattle.trace_stop.specs.Facts.{IsLiveOf, IsLiveChild, Linked, FitProcess, waited_for, Standing, Silent, FitLwp, WithOwner, IsSound}
 use Rattle.trace_stop.specs.Laws.{is_live_at, traces_live, DetachedSound}
 use Rattle.trace_stop.proofs.Every.{and_left, and_right, both, by_bool, not_true, All-imply, All-any, All-both, All-edit, any_holds, none_of, none_passes, any_more, count-cons}
@@ -265,6 +265,7 @@ module _ (rows : Rows) (s : IsSound rows) (chosen : ProcData → Bool) (lost : P
       (λ c. record {
         tracer = tt;
         parent = λ ne. lives_on r.uid r.parent (h.1.parent ne);
+        other = h.1.other;
         chain = no_ring_left r.pid;
         named = tt;
         peopled = λ e. peopled_left r h.0 (h.1.peopled (alive r h.0 c));
@@ -272,6 +273,7 @@ module _ (rows : Rows) (s : IsSound rows) (chosen : ProcData → Bool) (lost : P
       (λ c. record {
         tracer = If-map (IsLiveOf rows r.uid) (IsLiveOf left r.uid) (λ t. lives_on r.uid t) r.tracer h.1.tracer;
         parent = λ ne. lives_on r.uid r.parent (h.1.parent ne);
+        other = h.1.other;
         chain = no_ring_left r.pid;
         named = If-map (λ tid. names_own rows r tid ≡ true) (λ tid. names_own left r tid ≡ true) (names_left r h.0 c) (reporting r) h.1.named;
         peopled = λ e. peopled_left r h.0 (h.1.peopled e);
@@ -336,6 +338,7 @@ module _ (rows : Rows) (s : IsSound rows) (chosen : ProcData → Bool) (lost : P
         untraced = λ none. record { due = refl; stepping = refl; suspended = refl; pending = and_without _ (unwanted (untraced (lost r) r)) };
         silent = λ other. record { flags = q.silent.flags; child = q.silent.child; code = q.silent.code };
         blocked = ap (λ n. bit_and n unmaskable_set) q.blocked ∙ (h.1 r found).blocked;
+        mode = ap mode_fits q.mode ∙ (h.1 r found).mode;
       })
       (λ r found c. h.1 r found))
 

@@ -16,7 +16,7 @@ use Rattle.proc_table.specs.declared.State.TheVariants.{Run, Trace, Job, Zombie}
 use Rattle.proc_table.specs.Processes.{is_live, is_zombie_state, is_job_state, is_run_state, reporting, named_by, process_of}
 use Rattle.proc_table.specs.Rows.{Rows, owner, by_owner}
 use Rattle.proc_table.specs.Fresh.{lwp_count}
-use Rattle.proc_table.specs.Kept.{Rise, AllAbove}
+use Rattle.proc_table.specs.Kept.{Rise, AllAbove, AtHome}
 use Rattle.trace_stop.specs.Post.{unwanted}
 use Rattle.trace_stop.specs.End.{holds_of, unless, orphaned, dead, uncollected, process_after, waits_where, released, lwp_after, collector, told_of, end_each, tracer_in, tracer_of, meets}
 use Rattle.trace_stop.specs.Sound.{is_end, names_own, is_due}
@@ -191,6 +191,13 @@ module _ (rows : Rows) (ends : ProcData → Bool) (over : ℕ → Bool) (p statu
       by_over true e ne = absurd (ne refl)
       by_over false e ne = live_on u n e (live ne)
 
+  other_left : (q : ProcData) → Fact rows ends over q → (if over q.parent then 1 else q.parent) ≢ q.pid
+  other_left q fact = by_over (over q.parent)
+    where
+      by_over : (b : Bool) → (if b then 1 else q.parent) ≢ q.pid
+      by_over true same = let home = (find_some (λ r. r.pid == q.pid) AtHome rows.processes s.stands.homes q fact.at).0 in let low = home.block.0 in let user = home.user.0 in absurd (omega (arith, same))
+      by_over false same = fact.link.other same
+
   tracer_sub : (q : ProcData) (t : ℕ) → IfSome (to q) (λ r. r.tracer ≡ Some t → q.tracer ≡ Some t)
   tracer_sub q t = by_case R q (λ e. if_left (dead (last q) (orphaned over q)) R tt (λ left is. (unless_at q.tracer t is).0)) (λ e live is. is) (λ e zombie. if_left (orphaned over q) R tt (λ left is. (unless_at q.tracer t is).0))
     where
@@ -223,6 +230,7 @@ module _ (rows : Rows) (ends : ProcData → Bool) (over : ℕ → Bool) (p statu
       (λ e. if_left (dead (last q) (orphaned over q)) (λ o. IfSome o (Linked after)) tt (λ left. record {
         tracer = tracer_left q.uid q.tracer fact.link.tracer;
         parent = parent_left q.uid q.parent fact.link.parent;
+        other = other_left q fact;
         chain = chain q fact;
         named = tt;
         peopled = λ live. absurd (true≢false (sym live));
@@ -230,6 +238,7 @@ module _ (rows : Rows) (ends : ProcData → Bool) (over : ℕ → Bool) (p statu
       (λ e live. record {
         tracer = still q.tracer fact.link.tracer (fact.end.kept live e);
         parent = parent_left q.uid q.parent fact.link.parent;
+        other = other_left q fact;
         chain = chain q fact;
         named = If_more (λ tid. names_own rows q tid ≡ true) (λ tid. names_own after q tid ≡ true) (λ tid. named_on q tid fact e) (reporting q) fact.link.named;
         peopled = λ again. let some = fact.link.peopled live in let more = count_on q fact e in omega (arith, some, more);
@@ -237,6 +246,7 @@ module _ (rows : Rows) (ends : ProcData → Bool) (over : ℕ → Bool) (p statu
       (λ e zombie. if_left (orphaned over q) (λ o. IfSome o (Linked after)) tt (λ left. record {
         tracer = tracer_left q.uid q.tracer fact.link.tracer;
         parent = parent_left q.uid q.parent fact.link.parent;
+        other = other_left q fact;
         chain = chain q fact;
         named = subst (λ o. IfSome o (λ tid. names_own after q tid ≡ true)) (sym (zombie_quiet q zombie)) tt;
         peopled = λ live. absurd (true≢false (sym live ∙ zombie));
@@ -299,7 +309,7 @@ module _ (rows : Rows) (ends : ProcData → Bool) (over : ℕ → Bool) (p statu
   released_fits q l fit = by_wait (waits_where over l.mode)
     where
       by_wait : (b : Bool) → FitLwp (heir q) (if b then record l { mode = User; due = if is_some q.tracer && asks q.mask PTRACE_VFORK then VforkDone else l.due } else l)
-      by_wait false = record { untraced = λ none. let was = fit.untraced none in record { due = was.due; stepping = was.stepping; suspended = was.suspended; pending = was.pending }; silent = fit.silent; blocked = fit.blocked }
+      by_wait false = record { untraced = λ none. let was = fit.untraced none in record { due = was.due; stepping = was.stepping; suspended = was.suspended; pending = was.pending }; silent = fit.silent; blocked = fit.blocked; mode = fit.mode }
       by_wait true = record {
         untraced = λ none. let was = fit.untraced none in record {
           due = subst (λ o. is_due (if is_some o && asks q.mask PTRACE_VFORK then VforkDone else l.due) ≡ false) (sym none) was.due;
@@ -309,6 +319,7 @@ module _ (rows : Rows) (ends : ProcData → Bool) (over : ℕ → Bool) (p statu
         };
         silent = λ off. let was = fit.silent off in record { flags = was.flags; child = was.child; code = was.code };
         blocked = fit.blocked;
+        mode = refl;
       }
 
   released_flags : (q : ProcData) (l : LwpData) → (released over q l).flags ≡ l.flags

@@ -44,6 +44,7 @@ running_fit_lwp p l silent fit = record {
   untraced = λ none. let was = fit.untraced none in record { due = was.due; stepping = was.stepping; suspended = was.suspended; pending = was.pending };
   silent = λ off. silent;
   blocked = fit.blocked;
+  mode = fit.mode;
 }
 
 module _ (rows : Rows) (pid : ℕ) (p : ProcData) (s : IsSound rows) (at : process_of pid rows.processes ≡ Some p) (live : is_live p ≡ true) where
@@ -87,6 +88,7 @@ module _ (chosen : ProcData → Bool) (lost : ProcData → ℕ) where
     untraced = λ none. record { due = refl; stepping = refl; suspended = refl; pending = without_apart (without l.pending (lost p)) (unwanted (free p)) };
     silent = λ off. record { flags = silent.flags; child = silent.child; code = silent.code };
     blocked = fit.blocked;
+    mode = fit.mode;
   }
 
   pub detached_sound : (rows : Rows) → IsSound rows → AllByRecursion (λ p. chosen p ≡ true → is_live p ≡ true) rows.processes → IsSound (detached chosen lost rows)

@@ -22,7 +22,7 @@ use Rattle.proc_table.specs.Fresh.{process_count, lwp_count_of, lwp_count}
 use Rattle.proc_table.specs.Kept.{Rise, AllAbove, AtHome, Housed}
 use Rattle.trace_stop.specs.Post.{unwanted}
 use Rattle.trace_stop.specs.End.{meets}
-use Rattle.trace_stop.specs.Sound.{rises, differ, implies, holds, exists, of_owner, is_live_of, sound_numbers, sound_limits, sound_links, sound_owners, names_own, is_state, sound_states, is_due, waits_for, sound_lwp, sound_lwps, sound_rows}
+use Rattle.trace_stop.specs.Sound.{rises, differ, implies, holds, exists, of_owner, is_live_of, sound_numbers, sound_limits, sound_links, sound_owners, names_own, is_state, sound_states, is_due, waits_for, mode_fits, sound_lwp, sound_lwps, sound_rows}
 use Rattle.trace_stop.specs.Facts.{IsLiveOf, IsLiveChild, Linked, IfEnded, FitProcess, waited_for, Standing, FitLwp, WithOwner, Stands, IsSound}
 use Rattle.trace_stop.proofs.Every.{and_left, and_right, both, implies_at, implies_from, not_true, by_bool, All-from_list_all, list_all-from_All, All-imply, All-both}
 
@@ -182,11 +182,12 @@ home_test p h = both (list_any (λ u. u == p.uid) users) (in_block (pid_block p.
 
 -- processes
 
-links_from : (rows : Rows) (p : ProcData) → (holds (is_live_of rows p.uid) p.tracer && ((p.parent == 1) || is_live_of rows p.uid p.parent) && not (meets 250 rows.processes p.pid p.pid)) ≡ true
+links_from : (rows : Rows) (p : ProcData) → (not (p.parent == p.pid) && holds (is_live_of rows p.uid) p.tracer && ((p.parent == 1) || is_live_of rows p.uid p.parent) && not (meets 250 rows.processes p.pid p.pid)) ≡ true
     → implies (is_live p) (leb 1 (lwp_count p.pid rows)) ≡ true → IfSome (reporting p) (λ tid. names_own rows p tid ≡ true) → Linked rows p
 links_from rows p is peopled named = record {
-  tracer = if_holds (is_live_of rows p.uid) p.tracer (and_left _ _ (and_left _ _ is));
+  tracer = if_holds (is_live_of rows p.uid) p.tracer (and_right _ _ (and_left _ _ (and_left _ _ is)));
   parent = λ other. by_parent (eqb p.parent 1) refl (and_right _ _ (and_left _ _ is)) other;
+  other = λ same. true≢false (sym (and_left (not (p.parent == p.pid)) _ (and_left _ _ (and_left _ _ is))) ∙ ap not (eq-eqb p.parent p.pid same));
   chain = not_true (meets 250 rows.processes p.pid p.pid) (and_right _ _ is);
   named = named;
   peopled = λ live. leb-true 1 (lwp_count p.pid rows) (implies_at (is_live p) _ peopled live);
@@ -196,8 +197,8 @@ links_from rows p is peopled named = record {
     by_parent true e h other = absurd (other (eqb-true p.parent 1 e))
     by_parent false e h other = h
 
-links_test : (rows : Rows) (p : ProcData) → Linked rows p → (holds (is_live_of rows p.uid) p.tracer && ((p.parent == 1) || is_live_of rows p.uid p.parent) && not (meets 250 rows.processes p.pid p.pid)) ≡ true
-links_test rows p l = both _ _ (both _ _ (holds_if (is_live_of rows p.uid) p.tracer l.tracer) (by_parent (eqb p.parent 1) refl)) (ap not l.chain)
+links_test : (rows : Rows) (p : ProcData) → Linked rows p → (not (p.parent == p.pid) && holds (is_live_of rows p.uid) p.tracer && ((p.parent == 1) || is_live_of rows p.uid p.parent) && not (meets 250 rows.processes p.pid p.pid)) ≡ true
+links_test rows p l = both _ _ (both _ _ (both (not (p.parent == p.pid)) _ (ap not (by_bool (p.parent == p.pid) (λ e. l.other (eqb-true p.parent p.pid e)))) (holds_if (is_live_of rows p.uid) p.tracer l.tracer)) (by_parent (eqb p.parent 1) refl)) (ap not l.chain)
   where
     by_parent : (b : Bool) → eqb p.parent 1 ≡ b → (b || is_live_of rows p.uid p.parent) ≡ true
     by_parent true e = refl
@@ -281,7 +282,7 @@ standing_from rows p l live is = record {
 
 fit_lwp_from : (rows : Rows) (p : ProcData) (l : LwpData) → sound_lwp rows p l ≡ true → FitLwp p l
 fit_lwp_from rows p l is = record {
-  untraced = λ none. let h = implies_at (is_none p.tracer) _ (and_left _ _ (and_left _ _ (and_left _ _ (and_left _ _ is)))) (none_test p.tracer none) in record {
+  untraced = λ none. let h = implies_at (is_none p.tracer) _ (and_right _ _ (and_left _ _ (and_left _ _ (and_left _ _ (and_left _ _ is))))) (none_test p.tracer none) in record {
     due = not_true (is_due l.due) (and_left _ _ (and_left _ _ (and_left _ _ h)));
     stepping = not_true l.stepping (and_right _ _ (and_left _ _ (and_left _ _ h)));
     suspended = not_true l.suspended (and_right _ _ (and_left _ _ h));
@@ -293,11 +294,12 @@ fit_lwp_from rows p l is = record {
     code = eqb-true l.code 0 (and_right _ _ h);
   };
   blocked = eqb-true (bit_and l.blocked unmaskable_set) 0 (and_right _ _ (and_left _ _ is));
+  mode = and_left (mode_fits l.mode) _ (and_left _ _ (and_left _ _ (and_left _ _ (and_left _ _ is))));
 }
 
 lwp_test : (rows : Rows) (p : ProcData) (l : LwpData) → Standing rows p l → FitLwp p l → sound_lwp rows p l ≡ true
-lwp_test rows p l s f = both _ _ (both _ _ (both _ _ (both _ _
-    (implies_from (is_none p.tracer) _ (λ none. let h = f.untraced (none_is p.tracer none) in both _ _ (both _ _ (both _ _ (ap not h.due) (ap not h.stepping)) (ap not h.suspended)) (eq-eqb (bit_and l.pending (unwanted p)) 0 h.pending)))
+lwp_test rows p l s f = both _ _ (both _ _ (both _ _ (both _ _ (both (mode_fits l.mode) _ f.mode
+    (implies_from (is_none p.tracer) _ (λ none. let h = f.untraced (none_is p.tracer none) in both _ _ (both _ _ (both _ _ (ap not h.due) (ap not h.stepping)) (ap not h.suspended)) (eq-eqb (bit_and l.pending (unwanted p)) 0 h.pending))))
     (implies_from (not (is_this l.tid (reporting p))) _ (λ other. let h = f.silent (not_true _ other) in both _ _ (both _ _ (eq-eqb l.flags.0 0 h.flags) (eq-eqb l.child 0 h.child)) (eq-eqb l.code 0 h.code))))
     (implies_from (shows l.flags PL_FLAG_EXITED) _ (λ shown. le-leb 2 (lwp_count p.pid rows) (s.exited shown))))
     (eq-eqb (bit_and l.blocked unmaskable_set) 0 f.blocked))
@@ -333,7 +335,7 @@ IsSound-from rows is =
         tid_cursors = λ u user. block_in (tid_block u) _ (user_at (λ c. in_block (tid_block c.0) c.1) rows.tid_cursors 0 tid_slots (and_right _ _ numbers) u user);
         few_processes = λ u user. leb-true (process_count u rows) 250 (and_left _ _ (limit u user));
         few_lwps = λ u user. leb-true (lwp_count_of u rows) 1000 (and_right _ _ (limit u user));
-        linked = All-imply (λ p. ((holds (is_live_of rows p.uid) p.tracer && ((p.parent == 1) || is_live_of rows p.uid p.parent) && not (meets 250 rows.processes p.pid p.pid)) ≡ true) × ((implies (is_live p) (leb 1 (lwp_count p.pid rows)) ≡ true) × (state_test rows p ≡ true))) (Linked rows)
+        linked = All-imply (λ p. ((not (p.parent == p.pid) && holds (is_live_of rows p.uid) p.tracer && ((p.parent == 1) || is_live_of rows p.uid p.parent) && not (meets 250 rows.processes p.pid p.pid)) ≡ true) × ((implies (is_live p) (leb 1 (lwp_count p.pid rows)) ≡ true) × (state_test rows p ≡ true))) (Linked rows)
             (λ p h. links_from rows p h.0 h.1.0 (names_from rows p h.1.1)) ps (All-both _ _ ps (All-from_list_all _ ps links) (All-both _ _ ps people tests));
         standing = All-imply (λ l. (of_owner rows (λ p k. is_live p) l ≡ true) × (of_owner rows (sound_lwp rows) l ≡ true)) (WithOwner rows (Standing rows))
             (λ l h p at. standing_from rows p l (owner_at rows (λ q k. is_live q) l h.0 p at) (owner_at rows (sound_lwp rows) l h.1 p at)) rows.lwps (All-both _ _ rows.lwps live fits);

@@ -117,11 +117,13 @@ fit_lwp q r l n m fits = at (waits_where (alone q) l.mode)
       untraced = λ none. let u = fits.untraced none in record { due = ap is_due (due_same none) ∙ u.due; stepping = u.stepping; suspended = u.suspended; pending = settled u.pending };
       silent = λ other. let u = fits.silent other in record { flags = u.flags; child = u.child; code = u.code };
       blocked = fits.blocked;
+      mode = refl;
     }
     at false settled = record {
       untraced = λ none. let u = fits.untraced none in record { due = u.due; stepping = u.stepping; suspended = u.suspended; pending = settled u.pending };
       silent = λ other. let u = fits.silent other in record { flags = u.flags; child = u.child; code = u.code };
       blocked = fits.blocked;
+      mode = fits.mode;
     }
 
 pub sound_left : (rows : Rows) (q status : ℕ) (s : IsSound rows) → is_end status ≡ true → (live : IsLiveRow rows.processes q) (leaf : traces_live q rows ≡ false) → IsSound (after rows q status s.stands live leaf)

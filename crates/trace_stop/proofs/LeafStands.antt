@@ -22,7 +22,7 @@ use Rattle.trace_stop.specs.End.{tracer_in, tracer_of, holds_of, meets, unless, 
 use Rattle.trace_stop.specs.Sound.{names_own}
 use Rattle.trace_stop.specs.Facts.{IsLiveOf, IsLiveChild, Linked, waited_for, Standing, WithOwner, Stands}
 use Rattle.trace_stop.specs.Laws.{traces_live}
-use Rattle.trace_stop.proofs.Every.{and_left, and_right, by_bool, All-imply, All-both, All-edit}
+use Rattle.trace_stop.proofs.Every.{and_left, and_right, by_bool, All-imply, All-both, All-edit, find_some}
 use Rattle.trace_stop.proofs.Children.{child_after}
 use Rattle.trace_stop.proofs.Passes.{passes, any_same, any_edited, own_rows, rise_edited, process_edited}
 use Rattle.trace_stop.proofs.Doomed.{Untracing, untracing}
@@ -234,12 +234,20 @@ module _ (rows : Rows) (q status : ℕ) (s : Stands rows) (live : IsLiveRow rows
       (All-imply (λ l. Housed rows l × WithOwner rows (Standing rows) l) _ (λ l h. passes_only (λ k. owns u k.pid left.processes) (owns u l.pid ps ≡ true) (lwp_change l)
       (If-map (Same l) (λ k. owns u k.pid left.processes ≡ true → owns u l.pid ps ≡ true) (λ k same is. owns_before u l.pid (ap (λ n. owns u n left.processes) (sym same.pid) ∙ is)) (lwp_change l) (lwp_same l h))) rows.lwps homed)
 
+  other_left : (r : ProcData) → process_of r.pid ps ≡ Some r → r.parent ≢ r.pid → (if alone q r.parent then 1 else r.parent) ≢ r.pid
+  other_left r at other = by_over (alone q r.parent)
+    where
+      by_over : (b : Bool) → (if b then 1 else r.parent) ≢ r.pid
+      by_over true same = let home = (find_some (λ k. k.pid == r.pid) AtHome ps s.homes r at).0 in let low = home.block.0 in let user = home.user.0 in absurd (omega (arith, same))
+      by_over false same = other same
+
   -- each row
   linked_left : (r : ProcData) → ((process_of r.pid ps ≡ Some r) × Untracing ps q r) × Linked rows r → IfSome (change r) (Linked left)
   linked_left r h = row (Linked left) r h.0.0
       (λ alive same. record {
         tracer = tracer_left r.uid r.tracer h.1.tracer;
         parent = parent_left r.uid r.parent h.1.parent;
+        other = other_left r h.0.0 h.1.other;
         chain = no_ring_left r.pid;
         named = tt;
         peopled = λ e. absurd (true≢false (sym e));
@@ -247,6 +255,7 @@ module _ (rows : Rows) (q status : ℕ) (s : Stands rows) (live : IsLiveRow rows
       (λ alive other n. record {
         tracer = tracer_kept r.uid r.tracer (this_holds q r.tracer ∙ h.0.1.free alive) h.1.tracer;
         parent = parent_left r.uid r.parent h.1.parent;
+        other = other_left r h.0.0 h.1.other;
         chain = no_ring_left r.pid;
         named = If-map (λ tid. names_own rows r tid ≡ true) (λ tid. names_own left (remaining (alone q) r n) tid ≡ true) (λ tid is. names_left r (remaining (alone q) r n) refl other tid ∙ is) (reporting r) h.1.named;
         peopled = λ e. let some = h.1.peopled alive in let same = count_left r.pid other in omega (arith, some, same);
@@ -254,6 +263,7 @@ module _ (rows : Rows) (q status : ℕ) (s : Stands rows) (live : IsLiveRow rows
       (λ ended. record {
         tracer = tracer_left r.uid r.tracer h.1.tracer;
         parent = parent_left r.uid r.parent h.1.parent;
+        other = other_left r h.0.0 h.1.other;
         chain = no_ring_left r.pid;
         named = subst (λ o. IfSome o (λ tid. names_own left (orphaned (alone q) r) tid ≡ true)) (sym (dead_silent r ended)) tt;
         peopled = λ e. absurd (true≢false (sym e ∙ ended));

@@ -37,3 +37,5 @@ pub mod Running
 pub mod Freed
 pub mod Posts
 pub mod Linking
+pub mod Thinned
+pub mod Joining

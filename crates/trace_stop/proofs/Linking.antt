@@ -1,5 +1,5 @@
 -- A process gets a tracer: the new link closes no ring, and rows stay sound but for the process itself.
-use Rattle.std.proofs.Common.{◌≡◌, ◌≢◌, ◌⊎◌, inl, inr, ℕ, zero, suc, ◌+◌, ◌≤◌, Bool, true, false, cond, ◌==◌, ◌&&◌, ◌||◌, if◌then◌else◌, List, [], ◌∷◌, find, filter_map, Option, Some, None, IfSome, is_some, refl, sym, ap, ◌∙◌, true≢false, subst, arith, eqb, eqb-true, eq-eqb}
+use Rattle.std.proofs.Common.{◌≡◌, ◌≢◌, ◌⊎◌, inl, inr, ℕ, zero, suc, ◌+◌, ◌≤◌, Bool, true, false, cond, ◌==◌, ◌&&◌, ◌||◌, if◌then◌else◌, List, [], ◌∷◌, filter_map, Option, Some, None, refl, sym, ap, ◌∙◌, true≢false, subst, arith, eqb-true, eq-eqb}
 use Rattle.std.specs.Prelude.{count_by}
 use Rattle.std.specs.List.{AllByRecursion, list_any, cons_option}
 use Rattle.event_masks.specs.declared.EventMask.{EventMask}
@@ -10,15 +10,14 @@ use Rattle.proc_table.specs.Rows.{Rows, change_process}
 use Rattle.proc_table.specs.Fresh.{lwp_count}
 use Rattle.trace_stop.specs.End.{holds_of, tracer_in, tracer_of, meets}
 use Rattle.trace_stop.specs.Sound.{names_own}
-use Rattle.trace_stop.specs.Facts.{IsLiveOf, IsLiveChild, Linked, FitProcess, waited_for, Standing, FitLwp, WithOwner, Stands, IsSound}
-use Rattle.trace_stop.proofs.Every.{and_left, and_right, both, or_left, by_bool, any_forward, All-imply, All-any, All-both, All-edit, find_some}
+use Rattle.trace_stop.specs.Facts.{IsLiveOf, IsLiveChild, Linked, FitProcess, waited_for, Standing, FitLwp, WithOwner, IsSound}
+use Rattle.trace_stop.proofs.Every.{or_left, by_bool, any_forward, All-any, All-both, All-edit}
 use Rattle.trace_stop.proofs.Children.{child_test}
 use Rattle.trace_stop.proofs.Edited.{edited, Same, If_more, some_is, find_edit, owners_after, edited_stands}
-use Rattle.trace_stop.proofs.Changed.{Holds, found_number}
+use Rattle.trace_stop.proofs.Changed.{Holds}
 use Rattle.trace_stop.proofs.Changes.{edit_none}
 use Rattle.trace_stop.proofs.LeafLaw.{meets-more}
 use Rattle.trace_stop.proofs.Chains.{meets-up, chains_meet}
-use Rattle.trace_stop.proofs.Ending.{own_rows}
 use Rattle.trace_stop.proofs.Stopping.{the_row}
 
 -- Chains
@@ -179,6 +178,7 @@ module _ (rows : Rows) (p : ProcData) (n : ℕ) (mask : EventMask) (s : IsSound 
       (λ e. record {
         tracer = lives_on q.uid n (subst (λ r. IsLiveOf rows r.uid n) (sym (k.1 (eqb-true q.pid p.pid e))) tracer);
         parent = λ ne. lives_on q.uid q.parent (k.0.1.parent ne);
+        other = k.0.1.other;
         chain = ring q.pid k.0.1.chain;
         named = If_more (λ tid. names_own rows q tid ≡ true) (λ tid. names_own left q tid ≡ true) (names_on q) (reporting q) k.0.1.named;
         peopled = λ live. counts_on 1 q.pid (k.0.1.peopled live);
@@ -186,6 +186,7 @@ module _ (rows : Rows) (p : ProcData) (n : ℕ) (mask : EventMask) (s : IsSound 
       (λ e. record {
         tracer = If_more (IsLiveOf rows q.uid) (IsLiveOf left q.uid) (lives_on q.uid) q.tracer k.0.1.tracer;
         parent = λ ne. lives_on q.uid q.parent (k.0.1.parent ne);
+        other = k.0.1.other;
         chain = ring q.pid k.0.1.chain;
         named = If_more (λ tid. names_own rows q tid ≡ true) (λ tid. names_own left q tid ≡ true) (names_on q) (reporting q) k.0.1.named;
         peopled = λ live. counts_on 1 q.pid (k.0.1.peopled live);
@@ -207,7 +208,7 @@ module _ (rows : Rows) (p : ProcData) (n : ℕ) (mask : EventMask) (s : IsSound 
 
   lwp_fits : (l : LwpData) (q : ProcData) → FitLwp q l → FitLwp (if q.pid == p.pid then linked q else q) l
   lwp_fits l q fit = choose (q.pid == p.pid) (linked q) q (λ r. FitLwp r l)
-      (λ e. record { untraced = λ none. absurd (some_none none); silent = fit.silent; blocked = fit.blocked })
+      (λ e. record { untraced = λ none. absurd (some_none none); silent = fit.silent; blocked = fit.blocked; mode = fit.mode })
       (λ e. fit)
     where
       some_none : Some n ≡ None → ⊥

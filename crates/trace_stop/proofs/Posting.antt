@@ -44,6 +44,7 @@ lwp_pending_fits p q l n fit same by none apart = record {
   untraced = λ free. let was = fit.untraced (sym same ∙ free) in record { due = was.due; stepping = was.stepping; suspended = was.suspended; pending = apart free };
   silent = λ other. by_report by other;
   blocked = fit.blocked;
+  mode = fit.mode;
 }
   where
     by_report : (reporting q ≡ reporting p) ⊎ (reporting q ≡ None) → is_this l.tid (reporting q) ≡ false → Silent (record l { pending = n })

@@ -22,7 +22,7 @@ use Rattle.trace_stop.proofs.Ending.{own_rows}
 
 -- Counts where at most one is gone
 
-count_kept : {X : Type 0} (t r : X → Bool) (h : X → Option X) (R : X → Type 0) → ((x : X) → R x → t x ≡ true → (y : X) × (h x ≡ Some y) × (r y ≡ true)) → (xs : List X) → AllByRecursion R xs → count_by t xs ≤ count_by r (filter_map h xs)
+pub count_kept : {X : Type 0} (t r : X → Bool) (h : X → Option X) (R : X → Type 0) → ((x : X) → R x → t x ≡ true → (y : X) × (h x ≡ Some y) × (r y ≡ true)) → (xs : List X) → AllByRecursion R xs → count_by t xs ≤ count_by r (filter_map h xs)
 count_kept t r h R keep [] all = omega arith
 count_kept {X} t r h R keep (x ∷ xs) all = by_head (t x) refl (count_kept t r h R keep xs all.1)
   where
@@ -245,6 +245,7 @@ module _ (rows : Rows) (chosen : ProcData → Bool) (f : ProcData → ProcData) 
       (λ c. record {
         tracer = subst (λ u. IfSome (f p).tracer (IsLiveOf after u)) (sym (shape.uid p)) (by_tracer (shape.tracer p));
         parent = λ ne. subst (λ u. IsLiveOf after u (f p).parent) (sym (shape.uid p)) (subst (IsLiveOf after p.uid) (sym (shape.parent p)) (live_after p.uid p.parent (fact.link.parent (λ one. ne (shape.parent p ∙ one)))));
+        other = λ self. fact.link.other (sym (shape.parent p) ∙ (self ∙ shape.pid p));
         chain = subst (λ n. meets 250 after.processes n n ≡ false) (sym (shape.pid p)) (chain p fact);
         named = subst (λ o. IfSome o (λ tid. names_own after (f p) tid ≡ true)) (sym (shape.quiet p)) tt;
         peopled = λ live. subst (λ n. 1 ≤ lwp_count n after) (sym (shape.pid p)) (peopled p fact c);
@@ -252,6 +253,7 @@ module _ (rows : Rows) (chosen : ProcData → Bool) (f : ProcData → ProcData) 
       (λ c. record {
         tracer = If_more (IsLiveOf rows p.uid) (IsLiveOf after p.uid) (live_after p.uid) p.tracer fact.link.tracer;
         parent = λ ne. live_after p.uid p.parent (fact.link.parent ne);
+        other = fact.link.other;
         chain = chain p fact;
         named = If_more (λ tid. names_own rows p tid ≡ true) (λ tid. names_own after p tid ≡ true) (λ tid. names_other p tid fact c) (reporting p) fact.link.named;
         peopled = λ live. let some = fact.link.peopled live in let more = count_other p fact c in omega (arith, some, more);
@@ -280,7 +282,7 @@ module _ (rows : Rows) (chosen : ProcData → Bool) (f : ProcData → ProcData) 
   silent_shows l silent = subst (λ n. (bit_and n PL_FLAG_EXITED.0 == PL_FLAG_EXITED.0) ≡ false) (sym silent.flags) refl
 
   cleared_fits : (p : ProcData) (l : LwpData) → FitLwp p l → FitLwp p (cleared l)
-  cleared_fits p l fit = record { untraced = λ none. let was = fit.untraced none in record { due = was.due; stepping = was.stepping; suspended = was.suspended; pending = was.pending }; silent = λ off. record { flags = refl; child = refl; code = refl }; blocked = fit.blocked }
+  cleared_fits p l fit = record { untraced = λ none. let was = fit.untraced none in record { due = was.due; stepping = was.stepping; suspended = was.suspended; pending = was.pending }; silent = λ off. record { flags = refl; child = refl; code = refl }; blocked = fit.blocked; mode = fit.mode }
 
   -- what holds of an LWP that is left beside its process: for one that lives on as it was, and for a silent one that runs on
   left_row : (R : ProcData → LwpData → Type 0) (l k : LwpData) (p q : ProcData) → process_of l.pid rows.processes ≡ Some p → FitLwp p l

@@ -64,6 +64,19 @@ the_lwp n (l ∷ ls) k all at = by_head (l.tid == n) refl at (the_lwp n ls k all
     by_head true e h rest = (λ same. some_is l k h, All-imply (λ j. j.tid ≢ l.tid) (λ j. j.tid ≡ n → j ≡ k) (λ j other same. absurd (other (same ∙ sym (eqb-true l.tid n e)))) ls (lacks_all l.tid ls all.0))
     by_head false e h rest = (λ same. absurd (true≢false (sym (eq-eqb l.tid n same) ∙ e)), rest h)
 
+-- each LWP is found by its number
+skip_lwps : (l : LwpData) (ls ks : List LwpData) → LacksLwp l.tid ks → AllByRecursion (λ k. lwp_of k.tid ls ≡ Some k) ks → AllByRecursion (λ k. lwp_of k.tid (l ∷ ls) ≡ Some k) ks
+skip_lwps l ls [] lacks all = tt
+skip_lwps l ls (k ∷ ks) lacks all = (other (l.tid == k.tid) refl, skip_lwps l ls ks lacks.1 all.1)
+  where
+    other : (b : Bool) → (l.tid == k.tid) ≡ b → cond b (Some l) (lwp_of k.tid ls) ≡ Some k
+    other true e = absurd (lacks.0 (sym (eqb-true l.tid k.tid e)))
+    other false e = all.0
+
+pub own_lwps : (ls : List LwpData) → Differ ls → AllByRecursion (λ l. lwp_of l.tid ls ≡ Some l) ls
+own_lwps [] all = tt
+own_lwps (l ∷ ls) all = (rw (eq-eqb l.tid l.tid refl) refl, skip_lwps l ls ls all.0 (own_lwps ls all.1))
+
 -- Telling live processes
 
 abbrev pub MayTell : Rows → ℕ → Type 0

@@ -122,11 +122,13 @@ module _ (rows : Rows) (pid tid : ℕ) (shown : Shown) (p : ProcData) (l : LwpDa
     untraced = λ none. absurd (none_some q.tracer none ready.traced);
     silent = λ off. absurd (true≢false (sym (eq-eqb tid k.tid (sym (eqb-true k.tid tid d))) ∙ off));
     blocked = known.0.blocked;
+    mode = known.0.mode;
   }
   fit_lwp q k fact known at true e false d = let ready = fact.1 (eqb-true q.pid pid e) in record {
     untraced = λ none. absurd (none_some q.tracer none ready.traced);
     silent = λ off. known.0.silent (ap (is_this k.tid) ready.quiet);
     blocked = known.0.blocked;
+    mode = known.0.mode;
   }
 
   the_change : Change rows to to_lwp (Readied pid) Known FitProcess FitLwp

@@ -20,7 +20,7 @@ use Rattle.proc_table.specs.Fresh.{process_count, lwp_count_of, lwp_count}
 use Rattle.proc_table.specs.Kept.{Rise, AtHome, Housed}
 use Rattle.trace_stop.specs.Post.{unwanted}
 use Rattle.trace_stop.specs.End.{meets}
-use Rattle.trace_stop.specs.Sound.{is_live_of, is_live_child, is_end, names_own, is_due}
+use Rattle.trace_stop.specs.Sound.{is_live_of, is_live_child, is_end, names_own, is_due, mode_fits}
 
 -- the number is that of a live process of the user
 abbrev pub IsLiveOf : Rows → ℕ → ℕ → Type 0
@@ -30,10 +30,11 @@ IsLiveOf rows u n = is_live_of rows u n ≡ true
 abbrev pub IsLiveChild : Rows → ProcData → ℕ → Type 0
 IsLiveChild rows p n = is_live_child rows p n ≡ true
 
--- what a process names: live processes of its user, in no ring of tracers, and an LWP of its own; a live one has an LWP
+-- what a process names: live processes of its user, another one as its parent, in no ring of tracers, and an LWP of its own; a live one has an LWP
 pub record Linked (rows : Rows) (p : ProcData) : Type 0 where
   pub tracer : IfSome p.tracer (IsLiveOf rows p.uid)
   pub parent : p.parent ≢ 1 → IsLiveOf rows p.uid p.parent
+  pub other : p.parent ≢ p.pid
   pub chain : meets 250 rows.processes p.pid p.pid ≡ false
   pub named : IfSome (reporting p) (λ tid. names_own rows p tid ≡ true)
   pub peopled : is_live p ≡ true → 1 ≤ lwp_count p.pid rows
@@ -93,6 +94,7 @@ pub record FitLwp (p : ProcData) (l : LwpData) : Type 0 where
   pub untraced : p.tracer ≡ None → UntracedLwp p l
   pub silent : is_this l.tid (reporting p) ≡ false → Silent l
   pub blocked : bit_and l.blocked unmaskable_set ≡ 0
+  pub mode : mode_fits l.mode ≡ true
 
 -- a fact of an LWP and the process that it belongs to
 abbrev pub WithOwner : Rows → (ProcData → LwpData → Type 0) → LwpData → Type 0

@@ -1,15 +1,15 @@
-use Rattle.std.proofs.Common.{◌≡◌, ◌<◌, rules, arith, ap, ◌∙◌, Some, None}
+use Rattle.std.proofs.Common.{◌≡◌, ◌<◌, rules, arith, ap, ◌∙◌, Some, None, ◌==◌}
 use Rattle.proc_table.specs.Walks.{next_of}
 use Rattle.requests.proofs.Walk.{pids, above_first, listed_next, listed_all, next_over}
 use Rattle.requests.proofs.lists.pids_of.Goals as goal
 
 pub loop-p-init : goal.loop-p-init
-loop-p-init c = record { below = omega arith; listed = rw c.in_ok-pids.ensures.items (ap pids (above_first c.args.user c.args.tables.now.rows.processes c.process_count.ensures.kept.homes)) }
+loop-p-init c = record { below = omega arith; listed = rw c.in_ok-pids.ensures.items (ap pids (above_first (λ p. p.uid == c.args.user) c.args.tables.now.rows.processes c.process_count.ensures.kept.homes)) }
 
 pub loop-p-smaller : goal.loop-p-smaller
 loop-p-smaller c =
     let at : next_of c.args.user c.loop-p.after c.args.tables.now.rows.processes ≡ Some c.in-Some.p = cc in
-    let over : c.loop-p.after < c.in-Some.p.pid = next_over c.args.user c.loop-p.after c.args.tables.now.rows.processes c.in-Some.p at in
+    let over : c.loop-p.after < c.in-Some.p.pid = next_over (λ p. p.uid == c.args.user) c.loop-p.after c.args.tables.now.rows.processes c.in-Some.p at in
     omega (arith, over, c.get-after.ensures.number, c.get-after.ensures.below)
 
 pub loop-p-preserved : goal.loop-p-preserved
@@ -17,10 +17,10 @@ loop-p-preserved c =
     let at : next_of c.args.user c.loop-p.after c.args.tables.now.rows.processes ≡ Some c.in-Some.p = cc in
     record {
       below = c.get-after.ensures.below;
-      listed = rw (c.in_ok-push.ensures.items, c.get-after.ensures.number) (listed_next c.args.user c.loop-p.after c.args.tables.now.rows.processes c.in-Some.p c.loop-p.pids.items _ c.next_of.ensures.kept.rising at c.loop-p.invariant.listed);
+      listed = rw (c.in_ok-push.ensures.items, c.get-after.ensures.number) (listed_next (λ p. p.uid == c.args.user) c.loop-p.after c.args.tables.now.rows.processes c.in-Some.p c.loop-p.pids.items _ c.next_of.ensures.kept.rising at c.loop-p.invariant.listed);
     }
 
 pub returns : goal.returns
 returns c =
     let at : next_of c.args.user c.loop-p.after c.args.tables.now.rows.processes ≡ None = search rules in
-    c.of.ensures ∙ listed_all c.args.user c.loop-p.after c.args.tables.now.rows.processes c.loop-p.pids.items _ at c.loop-p.invariant.listed
+    c.of.ensures ∙ listed_all (λ p. p.uid == c.args.user) c.loop-p.after c.args.tables.now.rows.processes c.loop-p.pids.items _ at c.loop-p.invariant.listed

@@ -1,4 +1,4 @@
-use Rattle.std.proofs.Common.{◌≡◌, ◌++◌, ◌-◌, ◌<◌}
+use Rattle.std.proofs.Common.{◌≡◌, ◌++◌, ◌-◌, ◌<◌, ◌==◌}
 use Rattle.proc_table.specs.Processes.{of_user}
 use Rattle.requests.proofs.Walk.{above, pids}
 use Rattle.requests.proofs.lists.pids_of.Given as goal
@@ -6,7 +6,7 @@ use Rattle.requests.proofs.lists.pids_of.Given as goal
 abbrev pub invariant-loop-p : goal.invariant-loop-p
 invariant-loop-p l = record {
   below : l.after < 65000;
-  listed : l.pids.items ++ pids (above l.user l.after l.tables.rows.processes) ≡ pids (of_user l.user l.tables.rows.processes);
+  listed : l.pids.items ++ pids (above (λ p. p.uid == l.user) l.after l.tables.rows.processes) ≡ pids (of_user l.user l.tables.rows.processes);
 }
 
 abbrev pub decreases-loop-p : goal.decreases-loop-p

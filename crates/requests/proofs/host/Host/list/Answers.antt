@@ -1,59 +1,57 @@
-use Rattle.std.proofs.Common.{◌≡◌, ℕ, true, false, Option, Some, sym, ap, ◌∙◌, map}
+use Rattle.std.proofs.Common.{◌≡◌, true, refl, sym, subst, ap, ◌∙◌, not, map}
+use Rattle.requests.specs.declared.PlainStep.TheVariants as op
 use Rattle.requests.specs.declared.Reply.TheVariants as reply
-use Rattle.proc_table.specs.declared.ProcData.{ProcData}
-use Rattle.proc_table.specs.Processes.{is_live, is_run, of_user}
-use Rattle.proc_table.specs.Rows.{Rows}
-use Rattle.proc_table.specs.Seen.{seen_process}
+use Rattle.proc_table.specs.Processes.{of_user}
+use Rattle.requests.specs.Memory.{is_refusal}
+use Rattle.requests.specs.Step.{step}
+use Rattle.requests.proofs.Replies.{other}
+use Rattle.requests.specs.Callers.{Calls, IsCaller}
+use Rattle.requests.specs.Hosts.{machine_of}
+use Rattle.requests.specs.Machine.{Machine, after}
 use Rattle.requests.specs.Sound.{sound}
-use Rattle.requests.proofs.Hosted.{list_ended, list_held, list_done, list_wanted}
+use Rattle.requests.specs.Calls.{list}
+use Rattle.requests.proofs.After.{rows_sound}
+use Rattle.requests.proofs.Called.{called, is_caller, caller_live}
+use Rattle.requests.proofs.Finished.{Finished, barred, refuses_at, wants_at}
+use Rattle.requests.proofs.host.Host.list.Given.{Over}
+use Rattle.requests.proofs.host.Host.list.Goals.{in-Ok-pids_of, in-Err-pids_of}
 use Rattle.requests.proofs.host.Host.list.Goals as goal
 
-pub returns-in_default-clause-sound : goal.returns-in_default-clause-sound
-returns-in_default-clause-sound c = rw (← c.self.view_is) c.self.invariant
-
-pub returns-then-not-is_live-clause-sound : goal.returns-then-not-is_live-clause-sound
-returns-then-not-is_live-clause-sound c = rw (← c.self.view_is) c.self.invariant
-
-pub returns-then-not-is_run-clause-sound : goal.returns-then-not-is_run-clause-sound
-returns-then-not-is_run-clause-sound c = rw (← c.self.view_is) c.self.invariant
-
-pub returns-in-Ok-clause-sound : goal.returns-in-Ok-clause-sound
-returns-in-Ok-clause-sound c = rw (← c.self.view_is) c.self.invariant
-
-pub returns-in-Err-clause-sound : goal.returns-in-Err-clause-sound
-returns-in-Err-clause-sound c = rw (← c.self.view_is) c.self.invariant
-
-asks : (rows rows' : Rows) → rows ≡ rows' → (u n : ℕ) (o : Option ProcData) (p : ProcData) → o ≡ seen_process u n rows → o ≡ Some p → seen_process u n rows' ≡ Some p
-asks rows rows' same u n o p row is = ap (seen_process u n) (sym same) ∙ sym row ∙ is
-
-pub returns-then-not-is_live-clause-machine : goal.returns-then-not-is_live-clause-machine
-returns-then-not-is_live-clause-machine c = λ ok.
-    let seen : seen_process c.args.user c.args.caller c.args.self.now.rows ≡ Some c.in-Some.asking = asks _ _ (ap (λ m. m.rows) c.self.view_is) _ _ _ _ c.seen_process.ensures.row c.in-Some.is in
-    let live : is_live c.in-Some.asking ≡ false = sym c.is_live.ensures ∙ c.if-not-is_live.true in
+pub returns-in-Err-clause-machine : goal.returns-in-Err-clause-machine
+returns-in-Err-clause-machine g c =
     let is : sound c.args.self.now ≡ true = rw (← c.self.view_is) c.self.invariant in
-    list_ended c.args.user c.args.caller c.args.self.now is c.in-Some.asking seen live
-
-pub returns-then-not-is_run-clause-machine : goal.returns-then-not-is_run-clause-machine
-returns-then-not-is_run-clause-machine c = λ ok.
-    let seen : seen_process c.args.user c.args.caller c.args.self.now.rows ≡ Some c.in-Some.asking = asks _ _ (ap (λ m. m.rows) c.self.view_is) _ _ _ _ c.seen_process.ensures.row c.in-Some.is in
-    let live : is_live c.in-Some.asking ≡ true = sym c.is_live.ensures ∙ c.if-not-is_live.false in
-    let run : is_run c.in-Some.asking ≡ false = sym c.is_run.ensures ∙ c.if-not-is_run.true in
-    let is : sound c.args.self.now ≡ true = rw (← c.self.view_is) c.self.invariant in
-    list_held c.args.user c.args.caller c.args.self.now is c.in-Some.asking seen live run
-
-pub returns-in-Ok-clause-machine : goal.returns-in-Ok-clause-machine
-returns-in-Ok-clause-machine c = λ ok.
-    let seen : seen_process c.args.user c.args.caller c.args.self.now.rows ≡ Some c.in-Some.asking = asks _ _ (ap (λ m. m.rows) c.self.view_is) _ _ _ _ c.seen_process.ensures.row c.in-Some.is in
-    let live : is_live c.in-Some.asking ≡ true = sym c.is_live.ensures ∙ c.if-not-is_live.false in
-    let run : is_run c.in-Some.asking ≡ true = sym c.is_run.ensures ∙ c.if-not-is_run.false in
-    let is : sound c.args.self.now ≡ true = rw (← c.self.view_is) c.self.invariant in
-    let listed : c.in-Ok.pids ≡ map (λ q. q.pid) (of_user c.args.user c.args.self.now.rows.processes) = c.in-Ok.ensures ∙ ap (λ m. map (λ q. q.pid) (of_user c.args.user m.rows.processes)) c.self.view_is in
-    let done = list_done c.args.user c.args.caller c.args.self.now is c.in-Some.asking seen live run in
-    (done.0, ap reply.Pids listed ∙ done.1)
+    (barred c.args.user (op.List c.args.caller) c.args.self.now c.get-user.ensures.user is c.args.caller c.in-Err.refusal refl c.in-Err.ensures.barred).machine
 
 pub returns-in-Err-clause-memory : goal.returns-in-Err-clause-memory
-returns-in-Err-clause-memory c = λ no.
-    let seen : seen_process c.args.user c.args.caller c.args.self.now.rows ≡ Some c.in-Some.asking = asks _ _ (ap (λ m. m.rows) c.self.view_is) _ _ _ _ c.seen_process.ensures.row c.in-Some.is in
-    let live : is_live c.in-Some.asking ≡ true = sym c.is_live.ensures ∙ c.if-not-is_live.false in
-    let run : is_run c.in-Some.asking ≡ true = sym c.is_run.ensures ∙ c.if-not-is_run.false in
-    list_wanted c.args.user c.args.caller c.args.self.now c.in-Some.asking seen live run
+returns-in-Err-clause-memory g c =
+    let is : sound c.args.self.now ≡ true = rw (← c.self.view_is) c.self.invariant in
+    (barred c.args.user (op.List c.args.caller) c.args.self.now c.get-user.ensures.user is c.args.caller c.in-Err.refusal refl c.in-Err.ensures.barred).memory
+
+pub returns-in-Err-clause-sound : goal.returns-in-Err-clause-sound
+returns-in-Err-clause-sound g c = rw (← c.self.view_is) c.self.invariant
+
+
+done : (g : Over) (c : goal.Joined-pids_of g) → Finished c.args.user (op.List c.args.caller) c.args.self.now c.args.self.now c.match-pids_of.result
+done g c =
+    let m : Machine = c.args.self.now in
+    let is : sound m ≡ true = rw (← c.self.view_is) c.self.invariant in
+    let by : Calls c.args.user c.args.caller m.rows c.in-Ok.caller = c.in-Ok.ensures.found in
+    let at : step c.args.user (op.List c.args.caller) m ≡ after m (list c.args.user m.rows) = called c.args.user c.args.caller (op.List c.args.caller) m refl c.in-Ok.caller by.seen by.live by.runs in
+    elim c.match-pids_of.branch [
+      | in-Ok-pids_of w ↦
+          let listed : w.in-Ok-pids_of.pids ≡ map (λ p. p.pid) (of_user c.args.user m.rows.processes) = w.in-Ok-pids_of.ensures ∙ ap (λ x. map (λ p. p.pid) (of_user c.args.user x.rows.processes)) c.self.view_is in
+          subst (λ r. Finished c.args.user (op.List c.args.caller) m m r) (ap reply.Pids (sym listed) ∙ sym w.result-is) (refuses_at c.args.user (op.List c.args.caller) m c.get-user.ensures.user is (list c.args.user m.rows).reply (other (list c.args.user m.rows).reply refl) at)
+      | in-Err-pids_of w ↦ subst (λ r. Finished c.args.user (op.List c.args.caller) m m r) (sym w.result-is) (wants_at c.args.user (op.List c.args.caller) m c.get-user.ensures.user is (ap (λ a. not (is_refusal a.reply)) at))
+    ]
+
+pub returns-clause-machine : goal.returns-clause-machine
+returns-clause-machine g c = (done g c).machine
+
+pub returns-clause-memory : goal.returns-clause-memory
+returns-clause-memory g c = λ e. (done g c).memory e
+
+pub returns-clause-refused : goal.returns-clause-refused
+returns-clause-refused g c = (done g c).refused
+
+pub returns-clause-sound : goal.returns-clause-sound
+returns-clause-sound g c = (done g c).sound

@@ -1,8 +1,8 @@
-use Rattle.std.proofs.Common.{◌≡◌, true, sym, subst}
+use Rattle.std.proofs.Common.{◌≡◌, true, sym, subst, ap, ap₂}
 use Rattle.requests.specs.Sound.{sound}
+use Rattle.requests.specs.Machine.{Machine}
 use Rattle.requests.proofs.Born.{empty_sound}
-use Rattle.requests.proofs.Hosted.{hosted}
 use Rattle.requests.proofs.host.Host.new.Goals as goal
 
 pub invariant_of-result : goal.invariant_of-result
-invariant_of-result c = subst (λ rows. sound (hosted c.args.settings rows) ≡ true) (sym c.in_ok-tables.ensures) (empty_sound c.args.settings)
+invariant_of-result g c = rw (c.in_ok-tables.ensures, c.in_ok-handlers.ensures) (empty_sound c.args.settings)

@@ -1,25 +1,30 @@
-use Rattle.std.proofs.Common.{◌≡◌, true, not, ap}
-use Rattle.requests.specs.Sound.{sound}
-use Rattle.requests.proofs.Hosted.{hosted, Spawns, spawns_sound, spawns_refused}
+use Rattle.std.proofs.Common.{◌≡◌, refl, ap, ◌∙◌, sym}
+use Rattle.requests.specs.declared.PlainStep.TheVariants as op
+use Rattle.requests.specs.Hosts.{machine_of}
+use Rattle.requests.specs.Machine.{Machine}
+use Rattle.requests.specs.Calls.{spawn}
+use Rattle.requests.proofs.Finished.{Did, Finished, finished_with}
+use Rattle.requests.proofs.host.Host.spawn.Given.{Over}
 use Rattle.requests.proofs.host.Host.spawn.Goals as goal
 
-done : (c : goal.After-spawn) → Spawns c.args.user c.self.inside.tables.rows c.spawn.new.tables.rows c.spawn.result
-done c = record { machine = c.spawn.ensures.machine; memory = c.spawn.ensures.memory }
-
-kept : (c : goal.After-spawn) → sound (hosted c.self.inside.settings c.spawn.new.tables.rows) ≡ true
-kept c = spawns_sound c.self.inside.settings c.args.user c.self.inside.tables.rows c.spawn.new.tables.rows c.spawn.result c.get-user.ensures.user (done c) c.self.invariant
+done : (g : Over) (c : goal.After-drop_ended g) → Finished c.args.user (op.Spawn) (machine_of c.self.inside.settings c.self.inside.tables c.self.inside.handlers)
+    (machine_of c.self.inside.settings c.spawn-reply.new.tables c.drop_ended.new.self) c.spawn-reply.result
+done g c =
+    let m : Machine = machine_of c.self.inside.settings c.self.inside.tables c.self.inside.handlers in
+    finished_with c.args.user (op.Spawn) m c.get-user.ensures.user c.self.invariant (spawn c.args.user m.rows) c.spawn-reply.new.tables.rows c.drop_ended.new.self c.spawn-reply.result c.drop_ended.ensures refl
+    (record { machine = c.spawn-reply.ensures.machine; memory = λ e. let f = c.spawn-reply.ensures.memory e in (f.0, refl, f.1) })
 
 pub invariant_of-self : goal.invariant_of-self
-invariant_of-self c = kept c
+invariant_of-self g c = (done g c).sound
 
 pub returns-clause-machine : goal.returns-clause-machine
-returns-clause-machine c = λ ok. let done = c.spawn.ensures.machine ok in rw (← c.self.view_is) (ap (hosted c.self.inside.settings) done.0, done.1)
+returns-clause-machine g c = rw (← c.self.view_is) (done g c).machine
 
 pub returns-clause-memory : goal.returns-clause-memory
-returns-clause-memory c = λ no. let done = c.spawn.ensures.memory no in rw (← c.self.view_is) (ap (hosted c.self.inside.settings) done.0, ap not done.1)
+returns-clause-memory g c = rw (← c.self.view_is) (done g c).memory
 
 pub returns-clause-refused : goal.returns-clause-refused
-returns-clause-refused c = λ no. rw (← c.self.view_is) (ap (hosted c.self.inside.settings) (spawns_refused c.args.user c.self.inside.tables.rows c.spawn.new.tables.rows c.spawn.result (done c) no))
+returns-clause-refused g c = rw (← c.self.view_is) (done g c).refused
 
 pub returns-clause-sound : goal.returns-clause-sound
-returns-clause-sound c = kept c
+returns-clause-sound g c = (done g c).sound

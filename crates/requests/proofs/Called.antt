@@ -1,0 +1,61 @@
+-- What a step is once its caller was looked up.
+use Rattle.std.proofs.Common.{◌≡◌, ◌≢◌, ℕ, ◌==◌, ◌&&◌, true, false, Option, Some, None, refl, ap, ◌∙◌, eqb-true}
+use Rattle.pid_blocks.specs.declared.Errno.TheVariants as errno
+use Rattle.proc_table.specs.declared.ProcData.{ProcData}
+use Rattle.proc_table.specs.Processes.{is_live, is_run}
+use Rattle.proc_table.specs.Seen.{seen_process}
+use Rattle.requests.specs.declared.PlainStep.{PlainStep}
+use Rattle.requests.specs.declared.Reply.{Reply}
+use Rattle.requests.specs.declared.Reply.TheVariants as reply
+use Rattle.requests.specs.Outcome.{answers}
+use Rattle.requests.specs.Machine.{Machine, After, after}
+use Rattle.requests.specs.Step.{step, step_of, checked, calls, caller_of}
+use Rattle.requests.specs.Callers.{IsCaller, Calls, Barred}
+use Rattle.proc_table.specs.Rows.{Rows}
+use Rattle.proc_table.specs.Processes.{process_of}
+use Rattle.proc_table.specs.Kept.{Rise}
+use Rattle.trace_stop.specs.Laws.{is_live_at}
+use Rattle.trace_stop.proofs.Every.{and_right, find_some}
+use Rattle.requests.proofs.Living.{live_found, run_live}
+use Rattle.requests.proofs.Replies.{other}
+use Rattle.requests.proofs.Steps.{own_rows}
+
+refused_otherwise : reply.Errno errno.ESRCH ≢ reply.Errno errno.ENOMEM
+refused_otherwise = other (reply.Errno errno.ESRCH) refl
+
+held_otherwise : reply.Held ≢ reply.Errno errno.ENOMEM
+held_otherwise = other reply.Held refl
+
+module _ (u n : ℕ) (s : PlainStep) (m : Machine) (by : caller_of s ≡ Some n) where
+  at : (o : Option ProcData) → seen_process u n m.rows ≡ o → step u s m ≡ checked u s o m
+  at o seen = ap (step_of u s m) by ∙ ap (λ x. checked u s x m) seen
+
+  pub unseen : seen_process u n m.rows ≡ None → step u s m ≡ after m (answers (reply.Errno errno.ESRCH) m.rows)
+  unseen seen = at None seen
+
+  pub ended : (p : ProcData) → seen_process u n m.rows ≡ Some p → is_live p ≡ false → step u s m ≡ after m (answers (reply.Errno errno.ESRCH) m.rows)
+  ended p seen live = at (Some p) seen ∙ rw live refl
+
+  pub held : (p : ProcData) → seen_process u n m.rows ≡ Some p → is_live p ≡ true → is_run p ≡ false → step u s m ≡ after m (answers reply.Held m.rows)
+  held p seen live run = at (Some p) seen ∙ rw (live, run) refl
+
+  pub called : (p : ProcData) → seen_process u n m.rows ≡ Some p → is_live p ≡ true → is_run p ≡ true → step u s m ≡ calls u s p m
+  called p seen live run = at (Some p) seen ∙ rw (live, run) refl
+
+-- A caller that was found
+pub is_caller : (u n : ℕ) (rows : Rows) (p : ProcData) → Rise rows.processes → Calls u n rows p → IsCaller u p rows
+is_caller u n rows p rise c =
+    let found = find_some (λ q. (q.pid == n) && (q.uid == u)) (λ q. process_of q.pid rows.processes ≡ Some q) rows.processes (own_rows rows.processes rise) p c.seen in
+    record { at = found.0; own = eqb-true p.uid u (and_right (p.pid == n) (p.uid == u) found.1); runs = c.runs }
+
+pub caller_live : (u : ℕ) (rows : Rows) (p : ProcData) → Rise rows.processes → IsCaller u p rows → is_live_at p.pid rows ≡ true
+caller_live u rows p rise c = live_found p.pid rows.processes p rise c.at ∙ run_live p c.runs
+
+pub barred_unseen : (u n : ℕ) (m : Machine) → seen_process u n m.rows ≡ None → Barred u n m (reply.Errno errno.ESRCH)
+barred_unseen u n m seen = record { answer = λ s by. unseen u n s m by seen; other = refused_otherwise }
+
+pub barred_ended : (u n : ℕ) (m : Machine) (p : ProcData) → seen_process u n m.rows ≡ Some p → is_live p ≡ false → Barred u n m (reply.Errno errno.ESRCH)
+barred_ended u n m p seen live = record { answer = λ s by. ended u n s m by p seen live; other = refused_otherwise }
+
+pub barred_held : (u n : ℕ) (m : Machine) (p : ProcData) → seen_process u n m.rows ≡ Some p → is_live p ≡ true → is_run p ≡ false → Barred u n m reply.Held
+barred_held u n m p seen live run = record { answer = λ s by. held u n s m by p seen live run; other = held_otherwise }

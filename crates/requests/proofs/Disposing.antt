@@ -1,0 +1,67 @@
+-- Which dispositions a process may have, and its row with others.
+use Rattle.std.proofs.Common.{◌≡◌, ℕ, ◌≤◌, Option, Some, None, is_some, Bool, true, false, ◌==◌, not, ◌&&◌, ◌||◌, leb, if◌then◌else◌, List, [], ◌∷◌, refl, sym, ap, ◌∙◌, arith, inl, inr}
+use Rattle.std.proofs.lemmas.Bool.{cases_Bool, le-leb}
+use Rattle.signals.specs.Sets.{set_of, has}
+use Rattle.signals.specs.Table.{unmaskable_set, may_have, set_disposition}
+use Rattle.signals.specs.Laws.{IsSignal}
+use Rattle.signals.specs.declared.Disposition.{Disposition}
+use Rattle.signals.specs.declared.Disposition.TheVariants.{Default, Ignore, Catch}
+use Rattle.signals.proofs.Members.{members_after}
+use Rattle.signals.specs.Dispositions.{Actions}
+use Rattle.proc_table.specs.declared.ProcData.{ProcData}
+use Rattle.proc_table.specs.Processes.{process_of}
+use Rattle.proc_table.specs.Rows.{Rows, change_process}
+use Rattle.proc_table.specs.Kept.{Rise, IsRow, set_process}
+use Rattle.proc_table.proofs.Rows.{found_row}
+use Rattle.proc_table.proofs.Stays.{process-set}
+use Rattle.proc_table.proofs.Changes.{change_process-at}
+use Rattle.trace_stop.specs.Post.{settle}
+use Rattle.trace_stop.proofs.Edited.{some_is}
+use Rattle.requests.specs.declared.Reply.TheVariants as reply
+use Rattle.requests.specs.Calls.{is_default, is_refused, sigaction}
+
+unmaskable : (s : ℕ) → IsSignal s → has unmaskable_set s ≡ ((s == 9) || (s == 17))
+unmaskable s is =
+    (members_after (set_of (17 ∷ [])) 0 9 s (omega arith, omega arith) is).added ∙ (ap (λ b. b || (s == 9)) (members_after 0 0 17 s (omega arith, omega arith) is).added ∙ swapped (s == 17) (s == 9))
+  where
+    swapped : (a b : Bool) → ((false || a) || b) ≡ (b || a)
+    swapped true true = refl
+    swapped true false = refl
+    swapped false true = refl
+    swapped false false = refl
+
+pub refused_is : (s : ℕ) (d : Disposition) → IsSignal s → is_refused s d ≡ not (may_have s d)
+refused_is s d is = rw (le-leb 1 s is.0, le-leb s 31 is.1) (by_disposition d)
+  where
+    none : (b : Bool) → (b && false) ≡ false
+    none true = refl
+    none false = refl
+
+    kept : (b c : Bool) → c ≡ b → (b && true) ≡ not (not c)
+    kept true c same = rw same refl
+    kept false c same = rw same refl
+
+    by_disposition : (e : Disposition) → (((s == 9) || (s == 17)) && not (is_default e)) ≡ not (may_have s e)
+    by_disposition Default = none ((s == 9) || (s == 17))
+    by_disposition Ignore = kept ((s == 9) || (s == 17)) (has unmaskable_set s) (unmaskable s is)
+    by_disposition Catch = kept ((s == 9) || (s == 17)) (has unmaskable_set s) (unmaskable s is)
+
+-- a process with other dispositions, settled
+module _ (rows rows1 : Rows) (p new : ProcData) (at : process_of p.pid rows.processes ≡ Some p) where
+  pub row_there : new.pid ≡ p.pid → rows1 ≡ set_process new rows → IsRow rows1 p.pid
+  row_there same is =
+      let here : process_of new.pid rows.processes ≡ Some p = rw same at in
+      rw (is, ← same) (found_row new.pid new (set_process new rows).processes (process-set new rows (ap is_some here)))
+
+  pub disposed_rows : (s : ℕ) (d : Disposition) (actions : Actions) (rows2 : Rows) → Rise rows.processes
+      → Some actions ≡ (if is_refused s d then None else Some (set_disposition p.dispositions s d)) → new ≡ record p { dispositions = actions }
+      → rows1 ≡ set_process new rows → rows2 ≡ settle p.pid rows1
+      → (rows2 ≡ (sigaction p s d rows).rows) × (reply.Done ≡ (sigaction p s d rows).reply)
+  disposed_rows s d actions rows2 rise taken its set settled = elim (cases_Bool (is_refused s d)) [
+    | inl e ↦ absurd (let none : Some actions ≡ None = rw e at taken in cc)
+    | inr e ↦
+        let some : Some actions ≡ Some (set_disposition p.dispositions s d) = rw e at taken in
+        let same : actions ≡ set_disposition p.dispositions s d = some_is _ _ some in
+        let one = change_process-at p.pid (λ q. record q { dispositions = set_disposition q.dispositions s d }) rows p rise at refl in
+        rw e (settled ∙ ap (settle p.pid) (set ∙ ap (λ q. set_process q rows) (its ∙ ap (λ a. record p { dispositions = a }) same) ∙ sym one), refl)
+  ]

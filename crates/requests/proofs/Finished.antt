@@ -1,0 +1,74 @@
+-- The clauses of a step, from what was done to the rows and what was answered.
+use Rattle.std.proofs.Common.{◌≡◌, ◌≢◌, ℕ, Some, List, [], set, true, false, not, ◌&&◌, refl, sym, ap, ◌∙◌, subst, inl, inr}
+use Rattle.std.proofs.lemmas.List.{set-get_or}
+use Rattle.pid_blocks.specs.Users.{IsUser}
+use Rattle.pid_blocks.specs.Blocks.{slot}
+use Rattle.pid_blocks.specs.declared.Errno.TheVariants as errno
+use Rattle.proc_table.specs.Rows.{Rows}
+use Rattle.requests.specs.declared.PlainStep.{PlainStep}
+use Rattle.requests.specs.declared.Reply.{Reply}
+use Rattle.requests.specs.declared.Reply.TheVariants as reply
+use Rattle.requests.specs.Outcome.{Outcome, answers}
+use Rattle.requests.specs.Machine.{Installed, Machine, After, after}
+use Rattle.requests.specs.Memory.{takes_memory, is_refusal, may_want}
+use Rattle.requests.specs.Sound.{sound}
+use Rattle.requests.specs.Step.{step, caller_of}
+use Rattle.requests.specs.Callers.{Barred}
+use Rattle.requests.proofs.After.{all_left, answers_same}
+use Rattle.requests.proofs.Drops.{left_in, kept_by, drops}
+use Rattle.requests.proofs.Replies.{cases_memory}
+use Rattle.requests.proofs.Pending.{never_memory, stays_sound, refused_same}
+
+-- the clauses of a step
+pub record Finished (u : ℕ) (s : PlainStep) (m n : Machine) (r : Reply) : Type 0 where
+  pub machine : r ≢ reply.Errno errno.ENOMEM → (n ≡ (step u s m).machine) × (r ≡ (step u s m).reply)
+  pub memory : r ≡ reply.Errno errno.ENOMEM → (n ≡ m) × (may_want u s m ≡ true)
+  pub refused : is_refusal r ≡ true → n ≡ m
+  pub sound : sound n ≡ true
+
+-- rows and reply of an outcome, or want of memory and the rows as they were
+pub record Did (u : ℕ) (s : PlainStep) (m : Machine) (o : Outcome) (rows : Rows) (r : Reply) : Type 0 where
+  pub machine : r ≢ reply.Errno errno.ENOMEM → (rows ≡ o.rows) × (r ≡ o.reply)
+  pub memory : r ≡ reply.Errno errno.ENOMEM → (rows ≡ m.rows) × (takes_memory u s m ≡ true) × (is_refusal o.reply ≡ false)
+
+module _ (u : ℕ) (s : PlainStep) (m : Machine) (user : IsUser u) (is : sound m ≡ true) where
+  pub from_machine : (n : Machine) (r : Reply) → (r ≢ reply.Errno errno.ENOMEM → (n ≡ (step u s m).machine) × (r ≡ (step u s m).reply)) → (r ≡ reply.Errno errno.ENOMEM → (n ≡ m) × (may_want u s m ≡ true)) → Finished u s m n r
+  from_machine n r machine memory = record {
+    machine = machine;
+    memory = memory;
+    refused = λ refusal. elim (cases_memory r) [
+      | inl e ↦ (memory e).0
+      | inr e ↦ (machine e).0 ∙ refused_same u s m user is (subst (λ x. is_refusal x ≡ true) (machine e).1 refusal)
+    ];
+    sound = elim (cases_memory r) [
+      | inl e ↦ subst (λ x. sound x ≡ true) (sym (memory e).0) is
+      | inr e ↦ subst (λ x. sound x ≡ true) (sym (machine e).0) (stays_sound u s m user is)
+    ];
+  }
+
+  -- once the pairs of the user's ended debuggers are gone
+  pub finished : (o : Outcome) (rows : Rows) (r : Reply) → step u s m ≡ after m o → Did u s m o rows r → Finished u s m (kept_by u rows m) r
+  finished o rows r same did = from_machine (kept_by u rows m) r
+      (λ ok. (ap (λ x. kept_by u x m) (did.machine ok).0 ∙ sym (drops m u user is s o same) ∙ sym (ap (λ a. a.machine) same), (did.machine ok).1 ∙ sym (ap (λ a. a.reply) same)))
+      (λ e. (ap (λ x. kept_by u x m) (did.memory e).0 ∙ ap (λ x. record m { installed = x }) (ap (set_at m.installed) (all_left m is u user) ∙ set-get_or m.installed (slot u) []),
+      rw ((did.memory e).1, ap (λ a. is_refusal a.reply) same ∙ (did.memory e).2) refl))
+    where
+      set_at : List (List Installed) → List Installed → List (List Installed)
+      set_at xs ys = set xs (slot u) ys
+
+  pub finished_with : (o : Outcome) (rows : Rows) (kept : List (List Installed)) (r : Reply) → kept ≡ set m.installed (slot u) (left_in rows u m) → step u s m ≡ after m o → Did u s m o rows r → Finished u s m (record m { rows = rows; installed = kept }) r
+  finished_with o rows kept r keeps same did = subst (λ x. Finished u s m (record m { rows = rows; installed = x }) r) (sym keeps) (finished o rows r same did)
+
+  -- a step that takes no memory
+  pub finished_rows : (o : Outcome) (rows : Rows) (kept : List (List Installed)) (r : Reply) → kept ≡ set m.installed (slot u) (left_in rows u m) → step u s m ≡ after m o → rows ≡ o.rows → r ≡ o.reply → Finished u s m (record m { rows = rows; installed = kept }) r
+  finished_rows o rows kept r keeps same changed answered = finished_with o rows kept r keeps same (record { machine = λ ok. (changed, answered); memory = λ e. absurd (never_memory u s m (ap (λ a. a.reply) same ∙ sym answered ∙ e)) })
+
+  -- a refusal before anything was done
+  pub refuses_at : (r : Reply) → r ≢ reply.Errno errno.ENOMEM → step u s m ≡ after m (answers r m.rows) → Finished u s m m r
+  refuses_at r other same = from_machine m r (λ ok. (sym (answers_same m r is) ∙ sym (ap (λ a. a.machine) same), sym (ap (λ a. a.reply) same))) (λ e. absurd (other e))
+
+  pub barred : (n : ℕ) (r : Reply) → caller_of s ≡ Some n → Barred u n m r → Finished u s m m r
+  barred n r by b = refuses_at r b.other (b.answer s by)
+
+  pub wants_at : may_want u s m ≡ true → Finished u s m m (reply.Errno errno.ENOMEM)
+  wants_at wants = from_machine m (reply.Errno errno.ENOMEM) (λ other. absurd (other refl)) (λ e. (refl, wants))

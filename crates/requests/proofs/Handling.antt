@@ -1,0 +1,107 @@
+-- A stop that installed policies decide on keeps a host sound.
+use Rattle.std.proofs.Common.{◌≡◌, ℕ, negsuc, Bool, true, ◌==◌, ◌&&◌, if◌then◌else◌, List, Option, Some, None, IfSome, is_some, refl, sym, ap, ◌∙◌, subst, eqb, eq-eqb}
+use Rattle.signals.specs.Table.{SIGKILL}
+use Rattle.lwp_table.specs.declared.LwpData.{LwpData}
+use Rattle.lwp_table.specs.Lwps.{lwp_of}
+use Rattle.proc_table.specs.declared.ProcData.{ProcData}
+use Rattle.proc_table.specs.declared.State.{State}
+use Rattle.proc_table.specs.declared.State.TheVariants.{Run, Trace, Job, Zombie}
+use Rattle.proc_table.specs.Processes.{named_by, process_of}
+use Rattle.proc_table.specs.Rows.{Rows, each}
+use Rattle.trace_stop.specs.declared.Settings.{Settings}
+use Rattle.trace_stop.specs.Stop.{resume, detach}
+use Rattle.trace_stop.specs.Facts.{FitProcess, IsSound}
+use Rattle.trace_stop.proofs.Every.{All-filter, find_some}
+use Rattle.trace_stop.proofs.Edited.{If_more, find_edit}
+use Rattle.trace_stop.proofs.Ending.{own_rows}
+use Rattle.trace_stop.proofs.Posts.{detach_sound}
+use Rattle.stop_handlers.specs.declared.Rule.{Rule}
+use Rattle.stop_handlers.specs.declared.Decision.{Decision}
+use Rattle.stop_handlers.specs.declared.Decision.TheVariants as decision
+use Rattle.wait4.specs.declared.StatusKind.{StatusKind}
+use Rattle.wait4.specs.declared.Collected.{Collected}
+use Rattle.wait4.specs.declared.Collected.TheVariants as collected
+use Rattle.wait4.specs.Collect.{is_child, fits, candidates, collect, reportable, reported, rows_after, collect_one, told}
+use Rattle.wait4.specs.Collect as wait
+use Rattle.requests.specs.declared.PlainStep.TheVariants as op
+use Rattle.requests.specs.Handle.{view_of, decided, policies_of, done, no_options, handles_stop, handles_status, handles, handle}
+use Rattle.requests.specs.Ptrace.{continues_with}
+use Rattle.requests.specs.Machine.{Machine}
+use Rattle.requests.specs.Sound.{sound}
+use Rattle.requests.specs.Step.{step}
+use Rattle.requests.proofs.Acting.{choose}
+use Rattle.requests.proofs.After.{rows_sound, after_sound}
+use Rattle.requests.proofs.Collecting.{Kept, collected_kept}
+use Rattle.requests.proofs.Forking.{Heard, heard}
+use Rattle.requests.proofs.Masks.{Tracee, resumes_sound, continues_sound}
+use Rattle.requests.proofs.Steps.{checked_sound, rows_after_sound}
+
+-- what a decision does to a tracee
+decision_sound : (settings : Settings) (d : Decision) (p q : ProcData) (rows : Rows) → Tracee rows q → q.pid ≡ p.pid → IsSound (done settings d p rows)
+decision_sound settings decision.Decline p q rows t same = t.sound
+decision_sound settings decision.Leave p q rows t same = t.sound
+decision_sound settings (decision.Continue s) p q rows t same = subst (λ n. IsSound (continues_with settings (λ mask. mask) s (record p { pid = n }) rows).rows) same (continues_sound settings (λ mask. mask) s rows q t)
+decision_sound settings (decision.Detach s) p q rows t same = subst (λ n. IsSound (detach settings n s rows)) same (detach_sound settings rows q.pid q t.sound t.home t.live s)
+decision_sound settings decision.Kill p q rows t same = subst (λ n. IsSound (resume settings n SIGKILL rows)) same (resumes_sound rows q t settings SIGKILL)
+
+module _ (settings : Settings) (caller : ℕ) (policies : List (List Rule)) (rows : Rows) (s : IsSound rows) where
+  abbrev after : Rows
+  after = rows_after caller (negsuc 0) no_options rows
+
+  after_is_sound : IsSound after
+  after_is_sound = rows_after_sound rows caller (negsuc 0) no_options s
+
+  module _ (p : ProcData) (found : reported caller (negsuc 0) no_options rows ≡ Some p) (tid sig : ℕ) (seen : Bool) (stops : p.state ≡ Trace tid sig seen) where
+    at : process_of p.pid rows.processes ≡ Some p
+    at = (find_some (reportable no_options caller) (λ r. process_of r.pid rows.processes ≡ Some r) (candidates caller (negsuc 0) rows)
+        (All-filter (λ r. is_child caller r && fits (negsuc 0) r) (λ r. process_of r.pid rows.processes ≡ Some r) rows.processes (own_rows rows.processes s.stands.rising)) p found).0
+
+    fit : FitProcess p
+    fit = (find_some (λ r. r.pid == p.pid) FitProcess rows.processes s.processes p at).0
+
+    abbrev now_seen : ProcData
+    now_seen = record p { state = Trace tid sig true }
+
+    abbrev to : ProcData → Option ProcData
+    to q = if q.pid == p.pid then wait.collected caller q else Some q
+
+    same_pid : (q : ProcData) → IfSome (to q) (λ r. (r.pid == p.pid) ≡ (q.pid == p.pid))
+    same_pid q = choose (q.pid == p.pid) (wait.collected caller q) (Some q) (λ o. IfSome o (λ r. (r.pid == p.pid) ≡ (q.pid == p.pid)))
+        (λ e. If_more (Kept q) (λ r. (r.pid == p.pid) ≡ (q.pid == p.pid)) (λ r k. ap (λ n. eqb n p.pid) k.pid) (wait.collected caller q) (collected_kept caller q q.state refl)) (λ e. refl)
+
+    collected_row : process_of p.pid (each to (λ q l. Some l) rows).processes ≡ Some now_seen
+    collected_row = find_edit (λ q. q.pid == p.pid) to same_pid rows.processes p now_seen at (rw (eq-eqb p.pid p.pid refl) (ap (wait.collected_in caller p) stops))
+
+    told_row : Heard (collect_one caller p rows) p.pid now_seen
+    told_row = heard (each to (λ q l. Some l) rows) (told caller p) p.pid now_seen collected_row
+
+    after_is : collect_one caller p rows ≡ after
+    after_is = ap (λ o. wait.without_report caller o rows) (sym found)
+
+    tracee : Tracee after told_row.row
+    tracee = record {
+      sound = after_is_sound;
+      home = subst (λ (r : Rows). process_of told_row.row.pid r.processes ≡ Some told_row.row) after_is (subst (λ n. process_of n (collect_one caller p rows).processes ≡ Some told_row.row) (sym told_row.pid) told_row.at);
+      live = told_row.live refl;
+      traced = ap is_some told_row.tracer ∙ fit.stopped (ap (λ x. is_some (named_by x)) stops);
+    }
+
+    stop_sound : (status : StatusKind) (o : Option LwpData) → IsSound (handles_stop settings policies p tid sig status after o).rows
+    stop_sound status None = after_is_sound
+    stop_sound status (Some l) = decision_sound settings (decided policies 0 (view_of p tid sig l)).decision p told_row.row after tracee told_row.pid
+
+  status_sound : (status : StatusKind) (p : ProcData) → reported caller (negsuc 0) no_options rows ≡ Some p → (x : State) → p.state ≡ x → IsSound (handles_status settings policies status p after x).rows
+  status_sound status p found Run is = after_is_sound
+  status_sound status p found (Trace tid sig seen) is = stop_sound p found tid sig seen is status (lwp_of tid after.lwps)
+  status_sound status p found (Job sig seen) is = after_is_sound
+  status_sound status p found (Zombie w) is = after_is_sound
+
+  pub handles_sound : (o : Option ProcData) → reported caller (negsuc 0) no_options rows ≡ o → (c : Collected) → IsSound (handles settings policies rows after o c).rows
+  handles_sound o found collected.NoChild = s
+  handles_sound o found collected.Nothing = s
+  handles_sound None found (collected.Got pid status) = after_is_sound
+  handles_sound (Some p) found (collected.Got pid status) = status_sound status p found p.state refl
+
+pub handle_sound : (m : Machine) (u n : ℕ) → sound m ≡ true → sound (step u (op.Handle n) m).machine ≡ true
+handle_sound m u n is = checked_sound u (op.Handle n) m n is (λ p c. after_sound m (handle u p m) is
+    (handles_sound m.settings p.pid (policies_of u p m) m.rows (rows_sound m is) (reported p.pid (negsuc 0) no_options m.rows) refl (collect p.pid (negsuc 0) no_options m.rows)))

@@ -1,0 +1,17 @@
+-- A host in which a debugger has installed one policy more.
+use Rattle.std.proofs.Common.{◌≡◌, ℕ, ◌<◌, List, [], ◌∷◌, ◌++◌, set, true, false, leb, refl, arith}
+use Rattle.std.proofs.lemmas.Bool.{leb-true}
+use Rattle.pid_blocks.specs.Blocks.{slot}
+use Rattle.stop_handlers.specs.declared.Rule.{Rule}
+use Rattle.requests.specs.declared.Reply.TheVariants as reply
+use Rattle.requests.specs.Machine.{Machine, After, installed_by}
+use Rattle.trace_stop.proofs.Every.{by_bool}
+
+abbrev pub installed_with : ℕ → ℕ → List Rule → Machine → After
+installed_with u debugger policy m = record {
+  machine = record m { installed = set m.installed (slot u) (installed_by u m ++ (record { debugger = debugger; policy = policy } ∷ [])) };
+  reply = reply.Done;
+}
+
+pub few_leb : (n : ℕ) → n < 64 → leb 64 n ≡ false
+few_leb n few = by_bool (leb 64 n) (λ e. let many = leb-true 64 n e in absurd (omega arith))

@@ -1,0 +1,76 @@
+-- The next process of a user that isn't the caller.
+use Rattle.std.proofs.Common.{◌≡◌, ℕ, ◌<◌, List, [], ◌∷◌, Bool, true, false, cond, ◌==◌, ltb, ◌&&◌, not, Option, Some, None, refl, sym, ap, ◌∙◌, arith, lt-ltb, eqb-true, eq-eqb, subst}
+use Rattle.std.specs.Prelude.{option_map}
+use Rattle.std.proofs.lemmas.Bool.{le-ltb, ltb-true}
+use Rattle.proc_table.specs.declared.ProcData.{ProcData}
+use Rattle.proc_table.specs.Walks.{next_of}
+use Rattle.proc_table.specs.Kept.{AllAbove, Rise}
+use Rattle.trace_stop.proofs.Every.{and_left, and_right, by_bool}
+use Rattle.trace_stop.proofs.Edited.{some_is}
+use Rattle.requests.specs.Reach.{next_other}
+use Rattle.requests.proofs.Walk.{found_above}
+
+module _ (u caller : ℕ) where
+  abbrev its : ProcData → Bool
+  its p = p.uid == u
+
+  narrowed : (a b c : Bool) → (a && b) ≡ false → (a && (b && c)) ≡ false
+  narrowed true true c is = absurd (let bad : true ≡ false = is in cc)
+  narrowed true false c is = refl
+  narrowed false b c is = refl
+
+  left_out : (a b : Bool) → (a && (b && false)) ≡ false
+  left_out true true = refl
+  left_out true false = refl
+  left_out false b = refl
+
+  widened : (a b : Bool) → (a && b) ≡ true → (a && (b && true)) ≡ true
+  widened true true is = refl
+  widened true false is = is
+  widened false b is = is
+
+  pub other_same : (after : ℕ) (ps : List ProcData) → (option_map (λ p. p.pid) (next_of u after ps) ≡ Some caller → ⊥) → next_other u caller after ps ≡ next_of u after ps
+  other_same after [] h = refl
+  other_same after (p ∷ ps) h = by_head (ltb after p.pid && its p) refl h (other_same after ps)
+    where
+      by_head : (b : Bool) → (ltb after p.pid && its p) ≡ b → (option_map (λ q. q.pid) (cond b (Some p) (next_of u after ps)) ≡ Some caller → ⊥)
+          → ((option_map (λ q. q.pid) (next_of u after ps) ≡ Some caller → ⊥) → next_other u caller after ps ≡ next_of u after ps)
+          → next_other u caller after (p ∷ ps) ≡ cond b (Some p) (next_of u after ps)
+      by_head true e h rest =
+          let apart : (p.pid == caller) ≡ false = by_bool (p.pid == caller) (λ same. h (ap (λ n. Some n) (eqb-true p.pid caller same))) in
+          rw (apart, widened (ltb after p.pid) (its p) e) refl
+      by_head false e h rest = rw (narrowed (ltb after p.pid) (its p) (not (p.pid == caller)) e) (rest h)
+
+  past : (after : ℕ) (ps : List ProcData) → after < caller → AllAbove caller ps → next_other u caller after ps ≡ next_of u caller ps
+  past after [] lt all = refl
+  past after (p ∷ ps) lt all =
+      let over : ltb after p.pid ≡ true = lt-ltb after p.pid (omega (arith, lt, all.0)) in
+      let beyond : ltb caller p.pid ≡ true = lt-ltb caller p.pid all.0 in
+      let apart : (p.pid == caller) ≡ false = by_bool (p.pid == caller) (λ same. let is = eqb-true p.pid caller same in let high = all.0 in omega arith) in
+      rw (over, beyond, apart) (by_user (its p) (past after ps lt all.1))
+    where
+      by_user : (b : Bool) → next_other u caller after ps ≡ next_of u caller ps → cond (b && true) (Some p) (next_other u caller after ps) ≡ cond b (Some p) (next_of u caller ps)
+      by_user true rest = refl
+      by_user false rest = rest
+
+  pub other_next : (after : ℕ) (ps : List ProcData) → Rise ps → option_map (λ p. p.pid) (next_of u after ps) ≡ Some caller → next_other u caller after ps ≡ next_of u caller ps
+  other_next after [] rise is = absurd (let bad : None ≡ Some caller = is in cc)
+  other_next after (p ∷ ps) rise is = by_head (ltb after p.pid && its p) refl is (other_next after ps rise.1)
+    where
+      by_head : (b : Bool) → (ltb after p.pid && its p) ≡ b → option_map (λ q. q.pid) (cond b (Some p) (next_of u after ps)) ≡ Some caller
+          → (option_map (λ q. q.pid) (next_of u after ps) ≡ Some caller → next_other u caller after ps ≡ next_of u caller ps)
+          → next_other u caller after (p ∷ ps) ≡ next_of u caller (p ∷ ps)
+      by_head true e h rest =
+          let same : p.pid ≡ caller = some_is p.pid caller h in
+          let low : after < caller = subst (λ n. after < n) same (ltb-true after p.pid (and_left (ltb after p.pid) (its p) e)) in
+          let here : (p.pid == caller) ≡ true = eq-eqb p.pid caller same in
+          let self : ltb caller p.pid ≡ false = le-ltb caller p.pid (omega (arith, same)) in
+          rw (here, left_out (ltb after p.pid) (its p), self) (past after ps low (subst (λ n. AllAbove n ps) same rise.0))
+      by_head false e h rest =
+          let over : p.pid < caller = found_over (next_of u after ps) refl h in
+          let self : ltb caller p.pid ≡ false = le-ltb caller p.pid (omega (arith, over)) in
+          rw (narrowed (ltb after p.pid) (its p) (not (p.pid == caller)) e, self) (rest h)
+        where
+          found_over : (o : Option ProcData) → next_of u after ps ≡ o → option_map (λ q. q.pid) o ≡ Some caller → p.pid < caller
+          found_over None at is = absurd (let bad : None ≡ Some caller = is in cc)
+          found_over (Some q) at is = subst (λ n. p.pid < n) (some_is q.pid caller is) (found_above (λ r. ltb after r.pid && its r) p.pid ps q rise.0 at)

@@ -1,0 +1,305 @@
+-- A refused step changes nothing, and none wants memory, kind by kind.
+use Rattle.std.proofs.Common.{◌≡◌, ◌≢◌, ℕ, ℤ, negsuc, Bool, true, false, ◌==◌, not, ◌||◌, ◌&&◌, leb, if◌then◌else◌, List, [], ◌∷◌, find, length, Option, Some, None, is_some, option_map, refl, sym, ap, ◌∙◌, true≢false}
+use Rattle.pid_blocks.specs.declared.Errno.{Errno}
+use Rattle.pid_blocks.specs.declared.Errno.TheVariants.{EPERM, ESRCH, ECHILD, EBUSY, EINVAL, EAGAIN}
+use Rattle.event_masks.specs.declared.EventMask.{EventMask}
+use Rattle.event_masks.specs.declared.TheConstants.EventMask.{PTRACE_LWP}
+use Rattle.event_masks.specs.declared.TheConstants.StopFlags.{PL_FLAG_EXITED}
+use Rattle.event_masks.specs.Exits.{asks, entry_flags}
+use Rattle.event_masks.specs.declared.Call.{Call}
+use Rattle.event_masks.specs.declared.Call.TheVariants as call
+use Rattle.signals.specs.Table.{disposition_of, default_action, is_signal}
+use Rattle.signals.specs.declared.Action.{Action}
+use Rattle.signals.specs.declared.Action.TheVariants as action
+use Rattle.signals.specs.declared.Disposition.{Disposition}
+use Rattle.signals.specs.declared.Disposition.TheVariants as disposition
+use Rattle.lwp_table.specs.declared.LwpData.{LwpData}
+use Rattle.lwp_table.specs.declared.Mode.{Mode}
+use Rattle.lwp_table.specs.declared.Mode.TheVariants.{User, InCall, VforkWait}
+use Rattle.lwp_table.specs.Lwps.{lwp_of, born}
+use Rattle.proc_table.specs.declared.ProcData.{ProcData}
+use Rattle.proc_table.specs.declared.State.{State}
+use Rattle.proc_table.specs.declared.State.TheVariants.{Run, Trace, Job, Zombie}
+use Rattle.proc_table.specs.Processes.{process_of, is_live, is_run, traces}
+use Rattle.proc_table.specs.Rows.{Rows, change_lwp, remove_lwp}
+use Rattle.proc_table.specs.Seen.{seen_process, seen_lwp}
+use Rattle.proc_table.specs.Fresh.{add_lwp, lwp_count}
+use Rattle.trace_stop.specs.declared.Settings.{Settings}
+use Rattle.trace_stop.specs.declared.Shown.{Shown}
+use Rattle.lwpinfo.specs.declared.LwpInfo.{LwpInfo}
+use Rattle.lwpinfo.specs.Info.{info}
+use Rattle.stop_handlers.specs.declared.Rule.{Rule}
+use Rattle.wait4.specs.declared.Options.{Options}
+use Rattle.wait4.specs.declared.StatusKind.{StatusKind}
+use Rattle.wait4.specs.declared.Collected.{Collected}
+use Rattle.wait4.specs.declared.Collected.TheVariants as collected
+use Rattle.wait4.specs.Collect.{candidates, reportable, answer, without_report, reported, rows_after, collect}
+use Rattle.requests.specs.declared.Request.{Request}
+use Rattle.requests.specs.declared.Request.TheVariants as request
+use Rattle.requests.specs.declared.Act.{Act}
+use Rattle.requests.specs.declared.Act.TheVariants as act
+use Rattle.requests.specs.declared.PlainStep.{PlainStep}
+use Rattle.requests.specs.declared.PlainStep.TheVariants as op
+use Rattle.requests.specs.declared.Reply.{Reply}
+use Rattle.requests.specs.declared.Reply.TheVariants as reply
+use Rattle.requests.specs.Outcome.{Outcome, answers, refuses, stops_with, stops_or, trap}
+use Rattle.requests.specs.Leave.{Numbers, room_for_process, room_for_lwp, in_mode, exit_stop, with_child, exec_rows, due_at_birth, forks, makes_lwp, exits_lwp, leaves}
+use Rattle.requests.specs.Turn.{waits, due_stop, next_signal, takes_by_default, takes_untraced, takes, computes, raises, enters, acts, signal_or_act, due_or_more, turn_of, turn_by, turn_seen, turn}
+use Rattle.requests.specs.Ptrace.{trace_me, attach, closes_chain, told_stop, bad_argument, shows_info, does, commands_stopped, commands, is_attach, about, target_of, is_trace_me, ptrace}
+use Rattle.requests.specs.Reach.{is_which, reach, reached, kill}
+use Rattle.requests.specs.Calls.{spawn_with, spawn, list, is_refused, sigaction, collect_reply, wait}
+use Rattle.requests.specs.Handle.{install, policies_of, no_options, handles_stop, handles_status, handles, handle}
+use Rattle.requests.specs.Machine.{Machine, installed_by, After, after}
+use Rattle.requests.specs.Memory.{is_refusal}
+use Rattle.requests.specs.Refusals.{RefusedSame, NeverMemory}
+use Rattle.requests.specs.Sound.{sound}
+use Rattle.requests.specs.Step.{calls, caller_of, checked, uncalled, step_of, step}
+use Rattle.requests.proofs.After.{answers_same}
+use Rattle.requests.proofs.Replies.{wants}
+
+-- a refusal leaves the rows, and isn't want of memory
+record Fair (rows : Rows) (o : Outcome) : Type 0 where
+  pub same : is_refusal o.reply ≡ true → o.rows ≡ rows
+  pub plenty : wants o.reply ≡ false
+
+choose : {X : Type 0} (b : Bool) (x y : X) (R : X → Type 0) → R x → R y → R (if b then x else y)
+choose true x y R h k = h
+choose false x y R h k = k
+
+-- an answer that isn't a refusal
+done : (rows now : Rows) (r : Reply) → is_refusal r ≡ false → wants r ≡ false → Fair rows (answers r now)
+done rows now r good plenty = record { same = λ is. absurd (true≢false (sym is ∙ good)); plenty = plenty }
+
+-- an answer that leaves the rows
+left : (rows : Rows) (r : Reply) → wants r ≡ false → Fair rows (answers r rows)
+left rows r plenty = record { same = λ is. refl; plenty = plenty }
+
+stop_or : (rows now : Rows) (o : Option Shown) (r : Reply) (p : ProcData) (l : LwpData) → is_refusal r ≡ false → wants r ≡ false → Fair rows (stops_or o r p l now)
+stop_or rows now None r p l good plenty = done rows now r good plenty
+stop_or rows now (Some shown) r p l good plenty = done rows _ _ refl refl
+
+-- The turn of an LWP
+
+forks_fair : (c : Call) (mode : ℕ → Mode) (p : ProcData) (l : LwpData) (rows : Rows) (o : Option Numbers) → Fair rows (forks c mode p l rows o)
+forks_fair c mode p l rows None = left rows (reply.Errno EAGAIN) refl
+forks_fair c mode p l rows (Some new) = stop_or rows (in_mode (mode new.pid) l.tid (with_child c p l new rows)) (exit_stop p c new.pid) (reply.New new.pid new.tid) p l refl refl
+
+makes_fair : (p : ProcData) (l : LwpData) (rows : Rows) (o : Option ℕ) → Fair rows (makes_lwp p l rows o)
+makes_fair p l rows None = left rows (reply.Errno EAGAIN) refl
+makes_fair p l rows (Some tid) =
+    stop_or rows (in_mode User l.tid (add_lwp p.uid (born tid p.pid l.blocked (due_at_birth p)) rows)) (exit_stop p call.ThrNew 0) (reply.New p.pid tid) p l refl refl
+
+exits_fair : (settings : Settings) (p : ProcData) (l : LwpData) (rows : Rows) → Fair rows (exits_lwp settings p l rows)
+exits_fair settings p l rows = choose (leb (lwp_count p.pid rows) 1) _ _ (Fair rows) (done rows _ _ refl refl)
+    (choose (is_some p.tracer && asks p.mask PTRACE_LWP) (stops_with (trap PL_FLAG_EXITED 0 call.ThrExit) p l rows) (answers reply.Done (remove_lwp l.tid rows)) (Fair rows) (done rows _ _ refl refl) (done rows _ _ refl refl))
+
+leaves_fair : (settings : Settings) (c : Call) (p : ProcData) (l : LwpData) (rows : Rows) → Fair rows (leaves settings c p l rows)
+leaves_fair settings call.Fork p l rows = forks_fair call.Fork (λ child. User) p l rows (room_for_process p.uid rows)
+leaves_fair settings call.Vfork p l rows = forks_fair call.Vfork (λ child. VforkWait child) p l rows (room_for_process p.uid rows)
+leaves_fair settings call.Exec p l rows = stop_or rows (exec_rows p l rows) (exit_stop p call.Exec 0) reply.Done p l refl refl
+leaves_fair settings call.ThrNew p l rows = makes_fair p l rows (room_for_lwp p.uid rows)
+leaves_fair settings call.ThrExit p l rows = exits_fair settings p l rows
+leaves_fair settings (call.Exit status) p l rows = done rows _ _ refl refl
+leaves_fair settings (call.Other code) p l rows = stop_or rows (in_mode User l.tid rows) (exit_stop p (call.Other code) 0) reply.Done p l refl refl
+
+default_fair : (settings : Settings) (s : ℕ) (a : Action) (p : ProcData) (l : LwpData) (rows now : Rows) → Fair rows (takes_by_default settings s a p l now)
+default_fair settings s action.End p l rows now = done rows _ _ refl refl
+default_fair settings s action.Stop p l rows now = done rows _ _ refl refl
+default_fair settings s action.Discard p l rows now = done rows _ _ refl refl
+
+untraced_fair : (settings : Settings) (s : ℕ) (d : Disposition) (p : ProcData) (l : LwpData) (rows now : Rows) → Fair rows (takes_untraced settings s d p l now)
+untraced_fair settings s disposition.Default p l rows now = default_fair settings s (default_action s) p l rows now
+untraced_fair settings s disposition.Ignore p l rows now = done rows _ _ refl refl
+untraced_fair settings s disposition.Catch p l rows now = done rows _ _ refl refl
+
+takes_fair : (settings : Settings) (s : ℕ) (p : ProcData) (l : LwpData) (rows now : Rows) → Fair rows (takes settings s p l now)
+takes_fair settings s p l rows now = choose (is_some p.tracer) _ _ (Fair rows) (done rows _ _ refl refl) (untraced_fair settings s (disposition_of p.dispositions s) p l rows now)
+
+raised : (b : Bool) → (is_refusal (if b then reply.Ended 9 else reply.Done) ≡ false) × (wants (if b then reply.Ended 9 else reply.Done) ≡ false)
+raised true = (refl, refl)
+raised false = (refl, refl)
+
+acts_fair : (settings : Settings) (a : Act) (mode : Mode) (p : ProcData) (l : LwpData) (rows : Rows) → Fair rows (acts settings a mode p l rows)
+acts_fair settings act.Compute User p l rows = choose l.stepping _ _ (Fair rows) (done rows _ _ refl refl) (done rows _ _ refl refl)
+acts_fair settings (act.Raise s) User p l rows = choose (not (is_signal s)) _ _ (Fair rows) (left rows (reply.Errno EINVAL) refl) (done rows _ _ (raised (s == 9)).0 (raised (s == 9)).1)
+acts_fair settings (act.Block set) User p l rows = done rows _ _ refl refl
+acts_fair settings (act.Enter c) User p l rows =
+    stop_or rows (change_lwp l.tid (λ k. record k { mode = InCall c }) rows) (option_map (λ flags. trap flags 0 c) (entry_flags p.mask)) reply.Done p l refl refl
+acts_fair settings act.Leave User p l rows = left rows (reply.Errno EINVAL) refl
+acts_fair settings act.Compute (InCall c) p l rows = left rows (reply.Errno EINVAL) refl
+acts_fair settings (act.Raise s) (InCall c) p l rows = left rows (reply.Errno EINVAL) refl
+acts_fair settings (act.Block set) (InCall c) p l rows = left rows (reply.Errno EINVAL) refl
+acts_fair settings (act.Enter k) (InCall c) p l rows = left rows (reply.Errno EINVAL) refl
+acts_fair settings act.Leave (InCall c) p l rows = leaves_fair settings c p l rows
+acts_fair settings act.Compute (VforkWait n) p l rows = left rows (reply.Errno EINVAL) refl
+acts_fair settings (act.Raise s) (VforkWait n) p l rows = left rows (reply.Errno EINVAL) refl
+acts_fair settings (act.Block set) (VforkWait n) p l rows = left rows (reply.Errno EINVAL) refl
+acts_fair settings (act.Enter k) (VforkWait n) p l rows = left rows (reply.Errno EINVAL) refl
+acts_fair settings act.Leave (VforkWait n) p l rows = left rows (reply.Errno EINVAL) refl
+
+signal_fair : (settings : Settings) (a : Act) (p : ProcData) (l : LwpData) (rows : Rows) (o : Option ℕ) → Fair rows (signal_or_act settings a p l rows o)
+signal_fair settings a p l rows (Some s) = takes_fair settings s p l rows _
+signal_fair settings a p l rows None = acts_fair settings a l.mode p l rows
+
+due_fair : (settings : Settings) (a : Act) (p : ProcData) (l : LwpData) (rows : Rows) (o : Option Shown) → Fair rows (due_or_more settings a p l rows o)
+due_fair settings a p l rows (Some shown) = done rows _ _ refl refl
+due_fair settings a p l rows None = signal_fair settings a p l rows (next_signal p l)
+
+turn_by_fair : (settings : Settings) (a : Act) (l : LwpData) (rows : Rows) (o : Option ProcData) → Fair rows (turn_by settings a l rows o)
+turn_by_fair settings a l rows None = left rows (reply.Errno ESRCH) refl
+turn_by_fair settings a l rows (Some p) = choose (not (is_run p) || l.suspended || waits l.mode) _ _ (Fair rows) (left rows reply.Held refl) (due_fair settings a p l rows (due_stop l.due))
+
+turn_seen_fair : (settings : Settings) (a : Act) (rows : Rows) (o : Option LwpData) → Fair rows (turn_seen settings a rows o)
+turn_seen_fair settings a rows None = left rows (reply.Errno ESRCH) refl
+turn_seen_fair settings a rows (Some l) = turn_by_fair settings a l rows (process_of l.pid rows.processes)
+
+turn_fair : (settings : Settings) (u tid : ℕ) (a : Act) (rows : Rows) → Fair rows (turn settings u tid a rows)
+turn_fair settings u tid a rows = turn_seen_fair settings a rows (seen_lwp u tid rows)
+
+-- The requests of a debugger
+
+trace_me_fair : (p : ProcData) (rows : Rows) → Fair rows (trace_me p rows)
+trace_me_fair p rows = choose (is_some p.tracer) _ _ (Fair rows) (left rows (reply.Errno EBUSY) refl)
+    (choose (p.parent == 1) _ _ (Fair rows) (left rows (reply.Errno EPERM) refl)
+    (choose (closes_chain p.pid p.parent rows) _ _ (Fair rows) (left rows (reply.Errno EINVAL) refl) (done rows _ _ refl refl)))
+
+attach_fair : (caller p : ProcData) (rows : Rows) → Fair rows (attach caller p rows)
+attach_fair caller p rows = choose (p.pid == caller.pid) _ _ (Fair rows) (left rows (reply.Errno EINVAL) refl)
+    (choose (is_some p.tracer) _ _ (Fair rows) (left rows (reply.Errno EBUSY) refl)
+    (choose (closes_chain p.pid caller.pid rows) _ _ (Fair rows) (left rows (reply.Errno EINVAL) refl) (done rows _ _ refl refl)))
+
+info_fair : (o : Option LwpInfo) (rows : Rows) → Fair rows (shows_info o rows)
+info_fair None rows = left rows (reply.Errno ESRCH) refl
+info_fair (Some i) rows = left rows (reply.Info i) refl
+
+does_fair : (settings : Settings) (r : Request) (arg tid : ℕ) (p : ProcData) (rows : Rows) → Fair rows (does settings r arg tid p rows)
+does_fair settings request.TraceMe arg tid p rows = left rows (reply.Errno EINVAL) refl
+does_fair settings request.Attach arg tid p rows = left rows (reply.Errno EBUSY) refl
+does_fair settings request.Continue arg tid p rows = done rows _ _ refl refl
+does_fair settings request.Step arg tid p rows = done rows _ _ refl refl
+does_fair settings request.Suspend arg tid p rows = done rows _ _ refl refl
+does_fair settings request.Resume arg tid p rows = done rows _ _ refl refl
+does_fair settings request.Detach arg tid p rows = done rows _ _ refl refl
+does_fair settings request.Kill arg tid p rows = done rows _ _ refl refl
+does_fair settings request.SetEventMask arg tid p rows = done rows _ _ refl refl
+does_fair settings request.GetEventMask arg tid p rows = done rows _ _ refl refl
+does_fair settings request.GetLwpInfo arg tid p rows = info_fair (info p tid rows) rows
+does_fair settings request.GetNumLwps arg tid p rows = done rows _ _ refl refl
+does_fair settings request.GetLwpList arg tid p rows = done rows _ _ refl refl
+does_fair settings request.ToSce arg tid p rows = done rows _ _ refl refl
+does_fair settings request.ToScx arg tid p rows = done rows _ _ refl refl
+does_fair settings request.Syscall arg tid p rows = done rows _ _ refl refl
+does_fair settings request.FollowFork arg tid p rows = done rows _ _ refl refl
+does_fair settings request.LwpEvents arg tid p rows = done rows _ _ refl refl
+
+stopped_fair : (settings : Settings) (r : Request) (target arg : ℕ) (p : ProcData) (rows : Rows) (o : Option ℕ) → Fair rows (commands_stopped settings r target arg p rows o)
+stopped_fair settings r target arg p rows None = left rows (reply.Errno EBUSY) refl
+stopped_fair settings r target arg p rows (Some tid) =
+    choose (bad_argument r arg) _ _ (Fair rows) (left rows (reply.Errno EINVAL) refl) (does_fair settings r arg (if leb target 99999 then tid else target) p rows)
+
+commands_fair : (settings : Settings) (caller : ProcData) (r : Request) (target arg : ℕ) (p : ProcData) (rows : Rows) → Fair rows (commands settings caller r target arg p rows)
+commands_fair settings caller r target arg p rows = choose (not (is_some p.tracer)) _ _ (Fair rows) (left rows (reply.Errno EPERM) refl)
+    (choose (not (traces caller.pid p)) _ _ (Fair rows) (left rows (reply.Errno EBUSY) refl) (stopped_fair settings r target arg p rows (told_stop p.state)))
+
+about_fair : (settings : Settings) (caller : ProcData) (r : Request) (target arg : ℕ) (o : Option ProcData) (rows : Rows) → Fair rows (about settings caller r target arg o rows)
+about_fair settings caller r target arg None rows = left rows (reply.Errno ESRCH) refl
+about_fair settings caller r target arg (Some p) rows = choose (not (is_live p)) _ _ (Fair rows) (left rows (reply.Errno ESRCH) refl)
+    (choose (is_attach r) _ _ (Fair rows) (attach_fair caller p rows) (commands_fair settings caller r target arg p rows))
+
+ptrace_fair : (settings : Settings) (u : ℕ) (caller : ProcData) (r : Request) (target arg : ℕ) (rows : Rows) → Fair rows (ptrace settings u caller r target arg rows)
+ptrace_fair settings u caller r target arg rows = choose (is_trace_me r) _ _ (Fair rows) (trace_me_fair caller rows) (about_fair settings caller r target arg (target_of u target rows) rows)
+
+-- The other calls
+
+spawn_fair : (u : ℕ) (rows : Rows) (o : Option Numbers) → Fair rows (spawn_with u rows o)
+spawn_fair u rows None = left rows (reply.Errno EAGAIN) refl
+spawn_fair u rows (Some new) = done rows _ _ refl refl
+
+sigaction_fair : (p : ProcData) (s : ℕ) (d : Disposition) (rows : Rows) → Fair rows (sigaction p s d rows)
+sigaction_fair p s d rows = choose (is_refused s d) _ _ (Fair rows) (left rows (reply.Errno EINVAL) refl) (done rows _ _ refl refl)
+
+reached_fair : (settings : Settings) (s : ℕ) (ps : List ProcData) (rows : Rows) → Fair rows (reached settings s ps rows)
+reached_fair settings s [] rows = left rows (reply.Errno ESRCH) refl
+reached_fair settings s (p ∷ ps) rows = done rows _ _ refl refl
+
+kill_fair : (settings : Settings) (u caller : ℕ) (which : ℤ) (s : ℕ) (rows : Rows) → Fair rows (kill settings u caller which s rows)
+kill_fair settings u caller which s rows = choose (not (leb s 31) || not (is_which which)) _ _ (Fair rows) (left rows (reply.Errno EINVAL) refl) (reached_fair settings s (reach u caller which rows) rows)
+
+-- who has no child gets ECHILD, and nothing is collected
+collect_fair : (caller : ℕ) (options : Options) (rows : Rows) (ps : List ProcData)
+    → Fair rows (answers (collect_reply (answer ps (find (reportable options caller) ps))) (without_report caller (find (reportable options caller) ps) rows))
+collect_fair caller options rows [] = left rows (reply.Errno ECHILD) refl
+collect_fair caller options rows (p ∷ ps) = by_report (find (reportable options caller) (p ∷ ps))
+  where
+    by_report : (o : Option ProcData) → Fair rows (answers (collect_reply (answer (p ∷ ps) o)) (without_report caller o rows))
+    by_report None = done rows _ _ refl refl
+    by_report (Some q) = done rows _ _ refl refl
+
+wait_fair : (p : ProcData) (which : ℤ) (options : Options) (rows : Rows) → Fair rows (wait p which options rows)
+wait_fair p which options rows = choose (not (is_which which)) _ _ (Fair rows) (left rows (reply.Errno EINVAL) refl) (collect_fair p.pid options rows (candidates p.pid which rows))
+
+handles_stop_fair : (settings : Settings) (policies : List (List Rule)) (p : ProcData) (tid sig : ℕ) (status : StatusKind) (rows now : Rows) (o : Option LwpData) → Fair rows (handles_stop settings policies p tid sig status now o)
+handles_stop_fair settings policies p tid sig status rows now None = done rows _ _ refl refl
+handles_stop_fair settings policies p tid sig status rows now (Some l) = done rows _ _ refl refl
+
+handles_status_fair : (settings : Settings) (policies : List (List Rule)) (status : StatusKind) (p : ProcData) (rows now : Rows) (state : State) → Fair rows (handles_status settings policies status p now state)
+handles_status_fair settings policies status p rows now Run = done rows _ _ refl refl
+handles_status_fair settings policies status p rows now (Trace tid sig seen) = handles_stop_fair settings policies p tid sig status rows now (lwp_of tid now.lwps)
+handles_status_fair settings policies status p rows now (Job sig seen) = done rows _ _ refl refl
+handles_status_fair settings policies status p rows now (Zombie word) = done rows _ _ refl refl
+
+handles_fair : (settings : Settings) (policies : List (List Rule)) (rows now : Rows) (o : Option ProcData) (c : Collected) → Fair rows (handles settings policies rows now o c)
+handles_fair settings policies rows now o collected.NoChild = left rows (reply.Errno ECHILD) refl
+handles_fair settings policies rows now o collected.Nothing = left rows reply.Nothing refl
+handles_fair settings policies rows now None (collected.Got pid status) = done rows _ _ refl refl
+handles_fair settings policies rows now (Some p) (collected.Got pid status) = handles_status_fair settings policies status p rows now p.state
+
+-- Hosts
+
+record FairStep (m : Machine) (a : After) : Type 0 where
+  pub same : sound m ≡ true → is_refusal a.reply ≡ true → a.machine ≡ m
+  pub plenty : wants a.reply ≡ false
+
+hosted : (m : Machine) (o : Outcome) → Fair m.rows o → FairStep m (after m o)
+hosted m o fair = record {
+  same = λ is refused. ap (λ rows. (after m (answers o.reply rows)).machine) (fair.same refused) ∙ answers_same m o.reply is;
+  plenty = fair.plenty;
+}
+
+install_fair : (u : ℕ) (p : ProcData) (policy : List Rule) (m : Machine) → FairStep m (install u p policy m)
+install_fair u p policy m = choose (leb 64 (length (installed_by u m))) _ _ (FairStep m) (hosted m (refuses EAGAIN m.rows) (left m.rows (reply.Errno EAGAIN) refl))
+    (record { same = λ is refused. absurd (true≢false (sym refused)); plenty = refl })
+
+calls_fair : (u : ℕ) (s : PlainStep) (p : ProcData) (m : Machine) → FairStep m (calls u s p m)
+calls_fair u op.Spawn p m = hosted m (spawn u m.rows) (spawn_fair u m.rows (room_for_process u m.rows))
+calls_fair u (op.List caller) p m = hosted m (list u m.rows) (done m.rows _ _ refl refl)
+calls_fair u (op.Sigaction caller s d) p m = hosted m (sigaction p s d m.rows) (sigaction_fair p s d m.rows)
+calls_fair u (op.Kill caller which s) p m = hosted m (kill m.settings u p.pid which s m.rows) (kill_fair m.settings u p.pid which s m.rows)
+calls_fair u (op.Wait4 caller which options) p m = hosted m (wait p which options m.rows) (wait_fair p which options m.rows)
+calls_fair u (op.Install caller policy) p m = install_fair u p policy m
+calls_fair u (op.Handle caller) p m = hosted m (handle u p m) (handles_fair m.settings (policies_of u p m) m.rows (rows_after p.pid (negsuc 0) no_options m.rows)
+    (reported p.pid (negsuc 0) no_options m.rows) (collect p.pid (negsuc 0) no_options m.rows))
+calls_fair u (op.Ptrace caller r target arg) p m = hosted m (ptrace m.settings u p r target arg m.rows) (ptrace_fair m.settings u p r target arg m.rows)
+calls_fair u (op.Turn tid a) p m = hosted m (turn m.settings u tid a m.rows) (turn_fair m.settings u tid a m.rows)
+
+checked_fair : (u : ℕ) (s : PlainStep) (o : Option ProcData) (m : Machine) → FairStep m (checked u s o m)
+checked_fair u s None m = hosted m (refuses ESRCH m.rows) (left m.rows (reply.Errno ESRCH) refl)
+checked_fair u s (Some p) m = choose (not (is_live p)) _ _ (FairStep m) (hosted m (refuses ESRCH m.rows) (left m.rows (reply.Errno ESRCH) refl))
+    (choose (not (is_run p)) _ _ (FairStep m) (hosted m (answers reply.Held m.rows) (left m.rows reply.Held refl)) (calls_fair u s p m))
+
+step_fair : (u : ℕ) (s : PlainStep) (m : Machine) → FairStep m (step u s m)
+step_fair u op.Spawn m = hosted m (spawn u m.rows) (spawn_fair u m.rows (room_for_process u m.rows))
+step_fair u (op.List n) m = checked_fair u (op.List n) (seen_process u n m.rows) m
+step_fair u (op.Sigaction n s d) m = checked_fair u (op.Sigaction n s d) (seen_process u n m.rows) m
+step_fair u (op.Kill n which s) m = checked_fair u (op.Kill n which s) (seen_process u n m.rows) m
+step_fair u (op.Wait4 n which options) m = checked_fair u (op.Wait4 n which options) (seen_process u n m.rows) m
+step_fair u (op.Install n policy) m = checked_fair u (op.Install n policy) (seen_process u n m.rows) m
+step_fair u (op.Handle n) m = checked_fair u (op.Handle n) (seen_process u n m.rows) m
+step_fair u (op.Ptrace n r target arg) m = checked_fair u (op.Ptrace n r target arg) (seen_process u n m.rows) m
+step_fair u (op.Turn tid a) m = hosted m (turn m.settings u tid a m.rows) (turn_fair m.settings u tid a m.rows)
+
+pub refused_same : RefusedSame
+refused_same u s m user is refused = (step_fair u s m).same is refused
+
+pub never_memory : NeverMemory
+never_memory u s m memory = true≢false (sym (ap wants memory) ∙ (step_fair u s m).plenty)

@@ -1,0 +1,113 @@
+-- Rows of processes that are left, with their numbers and users: what posting a signal leaves.
+use Rattle.std.proofs.Common.{◌≡◌, ℕ, Bool, true, false, ◌==◌, ◌&&◌, not, if◌then◌else◌, List, [], ◌∷◌, filter, filter_map, find, Option, Some, None, IfSome, is_some, is_none, refl, sym, ap, ◌∙◌, subst}
+use Rattle.std.specs.List.{list_any, cons_option}
+use Rattle.signals.specs.Sets.{bit}
+use Rattle.signals.specs.Table.{SIGKILL, SIGTRAP, SIGCHLD}
+use Rattle.lwp_table.specs.declared.LwpData.{LwpData}
+use Rattle.proc_table.specs.declared.ProcData.{ProcData}
+use Rattle.proc_table.specs.Processes.{process_of, is_live, traces, reporting}
+use Rattle.proc_table.specs.Rows.{Rows, each, change, is_numbered}
+use Rattle.proc_table.specs.Kept.{Rise}
+use Rattle.trace_stop.specs.declared.Settings.{Settings}
+use Rattle.trace_stop.specs.Post.{posted_process, posted_lwp, continues, notified, told, posted}
+use Rattle.trace_stop.specs.Free.{detached, untraced}
+use Rattle.trace_stop.specs.End.{is_doomed, dooms, uncollected, dead, orphaned, process_after, lwp_after, told_of, left_alone, end_each, end}
+use Rattle.trace_stop.specs.Stop.{post}
+use Rattle.trace_stop.proofs.Changed.{From, process_from}
+use Rattle.requests.specs.Reach.{post_if_live, post_all}
+
+abbrev pub SameNumber : ProcData → ProcData → Type 0
+SameNumber p q = (q.pid ≡ p.pid) × (q.uid ≡ p.uid)
+
+-- rows that are made from earlier ones, each by itself, or gone
+pub record Remain (ps qs : List ProcData) : Type 0 where
+  pub to : ProcData → Option ProcData
+  pub made : qs ≡ filter_map to ps
+  pub same : (p : ProcData) → IfSome (to p) (SameNumber p)
+
+choose : {X : Type 0} (b : Bool) (x y : X) (R : X → Type 0) → R x → R y → R (if b then x else y)
+choose true x y R h k = h
+choose false x y R h k = k
+
+-- one edit after another
+abbrev then_to : (ProcData → Option ProcData) → Option ProcData → Option ProcData
+then_to g None = None
+then_to g (Some q) = g q
+
+edits_join : (f g : ProcData → Option ProcData) (ps : List ProcData) → filter_map g (filter_map f ps) ≡ filter_map (λ p. then_to g (f p)) ps
+edits_join f g [] = refl
+edits_join f g (p ∷ ps) = by_row (f p) (edits_join f g ps)
+  where
+    by_row : (o : Option ProcData) → filter_map g (filter_map f ps) ≡ filter_map (λ q. then_to g (f q)) ps
+        → filter_map g (cons_option o (filter_map f ps)) ≡ cons_option (then_to g o) (filter_map (λ q. then_to g (f q)) ps)
+    by_row None rest = rest
+    by_row (Some q) rest = ap (λ qs. cons_option (g q) qs) rest
+
+pub remain_then : (ps qs rs : List ProcData) → Remain ps qs → Remain qs rs → Remain ps rs
+remain_then ps qs rs a b = record {
+  to = λ p. then_to b.to (a.to p);
+  made = b.made ∙ (ap (filter_map b.to) a.made ∙ edits_join a.to b.to ps);
+  same = λ p. by_row p (a.to p) (a.same p);
+}
+  where
+    still : (p q : ProcData) → SameNumber p q → (o : Option ProcData) → IfSome o (SameNumber q) → IfSome o (SameNumber p)
+    still p q s None h = tt
+    still p q s (Some r) h = (h.0 ∙ s.0, h.1 ∙ s.1)
+
+    by_row : (p : ProcData) (o : Option ProcData) → IfSome o (SameNumber p) → IfSome (then_to b.to o) (SameNumber p)
+    by_row p None h = tt
+    by_row p (Some q) h = still p q h (b.to q) (b.same q)
+
+all_there : (ps : List ProcData) → ps ≡ filter_map (λ p. Some p) ps
+all_there [] = refl
+all_there (p ∷ ps) = ap (λ qs. p ∷ qs) (all_there ps)
+
+pub remain_all : (ps : List ProcData) → Remain ps ps
+remain_all ps = record { to = λ p. Some p; made = all_there ps; same = λ p. (refl, refl) }
+
+-- each edit of chosen processes that keeps their numbers and users
+remain_some : (chosen : ProcData → Bool) (f : ProcData → ProcData) → ((p : ProcData) → SameNumber p (f p)) → (ps : List ProcData) → Remain ps (filter_map (λ p. Some (if chosen p then f p else p)) ps)
+remain_some chosen f keeps ps = record {
+  to = λ p. Some (if chosen p then f p else p);
+  made = refl;
+  same = λ p. choose (chosen p) (f p) p (SameNumber p) (keeps p) (refl, refl);
+}
+
+posted_keeps : (s : ℕ) (to : Option ℕ) (p : ProcData) → SameNumber p (posted_process s to p)
+posted_keeps s to p = choose (continues s p) _ _ (SameNumber p) (refl, refl) (refl, refl)
+
+remain_notified : (pids : List ℕ) (rows : Rows) → Remain rows.processes (notified pids rows).processes
+remain_notified pids rows = remain_some (λ p. list_any (λ n. n == p.pid) pids) (posted_process SIGCHLD None) (posted_keeps SIGCHLD None) rows.processes
+
+remain_posted : (s : ℕ) (to : Option ℕ) (pid : ℕ) (rows : Rows) → Remain rows.processes (posted s to pid rows).processes
+remain_posted s to pid rows =
+    let first = change (is_numbered pid) (posted_process s to) (posted_lwp s to) rows in
+    remain_then rows.processes first.processes (posted s to pid rows).processes
+    (remain_some (is_numbered pid) (posted_process s to) (posted_keeps s to) rows.processes) (remain_notified (told s (process_of pid rows.processes)) first)
+
+-- the end of a process
+after_keeps : (ends : ProcData → Bool) (over : ℕ → Bool) (p status : ℕ) (q : ProcData) → IfSome (process_after ends over p status q) (SameNumber q)
+after_keeps ends over p status q = choose (ends q) _ _ (λ o. IfSome o (SameNumber q))
+    (choose (is_none (orphaned over q).tracer && ((orphaned over q).parent == 1)) None _ (λ o. IfSome o (SameNumber q)) tt (refl, refl))
+    (choose (is_live q) _ _ (λ o. IfSome o (SameNumber q)) (refl, refl)
+    (choose (is_none (orphaned over q).tracer && ((orphaned over q).parent == 1)) None _ (λ o. IfSome o (SameNumber q)) tt (refl, refl)))
+
+remain_end_each : (ends : ProcData → Bool) (over : ℕ → Bool) (p status : ℕ) (rows : Rows) → Remain rows.processes (end_each ends over p status rows).processes
+remain_end_each ends over p status rows =
+    let after = each (process_after ends over p status) (lwp_after ends over) rows in
+    remain_then rows.processes after.processes (end_each ends over p status rows).processes
+    (record { to = process_after ends over p status; made = refl; same = after_keeps ends over p status })
+    (remain_notified (filter_map (told_of ends over p status) rows.processes) after)
+
+remain_left : (settings : Settings) (p : ℕ) (rows : Rows) → Remain rows.processes (left_alone settings p rows).processes
+remain_left settings p rows = choose settings.kill_on_debugger_exit rows _ (λ r. Remain rows.processes r.processes) (remain_all rows.processes)
+    (remain_some (λ q. is_live q && traces p q) (λ q. untraced (if is_some (reporting q) then bit SIGTRAP else 0) q) (λ q. (refl, refl)) rows.processes)
+
+pub remain_end : (settings : Settings) (p status : ℕ) (rows : Rows) → Remain rows.processes (end settings p status rows).processes
+remain_end settings p status rows =
+    let left = left_alone settings p rows in
+    remain_then rows.processes left.processes (end settings p status rows).processes (remain_left settings p rows)
+    (remain_end_each (is_doomed settings left.processes p) (dooms settings left.processes p) p status left)
+
+pub remain_post : (settings : Settings) (s : ℕ) (to : Option ℕ) (pid : ℕ) (rows : Rows) → Remain rows.processes (post settings s to pid rows).processes
+remain_post settings s to pid rows = choose (s == SIGKILL) (end settings pid SIGKILL rows) (posted s to pid rows) (λ r. Remain rows.processes r.processes) (remain_end settings pid SIGKILL rows) (remain_posted s to pid rows)

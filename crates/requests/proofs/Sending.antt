@@ -1,0 +1,299 @@
+-- A signal sent to one process, and to all others of a user.
+use Rattle.std.proofs.Common.{◌≡◌, ℕ, ◌-◌, ◌<◌, ◌≤◌, pos, negsuc, Bool, true, false, cond, ◌==◌, ltb, ◌&&◌, not, List, [], ◌∷◌, filter, filter_map, find, Option, Some, None, IfSome, is_none, if◌then◌else◌, refl, sym, ap, ◌∙◌, subst, arith, true≢false, eqb-true, ◌^◌, inl, inr}
+use Rattle.std.specs.Prelude.{option_map, ℤ, int_lt}
+use Rattle.std.specs.Int.{FitsUnsignedBits}
+use Rattle.std.proofs.lemmas.Bool.{cases_lt, le-leb}
+use Rattle.std.specs.List.{AllByRecursion, list_any, cons_option}
+use Rattle.proc_table.specs.declared.ProcData.{ProcData}
+use Rattle.proc_table.specs.Processes.{process_of, is_live, of_user}
+use Rattle.proc_table.specs.Rows.{Rows}
+use Rattle.proc_table.specs.Seen.{seen_process}
+use Rattle.proc_table.specs.Kept.{AllAbove, Rise, AtHome, IsKept}
+use Rattle.proc_table.proofs.Rows.{process_of-pid}
+use Rattle.trace_stop.specs.declared.Settings.{Settings}
+use Rattle.trace_stop.specs.Stop.{post}
+use Rattle.trace_stop.proofs.Every.{and_left, and_right, by_bool, All-imply}
+use Rattle.trace_stop.proofs.Edited.{some_is}
+use Rattle.trace_stop.proofs.Changed.{From, process_from}
+use Rattle.requests.specs.Reach.{reach, post_if_live, post_all, reached, kill, next_other}
+use Rattle.requests.specs.Outcome.{refuses}
+use Rattle.pid_blocks.specs.declared.Errno.TheVariants.{ESRCH}
+use Rattle.requests.specs.declared.Reply.TheVariants as reply
+use Rattle.requests.proofs.Steps.{own_rows}
+use Rattle.requests.proofs.Living.{live_found, live_none}
+use Rattle.requests.proofs.Walk.{above, first_above, above_none, above_first, above_next, next_over}
+use Rattle.requests.proofs.Remaining.{Remain, SameNumber, remain_all, remain_post}
+
+-- One process
+
+module _ (settings : Settings) (s n : ℕ) (rows : Rows) (rise : Rise rows.processes) where
+  pub live_posts : list_any (λ p. (p.pid == n) && is_live p) rows.processes ≡ true → (s == 0) ≡ false → post_if_live settings s (process_of n rows.processes) rows ≡ post settings s None n rows
+  live_posts live some = by_row (process_of n rows.processes) refl
+    where
+      by_row : (o : Option ProcData) → process_of n rows.processes ≡ o → post_if_live settings s o rows ≡ post settings s None n rows
+      by_row None at = absurd (true≢false (sym live ∙ live_none n rows.processes at))
+      by_row (Some p) at =
+          let lives : is_live p ≡ true = sym (live_found n rows.processes p rise at) ∙ live in
+          rw (lives, some) (ap (λ m. post settings s None m rows) (process_of-pid n p rows.processes at))
+
+  pub dead_posts : list_any (λ p. (p.pid == n) && is_live p) rows.processes ≡ false → post_if_live settings s (process_of n rows.processes) rows ≡ rows
+  dead_posts dead = by_row (process_of n rows.processes) refl
+    where
+      by_row : (o : Option ProcData) → process_of n rows.processes ≡ o → post_if_live settings s o rows ≡ rows
+      by_row None at = refl
+      by_row (Some p) at = let ended : is_live p ≡ false = sym (live_found n rows.processes p rise at) ∙ dead in rw ended refl
+
+-- a number that isn't 0 is a signal's
+pub passes_signal : (k n : ℕ) → (if k == 0 then None else Some k) ≡ Some n → ((k == 0) ≡ false) × (n ≡ k)
+passes_signal k n = by_test (k == 0)
+  where
+    by_test : (b : Bool) → (if b then None else Some k) ≡ Some n → (b ≡ false) × (n ≡ k)
+    by_test true is = absurd (let bad : None ≡ Some n = is in cc)
+    by_test false is = (refl, sym (some_is k n is))
+
+pub no_number : (o : Option ℕ) → is_none o ≡ true → o ≡ None
+no_number None is = refl
+no_number (Some n) is = absurd (true≢false (sym is))
+
+-- What it leaves
+
+remain_posted : (settings : Settings) (s : ℕ) (o : Option ProcData) (rows : Rows) → Remain rows.processes (post_if_live settings s o rows).processes
+remain_posted settings s None rows = remain_all rows.processes
+remain_posted settings s (Some p) rows = by_test (is_live p && not (s == 0))
+  where
+    by_test : (b : Bool) → Remain rows.processes (cond b (post settings s None p.pid rows) rows).processes
+    by_test true = remain_post settings s None p.pid rows
+    by_test false = remain_all rows.processes
+
+-- a number that nobody has stays free
+gone : (ps qs : List ProcData) (n : ℕ) → Remain ps qs → process_of n ps ≡ None → process_of n qs ≡ None
+gone ps qs n r none = rw r.made (lacking ps none)
+  where
+    lacking : (xs : List ProcData) → process_of n xs ≡ None → process_of n (filter_map r.to xs) ≡ None
+    lacking [] is = refl
+    lacking (p ∷ xs) is = by_head (p.pid == n) refl is (lacking xs)
+      where
+        by_row : (o : Option ProcData) → IfSome o (SameNumber p) → (p.pid == n) ≡ false → process_of n (filter_map r.to xs) ≡ None → process_of n (cons_option o (filter_map r.to xs)) ≡ None
+        by_row None same e rest = rest
+        by_row (Some q) same e rest = let other : (q.pid == n) ≡ false = rw same.0 e in rw other rest
+
+        by_head : (b : Bool) → (p.pid == n) ≡ b → cond b (Some p) (process_of n xs) ≡ None → (process_of n xs ≡ None → process_of n (filter_map r.to xs) ≡ None)
+            → process_of n (cons_option (r.to p) (filter_map r.to xs)) ≡ None
+        by_head true e h rest = absurd (let bad : Some p ≡ None = h in cc)
+        by_head false e h rest = by_row (r.to p) (r.same p) e (rest h)
+
+-- A list of processes of which some are gone: those get nothing
+
+abbrev Gone : (ProcData → Option ProcData) → Rows → ProcData → Type 0
+Gone f rows p = f p ≡ None → process_of p.pid rows.processes ≡ None
+
+module _ (settings : Settings) (s : ℕ) (t : ProcData → Bool) (alike : (p q : ProcData) → SameNumber p q → t q ≡ t p)
+    (f : ProcData → Option ProcData) (same : (p : ProcData) → IfSome (f p) (SameNumber p)) where
+  still_gone : (n : ℕ) (ps : List ProcData) (rows : Rows) → AllByRecursion (Gone f rows) ps → AllByRecursion (Gone f (post_if_live settings s (process_of n rows.processes) rows)) ps
+  still_gone n ps rows all =
+      let after = post_if_live settings s (process_of n rows.processes) rows in
+      All-imply (Gone f rows) (Gone f after) (λ p was none. gone rows.processes after.processes p.pid (remain_posted settings s (process_of n rows.processes) rows) (was none)) ps all
+
+  abbrev Passed : List ProcData → Rows → Type 0
+  Passed ps rows = post_all settings s (filter t (filter_map f ps)) rows ≡ post_all settings s (filter t ps) rows
+
+  -- the first of them, kept or gone
+  pass_one : (p : ProcData) (ps : List ProcData) (rows : Rows) → Gone f rows p
+      → Passed ps rows → Passed ps (post_if_live settings s (process_of p.pid rows.processes) rows) → Passed (p ∷ ps) rows
+  pass_one p ps rows lost rest after = by_row (f p) refl (same p)
+    where
+      gone_by : (b : Bool) → process_of p.pid rows.processes ≡ None → post_all settings s (filter t (filter_map f ps)) rows ≡ post_all settings s (cond b (p ∷ filter t ps) (filter t ps)) rows
+      gone_by true none = rest ∙ sym (ap (λ o. post_all settings s (filter t ps) (post_if_live settings s o rows)) none)
+      gone_by false none = rest
+
+      kept_by : (b : Bool) (q : ProcData) → q.pid ≡ p.pid → post_all settings s (cond b (q ∷ filter t (filter_map f ps)) (filter t (filter_map f ps))) rows ≡ post_all settings s (cond b (p ∷ filter t ps) (filter t ps)) rows
+      kept_by true q number = ap (λ n. post_all settings s (filter t (filter_map f ps)) (post_if_live settings s (process_of n rows.processes) rows)) number ∙ after
+      kept_by false q number = rest
+
+      by_row : (o : Option ProcData) → f p ≡ o → IfSome o (SameNumber p) → post_all settings s (filter t (cons_option o (filter_map f ps))) rows ≡ post_all settings s (filter t (p ∷ ps)) rows
+      by_row None e h = gone_by (t p) (lost e)
+      by_row (Some q) e h = rw (alike p q h) (kept_by (t p) q h.0)
+
+  passed_over : (ps : List ProcData) (rows : Rows) → AllByRecursion (Gone f rows) ps → Passed ps rows
+  passed_over [] rows all = refl
+  passed_over (p ∷ ps) rows all = pass_one p ps rows all.0 (passed_over ps rows all.1) (passed_over ps (post_if_live settings s (process_of p.pid rows.processes) rows) (still_gone p.pid ps rows all.1))
+
+-- so the rows may be walked as they are
+module _ (settings : Settings) (s : ℕ) (t : ProcData → Bool) (alike : (p q : ProcData) → SameNumber p q → t q ≡ t p) where
+  pub as_they_are : (rows after : Rows) → Rise rows.processes → Remain rows.processes after.processes → post_all settings s (filter t after.processes) after ≡ post_all settings s (filter t rows.processes) after
+  as_they_are rows after rise r =
+      ap (λ ps. post_all settings s (filter t ps) after) r.made ∙ passed_over settings s t alike r.to r.same rows.processes after
+      (All-imply (λ p. process_of p.pid rows.processes ≡ Some p) (Gone r.to after) (λ p own none. lost p own none (process_of p.pid (filter_map r.to rows.processes)) refl) rows.processes (own_rows rows.processes rise))
+    where
+      number : (p : ProcData) (o : Option ProcData) → IfSome o (SameNumber p) → IfSome o (λ q. q.pid ≡ p.pid)
+      number p None h = tt
+      number p (Some q) h = h.0
+
+      lost : (p : ProcData) → process_of p.pid rows.processes ≡ Some p → r.to p ≡ None → (o : Option ProcData) → process_of p.pid (filter_map r.to rows.processes) ≡ o → process_of p.pid after.processes ≡ None
+      lost p own none None at = rw r.made at
+      lost p own none (Some q) at =
+          let from = process_from r.to (λ x. number x (r.to x) (r.same x)) p.pid rows.processes q rise at in
+          let its : p ≡ from.was = some_is p from.was (sym own ∙ from.at) in
+          absurd (let bad : None ≡ Some q = sym none ∙ (ap r.to its ∙ from.to) in cc)
+
+-- All others of a user
+
+-- how far numbers go on
+abbrev pub left : Option ℕ → ℕ
+left None = 0
+left (Some n) = 65000 - n
+
+abbrev pub is_other : ℕ → ℕ → ProcData → Bool
+is_other u caller p = (p.uid == u) && not (p.pid == caller)
+
+-- the rows once those from a number on got the signal
+abbrev pub post_rest : Settings → ℕ → ℕ → ℕ → Option ℕ → Rows → Rows
+post_rest settings s u caller None rows = rows
+post_rest settings s u caller (Some n) rows =
+    post_all settings s (above (is_other u caller) n rows.processes) (post_if_live settings s (process_of n rows.processes) rows)
+
+module _ (settings : Settings) (s u caller : ℕ) where
+  abbrev others : ℕ → List ProcData → List ProcData
+  others n ps = above (is_other u caller) n ps
+
+  abbrev next : ℕ → List ProcData → Option ℕ
+  next n ps = option_map (λ p. p.pid) (next_other u caller n ps)
+
+  pub rest_is : (n : ℕ) (rows : Rows) → Rise rows.processes → post_rest settings s u caller (next n rows.processes) rows ≡ post_all settings s (others n rows.processes) rows
+  rest_is n rows rise = by_next (next_other u caller n rows.processes) refl
+    where
+      by_next : (o : Option ProcData) → next_other u caller n rows.processes ≡ o → post_rest settings s u caller (option_map (λ p. p.pid) o) rows ≡ post_all settings s (others n rows.processes) rows
+      by_next None at = rw (above_none (is_other u caller) n rows.processes at) refl
+      by_next (Some p) at = rw (above_next (is_other u caller) n rows.processes p rise at) refl
+
+  alike : (n : ℕ) (p q : ProcData) → SameNumber p q → (ltb n q.pid && is_other u caller q) ≡ (ltb n p.pid && is_other u caller p)
+  alike n p q same = rw (same.0, same.1) refl
+
+  -- one process more
+  pub rest_next : (n : ℕ) (rows after : Rows) (at : Option ℕ) → Rise rows.processes → Rise after.processes
+      → after ≡ post_if_live settings s (process_of n rows.processes) rows → at ≡ next n after.processes
+      → post_rest settings s u caller at after ≡ post_rest settings s u caller (Some n) rows
+  rest_next n rows after at rise rises posted is =
+      let left : Remain rows.processes after.processes = subst (λ r. Remain rows.processes r.processes) (sym posted) (remain_posted settings s (process_of n rows.processes) rows) in
+      ap (λ o. post_rest settings s u caller o after) is ∙ (rest_is n after rises
+      ∙ (as_they_are settings s (λ p. ltb n p.pid && is_other u caller p) (alike n) rows after rise left
+      ∙ ap (post_all settings s (others n rows.processes)) posted))
+
+  split : (ps : List ProcData) → filter (λ p. not (p.pid == caller)) (of_user u ps) ≡ filter (is_other u caller) ps
+  split [] = refl
+  split (p ∷ ps) = by_user (p.uid == u) (split ps)
+    where
+      by_user : (b : Bool) → filter (λ q. not (q.pid == caller)) (of_user u ps) ≡ filter (is_other u caller) ps → filter (λ q. not (q.pid == caller)) (cond b (p ∷ of_user u ps) (of_user u ps)) ≡ cond (b && not (p.pid == caller)) (p ∷ filter (is_other u caller) ps) (filter (is_other u caller) ps)
+      by_user true rest = ap (λ qs. cond (not (p.pid == caller)) (p ∷ qs) qs) rest
+      by_user false rest = rest
+
+  pub reach_others : (rows : Rows) → IsKept rows → reach u caller (negsuc 0) rows ≡ others 0 rows.processes
+  reach_others rows kept = split rows.processes ∙ sym (above_first (is_other u caller) rows.processes kept.homes)
+
+  -- where there is none, and where there is one
+  pub reached_none : (rows : Rows) → IsKept rows → next 0 rows.processes ≡ None → reach u caller (negsuc 0) rows ≡ []
+  reached_none rows kept none = by_next (next_other u caller 0 rows.processes) refl none
+    where
+      by_next : (o : Option ProcData) → next_other u caller 0 rows.processes ≡ o → option_map (λ p. p.pid) o ≡ None → reach u caller (negsuc 0) rows ≡ []
+      by_next None at h = reach_others rows kept ∙ above_none (is_other u caller) 0 rows.processes at
+      by_next (Some p) at h = absurd (let bad : Some p.pid ≡ None = h in cc)
+
+  pub reached_some : (n : ℕ) (rows : Rows) → IsKept rows → next 0 rows.processes ≡ Some n
+      → (reached settings s (reach u caller (negsuc 0) rows) rows).reply ≡ reply.Done
+      × ((reached settings s (reach u caller (negsuc 0) rows) rows).rows ≡ post_rest settings s u caller (Some n) rows)
+  reached_some n rows kept some = by_next (next_other u caller 0 rows.processes) refl some
+    where
+      by_next : (o : Option ProcData) → next_other u caller 0 rows.processes ≡ o → option_map (λ p. p.pid) o ≡ Some n
+          → ((reached settings s (reach u caller (negsuc 0) rows) rows).reply ≡ reply.Done)
+          × ((reached settings s (reach u caller (negsuc 0) rows) rows).rows ≡ post_rest settings s u caller (Some n) rows)
+      by_next None at h = absurd (let bad : None ≡ Some n = h in cc)
+      by_next (Some p) at h =
+          let same : p.pid ≡ n = some_is p.pid n h in
+          let list : reach u caller (negsuc 0) rows ≡ p ∷ others p.pid rows.processes = reach_others rows kept ∙ above_next (is_other u caller) 0 rows.processes p kept.rising at in
+          (ap (λ ps. (reached settings s ps rows).reply) list, ap (λ ps. (reached settings s ps rows).rows) list ∙ ap (λ m. post_rest settings s u caller (Some m) rows) same)
+
+  pub reached_others : (at : Option ℕ) (rows : Rows) → IsKept rows → at ≡ next 0 rows.processes → is_none at ≡ false
+      → ((reached settings s (reach u caller (negsuc 0) rows) rows).reply ≡ reply.Done)
+      × ((reached settings s (reach u caller (negsuc 0) rows) rows).rows ≡ post_rest settings s u caller at rows)
+  reached_others None rows kept is some = absurd (true≢false some)
+  reached_others (Some n) rows kept is some = reached_some n rows kept (sym is)
+
+  pub next_smaller : (n : ℕ) (ps : List ProcData) (at : Option ℕ) → n < 65000 → at ≡ next n ps → left at < left (Some n)
+  next_smaller n ps at below is = by_next (next_other u caller n ps) refl is
+    where
+      by_next : (o : Option ProcData) → next_other u caller n ps ≡ o → at ≡ option_map (λ p. p.pid) o → left at < left (Some n)
+      by_next None h same = rw same (omega arith)
+      by_next (Some p) h same = let over = next_over (is_other u caller) n ps p h in rw same (omega (arith, below, over))
+
+-- A process by its number
+
+module _ (u n : ℕ) where
+  none_of : (ps : List ProcData) → AllByRecursion (λ p. (p.pid == n) ≡ false) ps → filter (λ p. p.pid == n) (of_user u ps) ≡ []
+  none_of [] all = refl
+  none_of (p ∷ ps) all = by_user (p.uid == u) (none_of ps all.1)
+    where
+      by_user : (b : Bool) → filter (λ q. q.pid == n) (of_user u ps) ≡ [] → filter (λ q. q.pid == n) (cond b (p ∷ of_user u ps) (of_user u ps)) ≡ []
+      by_user true rest = rw all.0 rest
+      by_user false rest = rest
+
+  others_above : (m : ℕ) (ps : List ProcData) → n ≤ m → AllAbove m ps → AllByRecursion (λ p. (p.pid == n) ≡ false) ps
+  others_above m [] le over = tt
+  others_above m (p ∷ ps) le over = (by_bool (p.pid == n) (λ e. let same = eqb-true p.pid n e in let high = over.0 in omega arith), others_above m ps le over.1)
+
+  abbrev found : List ProcData → Option ProcData
+  found ps = find (λ p. (p.pid == n) && (p.uid == u)) ps
+
+  abbrev as_list : Option ProcData → List ProcData
+  as_list None = []
+  as_list (Some p) = p ∷ []
+
+  only : (ps : List ProcData) → Rise ps → filter (λ p. p.pid == n) (of_user u ps) ≡ as_list (found ps)
+  only [] rise = refl
+  only (p ∷ ps) rise = by_head (p.uid == u) (p.pid == n) refl (only ps rise.1)
+    where
+      by_head : (b c : Bool) → (p.pid == n) ≡ c → filter (λ q. q.pid == n) (of_user u ps) ≡ as_list (found ps)
+          → filter (λ q. q.pid == n) (cond b (p ∷ of_user u ps) (of_user u ps)) ≡ as_list (cond (c && b) (Some p) (found ps))
+      by_head true true e rest = rw e (ap (λ qs. p ∷ qs) (none_of ps (others_above p.pid ps (let same = eqb-true p.pid n e in omega arith) rise.0)))
+      by_head true false e rest = rw e rest
+      by_head false true e rest = rest
+      by_head false false e rest = rest
+
+module _ (settings : Settings) (s u caller n : ℕ) (rows : Rows) (rise : Rise rows.processes) where
+  abbrev one : List ProcData
+  one = reach u caller (pos n) rows
+
+  pub unseen_reached : option_map (λ p. p.pid) (seen_process u n rows) ≡ None → one ≡ []
+  unseen_reached none = only u n rows.processes rise ∙ by_row (seen_process u n rows) none
+    where
+      by_row : (o : Option ProcData) → option_map (λ p. p.pid) o ≡ None → as_list u n o ≡ []
+      by_row None h = refl
+      by_row (Some p) h = absurd (let bad : Some p.pid ≡ None = h in cc)
+
+  pub seen_reached : (m : ℕ) → option_map (λ p. p.pid) (seen_process u n rows) ≡ Some m
+      → ((reached settings s one rows).reply ≡ reply.Done) × ((reached settings s one rows).rows ≡ post_if_live settings s (process_of m rows.processes) rows)
+  seen_reached m some = by_row (seen_process u n rows) some (only u n rows.processes rise)
+    where
+      by_row : (o : Option ProcData) → option_map (λ p. p.pid) o ≡ Some m → one ≡ as_list u n o
+          → ((reached settings s one rows).reply ≡ reply.Done) × ((reached settings s one rows).rows ≡ post_if_live settings s (process_of m rows.processes) rows)
+      by_row None h list = absurd (let bad : None ≡ Some m = h in cc)
+      by_row (Some p) h list =
+          (ap (λ ps. (reached settings s ps rows).reply) list, ap (λ ps. (reached settings s ps rows).rows) list ∙ ap (λ k. post_if_live settings s (process_of k rows.processes) rows) (some_is p.pid m h))
+
+-- no process has so great a number
+pub too_great : (u caller n : ℕ) (rows : Rows) → AllByRecursion AtHome rows.processes → 65000 ≤ n → reach u caller (pos n) rows ≡ []
+too_great u caller n rows homes great = none_of u n rows.processes (All-imply AtHome (λ p. (p.pid == n) ≡ false)
+    (λ p home. by_bool (p.pid == n) (λ e. let same = eqb-true p.pid n e in let high = home.block.1 in let last = home.user.1 in let first = home.user.0 in omega (arith, great))) rows.processes homes)
+
+-- a number that is positive, and too great for 32 bits
+great_number : (z : ℤ) → int_lt z (pos 1) ≡ false → (FitsUnsignedBits 32 z → ⊥) → (n : ℕ) × (z ≡ pos n) × (65000 ≤ n)
+great_number (pos n) positive fits = (n, refl, elim (cases_lt n (2 ^ 32)) [ inl lt ↦ absurd (fits lt) | inr le ↦ omega (arith, le) ])
+great_number (negsuc n) positive fits = absurd (true≢false positive)
+
+pub nobody_reached : (settings : Settings) (u caller s : ℕ) (which : ℤ) (rows : Rows) → AllByRecursion AtHome rows.processes → s ≤ 31 → int_lt which (pos 1) ≡ false → (FitsUnsignedBits 32 which → ⊥)
+    → kill settings u caller which s rows ≡ refuses ESRCH rows
+nobody_reached settings u caller s which rows homes signal positive fits =
+    let great = great_number which positive fits in
+    let n = great.0 in
+    let over : 65000 ≤ n = great.2 in
+    let some : (n == 0) ≡ false = by_bool (n == 0) (λ e. let none = eqb-true n 0 e in omega (arith, over)) in
+    ap (λ z. kill settings u caller z s rows) great.1 ∙ rw (le-leb s 31 signal, some) (ap (λ ps. reached settings s ps rows) (too_great u caller n rows homes over))

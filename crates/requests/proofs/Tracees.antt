@@ -1,0 +1,165 @@
+-- A stopped tracee in sound rows, and changes of its row and of its LWPs.
+use Rattle.std.proofs.Common.{◌≡◌, ◌≢◌, ℕ, ◌≤◌, ◌==◌, leb, arith, eqb-true, Bool, true, false, if◌then◌else◌, Option, Some, None, is_some, refl, sym, ap, ◌∙◌, true≢false, eqb, subst, eq-eqb, filter_map}
+use Rattle.std.specs.Prelude.{IsSomeAnd}
+use Rattle.std.proofs.lemmas.Bool.Decides.{nat_tests}
+use Rattle.event_masks.specs.declared.EventMask.{EventMask}
+use Rattle.signals.specs.Table.{SIGKILL}
+use Rattle.lwp_table.specs.declared.LwpData.{LwpData}
+use Rattle.lwp_table.specs.Lwps.{lwp_of, Differ}
+use Rattle.proc_table.specs.declared.ProcData.{ProcData}
+use Rattle.proc_table.specs.declared.State.{State}
+use Rattle.proc_table.specs.declared.State.TheVariants.{Run, Trace, Job, Zombie}
+use Rattle.proc_table.specs.Processes.{process_of, is_live, named_by, reporting, is_zombie_state}
+use Rattle.proc_table.specs.Rows.{Rows, change_process, change_lwp}
+use Rattle.proc_table.specs.Edits.{map_lwps}
+use Rattle.proc_table.specs.Fresh.{lwp_count, lwp_count_of}
+use Rattle.proc_table.specs.Seen.{owns}
+use Rattle.proc_table.specs.Kept.{Rise, IsRow, AtHome, set_process, set_lwp}
+use Rattle.proc_table.proofs.Seen.{owns-kept}
+use Rattle.proc_table.proofs.Rows.{found_row, lwp_of-tid}
+use Rattle.proc_table.proofs.Every.{every_found, some_and}
+use Rattle.proc_table.proofs.Changes.{change_process-at, change_lwp-at, change-at}
+use Rattle.proc_table.proofs.Stays.{lwp_there}
+use Rattle.trace_stop.specs.declared.Settings.{Settings}
+use Rattle.trace_stop.specs.Stop.{resume}
+use Rattle.trace_stop.specs.Facts.{FitProcess, IsSound}
+use Rattle.trace_stop.specs.Reports.{IsStopped}
+use Rattle.trace_stop.proofs.Edited.{find_edit, count_edit}
+use Rattle.trace_stop.proofs.Changes.{edit_none}
+use Rattle.trace_stop.proofs.Stopped.{IsStopped-from}
+use Rattle.requests.specs.declared.Reply.{Reply}
+use Rattle.requests.specs.declared.Reply.TheVariants as reply
+use Rattle.requests.specs.Outcome.{Outcome, answers}
+use Rattle.requests.specs.Ptrace.{not_stepping, stepping, set_mask, continues_with}
+use Rattle.requests.specs.Commands.{with_signal}
+use Rattle.requests.proofs.Acting.{choose}
+use Rattle.requests.proofs.Masks.{Tracee, OwnLwp, not_stepping_tracee, not_stepping_lwp, set_mask_tracee, stepping_tracee}
+
+-- A process with a number is found with its change
+
+pub process_changed : (n : ℕ) (f : ProcData → ProcData) (rows : Rows) (p : ProcData) → ((q : ProcData) → (f q).pid ≡ q.pid) → process_of n rows.processes ≡ Some p
+    → process_of n (change_process n f rows).processes ≡ Some (if p.pid == n then f p else p)
+process_changed n f rows p same at = find_edit (λ q. q.pid == n) (λ q. Some (if q.pid == n then f q else q)) (λ q. choose (q.pid == n) (f q) q (λ r. (r.pid == n) ≡ (q.pid == n)) (λ e. ap (λ m. eqb m n) (same q)) (λ e. refl)) rows.processes p (if p.pid == n then f p else p) at refl
+
+pub row_changed : (n : ℕ) (f : ProcData → ProcData) (rows : Rows) (p : ProcData) → ((q : ProcData) → (f q).pid ≡ q.pid) → process_of n rows.processes ≡ Some p → IsRow (change_process n f rows) n
+row_changed n f rows p same at = found_row n (if p.pid == n then f p else p) (change_process n f rows).processes (process_changed n f rows p same at)
+
+-- An LWP found by its own number, and its edit
+
+pub lwp_at_own : (n : ℕ) (k : LwpData) (rows : Rows) → lwp_of n rows.lwps ≡ Some k → lwp_of k.tid rows.lwps ≡ Some k
+lwp_at_own n k rows at = ap (λ m. lwp_of m rows.lwps) (lwp_of-tid n k rows.lwps at) ∙ at
+
+pub lwp_may_change : (n : ℕ) (k : LwpData) (rows : Rows) → lwp_of n rows.lwps ≡ Some k → IsSomeAnd (lwp_of k.tid rows.lwps) (λ was. was.pid ≡ k.pid)
+lwp_may_change n k rows at = lwp_there rows k k (lwp_at_own n k rows at) refl
+
+pub lwp_changed : (n : ℕ) (f : LwpData → LwpData) (k : LwpData) (rows rows1 : Rows) → ((l : LwpData) → (f l).tid ≡ l.tid) → Differ rows.lwps → lwp_of n rows.lwps ≡ Some k → rows1 ≡ set_lwp (f k) rows → rows1 ≡ change_lwp n f rows
+lwp_changed n f k rows rows1 same d at put = put ∙ sym (change_lwp-at n f rows k d at (same k ∙ lwp_of-tid n k rows.lwps at))
+
+-- A stopped tracee
+
+live_state : (s : State) → is_some (named_by s) ≡ true → is_zombie_state s ≡ false
+live_state Run reports = refl
+live_state (Trace tid sig seen) reports = refl
+live_state (Job sig seen) reports = refl
+live_state (Zombie w) reports = absurd (true≢false (sym reports))
+
+module _ (rows : Rows) (p : ProcData) (s : IsSound rows) (at : process_of p.pid rows.processes ≡ Some p) (reports : is_some (reporting p) ≡ true) where
+  pub is_tracee : Tracee rows p
+  is_tracee = record {
+    sound = s;
+    home = at;
+    live = rw (live_state p.state reports) refl;
+    traced = (every_found FitProcess (λ q. q.pid == p.pid) rows.processes p s.processes at).stopped reports;
+  }
+
+  pub is_stopped : IsStopped p.pid rows
+  is_stopped = by_lwp (reporting p) refl reports
+    where
+      by_lwp : (o : Option ℕ) → reporting p ≡ o → is_some o ≡ true → IsStopped p.pid rows
+      by_lwp None is some = absurd (true≢false (sym some))
+      by_lwp (Some tid) is some = IsStopped-from p.pid tid rows p s.stands at is
+
+pub own_lwp : (rows : Rows) (p : ProcData) (tid : ℕ) → IsSomeAnd (lwp_of tid rows.lwps) (λ l. l.pid ≡ p.pid) → OwnLwp rows p tid
+own_lwp rows p tid own = let l = some_and (λ (k : LwpData). k.pid ≡ p.pid) (lwp_of tid rows.lwps) own in record { lwp = l.0; there = l.1; own = l.2 }
+
+-- Masks
+
+pub set_mask_as : (mask : EventMask → EventMask) (rows : Rows) (p : ProcData) → Rise rows.processes → process_of p.pid rows.processes ≡ Some p → set_mask (λ old. mask p.mask) p.pid rows ≡ set_mask mask p.pid rows
+set_mask_as mask rows p up at =
+    change_process-at p.pid (λ q. record q { mask = mask p.mask }) rows p up at refl
+    ∙ sym (change_process-at p.pid (λ q. record q { mask = mask q.mask }) rows p up at refl)
+
+-- LWPs that don't step
+
+abbrev calm : LwpData → LwpData
+calm l = record l { stepping = false }
+
+pub not_stepping-is : (rows : Rows) (p : ProcData) → Rise rows.processes → process_of p.pid rows.processes ≡ Some p → not_stepping p.pid rows ≡ map_lwps p.pid calm rows
+not_stepping-is rows p up at =
+    change-at p.pid (λ q. q) (λ q l. calm l) rows p up at refl
+    ∙ ap (map_lwps p.pid calm) (sym (change_process-at p.pid (λ q. q) rows p up at refl)
+    ∙ ap (λ ps. record rows { processes = ps }) (edit_none (λ q. Some (if q.pid == p.pid then q else q)) (λ q. choose (q.pid == p.pid) q q (λ r. Some r ≡ Some q) (λ e. refl) (λ e. refl)) rows.processes))
+
+-- what a tracee that is to run on is, before it does
+pub record Ready (p : ProcData) (rows to : Rows) : Type 0 where
+  pub same : rows ≡ to
+  pub sound : IsSound rows
+  pub stopped : IsStopped p.pid rows
+
+ready : (p q : ProcData) (rows to : Rows) → rows ≡ to → p.pid ≡ q.pid → Tracee to q → is_some (reporting q) ≡ true → Ready p rows to
+ready p q rows to same pids t reports = record {
+  same = same;
+  sound = subst IsSound (sym same) t.sound;
+  stopped = subst (λ n. IsStopped n rows) (sym pids) (subst (IsStopped q.pid) (sym same) (is_stopped to q t.sound t.home reports));
+}
+
+pub masked_ready : (p : ProcData) (mask : EventMask) (rows rows1 rows2 : Rows) → Tracee rows p → is_some (reporting p) ≡ true → rows1 ≡ set_mask (λ old. mask) p.pid rows → rows2 ≡ map_lwps p.pid calm rows1
+    → Ready p rows2 (not_stepping p.pid (set_mask (λ old. mask) p.pid rows))
+masked_ready p mask rows rows1 rows2 t reports put done =
+    let q : ProcData = record p { mask = mask } in
+    let masks : Tracee (set_mask (λ old. mask) p.pid rows) q = set_mask_tracee rows p t (λ old. mask) in
+    ready p q rows2 (not_stepping p.pid (set_mask (λ old. mask) p.pid rows))
+    (done ∙ (ap (map_lwps p.pid calm) put ∙ sym (not_stepping-is (set_mask (λ old. mask) p.pid rows) q masks.sound.stands.rising masks.home)))
+    refl (not_stepping_tracee (set_mask (λ old. mask) p.pid rows) q masks) reports
+
+module _ (p : ProcData) (tid : ℕ) (rows rows1 : Rows) (t : Tracee rows p) (o : OwnLwp rows p tid) (done : rows1 ≡ map_lwps p.pid calm rows) where
+  calmed : rows1 ≡ not_stepping p.pid rows
+  calmed = done ∙ sym (not_stepping-is rows p t.sound.stands.rising t.home)
+
+  pub still_there : is_some (lwp_of tid rows1.lwps) ≡ true
+  still_there = subst (λ (r : Rows). is_some (lwp_of tid r.lwps) ≡ true) (sym calmed) (ap is_some (not_stepping_lwp rows p t tid o).there)
+
+  pub stepping_ready : (rows2 : Rows) → is_some (reporting p) ≡ true → rows2 ≡ change_lwp tid (λ l. record l { stepping = true }) rows1 → Ready p rows2 (stepping p.pid tid rows)
+  stepping_ready rows2 reports put = ready p p rows2 (stepping p.pid tid rows) (put ∙ ap (change_lwp tid (λ l. record l { stepping = true })) calmed) refl (stepping_tracee rows p tid t o) reports
+
+-- Arguments that are a signal's number or 0
+
+pub signalled : (f : ℕ → Rows → Rows) (arg pass : ℕ) (r : Reply) (rows rows1 rows2 to : Rows) → (arg ≤ 31) × (pass ≡ arg) → rows1 ≡ to → rows2 ≡ f pass rows1 → rows2 ≡ (with_signal arg (answers r (f arg to)) rows).rows
+signalled f arg pass r rows rows1 rows2 to few same done =
+    let least = few.0 in
+    let fits : leb arg 31 ≡ true = grind (arith, nat_tests) in
+    done ∙ (ap (f pass) same ∙ (ap (λ n. f n to) few.1 ∙ rw fits refl))
+
+pub continue_as : (settings : Settings) (mask : EventMask → EventMask) (m : EventMask) (arg : ℕ) (p : ProcData) (rows : Rows) → Rise rows.processes → process_of p.pid rows.processes ≡ Some p → m ≡ mask p.mask
+    → with_signal arg (continues_with settings (λ old. m) arg p rows) rows ≡ with_signal arg (continues_with settings mask arg p rows) rows
+continue_as settings mask m arg p rows up at is =
+    ap (λ r. with_signal arg (answers reply.Done (resume settings p.pid arg (not_stepping p.pid r))) rows)
+    (ap (λ x. set_mask (λ old. x) p.pid rows) is ∙ set_mask_as mask rows p up at)
+
+pub kill_as : (settings : Settings) (n pid : ℕ) (rows : Rows) → n ≡ SIGKILL → with_signal n (answers reply.Done (resume settings pid n rows)) rows ≡ answers reply.Done (resume settings pid SIGKILL rows)
+kill_as settings n pid rows is = ap (λ s. with_signal s (answers reply.Done (resume settings pid s rows)) rows) is
+
+pub same_outcome : (o o' : Outcome) (rows : Rows) (r : Reply) → o ≡ o' → rows ≡ o.rows → r ≡ o.reply → (rows ≡ o'.rows) × (r ≡ o'.reply)
+same_outcome o o' rows r same done said = (done ∙ ap (λ (x : Outcome). x.rows) same, said ∙ ap (λ (x : Outcome). x.reply) same)
+
+-- A process has no more LWPs than its user
+
+pub few_own : (rows : Rows) (p : ProcData) → IsSound rows → process_of p.pid rows.processes ≡ Some p → lwp_count p.pid rows ≤ 1000
+few_own rows p s at =
+    let home = every_found AtHome (λ q. q.pid == p.pid) rows.processes p s.stands.homes at in
+    let few = s.stands.few_lwps p.uid home.user in
+    let owns_it : owns p.uid p.pid rows.processes ≡ true = owns-kept p.uid p.pid rows.processes s.stands.rising ∙ rw (at, eq-eqb p.uid p.uid refl) refl in
+    let less = count_edit (λ l. l.pid == p.pid) (λ l. owns p.uid l.pid rows.processes) (λ l. Some l) (λ l is. ap (λ n. owns p.uid n rows.processes) (eqb-true l.pid p.pid is) ∙ owns_it) rows.lwps in
+    let same = edit_none (λ (l : LwpData). Some l) (λ l. refl) rows.lwps in
+    let all : lwp_count p.pid rows ≤ lwp_count_of p.uid rows = rw same at less in
+    omega (arith, few, all)

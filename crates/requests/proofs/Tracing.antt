@@ -1,0 +1,168 @@
+-- Each request of a debugger keeps a host sound.
+use Rattle.std.proofs.Common.{◌≡◌, ℕ, Bool, true, false, ◌==◌, ◌&&◌, not, leb, if◌then◌else◌, Option, Some, None, option_map, is_some, refl, sym, ◌∙◌, true≢false, subst, arith, eqb-true, eq-eqb}
+use Rattle.std.specs.List.{list_any}
+use Rattle.pid_blocks.specs.declared.Errno.TheVariants.{ESRCH}
+use Rattle.event_masks.specs.declared.TheConstants.EventMask.{PTRACE_SCE, PTRACE_SCX, PTRACE_FORK, PTRACE_LWP}
+use Rattle.event_masks.specs.Exits.{mask_with}
+use Rattle.signals.specs.Table.{SIGKILL}
+use Rattle.lwp_table.specs.declared.LwpData.{LwpData}
+use Rattle.lwp_table.specs.Lwps.{lwp_of}
+use Rattle.proc_table.specs.declared.ProcData.{ProcData}
+use Rattle.proc_table.specs.declared.State.{State}
+use Rattle.proc_table.specs.declared.State.TheVariants.{Run, Trace, Job, Zombie}
+use Rattle.proc_table.specs.Processes.{is_live, named_by, reporting, traces, process_of}
+use Rattle.proc_table.specs.Rows.{Rows}
+use Rattle.proc_table.specs.Seen.{owns, seen_process, seen_lwp, find_seen}
+use Rattle.trace_stop.specs.declared.Settings.{Settings}
+use Rattle.trace_stop.specs.Sound.{names_own}
+use Rattle.trace_stop.specs.Facts.{IsLiveOf, Linked, IsSound}
+use Rattle.trace_stop.proofs.Every.{and_left, and_right, both, All-any, find_some}
+use Rattle.trace_stop.proofs.Edited.{some_is, if_at}
+use Rattle.trace_stop.proofs.Changed.{found_number}
+use Rattle.trace_stop.proofs.Stopping.{one_row, own_lwps}
+use Rattle.trace_stop.proofs.Stops.{find_passes}
+use Rattle.trace_stop.proofs.Posts.{detach_sound}
+use Rattle.lwpinfo.specs.declared.LwpInfo.{LwpInfo}
+use Rattle.lwpinfo.specs.Info.{info}
+use Rattle.requests.specs.declared.Request.{Request}
+use Rattle.requests.specs.declared.Request.TheVariants as request
+use Rattle.requests.specs.declared.PlainStep.TheVariants as op
+use Rattle.requests.specs.Outcome.{Outcome, refuses}
+use Rattle.requests.specs.Ptrace.{attach, told_stop, bad_argument, stepping, switched, shows_info, does, commands_stopped, commands, is_attach, about, process_by, target_of, is_trace_me, ptrace}
+use Rattle.requests.specs.Machine.{Machine}
+use Rattle.requests.specs.Sound.{sound}
+use Rattle.requests.specs.Step.{step}
+use Rattle.requests.proofs.Acting.{choose}
+use Rattle.requests.proofs.After.{rows_sound, after_sound}
+use Rattle.requests.proofs.Steps.{Caller, checked_sound}
+use Rattle.requests.proofs.Kills.{live_caller}
+use Rattle.requests.proofs.Masks.{Tracee, OwnLwp, named_lwp, suspend_sound, set_mask_sound, resumes_sound, stepping_tracee, continues_sound}
+use Rattle.requests.proofs.Attaching.{trace_me_sound, attach_sound}
+
+-- whom a target names
+
+has_pid : (o : Option ProcData) (m : ℕ) → option_map (λ p. p.pid) o ≡ Some m → (p : ProcData) × (o ≡ Some p) × (p.pid ≡ m)
+has_pid None m is = absurd (grind (arith, is))
+has_pid (Some p) m is = (p, refl, some_is p.pid m is)
+
+-- the LWP that a number names, and its process
+pub record NamedLwp (u n : ℕ) (rows : Rows) (m : ℕ) : Type 0 where
+  pub lwp : LwpData
+  pub seen : seen_lwp u n rows ≡ Some lwp
+  pub own : lwp.pid ≡ m
+
+named_lwp_of : (u n : ℕ) (rows : Rows) (m : ℕ) (o : Option LwpData) → seen_lwp u n rows ≡ o → option_map (λ l. l.pid) o ≡ Some m → NamedLwp u n rows m
+named_lwp_of u n rows m None e is = absurd (grind (arith, is))
+named_lwp_of u n rows m (Some l) e is = record { lwp = l; seen = e; own = some_is l.pid m is }
+
+seen_lwp_owned : (u n : ℕ) (rows : Rows) (l : LwpData) → IsSound rows → seen_lwp u n rows ≡ Some l → (lwp_of n rows.lwps ≡ Some l) × (owns u l.pid rows.processes ≡ true)
+seen_lwp_owned u n rows l s seen =
+    let found = find_some (λ k. (k.tid == n) && owns u k.pid rows.processes) (λ k. lwp_of k.tid rows.lwps ≡ Some k) rows.lwps (own_lwps rows.lwps s.stands.differ) l seen in
+    (subst (λ t. lwp_of t rows.lwps ≡ Some l) (eqb-true l.tid n (and_left (l.tid == n) (owns u l.pid rows.processes) found.1)) found.0, and_right (l.tid == n) (owns u l.pid rows.processes) found.1)
+
+seen_owned : (u n : ℕ) (rows : Rows) (m : ℕ) → IsSound rows → find_seen u n rows ≡ Some m → owns u m rows.processes ≡ true
+seen_owned u n rows m s seen = by_size (leb n 99999) seen
+  where
+    by_size : (b : Bool) → (if b then option_map (λ p. p.pid) (seen_process u n rows) else option_map (λ l. l.pid) (seen_lwp u n rows)) ≡ Some m → owns u m rows.processes ≡ true
+    by_size true is =
+        let p = has_pid (seen_process u n rows) m is in
+        let passes = (find_some (λ q. (q.pid == n) && (q.uid == u)) (λ q. Unit {0}) rows.processes (All-any (λ q. Unit {0}) (λ q. tt) rows.processes) p.0 p.1).1 in
+        find_passes (λ q. (q.pid == n) && (q.uid == u)) (λ q. (q.pid == m) && (q.uid == u)) rows.processes p.0 p.1 (both (p.0.pid == m) (p.0.uid == u) (eq-eqb p.0.pid m p.2) (and_right (p.0.pid == n) (p.0.uid == u) passes))
+    by_size false is =
+        let l = named_lwp_of u n rows m (seen_lwp u n rows) refl is in
+        subst (λ k. owns u k rows.processes ≡ true) l.own (seen_lwp_owned u n rows l.lwp s l.seen).1
+
+owned_uid : (u m : ℕ) (rows : Rows) (p : ProcData) → IsSound rows → owns u m rows.processes ≡ true → process_of m rows.processes ≡ Some p → p.uid ≡ u
+owned_uid u m rows p s own at =
+    let one = (find_some (λ q. q.pid == m) (λ q. list_any (λ r. (r.pid == q.pid) && (r.uid == u)) rows.processes ≡ true → (q.uid == u) ≡ true) rows.processes (one_row (λ r. r.uid == u) rows.processes s.stands.rising) p at).0 in
+    eqb-true p.uid u (one (subst (λ k. owns u k rows.processes ≡ true) (sym (found_number m rows.processes p at)) own))
+
+-- the LWP of a told stop
+told_reports : (x : State) (tid : ℕ) → told_stop x ≡ Some tid → named_by x ≡ Some tid
+told_reports Run tid is = absurd (grind (arith, is))
+told_reports (Trace t sig seen) tid is = by_seen seen is
+  where
+    by_seen : (b : Bool) → (if b then Some t else None) ≡ Some tid → Some t ≡ Some tid
+    by_seen true e = e
+    by_seen false e = absurd (grind (arith, e))
+told_reports (Job sig seen) tid is = absurd (grind (arith, is))
+told_reports (Zombie w) tid is = absurd (grind (arith, is))
+
+-- Requests about a stopped tracee
+
+info_sound : (o : Option LwpInfo) (rows : Rows) → IsSound rows → IsSound (shows_info o rows).rows
+info_sound None rows s = s
+info_sound (Some i) rows s = s
+
+pub does_sound : (settings : Settings) (r : Request) (arg tid : ℕ) (p : ProcData) (rows : Rows) → Tracee rows p → OwnLwp rows p tid → IsSound (does settings r arg tid p rows).rows
+does_sound settings request.TraceMe arg tid p rows t o = t.sound
+does_sound settings request.Attach arg tid p rows t o = t.sound
+does_sound settings request.Continue arg tid p rows t o = continues_sound settings (λ mask. mask) arg rows p t
+does_sound settings request.Step arg tid p rows t o = resumes_sound (stepping p.pid tid rows) p (stepping_tracee rows p tid t o) settings arg
+does_sound settings request.Suspend arg tid p rows t o = suspend_sound rows p t tid o true
+does_sound settings request.Resume arg tid p rows t o = suspend_sound rows p t tid o false
+does_sound settings request.Detach arg tid p rows t o = detach_sound settings rows p.pid p t.sound t.home t.live arg
+does_sound settings request.Kill arg tid p rows t o = resumes_sound rows p t settings SIGKILL
+does_sound settings request.SetEventMask arg tid p rows t o = set_mask_sound rows p t (λ mask. record { 0 = arg })
+does_sound settings request.GetEventMask arg tid p rows t o = t.sound
+does_sound settings request.GetLwpInfo arg tid p rows t o = info_sound (info p tid rows) rows t.sound
+does_sound settings request.GetNumLwps arg tid p rows t o = t.sound
+does_sound settings request.GetLwpList arg tid p rows t o = t.sound
+does_sound settings request.ToSce arg tid p rows t o = continues_sound settings (λ mask. mask_with mask PTRACE_SCE) arg rows p t
+does_sound settings request.ToScx arg tid p rows t o = continues_sound settings (λ mask. mask_with mask PTRACE_SCX) arg rows p t
+does_sound settings request.Syscall arg tid p rows t o = continues_sound settings (λ mask. mask_with (mask_with mask PTRACE_SCE) PTRACE_SCX) arg rows p t
+does_sound settings request.FollowFork arg tid p rows t o = set_mask_sound rows p t (switched PTRACE_FORK arg)
+does_sound settings request.LwpEvents arg tid p rows t o = set_mask_sound rows p t (switched PTRACE_LWP arg)
+
+module _ (settings : Settings) (u : ℕ) (caller : ProcData) (r : Request) (target arg : ℕ) (rows : Rows) (s : IsSound rows) (c : Caller u rows caller) where
+  module _ (m : ℕ) (seen : find_seen u target rows ≡ Some m) (p : ProcData) (at : process_of m rows.processes ≡ Some p) (live : is_live p ≡ true) where
+    number : p.pid ≡ m
+    number = found_number m rows.processes p at
+
+    home : process_of p.pid rows.processes ≡ Some p
+    home = subst (λ n. process_of n rows.processes ≡ Some p) (sym number) at
+
+    link : Linked rows p
+    link = (find_some (λ q. q.pid == m) (Linked rows) rows.processes s.stands.linked p at).0
+
+    -- the LWP that a target names
+    target_lwp : (tid : ℕ) → told_stop p.state ≡ Some tid → OwnLwp rows p (if leb target 99999 then tid else target)
+    target_lwp tid told = by_size (leb target 99999) seen
+      where
+        by_size : (b : Bool) → (if b then option_map (λ q. q.pid) (seen_process u target rows) else option_map (λ l. l.pid) (seen_lwp u target rows)) ≡ Some m → OwnLwp rows p (if b then tid else target)
+        by_size true is = named_lwp rows p tid s (if_at (λ n. names_own rows p n ≡ true) (reporting p) tid (told_reports p.state tid told) link.named)
+        by_size false is = let l = named_lwp_of u target rows m (seen_lwp u target rows) refl is in record { lwp = l.lwp; there = (seen_lwp_owned u target rows l.lwp s l.seen).0; own = l.own ∙ sym number }
+
+    stopped_sound : is_some p.tracer ≡ true → (o : Option ℕ) → told_stop p.state ≡ o → IsSound (commands_stopped settings r target arg p rows o).rows
+    stopped_sound traced None told = s
+    stopped_sound traced (Some tid) told = choose (bad_argument r arg) _ _ (λ (x : Outcome). IsSound x.rows) (λ e. s)
+        (λ e. does_sound settings r arg (if leb target 99999 then tid else target) p rows (record { sound = s; home = home; live = live; traced = traced }) (target_lwp tid told))
+
+    commands_sound : IsSound (commands settings caller r target arg p rows).rows
+    commands_sound = choose (not (is_some p.tracer)) _ _ (λ (x : Outcome). IsSound x.rows) (λ e. s) (λ traced.
+        choose (not (traces caller.pid p)) _ _ (λ (x : Outcome). IsSound x.rows) (λ e. s) (λ mine. stopped_sound (not_false (is_some p.tracer) traced) (told_stop p.state) refl))
+      where
+        not_false : (b : Bool) → not b ≡ false → b ≡ true
+        not_false true e = refl
+        not_false false e = absurd (true≢false e)
+
+    tracer : IsLiveOf rows p.uid caller.pid
+    tracer = subst (λ v. IsLiveOf rows v caller.pid) (sym (owned_uid u m rows p s (seen_owned u target rows m s seen) at)) (live_caller rows u caller c)
+
+    pub live_sound : IsSound (if is_attach r then attach caller p rows else commands settings caller r target arg p rows).rows
+    live_sound = choose (is_attach r) _ _ (λ (x : Outcome). IsSound x.rows) (λ e. attach_sound rows caller p s home live tracer) (λ e. commands_sound)
+
+  about_sound : (o : Option ℕ) → find_seen u target rows ≡ o → (q : Option ProcData) → process_by rows o ≡ q → IsSound (about settings caller r target arg q rows).rows
+  about_sound o seen None at = s
+  about_sound None seen (Some p) at = absurd (grind (arith, at))
+  about_sound (Some m) seen (Some p) at = by_life (is_live p) refl
+    where
+      by_life : (b : Bool) → is_live p ≡ b → IsSound (if not b then refuses ESRCH rows else (if is_attach r then attach caller p rows else commands settings caller r target arg p rows)).rows
+      by_life true live = live_sound m seen p at live
+      by_life false live = s
+
+  pub ptrace_rows : IsSound (ptrace settings u caller r target arg rows).rows
+  ptrace_rows = choose (is_trace_me r) _ _ (λ (x : Outcome). IsSound x.rows) (λ e. trace_me_sound rows caller s c.at c.live c.run) (λ e. about_sound (find_seen u target rows) refl (target_of u target rows) refl)
+
+pub ptrace_sound : (m : Machine) (u n : ℕ) (r : Request) (target arg : ℕ) → sound m ≡ true → sound (step u (op.Ptrace n r target arg) m).machine ≡ true
+ptrace_sound m u n r target arg is = checked_sound u (op.Ptrace n r target arg) m n is (λ p c. after_sound m (ptrace m.settings u p r target arg m.rows) is (ptrace_rows m.settings u p r target arg m.rows (rows_sound m is) c))

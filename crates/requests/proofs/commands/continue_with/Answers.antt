@@ -1,0 +1,27 @@
+use Rattle.std.proofs.Common.{◌≡◌, ◌≤◌, refl, sym, subst}
+use Rattle.proc_table.specs.Kept.{IsRow}
+use Rattle.proc_table.specs.Rows.{Rows}
+use Rattle.requests.specs.Ptrace.{not_stepping, set_mask}
+use Rattle.trace_stop.specs.Stop.{resume}
+use Rattle.requests.specs.declared.Reply.TheVariants as reply
+use Rattle.requests.proofs.Tracees.{signalled, row_changed, is_tracee, masked_ready}
+use Rattle.requests.proofs.commands.continue_with.Goals as goal
+
+pub clear_stepping-requires : goal.clear_stepping-requires
+clear_stepping-requires c =
+    let p = c.args.process.now in
+    record { there = subst (λ (rows : Rows). IsRow rows p.pid) (sym c.set_mask.ensures.rows) (row_changed p.pid (λ q. record q { mask = c.args.mask }) c.args.tables.now.rows p (λ q. refl) c.requires.at) }
+
+pub resume-requires : goal.resume-requires
+resume-requires c =
+    let rows = c.args.tables.now.rows in
+    let p = c.args.process.now in
+    let h = masked_ready p c.args.mask rows c.set_mask.new.tables.rows c.clear_stepping.new.tables.rows (is_tracee rows p c.requires.sound c.requires.at c.requires.stopped) c.requires.stopped c.set_mask.ensures.rows c.clear_stepping.ensures.rows in
+    record { sound = h.sound; stopped = h.stopped }
+
+pub returns-clause-rows : goal.returns-clause-rows
+returns-clause-rows c =
+    let rows = c.args.tables.now.rows in
+    let p = c.args.process.now in
+    let h = masked_ready p c.args.mask rows c.set_mask.new.tables.rows c.clear_stepping.new.tables.rows (is_tracee rows p c.requires.sound c.requires.at c.requires.stopped) c.requires.stopped c.set_mask.ensures.rows c.clear_stepping.ensures.rows in
+    signalled (resume c.args.settings p.pid) c.args.arg c.in-Ok.pass reply.Done rows c.clear_stepping.new.tables.rows _ (not_stepping p.pid (set_mask (λ old. c.args.mask) p.pid rows)) c.in-Ok.ensures h.same c.resume.ensures.rows

@@ -1,0 +1,12 @@
+use Rattle.std.proofs.Common.{refl, sym, ◌∙◌}
+use Rattle.proc_table.proofs.Changes.{change_process-at}
+use Rattle.proc_table.proofs.Stays.{named-same}
+use Rattle.requests.proofs.commands.set_mask.Goals as goal
+
+pub set_process-requires-clause-named : goal.set_process-requires-clause-named
+set_process-requires-clause-named c = let p = c.args.process.now in named-same c.args.tables.now.rows p _ c.requires.at c.kept.ensures refl refl
+
+pub returns : goal.returns
+returns c =
+    let p = c.args.process.now in
+    record { rows = c.set_process.ensures.rows ∙ sym (change_process-at p.pid (λ q. record q { mask = c.args.mask }) c.args.tables.now.rows p c.kept.ensures.rising c.requires.at refl) }

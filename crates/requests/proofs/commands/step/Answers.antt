@@ -1,0 +1,31 @@
+use Rattle.std.proofs.Common.{◌≡◌, ◌≤◌, refl, sym, subst}
+use Rattle.proc_table.proofs.Rows.{found_row}
+use Rattle.requests.specs.Ptrace.{stepping}
+use Rattle.requests.proofs.Masks.{Tracee, OwnLwp}
+use Rattle.trace_stop.specs.Stop.{resume}
+use Rattle.requests.specs.declared.Reply.TheVariants as reply
+use Rattle.requests.proofs.Tracees.{signalled, is_tracee, own_lwp, still_there, stepping_ready}
+use Rattle.requests.proofs.commands.step.Goals as goal
+
+pub clear_stepping-requires : goal.clear_stepping-requires
+clear_stepping-requires c = record { there = found_row c.args.process.now.pid c.args.process.now c.args.tables.now.rows.processes c.requires.at }
+
+pub set_stepping-requires : goal.set_stepping-requires
+set_stepping-requires c =
+    let rows = c.args.tables.now.rows in
+    let p = c.args.process.now in
+    record { there = still_there p c.args.lwp rows c.clear_stepping.new.tables.rows (is_tracee rows p c.requires.sound c.requires.at c.requires.stopped) (own_lwp rows p c.args.lwp c.requires.own) c.clear_stepping.ensures.rows }
+
+pub resume-requires : goal.resume-requires
+resume-requires c =
+    let rows = c.args.tables.now.rows in
+    let p = c.args.process.now in
+    let h = stepping_ready p c.args.lwp rows c.clear_stepping.new.tables.rows (is_tracee rows p c.requires.sound c.requires.at c.requires.stopped) (own_lwp rows p c.args.lwp c.requires.own) c.clear_stepping.ensures.rows c.set_stepping.new.tables.rows c.requires.stopped c.set_stepping.ensures.rows in
+    record { sound = h.sound; stopped = h.stopped }
+
+pub returns-clause-rows : goal.returns-clause-rows
+returns-clause-rows c =
+    let rows = c.args.tables.now.rows in
+    let p = c.args.process.now in
+    let h = stepping_ready p c.args.lwp rows c.clear_stepping.new.tables.rows (is_tracee rows p c.requires.sound c.requires.at c.requires.stopped) (own_lwp rows p c.args.lwp c.requires.own) c.clear_stepping.ensures.rows c.set_stepping.new.tables.rows c.requires.stopped c.set_stepping.ensures.rows in
+    signalled (resume c.args.settings p.pid) c.args.arg c.in-Ok.pass reply.Done rows c.set_stepping.new.tables.rows _ (stepping p.pid c.args.lwp rows) c.in-Ok.ensures h.same c.resume.ensures.rows

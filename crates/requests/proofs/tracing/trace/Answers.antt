@@ -1,0 +1,23 @@
+use Rattle.std.proofs.Common.{sym, ap, ◌∙◌, refl, nat_eq}
+use Rattle.proc_table.specs.Kept.{Named, set_process}
+use Rattle.proc_table.proofs.Every.{every_found}
+use Rattle.proc_table.proofs.Changes.{change_process-at}
+use Rattle.requests.specs.Ptrace.{traced_by}
+use Rattle.requests.proofs.tracing.trace.Goals as goal
+
+pub set_process-requires-clause-named : goal.set_process-requires-clause-named
+set_process-requires-clause-named c =
+    let rows = c.args.tables.now.rows in
+    let p = c.args.process.now in
+    let named = every_found (Named rows) (λ q. nat_eq q.pid p.pid) rows.processes p c.kept.ensures.named c.requires.at in
+    rw c.traced_by.ensures (record { tracer = c.requires.tracer; parent = named.parent })
+
+pub returns : goal.returns
+returns c =
+    let rows = c.args.tables.now.rows in
+    let p = c.args.process.now in
+    record {
+      rows =
+          c.set_process.ensures.rows ∙ (ap (λ q. set_process q rows) c.traced_by.ensures
+          ∙ sym (change_process-at p.pid (traced_by c.args.tracer) rows p c.kept.ensures.rising c.requires.at refl));
+    }

@@ -1,0 +1,40 @@
+-- What every step keeps.
+use Rattle.std.specs.Prelude.{◌≡◌, ℕ, Bool, true, List}
+use Rattle.std.specs.List.{AllByRecursion}
+use Rattle.pid_blocks.specs.Users.{IsUser}
+use Rattle.trace_stop.specs.Sound.{status_fits}
+use Rattle.requests.specs.declared.Act.{Act}
+use Rattle.requests.specs.declared.Act.TheVariants as act
+use Rattle.requests.specs.declared.PlainStep.{PlainStep}
+use Rattle.requests.specs.declared.PlainStep.TheVariants as op
+use Rattle.trace_stop.specs.declared.Settings.{Settings}
+use Rattle.requests.specs.Machine.{Machine, empty}
+use Rattle.requests.specs.Run.{Asked, last}
+use Rattle.requests.specs.Sound.{sound}
+use Rattle.requests.specs.Step.{step}
+
+-- whether the status of an exit that is entered is a byte
+abbrev pub act_fits : Act → Bool
+act_fits act.Compute = true
+act_fits (act.Raise s) = true
+act_fits (act.Block set) = true
+act_fits (act.Enter call) = status_fits call
+act_fits act.Leave = true
+
+abbrev pub step_fits : PlainStep → Bool
+step_fits (op.Turn tid a) = act_fits a
+step_fits s = true
+
+-- every step of every user keeps a host sound
+abbrev pub SoundKept : Type 0
+SoundKept = (u : ℕ) → IsUser u → (s : PlainStep) → step_fits s ≡ true → (m : Machine) → sound m ≡ true → sound (step u s m).machine ≡ true
+
+-- so does every list of steps, and a host that nobody has used is sound
+abbrev pub IsStep : Asked → Type 0
+IsStep a = IsUser a.uid × (step_fits a.step ≡ true)
+
+abbrev pub SoundRuns : Type 0
+SoundRuns = (list : List Asked) (m : Machine) → AllByRecursion IsStep list → sound m ≡ true → sound (last list m) ≡ true
+
+abbrev pub SoundAtFirst : Type 0
+SoundAtFirst = (settings : Settings) → sound (empty settings) ≡ true

@@ -1,0 +1,18 @@
+-- What a refused step does, and what the machine never answers.
+use Rattle.std.specs.Prelude.{◌≡◌, ◌≢◌, ℕ, true}
+use Rattle.pid_blocks.specs.Users.{IsUser}
+use Rattle.pid_blocks.specs.declared.Errno.TheVariants.{ENOMEM}
+use Rattle.requests.specs.declared.PlainStep.{PlainStep}
+use Rattle.requests.specs.declared.Reply.TheVariants as reply
+use Rattle.requests.specs.Machine.{Machine}
+use Rattle.requests.specs.Memory.{is_refusal}
+use Rattle.requests.specs.Sound.{sound}
+use Rattle.requests.specs.Step.{step}
+
+-- a refused step changes nothing
+abbrev pub RefusedSame : Type 0
+RefusedSame = (u : ℕ) (s : PlainStep) (m : Machine) → IsUser u → sound m ≡ true → is_refusal (step u s m).reply ≡ true → (step u s m).machine ≡ m
+
+-- the machine wants no memory: a host alone answers ENOMEM
+abbrev pub NeverMemory : Type 0
+NeverMemory = (u : ℕ) (s : PlainStep) (m : Machine) → (step u s m).reply ≢ reply.Errno ENOMEM

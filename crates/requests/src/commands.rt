@@ -1,0 +1,365 @@
+//! What a tracer asks of a stopped tracee by ptrace(2).
+
+ghost use Rattle.std.specs.Prelude.{◌≡◌, ◌≢◌, ◌==◌, ◌<◌, Some, IfSome, IsSome, IsSomeAnd, true, false, is_some, leb, not, if◌then◌else◌};
+ghost use Rattle.std.specs.Int.RustNames.{bit_or};
+ghost use Rattle.pid_blocks.specs.declared.Errno.TheVariants as errno;
+ghost use Rattle.event_masks.specs.Exits.{all_events};
+ghost use Rattle.lwp_table.specs.Lwps.{lwp_of};
+ghost use Rattle.proc_table.specs.Kept.{IsKept};
+ghost use Rattle.proc_table.specs.Processes.{process_of, reporting, traces};
+ghost use Rattle.proc_table.specs.Rows.{change_lwp};
+ghost use Rattle.trace_stop.specs.Stop.{resume, detach};
+ghost use Rattle.trace_stop.specs.Facts.{IsSound};
+ghost use Rattle.lwpinfo.specs.Info.{info, lwp_list};
+ghost use Rattle.requests.specs.declared.Reply.TheVariants as reply;
+ghost use Rattle.requests.specs.Outcome.{answers};
+ghost use Rattle.requests.specs.Ptrace.{ptrace, is_trace_me, is_attach, target_of, told_stop, stepping, suspend, set_mask, continues_with, switched, shows_info};
+ghost use Rattle.requests.specs.Callers.{IsCaller};
+ghost use Rattle.requests.specs.Commands.{command, with_signal};
+ghost use Rattle.requests.specs.Memory.{lists, is_refusal};
+
+use crate::stubs::{clear_stepping, detach, resume};
+use crate::tracing::{attach, trace_me};
+use crate::{Reply, Request};
+use event_masks::EventMask;
+use lwp_table::LwpData;
+use lwpinfo::{info, lwp_count, lwp_list};
+use pid_blocks::{Errno, Pid, Tid, Uid};
+use proc_table::{ProcData, State, Tables};
+use signals::{Pass, Signal};
+use std::alloc::Global;
+use trace_stop::Settings;
+
+/// A request of ptrace(2) by a process that runs. A target up to 99999 names a process, and its LWP that reports
+/// a stop; a greater one names an LWP, and its process. Refused as the manual page says, and PT_GETLWPLIST
+/// with ENOMEM where memory runs out; a request that is refused changes nothing.
+pub fn ptrace(
+    tables: &mut Tables,
+    alloc: Global,
+    settings: Settings,
+    user: Uid,
+    caller: &ProcData,
+    request: Request,
+    target: u32,
+    arg: u32,
+) -> Reply
+    requires sound { IsSound tables.old.rows }
+    requires caller { IsCaller user caller.now tables.old.rows }
+    ensures machine { result ≢ reply.Errno errno.ENOMEM →
+        (tables.new.rows ≡ (ptrace settings user caller.now request target arg tables.old.rows).rows)
+        × (result ≡ (ptrace settings user caller.now request target arg tables.old.rows).reply) }
+    ensures memory { result ≡ reply.Errno errno.ENOMEM → (tables.new.rows ≡ tables.old.rows) × (lists request ≡ true)
+        × (is_refusal (ptrace settings user caller.now request target arg tables.old.rows).reply ≡ false) }
+{
+    if is_trace_me(request) {
+        return trace_me(tables, caller);
+    }
+    let Some(process) = target_of(tables, user, target) else {
+        return Reply::Errno(Errno::ESRCH);
+    };
+    if !process.is_live() {
+        return Reply::Errno(Errno::ESRCH);
+    }
+    if is_attach(request) {
+        return attach(tables, caller, &process);
+    }
+    if process.tracer.is_none() {
+        return Reply::Errno(Errno::EPERM);
+    }
+    if !traces(caller.pid, &process) {
+        return Reply::Errno(Errno::EBUSY);
+    }
+    let Some(reporting) = told_stop(&process) else {
+        return Reply::Errno(Errno::EBUSY);
+    };
+    let lwp = named_lwp(target, reporting);
+    command(tables, alloc, settings, request, arg, lwp, &process)
+}
+
+fn is_trace_me(request: Request) -> bool
+    ensures { result ≡ is_trace_me request }
+{
+    matches!(request, Request::TraceMe)
+}
+
+fn is_attach(request: Request) -> bool
+    ensures { result ≡ is_attach request }
+{
+    matches!(request, Request::Attach)
+}
+
+/// The user's process that the target names.
+fn target_of(tables: &Tables, user: Uid, target: u32) -> Option<ProcData>
+    ensures process { result ≡ target_of user target tables.now.rows }
+    ensures row { IfSome result (λ p. process_of p.pid tables.now.rows.processes ≡ Some p) }
+    ensures kept { IsKept tables.now.rows }
+{
+    tables.kept();
+    match tables.find_seen(user, target) {
+        Some(pid) => tables.process(pid),
+        None => None,
+    }
+}
+
+/// Whether the process with this number traces the other one.
+fn traces(pid: Pid, process: &ProcData) -> bool
+    ensures { result ≡ traces pid process.now }
+{
+    match process.tracer {
+        Some(tracer) => tracer == pid,
+        None => false,
+    }
+}
+
+/// The LWP of a trace stop that the tracer was told of.
+fn told_stop(process: &ProcData) -> Option<Tid>
+    ensures { result ≡ told_stop process.now.state }
+{
+    match process.state {
+        State::Trace { tid, seen, .. } if seen => Some(tid),
+        _ => None,
+    }
+}
+
+/// The LWP that the target names: that with its number, or for the number of a process the LWP that reports its stop.
+fn named_lwp(target: u32, reporting: Tid) -> Tid
+    requires lwp { leb target 99999 ≡ false → target < 356000 }
+    ensures { result ≡ (if leb target 99999 then reporting else target) }
+{
+    match Tid::new(target) {
+        Some(lwp) => lwp,
+        None => reporting,
+    }
+}
+
+/// Does what the tracer asks of its stopped tracee, by an LWP of it. Refused with EINVAL where the argument is
+/// wrong, and with ENOMEM where memory for a list of LWPs runs out.
+fn command(
+    tables: &mut Tables,
+    alloc: Global,
+    settings: Settings,
+    request: Request,
+    arg: u32,
+    lwp: Tid,
+    process: &ProcData,
+) -> Reply
+    requires sound { IsSound tables.old.rows }
+    requires at { process_of process.now.pid tables.old.rows.processes ≡ Some process.now }
+    requires stopped { is_some (reporting process.now) ≡ true }
+    requires own { IsSomeAnd (lwp_of lwp tables.old.rows.lwps) (λ l. l.pid ≡ process.now.pid) }
+    ensures machine { result ≢ reply.Errno errno.ENOMEM →
+        (tables.new.rows ≡ (command settings request arg lwp process.now tables.old.rows).rows)
+        × (result ≡ (command settings request arg lwp process.now tables.old.rows).reply) }
+    ensures memory { result ≡ reply.Errno errno.ENOMEM → (tables.new.rows ≡ tables.old.rows) × (lists request ≡ true)
+        × (is_refusal (command settings request arg lwp process.now tables.old.rows).reply ≡ false) }
+{
+    let pid = process.pid;
+    let mask = process.mask;
+    let entry = EventMask::PTRACE_SCE;
+    let exit = EventMask::PTRACE_SCX;
+    match request {
+        Request::TraceMe => Reply::Errno(Errno::EINVAL),
+        Request::Attach => Reply::Errno(Errno::EBUSY),
+        Request::Continue => continue_with(tables, settings, process, mask, arg),
+        Request::ToSce => continue_with(tables, settings, process, mask.with(entry), arg),
+        Request::ToScx => continue_with(tables, settings, process, mask.with(exit), arg),
+        Request::Syscall => continue_with(
+            tables,
+            settings,
+            process,
+            mask.with(entry).with(exit),
+            arg,
+        ),
+        Request::Step => step(tables, settings, process, lwp, arg),
+        Request::Suspend => suspend(tables, lwp, true),
+        Request::Resume => suspend(tables, lwp, false),
+        Request::Detach => detach_with(tables, settings, process, arg),
+        Request::Kill => resume_with(tables, settings, process, Signal::kill().number()),
+        Request::SetEventMask => set_events(tables, process, arg),
+        Request::FollowFork => switch(tables, process, EventMask::PTRACE_FORK, arg),
+        Request::LwpEvents => switch(tables, process, EventMask::PTRACE_LWP, arg),
+        Request::GetEventMask => Reply::Mask(mask),
+        Request::GetLwpInfo => show_lwp(tables, process, lwp),
+        Request::GetNumLwps => Reply::Number(lwp_count(tables, pid) as u32),
+        Request::GetLwpList => list_lwps(tables, alloc, pid, arg),
+    }
+}
+
+/// PT_CONTINUE, PT_TO_SCE, PT_TO_SCX and PT_SYSCALL: the process runs on with a signal or with 0, stopped from
+/// now on at the events of the mask, and none of its LWPs steps. Refused with EINVAL where the argument is above 31.
+fn continue_with(
+    tables: &mut Tables,
+    settings: Settings,
+    process: &ProcData,
+    mask: EventMask,
+    arg: u32,
+) -> Reply
+    requires sound { IsSound tables.old.rows }
+    requires at { process_of process.now.pid tables.old.rows.processes ≡ Some process.now }
+    requires stopped { is_some (reporting process.now) ≡ true }
+    ensures rows { tables.new.rows
+        ≡ (with_signal arg (continues_with settings (λ old. mask) arg process.now tables.old.rows) tables.old.rows).rows }
+    ensures reply { result
+        ≡ (with_signal arg (continues_with settings (λ old. mask) arg process.now tables.old.rows) tables.old.rows).reply }
+{
+    let Ok(pass) = Pass::new(arg) else {
+        return Reply::Errno(Errno::EINVAL);
+    };
+    set_mask(tables, process, mask);
+    clear_stepping(tables, process.pid);
+    resume(tables, settings, process.pid, pass);
+    Reply::Done
+}
+
+/// PT_STEP: the process runs on with a signal or with 0, and of its LWPs this one alone steps. Refused with EINVAL
+/// where the argument is above 31.
+fn step(tables: &mut Tables, settings: Settings, process: &ProcData, lwp: Tid, arg: u32) -> Reply
+    requires sound { IsSound tables.old.rows }
+    requires at { process_of process.now.pid tables.old.rows.processes ≡ Some process.now }
+    requires stopped { is_some (reporting process.now) ≡ true }
+    requires own { IsSomeAnd (lwp_of lwp tables.old.rows.lwps) (λ l. l.pid ≡ process.now.pid) }
+    ensures rows { tables.new.rows ≡ (with_signal arg
+        (answers reply.Done (resume settings process.now.pid arg (stepping process.now.pid lwp tables.old.rows))) tables.old.rows).rows }
+    ensures reply { result ≡ (with_signal arg
+        (answers reply.Done (resume settings process.now.pid arg (stepping process.now.pid lwp tables.old.rows))) tables.old.rows).reply }
+{
+    let Ok(pass) = Pass::new(arg) else {
+        return Reply::Errno(Errno::EINVAL);
+    };
+    clear_stepping(tables, process.pid);
+    set_stepping(tables, lwp);
+    resume(tables, settings, process.pid, pass);
+    Reply::Done
+}
+
+/// The LWP steps from now on.
+fn set_stepping(tables: &mut Tables, lwp: Tid)
+    requires there { IsSome (lwp_of lwp tables.old.rows.lwps) }
+    ensures rows { tables.new.rows ≡ change_lwp lwp (λ l. record l { stepping = true }) tables.old.rows }
+{
+    if let Some(row) = tables.lwp(lwp) {
+        tables.set_lwp(LwpData {
+            stepping: true,
+            ..row
+        });
+    }
+}
+
+/// PT_SUSPEND and PT_RESUME: the LWP is suspended from now on, or isn't.
+fn suspend(tables: &mut Tables, lwp: Tid, suspended: bool) -> Reply
+    requires there { IsSome (lwp_of lwp tables.old.rows.lwps) }
+    ensures rows { tables.new.rows ≡ suspend suspended lwp tables.old.rows }
+    ensures reply { result ≡ reply.Done }
+{
+    let Some(row) = tables.lwp(lwp) else {
+        return Reply::Done;
+    };
+    tables.set_lwp(LwpData { suspended, ..row });
+    Reply::Done
+}
+
+/// PT_DETACH: nobody traces the process from now on, and it runs on with a signal or with 0. Refused with EINVAL
+/// where the argument is above 31.
+fn detach_with(tables: &mut Tables, settings: Settings, process: &ProcData, arg: u32) -> Reply
+    requires sound { IsSound tables.old.rows }
+    requires at { process_of process.now.pid tables.old.rows.processes ≡ Some process.now }
+    requires stopped { is_some (reporting process.now) ≡ true }
+    ensures rows { tables.new.rows
+        ≡ (with_signal arg (answers reply.Done (detach settings process.now.pid arg tables.old.rows)) tables.old.rows).rows }
+    ensures reply { result
+        ≡ (with_signal arg (answers reply.Done (detach settings process.now.pid arg tables.old.rows)) tables.old.rows).reply }
+{
+    let Ok(pass) = Pass::new(arg) else {
+        return Reply::Errno(Errno::EINVAL);
+    };
+    detach(tables, settings, process.pid, pass);
+    Reply::Done
+}
+
+/// The process runs on with a signal or with 0. Refused with EINVAL where the number is above 31.
+fn resume_with(tables: &mut Tables, settings: Settings, process: &ProcData, number: u32) -> Reply
+    requires sound { IsSound tables.old.rows }
+    requires at { process_of process.now.pid tables.old.rows.processes ≡ Some process.now }
+    requires stopped { is_some (reporting process.now) ≡ true }
+    ensures rows { tables.new.rows
+        ≡ (with_signal number (answers reply.Done (resume settings process.now.pid number tables.old.rows)) tables.old.rows).rows }
+    ensures reply { result
+        ≡ (with_signal number (answers reply.Done (resume settings process.now.pid number tables.old.rows)) tables.old.rows).reply }
+{
+    let Ok(pass) = Pass::new(number) else {
+        return Reply::Errno(Errno::EINVAL);
+    };
+    resume(tables, settings, process.pid, pass);
+    Reply::Done
+}
+
+/// PT_SET_EVENT_MASK: the process is stopped from now on at these events. Refused with EINVAL where a bit is no event's.
+fn set_events(tables: &mut Tables, process: &ProcData, bits: u32) -> Reply
+    requires at { process_of process.now.pid tables.old.rows.processes ≡ Some process.now }
+    ensures rows { tables.new.rows ≡ (if not (bit_or bits all_events == all_events)
+        then tables.old.rows else set_mask (λ mask. record { 0 = bits }) process.now.pid tables.old.rows) }
+    ensures reply { result ≡ (if not (bit_or bits all_events == all_events) then reply.Errno errno.EINVAL else reply.Done) }
+{
+    let Some(mask) = EventMask::known(bits) else {
+        return Reply::Errno(Errno::EINVAL);
+    };
+    set_mask(tables, process, mask);
+    Reply::Done
+}
+
+/// PT_FOLLOW_FORK and PT_LWP_EVENTS: the process is stopped from now on at the event, or with 0 isn't.
+fn switch(tables: &mut Tables, process: &ProcData, event: EventMask, on: u32) -> Reply
+    requires sound { IsSound tables.old.rows }
+    requires at { process_of process.now.pid tables.old.rows.processes ≡ Some process.now }
+    ensures rows { tables.new.rows ≡ set_mask (switched event on) process.now.pid tables.old.rows }
+    ensures reply { result ≡ reply.Done }
+{
+    set_mask(tables, process, switched(process.mask, event, on));
+    Reply::Done
+}
+
+/// The mask with the event, or for 0 without it.
+fn switched(mask: EventMask, event: EventMask, on: u32) -> EventMask
+    ensures { result ≡ switched event on mask }
+{
+    if on == 0 {
+        mask.without(event)
+    } else {
+        mask.with(event)
+    }
+}
+
+/// Sets the events that the process is stopped at.
+fn set_mask(tables: &mut Tables, process: &ProcData, mask: EventMask)
+    requires at { process_of process.now.pid tables.old.rows.processes ≡ Some process.now }
+    ensures rows { tables.new.rows ≡ set_mask (λ old. mask) process.now.pid tables.old.rows }
+{
+    tables.kept();
+    tables.set_process(ProcData { mask, ..*process });
+}
+
+/// PT_LWPINFO.
+fn show_lwp(tables: &Tables, process: &ProcData, lwp: Tid) -> Reply
+    requires at { process_of process.now.pid tables.now.rows.processes ≡ Some process.now }
+    ensures reply { result ≡ (shows_info (info process.now lwp tables.now.rows) tables.now.rows).reply }
+{
+    match info(tables, process.pid, lwp) {
+        Some(shown) => Reply::Info(shown),
+        None => Reply::Errno(Errno::ESRCH),
+    }
+}
+
+/// PT_GETLWPLIST. Refused with EINVAL where the count is 0, and with ENOMEM where memory runs out.
+fn list_lwps(tables: &Tables, alloc: Global, pid: Pid, count: u32) -> Reply
+    ensures machine { result ≢ reply.Errno errno.ENOMEM →
+        result ≡ (if count == 0 then reply.Errno errno.EINVAL else reply.Lwps (lwp_list pid count tables.now.rows)) }
+    ensures memory { result ≡ reply.Errno errno.ENOMEM → (count == 0) ≡ false }
+{
+    if count == 0 {
+        return Reply::Errno(Errno::EINVAL);
+    }
+    match lwp_list(alloc, tables, pid, count) {
+        Ok(tids) => Reply::Lwps(tids),
+        Err(_) => Reply::Errno(Errno::ENOMEM),
+    }
+}

@@ -1,0 +1,25 @@
+//! Laws of the tracing machine's steps.
+
+ghost use Rattle.requests.specs.Laws.{SoundKept, SoundAtFirst, SoundRuns};
+ghost use Rattle.requests.specs.Refusals.{NeverMemory, RefusedSame};
+
+/// Every step of every user keeps a host sound.
+pub fn stays_sound()
+    ensures { SoundKept }
+{}
+
+/// A host that nobody has used is sound, and so is a sound host after any list of steps.
+pub fn runs_stay_sound()
+    ensures first { SoundAtFirst }
+    ensures runs { SoundRuns }
+{}
+
+/// A refused step changes nothing.
+pub fn refused_same()
+    ensures { RefusedSame }
+{}
+
+/// No step of the machine wants memory: the host alone answers ENOMEM.
+pub fn never_memory()
+    ensures { NeverMemory }
+{}

@@ -1,0 +1,135 @@
+//! Signals that kill(2) sends.
+
+ghost use Rattle.std.specs.Prelude.{◌≡◌, ℕ, ◌<◌, pos, negsuc, option_map};
+ghost use Rattle.proc_table.specs.Processes.{process_of};
+ghost use Rattle.proc_table.specs.Seen.{seen_process};
+ghost use Rattle.proc_table.specs.Walks.{next_of};
+ghost use Rattle.proc_table.specs.Kept.{IsKept};
+ghost use Rattle.trace_stop.specs.Facts.{IsSound};
+ghost use Rattle.requests.specs.Reach.{reach, post_if_live, reached, kill, next_other};
+
+use crate::Reply;
+use crate::handlers::is_live;
+use crate::stubs::post;
+use pid_blocks::{Errno, Pid, Uid};
+use proc_table::Tables;
+use signals::Pass;
+use trace_stop::Settings;
+
+/// Posts the signal to the process with this number, if it is there and live; 0 is posted to none.
+fn post_if_live(tables: &mut Tables, settings: Settings, pid: Pid, pass: Pass)
+    requires sound { IsSound tables.old.rows }
+    ensures rows { tables.new.rows ≡ post_if_live settings pass (process_of pid tables.old.rows.processes) tables.old.rows }
+    ensures sound { IsSound tables.new.rows }
+{
+    let Some(signal) = pass.signal() else {
+        return;
+    };
+    if is_live(tables, pid) {
+        post(tables, settings, pid, signal);
+    }
+}
+
+/// The number of the user's next process above a number.
+fn next_pid(tables: &Tables, user: Uid, after: u32) -> Option<Pid>
+    ensures next { result ≡ option_map (λ p. p.pid) (next_of user after tables.now.rows.processes) }
+    ensures kept { IsKept tables.now.rows }
+{
+    match tables.next_of(user, after) {
+        Some(p) => Some(p.pid),
+        None => None,
+    }
+}
+
+/// The number of the user's next process above a number, without the caller.
+fn next_other(tables: &Tables, user: Uid, caller: Pid, after: u32) -> Option<Pid>
+    ensures next { result ≡ option_map (λ p. p.pid) (next_other user caller after tables.now.rows.processes) }
+    ensures kept { IsKept tables.now.rows }
+{
+    let Some(pid) = next_pid(tables, user, after) else {
+        return None;
+    };
+    if pid == caller {
+        return next_pid(tables, user, caller.get());
+    }
+    Some(pid)
+}
+
+/// Sends the signal to the user's processes but the caller, by rising number. Refused with ESRCH where there is none.
+fn kill_others(tables: &mut Tables, settings: Settings, user: Uid, caller: Pid, pass: Pass) -> Reply
+    requires sound { IsSound tables.old.rows }
+    ensures rows { tables.new.rows ≡ (reached settings pass (reach user caller (negsuc 0) tables.old.rows) tables.old.rows).rows }
+    ensures reply { result ≡ (reached settings pass (reach user caller (negsuc 0) tables.old.rows) tables.old.rows).reply }
+{
+    let mut at = next_other(tables, user, caller, 0);
+    if at.is_none() {
+        return Reply::Errno(Errno::ESRCH);
+    }
+    while let Some(pid) = at {
+        post_if_live(tables, settings, pid, pass);
+        at = next_other(tables, user, caller, pid.get());
+    }
+    Reply::Done
+}
+
+/// The number of a process of the user, if there is one with it.
+fn seen_pid(tables: &Tables, user: Uid, number: u32) -> Option<Pid>
+    ensures seen { result ≡ option_map (λ p. p.pid) (seen_process user number tables.now.rows) }
+    ensures kept { IsKept tables.now.rows }
+{
+    match tables.seen_process(user, number) {
+        Some(p) => Some(p.pid),
+        None => None,
+    }
+}
+
+/// Sends the signal to a process of the user. Refused with ESRCH where the user has none with the number.
+fn kill_one(
+    tables: &mut Tables,
+    settings: Settings,
+    user: Uid,
+    caller: Pid,
+    number: u32,
+    pass: Pass,
+) -> Reply
+    requires sound { IsSound tables.old.rows }
+    ensures rows { tables.new.rows ≡ (reached settings pass (reach user caller (pos number) tables.old.rows) tables.old.rows).rows }
+    ensures reply { result ≡ (reached settings pass (reach user caller (pos number) tables.old.rows) tables.old.rows).reply }
+{
+    let _caller = caller.get();
+    let Some(pid) = seen_pid(tables, user, number) else {
+        return Reply::Errno(Errno::ESRCH);
+    };
+    post_if_live(tables, settings, pid, pass);
+    Reply::Done
+}
+
+/// Sends a signal for a process of the user that runs, as in kill(2): to the user's process with the number `which`,
+/// or for -1 to all others of the user by rising number. Signal 0 is sent to none. Refused with EINVAL for a signal
+/// above 31, and where `which` is 0 or below -1; with ESRCH where there is no such process.
+pub fn kill(
+    tables: &mut Tables,
+    settings: Settings,
+    user: Uid,
+    caller: Pid,
+    which: i64,
+    sig: u32,
+) -> Reply
+    requires sound { IsSound tables.old.rows }
+    ensures rows { tables.new.rows ≡ (kill settings user caller which sig tables.old.rows).rows }
+    ensures reply { result ≡ (kill settings user caller which sig tables.old.rows).reply }
+{
+    let Ok(pass) = Pass::new(sig) else {
+        return Reply::Errno(Errno::EINVAL);
+    };
+    if which == -1 {
+        return kill_others(tables, settings, user, caller, pass);
+    }
+    if which < 1 {
+        return Reply::Errno(Errno::EINVAL);
+    }
+    match u32::try_from(which) {
+        Ok(number) => kill_one(tables, settings, user, caller, number, pass),
+        Err(_) => Reply::Errno(Errno::ESRCH),
+    }
+}

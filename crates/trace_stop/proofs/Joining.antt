@@ -1,0 +1,101 @@
+-- A process with one more LWP keeps rows sound.
+use Rattle.std.proofs.Common.{◌≡◌, ℕ, ◌+◌, ◌<◌, ◌≤◌, [], ◌∷◌, Bool, true, false, cond, ◌==◌, ◌&&◌, Some, None, IfSome, refl, sym, ap, ◌∙◌, true≢false, subst, arith, eqb-true, length-set}
+use Rattle.std.specs.List.{list_any}
+use Rattle.pid_blocks.specs.Users.{IsUser}
+use Rattle.pid_blocks.specs.Blocks.{slot, tid_block, InBlock}
+use Rattle.event_masks.specs.Exits.{shows}
+use Rattle.event_masks.specs.declared.TheConstants.StopFlags.{PL_FLAG_EXITED}
+use Rattle.lwp_table.specs.declared.LwpData.{LwpData}
+use Rattle.proc_table.specs.declared.ProcData.{ProcData}
+use Rattle.proc_table.specs.Processes.{is_live, reporting, process_of}
+use Rattle.proc_table.specs.Rows.{Rows}
+use Rattle.proc_table.specs.Seen.{owns}
+use Rattle.proc_table.specs.Fresh.{is_lwp, add_lwp, lwp_count_of}
+use Rattle.proc_table.specs.Kept.{AtHome, Housed}
+use Rattle.trace_stop.specs.Sound.{names_own}
+use Rattle.trace_stop.specs.Facts.{IsLiveChild, Linked, waited_for, Standing, FitLwp, WithOwner, IsSound}
+use Rattle.trace_stop.proofs.Every.{by_bool, All-imply, All-append, find_some}
+use Rattle.trace_stop.proofs.Edited.{If_more, some_is}
+use Rattle.trace_stop.proofs.Born.{differ_new, cursors_set, count_last, count_more, any_last, cond_at_most}
+use Rattle.trace_stop.proofs.Stopping.{one_row}
+
+-- a new LWP of a live process, whose user has room for it
+pub record Joins (rows : Rows) (p : ProcData) (l : LwpData) : Type 0 where
+  pub home : process_of p.pid rows.processes ≡ Some p
+  pub live : is_live p ≡ true
+  pub own : l.pid ≡ p.pid
+  pub tid : InBlock (tid_block p.uid) l.tid
+  pub new : is_lwp rows l.tid ≡ false
+  pub few : lwp_count_of p.uid rows < 1000
+  pub here : shows l.flags PL_FLAG_EXITED ≡ false
+  pub waits : waited_for l.mode ≡ None
+  pub fits : FitLwp p l
+
+module _ (rows : Rows) (p : ProcData) (l : LwpData) (s : IsSound rows) (j : Joins rows p l) where
+  abbrev made : Rows
+  made = add_lwp p.uid l rows
+
+  owner_is : process_of l.pid rows.processes ≡ Some p
+  owner_is = ap (λ n. process_of n rows.processes) j.own ∙ j.home
+
+  user : IsUser p.uid
+  user = (find_some (λ q. q.pid == p.pid) AtHome rows.processes s.stands.homes p j.home).0.user
+
+  linked_on : (q : ProcData) → Linked rows q → Linked made q
+  linked_on q link = record {
+    tracer = link.tracer;
+    parent = link.parent;
+    other = link.other;
+    chain = link.chain;
+    named = If_more (λ tid. names_own rows q tid ≡ true) (λ tid. names_own made q tid ≡ true) (λ tid is. any_last (λ k. (k.tid == tid) && (k.pid == q.pid)) rows.lwps l is) (reporting q) link.named;
+    peopled = λ live. let some = link.peopled live in let more = count_more (λ k. k.pid == q.pid) rows.lwps l in omega (arith, some, more);
+  }
+
+  standing_on : (k : LwpData) → WithOwner rows (Standing rows) k → WithOwner made (Standing made) k
+  standing_on k h q at = let was = h q at in record {
+    live = was.live;
+    exited = λ shown. let some = was.exited shown in let more = count_more (λ i. i.pid == q.pid) rows.lwps l in omega (arith, some, more);
+    waits = was.waits;
+  }
+
+  standing_new : WithOwner made (Standing made) l
+  standing_new q at = subst (λ r. Standing made r l) (some_is p q (sym owner_is ∙ at)) (record {
+    live = j.live;
+    exited = λ shown. absurd (true≢false (sym shown ∙ j.here));
+    waits = subst (λ o. IfSome o (IsLiveChild made p)) (sym j.waits) tt;
+  })
+
+  few_lwps : (u : ℕ) → IsUser u → lwp_count_of u made ≤ 1000
+  few_lwps u its = by_user (p.uid == u) refl
+    where
+      all : lwp_count_of u made ≡ lwp_count_of u rows + cond (owns u l.pid rows.processes) 1 0
+      all = count_last (λ k. owns u k.pid rows.processes) rows.lwps l
+
+      not_own : (p.uid == u) ≡ false → owns u l.pid rows.processes ≡ false
+      not_own e = by_bool (owns u l.pid rows.processes) (λ is. true≢false (sym
+          ((find_some (λ q. q.pid == p.pid) (λ q. list_any (λ r. (r.pid == q.pid) && (r.uid == u)) rows.processes ≡ true → (q.uid == u) ≡ true) rows.processes (one_row (λ r. r.uid == u) rows.processes s.stands.rising) p j.home).0
+          (subst (λ n. owns u n rows.processes ≡ true) j.own is)) ∙ e))
+
+      by_user : (c : Bool) → (p.uid == u) ≡ c → lwp_count_of u made ≤ 1000
+      by_user true e = let most : lwp_count_of u rows < 1000 = subst (λ w. lwp_count_of w rows < 1000) (eqb-true p.uid u e) j.few in let one = cond_at_most (owns u l.pid rows.processes) in omega (arith, all, most, one)
+      by_user false e = let most = s.stands.few_lwps u its in let none : cond {A = ℕ} (owns u l.pid rows.processes) 1 0 ≡ 0 = rw (not_own e) refl in omega (arith, all, most, none)
+
+  pub joined_sound : IsSound made
+  joined_sound = record {
+    stands = record {
+      rising = s.stands.rising;
+      differ = differ_new rows l s.stands.differ j.new;
+      homes = s.stands.homes;
+      housed = All-append (Housed made) rows.lwps (l ∷ []) s.stands.housed ((p, owner_is, j.tid), tt);
+      pid_slots = s.stands.pid_slots;
+      tid_slots = length-set rows.tid_cursors (slot p.uid) _ ∙ s.stands.tid_slots;
+      pid_cursors = s.stands.pid_cursors;
+      tid_cursors = cursors_set tid_block rows.tid_cursors p.uid l.tid user s.stands.tid_slots j.tid (omega arith) s.stands.tid_cursors;
+      few_processes = s.stands.few_processes;
+      few_lwps = few_lwps;
+      linked = All-imply (Linked rows) (Linked made) linked_on rows.processes s.stands.linked;
+      standing = All-append (WithOwner made (Standing made)) rows.lwps (l ∷ []) (All-imply (WithOwner rows (Standing rows)) (WithOwner made (Standing made)) standing_on rows.lwps s.stands.standing) (standing_new, tt);
+    };
+    processes = s.processes;
+    lwps = All-append (WithOwner made FitLwp) rows.lwps (l ∷ []) s.lwps ((λ q at. subst (λ r. FitLwp r l) (some_is p q (sym owner_is ∙ at)) j.fits), tt);
+  }
