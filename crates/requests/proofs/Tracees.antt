@@ -1,5 +1,5 @@
 -- A stopped tracee in sound rows, and changes of its row and of its LWPs.
-use Rattle.std.proofs.Common.{◌≡◌, ◌≢◌, ℕ, ◌≤◌, ◌==◌, leb, arith, eqb-true, Bool, true, false, if◌then◌else◌, Option, Some, None, is_some, refl, sym, ap, ◌∙◌, true≢false, eqb, subst, eq-eqb, filter_map}
+use Rattle.std.proofs.Common.{◌≡◌, ℕ, ◌≤◌, ◌==◌, leb, arith, eqb-true, true, false, if◌then◌else◌, Option, Some, None, is_some, refl, sym, ap, ◌∙◌, true≢false, eqb, subst, eq-eqb}
 use Rattle.std.specs.Prelude.{IsSomeAnd}
 use Rattle.std.proofs.lemmas.Bool.Decides.{nat_tests}
 use Rattle.event_masks.specs.declared.EventMask.{EventMask}
@@ -9,12 +9,12 @@ use Rattle.lwp_table.specs.Lwps.{lwp_of, Differ}
 use Rattle.proc_table.specs.declared.ProcData.{ProcData}
 use Rattle.proc_table.specs.declared.State.{State}
 use Rattle.proc_table.specs.declared.State.TheVariants.{Run, Trace, Job, Zombie}
-use Rattle.proc_table.specs.Processes.{process_of, is_live, named_by, reporting, is_zombie_state}
+use Rattle.proc_table.specs.Processes.{process_of, named_by, reporting, is_zombie_state}
 use Rattle.proc_table.specs.Rows.{Rows, change_process, change_lwp}
 use Rattle.proc_table.specs.Edits.{map_lwps}
 use Rattle.proc_table.specs.Fresh.{lwp_count, lwp_count_of}
 use Rattle.proc_table.specs.Seen.{owns}
-use Rattle.proc_table.specs.Kept.{Rise, IsRow, AtHome, set_process, set_lwp}
+use Rattle.proc_table.specs.Kept.{Rise, IsRow, AtHome, set_lwp}
 use Rattle.proc_table.proofs.Seen.{owns-kept}
 use Rattle.proc_table.proofs.Rows.{found_row, lwp_of-tid}
 use Rattle.proc_table.proofs.Every.{every_found, some_and}

@@ -19,7 +19,7 @@ ghost use Rattle.requests.specs.Commands.{command, with_signal};
 ghost use Rattle.requests.specs.Memory.{lists, is_refusal};
 
 use crate::stubs::{clear_stepping, detach, resume};
-use crate::tracing::{attach, trace_me};
+use crate::tracers::{attach, trace_me};
 use crate::{Reply, Request};
 use event_masks::EventMask;
 use lwp_table::LwpData;

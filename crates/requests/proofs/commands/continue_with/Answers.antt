@@ -1,4 +1,4 @@
-use Rattle.std.proofs.Common.{◌≡◌, ◌≤◌, refl, sym, subst}
+use Rattle.std.proofs.Common.{refl, sym, subst}
 use Rattle.proc_table.specs.Kept.{IsRow}
 use Rattle.proc_table.specs.Rows.{Rows}
 use Rattle.requests.specs.Ptrace.{not_stepping, set_mask}

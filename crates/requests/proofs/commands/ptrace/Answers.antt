@@ -1,9 +1,7 @@
-use Rattle.std.proofs.Common.{◌≡◌, ℕ, Bool, true, false, leb, if◌then◌else◌, Some, sym, ap, ◌∙◌, subst}
+use Rattle.std.proofs.Common.{◌≡◌, sym, ap, ◌∙◌, subst}
 use Rattle.std.specs.Prelude.{IsSomeAnd, not}
 use Rattle.lwp_table.specs.Lwps.{lwp_of}
-use Rattle.proc_table.specs.Processes.{is_live, traces}
 use Rattle.requests.specs.Commands.{command}
-use Rattle.requests.specs.Ptrace.{is_trace_me, is_attach, target_of, told_stop}
 use Rattle.requests.proofs.Asked.{target_within, named_own, reporting_own, asks_tracee}
 use Rattle.requests.proofs.Tracees.{same_outcome}
 use Rattle.requests.proofs.commands.ptrace.Goals as goal

@@ -1,7 +1,5 @@
-use Rattle.std.proofs.Common.{◌≡◌, ◌≤◌, refl, sym, subst}
 use Rattle.proc_table.proofs.Rows.{found_row}
 use Rattle.requests.specs.Ptrace.{stepping}
-use Rattle.requests.proofs.Masks.{Tracee, OwnLwp}
 use Rattle.trace_stop.specs.Stop.{resume}
 use Rattle.requests.specs.declared.Reply.TheVariants as reply
 use Rattle.requests.proofs.Tracees.{signalled, is_tracee, own_lwp, still_there, stepping_ready}

@@ -4,7 +4,7 @@ use Rattle.proc_table.specs.Processes.{process_of}
 use Rattle.proc_table.specs.Kept.{Named}
 use Rattle.proc_table.proofs.Every.{every_found}
 use Rattle.proc_table.proofs.Rows.{process_of-pid, found_row, row_found}
-use Rattle.requests.proofs.tracing.parent_of.Goals as goal
+use Rattle.requests.proofs.tracers.parent_of.Goals as goal
 
 pub returns-in-Some : goal.returns-in-Some
 returns-in-Some c =

@@ -1,6 +1,6 @@
 use Rattle.std.proofs.Common.{◌≡◌, ◌-◌}
 use Rattle.trace_stop.specs.End.{meets}
-use Rattle.requests.proofs.tracing.closes_chain.Given as goal
+use Rattle.requests.proofs.tracers.closes_chain.Given as goal
 
 -- what is left of the links gives the answer of the whole
 abbrev pub invariant-loop-links : goal.invariant-loop-links

@@ -3,7 +3,7 @@ use Rattle.proc_table.specs.Kept.{Named, set_process}
 use Rattle.proc_table.proofs.Every.{every_found}
 use Rattle.proc_table.proofs.Changes.{change_process-at}
 use Rattle.requests.specs.Ptrace.{traced_by}
-use Rattle.requests.proofs.tracing.trace.Goals as goal
+use Rattle.requests.proofs.tracers.trace.Goals as goal
 
 pub set_process-requires-clause-named : goal.set_process-requires-clause-named
 set_process-requires-clause-named c =

@@ -2,7 +2,7 @@ use Rattle.std.proofs.Common.{◌≡◌, ◌-◌, ◌+◌, ◌<◌, None, true, 
 use Rattle.std.specs.Prelude.{◌==◌}
 use Rattle.trace_stop.specs.End.{meets}
 use Rattle.requests.proofs.Links.{meets-none, meets-here, meets-next, meets-over}
-use Rattle.requests.proofs.tracing.closes_chain.Goals as goal
+use Rattle.requests.proofs.tracers.closes_chain.Goals as goal
 
 pub returns-in_default : goal.returns-in_default
 returns-in_default c =

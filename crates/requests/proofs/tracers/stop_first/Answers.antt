@@ -1,6 +1,6 @@
-use Rattle.std.proofs.Common.{◌≡◌, IfSome}
+use Rattle.std.proofs.Common.{IfSome}
 use Rattle.proc_table.proofs.LwpWalk.{IsLwp, first-found}
-use Rattle.requests.proofs.tracing.stop_first.Goals as goal
+use Rattle.requests.proofs.tracers.stop_first.Goals as goal
 
 pub stop-requires-in-Some-clause-lwp : goal.stop-requires-in-Some-clause-lwp
 stop-requires-in-Some-clause-lwp c =

@@ -1,10 +1,10 @@
-use Rattle.std.proofs.Common.{◌≡◌, Some, subst, sym, refl}
+use Rattle.std.proofs.Common.{subst, sym, refl}
 use Rattle.proc_table.specs.Kept.{IsRow}
 use Rattle.proc_table.specs.Rows.{Rows}
 use Rattle.proc_table.proofs.Rows.{found_row}
 use Rattle.requests.specs.Ptrace.{traced_by}
 use Rattle.requests.proofs.Tracees.{row_changed}
-use Rattle.requests.proofs.tracing.attach.Goals as goal
+use Rattle.requests.proofs.tracers.attach.Goals as goal
 
 pub trace-requires-clause-tracer : goal.trace-requires-clause-tracer
 trace-requires-clause-tracer c = found_row c.args.caller.now.pid c.args.caller.now c.args.tables.now.rows.processes c.requires.caller
