@@ -11,13 +11,15 @@ use Rattle.requests.specs.declared.Reply.TheVariants as reply
 use Rattle.requests.specs.Outcome.{Outcome, answers}
 use Rattle.requests.specs.Machine.{Installed, Machine, After, after}
 use Rattle.requests.specs.Memory.{takes_memory, is_refusal, may_want}
+use Rattle.requests.specs.Laws.{step_fits}
 use Rattle.requests.specs.Sound.{sound}
 use Rattle.requests.specs.Step.{step, caller_of}
 use Rattle.requests.specs.Callers.{Barred}
 use Rattle.requests.proofs.After.{all_left, answers_same}
 use Rattle.requests.proofs.Drops.{left_in, kept_by, drops}
 use Rattle.requests.proofs.Replies.{cases_memory}
-use Rattle.requests.proofs.Pending.{never_memory, stays_sound, refused_same}
+use Rattle.requests.proofs.Refusing.{never_memory, refused_same}
+use Rattle.requests.proofs.StaysSound.{sound_kept}
 
 -- the clauses of a step
 pub record Finished (u : ℕ) (s : PlainStep) (m n : Machine) (r : Reply) : Type 0 where
@@ -31,7 +33,7 @@ pub record Did (u : ℕ) (s : PlainStep) (m : Machine) (o : Outcome) (rows : Row
   pub machine : r ≢ reply.Errno errno.ENOMEM → (rows ≡ o.rows) × (r ≡ o.reply)
   pub memory : r ≡ reply.Errno errno.ENOMEM → (rows ≡ m.rows) × (takes_memory u s m ≡ true) × (is_refusal o.reply ≡ false)
 
-module _ (u : ℕ) (s : PlainStep) (m : Machine) (user : IsUser u) (is : sound m ≡ true) where
+module _ (u : ℕ) (s : PlainStep) (m : Machine) (user : IsUser u) (is : sound m ≡ true) (fits : step_fits s ≡ true) where
   pub from_machine : (n : Machine) (r : Reply) → (r ≢ reply.Errno errno.ENOMEM → (n ≡ (step u s m).machine) × (r ≡ (step u s m).reply)) → (r ≡ reply.Errno errno.ENOMEM → (n ≡ m) × (may_want u s m ≡ true)) → Finished u s m n r
   from_machine n r machine memory = record {
     machine = machine;
@@ -42,7 +44,7 @@ module _ (u : ℕ) (s : PlainStep) (m : Machine) (user : IsUser u) (is : sound m
     ];
     sound = elim (cases_memory r) [
       | inl e ↦ subst (λ x. sound x ≡ true) (sym (memory e).0) is
-      | inr e ↦ subst (λ x. sound x ≡ true) (sym (machine e).0) (stays_sound u s m user is)
+      | inr e ↦ subst (λ x. sound x ≡ true) (sym (machine e).0) (sound_kept u user s fits m is)
     ];
   }
 

@@ -29,7 +29,6 @@ pub mod Actors
 pub mod Drops
 pub mod Called
 pub mod Finished
-pub mod Pending
 pub mod Installing
 pub mod Acting
 pub mod Masks
@@ -39,7 +38,7 @@ pub mod Links
 pub mod Signals
 pub mod Programs
 pub mod Attaching
-pub mod Tracing
+pub mod Traced
 pub mod Lwps
 pub mod Execs
 pub mod Exits

@@ -7,7 +7,7 @@ use Rattle.requests.proofs.Born.{spawn_sound, list_sound}
 use Rattle.requests.proofs.Steps.{sigaction_sound, wait_sound}
 use Rattle.requests.proofs.Kills.{kill_sound, install_sound}
 use Rattle.requests.proofs.Handling.{handle_sound}
-use Rattle.requests.proofs.Tracing.{ptrace_sound}
+use Rattle.requests.proofs.Traced.{ptrace_sound}
 use Rattle.requests.proofs.Turns.{turn_sound}
 
 pub sound_kept : SoundKept

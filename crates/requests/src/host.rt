@@ -5,6 +5,7 @@ ghost use Rattle.pid_blocks.specs.declared.Errno.TheVariants as errno;
 ghost use Rattle.requests.specs.declared.Reply.TheVariants as reply;
 ghost use Rattle.requests.specs.declared.PlainStep.TheVariants as op;
 ghost use Rattle.requests.specs.Callers.{Calls, Barred};
+ghost use Rattle.requests.specs.Laws.{act_fits};
 ghost use Rattle.requests.specs.Machine.{empty, installed_by};
 ghost use Rattle.requests.specs.Memory.{is_refusal, may_want};
 ghost use Rattle.requests.specs.Plain.{plain};
@@ -12,11 +13,15 @@ ghost use Rattle.requests.specs.Sound.{sound};
 ghost use Rattle.requests.specs.Step.{step};
 
 use crate::handlers::HandlerTable;
-use crate::handling::handle;
+use crate::deciding::handle;
 use crate::spawns::spawn;
 use crate::lists::pids_of;
-use crate::parts::{kill, ptrace, sigaction, turn, wait};
+use crate::calls::{sigaction, wait};
+use crate::commands::ptrace;
+use crate::sends::kill;
+use crate::parts::turn;
 use crate::{Act, Reply, Request, Step};
+use event_masks::Call;
 use pid_blocks::{Errno, Pid, Uid};
 use proc_table::{ProcData, Tables};
 use signals::Disposition;
@@ -25,6 +30,15 @@ use std::marker::Model;
 use stop_handlers::{Decider, Handler, Policy};
 use trace_stop::Settings;
 use wait4::Options;
+
+/// The code of an exit is a byte; for proofs.
+fn exit_fits(act: &Act)
+    ensures { act_fits act.now ≡ true }
+{
+    if let Act::Enter(Call::Exit(code)) = act {
+        let _byte = *code;
+    }
+}
 
 /// A host: its rows of processes and LWPs, what debuggers have installed, and its settings.
 #[derive(Drop)]
@@ -109,6 +123,7 @@ impl<F: Decider + Send + Drop> Host<F> {
         ensures sound { sound self.new ≡ true }
     {
         let _user = user.get();
+        exit_fits(&act);
         let reply = turn(&mut self.tables, self.settings, user, tid, act);
         self.handlers.drop_ended(user, &self.tables);
         reply

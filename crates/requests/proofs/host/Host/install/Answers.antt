@@ -22,12 +22,12 @@ use Rattle.requests.proofs.host.Host.install.Goals as goal
 pub returns-in-Err-clause-machine : goal.returns-in-Err-clause-machine
 returns-in-Err-clause-machine g c =
     let is : sound c.args.self.now ≡ true = rw (← c.self.view_is) c.self.invariant in
-    (barred c.args.user (op.Install c.args.caller c.args.handler) c.args.self.now c.get-user.ensures.user is c.args.caller c.in-Err.refusal refl c.in-Err.ensures.barred).machine
+    (barred c.args.user (op.Install c.args.caller c.args.handler) c.args.self.now c.get-user.ensures.user is refl c.args.caller c.in-Err.refusal refl c.in-Err.ensures.barred).machine
 
 pub returns-in-Err-clause-memory : goal.returns-in-Err-clause-memory
 returns-in-Err-clause-memory g c =
     let is : sound c.args.self.now ≡ true = rw (← c.self.view_is) c.self.invariant in
-    (barred c.args.user (op.Install c.args.caller c.args.handler) c.args.self.now c.get-user.ensures.user is c.args.caller c.in-Err.refusal refl c.in-Err.ensures.barred).memory
+    (barred c.args.user (op.Install c.args.caller c.args.handler) c.args.self.now c.get-user.ensures.user is refl c.args.caller c.in-Err.refusal refl c.in-Err.ensures.barred).memory
 
 pub returns-in-Err-clause-sound : goal.returns-in-Err-clause-sound
 returns-in-Err-clause-sound g c = rw (← c.self.view_is) c.self.invariant
@@ -39,7 +39,7 @@ returns-then-count-ge64-clause-machine g c =
     let is : sound m ≡ true = rw (← c.self.view_is) c.self.invariant in
     let by : Calls c.args.user c.args.caller m.rows c.in-Ok.caller = c.in-Ok.ensures.found in
     let many : 64 ≤ length (installed_by c.args.user m) = subst (λ x. 64 ≤ length (installed_by c.args.user x)) c.self.view_is (subst (λ n. 64 ≤ n) c.count.ensures c.if-count-ge64.true) in
-    (refuses_at c.args.user (op.Install c.args.caller c.args.handler) m c.get-user.ensures.user is (reply.Errno errno.EAGAIN) (other (reply.Errno errno.EAGAIN) refl)
+    (refuses_at c.args.user (op.Install c.args.caller c.args.handler) m c.get-user.ensures.user is refl (reply.Errno errno.EAGAIN) (other (reply.Errno errno.EAGAIN) refl)
     (called c.args.user c.args.caller (op.Install c.args.caller c.args.handler) m refl c.in-Ok.caller by.seen by.live by.runs ∙ rw (le-leb 64 (length (installed_by c.args.user m)) many) refl)).machine
 
 pub returns-then-count-ge64-clause-sound : goal.returns-then-count-ge64-clause-sound
@@ -55,11 +55,11 @@ done g c =
       called c.args.user c.args.caller (op.Install c.args.caller c.args.handler) m refl c.in-Ok.caller by.seen by.live by.runs ∙ rw (few_leb (length (installed_by c.args.user m)) few) refl in
     elim c.match-install.branch [
       | in-Ok-install w ↦ subst (λ r. Finished c.args.user (op.Install c.args.caller c.args.handler) m (machine_of c.self.inside.settings c.self.inside.tables c.install.new.self) r) (sym w.result-is)
-          (from_machine c.args.user (op.Install c.args.caller c.args.handler) m c.get-user.ensures.user c.self.invariant (machine_of c.self.inside.settings c.self.inside.tables c.install.new.self) reply.Done
+          (from_machine c.args.user (op.Install c.args.caller c.args.handler) m c.get-user.ensures.user c.self.invariant refl (machine_of c.self.inside.settings c.self.inside.tables c.install.new.self) reply.Done
           (λ ok. (ap (λ x. record m { installed = x }) w.in-Ok-install.ensures.done ∙ sym (ap (λ a. a.machine) at), sym (ap (λ a. a.reply) at))) (λ e. absurd (other reply.Done refl e)))
       | in-Err-install w ↦ subst (λ r. Finished c.args.user (op.Install c.args.caller c.args.handler) m (machine_of c.self.inside.settings c.self.inside.tables c.install.new.self) r) (sym w.result-is)
           (subst (λ x. Finished c.args.user (op.Install c.args.caller c.args.handler) m (machine_of c.self.inside.settings c.self.inside.tables x) (reply.Errno errno.ENOMEM)) (sym w.in-Err-install.ensures.refused)
-          (wants_at c.args.user (op.Install c.args.caller c.args.handler) m c.get-user.ensures.user c.self.invariant (ap (λ a. not (is_refusal a.reply)) at)))
+          (wants_at c.args.user (op.Install c.args.caller c.args.handler) m c.get-user.ensures.user c.self.invariant refl (ap (λ a. not (is_refusal a.reply)) at)))
     ]
 
 pub invariant_of-self : goal.invariant_of-self

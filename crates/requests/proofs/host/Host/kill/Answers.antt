@@ -15,12 +15,12 @@ use Rattle.requests.proofs.host.Host.kill.Goals as goal
 pub returns-in-Err-clause-machine : goal.returns-in-Err-clause-machine
 returns-in-Err-clause-machine g c =
     let is : sound c.args.self.now ≡ true = rw (← c.self.view_is) c.self.invariant in
-    (barred c.args.user (op.Kill c.args.caller c.args.which c.args.sig) c.args.self.now c.get-user.ensures.user is c.args.caller c.in-Err.refusal refl c.in-Err.ensures.barred).machine
+    (barred c.args.user (op.Kill c.args.caller c.args.which c.args.sig) c.args.self.now c.get-user.ensures.user is refl c.args.caller c.in-Err.refusal refl c.in-Err.ensures.barred).machine
 
 pub returns-in-Err-clause-memory : goal.returns-in-Err-clause-memory
 returns-in-Err-clause-memory g c =
     let is : sound c.args.self.now ≡ true = rw (← c.self.view_is) c.self.invariant in
-    (barred c.args.user (op.Kill c.args.caller c.args.which c.args.sig) c.args.self.now c.get-user.ensures.user is c.args.caller c.in-Err.refusal refl c.in-Err.ensures.barred).memory
+    (barred c.args.user (op.Kill c.args.caller c.args.which c.args.sig) c.args.self.now c.get-user.ensures.user is refl c.args.caller c.in-Err.refusal refl c.in-Err.ensures.barred).memory
 
 pub returns-in-Err-clause-sound : goal.returns-in-Err-clause-sound
 returns-in-Err-clause-sound g c = rw (← c.self.view_is) c.self.invariant
@@ -39,7 +39,7 @@ done g c =
     let m : Machine = machine_of c.self.inside.settings c.self.inside.tables c.self.inside.handlers in
     let by : Calls c.args.user c.args.caller m.rows c.in-Ok.caller = subst (λ x. Calls c.args.user c.args.caller x.rows c.in-Ok.caller) (sym c.self.view_is) c.in-Ok.ensures.found in
     let back = to_z-of_z w64 c.args.which (c.ranges.which) in
-    finished_rows c.args.user (op.Kill c.args.caller c.args.which c.args.sig) m c.get-user.ensures.user c.self.invariant (kill m.settings c.args.user c.in-Ok.caller.pid c.args.which c.args.sig m.rows) c.kill-reply.new.tables.rows c.drop_ended.new.self c.kill-reply.result c.drop_ended.ensures
+    finished_rows c.args.user (op.Kill c.args.caller c.args.which c.args.sig) m c.get-user.ensures.user c.self.invariant refl (kill m.settings c.args.user c.in-Ok.caller.pid c.args.which c.args.sig m.rows) c.kill-reply.new.tables.rows c.drop_ended.new.self c.kill-reply.result c.drop_ended.ensures
     (called c.args.user c.args.caller (op.Kill c.args.caller c.args.which c.args.sig) m refl c.in-Ok.caller by.seen by.live by.runs)
     (c.kill-reply.ensures.rows ∙ ap (λ w. (kill m.settings c.args.user c.in-Ok.caller.pid w c.args.sig m.rows).rows) back) (c.kill-reply.ensures.reply ∙ ap (λ w. (kill m.settings c.args.user c.in-Ok.caller.pid w c.args.sig m.rows).reply) back)
 

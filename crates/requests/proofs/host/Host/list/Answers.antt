@@ -20,12 +20,12 @@ use Rattle.requests.proofs.host.Host.list.Goals as goal
 pub returns-in-Err-clause-machine : goal.returns-in-Err-clause-machine
 returns-in-Err-clause-machine g c =
     let is : sound c.args.self.now ≡ true = rw (← c.self.view_is) c.self.invariant in
-    (barred c.args.user (op.List c.args.caller) c.args.self.now c.get-user.ensures.user is c.args.caller c.in-Err.refusal refl c.in-Err.ensures.barred).machine
+    (barred c.args.user (op.List c.args.caller) c.args.self.now c.get-user.ensures.user is refl c.args.caller c.in-Err.refusal refl c.in-Err.ensures.barred).machine
 
 pub returns-in-Err-clause-memory : goal.returns-in-Err-clause-memory
 returns-in-Err-clause-memory g c =
     let is : sound c.args.self.now ≡ true = rw (← c.self.view_is) c.self.invariant in
-    (barred c.args.user (op.List c.args.caller) c.args.self.now c.get-user.ensures.user is c.args.caller c.in-Err.refusal refl c.in-Err.ensures.barred).memory
+    (barred c.args.user (op.List c.args.caller) c.args.self.now c.get-user.ensures.user is refl c.args.caller c.in-Err.refusal refl c.in-Err.ensures.barred).memory
 
 pub returns-in-Err-clause-sound : goal.returns-in-Err-clause-sound
 returns-in-Err-clause-sound g c = rw (← c.self.view_is) c.self.invariant
@@ -40,8 +40,8 @@ done g c =
     elim c.match-pids_of.branch [
       | in-Ok-pids_of w ↦
           let listed : w.in-Ok-pids_of.pids ≡ map (λ p. p.pid) (of_user c.args.user m.rows.processes) = w.in-Ok-pids_of.ensures ∙ ap (λ x. map (λ p. p.pid) (of_user c.args.user x.rows.processes)) c.self.view_is in
-          subst (λ r. Finished c.args.user (op.List c.args.caller) m m r) (ap reply.Pids (sym listed) ∙ sym w.result-is) (refuses_at c.args.user (op.List c.args.caller) m c.get-user.ensures.user is (list c.args.user m.rows).reply (other (list c.args.user m.rows).reply refl) at)
-      | in-Err-pids_of w ↦ subst (λ r. Finished c.args.user (op.List c.args.caller) m m r) (sym w.result-is) (wants_at c.args.user (op.List c.args.caller) m c.get-user.ensures.user is (ap (λ a. not (is_refusal a.reply)) at))
+          subst (λ r. Finished c.args.user (op.List c.args.caller) m m r) (ap reply.Pids (sym listed) ∙ sym w.result-is) (refuses_at c.args.user (op.List c.args.caller) m c.get-user.ensures.user is refl (list c.args.user m.rows).reply (other (list c.args.user m.rows).reply refl) at)
+      | in-Err-pids_of w ↦ subst (λ r. Finished c.args.user (op.List c.args.caller) m m r) (sym w.result-is) (wants_at c.args.user (op.List c.args.caller) m c.get-user.ensures.user is refl (ap (λ a. not (is_refusal a.reply)) at))
     ]
 
 pub returns-clause-machine : goal.returns-clause-machine

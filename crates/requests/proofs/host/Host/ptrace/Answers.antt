@@ -14,12 +14,12 @@ use Rattle.requests.proofs.host.Host.ptrace.Goals as goal
 pub returns-in-Err-clause-machine : goal.returns-in-Err-clause-machine
 returns-in-Err-clause-machine g c =
     let is : sound c.args.self.now ≡ true = rw (← c.self.view_is) c.self.invariant in
-    (barred c.args.user (op.Ptrace c.args.caller c.args.request c.args.target c.args.arg) c.args.self.now c.get-user.ensures.user is c.args.caller c.in-Err.refusal refl c.in-Err.ensures.barred).machine
+    (barred c.args.user (op.Ptrace c.args.caller c.args.request c.args.target c.args.arg) c.args.self.now c.get-user.ensures.user is refl c.args.caller c.in-Err.refusal refl c.in-Err.ensures.barred).machine
 
 pub returns-in-Err-clause-memory : goal.returns-in-Err-clause-memory
 returns-in-Err-clause-memory g c =
     let is : sound c.args.self.now ≡ true = rw (← c.self.view_is) c.self.invariant in
-    (barred c.args.user (op.Ptrace c.args.caller c.args.request c.args.target c.args.arg) c.args.self.now c.get-user.ensures.user is c.args.caller c.in-Err.refusal refl c.in-Err.ensures.barred).memory
+    (barred c.args.user (op.Ptrace c.args.caller c.args.request c.args.target c.args.arg) c.args.self.now c.get-user.ensures.user is refl c.args.caller c.in-Err.refusal refl c.in-Err.ensures.barred).memory
 
 pub returns-in-Err-clause-sound : goal.returns-in-Err-clause-sound
 returns-in-Err-clause-sound g c = rw (← c.self.view_is) c.self.invariant
@@ -37,7 +37,7 @@ done : (g : Over) (c : goal.After-drop_ended g) → Finished c.args.user (op.Ptr
 done g c =
     let m : Machine = machine_of c.self.inside.settings c.self.inside.tables c.self.inside.handlers in
     let by : Calls c.args.user c.args.caller m.rows c.in-Ok.caller = subst (λ x. Calls c.args.user c.args.caller x.rows c.in-Ok.caller) (sym c.self.view_is) c.in-Ok.ensures.found in
-    finished_with c.args.user (op.Ptrace c.args.caller c.args.request c.args.target c.args.arg) m c.get-user.ensures.user c.self.invariant (ptrace m.settings c.args.user c.in-Ok.caller c.args.request c.args.target c.args.arg m.rows) c.ptrace-reply.new.tables.rows c.drop_ended.new.self c.ptrace-reply.result c.drop_ended.ensures
+    finished_with c.args.user (op.Ptrace c.args.caller c.args.request c.args.target c.args.arg) m c.get-user.ensures.user c.self.invariant refl (ptrace m.settings c.args.user c.in-Ok.caller c.args.request c.args.target c.args.arg m.rows) c.ptrace-reply.new.tables.rows c.drop_ended.new.self c.ptrace-reply.result c.drop_ended.ensures
     (called c.args.user c.args.caller (op.Ptrace c.args.caller c.args.request c.args.target c.args.arg) m refl c.in-Ok.caller by.seen by.live by.runs)
     (record { machine = c.ptrace-reply.ensures.machine; memory = c.ptrace-reply.ensures.memory })
 

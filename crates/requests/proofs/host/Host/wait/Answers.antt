@@ -15,12 +15,12 @@ use Rattle.requests.proofs.host.Host.wait.Goals as goal
 pub returns-in-Err-clause-machine : goal.returns-in-Err-clause-machine
 returns-in-Err-clause-machine g c =
     let is : sound c.args.self.now ≡ true = rw (← c.self.view_is) c.self.invariant in
-    (barred c.args.user (op.Wait4 c.args.caller c.args.which c.args.options) c.args.self.now c.get-user.ensures.user is c.args.caller c.in-Err.refusal refl c.in-Err.ensures.barred).machine
+    (barred c.args.user (op.Wait4 c.args.caller c.args.which c.args.options) c.args.self.now c.get-user.ensures.user is refl c.args.caller c.in-Err.refusal refl c.in-Err.ensures.barred).machine
 
 pub returns-in-Err-clause-memory : goal.returns-in-Err-clause-memory
 returns-in-Err-clause-memory g c =
     let is : sound c.args.self.now ≡ true = rw (← c.self.view_is) c.self.invariant in
-    (barred c.args.user (op.Wait4 c.args.caller c.args.which c.args.options) c.args.self.now c.get-user.ensures.user is c.args.caller c.in-Err.refusal refl c.in-Err.ensures.barred).memory
+    (barred c.args.user (op.Wait4 c.args.caller c.args.which c.args.options) c.args.self.now c.get-user.ensures.user is refl c.args.caller c.in-Err.refusal refl c.in-Err.ensures.barred).memory
 
 pub returns-in-Err-clause-sound : goal.returns-in-Err-clause-sound
 returns-in-Err-clause-sound g c = rw (← c.self.view_is) c.self.invariant
@@ -31,7 +31,7 @@ wait-reply-requires g c =
     let by : Calls c.args.user c.args.caller m.rows c.in-Ok.caller = subst (λ x. Calls c.args.user c.args.caller x.rows c.in-Ok.caller) (sym c.self.view_is) c.in-Ok.ensures.found in
     let is = rows_sound m c.self.invariant in
     let caller = is_caller c.args.user c.args.caller m.rows c.in-Ok.caller is.stands.rising by in
-    record { sound = is; caller = record { at = caller.at; own = refl; runs = caller.runs } }
+    record { sound = is; live = caller_live c.args.user m.rows c.in-Ok.caller is.stands.rising caller }
 
 done : (g : Over) (c : goal.After-drop_ended g) → Finished c.args.user (op.Wait4 c.args.caller c.args.which c.args.options) (machine_of c.self.inside.settings c.self.inside.tables c.self.inside.handlers)
     (machine_of c.self.inside.settings c.wait-reply.new.tables c.drop_ended.new.self) c.wait-reply.result
@@ -39,7 +39,7 @@ done g c =
     let m : Machine = machine_of c.self.inside.settings c.self.inside.tables c.self.inside.handlers in
     let by : Calls c.args.user c.args.caller m.rows c.in-Ok.caller = subst (λ x. Calls c.args.user c.args.caller x.rows c.in-Ok.caller) (sym c.self.view_is) c.in-Ok.ensures.found in
     let back = to_z-of_z w64 c.args.which (c.ranges.which) in
-    finished_rows c.args.user (op.Wait4 c.args.caller c.args.which c.args.options) m c.get-user.ensures.user c.self.invariant (wait c.in-Ok.caller c.args.which c.args.options m.rows) c.wait-reply.new.tables.rows c.drop_ended.new.self c.wait-reply.result c.drop_ended.ensures
+    finished_rows c.args.user (op.Wait4 c.args.caller c.args.which c.args.options) m c.get-user.ensures.user c.self.invariant refl (wait c.in-Ok.caller c.args.which c.args.options m.rows) c.wait-reply.new.tables.rows c.drop_ended.new.self c.wait-reply.result c.drop_ended.ensures
     (called c.args.user c.args.caller (op.Wait4 c.args.caller c.args.which c.args.options) m refl c.in-Ok.caller by.seen by.live by.runs)
     (c.wait-reply.ensures.rows ∙ ap (λ w. (wait c.in-Ok.caller w c.args.options m.rows).rows) back) (c.wait-reply.ensures.reply ∙ ap (λ w. (wait c.in-Ok.caller w c.args.options m.rows).reply) back)
 

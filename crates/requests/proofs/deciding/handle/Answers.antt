@@ -1,4 +1,4 @@
-use Rattle.requests.proofs.handling.handle.Goals as goal
+use Rattle.requests.proofs.deciding.handle.Goals as goal
 
 pub returns-clause-rows : goal.returns-clause-rows
 returns-clause-rows g c = ?
