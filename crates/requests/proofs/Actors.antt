@@ -22,11 +22,12 @@ use Rattle.proc_table.proofs.Changes.{changed, changed_lwp, filter_map-map}
 use Rattle.proc_table.proofs.Stays.{changed-pid, changed_lwp-keeps, own_lwp-keeps}
 use Rattle.trace_stop.specs.Laws.{is_live_at}
 use Rattle.trace_stop.proofs.Every.{and_left, any_more, find_some}
+use Rattle.trace_stop.proofs.Stopping.{own_lwps}
 use Rattle.trace_stop.proofs.Stops.{find_passes}
 use Rattle.signals.specs.Sets.{has, bit, without}
 use Rattle.trace_stop.specs.Facts.{IsSound}
 use Rattle.requests.specs.Turn.{without_signal}
-use Rattle.requests.proofs.Acting.{choose, Acting, own_lwps}
+use Rattle.requests.proofs.Acting.{choose, Acting}
 use Rattle.requests.proofs.Signals.{taken_alike}
 use Rattle.signals.specs.Table.{SIGCHLD}
 use Rattle.trace_stop.specs.Post.{settled_process, settled_lwp, settle, posted_process, posted_lwp, notified}

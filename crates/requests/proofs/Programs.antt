@@ -20,8 +20,7 @@ use Rattle.trace_stop.specs.End.{waits_where, released}
 use Rattle.trace_stop.specs.Facts.{IsLiveChild, waited_for, Standing, WithOwner, IsSound}
 use Rattle.trace_stop.proofs.Children.{child_test, child_from}
 use Rattle.trace_stop.proofs.Every.{All-imply, All-both, any_holds, find_some}
-use Rattle.trace_stop.proofs.Stopping.{the_row, the_lwp}
-use Rattle.requests.proofs.Acting.{own_lwps}
+use Rattle.trace_stop.proofs.Stopping.{the_row, the_lwp, own_lwps}
 use Rattle.requests.proofs.Actors.{has-process_changed, has-lwps_mapped}
 use Rattle.requests.specs.Actors.{IsActing, HasLwp}
 use Rattle.requests.specs.Programs.{is_other, only_lwp, parent_freed}
