@@ -12,14 +12,14 @@ ghost use Rattle.requests.specs.Plain.{plain};
 ghost use Rattle.requests.specs.Sound.{sound};
 ghost use Rattle.requests.specs.Step.{step};
 
+use crate::handlers::HandlerTable;
+use crate::deciding::handle;
+use crate::spawns::spawn;
+use crate::lists::pids_of;
 use crate::calls::{sigaction, wait};
 use crate::commands::ptrace;
-use crate::deciding::handle;
-use crate::handlers::HandlerTable;
-use crate::lists::pids_of;
-use crate::lwp_turns::turn;
 use crate::sends::kill;
-use crate::spawns::spawn;
+use crate::lwp_turns::turn;
 use crate::{Act, Reply, Request, Step};
 use event_masks::Call;
 use pid_blocks::{Errno, Pid, Uid};
@@ -201,14 +201,7 @@ impl<F: Decider + Send + Drop> Host<F> {
             Ok(caller) => caller,
             Err(refusal) => return refusal,
         };
-        let reply = kill(
-            &mut self.tables,
-            self.settings,
-            user,
-            caller.pid,
-            which,
-            sig,
-        );
+        let reply = kill(&mut self.tables, self.settings, user, caller.pid, which, sig);
         self.handlers.drop_ended(user, &self.tables);
         reply
     }
@@ -233,15 +226,7 @@ impl<F: Decider + Send + Drop> Host<F> {
     }
 
     /// A request of a debugger.
-    fn ptrace(
-        &mut self,
-        alloc: Global,
-        user: Uid,
-        caller: u32,
-        request: Request,
-        target: u32,
-        arg: u32,
-    ) -> Reply
+    fn ptrace(&mut self, alloc: Global, user: Uid, caller: u32, request: Request, target: u32, arg: u32) -> Reply
         ensures machine { result ≢ reply.Errno errno.ENOMEM →
             (self.new ≡ (step user (op.Ptrace caller request target arg) self.old).machine) × (result ≡ (step user (op.Ptrace caller request target arg) self.old).reply) }
         ensures memory { result ≡ reply.Errno errno.ENOMEM →
