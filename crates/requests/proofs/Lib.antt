@@ -24,6 +24,7 @@ pub mod ViewHosts
 pub mod ViewLaws
 pub mod ViewSound
 pub mod Living
+pub mod Actors
 pub mod Drops
 pub mod Called
 pub mod Finished
@@ -34,6 +35,7 @@ pub mod Tracees
 pub mod Asked
 pub mod Links
 pub mod Signals
+pub mod Programs
 pub mod Attaching
 pub mod Traced
 pub mod Lwps

@@ -19,7 +19,7 @@ use crate::lists::pids_of;
 use crate::calls::{sigaction, wait};
 use crate::commands::ptrace;
 use crate::sends::kill;
-use crate::parts::turn;
+use crate::lwp_turns::turn;
 use crate::{Act, Reply, Request, Step};
 use event_masks::Call;
 use pid_blocks::{Errno, Pid, Uid};

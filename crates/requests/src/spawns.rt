@@ -59,7 +59,7 @@ fn spawned(pid: Pid, uid: Uid) -> ProcData
     }
 }
 
-fn new_reply(pid: Pid, tid: Tid) -> Reply
+pub fn new_reply(pid: Pid, tid: Tid) -> Reply
     ensures { result ≡ reply.New pid tid }
 {
     Reply::New { pid, tid }

@@ -1,0 +1,167 @@
+-- An LWP and its process are there after changes that keep their numbers.
+use Rattle.std.proofs.Common.{◌≡◌, ◌∙◌, ℕ, true, false, true≢false, nat_eq, ◌&&◌, Bool, List, [], ◌∷◌, ◌++◌, inl, inr, refl, sym, ap, Option, Some, None, subst}
+use Rattle.std.specs.Prelude.{option_map, filter_map, IsSomeAnd}
+use Rattle.std.specs.List.{list_any}
+use Rattle.lwp_table.specs.declared.LwpData.{LwpData}
+use Rattle.lwp_table.specs.Lwps.{Differ, lwp_of, has_lwp}
+use Rattle.proc_table.specs.declared.ProcData.{ProcData}
+use Rattle.proc_table.specs.declared.State.{State}
+use Rattle.proc_table.specs.declared.State.TheVariants.{Run, Trace, Job, Zombie}
+use Rattle.proc_table.specs.Processes.{process_of, is_live, is_run, is_run_state, is_zombie_state}
+use Rattle.proc_table.specs.Rows.{Rows, change, change_process, change_lwp, is_numbered}
+use Rattle.proc_table.specs.Edits.{own_lwp, map_lwps}
+use Rattle.proc_table.specs.Fresh.{is_process, add_process, add_lwp}
+use Rattle.proc_table.specs.Kept.{IsKept, IsRow}
+use Rattle.proc_table.specs.Seen.{owns, seen_lwp}
+use Rattle.proc_table.proofs.Rows.{same_number, process_of-pid, row_found, found_row, lwp_of-tid, lwp_of-map, is_process-map}
+use Rattle.std.proofs.lemmas.Bool.{cases_Bool}
+use Rattle.proc_table.proofs.Every.{some_and}
+use Rattle.proc_table.proofs.Rising.{Lacks-from_any}
+use Rattle.proc_table.proofs.Placed.{is_process-placed}
+use Rattle.proc_table.proofs.Changes.{changed, changed_lwp, filter_map-map}
+use Rattle.proc_table.proofs.Stays.{changed-pid, changed_lwp-keeps, own_lwp-keeps}
+use Rattle.trace_stop.specs.Laws.{is_live_at}
+use Rattle.trace_stop.proofs.Every.{and_left, any_more, find_some}
+use Rattle.trace_stop.proofs.Stopping.{own_lwps}
+use Rattle.trace_stop.proofs.Stops.{find_passes}
+use Rattle.signals.specs.Sets.{has, bit, without}
+use Rattle.trace_stop.specs.Facts.{IsSound}
+use Rattle.requests.specs.Turn.{without_signal}
+use Rattle.requests.proofs.Acting.{choose, Acting}
+use Rattle.requests.proofs.Signals.{taken_alike}
+use Rattle.signals.specs.Table.{SIGCHLD}
+use Rattle.trace_stop.specs.Post.{settled_process, settled_lwp, settle, posted_process, posted_lwp, notified}
+use Rattle.trace_stop.specs.End.{tracer_of}
+use Rattle.trace_stop.specs.Stop.{tracers, stop}
+use Rattle.trace_stop.specs.declared.Shown.{Shown}
+use Rattle.trace_stop.proofs.Posting.{posted_same}
+use Rattle.requests.proofs.Masks.{changed_process, changed_lwp as lwp_changed}
+use Rattle.requests.specs.Actors.{IsActing, HasLwp}
+
+pub acting_has : (p : ProcData) (l : LwpData) (rows : Rows) → IsActing p l rows → HasLwp p.pid l.tid rows
+acting_has p l rows a = record { process = found_row p.pid p rows.processes a.process; lwp = rw a.lwp a.own }
+
+owner_kept : (pid : ℕ) (g : LwpData → LwpData) → ((k : LwpData) → (g k).pid ≡ k.pid) → (o : Option LwpData) → IsSomeAnd o (λ l. l.pid ≡ pid) → IsSomeAnd (option_map g o) (λ l. l.pid ≡ pid)
+owner_kept pid g own None is = is
+owner_kept pid g own (Some l) is = own l ∙ is
+
+pub has-lwp_changed : (n : ℕ) (g : LwpData → LwpData) → ((k : LwpData) → (g k).tid ≡ k.tid) → ((k : LwpData) → (g k).pid ≡ k.pid)
+    → (pid tid : ℕ) (rows : Rows) → HasLwp pid tid rows → HasLwp pid tid (change_lwp n g rows)
+has-lwp_changed n g same own pid tid rows h = record {
+  process = h.process;
+  lwp = subst (λ o. IsSomeAnd o (λ l. l.pid ≡ pid))
+      (sym (ap (lwp_of tid) (filter_map-map (λ l. Some (changed_lwp n g l)) (changed_lwp n g) (λ l. refl) rows.lwps) ∙ lwp_of-map (changed_lwp n g) (changed_lwp-keeps (λ l. l.tid) g same n) tid rows.lwps))
+      (owner_kept pid (changed_lwp n g) (changed_lwp-keeps (λ l. l.pid) g own n) (lwp_of tid rows.lwps) h.lwp);
+}
+
+pub has-process_changed : (n : ℕ) (f : ProcData → ProcData) → ((q : ProcData) → (f q).pid ≡ q.pid)
+    → (pid tid : ℕ) (rows : Rows) → HasLwp pid tid rows → HasLwp pid tid (change_process n f rows)
+has-process_changed n f same pid tid rows h = record {
+  process = ap (list_any (λ q. nat_eq q.pid pid)) (filter_map-map (λ q. Some (changed n f q)) (changed n f) (λ q. refl) rows.processes) ∙ is_process-map (changed n f) (changed-pid n f same) pid rows.processes ∙ h.process;
+  lwp = h.lwp;
+}
+
+-- an LWP found by a number is found by its own
+pub found_itself : (n : ℕ) (l : LwpData) (ls : List LwpData) → lwp_of n ls ≡ Some l → lwp_of l.tid ls ≡ Some l
+found_itself n l ls at = subst (λ m. lwp_of m ls ≡ Some l) (sym (lwp_of-tid n l ls at)) at
+
+-- a process that runs lives
+run_lives : (s : State) → is_run_state s ≡ true → is_zombie_state s ≡ false
+run_lives Run is = refl
+run_lives (Trace tid sig seen) is = absurd (true≢false (sym is))
+run_lives (Job sig seen) is = absurd (true≢false (sym is))
+run_lives (Zombie w) is = absurd (true≢false (sym is))
+
+pub runs_live : (p : ProcData) (rows : Rows) → process_of p.pid rows.processes ≡ Some p → is_run p ≡ true → is_live_at p.pid rows ≡ true
+runs_live p rows at run = find_passes (λ q. nat_eq q.pid p.pid) (λ q. nat_eq q.pid p.pid && is_live q) rows.processes p at (rw (same_number p.pid, run_lives p.state run) refl)
+
+-- a process found by a number is found by its own
+pub row_itself : (n : ℕ) (p : ProcData) (ps : List ProcData) → process_of n ps ≡ Some p → process_of p.pid ps ≡ Some p
+row_itself n p ps at = subst (λ m. process_of m ps ≡ Some p) (sym (process_of-pid n p ps at)) at
+
+-- after an LWP has taken a signal, its process and it are there
+pub taken_there : (s : ℕ) (p : ProcData) (l : LwpData) (rows : Rows) → IsActing p l rows → HasLwp p.pid l.tid (without_signal s p l rows)
+taken_there s p l rows a = choose (has l.pending s) _ _ (HasLwp p.pid l.tid)
+    (λ e. has-lwp_changed l.tid (λ k. record k { pending = without k.pending (bit s) }) (λ k. refl) (λ k. refl) p.pid l.tid rows (acting_has p l rows a))
+    (λ e. has-process_changed p.pid (λ q. record q { pending = without q.pending (bit s) }) (λ q. refl) p.pid l.tid rows (acting_has p l rows a))
+
+pub acting_from : (p : ProcData) (l : LwpData) (rows : Rows) → IsSound rows → IsActing p l rows → is_run p ≡ true → Acting rows p l
+acting_from p l rows sound a run = record { sound = sound; home = a.process; there = a.lwp; own = a.own; run = run }
+
+pub taken_live : (s : ℕ) (p : ProcData) (l : LwpData) (rows : Rows) → Acting rows p l → is_live_at p.pid (without_signal s p l rows) ≡ true
+taken_live s p l rows a =
+    let k = taken_alike rows p l a s in
+    subst (λ n. is_live_at n (without_signal s p l rows) ≡ true) k.pid (runs_live k.process (without_signal s p l rows) k.acting.home k.acting.run)
+
+pub live_row : (n : ℕ) (rows : Rows) → is_live_at n rows ≡ true → IsRow rows n
+live_row n rows live = any_more (λ p. nat_eq p.pid n && is_live p) (λ p. nat_eq p.pid n) (λ p is. and_left (nat_eq p.pid n) (is_live p) is) rows.processes live
+
+-- the LWP that a user sees by its number, and its process
+pub acting_seen : (u tid : ℕ) (rows : Rows) (l : LwpData) (p : ProcData) → Differ rows.lwps → seen_lwp u tid rows ≡ Some l → process_of l.pid rows.processes ≡ Some p → IsActing p l rows
+acting_seen u tid rows l p differ seen at = record {
+  process = row_itself l.pid p rows.processes at;
+  lwp = (find_some (λ k. nat_eq k.tid tid && owns u k.pid rows.processes) (λ k. lwp_of k.tid rows.lwps ≡ Some k) rows.lwps (own_lwps rows.lwps differ) l seen).0;
+  own = sym (process_of-pid l.pid p rows.processes at);
+}
+
+pub owns_itself : (p : ProcData) (ps : List ProcData) → process_of p.pid ps ≡ Some p → owns p.uid p.pid ps ≡ true
+owns_itself p ps at = find_passes (λ q. nat_eq q.pid p.pid) (λ q. nat_eq q.pid p.pid && nat_eq q.uid p.uid) ps p at (rw (same_number p.pid, same_number p.uid) refl)
+
+-- An LWP and its process are there after rows were added
+
+owner_before : (pid tid : ℕ) (new : LwpData) (ls : List LwpData) → IsSomeAnd (lwp_of tid ls) (λ l. l.pid ≡ pid) → IsSomeAnd (lwp_of tid (ls ++ (new ∷ []))) (λ l. l.pid ≡ pid)
+owner_before pid tid new [] is = absurd is
+owner_before pid tid new (l ∷ ls) is = elim (cases_Bool (nat_eq l.tid tid)) [
+  | inl e ↦ rw e (rw e at is)
+  | inr e ↦ rw e (owner_before pid tid new ls (rw e at is))
+]
+
+pub has-lwp_added : (u : ℕ) (new : LwpData) (pid tid : ℕ) (rows : Rows) → HasLwp pid tid rows → HasLwp pid tid (add_lwp u new rows)
+has-lwp_added u new pid tid rows h = record { process = h.process; lwp = owner_before pid tid new rows.lwps h.lwp }
+
+pub has-process_added : (new : ProcData) (pid tid : ℕ) (rows : Rows) → IsKept rows → is_process rows new.pid ≡ false → HasLwp pid tid rows → HasLwp pid tid (add_process new rows)
+has-process_added new pid tid rows kept free h = record { process = is_process-placed new pid rows.processes h.process kept.rising (Lacks-from_any new.pid rows.processes free); lwp = h.lwp }
+
+-- and after changes of chosen rows
+module _ (chosen : ProcData → Bool) (f : ProcData → ProcData) (g : ProcData → LwpData → LwpData) (numbered : (p : ProcData) → (f p).pid ≡ p.pid)
+    (named : (p : ProcData) (l : LwpData) → (g p l).tid ≡ l.tid) (owned : (p : ProcData) (l : LwpData) → (g p l).pid ≡ l.pid) where
+  pub has-change : (pid tid : ℕ) (rows : Rows) → HasLwp pid tid rows → HasLwp pid tid (change chosen f g rows)
+  has-change pid tid rows h =
+      let p = row_found pid rows.processes h.process in
+      let l = some_and (λ k. k.pid ≡ pid) (lwp_of tid rows.lwps) h.lwp in
+      let owner : process_of l.0.pid rows.processes ≡ Some p.0 = rw l.2 p.1 in
+      record {
+        process = found_row pid _ _ (changed_process pid chosen f g rows p.0 numbered p.1);
+        lwp = subst (λ o. IsSomeAnd o (λ k. k.pid ≡ pid)) (sym (lwp_changed tid chosen f g rows l.0 p.0 named l.1 owner))
+            (choose (chosen p.0) (g p.0 l.0) l.0 (λ k. k.pid ≡ pid) (λ e. owned p.0 l.0 ∙ l.2) (λ e. l.2));
+      }
+
+pub has-notified : (pids : List ℕ) (pid tid : ℕ) (rows : Rows) → HasLwp pid tid rows → HasLwp pid tid (notified pids rows)
+has-notified pids pid tid rows h =
+    has-change _ (posted_process SIGCHLD None) (posted_lwp SIGCHLD None) (λ p. posted_same (λ q. q.pid) SIGCHLD None p (λ n. refl) (λ n. refl)) (λ p l. refl) (λ p l. refl) pid tid rows h
+
+pub has-stop : (at of : ℕ) (shown : Shown) (pid tid : ℕ) (rows : Rows) → HasLwp pid tid rows → HasLwp pid tid (stop at of shown rows)
+has-stop at of shown pid tid rows h =
+    let one = has-lwp_changed of (λ k. record k { flags = shown.flags; child = shown.child; code = shown.code }) (λ k. refl) (λ k. refl) pid tid rows h in
+    let both = has-process_changed at (λ q. record q { state = Trace of shown.sig false }) (λ q. refl) pid tid (change_lwp of (λ k. record k { flags = shown.flags; child = shown.child; code = shown.code }) rows) one in
+    has-notified (tracers (tracer_of rows.processes at)) pid tid _ both
+
+-- a new LWP is found
+pub lwp_added : (new : LwpData) (ls : List LwpData) → has_lwp new.tid ls ≡ false → lwp_of new.tid (ls ++ (new ∷ [])) ≡ Some new
+lwp_added new [] free = rw (same_number new.tid) refl
+lwp_added new (l ∷ ls) free = elim (cases_Bool (nat_eq l.tid new.tid)) [
+  | inl e ↦ absurd (true≢false (sym (rw e refl) ∙ free))
+  | inr e ↦ rw e (lwp_added new ls (rw e at free))
+]
+
+pub has-settled : (n pid tid : ℕ) (rows : Rows) → HasLwp pid tid rows → HasLwp pid tid (settle n rows)
+has-settled n pid tid rows h = has-change (is_numbered n) settled_process settled_lwp (λ p. refl) (λ p l. refl) (λ p l. refl) pid tid rows h
+
+-- and after changes of one process's LWPs
+pub has-lwps_mapped : (n : ℕ) (g : LwpData → LwpData) → ((k : LwpData) → (g k).tid ≡ k.tid) → ((k : LwpData) → (g k).pid ≡ k.pid)
+    → (pid tid : ℕ) (rows : Rows) → HasLwp pid tid rows → HasLwp pid tid (map_lwps n g rows)
+has-lwps_mapped n g same own pid tid rows h = record {
+  process = h.process;
+  lwp = subst (λ o. IsSomeAnd o (λ l. l.pid ≡ pid)) (sym (lwp_of-map (own_lwp n g) (own_lwp-keeps (λ l. l.tid) g same n) tid rows.lwps))
+      (owner_kept pid (own_lwp n g) (own_lwp-keeps (λ l. l.pid) g own n) (lwp_of tid rows.lwps) h.lwp);
+}

@@ -1,0 +1,260 @@
+-- The changes that make an exec.
+use Rattle.std.proofs.Common.{◌≡◌, ◌≢◌, ℕ, ◌<◌, ◌≤◌, Bool, true, false, List, [], ◌∷◌, length, filter, find, map, filter_map, cond, nat_eq, refl, sym, ap, ◌∙◌, arith, inl, inr, Option, Some, None, IfSome, true≢false, subst, eqb-true}
+use Rattle.std.specs.Prelude.{not, ◌==◌, ◌&&◌, if◌then◌else◌, IsSomeAnd, IsSome}
+use Rattle.std.specs.List.{AllByRecursion, list_any, cons_option}
+use Rattle.std.proofs.lemmas.Bool.{cases_Bool}
+use Rattle.signals.specs.Table.{after_exec}
+use Rattle.lwp_table.specs.declared.LwpData.{LwpData}
+use Rattle.lwp_table.specs.declared.Mode.{Mode}
+use Rattle.lwp_table.specs.declared.Mode.TheVariants.{User, InCall, VforkWait}
+use Rattle.lwp_table.specs.Lwps.{LacksLwp, Differ, lwp_of, first_lwp, next_lwp, without_lwp}
+use Rattle.proc_table.specs.declared.ProcData.{ProcData}
+use Rattle.proc_table.specs.Processes.{process_of}
+use Rattle.proc_table.specs.Rows.{Rows, by_owner, each, change_process}
+use Rattle.proc_table.specs.Edits.{own_lwp, map_lwps}
+use Rattle.proc_table.specs.Kept.{Housed, drop_lwp}
+use Rattle.proc_table.proofs.Rows.{same_number, other_number, process_of-pid}
+use Rattle.proc_table.proofs.Changes.{changed_lwp, map-id, filter_map-map}
+use Rattle.proc_table.proofs.Every.{every_untested, found_tested}
+use Rattle.trace_stop.specs.End.{waits_where, released}
+use Rattle.trace_stop.specs.Facts.{IsLiveChild, waited_for, Standing, WithOwner, IsSound}
+use Rattle.trace_stop.proofs.Children.{child_test, child_from}
+use Rattle.trace_stop.proofs.Every.{All-imply, All-both, any_holds, find_some}
+use Rattle.trace_stop.proofs.Stopping.{the_row, the_lwp, own_lwps}
+use Rattle.requests.proofs.Actors.{has-process_changed, has-lwps_mapped}
+use Rattle.requests.specs.Actors.{IsActing, HasLwp}
+use Rattle.requests.specs.Programs.{is_other, only_lwp, parent_freed}
+use Rattle.trace_stop.specs.Post.{settle}
+use Rattle.requests.specs.Leave.{in_mode, exec_rows}
+
+-- what the end of a vfork wait keeps of an LWP
+
+module _ (over : ℕ → Bool) (p : ProcData) (l : LwpData) where
+  pub released-tid : (released over p l).tid ≡ l.tid
+  released-tid = elim (cases_Bool (waits_where over l.mode)) [ inl e ↦ rw e refl | inr e ↦ rw e refl ]
+
+  pub released-pid : (released over p l).pid ≡ l.pid
+  released-pid = elim (cases_Bool (waits_where over l.mode)) [ inl e ↦ rw e refl | inr e ↦ rw e refl ]
+
+-- An LWP of the process with another number
+
+module _ (pid tid : ℕ) where
+  pub other_none : (ls : List LwpData) → first_lwp pid ls ≡ None → find (is_other pid tid) ls ≡ None
+  other_none [] none = refl
+  other_none (l ∷ ls) none = elim (cases_Bool (nat_eq l.pid pid)) [
+    | inl e ↦ absurd (let h : Some l ≡ None = rw e at none in cc)
+    | inr e ↦ rw e (other_none ls (rw e at none))
+  ]
+
+  pub other_first : (f : LwpData) (ls : List LwpData) → first_lwp pid ls ≡ Some f → nat_eq f.tid tid ≡ false → find (is_other pid tid) ls ≡ Some f
+  other_first f [] first apart = absurd (cc)
+  other_first f (l ∷ ls) first apart = elim (cases_Bool (nat_eq l.pid pid)) [
+    | inl e ↦
+        let its : Some l ≡ Some f = rw e at first in
+        let same : l ≡ f = cc in
+        let off : nat_eq l.tid tid ≡ false = rw same apart in
+        rw (e, off) its
+    | inr e ↦ rw e (other_first f ls (rw e at first) apart)
+  ]
+
+  other_rest : (ls : List LwpData) → LacksLwp tid ls → find (is_other pid tid) ls ≡ first_lwp pid ls
+  other_rest [] lacks = refl
+  other_rest (l ∷ ls) lacks = elim (cases_Bool (nat_eq l.pid pid)) [
+    | inl e ↦ rw (e, other_number l.tid tid lacks.0) refl
+    | inr e ↦ rw e (other_rest ls lacks.1)
+  ]
+
+  first_lacks : (f : LwpData) (ls : List LwpData) → first_lwp pid ls ≡ Some f → LacksLwp f.tid ls → ⊥
+  first_lacks f [] first lacks = cc
+  first_lacks f (l ∷ ls) first lacks = elim (cases_Bool (nat_eq l.pid pid)) [
+    | inl e ↦ let its : Some l ≡ Some f = rw e at first in let same : l ≡ f = cc in lacks.0 (ap (λ k. k.tid) same)
+    | inr e ↦ first_lacks f ls (rw e at first) lacks.1
+  ]
+
+  pub other_next : (f : LwpData) (ls : List LwpData) → Differ ls → first_lwp pid ls ≡ Some f → f.tid ≡ tid → find (is_other pid tid) ls ≡ next_lwp pid tid ls
+  other_next f [] d first same = absurd (cc)
+  other_next f (l ∷ ls) d first same = elim (cases_Bool (nat_eq l.pid pid)) [
+    | inl e ↦
+        let its : Some l ≡ Some f = rw e at first in
+        let one : l ≡ f = cc in
+        let number : l.tid ≡ tid = ap (λ k. k.tid) one ∙ same in
+        let here : nat_eq l.tid tid ≡ true = rw number (same_number tid) in
+        rw (e, here) (other_rest ls (subst (λ n. LacksLwp n ls) number d.0))
+    | inr e ↦
+        let rest : first_lwp pid ls ≡ Some f = rw e at first in
+        let apart : nat_eq l.tid tid ≡ false = other_number l.tid tid (λ h. first_lacks f ls rest (subst (λ n. LacksLwp n ls) (h ∙ sym same) d.0)) in
+        rw (e, apart) (other_next f ls d.1 rest same)
+  ]
+
+-- One LWP less
+
+filter_within : {X : Type 0} (p q : X → Bool) (xs : List X) → AllByRecursion (λ x. q x ≡ false → p x ≡ false) xs → filter p (filter q xs) ≡ filter p xs
+filter_within p q [] all = refl
+filter_within p q (x ∷ xs) all = elim (cases_Bool (q x)) [
+  | inl e ↦ rw (e, filter_within p q xs all.1) refl
+  | inr e ↦ rw (e, all.0 e, filter_within p q xs all.1) refl
+]
+
+filter_all : {X : Type 0} (p : X → Bool) (xs : List X) → AllByRecursion (λ x. p x ≡ true) xs → filter p xs ≡ xs
+filter_all p [] all = refl
+filter_all p (x ∷ xs) all = rw (all.0, filter_all p xs all.1) refl
+
+filter_less : {X : Type 0} (p : X → Bool) (xs : List X) → length (filter p xs) ≤ length xs
+filter_less p [] = omega arith
+filter_less p (x ∷ xs) = let rest = filter_less p xs in elim (cases_Bool (p x)) [
+  | inl e ↦ rw e (omega (arith, rest))
+  | inr e ↦ rw e (omega (arith, rest))
+]
+
+pub less_without : (n : ℕ) (l : LwpData) (ls : List LwpData) → lwp_of n ls ≡ Some l → length (without_lwp n ls) < length ls
+less_without n l [] at = absurd (cc)
+less_without n l (k ∷ ls) at = elim (cases_Bool (nat_eq k.tid n)) [
+  | inl e ↦ let less = filter_less (λ k. not (nat_eq k.tid n)) ls in rw e (omega (arith, less))
+  | inr e ↦ let less = less_without n l ls (rw e at at) in rw e (omega (arith, less))
+]
+
+lwp_without : (n t : ℕ) → n ≢ t → (ls : List LwpData) → lwp_of n (without_lwp t ls) ≡ lwp_of n ls
+lwp_without n t apart [] = refl
+lwp_without n t apart (l ∷ ls) = elim (cases_Bool (nat_eq l.tid t)) [
+  | inl e ↦ let no : nat_eq l.tid n ≡ false = other_number l.tid n (λ same. apart (sym same ∙ eqb-true l.tid t e)) in rw (e, no) (lwp_without n t apart ls)
+  | inr e ↦ elim (cases_Bool (nat_eq l.tid n)) [
+    | inl k ↦ rw (e, k) refl
+    | inr k ↦ rw (e, k) (lwp_without n t apart ls)
+  ]
+]
+
+module _ (pid tid : ℕ) (x : LwpData) (rows : Rows) (d : Differ rows.lwps) (is : find (is_other pid tid) rows.lwps ≡ Some x) where
+  passes : is_other pid tid x ≡ true
+  passes = found_tested (is_other pid tid) rows.lwps x is
+
+  pub other_there : lwp_of x.tid rows.lwps ≡ Some x
+  other_there = (find_some (is_other pid tid) (λ k. lwp_of k.tid rows.lwps ≡ Some k) rows.lwps (own_lwps rows.lwps d) x is).0
+
+  pub other_dropped : only_lwp pid tid (drop_lwp x.tid rows) ≡ only_lwp pid tid rows
+  other_dropped = ap (λ ls. record rows { lwps = ls }) (filter_within (λ k. not (is_other pid tid k)) (λ k. not (nat_eq k.tid x.tid)) rows.lwps
+      (All-imply (λ k. k.tid ≡ x.tid → k ≡ x) (λ k. not (nat_eq k.tid x.tid) ≡ false → not (is_other pid tid k) ≡ false)
+      (λ k same off. ap not (ap (is_other pid tid) (same (eqb-true k.tid x.tid (not_false _ off))) ∙ passes)) rows.lwps (the_lwp x.tid rows.lwps x d other_there)))
+    where
+      not_false : (b : Bool) → not b ≡ false → b ≡ true
+      not_false true e = refl
+      not_false false e = absurd (true≢false e)
+
+  pub other_left : HasLwp pid tid rows → HasLwp pid tid (drop_lwp x.tid rows)
+  other_left h = record { process = h.process; lwp = subst (λ o. IsSomeAnd o (λ l. l.pid ≡ pid)) (sym (lwp_without tid x.tid (λ same. apart (sym same)) rows.lwps)) h.lwp }
+    where
+      apart : x.tid ≢ tid
+      apart same = true≢false (sym passes ∙ rw (same, same_number tid) (off (nat_eq x.pid pid)))
+        where
+          off : (b : Bool) → (b && false) ≡ false
+          off true = refl
+          off false = refl
+
+pub others_none : (pid tid : ℕ) (rows : Rows) → find (is_other pid tid) rows.lwps ≡ None → rows ≡ only_lwp pid tid rows
+others_none pid tid rows none = ap (λ ls. record rows { lwps = ls })
+    (sym (filter_all (λ k. not (is_other pid tid k)) rows.lwps (All-imply (λ k. is_other pid tid k ≡ false) (λ k. not (is_other pid tid k) ≡ true) (λ k off. ap not off) rows.lwps (every_untested (is_other pid tid) rows.lwps none))))
+
+-- An exec is these changes, one after another
+
+walked : {X : Type 0} (to : X → Option X) (f g : X → X) (t : X → Bool) (xs : List X) → AllByRecursion (λ x. to x ≡ (if t (f x) then Some (g (f x)) else None)) xs → filter_map to xs ≡ map g (filter t (map f xs))
+walked to f g t [] all = refl
+walked to f g t (x ∷ xs) all = elim (cases_Bool (t (f x))) [
+  | inl e ↦ let here : to x ≡ Some (g (f x)) = all.0 ∙ rw e refl in rw (here, e, walked to f g t xs all.1) refl
+  | inr e ↦ let here : to x ≡ None = all.0 ∙ rw e refl in rw (here, e, walked to f g t xs all.1) refl
+]
+
+abbrev freed_lwp : Option ProcData → ℕ → LwpData → LwpData
+freed_lwp None child l = l
+freed_lwp (Some parent) child l = own_lwp parent.pid (released (λ n. n == child) parent) l
+
+freed_rows : (o : Option ProcData) (child : ℕ) (rows : Rows) → parent_freed o child rows ≡ record rows { lwps = map (freed_lwp o child) rows.lwps }
+freed_rows None child rows = ap (λ ls. record rows { lwps = ls }) (sym (map-id rows.lwps))
+freed_rows (Some parent) child rows = refl
+
+-- who doesn't wait stays as it is
+freed_idle : (o : Option ProcData) (child : ℕ) (l : LwpData) → waits_where (λ n. n == child) l.mode ≡ false → freed_lwp o child l ≡ l
+freed_idle None child l idle = refl
+freed_idle (Some parent) child l idle = elim (cases_Bool (nat_eq l.pid parent.pid)) [
+  | inl e ↦ rw (e, idle) refl
+  | inr e ↦ rw e refl
+]
+
+awaited : (m : Mode) (child : ℕ) → waits_where (λ n. n == child) m ≡ true → waited_for m ≡ Some child
+awaited User child is = absurd (true≢false (sym is))
+awaited (InCall call) child is = absurd (true≢false (sym is))
+awaited (VforkWait c) child is = ap (λ n. Some n) (eqb-true c child is)
+
+module _ (p : ProcData) (l : LwpData) (rows : Rows) (s : IsSound rows) (a : IsActing p l rows) where
+  -- who waits for the process is its parent's
+  its_child : (q : ProcData) → IsLiveChild rows q p.pid → p.parent ≡ q.pid
+  its_child q live = any_holds (child_test q p.pid) (λ r. r.pid ≡ p.pid → r ≡ p) (p.parent ≡ q.pid)
+      (λ r one is. let c = child_from q p.pid r is in ap (λ x. x.parent) (sym (one c.pid)) ∙ c.parent) rows.processes (the_row p.pid rows.processes p s.stands.rising a.process) live
+
+  freed_own : (o : Option ProcData) → process_of p.parent rows.processes ≡ o → (k : LwpData) (q : ProcData) → process_of k.pid rows.processes ≡ Some q → Standing rows q k → freed_lwp o p.pid k ≡ released (λ n. n == p.pid) q k
+  freed_own o at k q home stood = elim (cases_Bool (waits_where (λ n. n == p.pid) k.mode)) [
+    | inl e ↦
+        let live : IsLiveChild rows q p.pid = subst (λ w. IfSome w (IsLiveChild rows q)) (awaited k.mode p.pid e) stood.waits in
+        let parent : p.parent ≡ k.pid = its_child q live ∙ process_of-pid k.pid q rows.processes home in
+        let its : o ≡ Some q = sym at ∙ (ap (λ n. process_of n rows.processes) parent ∙ home) in
+        let own : nat_eq k.pid q.pid ≡ true = rw (process_of-pid k.pid q rows.processes home) (same_number k.pid) in
+        ap (λ w. freed_lwp w p.pid k) its ∙ rw own refl
+    | inr e ↦ freed_idle o p.pid k e ∙ rw e refl
+  ]
+
+  abbrev to_user : LwpData → LwpData
+  to_user k = changed_lwp l.tid (λ j. record j { mode = User }) k
+
+  abbrev exec_lwp : ProcData → LwpData → Option LwpData
+  exec_lwp q k = if q.pid == p.pid then (if k.tid == l.tid then Some (record k { mode = User }) else None) else Some (released (λ n. n == p.pid) q k)
+
+  abbrev Known : LwpData → Type 0
+  Known k = Housed rows k × (WithOwner rows (Standing rows) k × (k.tid ≡ l.tid → k ≡ l))
+
+  knowns : AllByRecursion Known rows.lwps
+  knowns = All-both (Housed rows) (λ k. WithOwner rows (Standing rows) k × (k.tid ≡ l.tid → k ≡ l)) rows.lwps s.stands.housed
+      (All-both (WithOwner rows (Standing rows)) (λ k. k.tid ≡ l.tid → k ≡ l) rows.lwps s.stands.standing (the_lwp l.tid rows.lwps l s.stands.differ a.lwp))
+
+  exec_one : (o : Option ProcData) → process_of p.parent rows.processes ≡ o → (k : LwpData) → Known k
+      → by_owner exec_lwp k (process_of k.pid rows.processes) ≡ (if not (is_other p.pid l.tid (to_user k)) then Some (freed_lwp o p.pid (to_user k)) else None)
+  exec_one o at k known =
+      let q = known.0.0 in
+      let home : process_of k.pid rows.processes ≡ Some q = known.0.1 in
+      let number : q.pid ≡ k.pid = process_of-pid k.pid q rows.processes home in
+      ap (by_owner exec_lwp k) home ∙ elim (cases_Bool (nat_eq k.tid l.tid)) [
+        | inl e ↦
+            let pid : k.pid ≡ p.pid = ap (λ j. j.pid) (known.1.1 (eqb-true k.tid l.tid e)) ∙ a.own in
+            let own : nat_eq k.pid p.pid ≡ true = rw pid (same_number p.pid) in
+            let mine : nat_eq q.pid p.pid ≡ true = rw (number, pid) (same_number p.pid) in
+            let idle = freed_idle o p.pid (record k { mode = User }) refl in
+            rw (mine, e, own, e) (ap (λ j. Some j) (sym idle))
+        | inr e ↦ elim (cases_Bool (nat_eq k.pid p.pid)) [
+          | inl h ↦ let mine : nat_eq q.pid p.pid ≡ true = rw number h in rw (mine, e, h, e) refl
+          | inr h ↦ let apart : nat_eq q.pid p.pid ≡ false = rw number h in rw (apart, e, h) (ap (λ j. Some j) (sym (freed_own o at k q home (known.1.0 q home))))
+        ]
+      ]
+
+  exec_rows_of : (o : Option ProcData) → process_of p.parent rows.processes ≡ o
+      → change_process p.pid (λ q. record q { dispositions = after_exec q.dispositions }) (parent_freed o p.pid (only_lwp p.pid l.tid (in_mode User l.tid rows)))
+      ≡ each (λ q. Some (if q.pid == p.pid then record q { dispositions = after_exec q.dispositions } else q)) exec_lwp rows
+  exec_rows_of o at =
+      ap (change_process p.pid (λ q. record q { dispositions = after_exec q.dispositions })) (freed_rows o p.pid (only_lwp p.pid l.tid (in_mode User l.tid rows)))
+      ∙ ap (λ ls. record rows { processes = filter_map (λ q. Some (if q.pid == p.pid then record q { dispositions = after_exec q.dispositions } else q)) rows.processes; lwps = ls })
+      (ap (λ ls. map (freed_lwp o p.pid) (filter (λ k. not (is_other p.pid l.tid k)) ls)) (filter_map-map (λ k. Some (to_user k)) to_user (λ k. refl) rows.lwps)
+      ∙ sym (walked (λ k. by_owner exec_lwp k (process_of k.pid rows.processes)) to_user (freed_lwp o p.pid) (λ k. not (is_other p.pid l.tid k)) rows.lwps (All-imply Known _ (exec_one o at) rows.lwps knowns)))
+
+  -- the rows after the changes
+  pub exec_done : (moved kept freed rows' done : Rows) → moved ≡ in_mode User l.tid rows → kept ≡ only_lwp p.pid l.tid moved → freed ≡ parent_freed (process_of p.parent kept.processes) p.pid kept
+      → rows' ≡ change_process p.pid (λ q. record q { dispositions = after_exec q.dispositions }) freed → done ≡ settle p.pid rows' → done ≡ exec_rows p l rows
+  exec_done moved kept freed rows' done move keep free drop settled =
+      let two : kept ≡ only_lwp p.pid l.tid (in_mode User l.tid rows) = keep ∙ ap (only_lwp p.pid l.tid) move in
+      let three : freed ≡ parent_freed (process_of p.parent rows.processes) p.pid (only_lwp p.pid l.tid (in_mode User l.tid rows)) = free ∙ ap (λ (r : Rows). parent_freed (process_of p.parent r.processes) p.pid r) two in
+      settled ∙ ap (settle p.pid) (drop ∙ (ap (change_process p.pid (λ q. record q { dispositions = after_exec q.dispositions })) three ∙ exec_rows_of (process_of p.parent rows.processes) refl))
+
+pub has-freed : (o : Option ProcData) (child pid tid : ℕ) (rows : Rows) → HasLwp pid tid rows → HasLwp pid tid (parent_freed o child rows)
+has-freed None child pid tid rows h = h
+has-freed (Some parent) child pid tid rows h = has-lwps_mapped parent.pid (released (λ n. n == child) parent) (released-tid (λ n. n == child) parent) (released-pid (λ n. n == child) parent) pid tid rows h
+
+-- after the process has dropped its handlers, it and its LWP are there
+pub has-dropped : (o : Option ProcData) (pid tid : ℕ) (kept freed dropped : Rows) → HasLwp pid tid kept → freed ≡ parent_freed o pid kept
+    → dropped ≡ change_process pid (λ q. record q { dispositions = after_exec q.dispositions }) freed → HasLwp pid tid dropped
+has-dropped o pid tid kept freed dropped h free drop =
+    rw (drop, free) (has-process_changed pid (λ q. record q { dispositions = after_exec q.dispositions }) (λ q. refl) pid tid (parent_freed o pid kept) (has-freed o pid pid tid kept h))

@@ -1,0 +1,23 @@
+use Rattle.std.proofs.Common.{◌≡◌, ℕ, ◌≤◌, Some, refl, sym, ap, ◌∙◌}
+use Rattle.std.proofs.lemmas.Bool.{le-leb}
+use Rattle.lwp_table.specs.declared.LwpData.{LwpData}
+use Rattle.proc_table.specs.declared.ProcData.{ProcData}
+use Rattle.proc_table.specs.Rows.{Rows}
+use Rattle.trace_stop.specs.declared.Settings.{Settings}
+use Rattle.trace_stop.specs.Stop.{post}
+use Rattle.requests.specs.Turn.{raises}
+use Rattle.requests.proofs.Actors.{runs_live}
+use Rattle.requests.proofs.acts.raise.Goals as goal
+
+posts : (settings : Settings) (s : ℕ) (p : ProcData) (l : LwpData) (rows : Rows) → 1 ≤ s → s ≤ 31 → (raises settings s p l rows).rows ≡ post settings s (Some l.tid) p.pid rows
+posts settings s p l rows least greatest = rw (le-leb 1 s least, le-leb s 31 greatest) refl
+
+pub post_lwp-requires-clause-live : goal.post_lwp-requires-clause-live
+post_lwp-requires-clause-live c = runs_live c.args.p.now c.args.tables.now.rows c.requires.acting.process c.requires.runs
+
+pub returns-else-eq-clause-rows : goal.returns-else-eq-clause-rows
+returns-else-eq-clause-rows c =
+    let p = c.args.p.now in
+    let l = c.args.l.now in
+    let number = c.in-Ok.ensures.1 in
+    c.post_lwp.ensures.rows ∙ (ap (λ n. post c.args.settings n (Some l.tid) p.pid c.args.tables.now.rows) number ∙ sym (posts c.args.settings c.args.number p l c.args.tables.now.rows c.in-Ok.ensures.0.0 c.in-Ok.ensures.0.1))

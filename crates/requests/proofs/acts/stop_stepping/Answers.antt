@@ -1,0 +1,6 @@
+use Rattle.std.proofs.Common.{false, sym, refl, ◌∙◌}
+use Rattle.proc_table.proofs.Changes.{change_lwp-at}
+use Rattle.requests.proofs.acts.stop_stepping.Goals as goal
+
+pub returns : goal.returns
+returns c = record { rows = c.set_lwp.ensures.rows ∙ sym (change_lwp-at c.args.l.now.tid (λ k. record k { stepping = false }) c.args.tables.now.rows c.args.l.now c.kept.ensures.differ c.requires refl) }

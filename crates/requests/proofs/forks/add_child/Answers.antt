@@ -1,0 +1,48 @@
+use Rattle.std.proofs.Common.{◌≡◌, ℕ, Bool, true, false, Some, None, IfSome, if◌then◌else◌, ◌++◌, ◌∷◌, [], List, refl, sym, ap, ◌∙◌, subst, nat_eq}
+use Rattle.std.specs.Prelude.{IsSomeAnd}
+use Rattle.lwp_table.specs.declared.LwpData.{LwpData}
+use Rattle.lwp_table.specs.declared.Due.TheVariants as due
+use Rattle.lwp_table.specs.Lwps.{born, has_lwp, lwp_of}
+use Rattle.proc_table.specs.declared.ProcData.{ProcData}
+use Rattle.proc_table.specs.Processes.{process_of}
+use Rattle.proc_table.specs.Rows.{Rows}
+use Rattle.proc_table.specs.Fresh.{is_process, add_process, add_lwp}
+use Rattle.proc_table.specs.Kept.{IsKept, IsRow, Named}
+use Rattle.proc_table.proofs.Every.{every_found}
+use Rattle.proc_table.proofs.Rows.{found_row}
+use Rattle.requests.specs.Actors.{IsActing, HasLwp}
+use Rattle.requests.specs.Leave.{forked, child_stop}
+use Rattle.requests.proofs.Actors.{acting_has, lwp_added, has-lwp_added, has-process_added, has-stop}
+use Rattle.requests.proofs.forks.add_child.Goals as goal
+
+forked_named : (followed : Bool) (p : ProcData) (pid : ℕ) (rows : Rows) → IsKept rows → process_of p.pid rows.processes ≡ Some p → Named rows (forked followed p pid)
+forked_named followed p pid rows kept at =
+    let was = every_found (Named rows) (λ q. nat_eq q.pid p.pid) rows.processes p kept.named at in
+    record { tracer = by_test followed was.tracer; parent = λ other. found_row p.pid p rows.processes at }
+  where
+    by_test : (b : Bool) → IfSome p.tracer (IsRow rows) → IfSome (if b then p.tracer else None) (IsRow rows)
+    by_test true is = is
+    by_test false is = tt
+
+child_found : (tid pid blocked : ℕ) (ls : List LwpData) → has_lwp tid ls ≡ false → IsSomeAnd (lwp_of tid (ls ++ (born tid pid blocked due.Nothing ∷ []))) (λ l. l.pid ≡ pid)
+child_found tid pid blocked ls free = rw (lwp_added (born tid pid blocked due.Nothing) ls free) refl
+
+parent_there : (u : ℕ) (new : ProcData) (child : LwpData) (p : ProcData) (l : LwpData) (rows : Rows) → IsKept rows → is_process rows new.pid ≡ false → IsActing p l rows
+    → HasLwp p.pid l.tid (add_lwp u child (add_process new rows))
+parent_there u new child p l rows kept free a = has-lwp_added u child p.pid l.tid (add_process new rows) (has-process_added new p.pid l.tid rows kept free (acting_has p l rows a))
+
+pub add_process-requires-clause-named : goal.add_process-requires-clause-named
+add_process-requires-clause-named c = subst (Named c.args.tables.now.rows) (sym c.forked.ensures) (forked_named c.is_asked-followed.result c.args.p.now c.args.pid c.args.tables.now.rows c.kept.ensures c.requires.acting.process)
+
+pub stop-requires-clause-lwp : goal.stop-requires-clause-lwp
+stop-requires-clause-lwp c = rw (c.add_lwp.ensures.rows, c.add_process.ensures.rows, c.born.ensures) (child_found c.args.tid c.args.pid c.args.l.now.blocked c.args.tables.now.rows.lwps c.requires.own_fresh)
+
+pub returns-else-followed-clause-there : goal.returns-else-followed-clause-there
+returns-else-followed-clause-there c =
+    rw (c.add_lwp.ensures.rows, c.add_process.ensures.rows) (parent_there c.args.p.now.uid c.forked.result c.born.result c.args.p.now c.args.l.now c.args.tables.now.rows c.kept.ensures
+    (subst (λ (q : ProcData). is_process c.args.tables.now.rows q.pid ≡ false) (sym c.forked.ensures) c.requires.fresh) c.requires.acting)
+
+pub returns-then-followed-clause-there : goal.returns-then-followed-clause-there
+returns-then-followed-clause-there c =
+    rw (c.stop.ensures.rows, c.add_lwp.ensures.rows, c.add_process.ensures.rows) (has-stop c.args.pid c.args.tid c.child_stop.result c.args.p.now.pid c.args.l.now.tid _ (parent_there c.args.p.now.uid c.forked.result c.born.result c.args.p.now c.args.l.now c.args.tables.now.rows c.kept.ensures
+    (subst (λ (q : ProcData). is_process c.args.tables.now.rows q.pid ≡ false) (sym c.forked.ensures) c.requires.fresh) c.requires.acting))

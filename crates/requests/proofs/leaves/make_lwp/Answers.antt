@@ -1,0 +1,16 @@
+use Rattle.std.proofs.Common.{◌≡◌, true, sym, ap, subst}
+use Rattle.proc_table.specs.Seen.{owns}
+use Rattle.requests.specs.Actors.{HasLwp}
+use Rattle.requests.proofs.Actors.{acting_has, owns_itself, has-lwp_added}
+use Rattle.requests.proofs.leaves.make_lwp.Goals as goal
+
+pub add_lwp-requires-clause-owner : goal.add_lwp-requires-clause-owner
+add_lwp-requires-clause-owner c =
+    let p = c.args.p.now in
+    rw (c.reserve_lwp.ensures.rows, c.born.ensures) (owns_itself p c.args.tables.now.rows.processes c.requires.process)
+
+pub finish-requires-clause-there : goal.finish-requires-clause-there
+finish-requires-clause-there c =
+    let p = c.args.p.now in
+    let l = c.args.l.now in
+    rw (c.add_lwp.ensures.rows, c.reserve_lwp.ensures.rows) (has-lwp_added p.uid c.born.result p.pid l.tid c.args.tables.now.rows (acting_has p l c.args.tables.now.rows c.requires))

@@ -1,0 +1,19 @@
+use Rattle.std.proofs.Common.{◌≡◌, true, sym, subst}
+use Rattle.trace_stop.specs.Facts.{IsSound}
+use Rattle.trace_stop.specs.Laws.{is_live_at}
+use Rattle.requests.specs.Actors.{HasLwp}
+use Rattle.requests.proofs.Signals.{taken_alike}
+use Rattle.requests.proofs.Actors.{acting_from, taken_there, taken_live}
+use Rattle.requests.proofs.lwp_turns.take_signal.Goals as goal
+
+pub stop_with-requires : goal.stop_with-requires
+stop_with-requires c = subst (HasLwp c.args.p.now.pid c.args.l.now.tid) (sym c.drop_signal.ensures) (taken_there c.args.signal c.args.p.now c.args.l.now c.args.tables.now.rows c.requires.acting)
+
+pub take_untraced-requires : goal.take_untraced-requires
+take_untraced-requires c =
+    let rows = c.args.tables.now.rows in
+    let a = acting_from c.args.p.now c.args.l.now rows c.requires.sound c.requires.acting c.requires.runs in
+    record {
+      sound = subst IsSound (sym c.drop_signal.ensures) (taken_alike rows c.args.p.now c.args.l.now a c.args.signal).acting.sound;
+      live = subst (λ r. is_live_at c.args.p.now.pid r ≡ true) (sym c.drop_signal.ensures) (taken_live c.args.signal c.args.p.now c.args.l.now rows a);
+    }

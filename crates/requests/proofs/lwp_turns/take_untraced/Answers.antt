@@ -1,0 +1,27 @@
+use Rattle.std.proofs.Common.{◌≡◌, ℕ, refl, sym, ap, ◌∙◌}
+use Rattle.signals.specs.Table.{disposition_of, default_action}
+use Rattle.signals.specs.declared.Action.TheVariants as action
+use Rattle.signals.specs.declared.Disposition.TheVariants as disposition
+use Rattle.lwp_table.specs.declared.LwpData.{LwpData}
+use Rattle.proc_table.specs.declared.ProcData.{ProcData}
+use Rattle.proc_table.specs.Rows.{Rows}
+use Rattle.trace_stop.specs.declared.Settings.{Settings}
+use Rattle.trace_stop.specs.End.{end}
+use Rattle.requests.specs.Turn.{takes_untraced}
+use Rattle.requests.proofs.Actors.{live_row}
+use Rattle.requests.proofs.lwp_turns.take_untraced.Goals as goal
+
+ended : (settings : Settings) (s : ℕ) (p : ProcData) (l : LwpData) (rows : Rows) → disposition_of p.dispositions s ≡ disposition.Default → default_action s ≡ action.End
+    → (takes_untraced settings s (disposition_of p.dispositions s) p l rows).rows ≡ end settings p.pid s rows
+ended settings s p l rows d a = rw (d, a) refl
+
+pub job_stop-requires : goal.job_stop-requires
+job_stop-requires c = live_row c.args.p.now.pid c.args.tables.now.rows c.requires.live
+
+pub returns-in-End-clause-rows : goal.returns-in-End-clause-rows
+returns-in-End-clause-rows c =
+    let p = c.args.p.now in
+    let s = c.args.signal in
+    let rows = c.args.tables.now.rows in
+    c.end.ensures.rows ∙ (ap (λ n. end c.args.settings p.pid n rows) c.number.ensures.number
+    ∙ sym (ended c.args.settings s p c.args.l.now rows (sym c.get.ensures ∙ c.in-Default.is) (sym c.default_action.ensures ∙ c.in-End.is)))

@@ -1,0 +1,20 @@
+-- What an exec does, one change after another.
+use Rattle.std.specs.Prelude.{ℕ, Bool, ◌==◌, ◌&&◌, not, filter, Option, Some, None}
+use Rattle.lwp_table.specs.declared.LwpData.{LwpData}
+use Rattle.proc_table.specs.declared.ProcData.{ProcData}
+use Rattle.proc_table.specs.Rows.{Rows}
+use Rattle.proc_table.specs.Edits.{map_lwps}
+use Rattle.trace_stop.specs.End.{released}
+
+-- an LWP of the process with another number
+abbrev pub is_other : ℕ → ℕ → LwpData → Bool
+is_other pid tid l = (l.pid == pid) && not (l.tid == tid)
+
+-- the rows in which the process has this LWP alone
+abbrev pub only_lwp : ℕ → ℕ → Rows → Rows
+only_lwp pid tid rows = record rows { lwps = filter (λ l. not (is_other pid tid l)) rows.lwps }
+
+-- the rows in which no LWP of the parent waits for the child
+abbrev pub parent_freed : Option ProcData → ℕ → Rows → Rows
+parent_freed None child rows = rows
+parent_freed (Some parent) child rows = map_lwps parent.pid (released (λ n. n == child) parent) rows

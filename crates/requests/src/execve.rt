@@ -1,0 +1,139 @@
+//! execve.
+
+ghost use Rattle.std.specs.Prelude.{◌≡◌, ◌≢◌, ◌==◌, true, find};
+ghost use Rattle.pid_blocks.specs.declared.Errno.TheVariants as errno;
+ghost use Rattle.event_masks.specs.declared.Call.TheVariants as call;
+ghost use Rattle.signals.specs.Table.{after_exec};
+ghost use Rattle.proc_table.specs.Edits.{map_lwps};
+ghost use Rattle.proc_table.specs.Kept.{IsKept, IsRow};
+ghost use Rattle.proc_table.specs.Processes.{process_of};
+ghost use Rattle.proc_table.specs.Rows.{change_process};
+ghost use Rattle.trace_stop.specs.End.{released, waits_where};
+ghost use Rattle.trace_stop.specs.Facts.{IsSound};
+ghost use Rattle.requests.specs.declared.Reply.TheVariants as reply;
+ghost use Rattle.requests.specs.Actors.{IsActing, HasLwp};
+ghost use Rattle.requests.specs.Programs.{is_other, only_lwp, parent_freed};
+ghost use Rattle.requests.specs.Outcome.{stops_or};
+ghost use Rattle.requests.specs.Leave.{exit_stop, exec_rows};
+
+use crate::Reply;
+use crate::stopping::{exit_stop, set_mode, stop_or};
+use crate::stubs::settle;
+use event_masks::{Call, EventMask};
+use lwp_table::{Due, LwpData, Mode};
+use pid_blocks::{Pid, Tid};
+use proc_table::{ProcData, Tables};
+
+/// The oldest LWP of the process with another number.
+fn other_lwp(tables: &Tables, pid: Pid, tid: Tid) -> Option<LwpData>
+    requires { HasLwp pid tid tables.now.rows }
+    ensures other { result ≡ find (is_other pid tid) tables.now.rows.lwps }
+    ensures kept { IsKept tables.now.rows }
+{
+    let Some(first) = tables.first_lwp(pid) else {
+        return None;
+    };
+    if first.tid == tid {
+        tables.next_lwp(pid, tid)
+    } else {
+        Some(first)
+    }
+}
+
+/// Takes out the other LWPs of a process.
+fn keep_lwp(tables: &mut Tables, pid: Pid, tid: Tid)
+    requires { HasLwp pid tid tables.old.rows }
+    ensures rows { tables.new.rows ≡ only_lwp pid tid tables.old.rows }
+    ensures there { HasLwp pid tid tables.new.rows }
+{
+    while let Some(other) = other_lwp(tables, pid, tid) {
+        tables.remove_lwp(other.tid);
+    }
+}
+
+/// Whether an LWP in this mode waits for the process.
+fn waits_for(mode: Mode, pid: Pid) -> bool
+    ensures { result ≡ waits_where (λ n. n == pid) mode }
+{
+    match mode {
+        Mode::VforkWait(child) => child == pid,
+        Mode::User | Mode::InCall(_) => false,
+    }
+}
+
+/// An LWP of the parent, whose wait for the child is over.
+fn released(l: &LwpData, parent: &ProcData, child: Pid) -> LwpData
+    ensures { result ≡ released (λ n. n == child) parent.now l.now }
+{
+    if !waits_for(l.mode, child) {
+        return LwpData { ..*l };
+    }
+    let told = parent.tracer.is_some() && parent.mask.asks(EventMask::PTRACE_VFORK);
+    LwpData {
+        mode: Mode::User,
+        due: if told { Due::VforkDone } else { l.due },
+        ..*l
+    }
+}
+
+/// Ends the waits of the parent's LWPs for the child.
+fn release(tables: &mut Tables, parent: &ProcData, child: Pid)
+    ensures { tables.new.rows ≡ map_lwps parent.now.pid (released (λ n. n == child) parent.now) tables.old.rows }
+{
+    let pid = parent.pid;
+    let mut at = tables.first_lwp(pid);
+    while let Some(l) = at {
+        tables.set_lwp(released(&l, parent, child));
+        at = tables.next_lwp(pid, l.tid);
+    }
+}
+
+/// Ends a vfork wait for the process, which only its parent's LWPs can have.
+fn release_parent(tables: &mut Tables, p: &ProcData)
+    ensures { tables.new.rows ≡ parent_freed (process_of p.now.parent tables.old.rows.processes) p.now.pid tables.old.rows }
+{
+    if let Some(parent) = tables.numbered(p.parent) {
+        release(tables, &parent, p.pid);
+    }
+}
+
+/// The process catches no signal any more.
+fn drop_handlers(tables: &mut Tables, pid: Pid)
+    requires { IsRow tables.old.rows pid }
+    ensures { tables.new.rows
+        ≡ change_process pid (λ q. record q { dispositions = after_exec q.dispositions }) tables.old.rows }
+{
+    let row = tables.process(pid).unwrap();
+    tables.set_process(ProcData {
+        dispositions: row.dispositions.after_exec(),
+        ..row
+    });
+}
+
+/// The process runs another program, by this LWP alone.
+fn run_program(tables: &mut Tables, p: &ProcData, l: &LwpData)
+    requires sound { IsSound tables.old.rows }
+    requires acting { IsActing p.now l.now tables.old.rows }
+    ensures rows { tables.new.rows ≡ exec_rows p.now l.now tables.old.rows }
+    ensures there { HasLwp p.now.pid l.now.tid tables.new.rows }
+{
+    set_mode(tables, p.pid, l.tid, Mode::User);
+    keep_lwp(tables, p.pid, l.tid);
+    release_parent(tables, p);
+    drop_handlers(tables, p.pid);
+    settle(tables, p.pid);
+}
+
+/// execve: the process has this LWP alone, catches no signal, and who waits for it by vfork is released.
+pub fn exec(tables: &mut Tables, p: &ProcData, l: &LwpData) -> Reply
+    requires sound { IsSound tables.old.rows }
+    requires acting { IsActing p.now l.now tables.old.rows }
+    ensures rows { let replaced = exec_rows p.now l.now tables.old.rows in
+        tables.new.rows ≡ (stops_or (exit_stop p.now call.Exec 0) reply.Done p.now l.now replaced).rows }
+    ensures reply { let replaced = exec_rows p.now l.now tables.old.rows in
+        result ≡ (stops_or (exit_stop p.now call.Exec 0) reply.Done p.now l.now replaced).reply }
+    ensures given { result ≢ reply.Errno errno.ENOMEM }
+{
+    run_program(tables, p, l);
+    stop_or(tables, &exit_stop(p, Call::Exec, 0), Reply::Done, p, l)
+}
