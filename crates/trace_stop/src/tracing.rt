@@ -1,8 +1,7 @@
 //! Trace stops, and what resumes a process.
 
-ghost use Rattle.std.specs.Prelude.{◌≡◌, None, Some, IfSome, IsSome, true};
+ghost use Rattle.std.specs.Prelude.{◌≡◌, IfSome, IsSome, true};
 ghost use Rattle.std.specs.Option.{IsSomeAnd};
-ghost use Rattle.signals.specs.Sets.{without};
 ghost use Rattle.lwp_table.specs.Lwps.{lwp_of};
 ghost use Rattle.proc_table.specs.Processes.{process_of, reporting};
 ghost use Rattle.proc_table.specs.Rows.{is_numbered};
@@ -13,11 +12,12 @@ ghost use Rattle.trace_stop.specs.Facts.{IsSound, Stands};
 ghost use Rattle.trace_stop.specs.Free.{resumed, detached};
 ghost use Rattle.trace_stop.specs.Laws.{is_live_at};
 ghost use Rattle.trace_stop.specs.Reports.{IsStopped, reporter, report_dropped, unreported};
-ghost use Rattle.trace_stop.specs.Stop.{stop, ends_process};
+ghost use Rattle.trace_stop.specs.Stop.{stop, ends_process, resume, detach};
 
-use crate::Shown;
 use crate::edits::{Edit, edit_lwps};
+use crate::ends::end;
 use crate::signaling::notify;
+use crate::{Settings, Shown};
 use event_masks::{EventMask, StopFlags};
 use lwp_table::LwpData;
 use pid_blocks::{Pid, Tid};
@@ -112,6 +112,37 @@ fn ends(tables: &Tables, pid: Pid, pass: Pass) -> bool
     match pass.signal() {
         Some(signal) => p.dispositions.ends(signal),
         None => false,
+    }
+}
+
+/// Resumes a process from a trace stop with a signal, or with none; the signal may end it. Takes no
+/// memory.
+pub fn resume(tables: &mut Tables, settings: Settings, pid: Pid, pass: Pass)
+    requires sound { IsSound tables.old.rows }
+    requires stopped { IsStopped pid tables.old.rows }
+    ensures rows { tables.new.rows ≡ resume settings pid pass tables.old.rows }
+    ensures sound { IsSound tables.new.rows }
+{
+    let ends = ends(tables, pid, pass);
+    run_on(tables, pid);
+    if ends {
+        end(tables, settings, pid, pass.number());
+    }
+}
+
+/// Detaches a process from its tracer, with a signal or with none; the signal may end it. Takes no
+/// memory.
+pub fn detach(tables: &mut Tables, settings: Settings, pid: Pid, pass: Pass)
+    requires sound { IsSound tables.old.rows }
+    requires stopped { IsStopped pid tables.old.rows }
+    ensures rows { tables.new.rows ≡ detach settings pid pass tables.old.rows }
+    ensures sound { IsSound tables.new.rows }
+{
+    if ends(tables, pid, pass) {
+        run_on(tables, pid);
+        end(tables, settings, pid, pass.number());
+    } else {
+        free(tables, pid, SigSet::empty());
     }
 }
 
