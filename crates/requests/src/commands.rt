@@ -18,7 +18,6 @@ ghost use Rattle.requests.specs.Callers.{IsCaller};
 ghost use Rattle.requests.specs.Commands.{command, with_signal};
 ghost use Rattle.requests.specs.Memory.{lists, is_refusal};
 
-use crate::stubs::{clear_stepping, detach, resume};
 use crate::tracers::{attach, trace_me};
 use crate::{Reply, Request};
 use event_masks::EventMask;
@@ -28,7 +27,7 @@ use pid_blocks::{Errno, Pid, Tid, Uid};
 use proc_table::{ProcData, State, Tables};
 use signals::{Pass, Signal};
 use std::alloc::Global;
-use trace_stop::Settings;
+use trace_stop::{Settings, clear_stepping, detach, resume};
 
 /// A request of ptrace(2) by a process that runs. A target up to 99999 names a process, and its LWP that reports
 /// a stop; a greater one names an LWP, and its process. Refused as the manual page says, and PT_GETLWPLIST

@@ -11,14 +11,13 @@ ghost use Rattle.requests.specs.Handle.{handled_by, done, policies_in};
 use crate::Reply;
 use crate::commands::{continue_with, detach_with, resume_with};
 use crate::handlers::HandlerTable;
-use crate::stubs::collect;
 use lwp_table::LwpData;
 use pid_blocks::{Errno, Pid, Tid, Uid};
 use proc_table::{ProcData, State, Tables};
 use signals::Signal;
 use stop_handlers::{Decider, Decision, StopView};
 use trace_stop::Settings;
-use wait4::{Collected, Options, Status, StatusKind};
+use wait4::{Collected, Options, Status, StatusKind, collect};
 
 /// Does what was decided about the trace stop of a process.
 fn carry_out(tables: &mut Tables, settings: Settings, process: &ProcData, decision: Decision)

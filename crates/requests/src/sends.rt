@@ -10,11 +10,10 @@ ghost use Rattle.requests.specs.Reach.{reach, post_if_live, reached, kill, next_
 
 use crate::Reply;
 use crate::handlers::is_live;
-use crate::stubs::post;
 use pid_blocks::{Errno, Pid, Uid};
 use proc_table::Tables;
 use signals::Pass;
-use trace_stop::Settings;
+use trace_stop::{Settings, post};
 
 /// Posts the signal to the process with this number, if it is there and live; 0 is posted to none.
 fn post_if_live(tables: &mut Tables, settings: Settings, pid: Pid, pass: Pass)
