@@ -52,8 +52,10 @@ module _ (u : ℕ) (s : PlainStep) (m : Machine) (user : IsUser u) (is : sound m
   pub finished : (o : Outcome) (rows : Rows) (r : Reply) → step u s m ≡ after m o → Did u s m o rows r → Finished u s m (kept_by u rows m) r
   finished o rows r same did = from_machine (kept_by u rows m) r
       (λ ok. (ap (λ x. kept_by u x m) (did.machine ok).0 ∙ sym (drops m u user is s o same) ∙ sym (ap (λ a. a.machine) same), (did.machine ok).1 ∙ sym (ap (λ a. a.reply) same)))
-      (λ e. (ap (λ x. kept_by u x m) (did.memory e).0 ∙ ap (λ x. record m { installed = x }) (ap (set_at m.installed) (all_left m is u user) ∙ set-get_or m.installed (slot u) []),
-      rw ((did.memory e).1, ap (λ a. is_refusal a.reply) same ∙ (did.memory e).2) refl))
+      (λ e. (
+        ap (λ x. kept_by u x m) (did.memory e).0 ∙ ap (λ x. record m { installed = x }) (ap (set_at m.installed) (all_left m is u user) ∙ set-get_or m.installed (slot u) []),
+        rw ((did.memory e).1, ap (λ a. is_refusal a.reply) same ∙ (did.memory e).2) refl,
+      ))
     where
       set_at : List (List Installed) → List Installed → List (List Installed)
       set_at xs ys = set xs (slot u) ys

@@ -11,8 +11,8 @@ use crate::Reply;
 use pid_blocks::Errno;
 use proc_table::{ProcData, Tables};
 use signals::{Disposition, Dispositions, Signal};
-use wait4::{Collected, Options, collect};
 use trace_stop::settle;
+use wait4::{Collected, Options, collect};
 
 /// The dispositions with another one of the signal; `None` where sigaction(2) refuses that.
 fn with_disposition(

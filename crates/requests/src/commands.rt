@@ -276,7 +276,12 @@ pub fn detach_with(tables: &mut Tables, settings: Settings, process: &ProcData, 
 }
 
 /// The process runs on with a signal or with 0. Refused with EINVAL where the number is above 31.
-pub fn resume_with(tables: &mut Tables, settings: Settings, process: &ProcData, number: u32) -> Reply
+pub fn resume_with(
+    tables: &mut Tables,
+    settings: Settings,
+    process: &ProcData,
+    number: u32,
+) -> Reply
     requires sound { IsSound tables.old.rows }
     requires at { process_of process.now.pid tables.old.rows.processes ≡ Some process.now }
     requires stopped { is_some (reporting process.now) ≡ true }

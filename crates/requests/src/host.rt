@@ -12,14 +12,14 @@ ghost use Rattle.requests.specs.Plain.{plain};
 ghost use Rattle.requests.specs.Sound.{sound};
 ghost use Rattle.requests.specs.Step.{step};
 
-use crate::handlers::HandlerTable;
-use crate::deciding::handle;
-use crate::spawns::spawn;
-use crate::lists::pids_of;
 use crate::calls::{sigaction, wait};
 use crate::commands::ptrace;
-use crate::sends::kill;
+use crate::deciding::handle;
+use crate::handlers::HandlerTable;
+use crate::lists::pids_of;
 use crate::lwp_turns::turn;
+use crate::sends::kill;
+use crate::spawns::spawn;
 use crate::{Act, Reply, Request, Step};
 use event_masks::Call;
 use pid_blocks::{Errno, Pid, Uid};
@@ -73,6 +73,13 @@ impl<F: Decider + Send + Drop> Host<F> {
             handlers,
             settings,
         })
+    }
+
+    /// What a host always keeps; for proofs.
+    pub fn kept(&self)
+        ensures { sound self.now ≡ true }
+    {
+        let _settings = self.settings;
     }
 
     /// Whether a debugger's end kills its tracees.
@@ -201,7 +208,14 @@ impl<F: Decider + Send + Drop> Host<F> {
             Ok(caller) => caller,
             Err(refusal) => return refusal,
         };
-        let reply = kill(&mut self.tables, self.settings, user, caller.pid, which, sig);
+        let reply = kill(
+            &mut self.tables,
+            self.settings,
+            user,
+            caller.pid,
+            which,
+            sig,
+        );
         self.handlers.drop_ended(user, &self.tables);
         reply
     }
@@ -226,7 +240,15 @@ impl<F: Decider + Send + Drop> Host<F> {
     }
 
     /// A request of a debugger.
-    fn ptrace(&mut self, alloc: Global, user: Uid, caller: u32, request: Request, target: u32, arg: u32) -> Reply
+    fn ptrace(
+        &mut self,
+        alloc: Global,
+        user: Uid,
+        caller: u32,
+        request: Request,
+        target: u32,
+        arg: u32,
+    ) -> Reply
         ensures machine { result ≢ reply.Errno errno.ENOMEM →
             (self.new ≡ (step user (op.Ptrace caller request target arg) self.old).machine) × (result ≡ (step user (op.Ptrace caller request target arg) self.old).reply) }
         ensures memory { result ≡ reply.Errno errno.ENOMEM →

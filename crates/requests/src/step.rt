@@ -14,7 +14,9 @@ pub enum Step<F: Decider + Send + Drop> {
     /// A new process of the user, with one LWP.
     Spawn,
     /// The user's processes, asked by one of them.
-    List { caller: u32 },
+    List {
+        caller: u32,
+    },
     /// sigaction(2).
     Sigaction {
         caller: u32,
@@ -22,7 +24,11 @@ pub enum Step<F: Decider + Send + Drop> {
         disposition: Disposition,
     },
     /// kill(2).
-    Kill { caller: u32, which: i64, sig: u32 },
+    Kill {
+        caller: u32,
+        which: i64,
+        sig: u32,
+    },
     /// wait4(2), as with WNOHANG.
     Wait4 {
         caller: u32,
@@ -30,9 +36,14 @@ pub enum Step<F: Decider + Send + Drop> {
         options: Options,
     },
     /// A stop handler of a debugger, asked after those that it installed before.
-    Install { caller: u32, handler: Handler<F> },
+    Install {
+        caller: u32,
+        handler: Handler<F>,
+    },
     /// A wait for any child, whose trace stop goes to the debugger's handlers.
-    Handle { caller: u32 },
+    Handle {
+        caller: u32,
+    },
     /// ptrace(2).
     Ptrace {
         caller: u32,
@@ -41,7 +52,10 @@ pub enum Step<F: Decider + Send + Drop> {
         arg: u32,
     },
     /// The turn of an LWP.
-    Turn { tid: u32, act: Act },
+    Turn {
+        tid: u32,
+        act: Act,
+    },
 }
 
 impl<F: Decider + Send + Drop> Step<F> {

@@ -32,7 +32,6 @@ returns-in-Err-clause-memory g c =
 pub returns-in-Err-clause-sound : goal.returns-in-Err-clause-sound
 returns-in-Err-clause-sound g c = rw (← c.self.view_is) c.self.invariant
 
-
 pub returns-then-count-ge64-clause-machine : goal.returns-then-count-ge64-clause-machine
 returns-then-count-ge64-clause-machine g c =
     let m : Machine = c.args.self.now in
@@ -52,7 +51,7 @@ done g c =
     let by : Calls c.args.user c.args.caller m.rows c.in-Ok.caller = subst (λ x. Calls c.args.user c.args.caller x.rows c.in-Ok.caller) (sym c.self.view_is) c.in-Ok.ensures.found in
     let few : length (installed_by c.args.user m) < 64 = subst (λ n. n < 64) c.count.ensures c.if-count-ge64.false in
     let at : step c.args.user (op.Install c.args.caller c.args.handler) m ≡ installed_with c.args.user c.in-Ok.caller.pid c.args.handler m =
-      called c.args.user c.args.caller (op.Install c.args.caller c.args.handler) m refl c.in-Ok.caller by.seen by.live by.runs ∙ rw (few_leb (length (installed_by c.args.user m)) few) refl in
+    called c.args.user c.args.caller (op.Install c.args.caller c.args.handler) m refl c.in-Ok.caller by.seen by.live by.runs ∙ rw (few_leb (length (installed_by c.args.user m)) few) refl in
     elim c.match-install.branch [
       | in-Ok-install w ↦ subst (λ r. Finished c.args.user (op.Install c.args.caller c.args.handler) m (machine_of c.self.inside.settings c.self.inside.tables c.install.new.self) r) (sym w.result-is)
           (from_machine c.args.user (op.Install c.args.caller c.args.handler) m c.get-user.ensures.user c.self.invariant refl (machine_of c.self.inside.settings c.self.inside.tables c.install.new.self) reply.Done

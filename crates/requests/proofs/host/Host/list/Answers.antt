@@ -30,7 +30,6 @@ returns-in-Err-clause-memory g c =
 pub returns-in-Err-clause-sound : goal.returns-in-Err-clause-sound
 returns-in-Err-clause-sound g c = rw (← c.self.view_is) c.self.invariant
 
-
 done : (g : Over) (c : goal.Joined-pids_of g) → Finished c.args.user (op.List c.args.caller) c.args.self.now c.args.self.now c.match-pids_of.result
 done g c =
     let m : Machine = c.args.self.now in

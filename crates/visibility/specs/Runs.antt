@@ -1,0 +1,41 @@
+-- Steps of a host, as the machine sees them, and their answers.
+use Rattle.std.specs.Prelude.{◌≡◌, ℕ, Bool, true, false, List, Option, Some, None, if◌then◌else◌}
+use Rattle.pid_blocks.specs.declared.Errno.TheVariants as errno
+use Rattle.requests.specs.declared.PlainStep.{PlainStep}
+use Rattle.requests.specs.declared.Reply.{Reply}
+use Rattle.requests.specs.declared.Reply.TheVariants as reply
+use Rattle.requests.specs.declared.step.Step.{Step}
+use Rattle.requests.specs.Machine.{Machine}
+use Rattle.requests.specs.Plain.{plain}
+use Rattle.requests.specs.Run.{Asked, asked_by}
+use Rattle.requests.specs.View.{view}
+use Rattle.requests.specs.Isolation.{reply_of, host_after, replies_to, answered, somes}
+
+-- a step and its user, with a policy in place of a handler
+abbrev pub asked : {F : Type 0} → ℕ × Step F → Asked
+asked s = record { uid = s.0; step = plain s.1 }
+
+abbrev pub is_memory : Reply → Bool
+is_memory (reply.Errno errno.ENOMEM) = true
+is_memory r = false
+
+-- an answer, where memory didn't run out
+abbrev pub told : Reply → Option Reply
+told r = if is_memory r then None else Some r
+
+-- what a step did to a host: the machine's answer and the machine's host, or want of memory and the host as it was
+abbrev pub Did : Option Reply → ℕ → PlainStep → Machine → Machine → Type 0
+Did None u s m k = k ≡ m
+Did (Some r) u s m k = (r ≡ reply_of u s m) × (k ≡ host_after u s m)
+
+-- where both steps were answered: the answers, and something more
+abbrev pub BothTold : Option Reply → Option Reply → (Reply → Reply → Type 0) → Type 0
+BothTold None s P = Unit {0}
+BothTold (Some r) None P = Unit {0}
+BothTold (Some r) (Some q) P = P r q
+
+-- where the answered steps of a user are the same in two runs, so are the user's replies, and what the user sees afterwards
+abbrev pub Agree : ℕ → List Asked → List Asked → List (Option Reply) → List (Option Reply) → Machine → Machine → Type 0
+Agree u xs ys rs ss m k =
+    asked_by u (answered xs rs) ≡ asked_by u (answered ys ss)
+    → (replies_to u (answered xs rs) (somes rs) ≡ replies_to u (answered ys ss) (somes ss)) × (view u m ≡ view u k)

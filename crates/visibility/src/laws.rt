@@ -1,0 +1,105 @@
+//! The laws of isolation, made on hosts.
+
+ghost use Rattle.std.specs.Prelude.{◌≡◌, ◌≢◌, map, IfOk, OnErr};
+ghost use Rattle.requests.specs.Plain.{plain};
+ghost use Rattle.requests.specs.View.{view};
+ghost use Rattle.requests.specs.Isolation.{Ran, AlikeSteps};
+ghost use Rattle.visibility.specs.Runs.{asked, told, Did, BothTold, Agree};
+
+use crate::runs::run_into;
+use pid_blocks::Uid;
+use requests::{Host, Reply, Step};
+use std::alloc::{AllocError, Global};
+use stop_handlers::Decider;
+
+/// One step of a user in two hosts of which the user sees the same: where both are answered, the replies are equal, and the user
+/// sees the same of both hosts afterwards.
+pub fn one_step<F: Decider + Send + Drop>(
+    alloc: Global,
+    first: &mut Host<F>,
+    second: &mut Host<F>,
+    user: Uid,
+    step: Step<F>,
+    same: Step<F>,
+) -> (Reply, Reply)
+    requires steps { plain same ≡ plain step }
+    requires seen { view user first.old ≡ view user second.old }
+    ensures first { Did (told result.0) user (plain step) first.old first.new }
+    ensures second { Did (told result.1) user (plain step) second.old second.new }
+    ensures equal { BothTold (told result.0) (told result.1) (λ r q. (r ≡ q) × (view user first.new ≡ view user second.new)) }
+{
+    let _number = user.get();
+    first.kept();
+    second.kept();
+    let reply = first.step(alloc, user, step);
+    let other = second.step(alloc, user, same);
+    (reply, other)
+}
+
+/// A step of another user leaves what a user sees, whatever it answers.
+pub fn other_step<F: Decider + Send + Drop>(
+    alloc: Global,
+    host: &mut Host<F>,
+    user: Uid,
+    other: Uid,
+    step: Step<F>,
+) -> Reply
+    requires differ { user ≢ other }
+    ensures step { Did (told result) other (plain step) host.old host.new }
+    ensures view { view user host.new ≡ view user host.old }
+{
+    let _numbers = (user.get(), other.get());
+    host.kept();
+    host.step(alloc, other, step)
+}
+
+/// Two steps that differ in numbers alone that the user doesn't see, in two equal hosts: where both are answered, the replies are
+/// equal, and so are the hosts afterwards.
+pub fn foreign_number<F: Decider + Send + Drop>(
+    alloc: Global,
+    first: &mut Host<F>,
+    second: &mut Host<F>,
+    user: Uid,
+    step: Step<F>,
+    other: Step<F>,
+) -> (Reply, Reply)
+    requires hosts { second.old ≡ first.old }
+    requires steps { AlikeSteps user first.old (plain step) (plain other) }
+    ensures first { Did (told result.0) user (plain step) first.old first.new }
+    ensures second { Did (told result.1) user (plain other) second.old second.new }
+    ensures equal { BothTold (told result.0) (told result.1) (λ r q. (r ≡ q) × (first.new ≡ second.new)) }
+{
+    let _number = user.get();
+    first.kept();
+    let reply = first.step(alloc, user, step);
+    let answer = second.step(alloc, user, other);
+    (reply, answer)
+}
+
+/// Two lists of steps of all users in two hosts of which a user sees the same: where the answered steps of that user are the same in
+/// both, so are the user's replies, and what the user sees of both hosts afterwards. Room is taken before either host changes: an
+/// error is want of memory, and changes nothing.
+pub fn two_lists<F: Decider + Send + Drop>(
+    alloc: Global,
+    first: &mut Host<F>,
+    second: &mut Host<F>,
+    user: Uid,
+    steps: Vec<(Uid, Step<F>)>,
+    others: Vec<(Uid, Step<F>)>,
+) -> Result<(Vec<Reply>, Vec<Reply>), AllocError>
+    requires seen { view user first.old ≡ view user second.old }
+    ensures first { IfOk result (λ r. Ran (map asked steps.items) (map told r.0.items) first.old first.new) }
+    ensures second { IfOk result (λ r. Ran (map asked others.items) (map told r.1.items) second.old second.new) }
+    ensures equal { IfOk result (λ r. Agree user (map asked steps.items) (map asked others.items) (map told r.0.items) (map told r.1.items) first.new second.new) }
+    ensures first_refused { OnErr result (first.new ≡ first.old) }
+    ensures second_refused { OnErr result (second.new ≡ second.old) }
+{
+    let _number = user.get();
+    first.kept();
+    second.kept();
+    let replies = Vec::with_capacity(alloc, steps.len())?;
+    let answers = Vec::with_capacity(alloc, others.len())?;
+    let told = run_into(alloc, first, steps, replies);
+    let said = run_into(alloc, second, others, answers);
+    Ok((told, said))
+}

@@ -1,0 +1,46 @@
+//! Lists of steps of all users.
+
+ghost use Rattle.std.specs.Prelude.{◌≡◌, [], map, length, IfOk, OnErr, vec_capacity};
+ghost use Rattle.requests.specs.Isolation.{Ran, Private, Users};
+ghost use Rattle.visibility.specs.Runs.{asked, told};
+
+use pid_blocks::Uid;
+use requests::{Host, Reply, Step};
+use std::alloc::{AllocError, Global};
+use stop_handlers::Decider;
+
+/// Makes the steps in turn. There is room for the replies.
+pub(crate) fn run_into<F: Decider + Send + Drop>(
+    alloc: Global,
+    host: &mut Host<F>,
+    steps: Vec<(Uid, Step<F>)>,
+    mut replies: Vec<Reply>,
+) -> Vec<Reply>
+    requires empty { replies.items ≡ [] }
+    requires room { vec_capacity replies ≡ length steps.items }
+    ensures ran { Ran (map asked steps.items) (map told result.items) host.old host.new }
+    ensures users { Users (map asked steps.items) }
+{
+    for (user, step) in steps {
+        let _number = user.get();
+        let reply = host.step(alloc, user, step);
+        replies.push_reserved(reply);
+    }
+    replies
+}
+
+/// Makes the steps of all users in turn on the host, and answers the replies in order. Room for the replies is taken
+/// first: an error is want of memory, and changes nothing.
+pub fn run_list<F: Decider + Send + Drop>(
+    alloc: Global,
+    host: &mut Host<F>,
+    steps: Vec<(Uid, Step<F>)>,
+) -> Result<Vec<Reply>, AllocError>
+    ensures ran { IfOk result (λ replies. Ran (map asked steps.items) (map told replies.items) host.old host.new) }
+    ensures own { IfOk result (λ replies. Private (map asked steps.items) (map told replies.items) host.old host.new) }
+    ensures refused { OnErr result (host.new ≡ host.old) }
+{
+    host.kept();
+    let replies = Vec::with_capacity(alloc, steps.len())?;
+    Ok(run_into(alloc, host, steps, replies))
+}
