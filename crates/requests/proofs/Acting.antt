@@ -1,5 +1,6 @@
 -- An LWP at its turn, in sound rows, and changes of it and of its process.
-use Rattle.std.proofs.Common.{◌≡◌, ℕ, ◌≤◌, Bool, true, false, ◌==◌, ◌&&◌, not, if◌then◌else◌, Option, Some, None, IfSome, is_some, refl, sym, ap, ◌∙◌, true≢false, subst, eqb, eq-eqb}
+use Rattle.std.proofs.Common.{◌≡◌, ℕ, ◌≤◌, true, false, ◌==◌, ◌&&◌, not, if◌then◌else◌, Option, Some, None, IfSome, is_some, refl, sym, ap, ◌∙◌, true≢false, subst, eqb, eq-eqb}
+use Rattle.std.specs.Option.{IsSomeAnd}
 use Rattle.event_masks.specs.Exits.{shows}
 use Rattle.event_masks.specs.declared.TheConstants.StopFlags.{PL_FLAG_EXITED}
 use Rattle.lwp_table.specs.declared.LwpData.{LwpData}
@@ -11,19 +12,16 @@ use Rattle.proc_table.specs.Fresh.{lwp_count}
 use Rattle.proc_table.specs.Seen.{owns, seen_lwp}
 use Rattle.trace_stop.specs.declared.Shown.{Shown}
 use Rattle.trace_stop.specs.Stop.{stop}
+use Rattle.trace_stop.specs.Before.{MayStop}
 use Rattle.trace_stop.specs.Facts.{Linked, FitProcess, Standing, FitLwp, WithOwner, IsSound}
-use Rattle.trace_stop.proofs.Every.{find_some}
+use Rattle.trace_stop.proofs.Every.{find_some, choose}
 use Rattle.trace_stop.proofs.Edited.{find_edit}
 use Rattle.trace_stop.proofs.Changed.{found_number}
 use Rattle.trace_stop.proofs.Single.{OneProcess, process_sound, OneLwp, lwp_sound}
 use Rattle.trace_stop.proofs.Stopping.{own_lwps}
-use Rattle.trace_stop.proofs.Stops.{run_quiet, run_ready, sound_ready, stop_sound}
+use Rattle.trace_stop.proofs.Stops.{run_quiet, may_stop, stopped_sound}
 use Rattle.requests.specs.declared.Reply.{Reply}
 use Rattle.requests.specs.Outcome.{stops_or}
-
-pub choose : {X : Type 0} (b : Bool) (x y : X) (R : X → Type 0) → (b ≡ true → R x) → (b ≡ false → R y) → R (if b then x else y)
-choose true x y R h k = h refl
-choose false x y R h k = k refl
 
 -- a process that isn't untraced is traced
 pub traced_where : {X : Type 0} (o : Option X) → (o ≡ None → ⊥) → is_some o ≡ true
@@ -94,8 +92,11 @@ module _ (rows : Rows) (p : ProcData) (l : LwpData) (a : Acting rows p l) where
   }
 
   -- a trace stop of the LWP
+  pub acting_may_stop : (shown : Shown) → is_some p.tracer ≡ true → (shows shown.flags PL_FLAG_EXITED ≡ true → 2 ≤ lwp_count p.pid rows) → MayStop p.pid l.tid shown rows
+  acting_may_stop shown traced exits = may_stop rows p.pid l.tid shown p a.sound a.home a.run traced (subst (λ o. IsSomeAnd o (λ (k : LwpData). k.pid ≡ p.pid)) (sym a.there) a.own) exits
+
   pub acting_stops : (shown : Shown) → is_some p.tracer ≡ true → (shows shown.flags PL_FLAG_EXITED ≡ true → 2 ≤ lwp_count p.pid rows) → IsSound (stop p.pid l.tid shown rows)
-  acting_stops shown traced exits = stop_sound rows p.pid l.tid shown p l (sound_ready rows p.pid p a.sound a.home (run_ready p its_fit a.run traced)) (record { at = a.home; there = a.there; own = a.own; exits = exits })
+  acting_stops shown traced exits = stopped_sound rows p.pid l.tid shown p l a.home a.there (acting_may_stop shown traced exits)
 
 -- a stop that may be made: of a traced process, and not of an LWP's exit
 pub record MayMake (p : ProcData) (shown : Shown) : Type 0 where

@@ -1,5 +1,6 @@
 -- A process that gets a tracer, by its own request or by an attach, keeps rows sound.
 use Rattle.std.proofs.Common.{◌≡◌, ◌≢◌, ℕ, Bool, true, false, cond, ◌==◌, List, [], ◌∷◌, find, Option, Some, None, is_some, refl, sym, ap, ◌∙◌, true≢false, subst, arith, eqb-true, eq-eqb}
+use Rattle.std.specs.Option.{IsSomeAnd}
 use Rattle.std.specs.Prelude.{count_by}
 use Rattle.event_masks.specs.Exits.{default_mask}
 use Rattle.signals.specs.Table.{SIGSTOP}
@@ -10,25 +11,21 @@ use Rattle.proc_table.specs.declared.State.{State}
 use Rattle.proc_table.specs.declared.State.TheVariants.{Run, Trace, Job, Zombie}
 use Rattle.proc_table.specs.Processes.{is_live, is_run, is_run_state, is_job_state, reporting, process_of}
 use Rattle.proc_table.specs.Rows.{Rows, change_process}
+use Rattle.trace_stop.specs.Before.{Ready, FitOrReady, MayStop}
 use Rattle.trace_stop.specs.Facts.{IsLiveOf, Linked, FitProcess, FitLwp, IsSound}
-use Rattle.trace_stop.proofs.Every.{All-imply, find_some, count-cons}
+use Rattle.trace_stop.proofs.Every.{All-imply, find_some, count-cons, choose, not_some}
 use Rattle.trace_stop.proofs.Changed.{Holds, sound_holds}
 use Rattle.trace_stop.proofs.Posting.{live_fits, live_state}
-use Rattle.trace_stop.proofs.Stops.{Ready, Readied, stop_sound}
+use Rattle.trace_stop.proofs.Stops as stops
 use Rattle.trace_stop.proofs.Linking.{Traced, linked_holds, linked_row}
 use Rattle.trace_stop.proofs.Stopping.{own_lwps}
 use Rattle.requests.specs.Outcome.{Outcome}
 use Rattle.requests.specs.Turn.{plain}
 use Rattle.requests.specs.Ptrace.{closes_chain, traced_by, trace_me, stop_first, attach}
-use Rattle.requests.proofs.Acting.{choose}
 
 none_where : {X : Type 0} (o : Option X) → (is_some o ≡ true → ⊥) → o ≡ None
 none_where None h = refl
 none_where (Some x) h = absurd (h refl)
-
-pub none_is : {X : Type 0} (o : Option X) → is_some o ≡ false → o ≡ None
-none_is None is = refl
-none_is (Some x) is = absurd (true≢false is)
 
 none_counted : {X : Type 0} (t : X → Bool) (xs : List X) → find t xs ≡ None → count_by t xs ≡ 0
 none_counted t [] is = refl
@@ -89,10 +86,17 @@ module _ (rows : Rows) (p : ProcData) (n : ℕ) (s : IsSound rows) (at : process
   ready : Ready tracee
   ready = record { live = live; traced = refl; quiet = none_where (reporting p) (λ is. true≢false (sym (fit.stopped is) ∙ ap is_some free)); calm = refl }
 
+  pub attached_may_stop : (l : LwpData) → lwp_of l.tid rows.lwps ≡ Some l → l.pid ≡ p.pid → MayStop p.pid l.tid (plain SIGSTOP) made
+  attached_may_stop l there own = record {
+    stands = held.stands;
+    processes = All-imply Others (FitOrReady p.pid) (λ q h. (h.0, λ same. subst Ready (sym (h.1 same)) ready)) made.processes held.processes;
+    lwps = held.lwps;
+    own = subst (λ o. IsSomeAnd o (λ (k : LwpData). k.pid ≡ p.pid)) (sym there) own;
+    exits = λ is. absurd (true≢false (sym is));
+  }
+
   stopped_sound : (l : LwpData) → lwp_of l.tid rows.lwps ≡ Some l → l.pid ≡ p.pid → IsSound (stop_first p.pid (Some l) made)
-  stopped_sound l there own = stop_sound made p.pid l.tid (plain SIGSTOP) tracee l
-      (record { stands = held.stands; processes = All-imply Others (Readied p.pid) (λ q h. (h.0, λ same. subst Ready (sym (h.1 same)) ready)) made.processes held.processes; lwps = held.lwps })
-      (record { at = linked_row rows p n default_mask s at tracer other far; there = there; own = own; exits = λ is. absurd (true≢false (sym is)) })
+  stopped_sound l there own = stops.stopped_sound made p.pid l.tid (plain SIGSTOP) tracee l (linked_row rows p n default_mask s at tracer other far) there (attached_may_stop l there own)
 
   pub attached_sound : IsSound (stop_first p.pid (first_lwp p.pid rows.lwps) made)
   attached_sound = by_first (first_lwp p.pid rows.lwps) refl
@@ -112,11 +116,11 @@ trace_me_sound rows p s at live run =
     choose (is_some p.tracer) _ _ (λ (o : Outcome). IsSound o.rows) (λ e. s) (λ untraced.
     choose (p.parent == 1) _ _ (λ (o : Outcome). IsSound o.rows) (λ e. s) (λ has.
     choose (closes_chain p.pid p.parent rows) _ _ (λ (o : Outcome). IsSound o.rows) (λ e. s) (λ far.
-    run_traced_sound rows p p.parent s at live (none_is p.tracer untraced) (link.parent (λ one. true≢false (sym (eq-eqb p.parent 1 one) ∙ has))) link.other far run)))
+    run_traced_sound rows p p.parent s at live (not_some p.tracer untraced) (link.parent (λ one. true≢false (sym (eq-eqb p.parent 1 one) ∙ has))) link.other far run)))
 
 pub attach_sound : (rows : Rows) (caller p : ProcData) → IsSound rows → process_of p.pid rows.processes ≡ Some p → is_live p ≡ true → IsLiveOf rows p.uid caller.pid → IsSound (attach caller p rows).rows
 attach_sound rows caller p s at live tracer =
     choose (p.pid == caller.pid) _ _ (λ (o : Outcome). IsSound o.rows) (λ e. s) (λ differs.
     choose (is_some p.tracer) _ _ (λ (o : Outcome). IsSound o.rows) (λ e. s) (λ untraced.
     choose (closes_chain p.pid caller.pid rows) _ _ (λ (o : Outcome). IsSound o.rows) (λ e. s) (λ far.
-    attached_sound rows p caller.pid s at live (none_is p.tracer untraced) tracer (λ same. true≢false (sym (eq-eqb p.pid caller.pid (sym same)) ∙ differs)) far)))
+    attached_sound rows p caller.pid s at live (not_some p.tracer untraced) tracer (λ same. true≢false (sym (eq-eqb p.pid caller.pid (sym same)) ∙ differs)) far)))

@@ -15,13 +15,14 @@ use Rattle.proc_table.specs.Rows.{Rows, owner, by_owner, edit_lwps, change_proce
 use Rattle.trace_stop.specs.Post.{settled_process, settled_lwp, settle}
 use Rattle.trace_stop.specs.End.{waits_where, released}
 use Rattle.trace_stop.specs.Sound.{is_due}
+use Rattle.trace_stop.specs.Before.{IsSoundButPending}
 use Rattle.trace_stop.specs.Facts.{IsLiveChild, waited_for, FitLwp, IsSound}
-use Rattle.trace_stop.proofs.Every.{count-cons}
+use Rattle.trace_stop.proofs.Every.{count-cons, choose}
 use Rattle.trace_stop.proofs.Edited.{If_more, some_is, find_edit}
 use Rattle.trace_stop.proofs.Changed.{found_number}
-use Rattle.trace_stop.proofs.Settling.{disposed_sound}
+use Rattle.trace_stop.proofs.Settling.{settle_sound, disposed_but_pending}
 use Rattle.requests.specs.Leave.{exec_rows}
-use Rattle.requests.proofs.Acting.{choose, Acting, owner_is, its_live}
+use Rattle.requests.proofs.Acting.{Acting, owner_is, its_live}
 use Rattle.requests.proofs.Masks.{changed_process, changed_lwp}
 use Rattle.requests.proofs.Signals.{Alike}
 use Rattle.requests.proofs.Lwps.{Thins, thins_sound}
@@ -133,8 +134,14 @@ module _ (rows : Rows) (p : ProcData) (l : LwpData) (a : Acting rows p l) where
   abbrev made : Rows
   made = change_process p.pid redisposed thinned
 
+  pub thinned_sound : IsSound thinned
+  thinned_sound = thins_sound rows p l a to_lwp exec_thins
+
+  pub exec_but_pending : IsSoundButPending p.pid made
+  exec_but_pending = disposed_but_pending thinned p.pid p (λ q. after_exec q.dispositions) thinned_sound a.home (its_live rows p l a)
+
   pub exec_sound : IsSound (exec_rows p l rows)
-  exec_sound = disposed_sound thinned p.pid p (λ q. after_exec q.dispositions) (thins_sound rows p l a to_lwp exec_thins) a.home (its_live rows p l a)
+  exec_sound = settle_sound made p.pid exec_but_pending
 
   made_process : process_of p.pid made.processes ≡ Some (redisposed p)
   made_process = find_edit (λ q. q.pid == p.pid) (λ q. Some (if q.pid == p.pid then redisposed q else q)) (λ q. choose (q.pid == p.pid) (redisposed q) q (λ r. (r.pid == p.pid) ≡ (q.pid == p.pid)) (λ e. refl) (λ e. refl)) rows.processes p (redisposed p) a.home (rw (eq-eqb p.pid p.pid refl) refl)

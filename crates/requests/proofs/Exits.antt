@@ -12,12 +12,12 @@ use Rattle.proc_table.specs.declared.ProcData.{ProcData}
 use Rattle.trace_stop.specs.declared.Shown.{Shown}
 use Rattle.trace_stop.specs.Sound.{is_end}
 use Rattle.trace_stop.specs.Facts.{FitProcess}
-use Rattle.trace_stop.proofs.Every.{or_left}
+use Rattle.trace_stop.proofs.Every.{or_left, choose}
 use Rattle.trace_stop.proofs.Every as every
 use Rattle.trace_stop.proofs.Settling.{zero_apart}
 use Rattle.requests.specs.Outcome.{trap}
 use Rattle.requests.specs.Leave.{exit_stop}
-use Rattle.requests.proofs.Acting.{choose, traced_where, MayMake}
+use Rattle.requests.proofs.Acting.{traced_where, MayMake}
 
 -- the flags of a stop that may be made
 pub record MayShow (p : ProcData) (flags : StopFlags) : Type 0 where

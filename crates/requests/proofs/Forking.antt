@@ -1,5 +1,6 @@
 -- A fork keeps rows sound.
 use Rattle.std.proofs.Common.{◌≡◌, ◌≢◌, ℕ, Bool, true, false, cond, ◌==◌, ◌&&◌, ◌||◌, if◌then◌else◌, List, [], ◌∷◌, ◌++◌, find, Option, Some, None, IfSome, is_some, refl, sym, ap, ◌∙◌, true≢false, subst, eqb, eqb-true, eq-eqb}
+use Rattle.std.specs.Option.{IsSomeAnd}
 use Rattle.std.specs.List.{list_any}
 use Rattle.event_masks.specs.declared.TheConstants.EventMask.{PTRACE_FORK}
 use Rattle.event_masks.specs.declared.Call.{Call}
@@ -17,17 +18,18 @@ use Rattle.trace_stop.specs.Post.{unwanted, continues, posted_process, posted_lw
 use Rattle.trace_stop.specs.End.{tracer_of}
 use Rattle.trace_stop.specs.Stop.{tracers, stop}
 use Rattle.trace_stop.specs.declared.Shown.{Shown}
+use Rattle.trace_stop.specs.Before.{MayStop}
 use Rattle.trace_stop.specs.Facts.{IsLiveOf, IsLiveChild, FitProcess, IsSound}
-use Rattle.trace_stop.proofs.Every.{and_left, both, by_bool}
+use Rattle.trace_stop.proofs.Every.{and_left, both, by_bool, choose}
 use Rattle.trace_stop.proofs.Edited.{find_edit}
 use Rattle.trace_stop.proofs.Children.{child_test, child_passes}
 use Rattle.trace_stop.proofs.Placed.{process_of-other, process_of-placed}
 use Rattle.trace_stop.proofs.Born.{born_sound}
 use Rattle.trace_stop.proofs.Posting.{posted_same, posted_live}
 use Rattle.trace_stop.proofs.Settling.{zero_apart}
-use Rattle.trace_stop.proofs.Stops.{find_passes, sound_ready, stop_sound}
+use Rattle.trace_stop.proofs.Stops.{find_passes, sound_ready, stopped_sound}
 use Rattle.requests.specs.Leave.{Numbers, forked, child_stop, with_child}
-use Rattle.requests.proofs.Acting.{choose, Acting, its_live, its_link, lwp_fit}
+use Rattle.requests.proofs.Acting.{Acting, its_live, its_link, lwp_fit}
 use Rattle.requests.proofs.Masks.{changed_process, changed_lwp}
 use Rattle.requests.proofs.Signals.{Alike}
 use Rattle.requests.proofs.Lwps.{find_more, its_user}
@@ -42,6 +44,7 @@ pub record Heard (rows : Rows) (n : ℕ) (p : ProcData) : Type 0 where
   pub uid : row.uid ≡ p.uid
   pub tracer : row.tracer ≡ p.tracer
   pub parent : row.parent ≡ p.parent
+  pub state : row.state ≡ p.state
   pub live : is_live p ≡ true → is_live row ≡ true
   pub run : is_run p ≡ true → is_run row ≡ true
 
@@ -56,6 +59,7 @@ heard rows pids n p at = record {
   uid = either (λ q. q.uid ≡ p.uid) (posted_same (λ x. x.uid) SIGCHLD None p (λ m. refl) (λ m. refl)) refl;
   tracer = either (λ q. q.tracer ≡ p.tracer) (posted_same (λ x. x.tracer) SIGCHLD None p (λ m. refl) (λ m. refl)) refl;
   parent = either (λ q. q.parent ≡ p.parent) (posted_same (λ x. x.parent) SIGCHLD None p (λ m. refl) (λ m. refl)) refl;
+  state = either (λ q. q.state ≡ p.state) refl refl;
   live = λ is. either (λ q. is_live q ≡ true) (posted_live SIGCHLD None p is) is;
   run = λ is. either (λ q. is_run q ≡ true) (posted_run SIGCHLD None p is) is;
 }
@@ -134,7 +138,7 @@ module _ (call : Call) (rows : Rows) (p : ProcData) (l : LwpData) (a : Acting ro
   its_tracer true = (its_link rows p l a).tracer
   its_tracer false = tt
 
-  made_sound : (followed : Bool) → (followed ≡ true → is_some p.tracer ≡ true) → IsSound (made followed)
+  pub made_sound : (followed : Bool) → (followed ≡ true → is_some p.tracer ≡ true) → IsSound (made followed)
   made_sound followed traced = born_sound rows (child followed) its_lwp a.sound (record {
     home = record { user = its_user rows p l a; block = room.pid };
     free = room.free;
@@ -229,10 +233,12 @@ module _ (call : Call) (rows : Rows) (p : ProcData) (l : LwpData) (a : Acting ro
     abbrev told : List ℕ
     told = tracers (tracer_of (made true).processes new.pid)
 
-    stopped_sound : IsSound after
-    stopped_sound = stop_sound (made true) new.pid new.tid shown (child true) its_lwp
-        (sound_ready (made true) new.pid (child true) (made_sound true (λ e. traced)) (found_child true) (record { live = refl; traced = traced; quiet = refl; calm = refl }))
-        (record { at = found_child true; there = found_first true; own = refl; exits = λ is. absurd (true≢false (sym is)) })
+    pub child_may_stop : MayStop new.pid new.tid shown (made true)
+    child_may_stop = sound_ready (made true) new.pid new.tid shown (child true) (made_sound true (λ e. traced)) (found_child true) (record { live = refl; traced = traced; quiet = refl; calm = refl })
+        (subst (λ o. IsSomeAnd o (λ (k : LwpData). k.pid ≡ new.pid)) (sym (found_first true)) refl) (λ is. absurd (true≢false (sym is)))
+
+    its_stop_sound : IsSound after
+    its_stop_sound = stopped_sound (made true) new.pid new.tid shown (child true) its_lwp (found_child true) (found_first true) child_may_stop
 
     parent_heard : Heard after p.pid p
     parent_heard = heard stopping told p.pid p (other_process p.pid new.pid stops_it (change_lwp new.tid shows_it (made true)) p (λ q. refl) (found_parent true) not_pid)
@@ -250,7 +256,7 @@ module _ (call : Call) (rows : Rows) (p : ProcData) (l : LwpData) (a : Acting ro
         process = parent_heard.row;
         lwp = forker_heard.row;
         acting = record {
-          sound = stopped_sound;
+          sound = its_stop_sound;
           home = subst (λ n. process_of n after.processes ≡ Some parent_heard.row) (sym parent_heard.pid) parent_heard.at;
           there = subst (λ n. lwp_of n after.lwps ≡ Some forker_heard.row) (sym forker_heard.tid) forker_heard.there;
           own = forker_heard.pid ∙ (a.own ∙ sym parent_heard.pid);

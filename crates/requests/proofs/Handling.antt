@@ -11,7 +11,7 @@ use Rattle.proc_table.specs.Rows.{Rows, each}
 use Rattle.trace_stop.specs.declared.Settings.{Settings}
 use Rattle.trace_stop.specs.Stop.{resume, detach}
 use Rattle.trace_stop.specs.Facts.{FitProcess, IsSound}
-use Rattle.trace_stop.proofs.Every.{All-filter, find_some}
+use Rattle.trace_stop.proofs.Every.{All-filter, find_some, choose}
 use Rattle.trace_stop.proofs.Edited.{If_more, find_edit}
 use Rattle.trace_stop.proofs.Ending.{own_rows}
 use Rattle.trace_stop.proofs.Posts.{detach_sound}
@@ -29,9 +29,8 @@ use Rattle.requests.specs.Ptrace.{continues_with}
 use Rattle.requests.specs.Machine.{Machine}
 use Rattle.requests.specs.Sound.{sound}
 use Rattle.requests.specs.Step.{step}
-use Rattle.requests.proofs.Acting.{choose}
 use Rattle.requests.proofs.After.{rows_sound, after_sound}
-use Rattle.requests.proofs.Collecting.{Kept, collected_kept}
+use Rattle.wait4.proofs.CollectSound.{Kept, collected_kept}
 use Rattle.requests.proofs.Forking.{Heard, heard}
 use Rattle.requests.proofs.Masks.{Tracee, resumes_sound, continues_sound}
 use Rattle.requests.proofs.Steps.{checked_sound, rows_after_sound}

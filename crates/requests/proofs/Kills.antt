@@ -1,5 +1,5 @@
 -- Kills and installed policies keep a host sound.
-use Rattle.std.proofs.Common.{◌≡◌, ◌≢◌, ℕ, ℤ, Bool, true, false, ◌==◌, ◌&&◌, ◌||◌, not, leb, if◌then◌else◌, List, [], ◌∷◌, ◌++◌, length, length-append, zip, Option, Some, None, refl, sym, ◌∙◌, arith, true≢false, subst, eqb-true, eq-eqb, get_or, set, get_or-set_same, get_or-set_other, length-set}
+use Rattle.std.proofs.Common.{◌≡◌, ◌≢◌, ℕ, ℤ, Bool, true, false, ◌==◌, ◌&&◌, ◌||◌, not, leb, List, [], ◌∷◌, ◌++◌, length, length-append, zip, Option, Some, None, refl, sym, ◌∙◌, arith, true≢false, subst, eqb-true, eq-eqb, get_or, set, get_or-set_same, get_or-set_other, length-set}
 use Rattle.std.specs.List.{list_all}
 use Rattle.std.proofs.lemmas.Bool.{le-leb, leb-false}
 use Rattle.std.proofs.lemmas.List.Folds.{list_all-append}
@@ -13,7 +13,7 @@ use Rattle.trace_stop.specs.declared.Settings.{Settings}
 use Rattle.trace_stop.specs.Stop.{post}
 use Rattle.trace_stop.specs.Sound.{is_live_of, sound_rows}
 use Rattle.trace_stop.specs.Facts.{IsLiveOf, IsSound}
-use Rattle.trace_stop.proofs.Every.{and_left, and_right, both}
+use Rattle.trace_stop.proofs.Every.{and_left, and_right, both, choose}
 use Rattle.trace_stop.proofs.Changed.{found_number}
 use Rattle.trace_stop.proofs.FromSound.{user_at, zip_users}
 use Rattle.trace_stop.proofs.Posts.{post_sound}
@@ -28,10 +28,6 @@ use Rattle.requests.specs.Sound.{sound_installed, sound}
 use Rattle.requests.specs.Step.{step}
 use Rattle.requests.proofs.After.{pairs_test, rows_sound, after_sound}
 use Rattle.requests.proofs.Steps.{Caller, checked_sound}
-
-choose : {X : Type 0} (b : Bool) (x y : X) (R : X → Type 0) → (b ≡ true → R x) → (b ≡ false → R y) → R (if b then x else y)
-choose true x y R h k = h refl
-choose false x y R h k = k refl
 
 posted_if_live : (settings : Settings) (sig n : ℕ) (rows : Rows) → IsSound rows → (o : Option ProcData) → process_of n rows.processes ≡ o → IsSound (post_if_live settings sig o rows)
 posted_if_live settings sig n rows s None at = s

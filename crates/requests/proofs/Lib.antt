@@ -4,7 +4,6 @@ pub mod Born
 pub mod Walk
 pub mod Replies
 pub mod Hosted
-pub mod Collecting
 pub mod Steps
 pub mod Kills
 pub mod Disposing
@@ -46,3 +45,4 @@ pub mod Forking
 pub mod Turns
 pub mod Handling
 pub mod StaysSound
+pub mod Handled

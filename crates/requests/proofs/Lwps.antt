@@ -1,8 +1,7 @@
 -- An LWP that changes its mode, that is made, or that exits keeps rows sound.
-use Rattle.std.proofs.Common.{◌≡◌, ◌≢◌, ℕ, ◌≤◌, Bool, true, false, cond, ◌==◌, ◌&&◌, not, leb, if◌then◌else◌, List, [], ◌∷◌, ◌++◌, find, Option, Some, None, IfSome, is_some, refl, sym, ap, ◌∙◌, true≢false, subst, arith, eqb-true, eq-eqb, bit_and}
+use Rattle.std.proofs.Common.{◌≡◌, ◌≢◌, ℕ, ◌≤◌, Bool, true, false, cond, ◌==◌, ◌&&◌, not, leb, if◌then◌else◌, List, [], ◌∷◌, ◌++◌, find, Option, Some, None, IfSome, is_some, refl, sym, ap, ◌∙◌, true≢false, subst, arith, eqb-true, eq-eqb}
 use Rattle.std.proofs.lemmas.Bool.{leb-false}
 use Rattle.pid_blocks.specs.Users.{IsUser}
-use Rattle.event_masks.specs.declared.StopFlags.{StopFlags}
 use Rattle.event_masks.specs.declared.TheConstants.StopFlags.{PL_FLAG_EXITED}
 use Rattle.event_masks.specs.declared.TheConstants.EventMask.{PTRACE_LWP, PTRACE_SCX}
 use Rattle.event_masks.specs.declared.Call.TheVariants as call
@@ -23,7 +22,7 @@ use Rattle.trace_stop.specs.Post.{unwanted}
 use Rattle.trace_stop.specs.Stop.{stop}
 use Rattle.trace_stop.specs.Sound.{names_own, is_due, mode_fits}
 use Rattle.trace_stop.specs.Facts.{IsLiveChild, waited_for, Standing, FitLwp, IsSound}
-use Rattle.trace_stop.proofs.Every.{and_left, and_right, both, not_true, any_forward, find_some}
+use Rattle.trace_stop.proofs.Every.{and_left, and_right, both, not_true, any_forward, find_some, choose}
 use Rattle.trace_stop.proofs.Edited.{some_is, if_at}
 use Rattle.trace_stop.proofs.Changed.{found_number}
 use Rattle.trace_stop.proofs.Stopping.{own_lwps}
@@ -34,12 +33,10 @@ use Rattle.trace_stop.proofs.Joining.{joined_sound}
 use Rattle.requests.specs.Outcome.{Outcome, trap}
 use Rattle.requests.specs.Turn.{due_stop}
 use Rattle.requests.specs.Leave.{in_mode, due_at_birth, exits_lwp}
-use Rattle.requests.proofs.Acting.{choose, traced_where, Acting, its_live, its_quiet, lwp_fit, lwp_stands, acting_lwp, acting_stops}
+use Rattle.requests.proofs.Acting.{traced_where, Acting, its_live, its_quiet, lwp_fit, lwp_stands, acting_lwp, acting_stops}
 use Rattle.requests.proofs.Room.{LwpRoom}
 use Rattle.requests.proofs.Signals.{end_sound}
-
-shows_none : (flags : StopFlags) → flags.0 ≡ 0 → shows flags PL_FLAG_EXITED ≡ false
-shows_none flags none = subst (λ n. (bit_and n 64 == 64) ≡ false) (sym none) refl
+use Rattle.trace_stop.proofs.Detached.{shows_none}
 
 pub find_more : {X : Type 0} (q : X → Bool) (xs ys : List X) (x : X) → find q xs ≡ Some x → find q (xs ++ ys) ≡ Some x
 find_more q [] ys x is = absurd (grind (arith, is))
@@ -149,7 +146,7 @@ module _ (rows : Rows) (p : ProcData) (l : LwpData) (a : Acting rows p l) where
             let was : shows x.flags PL_FLAG_EXITED ≡ true = subst (λ f. shows f PL_FLAG_EXITED ≡ true) (t.flags x k is) shown in
             let at : process_of q.pid rows.processes ≡ Some q = ap (λ n. process_of n rows.processes) (found_number x.pid rows.processes q home) ∙ home in
             by_process q (2 ≤ lwp_count q.pid (edit_lwps h rows)) at
-            (λ mine. absurd (true≢false (sym was ∙ shows_none x.flags (fit.silent (ap (is_this x.tid) (ap (λ (r : ProcData). reporting r) (sym mine) ∙ its_quiet rows p l a))).flags)))
+            (λ mine. absurd (true≢false (sym was ∙ shows_none x (fit.silent (ap (is_this x.tid) (ap (λ (r : ProcData). reporting r) (sym mine) ∙ its_quiet rows p l a))).flags)))
             (λ other. let two = stood.exited was in let more = count_on q other in omega (arith, two, more));
         waits = t.waits q x k stood is;
       };

@@ -10,7 +10,7 @@ use Rattle.trace_stop.specs.declared.Settings.{Settings}
 use Rattle.trace_stop.specs.Stop.{resume}
 use Rattle.trace_stop.specs.Sound.{names_own}
 use Rattle.trace_stop.specs.Facts.{FitProcess, Standing, FitLwp, WithOwner, IsSound}
-use Rattle.trace_stop.proofs.Every.{and_left, and_right, find_some, any_holds}
+use Rattle.trace_stop.proofs.Every.{and_left, and_right, find_some, any_holds, choose}
 use Rattle.trace_stop.proofs.Edited.{find_edit}
 use Rattle.trace_stop.proofs.Changed.{holds_sound, sound_holds}
 use Rattle.trace_stop.proofs.Changes.{changes_hold}
@@ -19,7 +19,6 @@ use Rattle.trace_stop.proofs.Single.{process_sound, lwp_sound}
 use Rattle.trace_stop.proofs.Posts.{resume_sound}
 use Rattle.trace_stop.proofs.Stopping.{own_lwps}
 use Rattle.requests.specs.Ptrace.{not_stepping, stepping, suspend, set_mask, continues_with}
-use Rattle.requests.proofs.Acting.{choose}
 
 -- a live traced process in sound rows
 pub record Tracee (rows : Rows) (p : ProcData) : Type 0 where

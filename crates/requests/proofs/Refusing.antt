@@ -56,15 +56,12 @@ use Rattle.requests.specs.Sound.{sound}
 use Rattle.requests.specs.Step.{calls, caller_of, checked, uncalled, step_of, step}
 use Rattle.requests.proofs.After.{answers_same}
 use Rattle.requests.proofs.Replies.{wants}
+use Rattle.requests.proofs.Steps.{choose}
 
 -- a refusal leaves the rows, and isn't want of memory
 record Fair (rows : Rows) (o : Outcome) : Type 0 where
   pub same : is_refusal o.reply ≡ true → o.rows ≡ rows
   pub plenty : wants o.reply ≡ false
-
-choose : {X : Type 0} (b : Bool) (x y : X) (R : X → Type 0) → R x → R y → R (if b then x else y)
-choose true x y R h k = h
-choose false x y R h k = k
 
 -- an answer that isn't a refusal
 done : (rows now : Rows) (r : Reply) → is_refusal r ≡ false → wants r ≡ false → Fair rows (answers r now)

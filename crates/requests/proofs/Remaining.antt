@@ -15,6 +15,7 @@ use Rattle.trace_stop.specs.End.{is_doomed, dooms, uncollected, dead, orphaned, 
 use Rattle.trace_stop.specs.Stop.{post}
 use Rattle.trace_stop.proofs.Changed.{From, process_from}
 use Rattle.requests.specs.Reach.{post_if_live, post_all}
+use Rattle.requests.proofs.Steps.{choose}
 
 abbrev pub SameNumber : ProcData → ProcData → Type 0
 SameNumber p q = (q.pid ≡ p.pid) × (q.uid ≡ p.uid)
@@ -24,10 +25,6 @@ pub record Remain (ps qs : List ProcData) : Type 0 where
   pub to : ProcData → Option ProcData
   pub made : qs ≡ filter_map to ps
   pub same : (p : ProcData) → IfSome (to p) (SameNumber p)
-
-choose : {X : Type 0} (b : Bool) (x y : X) (R : X → Type 0) → R x → R y → R (if b then x else y)
-choose true x y R h k = h
-choose false x y R h k = k
 
 -- one edit after another
 abbrev then_to : (ProcData → Option ProcData) → Option ProcData → Option ProcData

@@ -19,7 +19,7 @@ use Rattle.requests.specs.Reach.{reach, post_if_live, post_all, reached, kill, n
 use Rattle.requests.specs.Outcome.{refuses}
 use Rattle.pid_blocks.specs.declared.Errno.TheVariants.{ESRCH}
 use Rattle.requests.specs.declared.Reply.TheVariants as reply
-use Rattle.requests.proofs.Steps.{own_rows}
+use Rattle.trace_stop.proofs.Ending.{own_rows}
 use Rattle.requests.proofs.Living.{live_found, live_none}
 use Rattle.requests.proofs.Walk.{above, first_above, above_none, above_first, above_next, next_over}
 use Rattle.requests.proofs.Remaining.{Remain, SameNumber, remain_all, remain_post}
@@ -258,9 +258,9 @@ module _ (u n : ℕ) where
       by_head false true e rest = rest
       by_head false false e rest = rest
 
-module _ (settings : Settings) (s u caller n : ℕ) (rows : Rows) (rise : Rise rows.processes) where
+module _ (settings : Settings) (s u n : ℕ) (rows : Rows) (rise : Rise rows.processes) where
   abbrev one : List ProcData
-  one = reach u caller (pos n) rows
+  one = filter (λ p. p.pid == n) (of_user u rows.processes)
 
   pub unseen_reached : option_map (λ p. p.pid) (seen_process u n rows) ≡ None → one ≡ []
   unseen_reached none = only u n rows.processes rise ∙ by_row (seen_process u n rows) none

@@ -23,7 +23,7 @@ use Rattle.trace_stop.specs.Stop.{stop}
 use Rattle.trace_stop.specs.Sound.{is_end}
 use Rattle.trace_stop.specs.Facts.{Linked, FitProcess, FitLwp, IsSound}
 use Rattle.trace_stop.proofs.Bits.{without_apart, without_less}
-use Rattle.trace_stop.proofs.Every.{both, by_bool, find_some}
+use Rattle.trace_stop.proofs.Every.{both, by_bool, find_some, choose, not_some}
 use Rattle.trace_stop.proofs.Edited.{If_more, find_edit}
 use Rattle.trace_stop.proofs.Single.{process_sound}
 use Rattle.trace_stop.proofs.Posting.{pending_fits}
@@ -31,7 +31,7 @@ use Rattle.trace_stop.proofs.Posts.{end_at, post_sound}
 use Rattle.trace_stop.proofs.Stopping.{live_told, notified_sound}
 use Rattle.requests.specs.Outcome.{Outcome}
 use Rattle.requests.specs.Turn.{in_user_mode, next_signal, without_signal, plain, takes_by_default, takes_untraced, takes, computes, raises}
-use Rattle.requests.proofs.Acting.{choose, Acting, its_live, its_quiet, its_fit, lwp_stands, lwp_fit, acting_lwp, acting_process, acting_stops, traced_where}
+use Rattle.requests.proofs.Acting.{Acting, its_live, its_quiet, its_fit, lwp_stands, lwp_fit, acting_lwp, acting_process, acting_stops, traced_where}
 use Rattle.requests.proofs.Masks.{stepless_fits}
 
 -- the row of the process and that of the LWP, with the same numbers and the same tracer and parent
@@ -165,10 +165,6 @@ ends_by_default s sig is = or_second _ (both (leb 1 s && leb s 31) (not (s == 19
     or_second true h = refl
     or_second false h = h
 
-none_is : {X : Type 0} (o : Option X) → is_some o ≡ false → o ≡ None
-none_is None is = refl
-none_is (Some x) is = absurd (true≢false is)
-
 module _ (settings : Settings) (s : ℕ) (sig : IsSignal s) (rows : Rows) (p : ProcData) (l : LwpData) (k : Alike rows p l) where
   abbrev q : ProcData
   q = k.process
@@ -188,7 +184,7 @@ module _ (settings : Settings) (s : ℕ) (sig : IsSignal s) (rows : Rows) (p : P
   takes_sound = choose (is_some p.tracer) _ (takes_untraced settings s (disposition_of p.dispositions s) p l rows) (λ (o : Outcome). IsSound o.rows)
       (λ e. subst (λ n. IsSound (stop n l.tid (plain s) rows)) k.pid (subst (λ n. IsSound (stop q.pid n (plain s) rows)) k.tid
       (acting_stops rows q k.lwp k.acting (plain s) (ap is_some k.tracer ∙ e) (λ is. absurd (true≢false (sym is))))))
-      (λ e. by_disposition (disposition_of p.dispositions s) (none_is p.tracer e))
+      (λ e. by_disposition (disposition_of p.dispositions s) (not_some p.tracer e))
 
 -- Acts in user mode, but for calls
 

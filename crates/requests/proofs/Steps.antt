@@ -1,6 +1,5 @@
 -- Steps of a caller keep a host sound, kind by kind.
-use Rattle.std.proofs.Common.{◌≡◌, ℕ, ℤ, Bool, true, false, ◌==◌, ◌&&◌, ◌||◌, not, if◌then◌else◌, List, [], ◌∷◌, Option, Some, None, refl, sym, arith, subst, eqb-true, eq-eqb}
-use Rattle.std.specs.List.{AllByRecursion}
+use Rattle.std.proofs.Common.{◌≡◌, ℕ, ℤ, Bool, true, false, ◌==◌, ◌&&◌, ◌||◌, not, if◌then◌else◌, Option, Some, None, refl, sym, subst, eqb-true}
 use Rattle.pid_blocks.specs.declared.Errno.TheVariants.{ESRCH, EINVAL}
 use Rattle.signals.specs.Table.{is_signal, set_disposition}
 use Rattle.signals.specs.declared.Disposition.{Disposition}
@@ -8,10 +7,10 @@ use Rattle.proc_table.specs.declared.ProcData.{ProcData}
 use Rattle.proc_table.specs.Processes.{is_live, is_run, process_of}
 use Rattle.proc_table.specs.Rows.{Rows}
 use Rattle.proc_table.specs.Seen.{seen_process}
-use Rattle.proc_table.specs.Kept.{Rise, AllAbove}
 use Rattle.trace_stop.specs.Facts.{IsSound}
-use Rattle.trace_stop.proofs.Every.{and_right, by_bool, All-filter, find_some}
+use Rattle.trace_stop.proofs.Every.{and_right, All-filter, find_some}
 use Rattle.trace_stop.proofs.Settling.{disposed_sound}
+use Rattle.trace_stop.proofs.Ending.{own_rows}
 use Rattle.wait4.specs.declared.Options.{Options}
 use Rattle.wait4.specs.Collect.{reportable, candidates, is_child, fits, reported, rows_after, without_report}
 use Rattle.requests.specs.declared.Reply.{Reply}
@@ -25,16 +24,7 @@ use Rattle.requests.specs.Machine.{Machine, after}
 use Rattle.requests.specs.Sound.{sound}
 use Rattle.requests.specs.Step.{step, checked, calls}
 use Rattle.requests.proofs.After.{rows_sound, after_sound, answers_same}
-use Rattle.requests.proofs.Collecting.{collect_sound}
-
--- each row is found by its number
-skip_rows : (p : ProcData) (ps qs : List ProcData) → AllAbove p.pid qs → AllByRecursion (λ q. process_of q.pid ps ≡ Some q) qs → AllByRecursion (λ q. process_of q.pid (p ∷ ps) ≡ Some q) qs
-skip_rows p ps [] above all = tt
-skip_rows p ps (q ∷ qs) above all = (rw (by_bool (p.pid == q.pid) (λ e. let same = eqb-true p.pid q.pid e in let lt = above.0 in absurd (omega arith))) all.0, skip_rows p ps qs above.1 all.1)
-
-pub own_rows : (ps : List ProcData) → Rise ps → AllByRecursion (λ p. process_of p.pid ps ≡ Some p) ps
-own_rows [] rise = tt
-own_rows (p ∷ ps) rise = (rw (eq-eqb p.pid p.pid refl) refl, skip_rows p ps ps rise.0 (own_rows ps rise.1))
+use Rattle.wait4.proofs.CollectSound.{collect_sound}
 
 -- a caller: a live process of the user that runs
 pub record Caller (u : ℕ) (rows : Rows) (p : ProcData) : Type 0 where
@@ -63,7 +53,7 @@ checked_sound u s m n is done = by_caller (seen_process u n m.rows) refl
     by_caller None e = stays (reply.Errno ESRCH)
     by_caller (Some p) e = at_run p e (is_live p) refl (is_run p) refl
 
-choose : {X : Type 0} (b : Bool) (x y : X) (R : X → Type 0) → R x → R y → R (if b then x else y)
+pub choose : {X : Type 0} (b : Bool) (x y : X) (R : X → Type 0) → R x → R y → R (if b then x else y)
 choose true x y R h k = h
 choose false x y R h k = k
 

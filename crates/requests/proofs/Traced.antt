@@ -16,7 +16,7 @@ use Rattle.proc_table.specs.Seen.{owns, seen_process, seen_lwp, find_seen}
 use Rattle.trace_stop.specs.declared.Settings.{Settings}
 use Rattle.trace_stop.specs.Sound.{names_own}
 use Rattle.trace_stop.specs.Facts.{IsLiveOf, Linked, IsSound}
-use Rattle.trace_stop.proofs.Every.{and_left, and_right, both, All-any, find_some}
+use Rattle.trace_stop.proofs.Every.{and_left, and_right, both, All-any, find_some, choose}
 use Rattle.trace_stop.proofs.Edited.{some_is, if_at}
 use Rattle.trace_stop.proofs.Changed.{found_number}
 use Rattle.trace_stop.proofs.Stopping.{one_row, own_lwps}
@@ -32,7 +32,6 @@ use Rattle.requests.specs.Ptrace.{attach, told_stop, bad_argument, stepping, swi
 use Rattle.requests.specs.Machine.{Machine}
 use Rattle.requests.specs.Sound.{sound}
 use Rattle.requests.specs.Step.{step}
-use Rattle.requests.proofs.Acting.{choose}
 use Rattle.requests.proofs.After.{rows_sound, after_sound}
 use Rattle.requests.proofs.Steps.{Caller, checked_sound}
 use Rattle.requests.proofs.Kills.{live_caller}

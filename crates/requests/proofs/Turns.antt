@@ -27,7 +27,7 @@ use Rattle.requests.specs.Machine.{Machine}
 use Rattle.requests.specs.Sound.{sound}
 use Rattle.requests.specs.Step.{step}
 use Rattle.requests.specs.Laws.{act_fits}
-use Rattle.requests.proofs.Acting.{choose, Acting, seen_acting, its_fit, lwp_fit, MayMake, stops_or_sound}
+use Rattle.requests.proofs.Acting.{Acting, seen_acting, its_fit, lwp_fit, MayMake, stops_or_sound}
 use Rattle.requests.proofs.After.{rows_sound, after_sound}
 use Rattle.requests.proofs.Room.{LwpRoom, lwp_room, ProcessRoom, process_room}
 use Rattle.requests.proofs.Signals.{end_sound, taken_alike, next_is_signal, takes_sound, raise_sound, block_sound, compute_sound}
@@ -35,6 +35,7 @@ use Rattle.requests.proofs.Lwps.{in_mode_acting, due_sound, exits_lwp_sound, joi
 use Rattle.requests.proofs.Execs.{exec_alike}
 use Rattle.requests.proofs.Exits.{entry_may, fork_may, vfork_may, exec_may, thr_new_may, other_may, same_may, exit_word}
 use Rattle.requests.proofs.Forking.{child_forked}
+use Rattle.trace_stop.proofs.Every.{choose}
 
 module _ (settings : Settings) (rows : Rows) (p : ProcData) (l : LwpData) (a : Acting rows p l) where
   -- The work of calls

@@ -13,7 +13,7 @@ use Rattle.requests.specs.Run.{Asked, last}
 use Rattle.requests.specs.Sound.{sound}
 use Rattle.requests.specs.Step.{step}
 
--- whether the status of an exit that is entered is a byte
+-- whether a step's numbers are those of its type: the status of an exit that is entered is a byte
 abbrev pub act_fits : Act → Bool
 act_fits act.Compute = true
 act_fits (act.Raise s) = true
@@ -29,12 +29,14 @@ step_fits s = true
 abbrev pub SoundKept : Type 0
 SoundKept = (u : ℕ) → IsUser u → (s : PlainStep) → step_fits s ≡ true → (m : Machine) → sound m ≡ true → sound (step u s m).machine ≡ true
 
--- so does every list of steps, and a host that nobody has used is sound
+-- a step of one of the 64 users
 abbrev pub IsStep : Asked → Type 0
 IsStep a = IsUser a.uid × (step_fits a.step ≡ true)
 
+-- every list of steps does so
 abbrev pub SoundRuns : Type 0
 SoundRuns = (list : List Asked) (m : Machine) → AllByRecursion IsStep list → sound m ≡ true → sound (last list m) ≡ true
 
+-- a host that nobody has used is sound
 abbrev pub SoundAtFirst : Type 0
 SoundAtFirst = (settings : Settings) → sound (empty settings) ≡ true

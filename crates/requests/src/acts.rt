@@ -13,14 +13,13 @@ ghost use Rattle.requests.specs.Actors.{IsActing};
 ghost use Rattle.requests.specs.Turn.{computes, raises, enters, acts};
 
 use crate::stopping::{plain, set_mode, stop_with, trap};
-use crate::stubs::post_lwp;
 use crate::{Act, Reply};
 use event_masks::{Call, entry_flags};
 use lwp_table::{LwpData, Mode};
 use pid_blocks::Errno;
 use proc_table::{ProcData, Tables};
 use signals::{SigSet, Signal};
-use trace_stop::Settings;
+use trace_stop::{Settings, post_lwp};
 
 /// The LWP steps no more.
 fn stop_stepping(tables: &mut Tables, l: &LwpData)

@@ -9,11 +9,11 @@ ghost use Rattle.wait4.specs.declared.Collected.{Collected};
 ghost use Rattle.requests.specs.Calls.{is_refused, sigaction, wait, collect_reply};
 
 use crate::Reply;
-use crate::stubs::{collect, settle};
 use pid_blocks::Errno;
 use proc_table::{ProcData, Tables};
 use signals::{Disposition, Dispositions, Signal};
-use wait4::{Collected, Options};
+use wait4::{Collected, Options, collect};
+use trace_stop::settle;
 
 /// The dispositions with another one of the signal; `None` where sigaction(2) refuses that.
 fn with_disposition(

@@ -18,7 +18,6 @@ ghost use Rattle.requests.specs.Callers.{IsCaller};
 ghost use Rattle.requests.specs.Commands.{command, with_signal};
 ghost use Rattle.requests.specs.Memory.{lists, is_refusal};
 
-use crate::stubs::{clear_stepping, detach, resume};
 use crate::tracers::{attach, trace_me};
 use crate::{Reply, Request};
 use event_masks::EventMask;
@@ -28,7 +27,7 @@ use pid_blocks::{Errno, Pid, Tid, Uid};
 use proc_table::{ProcData, State, Tables};
 use signals::{Pass, Signal};
 use std::alloc::Global;
-use trace_stop::Settings;
+use trace_stop::{Settings, clear_stepping, detach, resume};
 
 /// A request of ptrace(2) by a process that runs. A target up to 99999 names a process, and its LWP that reports
 /// a stop; a greater one names an LWP, and its process. Refused as the manual page says, and PT_GETLWPLIST
@@ -187,7 +186,7 @@ fn command(
 
 /// PT_CONTINUE, PT_TO_SCE, PT_TO_SCX and PT_SYSCALL: the process runs on with a signal or with 0, stopped from
 /// now on at the events of the mask, and none of its LWPs steps. Refused with EINVAL where the argument is above 31.
-fn continue_with(
+pub fn continue_with(
     tables: &mut Tables,
     settings: Settings,
     process: &ProcData,
@@ -260,7 +259,7 @@ fn suspend(tables: &mut Tables, lwp: Tid, suspended: bool) -> Reply
 
 /// PT_DETACH: nobody traces the process from now on, and it runs on with a signal or with 0. Refused with EINVAL
 /// where the argument is above 31.
-fn detach_with(tables: &mut Tables, settings: Settings, process: &ProcData, arg: u32) -> Reply
+pub fn detach_with(tables: &mut Tables, settings: Settings, process: &ProcData, arg: u32) -> Reply
     requires sound { IsSound tables.old.rows }
     requires at { process_of process.now.pid tables.old.rows.processes ≡ Some process.now }
     requires stopped { is_some (reporting process.now) ≡ true }
@@ -277,7 +276,7 @@ fn detach_with(tables: &mut Tables, settings: Settings, process: &ProcData, arg:
 }
 
 /// The process runs on with a signal or with 0. Refused with EINVAL where the number is above 31.
-fn resume_with(tables: &mut Tables, settings: Settings, process: &ProcData, number: u32) -> Reply
+pub fn resume_with(tables: &mut Tables, settings: Settings, process: &ProcData, number: u32) -> Reply
     requires sound { IsSound tables.old.rows }
     requires at { process_of process.now.pid tables.old.rows.processes ≡ Some process.now }
     requires stopped { is_some (reporting process.now) ≡ true }

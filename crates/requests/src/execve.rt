@@ -18,11 +18,11 @@ ghost use Rattle.requests.specs.Leave.{exit_stop, exec_rows};
 
 use crate::Reply;
 use crate::stopping::{exit_stop, set_mode, stop_or};
-use crate::stubs::settle;
 use event_masks::{Call, EventMask};
 use lwp_table::{Due, LwpData, Mode};
 use pid_blocks::{Pid, Tid};
 use proc_table::{ProcData, Tables};
+use trace_stop::settle;
 
 /// The oldest LWP of the process with another number.
 fn other_lwp(tables: &Tables, pid: Pid, tid: Tid) -> Option<LwpData>

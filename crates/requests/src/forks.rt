@@ -12,13 +12,12 @@ ghost use Rattle.requests.specs.Memory.{is_refusal};
 use crate::Reply;
 use crate::spawns::{new_reply, room_for_lwp, room_for_pid};
 use crate::stopping::{exit_stop, finish, is_asked};
-use crate::stubs::stop;
 use event_masks::{Call, EventMask, StopFlags, call_code, default_mask};
 use lwp_table::{Due, LwpData, Mode};
 use pid_blocks::{Errno, Pid, Tid};
 use proc_table::{ProcData, State, Tables};
 use signals::{SigSet, Signal};
-use trace_stop::Shown;
+use trace_stop::{Shown, stop};
 
 /// The child of a fork, which the parent's tracer follows or doesn't.
 fn forked(followed: bool, p: &ProcData, pid: Pid) -> ProcData

@@ -1,7 +1,10 @@
 //! Laws of the tracing machine's steps.
 
-ghost use Rattle.requests.specs.Laws.{SoundKept, SoundAtFirst, SoundRuns};
+ghost use Rattle.std.specs.Prelude.{◌≡◌, true};
+ghost use Rattle.requests.specs.Laws.{SoundKept, SoundAtFirst, SoundRuns, step_fits};
 ghost use Rattle.requests.specs.Refusals.{NeverMemory, RefusedSame};
+
+use crate::PlainStep;
 
 /// Every step of every user keeps a host sound.
 pub fn stays_sound()
@@ -12,6 +15,11 @@ pub fn stays_sound()
 pub fn runs_stay_sound()
     ensures first { SoundAtFirst }
     ensures runs { SoundRuns }
+{}
+
+/// An exit status is a byte, as its type says.
+pub fn fits(step: PlainStep)
+    ensures { step_fits step ≡ true }
 {}
 
 /// A refused step changes nothing.

@@ -16,12 +16,11 @@ use crate::execve::exec;
 use crate::forks::fork;
 use crate::spawns::{new_reply, room_for_lwp};
 use crate::stopping::{exit_stop, finish, is_asked, stop_with, trap};
-use crate::stubs::end;
 use event_masks::{Call, EventMask, StopFlags};
 use lwp_table::{Due, LwpData, Mode};
 use pid_blocks::Errno;
 use proc_table::{ProcData, Tables};
-use trace_stop::Settings;
+use trace_stop::{Settings, end};
 
 /// Exit: the process ends with the status that wait4(2) shows.
 fn exit(tables: &mut Tables, settings: Settings, status: u8, p: &ProcData) -> Reply

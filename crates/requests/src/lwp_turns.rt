@@ -20,14 +20,13 @@ ghost use Rattle.trace_stop.specs.Stop.{stop};
 use crate::acts::act_in_user_mode;
 use crate::leaves::leave;
 use crate::stopping::{plain, stop_with, trap};
-use crate::stubs::{end, notify};
 use crate::{Act, Reply};
 use event_masks::{Call, StopFlags};
 use lwp_table::{Due, LwpData, Mode};
 use pid_blocks::{Errno, Tid, Uid};
 use proc_table::{ProcData, State, Tables};
 use signals::{Action, Disposition, Signal, default_action};
-use trace_stop::{Settings, Shown};
+use trace_stop::{Settings, Shown, end, notify};
 
 /// Whether an LWP waits for the process that its vfork made.
 fn waits(mode: Mode) -> bool

@@ -1,7 +1,7 @@
 //! Signals that kill(2) sends.
 
-ghost use Rattle.std.specs.Prelude.{◌≡◌, ℕ, ◌<◌, pos, negsuc, option_map};
-ghost use Rattle.proc_table.specs.Processes.{process_of};
+ghost use Rattle.std.specs.Prelude.{◌≡◌, ◌==◌, negsuc, filter, option_map};
+ghost use Rattle.proc_table.specs.Processes.{process_of, of_user};
 ghost use Rattle.proc_table.specs.Seen.{seen_process};
 ghost use Rattle.proc_table.specs.Walks.{next_of};
 ghost use Rattle.proc_table.specs.Kept.{IsKept};
@@ -10,11 +10,10 @@ ghost use Rattle.requests.specs.Reach.{reach, post_if_live, reached, kill, next_
 
 use crate::Reply;
 use crate::handlers::is_live;
-use crate::stubs::post;
 use pid_blocks::{Errno, Pid, Uid};
 use proc_table::Tables;
 use signals::Pass;
-use trace_stop::Settings;
+use trace_stop::{Settings, post};
 
 /// Posts the signal to the process with this number, if it is there and live; 0 is posted to none.
 fn post_if_live(tables: &mut Tables, settings: Settings, pid: Pid, pass: Pass)
@@ -84,19 +83,11 @@ fn seen_pid(tables: &Tables, user: Uid, number: u32) -> Option<Pid>
 }
 
 /// Sends the signal to a process of the user. Refused with ESRCH where the user has none with the number.
-fn kill_one(
-    tables: &mut Tables,
-    settings: Settings,
-    user: Uid,
-    caller: Pid,
-    number: u32,
-    pass: Pass,
-) -> Reply
+fn kill_one(tables: &mut Tables, settings: Settings, user: Uid, number: u32, pass: Pass) -> Reply
     requires sound { IsSound tables.old.rows }
-    ensures rows { tables.new.rows ≡ (reached settings pass (reach user caller (pos number) tables.old.rows) tables.old.rows).rows }
-    ensures reply { result ≡ (reached settings pass (reach user caller (pos number) tables.old.rows) tables.old.rows).reply }
+    ensures rows { tables.new.rows ≡ (reached settings pass (filter (λ p. p.pid == number) (of_user user tables.old.rows.processes)) tables.old.rows).rows }
+    ensures reply { result ≡ (reached settings pass (filter (λ p. p.pid == number) (of_user user tables.old.rows.processes)) tables.old.rows).reply }
 {
-    let _caller = caller.get();
     let Some(pid) = seen_pid(tables, user, number) else {
         return Reply::Errno(Errno::ESRCH);
     };
@@ -129,7 +120,7 @@ pub fn kill(
         return Reply::Errno(Errno::EINVAL);
     }
     match u32::try_from(which) {
-        Ok(number) => kill_one(tables, settings, user, caller, number, pass),
+        Ok(number) => kill_one(tables, settings, user, number, pass),
         Err(_) => Reply::Errno(Errno::ESRCH),
     }
 }

@@ -10,13 +10,12 @@ ghost use Rattle.requests.specs.Leave.{in_mode, exit_stop};
 ghost use Rattle.requests.specs.Turn.{plain};
 
 use crate::Reply;
-use crate::stubs::stop;
 use event_masks::{Call, EventMask, StopFlags, call_code, exit_flags};
 use lwp_table::{LwpData, Mode};
 use pid_blocks::{Pid, Tid};
 use proc_table::{ProcData, Tables};
 use signals::Signal;
-use trace_stop::Shown;
+use trace_stop::{Shown, stop};
 
 /// A stop with no more than a signal.
 pub fn plain(signal: Signal) -> Shown

@@ -12,12 +12,11 @@ ghost use Rattle.requests.specs.Ptrace.{closes_chain, traced_by, trace_me, stop_
 ghost use Rattle.requests.specs.Turn.{plain};
 
 use crate::Reply;
-use crate::stubs::stop;
 use event_masks::{StopFlags, default_mask};
 use pid_blocks::{Errno, Pid};
 use proc_table::{ProcData, Tables};
 use signals::Signal;
-use trace_stop::Shown;
+use trace_stop::{Shown, stop};
 
 /// PT_TRACE_ME: the caller's parent traces it from now on. Refused with EBUSY where the caller is traced,
 /// with EPERM where no process is its parent, and with EINVAL where it would trace itself by a chain of tracers.

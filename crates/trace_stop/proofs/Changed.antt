@@ -47,7 +47,7 @@ meets_less ps qs h (suc links) q n is = by_tracer (tracer_of qs n) refl is (meet
 pub no_ring : (ps qs : List ProcData) → ((n t : ℕ) → tracer_of qs n ≡ Some t → tracer_of ps n ≡ Some t) → (links n : ℕ) → meets links ps n n ≡ false → meets links qs n n ≡ false
 no_ring ps qs h links n none = by_bool (meets links qs n n) (λ is. true≢false (sym (meets_less ps qs h links n n is) ∙ none))
 
-found_above : (t : ProcData → Bool) (n : ℕ) (ps : List ProcData) (p : ProcData) → AllAbove n ps → find t ps ≡ Some p → n < p.pid
+pub found_above : (t : ProcData → Bool) (n : ℕ) (ps : List ProcData) (p : ProcData) → AllAbove n ps → find t ps ≡ Some p → n < p.pid
 found_above t n [] p all is = absurd (grind (arith, is))
 found_above t n (q ∷ ps) p all is = by_head (t q) is (found_above t n ps p all.1)
   where

@@ -79,7 +79,7 @@ record Quiet (l f : LwpData) : Type 0 where
   pub blocked : f.blocked ≡ l.blocked
   pub silent : Silent f
 
-shows_none : (f : LwpData) → f.flags.0 ≡ 0 → shows f.flags PL_FLAG_EXITED ≡ false
+pub shows_none : (f : LwpData) → f.flags.0 ≡ 0 → shows f.flags PL_FLAG_EXITED ≡ false
 shows_none f none = rw none refl
 
 module _ (rows : Rows) (s : IsSound rows) (chosen : ProcData → Bool) (lost : ProcData → ℕ) (alive : (r : ProcData) → process_of r.pid rows.processes ≡ Some r → chosen r ≡ true → is_live r ≡ true) where

@@ -27,7 +27,8 @@ use Rattle.trace_stop.proofs.Edited.{edited, Same, If_more, some_is, if_at, owne
 use Rattle.trace_stop.proofs.Changed.{no_ring, process_from}
 use Rattle.trace_stop.proofs.Posting.{live_fits, live_state}
 use Rattle.trace_stop.proofs.Settling.{zero_apart}
-use Rattle.trace_stop.proofs.Stopping.{MayTell, live_told, notified_sound}
+use Rattle.trace_stop.specs.Before.{MayTell}
+use Rattle.trace_stop.proofs.Stopping.{live_told, notified_sound}
 
 -- each row is found by its number
 skip_rows : (p : ProcData) (ps qs : List ProcData) → AllAbove p.pid qs → AllByRecursion (λ q. process_of q.pid ps ≡ Some q) qs → AllByRecursion (λ q. process_of q.pid (p ∷ ps) ≡ Some q) qs

@@ -13,17 +13,13 @@ use Rattle.trace_stop.specs.Free.{running, untraced, untraced_lwp, resumed, deta
 use Rattle.trace_stop.specs.End.{left_alone, end_of, end}
 use Rattle.trace_stop.specs.Sound.{is_end}
 use Rattle.trace_stop.specs.Facts.{FitProcess, FitLwp, Silent, IsSound}
-use Rattle.trace_stop.proofs.Every.{and_left, both, by_bool, All-imply, All-edit, All-any}
+use Rattle.trace_stop.proofs.Every.{and_left, both, by_bool, All-imply, All-edit, All-any, choose}
 use Rattle.trace_stop.proofs.Edited.{owner_after}
 use Rattle.trace_stop.proofs.Changed.{found_number}
 use Rattle.trace_stop.proofs.Bits.{without_apart}
 use Rattle.trace_stop.proofs.Stopping.{the_row}
 use Rattle.trace_stop.proofs.Killing.{end_killing, end_of_sparing}
 use Rattle.trace_stop.proofs.Running.{Runs, Shape, run_on_sound}
-
-choose : {X : Type 0} (b : Bool) (x y : X) (R : X → Type 0) → (b ≡ true → R x) → (b ≡ false → R y) → R (if b then x else y)
-choose true x y R h k = h refl
-choose false x y R h k = k refl
 
 -- Resuming
 

@@ -228,7 +228,7 @@ module _ (settings : Settings) (rows : Rows) (p q status : ℕ) (kills : setting
   p_live : IsLiveRow ps p
   p_live = meets_live ps p (tracer_lives rows s) 250 q q_row.1
 
-  q_traced : holds_of d (tracer_of ps q) ≡ true
+  pub q_traced : holds_of d (tracer_of ps q) ≡ true
   q_traced = at_tracer (tracer_of ps q) (tracer_lives rows s q) (sym (meets-suc 249 ps p q) ∙ q_row.1)
     where
       at_tracer : (o : Option ℕ) → IfSome o (IsLiveRow ps) → holds_of (λ t. (t == p) || meets 249 ps p t) o ≡ true → holds_of d o ≡ true

@@ -41,7 +41,7 @@ cond_split true true = omega arith
 cond_split true false = omega arith
 cond_split false c = omega arith
 
-count_split : (t u : ProcData → Bool) (ps : List ProcData) → count_by t ps ≡ count_by (λ r. t r && not (u r)) ps + count_by (λ r. t r && u r) ps
+pub count_split : (t u : ProcData → Bool) (ps : List ProcData) → count_by t ps ≡ count_by (λ r. t r && not (u r)) ps + count_by (λ r. t r && u r) ps
 count_split t u [] = omega arith
 count_split t u (r ∷ ps) =
     let ih = count_split t u ps in
@@ -51,7 +51,7 @@ count_split t u (r ∷ ps) =
     let parts = cond_split (t r) (u r) in
     omega (arith, ih, all, one, two, parts)
 
-any_counts : (t : ProcData → Bool) (ps : List ProcData) → list_any t ps ≡ true → 1 ≤ count_by t ps
+pub any_counts : (t : ProcData → Bool) (ps : List ProcData) → list_any t ps ≡ true → 1 ≤ count_by t ps
 any_counts t [] is = absurd (true≢false (sym is))
 any_counts t (r ∷ ps) is = at_head (t r) refl is (any_counts t ps) (count-cons t r ps)
   where
@@ -59,7 +59,7 @@ any_counts t (r ∷ ps) is = at_head (t r) refl is (any_counts t ps) (count-cons
     at_head true e h rest all = let one : ◌≡◌ {A = ℕ} (cond (t r) 1 0) 1 = ap (λ b. cond {A = ℕ} b 1 0) e in omega (arith, all, one)
     at_head false e h rest all = let some = rest h in omega (arith, all, some)
 
-and_swap : (a b : Bool) → (a && b) ≡ true → (b && a) ≡ true
+pub and_swap : (a b : Bool) → (a && b) ≡ true → (b && a) ≡ true
 and_swap true true h = refl
 and_swap true false h = h
 and_swap false b h = absurd (true≢false (sym h))

@@ -11,20 +11,16 @@ use Rattle.proc_table.specs.Fresh.{lwp_count}
 use Rattle.trace_stop.specs.End.{holds_of, tracer_in, tracer_of, meets}
 use Rattle.trace_stop.specs.Sound.{names_own}
 use Rattle.trace_stop.specs.Facts.{IsLiveOf, IsLiveChild, Linked, FitProcess, waited_for, Standing, FitLwp, WithOwner, IsSound}
-use Rattle.trace_stop.proofs.Every.{or_left, by_bool, any_forward, All-any, All-both, All-edit}
+use Rattle.trace_stop.proofs.Every.{or_left, by_bool, any_forward, All-any, All-both, All-edit, choose}
 use Rattle.trace_stop.proofs.Children.{child_test}
 use Rattle.trace_stop.proofs.Edited.{edited, Same, If_more, some_is, find_edit, owners_after, edited_stands}
 use Rattle.trace_stop.proofs.Changed.{Holds}
 use Rattle.trace_stop.proofs.Changes.{edit_none}
-use Rattle.trace_stop.proofs.LeafLaw.{meets-more}
+use Rattle.trace_stop.proofs.LeafLaw.{or_more, meets-more}
 use Rattle.trace_stop.proofs.Chains.{meets-up, chains_meet}
 use Rattle.trace_stop.proofs.Stopping.{the_row}
 
 -- Chains
-
-or_more : (a b c : Bool) → (b ≡ true → c ≡ true) → (a || b) ≡ true → (a || c) ≡ true
-or_more true b c h is = refl
-or_more false b c h is = h is
 
 or_second : (a : Bool) {b : Bool} → b ≡ true → (a || b) ≡ true
 or_second true h = refl
@@ -124,10 +120,6 @@ module _ (rows : Rows) (p : ProcData) (n : ℕ) (mask : EventMask) (s : IsSound 
 
   abbrev left : Rows
   left = edited to (λ l. Some l) rows
-
-  choose : {X : Type 0} (b : Bool) (x y : X) (R : X → Type 0) → (b ≡ true → R x) → (b ≡ false → R y) → R (if b then x else y)
-  choose true x y R h k = h refl
-  choose false x y R h k = k refl
 
   never : (j : ℕ) → meets j rows.processes p.pid n ≡ false
   never j = by_bool (meets j rows.processes p.pid n) (λ is. true≢false (sym (meets-up 1 249 rows.processes p.pid n (chains_meet rows j p.pid n s.stands is)) ∙ far))

@@ -1,14 +1,14 @@
 -- Settling and posting keep rows sound.
 use Rattle.std.proofs.Common.{◌≡◌, ◌⊎◌, inl, inr, ℕ, Bool, true, false, ◌==◌, if◌then◌else◌, Option, None, is_none, not, refl, sym, ap, ◌∙◌, true≢false, bit_and}
 use Rattle.signals.specs.Sets.{with, without}
-use Rattle.signals.specs.Table.{SIGCONT}
+use Rattle.signals.specs.Table.{SIGCONT, opposed}
 use Rattle.lwp_table.specs.declared.LwpData.{LwpData}
 use Rattle.proc_table.specs.declared.ProcData.{ProcData}
 use Rattle.proc_table.specs.declared.State.{State}
 use Rattle.proc_table.specs.declared.State.TheVariants.{Run, Trace, Job, Zombie}
 use Rattle.proc_table.specs.Processes.{is_live, is_zombie_state, is_job, is_job_state, reporting, named_by, is_this}
 use Rattle.proc_table.specs.Rows.{Rows, change}
-use Rattle.trace_stop.specs.Post.{unwanted, opposed, continues, posted_set, posted_process, posted_lwp}
+use Rattle.trace_stop.specs.Post.{unwanted, continues, posted_set, posted_process, posted_lwp}
 use Rattle.trace_stop.specs.Facts.{IfEnded, FitProcess, FitLwp, Silent}
 use Rattle.trace_stop.proofs.Every.{and_right}
 use Rattle.trace_stop.proofs.Bits.{without_apart}

@@ -14,16 +14,13 @@ use Rattle.trace_stop.specs.End.{end}
 use Rattle.trace_stop.specs.Stop.{post, ends_process, resume, detach}
 use Rattle.trace_stop.specs.Sound.{is_end}
 use Rattle.trace_stop.specs.Facts.{Linked, FitProcess, IsSound}
-use Rattle.trace_stop.proofs.Every.{and_left, and_right, both, by_bool, not_true, All-imply, All-both, find_some}
+use Rattle.trace_stop.proofs.Every.{and_left, and_right, both, by_bool, not_true, All-imply, All-both, find_some, choose}
 use Rattle.trace_stop.proofs.Edited.{owner_after}
 use Rattle.trace_stop.proofs.Changed.{sound_holds, found_number}
 use Rattle.trace_stop.proofs.Posting.{LiveFit, post_chosen, posted_same}
-use Rattle.trace_stop.proofs.Stopping.{the_row, MayTell, live_told, notified_sound}
+use Rattle.trace_stop.specs.Before.{MayTell}
+use Rattle.trace_stop.proofs.Stopping.{the_row, live_told, notified_sound}
 use Rattle.trace_stop.proofs.Freed.{resumed_sound, resumed_row, detached_sound, end_sound}
-
-choose : {X : Type 0} (b : Bool) (x y : X) (R : X → Type 0) → (b ≡ true → R x) → (b ≡ false → R y) → R (if b then x else y)
-choose true x y R h k = h refl
-choose false x y R h k = k refl
 
 -- a signal that ends a process is the word of an end
 or_last : (a b : Bool) → not (a || b) ≡ true → b ≡ false
@@ -75,6 +72,9 @@ module _ (rows : Rows) (pid : ℕ) (p : ProcData) (s : IsSound rows) (at : proce
   pub post_sound : (settings : Settings) (sig : ℕ) (to : Option ℕ) → IsSound (post settings sig to pid rows)
   post_sound settings sig to = choose (sig == SIGKILL) (end settings pid SIGKILL rows) (posted sig to pid rows) IsSound (λ e. end_at settings SIGKILL refl) (λ e. posted_sound sig to)
 
+  pub freed_sound : (lost : ℕ) → IsSound (detached (is_numbered pid) (λ q. lost) rows)
+  freed_sound lost = detached_sound (is_numbered pid) (λ q. lost) rows s (All-imply (λ q. q.pid ≡ pid → q ≡ p) (λ q. (q.pid == pid) ≡ true → is_live q ≡ true) (λ q one is. subst (λ r. is_live r ≡ true) (sym (one (eqb-true q.pid pid is))) live) rows.processes (the_row pid rows.processes p s.stands.rising at))
+
 -- Resuming and detaching with a signal
 module _ (settings : Settings) (rows : Rows) (pid : ℕ) (p : ProcData) (s : IsSound rows) (at : process_of pid rows.processes ≡ Some p) (live : is_live p ≡ true) where
   ends_at : (sig : ℕ) → ends_process sig (process_of pid rows.processes) ≡ true → IsSound (end settings pid sig (resumed pid rows))
@@ -84,5 +84,4 @@ module _ (settings : Settings) (rows : Rows) (pid : ℕ) (p : ProcData) (s : IsS
   resume_sound sig = choose (ends_process sig (process_of pid rows.processes)) (end settings pid sig (resumed pid rows)) (resumed pid rows) IsSound (ends_at sig) (λ e. resumed_sound rows pid p s at live)
 
   pub detach_sound : (sig : ℕ) → IsSound (detach settings pid sig rows)
-  detach_sound sig = choose (ends_process sig (process_of pid rows.processes)) (end settings pid sig (resumed pid rows)) (detached (is_numbered pid) (λ q. 0) rows) IsSound (ends_at sig)
-      (λ e. detached_sound (is_numbered pid) (λ q. 0) rows s (All-imply (λ q. q.pid ≡ pid → q ≡ p) (λ q. (q.pid == pid) ≡ true → is_live q ≡ true) (λ q one is. subst (λ r. is_live r ≡ true) (sym (one (eqb-true q.pid pid is))) live) rows.processes (the_row pid rows.processes p s.stands.rising at)))
+  detach_sound sig = choose (ends_process sig (process_of pid rows.processes)) (end settings pid sig (resumed pid rows)) (detached (is_numbered pid) (λ q. 0) rows) IsSound (ends_at sig) (λ e. freed_sound rows pid p s at live 0)

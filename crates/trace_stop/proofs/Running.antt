@@ -14,7 +14,7 @@ use Rattle.trace_stop.specs.End.{tracer_in, tracer_of, meets}
 use Rattle.trace_stop.specs.Free.{reported, run_on}
 use Rattle.trace_stop.specs.Sound.{names_own}
 use Rattle.trace_stop.specs.Facts.{IsLiveOf, IsLiveChild, Linked, FitProcess, waited_for, Standing, FitLwp, Silent, WithOwner, IsSound}
-use Rattle.trace_stop.proofs.Every.{and_left, and_right, both, by_bool, All-imply, All-both, All-edit, All-any, find_some, any_holds, none_of, any_forward, count-cons}
+use Rattle.trace_stop.proofs.Every.{and_left, and_right, both, by_bool, All-imply, All-both, All-edit, All-any, find_some, any_holds, none_of, any_forward, count-cons, choose}
 use Rattle.trace_stop.proofs.Children.{Follows, child_after}
 use Rattle.trace_stop.proofs.Edited.{Same, edited, If_more, some_is, owners_after, edited_stands}
 use Rattle.trace_stop.proofs.Changed.{no_ring, process_from}
@@ -122,10 +122,6 @@ module _ (rows : Rows) (chosen : ProcData → Bool) (f : ProcData → ProcData) 
 
   abbrev cleared : LwpData → LwpData
   cleared l = record l { flags = no_flags; child = 0; code = 0 }
-
-  choose : {X : Type 0} (b : Bool) (x y : X) (R : X → Type 0) → (b ≡ true → R x) → (b ≡ false → R y) → R (if b then x else y)
-  choose true x y R h k = h refl
-  choose false x y R h k = k refl
 
   -- an LWP of p, by cases
   by_lwp : (R : Option LwpData → Type 0) (p : ProcData) (l : LwpData) → (chosen p ≡ false → R (Some l)) → (chosen p ≡ true → is_this l.tid (reporting p) ≡ true → shows l.flags PL_FLAG_EXITED ≡ true → R None)

@@ -1,5 +1,5 @@
 -- A stopped process runs on: its reporting LWP, and its LWPs.
-use Rattle.std.proofs.Common.{◌≡◌, ℕ, Bool, true, false, List, [], ◌∷◌, map, refl, ap, ◌∙◌, arith, inl, inr, cond, nat_eq, Option, Some, None}
+use Rattle.std.proofs.Common.{◌≡◌, ℕ, Bool, true, false, List, [], ◌∷◌, map, refl, sym, ap, ◌∙◌, arith, inl, inr, cond, nat_eq, Option, Some, None}
 use Rattle.std.specs.Prelude.{filter_map, option_map}
 use Rattle.std.proofs.lemmas.Bool.{cases_Bool}
 use Rattle.std.proofs.lemmas.Bool.Decides.{nat_tests}
@@ -16,7 +16,9 @@ use Rattle.proc_table.proofs.Rows.{same_number, other_number, process_of-pid, lw
 use Rattle.proc_table.proofs.LwpWalk.{unput}
 use Rattle.proc_table.proofs.Changes.{changed, changed-at, filter_map-map, map_lwps-none}
 use Rattle.trace_stop.specs.Free.{run_on, reported, resumed, running}
-use Rattle.trace_stop.specs.Reports.{IsStopped, unreported, report_dropped}
+use Rattle.trace_stop.specs.Facts.{Stands}
+use Rattle.trace_stop.specs.Reports.{IsStopped, reporter, unreported, report_dropped}
+use Rattle.trace_stop.proofs.Stopped.{own_reporter}
 
 -- the LWPs without what one of them has reported, and without it where it has exited
 abbrev pub dropped : Bool → LwpData → List LwpData → List LwpData
@@ -44,8 +46,8 @@ module _ (pid tid : ℕ) (p : ProcData) (g : LwpData → LwpData) (h : LwpData �
   quiet [] a = refl
   quiet (x ∷ ls) a = rw (silent x (other_number x.tid tid a.0), quiet ls a.1) refl
 
-  reporter : (l : LwpData) (b : Bool) → l.tid ≡ tid → l.pid ≡ pid → shows l.flags PL_FLAG_EXITED ≡ b → h l ≡ cond b None (Some (g (unreported l)))
-  reporter l b its own e =
+  its_report : (l : LwpData) (b : Bool) → l.tid ≡ tid → l.pid ≡ pid → shows l.flags PL_FLAG_EXITED ≡ b → h l ≡ cond b None (Some (g (unreported l)))
+  its_report l b its own e =
       let here : nat_eq l.pid pid ≡ true = rw own (same_number pid) in
       let named : nat_eq tid l.tid ≡ true = rw its (same_number tid) in
       mine l here ∙ (rw (reports, named) (at b e))
@@ -65,12 +67,12 @@ module _ (pid tid : ℕ) (p : ProcData) (g : LwpData → LwpData) (h : LwpData �
       first : (l : LwpData) (b : Bool) → l.tid ≡ tid → l.pid ≡ pid → shows l.flags PL_FLAG_EXITED ≡ b → (x : LwpData) (ls : List LwpData) → x ≡ l → LacksLwp tid ls
           → filter_map h (x ∷ ls) ≡ map (own_lwp pid g) (dropped b l (x ∷ ls))
       first l true its its_own e x ls same a =
-          let gone : h x ≡ None = ap h same ∙ reporter l true its its_own e in
+          let gone : h x ≡ None = ap h same ∙ its_report l true its its_own e in
           let test : nat_eq x.tid l.tid ≡ true = rw same (same_number l.tid) in
           let lacks : LacksLwp l.tid ls = rw its a in
           rw (gone, test, removed-none l.tid ls lacks) (quiet ls a)
       first l false its its_own e x ls same a =
-          let stays : h x ≡ Some (g (unreported l)) = ap h same ∙ reporter l false its its_own e in
+          let stays : h x ≡ Some (g (unreported l)) = ap h same ∙ its_report l false its its_own e in
           let test : nat_eq x.tid l.tid ≡ true = rw same (same_number l.tid) in
           let lacks : LacksLwp l.tid ls = rw its a in
           let here : nat_eq l.pid pid ≡ true = rw its_own (same_number pid) in
@@ -115,8 +117,33 @@ module _ (pid : ℕ) (f : ProcData → ProcData) (g : ProcData → LwpData → L
       by_flag true e = rw e refl
       by_flag false e = rw e refl
 
+  -- and of a process in no trace stop
+  pub run_on-calm : (rows : Rows) (p : ProcData) → IsKept rows → process_of pid rows.processes ≡ Some p → reporting p ≡ None → (f p).pid ≡ pid
+      → run_on (is_numbered pid) f g rows ≡ map_lwps pid (g p) (set_process (f p) rows)
+  run_on-calm rows p k at calm named =
+      let ps = rows.processes in
+      ap (λ qs. record rows { processes = qs; lwps = filter_map (λ x. by_owner runs x (process_of x.pid ps)) rows.lwps })
+      (filter_map-map (λ q. Some (changed pid f q)) (changed pid f) (λ q. refl) ps ∙ changed-at pid f p ps k.rising at named)
+      ∙ ap (λ ls. record rows { processes = map (put_process (f p)) ps; lwps = ls })
+      (filter_map-map (λ x. by_owner runs x (process_of x.pid ps)) (own_lwp pid (g p)) silent_lwp rows.lwps)
+    where
+      silent_lwp : (x : LwpData) → by_owner runs x (process_of x.pid rows.processes) ≡ Some (own_lwp pid (g p) x)
+      silent_lwp x = elim (cases_Bool (nat_eq x.pid pid)) [
+        | inl e ↦ its p rows.processes at x e ∙ (rw (calm, e) refl)
+        | inr e ↦ not_its rows.processes x e ∙ (rw e refl)
+      ]
+
+  pub run_on-is : (rows : Rows) (p : ProcData) → Stands rows → IsKept rows → process_of pid rows.processes ≡ Some p → (f p).pid ≡ pid → (o : Option ℕ) → reporting p ≡ o
+      → run_on (is_numbered pid) f g rows ≡ map_lwps pid (g p) (report_dropped (reporter o rows.lwps) (set_process (f p) rows))
+  run_on-is rows p s k at named None e = run_on-calm rows p k at e named
+  run_on-is rows p s k at named (Some tid) e =
+      let l = own_reporter pid tid rows p s at e in
+      run_on-at rows (record { p = p; at = at; tid = tid; reports = e; l = l.0; named = l.1; own = l.2 }) k named
+      ∙ ap (λ x. map_lwps pid (g p) (report_dropped x (set_process (f p) rows))) (sym l.1)
+
 -- a resumed process
-pub resumed-at : (pid : ℕ) (rows : Rows) (s : IsStopped pid rows) → IsKept rows → resumed pid rows ≡ report_dropped (Some s.l) (set_process (running s.p) rows)
-resumed-at pid rows s kept =
-    run_on-at pid running (λ p l. l) rows s kept (process_of-pid pid s.p rows.processes s.at)
-    ∙ map_lwps-none pid (report_dropped (Some s.l) (set_process (running s.p) rows))
+pub resumed-is : (pid : ℕ) (rows : Rows) (p : ProcData) → Stands rows → IsKept rows → process_of pid rows.processes ≡ Some p → (o : Option ℕ) → reporting p ≡ o
+    → resumed pid rows ≡ report_dropped (reporter o rows.lwps) (set_process (running p) rows)
+resumed-is pid rows p s k at o e =
+    run_on-is pid running (λ q l. l) rows p s k at (process_of-pid pid p rows.processes at) o e
+    ∙ map_lwps-none pid (report_dropped (reporter o rows.lwps) (set_process (running p) rows))

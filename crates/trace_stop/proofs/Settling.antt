@@ -9,6 +9,7 @@ use Rattle.proc_table.specs.Processes.{is_live, process_of}
 use Rattle.proc_table.specs.Rows.{Rows, change, change_process, is_numbered}
 use Rattle.trace_stop.specs.Post.{unwanted, settled_process, settled_lwp, settle}
 use Rattle.trace_stop.specs.Facts.{FitProcess, FitLwp, IsSound}
+use Rattle.trace_stop.specs.Before.{FitButPending, FitLwpButPending, IsSoundButPending}
 use Rattle.trace_stop.proofs.Every.{All-both}
 use Rattle.trace_stop.proofs.Bits.{without_apart}
 use Rattle.trace_stop.proofs.Changed.{Holds, sound_holds}
@@ -16,13 +17,6 @@ use Rattle.trace_stop.proofs.Changes.{changes_hold}
 use Rattle.trace_stop.proofs.Posting.{pending_fits, lwp_pending_fits, live_fits, live_state}
 use Rattle.trace_stop.proofs.Single.{process_alone}
 use Rattle.trace_stop.proofs.Stopping.{the_row}
-
--- fit but for what is pending
-abbrev pub Loose : ℕ → ProcData → Type 0
-Loose pid p = (p.pid ≢ pid → FitProcess p) × (p.pid ≡ pid → FitProcess (record p { pending = 0 }) × (is_live p ≡ true))
-
-abbrev pub LooseLwp : ℕ → ProcData → LwpData → Type 0
-LooseLwp pid p l = (p.pid ≢ pid → FitLwp p l) × (p.pid ≡ pid → FitLwp p (record l { pending = 0 }))
 
 other : (a b : ℕ) → (a == b) ≡ false → a ≢ b
 other a b e same = true≢false (sym (eq-eqb a b same) ∙ e)
@@ -33,8 +27,8 @@ settled_fits p h = pending_fits (record p { pending = 0 }) (without p.pending (u
 settled_lwp_fits : (p : ProcData) (l : LwpData) → FitLwp p (record l { pending = 0 }) → FitLwp (settled_process p) (settled_lwp p l)
 settled_lwp_fits p l fit = lwp_pending_fits p (settled_process p) (record l { pending = 0 }) (without l.pending (unwanted p)) fit refl (inl refl) (λ e. e) (λ none. without_apart l.pending (unwanted p))
 
-pub settle_sound : (rows : Rows) (pid : ℕ) → Holds (Loose pid) (LooseLwp pid) rows → IsSound (settle pid rows)
-settle_sound rows pid s = sound_holds (settle pid rows) (changes_hold rows (is_numbered pid) settled_process settled_lwp (Loose pid) (LooseLwp pid) FitProcess FitLwp s (record {
+pub settle_sound : (rows : Rows) (pid : ℕ) → IsSoundButPending pid rows → IsSound (settle pid rows)
+settle_sound rows pid s = sound_holds (settle pid rows) (changes_hold rows (is_numbered pid) settled_process settled_lwp (FitButPending pid) (FitLwpButPending pid) FitProcess FitLwp (record { stands = s.stands; processes = s.processes; lwps = s.lwps }) (record {
   pid = λ p. refl;
   uid = λ p. refl;
   tracer = λ p. refl;
@@ -81,8 +75,8 @@ module _ (rows : Rows) (pid : ℕ) (p : ProcData) (dispose : ProcData → Action
   apart : (q : ProcData) (R : Type 0) → (q.pid == pid) ≡ true → q.pid ≢ pid → R
   apart q R is ne = absurd (ne (eqb-true q.pid pid is))
 
-  loose : Holds (Loose pid) (LooseLwp pid) (change (is_numbered pid) to (λ q l. l) rows)
-  loose = changes_hold rows (is_numbered pid) to (λ q l. l) Known FitLwp (Loose pid) (LooseLwp pid)
+  loose : Holds (FitButPending pid) (FitLwpButPending pid) (change (is_numbered pid) to (λ q l. l) rows)
+  loose = changes_hold rows (is_numbered pid) to (λ q l. l) Known FitLwp (FitButPending pid) (FitLwpButPending pid)
       (record { stands = s.stands; processes = All-both FitProcess (λ q. q.pid ≡ pid → q ≡ p) rows.processes s.processes (the_row pid rows.processes p s.stands.rising at); lwps = s.lwps })
       (record {
         pid = λ q. refl;
@@ -101,5 +95,8 @@ module _ (rows : Rows) (pid : ℕ) (p : ProcData) (dispose : ProcData → Action
         rest_lwp = λ q l fact own is. (λ ne. own, λ same. absurd (other q.pid pid is same));
       })
 
+  pub disposed_but_pending : IsSoundButPending pid (change_process pid to rows)
+  disposed_but_pending = subst (IsSoundButPending pid) (process_alone pid to rows) (record { stands = loose.stands; processes = loose.processes; lwps = loose.lwps })
+
   pub disposed_sound : IsSound (settle pid (change_process pid to rows))
-  disposed_sound = subst (λ r. IsSound (settle pid r)) (process_alone pid to rows) (settle_sound (change (is_numbered pid) to (λ q l. l) rows) pid loose)
+  disposed_sound = settle_sound (change_process pid to rows) pid disposed_but_pending

@@ -1,16 +1,19 @@
 -- A process in a trace stop is stopped by an LWP of its own.
-use Rattle.std.proofs.Common.{◌≡◌, ◌∙◌, ℕ, true, List, [], ◌∷◌, Some, None, refl, arith, inl, inr, nat_eq}
-use Rattle.std.specs.Prelude.{◌&&◌}
+use Rattle.std.proofs.Common.{◌≡◌, ◌∙◌, ℕ, true, Option, List, [], ◌∷◌, Some, None, IsSome, is_some, refl, ap, arith, inl, inr, nat_eq}
+use Rattle.std.specs.Prelude.{IfSome, ◌&&◌, not}
 use Rattle.std.specs.List.{list_any}
 use Rattle.std.proofs.lemmas.Bool.{cases_Bool}
 use Rattle.std.proofs.lemmas.Bool.Decides.{nat_tests}
 use Rattle.lwp_table.specs.declared.LwpData.{LwpData}
 use Rattle.lwp_table.specs.Lwps.{LacksLwp, Differ, lwp_of}
 use Rattle.proc_table.specs.declared.ProcData.{ProcData}
-use Rattle.proc_table.specs.Processes.{process_of, reporting}
+use Rattle.proc_table.specs.Processes.{process_of, reporting, named_by, is_live, is_zombie_state}
+use Rattle.proc_table.specs.declared.State.{State}
+use Rattle.proc_table.specs.declared.State.TheVariants.{Run, Trace, Job, Zombie}
 use Rattle.proc_table.specs.Rows.{Rows}
+use Rattle.proc_table.specs.Kept.{IsRow}
 use Rattle.proc_table.proofs.Every.{every_found}
-use Rattle.proc_table.proofs.Rows.{other_number, process_of-pid}
+use Rattle.proc_table.proofs.Rows.{other_number, process_of-pid, found_row}
 use Rattle.trace_stop.specs.Sound.{names_own}
 use Rattle.trace_stop.specs.Facts.{Linked, Stands}
 use Rattle.trace_stop.specs.Reports.{IsStopped}
@@ -35,9 +38,32 @@ own_found tid pid (l ∷ ls) d any = elim (cases_Bool (nat_eq l.tid tid)) [
   | inr e ↦ rw e (own_found tid pid ls d.1 (rw e at any))
 ]
 
-pub IsStopped-from : (pid tid : ℕ) (rows : Rows) (p : ProcData) → Stands rows → process_of pid rows.processes ≡ Some p → reporting p ≡ Some tid → IsStopped pid rows
-IsStopped-from pid tid rows p stands at reports =
+pub own_reporter : (pid tid : ℕ) (rows : Rows) (p : ProcData) → Stands rows → process_of pid rows.processes ≡ Some p → reporting p ≡ Some tid → (l : LwpData) × (lwp_of tid rows.lwps ≡ Some l) × (l.pid ≡ pid)
+own_reporter pid tid rows p stands at reports =
     let link = every_found (Linked rows) (λ q. nat_eq q.pid pid) rows.processes p stands.linked at in
     let named : names_own rows p tid ≡ true = rw reports at link.named in
     let l = own_found tid p.pid rows.lwps stands.differ named in
-    record { p = p; at = at; tid = tid; reports = reports; l = l.0; named = l.1; own = l.2 ∙ process_of-pid pid p rows.processes at }
+    (l.0, l.1, l.2 ∙ process_of-pid pid p rows.processes at)
+
+pub IsStopped-from : (pid tid : ℕ) (rows : Rows) (p : ProcData) → Stands rows → process_of pid rows.processes ≡ Some p → reporting p ≡ Some tid → IsStopped pid rows
+IsStopped-from pid tid rows p stands at reports =
+    let l = own_reporter pid tid rows p stands at reports in
+    record { p = p; at = at; tid = tid; reports = reports; l = l.0; named = l.1; own = l.2 }
+
+-- the LWP that a process names is there
+pub reporter_there : (pid : ℕ) (rows : Rows) (p : ProcData) → Stands rows → process_of pid rows.processes ≡ Some p → (o : Option ℕ) → reporting p ≡ o → IfSome o (λ tid. IsSome (lwp_of tid rows.lwps))
+reporter_there pid rows p stands at None e = tt
+reporter_there pid rows p stands at (Some tid) e = ap is_some (own_reporter pid tid rows p stands at e).1
+
+-- a stopped process is a row, and live
+pub stopped_row : (pid : ℕ) (rows : Rows) → IsStopped pid rows → IsRow rows pid
+stopped_row pid rows s = found_row pid s.p rows.processes s.at
+
+pub stopped_live : (pid : ℕ) (rows : Rows) (s : IsStopped pid rows) → is_live s.p ≡ true
+stopped_live pid rows s = by_state s.p.state s.reports
+  where
+    by_state : (state : State) → named_by state ≡ Some s.tid → not (is_zombie_state state) ≡ true
+    by_state Run e = absurd (cc)
+    by_state (Trace tid sig seen) e = refl
+    by_state (Job sig seen) e = refl
+    by_state (Zombie w) e = absurd (cc)

@@ -10,6 +10,7 @@ use Rattle.proc_table.specs.Rows.{Rows}
 use Rattle.proc_table.specs.Kept.{Rise, AllAbove, AtHome}
 use Rattle.trace_stop.specs.Post.{notified}
 use Rattle.trace_stop.specs.Facts.{IsLiveOf, FitProcess, IsSound}
+use Rattle.trace_stop.specs.Before.{MayTell}
 use Rattle.trace_stop.proofs.Every.{and_left, and_right, both, by_bool, All-imply, All-both, any_more}
 use Rattle.trace_stop.proofs.Edited.{some_is}
 use Rattle.trace_stop.proofs.Changed.{sound_holds}
@@ -78,9 +79,6 @@ own_lwps [] all = tt
 own_lwps (l ∷ ls) all = (rw (eq-eqb l.tid l.tid refl) refl, skip_lwps l ls ls all.0 (own_lwps ls all.1))
 
 -- Telling live processes
-
-abbrev pub MayTell : Rows → ℕ → Type 0
-MayTell rows n = n ≢ 1 → list_any (λ p. (p.pid == n) && is_live p) rows.processes ≡ true
 
 pub live_told : (rows : Rows) (u n : ℕ) → IsLiveOf rows u n → MayTell rows n
 live_told rows u n is ne = any_more (λ p. (p.pid == n) && (p.uid == u) && is_live p) (λ p. (p.pid == n) && is_live p)

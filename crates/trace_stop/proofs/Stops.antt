@@ -1,6 +1,7 @@
 -- A trace stop keeps rows sound.
 use Rattle.std.proofs.Common.{◌≡◌, ◌≢◌, ◌⊎◌, inl, ℕ, ◌≤◌, Bool, true, false, ◌==◌, ◌&&◌, if◌then◌else◌, List, [], ◌∷◌, find, Option, Some, None, IfSome, is_some, not, refl, sym, ap, ◌∙◌, true≢false, subst, arith, eqb-true, eq-eqb}
 use Rattle.std.specs.List.{AllByRecursion, list_any}
+use Rattle.std.specs.Option.{IsSomeAnd}
 use Rattle.event_masks.specs.Exits.{shows}
 use Rattle.event_masks.specs.declared.TheConstants.StopFlags.{PL_FLAG_EXITED}
 use Rattle.lwp_table.specs.declared.LwpData.{LwpData}
@@ -16,20 +17,11 @@ use Rattle.trace_stop.specs.Stop.{tracers, stop}
 use Rattle.trace_stop.specs.declared.Shown.{Shown}
 use Rattle.trace_stop.specs.Sound.{names_own}
 use Rattle.trace_stop.specs.Facts.{IsLiveOf, IsLiveChild, Linked, FitProcess, waited_for, Standing, FitLwp, WithOwner, IsSound}
-use Rattle.trace_stop.proofs.Every.{by_bool, both, All-imply, All-both, All-any, find_some}
+use Rattle.trace_stop.proofs.Every.{by_bool, both, All-imply, All-both, All-any, find_some, choose}
 use Rattle.trace_stop.proofs.Edited.{edited, some_is}
 use Rattle.trace_stop.proofs.Changed.{Holds, sound_holds, found_number, Change, change_holds, live_after}
-use Rattle.trace_stop.proofs.Stopping.{the_row, the_lwp, MayTell, live_told, notified_sound}
-
--- a traced process that may stop
-pub record Ready (p : ProcData) : Type 0 where
-  pub live : is_live p ≡ true
-  pub traced : is_some p.tracer ≡ true
-  pub quiet : reporting p ≡ None
-  pub calm : p.continued ≡ false
-
-abbrev pub Readied : ℕ → ProcData → Type 0
-Readied pid p = (p.pid ≢ pid → FitProcess p) × (p.pid ≡ pid → Ready p)
+use Rattle.trace_stop.specs.Before.{MayTell, Ready, FitOrReady, MayStop}
+use Rattle.trace_stop.proofs.Stopping.{the_row, the_lwp, live_told, notified_sound}
 
 pub run_quiet : (s : State) → is_run_state s ≡ true → (named_by s ≡ None) × (is_zombie_state s ≡ false)
 run_quiet Run is = (refl, refl)
@@ -49,12 +41,21 @@ run_ready p fit run traced = record {
   calm = by_bool p.continued (λ on. none_some p.tracer (fit.continued on).0 traced);
 }
 
-pub sound_ready : (rows : Rows) (pid : ℕ) (p : ProcData) → IsSound rows → process_of pid rows.processes ≡ Some p → Ready p → Holds (Readied pid) FitLwp rows
-sound_ready rows pid p s at ready = record {
+-- so an LWP of it may stop it
+pub sound_ready : (rows : Rows) (pid tid : ℕ) (shown : Shown) (p : ProcData) → IsSound rows → process_of pid rows.processes ≡ Some p → Ready p
+    → IsSomeAnd (lwp_of tid rows.lwps) (λ l. l.pid ≡ pid) → (shows shown.flags PL_FLAG_EXITED ≡ true → 2 ≤ lwp_count pid rows) → MayStop pid tid shown rows
+sound_ready rows pid tid shown p s at ready own exits = record {
+  own = own;
+  exits = exits;
   stands = s.stands;
-  processes = All-imply (λ q. FitProcess q × (q.pid ≡ pid → q ≡ p)) (Readied pid) (λ q h. (λ other. h.0, λ same. subst Ready (sym (h.1 same)) ready)) rows.processes (All-both FitProcess (λ q. q.pid ≡ pid → q ≡ p) rows.processes s.processes (the_row pid rows.processes p s.stands.rising at));
+  processes = All-imply (λ q. FitProcess q × (q.pid ≡ pid → q ≡ p)) (FitOrReady pid) (λ q h. (λ other. h.0, λ same. subst Ready (sym (h.1 same)) ready)) rows.processes (All-both FitProcess (λ q. q.pid ≡ pid → q ≡ p) rows.processes s.processes (the_row pid rows.processes p s.stands.rising at));
   lwps = s.lwps;
 }
+
+-- and so it may where the process runs
+pub may_stop : (rows : Rows) (pid tid : ℕ) (shown : Shown) (p : ProcData) → IsSound rows → process_of pid rows.processes ≡ Some p → is_run p ≡ true → is_some p.tracer ≡ true
+    → IsSomeAnd (lwp_of tid rows.lwps) (λ l. l.pid ≡ pid) → (shows shown.flags PL_FLAG_EXITED ≡ true → 2 ≤ lwp_count pid rows) → MayStop pid tid shown rows
+may_stop rows pid tid shown p s at run traced own exits = sound_ready rows pid tid shown p s at (run_ready p (find_some (λ q. q.pid == pid) FitProcess rows.processes s.processes p at).0 run traced) own exits
 
 pub record Stops (rows : Rows) (pid tid : ℕ) (shown : Shown) (p : ProcData) (l : LwpData) : Type 0 where
   pub at : process_of pid rows.processes ≡ Some p
@@ -69,7 +70,7 @@ find_passes q t (y ∷ xs) x is pass = grind (arith, find_passes q t xs x, is, p
 pub found_tid : (n : ℕ) (ls : List LwpData) (l : LwpData) → lwp_of n ls ≡ Some l → l.tid ≡ n
 found_tid n ls l is = eqb-true l.tid n (find_some (λ k. k.tid == n) (λ k. Unit {0}) ls (All-any (λ k. Unit {0}) (λ k. tt) ls) l is).1
 
-module _ (rows : Rows) (pid tid : ℕ) (shown : Shown) (p : ProcData) (l : LwpData) (s : Holds (Readied pid) FitLwp rows) (c : Stops rows pid tid shown p l) where
+module _ (rows : Rows) (pid tid : ℕ) (shown : Shown) (p : ProcData) (l : LwpData) (s : Holds (FitOrReady pid) FitLwp rows) (c : Stops rows pid tid shown p l) where
   abbrev stopped : ProcData → ProcData
   stopped q = record q { state = Trace tid shown.sig false }
 
@@ -85,14 +86,10 @@ module _ (rows : Rows) (pid tid : ℕ) (shown : Shown) (p : ProcData) (l : LwpDa
   abbrev Known : ProcData → LwpData → Type 0
   Known q k = FitLwp q k × (k.tid ≡ tid → k ≡ l)
 
-  choose : {X : Type 0} (b : Bool) (x y : X) (R : X → Type 0) → (b ≡ true → R x) → (b ≡ false → R y) → R (if b then x else y)
-  choose true x y R h k = h refl
-  choose false x y R h k = k refl
-
   other : (q : ProcData) → (q.pid == pid) ≡ false → q.pid ≢ pid
   other q e same = true≢false (sym (eq-eqb q.pid pid same) ∙ e)
 
-  held : Holds (Readied pid) Known rows
+  held : Holds (FitOrReady pid) Known rows
   held = record { stands = s.stands; processes = s.processes; lwps = All-imply (λ k. WithOwner rows FitLwp k × (k.tid ≡ tid → k ≡ l)) (WithOwner rows Known) (λ k h q at. (h.0 q at, h.1)) rows.lwps (All-both (WithOwner rows FitLwp) (λ k. k.tid ≡ tid → k ≡ l) rows.lwps s.lwps (the_lwp tid rows.lwps l s.stands.differ c.there)) }
 
   number : p.pid ≡ pid
@@ -115,7 +112,7 @@ module _ (rows : Rows) (pid tid : ℕ) (shown : Shown) (p : ProcData) (l : LwpDa
     ended = tt;
   }
 
-  fit_lwp : (q : ProcData) (k : LwpData) → Readied pid q → Known q k → process_of k.pid rows.processes ≡ Some q → (b : Bool) → (q.pid == pid) ≡ b → (d : Bool) → (k.tid == tid) ≡ d → FitLwp (if b then stopped q else q) (if d then showing k else k)
+  fit_lwp : (q : ProcData) (k : LwpData) → FitOrReady pid q → Known q k → process_of k.pid rows.processes ≡ Some q → (b : Bool) → (q.pid == pid) ≡ b → (d : Bool) → (k.tid == tid) ≡ d → FitLwp (if b then stopped q else q) (if d then showing k else k)
   fit_lwp q k fact known at false e true d = absurd (other q e (its_own q k known at d))
   fit_lwp q k fact known at false e false d = known.0
   fit_lwp q k fact known at true e true d = let ready = fact.1 (eqb-true q.pid pid e) in record {
@@ -131,7 +128,7 @@ module _ (rows : Rows) (pid tid : ℕ) (shown : Shown) (p : ProcData) (l : LwpDa
     mode = known.0.mode;
   }
 
-  the_change : Change rows to to_lwp (Readied pid) Known FitProcess FitLwp
+  the_change : Change rows to to_lwp (FitOrReady pid) Known FitProcess FitLwp
   the_change = record {
     same = record {
       process = λ q. choose (q.pid == pid) (stopped q) q (λ r. (r.pid ≡ q.pid) × (r.uid ≡ q.uid)) (λ e. (refl, refl)) (λ e. (refl, refl));
@@ -156,9 +153,13 @@ module _ (rows : Rows) (pid tid : ℕ) (shown : Shown) (p : ProcData) (l : LwpDa
   made = edited to (λ k. Some (to_lwp k)) rows
 
   pub stop_sound : IsSound (stop pid tid shown rows)
-  stop_sound = notified_sound made (tracers (tracer_of rows.processes pid)) (sound_holds made (change_holds rows to to_lwp (Readied pid) Known FitProcess FitLwp held the_change))
+  stop_sound = notified_sound made (tracers (tracer_of rows.processes pid)) (sound_holds made (change_holds rows to to_lwp (FitOrReady pid) Known FitProcess FitLwp held the_change))
       (subst (λ o. AllByRecursion (MayTell made) (tracers (tracer_in o))) (sym c.at) (tell p.tracer (find_some (λ q. q.pid == pid) (Linked rows) rows.processes s.stands.linked p c.at).0.tracer))
     where
       tell : (o : Option ℕ) → IfSome o (IsLiveOf rows p.uid) → AllByRecursion (MayTell made) (tracers o)
       tell None live = tt
-      tell (Some t) live = (live_told made p.uid t (live_after rows to to_lwp (Readied pid) Known FitProcess FitLwp held the_change p.uid t live), tt)
+      tell (Some t) live = (live_told made p.uid t (live_after rows to to_lwp (FitOrReady pid) Known FitProcess FitLwp held the_change p.uid t live), tt)
+
+pub stopped_sound : (rows : Rows) (pid tid : ℕ) (shown : Shown) (p : ProcData) (l : LwpData) → process_of pid rows.processes ≡ Some p → lwp_of tid rows.lwps ≡ Some l → MayStop pid tid shown rows → IsSound (stop pid tid shown rows)
+stopped_sound rows pid tid shown p l at there may =
+    stop_sound rows pid tid shown p l (record { stands = may.stands; processes = may.processes; lwps = may.lwps }) (record { at = at; there = there; own = rw there at may.own; exits = may.exits })

@@ -153,7 +153,7 @@ dead_told over w told m = at (told m.pid)
     at false = refl
 
 -- told by one end and by the next
-told_twice : (over : ℕ → Bool) (t1 t3 t2 : ℕ → Bool) (m m' : ProcData) → moved over m ≡ m' → t2 m'.pid ≡ (t1 m.pid || t3 m.pid) → told_row t3 (moved over (told_row t1 m)) ≡ told_row t2 m'
+pub told_twice : (over : ℕ → Bool) (t1 t3 t2 : ℕ → Bool) (m m' : ProcData) → moved over m ≡ m' → t2 m'.pid ≡ (t1 m.pid || t3 m.pid) → told_row t3 (moved over (told_row t1 m)) ≡ told_row t2 m'
 told_twice over t1 t3 t2 m m' same told = by_told (t1 m.pid) (t3 m.pid) refl refl told
   where
     by_told : (b c : Bool) → t1 m.pid ≡ b → t3 m.pid ≡ c → t2 m'.pid ≡ (b || c) → told_row t3 (moved over (told_row t1 m)) ≡ told_row t2 m'
@@ -236,11 +236,11 @@ module _ (d : ℕ → Bool) (p q status : ℕ) (r : ProcData) (dq : d q ≡ true
 
 -- An LWP of a live process
 
-told_lwp-moved : (over told : ℕ → Bool) (r : ProcData) (l : LwpData) → told_lwp told (moved over r) l ≡ told_lwp told r l
+pub told_lwp-moved : (over told : ℕ → Bool) (r : ProcData) (l : LwpData) → told_lwp told (moved over r) l ≡ told_lwp told r l
 unfolding told_lwp moved heard_lwp
 told_lwp-moved over told r l = refl
 
-told_lwp-told : (told t1 : ℕ → Bool) (r : ProcData) (l : LwpData) → told_lwp told (told_row t1 r) l ≡ told_lwp told r l
+pub told_lwp-told : (told t1 : ℕ → Bool) (r : ProcData) (l : LwpData) → told_lwp told (told_row t1 r) l ≡ told_lwp told r l
 unfolding told_lwp told_row heard heard_lwp
 told_lwp-told told t1 r l = at (t1 r.pid)
   where
@@ -252,7 +252,7 @@ released-moved : (over o : ℕ → Bool) (r : ProcData) (l : LwpData) → releas
 unfolding moved
 released-moved over o r l = refl
 
-released-told : (over t1 : ℕ → Bool) (r : ProcData) (l : LwpData) → released over (told_row t1 r) l ≡ released over r l
+pub released-told : (over t1 : ℕ → Bool) (r : ProcData) (l : LwpData) → released over (told_row t1 r) l ≡ released over r l
 unfolding told_row heard
 released-told over t1 r l = at (t1 r.pid)
   where
@@ -272,7 +272,7 @@ released_heard over r l = at (waits_where over l.mode)
     at true = refl
     at false = refl
 
-released_told : (over told : ℕ → Bool) (r : ProcData) (l : LwpData) → released over r (told_lwp told r l) ≡ told_lwp told r (released over r l)
+pub released_told : (over told : ℕ → Bool) (r : ProcData) (l : LwpData) → released over r (told_lwp told r l) ≡ told_lwp told r (released over r l)
 unfolding told_lwp
 released_told over told r l = at (told r.pid)
   where
@@ -280,7 +280,7 @@ released_told over told r l = at (told r.pid)
     at true = released_heard over r l
     at false = refl
 
-told_lwp_twice : (t1 t2 t3 : ℕ → Bool) (r : ProcData) (l : LwpData) → t2 r.pid ≡ (t1 r.pid || t3 r.pid) → told_lwp t3 r (told_lwp t1 r l) ≡ told_lwp t2 r l
+pub told_lwp_twice : (t1 t2 t3 : ℕ → Bool) (r : ProcData) (l : LwpData) → t2 r.pid ≡ (t1 r.pid || t3 r.pid) → told_lwp t3 r (told_lwp t1 r l) ≡ told_lwp t2 r l
 told_lwp_twice t1 t2 t3 r l told = by_told (t1 r.pid) (t3 r.pid) refl refl told
   where
     by_told : (b c : Bool) → t1 r.pid ≡ b → t3 r.pid ≡ c → t2 r.pid ≡ (b || c) → told_lwp t3 r (told_lwp t1 r l) ≡ told_lwp t2 r l

@@ -1,11 +1,13 @@
 -- The end of a process, taken apart into ends of processes that trace no live one.
-use Rattle.std.specs.Prelude.{◌≡◌, ◌≤◌, ◌<◌, ℕ, zero, suc, Bool, true, false, ◌==◌, ◌&&◌, ◌||◌, List, [], ◌∷◌, Option, Some, None, length, not, count_by}
+use Rattle.std.specs.Prelude.{◌≡◌, ◌≢◌, ◌≤◌, ◌<◌, ℕ, zero, suc, Bool, true, false, ◌==◌, ◌&&◌, ◌||◌, List, [], ◌∷◌, Option, Some, None, length, not, count_by}
 use Rattle.std.specs.List.{list_any}
 use Rattle.signals.specs.Table.{SIGKILL}
 use Rattle.proc_table.specs.declared.ProcData.{ProcData}
 use Rattle.proc_table.specs.Processes.{process_of, is_live, traces}
 use Rattle.proc_table.specs.Rows.{Rows}
+use Rattle.proc_table.specs.Seen.{owns}
 use Rattle.proc_table.specs.Fresh.{is_process}
+use Rattle.proc_table.specs.Laws.{only_of}
 use Rattle.trace_stop.specs.declared.Settings.{Settings}
 use Rattle.trace_stop.specs.Free.{detached}
 use Rattle.trace_stop.specs.End.{tracer_of, meets, dooms, left_alone, end_each, end}
@@ -116,3 +118,13 @@ DetachedSound = (rows : Rows) (chosen : ProcData → Bool) (lost : ProcData → 
 abbrev pub EndSound : Type 0
 EndSound = (settings : Settings) (rows : Rows) (p status : ℕ) → IsSound rows → is_end status ≡ true
     → is_live_at p rows ≡ true → IsSound (end settings p status rows)
+
+-- a user's own rows after the end of one of the user's processes are those that its end leaves of the user's own rows alone
+abbrev pub EndOwn : Type 0
+EndOwn = (settings : Settings) (rows : Rows) (u p status : ℕ) → IsSound rows → owns u p rows.processes ≡ true
+    → only_of u (end settings p status rows) ≡ end settings p status (only_of u rows)
+
+-- and every other user's rows are as they were
+abbrev pub EndOthers : Type 0
+EndOthers = (settings : Settings) (rows : Rows) (u w p status : ℕ) → IsSound rows → owns u p rows.processes ≡ true → w ≢ u
+    → only_of w (end settings p status rows) ≡ only_of w rows

@@ -1,5 +1,5 @@
 -- What the LWP of a trace stop reports, and how it is dropped.
-use Rattle.std.specs.Prelude.{◌≡◌, ℕ, Option, Some, None, if◌then◌else◌}
+use Rattle.std.specs.Prelude.{◌≡◌, ℕ, List, Option, Some, None, if◌then◌else◌}
 use Rattle.event_masks.specs.Exits.{no_flags, shows}
 use Rattle.event_masks.specs.declared.TheConstants.StopFlags.{PL_FLAG_EXITED}
 use Rattle.lwp_table.specs.declared.LwpData.{LwpData}
@@ -18,6 +18,11 @@ pub record IsStopped (pid : ℕ) (rows : Rows) : Type 0 where
   pub l : LwpData
   pub named : lwp_of tid rows.lwps ≡ Some l
   pub own : l.pid ≡ pid
+
+-- the LWP with the number, where there is a number
+abbrev pub reporter : Option ℕ → List LwpData → Option LwpData
+reporter None lwps = None
+reporter (Some tid) lwps = lwp_of tid lwps
 
 abbrev pub unreported : LwpData → LwpData
 unreported l = record l { flags = no_flags; child = 0; code = 0 }

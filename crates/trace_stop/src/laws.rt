@@ -1,6 +1,6 @@
 //! Laws of the end of a process.
 
-ghost use Rattle.trace_stop.specs.Laws.{LeafEnd, DetachedEnd, LeafLaw, ChainsEnd, ChainsMeet, TraceeDeeper, TraceeDoomed, LeafExists, LeafStands, LeafLives, LeafFewer, LeafDooms, LeafSound, DetachedSound, EndSound};
+ghost use Rattle.trace_stop.specs.Laws.{LeafEnd, DetachedEnd, LeafLaw, ChainsEnd, ChainsMeet, TraceeDeeper, TraceeDoomed, LeafExists, LeafStands, LeafLives, LeafFewer, LeafDooms, LeafSound, DetachedSound, EndSound, EndOwn, EndOthers};
 
 /// A process that traces no live one ends alone.
 pub fn leaf_end()
@@ -75,4 +75,11 @@ pub fn end_sound()
 /// Sound rows are sound once live processes are detached from their tracers.
 pub fn detached_sound()
     ensures { DetachedSound }
+{}
+
+/// The end of a process is, among its user's rows, its end where nobody else has rows, and leaves every
+/// other user's rows as they were.
+pub fn ends_are_apart()
+    ensures own { EndOwn }
+    ensures others { EndOthers }
 {}

@@ -7,11 +7,6 @@ use Rattle.requests.specs.declared.Reply.TheVariants as reply
 use Rattle.requests.proofs.Tracees.{signalled, row_changed, is_tracee, masked_ready}
 use Rattle.requests.proofs.commands.continue_with.Goals as goal
 
-pub clear_stepping-requires : goal.clear_stepping-requires
-clear_stepping-requires c =
-    let p = c.args.process.now in
-    record { there = subst (λ (rows : Rows). IsRow rows p.pid) (sym c.set_mask.ensures.rows) (row_changed p.pid (λ q. record q { mask = c.args.mask }) c.args.tables.now.rows p (λ q. refl) c.requires.at) }
-
 pub resume-requires : goal.resume-requires
 resume-requires c =
     let rows = c.args.tables.now.rows in

@@ -5,9 +5,6 @@ use Rattle.requests.specs.declared.Reply.TheVariants as reply
 use Rattle.requests.proofs.Tracees.{signalled, is_tracee, own_lwp, still_there, stepping_ready}
 use Rattle.requests.proofs.commands.step.Goals as goal
 
-pub clear_stepping-requires : goal.clear_stepping-requires
-clear_stepping-requires c = record { there = found_row c.args.process.now.pid c.args.process.now c.args.tables.now.rows.processes c.requires.at }
-
 pub set_stepping-requires : goal.set_stepping-requires
 set_stepping-requires c =
     let rows = c.args.tables.now.rows in

@@ -1,0 +1,144 @@
+-- What is decided about a trace stop, and what a handle asks.
+use Rattle.std.specs.Prelude.{option_map, find}
+use Rattle.std.proofs.Common.{◌≡◌, ℕ, ◌≤◌, ◌%◌, [], ◌∷◌, negsuc, Bool, true, false, not, leb, ◌==◌, ◌&&◌, if◌then◌else◌, List, Option, Some, None, IfSome, is_some, refl, sym, ap, ◌∙◌, subst, eqb, eq-eqb, true≢false}
+use Rattle.std.proofs.lemmas.Bool.{le-leb}
+use Rattle.lwp_table.specs.declared.LwpData.{LwpData}
+use Rattle.lwp_table.specs.Lwps.{lwp_of}
+use Rattle.proc_table.specs.declared.ProcData.{ProcData}
+use Rattle.proc_table.specs.declared.State.{State}
+use Rattle.proc_table.specs.declared.State.TheVariants.{Run, Trace, Job, Zombie}
+use Rattle.proc_table.specs.Kept.{Rise}
+use Rattle.proc_table.specs.Processes.{process_of}
+use Rattle.proc_table.specs.Rows.{Rows, each}
+use Rattle.trace_stop.specs.declared.Settings.{Settings}
+use Rattle.trace_stop.specs.Stop.{detach}
+use Rattle.trace_stop.specs.Facts.{IsSound}
+use Rattle.trace_stop.proofs.Every.{All-filter, find_some}
+use Rattle.trace_stop.proofs.Edited.{If_more, find_edit}
+use Rattle.trace_stop.proofs.Ending.{own_rows}
+use Rattle.stop_handlers.specs.declared.Rule.{Rule}
+use Rattle.stop_handlers.specs.declared.StopView.{StopView}
+use Rattle.stop_handlers.specs.declared.Decision.{Decision}
+use Rattle.stop_handlers.specs.declared.Decision.TheVariants as decision
+use Rattle.wait4.specs.declared.StatusKind.{StatusKind}
+use Rattle.wait4.specs.declared.Collected.{Collected}
+use Rattle.wait4.specs.declared.Collected.TheVariants as collected
+use Rattle.wait4.specs.declared.StatusKind.TheVariants.{Continued}
+use Rattle.wait4.specs.Status.{ended}
+use Rattle.wait4.specs.Collect.{is_child, fits, candidates, collect, answer, reportable, reported, rows_after, collect_one, told, status_of, status_of_state}
+use Rattle.wait4.specs.Collect as wait
+use Rattle.requests.specs.declared.Reply.TheVariants as reply
+use Rattle.requests.specs.Outcome.{Outcome, answers}
+use Rattle.requests.specs.Asking.{is_stop, viewed_in, asks_view, asks_row, asks}
+use Rattle.requests.specs.Commands.{with_signal}
+use Rattle.requests.specs.Handle.{view_of, decided, done, no_options, handles_stop, handles_status, handles, handled_by}
+use Rattle.requests.specs.Ptrace.{continues_with}
+use Rattle.requests.proofs.Acting.{choose}
+use Rattle.wait4.proofs.CollectSound.{Kept, collected_kept}
+use Rattle.requests.proofs.Forking.{Heard, heard}
+use Rattle.requests.proofs.Tracees.{continue_as}
+
+within : (n : ℕ) (o : Outcome) (rows : Rows) → n ≤ 31 → with_signal n o rows ≡ o
+within n o rows small = rw (le-leb n 31 small) refl
+
+pub continued : (settings : Settings) (p : ProcData) (rows after : Rows) (s n : ℕ) → n ≡ s → n ≤ 31 → Rise rows.processes → process_of p.pid rows.processes ≡ Some p
+    → after ≡ (with_signal n (continues_with settings (λ old. p.mask) n p rows) rows).rows → after ≡ done settings (decision.Continue s) p rows
+continued settings p rows after s n same small rise at done = done
+    ∙ ap (λ o. o.rows) (continue_as settings (λ mask. mask) p.mask n p rows rise at refl ∙ within n (continues_with settings (λ mask. mask) n p rows) rows small)
+    ∙ ap (λ m. (continues_with settings (λ mask. mask) m p rows).rows) same
+
+pub detached : (settings : Settings) (p : ProcData) (rows after : Rows) (s n : ℕ) → n ≡ s → n ≤ 31
+    → after ≡ (with_signal n (answers reply.Done (detach settings p.pid n rows)) rows).rows → after ≡ done settings (decision.Detach s) p rows
+detached settings p rows after s n same small done = done ∙ ap (λ o. o.rows) (within n (answers reply.Done (detach settings p.pid n rows)) rows small) ∙ ap (λ m. detach settings p.pid m rows) same
+
+-- What is done to a stop follows from the process's number alone
+done_pid : (settings : Settings) (d : Decision) (p q : ProcData) (rows : Rows) → q.pid ≡ p.pid → done settings d q rows ≡ done settings d p rows
+done_pid settings decision.Decline p q rows same = refl
+done_pid settings decision.Leave p q rows same = refl
+done_pid settings (decision.Continue s) p q rows same = ap (λ n. (continues_with settings (λ mask. mask) s (record p { pid = n }) rows).rows) same
+done_pid settings (decision.Detach s) p q rows same = ap (λ n. detach settings n s rows) same
+done_pid settings decision.Kill p q rows same = ap (λ n. done settings decision.Kill (record p { pid = n }) rows) same
+
+asks_pid : (settings : Settings) (policies : List (List Rule)) (status : StatusKind) (p q : ProcData) (rows : Rows) (o : Option StopView) → q.pid ≡ p.pid → asks_view settings policies status q rows o ≡ asks_view settings policies status p rows o
+asks_pid settings policies status p q rows None same = ap (λ n. answers (reply.Status n status) rows) same
+asks_pid settings policies status p q rows (Some view) same =
+    ap (λ n. answers (reply.Handled n status view (decided policies 0 view).index (decided policies 0 view).decision) (done settings (decided policies 0 view).decision q rows)) same
+    ∙ ap (λ r. answers (reply.Handled p.pid status view (decided policies 0 view).index (decided policies 0 view).decision) r) (done_pid settings (decided policies 0 view).decision p q rows same)
+
+viewed_pid : (rows : Rows) (p q : ProcData) (s : State) → q.pid ≡ p.pid → viewed_in rows q s ≡ viewed_in rows p s
+viewed_pid rows p q s same = ap (λ n. viewed_in rows (record p { pid = n }) s) same
+
+ended_quiet : (w : ℕ) → is_stop (ended w) ≡ false
+ended_quiet w = choose (w % 256 == 0) _ _ (λ s. is_stop s ≡ false) (λ e. refl) (λ e. refl)
+
+-- what was collected
+abbrev pub is_got : Collected → Bool
+is_got collected.NoChild = false
+is_got collected.Nothing = false
+is_got (collected.Got pid status) = true
+
+abbrev got_pid : Collected → ℕ
+got_pid collected.NoChild = 0
+got_pid collected.Nothing = 0
+got_pid (collected.Got pid status) = pid
+
+abbrev got_status : Collected → StatusKind
+got_status collected.NoChild = Continued
+got_status collected.Nothing = Continued
+got_status (collected.Got pid status) = status
+
+module _ (settings : Settings) (caller : ℕ) (policies : List (List Rule)) (rows : Rows) (s : IsSound rows) where
+  abbrev after : Rows
+  after = rows_after caller (negsuc 0) no_options rows
+
+  module _ (p : ProcData) (found : reported caller (negsuc 0) no_options rows ≡ Some p) where
+    at : process_of p.pid rows.processes ≡ Some p
+    at = (find_some (reportable no_options caller) (λ r. process_of r.pid rows.processes ≡ Some r) (candidates caller (negsuc 0) rows)
+        (All-filter (λ r. is_child caller r && fits (negsuc 0) r) (λ r. process_of r.pid rows.processes ≡ Some r) rows.processes (own_rows rows.processes s.stands.rising)) p found).0
+
+    abbrev to : ProcData → Option ProcData
+    to q = if q.pid == p.pid then wait.collected caller q else Some q
+
+    same_pid : (q : ProcData) → IfSome (to q) (λ r. (r.pid == p.pid) ≡ (q.pid == p.pid))
+    same_pid q = choose (q.pid == p.pid) (wait.collected caller q) (Some q) (λ o. IfSome o (λ r. (r.pid == p.pid) ≡ (q.pid == p.pid)))
+        (λ e. If_more (Kept q) (λ r. (r.pid == p.pid) ≡ (q.pid == p.pid)) (λ r k. ap (λ n. eqb n p.pid) k.pid) (wait.collected caller q) (collected_kept caller q q.state refl)) (λ e. refl)
+
+    -- the row of what was collected, where it is left
+    left : (z : ProcData) → wait.collected caller p ≡ Some z → Heard after p.pid z
+    left z is = subst (λ r. Heard r p.pid z) (ap (λ o. wait.without_report caller o rows) (sym found))
+        (heard (each to (λ q l. Some l) rows) (told caller p) p.pid z (find_edit (λ q. q.pid == p.pid) to same_pid rows.processes p z at (rw (eq-eqb p.pid p.pid refl) is)))
+
+    row_asked : (status : StatusKind) (z : ProcData) → wait.collected caller p ≡ Some z → z.pid ≡ p.pid → asks_row settings policies p.pid status after (process_of p.pid after.processes) ≡ asks_view settings policies status p after (viewed_in after p z.state)
+    row_asked status z is own =
+        let h = left z is in
+        let same : h.row.pid ≡ p.pid = h.pid ∙ own in
+        ap (asks_row settings policies p.pid status after) h.at
+        ∙ asks_pid settings policies status p h.row after (viewed_in after h.row h.row.state) same
+        ∙ ap (asks_view settings policies status p after) (viewed_pid after p h.row h.row.state same ∙ ap (viewed_in after p) h.state)
+
+    by_lwp : (status : StatusKind) (tid sig : ℕ) (o : Option LwpData) → handles_stop settings policies p tid sig status after o ≡ asks_view settings policies status p after (option_map (view_of p tid sig) o)
+    by_lwp status tid sig None = refl
+    by_lwp status tid sig (Some l) = refl
+
+    quiet : (status : StatusKind) → is_stop status ≡ false → answers (reply.Status p.pid status) after ≡ asks settings policies p.pid status after
+    quiet status is = rw is refl
+
+    by_state : (x : State) → p.state ≡ x → handles_status settings policies (status_of_state x) p after x ≡ asks settings policies p.pid (status_of_state x) after
+    by_state Run is = refl
+    by_state (Trace tid sig seen) is = by_lwp (status_of_state (Trace tid sig seen)) tid sig (lwp_of tid after.lwps)
+        ∙ sym (row_asked (status_of_state (Trace tid sig seen)) (record p { state = Trace tid sig true }) (ap (wait.collected_in caller p) is) refl)
+    by_state (Job sig seen) is = sym (row_asked (status_of_state (Job sig seen)) (record p { state = Job sig true }) (ap (wait.collected_in caller p) is) refl)
+    by_state (Zombie w) is = quiet (ended w) (ended_quiet w)
+
+    pub asked_row : handles settings policies rows after (Some p) (collected.Got p.pid (status_of p)) ≡ asks settings policies p.pid (status_of p) after
+    asked_row = subst (λ x. handles_status settings policies (status_of_state x) p after x ≡ asks settings policies p.pid (status_of_state x) after) refl (by_state p.state refl)
+
+  -- a handle asks about what it collected
+  pub asked : (pid : ℕ) (status : StatusKind) → collect caller (negsuc 0) no_options rows ≡ collected.Got pid status → handled_by settings policies caller rows ≡ asks settings policies pid status after
+  asked pid status is = by_list (candidates caller (negsuc 0) rows) (reported caller (negsuc 0) no_options rows) refl is
+    where
+      by_list : (cs : List ProcData) (o : Option ProcData) → reported caller (negsuc 0) no_options rows ≡ o → answer cs o ≡ collected.Got pid status
+          → handles settings policies rows after o (answer cs o) ≡ asks settings policies pid status after
+      by_list [] o found e = absurd (true≢false (sym (ap is_got e)))
+      by_list (c ∷ cs) None found e = absurd (true≢false (sym (ap is_got e)))
+      by_list (c ∷ cs) (Some p) found e = asked_row p found ∙ ap (λ n. asks settings policies n (status_of p) after) (ap got_pid e) ∙ ap (λ x. asks settings policies pid x after) (ap got_status e)

@@ -1,0 +1,39 @@
+-- Rows that are found by their numbers.
+use Rattle.std.proofs.Common.{◌≡◌, ◌∙◌, ℕ, true, true≢false, List, [], ◌∷◌, inl, inr, nat_eq, sym, ap, refl, Option, Some, None, IsSome, is_some}
+use Rattle.std.specs.Prelude.{◌&&◌}
+use Rattle.std.specs.List.{list_any}
+use Rattle.std.proofs.lemmas.Bool.{cases_Bool}
+use Rattle.proc_table.specs.declared.ProcData.{ProcData}
+use Rattle.proc_table.specs.Processes.{process_of, is_live}
+use Rattle.proc_table.specs.Rows.{Rows}
+use Rattle.proc_table.specs.Kept.{IsRow, Rise}
+use Rattle.proc_table.proofs.Rows.{row_found, process_of-pid}
+use Rattle.trace_stop.specs.Laws.{is_live_at}
+use Rattle.trace_stop.proofs.Passes.{passes}
+use Rattle.trace_stop.proofs.LeafLaw.{any_by_number}
+
+-- a number of a row finds one
+pub row_there : (rows : Rows) (n : ℕ) → IsRow rows n → IsSome (process_of n rows.processes)
+row_there rows n is = ap is_some (row_found n rows.processes is).1
+
+-- and the row that is found has it
+pub own_row : (n : ℕ) (p : ProcData) (ps : List ProcData) → process_of n ps ≡ Some p → process_of p.pid ps ≡ Some p
+own_row n p ps at = ap (λ m. process_of m ps) (process_of-pid n p ps at) ∙ at
+
+-- a live process is found by its number
+pub live_row : (rows : Rows) (n : ℕ) → Rise rows.processes → is_live_at n rows ≡ true → (p : ProcData) × (process_of n rows.processes ≡ Some p) × (is_live p ≡ true)
+live_row rows n up is = by_row (process_of n rows.processes) refl (sym (any_by_number is_live n rows.processes up) ∙ is)
+  where
+    by_row : (o : Option ProcData) → process_of n rows.processes ≡ o → passes is_live o ≡ true → (p : ProcData) × (process_of n rows.processes ≡ Some p) × (is_live p ≡ true)
+    by_row None at live = absurd (true≢false (sym live))
+    by_row (Some p) at live = (p, at, live)
+
+pub live_found : (rows : Rows) (n : ℕ) (p : ProcData) → process_of n rows.processes ≡ Some p → is_live p ≡ true → is_live_at n rows ≡ true
+live_found rows n p at live = by_rows rows.processes at
+  where
+    by_rows : (ps : List ProcData) → process_of n ps ≡ Some p → list_any (λ r. nat_eq r.pid n && is_live r) ps ≡ true
+    by_rows [] found = absurd (cc)
+    by_rows (q ∷ ps) found = elim (cases_Bool (nat_eq q.pid n)) [
+      | inl e ↦ let its : Some q ≡ Some p = rw e at found in let same : q ≡ p = cc in let lives : is_live q ≡ true = rw same live in rw (e, lives) refl
+      | inr e ↦ rw e (by_rows ps (rw e at found))
+    ]

@@ -1,0 +1,43 @@
+use Rattle.std.proofs.Common.{◌≡◌, ap, ◌∙◌, refl}
+use Rattle.lwp_table.specs.declared.LwpData.{LwpData}
+use Rattle.proc_table.specs.Kept.{set_lwp}
+use Rattle.proc_table.proofs.LwpWalk.{walking-first, walking-next, walking-less, walking-after}
+use Rattle.trace_stop.specs.declared.edits.Edit.{Edit}
+use Rattle.trace_stop.specs.declared.edits.Edit.TheVariants.{Settle, Post, ClearStepping, Free}
+use Rattle.trace_stop.specs.Edits.{edited}
+use Rattle.trace_stop.proofs.edits.edit_lwps.Goals as goal
+
+keeps : (e : Edit) (l : LwpData) → (edited e l).tid ≡ l.tid
+keeps (Settle lost) l = refl
+keeps (Post s to lost) l = refl
+keeps ClearStepping l = refl
+keeps (Free lost unwanted) l = refl
+
+owns : (e : Edit) (l : LwpData) → (edited e l).pid ≡ l.pid
+owns (Settle lost) l = refl
+owns (Post s to lost) l = refl
+owns ClearStepping l = refl
+owns (Free lost unwanted) l = refl
+
+pub loop-at-init : goal.loop-at-init
+loop-at-init c =
+    let e = c.args.edit.now in
+    walking-first c.args.pid (edited e) (keeps e) c.args.tables.now.rows _ c.first_lwp-at.ensures.kept c.first_lwp-at.ensures.row
+
+pub next_lwp-at-requires : goal.next_lwp-at-requires
+next_lwp-at-requires c =
+    let e = c.args.edit.now in
+    walking-after c.args.pid (edited e) (keeps e) (owns e) c.args.tables.now.rows _ c.in-Some.l c.loop-at.tables.rows c.set_lwp.new.self.rows c.loop-at.invariant c.in-Some.is
+    (c.set_lwp.ensures.rows ∙ ap (λ x. set_lwp x c.loop-at.tables.rows) c.of.ensures)
+
+pub loop-at-smaller : goal.loop-at-smaller
+loop-at-smaller c =
+    let e = c.args.edit.now in
+    walking-less c.args.pid (edited e) (keeps e) c.args.tables.now.rows c.loop-at.at c.in-Some.l c.loop-at.tables.rows c.set_lwp.new.self.rows _ c.loop-at.invariant c.in-Some.is
+    (c.set_lwp.ensures.rows ∙ ap (λ x. set_lwp x c.loop-at.tables.rows) c.of.ensures) c.next_lwp-at.ensures.row
+
+pub loop-at-preserved : goal.loop-at-preserved
+loop-at-preserved c =
+    let e = c.args.edit.now in
+    walking-next c.args.pid (edited e) (keeps e) c.args.tables.now.rows _ c.in-Some.l c.loop-at.tables.rows c.set_lwp.new.self.rows _ c.loop-at.invariant c.in-Some.is
+    (c.set_lwp.ensures.rows ∙ ap (λ x. set_lwp x c.loop-at.tables.rows) c.of.ensures) c.next_lwp-at.ensures.kept c.next_lwp-at.ensures.row

@@ -1,0 +1,29 @@
+use Rattle.std.proofs.Common.{◌≡◌, Some, None, sym, ◌∙◌, rules, subst, [], ◌∷◌}
+use Rattle.proc_table.specs.Processes.{process_of}
+use Rattle.proc_table.proofs.Rows.{process_of-pid, found_row}
+use Rattle.trace_stop.specs.Facts.{IsSound}
+use Rattle.trace_stop.specs.Post.{notified}
+use Rattle.trace_stop.proofs.Found.{own_row}
+use Rattle.trace_stop.proofs.Told.{notified-one, notified-absent}
+use Rattle.trace_stop.proofs.Stopping.{notified_sound}
+use Rattle.trace_stop.proofs.signaling.notify.Goals as goal
+
+pub put-requires : goal.put-requires
+put-requires c =
+    let ps = c.args.tables.now.rows.processes in
+    let p = c.in-Some.p in
+    let at : process_of c.args.number ps ≡ Some p = sym c.numbered.ensures.row ∙ c.in-Some.is in
+    record { there = found_row p.pid p ps (own_row c.args.number p ps at) }
+
+pub returns-in-Some : goal.returns-in-Some
+returns-in-Some c =
+    let rows = c.args.tables.now.rows in
+    let at : process_of c.args.number rows.processes ≡ Some c.in-Some.p = sym c.numbered.ensures.row ∙ c.in-Some.is in
+    let its = process_of-pid c.args.number c.in-Some.p rows.processes at in
+    let done : c.put.new.tables.rows ≡ notified (c.args.number ∷ []) rows = c.put.ensures.rows ∙ (rw (its, c.chld.ensures) (sym (notified-one c.args.number rows))) in
+    record { rows = done; sound = λ s tell. subst IsSound (sym done) (notified_sound rows (c.args.number ∷ []) s (tell, tt)) }
+
+pub returns-in_default-clause-rows : goal.returns-in_default-clause-rows
+returns-in_default-clause-rows c =
+    let none : c.numbered.result ≡ None = search rules in
+    sym (notified-absent c.args.number c.args.tables.now.rows (sym c.numbered.ensures.row ∙ none))

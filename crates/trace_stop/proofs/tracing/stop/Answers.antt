@@ -1,0 +1,67 @@
+use Rattle.std.proofs.Common.{◌≡◌, Some, None, [], ◌∷◌, sym, ap, ◌∙◌, refl, rules, subst}
+use Rattle.lwp_table.specs.Lwps.{lwp_of}
+use Rattle.proc_table.specs.Processes.{process_of}
+use Rattle.proc_table.specs.Kept.{set_process, set_lwp}
+use Rattle.proc_table.proofs.Rows.{lwp_of-tid}
+use Rattle.proc_table.proofs.Stays.{process_there, named-same, lwp_there}
+use Rattle.trace_stop.specs.Post.{notified}
+use Rattle.trace_stop.specs.Facts.{IsSound}
+use Rattle.trace_stop.specs.Stop.{tracers, stop}
+use Rattle.trace_stop.proofs.Found.{row_there, own_row}
+use Rattle.trace_stop.proofs.Told.{notified-none}
+use Rattle.trace_stop.proofs.Shows.{stopped_by, showing, stop-at}
+use Rattle.trace_stop.proofs.Stops.{stopped_sound}
+use Rattle.trace_stop.proofs.tracing.stop.Goals as goal
+
+pub unwrap-p-requires : goal.unwrap-p-requires
+unwrap-p-requires c = rw c.process.ensures.row (row_there c.args.tables.now.rows c.args.pid c.requires.process)
+
+pub set_process-requires : goal.set_process-requires
+set_process-requires c =
+    let rows = c.args.tables.now.rows in
+    let p = c.unwrap-p.result in
+    let at : process_of c.args.pid rows.processes ≡ Some p = cc in
+    let own = own_row c.args.pid p rows.processes at in
+    let new = stopped_by c.args.tid c.args.shown.now p in
+    record { there = process_there rows p new own refl; named = named-same rows p new own c.process.ensures.kept refl refl }
+
+pub set_lwp-requires : goal.set_lwp-requires
+set_lwp-requires c =
+    let rows = c.args.tables.now.rows in
+    let l = c.unwrap-l.result in
+    let at : lwp_of c.args.tid rows.lwps ≡ Some l = cc in
+    rw c.set_process.ensures.rows (lwp_there rows l (showing c.args.shown.now l) (ap (λ n. lwp_of n rows.lwps) (lwp_of-tid c.args.tid l rows.lwps at) ∙ at) refl)
+
+pub returns-in-Some : goal.returns-in-Some
+returns-in-Some c =
+    let rows = c.args.tables.now.rows in
+    let pid = c.args.pid in
+    let tid = c.args.tid in
+    let shown = c.args.shown.now in
+    let p = c.unwrap-p.result in
+    let l = c.unwrap-l.result in
+    let at : process_of pid rows.processes ≡ Some p = cc in
+    let there : lwp_of tid rows.lwps ≡ Some l = cc in
+    let told : tracers p.tracer ≡ c.get.result ∷ [] = ap tracers c.in-Some.is ∙ ap (λ n. n ∷ []) (sym c.get.ensures.number) in
+    let set = c.set_lwp.ensures.rows ∙ ap (set_lwp (showing shown l)) c.set_process.ensures.rows in
+    let done : c.notify.new.tables.rows ≡ stop pid tid shown rows =
+    c.notify.ensures.rows ∙ (ap (notified (c.get.result ∷ [])) set
+    ∙ (ap (λ ts. notified ts (set_lwp (showing shown l) (set_process (stopped_by tid shown p) rows))) (sym told) ∙ sym (stop-at pid tid shown rows p l c.process.ensures.kept at there))) in
+    record { rows = done; sound = λ may. subst IsSound (sym done) (stopped_sound rows pid tid shown p l at there may) }
+
+pub returns-in_default : goal.returns-in_default
+returns-in_default c =
+    let rows = c.args.tables.now.rows in
+    let pid = c.args.pid in
+    let tid = c.args.tid in
+    let shown = c.args.shown.now in
+    let p = c.unwrap-p.result in
+    let l = c.unwrap-l.result in
+    let at : process_of pid rows.processes ≡ Some p = cc in
+    let there : lwp_of tid rows.lwps ≡ Some l = cc in
+    let none : p.tracer ≡ None = search rules in
+    let set = c.set_lwp.ensures.rows ∙ ap (set_lwp (showing shown l)) c.set_process.ensures.rows in
+    let made = set_lwp (showing shown l) (set_process (stopped_by tid shown p) rows) in
+    let done : c.set_lwp.new.self.rows ≡ stop pid tid shown rows =
+    set ∙ (sym (notified-none made) ∙ (ap (λ o. notified (tracers o) made) (sym none) ∙ sym (stop-at pid tid shown rows p l c.process.ensures.kept at there))) in
+    record { rows = done; sound = λ may. subst IsSound (sym done) (stopped_sound rows pid tid shown p l at there may) }

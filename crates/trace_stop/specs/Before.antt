@@ -1,0 +1,52 @@
+-- What rows must be before a change that makes them sound.
+use Rattle.std.specs.Prelude.{◌≡◌, ◌≢◌, ◌≤◌, ℕ, true, false, None, is_some}
+use Rattle.std.specs.List.{AllByRecursion}
+use Rattle.std.specs.Option.{IsSomeAnd}
+use Rattle.event_masks.specs.Exits.{shows}
+use Rattle.event_masks.specs.declared.TheConstants.StopFlags.{PL_FLAG_EXITED}
+use Rattle.lwp_table.specs.declared.LwpData.{LwpData}
+use Rattle.lwp_table.specs.Lwps.{lwp_of}
+use Rattle.proc_table.specs.declared.ProcData.{ProcData}
+use Rattle.proc_table.specs.Processes.{is_live, reporting}
+use Rattle.proc_table.specs.Rows.{Rows}
+use Rattle.proc_table.specs.Fresh.{lwp_count}
+use Rattle.trace_stop.specs.declared.Shown.{Shown}
+use Rattle.trace_stop.specs.Facts.{FitProcess, FitLwp, WithOwner, Stands}
+use Rattle.trace_stop.specs.Laws.{is_live_at}
+
+-- SIGCHLD may be posted to the process with the number: it is live, or the number is 1, which no row has
+abbrev pub MayTell : Rows → ℕ → Type 0
+MayTell rows n = n ≢ 1 → is_live_at n rows ≡ true
+
+-- fit, where the process pid is live and fit but for what is pending
+abbrev pub FitButPending : ℕ → ProcData → Type 0
+FitButPending pid p = (p.pid ≢ pid → FitProcess p) × (p.pid ≡ pid → FitProcess (record p { pending = 0 }) × (is_live p ≡ true))
+
+-- and so are its LWPs
+abbrev pub FitLwpButPending : ℕ → ProcData → LwpData → Type 0
+FitLwpButPending pid p l = (p.pid ≢ pid → FitLwp p l) × (p.pid ≡ pid → FitLwp p (record l { pending = 0 }))
+
+-- rows that are sound once the pending sets of a live process are settled
+pub record IsSoundButPending (pid : ℕ) (rows : Rows) : Type 0 where
+  pub stands : Stands rows
+  pub processes : AllByRecursion (FitButPending pid) rows.processes
+  pub lwps : AllByRecursion (WithOwner rows (FitLwpButPending pid)) rows.lwps
+
+-- a traced process that may stop. It may still be stopped by job control, as one that is being attached is
+pub record Ready (p : ProcData) : Type 0 where
+  pub live : is_live p ≡ true
+  pub traced : is_some p.tracer ≡ true
+  pub quiet : reporting p ≡ None
+  pub calm : p.continued ≡ false
+
+-- fit, where the process pid is ready to stop
+abbrev pub FitOrReady : ℕ → ProcData → Type 0
+FitOrReady pid p = (p.pid ≢ pid → FitProcess p) × (p.pid ≡ pid → Ready p)
+
+-- rows that are sound once the LWP tid stops the process pid. One that shows that it exits isn't the last LWP
+pub record MayStop (pid tid : ℕ) (shown : Shown) (rows : Rows) : Type 0 where
+  pub stands : Stands rows
+  pub processes : AllByRecursion (FitOrReady pid) rows.processes
+  pub lwps : AllByRecursion (WithOwner rows FitLwp) rows.lwps
+  pub own : IsSomeAnd (lwp_of tid rows.lwps) (λ l. l.pid ≡ pid)
+  pub exits : shows shown.flags PL_FLAG_EXITED ≡ true → 2 ≤ lwp_count pid rows

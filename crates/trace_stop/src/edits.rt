@@ -1,0 +1,83 @@
+//! Changes of all LWPs of one process.
+
+ghost use Rattle.std.specs.Prelude.{◌≡◌};
+ghost use Rattle.proc_table.specs.Edits.{map_lwps};
+ghost use Rattle.trace_stop.specs.Edits.{edited, signal_put};
+
+use lwp_table::{Due, LwpData};
+use pid_blocks::{Pid, Tid};
+use proc_table::Tables;
+use signals::{SigSet, Signal};
+
+/// A set of pending signals when a signal is posted, to this set where `here`, or to another one of
+/// its process.
+pub fn put_signal(pending: SigSet, signal: Signal, here: bool) -> SigSet
+    ensures { result ≡ signal_put signal here pending }
+{
+    let left = pending.difference(SigSet::opposed(signal));
+    if here { left.with(signal) } else { left }
+}
+
+/// A change of an LWP.
+#[derive(Clone, Copy, Debug, PartialEq, Eq, Drop)]
+pub enum Edit {
+    /// The set leaves its pending set.
+    Settle(SigSet),
+    /// A signal is posted to the LWP `to`, or to its process; the set `lost` then leaves its
+    /// pending set.
+    Post {
+        signal: Signal,
+        to: Option<Tid>,
+        lost: SigSet,
+    },
+    /// It steps no more.
+    ClearStepping,
+    /// It isn't traced any more; both sets leave its pending set.
+    Free {
+        lost: SigSet,
+        unwanted: SigSet,
+    },
+}
+
+impl Edit {
+    /// The LWP after the change.
+    fn of(&self, l: &LwpData) -> LwpData
+        ensures { result ≡ edited self.now l.now }
+    {
+        match *self {
+            Edit::Settle(lost) => LwpData {
+                pending: l.pending.difference(lost),
+                ..*l
+            },
+            Edit::Post { signal, to, lost } => {
+                let here = to == Some(l.tid);
+                LwpData {
+                    pending: put_signal(l.pending, signal, here).difference(lost),
+                    ..*l
+                }
+            }
+            Edit::ClearStepping => LwpData {
+                stepping: false,
+                ..*l
+            },
+            Edit::Free { lost, unwanted } => LwpData {
+                stepping: false,
+                suspended: false,
+                due: Due::Nothing,
+                pending: l.pending.difference(lost).difference(unwanted),
+                ..*l
+            },
+        }
+    }
+}
+
+/// Changes each LWP of a process.
+pub fn edit_lwps(tables: &mut Tables, pid: Pid, edit: &Edit)
+    ensures { tables.new.rows ≡ map_lwps pid (edited edit.now) tables.old.rows }
+{
+    let mut at = tables.first_lwp(pid);
+    while let Some(l) = at {
+        tables.set_lwp(edit.of(&l));
+        at = tables.next_lwp(pid, l.tid);
+    }
+}

@@ -1,0 +1,163 @@
+//! Signals posted to live processes and their LWPs, as kill(2) and thr_kill(2) post them.
+
+ghost use Rattle.std.specs.Prelude.{◌≡◌, ◌∷◌, [], None, Some, true};
+ghost use Rattle.proc_table.specs.Processes.{process_of};
+ghost use Rattle.proc_table.specs.Rows.{change, is_numbered};
+ghost use Rattle.proc_table.specs.Kept.{IsRow};
+ghost use Rattle.trace_stop.specs.declared.edits.Edit.TheVariants as edit;
+ghost use Rattle.trace_stop.specs.Facts.{IsSound};
+ghost use Rattle.trace_stop.specs.Laws.{is_live_at};
+ghost use Rattle.trace_stop.specs.Before.{IsSoundButPending, MayTell};
+ghost use Rattle.trace_stop.specs.Post.{unwanted, continues, settle, posted_process, posted_lwp, notified, told, posted};
+ghost use Rattle.trace_stop.specs.Stop.{tracers, post};
+
+use crate::Settings;
+use crate::edits::{Edit, edit_lwps, put_signal};
+use crate::ends::end;
+use pid_blocks::{Pid, Tid};
+use proc_table::{ProcData, State, Tables};
+use signals::{SigSet, Signal};
+
+/// The signals that leave an untraced process's pending sets by themselves.
+pub fn unwanted(p: &ProcData) -> SigSet
+    ensures { result ≡ unwanted p.now }
+{
+    if p.tracer.is_some() {
+        SigSet::empty()
+    } else {
+        p.dispositions.nothing()
+    }
+}
+
+/// Takes the signals whose action is nothing out of an untraced process's pending sets.
+pub fn settle(tables: &mut Tables, pid: Pid)
+    requires there { IsRow tables.old.rows pid }
+    ensures rows { tables.new.rows ≡ settle pid tables.old.rows }
+    ensures sound { IsSoundButPending pid tables.old.rows → IsSound tables.new.rows }
+{
+    let p = tables.process(pid).unwrap();
+    let lost = unwanted(&p);
+    tables.set_process(ProcData {
+        pending: p.pending.difference(lost),
+        ..p
+    });
+    edit_lwps(tables, pid, &Edit::Settle(lost));
+}
+
+/// Whether the signal continues the process, which is stopped by job control.
+fn continues(signal: Signal, p: &ProcData) -> bool
+    ensures { result ≡ continues signal p.now }
+{
+    signal == Signal::cont() && matches!(p.state, State::Job { .. })
+}
+
+/// A process when the signal is posted to it, or to an LWP of it.
+fn posted_process(p: &ProcData, signal: Signal, to: &Option<Tid>) -> ProcData
+    ensures { result ≡ posted_process signal to.now p.now }
+{
+    let pending = put_signal(p.pending, signal, to.is_none()).difference(unwanted(p));
+    if continues(signal, p) {
+        ProcData {
+            state: State::Run,
+            continued: true,
+            pending,
+            ..*p
+        }
+    } else {
+        ProcData { pending, ..*p }
+    }
+}
+
+/// What becomes of the LWPs of the process then.
+fn posted_lwps(p: &ProcData, signal: Signal, to: &Option<Tid>) -> Edit
+    ensures { result ≡ edit.Post signal to.now (unwanted p.now) }
+{
+    Edit::Post {
+        signal,
+        to: *to,
+        lost: unwanted(p),
+    }
+}
+
+/// The parent of a process that the signal continues.
+fn parent_to_tell(p: &ProcData, signal: Signal) -> Option<u32>
+    ensures { tracers result ≡ told signal (Some p.now) }
+{
+    if continues(signal, p) {
+        Some(p.parent)
+    } else {
+        None
+    }
+}
+
+/// Puts a signal into the pending set of a process or of an LWP of it. SIGCONT continues a process
+/// that is stopped by job control, and the answer is then its parent, which is to be told.
+fn put(tables: &mut Tables, pid: Pid, signal: Signal, to: &Option<Tid>) -> Option<u32>
+    requires there { IsRow tables.old.rows pid }
+    ensures rows { tables.new.rows ≡ change (is_numbered pid) (posted_process signal to.now) (posted_lwp signal to.now) tables.old.rows }
+    ensures told { tracers result ≡ told signal (process_of pid tables.old.rows.processes) }
+{
+    let p = tables.process(pid).unwrap();
+    let parent = parent_to_tell(&p, signal);
+    let edit = posted_lwps(&p, signal, to);
+    tables.set_process(ProcData {
+        pid,
+        ..posted_process(&p, signal, to)
+    });
+    edit_lwps(tables, pid, &edit);
+    parent
+}
+
+/// Posts SIGCHLD to the process with this number, if there is one.
+pub fn notify(tables: &mut Tables, number: u32)
+    ensures rows { tables.new.rows ≡ notified (number ∷ []) tables.old.rows }
+    ensures sound { IsSound tables.old.rows → MayTell tables.old.rows number → IsSound tables.new.rows }
+{
+    if let Some(p) = tables.numbered(number) {
+        let _ = put(tables, p.pid, Signal::chld(), &None);
+    }
+}
+
+/// Posts a signal other than SIGKILL to a process, or to an LWP of it.
+fn post_other(tables: &mut Tables, pid: Pid, signal: Signal, to: &Option<Tid>)
+    requires { IsRow tables.old.rows pid }
+    ensures { tables.new.rows ≡ posted signal to.now pid tables.old.rows }
+{
+    if let Some(parent) = put(tables, pid, signal, to) {
+        notify(tables, parent);
+    }
+}
+
+/// Posts a signal to a live process, or to an LWP of it; SIGKILL ends the process.
+fn post_to(tables: &mut Tables, settings: Settings, pid: Pid, signal: Signal, to: &Option<Tid>)
+    requires sound { IsSound tables.old.rows }
+    requires live { is_live_at pid tables.old.rows ≡ true }
+    ensures rows { tables.new.rows ≡ post settings signal to.now pid tables.old.rows }
+    ensures sound { IsSound tables.new.rows }
+{
+    if signal == Signal::kill() {
+        end(tables, settings, pid, signal.number());
+    } else {
+        post_other(tables, pid, signal, to);
+    }
+}
+
+/// Posts a signal to a live process; SIGKILL ends it. Takes no memory.
+pub fn post(tables: &mut Tables, settings: Settings, pid: Pid, signal: Signal)
+    requires sound { IsSound tables.old.rows }
+    requires live { is_live_at pid tables.old.rows ≡ true }
+    ensures rows { tables.new.rows ≡ post settings signal None pid tables.old.rows }
+    ensures sound { IsSound tables.new.rows }
+{
+    post_to(tables, settings, pid, signal, &None);
+}
+
+/// Posts a signal to an LWP of a live process; SIGKILL ends the process. Takes no memory.
+pub fn post_lwp(tables: &mut Tables, settings: Settings, pid: Pid, tid: Tid, signal: Signal)
+    requires sound { IsSound tables.old.rows }
+    requires live { is_live_at pid tables.old.rows ≡ true }
+    ensures rows { tables.new.rows ≡ post settings signal (Some tid) pid tables.old.rows }
+    ensures sound { IsSound tables.new.rows }
+{
+    post_to(tables, settings, pid, signal, &Some(tid));
+}

@@ -1,0 +1,182 @@
+//! Trace stops, and what resumes a process.
+
+ghost use Rattle.std.specs.Prelude.{◌≡◌, IfSome, IsSome, true};
+ghost use Rattle.std.specs.Option.{IsSomeAnd};
+ghost use Rattle.lwp_table.specs.Lwps.{lwp_of};
+ghost use Rattle.proc_table.specs.Processes.{process_of, reporting};
+ghost use Rattle.proc_table.specs.Rows.{is_numbered};
+ghost use Rattle.proc_table.specs.Kept.{IsRow};
+ghost use Rattle.trace_stop.specs.Before.{MayStop};
+ghost use Rattle.trace_stop.specs.Edits.{steps_cleared};
+ghost use Rattle.trace_stop.specs.Facts.{IsSound, Stands};
+ghost use Rattle.trace_stop.specs.Free.{resumed, detached};
+ghost use Rattle.trace_stop.specs.Laws.{is_live_at};
+ghost use Rattle.trace_stop.specs.Reports.{IsStopped, reporter, report_dropped, unreported};
+ghost use Rattle.trace_stop.specs.Stop.{stop, ends_process, resume, detach};
+
+use crate::edits::{Edit, edit_lwps};
+use crate::ends::end;
+use crate::signaling::notify;
+use crate::{Settings, Shown};
+use event_masks::{EventMask, StopFlags};
+use lwp_table::LwpData;
+use pid_blocks::{Pid, Tid};
+use proc_table::{ProcData, State, Tables};
+use signals::{Pass, SigSet};
+
+/// The LWP that stopped a process for its tracer.
+fn reporting(p: &ProcData) -> Option<Tid>
+    ensures { result ≡ reporting p.now }
+{
+    match p.state {
+        State::Trace { tid, .. } => Some(tid),
+        _ => None,
+    }
+}
+
+/// An LWP that reports nothing.
+fn unreported(l: &LwpData) -> LwpData
+    ensures { result ≡ unreported l.now }
+{
+    LwpData {
+        flags: StopFlags::none(),
+        child: 0,
+        code: 0,
+        ..*l
+    }
+}
+
+/// Drops what an LWP has reported, and the LWP where it has exited.
+fn drop_report(tables: &mut Tables, tid: Tid)
+    requires { IsSome (lwp_of tid tables.old.rows.lwps) }
+    ensures { tables.new.rows ≡ report_dropped (lwp_of tid tables.old.rows.lwps) tables.old.rows }
+{
+    let l = tables.lwp(tid).unwrap();
+    if l.flags.shows(StopFlags::PL_FLAG_EXITED) {
+        tables.remove_lwp(tid);
+    } else {
+        tables.set_lwp(unreported(&l));
+    }
+}
+
+/// Drops what a process's reporting LWP has reported, if one does.
+fn drop_stop(tables: &mut Tables, reporting: &Option<Tid>)
+    requires { IfSome reporting.now (λ tid. IsSome (lwp_of tid tables.old.rows.lwps)) }
+    ensures { tables.new.rows ≡ report_dropped (reporter reporting.now tables.old.rows.lwps) tables.old.rows }
+{
+    if let Some(tid) = reporting {
+        drop_report(tables, *tid);
+    }
+}
+
+/// A live process isn't traced any more; the signals of the set `lost` leave its pending sets.
+pub fn free(tables: &mut Tables, pid: Pid, lost: SigSet)
+    requires sound { IsSound tables.old.rows }
+    requires live { is_live_at pid tables.old.rows ≡ true }
+    ensures rows { tables.new.rows ≡ detached (is_numbered pid) (λ p. lost) tables.old.rows }
+    ensures sound { IsSound tables.new.rows }
+{
+    let p = tables.process(pid).unwrap();
+    let unwanted = p.dispositions.nothing();
+    tables.set_process(ProcData {
+        state: State::Run,
+        tracer: None,
+        mask: EventMask(0),
+        pending: p.pending.difference(lost).difference(unwanted),
+        ..p
+    });
+    drop_stop(tables, &reporting(&p));
+    edit_lwps(tables, pid, &Edit::Free { lost, unwanted });
+}
+
+/// A process runs on from a trace stop.
+fn run_on(tables: &mut Tables, pid: Pid)
+    requires stands { Stands tables.old.rows }
+    requires there { IsRow tables.old.rows pid }
+    ensures { tables.new.rows ≡ resumed pid tables.old.rows }
+{
+    let p = tables.process(pid).unwrap();
+    tables.set_process(ProcData {
+        state: State::Run,
+        ..p
+    });
+    drop_stop(tables, &reporting(&p));
+}
+
+/// Whether a process ends when it is resumed with the signal.
+fn ends(tables: &Tables, pid: Pid, pass: Pass) -> bool
+    requires { IsRow tables.now.rows pid }
+    ensures { result ≡ ends_process pass (process_of pid tables.now.rows.processes) }
+{
+    let p = tables.process(pid).unwrap();
+    match pass.signal() {
+        Some(signal) => p.dispositions.ends(signal),
+        None => false,
+    }
+}
+
+/// Resumes a process from a trace stop with a signal, or with none; the signal may end it. Takes no
+/// memory.
+pub fn resume(tables: &mut Tables, settings: Settings, pid: Pid, pass: Pass)
+    requires sound { IsSound tables.old.rows }
+    requires stopped { IsStopped pid tables.old.rows }
+    ensures rows { tables.new.rows ≡ resume settings pid pass tables.old.rows }
+    ensures sound { IsSound tables.new.rows }
+{
+    let ends = ends(tables, pid, pass);
+    run_on(tables, pid);
+    if ends {
+        end(tables, settings, pid, pass.number());
+    }
+}
+
+/// Detaches a process from its tracer, with a signal or with none; the signal may end it. Takes no
+/// memory.
+pub fn detach(tables: &mut Tables, settings: Settings, pid: Pid, pass: Pass)
+    requires sound { IsSound tables.old.rows }
+    requires stopped { IsStopped pid tables.old.rows }
+    ensures rows { tables.new.rows ≡ detach settings pid pass tables.old.rows }
+    ensures sound { IsSound tables.new.rows }
+{
+    if ends(tables, pid, pass) {
+        run_on(tables, pid);
+        end(tables, settings, pid, pass.number());
+    } else {
+        free(tables, pid, SigSet::empty());
+    }
+}
+
+/// A trace stop of a process by an LWP of it, of which its tracer is told.
+pub fn stop(tables: &mut Tables, pid: Pid, tid: Tid, shown: &Shown)
+    requires process { IsRow tables.old.rows pid }
+    requires lwp { IsSomeAnd (lwp_of tid tables.old.rows.lwps) (λ l. l.pid ≡ pid) }
+    ensures rows { tables.new.rows ≡ stop pid tid shown.now tables.old.rows }
+    ensures sound { MayStop pid tid shown.now tables.old.rows → IsSound tables.new.rows }
+{
+    let p = tables.process(pid).unwrap();
+    let l = tables.lwp(tid).unwrap();
+    tables.set_process(ProcData {
+        state: State::Trace {
+            tid,
+            sig: shown.sig,
+            seen: false,
+        },
+        ..p
+    });
+    tables.set_lwp(LwpData {
+        flags: shown.flags,
+        child: shown.child,
+        code: shown.code,
+        ..l
+    });
+    if let Some(tracer) = p.tracer {
+        notify(tables, tracer.get());
+    }
+}
+
+/// No LWP of the process steps any more.
+pub fn clear_stepping(tables: &mut Tables, pid: Pid)
+    ensures rows { tables.new.rows ≡ steps_cleared pid tables.old.rows }
+{
+    edit_lwps(tables, pid, &Edit::ClearStepping);
+}

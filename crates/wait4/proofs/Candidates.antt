@@ -1,0 +1,91 @@
+-- The child that is reported, and whether there is a child, by the lists of tracees and of children, and by number.
+use Rattle.std.proofs.Common.{◌≡◌, ℕ, ℤ, pos, negsuc, List, [], ◌∷◌, find, Bool, true, false, ◌==◌, ◌&&◌, ◌||◌, ltb, Some, is_some, refl, sym, ap, ◌∙◌, arith, inl, inr, nat_eq}
+use Rattle.std.specs.List.{AllByRecursion, list_any}
+use Rattle.std.proofs.Math.Path.{fun_ext}
+use Rattle.std.proofs.lemmas.Bool.{cases_Bool}
+use Rattle.std.proofs.lemmas.Bool.Decides.{nat_tests}
+use Rattle.proc_table.specs.declared.ProcData.{ProcData}
+use Rattle.proc_table.specs.Keep.{keep}
+use Rattle.proc_table.specs.Processes.{process_of, traces}
+use Rattle.proc_table.specs.Rows.{Rows}
+use Rattle.proc_table.specs.Kept.{Rise, AtHome}
+use Rattle.proc_table.proofs.Seen.{any-found}
+use Rattle.trace_stop.proofs.Every.{All-filter, find_some}
+use Rattle.wait4.specs.declared.Options.{Options}
+use Rattle.wait4.specs.declared.collecting.Kin.TheVariants.{Tracer, Parent}
+use Rattle.wait4.specs.Collect.{is_child, fits, names_as, reportable, lesser, candidates, reported}
+use Rattle.wait4.proofs.Search.{find-filter, find-lesser, only_numbered}
+
+same_find : (s t : ProcData → Bool) → ((p : ProcData) → s p ≡ t p) → (ps : List ProcData) → find s ps ≡ find t ps
+same_find s t h ps = ap (λ f. find f ps) (fun_ext h)
+
+module _ (caller : ℕ) (options : Options) (rows : Rows) (up : Rise rows.processes) where
+  -- for any child
+  pub reported-any : (k : ℕ) → reported caller (negsuc k) options rows
+      ≡ lesser (find (λ p. names_as Tracer caller p && reportable options caller p) rows.processes) (find (λ p. names_as Parent caller p && reportable options caller p) rows.processes)
+  reported-any k =
+      find-filter (λ p. is_child caller p && fits (negsuc k) p) (reportable options caller) rows.processes
+      ∙ same_find _ (λ p. (names_as Tracer caller p && reportable options caller p) || (names_as Parent caller p && reportable options caller p)) (λ p. either (traces caller p) (p.parent == caller) (reportable options caller p)) rows.processes
+      ∙ find-lesser (λ p. names_as Tracer caller p && reportable options caller p) (λ p. names_as Parent caller p && reportable options caller p) rows.processes up
+    where
+      either : (a b c : Bool) → (((a || b) && true) && c) ≡ ((a && c) || (b && c))
+      either true true true = refl
+      either true true false = refl
+      either true false true = refl
+      either true false false = refl
+      either false true true = refl
+      either false true false = refl
+      either false false c = refl
+
+  -- for the one with a number
+  pub reported-numbered : (n : ℕ) → reported caller (pos n) options rows ≡ keep (λ p. is_child caller p && reportable options caller p) (process_of n rows.processes)
+  reported-numbered n =
+      find-filter (λ p. is_child caller p && fits (pos n) p) (reportable options caller) rows.processes
+      ∙ same_find _ (λ p. nat_eq p.pid n && (is_child caller p && reportable options caller p)) (λ p. moved (is_child caller p) (nat_eq p.pid n) (reportable options caller p)) rows.processes
+      ∙ only_numbered (λ p. is_child caller p && reportable options caller p) n rows.processes up
+    where
+      moved : (a b c : Bool) → ((a && b) && c) ≡ (b && (a && c))
+      moved true true c = refl
+      moved true false c = refl
+      moved false true c = refl
+      moved false false c = refl
+
+-- whether it is a child
+module _ (caller : ℕ) (rows : Rows) (up : Rise rows.processes) where
+  pub child-numbered : (n : ℕ) → list_any (λ p. is_child caller p && fits (pos n) p) rows.processes ≡ is_some (keep (is_child caller) (process_of n rows.processes))
+  child-numbered n =
+      ap (λ f. list_any f rows.processes) (fun_ext (λ (p : ProcData). turned (is_child caller p) (nat_eq p.pid n)))
+      ∙ any-found (λ (p : ProcData). p.pid) (λ p. nat_eq p.pid n && is_child caller p) rows.processes
+      ∙ ap is_some (only_numbered (is_child caller) n rows.processes up)
+    where
+      turned : (a b : Bool) → (a && b) ≡ (b && a)
+      turned true true = refl
+      turned true false = refl
+      turned false true = refl
+      turned false false = refl
+
+pub or_first : (a b c : Bool) → a ≡ c → (a || b) ≡ (c || b)
+or_first a b c is = ap (λ d. d || b) is
+
+-- whether any is a child
+pub child-any : (caller k : ℕ) (ps : List ProcData) → AllByRecursion AtHome ps
+    → list_any (λ p. is_child caller p && fits (negsuc k) p) ps ≡ (is_some (find (λ p. ltb 0 p.pid && names_as Tracer caller p) ps) || is_some (find (λ p. ltb 0 p.pid && names_as Parent caller p) ps))
+child-any caller k [] homes = refl
+child-any caller k (p ∷ ps) homes =
+    let low = homes.0.block.0 in
+    let some : ltb 0 p.pid ≡ true = grind (arith, nat_tests, low) in
+    elim (cases_Bool (traces caller p)) [
+      | inl e ↦ rw (some, e) refl
+      | inr e ↦ elim (cases_Bool (p.parent == caller)) [
+        | inl f ↦ rw (some, e, f) (sym (or_true _))
+        | inr f ↦ rw (some, e, f) (child-any caller k ps homes.1)
+      ]
+    ]
+  where
+    or_true : (b : Bool) → (b || true) ≡ true
+    or_true true = refl
+    or_true false = refl
+
+-- what holds of every process holds of the one that is reported
+pub reported-has : (P : ProcData → Type 0) (caller : ℕ) (which : ℤ) (options : Options) (rows : Rows) (p : ProcData) → AllByRecursion P rows.processes → reported caller which options rows ≡ Some p → P p
+reported-has P caller which options rows p all is = (find_some (reportable options caller) P (candidates caller which rows) (All-filter (λ q. is_child caller q && fits which q) P rows.processes all) p is).0

@@ -1,0 +1,83 @@
+-- The rows after one process is collected, as an edit of its row.
+use Rattle.std.proofs.Common.{◌≡◌, ℕ, List, [], ◌∷◌, filter, filter_map, map, Bool, true, false, cond, ◌==◌, ◌&&◌, not, Option, Some, None, refl, ap, ◌∙◌, nat_eq, inl, inr, if◌then◌else◌}
+use Rattle.std.specs.List.{AllByRecursion}
+use Rattle.lwp_table.specs.declared.LwpData.{LwpData}
+use Rattle.proc_table.specs.declared.ProcData.{ProcData}
+use Rattle.proc_table.specs.Processes.{is_live, process_of}
+use Rattle.proc_table.specs.Rows.{Rows, owner, by_owner, each}
+use Rattle.proc_table.specs.Kept.{Rise, put_process, set_process, drop_process}
+use Rattle.proc_table.proofs.Finds.{equal_or_not}
+use Rattle.trace_stop.specs.Post.{notified}
+use Rattle.trace_stop.proofs.Changes.{edit_none}
+use Rattle.trace_stop.proofs.Stopping.{the_row}
+use Rattle.trace_stop.proofs.Told.{notified-none}
+use Rattle.wait4.specs.Collect.{stays, collected, collect_one}
+
+-- an edit of the row with one number
+module _ (f : ProcData → Option ProcData) (n : ℕ) (p : ProcData) where
+  abbrev pub edit_at : ProcData → Option ProcData
+  edit_at q = cond (nat_eq q.pid n) (f q) (Some q)
+
+  pub edit-put : (new : ProcData) → new.pid ≡ n → f p ≡ Some new → (qs : List ProcData) → AllByRecursion (λ q. q.pid ≡ n → q ≡ p) qs → filter_map edit_at qs ≡ map (put_process new) qs
+  edit-put new its to [] all = refl
+  edit-put new its to (q ∷ qs) all = elim (equal_or_not q.pid n) [
+    | inl h ↦
+        let made : f q ≡ Some new = ap f (all.0 h.1) ∙ to in
+        let here : nat_eq q.pid new.pid ≡ true = rw its h.0 in
+        rw (h.0, here, made) (ap (λ xs. new ∷ xs) (edit-put new its to qs all.1))
+    | inr h ↦ let other : nat_eq q.pid new.pid ≡ false = rw its h.0 in rw (h.0, other) (ap (λ xs. q ∷ xs) (edit-put new its to qs all.1))
+  ]
+
+  pub edit-drop : f p ≡ None → (qs : List ProcData) → AllByRecursion (λ q. q.pid ≡ n → q ≡ p) qs → filter_map edit_at qs ≡ filter (λ q. not (q.pid == n)) qs
+  edit-drop to [] all = refl
+  edit-drop to (q ∷ qs) all = elim (equal_or_not q.pid n) [
+    | inl h ↦ let gone : f q ≡ None = ap f (all.0 h.1) ∙ to in rw (h.0, gone) (edit-drop to qs all.1)
+    | inr h ↦ rw h.0 (ap (λ xs. q ∷ xs) (edit-drop to qs all.1))
+  ]
+
+-- an edit of processes alone leaves the LWPs
+pub lwps_left : (rows : Rows) → filter_map (λ l. by_owner (λ q k. Some k) l (owner rows l)) rows.lwps ≡ rows.lwps
+lwps_left rows = edit_none (λ l. by_owner (λ q k. Some k) l (owner rows l)) (λ l. by_row l (owner rows l)) rows.lwps
+  where
+    by_row : (l : LwpData) (o : Option ProcData) → by_owner (λ q k. Some k) l o ≡ Some l
+    by_row l None = refl
+    by_row l (Some q) = refl
+
+module _ (caller : ℕ) (p : ProcData) (rows : Rows) (up : Rise rows.processes) (at : process_of p.pid rows.processes ≡ Some p) where
+  only : AllByRecursion (λ q. q.pid ≡ p.pid → q ≡ p) rows.processes
+  only = the_row p.pid rows.processes p up at
+
+  abbrev made : Rows
+  made = each (λ q. if q.pid == p.pid then collected caller q else Some q) (λ q l. Some l) rows
+
+  put : (new : ProcData) → new.pid ≡ p.pid → collected caller p ≡ Some new → made ≡ set_process new rows
+  put new its to =
+      ap (λ ls. record rows { processes = filter_map (edit_at (collected caller) p.pid p) rows.processes; lwps = ls }) (lwps_left rows)
+      ∙ ap (λ ps. record rows { processes = ps }) (edit-put (collected caller) p.pid p new its to rows.processes only)
+
+  -- nobody is told of a stop, or of a process that goes on
+  pub collected-seen : (new : ProcData) → new.pid ≡ p.pid → collected caller p ≡ Some new → is_live p ≡ true → collect_one caller p rows ≡ set_process new rows
+  collected-seen new its to live =
+      ap (λ (b : Bool). notified (if not b && stays caller p then p.parent ∷ [] else []) made) live
+      ∙ notified-none made
+      ∙ put new its to
+
+  -- the parent is told of a zombie that stays
+  pub collected-passed : (new : ProcData) → new.pid ≡ p.pid → collected caller p ≡ Some new → is_live p ≡ false → stays caller p ≡ true → collect_one caller p rows ≡ notified (p.parent ∷ []) (set_process new rows)
+  collected-passed new its to ended stay =
+      ap (λ (b : Bool). notified (if not b && stays caller p then p.parent ∷ [] else []) made) ended
+      ∙ ap (λ (b : Bool). notified (if b then p.parent ∷ [] else []) made) stay
+      ∙ ap (notified (p.parent ∷ [])) (put new its to)
+
+  -- and nobody of one that is gone
+  pub collected-gone : collected caller p ≡ None → stays caller p ≡ false → collect_one caller p rows ≡ drop_process p.pid rows
+  collected-gone to leaves =
+      ap (λ (b : Bool). notified (if not (is_live p) && b then p.parent ∷ [] else []) made) leaves
+      ∙ ap (λ (b : Bool). notified (if b then p.parent ∷ [] else []) made) (and_false (not (is_live p)))
+      ∙ notified-none made
+      ∙ ap (λ ls. record rows { processes = filter_map (edit_at (collected caller) p.pid p) rows.processes; lwps = ls }) (lwps_left rows)
+      ∙ ap (λ ps. record rows { processes = ps }) (edit-drop (collected caller) p.pid p to rows.processes only)
+    where
+      and_false : (b : Bool) → (b && false) ≡ false
+      and_false true = refl
+      and_false false = refl

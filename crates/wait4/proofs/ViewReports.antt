@@ -1,0 +1,100 @@
+-- What is collected, among one user's rows.
+use Rattle.std.proofs.Common.{◌≡◌, ◌≢◌, ℕ, ℤ, [], ◌∷◌, find, Bool, true, false, ◌==◌, ◌&&◌, ◌||◌, not, if◌then◌else◌, Option, Some, None, IfSome, refl, sym, ap, ◌∙◌, eqb, true≢false, eqb-true, subst, eq-eqb, inl}
+use Rattle.pid_blocks.specs.Users.{IsUser}
+use Rattle.pid_blocks.specs.Blocks.{pid_owner, tid_owner}
+use Rattle.proc_table.specs.declared.ProcData.{ProcData}
+use Rattle.proc_table.specs.declared.State.{State}
+use Rattle.proc_table.specs.declared.State.TheVariants.{Run, Trace, Job, Zombie}
+use Rattle.proc_table.specs.Processes.{is_live, is_this, traces, is_zombie_state, named_by}
+use Rattle.proc_table.specs.Rows.{Rows}
+use Rattle.wait4.specs.declared.Options.{Options}
+use Rattle.wait4.specs.Collect.{answer, is_child, fits, reportable, collected_in, collected, stays, told, collect_one, candidates, reported, collect, without_report, rows_after}
+use Rattle.trace_stop.specs.Closed.{GoodProc, LiveRow}
+use Rattle.trace_stop.proofs.ViewLists.{find_some, Every-filter}
+use Rattle.trace_stop.proofs.ViewSame.{Sim, Kin, not_own, named, rows_query, each_same, If-both}
+use Rattle.trace_stop.proofs.ViewSignals.{Mines, user_not_one, notified_same}
+use Rattle.trace_stop.proofs.Every.{and_left}
+
+pub child_own : (u caller : ℕ) → IsUser u → pid_owner caller ≡ u → (p : ProcData) → GoodProc p → is_child caller p ≡ true → p.uid ≡ u
+child_own u caller user mine p good is = by_tracer p.tracer good.tracer is
+  where
+    by_parent : (p.parent == caller) ≡ true → p.uid ≡ u
+    by_parent e = let same = eqb-true p.parent caller e in sym (good.parent (λ one. user_not_one u caller user mine (sym same ∙ one))) ∙ ap pid_owner same ∙ mine
+
+    by_eq : (t : ℕ) (b : Bool) → eqb t caller ≡ b → pid_owner t ≡ p.uid → (b || (p.parent == caller)) ≡ true → p.uid ≡ u
+    by_eq t true e g h = sym g ∙ ap pid_owner (eqb-true t caller e) ∙ mine
+    by_eq t false e g h = by_parent h
+
+    by_tracer : (o : Option ℕ) → IfSome o (λ t. pid_owner t ≡ p.uid) → (is_this caller o || (p.parent == caller)) ≡ true → p.uid ≡ u
+    by_tracer None g h = by_parent h
+    by_tracer (Some t) g h = by_eq t (eqb t caller) refl g h
+
+fits_own : (u caller : ℕ) (which : ℤ) → IsUser u → pid_owner caller ≡ u → (p : ProcData) → GoodProc p → (is_child caller p && fits which p) ≡ true → p.uid ≡ u
+fits_own u caller which user mine p good is = child_own u caller user mine p good (and_left (is_child caller p) (fits which p) is)
+
+pub candidates_same : {u : ℕ} {start c v : Rows} → Sim u start c v → (caller : ℕ) (which : ℤ) → pid_owner caller ≡ u → candidates caller which c ≡ candidates caller which v
+candidates_same {u} s caller which mine = rows_query s (λ p. is_child caller p && fits which p) (λ p good is. fits_own u caller which s.kept.closed.user mine p good is)
+
+pub reported_same : {u : ℕ} {start c v : Rows} → Sim u start c v → (caller : ℕ) (which : ℤ) (options : Options) → pid_owner caller ≡ u → reported caller which options c ≡ reported caller which options v
+reported_same s caller which options mine = ap (find (reportable options caller)) (candidates_same s caller which mine)
+
+pub reported_some : {u : ℕ} {start c v : Rows} → Sim u start c v → (caller : ℕ) (which : ℤ) (options : Options) → pid_owner caller ≡ u → IfSome (reported caller which options c) (λ p. GoodProc p × (p.uid ≡ u))
+reported_some {u} {start} {c} s caller which options mine = If-both _ (λ p. GoodProc p × (p.uid ≡ u)) (λ p g. g.0) (reported caller which options c) (find_some (reportable options caller) (λ p. GoodProc p × (p.uid ≡ u)) (candidates caller which c)
+    (Every-filter (λ p. is_child caller p && fits which p) GoodProc (λ p. GoodProc p × (p.uid ≡ u)) (λ p good is. (good, fits_own u caller which s.kept.closed.user mine p good is)) c.processes s.kept.closed.processes))
+
+pub collect_same : {u : ℕ} {start c v : Rows} → Sim u start c v → (caller : ℕ) (which : ℤ) (options : Options) → pid_owner caller ≡ u → collect caller which options c ≡ collect caller which options v
+collect_same {u} {start} {c} {v} s caller which options mine = ap (λ ps. answer ps (find (reportable options caller) ps)) (candidates_same s caller which mine)
+
+stays_parent : (caller : ℕ) (p : ProcData) → stays caller p ≡ true → p.parent ≢ 1
+stays_parent caller p is one = by_traces (traces caller p) (not (p.parent == caller)) (rw (eq-eqb p.parent 1 one) at is)
+  where
+    by_traces : (a b : Bool) → (a && false && b) ≡ true → ⊥
+    by_traces true b e = true≢false (sym e)
+    by_traces false b e = true≢false (sym e)
+
+collected_kin : (caller : ℕ) (p : ProcData) → GoodProc p → (st : State) → p.state ≡ st → Kin p (collected_in caller p st)
+collected_kin caller p good Run e = (refl, refl, record { user = good.user; block = good.block; tracer = good.tracer; parent = good.parent; reporting = good.reporting; collector = good.collector })
+collected_kin caller p good (Trace tid sig seen) e = (refl, refl, record { user = good.user; block = good.block; tracer = good.tracer; parent = good.parent; reporting = subst (λ x. IfSome (named_by x) (λ t. tid_owner t ≡ p.uid)) e good.reporting; collector = λ dead. absurd (true≢false dead) })
+collected_kin caller p good (Job sig seen) e = (refl, refl, record { user = good.user; block = good.block; tracer = good.tracer; parent = good.parent; reporting = tt; collector = λ dead. absurd (true≢false dead) })
+collected_kin caller p good (Zombie status) e = by_stays (stays caller p) refl
+  where
+    by_stays : (b : Bool) → stays caller p ≡ b → Kin p (if b then Some (record p { tracer = None }) else None)
+    by_stays true is = (refl, refl, record { user = good.user; block = good.block; tracer = tt; parent = good.parent; reporting = good.reporting; collector = λ dead none. stays_parent caller p is })
+    by_stays false is = tt
+
+collected_live : (caller : ℕ) (p : ProcData) (st : State) → p.state ≡ st → is_live p ≡ true → LiveRow (collected_in caller p st)
+collected_live caller p Run e live = live
+collected_live caller p (Trace tid sig seen) e live = refl
+collected_live caller p (Job sig seen) e live = refl
+collected_live caller p (Zombie status) e live = absurd (true≢false (sym live ∙ ap (λ x. not (is_zombie_state x)) e))
+
+told_mine : {u : ℕ} (caller : ℕ) (p : ProcData) → GoodProc p → p.uid ≡ u → Mines u (told caller p)
+told_mine {u} caller p good mine = by_test (not (is_live p) && stays caller p)
+  where
+    by_test : (b : Bool) → Mines u (if b then p.parent ∷ [] else [])
+    by_test true = (λ ne. good.parent ne ∙ mine, tt)
+    by_test false = tt
+
+pub collect_one_same : {u : ℕ} {start c v : Rows} → Sim u start c v → (caller : ℕ) (p : ProcData) → GoodProc p → p.uid ≡ u → Sim u start (collect_one caller p c) (collect_one caller p v)
+collect_one_same {u} s caller p good mine = notified_same (each_same s (λ q. if q.pid == p.pid then collected caller q else Some q) (λ q l. Some l) (record {
+  mine = λ q g is. kept q g (q.pid == p.pid);
+  foreign = λ q g ne. rw (not_own p.pid q.pid (λ e. ne (named (good.block ∙ mine) q g e))) refl;
+  lwp = λ q l g well is here. (refl, well);
+  foreign_lwp = λ q l g well ne here. refl;
+  live = λ q l g is live. inl (lives q live (q.pid == p.pid));
+})) (told caller p) (told_mine caller p good mine)
+  where
+    kept : (q : ProcData) → GoodProc q → (b : Bool) → Kin q (if b then collected caller q else Some q)
+    kept q g true = collected_kin caller q g q.state refl
+    kept q g false = (refl, refl, g)
+
+    lives : (q : ProcData) → is_live q ≡ true → (b : Bool) → LiveRow (if b then collected caller q else Some q)
+    lives q live true = collected_live caller q q.state refl live
+    lives q live false = live
+
+pub rows_after_same : {u : ℕ} {start c v : Rows} → Sim u start c v → (caller : ℕ) (which : ℤ) (options : Options) → pid_owner caller ≡ u → Sim u start (rows_after caller which options c) (rows_after caller which options v)
+rows_after_same {u} {start} {c} {v} s caller which options mine = subst (λ o. Sim u start (rows_after caller which options c) (without_report caller o v)) (reported_same s caller which options mine) (at_row (reported caller which options c) (reported_some s caller which options mine))
+  where
+    at_row : (o : Option ProcData) → IfSome o (λ p. GoodProc p × (p.uid ≡ u)) → Sim u start (without_report caller o c) (without_report caller o v)
+    at_row None g = s
+    at_row (Some p) g = collect_one_same s caller p g.0 g.1

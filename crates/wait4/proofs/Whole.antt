@@ -1,0 +1,30 @@
+-- A signed number of 64 bits is negative, or one from 0 on.
+use Rattle.std.proofs.Common.{◌≡◌, ℕ, ℤ, pos, negsuc, true, false, true≢false, w64, SFits, to_z, of_z, ltb, arith, refl, sym, ap, ◌∙◌}
+use Rattle.std.specs.Int.Signed.{lt_z}
+use Rattle.std.proofs.lemmas.Bool.Decides.{nat_tests}
+use Rattle.std.proofs.lemmas.Int.{to_z-of_z}
+
+below_zero : (z : ℤ) → lt_z z (pos 0) ≡ true → (k : ℕ) × (z ≡ negsuc k)
+below_zero (pos n) is = absurd (nothing_below n (ltz n ∙ is))
+  where
+    ltz : (m : ℕ) → ltb m 0 ≡ lt_z (pos m) (pos 0)
+    ltz m = refl
+
+    nothing_below : (m : ℕ) → ltb m 0 ≡ true → ⊥
+    nothing_below m is = grind (arith, nat_tests, is)
+below_zero (negsuc k) is = (k, refl)
+
+from_zero : (z : ℤ) → lt_z z (pos 0) ≡ false → (n : ℕ) × (z ≡ pos n)
+from_zero (pos n) is = (n, refl)
+from_zero (negsuc k) is = absurd (true≢false is)
+
+module _ (z : ℤ) (fits : SFits w64 z) where
+  pub is_negative : lt_z (to_z w64 (of_z w64 z)) (pos 0) ≡ true → (k : ℕ) × (z ≡ negsuc k)
+  is_negative is = below_zero z (ap (λ x. lt_z x (pos 0)) (sym (to_z-of_z w64 z fits)) ∙ is)
+
+  -- as a call sees it
+  pub read_back : (n : ℕ) → z ≡ pos n → to_z w64 (of_z w64 z) ≡ pos n
+  read_back n is = to_z-of_z w64 z fits ∙ is
+
+  pub is_natural : lt_z (to_z w64 (of_z w64 z)) (pos 0) ≡ false → (n : ℕ) × (z ≡ pos n)
+  is_natural is = from_zero z (ap (λ x. lt_z x (pos 0)) (sym (to_z-of_z w64 z fits)) ∙ is)

@@ -1,0 +1,41 @@
+use Rattle.std.proofs.Common.{◌≡◌, ◌<◌, false, true, Some, None, rules, arith, sym, ap, ◌∙◌}
+use Rattle.wait4.specs.Collect.{names_as, reportable}
+use Rattle.wait4.proofs.Search.{to_come, next_above, to_come-first, to_come-here, to_come-past, to_come-none, next_over}
+use Rattle.wait4.proofs.collecting.first_report.Goals as goal
+
+pub loop-p-init : goal.loop-p-init
+loop-p-init c = to_come-first (names_as c.args.kin c.args.caller) (reportable c.args.options c.args.caller) c.args.tables.now.rows.processes c.kept.ensures.homes
+
+pub returns-then-reportable-clause-row : goal.returns-then-reportable-clause-row
+returns-then-reportable-clause-row c =
+    let a = names_as c.args.kin c.args.caller in
+    let r = reportable c.args.options c.args.caller in
+    let ps = c.args.tables.now.rows.processes in
+    let at : next_above a r c.loop-p.after ps ≡ Some c.in-Some.p = cc in
+    let passes : r c.in-Some.p ≡ true = cc in
+    sym (to_come-here a r c.loop-p.after ps c.in-Some.p at passes) ∙ c.loop-p.invariant
+
+pub loop-p-smaller : goal.loop-p-smaller
+loop-p-smaller c =
+    let a = names_as c.args.kin c.args.caller in
+    let r = reportable c.args.options c.args.caller in
+    let at : next_above a r c.loop-p.after c.args.tables.now.rows.processes ≡ Some c.in-Some.p = cc in
+    let over : c.loop-p.after < c.in-Some.p.pid = next_over a r c.loop-p.after c.args.tables.now.rows.processes c.in-Some.p at in
+    omega (arith, over, c.get-after.ensures.number, c.get-after.ensures.below)
+
+pub loop-p-preserved : goal.loop-p-preserved
+loop-p-preserved c =
+    let a = names_as c.args.kin c.args.caller in
+    let r = reportable c.args.options c.args.caller in
+    let ps = c.args.tables.now.rows.processes in
+    let at : next_above a r c.loop-p.after ps ≡ Some c.in-Some.p = cc in
+    let fails : r c.in-Some.p ≡ false = cc in
+    ap (λ n. to_come a r n ps) c.get-after.ensures.number ∙ to_come-past a r c.loop-p.after ps c.in-Some.p c.next_of_kin.ensures.kept.rising at fails ∙ c.loop-p.invariant
+
+pub returns-clause-row : goal.returns-clause-row
+returns-clause-row c =
+    let a = names_as c.args.kin c.args.caller in
+    let r = reportable c.args.options c.args.caller in
+    let ps = c.args.tables.now.rows.processes in
+    let at : next_above a r c.loop-p.after ps ≡ None = search rules in
+    sym (to_come-none a r c.loop-p.after ps at) ∙ c.loop-p.invariant

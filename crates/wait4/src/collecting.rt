@@ -1,0 +1,201 @@
+//! What wait4(2) answers about the caller's children, and what is left of the rows then. A child of
+//! the caller is a process that it traces or is the parent of.
+
+ghost use Rattle.std.specs.Prelude.{◌≡◌, ℕ, ◌&&◌, ◌==◌, ltb, true, pos, [], ◌∷◌, Some, IfSome, find, is_some};
+ghost use Rattle.std.specs.List.{list_any};
+ghost use Rattle.proc_table.specs.Processes.{process_of, traces};
+ghost use Rattle.proc_table.specs.Kept.{IsKept};
+ghost use Rattle.trace_stop.specs.Facts.{IfEnded, IsSound};
+ghost use Rattle.wait4.specs.Collect.{is_child, is_own, fits, reportable, status_of, stays, names_as, lesser, reported, collect_one, collect, rows_after};
+
+use crate::{Collected, Options, Status};
+use pid_blocks::Pid;
+use proc_table::{ProcData, State, Tables};
+use trace_stop::notify;
+
+/// How a child names the caller.
+#[derive(Clone, Copy, Debug, PartialEq, Eq, Drop)]
+pub enum Kin {
+    Tracer,
+    Parent,
+}
+
+/// Whether the process is a child of the caller.
+fn is_child(caller: Pid, p: &ProcData) -> bool
+    ensures { result ≡ is_child caller p.now }
+{
+    p.tracer == Some(caller) || p.parent == caller.get()
+}
+
+/// Whether it is an untraced one.
+fn is_own(caller: Pid, p: &ProcData) -> bool
+    ensures { result ≡ is_own caller p.now }
+{
+    p.tracer.is_none() && p.parent == caller.get()
+}
+
+/// Whether the process has something to report to the caller.
+fn reportable(options: Options, caller: Pid, p: &ProcData) -> bool
+    ensures { result ≡ reportable options caller p.now }
+{
+    match p.state {
+        State::Run => p.continued && is_own(caller, p) && options.continued,
+        State::Trace { seen, .. } => !seen && p.tracer == Some(caller),
+        State::Job { seen, .. } => !seen && p.parent == caller.get() && options.untraced,
+        State::Zombie { .. } => p.tracer == Some(caller) || is_own(caller, p),
+    }
+}
+
+/// The status that is reported of a process.
+fn status_of(p: &ProcData) -> Status
+    requires ended { IfEnded p.now p.now.state }
+    ensures { result ≡ status_of p.now }
+{
+    match p.state {
+        State::Run => Status::continued(),
+        State::Trace { sig, .. } | State::Job { sig, .. } => Status::stopped(sig),
+        State::Zombie { status } => Status::of_word(status).unwrap(),
+    }
+}
+
+/// The first process above a number that names the caller so.
+fn next_of_kin(tables: &Tables, kin: Kin, caller: Pid, after: u32) -> Option<ProcData>
+    ensures row { result ≡ find (λ p. ltb after p.pid && names_as kin caller p) tables.now.rows.processes }
+    ensures kept { IsKept tables.now.rows }
+{
+    match kin {
+        Kin::Tracer => tables.next_tracee(caller, after),
+        Kin::Parent => tables.next_child(caller, after),
+    }
+}
+
+/// The first of those with something to report.
+fn first_report(tables: &Tables, kin: Kin, caller: Pid, options: Options) -> Option<ProcData>
+    ensures row { result ≡ find (λ p. names_as kin caller p && reportable options caller p) tables.now.rows.processes }
+    ensures kept { IsKept tables.now.rows }
+{
+    tables.kept();
+    let mut after = 0;
+    while let Some(p) = next_of_kin(tables, kin, caller, after) {
+        if reportable(options, caller, &p) {
+            return Some(p);
+        }
+        after = p.pid.get();
+    }
+    None
+}
+
+/// The process with the lesser number, where there are two.
+fn lesser(a: Option<ProcData>, b: Option<ProcData>) -> Option<ProcData>
+    ensures { result ≡ lesser a b }
+{
+    match (a, b) {
+        (Some(p), Some(q)) => Some(if p.pid.get() <= q.pid.get() { p } else { q }),
+        (Some(p), None) => Some(p),
+        (None, b) => b,
+    }
+}
+
+/// The process with a number that isn't negative.
+fn numbered(tables: &Tables, which: i64) -> Option<ProcData>
+    ensures row { (n : ℕ) → which ≡ pos n → result ≡ process_of n tables.now.rows.processes }
+    ensures kept { IsKept tables.now.rows }
+{
+    tables.kept();
+    match u32::try_from(which) {
+        Ok(number) => tables.numbered(number),
+        Err(_) => None,
+    }
+}
+
+/// The child that is reported: the one with this number, or for -1 the first with something to report.
+fn reported(tables: &Tables, caller: Pid, which: i64, options: Options) -> Option<ProcData>
+    ensures row { result ≡ reported caller which options tables.now.rows }
+    ensures kept { IsKept tables.now.rows }
+{
+    if which < 0 {
+        let tracee = first_report(tables, Kin::Tracer, caller, options);
+        let child = first_report(tables, Kin::Parent, caller, options);
+        return lesser(tracee, child);
+    }
+    let p = numbered(tables, which)?;
+    if is_child(caller, &p) && reportable(options, caller, &p) {
+        Some(p)
+    } else {
+        None
+    }
+}
+
+/// Whether the caller has a child that fits.
+fn has_child(tables: &Tables, caller: Pid, which: i64) -> bool
+    ensures { result ≡ list_any (λ p. is_child caller p && fits which p) tables.now.rows.processes }
+{
+    if which < 0 {
+        return next_of_kin(tables, Kin::Tracer, caller, 0).is_some()
+            || next_of_kin(tables, Kin::Parent, caller, 0).is_some();
+    }
+    match numbered(tables, which) {
+        Some(p) => is_child(caller, &p),
+        None => false,
+    }
+}
+
+/// Whether a zombie stays for its parent once the caller has collected it.
+fn stays(caller: Pid, p: &ProcData) -> bool
+    ensures { result ≡ stays caller p.now }
+{
+    p.tracer == Some(caller) && p.parent != 1 && p.parent != caller.get()
+}
+
+/// Collects what a process reports to the caller: a stop is seen, a process is no longer marked as
+/// continued, a zombie is gone, or passes from its tracer to its parent, which is told by SIGCHLD.
+fn collect_one(tables: &mut Tables, caller: Pid, p: &ProcData)
+    requires sound { IsSound tables.old.rows }
+    requires there { process_of p.now.pid tables.old.rows.processes ≡ Some p.now }
+    ensures { tables.new.rows ≡ collect_one caller p.now tables.old.rows }
+{
+    tables.kept();
+    match p.state {
+        State::Run => tables.set_process(ProcData {
+            continued: false,
+            ..*p
+        }),
+        State::Trace { tid, sig, .. } => tables.set_process(ProcData {
+            state: State::Trace {
+                tid,
+                sig,
+                seen: true,
+            },
+            ..*p
+        }),
+        State::Job { sig, .. } => tables.set_process(ProcData {
+            state: State::Job { sig, seen: true },
+            ..*p
+        }),
+        State::Zombie { .. } if stays(caller, p) => {
+            tables.set_process(ProcData { tracer: None, ..*p });
+            notify(tables, p.parent);
+        }
+        State::Zombie { .. } => tables.remove_process(p.pid),
+    }
+}
+
+/// What wait4(2) answers a process that asks about its children: about the one with the number
+/// `which`, or where it is negative about all, of whom the least number with something to report
+/// is taken. It waits for nothing, as under WNOHANG. What is reported is collected.
+pub fn collect(tables: &mut Tables, caller: Pid, which: i64, options: Options) -> Collected
+    requires sound { IsSound tables.old.rows }
+    ensures collected { result ≡ collect caller which options tables.old.rows }
+    ensures rows { tables.new.rows ≡ rows_after caller which options tables.old.rows }
+    ensures sound { IsSound tables.new.rows }
+{
+    match reported(tables, caller, which, options) {
+        Some(p) => {
+            let status = status_of(&p);
+            collect_one(tables, caller, &p);
+            Collected::Got(p.pid, status)
+        }
+        None if has_child(tables, caller, which) => Collected::Nothing,
+        None => Collected::NoChild,
+    }
+}
