@@ -27,7 +27,8 @@ use Rattle.trace_stop.proofs.Stops.{find_passes, run_quiet}
 use Rattle.signals.specs.Sets.{has, bit, without}
 use Rattle.trace_stop.specs.Facts.{IsSound}
 use Rattle.requests.specs.Turn.{without_signal}
-use Rattle.requests.proofs.Acting.{choose, Acting}
+use Rattle.trace_stop.proofs.Every.{choose}
+use Rattle.requests.proofs.Acting.{Acting}
 use Rattle.requests.proofs.Signals.{taken_alike}
 use Rattle.signals.specs.Table.{SIGCHLD}
 use Rattle.trace_stop.specs.Post.{settled_process, settled_lwp, settle, posted_process, posted_lwp, notified}

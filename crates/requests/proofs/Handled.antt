@@ -33,7 +33,7 @@ use Rattle.requests.specs.Asking.{is_stop, viewed_in, asks_view, asks_row, asks}
 use Rattle.requests.specs.Commands.{with_signal}
 use Rattle.requests.specs.Handle.{view_of, decided, done, no_options, handles_stop, handles_status, handles, handled_by}
 use Rattle.requests.specs.Ptrace.{continues_with}
-use Rattle.requests.proofs.Acting.{choose}
+use Rattle.trace_stop.proofs.Every.{choose}
 use Rattle.wait4.proofs.CollectSound.{Kept, collected_kept}
 use Rattle.requests.proofs.Forking.{Heard, heard}
 use Rattle.requests.proofs.Tracees.{continue_as}

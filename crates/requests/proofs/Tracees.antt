@@ -32,7 +32,7 @@ use Rattle.requests.specs.declared.Reply.TheVariants as reply
 use Rattle.requests.specs.Outcome.{Outcome, answers}
 use Rattle.requests.specs.Ptrace.{not_stepping, stepping, set_mask, continues_with}
 use Rattle.requests.specs.Commands.{with_signal}
-use Rattle.requests.proofs.Acting.{choose}
+use Rattle.trace_stop.proofs.Every.{choose}
 use Rattle.requests.proofs.Masks.{Tracee, OwnLwp, not_stepping_tracee, not_stepping_lwp, set_mask_tracee, stepping_tracee}
 
 -- A process with a number is found with its change
