@@ -2,12 +2,8 @@ use Rattle.std.proofs.Common.{◌≡◌, sym, ap, ◌∙◌, get_or, []}
 use Rattle.pid_blocks.specs.Blocks.{slot}
 use Rattle.requests.specs.Asking.{asks}
 use Rattle.requests.specs.Handle.{policies_in}
-use Rattle.requests.proofs.Called.{caller_live}
 use Rattle.requests.proofs.Handled.{asked}
 use Rattle.requests.proofs.deciding.handle.Goals as goal
-
-pub collect-requires-clause-live : goal.collect-requires-clause-live
-collect-requires-clause-live g c = caller_live c.args.user c.args.tables.now.rows c.args.caller.now c.requires.sound.stands.rising c.requires.caller
 
 pub returns-in-Got-clause-rows : goal.returns-in-Got-clause-rows
 returns-in-Got-clause-rows g c =
