@@ -4,7 +4,6 @@ ghost use Rattle.std.specs.Prelude.{◌≡◌, Some, None, true, if◌then◌els
 ghost use Rattle.signals.specs.Table.{set_disposition};
 ghost use Rattle.proc_table.specs.Processes.{process_of};
 ghost use Rattle.trace_stop.specs.Facts.{IsSound};
-ghost use Rattle.trace_stop.specs.Laws.{is_live_at};
 ghost use Rattle.wait4.specs.declared.Collected.{Collected};
 ghost use Rattle.requests.specs.Calls.{is_refused, sigaction, wait, collect_reply};
 
@@ -76,7 +75,6 @@ fn collect_reply(collected: Collected) -> Reply
 /// where `which` is 0 or below -1, and with ECHILD where no child fits.
 pub fn wait(tables: &mut Tables, caller: &ProcData, which: i64, options: Options) -> Reply
     requires sound { IsSound tables.old.rows }
-    requires live { is_live_at caller.now.pid tables.old.rows ≡ true }
     ensures rows { tables.new.rows ≡ (wait caller.now which options tables.old.rows).rows }
     ensures reply { result ≡ (wait caller.now which options tables.old.rows).reply }
 {

@@ -5,7 +5,6 @@ ghost use Rattle.pid_blocks.specs.Blocks.{slot};
 ghost use Rattle.proc_table.specs.Processes.{process_of, reporting};
 ghost use Rattle.trace_stop.specs.Facts.{IsSound};
 ghost use Rattle.requests.specs.Asking.{is_stop, viewed_in, asks_view, asks};
-ghost use Rattle.requests.specs.Callers.{IsCaller};
 ghost use Rattle.requests.specs.Handle.{handled_by, done, policies_in};
 
 use crate::Reply;
@@ -144,7 +143,6 @@ pub fn handle<F: Decider + Send + Drop>(
     caller: &ProcData,
 ) -> Reply
     requires sound { IsSound tables.old.rows }
-    requires caller { IsCaller user caller.now tables.old.rows }
     requires few { length (get_or handlers.now (slot user) []) ≤ 64 }
     ensures rows { tables.new.rows ≡ (handled_by settings (policies_in caller.now.pid (get_or handlers.now (slot user) [])) caller.now.pid tables.old.rows).rows }
     ensures reply { result ≡ (handled_by settings (policies_in caller.now.pid (get_or handlers.now (slot user) [])) caller.now.pid tables.old.rows).reply }

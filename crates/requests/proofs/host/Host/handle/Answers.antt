@@ -27,10 +27,8 @@ returns-in-Err-clause-sound g c = rw (← c.self.view_is) c.self.invariant
 pub handle-reply-requires : goal.handle-reply-requires
 handle-reply-requires g c =
     let m : Machine = machine_of c.self.inside.settings c.self.inside.tables c.self.inside.handlers in
-    let by : Calls c.args.user c.args.caller m.rows c.in-Ok.caller = subst (λ x. Calls c.args.user c.args.caller x.rows c.in-Ok.caller) (sym c.self.view_is) c.in-Ok.ensures.found in
     let is = rows_sound m c.self.invariant in
-    let caller = is_caller c.args.user c.args.caller m.rows c.in-Ok.caller is.stands.rising by in
-    (c.type_bounds.send-F, (is, (caller, few_installed m c.self.invariant c.args.user c.get-user.ensures.user)))
+    (c.type_bounds.send-F, (is, few_installed m c.self.invariant c.args.user c.get-user.ensures.user))
 
 done : (g : Over) (c : goal.After-drop_ended g) → Finished c.args.user (op.Handle c.args.caller) (machine_of c.self.inside.settings c.self.inside.tables c.self.inside.handlers)
     (machine_of c.self.inside.settings c.handle-reply.new.tables c.drop_ended.new.self) c.handle-reply.result

@@ -28,10 +28,8 @@ returns-in-Err-clause-sound g c = rw (← c.self.view_is) c.self.invariant
 pub wait-reply-requires : goal.wait-reply-requires
 wait-reply-requires g c =
     let m : Machine = machine_of c.self.inside.settings c.self.inside.tables c.self.inside.handlers in
-    let by : Calls c.args.user c.args.caller m.rows c.in-Ok.caller = subst (λ x. Calls c.args.user c.args.caller x.rows c.in-Ok.caller) (sym c.self.view_is) c.in-Ok.ensures.found in
     let is = rows_sound m c.self.invariant in
-    let caller = is_caller c.args.user c.args.caller m.rows c.in-Ok.caller is.stands.rising by in
-    record { sound = is; live = caller_live c.args.user m.rows c.in-Ok.caller is.stands.rising caller }
+    record { sound = is }
 
 done : (g : Over) (c : goal.After-drop_ended g) → Finished c.args.user (op.Wait4 c.args.caller c.args.which c.args.options) (machine_of c.self.inside.settings c.self.inside.tables c.self.inside.handlers)
     (machine_of c.self.inside.settings c.wait-reply.new.tables c.drop_ended.new.self) c.wait-reply.result
