@@ -23,7 +23,7 @@ use Rattle.proc_table.proofs.Stays.{changed-pid, changed_lwp-keeps, own_lwp-keep
 use Rattle.trace_stop.specs.Laws.{is_live_at}
 use Rattle.trace_stop.proofs.Every.{and_left, any_more, find_some}
 use Rattle.trace_stop.proofs.Stopping.{own_lwps}
-use Rattle.trace_stop.proofs.Stops.{find_passes}
+use Rattle.trace_stop.proofs.Stops.{find_passes, run_quiet}
 use Rattle.signals.specs.Sets.{has, bit, without}
 use Rattle.trace_stop.specs.Facts.{IsSound}
 use Rattle.requests.specs.Turn.{without_signal}
@@ -36,6 +36,7 @@ use Rattle.trace_stop.specs.End.{tracer_of}
 use Rattle.trace_stop.specs.Stop.{tracers, stop}
 use Rattle.trace_stop.specs.declared.Shown.{Shown}
 use Rattle.trace_stop.proofs.Posting.{posted_same}
+use Rattle.requests.proofs.Lwps.{find_more}
 use Rattle.requests.proofs.Masks.{changed_process, changed_lwp as lwp_changed}
 use Rattle.requests.specs.Actors.{IsActing, HasLwp}
 
@@ -62,19 +63,9 @@ has-process_changed n f same pid tid rows h = record {
   lwp = h.lwp;
 }
 
--- an LWP found by a number is found by its own
-pub found_itself : (n : ℕ) (l : LwpData) (ls : List LwpData) → lwp_of n ls ≡ Some l → lwp_of l.tid ls ≡ Some l
-found_itself n l ls at = subst (λ m. lwp_of m ls ≡ Some l) (sym (lwp_of-tid n l ls at)) at
-
 -- a process that runs lives
-run_lives : (s : State) → is_run_state s ≡ true → is_zombie_state s ≡ false
-run_lives Run is = refl
-run_lives (Trace tid sig seen) is = absurd (true≢false (sym is))
-run_lives (Job sig seen) is = absurd (true≢false (sym is))
-run_lives (Zombie w) is = absurd (true≢false (sym is))
-
 pub runs_live : (p : ProcData) (rows : Rows) → process_of p.pid rows.processes ≡ Some p → is_run p ≡ true → is_live_at p.pid rows ≡ true
-runs_live p rows at run = find_passes (λ q. nat_eq q.pid p.pid) (λ q. nat_eq q.pid p.pid && is_live q) rows.processes p at (rw (same_number p.pid, run_lives p.state run) refl)
+runs_live p rows at run = find_passes (λ q. nat_eq q.pid p.pid) (λ q. nat_eq q.pid p.pid && is_live q) rows.processes p at (rw (same_number p.pid, (run_quiet p.state run).1) refl)
 
 -- a process found by a number is found by its own
 pub row_itself : (n : ℕ) (p : ProcData) (ps : List ProcData) → process_of n ps ≡ Some p → process_of p.pid ps ≡ Some p
@@ -94,9 +85,6 @@ taken_live s p l rows a =
     let k = taken_alike rows p l a s in
     subst (λ n. is_live_at n (without_signal s p l rows) ≡ true) k.pid (runs_live k.process (without_signal s p l rows) k.acting.home k.acting.run)
 
-pub live_row : (n : ℕ) (rows : Rows) → is_live_at n rows ≡ true → IsRow rows n
-live_row n rows live = any_more (λ p. nat_eq p.pid n && is_live p) (λ p. nat_eq p.pid n) (λ p is. and_left (nat_eq p.pid n) (is_live p) is) rows.processes live
-
 -- the LWP that a user sees by its number, and its process
 pub acting_seen : (u tid : ℕ) (rows : Rows) (l : LwpData) (p : ProcData) → Differ rows.lwps → seen_lwp u tid rows ≡ Some l → process_of l.pid rows.processes ≡ Some p → IsActing p l rows
 acting_seen u tid rows l p differ seen at = record {
@@ -110,15 +98,10 @@ owns_itself p ps at = find_passes (λ q. nat_eq q.pid p.pid) (λ q. nat_eq q.pid
 
 -- An LWP and its process are there after rows were added
 
-owner_before : (pid tid : ℕ) (new : LwpData) (ls : List LwpData) → IsSomeAnd (lwp_of tid ls) (λ l. l.pid ≡ pid) → IsSomeAnd (lwp_of tid (ls ++ (new ∷ []))) (λ l. l.pid ≡ pid)
-owner_before pid tid new [] is = absurd is
-owner_before pid tid new (l ∷ ls) is = elim (cases_Bool (nat_eq l.tid tid)) [
-  | inl e ↦ rw e (rw e at is)
-  | inr e ↦ rw e (owner_before pid tid new ls (rw e at is))
-]
-
 pub has-lwp_added : (u : ℕ) (new : LwpData) (pid tid : ℕ) (rows : Rows) → HasLwp pid tid rows → HasLwp pid tid (add_lwp u new rows)
-has-lwp_added u new pid tid rows h = record { process = h.process; lwp = owner_before pid tid new rows.lwps h.lwp }
+has-lwp_added u new pid tid rows h =
+    let l = some_and (λ k. k.pid ≡ pid) (lwp_of tid rows.lwps) h.lwp in
+    record { process = h.process; lwp = rw (find_more (λ k. nat_eq k.tid tid) rows.lwps (new ∷ []) l.0 l.1) l.2 }
 
 pub has-process_added : (new : ProcData) (pid tid : ℕ) (rows : Rows) → IsKept rows → is_process rows new.pid ≡ false → HasLwp pid tid rows → HasLwp pid tid (add_process new rows)
 has-process_added new pid tid rows kept free h = record { process = is_process-placed new pid rows.processes h.process kept.rising (Lacks-from_any new.pid rows.processes free); lwp = h.lwp }

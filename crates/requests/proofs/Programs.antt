@@ -19,6 +19,7 @@ use Rattle.proc_table.proofs.Every.{every_untested, found_tested}
 use Rattle.trace_stop.specs.End.{waits_where, released}
 use Rattle.trace_stop.specs.Facts.{IsLiveChild, waited_for, Standing, WithOwner, IsSound}
 use Rattle.trace_stop.proofs.Children.{child_test, child_from}
+use Rattle.trace_stop.proofs.LwpEdits.{filter_within, filter_all, released-tid, released-pid}
 use Rattle.trace_stop.proofs.Every.{All-imply, All-both, any_holds, find_some}
 use Rattle.trace_stop.proofs.Stopping.{the_row, the_lwp, own_lwps}
 use Rattle.requests.proofs.Actors.{has-process_changed, has-lwps_mapped}
@@ -26,15 +27,6 @@ use Rattle.requests.specs.Actors.{IsActing, HasLwp}
 use Rattle.requests.specs.Programs.{is_other, only_lwp, parent_freed}
 use Rattle.trace_stop.specs.Post.{settle}
 use Rattle.requests.specs.Leave.{in_mode, exec_rows}
-
--- what the end of a vfork wait keeps of an LWP
-
-module _ (over : ℕ → Bool) (p : ProcData) (l : LwpData) where
-  pub released-tid : (released over p l).tid ≡ l.tid
-  released-tid = elim (cases_Bool (waits_where over l.mode)) [ inl e ↦ rw e refl | inr e ↦ rw e refl ]
-
-  pub released-pid : (released over p l).pid ≡ l.pid
-  released-pid = elim (cases_Bool (waits_where over l.mode)) [ inl e ↦ rw e refl | inr e ↦ rw e refl ]
 
 -- An LWP of the process with another number
 
@@ -87,17 +79,6 @@ module _ (pid tid : ℕ) where
   ]
 
 -- One LWP less
-
-filter_within : {X : Type 0} (p q : X → Bool) (xs : List X) → AllByRecursion (λ x. q x ≡ false → p x ≡ false) xs → filter p (filter q xs) ≡ filter p xs
-filter_within p q [] all = refl
-filter_within p q (x ∷ xs) all = elim (cases_Bool (q x)) [
-  | inl e ↦ rw (e, filter_within p q xs all.1) refl
-  | inr e ↦ rw (e, all.0 e, filter_within p q xs all.1) refl
-]
-
-filter_all : {X : Type 0} (p : X → Bool) (xs : List X) → AllByRecursion (λ x. p x ≡ true) xs → filter p xs ≡ xs
-filter_all p [] all = refl
-filter_all p (x ∷ xs) all = rw (all.0, filter_all p xs all.1) refl
 
 filter_less : {X : Type 0} (p : X → Bool) (xs : List X) → length (filter p xs) ≤ length xs
 filter_less p [] = omega arith

@@ -4,11 +4,9 @@ ghost use Rattle.std.specs.Prelude.{◌≡◌, ◌≢◌, ◌==◌, true, find};
 ghost use Rattle.pid_blocks.specs.declared.Errno.TheVariants as errno;
 ghost use Rattle.event_masks.specs.declared.Call.TheVariants as call;
 ghost use Rattle.signals.specs.Table.{after_exec};
-ghost use Rattle.proc_table.specs.Edits.{map_lwps};
 ghost use Rattle.proc_table.specs.Kept.{IsKept, IsRow};
 ghost use Rattle.proc_table.specs.Processes.{process_of};
 ghost use Rattle.proc_table.specs.Rows.{change_process};
-ghost use Rattle.trace_stop.specs.End.{released, waits_where};
 ghost use Rattle.trace_stop.specs.Facts.{IsSound};
 ghost use Rattle.requests.specs.declared.Reply.TheVariants as reply;
 ghost use Rattle.requests.specs.Actors.{IsActing, HasLwp};
@@ -18,11 +16,11 @@ ghost use Rattle.requests.specs.Leave.{exit_stop, exec_rows};
 
 use crate::Reply;
 use crate::stopping::{exit_stop, set_mode, stop_or};
-use event_masks::{Call, EventMask};
-use lwp_table::{Due, LwpData, Mode};
+use event_masks::Call;
+use lwp_table::{LwpData, Mode};
 use pid_blocks::{Pid, Tid};
 use proc_table::{ProcData, Tables};
-use trace_stop::settle;
+use trace_stop::{release, settle};
 
 /// The oldest LWP of the process with another number.
 fn other_lwp(tables: &Tables, pid: Pid, tid: Tid) -> Option<LwpData>
@@ -48,43 +46,6 @@ fn keep_lwp(tables: &mut Tables, pid: Pid, tid: Tid)
 {
     while let Some(other) = other_lwp(tables, pid, tid) {
         tables.remove_lwp(other.tid);
-    }
-}
-
-/// Whether an LWP in this mode waits for the process.
-fn waits_for(mode: Mode, pid: Pid) -> bool
-    ensures { result ≡ waits_where (λ n. n == pid) mode }
-{
-    match mode {
-        Mode::VforkWait(child) => child == pid,
-        Mode::User | Mode::InCall(_) => false,
-    }
-}
-
-/// An LWP of the parent, whose wait for the child is over.
-fn released(l: &LwpData, parent: &ProcData, child: Pid) -> LwpData
-    ensures { result ≡ released (λ n. n == child) parent.now l.now }
-{
-    if !waits_for(l.mode, child) {
-        return LwpData { ..*l };
-    }
-    let told = parent.tracer.is_some() && parent.mask.asks(EventMask::PTRACE_VFORK);
-    LwpData {
-        mode: Mode::User,
-        due: if told { Due::VforkDone } else { l.due },
-        ..*l
-    }
-}
-
-/// Ends the waits of the parent's LWPs for the child.
-fn release(tables: &mut Tables, parent: &ProcData, child: Pid)
-    ensures { tables.new.rows ≡ map_lwps parent.now.pid (released (λ n. n == child) parent.now) tables.old.rows }
-{
-    let pid = parent.pid;
-    let mut at = tables.first_lwp(pid);
-    while let Some(l) = at {
-        tables.set_lwp(released(&l, parent, child));
-        at = tables.next_lwp(pid, l.tid);
     }
 }
 

@@ -58,8 +58,9 @@ fn released(lwp: &LwpData, process: &ProcData, child: Pid) -> LwpData
     }
 }
 
-/// Ends the waits of a process's LWPs for a child of its.
-fn release(tables: &mut Tables, process: &ProcData, child: Pid)
+/// Ends the waits of a process's LWPs for a child of its, as when that ends or makes an exec: each is in user mode again,
+/// and stops at its next turn where its tracer asks for it. Takes no memory.
+pub fn release(tables: &mut Tables, process: &ProcData, child: Pid)
     ensures { tables.new.rows ≡ map_lwps process.now.pid (released (λ n. n == child) process.now) tables.old.rows }
 {
     let pid = process.pid;

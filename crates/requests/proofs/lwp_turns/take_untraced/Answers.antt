@@ -8,7 +8,7 @@ use Rattle.proc_table.specs.Rows.{Rows}
 use Rattle.trace_stop.specs.declared.Settings.{Settings}
 use Rattle.trace_stop.specs.End.{end}
 use Rattle.requests.specs.Turn.{takes_untraced}
-use Rattle.requests.proofs.Actors.{live_row}
+use Rattle.trace_stop.proofs.LeafLives.{listed}
 use Rattle.requests.proofs.lwp_turns.take_untraced.Goals as goal
 
 ended : (settings : Settings) (s : ℕ) (p : ProcData) (l : LwpData) (rows : Rows) → disposition_of p.dispositions s ≡ disposition.Default → default_action s ≡ action.End
@@ -16,7 +16,7 @@ ended : (settings : Settings) (s : ℕ) (p : ProcData) (l : LwpData) (rows : Row
 ended settings s p l rows d a = rw (d, a) refl
 
 pub job_stop-requires : goal.job_stop-requires
-job_stop-requires c = live_row c.args.p.now.pid c.args.tables.now.rows c.requires.live
+job_stop-requires c = listed c.args.tables.now.rows c.args.p.now.pid c.requires.live
 
 pub returns-in-End-clause-rows : goal.returns-in-End-clause-rows
 returns-in-End-clause-rows c =

@@ -1,15 +1,15 @@
 use Rattle.std.proofs.Common.{◌≡◌, Some, sym, refl, ◌∙◌, subst}
 use Rattle.lwp_table.specs.Lwps.{lwp_of}
 use Rattle.proc_table.proofs.Rows.{lwp_of-tid}
-use Rattle.proc_table.proofs.Stays.{lwp_there}
 use Rattle.proc_table.proofs.Changes.{change_lwp-at}
 use Rattle.requests.specs.Actors.{HasLwp}
 use Rattle.requests.specs.Leave.{in_mode}
-use Rattle.requests.proofs.Actors.{found_itself, has-lwp_changed}
+use Rattle.requests.proofs.Tracees.{lwp_may_change}
+use Rattle.requests.proofs.Actors.{has-lwp_changed}
 use Rattle.requests.proofs.stopping.set_mode.Goals as goal
 
 pub set_lwp-requires : goal.set_lwp-requires
-set_lwp-requires c = lwp_there c.args.tables.now.rows c.unwrap-l.result c.unwrap-l.result (found_itself c.args.tid c.unwrap-l.result c.args.tables.now.rows.lwps (sym c.lwp.ensures.row ∙ c.unwrap-l.ensures)) refl
+set_lwp-requires c = lwp_may_change c.args.tid c.unwrap-l.result c.args.tables.now.rows (sym c.lwp.ensures.row ∙ c.unwrap-l.ensures)
 
 done : (c : goal.After-set_lwp) → c.set_lwp.new.self.rows ≡ in_mode c.args.mode c.args.tid c.args.tables.now.rows
 done c =
