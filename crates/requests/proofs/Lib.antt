@@ -11,12 +11,7 @@ pub mod Others
 pub mod Remaining
 pub mod Sending
 pub mod Refusing
-pub mod ViewLists
-pub mod ViewSame
 pub mod ViewEdits
-pub mod ViewSignals
-pub mod ViewEnds
-pub mod ViewStops
 pub mod ViewFresh
 pub mod ViewTurns
 pub mod ViewSteps

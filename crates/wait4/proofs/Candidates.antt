@@ -1,5 +1,5 @@
 -- The child that is reported, and whether there is a child, by the lists of tracees and of children, and by number.
-use Rattle.std.proofs.Common.{◌≡◌, ℕ, ℤ, pos, negsuc, List, [], ◌∷◌, find, Bool, true, false, ◌==◌, ◌&&◌, ◌||◌, ltb, Some, is_some, refl, sym, ap, ◌∙◌, arith, inl, inr, nat_eq}
+use Rattle.std.proofs.Common.{◌≡◌, ℕ, ℤ, pos, negsuc, List, [], ◌∷◌, find, Bool, true, false, ◌==◌, ◌&&◌, ◌||◌, ltb, Some, is_some, refl, sym, ap, ◌∙◌, arith, subst, inl, inr, nat_eq}
 use Rattle.std.specs.List.{AllByRecursion, list_any}
 use Rattle.std.proofs.Math.Path.{fun_ext}
 use Rattle.std.proofs.lemmas.Bool.{cases_Bool}
@@ -9,12 +9,15 @@ use Rattle.proc_table.specs.Keep.{keep}
 use Rattle.proc_table.specs.Processes.{process_of, traces}
 use Rattle.proc_table.specs.Rows.{Rows}
 use Rattle.proc_table.specs.Kept.{Rise, AtHome}
+use Rattle.proc_table.specs.Laws.{LeastOrNone}
 use Rattle.proc_table.proofs.Seen.{any-found}
+use Rattle.proc_table.proofs.Least.{least_or_none}
 use Rattle.trace_stop.proofs.Every.{All-filter, find_some}
 use Rattle.wait4.specs.declared.Options.{Options}
 use Rattle.wait4.specs.declared.collecting.Kin.TheVariants.{Tracer, Parent}
 use Rattle.wait4.specs.Collect.{is_child, fits, names_as, reportable, lesser, candidates, reported}
-use Rattle.wait4.proofs.Search.{find-filter, find-lesser, only_numbered}
+use Rattle.wait4.specs.Laws.{ReportedLeast}
+use Rattle.wait4.proofs.Search.{to_come-first, find-filter, find-lesser, only_numbered}
 
 same_find : (s t : ProcData → Bool) → ((p : ProcData) → s p ≡ t p) → (ps : List ProcData) → find s ps ≡ find t ps
 same_find s t h ps = ap (λ f. find f ps) (fun_ext h)
@@ -89,3 +92,10 @@ child-any caller k (p ∷ ps) homes =
 -- what holds of every process holds of the one that is reported
 pub reported-has : (P : ProcData → Type 0) (caller : ℕ) (which : ℤ) (options : Options) (rows : Rows) (p : ProcData) → AllByRecursion P rows.processes → reported caller which options rows ≡ Some p → P p
 reported-has P caller which options rows p all is = (find_some (reportable options caller) P (candidates caller which rows) (All-filter (λ q. is_child caller q && fits which q) P rows.processes all) p is).0
+
+-- the least number is reported
+pub reported-least : ReportedLeast
+reported-least rows caller which options s =
+    subst (LeastOrNone (λ p. (is_child caller p && fits which p) && reportable options caller p) 0 rows.processes)
+    (to_come-first (λ p. is_child caller p && fits which p) (reportable options caller) rows.processes s.stands.homes ∙ sym (find-filter (λ p. is_child caller p && fits which p) (reportable options caller) rows.processes))
+    (least_or_none (λ p. (is_child caller p && fits which p) && reportable options caller p) 0 rows.processes s.stands.rising)
