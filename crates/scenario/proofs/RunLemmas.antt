@@ -12,7 +12,7 @@ use Rattle.requests.specs.Plain.{plain}
 use Rattle.requests.specs.Run.{Asked, replies}
 use Rattle.requests.specs.Step.{step}
 use Rattle.scenario.specs.Lines.{Answered}
-use Rattle.scenario.specs.Plan.{Plan, asked}
+use Rattle.scenario.specs.Plan.{bound}
 use Rattle.scenario.specs.Runs.{answered, answers_of, paired}
 
 -- the answers of steps from a host on
@@ -22,13 +22,13 @@ answers_from steps m = paired steps (replies steps m)
 -- after one more step, the answers so far and those to come are still all answers
 pub one_more : (ss : List (ℕ × Step)) (i : ℕ) (s : ℕ × Step) (m after : Machine) (r : Reply) (done : List (ℕ × Reply)) (all : List Answered) → i < length ss → get_or ss i s ≡ s
     → after ≡ (step s.0 (plain s.1) m).machine → r ≡ (step s.0 (plain s.1) m).reply
-    → map answered done ++ answers_from (map asked (drop i ss)) m ≡ all
-    → map answered (done ++ (s.0, r) ∷ []) ++ answers_from (map asked (drop (i + 1) ss)) after ≡ all
+    → map answered done ++ answers_from (map bound (drop i ss)) m ≡ all
+    → map answered (done ++ (s.0, r) ∷ []) ++ answers_from (map bound (drop (i + 1) ss)) after ≡ all
 one_more ss i s m after r done all h here after_is reply_is whole =
-    let rest = map asked (drop (i + 1) ss) in
-    let next : answers_from (map asked (drop i ss)) m ≡ answered (s.0, (step s.0 (plain s.1) m).reply) ∷ answers_from rest (step s.0 (plain s.1) m).machine =
-    at_drop_more (λ xs. answers_from (map asked xs) m) ss i s h
-    ∙ ap (λ (x : ℕ × Step). answers_from (asked x ∷ rest) m) here in
+    let rest = map bound (drop (i + 1) ss) in
+    let next : answers_from (map bound (drop i ss)) m ≡ answered (s.0, (step s.0 (plain s.1) m).reply) ∷ answers_from rest (step s.0 (plain s.1) m).machine =
+    at_drop_more (λ xs. answers_from (map bound xs) m) ss i s h
+    ∙ ap (λ (x : ℕ × Step). answers_from (bound x ∷ rest) m) here in
     ap (λ xs. xs ++ answers_from rest after) (map-append answered done ((s.0, r) ∷ []))
     ∙ append_assoc (map answered done) (answered (s.0, r) ∷ []) (answers_from rest after)
     ∙ ap (λ x. map answered done ++ (answered (s.0, x) ∷ answers_from rest after)) reply_is
@@ -36,18 +36,16 @@ one_more ss i s m after r done all h here after_is reply_is whole =
     ∙ ap (λ xs. map answered done ++ xs) (sym next) ∙ whole
 
 -- before the first step
-pub none_made : (ss : List (ℕ × Step)) (plan : Plan) (m : Machine) (settings : Settings) (done : List (ℕ × Reply))
-    → done ≡ [] → map asked ss ≡ plan.steps → m ≡ empty settings → settings ≡ plan.settings
-    → map answered done ++ answers_from (map asked ss) m ≡ answers_of plan
-none_made ss plan m settings done none steps_are host_is settings_are =
-    ap (λ d. map answered d ++ answers_from (map asked ss) m) none ∙ ap (λ steps. answers_from steps m) steps_are
-    ∙ ap (λ h. answers_from plan.steps h) (host_is ∙ ap empty settings_are)
+pub none_made : (ss : List (ℕ × Step)) (m : Machine) (settings : Settings) (done : List (ℕ × Reply)) → done ≡ [] → m ≡ empty settings
+    → map answered done ++ answers_from (map bound ss) m ≡ answers_of (record { settings = settings; steps = map bound ss })
+none_made ss m settings done none host_is =
+    ap (λ d. map answered d ++ answers_from (map bound ss) m) none ∙ ap (λ h. answers_from (map bound ss) h) host_is
 
 -- after the last one
 pub all_made : (ss : List (ℕ × Step)) (i : ℕ) (m : Machine) (done : List (ℕ × Reply)) (all : List Answered) → length ss ≤ i
-    → map answered done ++ answers_from (map asked (drop i ss)) m ≡ all → map answered done ≡ all
+    → map answered done ++ answers_from (map bound (drop i ss)) m ≡ all → map answered done ≡ all
 all_made ss i m done all h whole =
-    sym (append-nil (map answered done)) ∙ ap (λ xs. map answered done ++ answers_from (map asked xs) m) (sym (drop_all i ss h)) ∙ whole
+    sym (append-nil (map answered done)) ∙ ap (λ xs. map answered done ++ answers_from (map bound xs) m) (sym (drop_all i ss h)) ∙ whole
 
 -- a fault of which P holds
 pub fault_with : {X : Type 0} (P : RunFault → Type 0) (r : Result X RunFault) → IsErrAnd r P → IfErr r P

@@ -2,18 +2,22 @@
 ghost use Rattle.std.specs.Prelude.{◌≡◌, ◌↔◌, ℕ, map, IsTrue, IfOk, IfErr};
 ghost use Rattle.pid_blocks.specs.declared.Errno.TheVariants as errno;
 ghost use Rattle.requests.specs.declared.Reply.TheVariants as replies;
+ghost use Rattle.scenario.specs.Binding.{Blames};
 ghost use Rattle.scenario.specs.Lines.{text};
+ghost use Rattle.scenario.specs.Plan.{bound};
 ghost use Rattle.scenario.specs.Runs.{answered, answers_of, Writes};
 ghost use Rattle.scenario.specs.Faults.{run_fault_status};
 ghost use Rattle.scenario.specs.declared.running.RunFault.TheVariants.{Memory, Write as WriteFault};
 
+use crate::binding::bind;
 use crate::lines::render;
 use crate::plan::Scenario;
 use pid_blocks::{Errno, Uid};
-use requests::{Host, Reply};
+use requests::{Host, Reply, Step};
 use std::alloc::{AllocError, AllocFailed, Global};
 use std::io::Write;
 use thiserror::Error;
+use trace_stop::Settings;
 
 /// Why a run came to no end.
 #[derive(Clone, Copy, Debug, PartialEq, Eq, Error)]
@@ -24,6 +28,9 @@ pub enum RunFault {
     /// The writer failed, or took no byte. What it took before is a front of the text.
     #[error("tracehost: cannot write")]
     Write,
+    /// Hosts don't make the step with this number. Nothing was written.
+    #[error("tracehost: refused: BadName at step {0}")]
+    Unmade(u32),
 }
 
 impl RunFault {
@@ -33,6 +40,7 @@ impl RunFault {
     {
         match self {
             RunFault::Memory | RunFault::Write => 3,
+            RunFault::Unmade(_) => 1,
         }
     }
 }
@@ -61,13 +69,18 @@ fn is_refused_memory(reply: &Reply) -> bool
 }
 
 /// The replies to the steps, made one after another by a new host. A step that is answered ENOMEM ends the run.
-fn replies_of(alloc: Global, scenario: &Scenario) -> Result<Vec<(Uid, Reply)>, RunFault>
-    ensures ok { IfOk result (λ v. map answered v.items ≡ answers_of scenario.now) }
+fn replies_of(
+    alloc: Global,
+    settings: Settings,
+    steps: &[(Uid, Step)],
+) -> Result<Vec<(Uid, Reply)>, RunFault>
+    ensures ok { IfOk result (λ v. map answered v.items
+        ≡ answers_of (record { settings = settings; steps = map bound steps.now })) }
     ensures err { IfErr result (λ e. e ≡ Memory) }
 {
     let mut replies = Vec::new(alloc);
-    let mut host = Host::new(alloc, scenario.settings())?;
-    for step in scenario.steps() {
+    let mut host = Host::new(alloc, settings)?;
+    for step in steps {
         let reply = host.step(alloc, step.0, step.1);
         if is_refused_memory(&reply) {
             return Err(RunFault::Memory);
@@ -97,12 +110,14 @@ fn write_whole<W: Write>(writer: &mut W, bytes: &[u8]) -> Result<(), RunFault>
 ///
 /// # Errors
 ///
-/// `Memory` where no memory was left, for a step too: then nothing was written. `Write` where the writer failed or took no
+/// `Unmade` where hosts don't make a step, and `Memory` where no memory was left, for a step too: then nothing was written. `Write` where the writer failed or took no
 /// byte: then it has a front of the text.
 pub fn run<W: Write>(alloc: Global, scenario: &Scenario, writer: &mut W) -> Result<(), RunFault>
-    ensures { Writes result (W.contents writer.old) (W.contents writer.new) (text (answers_of scenario.now)) }
+    ensures writes { Writes result (W.contents writer.old) (W.contents writer.new) (text (answers_of scenario.now)) }
+    ensures blames { IfErr result (λ e. Blames e scenario.now.steps) }
 {
-    let replies = replies_of(alloc, scenario)?;
+    let steps = bind(alloc, scenario)?;
+    let replies = replies_of(alloc, scenario.settings(), steps.as_slice())?;
     let text = render(alloc, replies.as_slice(), None)?;
     write_whole(writer, text.as_bytes())
 }
