@@ -22,6 +22,22 @@ const SPAWN_AND_LIST: &str =
 const ITS_LINES: &str =
     "1001 1 new 1000 100000\n1002 1 new 2000 104000\n1001 2 new 1001 100001\n1001 3 pids 1000 1001\n";
 
+/// Two users, one of whom traces a process through a system call by a policy.
+const SESSION: &str = "{\"steps\":[
+{\"user\":1001,\"op\":\"spawn\"},
+{\"user\":1001,\"op\":\"spawn\"},
+{\"user\":1002,\"op\":\"spawn\"},
+{\"user\":1001,\"op\":\"ptrace\",\"caller\":1000,\"request\":\"PT_ATTACH\",\"target\":1001},
+{\"user\":1002,\"op\":\"ptrace\",\"caller\":2000,\"request\":\"PT_ATTACH\",\"target\":1001},
+{\"user\":1001,\"op\":\"wait4\",\"caller\":1000,\"which\":-1,\"options\":[\"WNOHANG\"]},
+{\"user\":1001,\"op\":\"ptrace\",\"caller\":1000,\"request\":\"PT_SET_EVENT_MASK\",\"target\":1001,\"mask\":[\"PTRACE_SYSCALL\"]},
+{\"user\":1001,\"op\":\"install\",\"caller\":1000,\"rules\":[{\"signal\":5,\"flags\":[\"PL_FLAG_SCE\"],\"decision\":\"continue\"}]},
+{\"user\":1001,\"op\":\"ptrace\",\"caller\":1000,\"request\":\"PT_CONTINUE\",\"target\":1001,\"data\":0},
+{\"user\":1001,\"op\":\"turn\",\"lwp\":100001,\"act\":\"enter\",\"call\":\"other\",\"code\":20},
+{\"user\":1001,\"op\":\"handle\",\"caller\":1000},
+{\"user\":1001,\"op\":\"turn\",\"lwp\":100001,\"act\":\"leave\"}
+]}";
+
 /// The fault of a scenario whose second step is user 1001's and has this op with what follows it.
 fn fault_of(alloc: Global, op: &str) -> Result<Option<Fault>, Fail> {
     let mut text = String::from_str(

@@ -1,4 +1,4 @@
-use super::SPAWN_AND_LIST;
+use super::{SESSION, SPAWN_AND_LIST};
 use crate::{Fault, parse};
 use std::process::Abort;
 use std::test::Fail;
@@ -288,13 +288,15 @@ fn the_first_step_that_fails(rt: HostRuntime) -> Result<(), Fail> {
 
 #[test]
 fn each_cut(rt: HostRuntime) -> Result<(), Fail> {
-    for i in 0..SPAWN_AND_LIST.len() {
-        let front = &SPAWN_AND_LIST.as_bytes()[..i];
-        assert_eq!(rt;
-            parse(rt.alloc(), front).err(),
-            Some(Fault::BadJson),
-            "at {i}"
-        );
+    for whole in [SPAWN_AND_LIST, SESSION] {
+        for i in 0..whole.len() {
+            let front = &whole.as_bytes()[..i];
+            assert_eq!(rt;
+                parse(rt.alloc(), front).err(),
+                Some(Fault::BadJson),
+                "at {i}"
+            );
+        }
     }
     Ok(())
 }

@@ -1,3 +1,4 @@
+use super::SESSION;
 use crate::{bind, parse, policies};
 use event_masks::{Call, StopFlags};
 use requests::{Act, PlainStep, Request};
@@ -7,22 +8,6 @@ use std::process::Abort;
 use std::test::Fail;
 use stop_handlers::{Decision, Policy, Rule};
 use wait4::Options;
-
-/// Two users, one of whom traces a process through a system call by a policy.
-const SESSION: &str = "{\"steps\":[
-{\"user\":1001,\"op\":\"spawn\"},
-{\"user\":1001,\"op\":\"spawn\"},
-{\"user\":1002,\"op\":\"spawn\"},
-{\"user\":1001,\"op\":\"ptrace\",\"caller\":1000,\"request\":\"PT_ATTACH\",\"target\":1001},
-{\"user\":1002,\"op\":\"ptrace\",\"caller\":2000,\"request\":\"PT_ATTACH\",\"target\":1001},
-{\"user\":1001,\"op\":\"wait4\",\"caller\":1000,\"which\":-1,\"options\":[\"WNOHANG\"]},
-{\"user\":1001,\"op\":\"ptrace\",\"caller\":1000,\"request\":\"PT_SET_EVENT_MASK\",\"target\":1001,\"mask\":[\"PTRACE_SYSCALL\"]},
-{\"user\":1001,\"op\":\"install\",\"caller\":1000,\"rules\":[{\"signal\":5,\"flags\":[\"PL_FLAG_SCE\"],\"decision\":\"continue\"}]},
-{\"user\":1001,\"op\":\"ptrace\",\"caller\":1000,\"request\":\"PT_CONTINUE\",\"target\":1001,\"data\":0},
-{\"user\":1001,\"op\":\"turn\",\"lwp\":100001,\"act\":\"enter\",\"call\":\"other\",\"code\":20},
-{\"user\":1001,\"op\":\"handle\",\"caller\":1000},
-{\"user\":1001,\"op\":\"turn\",\"lwp\":100001,\"act\":\"leave\"}
-]}";
 
 fn ptrace(caller: u32, request: Request, target: u32, arg: u32) -> PlainStep {
     PlainStep::Ptrace {
