@@ -1,4 +1,5 @@
 pub mod FieldLemmas
+pub mod BindLemmas
 pub mod RuleLemmas
 pub mod StepLemmas
 pub mod Answering

@@ -37,10 +37,7 @@ fn faults(rt: HostRuntime) -> Result<(), Fail> {
     let table = [
         (RunFault::Memory, "tracehost: out of memory (3)"),
         (RunFault::Write, "tracehost: cannot write (3)"),
-        (
-            RunFault::Unmade(7),
-            "tracehost: refused: BadName at step 7 (1)",
-        ),
+        (RunFault::Mismatch, "tracehost: handlers do not match (3)"),
     ];
     for (fault, want) in table {
         let found = format!(in rt.alloc(); "{fault} ({})", fault.status())?;

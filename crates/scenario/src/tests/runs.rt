@@ -1,7 +1,8 @@
 use super::{ITS_LINES, SPAWN_AND_LIST};
-use crate::{RunFault, parse, run};
+use crate::{RunFault, RunOptions, parse, run};
 use std::io;
 use std::test::Fail;
+use stop_handlers::{ByPolicy, Handler};
 
 /// Takes some bytes, one at a time, and then none, or fails.
 #[derive(Drop)]
@@ -42,7 +43,9 @@ fn writers_that_end(rt: HostRuntime) -> Result<(), Fail> {
                 room,
                 fails,
             };
-            let ended = run(rt.alloc(), &scenario, &mut writer).err();
+            let handlers: Vec<Handler<ByPolicy>> = Vec::new(rt.alloc());
+            let options = RunOptions { user: None };
+            let ended = run(rt.alloc(), &scenario, handlers, options, &mut writer).err();
             let want = if room < ITS_LINES.len() {
                 Some(RunFault::Write)
             } else {

@@ -1,12 +1,12 @@
 use super::SESSION;
-use crate::{bind, parse, policies};
+use crate::{RunFault, bind, handlers_of, parse, policies};
 use event_masks::{Call, StopFlags};
 use requests::{Act, PlainStep, Request};
 use signals::{Disposition, Pass, SigSet, Signal};
 use std::alloc::Global;
 use std::process::Abort;
 use std::test::Fail;
-use stop_handlers::{Decision, Policy, Rule};
+use stop_handlers::{ByPolicy, Decision, Handler, Policy, Rule};
 use wait4::Options;
 
 fn ptrace(caller: u32, request: Request, target: u32, arg: u32) -> PlainStep {
@@ -88,15 +88,21 @@ fn a_session(rt: HostRuntime) -> Result<(), Fail> {
     Ok(())
 }
 
-/// The steps that hosts don't make yet are refused by number, before any is made.
+/// The session is bound to a handler of its policy, and to no fewer handlers.
 #[test]
-fn a_session_with_a_step_that_hosts_do_not_make(rt: HostRuntime) -> Result<(), Fail> {
+fn a_session_with_its_handler(rt: HostRuntime) -> Result<(), Fail> {
     let scenario = parse(rt.alloc(), SESSION.as_bytes())?;
-    let fault = bind(rt.alloc(), &scenario).err().ok_or("it is bound")?;
-    let found = format!(in rt.alloc(); "{fault} ({})", fault.status())?;
-    assert!(rt;
-        found.as_str() == "tracehost: refused: BadName at step 4 (1)",
-        "{found}"
+    let policies = policies(rt.alloc(), &scenario)?;
+    let handlers = handlers_of(
+        rt.alloc(),
+        policies.as_slice(),
+        |policy: Policy| ByPolicy(policy),
+    )?;
+    assert_eq!(rt; bind(rt.alloc(), &scenario, handlers)?.len(), 12);
+    let none: Vec<Handler<ByPolicy>> = Vec::new(rt.alloc());
+    assert_eq!(rt;
+        bind(rt.alloc(), &scenario, none).err(),
+        Some(RunFault::Mismatch)
     );
     Ok(())
 }
