@@ -1,12 +1,10 @@
 -- Words that are written one after another, each behind what is to stand before it.
 use Rattle.std.proofs.Common.{◌≡◌, ℕ, ◌+◌, ◌<◌, Bool, true, false, List, [], ◌∷◌, ◌++◌, length, drop, get_or, map, filter, codes, decimal, refl, sym, ap, ◌∙◌, append-nil}
-use Rattle.std.proofs.Common.{Bor, ◌==◌, ◌≤◌, zero, suc, arith, Option}
+use Rattle.std.proofs.Common.{Bor, ◌==◌, Option}
 use Rattle.std.specs.Int.RustNames.{bit_and}
 use Rattle.std.specs.List.{join_with_byte, flat_map}
-use Rattle.std.proofs.lemmas.List.{append_assoc, at_drop_more, drop_all}
-use Rattle.pid_blocks.specs.Blocks.{rising}
-use Rattle.signals.specs.Sets.{has, numbers}
-use Rattle.scenario.specs.Words.{joined}
+use Rattle.std.proofs.lemmas.List.{append_assoc, at_drop_more}
+use Rattle.event_masks.specs.Names.{joined}
 use Rattle.scenario.specs.Texts.{named_bit, view_words}
 use Rattle.scenario.specs.Words.{reply_words, decision_words, index_text, flags_word}
 use Rattle.requests.specs.declared.Reply.TheVariants as reply
@@ -79,22 +77,6 @@ flag_names_at bits n ns false is e = rw is e
 pub flag_names : (bits : ℕ) (ns : List (Bor (List ℕ) × ℕ)) → chosen (λ n. bit_and bits n.1 == n.1) (λ n. n.0.now) ns ≡ map (λ n. n.0) (filter (λ n. bit_and bits n.1 == n.1) (map named_bit ns))
 flag_names bits [] = refl
 flag_names bits (n ∷ ns) = flag_names_at bits n ns _ refl (flag_names bits ns)
-
-rising_at : (n m i : ℕ) → i < n → get_or (rising n m) i 0 ≡ m + i
-rising_at zero m i h = absurd (omega arith)
-rising_at (suc n) m zero h = omega arith
-rising_at (suc n) m (suc i) h = rising_at n (m + 1) i (omega arith) ∙ omega arith
-
--- the number at a place among all signals
-pub number_at : (i : ℕ) → i < 31 → get_or numbers i 0 ≡ i + 1
-number_at i h = rising_at 31 1 i h ∙ omega arith
-
--- past the last signal nothing is left
-pub signals_end : (set place : ℕ) (empty b : Bool) (done all : List ℕ) → 31 ≤ place → empty ≡ b
-    → done ++ ending 44 empty (chosen (has set) (λ n. decimal n) (drop place numbers)) ≡ all → done ++ ending 44 b [] ≡ all
-signals_end set place empty b done all h is whole =
-    let none : drop place numbers ≡ [] = drop_all place numbers h in
-    ap (λ x. done ++ ending 44 x []) (sym is) ∙ ap (λ ns. done ++ ending 44 empty (chosen (has set) (λ n. decimal n) ns)) (sym none) ∙ whole
 
 -- the text before what was decided
 abbrev pub handled_front : ℕ → StatusKind → StopView → Option ℕ → List ℕ → List ℕ

@@ -1,4 +1,6 @@
 pub mod FieldLemmas
+pub mod BindLemmas
+pub mod RuleLemmas
 pub mod StepLemmas
 pub mod Answering
 pub mod Joins

@@ -14,3 +14,4 @@ fault_status f = 1
 abbrev pub run_fault_status : RunFault → ℕ
 run_fault_status run_fault.Memory = 3
 run_fault_status run_fault.Write = 3
+run_fault_status run_fault.Mismatch = 3

@@ -35,8 +35,15 @@ abbrev pub within : ℕ → ℕ → Flaw → ℤ → Result ℕ Flaw
 within low high flaw (pos n) = if nat_lt n low then Err flaw else (if nat_lt high n then Err flaw else Ok n)
 within low high flaw (negsuc n) = Err flaw
 
+abbrev pub number_within : ℕ → ℕ → Data → Result ℕ Flaw
+number_within low high d = integer_of d >>= within low high Number
+
+-- a number of 32 bits
+abbrev pub word_of : Data → Result ℕ Flaw
+word_of d = number_within 0 4294967295 d
+
 abbrev pub word_at : List ℕ → Data → Result ℕ Flaw
-word_at key d = integer_at key d >>= within 0 4294967295 Number
+word_at key d = member_at key d >>= word_of
 
 abbrev pub array_at : List ℕ → Data → Result Items Flaw
 array_at key d = member_at key d >>= (λ v. ok_or (as_array v) Shape)
@@ -68,11 +75,15 @@ each f (item d ds) = do
   xs ← each f ds
   Ok (x ∷ xs)
 
+abbrev pub text_of : Data → Result (List ℕ) Flaw
+text_of d = ok_or (as_str d) Shape
+
+abbrev pub text_at : List ℕ → Data → Result (List ℕ) Flaw
+text_at key d = member_at key d >>= text_of
+
 -- a name of a table
 abbrev pub name_in : {X : Type 0} → (List ℕ → Option X) → Data → Result X Flaw
-name_in table d = do
-  text ← ok_or (as_str d) Shape
-  ok_or (table text) Name
+name_in table d = text_of d >>= (λ text. ok_or (table text) Name)
 
 abbrev pub name_at : {X : Type 0} → List ℕ → (List ℕ → Option X) → Data → Result X Flaw
 name_at key table d = member_at key d >>= name_in table

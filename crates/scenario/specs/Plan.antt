@@ -1,7 +1,10 @@
 -- What a scenario is.
-use Rattle.std.specs.Prelude.{ℕ, List}
+use Rattle.std.specs.Prelude.{ℕ, List, [], ◌∷◌}
+use Rattle.stop_handlers.specs.declared.Rule.{Rule}
 use Rattle.trace_stop.specs.declared.Settings.{Settings}
-use Rattle.requests.specs.declared.host.Step.{Step}
+use Rattle.requests.specs.declared.step.Step.{Step}
+use Rattle.requests.specs.declared.PlainStep.{PlainStep}
+use Rattle.requests.specs.declared.PlainStep.TheVariants.{Install}
 use Rattle.requests.specs.Plain.{plain}
 use Rattle.requests.specs.Run.{Asked}
 
@@ -13,5 +16,18 @@ pub record Plan : Type 0 where
 abbrev pub most_steps : ℕ
 most_steps = 100000
 
-abbrev pub asked : ℕ × Step → Asked
-asked s = record { uid = s.0; step = plain s.1 }
+abbrev pub asked : ℕ × PlainStep → Asked
+asked s = record { uid = s.0; step = s.1 }
+
+-- a step with a handler in place of its policy
+abbrev pub bound : {F : Type 0} → ℕ × Step F → Asked
+bound s = record { uid = s.0; step = plain s.1 }
+
+-- the policies of the installs, in order
+abbrev pub policy_before : PlainStep → List (List Rule) → List (List Rule)
+policy_before (Install caller policy) others = policy ∷ others
+policy_before s others = others
+
+abbrev pub policies_in : List Asked → List (List Rule)
+policies_in [] = []
+policies_in (a ∷ rest) = policy_before a.step (policies_in rest)

@@ -5,7 +5,7 @@ use Rattle.requests.specs.declared.Reply.{Reply}
 use Rattle.requests.specs.Machine.{empty}
 use Rattle.requests.specs.Run.{Asked, replies}
 use Rattle.scenario.specs.declared.running.RunFault.{RunFault}
-use Rattle.scenario.specs.declared.running.RunFault.TheVariants.{Memory, Write}
+use Rattle.scenario.specs.declared.running.RunFault.TheVariants.{Mismatch, Memory, Write}
 use Rattle.scenario.specs.Lines.{Answered, text, text_of, lines, lines_of}
 use Rattle.scenario.specs.Plan.{Plan}
 
@@ -31,3 +31,4 @@ abbrev pub Writes : Result ⊤ RunFault → Option (List ℕ) → Option (List �
 Writes (Ok done) old new text = Appends old new text
 Writes (Err Write) old new text = (n : ℕ) × Appends old new (take n text)
 Writes (Err Memory) old new text = Keeps old new
+Writes (Err Mismatch) old new text = Keeps old new

@@ -86,6 +86,12 @@ Yields view (Ok x) r = r ≡ Ok (view x)
 Yields view (Err Memory) r = ⊤
 Yields view (Err e) r = r ≡ Err e
 
+-- what was read stands behind the items, unless memory ran out
+abbrev pub Pushes : {V X : Type 0} → (V → List X) → V → V → Result ⊤ Fault → Result X Fault → Type 0
+Pushes items old new (Ok done) r = r >>= (λ x. Ok (items old ++ (x ∷ []))) ≡ Ok (items new)
+Pushes items old new (Err Memory) r = ⊤
+Pushes items old new (Err e) r = r ≡ Err e
+
 -- it stands in the relation, unless memory ran out
 abbrev pub Answers : Result Plan Fault → (Result Plan Fault → Type 0) → Type 0
 Answers (Ok s) P = P (Ok s)

@@ -2,7 +2,8 @@
 use Rattle.std.specs.Prelude.{ℕ, List, [], ◌∷◌, ◌++◌, codes, decimal}
 use Rattle.std.specs.Borrow.{Bor}
 use Rattle.stop_handlers.specs.declared.StopView.{StopView}
-use Rattle.scenario.specs.Words.{flags_word, signal_text}
+use Rattle.signals.specs.Sets.{set_text}
+use Rattle.scenario.specs.Words.{flags_word}
 use Rattle.lwpinfo.specs.declared.LwpInfo.{LwpInfo}
 
 -- a name with its bit
@@ -18,5 +19,5 @@ view_words view =
 -- what is told of an LWP behind its flags
 abbrev pub rest_words : LwpInfo → List (List ℕ)
 rest_words i =
-    (codes "mask=" ++ signal_text i.sigmask) ∷ (codes "pending=" ++ signal_text i.siglist)
+    (codes "mask=" ++ set_text i.sigmask) ∷ (codes "pending=" ++ set_text i.siglist)
     ∷ (codes "child=" ++ decimal i.child) ∷ (codes "code=" ++ decimal i.code) ∷ []

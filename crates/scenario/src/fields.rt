@@ -3,7 +3,7 @@ ghost use Rattle.std.specs.Prelude.{◌≡◌, map};
 ghost use Rattle.std.specs.List.{list_any};
 ghost use Rattle.std.specs.Str.{bytes_eq};
 ghost use Rattle.serde_json.specs.View.{view};
-ghost use Rattle.scenario.specs.Fields.{member_at, integer_at, word_at, has_only, only, object_of, Gives};
+ghost use Rattle.scenario.specs.Fields.{member_at, integer_of, integer_at, number_within, word_of, word_at, text_of, text_at, has_only, only, object_of, Gives};
 
 use serde_json::Value;
 
@@ -24,21 +24,55 @@ pub(crate) fn member<'a>(object: &'a Value, key: &str) -> Result<&'a Value, Flaw
 }
 
 /// A whole number that fits i64.
+fn integer_of(value: &Value) -> Result<i64, Flaw>
+    ensures { result ≡ integer_of (view value.now) }
+{
+    value.as_i64().ok_or(Flaw::Shape)
+}
+
 pub(crate) fn integer(object: &Value, key: &str) -> Result<i64, Flaw>
     ensures { result ≡ integer_at key.now (view object.now) }
 {
-    member(object, key)?.as_i64().ok_or(Flaw::Shape)
+    integer_of(member(object, key)?)
+}
+
+/// A whole number from the least to the greatest.
+pub(crate) fn number_within(value: &Value, least: u32, greatest: u32) -> Result<u32, Flaw>
+    ensures { result ≡ number_within least greatest (view value.now) }
+{
+    let number = integer_of(value)?;
+    if i64::from(least) <= number && number <= i64::from(greatest) {
+        Ok(number as u32)
+    } else {
+        Err(Flaw::Number)
+    }
+}
+
+/// A whole number of 32 bits.
+pub(crate) fn word_of(value: &Value) -> Result<u32, Flaw>
+    ensures { result ≡ word_of (view value.now) }
+{
+    number_within(value, 0, u32::MAX)
 }
 
 pub(crate) fn word(object: &Value, key: &str) -> Result<u32, Flaw>
     ensures { result ≡ word_at key.now (view object.now) }
 {
-    let number = integer(object, key)?;
-    if 0 <= number && number <= 4294967295 {
-        Ok(number as u32)
-    } else {
-        Err(Flaw::Number)
-    }
+    word_of(member(object, key)?)
+}
+
+/// The text at a key.
+pub(crate) fn text<'a>(object: &'a Value, key: &str) -> Result<&'a str, Flaw>
+    ensures { Gives (λ t. t.now) result (text_at key.now (view object.now)) }
+{
+    text_of(member(object, key)?)
+}
+
+/// The value is a text.
+pub(crate) fn text_of(value: &Value) -> Result<&str, Flaw>
+    ensures { Gives (λ t. t.now) result (text_of (view value.now)) }
+{
+    value.as_str().ok_or(Flaw::Shape)
 }
 
 fn is_among(key: &str, keys: &[&str]) -> bool

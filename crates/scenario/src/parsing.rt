@@ -1,18 +1,19 @@
 //! Bytes to a scenario.
-ghost use Rattle.std.specs.Prelude.{List, ℕ, Result, ◌≡◌, ◌≢◌, ◌≤◌, length, map, IfOk, IfErr, codes, pos};
+ghost use Rattle.std.specs.Prelude.{List, ℕ, Result, Ok, ◌≡◌, ◌≢◌, ◌≤◌, length, map, IfOk, IfErr, codes, pos};
 ghost use Rattle.serde_json.specs.View.{view, items_view};
 ghost use Rattle.scenario.specs.Fields.{Gives, integer_of, optional_at};
 ghost use Rattle.scenario.specs.Plan.{Plan, most_steps, asked};
 ghost use Rattle.scenario.specs.declared.fault.Fault.{Fault};
 ghost use Rattle.scenario.specs.declared.fault.Fault.TheVariants.{Read as ReadFault};
-ghost use Rattle.scenario.specs.Scenarios.{at_step, settings_of, steps_from, head_of, plan_of, bounded, StandsFor, Yields, Answers};
+ghost use Rattle.scenario.specs.Steps.{step_of};
+ghost use Rattle.scenario.specs.Scenarios.{at_step, numbered, settings_of, steps_from, head_of, plan_of, bounded, StandsFor, Yields, Pushes, Answers};
 
 use crate::fault::Fault;
 use crate::fields::{Flaw, member, object_of, only};
 use crate::plan::Scenario;
 use crate::steps::step_of;
 use pid_blocks::Uid;
-use requests::Step;
+use requests::PlainStep;
 use serde_json::Value;
 use std::alloc::Global;
 use trace_stop::Settings;
@@ -31,7 +32,26 @@ impl Flaw {
     }
 }
 
-fn steps_of(alloc: Global, items: &[Value]) -> Result<Vec<(Uid, Step)>, Fault>
+fn push<T: Drop>(items: &mut Vec<T>, item: T) -> Result<(), Fault>
+    ensures { Pushes (λ v. v.items) items.old items.new result (Ok item) }
+{
+    items.push(item)?;
+    Ok(())
+}
+
+/// Adds the step that a value is, or names its first flaw as the fault of the step with this number.
+fn push_step(steps: &mut Vec<(Uid, PlainStep)>, value: &Value, number: u32) -> Result<(), Fault>
+    ensures pushes { Pushes (λ v. map asked v.items) steps.old steps.new result
+        (numbered number (step_of (view value.now))) }
+    ensures no_read { IfErr result (λ e. e ≢ ReadFault) }
+{
+    match step_of(value) {
+        Ok((user, step)) => push(steps, (user, step)),
+        Err(flaw) => Err(flaw.at(number)),
+    }
+}
+
+fn steps_of(alloc: Global, items: &[Value]) -> Result<Vec<(Uid, PlainStep)>, Fault>
     requires { length items.now ≤ most_steps }
     ensures yields { Yields (λ v. map asked v.items) result (steps_from 1 (items_view items.now)) }
     ensures bound { IfOk result (λ v. length v.items ≤ most_steps) }
@@ -39,9 +59,7 @@ fn steps_of(alloc: Global, items: &[Value]) -> Result<Vec<(Uid, Step)>, Fault>
 {
     let mut steps = Vec::new(alloc);
     for (i, item) in items.iter().enumerate() {
-        let number = i as u32 + 1;
-        let step = step_of(item).map_err(|flaw| flaw.at(number))?;
-        steps.push(step)?;
+        push_step(&mut steps, item, i as u32 + 1)?;
     }
     Ok(steps)
 }
@@ -78,7 +96,7 @@ fn head_of(value: &Value) -> Result<(&Vec<Value>, Settings), Flaw>
 }
 
 #[tactic(auto, using(crate::proofs::StepLemmas::many_steps, crate::proofs::StepLemmas::few_steps))]
-fn bounded_steps(alloc: Global, items: &[Value]) -> Result<Vec<(Uid, Step)>, Fault>
+fn bounded_steps(alloc: Global, items: &[Value]) -> Result<Vec<(Uid, PlainStep)>, Fault>
     ensures yields { Yields (λ v. map asked v.items) result
         (bounded (items_view items.now) (steps_from 1 (items_view items.now))) }
     ensures bound { IfOk result (λ v. length v.items ≤ most_steps) }

@@ -1,5 +1,5 @@
 use pid_blocks::Uid;
-use requests::Step;
+use requests::PlainStep;
 use std::marker::Model;
 use trace_stop::Settings;
 
@@ -7,7 +7,7 @@ use trace_stop::Settings;
 #[derive(Drop)]
 pub struct Scenario {
     settings: Settings,
-    steps: Vec<(Uid, Step)>,
+    steps: Vec<(Uid, PlainStep)>,
 }
 
 impl Model for Scenario {
@@ -26,7 +26,7 @@ impl Scenario {
     ghost use Rattle.scenario.specs.Plan.{Plan, most_steps, asked};
 
     /// The scenario of these steps, of which there are at most 100000.
-    pub fn new(settings: Settings, steps: Vec<(Uid, Step)>) -> Scenario
+    pub fn new(settings: Settings, steps: Vec<(Uid, PlainStep)>) -> Scenario
         requires { length steps.items ≤ most_steps }
         ensures { result ≡ record { settings = settings; steps = map asked steps.items } }
     {
@@ -41,7 +41,7 @@ impl Scenario {
     }
 
     /// The steps in order, each with its user.
-    pub fn steps(&self) -> &[(Uid, Step)]
+    pub fn steps(&self) -> &[(Uid, PlainStep)]
         ensures steps { map asked result.now ≡ self.now.steps }
         ensures bound { length result.now ≤ most_steps }
     {

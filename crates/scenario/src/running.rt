@@ -1,19 +1,22 @@
 //! Runs a scenario, and writes its lines.
-ghost use Rattle.std.specs.Prelude.{◌≡◌, ◌↔◌, ℕ, map, IsTrue, IfOk, IfErr};
+ghost use Rattle.std.specs.Prelude.{◌≡◌, ◌≢◌, ◌⊎◌, ◌↔◌, ℕ, IsErrOf, map, IsTrue, IfOk, IfErr};
 ghost use Rattle.pid_blocks.specs.declared.Errno.TheVariants as errno;
 ghost use Rattle.requests.specs.declared.Reply.TheVariants as replies;
-ghost use Rattle.scenario.specs.Lines.{text};
-ghost use Rattle.scenario.specs.Runs.{answered, answers_of, Writes};
+ghost use Rattle.scenario.specs.Plan.{bound, policies_in};
+ghost use Rattle.scenario.specs.Runs.{answered, answers_of, shown, Writes};
 ghost use Rattle.scenario.specs.Faults.{run_fault_status};
-ghost use Rattle.scenario.specs.declared.running.RunFault.TheVariants.{Memory, Write as WriteFault};
+ghost use Rattle.scenario.specs.declared.running.RunFault.TheVariants.{Mismatch, Memory, Write as WriteFault};
 
+use crate::binding::bind;
 use crate::lines::render;
 use crate::plan::Scenario;
 use pid_blocks::{Errno, Uid};
-use requests::{Host, Reply};
+use requests::{Host, Reply, Step};
 use std::alloc::{AllocError, AllocFailed, Global};
 use std::io::Write;
+use stop_handlers::{Decider, Handler};
 use thiserror::Error;
+use trace_stop::Settings;
 
 /// Why a run came to no end.
 #[derive(Clone, Copy, Debug, PartialEq, Eq, Error)]
@@ -24,6 +27,9 @@ pub enum RunFault {
     /// The writer failed, or took no byte. What it took before is a front of the text.
     #[error("tracehost: cannot write")]
     Write,
+    /// The handlers are not those of the scenario's policies, one for each in order. Nothing was written.
+    #[error("tracehost: handlers do not match")]
+    Mismatch,
 }
 
 impl RunFault {
@@ -32,7 +38,7 @@ impl RunFault {
         ensures { result ≡ run_fault_status self.now }
     {
         match self {
-            RunFault::Memory | RunFault::Write => 3,
+            RunFault::Memory | RunFault::Write | RunFault::Mismatch => 3,
         }
     }
 }
@@ -61,18 +67,23 @@ fn is_refused_memory(reply: &Reply) -> bool
 }
 
 /// The replies to the steps, made one after another by a new host. A step that is answered ENOMEM ends the run.
-fn replies_of(alloc: Global, scenario: &Scenario) -> Result<Vec<(Uid, Reply)>, RunFault>
-    ensures ok { IfOk result (λ v. map answered v.items ≡ answers_of scenario.now) }
+fn replies_of<F: Decider + Send + Drop>(
+    alloc: Global,
+    settings: Settings,
+    steps: Vec<(Uid, Step<F>)>,
+) -> Result<Vec<(Uid, Reply)>, RunFault>
+    ensures ok { IfOk result (λ v. map answered v.items
+        ≡ answers_of (record { settings = settings; steps = map bound steps.items })) }
     ensures err { IfErr result (λ e. e ≡ Memory) }
 {
     let mut replies = Vec::new(alloc);
-    let mut host = Host::new(alloc, scenario.settings())?;
-    for step in scenario.steps() {
-        let reply = host.step(alloc, step.0, step.1);
+    let mut host = Host::new(alloc, settings)?;
+    for (user, step) in steps {
+        let reply = host.step(alloc, user, step);
         if is_refused_memory(&reply) {
             return Err(RunFault::Memory);
         }
-        replies.push((step.0, reply))?;
+        replies.push((user, reply))?;
     }
     Ok(replies)
 }
@@ -93,16 +104,34 @@ fn write_whole<W: Write>(writer: &mut W, bytes: &[u8]) -> Result<(), RunFault>
     Ok(())
 }
 
-/// Makes the steps of the scenario one after another on a new host, and then writes the lines of the replies.
+/// What is shown of a run.
+#[derive(Clone, Copy, Debug, PartialEq, Eq, Drop)]
+pub struct RunOptions {
+    /// The user whose lines alone are shown. The numbers of the lines stay.
+    pub user: Option<Uid>,
+}
+
+/// Makes the steps of the scenario one after another on a new host, with a handler for each policy that is installed, and then
+/// writes the lines of the replies.
 ///
 /// # Errors
 ///
-/// `Memory` where no memory was left, for a step too: then nothing was written. `Write` where the writer failed or took no
-/// byte: then it has a front of the text.
-pub fn run<W: Write>(alloc: Global, scenario: &Scenario, writer: &mut W) -> Result<(), RunFault>
-    ensures { Writes result (W.contents writer.old) (W.contents writer.new) (text (answers_of scenario.now)) }
+/// `Mismatch` where the handlers' policies aren't those of the scenario in their order; `Memory` where no memory was left, for
+/// a step too: then nothing was written. `Write` where the writer failed or took no byte: then it has a front of the text.
+pub fn run<F: Decider + Send + Drop, W: Write>(
+    alloc: Global,
+    scenario: &Scenario,
+    handlers: Vec<Handler<F>>,
+    options: RunOptions,
+    writer: &mut W,
+) -> Result<(), RunFault>
+    ensures writes { Writes result (W.contents writer.old) (W.contents writer.new)
+        (shown options.user (answers_of scenario.now)) }
+    ensures mismatch { IsErrOf result Mismatch → handlers.items ≢ policies_in scenario.now.steps }
+    ensures others { handlers.items ≢ policies_in scenario.now.steps → (IsErrOf result Mismatch) ⊎ (IsErrOf result Memory) }
 {
-    let replies = replies_of(alloc, scenario)?;
-    let text = render(alloc, replies.as_slice(), None)?;
+    let steps = bind(alloc, scenario, handlers)?;
+    let replies = replies_of(alloc, scenario.settings(), steps)?;
+    let text = render(alloc, replies.as_slice(), options.user)?;
     write_whole(writer, text.as_bytes())
 }

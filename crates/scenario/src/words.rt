@@ -1,14 +1,13 @@
 //! The words of replies.
 ghost use Rattle.std.specs.Prelude.{◌≡◌, ◌∷◌, Some, map, decimal};
 ghost use Rattle.std.specs.List.{join_with_byte};
-ghost use Rattle.scenario.specs.Words.{stop_flag_names, event_names, errno_text, event_text, index_text, flag_text, signal_text, decision_words, reply_words};
+ghost use Rattle.event_masks.specs.Names.{event_table, stop_table, flag_text};
+ghost use Rattle.scenario.specs.Words.{event_text, index_text, decision_words, reply_words};
 ghost use Rattle.scenario.specs.Texts.{named_bit, view_words, rest_words};
 
 use event_masks::{EventMask, StopFlags};
 use lwpinfo::{Event, LwpInfo, NumList};
-use pid_blocks::Errno;
 use requests::Reply;
-use signals::{SigSet, Signal};
 use std::fmt;
 use stop_handlers::{Decision, StopView};
 
@@ -34,20 +33,6 @@ const EVENTS: [(&str, u32); 6] = [
     ("PTRACE_LWP", 16),
     ("PTRACE_VFORK", 32),
 ];
-
-fn errno_name<'a>(errno: Errno) -> &'a str
-    ensures { result.now ≡ errno_text errno }
-{
-    match errno {
-        Errno::EPERM => "EPERM",
-        Errno::ESRCH => "ESRCH",
-        Errno::ECHILD => "ECHILD",
-        Errno::ENOMEM => "ENOMEM",
-        Errno::EBUSY => "EBUSY",
-        Errno::EINVAL => "EINVAL",
-        Errno::EAGAIN => "EAGAIN",
-    }
-}
 
 fn event_name<'a>(event: Event) -> &'a str
     ensures { result.now ≡ event_text event }
@@ -81,36 +66,6 @@ impl fmt::Display for Flags<'_> {
                 continue;
             }
             write!(f, "+{name}")?;
-        }
-        if empty {
-            return write!(f, "none");
-        }
-        Ok(())
-    }
-}
-
-/// The numbers of a set of signals, rising, joined by `,`, or `none`.
-#[derive(Clone, Copy, Drop)]
-struct Signals(SigSet);
-
-impl fmt::Display for Signals {
-    ghost output = { λ s. Some (signal_text s.0) };
-
-    fn fmt<W: fmt::Write>(&self, f: &mut fmt::Formatter<W>) -> fmt::Result {
-        let set = self.0;
-        let mut empty = true;
-        for place in 0..31u32 {
-            let number = place + 1;
-            let signal = Signal::new(number).map_err(|_| fmt::Error)?;
-            if !set.contains(signal) {
-                continue;
-            }
-            if empty {
-                write!(f, "{number}")?;
-                empty = false;
-                continue;
-            }
-            write!(f, ",{number}")?;
         }
         if empty {
             return write!(f, "none");
@@ -180,7 +135,7 @@ impl fmt::Display for Doing {
 
 /// The flags of a stop.
 fn stop_flags<'a>(flags: StopFlags) -> Flags<'a>
-    ensures { flag_text (map named_bit result.names.now) result.bits ≡ flag_text stop_flag_names flags.0 }
+    ensures { flag_text (map named_bit result.names.now) result.bits ≡ flag_text stop_table flags.0 }
 {
     Flags {
         bits: flags.0,
@@ -190,7 +145,7 @@ fn stop_flags<'a>(flags: StopFlags) -> Flags<'a>
 
 /// The flags of an event mask.
 fn events<'a>(mask: EventMask) -> Flags<'a>
-    ensures { flag_text (map named_bit result.names.now) result.bits ≡ flag_text event_names mask.0 }
+    ensures { flag_text (map named_bit result.names.now) result.bits ≡ flag_text event_table mask.0 }
 {
     Flags {
         bits: mask.0,
@@ -226,8 +181,8 @@ impl fmt::Display for Rest<'_> {
     ghost output = { λ i. Some (join_with_byte 32 (rest_words i.0.now)) };
 
     fn fmt<W: fmt::Write>(&self, f: &mut fmt::Formatter<W>) -> fmt::Result {
-        let mask = Signals(self.0.sigmask);
-        let pending = Signals(self.0.siglist);
+        let mask = self.0.sigmask;
+        let pending = self.0.siglist;
         let child = self.0.child;
         let code = self.0.code;
         write!(f, "mask={mask} pending={pending} child={child} code={code}")
@@ -308,9 +263,8 @@ impl fmt::Display for Words<'_> {
             Reply::Ended(status) => write!(f, "ended {status}"),
             Reply::Held => write!(f, "held"),
             Reply::Errno(errno) => {
-                let name = errno_name(*errno);
                 let number = errno.number();
-                write!(f, "error {name} {number}")
+                write!(f, "error {errno} {number}")
             }
         }
     }

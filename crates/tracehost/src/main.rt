@@ -1,13 +1,16 @@
 //! `tracehost [FILE]`: runs the scenario of a file or of standard input, and writes its lines to standard output.
 #![tactic(auto)]
 
+ghost use Rattle.stop_handlers.specs.Handlers.{MakesObeying};
+
 use clap::error::ErrorKind;
 use clap::{Arg, Command};
-use scenario::{Fault, RunFault, Scenario, read, run};
+use scenario::{Fault, RunFault, RunOptions, Scenario, handlers_of, policies, read, run};
 use std::alloc::{AllocError, Global};
 use std::process::ExitCode;
 use std::rt::{Env, Files};
 use std::{env, fs, io};
+use stop_handlers::{ByClosure, Decider, Policy, StopView};
 
 /// Why the program ends with another status than 0.
 #[derive(Drop)]
@@ -82,12 +85,29 @@ fn scenario_of<R: Files + Input + AllocGlobal>(
     }
 }
 
-/// Reads the command line, then the scenario, and then runs it. The first trouble ends it.
-fn go<R: Files + Input + Print + Eprint + Env + AllocGlobal>(rt: &R) -> Result<(), Trouble> {
+/// Reads the command line, then the scenario, and then runs it with a handler for each of its policies. The first trouble ends
+/// it.
+fn go<
+    R: Files + Input + Print + Eprint + Env + AllocGlobal,
+    F: Decider + Send + Drop,
+    M: Fn(Policy) -> F,
+>(rt: &R, make: M) -> Result<(), Trouble>
+    requires callable { M.IsAlwaysCallable make }
+    requires obeys { MakesObeying F.can_ask F.gives (M.post make) }
+{
     let words: Vec<String> = env::args(rt)?.collect(rt.alloc())?;
     let file = file_of(rt.alloc(), words.as_slice())?;
     let scenario = scenario_of(rt, file)?;
-    run(rt.alloc(), &scenario, &mut io::writer(rt))?;
+    let policies = policies(rt.alloc(), &scenario)?;
+    let handlers = handlers_of(rt.alloc(), policies.as_slice(), make)?;
+    let options = RunOptions { user: None };
+    run(
+        rt.alloc(),
+        &scenario,
+        handlers,
+        options,
+        &mut io::writer(rt),
+    )?;
     Ok(())
 }
 
@@ -114,7 +134,10 @@ fn told(rt: &impl Eprint, trouble: &Trouble) -> u8 {
 }
 
 fn main(rt: HostRuntime) -> ExitCode {
-    match go(&rt) {
+    match go(
+        &rt,
+        |policy: Policy| ByClosure(move |view: &StopView| policy.decide(view)),
+    ) {
         Ok(()) => ExitCode::SUCCESS,
         Err(trouble) => ExitCode::from(told(&rt, &trouble)),
     }

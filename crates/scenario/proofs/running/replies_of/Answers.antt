@@ -1,31 +1,32 @@
-use Rattle.std.proofs.Common.{◌≡◌, ◌+◌, ◌++◌, ◌∷◌, [], get_or, map, drop, ap, sym, ◌∙◌}
-use Rattle.scenario.specs.Plan.{asked}
+use Rattle.std.proofs.Common.{◌≡◌, ◌++◌, ◌∷◌, [], map, ap, sym, ◌∙◌, rules}
+use Rattle.std.proofs.lemmas.List.{nil_from_length}
+use Rattle.std.specs.Vec.Iter.{into_iter_items}
+use Rattle.scenario.specs.Plan.{bound}
 use Rattle.scenario.specs.declared.running.RunFault.TheVariants.{Memory}
 use Rattle.scenario.specs.Runs.{answered}
 use Rattle.scenario.proofs.RunLemmas.{fault_with, none_made, one_more, all_made, answers_from}
 use Rattle.scenario.proofs.running.replies_of.Goals as goal
 
-pub loop-step-init : goal.loop-step-init
-loop-step-init c =
-    none_made c.steps-step-items.result.now c.args.scenario.now c.in_ok-host.host c.settings.result c.new-replies.result.items
-    c.new-replies.ensures.items c.steps-step-items.ensures.steps c.in_ok-host.ensures c.settings.ensures
+pub loop-user-init : goal.loop-user-init
+loop-user-init g c =
+    ap (λ ss. map answered c.new-replies.result.items ++ answers_from (map bound ss) c.in_ok-host.host) (search rules)
+    ∙ none_made c.args.steps.items c.in_ok-host.host c.args.settings c.new-replies.result.items c.new-replies.ensures.items c.in_ok-host.ensures
 
-pub loop-step-preserved : goal.loop-step-preserved
-loop-step-preserved c =
-    let ss = c.steps-step-items.result.now in
-    let i = c.loop-step.step-index in
-    let s = c.step-item.result in
-    let here : get_or ss i s ≡ s = sym c.step-item.is in
+pub loop-user-preserved : goal.loop-user-preserved
+loop-user-preserved g c =
+    let rest = into_iter_items c.next.new.self in
+    let next : into_iter_items c.loop-user.user-iterator ≡ (c.in-Some.user, c.in-Some.step) ∷ rest = search rules in
     let known = c.is_refused_memory.ensures in
     let test = c.if-is_refused_memory.false in
     let made = c.step-reply.ensures.machine (λ e. let yes = known.1 e in (cc)) in
-    let pushed : c.push.new.self.items ≡ c.loop-step.replies.items ++ (s.0, c.step-reply.result) ∷ [] = c.in_ok-push.ensures.items in
-    ap (λ items. map answered items ++ answers_from (map asked (drop (i + 1) ss)) c.step-reply.new.self) pushed
-    ∙ one_more ss i s c.loop-step.host c.step-reply.new.self c.step-reply.result c.loop-step.replies.items _ c.loop-step-test.true here made.0 made.1 c.loop-step.invariant
+    let pushed : c.push.new.self.items ≡ c.loop-user.replies.items ++ (c.in-Some.user, c.step-reply.result) ∷ [] = c.in_ok-push.ensures.items in
+    ap (λ items. map answered items ++ answers_from (map bound rest) c.step-reply.new.self) pushed
+    ∙ one_more (c.in-Some.user, c.in-Some.step) rest c.loop-user.host c.step-reply.new.self c.step-reply.result c.loop-user.replies.items _ made.0 made.1
+    (ap (λ ss. map answered c.loop-user.replies.items ++ answers_from (map bound ss) c.loop-user.host) (sym next) ∙ c.loop-user.invariant)
 
 pub returns-clause-ok : goal.returns-clause-ok
-returns-clause-ok c =
-    all_made c.steps-step-items.result.now c.loop-step.step-index c.loop-step.host c.loop-step.replies.items _ c.loop-step-test.false c.loop-step.invariant
+returns-clause-ok g c =
+    all_made (into_iter_items c.loop-user.user-iterator) c.loop-user.host c.loop-user.replies.items _ (nil_from_length _ (sym c.loop-user.user-iterator.rest.ok.0 ∙ c.in-None.ensures.steps.0)) c.loop-user.invariant
 
 pub returns-in_err-push-clause-err : goal.returns-in_err-push-clause-err
-returns-in_err-push-clause-err c = fault_with (λ e. e ≡ Memory) c.from_residual-in_err-push.result c.from_residual-in_err-push.ensures.1
+returns-in_err-push-clause-err g c = fault_with (λ e. e ≡ Memory) c.from_residual-in_err-push.result c.from_residual-in_err-push.ensures.1

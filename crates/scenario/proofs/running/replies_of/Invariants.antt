@@ -1,9 +1,11 @@
-use Rattle.std.proofs.Common.{◌≡◌, ◌++◌, map, drop}
-use Rattle.scenario.specs.Plan.{asked}
+use Rattle.std.proofs.Common.{◌≡◌, ◌++◌, map}
+use Rattle.std.specs.Vec.Iter.{into_iter_items}
+use Rattle.scenario.specs.Plan.{bound}
 use Rattle.scenario.specs.Runs.{answered, answers_of}
 use Rattle.scenario.proofs.RunLemmas.{answers_from}
 use Rattle.scenario.proofs.running.replies_of.Given as goal
 
-abbrev pub invariant-loop-step : goal.invariant-loop-step
-invariant-loop-step l =
-    map answered l.replies.items ++ answers_from (map asked (drop l.step-index l.step-items)) l.host ≡ answers_of l.scenario
+abbrev pub invariant-loop-user : goal.invariant-loop-user
+invariant-loop-user g l =
+    map answered l.replies.items ++ answers_from (map bound (into_iter_items l.user-iterator)) l.host
+    ≡ answers_of (record { settings = l.fn.settings; steps = map bound l.fn.steps.items })

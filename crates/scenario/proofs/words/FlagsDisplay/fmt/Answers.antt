@@ -2,7 +2,7 @@ use Rattle.std.proofs.Common.{rules, arith, ◌≡◌, ◌==◌, ◌++◌, [], �
 use Rattle.std.specs.Int.RustNames.{bit_and}
 use Rattle.std.proofs.lemmas.Bool.Decides.{nat_tests}
 use Rattle.std.proofs.lemmas.Grind.{put_two}
-use Rattle.scenario.specs.Words.{joined}
+use Rattle.event_masks.specs.Names.{joined}
 use Rattle.scenario.proofs.Joins.{separator, passed_over, one_written, flag_names}
 use Rattle.scenario.proofs.words.FlagsDisplay.fmt.Goals as goal
 

@@ -1,7 +1,7 @@
 use Rattle.std.proofs.Common.{◌≡◌, ◌==◌, ◌++◌, ℕ, List, map, drop}
 use Rattle.std.specs.Fmt.{HasWritten, IsPlainFormatter}
 use Rattle.std.specs.Int.RustNames.{bit_and}
-use Rattle.scenario.specs.Words.{flag_text}
+use Rattle.event_masks.specs.Names.{flag_text}
 use Rattle.scenario.specs.Texts.{named_bit}
 use Rattle.scenario.proofs.Joins.{ending, chosen}
 use Rattle.scenario.proofs.words.FlagsDisplay.fmt.Given as goal
