@@ -15,7 +15,7 @@ loop-user-init g c =
 pub loop-user-preserved : goal.loop-user-preserved
 loop-user-preserved g c =
     let rest = into_iter_items c.next.new.self in
-    let next : into_iter_items c.loop-user.user-iterator ≡ (c.in-Some.user, c.in-Some.step) ∷ rest = search rules in
+    let next : into_iter_items c.loop-user.user-iterator ≡ (c.in-Some.user, c.in-Some.step) ∷ rest = c.in-Some.ensures.steps.0 in
     let known = c.is_refused_memory.ensures in
     let test = c.if-is_refused_memory.false in
     let made = c.step-reply.ensures.machine (λ e. let yes = known.1 e in (cc)) in
