@@ -1,10 +1,12 @@
-//! `tracehost [FILE]`: runs the scenario of a file or of standard input, and writes its lines to standard output.
+//! `tracehost [FILE] [--user UID]`: runs the scenario of a file or of standard input, and writes its lines, or those of one user alone, to
+//! standard output.
 #![tactic(auto)]
 
 ghost use Rattle.stop_handlers.specs.Handlers.{MakesObeying};
 
 use clap::error::ErrorKind;
-use clap::{Arg, Command};
+use clap::{Arg, ArgAction, Command};
+use pid_blocks::Uid;
 use scenario::{Fault, RunFault, RunOptions, Scenario, handlers_of, policies, read, run};
 use std::alloc::{AllocError, Global};
 use std::process::ExitCode;
@@ -63,12 +65,32 @@ impl From<RunFault> for Trouble {
     }
 }
 
-/// The file that the command line names, if it names one.
-fn file_of(alloc: Global, words: &[String]) -> Result<Option<&str>, Trouble> {
+/// What the command line asks for.
+#[derive(Drop)]
+struct Asked<'a> {
+    /// The file of the scenario; none for standard input.
+    file: Option<&'a str>,
+    /// The user whose lines alone are shown.
+    user: Option<Uid>,
+}
+
+/// What the command line asks for.
+fn asked_of(alloc: Global, words: &[String]) -> Result<Asked<'_>, Trouble> {
     let file = Arg::new(alloc, "FILE");
-    let command = Command::new(alloc, "tracehost").arg(file)?;
+    let user = Arg::new(alloc, "UID")
+        .long("user")
+        .action(ArgAction::Set)
+        .value_parser(clap::value_parser!(u32).range(1001..=1064));
+    let command = Command::new(alloc, "tracehost").arg(file)?.arg(user)?;
     let matches = command.try_get_matches_from(words)?;
-    Ok(matches.get_str("FILE"))
+    let user = match matches.get_one::<u32>("UID") {
+        Some(number) => Uid::new(number).ok(),
+        None => None,
+    };
+    Ok(Asked {
+        file: matches.get_str("FILE"),
+        user,
+    })
 }
 
 /// The scenario of the file, or of standard input.
@@ -96,11 +118,11 @@ fn go<
     requires obeys { MakesObeying F.can_ask F.gives (M.post make) }
 {
     let words: Vec<String> = env::args(rt)?.collect(rt.alloc())?;
-    let file = file_of(rt.alloc(), words.as_slice())?;
-    let scenario = scenario_of(rt, file)?;
+    let asked = asked_of(rt.alloc(), words.as_slice())?;
+    let scenario = scenario_of(rt, asked.file)?;
     let policies = policies(rt.alloc(), &scenario)?;
     let handlers = handlers_of(rt.alloc(), policies.as_slice(), make)?;
-    let options = RunOptions { user: None };
+    let options = RunOptions { user: asked.user };
     run(
         rt.alloc(),
         &scenario,
