@@ -1,4 +1,6 @@
 //! Runs of a host, worked out by hand from the manual pages.
 
 mod ends;
+mod isolation;
+mod posting;
 mod script;
