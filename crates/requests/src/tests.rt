@@ -4,3 +4,4 @@ mod ends;
 mod isolation;
 mod posting;
 mod script;
+mod tracing;

@@ -1,8 +1,8 @@
 //! Signals: posted, caught, stopping, continuing and ending.
 
 use super::script::{
-    Answer, NONE, Shown, alone, ask, attach, compute, enter, go_on, kill, leave, list,
-    raise, reporting, sigaction, wait, wait_for_jobs, with_tracee,
+    Answer, NONE, Shown, alone, ask, attach, compute, enter, go_on, kill, leave, list, raise,
+    reporting, sigaction, wait, wait_for_jobs, with_tracee,
 };
 use crate::{Act, PlainStep, Request};
 use event_masks::Call;
