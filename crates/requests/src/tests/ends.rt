@@ -2,11 +2,12 @@
 
 use super::script::{
     AT_EXEC, AT_VFORK, Answer, VFORK_DONE, alone, ask, attach, compute, enter, follow, go_on, kill,
-    leave, list, trace, wait, with_tracee, with_two,
+    leave, list, sigaction, trace, wait, with_tracee, with_two,
 };
 use crate::{Host, PlainStep, Request};
 use event_masks::Call;
 use pid_blocks::{Errno, Uid};
+use signals::Disposition;
 use std::alloc::Global;
 use std::process::Abort;
 use std::test::Fail;
@@ -236,4 +237,89 @@ fn an_untraced_vfork_waits_for_its_childs_end(rt: HostRuntime) -> Result<(), Fai
         (wait(1000), Answer::Status(1001, 0)),
     ];
     alone(&rt, rt.alloc(), &script[..])
+}
+
+#[test]
+fn a_detached_process_has_no_stop_at_the_end_of_its_vfork(rt: HostRuntime) -> Result<(), Fail> {
+    let script = [
+        (ask(1000, Request::SetEventMask, 1001, 32), Answer::Done),
+        (go_on(1000, 1001, 0), Answer::Done),
+        (enter(100001, Call::Vfork), Answer::Done),
+        (leave(100001), Answer::New(1002, 100002)),
+        (enter(100000, Call::Exit(0)), Answer::Done),
+        (leave(100000), Answer::Ended(0)),
+        (compute(100001), Answer::Held),
+        (enter(100002, Call::Exit(1)), Answer::Done),
+        (leave(100002), Answer::Ended(256)),
+        (compute(100001), Answer::Done),
+        (wait(1001), Answer::Status(1002, 256)),
+    ];
+    with_tracee(&rt, rt.alloc(), Settings::detach_on_exit(), &script[..])
+}
+
+#[test]
+fn a_zombie_passes_to_its_parent_when_its_tracer_ends(rt: HostRuntime) -> Result<(), Fail> {
+    let script = [
+        (PlainStep::Spawn, Answer::New(1000, 100000)),
+        (enter(100000, Call::Fork), Answer::Done),
+        (leave(100000), Answer::New(1001, 100001)),
+        (PlainStep::Spawn, Answer::New(1002, 100002)),
+        (sigaction(1000, 20, Disposition::Catch), Answer::Done),
+        (attach(1002, 1001), Answer::Done),
+        (kill(1000, 1001, 9), Answer::Done),
+        (compute(100000), Answer::Done),
+        (wait(1000), Answer::Nothing),
+        (enter(100002, Call::Exit(0)), Answer::Done),
+        (leave(100002), Answer::Ended(0)),
+        (compute(100000), Answer::Caught(20)),
+        (wait(1000), Answer::Status(1001, 9)),
+        (list(1000), Answer::Numbers([1000, 0, 0, 0, 0])),
+    ];
+    alone(&rt, rt.alloc(), &script[..])
+}
+
+#[test]
+fn an_orphan_is_collected_at_once(rt: HostRuntime) -> Result<(), Fail> {
+    let script = [
+        (PlainStep::Spawn, Answer::New(1000, 100000)),
+        (enter(100000, Call::Fork), Answer::Done),
+        (leave(100000), Answer::New(1001, 100001)),
+        (PlainStep::Spawn, Answer::New(1002, 100002)),
+        (kill(1002, 1000, 9), Answer::Done),
+        (list(1002), Answer::Numbers([1001, 1002, 0, 0, 0])),
+        (kill(1002, 1001, 9), Answer::Done),
+        (list(1002), Answer::Numbers([1002, 0, 0, 0, 0])),
+    ];
+    alone(&rt, rt.alloc(), &script[..])
+}
+
+/// 250 processes, each of which traces the next: the end of the first ends all.
+#[test]
+fn a_long_chain_of_debuggers_ends(rt: HostRuntime) -> Result<(), Fail> {
+    let alloc = rt.alloc();
+    let user = Uid::new(1001)?;
+    let mut host = Host::<ByPolicy>::new(alloc, Settings::standard())?;
+    for n in 0u32..250 {
+        let made = [(PlainStep::Spawn, Answer::New(1000 + n, 100000 + n))];
+        follow(&rt, alloc, &mut host, user, &made[..]);
+    }
+    for n in 1u32..250 {
+        let (debugger, tracee) = (999 + n, 1000 + n);
+        let traced = [
+            (attach(debugger, tracee), Answer::Done),
+            (wait(debugger), Answer::Status(tracee, 4479)),
+            (go_on(debugger, tracee, 0), Answer::Done),
+        ];
+        follow(&rt, alloc, &mut host, user, &traced[..]);
+    }
+    let last = [
+        (attach(1249, 1000), Answer::Refused(Errno::EINVAL)),
+        (enter(100000, Call::Exit(0)), Answer::Done),
+        (leave(100000), Answer::Ended(0)),
+        (compute(100249), Answer::Refused(Errno::ESRCH)),
+        (PlainStep::Spawn, Answer::New(1250, 100250)),
+        (list(1250), Answer::Numbers([1250, 0, 0, 0, 0])),
+    ];
+    follow(&rt, alloc, &mut host, user, &last[..]);
+    Ok(())
 }

@@ -171,7 +171,7 @@ fn without_handler<F: Decider + Send + Drop>(plain: PlainStep) -> Option<Step<F>
             which,
             options,
         },
-        PlainStep::Install { caller, policy } => return None,
+        PlainStep::Install { .. } => return None,
         PlainStep::Handle { caller } => Step::Handle { caller },
         PlainStep::Ptrace {
             caller,
