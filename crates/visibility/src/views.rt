@@ -1,0 +1,150 @@
+//! What a user sees of a host, as values.
+
+ghost use Rattle.std.specs.Prelude.{◌≡◌, IfOk, map, filter};
+ghost use Rattle.proc_table.specs.Processes.{of_user};
+ghost use Rattle.proc_table.specs.Seen.{owns};
+ghost use Rattle.requests.specs.Machine.{installed_by};
+ghost use Rattle.requests.specs.View.{view};
+
+use lwp_table::LwpData;
+use pid_blocks::{Pid, Uid};
+use proc_table::{ProcData, Tables};
+use requests::Host;
+use std::alloc::{AllocError, Global};
+use std::marker::Model;
+use stop_handlers::{Decider, Policy};
+use trace_stop::Settings;
+
+/// What a user sees of a host: the user's processes by rising number, the LWPs of these in order of birth, where the search for the
+/// user's next numbers begins, what the user's debuggers have installed in order, and the settings.
+#[derive(Drop)]
+pub struct View {
+    processes: Vec<ProcData>,
+    lwps: Vec<LwpData>,
+    pid_cursor: u32,
+    tid_cursor: u32,
+    handlers: Vec<(Pid, Policy)>,
+    settings: Settings,
+}
+
+impl Model for View {
+    ghost use Rattle.std.specs.Prelude.{map};
+    ghost use Rattle.requests.specs.View.{View};
+
+    ghost Value = { View };
+
+    ghost view = { λ v. record {
+      processes = v.processes.items;
+      lwps = v.lwps.items;
+      pid_cursor = v.pid_cursor;
+      tid_cursor = v.tid_cursor;
+      installed = map (λ i. record { debugger = i.0; policy = i.1 }) v.handlers.items;
+      settings = v.settings;
+    } };
+}
+
+impl View {
+    /// The user's processes, by rising number.
+    pub fn processes(&self) -> &[ProcData]
+        ensures { result.now ≡ self.now.processes }
+    {
+        self.processes.as_slice()
+    }
+
+    /// The LWPs of the user's processes, in order of birth.
+    pub fn lwps(&self) -> &[LwpData]
+        ensures { result.now ≡ self.now.lwps }
+    {
+        self.lwps.as_slice()
+    }
+
+    /// Where the search for the user's next process number begins.
+    pub fn pid_cursor(&self) -> u32
+        ensures { result ≡ self.now.pid_cursor }
+    {
+        self.pid_cursor
+    }
+
+    /// Where the search for the user's next LWP number begins.
+    pub fn tid_cursor(&self) -> u32
+        ensures { result ≡ self.now.tid_cursor }
+    {
+        self.tid_cursor
+    }
+
+    /// What the user's debuggers have installed, in order: each debugger and its policy.
+    pub fn handlers(&self) -> &[(Pid, Policy)]
+        ensures { map (λ i. record { debugger = i.0; policy = i.1 }) result.now ≡ self.now.installed }
+    {
+        self.handlers.as_slice()
+    }
+
+    /// What a debugger's end does to its tracees.
+    pub fn settings(&self) -> Settings
+        ensures { result ≡ self.now.settings }
+    {
+        self.settings
+    }
+}
+
+/// The user's processes, by rising number. An error is want of memory.
+fn processes_of(tables: &Tables, alloc: Global, user: Uid) -> Result<Vec<ProcData>, AllocError>
+    ensures { IfOk result (λ rows. rows.items ≡ of_user user tables.now.rows.processes) }
+{
+    let mut rows = Vec::with_capacity(alloc, tables.process_count(user))?;
+    let mut after = 0;
+    while let Some(p) = tables.next_of(user, after) {
+        after = p.pid.get();
+        rows.push(p)?;
+    }
+    Ok(rows)
+}
+
+/// The LWPs of the user's processes, in order of birth. An error is want of memory.
+fn lwps_of(tables: &Tables, alloc: Global, user: Uid) -> Result<Vec<LwpData>, AllocError>
+    ensures { IfOk result (λ rows. rows.items ≡ filter (λ l. owns user l.pid tables.now.rows.processes) tables.now.rows.lwps) }
+{
+    let mut rows = Vec::with_capacity(alloc, tables.lwp_count_of(user))?;
+    let mut place = 0;
+    while let Some(l) = tables.lwp_at(place) {
+        if tables.seen_process(user, l.pid.get()).is_some() {
+            rows.push(l)?;
+        }
+        place += 1;
+    }
+    Ok(rows)
+}
+
+/// What the user's debuggers have installed, in order. An error is want of memory.
+fn handlers_of<F: Decider + Send + Drop>(
+    host: &Host<F>,
+    alloc: Global,
+    user: Uid,
+) -> Result<Vec<(Pid, Policy)>, AllocError>
+    ensures { IfOk result (λ pairs. map (λ i. record { debugger = i.0; policy = i.1 }) pairs.items ≡ installed_by user host.now) }
+{
+    let mut pairs = Vec::new(alloc);
+    while let Some(pair) = host.policy(user, pairs.len()) {
+        pairs.push(pair)?;
+    }
+    Ok(pairs)
+}
+
+/// What a user sees of a host. An error is want of memory.
+pub fn user_view<F: Decider + Send + Drop>(
+    alloc: Global,
+    host: &Host<F>,
+    user: Uid,
+) -> Result<View, AllocError>
+    ensures { IfOk result (λ v. v ≡ view user host.now) }
+{
+    let tables = host.tables();
+    Ok(View {
+        processes: processes_of(tables, alloc, user)?,
+        lwps: lwps_of(tables, alloc, user)?,
+        pid_cursor: tables.pid_cursor(user),
+        tid_cursor: tables.tid_cursor(user),
+        handlers: handlers_of(host, alloc, user)?,
+        settings: host.settings(),
+    })
+}
