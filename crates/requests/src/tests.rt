@@ -1,6 +1,7 @@
 //! Runs of a host, worked out by hand from the manual pages.
 
 mod ends;
+mod handlers;
 mod isolation;
 mod posting;
 mod script;
