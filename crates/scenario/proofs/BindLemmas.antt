@@ -1,31 +1,26 @@
 -- One more step with its handler.
-use Rattle.std.proofs.Common.{◌≡◌, ℕ, ◌+◌, ◌<◌, List, [], ◌∷◌, ◌++◌, length, get_or, map, drop, sym, ap, ◌∙◌}
-use Rattle.std.proofs.lemmas.List.{append_assoc, at_drop_more, map-append}
+use Rattle.std.proofs.Common.{◌≡◌, ℕ, ◌+◌, ◌<◌, List, [], ◌∷◌, ◌++◌, length, get_or, map, take, drop, sym, ap, ◌∙◌}
+use Rattle.std.proofs.lemmas.List.{at_drop_more, map-append, take_more}
+use Rattle.stop_handlers.specs.declared.Rule.{Rule}
 use Rattle.requests.specs.declared.PlainStep.{PlainStep}
 use Rattle.requests.specs.declared.step.Step.{Step}
 use Rattle.requests.specs.Plain.{plain}
-use Rattle.requests.specs.Run.{Asked}
-use Rattle.scenario.specs.Plan.{asked, bound, policy_before, policies_in}
+use Rattle.scenario.specs.Plan.{asked, bound, policies_in, policy_before}
 
--- the policies from a step on
-pub policies_from : (ps : List (ℕ × PlainStep)) (i : ℕ) (p : ℕ × PlainStep) → i < length ps → get_or ps i p ≡ p
+-- the policies that are left, by the step that stands here
+pub policies_here : (ps : List (ℕ × PlainStep)) (i : ℕ) (p : ℕ × PlainStep) → i < length ps → get_or ps i p ≡ p
     → policies_in (map asked (drop i ps)) ≡ policy_before p.1 (policies_in (map asked (drop (i + 1) ps)))
-policies_from ps i p h here =
+policies_here ps i p h here =
     at_drop_more (λ xs. policies_in (map asked xs)) ps i p h
     ∙ ap (λ (x : ℕ × PlainStep). policy_before x.1 (policies_in (map asked (drop (i + 1) ps)))) here
 
--- after one more step, the steps so far and those to come are still all
-pub one_bound : {F : Type 0} (ps : List (ℕ × PlainStep)) (i : ℕ) (p : ℕ × PlainStep) (s : Step F) (done : List (ℕ × Step F)) (all : List Asked)
-    → i < length ps → get_or ps i p ≡ p → plain s ≡ p.1
-    → map bound done ++ map asked (drop i ps) ≡ all
-    → map bound (done ++ (p.0, s) ∷ []) ++ map asked (drop (i + 1) ps) ≡ all
-one_bound {F} ps i p s done all h here same whole =
-    let rest = map asked (drop (i + 1) ps) in
-    let next : map asked (drop i ps) ≡ asked p ∷ rest =
-    at_drop_more (λ xs. map asked xs) ps i p h ∙ ap (λ (x : ℕ × PlainStep). asked x ∷ rest) here in
-    let made : ℕ × Step F = (p.0, s) in
-    let as_made : PlainStep → Asked = λ x. record { uid = p.0; step = x } in
-    ap (λ xs. xs ++ rest) (map-append bound done (made ∷ []))
-    ∙ append_assoc (map bound done) (bound made ∷ []) rest
-    ∙ ap (λ x. map bound done ++ (as_made x ∷ rest)) same
-    ∙ ap (λ xs. map bound done ++ xs) (sym next) ∙ whole
+-- the steps so far and one more
+pub one_bound : {F : Type 0} (ss : List (ℕ × Step F)) (ps : List (ℕ × PlainStep)) (i : ℕ) (p : ℕ × PlainStep) (s : Step F) → i < length ps → get_or ps i p ≡ p
+    → plain s ≡ p.1 → map bound ss ≡ map asked (take i ps) → map bound (ss ++ (p.0, s) ∷ []) ≡ map asked (take (i + 1) ps)
+one_bound ss ps i p s h here same so_far =
+    map-append bound ss ((p.0, s) ∷ [])
+    ∙ ap (λ xs. xs ++ bound (p.0, s) ∷ []) so_far
+    ∙ ap (λ x. map asked (take i ps) ++ asked (p.0, x) ∷ []) same
+    ∙ ap (λ x. map asked (take i ps) ++ asked x ∷ []) (sym here)
+    ∙ sym (map-append asked (take i ps) (get_or ps i p ∷ []))
+    ∙ ap (map asked) (sym (take_more ps i p h))

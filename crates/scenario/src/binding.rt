@@ -1,10 +1,10 @@
-//! From the steps of a scenario to those that a host makes, with handlers in place of policies.
-ghost use Rattle.std.specs.Prelude.{List, map, ◌≡◌, ◌≢◌, ◌⊎◌, ◌↔◌, IsTrue, IsSomeAnd, IfOk, IfErr, IsErrOf};
+//! From the steps of a scenario to those that a host makes, with their handlers.
+ghost use Rattle.std.specs.Prelude.{List, ◌≡◌, ◌≢◌, ◌↔◌, ◌⊎◌, map, None, IsTrue, IsSomeAnd, IfSome, IfOk, IfErr, IsErrOf};
 ghost use Rattle.std.specs.Vec.Iter.{into_iter_items};
-ghost use Rattle.stop_handlers.specs.Handlers.{MakesObeying};
 ghost use Rattle.stop_handlers.specs.declared.Rule.{Rule};
+ghost use Rattle.stop_handlers.specs.Handlers.{MakesObeying};
 ghost use Rattle.requests.specs.Plain.{plain};
-ghost use Rattle.scenario.specs.Plan.{bound, policy_before, policies_in};
+ghost use Rattle.scenario.specs.Plan.{bound, policies_in, policy_before};
 ghost use Rattle.scenario.specs.declared.running.RunFault.TheVariants.{Mismatch, Memory};
 
 use crate::plan::Scenario;
@@ -28,45 +28,46 @@ pub fn policies(alloc: Global, scenario: &Scenario) -> Result<Vec<Policy>, Alloc
     Ok(policies)
 }
 
-/// One handler for each policy, in order. An error is want of memory.
-pub fn handlers_of<F: Decider + Send + Drop, M: Fn(Policy) -> F>(
-    alloc: Global,
-    policies: &[Policy],
-    make: M,
-) -> Result<Vec<Handler<F>>, AllocError>
-    requires callable { M.IsAlwaysCallable make }
-    requires obeys { MakesObeying F.can_ask F.gives (M.post make) }
-    ensures { IfOk result (λ handlers. handlers.items ≡ policies.now) }
+/// The handlers that are left after the step; `None` where it installs another policy than the first one's.
+fn left_after<'a, F: Decider + Send + Drop>(
+    handlers: &'a [Handler<F>],
+    step: &PlainStep,
+) -> Option<&'a [Handler<F>]>
+    ensures some { IfSome result (λ left. handlers.now ≡ policy_before step.now left.now) }
+    ensures none { result ≡ None → (others : List (List Rule)) → handlers.now ≢ policy_before step.now others }
 {
-    let mut handlers = Vec::new(alloc);
-    for policy in policies {
-        handlers.push(Handler::new(*policy, make(*policy)))?;
+    let PlainStep::Install { policy, .. } = step else {
+        return Some(handlers);
+    };
+    let (first, left) = handlers.split_first()?;
+    if first.policy().is_same(policy) {
+        Some(left)
+    } else {
+        None
     }
-    Ok(handlers)
 }
 
-/// Whether the handlers have these policies, one for one.
-fn obey<F: Decider + Send + Drop>(handlers: &[Handler<F>], policies: &[Policy]) -> bool
-    ensures { IsTrue result ↔ (handlers.now ≡ policies.now) }
+/// Whether the handlers answer by the policies of the scenario's installs, one for one and in order.
+fn obey<F: Decider + Send + Drop>(handlers: &[Handler<F>], scenario: &Scenario) -> bool
+    ensures { IsTrue result ↔ (handlers.now ≡ policies_in scenario.now.steps) }
 {
-    if handlers.len() != policies.len() {
-        return false;
+    let mut rest = handlers;
+    for step in scenario.steps() {
+        rest = match left_after(rest, &step.1) {
+            Some(left) => left,
+            None => return false,
+        };
     }
-    for (i, handler) in handlers.iter().enumerate() {
-        if !handler.policy().is_same(&policies[i]) {
-            return false;
-        }
-    }
-    true
+    rest.is_empty()
 }
 
-/// The step, with the next handler where it is an install.
+/// The step as a host makes it, with the next handler where it is an install.
 fn bound_step<F: Decider + Send + Drop>(
     step: &PlainStep,
-    rest: &mut IntoIter<Handler<F>>,
+    handlers: &mut IntoIter<Handler<F>>,
 ) -> Option<Step<F>>
-    ensures { (others : List (List Rule)) → into_iter_items rest.old ≡ policy_before step.now others
-        → (into_iter_items rest.new ≡ others) × IsSomeAnd result (λ s. plain s ≡ step.now) }
+    ensures { (others : List (List Rule)) → into_iter_items handlers.old ≡ policy_before step.now others
+        → (into_iter_items handlers.new ≡ others) × IsSomeAnd result (λ s. plain s ≡ step.now) }
 {
     Some(match *step {
         PlainStep::Spawn => Step::Spawn,
@@ -92,7 +93,7 @@ fn bound_step<F: Decider + Send + Drop>(
         },
         PlainStep::Install { caller, .. } => Step::Install {
             caller,
-            handler: rest.next()?,
+            handler: handlers.next()?,
         },
         PlainStep::Handle { caller } => Step::Handle { caller },
         PlainStep::Ptrace {
@@ -110,7 +111,7 @@ fn bound_step<F: Decider + Send + Drop>(
     })
 }
 
-/// The scenario's steps, with the handlers in order.
+/// The scenario's steps, each install with the next handler.
 fn bound<F: Decider + Send + Drop>(
     alloc: Global,
     scenario: &Scenario,
@@ -123,30 +124,45 @@ fn bound<F: Decider + Send + Drop>(
     let mut rest = handlers.into_iter();
     let mut steps = Vec::new(alloc);
     for plain in scenario.steps() {
-        let step = bound_step(&plain.1, &mut rest).ok_or(RunFault::Memory)?;
+        let step = bound_step(&plain.1, &mut rest).ok_or(RunFault::Mismatch)?;
         steps.push((plain.0, step))?;
     }
     Ok(steps)
 }
 
-/// The scenario's steps, each install with the next of the handlers.
+/// The scenario's steps as a host makes them, with the handlers for its installs, one for each and in order.
 ///
 /// # Errors
 ///
-/// `Mismatch` where the handlers' policies aren't those of the scenario's installs in their order, `Memory` where no memory was left.
+/// `Mismatch` where the handlers don't answer by the policies of the installs, `Memory` where they do and no memory was left.
 pub fn bind<F: Decider + Send + Drop>(
     alloc: Global,
     scenario: &Scenario,
     handlers: Vec<Handler<F>>,
 ) -> Result<Vec<(Uid, Step<F>)>, RunFault>
     ensures ok { IfOk result (λ v. map bound v.items ≡ scenario.now.steps) }
-    ensures mismatch { IsErrOf result Mismatch → handlers.items ≢ policies_in scenario.now.steps }
-    ensures others { handlers.items ≢ policies_in scenario.now.steps → (IsErrOf result Mismatch) ⊎ (IsErrOf result Memory) }
-    ensures kinds { IfErr result (λ e. (e ≡ Mismatch) ⊎ (e ≡ Memory)) }
+    ensures mismatch { IsErrOf result Mismatch ↔ (handlers.items ≢ policies_in scenario.now.steps) }
+    ensures err { IfErr result (λ e. (e ≡ Mismatch) ⊎ (e ≡ Memory)) }
 {
-    let policies = policies(alloc, scenario)?;
-    if !obey(handlers.as_slice(), policies.as_slice()) {
+    if !obey(handlers.as_slice(), scenario) {
         return Err(RunFault::Mismatch);
     }
     bound(alloc, scenario, handlers)
+}
+
+/// A handler for each of the policies, in order, each with what is made for its policy. An error is want of memory.
+pub fn handlers_of<F: Decider + Send + Drop, M: Fn(Policy) -> F>(
+    alloc: Global,
+    policies: &[Policy],
+    make: M,
+) -> Result<Vec<Handler<F>>, AllocError>
+    requires callable { M.IsAlwaysCallable make }
+    requires obeys { MakesObeying F.can_ask F.gives (M.post make) }
+    ensures { IfOk result (λ handlers. handlers.items ≡ policies.now) }
+{
+    let mut handlers = Vec::new(alloc);
+    for policy in policies {
+        handlers.push(Handler::new(*policy, make(*policy)))?;
+    }
+    Ok(handlers)
 }

@@ -127,8 +127,7 @@ pub fn run<F: Decider + Send + Drop, W: Write>(
 ) -> Result<(), RunFault>
     ensures writes { Writes result (W.contents writer.old) (W.contents writer.new)
         (shown options.user (answers_of scenario.now)) }
-    ensures mismatch { IsErrOf result Mismatch → handlers.items ≢ policies_in scenario.now.steps }
-    ensures others { handlers.items ≢ policies_in scenario.now.steps → (IsErrOf result Mismatch) ⊎ (IsErrOf result Memory) }
+    ensures mismatch { IsErrOf result Mismatch ↔ (handlers.items ≢ policies_in scenario.now.steps) }
 {
     let steps = bind(alloc, scenario, handlers)?;
     let replies = replies_of(alloc, scenario.settings(), steps)?;
