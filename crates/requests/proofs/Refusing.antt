@@ -1,4 +1,4 @@
--- A refused step changes nothing, and none wants memory, kind by kind.
+-- A refused step changes nothing, and none is_memory memory, kind by kind.
 use Rattle.std.proofs.Common.{◌≡◌, ◌≢◌, ℕ, ℤ, negsuc, Bool, true, false, ◌==◌, not, ◌||◌, ◌&&◌, leb, if◌then◌else◌, List, [], ◌∷◌, find, length, Option, Some, None, is_some, option_map, refl, sym, ap, ◌∙◌, true≢false}
 use Rattle.pid_blocks.specs.declared.Errno.{Errno}
 use Rattle.pid_blocks.specs.declared.Errno.TheVariants.{EPERM, ESRCH, ECHILD, EBUSY, EINVAL, EAGAIN}
@@ -50,28 +50,31 @@ use Rattle.requests.specs.Reach.{is_which, reach, reached, kill}
 use Rattle.requests.specs.Calls.{spawn_with, spawn, list, is_refused, sigaction, collect_reply, wait}
 use Rattle.requests.specs.Handle.{install, policies_of, no_options, handles_stop, handles_status, handles, handle}
 use Rattle.requests.specs.Machine.{Machine, installed_by, After, after}
-use Rattle.requests.specs.Memory.{is_refusal}
-use Rattle.requests.specs.Refusals.{RefusedSame, NeverMemory}
+use Rattle.requests.specs.Memory.{is_refusal, is_memory}
+use Rattle.requests.specs.Refusals.{RefusedSame, NeverMemory, ListingSame, is_listing}
 use Rattle.requests.specs.Sound.{sound}
 use Rattle.requests.specs.Step.{calls, caller_of, checked, uncalled, step_of, step}
 use Rattle.requests.proofs.After.{answers_same}
-use Rattle.requests.proofs.Replies.{wants}
 use Rattle.requests.proofs.Steps.{choose}
 
--- a refusal leaves the rows, and isn't want of memory
-record Fair (rows : Rows) (o : Outcome) : Type 0 where
-  pub same : is_refusal o.reply ≡ true → o.rows ≡ rows
-  pub plenty : wants o.reply ≡ false
+-- whether an answer leaves all as it was: a refusal, or a list
+abbrev keeps : Reply → Bool
+keeps r = is_refusal r || is_listing r
 
--- an answer that isn't a refusal
-done : (rows now : Rows) (r : Reply) → is_refusal r ≡ false → wants r ≡ false → Fair rows (answers r now)
+-- a refusal or a list leaves the rows, and isn't want of memory
+record Fair (rows : Rows) (o : Outcome) : Type 0 where
+  pub same : keeps o.reply ≡ true → o.rows ≡ rows
+  pub plenty : is_memory o.reply ≡ false
+
+-- an answer that is neither
+done : (rows now : Rows) (r : Reply) → keeps r ≡ false → is_memory r ≡ false → Fair rows (answers r now)
 done rows now r good plenty = record { same = λ is. absurd (true≢false (sym is ∙ good)); plenty = plenty }
 
 -- an answer that leaves the rows
-left : (rows : Rows) (r : Reply) → wants r ≡ false → Fair rows (answers r rows)
+left : (rows : Rows) (r : Reply) → is_memory r ≡ false → Fair rows (answers r rows)
 left rows r plenty = record { same = λ is. refl; plenty = plenty }
 
-stop_or : (rows now : Rows) (o : Option Shown) (r : Reply) (p : ProcData) (l : LwpData) → is_refusal r ≡ false → wants r ≡ false → Fair rows (stops_or o r p l now)
+stop_or : (rows now : Rows) (o : Option Shown) (r : Reply) (p : ProcData) (l : LwpData) → keeps r ≡ false → is_memory r ≡ false → Fair rows (stops_or o r p l now)
 stop_or rows now None r p l good plenty = done rows now r good plenty
 stop_or rows now (Some shown) r p l good plenty = done rows _ _ refl refl
 
@@ -112,7 +115,7 @@ untraced_fair settings s disposition.Catch p l rows now = done rows _ _ refl ref
 takes_fair : (settings : Settings) (s : ℕ) (p : ProcData) (l : LwpData) (rows now : Rows) → Fair rows (takes settings s p l now)
 takes_fair settings s p l rows now = choose (is_some p.tracer) _ _ (Fair rows) (done rows _ _ refl refl) (untraced_fair settings s (disposition_of p.dispositions s) p l rows now)
 
-raised : (b : Bool) → (is_refusal (if b then reply.Ended 9 else reply.Done) ≡ false) × (wants (if b then reply.Ended 9 else reply.Done) ≡ false)
+raised : (b : Bool) → (keeps (if b then reply.Ended 9 else reply.Done) ≡ false) × (is_memory (if b then reply.Ended 9 else reply.Done) ≡ false)
 raised true = (refl, refl)
 raised false = (refl, refl)
 
@@ -182,7 +185,7 @@ does_fair settings request.SetEventMask arg tid p rows = done rows _ _ refl refl
 does_fair settings request.GetEventMask arg tid p rows = done rows _ _ refl refl
 does_fair settings request.GetLwpInfo arg tid p rows = info_fair (info p tid rows) rows
 does_fair settings request.GetNumLwps arg tid p rows = done rows _ _ refl refl
-does_fair settings request.GetLwpList arg tid p rows = done rows _ _ refl refl
+does_fair settings request.GetLwpList arg tid p rows = left rows _ refl
 does_fair settings request.ToSce arg tid p rows = done rows _ _ refl refl
 does_fair settings request.ToScx arg tid p rows = done rows _ _ refl refl
 does_fair settings request.Syscall arg tid p rows = done rows _ _ refl refl
@@ -254,8 +257,8 @@ handles_fair settings policies rows now (Some p) (collected.Got pid status) = ha
 -- Hosts
 
 record FairStep (m : Machine) (a : After) : Type 0 where
-  pub same : sound m ≡ true → is_refusal a.reply ≡ true → a.machine ≡ m
-  pub plenty : wants a.reply ≡ false
+  pub same : sound m ≡ true → keeps a.reply ≡ true → a.machine ≡ m
+  pub plenty : is_memory a.reply ≡ false
 
 hosted : (m : Machine) (o : Outcome) → Fair m.rows o → FairStep m (after m o)
 hosted m o fair = record {
@@ -269,7 +272,7 @@ install_fair u p policy m = choose (leb 64 (length (installed_by u m))) _ _ (Fai
 
 calls_fair : (u : ℕ) (s : PlainStep) (p : ProcData) (m : Machine) → FairStep m (calls u s p m)
 calls_fair u op.Spawn p m = hosted m (spawn u m.rows) (spawn_fair u m.rows (room_for_process u m.rows))
-calls_fair u (op.List caller) p m = hosted m (list u m.rows) (done m.rows _ _ refl refl)
+calls_fair u (op.List caller) p m = hosted m (list u m.rows) (left m.rows _ refl)
 calls_fair u (op.Sigaction caller s d) p m = hosted m (sigaction p s d m.rows) (sigaction_fair p s d m.rows)
 calls_fair u (op.Kill caller which s) p m = hosted m (kill m.settings u p.pid which s m.rows) (kill_fair m.settings u p.pid which s m.rows)
 calls_fair u (op.Wait4 caller which options) p m = hosted m (wait p which options m.rows) (wait_fair p which options m.rows)
@@ -296,7 +299,14 @@ step_fair u (op.Ptrace n r target arg) m = checked_fair u (op.Ptrace n r target 
 step_fair u (op.Turn tid a) m = hosted m (turn m.settings u tid a m.rows) (turn_fair m.settings u tid a m.rows)
 
 pub refused_same : RefusedSame
-refused_same u s m user is refused = (step_fair u s m).same is refused
+refused_same u s m user is refused = (step_fair u s m).same is (ap (λ b. b || is_listing (step u s m).reply) refused)
+
+or_true : (b : Bool) → b || true ≡ true
+or_true true = refl
+or_true false = refl
+
+pub listing_same : ListingSame
+listing_same u s m is listed = (step_fair u s m).same is (ap (λ b. is_refusal (step u s m).reply || b) listed ∙ or_true (is_refusal (step u s m).reply))
 
 pub never_memory : NeverMemory
-never_memory u s m memory = true≢false (sym (ap wants memory) ∙ (step_fair u s m).plenty)
+never_memory u s m memory = true≢false (sym (ap is_memory memory) ∙ (step_fair u s m).plenty)

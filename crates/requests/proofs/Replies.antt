@@ -1,15 +1,12 @@
 -- A reply is want of memory, or it isn't.
-use Rattle.std.proofs.Common.{◌≡◌, ◌≢◌, Bool, true, false, refl, sym, ap, ◌∙◌, true≢false, ◌⊎◌, inl, inr}
+use Rattle.std.proofs.Common.{◌≡◌, ◌≢◌, true, false, refl, sym, ap, ◌∙◌, true≢false, ◌⊎◌, inl, inr}
 use Rattle.pid_blocks.specs.declared.Errno.TheVariants as errno
 use Rattle.requests.specs.declared.Reply.{Reply}
 use Rattle.requests.specs.declared.Reply.TheVariants as reply
+use Rattle.requests.specs.Memory.{is_memory}
 
-abbrev pub wants : Reply → Bool
-wants (reply.Errno errno.ENOMEM) = true
-wants r = false
-
-pub other : (r : Reply) → wants r ≡ false → r ≢ reply.Errno errno.ENOMEM
-other r none is = true≢false (sym (ap wants is) ∙ none)
+pub other : (r : Reply) → is_memory r ≡ false → r ≢ reply.Errno errno.ENOMEM
+other r none is = true≢false (sym (ap is_memory is) ∙ none)
 
 pub cases_memory : (r : Reply) → (r ≡ reply.Errno errno.ENOMEM) ⊎ (r ≢ reply.Errno errno.ENOMEM)
 cases_memory (reply.Errno errno.ENOMEM) = inl refl

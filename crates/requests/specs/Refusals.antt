@@ -1,8 +1,9 @@
 -- What a refused step does, and what the machine never answers.
-use Rattle.std.specs.Prelude.{◌≡◌, ◌≢◌, ℕ, true}
+use Rattle.std.specs.Prelude.{◌≡◌, ◌≢◌, ℕ, Bool, true, false}
 use Rattle.pid_blocks.specs.Users.{IsUser}
 use Rattle.pid_blocks.specs.declared.Errno.TheVariants.{ENOMEM}
 use Rattle.requests.specs.declared.PlainStep.{PlainStep}
+use Rattle.requests.specs.declared.Reply.{Reply}
 use Rattle.requests.specs.declared.Reply.TheVariants as reply
 use Rattle.requests.specs.Machine.{Machine}
 use Rattle.requests.specs.Memory.{is_refusal}
@@ -16,3 +17,13 @@ RefusedSame = (u : ℕ) (s : PlainStep) (m : Machine) → IsUser u → sound m �
 -- the machine wants no memory: a host alone answers ENOMEM
 abbrev pub NeverMemory : Type 0
 NeverMemory = (u : ℕ) (s : PlainStep) (m : Machine) → (step u s m).reply ≢ reply.Errno ENOMEM
+
+-- whether an answer is a list of numbers
+abbrev pub is_listing : Reply → Bool
+is_listing (reply.Lwps tids) = true
+is_listing (reply.Pids pids) = true
+is_listing r = false
+
+-- a step that answers a list changes nothing
+abbrev pub ListingSame : Type 0
+ListingSame = (u : ℕ) (s : PlainStep) (m : Machine) → sound m ≡ true → is_listing (step u s m).reply ≡ true → (step u s m).machine ≡ m

@@ -2,7 +2,7 @@
 
 ghost use Rattle.std.specs.Prelude.{◌≡◌, true};
 ghost use Rattle.requests.specs.Laws.{SoundKept, SoundAtFirst, SoundRuns, step_fits};
-ghost use Rattle.requests.specs.Refusals.{NeverMemory, RefusedSame};
+ghost use Rattle.requests.specs.Refusals.{ListingSame, NeverMemory, RefusedSame};
 
 use crate::PlainStep;
 
@@ -30,4 +30,9 @@ pub fn refused_same()
 /// No step of the machine wants memory: the host alone answers ENOMEM.
 pub fn never_memory()
     ensures { NeverMemory }
+{}
+
+/// A step that answers a list changes nothing.
+pub fn a_list_changes_nothing()
+    ensures { ListingSame }
 {}

@@ -1,0 +1,5 @@
+use Rattle.requests.proofs.Refusing as the
+use Rattle.requests.proofs.laws.a_list_changes_nothing.Goals as goal
+
+pub returns : goal.returns
+returns c = the.listing_same
