@@ -5,7 +5,8 @@ use Rattle.std.proofs.lemmas.List.{map-append}
 use Rattle.requests.specs.Machine.{Machine}
 use Rattle.requests.specs.Run.{Asked, replies, last}
 use Rattle.requests.specs.declared.Reply.{Reply}
-use Rattle.requests.specs.Isolation.{host_after, reply_of}
+use Rattle.pid_blocks.specs.Users.{IsUser}
+use Rattle.requests.specs.Isolation.{host_after, reply_of, Users}
 use Rattle.host_lock.specs.declared.journal.Entry.{Entry}
 use Rattle.host_lock.specs.Journal.{asked, replay, IsLegal, entries_of, StartsWith}
 
@@ -63,3 +64,7 @@ made m now after log longer e legal is reply then more =
       legal_more m log e legal (reply ∙ ap (reply_of e.uid e.step) is),
       then ∙ ap (host_after e.uid e.step) is ∙ sym (replay_more m log e),
     )
+
+pub users_more : (log : List Entry) (e : Entry) → Users (asked log) → IsUser e.uid → Users (asked (log ++ e ∷ []))
+users_more [] e all user = (user, tt)
+users_more (x ∷ xs) e all user = (all.0, users_more xs e all.1 user)

@@ -27,13 +27,14 @@ pub struct Home<F: Decider + Send + Drop> {
 impl<F: Decider + Send + Drop> Model for Home<F> {
     ghost use Rattle.std.specs.Prelude.{◌≡◌, List};
     ghost use Rattle.host_lock.specs.Kept.{Kept};
-    ghost use Rattle.host_lock.specs.Journal.{replay, IsLegal};
+    ghost use Rattle.host_lock.specs.Journal.{asked, replay, IsLegal};
+    ghost use Rattle.requests.specs.Isolation.{Users};
 
     ghost Value = { Kept };
 
     ghost view = { λ h. record { start = h.start.value; log = h.journal } };
 
-    ghost invariant = { λ h. IsLegal h.start.value h.journal × (h.host ≡ replay h.start.value h.journal) };
+    ghost invariant = { λ h. IsLegal h.start.value h.journal × (h.host ≡ replay h.start.value h.journal) × Users (asked h.journal) };
 }
 
 /// Makes a step on the host, and answers the reply with a copy of it. None where memory ran out: the host is as it was.
@@ -73,6 +74,7 @@ impl<F: Decider + Send + Drop> Home<F> {
         ensures legal { IsLegal self.new.start self.new.log }
         ensures memory { is_memory result ≡ true → self.new ≡ self.old }
     {
+        let _number = user.get();
         let Home { host, journal, .. } = self;
         if journal.entries.reserve(1).is_err() {
             return Reply::Errno(Errno::ENOMEM);

@@ -1,9 +1,10 @@
 //! The shared host.
 
 ghost use Rattle.std.specs.Prelude.{◌≡◌, ℕ, ◌+◌, ◌<◌, ◌≤◌, [], ◌∷◌, ◌++◌, List, length, true, false, IfOk, IfErr, OnOk, All, vec_len, reverse, MatchResult, IsErr, ◌↔◌};
+ghost use Rattle.requests.specs.Isolation.{Users};
 ghost use Rattle.requests.specs.Plain.{plain};
 ghost use Rattle.host_lock.specs.Answers.{Calls, RefusesFor, GivesBack};
-ghost use Rattle.host_lock.specs.Journal.{IsLegal, replay, StartsWith};
+ghost use Rattle.host_lock.specs.Journal.{asked, IsLegal, replay, StartsWith};
 ghost use Rattle.host_lock.specs.Kept.{kept};
 ghost use Rattle.host_lock.specs.Rule.{Each, IsBoard, spare, opening_view, posed, start_of, most_calls, Matches};
 ghost use Rattle.host_lock.specs.Sessions.{IsOf, IsTrue, Stands, newborn, newborns, IsOpenable, IsAt, IsBelow, SessionData, gathered, IsSame};
@@ -108,6 +109,7 @@ impl<F: Decider + Send + Drop> SharedHost<F> {
         requires { All (IsOf self) sessions.items }
         ensures legal { IfOk result (λ r. IsLegal self.start r.1) }
         ensures host { IfOk result (λ r. r.0 ≡ replay self.start r.1) }
+        ensures users { IfOk result (λ r. Users (asked r.1)) }
         ensures sessions { IfOk result (λ r. All (Stands r.1) sessions.items) }
         ensures entries { IfOk result (λ r. All (IsBelow self.sessions) r.1) }
         ensures all { OnOk result (self.sessions ≤ length sessions.items) }
