@@ -1,5 +1,5 @@
 -- What each user's entries in a legal journal are.
-use Rattle.std.proofs.Common.{◌≡◌, ℕ, Bool, true, false, ◌==◌, List, [], ◌∷◌, map, refl, sym, ap, ◌∙◌}
+use Rattle.std.proofs.Common.{◌≡◌, ℕ, Bool, true, false, ◌==◌, List, [], ◌∷◌, map, refl, sym, ap, ◌∙◌, Result, Ok, Err, IfOk}
 use Rattle.pid_blocks.specs.Users.{IsUser}
 use Rattle.requests.specs.Machine.{Machine}
 use Rattle.requests.specs.declared.Reply.{Reply}
@@ -42,6 +42,7 @@ own_entries m log is users legal u user =
       law.1 ∙ ap (λ (l : List Asked). view u (last l (alone u m))) steps,
     )
 
--- a journal of no calls
-pub none_own : (m : Machine) → sound m ≡ true → OwnEntries m []
-none_own m is = own_entries m [] is tt (record { replies_given = refl })
+-- the same of a run
+pub own_runs : {H T E : Type 0} (m : Machine) (r : Result (H × List Entry × T) E) → sound m ≡ true → IfOk r (λ x. Users (asked x.1)) → IfOk r (λ x. IsLegal m x.1) → IfOk r (λ x. OwnEntries m x.1)
+own_runs m (Ok x) is users legal = own_entries m x.1 is users legal
+own_runs m (Err e) is users legal = tt

@@ -8,6 +8,9 @@ use Rattle.requests.specs.declared.step.Step.{Step}
 use Rattle.requests.specs.Plain.{plain}
 use Rattle.host_lock.specs.declared.journal.Entry.{Entry}
 use Rattle.host_lock.specs.Journal.{entries_of, StartsWith}
+use Rattle.host_lock.specs.Answers.{GivesBack}
+use Rattle.host_lock.specs.declared.host.CloseRefusal.{CloseRefusal}
+use Rattle.host_lock.specs.declared.host.CloseRefusal.TheVariants.{Missing}
 use Rattle.host_lock.specs.Rule.{Each}
 use Rattle.host_lock.proofs.Totals.{all_of, each_of}
 use Rattle.host_lock.specs.Sessions.{SessionData, HostData, IsOf, Stands, newborn, newborns}
@@ -38,6 +41,10 @@ pairs_length R [] [] p = refl
 pairs_length R [] (y ∷ ys) p = absurd p
 pairs_length R (x ∷ xs) [] p = absurd p
 pairs_length R (x ∷ xs) (y ∷ ys) p = let r = pairs_length R xs ys p.1 in omega arith
+
+-- no session is missing where all are handed in
+pub not_missing : {F : Type 0} (h : HostData) (ss : List SessionData) (r : CloseRefusal F) → GivesBack h ss r → h.sessions ≤ length ss → ⊥
+not_missing h ss (Missing host sessions) back all = absurd (omega (arith, back.2))
 
 pub newborns_length : (n : ℕ) (z : TableId) (h : Machine) (us : List ℕ) → length (newborns n z h us) ≡ length us
 newborns_length n z h [] = refl

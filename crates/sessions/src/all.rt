@@ -1,6 +1,6 @@
 //! One worker for each script.
 ghost use Rattle.std.specs.Prelude.{◌≡◌, ℕ, ◌+◌, ◌<◌, ◌≤◌, [], ◌∷◌, ◌++◌, List, length, map, vec_len, vec_capacity, IfSome};
-ghost use Rattle.std.specs.Thread.{IsSync};
+ghost use Rattle.std.specs.Thread.{IsSend, IsSync};
 ghost use Rattle.requests.specs.Plain.{plain};
 ghost use Rattle.host_lock.specs.Sessions.{IsOf};
 ghost use Rattle.host_lock.specs.Rule.{Each};
@@ -67,6 +67,7 @@ fn beside<F: Decider + Send + Drop, G: Gate, R: Threads + Wait + Sync>(
         rt,
         |scope| -> Option<Vec<Done>>
             requires sync { IsSync R.row }
+            requires send { IsSend F.row }
             requires of { IsOf host.now session }
             requires fresh { (session.calls ≡ 0) × (session.mine ≡ []) }
             requires few { vec_len steps ≤ 4294967295 }

@@ -1,7 +1,8 @@
 //! Scripts of many users, run at the same time on one host.
 ghost use Rattle.std.specs.Prelude.{◌≡◌, ℕ, ◌+◌, ◌<◌, ◌≤◌, [], List, length, map, reverse, vec_len, vec_capacity, All, IfOk, IfErr, OnOk};
 ghost use Rattle.requests.specs.Plain.{plain};
-ghost use Rattle.host_lock.specs.Journal.{IsLegal, replay};
+ghost use Rattle.requests.specs.Isolation.{Users};
+ghost use Rattle.host_lock.specs.Journal.{asked, IsLegal, replay};
 ghost use Rattle.host_lock.specs.Rule.{Each};
 ghost use Rattle.host_lock.specs.Sessions.{IsBelow, newborns};
 ghost use Rattle.sessions.specs.Made.{Pairs, Did};
@@ -46,6 +47,27 @@ pub fn run_sessions<F: Decider + Send + Drop, G: Gate, R: Threads + Wait + Sync>
     ensures refuses { IfErr result (RefusesFor (vec_len scripts)) }
 {
     host.kept();
+    play(rt, alloc, host, scripts, gate)
+}
+
+/// Opens the host, runs the scripts, and closes it.
+fn play<F: Decider + Send + Drop, G: Gate, R: Threads + Wait + Sync>(
+    rt: &R,
+    alloc: Global,
+    host: Host<F>,
+    scripts: Vec<Script<F>>,
+    gate: &G,
+) -> Result<(Host<F>, Journal, Vec<Transcript>), RunRefusal>
+    requires { All IsShort scripts.items }
+    ensures legal { IfOk result (λ r. IsLegal host r.1) }
+    ensures users { IfOk result (λ r. Users (asked r.1)) }
+    ensures host { IfOk result (λ r. r.0 ≡ replay host r.1) }
+    ensures entries { IfOk result (λ r. All (IsBelow (vec_len scripts)) r.1) }
+    ensures transcripts { IfOk result (λ r. AllPlay r.1 scripts.items r.2.items) }
+    ensures none { IfOk result (λ r. vec_len scripts ≡ 0 → (r.0 ≡ host) × (r.1 ≡ [])) }
+    ensures few { OnOk result (vec_len scripts ≤ 64) }
+    ensures refuses { IfErr result (RefusesFor (vec_len scripts)) }
+{
     if scripts.len() > 64 {
         return Err(RunRefusal::TooMany);
     }
