@@ -6,4 +6,5 @@ pub mod Answering
 pub mod Joins
 pub mod WriteLemmas
 pub mod LineLemmas
+pub mod GroupLemmas
 pub mod RunLemmas

@@ -6,7 +6,7 @@ use Rattle.requests.specs.Machine.{empty}
 use Rattle.requests.specs.Run.{Asked, replies}
 use Rattle.scenario.specs.declared.running.RunFault.{RunFault}
 use Rattle.scenario.specs.declared.running.RunFault.TheVariants.{Mismatch, Memory, Write}
-use Rattle.scenario.specs.Lines.{Answered, text, text_of, lines, lines_of}
+use Rattle.scenario.specs.Lines.{Answered, text, text_of, grouped, lines, lines_of}
 use Rattle.scenario.specs.Plan.{Plan}
 
 -- a reply to a user
@@ -17,6 +17,11 @@ answered r = record { uid = r.0; reply = r.1 }
 abbrev pub shown : Option ℕ → List Answered → List ℕ
 shown None answers = text answers
 shown (Some user) answers = text_of (lines_of user (lines answers))
+
+-- the same, grouped by rising user
+abbrev pub shown_grouped : Option ℕ → List Answered → List ℕ
+shown_grouped None answers = grouped answers
+shown_grouped (Some user) answers = shown (Some user) answers
 
 -- the steps' users with the replies
 abbrev pub paired : List Asked → List Reply → List Answered
