@@ -1,0 +1,58 @@
+-- What is known at the end.
+use Rattle.std.proofs.Common.{◌≡◌, ℕ, ◌+◌, List, [], ◌∷◌, ◌++◌, map, reverse, length, sym, refl, ap, ◌∙◌, subst, arith, append_assoc, append-nil, Some}
+use Rattle.std.proofs.lemmas.List.{reverse-append}
+use mathlib.Core.Option.{some, some-injective}
+use mathlib.Core.List.{map-append}
+use lib.ListN.{get_elem?}
+use Rattle.requests.specs.Machine.{Machine}
+use Rattle.requests.specs.declared.PlainStep.{PlainStep}
+use Rattle.host_lock.specs.declared.journal.Entry.{Entry}
+use Rattle.host_lock.specs.Views.{Idle, View}
+use Rattle.host_lock.specs.declared.view.Slot.{Slot}
+use Rattle.host_lock.specs.declared.view.Slot.TheVariants.{There, Away}
+use Rattle.host_lock.specs.Kept.{Kept, kept}
+use Rattle.host_lock.specs.Journal.{StartsWith}
+use Rattle.host_lock.specs.Rule.{Each, Matches, Closes, posed, both}
+use Rattle.host_lock.specs.Sessions.{SessionData, IsBelow, gathered, seen_by, account_of, Stands}
+use Rattle.host_lock.proofs.Totals.{each_map, each_append, each_left, each_right}
+
+abbrev kept_or : {F : Type 0} → Kept → Slot F → Kept
+kept_or d (There k) = k
+kept_or d (Away u s) = d
+
+abbrev pub Known : Machine → ℕ → View → Kept → Type 0
+Known h n v k = (k.start ≡ h) × Each (StartsWith k.log) v.seen × Each (Matches n k.log) v.owns × Each (IsBelow n) k.log
+
+pub closes_with : {F : Type 0} (h : Machine) (n : ℕ) (v : View) (xs : List (Slot F)) (k : Kept) → Closes h n v xs → get_elem? xs 0 ≡ some (There k) → Known h n v k
+closes_with h n v xs k c e =
+    let is : kept h c.0 ≡ k = ap (kept_or (kept h [])) (some-injective (There (kept h c.0)) (There k) (sym c.1 ∙ e)) in
+    subst (Known h n v) is (refl, c.3, c.4, c.5)
+
+pub not_away : {F : Type 0} (h : Machine) (n : ℕ) (v : View) (xs : List (Slot F)) (u : ℕ) (s : PlainStep) → Closes h n v xs → get_elem? xs 0 ≡ some (Away u s) → ⊥
+not_away h n v xs u s c e = let is : There (kept h c.0) ≡ Away u s = some-injective (There (kept h c.0)) (Away u s) (sym c.1 ∙ e) in cc
+
+pub pops : (P : SessionData → Type 0) (all rem rem' order : List SessionData) (s : SessionData) → Each P all → all ≡ rem ++ reverse order → rem ≡ rem' ++ s ∷ [] → P s × (all ≡ rem' ++ reverse (order ++ s ∷ []))
+pops P all rem rem' order s each is was =
+    let now : all ≡ rem' ++ (s ∷ reverse order) = is ∙ ap (λ (l : List SessionData). l ++ reverse order) was ∙ append_assoc rem' (s ∷ []) (reverse order) in (
+      (each_right P rem' (s ∷ reverse order) (subst (Each P) now each)).0,
+      now ∙ ap (λ (l : List SessionData). rem' ++ l) (sym (reverse-append order (s ∷ []))),
+    )
+
+pub joined : (h : Machine) (order : List SessionData) (s : SessionData) (b c : ℕ) → both (gathered h order b) (posed h Idle c s.seen s.number s.mine) ≡ gathered h (order ++ s ∷ []) (b + c)
+joined h order s b c =
+    λ j. record {
+      start = Some h;
+      stage = Idle;
+      budget = b + c;
+      seen = sym (map-append seen_by order (s ∷ [])) j;
+      owns = sym (map-append account_of order (s ∷ [])) j;
+    }
+
+-- the facts of the gathered seat, session by session
+pub stand : (n : ℕ) (log : List Entry) (order : List SessionData) → Each (StartsWith log) (map seen_by order) → Each (Matches n log) (map account_of order) → Each (Stands log) order
+stand n log [] a b = tt
+stand n log (s ∷ ss) a b = ((a.0, b.0.0), stand n log ss a.1 b.1)
+
+pub each_reverse : (P : SessionData → Type 0) (l : List SessionData) → Each P l → Each P (reverse l)
+each_reverse P [] e = e
+each_reverse P (x ∷ xs) e = let f = each_append P (reverse xs) (x ∷ []) (each_reverse P xs e.1) (e.0, tt) in subst (Each P) (sym (reverse-append (x ∷ []) xs)) f

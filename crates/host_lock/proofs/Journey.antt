@@ -1,0 +1,117 @@
+-- One call, from step to step.
+use Rattle.std.proofs.Common.{◌≡◌, ℕ, ◌-◌, Bool, true, false, List, [], ◌∷◌, ◌++◌, sym, refl, ap, ◌∙◌, subst, arith, MatchBool, eq-eqb, ◌+◌}
+use Rattle.atomic_table.specs.Table.{Me, rest}
+use Rattle.requests.specs.Machine.{Machine}
+use Rattle.requests.specs.declared.PlainStep.{PlainStep}
+use Rattle.requests.specs.declared.Reply.{Reply}
+use Rattle.requests.specs.Isolation.{reply_of}
+use Rattle.requests.specs.Memory.{is_memory}
+use Rattle.host_lock.specs.declared.journal.Entry.{Entry}
+use Rattle.host_lock.specs.Views.{Stage, Idle, Waiting, Holding, Counted, View}
+use Rattle.host_lock.specs.declared.view.Slot.{Slot}
+use Rattle.host_lock.specs.declared.view.Slot.TheVariants.{There, Away}
+use Rattle.host_lock.specs.Kept.{Kept, kept}
+use Rattle.host_lock.specs.Journal.{replay, IsLegal, entries_of, StartsWith, entry, next_entry}
+use Rattle.host_lock.specs.Rule.{M, nobody, has_slot, posed, drawn, start_of, seen_of, mine_of, TakesSlot, HasCounted, HasTurned, IsOut, IsAtRest, most_calls, view_in}
+use Rattle.host_lock.proofs.Logs.{entries_mine}
+
+
+
+module _ {F : Type 0} where
+  abbrev pub IsIdle : ℕ → (M F) → Type 0
+  IsIdle number m = m ≡ (posed (start_of m.0) Idle m.0.budget (seen_of m.0) number (mine_of m.0), [])
+
+  abbrev slot_in : List (ℕ × (Slot F)) → (Slot F)
+  slot_in [] = Away 0 Rattle.requests.specs.declared.PlainStep.TheVariants.Spawn
+  slot_in (x ∷ xs) = x.1
+
+  abbrev kept_in : (Slot F) → Kept
+  kept_in (There k) = k
+  kept_in (Away u s) = kept nobody []
+
+  -- what is known of the host that was taken out
+  abbrev pub IsFound : (M F) → ℕ → ℕ → ℕ → PlainStep → Kept → (M F) → Type 0
+  IsFound m u number ticket s home m' =
+      (start_of m.0 ≡ home.start) × StartsWith home.log (seen_of m.0) × (entries_of number home.log ≡ mine_of m.0)
+      × (m' ≡ (posed home.start (Holding ticket) (m.0.budget - 1) home.log number (mine_of m.0), (0, Away u s) ∷ []))
+
+  pub finds : (m₀ m₁ m₂ m₃ : (M F)) (u number ticket : ℕ) (s : PlainStep) (home : Kept) (result : (Slot F)) → IsIdle number m₀ → m₁ ≡ (drawn m₀.0 ticket, m₀.1) → TakesSlot m₁.0 number ticket m₂ → m₂.1 ≡ (0, result) ∷ rest m₂.1
+      → result ≡ There home → m₃ ≡ (m₂.0, (0, Away u s) ∷ rest m₂.1) → IsFound m₀ u number ticket s home m₃
+  finds m₀ m₁ m₂ m₃ u number ticket s home result e₀ e₁ t is₂ is e₃ =
+      let h : Machine = start_of m₀.0 in
+      let mine : List Entry = mine_of m₀.0 in
+      let now : m₁ ≡ (posed h (Waiting ticket) (m₀.0.budget - 1) (seen_of m₀.0) number mine, []) = e₁ ∙ ap (λ (m : (M F)). (drawn m.0 ticket, m.1)) e₀ in
+      let t' : TakesSlot (posed h (Waiting ticket) (m₀.0.budget - 1) (seen_of m₀.0) number mine) number ticket m₂ = subst (λ (m : (M F)). TakesSlot m.0 number ticket m₂) now t in
+      let log : List Entry = t'.0 in
+      let held : m₂.1 ≡ (0, There (kept h log)) ∷ [] = ap (λ (m : (M F)). m.1) t'.1 in
+      let home_is : kept h log ≡ home = ap (λ (l : List (ℕ × (Slot F))). kept_in (slot_in l)) (sym held ∙ is₂) ∙ ap kept_in is in
+      let P : Kept → Type 0 = λ k. IsFound m₀ u number ticket s k m₃ in
+      subst P home_is (refl, t'.2, t'.3, e₃ ∙ ap (λ (m : (M F)). (m.0, (0, Away u s) ∷ rest m.1)) t'.1)
+
+  pub is_out : (number : ℕ) (m : (M F)) (k k' : Kept) (g : Stage) (x : (Slot F)) (b : ℕ) (mine : List Entry) → has_slot g ≡ 1 → m ≡ (posed k.start g b k.log number mine, (0, x) ∷ []) → k' ≡ k → IsOut number k' m
+  is_out number m k k' g x b mine out e is =
+      subst (λ (z : Kept). IsOut number z m) (sym is) (g, x, out, e ∙ ap (λ (z : (M F)). (posed k.start g z.0.budget k.log number (mine_of z.0), (0, x) ∷ [])) (sym e))
+
+  -- the call is counted, and the home is as long as what is seen
+  pub counts_out : (m₀ m₃ m₄ : (M F)) (u number ticket : ℕ) (s : PlainStep) (home home' : Kept) (r : Reply) → IsFound m₀ u number ticket s home m₃ → HasCounted m₃.0 u number s ticket m₄
+      → r ≡ reply_of u s (replay home.start home.log) → home' ≡ kept home.start (home.log ++ entry u number s r ∷ [])
+      → m₄ ≡ (posed home'.start (Counted ticket) (m₀.0.budget - 1) home'.log number (mine_of m₀.0 ++ entry u number s r ∷ []), (0, Away u s) ∷ [])
+  counts_out m₀ m₃ m₄ u number ticket s home home' r f c reply is =
+      let at : HasCounted (posed home.start (Holding ticket) (m₀.0.budget - 1) home.log number (mine_of m₀.0)) u number s ticket m₄ = subst (λ (m : (M F)). HasCounted m.0 u number s ticket m₄) f.3 c in
+      at ∙ ap (λ (z : Reply). (posed home.start (Counted ticket) (m₀.0.budget - 1) (home.log ++ entry u number s z ∷ []) number (mine_of m₀.0 ++ entry u number s z ∷ []), (0, Away u s) ∷ [])) (sym reply)
+      ∙ ap (λ (k : Kept). (posed k.start (Counted ticket) (m₀.0.budget - 1) k.log number (mine_of m₀.0 ++ entry u number s r ∷ []), (0, Away u s) ∷ [])) (sym is)
+
+  pub turned_none : (m₀ m₃ m₅ : (M F)) (u number ticket : ℕ) (s : PlainStep) (home home' : Kept) (r : Reply) → IsFound m₀ u number ticket s home m₃ → is_memory r ≡ true → IsLegal home'.start home'.log → home' ≡ home
+      → m₅ ≡ (posed home'.start Idle m₃.0.budget home'.log number (mine_of m₃.0), []) → HasTurned m₀.0 u number s r m₅
+  turned_none m₀ m₃ m₅ u number ticket s home home' r f memory legal same e =
+      let P : Kept → Type 0 = λ k. IsLegal k.start k.log × (m₅ ≡ (posed k.start Idle m₃.0.budget k.log number (mine_of m₃.0), [])) in
+      let got : P home = subst P same (legal, e) in
+      let Q : Machine → Type 0 = λ h. IsLegal h home.log × (m₅ ≡ (posed h Idle (m₀.0.budget - 1) home.log number (mine_of m₀.0), [])) in
+      let R : Bool → Type 0 = λ b. MatchBool b (IsLegal (start_of m₀.0) home.log × (m₅ ≡ (posed (start_of m₀.0) Idle (m₀.0.budget - 1) home.log number (mine_of m₀.0), [])))
+          (IsLegal (start_of m₀.0) (home.log ++ entry u number s r ∷ []) × (m₅ ≡ (posed (start_of m₀.0) Idle (m₀.0.budget - 1) (home.log ++ entry u number s r ∷ []) number (mine_of m₀.0 ++ entry u number s r ∷ []), []))) in (
+            home.log,
+            f.1,
+            f.2,
+            subst R (sym memory) (subst Q (sym f.0) (got.0, got.1 ∙ ap (λ (m : (M F)). (posed home.start Idle m.0.budget home.log number (mine_of m.0), [])) f.3)),
+          )
+
+  pub turned_one : (m₀ m₃ m₄ m₅ : (M F)) (u number ticket : ℕ) (s : PlainStep) (home home' : Kept) (r : Reply) → IsFound m₀ u number ticket s home m₃ → is_memory r ≡ false → IsLegal home'.start home'.log
+      → home' ≡ kept home.start (home.log ++ entry u number s r ∷ [])
+      → m₄ ≡ (posed home'.start (Counted ticket) (m₀.0.budget - 1) home'.log number (mine_of m₀.0 ++ entry u number s r ∷ []), (0, Away u s) ∷ [])
+      → m₅ ≡ (posed home'.start Idle m₄.0.budget home'.log number (mine_of m₄.0), []) → HasTurned m₀.0 u number s r m₅
+  turned_one m₀ m₃ m₄ m₅ u number ticket s home home' r f memory legal is at e =
+      let P : Kept → Type 0 = λ k. IsLegal k.start k.log × (m₅ ≡ (posed k.start Idle (m₀.0.budget - 1) k.log number (mine_of m₀.0 ++ entry u number s r ∷ []), [])) in
+      let got = subst P is (legal, e ∙ ap (λ (m : (M F)). (posed home'.start Idle m.0.budget home'.log number (mine_of m.0), [])) at) in
+      let Q : Machine → Type 0 = λ h. IsLegal h (home.log ++ entry u number s r ∷ []) × (m₅ ≡ (posed h Idle (m₀.0.budget - 1) (home.log ++ entry u number s r ∷ []) number (mine_of m₀.0 ++ entry u number s r ∷ []), [])) in
+      let R : Bool → Type 0 = λ b. MatchBool b (IsLegal (start_of m₀.0) home.log × (m₅ ≡ (posed (start_of m₀.0) Idle (m₀.0.budget - 1) home.log number (mine_of m₀.0), [])))
+          (IsLegal (start_of m₀.0) (home.log ++ entry u number s r ∷ []) × (m₅ ≡ (posed (start_of m₀.0) Idle (m₀.0.budget - 1) (home.log ++ entry u number s r ∷ []) number (mine_of m₀.0 ++ entry u number s r ∷ []), []))) in
+      (home.log, f.1, f.2, subst R (sym memory) (subst Q (sym f.0) got))
+
+-- what a session's type keeps
+abbrev pub IsSettled : ℕ → ℕ → View → Type 0
+IsSettled number calls v = IsAtRest number calls v × IsLegal (start_of v) (seen_of v) × (entries_of number (seen_of v) ≡ mine_of v)
+
+settled : (h : Machine) (b number calls : ℕ) (log mine : List Entry) (v : View) → b ≡ most_calls - calls → IsLegal h log → entries_of number log ≡ mine → v ≡ posed h Idle b log number mine → IsSettled number calls v
+settled h b number calls log mine v is legal same e = subst (IsSettled number calls) (sym e) (ap (λ (z : ℕ). posed h Idle z log number mine) is, legal, same)
+
+module _ {F : Type 0} where
+  settles_by : (h : Machine) (b number calls u : ℕ) (s : PlainStep) (r : Reply) (log mine : List Entry) (m : M F) → b ≡ most_calls - calls → entries_of number log ≡ mine → (c : Bool)
+      → MatchBool c (IsLegal h log × (m ≡ (posed h Idle b log number mine, [])))
+          (IsLegal h (log ++ entry u number s r ∷ []) × (m ≡ (posed h Idle b (log ++ entry u number s r ∷ []) number (mine ++ entry u number s r ∷ []), [])))
+      → IsSettled number calls m.0
+  settles_by h b number calls u s r log mine m is same true t = settled h b number calls log mine m.0 is t.0 same (ap (λ (z : M F). z.0) t.1)
+  settles_by h b number calls u s r log mine m is same false t =
+      let e : Entry = entry u number s r in
+      settled h b number calls (log ++ e ∷ []) (mine ++ e ∷ []) m.0 is t.0 (entries_mine number log e (eq-eqb number number refl) ∙ ap (λ (l : List Entry). l ++ e ∷ []) same) (ap (λ (z : M F). z.0) t.1)
+
+  pub settles : (number calls u : ℕ) (s : PlainStep) (r : Reply) (v : View) (m₅ : M F) → IsAtRest number calls v → HasTurned v u number s r m₅ → IsSettled number (calls + 1) m₅.0
+  settles number calls u s r v m₅ rested t =
+      let is : v.budget ≡ most_calls - calls = ap (λ (z : View). z.budget) rested in
+      settles_by (start_of v) (v.budget - 1) number (calls + 1) u s r t.0 (mine_of v) m₅ (omega arith) t.2 (is_memory r) t.3
+
+  -- the same of a session, which keeps a badge between two calls
+  pub badge_settles : (number calls u : ℕ) (s : PlainStep) (r : Reply) (views views' : List View) (m m₅ : M F) → IsAtRest number calls (view_in views) → views ≡ m.0 ∷ [] → HasTurned m.0 u number s r m₅ → views' ≡ m₅.0 ∷ []
+      → (views' ≡ view_in views' ∷ []) × IsSettled number (calls + 1) (view_in views')
+  badge_settles number calls u s r views views' m m₅ rested was turned is =
+      let done = settles number calls u s r m.0 m₅ (subst (λ (vs : List View). IsAtRest number calls (view_in vs)) was rested) turned in
+      subst (λ (vs : List View). (vs ≡ view_in vs ∷ []) × IsSettled number (calls + 1) (view_in vs)) (sym is) (refl, done)

@@ -1,0 +1,31 @@
+use Rattle.std.proofs.Common.{◌≡◌, ℕ, ◌<◌, ◌∙◌, List, [], ◌∷◌, sym, ap, subst, arith, rules, refl}
+use Rattle.atomic_table.specs.Table.{Me, rest}
+use Rattle.host_lock.specs.Views.{View, Idle}
+use Rattle.host_lock.specs.declared.view.Slot.{Slot}
+use Rattle.host_lock.specs.declared.view.Slot.TheVariants.{There}
+use Rattle.host_lock.specs.Rule.{staged}
+use Rattle.host_lock.proofs.Turns.{leaves}
+use Rattle.host_lock.proofs.turn.give_back.Goals as goal
+
+pub exchange-away-requires : goal.exchange-away-requires
+exchange-away-requires g c =
+    let out = c.requires.out in
+    let held = ap (λ (m : Me (Slot g.row.F.Denot) View). m.1) out.3 in
+    (c.requires.table.1, (out.1, held ∙ ap (λ (l : List (ℕ × Slot g.row.F.Denot)). (0, out.1) ∷ rest l) (sym held)))
+
+pub fetch_add-served-requires : goal.fetch_add-served-requires
+fetch_add-served-requires g c =
+    let common = c.args.common.now in
+    let out = c.requires.out in
+    let v = c.args.seat.now.me.0 in
+    let m = c.exchange-away.new.seat.me in
+    let now : m ≡ (v, (0, There c.args.home) ∷ []) = c.exchange-away.ensures.3 ∙ ap (λ (z : Me (Slot g.row.F.Denot) View). (v, (0, There c.args.home) ∷ rest z.1)) out.3 in (
+      c.exchange-away.ensures.0 ∙ c.requires.table.1,
+      omega (arith, c.requires.table.0.0),
+      leaves common.key.start.value common.key.sessions common.table_id.slots c.exchange-away.new.seat.id c.args.number c.args.home out.0 out.1 v m out.2 (ap (λ (z : Me (Slot g.row.F.Denot) View). z.0) out.3) now,
+    )
+
+pub returns-clause-released : goal.returns-clause-released
+returns-clause-released g c =
+    let out = c.requires.out in
+    c.fetch_add-served.ensures.2 ∙ ap (λ (m : Me (Slot g.row.F.Denot) View). (staged m.0 Idle, [])) c.exchange-away.ensures.3 ∙ ap (λ (m : Me (Slot g.row.F.Denot) View). (staged m.0 Idle, [])) out.3

@@ -1,0 +1,276 @@
+-- The rule of the table, and what each step tells.
+use Rattle.std.specs.Prelude.{◌≡◌, ◌⊎◌, ℕ, zero, suc, ◌+◌, ◌-◌, ◌*◌, ◌<◌, ◌≤◌, ◌==◌, ◌^◌, List, [], ◌∷◌, ◌++◌, length, take, drop, Option, Some, None, IfSome, MatchBool, true, if◌then◌else◌}
+use mathlib.Core.Option.{none, some}
+use mathlib.Core.Option as maybe
+use lib.ListN.{get_elem?}
+use Rattle.atomic_table.specs.Table as table
+use Rattle.atomic_table.specs.Table.{State, Me}
+use Rattle.atomic_table.specs.Seated.{TableId}
+use Rattle.requests.specs.Machine.{Machine, empty}
+use Rattle.requests.specs.declared.PlainStep.{PlainStep}
+use Rattle.requests.specs.declared.Reply.{Reply}
+use Rattle.requests.specs.Memory.{is_memory}
+use Rattle.host_lock.specs.declared.journal.Entry.{Entry}
+use Rattle.host_lock.specs.Views.{Stage, Idle, Waiting, Holding, Counted, Account, View, spent}
+use Rattle.host_lock.specs.declared.view.Slot.{Slot}
+use Rattle.host_lock.specs.declared.view.Slot.TheVariants.{There, Away}
+use Rattle.host_lock.specs.Kept.{Kept, kept}
+use Rattle.host_lock.specs.Journal.{replay, IsLegal, entries_of, StartsWith, entry, next_entry}
+
+-- the calls that one session may make
+abbrev pub most_calls : ℕ
+most_calls = 4294967295
+
+abbrev pub total : {V : Type 0} → (V → ℕ) → List V → ℕ
+total f [] = 0
+total f (v ∷ vs) = f v + total f vs
+
+abbrev pub Each : {A : Type 0} → (A → Type 0) → List A → Type 0
+Each P [] = Unit {0}
+Each P (x ∷ xs) = P x × Each P xs
+
+abbrev pub once : ℕ → ℕ → ℕ
+once n t = if n == t then 1 else 0
+
+-- whether the ticket t is out with this stage
+abbrev pub has_ticket : ℕ → Stage → ℕ
+has_ticket t Idle = 0
+has_ticket t (Waiting n) = once n t
+has_ticket t (Holding n) = once n t
+has_ticket t (Counted n) = once n t
+
+-- whether the slot is out with this stage
+abbrev pub has_slot : Stage → ℕ
+has_slot Idle = 0
+has_slot (Waiting n) = 0
+has_slot (Holding n) = 1
+has_slot (Counted n) = 1
+
+-- whether a call is still to be counted
+abbrev pub owes : Stage → ℕ
+owes Idle = 0
+owes (Waiting n) = 1
+owes (Holding n) = 1
+owes (Counted n) = 0
+
+abbrev pub account : ℕ → List Entry → Account
+account n mine = record { number = n; mine = mine }
+
+-- how often the number stands here
+abbrev pub times : ℕ → List Account → ℕ
+times n [] = 0
+times n (x ∷ xs) = once x.number n + times n xs
+
+-- the log's entries of this number are these
+abbrev pub Matches : ℕ → List Entry → Account → Type 0
+Matches sessions log x = (entries_of x.number log ≡ x.mine) × (x.number < sessions)
+
+-- who has the slot has the ticket that is served, and has seen the whole log
+abbrev pub AtTurn : ℕ → List Entry → Stage → List (List Entry) → Type 0
+AtTurn serving log Idle seen = Unit {0}
+AtTurn serving log (Waiting t) seen = Unit {0}
+AtTurn serving log (Holding t) seen = (t ≡ serving) × (seen ≡ log ∷ [])
+AtTurn serving log (Counted t) seen = (t ≡ serving) × (seen ≡ log ∷ [])
+
+pub record Fits (start : Machine) (sessions serving : ℕ) (log : List Entry) (v : View) : Type 0 where
+  pub start_is : IfSome v.start (λ h. h ≡ start)
+  pub seen_is : Each (StartsWith log) v.seen
+  pub owns_is : Each (Matches sessions log) v.owns
+  pub turn_is : AtTurn serving log v.stage v.seen
+  -- a seat that stands for no session has no slot
+  pub works : has_slot v.stage ≤ length v.owns
+
+abbrev pub ticket_of : ℕ → View → ℕ
+ticket_of t v = has_ticket t v.stage
+
+abbrev pub slot_of : View → ℕ
+slot_of v = has_slot v.stage
+
+abbrev pub number_of : ℕ → View → ℕ
+number_of n v = times n v.owns
+
+abbrev pub parts_of : View → ℕ
+parts_of v = length v.owns
+
+abbrev pub budget_of : View → ℕ
+budget_of v = v.budget
+
+abbrev pub calls_of : View → ℕ
+calls_of v = v.budget + owes v.stage
+
+abbrev pub staged : View → Stage → View
+staged v g = record v { stage = g }
+
+abbrev pub drawn : View → ℕ → View
+drawn v n = record v { stage = Waiting n; budget = v.budget - 1 }
+
+abbrev pub taken : View → ℕ → List Entry → View
+taken v t log = record v { stage = Holding t; seen = log ∷ [] }
+
+abbrev pub Tells : List Entry → Account → Type 0
+Tells log x = entries_of x.number log ≡ x.mine
+
+abbrev pub first_seen : List (List Entry) → List Entry
+first_seen [] = []
+first_seen (x ∷ xs) = x
+
+abbrev pub first_owned : List Account → Account
+first_owned [] = account 0 []
+first_owned (x ∷ xs) = x
+
+abbrev pub ticket_in : Stage → ℕ
+ticket_in Idle = 0
+ticket_in (Waiting n) = n
+ticket_in (Holding n) = n
+ticket_in (Counted n) = n
+
+abbrev pub with_entry : Entry → View → View
+with_entry e v =
+    record v { stage = Counted (ticket_in v.stage); seen = (first_seen v.seen ++ e ∷ []) ∷ []; owns = account (first_owned v.owns).number ((first_owned v.owns).mine ++ e ∷ []) ∷ [] }
+
+abbrev pub counts : Option (Machine) → ℕ → PlainStep → View → View
+counts None u s v = v
+counts (Some h) u s v = with_entry (next_entry h (first_seen v.seen) u (first_owned v.owns).number s) v
+
+-- k numbers from n on, whose sessions have made no call
+abbrev pub fresh : ℕ → ℕ → List Account
+fresh n zero = []
+fresh n (suc k) = account n [] ∷ fresh (n + 1) k
+
+abbrev pub spare : Machine → ℕ → ℕ → View
+spare h n k = record { start = Some h; stage = Idle; budget = k * most_calls; seen = [] ∷ []; owns = fresh n k }
+
+abbrev pub opening_view : Machine → ℕ → View
+opening_view h sessions = spare h 0 sessions
+
+abbrev pub cut_left : View → View
+cut_left v = record v { budget = v.budget - most_calls; owns = drop 1 v.owns }
+
+abbrev pub cut_right : View → View
+cut_right v = record v { budget = most_calls; owns = take 1 v.owns }
+
+abbrev pub both : View → View → View
+both v w = record v { budget = v.budget + w.budget; seen = v.seen ++ w.seen; owns = v.owns ++ w.owns }
+
+-- the view of the seat of one session
+abbrev pub posed : Machine → Stage → ℕ → List Entry → ℕ → List Entry → View
+posed h g b seen n mine = record { start = Some h; stage = g; budget = b; seen = seen ∷ []; owns = account n mine ∷ [] }
+
+-- a host that nobody has used
+abbrev pub nobody : Machine
+nobody = empty (record { kill_on_debugger_exit = true })
+
+abbrev pub rows_or : Option (Machine) → Machine
+rows_or None = nobody
+rows_or (Some h) = h
+
+abbrev pub start_of : View → Machine
+start_of v = rows_or v.start
+
+abbrev pub seen_of : View → List Entry
+seen_of v = first_seen v.seen
+
+abbrev pub mine_of : View → List Entry
+mine_of v = (first_owned v.owns).mine
+
+-- the view of a session between two calls
+abbrev pub IsAtRest : ℕ → ℕ → View → Type 0
+IsAtRest number calls v = v ≡ posed (start_of v) Idle (most_calls - calls) (seen_of v) number (mine_of v)
+
+-- the view of a badge
+abbrev pub view_in : List View → View
+view_in [] = spent
+view_in (v ∷ vs) = v
+
+-- three words and a slot
+abbrev pub IsBoard : TableId → Type 0
+IsBoard z = (z.words ≡ 3) × (z.slots ≡ 1)
+
+abbrev pub M : Type 0 → Type 0
+M F = Me (Slot F) View
+
+abbrev pub At : Type 0 → Type 0
+At F = table.Step (Slot F)
+
+module _ {F : Type 0} where
+  -- the value at home has the rows at opening and the whole log; or it is out with one seat
+  abbrev pub AtHome : Machine → List Entry → List View → List (maybe.Option (Slot F)) → Type 0
+  AtHome start log views homes =
+      ((total slot_of views ≡ 0) × (homes ≡ some (There (kept start log)) ∷ [])) ⊎ ((total slot_of views ≡ 1) × (homes ≡ none ∷ []))
+
+  pub record IsKept (start : Machine) (sessions : ℕ) (s : State (Slot F) View) : Type 0 where
+    pub serving : ℕ
+    pub ticket : ℕ
+    -- the longest list
+    pub log : List Entry
+    pub words : s.words ≡ serving ∷ ticket ∷ length log ∷ []
+    -- each seat's lists are beginnings of it, and it has what the seat's sessions did
+    pub seats : (id : ℕ) (v : View) → get_elem? s.views id ≡ some v → Fits start sessions serving log v
+    pub home : AtHome start log s.views s.homes
+    -- the sessions' numbers differ, and there are as many as sessions
+    pub numbers : (n : ℕ) → total (number_of n) s.views ≤ 1
+    pub parts : total parts_of s.views ≡ sessions
+    -- a number that no session has has no entry
+    pub given : Each (λ (e : Entry). e.session < sessions) log
+    -- tickets out are ticket less serving
+    pub in_order : serving ≤ ticket
+    pub out : (t : ℕ) → serving ≤ t → t < ticket → total (ticket_of t) s.views ≡ 1
+    pub past : (t : ℕ) → t < serving → total (ticket_of t) s.views ≡ 0
+    pub later : (t : ℕ) → ticket ≤ t → total (ticket_of t) s.views ≡ 0
+    -- so that no word wraps
+    pub tickets_left : total budget_of s.views + ticket ≤ 274877906944
+    pub calls_left : total calls_of s.views + length log ≤ 274877906944
+
+  abbrev pub drew : At F → M F → ℕ → M F → Type 0
+  drew st m n m' = m' ≡ (drawn m.0 n, m.1)
+
+  -- it is the seat's turn: the host is out with it, and it has seen the log so far
+  abbrev pub Takes : M F → ℕ → M F → Type 0
+  Takes m t m' =
+      (start : Machine) × (log : List Entry) × (m' ≡ (taken m.0 t log, (0, There (kept start log)) ∷ m.1)) × IfSome m.0.start (λ h. h ≡ start) × Each (StartsWith log) m.0.seen × Each (Tells log) m.0.owns
+
+  abbrev pub turned : At F → M F → ℕ → M F → Type 0
+  turned st m n m' = (t : ℕ) → m.0.stage ≡ Waiting t → MatchBool (n == t) (Takes m t m') (m' ≡ m)
+
+  abbrev pub count_slot : (Slot F) → View → View
+  count_slot (There k) v = v
+  count_slot (Away u s) v = counts v.start u s v
+
+  -- the call whose step is in the seat's slot
+  abbrev pub count_in : List (ℕ × (Slot F)) → View → View
+  count_in [] v = v
+  count_in (x ∷ xs) v = count_slot x.1 v
+
+  abbrev pub counted : At F → M F → ℕ → M F → Type 0
+  counted st m n m' = m' ≡ (count_in m.1 m.0, m.1)
+
+  abbrev pub released : At F → M F → ℕ → M F → Type 0
+  released st m n m' = m' ≡ (staged m.0 Idle, [])
+
+  -- what is known at the end of a seat that has taken in all others
+  abbrev pub Closes : Machine → ℕ → View → List (Slot F) → Type 0
+  Closes h n v xs =
+      (log : List Entry) × (get_elem? xs 0 ≡ some (There (kept h log))) × IfSome v.start (λ z. z ≡ h) × Each (StartsWith log) v.seen × Each (Matches n log) v.owns × Each (λ (e : Entry). e.session < n) log
+
+  -- the slot is out with the seat, which has seen the log so far
+  abbrev pub TakesSlot : View → ℕ → ℕ → M F → Type 0
+  TakesSlot v number ticket m' =
+      (log : List Entry) × (m' ≡ (posed (start_of v) (Holding ticket) v.budget log number (mine_of v), (0, There (kept (start_of v) log)) ∷ [])) × StartsWith log (seen_of v) × (entries_of number log ≡ mine_of v)
+
+  -- the call is counted
+  abbrev pub HasCounted : View → ℕ → ℕ → PlainStep → ℕ → M F → Type 0
+  HasCounted v u number s ticket m' =
+      let e = next_entry (start_of v) (seen_of v) u number s in
+      m' ≡ (posed (start_of v) (Counted ticket) v.budget (seen_of v ++ e ∷ []) number (mine_of v ++ e ∷ []), (0, Away u s) ∷ [])
+
+  -- one turn is over: after the log, no entry or one, which is the call's
+  abbrev pub HasTurned : View → ℕ → ℕ → PlainStep → Reply → M F → Type 0
+  HasTurned v u number s r m' =
+      (log : List Entry) × StartsWith log (seen_of v) × (entries_of number log ≡ mine_of v)
+      × MatchBool (is_memory r) (IsLegal (start_of v) log × (m' ≡ (posed (start_of v) Idle (v.budget - 1) log number (mine_of v), [])))
+          (let e = entry u number s r in
+          IsLegal (start_of v) (log ++ e ∷ []) × (m' ≡ (posed (start_of v) Idle (v.budget - 1) (log ++ e ∷ []) number (mine_of v ++ e ∷ []), [])))
+
+  -- the slot is out with the seat, whose last list is k's
+  abbrev pub IsOut : ℕ → Kept → M F → Type 0
+  IsOut number k m = (g : Stage) × (x : (Slot F)) × (has_slot g ≡ 1) × (m ≡ (posed k.start g m.0.budget k.log number (mine_of m.0), (0, x) ∷ []))

@@ -1,0 +1,82 @@
+-- What contracts see of a session and of the shared host.
+use Rattle.std.specs.Prelude.{◌≡◌, ℕ, ◌+◌, ◌<◌, ◌≤◌, ◌==◌, length, map, Some, Bool, false, ◌||◌, List, [], ◌∷◌, ◌++◌, MatchBool}
+use Rattle.std.specs.List.{list_any}
+use Rattle.atomic_table.specs.Seated.{TableId}
+use Rattle.requests.specs.Machine.{Machine}
+use Rattle.requests.specs.declared.PlainStep.{PlainStep}
+use Rattle.requests.specs.declared.Reply.{Reply}
+use Rattle.requests.specs.Memory.{is_memory}
+use Rattle.host_lock.specs.declared.journal.Entry.{Entry}
+use Rattle.host_lock.specs.Journal.{IsLegal, StartsWith, entries_of, entry, replay}
+use Rattle.host_lock.specs.Rule.{Each, most_calls, account}
+use Rattle.host_lock.specs.Views.{Idle, Account, View}
+
+pub record SessionData : Type 0 where
+  pub uid : ℕ
+  pub number : ℕ
+  pub calls : ℕ
+  pub seen : List Entry
+  pub mine : List Entry
+  pub host : TableId
+  pub start : Machine
+
+pub record HostData : Type 0 where
+  pub id : TableId
+  pub start : Machine
+  pub sessions : ℕ
+
+-- the session is of this host
+abbrev pub IsOf : HostData → SessionData → Type 0
+IsOf h s = (s.host ≡ h.id) × (s.start ≡ h.start)
+
+-- what is seen is legal, and has of this session just its own entries
+abbrev pub IsTrue : SessionData → Type 0
+IsTrue s = IsLegal s.start s.seen × (entries_of s.number s.seen ≡ s.mine)
+
+-- the same session, one call later
+abbrev pub Goes : SessionData → SessionData → Type 0
+Goes v w = (w.uid ≡ v.uid) × (w.number ≡ v.number) × (w.calls ≡ v.calls + 1) × (w.host ≡ v.host) × (w.start ≡ v.start)
+
+-- what is seen begins with what was seen, and ends with the call, which is one more of the session's
+abbrev pub Makes : SessionData → PlainStep → Reply → SessionData → Type 0
+Makes v s r w =
+    (log : List Entry) × StartsWith log v.seen × (w.seen ≡ log ++ entry v.uid v.number s r ∷ []) × (w.mine ≡ v.mine ++ entry v.uid v.number s r ∷ [])
+
+-- a call was answered
+abbrev pub Replies : SessionData → PlainStep → Reply → SessionData → Type 0
+Replies v s r w = Goes v w × MatchBool (is_memory r) (StartsWith w.seen v.seen × (w.mine ≡ v.mine)) (Makes v s r w)
+
+-- at the end: the journal has what the session saw, and of it just what it did
+abbrev pub Stands : List Entry → SessionData → Type 0
+Stands log s = StartsWith log s.seen × (entries_of s.number log ≡ s.mine)
+
+-- a session that has made no call
+abbrev pub newborn : ℕ → ℕ → TableId → Machine → SessionData
+newborn u n z h = record { uid = u; number = n; calls = 0; seen = []; mine = []; host = z; start = h }
+
+-- one for each uid, numbered from n
+abbrev pub newborns : ℕ → TableId → Machine → List ℕ → List SessionData
+newborns n z h [] = []
+newborns n z h (u ∷ us) = newborn u n z h ∷ newborns (n + 1) z h us
+
+abbrev pub IsOpenable : List ℕ → Type 0
+IsOpenable us = (0 < length us) × (length us ≤ 64)
+
+abbrev pub IsAt : TableId → Machine → SessionData → Type 0
+IsAt z h s = (s.host ≡ z) × (s.start ≡ h)
+
+abbrev pub IsBelow : ℕ → Entry → Type 0
+IsBelow n e = e.session < n
+
+abbrev pub account_of : SessionData → Account
+account_of s = account s.number s.mine
+
+abbrev pub seen_by : SessionData → List Entry
+seen_by s = s.seen
+
+-- a seat that stands for all these sessions
+abbrev pub gathered : Machine → List SessionData → ℕ → View
+gathered h order b = record { start = Some h; stage = Idle; budget = b; seen = map seen_by order; owns = map account_of order }
+
+abbrev pub IsSame : SessionData → SessionData → Type 0
+IsSame v w = (w.uid ≡ v.uid) × (w.number ≡ v.number) × (w.host ≡ v.host) × (w.start ≡ v.start)

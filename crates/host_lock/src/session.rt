@@ -1,0 +1,89 @@
+//! A session: what one thread makes its calls with.
+
+ghost use Rattle.std.specs.Prelude.{◌≡◌, ℕ, ◌<◌, ◌-◌, [], ◌↔◌, IsTrue};
+ghost use Rattle.host_lock.specs.Rule.{posed, most_calls};
+ghost use Rattle.host_lock.specs.Views.{Idle};
+
+use crate::rule::Place;
+use crate::view::View;
+use atomic_table::Badge;
+use pid_blocks::Uid;
+use std::marker::Model;
+use stop_handlers::Decider;
+
+/// A session of one user on a shared host. Contracts see, beside what its readers answer, the journal as far as the session has seen
+/// it, and the session's own entries.
+#[derive(Drop)]
+pub struct Session {
+    pub(crate) uid: Uid,
+    pub(crate) number: usize,
+    pub(crate) calls_made: u32,
+    pub(crate) badge: Badge<View>,
+}
+
+impl Model for Session {
+    ghost use Rattle.std.specs.Prelude.{◌≡◌, [], ◌∷◌};
+    ghost use Rattle.host_lock.specs.Sessions.{SessionData};
+    ghost use Rattle.host_lock.specs.Rule.{start_of, seen_of, mine_of, view_in, IsAtRest};
+    ghost use Rattle.host_lock.specs.Journal.{IsLegal, entries_of};
+
+    ghost Value = { SessionData };
+
+    ghost view = { λ s. record {
+      uid = s.uid;
+      number = s.number;
+      calls = s.calls_made;
+      seen = seen_of (view_in s.badge.views);
+      mine = mine_of (view_in s.badge.views);
+      host = s.badge.table_id;
+      start = start_of (view_in s.badge.views);
+    } };
+
+    ghost invariant = { λ s.
+      (s.badge.views ≡ view_in s.badge.views ∷ [])
+      × IsAtRest s.number s.calls_made (view_in s.badge.views)
+      × IsLegal (start_of (view_in s.badge.views)) (seen_of (view_in s.badge.views))
+      × (entries_of s.number (seen_of (view_in s.badge.views)) ≡ mine_of (view_in s.badge.views)) };
+}
+
+impl Session {
+    pub(crate) fn into_seat<F: Decider + Send + Drop>(self) -> Place<F>
+        ensures { (result.table_id ≡ self.host) × (result.me ≡ (posed self.start Idle (most_calls - self.calls) self.seen self.number self.mine, [])) }
+    {
+        let Session {
+            uid: _,
+            number: _,
+            calls_made: _,
+            badge,
+        } = self;
+        badge.into_seat()
+    }
+
+    /// Whose session it is.
+    pub fn uid(&self) -> Uid
+        ensures { result ≡ self.now.uid }
+    {
+        self.uid
+    }
+
+    /// Its place among the sessions that were opened, counted from 0.
+    pub fn number(&self) -> usize
+        ensures { result ≡ self.now.number }
+    {
+        self.number
+    }
+
+    /// How many calls it has made.
+    pub fn calls_made(&self) -> u32
+        ensures { result ≡ self.now.calls }
+    {
+        self.calls_made
+    }
+}
+
+/// Whether a session that has made so many calls may make one more.
+pub fn budget_left(calls_made: u32) -> bool
+    ensures { IsTrue result ↔ (calls_made < 4294967295) }
+{
+    calls_made < u32::MAX
+}

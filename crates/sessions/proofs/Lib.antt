@@ -1,0 +1,4 @@
+pub mod Crossing
+pub mod Scripts
+pub mod Pairing
+pub mod Owned

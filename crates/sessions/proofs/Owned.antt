@@ -1,0 +1,48 @@
+-- What each user's entries in a legal journal are.
+use Rattle.std.proofs.Common.{◌≡◌, ℕ, Bool, true, false, ◌==◌, List, [], ◌∷◌, map, refl, sym, ap, ◌∙◌, Result, Ok, Err, IfOk}
+use Rattle.pid_blocks.specs.Users.{IsUser}
+use Rattle.requests.specs.Machine.{Machine}
+use Rattle.requests.specs.declared.Reply.{Reply}
+use Rattle.requests.specs.Run.{Asked, asked_by, replies, last}
+use Rattle.requests.specs.View.{alone, view}
+use Rattle.requests.specs.Isolation.{Users, replies_to}
+use Rattle.requests.specs.Sound.{sound}
+use Rattle.requests.proofs.ViewSound.{sound_apart}
+use Rattle.visibility.proofs.Apart.{own_list_law}
+use Rattle.host_lock.specs.declared.journal.Entry.{Entry}
+use Rattle.host_lock.specs.Journal.{asked, replay, IsLegal}
+use Rattle.sessions.specs.Runs.{entries_by, OwnEntries}
+
+abbrev asked_one : Entry → Asked
+asked_one e = record { uid = e.uid; step = e.step }
+
+asked_more : (u : ℕ) (e : Entry) (es : List Entry) (b : Bool) → (e.uid == u) ≡ b → asked_by u (asked es) ≡ asked (entries_by u es) → asked_by u (asked (e ∷ es)) ≡ asked (entries_by u (e ∷ es))
+asked_more u e es true is rest = rw is (ap (λ (l : List Asked). asked_one e ∷ l) rest)
+asked_more u e es false is rest = rw is rest
+
+-- the user's steps of a journal are the steps of the user's entries
+pub asked_own : (u : ℕ) (log : List Entry) → asked_by u (asked log) ≡ asked (entries_by u log)
+asked_own u [] = refl
+asked_own u (e ∷ es) = asked_more u e es _ refl (asked_own u es)
+
+replies_more : (u : ℕ) (e : Entry) (es : List Entry) (b : Bool) → (e.uid == u) ≡ b → replies_to u (asked es) (map (λ (x : Entry). x.reply) es) ≡ map (λ (x : Entry). x.reply) (entries_by u es)
+    → replies_to u (asked (e ∷ es)) (map (λ (x : Entry). x.reply) (e ∷ es)) ≡ map (λ (x : Entry). x.reply) (entries_by u (e ∷ es))
+replies_more u e es true is rest = rw is (ap (λ (l : List Reply). e.reply ∷ l) rest)
+replies_more u e es false is rest = rw is rest
+
+pub replies_own : (u : ℕ) (log : List Entry) → replies_to u (asked log) (map (λ (x : Entry). x.reply) log) ≡ map (λ (x : Entry). x.reply) (entries_by u log)
+replies_own u [] = refl
+replies_own u (e ∷ es) = replies_more u e es _ refl (replies_own u es)
+
+pub own_entries : (m : Machine) (log : List Entry) → sound m ≡ true → Users (asked log) → IsLegal m log → OwnEntries m log
+own_entries m log is users legal u user =
+    let law = own_list_law m u (asked log) user users (sound_apart m is) in
+    let steps = asked_own u log in (
+      sym (replies_own u log) ∙ ap (replies_to u (asked log)) legal.replies_given ∙ law.0 ∙ ap (λ (l : List Asked). replies l (alone u m)) steps,
+      law.1 ∙ ap (λ (l : List Asked). view u (last l (alone u m))) steps,
+    )
+
+-- the same of a run
+pub own_runs : {H T E : Type 0} (m : Machine) (r : Result (H × List Entry × T) E) → sound m ≡ true → IfOk r (λ x. Users (asked x.1)) → IfOk r (λ x. IsLegal m x.1) → IfOk r (λ x. OwnEntries m x.1)
+own_runs m (Ok x) is users legal = own_entries m x.1 is users legal
+own_runs m (Err e) is users legal = tt

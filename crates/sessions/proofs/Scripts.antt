@@ -1,0 +1,65 @@
+-- A script, step by step.
+use Rattle.std.proofs.Common.{◌≡◌, ℕ, suc, ◌+◌, Bool, true, false, cond, List, [], ◌∷◌, ◌++◌, length, map, reverse, sym, refl, ap, ◌∙◌, subst, arith, append_assoc, append-nil, length-append, MatchBool}
+use Rattle.std.proofs.lemmas.List.{reverse-append}
+use Rattle.requests.specs.declared.PlainStep.{PlainStep}
+use Rattle.requests.specs.declared.Reply.{Reply}
+use Rattle.requests.specs.Memory.{is_memory}
+use Rattle.host_lock.specs.declared.journal.Entry.{Entry}
+use Rattle.host_lock.specs.Journal.{entry}
+use Rattle.sessions.specs.Made.{made, Did, Pairs}
+use mathlib.Core.List.{map-append}
+use Rattle.requests.specs.declared.step.Step.{Step}
+use Rattle.requests.specs.Plain.{plain}
+use Rattle.host_lock.specs.Journal.{StartsWith}
+use Rattle.host_lock.specs.Sessions.{SessionData, Makes}
+use Rattle.host_lock.specs.Answers.{Calls}
+use Rattle.host_lock.specs.declared.host.Answer.TheVariants.{Reply as Answered}
+
+abbrev pub one : ℕ → ℕ → PlainStep → Reply → List Entry
+one u n s r = cond (is_memory r) [] (entry u n s r ∷ [])
+
+pub made_more : (u n : ℕ) (ss : List PlainStep) (rs : List Reply) (s : PlainStep) (r : Reply) → length rs ≡ length ss → made u n (ss ++ s ∷ []) (rs ++ r ∷ []) ≡ made u n ss rs ++ one u n s r
+made_more u n [] [] s r e = refl
+made_more u n [] (q ∷ rs) s r e = absurd (omega arith)
+made_more u n (t ∷ ss) [] s r e = absurd (omega arith)
+made_more u n (t ∷ ss) (q ∷ rs) s r e =
+    let rec = made_more u n ss rs s r (omega arith) in
+    elim (is_memory q) as (λ b. cond b (made u n (ss ++ s ∷ []) (rs ++ r ∷ [])) (entry u n t q ∷ made u n (ss ++ s ∷ []) (rs ++ r ∷ [])) ≡ cond b (made u n ss rs) (entry u n t q ∷ made u n ss rs) ++ one u n s r) [
+      true ↦ rec
+    | false ↦ ap (λ l. entry u n t q ∷ l) rec
+    ]
+
+-- the next step of a reversed list
+pub next_step : {A : Type 0} (all done rem rem' : List A) (s : A) → all ≡ done ++ reverse rem → rem ≡ rem' ++ s ∷ [] → all ≡ (done ++ s ∷ []) ++ reverse rem'
+next_step all done rem rem' s is was =
+    is ∙ ap (λ l. done ++ reverse l) was ∙ ap (λ l. done ++ l) (reverse-append rem' (s ∷ [])) ∙ sym (append_assoc done (s ∷ []) (reverse rem'))
+
+mine_more : (w w' : SessionData) (s : PlainStep) (r : Reply) (b : Bool) → MatchBool b (StartsWith w'.seen w.seen × (w'.mine ≡ w.mine)) (Makes w s r w') → w'.mine ≡ w.mine ++ cond b [] (entry w.uid w.number s r ∷ [])
+mine_more w w' s r true t = t.1 ∙ sym (append-nil w.mine)
+mine_more w w' s r false t = t.3
+
+pub did_more : {F : Type 0} (v w w' : SessionData) (done : List (Step F)) (s : Step F) (rs rs' : List Reply) (r : Reply) → Did v (map plain done) rs w → Calls w (plain s) (Answered r) w' → rs' ≡ rs ++ r ∷ []
+    → Did v (map plain (done ++ s ∷ [])) rs' w'
+did_more v w w' done s rs rs' r d c is =
+    let same : map plain (done ++ s ∷ []) ≡ map plain done ++ plain s ∷ [] = map-append plain done (s ∷ []) in
+    let goes = c.1.0 in
+    let P : List PlainStep × List Reply → Type 0 = λ z. Did v z.0 z.1 w' in
+    subst P (λ i. (sym same i, sym is i)) (
+      length-append rs (r ∷ []) ∙ ap (λ (k : ℕ). k + 1) d.0 ∙ sym (length-append (map plain done) (plain s ∷ [])),
+      goes.0 ∙ d.1,
+      goes.1 ∙ d.2,
+      goes.3 ∙ d.3,
+      goes.4 ∙ d.4,
+      goes.2 ∙ ap (λ (k : ℕ). k + 1) d.5 ∙ sym (length-append (map plain done) (plain s ∷ [])),
+      mine_more w w' (plain s) r (is_memory r) c.1.1 ∙ ap (λ (z : List Entry × ℕ × ℕ). z.0 ++ one z.1 z.2 (plain s) r) (λ i. (d.6 i, d.1 i, d.2 i)) ∙ sym (made_more v.uid v.number (map plain done) rs (plain s) r d.0),
+    )
+
+pub reverse_twice : {A : Type 0} (l : List A) → l ≡ reverse (reverse l)
+reverse_twice [] = refl
+reverse_twice (x ∷ xs) = ap (λ l. x ∷ l) (reverse_twice xs) ∙ sym (ap reverse (reverse-append (x ∷ []) xs) ∙ reverse-append (reverse xs) (x ∷ []))
+
+pub pairs_more : {A B : Type 0} (R : A → B → Type 0) (xs : List A) (ys : List B) (x : A) (y : B) → Pairs R xs ys → R x y → Pairs R (xs ++ x ∷ []) (ys ++ y ∷ [])
+pairs_more R [] [] x y p r = (r, tt)
+pairs_more R [] (b ∷ ys) x y p r = absurd p
+pairs_more R (a ∷ xs) [] x y p r = absurd p
+pairs_more R (a ∷ xs) (b ∷ ys) x y p r = (p.0, pairs_more R xs ys x y p.1 r)

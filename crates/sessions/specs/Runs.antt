@@ -1,0 +1,54 @@
+-- What a run of scripts answers.
+use Rattle.std.specs.Prelude.{◌≡◌, ℕ, ◌<◌, ◌≤◌, ◌==◌, List, [], map, filter, length, Vec, vec_len, vec_capacity, All, slice_index_or}
+use Rattle.requests.specs.declared.Reply.{Reply}
+use Rattle.requests.specs.Plain.{plain}
+use Rattle.host_lock.specs.declared.journal.Entry.{Entry}
+use Rattle.pid_blocks.specs.Users.{IsUser}
+use Rattle.requests.specs.Machine.{Machine}
+use Rattle.requests.specs.Run.{replies, last}
+use Rattle.requests.specs.View.{view, alone}
+use Rattle.host_lock.specs.Journal.{asked, replay, entries_of}
+use Rattle.host_lock.specs.Sessions.{SessionData, HostData}
+use Rattle.sessions.specs.declared.script.Script.{Script}
+use Rattle.sessions.specs.declared.script.Transcript.{Transcript}
+use Rattle.sessions.specs.declared.script.RunRefusal.{RunRefusal}
+use Rattle.sessions.specs.declared.script.RunRefusal.TheVariants.{TooMany, Memory, Start}
+use Rattle.requests.specs.declared.step.Step.{Step}
+use Rattle.std.specs.Global.{Global}
+use Rattle.sessions.specs.Made.{made}
+
+-- the steps can all be made by one session
+abbrev pub IsShort : {F : Type 0} → Script F → Type 0
+IsShort s = vec_len s.steps ≤ 4294967295
+
+-- the transcript has one reply for each step, in order; the steps not answered ENOMEM, with their replies, are the journal's entries of
+-- this number
+abbrev pub Plays : {F : Type 0} → List Entry → ℕ → Script F → Transcript → Type 0
+Plays log k s t = (t.uid ≡ s.uid) × (length t.replies.items ≡ length s.steps.items) × (entries_of k log ≡ made s.uid k (map plain s.steps.items) t.replies.items)
+
+-- one transcript for each script, in order
+abbrev pub AllPlay : {F : Type 0} → List Entry → List (Script F) → List Transcript → Type 0
+AllPlay {F} log ss ts = (length ts ≡ length ss) × ((k : ℕ) (s : Script F) (t : Transcript) → k < length ss → Plays log k (slice_index_or ss k s) (slice_index_or ts k t))
+
+-- the entries of a user
+abbrev pub entries_by : ℕ → List Entry → List Entry
+entries_by u log = filter (λ e. e.uid == u) log
+
+-- every user's entries have the replies that the machine gives to the user's own steps where nobody else has done anything, and the user
+-- sees the same at the end
+abbrev pub OwnEntries : Machine → List Entry → Type 0
+OwnEntries m log = (u : ℕ) → IsUser u
+    → (map (λ e. e.reply) (entries_by u log) ≡ replies (asked (entries_by u log)) (alone u m))
+    × (view u (replay m log) ≡ view u (last (asked (entries_by u log)) (alone u m)))
+
+-- why so many scripts are not run
+abbrev pub RefusesFor : ℕ → RunRefusal → Type 0
+RefusesFor n TooMany = 64 < n
+RefusesFor n Memory = (0 < n) × (n ≤ 64)
+RefusesFor n Start = (0 < n) × (n ≤ 64)
+
+abbrev pub uid_of : {F : Type 0} → Script F → ℕ
+uid_of s = s.uid
+
+abbrev pub steps_of : {F : Type 0} → Script F → Vec (Step F) Global
+steps_of s = s.steps

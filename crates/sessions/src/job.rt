@@ -1,0 +1,48 @@
+//! A worker's job, and what it promises.
+
+ghost use Rattle.std.specs.Prelude.{◌≡◌, map};
+ghost use Rattle.requests.specs.Plain.{plain};
+ghost use Rattle.sessions.specs.Made.{Did};
+
+use host_lock::Session;
+use requests::{Reply, Step};
+use std::snapshot::Snapshot;
+use std::thread::Promise;
+use stop_handlers::Decider;
+
+/// A session with its script, and room for the replies.
+#[derive(Drop)]
+pub struct Job<F: Decider + Send + Drop> {
+    pub session: Session,
+    pub steps: Vec<Step<F>>,
+    pub replies: Vec<Reply>,
+}
+
+/// A session after its script, with the replies.
+#[derive(Drop)]
+pub struct Done {
+    pub session: Session,
+    pub replies: Vec<Reply>,
+}
+
+/// What a worker promises: to make these steps by this session.
+#[derive(Drop)]
+pub struct Plan<F: Decider + Send + Drop> {
+    pub(crate) session: Snapshot<Session>,
+    pub(crate) steps: Snapshot<Vec<Step<F>>>,
+}
+
+impl<F: Decider + Send + Drop> Plan<F> {
+    pub(crate) fn of(session: &Session, steps: &Vec<Step<F>>) -> Plan<F>
+        ensures { (result.session.value ≡ session.now) × (result.steps.value ≡ steps.now) }
+    {
+        Plan {
+            session: Snapshot::of(session),
+            steps: Snapshot::of(steps),
+        }
+    }
+}
+
+impl<F: Decider + Send + Drop> Promise<(Session, Vec<Reply>)> for Plan<F> {
+    ghost kept_by = { λ p r. Did p.session.value (map plain p.steps.value.items) r.1.items r.0 };
+}

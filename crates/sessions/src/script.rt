@@ -1,0 +1,39 @@
+//! What is run, and what comes of it.
+
+use pid_blocks::Uid;
+use requests::{Reply, Step};
+use stop_handlers::Decider;
+
+/// The steps of one user, in order.
+#[derive(Drop)]
+pub struct Script<F: Decider + Send + Drop> {
+    pub uid: Uid,
+    pub steps: Vec<Step<F>>,
+}
+
+/// The replies to a script, one for each step.
+#[derive(Debug, Drop)]
+pub struct Transcript {
+    pub uid: Uid,
+    pub replies: Vec<Reply>,
+}
+
+/// Why scripts were not run, or not to their end. The host is dropped.
+#[derive(Clone, Copy, Debug, PartialEq, Eq)]
+pub enum RunRefusal {
+    /// There are more than 64 scripts.
+    TooMany,
+    /// Memory ran out.
+    Memory,
+    /// A thread could not be started.
+    Start,
+}
+
+/// Told of each call, in the thread that makes it. `index` counts the script's calls from 1.
+pub trait Gate: Sync {
+    /// The call is about to be made.
+    fn before(&self, user: Uid, index: u32);
+
+    /// The call was answered.
+    fn after(&self, user: Uid, index: u32);
+}
