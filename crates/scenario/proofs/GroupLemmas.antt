@@ -1,6 +1,6 @@
 -- The lines of one user, and the lines grouped by user.
-use Rattle.std.proofs.Common.{◌≡◌, ◌≢◌, ◌⊎◌, ℕ, ◌+◌, ◌<◌, ◌≤◌, ◌==◌, Bool, true, false, cond, zero, suc, List, [], ◌∷◌, ◌++◌, map, filter, Option, Some, None, eqb-true, if◌then◌else◌, refl, sym, ap, ap₂, ◌∙◌, inl, inr, arith}
-use Rattle.std.specs.List.{concat, flat_map}
+use Rattle.std.proofs.Common.{◌≡◌, ◌≢◌, ◌⊎◌, ℕ, ◌+◌, ◌<◌, ◌≤◌, ◌==◌, Bool, true, false, cond, zero, suc, List, [], ◌∷◌, ◌++◌, map, Option, Some, None, eqb-true, if◌then◌else◌, refl, sym, ap, ap₂, ◌∙◌, inl, inr, arith}
+use Rattle.std.specs.List.{concat}
 use Rattle.std.proofs.lemmas.List.{append_assoc, append-nil}
 use Rattle.std.proofs.lemmas.List.Elements.{filter-append}
 use Rattle.std.proofs.lemmas.Bool.{cases_lt}
@@ -17,15 +17,8 @@ use Rattle.requests.specs.View.{alone}
 use Rattle.visibility.proofs.Apart.{own_list_law, empty_apart}
 use Rattle.scenario.specs.Lines.{Answered, Line, line, lines, lines_after, lines_of, text, text_of, grouped}
 use Rattle.scenario.specs.Plan.{Plan}
-use Rattle.scenario.specs.Runs.{answers_of, paired, shown, shown_grouped}
+use Rattle.scenario.specs.Runs.{answers_by, by_users, answers_of, paired, shown, shown_grouped}
 use Rattle.scenario.proofs.LineLemmas.{replies_to, counted_one}
-
--- a user's answers, in order, and those of some users, one user after another
-abbrev pub answers_by : ℕ → List Answered → List Answered
-answers_by u answers = filter (λ a. a.uid == u) answers
-
-abbrev pub by_users : List ℕ → List Answered → List Answered
-by_users us answers = flat_map (λ u. answers_by u answers) us
 
 -- replies to a user
 abbrev pub told_to : ℕ → List Reply → List Answered
@@ -182,3 +175,7 @@ pub users_answered : (xs : List Asked) (rs : List Reply) → Users xs → ToUser
 users_answered [] rs all = tt
 users_answered (x ∷ xs) [] all = tt
 users_answered (x ∷ xs) (r ∷ rs) all = (all.0, users_answered xs rs all.1)
+
+-- so of a whole run
+pub shown_plan : (user : Option ℕ) (plan : Plan) → Users plan.steps → shown user (by_users users (answers_of plan)) ≡ shown_grouped user (answers_of plan)
+shown_plan user plan all = shown_by_users user (answers_of plan) (users_answered plan.steps (replies plan.steps (empty plan.settings)) all)

@@ -7,4 +7,8 @@ pub mod Joins
 pub mod WriteLemmas
 pub mod LineLemmas
 pub mod GroupLemmas
+pub mod ScriptLemmas
+pub mod SessionLemmas
+pub mod ThreadLemmas
+pub mod TranscriptLemmas
 pub mod RunLemmas

@@ -5,7 +5,7 @@ ghost use Rattle.requests.specs.Memory.{is_memory};
 ghost use Rattle.scenario.specs.Plan.{bound, policies_in};
 ghost use Rattle.scenario.specs.Runs.{answered, answers_of, shown, Writes};
 ghost use Rattle.scenario.specs.Faults.{run_fault_status};
-ghost use Rattle.scenario.specs.declared.running.RunFault.TheVariants.{Mismatch, Memory, Write as WriteFault};
+ghost use Rattle.scenario.specs.declared.running.RunFault.TheVariants.{Mismatch, Memory, Start, Write as WriteFault};
 
 use crate::binding::bind;
 use crate::lines::render;
@@ -25,6 +25,9 @@ pub enum RunFault {
     /// No memory was left. Nothing was written.
     #[error("tracehost: out of memory")]
     Memory,
+    /// A thread could not be started. Nothing was written.
+    #[error("tracehost: cannot start a worker")]
+    Start,
     /// The writer failed, or took no byte. What it took before is a front of the text.
     #[error("tracehost: cannot write")]
     Write,
@@ -39,7 +42,7 @@ impl RunFault {
         ensures { result ≡ run_fault_status self.now }
     {
         match self {
-            RunFault::Memory | RunFault::Write | RunFault::Mismatch => 3,
+            RunFault::Memory | RunFault::Start | RunFault::Write | RunFault::Mismatch => 3,
         }
     }
 }
@@ -61,7 +64,7 @@ impl<T: Drop> From<AllocFailed<T>> for RunFault {
 }
 
 /// Whether each of the replies was made. A step that found no memory made none.
-fn are_made(replies: &[Reply]) -> bool
+pub(crate) fn are_made(replies: &[Reply]) -> bool
     ensures { OnTrue result (All (λ r. is_memory r ≡ false) replies.now) }
 {
     replies.iter().all(|reply| !reply.is_memory())
@@ -108,7 +111,7 @@ fn replies_of<F: Decider + Send + Drop>(
 }
 
 /// Writes all the bytes, or a front of them.
-fn write_whole<W: Write>(writer: &mut W, bytes: &[u8]) -> Result<(), RunFault>
+pub(crate) fn write_whole<W: Write>(writer: &mut W, bytes: &[u8]) -> Result<(), RunFault>
     ensures writes { Writes result (W.contents writer.old) (W.contents writer.new) bytes.now }
     ensures kind { IfErr result (λ e. e ≡ WriteFault) }
 {
@@ -147,6 +150,7 @@ pub fn run<F: Decider + Send + Drop, W: Write>(
     ensures writes { Writes result (W.contents writer.old) (W.contents writer.new)
         (shown options.user (answers_of scenario.now)) }
     ensures mismatch { IsErrOf result Mismatch ↔ (handlers.items ≢ policies_in scenario.now.steps) }
+    ensures start { IfErr result (λ e. e ≢ Start) }
 {
     let steps = bind(alloc, scenario, handlers)?;
     let replies = replies_of(alloc, scenario.settings(), steps)?;
