@@ -1,9 +1,9 @@
 -- The answers of a whole run.
-use Rattle.std.proofs.Common.{◌≡◌, ℕ, Bool, true, false, List, [], ◌∷◌, map, length, zip, Some, None, if◌then◌else◌, refl, ap, ap₂, subst}
+use Rattle.std.proofs.Common.{◌≡◌, ◌↔◌, ℕ, ◌<◌, Bool, true, false, List, [], ◌∷◌, map, length, zip, Some, None, if◌then◌else◌, refl, sym, ap, ap₂, subst, true≢false, arith}
 use Rattle.std.specs.Prelude.{All, Result, Ok, Err, IfErr}
 use Rattle.std.specs.Result.{IsErrAnd}
-use Rattle.std.specs.Bool.{OnTrue, MatchBool}
-use Rattle.std.specs.List.{AllWithin}
+use Rattle.std.specs.Bool.{IsTrue, MatchBool}
+use Rattle.std.specs.List.{AllWithin, HoldsAt}
 use Rattle.std.proofs.lemmas.List.Elements.{All-head, All-tail, All-from_all_within}
 use Rattle.scenario.specs.declared.running.RunFault.{RunFault}
 use Rattle.requests.specs.declared.Reply.{Reply}
@@ -42,7 +42,8 @@ pub fault_with : {X : Type 0} (P : RunFault → Type 0) (r : Result X RunFault) 
 fault_with P (Ok x) h = tt
 fault_with P (Err e) h = h
 
--- a test that is true where all pass
-pub all_where_true : {X : Type 0} (P : X → Type 0) (No : Type 0) (xs : List X) (b : Bool) → MatchBool b (AllWithin P xs 0 (length xs)) No → OnTrue b (All P xs)
-all_where_true P No xs true h = All-from_all_within P xs h
-all_where_true P No xs false h = tt
+-- a test that is true where all pass, and finds one that doesn't
+pub true_where_all : {X : Type 0} (P : X → Type 0) (xs : List X) (b : Bool) → MatchBool b (AllWithin P xs 0 (length xs)) ((k : ℕ) × (k < length xs) × HoldsAt (λ x. P x → ⊥) xs k) → IsTrue b ↔ All P xs
+true_where_all P xs true h = (λ is. All-from_all_within P xs h, λ all. refl)
+true_where_all P [] false h = absurd (omega (arith, h.1))
+true_where_all P (x ∷ xs) false h = (λ is. absurd (true≢false (sym is)), λ all. absurd (h.2 x (all h.0 x h.1)))

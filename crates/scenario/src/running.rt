@@ -1,6 +1,5 @@
 //! Runs a scenario, and writes its lines.
-ghost use Rattle.std.specs.Prelude.{◌≡◌, ◌≢◌, ◌⊎◌, ◌↔◌, ℕ, IsErrOf, map, zip, false, All, IfOk, IfErr};
-ghost use Rattle.std.specs.Bool.{OnTrue};
+ghost use Rattle.std.specs.Prelude.{◌≡◌, ◌≢◌, ◌⊎◌, ◌↔◌, ℕ, IsErrOf, map, zip, false, All, IsTrue, IfOk, IfErr};
 ghost use Rattle.requests.specs.Memory.{is_memory};
 ghost use Rattle.scenario.specs.Plan.{bound, policies_in};
 ghost use Rattle.scenario.specs.Runs.{answered, answers_of, shown, Writes};
@@ -65,7 +64,7 @@ impl<T: Drop> From<AllocFailed<T>> for RunFault {
 
 /// Whether each of the replies was made. A step that found no memory made none.
 pub(crate) fn are_made(replies: &[Reply]) -> bool
-    ensures { OnTrue result (All (λ r. is_memory r ≡ false) replies.now) }
+    ensures { IsTrue result ↔ All (λ r. is_memory r ≡ false) replies.now }
 {
     replies.iter().all(|reply| !reply.is_memory())
 }

@@ -1,7 +1,6 @@
 //! Runs a scenario by a session for each user, each in a thread of its own.
 
-ghost use Rattle.std.specs.Prelude.{◌≡◌, ◌≢◌, ◌⊎◌, ◌↔◌, ◌≤◌, ◌++◌, [], ℕ, false, length, map, All, IsErrOf, IfOk, IfErr, OnOk};
-ghost use Rattle.std.specs.Bool.{OnTrue};
+ghost use Rattle.std.specs.Prelude.{◌≡◌, ◌≢◌, ◌⊎◌, ◌↔◌, ◌≤◌, ◌++◌, [], ℕ, false, length, map, All, IsTrue, IsErrOf, IfOk, IfErr, OnOk};
 ghost use Rattle.std.specs.List.{flat_map};
 ghost use Rattle.pid_blocks.specs.Blocks.{users};
 ghost use Rattle.requests.specs.Isolation.{Users};
@@ -73,14 +72,14 @@ fn scripts_of<F: Decider + Send + Drop>(
 
 /// Whether each reply of the transcript was made.
 fn is_made(transcript: &Transcript) -> bool
-    ensures { OnTrue result (All (λ r. is_memory r ≡ false) transcript.now.replies.items) }
+    ensures { IsTrue result ↔ All (λ r. is_memory r ≡ false) transcript.now.replies.items }
 {
     are_made(transcript.replies.as_slice())
 }
 
 /// Whether each reply of the transcripts was made. A step that found no memory made none.
 fn all_made(transcripts: &[Transcript]) -> bool
-    ensures { OnTrue result (All (λ t. All (λ r. is_memory r ≡ false) t.replies.items) transcripts.now) }
+    ensures { IsTrue result ↔ All (λ t. All (λ r. is_memory r ≡ false) t.replies.items) transcripts.now }
 {
     transcripts.iter().all(|transcript| is_made(transcript))
 }
