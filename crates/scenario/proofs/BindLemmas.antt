@@ -1,7 +1,6 @@
 -- One more step with its handler.
 use Rattle.std.proofs.Common.{◌≡◌, ℕ, ◌+◌, ◌<◌, List, [], ◌∷◌, ◌++◌, length, get_or, map, take, drop, sym, ap, ◌∙◌}
 use Rattle.std.proofs.lemmas.List.{at_drop_more, map-append, take_more}
-use Rattle.stop_handlers.specs.declared.Rule.{Rule}
 use Rattle.requests.specs.declared.PlainStep.{PlainStep}
 use Rattle.requests.specs.declared.step.Step.{Step}
 use Rattle.requests.specs.Plain.{plain}

@@ -6,4 +6,9 @@ pub mod Answering
 pub mod Joins
 pub mod WriteLemmas
 pub mod LineLemmas
+pub mod GroupLemmas
+pub mod ScriptLemmas
+pub mod SessionLemmas
+pub mod ThreadLemmas
+pub mod TranscriptLemmas
 pub mod RunLemmas

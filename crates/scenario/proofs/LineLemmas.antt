@@ -23,7 +23,7 @@ pub counted_start : Counted (replicate 64 0) []
 counted_start = record { users = refl; each = λ k h. get_or-replicate 64 k 0 0 h }
 
 -- one more reply
-counted_one : (u user : ℕ) (before : List ℕ) (b : Bool) → (u == user) ≡ b → replies_to user (u ∷ before) ≡ cond b 1 0 + replies_to user before
+pub counted_one : (u user : ℕ) (before : List ℕ) (b : Bool) → (u == user) ≡ b → replies_to user (u ∷ before) ≡ cond b 1 0 + replies_to user before
 counted_one u user before b is = sum_by-cons (λ x. cond (x == user) 1 0) u before ∙ ap (λ t. cond t 1 0 + replies_to user before) is
 
 counted_at : (made before : List ℕ) (u k : ℕ) → 1001 ≤ u → u ≤ 1064 → Counted made before → k < 64 → (b : Bool) → (u == (k + 1001)) ≡ b

@@ -1,50 +1,48 @@
--- One more step of a run.
-use Rattle.std.proofs.Common.{◌≡◌, ℕ, List, [], ◌∷◌, ◌++◌, map, sym, ap, ◌∙◌}
-use Rattle.std.specs.Prelude.{Result, Ok, Err, IfErr}
+-- The answers of a whole run.
+use Rattle.std.proofs.Common.{◌≡◌, ℕ, Bool, true, false, List, [], ◌∷◌, map, length, zip, Some, None, if◌then◌else◌, refl, ap, ap₂, subst}
+use Rattle.std.specs.Prelude.{All, Result, Ok, Err, IfErr}
 use Rattle.std.specs.Result.{IsErrAnd}
+use Rattle.std.specs.Bool.{OnTrue, MatchBool}
+use Rattle.std.specs.List.{AllWithin}
+use Rattle.std.proofs.lemmas.List.Elements.{All-head, All-tail, All-from_all_within}
 use Rattle.scenario.specs.declared.running.RunFault.{RunFault}
-use Rattle.std.proofs.lemmas.List.{append_assoc, append-nil, map-append}
 use Rattle.requests.specs.declared.Reply.{Reply}
 use Rattle.requests.specs.declared.step.Step.{Step}
-use Rattle.requests.specs.Machine.{Machine, empty}
-use Rattle.trace_stop.specs.declared.Settings.{Settings}
-use Rattle.requests.specs.Plain.{plain}
+use Rattle.requests.specs.Isolation.{Ran, host_after}
+use Rattle.requests.specs.Machine.{Machine}
+use Rattle.requests.specs.Memory.{is_memory}
 use Rattle.requests.specs.Run.{Asked, replies}
-use Rattle.requests.specs.Step.{step}
-use Rattle.scenario.specs.Lines.{Answered}
+use Rattle.visibility.specs.Runs.{told}
 use Rattle.scenario.specs.Plan.{bound}
-use Rattle.scenario.specs.Runs.{answered, answers_of, paired}
+use Rattle.scenario.specs.Runs.{answered, paired}
 
--- the answers of steps from a host on
-abbrev pub answers_from : List Asked → Machine → List Answered
-answers_from steps m = paired steps (replies steps m)
+-- a reply that is no want of memory is told
+told_made : (r : Reply) → is_memory r ≡ false → told r ≡ Some r
+told_made r made = ap (λ b. if b then None else Some r) made
 
--- after one more step, the answers so far and those to come are still all answers
-pub one_more : {F : Type 0} (s : ℕ × Step F) (rest : List (ℕ × Step F)) (m after : Machine) (r : Reply) (done : List (ℕ × Reply)) (all : List Answered)
-    → after ≡ (step s.0 (plain s.1) m).machine → r ≡ (step s.0 (plain s.1) m).reply
-    → map answered done ++ answers_from (map bound (s ∷ rest)) m ≡ all
-    → map answered (done ++ (s.0, r) ∷ []) ++ answers_from (map bound rest) after ≡ all
-one_more s rest m after r done all after_is reply_is whole =
-    let others = map bound rest in
-    ap (λ xs. xs ++ answers_from others after) (map-append answered done ((s.0, r) ∷ []))
-    ∙ append_assoc (map answered done) (answered (s.0, r) ∷ []) (answers_from others after)
-    ∙ ap (λ x. map answered done ++ (answered (s.0, x) ∷ answers_from others after)) reply_is
-    ∙ ap (λ x. map answered done ++ (answered (s.0, (step s.0 (plain s.1) m).reply) ∷ answers_from others x)) after_is
-    ∙ whole
+-- a run without want of memory gives the machine's replies
+pub all_replies : (xs : List Asked) (rs : List Reply) (m k : Machine) → All (λ r. is_memory r ≡ false) rs → Ran xs (map told rs) m k → rs ≡ replies xs m
+all_replies [] [] m k made ran = refl
+all_replies [] (r ∷ rs) m k made ran = absurd ran
+all_replies (x ∷ xs) [] m k made ran = absurd ran
+all_replies (x ∷ xs) (r ∷ rs) m k made ran =
+    let here = All-head (λ r. is_memory r ≡ false) r rs made in
+    let both = subst (λ o. Ran (x ∷ xs) (o ∷ map told rs) m k) (told_made r here) ran in
+    ap₂ (λ (s : Reply) (ss : List Reply). s ∷ ss) both.0
+    (all_replies xs rs (host_after x.uid x.step m) k (All-tail (λ r. is_memory r ≡ false) r rs made) both.1)
 
--- before the first step
-pub none_made : {F : Type 0} (ss : List (ℕ × Step F)) (m : Machine) (settings : Settings) (done : List (ℕ × Reply)) → done ≡ [] → m ≡ empty settings
-    → map answered done ++ answers_from (map bound ss) m ≡ answers_of (record { settings = settings; steps = map bound ss })
-none_made ss m settings done none host_is =
-    ap (λ d. map answered d ++ answers_from (map bound ss) m) none ∙ ap (λ h. answers_from (map bound ss) h) host_is
-
--- after the last one
-pub all_made : {F : Type 0} (ss : List (ℕ × Step F)) (m : Machine) (done : List (ℕ × Reply)) (all : List Answered) → ss ≡ []
-    → map answered done ++ answers_from (map bound ss) m ≡ all → map answered done ≡ all
-all_made ss m done all none whole =
-    sym (append-nil (map answered done)) ∙ ap (λ xs. map answered done ++ answers_from (map bound xs) m) (sym none) ∙ whole
+-- the steps' users with the replies
+pub paired_with : {F : Type 0} (ss : List (ℕ × Step F)) (rs : List Reply) → map answered (zip (map (λ s. s.0) ss) rs) ≡ paired (map bound ss) rs
+paired_with [] rs = refl
+paired_with (s ∷ ss) [] = refl
+paired_with (s ∷ ss) (r ∷ rs) = ap (λ xs. answered (s.0, r) ∷ xs) (paired_with ss rs)
 
 -- a fault of which P holds
 pub fault_with : {X : Type 0} (P : RunFault → Type 0) (r : Result X RunFault) → IsErrAnd r P → IfErr r P
 fault_with P (Ok x) h = tt
 fault_with P (Err e) h = h
+
+-- a test that is true where all pass
+pub all_where_true : {X : Type 0} (P : X → Type 0) (No : Type 0) (xs : List X) (b : Bool) → MatchBool b (AllWithin P xs 0 (length xs)) No → OnTrue b (All P xs)
+all_where_true P No xs true h = All-from_all_within P xs h
+all_where_true P No xs false h = tt

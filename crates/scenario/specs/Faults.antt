@@ -15,3 +15,4 @@ abbrev pub run_fault_status : RunFault → ℕ
 run_fault_status run_fault.Memory = 3
 run_fault_status run_fault.Write = 3
 run_fault_status run_fault.Mismatch = 3
+run_fault_status run_fault.Start = 3

@@ -2,11 +2,11 @@
 use Rattle.std.specs.Prelude.{ℕ, List, [], ◌∷◌}
 use Rattle.stop_handlers.specs.declared.Rule.{Rule}
 use Rattle.trace_stop.specs.declared.Settings.{Settings}
-use Rattle.requests.specs.declared.step.Step.{Step}
 use Rattle.requests.specs.declared.PlainStep.{PlainStep}
 use Rattle.requests.specs.declared.PlainStep.TheVariants.{Install}
-use Rattle.requests.specs.Plain.{plain}
 use Rattle.requests.specs.Run.{Asked}
+-- a step with a handler in place of its policy
+pub use Rattle.visibility.specs.Runs.{asked as bound}
 
 -- the settings of the host, and the steps in order
 pub record Plan : Type 0 where
@@ -18,10 +18,6 @@ most_steps = 100000
 
 abbrev pub asked : ℕ × PlainStep → Asked
 asked s = record { uid = s.0; step = s.1 }
-
--- a step with a handler in place of its policy
-abbrev pub bound : {F : Type 0} → ℕ × Step F → Asked
-bound s = record { uid = s.0; step = plain s.1 }
 
 -- the policies of the installs, in order
 abbrev pub policy_before : PlainStep → List (List Rule) → List (List Rule)

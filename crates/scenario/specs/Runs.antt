@@ -1,12 +1,13 @@
 -- What a run writes.
-use Rattle.std.specs.Prelude.{⊤, ℕ, List, take, map, zip, Option, Some, None, Result, Ok, Err}
+use Rattle.std.specs.Prelude.{⊤, ℕ, ◌==◌, List, take, map, filter, zip, Option, Some, None, Result, Ok, Err}
+use Rattle.std.specs.List.{flat_map}
 use Rattle.std.specs.Io.KnownBytes.{Appends, Keeps}
 use Rattle.requests.specs.declared.Reply.{Reply}
 use Rattle.requests.specs.Machine.{empty}
 use Rattle.requests.specs.Run.{Asked, replies}
 use Rattle.scenario.specs.declared.running.RunFault.{RunFault}
-use Rattle.scenario.specs.declared.running.RunFault.TheVariants.{Mismatch, Memory, Write}
-use Rattle.scenario.specs.Lines.{Answered, text, text_of, lines, lines_of}
+use Rattle.scenario.specs.declared.running.RunFault.TheVariants.{Mismatch, Memory, Start, Write}
+use Rattle.scenario.specs.Lines.{Answered, text, text_of, grouped, lines, lines_of}
 use Rattle.scenario.specs.Plan.{Plan}
 
 -- a reply to a user
@@ -17,6 +18,18 @@ answered r = record { uid = r.0; reply = r.1 }
 abbrev pub shown : Option ℕ → List Answered → List ℕ
 shown None answers = text answers
 shown (Some user) answers = text_of (lines_of user (lines answers))
+
+-- the same, grouped by rising user
+abbrev pub shown_grouped : Option ℕ → List Answered → List ℕ
+shown_grouped None answers = grouped answers
+shown_grouped (Some user) answers = shown (Some user) answers
+
+-- a user's answers, in order, and those of some users, one user after another
+abbrev pub answers_by : ℕ → List Answered → List Answered
+answers_by u answers = filter (λ a. a.uid == u) answers
+
+abbrev pub by_users : List ℕ → List Answered → List Answered
+by_users us answers = flat_map (λ u. answers_by u answers) us
 
 -- the steps' users with the replies
 abbrev pub paired : List Asked → List Reply → List Answered
@@ -32,3 +45,4 @@ Writes (Ok done) old new text = Appends old new text
 Writes (Err Write) old new text = (n : ℕ) × Appends old new (take n text)
 Writes (Err Memory) old new text = Keeps old new
 Writes (Err Mismatch) old new text = Keeps old new
+Writes (Err Start) old new text = Keeps old new

@@ -1,10 +1,10 @@
 //! From the steps of a scenario to those that a host makes, with their handlers.
-ghost use Rattle.std.specs.Prelude.{List, ◌≡◌, ◌≢◌, ◌↔◌, ◌⊎◌, map, None, IsTrue, IsSomeAnd, IfSome, IfOk, IfErr, IsErrOf};
+ghost use Rattle.std.specs.Prelude.{List, ◌≡◌, ◌≢◌, ◌≤◌, ◌↔◌, ◌⊎◌, length, map, None, IsTrue, IsSomeAnd, IfSome, IfOk, IfErr, IsErrOf};
 ghost use Rattle.std.specs.Vec.Iter.{into_iter_items};
 ghost use Rattle.stop_handlers.specs.declared.Rule.{Rule};
 ghost use Rattle.stop_handlers.specs.Handlers.{MakesObeying};
 ghost use Rattle.requests.specs.Plain.{plain};
-ghost use Rattle.scenario.specs.Plan.{bound, policies_in, policy_before};
+ghost use Rattle.scenario.specs.Plan.{bound, most_steps, policies_in, policy_before};
 ghost use Rattle.scenario.specs.declared.running.RunFault.TheVariants.{Mismatch, Memory};
 
 use crate::plan::Scenario;
@@ -119,6 +119,7 @@ fn bound<F: Decider + Send + Drop>(
 ) -> Result<Vec<(Uid, Step<F>)>, RunFault>
     requires { handlers.items ≡ policies_in scenario.now.steps }
     ensures ok { IfOk result (λ v. map bound v.items ≡ scenario.now.steps) }
+    ensures few { IfOk result (λ v. length v.items ≤ most_steps) }
     ensures err { IfErr result (λ e. e ≡ Memory) }
 {
     let mut rest = handlers.into_iter();
@@ -141,6 +142,7 @@ pub fn bind<F: Decider + Send + Drop>(
     handlers: Vec<Handler<F>>,
 ) -> Result<Vec<(Uid, Step<F>)>, RunFault>
     ensures ok { IfOk result (λ v. map bound v.items ≡ scenario.now.steps) }
+    ensures few { IfOk result (λ v. length v.items ≤ most_steps) }
     ensures mismatch { IsErrOf result Mismatch ↔ (handlers.items ≢ policies_in scenario.now.steps) }
     ensures err { IfErr result (λ e. (e ≡ Mismatch) ⊎ (e ≡ Memory)) }
 {

@@ -1,22 +1,23 @@
 //! Runs a scenario, and writes its lines.
-ghost use Rattle.std.specs.Prelude.{◌≡◌, ◌≢◌, ◌⊎◌, ◌↔◌, ℕ, IsErrOf, map, IsTrue, IfOk, IfErr};
-ghost use Rattle.pid_blocks.specs.declared.Errno.TheVariants as errno;
-ghost use Rattle.requests.specs.declared.Reply.TheVariants as replies;
+ghost use Rattle.std.specs.Prelude.{◌≡◌, ◌≢◌, ◌⊎◌, ◌↔◌, ℕ, IsErrOf, map, zip, false, All, IfOk, IfErr};
+ghost use Rattle.std.specs.Bool.{OnTrue};
+ghost use Rattle.requests.specs.Memory.{is_memory};
 ghost use Rattle.scenario.specs.Plan.{bound, policies_in};
 ghost use Rattle.scenario.specs.Runs.{answered, answers_of, shown, Writes};
 ghost use Rattle.scenario.specs.Faults.{run_fault_status};
-ghost use Rattle.scenario.specs.declared.running.RunFault.TheVariants.{Mismatch, Memory, Write as WriteFault};
+ghost use Rattle.scenario.specs.declared.running.RunFault.TheVariants.{Mismatch, Memory, Start, Write as WriteFault};
 
 use crate::binding::bind;
 use crate::lines::render;
 use crate::plan::Scenario;
-use pid_blocks::{Errno, Uid};
+use pid_blocks::Uid;
 use requests::{Host, Reply, Step};
 use std::alloc::{AllocError, AllocFailed, Global};
 use std::io::Write;
 use stop_handlers::{Decider, Handler};
 use thiserror::Error;
 use trace_stop::Settings;
+use visibility::run_list;
 
 /// Why a run came to no end.
 #[derive(Clone, Copy, Debug, PartialEq, Eq, Error)]
@@ -24,6 +25,9 @@ pub enum RunFault {
     /// No memory was left. Nothing was written.
     #[error("tracehost: out of memory")]
     Memory,
+    /// A thread could not be started. Nothing was written.
+    #[error("tracehost: cannot start a worker")]
+    Start,
     /// The writer failed, or took no byte. What it took before is a front of the text.
     #[error("tracehost: cannot write")]
     Write,
@@ -38,7 +42,7 @@ impl RunFault {
         ensures { result ≡ run_fault_status self.now }
     {
         match self {
-            RunFault::Memory | RunFault::Write | RunFault::Mismatch => 3,
+            RunFault::Memory | RunFault::Start | RunFault::Write | RunFault::Mismatch => 3,
         }
     }
 }
@@ -59,11 +63,32 @@ impl<T: Drop> From<AllocFailed<T>> for RunFault {
     }
 }
 
-/// Whether the step found no memory.
-fn is_refused_memory(reply: &Reply) -> bool
-    ensures { IsTrue result ↔ (reply.now ≡ replies.Errno errno.ENOMEM) }
+/// Whether each of the replies was made. A step that found no memory made none.
+pub(crate) fn are_made(replies: &[Reply]) -> bool
+    ensures { OnTrue result (All (λ r. is_memory r ≡ false) replies.now) }
 {
-    matches!(reply, Reply::Errno(Errno::ENOMEM))
+    replies.iter().all(|reply| !reply.is_memory())
+}
+
+/// The users of the steps, in order. An error is want of memory.
+fn users_of<F: Decider + Send + Drop>(
+    alloc: Global,
+    steps: &[(Uid, Step<F>)],
+) -> Result<Vec<Uid>, AllocError>
+    ensures { IfOk result (λ users. users.items ≡ map (λ s. s.0) steps.now) }
+{
+    steps.iter().map(|step| step.0).collect(alloc)
+}
+
+/// Each user with the reply in the same place. An error is want of memory.
+fn pairs_of(
+    alloc: Global,
+    users: Vec<Uid>,
+    replies: Vec<Reply>,
+) -> Result<Vec<(Uid, Reply)>, AllocError>
+    ensures { IfOk result (λ pairs. pairs.items ≡ zip users.items replies.items) }
+{
+    users.into_iter().zip(replies).collect(alloc)
 }
 
 /// The replies to the steps, made one after another by a new host. A step that is answered ENOMEM ends the run.
@@ -76,20 +101,17 @@ fn replies_of<F: Decider + Send + Drop>(
         ≡ answers_of (record { settings = settings; steps = map bound steps.items })) }
     ensures err { IfErr result (λ e. e ≡ Memory) }
 {
-    let mut replies = Vec::new(alloc);
+    let users = users_of(alloc, steps.as_slice())?;
     let mut host = Host::new(alloc, settings)?;
-    for (user, step) in steps {
-        let reply = host.step(alloc, user, step);
-        if is_refused_memory(&reply) {
-            return Err(RunFault::Memory);
-        }
-        replies.push((user, reply))?;
+    let replies = run_list(alloc, &mut host, steps)?;
+    if !are_made(replies.as_slice()) {
+        return Err(RunFault::Memory);
     }
-    Ok(replies)
+    Ok(pairs_of(alloc, users, replies)?)
 }
 
 /// Writes all the bytes, or a front of them.
-fn write_whole<W: Write>(writer: &mut W, bytes: &[u8]) -> Result<(), RunFault>
+pub(crate) fn write_whole<W: Write>(writer: &mut W, bytes: &[u8]) -> Result<(), RunFault>
     ensures writes { Writes result (W.contents writer.old) (W.contents writer.new) bytes.now }
     ensures kind { IfErr result (λ e. e ≡ WriteFault) }
 {
@@ -128,6 +150,7 @@ pub fn run<F: Decider + Send + Drop, W: Write>(
     ensures writes { Writes result (W.contents writer.old) (W.contents writer.new)
         (shown options.user (answers_of scenario.now)) }
     ensures mismatch { IsErrOf result Mismatch ↔ (handlers.items ≢ policies_in scenario.now.steps) }
+    ensures start { IfErr result (λ e. e ≢ Start) }
 {
     let steps = bind(alloc, scenario, handlers)?;
     let replies = replies_of(alloc, scenario.settings(), steps)?;

@@ -13,6 +13,7 @@ mod rules;
 mod runs;
 mod sizes;
 mod steps;
+mod threads;
 mod tracing;
 mod values;
 

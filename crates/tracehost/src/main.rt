@@ -1,5 +1,5 @@
-//! `tracehost [FILE] [--user UID]`: runs the scenario of a file or of standard input, and writes its lines, or those of one user alone, to
-//! standard output.
+//! `tracehost [FILE] [--user UID] [--threads]`: runs the scenario of a file or of standard input, and writes its lines, or those of one
+//! user alone, to standard output; with `--threads` each user's steps are made by a thread of their own, and the lines come user by user.
 #![tactic(auto)]
 
 ghost use Rattle.stop_handlers.specs.Handlers.{MakesObeying};
@@ -7,10 +7,14 @@ ghost use Rattle.stop_handlers.specs.Handlers.{MakesObeying};
 use clap::error::ErrorKind;
 use clap::{Arg, ArgAction, Command};
 use pid_blocks::Uid;
-use scenario::{Fault, RunFault, RunOptions, Scenario, handlers_of, policies, read, run};
+use scenario::{
+    Fault, RunFault, RunOptions, Scenario, handlers_of, policies, read, run, run_threads,
+};
 use std::alloc::{AllocError, Global};
 use std::process::ExitCode;
 use std::rt::{Env, Files};
+use std::sync::Wait;
+use std::thread::Threads;
 use std::{env, fs, io};
 use stop_handlers::{ByClosure, Decider, Policy, StopView};
 
@@ -72,6 +76,8 @@ struct Asked<'a> {
     file: Option<&'a str>,
     /// The user whose lines alone are shown.
     user: Option<Uid>,
+    /// Whether each user has a thread.
+    threads: bool,
 }
 
 /// What the command line asks for.
@@ -81,7 +87,13 @@ fn asked_of(alloc: Global, words: &[String]) -> Result<Asked<'_>, Trouble> {
         .long("user")
         .action(ArgAction::Set)
         .value_parser(clap::value_parser!(u32).range(1001..=1064));
-    let command = Command::new(alloc, "tracehost").arg(file)?.arg(user)?;
+    let threads = Arg::new(alloc, "threads")
+        .long("threads")
+        .action(ArgAction::SetTrue);
+    let command = Command::new(alloc, "tracehost")
+        .arg(file)?
+        .arg(user)?
+        .arg(threads)?;
     let matches = command.try_get_matches_from(words)?;
     let user = match matches.get_one::<u32>("UID") {
         Some(number) => Uid::new(number).ok(),
@@ -90,6 +102,7 @@ fn asked_of(alloc: Global, words: &[String]) -> Result<Asked<'_>, Trouble> {
     Ok(Asked {
         file: matches.get_str("FILE"),
         user,
+        threads: matches.get_flag("threads"),
     })
 }
 
@@ -110,7 +123,7 @@ fn scenario_of<R: Files + Input + AllocGlobal>(
 /// Reads the command line, then the scenario, and then runs it with a handler for each of its policies. The first trouble ends
 /// it.
 fn go<
-    R: Files + Input + Print + Eprint + Env + AllocGlobal,
+    R: Files + Input + Print + Eprint + Env + AllocGlobal + Threads + Wait + Sync,
     F: Decider + Send + Drop,
     M: Fn(Policy) -> F,
 >(rt: &R, make: M) -> Result<(), Trouble>
@@ -123,13 +136,19 @@ fn go<
     let policies = policies(rt.alloc(), &scenario)?;
     let handlers = handlers_of(rt.alloc(), policies.as_slice(), make)?;
     let options = RunOptions { user: asked.user };
-    run(
-        rt.alloc(),
-        &scenario,
-        handlers,
-        options,
-        &mut io::writer(rt),
-    )?;
+    let mut writer = io::writer(rt);
+    if asked.threads {
+        run_threads(
+            rt,
+            rt.alloc(),
+            &scenario,
+            handlers,
+            options,
+            &mut writer,
+        )?;
+    } else {
+        run(rt.alloc(), &scenario, handlers, options, &mut writer)?;
+    }
     Ok(())
 }
 

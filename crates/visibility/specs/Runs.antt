@@ -1,11 +1,10 @@
 -- Steps of a host, as the machine sees them, and their answers.
-use Rattle.std.specs.Prelude.{◌≡◌, ℕ, Bool, true, false, List, Option, Some, None, if◌then◌else◌}
-use Rattle.pid_blocks.specs.declared.Errno.TheVariants as errno
+use Rattle.std.specs.Prelude.{◌≡◌, ℕ, true, List, [], ◌∷◌, Option, Some, None, if◌then◌else◌}
 use Rattle.requests.specs.declared.PlainStep.{PlainStep}
 use Rattle.requests.specs.declared.Reply.{Reply}
-use Rattle.requests.specs.declared.Reply.TheVariants as reply
 use Rattle.requests.specs.declared.step.Step.{Step}
 use Rattle.requests.specs.Machine.{Machine}
+use Rattle.requests.specs.Memory.{is_memory, may_want}
 use Rattle.requests.specs.Plain.{plain}
 use Rattle.requests.specs.Run.{Asked, asked_by}
 use Rattle.requests.specs.View.{view}
@@ -15,18 +14,22 @@ use Rattle.requests.specs.Isolation.{reply_of, host_after, replies_to, answered,
 abbrev pub asked : {F : Type 0} → ℕ × Step F → Asked
 asked s = record { uid = s.0; step = plain s.1 }
 
-abbrev pub is_memory : Reply → Bool
-is_memory (reply.Errno errno.ENOMEM) = true
-is_memory r = false
-
 -- an answer, where memory didn't run out
 abbrev pub told : Reply → Option Reply
 told r = if is_memory r then None else Some r
 
--- what a step did to a host: the machine's answer and the machine's host, or want of memory and the host as it was
+-- what a step did to a host: the machine's answer and the machine's host; or, where the step takes memory and the machine wouldn't
+-- refuse it, want of memory and the host as it was
 abbrev pub Did : Option Reply → ℕ → PlainStep → Machine → Machine → Type 0
-Did None u s m k = k ≡ m
+Did None u s m k = (k ≡ m) × (may_want u s m ≡ true)
 Did (Some r) u s m k = (r ≡ reply_of u s m) × (k ≡ host_after u s m)
+
+-- in a run from m, only steps that take memory and aren't refused want memory
+abbrev pub Wanting : List Asked → List (Option Reply) → Machine → Type 0
+Wanting [] rs m = Unit {0}
+Wanting (x ∷ xs) [] m = Unit {0}
+Wanting (x ∷ xs) (None ∷ rs) m = (may_want x.uid x.step m ≡ true) × Wanting xs rs m
+Wanting (x ∷ xs) (Some r ∷ rs) m = Wanting xs rs (host_after x.uid x.step m)
 
 -- where both steps were answered: the answers, and something more
 abbrev pub BothTold : Option Reply → Option Reply → (Reply → Reply → Type 0) → Type 0

@@ -4,7 +4,7 @@ ghost use Rattle.std.specs.Prelude.{◌≡◌, ◌≢◌, map, IfOk, OnErr};
 ghost use Rattle.requests.specs.Plain.{plain};
 ghost use Rattle.requests.specs.View.{view};
 ghost use Rattle.requests.specs.Isolation.{Ran, AlikeSteps};
-ghost use Rattle.visibility.specs.Runs.{asked, told, Did, BothTold, Agree};
+ghost use Rattle.visibility.specs.Runs.{asked, told, Did, BothTold, Wanting, Agree};
 
 use crate::runs::run_into;
 use pid_blocks::Uid;
@@ -90,6 +90,8 @@ pub fn two_lists<F: Decider + Send + Drop>(
     requires seen { view user first.old ≡ view user second.old }
     ensures first { IfOk result (λ r. Ran (map asked steps.items) (map told r.0.items) first.old first.new) }
     ensures second { IfOk result (λ r. Ran (map asked others.items) (map told r.1.items) second.old second.new) }
+    ensures first_wanting { IfOk result (λ r. Wanting (map asked steps.items) (map told r.0.items) first.old) }
+    ensures second_wanting { IfOk result (λ r. Wanting (map asked others.items) (map told r.1.items) second.old) }
     ensures equal { IfOk result (λ r. Agree user (map asked steps.items) (map asked others.items) (map told r.0.items) (map told r.1.items) first.new second.new) }
     ensures first_refused { OnErr result (first.new ≡ first.old) }
     ensures second_refused { OnErr result (second.new ≡ second.old) }

@@ -2,7 +2,7 @@
 
 ghost use Rattle.std.specs.Prelude.{◌≡◌, [], map, length, IfOk, OnErr, vec_capacity};
 ghost use Rattle.requests.specs.Isolation.{Ran, Private, Users};
-ghost use Rattle.visibility.specs.Runs.{asked, told};
+ghost use Rattle.visibility.specs.Runs.{asked, told, Wanting};
 
 use pid_blocks::Uid;
 use requests::{Host, Reply, Step};
@@ -19,6 +19,7 @@ pub(crate) fn run_into<F: Decider + Send + Drop>(
     requires empty { replies.items ≡ [] }
     requires room { vec_capacity replies ≡ length steps.items }
     ensures ran { Ran (map asked steps.items) (map told result.items) host.old host.new }
+    ensures wanting { Wanting (map asked steps.items) (map told result.items) host.old }
     ensures users { Users (map asked steps.items) }
 {
     for (user, step) in steps {
@@ -29,14 +30,16 @@ pub(crate) fn run_into<F: Decider + Send + Drop>(
     replies
 }
 
-/// Makes the steps of all users in turn on the host, and answers the replies in order. Room for the replies is taken
-/// first: an error is want of memory, and changes nothing.
+/// Makes the steps of all users in turn on the host, and answers the replies in order. ENOMEM is answered only for a step that takes
+/// memory and that the machine wouldn't refuse, and such a step changes nothing. Room for the replies is taken first: an error is
+/// want of memory, and changes nothing.
 pub fn run_list<F: Decider + Send + Drop>(
     alloc: Global,
     host: &mut Host<F>,
     steps: Vec<(Uid, Step<F>)>,
 ) -> Result<Vec<Reply>, AllocError>
     ensures ran { IfOk result (λ replies. Ran (map asked steps.items) (map told replies.items) host.old host.new) }
+    ensures wanting { IfOk result (λ replies. Wanting (map asked steps.items) (map told replies.items) host.old) }
     ensures own { IfOk result (λ replies. Private (map asked steps.items) (map told replies.items) host.old host.new) }
     ensures refused { OnErr result (host.new ≡ host.old) }
 {

@@ -17,7 +17,7 @@ use trace_stop::Settings;
 
 /// What a user sees of a host: the user's processes by rising number, the LWPs of these in order of birth, where the search for the
 /// user's next numbers begins, what the user's debuggers have installed in order, and the settings.
-#[derive(Drop)]
+#[derive(Debug, Drop)]
 pub struct View {
     processes: Vec<ProcData>,
     lwps: Vec<LwpData>,

@@ -36,6 +36,7 @@ fn faults(rt: HostRuntime) -> Result<(), Fail> {
     }
     let table = [
         (RunFault::Memory, "tracehost: out of memory (3)"),
+        (RunFault::Start, "tracehost: cannot start a worker (3)"),
         (RunFault::Write, "tracehost: cannot write (3)"),
         (RunFault::Mismatch, "tracehost: handlers do not match (3)"),
     ];

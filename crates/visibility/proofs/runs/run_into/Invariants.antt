@@ -2,7 +2,7 @@
 use Rattle.std.proofs.Common.{◌≡◌, ◌+◌, ◌++◌, map, length, vec_len, vec_capacity}
 use Rattle.std.specs.Vec.Iter.{into_iter_items, into_iter_len}
 use Rattle.requests.specs.Isolation.{Ran, Users}
-use Rattle.visibility.specs.Runs.{asked, told}
+use Rattle.visibility.specs.Runs.{asked, told, Wanting}
 use Rattle.visibility.proofs.runs.run_into.Given as goal
 
 abbrev pub invariant-loop-user : goal.invariant-loop-user
@@ -11,5 +11,6 @@ invariant-loop-user g l = record {
   left : into_iter_len l.user-iterator ≡ length (into_iter_items l.user-iterator);
   users : Users (map asked l.yielded);
   ran : Ran (map asked l.yielded) (map told l.replies.items) l.fn.host l.host;
+  wanting : Wanting (map asked l.yielded) (map told l.replies.items) l.fn.host;
   room : vec_capacity l.replies ≡ vec_len l.replies + length (into_iter_items l.user-iterator);
 }

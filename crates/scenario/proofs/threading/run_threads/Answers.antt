@@ -1,0 +1,20 @@
+use Rattle.std.proofs.Common.{◌≡◌, map, List, ap, ap₂, subst, ◌∙◌}
+use Rattle.pid_blocks.specs.Blocks.{users}
+use Rattle.trace_stop.specs.declared.Settings.{Settings}
+use Rattle.requests.specs.Isolation.{Users}
+use Rattle.requests.specs.Run.{Asked}
+use Rattle.scenario.specs.Runs.{answered, answers_of, by_users, shown, Writes}
+use Rattle.scenario.proofs.GroupLemmas.{shown_plan}
+use Rattle.scenario.proofs.threading.run_threads.Goals as goal
+
+pub returns-clause-writes : goal.returns-clause-writes
+returns-clause-writes g c =
+    let plan = c.args.scenario.now in
+    let user = c.args.options.user in
+    let steps = c.in_ok-steps.ensures.ok in
+    let all : Users plan.steps = subst Users steps c.in_ok-replies.ensures.users in
+    let answers : map answered c.as_slice.result.now ≡ by_users users (answers_of plan) =
+    ap (map answered) c.as_slice.ensures.value ∙ c.in_ok-replies.ensures.ok
+    ∙ ap₂ (λ (settings : Settings) (xs : List Asked). by_users users (answers_of (record { settings = settings; steps = xs }))) c.settings.ensures steps in
+    let text = c.as_bytes.ensures.value ∙ c.in_ok-text.ensures ∙ ap (shown user) answers ∙ shown_plan user plan all in
+    subst (Writes c.write_whole.result (g.W.Write.contents c.args.writer.now) (g.W.Write.contents c.write_whole.new.writer)) text c.write_whole.ensures.writes

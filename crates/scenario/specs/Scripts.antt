@@ -1,0 +1,32 @@
+-- A script for each user who has steps, and what its replies tell.
+use Rattle.std.specs.Prelude.{ℕ, Bool, true, false, List, [], ◌∷◌, map, filter}
+use Rattle.pid_blocks.specs.Blocks.{users}
+use Rattle.requests.specs.declared.PlainStep.{PlainStep}
+use Rattle.requests.specs.Plain.{plain}
+use Rattle.requests.specs.Run.{Asked, asked_by}
+use Rattle.sessions.specs.declared.script.Script.{Script}
+use Rattle.sessions.specs.declared.script.Transcript.{Transcript}
+use Rattle.scenario.specs.Lines.{Answered}
+
+-- a user's steps, in order
+abbrev pub steps_of : ℕ → List Asked → List PlainStep
+steps_of u list = map (λ a. a.step) (asked_by u list)
+
+abbrev pub some_steps : List PlainStep → Bool
+some_steps [] = false
+some_steps (step ∷ rest) = true
+
+abbrev pub has_steps : ℕ × List PlainStep → Bool
+has_steps s = some_steps s.1
+
+-- each user who has steps, by rising number, with these
+abbrev pub scripts_in : List Asked → List (ℕ × List PlainStep)
+scripts_in list = filter has_steps (map (λ u. (u, steps_of u list)) users)
+
+-- a script with policies in place of handlers
+abbrev pub plain_script : {F : Type 0} → Script F → ℕ × List PlainStep
+plain_script s = (s.uid, map plain s.steps.items)
+
+-- the answers that a transcript tells
+abbrev pub told_by : Transcript → List Answered
+told_by t = map (λ r. record { uid = t.uid; reply = r }) t.replies.items

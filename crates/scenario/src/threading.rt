@@ -1,0 +1,175 @@
+//! Runs a scenario by a session for each user, each in a thread of its own.
+
+ghost use Rattle.std.specs.Prelude.{◌≡◌, ◌≢◌, ◌⊎◌, ◌↔◌, ◌≤◌, ◌++◌, [], ℕ, false, length, map, All, IsErrOf, IfOk, IfErr, OnOk};
+ghost use Rattle.std.specs.Bool.{OnTrue};
+ghost use Rattle.std.specs.List.{flat_map};
+ghost use Rattle.pid_blocks.specs.Blocks.{users};
+ghost use Rattle.requests.specs.Isolation.{Users};
+ghost use Rattle.requests.specs.Memory.{is_memory};
+ghost use Rattle.scenario.specs.Plan.{bound, most_steps, policies_in};
+ghost use Rattle.scenario.specs.Runs.{answered, answers_of, by_users, shown_grouped, Writes};
+ghost use Rattle.scenario.specs.Scripts.{has_steps, plain_script, scripts_in, told_by};
+ghost use Rattle.scenario.specs.declared.running.RunFault.TheVariants.{Mismatch, Memory, Start};
+
+use crate::binding::bind;
+use crate::lines::render;
+use crate::plan::Scenario;
+use crate::running::{RunFault, RunOptions, are_made, write_whole};
+use pid_blocks::Uid;
+use requests::{Host, Reply, Step};
+use sessions::{Gate, RunRefusal, Script, Transcript, run_sessions};
+use std::alloc::{AllocError, Global};
+use std::io::Write;
+use std::sync::Wait;
+use std::thread::Threads;
+use stop_handlers::{Decider, Handler};
+use trace_stop::Settings;
+
+/// A gate that does nothing.
+struct NoGate;
+
+impl Gate for NoGate {
+    fn before(&self, _user: Uid, _index: u32) {}
+
+    fn after(&self, _user: Uid, _index: u32) {}
+}
+
+/// A script without steps for each of the 64 users, by rising number. An error is want of memory.
+fn empty_scripts<F: Decider + Send + Drop>(alloc: Global) -> Result<Vec<Script<F>>, AllocError>
+    ensures { IfOk result (λ scripts. map plain_script scripts.items ≡ map (λ u. (u, [])) users) }
+{
+    let mut scripts = Vec::with_capacity(alloc, 64)?;
+    for number in 1001..1065 {
+        if let Ok(uid) = Uid::new(number) {
+            let steps = Vec::new(alloc);
+            scripts.push(Script { uid, steps })?;
+        }
+    }
+    Ok(scripts)
+}
+
+/// Whether the script has steps.
+fn is_asked<F: Decider + Send + Drop>(script: &Script<F>) -> bool
+    ensures { result ≡ has_steps (plain_script script.now) }
+{
+    !script.steps.is_empty()
+}
+
+/// A script for each user who has steps, by rising number of the users. An error is want of memory.
+fn scripts_of<F: Decider + Send + Drop>(
+    alloc: Global,
+    steps: Vec<(Uid, Step<F>)>,
+) -> Result<Vec<Script<F>>, AllocError>
+    ensures scripts { IfOk result (λ scripts. map plain_script scripts.items ≡ scripts_in (map bound steps.items)) }
+    ensures users { OnOk result (Users (map bound steps.items)) }
+{
+    let mut scripts = empty_scripts(alloc)?;
+    for (user, step) in steps {
+        scripts[user.slot()].steps.push(step)?;
+    }
+    scripts.retain(|script| is_asked(script));
+    Ok(scripts)
+}
+
+/// Whether each reply of the transcript was made.
+fn is_made(transcript: &Transcript) -> bool
+    ensures { OnTrue result (All (λ r. is_memory r ≡ false) transcript.now.replies.items) }
+{
+    are_made(transcript.replies.as_slice())
+}
+
+/// Whether each reply of the transcripts was made. A step that found no memory made none.
+fn all_made(transcripts: &[Transcript]) -> bool
+    ensures { OnTrue result (All (λ t. All (λ r. is_memory r ≡ false) t.replies.items) transcripts.now) }
+{
+    transcripts.iter().all(|transcript| is_made(transcript))
+}
+
+/// Adds the replies of the transcript, each with its user. An error is want of memory.
+fn add_replies(pairs: &mut Vec<(Uid, Reply)>, transcript: Transcript) -> Result<(), AllocError>
+    ensures { OnOk result (map answered pairs.new.items ≡ map answered pairs.old.items ++ told_by transcript) }
+{
+    let Transcript { uid, replies } = transcript;
+    for reply in replies {
+        pairs.push((uid, reply))?;
+    }
+    Ok(())
+}
+
+/// The replies of the transcripts, each with its user, one transcript after another. An error is want of memory.
+fn replies_in(alloc: Global, transcripts: Vec<Transcript>) -> Result<Vec<(Uid, Reply)>, AllocError>
+    ensures { IfOk result (λ pairs. map answered pairs.items ≡ flat_map told_by transcripts.items) }
+{
+    let mut pairs = Vec::new(alloc);
+    for transcript in transcripts {
+        add_replies(&mut pairs, transcript)?;
+    }
+    Ok(pairs)
+}
+
+/// The transcripts of the steps, made on a new host by a session for each user who has some.
+fn transcripts_of<F: Decider + Send + Drop, R: Threads + Wait + Sync>(
+    rt: &R,
+    alloc: Global,
+    settings: Settings,
+    steps: Vec<(Uid, Step<F>)>,
+) -> Result<Vec<Transcript>, RunFault>
+    requires { length steps.items ≤ most_steps }
+    ensures told { IfOk result (λ ts. All (λ t. All (λ r. is_memory r ≡ false) t.replies.items) ts.items
+        → flat_map told_by ts.items ≡ by_users users (answers_of (record { settings = settings; steps = map bound steps.items }))) }
+    ensures users { OnOk result (Users (map bound steps.items)) }
+    ensures err { IfErr result (λ e. (e ≡ Memory) ⊎ (e ≡ Start)) }
+{
+    let scripts = scripts_of(alloc, steps)?;
+    let host = Host::new(alloc, settings)?;
+    match run_sessions(rt, alloc, host, scripts, &NoGate) {
+        Ok((_host, _journal, transcripts)) => Ok(transcripts),
+        Err(RunRefusal::Memory) => Err(RunFault::Memory),
+        Err(RunRefusal::Start) => Err(RunFault::Start),
+        Err(RunRefusal::TooMany) => unreachable!(),
+    }
+}
+
+/// The replies to the steps, made by a session for each user who has some: one user after another, by rising number.
+fn replies_by_user<F: Decider + Send + Drop, R: Threads + Wait + Sync>(
+    rt: &R,
+    alloc: Global,
+    settings: Settings,
+    steps: Vec<(Uid, Step<F>)>,
+) -> Result<Vec<(Uid, Reply)>, RunFault>
+    requires { length steps.items ≤ most_steps }
+    ensures ok { IfOk result (λ v. map answered v.items
+        ≡ by_users users (answers_of (record { settings = settings; steps = map bound steps.items }))) }
+    ensures users { OnOk result (Users (map bound steps.items)) }
+    ensures err { IfErr result (λ e. (e ≡ Memory) ⊎ (e ≡ Start)) }
+{
+    let transcripts = transcripts_of(rt, alloc, settings, steps)?;
+    if !all_made(transcripts.as_slice()) {
+        return Err(RunFault::Memory);
+    }
+    Ok(replies_in(alloc, transcripts)?)
+}
+
+/// Makes the steps of the scenario on a new host as `run` does, but by a session for each user who has steps, each in a
+/// thread of its own. Then it writes the lines of the replies, grouped by rising user: what `run` writes for each user.
+///
+/// # Errors
+///
+/// As `run`; and `Start` where a thread could not be started: then nothing was written.
+pub fn run_threads<F: Decider + Send + Drop, W: Write, R: Threads + Wait + Sync>(
+    rt: &R,
+    alloc: Global,
+    scenario: &Scenario,
+    handlers: Vec<Handler<F>>,
+    options: RunOptions,
+    writer: &mut W,
+) -> Result<(), RunFault>
+    ensures writes { Writes result (W.contents writer.old) (W.contents writer.new)
+        (shown_grouped options.user (answers_of scenario.now)) }
+    ensures mismatch { IsErrOf result Mismatch ↔ (handlers.items ≢ policies_in scenario.now.steps) }
+{
+    let steps = bind(alloc, scenario, handlers)?;
+    let replies = replies_by_user(rt, alloc, scenario.settings(), steps)?;
+    let text = render(alloc, replies.as_slice(), options.user)?;
+    write_whole(writer, text.as_bytes())
+}
