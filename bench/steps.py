@@ -221,4 +221,5 @@ def main():
                 print(f'{kind:45} {count:7} {seconds:9.3f} {seconds / count * 1e6:10.2f}')
 
 
-main()
+if __name__ == '__main__':
+    main()

@@ -1,0 +1,101 @@
+//! What the threads made of the scripts, beside what one thread makes of them.
+
+use crate::replay::replay;
+use crate::replies::same;
+use crate::scripts::{scripts, users};
+use host_lock::{Entry, Journal};
+use pid_blocks::Uid;
+use requests::Host;
+use sessions::{Script, Transcript};
+use std::alloc::{AllocError, Global};
+use stop_handlers::ByPolicy;
+use visibility::user_view;
+
+/// Whether a user sees the same of two hosts.
+fn sees_same(
+    alloc: Global,
+    left: &Host<ByPolicy>,
+    right: &Host<ByPolicy>,
+    user: Uid,
+) -> Result<bool, AllocError> {
+    let left = user_view(alloc, left, user)?;
+    let right = user_view(alloc, right, user)?;
+    Ok(
+        left.processes() == right.processes()
+            && left.lwps() == right.lwps()
+            && left.pid_cursor() == right.pid_cursor()
+            && left.tid_cursor() == right.tid_cursor()
+            && left.handlers() == right.handlers()
+            && left.settings() == right.settings(),
+    )
+}
+
+/// Whether an entry is the session's step at this place, with the reply that the session was given.
+fn is_at(entry: &Entry, script: &Script<ByPolicy>, transcript: &Transcript, place: usize) -> bool {
+    let (Some(step), Some(reply)) = (script.steps.get(place), transcript.replies.get(place)) else {
+        return false;
+    };
+    entry.uid == script.uid
+        && entry.uid == transcript.uid
+        && entry.step == step.plain()
+        && same(&entry.reply, reply)
+}
+
+/// How many entries of the journal aren't their session's next step with its reply.
+fn misplaced(
+    alloc: Global,
+    seed: u32,
+    journal: &Journal,
+    transcripts: &[Transcript],
+) -> Result<usize, AllocError> {
+    let scripts = scripts(alloc, seed)?;
+    let mut made = vec![in alloc; 0usize; scripts.len()]?;
+    let mut count: usize = 0;
+    for place in 0..journal.len() {
+        if let Some(entry) = journal.get(place) {
+            let session = entry.session;
+            let fits = match (
+                made.as_mut_slice().get_mut(session),
+                scripts.as_slice().get(session),
+                transcripts.get(session),
+            ) {
+                (Some(next), Some(script), Some(transcript)) => {
+                    let place = *next;
+                    *next = place.wrapping_add(1);
+                    is_at(entry, script, transcript, place)
+                }
+                _ => false,
+            };
+            if !fits {
+                count = count.wrapping_add(1);
+            }
+        }
+    }
+    Ok(count)
+}
+
+/// How often the threads' run differs from what one thread makes of the journal: in the sessions' steps and replies, in the replies to all
+/// entries in order, in those to each user's entries where nobody else does anything, and in what users see in the end.
+pub fn differences(
+    alloc: Global,
+    seed: u32,
+    host: &Host<ByPolicy>,
+    journal: &Journal,
+    transcripts: &[Transcript],
+) -> Result<usize, AllocError> {
+    let users = users(alloc, seed)?;
+    let settings = host.settings();
+    let misplaced = misplaced(alloc, seed, journal, transcripts)?;
+    let all = replay(alloc, settings, journal, users.as_slice())?;
+    let mut count = misplaced.wrapping_add(all.differ);
+    for user in users.iter() {
+        let own = replay(alloc, settings, journal, &[*user])?;
+        count = count.wrapping_add(own.differ);
+        for replayed in [&all.host, &own.host] {
+            if !sees_same(alloc, host, replayed, *user)? {
+                count = count.wrapping_add(1);
+            }
+        }
+    }
+    Ok(count)
+}
