@@ -3,8 +3,8 @@
 use crate::dice::Dice;
 use crate::replay::step_of;
 use event_masks::{Call, StopFlags};
-use lwp_table::Mode;
-use pid_blocks::{Uid, pid_block, tid_block};
+use lwp_table::{LwpData, Mode};
+use pid_blocks::{Pid, Uid, pid_block, tid_block};
 use proc_table::{ProcData, State};
 use requests::{Act, Host, PlainStep, Request};
 use signals::{Disposition, Pass, SigSet, Signal};
@@ -149,7 +149,7 @@ impl Writer {
         let own = process.pid.get();
         let above = process.tracer.map_or(process.parent, |tracer| tracer.get());
         match process.state {
-            State::Run => self.running(own),
+            State::Run => self.running(process),
             State::Trace { seen, .. } => {
                 if seen {
                     self.request(above, own)
@@ -166,30 +166,43 @@ impl Writer {
     }
 
     /// A step by or about a process that runs.
-    fn running(&mut self, own: u32) -> PlainStep {
+    fn running(&mut self, process: ProcData) -> PlainStep {
+        let own = process.pid.get();
         let other = self.number();
-        match self.dice.below(16) {
-            0 | 1 => self.ask(other, Request::Attach, own),
-            2 => self.ask(own, Request::TraceMe, 0),
-            3 => self.kill(other, i64::from(own)),
-            4 => self.kill(own, -1),
-            5 => PlainStep::Sigaction {
+        match self.dice.below(20) {
+            0..=3 => self.ask(other, Request::Attach, own),
+            4 if process.parent != 1 => self.ask(own, Request::TraceMe, 0),
+            5 => self.kill(other, i64::from(own)),
+            6 => self.kill(own, -1),
+            7 => PlainStep::Sigaction {
                 caller: own,
                 sig: self.signal(),
                 disposition: self.dice.pick(&DISPOSITIONS),
             },
-            6 => PlainStep::List { caller: own },
-            7 => self.wait(own, -1),
-            8 => self.wait(own, i64::from(other)),
-            _ => self.turn(),
+            8 => PlainStep::List { caller: own },
+            9 => self.wait(own, -1),
+            _ => {
+                let lwp = self.lwp(process.pid);
+                self.turn(lwp)
+            }
         }
     }
 
-    /// The turn of one of the user's LWPs.
-    fn turn(&mut self) -> PlainStep {
-        let tables = self.host.tables();
+    /// The first LWP of the process, or any other of the user's.
+    fn lwp(&mut self, pid: Pid) -> Option<LwpData> {
+        let is_own = self.dice.below(2) == 0;
         let place = self.dice.below(16) as usize;
-        let Some(lwp) = tables.lwp_at(place).or(tables.lwp_at(0)) else {
+        let tables = self.host.tables();
+        if is_own {
+            tables.first_lwp(pid)
+        } else {
+            tables.lwp_at(place)
+        }
+    }
+
+    /// The turn of the LWP, or else a new process.
+    fn turn(&mut self, lwp: Option<LwpData>) -> PlainStep {
+        let Some(lwp) = lwp else {
             return PlainStep::Spawn;
         };
         let act = match lwp.mode {
@@ -216,12 +229,12 @@ impl Writer {
 
     /// What a debugger does about a stop that it wasn't told of yet.
     fn stopped(&mut self, debugger: u32) -> PlainStep {
-        match self.dice.below(5) {
-            0 => PlainStep::Install {
+        match self.dice.below(8) {
+            0 | 1 => PlainStep::Install {
                 caller: debugger,
                 policy: self.policy(),
             },
-            1 | 2 => PlainStep::Handle { caller: debugger },
+            2..=4 => PlainStep::Handle { caller: debugger },
             _ => self.wait(debugger, -1),
         }
     }
@@ -293,7 +306,7 @@ impl Writer {
                 0 => signal.ok(),
                 _ => None,
             },
-            flags: StopFlags(self.dice.pick(&[0, 0, 0, 1, 2, 4, 8, 16])),
+            flags: StopFlags(self.dice.pick(&[0, 0, 0, 0, 1, 2, 4, 8])),
             decision: self.decision(),
         }
     }
