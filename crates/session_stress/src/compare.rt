@@ -1,5 +1,8 @@
 //! What the threads made of the scripts, beside what one thread makes of them.
 
+ghost use Rattle.std.specs.Prelude.{◌≡◌, ◌↔◌, IsTrue, IfOk};
+ghost use Rattle.requests.specs.View.{view};
+
 use crate::replay::replay;
 use crate::replies::same;
 use crate::scripts::{scripts, users};
@@ -17,17 +20,10 @@ fn sees_same(
     left: &Host<ByPolicy>,
     right: &Host<ByPolicy>,
     user: Uid,
-) -> Result<bool, AllocError> {
-    let left = user_view(alloc, left, user)?;
-    let right = user_view(alloc, right, user)?;
-    Ok(
-        left.processes() == right.processes()
-            && left.lwps() == right.lwps()
-            && left.pid_cursor() == right.pid_cursor()
-            && left.tid_cursor() == right.tid_cursor()
-            && left.handlers() == right.handlers()
-            && left.settings() == right.settings(),
-    )
+) -> Result<bool, AllocError>
+    ensures { IfOk result (λ same. IsTrue same ↔ (view user left.now ≡ view user right.now)) }
+{
+    Ok(user_view(alloc, left, user)? == user_view(alloc, right, user)?)
 }
 
 /// Whether an entry is the session's step at this place, with the reply that the session was given.

@@ -12,11 +12,10 @@ mod writer;
 use compare::differences;
 use pid_blocks::Uid;
 use requests::Host;
-use scripts::{SESSIONS, scripts};
+use scripts::{scripts, settings};
 use sessions::{Gate, RunRefusal, run_sessions};
 use std::alloc::AllocError;
 use std::io;
-use trace_stop::Settings;
 
 const RUNS: u32 = 10;
 
@@ -60,17 +59,9 @@ impl From<io::Error> for Trouble {
     }
 }
 
-/// What a debugger's end does to its tracees, in this run.
-fn settings(seed: u32) -> Settings {
-    if seed % 2 == 0 {
-        Settings::standard()
-    } else {
-        Settings::detach_on_exit()
-    }
-}
-
 fn main(rt: HostRuntime) -> Result<(), Trouble> {
     let alloc = rt.alloc();
+    let mut sessions: usize = 0;
     let mut steps: usize = 0;
     let mut answered: usize = 0;
     let mut differ: usize = 0;
@@ -83,6 +74,7 @@ fn main(rt: HostRuntime) -> Result<(), Trouble> {
             scripts(alloc, seed)?,
             &Open,
         )?;
+        sessions = transcripts.len();
         for transcript in transcripts.iter() {
             steps = steps.wrapping_add(transcript.replies.len());
         }
@@ -91,7 +83,7 @@ fn main(rt: HostRuntime) -> Result<(), Trouble> {
         differ = differ.wrapping_add(found);
     }
     println!(rt;
-        "{RUNS} runs, {SESSIONS} sessions, {steps} steps, {answered} answered, {differ} differ"
+        "{RUNS} runs, {sessions} sessions, {steps} steps, {answered} answered, {differ} differ"
     )?;
     if differ == 0 {
         Ok(())

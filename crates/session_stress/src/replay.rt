@@ -12,10 +12,10 @@ use stop_handlers::{ByPolicy, Handler};
 use trace_stop::Settings;
 
 /// The step, with a handler that answers by the policy.
-pub fn step_of(step: PlainStep) -> Step<ByPolicy>
-    ensures { plain result ≡ step }
+pub fn step_of(step: &PlainStep) -> Step<ByPolicy>
+    ensures { plain result ≡ step.now }
 {
-    match step {
+    match *step {
         PlainStep::Spawn => Step::Spawn,
         PlainStep::List { caller } => Step::List { caller },
         PlainStep::Sigaction {
@@ -76,7 +76,7 @@ pub fn replay(
     for place in 0..journal.len() {
         if let Some(entry) = journal.get(place) {
             if users.contains(&entry.uid) {
-                let reply = host.step(alloc, entry.uid, step_of(entry.step));
+                let reply = host.step(alloc, entry.uid, step_of(&entry.step));
                 if !same(&reply, &entry.reply) {
                     differ = differ.wrapping_add(1);
                 }

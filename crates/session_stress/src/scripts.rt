@@ -1,25 +1,34 @@
 //! The scripts of a run.
 
-ghost use Rattle.std.specs.Prelude.{◌≡◌, ◌≤◌, All, IfOk, vec_len};
+ghost use Rattle.std.specs.Prelude.{◌≡◌, ◌<◌, ◌≤◌, All, IfOk, vec_len};
 ghost use Rattle.sessions.specs.Runs.{IsShort};
 
 use crate::dice::Dice;
+use crate::replay::step_of;
 use crate::writer::Writer;
 use pid_blocks::Uid;
-use requests::Step;
+use requests::PlainStep;
 use sessions::Script;
 use std::alloc::{AllocError, Global};
 use stop_handlers::ByPolicy;
+use trace_stop::Settings;
 
-pub const SESSIONS: u32 = 64;
-
-/// How many users have sessions. The first sessions are of one user each.
+/// How many users a run has.
 const USERS: u32 = 40;
 
 /// How many steps a session has.
 const STEPS: usize = 100;
 
-/// The user at this place among those of a run. In ten runs each of the 64 users has sessions.
+/// What a debugger's end does to its tracees in a run.
+pub fn settings(seed: u32) -> Settings {
+    if seed % 2 == 0 {
+        Settings::standard()
+    } else {
+        Settings::detach_on_exit()
+    }
+}
+
+/// The user at this place among those of a run. In ten runs each of the 64 users has its turn.
 fn user_at(seed: u32, place: u32) -> Uid {
     let slot = (place % 64 + 8 * (seed % 64)) % 64;
     match Uid::new(1001 + slot) {
@@ -33,41 +42,62 @@ pub fn users(alloc: Global, seed: u32) -> Result<Vec<Uid>, AllocError> {
     (0..USERS).map(|place| user_at(seed, place)).collect(alloc)
 }
 
-/// The steps of a session.
-fn steps_of(alloc: Global, dice: Dice, user: Uid) -> Result<Vec<Step<ByPolicy>>, AllocError>
-    ensures { IfOk result (λ steps. vec_len steps ≤ 4294967295) }
+/// How many sessions the user at this place has. Ten users in a row have 16.
+fn sessions_at(place: u32) -> usize
+    ensures least { 0 < result }
+    ensures most { result ≤ 3 }
 {
-    let mut writer = Writer::new(alloc, dice, user);
-    for _ in 0..3 {
-        writer.spawn()?;
+    match place % 10 {
+        0..=4 => 1,
+        5..=8 => 2,
+        _ => 3,
     }
-    for _ in 0..STEPS {
-        if writer.len() >= STEPS {
-            break;
+}
+
+/// So many steps of a user.
+fn steps_of(
+    alloc: Global,
+    seed: u32,
+    user: Uid,
+    count: usize,
+) -> Result<Vec<PlainStep>, AllocError> {
+    let dice = Dice::new(u64::from(seed) * 10000 + u64::from(user.get()));
+    Writer::new(alloc, dice, user, settings(seed))?.steps(alloc, count)
+}
+
+/// The script of one of a user's sessions, which have the steps in turn.
+fn script_of(
+    alloc: Global,
+    uid: Uid,
+    steps: &[PlainStep],
+    sessions: usize,
+    turn: usize,
+) -> Result<Script<ByPolicy>, AllocError>
+    requires { 0 < sessions }
+    ensures { IfOk result IsShort }
+{
+    let mut own = Vec::new(alloc);
+    for (place, step) in steps.iter().enumerate() {
+        if place % sessions == turn {
+            own.push(step_of(step))?;
         }
-        writer.go_on()?;
     }
-    let mut steps = writer.into_steps();
-    steps.truncate(STEPS);
-    Ok(steps)
+    own.truncate(STEPS);
+    Ok(Script { uid, steps: own })
 }
 
 /// The scripts of a run, which are the same whenever they are made. Some users have several.
 pub fn scripts(alloc: Global, seed: u32) -> Result<Vec<Script<ByPolicy>>, AllocError>
     ensures { IfOk result (λ scripts. All IsShort scripts.items) }
 {
-    let mut users = Dice::new(u64::from(seed));
     let mut scripts = Vec::new(alloc);
-    for session in 0..SESSIONS {
-        let place = if session < USERS {
-            session
-        } else {
-            users.below(USERS)
-        };
-        let uid = user_at(seed, place);
-        let dice = Dice::new(u64::from(seed) * 1000 + u64::from(session));
-        let steps = steps_of(alloc, dice, uid)?;
-        scripts.push(Script { uid, steps })?;
+    for place in 0..USERS {
+        let user = user_at(seed, place);
+        let sessions = sessions_at(place);
+        let steps = steps_of(alloc, seed, user, sessions * STEPS)?;
+        for turn in 0..sessions {
+            scripts.push(script_of(alloc, user, steps.as_slice(), sessions, turn)?)?;
+        }
     }
     Ok(scripts)
 }

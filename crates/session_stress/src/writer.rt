@@ -1,31 +1,32 @@
-//! A script of one user, by a fixed rule.
-
-ghost use Rattle.std.specs.Prelude.{◌≡◌};
+//! The steps of one user, by a fixed rule.
 
 use crate::dice::Dice;
+use crate::replay::step_of;
 use event_masks::{Call, StopFlags};
-use pid_blocks::{Uid, pid_block, tid_block};
-use requests::{Act, Request, Step};
+use lwp_table::{LwpData, Mode};
+use pid_blocks::{Pid, Uid, pid_block, tid_block};
+use proc_table::{ProcData, State};
+use requests::{Act, Host, PlainStep, Request};
 use signals::{Disposition, Pass, SigSet, Signal};
 use std::alloc::{AllocError, Global};
-use stop_handlers::{ByPolicy, Decision, Handler, Policy, Rule};
+use stop_handlers::{ByPolicy, Decision, Policy, Rule};
+use trace_stop::Settings;
 use wait4::Options;
 
-/// How many of the last processes and LWPs a step may name.
-const RECENT: u32 = 6;
+/// Signals that end, stop, continue and leave a process, one that nobody has, and none.
+const SIGNALS: [u32; 16] = [0, 2, 5, 9, 15, 16, 17, 18, 19, 19, 20, 23, 28, 30, 31, 32];
 
-/// Signals that end, stop, continue and leave a process, one that none has, and none.
-const SIGNALS: [u32; 16] = [0, 2, 5, 9, 15, 16, 17, 18, 19, 20, 20, 23, 28, 30, 31, 32];
-
-const REQUESTS: [Request; 18] = [
-    Request::TraceMe,
+const REQUESTS: [Request; 20] = [
     Request::Attach,
+    Request::Continue,
+    Request::Continue,
     Request::Continue,
     Request::Step,
     Request::Suspend,
     Request::Resume,
     Request::Detach,
     Request::Kill,
+    Request::SetEventMask,
     Request::SetEventMask,
     Request::GetEventMask,
     Request::GetLwpInfo,
@@ -38,14 +39,18 @@ const REQUESTS: [Request; 18] = [
     Request::LwpEvents,
 ];
 
-const CALLS: [Call; 8] = [
+const CALLS: [Call; 12] = [
+    Call::Fork,
     Call::Fork,
     Call::Vfork,
     Call::Exec,
     Call::ThrNew,
+    Call::ThrNew,
     Call::ThrExit,
     Call::Exit(3),
     Call::Other(4),
+    Call::Other(5),
+    Call::Other(73),
     Call::Other(477),
 ];
 
@@ -55,193 +60,259 @@ const DISPOSITIONS: [Disposition; 3] = [
     Disposition::Catch,
 ];
 
-/// A script in the making.
+/// Makes up the steps of a user, and makes each on a host of the user's own, so that the next one fits.
 #[derive(Drop)]
 pub struct Writer {
     dice: Dice,
     user: Uid,
-    /// How many processes and LWPs it has asked for.
-    processes: u32,
-    lwps: u32,
-    steps: Vec<Step<ByPolicy>>,
+    host: Host<ByPolicy>,
 }
 
 impl Writer {
-    pub fn new(alloc: Global, dice: Dice, user: Uid) -> Writer {
-        Writer {
-            dice,
-            user,
-            processes: 0,
-            lwps: 0,
-            steps: Vec::new(alloc),
+    pub fn new(
+        alloc: Global,
+        dice: Dice,
+        user: Uid,
+        settings: Settings,
+    ) -> Result<Writer, AllocError> {
+        let host = Host::new(alloc, settings)?;
+        Ok(Writer { dice, user, host })
+    }
+
+    /// The next steps, so many.
+    pub fn steps(&mut self, alloc: Global, count: usize) -> Result<Vec<PlainStep>, AllocError> {
+        (0..count).map(|_| self.next(alloc)).collect(alloc)
+    }
+
+    /// The next step.
+    fn next(&mut self, alloc: Global) -> PlainStep {
+        let step = self.made_up();
+        let (user, asked) = (self.user, step_of(&step));
+        let _reply = self.host.step(alloc, user, asked);
+        step
+    }
+
+    /// Mostly a step that fits what a process is at, and now and then one with another user's number.
+    fn made_up(&mut self) -> PlainStep {
+        let Some(process) = self.process() else {
+            return PlainStep::Spawn;
+        };
+        let few = self.host.tables().process_count(self.user) < 6;
+        match self.dice.below(16) {
+            0 => self.stray(process.pid.get()),
+            1 => PlainStep::Spawn,
+            2 if few => PlainStep::Spawn,
+            _ => self.fitting(process),
         }
     }
 
-    /// How many steps it has.
-    pub fn len(&self) -> usize {
-        self.steps.len()
+    /// One of the user's processes.
+    fn process(&mut self) -> Option<ProcData> {
+        let tables = self.host.tables();
+        let mut process = tables.next_of(self.user, 0)?;
+        for _ in 0..self.dice.below(12) {
+            if let Some(next) = tables.next_of(self.user, process.pid.get()) {
+                process = next;
+            }
+        }
+        Some(process)
     }
 
-    pub fn into_steps(self) -> Vec<Step<ByPolicy>> {
-        self.steps
-    }
-
-    /// The user, and now and then another one.
-    fn someone(&mut self) -> Uid {
-        let number = 1001 + self.dice.below(64);
-        match Uid::new(number) {
-            Ok(other) if self.dice.below(24) == 0 => other,
-            _ => self.user,
+    /// The number of one of the user's processes; 0 where there is none.
+    fn number(&mut self) -> u32 {
+        match self.process() {
+            Some(process) => process.pid.get(),
+            None => 0,
         }
     }
 
-    /// The number of a process that there may be.
-    fn process(&mut self) -> u32 {
-        let ago = 1 + self.dice.below(RECENT);
-        let place = self.processes.saturating_sub(ago) % 1000;
-        pid_block(self.someone()).first.wrapping_add(place)
+    /// A step with a number that is another user's or nobody's.
+    fn stray(&mut self, own: u32) -> PlainStep {
+        let other = Uid::new(1001 + self.dice.below(64)).unwrap_or(self.user);
+        let far = pid_block(other).first.wrapping_add(self.dice.below(5));
+        let tid = tid_block(other).first.wrapping_add(self.dice.below(5));
+        match self.dice.below(6) {
+            0 => self.ask(own, Request::Attach, far),
+            1 => self.ask(far, Request::Attach, own),
+            2 => self.kill(own, i64::from(far)),
+            3 => self.wait(own, i64::from(far)),
+            4 => PlainStep::List { caller: far },
+            _ => PlainStep::Turn {
+                tid,
+                act: Act::Compute,
+            },
+        }
     }
 
-    /// The number of an LWP that there may be.
-    fn lwp(&mut self) -> u32 {
-        let ago = 1 + self.dice.below(RECENT);
-        let place = self.lwps.saturating_sub(ago) % 4000;
-        tid_block(self.someone()).first.wrapping_add(place)
+    /// A step that fits what the process is at.
+    fn fitting(&mut self, process: ProcData) -> PlainStep {
+        let own = process.pid.get();
+        let above = process.tracer.map_or(process.parent, |tracer| tracer.get());
+        match process.state {
+            State::Run => self.running(process),
+            State::Trace { seen, .. } => {
+                if seen {
+                    self.request(above, own)
+                } else {
+                    self.stopped(above)
+                }
+            }
+            State::Job { .. } => {
+                let caller = self.number();
+                self.kill(caller, i64::from(own))
+            }
+            State::Zombie { .. } => self.wait(above, -1),
+        }
+    }
+
+    /// A step by or about a process that runs.
+    fn running(&mut self, process: ProcData) -> PlainStep {
+        let own = process.pid.get();
+        let other = self.number();
+        match self.dice.below(20) {
+            0..=3 => self.ask(other, Request::Attach, own),
+            4 if process.parent != 1 => self.ask(own, Request::TraceMe, 0),
+            5 => self.kill(other, i64::from(own)),
+            6 => self.kill(own, -1),
+            7 => PlainStep::Sigaction {
+                caller: own,
+                sig: self.signal(),
+                disposition: self.dice.pick(&DISPOSITIONS),
+            },
+            8 => PlainStep::List { caller: own },
+            9 => self.wait(own, -1),
+            _ => {
+                let lwp = self.lwp(process.pid);
+                self.turn(lwp)
+            }
+        }
+    }
+
+    /// The first LWP of the process, or any other of the user's.
+    fn lwp(&mut self, pid: Pid) -> Option<LwpData> {
+        let is_own = self.dice.below(2) == 0;
+        let place = self.dice.below(16) as usize;
+        let tables = self.host.tables();
+        if is_own {
+            tables.first_lwp(pid)
+        } else {
+            tables.lwp_at(place)
+        }
+    }
+
+    /// The turn of the LWP, or else a new process.
+    fn turn(&mut self, lwp: Option<LwpData>) -> PlainStep {
+        let Some(lwp) = lwp else {
+            return PlainStep::Spawn;
+        };
+        let act = match lwp.mode {
+            Mode::User => self.act(),
+            Mode::InCall(_) => Act::Leave,
+            Mode::VforkWait(_) => Act::Compute,
+        };
+        PlainStep::Turn {
+            tid: lwp.tid.get(),
+            act,
+        }
+    }
+
+    /// What an LWP in user mode does.
+    fn act(&mut self) -> Act {
+        let signal = self.signal();
+        match self.dice.below(12) {
+            0 | 1 => Act::Compute,
+            2 => Act::Raise(signal),
+            3 => Act::Block(Signal::new(signal).map_or(SigSet::empty(), SigSet::of)),
+            _ => Act::Enter(self.dice.pick(&CALLS)),
+        }
+    }
+
+    /// What a debugger does about a stop that it wasn't told of yet.
+    fn stopped(&mut self, debugger: u32) -> PlainStep {
+        match self.dice.below(8) {
+            0 | 1 => PlainStep::Install {
+                caller: debugger,
+                policy: self.policy(),
+            },
+            2..=4 => PlainStep::Handle { caller: debugger },
+            _ => self.wait(debugger, -1),
+        }
+    }
+
+    /// What a debugger asks of a stopped process.
+    fn request(&mut self, debugger: u32, process: u32) -> PlainStep {
+        let request = self.dice.pick(&REQUESTS);
+        self.ask(debugger, request, process)
+    }
+
+    fn ask(&mut self, caller: u32, request: Request, target: u32) -> PlainStep {
+        let arg = match request {
+            Request::SetEventMask | Request::GetLwpList => self.dice.below(64),
+            Request::FollowFork | Request::LwpEvents => self.dice.below(3),
+            _ => self.passed(),
+        };
+        PlainStep::Ptrace {
+            caller,
+            request,
+            target,
+            arg,
+        }
+    }
+
+    fn wait(&mut self, caller: u32, which: i64) -> PlainStep {
+        PlainStep::Wait4 {
+            caller,
+            which,
+            options: Options {
+                untraced: self.dice.below(2) == 0,
+                continued: self.dice.below(2) == 0,
+            },
+        }
+    }
+
+    fn kill(&mut self, caller: u32, which: i64) -> PlainStep {
+        PlainStep::Kill {
+            caller,
+            which,
+            sig: self.signal(),
+        }
     }
 
     fn signal(&mut self) -> u32 {
         self.dice.pick(&SIGNALS)
     }
 
-    fn born(&mut self) {
-        self.processes = self.processes.wrapping_add(1);
-        self.lwps = self.lwps.wrapping_add(1);
-    }
-
-    /// A new process.
-    pub fn spawn(&mut self) -> Result<(), AllocError> {
-        self.born();
-        Ok(self.steps.push(Step::Spawn)?)
-    }
-
-    fn turn(&mut self, tid: u32, act: Act) -> Result<(), AllocError> {
-        Ok(self.steps.push(Step::Turn { tid, act })?)
-    }
-
-    /// A system call, to its end.
-    fn call(&mut self) -> Result<(), AllocError> {
-        let tid = self.lwp();
-        let call = self.dice.pick(&CALLS);
-        match call {
-            Call::Fork | Call::Vfork => self.born(),
-            Call::ThrNew => self.lwps = self.lwps.wrapping_add(1),
-            _ => {}
+    /// Mostly no signal.
+    fn passed(&mut self) -> u32 {
+        match self.dice.below(4) {
+            0 => self.signal(),
+            _ => 0,
         }
-        self.turn(tid, Act::Enter(call))?;
-        self.turn(tid, Act::Leave)
     }
 
-    /// What an LWP does beside system calls.
-    fn act(&mut self) -> Result<(), AllocError> {
-        let tid = self.lwp();
-        let signal = self.signal();
-        let act = match self.dice.below(6) {
-            0 => Act::Raise(signal),
-            1 => Act::Block(Signal::new(signal).map_or(SigSet::empty(), SigSet::of)),
-            2 => Act::Leave,
-            _ => Act::Compute,
-        };
-        self.turn(tid, act)
-    }
-
-    fn ask(&mut self, caller: u32, request: Request, target: u32) -> Result<(), AllocError> {
-        let arg = match request {
-            Request::SetEventMask | Request::GetLwpList => self.dice.below(64),
-            Request::FollowFork | Request::LwpEvents => self.dice.below(3),
-            _ => self.signal(),
-        };
-        Ok(
-            self.steps.push(Step::Ptrace {
-                caller,
-                request,
-                target,
-                arg,
-            })?,
-        )
-    }
-
-    fn wait(&mut self, caller: u32) -> Result<(), AllocError> {
-        let which = match self.dice.below(4) {
-            0 => i64::from(self.process()),
-            _ => -1,
-        };
-        let options = Options {
-            untraced: self.dice.below(2) == 0,
-            continued: self.dice.below(2) == 0,
-        };
-        Ok(
-            self.steps.push(Step::Wait4 {
-                caller,
-                which,
-                options,
-            })?,
-        )
-    }
-
-    /// A debugger takes a process, waits for it, and asks it something.
-    fn trace(&mut self) -> Result<(), AllocError> {
-        let caller = self.process();
-        let target = self.process();
-        self.ask(caller, Request::Attach, target)?;
-        self.wait(caller)?;
-        for _ in 0..self.dice.below(3) {
-            let request = self.dice.pick(&REQUESTS);
-            self.ask(caller, request, target)?;
+    /// Two rules by the dice.
+    fn policy(&mut self) -> Policy {
+        let rules = [self.rule(), self.rule()];
+        match Policy::new(&rules) {
+            Ok(policy) => policy,
+            Err(_) => unreachable!(),
         }
-        self.ask(caller, Request::Continue, target)
     }
 
-    /// Any request of any process to another one.
-    fn command(&mut self) -> Result<(), AllocError> {
-        let caller = self.process();
-        let request = self.dice.pick(&REQUESTS);
-        let target = match self.dice.below(4) {
-            0 => self.lwp(),
-            _ => self.process(),
-        };
-        self.ask(caller, request, target)
-    }
-
-    fn kill(&mut self) -> Result<(), AllocError> {
-        let which = match self.dice.below(12) {
-            0 => -1,
-            _ => i64::from(self.process()),
-        };
-        let caller = self.process();
-        let sig = self.signal();
-        Ok(self.steps.push(Step::Kill { caller, which, sig })?)
-    }
-
-    fn sigaction(&mut self) -> Result<(), AllocError> {
-        let caller = self.process();
-        let sig = self.signal();
-        let disposition = self.dice.pick(&DISPOSITIONS);
-        Ok(
-            self.steps.push(Step::Sigaction {
-                caller,
-                sig,
-                disposition,
-            })?,
-        )
-    }
-
-    fn list(&mut self) -> Result<(), AllocError> {
-        let caller = self.process();
-        Ok(self.steps.push(Step::List { caller })?)
+    fn rule(&mut self) -> Rule {
+        let signal = Signal::new(self.signal());
+        Rule {
+            signal: match self.dice.below(3) {
+                0 => signal.ok(),
+                _ => None,
+            },
+            flags: StopFlags(self.dice.pick(&[0, 0, 0, 0, 1, 2, 4, 8])),
+            decision: self.decision(),
+        }
     }
 
     fn decision(&mut self) -> Decision {
-        let signal = self.signal();
+        let signal = self.passed();
         let Ok(pass) = Pass::new(signal) else {
             return Decision::Decline;
         };
@@ -249,52 +320,9 @@ impl Writer {
             Decision::Leave,
             Decision::Continue(pass),
             Decision::Continue(pass),
+            Decision::Continue(pass),
             Decision::Detach(pass),
             Decision::Kill,
         ])
-    }
-
-    fn rule(&mut self) -> Rule {
-        let signal = Signal::new(self.signal());
-        Rule {
-            signal: match self.dice.below(2) {
-                0 => signal.ok(),
-                _ => None,
-            },
-            flags: StopFlags(self.dice.pick(&[0, 0, 1, 2, 4, 8, 16, 32])),
-            decision: self.decision(),
-        }
-    }
-
-    /// A debugger installs a handler, takes a process, and has the handler asked.
-    fn handle(&mut self) -> Result<(), AllocError> {
-        let caller = self.process();
-        let target = self.process();
-        let rules = [self.rule(), self.rule()];
-        if let Ok(policy) = Policy::new(&rules) {
-            let handler = Handler::new(policy, ByPolicy(policy));
-            self.steps.push(Step::Install { caller, handler })?;
-        }
-        self.ask(caller, Request::Attach, target)?;
-        Ok(self.steps.push(Step::Handle { caller })?)
-    }
-
-    /// One step or a few that belong together.
-    pub fn go_on(&mut self) -> Result<(), AllocError> {
-        match self.dice.below(20) {
-            0..=2 => self.spawn(),
-            3..=6 => self.call(),
-            7..=9 => self.act(),
-            10..=12 => self.trace(),
-            13 => self.command(),
-            14 | 15 => {
-                let caller = self.process();
-                self.wait(caller)
-            }
-            16 => self.kill(),
-            17 => self.sigaction(),
-            18 => self.list(),
-            _ => self.handle(),
-        }
     }
 }
