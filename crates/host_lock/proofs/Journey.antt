@@ -15,8 +15,6 @@ use Rattle.host_lock.specs.Journal.{replay, IsLegal, entries_of, StartsWith, ent
 use Rattle.host_lock.specs.Rule.{M, nobody, has_slot, posed, drawn, start_of, seen_of, mine_of, TakesSlot, HasCounted, HasTurned, IsOut, IsAtRest, most_calls, view_in}
 use Rattle.host_lock.proofs.Logs.{entries_mine}
 
-
-
 module _ {F : Type 0} where
   abbrev pub IsIdle : ℕ → (M F) → Type 0
   IsIdle number m = m ≡ (posed (start_of m.0) Idle m.0.budget (seen_of m.0) number (mine_of m.0), [])
@@ -68,12 +66,12 @@ module _ {F : Type 0} where
       let got : P home = subst P same (legal, e) in
       let Q : Machine → Type 0 = λ h. IsLegal h home.log × (m₅ ≡ (posed h Idle (m₀.0.budget - 1) home.log number (mine_of m₀.0), [])) in
       let R : Bool → Type 0 = λ b. MatchBool b (IsLegal (start_of m₀.0) home.log × (m₅ ≡ (posed (start_of m₀.0) Idle (m₀.0.budget - 1) home.log number (mine_of m₀.0), [])))
-          (IsLegal (start_of m₀.0) (home.log ++ entry u number s r ∷ []) × (m₅ ≡ (posed (start_of m₀.0) Idle (m₀.0.budget - 1) (home.log ++ entry u number s r ∷ []) number (mine_of m₀.0 ++ entry u number s r ∷ []), []))) in (
-            home.log,
-            f.1,
-            f.2,
-            subst R (sym memory) (subst Q (sym f.0) (got.0, got.1 ∙ ap (λ (m : (M F)). (posed home.start Idle m.0.budget home.log number (mine_of m.0), [])) f.3)),
-          )
+      (IsLegal (start_of m₀.0) (home.log ++ entry u number s r ∷ []) × (m₅ ≡ (posed (start_of m₀.0) Idle (m₀.0.budget - 1) (home.log ++ entry u number s r ∷ []) number (mine_of m₀.0 ++ entry u number s r ∷ []), []))) in (
+        home.log,
+        f.1,
+        f.2,
+        subst R (sym memory) (subst Q (sym f.0) (got.0, got.1 ∙ ap (λ (m : (M F)). (posed home.start Idle m.0.budget home.log number (mine_of m.0), [])) f.3)),
+      )
 
   pub turned_one : (m₀ m₃ m₄ m₅ : (M F)) (u number ticket : ℕ) (s : PlainStep) (home home' : Kept) (r : Reply) → IsFound m₀ u number ticket s home m₃ → is_memory r ≡ false → IsLegal home'.start home'.log
       → home' ≡ kept home.start (home.log ++ entry u number s r ∷ [])
@@ -84,7 +82,7 @@ module _ {F : Type 0} where
       let got = subst P is (legal, e ∙ ap (λ (m : (M F)). (posed home'.start Idle m.0.budget home'.log number (mine_of m.0), [])) at) in
       let Q : Machine → Type 0 = λ h. IsLegal h (home.log ++ entry u number s r ∷ []) × (m₅ ≡ (posed h Idle (m₀.0.budget - 1) (home.log ++ entry u number s r ∷ []) number (mine_of m₀.0 ++ entry u number s r ∷ []), [])) in
       let R : Bool → Type 0 = λ b. MatchBool b (IsLegal (start_of m₀.0) home.log × (m₅ ≡ (posed (start_of m₀.0) Idle (m₀.0.budget - 1) home.log number (mine_of m₀.0), [])))
-          (IsLegal (start_of m₀.0) (home.log ++ entry u number s r ∷ []) × (m₅ ≡ (posed (start_of m₀.0) Idle (m₀.0.budget - 1) (home.log ++ entry u number s r ∷ []) number (mine_of m₀.0 ++ entry u number s r ∷ []), []))) in
+      (IsLegal (start_of m₀.0) (home.log ++ entry u number s r ∷ []) × (m₅ ≡ (posed (start_of m₀.0) Idle (m₀.0.budget - 1) (home.log ++ entry u number s r ∷ []) number (mine_of m₀.0 ++ entry u number s r ∷ []), []))) in
       (home.log, f.1, f.2, subst R (sym memory) (subst Q (sym f.0) got))
 
 -- what a session's type keeps
@@ -97,7 +95,7 @@ settled h b number calls log mine v is legal same e = subst (IsSettled number ca
 module _ {F : Type 0} where
   settles_by : (h : Machine) (b number calls u : ℕ) (s : PlainStep) (r : Reply) (log mine : List Entry) (m : M F) → b ≡ most_calls - calls → entries_of number log ≡ mine → (c : Bool)
       → MatchBool c (IsLegal h log × (m ≡ (posed h Idle b log number mine, [])))
-          (IsLegal h (log ++ entry u number s r ∷ []) × (m ≡ (posed h Idle b (log ++ entry u number s r ∷ []) number (mine ++ entry u number s r ∷ []), [])))
+      (IsLegal h (log ++ entry u number s r ∷ []) × (m ≡ (posed h Idle b (log ++ entry u number s r ∷ []) number (mine ++ entry u number s r ∷ []), [])))
       → IsSettled number calls m.0
   settles_by h b number calls u s r log mine m is same true t = settled h b number calls log mine m.0 is t.0 same (ap (λ (z : M F). z.0) t.1)
   settles_by h b number calls u s r log mine m is same false t =

@@ -33,11 +33,11 @@ legal_none m = record { replies_given = refl }
 pub legal_more : (m : Machine) (log : List Entry) (e : Entry) → IsLegal m log → e.reply ≡ reply_of e.uid e.step (replay m log) → IsLegal m (log ++ e ∷ [])
 legal_more m log e legal is = record {
   replies_given =
-    map-append (λ (x : Entry). x.reply) log (e ∷ [])
-    ∙ ap (λ (l : List Reply). l ++ e.reply ∷ []) legal.replies_given
-    ∙ ap (λ (r : Reply). replies (asked log) m ++ r ∷ []) is
-    ∙ sym (replies_more m (asked log) (asked_one e))
-    ∙ ap (λ (l : List Asked). replies l m) (sym (asked_more log e));
+      map-append (λ (x : Entry). x.reply) log (e ∷ [])
+      ∙ ap (λ (l : List Reply). l ++ e.reply ∷ []) legal.replies_given
+      ∙ ap (λ (r : Reply). replies (asked log) m ++ r ∷ []) is
+      ∙ sym (replies_more m (asked log) (asked_one e))
+      ∙ ap (λ (l : List Asked). replies l m) (sym (asked_more log e));
 }
 
 -- the entry is this session's

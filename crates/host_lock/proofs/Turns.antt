@@ -99,10 +99,10 @@ module _ {F : Type 0} where
         let c = total_set calls_of s.views id v w at in
         let owed : owes v.stage ≡ 0 = ap owes idle in
         let P : List ℕ → Type 0 = λ ws. (w : View) × (a : Act (Slot F)) × Valid s.homes m.1 a × Rule record { words = set ws 1 ((get_or ws 1 0 + 1) % 2 ^ 64); homes = homes_after s.homes m.1 a; views = set s.views id w }
-            × drew (step slots 1 1 0 none) m (get_or ws 1 0) (w, carried_after m.1 a) in
+        × drew (step slots 1 1 0 none) m (get_or ws 1 0) (w, carried_after m.1 a) in
         let none_yet : (t : ℕ) → has_ticket t v.stage ≡ 0 = λ t. ap (has_ticket t) idle in
         let moved : (t : ℕ) → total (ticket_of t) (set s.views id w) ≡ total (ticket_of t) s.views + once r.ticket t =
-            λ t. let q = total_set (ticket_of t) s.views id v w at in let z = none_yet t in omega arith in
+        λ t. let q = total_set (ticket_of t) s.views id v w at in let z = none_yet t in omega arith in
         subst P (sym r.words) (
           w,
           keeps,
@@ -139,16 +139,16 @@ module _ {F : Type 0} where
     is_home s r id v at waits =
         ⊎_elim (λ (t : (total slot_of s.views ≡ 0) × (s.homes ≡ some (There (kept h r.log)) ∷ [])). t)
         (λ (t : (total slot_of s.views ≡ 1) × (s.homes ≡ none ∷ [])).
-            let found = total_find slot_of s.views t.0 in
-            let d : View = found.1 in
-            let fits = r.seats found.0 d found.2 in
-            let theirs : has_ticket r.serving d.stage ≡ 1 = holder_ticket r.serving r.log d.stage d.seen found.3 fits.turn_is r.serving ∙ once_same r.serving r.serving refl in
-            let mine : has_ticket r.serving v.stage ≡ 1 = ap (has_ticket r.serving) waits ∙ once_same r.serving r.serving refl in
-            let empty : has_slot v.stage ≡ 0 = ap has_slot waits in
-            let other : id ≢ found.0 = λ e. let same : v ≡ d = maybe.some-injective v d (sym at ∙ ap (get_elem? s.views) e ∙ found.2) in let z : has_slot v.stage ≡ has_slot d.stage = ap slot_of same in let y = found.3 in absurd (omega arith) in
-            let two = total_two (ticket_of r.serving) s.views id found.0 v d other at found.2 in
-            let most = at_most_one s r r.serving in
-            absurd (omega arith))
+        let found = total_find slot_of s.views t.0 in
+        let d : View = found.1 in
+        let fits = r.seats found.0 d found.2 in
+        let theirs : has_ticket r.serving d.stage ≡ 1 = holder_ticket r.serving r.log d.stage d.seen found.3 fits.turn_is r.serving ∙ once_same r.serving r.serving refl in
+        let mine : has_ticket r.serving v.stage ≡ 1 = ap (has_ticket r.serving) waits ∙ once_same r.serving r.serving refl in
+        let empty : has_slot v.stage ≡ 0 = ap has_slot waits in
+        let other : id ≢ found.0 = λ e. let same : v ≡ d = maybe.some-injective v d (sym at ∙ ap (get_elem? s.views) e ∙ found.2) in let z : has_slot v.stage ≡ has_slot d.stage = ap slot_of same in let y = found.3 in absurd (omega arith) in
+        let two = total_two (ticket_of r.serving) s.views id found.0 v d other at found.2 in
+        let most = at_most_one s r r.serving in
+        absurd (omega arith))
         r.home
 
     pub turns : (slots id : ℕ) (m : (M F)) (t : ℕ) → m.0.stage ≡ Waiting t → 0 < length m.0.owns → Allows Rule slots id m 0 (λ x. x) (turned (step slots 0 0 0 none) m)
@@ -156,43 +156,43 @@ module _ {F : Type 0} where
         let v : View = m.0 in
         let f = r.seats id v at in
         let P : List ℕ → Type 0 = λ ws. (w : View) × (a : Act (Slot F)) × Valid s.homes m.1 a × Rule record { words = set ws 0 (get_or ws 0 0); homes = homes_after s.homes m.1 a; views = set s.views id w }
-            × turned (step slots 0 0 0 none) m (get_or ws 0 0) (w, carried_after m.1 a) in
+        × turned (step slots 0 0 0 none) m (get_or ws 0 0) (w, carried_after m.1 a) in
         let same_ticket : (t' : ℕ) → m.0.stage ≡ Waiting t' → t ≡ t' = λ t' e. ap ticket_in (sym waits ∙ e) in
         subst P (sym r.words) (dite (ℕ_discrete r.serving t)
         (λ hit.
-            let waits' : v.stage ≡ Waiting r.serving = waits ∙ ap Waiting (sym hit) in
-            let home = is_home s r id v at waits' in
-            let w : View = taken v t r.log in
-            let had : has_slot v.stage ≡ 0 = ap has_slot waits in
-            let owed : owes v.stage ≡ 1 = ap owes waits in
-            let slots_now = total_set slot_of s.views id v w at in
-            let y = home.0 in
-            let calls = total_set calls_of s.views id v w at in
-            let tickets : (q : ℕ) → total (ticket_of q) (set s.views id w) ≡ total (ticket_of q) s.views = λ q. total_same (ticket_of q) s.views id v w at (sym (ap (has_ticket q) waits)) in (
-              w,
-              takes 0 (There (kept h r.log)),
-              ap (λ (hs : List (maybe.Option (Slot F))). get_elem? hs 0) home.1,
-              record {
-                serving = r.serving;
-                ticket = r.ticket;
-                log = r.log;
-                words = refl;
-                seats = seats_set (Fits h n r.serving r.log) (Fits h n r.serving r.log) s.views id w
-                    (record { start_is = f.start_is; seen_is = (([], sym (append-nil r.log)), tt); owns_is = f.owns_is; turn_is = (sym hit, refl); works = omega arith }) (λ j d _ _ k. k) r.seats;
-                home = inr (omega arith, ap (λ (hs : List (maybe.Option (Slot F))). set hs 0 none) home.1);
-                numbers = λ k. let e = total_same (number_of k) s.views id v w at refl in let o = r.numbers k in omega arith;
-                parts = total_same parts_of s.views id v w at refl ∙ r.parts;
-                given = r.given;
-                in_order = r.in_order;
-                out = λ q lo hi. tickets q ∙ r.out q lo hi;
-                past = λ q lo. tickets q ∙ r.past q lo;
-                later = λ q hi. tickets q ∙ r.later q hi;
-                tickets_left = let e = total_same budget_of s.views id v w at refl in let k = r.tickets_left in omega arith;
-                calls_left = let k = r.calls_left in omega arith;
-              },
-              λ t' e. subst (λ b. MatchBool b (Takes m t' (w, (0, There (kept h r.log)) ∷ m.1)) ((w, (0, There (kept h r.log)) ∷ m.1) ≡ m)) (sym (eq-eqb r.serving t' (hit ∙ same_ticket t' e)))
-                  (h, r.log, ap (λ (x : ℕ). (taken v x r.log, (0, There (kept h r.log)) ∷ m.1)) (same_ticket t' e), f.start_is, f.seen_is, each_map (Matches n r.log) (Tells r.log) v.owns (λ x k. k.0) f.owns_is),
-            ))
+        let waits' : v.stage ≡ Waiting r.serving = waits ∙ ap Waiting (sym hit) in
+        let home = is_home s r id v at waits' in
+        let w : View = taken v t r.log in
+        let had : has_slot v.stage ≡ 0 = ap has_slot waits in
+        let owed : owes v.stage ≡ 1 = ap owes waits in
+        let slots_now = total_set slot_of s.views id v w at in
+        let y = home.0 in
+        let calls = total_set calls_of s.views id v w at in
+        let tickets : (q : ℕ) → total (ticket_of q) (set s.views id w) ≡ total (ticket_of q) s.views = λ q. total_same (ticket_of q) s.views id v w at (sym (ap (has_ticket q) waits)) in (
+          w,
+          takes 0 (There (kept h r.log)),
+          ap (λ (hs : List (maybe.Option (Slot F))). get_elem? hs 0) home.1,
+          record {
+            serving = r.serving;
+            ticket = r.ticket;
+            log = r.log;
+            words = refl;
+            seats = seats_set (Fits h n r.serving r.log) (Fits h n r.serving r.log) s.views id w
+                (record { start_is = f.start_is; seen_is = (([], sym (append-nil r.log)), tt); owns_is = f.owns_is; turn_is = (sym hit, refl); works = omega arith }) (λ j d _ _ k. k) r.seats;
+            home = inr (omega arith, ap (λ (hs : List (maybe.Option (Slot F))). set hs 0 none) home.1);
+            numbers = λ k. let e = total_same (number_of k) s.views id v w at refl in let o = r.numbers k in omega arith;
+            parts = total_same parts_of s.views id v w at refl ∙ r.parts;
+            given = r.given;
+            in_order = r.in_order;
+            out = λ q lo hi. tickets q ∙ r.out q lo hi;
+            past = λ q lo. tickets q ∙ r.past q lo;
+            later = λ q hi. tickets q ∙ r.later q hi;
+            tickets_left = let e = total_same budget_of s.views id v w at refl in let k = r.tickets_left in omega arith;
+            calls_left = let k = r.calls_left in omega arith;
+          },
+          λ t' e. subst (λ b. MatchBool b (Takes m t' (w, (0, There (kept h r.log)) ∷ m.1)) ((w, (0, There (kept h r.log)) ∷ m.1) ≡ m)) (sym (eq-eqb r.serving t' (hit ∙ same_ticket t' e)))
+              (h, r.log, ap (λ (x : ℕ). (taken v x r.log, (0, There (kept h r.log)) ∷ m.1)) (same_ticket t' e), f.start_is, f.seen_is, each_map (Matches n r.log) (Tells r.log) v.owns (λ x k. k.0) f.owns_is),
+        ))
         (λ miss. (
           v,
           keeps,
@@ -229,7 +229,7 @@ module _ {F : Type 0} where
         let bound = r.calls_left in
         let one = total_one calls_of s.views id v at in
         let P : List ℕ → Type 0 = λ ws. (w : View) × (a : Act (Slot F)) × Valid s.homes c a × Rule record { words = set ws 2 ((get_or ws 2 0 + 1) % 2 ^ 64); homes = homes_after s.homes c a; views = set s.views id w }
-            × counted (step slots 2 1 0 none) (v, c) (get_or ws 2 0) (w, carried_after c a) in
+        × counted (step slots 2 1 0 none) (v, c) (get_or ws 2 0) (w, carried_after c a) in
         subst P (sym r.words) (
           w,
           keeps,
@@ -248,16 +248,16 @@ module _ {F : Type 0} where
                   works = omega arith;
                 })
                 (λ j d ne at_d g.
-                    let idle = only_holder s r id j v d (λ q. ne (sym q)) at at_d refl in
-                    let two = total_two (number_of k) s.views id j v d (λ q. ne (sym q)) at at_d in
-                    let most = r.numbers k in
-                    let mine_once = once_same k k refl in record {
-                      start_is = g.start_is;
-                      seen_is = each_map (StartsWith r.log) (StartsWith log) d.seen (λ l q. starts_longer r.log l e q) g.seen_is;
-                      owns_is = others_match h n r.log e d.owns (omega arith) g.owns_is;
-                      turn_is = not_holder r.serving log d.stage d.seen idle;
-                      works = g.works;
-                    })
+                let idle = only_holder s r id j v d (λ q. ne (sym q)) at at_d refl in
+                let two = total_two (number_of k) s.views id j v d (λ q. ne (sym q)) at at_d in
+                let most = r.numbers k in
+                let mine_once = once_same k k refl in record {
+                  start_is = g.start_is;
+                  seen_is = each_map (StartsWith r.log) (StartsWith log) d.seen (λ l q. starts_longer r.log l e q) g.seen_is;
+                  owns_is = others_match h n r.log e d.owns (omega arith) g.owns_is;
+                  turn_is = not_holder r.serving log d.stage d.seen idle;
+                  works = g.works;
+                })
                 r.seats;
             home = inr (total_same slot_of s.views id v w at refl ∙ away.0, away.1);
             numbers = λ q. let y = total_same (number_of q) s.views id v w at refl in let o = r.numbers q in omega arith;
@@ -291,7 +291,7 @@ module _ {F : Type 0} where
         let less : r.serving < r.ticket = dite (dec_le r.ticket r.serving) (λ hi. let z = r.later r.serving hi in let y = moved r.serving in let one = once_same r.serving r.serving refl in absurd (omega arith)) (λ lo. omega arith) in
         let room = r.tickets_left in
         let P : List ℕ → Type 0 = λ ws. (w : View) × (a : Act (Slot F)) × Valid s.homes c a × Rule record { words = set ws 0 ((get_or ws 0 0 + 1) % 2 ^ 64); homes = homes_after s.homes c a; views = set s.views id w }
-            × released (step slots 0 1 0 none) (v, c) (get_or ws 0 0) (w, carried_after c a) in
+        × released (step slots 0 1 0 none) (v, c) (get_or ws 0 0) (w, carried_after c a) in
         subst P (sym r.words) (
           w,
           gives,
@@ -304,8 +304,8 @@ module _ {F : Type 0} where
             seats = seats_set (Fits h n r.serving r.log) (Fits h n (r.serving + 1) r.log) s.views id w
                 (record { start_is = f.start_is; seen_is = f.seen_is; owns_is = f.owns_is; turn_is = tt; works = omega arith })
                 (λ j d ne at_d q.
-                    let idle = only_holder s r id j v d (λ z. ne (sym z)) at at_d holds in
-                    record { start_is = q.start_is; seen_is = q.seen_is; owns_is = q.owns_is; turn_is = not_holder (r.serving + 1) r.log d.stage d.seen idle; works = q.works })
+                let idle = only_holder s r id j v d (λ z. ne (sym z)) at at_d holds in
+                record { start_is = q.start_is; seen_is = q.seen_is; owns_is = q.owns_is; turn_is = not_holder (r.serving + 1) r.log d.stage d.seen idle; works = q.works })
                 r.seats;
             home = inl (omega arith, ap (λ (hs : List (maybe.Option (Slot F))). set hs 0 (some (There (kept h₀ x)))) away.1 ∙ ap (λ (z : Machine × List Entry). some (There (kept z.0 z.1)) ∷ []) (λ i. (f.start_is i, seen i)));
             numbers = λ q. let y = total_same (number_of q) s.views id v w at refl in let o = r.numbers q in omega arith;
@@ -328,7 +328,7 @@ module _ {F : Type 0} where
         let right : View = posed r₀ Idle most_calls [] i [] in
         let f = r.seats id v at in
         let sum : (g : View → ℕ) → g left + g right ≡ g v → total g (set s.views id left ++ right ∷ []) ≡ total g s.views =
-            λ g is. let a = total_set g s.views id v left at in let b = total_snoc g (set s.views id left) right in omega arith in
+        λ g is. let a = total_set g s.views id v left at in let b = total_snoc g (set s.views id left) right in omega arith in
         let budgets : k * most_calls + most_calls ≡ suc k * most_calls = omega arith in record {
           serving = r.serving;
           ticket = r.ticket;
@@ -361,35 +361,35 @@ module _ {F : Type 0} where
         let owe_v : owes v.stage ≡ 0 = ap owes idle_v in
         let owe_w : owes w.stage ≡ 0 = ap owes idle_w in
         let sum : (g : View → ℕ) → g b ≡ g v + g w → g spent ≡ 0 → total g (set (set s.views id b) other spent) ≡ total g s.views =
-            λ g is nothing. let x = total_set g s.views id v b at in let y = total_set g (set s.views id b) other w spent at_w' in omega arith in
+        λ g is nothing. let x = total_set g s.views id v b at in let y = total_set g (set s.views id b) other w spent at_w' in omega arith in
         let tickets : (q : ℕ) → total (ticket_of q) (set (set s.views id b) other spent) ≡ total (ticket_of q) s.views =
-            λ q. let x : has_ticket q w.stage ≡ 0 = ap (has_ticket q) idle_w in sum (ticket_of q) (omega arith) refl in record {
-              serving = r.serving;
-              ticket = r.ticket;
-              log = r.log;
-              words = r.words;
-              seats = seats_set (Fits h n r.serving r.log) (Fits h n r.serving r.log) (set s.views id b) other spent (record { start_is = tt; seen_is = tt; owns_is = tt; turn_is = tt; works = omega arith }) (λ j d _ _ q. q)
-                  (seats_set (Fits h n r.serving r.log) (Fits h n r.serving r.log) s.views id b
-                  (record {
-                    start_is = f.start_is;
-                    seen_is = each_append (StartsWith r.log) v.seen w.seen f.seen_is fw.seen_is;
-                    owns_is = each_append (Matches n r.log) v.owns w.owns f.owns_is fw.owns_is;
-                    turn_is = not_holder r.serving r.log v.stage (v.seen ++ w.seen) none_v;
-                    works = omega arith;
-                  })
-                  (λ j d _ _ q. q) r.seats);
-              home = (let same = sum slot_of (omega arith) refl in
-                  ⊎_elim (λ (t : (total slot_of s.views ≡ 0) × (s.homes ≡ some (There (kept h r.log)) ∷ [])). inl (same ∙ t.0, t.1)) (λ (t : (total slot_of s.views ≡ 1) × (s.homes ≡ none ∷ [])). inr (same ∙ t.0, t.1)) r.home);
-              numbers = λ q. let e = sum (number_of q) (times_append h n q v.owns w.owns) refl in let o = r.numbers q in omega arith;
-              parts = sum parts_of (length-append v.owns w.owns) refl ∙ r.parts;
-              given = r.given;
-              in_order = r.in_order;
-              out = λ q lo hi. tickets q ∙ r.out q lo hi;
-              past = λ q lo. tickets q ∙ r.past q lo;
-              later = λ q hi. tickets q ∙ r.later q hi;
-              tickets_left = let e = sum budget_of refl refl in let z = r.tickets_left in omega arith;
-              calls_left = let e = sum calls_of (omega arith) refl in let z = r.calls_left in omega arith;
-            }
+        λ q. let x : has_ticket q w.stage ≡ 0 = ap (has_ticket q) idle_w in sum (ticket_of q) (omega arith) refl in record {
+          serving = r.serving;
+          ticket = r.ticket;
+          log = r.log;
+          words = r.words;
+          seats = seats_set (Fits h n r.serving r.log) (Fits h n r.serving r.log) (set s.views id b) other spent (record { start_is = tt; seen_is = tt; owns_is = tt; turn_is = tt; works = omega arith }) (λ j d _ _ q. q)
+              (seats_set (Fits h n r.serving r.log) (Fits h n r.serving r.log) s.views id b
+              (record {
+                start_is = f.start_is;
+                seen_is = each_append (StartsWith r.log) v.seen w.seen f.seen_is fw.seen_is;
+                owns_is = each_append (Matches n r.log) v.owns w.owns f.owns_is fw.owns_is;
+                turn_is = not_holder r.serving r.log v.stage (v.seen ++ w.seen) none_v;
+                works = omega arith;
+              })
+              (λ j d _ _ q. q) r.seats);
+          home = (let same = sum slot_of (omega arith) refl in
+              ⊎_elim (λ (t : (total slot_of s.views ≡ 0) × (s.homes ≡ some (There (kept h r.log)) ∷ [])). inl (same ∙ t.0, t.1)) (λ (t : (total slot_of s.views ≡ 1) × (s.homes ≡ none ∷ [])). inr (same ∙ t.0, t.1)) r.home);
+          numbers = λ q. let e = sum (number_of q) (times_append h n q v.owns w.owns) refl in let o = r.numbers q in omega arith;
+          parts = sum parts_of (length-append v.owns w.owns) refl ∙ r.parts;
+          given = r.given;
+          in_order = r.in_order;
+          out = λ q lo hi. tickets q ∙ r.out q lo hi;
+          past = λ q lo. tickets q ∙ r.past q lo;
+          later = λ q hi. tickets q ∙ r.later q hi;
+          tickets_left = let e = sum budget_of refl refl in let z = r.tickets_left in omega arith;
+          calls_left = let e = sum calls_of (omega arith) refl in let z = r.calls_left in omega arith;
+        }
 
     pub opens : n ≤ 64 → Rule (opening (0 ∷ 0 ∷ 0 ∷ []) (There (kept h []) ∷ []) (opening_view h n))
     opens few = let v : View = opening_view h n in record {
@@ -418,18 +418,18 @@ module _ {F : Type 0} where
         let f = r.seats id v at in
         let empty : has_slot v.stage ≡ 0 = ap has_slot idle in
         let home : (total slot_of s.views ≡ 0) × (s.homes ≡ some (There (kept h r.log)) ∷ []) =
-            ⊎_elim (λ (t : (total slot_of s.views ≡ 0) × (s.homes ≡ some (There (kept h r.log)) ∷ [])). t)
-            (λ (t : (total slot_of s.views ≡ 1) × (s.homes ≡ none ∷ [])).
-                let found = total_find slot_of s.views t.0 in
-                let d : View = found.1 in
-                let g = r.seats found.0 d found.2 in
-                let other : id ≢ found.0 = λ e. let same : v ≡ d = maybe.some-injective v d (sym at ∙ ap (get_elem? s.views) e ∙ found.2) in let z : has_slot v.stage ≡ has_slot d.stage = ap slot_of same in let y = found.3 in absurd (omega arith) in
-                let two = total_two parts_of s.views id found.0 v d other at found.2 in
-                let whole = r.parts in
-                let busy = found.3 in
-                let work = g.works in
-                absurd (omega arith))
-            r.home in (
+        ⊎_elim (λ (t : (total slot_of s.views ≡ 0) × (s.homes ≡ some (There (kept h r.log)) ∷ [])). t)
+        (λ (t : (total slot_of s.views ≡ 1) × (s.homes ≡ none ∷ [])).
+        let found = total_find slot_of s.views t.0 in
+        let d : View = found.1 in
+        let g = r.seats found.0 d found.2 in
+        let other : id ≢ found.0 = λ e. let same : v ≡ d = maybe.some-injective v d (sym at ∙ ap (get_elem? s.views) e ∙ found.2) in let z : has_slot v.stage ≡ has_slot d.stage = ap slot_of same in let y = found.3 in absurd (omega arith) in
+        let two = total_two parts_of s.views id found.0 v d other at found.2 in
+        let whole = r.parts in
+        let busy = found.3 in
+        let work = g.works in
+        absurd (omega arith))
+        r.home in (
           r.log,
           fin.4 0 (There (kept h r.log)) (ap (λ (hs : List (maybe.Option (Slot F))). get_elem? hs 0) home.1),
           f.start_is,

@@ -268,8 +268,8 @@ module _ {F : Type 0} where
   HasTurned v u number s r m' =
       (log : List Entry) × StartsWith log (seen_of v) × (entries_of number log ≡ mine_of v)
       × MatchBool (is_memory r) (IsLegal (start_of v) log × (m' ≡ (posed (start_of v) Idle (v.budget - 1) log number (mine_of v), [])))
-          (let e = entry u number s r in
-          IsLegal (start_of v) (log ++ e ∷ []) × (m' ≡ (posed (start_of v) Idle (v.budget - 1) (log ++ e ∷ []) number (mine_of v ++ e ∷ []), [])))
+      (let e = entry u number s r in
+      IsLegal (start_of v) (log ++ e ∷ []) × (m' ≡ (posed (start_of v) Idle (v.budget - 1) (log ++ e ∷ []) number (mine_of v ++ e ∷ []), [])))
 
   -- the slot is out with the seat, whose last list is k's
   abbrev pub IsOut : ℕ → Kept → M F → Type 0

@@ -61,13 +61,7 @@ fn answered<F: Decider + Send + Drop>(
 
 impl<F: Decider + Send + Drop> Home<F> {
     /// Makes a step, and adds it to the journal. Where memory runs out all is as before.
-    pub(crate) fn make(
-        &mut self,
-        alloc: Global,
-        user: Uid,
-        session: usize,
-        step: Step<F>,
-    ) -> Reply
+    pub(crate) fn make(&mut self, alloc: Global, user: Uid, session: usize, step: Step<F>) -> Reply
         ensures made { is_memory result ≡ false →
             (result ≡ reply_of user (plain step) (replay self.old.start self.old.log))
             × (self.new ≡ kept self.old.start (self.old.log ++ entry user session (plain step) result ∷ [])) }

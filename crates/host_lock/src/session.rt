@@ -40,10 +40,10 @@ impl Model for Session {
     } };
 
     ghost invariant = { λ s.
-      (s.badge.views ≡ view_in s.badge.views ∷ [])
-      × IsAtRest s.number s.calls_made (view_in s.badge.views)
-      × IsLegal (start_of (view_in s.badge.views)) (seen_of (view_in s.badge.views))
-      × (entries_of s.number (seen_of (view_in s.badge.views)) ≡ mine_of (view_in s.badge.views)) };
+        (s.badge.views ≡ view_in s.badge.views ∷ [])
+        × IsAtRest s.number s.calls_made (view_in s.badge.views)
+        × IsLegal (start_of (view_in s.badge.views)) (seen_of (view_in s.badge.views))
+        × (entries_of s.number (seen_of (view_in s.badge.views)) ≡ mine_of (view_in s.badge.views)) };
 }
 
 impl Session {

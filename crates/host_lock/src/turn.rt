@@ -26,7 +26,14 @@ const NEAR: u64 = 2;
 const FAR: u64 = 8;
 
 /// Waits until the ticket is served.
-pub(crate) fn take_turn<F: Decider + Send + Drop, R: Wait>(rt: &R, common: &Common<F>, beds: &[AtomicU64], seat: &mut Place<F>, number: usize, ticket: u64)
+pub(crate) fn take_turn<F: Decider + Send + Drop, R: Wait>(
+    rt: &R,
+    common: &Common<F>,
+    beds: &[AtomicU64],
+    seat: &mut Place<F>,
+    number: usize,
+    ticket: u64,
+)
     requires table { IsBoard common.now.table_id × (seat.old.table_id ≡ common.now.table_id) }
     requires waits { seat.old.me ≡ (posed (start_of seat.old.me.0) (Waiting ticket) seat.old.me.0.budget (seen_of seat.old.me.0) number (mine_of seat.old.me.0), []) }
     ensures table { seat.new.table_id ≡ seat.old.table_id }
@@ -59,7 +66,14 @@ fn rest<R: Wait>(rt: &R, beds: &[AtomicU64], serving: u64, ticket: u64) {
 }
 
 /// Adds the call to the count.
-pub(crate) fn count_up<F: Decider + Send + Drop>(common: &Common<F>, seat: &mut Place<F>, user: Uid, number: usize, step: &PlainStep, ticket: u64)
+pub(crate) fn count_up<F: Decider + Send + Drop>(
+    common: &Common<F>,
+    seat: &mut Place<F>,
+    user: Uid,
+    number: usize,
+    step: &PlainStep,
+    ticket: u64,
+)
     requires table { IsBoard common.now.table_id × (seat.old.table_id ≡ common.now.table_id) }
     requires holds { seat.old.me ≡ (posed (start_of seat.old.me.0) (Holding ticket) seat.old.me.0.budget (seen_of seat.old.me.0) number (mine_of seat.old.me.0), (0, Away user step.now) ∷ []) }
     ensures table { seat.new.table_id ≡ seat.old.table_id }
@@ -69,7 +83,13 @@ pub(crate) fn count_up<F: Decider + Send + Drop>(common: &Common<F>, seat: &mut 
 }
 
 /// Puts the host back, and lets the next one in.
-pub(crate) fn give_back<F: Decider + Send + Drop>(common: &Common<F>, beds: &[AtomicU64], seat: &mut Place<F>, number: usize, home: Home<F>)
+pub(crate) fn give_back<F: Decider + Send + Drop>(
+    common: &Common<F>,
+    beds: &[AtomicU64],
+    seat: &mut Place<F>,
+    number: usize,
+    home: Home<F>,
+)
     requires table { IsBoard common.now.table_id × (seat.old.table_id ≡ common.now.table_id) }
     requires out { IsOut number home seat.old.me }
     ensures table { seat.new.table_id ≡ seat.old.table_id }

@@ -1,4 +1,3 @@
-pub mod Crossing
 pub mod Scripts
 pub mod Pairing
 pub mod Owned

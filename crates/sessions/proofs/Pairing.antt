@@ -85,19 +85,18 @@ module _ {F : Type 0} (h : Machine) (z : TableId) where
   ready d ss js id start short p =
       let len = jobs_length ss js p in
       each_of (IsReady d) js (λ k j lt.
-          let same = steps_at ss js p k (record { uid = 0; steps = j.steps }) j (omega arith) in
-          let new = session_at ss js p k (record { uid = 0; steps = j.steps }) j (omega arith) in
-          let room = all_of HasRoom js p.2 k j lt in
-          let few : vec_len (slice_index_or js k j).steps ≤ 4294967295 = subst (λ (v : Vec (Step F) Global). vec_len v ≤ 4294967295) (sym same) (short k (record { uid = 0; steps = j.steps }) (omega arith)) in
-          (
-            (ap (λ (x : SessionData). x.host) new ∙ sym id, ap (λ (x : SessionData). x.start) new ∙ sym start),
-            ap (λ (x : SessionData). x.calls) new,
-            ap (λ (x : SessionData). x.mine) new,
-            few,
-            room.0,
-            room.1,
-            room.2,
-          ))
+      let same = steps_at ss js p k (record { uid = 0; steps = j.steps }) j (omega arith) in
+      let new = session_at ss js p k (record { uid = 0; steps = j.steps }) j (omega arith) in
+      let room = all_of HasRoom js p.2 k j lt in
+      let few : vec_len (slice_index_or js k j).steps ≤ 4294967295 = subst (λ (v : Vec (Step F) Global). vec_len v ≤ 4294967295) (sym same) (short k (record { uid = 0; steps = j.steps }) (omega arith)) in (
+        (ap (λ (x : SessionData). x.host) new ∙ sym id, ap (λ (x : SessionData). x.start) new ∙ sym start),
+        ap (λ (x : SessionData). x.calls) new,
+        ap (λ (x : SessionData). x.mine) new,
+        few,
+        room.0,
+        room.1,
+        room.2,
+      ))
 
   -- what the workers did
   abbrev pub Ran : List (Job F) → List Done → Type 0
@@ -126,17 +125,17 @@ module _ {F : Type 0} (h : Machine) (z : TableId) where
       let len' = pairs_length (λ j d. Did j.session (map plain j.steps.items) d.replies.items d.session) js ds r in (
         ap length was ∙ length_map done_transcript ds ∙ len' ∙ len,
         λ k s t lt.
-          let d : Done = record { session = newborn 0 0 z h; replies = t.replies } in
-          let did = done_at ss js ds p r k s d lt in
-          let x : Done = slice_index_or ds k d in
-          let there : slice_index_or ts k t ≡ done_transcript x = ap (λ l. slice_index_or l k t) was ∙ get_or-map done_transcript ds k d t (omega arith) in
-          let here : slice_index_or xs k d.session ≡ x.session = ap (λ l. slice_index_or l k d.session) is ∙ get_or-map done_session ds k d d.session (omega arith) in
-          let count = ap length is in
-          let more = length_map done_session ds in
-          let stand : Stands log x.session = subst (Stands log) here (stands k d.session (omega arith)) in
-          subst (Plays log k (slice_index_or ss k s)) (sym there) (
-            did.1,
-            did.0 ∙ length_map plain (slice_index_or ss k s).steps.items,
-            ap (λ m. entries_of m log) (sym did.2) ∙ stand.1 ∙ did.6,
-          ),
+            let d : Done = record { session = newborn 0 0 z h; replies = t.replies } in
+            let did = done_at ss js ds p r k s d lt in
+            let x : Done = slice_index_or ds k d in
+            let there : slice_index_or ts k t ≡ done_transcript x = ap (λ l. slice_index_or l k t) was ∙ get_or-map done_transcript ds k d t (omega arith) in
+            let here : slice_index_or xs k d.session ≡ x.session = ap (λ l. slice_index_or l k d.session) is ∙ get_or-map done_session ds k d d.session (omega arith) in
+            let count = ap length is in
+            let more = length_map done_session ds in
+            let stand : Stands log x.session = subst (Stands log) here (stands k d.session (omega arith)) in
+            subst (Plays log k (slice_index_or ss k s)) (sym there) (
+              did.1,
+              did.0 ∙ length_map plain (slice_index_or ss k s).steps.items,
+              ap (λ m. entries_of m log) (sym did.2) ∙ stand.1 ∙ did.6,
+            ),
       )

@@ -25,8 +25,8 @@ made_more u n (t ∷ ss) [] s r e = absurd (omega arith)
 made_more u n (t ∷ ss) (q ∷ rs) s r e =
     let rec = made_more u n ss rs s r (omega arith) in
     elim (is_memory q) as (λ b. cond b (made u n (ss ++ s ∷ []) (rs ++ r ∷ [])) (entry u n t q ∷ made u n (ss ++ s ∷ []) (rs ++ r ∷ [])) ≡ cond b (made u n ss rs) (entry u n t q ∷ made u n ss rs) ++ one u n s r) [
-      true ↦ rec
-    | false ↦ ap (λ l. entry u n t q ∷ l) rec
+      | true ↦ rec
+      | false ↦ ap (λ l. entry u n t q ∷ l) rec
     ]
 
 -- the next step of a reversed list

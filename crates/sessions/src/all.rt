@@ -79,13 +79,16 @@ fn beside<F: Decider + Send + Drop, G: Gate, R: Threads + Wait + Sync>(
             ensures done { IfSome result (λ v. Pairs (λ j d. Did j.session (map plain j.steps.items) d.replies.items d.session) (jobs.items ++ record { session = session; steps = steps; replies = replies } ∷ []) v.items) }
         {
             let child = scope
-                .spawn_with(plan, move || -> (Session, Vec<Reply>)
-                    requires of { IsOf host.now session }
-                    requires fresh { (session.calls ≡ 0) × (session.mine ≡ []) }
-                    requires few { vec_len steps ≤ 4294967295 }
-                    requires room { (replies.items ≡ []) × (vec_len replies ≡ 0) × (vec_len steps ≤ vec_capacity replies) }
-                    ensures { Did session (map plain steps.items) result.1.items result.0 }
-                { work(rt, alloc, host, session, steps, replies, gate) })
+                .spawn_with(
+                    plan,
+                    move || -> (Session, Vec<Reply>)
+                        requires of { IsOf host.now session }
+                        requires fresh { (session.calls ≡ 0) × (session.mine ≡ []) }
+                        requires few { vec_len steps ≤ 4294967295 }
+                        requires room { (replies.items ≡ []) × (vec_len replies ≡ 0) × (vec_len steps ≤ vec_capacity replies) }
+                        ensures { Did session (map plain steps.items) result.1.items result.0 }
+                    { work(rt, alloc, host, session, steps, replies, gate) },
+                )
                 .ok()?;
             let rest = run_all(rt, alloc, host, jobs, done, gate);
             let (session, replies) = child.join(rt);

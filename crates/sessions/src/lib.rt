@@ -5,6 +5,8 @@ mod all;
 mod job;
 mod script;
 mod sessions;
+#[cfg(test)]
+mod tests;
 mod work;
 
 pub use script::{Gate, RunRefusal, Script, Transcript};

@@ -77,7 +77,13 @@ fn play<F: Decider + Send + Drop, G: Gate, R: Threads + Wait + Sync>(
     let Ok(ready) = prepare(alloc, host, scripts) else {
         return Err(RunRefusal::Memory);
     };
-    let Ready { host, jobs, done, sessions, transcripts } = ready;
+    let Ready {
+        host,
+        jobs,
+        done,
+        sessions,
+        transcripts,
+    } = ready;
     let Some(done) = run_all(rt, alloc, &host, jobs, done, gate) else {
         return Err(RunRefusal::Start);
     };
@@ -98,7 +104,11 @@ struct Ready<F: Decider + Send + Drop> {
 }
 
 /// Opens the host and takes all memory that the run itself takes.
-fn prepare<F: Decider + Send + Drop>(alloc: Global, host: Host<F>, scripts: Vec<Script<F>>) -> Result<Ready<F>, AllocError>
+fn prepare<F: Decider + Send + Drop>(
+    alloc: Global,
+    host: Host<F>,
+    scripts: Vec<Script<F>>,
+) -> Result<Ready<F>, AllocError>
     requires some_script { (0 < vec_len scripts) × (vec_len scripts ≤ 64) }
     requires short { All IsShort scripts.items }
     ensures host { IfOk result (λ r. (r.host.start ≡ host) × (r.host.sessions ≡ vec_len scripts)) }
@@ -118,17 +128,30 @@ fn prepare<F: Decider + Send + Drop>(alloc: Global, host: Host<F>, scripts: Vec<
         return Err(AllocError);
     };
     let jobs = pair(alloc, opened, scripts)?;
-    Ok(Ready { host, jobs, done, sessions, transcripts })
+    Ok(Ready {
+        host,
+        jobs,
+        done,
+        sessions,
+        transcripts,
+    })
 }
 
-fn uids_of<F: Decider + Send + Drop>(alloc: Global, scripts: &[Script<F>]) -> Result<Vec<Uid>, AllocError>
+fn uids_of<F: Decider + Send + Drop>(
+    alloc: Global,
+    scripts: &[Script<F>],
+) -> Result<Vec<Uid>, AllocError>
     ensures { IfOk result (λ v. v.items ≡ map uid_of scripts.now) }
 {
     scripts.iter().map(|s| s.uid).collect(alloc)
 }
 
 /// Each session with its script, and room for the replies.
-fn pair<F: Decider + Send + Drop>(alloc: Global, sessions: Vec<Session>, scripts: Vec<Script<F>>) -> Result<Vec<Job<F>>, AllocError>
+fn pair<F: Decider + Send + Drop>(
+    alloc: Global,
+    sessions: Vec<Session>,
+    scripts: Vec<Script<F>>,
+) -> Result<Vec<Job<F>>, AllocError>
     requires { length sessions.items ≡ length scripts.items }
     ensures sessions { IfOk result (λ v. map job_session v.items ≡ sessions.items) }
     ensures steps { IfOk result (λ v. map job_steps v.items ≡ map steps_of scripts.items) }
@@ -146,12 +169,20 @@ fn pair<F: Decider + Send + Drop>(alloc: Global, sessions: Vec<Session>, scripts
     Ok(jobs)
 }
 
-fn job<F: Decider + Send + Drop>(alloc: Global, session: Session, script: Script<F>) -> Result<Job<F>, AllocError>
+fn job<F: Decider + Send + Drop>(
+    alloc: Global,
+    session: Session,
+    script: Script<F>,
+) -> Result<Job<F>, AllocError>
     ensures { IfOk result (λ j. (j.session ≡ session) × (j.steps ≡ script.steps) × HasRoom j) }
 {
     let Script { uid: _, steps } = script;
     let replies = Vec::with_capacity(alloc, steps.len())?;
-    Ok(Job { session, steps, replies })
+    Ok(Job {
+        session,
+        steps,
+        replies,
+    })
 }
 
 /// The sessions apart from the transcripts.
@@ -168,7 +199,10 @@ fn part(
     let mut done = reversed(done);
     while let Some(one) = done.pop() {
         let Done { session, replies } = one;
-        transcripts.push_reserved(Transcript { uid: session.uid(), replies });
+        transcripts.push_reserved(Transcript {
+            uid: session.uid(),
+            replies,
+        });
         sessions.push_reserved(session);
     }
     (sessions, transcripts)

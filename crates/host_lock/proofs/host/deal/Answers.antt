@@ -37,7 +37,7 @@ loop-i-preserved g c =
     let listed : c.index-users-i.result ≡ get_or c.args.users.now c.loop-i.i c.index-users-i.result = search rules in
     let user : c.index-users-i.result ≡ get_or c.args.users.now c.loop-i.i 0 = listed ∙ get_or_default c.args.users.now c.loop-i.i c.index-users-i.result 0 (omega arith) in
     let new : c.born.result ≡ newborn (get_or c.args.users.now c.loop-i.i 0) c.loop-i.i c.args.spares.table_id r =
-        c.born.ensures ∙ (λ j. newborn (user j) c.loop-i.i ((cut.3 ∙ inv.table) j) (start_is j)) in record {
+    c.born.ensures ∙ (λ j. newborn (user j) c.loop-i.i ((cut.3 ∙ inv.table) j) (start_is j)) in record {
       table = cut.0 ∙ inv.table;
       seat = λ j. ((left ∙ ap (spare r (c.loop-i.i + 1)) less) j, none_held j);
       made = one_more c.args.users.now c.loop-i.i c.args.spares.table_id r c.loop-i.sessions.items c.push_reserved.new.self.items (omega arith) inv.made (c.push_reserved.ensures.items ∙ ap (λ (s : SessionData). c.loop-i.sessions.items ++ s ∷ []) new);

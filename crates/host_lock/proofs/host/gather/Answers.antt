@@ -36,7 +36,7 @@ loop-session-preserved g c =
     let p = pops (IsAt shared.table_id h) c.args.sessions.items c.loop-session.sessions.items c.pop-in-loop-session.new.self.items order s c.requires.sessions inv.1.2 popped in
     let left : c.loop-session.seat.me.0 ≡ gathered h order b = ap (λ (m : Me (Slot g.row.F.Denot) View). m.0) inv.1.3 in
     let right : c.into_seat.result.me.0 ≡ posed h Idle (most_calls - s.calls) s.seen s.number s.mine =
-        ap (λ (m : Me (Slot g.row.F.Denot) View). m.0) c.into_seat.ensures.1 ∙ ap (λ (z : Machine). posed z Idle (most_calls - s.calls) s.seen s.number s.mine) p.0.1 in
+    ap (λ (m : Me (Slot g.row.F.Denot) View). m.0) c.into_seat.ensures.1 ∙ ap (λ (z : Machine). posed z Idle (most_calls - s.calls) s.seen s.number s.mine) p.0.1 in
     let held = ap (λ (m : Me (Slot g.row.F.Denot) View). m.1) inv.1.3 in (
       c.join_seat.ensures.0 ∙ inv.0,
       (order ++ s ∷ [], b + (most_calls - s.calls), p.1, c.join_seat.ensures.2 ∙ (λ j. ((ap (λ (z : View × View). both z.0 z.1) (λ i. (left i, right i)) ∙ joined h order s b (most_calls - s.calls)) j, held j))),

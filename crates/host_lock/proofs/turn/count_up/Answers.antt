@@ -17,5 +17,5 @@ fetch_add-requires g c =
       c.requires.table.1,
       omega (arith, c.requires.table.0.0),
       subst P (sym c.requires.holds)
-      (counts_up common.key.start.value common.key.sessions slots seat.id v.budget c.args.ticket c.args.number c.args.user (start_of v) (seen_of v) (mine_of v) c.args.step.now),
+          (counts_up common.key.start.value common.key.sessions slots seat.id v.budget c.args.ticket c.args.number c.args.user (start_of v) (seen_of v) (mine_of v) c.args.step.now),
     )

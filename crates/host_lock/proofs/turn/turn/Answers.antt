@@ -34,14 +34,14 @@ pub give_back-requires-clause-out : goal.give_back-requires-clause-out
 give_back-requires-clause-out g c =
     let told : is_memory c.make-reply.result ≡ true = sym c.is_memory.ensures ∙ c.if-is_memory.true in
     let f = finds c.args.seat.now.me c.fetch_add-ticket.new.seat.me c.take_turn.new.seat.me c.exchange.new.seat.me c.args.user c.args.number c.fetch_add-ticket.result c.plain-plain.result c.in-There.home c.exchange.result c.requires.rests c.fetch_add-ticket.ensures.2
-        c.take_turn.ensures.taken c.exchange.ensures.2 c.in-There.is c.exchange.ensures.3 in
+    c.take_turn.ensures.taken c.exchange.ensures.2 c.in-There.is c.exchange.ensures.3 in
     λ κs lives. is_out c.args.number c.exchange.new.seat.me c.in-There.home c.make-reply.new.self (Holding c.fetch_add-ticket.result) (Away c.args.user c.plain-plain.result) _ (mine_of c.args.seat.now.me.0) refl f.3 (c.make-reply.ensures.memory told)
 
 pub give_back-requires-2-clause-out : goal.give_back-requires-2-clause-out
 give_back-requires-2-clause-out g c =
     let told : is_memory c.make-reply.result ≡ false = sym c.is_memory.ensures ∙ c.if-is_memory.false in
     let f = finds c.args.seat.now.me c.fetch_add-ticket.new.seat.me c.take_turn.new.seat.me c.exchange.new.seat.me c.args.user c.args.number c.fetch_add-ticket.result c.plain-plain.result c.in-There.home c.exchange.result c.requires.rests c.fetch_add-ticket.ensures.2
-        c.take_turn.ensures.taken c.exchange.ensures.2 c.in-There.is c.exchange.ensures.3 in
+    c.take_turn.ensures.taken c.exchange.ensures.2 c.in-There.is c.exchange.ensures.3 in
     let home = c.in-There.home in
     let r = c.make-reply.result in
     let P : PlainStep → Type 0 = λ s. (r ≡ reply_of c.args.user s (replay home.start home.log)) × (c.make-reply.new.self ≡ kept home.start (home.log ++ entry c.args.user c.args.number s r ∷ [])) in
@@ -53,7 +53,7 @@ pub returns-then-is_memory-clause-turned : goal.returns-then-is_memory-clause-tu
 returns-then-is_memory-clause-turned g c =
     let told : is_memory c.make-reply.result ≡ true = sym c.is_memory.ensures ∙ c.if-is_memory.true in
     let f = finds c.args.seat.now.me c.fetch_add-ticket.new.seat.me c.take_turn.new.seat.me c.exchange.new.seat.me c.args.user c.args.number c.fetch_add-ticket.result c.plain-plain.result c.in-There.home c.exchange.result c.requires.rests c.fetch_add-ticket.ensures.2
-        c.take_turn.ensures.taken c.exchange.ensures.2 c.in-There.is c.exchange.ensures.3 in
+    c.take_turn.ensures.taken c.exchange.ensures.2 c.in-There.is c.exchange.ensures.3 in
     let P : PlainStep → Type 0 = λ s. HasTurned c.args.seat.now.me.0 c.args.user c.args.number s c.make-reply.result c.give_back.new.seat.me in
     subst P c.plain-plain.ensures
     (turned_none c.args.seat.now.me c.exchange.new.seat.me c.give_back.new.seat.me c.args.user c.args.number c.fetch_add-ticket.result c.plain-plain.result c.in-There.home c.make-reply.new.self c.make-reply.result f told
@@ -63,7 +63,7 @@ pub returns-clause-turned : goal.returns-clause-turned
 returns-clause-turned g c =
     let told : is_memory c.make-reply.result ≡ false = sym c.is_memory.ensures ∙ c.if-is_memory.false in
     let f = finds c.args.seat.now.me c.fetch_add-ticket.new.seat.me c.take_turn.new.seat.me c.exchange.new.seat.me c.args.user c.args.number c.fetch_add-ticket.result c.plain-plain.result c.in-There.home c.exchange.result c.requires.rests c.fetch_add-ticket.ensures.2
-        c.take_turn.ensures.taken c.exchange.ensures.2 c.in-There.is c.exchange.ensures.3 in
+    c.take_turn.ensures.taken c.exchange.ensures.2 c.in-There.is c.exchange.ensures.3 in
     let home = c.in-There.home in
     let r = c.make-reply.result in
     let M : PlainStep → Type 0 = λ s. (r ≡ reply_of c.args.user s (replay home.start home.log)) × (c.make-reply.new.self ≡ kept home.start (home.log ++ entry c.args.user c.args.number s r ∷ [])) in

@@ -11,7 +11,7 @@ use Rattle.host_lock.specs.contracts.session.Session as Session
 use Rattle.host_lock.specs.contracts.home.Home as Home
 use Rattle.host_lock.specs.contracts.view.Slot as Slot
 use Rattle.host_lock.specs.contracts.host.SharedHost as SharedHost
-use Rattle.sessions.proofs.Crossing.{tables_send, plain_step_send, reply_send, journal_send}
+use Rattle.host_lock.proofs.Crossing.{tables_send, plain_step_send, reply_send, journal_send}
 use Rattle.requests.specs.declared.step.Step.{Step}
 use Rattle.requests.specs.Plain.{plain}
 use Rattle.host_lock.specs.Sessions.{SessionData}

@@ -22,7 +22,7 @@ pub returns-clause-transcripts : goal.returns-clause-transcripts
 returns-clause-transcripts g c =
     let e = c.in-Ok.ensures in
     all_play c.args.host c.in-Ok.ready.host.id c.in-Ok-close.journal c.args.scripts.items c.in-Ok.ready.jobs.items c.in-Some.done.items (e.sessions, e.steps, e.jobs) c.in-Some.ensures.done
-      c.part-sessions.result.0.items c.part-sessions.result.1.items c.part-sessions.ensures.sessions c.part-sessions.ensures.transcripts c.in-Ok-close.ensures.sessions
+    c.part-sessions.result.0.items c.part-sessions.result.1.items c.part-sessions.ensures.sessions c.part-sessions.ensures.transcripts c.in-Ok-close.ensures.sessions
 
 pub returns-then-is_empty-clause-entries : goal.returns-then-is_empty-clause-entries
 returns-then-is_empty-clause-entries g c = λ k d lt. let none = ap length c.empty.ensures in absurd (omega arith)

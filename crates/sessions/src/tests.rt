@@ -1,0 +1,5 @@
+//! Scripts of users, run at the same time on one host.
+
+mod gates;
+mod runs;
+mod scripts;
