@@ -3,12 +3,13 @@
 
     python3 bench/threads.py [PROGRAM] [--runs N]
 
-PROGRAM is the built program (default: crates/tracehost/out/tracehost, which ./tracehost builds). Each scenario is made by a fixed rule, the steps of its users in turn; where one of 60,000 steps is longer than the program reads, all of that length have as many as fit into the longest. In each of N rounds (default 7) each scenario is run plain and with --threads, one right after the other. Printed are the best wall time and the best processor time of each (in user and system mode, of all threads), and how many times that of the plain run --threads takes. Before it is timed, each scenario's lines with --threads are compared with the plain run's, grouped by rising user: status 1 where they differ.
+PROGRAM is the built program (default: crates/tracehost/out/tracehost, which ./tracehost builds). Each scenario is made by a fixed rule, the steps of its users in turn; where one of 60,000 steps is longer than the program reads, all of that length have as many as fit into the longest. In each of N rounds (default 7) each scenario is run plain and with --threads, one right after the other. Printed are the best wall time and the best processor time of each (in user and system mode, of all threads), and how many times that of the plain run --threads takes: the middle one of the N rounds' ratios. Before it is timed, each scenario's lines with --threads are compared with the plain run's, grouped by rising user: status 1 where they differ.
 """
 
 import argparse
 import os
 import resource
+import statistics
 import subprocess
 import sys
 import tempfile
@@ -63,9 +64,11 @@ def timed(program, *words):
     return wall, after.ru_utime - before.ru_utime + after.ru_stime - before.ru_stime
 
 
-def best(runs):
-    """The least wall time, and the least processor time."""
-    return tuple(min(times) for times in zip(*runs))
+def columns(plain, threads):
+    """The best time of each, and the middle ratio of the rounds, for wall and for processor times."""
+    for ones, manys in zip(zip(*plain), zip(*threads)):
+        ratio = statistics.median(many / one for one, many in zip(ones, manys))
+        yield f' {min(ones):8.3f} {min(manys):8.3f} {ratio:8.2f}'
 
 
 def main():
@@ -91,10 +94,7 @@ def main():
         print(f'{"":>5} {"":>7} {"wall seconds":>26} {"processor seconds":>26}')
         print(f'{"users":>5} {"steps":>7}' + f' {"plain":>8} {"threads":>8} {"times":>8}' * 2)
         for users, count, file in made:
-            row = f'{users:5} {count:7}'
-            for one, many in zip(best(plain[file]), best(threads[file])):
-                row += f' {one:8.3f} {many:8.3f} {many / one:8.2f}'
-            print(row)
+            print(f'{users:5} {count:7}' + ''.join(columns(plain[file], threads[file])))
     print(f'{len(made)} scenarios with --threads compared with the plain run, {differing} differ')
     sys.exit(1 if differing else 0)
 
