@@ -1,5 +1,5 @@
 -- What is known at the end.
-use Rattle.std.proofs.Common.{◌≡◌, ℕ, ◌+◌, List, [], ◌∷◌, ◌++◌, map, reverse, length, sym, refl, ap, ◌∙◌, subst, arith, append_assoc, append-nil, Some}
+use Rattle.std.proofs.Common.{◌≡◌, ℕ, ◌+◌, List, [], ◌∷◌, ◌++◌, map, reverse, sym, refl, ap, ◌∙◌, subst, append_assoc, Some}
 use Rattle.std.proofs.lemmas.List.{reverse-append}
 use mathlib.Core.Option.{some, some-injective}
 use mathlib.Core.List.{map-append}
@@ -14,7 +14,7 @@ use Rattle.host_lock.specs.Kept.{Kept, kept}
 use Rattle.host_lock.specs.Journal.{StartsWith}
 use Rattle.host_lock.specs.Rule.{Each, Matches, Closes, posed, both}
 use Rattle.host_lock.specs.Sessions.{SessionData, IsBelow, gathered, seen_by, account_of, Stands}
-use Rattle.host_lock.proofs.Totals.{each_map, each_append, each_left, each_right}
+use Rattle.host_lock.proofs.Totals.{each_append, each_right}
 
 abbrev kept_or : {F : Type 0} → Kept → Slot F → Kept
 kept_or d (There k) = k

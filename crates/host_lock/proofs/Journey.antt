@@ -1,6 +1,6 @@
 -- One call, from step to step.
 use Rattle.std.proofs.Common.{◌≡◌, ℕ, ◌-◌, Bool, true, false, List, [], ◌∷◌, ◌++◌, sym, refl, ap, ◌∙◌, subst, arith, MatchBool, eq-eqb, ◌+◌}
-use Rattle.atomic_table.specs.Table.{Me, rest}
+use Rattle.atomic_table.specs.Table.{rest}
 use Rattle.requests.specs.Machine.{Machine}
 use Rattle.requests.specs.declared.PlainStep.{PlainStep}
 use Rattle.requests.specs.declared.Reply.{Reply}
@@ -11,7 +11,7 @@ use Rattle.host_lock.specs.Views.{Stage, Idle, Waiting, Holding, Counted, View}
 use Rattle.host_lock.specs.declared.view.Slot.{Slot}
 use Rattle.host_lock.specs.declared.view.Slot.TheVariants.{There, Away}
 use Rattle.host_lock.specs.Kept.{Kept, kept}
-use Rattle.host_lock.specs.Journal.{replay, IsLegal, entries_of, StartsWith, entry, next_entry}
+use Rattle.host_lock.specs.Journal.{replay, IsLegal, entries_of, StartsWith, entry}
 use Rattle.host_lock.specs.Rule.{M, nobody, has_slot, posed, drawn, start_of, seen_of, mine_of, TakesSlot, HasCounted, HasTurned, IsOut, IsAtRest, most_calls, view_in}
 use Rattle.host_lock.proofs.Logs.{entries_mine}
 

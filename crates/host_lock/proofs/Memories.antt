@@ -1,6 +1,5 @@
 -- What is known of a step that found memory, and of a list that found none.
 use Rattle.std.proofs.Common.{◌≡◌, ◌≢◌, ℕ, true, false, refl, sym, ap, ◌∙◌, true≢false}
-use Rattle.pid_blocks.specs.Users.{IsUser}
 use Rattle.pid_blocks.specs.declared.Errno.TheVariants as errno
 use Rattle.requests.specs.declared.PlainStep.{PlainStep}
 use Rattle.requests.specs.declared.Reply.{Reply}

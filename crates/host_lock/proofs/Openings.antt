@@ -1,12 +1,10 @@
 -- The sessions of a new host.
-use Rattle.std.proofs.Common.{◌≡◌, ℕ, zero, suc, ◌+◌, ◌-◌, ◌*◌, ◌<◌, ◌≤◌, ◌==◌, Bool, true, false, ◌||◌, List, [], ◌∷◌, ◌++◌, length, drop, get_or, sym, refl, ap, ◌∙◌, subst, arith, append_assoc, append-nil, drop-cons, add-one}
-use Rattle.std.specs.List.{list_any}
-use Rattle.atomic_table.specs.Table.{Me, Splits, opening}
+use Rattle.std.proofs.Common.{◌≡◌, ℕ, zero, suc, ◌+◌, ◌-◌, ◌*◌, ◌<◌, List, [], ◌∷◌, ◌++◌, length, drop, get_or, sym, ap, ◌∙◌, subst, arith, append_assoc, drop-cons, add-one}
+use Rattle.atomic_table.specs.Table.{Splits}
 use Rattle.atomic_table.specs.Seated.{TableId}
 use Rattle.requests.specs.Machine.{Machine}
 use Rattle.host_lock.specs.Views.{Idle, View}
-use Rattle.host_lock.specs.declared.view.Slot.{Slot}
-use Rattle.host_lock.specs.Rule.{IsKept, spare, posed, cut_left, cut_right, most_calls, fresh}
+use Rattle.host_lock.specs.Rule.{IsKept, spare, posed, cut_left, cut_right, most_calls}
 use Rattle.host_lock.specs.Sessions.{SessionData, newborn, newborns}
 use Rattle.host_lock.proofs.Turns.{splits}
 

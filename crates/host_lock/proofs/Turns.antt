@@ -1,5 +1,5 @@
 -- Each step keeps the rule.
-use Rattle.std.proofs.Common.{◌≡◌, ◌≢◌, ◌⊎◌, ℕ, zero, suc, ◌+◌, ◌-◌, ◌*◌, ◌%◌, ◌^◌, ◌<◌, ◌≤◌, Bool, true, false, eqb, List, [], ◌∷◌, ◌++◌, length, get_or, set, take, drop, cond, sym, refl, ap, ◌∙◌, subst, ⊎_elim, inl, inr, arith, eq-eqb, ne_eqb, length-append, append-nil, append_assoc, Option, Some, None, IfSome, MatchBool}
+use Rattle.std.proofs.Common.{◌≡◌, ◌≢◌, ℕ, zero, suc, ◌+◌, ◌*◌, ◌%◌, ◌^◌, ◌<◌, ◌≤◌, Bool, true, false, eqb, List, [], ◌∷◌, ◌++◌, length, get_or, set, sym, refl, ap, ◌∙◌, subst, ⊎_elim, inl, inr, arith, eq-eqb, ne_eqb, length-append, append-nil, MatchBool}
 use Rattle.std.proofs.Math.Nat.{mod-eq_of_lt}
 use mathlib.Core.Logic.{dite}
 use mathlib.Core.Option.{none, some}
@@ -7,7 +7,7 @@ use mathlib.Core.Option as maybe
 use native.Mathlib.Decide.{ℕ_discrete, dec_le}
 use Rattle.atomic_table.proofs.Lists.{set_again, set_else}
 use lib.ListN.{get_elem?}
-use Rattle.atomic_table.specs.Table.{State, Me, step, Act, keeps, takes, gives, stepped, homes_after, carried_after, Valid, Allows, Splits, Joins, opening, Final, Seen}
+use Rattle.atomic_table.specs.Table.{State, step, Act, keeps, takes, gives, homes_after, carried_after, Valid, Allows, Splits, Joins, opening, Final, Seen}
 use Rattle.requests.specs.Machine.{Machine}
 use Rattle.requests.specs.declared.PlainStep.{PlainStep}
 use Rattle.host_lock.specs.declared.journal.Entry.{Entry}
@@ -15,10 +15,10 @@ use Rattle.host_lock.specs.Views.{Stage, Idle, Waiting, Holding, Counted, Accoun
 use Rattle.host_lock.specs.declared.view.Slot.{Slot}
 use Rattle.host_lock.specs.declared.view.Slot.TheVariants.{There, Away}
 use Rattle.host_lock.specs.Kept.{Kept, kept}
-use Rattle.host_lock.specs.Journal.{replay, IsLegal, entries_of, StartsWith, next_entry}
-use Rattle.host_lock.specs.Rule.{M, most_calls, total, Each, once, has_ticket, has_slot, owes, account, times, Matches, AtTurn, Fits, ticket_of, slot_of, number_of, parts_of, budget_of, calls_of, AtHome, IsKept, staged, drawn, taken, drew, Takes, turned, first_seen, first_owned, ticket_in, with_entry, counts, count_slot, count_in, counted, released, fresh, spare, opening_view, cut_left, cut_right, both, posed, Closes, Tells, start_of, seen_of, mine_of, TakesSlot}
+use Rattle.host_lock.specs.Journal.{StartsWith, next_entry}
+use Rattle.host_lock.specs.Rule.{M, most_calls, total, Each, once, has_ticket, has_slot, owes, times, Matches, AtTurn, Fits, ticket_of, slot_of, number_of, parts_of, budget_of, calls_of, AtHome, IsKept, drawn, taken, drew, Takes, turned, first_seen, ticket_in, counted, released, fresh, spare, opening_view, both, posed, Closes, Tells, start_of, seen_of, mine_of, TakesSlot}
 use Rattle.host_lock.proofs.Logs.{entries_mine, entries_other, starts_longer}
-use Rattle.host_lock.proofs.Totals.{once_same, once_else, total_set, total_snoc, total_one, total_two, total_find, seats_set, seats_snoc, each_map, each_append, each_left, each_right}
+use Rattle.host_lock.proofs.Totals.{once_same, once_else, total_set, total_snoc, total_one, total_two, total_find, seats_set, seats_snoc, each_map, each_append}
 
 total_same : (f : View → ℕ) (l : List View) (i : ℕ) (v w : View) → get_elem? l i ≡ some v → f w ≡ f v → total f (set l i w) ≡ total f l
 total_same f l i v w e is = let s = total_set f l i v w e in omega arith

@@ -1,5 +1,5 @@
 -- What open, call and close answer.
-use Rattle.std.specs.Prelude.{◌≡◌, ℕ, ◌<◌, ◌≤◌, List, length}
+use Rattle.std.specs.Prelude.{◌≡◌, ℕ, ◌<◌, List, length}
 use Rattle.requests.specs.Machine.{Machine}
 use Rattle.requests.specs.declared.PlainStep.{PlainStep}
 use Rattle.host_lock.specs.declared.host.OpenRefusal.{OpenRefusal}

@@ -1,5 +1,5 @@
 -- The rule of the table, and what each step tells.
-use Rattle.std.specs.Prelude.{◌≡◌, ◌⊎◌, ℕ, zero, suc, ◌+◌, ◌-◌, ◌*◌, ◌<◌, ◌≤◌, ◌==◌, ◌^◌, List, [], ◌∷◌, ◌++◌, length, take, drop, Option, Some, None, IfSome, MatchBool, true, if◌then◌else◌}
+use Rattle.std.specs.Prelude.{◌≡◌, ◌⊎◌, ℕ, zero, suc, ◌+◌, ◌-◌, ◌*◌, ◌<◌, ◌≤◌, ◌==◌, List, [], ◌∷◌, ◌++◌, length, take, drop, Option, Some, None, IfSome, MatchBool, true, if◌then◌else◌}
 use mathlib.Core.Option.{none, some}
 use mathlib.Core.Option as maybe
 use lib.ListN.{get_elem?}
@@ -15,7 +15,7 @@ use Rattle.host_lock.specs.Views.{Stage, Idle, Waiting, Holding, Counted, Accoun
 use Rattle.host_lock.specs.declared.view.Slot.{Slot}
 use Rattle.host_lock.specs.declared.view.Slot.TheVariants.{There, Away}
 use Rattle.host_lock.specs.Kept.{Kept, kept}
-use Rattle.host_lock.specs.Journal.{replay, IsLegal, entries_of, StartsWith, entry, next_entry}
+use Rattle.host_lock.specs.Journal.{IsLegal, entries_of, StartsWith, entry, next_entry}
 
 -- the calls that one session may make
 abbrev pub most_calls : ℕ

@@ -1,14 +1,13 @@
 -- What contracts see of a session and of the shared host.
-use Rattle.std.specs.Prelude.{◌≡◌, ℕ, ◌+◌, ◌<◌, ◌≤◌, ◌==◌, length, map, Some, Bool, false, ◌||◌, List, [], ◌∷◌, ◌++◌, MatchBool}
-use Rattle.std.specs.List.{list_any}
+use Rattle.std.specs.Prelude.{◌≡◌, ℕ, ◌+◌, ◌<◌, ◌≤◌, length, map, Some, List, [], ◌∷◌, ◌++◌, MatchBool}
 use Rattle.atomic_table.specs.Seated.{TableId}
 use Rattle.requests.specs.Machine.{Machine}
 use Rattle.requests.specs.declared.PlainStep.{PlainStep}
 use Rattle.requests.specs.declared.Reply.{Reply}
 use Rattle.requests.specs.Memory.{is_memory}
 use Rattle.host_lock.specs.declared.journal.Entry.{Entry}
-use Rattle.host_lock.specs.Journal.{IsLegal, StartsWith, entries_of, entry, replay}
-use Rattle.host_lock.specs.Rule.{Each, most_calls, account}
+use Rattle.host_lock.specs.Journal.{IsLegal, StartsWith, entries_of, entry}
+use Rattle.host_lock.specs.Rule.{account}
 use Rattle.host_lock.specs.Views.{Idle, Account, View}
 
 pub record SessionData : Type 0 where

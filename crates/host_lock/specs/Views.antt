@@ -1,5 +1,5 @@
 -- What a seat at the table knows.
-use Rattle.std.specs.Prelude.{ℕ, List, [], Option, Some, None, true}
+use Rattle.std.specs.Prelude.{ℕ, List, [], Option, None}
 use Rattle.requests.specs.Machine.{Machine}
 use Rattle.host_lock.specs.declared.journal.Entry.{Entry}
 

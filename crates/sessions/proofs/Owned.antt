@@ -1,6 +1,5 @@
 -- What each user's entries in a legal journal are.
 use Rattle.std.proofs.Common.{◌≡◌, ℕ, Bool, true, false, ◌==◌, List, [], ◌∷◌, map, refl, sym, ap, ◌∙◌, Result, Ok, Err, IfOk}
-use Rattle.pid_blocks.specs.Users.{IsUser}
 use Rattle.requests.specs.Machine.{Machine}
 use Rattle.requests.specs.declared.Reply.{Reply}
 use Rattle.requests.specs.Run.{Asked, asked_by, replies, last}
@@ -10,7 +9,7 @@ use Rattle.requests.specs.Sound.{sound}
 use Rattle.requests.proofs.ViewSound.{sound_apart}
 use Rattle.visibility.proofs.Apart.{own_list_law}
 use Rattle.host_lock.specs.declared.journal.Entry.{Entry}
-use Rattle.host_lock.specs.Journal.{asked, replay, IsLegal}
+use Rattle.host_lock.specs.Journal.{asked, IsLegal}
 use Rattle.sessions.specs.Runs.{entries_by, OwnEntries}
 
 abbrev asked_one : Entry → Asked

@@ -1,5 +1,5 @@
 -- Sessions, scripts, jobs and transcripts, place by place.
-use Rattle.std.proofs.Common.{◌≡◌, ℕ, zero, suc, ◌+◌, ◌<◌, ◌≤◌, List, [], ◌∷◌, ◌++◌, length, map, reverse, Vec, Global, vec_len, slice_index_or, sym, refl, ap, ◌∙◌, subst, arith, append_assoc, length-append, All}
+use Rattle.std.proofs.Common.{◌≡◌, ℕ, zero, suc, ◌+◌, ◌<◌, ◌≤◌, List, [], ◌∷◌, ◌++◌, length, map, Vec, Global, vec_len, slice_index_or, sym, refl, ap, ◌∙◌, subst, arith, All}
 use Rattle.std.proofs.lemmas.List.{get_or-map}
 use mathlib.Core.List.{map-append}
 use Rattle.atomic_table.specs.Seated.{TableId}
@@ -7,7 +7,7 @@ use Rattle.requests.specs.Machine.{Machine}
 use Rattle.requests.specs.declared.step.Step.{Step}
 use Rattle.requests.specs.Plain.{plain}
 use Rattle.host_lock.specs.declared.journal.Entry.{Entry}
-use Rattle.host_lock.specs.Journal.{entries_of, StartsWith}
+use Rattle.host_lock.specs.Journal.{entries_of}
 use Rattle.host_lock.specs.Answers.{GivesBack}
 use Rattle.host_lock.specs.declared.host.CloseRefusal.{CloseRefusal}
 use Rattle.host_lock.specs.declared.host.CloseRefusal.TheVariants.{Missing}
@@ -18,7 +18,7 @@ use Rattle.sessions.specs.declared.job.Job.{Job}
 use Rattle.sessions.specs.declared.job.Done.{Done}
 use Rattle.sessions.specs.declared.script.Script.{Script}
 use Rattle.sessions.specs.declared.script.Transcript.{Transcript}
-use Rattle.sessions.specs.Made.{made, Did, Pairs}
+use Rattle.sessions.specs.Made.{Did, Pairs}
 use Rattle.sessions.specs.Jobs.{IsReady, HasRoom, job_session, job_steps, done_session, done_transcript}
 use Rattle.sessions.specs.Runs.{IsShort, Plays, AllPlay, uid_of, steps_of}
 

@@ -1,14 +1,11 @@
 -- A script that is ready to run, and what it has done.
-use Rattle.std.specs.Prelude.{◌≡◌, ℕ, ◌≤◌, List, [], map, Vec, vec_len, vec_capacity}
-use Rattle.requests.specs.declared.Reply.{Reply}
-use Rattle.requests.specs.Plain.{plain}
+use Rattle.std.specs.Prelude.{◌≡◌, ◌≤◌, [], Vec, vec_len, vec_capacity}
 use Rattle.host_lock.specs.Sessions.{SessionData, HostData, IsOf}
 use Rattle.requests.specs.declared.step.Step.{Step}
 use Rattle.std.specs.Global.{Global}
 use Rattle.sessions.specs.declared.job.Job.{Job}
 use Rattle.sessions.specs.declared.job.Done.{Done}
 use Rattle.sessions.specs.declared.script.Transcript.{Transcript}
-use Rattle.sessions.specs.Made.{Did}
 
 abbrev pub IsReady : {F : Type 0} → HostData → Job F → Type 0
 IsReady h j = IsOf h j.session × (j.session.calls ≡ 0) × (j.session.mine ≡ []) × (vec_len j.steps ≤ 4294967295) × (j.replies.items ≡ []) × (vec_len j.replies ≡ 0) × (vec_len j.steps ≤ vec_capacity j.replies)

@@ -1,6 +1,5 @@
 -- What a run of scripts answers.
-use Rattle.std.specs.Prelude.{◌≡◌, ℕ, ◌<◌, ◌≤◌, ◌==◌, List, [], map, filter, length, Vec, vec_len, vec_capacity, All, slice_index_or}
-use Rattle.requests.specs.declared.Reply.{Reply}
+use Rattle.std.specs.Prelude.{◌≡◌, ℕ, ◌<◌, ◌≤◌, ◌==◌, List, map, filter, length, Vec, vec_len, slice_index_or}
 use Rattle.requests.specs.Plain.{plain}
 use Rattle.host_lock.specs.declared.journal.Entry.{Entry}
 use Rattle.pid_blocks.specs.Users.{IsUser}
@@ -8,7 +7,6 @@ use Rattle.requests.specs.Machine.{Machine}
 use Rattle.requests.specs.Run.{replies, last}
 use Rattle.requests.specs.View.{view, alone}
 use Rattle.host_lock.specs.Journal.{asked, replay, entries_of}
-use Rattle.host_lock.specs.Sessions.{SessionData, HostData}
 use Rattle.sessions.specs.declared.script.Script.{Script}
 use Rattle.sessions.specs.declared.script.Transcript.{Transcript}
 use Rattle.sessions.specs.declared.script.RunRefusal.{RunRefusal}

@@ -1,4 +1,4 @@
-use Rattle.std.proofs.Common.{◌≡◌, sym, ◌∙◌, true, false}
+use Rattle.std.proofs.Common.{◌≡◌, sym, ◌∙◌, false}
 use Rattle.requests.specs.Memory.{is_memory}
 use Rattle.requests.specs.Plain.{plain}
 use Rattle.host_lock.proofs.Memories.{steps, wanted, listed}

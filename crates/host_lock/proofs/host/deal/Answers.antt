@@ -1,13 +1,11 @@
-use Rattle.std.proofs.Common.{rules, ◌≡◌, ℕ, ◌+◌, ◌-◌, ◌<◌, ◌++◌, [], ◌∷◌, List, length, get_or, sym, ap, ◌∙◌, arith, vec_len}
-use Rattle.std.proofs.lemmas.Grind.{common_steps}
+use Rattle.std.proofs.Common.{rules, ◌≡◌, ℕ, ◌+◌, ◌-◌, ◌<◌, ◌++◌, [], ◌∷◌, length, get_or, sym, ap, ◌∙◌, arith}
 use Rattle.std.proofs.lemmas.List.{get_or_default}
 use Rattle.atomic_table.specs.Table.{Me}
-use Rattle.atomic_table.specs.Seated.{TableId}
 use Rattle.requests.specs.Machine.{Machine}
 use Rattle.host_lock.specs.Views.{View, Idle}
 use Rattle.host_lock.specs.declared.view.Slot.{Slot}
 use Rattle.host_lock.specs.Rule.{spare, posed, start_of, most_calls}
-use Rattle.host_lock.specs.Sessions.{SessionData, newborn, newborns}
+use Rattle.host_lock.specs.Sessions.{SessionData, newborn}
 use Rattle.host_lock.proofs.Openings.{cuts, left_is, right_is, one_more}
 use Rattle.host_lock.proofs.host.deal.Goals as goal
 

@@ -1,12 +1,9 @@
-use Rattle.std.proofs.Common.{rules, ◌≡◌, ℕ, List, sym, ap, subst, ◌∙◌}
+use Rattle.std.proofs.Common.{List, ap, ◌∙◌}
 use mathlib.Core.Option.{some}
-use lib.ListN.{get_elem?}
 use Rattle.std.specs.Slots.{slots_items}
-use Rattle.host_lock.specs.Rule.{Closes}
 use Rattle.host_lock.specs.declared.view.Slot.{Slot}
-use Rattle.host_lock.specs.declared.view.Slot.TheVariants.{There, Away}
 use Rattle.host_lock.proofs.Turns.{ends}
-use Rattle.host_lock.proofs.Closings.{Known, closes_with, not_away}
+use Rattle.host_lock.proofs.Closings.{closes_with, not_away}
 use Rattle.host_lock.proofs.host.finish.Goals as goal
 
 pub unreachable-requires : goal.unreachable-requires

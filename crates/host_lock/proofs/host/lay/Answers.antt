@@ -1,4 +1,4 @@
-use Rattle.std.proofs.Common.{◌≡◌, ◌∙◌, ℕ, length, rules, sym, subst, ap, [], ◌∷◌, ◌++◌, List, arith}
+use Rattle.std.proofs.Common.{◌≡◌, ◌∙◌, length, rules, sym, subst, ap, [], ◌∷◌, ◌++◌, List, arith}
 use Rattle.atomic_table.specs.Table.{opening}
 use Rattle.requests.specs.Machine.{Machine}
 use Rattle.host_lock.specs.Kept.{kept}

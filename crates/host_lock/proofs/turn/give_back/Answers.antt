@@ -1,4 +1,4 @@
-use Rattle.std.proofs.Common.{◌≡◌, ℕ, ◌<◌, ◌∙◌, List, [], ◌∷◌, sym, ap, subst, arith, rules, refl}
+use Rattle.std.proofs.Common.{◌≡◌, ℕ, ◌∙◌, List, [], ◌∷◌, sym, ap, arith}
 use Rattle.atomic_table.specs.Table.{Me, rest}
 use Rattle.host_lock.specs.Views.{View, Idle}
 use Rattle.host_lock.specs.declared.view.Slot.{Slot}

@@ -1,4 +1,4 @@
-use Rattle.std.proofs.Common.{◌≡◌, ℕ, ◌<◌, ◌≢◌, ◌∙◌, sym, ap, subst, arith, rules}
+use Rattle.std.proofs.Common.{◌≡◌, ◌≢◌, ◌∙◌, sym, subst, arith, rules}
 use Rattle.atomic_table.specs.Table.{Me}
 use Rattle.host_lock.specs.Views.{View}
 use Rattle.host_lock.specs.declared.view.Slot.{Slot}

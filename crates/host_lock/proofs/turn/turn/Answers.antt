@@ -1,17 +1,16 @@
-use Rattle.std.proofs.Common.{◌≡◌, ℕ, ◌<◌, ◌∙◌, List, [], ◌∷◌, ◌++◌, Bool, true, false, sym, ap, subst, arith, rules, refl}
+use Rattle.std.proofs.Common.{◌≡◌, ℕ, ◌∙◌, List, [], ◌∷◌, ◌++◌, true, false, sym, ap, subst, arith, rules, refl}
 use Rattle.atomic_table.specs.Table.{Me, rest}
 use Rattle.requests.specs.Isolation.{reply_of}
 use Rattle.requests.specs.Memory.{is_memory}
 use Rattle.requests.specs.declared.PlainStep.{PlainStep}
 use Rattle.host_lock.specs.Journal.{replay, entry}
-use Rattle.requests.specs.Plain.{plain}
-use Rattle.host_lock.specs.Views.{View, Idle, Holding, Counted}
+use Rattle.host_lock.specs.Views.{View, Holding, Counted}
 use Rattle.host_lock.specs.declared.view.Slot.{Slot}
 use Rattle.host_lock.specs.declared.view.Slot.TheVariants.{There, Away}
 use Rattle.host_lock.specs.Rule.{start_of, mine_of, HasTurned}
 use Rattle.host_lock.specs.Kept.{kept}
 use Rattle.host_lock.proofs.Turns.{draws}
-use Rattle.host_lock.proofs.Journey.{IsFound, finds, is_out, counts_out, turned_none, turned_one}
+use Rattle.host_lock.proofs.Journey.{finds, is_out, counts_out, turned_none, turned_one}
 use Rattle.host_lock.proofs.turn.turn.Goals as goal
 
 pub fetch_add-ticket-requires : goal.fetch_add-ticket-requires

@@ -1,4 +1,4 @@
-use Rattle.std.proofs.Common.{◌≡◌, ℕ, ◌+◌, ◌≤◌, ◌++◌, List, length, map, reverse, vec_len, vec_capacity}
+use Rattle.std.proofs.Common.{◌≡◌, ◌+◌, ◌≤◌, ◌++◌, List, length, map, reverse, vec_len, vec_capacity}
 use Rattle.host_lock.specs.Rule.{Each}
 use Rattle.host_lock.specs.Sessions.{SessionData}
 use Rattle.sessions.specs.declared.script.Script.{Script}

@@ -1,4 +1,4 @@
-use Rattle.std.proofs.Common.{rules, ◌≡◌, ℕ, ◌+◌, [], ◌∷◌, ◌++◌, List, length, map, reverse, vec_len, sym, ap, ◌∙◌, subst, arith}
+use Rattle.std.proofs.Common.{rules, ◌≡◌, ◌+◌, [], ◌∷◌, ◌++◌, List, vec_len, sym, ap, ◌∙◌, arith}
 use Rattle.sessions.specs.declared.job.Done.{Done}
 use Rattle.sessions.specs.Jobs.{done_session, done_transcript}
 use Rattle.sessions.proofs.Scripts.{next_step}

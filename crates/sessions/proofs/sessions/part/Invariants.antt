@@ -1,4 +1,4 @@
-use Rattle.std.proofs.Common.{◌≡◌, ℕ, ◌+◌, ◌≤◌, ◌++◌, List, length, map, reverse, vec_len, vec_capacity}
+use Rattle.std.proofs.Common.{◌≡◌, ◌+◌, ◌≤◌, ◌++◌, List, map, reverse, vec_len, vec_capacity}
 use Rattle.sessions.specs.declared.job.Done.{Done}
 use Rattle.sessions.specs.Jobs.{done_session, done_transcript}
 use Rattle.sessions.proofs.sessions.part.Given as goal

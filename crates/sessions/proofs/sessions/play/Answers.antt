@@ -1,6 +1,5 @@
-use Rattle.std.proofs.Common.{rules, ◌≡◌, ℕ, ◌+◌, ◌<◌, ◌≤◌, [], List, length, map, vec_len, slice_index_or, eqb-true, sym, refl, ap, ◌∙◌, subst, arith, All}
-use Rattle.host_lock.specs.Rule.{Each}
-use Rattle.host_lock.specs.Sessions.{SessionData, IsOf}
+use Rattle.std.proofs.Common.{◌≡◌, length, vec_len, eqb-true, sym, refl, ap, ◌∙◌, subst, arith, All}
+use Rattle.host_lock.specs.Sessions.{IsOf}
 use Rattle.sessions.specs.Jobs.{done_session}
 use Rattle.host_lock.proofs.Totals.{all_of}
 use Rattle.sessions.proofs.Pairing.{ready, of_host, all_play, jobs_length, length_map, not_missing}

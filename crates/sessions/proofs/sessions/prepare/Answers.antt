@@ -1,4 +1,4 @@
-use Rattle.std.proofs.Common.{◌≡◌, ℕ, List, length, map, sym, ap, ◌∙◌}
+use Rattle.std.proofs.Common.{length, ap, ◌∙◌}
 use Rattle.sessions.proofs.Pairing.{newborns_length, length_map}
 use Rattle.sessions.specs.Runs.{uid_of}
 use Rattle.sessions.proofs.sessions.prepare.Goals as goal

@@ -1,4 +1,3 @@
-use Rattle.std.proofs.Common.{◌≡◌, Result, Ok, Err, IfOk}
 use Rattle.sessions.proofs.Owned.{own_runs}
 use Rattle.sessions.proofs.sessions.run_sessions.Goals as goal
 

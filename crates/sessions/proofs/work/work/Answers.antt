@@ -1,8 +1,5 @@
-use Rattle.std.proofs.Common.{◌≡◌, ℕ, ◌+◌, ◌++◌, [], ◌∷◌, List, sym, ap, subst, ◌∙◌, arith, rules, length-append, vec_len, length, reverse, refl}
+use Rattle.std.proofs.Common.{◌≡◌, ◌+◌, ◌++◌, [], ◌∷◌, List, sym, ap, ◌∙◌, arith, rules, length-append, vec_len, length, reverse, refl}
 use Rattle.requests.specs.declared.step.Step.{Step}
-use Rattle.requests.specs.Plain.{plain}
-use Rattle.host_lock.specs.Answers.{Calls}
-use Rattle.host_lock.specs.declared.host.Answer.TheVariants.{Reply as Answered}
 use Rattle.sessions.proofs.Scripts.{did_more, next_step, reverse_twice}
 use Rattle.sessions.proofs.work.work.Goals as goal
 

@@ -1,7 +1,6 @@
-use Rattle.std.proofs.Common.{◌≡◌, ℕ, ◌+◌, ◌≤◌, ◌++◌, List, length, map, reverse, vec_len, vec_capacity}
+use Rattle.std.proofs.Common.{◌≡◌, ◌+◌, ◌≤◌, ◌++◌, List, length, map, reverse, vec_len, vec_capacity}
 use Rattle.requests.specs.declared.step.Step.{Step}
 use Rattle.requests.specs.Plain.{plain}
-use Rattle.host_lock.specs.Sessions.{IsOf}
 use Rattle.sessions.specs.Made.{Did}
 use Rattle.sessions.proofs.work.work.Given as goal
 

@@ -2,7 +2,7 @@ use Rattle.std.proofs.Common.{rules, ◌≡◌, List, [], ◌∷◌, ◌++◌, �
 use Rattle.requests.specs.Plain.{plain}
 use Rattle.requests.specs.Isolation.{Users}
 use Rattle.host_lock.specs.declared.journal.Entry.{Entry}
-use Rattle.host_lock.specs.Journal.{asked, replay, entry}
+use Rattle.host_lock.specs.Journal.{asked, entry}
 use Rattle.host_lock.proofs.Logs.{made, users_more}
 use Rattle.host_lock.proofs.home.Home.make.Goals as goal
 

@@ -1,6 +1,5 @@
-use Rattle.std.proofs.Common.{◌≡◌, ℕ, [], ◌∷◌, rules}
+use Rattle.std.proofs.Common.{◌≡◌, [], ◌∷◌, rules}
 use Rattle.requests.specs.Plain.{plain}
-use Rattle.host_lock.specs.Rule.{view_in}
 use Rattle.host_lock.proofs.Journey.{badge_settles}
 use Rattle.host_lock.proofs.host.SharedHost.call.Goals as goal
 

@@ -1,4 +1,4 @@
-use Rattle.std.proofs.Common.{rules, ◌≡◌, ℕ, List, reverse, sym, ap, subst, ◌∙◌}
+use Rattle.std.proofs.Common.{◌≡◌, List, sym, ap, subst}
 use Rattle.atomic_table.specs.Table.{Me}
 use Rattle.host_lock.specs.Views.{View}
 use Rattle.host_lock.specs.declared.view.Slot.{Slot}
@@ -6,9 +6,9 @@ use Rattle.host_lock.specs.declared.journal.Entry.{Entry}
 use Rattle.host_lock.specs.Kept.{Kept}
 use Rattle.host_lock.specs.Journal.{StartsWith}
 use Rattle.host_lock.specs.Rule.{Each, Matches}
-use Rattle.host_lock.specs.Sessions.{SessionData, Stands}
+use Rattle.host_lock.specs.Sessions.{Stands}
 use Rattle.host_lock.proofs.Closings.{stand, each_reverse}
-use Rattle.host_lock.proofs.Totals.{all_of, each_of}
+use Rattle.host_lock.proofs.Totals.{all_of}
 use Rattle.host_lock.proofs.host.SharedHost.close.Goals as goal
 
 pub returns-clause-sessions : goal.returns-clause-sessions

@@ -1,5 +1,5 @@
-use Rattle.std.proofs.Common.{rules, ◌≡◌, List, [], ◌∷◌, All, sym, subst}
-use Rattle.host_lock.specs.Sessions.{SessionData, IsOf}
+use Rattle.std.proofs.Common.{rules, ◌≡◌, [], ◌∷◌, All, sym, subst}
+use Rattle.host_lock.specs.Sessions.{IsOf}
 use Rattle.host_lock.proofs.Two.{all_one}
 use Rattle.host_lock.proofs.tests.pairs.close_one.Goals as goal
 

@@ -1,5 +1,5 @@
-use Rattle.std.proofs.Common.{rules, ◌≡◌, List, [], ◌∷◌, ◌++◌, sym, ◌∙◌}
-use Rattle.host_lock.specs.Sessions.{IsAt, newborns}
+use Rattle.std.proofs.Common.{rules, ◌≡◌, [], ◌∷◌, ◌++◌, sym, ◌∙◌}
+use Rattle.host_lock.specs.Sessions.{newborns}
 use Rattle.host_lock.proofs.Two.{two_are_at}
 use Rattle.host_lock.proofs.tests.pairs.open_two.Goals as goal
 
