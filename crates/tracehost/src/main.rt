@@ -138,14 +138,7 @@ fn go<
     let options = RunOptions { user: asked.user };
     let mut writer = io::writer(rt);
     if asked.threads {
-        run_threads(
-            rt,
-            rt.alloc(),
-            &scenario,
-            handlers,
-            options,
-            &mut writer,
-        )?;
+        run_threads(rt, rt.alloc(), &scenario, handlers, options, &mut writer)?;
     } else {
         run(rt.alloc(), &scenario, handlers, options, &mut writer)?;
     }
