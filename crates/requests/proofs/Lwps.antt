@@ -36,7 +36,9 @@ use Rattle.requests.specs.Leave.{in_mode, due_at_birth, exits_lwp}
 use Rattle.requests.proofs.Acting.{traced_where, Acting, its_live, its_quiet, lwp_fit, lwp_stands, acting_lwp, acting_stops}
 use Rattle.requests.proofs.Room.{LwpRoom}
 use Rattle.requests.proofs.Signals.{end_sound}
-use Rattle.trace_stop.proofs.Detached.{shows_none}
+
+shows_none : (f : LwpData) → f.flags.0 ≡ 0 → shows f.flags PL_FLAG_EXITED ≡ false
+shows_none f none = rw none refl
 
 pub find_more : {X : Type 0} (q : X → Bool) (xs ys : List X) (x : X) → find q xs ≡ Some x → find q (xs ++ ys) ≡ Some x
 find_more q [] ys x is = absurd (grind (arith, is))

@@ -24,7 +24,7 @@ use Rattle.trace_stop.proofs.LeafLaw.{any_by_number, dooms_meets, meets-suc, q_t
 use Rattle.trace_stop.proofs.Leaves.{tracee_doomed}
 use Rattle.trace_stop.proofs.Chains.{no_ring, chains_end, tracee_deeper}
 use Rattle.trace_stop.proofs.LeafLives.{listed, leaf_lives, leaf_fewer}
-use Rattle.trace_stop.proofs.LeafSound.{leaf_sound}
+use Rattle.trace_stop.proofs.EndSound.{end_sound}
 use Rattle.trace_stop.proofs.Doomed.{leaf_end}
 
 -- What a walk over tracees has found
@@ -148,7 +148,7 @@ module _ (rows rows' : Rows) (p q status : ℕ) (s : IsSound rows) (other : (q =
   made = ended ∙ sym (leaf_end kills rows q SIGKILL refl s.stands (listed rows q lives) leaf)
 
   pub turn_sound : IsSound rows'
-  turn_sound = subst IsSound (sym made) (leaf_sound kills rows q SIGKILL refl s refl lives leaf)
+  turn_sound = subst IsSound (sym made) (end_sound kills rows q SIGKILL s refl lives)
 
   pub turn_lives : is_live_at p rows ≡ true → is_live_at p rows' ≡ true
   turn_lives live =

@@ -1,5 +1,5 @@
 -- Who lives on after the end of a process that traces no live one.
-use Rattle.std.proofs.Common.{◌≡◌, ℕ, ◌+◌, ◌<◌, ◌≤◌, List, [], ◌∷◌, filter_map, Bool, true, false, cond, not, ◌&&◌, ◌||◌, ◌==◌, Option, Some, None, refl, sym, ap, ◌∙◌, arith, true≢false, eqb-true, subst}
+use Rattle.std.proofs.Common.{◌≡◌, ℕ, ◌+◌, ◌<◌, ◌≤◌, List, [], ◌∷◌, filter_map, Bool, true, false, cond, not, ◌&&◌, ◌||◌, ◌==◌, Option, Some, None, IfSome, refl, sym, ap, ◌∙◌, arith, true≢false, eqb-true, subst}
 use Rattle.std.specs.Option.{option_and_then}
 use Rattle.std.specs.Prelude.{count_by}
 use Rattle.std.specs.List.{list_any}
@@ -10,15 +10,19 @@ use Rattle.proc_table.specs.Fresh.{is_process}
 use Rattle.trace_stop.specs.declared.Settings.{Settings}
 use Rattle.trace_stop.specs.End.{end}
 use Rattle.trace_stop.specs.Facts.{Stands}
-use Rattle.trace_stop.specs.Laws.{is_live_at, traces_live, LeafStands, LeafLives, LeafFewer}
+use Rattle.proc_table.specs.Kept.{Rise}
+use Rattle.trace_stop.specs.Laws.{is_live_at, traces_live, LeafLives, LeafFewer}
 use Rattle.trace_stop.proofs.Every.{and_left, any_more, All-imply, count-cons}
-use Rattle.trace_stop.proofs.Passes.{passes, own_rows, process_edited}
+use Rattle.trace_stop.proofs.Passes.{passes, own_rows, process_edited, rise_edited}
 use Rattle.trace_stop.proofs.Doomed.{leaf_end}
 use Rattle.trace_stop.proofs.Twice.{alone}
 use Rattle.trace_stop.proofs.LeafFirst.{turned_keeps}
 use Rattle.trace_stop.proofs.LeafLaw.{IsLiveRow, any_by_number, number_found}
 use Rattle.trace_stop.proofs.Remains.{count_kept, edit, edit-safe, after, after-is, by_row}
-use Rattle.trace_stop.proofs.LeafStands.{stands_left, passes_none}
+
+passes_none : {X : Type 0} (t : X → Bool) (o : Option X) → IfSome o (λ x. t x ≡ false) → passes t o ≡ false
+passes_none t None h = refl
+passes_none t (Some x) h = h
 
 pub live_from : (rows : Rows) (q : ℕ) → Stands rows → is_live_at q rows ≡ true → IsLiveRow rows.processes q
 live_from rows q s is = sym (any_by_number is_live q rows.processes s.rising) ∙ is
@@ -30,10 +34,6 @@ listed rows q is = any_more (λ r. (r.pid == q) && is_live r) (λ r. r.pid == q)
 pub end_after : (settings : Settings) (rows : Rows) (q status : ℕ) (kills : settings.kill_on_debugger_exit ≡ true) (s : Stands rows) (is : is_live_at q rows ≡ true) (leaf : traces_live q rows ≡ false)
     → end settings q status rows ≡ after rows q status s (live_from rows q s is) leaf
 end_after settings rows q status kills s is leaf = leaf_end settings rows q status kills s (listed rows q is) leaf ∙ after-is rows q status s (live_from rows q s is) leaf
-
-pub leaf_stands : LeafStands
-leaf_stands settings rows q status kills s is leaf =
-    subst Stands (sym (end_after settings rows q status kills s is leaf)) (stands_left rows q status s (live_from rows q s is) leaf)
 
 -- a count in two parts
 cond_split : (b c : Bool) → cond {A = ℕ} b 1 0 ≡ cond {A = ℕ} (b && not c) 1 0 + cond {A = ℕ} (b && c) 1 0
@@ -71,6 +71,10 @@ module _ (rows : Rows) (q status : ℕ) (s : Stands rows) (live : IsLiveRow rows
   abbrev change : ProcData → Option ProcData
   change = edit rows q status s live leaf
 
+  risen : Rise (filter_map change ps)
+  unfolding alone
+  risen = rise_edited change (turned_keeps (alone q) q status _) ps s.rising
+
   -- the row of a live process other than q stays
   lives : (r : ProcData) → process_of r.pid ps ≡ Some r → passes is_live (change r) ≡ (is_live r && not (alone q r.pid))
   lives r at = by_live (is_live r) refl (alone q r.pid) refl
@@ -99,8 +103,7 @@ module _ (rows : Rows) (q status : ℕ) (s : Stands rows) (live : IsLiveRow rows
 pub leaf_lives : LeafLives
 leaf_lives settings rows q status n kills s is leaf =
     let made = end_after settings rows q status kills s is leaf in
-    let left = leaf_stands settings rows q status kills s is leaf in
-    any_by_number is_live n (end settings q status rows).processes left.rising
+    any_by_number is_live n (end settings q status rows).processes (subst (λ (rs : Rows). Rise rs.processes) (sym made) (risen rows q status s (live_from rows q s is) leaf))
     ∙ ap (λ (rs : Rows). passes is_live (process_of n rs.processes)) made
     ∙ live_at rows q status s (live_from rows q s is) leaf n
     ∙ ap (λ b. b && not (n == q)) (sym (any_by_number is_live n rows.processes s.rising))

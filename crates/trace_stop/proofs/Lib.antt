@@ -14,15 +14,12 @@ pub mod Chains
 pub mod Leaves
 pub mod Edited
 pub mod Remains
-pub mod LeafStands
 pub mod LeafLives
-pub mod LeafSound
 pub mod EndSound
 pub mod Changed
 pub mod Bits
 pub mod Changes
 pub mod Posting
-pub mod Detached
 pub mod Stopping
 pub mod Single
 pub mod Stops
@@ -41,7 +38,6 @@ pub mod Thinned
 pub mod Joining
 pub mod Found
 pub mod Shows
-pub mod Steps
 pub mod Descents
 pub mod LwpEdits
 pub mod Leaving

@@ -80,11 +80,6 @@ LeafExists = (settings : Settings) (rows : Rows) (p x : ℕ) → settings.kill_o
 
 -- After the end of a live process q that traces no live one, where a debugger's end kills
 
--- what the rows always keep of numbers, limits and links stands
-abbrev pub LeafStands : Type 0
-LeafStands = (settings : Settings) (rows : Rows) (q status : ℕ) → settings.kill_on_debugger_exit ≡ true → Stands rows
-    → is_live_at q rows ≡ true → traces_live q rows ≡ false → Stands (end settings q status rows)
-
 -- all who lived but q live
 abbrev pub LeafLives : Type 0
 LeafLives = (settings : Settings) (rows : Rows) (q status n : ℕ) → settings.kill_on_debugger_exit ≡ true → Stands rows
@@ -102,11 +97,6 @@ abbrev pub LeafDooms : Type 0
 LeafDooms = (settings : Settings) (rows : Rows) (p q n : ℕ) → settings.kill_on_debugger_exit ≡ true → Stands rows
     → (q == p) ≡ false → dooms settings rows.processes p q ≡ true → traces_live q rows ≡ false
     → dooms settings (end settings q SIGKILL rows).processes p n ≡ (dooms settings rows.processes p n && not (n == q))
-
--- each row is as it must be, where the status is the word of an end
-abbrev pub LeafSound : Type 0
-LeafSound = (settings : Settings) (rows : Rows) (q status : ℕ) → settings.kill_on_debugger_exit ≡ true → IsSound rows → is_end status ≡ true
-    → is_live_at q rows ≡ true → traces_live q rows ≡ false → IsSound (end settings q status rows)
 
 -- sound rows are sound once live processes are detached from their tracers
 abbrev pub DetachedSound : Type 0

@@ -1,6 +1,6 @@
 //! Laws of the end of a process.
 
-ghost use Rattle.trace_stop.specs.Laws.{LeafEnd, DetachedEnd, LeafLaw, ChainsEnd, ChainsMeet, TraceeDeeper, TraceeDoomed, LeafExists, LeafStands, LeafLives, LeafFewer, LeafDooms, LeafSound, DetachedSound, EndSound, EndOwn, EndOthers};
+ghost use Rattle.trace_stop.specs.Laws.{LeafEnd, DetachedEnd, LeafLaw, ChainsEnd, ChainsMeet, TraceeDeeper, TraceeDoomed, LeafExists, LeafLives, LeafFewer, LeafDooms, DetachedSound, EndSound, EndOwn, EndOthers};
 
 /// A process that traces no live one ends alone.
 pub fn leaf_end()
@@ -42,11 +42,6 @@ pub fn leaf_exists()
     ensures { LeafExists }
 {}
 
-/// Numbers, limits and links stand after the end of a process that traces no live one.
-pub fn leaf_stands()
-    ensures { LeafStands }
-{}
-
 /// Who lived before the end of a process that traces no live one lives after it, but for that process.
 pub fn leaf_lives()
     ensures { LeafLives }
@@ -60,11 +55,6 @@ pub fn leaf_fewer()
 /// Who was to end with a process before a tracee of its ended is still to end with it, but for the tracee.
 pub fn leaf_dooms()
     ensures { LeafDooms }
-{}
-
-/// Sound rows are sound after the end of a process that traces no live one.
-pub fn leaf_sound()
-    ensures { LeafSound }
 {}
 
 /// Sound rows are sound after the end of a live process.

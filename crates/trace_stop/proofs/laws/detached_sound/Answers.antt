@@ -1,5 +1,5 @@
 use Rattle.trace_stop.proofs.laws.detached_sound.Goals as goal
-use Rattle.trace_stop.proofs.Detached as law
+use Rattle.trace_stop.proofs.EndSound as law
 
 pub returns : goal.returns
 returns c = law.detached_sound
