@@ -25,7 +25,7 @@ pub told_reports : (s : State) (tid : ℕ) → told_stop s ≡ Some tid → name
 told_reports Run tid told = told
 told_reports (Trace t sig true) tid told = told
 told_reports (Trace t sig false) tid told = absurd (cc)
-told_reports (Job sig seen) tid told = told
+told_reports (Job sig told) tid is = is
 told_reports (Zombie w) tid told = told
 
 -- The LWP that a target names

@@ -37,8 +37,8 @@ none_counted {X} t (x ∷ xs) is = by_head (t x) refl is (none_counted t xs)
 
 run_no_job : (s : State) → is_run_state s ≡ true → is_job_state s ≡ false
 run_no_job Run is = refl
-run_no_job (Trace tid sig seen) is = refl
-run_no_job (Job sig seen) is = absurd (true≢false (sym is))
+run_no_job (Trace tid sig told) is = refl
+run_no_job (Job sig told) is = absurd (true≢false (sym is))
 run_no_job (Zombie w) is = refl
 
 module _ (rows : Rows) (p : ProcData) (n : ℕ) (s : IsSound rows) (at : process_of p.pid rows.processes ≡ Some p) (live : is_live p ≡ true) (free : p.tracer ≡ None)

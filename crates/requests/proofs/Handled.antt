@@ -125,9 +125,9 @@ module _ (settings : Settings) (caller : ℕ) (policies : List (List Rule)) (row
 
     by_state : (x : State) → p.state ≡ x → handles_status settings policies (status_of_state x) p after x ≡ asks settings policies p.pid (status_of_state x) after
     by_state Run is = refl
-    by_state (Trace tid sig seen) is = by_lwp (status_of_state (Trace tid sig seen)) tid sig (lwp_of tid after.lwps)
-        ∙ sym (row_asked (status_of_state (Trace tid sig seen)) (record p { state = Trace tid sig true }) (ap (wait.collected_in caller p) is) refl)
-    by_state (Job sig seen) is = sym (row_asked (status_of_state (Job sig seen)) (record p { state = Job sig true }) (ap (wait.collected_in caller p) is) refl)
+    by_state (Trace tid sig told) is = by_lwp (status_of_state (Trace tid sig told)) tid sig (lwp_of tid after.lwps)
+        ∙ sym (row_asked (status_of_state (Trace tid sig told)) (record p { state = Trace tid sig true }) (ap (wait.collected_in caller p) is) refl)
+    by_state (Job sig told) is = sym (row_asked (status_of_state (Job sig told)) (record p { state = Job sig true }) (ap (wait.collected_in caller p) is) refl)
     by_state (Zombie w) is = quiet (ended w) (ended_quiet w)
 
     pub asked_row : handles settings policies rows after (Some p) (collected.Got p.pid (status_of p)) ≡ asks settings policies p.pid (status_of p) after

@@ -50,7 +50,7 @@ module _ (settings : Settings) (caller : ℕ) (policies : List (List Rule)) (row
   after_is_sound : IsSound after
   after_is_sound = rows_after_sound rows caller (negsuc 0) no_options s
 
-  module _ (p : ProcData) (found : reported caller (negsuc 0) no_options rows ≡ Some p) (tid sig : ℕ) (seen : Bool) (stops : p.state ≡ Trace tid sig seen) where
+  module _ (p : ProcData) (found : reported caller (negsuc 0) no_options rows ≡ Some p) (tid sig : ℕ) (told : Bool) (stops : p.state ≡ Trace tid sig told) where
     at : process_of p.pid rows.processes ≡ Some p
     at = (find_some (reportable no_options caller) (λ r. process_of r.pid rows.processes ≡ Some r) (candidates caller (negsuc 0) rows)
         (All-filter (λ r. is_child caller r && fits (negsuc 0) r) (λ r. process_of r.pid rows.processes ≡ Some r) rows.processes (own_rows rows.processes s.stands.rising)) p found).0
@@ -91,8 +91,8 @@ module _ (settings : Settings) (caller : ℕ) (policies : List (List Rule)) (row
 
   status_sound : (status : StatusKind) (p : ProcData) → reported caller (negsuc 0) no_options rows ≡ Some p → (x : State) → p.state ≡ x → IsSound (handles_status settings policies status p after x).rows
   status_sound status p found Run is = after_is_sound
-  status_sound status p found (Trace tid sig seen) is = stop_sound p found tid sig seen is status (lwp_of tid after.lwps)
-  status_sound status p found (Job sig seen) is = after_is_sound
+  status_sound status p found (Trace tid sig told) is = stop_sound p found tid sig told is status (lwp_of tid after.lwps)
+  status_sound status p found (Job sig told) is = after_is_sound
   status_sound status p found (Zombie w) is = after_is_sound
 
   pub handles_sound : (o : Option ProcData) → reported caller (negsuc 0) no_options rows ≡ o → (c : Collected) → IsSound (handles settings policies rows after o c).rows

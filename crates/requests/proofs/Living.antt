@@ -33,6 +33,6 @@ run_live p run = by_state p.state run
   where
     by_state : (s : State) → is_run_state s ≡ true → not (is_zombie_state s) ≡ true
     by_state Run is = refl
-    by_state (Trace tid sig seen) is = refl
-    by_state (Job sig seen) is = refl
+    by_state (Trace tid sig told) is = refl
+    by_state (Job sig told) is = refl
     by_state (Zombie status) is = absurd (true≢false (sym is))

@@ -244,8 +244,8 @@ handles_stop_fair settings policies p tid sig status rows now (Some l) = done ro
 
 handles_status_fair : (settings : Settings) (policies : List (List Rule)) (status : StatusKind) (p : ProcData) (rows now : Rows) (state : State) → Fair rows (handles_status settings policies status p now state)
 handles_status_fair settings policies status p rows now Run = done rows _ _ refl refl
-handles_status_fair settings policies status p rows now (Trace tid sig seen) = handles_stop_fair settings policies p tid sig status rows now (lwp_of tid now.lwps)
-handles_status_fair settings policies status p rows now (Job sig seen) = done rows _ _ refl refl
+handles_status_fair settings policies status p rows now (Trace tid sig told) = handles_stop_fair settings policies p tid sig status rows now (lwp_of tid now.lwps)
+handles_status_fair settings policies status p rows now (Job sig told) = done rows _ _ refl refl
 handles_status_fair settings policies status p rows now (Zombie word) = done rows _ _ refl refl
 
 handles_fair : (settings : Settings) (policies : List (List Rule)) (rows now : Rows) (o : Option ProcData) (c : Collected) → Fair rows (handles settings policies rows now o c)

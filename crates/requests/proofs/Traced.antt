@@ -79,12 +79,12 @@ owned_uid u m rows p s own at =
 -- the LWP of a told stop
 told_reports : (x : State) (tid : ℕ) → told_stop x ≡ Some tid → named_by x ≡ Some tid
 told_reports Run tid is = absurd (grind (arith, is))
-told_reports (Trace t sig seen) tid is = by_seen seen is
+told_reports (Trace t sig told) tid is = by_told told is
   where
-    by_seen : (b : Bool) → (if b then Some t else None) ≡ Some tid → Some t ≡ Some tid
-    by_seen true e = e
-    by_seen false e = absurd (grind (arith, e))
-told_reports (Job sig seen) tid is = absurd (grind (arith, is))
+    by_told : (b : Bool) → (if b then Some t else None) ≡ Some tid → Some t ≡ Some tid
+    by_told true e = e
+    by_told false e = absurd (grind (arith, e))
+told_reports (Job sig told) tid is = absurd (grind (arith, is))
 told_reports (Zombie w) tid is = absurd (grind (arith, is))
 
 -- Requests about a stopped tracee

@@ -59,8 +59,8 @@ lwp_changed n f k rows rows1 same d at put = put ∙ sym (change_lwp-at n f rows
 
 live_state : (s : State) → is_some (named_by s) ≡ true → is_zombie_state s ≡ false
 live_state Run reports = refl
-live_state (Trace tid sig seen) reports = refl
-live_state (Job sig seen) reports = refl
+live_state (Trace tid sig told) reports = refl
+live_state (Job sig told) reports = refl
 live_state (Zombie w) reports = absurd (true≢false (sym reports))
 
 module _ (rows : Rows) (p : ProcData) (s : IsSound rows) (at : process_of p.pid rows.processes ≡ Some p) (reports : is_some (reporting p) ≡ true) where

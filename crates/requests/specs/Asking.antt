@@ -24,8 +24,8 @@ is_stop Continued = false
 -- the trace stop of a process as handlers see it
 abbrev pub viewed_in : Rows → ProcData → State → Option StopView
 viewed_in rows p Run = None
-viewed_in rows p (Trace tid sig seen) = option_map (view_of p tid sig) (lwp_of tid rows.lwps)
-viewed_in rows p (Job sig seen) = None
+viewed_in rows p (Trace tid sig told) = option_map (view_of p tid sig) (lwp_of tid rows.lwps)
+viewed_in rows p (Job sig told) = None
 viewed_in rows p (Zombie status) = None
 
 -- the policies' answer about it

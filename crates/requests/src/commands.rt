@@ -115,7 +115,7 @@ fn told_stop(process: &ProcData) -> Option<Tid>
     ensures { result ≡ told_stop process.now.state }
 {
     match process.state {
-        State::Trace { tid, seen, .. } if seen => Some(tid),
+        State::Trace { tid, told, .. } if told => Some(tid),
         _ => None,
     }
 }

@@ -101,7 +101,7 @@ fn job_stop(tables: &mut Tables, signal: Signal, p: &ProcData, l: &LwpData) -> R
     tables.set_process(ProcData {
         state: State::Job {
             sig: signal,
-            seen: false,
+            told: false,
         },
         continued: false,
         ..row

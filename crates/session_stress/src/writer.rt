@@ -150,8 +150,8 @@ impl Writer {
         let above = process.tracer.map_or(process.parent, |tracer| tracer.get());
         match process.state {
             State::Run => self.running(process),
-            State::Trace { seen, .. } => {
-                if seen {
+            State::Trace { told, .. } => {
+                if told {
                     self.request(above, own)
                 } else {
                     self.stopped(above)

@@ -69,7 +69,7 @@ impl Both {
                 0 => State::Zombie { status: roll },
                 1 => State::Job {
                     sig: Signal::stop(),
-                    seen: roll % 7 == 1,
+                    told: roll % 7 == 1,
                 },
                 _ => State::Run,
             },

@@ -71,8 +71,8 @@ record Fact (rows : Rows) (ends : ProcData → Bool) (over : ℕ → Bool) (q : 
 
 zombie_ended : (q : ProcData) (s : State) → is_zombie_state s ≡ true → (w : ℕ) × (s ≡ Zombie w)
 zombie_ended q Run is = absurd (true≢false (sym is))
-zombie_ended q (Trace tid sig seen) is = absurd (true≢false (sym is))
-zombie_ended q (Job sig seen) is = absurd (true≢false (sym is))
+zombie_ended q (Trace tid sig told) is = absurd (true≢false (sym is))
+zombie_ended q (Job sig told) is = absurd (true≢false (sym is))
 zombie_ended q (Zombie w) is = (w, refl)
 
 module _ (rows : Rows) (ends : ProcData → Bool) (over : ℕ → Bool) (p status : ℕ) (s : IsSound rows) (word : is_end status ≡ true) (all : AllByRecursion (Ends rows ends over) rows.processes) where
@@ -222,8 +222,8 @@ module _ (rows : Rows) (ends : ProcData → Bool) (over : ℕ → Bool) (p statu
     where
       by_state : (x : State) → not (is_zombie_state x) ≡ false → named_by x ≡ None
       by_state Run is = refl
-      by_state (Trace tid sig seen) is = absurd (true≢false is)
-      by_state (Job sig seen) is = refl
+      by_state (Trace tid sig told) is = absurd (true≢false is)
+      by_state (Job sig told) is = refl
       by_state (Zombie w) is = refl
 
   linked_row : (q : ProcData) → Fact rows ends over q → IfSome (to q) (Linked after)

@@ -221,8 +221,8 @@ names_from rows p is = at_report (reporting p) (implies_at (is_some (reporting p
 
 ended_from : (p : ProcData) (s : State) → is_state p s ≡ true → IfEnded p s
 ended_from p Run is = tt
-ended_from p (Trace tid sig seen) is = tt
-ended_from p (Job sig seen) is = tt
+ended_from p (Trace tid sig told) is = tt
+ended_from p (Job sig told) is = tt
 ended_from p (Zombie w) is = record {
   word = and_left _ _ (and_left _ _ (and_left _ _ is));
   mask = eqb-true p.mask.0 0 (and_right _ _ (and_left _ _ (and_left _ _ is)));
@@ -232,8 +232,8 @@ ended_from p (Zombie w) is = record {
 
 ended_test : (p : ProcData) (s : State) → IfEnded p s → is_state p s ≡ true
 ended_test p Run e = refl
-ended_test p (Trace tid sig seen) e = refl
-ended_test p (Job sig seen) e = refl
+ended_test p (Trace tid sig told) e = refl
+ended_test p (Job sig told) e = refl
 ended_test p (Zombie w) e = both _ _ (both _ _ (both _ _ e.word (eq-eqb p.mask.0 0 e.mask)) (eq-eqb p.pending 0 e.pending)) (by_tracer p.tracer e.collector)
   where
     by_tracer : (o : Option ℕ) → (o ≡ None → p.parent ≢ 1) → (is_some o || not (p.parent == 1)) ≡ true

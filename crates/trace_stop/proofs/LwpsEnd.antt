@@ -145,8 +145,8 @@ module _ (rows : Rows) (s : IsSound rows) (q : ℕ) (p : ProcData) (at : process
 
         at_state : (st : State) → IfEnded r st → not (is_zombie_state st) ≡ false → (is_none r.tracer && (r.parent == 1)) ≡ false
         at_state Run h gone = absurd (true≢false gone)
-        at_state (Trace tid sig seen) h gone = absurd (true≢false gone)
-        at_state (Job sig seen) h gone = absurd (true≢false gone)
+        at_state (Trace tid sig told) h gone = absurd (true≢false gone)
+        at_state (Job sig told) h gone = absurd (true≢false gone)
         at_state (Zombie word) h gone = by_bool (is_none r.tracer && (r.parent == 1)) (λ is.
             h.collector (none_is r.tracer (and_left (is_none r.tracer) (r.parent == 1) is)) (eqb-true r.parent 1 (and_right (is_none r.tracer) (r.parent == 1) is)))
 

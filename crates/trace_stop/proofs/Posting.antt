@@ -18,8 +18,8 @@ use Rattle.trace_stop.proofs.Changes.{changes_hold}
 -- a live process is no zombie
 pub live_fits : (p : ProcData) (s : State) → is_zombie_state s ≡ false → IfEnded p s
 live_fits p Run live = tt
-live_fits p (Trace tid sig seen) live = tt
-live_fits p (Job sig seen) live = tt
+live_fits p (Trace tid sig told) live = tt
+live_fits p (Job sig told) live = tt
 live_fits p (Zombie w) live = absurd (true≢false live)
 
 pub live_state : (p : ProcData) → is_live p ≡ true → is_zombie_state p.state ≡ false
@@ -55,8 +55,8 @@ lwp_pending_fits p q l n fit same by none apart = record {
 
 pub job_quiet : (s : State) → is_job_state s ≡ true → named_by s ≡ None
 job_quiet Run is = refl
-job_quiet (Trace tid sig seen) is = absurd (true≢false (sym is))
-job_quiet (Job sig seen) is = refl
+job_quiet (Trace tid sig told) is = absurd (true≢false (sym is))
+job_quiet (Job sig told) is = refl
 job_quiet (Zombie w) is = refl
 
 pub posted_fits : (s : ℕ) (to : Option ℕ) (p : ProcData) → FitProcess p → is_live p ≡ true → FitProcess (posted_process s to p)

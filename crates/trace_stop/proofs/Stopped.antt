@@ -64,6 +64,6 @@ stopped_live pid rows s = by_state s.p.state s.reports
   where
     by_state : (state : State) → named_by state ≡ Some s.tid → not (is_zombie_state state) ≡ true
     by_state Run e = absurd (cc)
-    by_state (Trace tid sig seen) e = refl
-    by_state (Job sig seen) e = refl
+    by_state (Trace tid sig told) e = refl
+    by_state (Job sig told) e = refl
     by_state (Zombie w) e = absurd (cc)

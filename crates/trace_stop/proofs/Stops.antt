@@ -25,8 +25,8 @@ use Rattle.trace_stop.proofs.Stopping.{the_row, the_lwp, live_told, notified_sou
 
 pub run_quiet : (s : State) → is_run_state s ≡ true → (named_by s ≡ None) × (is_zombie_state s ≡ false)
 run_quiet Run is = (refl, refl)
-run_quiet (Trace tid sig seen) is = absurd (true≢false (sym is))
-run_quiet (Job sig seen) is = absurd (true≢false (sym is))
+run_quiet (Trace tid sig told) is = absurd (true≢false (sym is))
+run_quiet (Job sig told) is = absurd (true≢false (sym is))
 run_quiet (Zombie w) is = absurd (true≢false (sym is))
 
 none_some : {X : Type 0} (o : Option X) → o ≡ None → is_some o ≡ true → ⊥

@@ -93,8 +93,8 @@ module _ (rows : Rows) (s : IsSound rows) where
 
   collector_of : (p : ProcData) (x : State) → p.state ≡ x → IfEnded p x → is_live p ≡ false → p.tracer ≡ None → p.parent ≢ 1
   collector_of p Run e end dead none = absurd (true≢false (sym (ap (λ y. not (is_zombie_state y)) e) ∙ dead))
-  collector_of p (Trace tid sig seen) e end dead none = absurd (true≢false (sym (ap (λ y. not (is_zombie_state y)) e) ∙ dead))
-  collector_of p (Job sig seen) e end dead none = absurd (true≢false (sym (ap (λ y. not (is_zombie_state y)) e) ∙ dead))
+  collector_of p (Trace tid sig told) e end dead none = absurd (true≢false (sym (ap (λ y. not (is_zombie_state y)) e) ∙ dead))
+  collector_of p (Job sig told) e end dead none = absurd (true≢false (sym (ap (λ y. not (is_zombie_state y)) e) ∙ dead))
   collector_of p (Zombie w) e end dead none = end.collector none
 
   good_row : (p : ProcData) → AtHome p × (Linked rows p × FitProcess p) → GoodProc p

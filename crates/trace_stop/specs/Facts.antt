@@ -48,8 +48,8 @@ pub record Ended (p : ProcData) (w : ℕ) : Type 0 where
 
 abbrev pub IfEnded : ProcData → State → Type 0
 IfEnded p Run = Unit {0}
-IfEnded p (Trace tid sig seen) = Unit {0}
-IfEnded p (Job sig seen) = Unit {0}
+IfEnded p (Trace tid sig told) = Unit {0}
+IfEnded p (Job sig told) = Unit {0}
 IfEnded p (Zombie w) = Ended p w
 
 -- nothing that only a tracer gives, and no signal pending whose action is nothing

@@ -159,7 +159,7 @@ pub fn stop(tables: &mut Tables, pid: Pid, tid: Tid, shown: &Shown)
         state: State::Trace {
             tid,
             sig: shown.sig,
-            seen: false,
+            told: false,
         },
         ..p
     });

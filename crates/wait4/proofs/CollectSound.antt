@@ -45,7 +45,7 @@ module _ (caller : ℕ) (p : ProcData) where
     fits = λ fit. record { stopped = fit.stopped; job = fit.job; continued = λ on. absurd (true≢false (sym on)); untraced = λ none. record { mask = (fit.untraced none).mask; pending = (fit.untraced none).pending }; ended = subst (λ s. IfEnded (record p { continued = false }) s) (sym is) tt };
     fit_lwp = λ l live fit. record { untraced = λ none. let was = fit.untraced none in record { due = was.due; stepping = was.stepping; suspended = was.suspended; pending = was.pending }; silent = fit.silent; blocked = fit.blocked; mode = fit.mode };
   }
-  collected_kept (Trace tid sig seen) is = record {
+  collected_kept (Trace tid sig told) is = record {
     pid = refl;
     uid = refl;
     live = sym (ap (λ s. not (is_zombie_state s)) is);
@@ -55,7 +55,7 @@ module _ (caller : ℕ) (p : ProcData) where
     fits = λ fit. record { stopped = λ r. fit.stopped (subst (λ s. is_some (named_by s) ≡ true) (sym is) refl); job = λ j. absurd (true≢false (sym j)); continued = λ on. absurd (true≢false (sym (fit.continued on).1 ∙ ap is_run_state is)); untraced = λ none. record { mask = (fit.untraced none).mask; pending = (fit.untraced none).pending }; ended = tt };
     fit_lwp = λ l live fit. record { untraced = λ none. let was = fit.untraced none in record { due = was.due; stepping = was.stepping; suspended = was.suspended; pending = was.pending }; silent = λ off. fit.silent (ap (λ s. is_this l.tid (named_by s)) is ∙ off); blocked = fit.blocked; mode = fit.mode };
   }
-  collected_kept (Job sig seen) is = record {
+  collected_kept (Job sig told) is = record {
     pid = refl;
     uid = refl;
     live = sym (ap (λ s. not (is_zombie_state s)) is);
@@ -122,8 +122,8 @@ module _ (caller : ℕ) (p : ProcData) (rows : Rows) (s : IsSound rows) (at : pr
     where
       by_state : (x : State) → not (is_zombie_state x) ≡ true → q.state ≡ x → Lives (collected_in caller q x)
       by_state Run h is = live
-      by_state (Trace tid sig seen) h is = refl
-      by_state (Job sig seen) h is = refl
+      by_state (Trace tid sig told) h is = refl
+      by_state (Job sig told) h is = refl
       by_state (Zombie w) h is = absurd (true≢false (sym h))
 
       by_number : (b : Bool) → Lives (if b then collected caller q else Some q)

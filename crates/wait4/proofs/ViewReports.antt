@@ -54,8 +54,8 @@ stays_parent caller p is one = by_traces (traces caller p) (not (p.parent == cal
 
 collected_kin : (caller : ℕ) (p : ProcData) → GoodProc p → (st : State) → p.state ≡ st → Kin p (collected_in caller p st)
 collected_kin caller p good Run e = (refl, refl, record { user = good.user; block = good.block; tracer = good.tracer; parent = good.parent; reporting = good.reporting; collector = good.collector })
-collected_kin caller p good (Trace tid sig seen) e = (refl, refl, record { user = good.user; block = good.block; tracer = good.tracer; parent = good.parent; reporting = subst (λ x. IfSome (named_by x) (λ t. tid_owner t ≡ p.uid)) e good.reporting; collector = λ dead. absurd (true≢false dead) })
-collected_kin caller p good (Job sig seen) e = (refl, refl, record { user = good.user; block = good.block; tracer = good.tracer; parent = good.parent; reporting = tt; collector = λ dead. absurd (true≢false dead) })
+collected_kin caller p good (Trace tid sig told) e = (refl, refl, record { user = good.user; block = good.block; tracer = good.tracer; parent = good.parent; reporting = subst (λ x. IfSome (named_by x) (λ t. tid_owner t ≡ p.uid)) e good.reporting; collector = λ dead. absurd (true≢false dead) })
+collected_kin caller p good (Job sig told) e = (refl, refl, record { user = good.user; block = good.block; tracer = good.tracer; parent = good.parent; reporting = tt; collector = λ dead. absurd (true≢false dead) })
 collected_kin caller p good (Zombie status) e = by_stays (stays caller p) refl
   where
     by_stays : (b : Bool) → stays caller p ≡ b → Kin p (if b then Some (record p { tracer = None }) else None)
@@ -64,8 +64,8 @@ collected_kin caller p good (Zombie status) e = by_stays (stays caller p) refl
 
 collected_live : (caller : ℕ) (p : ProcData) (st : State) → p.state ≡ st → is_live p ≡ true → LiveRow (collected_in caller p st)
 collected_live caller p Run e live = live
-collected_live caller p (Trace tid sig seen) e live = refl
-collected_live caller p (Job sig seen) e live = refl
+collected_live caller p (Trace tid sig told) e live = refl
+collected_live caller p (Job sig told) e live = refl
 collected_live caller p (Zombie status) e live = absurd (true≢false (sym live ∙ ap (λ x. not (is_zombie_state x)) e))
 
 told_mine : {u : ℕ} (caller : ℕ) (p : ProcData) → GoodProc p → p.uid ≡ u → Mines u (told caller p)

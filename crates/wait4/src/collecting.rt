@@ -40,8 +40,8 @@ fn reportable(options: Options, caller: Pid, p: &ProcData) -> bool
 {
     match p.state {
         State::Run => p.continued && is_own(caller, p) && options.continued,
-        State::Trace { seen, .. } => !seen && p.tracer == Some(caller),
-        State::Job { seen, .. } => !seen && p.parent == caller.get() && options.untraced,
+        State::Trace { told, .. } => !told && p.tracer == Some(caller),
+        State::Job { told, .. } => !told && p.parent == caller.get() && options.untraced,
         State::Zombie { .. } => p.tracer == Some(caller) || is_own(caller, p),
     }
 }
@@ -147,7 +147,7 @@ fn stays(caller: Pid, p: &ProcData) -> bool
     p.tracer == Some(caller) && p.parent != 1 && p.parent != caller.get()
 }
 
-/// Collects what a process reports to the caller: a stop is seen, a process is no longer marked as
+/// Collects what a process reports to the caller: a stop is told, a process is no longer marked as
 /// continued, a zombie is gone, or passes from its tracer to its parent, which is told by SIGCHLD.
 fn collect_one(tables: &mut Tables, caller: Pid, p: &ProcData)
     requires sound { IsSound tables.old.rows }
@@ -164,12 +164,12 @@ fn collect_one(tables: &mut Tables, caller: Pid, p: &ProcData)
             state: State::Trace {
                 tid,
                 sig,
-                seen: true,
+                told: true,
             },
             ..*p
         }),
         State::Job { sig, .. } => tables.set_process(ProcData {
-            state: State::Job { sig, seen: true },
+            state: State::Job { sig, told: true },
             ..*p
         }),
         State::Zombie { .. } if stays(caller, p) => {
