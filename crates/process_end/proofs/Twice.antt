@@ -1,21 +1,16 @@
 -- One row, when a process that is doomed and traces no live one ends before the process that dooms it.
-use Rattle.std.proofs.Common.{◌≡◌, ℕ, Bool, true, false, not, ◌&&◌, ◌||◌, ◌==◌, if◌then◌else◌, Option, Some, None, is_some, is_none, refl, sym, ap, ◌∙◌, eqb-true, arith}
+use Rattle.std.proofs.Common.{◌≡◌, ℕ, Bool, true, false, not, ◌&&◌, ◌||◌, ◌==◌, if◌then◌else◌, Option, Some, None, refl, sym, ap, ◌∙◌, eqb-true, arith}
 use Rattle.std.specs.Option.{option_and_then}
 use Rattle.signals.specs.Table.{SIGKILL}
-use Rattle.event_masks.specs.Exits.{no_events, asks}
-use Rattle.event_masks.specs.declared.TheConstants.EventMask.{PTRACE_VFORK}
-use Rattle.lwp_table.specs.declared.Due.{Due}
-use Rattle.lwp_table.specs.declared.Due.TheVariants.{VforkDone}
 use Rattle.proc_table.specs.Rows.{by_owner}
 use Rattle.proc_table.specs.declared.ProcData.{ProcData}
-use Rattle.proc_table.specs.declared.State.TheVariants.{Zombie}
 use Rattle.lwp_table.specs.declared.LwpData.{LwpData}
 use Rattle.lwp_table.specs.declared.Mode.{Mode}
 use Rattle.lwp_table.specs.declared.Mode.TheVariants.{User, InCall, VforkWait}
 use Rattle.proc_table.specs.Processes.{is_live}
-use Rattle.trace_stop.specs.End.{unless, holds_of, orphaned, dead, uncollected, waits_where, released}
+use Rattle.trace_stop.specs.End.{unless, holds_of, orphaned, dead, uncollected, released}
 use Rattle.std.proofs.lemmas.Bool.Decides.{nat_tests}
-use Rattle.process_end.proofs.Turned.{heard, heard_lwp, heard_twice, heard_lwp_twice, moved, told_row, told_lwp, turned, turned_lwp, told-hit, told-miss, told_lwp-hit, told_lwp-miss, is_gone, gone-true, gone-false, turned-fallen, turned-safe, turned-dead, turned_lwp-fallen, turned_lwp-safe}
+use Rattle.process_end.proofs.Turned.{heard, heard_lwp, heard_twice, heard_lwp_twice, moved, told_row, told_lwp, turned, turned_lwp, turned-fallen, turned-safe, turned_lwp-fallen, turned_lwp-safe}
 
 -- the doom of q alone, and a doom without q
 unfoldable pub alone : ℕ → ℕ → Bool
