@@ -13,6 +13,7 @@ pub mod LeafLaw
 pub mod Chains
 pub mod Leaves
 pub mod Edited
+pub mod Numbers
 pub mod Remains
 pub mod LeafLives
 pub mod EndSound
