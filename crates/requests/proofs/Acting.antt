@@ -18,7 +18,7 @@ use Rattle.trace_stop.proofs.Every.{find_some, choose}
 use Rattle.trace_stop.proofs.Edited.{find_edit}
 use Rattle.trace_stop.proofs.Changed.{found_number}
 use Rattle.trace_stop.proofs.Single.{OneProcess, process_sound, OneLwp, lwp_sound}
-use Rattle.trace_stop.proofs.Stopping.{own_lwps}
+use Rattle.trace_stop.proofs.Numbers.{own_lwps}
 use Rattle.trace_stop.proofs.Stops.{run_quiet, may_stop, stopped_sound}
 use Rattle.requests.specs.declared.Reply.{Reply}
 use Rattle.requests.specs.Outcome.{stops_or}

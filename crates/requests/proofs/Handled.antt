@@ -15,7 +15,7 @@ use Rattle.trace_stop.specs.Stop.{detach}
 use Rattle.trace_stop.specs.Facts.{IsSound}
 use Rattle.trace_stop.proofs.Every.{All-filter, find_some}
 use Rattle.trace_stop.proofs.Edited.{If_more, find_edit}
-use Rattle.trace_stop.proofs.Ending.{own_rows}
+use Rattle.trace_stop.proofs.Passes.{own_rows}
 use Rattle.stop_handlers.specs.declared.Rule.{Rule}
 use Rattle.stop_handlers.specs.declared.StopView.{StopView}
 use Rattle.stop_handlers.specs.declared.Decision.{Decision}

@@ -25,7 +25,7 @@ use Rattle.trace_stop.specs.Facts.{IsLiveChild, waited_for, Standing, FitLwp, Is
 use Rattle.trace_stop.proofs.Every.{and_left, and_right, both, not_true, any_forward, find_some, choose}
 use Rattle.trace_stop.proofs.Edited.{some_is, if_at}
 use Rattle.trace_stop.proofs.Changed.{found_number}
-use Rattle.trace_stop.proofs.Stopping.{own_lwps}
+use Rattle.trace_stop.proofs.Numbers.{own_lwps}
 use Rattle.trace_stop.proofs.Settling.{zero_apart}
 use Rattle.trace_stop.proofs.Running.{count_kept, one_stays}
 use Rattle.trace_stop.proofs.Thinned.{LwpChange, lwps_sound}

@@ -17,7 +17,7 @@ use Rattle.trace_stop.proofs.Changes.{changes_hold}
 use Rattle.trace_stop.proofs.Posting.{live_fits, live_state}
 use Rattle.trace_stop.proofs.Single.{process_sound, lwp_sound}
 use Rattle.trace_stop.proofs.Posts.{resume_sound}
-use Rattle.trace_stop.proofs.Stopping.{own_lwps}
+use Rattle.trace_stop.proofs.Numbers.{own_lwps}
 use Rattle.requests.specs.Ptrace.{not_stepping, stepping, suspend, set_mask, continues_with}
 
 -- a live traced process in sound rows

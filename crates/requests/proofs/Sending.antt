@@ -19,7 +19,7 @@ use Rattle.requests.specs.Reach.{reach, post_if_live, post_all, reached, kill, n
 use Rattle.requests.specs.Outcome.{refuses}
 use Rattle.pid_blocks.specs.declared.Errno.TheVariants.{ESRCH}
 use Rattle.requests.specs.declared.Reply.TheVariants as reply
-use Rattle.trace_stop.proofs.Ending.{own_rows}
+use Rattle.trace_stop.proofs.Passes.{own_rows}
 use Rattle.requests.proofs.Living.{live_found, live_none}
 use Rattle.requests.proofs.Walk.{above, first_above, above_none, above_first, above_next, next_over}
 use Rattle.requests.proofs.Remaining.{Remain, SameNumber, remain_all, remain_post}

@@ -25,7 +25,7 @@ use Rattle.trace_stop.specs.Stop.{resume}
 use Rattle.trace_stop.specs.Facts.{FitProcess, IsSound}
 use Rattle.trace_stop.specs.Reports.{IsStopped}
 use Rattle.trace_stop.proofs.Edited.{find_edit, count_edit}
-use Rattle.trace_stop.proofs.Changes.{edit_none}
+use Rattle.trace_stop.proofs.Edited.{edit_none}
 use Rattle.trace_stop.proofs.Stopped.{IsStopped-from}
 use Rattle.requests.specs.declared.Reply.{Reply}
 use Rattle.requests.specs.declared.Reply.TheVariants as reply

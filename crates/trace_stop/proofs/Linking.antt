@@ -13,7 +13,7 @@ use Rattle.trace_stop.proofs.Every.{or_left, by_bool, choose}
 use Rattle.trace_stop.proofs.Edited.{If_more}
 use Rattle.trace_stop.proofs.Changed.{Holds, Row, Same, Stay, NoNewRing, KeptRow, nobody, holds_sound, row_is, like_self, peopled_on, kept_all, kept_lwp, none_gone, stay, edit_holds, processes_alone}
 use Rattle.trace_stop.proofs.Changes.{changed_row}
-use Rattle.trace_stop.proofs.LeafLaw.{or_more, meets-more}
+use Rattle.trace_stop.proofs.Chains.{or_more, meets-more}
 use Rattle.trace_stop.proofs.Chains.{meets-up, chains_meet}
 
 -- Chains

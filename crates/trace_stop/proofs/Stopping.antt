@@ -12,21 +12,9 @@ use Rattle.trace_stop.specs.Post.{notified}
 use Rattle.trace_stop.specs.Facts.{IsLiveOf, FitProcess, IsSound}
 use Rattle.trace_stop.specs.Before.{MayTell}
 use Rattle.trace_stop.proofs.Every.{and_left, and_right, both, by_bool, All-imply, All-both, any_more}
-use Rattle.trace_stop.proofs.Numbers as numbers
+use Rattle.trace_stop.proofs.Numbers.{one_row}
 use Rattle.trace_stop.proofs.Changed.{sound_holds}
 use Rattle.trace_stop.proofs.Posting.{LiveFit, post_chosen}
-
-pub one_row : (t : ProcData → Bool) (ps : List ProcData) → Rise ps → AllByRecursion (λ p. list_any (λ q. (q.pid == p.pid) && t q) ps ≡ true → t p ≡ true) ps
-one_row t ps rise = numbers.one_row t ps rise
-
-pub the_row : (n : ℕ) (ps : List ProcData) (p : ProcData) → Rise ps → process_of n ps ≡ Some p → AllByRecursion (λ q. q.pid ≡ n → q ≡ p) ps
-the_row n ps p rise at = numbers.the_row n ps p rise at
-
-pub the_lwp : (n : ℕ) (ls : List LwpData) (k : LwpData) → Differ ls → lwp_of n ls ≡ Some k → AllByRecursion (λ l. l.tid ≡ n → l ≡ k) ls
-the_lwp n ls k all at = numbers.the_lwp n ls k all at
-
-pub own_lwps : (ls : List LwpData) → Differ ls → AllByRecursion (λ l. lwp_of l.tid ls ≡ Some l) ls
-own_lwps ls all = numbers.own_lwps ls all
 
 -- Telling live processes
 

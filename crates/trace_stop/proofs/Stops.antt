@@ -23,7 +23,8 @@ use Rattle.trace_stop.proofs.Every.{by_bool, both, All-imply, All-both, All-any,
 use Rattle.trace_stop.proofs.Edited.{If_more}
 use Rattle.trace_stop.proofs.Changed.{Holds, Row, Beside, Same, Stay, Edit, Leaves, KeptRow, nobody, sound_holds, found_number, lwp_is, row_at, like_self, peopled_on, kept_row, kept_all, none_gone, no_ring, stay, edit_holds, lives_after, each_alone}
 use Rattle.trace_stop.specs.Before.{MayTell, Ready, FitOrReady, MayStop}
-use Rattle.trace_stop.proofs.Stopping.{the_row, the_lwp, live_told, notified_sound}
+use Rattle.trace_stop.proofs.Numbers.{the_row, the_lwp}
+use Rattle.trace_stop.proofs.Stopping.{live_told, notified_sound}
 
 pub run_quiet : (s : State) → is_run_state s ≡ true → (named_by s ≡ None) × (is_zombie_state s ≡ false)
 run_quiet Run is = (refl, refl)

@@ -13,10 +13,11 @@ use Rattle.trace_stop.specs.Facts.{Linked, FitProcess, FitLwp, IsSound, IfEnded,
 use Rattle.trace_stop.proofs.Every.{and_left, and_right, All-both, find_some}
 use Rattle.trace_stop.proofs.Edited.{edited}
 use Rattle.trace_stop.proofs.Changed.{Holds, sound_holds, Change, change_holds, Lives, live_after}
-use Rattle.trace_stop.proofs.Changes.{edit_none}
+use Rattle.trace_stop.proofs.Edited.{edit_none}
 use Rattle.trace_stop.proofs.Settling.{zero_apart}
 use Rattle.trace_stop.specs.Before.{MayTell}
-use Rattle.trace_stop.proofs.Stopping.{the_row, live_told, notified_sound}
+use Rattle.trace_stop.proofs.Numbers.{the_row}
+use Rattle.trace_stop.proofs.Stopping.{live_told, notified_sound}
 use Rattle.wait4.specs.Collect.{stays, collected_in, collected, told, collect_one}
 
 -- What the collected row keeps
