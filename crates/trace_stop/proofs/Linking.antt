@@ -120,8 +120,8 @@ module _ (rows : Rows) (p : ProcData) (n : ℕ) (mask : EventMask) (s : IsSound 
   never : (j : ℕ) → meets j rows.processes p.pid n ≡ false
   never j = by_bool (meets j rows.processes p.pid n) (λ is. true≢false (sym (meets-up 1 249 rows.processes p.pid n (chains_meet rows j p.pid n s.stands is)) ∙ far))
 
-  found_linked : process_of p.pid left.processes ≡ Some (linked p)
-  found_linked = subst (λ b. process_of p.pid left.processes ≡ Some (if b then linked p else p)) (eq-eqb p.pid p.pid refl) (changed_row p.pid (is_numbered p.pid) linked rows.processes p (λ q. refl) at)
+  pub linked_row : process_of p.pid left.processes ≡ Some (linked p)
+  linked_row = subst (λ b. process_of p.pid left.processes ≡ Some (if b then linked p else p)) (eq-eqb p.pid p.pid refl) (changed_row p.pid (is_numbered p.pid) linked rows.processes p (λ q. refl) at)
 
   found_other : (m : ℕ) → m ≢ p.pid → (ps : List ProcData) → process_of m (filter_map to ps) ≡ process_of m ps
   found_other m ne [] = refl
@@ -132,7 +132,7 @@ module _ (rows : Rows) (p : ProcData) (n : ℕ) (mask : EventMask) (s : IsSound 
       by_head false e rest = ap (λ o. cond (q.pid == m) (Some q) o) rest
 
   ring : NoNewRing rows.processes left.processes
-  ring x none = no_new_ring rows.processes left.processes p.pid n (ap tracer_in found_linked) (λ m ne. ap tracer_in (found_other m ne rows.processes)) other never 250 x none
+  ring x none = no_new_ring rows.processes left.processes p.pid n (ap tracer_in linked_row) (λ m ne. ap tracer_in (found_other m ne rows.processes)) other never 250 x none
 
   abbrev made : Rows
   made = each to (λ q l. Some l) rows
@@ -147,8 +147,8 @@ module _ (rows : Rows) (p : ProcData) (n : ℕ) (mask : EventMask) (s : IsSound 
   abbrev pub Traced : ProcData → Type 0
   Traced q = (q.pid ≢ p.pid → FitProcess q) × (q.pid ≡ p.pid → q ≡ linked p)
 
-  linked_row : (q : ProcData) → Row rows FitProcess q → (q.pid == p.pid) ≡ true → KeptRow rows made nobody Traced q (linked q)
-  linked_row q row e = let its = row_is row at (eqb-true q.pid p.pid e) in record {
+  kept_link : (q : ProcData) → Row rows FitProcess q → (q.pid == p.pid) ≡ true → KeptRow rows made nobody Traced q (linked q)
+  kept_link q row e = let its = row_is row at (eqb-true q.pid p.pid e) in record {
     live = λ live on. live;
     parent = refl;
     tracer = (subst (λ r. IsLiveOf rows r.uid n) (sym its) tracer, refl);
@@ -168,10 +168,7 @@ module _ (rows : Rows) (p : ProcData) (n : ℕ) (mask : EventMask) (s : IsSound 
     same = same_rows;
     ring = ring;
     gone = none_gone rows FitProcess (λ q l. Some l);
-    process = λ q row. choose (q.pid == p.pid) (linked q) q (KeptRow rows made nobody Traced q) (linked_row q row)
+    process = λ q row. choose (q.pid == p.pid) (linked q) q (KeptRow rows made nobody Traced q) (kept_link q row)
         (λ e. kept_all row (like_self q) (inl refl) (stays q row) (λ ne. row.fact, λ same. absurd (true≢false (sym (eq-eqb q.pid p.pid same) ∙ e))));
     lwp = λ q l b on. kept_lwp b (stays q b.row) refl refl (lwp_fits q l b.fact);
   }))
-
-  pub linked_found : process_of p.pid (change_process p.pid linked rows).processes ≡ Some (linked p)
-  linked_found = found_linked

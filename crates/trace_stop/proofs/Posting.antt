@@ -51,6 +51,15 @@ lwp_pending_fits p q l n fit same by none apart = record {
     by_report (inl e) other = let was = fit.silent (ap (is_this l.tid) (sym e) ∙ other) in record { flags = was.flags; child = was.child; code = was.code }
     by_report (inr e) other = let was = fit.silent (ap (is_this l.tid) (none e)) in record { flags = was.flags; child = was.child; code = was.code }
 
+-- an LWP beside a row that is traced and reports as before, and wants the same signals
+pub beside_fits : (p q : ProcData) (l : LwpData) → q.tracer ≡ p.tracer → reporting q ≡ reporting p → unwanted q ≡ unwanted p → FitLwp p l → FitLwp q l
+beside_fits p q l tracer report wants fit = record {
+  untraced = λ none. let was = fit.untraced (sym tracer ∙ none) in record { due = was.due; stepping = was.stepping; suspended = was.suspended; pending = ap (bit_and l.pending) wants ∙ was.pending };
+  silent = λ off. fit.silent (ap (is_this l.tid) (sym report) ∙ off);
+  blocked = fit.blocked;
+  mode = fit.mode;
+}
+
 -- A process that a signal is posted to
 
 pub job_quiet : (s : State) → is_job_state s ≡ true → named_by s ≡ None
