@@ -236,18 +236,19 @@ module _ (rows : Rows) (f : ProcData → Option ProcData) (g : ProcData → LwpD
       let n = if_at _ (g p l) k is (same.lwp p l) in
       (k, ap (by_owner g l) (ap (λ m. process_of m rows.processes) own ∙ at) ∙ is, n.0, n.1)
 
-  pub stay : (p : ProcData) → process_of p.pid rows.processes ≡ Some p → ((l : LwpData) → (k : LwpData) × (g p l ≡ Some k)) → Stay rows after p
-  stay p at keeps = record {
-    count = count_kept (λ l. l.pid == p.pid) (λ l. l.pid == p.pid) (λ l. by_owner g l (owner rows l)) (λ l. Unit {0}) (λ l u is. let k = left l (eqb-true l.pid p.pid is) in (k.0, k.1, ap (λ n. n == p.pid) k.3 ∙ is)) rows.lwps units;
-    named = λ tid. any_forward (λ l. (l.tid == tid) && (l.pid == p.pid)) (λ l. (l.tid == tid) && (l.pid == p.pid)) (λ l. Unit {0}) (λ l. by_owner g l (owner rows l))
-        (λ l u is. let k = left l (eqb-true l.pid p.pid (and_right (l.tid == tid) (l.pid == p.pid) is)) in (k.0, k.1, rw (k.2, k.3) is)) rows.lwps units;
+  -- where the LWPs of a process stay, of each of which R holds
+  pub stay_where : (R : LwpData → Type 0) → AllByRecursion R rows.lwps → (p : ProcData) → process_of p.pid rows.processes ≡ Some p → ((l : LwpData) → R l → l.pid ≡ p.pid → (k : LwpData) × (g p l ≡ Some k)) → Stay rows after p
+  stay_where R all p at keeps = record {
+    count = count_kept (λ l. l.pid == p.pid) (λ l. l.pid == p.pid) (λ l. by_owner g l (owner rows l)) R (λ l r is. let k = left l r (eqb-true l.pid p.pid is) in (k.0, k.1, ap (λ n. n == p.pid) k.3 ∙ is)) rows.lwps all;
+    named = λ tid. any_forward (λ l. (l.tid == tid) && (l.pid == p.pid)) (λ l. (l.tid == tid) && (l.pid == p.pid)) R (λ l. by_owner g l (owner rows l))
+        (λ l r is. let k = left l r (eqb-true l.pid p.pid (and_right (l.tid == tid) (l.pid == p.pid) is)) in (k.0, k.1, rw (k.2, k.3) is)) rows.lwps all;
   }
     where
-      left : (l : LwpData) → l.pid ≡ p.pid → (k : LwpData) × (by_owner g l (owner rows l) ≡ Some k) × (k.tid ≡ l.tid) × (k.pid ≡ l.pid)
-      left l own = let k = keeps l in one_left p at l own k.0 k.1
+      left : (l : LwpData) → R l → l.pid ≡ p.pid → (k : LwpData) × (by_owner g l (owner rows l) ≡ Some k) × (k.tid ≡ l.tid) × (k.pid ≡ l.pid)
+      left l r own = let k = keeps l r own in one_left p at l own k.0 k.1
 
-      units : AllByRecursion (λ l. Unit {0}) rows.lwps
-      units = All-any (λ l. Unit {0}) (λ l. tt) rows.lwps
+  pub stay : (p : ProcData) → process_of p.pid rows.processes ≡ Some p → ((l : LwpData) → (k : LwpData) × (g p l ≡ Some k)) → Stay rows after p
+  stay p at keeps = stay_where (λ l. Unit {0}) (All-any (λ l. Unit {0}) (λ l. tt) rows.lwps) p at (λ l u own. keeps l)
 
 module _ (rows : Rows) (over : ℕ → Bool) (f : ProcData → Option ProcData) (g : ProcData → LwpData → Option LwpData) (P : ProcData → Type 0) (Q : ProcData → LwpData → Type 0) (P' : ProcData → Type 0) (Q' : ProcData → LwpData → Type 0)
     (s : Holds P Q rows) (e : Edit rows over f g P Q P' Q') where

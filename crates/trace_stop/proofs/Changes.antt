@@ -4,7 +4,7 @@ use Rattle.lwp_table.specs.declared.LwpData.{LwpData}
 use Rattle.proc_table.specs.declared.ProcData.{ProcData}
 use Rattle.proc_table.specs.Processes.{is_live, reporting, process_of}
 use Rattle.proc_table.specs.Rows.{Rows, change, each}
-use Rattle.trace_stop.proofs.Every.{choose}
+use Rattle.trace_stop.proofs.Every.{choose, choose_both}
 use Rattle.trace_stop.proofs.Edited.{find_edit}
 use Rattle.trace_stop.proofs.Changed.{Holds, Row, Beside, Same, Edit, Leaves, KeptRow, KeptLwp, Like, Stay, nobody, none_gone, like_self, leaves, kept_all, kept_lwp, no_ring, stay, edit_holds}
 
@@ -40,10 +40,6 @@ module _ (rows : Rows) (chosen : ProcData → Bool) (f : ProcData → ProcData) 
   abbrev to_lwp : ProcData → LwpData → Option LwpData
   to_lwp p l = Some (if chosen p then g p l else l)
 
-  both_ways : {X Y : Type 0} (R : X → Y → Type 0) (b : Bool) (x y : X) (v w : Y) → (b ≡ true → R x v) → (b ≡ false → R y w) → R (if b then x else y) (if b then v else w)
-  both_ways R true x y v w h k = h refl
-  both_ways R false x y v w h k = k refl
-
   same : Same to to_lwp
   same = record {
     process = λ p. choose (chosen p) (f p) p (λ q. (q.pid ≡ p.pid) × (q.uid ≡ p.uid)) (λ e. ((c.same p).0, (c.same p).1)) (λ e. (refl, refl));
@@ -61,7 +57,7 @@ module _ (rows : Rows) (chosen : ProcData → Bool) (f : ProcData → ProcData) 
     process = λ p row. choose (chosen p) (f p) p (KeptRow rows (each to to_lwp rows) nobody P' p)
         (λ e. kept_all row (record { live = c.live p row e; tracer = inl (c.same p).2; parent = (c.same p).3 }) (c.named p row e) (stays p row) (c.fits p row e))
         (λ e. kept_all row (like_self p) (inl refl) (stays p row) (c.rest p row e));
-    lwp = λ p l b on. both_ways (λ q k. KeptLwp rows (each to to_lwp rows) nobody Q' p q k) (chosen p) (f p) p (g p l) l
+    lwp = λ p l b on. choose_both (λ q k. KeptLwp rows (each to to_lwp rows) nobody Q' p q k) (chosen p) (f p) p (g p l) l
         (λ e. kept_lwp b (stays p b.row) (c.same_lwp p l).2 (c.same_lwp p l).3 (c.fit_lwp p l b e))
         (λ e. kept_lwp b (stays p b.row) refl refl (c.rest_lwp p l b e));
   })

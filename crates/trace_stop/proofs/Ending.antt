@@ -22,7 +22,7 @@ use Rattle.trace_stop.specs.Facts.{IsLiveOf, IsLiveChild, Linked, Ended, IfEnded
 use Rattle.trace_stop.proofs.Every.{All-both, All-edit, choose}
 use Rattle.trace_stop.proofs.Edited.{If_more, some_is}
 use Rattle.trace_stop.proofs.Changed.{Holds, Row, Same, Stay, Edit, Leaves, LivesOn, IfKept, KeptLwp, sound_holds, peopled_on, all_rows, no_ring, stay, linked_at, edit_holds}
-use Rattle.trace_stop.proofs.Posting.{live_fits, live_state}
+use Rattle.trace_stop.proofs.Posting.{live_fits, live_state, beside_fits}
 use Rattle.trace_stop.proofs.Settling.{zero_apart}
 use Rattle.trace_stop.specs.Before.{MayTell}
 use Rattle.trace_stop.proofs.Stopping.{live_told, notified_sound}
@@ -41,6 +41,49 @@ zombie_ended q Run is = absurd (true≢false (sym is))
 zombie_ended q (Trace tid sig told) is = absurd (true≢false (sym is))
 zombie_ended q (Job sig told) is = absurd (true≢false (sym is))
 zombie_ended q (Zombie w) is = (w, refl)
+
+-- an LWP whose vfork wait may be over
+module _ (over : ℕ → Bool) (q : ProcData) (l : LwpData) where
+  abbrev done : LwpData
+  done = record l { mode = User; due = if is_some q.tracer && asks q.mask PTRACE_VFORK then VforkDone else l.due }
+
+  pub released_case : (R : LwpData → Type 0) → R done → R l → R (released over q l)
+  released_case R over_is not_over = choose (waits_where over l.mode) done l R (λ e. over_is) (λ e. not_over)
+
+  pub released_same : ((released over q l).tid ≡ l.tid) × ((released over q l).pid ≡ l.pid)
+  released_same = released_case (λ k. (k.tid ≡ l.tid) × (k.pid ≡ l.pid)) (refl, refl) (refl, refl)
+
+  pub released_flags : (released over q l).flags ≡ l.flags
+  released_flags = released_case (λ k. k.flags ≡ l.flags) refl refl
+
+  pub released_fits : FitLwp q l → FitLwp q (released over q l)
+  released_fits fit = released_case (FitLwp q) (record {
+    untraced = λ none. let was = fit.untraced none in record {
+      due = subst (λ o. is_due (if is_some o && asks q.mask PTRACE_VFORK then VforkDone else l.due) ≡ false) (sym none) was.due;
+      stepping = was.stepping;
+      suspended = was.suspended;
+      pending = was.pending;
+    };
+    silent = λ off. let was = fit.silent off in record { flags = was.flags; child = was.child; code = was.code };
+    blocked = fit.blocked;
+    mode = refl;
+  }) fit
+
+  -- it waits for a child that isn't over
+  pub released_waits : (R : ℕ → Type 0) → IfSome (waited_for l.mode) R → IfSome (waited_for (released over q l).mode) (λ c. R c × (over c ≡ false))
+  released_waits R child = by_mode l.mode refl child
+    where
+      Waits : Bool → Type 0
+      Waits b = IfSome (waited_for (if b then done else l).mode) (λ c. R c × (over c ≡ false))
+
+      by_mode : (m : Mode) → l.mode ≡ m → IfSome (waited_for m) R → Waits (waits_where over l.mode)
+      by_mode User is h = rw is tt
+      by_mode (InCall call) is h = rw is tt
+      by_mode (VforkWait c) is h = subst Waits (sym (ap (waits_where over) is)) (by_over (over c) refl)
+        where
+          by_over : (b : Bool) → over c ≡ b → Waits b
+          by_over true e = tt
+          by_over false e = subst (λ m. IfSome (waited_for m) (λ n. R n × (over n ≡ false))) (sym is) (h, e)
 
 module _ (rows : Rows) (ends : ProcData → Bool) (over : ℕ → Bool) (p status : ℕ) (s : IsSound rows) (word : is_end status ≡ true) (all : AllByRecursion (Ends rows ends over) rows.processes) where
   abbrev to : ProcData → Option ProcData
@@ -82,15 +125,8 @@ module _ (rows : Rows) (ends : ProcData → Bool) (over : ℕ → Bool) (p statu
   same_row q = by_case (λ o. IfSome o (λ r. (r.pid ≡ q.pid) × (r.uid ≡ q.uid))) q (λ e. if_left (dead (last q) (orphaned over q)) (λ o. IfSome o (λ r. (r.pid ≡ q.pid) × (r.uid ≡ q.uid))) tt (λ left. (refl, refl))) (λ e live. (refl, refl))
       (λ e dead. if_left (orphaned over q) (λ o. IfSome o (λ r. (r.pid ≡ q.pid) × (r.uid ≡ q.uid))) tt (λ left. (refl, refl)))
 
-  released_same : (q : ProcData) (l : LwpData) → ((released over q l).tid ≡ l.tid) × ((released over q l).pid ≡ l.pid)
-  released_same q l = by_wait (waits_where over l.mode)
-    where
-      by_wait : (b : Bool) → ((if b then record l { mode = User; due = if is_some q.tracer && asks q.mask PTRACE_VFORK then VforkDone else l.due } else l).tid ≡ l.tid) × ((if b then record l { mode = User; due = if is_some q.tracer && asks q.mask PTRACE_VFORK then VforkDone else l.due } else l).pid ≡ l.pid)
-      by_wait true = (refl, refl)
-      by_wait false = (refl, refl)
-
   same_lwp : (q : ProcData) (l : LwpData) → IfSome (to_lwp q l) (λ k. (k.tid ≡ l.tid) × (k.pid ≡ l.pid))
-  same_lwp q l = choose (ends q) None (Some (released over q l)) (λ o. IfSome o (λ k. (k.tid ≡ l.tid) × (k.pid ≡ l.pid))) (λ e. tt) (λ e. released_same q l)
+  same_lwp q l = choose (ends q) None (Some (released over q l)) (λ o. IfSome o (λ k. (k.tid ≡ l.tid) × (k.pid ≡ l.pid))) (λ e. tt) (λ e. released_same over q l)
 
   same : Same to to_lwp
   same = record { process = same_row; lwp = same_lwp }
@@ -201,46 +237,6 @@ module _ (rows : Rows) (ends : ProcData → Bool) (over : ℕ → Bool) (p statu
       is_zombie (Job sig told) e = absurd (true≢false e)
       is_zombie (Zombie w) e = refl
 
-  -- LWPs after the end
-  released_fits : (q : ProcData) (l : LwpData) → FitLwp q l → FitLwp (heir q) (released over q l)
-  released_fits q l fit = by_wait (waits_where over l.mode)
-    where
-      by_wait : (b : Bool) → FitLwp (heir q) (if b then record l { mode = User; due = if is_some q.tracer && asks q.mask PTRACE_VFORK then VforkDone else l.due } else l)
-      by_wait false = record { untraced = λ none. let was = fit.untraced none in record { due = was.due; stepping = was.stepping; suspended = was.suspended; pending = was.pending }; silent = fit.silent; blocked = fit.blocked; mode = fit.mode }
-      by_wait true = record {
-        untraced = λ none. let was = fit.untraced none in record {
-          due = subst (λ o. is_due (if is_some o && asks q.mask PTRACE_VFORK then VforkDone else l.due) ≡ false) (sym none) was.due;
-          stepping = was.stepping;
-          suspended = was.suspended;
-          pending = was.pending;
-        };
-        silent = λ off. let was = fit.silent off in record { flags = was.flags; child = was.child; code = was.code };
-        blocked = fit.blocked;
-        mode = refl;
-      }
-
-  released_flags : (q : ProcData) (l : LwpData) → (released over q l).flags ≡ l.flags
-  released_flags q l = by_wait (waits_where over l.mode)
-    where
-      by_wait : (b : Bool) → (if b then record l { mode = User; due = if is_some q.tracer && asks q.mask PTRACE_VFORK then VforkDone else l.due } else l).flags ≡ l.flags
-      by_wait true = refl
-      by_wait false = refl
-
-  released_waits : (q : ProcData) (l : LwpData) → IfSome (waited_for l.mode) (IsLiveChild rows q) → IfSome (waited_for (released over q l).mode) (λ c. IsLiveChild rows q c × (over c ≡ false))
-  released_waits q l child = by_mode l.mode refl child
-    where
-      abbreviated : Mode → Bool → Type 0
-      abbreviated m b = IfSome (waited_for (if b then record l { mode = User; due = if is_some q.tracer && asks q.mask PTRACE_VFORK then VforkDone else l.due } else l).mode) (λ c. IsLiveChild rows q c × (over c ≡ false))
-
-      by_over : (c : ℕ) → l.mode ≡ VforkWait c → IsLiveChild rows q c → (b : Bool) → over c ≡ b → abbreviated l.mode b
-      by_over c is h true e = tt
-      by_over c is h false e = subst (λ m. IfSome (waited_for m) (λ c. IsLiveChild rows q c × (over c ≡ false))) (sym is) (h, e)
-
-      by_mode : (m : Mode) → l.mode ≡ m → IfSome (waited_for m) (IsLiveChild rows q) → abbreviated m (waits_where over l.mode)
-      by_mode User is h = rw is tt
-      by_mode (InCall call) is h = rw is tt
-      by_mode (VforkWait c) is h = subst (abbreviated (VforkWait c)) (sym (ap (waits_where over) is)) (by_over c is h (over c) refl)
-
   the_edit : Edit rows over to to_lwp (Fact rows ends over) FitLwp FitProcess FitLwp
   the_edit = record {
     same = same;
@@ -250,9 +246,9 @@ module _ (rows : Rows) (ends : ProcData → Bool) (over : ℕ → Bool) (p statu
     lwp = λ q l b on.
         let e : ends q ≡ false = sym b.row.fact.1.same ∙ on in
         subst (λ o. IfSome o (λ r. IfSome (to_lwp q l) (KeptLwp rows after over FitLwp q r))) (sym (lives_on q e b.stood.live)) (subst (λ o. IfSome o (KeptLwp rows after over FitLwp q (heir q))) (sym (left_lwp q l e)) (record {
-          exited = λ shown. let few = b.stood.exited (subst (λ f. shows f PL_FLAG_EXITED ≡ true) (released_flags q l) shown) in let more = (stays q b.row e).count in omega (arith, few, more);
-          waits = released_waits q l b.stood.waits;
-          fits = released_fits q l b.fact;
+          exited = λ shown. let few = b.stood.exited (subst (λ f. shows f PL_FLAG_EXITED ≡ true) (released_flags over q l) shown) in let more = (stays q b.row e).count in omega (arith, few, more);
+          waits = released_waits over q l (IsLiveChild rows q) b.stood.waits;
+          fits = beside_fits q (heir q) (released over q l) refl refl refl (released_fits over q l b.fact);
         }));
   }
 
