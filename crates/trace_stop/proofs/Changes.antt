@@ -1,5 +1,5 @@
 -- A change of chosen processes and of their LWPs.
-use Rattle.std.proofs.Common.{◌≡◌, ◌⊎◌, inl, ℕ, ◌==◌, List, filter_map, Bool, true, false, if◌then◌else◌, Option, Some, None, refl, sym, ap, ◌∙◌}
+use Rattle.std.proofs.Common.{◌≡◌, ◌⊎◌, inl, ℕ, ◌==◌, List, filter_map, Bool, true, false, if◌then◌else◌, Option, Some, None, refl, sym, ap, ◌∙◌, subst, eq-eqb}
 use Rattle.lwp_table.specs.declared.LwpData.{LwpData}
 use Rattle.proc_table.specs.declared.ProcData.{ProcData}
 use Rattle.proc_table.specs.Processes.{is_live, reporting, process_of}
@@ -11,6 +11,9 @@ use Rattle.trace_stop.proofs.Changed.{Holds, Row, Beside, Same, Edit, Leaves, Ke
 -- the row of a process after a change of chosen ones
 pub changed_row : (n : ℕ) (chosen : ProcData → Bool) (f : ProcData → ProcData) (ps : List ProcData) (p : ProcData) → ((q : ProcData) → (f q).pid ≡ q.pid) → process_of n ps ≡ Some p → process_of n (filter_map (λ q. Some (if chosen q then f q else q)) ps) ≡ Some (if chosen p then f p else p)
 changed_row n chosen f ps p same at = find_edit (λ q. q.pid == n) (λ q. Some (if chosen q then f q else q)) (λ q. choose (chosen q) (f q) q (λ r. (r.pid == n) ≡ (q.pid == n)) (λ e. ap (λ m. m == n) (same q)) (λ e. refl)) ps p (if chosen p then f p else p) at refl
+
+pub changed_own : (p : ProcData) (f : ProcData → ProcData) (ps : List ProcData) → ((q : ProcData) → (f q).pid ≡ q.pid) → process_of p.pid ps ≡ Some p → process_of p.pid (filter_map (λ q. Some (if q.pid == p.pid then f q else q)) ps) ≡ Some (f p)
+changed_own p f ps same at = subst (λ b. process_of p.pid (filter_map (λ q. Some (if q.pid == p.pid then f q else q)) ps) ≡ Some (if b then f p else p)) (eq-eqb p.pid p.pid refl) (changed_row p.pid (λ q. q.pid == p.pid) f ps p same at)
 
 -- what a change leaves of a process, and of an LWP
 abbrev pub Alike : ProcData → ProcData → Type 0

@@ -12,7 +12,7 @@ use Rattle.trace_stop.specs.Facts.{IsLiveOf, FitProcess, FitLwp, IsSound}
 use Rattle.trace_stop.proofs.Every.{or_left, by_bool, choose}
 use Rattle.trace_stop.proofs.Edited.{If_more}
 use Rattle.trace_stop.proofs.Changed.{Holds, Row, Same, Stay, NoNewRing, KeptRow, nobody, holds_sound, row_is, like_self, peopled_on, kept_all, kept_lwp, none_gone, stay, edit_holds, processes_alone}
-use Rattle.trace_stop.proofs.Changes.{changed_row}
+use Rattle.trace_stop.proofs.Changes.{changed_own}
 use Rattle.trace_stop.proofs.Chains.{or_more, meets-more}
 use Rattle.trace_stop.proofs.Chains.{meets-up, chains_meet}
 
@@ -121,7 +121,7 @@ module _ (rows : Rows) (p : ProcData) (n : ℕ) (mask : EventMask) (s : IsSound 
   never j = by_bool (meets j rows.processes p.pid n) (λ is. true≢false (sym (meets-up 1 249 rows.processes p.pid n (chains_meet rows j p.pid n s.stands is)) ∙ far))
 
   pub linked_row : process_of p.pid left.processes ≡ Some (linked p)
-  linked_row = subst (λ b. process_of p.pid left.processes ≡ Some (if b then linked p else p)) (eq-eqb p.pid p.pid refl) (changed_row p.pid (is_numbered p.pid) linked rows.processes p (λ q. refl) at)
+  linked_row = changed_own p linked rows.processes (λ q. refl) at
 
   found_other : (m : ℕ) → m ≢ p.pid → (ps : List ProcData) → process_of m (filter_map to ps) ≡ process_of m ps
   found_other m ne [] = refl

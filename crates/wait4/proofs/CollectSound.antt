@@ -78,6 +78,21 @@ module _ (caller : ℕ) (p : ProcData) where
       left : ProcData
       left = record p { state = Zombie w; tracer = None }
 
+-- the rows after a collect, each by what it keeps
+module _ (caller : ℕ) (p : ProcData) where
+  same_kept : (q : ProcData) → Kept q q
+  same_kept q = record { pid = refl; uid = refl; like = like_self q; reporting = refl; fits = λ fit. fit; fit_lwp = λ live l fit. fit }
+
+  kept : (q : ProcData) → IfCollected q (if q.pid == p.pid then collected caller q else Some q)
+  kept q = choose (q.pid == p.pid) (collected caller q) (Some q) (IfCollected q) (λ e. collected_kept caller q q.state) (λ e. same_kept q)
+
+  pub by_kept : (q : ProcData) (R : Option ProcData → Type 0) → (is_live q ≡ false → R None) → ((r : ProcData) → Kept q r → R (Some r)) → R (if q.pid == p.pid then collected caller q else Some q)
+  by_kept q R gone left = at_row (if q.pid == p.pid then collected caller q else Some q) (kept q)
+    where
+      at_row : (o : Option ProcData) → IfCollected q o → R o
+      at_row None k = gone k
+      at_row (Some r) k = left r k
+
 module _ (caller : ℕ) (p : ProcData) (rows : Rows) (s : IsSound rows) (at : process_of p.pid rows.processes ≡ Some p) where
   abbrev to : ProcData → Option ProcData
   to q = if q.pid == p.pid then collected caller q else Some q
@@ -88,21 +103,8 @@ module _ (caller : ℕ) (p : ProcData) (rows : Rows) (s : IsSound rows) (at : pr
   abbrev made : Rows
   made = each to to_lwp rows
 
-  same_kept : (q : ProcData) → Kept q q
-  same_kept q = record { pid = refl; uid = refl; like = like_self q; reporting = refl; fits = λ fit. fit; fit_lwp = λ live l fit. fit }
-
-  kept : (q : ProcData) → IfCollected q (to q)
-  kept q = choose (q.pid == p.pid) (collected caller q) (Some q) (IfCollected q) (λ e. collected_kept caller q q.state) (λ e. same_kept q)
-
-  by_row : (R : Option ProcData → Type 0) (q : ProcData) → (is_live q ≡ false → R None) → ((r : ProcData) → Kept q r → R (Some r)) → R (to q)
-  by_row R q gone left = at_row (to q) (kept q)
-    where
-      at_row : (o : Option ProcData) → IfCollected q o → R o
-      at_row None k = gone k
-      at_row (Some r) k = left r k
-
   same : Same to to_lwp
-  same = record { process = λ q. by_row (λ o. IfSome o (λ r. (r.pid ≡ q.pid) × (r.uid ≡ q.uid))) q (λ no. tt) (λ r k. (k.pid, k.uid)); lwp = λ q l. (refl, refl) }
+  same = record { process = λ q. by_kept caller p q (λ o. IfSome o (λ r. (r.pid ≡ q.pid) × (r.uid ≡ q.uid))) (λ no. tt) (λ r k. (k.pid, k.uid)); lwp = λ q l. (refl, refl) }
 
   stay_on : (q : ProcData) → Row rows FitProcess q → Stay rows made q
   stay_on q row = stay rows to to_lwp same q row.at (λ l. (l, refl))
@@ -110,10 +112,10 @@ module _ (caller : ℕ) (p : ProcData) (rows : Rows) (s : IsSound rows) (at : pr
   the_edit : Edit rows nobody to to_lwp FitProcess FitLwp FitProcess FitLwp
   the_edit = record {
     same = same;
-    ring = no_ring to rows.processes s.stands.rising same.process (λ q. by_row (λ o. IfSome o (Leaves q)) q (λ no. tt) (λ r k. leaves q r k.like.tracer));
+    ring = no_ring to rows.processes s.stands.rising same.process (λ q. by_kept caller p q (λ o. IfSome o (Leaves q)) (λ no. tt) (λ r k. leaves q r k.like.tracer));
     gone = none_gone rows FitProcess to_lwp;
-    process = λ q row. by_row (IfKept rows made nobody FitProcess q) q (λ no live. absurd (true≢false (sym live ∙ no))) (λ r k. kept_all row k.like (inl k.reporting) (stay_on q row) (k.fits row.fact));
-    lwp = λ q l b on. by_row (λ o. IfSome o (λ r. KeptLwp rows made nobody FitLwp q r l)) q (λ no. tt) (λ r k. kept_lwp b (stay_on q b.row) refl refl (k.fit_lwp b.stood.live l b.fact));
+    process = λ q row. by_kept caller p q (IfKept rows made nobody FitProcess q) (λ no live. absurd (true≢false (sym live ∙ no))) (λ r k. kept_all row k.like (inl k.reporting) (stay_on q row) (k.fits row.fact));
+    lwp = λ q l b on. by_kept caller p q (λ o. IfSome o (λ r. KeptLwp rows made nobody FitLwp q r l)) (λ no. tt) (λ r k. kept_lwp b (stay_on q b.row) refl refl (k.fit_lwp b.stood.live l b.fact));
   }
 
   pub collect_sound : IsSound (collect_one caller p rows)
