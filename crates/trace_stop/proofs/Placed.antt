@@ -99,7 +99,7 @@ all_above n [] above = refl
 all_above n (p ∷ ps) above = rw (lt-ltb n p.pid above.0) (ap (λ qs. p ∷ qs) (all_above n ps above.1))
 
 -- a number that no row has splits the rows
-split : (n : ℕ) (ps : List ProcData) → Rise ps → IsFree n ps → filter (λ q. ltb q.pid n) ps ++ filter (λ q. ltb n q.pid) ps ≡ ps
+pub split : (n : ℕ) (ps : List ProcData) → Rise ps → IsFree n ps → filter (λ q. ltb q.pid n) ps ++ filter (λ q. ltb n q.pid) ps ≡ ps
 split n [] rise free = refl
 split n (p ∷ ps) rise free = by_head (eqb p.pid n) refl free (split n ps rise.1)
   where
