@@ -44,11 +44,7 @@ each_equal f g lwp lwp' rows all every =
 
 -- An LWP that doesn't wait
 pub released_none : (over : ℕ → Bool) (r : ProcData) (l : LwpData) → waits_where over l.mode ≡ false → released over r l ≡ l
-released_none over r l none = at (waits_where over l.mode) none _
-  where
-    at : (b : Bool) → b ≡ false → (d : Due) → (if b then record l { mode = User; due = d } else l) ≡ l
-    at true e d = absurd (true≢false e)
-    at false e d = refl
+released_none over r l none = rw none refl
 
 pub waits_alone : (q : ℕ) (l : LwpData) → waits_where (λ n. n == q) l.mode ≡ waits_where (alone q) l.mode
 unfolding alone
