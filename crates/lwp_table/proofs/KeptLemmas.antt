@@ -1,5 +1,5 @@
 -- What a table keeps after each change, and the rows that it then has.
-use Rattle.std.proofs.Common.{◌≡◌, ◌≢◌, ℕ, ◌+◌, ◌-◌, ◌/◌, ◌<◌, ◌≤◌, Bool, true, false, List, [], ◌∷◌, ◌++◌, Option, Some, None, IsSome, IfSome, is_some, refl, sym, ap, subst, ◌∙◌, arith, inl, inr, cond, nat_eq, is_none, length, count_by, get_or, set, unwrap_or, replicate}
+use Rattle.std.proofs.Common.{◌≡◌, ◌≢◌, ℕ, ◌+◌, ◌-◌, ◌<◌, ◌≤◌, Bool, true, false, List, [], ◌∷◌, ◌++◌, Option, Some, None, IsSome, IfSome, is_some, refl, sym, ap, subst, ◌∙◌, arith, inl, inr, cond, nat_eq, is_none, length, count_by, get_or, set, unwrap_or, replicate}
 use Rattle.std.specs.Map.{lookup}
 use Rattle.std.specs.Option.{option_map, option_or, IsSomeAnd}
 use Rattle.std.proofs.lemmas.Bool.{cases_eq}
@@ -8,11 +8,10 @@ use Rattle.std.proofs.lemmas.List.{get_or-replicate}
 use Rattle.lwp_table.specs.declared.LwpData.{LwpData}
 use Rattle.lwp_table.specs.declared.links.Slot.{Slot}
 use Rattle.lwp_table.specs.declared.links.Ends.{Ends}
-use Rattle.lwp_table.specs.declared.links.Link.{Link}
-use Rattle.lwp_table.specs.declared.links.Link.TheVariants.{NextOwn, PrevOwn, NextAll, PrevAll}
+use Rattle.lwp_table.specs.declared.links.Link.TheVariants.{NextOwn, NextAll}
 use Rattle.lwp_table.specs.Lwps.{lwp_of, first_lwp, next_lwp, Differ}
 use Rattle.lwp_table.specs.Chain.{Node, IsNearest, IsChain, AreApart, up, down, anywhere, above, below, leads_to, joined, bridged}
-use Rattle.lwp_table.specs.Kept.{own_node, own_nodes, all_node, all_nodes, is_of, is_at, place_of, linked, with_link, ends_at, no_ends, born_row, listing, rows_of, IsIndexed, IsKept}
+use Rattle.lwp_table.specs.Kept.{own_node, own_nodes, all_node, all_nodes, is_of, is_at, place_of, linked, closed_up, ends_at, no_ends, born_row, listing, rows_of, IsIndexed, IsKept}
 use Rattle.lwp_table.proofs.WordLemmas.{test_same, test_apart, with_row, without_row, rows_after, next_lwp-after}
 use Rattle.lwp_table.proofs.ChainLemmas.{IsChain-joined, IsChain-joined_other, IsChain-left, IsChain-left_other}
 use Rattle.lwp_table.proofs.ListLemmas.{first-none, first-found, rows_after-listing}
@@ -41,10 +40,6 @@ pub hidden : {X : Type 0} (h : Slot → X) (l : Slot → Slot) → ((slot : Slot
 hidden h l same None = refl
 hidden h l same (Some slot) = ap Some (same slot)
 
-pub shown_twice : {X : Type 0} (h : Slot → X) (k : X → X) (l m : Slot → Slot) → ((slot : Slot) → h (m (l slot)) ≡ k (h slot)) → (o : Option Slot) → option_map h (option_map m (option_map l o)) ≡ option_map k (option_map h o)
-shown_twice h k l m same None = refl
-shown_twice h k l m same (Some slot) = ap Some (same slot)
-
 -- a slot that has a value keeps one
 pub onto : (f g : ℕ → Option Slot) (l : ℕ → Slot → Slot) → ((s : ℕ) → g s ≡ option_map (l s) (f s)) → (o : Option ℕ) → IfSome o (λ s. IsSome (f s)) → IfSome o (λ s. IsSome (g s))
 onto f g l links None there = tt
@@ -53,53 +48,6 @@ onto f g l links (Some s) there = ap is_some (links s) ∙ by (f s) there
     by : (o : Option Slot) → IsSome o → is_some (option_map (l s) o) ≡ true
     by None there = there
     by (Some slot) there = refl
-
-module _ (at to : Option ℕ) (s : ℕ) (slot : Slot) where
-  pub face-linked : (link : Link) → face (linked link at to s slot) ≡ face slot
-  face-linked link = by link (leads_to at s)
-    where
-      by : (link : Link) (c : Bool) → face (cond c (with_link link slot to) slot) ≡ face slot
-      by NextOwn true = refl
-      by PrevOwn true = refl
-      by NextAll true = refl
-      by PrevAll true = refl
-      by link false = refl
-
-  pub own-next_all : own_node (linked NextAll at to s slot) ≡ own_node slot
-  own-next_all = elim (leads_to at s) as (λ c. own_node (cond c (with_link NextAll slot to) slot) ≡ own_node slot) [ true ↦ refl | false ↦ refl ]
-
-  pub own-prev_all : own_node (linked PrevAll at to s slot) ≡ own_node slot
-  own-prev_all = elim (leads_to at s) as (λ c. own_node (cond c (with_link PrevAll slot to) slot) ≡ own_node slot) [ true ↦ refl | false ↦ refl ]
-
-  pub all-next_own : all_node (linked NextOwn at to s slot) ≡ all_node slot
-  all-next_own = elim (leads_to at s) as (λ c. all_node (cond c (with_link NextOwn slot to) slot) ≡ all_node slot) [ true ↦ refl | false ↦ refl ]
-
-  pub all-prev_own : all_node (linked PrevOwn at to s slot) ≡ all_node slot
-  all-prev_own = elim (leads_to at s) as (λ c. all_node (cond c (with_link PrevOwn slot to) slot) ≡ all_node slot) [ true ↦ refl | false ↦ refl ]
-
-pub own-joined : (last : Option ℕ) (q s : ℕ) (slot : Slot) → own_node (linked NextOwn last (Some q) s slot) ≡ joined last q s (own_node slot)
-own-joined last q s slot = elim (leads_to last s) as (λ c. own_node (cond c (with_link NextOwn slot (Some q)) slot) ≡ (record (own_node slot) { next = cond c (Some q) slot.own.next })) [ true ↦ refl | false ↦ refl ]
-
-pub all-joined : (last : Option ℕ) (q s : ℕ) (slot : Slot) → all_node (linked NextAll last (Some q) s slot) ≡ joined last q s (all_node slot)
-all-joined last q s slot = elim (leads_to last s) as (λ c. all_node (cond c (with_link NextAll slot (Some q)) slot) ≡ (record (all_node slot) { next = cond c (Some q) slot.all.next })) [ true ↦ refl | false ↦ refl ]
-
-pub own-bridged : (prev next : Option ℕ) (s : ℕ) (slot : Slot) → own_node (linked PrevOwn next prev s (linked NextOwn prev next s slot)) ≡ bridged prev next s (own_node slot)
-own-bridged prev next s slot = by (leads_to prev s) (leads_to next s)
-  where
-    by : (a b : Bool) → own_node (cond b (with_link PrevOwn (cond a (with_link NextOwn slot next) slot) prev) (cond a (with_link NextOwn slot next) slot)) ≡ (record (own_node slot) { prev = cond b prev slot.own.prev; next = cond a next slot.own.next })
-    by true true = refl
-    by true false = refl
-    by false true = refl
-    by false false = refl
-
-pub all-bridged : (prev next : Option ℕ) (s : ℕ) (slot : Slot) → all_node (linked PrevAll next prev s (linked NextAll prev next s slot)) ≡ bridged prev next s (all_node slot)
-all-bridged prev next s slot = by (leads_to prev s) (leads_to next s)
-  where
-    by : (a b : Bool) → all_node (cond b (with_link PrevAll (cond a (with_link NextAll slot next) slot) prev) (cond a (with_link NextAll slot next) slot)) ≡ (record (all_node slot) { prev = cond b prev slot.all.prev; next = cond a next slot.all.next })
-    by true true = refl
-    by true false = refl
-    by false true = refl
-    by false false = refl
 
 -- a link to a node leads to no slot without one
 pub no_lead : (le : ℕ → ℕ → Type 0) (f : ℕ → Option Node) (t q : ℕ) (P : ℕ → Type 0) (o : Option ℕ) → f q ≡ None → IsNearest le f t P o → leads_to o q ≡ false
@@ -154,10 +102,6 @@ module _ (f : ℕ → Option Slot) (es : List (ℕ × ℕ)) (births : ℕ) (inde
   pub next-is_some : (pid at s : ℕ) (was slot : Slot) → f at ≡ Some was → f s ≡ Some slot → IsNearest up (own_nodes f) pid (above was.born) (Some s) → next_lwp pid was.row.tid (rows_of f es births) ≡ Some slot.row
   next-is_some pid at s was slot there_was there near = next_lwp-after pid was.row.tid (rows_of f es births) ∙ ap (first_lwp pid) (after_slot at was there_was) ∙ walk-some f es births indexed pid (above was.born) (was.born + 1) (λ k least. omega (arith, least)) s slot there (λ k p. omega (arith, p)) (0 + births - (was.born + 1)) (omega arith) near
 
--- a link leads to a row of the process
-pub link_pid : (f : ℕ → Option Slot) (pid : ℕ) (P : ℕ → Type 0) (s : ℕ) (slot : Slot) → f s ≡ Some slot → IsNearest up (own_nodes f) pid P (Some s) → slot.row.pid ≡ pid
-link_pid f pid P s slot there near = sym (ap (λ n. n.list) (same_Some near.0 (own_node slot) (sym near.1 ∙ ap (option_map own_node) there))) ∙ near.2
-
 -- a list with no first node has no last one
 pub no_last : (f : ℕ → Option Node) (t : ℕ) (o : Option ℕ) → IsNearest down f t anywhere o → IsNearest up f t anywhere None → o ≡ None
 no_last f t None last first = refl
@@ -174,9 +118,6 @@ module _ (f : ℕ → Option Slot) (es : List (ℕ × ℕ)) (hs : List (ℕ × E
 
   pub all_count : all.count ≤ births
   all_count = omega (arith, kept.total, length-listing (born_row f es) 0 births)
-
-  pub user_count : (place : ℕ) → place < 64 → get_or users place 0 ≤ births
-  user_count place within = omega (arith, kept.homes place within, count-below (is_at place) (born_row f es) 0 births)
 
   -- a row more
   module _ (row : LwpData) (q : ℕ) (f1 f2 g : ℕ → Option Slot) (es' : List (ℕ × ℕ)) (hs' : List (ℕ × Ends)) (vacant : f q ≡ None)
@@ -198,24 +139,24 @@ module _ (f : ℕ → Option Slot) (es : List (ℕ × ℕ)) (hs : List (ℕ × E
         let a : leads_to (ends_at hs row.pid).last q ≡ false = no_lead down (own_nodes f) row.pid q anywhere _ (ap (option_map own_node) vacant) (kept.own row.pid).last_is in
         let b : leads_to all.last q ≡ false = no_lead down (all_nodes f) 0 q anywhere _ (ap (option_map all_node) vacant) kept.whole.last_is in
         whole_g q ∙ ap (λ o. option_map (linked NextAll all.last (Some q) q) (option_map (linked NextOwn (ends_at hs row.pid).last (Some q) q) o)) put
-        ∙ ap (λ c. option_map (linked NextAll all.last (Some q) q) (Some (cond c (with_link NextOwn new (Some q)) new))) a ∙ ap (λ c. Some (cond c (with_link NextAll new (Some q)) new)) b
+        ∙ ap (λ c. option_map (linked NextAll all.last (Some q) q) (Some (record new { own = record new.own { next = cond c (Some q) None } }))) a ∙ ap (λ c. Some (record new { all = record new.all { next = cond c (Some q) None } })) b
 
     faces : (s : ℕ) → s ≢ q → option_map face (g s) ≡ option_map face (f s)
     faces s off =
-        ap (option_map face) (whole_g s) ∙ hidden face (linked NextAll all.last (Some q) s) (λ slot. face-linked all.last (Some q) s slot NextAll) _
-        ∙ hidden face (linked NextOwn (ends_at hs row.pid).last (Some q) s) (λ slot. face-linked (ends_at hs row.pid).last (Some q) s slot NextOwn) (f1 s) ∙ ap (option_map face) (others s off)
+        ap (option_map face) (whole_g s) ∙ hidden face (linked NextAll all.last (Some q) s) (λ slot. refl) _
+        ∙ hidden face (linked NextOwn (ends_at hs row.pid).last (Some q) s) (λ slot. refl) (f1 s) ∙ ap (option_map face) (others s off)
 
     own_g : (s : ℕ) → s ≢ q → own_nodes g s ≡ option_map (joined (ends_at hs row.pid).last q s) (own_nodes f s)
     own_g s off =
-        ap (option_map own_node) (whole_g s) ∙ hidden own_node (linked NextAll all.last (Some q) s) (λ slot. own-next_all all.last (Some q) s slot) _
-        ∙ shown own_node (joined (ends_at hs row.pid).last q s) (linked NextOwn (ends_at hs row.pid).last (Some q) s) (λ slot. own-joined (ends_at hs row.pid).last q s slot) (f1 s)
+        ap (option_map own_node) (whole_g s) ∙ hidden own_node (linked NextAll all.last (Some q) s) (λ slot. refl) _
+        ∙ shown own_node (joined (ends_at hs row.pid).last q s) (linked NextOwn (ends_at hs row.pid).last (Some q) s) (λ slot. refl) (f1 s)
         ∙ ap (λ o. option_map (joined (ends_at hs row.pid).last q s) (option_map own_node o)) (others s off)
 
     all_g : (s : ℕ) → s ≢ q → all_nodes g s ≡ option_map (joined all.last q s) (all_nodes f s)
     all_g s off =
         ap (option_map all_node) (whole_g s)
-        ∙ shown all_node (joined all.last q s) (linked NextAll all.last (Some q) s) (λ slot. all-joined all.last q s slot) _
-        ∙ ap (option_map (joined all.last q s)) (hidden all_node (linked NextOwn (ends_at hs row.pid).last (Some q) s) (λ slot. all-next_own (ends_at hs row.pid).last (Some q) s slot) (f1 s) ∙ ap (option_map all_node) (others s off))
+        ∙ shown all_node (joined all.last q s) (linked NextAll all.last (Some q) s) (λ slot. refl) _
+        ∙ ap (option_map (joined all.last q s)) (hidden all_node (linked NextOwn (ends_at hs row.pid).last (Some q) s) (λ slot. refl) (f1 s) ∙ ap (option_map all_node) (others s off))
 
     own_later : (s : ℕ) (was : Node) → own_nodes f s ≡ Some was → was.key < births
     own_later s was there = let x = came own_node (f s) was there in omega (arith, kept.indexed.earlier s x.0 x.1, ap (λ n. n.key) x.2)
@@ -297,9 +238,6 @@ module _ (f : ℕ → Option Slot) (es : List (ℕ × ℕ)) (hs : List (ℕ × E
     pub own_positive : 0 < (ends_at hs old.row.pid).count
     own_positive = omega (arith, kept.counted old.row.pid, count-without (is_of old.row.pid) old.row.tid old.row (rows_of f es births) row_old, ap one (test_same old.row.pid))
 
-    pub all_positive : 0 < all.count
-    all_positive = omega (arith, kept.total, length-without old.row.tid old.row (rows_of f es births) row_old)
-
     pub user_positive : (owner : ℕ) → owner ≡ place_of old.row.tid → owner < 64 → 0 < get_or users owner 0
     user_positive owner is within = omega (arith, kept.homes owner within, count-without (is_at owner) old.row.tid old.row (rows_of f es births) row_old, ap one (at_yes owner old.row is))
 
@@ -325,43 +263,25 @@ module _ (f : ℕ → Option Slot) (es : List (ℕ × ℕ)) (hs : List (ℕ × E
       all_next = there_1 all_node up 0 (above old.born) old.all.next (λ n. refl) (λ p. omega (arith, p)) (kept.whole.next_is q (all_node old) (ap (option_map all_node) had) refl)
 
   -- a row goes
-  module _ (q : ℕ) (old : Slot) (f1 f2 f3 f4 g : ℕ → Option Slot) (es' : List (ℕ × ℕ)) (hs' : List (ℕ × Ends)) (left all' : Ends) (had : f q ≡ Some old)
+  module _ (q : ℕ) (old : Slot) (f1 g : ℕ → Option Slot) (es' : List (ℕ × ℕ)) (hs' : List (ℕ × Ends)) (left all' : Ends) (had : f q ≡ Some old)
       (gone : f1 q ≡ None) (same_1 : (s : ℕ) → s ≢ q → f1 s ≡ f s)
-      (links_2 : (s : ℕ) → f2 s ≡ option_map (linked NextOwn old.own.prev old.own.next s) (f1 s))
-      (links_3 : (s : ℕ) → f3 s ≡ option_map (linked PrevOwn old.own.next old.own.prev s) (f2 s))
-      (links_4 : (s : ℕ) → f4 s ≡ option_map (linked NextAll old.all.prev old.all.next s) (f3 s))
-      (links_5 : (s : ℕ) → g s ≡ option_map (linked PrevAll old.all.next old.all.prev s) (f4 s))
+      (closed : (s : ℕ) → g s ≡ option_map (closed_up old s) (f1 s))
       (change : (p : ℕ) → lookup (nat_eq p) es' ≡ cond (nat_eq old.row.tid p) None (lookup (nat_eq p) es)) where
-    from_1 : (s : ℕ) → g s ≡ option_map (linked PrevAll old.all.next old.all.prev s) (option_map (linked NextAll old.all.prev old.all.next s) (option_map (linked PrevOwn old.own.next old.own.prev s) (option_map (linked NextOwn old.own.prev old.own.next s) (f1 s))))
-    from_1 s = links_5 s ∙ ap (option_map (linked PrevAll old.all.next old.all.prev s)) (links_4 s ∙ ap (option_map (linked NextAll old.all.prev old.all.next s)) (links_3 s ∙ ap (option_map (linked PrevOwn old.own.next old.own.prev s)) (links_2 s)))
-
     gone_g : g q ≡ None
-    gone_g = from_1 q ∙ ap (λ o. option_map (linked PrevAll old.all.next old.all.prev q) (option_map (linked NextAll old.all.prev old.all.next q) (option_map (linked PrevOwn old.own.next old.own.prev q) (option_map (linked NextOwn old.own.prev old.own.next q) o)))) gone
+    gone_g = closed q ∙ ap (option_map (closed_up old q)) gone
 
     left_faces : (s : ℕ) → s ≢ q → option_map face (g s) ≡ option_map face (f s)
-    left_faces s off =
-        ap (option_map face) (from_1 s)
-        ∙ hidden face (linked PrevAll old.all.next old.all.prev s) (λ slot. face-linked old.all.next old.all.prev s slot PrevAll) _
-        ∙ hidden face (linked NextAll old.all.prev old.all.next s) (λ slot. face-linked old.all.prev old.all.next s slot NextAll) _
-        ∙ hidden face (linked PrevOwn old.own.next old.own.prev s) (λ slot. face-linked old.own.next old.own.prev s slot PrevOwn) _
-        ∙ hidden face (linked NextOwn old.own.prev old.own.next s) (λ slot. face-linked old.own.prev old.own.next s slot NextOwn) (f1 s)
-        ∙ ap (option_map face) (same_1 s off)
+    left_faces s off = ap (option_map face) (closed s) ∙ hidden face (closed_up old s) (λ slot. refl) (f1 s) ∙ ap (option_map face) (same_1 s off)
 
     left_own : (s : ℕ) → s ≢ q → own_nodes g s ≡ option_map (bridged old.own.prev old.own.next s) (own_nodes f s)
     left_own s off =
-        ap (option_map own_node) (from_1 s)
-        ∙ hidden own_node (linked PrevAll old.all.next old.all.prev s) (λ slot. own-prev_all old.all.next old.all.prev s slot) _
-        ∙ hidden own_node (linked NextAll old.all.prev old.all.next s) (λ slot. own-next_all old.all.prev old.all.next s slot) _
-        ∙ shown_twice own_node (bridged old.own.prev old.own.next s) (linked NextOwn old.own.prev old.own.next s) (linked PrevOwn old.own.next old.own.prev s) (λ slot. own-bridged old.own.prev old.own.next s slot) (f1 s)
+        ap (option_map own_node) (closed s) ∙ shown own_node (bridged old.own.prev old.own.next s) (closed_up old s) (λ slot. refl) (f1 s)
         ∙ ap (λ o. option_map (bridged old.own.prev old.own.next s) (option_map own_node o)) (same_1 s off)
 
     left_all : (s : ℕ) → s ≢ q → all_nodes g s ≡ option_map (bridged old.all.prev old.all.next s) (all_nodes f s)
     left_all s off =
-        ap (option_map all_node) (from_1 s)
-        ∙ shown_twice all_node (bridged old.all.prev old.all.next s) (linked NextAll old.all.prev old.all.next s) (linked PrevAll old.all.next old.all.prev s) (λ slot. all-bridged old.all.prev old.all.next s slot) _
-        ∙ ap (option_map (bridged old.all.prev old.all.next s))
-        (hidden all_node (linked PrevOwn old.own.next old.own.prev s) (λ slot. all-prev_own old.own.next old.own.prev s slot) _
-        ∙ hidden all_node (linked NextOwn old.own.prev old.own.next s) (λ slot. all-next_own old.own.prev old.own.next s slot) (f1 s) ∙ ap (option_map all_node) (same_1 s off))
+        ap (option_map all_node) (closed s) ∙ shown all_node (bridged old.all.prev old.all.next s) (closed_up old s) (λ slot. refl) (f1 s)
+        ∙ ap (λ o. option_map (bridged old.all.prev old.all.next s) (option_map all_node o)) (same_1 s off)
 
     pub rows-removed : rows_of g es' births ≡ without_row old.row.tid (rows_of f es births)
     rows-removed = rows_of-removed f es births kept.indexed g es' q left_faces old had gone_g change

@@ -1,6 +1,6 @@
 -- What is kept of rows, lists and counts together.
 use Rattle.std.proofs.Common.{◌≡◌, ◌≢◌, ℕ, ◌+◌, ◌-◌, ◌<◌, true, false, List, [], Option, Some, None, is_some, refl, sym, ap, ◌∙◌, ◌∷◌, inl, inr, nat_eq, cond, arith, length, get_or, set, map, replicate}
-use Rattle.std.specs.Prelude.{filter, not, ltb, ◌&&◌, find}
+use Rattle.std.specs.Prelude.{filter, not, ltb, ◌&&◌}
 use Rattle.std.specs.List.{list_any}
 use Rattle.std.specs.Map.{lookup}
 use Rattle.std.specs.Option.{option_map}
@@ -20,7 +20,7 @@ use Rattle.proc_table.specs.Kept.{AtHome, Named, IsRow, put_process}
 use Rattle.proc_table.specs.Slots.{all_rows, look}
 use Rattle.proc_table.specs.Links.{Node, keys, key_of, IsNext}
 use Rattle.proc_table.specs.Lanes.{pick, parent_named, chief, lane, lanes, rows_of, IsLaced, IsHead, IsTied, next_named, unlinked}
-use Rattle.proc_table.proofs.Every.{some_of, some_and}
+use Rattle.proc_table.proofs.Every.{some_of, some_and, every_found, every_untested}
 use Rattle.proc_table.proofs.Rows.{same_number, row_found, found_row}
 use Rattle.proc_table.proofs.Finds.{equal_or_not}
 use Rattle.proc_table.proofs.Listing.{find-all_rows, Rise-all_rows}
@@ -29,6 +29,10 @@ use Rattle.proc_table.proofs.Slots.{finds, slot_of, look-slot, IsSlotted-added, 
 use Rattle.proc_table.proofs.Linked.{key_node}
 use Rattle.proc_table.proofs.Lanes.{slot_at, row_slot}
 use Rattle.proc_table.proofs.Laced.{HasHead, each_kin, head-apart, laced-same, laced-born, laced-gone, laced-none}
+
+this-is : (n : ℕ) (o : Option ℕ) → is_this n o ≡ true → o ≡ Some n
+this-is n None h = absurd (cc)
+this-is n (Some m) h = let same : m ≡ n = grind (arith, nat_tests, h) in ap Some same
 
 module _ (f : ℕ → Option Slot) (es : List (ℕ × ℕ)) (counts : List ℕ) (tied : IsTied f es counts) where
   -- a number's slot has its row
@@ -87,10 +91,6 @@ module _ (f : ℕ → Option Slot) (es : List (ℕ × ℕ)) (counts : List ℕ) 
     pub walk-none : IsNext (keys (lanes kin f)) t after None → next_named kin t after (all_rows (look (rows_of f) es)) ≡ None
     walk-none next = next-none (λ (p : ProcData). is_this t (chief kin p)) after _ (Rise-all_rows _ (finds (rows_of f) es counts tied.slotted))
         (λ r there names. let key = key-of-row kin t r there (this-is t (chief kin r) names) in next key.0 r.pid key.1)
-      where
-        this-is : (n : ℕ) (o : Option ℕ) → is_this n o ≡ true → o ≡ Some n
-        this-is n None h = absurd (cc)
-        this-is n (Some m) h = let same : m ≡ n = grind (arith, nat_tests, h) in ap Some same
 
     pub walk-some : (s : ℕ) (slot : Slot) → f s ≡ Some slot → IsNext (keys (lanes kin f)) t after (Some s) → next_named kin t after (all_rows (look (rows_of f) es)) ≡ Some slot.row
     walk-some s slot there next =
@@ -102,10 +102,6 @@ module _ (f : ℕ → Option Slot) (es : List (ℕ × ℕ)) (counts : List ℕ) 
         next-found (λ (p : ProcData). is_this t (chief kin p)) after slot.row.pid slot.row _ (Rise-all_rows _ (finds (rows_of f) es counts tied.slotted)) (row-of s slot there)
         (ap (is_this t) (chief-of kin s slot t there names) ∙ same_number t) (omega (arith, next.2, pid))
         (λ r at test more. let key = key-of-row kin t r at (this-is t (chief kin r) test) in omega (arith, next.3 key.0 r.pid key.1 more, pid))
-      where
-        this-is : (n : ℕ) (o : Option ℕ) → is_this n o ≡ true → o ≡ Some n
-        this-is n None h = absurd (cc)
-        this-is n (Some m) h = let same : m ≡ n = grind (arith, nat_tests, h) in ap Some same
 
     -- no row names a number that has no slot
     pub unnamed-slot : lookup (nat_eq t) es ≡ None → next_named kin t after (all_rows (look (rows_of f) es)) ≡ None
@@ -119,22 +115,11 @@ module _ (f : ℕ → Option Slot) (es : List (ℕ × ℕ)) (counts : List ℕ) 
   pub nobody-names : (kin : Kin) (t : ℕ) → next_named kin t 0 (all_rows (look (rows_of f) es)) ≡ None → (s : ℕ) (slot : Slot) → f s ≡ Some slot → (lane kin slot).chief ≢ Some t
   nobody-names kin t none s slot is names =
       let home = home-of s slot is in
-      let test = every-found (all_rows (look (rows_of f) es)) (row-of s slot is) none in
-      absurd (let yes = ap (is_this t) (chief-of kin s slot t is names) ∙ same_number t in cc (yes, test (omega (arith, home.block.0))))
-    where
-      every-found : (ps : List ProcData) → process_of slot.row.pid ps ≡ Some slot.row → find (λ p. ltb 0 p.pid && is_this t (chief kin p)) ps ≡ None → 0 < slot.row.pid → is_this t (chief kin slot.row) ≡ false
-      every-found [] found none more = absurd (cc)
-      every-found (p ∷ ps) found none more = elim (cases_Bool (ltb 0 p.pid && is_this t (chief kin p))) [
-        | inl e ↦ absurd (let h : Some p ≡ None = rw e at none in cc)
-        | inr e ↦ elim (equal_or_not p.pid slot.row.pid) [
-          | inl h ↦
-              let same : Some p ≡ Some slot.row = rw h.0 at found in
-              let its : p ≡ slot.row = cc in
-              let positive : ltb 0 p.pid ≡ true = grind (arith, nat_tests, h.1, more) in
-              ap (λ q. is_this t (chief kin q)) (sym its) ∙ rw positive at e
-          | inr h ↦ every-found ps (rw h.0 at found) (rw e at none) more
-        ]
-      ]
+      let fails = every_found (λ p. (ltb 0 p.pid && is_this t (chief kin p)) ≡ false) (λ p. nat_eq p.pid slot.row.pid) _ slot.row
+      (every_untested (λ p. ltb 0 p.pid && is_this t (chief kin p)) (all_rows (look (rows_of f) es)) none) (row-of s slot is) in
+      let positive : ltb 0 slot.row.pid ≡ true = grind (arith, nat_tests, home.block.0) in
+      let yes : is_this t (chief kin slot.row) ≡ true = ap (is_this t) (chief-of kin s slot t is names) ∙ same_number t in
+      absurd (cc (rw (positive, yes) at fails))
 
   -- a row more: its slot is taken, and then linked
   module _ (f1 g : ℕ → Option Slot) (es' : List (ℕ × ℕ)) (at : ℕ) (new : ProcData) (vacant : f at ≡ None) (has : f1 at ≡ Some (unlinked new)) (others : (s : ℕ) → s ≢ at → f1 s ≡ f s)

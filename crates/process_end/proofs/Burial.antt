@@ -18,7 +18,7 @@ use Rattle.process_end.specs.Laws.{end_alone}
 use Rattle.process_end.specs.Leaving.{LeavingRow, LeavingLwp, IsLeaving}
 use Rattle.trace_stop.proofs.Every.{All-imply, All-both, find_some, none_of}
 use Rattle.trace_stop.proofs.Passes.{passes, any_same, filter_map_same}
-use Rattle.trace_stop.proofs.Stopping.{the_row}
+use Rattle.trace_stop.proofs.Numbers.{the_row}
 use Rattle.process_end.proofs.Turned.{told_row, told_lwp, told_lwp-miss, turned, turned_lwp, moved, is_gone, gone-true, gone-false, told-miss, turned-dead, turned-safe, turned-fallen, turned_lwp-safe}
 use Rattle.process_end.proofs.Twice.{alone, Told, told_lwp-moved}
 use Rattle.process_end.proofs.Tells.{tells, tells-value, told_by, parent_after}
@@ -44,11 +44,7 @@ each_equal f g lwp lwp' rows all every =
 
 -- An LWP that doesn't wait
 pub released_none : (over : ℕ → Bool) (r : ProcData) (l : LwpData) → waits_where over l.mode ≡ false → released over r l ≡ l
-released_none over r l none = at (waits_where over l.mode) none _
-  where
-    at : (b : Bool) → b ≡ false → (d : Due) → (if b then record l { mode = User; due = d } else l) ≡ l
-    at true e d = absurd (true≢false e)
-    at false e d = refl
+released_none over r l none = rw none refl
 
 pub waits_alone : (q : ℕ) (l : LwpData) → waits_where (λ n. n == q) l.mode ≡ waits_where (alone q) l.mode
 unfolding alone

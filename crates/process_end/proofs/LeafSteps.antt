@@ -14,7 +14,7 @@ use Rattle.process_end.specs.Laws.{end_alone}
 use Rattle.process_end.specs.Leaving.{LeavingRow, IsLeaving}
 use Rattle.trace_stop.proofs.Every.{and_right, All-imply, All-both}
 use Rattle.trace_stop.proofs.Passes.{passes}
-use Rattle.trace_stop.proofs.Stopping.{the_row}
+use Rattle.trace_stop.proofs.Numbers.{the_row}
 use Rattle.process_end.proofs.Turned.{fallen, told_row, told_lwp, turned, turned_lwp, is_gone, gone-true, turned-dead}
 use Rattle.process_end.proofs.Twice.{alone}
 use Rattle.process_end.proofs.Tells.{tells, told_by, tells_any, parent_after}

@@ -25,7 +25,7 @@ use Rattle.trace_stop.specs.Facts.{IsLiveChild, waited_for, Standing, FitLwp, Is
 use Rattle.trace_stop.proofs.Every.{and_left, and_right, both, not_true, any_forward, find_some, choose}
 use Rattle.trace_stop.proofs.Edited.{some_is, if_at}
 use Rattle.trace_stop.proofs.Changed.{found_number}
-use Rattle.trace_stop.proofs.Stopping.{own_lwps}
+use Rattle.trace_stop.proofs.Numbers.{own_lwps}
 use Rattle.trace_stop.proofs.Settling.{zero_apart}
 use Rattle.trace_stop.proofs.Running.{count_kept, one_stays}
 use Rattle.trace_stop.proofs.Thinned.{LwpChange, lwps_sound}
@@ -53,9 +53,7 @@ module _ (rows : Rows) (p : ProcData) (l : LwpData) (a : Acting rows p l) where
 
   pub in_mode_acting : (mode : Mode) → IfSome (waited_for mode) (IsLiveChild rows p) → mode_fits mode ≡ true → Acting (in_mode mode l.tid rows) p (record l { mode = mode })
   in_mode_acting mode waits fits = acting_lwp rows p l a (λ k. record k { mode = mode }) (record {
-    tid = λ k. refl;
-    own = λ k. refl;
-    flags = λ k. refl;
+    same = λ k. (refl, refl, refl);
     waits = waits;
     fit = λ fit. record {
       untraced = λ none. let was = fit.untraced none in record { due = was.due; stepping = was.stepping; suspended = was.suspended; pending = was.pending };
@@ -67,9 +65,7 @@ module _ (rows : Rows) (p : ProcData) (l : LwpData) (a : Acting rows p l) where
 
   pub due_acting : Acting (change_lwp l.tid (λ k. record k { due = due.Nothing }) rows) p (record l { due = due.Nothing })
   due_acting = acting_lwp rows p l a (λ k. record k { due = due.Nothing }) (record {
-    tid = λ k. refl;
-    own = λ k. refl;
-    flags = λ k. refl;
+    same = λ k. (refl, refl, refl);
     waits = (lwp_stands rows p l a).waits;
     fit = λ fit. record {
       untraced = λ none. let was = fit.untraced none in record { due = refl; stepping = was.stepping; suspended = was.suspended; pending = was.pending };

@@ -25,7 +25,7 @@ use Rattle.trace_stop.specs.Stop.{resume}
 use Rattle.trace_stop.specs.Facts.{FitProcess, IsSound}
 use Rattle.trace_stop.specs.Reports.{IsStopped}
 use Rattle.trace_stop.proofs.Edited.{find_edit, count_edit}
-use Rattle.trace_stop.proofs.Changes.{edit_none}
+use Rattle.trace_stop.proofs.Edited.{edit_none}
 use Rattle.trace_stop.proofs.Stopped.{IsStopped-from}
 use Rattle.requests.specs.declared.Reply.{Reply}
 use Rattle.requests.specs.declared.Reply.TheVariants as reply
@@ -39,7 +39,7 @@ use Rattle.requests.proofs.Masks.{Tracee, OwnLwp, not_stepping_tracee, not_stepp
 
 pub process_changed : (n : ℕ) (f : ProcData → ProcData) (rows : Rows) (p : ProcData) → ((q : ProcData) → (f q).pid ≡ q.pid) → process_of n rows.processes ≡ Some p
     → process_of n (change_process n f rows).processes ≡ Some (if p.pid == n then f p else p)
-process_changed n f rows p same at = find_edit (λ q. q.pid == n) (λ q. Some (if q.pid == n then f q else q)) (λ q. choose (q.pid == n) (f q) q (λ r. (r.pid == n) ≡ (q.pid == n)) (λ e. ap (λ m. eqb m n) (same q)) (λ e. refl)) rows.processes p (if p.pid == n then f p else p) at refl
+process_changed n f rows p same at = changed_row n (is_numbered n) f rows.processes p same at
 
 pub row_changed : (n : ℕ) (f : ProcData → ProcData) (rows : Rows) (p : ProcData) → ((q : ProcData) → (f q).pid ≡ q.pid) → process_of n rows.processes ≡ Some p → IsRow (change_process n f rows) n
 row_changed n f rows p same at = found_row n (if p.pid == n then f p else p) (change_process n f rows).processes (process_changed n f rows p same at)

@@ -1,5 +1,5 @@
 -- Lists edited twice, and what is found after an edit.
-use Rattle.std.proofs.Common.{◌≡◌, ℕ, ◌<◌, List, [], ◌∷◌, filter_map, Bool, true, false, cond, ◌||◌, ◌==◌, Option, Some, None, IfSome, refl, sym, ap, ◌∙◌, arith, eqb, eqb-true, eq-eqb}
+use Rattle.std.proofs.Common.{◌≡◌, ℕ, ◌<◌, List, [], ◌∷◌, filter_map, find, Bool, true, false, cond, ◌||◌, ◌==◌, Option, Some, None, IfSome, refl, sym, ap, ◌∙◌, arith, eqb, eqb-true, eq-eqb}
 use Rattle.std.specs.Option.{option_and_then}
 use Rattle.std.specs.List.{AllByRecursion, list_any, cons_option}
 use Rattle.std.proofs.lemmas.Bool.Decides.{nat_tests}
@@ -85,14 +85,18 @@ process_edited f keeps n (p ∷ ps) rise = at_head (f p) refl (keeps p) (eqb p.p
     at_head (Some q) is same true here rest = let hit : eqb q.pid n ≡ true = ap (λ m. eqb m n) same ∙ here in rw hit (sym is)
     at_head (Some q) is same false here rest = let miss : eqb q.pid n ≡ false = ap (λ m. eqb m n) same ∙ here in rw miss rest
 
+all_above : (n : ℕ) (ps : List ProcData) → AllAbove n ps → AllByRecursion (λ q. n < q.pid) ps
+all_above n [] above = tt
+all_above n (q ∷ qs) above = (above.0, all_above n qs above.1)
+
+pub found_above : (t : ProcData → Bool) (n : ℕ) (ps : List ProcData) (p : ProcData) → AllAbove n ps → find t ps ≡ Some p → n < p.pid
+found_above t n ps p above is = (find_some t (λ q. n < q.pid) ps (all_above n ps above) p is).0
+
+-- each row is found by its number
 pub own_rows : (ps : List ProcData) → Rise ps → AllByRecursion (λ p. process_of p.pid ps ≡ Some p) ps
 own_rows [] rise = tt
-own_rows (p ∷ ps) rise = (rw (eq-eqb p.pid p.pid refl) refl, All-imply (λ q. (p.pid < q.pid) × (process_of q.pid ps ≡ Some q)) (λ q. process_of q.pid (p ∷ ps) ≡ Some q) later ps (All-both (λ q. p.pid < q.pid) (λ q. process_of q.pid ps ≡ Some q) ps (all_above ps rise.0) (own_rows ps rise.1)))
+own_rows (p ∷ ps) rise = (rw (eq-eqb p.pid p.pid refl) refl, All-imply (λ q. (p.pid < q.pid) × (process_of q.pid ps ≡ Some q)) (λ q. process_of q.pid (p ∷ ps) ≡ Some q) later ps (All-both (λ q. p.pid < q.pid) (λ q. process_of q.pid ps ≡ Some q) ps (all_above p.pid ps rise.0) (own_rows ps rise.1)))
   where
-    all_above : (qs : List ProcData) → AllAbove p.pid qs → AllByRecursion (λ q. p.pid < q.pid) qs
-    all_above [] above = tt
-    all_above (q ∷ qs) above = (above.0, all_above qs above.1)
-
     later : (q : ProcData) → (p.pid < q.pid) × (process_of q.pid ps ≡ Some q) → process_of q.pid (p ∷ ps) ≡ Some q
     later q h = let lt = h.0 in let other : eqb p.pid q.pid ≡ false = grind (arith, nat_tests) in rw other h.1
 
