@@ -4,18 +4,19 @@ use Rattle.std.specs.Map.{lookup}
 use Rattle.std.specs.Option.{option_map, option_or, IsSomeAnd}
 use Rattle.std.proofs.lemmas.Bool.{cases_eq}
 use Rattle.std.proofs.lemmas.Option.{same_Some}
-use Rattle.std.proofs.lemmas.List.{get_or-replicate}
+use Rattle.std.proofs.lemmas.List.{get_or-replicate, length-map}
 use Rattle.lwp_table.specs.declared.LwpData.{LwpData}
 use Rattle.lwp_table.specs.declared.links.Slot.{Slot}
 use Rattle.lwp_table.specs.declared.links.Ends.{Ends}
 use Rattle.lwp_table.specs.declared.links.Link.TheVariants.{NextOwn, NextAll}
-use Rattle.lwp_table.specs.Lwps.{lwp_of, first_lwp, next_lwp, Differ}
+use Rattle.lwp_table.specs.Lwps.{lwp_of, put_lwp, with_lwp, without_lwp, first_lwp, next_lwp, Differ}
 use Rattle.lwp_table.specs.Chain.{Node, IsNearest, IsChain, AreApart, up, down, anywhere, above, below, leads_to, joined, bridged}
 use Rattle.lwp_table.specs.Kept.{own_node, own_nodes, all_node, all_nodes, is_of, is_at, place_of, linked, closed_up, ends_at, no_ends, born_row, listing, rows_of, IsIndexed, IsKept}
-use Rattle.lwp_table.proofs.WordLemmas.{test_same, test_apart, with_row, without_row, rows_after, next_lwp-after}
+use Rattle.lwp_table.proofs.WordLemmas.{test_same, test_apart, rows_after, next_lwp-after}
 use Rattle.lwp_table.proofs.ChainLemmas.{IsChain-joined, IsChain-joined_other, IsChain-left, IsChain-left_other}
 use Rattle.lwp_table.proofs.ListLemmas.{first-none, first-found, rows_after-listing}
-use Rattle.lwp_table.proofs.CountLemmas.{one, count-end, count-without, count-with, count-below, count-none, length-end, length-without, length-with, length-listing, at_yes, at_no, users_set}
+use Rattle.lwp_table.proofs.Numbered.{count-without, count-put}
+use Rattle.lwp_table.proofs.CountLemmas.{one, count-end, count-below, count-none, length-end, length-without, length-listing, at_yes, at_no, users_set}
 use Rattle.lwp_table.proofs.IndexLemmas.{differ, face, born_in, born_of, numbered, lwp_of-slot, no_slot, IsIndexed-added, rows_of-added, IsIndexed-removed, rows_of-removed, IsIndexed-set, rows_of-set}
 
 pub some_and : {X : Type 0} (P : X → Type 0) (o : Option X) → IsSomeAnd o P → (x : X) × (o ≡ Some x) × P x
@@ -213,7 +214,7 @@ module _ (f : ℕ → Option Slot) (es : List (ℕ × ℕ)) (hs : List (ℕ × E
       | inr off ↦ sym (ap (option_map all_node) (same_g s off))
     ]
 
-    pub rows-set : rows_of g es births ≡ with_row row (rows_of f es births)
+    pub rows-set : rows_of g es births ≡ with_lwp row (rows_of f es births)
     rows-set = rows_of-set f es births kept.indexed g es q set_faces old (record old { row = row }) had has refl tids refl
 
     before : lwp_of row.tid (rows_of f es births) ≡ Some old.row
@@ -224,9 +225,9 @@ module _ (f : ℕ → Option Slot) (es : List (ℕ × ℕ)) (hs : List (ℕ × E
       indexed = IsIndexed-set f es births kept.indexed g es q set_faces old (record old { row = row }) had has refl tids refl;
       own = λ p. IsChain-same (own_nodes f) (own_nodes g) p _ _ set_own (kept.own p);
       whole = IsChain-same (all_nodes f) (all_nodes g) 0 _ _ set_all kept.whole;
-      counted = λ p. kept.counted p ∙ sym (ap (count_by (is_of p)) rows-set ∙ count-with (is_of p) row old.row (rows_of f es births) before (ap (λ n. nat_eq n p) pids));
-      total = kept.total ∙ sym (ap length rows-set ∙ length-with row (rows_of f es births));
-      homes = λ place within. kept.homes place within ∙ sym (ap (count_by (is_at place)) rows-set ∙ count-with (is_at place) row old.row (rows_of f es births) before (ap (λ n. nat_eq (place_of n) place) (sym tids)));
+      counted = λ p. kept.counted p ∙ sym (ap (count_by (is_of p)) rows-set ∙ count-put (λ (l : LwpData). l.tid) (is_of p) row old.row (rows_of f es births) (differ f es births kept.indexed) before (ap (λ n. nat_eq n p) pids));
+      total = kept.total ∙ sym (ap length rows-set ∙ length-map (rows_of f es births) (put_lwp row));
+      homes = λ place within. kept.homes place within ∙ sym (ap (count_by (is_at place)) rows-set ∙ count-put (λ (l : LwpData). l.tid) (is_at place) row old.row (rows_of f es births) (differ f es births kept.indexed) before (ap (λ n. nat_eq (place_of n) place) (sym tids)));
     }
 
   -- what is known of a row that goes
@@ -236,10 +237,10 @@ module _ (f : ℕ → Option Slot) (es : List (ℕ × ℕ)) (hs : List (ℕ × E
 
     -- the counts that go down were above 0
     pub own_positive : 0 < (ends_at hs old.row.pid).count
-    own_positive = omega (arith, kept.counted old.row.pid, count-without (is_of old.row.pid) old.row.tid old.row (rows_of f es births) row_old, ap one (test_same old.row.pid))
+    own_positive = omega (arith, kept.counted old.row.pid, count-without (λ (l : LwpData). l.tid) (is_of old.row.pid) old.row.tid old.row (rows_of f es births) (differ f es births kept.indexed) row_old, ap one (test_same old.row.pid))
 
     pub user_positive : (owner : ℕ) → owner ≡ place_of old.row.tid → owner < 64 → 0 < get_or users owner 0
-    user_positive owner is within = omega (arith, kept.homes owner within, count-without (is_at owner) old.row.tid old.row (rows_of f es births) row_old, ap one (at_yes owner old.row is))
+    user_positive owner is within = omega (arith, kept.homes owner within, count-without (λ (l : LwpData). l.tid) (is_at owner) old.row.tid old.row (rows_of f es births) (differ f es births kept.indexed) row_old, ap one (at_yes owner old.row is))
 
     module _ (f1 : ℕ → Option Slot) (same_1 : (s : ℕ) → s ≢ q → f1 s ≡ f s) where
       -- the node's neighbours are in their slots at each step
@@ -283,7 +284,7 @@ module _ (f : ℕ → Option Slot) (es : List (ℕ × ℕ)) (hs : List (ℕ × E
         ap (option_map all_node) (closed s) ∙ shown all_node (bridged old.all.prev old.all.next s) (closed_up old s) (λ slot. refl) (f1 s)
         ∙ ap (λ o. option_map (bridged old.all.prev old.all.next s) (option_map all_node o)) (same_1 s off)
 
-    pub rows-removed : rows_of g es' births ≡ without_row old.row.tid (rows_of f es births)
+    pub rows-removed : rows_of g es' births ≡ without_lwp old.row.tid (rows_of f es births)
     rows-removed = rows_of-removed f es births kept.indexed g es' q left_faces old had gone_g change
 
     module _
@@ -300,7 +301,7 @@ module _ (f : ℕ → Option Slot) (es : List (ℕ × ℕ)) (hs : List (ℕ × E
           let indexed = IsIndexed-removed f es births kept.indexed g es' q left_faces old had gone_g change in
           let zero = count-none (is_of old.row.pid) (rows_of g es' births) (first-is_none g es' births indexed old.row.pid near) in
           let same = ap (count_by (is_of old.row.pid)) rows-removed in
-          let count : left.count ≡ 0 = omega (arith, zero, same, left_count, kept.counted old.row.pid, count-without (is_of old.row.pid) old.row.tid old.row (rows_of f es births) (row_old q old had), ap one (test_same old.row.pid)) in
+          let count : left.count ≡ 0 = omega (arith, zero, same, left_count, kept.counted old.row.pid, count-without (λ (l : LwpData). l.tid) (is_of old.row.pid) old.row.tid old.row (rows_of f es births) (differ f es births kept.indexed) (row_old q old had), ap one (test_same old.row.pid)) in
           (λ i. record { first = none i; last = last i; count = count i })
 
     module _ (ends : (p : ℕ) → ends_at hs' p ≡ cond (nat_eq old.row.pid p) left (ends_at hs p))
@@ -326,13 +327,13 @@ module _ (f : ℕ → Option Slot) (es : List (ℕ × ℕ)) (hs : List (ℕ × E
         ];
         whole = rw (all_first, all_last) (IsChain-left (all_nodes f) (all_nodes g) (all_apart f kept.indexed.apart) 0 all.first all.last kept.whole q (all_node old) (ap (option_map all_node) had) refl (ap (option_map all_node) gone_g) left_all);
         counted = λ p. rw rows-removed (elim (cases_eq old.row.pid p) [
-          | inl same ↦ omega (arith, kept.counted p, left_count, count-without (is_of p) old.row.tid old.row (rows_of f es births) (row_old q old had), ap (λ n. (ends_at hs' n).count) (sym same), ap (λ (e : Ends). e.count) left_own_ends, ap (λ n. (ends_at hs n).count) same, ap one (ap (nat_eq old.row.pid) (sym same) ∙ test_same old.row.pid))
-          | inr off ↦ omega (arith, kept.counted p, count-without (is_of p) old.row.tid old.row (rows_of f es births) (row_old q old had), ap (λ (e : Ends). e.count) (left_other_ends p off), ap one (test_apart old.row.pid p off))
+          | inl same ↦ omega (arith, kept.counted p, left_count, count-without (λ (l : LwpData). l.tid) (is_of p) old.row.tid old.row (rows_of f es births) (differ f es births kept.indexed) (row_old q old had), ap (λ n. (ends_at hs' n).count) (sym same), ap (λ (e : Ends). e.count) left_own_ends, ap (λ n. (ends_at hs n).count) same, ap one (ap (nat_eq old.row.pid) (sym same) ∙ test_same old.row.pid))
+          | inr off ↦ omega (arith, kept.counted p, count-without (λ (l : LwpData). l.tid) (is_of p) old.row.tid old.row (rows_of f es births) (differ f es births kept.indexed) (row_old q old had), ap (λ (e : Ends). e.count) (left_other_ends p off), ap one (test_apart old.row.pid p off))
         ]);
-        total = rw rows-removed (omega (arith, kept.total, all_count, length-without old.row.tid old.row (rows_of f es births) (row_old q old had)));
+        total = rw rows-removed (omega (arith, kept.total, all_count, length-without old.row.tid old.row (rows_of f es births) (differ f es births kept.indexed) (row_old q old had)));
         homes = users_set users (rows_of f es births) (rows_of g es' births) owner _ long within
-            (rw rows-removed (omega (arith, kept.homes owner within, count-without (is_at owner) old.row.tid old.row (rows_of f es births) (row_old q old had), ap one (at_yes owner old.row owner_is))))
-            (λ place off. rw rows-removed (omega (arith, count-without (is_at place) old.row.tid old.row (rows_of f es births) (row_old q old had), ap one (at_no owner place old.row owner_is off))))
+            (rw rows-removed (omega (arith, kept.homes owner within, count-without (λ (l : LwpData). l.tid) (is_at owner) old.row.tid old.row (rows_of f es births) (differ f es births kept.indexed) (row_old q old had), ap one (at_yes owner old.row owner_is))))
+            (λ place off. rw rows-removed (omega (arith, count-without (λ (l : LwpData). l.tid) (is_at place) old.row.tid old.row (rows_of f es births) (differ f es births kept.indexed) (row_old q old had), ap one (at_no owner place old.row owner_is off))))
             kept.homes;
       }
 

@@ -1,10 +1,11 @@
 -- The list of what rising birth numbers find.
-use Rattle.std.proofs.Common.{◌≡◌, ◌≢◌, ℕ, zero, suc, ◌+◌, ◌-◌, ◌<◌, ◌≤◌, Bool, true, false, List, [], ◌∷◌, ◌++◌, Option, Some, None, refl, sym, ap, ◌∙◌, arith, inl, inr, cond, nat_eq, add-zero, filter}
+use Rattle.std.proofs.Common.{◌≡◌, ◌≢◌, ℕ, zero, suc, ◌+◌, ◌-◌, ◌<◌, ◌≤◌, Bool, true, false, List, [], ◌∷◌, ◌++◌, Option, Some, None, refl, sym, ap, ◌∙◌, arith, inl, inr, cond, nat_eq, add-zero, filter, map}
 use Rattle.std.specs.List.{cons_option, find}
-use Rattle.std.proofs.lemmas.Bool.{cases_eq}
+use Rattle.std.specs.Option.{option_map}
+use Rattle.std.proofs.lemmas.Bool.{cases_eq, cases_Bool}
 use Rattle.lwp_table.specs.declared.LwpData.{LwpData}
 use Rattle.lwp_table.specs.Lwps.{lwp_of, LacksLwp, Differ}
-use Rattle.lwp_table.proofs.WordLemmas.{test_same, test_apart, with_row, without_row, rows_after}
+use Rattle.lwp_table.proofs.WordLemmas.{test_same, test_apart, rows_after}
 use Rattle.lwp_table.specs.Kept.{listing}
 
 cons_option-append : (o : Option LwpData) (xs ys : List LwpData) → cons_option o (xs ++ ys) ≡ cons_option o xs ++ ys
@@ -81,37 +82,23 @@ module _ (b : ℕ → Option LwpData) (numbered : AreNumbered b) (k : ℕ) (row 
       by None is off rest = rest
       by (Some x) is off rest = let differs : nat_eq x.tid row.tid ≡ false = test_apart x.tid row.tid (other from x off is) in rw differs rest
 
-  module _ (a : ℕ → Option LwpData) (others : (j : ℕ) → j ≢ k → a j ≡ b j) where
-    rest_same : (from count : ℕ) → k < from → listing a from count ≡ listing b from count
-    rest_same from count past = listing-same a b from count (λ j least less. others j (λ same. omega (arith, same)))
+-- the rows that pass a test, and all rows changed, by what each birth number finds
+pub listing-kept : (test : LwpData → Bool) (a b : ℕ → Option LwpData) → ((k : ℕ) → b k ≡ None → a k ≡ None) → ((k : ℕ) (x : LwpData) → b k ≡ Some x → a k ≡ cond (test x) (Some x) None)
+    → (from count : ℕ) → listing a from count ≡ filter test (listing b from count)
+listing-kept test a b none some from zero = refl
+listing-kept test a b none some from (suc count) = by (b from) refl (listing-kept test a b none some (from + 1) count)
+  where
+    by : (o : Option LwpData) → b from ≡ o → listing a (from + 1) count ≡ filter test (listing b (from + 1) count) → cons_option (a from) (listing a (from + 1) count) ≡ filter test (cons_option o (listing b (from + 1) count))
+    by None is rest = rw (none from is) rest
+    by (Some x) is rest = rw (some from x is) (elim (cases_Bool (test x)) [ inl e ↦ rw e (ap (λ xs. x ∷ xs) rest) | inr e ↦ rw e rest ])
 
-    -- the row goes
-    pub listing-removed : a k ≡ None → (from count : ℕ) → from ≤ k → k < from + count → listing a from count ≡ without_row row.tid (listing b from count)
-    listing-removed none from zero least less = absurd (omega arith)
-    listing-removed none from (suc count) least less = elim (cases_eq from k) [
-      | inl here ↦
-          ap (λ o. cons_option o (listing a (from + 1) count)) (ap a here ∙ none) ∙ rest_same (from + 1) count (omega arith)
-          ∙ sym (ap (λ o. without_row row.tid (cons_option o (listing b (from + 1) count))) (ap b here ∙ at) ∙ ap (λ c. cond c (listing b (from + 1) count) (row ∷ without_row row.tid (listing b (from + 1) count))) (test_same row.tid))
-      | inr off ↦ rw (others from off) (by (b from) refl off (listing-removed none (from + 1) count (omega arith) (omega arith)))
-    ]
-      where
-        by : (o : Option LwpData) → b from ≡ o → from ≢ k → listing a (from + 1) count ≡ without_row row.tid (listing b (from + 1) count) → cons_option o (listing a (from + 1) count) ≡ without_row row.tid (cons_option o (listing b (from + 1) count))
-        by None is off rest = rest
-        by (Some x) is off rest = let differs : nat_eq x.tid row.tid ≡ false = test_apart x.tid row.tid (other from x off is) in rw differs (ap (λ xs. x ∷ xs) rest)
-
-    -- the row is replaced
-    pub listing-set : (new : LwpData) → a k ≡ Some new → new.tid ≡ row.tid → (from count : ℕ) → from ≤ k → k < from + count → listing a from count ≡ with_row new (listing b from count)
-    listing-set new is_new tids from zero least less = absurd (omega arith)
-    listing-set new is_new tids from (suc count) least less = elim (cases_eq from k) [
-      | inl here ↦
-          ap (λ o. cons_option o (listing a (from + 1) count)) (ap a here ∙ is_new) ∙ ap (λ xs. new ∷ xs) (rest_same (from + 1) count (omega arith))
-          ∙ sym (ap (λ o. with_row new (cons_option o (listing b (from + 1) count))) (ap b here ∙ at) ∙ ap (λ c. cond c (new ∷ listing b (from + 1) count) (row ∷ with_row new (listing b (from + 1) count))) (ap (nat_eq row.tid) tids ∙ test_same row.tid))
-      | inr off ↦ rw (others from off) (by (b from) refl off (listing-set new is_new tids (from + 1) count (omega arith) (omega arith)))
-    ]
-      where
-        by : (o : Option LwpData) → b from ≡ o → from ≢ k → listing a (from + 1) count ≡ with_row new (listing b (from + 1) count) → cons_option o (listing a (from + 1) count) ≡ with_row new (cons_option o (listing b (from + 1) count))
-        by None is off rest = rest
-        by (Some x) is off rest = let differs : nat_eq x.tid new.tid ≡ false = test_apart x.tid new.tid (λ same. other from x off is (same ∙ tids)) in rw differs (ap (λ xs. x ∷ xs) rest)
+pub listing-mapped : (h : LwpData → LwpData) (a b : ℕ → Option LwpData) → ((k : ℕ) → a k ≡ option_map h (b k)) → (from count : ℕ) → listing a from count ≡ map h (listing b from count)
+listing-mapped h a b same from zero = refl
+listing-mapped h a b same from (suc count) = rw (same from) (by (b from) (listing-mapped h a b same (from + 1) count))
+  where
+    by : (o : Option LwpData) → listing a (from + 1) count ≡ map h (listing b (from + 1) count) → cons_option (option_map h o) (listing a (from + 1) count) ≡ map h (cons_option o (listing b (from + 1) count))
+    by None rest = rest
+    by (Some x) rest = ap (λ xs. h x ∷ xs) rest
 
 module _ (b : ℕ → Option LwpData) (test : LwpData → Bool) where
   pub first-none : (from count : ℕ) → ((j : ℕ) (x : LwpData) → from ≤ j → b j ≡ Some x → test x ≡ false) → find test (listing b from count) ≡ None
