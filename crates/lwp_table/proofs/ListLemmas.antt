@@ -120,32 +120,6 @@ module _ (b : ℕ → Option LwpData) (test : LwpData → Bool) where
       by None is before rest = rest
       by (Some x) is before rest = rw (off from x (omega arith) before is) rest
 
-module _ (b : ℕ → Option LwpData) where
-  -- no birth number from here on finds a row
-  pub listing-empty : (from count : ℕ) → ((j : ℕ) (x : LwpData) → from ≤ j → b j ≡ Some x → ⊥) → listing b from count ≡ []
-  listing-empty from zero none = refl
-  listing-empty from (suc count) none = by (b from) refl (listing-empty (from + 1) count (λ j x least is. none j x (omega arith) is))
-    where
-      by : (o : Option LwpData) → b from ≡ o → listing b (from + 1) count ≡ [] → cons_option o (listing b (from + 1) count) ≡ []
-      by None is rest = rest
-      by (Some x) is rest = absurd (none from x (omega arith) is)
-
-  -- the first birth number from here on that finds a row
-  pub listing-skip : (k : ℕ) (row : LwpData) → b k ≡ Some row → (from count : ℕ) → from ≤ k → k < from + count → ((j : ℕ) (x : LwpData) → from ≤ j → j < k → b j ≡ Some x → ⊥) → listing b from count ≡ row ∷ listing b (k + 1) (from + count - (k + 1))
-  listing-skip k row at from zero least less none = absurd (omega arith)
-  listing-skip k row at from (suc count) least less none = elim (cases_eq from k) [
-    | inl here ↦
-        let left : from + suc count - (k + 1) ≡ count = omega arith in
-        rw (left, ← here) (ap (λ o. cons_option o (listing b (from + 1) count)) (ap b here ∙ at))
-    | inr off ↦
-        let left : from + suc count - (k + 1) ≡ from + 1 + count - (k + 1) = omega arith in
-        rw left (by (b from) refl (omega (arith, off)) (listing-skip k row at (from + 1) count (omega (arith, off)) (omega arith) (λ j x least less is. none j x (omega arith) less is)))
-  ]
-    where
-      by : (o : Option LwpData) → b from ≡ o → from < k → listing b (from + 1) count ≡ row ∷ listing b (k + 1) (from + 1 + count - (k + 1)) → cons_option o (listing b (from + 1) count) ≡ row ∷ listing b (k + 1) (from + 1 + count - (k + 1))
-      by None is before rest = rest
-      by (Some x) is before rest = absurd (none from x (omega arith) before is)
-
 module _ (b : ℕ → Option LwpData) (p : LwpData → Bool) where
   -- rows that fail the test are passed over
   pub filter-skip : (k from count : ℕ) → from ≤ k → k ≤ from + count → ((j : ℕ) (x : LwpData) → from ≤ j → j < k → b j ≡ Some x → p x ≡ false) → filter p (listing b from count) ≡ filter p (listing b k (from + count - k))
