@@ -1,8 +1,8 @@
 -- From slots with birth numbers to the rows in order of birth, and what a change of one slot does.
-use Rattle.std.proofs.Common.{◌≡◌, ◌≢◌, ℕ, suc, ◌+◌, Bool, true, false, not, List, [], ◌∷◌, ◌++◌, Option, Some, None, refl, sym, ap, ◌∙◌, arith, inl, inr, cond, nat_eq}
+use Rattle.std.proofs.Common.{◌≡◌, ◌≢◌, ℕ, suc, ◌+◌, Bool, true, false, not, List, [], ◌∷◌, ◌++◌, Option, Some, None, IsSome, refl, sym, ap, ◌∙◌, arith, inl, inr, cond, nat_eq}
 use Rattle.std.specs.List.{cons_option}
 use Rattle.std.specs.Map.{lookup}
-use Rattle.std.specs.Option.{option_map}
+use Rattle.std.specs.Option.{option_map, IsSomeAnd}
 use Rattle.std.proofs.lemmas.Bool.{cases_eq}
 use Rattle.std.proofs.lemmas.Bool.Decides.{nat_tests}
 use Rattle.std.proofs.lemmas.Option.{same_Some, some_pair_parts}
@@ -12,6 +12,19 @@ use Rattle.lwp_table.specs.Lwps.{lwp_of, put_lwp, with_lwp, without_lwp, Differ}
 use Rattle.lwp_table.specs.Kept.{if_born, born_row, listing, rows_of, IsIndexed}
 use Rattle.lwp_table.proofs.WordLemmas.{test_same, test_apart}
 use Rattle.lwp_table.proofs.ListLemmas.{AreNumbered, differ-listing, listing-end, listing-same, lwp_of-none, lwp_of-listing, listing-kept, listing-mapped}
+
+pub some_and : {X : Type 0} (P : X → Type 0) (o : Option X) → IsSomeAnd o P → (x : X) × (o ≡ Some x) × P x
+some_and P None h = absurd h
+some_and P (Some x) h = (x, refl, h)
+
+pub some_of : {X : Type 0} (o : Option X) → IsSome o → (x : X) × (o ≡ Some x)
+some_of None h = absurd (cc)
+some_of (Some x) h = (x, refl)
+
+-- the slot that a mapped one comes from
+pub came : {X : Type 0} (h : Slot → X) (o : Option Slot) (x : X) → option_map h o ≡ Some x → (slot : Slot) × (o ≡ Some slot) × (h slot ≡ x)
+came h None x is = absurd (cc)
+came h (Some slot) x is = (slot, refl, same_Some (h slot) x is)
 
 -- what rows are listed by: the birth number and the row
 abbrev pub face : Slot → ℕ × LwpData

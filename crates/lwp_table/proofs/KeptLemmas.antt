@@ -1,7 +1,7 @@
 -- What a table keeps after each change, and the rows that it then has.
 use Rattle.std.proofs.Common.{◌≡◌, ◌≢◌, ℕ, ◌+◌, ◌-◌, ◌<◌, ◌≤◌, Bool, true, false, List, [], ◌∷◌, ◌++◌, Option, Some, None, IsSome, IfSome, is_some, refl, sym, ap, subst, ◌∙◌, arith, inl, inr, cond, nat_eq, is_none, length, count_by, get_or, set, unwrap_or, replicate}
 use Rattle.std.specs.Map.{lookup}
-use Rattle.std.specs.Option.{option_map, option_or, IsSomeAnd}
+use Rattle.std.specs.Option.{option_map, option_or}
 use Rattle.std.proofs.lemmas.Bool.{cases_eq}
 use Rattle.std.proofs.lemmas.Option.{same_Some}
 use Rattle.std.proofs.lemmas.List.{get_or-replicate, length-map}
@@ -9,28 +9,15 @@ use Rattle.lwp_table.specs.declared.LwpData.{LwpData}
 use Rattle.lwp_table.specs.declared.links.Slot.{Slot}
 use Rattle.lwp_table.specs.declared.links.Ends.{Ends}
 use Rattle.lwp_table.specs.declared.links.Link.TheVariants.{NextOwn, NextAll}
-use Rattle.lwp_table.specs.Lwps.{lwp_of, put_lwp, with_lwp, without_lwp, first_lwp, next_lwp, Differ}
+use Rattle.lwp_table.specs.Lwps.{lwp_of, put_lwp, with_lwp, without_lwp, Differ}
 use Rattle.lwp_table.specs.Chain.{Node, IsNearest, IsChain, AreApart, up, down, anywhere, above, below, leads_to, joined, bridged}
-use Rattle.lwp_table.specs.Kept.{own_node, own_nodes, all_node, all_nodes, is_of, is_at, place_of, linked, closed_up, ends_at, no_ends, born_row, listing, rows_of, IsIndexed, IsKept}
-use Rattle.lwp_table.proofs.WordLemmas.{test_same, test_apart, rows_after, next_lwp-after}
+use Rattle.lwp_table.specs.Kept.{own_node, own_nodes, all_node, all_nodes, is_of, is_at, place_of, linked, closed_up, ends_at, no_ends, born_row, rows_of, IsIndexed, IsKept}
+use Rattle.lwp_table.proofs.WordLemmas.{test_same, test_apart}
 use Rattle.lwp_table.proofs.ChainLemmas.{IsChain-joined, IsChain-joined_other, IsChain-left, IsChain-left_other}
-use Rattle.lwp_table.proofs.ListLemmas.{first-none, first-found, rows_after-listing}
 use Rattle.lwp_table.proofs.Numbered.{count-without, count-put}
+use Rattle.lwp_table.proofs.WalkLemmas.{first-is_none}
 use Rattle.lwp_table.proofs.CountLemmas.{one, count-end, count-below, count-none, length-end, length-without, length-listing, at_yes, at_no, users_set}
-use Rattle.lwp_table.proofs.IndexLemmas.{differ, face, born_in, born_of, numbered, lwp_of-slot, no_slot, IsIndexed-added, rows_of-added, IsIndexed-removed, rows_of-removed, IsIndexed-set, rows_of-set}
-
-pub some_and : {X : Type 0} (P : X → Type 0) (o : Option X) → IsSomeAnd o P → (x : X) × (o ≡ Some x) × P x
-some_and P None h = absurd h
-some_and P (Some x) h = (x, refl, h)
-
-pub some_of : {X : Type 0} (o : Option X) → IsSome o → (x : X) × (o ≡ Some x)
-some_of None h = absurd (cc)
-some_of (Some x) h = (x, refl)
-
--- the slot that a mapped one comes from
-pub came : {X : Type 0} (h : Slot → X) (o : Option Slot) (x : X) → option_map h o ≡ Some x → (slot : Slot) × (o ≡ Some slot) × (h slot ≡ x)
-came h None x is = absurd (cc)
-came h (Some slot) x is = (slot, refl, same_Some (h slot) x is)
+use Rattle.lwp_table.proofs.IndexLemmas.{came, differ, face, lwp_of-slot, no_slot, IsIndexed-added, rows_of-added, IsIndexed-removed, rows_of-removed, IsIndexed-set, rows_of-set}
 
 -- a change of slots as their faces or nodes show it
 pub shown : {X : Type 0} (h : Slot → X) (k : X → X) (l : Slot → Slot) → ((slot : Slot) → h (l slot) ≡ k (h slot)) → (o : Option Slot) → option_map h (option_map l o) ≡ option_map k (option_map h o)
@@ -67,41 +54,6 @@ all_apart f apart i j a b there_a there_b same =
     let x = came all_node (f i) a there_a in
     let y = came all_node (f j) b there_b in
     apart i j x.0 y.0 x.1 y.1 (ap (λ n. n.key) x.2 ∙ same ∙ sym (ap (λ n. n.key) y.2))
-
--- a nearest link is the answer of a walk over the list
-module _ (f : ℕ → Option Slot) (es : List (ℕ × ℕ)) (births : ℕ) (indexed : IsIndexed f es births) (pid : ℕ) (P : ℕ → Type 0) (from : ℕ) (later : (k : ℕ) → from ≤ k → P k) where
-  pub walk-none : (count : ℕ) → IsNearest up (own_nodes f) pid P None → first_lwp pid (listing (born_row f es) from count) ≡ None
-  walk-none count none = first-none (born_row f es) (is_of pid) from count (λ j x least is.
-      let a = born_in f es j x is in
-      test_apart x.pid pid (λ same. none a.0 (own_node a.1) (ap (option_map own_node) a.2) (ap (λ (r : LwpData). r.pid) a.4 ∙ same) (subst P (sym a.3) (later j least))))
-
-  pub walk-some : (s : ℕ) (slot : Slot) → f s ≡ Some slot → ((k : ℕ) → P k → from ≤ k) → (count : ℕ) → births ≤ from + count → IsNearest up (own_nodes f) pid P (Some s) → first_lwp pid (listing (born_row f es) from count) ≡ Some slot.row
-  walk-some s slot there earlier count all near =
-      let node : near.0 ≡ own_node slot = same_Some near.0 (own_node slot) (sym near.1 ∙ ap (option_map own_node) there) in
-      let key : near.0.key ≡ slot.born = ap (λ n. n.key) node in
-      let list : slot.row.pid ≡ pid = sym (ap (λ n. n.list) node) ∙ near.2 in
-      let its : from ≤ slot.born = earlier slot.born (subst P key near.3) in
-      first-found (born_row f es) (is_of pid) slot.born slot.row (born_of f es births indexed s slot there) (ap (λ n. nat_eq n pid) list ∙ test_same pid) from count its (omega (arith, all, indexed.earlier s slot there))
-      (λ j x least less is.
-      let a = born_in f es j x is in
-      test_apart x.pid pid (λ same. omega (arith, less, key, near.4 a.0 (own_node a.1) (ap (option_map own_node) a.2) (ap (λ (r : LwpData). r.pid) a.4 ∙ same) (subst P (sym a.3) (later j least)), a.3)))
-
-module _ (f : ℕ → Option Slot) (es : List (ℕ × ℕ)) (births : ℕ) (indexed : IsIndexed f es births) where
-  pub first-is_none : (pid : ℕ) → IsNearest up (own_nodes f) pid anywhere None → first_lwp pid (rows_of f es births) ≡ None
-  first-is_none pid near = walk-none f es births indexed pid anywhere 0 (λ k least. tt) births near
-
-  pub first-is_some : (pid s : ℕ) (slot : Slot) → f s ≡ Some slot → IsNearest up (own_nodes f) pid anywhere (Some s) → first_lwp pid (rows_of f es births) ≡ Some slot.row
-  first-is_some pid s slot there near = walk-some f es births indexed pid anywhere 0 (λ k least. tt) s slot there (λ k p. omega arith) births (omega arith) near
-
-  -- the rows after a slot's
-  after_slot : (at : ℕ) (was : Slot) → f at ≡ Some was → rows_after was.row.tid (rows_of f es births) ≡ listing (born_row f es) (was.born + 1) (0 + births - (was.born + 1))
-  after_slot at was there = rows_after-listing (born_row f es) (numbered f es births indexed) was.born was.row (born_of f es births indexed at was there) 0 births (omega arith) (omega (arith, indexed.earlier at was there))
-
-  pub next-is_none : (pid at : ℕ) (was : Slot) → f at ≡ Some was → IsNearest up (own_nodes f) pid (above was.born) None → next_lwp pid was.row.tid (rows_of f es births) ≡ None
-  next-is_none pid at was there near = next_lwp-after pid was.row.tid (rows_of f es births) ∙ ap (first_lwp pid) (after_slot at was there) ∙ walk-none f es births indexed pid (above was.born) (was.born + 1) (λ k least. omega (arith, least)) (0 + births - (was.born + 1)) near
-
-  pub next-is_some : (pid at s : ℕ) (was slot : Slot) → f at ≡ Some was → f s ≡ Some slot → IsNearest up (own_nodes f) pid (above was.born) (Some s) → next_lwp pid was.row.tid (rows_of f es births) ≡ Some slot.row
-  next-is_some pid at s was slot there_was there near = next_lwp-after pid was.row.tid (rows_of f es births) ∙ ap (first_lwp pid) (after_slot at was there_was) ∙ walk-some f es births indexed pid (above was.born) (was.born + 1) (λ k least. omega (arith, least)) s slot there (λ k p. omega (arith, p)) (0 + births - (was.born + 1)) (omega arith) near
 
 -- a list with no first node has no last one
 pub no_last : (f : ℕ → Option Node) (t : ℕ) (o : Option ℕ) → IsNearest down f t anywhere o → IsNearest up f t anywhere None → o ≡ None

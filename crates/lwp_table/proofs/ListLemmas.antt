@@ -1,6 +1,6 @@
 -- The list of what rising birth numbers find.
 use Rattle.std.proofs.Common.{◌≡◌, ◌≢◌, ℕ, zero, suc, ◌+◌, ◌-◌, ◌<◌, ◌≤◌, Bool, true, false, List, [], ◌∷◌, ◌++◌, Option, Some, None, refl, sym, ap, ◌∙◌, arith, inl, inr, cond, nat_eq, add-zero, filter, map}
-use Rattle.std.specs.List.{cons_option, find}
+use Rattle.std.specs.List.{cons_option}
 use Rattle.std.specs.Option.{option_map}
 use Rattle.std.proofs.lemmas.Bool.{cases_eq, cases_Bool}
 use Rattle.lwp_table.specs.declared.LwpData.{LwpData}
@@ -99,26 +99,6 @@ listing-mapped h a b same from (suc count) = rw (same from) (by (b from) (listin
     by : (o : Option LwpData) → listing a (from + 1) count ≡ map h (listing b (from + 1) count) → cons_option (option_map h o) (listing a (from + 1) count) ≡ map h (cons_option o (listing b (from + 1) count))
     by None rest = rest
     by (Some x) rest = ap (λ xs. h x ∷ xs) rest
-
-module _ (b : ℕ → Option LwpData) (test : LwpData → Bool) where
-  pub first-none : (from count : ℕ) → ((j : ℕ) (x : LwpData) → from ≤ j → b j ≡ Some x → test x ≡ false) → find test (listing b from count) ≡ None
-  first-none from zero off = refl
-  first-none from (suc count) off = by (b from) refl (first-none (from + 1) count (λ j x least is. off j x (omega arith) is))
-    where
-      by : (o : Option LwpData) → b from ≡ o → find test (listing b (from + 1) count) ≡ None → find test (cons_option o (listing b (from + 1) count)) ≡ None
-      by None is rest = rest
-      by (Some x) is rest = rw (off from x (omega arith) is) rest
-
-  pub first-found : (k : ℕ) (row : LwpData) → b k ≡ Some row → test row ≡ true → (from count : ℕ) → from ≤ k → k < from + count → ((j : ℕ) (x : LwpData) → from ≤ j → j < k → b j ≡ Some x → test x ≡ false) → find test (listing b from count) ≡ Some row
-  first-found k row at passes from zero least less off = absurd (omega arith)
-  first-found k row at passes from (suc count) least less off = elim (cases_eq from k) [
-    | inl here ↦ ap (λ o. find test (cons_option o (listing b (from + 1) count))) (ap b here ∙ at) ∙ ap (λ c. cond c (Some row) (find test (listing b (from + 1) count))) passes
-    | inr apart ↦ by (b from) refl (omega (arith, apart)) (first-found k row at passes (from + 1) count (omega (arith, apart)) (omega arith) (λ j x least less is. off j x (omega arith) less is))
-  ]
-    where
-      by : (o : Option LwpData) → b from ≡ o → from < k → find test (listing b (from + 1) count) ≡ Some row → find test (cons_option o (listing b (from + 1) count)) ≡ Some row
-      by None is before rest = rest
-      by (Some x) is before rest = rw (off from x (omega arith) before is) rest
 
 module _ (b : ℕ → Option LwpData) (p : LwpData → Bool) where
   -- rows that fail the test are passed over

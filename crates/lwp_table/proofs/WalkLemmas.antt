@@ -8,14 +8,23 @@ use Rattle.lwp_table.specs.declared.LwpData.{LwpData}
 use Rattle.lwp_table.specs.declared.links.Slot.{Slot}
 use Rattle.lwp_table.specs.Chain.{Node, IsNearest, IsChain, up, anywhere, above}
 use Rattle.lwp_table.specs.Kept.{own_node, own_nodes, all_node, all_nodes, is_of, born_row, listing, rows_of, IsIndexed, from_slot, rows_from, IsWalk}
-use Rattle.lwp_table.proofs.WordLemmas.{test_same}
-use Rattle.lwp_table.proofs.ListLemmas.{filter-skip, filter-first}
-use Rattle.lwp_table.proofs.IndexLemmas.{born_in, born_of}
-use Rattle.lwp_table.proofs.KeptLemmas.{some_and, came}
+use Rattle.std.specs.List.{find}
+use Rattle.lwp_table.specs.Lwps.{first_lwp, next_lwp}
+use Rattle.lwp_table.proofs.WordLemmas.{test_same, next_lwp-after}
+use Rattle.lwp_table.proofs.ListLemmas.{rows_after-listing, filter-skip, filter-first}
+use Rattle.lwp_table.proofs.IndexLemmas.{some_and, came, numbered, born_in, born_of}
 
 filter-true : (xs : List LwpData) → filter (λ x. true) xs ≡ xs
 filter-true [] = refl
 filter-true (x ∷ xs) = ap (λ ys. x ∷ ys) (filter-true xs)
+
+abbrev head : List LwpData → Option LwpData
+head [] = None
+head (x ∷ xs) = Some x
+
+find-head : (p : LwpData → Bool) (xs : List LwpData) → find p xs ≡ head (filter p xs)
+find-head p [] = refl
+find-head p (x ∷ xs) = elim (cases_Bool (p x)) [ inl e ↦ rw e refl | inr e ↦ rw e (find-head p xs) ]
 
 -- a walk along a list, whose rows are those that pass a test
 module _ (f : ℕ → Option Slot) (es : List (ℕ × ℕ)) (births : ℕ) (indexed : IsIndexed f es births) (node : Slot → Node) (list : ℕ) (p : LwpData → Bool)
@@ -51,13 +60,20 @@ module _ (f : ℕ → Option Slot) (es : List (ℕ × ℕ)) (births : ℕ) (inde
       let all : births ≡ births - 0 = omega arith in
       ap (λ n. filter p (listing (born_row f es) 0 n)) all ∙ nearest anywhere 0 (λ k least. tt) (λ k p. omega arith) o near (omega arith)
 
-  -- a step of the walk
-  walk-step : (s : ℕ) (slot : Slot) (next : Option ℕ) → f s ≡ Some slot → (node slot).list ≡ list → IsNearest up (λ j. option_map node (f j)) list (above slot.born) next
-      → filter p (rows_from f es births (Some s)) ≡ slot.row ∷ filter p (rows_from f es births next)
-  walk-step s slot next there on near =
+  -- the row at which the walk stands
+  walk-here : (s : ℕ) (slot : Slot) → f s ≡ Some slot → (node slot).list ≡ list → filter p (rows_from f es births (Some s)) ≡ slot.row ∷ filter p (listing (born_row f es) (slot.born + 1) (births - (slot.born + 1)))
+  walk-here s slot there on =
       ap (λ o. filter p (from_slot f es births o)) there
       ∙ filter-first (born_row f es) p slot.born births slot.row (born_of f es births indexed s slot there) (passes slot on) (indexed.earlier s slot there)
-      ∙ ap (λ xs. slot.row ∷ xs) (nearest (above slot.born) (slot.born + 1) (λ k least. omega (arith, least)) (λ k p. omega (arith, p)) next near (omega (arith, indexed.earlier s slot there)))
+
+  -- a step of the walk
+  walk-next : (s : ℕ) (slot : Slot) (next : Option ℕ) → f s ≡ Some slot → IsNearest up (λ j. option_map node (f j)) list (above slot.born) next
+      → filter p (listing (born_row f es) (slot.born + 1) (births - (slot.born + 1))) ≡ filter p (rows_from f es births next)
+  walk-next s slot next there near = nearest (above slot.born) (slot.born + 1) (λ k least. omega (arith, least)) (λ k p. omega (arith, p)) next near (omega (arith, indexed.earlier s slot there))
+
+  walk-step : (s : ℕ) (slot : Slot) (next : Option ℕ) → f s ≡ Some slot → (node slot).list ≡ list → IsNearest up (λ j. option_map node (f j)) list (above slot.born) next
+      → filter p (rows_from f es births (Some s)) ≡ slot.row ∷ filter p (rows_from f es births next)
+  walk-step s slot next there on near = walk-here s slot there on ∙ ap (λ xs. slot.row ∷ xs) (walk-next s slot next there near)
 
 -- over all rows, and over those of a process
 module _ (f : ℕ → Option Slot) (es : List (ℕ × ℕ)) (births : ℕ) (indexed : IsIndexed f es births) where
@@ -73,11 +89,44 @@ module _ (f : ℕ → Option Slot) (es : List (ℕ × ℕ)) (births : ℕ) (inde
     of_pid : (slot : Slot) → is_of pid slot.row ≡ true → slot.row.pid ≡ pid
     of_pid slot its = grind (arith, nat_tests, its)
 
+    of_own : (slot : Slot) → slot.row.pid ≡ pid → is_of pid slot.row ≡ true
+    of_own slot on = ap (λ n. nat_eq n pid) on ∙ test_same pid
+
     pub left-first : (o : Option ℕ) → IsNearest up (own_nodes f) pid anywhere o → filter (is_of pid) (rows_of f es births) ≡ filter (is_of pid) (rows_from f es births o)
-    left-first o near = walk-first f es births indexed own_node pid (is_of pid) (λ slot. refl) (λ slot on. ap (λ n. nat_eq n pid) on ∙ test_same pid) of_pid o near
+    left-first o near = walk-first f es births indexed own_node pid (is_of pid) (λ slot. refl) of_own of_pid o near
 
     pub left-step : (s : ℕ) (slot : Slot) → f s ≡ Some slot → slot.row.pid ≡ pid → IsNearest up (own_nodes f) pid (above slot.born) slot.own.next → filter (is_of pid) (rows_from f es births (Some s)) ≡ slot.row ∷ filter (is_of pid) (rows_from f es births slot.own.next)
-    left-step s slot there on near = walk-step f es births indexed own_node pid (is_of pid) (λ slot. refl) (λ slot on. ap (λ n. nat_eq n pid) on ∙ test_same pid) of_pid s slot slot.own.next there on near
+    left-step s slot there on near = walk-step f es births indexed own_node pid (is_of pid) (λ slot. refl) of_own of_pid s slot slot.own.next there on near
+
+    -- the first row that a link leads to
+    found : (xs : List LwpData) (s : ℕ) (slot : Slot) (P : ℕ → Type 0) → f s ≡ Some slot → IsNearest up (own_nodes f) pid P (Some s) → filter (is_of pid) xs ≡ filter (is_of pid) (rows_from f es births (Some s))
+        → first_lwp pid xs ≡ Some slot.row
+    found xs s slot P there near same =
+        let on : slot.row.pid ≡ pid = sym (ap (λ n. n.list) (same_Some near.0 (own_node slot) (sym near.1 ∙ ap (option_map own_node) there))) ∙ near.2 in
+        find-head (is_of pid) xs ∙ ap head (same ∙ walk-here f es births indexed own_node pid (is_of pid) (λ slot. refl) of_own of_pid s slot there on)
+
+    pub first-is_none : IsNearest up (own_nodes f) pid anywhere None → first_lwp pid (rows_of f es births) ≡ None
+    first-is_none near = find-head (is_of pid) (rows_of f es births) ∙ ap head (left-first None near)
+
+    pub first-is_some : (s : ℕ) (slot : Slot) → f s ≡ Some slot → IsNearest up (own_nodes f) pid anywhere (Some s) → first_lwp pid (rows_of f es births) ≡ Some slot.row
+    first-is_some s slot there near = found (rows_of f es births) s slot anywhere there near (left-first (Some s) near)
+
+    -- the rows after a slot's
+    after_slot : (at : ℕ) (was : Slot) → f at ≡ Some was → next_lwp pid was.row.tid (rows_of f es births) ≡ first_lwp pid (listing (born_row f es) (was.born + 1) (births - (was.born + 1)))
+    after_slot at was there =
+        let all : 0 + births - (was.born + 1) ≡ births - (was.born + 1) = omega arith in
+        next_lwp-after pid was.row.tid (rows_of f es births) ∙ ap (first_lwp pid) (rows_after-listing (born_row f es) (numbered f es births indexed) was.born was.row (born_of f es births indexed at was there) 0 births (omega arith) (omega (arith, indexed.earlier at was there))
+        ∙ ap (listing (born_row f es) (was.born + 1)) all)
+
+    later : (at : ℕ) (was : Slot) (next : Option ℕ) → f at ≡ Some was → IsNearest up (own_nodes f) pid (above was.born) next
+        → filter (is_of pid) (listing (born_row f es) (was.born + 1) (births - (was.born + 1))) ≡ filter (is_of pid) (rows_from f es births next)
+    later at was next there near = walk-next f es births indexed own_node pid (is_of pid) (λ slot. refl) of_own of_pid at was next there near
+
+    pub next-is_none : (at : ℕ) (was : Slot) → f at ≡ Some was → IsNearest up (own_nodes f) pid (above was.born) None → next_lwp pid was.row.tid (rows_of f es births) ≡ None
+    next-is_none at was there near = after_slot at was there ∙ find-head (is_of pid) _ ∙ ap head (later at was None there near)
+
+    pub next-is_some : (at s : ℕ) (was slot : Slot) → f at ≡ Some was → f s ≡ Some slot → IsNearest up (own_nodes f) pid (above was.born) (Some s) → next_lwp pid was.row.tid (rows_of f es births) ≡ Some slot.row
+    next-is_some at s was slot there_was there near = after_slot at was there_was ∙ found _ s slot (above was.born) there near (later at was (Some s) there_was near)
 
 -- a link leads to a slot of its list
 walk_there : (f : ℕ → Option Slot) (node : Slot → Node) (list : ℕ) (P : ℕ → Type 0) (o : Option ℕ) → IsNearest up (λ j. option_map node (f j)) list P o → IfSome o (λ s. IsSomeAnd (f s) (λ slot. (node slot).list ≡ list))

@@ -4,8 +4,8 @@ use Rattle.slab.specs.Slab.{get as slot_get}
 use Rattle.lwp_table.specs.declared.links.Ends.{Ends}
 use Rattle.lwp_table.specs.Lwps.{lwp_of, without_lwp}
 use Rattle.lwp_table.specs.Kept.{place_of, rows_of, ends_at}
-use Rattle.lwp_table.proofs.IndexLemmas.{slot_for, lwp_of-found}
-use Rattle.lwp_table.proofs.KeptLemmas.{some_of, own_prev, own_next, all_prev, all_next, own_positive, user_positive, left_empty, IsKept-removed, rows-removed}
+use Rattle.lwp_table.proofs.IndexLemmas.{some_of, slot_for, lwp_of-found}
+use Rattle.lwp_table.proofs.KeptLemmas.{own_prev, own_next, all_prev, all_next, own_positive, user_positive, left_empty, IsKept-removed, rows-removed}
 use Rattle.lwp_table.proofs.table.LwpTable.remove.Goals as goal
 
 pub unwrap-slot-requires : goal.unwrap-slot-requires

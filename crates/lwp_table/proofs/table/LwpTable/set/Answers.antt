@@ -5,8 +5,8 @@ use Rattle.slab.proofs.SlabLemmas.{Updates-with_value}
 use Rattle.lwp_table.specs.declared.links.Slot.{Slot}
 use Rattle.lwp_table.specs.Lwps.{lwp_of}
 use Rattle.lwp_table.specs.Kept.{rows_of}
-use Rattle.lwp_table.proofs.IndexLemmas.{slot_for, lwp_of-found}
-use Rattle.lwp_table.proofs.KeptLemmas.{some_and, IsKept-set, rows-set}
+use Rattle.lwp_table.proofs.IndexLemmas.{some_and, slot_for, lwp_of-found}
+use Rattle.lwp_table.proofs.KeptLemmas.{IsKept-set, rows-set}
 use Rattle.lwp_table.proofs.table.LwpTable.set.Goals as goal
 
 pub index-slot-requires : goal.index-slot-requires
