@@ -29,7 +29,7 @@ const REQUESTS: [Request; 20] = [
     Request::SetEventMask,
     Request::SetEventMask,
     Request::GetEventMask,
-    Request::GetLwpInfo,
+    Request::LwpInfo,
     Request::GetNumLwps,
     Request::GetLwpList,
     Request::ToSce,
@@ -246,7 +246,7 @@ impl Writer {
     }
 
     fn ask(&mut self, caller: u32, request: Request, target: u32) -> PlainStep {
-        let arg = match request {
+        let data = match request {
             Request::SetEventMask | Request::GetLwpList => self.dice.below(64),
             Request::FollowFork | Request::LwpEvents => self.dice.below(3),
             _ => self.passed(),
@@ -255,7 +255,7 @@ impl Writer {
             caller,
             request,
             target,
-            arg,
+            data,
         }
     }
 

@@ -9,12 +9,12 @@ use std::test::Fail;
 use stop_handlers::{ByPolicy, Decision, Handler, Policy, Rule};
 use wait4::Options;
 
-fn ptrace(caller: u32, request: Request, target: u32, arg: u32) -> PlainStep {
+fn ptrace(caller: u32, request: Request, target: u32, data: u32) -> PlainStep {
     PlainStep::Ptrace {
         caller,
         request,
         target,
-        arg,
+        data,
     }
 }
 
@@ -248,7 +248,7 @@ fn rules(rt: HostRuntime) -> Result<(), Fail> {
         &rt,
         &[(
             "\"install\",\"caller\":1000,\"rules\":[{\"decision\":\"detach\",\"pass\":31,\"flags\":[\"PL_FLAG_CHILD\",\"PL_FLAG_FORKED\"]},{\"signal\":9,\"decision\":\"kill\"}]",
-            PlainStep::Install { caller, policy },
+            PlainStep::Install { caller, handler: policy },
         )],
     )
 }
