@@ -4,7 +4,7 @@ use Rattle.pid_blocks.specs.declared.Errno.TheVariants as errno
 use Rattle.proc_table.specs.declared.ProcData.{ProcData}
 use Rattle.proc_table.specs.Processes.{is_live, is_run}
 use Rattle.proc_table.specs.Seen.{seen_process}
-use Rattle.requests.specs.declared.PlainStep.{PlainStep}
+use Rattle.requests.specs.Plain.{PlainStep}
 use Rattle.requests.specs.declared.Reply.{Reply}
 use Rattle.requests.specs.declared.Reply.TheVariants as reply
 use Rattle.requests.specs.Outcome.{answers}
@@ -14,7 +14,7 @@ use Rattle.requests.specs.Callers.{IsCaller, Calls, Barred}
 use Rattle.proc_table.specs.Rows.{Rows}
 use Rattle.proc_table.specs.Processes.{process_of}
 use Rattle.proc_table.specs.Kept.{Rise}
-use Rattle.trace_stop.specs.Laws.{is_live_at}
+use Rattle.trace_stop.specs.Sound.{is_live_at}
 use Rattle.trace_stop.proofs.Every.{and_right, find_some}
 use Rattle.requests.proofs.Living.{live_found, run_live}
 use Rattle.requests.proofs.Replies.{other}

@@ -232,7 +232,7 @@ impl Writer {
         match self.dice.below(8) {
             0 | 1 => PlainStep::Install {
                 caller: debugger,
-                policy: self.policy(),
+                handler: self.policy(),
             },
             2..=4 => PlainStep::Handle { caller: debugger },
             _ => self.wait(debugger, -1),

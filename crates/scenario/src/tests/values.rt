@@ -55,7 +55,7 @@ fn a_session(rt: HostRuntime) -> Result<(), Fail> {
             1001,
             PlainStep::Install {
                 caller: 1000,
-                policy,
+                handler: policy,
             },
         ),
         (1001, ptrace(1000, Request::Continue, 1001, 0)),
@@ -248,7 +248,10 @@ fn rules(rt: HostRuntime) -> Result<(), Fail> {
         &rt,
         &[(
             "\"install\",\"caller\":1000,\"rules\":[{\"decision\":\"detach\",\"pass\":31,\"flags\":[\"PL_FLAG_CHILD\",\"PL_FLAG_FORKED\"]},{\"signal\":9,\"decision\":\"kill\"}]",
-            PlainStep::Install { caller, handler: policy },
+            PlainStep::Install {
+                caller,
+                handler: policy,
+            },
         )],
     )
 }
