@@ -20,7 +20,11 @@ pub fn policies(alloc: Global, scenario: &Scenario) -> Result<Vec<Policy>, Alloc
 {
     let mut policies = Vec::new(alloc);
     for step in scenario.steps() {
-        if let PlainStep::Install { handler: policy, .. } = step.1 {
+        if let PlainStep::Install {
+            handler: policy,
+            ..
+        } = step.1
+        {
             policies.push(policy)?;
         }
     }
@@ -35,7 +39,11 @@ fn left_after<'a, F: Decider + Send + Drop>(
     ensures some { IfSome result (λ left. handlers.now ≡ policy_before step.now left.now) }
     ensures none { result ≡ None → (others : List (List Rule)) → handlers.now ≢ policy_before step.now others }
 {
-    let PlainStep::Install { handler: policy, .. } = step else {
+    let PlainStep::Install {
+        handler: policy,
+        ..
+    } = step
+    else {
         return Some(handlers);
     };
     let (first, left) = handlers.split_first()?;

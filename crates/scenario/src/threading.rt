@@ -10,7 +10,7 @@ ghost use Rattle.scenario.specs.Scripts.{has_steps, plain_script, scripts_in, to
 ghost use Rattle.scenario.specs.declared.running.RunFault.TheVariants.{Mismatch, Memory, Start};
 
 use crate::binding::bind;
-use crate::plan::Scenario;
+use crate::plan::{Scenario, USERS};
 use crate::running::{RunFault, RunOptions, write_lines};
 use pid_blocks::Uid;
 use requests::{Host, Reply, Step};
@@ -35,7 +35,7 @@ impl Gate for NoGate {
 fn empty_scripts<F: Decider + Send + Drop>(alloc: Global) -> Result<Vec<Script<F>>, AllocError>
     ensures { IfOk result (λ scripts. map plain_script scripts.items ≡ map (λ u. (u, [])) users) }
 {
-    let mut scripts = Vec::with_capacity(alloc, 64)?;
+    let mut scripts = Vec::with_capacity(alloc, USERS)?;
     for number in 1001..1065 {
         if let Ok(uid) = Uid::new(number) {
             let steps = Vec::new(alloc);
