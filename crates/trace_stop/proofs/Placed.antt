@@ -88,7 +88,7 @@ all_above n [] above = refl
 all_above n (p ∷ ps) above = grind (arith, nat_tests, above.0, all_above n ps above.1)
 
 -- a number that no row has splits the rows
-split : (n : ℕ) (ps : List ProcData) → Rise ps → IsFree n ps → filter (λ q. ltb q.pid n) ps ++ filter (λ q. ltb n q.pid) ps ≡ ps
+pub split : (n : ℕ) (ps : List ProcData) → Rise ps → IsFree n ps → filter (λ q. ltb q.pid n) ps ++ filter (λ q. ltb n q.pid) ps ≡ ps
 split n [] rise free = refl
 split n (p ∷ ps) rise free = elim (cases_Bool (ltb p.pid n)) [
   | inl e ↦ grind (arith, nat_tests, e, free, split n ps rise.1)
