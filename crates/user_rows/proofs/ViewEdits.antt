@@ -10,12 +10,12 @@ use Rattle.lwp_table.specs.declared.LwpData.{LwpData}
 use Rattle.proc_table.specs.Processes.{is_live, process_of, placed}
 use Rattle.proc_table.specs.Rows.{Rows, owner, by_owner, each, change, edit_processes, edit_lwps, change_process, change_lwp, remove_lwp}
 use Rattle.proc_table.specs.Fresh.{is_process, add_process, add_lwp}
-use Rattle.user_rows.specs.Closed.{GoodProc, GoodLwp, LiveRow, InLive}
+use Rattle.user_rows.specs.Closed.{GoodProc, GoodLwp, LiveRow, LiveOwner}
 use Rattle.trace_stop.proofs.Every.{All-imply, All-append, choose, choose_both}
 use Rattle.trace_stop.proofs.Edited.{edit_none}
 use Rattle.trace_stop.proofs.Passes.{filter_map_same}
 use Rattle.trace_stop.proofs.Placed.{Rise-placed, All-placed, process_of-other}
-use Rattle.user_rows.proofs.ViewLists.{Every-filter, placed-only, placed-other}
+use Rattle.user_rows.proofs.ViewLists.{All-where, placed-only, placed-other}
 use Rattle.user_rows.proofs.ViewSame.{Sim, Kin, KinLwp, own, own_lwp, is_own, not_own, named, process_same, each_same}
 
 -- what a process of u becomes where it isn't gone: a live one stays live
@@ -79,17 +79,17 @@ process_same_after {u} s n here f stays = edit_same s (λ p. Some (if p.pid == n
     kept p good is = stays_if p (f p) (p.pid == n) good (λ e. stays p good is (eqb-true p.pid n e))
 
 -- LWPs alone
-lwps_alone : (g : LwpData → Option LwpData) (rows : Rows) → AllByRecursion (InLive rows.processes) rows.lwps → each (λ p. Some p) (λ p l. g l) rows ≡ edit_lwps g rows
+lwps_alone : (g : LwpData → Option LwpData) (rows : Rows) → AllByRecursion (LiveOwner rows.processes) rows.lwps → each (λ p. Some p) (λ p l. g l) rows ≡ edit_lwps g rows
 lwps_alone g rows housed =
     ap (λ ps. record rows { processes = ps; lwps = filter_map (λ l. by_owner (λ p k. g k) l (owner rows l)) rows.lwps }) (edit_none (λ p. Some p) (λ p. refl) rows.processes)
-    ∙ ap (λ ls. record rows { lwps = ls }) (filter_map_same _ g rows.lwps (All-imply (InLive rows.processes) _ (λ l house. by_row l (owner rows l) house) rows.lwps housed))
+    ∙ ap (λ ls. record rows { lwps = ls }) (filter_map_same _ g rows.lwps (All-imply (LiveOwner rows.processes) _ (λ l house. by_row l (owner rows l) house) rows.lwps housed))
   where
     by_row : (l : LwpData) (o : Option ProcData) → LiveRow o → by_owner (λ p k. g k) l o ≡ g l
     by_row l None no_row = absurd no_row
     by_row l (Some p) live = refl
 
-seen_housed : {u : ℕ} {start c v : Rows} → Sim u start c v → AllByRecursion (InLive v.processes) v.lwps
-seen_housed {u} {start} {c} {v} s = subst (AllByRecursion (InLive v.processes)) s.lwps (Every-filter (own_lwp u) (InLive c.processes) (InLive v.processes) (λ l house is. subst LiveRow (process_same s l.pid (eqb-true (pid_owner l.pid) u is)) house) c.lwps s.kept.closed.housed)
+seen_housed : {u : ℕ} {start c v : Rows} → Sim u start c v → AllByRecursion (LiveOwner v.processes) v.lwps
+seen_housed {u} {start} {c} {v} s = subst (AllByRecursion (LiveOwner v.processes)) s.lwps (All-where (own_lwp u) (LiveOwner c.processes) (LiveOwner v.processes) (λ l house is. subst LiveRow (process_same s l.pid (eqb-true (pid_owner l.pid) u is)) house) c.lwps s.kept.closed.housed)
 
 pub edit_lwps_same : {u : ℕ} {start c v : Rows} → Sim u start c v → (g : LwpData → Option LwpData)
     → ((l : LwpData) → GoodLwp l → KinLwp l (g l))
@@ -143,7 +143,7 @@ process_added_same {u} {start} {c} {v} s p mine good block free = subst (λ w. S
     closed = record {
       processes = All-placed GoodProc p c.processes s.kept.closed.processes good;
       lwps = s.kept.closed.lwps;
-      housed = All-imply (InLive c.processes) (InLive (placed p c.processes)) housed c.lwps s.kept.closed.housed;
+      housed = All-imply (LiveOwner c.processes) (LiveOwner (placed p c.processes)) housed c.lwps s.kept.closed.housed;
       rising = Rise-placed p c.processes s.kept.closed.rising;
       user = user;
       pid_slots = length-set c.pid_cursors (slot u) _ ∙ s.kept.closed.pid_slots;
@@ -170,17 +170,17 @@ process_added_same {u} {start} {c} {v} s p mine good block free = subst (λ w. S
     at : ℕ → Rows → Rows
     at w rows = record rows { processes = placed p rows.processes; pid_cursors = set rows.pid_cursors (slot w) (cursor_after (pid_block w) p.pid) }
 
-    housed : (l : LwpData) → InLive c.processes l → InLive (placed p c.processes) l
+    housed : (l : LwpData) → LiveOwner c.processes l → LiveOwner (placed p c.processes) l
     housed l house = subst LiveRow (sym (process_of-other p c.processes s.kept.closed.rising free l.pid (λ e. subst LiveRow (find_free (λ q. q.pid == l.pid) c.processes (ap (is_process c) e ∙ free)) house))) house
 
 -- a new LWP of u
-pub lwp_added_same : {u : ℕ} {start c v : Rows} → Sim u start c v → (l : LwpData) → pid_owner l.pid ≡ u → GoodLwp l → InLive c.processes l → InBlock (tid_block u) l.tid → Sim u start (add_lwp u l c) (add_lwp u l v)
+pub lwp_added_same : {u : ℕ} {start c v : Rows} → Sim u start c v → (l : LwpData) → pid_owner l.pid ≡ u → GoodLwp l → LiveOwner c.processes l → InBlock (tid_block u) l.tid → Sim u start (add_lwp u l c) (add_lwp u l v)
 lwp_added_same {u} {start} {c} {v} s l mine well house block = record {
   kept = record {
     closed = record {
       processes = s.kept.closed.processes;
       lwps = All-append GoodLwp c.lwps (l ∷ []) s.kept.closed.lwps (well, tt);
-      housed = All-append (InLive c.processes) c.lwps (l ∷ []) s.kept.closed.housed (house, tt);
+      housed = All-append (LiveOwner c.processes) c.lwps (l ∷ []) s.kept.closed.housed (house, tt);
       rising = s.kept.closed.rising;
       user = user;
       pid_slots = s.kept.closed.pid_slots;

@@ -64,12 +64,12 @@ filter-swap p q (x ∷ xs) = grind (arith, filter-swap p q xs)
 
 -- Facts of each element
 
-pub Every-filter : {X : Type 0} (q : X → Bool) (P Q : X → Type 0) → ((x : X) → P x → q x ≡ true → Q x) → (xs : List X) → AllByRecursion P xs → AllByRecursion Q (filter q xs)
-Every-filter q P Q h = every_filter P Q q (λ x is p. h x p is)
+pub All-where : {X : Type 0} (q : X → Bool) (P Q : X → Type 0) → ((x : X) → P x → q x ≡ true → Q x) → (xs : List X) → AllByRecursion P xs → AllByRecursion Q (filter q xs)
+All-where q P Q h = every_filter P Q q (λ x is p. h x p is)
 
-pub Every-map : {X Y : Type 0} (f : X → Y) (P : X → Type 0) (Q : Y → Type 0) → ((x : X) → P x → Q (f x)) → (xs : List X) → AllByRecursion P xs → AllByRecursion Q (map f xs)
-Every-map f P Q h [] e = tt
-Every-map f P Q h (x ∷ xs) e = (h x e.0, Every-map f P Q h xs e.1)
+pub All-map : {X Y : Type 0} (f : X → Y) (P : X → Type 0) (Q : Y → Type 0) → ((x : X) → P x → Q (f x)) → (xs : List X) → AllByRecursion P xs → AllByRecursion Q (map f xs)
+All-map f P Q h [] e = tt
+All-map f P Q h (x ∷ xs) e = (h x e.0, All-map f P Q h xs e.1)
 
 pub every : {X : Type 0} (xs : List X) → AllByRecursion (λ x. Unit {0}) xs
 every [] = tt

@@ -17,7 +17,7 @@ use Rattle.trace_stop.specs.Facts.{IsLiveOf, IsLiveChild, Linked, IfEnded, FitPr
 use Rattle.proc_table.specs.Laws.{only_of}
 use Rattle.trace_stop.specs.declared.Settings.{Settings}
 use Rattle.trace_stop.specs.End.{left_alone, end}
-use Rattle.user_rows.specs.Closed.{GoodProc, GoodLwp, LiveRow, InLive, Closed}
+use Rattle.user_rows.specs.Closed.{GoodProc, GoodLwp, LiveRow, LiveOwner, Closed}
 use Rattle.trace_stop.proofs.Every.{and_left, and_right, choose, All-imply, All-both, any_holds, find_some}
 use Rattle.trace_stop.proofs.Edited.{If_more}
 use Rattle.trace_stop.proofs.Children.{child_lives}
@@ -50,13 +50,13 @@ is_true false true f g = g refl
 is_true false false f g = refl
 
 -- an LWP's process is a row of u where its number is in u's block
-pub owns_block : (u : ℕ) (ps : List ProcData) → AllByRecursion GoodProc ps → (l : LwpData) → InLive ps l → owns u l.pid ps ≡ own_lwp u l
+pub owns_block : (u : ℕ) (ps : List ProcData) → AllByRecursion GoodProc ps → (l : LwpData) → LiveOwner ps l → owns u l.pid ps ≡ own_lwp u l
 owns_block u ps all l house = is_true (owns u l.pid ps) (own_lwp u l) (λ e. eq-eqb (pid_owner l.pid) u (owns_owner u l.pid ps all e)) (λ e.
     at_number ps all l.pid (λ o. LiveRow o → owns u l.pid ps ≡ true) (λ no_row. absurd no_row) (λ p is good here live. find_passes (λ q. q.pid == l.pid) (λ q. (q.pid == l.pid) && (q.uid == u)) ps p is
     (rw (eq-eqb p.pid l.pid here, eq-eqb p.uid u (sym good.block ∙ ap pid_owner here ∙ eqb-true (pid_owner l.pid) u e)) refl)) house)
 
-pub lwps_seen : (w : ℕ) (rows : Rows) → AllByRecursion GoodProc rows.processes → AllByRecursion (InLive rows.processes) rows.lwps → filter (λ l. owns w l.pid rows.processes) rows.lwps ≡ filter (own_lwp w) rows.lwps
-lwps_seen w rows all housed = filter_same (λ l. owns w l.pid rows.processes) (own_lwp w) (InLive rows.processes) (λ l house. owns_block w rows.processes all l house) rows.lwps housed
+pub lwps_seen : (w : ℕ) (rows : Rows) → AllByRecursion GoodProc rows.processes → AllByRecursion (LiveOwner rows.processes) rows.lwps → filter (λ l. owns w l.pid rows.processes) rows.lwps ≡ filter (own_lwp w) rows.lwps
+lwps_seen w rows all housed = filter_same (λ l. owns w l.pid rows.processes) (own_lwp w) (LiveOwner rows.processes) (λ l house. owns_block w rows.processes all l house) rows.lwps housed
 
 -- Sound rows
 
@@ -105,7 +105,7 @@ module _ (rows : Rows) (s : IsSound rows) where
         waits = If_more (IsLiveChild rows h.0.0) (λ c. pid_owner c ≡ pid_owner l.pid) (λ c is. live_owner h.0.0.uid c (child_lives rows h.0.0 c is) ∙ own) (waited_for l.mode) (h.1 h.0.0 h.0.1).waits;
       }
 
-  lives : (l : LwpData) → kept.Housed rows l × WithOwner rows (Standing rows) l → InLive rows.processes l
+  lives : (l : LwpData) → kept.Housed rows l × WithOwner rows (Standing rows) l → LiveOwner rows.processes l
   lives l h = subst LiveRow (sym h.0.1) (h.1 h.0.0 h.0.1).live
 
   placed_lwps : AllByRecursion (λ l. kept.Housed rows l × WithOwner rows (Standing rows) l) rows.lwps
@@ -115,7 +115,7 @@ module _ (rows : Rows) (s : IsSound rows) where
   sound_closed u user = record {
     processes = All-imply (λ p. AtHome p × (Linked rows p × FitProcess p)) GoodProc good_row rows.processes (All-both AtHome _ rows.processes s.stands.homes (All-both (Linked rows) FitProcess rows.processes s.stands.linked s.processes));
     lwps = All-imply _ GoodLwp good_lwp rows.lwps placed_lwps;
-    housed = All-imply _ (InLive rows.processes) lives rows.lwps placed_lwps;
+    housed = All-imply _ (LiveOwner rows.processes) lives rows.lwps placed_lwps;
     rising = s.stands.rising;
     user = user;
     pid_slots = s.stands.pid_slots;

@@ -9,11 +9,11 @@ use Rattle.proc_table.specs.declared.ProcData.{ProcData}
 use Rattle.lwp_table.specs.declared.LwpData.{LwpData}
 use Rattle.proc_table.specs.Processes.{is_live, process_of, of_user}
 use Rattle.proc_table.specs.Rows.{Rows, by_owner, each}
-use Rattle.user_rows.specs.Closed.{GoodProc, GoodLwp, LiveRow, InLive, Closed}
+use Rattle.user_rows.specs.Closed.{GoodProc, GoodLwp, LiveRow, LiveOwner, Closed}
 use Rattle.trace_stop.proofs.Every.{All-both, All-edit}
 use Rattle.trace_stop.proofs.Edited.{If_more}
 use Rattle.trace_stop.proofs.Passes.{filter_map_same}
-use Rattle.user_rows.proofs.ViewLists.{find_only, find_some, filter_only, filter_edit, filter_untouched, find_edit, Every-filter, Rise-edit}
+use Rattle.user_rows.proofs.ViewLists.{find_only, find_some, filter_only, filter_edit, filter_untouched, find_edit, All-where, Rise-edit}
 
 abbrev pub own : ℕ → ProcData → Bool
 own u p = p.uid == u
@@ -139,15 +139,15 @@ module _ {u : ℕ} {start c v : Rows} (s : Sim u start c v) (f : ProcData → Op
   foreign_to : (l : LwpData) → GoodLwp l → pid_owner l.pid ≢ u → to l ≡ Some l
   foreign_to l well ne = at_number c.processes all l.pid (λ o. by_owner g l o ≡ Some l) refl (λ p is good here. k.foreign_lwp p l good well (λ e. ne (sym (ap pid_owner here) ∙ good.block ∙ e)) here)
 
-  live_to : (l : LwpData) → GoodLwp l × InLive c.processes l → IfSome (to l) (InLive after)
-  live_to l h = at_number c.processes all l.pid (λ o. LiveRow o → IfSome (by_owner g l o) (InLive after)) (λ no_row. absurd no_row) at_row h.1
+  live_to : (l : LwpData) → GoodLwp l × LiveOwner c.processes l → IfSome (to l) (LiveOwner after)
+  live_to l h = at_number c.processes all l.pid (λ o. LiveRow o → IfSome (by_owner g l o) (LiveOwner after)) (λ no_row. absurd no_row) at_row h.1
     where
-      still : (p : ProcData) → process_of l.pid c.processes ≡ Some p → GoodProc p → p.pid ≡ l.pid → LiveRow (f p) → IfSome (g p l) (InLive after)
-      still p is good here live = If_more _ (InLive after) (λ m j. subst (λ n. LiveRow (process_of n after)) (sym j.0) (live_after l.pid p is live)) (g p l) (kin_lwp p l good h.0 here)
+      still : (p : ProcData) → process_of l.pid c.processes ≡ Some p → GoodProc p → p.pid ≡ l.pid → LiveRow (f p) → IfSome (g p l) (LiveOwner after)
+      still p is good here live = If_more _ (LiveOwner after) (λ m j. subst (λ n. LiveRow (process_of n after)) (sym j.0) (live_after l.pid p is live)) (g p l) (kin_lwp p l good h.0 here)
 
-      at_row : (p : ProcData) → process_of l.pid c.processes ≡ Some p → GoodProc p → p.pid ≡ l.pid → is_live p ≡ true → IfSome (g p l) (InLive after)
+      at_row : (p : ProcData) → process_of l.pid c.processes ≡ Some p → GoodProc p → p.pid ≡ l.pid → is_live p ≡ true → IfSome (g p l) (LiveOwner after)
       at_row p is good here live = either p.uid u
-          (λ mine. elim (k.live p l good mine live) [ inl on ↦ still p is good here on | inr gone ↦ subst (λ o. IfSome o (InLive after)) (sym gone) tt ])
+          (λ mine. elim (k.live p l good mine live) [ inl on ↦ still p is good here on | inr gone ↦ subst (λ o. IfSome o (LiveOwner after)) (sym gone) tt ])
           (λ ne. still p is good here (subst LiveRow (sym (k.foreign p good ne)) live))
 
   pub each_same : Sim u start (each f g c) (each f g v)
@@ -156,7 +156,7 @@ module _ {u : ℕ} {start c v : Rows} (s : Sim u start c v) (f : ProcData → Op
       closed = record {
         processes = All-edit f GoodProc GoodProc (kins (λ p q. GoodProc q) (λ p q j. j.2)) c.processes all;
         lwps = All-edit to GoodLwp GoodLwp (kins_to (λ l m. GoodLwp m) (λ l m j. j.1)) c.lwps s.kept.closed.lwps;
-        housed = All-edit to (λ l. GoodLwp l × InLive c.processes l) (InLive after) live_to c.lwps (All-both GoodLwp (InLive c.processes) c.lwps s.kept.closed.lwps s.kept.closed.housed);
+        housed = All-edit to (λ l. GoodLwp l × LiveOwner c.processes l) (LiveOwner after) live_to c.lwps (All-both GoodLwp (LiveOwner c.processes) c.lwps s.kept.closed.lwps s.kept.closed.housed);
         rising = Rise-edit f GoodProc (kins (λ p q. q.pid ≡ p.pid) (λ p q j. j.0)) c.processes all s.kept.closed.rising;
         user = s.kept.closed.user;
         pid_slots = s.kept.closed.pid_slots;
@@ -173,7 +173,7 @@ module _ {u : ℕ} {start c v : Rows} (s : Sim u start c v) (f : ProcData → Op
     };
     processes = filter_edit (own u) f GoodProc (kins (λ p q. own u q ≡ own u p) (λ p q j. ap (λ n. eqb n u) j.1)) c.processes all ∙ ap (filter_map f) s.processes;
     lwps = filter_edit (own_lwp u) to GoodLwp (kins_to (λ l m. own_lwp u m ≡ own_lwp u l) (λ l m j. ap (λ n. eqb (pid_owner n) u) j.0)) c.lwps s.kept.closed.lwps
-        ∙ filter_map_same to _ (filter (own_lwp u) c.lwps) (Every-filter (own_lwp u) GoodLwp (λ l. to l ≡ by_owner g l (process_of l.pid v.processes)) (λ l well is. ap (by_owner g l) (process_same s l.pid (eqb-true (pid_owner l.pid) u is))) c.lwps s.kept.closed.lwps)
+        ∙ filter_map_same to _ (filter (own_lwp u) c.lwps) (All-where (own_lwp u) GoodLwp (λ l. to l ≡ by_owner g l (process_of l.pid v.processes)) (λ l well is. ap (by_owner g l) (process_same s l.pid (eqb-true (pid_owner l.pid) u is))) c.lwps s.kept.closed.lwps)
         ∙ ap (filter_map (λ l. by_owner g l (process_of l.pid v.processes))) s.lwps;
     pid_cursor = s.pid_cursor;
     tid_cursor = s.tid_cursor;

@@ -33,14 +33,14 @@ LiveRow None = ⊥
 LiveRow (Some p) = is_live p ≡ true
 
 -- the process of an LWP is a live row
-abbrev pub InLive : List ProcData → LwpData → Type 0
-InLive ps l = LiveRow (process_of l.pid ps)
+abbrev pub LiveOwner : List ProcData → LwpData → Type 0
+LiveOwner ps l = LiveRow (process_of l.pid ps)
 
 -- what rows keep at every moment of a step of u
 pub record Closed (u : ℕ) (rows : Rows) : Type 0 where
   pub processes : AllByRecursion GoodProc rows.processes
   pub lwps : AllByRecursion GoodLwp rows.lwps
-  pub housed : AllByRecursion (InLive rows.processes) rows.lwps
+  pub housed : AllByRecursion (LiveOwner rows.processes) rows.lwps
   pub rising : Rise rows.processes
   pub user : IsUser u
   pub pid_slots : length rows.pid_cursors ≡ 64
