@@ -10,7 +10,6 @@ pub mod Others
 pub mod Remaining
 pub mod Sending
 pub mod Refusing
-pub mod ViewEdits
 pub mod ViewFresh
 pub mod ViewTurns
 pub mod ViewSteps
