@@ -7,6 +7,7 @@ use Rattle.requests.specs.Machine.{Machine}
 use Rattle.requests.specs.Run.{replies, last}
 use Rattle.requests.specs.View.{view, alone}
 use Rattle.host_lock.specs.Journal.{asked, replay, entries_of}
+use Rattle.host_lock.specs.Limits.{most_sessions, most_calls}
 use Rattle.sessions.specs.declared.script.Script.{Script}
 use Rattle.sessions.specs.declared.script.Transcript.{Transcript}
 use Rattle.sessions.specs.declared.script.RunRefusal.{RunRefusal}
@@ -17,7 +18,7 @@ use Rattle.sessions.specs.Made.{made}
 
 -- the steps can all be made by one session
 abbrev pub IsShort : {F : Type 0} → Script F → Type 0
-IsShort s = vec_len s.steps ≤ 4294967295
+IsShort s = vec_len s.steps ≤ most_calls
 
 -- the transcript has one reply for each step, in order; the steps not answered ENOMEM, with their replies, are the journal's entries of
 -- this number
@@ -41,9 +42,9 @@ OwnEntries m log = (u : ℕ) → IsUser u
 
 -- why so many scripts are not run
 abbrev pub RefusesFor : ℕ → RunRefusal → Type 0
-RefusesFor n TooMany = 64 < n
-RefusesFor n Memory = (0 < n) × (n ≤ 64)
-RefusesFor n Start = (0 < n) × (n ≤ 64)
+RefusesFor n TooMany = most_sessions < n
+RefusesFor n Memory = (0 < n) × (n ≤ most_sessions)
+RefusesFor n Start = (0 < n) × (n ≤ most_sessions)
 
 abbrev pub uid_of : {F : Type 0} → Script F → ℕ
 uid_of s = s.uid

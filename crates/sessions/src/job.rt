@@ -43,6 +43,6 @@ impl<F: Decider + Send + Drop> Plan<F> {
     }
 }
 
-impl<F: Decider + Send + Drop> Promise<(Session, Vec<Reply>)> for Plan<F> {
-    ghost kept_by = { λ p r. Did p.session.value (map plain p.steps.value.items) r.1.items r.0 };
+impl<F: Decider + Send + Drop> Promise<Done> for Plan<F> {
+    ghost kept_by = { λ p r. Did p.session.value (map plain p.steps.value.items) r.replies.items r.session };
 }
