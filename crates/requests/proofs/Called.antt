@@ -14,7 +14,7 @@ use Rattle.requests.specs.Callers.{IsCaller, Calls, Barred}
 use Rattle.proc_table.specs.Rows.{Rows}
 use Rattle.proc_table.specs.Processes.{process_of}
 use Rattle.proc_table.specs.Kept.{Rise}
-use Rattle.trace_stop.specs.Laws.{is_live_at}
+use Rattle.trace_stop.specs.Sound.{is_live_at}
 use Rattle.trace_stop.proofs.Every.{and_right, find_some}
 use Rattle.requests.proofs.Living.{live_found, run_live}
 use Rattle.requests.proofs.Replies.{other}

@@ -19,7 +19,7 @@ use Rattle.proc_table.proofs.Every.{every_untested, found_tested}
 use Rattle.trace_stop.specs.End.{waits_where, released}
 use Rattle.trace_stop.specs.Facts.{IsLiveChild, waited_for, Standing, WithOwner, IsSound}
 use Rattle.trace_stop.proofs.Children.{child_test, child_from}
-use Rattle.trace_stop.proofs.LwpEdits.{filter_within, filter_all, released-tid, released-pid}
+use Rattle.process_end.proofs.LwpEdits.{filter_within, filter_all, released-tid, released-pid}
 use Rattle.trace_stop.proofs.Every.{All-imply, All-both, any_holds, find_some}
 use Rattle.trace_stop.proofs.Stopping.{the_row, the_lwp, own_lwps}
 use Rattle.requests.proofs.Actors.{has-process_changed, has-lwps_mapped}

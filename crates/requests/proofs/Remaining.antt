@@ -10,7 +10,7 @@ use Rattle.proc_table.specs.Rows.{Rows, each, change, is_numbered}
 use Rattle.proc_table.specs.Kept.{Rise}
 use Rattle.trace_stop.specs.declared.Settings.{Settings}
 use Rattle.trace_stop.specs.Post.{posted_process, posted_lwp, continues, notified, told, posted}
-use Rattle.trace_stop.specs.Free.{detached, untraced}
+use Rattle.trace_stop.specs.Detach.{detached, untraced}
 use Rattle.trace_stop.specs.End.{is_doomed, dooms, uncollected, dead, orphaned, process_after, lwp_after, told_of, left_alone, end_each, end}
 use Rattle.trace_stop.specs.Stop.{post}
 use Rattle.trace_stop.proofs.Changed.{From, process_from}

@@ -18,8 +18,9 @@ use event_masks::{Call, entry_flags};
 use lwp_table::{LwpData, Mode};
 use pid_blocks::Errno;
 use proc_table::{ProcData, Tables};
+use process_end::post_lwp;
 use signals::{SigSet, Signal};
-use trace_stop::{Settings, post_lwp};
+use trace_stop::Settings;
 
 /// The LWP steps no more.
 fn stop_stepping(tables: &mut Tables, l: &LwpData)

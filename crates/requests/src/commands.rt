@@ -25,9 +25,10 @@ use lwp_table::LwpData;
 use lwpinfo::{info, lwp_count, lwp_list};
 use pid_blocks::{Errno, Pid, Tid, Uid};
 use proc_table::{ProcData, State, Tables};
+use process_end::{detach, resume};
 use signals::{Pass, Signal};
 use std::alloc::Global;
-use trace_stop::{Settings, clear_stepping, detach, resume};
+use trace_stop::{Settings, clear_stepping};
 
 /// A request of ptrace(2) by a process that runs. A target up to 99999 names a process, and its LWP that reports
 /// a stop; a greater one names an LWP, and its process. Refused as the manual page says, and PT_GETLWPLIST

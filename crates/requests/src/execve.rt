@@ -20,7 +20,8 @@ use event_masks::Call;
 use lwp_table::{LwpData, Mode};
 use pid_blocks::{Pid, Tid};
 use proc_table::{ProcData, Tables};
-use trace_stop::{release, settle};
+use process_end::release;
+use trace_stop::settle;
 
 /// The oldest LWP of the process with another number.
 fn other_lwp(tables: &Tables, pid: Pid, tid: Tid) -> Option<LwpData>

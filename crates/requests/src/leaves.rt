@@ -4,7 +4,7 @@ ghost use Rattle.std.specs.Prelude.{◌≡◌, ◌≢◌, ◌*◌, true, false};
 ghost use Rattle.pid_blocks.specs.declared.Errno.TheVariants as errno;
 ghost use Rattle.proc_table.specs.Processes.{is_run};
 ghost use Rattle.trace_stop.specs.Facts.{IsSound};
-ghost use Rattle.trace_stop.specs.Laws.{is_live_at};
+ghost use Rattle.trace_stop.specs.Sound.{is_live_at};
 ghost use Rattle.requests.specs.declared.Reply.TheVariants as reply;
 ghost use Rattle.requests.specs.Actors.{IsActing};
 ghost use Rattle.requests.specs.Outcome.{ends_with};
@@ -20,7 +20,8 @@ use event_masks::{Call, EventMask, StopFlags};
 use lwp_table::{Due, LwpData, Mode};
 use pid_blocks::Errno;
 use proc_table::{ProcData, Tables};
-use trace_stop::{Settings, end};
+use process_end::end;
+use trace_stop::Settings;
 
 /// Exit: the process ends with the status that wait4(2) shows.
 fn exit(tables: &mut Tables, settings: Settings, status: u8, p: &ProcData) -> Reply

@@ -4,7 +4,7 @@ ghost use Rattle.std.specs.Prelude.{◌≡◌, ◌≢◌, true, false, Some};
 ghost use Rattle.pid_blocks.specs.declared.Errno.TheVariants as errno;
 ghost use Rattle.signals.specs.Table.{disposition_of};
 ghost use Rattle.lwp_table.specs.declared.Due.TheVariants as due;
-ghost use Rattle.trace_stop.specs.Laws.{is_live_at};
+ghost use Rattle.trace_stop.specs.Sound.{is_live_at};
 ghost use Rattle.event_masks.specs.Exits.{no_flags};
 ghost use Rattle.proc_table.specs.Kept.{IsRow};
 ghost use Rattle.proc_table.specs.Rows.{change_lwp};
@@ -25,8 +25,9 @@ use event_masks::{Call, StopFlags};
 use lwp_table::{Due, LwpData, Mode};
 use pid_blocks::{Errno, Tid, Uid};
 use proc_table::{ProcData, State, Tables};
+use process_end::end;
 use signals::{Action, Disposition, Signal, default_action};
-use trace_stop::{Settings, Shown, end, notify};
+use trace_stop::{Settings, Shown, notify};
 
 /// Whether an LWP waits for the process that its vfork made.
 fn waits(mode: Mode) -> bool

@@ -12,8 +12,9 @@ use crate::Reply;
 use crate::handlers::is_live;
 use pid_blocks::{Errno, Pid, Uid};
 use proc_table::Tables;
+use process_end::post;
 use signals::Pass;
-use trace_stop::{Settings, post};
+use trace_stop::Settings;
 
 /// Posts the signal to the process with this number, if it is there and live; 0 is posted to none.
 fn post_if_live(tables: &mut Tables, settings: Settings, pid: Pid, pass: Pass)

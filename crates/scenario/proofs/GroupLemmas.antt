@@ -5,8 +5,8 @@ use Rattle.std.proofs.lemmas.List.{append_assoc, append-nil}
 use Rattle.std.proofs.lemmas.List.Elements.{filter-append}
 use Rattle.std.proofs.lemmas.Bool.{cases_lt}
 use Rattle.std.proofs.lemmas.Bool.Decides.{nat_tests}
-use Rattle.trace_stop.specs.Closed.{Every}
-use Rattle.trace_stop.proofs.ViewLists.{Every-filter, every, filter-all, filter-none}
+use Rattle.user_rows.specs.Closed.{Every}
+use Rattle.user_rows.proofs.ViewLists.{Every-filter, every, filter-all, filter-none}
 use Rattle.pid_blocks.specs.Blocks.{rising, users}
 use Rattle.pid_blocks.specs.Users.{IsUser}
 use Rattle.requests.specs.declared.Reply.{Reply}

@@ -8,8 +8,8 @@ use Rattle.pid_blocks.specs.Blocks.{rising, users}
 use Rattle.pid_blocks.specs.Users.{IsUser}
 use Rattle.requests.specs.declared.PlainStep.{PlainStep}
 use Rattle.requests.specs.Run.{Asked, asked_by}
-use Rattle.trace_stop.specs.Closed.{Every}
-use Rattle.trace_stop.proofs.ViewLists.{Every-filter, Every-map}
+use Rattle.user_rows.specs.Closed.{Every}
+use Rattle.user_rows.proofs.ViewLists.{Every-filter, Every-map}
 use Rattle.scenario.specs.Lines.{Answered}
 use Rattle.scenario.specs.Runs.{answers_by, by_users}
 use Rattle.scenario.specs.Scripts.{steps_of, has_steps, scripts_in}

@@ -13,8 +13,8 @@ use Rattle.requests.specs.Machine.{empty}
 use Rattle.requests.specs.Memory.{is_memory}
 use Rattle.requests.specs.Run.{Asked, asked_by, replies}
 use Rattle.requests.specs.View.{alone}
-use Rattle.trace_stop.specs.Closed.{Every}
-use Rattle.trace_stop.proofs.ViewLists.{Every-both, filter_same}
+use Rattle.user_rows.specs.Closed.{Every}
+use Rattle.user_rows.proofs.ViewLists.{Every-both, filter_same}
 use Rattle.host_lock.specs.declared.journal.Entry.{Entry}
 use Rattle.host_lock.specs.Journal.{entry, asked, entries_of}
 use Rattle.sessions.specs.Made.{made}

@@ -9,8 +9,8 @@ use Rattle.requests.specs.declared.Reply.{Reply}
 use Rattle.requests.specs.Isolation.{Users}
 use Rattle.requests.specs.Machine.{empty}
 use Rattle.requests.specs.Plain.{plain}
-use Rattle.trace_stop.specs.Closed.{Every}
-use Rattle.trace_stop.proofs.ViewLists.{Every-imply}
+use Rattle.user_rows.specs.Closed.{Every}
+use Rattle.user_rows.proofs.ViewLists.{Every-imply}
 use Rattle.host_lock.specs.declared.journal.Entry.{Entry}
 use Rattle.host_lock.specs.Sessions.{IsBelow}
 use Rattle.sessions.specs.declared.script.Script.{Script}

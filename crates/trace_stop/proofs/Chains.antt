@@ -12,7 +12,30 @@ use Rattle.trace_stop.specs.Facts.{IsLiveOf, Linked, Stands}
 use Rattle.trace_stop.specs.Laws.{onward, chain, ChainsEnd, ChainsMeet, TraceeDeeper}
 use Rattle.trace_stop.proofs.Every.{and_left, and_right, by_bool, All-imply, All-both, any_holds, any_more, find_some, count-cons}
 use Rattle.trace_stop.proofs.Passes.{own_rows}
-use Rattle.trace_stop.proofs.LeafLaw.{meets-suc, meets-zero, meets-more}
+
+-- A chain link by link
+
+pub meets-suc : (k : ℕ) (ps : List ProcData) (p n : ℕ) → meets (suc k) ps p n ≡ holds_of (λ t. (t == p) || meets k ps p t) (tracer_of ps n)
+unfolding meets
+meets-suc k ps p n = refl
+
+pub meets-zero : (ps : List ProcData) (p n : ℕ) → meets zero ps p n ≡ false
+unfolding meets
+meets-zero ps p n = refl
+
+pub holds_more : (f g : ℕ → Bool) (o : Option ℕ) → ((t : ℕ) → f t ≡ true → g t ≡ true) → holds_of f o ≡ true → holds_of g o ≡ true
+holds_more f g None h is = is
+holds_more f g (Some t) h is = h t is
+
+pub or_more : (a b c : Bool) → (b ≡ true → c ≡ true) → (a || b) ≡ true → (a || c) ≡ true
+or_more true b c h is = refl
+or_more false b c h is = h is
+
+-- more links meet no less
+pub meets-more : (k : ℕ) (ps : List ProcData) (p n : ℕ) → meets k ps p n ≡ true → meets (suc k) ps p n ≡ true
+meets-more zero ps p n is = absurd (true≢false (sym is ∙ meets-zero ps p n))
+meets-more (suc k) ps p n is = meets-suc (suc k) ps p n
+    ∙ holds_more (λ t. (t == p) || meets k ps p t) (λ t. (t == p) || meets (suc k) ps p t) (tracer_of ps n) (λ t. or_more (t == p) (meets k ps p t) (meets (suc k) ps p t) (meets-more k ps p t)) (sym (meets-suc k ps p n) ∙ is)
 
 -- Numbers that differ, each of a user's row, are no more than the user has rows
 

@@ -1,16 +1,35 @@
 -- Rows that are found by their numbers.
-use Rattle.std.proofs.Common.{◌≡◌, ◌∙◌, ℕ, true, true≢false, List, [], ◌∷◌, inl, inr, nat_eq, sym, ap, refl, Option, Some, None, IsSome, is_some}
+use Rattle.std.proofs.Common.{◌≡◌, ◌∙◌, ℕ, Bool, true, false, ◌||◌, ◌==◌, if◌then◌else◌, true≢false, List, [], ◌∷◌, inl, inr, nat_eq, eqb, eqb-true, sym, ap, subst, refl, Option, Some, None, IsSome, is_some}
 use Rattle.std.specs.Prelude.{◌&&◌}
 use Rattle.std.specs.List.{list_any}
 use Rattle.std.proofs.lemmas.Bool.{cases_Bool}
 use Rattle.proc_table.specs.declared.ProcData.{ProcData}
 use Rattle.proc_table.specs.Processes.{process_of, is_live}
 use Rattle.proc_table.specs.Rows.{Rows}
-use Rattle.proc_table.specs.Kept.{IsRow, Rise}
+use Rattle.proc_table.specs.Fresh.{is_process}
+use Rattle.proc_table.specs.Kept.{IsRow, AllAbove, Rise}
 use Rattle.proc_table.proofs.Rows.{row_found, process_of-pid}
-use Rattle.trace_stop.specs.Laws.{is_live_at}
-use Rattle.trace_stop.proofs.Passes.{passes}
-use Rattle.trace_stop.proofs.LeafLaw.{any_by_number}
+use Rattle.trace_stop.specs.Sound.{is_live_at}
+use Rattle.trace_stop.proofs.Every.{and_left, any_more}
+use Rattle.trace_stop.proofs.Passes.{passes, above_none}
+
+-- a test of the row with a number
+pub any_by_number : (t : ProcData → Bool) (n : ℕ) (ps : List ProcData) → Rise ps → list_any (λ r. (r.pid == n) && t r) ps ≡ passes t (process_of n ps)
+any_by_number t n [] rise = refl
+any_by_number t n (p ∷ ps) rise = at_head (eqb p.pid n) refl (any_by_number t n ps rise.1)
+  where
+    or_none : (b : Bool) → passes t (process_of n ps) ≡ false → list_any (λ r. (r.pid == n) && t r) ps ≡ passes t (process_of n ps) → (b || list_any (λ r. (r.pid == n) && t r) ps) ≡ b
+    or_none true none rest = refl
+    or_none false none rest = rest ∙ none
+
+    at_head : (b : Bool) → eqb p.pid n ≡ b → list_any (λ r. (r.pid == n) && t r) ps ≡ passes t (process_of n ps)
+        → ((b && t p) || list_any (λ r. (r.pid == n) && t r) ps) ≡ passes t (if b then Some p else process_of n ps)
+    at_head true here rest = or_none (t p) (ap (passes t) (above_none n ps (subst (λ m. AllAbove m ps) (eqb-true p.pid n here) rise.0))) rest
+    at_head false here rest = rest
+
+-- a live process is a process
+pub listed : (rows : Rows) (q : ℕ) → is_live_at q rows ≡ true → is_process rows q ≡ true
+listed rows q is = any_more (λ r. (r.pid == q) && is_live r) (λ r. r.pid == q) (λ r h. and_left (r.pid == q) (is_live r) h) rows.processes is
 
 -- a number of a row finds one
 pub row_there : (rows : Rows) (n : ℕ) → IsRow rows n → IsSome (process_of n rows.processes)

@@ -16,7 +16,7 @@ use Rattle.trace_stop.proofs.Children.{child_test}
 use Rattle.trace_stop.proofs.Edited.{edited, Same, If_more, some_is, find_edit, owners_after, edited_stands}
 use Rattle.trace_stop.proofs.Changed.{Holds}
 use Rattle.trace_stop.proofs.Changes.{edit_none}
-use Rattle.trace_stop.proofs.LeafLaw.{or_more, meets-more}
+use Rattle.trace_stop.proofs.Chains.{or_more, meets-more}
 use Rattle.trace_stop.proofs.Chains.{meets-up, chains_meet}
 use Rattle.trace_stop.proofs.Stopping.{the_row}
 

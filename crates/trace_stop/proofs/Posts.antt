@@ -9,7 +9,7 @@ use Rattle.proc_table.specs.Processes.{is_live, process_of}
 use Rattle.proc_table.specs.Rows.{Rows, change, is_numbered}
 use Rattle.trace_stop.specs.declared.Settings.{Settings}
 use Rattle.trace_stop.specs.Post.{continues, posted_process, posted_lwp, notified, told, posted}
-use Rattle.trace_stop.specs.Free.{running, resumed, detached}
+use Rattle.trace_stop.specs.Detach.{running, resumed, detached}
 use Rattle.trace_stop.specs.End.{end}
 use Rattle.trace_stop.specs.Stop.{post, ends_process, resume, detach}
 use Rattle.trace_stop.specs.Sound.{is_end}
@@ -20,7 +20,7 @@ use Rattle.trace_stop.proofs.Changed.{sound_holds, found_number}
 use Rattle.trace_stop.proofs.Posting.{LiveFit, post_chosen, posted_same}
 use Rattle.trace_stop.specs.Before.{MayTell}
 use Rattle.trace_stop.proofs.Stopping.{the_row, live_told, notified_sound}
-use Rattle.trace_stop.proofs.Freed.{resumed_sound, resumed_row, detached_sound, end_sound}
+use Rattle.trace_stop.proofs.Detached.{resumed_sound, resumed_row, detached_sound, end_sound}
 
 -- a signal that ends a process is the word of an end
 or_last : (a b : Bool) → not (a || b) ≡ true → b ≡ false
@@ -72,8 +72,8 @@ module _ (rows : Rows) (pid : ℕ) (p : ProcData) (s : IsSound rows) (at : proce
   pub post_sound : (settings : Settings) (sig : ℕ) (to : Option ℕ) → IsSound (post settings sig to pid rows)
   post_sound settings sig to = choose (sig == SIGKILL) (end settings pid SIGKILL rows) (posted sig to pid rows) IsSound (λ e. end_at settings SIGKILL refl) (λ e. posted_sound sig to)
 
-  pub freed_sound : (lost : ℕ) → IsSound (detached (is_numbered pid) (λ q. lost) rows)
-  freed_sound lost = detached_sound (is_numbered pid) (λ q. lost) rows s (All-imply (λ q. q.pid ≡ pid → q ≡ p) (λ q. (q.pid == pid) ≡ true → is_live q ≡ true) (λ q one is. subst (λ r. is_live r ≡ true) (sym (one (eqb-true q.pid pid is))) live) rows.processes (the_row pid rows.processes p s.stands.rising at))
+  pub untraced_sound : (lost : ℕ) → IsSound (detached (is_numbered pid) (λ q. lost) rows)
+  untraced_sound lost = detached_sound (is_numbered pid) (λ q. lost) rows s (All-imply (λ q. q.pid ≡ pid → q ≡ p) (λ q. (q.pid == pid) ≡ true → is_live q ≡ true) (λ q one is. subst (λ r. is_live r ≡ true) (sym (one (eqb-true q.pid pid is))) live) rows.processes (the_row pid rows.processes p s.stands.rising at))
 
 -- Resuming and detaching with a signal
 module _ (settings : Settings) (rows : Rows) (pid : ℕ) (p : ProcData) (s : IsSound rows) (at : process_of pid rows.processes ≡ Some p) (live : is_live p ≡ true) where
@@ -84,4 +84,4 @@ module _ (settings : Settings) (rows : Rows) (pid : ℕ) (p : ProcData) (s : IsS
   resume_sound sig = choose (ends_process sig (process_of pid rows.processes)) (end settings pid sig (resumed pid rows)) (resumed pid rows) IsSound (ends_at sig) (λ e. resumed_sound rows pid p s at live)
 
   pub detach_sound : (sig : ℕ) → IsSound (detach settings pid sig rows)
-  detach_sound sig = choose (ends_process sig (process_of pid rows.processes)) (end settings pid sig (resumed pid rows)) (detached (is_numbered pid) (λ q. 0) rows) IsSound (ends_at sig) (λ e. freed_sound rows pid p s at live 0)
+  detach_sound sig = choose (ends_process sig (process_of pid rows.processes)) (end settings pid sig (resumed pid rows)) (detached (is_numbered pid) (λ q. 0) rows) IsSound (ends_at sig) (λ e. untraced_sound rows pid p s at live 0)

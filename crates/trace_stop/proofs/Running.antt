@@ -11,7 +11,7 @@ use Rattle.proc_table.specs.Processes.{is_live, reporting, is_this, process_of}
 use Rattle.proc_table.specs.Rows.{Rows, owner, by_owner}
 use Rattle.proc_table.specs.Fresh.{lwp_count}
 use Rattle.trace_stop.specs.End.{tracer_in, tracer_of, meets}
-use Rattle.trace_stop.specs.Free.{reported, run_on}
+use Rattle.trace_stop.specs.Detach.{reported, run_on}
 use Rattle.trace_stop.specs.Sound.{names_own}
 use Rattle.trace_stop.specs.Facts.{IsLiveOf, IsLiveChild, Linked, FitProcess, waited_for, Standing, FitLwp, Silent, WithOwner, IsSound}
 use Rattle.trace_stop.proofs.Every.{and_left, and_right, both, by_bool, All-imply, All-both, All-edit, All-any, find_some, any_holds, none_of, any_forward, count-cons, choose}

@@ -15,7 +15,7 @@ use Rattle.proc_table.specs.Kept.{IsKept, put_process, set_process}
 use Rattle.proc_table.proofs.Rows.{same_number, other_number, process_of-pid, lwp_of-tid}
 use Rattle.proc_table.proofs.LwpWalk.{unput}
 use Rattle.proc_table.proofs.Changes.{changed, changed-at, filter_map-map, map_lwps-none}
-use Rattle.trace_stop.specs.Free.{run_on, reported, resumed, running}
+use Rattle.trace_stop.specs.Detach.{run_on, reported, resumed, running}
 use Rattle.trace_stop.specs.Facts.{Stands}
 use Rattle.trace_stop.specs.Reports.{IsStopped, reporter, unreported, report_dropped}
 use Rattle.trace_stop.proofs.Stopped.{own_reporter}

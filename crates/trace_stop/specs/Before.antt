@@ -12,7 +12,7 @@ use Rattle.proc_table.specs.Rows.{Rows}
 use Rattle.proc_table.specs.Fresh.{lwp_count}
 use Rattle.trace_stop.specs.declared.Shown.{Shown}
 use Rattle.trace_stop.specs.Facts.{FitProcess, FitLwp, WithOwner, Stands}
-use Rattle.trace_stop.specs.Laws.{is_live_at}
+use Rattle.trace_stop.specs.Sound.{is_live_at}
 
 -- SIGCHLD may be posted to the process with the number: it is live, or the number is 1, which no row has
 abbrev pub MayTell : Rows → ℕ → Type 0

@@ -8,7 +8,7 @@ use Rattle.proc_table.specs.Processes.{is_this}
 use Rattle.proc_table.specs.Rows.{Rows}
 use Rattle.proc_table.specs.Edits.{map_lwps}
 use Rattle.trace_stop.specs.declared.edits.Edit.{Edit}
-use Rattle.trace_stop.specs.declared.edits.Edit.TheVariants.{Settle, Post, ClearStepping, Free}
+use Rattle.trace_stop.specs.declared.edits.Edit.TheVariants.{Settle, Post, ClearStepping, Detach}
 
 -- a set of pending signals when s is posted, to this set or to another one of its process
 abbrev pub signal_put : ℕ → Bool → ℕ → ℕ
@@ -23,7 +23,7 @@ abbrev pub edited : Edit → LwpData → LwpData
 edited (Settle lost) l = record l { pending = without l.pending lost }
 edited (Post s to lost) l = record l { pending = without (signal_put s (is_this l.tid to) l.pending) lost }
 edited ClearStepping l = step_cleared l
-edited (Free lost unwanted) l =
+edited (Detach lost unwanted) l =
     record l { stepping = false; suspended = false; due = Nothing; pending = without (without l.pending lost) unwanted }
 
 -- the rows with no LWP of a process stepping

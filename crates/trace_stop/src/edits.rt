@@ -33,7 +33,7 @@ pub enum Edit {
     /// It steps no more.
     ClearStepping,
     /// It isn't traced any more; both sets leave its pending set.
-    Free {
+    Detach {
         lost: SigSet,
         unwanted: SigSet,
     },
@@ -60,7 +60,7 @@ impl Edit {
                 stepping: false,
                 ..*l
             },
-            Edit::Free { lost, unwanted } => LwpData {
+            Edit::Detach { lost, unwanted } => LwpData {
                 stepping: false,
                 suspended: false,
                 due: Due::Nothing,

@@ -6,14 +6,11 @@ ghost use Rattle.proc_table.specs.Rows.{change, is_numbered};
 ghost use Rattle.proc_table.specs.Kept.{IsRow};
 ghost use Rattle.trace_stop.specs.declared.edits.Edit.TheVariants as edit;
 ghost use Rattle.trace_stop.specs.Facts.{IsSound};
-ghost use Rattle.trace_stop.specs.Laws.{is_live_at};
 ghost use Rattle.trace_stop.specs.Before.{IsSoundButPending, MayTell};
 ghost use Rattle.trace_stop.specs.Post.{unwanted, continues, settle, posted_process, posted_lwp, notified, told, posted};
-ghost use Rattle.trace_stop.specs.Stop.{tracers, post};
+ghost use Rattle.trace_stop.specs.Stop.{tracers};
 
-use crate::Settings;
 use crate::edits::{Edit, edit_lwps, put_signal};
-use crate::ends::end;
 use pid_blocks::{Pid, Tid};
 use proc_table::{ProcData, State, Tables};
 use signals::{SigSet, Signal};
@@ -118,46 +115,12 @@ pub fn notify(tables: &mut Tables, number: u32)
     }
 }
 
-/// Posts a signal other than SIGKILL to a process, or to an LWP of it.
-fn post_other(tables: &mut Tables, pid: Pid, signal: Signal, to: &Option<Tid>)
+/// Posts a signal other than SIGKILL to a process, or to an LWP of it. Takes no memory.
+pub fn post_other(tables: &mut Tables, pid: Pid, signal: Signal, to: &Option<Tid>)
     requires { IsRow tables.old.rows pid }
     ensures { tables.new.rows ≡ posted signal to.now pid tables.old.rows }
 {
     if let Some(parent) = put(tables, pid, signal, to) {
         notify(tables, parent);
     }
-}
-
-/// Posts a signal to a live process, or to an LWP of it; SIGKILL ends the process.
-fn post_to(tables: &mut Tables, settings: Settings, pid: Pid, signal: Signal, to: &Option<Tid>)
-    requires sound { IsSound tables.old.rows }
-    requires live { is_live_at pid tables.old.rows ≡ true }
-    ensures rows { tables.new.rows ≡ post settings signal to.now pid tables.old.rows }
-    ensures sound { IsSound tables.new.rows }
-{
-    if signal == Signal::kill() {
-        end(tables, settings, pid, signal.number());
-    } else {
-        post_other(tables, pid, signal, to);
-    }
-}
-
-/// Posts a signal to a live process; SIGKILL ends it. Takes no memory.
-pub fn post(tables: &mut Tables, settings: Settings, pid: Pid, signal: Signal)
-    requires sound { IsSound tables.old.rows }
-    requires live { is_live_at pid tables.old.rows ≡ true }
-    ensures rows { tables.new.rows ≡ post settings signal None pid tables.old.rows }
-    ensures sound { IsSound tables.new.rows }
-{
-    post_to(tables, settings, pid, signal, &None);
-}
-
-/// Posts a signal to an LWP of a live process; SIGKILL ends the process. Takes no memory.
-pub fn post_lwp(tables: &mut Tables, settings: Settings, pid: Pid, tid: Tid, signal: Signal)
-    requires sound { IsSound tables.old.rows }
-    requires live { is_live_at pid tables.old.rows ≡ true }
-    ensures rows { tables.new.rows ≡ post settings signal (Some tid) pid tables.old.rows }
-    ensures sound { IsSound tables.new.rows }
-{
-    post_to(tables, settings, pid, signal, &Some(tid));
 }

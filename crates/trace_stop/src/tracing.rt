@@ -1,28 +1,27 @@
-//! Trace stops, and what resumes a process.
+//! Trace stops, and processes that run on from them, with their tracers or without.
 
 ghost use Rattle.std.specs.Prelude.{◌≡◌, IfSome, IsSome, true};
 ghost use Rattle.std.specs.Option.{IsSomeAnd};
 ghost use Rattle.lwp_table.specs.Lwps.{lwp_of};
-ghost use Rattle.proc_table.specs.Processes.{process_of, reporting};
+ghost use Rattle.proc_table.specs.Processes.{reporting};
 ghost use Rattle.proc_table.specs.Rows.{is_numbered};
 ghost use Rattle.proc_table.specs.Kept.{IsRow};
 ghost use Rattle.trace_stop.specs.Before.{MayStop};
 ghost use Rattle.trace_stop.specs.Edits.{steps_cleared};
 ghost use Rattle.trace_stop.specs.Facts.{IsSound, Stands};
-ghost use Rattle.trace_stop.specs.Free.{resumed, detached};
-ghost use Rattle.trace_stop.specs.Laws.{is_live_at};
-ghost use Rattle.trace_stop.specs.Reports.{IsStopped, reporter, report_dropped, unreported};
-ghost use Rattle.trace_stop.specs.Stop.{stop, ends_process, resume, detach};
+ghost use Rattle.trace_stop.specs.Detach.{resumed, detached};
+ghost use Rattle.trace_stop.specs.Sound.{is_live_at};
+ghost use Rattle.trace_stop.specs.Reports.{reporter, report_dropped, unreported};
+ghost use Rattle.trace_stop.specs.Stop.{stop};
 
+use crate::Shown;
 use crate::edits::{Edit, edit_lwps};
-use crate::ends::end;
 use crate::signaling::notify;
-use crate::{Settings, Shown};
 use event_masks::{EventMask, StopFlags};
 use lwp_table::LwpData;
 use pid_blocks::{Pid, Tid};
 use proc_table::{ProcData, State, Tables};
-use signals::{Pass, SigSet};
+use signals::SigSet;
 
 /// The LWP that stopped a process for its tracer.
 fn reporting(p: &ProcData) -> Option<Tid>
@@ -69,8 +68,9 @@ fn drop_stop(tables: &mut Tables, reporting: &Option<Tid>)
     }
 }
 
-/// A live process isn't traced any more; the signals of the set `lost` leave its pending sets.
-pub fn free(tables: &mut Tables, pid: Pid, lost: SigSet)
+/// A live process isn't traced any more; the signals of the set `lost` leave its pending sets. Takes no
+/// memory.
+pub fn untrace(tables: &mut Tables, pid: Pid, lost: SigSet)
     requires sound { IsSound tables.old.rows }
     requires live { is_live_at pid tables.old.rows ≡ true }
     ensures rows { tables.new.rows ≡ detached (is_numbered pid) (λ p. lost) tables.old.rows }
@@ -86,11 +86,11 @@ pub fn free(tables: &mut Tables, pid: Pid, lost: SigSet)
         ..p
     });
     drop_stop(tables, &reporting(&p));
-    edit_lwps(tables, pid, &Edit::Free { lost, unwanted });
+    edit_lwps(tables, pid, &Edit::Detach { lost, unwanted });
 }
 
-/// A process runs on from a trace stop.
-fn run_on(tables: &mut Tables, pid: Pid)
+/// A process runs on from a trace stop. Takes no memory.
+pub fn run_on(tables: &mut Tables, pid: Pid)
     requires stands { Stands tables.old.rows }
     requires there { IsRow tables.old.rows pid }
     ensures { tables.new.rows ≡ resumed pid tables.old.rows }
@@ -101,49 +101,6 @@ fn run_on(tables: &mut Tables, pid: Pid)
         ..p
     });
     drop_stop(tables, &reporting(&p));
-}
-
-/// Whether a process ends when it is resumed with the signal.
-fn ends(tables: &Tables, pid: Pid, pass: Pass) -> bool
-    requires { IsRow tables.now.rows pid }
-    ensures { result ≡ ends_process pass (process_of pid tables.now.rows.processes) }
-{
-    let p = tables.process(pid).unwrap();
-    match pass.signal() {
-        Some(signal) => p.dispositions.ends(signal),
-        None => false,
-    }
-}
-
-/// Resumes a process from a trace stop with a signal, or with none; the signal may end it. Takes no
-/// memory.
-pub fn resume(tables: &mut Tables, settings: Settings, pid: Pid, pass: Pass)
-    requires sound { IsSound tables.old.rows }
-    requires stopped { IsStopped pid tables.old.rows }
-    ensures rows { tables.new.rows ≡ resume settings pid pass tables.old.rows }
-    ensures sound { IsSound tables.new.rows }
-{
-    let ends = ends(tables, pid, pass);
-    run_on(tables, pid);
-    if ends {
-        end(tables, settings, pid, pass.number());
-    }
-}
-
-/// Detaches a process from its tracer, with a signal or with none; the signal may end it. Takes no
-/// memory.
-pub fn detach(tables: &mut Tables, settings: Settings, pid: Pid, pass: Pass)
-    requires sound { IsSound tables.old.rows }
-    requires stopped { IsStopped pid tables.old.rows }
-    ensures rows { tables.new.rows ≡ detach settings pid pass tables.old.rows }
-    ensures sound { IsSound tables.new.rows }
-{
-    if ends(tables, pid, pass) {
-        run_on(tables, pid);
-        end(tables, settings, pid, pass.number());
-    } else {
-        free(tables, pid, SigSet::empty());
-    }
 }
 
 /// A trace stop of a process by an LWP of it, of which its tracer is told.

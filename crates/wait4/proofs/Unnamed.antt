@@ -10,7 +10,7 @@ use Rattle.proc_table.specs.Kept.{AtHome, Housed}
 use Rattle.trace_stop.specs.Facts.{IsLiveOf, Linked, Standing, WithOwner, Stands}
 use Rattle.trace_stop.proofs.Every.{by_bool, All-imply, All-both, find_some}
 use Rattle.trace_stop.proofs.Edited.{some_is}
-use Rattle.trace_stop.proofs.Doomed.{live_row}
+use Rattle.trace_stop.proofs.Named.{live_row}
 
 none_passes : {X : Type 0} (t : X → Bool) (xs : List X) → AllByRecursion (λ x. t x ≡ false) xs → find t xs ≡ None
 none_passes t [] all = refl

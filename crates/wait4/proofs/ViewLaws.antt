@@ -6,10 +6,10 @@ use Rattle.proc_table.specs.Rows.{Rows}
 use Rattle.proc_table.specs.Seen.{owns}
 use Rattle.proc_table.specs.Laws.{only_of}
 use Rattle.trace_stop.specs.Facts.{IsSound}
-use Rattle.trace_stop.specs.Closed.{Closed}
-use Rattle.trace_stop.proofs.ViewSame.{Sim}
-use Rattle.trace_stop.proofs.ViewRows.{owns_owner, sound_closed}
-use Rattle.trace_stop.proofs.ViewLaws.{owns_user, own_start, own_after, others_after}
+use Rattle.user_rows.specs.Closed.{Closed}
+use Rattle.user_rows.proofs.ViewSame.{Sim}
+use Rattle.user_rows.proofs.ViewRows.{owns_owner, sound_closed}
+use Rattle.user_rows.proofs.ViewLaws.{owns_user, own_start, own_after, others_after}
 use Rattle.wait4.specs.declared.Options.{Options}
 use Rattle.wait4.specs.Collect.{reported, collect, without_report, rows_after}
 use Rattle.wait4.specs.Laws.{ReportedOwn, CollectOwn, AfterOwn, AfterOthers}

@@ -9,10 +9,10 @@ use Rattle.proc_table.specs.Processes.{is_live, is_this, traces, is_zombie_state
 use Rattle.proc_table.specs.Rows.{Rows}
 use Rattle.wait4.specs.declared.Options.{Options}
 use Rattle.wait4.specs.Collect.{answer, is_child, fits, reportable, collected_in, collected, stays, told, collect_one, candidates, reported, collect, without_report, rows_after}
-use Rattle.trace_stop.specs.Closed.{GoodProc, LiveRow}
-use Rattle.trace_stop.proofs.ViewLists.{find_some, Every-filter}
-use Rattle.trace_stop.proofs.ViewSame.{Sim, Kin, not_own, named, rows_query, each_same, If-both}
-use Rattle.trace_stop.proofs.ViewSignals.{Mines, user_not_one, notified_same}
+use Rattle.user_rows.specs.Closed.{GoodProc, LiveRow}
+use Rattle.user_rows.proofs.ViewLists.{find_some, Every-filter}
+use Rattle.user_rows.proofs.ViewSame.{Sim, Kin, not_own, named, rows_query, each_same, If-both}
+use Rattle.user_rows.proofs.ViewSignals.{Mines, user_not_one, notified_same}
 use Rattle.trace_stop.proofs.Every.{and_left}
 
 pub child_own : (u caller : ℕ) → IsUser u → pid_owner caller ≡ u → (p : ProcData) → GoodProc p → is_child caller p ≡ true → p.uid ≡ u

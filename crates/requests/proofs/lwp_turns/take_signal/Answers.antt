@@ -1,6 +1,6 @@
 use Rattle.std.proofs.Common.{◌≡◌, true, sym, subst}
 use Rattle.trace_stop.specs.Facts.{IsSound}
-use Rattle.trace_stop.specs.Laws.{is_live_at}
+use Rattle.trace_stop.specs.Sound.{is_live_at}
 use Rattle.requests.specs.Actors.{HasLwp}
 use Rattle.requests.proofs.Signals.{taken_alike}
 use Rattle.requests.proofs.Actors.{acting_from, taken_there, taken_live}

@@ -8,7 +8,7 @@ use Rattle.proc_table.specs.Rows.{Rows}
 use Rattle.trace_stop.specs.declared.Settings.{Settings}
 use Rattle.trace_stop.specs.End.{end}
 use Rattle.requests.specs.Turn.{takes_untraced}
-use Rattle.trace_stop.proofs.LeafLives.{listed}
+use Rattle.trace_stop.proofs.Found.{listed}
 use Rattle.requests.proofs.lwp_turns.take_untraced.Goals as goal
 
 ended : (settings : Settings) (s : ℕ) (p : ProcData) (l : LwpData) (rows : Rows) → disposition_of p.dispositions s ≡ disposition.Default → default_action s ≡ action.End

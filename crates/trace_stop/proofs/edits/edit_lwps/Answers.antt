@@ -3,7 +3,7 @@ use Rattle.lwp_table.specs.declared.LwpData.{LwpData}
 use Rattle.proc_table.specs.Kept.{set_lwp}
 use Rattle.proc_table.proofs.LwpWalk.{walking-first, walking-next, walking-less, walking-after}
 use Rattle.trace_stop.specs.declared.edits.Edit.{Edit}
-use Rattle.trace_stop.specs.declared.edits.Edit.TheVariants.{Settle, Post, ClearStepping, Free}
+use Rattle.trace_stop.specs.declared.edits.Edit.TheVariants.{Settle, Post, ClearStepping, Detach}
 use Rattle.trace_stop.specs.Edits.{edited}
 use Rattle.trace_stop.proofs.edits.edit_lwps.Goals as goal
 
@@ -11,13 +11,13 @@ keeps : (e : Edit) (l : LwpData) → (edited e l).tid ≡ l.tid
 keeps (Settle lost) l = refl
 keeps (Post s to lost) l = refl
 keeps ClearStepping l = refl
-keeps (Free lost unwanted) l = refl
+keeps (Detach lost unwanted) l = refl
 
 owns : (e : Edit) (l : LwpData) → (edited e l).pid ≡ l.pid
 owns (Settle lost) l = refl
 owns (Post s to lost) l = refl
 owns ClearStepping l = refl
-owns (Free lost unwanted) l = refl
+owns (Detach lost unwanted) l = refl
 
 pub loop-at-init : goal.loop-at-init
 loop-at-init c =

@@ -1,7 +1,7 @@
 use Rattle.std.proofs.Common.{◌≡◌, Some, sym, ap, ◌∙◌, refl}
 use Rattle.proc_table.specs.Processes.{process_of}
 use Rattle.proc_table.proofs.Stays.{process_there, named-same}
-use Rattle.trace_stop.specs.Free.{running}
+use Rattle.trace_stop.specs.Detach.{running}
 use Rattle.trace_stop.specs.Reports.{reporter, report_dropped}
 use Rattle.trace_stop.proofs.Found.{row_there, own_row}
 use Rattle.trace_stop.proofs.Stopped.{reporter_there}

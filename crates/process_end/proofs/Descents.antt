@@ -1,0 +1,183 @@
+-- The way down the tracees of a process that ends, and one turn of its end.
+use Rattle.std.proofs.Common.{◌≡◌, ℕ, ◌-◌, ◌<◌, ◌≤◌, List, true, false, ◌&&◌, ◌||◌, ◌==◌, not, Option, Some, None, length, refl, sym, ap, ◌∙◌, arith, true≢false, eqb-true, eq-eqb, subst, inl, inr, unwrap_or}
+use Rattle.std.proofs.Math.Bool.{and-false}
+use Rattle.std.specs.Prelude.{count_by, ltb, MatchOption}
+use Rattle.std.specs.List.{AllByRecursion}
+use Rattle.signals.specs.Table.{SIGKILL}
+use Rattle.proc_table.specs.declared.ProcData.{ProcData}
+use Rattle.proc_table.specs.Processes.{process_of, is_live, is_this, traces}
+use Rattle.proc_table.specs.Rows.{Rows}
+use Rattle.proc_table.specs.Walks.{next_tracee}
+use Rattle.proc_table.specs.Kept.{AtHome, IsKept}
+use Rattle.proc_table.specs.Laws.{LeastOrNone, IsLeast, NonePasses}
+use Rattle.proc_table.proofs.Least.{next_tracee-least}
+use Rattle.proc_table.proofs.Finds.{below_or_not}
+use Rattle.proc_table.proofs.Rows.{process_of-pid}
+use Rattle.trace_stop.specs.End.{tracer_in, tracer_of, holds_of, meets, dooms, end}
+use Rattle.trace_stop.specs.Facts.{Stands, IsSound}
+use Rattle.trace_stop.specs.Laws.{chain}
+use Rattle.process_end.specs.Laws.{traces_live, end_alone}
+use Rattle.trace_stop.specs.Sound.{is_live_at}
+use Rattle.process_end.specs.Descent.{kills, traces_live_above, IsLiveTracee, EndsToo}
+use Rattle.trace_stop.proofs.Every.{or_true, and_left, and_right, both, by_bool, All-both, none_of, none_passes}
+use Rattle.trace_stop.proofs.Edited.{some_is}
+use Rattle.trace_stop.proofs.Passes.{passes, own_rows}
+use Rattle.trace_stop.proofs.Found.{any_by_number}
+use Rattle.process_end.proofs.LeafLaw.{dooms_meets, q_traced, leaf_law, leaf_dooms}
+use Rattle.trace_stop.proofs.Chains.{meets-suc}
+use Rattle.process_end.proofs.Leaves.{tracee_doomed}
+use Rattle.trace_stop.proofs.Chains.{no_ring, chains_end, tracee_deeper}
+use Rattle.trace_stop.proofs.Found.{listed}
+use Rattle.process_end.proofs.LeafLives.{leaf_lives, leaf_fewer}
+use Rattle.process_end.proofs.EndSound.{end_sound}
+use Rattle.process_end.proofs.Doomed.{leaf_end}
+
+-- What a walk over tracees has found
+
+-- no live process that q traces has a number above the first and up to the second
+abbrev pub NoneBetween : ℕ → List ProcData → ℕ → ℕ → Type 0
+NoneBetween q ps from after = (r : ProcData) → process_of r.pid ps ≡ Some r → from < r.pid → r.pid ≤ after → (is_live r && traces q r) ≡ false
+
+pub none_at_first : (q : ℕ) (ps : List ProcData) (from : ℕ) → NoneBetween q ps from from
+none_at_first q ps from = λ r own above less. absurd (omega (arith, above, less))
+
+module _ (q after : ℕ) (rows : Rows) (kept : IsKept rows) where
+  abbrev ps : List ProcData
+  ps = rows.processes
+
+  least : (t : ProcData) → next_tracee q after ps ≡ Some t → IsLeast (traces q) after ps t
+  least t at = subst (LeastOrNone (traces q) after ps) at (next_tracee-least q after ps kept.rising)
+
+  pub walk_found : (t : ProcData) → next_tracee q after ps ≡ Some t → is_live t ≡ true → IsLiveTracee q rows t.pid
+  walk_found t at live =
+      let l = least t at in record {
+        live = any_by_number is_live t.pid ps kept.rising ∙ ap (passes is_live) l.row ∙ live;
+        link = ap tracer_in l.row ∙ this_is t.tracer l.passes;
+      }
+    where
+      this_is : (o : Option ℕ) → is_this q o ≡ true → o ≡ Some q
+      this_is None is = absurd (true≢false (sym is))
+      this_is (Some n) is = ap Some (eqb-true n q is)
+
+  pub walk_over : (t : ProcData) → next_tracee q after ps ≡ Some t → after < t.pid
+  walk_over t at = (least t at).above
+
+  pub walk_more : (t : ProcData) (from : ℕ) → next_tracee q after ps ≡ Some t → is_live t ≡ false → NoneBetween q ps from after → NoneBetween q ps from t.pid
+  walk_more t from at ended none = λ r own above less. elim (below_or_not after r.pid) [
+    | inr early ↦ none r own above early.1
+    | inl late ↦ by_bool (is_live r && traces q r) (λ is.
+        let more = (least t at).least r own late.1 (and_right (is_live r) (traces q r) is) in
+        let same : t.pid ≡ r.pid = omega (arith, more, less) in
+        let here : Some t ≡ Some r = sym (least t at).row ∙ ap (λ n. process_of n ps) same ∙ own in
+        true≢false (sym (and_left (is_live r) (traces q r) is) ∙ ap is_live (sym (some_is t r here)) ∙ ended))
+  ]
+
+  pub walk_none : (from : ℕ) → next_tracee q after ps ≡ None → NoneBetween q ps from after → traces_live_above from q rows ≡ false
+  walk_none from at none =
+      let past : NonePasses (traces q) after ps = subst (LeastOrNone (traces q) after ps) at (next_tracee-least q after ps kept.rising) in
+      none_passes (λ r. ltb from r.pid && (is_live r && traces q r)) (λ r. process_of r.pid ps ≡ Some r)
+      (λ r own. elim (below_or_not from r.pid) [
+        | inr low ↦ ap (λ b. b && (is_live r && traces q r)) low.0
+        | inl high ↦ ap (λ b. ltb from r.pid && b) (elim (below_or_not after r.pid) [
+          | inl late ↦ ap (λ b. is_live r && b) (past r own late.1) ∙ and-false (is_live r)
+          | inr early ↦ none r own high.1 early.1
+        ]) ∙ and-false (ltb from r.pid)
+      ])
+      ps (own_rows ps kept.rising)
+
+-- every number is above 0
+pub none_above_zero : (q : ℕ) (rows : Rows) → AllByRecursion AtHome rows.processes → traces_live_above 0 q rows ≡ false → traces_live q rows ≡ false
+none_above_zero q rows homes none =
+    none_passes (λ r. is_live r && traces q r) (λ r. AtHome r × ((ltb 0 r.pid && (is_live r && traces q r)) ≡ false))
+    (λ r h. let low = h.0.block.0 in elim (below_or_not 0 r.pid) [
+      | inl above ↦ sym (ap (λ b. b && (is_live r && traces q r)) above.0) ∙ h.1
+      | inr below ↦ let zero = below.1 in absurd (omega (arith, low, zero))
+    ])
+    rows.processes (All-both AtHome _ rows.processes homes (none_of (λ r. ltb 0 r.pid && (is_live r && traces q r)) rows.processes none))
+
+pub sought : (q : ℕ) (rows : Rows) → AllByRecursion AtHome rows.processes → (o : Option ℕ) → MatchOption o (traces_live_above 0 q rows ≡ false) (IsLiveTracee q rows) → MatchOption o (traces_live q rows ≡ false) (IsLiveTracee q rows)
+sought q rows homes None none = none_above_zero q rows homes none
+sought q rows homes (Some t) is = is
+
+-- The way down
+
+live_number : (n : ℕ) (rows : Rows) → Stands rows → is_live_at n rows ≡ passes is_live (process_of n rows.processes)
+live_number n rows s = any_by_number is_live n rows.processes s.rising
+
+-- the row of a live tracee
+pub record TraceeRow (n : ℕ) (rows : Rows) (t : ℕ) : Type 0 where
+  pub row : ProcData
+  pub own : process_of row.pid rows.processes ≡ Some row
+  pub number : row.pid ≡ t
+  pub traced : (is_live row && traces n row) ≡ true
+
+pub tracee_row : (n : ℕ) (rows : Rows) (t : ℕ) → Stands rows → IsLiveTracee n rows t → TraceeRow n rows t
+tracee_row n rows t s is = at_row (process_of t rows.processes) refl (sym (live_number t rows s) ∙ is.live) is.link
+  where
+    at_row : (o : Option ProcData) → process_of t rows.processes ≡ o → passes is_live o ≡ true → tracer_in o ≡ Some n → TraceeRow n rows t
+    at_row None at live link = absurd (true≢false (sym live))
+    at_row (Some r) at live link =
+        let number = process_of-pid t r rows.processes at in
+        record {
+          row = r;
+          own = ap (λ m. process_of m rows.processes) number ∙ at;
+          number = number;
+          traced = both (is_live r) (traces n r) live (ap (is_this n) link ∙ eq-eqb n n refl);
+        }
+
+module _ (rows : Rows) (s : Stands rows) where
+  pub ends_below : (p x t : ℕ) → IsLiveTracee x rows t → EndsToo p rows x → EndsToo p rows t
+  ends_below p x t is ends =
+      let r = tracee_row x rows t s is in
+      let k = tracee_doomed kills rows p x r.row refl s ends r.own r.traced in
+      ap (λ b. (t == p) || b) (ap (dooms kills rows.processes p) (sym r.number) ∙ k.1) ∙ or_true (t == p)
+
+  pub deeper : (x t : ℕ) → IsLiveTracee x rows t → 250 - length (chain 250 rows.processes t) < 250 - length (chain 250 rows.processes x)
+  deeper x t is =
+      let more = tracee_deeper rows t x s is.link in
+      let least = chains_end rows t s in
+      omega (arith, more, least)
+
+turned_round : (m n : ℕ) → (m == n) ≡ false → (n == m) ≡ false
+turned_round m n e = by_bool (n == m) (λ same. true≢false (sym (eq-eqb m n (sym (eqb-true n m same))) ∙ e))
+
+-- One turn: q ends with p, is not p, and traces no live process
+module _ (rows rows' : Rows) (p q status : ℕ) (s : IsSound rows) (other : (q == p) ≡ false) (ends : EndsToo p rows q) (leaf : traces_live q rows ≡ false) (ended : rows' ≡ end_alone q SIGKILL rows) where
+  doomed : dooms kills rows.processes p q ≡ true
+  doomed = sym (ap (λ b. b || dooms kills rows.processes p q) other) ∙ ends
+
+  pub lives : is_live_at q rows ≡ true
+  lives = live_number q rows s.stands ∙ (dooms_meets kills rows p s.stands q other doomed).0
+
+  made : rows' ≡ end kills q SIGKILL rows
+  made = ended ∙ sym (leaf_end kills rows q SIGKILL refl s.stands (listed rows q lives) leaf)
+
+  pub turn_sound : IsSound rows'
+  turn_sound = subst IsSound (sym made) (end_sound kills rows q SIGKILL s refl lives)
+
+  pub turn_lives : is_live_at p rows ≡ true → is_live_at p rows' ≡ true
+  turn_lives live =
+      subst (λ rs. is_live_at p rs ≡ true) (sym made)
+      (leaf_lives kills rows q SIGKILL p refl s.stands lives leaf ∙ both (is_live_at p rows) (not (p == q)) live (ap not (turned_round q p other)))
+
+  pub turn_same : end kills p status rows' ≡ end kills p status rows
+  turn_same = ap (end kills p status) made ∙ sym (leaf_law kills rows p q status refl s.stands other doomed leaf)
+
+  pub turn_fewer : count_by is_live rows'.processes < count_by is_live rows.processes
+  turn_fewer = subst (λ (rs : Rows). count_by is_live rs.processes < count_by is_live rows.processes) (sym made) (leaf_fewer kills rows q SIGKILL refl s.stands lives leaf)
+
+  pub turn_ends : (o : Option ℕ) → o ≡ tracer_of rows.processes q → EndsToo p rows' (unwrap_or o p)
+  turn_ends o is = at_tracer o is (q_traced kills rows p q status refl s.stands other doomed leaf)
+    where
+      at_tracer : (o : Option ℕ) → o ≡ tracer_of rows.processes q → holds_of (dooms kills rows.processes p) (tracer_of rows.processes q) ≡ true → EndsToo p rows' (unwrap_or o p)
+      at_tracer None link ends = ap (λ b. b || dooms kills rows'.processes p p) (eq-eqb p p refl)
+      at_tracer (Some t) link ends =
+          let apart : (t == q) ≡ false = by_bool (t == q) (λ same. true≢false (sym (meets-suc 249 rows.processes q q ∙ ap (holds_of (λ n. (n == q) || meets 249 rows.processes q n)) (sym link) ∙ ap (λ b. b || meets 249 rows.processes q t) same) ∙ no_ring rows s.stands q)) in
+          let met : dooms kills rows.processes p t ≡ true = subst (λ o. holds_of (dooms kills rows.processes p) o ≡ true) (sym link) ends in
+          ap (λ b. (t == p) || b)
+          (ap (λ (rs : Rows). dooms kills rs.processes p t) made ∙ leaf_dooms kills rows p q t refl s.stands other doomed leaf ∙ both (dooms kills rows.processes p t) (not (t == q)) met (ap not apart))
+          ∙ or_true (t == p)
+
+-- the last turn
+pub last_turn : (rows rows' : Rows) (p status : ℕ) → Stands rows → is_live_at p rows ≡ true → traces_live p rows ≡ false → rows' ≡ end_alone p status rows → rows' ≡ end kills p status rows
+last_turn rows rows' p status s live leaf ended = ended ∙ sym (leaf_end kills rows p status refl s (listed rows p live) leaf)

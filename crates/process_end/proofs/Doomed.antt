@@ -1,0 +1,163 @@
+-- Who ends with a process.
+use Rattle.std.proofs.Common.{◌≡◌, ℕ, zero, suc, List, [], ◌∷◌, filter_map, Bool, true, false, ◌&&◌, ◌||◌, ◌==◌, if◌then◌else◌, Option, Some, None, IfSome, is_some, refl, sym, ap, ◌∙◌, eqb, eqb-true, eq-eqb}
+use Rattle.std.proofs.Math.Path.{fun_ext}
+use Rattle.std.specs.List.{AllByRecursion, list_any}
+use Rattle.signals.specs.Table.{SIGTRAP}
+use Rattle.signals.specs.Sets.{bit}
+use Rattle.proc_table.specs.declared.ProcData.{ProcData}
+use Rattle.lwp_table.specs.declared.LwpData.{LwpData}
+use Rattle.proc_table.specs.Processes.{process_of, is_live, is_this, traces, reporting}
+use Rattle.proc_table.specs.Rows.{Rows, each}
+use Rattle.proc_table.specs.Kept.{Rise}
+use Rattle.trace_stop.specs.declared.Settings.{Settings}
+use Rattle.trace_stop.specs.Post.{notified}
+use Rattle.trace_stop.specs.Detach.{detached, untraced}
+use Rattle.trace_stop.specs.End.{tracer_in, holds_of, meets, is_doomed, dooms, process_after, lwp_after, told_of, left_alone, end_each, end_of}
+use Rattle.trace_stop.specs.Sound.{is_live_of}
+use Rattle.trace_stop.specs.Facts.{IsLiveOf, Linked, Stands}
+use Rattle.process_end.specs.Laws.{traces_live, end_alone, LeafEnd, DetachedEnd}
+use Rattle.trace_stop.proofs.Every.{All-imply, All-both, none_of, find_some}
+use Rattle.trace_stop.proofs.Named.{live_row}
+use Rattle.trace_stop.proofs.Passes.{filter_map_same, any_same, any_edited, each_same, own_rows}
+
+-- no row has this number, or a live one
+abbrev pub NoZombie : List ProcData → ℕ → Type 0
+NoZombie ps n = IfSome (process_of n ps) (λ p. is_live p ≡ true)
+
+pub no_zombie : (rows : Rows) → Rise rows.processes → (u n : ℕ) → is_live_of rows u n ≡ true → NoZombie rows.processes n
+no_zombie rows rise u n is = let r = live_row rows rise u n is in rw r.found r.live
+
+-- where tracers are live, and q traces no live process
+pub record Untracing (ps : List ProcData) (q : ℕ) (p : ProcData) : Type 0 where
+  pub free : is_live p ≡ true → is_this q p.tracer ≡ false
+  pub tracer : IfSome p.tracer (NoZombie ps)
+
+-- no chain of a live process leads to q
+pub meets_none : (ps : List ProcData) (q : ℕ) → AllByRecursion (Untracing ps q) ps → (k n : ℕ) → NoZombie ps n → meets k ps q n ≡ false
+unfolding meets
+meets_none ps q all zero n safe = refl
+meets_none ps q all (suc k) n safe = at_row (process_of n ps) refl safe (meets_none ps q all k)
+  where
+    at_tracer : (o : Option ℕ) → is_this q o ≡ false → IfSome o (NoZombie ps) → ((t : ℕ) → NoZombie ps t → meets k ps q t ≡ false) → holds_of (λ t. (t == q) || meets k ps q t) o ≡ false
+    at_tracer None free live next = refl
+    at_tracer (Some t) free live next = rw (free, next t live) refl
+
+    at_row : (o : Option ProcData) → process_of n ps ≡ o → IfSome o (λ p. is_live p ≡ true) → ((t : ℕ) → NoZombie ps t → meets k ps q t ≡ false) → holds_of (λ t. (t == q) || meets k ps q t) (tracer_in o) ≡ false
+    at_row None is live next = refl
+    at_row (Some p) is live next = let h = find_some (λ r. r.pid == n) (Untracing ps q) ps all p is in at_tracer p.tracer (h.0.free live) h.0.tracer next
+
+-- ends by tests that agree on the rows
+told_same : (ends ends' : ProcData → Bool) (over : ℕ → Bool) (p status : ℕ) (r : ProcData) → ends r ≡ ends' r → told_of ends over p status r ≡ told_of ends' over p status r
+told_same ends ends' over p status r same = rw same refl
+
+after_same : (ends ends' : ProcData → Bool) (over : ℕ → Bool) (p status : ℕ) (r : ProcData) → ends r ≡ ends' r → process_after ends over p status r ≡ process_after ends' over p status r
+after_same ends ends' over p status r same = rw same refl
+
+lwp_same : (ends ends' : ProcData → Bool) (over : ℕ → Bool) (r : ProcData) (l : LwpData) → ends r ≡ ends' r → lwp_after ends over r l ≡ lwp_after ends' over r l
+lwp_same ends ends' over r l same = rw same refl
+
+pub end_each_same : (ends ends' : ProcData → Bool) (over over' : ℕ → Bool) (p status : ℕ) (rows : Rows)
+    → AllByRecursion (λ r. ends r ≡ ends' r) rows.processes → ((n : ℕ) → over n ≡ over' n) → end_each ends over p status rows ≡ end_each ends' over' p status rows
+end_each_same ends ends' over over' p status rows all same =
+    ap (λ (ns : List ℕ). notified ns (each (process_after ends over p status) (lwp_after ends over) rows))
+    (filter_map_same (told_of ends over p status) (told_of ends' over p status) rows.processes (All-imply (λ r. ends r ≡ ends' r) _ (told_same ends ends' over p status) rows.processes all))
+    ∙ ap (notified (filter_map (told_of ends' over p status) rows.processes))
+    (each_same (process_after ends over p status) (process_after ends' over p status) (lwp_after ends over) (lwp_after ends' over) rows
+    (All-imply (λ r. ends r ≡ ends' r) _ (λ r e. (after_same ends ends' over p status r e, λ l. lwp_same ends ends' over r l e)) rows.processes all))
+    ∙ ap (λ (d : ℕ → Bool). end_each ends' d p status rows) (fun_ext same)
+
+or_false : (a b : Bool) → b ≡ false → (a || b) ≡ a
+or_false true b h = refl
+or_false false b h = h
+
+-- the numbers that end where q alone does
+one_number : (q n : ℕ) (ps : List ProcData) → list_any (λ r. r.pid == q) ps ≡ true → list_any (λ r. (r.pid == n) && (r.pid == q)) ps ≡ (n == q)
+one_number q n ps found = by_number (eqb n q) refl
+  where
+    miss : (p : ProcData) → eqb n q ≡ false → (b : Bool) → eqb p.pid n ≡ b → (b && (p.pid == q)) ≡ false
+    miss p other true here = ap (λ m. eqb m q) (eqb-true p.pid n here) ∙ other
+    miss p other false here = refl
+
+    hit : (p : ProcData) → eqb n q ≡ true → (b : Bool) → eqb p.pid q ≡ b → ((p.pid == n) && b) ≡ b
+    hit p same true here = rw (eq-eqb p.pid n (eqb-true p.pid q here ∙ sym (eqb-true n q same))) refl
+    hit p same false here = at (eqb p.pid n)
+      where
+        at : (b : Bool) → (b && false) ≡ false
+        at true = refl
+        at false = refl
+
+    missed : eqb n q ≡ false → (rs : List ProcData) → list_any (λ r. (r.pid == n) && (r.pid == q)) rs ≡ false
+    missed other [] = refl
+    missed other (p ∷ rs) = rw (miss p other (eqb p.pid n) refl) (missed other rs)
+
+    each_hit : eqb n q ≡ true → (rs : List ProcData) → AllByRecursion (λ r. ((r.pid == n) && (r.pid == q)) ≡ (r.pid == q)) rs
+    each_hit same [] = tt
+    each_hit same (p ∷ rs) = (hit p same (eqb p.pid q) refl, each_hit same rs)
+
+    by_number : (b : Bool) → eqb n q ≡ b → list_any (λ r. (r.pid == n) && (r.pid == q)) ps ≡ b
+    by_number true same = any_same _ (λ r. r.pid == q) ps (each_hit same ps) ∙ found
+    by_number false other = missed other ps
+
+pub dooms_alone : (settings : Settings) (ps : List ProcData) (q : ℕ) → list_any (λ r. r.pid == q) ps ≡ true → AllByRecursion (λ r. is_doomed settings ps q r ≡ (r.pid == q)) ps → (n : ℕ) → dooms settings ps q n ≡ (n == q)
+dooms_alone settings ps q found all n =
+    any_same (λ r. (r.pid == n) && is_doomed settings ps q r) (λ r. (r.pid == n) && (r.pid == q)) ps
+    (All-imply (λ r. is_doomed settings ps q r ≡ (r.pid == q)) _ (λ r e. ap (λ b. (r.pid == n) && b) e) ps all)
+    ∙ one_number q n ps found
+
+pub untracing : (rows : Rows) → Stands rows → (q : ℕ) → traces_live q rows ≡ false → AllByRecursion (Untracing rows.processes q) rows.processes
+untracing rows s q leaf =
+    All-imply (λ r. ((is_live r && traces q r) ≡ false) × Linked rows r) (Untracing rows.processes q)
+    (λ r h. record { free = λ live. sym (ap (λ b. b && traces q r) live) ∙ h.0; tracer = at_tracer r.uid r.tracer h.1.tracer })
+    rows.processes (All-both _ (Linked rows) rows.processes (none_of _ rows.processes leaf) s.linked)
+  where
+    at_tracer : (u : ℕ) (o : Option ℕ) → IfSome o (IsLiveOf rows u) → IfSome o (NoZombie rows.processes)
+    at_tracer u None h = tt
+    at_tracer u (Some t) h = no_zombie rows s.rising u t h
+
+-- of the rows q alone ends
+pub doomed_alone : (settings : Settings) (rows : Rows) (q : ℕ) → Stands rows → traces_live q rows ≡ false → AllByRecursion (λ r. is_doomed settings rows.processes q r ≡ (r.pid == q)) rows.processes
+doomed_alone settings rows q s leaf =
+    All-imply (λ r. process_of r.pid rows.processes ≡ Some r) _ (λ r own. or_false (r.pid == q) _ (at_live r own (is_live r) refl)) rows.processes (own_rows rows.processes s.rising)
+  where
+    and_false : (a : Bool) → (a && false) ≡ false
+    and_false true = refl
+    and_false false = refl
+
+    at_live : (r : ProcData) → process_of r.pid rows.processes ≡ Some r → (b : Bool) → is_live r ≡ b → (settings.kill_on_debugger_exit && b && meets 250 rows.processes q r.pid) ≡ false
+    at_live r own true live = rw (meets_none rows.processes q (untracing rows s q leaf) 250 r.pid (rw own live)) (and_false (settings.kill_on_debugger_exit && true))
+    at_live r own false dead = ap (λ b. b && meets 250 rows.processes q r.pid) (and_false settings.kill_on_debugger_exit)
+
+pub leaf_end : LeafEnd
+leaf_end settings rows q status kills s found leaf =
+    let all = doomed_alone settings rows q s leaf in
+    ap (λ (b : Bool). end_of settings q status (if b then rows else detached (λ r. is_live r && traces q r) (λ r. if is_some (reporting r) then bit SIGTRAP else 0) rows)) kills
+    ∙ end_each_same (is_doomed settings rows.processes q) (λ r. r.pid == q) (dooms settings rows.processes q) (λ n. n == q) q status rows all (dooms_alone settings rows.processes q found all)
+
+-- where tracees are detached, q alone ends
+not_killing : (settings : Settings) (ps : List ProcData) (q : ℕ) → settings.kill_on_debugger_exit ≡ false → (rs : List ProcData) → AllByRecursion (λ r. is_doomed settings ps q r ≡ (r.pid == q)) rs
+not_killing settings ps q spares [] = tt
+not_killing settings ps q spares (r ∷ rs) = (or_false (r.pid == q) _ (ap (λ b. b && is_live r && meets 250 ps q r.pid) spares), not_killing settings ps q spares rs)
+
+number_kept : (chosen : ProcData → Bool) (f : ProcData → ProcData) (q : ℕ) → ((r : ProcData) → (f r).pid ≡ r.pid) → (ps : List ProcData)
+    → list_any (λ r. r.pid == q) (filter_map (λ r. Some (if chosen r then f r else r)) ps) ≡ list_any (λ r. r.pid == q) ps
+number_kept chosen f q same ps = any_edited (λ r. Some (if chosen r then f r else r)) (λ r. r.pid == q) ps ∙ any_same _ (λ r. r.pid == q) ps (every ps)
+  where
+    at : (r : ProcData) (b : Bool) → ((if b then f r else r).pid == q) ≡ (r.pid == q)
+    at r true = ap (λ m. eqb m q) (same r)
+    at r false = refl
+
+    every : (rs : List ProcData) → AllByRecursion (λ r. ((if chosen r then f r else r).pid == q) ≡ (r.pid == q)) rs
+    every [] = tt
+    every (r ∷ rs) = (at r (chosen r), every rs)
+
+pub detached_end : DetachedEnd
+detached_end settings rows q status spares found =
+    let chosen : ProcData → Bool = λ r. is_live r && traces q r in
+    let lost : ProcData → ℕ = λ r. if is_some (reporting r) then bit SIGTRAP else 0 in
+    let left : Rows = detached chosen lost rows in
+    let same : left_alone settings q rows ≡ left = ap (λ (b : Bool). if b then rows else detached chosen lost rows) spares in
+    let all = not_killing settings left.processes q spares left.processes in
+    let here : list_any (λ r. r.pid == q) left.processes ≡ true = number_kept chosen (λ r. untraced (lost r) r) q (λ r. refl) rows.processes ∙ found in
+    ap (end_of settings q status) same
+    ∙ end_each_same (is_doomed settings left.processes q) (λ r. r.pid == q) (dooms settings left.processes q) (λ n. n == q) q status left all (dooms_alone settings left.processes q here all)
+    ∙ ap (end_alone q status) (sym same)

@@ -1,0 +1,181 @@
+-- The rows, when a process that is doomed and traces no live one ends before the process that dooms it.
+use Rattle.std.proofs.Common.{◌≡◌, ℕ, List, filter_map, Bool, true, false, ◌&&◌, ◌||◌, ◌==◌, if◌then◌else◌, Option, Some, None, IfSome, is_none, refl, sym, ap, ◌∙◌, true≢false, subst}
+use Rattle.std.specs.Option.{option_and_then}
+use Rattle.std.specs.List.{AllByRecursion, list_any}
+use Rattle.signals.specs.Table.{SIGKILL}
+use Rattle.proc_table.specs.declared.ProcData.{ProcData}
+use Rattle.lwp_table.specs.declared.LwpData.{LwpData}
+use Rattle.lwp_table.specs.declared.Due.{Due}
+use Rattle.lwp_table.specs.declared.Mode.TheVariants.{User}
+use Rattle.proc_table.specs.Processes.{process_of, is_live}
+use Rattle.proc_table.specs.Rows.{Rows, each, by_owner}
+use Rattle.proc_table.specs.Kept.{Rise}
+use Rattle.trace_stop.specs.End.{holds_of, orphaned, dead, uncollected, process_after, waits_where, released, lwp_after, told_of, end_each}
+use Rattle.trace_stop.proofs.Every.{by_bool, All-imply, All-both, All-any, any_holds}
+use Rattle.trace_stop.proofs.Passes.{passes, any_same, any_or, any_edited, KeepsNumbers, KeepsOwners, own_rows, rise_edited, each_twice, each_agree}
+use Rattle.process_end.proofs.Doomed.{NoZombie}
+use Rattle.process_end.proofs.Turned.{heard, heard_lwp, fallen, told_row, told_lwp, turned, turned_lwp}
+use Rattle.process_end.proofs.Twice.{alone, rest, Told, told-pid, twice, lwp_twice}
+use Rattle.process_end.proofs.Tells.{tells, tells-is, tells-names, told_by-names, Names, third-whom, tells_twice}
+
+-- What an end keeps of a row's number, and of an LWP's process
+
+kept : (r z : ProcData) → z.pid ≡ r.pid → (b : Bool) → IfSome (if b then None else Some z) (λ s. s.pid ≡ r.pid)
+kept r z same true = tt
+kept r z same false = same
+
+pub after_keeps : (over : ℕ → Bool) (p status : ℕ) → KeepsNumbers (process_after (fallen over) over p status)
+after_keeps over p status r = by_case (fallen over r) (is_live r)
+  where
+    z : ProcData
+    z = dead (if r.pid == p then status else SIGKILL) (orphaned over r)
+
+    by_case : (b c : Bool) → IfSome (if b then uncollected z else (if c then Some (record r { parent = if over r.parent then 1 else r.parent }) else uncollected (orphaned over r))) (λ s. s.pid ≡ r.pid)
+    by_case true c = kept r z refl (is_none z.tracer && (z.parent == 1))
+    by_case false true = refl
+    by_case false false = kept r (orphaned over r) refl (is_none (orphaned over r).tracer && ((orphaned over r).parent == 1))
+
+pub turned_keeps : (over : ℕ → Bool) (p status : ℕ) (told : ℕ → Bool) → KeepsNumbers (turned over p status told)
+unfolding turned
+turned_keeps over p status told r = at (process_after (fallen over) over p status r) (after_keeps over p status r)
+  where
+    at : (o : Option ProcData) → IfSome o (λ s. s.pid ≡ r.pid) → IfSome (option_and_then (λ s. Some (told_row told s)) o) (λ s. s.pid ≡ r.pid)
+    at None same = tt
+    at (Some s) same = told-pid told s ∙ same
+
+released-pid : (over : ℕ → Bool) (r : ProcData) (l : LwpData) → (released over r l).pid ≡ l.pid
+released-pid over r l = at (waits_where over l.mode) _
+  where
+    at : (b : Bool) (d : Due) → (if b then record l { mode = User; due = d } else l).pid ≡ l.pid
+    at true d = refl
+    at false d = refl
+
+told_lwp-pid : (told : ℕ → Bool) (r : ProcData) (l : LwpData) → (told_lwp told r l).pid ≡ l.pid
+unfolding told_lwp heard_lwp
+told_lwp-pid told r l = at (told r.pid)
+  where
+    at : (b : Bool) → (if b then heard_lwp r l else l).pid ≡ l.pid
+    at true = refl
+    at false = refl
+
+lwp_keeps : (over : ℕ → Bool) → KeepsOwners (lwp_after (fallen over) over)
+lwp_keeps over r l = at (fallen over r)
+  where
+    at : (b : Bool) → IfSome (if b then None else Some (released over r l)) (λ k. k.pid ≡ l.pid)
+    at true = tt
+    at false = released-pid over r l
+
+pub turned_lwp_keeps : (over : ℕ → Bool) (p status : ℕ) (told : ℕ → Bool) → KeepsOwners (turned_lwp over p status told)
+unfolding turned_lwp
+turned_lwp_keeps over p status told r l = at (lwp_after (fallen over) over r l) (lwp_keeps over r l)
+  where
+    owned : (k : LwpData) → k.pid ≡ l.pid → (o : Option ProcData) → IfSome (by_owner (λ s j. Some (told_lwp told s j)) k o) (λ j. j.pid ≡ l.pid)
+    owned k same None = same
+    owned k same (Some s) = told_lwp-pid told s k ∙ same
+
+    at : (o : Option LwpData) → IfSome o (λ k. k.pid ≡ l.pid) → IfSome (option_and_then (λ k. by_owner (λ s j. Some (told_lwp told s j)) k (process_after (fallen over) over p status r)) o) (λ k. k.pid ≡ l.pid)
+    at None same = tt
+    at (Some k) same = owned k same (process_after (fallen over) over p status r)
+
+-- The end as one edit
+
+-- whether x is told
+unfoldable pub told : (ℕ → Bool) → ℕ → ℕ → Rows → ℕ → Bool
+told over p status rows x = list_any (λ n. n == x) (filter_map (told_of (fallen over) over p status) rows.processes)
+
+pub told-is : (over : ℕ → Bool) (p status : ℕ) (rows : Rows) (x : ℕ) → told over p status rows x ≡ list_any (tells over x) rows.processes
+unfolding told
+told-is over p status rows x =
+    any_edited (told_of (fallen over) over p status) (λ n. n == x) rows.processes
+    ∙ any_same _ (tells over x) rows.processes (All-any _ (tells-is over p status x) rows.processes)
+
+pub end_turned : (over : ℕ → Bool) (p status : ℕ) (rows : Rows) → Rise rows.processes
+    → end_each (fallen over) over p status rows ≡ each (turned over p status (told over p status rows)) (turned_lwp over p status (told over p status rows)) rows
+unfolding turned turned_lwp told_row told_lwp heard heard_lwp told
+end_turned over p status rows rise =
+    each_twice (process_after (fallen over) over p status) (λ s. Some (told_row (told over p status rows) s)) (lwp_after (fallen over) over) (λ s j. Some (told_lwp (told over p status rows) s j))
+    rows rise (after_keeps over p status) (lwp_keeps over)
+
+-- what each row keeps
+pub record Ready (ps : List ProcData) (d : ℕ → Bool) (q : ℕ) (r : ProcData) : Type 0 where
+  pub free : is_live r ≡ true → holds_of (alone q) r.tracer ≡ false
+  pub traced : is_live r ≡ true → alone q r.pid ≡ true → holds_of d r.tracer ≡ true
+  pub names : (x : ℕ) → Names r x → NoZombie ps x
+
+pub Told-from : (ps : List ProcData) (over t : ℕ → Bool) → ((x : ℕ) → t x ≡ true → (over x ≡ false) × NoZombie ps x) → (r : ProcData) → process_of r.pid ps ≡ Some r → Told over t r
+Told-from ps over t h r own = record {
+  dead = λ ended. by_bool (t r.pid) (λ is. true≢false (sym (subst (λ o. IfSome o (λ s. is_live s ≡ true)) own (h r.pid is).1) ∙ ended));
+  falls = λ falls. by_bool (t r.pid) (λ is. true≢false (sym falls ∙ (h r.pid is).0));
+}
+
+module _ (rows : Rows) (d : ℕ → Bool) (p q status : ℕ) (dq : d q ≡ true) (qp : (q == p) ≡ false) (rise : Rise rows.processes) (ready : AllByRecursion (Ready rows.processes d q) rows.processes) where
+  -- who is told at q's end, at both at once, and at the end of p after that of q
+  abbrev pub first : ℕ → Bool
+  first = told (alone q) q SIGKILL rows
+
+  abbrev both : ℕ → Bool
+  both = told d p status rows
+
+  abbrev pub left : Rows
+  left = end_each (fallen (alone q)) (alone q) q SIGKILL rows
+
+  abbrev second : ℕ → Bool
+  second = told (rest d q) p status left
+
+  pub left-is : left ≡ each (turned (alone q) q SIGKILL first) (turned_lwp (alone q) q SIGKILL first) rows
+  left-is = end_turned (alone q) q SIGKILL rows rise
+
+  pub left-rises : Rise left.processes
+  left-rises = subst (λ (rs : Rows). Rise rs.processes) (sym left-is) (rise_edited (turned (alone q) q SIGKILL first) (turned_keeps (alone q) q SIGKILL first) rows.processes rise)
+
+  told_alive : (over : ℕ → Bool) (n w x : ℕ) → told over n w rows x ≡ true → (over x ≡ false) × NoZombie rows.processes x
+  told_alive over n w x is =
+      any_holds (tells over x) (Ready rows.processes d q) ((over x ≡ false) × NoZombie rows.processes x)
+      (λ r h e. let k = tells-names over x r e in (k.0, h.names x k.1)) rows.processes ready (sym (told-is over n w rows x) ∙ is)
+
+  own : AllByRecursion (λ r. process_of r.pid rows.processes ≡ Some r) rows.processes
+  own = own_rows rows.processes rise
+
+  pub first_told : (r : ProcData) → process_of r.pid rows.processes ≡ Some r → Told (alone q) first r
+  first_told = Told-from rows.processes (alone q) first (told_alive (alone q) q SIGKILL)
+
+  both_told : (r : ProcData) → process_of r.pid rows.processes ≡ Some r → Told d both r
+  both_told = Told-from rows.processes d both (told_alive d p status)
+
+  second-is : (x : ℕ) → second x ≡ list_any (λ r. passes (tells (rest d q) x) (turned (alone q) q SIGKILL first r)) rows.processes
+  second-is x =
+      told-is (rest d q) p status left x
+      ∙ ap (λ (rs : Rows). list_any (tells (rest d q) x) rs.processes) left-is
+      ∙ any_edited (turned (alone q) q SIGKILL first) (tells (rest d q) x) rows.processes
+
+  pairs : AllByRecursion (λ r. Ready rows.processes d q r × (process_of r.pid rows.processes ≡ Some r)) rows.processes
+  pairs = All-both (Ready rows.processes d q) _ rows.processes ready own
+
+  second_alive : (x : ℕ) → second x ≡ true → (d x ≡ false) × NoZombie rows.processes x
+  second_alive x is =
+      any_holds (λ r. passes (tells (rest d q) x) (turned (alone q) q SIGKILL first r)) (λ r. Ready rows.processes d q r × (process_of r.pid rows.processes ≡ Some r)) ((d x ≡ false) × NoZombie rows.processes x)
+      (λ r h e. let k = told_by-names d x r (third-whom d q dq x r h.0.free first (first_told r h.1) e) in (k.0, h.0.names x k.1)) rows.processes pairs (sym (second-is x) ∙ is)
+
+  told_once : (x : ℕ) → d x ≡ false → both x ≡ (first x || second x)
+  told_once x safe =
+      told-is d p status rows x
+      ∙ any_or (tells d x) (tells (alone q) x) (λ r. passes (tells (rest d q) x) (turned (alone q) q SIGKILL first r)) rows.processes
+      (All-imply _ _ (λ r h. tells_twice d q dq x r h.0.free first (first_told r h.1) safe h.0.traced) rows.processes pairs)
+      ∙ sym (ap (λ b. b || second x) (told-is (alone q) q SIGKILL rows x) ∙ ap (λ b. list_any (tells (alone q) x) rows.processes || b) (second-is x))
+
+  pub rows_twice : AllByRecursion (λ l. (r : ProcData) → process_of l.pid rows.processes ≡ Some r → is_live r ≡ true) rows.lwps
+      → end_each (fallen (rest d q)) (rest d q) p status left ≡ end_each (fallen d) d p status rows
+  rows_twice owners =
+      end_turned (rest d q) p status left left-rises
+      ∙ ap (each (turned (rest d q) p status second) (turned_lwp (rest d q) p status second)) left-is
+      ∙ each_twice (turned (alone q) q SIGKILL first) (turned (rest d q) p status second) (turned_lwp (alone q) q SIGKILL first) (turned_lwp (rest d q) p status second)
+      rows rise (turned_keeps (alone q) q SIGKILL first) (turned_lwp_keeps (alone q) q SIGKILL first)
+      ∙ each_agree _ (turned d p status both) _ (turned_lwp d p status both) rows
+      (All-imply (λ r. Ready rows.processes d q r × (process_of r.pid rows.processes ≡ Some r)) _
+      (λ r h.
+      let k1 = first_told r h.1 in (
+        twice d p q status r dq qp h.0.free first both second k1 (both_told r h.1) (Told-from rows.processes d second second_alive r h.1) (told_once r.pid),
+        λ live l. lwp_twice d p q status r l dq live first both second k1 (told_once r.pid),
+      )) rows.processes pairs)
+      owners
+      ∙ sym (end_turned d p status rows rise)

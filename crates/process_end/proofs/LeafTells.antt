@@ -1,0 +1,263 @@
+-- A zombie taken from its tracer, which ends, and its parent told of it: the tracer's end is as it was.
+use Rattle.std.proofs.Common.{◌≡◌, ℕ, Bool, true, false, not, ◌&&◌, ◌||◌, ◌==◌, if◌then◌else◌, Option, Some, None, IfSome, refl, sym, ap, ◌∙◌, true≢false, eqb-true, eq-eqb}
+use Rattle.std.proofs.Math.Bool.{or-false, or_comm}
+use Rattle.std.specs.List.{AllByRecursion, list_any}
+use Rattle.lwp_table.specs.declared.LwpData.{LwpData}
+use Rattle.proc_table.specs.declared.ProcData.{ProcData}
+use Rattle.proc_table.specs.Processes.{process_of, is_live, is_this, traces}
+use Rattle.proc_table.specs.Rows.{Rows, each}
+use Rattle.proc_table.specs.Kept.{Rise}
+use Rattle.trace_stop.specs.End.{unless, holds_of, orphaned, uncollected, released}
+use Rattle.process_end.specs.Laws.{end_alone}
+use Rattle.process_end.specs.Leaving.{LeavingRow, LeavingLwp, IsLeaving}
+use Rattle.trace_stop.proofs.Every.{by_bool, All-imply, All-both, find_some}
+use Rattle.trace_stop.proofs.Passes.{passes, any_or}
+use Rattle.trace_stop.proofs.Stopping.{the_row}
+use Rattle.process_end.proofs.Turned.{heard, heard_lwp, told_row, told_lwp, turned, turned_lwp, moved, told-miss, turned-dead, turned-safe, turned-fallen, turned_lwp-safe, turned_lwp-fallen}
+use Rattle.process_end.proofs.Twice.{alone, Told, told-live, told-pid, moved-pid, told_twice, told_lwp-moved, told_lwp-told, released-told, released_told, told_lwp_twice}
+use Rattle.process_end.proofs.Tells.{tells, tells-value, told_by, tells_any, parent_after}
+use Rattle.process_end.proofs.LeafFirst.{told, told-is}
+use Rattle.trace_stop.proofs.Found.{any_by_number}
+use Rattle.process_end.proofs.LeafLaw.{this_holds}
+use Rattle.process_end.proofs.Leaving.{Fit, leaving_each, Ends, stepped, told_after, told_alive, Told-of, put_tell, put_tell_lwp, put_keeps}
+
+-- What one who is told keeps
+
+module _ (t : ℕ → Bool) (r : ProcData) where
+  pub told_fits : (alive : ℕ → Bool) (q : ℕ) → LeavingRow alive q r → LeavingRow alive q (told_row t r)
+  unfolding told_row heard
+  told_fits alive q h = at (t r.pid)
+    where
+      at : (b : Bool) → LeavingRow alive q (if b then heard r else r)
+      at true = record { lives = h.lives; tracer = h.tracer; parent = h.parent; free = h.free; left = h.left }
+      at false = h
+
+  pub tells-told : (over : ℕ → Bool) (x : ℕ) → tells over x (told_row t r) ≡ tells over x r
+  unfolding tells told_row heard
+  tells-told over x = at (t r.pid)
+    where
+      at : (b : Bool) → tells over x (if b then heard r else r) ≡ tells over x r
+      at true = refl
+      at false = refl
+
+pub told_lwp_fits : (t : ℕ → Bool) (alive : ℕ → Bool) (q : ℕ) (r : ProcData) (l : LwpData) → LeavingLwp alive q l → LeavingLwp alive q (told_lwp t r l)
+unfolding told_lwp heard_lwp
+told_lwp_fits t alive q r l h = at (t r.pid)
+  where
+    at : (b : Bool) → LeavingLwp alive q (if b then heard_lwp r l else l)
+    at true = record { lives = h.lives; other = h.other; waits = h.waits }
+    at false = h
+
+pub told_lwp_keeps : (t : ℕ → Bool) (r : ProcData) (l : LwpData) → (told_lwp t r l).pid ≡ l.pid
+unfolding told_lwp heard_lwp
+told_lwp_keeps t r l = at (t r.pid)
+  where
+    at : (b : Bool) → (if b then heard_lwp r l else l).pid ≡ l.pid
+    at true = refl
+    at false = refl
+
+first_false : (a b c : Bool) → a ≡ (b || c) → a ≡ false → b ≡ false
+first_false a true c is none = absurd (true≢false (sym is ∙ none))
+first_false a false c is none = refl
+
+pub same_test : (a b : ℕ) → (a == b) ≡ (b == a)
+same_test a b = by_test (a == b) refl (b == a) refl
+  where
+    by_test : (c : Bool) → (a == b) ≡ c → (d : Bool) → (b == a) ≡ d → (a == b) ≡ (b == a)
+    by_test true is d e = is ∙ sym (eq-eqb b a (sym (eqb-true a b is)))
+    by_test false is true e = absurd (true≢false (sym (eq-eqb a b (sym (eqb-true b a e))) ∙ is))
+    by_test false is false e = is ∙ sym e
+
+pub unless_this : (q : ℕ) (o : Option ℕ) → is_this q o ≡ true → unless (alone q) o ≡ None
+unfolding alone
+unless_this q None is = refl
+unless_this q (Some t) is = ap (λ b. if b then None else Some t) is
+
+any_dead : (over : ℕ → Bool) (r : ProcData) → is_live r ≡ false → tells_any over r ≡ holds_of over r.tracer
+any_dead over r ended = rw ended refl
+
+told_parent : (m x : ℕ) → (m == 1) ≡ false → told_by None m x ≡ alone m x
+unfolding told_by alone
+told_parent m x other = ap (λ b. not b && (m == x)) other ∙ same_test m x
+
+-- An LWP of a process that lives on, which may be told first
+lwp_later : (over : ℕ → Bool) (t1 t3 t2 : ℕ → Bool) (r : ProcData) (l : LwpData) → t2 r.pid ≡ (t1 r.pid || t3 r.pid)
+    → told_lwp t3 (moved over (told_row t1 r)) (released over (told_row t1 r) (told_lwp t1 r l)) ≡ told_lwp t2 (moved over r) (released over r l)
+lwp_later over t1 t3 t2 r l told =
+    ap (told_lwp t3 (moved over (told_row t1 r))) (released-told over t1 r (told_lwp t1 r l) ∙ released_told over t1 r l)
+    ∙ told_lwp-moved over t3 (told_row t1 r) (told_lwp t1 r (released over r l))
+    ∙ told_lwp-told t3 t1 r (told_lwp t1 r (released over r l))
+    ∙ told_lwp_twice t1 t2 t3 r (released over r l) told
+    ∙ sym (told_lwp-moved over t2 r (released over r l))
+
+abbrev pub untrace : ProcData → ProcData
+untrace r = record r { tracer = None }
+
+module _ (q n : ℕ) (rows : Rows) (v : IsLeaving q rows) (rise : Rise rows.processes) (z : ProcData) (at : process_of n rows.processes ≡ Some z)
+    (ended : is_live z ≡ false) (traced : traces q z ≡ true) (parent : (z.parent == 1) ≡ false) (other : alone q z.parent ≡ false) where
+  abbrev m : ℕ
+  m = z.parent
+
+  abbrev pub untold : ProcData → Option ProcData
+  untold = put_tell n untrace m
+
+  abbrev pub untold_lwp : ProcData → LwpData → Option LwpData
+  untold_lwp = put_tell_lwp n untrace m
+
+  rows_fit : AllByRecursion (λ r. LeavingRow v.alive q r × (r.pid ≡ n → r ≡ z)) rows.processes
+  rows_fit = All-both (LeavingRow v.alive q) _ rows.processes v.processes (the_row n rows.processes z rise at)
+
+  z_fits : LeavingRow v.alive q z × ((z.pid == n) ≡ true)
+  z_fits = find_some (λ r. r.pid == n) (LeavingRow v.alive q) rows.processes v.processes z at
+
+  m_alive : v.alive m ≡ true
+  m_alive = z_fits.0.parent (λ one. true≢false (sym (eq-eqb m 1 one) ∙ parent))
+
+  -- the parent lives, so it isn't a zombie
+  not_told : (r : ProcData) → LeavingRow v.alive q r → is_live r ≡ false → alone m r.pid ≡ false
+  unfolding alone
+  not_told r h dead = by_bool (r.pid == m) (λ same. true≢false (sym m_alive ∙ ap v.alive (sym (eqb-true r.pid m same)) ∙ sym h.lives ∙ dead))
+
+  not_q : (r : ProcData) → alone q r.pid ≡ true → alone m r.pid ≡ false
+  unfolding alone
+  not_q r is = by_bool (r.pid == m) (λ same. true≢false (sym is ∙ ap (λ k. k == q) (eqb-true r.pid m same) ∙ other))
+
+  changed : (r : ProcData) → (r.pid ≡ n → r ≡ z) → LeavingRow v.alive q r → (b : Bool) → (r.pid == n) ≡ b → LeavingRow v.alive q (if b then untrace r else r)
+  changed r one h false apart = h
+  changed r one h true same = record {
+    lives = h.lives;
+    tracer = tt;
+    parent = h.parent;
+    free = λ live. refl;
+    left = λ dead. ap (λ (k : ProcData). k.parent == 1) (one (eqb-true r.pid n same)) ∙ parent;
+  }
+
+  untold_fit : (r : ProcData) → LeavingRow v.alive q r → (r.pid ≡ n → r ≡ z) → Fit v.alive q untold r
+  untold_fit r h one = record {
+    row = told_fits (alone m) (if r.pid == n then untrace r else r) v.alive q (changed r one h (r.pid == n) refl);
+    here = λ is. (
+      told_row (alone m) (if r.pid == n then untrace r else r),
+      refl,
+      ap (λ k. (k == q) && is_live (told_row (alone m) (if r.pid == n then untrace r else r))) (told-pid (alone m) (if r.pid == n then untrace r else r))
+          ∙ ap (λ b. ((if r.pid == n then untrace r else r).pid == q) && b) (told-live (alone m) (if r.pid == n then untrace r else r))
+          ∙ at_number is (r.pid == n),
+    );
+  }
+    where
+      at_number : ((r.pid == q) && is_live r) ≡ true → (b : Bool) → (((if b then untrace r else r).pid == q) && is_live (if b then untrace r else r)) ≡ true
+      at_number is true = is
+      at_number is false = is
+
+  pub untold_leaving : IsLeaving q (each untold untold_lwp rows)
+  untold_leaving = leaving_each q rows v untold untold_lwp (λ r l h. told_lwp_fits (alone m) v.alive q (if r.pid == n then untrace r else r) l h)
+      (All-imply _ (Fit v.alive q untold) (λ r h. untold_fit r h.0 h.1) rows.processes rows_fit)
+
+  keeps : (r : ProcData) → IfSome (untold r) (λ s. s.pid ≡ r.pid)
+  keeps r = told-pid (alone m) (if r.pid == n then untrace r else r) ∙ put_keeps n untrace (λ k. refl) r
+
+  owners : (r : ProcData) (l : LwpData) → IfSome (untold_lwp r l) (λ k. k.pid ≡ l.pid)
+  owners r l = told_lwp_keeps (alone m) (if r.pid == n then untrace r else r) l
+
+  module _ (w : ℕ) where
+    abbrev before : ℕ → Bool
+    before = told (alone q) q w rows
+
+    abbrev after : ℕ → Bool
+    after = told (alone q) q w (each untold untold_lwp rows)
+
+    -- the parent is told first, and no more later for this zombie
+    z_tells : (x : ℕ) → tells (alone q) x z ≡ alone m x
+    z_tells x =
+        tells-value (alone q) x z true (any_dead (alone q) z ended ∙ this_holds q z.tracer ∙ traced)
+        ∙ ap (λ (o : Option ℕ). told_by o (parent_after (alone q) m) x) (unless_this q z.tracer traced)
+        ∙ ap (λ k. told_by None k x) (ap (λ b. if b then 1 else m) other)
+        ∙ told_parent m x parent
+
+    z_tells_no_more : (x : ℕ) → tells (alone q) x (untrace z) ≡ false
+    z_tells_no_more x = tells-value (alone q) x (untrace z) false (any_dead (alone q) (untrace z) ended)
+
+    both_tell : (x : ℕ) → before x ≡ (after x || alone m x)
+    both_tell x =
+        told-is (alone q) q w rows x
+        ∙ any_or (tells (alone q) x) (λ r. passes (tells (alone q) x) (untold r)) (λ r. (r.pid == n) && alone m x) rows.processes
+        (All-imply _ _ (λ r h. tell r h.1 (r.pid == n) refl) rows.processes rows_fit)
+        ∙ ap (λ b. b || list_any (λ r. (r.pid == n) && alone m x) rows.processes) (sym (told_after q w rows v rise untold untold_lwp keeps owners untold_leaving x))
+        ∙ ap (λ b. after x || b) (any_by_number (λ r. alone m x) n rows.processes rise ∙ ap (passes (λ r. alone m x)) at)
+      where
+        tell : (r : ProcData) → (r.pid ≡ n → r ≡ z) → (b : Bool) → (r.pid == n) ≡ b → tells (alone q) x r ≡ (tells (alone q) x (told_row (alone m) (if b then untrace r else r)) || (b && alone m x))
+        tell r one false apart = sym (or-false (tells (alone q) x (told_row (alone m) r)) ∙ tells-told (alone m) r (alone q) x)
+        tell r one true same =
+            let is = one (eqb-true r.pid n same) in
+            ap (tells (alone q) x) is ∙ z_tells x
+            ∙ sym (ap (λ b. b || alone m x) (tells-told (alone m) (untrace r) (alone q) x ∙ ap (λ k. tells (alone q) x (untrace k)) is ∙ z_tells_no_more x))
+
+    not_before : (r : ProcData) → LeavingRow v.alive q r → Told (alone q) before r
+    not_before r h = Told-of q rows v before (told_alive q rows v w) r h
+
+    ends : (r : ProcData) → LeavingRow v.alive q r → (r.pid ≡ n → r ≡ z) → Ends q w rows v rise untold untold_lwp keeps owners untold_leaving after before r
+    ends r h one = by_number (r.pid == n) refl
+      where
+        not_after : (k : ℕ) → before k ≡ false → after k ≡ false
+        not_after k none = first_false (before k) (after k) (alone m k) (both_tell k) none
+
+        made : Bool → ProcData
+        made b = told_row (alone m) (if b then untrace r else r)
+
+        EndsAt : Bool → Type 0
+        EndsAt b = (turned (alone q) q w after (made b) ≡ turned (alone q) q w before r)
+            × (is_live r ≡ true → (l : LwpData) → turned_lwp (alone q) q w after (made b) (told_lwp (alone m) (if b then untrace r else r) l) ≡ turned_lwp (alone q) q w before r l)
+
+        unnamed : orphaned (alone q) (untrace z) ≡ orphaned (alone q) z
+        unnamed = ap (λ (o : Option ℕ). record z { tracer = o; parent = parent_after (alone q) z.parent }) (sym (unless_this q z.tracer traced))
+
+        of_zombie : turned (alone q) q w after (told_row (alone m) (untrace z)) ≡ turned (alone q) q w before z
+        of_zombie =
+            let missed = (not_before z z_fits.0).dead ended in
+            ap (turned (alone q) q w after) (told-miss (alone m) (untrace z) (not_told z z_fits.0 ended))
+            ∙ turned-dead (alone q) q w after (untrace z) ended (not_after z.pid missed)
+            ∙ ap uncollected unnamed
+            ∙ sym (turned-dead (alone q) q w before z ended missed)
+
+        live_made : is_live r ≡ true → is_live (told_row (alone m) r) ≡ true
+        live_made live = told-live (alone m) r ∙ live
+
+        by_doom : is_live r ≡ true → (b : Bool) → alone q r.pid ≡ b → EndsAt false
+        by_doom live true falls = (
+          ap (turned (alone q) q w after) (told-miss (alone m) r (not_q r falls))
+              ∙ turned-fallen (alone q) q w after r live falls (not_after r.pid ((not_before r h).falls falls))
+              ∙ sym (turned-fallen (alone q) q w before r live falls ((not_before r h).falls falls)),
+          λ alive l.
+              turned_lwp-fallen (alone q) q w after (told_row (alone m) r) (told_lwp (alone m) r l) (live_made live) (ap (alone q) (told-pid (alone m) r) ∙ falls)
+              ∙ sym (turned_lwp-fallen (alone q) q w before r l live falls),
+        )
+        by_doom live false safe =
+            let told_both : before r.pid ≡ (alone m r.pid || after r.pid) = both_tell r.pid ∙ or_comm (after r.pid) (alone m r.pid) in (
+              turned-safe (alone q) q w after (told_row (alone m) r) (live_made live) (ap (alone q) (told-pid (alone m) r) ∙ safe)
+                  ∙ ap Some (told_twice (alone q) (alone m) after before r (moved (alone q) r) refl (ap before (moved-pid (alone q) r) ∙ told_both))
+                  ∙ sym (turned-safe (alone q) q w before r live safe),
+              λ alive l.
+                  turned_lwp-safe (alone q) q w after (told_row (alone m) r) (told_lwp (alone m) r l) (live_made live) (ap (alone q) (told-pid (alone m) r) ∙ safe)
+                  ∙ ap Some (lwp_later (alone q) (alone m) after before r l told_both)
+                  ∙ sym (turned_lwp-safe (alone q) q w before r l live safe),
+            )
+
+        by_live : (b : Bool) → is_live r ≡ b → EndsAt false
+        by_live true live = by_doom live (alone q r.pid) refl
+        by_live false dead =
+            let missed = (not_before r h).dead dead in (
+              ap (turned (alone q) q w after) (told-miss (alone m) r (not_told r h dead))
+                  ∙ turned-dead (alone q) q w after r dead (not_after r.pid missed)
+                  ∙ sym (turned-dead (alone q) q w before r dead missed),
+              λ live l. absurd (true≢false (sym live ∙ dead)),
+            )
+
+        by_number : (b : Bool) → (r.pid == n) ≡ b → EndsAt b
+        by_number false apart = by_live (is_live r) refl
+        by_number true same =
+            let is = one (eqb-true r.pid n same) in (
+              ap (λ k. turned (alone q) q w after (told_row (alone m) (untrace k))) is ∙ of_zombie ∙ sym (ap (turned (alone q) q w before) is),
+              λ live l. absurd (true≢false (sym live ∙ ap is_live is ∙ ended)),
+            )
+
+    pub untold_same : end_alone q w (each untold untold_lwp rows) ≡ end_alone q w rows
+    untold_same = stepped q w rows v rise untold untold_lwp keeps owners untold_leaving (All-imply _ (Ends q w rows v rise untold untold_lwp keeps owners untold_leaving after before) (λ r h. ends r h.0 h.1) rows.processes rows_fit)

@@ -1,0 +1,201 @@
+-- A tracee or a child that is taken from a process that ends, over the tables' edits.
+use Rattle.std.proofs.Common.{◌≡◌, ℕ, ◌<◌, Bool, true, false, ◌&&◌, ◌||◌, ◌==◌, if◌then◌else◌, Option, Some, None, is_none, is_some, refl, sym, ap, ◌∙◌, arith, true≢false, eqb-true, subst, [], ◌∷◌}
+use Rattle.std.specs.Prelude.{count_by, option_map}
+use Rattle.std.specs.List.{list_any}
+use Rattle.proc_table.specs.declared.ProcData.{ProcData}
+use Rattle.proc_table.specs.Processes.{process_of, is_live, traces}
+use Rattle.proc_table.specs.Rows.{Rows, each}
+use Rattle.proc_table.specs.Walks.{next_tracee, next_child}
+use Rattle.proc_table.specs.Kept.{AtHome, IsKept, IsRow, Named, set_process, drop_process}
+use Rattle.proc_table.specs.Laws.{IsLeast, LeastOrNone}
+use Rattle.proc_table.proofs.Every.{every_found}
+use Rattle.proc_table.proofs.Least.{next_tracee-least, next_child-least}
+use Rattle.proc_table.proofs.Rows.{found_row}
+use Rattle.proc_table.proofs.Stays.{named-untraced}
+use Rattle.trace_stop.specs.Post.{notified}
+use Rattle.trace_stop.specs.End.{unless, orphaned, uncollected, collector}
+use Rattle.process_end.specs.Laws.{end_alone}
+use Rattle.process_end.specs.Leaving.{LeavingRow, IsLeaving}
+use Rattle.trace_stop.proofs.Every.{by_bool, and_left, any_holds, All-any, find_some}
+use Rattle.trace_stop.proofs.Edited.{some_is}
+use Rattle.process_end.proofs.Turned.{is_gone, gone-true, gone-false}
+use Rattle.process_end.proofs.Twice.{alone}
+use Rattle.process_end.proofs.Leaving.{is_alone, same_lwp, put, out, set_each, drop_each, set_tell}
+use Rattle.process_end.proofs.LeafSteps.{orphan, out_leaving, out_same, put_leaving, put_same}
+use Rattle.process_end.proofs.LeafTells.{untrace, unless_this, untold, untold_lwp, untold_leaving, untold_same}
+use Rattle.process_end.proofs.Unnamed.{one_fewer, its_row, out_passes, orphan_passes, untold_passes, none_edited}
+
+-- Who collects
+
+pub collected : (z : ProcData) → is_gone z ≡ false → option_map collector (uncollected z) ≡ Some (collector z)
+collected z left = ap (option_map collector) (gone-false z left)
+
+pub collector_none : (z : ProcData) → option_map collector (uncollected z) ≡ None → is_gone z ≡ true
+collector_none z none = by_gone (is_gone z) refl
+  where
+    by_gone : (b : Bool) → is_gone z ≡ b → is_gone z ≡ true
+    by_gone true e = e
+    by_gone false e = absurd (true≢false (ap is_some (sym (collected z e) ∙ none)))
+
+pub collector_some : (z : ProcData) (m : ℕ) → option_map collector (uncollected z) ≡ Some m → (is_gone z ≡ false) × (m ≡ collector z)
+collector_some z m some = by_gone (is_gone z) refl
+  where
+    by_gone : (b : Bool) → is_gone z ≡ b → (is_gone z ≡ false) × (m ≡ collector z)
+    by_gone true e = absurd (true≢false (sym (sym (ap is_some (ap (option_map collector) (gone-true z e))) ∙ ap is_some some)))
+    by_gone false e = (e, some_is m (collector z) (sym some ∙ collected z e))
+
+-- Walks
+
+pub tracee_at : (q : ℕ) (rows : Rows) (z : ProcData) → IsKept rows → next_tracee q 0 rows.processes ≡ Some z → (process_of z.pid rows.processes ≡ Some z) × (traces q z ≡ true)
+tracee_at q rows z kept at = let least : IsLeast (traces q) 0 rows.processes z = subst (LeastOrNone (traces q) 0 rows.processes) at (next_tracee-least q 0 rows.processes kept.rising) in (least.row, least.passes)
+
+pub child_at : (q : ℕ) (rows : Rows) (z : ProcData) → IsKept rows → next_child q 0 rows.processes ≡ Some z → (process_of z.pid rows.processes ≡ Some z) × ((z.parent == q) ≡ true)
+child_at q rows z kept at = let least : IsLeast (λ r. r.parent == q) 0 rows.processes z = subst (LeastOrNone (λ r. r.parent == q) 0 rows.processes) at (next_child-least q 0 rows.processes kept.rising) in (least.row, least.passes)
+
+-- A tracee
+
+abbrev pub orphan_of : ℕ → ProcData → ProcData
+orphan_of q z = record z { tracer = None; parent = if z.parent == q then 1 else z.parent }
+
+orphan_is : (q : ℕ) (z : ProcData) → traces q z ≡ true → orphaned (alone q) z ≡ orphan_of q z
+unfolding alone
+orphan_is q z traced = ap (λ (o : Option ℕ). record z { tracer = o; parent = if z.parent == q then 1 else z.parent }) (unless_this q z.tracer traced)
+
+module _ (q : ℕ) (rows rows' : Rows) (kept : IsKept rows) (v : IsLeaving q rows) (z : ProcData) (at : process_of z.pid rows.processes ≡ Some z) where
+  pub listed : IsRow rows z.pid
+  listed = found_row z.pid z rows.processes at
+
+  z_fits : LeavingRow v.alive q z
+  z_fits = (find_some (λ r. r.pid == z.pid) (LeavingRow v.alive q) rows.processes v.processes z at).0
+
+  module _ (traced : traces q z ≡ true) where
+    pub tracee-ended : is_live z ≡ false
+    tracee-ended = by_bool (is_live z) (λ live. true≢false (sym traced ∙ z_fits.free live))
+
+    module _ (none : option_map collector (uncollected (orphan_of q z)) ≡ None) (made : rows' ≡ drop_process z.pid rows) where
+      tracee-gone : is_gone (orphaned (alone q) z) ≡ true
+      tracee-gone = ap is_gone (orphan_is q z traced) ∙ collector_none (orphan_of q z) none
+
+      tracee-out : rows' ≡ each (out z.pid) same_lwp rows
+      tracee-out = made ∙ drop_each z.pid rows
+
+      pub tracee_out-leaving : IsLeaving q rows'
+      tracee_out-leaving = subst (IsLeaving q) (sym tracee-out) (out_leaving q z.pid rows v kept.rising z at tracee-ended tracee-gone)
+
+      pub tracee_out-fewer : count_by (traces q) rows'.processes < count_by (traces q) rows.processes
+      tracee_out-fewer = subst (λ (rs : Rows). count_by (traces q) rs.processes < count_by (traces q) rows.processes) (sym tracee-out)
+          (one_fewer (traces q) (out z.pid) z.pid rows.processes (All-any _ (out_passes (traces q) z.pid) rows.processes) (its_row (traces q) rows z.pid z kept at traced))
+
+      pub tracee_out-same : (w : ℕ) → end_alone q w rows' ≡ end_alone q w rows
+      tracee_out-same w = ap (end_alone q w) tracee-out ∙ out_same q z.pid rows v kept.rising z at tracee-ended tracee-gone w
+
+    module _ (m : ℕ) (some : option_map collector (uncollected (orphan_of q z)) ≡ Some m) where
+      tracee-left : is_gone (orphan_of q z) ≡ false
+      tracee-left = (collector_some (orphan_of q z) m some).0
+
+      tracee-other : (z.parent == q) ≡ false
+      tracee-other = by_bool (z.parent == q) (λ same. true≢false (sym (ap (λ b. (if b then 1 else z.parent) == 1) same) ∙ tracee-left))
+
+      tracee-parent : (orphan_of q z).parent ≡ z.parent
+      tracee-parent = ap (λ b. if b then 1 else z.parent) tracee-other
+
+      tracee-untraced : orphan_of q z ≡ untrace z
+      tracee-untraced = ap (λ n. record z { tracer = None; parent = n }) tracee-parent
+
+      pub tracee-named : Named rows (orphan_of q z)
+      tracee-named = named-untraced rows z (orphan_of q z) at kept refl tracee-parent
+
+      module _ (made : rows' ≡ notified (m ∷ []) (set_process (orphan_of q z) rows)) where
+        tracee-not_one : (z.parent == 1) ≡ false
+        tracee-not_one = ap (λ n. n == 1) (sym tracee-parent) ∙ tracee-left
+
+        tracee-apart : alone q z.parent ≡ false
+        tracee-apart = sym (is_alone q z.parent) ∙ tracee-other
+
+        tracee-told : rows' ≡ each (untold q z.pid rows v kept.rising z at tracee-ended traced tracee-not_one tracee-apart) (untold_lwp q z.pid rows v kept.rising z at tracee-ended traced tracee-not_one tracee-apart) rows
+        tracee-told =
+            made
+            ∙ ap (λ n. notified (n ∷ []) (set_process (orphan_of q z) rows)) ((collector_some (orphan_of q z) m some).1 ∙ tracee-parent)
+            ∙ ap (λ k. notified (z.parent ∷ []) (set_process k rows)) tracee-untraced
+            ∙ set_tell z.pid untrace z.parent rows z (λ r. refl) kept.rising at refl
+
+        pub tracee_told-leaving : IsLeaving q rows'
+        tracee_told-leaving = subst (IsLeaving q) (sym tracee-told) (untold_leaving q z.pid rows v kept.rising z at tracee-ended traced tracee-not_one tracee-apart)
+
+        pub tracee_told-fewer : count_by (traces q) rows'.processes < count_by (traces q) rows.processes
+        tracee_told-fewer = subst (λ (rs : Rows). count_by (traces q) rs.processes < count_by (traces q) rows.processes) (sym tracee-told)
+            (one_fewer (traces q) (untold q z.pid rows v kept.rising z at tracee-ended traced tracee-not_one tracee-apart) z.pid rows.processes (All-any _ (untold_passes q z.pid z.parent) rows.processes) (its_row (traces q) rows z.pid z kept at traced))
+
+        pub tracee_told-same : (w : ℕ) → end_alone q w rows' ≡ end_alone q w rows
+        tracee_told-same w = ap (end_alone q w) tracee-told ∙ untold_same q z.pid rows v kept.rising z at tracee-ended traced tracee-not_one tracee-apart w
+
+  -- A child
+  module _ (untraced : list_any (traces q) rows.processes ≡ false) (child : (z.parent == q) ≡ true) where
+    q_row : (q == 1) ≡ false
+    q_row = by_bool (q == 1) (λ one. any_holds (λ r. (r.pid == q) && is_live r) AtHome ⊥
+        (λ r home is. let low = home.block.0 in let same : r.pid ≡ q = eqb-true r.pid q (and_left (r.pid == q) (is_live r) is) in let first : q ≡ 1 = eqb-true q 1 one in omega (arith, low, same, first))
+        rows.processes kept.homes v.here)
+
+    pub child-ended : (is_live z || is_some z.tracer) ≡ false → is_live z ≡ false
+    child-ended stays = by_bool (is_live z) (λ live. true≢false (sym (ap (λ b. b || is_some z.tracer) live) ∙ stays))
+
+    module _ (stays : (is_live z || is_some z.tracer) ≡ false) (made : rows' ≡ drop_process z.pid rows) where
+      child-gone : is_gone (orphaned (alone q) z) ≡ true
+      child-gone = ap (λ b. is_none (unless (alone q) z.tracer) && ((if b then 1 else z.parent) == 1)) (sym (is_alone q z.parent) ∙ child) ∙ at_tracer z.tracer (sym (ap (λ b. b || is_some z.tracer) (child-ended stays)) ∙ stays)
+        where
+          at_tracer : (o : Option ℕ) → is_some o ≡ false → (is_none (unless (alone q) o) && true) ≡ true
+          at_tracer None h = refl
+          at_tracer (Some t) h = absurd (true≢false h)
+
+      child-out : rows' ≡ each (out z.pid) same_lwp rows
+      child-out = made ∙ drop_each z.pid rows
+
+      pub child_out-leaving : IsLeaving q rows'
+      child_out-leaving = subst (IsLeaving q) (sym child-out) (out_leaving q z.pid rows v kept.rising z at (child-ended stays) child-gone)
+
+      pub child_out-untraced : list_any (traces q) rows'.processes ≡ false
+      child_out-untraced = ap (λ (rs : Rows). list_any (traces q) rs.processes) child-out ∙ none_edited (traces q) (out z.pid) rows.processes (λ r is. first (traces q r) _ (sym (out_passes (traces q) z.pid r) ∙ is)) untraced
+        where
+          first : (a b : Bool) → (a && b) ≡ true → a ≡ true
+          first true b h = refl
+          first false b h = absurd (true≢false (sym h))
+
+      pub child_out-fewer : count_by (λ r. r.parent == q) rows'.processes < count_by (λ r. r.parent == q) rows.processes
+      child_out-fewer = subst (λ (rs : Rows). count_by (λ r. r.parent == q) rs.processes < count_by (λ r. r.parent == q) rows.processes) (sym child-out)
+          (one_fewer (λ r. r.parent == q) (out z.pid) z.pid rows.processes (All-any _ (out_passes (λ r. r.parent == q) z.pid) rows.processes) (its_row (λ r. r.parent == q) rows z.pid z kept at child))
+
+      pub child_out-same : (w : ℕ) → end_alone q w rows' ≡ end_alone q w rows
+      child_out-same w = ap (end_alone q w) child-out ∙ out_same q z.pid rows v kept.rising z at (child-ended stays) child-gone w
+
+    pub child-named : Named rows (orphan z)
+    child-named =
+        let was = every_found (Named rows) (λ r. r.pid == z.pid) rows.processes z kept.named at in
+        record { tracer = was.tracer; parent = λ other. absurd (other refl) }
+
+    module _ (stays : (is_live z || is_some z.tracer) ≡ true) (made : rows' ≡ set_process (orphan z) rows) where
+      child-some : is_live z ≡ false → is_none z.tracer ≡ false
+      child-some ended = at_tracer z.tracer (sym (ap (λ b. b || is_some z.tracer) ended) ∙ stays)
+        where
+          at_tracer : (o : Option ℕ) → is_some o ≡ true → is_none o ≡ false
+          at_tracer None h = absurd (true≢false (sym h))
+          at_tracer (Some t) h = refl
+
+      child-put : rows' ≡ each (put z.pid orphan) same_lwp rows
+      child-put = made ∙ set_each z.pid orphan rows z kept.rising at refl
+
+      pub child_put-leaving : IsLeaving q rows'
+      child_put-leaving = subst (IsLeaving q) (sym child-put) (put_leaving q z.pid rows v kept.rising z at (sym (is_alone q z.parent) ∙ child) child-some)
+
+      pub child_put-untraced : list_any (traces q) rows'.processes ≡ false
+      child_put-untraced = ap (λ (rs : Rows). list_any (traces q) rs.processes) child-put ∙ none_edited (traces q) (put z.pid orphan) rows.processes (λ r is. same r (r.pid == z.pid) is) untraced
+        where
+          same : (r : ProcData) (b : Bool) → traces q (if b then orphan r else r) ≡ true → traces q r ≡ true
+          same r true is = is
+          same r false is = is
+
+      pub child_put-fewer : count_by (λ r. r.parent == q) rows'.processes < count_by (λ r. r.parent == q) rows.processes
+      child_put-fewer = subst (λ (rs : Rows). count_by (λ r. r.parent == q) rs.processes < count_by (λ r. r.parent == q) rows.processes) (sym child-put)
+          (one_fewer (λ r. r.parent == q) (put z.pid orphan) z.pid rows.processes (All-any _ (orphan_passes q z.pid q_row) rows.processes) (its_row (λ r. r.parent == q) rows z.pid z kept at child))
+
+      pub child_put-same : (w : ℕ) → end_alone q w rows' ≡ end_alone q w rows
+      child_put-same w = ap (end_alone q w) child-put ∙ put_same q z.pid rows v kept.rising z at (sym (is_alone q z.parent) ∙ child) child-some w

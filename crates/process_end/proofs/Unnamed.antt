@@ -1,0 +1,123 @@
+-- A row that no row names may be taken out, and what each step on the way to a process's end leaves fewer of.
+use Rattle.std.proofs.Common.{◌≡◌, ℕ, ◌<◌, List, [], ◌∷◌, find, filter_map, Bool, true, false, not, ◌&&◌, ◌||◌, ◌==◌, if◌then◌else◌, Option, Some, None, IfSome, refl, sym, ap, ◌∙◌, arith, true≢false, eqb-true, eq-eqb}
+use Rattle.std.proofs.Math.Bool.{and-false, and-true}
+use Rattle.std.proofs.lemmas.Bool.Decides.{nat_tests}
+use Rattle.std.specs.Prelude.{count_by, ltb}
+use Rattle.std.specs.List.{AllByRecursion, list_any}
+use Rattle.lwp_table.specs.Lwps.{first_lwp}
+use Rattle.proc_table.specs.declared.ProcData.{ProcData}
+use Rattle.proc_table.specs.Processes.{process_of, is_live, is_this, traces}
+use Rattle.proc_table.specs.Rows.{Rows}
+use Rattle.proc_table.specs.Walks.{next_tracee, next_child}
+use Rattle.proc_table.specs.Kept.{AtHome, IsKept}
+use Rattle.process_end.specs.Leaving.{LeavingRow, LeavingLwp, IsLeaving}
+use Rattle.trace_stop.proofs.Every.{by_bool, All-imply, any_more, find_some, none_of, none_passes}
+use Rattle.trace_stop.proofs.Passes.{passes, any_edited}
+use Rattle.process_end.proofs.Remains.{count_kept}
+use Rattle.process_end.proofs.LeafLives.{count_split, any_counts, and_swap}
+use Rattle.process_end.proofs.Turned.{heard, told_row}
+use Rattle.process_end.proofs.Twice.{alone}
+use Rattle.trace_stop.proofs.Found.{any_by_number}
+use Rattle.process_end.proofs.Leaving.{put, out, put_tell}
+use Rattle.process_end.proofs.LeafSteps.{orphan}
+use Rattle.process_end.proofs.LeafTells.{untrace}
+
+pub find_none : {X : Type 0} (q : X → Bool) (xs : List X) → AllByRecursion (λ x. q x ≡ false) xs → find q xs ≡ None
+find_none q [] all = refl
+find_none q (x ∷ xs) all = rw (all.0, find_none q xs all.1) refl
+
+-- no row passes a test where none above zero does
+pub none_from : (t : ProcData → Bool) (ps : List ProcData) → AllByRecursion AtHome ps → find (λ p. ltb 0 p.pid && t p) ps ≡ None → list_any t ps ≡ false
+none_from t [] homes none = refl
+none_from t (p ∷ ps) homes none = at_head (t p) refl (none_from t ps homes.1)
+  where
+    above : ltb 0 p.pid ≡ true
+    above = let home = homes.0.block.0 in grind (arith, nat_tests, home)
+
+    at_head : (b : Bool) → t p ≡ b → (find (λ r. ltb 0 r.pid && t r) ps ≡ None → list_any t ps ≡ false) → (b || list_any t ps) ≡ false
+    at_head true is rest = absurd (let h : Some p ≡ None = rw (above, is) at none in cc)
+    at_head false is rest = rest (rw (above, is) at none)
+
+-- no row has the number 1
+pub not_one : (n : ℕ) (ps : List ProcData) → AllByRecursion AtHome ps → (p : ProcData) → process_of n ps ≡ Some p → (n == 1) ≡ false
+not_one n ps homes p at =
+    let h = find_some (λ r. r.pid == n) AtHome ps homes p at in
+    let home = h.0.block.0 in
+    let same : p.pid ≡ n = eqb-true p.pid n h.1 in
+    by_bool (n == 1) (λ one. let is : n ≡ 1 = eqb-true n 1 one in absurd (omega (arith, home, same, is)))
+
+-- A zombie
+
+module _ (q : ℕ) (rows : Rows) (kept : IsKept rows) (v : IsLeaving q rows) (z : ProcData) (at : process_of z.pid rows.processes ≡ Some z) (ended : is_live z ≡ false) where
+  dead : v.alive z.pid ≡ false
+  dead = sym (find_some (λ r. r.pid == z.pid) (LeavingRow v.alive q) rows.processes v.processes z at).0.lives ∙ ended
+
+  pub zombie-tracees : next_tracee z.pid 0 rows.processes ≡ None
+  zombie-tracees = find_none _ rows.processes (All-imply (LeavingRow v.alive q) _ (λ r h.
+      ap (λ b. ltb 0 r.pid && b) (by_bool (is_this z.pid r.tracer) (λ is. at_tracer r.tracer h.tracer is)) ∙ and-false (ltb 0 r.pid)) rows.processes v.processes)
+    where
+      at_tracer : (o : Option ℕ) → IfSome o (λ t. v.alive t ≡ true) → is_this z.pid o ≡ true → ⊥
+      at_tracer None live is = true≢false (sym is)
+      at_tracer (Some t) live is = true≢false (sym live ∙ ap v.alive (eqb-true t z.pid is) ∙ dead)
+
+  pub zombie-children : next_child z.pid 0 rows.processes ≡ None
+  zombie-children = find_none _ rows.processes (All-imply (LeavingRow v.alive q) _ (λ r h.
+      ap (λ b. ltb 0 r.pid && b) (by_bool (r.parent == z.pid) (λ is.
+      let same = eqb-true r.parent z.pid is in
+      true≢false (sym (h.parent (λ one. true≢false (sym (eq-eqb z.pid 1 (sym same ∙ one)) ∙ not_one z.pid rows.processes kept.homes z at))) ∙ ap v.alive same ∙ dead)))
+      ∙ and-false (ltb 0 r.pid)) rows.processes v.processes)
+
+  pub zombie-lwps : first_lwp z.pid rows.lwps ≡ None
+  zombie-lwps = find_none _ rows.lwps (All-imply (LeavingLwp v.alive q) _ (λ l h. by_bool (l.pid == z.pid) (λ is. true≢false (sym h.lives ∙ ap v.alive (eqb-true l.pid z.pid is) ∙ dead))) rows.lwps v.lwps)
+
+-- The process that ends, once nobody names it
+
+pub unnamed : (t : ProcData → Bool) (ps : List ProcData) → list_any t ps ≡ false → find (λ p. ltb 0 p.pid && t p) ps ≡ None
+unnamed t ps none = find_none _ ps (All-imply _ _ (λ r e. ap (λ b. ltb 0 r.pid && b) e ∙ and-false (ltb 0 r.pid)) ps (none_of t ps none))
+
+pub left-lwps : (q : ℕ) (rows : Rows) → IsLeaving q rows → first_lwp q rows.lwps ≡ None
+left-lwps q rows v = find_none _ rows.lwps (All-imply (LeavingLwp v.alive q) _ (λ l h. h.other) rows.lwps v.lwps)
+
+-- Fewer
+
+module _ (t : ProcData → Bool) (f : ProcData → Option ProcData) (n : ℕ) (ps : List ProcData) (all : AllByRecursion (λ r. passes t (f r) ≡ (t r && not (r.pid == n))) ps) where
+  pub one_fewer : list_any (λ r. (r.pid == n) && t r) ps ≡ true → count_by t (filter_map f ps) < count_by t ps
+  one_fewer is =
+      let kept = count_kept f (λ r. t r && not (r.pid == n)) t ps all in
+      let split = count_split t (λ r. r.pid == n) ps in
+      let one = any_counts (λ r. t r && (r.pid == n)) ps (any_more (λ r. (r.pid == n) && t r) (λ r. t r && (r.pid == n)) (λ r. and_swap (r.pid == n) (t r)) ps is) in
+      omega (arith, kept, split, one)
+
+pub its_row : (t : ProcData → Bool) (rows : Rows) (n : ℕ) (z : ProcData) → IsKept rows → process_of n rows.processes ≡ Some z → t z ≡ true → list_any (λ r. (r.pid == n) && t r) rows.processes ≡ true
+its_row t rows n z kept at is = any_by_number t n rows.processes kept.rising ∙ ap (passes t) at ∙ is
+
+-- each of the steps
+pub out_passes : (t : ProcData → Bool) (n : ℕ) (r : ProcData) → passes t (out n r) ≡ (t r && not (r.pid == n))
+out_passes t n r = at (r.pid == n)
+  where
+    at : (b : Bool) → passes t (if b then None else Some r) ≡ (t r && not b)
+    at true = sym (and-false (t r))
+    at false = sym (and-true (t r))
+
+pub orphan_passes : (q n : ℕ) → (q == 1) ≡ false → (r : ProcData) → passes (λ k. k.parent == q) (put n orphan r) ≡ ((r.parent == q) && not (r.pid == n))
+orphan_passes q n other r = at (r.pid == n)
+  where
+    at : (b : Bool) → ((if b then orphan r else r).parent == q) ≡ ((r.parent == q) && not b)
+    at true = by_bool (1 == q) (λ is. true≢false (sym (eq-eqb q 1 (sym (eqb-true 1 q is))) ∙ other)) ∙ sym (and-false (r.parent == q))
+    at false = sym (and-true (r.parent == q))
+
+pub untold_passes : (q n m : ℕ) (r : ProcData) → passes (traces q) (put_tell n untrace m r) ≡ (traces q r && not (r.pid == n))
+unfolding told_row heard
+untold_passes q n m r = at (r.pid == n)
+  where
+    told_same : (k : ProcData) (c : Bool) → traces q (if c then heard k else k) ≡ traces q k
+    told_same k true = refl
+    told_same k false = refl
+
+    at : (b : Bool) → traces q (told_row (alone m) (if b then untrace r else r)) ≡ (traces q r && not b)
+    at true = told_same (untrace r) (alone m (untrace r).pid) ∙ sym (and-false (traces q r))
+    at false = told_same r (alone m r.pid) ∙ sym (and-true (traces q r))
+
+-- the other links stay
+pub none_edited : (t : ProcData → Bool) (f : ProcData → Option ProcData) (ps : List ProcData) → ((r : ProcData) → passes t (f r) ≡ true → t r ≡ true) → list_any t ps ≡ false → list_any t (filter_map f ps) ≡ false
+none_edited t f ps h none = any_edited f t ps ∙ none_passes (λ r. passes t (f r)) (λ r. t r ≡ false) (λ r e. by_bool (passes t (f r)) (λ is. true≢false (sym (h r is) ∙ e))) ps (none_of t ps none)

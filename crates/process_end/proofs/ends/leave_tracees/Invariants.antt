@@ -1,0 +1,19 @@
+use Rattle.std.proofs.Common.{◌≡◌, true}
+use Rattle.std.specs.Prelude.{count_by}
+use Rattle.trace_stop.specs.End.{left_alone}
+use Rattle.trace_stop.specs.Facts.{IsSound}
+use Rattle.trace_stop.specs.Sound.{is_live_at}
+use Rattle.process_end.specs.Descent.{spares}
+use Rattle.process_end.proofs.LeftAlone.{is_tracee}
+use Rattle.process_end.proofs.ends.leave_tracees.Given as goal
+
+-- the tracees that are left are those that were to be detached
+abbrev pub invariant-loop-tracee : goal.invariant-loop-tracee
+invariant-loop-tracee l = record {
+  sound : IsSound l.tables.rows;
+  live : is_live_at l.pid l.tables.rows ≡ true;
+  rows : left_alone spares l.pid l.tables.rows ≡ left_alone spares l.pid l.fn.tables.rows;
+}
+
+abbrev pub decreases-loop-tracee : goal.decreases-loop-tracee
+decreases-loop-tracee l = count_by (is_tracee l.pid) l.tables.rows.processes

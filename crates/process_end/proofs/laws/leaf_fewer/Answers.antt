@@ -1,0 +1,5 @@
+use Rattle.process_end.proofs.laws.leaf_fewer.Goals as goal
+use Rattle.process_end.proofs.LeafLives as law
+
+pub returns : goal.returns
+returns c = law.leaf_fewer

@@ -1,0 +1,17 @@
+use Rattle.std.proofs.Common.{◌≡◌, ℕ, false}
+use Rattle.std.specs.Prelude.{count_by, ◌==◌}
+use Rattle.std.specs.List.{list_any}
+use Rattle.proc_table.specs.Processes.{traces}
+use Rattle.process_end.specs.Laws.{end_alone}
+use Rattle.process_end.specs.Leaving.{IsLeaving}
+use Rattle.process_end.proofs.leaf.orphan_children.Given as goal
+
+abbrev pub invariant-loop-child : goal.invariant-loop-child
+invariant-loop-child l = record {
+  leaving : IsLeaving l.pid l.tables.rows;
+  untraced : list_any (traces l.pid) l.tables.rows.processes ≡ false;
+  same : (status : ℕ) → end_alone l.pid status l.tables.rows ≡ end_alone l.pid status l.fn.tables.rows;
+}
+
+abbrev pub decreases-loop-child : goal.decreases-loop-child
+decreases-loop-child l = count_by (λ r. r.parent == l.pid) l.tables.rows.processes

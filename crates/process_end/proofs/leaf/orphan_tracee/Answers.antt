@@ -1,0 +1,66 @@
+use Rattle.std.proofs.Common.{◌≡◌, ◌∷◌, [], None, Some, rules, ap, sym, ◌∙◌, subst}
+use Rattle.std.specs.Prelude.{option_map}
+use Rattle.proc_table.specs.Kept.{Named, set_process}
+use Rattle.proc_table.specs.declared.ProcData.{ProcData}
+use Rattle.trace_stop.specs.End.{uncollected, collector}
+use Rattle.trace_stop.specs.Post.{notified}
+use Rattle.process_end.proofs.Orphans.{orphan_of, listed, tracee-ended, tracee_out-leaving, tracee_out-fewer, tracee_out-same, tracee-named, tracee_told-leaving, tracee_told-fewer, tracee_told-same}
+use Rattle.process_end.proofs.Unnamed.{zombie-tracees, zombie-children, zombie-lwps}
+use Rattle.process_end.proofs.leaf.orphan_tracee.Goals as goal
+
+pub remove_process-requires-clause-there : goal.remove_process-requires-clause-there
+remove_process-requires-clause-there c = listed c.args.pid c.args.tables.now.rows c.args.tables.now.rows c.requires.kept c.requires.leaving c.args.zombie.now c.requires.there
+
+pub remove_process-requires-clause-tracees : goal.remove_process-requires-clause-tracees
+remove_process-requires-clause-tracees c =
+    zombie-tracees c.args.pid c.args.tables.now.rows c.requires.kept c.requires.leaving c.args.zombie.now c.requires.there
+    (tracee-ended c.args.pid c.args.tables.now.rows c.args.tables.now.rows c.requires.kept c.requires.leaving c.args.zombie.now c.requires.there c.requires.traced)
+
+pub remove_process-requires-clause-children : goal.remove_process-requires-clause-children
+remove_process-requires-clause-children c =
+    zombie-children c.args.pid c.args.tables.now.rows c.requires.kept c.requires.leaving c.args.zombie.now c.requires.there
+    (tracee-ended c.args.pid c.args.tables.now.rows c.args.tables.now.rows c.requires.kept c.requires.leaving c.args.zombie.now c.requires.there c.requires.traced)
+
+pub remove_process-requires-clause-lwps : goal.remove_process-requires-clause-lwps
+remove_process-requires-clause-lwps c =
+    zombie-lwps c.args.pid c.args.tables.now.rows c.requires.kept c.requires.leaving c.args.zombie.now c.requires.there
+    (tracee-ended c.args.pid c.args.tables.now.rows c.args.tables.now.rows c.requires.kept c.requires.leaving c.args.zombie.now c.requires.there c.requires.traced)
+
+pub returns-in_default : goal.returns-in_default
+returns-in_default c =
+    let rows = c.args.tables.now.rows in
+    let rows' = c.remove_process.new.self.rows in
+    let z = c.args.zombie.now in
+    let q = c.args.pid in
+    let result : c.collector.result ≡ None = search rules in
+    let none : option_map collector (uncollected (orphan_of q z)) ≡ None = ap (λ (k : ProcData). option_map collector (uncollected k)) (sym c.orphaned-orphan.ensures) ∙ sym c.collector.ensures ∙ result in
+    record {
+      leaving = tracee_out-leaving q rows rows' c.requires.kept c.requires.leaving z c.requires.there c.requires.traced none c.remove_process.ensures.rows;
+      fewer = tracee_out-fewer q rows rows' c.requires.kept c.requires.leaving z c.requires.there c.requires.traced none c.remove_process.ensures.rows;
+      same = tracee_out-same q rows rows' c.requires.kept c.requires.leaving z c.requires.there c.requires.traced none c.remove_process.ensures.rows;
+    }
+
+pub set_process-requires-clause-named : goal.set_process-requires-clause-named
+set_process-requires-clause-named c =
+    let rows = c.args.tables.now.rows in
+    let z = c.args.zombie.now in
+    let q = c.args.pid in
+    let some : option_map collector (uncollected (orphan_of q z)) ≡ Some c.in-Some.parent = ap (λ (k : ProcData). option_map collector (uncollected k)) (sym c.orphaned-orphan.ensures) ∙ sym c.collector.ensures ∙ c.in-Some.is in
+    subst (λ (k : ProcData). Named rows (record k { pid = z.pid })) (sym c.orphaned-orphan.ensures)
+    (tracee-named q rows rows c.requires.kept c.requires.leaving z c.requires.there c.requires.traced c.in-Some.parent some)
+
+pub returns : goal.returns
+returns c =
+    let rows = c.args.tables.now.rows in
+    let rows' = c.notify.new.tables.rows in
+    let z = c.args.zombie.now in
+    let q = c.args.pid in
+    let m = c.in-Some.parent in
+    let some : option_map collector (uncollected (orphan_of q z)) ≡ Some m = ap (λ (k : ProcData). option_map collector (uncollected k)) (sym c.orphaned-orphan.ensures) ∙ sym c.collector.ensures ∙ c.in-Some.is in
+    let made : rows' ≡ notified (m ∷ []) (set_process (orphan_of q z) rows) =
+    c.notify.ensures.rows ∙ ap (notified (m ∷ [])) (c.set_process.ensures.rows ∙ ap (λ (k : ProcData). set_process (record k { pid = z.pid }) rows) c.orphaned-orphan.ensures) in
+    record {
+      leaving = tracee_told-leaving q rows rows' c.requires.kept c.requires.leaving z c.requires.there c.requires.traced m some made;
+      fewer = tracee_told-fewer q rows rows' c.requires.kept c.requires.leaving z c.requires.there c.requires.traced m some made;
+      same = tracee_told-same q rows rows' c.requires.kept c.requires.leaving z c.requires.there c.requires.traced m some made;
+    }

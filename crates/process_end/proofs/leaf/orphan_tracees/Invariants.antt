@@ -1,0 +1,15 @@
+use Rattle.std.proofs.Common.{◌≡◌, ℕ}
+use Rattle.std.specs.Prelude.{count_by}
+use Rattle.proc_table.specs.Processes.{traces}
+use Rattle.process_end.specs.Laws.{end_alone}
+use Rattle.process_end.specs.Leaving.{IsLeaving}
+use Rattle.process_end.proofs.leaf.orphan_tracees.Given as goal
+
+abbrev pub invariant-loop-zombie : goal.invariant-loop-zombie
+invariant-loop-zombie l = record {
+  leaving : IsLeaving l.pid l.tables.rows;
+  same : (status : ℕ) → end_alone l.pid status l.tables.rows ≡ end_alone l.pid status l.fn.tables.rows;
+}
+
+abbrev pub decreases-loop-zombie : goal.decreases-loop-zombie
+decreases-loop-zombie l = count_by (traces l.pid) l.tables.rows.processes

@@ -1,0 +1,74 @@
+-- The end of a process, taken apart into ends of processes that trace no live one.
+use Rattle.std.specs.Prelude.{◌≡◌, ◌<◌, ℕ, Bool, true, false, ◌==◌, ◌&&◌, ◌||◌, Some, not, count_by}
+use Rattle.std.specs.List.{list_any}
+use Rattle.signals.specs.Table.{SIGKILL}
+use Rattle.proc_table.specs.declared.ProcData.{ProcData}
+use Rattle.proc_table.specs.Processes.{process_of, is_live, traces}
+use Rattle.proc_table.specs.Rows.{Rows}
+use Rattle.proc_table.specs.Fresh.{is_process}
+use Rattle.trace_stop.specs.declared.Settings.{Settings}
+use Rattle.trace_stop.specs.End.{dooms, left_alone, end_each, end}
+use Rattle.trace_stop.specs.Sound.{is_live_at, is_end}
+use Rattle.trace_stop.specs.Facts.{Stands, IsSound}
+
+-- whether the process numbered q traces a live one
+abbrev pub traces_live : ℕ → Rows → Bool
+traces_live q rows = list_any (λ r. is_live r && traces q r) rows.processes
+
+-- the rows after q alone has ended
+abbrev pub end_alone : ℕ → ℕ → Rows → Rows
+end_alone q status rows = end_each (λ r. r.pid == q) (λ n. n == q) q status rows
+
+-- a process that traces no live one ends alone
+abbrev pub LeafEnd : Type 0
+LeafEnd = (settings : Settings) (rows : Rows) (q status : ℕ) → settings.kill_on_debugger_exit ≡ true → Stands rows
+    → is_process rows q ≡ true → traces_live q rows ≡ false → end settings q status rows ≡ end_alone q status rows
+
+-- and so does one whose tracees are detached
+abbrev pub DetachedEnd : Type 0
+DetachedEnd = (settings : Settings) (rows : Rows) (q status : ℕ) → settings.kill_on_debugger_exit ≡ false
+    → is_process rows q ≡ true → end settings q status rows ≡ end_alone q status (left_alone settings q rows)
+
+-- where a debugger's end kills, the processes that end with p may end before it, each once it traces no live one
+abbrev pub LeafLaw : Type 0
+LeafLaw = (settings : Settings) (rows : Rows) (p q status : ℕ) → settings.kill_on_debugger_exit ≡ true → Stands rows
+    → (q == p) ≡ false → dooms settings rows.processes p q ≡ true → traces_live q rows ≡ false
+    → end settings p status rows ≡ end settings p status (end settings q SIGKILL rows)
+
+-- a live tracee of p, or of one that ends with p, is another and ends with p
+abbrev pub TraceeDoomed : Type 0
+TraceeDoomed = (settings : Settings) (rows : Rows) (p x : ℕ) (y : ProcData) → settings.kill_on_debugger_exit ≡ true → Stands rows
+    → ((x == p) || dooms settings rows.processes p x) ≡ true
+    → process_of y.pid rows.processes ≡ Some y → (is_live y && traces x y) ≡ true
+    → ((y.pid == p) ≡ false) × (dooms settings rows.processes p y.pid ≡ true)
+
+-- of the others that end with p, one traces no live process
+abbrev pub LeafExists : Type 0
+LeafExists = (settings : Settings) (rows : Rows) (p x : ℕ) → settings.kill_on_debugger_exit ≡ true → Stands rows
+    → (x == p) ≡ false → dooms settings rows.processes p x ≡ true
+    → (q : ℕ) × ((q == p) ≡ false) × (dooms settings rows.processes p q ≡ true) × (traces_live q rows ≡ false)
+
+-- After the end of a live process q that traces no live one, where a debugger's end kills
+
+-- all who lived but q live
+abbrev pub LeafLives : Type 0
+LeafLives = (settings : Settings) (rows : Rows) (q status n : ℕ) → settings.kill_on_debugger_exit ≡ true → Stands rows
+    → is_live_at q rows ≡ true → traces_live q rows ≡ false
+    → is_live_at n (end settings q status rows) ≡ (is_live_at n rows && not (n == q))
+
+-- so there are fewer
+abbrev pub LeafFewer : Type 0
+LeafFewer = (settings : Settings) (rows : Rows) (q status : ℕ) → settings.kill_on_debugger_exit ≡ true → Stands rows
+    → is_live_at q rows ≡ true → traces_live q rows ≡ false
+    → count_by is_live (end settings q status rows).processes < count_by is_live rows.processes
+
+-- and all who were to end with p but q are still to end with it
+abbrev pub LeafDooms : Type 0
+LeafDooms = (settings : Settings) (rows : Rows) (p q n : ℕ) → settings.kill_on_debugger_exit ≡ true → Stands rows
+    → (q == p) ≡ false → dooms settings rows.processes p q ≡ true → traces_live q rows ≡ false
+    → dooms settings (end settings q SIGKILL rows).processes p n ≡ (dooms settings rows.processes p n && not (n == q))
+
+-- sound rows are sound after the end of any live process, whatever a debugger's end does
+abbrev pub EndSound : Type 0
+EndSound = (settings : Settings) (rows : Rows) (p status : ℕ) → IsSound rows → is_end status ≡ true
+    → is_live_at p rows ≡ true → IsSound (end settings p status rows)

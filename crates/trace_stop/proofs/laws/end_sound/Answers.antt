@@ -1,5 +1,0 @@
-use Rattle.trace_stop.proofs.laws.end_sound.Goals as goal
-use Rattle.trace_stop.proofs.EndSound as law
-
-pub returns : goal.returns
-returns c = law.end_sound

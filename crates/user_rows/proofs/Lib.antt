@@ -1,0 +1,8 @@
+pub mod ViewLists
+pub mod ViewSame
+pub mod ViewEdits
+pub mod ViewSignals
+pub mod ViewEnds
+pub mod ViewStops
+pub mod ViewRows
+pub mod ViewLaws

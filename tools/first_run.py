@@ -1,0 +1,238 @@
+#!/usr/bin/env python3
+"""Proves and builds the program, and says on standard error how far it is.
+
+Each crate is proved once all below it are, as many side by side as there are processors and memory for. On a terminal one
+line is rewritten; else a line is printed for each crate. The share of the work that is done comes from the processor seconds
+of each crate in docs/TIMES.md. What is proved stays in the crates' out/ folders, so that after an interrupt the next call
+goes on from there.
+"""
+
+import os
+import re
+import shutil
+import signal
+import subprocess
+import sys
+import threading
+import time
+
+TOP = os.path.dirname(os.path.dirname(os.path.realpath(__file__)))
+PROGRAM = "tracehost"
+# what one check is likely to take at most, in bytes
+MEMORY_OF_A_CHECK = 3_500_000_000
+
+
+def crates_below(program):
+    """Returns the crates that the program stands on, and itself, lowest first, each with those right below it."""
+    lines = {}
+    with open(f"{TOP}/crates.txt", encoding="utf-8") as listed:
+        for line in listed:
+            name, colon, uses = line.partition("#")[0].partition(":")
+            if colon:
+                lines[name.split()[0]] = uses.split()
+    ordered = {}
+
+    def add(name):
+        if name in lines and name not in ordered:
+            for use in lines[name]:
+                add(use)
+            ordered[name] = [use for use in lines[name] if use in lines]
+
+    add(program)
+    return ordered
+
+
+def weights(names):
+    """Returns the processor seconds of each crate by the table in docs/TIMES.md, and for one that it lacks the mean."""
+    found = {}
+    with open(f"{TOP}/docs/TIMES.md", encoding="utf-8") as table:
+        for line in table:
+            row = re.match(r"\| `(\w+)` \| [\d.-]+ \| ([\d.]+) \|", line)
+            if row:
+                found[row[1]] = float(row[2])
+    known = [found[name] for name in names if name in found]
+    mean = sum(known) / len(known) if known else 1.0
+    return {name: found.get(name, mean) for name in names}
+
+
+def newest_below(folder):
+    """Returns the time of the newest source file of a crate."""
+    times = [
+        os.path.getmtime(f"{at}/{name}")
+        for part in ("src", "specs", "proofs")
+        for at, _, names in os.walk(f"{folder}/{part}")
+        for name in names
+    ]
+    return max(times, default=0.0)
+
+
+def lanes():
+    """Returns how many checks may run side by side."""
+    with open("/proc/meminfo", encoding="utf-8") as lines:
+        free = next(int(line.split()[1]) * 1024 for line in lines if line.startswith("MemAvailable"))
+    return max(1, min(len(os.sched_getaffinity(0)), free // MEMORY_OF_A_CHECK))
+
+
+class Builder:
+    def __init__(self):
+        self.below = crates_below(PROGRAM)
+        self.weight = weights(self.below)
+        self.lanes = lanes()
+        self.began = time.monotonic()
+        self.lock = threading.Condition()
+        self.running, self.done, self.failed = {}, [], None
+        self.children = set()
+        self.is_terminal = sys.stderr.isatty()
+
+    def share(self):
+        """Returns how much of the work is done, from 0 to 1."""
+        part = sum(self.weight[name] for name in self.done)
+        part += sum(self.weight[name] * of / max(1, total) for name, (of, total) in self.running.items())
+        return part / sum(self.weight.values())
+
+    def elapsed(self):
+        seconds = int(time.monotonic() - self.began)
+        return f"{seconds // 60}:{seconds % 60:02d}"
+
+    def say(self, text):
+        with self.lock:
+            if self.is_terminal:
+                sys.stderr.write("\r\033[K")
+            sys.stderr.write(f"tracehost: {text}\n")
+            sys.stderr.flush()
+
+    def show(self):
+        """Rewrites the line on a terminal."""
+        if not self.is_terminal or self.failed:
+            return
+        place = list(self.below)
+        parts = [
+            f"{name} ({place.index(name) + 1} of {len(place)}): {of} of {total or '?'} functions"
+            for name, (of, total) in self.running.items()
+        ]
+        text = f"tracehost: {self.elapsed()}, {self.share():.0%} done; proving {', '.join(parts)}"
+        width = shutil.get_terminal_size((80, 24)).columns - 1
+        sys.stderr.write(f"\r\033[K{text[:width]}")
+        sys.stderr.flush()
+
+    def is_proved(self, name):
+        """Whether an earlier call has built the crate, and nothing that it stands on changed since."""
+        stamp = f"{TOP}/crates/{name}/out/rlib/stamp"
+        if name == PROGRAM or not os.path.isfile(stamp):
+            return False
+        built = os.path.getmtime(stamp)
+        whole = [name, *self.all_below(name)]
+        return all(newest_below(f"{TOP}/crates/{it}") < built for it in whole)
+
+    def all_below(self, name):
+        found = set()
+        for use in self.below[name]:
+            found |= {use} | self.all_below(use)
+        return found
+
+    def call(self, name, words, given=b""):
+        """Runs rt in the crate's folder, notes the functions that it counts, and returns whether all went well."""
+        folder = f"{TOP}/crates/{name}"
+        os.makedirs(f"{folder}/out", exist_ok=True)
+        with open(f"{folder}/out/build.log", "ab") as log:
+            child = subprocess.Popen(
+                ["rt", *words], cwd=folder, stdin=subprocess.PIPE, stdout=subprocess.PIPE,
+                stderr=subprocess.STDOUT, start_new_session=True,
+            )
+            with self.lock:
+                self.children.add(child)
+            child.stdin.write(given)
+            child.stdin.close()
+            for line in child.stdout:
+                log.write(line)
+                count = re.match(rb"(?:so far: |checked .*, )(\d+) of (\d+)", line)
+                if count:
+                    with self.lock:
+                        self.running[name] = (int(count[1]), int(count[2]))
+                        self.show()
+            status = child.wait()
+            with self.lock:
+                self.children.discard(child)
+        return status == 0
+
+    def prove(self, name, jobs):
+        log = f"{TOP}/crates/{name}/out/build.log"
+        if os.path.exists(log):
+            os.remove(log)
+        well = self.is_proved(name) or self.call(name, ["check", "--jobs", str(jobs)])
+        if well and name == PROGRAM:
+            # a scenario of no steps prints nothing, so that this run builds and does no more
+            well = self.call(name, ["run"], b'{"steps":[]}')
+        elif well:
+            well = self.call(name, ["lib", "--jobs", str(jobs)])
+        with self.lock:
+            functions = self.running.pop(name)[1]
+            if well:
+                self.done.append(name)
+            else:
+                self.failed = self.failed or name
+            self.lock.notify_all()
+        if well and not self.is_terminal:
+            counted = f"{functions} functions" if functions else "as before"
+            self.say(
+                f"{name} is proved ({counted}): {len(self.done)} of {len(self.below)} crates, "
+                f"{self.share():.0%} of the work, {self.elapsed()}"
+            )
+
+    def ready(self):
+        started = {*self.done, *self.running}
+        return [name for name, uses in self.below.items() if name not in started and set(uses) <= set(self.done)]
+
+    def chain(self, name):
+        """Returns the weight of the longest chain of crates from this one up."""
+        above = [it for it, uses in self.below.items() if name in uses]
+        return self.weight[name] + max((self.chain(it) for it in above), default=0)
+
+    def run(self):
+        threads = []
+        with self.lock:
+            while len(self.done) < len(self.below) and not self.failed:
+                ready = sorted(self.ready(), key=self.chain, reverse=True)
+                for name in ready[: self.lanes - len(self.running)]:
+                    jobs = max(1, self.lanes // (len(self.running) + len(ready)))
+                    self.running[name] = (0, 0)
+                    thread = threading.Thread(target=self.prove, args=(name, jobs), daemon=True)
+                    threads.append(thread)
+                    thread.start()
+                self.show()
+                self.lock.wait(1.0)
+        return self.failed
+
+    def stop(self):
+        for child in list(self.children):
+            try:
+                os.killpg(child.pid, signal.SIGTERM)
+            except ProcessLookupError:
+                pass
+
+
+def main():
+    builder = Builder()
+    builder.say(
+        f"proving and building {len(builder.below)} crates, once, on {builder.lanes} processors; "
+        "what is proved is kept, so an interrupt loses little"
+    )
+    try:
+        failed = builder.run()
+    except KeyboardInterrupt:
+        builder.stop()
+        builder.say("interrupted; the next call goes on from here")
+        return 130
+    if failed:
+        builder.stop()
+        log = f"{TOP}/crates/{failed}/out/build.log"
+        with open(log, encoding="utf-8", errors="replace") as text:
+            sys.stderr.write("".join(text.readlines()[-20:]))
+        builder.say(f"{failed} is not proved: the whole log is {log}")
+        return 1
+    builder.say(f"built in {builder.elapsed()}")
+    return 0
+
+
+if __name__ == "__main__":
+    sys.exit(main())
