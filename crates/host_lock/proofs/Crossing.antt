@@ -4,6 +4,7 @@ use denote.Param.Send.{IsSend, IsSync, sendable}
 use Rattle.std.proofs.Crossing.{crosses}
 use Rattle.atomic_table.proofs.badge.Badge.TheSendSync as badge
 use Rattle.atomic_table.proofs.shared.Shared.TheSendSync as shared
+use Rattle.atomic_table.proofs.send_lease.SendLease.TheSendSync as lease
 use Rattle.proc_table.specs.contracts.tables.Tables as Tables
 use Rattle.proc_table.specs.contracts.processes.Processes as Processes
 use Rattle.lwp_table.specs.contracts.table.LwpTable as LwpTable
@@ -53,4 +54,4 @@ module _ (F : RattleType) (d : Ghosts F.Denot) (f : IsSend F) where
   slot_send = let state = state_send in search (plain_step_send, crosses, sendable) depth 80 fits 100000
 
   pub host_sync : IsSync (SharedHost.the_row F d)
-  host_sync = let slot = slot_send in search (shared.the_sync, shared.the_send, crosses, sendable) depth 80 fits 100000
+  host_sync = let slot = slot_send in search (badge.the_send, shared.the_sync, shared.the_send, lease.the_send, lease.the_sync, crosses, sendable) depth 80 fits 100000

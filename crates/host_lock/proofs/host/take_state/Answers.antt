@@ -13,30 +13,10 @@ unreachable-requires g c =
     let end = ends key.start.value key.sessions _ xs c.args.seat.id c.args.seat.me.0 c.requires.all.1 c.requires.all.0 c.close_with-closed.ensures.values.2 in
     not_away key.start.value key.sessions c.args.seat.me.0 xs c.in-Away.field-0 c.in-Away.field-1 end (c.take-slot.ensures.value ∙ ap some c.in-Away.is)
 
-pub returns-clause-start : goal.returns-clause-start
-returns-clause-start g c =
+pub returns : goal.returns
+returns g c =
     let key = c.args.table.shared.key in
     let xs : List (Slot g.row.F.Denot) = slots_items c.close_with-closed.result.slots in
     let end = ends key.start.value key.sessions _ xs c.args.seat.id c.args.seat.me.0 c.requires.all.1 c.requires.all.0 c.close_with-closed.ensures.values.2 in
-    (closes_with key.start.value key.sessions c.args.seat.me.0 xs c.in-There.state end (c.take-slot.ensures.value ∙ ap some c.in-There.is)).0
-
-pub returns-clause-seen : goal.returns-clause-seen
-returns-clause-seen g c =
-    let key = c.args.table.shared.key in
-    let xs : List (Slot g.row.F.Denot) = slots_items c.close_with-closed.result.slots in
-    let end = ends key.start.value key.sessions _ xs c.args.seat.id c.args.seat.me.0 c.requires.all.1 c.requires.all.0 c.close_with-closed.ensures.values.2 in
-    (closes_with key.start.value key.sessions c.args.seat.me.0 xs c.in-There.state end (c.take-slot.ensures.value ∙ ap some c.in-There.is)).1
-
-pub returns-clause-owns : goal.returns-clause-owns
-returns-clause-owns g c =
-    let key = c.args.table.shared.key in
-    let xs : List (Slot g.row.F.Denot) = slots_items c.close_with-closed.result.slots in
-    let end = ends key.start.value key.sessions _ xs c.args.seat.id c.args.seat.me.0 c.requires.all.1 c.requires.all.0 c.close_with-closed.ensures.values.2 in
-    (closes_with key.start.value key.sessions c.args.seat.me.0 xs c.in-There.state end (c.take-slot.ensures.value ∙ ap some c.in-There.is)).2
-
-pub returns-clause-entries : goal.returns-clause-entries
-returns-clause-entries g c =
-    let key = c.args.table.shared.key in
-    let xs : List (Slot g.row.F.Denot) = slots_items c.close_with-closed.result.slots in
-    let end = ends key.start.value key.sessions _ xs c.args.seat.id c.args.seat.me.0 c.requires.all.1 c.requires.all.0 c.close_with-closed.ensures.values.2 in
-    (closes_with key.start.value key.sessions c.args.seat.me.0 xs c.in-There.state end (c.take-slot.ensures.value ∙ ap some c.in-There.is)).3
+    let known = closes_with key.start.value key.sessions c.args.seat.me.0 xs c.in-There.state end (c.take-slot.ensures.value ∙ ap some c.in-There.is) in
+    record { start = known.0; seen = known.1; owns = known.2; entries = known.3 }
