@@ -10,8 +10,8 @@ use Rattle.proc_table.specs.contracts.processes.Processes as Processes
 use Rattle.lwp_table.specs.contracts.table.LwpTable as LwpTable
 use Rattle.stop_handlers.specs.declared.handlers.Decider.{Ghosts}
 use Rattle.stop_handlers.specs.contracts.handlers.Handler as Handler
+use Rattle.stop_handlers.specs.contracts.Policy as Policy
 use Rattle.requests.specs.contracts.Reply as Reply
-use Rattle.requests.specs.contracts.PlainStep as PlainStep
 use Rattle.requests.specs.contracts.step.Step as Step
 use Rattle.host_lock.specs.contracts.journal.Journal as Journal
 use Rattle.host_lock.specs.contracts.session.Session as Session
@@ -28,7 +28,7 @@ processes_send = search (crosses, sendable) depth 60 fits 50000
 tables_send : IsSend Tables.the_row
 tables_send = search (lwp_table_send, processes_send, crosses, sendable) depth 40 fits 20000
 
-plain_step_send : IsSend PlainStep.the_row
+plain_step_send : IsSend (Step.the_row Policy.the_row)
 plain_step_send = search (crosses, sendable) depth 60 fits 50000
 
 pub reply_send : IsSend Reply.the_row
@@ -44,7 +44,7 @@ module _ (F : RattleType) (d : Ghosts F.Denot) (f : IsSend F) where
   handler_send : IsSend (Handler.the_row F d)
   handler_send = search (crosses, sendable) depth 80 fits 100000
 
-  pub step_send : IsSend (Step.the_row F d)
+  pub step_send : IsSend (Step.the_row (Handler.the_row F d))
   step_send = let handler = handler_send in search (crosses, sendable) depth 80 fits 100000
 
   state_send : IsSend (SharedState.the_row F d)

@@ -3,7 +3,6 @@ ghost use Rattle.std.specs.Prelude.{◌≡◌, ℕ, ◌+◌, ◌-◌, ◌*◌, �
 ghost use Rattle.host_lock.specs.Views.{Idle, Waiting, Holding, Counted};
 ghost use Rattle.host_lock.specs.declared.view.Slot.TheVariants.{There, Away};
 ghost use Rattle.host_lock.specs.History.{history};
-ghost use Rattle.requests.specs.Plain.{plain};
 ghost use Rattle.host_lock.specs.Journal.{StartsWith, entries_of};
 ghost use Rattle.host_lock.specs.Rule.{session_view, start_of, seen_of, mine_of, TakesSlot, IsHostTable, HasCounted, HasTurned, IsOut};
 
@@ -15,7 +14,7 @@ use pid_blocks::Uid;
 use requests::{PlainStep, Reply, Step};
 use std::alloc::Global;
 use std::sync::Wait;
-use stop_handlers::Decider;
+use stop_handlers::{Decider, Handler};
 
 /// Waits until the ticket is served.
 pub(crate) fn take_turn<F: Decider + Send + Drop, R: Wait>(
@@ -85,13 +84,13 @@ pub(crate) fn turn<F: Decider + Send + Drop, R: Wait>(
     seat: &mut HostSeat<F>,
     user: Uid,
     number: usize,
-    step: Step<F>,
+    step: Step<Handler<F>>,
 ) -> Reply
     requires table { IsHostTable table.now.table_id × (seat.old.table_id ≡ table.now.table_id) }
     requires rests { seat.old.me ≡ (session_view (start_of seat.old.me.0) Idle seat.old.me.0.budget (seen_of seat.old.me.0) number (mine_of seat.old.me.0), []) }
     requires room { 0 < seat.old.me.0.budget }
     ensures table { seat.new.table_id ≡ seat.old.table_id }
-    ensures turned { HasTurned seat.old.me.0 user number (plain step) result seat.new.me }
+    ensures turned { HasTurned seat.old.me.0 user number step result seat.new.me }
 {
     let plain = step.plain();
     let ticket = table.fetch_add::<Draw>(seat, 1, 1);

@@ -154,10 +154,6 @@ module _ (f : ℕ → Option Slot) (es : List (ℕ × ℕ)) (births : ℕ) (inde
   pub next-is_some : (pid at s : ℕ) (was slot : Slot) → f at ≡ Some was → f s ≡ Some slot → IsNearest up (own_nodes f) pid (above was.born) (Some s) → next_lwp pid was.row.tid (rows_of f es births) ≡ Some slot.row
   next-is_some pid at s was slot there_was there near = next_lwp-after pid was.row.tid (rows_of f es births) ∙ ap (first_lwp pid) (after_slot at was there_was) ∙ walk-some f es births indexed pid (above was.born) (was.born + 1) (λ k least. omega (arith, least)) s slot there (λ k p. omega (arith, p)) (0 + births - (was.born + 1)) (omega arith) near
 
--- a link leads to a row of the process
-pub link_pid : (f : ℕ → Option Slot) (pid : ℕ) (P : ℕ → Type 0) (s : ℕ) (slot : Slot) → f s ≡ Some slot → IsNearest up (own_nodes f) pid P (Some s) → slot.row.pid ≡ pid
-link_pid f pid P s slot there near = sym (ap (λ n. n.list) (same_Some near.0 (own_node slot) (sym near.1 ∙ ap (option_map own_node) there))) ∙ near.2
-
 -- a list with no first node has no last one
 pub no_last : (f : ℕ → Option Node) (t : ℕ) (o : Option ℕ) → IsNearest down f t anywhere o → IsNearest up f t anywhere None → o ≡ None
 no_last f t None last first = refl
@@ -174,9 +170,6 @@ module _ (f : ℕ → Option Slot) (es : List (ℕ × ℕ)) (hs : List (ℕ × E
 
   pub all_count : all.count ≤ births
   all_count = omega (arith, kept.total, length-listing (born_row f es) 0 births)
-
-  pub user_count : (place : ℕ) → place < 64 → get_or users place 0 ≤ births
-  user_count place within = omega (arith, kept.homes place within, count-below (is_at place) (born_row f es) 0 births)
 
   -- a row more
   module _ (row : LwpData) (q : ℕ) (f1 f2 g : ℕ → Option Slot) (es' : List (ℕ × ℕ)) (hs' : List (ℕ × Ends)) (vacant : f q ≡ None)
@@ -296,9 +289,6 @@ module _ (f : ℕ → Option Slot) (es : List (ℕ × ℕ)) (hs : List (ℕ × E
     -- the counts that go down were above 0
     pub own_positive : 0 < (ends_at hs old.row.pid).count
     own_positive = omega (arith, kept.counted old.row.pid, count-without (is_of old.row.pid) old.row.tid old.row (rows_of f es births) row_old, ap one (test_same old.row.pid))
-
-    pub all_positive : 0 < all.count
-    all_positive = omega (arith, kept.total, length-without old.row.tid old.row (rows_of f es births) row_old)
 
     pub user_positive : (owner : ℕ) → owner ≡ place_of old.row.tid → owner < 64 → 0 < get_or users owner 0
     user_positive owner is within = omega (arith, kept.homes owner within, count-without (is_at owner) old.row.tid old.row (rows_of f es births) row_old, ap one (at_yes owner old.row is))

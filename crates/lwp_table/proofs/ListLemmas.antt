@@ -1,5 +1,5 @@
 -- The list of what rising birth numbers find.
-use Rattle.std.proofs.Common.{◌≡◌, ◌≢◌, ℕ, zero, suc, ◌+◌, ◌-◌, ◌<◌, ◌≤◌, Bool, true, false, List, [], ◌∷◌, ◌++◌, Option, Some, None, refl, sym, ap, ◌∙◌, arith, inl, inr, cond, nat_eq, add-zero, slice_get, filter}
+use Rattle.std.proofs.Common.{◌≡◌, ◌≢◌, ℕ, zero, suc, ◌+◌, ◌-◌, ◌<◌, ◌≤◌, Bool, true, false, List, [], ◌∷◌, ◌++◌, Option, Some, None, refl, sym, ap, ◌∙◌, arith, inl, inr, cond, nat_eq, add-zero, filter}
 use Rattle.std.specs.List.{cons_option, find}
 use Rattle.std.proofs.lemmas.Bool.{cases_eq}
 use Rattle.lwp_table.specs.declared.LwpData.{LwpData}
@@ -158,11 +158,6 @@ module _ (b : ℕ → Option LwpData) where
       by : (o : Option LwpData) → b from ≡ o → from < k → listing b (from + 1) count ≡ row ∷ listing b (k + 1) (from + 1 + count - (k + 1)) → cons_option o (listing b (from + 1) count) ≡ row ∷ listing b (k + 1) (from + 1 + count - (k + 1))
       by None is before rest = rest
       by (Some x) is before rest = absurd (none from x (omega arith) before is)
-
--- a place past the first
-pub slice_get-past : (x : LwpData) (xs : List LwpData) (place : ℕ) → place ≢ 0 → slice_get (x ∷ xs) place ≡ slice_get xs (place - 1)
-slice_get-past x xs zero off = absurd (off refl)
-slice_get-past x xs (suc n) off = let less : suc n - 1 ≡ n = omega arith in rw less refl
 
 module _ (b : ℕ → Option LwpData) (p : LwpData → Bool) where
   -- rows that fail the test are passed over

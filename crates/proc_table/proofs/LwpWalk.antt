@@ -181,9 +181,6 @@ module _ (pid : ℕ) (f : LwpData → LwpData) (keeps : (l : LwpData) → (f l).
 
 -- what each turn of a walk asks
 module _ (pid : ℕ) (f : LwpData → LwpData) (keeps : (l : LwpData) → (f l).tid ≡ l.tid) (owns : (l : LwpData) → (f l).pid ≡ l.pid) (was : Rows) where
-  pub walking-lwp : (o : Option LwpData) (k : LwpData) (rows : Rows) → IsWalking pid f o rows was → o ≡ Some k → IsSomeAnd (lwp_of (f k).tid rows.lwps) (λ l. l.pid ≡ (f k).pid)
-  walking-lwp o k rows w is = let its : IsLwp pid rows.lwps k = rw is at w.found in rw (keeps k, its.at) (sym (owns k))
-
   pub walking-after : (o : Option LwpData) (k : LwpData) (rows rows' : Rows) → IsWalking pid f o rows was → o ≡ Some k → rows' ≡ set_lwp (f k) rows → IsSomeAnd (lwp_of k.tid rows'.lwps) (λ l. l.pid ≡ pid)
   walking-after o k rows rows' w is e =
       let its : IsLwp pid rows.lwps k = rw is at w.found in

@@ -1,5 +1,5 @@
 -- Rows found by their numbers, before and after edits.
-use Rattle.std.proofs.Common.{◌≡◌, ℕ, true, false, List, [], ◌∷◌, map, refl, sym, ap, ◌∙◌, arith, inl, inr, nat_eq, Some, None}
+use Rattle.std.proofs.Common.{◌≡◌, ℕ, true, false, List, [], ◌∷◌, map, refl, sym, ap, ◌∙◌, arith, inl, inr, nat_eq, Some}
 use Rattle.std.specs.Prelude.{filter, not, option_map, ◌≢◌}
 use Rattle.std.specs.List.{list_any}
 use Rattle.std.proofs.lemmas.Bool.{cases_Bool}
@@ -46,13 +46,6 @@ found_row n p [] found = absurd (cc)
 found_row n p (q ∷ qs) found = elim (cases_Bool (nat_eq q.pid n)) [
   | inl e ↦ rw e refl
   | inr e ↦ rw e (found_row n p qs (rw e at found))
-]
-
-pub unfound_row : (n : ℕ) (ps : List ProcData) → process_of n ps ≡ None → list_any (λ p. nat_eq p.pid n) ps ≡ false
-unfound_row n [] found = refl
-unfound_row n (q ∷ qs) found = elim (cases_Bool (nat_eq q.pid n)) [
-  | inl e ↦ absurd (let h : Some q ≡ None = rw e at found in cc)
-  | inr e ↦ rw e (unfound_row n qs (rw e at found))
 ]
 
 -- a change that keeps numbers

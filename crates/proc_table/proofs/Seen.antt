@@ -1,6 +1,6 @@
 -- Look-ups by a number that elements have once, with a further test.
 use Rattle.std.proofs.Common.{◌≡◌, ℕ, ◌<◌, ◌≤◌, Bool, true, false, List, [], ◌∷◌, Option, Some, None, refl, sym, ap, ◌∙◌, nat_eq, cond, arith, inl, inr, is_some}
-use Rattle.std.specs.Prelude.{◌&&◌, find, count_by, option_map, IfSome, SomeIff}
+use Rattle.std.specs.Prelude.{◌&&◌, find, count_by, option_map}
 use Rattle.std.specs.Option.{option_eq}
 use Rattle.std.specs.List.{AllByRecursion, list_any}
 use Rattle.std.proofs.lemmas.Bool.{cases_Bool}
@@ -139,14 +139,6 @@ module _ (u : ℕ) where
   abbrev its_user : ProcData → Bool
   its_user p = nat_eq p.uid u
 
-  pub user-own : (o : Option ProcData) → option_map (λ (p : ProcData). p.uid) o ≡ Some u → keep its_user o ≡ o
-  user-own None h = refl
-  user-own (Some p) h = let same : p.uid ≡ u = cc in let its : nat_eq p.uid u ≡ true = grind (arith, nat_tests, same) in rw its refl
-
-  pub user-other : (o : Option ProcData) → (option_map (λ (p : ProcData). p.uid) o ≡ Some u → ⊥) → keep its_user o ≡ None
-  user-other None h = refl
-  user-other (Some p) h = let its : nat_eq p.uid u ≡ false = other_number p.uid u (λ e. h (ap Some e)) in rw its refl
-
   pub eq-kept : (o : Option ProcData) → option_eq nat_eq (option_map (λ (p : ProcData). p.uid) o) (Some u) ≡ is_some (keep its_user o)
   eq-kept None = refl
   eq-kept (Some p) = elim (cases_Bool (nat_eq p.uid u)) [ inl e ↦ rw e refl | inr e ↦ rw e refl ]
@@ -186,10 +178,6 @@ pid-outside n rows kept out = by (process_of n rows.processes) refl
         let home = every_found AtHome (λ q. nat_eq q.pid n) rows.processes p kept.homes e in
         let same = process_of-pid n p rows.processes e in
         absurd (out (omega (arith, home.block.0, same), omega (arith, home.block.1, home.user.0, home.user.1, same)))
-
-pub some-iff : (Q : ℕ → Type 0) (P : Type 0) (r : Option ℕ) (n : ℕ) → SomeIff r P n → Q n → IfSome r Q
-some-iff Q P None n made q = tt
-some-iff Q P (Some m) n made q = rw made.1 q
 
 pub nobody : (u n : ℕ) (ps : List ProcData) → Rise ps → process_of n ps ≡ None → option_map (λ (p : ProcData). p.pid) (find (λ p. nat_eq p.pid n && nat_eq p.uid u) ps) ≡ None
 nobody u n ps r none = ap (option_map (λ (p : ProcData). p.pid)) (seen_process-kept u n ps r ∙ ap (keep (λ (p : ProcData). nat_eq p.uid u)) none)

@@ -4,7 +4,7 @@ use Rattle.pid_blocks.specs.declared.Errno.TheVariants as errno
 use Rattle.proc_table.specs.declared.ProcData.{ProcData}
 use Rattle.proc_table.specs.Processes.{is_live, is_run}
 use Rattle.proc_table.specs.Seen.{seen_process}
-use Rattle.requests.specs.declared.PlainStep.{PlainStep}
+use Rattle.requests.specs.Plain.{PlainStep}
 use Rattle.requests.specs.declared.Reply.{Reply}
 use Rattle.requests.specs.declared.Reply.TheVariants as reply
 use Rattle.requests.specs.Outcome.{answers}

@@ -5,7 +5,7 @@ use Rattle.pid_blocks.specs.Users.{IsUser}
 use Rattle.pid_blocks.specs.Blocks.{slot}
 use Rattle.pid_blocks.specs.declared.Errno.TheVariants as errno
 use Rattle.proc_table.specs.Rows.{Rows}
-use Rattle.requests.specs.declared.PlainStep.{PlainStep}
+use Rattle.requests.specs.Plain.{PlainStep}
 use Rattle.requests.specs.declared.Reply.{Reply}
 use Rattle.requests.specs.declared.Reply.TheVariants as reply
 use Rattle.requests.specs.Outcome.{Outcome, answers}

@@ -23,7 +23,7 @@ use Rattle.wait4.specs.declared.Collected.{Collected}
 use Rattle.wait4.specs.declared.Collected.TheVariants as collected
 use Rattle.wait4.specs.Collect.{is_child, fits, candidates, collect, reportable, reported, rows_after, collect_one, told}
 use Rattle.wait4.specs.Collect as wait
-use Rattle.requests.specs.declared.PlainStep.TheVariants as op
+use Rattle.requests.specs.declared.step.Step.TheVariants as op
 use Rattle.requests.specs.Handle.{view_of, decided, policies_of, done, no_options, handles_stop, handles_status, handles, handle}
 use Rattle.requests.specs.Ptrace.{continues_with}
 use Rattle.requests.specs.Machine.{Machine}
@@ -50,7 +50,7 @@ module _ (settings : Settings) (caller : ℕ) (policies : List (List Rule)) (row
   after_is_sound : IsSound after
   after_is_sound = rows_after_sound rows caller (negsuc 0) no_options s
 
-  module _ (p : ProcData) (found : reported caller (negsuc 0) no_options rows ≡ Some p) (tid sig : ℕ) (told : Bool) (stops : p.state ≡ Trace tid sig told) where
+  module _ (p : ProcData) (found : reported caller (negsuc 0) no_options rows ≡ Some p) (tid sig : ℕ) (was : Bool) (stops : p.state ≡ Trace tid sig was) where
     at : process_of p.pid rows.processes ≡ Some p
     at = (find_some (reportable no_options caller) (λ r. process_of r.pid rows.processes ≡ Some r) (candidates caller (negsuc 0) rows)
         (All-filter (λ r. is_child caller r && fits (negsuc 0) r) (λ r. process_of r.pid rows.processes ≡ Some r) rows.processes (own_rows rows.processes s.stands.rising)) p found).0

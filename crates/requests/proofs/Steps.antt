@@ -15,8 +15,8 @@ use Rattle.wait4.specs.declared.Options.{Options}
 use Rattle.wait4.specs.Collect.{reportable, candidates, is_child, fits, reported, rows_after, without_report}
 use Rattle.requests.specs.declared.Reply.{Reply}
 use Rattle.requests.specs.declared.Reply.TheVariants as reply
-use Rattle.requests.specs.declared.PlainStep.{PlainStep}
-use Rattle.requests.specs.declared.PlainStep.TheVariants as op
+use Rattle.requests.specs.Plain.{PlainStep}
+use Rattle.requests.specs.declared.step.Step.TheVariants as op
 use Rattle.requests.specs.Outcome.{answers, refuses}
 use Rattle.requests.specs.Calls.{sigaction, is_default, wait}
 use Rattle.requests.specs.Reach.{is_which}

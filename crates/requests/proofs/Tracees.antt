@@ -134,16 +134,16 @@ module _ (p : ProcData) (tid : ℕ) (rows rows1 : Rows) (t : Tracee rows p) (o :
 
 -- Arguments that are a signal's number or 0
 
-pub signalled : (f : ℕ → Rows → Rows) (arg pass : ℕ) (r : Reply) (rows rows1 rows2 to : Rows) → (arg ≤ 31) × (pass ≡ arg) → rows1 ≡ to → rows2 ≡ f pass rows1 → rows2 ≡ (with_signal arg (answers r (f arg to)) rows).rows
-signalled f arg pass r rows rows1 rows2 to few same done =
+pub signalled : (f : ℕ → Rows → Rows) («data» pass : ℕ) (r : Reply) (rows rows1 rows2 to : Rows) → («data» ≤ 31) × (pass ≡ «data») → rows1 ≡ to → rows2 ≡ f pass rows1 → rows2 ≡ (with_signal «data» (answers r (f «data» to)) rows).rows
+signalled f «data» pass r rows rows1 rows2 to few same done =
     let least = few.0 in
-    let fits : leb arg 31 ≡ true = grind (arith, nat_tests) in
+    let fits : leb «data» 31 ≡ true = grind (arith, nat_tests) in
     done ∙ (ap (f pass) same ∙ (ap (λ n. f n to) few.1 ∙ rw fits refl))
 
-pub continue_as : (settings : Settings) (mask : EventMask → EventMask) (m : EventMask) (arg : ℕ) (p : ProcData) (rows : Rows) → Rise rows.processes → process_of p.pid rows.processes ≡ Some p → m ≡ mask p.mask
-    → with_signal arg (continues_with settings (λ old. m) arg p rows) rows ≡ with_signal arg (continues_with settings mask arg p rows) rows
-continue_as settings mask m arg p rows up at is =
-    ap (λ r. with_signal arg (answers reply.Done (resume settings p.pid arg (not_stepping p.pid r))) rows)
+pub continue_as : (settings : Settings) (mask : EventMask → EventMask) (m : EventMask) («data» : ℕ) (p : ProcData) (rows : Rows) → Rise rows.processes → process_of p.pid rows.processes ≡ Some p → m ≡ mask p.mask
+    → with_signal «data» (continues_with settings (λ old. m) «data» p rows) rows ≡ with_signal «data» (continues_with settings mask «data» p rows) rows
+continue_as settings mask m «data» p rows up at is =
+    ap (λ r. with_signal «data» (answers reply.Done (resume settings p.pid «data» (not_stepping p.pid r))) rows)
     (ap (λ x. set_mask (λ old. x) p.pid rows) is ∙ set_mask_as mask rows p up at)
 
 pub kill_as : (settings : Settings) (n pid : ℕ) (rows : Rows) → n ≡ SIGKILL → with_signal n (answers reply.Done (resume settings pid n rows)) rows ≡ answers reply.Done (resume settings pid SIGKILL rows)

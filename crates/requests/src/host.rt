@@ -3,12 +3,11 @@
 ghost use Rattle.std.specs.Prelude.{◌≡◌, ◌≢◌, Some, true, IfOk, IfErr, option_map, slice_get};
 ghost use Rattle.pid_blocks.specs.declared.Errno.TheVariants as errno;
 ghost use Rattle.requests.specs.declared.Reply.TheVariants as reply;
-ghost use Rattle.requests.specs.declared.PlainStep.TheVariants as op;
+ghost use Rattle.requests.specs.declared.step.Step.TheVariants as op;
 ghost use Rattle.requests.specs.Callers.{Calls, Barred};
 ghost use Rattle.requests.specs.Laws.{act_fits};
 ghost use Rattle.requests.specs.Machine.{empty, installed_by};
 ghost use Rattle.requests.specs.Memory.{is_refusal, may_want};
-ghost use Rattle.requests.specs.Plain.{plain};
 ghost use Rattle.requests.specs.Sound.{sound};
 ghost use Rattle.requests.specs.Step.{step};
 
@@ -247,12 +246,12 @@ impl<F: Decider + Send + Drop> Host<F> {
         caller: u32,
         request: Request,
         target: u32,
-        arg: u32,
+        data: u32,
     ) -> Reply
         ensures machine { result ≢ reply.Errno errno.ENOMEM →
-            (self.new ≡ (step user (op.Ptrace caller request target arg) self.old).machine) × (result ≡ (step user (op.Ptrace caller request target arg) self.old).reply) }
+            (self.new ≡ (step user (op.Ptrace caller request target «data») self.old).machine) × (result ≡ (step user (op.Ptrace caller request target «data») self.old).reply) }
         ensures memory { result ≡ reply.Errno errno.ENOMEM →
-            (self.new ≡ self.old) × (may_want user (op.Ptrace caller request target arg) self.old ≡ true) }
+            (self.new ≡ self.old) × (may_want user (op.Ptrace caller request target «data») self.old ≡ true) }
         ensures refused { is_refusal result ≡ true → self.new ≡ self.old }
         ensures sound { sound self.new ≡ true }
     {
@@ -269,7 +268,7 @@ impl<F: Decider + Send + Drop> Host<F> {
             &caller,
             request,
             target,
-            arg,
+            data,
         );
         self.handlers.drop_ended(user, &self.tables);
         reply
@@ -325,11 +324,11 @@ impl<F: Decider + Send + Drop> Host<F> {
 
     /// Makes a step of the user. Refused as the manual page of its call says, and with ENOMEM where memory runs out;
     /// a step that is refused changes nothing.
-    pub fn step(&mut self, alloc: Global, user: Uid, asked: Step<F>) -> Reply
+    pub fn step(&mut self, alloc: Global, user: Uid, asked: Step<Handler<F>>) -> Reply
         ensures machine { result ≢ reply.Errno errno.ENOMEM →
-            (self.new ≡ (step user (plain asked) self.old).machine) × (result ≡ (step user (plain asked) self.old).reply) }
+            (self.new ≡ (step user asked self.old).machine) × (result ≡ (step user asked self.old).reply) }
         ensures memory { result ≡ reply.Errno errno.ENOMEM →
-            (self.new ≡ self.old) × (may_want user (plain asked) self.old ≡ true) }
+            (self.new ≡ self.old) × (may_want user asked self.old ≡ true) }
         ensures refused { is_refusal result ≡ true → self.new ≡ self.old }
         ensures sound { sound self.new ≡ true }
     {
@@ -353,8 +352,8 @@ impl<F: Decider + Send + Drop> Host<F> {
                 caller,
                 request,
                 target,
-                arg,
-            } => self.ptrace(alloc, user, caller, request, target, arg),
+                data,
+            } => self.ptrace(alloc, user, caller, request, target, data),
             Step::Turn { tid, act } => self.turn(user, tid, act),
         }
     }

@@ -7,7 +7,7 @@ use Rattle.std.specs.List.{AllWithin, HoldsAt}
 use Rattle.std.proofs.lemmas.List.Elements.{All-head, All-tail, All-from_all_within}
 use Rattle.scenario.specs.declared.running.RunFault.{RunFault}
 use Rattle.requests.specs.declared.Reply.{Reply}
-use Rattle.requests.specs.declared.step.Step.{Step}
+use Rattle.requests.specs.Plain.{PlainStep}
 use Rattle.requests.specs.Isolation.{Ran, host_after}
 use Rattle.requests.specs.Machine.{Machine}
 use Rattle.requests.specs.Memory.{is_memory}
@@ -32,7 +32,7 @@ all_replies (x ∷ xs) (r ∷ rs) m k made ran =
     (all_replies xs rs (host_after x.uid x.step m) k (All-tail (λ r. is_memory r ≡ false) r rs made) both.1)
 
 -- the steps' users with the replies
-pub paired_with : {F : Type 0} (ss : List (ℕ × Step F)) (rs : List Reply) → map answered (zip (map (λ s. s.0) ss) rs) ≡ paired (map bound ss) rs
+pub paired_with : {F : Type 0} (ss : List (ℕ × PlainStep)) (rs : List Reply) → map answered (zip (map (λ s. s.0) ss) rs) ≡ paired (map bound ss) rs
 paired_with [] rs = refl
 paired_with (s ∷ ss) [] = refl
 paired_with (s ∷ ss) (r ∷ rs) = ap (λ xs. answered (s.0, r) ∷ xs) (paired_with ss rs)

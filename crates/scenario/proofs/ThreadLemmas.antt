@@ -7,9 +7,7 @@ use Rattle.std.proofs.lemmas.Bool.{cases_lt, eq-eqb}
 use Rattle.std.proofs.lemmas.Bool.Decides.{nat_tests}
 use Rattle.pid_blocks.specs.Blocks.{rising, users, slot}
 use Rattle.pid_blocks.specs.Users.{IsUser}
-use Rattle.requests.specs.declared.PlainStep.{PlainStep}
-use Rattle.requests.specs.declared.step.Step.{Step}
-use Rattle.requests.specs.Plain.{plain}
+use Rattle.requests.specs.Plain.{PlainStep}
 use Rattle.requests.specs.Run.{Asked, asked_by}
 use Rattle.sessions.specs.declared.script.Script.{Script}
 use Rattle.requests.proofs.ViewLaws.{at_slot}
@@ -83,7 +81,7 @@ one_asked done a user =
         let no : (a.uid == w) ≡ false = grind (arith, nat_tests) in
         ap (λ steps. (w, steps)) (steps_more w done a false no ∙ append-nil (steps_of w done))
 
-pub step_added : {F : Type 0} (ss : List (Script F)) (new d : Script F) (done : List Asked) (u : ℕ) (s : Step F) → IsUser u → map plain_script ss ≡ map (script_of done) users
+pub step_added : {F : Type 0} (ss : List (Script F)) (new d : Script F) (done : List Asked) (u : ℕ) (s : PlainStep) → IsUser u → map plain_script ss ≡ map (script_of done) users
     → new.uid ≡ (get_or ss (slot u) d).uid → new.steps.items ≡ (get_or ss (slot u) d).steps.items ++ s ∷ []
     → map plain_script (set ss (slot u) new) ≡ map (script_of (done ++ bound (u, s) ∷ [])) users
 step_added {F} ss new d done u s user before named longer =
@@ -99,7 +97,7 @@ step_added {F} ss new d done u s user before named longer =
     ∙ one_asked done (bound (u, s)) user
 
 -- those who have steps
-pub are_some : {F : Type 0} (steps : List (Step F)) (n : ℕ) → n ≡ length steps → not (n == 0) ≡ some_steps (map plain steps)
+pub are_some : {F : Type 0} (steps : List PlainStep) (n : ℕ) → n ≡ length steps → not (n == 0) ≡ some_steps (map plain steps)
 are_some [] n same = ap (λ k. not (k == 0)) same
 are_some (s ∷ rest) n same = let some : (n == 0) ≡ false = grind (arith, nat_tests) in ap not some
 

@@ -8,7 +8,6 @@ use Rattle.pid_blocks.specs.Blocks.{users}
 use Rattle.requests.specs.declared.Reply.{Reply}
 use Rattle.requests.specs.Isolation.{Users}
 use Rattle.requests.specs.Machine.{empty}
-use Rattle.requests.specs.Plain.{plain}
 use Rattle.user_rows.specs.Closed.{Every}
 use Rattle.user_rows.proofs.ViewLists.{Every-imply}
 use Rattle.host_lock.specs.declared.journal.Entry.{Entry}

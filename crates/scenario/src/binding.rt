@@ -3,7 +3,6 @@ ghost use Rattle.std.specs.Prelude.{List, ◌≡◌, ◌≢◌, ◌≤◌, ◌�
 ghost use Rattle.std.specs.Vec.Iter.{into_iter_items};
 ghost use Rattle.stop_handlers.specs.declared.Rule.{Rule};
 ghost use Rattle.stop_handlers.specs.Handlers.{MakesObeying};
-ghost use Rattle.requests.specs.Plain.{plain};
 ghost use Rattle.scenario.specs.Plan.{bound, most_steps, policies_in, policy_before};
 ghost use Rattle.scenario.specs.declared.running.RunFault.TheVariants.{Mismatch, Memory};
 
@@ -21,7 +20,11 @@ pub fn policies(alloc: Global, scenario: &Scenario) -> Result<Vec<Policy>, Alloc
 {
     let mut policies = Vec::new(alloc);
     for step in scenario.steps() {
-        if let PlainStep::Install { policy, .. } = step.1 {
+        if let PlainStep::Install {
+            handler: policy,
+            ..
+        } = step.1
+        {
             policies.push(policy)?;
         }
     }
@@ -36,7 +39,11 @@ fn left_after<'a, F: Decider + Send + Drop>(
     ensures some { IfSome result (λ left. handlers.now ≡ policy_before step.now left.now) }
     ensures none { result ≡ None → (others : List (List Rule)) → handlers.now ≢ policy_before step.now others }
 {
-    let PlainStep::Install { policy, .. } = step else {
+    let PlainStep::Install {
+        handler: policy,
+        ..
+    } = step
+    else {
         return Some(handlers);
     };
     let (first, left) = handlers.split_first()?;
@@ -65,9 +72,9 @@ fn obey<F: Decider + Send + Drop>(handlers: &[Handler<F>], scenario: &Scenario) 
 fn bound_step<F: Decider + Send + Drop>(
     step: &PlainStep,
     handlers: &mut IntoIter<Handler<F>>,
-) -> Option<Step<F>>
+) -> Option<Step<Handler<F>>>
     ensures { (others : List (List Rule)) → into_iter_items handlers.old ≡ policy_before step.now others
-        → (into_iter_items handlers.new ≡ others) × IsSomeAnd result (λ s. plain s ≡ step.now) }
+        → (into_iter_items handlers.new ≡ others) × IsSomeAnd result (λ s. s ≡ step.now) }
 {
     Some(match *step {
         PlainStep::Spawn => Step::Spawn,
@@ -100,12 +107,12 @@ fn bound_step<F: Decider + Send + Drop>(
             caller,
             request,
             target,
-            arg,
+            data,
         } => Step::Ptrace {
             caller,
             request,
             target,
-            arg,
+            data,
         },
         PlainStep::Turn { tid, act } => Step::Turn { tid, act },
     })
@@ -116,7 +123,7 @@ fn bound<F: Decider + Send + Drop>(
     alloc: Global,
     scenario: &Scenario,
     handlers: Vec<Handler<F>>,
-) -> Result<Vec<(Uid, Step<F>)>, RunFault>
+) -> Result<Vec<(Uid, Step<Handler<F>>)>, RunFault>
     requires { handlers.items ≡ policies_in scenario.now.steps }
     ensures ok { IfOk result (λ v. map bound v.items ≡ scenario.now.steps) }
     ensures few { IfOk result (λ v. length v.items ≤ most_steps) }
@@ -140,7 +147,7 @@ pub fn bind<F: Decider + Send + Drop>(
     alloc: Global,
     scenario: &Scenario,
     handlers: Vec<Handler<F>>,
-) -> Result<Vec<(Uid, Step<F>)>, RunFault>
+) -> Result<Vec<(Uid, Step<Handler<F>>)>, RunFault>
     ensures ok { IfOk result (λ v. map bound v.items ≡ scenario.now.steps) }
     ensures few { IfOk result (λ v. length v.items ≤ most_steps) }
     ensures mismatch { IsErrOf result Mismatch ↔ (handlers.items ≢ policies_in scenario.now.steps) }

@@ -72,7 +72,7 @@ pub(crate) fn are_made(replies: &[Reply]) -> bool
 /// The users of the steps, in order. An error is want of memory.
 fn users_of<F: Decider + Send + Drop>(
     alloc: Global,
-    steps: &[(Uid, Step<F>)],
+    steps: &[(Uid, Step<Handler<F>>)],
 ) -> Result<Vec<Uid>, AllocError>
     ensures { IfOk result (λ users. users.items ≡ map (λ s. s.0) steps.now) }
 {
@@ -94,7 +94,7 @@ fn pairs_of(
 fn replies_of<F: Decider + Send + Drop>(
     alloc: Global,
     settings: Settings,
-    steps: Vec<(Uid, Step<F>)>,
+    steps: Vec<(Uid, Step<Handler<F>>)>,
 ) -> Result<Vec<(Uid, Reply)>, RunFault>
     ensures ok { IfOk result (λ v. map answered v.items
         ≡ answers_of (record { settings = settings; steps = map bound steps.items })) }

@@ -57,7 +57,7 @@ fn is_asked<F: Decider + Send + Drop>(script: &Script<F>) -> bool
 /// A script for each user who has steps, by rising number of the users. An error is want of memory.
 fn scripts_of<F: Decider + Send + Drop>(
     alloc: Global,
-    steps: Vec<(Uid, Step<F>)>,
+    steps: Vec<(Uid, Step<Handler<F>>)>,
 ) -> Result<Vec<Script<F>>, AllocError>
     ensures scripts { IfOk result (λ scripts. map plain_script scripts.items ≡ scripts_in (map bound steps.items)) }
     ensures users { OnOk result (Users (map bound steps.items)) }
@@ -111,7 +111,7 @@ fn transcripts_of<F: Decider + Send + Drop, R: Threads + Wait + Sync>(
     rt: &R,
     alloc: Global,
     settings: Settings,
-    steps: Vec<(Uid, Step<F>)>,
+    steps: Vec<(Uid, Step<Handler<F>>)>,
 ) -> Result<Vec<Transcript>, RunFault>
     requires { length steps.items ≤ most_steps }
     ensures told { IfOk result (λ ts. All (λ t. All (λ r. is_memory r ≡ false) t.replies.items) ts.items
@@ -134,7 +134,7 @@ fn replies_by_user<F: Decider + Send + Drop, R: Threads + Wait + Sync>(
     rt: &R,
     alloc: Global,
     settings: Settings,
-    steps: Vec<(Uid, Step<F>)>,
+    steps: Vec<(Uid, Step<Handler<F>>)>,
 ) -> Result<Vec<(Uid, Reply)>, RunFault>
     requires { length steps.items ≤ most_steps }
     ensures ok { IfOk result (λ v. map answered v.items

@@ -1,7 +1,6 @@
 //! The steps of a journal, made again by one thread.
 
 ghost use Rattle.std.specs.Prelude.{◌≡◌};
-ghost use Rattle.requests.specs.Plain.{plain};
 
 use crate::replies::same;
 use host_lock::Journal;
@@ -12,8 +11,8 @@ use stop_handlers::{ByPolicy, Handler};
 use trace_stop::Settings;
 
 /// The step, with a handler that answers by the policy.
-pub fn step_of(step: &PlainStep) -> Step<ByPolicy>
-    ensures { plain result ≡ step.now }
+pub fn step_of(step: &PlainStep) -> Step<Handler<ByPolicy>>
+    ensures { result ≡ step.now }
 {
     match *step {
         PlainStep::Spawn => Step::Spawn,
@@ -37,7 +36,10 @@ pub fn step_of(step: &PlainStep) -> Step<ByPolicy>
             which,
             options,
         },
-        PlainStep::Install { caller, policy } => Step::Install {
+        PlainStep::Install {
+            caller,
+            handler: policy,
+        } => Step::Install {
             caller,
             handler: Handler::new(policy, ByPolicy(policy)),
         },
@@ -46,12 +48,12 @@ pub fn step_of(step: &PlainStep) -> Step<ByPolicy>
             caller,
             request,
             target,
-            arg,
+            data,
         } => Step::Ptrace {
             caller,
             request,
             target,
-            arg,
+            data,
         },
         PlainStep::Turn { tid, act } => Step::Turn { tid, act },
     }

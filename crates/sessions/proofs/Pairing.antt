@@ -4,8 +4,7 @@ use Rattle.std.proofs.lemmas.List.{get_or-map}
 use mathlib.Core.List.{map-append}
 use Rattle.atomic_table.specs.Seated.{TableId}
 use Rattle.requests.specs.Machine.{Machine}
-use Rattle.requests.specs.declared.step.Step.{Step}
-use Rattle.requests.specs.Plain.{plain}
+use Rattle.requests.specs.Plain.{PlainStep}
 use Rattle.host_lock.specs.declared.journal.Entry.{Entry}
 use Rattle.host_lock.specs.Journal.{entries_of}
 use Rattle.host_lock.specs.Answers.{GivesBack}
@@ -89,7 +88,7 @@ module _ {F : Type 0} (h : Machine) (z : TableId) where
       let same = steps_at ss js p k (record { uid = 0; steps = j.steps }) j (omega arith) in
       let new = session_at ss js p k (record { uid = 0; steps = j.steps }) j (omega arith) in
       let room = all_of HasRoom js p.2 k j lt in
-      let few : vec_len (slice_index_or js k j).steps ≤ most_calls = subst (λ (v : Vec (Step F) Global). vec_len v ≤ most_calls) (sym same) (short k (record { uid = 0; steps = j.steps }) (omega arith)) in (
+      let few : vec_len (slice_index_or js k j).steps ≤ most_calls = subst (λ (v : Vec PlainStep Global). vec_len v ≤ most_calls) (sym same) (short k (record { uid = 0; steps = j.steps }) (omega arith)) in (
         (ap (λ (x : SessionData). x.host) new ∙ sym id, ap (λ (x : SessionData). x.start) new ∙ sym start),
         ap (λ (x : SessionData). x.calls) new,
         ap (λ (x : SessionData). x.mine) new,
@@ -100,12 +99,12 @@ module _ {F : Type 0} (h : Machine) (z : TableId) where
       ))
 
   pub done_at : (ss : List (Script F)) (js : List (Job F)) (ds : List Done) → Prepared ss js → AllDone js ds → (k : ℕ) (s : Script F) (d : Done) → k < length ss
-      → Did (new_session (slice_index_or ss k s).uid k z h) (map plain (slice_index_or ss k s).steps.items) (slice_index_or ds k d).replies.items (slice_index_or ds k d).session
+      → Did (new_session (slice_index_or ss k s).uid k z h) (slice_index_or ss k s).steps.items (slice_index_or ds k d).replies.items (slice_index_or ds k d).session
   done_at ss js ds p r k s d lt =
       let len = jobs_length ss js p in
       let j : Job F = record { session = d.session; steps = s.steps; replies = d.replies } in
-      let did = pairs_at (λ j d. Did j.session (map plain j.steps.items) d.replies.items d.session) js ds r k j d (omega arith) in
-      let P : SessionData × Vec (Step F) Global → Type 0 = λ w. Did w.0 (map plain w.1.items) (slice_index_or ds k d).replies.items (slice_index_or ds k d).session in
+      let did = pairs_at (λ j d. Did j.session j.steps.items d.replies.items d.session) js ds r k j d (omega arith) in
+      let P : SessionData × Vec PlainStep Global → Type 0 = λ w. Did w.0 w.1.items (slice_index_or ds k d).replies.items (slice_index_or ds k d).session in
       subst P (λ i. (session_at ss js p k s j lt i, steps_at ss js p k s j lt i)) did
 
   -- the sessions are still of this host
@@ -119,7 +118,7 @@ module _ {F : Type 0} (h : Machine) (z : TableId) where
   pub all_play : (log : List Entry) (ss : List (Script F)) (js : List (Job F)) (ds : List Done) → Prepared ss js → AllDone js ds → (xs : List SessionData) (ts : List Transcript) → xs ≡ map done_session ds → ts ≡ map done_transcript ds → All (Stands log) xs → AllPlay log ss ts
   all_play log ss js ds p r xs ts is was stands =
       let len = jobs_length ss js p in
-      let len' = pairs_length (λ j d. Did j.session (map plain j.steps.items) d.replies.items d.session) js ds r in (
+      let len' = pairs_length (λ j d. Did j.session j.steps.items d.replies.items d.session) js ds r in (
         ap length was ∙ length_map done_transcript ds ∙ len' ∙ len,
         λ k s t lt.
             let d : Done = record { session = new_session 0 0 z h; replies = t.replies } in
@@ -132,7 +131,7 @@ module _ {F : Type 0} (h : Machine) (z : TableId) where
             let stand : Stands log x.session = subst (Stands log) here (stands k d.session (omega arith)) in
             subst (Plays log k (slice_index_or ss k s)) (sym there) (
               did.1,
-              did.0 ∙ length_map plain (slice_index_or ss k s).steps.items,
+              did.0,
               ap (λ m. entries_of m log) (sym did.2) ∙ stand.1 ∙ did.6,
             ),
       )

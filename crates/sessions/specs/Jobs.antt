@@ -2,8 +2,7 @@
 use Rattle.std.specs.Prelude.{◌≡◌, ℕ, ◌≤◌, List, [], map, Vec, vec_len, vec_capacity}
 use Rattle.host_lock.specs.Limits.{most_calls}
 use Rattle.host_lock.specs.Sessions.{SessionData, HostData, IsOf}
-use Rattle.requests.specs.Plain.{plain}
-use Rattle.requests.specs.declared.step.Step.{Step}
+use Rattle.requests.specs.Plain.{PlainStep}
 use Rattle.std.specs.Global.{Global}
 use Rattle.sessions.specs.declared.job.Job.{Job}
 use Rattle.sessions.specs.declared.job.Done.{Done}
@@ -24,12 +23,12 @@ IsReady h j = IsOf h j.session × (j.session.calls ≡ 0) × (j.session.mine ≡
 
 -- each job was done
 abbrev pub AllDone : {F : Type 0} → List (Job F) → List Done → Type 0
-AllDone js ds = Pairs (λ j d. Did j.session (map plain j.steps.items) d.replies.items d.session) js ds
+AllDone js ds = Pairs (λ j d. Did j.session j.steps.items d.replies.items d.session) js ds
 
 abbrev pub job_session : {F : Type 0} → Job F → SessionData
 job_session j = j.session
 
-abbrev pub job_steps : {F : Type 0} → Job F → Vec (Step F) Global
+abbrev pub job_steps : {F : Type 0} → Job F → Vec PlainStep Global
 job_steps j = j.steps
 
 abbrev pub done_session : Done → SessionData

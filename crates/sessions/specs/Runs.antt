@@ -1,6 +1,5 @@
 -- What a run of scripts answers.
 use Rattle.std.specs.Prelude.{◌≡◌, ℕ, ◌<◌, ◌≤◌, ◌==◌, List, map, filter, length, Vec, vec_len, slice_index_or}
-use Rattle.requests.specs.Plain.{plain}
 use Rattle.host_lock.specs.declared.journal.Entry.{Entry}
 use Rattle.pid_blocks.specs.Users.{IsUser}
 use Rattle.requests.specs.Machine.{Machine}
@@ -12,7 +11,7 @@ use Rattle.sessions.specs.declared.script.Script.{Script}
 use Rattle.sessions.specs.declared.script.Transcript.{Transcript}
 use Rattle.sessions.specs.declared.script.RunRefusal.{RunRefusal}
 use Rattle.sessions.specs.declared.script.RunRefusal.TheVariants.{TooMany, Memory, Start}
-use Rattle.requests.specs.declared.step.Step.{Step}
+use Rattle.requests.specs.Plain.{PlainStep}
 use Rattle.std.specs.Global.{Global}
 use Rattle.sessions.specs.Made.{made}
 
@@ -23,7 +22,7 @@ IsShort s = vec_len s.steps ≤ most_calls
 -- the transcript has one reply for each step, in order; the steps not answered ENOMEM, with their replies, are the journal's entries of
 -- this number
 abbrev pub Plays : {F : Type 0} → List Entry → ℕ → Script F → Transcript → Type 0
-Plays log k s t = (t.uid ≡ s.uid) × (length t.replies.items ≡ length s.steps.items) × (entries_of k log ≡ made s.uid k (map plain s.steps.items) t.replies.items)
+Plays log k s t = (t.uid ≡ s.uid) × (length t.replies.items ≡ length s.steps.items) × (entries_of k log ≡ made s.uid k s.steps.items t.replies.items)
 
 -- one transcript for each script, in order
 abbrev pub AllPlay : {F : Type 0} → List Entry → List (Script F) → List Transcript → Type 0
@@ -49,5 +48,5 @@ RefusesFor n Start = (0 < n) × (n ≤ most_sessions)
 abbrev pub uid_of : {F : Type 0} → Script F → ℕ
 uid_of s = s.uid
 
-abbrev pub steps_of : {F : Type 0} → Script F → Vec (Step F) Global
+abbrev pub steps_of : {F : Type 0} → Script F → Vec PlainStep Global
 steps_of s = s.steps

@@ -1,7 +1,6 @@
 //! One worker.
 
 ghost use Rattle.std.specs.Prelude.{◌≡◌, ◌≤◌, [], map, reverse, vec_len};
-ghost use Rattle.requests.specs.Plain.{plain};
 ghost use Rattle.host_lock.specs.Limits.{most_calls};
 ghost use Rattle.host_lock.specs.Sessions.{IsOf};
 ghost use Rattle.sessions.specs.Jobs.{HasRoomFor};
@@ -13,7 +12,7 @@ use host_lock::{Answer, Session, SharedHost};
 use requests::{Reply, Step};
 use std::alloc::Global;
 use std::sync::Wait;
-use stop_handlers::Decider;
+use stop_handlers::{Decider, Handler};
 
 /// Makes the steps of a script, in order. The replies have room.
 pub(crate) fn work<F: Decider + Send + Drop, G: Gate, R: Wait>(
@@ -21,7 +20,7 @@ pub(crate) fn work<F: Decider + Send + Drop, G: Gate, R: Wait>(
     alloc: Global,
     host: &SharedHost<F>,
     mut session: Session,
-    steps: Vec<Step<F>>,
+    steps: Vec<Step<Handler<F>>>,
     mut replies: Vec<Reply>,
     gate: &G,
 ) -> Done
@@ -29,7 +28,7 @@ pub(crate) fn work<F: Decider + Send + Drop, G: Gate, R: Wait>(
     requires fresh { (session.calls ≡ 0) × (session.mine ≡ []) }
     requires few { vec_len steps ≤ most_calls }
     requires room { HasRoomFor (vec_len steps) replies }
-    ensures { Did session (map plain steps.items) result.replies.items result.session }
+    ensures { Did session steps.items result.replies.items result.session }
 {
     let uid = session.uid();
     let mut steps = reversed(steps);

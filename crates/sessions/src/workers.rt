@@ -1,7 +1,6 @@
 //! One worker for each script.
 ghost use Rattle.std.specs.Prelude.{◌≡◌, ◌+◌, ◌≤◌, [], ◌∷◌, ◌++◌, map, vec_len, vec_capacity, IfSome};
 ghost use Rattle.std.specs.Thread.{IsSend, IsSync};
-ghost use Rattle.requests.specs.Plain.{plain};
 ghost use Rattle.host_lock.specs.Limits.{most_calls};
 ghost use Rattle.host_lock.specs.Rule.{Each};
 ghost use Rattle.host_lock.specs.Sessions.{IsOf};
@@ -86,7 +85,7 @@ fn beside<F: Decider + Send + Drop, G: Gate, R: Threads + Wait + Sync>(
                         requires fresh { (session.calls ≡ 0) × (session.mine ≡ []) }
                         requires few { vec_len steps ≤ most_calls }
                         requires room { HasRoomFor (vec_len steps) replies }
-                        ensures { Did session (map plain steps.items) result.replies.items result.session }
+                        ensures { Did session steps.items result.replies.items result.session }
                     { work(rt, alloc, host, session, steps, replies, gate) },
                 )
                 .ok()?;

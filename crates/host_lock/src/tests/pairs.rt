@@ -9,7 +9,7 @@ use requests::{Host, Reply, Step};
 use std::alloc::Global;
 use std::sync::Wait;
 use std::thread::{Threads, join};
-use stop_handlers::ByPolicy;
+use stop_handlers::{ByPolicy, Handler};
 
 /// The reply to a spawn. None where no user has such numbers.
 pub fn new_process(pid: u32, tid: u32) -> Option<Reply> {
@@ -24,7 +24,7 @@ pub fn ask<R: Wait>(
     alloc: Global,
     host: &SharedHost<ByPolicy>,
     session: &mut Session,
-    step: Step<ByPolicy>,
+    step: Step<Handler<ByPolicy>>,
 ) -> Option<Reply>
     requires { IsOf host.now session.old }
     ensures { IsSame session.old session.new }
@@ -116,7 +116,7 @@ fn work<R: Wait>(
     alloc: Global,
     host: &SharedHost<ByPolicy>,
     mut session: Session,
-    steps: Vec<Step<ByPolicy>>,
+    steps: Vec<Step<Handler<ByPolicy>>>,
 ) -> Option<Worked>
     requires { IsOf host.now session }
     ensures { IfSome result (λ w. IsOf host.now w.session) }
@@ -134,8 +134,8 @@ pub fn work_beside<R: Threads + Wait + Sync>(
     rt: &R,
     alloc: Global,
     host: &SharedHost<ByPolicy>,
-    first: (Session, Vec<Step<ByPolicy>>),
-    second: (Session, Vec<Step<ByPolicy>>),
+    first: (Session, Vec<Step<Handler<ByPolicy>>>),
+    second: (Session, Vec<Step<Handler<ByPolicy>>>),
 ) -> (Option<Worked>, Option<Worked>)
     requires first { IsOf host.now first.0 }
     requires second { IsOf host.now second.0 }
@@ -156,7 +156,7 @@ pub fn work_beside<R: Threads + Wait + Sync>(
 }
 
 /// A hundred spawns.
-pub fn spawn_hundred(alloc: Global) -> Option<Vec<Step<ByPolicy>>> {
+pub fn spawn_hundred(alloc: Global) -> Option<Vec<Step<Handler<ByPolicy>>>> {
     let mut steps = Vec::new(alloc);
     for _ in 0u32..100 {
         steps.push(Step::Spawn).ok()?;

@@ -1,5 +1,4 @@
 use Rattle.std.proofs.Common.{◌≡◌, ◌++◌, ◌∷◌, [], map, ap, ◌∙◌, sym, rules}
-use Rattle.requests.specs.Plain.{plain}
 use Rattle.scenario.specs.Plan.{bound}
 use Rattle.scenario.proofs.BindLemmas.{policies_here, one_bound}
 use Rattle.scenario.proofs.binding.bound.Goals as goal

@@ -5,7 +5,7 @@ use Rattle.std.proofs.lemmas.Fn.{filter_same}
 use Rattle.std.proofs.Math.ListN.{set}
 use Rattle.pid_blocks.specs.Blocks.{slot, users}
 use Rattle.sessions.specs.declared.script.Script.{Script}
-use Rattle.requests.specs.declared.step.Step.{Step}
+use Rattle.requests.specs.Plain.{PlainStep}
 use Rattle.requests.specs.Isolation.{Users}
 use Rattle.visibility.proofs.Answered.{map-push, Users-push}
 use Rattle.scenario.specs.Plan.{bound}
@@ -27,7 +27,7 @@ index_mut-requires g c =
 pub loop-user-preserved : goal.loop-user-preserved
 loop-user-preserved g c =
     let at = c.loop-user in
-    let entry : ℕ × Step g.row.F.Denot = (c.in-Some.user, c.in-Some.step) in
+    let entry : ℕ × PlainStep = (c.in-Some.user, c.in-Some.step) in
     let steps : into_iter_items at.user-iterator ≡ entry ∷ into_iter_items c.next.new.self = c.in-Some.ensures.steps.0 in
     let old = c.index_mut.result.now in
     let new : Script g.row.F.Denot = record { uid = old.uid; steps = c.push.new.self } in

@@ -1,5 +1,5 @@
 use Rattle.std.proofs.Common.{◌≡◌, ℕ, ◌<◌, ◌≤◌, length, true, false, leb, refl, sym, subst, ap, ◌∙◌, not, arith}
-use Rattle.requests.specs.declared.PlainStep.TheVariants as op
+use Rattle.requests.specs.declared.step.Step.TheVariants as op
 use Rattle.requests.specs.declared.Reply.TheVariants as reply
 use Rattle.pid_blocks.specs.declared.Errno.TheVariants as errno
 use Rattle.std.proofs.lemmas.Bool.{le-leb}

@@ -1,5 +1,5 @@
 use Rattle.std.proofs.Common.{◌≡◌, true, refl, sym, subst}
-use Rattle.requests.specs.declared.PlainStep.TheVariants as op
+use Rattle.requests.specs.declared.step.Step.TheVariants as op
 use Rattle.requests.specs.Callers.{Calls, IsCaller}
 use Rattle.requests.specs.Hosts.{machine_of}
 use Rattle.requests.specs.Machine.{Machine}
@@ -14,12 +14,12 @@ use Rattle.requests.proofs.host.Host.ptrace.Goals as goal
 pub returns-in-Err-clause-machine : goal.returns-in-Err-clause-machine
 returns-in-Err-clause-machine g c =
     let is : sound c.args.self.now ≡ true = rw (← c.self.view_is) c.self.invariant in
-    (barred c.args.user (op.Ptrace c.args.caller c.args.request c.args.target c.args.arg) c.args.self.now c.get-user.ensures.user is refl c.args.caller c.in-Err.refusal refl c.in-Err.ensures.barred).machine
+    (barred c.args.user (op.Ptrace c.args.caller c.args.request c.args.target c.args.data) c.args.self.now c.get-user.ensures.user is refl c.args.caller c.in-Err.refusal refl c.in-Err.ensures.barred).machine
 
 pub returns-in-Err-clause-memory : goal.returns-in-Err-clause-memory
 returns-in-Err-clause-memory g c =
     let is : sound c.args.self.now ≡ true = rw (← c.self.view_is) c.self.invariant in
-    (barred c.args.user (op.Ptrace c.args.caller c.args.request c.args.target c.args.arg) c.args.self.now c.get-user.ensures.user is refl c.args.caller c.in-Err.refusal refl c.in-Err.ensures.barred).memory
+    (barred c.args.user (op.Ptrace c.args.caller c.args.request c.args.target c.args.data) c.args.self.now c.get-user.ensures.user is refl c.args.caller c.in-Err.refusal refl c.in-Err.ensures.barred).memory
 
 pub returns-in-Err-clause-sound : goal.returns-in-Err-clause-sound
 returns-in-Err-clause-sound g c = rw (← c.self.view_is) c.self.invariant
@@ -32,13 +32,13 @@ ptrace-reply-requires g c =
     let caller = is_caller c.args.user c.args.caller m.rows c.in-Ok.caller is.stands.rising by in
     record { sound = is; caller = caller }
 
-done : (g : Over) (c : goal.After-drop_ended g) → Finished c.args.user (op.Ptrace c.args.caller c.args.request c.args.target c.args.arg) (machine_of c.self.inside.settings c.self.inside.tables c.self.inside.handlers)
+done : (g : Over) (c : goal.After-drop_ended g) → Finished c.args.user (op.Ptrace c.args.caller c.args.request c.args.target c.args.data) (machine_of c.self.inside.settings c.self.inside.tables c.self.inside.handlers)
     (machine_of c.self.inside.settings c.ptrace-reply.new.tables c.drop_ended.new.self) c.ptrace-reply.result
 done g c =
     let m : Machine = machine_of c.self.inside.settings c.self.inside.tables c.self.inside.handlers in
     let by : Calls c.args.user c.args.caller m.rows c.in-Ok.caller = subst (λ x. Calls c.args.user c.args.caller x.rows c.in-Ok.caller) (sym c.self.view_is) c.in-Ok.ensures.found in
-    finished_with c.args.user (op.Ptrace c.args.caller c.args.request c.args.target c.args.arg) m c.get-user.ensures.user c.self.invariant refl (ptrace m.settings c.args.user c.in-Ok.caller c.args.request c.args.target c.args.arg m.rows) c.ptrace-reply.new.tables.rows c.drop_ended.new.self c.ptrace-reply.result c.drop_ended.ensures
-    (called c.args.user c.args.caller (op.Ptrace c.args.caller c.args.request c.args.target c.args.arg) m refl c.in-Ok.caller by.seen by.live by.runs)
+    finished_with c.args.user (op.Ptrace c.args.caller c.args.request c.args.target c.args.data) m c.get-user.ensures.user c.self.invariant refl (ptrace m.settings c.args.user c.in-Ok.caller c.args.request c.args.target c.args.data m.rows) c.ptrace-reply.new.tables.rows c.drop_ended.new.self c.ptrace-reply.result c.drop_ended.ensures
+    (called c.args.user c.args.caller (op.Ptrace c.args.caller c.args.request c.args.target c.args.data) m refl c.in-Ok.caller by.seen by.live by.runs)
     (record { machine = c.ptrace-reply.ensures.machine; memory = c.ptrace-reply.ensures.memory })
 
 pub invariant_of-self : goal.invariant_of-self

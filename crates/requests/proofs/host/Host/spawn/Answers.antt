@@ -1,5 +1,5 @@
 use Rattle.std.proofs.Common.{◌≡◌, refl, ap, ◌∙◌, sym}
-use Rattle.requests.specs.declared.PlainStep.TheVariants as op
+use Rattle.requests.specs.declared.step.Step.TheVariants as op
 use Rattle.requests.specs.Hosts.{machine_of}
 use Rattle.requests.specs.Machine.{Machine}
 use Rattle.requests.specs.Calls.{spawn}

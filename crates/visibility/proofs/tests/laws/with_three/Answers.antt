@@ -1,7 +1,7 @@
 use Rattle.std.proofs.Common.{◌≡◌, ℕ, ap₂, ◌∙◌, rules}
 use Rattle.requests.specs.Isolation.{host_after}
 use Rattle.requests.specs.Machine.{Machine}
-use Rattle.requests.specs.declared.PlainStep.TheVariants as op
+use Rattle.requests.specs.declared.step.Step.TheVariants as op
 use Rattle.visibility.specs.Rows.{kills}
 use Rattle.visibility.proofs.tests.laws.with_three.Goals as goal
 
