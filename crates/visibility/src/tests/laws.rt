@@ -6,7 +6,7 @@ ghost use Rattle.requests.specs.Machine.{empty};
 ghost use Rattle.requests.specs.Run.{last};
 ghost use Rattle.requests.specs.declared.step.Step.TheVariants as op;
 ghost use Rattle.requests.specs.declared.Request.TheVariants as request;
-ghost use Rattle.visibility.specs.Rows.{kills, by};
+ghost use Rattle.visibility.specs.WorkedRuns.{kills, by};
 
 use super::script::{Answer, Line, answered, attach, compare, first, list, second, steps_of};
 use crate::laws::{foreign_number, one_step, other_step, two_lists};
