@@ -93,9 +93,7 @@ module _ {F : Type 0} (h : Machine) (z : TableId) where
         ap (λ (x : SessionData). x.calls) new,
         ap (λ (x : SessionData). x.mine) new,
         few,
-        room.0,
-        room.1,
-        room.2,
+        room,
       ))
 
   pub done_at : (ss : List (Script F)) (js : List (Job F)) (ds : List Done) → Prepared ss js → AllDone js ds → (k : ℕ) (s : Script F) (d : Done) → k < length ss
