@@ -1,35 +1,23 @@
 -- What a table keeps after each change, and the rows that it then has.
 use Rattle.std.proofs.Common.{◌≡◌, ◌≢◌, ℕ, ◌+◌, ◌-◌, ◌<◌, ◌≤◌, Bool, true, false, List, [], ◌∷◌, ◌++◌, Option, Some, None, IsSome, IfSome, is_some, refl, sym, ap, subst, ◌∙◌, arith, inl, inr, cond, nat_eq, is_none, length, count_by, get_or, set, unwrap_or, replicate}
 use Rattle.std.specs.Map.{lookup}
-use Rattle.std.specs.Option.{option_map, option_or, IsSomeAnd}
+use Rattle.std.specs.Option.{option_map, option_or}
 use Rattle.std.proofs.lemmas.Bool.{cases_eq}
 use Rattle.std.proofs.lemmas.Option.{same_Some}
-use Rattle.std.proofs.lemmas.List.{get_or-replicate}
+use Rattle.std.proofs.lemmas.List.{get_or-replicate, length-map}
 use Rattle.lwp_table.specs.declared.LwpData.{LwpData}
 use Rattle.lwp_table.specs.declared.links.Slot.{Slot}
 use Rattle.lwp_table.specs.declared.links.Ends.{Ends}
 use Rattle.lwp_table.specs.declared.links.Link.TheVariants.{NextOwn, NextAll}
-use Rattle.lwp_table.specs.Lwps.{lwp_of, first_lwp, next_lwp, Differ}
+use Rattle.lwp_table.specs.Lwps.{lwp_of, put_lwp, with_lwp, without_lwp, Differ}
 use Rattle.lwp_table.specs.Chain.{Node, IsNearest, IsChain, AreApart, up, down, anywhere, above, below, leads_to, joined, bridged}
-use Rattle.lwp_table.specs.Kept.{own_node, own_nodes, all_node, all_nodes, is_of, is_at, place_of, linked, closed_up, ends_at, no_ends, born_row, listing, rows_of, IsIndexed, IsKept}
-use Rattle.lwp_table.proofs.WordLemmas.{test_same, test_apart, with_row, without_row, rows_after, next_lwp-after}
+use Rattle.lwp_table.specs.Kept.{own_node, own_nodes, all_node, all_nodes, is_of, is_at, place_of, linked, closed_up, ends_at, no_ends, born_row, rows_of, IsIndexed, IsKept}
+use Rattle.lwp_table.proofs.WordLemmas.{test_same, test_apart}
 use Rattle.lwp_table.proofs.ChainLemmas.{IsChain-joined, IsChain-joined_other, IsChain-left, IsChain-left_other}
-use Rattle.lwp_table.proofs.ListLemmas.{first-none, first-found, rows_after-listing}
-use Rattle.lwp_table.proofs.CountLemmas.{one, count-end, count-without, count-with, count-below, count-none, length-end, length-without, length-with, length-listing, at_yes, at_no, users_set}
-use Rattle.lwp_table.proofs.IndexLemmas.{differ, face, born_in, born_of, numbered, lwp_of-slot, no_slot, IsIndexed-added, rows_of-added, IsIndexed-removed, rows_of-removed, IsIndexed-set, rows_of-set}
-
-pub some_and : {X : Type 0} (P : X → Type 0) (o : Option X) → IsSomeAnd o P → (x : X) × (o ≡ Some x) × P x
-some_and P None h = absurd h
-some_and P (Some x) h = (x, refl, h)
-
-pub some_of : {X : Type 0} (o : Option X) → IsSome o → (x : X) × (o ≡ Some x)
-some_of None h = absurd (cc)
-some_of (Some x) h = (x, refl)
-
--- the slot that a mapped one comes from
-pub came : {X : Type 0} (h : Slot → X) (o : Option Slot) (x : X) → option_map h o ≡ Some x → (slot : Slot) × (o ≡ Some slot) × (h slot ≡ x)
-came h None x is = absurd (cc)
-came h (Some slot) x is = (slot, refl, same_Some (h slot) x is)
+use Rattle.lwp_table.proofs.Numbered.{count-without, count-put}
+use Rattle.lwp_table.proofs.WalkLemmas.{first-is_none}
+use Rattle.lwp_table.proofs.CountLemmas.{one, count-end, count-below, count-none, length-end, length-without, length-listing, at_yes, at_no, users_set}
+use Rattle.lwp_table.proofs.IndexLemmas.{came, differ, face, lwp_of-slot, no_slot, IsIndexed-added, rows_of-added, IsIndexed-removed, rows_of-removed, IsIndexed-set, rows_of-set}
 
 -- a change of slots as their faces or nodes show it
 pub shown : {X : Type 0} (h : Slot → X) (k : X → X) (l : Slot → Slot) → ((slot : Slot) → h (l slot) ≡ k (h slot)) → (o : Option Slot) → option_map h (option_map l o) ≡ option_map k (option_map h o)
@@ -66,41 +54,6 @@ all_apart f apart i j a b there_a there_b same =
     let x = came all_node (f i) a there_a in
     let y = came all_node (f j) b there_b in
     apart i j x.0 y.0 x.1 y.1 (ap (λ n. n.key) x.2 ∙ same ∙ sym (ap (λ n. n.key) y.2))
-
--- a nearest link is the answer of a walk over the list
-module _ (f : ℕ → Option Slot) (es : List (ℕ × ℕ)) (births : ℕ) (indexed : IsIndexed f es births) (pid : ℕ) (P : ℕ → Type 0) (from : ℕ) (later : (k : ℕ) → from ≤ k → P k) where
-  pub walk-none : (count : ℕ) → IsNearest up (own_nodes f) pid P None → first_lwp pid (listing (born_row f es) from count) ≡ None
-  walk-none count none = first-none (born_row f es) (is_of pid) from count (λ j x least is.
-      let a = born_in f es j x is in
-      test_apart x.pid pid (λ same. none a.0 (own_node a.1) (ap (option_map own_node) a.2) (ap (λ (r : LwpData). r.pid) a.4 ∙ same) (subst P (sym a.3) (later j least))))
-
-  pub walk-some : (s : ℕ) (slot : Slot) → f s ≡ Some slot → ((k : ℕ) → P k → from ≤ k) → (count : ℕ) → births ≤ from + count → IsNearest up (own_nodes f) pid P (Some s) → first_lwp pid (listing (born_row f es) from count) ≡ Some slot.row
-  walk-some s slot there earlier count all near =
-      let node : near.0 ≡ own_node slot = same_Some near.0 (own_node slot) (sym near.1 ∙ ap (option_map own_node) there) in
-      let key : near.0.key ≡ slot.born = ap (λ n. n.key) node in
-      let list : slot.row.pid ≡ pid = sym (ap (λ n. n.list) node) ∙ near.2 in
-      let its : from ≤ slot.born = earlier slot.born (subst P key near.3) in
-      first-found (born_row f es) (is_of pid) slot.born slot.row (born_of f es births indexed s slot there) (ap (λ n. nat_eq n pid) list ∙ test_same pid) from count its (omega (arith, all, indexed.earlier s slot there))
-      (λ j x least less is.
-      let a = born_in f es j x is in
-      test_apart x.pid pid (λ same. omega (arith, less, key, near.4 a.0 (own_node a.1) (ap (option_map own_node) a.2) (ap (λ (r : LwpData). r.pid) a.4 ∙ same) (subst P (sym a.3) (later j least)), a.3)))
-
-module _ (f : ℕ → Option Slot) (es : List (ℕ × ℕ)) (births : ℕ) (indexed : IsIndexed f es births) where
-  pub first-is_none : (pid : ℕ) → IsNearest up (own_nodes f) pid anywhere None → first_lwp pid (rows_of f es births) ≡ None
-  first-is_none pid near = walk-none f es births indexed pid anywhere 0 (λ k least. tt) births near
-
-  pub first-is_some : (pid s : ℕ) (slot : Slot) → f s ≡ Some slot → IsNearest up (own_nodes f) pid anywhere (Some s) → first_lwp pid (rows_of f es births) ≡ Some slot.row
-  first-is_some pid s slot there near = walk-some f es births indexed pid anywhere 0 (λ k least. tt) s slot there (λ k p. omega arith) births (omega arith) near
-
-  -- the rows after a slot's
-  after_slot : (at : ℕ) (was : Slot) → f at ≡ Some was → rows_after was.row.tid (rows_of f es births) ≡ listing (born_row f es) (was.born + 1) (0 + births - (was.born + 1))
-  after_slot at was there = rows_after-listing (born_row f es) (numbered f es births indexed) was.born was.row (born_of f es births indexed at was there) 0 births (omega arith) (omega (arith, indexed.earlier at was there))
-
-  pub next-is_none : (pid at : ℕ) (was : Slot) → f at ≡ Some was → IsNearest up (own_nodes f) pid (above was.born) None → next_lwp pid was.row.tid (rows_of f es births) ≡ None
-  next-is_none pid at was there near = next_lwp-after pid was.row.tid (rows_of f es births) ∙ ap (first_lwp pid) (after_slot at was there) ∙ walk-none f es births indexed pid (above was.born) (was.born + 1) (λ k least. omega (arith, least)) (0 + births - (was.born + 1)) near
-
-  pub next-is_some : (pid at s : ℕ) (was slot : Slot) → f at ≡ Some was → f s ≡ Some slot → IsNearest up (own_nodes f) pid (above was.born) (Some s) → next_lwp pid was.row.tid (rows_of f es births) ≡ Some slot.row
-  next-is_some pid at s was slot there_was there near = next_lwp-after pid was.row.tid (rows_of f es births) ∙ ap (first_lwp pid) (after_slot at was there_was) ∙ walk-some f es births indexed pid (above was.born) (was.born + 1) (λ k least. omega (arith, least)) s slot there (λ k p. omega (arith, p)) (0 + births - (was.born + 1)) (omega arith) near
 
 -- a list with no first node has no last one
 pub no_last : (f : ℕ → Option Node) (t : ℕ) (o : Option ℕ) → IsNearest down f t anywhere o → IsNearest up f t anywhere None → o ≡ None
@@ -213,7 +166,7 @@ module _ (f : ℕ → Option Slot) (es : List (ℕ × ℕ)) (hs : List (ℕ × E
       | inr off ↦ sym (ap (option_map all_node) (same_g s off))
     ]
 
-    pub rows-set : rows_of g es births ≡ with_row row (rows_of f es births)
+    pub rows-set : rows_of g es births ≡ with_lwp row (rows_of f es births)
     rows-set = rows_of-set f es births kept.indexed g es q set_faces old (record old { row = row }) had has refl tids refl
 
     before : lwp_of row.tid (rows_of f es births) ≡ Some old.row
@@ -224,9 +177,9 @@ module _ (f : ℕ → Option Slot) (es : List (ℕ × ℕ)) (hs : List (ℕ × E
       indexed = IsIndexed-set f es births kept.indexed g es q set_faces old (record old { row = row }) had has refl tids refl;
       own = λ p. IsChain-same (own_nodes f) (own_nodes g) p _ _ set_own (kept.own p);
       whole = IsChain-same (all_nodes f) (all_nodes g) 0 _ _ set_all kept.whole;
-      counted = λ p. kept.counted p ∙ sym (ap (count_by (is_of p)) rows-set ∙ count-with (is_of p) row old.row (rows_of f es births) before (ap (λ n. nat_eq n p) pids));
-      total = kept.total ∙ sym (ap length rows-set ∙ length-with row (rows_of f es births));
-      homes = λ place within. kept.homes place within ∙ sym (ap (count_by (is_at place)) rows-set ∙ count-with (is_at place) row old.row (rows_of f es births) before (ap (λ n. nat_eq (place_of n) place) (sym tids)));
+      counted = λ p. kept.counted p ∙ sym (ap (count_by (is_of p)) rows-set ∙ count-put (λ (l : LwpData). l.tid) (is_of p) row old.row (rows_of f es births) (differ f es births kept.indexed) before (ap (λ n. nat_eq n p) pids));
+      total = kept.total ∙ sym (ap length rows-set ∙ length-map (rows_of f es births) (put_lwp row));
+      homes = λ place within. kept.homes place within ∙ sym (ap (count_by (is_at place)) rows-set ∙ count-put (λ (l : LwpData). l.tid) (is_at place) row old.row (rows_of f es births) (differ f es births kept.indexed) before (ap (λ n. nat_eq (place_of n) place) (sym tids)));
     }
 
   -- what is known of a row that goes
@@ -236,10 +189,10 @@ module _ (f : ℕ → Option Slot) (es : List (ℕ × ℕ)) (hs : List (ℕ × E
 
     -- the counts that go down were above 0
     pub own_positive : 0 < (ends_at hs old.row.pid).count
-    own_positive = omega (arith, kept.counted old.row.pid, count-without (is_of old.row.pid) old.row.tid old.row (rows_of f es births) row_old, ap one (test_same old.row.pid))
+    own_positive = omega (arith, kept.counted old.row.pid, count-without (λ (l : LwpData). l.tid) (is_of old.row.pid) old.row.tid old.row (rows_of f es births) (differ f es births kept.indexed) row_old, ap one (test_same old.row.pid))
 
     pub user_positive : (owner : ℕ) → owner ≡ place_of old.row.tid → owner < 64 → 0 < get_or users owner 0
-    user_positive owner is within = omega (arith, kept.homes owner within, count-without (is_at owner) old.row.tid old.row (rows_of f es births) row_old, ap one (at_yes owner old.row is))
+    user_positive owner is within = omega (arith, kept.homes owner within, count-without (λ (l : LwpData). l.tid) (is_at owner) old.row.tid old.row (rows_of f es births) (differ f es births kept.indexed) row_old, ap one (at_yes owner old.row is))
 
     module _ (f1 : ℕ → Option Slot) (same_1 : (s : ℕ) → s ≢ q → f1 s ≡ f s) where
       -- the node's neighbours are in their slots at each step
@@ -283,7 +236,7 @@ module _ (f : ℕ → Option Slot) (es : List (ℕ × ℕ)) (hs : List (ℕ × E
         ap (option_map all_node) (closed s) ∙ shown all_node (bridged old.all.prev old.all.next s) (closed_up old s) (λ slot. refl) (f1 s)
         ∙ ap (λ o. option_map (bridged old.all.prev old.all.next s) (option_map all_node o)) (same_1 s off)
 
-    pub rows-removed : rows_of g es' births ≡ without_row old.row.tid (rows_of f es births)
+    pub rows-removed : rows_of g es' births ≡ without_lwp old.row.tid (rows_of f es births)
     rows-removed = rows_of-removed f es births kept.indexed g es' q left_faces old had gone_g change
 
     module _
@@ -300,7 +253,7 @@ module _ (f : ℕ → Option Slot) (es : List (ℕ × ℕ)) (hs : List (ℕ × E
           let indexed = IsIndexed-removed f es births kept.indexed g es' q left_faces old had gone_g change in
           let zero = count-none (is_of old.row.pid) (rows_of g es' births) (first-is_none g es' births indexed old.row.pid near) in
           let same = ap (count_by (is_of old.row.pid)) rows-removed in
-          let count : left.count ≡ 0 = omega (arith, zero, same, left_count, kept.counted old.row.pid, count-without (is_of old.row.pid) old.row.tid old.row (rows_of f es births) (row_old q old had), ap one (test_same old.row.pid)) in
+          let count : left.count ≡ 0 = omega (arith, zero, same, left_count, kept.counted old.row.pid, count-without (λ (l : LwpData). l.tid) (is_of old.row.pid) old.row.tid old.row (rows_of f es births) (differ f es births kept.indexed) (row_old q old had), ap one (test_same old.row.pid)) in
           (λ i. record { first = none i; last = last i; count = count i })
 
     module _ (ends : (p : ℕ) → ends_at hs' p ≡ cond (nat_eq old.row.pid p) left (ends_at hs p))
@@ -326,13 +279,13 @@ module _ (f : ℕ → Option Slot) (es : List (ℕ × ℕ)) (hs : List (ℕ × E
         ];
         whole = rw (all_first, all_last) (IsChain-left (all_nodes f) (all_nodes g) (all_apart f kept.indexed.apart) 0 all.first all.last kept.whole q (all_node old) (ap (option_map all_node) had) refl (ap (option_map all_node) gone_g) left_all);
         counted = λ p. rw rows-removed (elim (cases_eq old.row.pid p) [
-          | inl same ↦ omega (arith, kept.counted p, left_count, count-without (is_of p) old.row.tid old.row (rows_of f es births) (row_old q old had), ap (λ n. (ends_at hs' n).count) (sym same), ap (λ (e : Ends). e.count) left_own_ends, ap (λ n. (ends_at hs n).count) same, ap one (ap (nat_eq old.row.pid) (sym same) ∙ test_same old.row.pid))
-          | inr off ↦ omega (arith, kept.counted p, count-without (is_of p) old.row.tid old.row (rows_of f es births) (row_old q old had), ap (λ (e : Ends). e.count) (left_other_ends p off), ap one (test_apart old.row.pid p off))
+          | inl same ↦ omega (arith, kept.counted p, left_count, count-without (λ (l : LwpData). l.tid) (is_of p) old.row.tid old.row (rows_of f es births) (differ f es births kept.indexed) (row_old q old had), ap (λ n. (ends_at hs' n).count) (sym same), ap (λ (e : Ends). e.count) left_own_ends, ap (λ n. (ends_at hs n).count) same, ap one (ap (nat_eq old.row.pid) (sym same) ∙ test_same old.row.pid))
+          | inr off ↦ omega (arith, kept.counted p, count-without (λ (l : LwpData). l.tid) (is_of p) old.row.tid old.row (rows_of f es births) (differ f es births kept.indexed) (row_old q old had), ap (λ (e : Ends). e.count) (left_other_ends p off), ap one (test_apart old.row.pid p off))
         ]);
-        total = rw rows-removed (omega (arith, kept.total, all_count, length-without old.row.tid old.row (rows_of f es births) (row_old q old had)));
+        total = rw rows-removed (omega (arith, kept.total, all_count, length-without old.row.tid old.row (rows_of f es births) (differ f es births kept.indexed) (row_old q old had)));
         homes = users_set users (rows_of f es births) (rows_of g es' births) owner _ long within
-            (rw rows-removed (omega (arith, kept.homes owner within, count-without (is_at owner) old.row.tid old.row (rows_of f es births) (row_old q old had), ap one (at_yes owner old.row owner_is))))
-            (λ place off. rw rows-removed (omega (arith, count-without (is_at place) old.row.tid old.row (rows_of f es births) (row_old q old had), ap one (at_no owner place old.row owner_is off))))
+            (rw rows-removed (omega (arith, kept.homes owner within, count-without (λ (l : LwpData). l.tid) (is_at owner) old.row.tid old.row (rows_of f es births) (differ f es births kept.indexed) (row_old q old had), ap one (at_yes owner old.row owner_is))))
+            (λ place off. rw rows-removed (omega (arith, count-without (λ (l : LwpData). l.tid) (is_at place) old.row.tid old.row (rows_of f es births) (differ f es births kept.indexed) (row_old q old had), ap one (at_no owner place old.row owner_is off))))
             kept.homes;
       }
 

@@ -12,7 +12,9 @@ ghost use Rattle.pid_blocks.specs.Blocks.{tid_owner};
 ghost use Rattle.lwp_table.specs.Lwps.{lwp_of, lwps_of, first_lwp, next_lwp, has_lwp, with_lwp, without_lwp, Differ};
 
 use crate::LwpData;
-use crate::links::{Ends, Link, Links, Slot, close_up, ends_of, put_ends, set_link, user_place, without};
+use crate::links::{
+    Ends, Link, Links, Slot, close_up, ends_of, put_ends, set_link, user_place, without,
+};
 use crate::walks::{Iter, OfProcess};
 use indexmap::IndexMap;
 use pid_blocks::{Pid, Tid, Uid};

@@ -121,6 +121,12 @@ module _ (f : ℕ → Option Slot) (es : List (ℕ × ℕ)) (counts : List ℕ) 
       let yes : is_this t (chief kin slot.row) ≡ true = ap (is_this t) (chief-of kin s slot t is names) ∙ same_number t in
       absurd (cc (rw (positive, yes) at fails))
 
+  nobody-key : (kin : Kin) (t : ℕ) → next_named kin t 0 (all_rows (look (rows_of f) es)) ≡ None → (s p : ℕ) → keys (lanes kin f) s ≡ Some (p, Some t) → ⊥
+  nobody-key kin t none s p there =
+      let node = key_node (lanes kin f) s p (Some t) there in
+      let old = slot_at kin f s node.0 node.1 in
+      nobody-names kin t none s old.0 old.1 (ap (λ (n : Node). n.chief) old.2 ∙ node.3)
+
   -- a row more: its slot is taken, and then linked
   module _ (f1 g : ℕ → Option Slot) (es' : List (ℕ × ℕ)) (at : ℕ) (new : ProcData) (vacant : f at ≡ None) (has : f1 at ≡ Some (unlinked new)) (others : (s : ℕ) → s ≢ at → f1 s ≡ f s)
       (change : (pid : ℕ) → lookup (nat_eq pid) es' ≡ cond (nat_eq new.pid pid) (Some at) (lookup (nat_eq pid) es))
@@ -160,7 +166,12 @@ module _ (f : ℕ → Option Slot) (es : List (ℕ × ℕ)) (counts : List ℕ) 
 
   -- another row in a number's slot, which was linked anew
   module _ (f1 g : ℕ → Option Slot) (at : ℕ) (new : ProcData) (mid : Slot) (has1 : f1 at ≡ Some mid) (has : g at ≡ Some (record mid { row = new })) (others : (s : ℕ) → s ≢ at → g s ≡ f1 s)
-      (number : lookup (nat_eq new.pid) es ≡ Some at) (same_pid : mid.row.pid ≡ new.pid) where
+      (number : lookup (nat_eq new.pid) es ≡ Some at) (rows : (s : ℕ) → rows_of f1 s ≡ rows_of f s) where
+    same_pid : mid.row.pid ≡ new.pid
+    same_pid =
+        let named = tied.slotted.stored.named new.pid at number in
+        ap (λ (p : ProcData). p.pid) (same_Some mid.row named.0 (sym (ap (option_map (λ (x : Slot). x.row)) has1) ∙ (rows at ∙ named.1))) ∙ named.2
+
     set-lane : (k : Kin) → lane k (record mid { row = new }) ≡ lane k mid
     set-lane Tracees = λ i. record { pid = (sym same_pid) i; chief = mid.tracees.chief; first = mid.tracees.first; next = mid.tracees.next }
     set-lane Children = λ i. record { pid = (sym same_pid) i; chief = mid.children.chief; first = mid.children.first; next = mid.children.next }
@@ -171,11 +182,11 @@ module _ (f : ℕ → Option Slot) (es : List (ℕ × ℕ)) (counts : List ℕ) 
       | inr apart ↦ ap (option_map (lane k)) (others s apart)
     ]
 
-    pub written : (tracer parent : Option ℕ) → tracer ≡ new.tracer → parent ≡ parent_named new.parent → IsLaced f1 es → ((s : ℕ) → rows_of f1 s ≡ rows_of f s)
+    pub written : (tracer parent : Option ℕ) → tracer ≡ new.tracer → parent ≡ parent_named new.parent → IsLaced f1 es
         → ((k : Kin) → keys (lanes k f1) at ≡ option_map (λ (was : Slot). (was.row.pid, pick k tracer parent)) (f at)) → ((k : Kin) (s : ℕ) → s ≢ at → keys (lanes k f1) s ≡ keys (lanes k f) s)
         → (before : ProcData) → process_of new.pid (all_rows (look (rows_of f) es)) ≡ Some before → before.uid ≡ new.uid
         → IsTied g es counts × (all_rows (look (rows_of g) es) ≡ map (put_process new) (all_rows (look (rows_of f) es)))
-    written tracer parent traced parted laced rows here elsewhere before there uids =
+    written tracer parent traced parted laced here elsewhere before there uids =
         let row_at : rows_of g at ≡ Some new = ap (option_map (λ (x : Slot). x.row)) has in
         let row_off : (s : ℕ) → s ≢ at → rows_of g s ≡ rows_of f s = λ s apart. ap (option_map (λ (x : Slot). x.row)) (others s apart) ∙ rows s in
         let all = IsSlotted-set (rows_of f) es counts tied.slotted (rows_of g) es at row_off new row_at number refl before there uids in
@@ -220,9 +231,7 @@ module _ (f : ℕ → Option Slot) (es : List (ℕ × ℕ)) (counts : List ℕ) 
           | inr apart ↦
               let key : ◌≡◌ {A = Option (ℕ × Option ℕ)} (keys (lanes k f) s) (Some (x.row.pid, Some pid)) =
               sym (elsewhere k s apart) ∙ (ap (option_map key_of) (ap (option_map (lane k)) is) ∙ ap (λ u. Some (x.row.pid, u)) (names ∙ ap Some its)) in
-              let node = key_node (lanes k f) s x.row.pid (Some pid) key in
-              let old = slot_at k f s node.0 node.1 in
-              nobody-names k pid (unnamed k) s old.0 old.1 (ap (λ (n : Node). n.chief) old.2 ∙ node.3)
+              nobody-key k pid (unnamed k) s x.row.pid key
         ] in (
           all.0,
           all.1,

@@ -1,13 +1,11 @@
 -- The end of a process that has no LWP, that no row names and for which nobody waits: its own row, and the one who collects it.
-use Rattle.std.proofs.Common.{◌≡◌, ℕ, List, [], ◌∷◌, filter_map, Bool, true, false, not, ◌&&◌, ◌||◌, ◌==◌, if◌then◌else◌, Option, Some, None, is_none, refl, sym, ap, ◌∙◌, true≢false, eqb-true}
+use Rattle.std.proofs.Common.{◌≡◌, ℕ, List, [], ◌∷◌, filter_map, Bool, true, false, not, ◌&&◌, ◌||◌, ◌==◌, if◌then◌else◌, Option, Some, None, is_none, refl, sym, ap, ◌∙◌, eqb-true}
 use Rattle.std.proofs.Math.Bool.{or-false}
 use Rattle.std.specs.Prelude.{option_map, unwrap_or}
 use Rattle.std.specs.List.{AllByRecursion, list_any}
 use Rattle.std.proofs.Math.Path.{fun_ext}
 use Rattle.signals.specs.Table.{SIGKILL}
 use Rattle.lwp_table.specs.declared.LwpData.{LwpData}
-use Rattle.lwp_table.specs.declared.Due.{Due}
-use Rattle.lwp_table.specs.declared.Mode.TheVariants.{User}
 use Rattle.proc_table.specs.declared.ProcData.{ProcData}
 use Rattle.proc_table.specs.Processes.{process_of, is_live, is_this, traces}
 use Rattle.proc_table.specs.Rows.{Rows, each, by_owner}

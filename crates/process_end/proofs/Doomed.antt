@@ -1,7 +1,7 @@
 -- Who ends with a process.
 use Rattle.std.proofs.Math.Bool.{and-false, and-true}
 use Rattle.std.proofs.lemmas.Bool.Decides.{nat_tests}
-use Rattle.std.proofs.Common.{◌≡◌, ℕ, zero, suc, List, [], ◌∷◌, filter_map, Bool, true, false, ◌&&◌, ◌||◌, ◌==◌, if◌then◌else◌, Option, Some, None, IfSome, is_some, refl, sym, ap, ◌∙◌, eqb, eqb-true, eq-eqb, arith, true≢false}
+use Rattle.std.proofs.Common.{◌≡◌, ℕ, zero, suc, List, [], ◌∷◌, filter_map, Bool, true, false, ◌&&◌, ◌||◌, ◌==◌, if◌then◌else◌, Option, Some, None, IfSome, is_some, refl, sym, ap, ◌∙◌, arith}
 use Rattle.std.proofs.Math.Path.{fun_ext}
 use Rattle.std.specs.List.{AllByRecursion, list_any}
 use Rattle.signals.specs.Table.{SIGTRAP}
@@ -20,7 +20,7 @@ use Rattle.trace_stop.specs.Facts.{IsLiveOf, Linked, Stands}
 use Rattle.process_end.specs.Laws.{traces_live, end_alone, LeafEnd, DetachedEnd}
 use Rattle.trace_stop.proofs.Every.{All-imply, All-both, none_of, find_some}
 use Rattle.trace_stop.proofs.Named.{live_row}
-use Rattle.trace_stop.proofs.Passes.{filter_map_same, any_same, any_edited, each_same, own_rows}
+use Rattle.trace_stop.proofs.Passes.{filter_map_same, any_same, each_same, own_rows}
 
 -- no row has this number, or a live one
 abbrev pub NoZombie : List ProcData → ℕ → Type 0

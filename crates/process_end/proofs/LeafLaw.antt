@@ -22,7 +22,7 @@ use Rattle.trace_stop.proofs.Named.{live_row}
 use Rattle.trace_stop.proofs.Found.{any_by_number}
 use Rattle.trace_stop.proofs.Chains.{meets-suc, meets-zero, or_more, meets-more}
 use Rattle.process_end.proofs.Doomed.{NoZombie, no_zombie, Untracing, untracing, end_each_same, dooms_alone, doomed_alone}
-use Rattle.process_end.proofs.Turned.{heard, told_row, moved, fallen, turned, is_gone, gone-true, gone-false, turned-fallen, turned-safe, turned-dead}
+use Rattle.process_end.proofs.Turned.{heard, told_row, moved, fallen, turned, turned-fallen, turned-safe, turned-dead}
 use Rattle.process_end.proofs.Twice.{alone, rest, Told, rest-same, rest-other, rest-safe, told-live, told-pid, moved-live, moved-pid}
 use Rattle.process_end.proofs.Tells.{Names}
 use Rattle.process_end.proofs.LeafFirst.{turned_keeps, Ready, first, left, left-is, left-rises, first_told, rows_twice}

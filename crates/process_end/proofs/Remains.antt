@@ -1,16 +1,15 @@
 -- What one row is, and its LWPs are, after a process that traces no live one has ended.
 use Rattle.std.proofs.lemmas.Bool.Decides.{nat_tests}
-use Rattle.std.proofs.Common.{◌≡◌, ℕ, ◌+◌, ◌≤◌, List, [], ◌∷◌, filter_map, Bool, true, false, cond, ◌&&◌, ◌||◌, ◌==◌, if◌then◌else◌, Option, Some, None, IfSome, refl, sym, ap, ◌∙◌, arith, true≢false, eq-eqb, subst}
+use Rattle.std.proofs.Common.{◌≡◌, ℕ, ◌+◌, List, [], ◌∷◌, filter_map, Bool, true, false, cond, ◌&&◌, ◌==◌, if◌then◌else◌, Option, Some, None, IfSome, refl, sym, ap, ◌∙◌, arith, eq-eqb, subst}
 use Rattle.std.specs.Prelude.{count_by}
 use Rattle.std.specs.Int.RustNames.{bit_and}
-use Rattle.std.specs.List.{AllByRecursion, list_any, cons_option}
+use Rattle.std.specs.List.{AllByRecursion, cons_option}
 use Rattle.std.proofs.lemmas.Nat.Bits.{bit_at_and, bit_at_or, bit_at_xor, bit_at-zero, same_from_bits}
 use Rattle.signals.specs.Sets.{without}
 use Rattle.proc_table.specs.declared.ProcData.{ProcData}
 use Rattle.lwp_table.specs.declared.LwpData.{LwpData}
 use Rattle.proc_table.specs.Processes.{process_of, is_live}
 use Rattle.proc_table.specs.Rows.{Rows, each, by_owner}
-use Rattle.trace_stop.specs.declared.Settings.{Settings}
 use Rattle.trace_stop.specs.Post.{unwanted}
 use Rattle.trace_stop.specs.End.{orphaned, dead, uncollected, released, end_each}
 use Rattle.trace_stop.specs.Facts.{Linked, Stands}
@@ -18,7 +17,7 @@ use Rattle.process_end.specs.Laws.{traces_live, end_alone}
 use Rattle.trace_stop.proofs.Every.{choose, All-imply, any_holds, count-cons}
 use Rattle.trace_stop.proofs.Passes.{passes, own_rows}
 use Rattle.process_end.proofs.Doomed.{NoZombie, end_each_same}
-use Rattle.process_end.proofs.Turned.{heard, heard_lwp, moved, told_row, told_lwp, fallen, turned, turned_lwp, is_gone, gone-true, gone-false, turned-fallen, turned-safe, turned-dead, turned_lwp-fallen, turned_lwp-safe}
+use Rattle.process_end.proofs.Turned.{heard, heard_lwp, moved, told_row, told_lwp, fallen, turned, turned_lwp, is_gone, turned-fallen, turned-safe, turned-dead, turned_lwp-fallen, turned_lwp-safe}
 use Rattle.process_end.proofs.Twice.{alone, Told}
 use Rattle.process_end.proofs.Tells.{tells, tells-names, parent_after}
 use Rattle.process_end.proofs.LeafFirst.{told, told-is, end_turned, Told-from}

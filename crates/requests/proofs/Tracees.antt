@@ -10,7 +10,7 @@ use Rattle.proc_table.specs.declared.ProcData.{ProcData}
 use Rattle.proc_table.specs.declared.State.{State}
 use Rattle.proc_table.specs.declared.State.TheVariants.{Run, Trace, Job, Zombie}
 use Rattle.proc_table.specs.Processes.{process_of, named_by, reporting, is_zombie_state}
-use Rattle.proc_table.specs.Rows.{Rows, change_process, change_lwp}
+use Rattle.proc_table.specs.Rows.{Rows, change_process, change_lwp, is_numbered}
 use Rattle.proc_table.specs.Edits.{map_lwps}
 use Rattle.proc_table.specs.Fresh.{lwp_count, lwp_count_of}
 use Rattle.proc_table.specs.Seen.{owns}
@@ -24,7 +24,8 @@ use Rattle.trace_stop.specs.declared.Settings.{Settings}
 use Rattle.trace_stop.specs.Stop.{resume}
 use Rattle.trace_stop.specs.Facts.{FitProcess, IsSound}
 use Rattle.trace_stop.specs.Reports.{IsStopped}
-use Rattle.trace_stop.proofs.Edited.{find_edit, count_edit}
+use Rattle.trace_stop.proofs.Edited.{count_edit}
+use Rattle.trace_stop.proofs.Changes.{changed_row}
 use Rattle.trace_stop.proofs.Edited.{edit_none}
 use Rattle.trace_stop.proofs.Stopped.{IsStopped-from}
 use Rattle.requests.specs.declared.Reply.{Reply}

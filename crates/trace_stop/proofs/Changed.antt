@@ -228,7 +228,7 @@ module _ (rows : Rows) (f : ProcData → Option ProcData) (g : ProcData → LwpD
       at_row None = alone
       at_row (Some p) = beside p
 
-  same_lwp : (l : LwpData) → IfSome (by_owner g l (owner rows l)) (λ k. (k.tid ≡ l.tid) × (k.pid ≡ l.pid))
+  pub same_lwp : (l : LwpData) → IfSome (by_owner g l (owner rows l)) (λ k. (k.tid ≡ l.tid) × (k.pid ≡ l.pid))
   same_lwp l = by_row (λ o. IfSome o (λ k. (k.tid ≡ l.tid) × (k.pid ≡ l.pid))) l (refl, refl) (λ p. same.lwp p l)
 
   pub one_left : (p : ProcData) → process_of p.pid rows.processes ≡ Some p → (l : LwpData) → l.pid ≡ p.pid → (k : LwpData) → g p l ≡ Some k → (k : LwpData) × (by_owner g l (owner rows l) ≡ Some k) × (k.tid ≡ l.tid) × (k.pid ≡ l.pid)

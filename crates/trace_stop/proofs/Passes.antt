@@ -16,12 +16,7 @@ filter_map_same f g (x ∷ xs) all = rw (all.0, filter_map_same f g xs all.1) re
 
 pub filter_map_twice : {X Y Z : Type 0} (f : X → Option Y) (g : Y → Option Z) (xs : List X) → filter_map g (filter_map f xs) ≡ filter_map (λ x. option_and_then g (f x)) xs
 filter_map_twice f g [] = refl
-filter_map_twice {X} {Y} {Z} f g (x ∷ xs) = at_head (f x) (filter_map_twice f g xs)
-  where
-    at_head : (o : Option Y) → filter_map g (filter_map f xs) ≡ filter_map (λ y. option_and_then g (f y)) xs
-        → filter_map g (cons_option o (filter_map f xs)) ≡ cons_option (option_and_then g o) (filter_map (λ y. option_and_then g (f y)) xs)
-    at_head None rest = rest
-    at_head (Some y) rest = ap (cons_option (g y)) rest
+filter_map_twice f g (x ∷ xs) = grind (arith, filter_map_twice f g xs)
 
 pub any_same : {X : Type 0} (q t : X → Bool) (xs : List X) → AllByRecursion (λ x. q x ≡ t x) xs → list_any q xs ≡ list_any t xs
 any_same q t [] all = refl
@@ -38,21 +33,13 @@ passes q (Some x) = q x
 
 pub any_edited : {X Y : Type 0} (f : X → Option Y) (q : Y → Bool) (xs : List X) → list_any q (filter_map f xs) ≡ list_any (λ x. passes q (f x)) xs
 any_edited f q [] = refl
-any_edited {X} {Y} f q (x ∷ xs) = at_head (f x) (any_edited f q xs)
-  where
-    at_head : (o : Option Y) → list_any q (filter_map f xs) ≡ list_any (λ y. passes q (f y)) xs → list_any q (cons_option o (filter_map f xs)) ≡ (passes q o || list_any (λ y. passes q (f y)) xs)
-    at_head None rest = rest
-    at_head (Some y) rest = ap (λ b. q y || b) rest
+any_edited f q (x ∷ xs) = grind (arith, any_edited f q xs)
 
 -- Rows by their numbers
 
 pub above_none : (n : ℕ) (ps : List ProcData) → AllAbove n ps → process_of n ps ≡ None
 above_none n [] above = refl
 above_none n (p ∷ ps) above = let other : eqb p.pid n ≡ false = let lt = above.0 in grind (arith, nat_tests) in rw other (above_none n ps above.1)
-
-pub above_less : (n m : ℕ) → n < m → (ps : List ProcData) → AllAbove m ps → AllAbove n ps
-above_less n m lt [] above = tt
-above_less n m lt (p ∷ ps) above = (let more = above.0 in omega arith, above_less n m lt ps above.1)
 
 -- an edit that keeps the numbers of rows
 abbrev pub KeepsNumbers : (ProcData → Option ProcData) → Type 0

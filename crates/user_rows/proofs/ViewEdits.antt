@@ -8,9 +8,12 @@ use Rattle.lwp_table.specs.declared.LwpData.{LwpData}
 use Rattle.proc_table.specs.Processes.{is_live, process_of, placed}
 use Rattle.proc_table.specs.Rows.{Rows, change, edit_processes, edit_lwps, change_process, change_lwp, remove_lwp}
 use Rattle.proc_table.specs.Fresh.{add_process, add_lwp}
-use Rattle.user_rows.specs.Closed.{Every, GoodProc, GoodLwp, LiveRow, Housed}
-use Rattle.user_rows.proofs.ViewLists.{find_only, find_no, find_append, or_else, every, find_some, filter_edit, filter_untouched, Every-edit, Every-filter, Every-append, Every-imply, Every-both, Rising-placed, placed-only, placed-other, filter-append}
+use Rattle.user_rows.specs.Closed.{GoodProc, GoodLwp, LiveRow, LiveOwner}
+use Rattle.user_rows.proofs.ViewLists.{find_only, find_no, find_append, or_else, every, find_some, filter_edit, filter_untouched, All-where, placed-only, placed-other, filter-append}
 use Rattle.user_rows.proofs.ViewSame.{Sim, Kin, KinLwp, own, own_lwp, is_own, not_own, not_equal, named, If-both, kin, processes_kept, rising_kept, untouched, seen_kept, live_after, each_same, process_some}
+use Rattle.std.specs.List.{AllByRecursion}
+use Rattle.trace_stop.proofs.Every.{All-edit, All-append, All-imply, All-both}
+use Rattle.trace_stop.proofs.Placed.{Rise-placed}
 
 -- what a process of u becomes where it isn't gone: a live one stays live
 abbrev pub Stays : ProcData → ProcData → Type 0
@@ -56,7 +59,7 @@ edit_same {u} {start} {c} {v} s f mine foreign live = record {
     closed = record {
       processes = processes_kept f kins c.processes all;
       lwps = s.kept.closed.lwps;
-      housed = Every-imply (Housed c.processes) (Housed (filter_map f c.processes)) housed c.lwps s.kept.closed.housed;
+      housed = All-imply (LiveOwner c.processes) (LiveOwner (filter_map f c.processes)) housed c.lwps s.kept.closed.housed;
       rising = rising_kept f kins c.processes all s.kept.closed.rising;
       user = s.kept.closed.user;
       pid_slots = s.kept.closed.pid_slots;
@@ -80,14 +83,14 @@ edit_same {u} {start} {c} {v} s f mine foreign live = record {
     kins : (p : ProcData) → GoodProc p → Kin p (f p)
     kins = kin f mine foreign
 
-    all : Every GoodProc c.processes
+    all : AllByRecursion GoodProc c.processes
     all = s.kept.closed.processes
 
     by_user : (p : ProcData) → GoodProc p → is_live p ≡ true → (b : Bool) → eqb p.uid u ≡ b → LiveRow (f p)
     by_user p good is true e = live p good (eqb-true p.uid u e) is
     by_user p good is false e = subst LiveRow (sym (foreign p good (not_equal p.uid u e))) is
 
-    housed : (l : LwpData) → Housed c.processes l → Housed (filter_map f c.processes) l
+    housed : (l : LwpData) → LiveOwner c.processes l → LiveOwner (filter_map f c.processes) l
     housed l h = at_row (process_of l.pid c.processes) refl (process_some c.processes l.pid all) h
       where
         at_row : (o : Option ProcData) → process_of l.pid c.processes ≡ o → IfSome o (λ p. GoodProc p × ((p.pid == l.pid) ≡ true)) → LiveRow o → LiveRow (process_of l.pid (filter_map f c.processes))
@@ -120,8 +123,8 @@ edit_lwps_same {u} {start} {c} {v} s g keep foreign = record {
   kept = record {
     closed = record {
       processes = s.kept.closed.processes;
-      lwps = Every-edit g GoodLwp GoodLwp (λ l well. If-both _ GoodLwp (λ k j. j.1) (g l) (keep l well)) c.lwps wells;
-      housed = Every-edit g (λ l. GoodLwp l × Housed c.processes l) (Housed c.processes) (λ l h. If-both _ (Housed c.processes) (λ k j. subst (λ n. LiveRow (process_of n c.processes)) (sym j.0) h.1) (g l) (keep l h.0)) c.lwps (Every-both GoodLwp (Housed c.processes) c.lwps wells s.kept.closed.housed);
+      lwps = All-edit g GoodLwp GoodLwp (λ l well. If-both _ GoodLwp (λ k j. j.1) (g l) (keep l well)) c.lwps wells;
+      housed = All-edit g (λ l. GoodLwp l × LiveOwner c.processes l) (LiveOwner c.processes) (λ l h. If-both _ (LiveOwner c.processes) (λ k j. subst (λ n. LiveRow (process_of n c.processes)) (sym j.0) h.1) (g l) (keep l h.0)) c.lwps (All-both GoodLwp (LiveOwner c.processes) c.lwps wells s.kept.closed.housed);
       rising = s.kept.closed.rising;
       user = s.kept.closed.user;
       pid_slots = s.kept.closed.pid_slots;
@@ -145,7 +148,7 @@ edit_lwps_same {u} {start} {c} {v} s g keep foreign = record {
   tid_slots = s.tid_slots;
 }
   where
-    wells : Every GoodLwp c.lwps
+    wells : AllByRecursion GoodLwp c.lwps
     wells = s.kept.closed.lwps
 
 -- one LWP of u
@@ -203,14 +206,14 @@ find_placed p ps n ne = by_side (ltb n p.pid) refl
         ∙ find_only is_n (λ q. ltb p.pid q.pid) (λ q. Unit {0}) (λ q t e. let same = eqb-true q.pid n e in let other = ne in lt-ltb p.pid q.pid (omega arith)) ps (every ps)
 
 -- a new process of u
-pub process_added_same : {u : ℕ} {start c v : Rows} → Sim u start c v → (p : ProcData) → p.uid ≡ u → GoodProc p → InBlock (pid_block u) p.pid → Every (λ q. q.pid ≢ p.pid) c.processes → Sim u start (add_process p c) (add_process p v)
+pub process_added_same : {u : ℕ} {start c v : Rows} → Sim u start c v → (p : ProcData) → p.uid ≡ u → GoodProc p → InBlock (pid_block u) p.pid → AllByRecursion (λ q. q.pid ≢ p.pid) c.processes → Sim u start (add_process p c) (add_process p v)
 process_added_same {u} {start} {c} {v} s p mine good block new = subst (λ w. Sim u start (at w c) (at w v)) (sym mine) (record {
   kept = record {
     closed = record {
-      processes = Every-append GoodProc (filter _ c.processes) (p ∷ filter _ c.processes) (Every-filter _ GoodProc GoodProc (λ x g is. g) c.processes s.kept.closed.processes) (good, Every-filter _ GoodProc GoodProc (λ x g is. g) c.processes s.kept.closed.processes);
+      processes = All-append GoodProc (filter _ c.processes) (p ∷ filter _ c.processes) (All-where _ GoodProc GoodProc (λ x g is. g) c.processes s.kept.closed.processes) (good, All-where _ GoodProc GoodProc (λ x g is. g) c.processes s.kept.closed.processes);
       lwps = s.kept.closed.lwps;
-      housed = Every-imply (Housed c.processes) (Housed (placed p c.processes)) housed c.lwps s.kept.closed.housed;
-      rising = Rising-placed p c.processes s.kept.closed.rising;
+      housed = All-imply (LiveOwner c.processes) (LiveOwner (placed p c.processes)) housed c.lwps s.kept.closed.housed;
+      rising = Rise-placed p c.processes s.kept.closed.rising;
       user = user;
       pid_slots = length-set c.pid_cursors (slot u) _ ∙ s.kept.closed.pid_slots;
       tid_slots = s.kept.closed.tid_slots;
@@ -246,17 +249,17 @@ process_added_same {u} {start} {c} {v} s p mine good block new = subst (λ w. Si
         at_row None g no_row = no_row
         at_row (Some q) g live = g.0 (eqb-true q.pid n g.1 ∙ e)
 
-    housed : (l : LwpData) → Housed c.processes l → Housed (placed p c.processes) l
+    housed : (l : LwpData) → LiveOwner c.processes l → LiveOwner (placed p c.processes) l
     housed l h = subst LiveRow (sym (find_placed p c.processes l.pid (differs l.pid h))) h
 
 -- a new LWP of u
-pub lwp_added_same : {u : ℕ} {start c v : Rows} → Sim u start c v → (l : LwpData) → pid_owner l.pid ≡ u → GoodLwp l → Housed c.processes l → InBlock (tid_block u) l.tid → Sim u start (add_lwp u l c) (add_lwp u l v)
+pub lwp_added_same : {u : ℕ} {start c v : Rows} → Sim u start c v → (l : LwpData) → pid_owner l.pid ≡ u → GoodLwp l → LiveOwner c.processes l → InBlock (tid_block u) l.tid → Sim u start (add_lwp u l c) (add_lwp u l v)
 lwp_added_same {u} {start} {c} {v} s l mine well house block = record {
   kept = record {
     closed = record {
       processes = s.kept.closed.processes;
-      lwps = Every-append GoodLwp c.lwps (l ∷ []) s.kept.closed.lwps (well, tt);
-      housed = Every-append (Housed c.processes) c.lwps (l ∷ []) s.kept.closed.housed (house, tt);
+      lwps = All-append GoodLwp c.lwps (l ∷ []) s.kept.closed.lwps (well, tt);
+      housed = All-append (LiveOwner c.processes) c.lwps (l ∷ []) s.kept.closed.housed (house, tt);
       rising = s.kept.closed.rising;
       user = user;
       pid_slots = s.kept.closed.pid_slots;

@@ -1,7 +1,7 @@
 -- The end of a process.
 use Rattle.std.proofs.Common.{◌≡◌, ◌≢◌, ℕ, zero, suc, List, [], ◌∷◌, filter, filter_map, Bool, true, false, ◌==◌, ◌&&◌, ◌||◌, not, if◌then◌else◌, Option, Some, None, is_some, is_none, unwrap_or, option_map, IfSome, refl, sym, ap, ap₂, ◌∙◌, arith, eqb, true≢false, eqb-true, subst, eq-eqb, inl, inr, ◌⊎◌}
 use Rattle.std.proofs.Math.Path.{fun_ext}
-use Rattle.std.specs.List.{list_any}
+use Rattle.std.specs.List.{list_any, AllByRecursion}
 use Rattle.pid_blocks.specs.Users.{IsUser}
 use Rattle.pid_blocks.specs.Blocks.{pid_owner, tid_owner}
 use Rattle.signals.specs.Table.{SIGKILL, SIGTRAP}
@@ -10,7 +10,6 @@ use Rattle.proc_table.specs.declared.ProcData.{ProcData}
 use Rattle.lwp_table.specs.declared.LwpData.{LwpData}
 use Rattle.lwp_table.specs.declared.Mode.{Mode}
 use Rattle.lwp_table.specs.declared.Mode.TheVariants.{User, InCall, VforkWait}
-use Rattle.lwp_table.specs.declared.Due.{Due}
 use Rattle.proc_table.specs.Processes.{is_live, process_of, is_this, traces, reporting}
 use Rattle.proc_table.specs.Rows.{Rows, each}
 use Rattle.trace_stop.specs.declared.Settings.{Settings}
@@ -18,10 +17,11 @@ use Rattle.trace_stop.specs.Post.{notified}
 use Rattle.trace_stop.specs.Detach.{detached}
 use Rattle.trace_stop.specs.End.{tracer_in, tracer_of, holds_of, meets, is_doomed, dooms, unless, orphaned, dead, uncollected, process_after, waits_where, released, lwp_after, collector, told_of, end_each, end_of, end}
 use Rattle.trace_stop.specs.Facts.{waited_for}
-use Rattle.user_rows.specs.Closed.{Every, Mine, GoodProc, GoodLwp, LiveRow}
-use Rattle.user_rows.proofs.ViewLists.{filter_map_only, Every-edit, Every-filter}
+use Rattle.user_rows.specs.Closed.{Mine, GoodProc, GoodLwp, LiveRow}
+use Rattle.user_rows.proofs.ViewLists.{filter_map_only, All-where}
 use Rattle.user_rows.proofs.ViewSame.{Sim, Kin, KinLwp, Keeps, own, is_own, not_own, not_equal, named, process_same, process_some, each_same}
 use Rattle.user_rows.proofs.ViewSignals.{owner_of_1, notified_same, detached_same}
+use Rattle.trace_stop.proofs.Every.{and_left, and_right, by_bool, choose, All-edit}
 
 -- Chains of tracers
 
@@ -29,7 +29,7 @@ pub holds_same : {u : ℕ} (f g : ℕ → Bool) (o : Option ℕ) → IfSome o (�
 holds_same f g None h same = refl
 holds_same f g (Some t) h same = same t h
 
-pub tracer_facts : (ps : List ProcData) → Every GoodProc ps → (n : ℕ) → IfSome (tracer_of ps n) (λ t. pid_owner t ≡ pid_owner n)
+pub tracer_facts : (ps : List ProcData) → AllByRecursion GoodProc ps → (n : ℕ) → IfSome (tracer_of ps n) (λ t. pid_owner t ≡ pid_owner n)
 tracer_facts ps all n = at_row (process_of n ps) (process_some ps n all)
   where
     at_row : (o : Option ProcData) → IfSome o (λ p. GoodProc p × ((p.pid == n) ≡ true)) → IfSome (tracer_in o) (λ t. pid_owner t ≡ pid_owner n)
@@ -43,7 +43,7 @@ meets_own_same {u} {start} {c} {v} s (suc k) p n mine =
     holds_same _ _ (tracer_of c.processes n) (subst (λ w. IfSome (tracer_of c.processes n) (λ t. pid_owner t ≡ w)) mine (tracer_facts c.processes s.kept.closed.processes n)) (λ t own_t. ap (λ b. (t == p) || b) (meets_own_same s k p t own_t))
     ∙ ap (λ o. holds_of (λ t. (t == p) || meets k v.processes p t) (tracer_in o)) (process_same s n mine)
 
-pub meets_owner : (ps : List ProcData) → Every GoodProc ps → (k p n : ℕ) → meets k ps p n ≡ true → pid_owner n ≡ pid_owner p
+pub meets_owner : (ps : List ProcData) → AllByRecursion GoodProc ps → (k p n : ℕ) → meets k ps p n ≡ true → pid_owner n ≡ pid_owner p
 unfolding meets
 meets_owner ps all zero p n is = absurd (true≢false (sym is))
 meets_owner ps all (suc k) p n is = at_tracer (tracer_of ps n) (tracer_facts ps all n) is (meets_owner ps all k p)
@@ -56,15 +56,15 @@ meets_owner ps all (suc k) p n is = at_tracer (tracer_of ps n) (tracer_facts ps 
     at_tracer None g h next = absurd (true≢false (sym h))
     at_tracer (Some t) g h next = last t (eqb t p) refl g h (next t)
 
-pub meets_foreign : (ps : List ProcData) → Every GoodProc ps → (k p n : ℕ) → pid_owner n ≢ pid_owner p → meets k ps p n ≡ false
+pub meets_foreign : (ps : List ProcData) → AllByRecursion GoodProc ps → (k p n : ℕ) → pid_owner n ≢ pid_owner p → meets k ps p n ≡ false
 meets_foreign ps all k p n ne = by_value (meets k ps p n) refl
   where
     by_value : (b : Bool) → meets k ps p n ≡ b → b ≡ false
     by_value true is = absurd (ne (meets_owner ps all k p n is))
     by_value false is = refl
 
-pub seen_good : {u : ℕ} {start c v : Rows} → Sim u start c v → Every GoodProc v.processes
-seen_good {u} {start} {c} s = subst (Every GoodProc) s.processes (Every-filter (own u) GoodProc GoodProc (λ p good is. good) c.processes s.kept.closed.processes)
+pub seen_good : {u : ℕ} {start c v : Rows} → Sim u start c v → AllByRecursion GoodProc v.processes
+seen_good {u} {start} {c} s = subst (AllByRecursion GoodProc) s.processes (All-where (own u) GoodProc GoodProc (λ p good is. good) c.processes s.kept.closed.processes)
 
 pub meets_same : {u : ℕ} {start c v : Rows} → Sim u start c v → (k p n : ℕ) → pid_owner p ≡ u → meets k c.processes p n ≡ meets k v.processes p n
 meets_same {u} {start} {c} {v} s k p n here = by_owner (eqb (pid_owner n) u) refl
@@ -98,20 +98,12 @@ parent_over {u} user over h p good ne = by_one (eqb p.parent 1) refl
 orphaned_good : (over : ℕ → Bool) (p : ProcData) → GoodProc p → IfSome (unless over p.tracer) (λ t. pid_owner t ≡ p.uid)
 orphaned_good over p good = by_tracer p.tracer good.tracer
   where
-    by_test : (t : ℕ) → pid_owner t ≡ p.uid → (b : Bool) → IfSome (if b then None else Some t) (λ t'. pid_owner t' ≡ p.uid)
-    by_test t g true = tt
-    by_test t g false = g
-
     by_tracer : (o : Option ℕ) → IfSome o (λ t. pid_owner t ≡ p.uid) → IfSome (unless over o) (λ t. pid_owner t ≡ p.uid)
     by_tracer None g = tt
-    by_tracer (Some t) g = by_test t g (over t)
+    by_tracer (Some t) g = choose (over t) None (Some t) (λ o. IfSome o (λ k. pid_owner k ≡ p.uid)) (λ e. tt) (λ e. g)
 
 parent_good : (over : ℕ → Bool) (p : ProcData) → GoodProc p → Mine p.uid (if over p.parent then 1 else p.parent)
-parent_good over p good = by_test (over p.parent)
-  where
-    by_test : (b : Bool) → Mine p.uid (if b then 1 else p.parent)
-    by_test true ne = absurd (ne refl)
-    by_test false ne = good.parent ne
+parent_good over p good = choose (over p.parent) 1 p.parent (Mine p.uid) (λ e ne. absurd (ne refl)) (λ e. good.parent)
 
 -- a zombie that has lost whom it names
 left_kin : (p z : ProcData) → GoodProc p → z.pid ≡ p.pid → z.uid ≡ p.uid → IfSome z.tracer (λ t. pid_owner t ≡ p.uid) → Mine p.uid z.parent → IfSome (reporting z) (λ t. tid_owner t ≡ p.uid) → Kin p (uncollected z)
@@ -168,11 +160,7 @@ waits_foreign over h ne (InCall call) g = refl
 waits_foreign over h ne (VforkWait c) g = h c (λ e. ne (sym g ∙ e))
 
 pub released_kin : (over : ℕ → Bool) (p : ProcData) (l : LwpData) → GoodLwp l → KinLwp l (Some (released over p l))
-released_kin over p l well = by_wait (waits_where over l.mode) _
-  where
-    by_wait : (b : Bool) (d : Due) → KinLwp l (Some (if b then record l { mode = User; due = d } else l))
-    by_wait true d = (refl, record { block = well.block; waits = tt })
-    by_wait false d = (refl, well)
+released_kin over p l well = choose (waits_where over l.mode) _ l (λ k. KinLwp l (Some k)) (λ e. (refl, record { block = well.block; waits = tt })) (λ e. (refl, well))
 
 pub released_foreign : {u : ℕ} (over : ℕ → Bool) → ((n : ℕ) → pid_owner n ≢ u → over n ≡ false) → (p : ProcData) (l : LwpData) → GoodLwp l → pid_owner l.pid ≢ u → released over p l ≡ l
 released_foreign over h p l well ne = rw (waits_foreign over h ne l.mode well.waits) refl
@@ -181,15 +169,11 @@ end_keeps : {u : ℕ} → IsUser u → (ends : ProcData → Bool) (over : ℕ �
 end_keeps {u} user ends over t n w = record {
   mine = λ p good is. after_kin ends over n w p good;
   foreign = λ p good ne. after_foreign user ends over t n w p good ne;
-  lwp = λ p l good well is here. kept p l well (ends p);
+  lwp = λ p l good well is here. choose (ends p) None (Some (released over p l)) (KinLwp l) (λ e. tt) (λ e. released_kin over p l well);
   foreign_lwp = λ p l good well ne here. rw (t.foreign p good ne, released_foreign over t.over_foreign p l well (λ e. ne (sym good.block ∙ ap pid_owner here ∙ e))) refl;
   live = λ p l good is live. lives p l live (ends p);
 }
   where
-    kept : (p : ProcData) (l : LwpData) → GoodLwp l → (b : Bool) → KinLwp l (if b then None else Some (released over p l))
-    kept p l well true = tt
-    kept p l well false = released_kin over p l well
-
     lives : (p : ProcData) (l : LwpData) → is_live p ≡ true → (b : Bool)
         → LiveRow (if b then uncollected (dead (if p.pid == n then w else SIGKILL) (orphaned over p)) else (if is_live p then Some (record p { parent = if over p.parent then 1 else p.parent }) else uncollected (orphaned over p)))
         ⊎ ((if b then None else Some (released over p l)) ≡ None)
@@ -205,8 +189,7 @@ collector_mine {u} p (Some z) mine k = by_tracer z.tracer k.2.tracer
     by_tracer (Some t) g ne = g ∙ k.1 ∙ mine
 
 and_false : (b : Bool) → (b && false) ≡ false
-and_false true = refl
-and_false false = refl
+and_false b = grind arith
 
 told_foreign : {u : ℕ} (ends : ProcData → Bool) (over : ℕ → Bool) → Tests u ends over → (n w : ℕ) (p : ProcData) → GoodProc p → p.uid ≢ u → told_of ends over n w p ≡ None
 told_foreign ends over t n w p good ne = rw (t.foreign p good ne, holds_none over t.over_foreign ne p.tracer good.tracer, and_false (not (is_live p))) refl
@@ -226,41 +209,29 @@ end_each_same : {u : ℕ} {start c v : Rows} → Sim u start c v → (ends : Pro
 end_each_same {u} {start} {c} {v} s ends over t n w = subst (λ ns. Sim u start (end_each ends over n w c) (notified ns (each (process_after ends over n w) (lwp_after ends over) v)))
     (sym (filter_map_only (told_of ends over n w) (own u) GoodProc (λ p good is. told_foreign ends over t n w p good (not_equal p.uid u is)) c.processes s.kept.closed.processes) ∙ ap (filter_map (told_of ends over n w)) s.processes)
     (notified_same (each_same s (process_after ends over n w) (lwp_after ends over) (end_keeps s.kept.closed.user ends over t n w)) (filter_map (told_of ends over n w) c.processes)
-    (Every-edit (told_of ends over n w) GoodProc (Mine u) (λ p good. told_mine ends over t n w p good) c.processes s.kept.closed.processes))
+    (All-edit (told_of ends over n w) GoodProc (Mine u) (λ p good. told_mine ends over t n w p good) c.processes s.kept.closed.processes))
 
 -- the tests are the same on all rows and on a user's
 doomed_same : {u : ℕ} {start c v : Rows} → Sim u start c v → (settings : Settings) (n : ℕ) → pid_owner n ≡ u → is_doomed settings c.processes n ≡ is_doomed settings v.processes n
 doomed_same s settings n here = fun_ext (λ p. ap (λ b. (p.pid == n) || (settings.kill_on_debugger_exit && is_live p && b)) (meets_same s 250 n p.pid here))
 
-pub any_only : {X : Type 0} (q p : X → Bool) (P : X → Type 0) → ((x : X) → P x → q x ≡ true → p x ≡ true) → (xs : List X) → Every P xs → list_any q (filter p xs) ≡ list_any q xs
+pub any_only : {X : Type 0} (q p : X → Bool) (P : X → Type 0) → ((x : X) → P x → q x ≡ true → p x ≡ true) → (xs : List X) → AllByRecursion P xs → list_any q (filter p xs) ≡ list_any q xs
 any_only q p P h [] e = refl
 any_only q p P h (x ∷ xs) e = grind (arith, h x e.0, any_only q p P h xs e.1)
 
-pub any_none : {X : Type 0} (q : X → Bool) (P : X → Type 0) → ((x : X) → P x → q x ≡ false) → (xs : List X) → Every P xs → list_any q xs ≡ false
+pub any_none : {X : Type 0} (q : X → Bool) (P : X → Type 0) → ((x : X) → P x → q x ≡ false) → (xs : List X) → AllByRecursion P xs → list_any q xs ≡ false
 any_none q P h [] e = refl
 any_none q P h (x ∷ xs) e = grind (arith, h x e.0, any_none q P h xs e.1)
 
-doomed_foreign : {u : ℕ} (ps : List ProcData) → Every GoodProc ps → (settings : Settings) (n : ℕ) → pid_owner n ≡ u → (p : ProcData) → GoodProc p → p.uid ≢ u → is_doomed settings ps n p ≡ false
+doomed_foreign : {u : ℕ} (ps : List ProcData) → AllByRecursion GoodProc ps → (settings : Settings) (n : ℕ) → pid_owner n ≡ u → (p : ProcData) → GoodProc p → p.uid ≢ u → is_doomed settings ps n p ≡ false
 doomed_foreign ps all settings n here p good ne = rw (not_own n p.pid (λ e. ne (named here p good e)), meets_foreign ps all 250 n p.pid (λ e. ne (sym good.block ∙ e ∙ here)), and_false (settings.kill_on_debugger_exit && is_live p)) refl
 
-pub by_bool : (b : Bool) → (b ≡ true → ⊥) → b ≡ false
-by_bool true h = absurd (h refl)
-by_bool false h = refl
-
-doomed_own : {u : ℕ} (ps : List ProcData) → Every GoodProc ps → (settings : Settings) (n m : ℕ) → pid_owner n ≡ u → (p : ProcData) → GoodProc p → ((p.pid == m) && is_doomed settings ps n p) ≡ true → (p.uid ≡ u) × (p.pid ≡ m)
-doomed_own {u} ps all settings n m here p good is = (by_user (eqb p.uid u) refl, eqb-true p.pid m (left (p.pid == m) (is_doomed settings ps n p) is))
+doomed_own : {u : ℕ} (ps : List ProcData) → AllByRecursion GoodProc ps → (settings : Settings) (n m : ℕ) → pid_owner n ≡ u → (p : ProcData) → GoodProc p → ((p.pid == m) && is_doomed settings ps n p) ≡ true → (p.uid ≡ u) × (p.pid ≡ m)
+doomed_own {u} ps all settings n m here p good is = (by_user (eqb p.uid u) refl, eqb-true p.pid m (and_left (p.pid == m) (is_doomed settings ps n p) is))
   where
-    left : (a b : Bool) → (a && b) ≡ true → a ≡ true
-    left true b e = refl
-    left false b e = absurd (true≢false (sym e))
-
-    right : (a b : Bool) → (a && b) ≡ true → b ≡ true
-    right true b e = e
-    right false b e = absurd (true≢false (sym e))
-
     by_user : (b : Bool) → eqb p.uid u ≡ b → p.uid ≡ u
     by_user true e = eqb-true p.uid u e
-    by_user false e = absurd (true≢false (sym (right (p.pid == m) (is_doomed settings ps n p) is) ∙ doomed_foreign ps all settings n here p good (not_equal p.uid u e)))
+    by_user false e = absurd (true≢false (sym (and_right (p.pid == m) (is_doomed settings ps n p) is) ∙ doomed_foreign ps all settings n here p good (not_equal p.uid u e)))
 
 dooms_same : {u : ℕ} {start c v : Rows} → Sim u start c v → (settings : Settings) (n : ℕ) → pid_owner n ≡ u → dooms settings c.processes n ≡ dooms settings v.processes n
 dooms_same {u} {start} {c} {v} s settings n here = fun_ext (λ m.

@@ -1,5 +1,5 @@
 -- Sound rows keep users apart, and what a user sees of them.
-use Rattle.std.proofs.Common.{◌≡◌, ◌≢◌, ℕ, ◌<◌, List, [], ◌∷◌, filter, Bool, true, false, ◌==◌, ◌&&◌, not, Option, Some, None, IfSome, refl, sym, ap, ◌∙◌, arith, eqb, true≢false, eqb-true, subst, eq-eqb}
+use Rattle.std.proofs.Common.{◌≡◌, ◌≢◌, ℕ, List, filter, Bool, true, false, ◌==◌, ◌&&◌, not, Option, Some, None, IfSome, refl, sym, ap, ◌∙◌, arith, eqb, true≢false, eqb-true, subst, eq-eqb}
 use Rattle.std.specs.List.{AllByRecursion}
 use Rattle.pid_blocks.specs.Users.{IsUser}
 use Rattle.pid_blocks.specs.Blocks.{pid_owner, tid_owner, pid_block, tid_block, InBlock}
@@ -10,18 +10,17 @@ use Rattle.proc_table.specs.declared.State.TheVariants.{Run, Trace, Job, Zombie}
 use Rattle.proc_table.specs.Processes.{is_live, is_zombie_state, reporting, process_of}
 use Rattle.proc_table.specs.Rows.{Rows}
 use Rattle.proc_table.specs.Seen.{owns}
-use Rattle.proc_table.specs.Kept.{AllAbove, Rise, AtHome}
-use Rattle.proc_table.specs.Kept as kept
+use Rattle.proc_table.specs.Kept.{AtHome, Housed}
 use Rattle.trace_stop.specs.Sound.{names_own}
 use Rattle.trace_stop.specs.Facts.{IsLiveOf, IsLiveChild, Linked, IfEnded, FitProcess, waited_for, Standing, WithOwner, IsSound}
-use Rattle.user_rows.specs.Closed.{Every, Rising, GoodProc, GoodLwp, LiveRow, Housed, Closed}
-use Rattle.trace_stop.proofs.Every.{and_left, and_right, All-imply, All-both, any_holds, find_some}
+use Rattle.user_rows.specs.Closed.{GoodProc, GoodLwp, LiveRow, LiveOwner, Closed}
+use Rattle.trace_stop.proofs.Every.{and_left, and_right, by_bool, All-imply, All-both, any_holds, find_some}
 use Rattle.trace_stop.proofs.Edited.{If_more}
 use Rattle.trace_stop.proofs.Children.{child_lives}
 use Rattle.trace_stop.proofs.Stops.{find_passes}
 use Rattle.user_rows.proofs.ViewLists.{filter_same}
 use Rattle.user_rows.proofs.ViewSame.{own_lwp, not_equal, process_some}
-use Rattle.user_rows.proofs.ViewEnds.{any_none, by_bool}
+use Rattle.user_rows.proofs.ViewEnds.{any_none}
 
 -- Owners of numbers
 
@@ -33,7 +32,7 @@ pub tid_in_block : (u n : ℕ) → IsUser u → InBlock (tid_block u) n → tid_
 unfolding tid_owner
 tid_in_block u n user b = omega arith
 
-pub owns_owner : (u n : ℕ) (ps : List ProcData) → Every GoodProc ps → owns u n ps ≡ true → pid_owner n ≡ u
+pub owns_owner : (u n : ℕ) (ps : List ProcData) → AllByRecursion GoodProc ps → owns u n ps ≡ true → pid_owner n ≡ u
 owns_owner u n ps all is = by_owner (eqb (pid_owner n) u) refl
   where
     by_owner : (b : Bool) → eqb (pid_owner n) u ≡ b → pid_owner n ≡ u
@@ -41,35 +40,20 @@ owns_owner u n ps all is = by_owner (eqb (pid_owner n) u) refl
     by_owner false e = absurd (true≢false (sym is ∙ any_none (λ p. (p.pid == n) && (p.uid == u)) GoodProc (λ p good. by_bool _ (λ h. not_equal (pid_owner n) u e (ap pid_owner (sym (eqb-true p.pid n (and_left (p.pid == n) (p.uid == u) h))) ∙ good.block ∙ eqb-true p.uid u (and_right (p.pid == n) (p.uid == u) h)))) ps all))
 
 is_true : (a b : Bool) → (a ≡ true → b ≡ true) → (b ≡ true → a ≡ true) → a ≡ b
-is_true true true f g = refl
-is_true false false f g = refl
-is_true true false f g = sym (f refl)
-is_true false true f g = g refl
+is_true a b f g = grind (arith, f, g)
 
 -- an LWP's process is a row of u where its number is in u's block
-pub owns_block : (u : ℕ) (ps : List ProcData) → Every GoodProc ps → (l : LwpData) → Housed ps l → owns u l.pid ps ≡ own_lwp u l
+pub owns_block : (u : ℕ) (ps : List ProcData) → AllByRecursion GoodProc ps → (l : LwpData) → LiveOwner ps l → owns u l.pid ps ≡ own_lwp u l
 owns_block u ps all l house = is_true (owns u l.pid ps) (own_lwp u l) (λ e. eq-eqb (pid_owner l.pid) u (owns_owner u l.pid ps all e)) (λ e. at_row (eqb-true (pid_owner l.pid) u e) (process_of l.pid ps) refl (process_some ps l.pid all) house)
   where
     at_row : pid_owner l.pid ≡ u → (o : Option ProcData) → process_of l.pid ps ≡ o → IfSome o (λ p. GoodProc p × ((p.pid == l.pid) ≡ true)) → LiveRow o → owns u l.pid ps ≡ true
     at_row mine None is g live = absurd live
     at_row mine (Some p) is g live = find_passes (λ q. q.pid == l.pid) (λ q. (q.pid == l.pid) && (q.uid == u)) ps p is (rw (g.1, eq-eqb p.uid u (sym g.0.block ∙ ap pid_owner (eqb-true p.pid l.pid g.1) ∙ mine)) refl)
 
-pub lwps_seen : (w : ℕ) (rows : Rows) → Every GoodProc rows.processes → Every (Housed rows.processes) rows.lwps → filter (λ l. owns w l.pid rows.processes) rows.lwps ≡ filter (own_lwp w) rows.lwps
-lwps_seen w rows all housed = filter_same (λ l. owns w l.pid rows.processes) (own_lwp w) (Housed rows.processes) (λ l house. owns_block w rows.processes all l house) rows.lwps housed
+pub lwps_seen : (w : ℕ) (rows : Rows) → AllByRecursion GoodProc rows.processes → AllByRecursion (LiveOwner rows.processes) rows.lwps → filter (λ l. owns w l.pid rows.processes) rows.lwps ≡ filter (own_lwp w) rows.lwps
+lwps_seen w rows all housed = filter_same (λ l. owns w l.pid rows.processes) (own_lwp w) (LiveOwner rows.processes) (λ l house. owns_block w rows.processes all l house) rows.lwps housed
 
 -- Sound rows
-
-pub every_of : {X : Type 0} (P : X → Type 0) (xs : List X) → AllByRecursion P xs → Every P xs
-every_of P [] all = tt
-every_of P (x ∷ xs) all = (all.0, every_of P xs all.1)
-
-rising_of : (ps : List ProcData) → Rise ps → Rising ps
-rising_of [] rise = tt
-rising_of (p ∷ ps) rise = (above p.pid ps rise.0, rising_of ps rise.1)
-  where
-    above : (n : ℕ) (qs : List ProcData) → AllAbove n qs → Every (λ q. n < q.pid) qs
-    above n [] all = tt
-    above n (q ∷ qs) all = (all.0, above n qs all.1)
 
 module _ (rows : Rows) (s : IsSound rows) where
   block_of : (p : ProcData) → AtHome p → pid_owner p.pid ≡ p.uid
@@ -81,13 +65,13 @@ module _ (rows : Rows) (s : IsSound rows) where
       rows.processes s.stands.homes is
 
   -- an LWP's number is of its process's user
-  lwp_owner : (l : LwpData) → kept.Housed rows l → tid_owner l.tid ≡ pid_owner l.pid
+  lwp_owner : (l : LwpData) → Housed rows l → tid_owner l.tid ≡ pid_owner l.pid
   lwp_owner l h =
       let f = find_some (λ p. p.pid == l.pid) AtHome rows.processes s.stands.homes h.0 h.1 in
       tid_in_block h.0.uid l.tid f.0.user h.2 ∙ sym (block_of h.0 f.0) ∙ ap pid_owner (eqb-true h.0.pid l.pid f.1)
 
   named_owner : (p : ProcData) → AtHome p → (tid : ℕ) → names_own rows p tid ≡ true → tid_owner tid ≡ p.uid
-  named_owner p home tid is = any_holds (λ l. (l.tid == tid) && (l.pid == p.pid)) (kept.Housed rows) (tid_owner tid ≡ p.uid)
+  named_owner p home tid is = any_holds (λ l. (l.tid == tid) && (l.pid == p.pid)) (Housed rows) (tid_owner tid ≡ p.uid)
       (λ l h e. ap tid_owner (sym (eqb-true l.tid tid (and_left (l.tid == tid) (l.pid == p.pid) e))) ∙ lwp_owner l h ∙ ap pid_owner (eqb-true l.pid p.pid (and_right (l.tid == tid) (l.pid == p.pid) e)) ∙ block_of p home)
       rows.lwps s.stands.housed is
 
@@ -107,7 +91,7 @@ module _ (rows : Rows) (s : IsSound rows) where
     collector = collector_of p p.state refl h.1.1.ended;
   }
 
-  good_lwp : (l : LwpData) → kept.Housed rows l × WithOwner rows (Standing rows) l → GoodLwp l
+  good_lwp : (l : LwpData) → Housed rows l × WithOwner rows (Standing rows) l → GoodLwp l
   good_lwp l h =
       let f = find_some (λ p. p.pid == l.pid) AtHome rows.processes s.stands.homes h.0.0 h.0.1 in
       let own : h.0.0.uid ≡ pid_owner l.pid = sym (block_of h.0.0 f.0) ∙ ap pid_owner (eqb-true h.0.0.pid l.pid f.1) in
@@ -116,18 +100,18 @@ module _ (rows : Rows) (s : IsSound rows) where
         waits = If_more (IsLiveChild rows h.0.0) (λ c. pid_owner c ≡ pid_owner l.pid) (λ c is. live_owner h.0.0.uid c (child_lives rows h.0.0 c is) ∙ own) (waited_for l.mode) (h.1 h.0.0 h.0.1).waits;
       }
 
-  lives : (l : LwpData) → kept.Housed rows l × WithOwner rows (Standing rows) l → Housed rows.processes l
+  lives : (l : LwpData) → Housed rows l × WithOwner rows (Standing rows) l → LiveOwner rows.processes l
   lives l h = subst LiveRow (sym h.0.1) (h.1 h.0.0 h.0.1).live
 
-  placed_lwps : AllByRecursion (λ l. kept.Housed rows l × WithOwner rows (Standing rows) l) rows.lwps
-  placed_lwps = All-both (kept.Housed rows) (WithOwner rows (Standing rows)) rows.lwps s.stands.housed s.stands.standing
+  placed_lwps : AllByRecursion (λ l. Housed rows l × WithOwner rows (Standing rows) l) rows.lwps
+  placed_lwps = All-both (Housed rows) (WithOwner rows (Standing rows)) rows.lwps s.stands.housed s.stands.standing
 
   pub sound_closed : (u : ℕ) → IsUser u → Closed u rows
   sound_closed u user = record {
-    processes = every_of GoodProc rows.processes (All-imply (λ p. AtHome p × (Linked rows p × FitProcess p)) GoodProc good_row rows.processes (All-both AtHome _ rows.processes s.stands.homes (All-both (Linked rows) FitProcess rows.processes s.stands.linked s.processes)));
-    lwps = every_of GoodLwp rows.lwps (All-imply _ GoodLwp good_lwp rows.lwps placed_lwps);
-    housed = every_of (Housed rows.processes) rows.lwps (All-imply _ (Housed rows.processes) lives rows.lwps placed_lwps);
-    rising = rising_of rows.processes s.stands.rising;
+    processes = (All-imply (λ p. AtHome p × (Linked rows p × FitProcess p)) GoodProc good_row rows.processes (All-both AtHome _ rows.processes s.stands.homes (All-both (Linked rows) FitProcess rows.processes s.stands.linked s.processes)));
+    lwps = (All-imply _ GoodLwp good_lwp rows.lwps placed_lwps);
+    housed = (All-imply _ (LiveOwner rows.processes) lives rows.lwps placed_lwps);
+    rising = s.stands.rising;
     user = user;
     pid_slots = s.stands.pid_slots;
     tid_slots = s.stands.tid_slots;

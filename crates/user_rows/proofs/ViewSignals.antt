@@ -1,6 +1,6 @@
 -- Posting signals, and running on.
 use Rattle.std.proofs.Common.{◌≡◌, ◌≢◌, ℕ, List, [], ◌∷◌, Bool, true, false, ◌==◌, ◌||◌, if◌then◌else◌, Option, Some, None, is_none, option_map, IfSome, refl, sym, ap, ◌∙◌, arith, eqb, true≢false, eqb-true, subst, inl}
-use Rattle.std.specs.List.{list_any}
+use Rattle.std.specs.List.{list_any, AllByRecursion}
 use Rattle.pid_blocks.specs.Users.{IsUser}
 use Rattle.pid_blocks.specs.Blocks.{pid_owner}
 use Rattle.event_masks.specs.Exits.{no_flags, shows}
@@ -13,12 +13,12 @@ use Rattle.proc_table.specs.Processes.{is_live, process_of, is_this, reporting}
 use Rattle.proc_table.specs.Rows.{Rows, is_numbered, change}
 use Rattle.trace_stop.specs.Post.{settled_process, settled_lwp, settle, continues, posted_set, posted_process, posted_lwp, notified, told, posted}
 use Rattle.trace_stop.specs.Detach.{running, reported, run_on, resumed, untraced, untraced_lwp, detached}
-use Rattle.user_rows.specs.Closed.{Every, Mine, GoodProc, GoodLwp, LiveRow}
+use Rattle.user_rows.specs.Closed.{Mine, GoodProc, GoodLwp, LiveRow}
 use Rattle.user_rows.proofs.ViewSame.{Sim, Kin, KinLwp, not_own, named, process_same, process_some, each_same}
 use Rattle.user_rows.proofs.ViewEdits.{Stays, StaysLwp, change_same}
 
 abbrev pub Mines : ℕ → List ℕ → Type 0
-Mines u ns = Every (Mine u) ns
+Mines u ns = AllByRecursion (Mine u) ns
 
 pub owner_of_1 : pid_owner 1 ≡ 1000
 unfolding pid_owner

@@ -4,9 +4,8 @@ use Rattle.slab.specs.Slab.{get as slot_get}
 use Rattle.lwp_table.specs.declared.links.Ends.{Ends}
 use Rattle.lwp_table.specs.Lwps.{lwp_of, without_lwp}
 use Rattle.lwp_table.specs.Kept.{place_of, rows_of, ends_at}
-use Rattle.lwp_table.proofs.WordLemmas.{without_row-same}
-use Rattle.lwp_table.proofs.IndexLemmas.{differ, slot_for, lwp_of-found}
-use Rattle.lwp_table.proofs.KeptLemmas.{some_of, own_prev, own_next, all_prev, all_next, own_positive, user_positive, left_empty, IsKept-removed, rows-removed}
+use Rattle.lwp_table.proofs.IndexLemmas.{some_of, slot_for, lwp_of-found}
+use Rattle.lwp_table.proofs.KeptLemmas.{own_prev, own_next, all_prev, all_next, own_positive, user_positive, left_empty, IsKept-removed, rows-removed}
 use Rattle.lwp_table.proofs.table.LwpTable.remove.Goals as goal
 
 pub unwrap-slot-requires : goal.unwrap-slot-requires
@@ -72,7 +71,7 @@ returns-clause-rows c =
     rw (← c.self.view_is) (rows-removed f _ _ c.self.inside.all c.self.inside.births c.self.inside.users c.self.invariant c.unwrap-slot.result gone
     (slot_get c.remove-gone.new.self) (slot_get c.close_up.new.slots) c.swap_remove.new.self.entries c.put_ends.new.heads.entries c.without.result c.without-self-inside.result
     c.remove-gone.ensures.value c.remove-gone.ensures.updates.changed c.remove-gone.ensures.updates.others c.close_up.ensures.closed change
-    ∙ without_row-same gone.row.tid rows (differ f es c.self.inside.births c.self.invariant.indexed) ∙ ap (λ n. without_lwp n rows) (tid ∙ c.get.ensures.number))
+    ∙ ap (λ n. without_lwp n rows) (tid ∙ c.get.ensures.number))
 
 pub put_ends-requires-clause-empty : goal.put_ends-requires-clause-empty
 put_ends-requires-clause-empty c =
