@@ -8,14 +8,15 @@ ghost use Rattle.requests.specs.declared.step.Step.TheVariants as op;
 ghost use Rattle.requests.specs.declared.Request.TheVariants as request;
 ghost use Rattle.visibility.specs.WorkedRuns.{kills, by};
 
-use super::script::{Answer, Line, answered, attach, compare, first, list, second, steps_of};
-use crate::laws::{foreign_number, one_step, other_step, two_lists};
+use super::lines::{Line, compare, first, second, steps_of};
+use crate::script::{Answer, answered, attach, list};
 use pid_blocks::{Errno, Uid};
 use requests::{Host, PlainStep, Reply, Request, Step};
 use std::alloc::{AllocError, Global};
 use std::test::Fail;
 use stop_handlers::{ByPolicy, Handler};
 use trace_stop::Settings;
+use visibility::laws::{foreign_number, one_step, other_step, two_lists};
 
 /// A host that nobody has used.
 fn unused(alloc: Global) -> Result<Host<ByPolicy>, AllocError>

@@ -1,8 +1,9 @@
 //! Sessions of two users on one host, and of each alone.
 
-use super::script::{
-    Answer, Shown, ask, attach, compute, enter, first, handle, kill, leave, list, second,
-    together_and_alone, wait, wait_for,
+use super::lines::{first, second, together_and_alone};
+use crate::script::{
+    AS_CHILD, AT_FORK, Answer, ask, attach, compute, enter, handle, kill, leave, list, reporting,
+    wait, wait_for,
 };
 use event_masks::Call;
 use pid_blocks::Errno;
@@ -11,12 +12,6 @@ use std::test::Fail;
 use stop_handlers::Decision;
 
 const NOBODYS: Answer = Answer::Refused(Errno::ESRCH);
-
-/// PL_FLAG_SCX and PL_FLAG_FORKED.
-const AT_FORK: u32 = 10;
-
-/// PL_FLAG_SCX and PL_FLAG_CHILD.
-const AS_CHILD: u32 = 18;
 
 #[test]
 fn another_users_numbers_are_unknown(rt: HostRuntime) -> Result<(), Fail> {
@@ -38,24 +33,9 @@ fn another_users_numbers_are_unknown(rt: HostRuntime) -> Result<(), Fail> {
 /// A debugger of the first user follows a fork; between each two of its steps the second user makes one.
 #[test]
 fn a_followed_fork_amid_another_users_steps(rt: HostRuntime) -> Result<(), Fail> {
-    let forked = Shown {
-        tid: 100001,
-        flags: AT_FORK,
-        child: 1002,
-        code: 2,
-    };
-    let child = Shown {
-        tid: 100002,
-        flags: AS_CHILD,
-        child: 0,
-        code: 2,
-    };
-    let stopped = Shown {
-        tid: 104002,
-        flags: 0,
-        child: 0,
-        code: 0,
-    };
+    let forked = reporting(100001, AT_FORK, 1002, 2);
+    let child = reporting(100002, AS_CHILD, 0, 2);
+    let stopped = reporting(104002, 0, 0, 0);
     let childless = Answer::Refused(Errno::ECHILD);
     let lines = [
         first(PlainStep::Spawn, Answer::New(1000, 100000)),

@@ -1,7 +1,7 @@
 //! What users see, by parts.
 
-use super::script::{Answer, Line, first, host_after, second};
-use crate::{View, user_view};
+use super::lines::{Line, first, host_after, second};
+use crate::script::Answer;
 use pid_blocks::{Pid, Uid};
 use requests::PlainStep;
 use std::alloc::Global;
@@ -9,6 +9,7 @@ use std::process::Abort;
 use std::test::Fail;
 use stop_handlers::Policy;
 use trace_stop::Settings;
+use visibility::{View, user_view};
 
 /// Two processes of the first user, which installs a policy, and one of the second.
 fn three_and_a_policy(policy: Policy) -> [Line; 4] {

@@ -3,7 +3,7 @@ use Rattle.requests.specs.Isolation.{host_after}
 use Rattle.requests.specs.Machine.{Machine}
 use Rattle.requests.specs.declared.step.Step.TheVariants as op
 use Rattle.visibility.specs.WorkedRuns.{kills}
-use Rattle.visibility.proofs.tests.laws.with_three.Goals as goal
+use Rattle.request_checks.proofs.users.laws.with_three.Goals as goal
 
 after : (u v : ℕ) (m k h : Machine) → h ≡ host_after u op.Spawn m → u ≡ v → m ≡ k → h ≡ host_after v op.Spawn k
 after u v m k h is same left = is ∙ ap₂ (λ (w : ℕ) (n : Machine). host_after w op.Spawn n) same left

@@ -4,7 +4,7 @@ use Rattle.requests.specs.Run.{last}
 use Rattle.requests.specs.declared.step.Step.TheVariants as op
 use Rattle.requests.specs.declared.Request.TheVariants as request
 use Rattle.visibility.specs.WorkedRuns.{kills, by}
-use Rattle.visibility.proofs.tests.laws.foreign_attaches.Goals as goal
+use Rattle.request_checks.proofs.users.laws.foreign_attaches.Goals as goal
 
 -- the first user sees neither number
 alike : AlikeSteps 1001 (last (by 1001 op.Spawn ∷ by 1002 op.Spawn ∷ by 1001 op.Spawn ∷ []) kills) (op.Ptrace 1000 request.Attach 2000 0) (op.Ptrace 1000 request.Attach 1500 0)

@@ -1,6 +1,7 @@
 //! The limits of one user, which another doesn't meet.
 
-use super::script::{Answer, Line, compute, enter, first, leave, second, together_and_alone};
+use super::lines::{Line, first, second, together_and_alone};
+use crate::script::{Answer, compute, enter, leave};
 use event_masks::Call;
 use pid_blocks::Errno;
 use requests::PlainStep;

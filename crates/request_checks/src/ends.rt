@@ -1,12 +1,12 @@
 //! Ends of processes and of debuggers.
 
-use super::script::{
+use crate::script::{
     AT_EXEC, AT_VFORK, Answer, VFORK_DONE, alone, ask, attach, compute, enter, follow, go_on, kill,
     leave, list, sigaction, trace, wait, with_tracee, with_two,
 };
-use crate::{Host, PlainStep, Request};
 use event_masks::Call;
 use pid_blocks::{Errno, Uid};
+use requests::{Host, PlainStep, Request};
 use signals::Disposition;
 use std::alloc::Global;
 use std::process::Abort;

@@ -1,13 +1,13 @@
 //! Requests of debuggers, and the stops of events.
 
-use super::script::{
+use crate::script::{
     AS_BORN, AS_CHILD, AT_EXEC, AT_FORK, Answer, EXITED, NONE, SCE, SCX, Shown, alone, ask, attach,
     compute, enter, go_on, kill, leave, list, raise, reporting, sigaction, wait, with_tracee,
     with_two,
 };
-use crate::{PlainStep, Request};
 use event_masks::Call;
 use pid_blocks::Errno;
+use requests::{PlainStep, Request};
 use signals::Disposition;
 use std::test::Fail;
 use trace_stop::Settings;

@@ -1,12 +1,12 @@
 //! Signals: posted, caught, stopping, continuing and ending.
 
-use super::script::{
+use crate::script::{
     Answer, NONE, Shown, alone, ask, attach, compute, enter, go_on, kill, leave, list, raise,
     reporting, sigaction, wait, wait_for_jobs, with_tracee,
 };
-use crate::{Act, PlainStep, Request};
 use event_masks::Call;
 use pid_blocks::Errno;
+use requests::{Act, PlainStep, Request};
 use signals::{Disposition, SigSet, Signal};
 use std::test::Fail;
 use trace_stop::Settings;

@@ -3,13 +3,13 @@
 ghost use Rattle.std.specs.Prelude.{◌≡◌, ◌<◌};
 ghost use Rattle.stop_handlers.specs.Handlers.{Obeys};
 
-use super::script::{
+use crate::script::{
     AS_CHILD, AT_FORK, Answer, NONE, answered, ask, attach, compute, enter, follow, go_on, kill,
     leave, reporting, trace,
 };
-use crate::{Host, PlainStep, Request, Step};
 use event_masks::{Call, StopFlags};
 use pid_blocks::{Errno, Uid};
+use requests::{Host, PlainStep, Request, Step};
 use signals::{Pass, Signal};
 use std::alloc::Global;
 use std::process::Abort;

@@ -1,26 +1,13 @@
 //! Numbers that the user doesn't see, and numbers that nobody has.
 
-use super::script::{
-    Answer, ask, attach, compute, follow, go_on, kill, list, spawn_three, with_two,
+use crate::script::{
+    Answer, ask, attach, compute, follow, go_on, kill, list, spawn_three, wait_for, with_two,
 };
-use crate::{Host, PlainStep, Request, Step};
 use pid_blocks::{Errno, Uid};
+use requests::{Host, PlainStep, Request, Step};
 use std::test::Fail;
 use stop_handlers::{ByPolicy, Handler, Policy};
 use trace_stop::Settings;
-use wait4::Options;
-
-/// A wait for one child, or another target, without options.
-fn wait_for(caller: u32, which: i64) -> PlainStep {
-    PlainStep::Wait4 {
-        caller,
-        which,
-        options: Options {
-            untraced: false,
-            continued: false,
-        },
-    }
-}
 
 #[test]
 fn another_users_numbers_are_unknown(rt: HostRuntime) -> Result<(), Fail> {

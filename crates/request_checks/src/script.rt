@@ -1,9 +1,9 @@
 //! Scripts: steps of a user, and what each is to answer.
 
-use crate::{Act, Host, PlainStep, Reply, Request};
 use event_masks::Call;
 use lwpinfo::{Event, LwpInfo, NumList};
 use pid_blocks::{Errno, Uid};
+use requests::{Act, Host, PlainStep, Reply, Request};
 use signals::Disposition;
 use std::alloc::Global;
 use std::process::Abort;
@@ -237,16 +237,25 @@ pub fn kill(caller: u32, which: i64, sig: u32) -> PlainStep {
     PlainStep::Kill { caller, which, sig }
 }
 
-/// A wait for any child, without options.
-pub fn wait(caller: u32) -> PlainStep {
+/// A wait without options.
+pub fn wait_for(caller: u32, which: i64) -> PlainStep {
     PlainStep::Wait4 {
         caller,
-        which: -1,
+        which,
         options: Options {
             untraced: false,
             continued: false,
         },
     }
+}
+
+/// A wait for any child, without options.
+pub fn wait(caller: u32) -> PlainStep {
+    wait_for(caller, -1)
+}
+
+pub fn handle(caller: u32) -> PlainStep {
+    PlainStep::Handle { caller }
 }
 
 pub fn ask(caller: u32, request: Request, target: u32, data: u32) -> PlainStep {
