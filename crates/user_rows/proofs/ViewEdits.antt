@@ -1,5 +1,5 @@
 -- The other primitives: one process, one LWP, new rows; and branches of rows.
-use Rattle.std.proofs.Common.{◌≡◌, ◌≢◌, ℕ, ◌<◌, List, [], ◌∷◌, ◌++◌, length, filter, find, filter_map, Bool, true, false, ◌==◌, ltb, if◌then◌else◌, Option, Some, None, IfSome, refl, sym, ap, ◌∙◌, arith, eqb, eqb-true, subst, append-nil, get_or, set, get_or-set_same, get_or-set_other, length-set, inl, ltb-true, ltb-false, lt-ltb}
+use Rattle.std.proofs.Common.{◌≡◌, ◌≢◌, ℕ, ◌<◌, List, [], ◌∷◌, ◌++◌, length, filter, filter_map, Bool, true, false, ◌==◌, if◌then◌else◌, Option, Some, None, IfSome, refl, sym, ap, ◌∙◌, arith, eqb, eqb-true, subst, append-nil, get_or, set, get_or-set_same, get_or-set_other, length-set, inl}
 use Rattle.std.proofs.lemmas.Bool.Decides.{nat_tests}
 use Rattle.pid_blocks.specs.Users.{IsUser}
 use Rattle.pid_blocks.specs.Blocks.{pid_owner, tid_owner, pid_block, tid_block, slot, cursor_after, InBlock}
@@ -9,10 +9,11 @@ use Rattle.proc_table.specs.Processes.{is_live, process_of, placed}
 use Rattle.proc_table.specs.Rows.{Rows, change, edit_processes, edit_lwps, change_process, change_lwp, remove_lwp}
 use Rattle.proc_table.specs.Fresh.{add_process, add_lwp}
 use Rattle.user_rows.specs.Closed.{GoodProc, GoodLwp, LiveRow, LiveOwner}
-use Rattle.user_rows.proofs.ViewLists.{find_only, find_no, find_append, or_else, every, find_some, filter_edit, filter_untouched, All-where, placed-only, placed-other, filter-append}
+use Rattle.user_rows.proofs.ViewLists.{find_some, filter_edit, filter_untouched, All-where, placed-only, placed-other, filter-append}
 use Rattle.user_rows.proofs.ViewSame.{Sim, Kin, KinLwp, own, own_lwp, is_own, not_own, not_equal, named, If-both, kin, processes_kept, rising_kept, untouched, seen_kept, live_after, each_same, process_some}
 use Rattle.std.specs.List.{AllByRecursion}
-use Rattle.trace_stop.proofs.Every.{All-edit, All-append, All-imply, All-both}
+use Rattle.trace_stop.proofs.Every.{All-edit, All-append, All-imply, All-both, choose, none_passes}
+use Rattle.trace_stop.proofs.Placed.{IsFree, process_of-other}
 use Rattle.trace_stop.proofs.Placed.{Rise-placed}
 
 -- what a process of u becomes where it isn't gone: a live one stays live
@@ -29,24 +30,12 @@ pub change_same : {u : ℕ} {start c v : Rows} → Sim u start c v → (chosen :
     → ((p : ProcData) (l : LwpData) → GoodProc p → GoodLwp l → StaysLwp l (lwp p l))
     → Sim u start (change chosen process lwp c) (change chosen process lwp v)
 change_same {u} s chosen process lwp foreign mine mine_lwp = each_same s (λ p. Some (if chosen p then process p else p)) (λ p l. Some (if chosen p then lwp p l else l)) (record {
-  mine = λ p good is. kept p good is (chosen p) refl;
+  mine = λ p good is. choose (chosen p) (process p) p (λ q. Kin p (Some q)) (λ e. let st = mine p good is e in (st.0, st.1, st.2)) (λ e. (refl, refl, good));
   foreign = λ p good ne. rw (foreign p good ne) refl;
-  lwp = λ p l good well is here. kept_lwp p l good well (chosen p);
+  lwp = λ p l good well is here. choose (chosen p) (lwp p l) l (λ k. KinLwp l (Some k)) (λ e. mine_lwp p l good well) (λ e. (refl, well));
   foreign_lwp = λ p l good well ne here. rw (foreign p good ne) refl;
-  live = λ p l good is live. inl (lives p good is live (chosen p) refl);
+  live = λ p l good is live. inl (choose (chosen p) (process p) p (λ q. LiveRow (Some q)) (λ e. (mine p good is e).3 live) (λ e. live));
 })
-  where
-    kept : (p : ProcData) → GoodProc p → p.uid ≡ u → (b : Bool) → chosen p ≡ b → Kin p (Some (if b then process p else p))
-    kept p good is true e = let st = mine p good is e in (st.0, st.1, st.2)
-    kept p good is false e = (refl, refl, good)
-
-    kept_lwp : (p : ProcData) (l : LwpData) → GoodProc p → GoodLwp l → (b : Bool) → KinLwp l (Some (if b then lwp p l else l))
-    kept_lwp p l good well true = mine_lwp p l good well
-    kept_lwp p l good well false = (refl, well)
-
-    lives : (p : ProcData) → GoodProc p → p.uid ≡ u → is_live p ≡ true → (b : Bool) → chosen p ≡ b → LiveRow (Some (if b then process p else p))
-    lives p good is live true e = let st = mine p good is e in st.3 live
-    lives p good is live false e = live
 
 -- processes alone
 pub edit_same : {u : ℕ} {start c v : Rows} → Sim u start c v → (f : ProcData → Option ProcData)
@@ -102,17 +91,9 @@ pub process_same_after : {u : ℕ} {start c v : Rows} → Sim u start c v → (n
     → ((p : ProcData) → GoodProc p → p.uid ≡ u → p.pid ≡ n → Stays p (f p))
     → Sim u start (change_process n f c) (change_process n f v)
 process_same_after {u} s n here f stays = edit_same s (λ p. Some (if p.pid == n then f p else p))
-    (λ p good is. kept p good is (eqb p.pid n) refl)
+    (λ p good is. choose (p.pid == n) (f p) p (λ q. Kin p (Some q)) (λ e. let st = stays p good is (eqb-true p.pid n e) in (st.0, st.1, st.2)) (λ e. (refl, refl, good)))
     (λ p good ne. rw (not_own n p.pid (λ e. ne (named here p good e))) refl)
-    (λ p good is live. lives p good is live (eqb p.pid n) refl)
-  where
-    kept : (p : ProcData) → GoodProc p → p.uid ≡ u → (b : Bool) → eqb p.pid n ≡ b → Kin p (Some (if b then f p else p))
-    kept p good is true e = let st = stays p good is (eqb-true p.pid n e) in (st.0, st.1, st.2)
-    kept p good is false e = (refl, refl, good)
-
-    lives : (p : ProcData) → GoodProc p → p.uid ≡ u → is_live p ≡ true → (b : Bool) → eqb p.pid n ≡ b → LiveRow (Some (if b then f p else p))
-    lives p good is live true e = let st = stays p good is (eqb-true p.pid n e) in st.3 live
-    lives p good is live false e = live
+    (λ p good is live. choose (p.pid == n) (f p) p (λ q. LiveRow (Some q)) (λ e. (stays p good is (eqb-true p.pid n e)).3 live) (λ e. live))
 
 -- LWPs alone
 pub edit_lwps_same : {u : ℕ} {start c v : Rows} → Sim u start c v → (g : LwpData → Option LwpData)
@@ -156,21 +137,13 @@ pub lwp_same_after : {u : ℕ} {start c v : Rows} → Sim u start c v → (tid :
     → ((l : LwpData) → GoodLwp l → pid_owner l.pid ≡ u → StaysLwp l (f l))
     → Sim u start (change_lwp tid f c) (change_lwp tid f v)
 lwp_same_after {u} s tid here f stays = edit_lwps_same s (λ l. Some (if l.tid == tid then f l else l))
-    (λ l well. kept l well (eqb l.tid tid) refl)
+    (λ l well. choose (l.tid == tid) (f l) l (λ k. KinLwp l (Some k)) (λ e. stays l well (sym well.block ∙ ap tid_owner (eqb-true l.tid tid e) ∙ here)) (λ e. (refl, well)))
     (λ l well ne. rw (not_own tid l.tid (λ e. ne (sym well.block ∙ ap tid_owner e ∙ here))) refl)
-  where
-    kept : (l : LwpData) → GoodLwp l → (b : Bool) → eqb l.tid tid ≡ b → KinLwp l (Some (if b then f l else l))
-    kept l well true e = stays l well (sym well.block ∙ ap tid_owner (eqb-true l.tid tid e) ∙ here)
-    kept l well false e = (refl, well)
 
 pub lwp_removed_same : {u : ℕ} {start c v : Rows} → Sim u start c v → (tid : ℕ) → tid_owner tid ≡ u → Sim u start (remove_lwp tid c) (remove_lwp tid v)
 lwp_removed_same {u} s tid here = edit_lwps_same s (λ l. if l.tid == tid then None else Some l)
-    (λ l well. kept l well (eqb l.tid tid))
+    (λ l well. choose (l.tid == tid) None (Some l) (KinLwp l) (λ e. tt) (λ e. (refl, well)))
     (λ l well ne. rw (not_own tid l.tid (λ e. ne (sym well.block ∙ ap tid_owner e ∙ here))) refl)
-  where
-    kept : (l : LwpData) → GoodLwp l → (b : Bool) → KinLwp l (if b then None else Some l)
-    kept l well true = tt
-    kept l well false = (refl, well)
 
 -- New rows
 
@@ -182,28 +155,6 @@ slot_in u xs user is = omega arith
 
 pub cursor_in : (b : _) (n : ℕ) → InBlock b n → InBlock b (cursor_after b n)
 cursor_in b n i = grind (arith, nat_tests)
-
--- a row that is found is found beside a new one
-or_none : {X : Type 0} (o : Option X) → or_else o None ≡ o
-or_none None = refl
-or_none (Some x) = refl
-
-find_placed : (p : ProcData) (ps : List ProcData) (n : ℕ) → n ≢ p.pid → process_of n (placed p ps) ≡ process_of n ps
-find_placed p ps n ne = by_side (ltb n p.pid) refl
-  where
-    is_n : ProcData → Bool
-    is_n q = q.pid == n
-
-    apart : process_of n (placed p ps) ≡ or_else (find is_n (filter (λ q. ltb q.pid p.pid) ps)) (find is_n (filter (λ q. ltb p.pid q.pid) ps))
-    apart = find_append is_n (filter (λ q. ltb q.pid p.pid) ps) (p ∷ filter (λ q. ltb p.pid q.pid) ps) ∙ (rw (not_own n p.pid (λ e. ne (sym e))) refl)
-
-    by_side : (b : Bool) → ltb n p.pid ≡ b → process_of n (placed p ps) ≡ process_of n ps
-    by_side true is = let lt = ltb-true n p.pid is in
-        apart ∙ ap (λ o. or_else o (find is_n (filter (λ q. ltb p.pid q.pid) ps))) (find_only is_n (λ q. ltb q.pid p.pid) (λ q. Unit {0}) (λ q t e. let same = eqb-true q.pid n e in lt-ltb q.pid p.pid (omega arith)) ps (every ps))
-        ∙ ap (or_else (find is_n ps)) (find_no is_n (λ q. ltb p.pid q.pid) (λ q e. let above = ltb-true p.pid q.pid e in not_own n q.pid (λ same. absurd (omega arith))) ps) ∙ or_none (find is_n ps)
-    by_side false is = let ge = ltb-false n p.pid is in
-        apart ∙ ap (λ o. or_else o (find is_n (filter (λ q. ltb p.pid q.pid) ps))) (find_no is_n (λ q. ltb q.pid p.pid) (λ q e. let under = ltb-true q.pid p.pid e in not_own n q.pid (λ same. absurd (omega arith))) ps)
-        ∙ find_only is_n (λ q. ltb p.pid q.pid) (λ q. Unit {0}) (λ q t e. let same = eqb-true q.pid n e in let other = ne in lt-ltb p.pid q.pid (omega arith)) ps (every ps)
 
 -- a new process of u
 pub process_added_same : {u : ℕ} {start c v : Rows} → Sim u start c v → (p : ProcData) → p.uid ≡ u → GoodProc p → InBlock (pid_block u) p.pid → AllByRecursion (λ q. q.pid ≢ p.pid) c.processes → Sim u start (add_process p c) (add_process p v)
@@ -242,6 +193,9 @@ process_added_same {u} {start} {c} {v} s p mine good block new = subst (λ w. Si
     put : (xs : List ℕ) → length xs ≡ 64 → get_or (set xs (slot u) (cursor_after (pid_block u) p.pid)) (slot u) 0 ≡ cursor_after (pid_block u) p.pid
     put xs is = let lt = slot_in u xs user is in rw get_or-set_same refl
 
+    free : IsFree p.pid c.processes
+    free = none_passes (λ q. q.pid == p.pid) (λ q. q.pid ≢ p.pid) (λ q ne. not_own p.pid q.pid ne) c.processes new
+
     differs : (n : ℕ) → LiveRow (process_of n c.processes) → n ≢ p.pid
     differs n h e = at_row (process_of n c.processes) (find_some (λ q. q.pid == n) (λ q. q.pid ≢ p.pid) c.processes new) h
       where
@@ -250,7 +204,7 @@ process_added_same {u} {start} {c} {v} s p mine good block new = subst (λ w. Si
         at_row (Some q) g live = g.0 (eqb-true q.pid n g.1 ∙ e)
 
     housed : (l : LwpData) → LiveOwner c.processes l → LiveOwner (placed p c.processes) l
-    housed l h = subst LiveRow (sym (find_placed p c.processes l.pid (differs l.pid h))) h
+    housed l h = subst LiveRow (sym (process_of-other p c.processes s.kept.closed.rising free l.pid (differs l.pid h))) h
 
 -- a new LWP of u
 pub lwp_added_same : {u : ℕ} {start c v : Rows} → Sim u start c v → (l : LwpData) → pid_owner l.pid ≡ u → GoodLwp l → LiveOwner c.processes l → InBlock (tid_block u) l.tid → Sim u start (add_lwp u l c) (add_lwp u l v)
