@@ -5,7 +5,7 @@ use mathlib.Core.Option.{some, some-injective}
 use mathlib.Core.List.{map-append}
 use lib.ListN.{get_elem?}
 use Rattle.requests.specs.Machine.{Machine}
-use Rattle.requests.specs.declared.PlainStep.{PlainStep}
+use Rattle.requests.specs.Plain.{PlainStep}
 use Rattle.host_lock.specs.declared.journal.Entry.{Entry}
 use Rattle.host_lock.specs.Views.{Idle, View}
 use Rattle.host_lock.specs.declared.view.Slot.{Slot}

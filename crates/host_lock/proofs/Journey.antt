@@ -2,7 +2,7 @@
 use Rattle.std.proofs.Common.{◌≡◌, ℕ, ◌-◌, Bool, true, false, List, [], ◌∷◌, ◌++◌, sym, refl, ap, ◌∙◌, subst, arith, MatchBool, eq-eqb, ◌+◌}
 use Rattle.atomic_table.specs.Table.{rest}
 use Rattle.requests.specs.Machine.{Machine}
-use Rattle.requests.specs.declared.PlainStep.{PlainStep}
+use Rattle.requests.specs.Plain.{PlainStep}
 use Rattle.requests.specs.declared.Reply.{Reply}
 use Rattle.requests.specs.Isolation.{reply_of}
 use Rattle.requests.specs.Memory.{is_memory}
@@ -20,7 +20,7 @@ module _ {F : Type 0} where
   IsIdle number m = m ≡ (posed (start_of m.0) Idle m.0.budget (seen_of m.0) number (mine_of m.0), [])
 
   abbrev slot_in : List (ℕ × (Slot F)) → (Slot F)
-  slot_in [] = Away 0 Rattle.requests.specs.declared.PlainStep.TheVariants.Spawn
+  slot_in [] = Away 0 Rattle.requests.specs.declared.step.Step.TheVariants.Spawn
   slot_in (x ∷ xs) = x.1
 
   abbrev kept_in : (Slot F) → Kept

@@ -1,7 +1,7 @@
 -- What is known of a step that found memory, and of a list that found none.
 use Rattle.std.proofs.Common.{◌≡◌, ◌≢◌, ℕ, true, false, refl, sym, ap, ◌∙◌, true≢false}
 use Rattle.pid_blocks.specs.declared.Errno.TheVariants as errno
-use Rattle.requests.specs.declared.PlainStep.{PlainStep}
+use Rattle.requests.specs.Plain.{PlainStep}
 use Rattle.requests.specs.declared.Reply.{Reply}
 use Rattle.requests.specs.declared.Reply.TheVariants as reply
 use Rattle.requests.specs.Isolation.{reply_of, host_after}

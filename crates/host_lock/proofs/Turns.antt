@@ -9,7 +9,7 @@ use Rattle.atomic_table.proofs.Lists.{set_again, set_else}
 use lib.ListN.{get_elem?}
 use Rattle.atomic_table.specs.Table.{State, step, Act, keeps, takes, gives, homes_after, carried_after, Valid, Allows, Splits, Joins, opening, Final, Seen}
 use Rattle.requests.specs.Machine.{Machine}
-use Rattle.requests.specs.declared.PlainStep.{PlainStep}
+use Rattle.requests.specs.Plain.{PlainStep}
 use Rattle.host_lock.specs.declared.journal.Entry.{Entry}
 use Rattle.host_lock.specs.Views.{Stage, Idle, Waiting, Holding, Counted, Account, View, spent}
 use Rattle.host_lock.specs.declared.view.Slot.{Slot}

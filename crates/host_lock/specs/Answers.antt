@@ -1,7 +1,7 @@
 -- What open, call and close answer.
 use Rattle.std.specs.Prelude.{◌≡◌, ℕ, ◌<◌, List, length}
 use Rattle.requests.specs.Machine.{Machine}
-use Rattle.requests.specs.declared.PlainStep.{PlainStep}
+use Rattle.requests.specs.Plain.{PlainStep}
 use Rattle.host_lock.specs.declared.host.OpenRefusal.{OpenRefusal}
 use Rattle.host_lock.specs.declared.host.OpenRefusal.TheVariants.{NoSessions, TooMany, Memory}
 use Rattle.host_lock.specs.declared.host.CloseRefusal.{CloseRefusal}

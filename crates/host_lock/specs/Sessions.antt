@@ -2,7 +2,7 @@
 use Rattle.std.specs.Prelude.{◌≡◌, ℕ, ◌+◌, ◌<◌, ◌≤◌, length, map, Some, List, [], ◌∷◌, ◌++◌, MatchBool}
 use Rattle.atomic_table.specs.Seated.{TableId}
 use Rattle.requests.specs.Machine.{Machine}
-use Rattle.requests.specs.declared.PlainStep.{PlainStep}
+use Rattle.requests.specs.Plain.{PlainStep}
 use Rattle.requests.specs.declared.Reply.{Reply}
 use Rattle.requests.specs.Memory.{is_memory}
 use Rattle.host_lock.specs.declared.journal.Entry.{Entry}

@@ -3,7 +3,6 @@
 ghost use Rattle.std.specs.Prelude.{◌≡◌, ℕ, [], ◌∷◌, ◌++◌, List, true, false, IfSome, IfNone};
 ghost use Rattle.requests.specs.Isolation.{reply_of, host_after};
 ghost use Rattle.requests.specs.Memory.{is_memory};
-ghost use Rattle.requests.specs.Plain.{plain};
 ghost use Rattle.host_lock.specs.Journal.{replay, entry, IsLegal};
 ghost use Rattle.host_lock.specs.Kept.{kept};
 
@@ -13,7 +12,7 @@ use requests::{Host, Reply, Step};
 use std::alloc::Global;
 use std::marker::Model;
 use std::snapshot::Snapshot;
-use stop_handlers::Decider;
+use stop_handlers::{Decider, Handler};
 
 /// The host, the journal, and the host at opening, which clauses alone see. The journal is legal from there, and the host is its
 /// replay.
@@ -42,10 +41,10 @@ fn answered<F: Decider + Send + Drop>(
     host: &mut Host<F>,
     alloc: Global,
     user: Uid,
-    step: Step<F>,
+    step: Step<Handler<F>>,
 ) -> Option<(Reply, Reply)>
     ensures made { IfSome result (λ r. (is_memory r.0 ≡ false) × (r.1 ≡ r.0)
-        × (r.0 ≡ reply_of user (plain step) host.old) × (host.new ≡ host_after user (plain step) host.old)) }
+        × (r.0 ≡ reply_of user step host.old) × (host.new ≡ host_after user step host.old)) }
     ensures memory { IfNone result (host.new ≡ host.old) }
 {
     host.kept();
@@ -61,10 +60,16 @@ fn answered<F: Decider + Send + Drop>(
 
 impl<F: Decider + Send + Drop> Home<F> {
     /// Makes a step, and adds it to the journal. Where memory runs out all is as before.
-    pub(crate) fn make(&mut self, alloc: Global, user: Uid, session: usize, step: Step<F>) -> Reply
+    pub(crate) fn make(
+        &mut self,
+        alloc: Global,
+        user: Uid,
+        session: usize,
+        step: Step<Handler<F>>,
+    ) -> Reply
         ensures made { is_memory result ≡ false →
-            (result ≡ reply_of user (plain step) (replay self.old.start self.old.log))
-            × (self.new ≡ kept self.old.start (self.old.log ++ entry user session (plain step) result ∷ [])) }
+            (result ≡ reply_of user step (replay self.old.start self.old.log))
+            × (self.new ≡ kept self.old.start (self.old.log ++ entry user session step result ∷ [])) }
         ensures legal { IsLegal self.new.start self.new.log }
         ensures memory { is_memory result ≡ true → self.new ≡ self.old }
     {

@@ -2,7 +2,6 @@
 
 ghost use Rattle.std.specs.Prelude.{◌≡◌, ℕ, ◌+◌, ◌<◌, ◌≤◌, [], ◌∷◌, ◌++◌, List, length, true, false, IfOk, IfErr, OnOk, All, vec_len, reverse, MatchResult, IsErr, ◌↔◌};
 ghost use Rattle.requests.specs.Isolation.{Users};
-ghost use Rattle.requests.specs.Plain.{plain};
 ghost use Rattle.host_lock.specs.Answers.{Calls, RefusesFor, GivesBack};
 ghost use Rattle.host_lock.specs.Journal.{asked, IsLegal, replay, StartsWith};
 ghost use Rattle.host_lock.specs.Kept.{kept};
@@ -25,7 +24,7 @@ use std::mem;
 use std::snapshot::Snapshot;
 use std::sync::Wait;
 use std::sync::atomic::AtomicU64;
-use stop_handlers::Decider;
+use stop_handlers::{Decider, Handler};
 
 /// A host that sessions share, each in a thread of its own if it likes. Contracts see which host it is, what it was at opening, and how
 /// many sessions were opened.
@@ -140,10 +139,10 @@ impl<F: Decider + Send + Drop> SharedHost<F> {
         rt: &R,
         alloc: Global,
         session: &mut Session,
-        step: Step<F>,
+        step: Step<Handler<F>>,
     ) -> Answer
         requires { IsOf self.now session.old }
-        ensures call { Calls session.old (plain step) result session.new }
+        ensures call { Calls session.old step result session.new }
         ensures same { IsSame session.old session.new }
         ensures told { IsTrue session.new }
     {

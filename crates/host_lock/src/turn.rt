@@ -3,7 +3,6 @@ ghost use Rattle.std.specs.Prelude.{◌≡◌, ℕ, ◌+◌, ◌-◌, ◌*◌, �
 ghost use Rattle.host_lock.specs.Views.{Idle, Waiting, Holding, Counted};
 ghost use Rattle.host_lock.specs.declared.view.Slot.TheVariants.{There, Away};
 ghost use Rattle.host_lock.specs.Kept.{kept};
-ghost use Rattle.requests.specs.Plain.{plain};
 ghost use Rattle.host_lock.specs.Journal.{StartsWith, entries_of};
 ghost use Rattle.host_lock.specs.Rule.{posed, start_of, seen_of, mine_of, TakesSlot, IsBoard, HasCounted, HasTurned, IsOut};
 
@@ -17,7 +16,7 @@ use std::sync::Wait;
 use std::sync::atomic::AtomicU64;
 use std::thread;
 use std::time::Duration;
-use stop_handlers::Decider;
+use stop_handlers::{Decider, Handler};
 
 /// Who is woken: whose turn comes after so many others.
 const NEAR: u64 = 2;
@@ -116,13 +115,13 @@ pub(crate) fn turn<F: Decider + Send + Drop, R: Wait>(
     seat: &mut Place<F>,
     user: Uid,
     number: usize,
-    step: Step<F>,
+    step: Step<Handler<F>>,
 ) -> Reply
     requires table { IsBoard common.now.table_id × (seat.old.table_id ≡ common.now.table_id) }
     requires rests { seat.old.me ≡ (posed (start_of seat.old.me.0) Idle seat.old.me.0.budget (seen_of seat.old.me.0) number (mine_of seat.old.me.0), []) }
     requires room { 0 < seat.old.me.0.budget }
     ensures table { seat.new.table_id ≡ seat.old.table_id }
-    ensures turned { HasTurned seat.old.me.0 user number (plain step) result seat.new.me }
+    ensures turned { HasTurned seat.old.me.0 user number step result seat.new.me }
 {
     let plain = step.plain();
     let ticket = common.fetch_add::<Draw>(seat, 1, 1);

@@ -1,5 +1,5 @@
 -- What a write of links does to what the lists and the table's rows see of a slot.
-use Rattle.std.proofs.Common.{◌≡◌, ◌≢◌, ℕ, ◌<◌, ◌≤◌, Option, Some, None, refl, sym, ap, ◌∙◌, inl, inr, unwrap_or, arith}
+use Rattle.std.proofs.Common.{◌≡◌, ◌≢◌, ℕ, ◌<◌, ◌≤◌, Option, Some, None, refl, sym, ap, ◌∙◌, inl, inr, unwrap_or}
 use Rattle.std.specs.Option.{option_map}
 use Rattle.std.proofs.lemmas.Bool.{cases_eq}
 use Rattle.std.proofs.lemmas.Option.{same_Some}
@@ -10,7 +10,7 @@ use Rattle.proc_table.specs.declared.links.Links.{Links}
 use Rattle.proc_table.specs.declared.links.Slot.{Slot}
 use Rattle.proc_table.specs.Links.{Node, IsLinked, IsPlace, with_link}
 use Rattle.proc_table.specs.Lanes.{links_in, put_links, other, lane, lanes, rows_of}
-use Rattle.proc_table.proofs.Linked.{next_at, key_node, IsLinked-joined, IsLinked-left}
+use Rattle.proc_table.proofs.Linked.{IsLinked-joined, IsLinked-left}
 
 put-row : (kin : Kin) (l : Links) (slot : Slot) → (put_links kin l slot).row ≡ slot.row
 put-row Tracees l slot = refl
@@ -75,28 +75,6 @@ row_slot f s row there = by (f s) refl
     by : (o : Option Slot) → f s ≡ o → (slot : Slot) × (f s ≡ Some slot) × (slot.row ≡ row)
     by None is = absurd (cc (sym (ap (option_map (λ (x : Slot). x.row)) is) ∙ there))
     by (Some slot) is = (slot, is, same_Some slot.row row (sym (ap (option_map (λ (x : Slot). x.row)) is) ∙ there))
-
--- a link leads to a member of the list, further on
-module _ (kin : Kin) (f : ℕ → Option Slot) (linked : IsLinked (lanes kin f)) (head t : ℕ) (at : Option ℕ) (passed : ℕ) (link : Option ℕ) (place : IsPlace (lanes kin f) head t at passed link)
-    (s : ℕ) (on : link ≡ Some s) where
-  pub member : (slot : Slot) × (f s ≡ Some slot) × (passed < slot.row.pid) × ((lane kin slot).chief ≡ Some t)
-  member =
-      let next = rw on at (next_at (lanes kin f) linked (unwrap_or at head) t passed at link place.node place.there place.stands) in
-      let node = key_node (lanes kin f) s next.0 (Some t) next.1 in
-      let slot = slot_at kin f s node.0 node.1 in
-      (slot.0, slot.1, omega (arith, next.2, node.2, ap (λ (n : Node). n.pid) slot.2), ap (λ (n : Node). n.chief) slot.2 ∙ node.3)
-
-  pub further : (slot : Slot) → f s ≡ Some slot → IsPlace (lanes kin f) head t (Some s) slot.row.pid (lane kin slot).next
-  further slot there =
-      let its = member in
-      record {
-        node = lane kin slot;
-        there = ap (option_map (lane kin)) there;
-        stands = (ap (λ (x : Slot). (lane kin x).chief) (same_Some slot its.0 (sym there ∙ its.1)) ∙ its.3, refl, refl);
-      }
-
-  pub past : (slot : Slot) → f s ≡ Some slot → passed < slot.row.pid
-  past slot there = let its = member in omega (arith, its.2, ap (λ (x : Slot). x.row.pid) (same_Some slot its.0 (sym there ∙ its.1)))
 
 -- a row joins a list at a place, or leaves it there: its slot is written after the place's, which may be the same
 module _ (kin : Kin) (f g z : ℕ → Option Slot) (linked : IsLinked (lanes kin f)) (head t q passed : ℕ) (at link fresh : Option ℕ) (was : Slot) (has : f q ≡ Some was)

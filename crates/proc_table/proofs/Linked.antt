@@ -170,9 +170,6 @@ module _ (f g z : ℕ → Option Node) (linked : IsLinked f) (head t q passed : 
   holder : IsHolder (keys f) t passed
   holder = holder_at f (unwrap_or at head) t passed at link place.node place.there place.stands
 
-  pub keys_kept : (s : ℕ) → s ≢ q → keys z s ≡ keys f s
-  keys_kept = keys_z
-
   pub IsLinked-joined : nq.chief ≡ None → new.chief ≡ Some t → new.next ≡ link → fresh ≡ Some q → IsLinked z
   IsLinked-joined free traced linked_on pointed =
       let was : keys f q ≡ Some (nq.pid, None) = ap (option_map key_of) has_q ∙ ap (λ u. Some (nq.pid, u)) free in

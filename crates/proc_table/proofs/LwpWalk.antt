@@ -8,6 +8,7 @@ use Rattle.lwp_table.specs.Lwps.{LacksLwp, Differ, first_lwp, next_lwp, lwp_of, 
 use Rattle.proc_table.specs.Rows.{Rows}
 use Rattle.proc_table.specs.Edits.{own_lwp, map_lwps}
 use Rattle.proc_table.specs.Kept.{IsKept, set_lwp}
+use Rattle.lwp_table.proofs.Numbered.{map-lacks}
 use Rattle.proc_table.proofs.Lwps.{LacksLwp-map, Differ-with_lwp, put_lwp-tid}
 use Rattle.proc_table.proofs.Rows.{same_number, other_number, lwp_of-map}
 
@@ -86,10 +87,7 @@ left-within (Some k) ls = within k.tid ls
     ]
 
 pub unput : (new : LwpData) (ls : List LwpData) → LacksLwp new.tid ls → with_lwp new ls ≡ ls
-unput new [] lacks = refl
-unput new (l ∷ ls) lacks =
-    let other : nat_eq l.tid new.tid ≡ false = other_number l.tid new.tid lacks.0 in
-    rw (other, unput new ls lacks.1) refl
+unput new ls lacks = map-lacks (λ (l : LwpData). l.tid) (λ l. new) new.tid ls lacks
 
 module _ (pid : ℕ) (f : LwpData → LwpData) (keeps : (l : LwpData) → (f l).tid ≡ l.tid) where
   abbrev mine : LwpData → LwpData
@@ -181,9 +179,6 @@ module _ (pid : ℕ) (f : LwpData → LwpData) (keeps : (l : LwpData) → (f l).
 
 -- what each turn of a walk asks
 module _ (pid : ℕ) (f : LwpData → LwpData) (keeps : (l : LwpData) → (f l).tid ≡ l.tid) (owns : (l : LwpData) → (f l).pid ≡ l.pid) (was : Rows) where
-  pub walking-lwp : (o : Option LwpData) (k : LwpData) (rows : Rows) → IsWalking pid f o rows was → o ≡ Some k → IsSomeAnd (lwp_of (f k).tid rows.lwps) (λ l. l.pid ≡ (f k).pid)
-  walking-lwp o k rows w is = let its : IsLwp pid rows.lwps k = rw is at w.found in rw (keeps k, its.at) (sym (owns k))
-
   pub walking-after : (o : Option LwpData) (k : LwpData) (rows rows' : Rows) → IsWalking pid f o rows was → o ≡ Some k → rows' ≡ set_lwp (f k) rows → IsSomeAnd (lwp_of k.tid rows'.lwps) (λ l. l.pid ≡ pid)
   walking-after o k rows rows' w is e =
       let its : IsLwp pid rows.lwps k = rw is at w.found in

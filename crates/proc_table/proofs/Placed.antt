@@ -10,7 +10,7 @@ use Rattle.proc_table.specs.Processes.{placed, process_of}
 use Rattle.proc_table.specs.Kept.{AllAbove, Rise}
 use Rattle.proc_table.proofs.Every.{every_append, every_filter}
 use Rattle.proc_table.proofs.Rows.{same_number, other_number}
-use Rattle.proc_table.proofs.Rising.{Lacks, AllAbove-append, AllAbove-filter, AllAbove-lower as lower}
+use Rattle.proc_table.proofs.Rising.{Lacks, AllAbove-lower as lower}
 
 abbrev pub below : ℕ → ProcData → Bool
 below n q = ltb q.pid n
@@ -91,15 +91,10 @@ every_placed P p ps new all =
     (new, every_filter P P (above p.pid) (λ q e h. h) ps all)
 
 -- numbers rise with a new one at its place
-AllAbove-placed : (n : ℕ) (p : ProcData) → n < p.pid → (ps : List ProcData) → AllAbove n ps → AllAbove n (placed p ps)
-AllAbove-placed n p less [] a = (less, tt)
-AllAbove-placed n p less (q ∷ qs) a =
-    AllAbove-append n (filter (below p.pid) (q ∷ qs)) (p ∷ filter (above p.pid) (q ∷ qs)) (AllAbove-filter (below p.pid) n (q ∷ qs) a) (less, AllAbove-filter (above p.pid) n (q ∷ qs) a)
-
 pub Rise-placed : (p : ProcData) (ps : List ProcData) → Rise ps → Lacks p.pid ps → Rise (placed p ps)
 Rise-placed p [] r l = (tt, tt)
 Rise-placed p (q ∷ qs) r l = elim (cases_Bool (ltb q.pid p.pid)) [
-  | inl e ↦ let less : q.pid < p.pid = grind (arith, nat_tests) in rw (placed-later p q qs less) (AllAbove-placed q.pid p less qs r.0, Rise-placed p qs r.1 l.1)
+  | inl e ↦ let less : q.pid < p.pid = grind (arith, nat_tests) in rw (placed-later p q qs less) (every_placed (λ r. q.pid < r.pid) p qs less r.0, Rise-placed p qs r.1 l.1)
   | inr e ↦
       let differ : q.pid ≢ p.pid = l.0 in
       let least : p.pid ≤ q.pid = grind (arith, nat_tests) in

@@ -1,18 +1,17 @@
 -- What edits of rows ask, and rows that are found after changes that keep numbers.
-use Rattle.std.proofs.Common.{◌≡◌, ◌∙◌, ℕ, true, refl, ap, inl, inr, nat_eq, Option, Some, None, IsSome, is_some}
-use Rattle.std.specs.Prelude.{option_map, IsSomeAnd}
+use Rattle.std.proofs.Common.{◌≡◌, ◌∙◌, ℕ, refl, inl, inr, nat_eq, Some, None, IsSome}
+use Rattle.std.specs.Prelude.{IsSomeAnd}
 use Rattle.std.proofs.lemmas.Bool.{cases_Bool}
 use Rattle.lwp_table.specs.declared.LwpData.{LwpData}
-use Rattle.lwp_table.specs.Lwps.{lwp_of, put_lwp}
+use Rattle.lwp_table.specs.Lwps.{lwp_of}
 use Rattle.proc_table.specs.declared.ProcData.{ProcData}
 use Rattle.proc_table.specs.Processes.{process_of}
 use Rattle.proc_table.specs.Rows.{Rows}
-use Rattle.proc_table.specs.Edits.{own_lwp, map_lwps}
-use Rattle.proc_table.specs.Kept.{IsKept, Named, set_process, set_lwp}
+use Rattle.proc_table.specs.Edits.{own_lwp}
+use Rattle.proc_table.specs.Kept.{IsKept, Named, set_process}
 use Rattle.proc_table.proofs.Every.{every_found}
 use Rattle.proc_table.proofs.Finds.{find-set}
-use Rattle.proc_table.proofs.Rows.{same_number, lwp_of-tid, process_of-map, lwp_of-map, put_process-pid}
-use Rattle.proc_table.proofs.Lwps.{put_lwp-tid}
+use Rattle.proc_table.proofs.Rows.{same_number}
 use Rattle.proc_table.proofs.Changes.{changed, changed_lwp}
 
 pub changed-pid : (n : ℕ) (f : ProcData → ProcData) → ((p : ProcData) → (f p).pid ≡ p.pid) → (p : ProcData) → (changed n f p).pid ≡ p.pid
@@ -25,29 +24,9 @@ module _ (view : LwpData → ℕ) (f : LwpData → LwpData) (same : (l : LwpData
   pub own_lwp-keeps : (n : ℕ) (l : LwpData) → view (own_lwp n f l) ≡ view l
   own_lwp-keeps n l = elim (cases_Bool (nat_eq l.pid n)) [ inl e ↦ rw e (same l) | inr e ↦ rw e refl ]
 
-pub mapped : {A : Type 0} (f : A → A) (o r : Option A) → r ≡ option_map f o → IsSome o → IsSome r
-mapped f None r e h = absurd (cc)
-mapped f (Some a) r e h = ap is_some e
-
--- a process and an LWP are still found
-module _ (rows : Rows) (n : ℕ) where
-  pub process_there-set : (new : ProcData) → IsSome (process_of n rows.processes) → IsSome (process_of n (set_process new rows).processes)
-  process_there-set new there = mapped _ _ _ (process_of-map _ (put_process-pid new) n rows.processes) there
-
-  pub lwp_there-set : (new : LwpData) → IsSome (lwp_of n rows.lwps) → IsSome (lwp_of n (set_lwp new rows).lwps)
-  lwp_there-set new there = mapped _ _ _ (lwp_of-map _ (put_lwp-tid new) n rows.lwps) there
-
-  pub lwp_there-map : (pid : ℕ) (f : LwpData → LwpData) → ((l : LwpData) → (f l).tid ≡ l.tid) → IsSome (lwp_of n rows.lwps) → IsSome (lwp_of n (map_lwps pid f rows).lwps)
-  lwp_there-map pid f same there = mapped _ _ _ (lwp_of-map _ (own_lwp-keeps (λ l. l.tid) f same pid) n rows.lwps) there
-
 -- the new row is found by its number
 pub process-set : (new : ProcData) (rows : Rows) → IsSome (process_of new.pid rows.processes) → process_of new.pid (set_process new rows).processes ≡ Some new
 process-set new rows there = find-set new rows.processes there new.pid ∙ rw (same_number new.pid) refl
-
-pub lwp-set : (new l : LwpData) (rows : Rows) → lwp_of new.tid rows.lwps ≡ Some l → lwp_of new.tid (set_lwp new rows).lwps ≡ Some new
-lwp-set new l rows at =
-    let same : nat_eq l.tid new.tid ≡ true = rw (lwp_of-tid new.tid l rows.lwps at) (same_number new.tid) in
-    lwp_of-map (put_lwp new) (put_lwp-tid new) new.tid rows.lwps ∙ (ap (option_map (put_lwp new)) at ∙ rw same refl)
 
 -- what an edit of the row of a process asks
 module _ (rows : Rows) (p new : ProcData) (at : process_of new.pid rows.processes ≡ Some p) where

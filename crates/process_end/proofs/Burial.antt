@@ -16,7 +16,7 @@ use Rattle.process_end.specs.Laws.{end_alone}
 use Rattle.process_end.specs.Leaving.{LeavingRow, LeavingLwp, IsLeaving}
 use Rattle.trace_stop.proofs.Every.{All-imply, All-both, find_some, none_of}
 use Rattle.trace_stop.proofs.Passes.{passes, any_same, filter_map_same}
-use Rattle.trace_stop.proofs.Stopping.{the_row}
+use Rattle.trace_stop.proofs.Numbers.{the_row}
 use Rattle.process_end.proofs.Turned.{told_row, told_lwp, told_lwp-miss, turned, turned_lwp, moved, is_gone, gone-true, gone-false, told-miss, turned-dead, turned-safe, turned-fallen, turned_lwp-safe}
 use Rattle.process_end.proofs.Twice.{alone, Told, told_lwp-moved}
 use Rattle.process_end.proofs.Tells.{tells, tells-value, told_by, parent_after}

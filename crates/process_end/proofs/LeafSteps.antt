@@ -13,7 +13,7 @@ use Rattle.process_end.specs.Laws.{end_alone}
 use Rattle.process_end.specs.Leaving.{LeavingRow, IsLeaving}
 use Rattle.trace_stop.proofs.Every.{choose, and_right, All-imply, All-both, find_some}
 use Rattle.trace_stop.proofs.Passes.{passes, KeepsNumbers}
-use Rattle.trace_stop.proofs.Stopping.{the_row}
+use Rattle.trace_stop.proofs.Numbers.{the_row}
 use Rattle.process_end.proofs.Turned.{turned, turned_lwp, is_gone, gone-true, turned-dead}
 use Rattle.process_end.proofs.Twice.{alone, Told}
 use Rattle.process_end.proofs.Tells.{tells, told_by, tells_any, parent_after}

@@ -13,7 +13,7 @@ use Rattle.process_end.specs.Laws.{end_alone}
 use Rattle.process_end.specs.Leaving.{LeavingRow, LeavingLwp, IsLeaving}
 use Rattle.trace_stop.proofs.Every.{choose, All-imply, All-both, find_some}
 use Rattle.trace_stop.proofs.Passes.{passes, any_or}
-use Rattle.trace_stop.proofs.Stopping.{the_row}
+use Rattle.trace_stop.proofs.Numbers.{the_row}
 use Rattle.process_end.proofs.Turned.{heard, heard_lwp, told_row, told_lwp, turned, turned_lwp, moved, told-miss, turned-dead, turned-safe, turned-fallen, turned_lwp-safe, turned_lwp-fallen}
 use Rattle.process_end.proofs.Twice.{alone, Told, told-live, told-pid, moved-pid, told_twice, told_lwp-moved, told_lwp-told, released-told, released_told, told_lwp_twice}
 use Rattle.process_end.proofs.Tells.{tells, told_by, parent_after}

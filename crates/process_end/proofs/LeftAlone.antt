@@ -21,7 +21,7 @@ use Rattle.trace_stop.specs.Sound.{is_live_at}
 use Rattle.process_end.specs.Descent.{spares, lost_signals, IsLiveTracee}
 use Rattle.trace_stop.proofs.Every.{All-imply, All-any, any_forward, none_of}
 use Rattle.trace_stop.proofs.Passes.{passes, each_same, each_twice}
-use Rattle.trace_stop.proofs.Stopping.{the_row}
+use Rattle.trace_stop.proofs.Numbers.{the_row}
 use Rattle.process_end.proofs.Leaving.{lwps_same}
 use Rattle.trace_stop.proofs.Found.{any_by_number}
 use Rattle.process_end.proofs.Unnamed.{one_fewer}

@@ -26,7 +26,7 @@ use Rattle.trace_stop.proofs.Passes.{passes, own_rows, filter_map_same, filter_m
 use Rattle.trace_stop.proofs.FromSound.{none_is}
 use Rattle.trace_stop.proofs.Children.{child_test, child_from}
 use Rattle.trace_stop.proofs.Edited.{some_is}
-use Rattle.trace_stop.proofs.Stopping.{the_row}
+use Rattle.trace_stop.proofs.Numbers.{the_row}
 use Rattle.process_end.proofs.Turned.{turned, turned_lwp, told_lwp, moved, turned_lwp-safe, turned_lwp-fallen}
 use Rattle.process_end.proofs.Twice.{alone}
 use Rattle.process_end.proofs.LeafFirst.{told, told-is}

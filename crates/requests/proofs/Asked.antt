@@ -80,10 +80,10 @@ reporting_own rows p tid s at told =
     subst (λ n. IsSomeAnd (lwp_of n rows.lwps) (λ l. l.pid ≡ p.pid)) number (rw stop.named stop.own)
 
 -- a request about a tracee of the caller, in a stop that it was told of
-pub asks_tracee : (settings : Settings) (u : ℕ) (caller : ProcData) (r : Request) (target arg : ℕ) (rows : Rows) (p : ProcData) (tid : ℕ)
+pub asks_tracee : (settings : Settings) (u : ℕ) (caller : ProcData) (r : Request) (target «data» : ℕ) (rows : Rows) (p : ProcData) (tid : ℕ)
     → is_trace_me r ≡ false → target_of u target rows ≡ Some p → is_live p ≡ true → is_attach r ≡ false → is_some p.tracer ≡ true → traces caller.pid p ≡ true → told_stop p.state ≡ Some tid
-    → ptrace settings u caller r target arg rows ≡ command settings r arg (if leb target 99999 then tid else target) p rows
-asks_tracee settings u caller r target arg rows p tid me at live new traced mine told = rw (me, at, live, new, traced, mine, told) refl
+    → ptrace settings u caller r target «data» rows ≡ command settings r «data» (if leb target 99999 then tid else target) p rows
+asks_tracee settings u caller r target «data» rows p tid me at live new traced mine told = rw (me, at, live, new, traced, mine, told) refl
 
 -- a process that a number finds is found by its own
 pub own_row : (n : ℕ) (ps : List ProcData) (o : Option ProcData) → o ≡ process_of n ps → IfSome o (λ p. process_of p.pid ps ≡ Some p)

@@ -22,7 +22,7 @@ use Rattle.requests.specs.Calls.{spawn, spawn_with}
 use Rattle.requests.specs.Machine.{Machine, empty, after}
 use Rattle.proc_table.specs.Fresh.{no_rows}
 use Rattle.requests.specs.Sound.{sound}
-use Rattle.requests.specs.declared.PlainStep.TheVariants as op
+use Rattle.requests.specs.declared.step.Step.TheVariants as op
 use Rattle.requests.specs.Step.{step, checked}
 use Rattle.requests.proofs.Room.{ProcessRoom, process_room}
 use Rattle.requests.proofs.After.{rows_sound, after_sound, answers_same}

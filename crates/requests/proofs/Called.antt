@@ -4,7 +4,7 @@ use Rattle.pid_blocks.specs.declared.Errno.TheVariants as errno
 use Rattle.proc_table.specs.declared.ProcData.{ProcData}
 use Rattle.proc_table.specs.Processes.{is_live, is_run}
 use Rattle.proc_table.specs.Seen.{seen_process}
-use Rattle.requests.specs.declared.PlainStep.{PlainStep}
+use Rattle.requests.specs.Plain.{PlainStep}
 use Rattle.requests.specs.declared.Reply.{Reply}
 use Rattle.requests.specs.declared.Reply.TheVariants as reply
 use Rattle.requests.specs.Outcome.{answers}
@@ -18,7 +18,7 @@ use Rattle.trace_stop.specs.Sound.{is_live_at}
 use Rattle.trace_stop.proofs.Every.{and_right, find_some}
 use Rattle.requests.proofs.Living.{live_found, run_live}
 use Rattle.requests.proofs.Replies.{other}
-use Rattle.trace_stop.proofs.Ending.{own_rows}
+use Rattle.trace_stop.proofs.Passes.{own_rows}
 
 refused_otherwise : reply.Errno errno.ESRCH ≢ reply.Errno errno.ENOMEM
 refused_otherwise = other (reply.Errno errno.ESRCH) refl

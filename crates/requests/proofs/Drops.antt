@@ -4,7 +4,7 @@ use Rattle.std.proofs.lemmas.List.{length-map, length-set, get_or-set_same, get_
 use Rattle.pid_blocks.specs.Users.{IsUser}
 use Rattle.pid_blocks.specs.Blocks.{slot, users}
 use Rattle.proc_table.specs.Rows.{Rows}
-use Rattle.requests.specs.declared.PlainStep.{PlainStep}
+use Rattle.requests.specs.Plain.{PlainStep}
 use Rattle.requests.specs.Outcome.{Outcome}
 use Rattle.requests.specs.Machine.{Installed, Machine, installed_by, is_live_number, after}
 use Rattle.requests.specs.Sound.{sound}

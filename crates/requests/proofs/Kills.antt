@@ -19,7 +19,7 @@ use Rattle.trace_stop.proofs.FromSound.{user_at, zip_users}
 use Rattle.trace_stop.proofs.Posts.{post_sound}
 use Rattle.trace_stop.proofs.Stops.{find_passes}
 use Rattle.stop_handlers.specs.declared.Rule.{Rule}
-use Rattle.requests.specs.declared.PlainStep.TheVariants as op
+use Rattle.requests.specs.declared.step.Step.TheVariants as op
 use Rattle.requests.specs.Outcome.{refuses}
 use Rattle.requests.specs.Reach.{is_which, reach, post_if_live, post_all, reached, kill}
 use Rattle.requests.specs.Handle.{install}

@@ -38,8 +38,8 @@ use Rattle.requests.specs.declared.Request.{Request}
 use Rattle.requests.specs.declared.Request.TheVariants as request
 use Rattle.requests.specs.declared.Act.{Act}
 use Rattle.requests.specs.declared.Act.TheVariants as act
-use Rattle.requests.specs.declared.PlainStep.{PlainStep}
-use Rattle.requests.specs.declared.PlainStep.TheVariants as op
+use Rattle.requests.specs.Plain.{PlainStep}
+use Rattle.requests.specs.declared.step.Step.TheVariants as op
 use Rattle.requests.specs.declared.Reply.{Reply}
 use Rattle.requests.specs.declared.Reply.TheVariants as reply
 use Rattle.requests.specs.Outcome.{Outcome, answers, refuses, stops_with, stops_or, trap}
@@ -172,42 +172,42 @@ info_fair : (o : Option LwpInfo) (rows : Rows) → Fair rows (shows_info o rows)
 info_fair None rows = left rows (reply.Errno ESRCH) refl
 info_fair (Some i) rows = left rows (reply.Info i) refl
 
-does_fair : (settings : Settings) (r : Request) (arg tid : ℕ) (p : ProcData) (rows : Rows) → Fair rows (does settings r arg tid p rows)
-does_fair settings request.TraceMe arg tid p rows = left rows (reply.Errno EINVAL) refl
-does_fair settings request.Attach arg tid p rows = left rows (reply.Errno EBUSY) refl
-does_fair settings request.Continue arg tid p rows = done rows _ _ refl refl
-does_fair settings request.Step arg tid p rows = done rows _ _ refl refl
-does_fair settings request.Suspend arg tid p rows = done rows _ _ refl refl
-does_fair settings request.Resume arg tid p rows = done rows _ _ refl refl
-does_fair settings request.Detach arg tid p rows = done rows _ _ refl refl
-does_fair settings request.Kill arg tid p rows = done rows _ _ refl refl
-does_fair settings request.SetEventMask arg tid p rows = done rows _ _ refl refl
-does_fair settings request.GetEventMask arg tid p rows = done rows _ _ refl refl
-does_fair settings request.GetLwpInfo arg tid p rows = info_fair (info p tid rows) rows
-does_fair settings request.GetNumLwps arg tid p rows = done rows _ _ refl refl
-does_fair settings request.GetLwpList arg tid p rows = left rows _ refl
-does_fair settings request.ToSce arg tid p rows = done rows _ _ refl refl
-does_fair settings request.ToScx arg tid p rows = done rows _ _ refl refl
-does_fair settings request.Syscall arg tid p rows = done rows _ _ refl refl
-does_fair settings request.FollowFork arg tid p rows = done rows _ _ refl refl
-does_fair settings request.LwpEvents arg tid p rows = done rows _ _ refl refl
+does_fair : (settings : Settings) (r : Request) («data» tid : ℕ) (p : ProcData) (rows : Rows) → Fair rows (does settings r «data» tid p rows)
+does_fair settings request.TraceMe «data» tid p rows = left rows (reply.Errno EINVAL) refl
+does_fair settings request.Attach «data» tid p rows = left rows (reply.Errno EBUSY) refl
+does_fair settings request.Continue «data» tid p rows = done rows _ _ refl refl
+does_fair settings request.Step «data» tid p rows = done rows _ _ refl refl
+does_fair settings request.Suspend «data» tid p rows = done rows _ _ refl refl
+does_fair settings request.Resume «data» tid p rows = done rows _ _ refl refl
+does_fair settings request.Detach «data» tid p rows = done rows _ _ refl refl
+does_fair settings request.Kill «data» tid p rows = done rows _ _ refl refl
+does_fair settings request.SetEventMask «data» tid p rows = done rows _ _ refl refl
+does_fair settings request.GetEventMask «data» tid p rows = done rows _ _ refl refl
+does_fair settings request.LwpInfo «data» tid p rows = info_fair (info p tid rows) rows
+does_fair settings request.GetNumLwps «data» tid p rows = done rows _ _ refl refl
+does_fair settings request.GetLwpList «data» tid p rows = left rows _ refl
+does_fair settings request.ToSce «data» tid p rows = done rows _ _ refl refl
+does_fair settings request.ToScx «data» tid p rows = done rows _ _ refl refl
+does_fair settings request.Syscall «data» tid p rows = done rows _ _ refl refl
+does_fair settings request.FollowFork «data» tid p rows = done rows _ _ refl refl
+does_fair settings request.LwpEvents «data» tid p rows = done rows _ _ refl refl
 
-stopped_fair : (settings : Settings) (r : Request) (target arg : ℕ) (p : ProcData) (rows : Rows) (o : Option ℕ) → Fair rows (commands_stopped settings r target arg p rows o)
-stopped_fair settings r target arg p rows None = left rows (reply.Errno EBUSY) refl
-stopped_fair settings r target arg p rows (Some tid) =
-    choose (bad_argument r arg) _ _ (Fair rows) (left rows (reply.Errno EINVAL) refl) (does_fair settings r arg (if leb target 99999 then tid else target) p rows)
+stopped_fair : (settings : Settings) (r : Request) (target «data» : ℕ) (p : ProcData) (rows : Rows) (o : Option ℕ) → Fair rows (commands_stopped settings r target «data» p rows o)
+stopped_fair settings r target «data» p rows None = left rows (reply.Errno EBUSY) refl
+stopped_fair settings r target «data» p rows (Some tid) =
+    choose (bad_argument r «data») _ _ (Fair rows) (left rows (reply.Errno EINVAL) refl) (does_fair settings r «data» (if leb target 99999 then tid else target) p rows)
 
-commands_fair : (settings : Settings) (caller : ProcData) (r : Request) (target arg : ℕ) (p : ProcData) (rows : Rows) → Fair rows (commands settings caller r target arg p rows)
-commands_fair settings caller r target arg p rows = choose (not (is_some p.tracer)) _ _ (Fair rows) (left rows (reply.Errno EPERM) refl)
-    (choose (not (traces caller.pid p)) _ _ (Fair rows) (left rows (reply.Errno EBUSY) refl) (stopped_fair settings r target arg p rows (told_stop p.state)))
+commands_fair : (settings : Settings) (caller : ProcData) (r : Request) (target «data» : ℕ) (p : ProcData) (rows : Rows) → Fair rows (commands settings caller r target «data» p rows)
+commands_fair settings caller r target «data» p rows = choose (not (is_some p.tracer)) _ _ (Fair rows) (left rows (reply.Errno EPERM) refl)
+    (choose (not (traces caller.pid p)) _ _ (Fair rows) (left rows (reply.Errno EBUSY) refl) (stopped_fair settings r target «data» p rows (told_stop p.state)))
 
-about_fair : (settings : Settings) (caller : ProcData) (r : Request) (target arg : ℕ) (o : Option ProcData) (rows : Rows) → Fair rows (about settings caller r target arg o rows)
-about_fair settings caller r target arg None rows = left rows (reply.Errno ESRCH) refl
-about_fair settings caller r target arg (Some p) rows = choose (not (is_live p)) _ _ (Fair rows) (left rows (reply.Errno ESRCH) refl)
-    (choose (is_attach r) _ _ (Fair rows) (attach_fair caller p rows) (commands_fair settings caller r target arg p rows))
+about_fair : (settings : Settings) (caller : ProcData) (r : Request) (target «data» : ℕ) (o : Option ProcData) (rows : Rows) → Fair rows (about settings caller r target «data» o rows)
+about_fair settings caller r target «data» None rows = left rows (reply.Errno ESRCH) refl
+about_fair settings caller r target «data» (Some p) rows = choose (not (is_live p)) _ _ (Fair rows) (left rows (reply.Errno ESRCH) refl)
+    (choose (is_attach r) _ _ (Fair rows) (attach_fair caller p rows) (commands_fair settings caller r target «data» p rows))
 
-ptrace_fair : (settings : Settings) (u : ℕ) (caller : ProcData) (r : Request) (target arg : ℕ) (rows : Rows) → Fair rows (ptrace settings u caller r target arg rows)
-ptrace_fair settings u caller r target arg rows = choose (is_trace_me r) _ _ (Fair rows) (trace_me_fair caller rows) (about_fair settings caller r target arg (target_of u target rows) rows)
+ptrace_fair : (settings : Settings) (u : ℕ) (caller : ProcData) (r : Request) (target «data» : ℕ) (rows : Rows) → Fair rows (ptrace settings u caller r target «data» rows)
+ptrace_fair settings u caller r target «data» rows = choose (is_trace_me r) _ _ (Fair rows) (trace_me_fair caller rows) (about_fair settings caller r target «data» (target_of u target rows) rows)
 
 -- The other calls
 
@@ -279,7 +279,7 @@ calls_fair u (op.Wait4 caller which options) p m = hosted m (wait p which option
 calls_fair u (op.Install caller policy) p m = install_fair u p policy m
 calls_fair u (op.Handle caller) p m = hosted m (handle u p m) (handles_fair m.settings (policies_of u p m) m.rows (rows_after p.pid (negsuc 0) no_options m.rows)
     (reported p.pid (negsuc 0) no_options m.rows) (collect p.pid (negsuc 0) no_options m.rows))
-calls_fair u (op.Ptrace caller r target arg) p m = hosted m (ptrace m.settings u p r target arg m.rows) (ptrace_fair m.settings u p r target arg m.rows)
+calls_fair u (op.Ptrace caller r target «data») p m = hosted m (ptrace m.settings u p r target «data» m.rows) (ptrace_fair m.settings u p r target «data» m.rows)
 calls_fair u (op.Turn tid a) p m = hosted m (turn m.settings u tid a m.rows) (turn_fair m.settings u tid a m.rows)
 
 checked_fair : (u : ℕ) (s : PlainStep) (o : Option ProcData) (m : Machine) → FairStep m (checked u s o m)
@@ -295,7 +295,7 @@ step_fair u (op.Kill n which s) m = checked_fair u (op.Kill n which s) (seen_pro
 step_fair u (op.Wait4 n which options) m = checked_fair u (op.Wait4 n which options) (seen_process u n m.rows) m
 step_fair u (op.Install n policy) m = checked_fair u (op.Install n policy) (seen_process u n m.rows) m
 step_fair u (op.Handle n) m = checked_fair u (op.Handle n) (seen_process u n m.rows) m
-step_fair u (op.Ptrace n r target arg) m = checked_fair u (op.Ptrace n r target arg) (seen_process u n m.rows) m
+step_fair u (op.Ptrace n r target «data») m = checked_fair u (op.Ptrace n r target «data») (seen_process u n m.rows) m
 step_fair u (op.Turn tid a) m = hosted m (turn m.settings u tid a m.rows) (turn_fair m.settings u tid a m.rows)
 
 pub refused_same : RefusedSame

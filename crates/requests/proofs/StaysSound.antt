@@ -1,6 +1,6 @@
 -- Every step keeps a host sound.
 use Rattle.std.proofs.Common.{[], ◌∷◌}
-use Rattle.requests.specs.declared.PlainStep.TheVariants as op
+use Rattle.requests.specs.declared.step.Step.TheVariants as op
 use Rattle.requests.specs.Laws.{SoundKept, SoundRuns}
 use Rattle.requests.specs.Step.{step}
 use Rattle.requests.proofs.Born.{spawn_sound, list_sound}
@@ -18,7 +18,7 @@ sound_kept u user (op.Kill caller which s) fits m is = kill_sound m u caller whi
 sound_kept u user (op.Wait4 caller which options) fits m is = wait_sound m u caller which options is
 sound_kept u user (op.Install caller policy) fits m is = install_sound m u caller policy user is
 sound_kept u user (op.Handle caller) fits m is = handle_sound m u caller is
-sound_kept u user (op.Ptrace caller r target arg) fits m is = ptrace_sound m u caller r target arg is
+sound_kept u user (op.Ptrace caller r target «data») fits m is = ptrace_sound m u caller r target «data» is
 sound_kept u user (op.Turn tid a) fits m is = turn_sound m u tid a fits is
 
 pub sound_runs : SoundRuns

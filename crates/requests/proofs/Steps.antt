@@ -10,13 +10,13 @@ use Rattle.proc_table.specs.Seen.{seen_process}
 use Rattle.trace_stop.specs.Facts.{IsSound}
 use Rattle.trace_stop.proofs.Every.{and_right, All-filter, find_some}
 use Rattle.trace_stop.proofs.Settling.{disposed_sound}
-use Rattle.trace_stop.proofs.Ending.{own_rows}
+use Rattle.trace_stop.proofs.Passes.{own_rows}
 use Rattle.wait4.specs.declared.Options.{Options}
 use Rattle.wait4.specs.Collect.{reportable, candidates, is_child, fits, reported, rows_after, without_report}
 use Rattle.requests.specs.declared.Reply.{Reply}
 use Rattle.requests.specs.declared.Reply.TheVariants as reply
-use Rattle.requests.specs.declared.PlainStep.{PlainStep}
-use Rattle.requests.specs.declared.PlainStep.TheVariants as op
+use Rattle.requests.specs.Plain.{PlainStep}
+use Rattle.requests.specs.declared.step.Step.TheVariants as op
 use Rattle.requests.specs.Outcome.{answers, refuses}
 use Rattle.requests.specs.Calls.{sigaction, is_default, wait}
 use Rattle.requests.specs.Reach.{is_which}

@@ -19,14 +19,14 @@ use Rattle.trace_stop.specs.Facts.{IsLiveOf, Linked, IsSound}
 use Rattle.trace_stop.proofs.Every.{and_left, and_right, both, All-any, find_some, choose}
 use Rattle.trace_stop.proofs.Edited.{some_is, if_at}
 use Rattle.trace_stop.proofs.Changed.{found_number}
-use Rattle.trace_stop.proofs.Stopping.{one_row, own_lwps}
+use Rattle.trace_stop.proofs.Numbers.{one_row, own_lwps}
 use Rattle.trace_stop.proofs.Stops.{find_passes}
 use Rattle.trace_stop.proofs.Posts.{detach_sound}
 use Rattle.lwpinfo.specs.declared.LwpInfo.{LwpInfo}
 use Rattle.lwpinfo.specs.Info.{info}
 use Rattle.requests.specs.declared.Request.{Request}
 use Rattle.requests.specs.declared.Request.TheVariants as request
-use Rattle.requests.specs.declared.PlainStep.TheVariants as op
+use Rattle.requests.specs.declared.step.Step.TheVariants as op
 use Rattle.requests.specs.Outcome.{Outcome, refuses}
 use Rattle.requests.specs.Ptrace.{attach, told_stop, bad_argument, stepping, switched, shows_info, does, commands_stopped, commands, is_attach, about, process_by, target_of, is_trace_me, ptrace}
 use Rattle.requests.specs.Machine.{Machine}
@@ -93,27 +93,27 @@ info_sound : (o : Option LwpInfo) (rows : Rows) → IsSound rows → IsSound (sh
 info_sound None rows s = s
 info_sound (Some i) rows s = s
 
-pub does_sound : (settings : Settings) (r : Request) (arg tid : ℕ) (p : ProcData) (rows : Rows) → Tracee rows p → OwnLwp rows p tid → IsSound (does settings r arg tid p rows).rows
-does_sound settings request.TraceMe arg tid p rows t o = t.sound
-does_sound settings request.Attach arg tid p rows t o = t.sound
-does_sound settings request.Continue arg tid p rows t o = continues_sound settings (λ mask. mask) arg rows p t
-does_sound settings request.Step arg tid p rows t o = resumes_sound (stepping p.pid tid rows) p (stepping_tracee rows p tid t o) settings arg
-does_sound settings request.Suspend arg tid p rows t o = suspend_sound rows p t tid o true
-does_sound settings request.Resume arg tid p rows t o = suspend_sound rows p t tid o false
-does_sound settings request.Detach arg tid p rows t o = detach_sound settings rows p.pid p t.sound t.home t.live arg
-does_sound settings request.Kill arg tid p rows t o = resumes_sound rows p t settings SIGKILL
-does_sound settings request.SetEventMask arg tid p rows t o = set_mask_sound rows p t (λ mask. record { 0 = arg })
-does_sound settings request.GetEventMask arg tid p rows t o = t.sound
-does_sound settings request.GetLwpInfo arg tid p rows t o = info_sound (info p tid rows) rows t.sound
-does_sound settings request.GetNumLwps arg tid p rows t o = t.sound
-does_sound settings request.GetLwpList arg tid p rows t o = t.sound
-does_sound settings request.ToSce arg tid p rows t o = continues_sound settings (λ mask. mask_with mask PTRACE_SCE) arg rows p t
-does_sound settings request.ToScx arg tid p rows t o = continues_sound settings (λ mask. mask_with mask PTRACE_SCX) arg rows p t
-does_sound settings request.Syscall arg tid p rows t o = continues_sound settings (λ mask. mask_with (mask_with mask PTRACE_SCE) PTRACE_SCX) arg rows p t
-does_sound settings request.FollowFork arg tid p rows t o = set_mask_sound rows p t (switched PTRACE_FORK arg)
-does_sound settings request.LwpEvents arg tid p rows t o = set_mask_sound rows p t (switched PTRACE_LWP arg)
+pub does_sound : (settings : Settings) (r : Request) («data» tid : ℕ) (p : ProcData) (rows : Rows) → Tracee rows p → OwnLwp rows p tid → IsSound (does settings r «data» tid p rows).rows
+does_sound settings request.TraceMe «data» tid p rows t o = t.sound
+does_sound settings request.Attach «data» tid p rows t o = t.sound
+does_sound settings request.Continue «data» tid p rows t o = continues_sound settings (λ mask. mask) «data» rows p t
+does_sound settings request.Step «data» tid p rows t o = resumes_sound (stepping p.pid tid rows) p (stepping_tracee rows p tid t o) settings «data»
+does_sound settings request.Suspend «data» tid p rows t o = suspend_sound rows p t tid o true
+does_sound settings request.Resume «data» tid p rows t o = suspend_sound rows p t tid o false
+does_sound settings request.Detach «data» tid p rows t o = detach_sound settings rows p.pid p t.sound t.home t.live «data»
+does_sound settings request.Kill «data» tid p rows t o = resumes_sound rows p t settings SIGKILL
+does_sound settings request.SetEventMask «data» tid p rows t o = set_mask_sound rows p t (λ mask. record { 0 = «data» })
+does_sound settings request.GetEventMask «data» tid p rows t o = t.sound
+does_sound settings request.LwpInfo «data» tid p rows t o = info_sound (info p tid rows) rows t.sound
+does_sound settings request.GetNumLwps «data» tid p rows t o = t.sound
+does_sound settings request.GetLwpList «data» tid p rows t o = t.sound
+does_sound settings request.ToSce «data» tid p rows t o = continues_sound settings (λ mask. mask_with mask PTRACE_SCE) «data» rows p t
+does_sound settings request.ToScx «data» tid p rows t o = continues_sound settings (λ mask. mask_with mask PTRACE_SCX) «data» rows p t
+does_sound settings request.Syscall «data» tid p rows t o = continues_sound settings (λ mask. mask_with (mask_with mask PTRACE_SCE) PTRACE_SCX) «data» rows p t
+does_sound settings request.FollowFork «data» tid p rows t o = set_mask_sound rows p t (switched PTRACE_FORK «data»)
+does_sound settings request.LwpEvents «data» tid p rows t o = set_mask_sound rows p t (switched PTRACE_LWP «data»)
 
-module _ (settings : Settings) (u : ℕ) (caller : ProcData) (r : Request) (target arg : ℕ) (rows : Rows) (s : IsSound rows) (c : Caller u rows caller) where
+module _ (settings : Settings) (u : ℕ) (caller : ProcData) (r : Request) (target «data» : ℕ) (rows : Rows) (s : IsSound rows) (c : Caller u rows caller) where
   module _ (m : ℕ) (seen : find_seen u target rows ≡ Some m) (p : ProcData) (at : process_of m rows.processes ≡ Some p) (live : is_live p ≡ true) where
     number : p.pid ≡ m
     number = found_number m rows.processes p at
@@ -132,12 +132,12 @@ module _ (settings : Settings) (u : ℕ) (caller : ProcData) (r : Request) (targ
         by_size true is = named_lwp rows p tid s (if_at (λ n. names_own rows p n ≡ true) (reporting p) tid (told_reports p.state tid told) link.named)
         by_size false is = let l = named_lwp_of u target rows m (seen_lwp u target rows) refl is in record { lwp = l.lwp; there = (seen_lwp_owned u target rows l.lwp s l.seen).0; own = l.own ∙ sym number }
 
-    stopped_sound : is_some p.tracer ≡ true → (o : Option ℕ) → told_stop p.state ≡ o → IsSound (commands_stopped settings r target arg p rows o).rows
+    stopped_sound : is_some p.tracer ≡ true → (o : Option ℕ) → told_stop p.state ≡ o → IsSound (commands_stopped settings r target «data» p rows o).rows
     stopped_sound traced None told = s
-    stopped_sound traced (Some tid) told = choose (bad_argument r arg) _ _ (λ (x : Outcome). IsSound x.rows) (λ e. s)
-        (λ e. does_sound settings r arg (if leb target 99999 then tid else target) p rows (record { sound = s; home = home; live = live; traced = traced }) (target_lwp tid told))
+    stopped_sound traced (Some tid) told = choose (bad_argument r «data») _ _ (λ (x : Outcome). IsSound x.rows) (λ e. s)
+        (λ e. does_sound settings r «data» (if leb target 99999 then tid else target) p rows (record { sound = s; home = home; live = live; traced = traced }) (target_lwp tid told))
 
-    commands_sound : IsSound (commands settings caller r target arg p rows).rows
+    commands_sound : IsSound (commands settings caller r target «data» p rows).rows
     commands_sound = choose (not (is_some p.tracer)) _ _ (λ (x : Outcome). IsSound x.rows) (λ e. s) (λ traced.
         choose (not (traces caller.pid p)) _ _ (λ (x : Outcome). IsSound x.rows) (λ e. s) (λ mine. stopped_sound (not_false (is_some p.tracer) traced) (told_stop p.state) refl))
       where
@@ -148,20 +148,20 @@ module _ (settings : Settings) (u : ℕ) (caller : ProcData) (r : Request) (targ
     tracer : IsLiveOf rows p.uid caller.pid
     tracer = subst (λ v. IsLiveOf rows v caller.pid) (sym (owned_uid u m rows p s (seen_owned u target rows m s seen) at)) (live_caller rows u caller c)
 
-    pub live_sound : IsSound (if is_attach r then attach caller p rows else commands settings caller r target arg p rows).rows
+    pub live_sound : IsSound (if is_attach r then attach caller p rows else commands settings caller r target «data» p rows).rows
     live_sound = choose (is_attach r) _ _ (λ (x : Outcome). IsSound x.rows) (λ e. attach_sound rows caller p s home live tracer) (λ e. commands_sound)
 
-  about_sound : (o : Option ℕ) → find_seen u target rows ≡ o → (q : Option ProcData) → process_by rows o ≡ q → IsSound (about settings caller r target arg q rows).rows
+  about_sound : (o : Option ℕ) → find_seen u target rows ≡ o → (q : Option ProcData) → process_by rows o ≡ q → IsSound (about settings caller r target «data» q rows).rows
   about_sound o seen None at = s
   about_sound None seen (Some p) at = absurd (grind (arith, at))
   about_sound (Some m) seen (Some p) at = by_life (is_live p) refl
     where
-      by_life : (b : Bool) → is_live p ≡ b → IsSound (if not b then refuses ESRCH rows else (if is_attach r then attach caller p rows else commands settings caller r target arg p rows)).rows
+      by_life : (b : Bool) → is_live p ≡ b → IsSound (if not b then refuses ESRCH rows else (if is_attach r then attach caller p rows else commands settings caller r target «data» p rows)).rows
       by_life true live = live_sound m seen p at live
       by_life false live = s
 
-  pub ptrace_rows : IsSound (ptrace settings u caller r target arg rows).rows
+  pub ptrace_rows : IsSound (ptrace settings u caller r target «data» rows).rows
   ptrace_rows = choose (is_trace_me r) _ _ (λ (x : Outcome). IsSound x.rows) (λ e. trace_me_sound rows caller s c.at c.live c.run) (λ e. about_sound (find_seen u target rows) refl (target_of u target rows) refl)
 
-pub ptrace_sound : (m : Machine) (u n : ℕ) (r : Request) (target arg : ℕ) → sound m ≡ true → sound (step u (op.Ptrace n r target arg) m).machine ≡ true
-ptrace_sound m u n r target arg is = checked_sound u (op.Ptrace n r target arg) m n is (λ p c. after_sound m (ptrace m.settings u p r target arg m.rows) is (ptrace_rows m.settings u p r target arg m.rows (rows_sound m is) c))
+pub ptrace_sound : (m : Machine) (u n : ℕ) (r : Request) (target «data» : ℕ) → sound m ≡ true → sound (step u (op.Ptrace n r target «data») m).machine ≡ true
+ptrace_sound m u n r target «data» is = checked_sound u (op.Ptrace n r target «data») m n is (λ p c. after_sound m (ptrace m.settings u p r target «data» m.rows) is (ptrace_rows m.settings u p r target «data» m.rows (rows_sound m is) c))

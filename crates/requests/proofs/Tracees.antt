@@ -10,7 +10,7 @@ use Rattle.proc_table.specs.declared.ProcData.{ProcData}
 use Rattle.proc_table.specs.declared.State.{State}
 use Rattle.proc_table.specs.declared.State.TheVariants.{Run, Trace, Job, Zombie}
 use Rattle.proc_table.specs.Processes.{process_of, named_by, reporting, is_zombie_state}
-use Rattle.proc_table.specs.Rows.{Rows, change_process, change_lwp}
+use Rattle.proc_table.specs.Rows.{Rows, change_process, change_lwp, is_numbered}
 use Rattle.proc_table.specs.Edits.{map_lwps}
 use Rattle.proc_table.specs.Fresh.{lwp_count, lwp_count_of}
 use Rattle.proc_table.specs.Seen.{owns}
@@ -24,8 +24,9 @@ use Rattle.trace_stop.specs.declared.Settings.{Settings}
 use Rattle.trace_stop.specs.Stop.{resume}
 use Rattle.trace_stop.specs.Facts.{FitProcess, IsSound}
 use Rattle.trace_stop.specs.Reports.{IsStopped}
-use Rattle.trace_stop.proofs.Edited.{find_edit, count_edit}
-use Rattle.trace_stop.proofs.Changes.{edit_none}
+use Rattle.trace_stop.proofs.Edited.{count_edit}
+use Rattle.trace_stop.proofs.Changes.{changed_row}
+use Rattle.trace_stop.proofs.Edited.{edit_none}
 use Rattle.trace_stop.proofs.Stopped.{IsStopped-from}
 use Rattle.requests.specs.declared.Reply.{Reply}
 use Rattle.requests.specs.declared.Reply.TheVariants as reply
@@ -39,7 +40,7 @@ use Rattle.requests.proofs.Masks.{Tracee, OwnLwp, not_stepping_tracee, not_stepp
 
 pub process_changed : (n : ℕ) (f : ProcData → ProcData) (rows : Rows) (p : ProcData) → ((q : ProcData) → (f q).pid ≡ q.pid) → process_of n rows.processes ≡ Some p
     → process_of n (change_process n f rows).processes ≡ Some (if p.pid == n then f p else p)
-process_changed n f rows p same at = find_edit (λ q. q.pid == n) (λ q. Some (if q.pid == n then f q else q)) (λ q. choose (q.pid == n) (f q) q (λ r. (r.pid == n) ≡ (q.pid == n)) (λ e. ap (λ m. eqb m n) (same q)) (λ e. refl)) rows.processes p (if p.pid == n then f p else p) at refl
+process_changed n f rows p same at = changed_row n (is_numbered n) f rows.processes p same at
 
 pub row_changed : (n : ℕ) (f : ProcData → ProcData) (rows : Rows) (p : ProcData) → ((q : ProcData) → (f q).pid ≡ q.pid) → process_of n rows.processes ≡ Some p → IsRow (change_process n f rows) n
 row_changed n f rows p same at = found_row n (if p.pid == n then f p else p) (change_process n f rows).processes (process_changed n f rows p same at)
@@ -134,16 +135,16 @@ module _ (p : ProcData) (tid : ℕ) (rows rows1 : Rows) (t : Tracee rows p) (o :
 
 -- Arguments that are a signal's number or 0
 
-pub signalled : (f : ℕ → Rows → Rows) (arg pass : ℕ) (r : Reply) (rows rows1 rows2 to : Rows) → (arg ≤ 31) × (pass ≡ arg) → rows1 ≡ to → rows2 ≡ f pass rows1 → rows2 ≡ (with_signal arg (answers r (f arg to)) rows).rows
-signalled f arg pass r rows rows1 rows2 to few same done =
+pub signalled : (f : ℕ → Rows → Rows) («data» pass : ℕ) (r : Reply) (rows rows1 rows2 to : Rows) → («data» ≤ 31) × (pass ≡ «data») → rows1 ≡ to → rows2 ≡ f pass rows1 → rows2 ≡ (with_signal «data» (answers r (f «data» to)) rows).rows
+signalled f «data» pass r rows rows1 rows2 to few same done =
     let least = few.0 in
-    let fits : leb arg 31 ≡ true = grind (arith, nat_tests) in
+    let fits : leb «data» 31 ≡ true = grind (arith, nat_tests) in
     done ∙ (ap (f pass) same ∙ (ap (λ n. f n to) few.1 ∙ rw fits refl))
 
-pub continue_as : (settings : Settings) (mask : EventMask → EventMask) (m : EventMask) (arg : ℕ) (p : ProcData) (rows : Rows) → Rise rows.processes → process_of p.pid rows.processes ≡ Some p → m ≡ mask p.mask
-    → with_signal arg (continues_with settings (λ old. m) arg p rows) rows ≡ with_signal arg (continues_with settings mask arg p rows) rows
-continue_as settings mask m arg p rows up at is =
-    ap (λ r. with_signal arg (answers reply.Done (resume settings p.pid arg (not_stepping p.pid r))) rows)
+pub continue_as : (settings : Settings) (mask : EventMask → EventMask) (m : EventMask) («data» : ℕ) (p : ProcData) (rows : Rows) → Rise rows.processes → process_of p.pid rows.processes ≡ Some p → m ≡ mask p.mask
+    → with_signal «data» (continues_with settings (λ old. m) «data» p rows) rows ≡ with_signal «data» (continues_with settings mask «data» p rows) rows
+continue_as settings mask m «data» p rows up at is =
+    ap (λ r. with_signal «data» (answers reply.Done (resume settings p.pid «data» (not_stepping p.pid r))) rows)
     (ap (λ x. set_mask (λ old. x) p.pid rows) is ∙ set_mask_as mask rows p up at)
 
 pub kill_as : (settings : Settings) (n pid : ℕ) (rows : Rows) → n ≡ SIGKILL → with_signal n (answers reply.Done (resume settings pid n rows)) rows ≡ answers reply.Done (resume settings pid SIGKILL rows)

@@ -18,7 +18,7 @@ use Rattle.trace_stop.specs.Facts.{IsLiveChild, waited_for, IsSound}
 use Rattle.signals.specs.Laws.{IsSignal}
 use Rattle.requests.specs.declared.Act.{Act}
 use Rattle.requests.specs.declared.Act.TheVariants as act
-use Rattle.requests.specs.declared.PlainStep.TheVariants as op
+use Rattle.requests.specs.declared.step.Step.TheVariants as op
 use Rattle.requests.specs.declared.Reply.TheVariants as reply
 use Rattle.requests.specs.Outcome.{Outcome}
 use Rattle.requests.specs.Leave.{Numbers, room_for_lwp, room_for_process, in_mode, exit_stop, with_child, forks, exec_rows, due_at_birth, makes_lwp, leaves}

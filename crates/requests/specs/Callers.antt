@@ -5,7 +5,7 @@ use Rattle.proc_table.specs.declared.ProcData.{ProcData}
 use Rattle.proc_table.specs.Processes.{process_of, is_live, is_run}
 use Rattle.proc_table.specs.Rows.{Rows}
 use Rattle.proc_table.specs.Seen.{seen_process}
-use Rattle.requests.specs.declared.PlainStep.{PlainStep}
+use Rattle.requests.specs.Plain.{PlainStep}
 use Rattle.requests.specs.declared.Reply.{Reply}
 use Rattle.requests.specs.declared.Reply.TheVariants as reply
 use Rattle.requests.specs.Outcome.{answers}

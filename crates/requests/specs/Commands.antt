@@ -10,8 +10,8 @@ use Rattle.requests.specs.Ptrace.{bad_argument, does}
 
 -- what such a request does, where its argument isn't refused
 abbrev pub command : Settings → Request → ℕ → ℕ → ProcData → Rows → Outcome
-command settings r arg tid p rows = if bad_argument r arg then refuses EINVAL rows else does settings r arg tid p rows
+command settings r «data» tid p rows = if bad_argument r «data» then refuses EINVAL rows else does settings r «data» tid p rows
 
 -- an outcome where the argument is a signal's number or 0
 abbrev pub with_signal : ℕ → Outcome → Rows → Outcome
-with_signal arg o rows = if not (leb arg 31) then refuses EINVAL rows else o
+with_signal «data» o rows = if not (leb «data» 31) then refuses EINVAL rows else o

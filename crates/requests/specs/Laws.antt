@@ -5,8 +5,8 @@ use Rattle.pid_blocks.specs.Users.{IsUser}
 use Rattle.trace_stop.specs.Sound.{status_fits}
 use Rattle.requests.specs.declared.Act.{Act}
 use Rattle.requests.specs.declared.Act.TheVariants as act
-use Rattle.requests.specs.declared.PlainStep.{PlainStep}
-use Rattle.requests.specs.declared.PlainStep.TheVariants as op
+use Rattle.requests.specs.Plain.{PlainStep}
+use Rattle.requests.specs.declared.step.Step.TheVariants as op
 use Rattle.trace_stop.specs.declared.Settings.{Settings}
 use Rattle.requests.specs.Machine.{Machine, empty}
 use Rattle.requests.specs.Run.{Asked, last}

@@ -1,16 +1,20 @@
--- A step with a policy in place of its handler.
+-- A step with its handler's policy.
+use Rattle.std.specs.Prelude.{List, Option, Some, None, option_map}
+use Rattle.stop_handlers.specs.declared.Rule.{Rule}
 use Rattle.requests.specs.declared.step.Step.{Step}
-use Rattle.requests.specs.declared.step.Step.TheVariants.{Spawn, List, Sigaction, Kill, Wait4, Install, Handle, Ptrace, Turn}
-use Rattle.requests.specs.declared.PlainStep.{PlainStep}
-use Rattle.requests.specs.declared.PlainStep.TheVariants as op
+use Rattle.requests.specs.declared.step.Step.TheVariants as op
 
-abbrev pub plain : {F : Type 0} → Step F → PlainStep
-plain Spawn = op.Spawn
-plain (List caller) = op.List caller
-plain (Sigaction caller sig disposition) = op.Sigaction caller sig disposition
-plain (Kill caller which sig) = op.Kill caller which sig
-plain (Wait4 caller which options) = op.Wait4 caller which options
-plain (Install caller policy) = op.Install caller policy
-plain (Handle caller) = op.Handle caller
-plain (Ptrace caller request target arg) = op.Ptrace caller request target arg
-plain (Turn tid act) = op.Turn tid act
+abbrev pub PlainStep : Type 0
+PlainStep = Step (List Rule)
+
+-- the step with another handler in place of its own, if it installs one
+abbrev pub with_handler : {A : Type 0} {B : Type 0} → Option B → Step A → Option (Step B)
+with_handler handler op.Spawn = Some op.Spawn
+with_handler handler (op.List caller) = Some (op.List caller)
+with_handler handler (op.Sigaction caller sig disposition) = Some (op.Sigaction caller sig disposition)
+with_handler handler (op.Kill caller which sig) = Some (op.Kill caller which sig)
+with_handler handler (op.Wait4 caller which options) = Some (op.Wait4 caller which options)
+with_handler handler (op.Install caller own) = option_map (op.Install caller) handler
+with_handler handler (op.Handle caller) = Some (op.Handle caller)
+with_handler handler (op.Ptrace caller request target «data») = Some (op.Ptrace caller request target «data»)
+with_handler handler (op.Turn tid act) = Some (op.Turn tid act)

@@ -41,15 +41,15 @@ pub fn ptrace(
     caller: &ProcData,
     request: Request,
     target: u32,
-    arg: u32,
+    data: u32,
 ) -> Reply
     requires sound { IsSound tables.old.rows }
     requires caller { IsCaller user caller.now tables.old.rows }
     ensures machine { result ≢ reply.Errno errno.ENOMEM →
-        (tables.new.rows ≡ (ptrace settings user caller.now request target arg tables.old.rows).rows)
-        × (result ≡ (ptrace settings user caller.now request target arg tables.old.rows).reply) }
+        (tables.new.rows ≡ (ptrace settings user caller.now request target «data» tables.old.rows).rows)
+        × (result ≡ (ptrace settings user caller.now request target «data» tables.old.rows).reply) }
     ensures memory { result ≡ reply.Errno errno.ENOMEM → (tables.new.rows ≡ tables.old.rows) × (lists request ≡ true)
-        × (is_refusal (ptrace settings user caller.now request target arg tables.old.rows).reply ≡ false) }
+        × (is_refusal (ptrace settings user caller.now request target «data» tables.old.rows).reply ≡ false) }
 {
     if is_trace_me(request) {
         return trace_me(tables, caller);
@@ -73,7 +73,7 @@ pub fn ptrace(
         return Reply::Errno(Errno::EBUSY);
     };
     let lwp = named_lwp(target, reporting);
-    command(tables, alloc, settings, request, arg, lwp, &process)
+    command(tables, alloc, settings, request, data, lwp, &process)
 }
 
 fn is_trace_me(request: Request) -> bool
@@ -139,7 +139,7 @@ fn command(
     alloc: Global,
     settings: Settings,
     request: Request,
-    arg: u32,
+    data: u32,
     lwp: Tid,
     process: &ProcData,
 ) -> Reply
@@ -148,10 +148,10 @@ fn command(
     requires stopped { is_some (reporting process.now) ≡ true }
     requires own { IsSomeAnd (lwp_of lwp tables.old.rows.lwps) (λ l. l.pid ≡ process.now.pid) }
     ensures machine { result ≢ reply.Errno errno.ENOMEM →
-        (tables.new.rows ≡ (command settings request arg lwp process.now tables.old.rows).rows)
-        × (result ≡ (command settings request arg lwp process.now tables.old.rows).reply) }
+        (tables.new.rows ≡ (command settings request «data» lwp process.now tables.old.rows).rows)
+        × (result ≡ (command settings request «data» lwp process.now tables.old.rows).reply) }
     ensures memory { result ≡ reply.Errno errno.ENOMEM → (tables.new.rows ≡ tables.old.rows) × (lists request ≡ true)
-        × (is_refusal (command settings request arg lwp process.now tables.old.rows).reply ≡ false) }
+        × (is_refusal (command settings request «data» lwp process.now tables.old.rows).reply ≡ false) }
 {
     let pid = process.pid;
     let mask = process.mask;
@@ -160,28 +160,28 @@ fn command(
     match request {
         Request::TraceMe => Reply::Errno(Errno::EINVAL),
         Request::Attach => Reply::Errno(Errno::EBUSY),
-        Request::Continue => continue_with(tables, settings, process, mask, arg),
-        Request::ToSce => continue_with(tables, settings, process, mask.with(entry), arg),
-        Request::ToScx => continue_with(tables, settings, process, mask.with(exit), arg),
+        Request::Continue => continue_with(tables, settings, process, mask, data),
+        Request::ToSce => continue_with(tables, settings, process, mask.with(entry), data),
+        Request::ToScx => continue_with(tables, settings, process, mask.with(exit), data),
         Request::Syscall => continue_with(
             tables,
             settings,
             process,
             mask.with(entry).with(exit),
-            arg,
+            data,
         ),
-        Request::Step => step(tables, settings, process, lwp, arg),
+        Request::Step => step(tables, settings, process, lwp, data),
         Request::Suspend => suspend(tables, lwp, true),
         Request::Resume => suspend(tables, lwp, false),
-        Request::Detach => detach_with(tables, settings, process, arg),
+        Request::Detach => detach_with(tables, settings, process, data),
         Request::Kill => resume_with(tables, settings, process, Signal::kill().number()),
-        Request::SetEventMask => set_events(tables, process, arg),
-        Request::FollowFork => switch(tables, process, EventMask::PTRACE_FORK, arg),
-        Request::LwpEvents => switch(tables, process, EventMask::PTRACE_LWP, arg),
+        Request::SetEventMask => set_events(tables, process, data),
+        Request::FollowFork => switch(tables, process, EventMask::PTRACE_FORK, data),
+        Request::LwpEvents => switch(tables, process, EventMask::PTRACE_LWP, data),
         Request::GetEventMask => Reply::Mask(mask),
-        Request::GetLwpInfo => show_lwp(tables, process, lwp),
+        Request::LwpInfo => show_lwp(tables, process, lwp),
         Request::GetNumLwps => Reply::Number(lwp_count(tables, pid) as u32),
-        Request::GetLwpList => list_lwps(tables, alloc, pid, arg),
+        Request::GetLwpList => list_lwps(tables, alloc, pid, data),
     }
 }
 
@@ -192,17 +192,17 @@ pub fn continue_with(
     settings: Settings,
     process: &ProcData,
     mask: EventMask,
-    arg: u32,
+    data: u32,
 ) -> Reply
     requires sound { IsSound tables.old.rows }
     requires at { process_of process.now.pid tables.old.rows.processes ≡ Some process.now }
     requires stopped { is_some (reporting process.now) ≡ true }
     ensures rows { tables.new.rows
-        ≡ (with_signal arg (continues_with settings (λ old. mask) arg process.now tables.old.rows) tables.old.rows).rows }
+        ≡ (with_signal «data» (continues_with settings (λ old. mask) «data» process.now tables.old.rows) tables.old.rows).rows }
     ensures reply { result
-        ≡ (with_signal arg (continues_with settings (λ old. mask) arg process.now tables.old.rows) tables.old.rows).reply }
+        ≡ (with_signal «data» (continues_with settings (λ old. mask) «data» process.now tables.old.rows) tables.old.rows).reply }
 {
-    let Ok(pass) = Pass::new(arg) else {
+    let Ok(pass) = Pass::new(data) else {
         return Reply::Errno(Errno::EINVAL);
     };
     set_mask(tables, process, mask);
@@ -213,17 +213,17 @@ pub fn continue_with(
 
 /// PT_STEP: the process runs on with a signal or with 0, and of its LWPs this one alone steps. Refused with EINVAL
 /// where the argument is above 31.
-fn step(tables: &mut Tables, settings: Settings, process: &ProcData, lwp: Tid, arg: u32) -> Reply
+fn step(tables: &mut Tables, settings: Settings, process: &ProcData, lwp: Tid, data: u32) -> Reply
     requires sound { IsSound tables.old.rows }
     requires at { process_of process.now.pid tables.old.rows.processes ≡ Some process.now }
     requires stopped { is_some (reporting process.now) ≡ true }
     requires own { IsSomeAnd (lwp_of lwp tables.old.rows.lwps) (λ l. l.pid ≡ process.now.pid) }
-    ensures rows { tables.new.rows ≡ (with_signal arg
-        (answers reply.Done (resume settings process.now.pid arg (stepping process.now.pid lwp tables.old.rows))) tables.old.rows).rows }
-    ensures reply { result ≡ (with_signal arg
-        (answers reply.Done (resume settings process.now.pid arg (stepping process.now.pid lwp tables.old.rows))) tables.old.rows).reply }
+    ensures rows { tables.new.rows ≡ (with_signal «data»
+        (answers reply.Done (resume settings process.now.pid «data» (stepping process.now.pid lwp tables.old.rows))) tables.old.rows).rows }
+    ensures reply { result ≡ (with_signal «data»
+        (answers reply.Done (resume settings process.now.pid «data» (stepping process.now.pid lwp tables.old.rows))) tables.old.rows).reply }
 {
-    let Ok(pass) = Pass::new(arg) else {
+    let Ok(pass) = Pass::new(data) else {
         return Reply::Errno(Errno::EINVAL);
     };
     clear_stepping(tables, process.pid);
@@ -260,16 +260,16 @@ fn suspend(tables: &mut Tables, lwp: Tid, suspended: bool) -> Reply
 
 /// PT_DETACH: nobody traces the process from now on, and it runs on with a signal or with 0. Refused with EINVAL
 /// where the argument is above 31.
-pub fn detach_with(tables: &mut Tables, settings: Settings, process: &ProcData, arg: u32) -> Reply
+pub fn detach_with(tables: &mut Tables, settings: Settings, process: &ProcData, data: u32) -> Reply
     requires sound { IsSound tables.old.rows }
     requires at { process_of process.now.pid tables.old.rows.processes ≡ Some process.now }
     requires stopped { is_some (reporting process.now) ≡ true }
     ensures rows { tables.new.rows
-        ≡ (with_signal arg (answers reply.Done (detach settings process.now.pid arg tables.old.rows)) tables.old.rows).rows }
+        ≡ (with_signal «data» (answers reply.Done (detach settings process.now.pid «data» tables.old.rows)) tables.old.rows).rows }
     ensures reply { result
-        ≡ (with_signal arg (answers reply.Done (detach settings process.now.pid arg tables.old.rows)) tables.old.rows).reply }
+        ≡ (with_signal «data» (answers reply.Done (detach settings process.now.pid «data» tables.old.rows)) tables.old.rows).reply }
 {
-    let Ok(pass) = Pass::new(arg) else {
+    let Ok(pass) = Pass::new(data) else {
         return Reply::Errno(Errno::EINVAL);
     };
     detach(tables, settings, process.pid, pass);

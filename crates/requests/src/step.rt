@@ -1,16 +1,16 @@
 //! The steps of a host.
 
 ghost use Rattle.std.specs.Prelude.{◌≡◌};
-ghost use Rattle.requests.specs.Plain.{plain};
+ghost use Rattle.requests.specs.Plain.{with_handler};
 
-use crate::{Act, PlainStep, Request};
+use crate::{Act, Request};
 use signals::Disposition;
-use stop_handlers::{Decider, Handler};
+use stop_handlers::{ByPolicy, Decider, Handler, Policy};
 use wait4::Options;
 
-/// A step that a host makes for a user.
-#[derive(Drop)]
-pub enum Step<F: Decider + Send + Drop> {
+/// A step that a host makes for a user. A debugger installs what stands for `H`: a stop handler, or its policy alone.
+#[derive(Clone, Copy, Debug, PartialEq, Eq, Drop)]
+pub enum Step<H> {
     /// A new process of the user, with one LWP.
     Spawn,
     /// The user's processes, asked by one of them.
@@ -38,7 +38,7 @@ pub enum Step<F: Decider + Send + Drop> {
     /// A stop handler of a debugger, asked after those that it installed before.
     Install {
         caller: u32,
-        handler: Handler<F>,
+        handler: H,
     },
     /// A wait for any child, whose trace stop goes to the debugger's handlers.
     Handle {
@@ -49,7 +49,7 @@ pub enum Step<F: Decider + Send + Drop> {
         caller: u32,
         request: Request,
         target: u32,
-        arg: u32,
+        data: u32,
     },
     /// The turn of an LWP.
     Turn {
@@ -58,57 +58,79 @@ pub enum Step<F: Decider + Send + Drop> {
     },
 }
 
-impl<F: Decider + Send + Drop> Step<F> {
-    /// The same step, with its handler's policy in place of the handler.
-    pub fn plain(&self) -> PlainStep
-        ensures { result ≡ plain self.now }
+/// A step with its handler's policy in place of the handler.
+pub type PlainStep = Step<Policy>;
+
+impl<H> Step<H> {
+    /// The step with another handler in place of its own, if it installs one; none where it needs a handler and none is given.
+    pub fn with_handler<G: Drop>(&self, handler: Option<G>) -> Option<Step<G>>
+        ensures { result ≡ with_handler handler self.now }
     {
-        match self {
-            Step::Spawn => PlainStep::Spawn,
-            Step::List { caller } => PlainStep::List { caller: *caller },
+        Some(match *self {
+            Step::Spawn => Step::Spawn,
+            Step::List { caller } => Step::List { caller },
             Step::Sigaction {
                 caller,
                 sig,
                 disposition,
-            } => PlainStep::Sigaction {
-                caller: *caller,
-                sig: *sig,
-                disposition: *disposition,
+            } => Step::Sigaction {
+                caller,
+                sig,
+                disposition,
             },
-            Step::Kill { caller, which, sig } => PlainStep::Kill {
-                caller: *caller,
-                which: *which,
-                sig: *sig,
-            },
+            Step::Kill { caller, which, sig } => Step::Kill { caller, which, sig },
             Step::Wait4 {
                 caller,
                 which,
                 options,
-            } => PlainStep::Wait4 {
-                caller: *caller,
-                which: *which,
-                options: *options,
+            } => Step::Wait4 {
+                caller,
+                which,
+                options,
             },
-            Step::Install { caller, handler } => PlainStep::Install {
-                caller: *caller,
-                policy: handler.policy(),
+            Step::Install { caller, .. } => Step::Install {
+                caller,
+                handler: handler?,
             },
-            Step::Handle { caller } => PlainStep::Handle { caller: *caller },
+            Step::Handle { caller } => Step::Handle { caller },
             Step::Ptrace {
                 caller,
                 request,
                 target,
-                arg,
-            } => PlainStep::Ptrace {
-                caller: *caller,
-                request: *request,
-                target: *target,
-                arg: *arg,
+                data,
+            } => Step::Ptrace {
+                caller,
+                request,
+                target,
+                data,
             },
-            Step::Turn { tid, act } => PlainStep::Turn {
-                tid: *tid,
-                act: *act,
-            },
-        }
+            Step::Turn { tid, act } => Step::Turn { tid, act },
+        })
+    }
+}
+
+impl<F: Decider + Send + Drop> Step<Handler<F>> {
+    /// The same step, with its handler's policy in place of the handler.
+    pub fn plain(&self) -> PlainStep
+        ensures { result ≡ self.now }
+    {
+        let policy = match self {
+            Step::Install { handler, .. } => Some(handler.policy()),
+            _ => None,
+        };
+        self.with_handler(policy).unwrap()
+    }
+}
+
+impl Step<Policy> {
+    /// The same step, with a handler that answers by its policy.
+    pub fn by_policy(&self) -> Step<Handler<ByPolicy>>
+        ensures { result ≡ self.now }
+    {
+        let handler = match *self {
+            Step::Install { handler, .. } => Some(Handler::new(handler, ByPolicy(handler))),
+            _ => None,
+        };
+        self.with_handler(handler).unwrap()
     }
 }

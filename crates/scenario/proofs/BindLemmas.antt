@@ -1,10 +1,8 @@
 -- One more step with its handler.
-use Rattle.std.proofs.Common.{◌≡◌, ℕ, ◌+◌, ◌<◌, List, [], ◌∷◌, ◌++◌, length, get_or, map, take, drop, sym, ap, ◌∙◌}
-use Rattle.std.proofs.lemmas.List.{at_drop_more, map-append, take_more}
-use Rattle.requests.specs.declared.PlainStep.{PlainStep}
-use Rattle.requests.specs.declared.step.Step.{Step}
-use Rattle.requests.specs.Plain.{plain}
-use Rattle.scenario.specs.Plan.{asked, bound, policies_in, policy_before}
+use Rattle.std.proofs.Common.{◌≡◌, ℕ, ◌+◌, ◌<◌, List, [], ◌∷◌, ◌++◌, length, get_or, map, take, drop, sym, ap, ap₂, ◌∙◌}
+use Rattle.std.proofs.lemmas.List.{at_drop_more, take_more}
+use Rattle.requests.specs.Plain.{PlainStep}
+use Rattle.scenario.specs.Plan.{asked, policies_in, policy_before}
 
 -- the policies that are left, by the step that stands here
 pub policies_here : (ps : List (ℕ × PlainStep)) (i : ℕ) (p : ℕ × PlainStep) → i < length ps → get_or ps i p ≡ p
@@ -14,12 +12,6 @@ policies_here ps i p h here =
     ∙ ap (λ (x : ℕ × PlainStep). policy_before x.1 (policies_in (map asked (drop (i + 1) ps)))) here
 
 -- the steps so far and one more
-pub one_bound : {F : Type 0} (ss : List (ℕ × Step F)) (ps : List (ℕ × PlainStep)) (i : ℕ) (p : ℕ × PlainStep) (s : Step F) → i < length ps → get_or ps i p ≡ p
-    → plain s ≡ p.1 → map bound ss ≡ map asked (take i ps) → map bound (ss ++ (p.0, s) ∷ []) ≡ map asked (take (i + 1) ps)
+pub one_bound : (ss ps : List (ℕ × PlainStep)) (i : ℕ) (p : ℕ × PlainStep) (s : PlainStep) → i < length ps → get_or ps i p ≡ p → s ≡ p.1 → ss ≡ take i ps → ss ++ (p.0, s) ∷ [] ≡ take (i + 1) ps
 one_bound ss ps i p s h here same so_far =
-    map-append bound ss ((p.0, s) ∷ [])
-    ∙ ap (λ xs. xs ++ bound (p.0, s) ∷ []) so_far
-    ∙ ap (λ x. map asked (take i ps) ++ asked (p.0, x) ∷ []) same
-    ∙ ap (λ x. map asked (take i ps) ++ asked x ∷ []) (sym here)
-    ∙ sym (map-append asked (take i ps) (get_or ps i p ∷ []))
-    ∙ ap (map asked) (sym (take_more ps i p h))
+    ap₂ (λ (xs : List (ℕ × PlainStep)) (x : ℕ × PlainStep). xs ++ x ∷ []) so_far (ap (λ x. (p.0, x)) same ∙ sym here) ∙ sym (take_more ps i p h)

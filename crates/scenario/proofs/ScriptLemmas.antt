@@ -6,7 +6,7 @@ use Rattle.std.proofs.lemmas.List.{length-map}
 use Rattle.std.proofs.lemmas.List.Sums.{length-filter, count_by-le-length}
 use Rattle.pid_blocks.specs.Blocks.{rising, users}
 use Rattle.pid_blocks.specs.Users.{IsUser}
-use Rattle.requests.specs.declared.PlainStep.{PlainStep}
+use Rattle.requests.specs.Plain.{PlainStep}
 use Rattle.requests.specs.Run.{Asked, asked_by}
 use Rattle.user_rows.proofs.ViewLists.{All-where, All-map}
 use Rattle.scenario.specs.Lines.{Answered}

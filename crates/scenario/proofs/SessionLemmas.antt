@@ -1,12 +1,11 @@
 -- The transcripts of a run by sessions are the machine's answers, one user after another.
 use Rattle.std.proofs.Common.{◌≡◌, ℕ, suc, ◌<◌, ◌==◌, Bool, true, false, cond, if◌then◌else◌, List, [], ◌∷◌, ◌++◌, length, get_or, map, refl, sym, subst, ap, ap₂, ◌∙◌, eqb-true, arith}
-use Rattle.std.specs.Prelude.{All}
 use Rattle.std.specs.List.{flat_map, AllByRecursion}
 use Rattle.std.proofs.lemmas.Bool.{eq-eqb}
 use Rattle.std.proofs.lemmas.List.{get_or-map}
-use Rattle.std.proofs.lemmas.List.Elements.{All-head, All-tail, All-from_recursion}
+use Rattle.std.proofs.lemmas.List.Elements.{All-from_recursion}
 use Rattle.pid_blocks.specs.Blocks.{users}
-use Rattle.requests.specs.declared.PlainStep.{PlainStep}
+use Rattle.requests.specs.Plain.{PlainStep}
 use Rattle.requests.specs.declared.Reply.{Reply}
 use Rattle.requests.specs.Isolation.{Users, replies_to}
 use Rattle.requests.specs.Machine.{empty}
@@ -32,8 +31,8 @@ IsPlayed log k s t = (t.0 ≡ s.0) × (length t.1 ≡ length s.1) × (entries_of
 abbrev pub ArePlayed : List Entry → List (ℕ × List PlainStep) → List (ℕ × List Reply) → Type 0
 ArePlayed log ss ts = (k : ℕ) (s : ℕ × List PlainStep) (t : ℕ × List Reply) → k < length ss → IsPlayed log k (get_or ss k s) (get_or ts k t)
 
-abbrev pub IsMade : Reply → Type 0
-IsMade r = is_memory r ≡ false
+abbrev pub IsReply : Reply → Type 0
+IsReply r = is_memory r ≡ false
 
 -- a script's entries have its user, and without want of memory all its steps and replies
 made_by : (u n : ℕ) (ss : List PlainStep) (rs : List Reply) → AllByRecursion (λ e. e.uid ≡ u) (made u n ss rs)
@@ -45,20 +44,20 @@ made_by u n (s ∷ ss) (r ∷ rs) = kept (is_memory r) (made_by u n ss rs)
     kept true rest = rest
     kept false rest = (refl, rest)
 
-made_replies : (u n : ℕ) (ss : List PlainStep) (rs : List Reply) → All IsMade rs → length rs ≡ length ss → map (λ e. e.reply) (made u n ss rs) ≡ rs
+made_replies : (u n : ℕ) (ss : List PlainStep) (rs : List Reply) → AllByRecursion IsReply rs → length rs ≡ length ss → map (λ e. e.reply) (made u n ss rs) ≡ rs
 made_replies u n [] [] told same = refl
 made_replies u n [] (r ∷ rs) told same = absurd (omega arith)
 made_replies u n (s ∷ ss) [] told same = refl
 made_replies u n (s ∷ ss) (r ∷ rs) told same =
-    ap (λ b. map (λ (e : Entry). e.reply) (if b then made u n ss rs else entry u n s r ∷ made u n ss rs)) (All-head IsMade r rs told)
-    ∙ ap (λ xs. r ∷ xs) (made_replies u n ss rs (All-tail IsMade r rs told) (omega arith))
+    ap (λ b. map (λ (e : Entry). e.reply) (if b then made u n ss rs else entry u n s r ∷ made u n ss rs)) told.0
+    ∙ ap (λ xs. r ∷ xs) (made_replies u n ss rs told.1 (omega arith))
 
-made_steps : (u n : ℕ) (ss : List PlainStep) (rs : List Reply) → All IsMade rs → length rs ≡ length ss → asked (made u n ss rs) ≡ map (λ s. record { uid = u; step = s }) ss
+made_steps : (u n : ℕ) (ss : List PlainStep) (rs : List Reply) → AllByRecursion IsReply rs → length rs ≡ length ss → asked (made u n ss rs) ≡ map (λ s. record { uid = u; step = s }) ss
 made_steps u n [] rs told same = refl
 made_steps u n (s ∷ ss) [] told same = absurd (omega arith)
 made_steps u n (s ∷ ss) (r ∷ rs) told same =
-    ap (λ b. asked (if b then made u n ss rs else entry u n s r ∷ made u n ss rs)) (All-head IsMade r rs told)
-    ∙ ap (λ (xs : List Asked). record { uid = u; step = s } ∷ xs) (made_steps u n ss rs (All-tail IsMade r rs told) (omega arith))
+    ap (λ b. asked (if b then made u n ss rs else entry u n s r ∷ made u n ss rs)) told.0
+    ∙ ap (λ (xs : List Asked). record { uid = u; step = s } ∷ xs) (made_steps u n ss rs told.1 (omega arith))
 
 -- each entry's user is that of its script
 abbrev pub FromScripts : List Entry → List (ℕ × List PlainStep) → Type 0
@@ -113,7 +112,7 @@ pub record RanBySessions (plan : Plan) (log : List Entry) (ts : List (ℕ × Lis
   pub long : length ts ≡ length (scripts_in plan.steps)
   pub played : ArePlayed log (scripts_in plan.steps) ts
   pub own : OwnEntries (empty plan.settings) log
-  pub made : All (λ t. All IsMade t.1) ts
+  pub made : AllByRecursion (λ t. AllByRecursion IsReply t.1) ts
 
 told_at : (plan : Plan) (log : List Entry) (ts : List (ℕ × List Reply)) → RanBySessions plan log ts
     → (k : ℕ) (s : ℕ × List PlainStep) (t : ℕ × List Reply) → k < length (scripts_in plan.steps)
@@ -128,7 +127,7 @@ told_at plan log ts ran k s t h =
     let user : user_at ss k ≡ script.0 = get_or-map (λ (s : ℕ × List PlainStep). s.0) ss k s 0 h in
     let entries : entries_by script.0 log ≡ made script.0 k script.1 told.1 =
     ap (λ u. entries_by u log) (sym user) ∙ own_entries 1001 log ss k (rising_scripts 64 1001 plan.steps) h from ran.below ∙ played.2 in
-    let made_all : All IsMade told.1 = ran.made k t (subst (λ n. k < n) (sym ran.long) h) in
+    let made_all = All-from_recursion (λ (t : ℕ × List Reply). AllByRecursion IsReply t.1) ts ran.made k t (subst (λ n. k < n) (sym ran.long) h) in
     let own = (ran.own script.0 is.user).0 in
     let replied : told.1 ≡ replies (asked_by script.0 plan.steps) (alone script.0 (empty plan.settings)) =
     sym (made_replies script.0 k script.1 told.1 made_all played.1) ∙ ap (map (λ (e : Entry). e.reply)) (sym entries) ∙ own

@@ -7,13 +7,11 @@ use Rattle.std.proofs.lemmas.Bool.{cases_lt, eq-eqb}
 use Rattle.std.proofs.lemmas.Bool.Decides.{nat_tests}
 use Rattle.pid_blocks.specs.Blocks.{rising, users, slot}
 use Rattle.pid_blocks.specs.Users.{IsUser}
-use Rattle.requests.specs.declared.PlainStep.{PlainStep}
-use Rattle.requests.specs.declared.step.Step.{Step}
-use Rattle.requests.specs.Plain.{plain}
+use Rattle.requests.specs.Plain.{PlainStep}
 use Rattle.requests.specs.Run.{Asked, asked_by}
 use Rattle.sessions.specs.declared.script.Script.{Script}
 use Rattle.requests.proofs.ViewLaws.{at_slot}
-use Rattle.scenario.specs.Plan.{bound}
+use Rattle.scenario.specs.Plan.{asked}
 use Rattle.scenario.specs.Scripts.{has_steps, plain_script, some_steps, steps_of}
 use Rattle.scenario.proofs.ScriptLemmas.{script_of}
 
@@ -33,7 +31,7 @@ empty_more ss s number least named none before =
     let more : rising (number + 1 - 1001) 1001 ≡ rising (number - 1001) 1001 ++ number ∷ [] =
     ap (λ n. rising n 1001) count ∙ rising_more (number - 1001) 1001 ∙ ap (λ k. rising (number - 1001) 1001 ++ k ∷ []) last in
     map-append plain_script ss (s ∷ [])
-    ∙ ap₂ (λ (xs : List (ℕ × List PlainStep)) (x : ℕ × List PlainStep). xs ++ x ∷ []) before (ap₂ (λ (u : ℕ) (steps : List PlainStep). (u, steps)) named (ap (map plain) none))
+    ∙ ap₂ (λ (xs : List (ℕ × List PlainStep)) (x : ℕ × List PlainStep). xs ++ x ∷ []) before (ap₂ (λ (u : ℕ) (steps : List PlainStep). (u, steps)) named none)
     ∙ sym (map-append unasked (rising (number - 1001) 1001) (number ∷ []))
     ∙ ap (map unasked) (sym more)
 
@@ -83,23 +81,22 @@ one_asked done a user =
         let no : (a.uid == w) ≡ false = grind (arith, nat_tests) in
         ap (λ steps. (w, steps)) (steps_more w done a false no ∙ append-nil (steps_of w done))
 
-pub step_added : {F : Type 0} (ss : List (Script F)) (new d : Script F) (done : List Asked) (u : ℕ) (s : Step F) → IsUser u → map plain_script ss ≡ map (script_of done) users
+pub step_added : {F : Type 0} (ss : List (Script F)) (new d : Script F) (done : List Asked) (u : ℕ) (s : PlainStep) → IsUser u → map plain_script ss ≡ map (script_of done) users
     → new.uid ≡ (get_or ss (slot u) d).uid → new.steps.items ≡ (get_or ss (slot u) d).steps.items ++ s ∷ []
-    → map plain_script (set ss (slot u) new) ≡ map (script_of (done ++ bound (u, s) ∷ [])) users
+    → map plain_script (set ss (slot u) new) ≡ map (script_of (done ++ asked (u, s) ∷ [])) users
 step_added {F} ss new d done u s user before named longer =
     let long : length ss ≡ 64 = sym (length-map ss plain_script) ∙ ap length before in
     let old = get_or ss (slot u) d in
     let was : plain_script old ≡ script_of done u =
     sym (get_or-map plain_script ss (slot u) d (0, []) (omega arith)) ∙ ap (λ xs. get_or xs (slot u) (0, [])) before ∙ at_slot (script_of done) u (0, []) user in
     let name : new.uid ≡ u = named ∙ ap (λ (p : ℕ × List PlainStep). p.0) was in
-    let steps : map plain new.steps.items ≡ steps_of u done ++ plain s ∷ [] =
-    ap (map plain) longer ∙ map-append plain old.steps.items (s ∷ []) ∙ ap (λ (p : ℕ × List PlainStep). p.1 ++ plain s ∷ []) was in
+    let steps : new.steps.items ≡ steps_of u done ++ s ∷ [] = longer ∙ ap (λ (p : ℕ × List PlainStep). p.1 ++ s ∷ []) was in
     map-set plain_script ss (slot u) new
     ∙ ap₂ (λ (xs : List (ℕ × List PlainStep)) (x : ℕ × List PlainStep). set xs (slot u) x) before (ap₂ (λ (w : ℕ) (list : List PlainStep). (w, list)) name steps)
-    ∙ one_asked done (bound (u, s)) user
+    ∙ one_asked done (asked (u, s)) user
 
 -- those who have steps
-pub are_some : {F : Type 0} (steps : List (Step F)) (n : ℕ) → n ≡ length steps → not (n == 0) ≡ some_steps (map plain steps)
+pub are_some : (steps : List PlainStep) (n : ℕ) → n ≡ length steps → not (n == 0) ≡ some_steps steps
 are_some [] n same = ap (λ k. not (k == 0)) same
 are_some (s ∷ rest) n same = let some : (n == 0) ≡ false = grind (arith, nat_tests) in ap not some
 

@@ -34,7 +34,7 @@ request_named = named
     ∷ (codes "PT_STEP", requests.Step) ∷ (codes "PT_SUSPEND", requests.Suspend) ∷ (codes "PT_RESUME", requests.Resume)
     ∷ (codes "PT_DETACH", requests.Detach) ∷ (codes "PT_KILL", requests.Kill)
     ∷ (codes "PT_SET_EVENT_MASK", requests.SetEventMask) ∷ (codes "PT_GET_EVENT_MASK", requests.GetEventMask)
-    ∷ (codes "PT_LWPINFO", requests.GetLwpInfo) ∷ (codes "PT_GETNUMLWPS", requests.GetNumLwps)
+    ∷ (codes "PT_LWPINFO", requests.LwpInfo) ∷ (codes "PT_GETNUMLWPS", requests.GetNumLwps)
     ∷ (codes "PT_GETLWPLIST", requests.GetLwpList) ∷ (codes "PT_TO_SCE", requests.ToSce) ∷ (codes "PT_TO_SCX", requests.ToScx)
     ∷ (codes "PT_SYSCALL", requests.Syscall) ∷ (codes "PT_FOLLOW_FORK", requests.FollowFork)
     ∷ (codes "PT_LWP_EVENTS", requests.LwpEvents) ∷ [])

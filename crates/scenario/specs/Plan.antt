@@ -2,11 +2,9 @@
 use Rattle.std.specs.Prelude.{ℕ, List, [], ◌∷◌}
 use Rattle.stop_handlers.specs.declared.Rule.{Rule}
 use Rattle.trace_stop.specs.declared.Settings.{Settings}
-use Rattle.requests.specs.declared.PlainStep.{PlainStep}
-use Rattle.requests.specs.declared.PlainStep.TheVariants.{Install}
+use Rattle.requests.specs.Plain.{PlainStep}
+use Rattle.requests.specs.declared.step.Step.TheVariants.{Install}
 use Rattle.requests.specs.Run.{Asked}
--- a step with a handler in place of its policy
-pub use Rattle.visibility.specs.Runs.{asked as bound}
 
 -- the settings of the host, and the steps in order
 pub record Plan : Type 0 where

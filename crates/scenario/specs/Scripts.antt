@@ -1,8 +1,9 @@
 -- A script for each user who has steps, and what its replies tell.
-use Rattle.std.specs.Prelude.{ℕ, Bool, true, false, List, [], ◌∷◌, map, filter}
+use Rattle.std.specs.Prelude.{◌≡◌, ℕ, Bool, true, false, List, [], ◌∷◌, map, filter}
+use Rattle.std.specs.List.{AllByRecursion}
 use Rattle.pid_blocks.specs.Blocks.{users}
-use Rattle.requests.specs.declared.PlainStep.{PlainStep}
-use Rattle.requests.specs.Plain.{plain}
+use Rattle.requests.specs.Memory.{is_memory}
+use Rattle.requests.specs.Plain.{PlainStep}
 use Rattle.requests.specs.Run.{Asked, asked_by}
 use Rattle.sessions.specs.declared.script.Script.{Script}
 use Rattle.sessions.specs.declared.script.Transcript.{Transcript}
@@ -23,9 +24,12 @@ has_steps s = some_steps s.1
 abbrev pub scripts_in : List Asked → List (ℕ × List PlainStep)
 scripts_in list = filter has_steps (map (λ u. (u, steps_of u list)) users)
 
--- a script with policies in place of handlers
 abbrev pub plain_script : {F : Type 0} → Script F → ℕ × List PlainStep
-plain_script s = (s.uid, map plain s.steps.items)
+plain_script s = (s.uid, s.steps.items)
+
+-- no step found no memory
+abbrev pub IsMade : Transcript → Type 0
+IsMade t = AllByRecursion (λ r. is_memory r ≡ false) t.replies.items
 
 -- the answers that a transcript tells
 abbrev pub told_by : Transcript → List Answered

@@ -1,8 +1,8 @@
 -- A step of a scenario, over its JSON value: its keys are checked one by one, and the first that fails is the flaw.
 use Rattle.std.specs.Prelude.{ℕ, [], ◌∷◌, Result, Ok, codes}
 use Rattle.serde_json.specs.Data.{Data}
-use Rattle.requests.specs.declared.PlainStep.{PlainStep}
-use Rattle.requests.specs.declared.PlainStep.TheVariants as plain
+use Rattle.requests.specs.Plain.{PlainStep}
+use Rattle.requests.specs.declared.step.Step.TheVariants as plain
 use Rattle.requests.specs.Handle.{no_options}
 use Rattle.requests.specs.Run.{Asked}
 use Rattle.scenario.specs.declared.fields.Flaw.{Flaw}

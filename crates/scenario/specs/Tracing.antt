@@ -1,8 +1,8 @@
 -- What a debugger asks, over the JSON value of the step.
 use Rattle.std.specs.Prelude.{ℕ, List, [], ◌∷◌, ◌++◌, Result, Ok, codes}
 use Rattle.serde_json.specs.Data.{Data}
-use Rattle.requests.specs.declared.PlainStep.{PlainStep}
-use Rattle.requests.specs.declared.PlainStep.TheVariants.{Ptrace}
+use Rattle.requests.specs.Plain.{PlainStep}
+use Rattle.requests.specs.declared.step.Step.TheVariants.{Ptrace}
 use Rattle.requests.specs.declared.Request.{Request}
 use Rattle.requests.specs.declared.Request.TheVariants as request
 use Rattle.scenario.specs.declared.fields.Flaw.{Flaw}
@@ -31,9 +31,9 @@ set_event_mask_of caller d = do
 unfoldable pub request_of : ℕ → Request → Data → Result PlainStep Flaw
 request_of caller r d = do
   target ← word_at (codes "target") d
-  arg ← optional_at (codes "data") 0 word_of d
+  «data» ← optional_at (codes "data") 0 word_of d
   _ ← only (ptrace_keys ++ (codes "target" ∷ codes "data" ∷ [])) d
-  Ok (Ptrace caller r target arg)
+  Ok (Ptrace caller r target «data»)
 
 abbrev pub asked_of : ℕ → Request → Data → Result PlainStep Flaw
 asked_of caller request.TraceMe d = trace_me_of caller d

@@ -1,10 +1,9 @@
 //! From the steps of a scenario to those that a host makes, with their handlers.
-ghost use Rattle.std.specs.Prelude.{List, ◌≡◌, ◌≢◌, ◌≤◌, ◌↔◌, ◌⊎◌, length, map, None, IsTrue, IsSomeAnd, IfSome, IfOk, IfErr, IsErrOf};
+ghost use Rattle.std.specs.Prelude.{List, ◌≡◌, ◌≢◌, ◌≤◌, ◌↔◌, ◌⊎◌, length, map, Some, None, IsTrue, IfSome, IfOk, IfErr, IsErrOf};
 ghost use Rattle.std.specs.Vec.Iter.{into_iter_items};
 ghost use Rattle.stop_handlers.specs.declared.Rule.{Rule};
 ghost use Rattle.stop_handlers.specs.Handlers.{MakesObeying};
-ghost use Rattle.requests.specs.Plain.{plain};
-ghost use Rattle.scenario.specs.Plan.{bound, most_steps, policies_in, policy_before};
+ghost use Rattle.scenario.specs.Plan.{asked, most_steps, policies_in, policy_before};
 ghost use Rattle.scenario.specs.declared.running.RunFault.TheVariants.{Mismatch, Memory};
 
 use crate::plan::Scenario;
@@ -21,7 +20,11 @@ pub fn policies(alloc: Global, scenario: &Scenario) -> Result<Vec<Policy>, Alloc
 {
     let mut policies = Vec::new(alloc);
     for step in scenario.steps() {
-        if let PlainStep::Install { policy, .. } = step.1 {
+        if let PlainStep::Install {
+            handler: policy,
+            ..
+        } = step.1
+        {
             policies.push(policy)?;
         }
     }
@@ -36,7 +39,11 @@ fn left_after<'a, F: Decider + Send + Drop>(
     ensures some { IfSome result (λ left. handlers.now ≡ policy_before step.now left.now) }
     ensures none { result ≡ None → (others : List (List Rule)) → handlers.now ≢ policy_before step.now others }
 {
-    let PlainStep::Install { policy, .. } = step else {
+    let PlainStep::Install {
+        handler: policy,
+        ..
+    } = step
+    else {
         return Some(handlers);
     };
     let (first, left) = handlers.split_first()?;
@@ -65,50 +72,14 @@ fn obey<F: Decider + Send + Drop>(handlers: &[Handler<F>], scenario: &Scenario) 
 fn bound_step<F: Decider + Send + Drop>(
     step: &PlainStep,
     handlers: &mut IntoIter<Handler<F>>,
-) -> Option<Step<F>>
+) -> Option<Step<Handler<F>>>
     ensures { (others : List (List Rule)) → into_iter_items handlers.old ≡ policy_before step.now others
-        → (into_iter_items handlers.new ≡ others) × IsSomeAnd result (λ s. plain s ≡ step.now) }
+        → (into_iter_items handlers.new ≡ others) × (result ≡ Some step.now) }
 {
-    Some(match *step {
-        PlainStep::Spawn => Step::Spawn,
-        PlainStep::List { caller } => Step::List { caller },
-        PlainStep::Sigaction {
-            caller,
-            sig,
-            disposition,
-        } => Step::Sigaction {
-            caller,
-            sig,
-            disposition,
-        },
-        PlainStep::Kill { caller, which, sig } => Step::Kill { caller, which, sig },
-        PlainStep::Wait4 {
-            caller,
-            which,
-            options,
-        } => Step::Wait4 {
-            caller,
-            which,
-            options,
-        },
-        PlainStep::Install { caller, .. } => Step::Install {
-            caller,
-            handler: handlers.next()?,
-        },
-        PlainStep::Handle { caller } => Step::Handle { caller },
-        PlainStep::Ptrace {
-            caller,
-            request,
-            target,
-            arg,
-        } => Step::Ptrace {
-            caller,
-            request,
-            target,
-            arg,
-        },
-        PlainStep::Turn { tid, act } => Step::Turn { tid, act },
-    })
+    match step {
+        PlainStep::Install { .. } => step.with_handler(Some(handlers.next()?)),
+        _ => step.with_handler(None),
+    }
 }
 
 /// The scenario's steps, each install with the next handler.
@@ -116,9 +87,9 @@ fn bound<F: Decider + Send + Drop>(
     alloc: Global,
     scenario: &Scenario,
     handlers: Vec<Handler<F>>,
-) -> Result<Vec<(Uid, Step<F>)>, RunFault>
+) -> Result<Vec<(Uid, Step<Handler<F>>)>, RunFault>
     requires { handlers.items ≡ policies_in scenario.now.steps }
-    ensures ok { IfOk result (λ v. map bound v.items ≡ scenario.now.steps) }
+    ensures ok { IfOk result (λ v. map asked v.items ≡ scenario.now.steps) }
     ensures few { IfOk result (λ v. length v.items ≤ most_steps) }
     ensures err { IfErr result (λ e. e ≡ Memory) }
 {
@@ -140,8 +111,8 @@ pub fn bind<F: Decider + Send + Drop>(
     alloc: Global,
     scenario: &Scenario,
     handlers: Vec<Handler<F>>,
-) -> Result<Vec<(Uid, Step<F>)>, RunFault>
-    ensures ok { IfOk result (λ v. map bound v.items ≡ scenario.now.steps) }
+) -> Result<Vec<(Uid, Step<Handler<F>>)>, RunFault>
+    ensures ok { IfOk result (λ v. map asked v.items ≡ scenario.now.steps) }
     ensures few { IfOk result (λ v. length v.items ≤ most_steps) }
     ensures mismatch { IsErrOf result Mismatch ↔ (handlers.items ≢ policies_in scenario.now.steps) }
     ensures err { IfErr result (λ e. (e ≡ Mismatch) ⊎ (e ≡ Memory)) }

@@ -11,13 +11,13 @@ pub enum Fault {
     /// The input could not be read.
     #[error("tracehost: cannot read")]
     Read,
-    /// More than 4194304 bytes.
+    /// More bytes than a scenario may have.
     #[error("tracehost: refused: TooLong")]
     TooLong,
     /// No JSON text.
     #[error("tracehost: refused: BadJson")]
     BadJson,
-    /// More than 100000 steps.
+    /// More steps than a scenario may have.
     #[error("tracehost: refused: TooManySteps")]
     TooManySteps,
     /// A key is missing or unknown, or has a value of the wrong kind.

@@ -5,6 +5,7 @@ ghost use Rattle.scenario.specs.Lines.{line};
 ghost use Rattle.scenario.specs.Runs.{answered, shown};
 ghost use Rattle.scenario.specs.Shown.{shown_line};
 
+use crate::plan::USERS;
 use crate::words::Words;
 use pid_blocks::Uid;
 use requests::Reply;
@@ -34,7 +35,7 @@ fn push_line(
 }
 
 /// Counts one more reply of the user, and answers how many that makes.
-fn count_reply(made: &mut [usize; 64], uid: Uid) -> usize
+fn count_reply(made: &mut [usize; USERS], uid: Uid) -> usize
     requires { (k : ℕ) → slice_index made.old k + 1 < 2 ^ 64 }
     ensures range { (1001 ≤ uid) × (uid ≤ 1064) }
     ensures number { result ≡ slice_index made.old (uid - 1001) + 1 }
@@ -56,7 +57,7 @@ pub fn render(
     ensures { IfOk result (λ s. string_bytes s ≡ shown user (map answered replies.now)) }
 {
     let mut text = String::new(alloc);
-    let mut made = [0usize; 64];
+    let mut made = [0usize; USERS];
     for reply in replies {
         let number = count_reply(&mut made, reply.0);
         push_line(&mut text, &user, reply.0, number, &reply.1)?;

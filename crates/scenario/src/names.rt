@@ -51,7 +51,7 @@ pub(crate) fn request_named(text: &str) -> Option<Request>
         "PT_KILL" => Some(Request::Kill),
         "PT_SET_EVENT_MASK" => Some(Request::SetEventMask),
         "PT_GET_EVENT_MASK" => Some(Request::GetEventMask),
-        "PT_LWPINFO" => Some(Request::GetLwpInfo),
+        "PT_LWPINFO" => Some(Request::LwpInfo),
         "PT_GETNUMLWPS" => Some(Request::GetNumLwps),
         "PT_GETLWPLIST" => Some(Request::GetLwpList),
         "PT_TO_SCE" => Some(Request::ToSce),

@@ -10,13 +10,16 @@ ghost use Rattle.scenario.specs.Scenarios.{at_step, numbered, settings_of, steps
 
 use crate::fault::Fault;
 use crate::fields::{Flaw, member, object_of, only};
-use crate::plan::Scenario;
+use crate::plan::{MOST_STEPS, Scenario};
 use crate::steps::step_of;
 use pid_blocks::Uid;
 use requests::PlainStep;
 use serde_json::Value;
 use std::alloc::Global;
 use trace_stop::Settings;
+
+/// The most bytes of a scenario's text.
+pub(crate) const MOST_BYTES: usize = 4194304;
 
 impl Flaw {
     fn at(self, number: u32) -> Fault
@@ -102,7 +105,7 @@ fn bounded_steps(alloc: Global, items: &[Value]) -> Result<Vec<(Uid, PlainStep)>
     ensures bound { IfOk result (λ v. length v.items ≤ most_steps) }
     ensures no_read { IfErr result (λ e. e ≢ ReadFault) }
 {
-    if items.len() > 100000 {
+    if items.len() > MOST_STEPS {
         return Err(Fault::TooManySteps);
     }
     steps_of(alloc, items)
@@ -122,14 +125,14 @@ fn plan_of(alloc: Global, value: &Value) -> Result<Scenario, Fault>
 ///
 /// # Errors
 ///
-/// The first check that fails: more than 4194304 bytes, no JSON text, the shape of the whole, more than 100000 steps, and then
-/// each step in order, with its keys in the order of its op, and last a key that its op doesn't have. `Memory` where no
+/// The first check that fails: more than `MOST_BYTES` bytes, no JSON text, the shape of the whole, more than `MOST_STEPS` steps,
+/// and then each step in order, with its keys in the order of its op, and last a key that its op doesn't have. `Memory` where no
 /// memory was left. Never `Read`.
 pub fn parse(alloc: Global, bytes: &[u8]) -> Result<Scenario, Fault>
     ensures stands { Answers result (StandsFor bytes.now) }
     ensures no_read { IfErr result (λ e. e ≢ ReadFault) }
 {
-    if bytes.len() > 4194304 {
+    if bytes.len() > MOST_BYTES {
         return Err(Fault::TooLong);
     }
     match Value::from_slice(alloc, bytes) {

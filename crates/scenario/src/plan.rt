@@ -3,7 +3,13 @@ use requests::PlainStep;
 use std::marker::Model;
 use trace_stop::Settings;
 
-/// At most 100000 steps of users, in order, and the settings of the host that they are made on.
+/// How many users there are.
+pub(crate) const USERS: usize = 64;
+
+/// The most steps of a scenario.
+pub(crate) const MOST_STEPS: usize = 100000;
+
+/// At most `MOST_STEPS` steps of users, in order, and the settings of the host that they are made on.
 #[derive(Drop)]
 pub struct Scenario {
     settings: Settings,
@@ -25,7 +31,7 @@ impl Scenario {
     ghost use Rattle.std.specs.Prelude.{◌≡◌, ◌≤◌, length, map};
     ghost use Rattle.scenario.specs.Plan.{Plan, most_steps, asked};
 
-    /// The scenario of these steps, of which there are at most 100000.
+    /// The scenario of these steps, of which there are at most `MOST_STEPS`.
     pub fn new(settings: Settings, steps: Vec<(Uid, PlainStep)>) -> Scenario
         requires { length steps.items ≤ most_steps }
         ensures { result ≡ record { settings = settings; steps = map asked steps.items } }

@@ -1,24 +1,24 @@
 //! A reader's bytes to a scenario.
-ghost use Rattle.std.specs.Prelude.{◌≡◌, ◌⊎◌, IfOk, IfErr, IfSome};
+ghost use Rattle.std.specs.Prelude.{◌≡◌, ◌+◌, ◌⊎◌, IfOk, IfErr, IfSome};
 ghost use Rattle.scenario.specs.declared.fault.Fault.TheVariants.{Memory, Read as ReadFault};
 ghost use Rattle.scenario.specs.Scenarios.{IsFront, StandsFor, Tells, Takes, most_bytes};
 
 use crate::fault::Fault;
-use crate::parsing::parse;
+use crate::parsing::{MOST_BYTES, parse};
 use crate::plan::Scenario;
 use std::alloc::Global;
 use std::io::Read;
 
-/// The bytes of a reader to their end, or to the 4194305th.
+/// The bytes of a reader to their end, or to the first that is too many.
 fn front_of<R: Read>(alloc: Global, reader: &mut R) -> Result<Vec<u8>, Fault>
     ensures front { IfOk result (λ v. IfSome (R.remaining reader.old) (IsFront v.items)) }
-    ensures takes { Takes (R.remaining reader.old) (R.remaining reader.new) 4194305 }
+    ensures takes { Takes (R.remaining reader.old) (R.remaining reader.new) (most_bytes + 1) }
     ensures err { IfErr result (λ e. (e ≡ Memory) ⊎ (e ≡ ReadFault)) }
 {
     let mut bytes = Vec::new(alloc);
-    while bytes.len() <= 4194304 {
+    while bytes.len() <= MOST_BYTES {
         let mut chunk = [0u8; 4096];
-        let room = chunk.len().min(4194305 - bytes.len());
+        let room = chunk.len().min(MOST_BYTES + 1 - bytes.len());
         let part = &mut chunk[..room];
         let n = reader.read(part).map_err(|_| Fault::Read)?;
         if n == 0 {
@@ -29,14 +29,14 @@ fn front_of<R: Read>(alloc: Global, reader: &mut R) -> Result<Vec<u8>, Fault>
     Ok(bytes)
 }
 
-/// The scenario that a reader's bytes stand for. No more than 4194305 bytes are taken from the reader.
+/// The scenario that a reader's bytes stand for. No more than one byte beyond `MOST_BYTES` is taken from the reader.
 ///
 /// # Errors
 ///
 /// `Read` where the reader failed, else as `parse`.
 pub fn read<R: Read>(alloc: Global, reader: &mut R) -> Result<Scenario, Fault>
     ensures stands { IfSome (R.remaining reader.old) (λ input. Tells result (StandsFor input)) }
-    ensures takes { Takes (R.remaining reader.old) (R.remaining reader.new) 4194305 }
+    ensures takes { Takes (R.remaining reader.old) (R.remaining reader.new) (most_bytes + 1) }
 {
     let bytes = front_of(alloc, reader)?;
     parse(alloc, bytes.as_slice())

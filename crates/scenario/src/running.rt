@@ -1,7 +1,6 @@
 //! Runs a scenario, and writes its lines.
-ghost use Rattle.std.specs.Prelude.{◌≡◌, ◌≢◌, ◌⊎◌, ◌↔◌, ℕ, IsErrOf, map, zip, false, All, IsTrue, IfOk, IfErr};
-ghost use Rattle.requests.specs.Memory.{is_memory};
-ghost use Rattle.scenario.specs.Plan.{bound, policies_in};
+ghost use Rattle.std.specs.Prelude.{◌≡◌, ◌≢◌, ◌⊎◌, ◌↔◌, IsErrOf, map, IfOk, IfErr};
+ghost use Rattle.scenario.specs.Plan.{asked, policies_in};
 ghost use Rattle.scenario.specs.Runs.{answered, answers_of, shown, Writes};
 ghost use Rattle.scenario.specs.Faults.{run_fault_status};
 ghost use Rattle.scenario.specs.declared.running.RunFault.TheVariants.{Mismatch, Memory, Start, Write as WriteFault};
@@ -16,7 +15,6 @@ use std::io::Write;
 use stop_handlers::{Decider, Handler};
 use thiserror::Error;
 use trace_stop::Settings;
-use visibility::run_list;
 
 /// Why a run came to no end.
 #[derive(Clone, Copy, Debug, PartialEq, Eq, Error)]
@@ -62,55 +60,30 @@ impl<T: Drop> From<AllocFailed<T>> for RunFault {
     }
 }
 
-/// Whether each of the replies was made. A step that found no memory made none.
-pub(crate) fn are_made(replies: &[Reply]) -> bool
-    ensures { IsTrue result ↔ All (λ r. is_memory r ≡ false) replies.now }
-{
-    replies.iter().all(|reply| !reply.is_memory())
-}
-
-/// The users of the steps, in order. An error is want of memory.
-fn users_of<F: Decider + Send + Drop>(
-    alloc: Global,
-    steps: &[(Uid, Step<F>)],
-) -> Result<Vec<Uid>, AllocError>
-    ensures { IfOk result (λ users. users.items ≡ map (λ s. s.0) steps.now) }
-{
-    steps.iter().map(|step| step.0).collect(alloc)
-}
-
-/// Each user with the reply in the same place. An error is want of memory.
-fn pairs_of(
-    alloc: Global,
-    users: Vec<Uid>,
-    replies: Vec<Reply>,
-) -> Result<Vec<(Uid, Reply)>, AllocError>
-    ensures { IfOk result (λ pairs. pairs.items ≡ zip users.items replies.items) }
-{
-    users.into_iter().zip(replies).collect(alloc)
-}
-
 /// The replies to the steps, made one after another by a new host. A step that is answered ENOMEM ends the run.
 fn replies_of<F: Decider + Send + Drop>(
     alloc: Global,
     settings: Settings,
-    steps: Vec<(Uid, Step<F>)>,
+    steps: Vec<(Uid, Step<Handler<F>>)>,
 ) -> Result<Vec<(Uid, Reply)>, RunFault>
     ensures ok { IfOk result (λ v. map answered v.items
-        ≡ answers_of (record { settings = settings; steps = map bound steps.items })) }
+        ≡ answers_of (record { settings = settings; steps = map asked steps.items })) }
     ensures err { IfErr result (λ e. e ≡ Memory) }
 {
-    let users = users_of(alloc, steps.as_slice())?;
     let mut host = Host::new(alloc, settings)?;
-    let replies = run_list(alloc, &mut host, steps)?;
-    if !are_made(replies.as_slice()) {
-        return Err(RunFault::Memory);
+    let mut replies = Vec::new(alloc);
+    for (user, step) in steps {
+        let reply = host.step(alloc, user, step);
+        if reply.is_memory() {
+            return Err(RunFault::Memory);
+        }
+        replies.push((user, reply))?;
     }
-    Ok(pairs_of(alloc, users, replies)?)
+    Ok(replies)
 }
 
 /// Writes all the bytes, or a front of them.
-pub(crate) fn write_whole<W: Write>(writer: &mut W, bytes: &[u8]) -> Result<(), RunFault>
+fn write_whole<W: Write>(writer: &mut W, bytes: &[u8]) -> Result<(), RunFault>
     ensures writes { Writes result (W.contents writer.old) (W.contents writer.new) bytes.now }
     ensures kind { IfErr result (λ e. e ≡ WriteFault) }
 {
@@ -123,6 +96,20 @@ pub(crate) fn write_whole<W: Write>(writer: &mut W, bytes: &[u8]) -> Result<(), 
         }
     }
     Ok(())
+}
+
+/// Writes the lines of the replies, or those of one user alone.
+pub(crate) fn write_lines<W: Write>(
+    alloc: Global,
+    replies: &[(Uid, Reply)],
+    options: RunOptions,
+    writer: &mut W,
+) -> Result<(), RunFault>
+    ensures writes { Writes result (W.contents writer.old) (W.contents writer.new) (shown options.user (map answered replies.now)) }
+    ensures kind { IfErr result (λ e. (e ≡ Memory) ⊎ (e ≡ WriteFault)) }
+{
+    let text = render(alloc, replies, options.user)?;
+    write_whole(writer, text.as_bytes())
 }
 
 /// What is shown of a run.
@@ -153,6 +140,5 @@ pub fn run<F: Decider + Send + Drop, W: Write>(
 {
     let steps = bind(alloc, scenario, handlers)?;
     let replies = replies_of(alloc, scenario.settings(), steps)?;
-    let text = render(alloc, replies.as_slice(), options.user)?;
-    write_whole(writer, text.as_bytes())
+    write_lines(alloc, replies.as_slice(), options, writer)
 }

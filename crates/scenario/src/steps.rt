@@ -121,7 +121,10 @@ fn install_of(step: &Value) -> Result<PlainStep, Flaw>
     let items = member(step, "rules")?.as_array().ok_or(Flaw::Shape)?;
     let policy = rules_of(items.as_slice())?;
     only(step, &["user", "op", "caller", "rules"])?;
-    Ok(PlainStep::Install { caller, policy })
+    Ok(PlainStep::Install {
+        caller,
+        handler: policy,
+    })
 }
 
 #[tactic(auto, unfolding(crate::specs::Steps::handle_of))]

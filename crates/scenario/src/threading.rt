@@ -1,19 +1,17 @@
 //! Runs a scenario by a session for each user, each in a thread of its own.
 
-ghost use Rattle.std.specs.Prelude.{◌≡◌, ◌≢◌, ◌⊎◌, ◌↔◌, ◌≤◌, ◌++◌, [], ℕ, false, length, map, All, IsTrue, IsErrOf, IfOk, IfErr, OnOk};
-ghost use Rattle.std.specs.List.{flat_map};
+ghost use Rattle.std.specs.Prelude.{◌≡◌, ◌≢◌, ◌⊎◌, ◌↔◌, ◌≤◌, ◌++◌, [], length, map, IsErrOf, IfOk, IfErr, OnOk};
+ghost use Rattle.std.specs.List.{flat_map, AllByRecursion};
 ghost use Rattle.pid_blocks.specs.Blocks.{users};
 ghost use Rattle.requests.specs.Isolation.{Users};
-ghost use Rattle.requests.specs.Memory.{is_memory};
-ghost use Rattle.scenario.specs.Plan.{bound, most_steps, policies_in};
+ghost use Rattle.scenario.specs.Plan.{asked, most_steps, policies_in};
 ghost use Rattle.scenario.specs.Runs.{answered, answers_of, by_users, shown_grouped, Writes};
-ghost use Rattle.scenario.specs.Scripts.{has_steps, plain_script, scripts_in, told_by};
+ghost use Rattle.scenario.specs.Scripts.{has_steps, plain_script, scripts_in, told_by, IsMade};
 ghost use Rattle.scenario.specs.declared.running.RunFault.TheVariants.{Mismatch, Memory, Start};
 
 use crate::binding::bind;
-use crate::lines::render;
-use crate::plan::Scenario;
-use crate::running::{RunFault, RunOptions, are_made, write_whole};
+use crate::plan::{Scenario, USERS};
+use crate::running::{RunFault, RunOptions, write_lines};
 use pid_blocks::Uid;
 use requests::{Host, Reply, Step};
 use sessions::{Gate, RunRefusal, Script, Transcript, run_sessions};
@@ -37,7 +35,7 @@ impl Gate for NoGate {
 fn empty_scripts<F: Decider + Send + Drop>(alloc: Global) -> Result<Vec<Script<F>>, AllocError>
     ensures { IfOk result (λ scripts. map plain_script scripts.items ≡ map (λ u. (u, [])) users) }
 {
-    let mut scripts = Vec::with_capacity(alloc, 64)?;
+    let mut scripts = Vec::with_capacity(alloc, USERS)?;
     for number in 1001..1065 {
         if let Ok(uid) = Uid::new(number) {
             let steps = Vec::new(alloc);
@@ -57,10 +55,10 @@ fn is_asked<F: Decider + Send + Drop>(script: &Script<F>) -> bool
 /// A script for each user who has steps, by rising number of the users. An error is want of memory.
 fn scripts_of<F: Decider + Send + Drop>(
     alloc: Global,
-    steps: Vec<(Uid, Step<F>)>,
+    steps: Vec<(Uid, Step<Handler<F>>)>,
 ) -> Result<Vec<Script<F>>, AllocError>
-    ensures scripts { IfOk result (λ scripts. map plain_script scripts.items ≡ scripts_in (map bound steps.items)) }
-    ensures users { OnOk result (Users (map bound steps.items)) }
+    ensures scripts { IfOk result (λ scripts. map plain_script scripts.items ≡ scripts_in (map asked steps.items)) }
+    ensures users { OnOk result (Users (map asked steps.items)) }
 {
     let mut scripts = empty_scripts(alloc)?;
     for (user, step) in steps {
@@ -70,34 +68,27 @@ fn scripts_of<F: Decider + Send + Drop>(
     Ok(scripts)
 }
 
-/// Whether each reply of the transcript was made.
-fn is_made(transcript: &Transcript) -> bool
-    ensures { IsTrue result ↔ All (λ r. is_memory r ≡ false) transcript.now.replies.items }
-{
-    are_made(transcript.replies.as_slice())
-}
-
-/// Whether each reply of the transcripts was made. A step that found no memory made none.
-fn all_made(transcripts: &[Transcript]) -> bool
-    ensures { IsTrue result ↔ All (λ t. All (λ r. is_memory r ≡ false) t.replies.items) transcripts.now }
-{
-    transcripts.iter().all(|transcript| is_made(transcript))
-}
-
-/// Adds the replies of the transcript, each with its user. An error is want of memory.
-fn add_replies(pairs: &mut Vec<(Uid, Reply)>, transcript: Transcript) -> Result<(), AllocError>
-    ensures { OnOk result (map answered pairs.new.items ≡ map answered pairs.old.items ++ told_by transcript) }
+/// Adds the replies of the transcript, each with its user, unless one wasn't made. An error is want of memory.
+fn add_replies(pairs: &mut Vec<(Uid, Reply)>, transcript: Transcript) -> Result<(), RunFault>
+    ensures told { OnOk result (map answered pairs.new.items ≡ map answered pairs.old.items ++ told_by transcript) }
+    ensures made { OnOk result (IsMade transcript) }
+    ensures err { IfErr result (λ e. e ≡ Memory) }
 {
     let Transcript { uid, replies } = transcript;
     for reply in replies {
+        if reply.is_memory() {
+            return Err(RunFault::Memory);
+        }
         pairs.push((uid, reply))?;
     }
     Ok(())
 }
 
-/// The replies of the transcripts, each with its user, one transcript after another. An error is want of memory.
-fn replies_in(alloc: Global, transcripts: Vec<Transcript>) -> Result<Vec<(Uid, Reply)>, AllocError>
-    ensures { IfOk result (λ pairs. map answered pairs.items ≡ flat_map told_by transcripts.items) }
+/// The replies of the transcripts, each with its user, one transcript after another. A step that found no memory made none.
+fn replies_in(alloc: Global, transcripts: Vec<Transcript>) -> Result<Vec<(Uid, Reply)>, RunFault>
+    ensures told { IfOk result (λ pairs. map answered pairs.items ≡ flat_map told_by transcripts.items) }
+    ensures made { OnOk result (AllByRecursion IsMade transcripts.items) }
+    ensures err { IfErr result (λ e. e ≡ Memory) }
 {
     let mut pairs = Vec::new(alloc);
     for transcript in transcripts {
@@ -111,12 +102,12 @@ fn transcripts_of<F: Decider + Send + Drop, R: Threads + Wait + Sync>(
     rt: &R,
     alloc: Global,
     settings: Settings,
-    steps: Vec<(Uid, Step<F>)>,
+    steps: Vec<(Uid, Step<Handler<F>>)>,
 ) -> Result<Vec<Transcript>, RunFault>
     requires { length steps.items ≤ most_steps }
-    ensures told { IfOk result (λ ts. All (λ t. All (λ r. is_memory r ≡ false) t.replies.items) ts.items
-        → flat_map told_by ts.items ≡ by_users users (answers_of (record { settings = settings; steps = map bound steps.items }))) }
-    ensures users { OnOk result (Users (map bound steps.items)) }
+    ensures told { IfOk result (λ ts. AllByRecursion IsMade ts.items
+        → flat_map told_by ts.items ≡ by_users users (answers_of (record { settings = settings; steps = map asked steps.items }))) }
+    ensures users { OnOk result (Users (map asked steps.items)) }
     ensures err { IfErr result (λ e. (e ≡ Memory) ⊎ (e ≡ Start)) }
 {
     let scripts = scripts_of(alloc, steps)?;
@@ -134,19 +125,16 @@ fn replies_by_user<F: Decider + Send + Drop, R: Threads + Wait + Sync>(
     rt: &R,
     alloc: Global,
     settings: Settings,
-    steps: Vec<(Uid, Step<F>)>,
+    steps: Vec<(Uid, Step<Handler<F>>)>,
 ) -> Result<Vec<(Uid, Reply)>, RunFault>
     requires { length steps.items ≤ most_steps }
     ensures ok { IfOk result (λ v. map answered v.items
-        ≡ by_users users (answers_of (record { settings = settings; steps = map bound steps.items }))) }
-    ensures users { OnOk result (Users (map bound steps.items)) }
+        ≡ by_users users (answers_of (record { settings = settings; steps = map asked steps.items }))) }
+    ensures users { OnOk result (Users (map asked steps.items)) }
     ensures err { IfErr result (λ e. (e ≡ Memory) ⊎ (e ≡ Start)) }
 {
     let transcripts = transcripts_of(rt, alloc, settings, steps)?;
-    if !all_made(transcripts.as_slice()) {
-        return Err(RunFault::Memory);
-    }
-    Ok(replies_in(alloc, transcripts)?)
+    replies_in(alloc, transcripts)
 }
 
 /// Makes the steps of the scenario on a new host as `run` does, but by a session for each user who has steps, each in a
@@ -169,6 +157,5 @@ pub fn run_threads<F: Decider + Send + Drop, W: Write, R: Threads + Wait + Sync>
 {
     let steps = bind(alloc, scenario, handlers)?;
     let replies = replies_by_user(rt, alloc, scenario.settings(), steps)?;
-    let text = render(alloc, replies.as_slice(), options.user)?;
-    write_whole(writer, text.as_bytes())
+    write_lines(alloc, replies.as_slice(), options, writer)
 }

@@ -35,7 +35,7 @@ fn trace_me_of(step: &Value, caller: u32) -> Result<PlainStep, Flaw>
         caller,
         request: Request::TraceMe,
         target: 0,
-        arg: 0,
+        data: 0,
     })
 }
 
@@ -50,7 +50,7 @@ fn set_event_mask_of(step: &Value, caller: u32) -> Result<PlainStep, Flaw>
         caller,
         request: Request::SetEventMask,
         target,
-        arg: mask.0,
+        data: mask.0,
     })
 }
 
@@ -60,13 +60,13 @@ fn request_of(step: &Value, caller: u32, request: Request) -> Result<PlainStep, 
     ensures { result ≡ request_of caller request (view step.now) }
 {
     let target = word(step, "target")?;
-    let arg = data_at(step)?;
+    let data = data_at(step)?;
     only(step, &["user", "op", "caller", "request", "target", "data"])?;
     Ok(PlainStep::Ptrace {
         caller,
         request,
         target,
-        arg,
+        data,
     })
 }
 

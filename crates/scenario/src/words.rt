@@ -2,11 +2,11 @@
 ghost use Rattle.std.specs.Prelude.{◌≡◌, ◌∷◌, Some, map, decimal};
 ghost use Rattle.std.specs.List.{join_with_byte};
 ghost use Rattle.event_masks.specs.Names.{event_table, stop_table, flag_text};
-ghost use Rattle.scenario.specs.Words.{event_text, index_text, decision_words, reply_words};
+ghost use Rattle.scenario.specs.Words.{index_text, decision_words, reply_words};
 ghost use Rattle.scenario.specs.Texts.{named_bit, view_words, rest_words};
 
 use event_masks::{EventMask, StopFlags};
-use lwpinfo::{Event, LwpInfo, NumList};
+use lwpinfo::{LwpInfo, NumList};
 use requests::Reply;
 use std::fmt;
 use stop_handlers::{Decision, StopView};
@@ -33,15 +33,6 @@ const EVENTS: [(&str, u32); 6] = [
     ("PTRACE_LWP", 16),
     ("PTRACE_VFORK", 32),
 ];
-
-fn event_name<'a>(event: Event) -> &'a str
-    ensures { result.now ≡ event_text event }
-{
-    match event {
-        Event::Nothing => "NONE",
-        Event::Signal => "SIGNAL",
-    }
-}
 
 /// The flags of a set by name, joined by `+`, or `none`.
 #[derive(Clone, Copy, Drop)]
@@ -94,16 +85,16 @@ impl fmt::Display for Listed<'_> {
     }
 }
 
-/// The place of a rule in its policy, or `none`.
+/// The index of a handler among its debugger's, or `none`.
 #[derive(Clone, Copy, Drop)]
-struct Place(Option<u32>);
+struct Index(Option<u32>);
 
-impl fmt::Display for Place {
-    ghost output = { λ p. Some (index_text p.0) };
+impl fmt::Display for Index {
+    ghost output = { λ i. Some (index_text i.0) };
 
     fn fmt<W: fmt::Write>(&self, f: &mut fmt::Formatter<W>) -> fmt::Result {
         match self.0 {
-            Some(place) => write!(f, "{place}"),
+            Some(index) => write!(f, "{index}"),
             None => write!(f, "none"),
         }
     }
@@ -213,7 +204,7 @@ impl fmt::Display for Words<'_> {
             Reply::Nothing => write!(f, "nothing"),
             Reply::Info(info) => {
                 let tid = info.tid.get();
-                let event = event_name(info.event);
+                let event = info.event;
                 let flags = stop_flags(info.flags);
                 let rest = Rest(info);
                 write!(f, "info {tid} {event} flags={flags} {rest}")
@@ -246,9 +237,9 @@ impl fmt::Display for Words<'_> {
                 let pid = pid.get();
                 let word = status.word();
                 let seen = Seen(view);
-                let place = Place(*index);
+                let handler = Index(*index);
                 let doing = Doing(*decision);
-                write!(f, "handled {pid} {word} at {seen} by {place} {doing}")
+                write!(f, "handled {pid} {word} at {seen} by {handler} {doing}")
             }
             Reply::Stopped { tid, sig, flags } => {
                 let tid = tid.get();

@@ -4,7 +4,6 @@ ghost use Rattle.std.specs.Prelude.{◌≡◌, ◌↔◌, IsTrue, IfOk};
 ghost use Rattle.requests.specs.View.{view};
 
 use crate::replay::replay;
-use crate::replies::same;
 use crate::scripts::{scripts, users};
 use host_lock::{Entry, Journal};
 use pid_blocks::Uid;
@@ -34,7 +33,7 @@ fn is_at(entry: &Entry, script: &Script<ByPolicy>, transcript: &Transcript, plac
     entry.uid == script.uid
         && entry.uid == transcript.uid
         && entry.step == step.plain()
-        && same(&entry.reply, reply)
+        && entry.reply == *reply
 }
 
 /// How many entries of the journal aren't their session's next step with its reply.

@@ -5,7 +5,6 @@
 mod compare;
 mod dice;
 mod replay;
-mod replies;
 mod scripts;
 mod writer;
 

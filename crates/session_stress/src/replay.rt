@@ -1,61 +1,11 @@
 //! The steps of a journal, made again by one thread.
 
-ghost use Rattle.std.specs.Prelude.{◌≡◌};
-ghost use Rattle.requests.specs.Plain.{plain};
-
-use crate::replies::same;
 use host_lock::Journal;
 use pid_blocks::Uid;
-use requests::{Host, PlainStep, Step};
+use requests::Host;
 use std::alloc::{AllocError, Global};
-use stop_handlers::{ByPolicy, Handler};
+use stop_handlers::ByPolicy;
 use trace_stop::Settings;
-
-/// The step, with a handler that answers by the policy.
-pub fn step_of(step: &PlainStep) -> Step<ByPolicy>
-    ensures { plain result ≡ step.now }
-{
-    match *step {
-        PlainStep::Spawn => Step::Spawn,
-        PlainStep::List { caller } => Step::List { caller },
-        PlainStep::Sigaction {
-            caller,
-            sig,
-            disposition,
-        } => Step::Sigaction {
-            caller,
-            sig,
-            disposition,
-        },
-        PlainStep::Kill { caller, which, sig } => Step::Kill { caller, which, sig },
-        PlainStep::Wait4 {
-            caller,
-            which,
-            options,
-        } => Step::Wait4 {
-            caller,
-            which,
-            options,
-        },
-        PlainStep::Install { caller, policy } => Step::Install {
-            caller,
-            handler: Handler::new(policy, ByPolicy(policy)),
-        },
-        PlainStep::Handle { caller } => Step::Handle { caller },
-        PlainStep::Ptrace {
-            caller,
-            request,
-            target,
-            arg,
-        } => Step::Ptrace {
-            caller,
-            request,
-            target,
-            arg,
-        },
-        PlainStep::Turn { tid, act } => Step::Turn { tid, act },
-    }
-}
 
 /// A host on which steps were made again, and how many of them were answered otherwise.
 #[derive(Drop)]
@@ -76,8 +26,8 @@ pub fn replay(
     for place in 0..journal.len() {
         if let Some(entry) = journal.get(place) {
             if users.contains(&entry.uid) {
-                let reply = host.step(alloc, entry.uid, step_of(&entry.step));
-                if !same(&reply, &entry.reply) {
+                let reply = host.step(alloc, entry.uid, entry.step.by_policy());
+                if reply != entry.reply {
                     differ = differ.wrapping_add(1);
                 }
             }

@@ -4,7 +4,6 @@ ghost use Rattle.std.specs.Prelude.{◌≡◌, ◌<◌, ◌≤◌, All, IfOk, ve
 ghost use Rattle.sessions.specs.Runs.{IsShort};
 
 use crate::dice::Dice;
-use crate::replay::step_of;
 use crate::writer::Writer;
 use pid_blocks::Uid;
 use requests::PlainStep;
@@ -79,7 +78,7 @@ fn script_of(
     let mut own = Vec::new(alloc);
     for (place, step) in steps.iter().enumerate() {
         if place % sessions == turn {
-            own.push(step_of(step))?;
+            own.push(step.by_policy())?;
         }
     }
     own.truncate(STEPS);

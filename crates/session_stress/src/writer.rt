@@ -29,7 +29,7 @@ const REQUESTS: [Request; 20] = [
     Request::SetEventMask,
     Request::SetEventMask,
     Request::GetEventMask,
-    Request::GetLwpInfo,
+    Request::LwpInfo,
     Request::GetNumLwps,
     Request::GetLwpList,
     Request::ToSce,
@@ -232,7 +232,7 @@ impl Writer {
         match self.dice.below(8) {
             0 | 1 => PlainStep::Install {
                 caller: debugger,
-                policy: self.policy(),
+                handler: self.policy(),
             },
             2..=4 => PlainStep::Handle { caller: debugger },
             _ => self.wait(debugger, -1),
@@ -246,7 +246,7 @@ impl Writer {
     }
 
     fn ask(&mut self, caller: u32, request: Request, target: u32) -> PlainStep {
-        let arg = match request {
+        let data = match request {
             Request::SetEventMask | Request::GetLwpList => self.dice.below(64),
             Request::FollowFork | Request::LwpEvents => self.dice.below(3),
             _ => self.passed(),
@@ -255,7 +255,7 @@ impl Writer {
             caller,
             request,
             target,
-            arg,
+            data,
         }
     }
 

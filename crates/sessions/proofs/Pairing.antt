@@ -4,8 +4,7 @@ use Rattle.std.proofs.lemmas.List.{get_or-map}
 use mathlib.Core.List.{map-append}
 use Rattle.atomic_table.specs.Seated.{TableId}
 use Rattle.requests.specs.Machine.{Machine}
-use Rattle.requests.specs.declared.step.Step.{Step}
-use Rattle.requests.specs.Plain.{plain}
+use Rattle.requests.specs.Plain.{PlainStep}
 use Rattle.host_lock.specs.declared.journal.Entry.{Entry}
 use Rattle.host_lock.specs.Journal.{entries_of}
 use Rattle.host_lock.specs.Answers.{GivesBack}
@@ -88,7 +87,7 @@ module _ {F : Type 0} (h : Machine) (z : TableId) where
       let same = steps_at ss js p k (record { uid = 0; steps = j.steps }) j (omega arith) in
       let new = session_at ss js p k (record { uid = 0; steps = j.steps }) j (omega arith) in
       let room = all_of HasRoom js p.2 k j lt in
-      let few : vec_len (slice_index_or js k j).steps ≤ 4294967295 = subst (λ (v : Vec (Step F) Global). vec_len v ≤ 4294967295) (sym same) (short k (record { uid = 0; steps = j.steps }) (omega arith)) in (
+      let few : vec_len (slice_index_or js k j).steps ≤ 4294967295 = subst (λ (v : Vec PlainStep Global). vec_len v ≤ 4294967295) (sym same) (short k (record { uid = 0; steps = j.steps }) (omega arith)) in (
         (ap (λ (x : SessionData). x.host) new ∙ sym id, ap (λ (x : SessionData). x.start) new ∙ sym start),
         ap (λ (x : SessionData). x.calls) new,
         ap (λ (x : SessionData). x.mine) new,
@@ -108,7 +107,7 @@ module _ {F : Type 0} (h : Machine) (z : TableId) where
       let len = jobs_length ss js p in
       let j : Job F = record { session = d.session; steps = s.steps; replies = d.replies } in
       let did = pairs_at (λ j d. Did j.session (map plain j.steps.items) d.replies.items d.session) js ds r k j d (omega arith) in
-      let P : SessionData × Vec (Step F) Global → Type 0 = λ w. Did w.0 (map plain w.1.items) (slice_index_or ds k d).replies.items (slice_index_or ds k d).session in
+      let P : SessionData × Vec PlainStep Global → Type 0 = λ w. Did w.0 (map plain w.1.items) (slice_index_or ds k d).replies.items (slice_index_or ds k d).session in
       subst P (λ i. (session_at ss js p k s j lt i, steps_at ss js p k s j lt i)) did
 
   -- the sessions are still of this host

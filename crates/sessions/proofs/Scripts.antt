@@ -1,15 +1,13 @@
 -- A script, step by step.
 use Rattle.std.proofs.Common.{◌≡◌, ℕ, ◌+◌, Bool, true, false, cond, List, [], ◌∷◌, ◌++◌, length, map, reverse, sym, refl, ap, ◌∙◌, subst, arith, append_assoc, append-nil, length-append, MatchBool}
 use Rattle.std.proofs.lemmas.List.{reverse-append}
-use Rattle.requests.specs.declared.PlainStep.{PlainStep}
+use Rattle.requests.specs.Plain.{PlainStep}
 use Rattle.requests.specs.declared.Reply.{Reply}
 use Rattle.requests.specs.Memory.{is_memory}
 use Rattle.host_lock.specs.declared.journal.Entry.{Entry}
 use Rattle.host_lock.specs.Journal.{entry}
 use Rattle.sessions.specs.Made.{made, Did, Pairs}
 use mathlib.Core.List.{map-append}
-use Rattle.requests.specs.declared.step.Step.{Step}
-use Rattle.requests.specs.Plain.{plain}
 use Rattle.host_lock.specs.Journal.{StartsWith}
 use Rattle.host_lock.specs.Sessions.{SessionData, Makes}
 use Rattle.host_lock.specs.Answers.{Calls}
@@ -38,7 +36,7 @@ mine_more : (w w' : SessionData) (s : PlainStep) (r : Reply) (b : Bool) → Matc
 mine_more w w' s r true t = t.1 ∙ sym (append-nil w.mine)
 mine_more w w' s r false t = t.3
 
-pub did_more : {F : Type 0} (v w w' : SessionData) (done : List (Step F)) (s : Step F) (rs rs' : List Reply) (r : Reply) → Did v (map plain done) rs w → Calls w (plain s) (Answered r) w' → rs' ≡ rs ++ r ∷ []
+pub did_more : {F : Type 0} (v w w' : SessionData) (done : List PlainStep) (s : PlainStep) (rs rs' : List Reply) (r : Reply) → Did v (map plain done) rs w → Calls w s (Answered r) w' → rs' ≡ rs ++ r ∷ []
     → Did v (map plain (done ++ s ∷ [])) rs' w'
 did_more v w w' done s rs rs' r d c is =
     let same : map plain (done ++ s ∷ []) ≡ map plain done ++ plain s ∷ [] = map-append plain done (s ∷ []) in
@@ -51,7 +49,7 @@ did_more v w w' done s rs rs' r d c is =
       goes.3 ∙ d.3,
       goes.4 ∙ d.4,
       goes.2 ∙ ap (λ (k : ℕ). k + 1) d.5 ∙ sym (length-append (map plain done) (plain s ∷ [])),
-      mine_more w w' (plain s) r (is_memory r) c.1.1 ∙ ap (λ (z : List Entry × ℕ × ℕ). z.0 ++ one z.1 z.2 (plain s) r) (λ i. (d.6 i, d.1 i, d.2 i)) ∙ sym (made_more v.uid v.number (map plain done) rs (plain s) r d.0),
+      mine_more w w' s r (is_memory r) c.1.1 ∙ ap (λ (z : List Entry × ℕ × ℕ). z.0 ++ one z.1 z.2 s r) (λ i. (d.6 i, d.1 i, d.2 i)) ∙ sym (made_more v.uid v.number (map plain done) rs s r d.0),
     )
 
 pub reverse_twice : {A : Type 0} (l : List A) → l ≡ reverse (reverse l)

@@ -1,7 +1,7 @@
 -- A script that is ready to run, and what it has done.
 use Rattle.std.specs.Prelude.{◌≡◌, ◌≤◌, [], Vec, vec_len, vec_capacity}
 use Rattle.host_lock.specs.Sessions.{SessionData, HostData, IsOf}
-use Rattle.requests.specs.declared.step.Step.{Step}
+use Rattle.requests.specs.Plain.{PlainStep}
 use Rattle.std.specs.Global.{Global}
 use Rattle.sessions.specs.declared.job.Job.{Job}
 use Rattle.sessions.specs.declared.job.Done.{Done}
@@ -17,7 +17,7 @@ HasRoom j = (j.replies.items ≡ []) × (vec_len j.replies ≡ 0) × (vec_len j.
 abbrev pub job_session : {F : Type 0} → Job F → SessionData
 job_session j = j.session
 
-abbrev pub job_steps : {F : Type 0} → Job F → Vec (Step F) Global
+abbrev pub job_steps : {F : Type 0} → Job F → Vec PlainStep Global
 job_steps j = j.steps
 
 abbrev pub done_session : Done → SessionData

@@ -1,6 +1,5 @@
 -- What a run of scripts answers.
 use Rattle.std.specs.Prelude.{◌≡◌, ℕ, ◌<◌, ◌≤◌, ◌==◌, List, map, filter, length, Vec, vec_len, slice_index_or}
-use Rattle.requests.specs.Plain.{plain}
 use Rattle.host_lock.specs.declared.journal.Entry.{Entry}
 use Rattle.pid_blocks.specs.Users.{IsUser}
 use Rattle.requests.specs.Machine.{Machine}
@@ -11,7 +10,7 @@ use Rattle.sessions.specs.declared.script.Script.{Script}
 use Rattle.sessions.specs.declared.script.Transcript.{Transcript}
 use Rattle.sessions.specs.declared.script.RunRefusal.{RunRefusal}
 use Rattle.sessions.specs.declared.script.RunRefusal.TheVariants.{TooMany, Memory, Start}
-use Rattle.requests.specs.declared.step.Step.{Step}
+use Rattle.requests.specs.Plain.{PlainStep}
 use Rattle.std.specs.Global.{Global}
 use Rattle.sessions.specs.Made.{made}
 
@@ -48,5 +47,5 @@ RefusesFor n Start = (0 < n) × (n ≤ 64)
 abbrev pub uid_of : {F : Type 0} → Script F → ℕ
 uid_of s = s.uid
 
-abbrev pub steps_of : {F : Type 0} → Script F → Vec (Step F) Global
+abbrev pub steps_of : {F : Type 0} → Script F → Vec PlainStep Global
 steps_of s = s.steps

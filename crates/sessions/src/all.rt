@@ -1,7 +1,6 @@
 //! One worker for each script.
 ghost use Rattle.std.specs.Prelude.{◌≡◌, ℕ, ◌+◌, ◌<◌, ◌≤◌, [], ◌∷◌, ◌++◌, List, length, map, vec_len, vec_capacity, IfSome};
 ghost use Rattle.std.specs.Thread.{IsSend, IsSync};
-ghost use Rattle.requests.specs.Plain.{plain};
 ghost use Rattle.host_lock.specs.Sessions.{IsOf};
 ghost use Rattle.host_lock.specs.Rule.{Each};
 ghost use Rattle.sessions.specs.Made.{Did, Pairs};
@@ -31,7 +30,7 @@ pub(crate) fn run_all<F: Decider + Send + Drop, G: Gate, R: Threads + Wait + Syn
     requires jobs { Each (IsReady host.now) jobs.items }
     requires room { (done.items ≡ []) × (vec_len done ≡ 0) × (vec_len jobs ≤ vec_capacity done) }
     ensures room { IfSome result (λ v. (vec_len v ≡ vec_len jobs) × (vec_capacity v ≡ vec_capacity done)) }
-    ensures done { IfSome result (λ v. Pairs (λ j d. Did j.session (map plain j.steps.items) d.replies.items d.session) jobs.items v.items) }
+    ensures done { IfSome result (λ v. Pairs (λ j d. Did j.session j.steps.items d.replies.items d.session) jobs.items v.items) }
 {
     let Some(job) = jobs.pop() else {
         return Some(done);
@@ -54,7 +53,7 @@ fn beside<F: Decider + Send + Drop, G: Gate, R: Threads + Wait + Sync>(
     requires jobs { Each (IsReady host.now) jobs.items }
     requires room { (done.items ≡ []) × (vec_len done ≡ 0) × (vec_len jobs < vec_capacity done) }
     ensures room { IfSome result (λ v. (vec_len v ≡ vec_len jobs + 1) × (vec_capacity v ≡ vec_capacity done)) }
-    ensures done { IfSome result (λ v. Pairs (λ j d. Did j.session (map plain j.steps.items) d.replies.items d.session) (jobs.items ++ job ∷ []) v.items) }
+    ensures done { IfSome result (λ v. Pairs (λ j d. Did j.session j.steps.items d.replies.items d.session) (jobs.items ++ job ∷ []) v.items) }
 {
     let Job {
         session,
@@ -76,7 +75,7 @@ fn beside<F: Decider + Send + Drop, G: Gate, R: Threads + Wait + Sync>(
             requires jobs { Each (IsReady host.now) jobs.items }
             requires room { (done.items ≡ []) × (vec_len done ≡ 0) × (vec_len jobs < vec_capacity done) }
             ensures room { IfSome result (λ v. (vec_len v ≡ vec_len jobs + 1) × (vec_capacity v ≡ vec_capacity done)) }
-            ensures done { IfSome result (λ v. Pairs (λ j d. Did j.session (map plain j.steps.items) d.replies.items d.session) (jobs.items ++ record { session = session; steps = steps; replies = replies } ∷ []) v.items) }
+            ensures done { IfSome result (λ v. Pairs (λ j d. Did j.session j.steps.items d.replies.items d.session) (jobs.items ++ record { session = session; steps = steps; replies = replies } ∷ []) v.items) }
         {
             let child = scope
                 .spawn_with(
@@ -86,7 +85,7 @@ fn beside<F: Decider + Send + Drop, G: Gate, R: Threads + Wait + Sync>(
                         requires fresh { (session.calls ≡ 0) × (session.mine ≡ []) }
                         requires few { vec_len steps ≤ 4294967295 }
                         requires room { (replies.items ≡ []) × (vec_len replies ≡ 0) × (vec_len steps ≤ vec_capacity replies) }
-                        ensures { Did session (map plain steps.items) result.1.items result.0 }
+                        ensures { Did session steps.items result.1.items result.0 }
                     { work(rt, alloc, host, session, steps, replies, gate) },
                 )
                 .ok()?;

@@ -1,20 +1,19 @@
 //! A worker's job, and what it promises.
 
 ghost use Rattle.std.specs.Prelude.{◌≡◌, map};
-ghost use Rattle.requests.specs.Plain.{plain};
 ghost use Rattle.sessions.specs.Made.{Did};
 
 use host_lock::Session;
 use requests::{Reply, Step};
 use std::snapshot::Snapshot;
 use std::thread::Promise;
-use stop_handlers::Decider;
+use stop_handlers::{Decider, Handler};
 
 /// A session with its script, and room for the replies.
 #[derive(Drop)]
 pub struct Job<F: Decider + Send + Drop> {
     pub session: Session,
-    pub steps: Vec<Step<F>>,
+    pub steps: Vec<Step<Handler<F>>>,
     pub replies: Vec<Reply>,
 }
 
@@ -29,11 +28,11 @@ pub struct Done {
 #[derive(Drop)]
 pub struct Plan<F: Decider + Send + Drop> {
     pub(crate) session: Snapshot<Session>,
-    pub(crate) steps: Snapshot<Vec<Step<F>>>,
+    pub(crate) steps: Snapshot<Vec<Step<Handler<F>>>>,
 }
 
 impl<F: Decider + Send + Drop> Plan<F> {
-    pub(crate) fn of(session: &Session, steps: &Vec<Step<F>>) -> Plan<F>
+    pub(crate) fn of(session: &Session, steps: &Vec<Step<Handler<F>>>) -> Plan<F>
         ensures { (result.session.value ≡ session.now) × (result.steps.value ≡ steps.now) }
     {
         Plan {
@@ -44,5 +43,5 @@ impl<F: Decider + Send + Drop> Plan<F> {
 }
 
 impl<F: Decider + Send + Drop> Promise<(Session, Vec<Reply>)> for Plan<F> {
-    ghost kept_by = { λ p r. Did p.session.value (map plain p.steps.value.items) r.1.items r.0 };
+    ghost kept_by = { λ p r. Did p.session.value (p.steps.value.items) r.1.items r.0 };
 }

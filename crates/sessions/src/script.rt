@@ -2,13 +2,13 @@
 
 use pid_blocks::Uid;
 use requests::{Reply, Step};
-use stop_handlers::Decider;
+use stop_handlers::{Decider, Handler};
 
 /// The steps of one user, in order.
 #[derive(Drop)]
 pub struct Script<F: Decider + Send + Drop> {
     pub uid: Uid,
-    pub steps: Vec<Step<F>>,
+    pub steps: Vec<Step<Handler<F>>>,
 }
 
 /// The replies to a script, one for each step.

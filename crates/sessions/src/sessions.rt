@@ -1,6 +1,5 @@
 //! Scripts of many users, run at the same time on one host.
 ghost use Rattle.std.specs.Prelude.{◌≡◌, ℕ, ◌+◌, ◌<◌, ◌≤◌, [], List, length, map, reverse, vec_len, vec_capacity, All, IfOk, IfErr, OnOk};
-ghost use Rattle.requests.specs.Plain.{plain};
 ghost use Rattle.requests.specs.Isolation.{Users};
 ghost use Rattle.host_lock.specs.Journal.{asked, IsLegal, replay};
 ghost use Rattle.host_lock.specs.Rule.{Each};

@@ -1,7 +1,6 @@
 //! One worker.
 
 ghost use Rattle.std.specs.Prelude.{◌≡◌, ℕ, ◌<◌, ◌≤◌, [], ◌∷◌, ◌++◌, List, length, map, reverse, vec_len, vec_capacity};
-ghost use Rattle.requests.specs.Plain.{plain};
 ghost use Rattle.host_lock.specs.Sessions.{IsOf};
 ghost use Rattle.sessions.specs.Made.{Did};
 
@@ -10,7 +9,7 @@ use host_lock::{Answer, Session, SharedHost};
 use requests::{Reply, Step};
 use std::alloc::Global;
 use std::sync::Wait;
-use stop_handlers::Decider;
+use stop_handlers::{Decider, Handler};
 
 /// Makes the steps of a script, in order. The replies have room.
 pub(crate) fn work<F: Decider + Send + Drop, G: Gate, R: Wait>(
@@ -18,7 +17,7 @@ pub(crate) fn work<F: Decider + Send + Drop, G: Gate, R: Wait>(
     alloc: Global,
     host: &SharedHost<F>,
     mut session: Session,
-    steps: Vec<Step<F>>,
+    steps: Vec<Step<Handler<F>>>,
     mut replies: Vec<Reply>,
     gate: &G,
 ) -> (Session, Vec<Reply>)
@@ -26,7 +25,7 @@ pub(crate) fn work<F: Decider + Send + Drop, G: Gate, R: Wait>(
     requires fresh { (session.calls ≡ 0) × (session.mine ≡ []) }
     requires few { vec_len steps ≤ 4294967295 }
     requires room { (replies.items ≡ []) × (vec_len replies ≡ 0) × (vec_len steps ≤ vec_capacity replies) }
-    ensures { Did session (map plain steps.items) result.1.items result.0 }
+    ensures { Did session steps.items result.1.items result.0 }
 {
     let uid = session.uid();
     let mut steps = reversed(steps);

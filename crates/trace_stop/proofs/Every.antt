@@ -46,6 +46,10 @@ pub choose : {X : Type 0} (b : Bool) (x y : X) (R : X → Type 0) → (b ≡ tru
 choose true x y R h k = h refl
 choose false x y R h k = k refl
 
+pub choose_both : {X Y : Type 0} (R : X → Y → Type 0) (b : Bool) (x y : X) (v w : Y) → (b ≡ true → R x v) → (b ≡ false → R y w) → R (if b then x else y) (if b then v else w)
+choose_both R true x y v w h k = h refl
+choose_both R false x y v w h k = k refl
+
 -- what isn't there
 pub not_some : {X : Type 0} (o : Option X) → is_some o ≡ false → o ≡ None
 not_some None is = refl

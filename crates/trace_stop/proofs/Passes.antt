@@ -1,5 +1,5 @@
 -- Lists edited twice, and what is found after an edit.
-use Rattle.std.proofs.Common.{◌≡◌, ℕ, ◌<◌, List, [], ◌∷◌, filter_map, Bool, true, false, cond, ◌||◌, ◌==◌, Option, Some, None, IfSome, refl, sym, ap, ◌∙◌, arith, eqb, eqb-true, eq-eqb}
+use Rattle.std.proofs.Common.{◌≡◌, ℕ, ◌<◌, List, [], ◌∷◌, filter_map, find, Bool, true, false, cond, ◌||◌, ◌==◌, Option, Some, None, IfSome, refl, sym, ap, ◌∙◌, arith, eqb, eqb-true, eq-eqb}
 use Rattle.std.specs.Option.{option_and_then}
 use Rattle.std.specs.List.{AllByRecursion, list_any, cons_option}
 use Rattle.std.proofs.lemmas.Bool.Decides.{nat_tests}
@@ -8,7 +8,7 @@ use Rattle.lwp_table.specs.declared.LwpData.{LwpData}
 use Rattle.proc_table.specs.Processes.{process_of, is_live}
 use Rattle.proc_table.specs.Rows.{Rows, by_owner, each}
 use Rattle.proc_table.specs.Kept.{AllAbove, Rise}
-use Rattle.trace_stop.proofs.Every.{find_some, All-imply, All-both}
+use Rattle.trace_stop.proofs.Every.{find_some, All-imply}
 
 pub filter_map_same : {X Y : Type 0} (f g : X → Option Y) (xs : List X) → AllByRecursion (λ x. f x ≡ g x) xs → filter_map f xs ≡ filter_map g xs
 filter_map_same f g [] all = refl
@@ -72,6 +72,14 @@ process_edited f keeps n (p ∷ ps) rise = at_head (f p) refl (keeps p) (eqb p.p
     at_head (Some q) is same true here rest = let hit : eqb q.pid n ≡ true = ap (λ m. eqb m n) same ∙ here in rw hit (sym is)
     at_head (Some q) is same false here rest = let miss : eqb q.pid n ≡ false = ap (λ m. eqb m n) same ∙ here in rw miss rest
 
+all_above : (n : ℕ) (ps : List ProcData) → AllAbove n ps → AllByRecursion (λ q. n < q.pid) ps
+all_above n [] above = tt
+all_above n (q ∷ qs) above = (above.0, all_above n qs above.1)
+
+pub found_above : (t : ProcData → Bool) (n : ℕ) (ps : List ProcData) (p : ProcData) → AllAbove n ps → find t ps ≡ Some p → n < p.pid
+found_above t n ps p above is = (find_some t (λ q. n < q.pid) ps (all_above n ps above) p is).0
+
+-- each row is found by its number
 pub own_rows : (ps : List ProcData) → Rise ps → AllByRecursion (λ p. process_of p.pid ps ≡ Some p) ps
 own_rows [] rise = tt
 own_rows (p ∷ ps) rise = (rw (eq-eqb p.pid p.pid refl) refl, later ps rise.0 (own_rows ps rise.1))

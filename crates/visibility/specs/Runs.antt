@@ -1,18 +1,16 @@
 -- Steps of a host, as the machine sees them, and their answers.
 use Rattle.std.specs.Prelude.{◌≡◌, ℕ, true, List, [], ◌∷◌, Option, Some, None, if◌then◌else◌}
-use Rattle.requests.specs.declared.PlainStep.{PlainStep}
+use Rattle.requests.specs.Plain.{PlainStep}
 use Rattle.requests.specs.declared.Reply.{Reply}
-use Rattle.requests.specs.declared.step.Step.{Step}
 use Rattle.requests.specs.Machine.{Machine}
 use Rattle.requests.specs.Memory.{is_memory, may_want}
-use Rattle.requests.specs.Plain.{plain}
 use Rattle.requests.specs.Run.{Asked, asked_by}
 use Rattle.requests.specs.View.{view}
 use Rattle.requests.specs.Isolation.{reply_of, host_after, replies_to, answered, somes}
 
--- a step and its user, with a policy in place of a handler
-abbrev pub asked : {F : Type 0} → ℕ × Step F → Asked
-asked s = record { uid = s.0; step = plain s.1 }
+-- a step and its user
+abbrev pub asked : ℕ × PlainStep → Asked
+asked s = record { uid = s.0; step = s.1 }
 
 -- an answer, where memory didn't run out
 abbrev pub told : Reply → Option Reply

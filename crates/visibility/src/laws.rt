@@ -1,7 +1,6 @@
 //! The laws of isolation, made on hosts.
 
 ghost use Rattle.std.specs.Prelude.{◌≡◌, ◌≢◌, map, IfOk, OnErr};
-ghost use Rattle.requests.specs.Plain.{plain};
 ghost use Rattle.requests.specs.View.{view};
 ghost use Rattle.requests.specs.Isolation.{Ran, AlikeSteps};
 ghost use Rattle.visibility.specs.Runs.{asked, told, Did, BothTold, Wanting, Agree};
@@ -10,7 +9,7 @@ use crate::runs::run_into;
 use pid_blocks::Uid;
 use requests::{Host, Reply, Step};
 use std::alloc::{AllocError, Global};
-use stop_handlers::Decider;
+use stop_handlers::{Decider, Handler};
 
 /// One step of a user in two hosts of which the user sees the same: where both are answered, the replies are equal, and the user
 /// sees the same of both hosts afterwards.
@@ -19,13 +18,13 @@ pub fn one_step<F: Decider + Send + Drop>(
     first: &mut Host<F>,
     second: &mut Host<F>,
     user: Uid,
-    step: Step<F>,
-    same: Step<F>,
+    step: Step<Handler<F>>,
+    same: Step<Handler<F>>,
 ) -> (Reply, Reply)
-    requires steps { plain same ≡ plain step }
+    requires steps { same ≡ step }
     requires seen { view user first.old ≡ view user second.old }
-    ensures first { Did (told result.0) user (plain step) first.old first.new }
-    ensures second { Did (told result.1) user (plain step) second.old second.new }
+    ensures first { Did (told result.0) user step first.old first.new }
+    ensures second { Did (told result.1) user step second.old second.new }
     ensures equal { BothTold (told result.0) (told result.1) (λ r q. (r ≡ q) × (view user first.new ≡ view user second.new)) }
 {
     let _number = user.get();
@@ -42,10 +41,10 @@ pub fn other_step<F: Decider + Send + Drop>(
     host: &mut Host<F>,
     user: Uid,
     other: Uid,
-    step: Step<F>,
+    step: Step<Handler<F>>,
 ) -> Reply
     requires differ { user ≢ other }
-    ensures step { Did (told result) other (plain step) host.old host.new }
+    ensures step { Did (told result) other step host.old host.new }
     ensures view { view user host.new ≡ view user host.old }
 {
     let _numbers = (user.get(), other.get());
@@ -60,13 +59,13 @@ pub fn foreign_number<F: Decider + Send + Drop>(
     first: &mut Host<F>,
     second: &mut Host<F>,
     user: Uid,
-    step: Step<F>,
-    other: Step<F>,
+    step: Step<Handler<F>>,
+    other: Step<Handler<F>>,
 ) -> (Reply, Reply)
     requires hosts { second.old ≡ first.old }
-    requires steps { AlikeSteps user first.old (plain step) (plain other) }
-    ensures first { Did (told result.0) user (plain step) first.old first.new }
-    ensures second { Did (told result.1) user (plain other) second.old second.new }
+    requires steps { AlikeSteps user first.old step other }
+    ensures first { Did (told result.0) user step first.old first.new }
+    ensures second { Did (told result.1) user other second.old second.new }
     ensures equal { BothTold (told result.0) (told result.1) (λ r q. (r ≡ q) × (first.new ≡ second.new)) }
 {
     let _number = user.get();
@@ -84,8 +83,8 @@ pub fn two_lists<F: Decider + Send + Drop>(
     first: &mut Host<F>,
     second: &mut Host<F>,
     user: Uid,
-    steps: Vec<(Uid, Step<F>)>,
-    others: Vec<(Uid, Step<F>)>,
+    steps: Vec<(Uid, Step<Handler<F>>)>,
+    others: Vec<(Uid, Step<Handler<F>>)>,
 ) -> Result<(Vec<Reply>, Vec<Reply>), AllocError>
     requires seen { view user first.old ≡ view user second.old }
     ensures first { IfOk result (λ r. Ran (map asked steps.items) (map told r.0.items) first.old first.new) }

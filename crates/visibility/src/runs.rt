@@ -7,13 +7,13 @@ ghost use Rattle.visibility.specs.Runs.{asked, told, Wanting};
 use pid_blocks::Uid;
 use requests::{Host, Reply, Step};
 use std::alloc::{AllocError, Global};
-use stop_handlers::Decider;
+use stop_handlers::{Decider, Handler};
 
 /// Makes the steps in turn. There is room for the replies.
 pub(crate) fn run_into<F: Decider + Send + Drop>(
     alloc: Global,
     host: &mut Host<F>,
-    steps: Vec<(Uid, Step<F>)>,
+    steps: Vec<(Uid, Step<Handler<F>>)>,
     mut replies: Vec<Reply>,
 ) -> Vec<Reply>
     requires empty { replies.items ≡ [] }
@@ -36,7 +36,7 @@ pub(crate) fn run_into<F: Decider + Send + Drop>(
 pub fn run_list<F: Decider + Send + Drop>(
     alloc: Global,
     host: &mut Host<F>,
-    steps: Vec<(Uid, Step<F>)>,
+    steps: Vec<(Uid, Step<Handler<F>>)>,
 ) -> Result<Vec<Reply>, AllocError>
     ensures ran { IfOk result (λ replies. Ran (map asked steps.items) (map told replies.items) host.old host.new) }
     ensures wanting { IfOk result (λ replies. Wanting (map asked steps.items) (map told replies.items) host.old) }

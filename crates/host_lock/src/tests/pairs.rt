@@ -10,7 +10,7 @@ use requests::{Host, Step};
 use std::alloc::Global;
 use std::sync::Wait;
 use std::thread::{Threads, join};
-use stop_handlers::ByPolicy;
+use stop_handlers::{ByPolicy, Handler};
 
 /// The host, shared by a session of each of the users.
 pub fn open_two(
@@ -93,7 +93,7 @@ fn work<R: Wait>(
     alloc: Global,
     host: &SharedHost<ByPolicy>,
     mut session: Session,
-    steps: Vec<Step<ByPolicy>>,
+    steps: Vec<Step<Handler<ByPolicy>>>,
 ) -> Option<Worked>
     requires { IsOf host.now session }
     ensures { IfSome result (λ w. IsOf host.now w.session) }
@@ -111,8 +111,8 @@ pub fn work_beside<R: Threads + Wait + Sync>(
     rt: &R,
     alloc: Global,
     host: &SharedHost<ByPolicy>,
-    first: (Session, Vec<Step<ByPolicy>>),
-    second: (Session, Vec<Step<ByPolicy>>),
+    first: (Session, Vec<Step<Handler<ByPolicy>>>),
+    second: (Session, Vec<Step<Handler<ByPolicy>>>),
 ) -> (Option<Worked>, Option<Worked>)
     requires first { IsOf host.now first.0 }
     requires second { IsOf host.now second.0 }
@@ -133,7 +133,7 @@ pub fn work_beside<R: Threads + Wait + Sync>(
 }
 
 /// A hundred spawns.
-pub fn spawn_hundred(alloc: Global) -> Option<Vec<Step<ByPolicy>>> {
+pub fn spawn_hundred(alloc: Global) -> Option<Vec<Step<Handler<ByPolicy>>>> {
     let mut steps = Vec::new(alloc);
     for _ in 0u32..100 {
         steps.push(Step::Spawn).ok()?;

@@ -9,7 +9,7 @@ use requests::{PlainStep, Reply, Step};
 use std::alloc::Global;
 use std::process::Abort;
 use std::sync::Wait;
-use stop_handlers::{ByPolicy, Decision, StopView};
+use stop_handlers::{ByPolicy, Decision, Handler, StopView};
 
 /// A reply in plain numbers: statuses by their words, flags by their bits.
 #[derive(Clone, Copy, Debug, PartialEq, Eq, Drop)]
@@ -96,7 +96,7 @@ pub fn ask<R: Wait>(
     alloc: Global,
     host: &SharedHost<ByPolicy>,
     session: &mut Session,
-    step: Step<ByPolicy>,
+    step: Step<Handler<ByPolicy>>,
 ) -> Told
     requires { IsOf host.now session.old }
     ensures { IsSame session.old session.new }

@@ -34,24 +34,24 @@ fn make_handler(none: Pass) -> Result<Handler<ByPolicy>, Fail> {
     Ok(Handler::new(policy, ByPolicy(policy)))
 }
 
-fn command(request: Request, target: u32, arg: u32) -> Step<ByPolicy> {
+fn command(request: Request, target: u32, data: u32) -> Step<Handler<ByPolicy>> {
     Step::Ptrace {
         caller: 1000,
         request,
         target,
-        arg,
+        data,
     }
 }
 
-fn turn(act: Act) -> Step<ByPolicy> {
+fn turn(act: Act) -> Step<Handler<ByPolicy>> {
     Step::Turn { tid: 100001, act }
 }
 
-fn handle() -> Step<ByPolicy> {
+fn handle() -> Step<Handler<ByPolicy>> {
     Step::Handle { caller: 1000 }
 }
 
-fn wait() -> Step<ByPolicy> {
+fn wait() -> Step<Handler<ByPolicy>> {
     Step::Wait4 {
         caller: 1000,
         which: -1,
@@ -63,7 +63,7 @@ fn wait() -> Step<ByPolicy> {
 }
 
 /// The debugger's steps: its tracee forks and gets a signal, and its handler is asked about each stop.
-fn debug(alloc: Global, handler: Handler<ByPolicy>) -> Option<Vec<Step<ByPolicy>>> {
+fn debug(alloc: Global, handler: Handler<ByPolicy>) -> Option<Vec<Step<Handler<ByPolicy>>>> {
     let install = Step::Install {
         caller: 1000,
         handler,

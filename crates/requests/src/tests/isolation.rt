@@ -70,8 +70,9 @@ fn a_plain_install_has_the_handlers_policy(rt: HostRuntime) -> Result<(), Fail> 
     };
     let plain = PlainStep::Install {
         caller: 1000,
-        policy,
+        handler: policy,
     };
     assert_eq!(rt; step.plain(), plain);
+    assert_eq!(rt; plain.by_policy().plain(), plain);
     Ok(())
 }

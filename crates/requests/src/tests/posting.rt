@@ -208,7 +208,7 @@ fn blocked_signals_wait_but_sigstop_does_not(rt: HostRuntime) -> Result<(), Fail
         (kill(1000, 1001, 17), Answer::Done),
         (compute(100001), Answer::Stopped(100001, 17, NONE)),
         (wait(1000), Answer::Status(1001, 4479)),
-        (ask(1000, Request::GetLwpInfo, 1001, 0), shows),
+        (ask(1000, Request::LwpInfo, 1001, 0), shows),
     ];
     with_tracee(&rt, rt.alloc(), Settings::standard(), &script[..])
 }

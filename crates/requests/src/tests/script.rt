@@ -1,6 +1,6 @@
 //! Scripts: steps of a user, and what each is to answer.
 
-use crate::{Act, Host, PlainStep, Reply, Request, Step};
+use crate::{Act, Host, PlainStep, Reply, Request};
 use event_masks::Call;
 use lwpinfo::{Event, LwpInfo, NumList};
 use pid_blocks::{Errno, Uid};
@@ -147,48 +147,6 @@ pub fn answered(reply: &Reply) -> Answer {
     }
 }
 
-/// The step of a plain one; none of an install, which needs a handler.
-fn without_handler<F: Decider + Send + Drop>(plain: PlainStep) -> Option<Step<F>> {
-    let step = match plain {
-        PlainStep::Spawn => Step::Spawn,
-        PlainStep::List { caller } => Step::List { caller },
-        PlainStep::Sigaction {
-            caller,
-            sig,
-            disposition,
-        } => Step::Sigaction {
-            caller,
-            sig,
-            disposition,
-        },
-        PlainStep::Kill { caller, which, sig } => Step::Kill { caller, which, sig },
-        PlainStep::Wait4 {
-            caller,
-            which,
-            options,
-        } => Step::Wait4 {
-            caller,
-            which,
-            options,
-        },
-        PlainStep::Install { .. } => return None,
-        PlainStep::Handle { caller } => Step::Handle { caller },
-        PlainStep::Ptrace {
-            caller,
-            request,
-            target,
-            arg,
-        } => Step::Ptrace {
-            caller,
-            request,
-            target,
-            arg,
-        },
-        PlainStep::Turn { tid, act } => Step::Turn { tid, act },
-    };
-    Some(step)
-}
-
 /// Makes the steps of a user, none of them an install, each of which is to answer what stands beside it.
 pub fn follow<R: Abort, F: Decider + Send + Drop>(
     rt: &R,
@@ -199,7 +157,7 @@ pub fn follow<R: Abort, F: Decider + Send + Drop>(
 ) {
     for (place, line) in script.iter().enumerate() {
         let (plain, answer) = *line;
-        let Some(step) = without_handler(plain) else {
+        let Some(step) = plain.with_handler(None) else {
             panic!(rt; "an install at {place}");
         };
         let reply = host.step(alloc, user, step);
@@ -291,12 +249,12 @@ pub fn wait(caller: u32) -> PlainStep {
     }
 }
 
-pub fn ask(caller: u32, request: Request, target: u32, arg: u32) -> PlainStep {
+pub fn ask(caller: u32, request: Request, target: u32, data: u32) -> PlainStep {
     PlainStep::Ptrace {
         caller,
         request,
         target,
-        arg,
+        data,
     }
 }
 

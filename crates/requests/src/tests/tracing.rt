@@ -16,7 +16,7 @@ use trace_stop::Settings;
 fn an_attached_process_shows_its_stop(rt: HostRuntime) -> Result<(), Fail> {
     let shows = Answer::Info(reporting(100001, NONE, 0, 0));
     let script = [
-        (ask(1000, Request::GetLwpInfo, 1001, 0), shows),
+        (ask(1000, Request::LwpInfo, 1001, 0), shows),
         (ask(1000, Request::GetNumLwps, 1001, 0), Answer::Number(1)),
         (
             ask(1000, Request::GetLwpList, 1001, 8),
@@ -78,9 +78,9 @@ fn a_followed_fork_stops_parent_and_child(rt: HostRuntime) -> Result<(), Fail> {
         (enter(100001, Call::Fork), Answer::Done),
         (leave(100001), Answer::Stopped(100001, 5, AT_FORK)),
         (wait(1000), Answer::Status(1001, 1407)),
-        (ask(1000, Request::GetLwpInfo, 1001, 0), shows),
+        (ask(1000, Request::LwpInfo, 1001, 0), shows),
         (wait(1000), Answer::Status(1002, 4479)),
-        (ask(1000, Request::GetLwpInfo, 1002, 0), child_shows),
+        (ask(1000, Request::LwpInfo, 1002, 0), child_shows),
         (ask(1000, Request::GetEventMask, 1002, 0), Answer::Mask(1)),
         (wait(1000), Answer::Nothing),
     ];
@@ -99,7 +99,7 @@ fn a_new_lwp_stops_at_its_birth(rt: HostRuntime) -> Result<(), Fail> {
         (enter(100001, Call::ThrNew), Answer::Done),
         (leave(100001), Answer::Stopped(100001, 5, SCX)),
         (wait(1000), Answer::Status(1001, 1407)),
-        (ask(1000, Request::GetLwpInfo, 100002, 0), other),
+        (ask(1000, Request::LwpInfo, 100002, 0), other),
         (
             ask(1000, Request::GetLwpList, 1001, 8),
             Answer::Numbers([100001, 100002, 0, 0, 0]),
@@ -180,7 +180,7 @@ fn a_call_stops_at_entry_and_at_exit(rt: HostRuntime) -> Result<(), Fail> {
             Answer::Stopped(100001, 5, SCE),
         ),
         (wait(1000), Answer::Status(1001, 1407)),
-        (ask(1000, Request::GetLwpInfo, 1001, 0), shows),
+        (ask(1000, Request::LwpInfo, 1001, 0), shows),
         (go_on(1000, 1001, 0), Answer::Done),
         (raise(100001, 30), Answer::Refused(Errno::EINVAL)),
         (leave(100001), Answer::Stopped(100001, 5, SCX)),

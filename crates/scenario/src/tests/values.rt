@@ -9,12 +9,12 @@ use std::test::Fail;
 use stop_handlers::{ByPolicy, Decision, Handler, Policy, Rule};
 use wait4::Options;
 
-fn ptrace(caller: u32, request: Request, target: u32, arg: u32) -> PlainStep {
+fn ptrace(caller: u32, request: Request, target: u32, data: u32) -> PlainStep {
     PlainStep::Ptrace {
         caller,
         request,
         target,
-        arg,
+        data,
     }
 }
 
@@ -55,7 +55,7 @@ fn a_session(rt: HostRuntime) -> Result<(), Fail> {
             1001,
             PlainStep::Install {
                 caller: 1000,
-                policy,
+                handler: policy,
             },
         ),
         (1001, ptrace(1000, Request::Continue, 1001, 0)),
@@ -248,7 +248,10 @@ fn rules(rt: HostRuntime) -> Result<(), Fail> {
         &rt,
         &[(
             "\"install\",\"caller\":1000,\"rules\":[{\"decision\":\"detach\",\"pass\":31,\"flags\":[\"PL_FLAG_CHILD\",\"PL_FLAG_FORKED\"]},{\"signal\":9,\"decision\":\"kill\"}]",
-            PlainStep::Install { caller, policy },
+            PlainStep::Install {
+                caller,
+                handler: policy,
+            },
         )],
     )
 }

@@ -3,11 +3,10 @@
 ghost use Rattle.std.specs.Prelude.{◌≡◌, [], ◌∷◌, IfOk, OnOk};
 ghost use Rattle.requests.specs.Isolation.{host_after};
 ghost use Rattle.requests.specs.Machine.{empty};
-ghost use Rattle.requests.specs.Plain.{plain};
 ghost use Rattle.requests.specs.Run.{last};
-ghost use Rattle.requests.specs.declared.PlainStep.TheVariants as op;
+ghost use Rattle.requests.specs.declared.step.Step.TheVariants as op;
 ghost use Rattle.requests.specs.declared.Request.TheVariants as request;
-ghost use Rattle.visibility.specs.Rows.{kills, by};
+ghost use Rattle.visibility.specs.WorkedRuns.{kills, by};
 
 use super::script::{Answer, Line, answered, attach, compare, first, list, second, steps_of};
 use crate::laws::{foreign_number, one_step, other_step, two_lists};
@@ -15,7 +14,7 @@ use pid_blocks::{Errno, Uid};
 use requests::{Host, PlainStep, Reply, Request, Step};
 use std::alloc::{AllocError, Global};
 use std::test::Fail;
-use stop_handlers::ByPolicy;
+use stop_handlers::{ByPolicy, Handler};
 use trace_stop::Settings;
 
 /// A host that nobody has used.
@@ -68,14 +67,14 @@ fn one_step_beside_a_step_of_another(rt: HostRuntime) -> Result<(), Fail> {
 }
 
 /// An attach by process 1000.
-fn attach_to(target: u32) -> Step<ByPolicy>
-    ensures { plain result ≡ op.Ptrace 1000 request.Attach target 0 }
+fn attach_to(target: u32) -> Step<Handler<ByPolicy>>
+    ensures { result ≡ op.Ptrace 1000 request.Attach target 0 }
 {
     Step::Ptrace {
         caller: 1000,
         request: Request::Attach,
         target,
-        arg: 0,
+        data: 0,
     }
 }
 

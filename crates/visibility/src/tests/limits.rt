@@ -46,7 +46,10 @@ fn a_user_has_1000_lwps(rt: HostRuntime) -> Result<(), Fail> {
 }
 
 fn install(caller: u32, policy: Policy) -> PlainStep {
-    PlainStep::Install { caller, policy }
+    PlainStep::Install {
+        caller,
+        handler: policy,
+    }
 }
 
 #[test]

@@ -140,50 +140,6 @@ pub fn answered(reply: &Reply) -> Answer {
     }
 }
 
-/// The step of a plain one, whose handler answers as the policy decides.
-pub fn with_handler(plain: PlainStep) -> Step<ByPolicy> {
-    match plain {
-        PlainStep::Spawn => Step::Spawn,
-        PlainStep::List { caller } => Step::List { caller },
-        PlainStep::Sigaction {
-            caller,
-            sig,
-            disposition,
-        } => Step::Sigaction {
-            caller,
-            sig,
-            disposition,
-        },
-        PlainStep::Kill { caller, which, sig } => Step::Kill { caller, which, sig },
-        PlainStep::Wait4 {
-            caller,
-            which,
-            options,
-        } => Step::Wait4 {
-            caller,
-            which,
-            options,
-        },
-        PlainStep::Install { caller, policy } => Step::Install {
-            caller,
-            handler: Handler::new(policy, ByPolicy(policy)),
-        },
-        PlainStep::Handle { caller } => Step::Handle { caller },
-        PlainStep::Ptrace {
-            caller,
-            request,
-            target,
-            arg,
-        } => Step::Ptrace {
-            caller,
-            request,
-            target,
-            arg,
-        },
-        PlainStep::Turn { tid, act } => Step::Turn { tid, act },
-    }
-}
-
 /// Whether a line is of this user, where one is named.
 fn is_of(line: &Line, only: Option<u32>) -> bool {
     only.is_none_or(|user| user == line.user)
@@ -194,12 +150,12 @@ pub fn steps_of(
     alloc: Global,
     lines: &[Line],
     only: Option<u32>,
-) -> Result<Vec<(Uid, Step<ByPolicy>)>, Fail> {
+) -> Result<Vec<(Uid, Step<Handler<ByPolicy>>)>, Fail> {
     let mut steps = Vec::new(alloc);
     for line in lines {
         if is_of(line, only) {
             let user = Uid::new(line.user)?;
-            steps.push((user, with_handler(line.step)))?;
+            steps.push((user, line.step.by_policy()))?;
         }
     }
     Ok(steps)
@@ -298,12 +254,12 @@ pub fn handle(caller: u32) -> PlainStep {
     PlainStep::Handle { caller }
 }
 
-pub fn ask(caller: u32, request: Request, target: u32, arg: u32) -> PlainStep {
+pub fn ask(caller: u32, request: Request, target: u32, data: u32) -> PlainStep {
     PlainStep::Ptrace {
         caller,
         request,
         target,
-        arg,
+        data,
     }
 }
 

@@ -14,7 +14,7 @@ use trace_stop::Settings;
 fn three_and_a_policy(policy: Policy) -> [Line; 4] {
     let install = PlainStep::Install {
         caller: 1000,
-        policy,
+        handler: policy,
     };
     [
         first(PlainStep::Spawn, Answer::New(1000, 100000)),

@@ -2,7 +2,7 @@ use Rattle.std.proofs.Common.{◌≡◌, ℕ, ◌∙◌, List, [], ◌∷◌, �
 use Rattle.atomic_table.specs.Table.{Me, rest}
 use Rattle.requests.specs.Isolation.{reply_of}
 use Rattle.requests.specs.Memory.{is_memory}
-use Rattle.requests.specs.declared.PlainStep.{PlainStep}
+use Rattle.requests.specs.Plain.{PlainStep}
 use Rattle.host_lock.specs.Journal.{replay, entry}
 use Rattle.host_lock.specs.Views.{View, Holding, Counted}
 use Rattle.host_lock.specs.declared.view.Slot.{Slot}

@@ -19,4 +19,4 @@ returns-clause-rows c =
     let rows = c.args.tables.now.rows in
     let p = c.args.process.now in
     let h = masked_ready p c.args.mask rows c.set_mask.new.tables.rows c.clear_stepping.new.tables.rows (is_tracee rows p c.requires.sound c.requires.at c.requires.stopped) c.requires.stopped c.set_mask.ensures.rows c.clear_stepping.ensures.rows in
-    signalled (resume c.args.settings p.pid) c.args.arg c.in-Ok.pass reply.Done rows c.clear_stepping.new.tables.rows _ (not_stepping p.pid (set_mask (λ old. c.args.mask) p.pid rows)) c.in-Ok.ensures h.same c.resume.ensures.rows
+    signalled (resume c.args.settings p.pid) c.args.data c.in-Ok.pass reply.Done rows c.clear_stepping.new.tables.rows _ (not_stepping p.pid (set_mask (λ old. c.args.mask) p.pid rows)) c.in-Ok.ensures h.same c.resume.ensures.rows

@@ -8,4 +8,4 @@ pub detach-requires-clause-stopped : goal.detach-requires-clause-stopped
 detach-requires-clause-stopped c = is_stopped c.args.tables.now.rows c.args.process.now c.requires.sound c.requires.at c.requires.stopped
 
 pub returns-clause-rows : goal.returns-clause-rows
-returns-clause-rows c = let rows = c.args.tables.now.rows in signalled (detach c.args.settings c.args.process.now.pid) c.args.arg c.in-Ok.pass reply.Done rows rows _ rows c.in-Ok.ensures refl c.detach.ensures.rows
+returns-clause-rows c = let rows = c.args.tables.now.rows in signalled (detach c.args.settings c.args.process.now.pid) c.args.data c.in-Ok.pass reply.Done rows rows _ rows c.in-Ok.ensures refl c.detach.ensures.rows

@@ -23,9 +23,9 @@ returns-clause-machine c = λ ok.
     let rows = c.args.tables.now.rows in
     let p = c.in-Some.process in
     let tid = c.in-Some-told_stop.reporting in
-    let same = asks_tracee c.args.settings c.args.user c.args.caller.now c.args.request c.args.target c.args.arg rows p tid
+    let same = asks_tracee c.args.settings c.args.user c.args.caller.now c.args.request c.args.target c.args.data rows p tid
     (sym c.is_trace_me.ensures ∙ c.if-is_trace_me.false) (sym c.target_of.ensures.process ∙ c.in-Some.is) (sym c.is_live.ensures ∙ c.if-not-is_live.false) (sym c.is_attach.ensures ∙ c.if-is_attach.false)
     (c.is_none.ensures ∙ ap not c.if-is_none.false) (sym c.traces.ensures ∙ c.if-not-traces.false) (sym c.told_stop.ensures ∙ c.in-Some-told_stop.is) in
-    let named = ap (λ n. command c.args.settings c.args.request c.args.arg n p rows) c.named_lwp-lwp.ensures in
+    let named = ap (λ n. command c.args.settings c.args.request c.args.data n p rows) c.named_lwp-lwp.ensures in
     let done = c.command.ensures.machine ok in
     same_outcome _ _ _ _ (named ∙ sym same) done.0 done.1

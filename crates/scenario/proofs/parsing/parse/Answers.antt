@@ -4,8 +4,8 @@ use Rattle.serde_json.specs.View.{view}
 use Rattle.scenario.proofs.Answering.{answers_of}
 use Rattle.scenario.proofs.parsing.parse.Goals as goal
 
-pub returns-then-bytes-gt4194304-clause-stands : goal.returns-then-bytes-gt4194304-clause-stands
-returns-then-bytes-gt4194304-clause-stands c = too_long (omega arith)
+pub returns-then-bytes-gt-MOST_BYTES-clause-stands : goal.returns-then-bytes-gt-MOST_BYTES-clause-stands
+returns-then-bytes-gt-MOST_BYTES-clause-stands c = too_long (omega arith)
 
 pub returns-in-Ok-clause-stands : goal.returns-in-Ok-clause-stands
 returns-in-Ok-clause-stands c =

@@ -16,5 +16,5 @@ returns-clause-writes g c =
     let answers : map answered c.as_slice.result.now ≡ by_users users (answers_of plan) =
     ap (map answered) c.as_slice.ensures.value ∙ c.in_ok-replies.ensures.ok
     ∙ ap₂ (λ (settings : Settings) (xs : List Asked). by_users users (answers_of (record { settings = settings; steps = xs }))) c.settings.ensures steps in
-    let text = c.as_bytes.ensures.value ∙ c.in_ok-text.ensures ∙ ap (shown user) answers ∙ shown_plan user plan all in
-    subst (Writes c.write_whole.result (g.W.Write.contents c.args.writer.now) (g.W.Write.contents c.write_whole.new.writer)) text c.write_whole.ensures.writes
+    let text = ap (shown user) answers ∙ shown_plan user plan all in
+    subst (Writes c.write_lines.result (g.W.Write.contents c.args.writer.now) (g.W.Write.contents c.write_lines.new.writer)) text c.write_lines.ensures.writes

@@ -12,8 +12,7 @@ use Rattle.host_lock.specs.contracts.home.Home as Home
 use Rattle.host_lock.specs.contracts.view.Slot as Slot
 use Rattle.host_lock.specs.contracts.host.SharedHost as SharedHost
 use Rattle.host_lock.proofs.Crossing.{tables_send, plain_step_send, reply_send, journal_send}
-use Rattle.requests.specs.declared.step.Step.{Step}
-use Rattle.requests.specs.Plain.{plain}
+use Rattle.requests.specs.Plain.{PlainStep}
 use Rattle.host_lock.specs.Sessions.{SessionData}
 use Rattle.sessions.specs.declared.job.Job.{Job}
 use Rattle.sessions.specs.declared.job.Done.{Done}
@@ -30,7 +29,7 @@ beside-scope-returns g t c =
     let one : Done = record { session = c.join-session.result.0; replies = c.join-session.result.1 } in
     let same : c.in_ok-child.child.promise ≡ c.captures.plan = search rules in
     let P : Plan g.row.F.Denot → Type 0 = λ p. Did p.session.value (map plain p.steps.value.items) one.replies.items one.session in
-    let Q : SessionData × Vec (Step g.row.F.Denot) Global → Type 0 = λ z. Did z.0 (map plain z.1.items) one.replies.items one.session in
+    let Q : SessionData × Vec PlainStep Global → Type 0 = λ z. Did z.0 (map plain z.1.items) one.replies.items one.session in
     let did : R job one = subst Q (λ i. (c.requires.plan.0 i, c.requires.plan.1 i)) (subst P same c.join-session.ensures) in
     let len = c.in_ok-all.ensures.room.0 in
     let more = c.push_reserved.ensures.len in record {

@@ -1,13 +1,13 @@
 use Rattle.std.proofs.Common.{◌≡◌, ◌+◌, ◌++◌, [], ◌∷◌, List, sym, ap, ◌∙◌, arith, rules, length-append, vec_len, length, reverse, refl}
-use Rattle.requests.specs.declared.step.Step.{Step}
+use Rattle.requests.specs.Plain.{PlainStep}
 use Rattle.sessions.proofs.Scripts.{did_more, next_step, reverse_twice}
 use Rattle.sessions.proofs.work.work.Goals as goal
 
 pub loop-step-preserved : goal.loop-step-preserved
 loop-step-preserved g c =
     let inv = c.loop-step.invariant in
-    let done : List (Step g.row.F.Denot) = inv.0 in
-    let s : Step g.row.F.Denot = c.in-Some.step in
+    let done : List PlainStep = inv.0 in
+    let s : PlainStep = c.in-Some.step in
     let popped : c.loop-step.steps.items ≡ c.pop.new.self.items ++ s ∷ [] = search rules in
     let less : vec_len c.pop.new.self + 1 ≡ vec_len c.loop-step.steps = search rules in
     let pushed = c.push_reserved.ensures.len in

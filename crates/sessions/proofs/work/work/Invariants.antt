@@ -1,12 +1,11 @@
 use Rattle.std.proofs.Common.{◌≡◌, ◌+◌, ◌≤◌, ◌++◌, List, length, map, reverse, vec_len, vec_capacity}
-use Rattle.requests.specs.declared.step.Step.{Step}
-use Rattle.requests.specs.Plain.{plain}
+use Rattle.requests.specs.Plain.{PlainStep}
 use Rattle.sessions.specs.Made.{Did}
 use Rattle.sessions.proofs.work.work.Given as goal
 
 abbrev pub invariant-loop-step : goal.invariant-loop-step
 invariant-loop-step g l =
-    (done : List (Step g.row.F.Denot)) × (l.fn.steps.items ≡ done ++ reverse l.steps.items) × Did l.fn.session (map plain done) l.replies.items l.session
+    (done : List PlainStep) × (l.fn.steps.items ≡ done ++ reverse l.steps.items) × Did l.fn.session (map plain done) l.replies.items l.session
     × (vec_len l.steps + length done ≤ 4294967295) × (vec_len l.steps + vec_len l.replies ≤ vec_capacity l.replies)
 
 abbrev pub decreases-loop-step : goal.decreases-loop-step

@@ -1,8 +1,7 @@
 use Rattle.std.proofs.Common.{◌≡◌, ℕ, [], ◌∷◌, ◌++◌, map, length, arith, ap, ◌∙◌, sym, subst, append_assoc}
 use Rattle.std.specs.Vec.Iter.{into_iter_items}
 use Rattle.requests.specs.Isolation.{Ran, Users}
-use Rattle.requests.specs.declared.step.Step.{Step}
-use Rattle.requests.specs.Plain.{plain}
+use Rattle.requests.specs.Plain.{PlainStep}
 use Rattle.visibility.specs.Runs.{asked, told, Did, Wanting}
 use Rattle.visibility.proofs.Answered.{Ran-append, Wanting-append, map-push, Users-push}
 use Rattle.visibility.proofs.Steps.{did, ran, wants}
@@ -11,9 +10,9 @@ use Rattle.visibility.proofs.runs.run_into.Goals as goal
 pub loop-user-preserved : goal.loop-user-preserved
 loop-user-preserved g c =
     let at = c.loop-user in
-    let entry : ℕ × Step g.row.F.Denot = (c.in-Some.user, c.in-Some.step) in
+    let entry : ℕ × PlainStep = (c.in-Some.user, c.in-Some.step) in
     let steps : into_iter_items at.user-iterator ≡ entry ∷ into_iter_items c.next.new.self = c.in-Some.ensures.steps.0 in
-    let made : Did (told c.step-reply.result) c.in-Some.user (plain c.in-Some.step) at.host c.step-reply.new.self = did c.in-Some.user (plain c.in-Some.step) at.host c.step-reply.new.self c.step-reply.result c.step-reply.ensures.machine c.step-reply.ensures.memory in
+    let made : Did (told c.step-reply.result) c.in-Some.user c.in-Some.step at.host c.step-reply.new.self = did c.in-Some.user c.in-Some.step at.host c.step-reply.new.self c.step-reply.result c.step-reply.ensures.machine c.step-reply.ensures.memory in
     let one : Ran (asked entry ∷ []) (told c.step-reply.result ∷ []) at.host c.step-reply.new.self = ran (asked entry) (told c.step-reply.result) at.host c.step-reply.new.self made in
     let more = Ran-append (map asked at.yielded) (map told at.replies.items) (asked entry ∷ []) (told c.step-reply.result ∷ []) c.args.host.now at.host c.step-reply.new.self at.invariant.ran one in
     let want : Wanting (asked entry ∷ []) (told c.step-reply.result ∷ []) at.host = wants (asked entry) (told c.step-reply.result) at.host c.step-reply.new.self made in

@@ -1,9 +1,9 @@
 use Rattle.std.proofs.Common.{◌≡◌, [], ◌∷◌, refl, arith, rules, inl, inr}
 use Rattle.requests.specs.Isolation.{AlikeSteps, ptraces}
 use Rattle.requests.specs.Run.{last}
-use Rattle.requests.specs.declared.PlainStep.TheVariants as op
+use Rattle.requests.specs.declared.step.Step.TheVariants as op
 use Rattle.requests.specs.declared.Request.TheVariants as request
-use Rattle.visibility.specs.Rows.{kills, by}
+use Rattle.visibility.specs.WorkedRuns.{kills, by}
 use Rattle.visibility.proofs.tests.laws.foreign_attaches.Goals as goal
 
 -- the first user sees neither number

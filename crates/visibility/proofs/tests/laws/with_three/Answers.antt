@@ -1,8 +1,8 @@
 use Rattle.std.proofs.Common.{◌≡◌, ℕ, ap₂, ◌∙◌, rules}
 use Rattle.requests.specs.Isolation.{host_after}
 use Rattle.requests.specs.Machine.{Machine}
-use Rattle.requests.specs.declared.PlainStep.TheVariants as op
-use Rattle.visibility.specs.Rows.{kills}
+use Rattle.requests.specs.declared.step.Step.TheVariants as op
+use Rattle.visibility.specs.WorkedRuns.{kills}
 use Rattle.visibility.proofs.tests.laws.with_three.Goals as goal
 
 after : (u v : ℕ) (m k h : Machine) → h ≡ host_after u op.Spawn m → u ≡ v → m ≡ k → h ≡ host_after v op.Spawn k

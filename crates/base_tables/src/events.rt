@@ -1,0 +1,86 @@
+//! Event masks, the flags of stops, and the stops at the ends of calls.
+
+use bitflags::Flags;
+use event_masks::{Call, EventMask, StopFlags, call_code, default_mask, entry_flags, exit_flags};
+use std::io;
+
+/// The events and the flags with these names, as bits. Nothing has the last name of each.
+pub fn names(rt: &impl Print) -> io::Result<()> {
+    for name in [
+        "PTRACE_EXEC",
+        "PTRACE_SCE",
+        "PTRACE_SCX",
+        "PTRACE_FORK",
+        "PTRACE_LWP",
+        "PTRACE_VFORK",
+        "PTRACE_SYSCALL",
+        "PTRACE",
+    ] {
+        let bits = EventMask::by_name(name).map_or(0, |mask| mask.bits());
+        println!(rt; "event {name} {bits}")?;
+    }
+    for name in [
+        "PL_FLAG_SCE",
+        "PL_FLAG_SCX",
+        "PL_FLAG_EXEC",
+        "PL_FLAG_FORKED",
+        "PL_FLAG_CHILD",
+        "PL_FLAG_BORN",
+        "PL_FLAG_EXITED",
+        "PL_FLAG_VFORKED",
+        "PL_FLAG_VFORK_DONE",
+        "PL_FLAG_SYSCALL",
+    ] {
+        let bits = StopFlags::by_name(name).map_or(0, |flags| flags.bits());
+        println!(rt; "flag {name} {bits}")?;
+    }
+    Ok(())
+}
+
+/// The bits of the stop's flags, or 0 for no stop.
+fn bits(flags: Option<StopFlags>) -> u32 {
+    flags.map_or(0, |flags| flags.bits())
+}
+
+/// The mask of all events.
+fn every() -> EventMask {
+    EventMask::known(63).unwrap_or(EventMask::none())
+}
+
+/// Each call's code, and the flags of its exit stop under every event, under PTRACE_SCX alone and under no event.
+pub fn calls(rt: &impl Print) -> io::Result<()> {
+    for call in [
+        Call::Exit(3),
+        Call::Fork,
+        Call::Exec,
+        Call::Vfork,
+        Call::ThrExit,
+        Call::ThrNew,
+        Call::Other(20),
+    ] {
+        let code = call_code(call);
+        let all = bits(exit_flags(every(), call));
+        let scx = bits(exit_flags(EventMask::PTRACE_SCX, call));
+        let none = bits(exit_flags(EventMask::none(), call));
+        println!(rt; "call {code}: {all} {scx} {none}")?;
+    }
+    let entry = bits(entry_flags(every()));
+    let without = bits(entry_flags(every().without(EventMask::PTRACE_SCE)));
+    println!(rt; "entry {entry}, without PTRACE_SCE {without}")
+}
+
+/// Masks and flags print as their names.
+pub fn printed(rt: &impl Print) -> io::Result<()> {
+    for bits in [63, 64, 6, 0] {
+        match EventMask::known(bits) {
+            Some(mask) => println!(rt; "mask {bits} {mask}")?,
+            None => println!(rt; "mask {bits} is unknown")?,
+        }
+    }
+    let first = default_mask();
+    let vfork = StopFlags::PL_FLAG_VFORKED
+        .with(StopFlags::PL_FLAG_FORKED)
+        .with(StopFlags::PL_FLAG_SCX);
+    let none = StopFlags::none();
+    println!(rt; "tracing begins with {first}; a vfork shows {vfork}, a plain stop {none}")
+}

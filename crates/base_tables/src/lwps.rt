@@ -1,0 +1,69 @@
+//! What is told of LWPs, and lists of numbers.
+
+use event_masks::StopFlags;
+use lwp_table::{Due, LwpData};
+use lwpinfo::{LwpInfo, NumList, info, lwp_count, lwp_info, lwp_list};
+use pid_blocks::{Pid, Tid};
+use proc_table::Tables;
+use signals::SigSet;
+use std::alloc::{AllocError, Global};
+use std::io;
+
+/// Lists are copied, and equal where they have the same numbers in the same order.
+pub fn lists(rt: &impl Print, alloc: Global) -> io::Result<()> {
+    let list = NumList::of(vec![in alloc; 1001, 1002, 1004]?);
+    let turned = NumList::of(vec![in alloc; 1001, 1004, 1002]?);
+    let copy = list.copy(alloc)?;
+    let len = copy.len();
+    let last = copy.get(2).unwrap_or(0);
+    let past = copy.get(3).unwrap_or(0);
+    let same = copy == list;
+    let other = copy == turned;
+    let empty = NumList::of(Vec::new(alloc)).is_empty();
+    let numbers = copy.as_slice();
+    println!(rt;
+        "list {numbers:?}: {len} numbers, {last}, {past}, same {same} {other}, empty {empty}"
+    )
+}
+
+/// The line of what is told of an LWP.
+fn line(rt: &impl Print, told: LwpInfo) -> io::Result<()> {
+    let tid = told.tid.get();
+    let event = told.event;
+    let flags = told.flags;
+    let child = told.child;
+    let code = told.code;
+    println!(rt; "info {tid} {event} {flags} {child} {code}")
+}
+
+/// What is told of an LWP that reports a stop, and of one that doesn't.
+pub fn told(rt: &impl Print) -> io::Result<()> {
+    let (Some(tid), Some(pid)) = (Tid::new(100001), Pid::new(1001)) else {
+        return println!(rt; "no numbers");
+    };
+    let row = LwpData {
+        flags: StopFlags(10),
+        child: 1002,
+        code: 2,
+        ..LwpData::born(tid, pid, SigSet::empty(), Due::Nothing)
+    };
+    line(rt, lwp_info(true, &row))?;
+    line(rt, lwp_info(false, &row))
+}
+
+/// What is told of a process that isn't there: whether anything is, how many LWPs it has, and how many are listed.
+fn of_nobody(alloc: Global, pid: Pid, tid: Tid) -> Result<(bool, usize, usize), AllocError> {
+    let tables = Tables::new(alloc)?;
+    let is_told = info(&tables, pid, tid).is_some();
+    let listed = lwp_list(alloc, &tables, pid, 8)?;
+    Ok((is_told, lwp_count(&tables, pid), listed.len()))
+}
+
+/// Nothing is told of a process that isn't there.
+pub fn nobody(rt: &impl Print, alloc: Global) -> io::Result<()> {
+    let (Some(tid), Some(pid)) = (Tid::new(100000), Pid::new(1000)) else {
+        return println!(rt; "no numbers");
+    };
+    let (is_told, count, listed) = of_nobody(alloc, pid, tid)?;
+    println!(rt; "of nobody: {is_told} {count} {listed}")
+}

@@ -1,0 +1,84 @@
+//! Errors, users, blocks of numbers and the choice of free ones.
+
+use pid_blocks::{
+    Block, Errno, Pid, Tid, Uid, cursor_after, next_free, owner_of_pid, owner_of_tid, pid_block,
+    tid_block,
+};
+use std::io;
+
+/// Each error with its number in errno(2).
+pub fn errors(rt: &impl Print) -> io::Result<()> {
+    for error in [
+        Errno::EPERM,
+        Errno::ESRCH,
+        Errno::ECHILD,
+        Errno::ENOMEM,
+        Errno::EBUSY,
+        Errno::EINVAL,
+        Errno::EAGAIN,
+    ] {
+        let name = error.name();
+        let number = error.number();
+        println!(rt; "error {error} {name} {number}")?;
+    }
+    Ok(())
+}
+
+/// The first and the last users, with their blocks, and the numbers about them, which are nobody's.
+pub fn users(rt: &impl Print) -> io::Result<()> {
+    for number in [1000, 1001, 1002, 1063, 1064, 1065] {
+        match Uid::new(number) {
+            Ok(user) => {
+                let own = user.get();
+                let slot = user.slot();
+                let pids = pid_block(user);
+                let tids = tid_block(user);
+                println!(rt; "user {own} at {slot}: {pids:?} {tids:?}")?;
+            }
+            Err(fault) => println!(rt; "user {number}: {fault}")?,
+        }
+    }
+    Ok(())
+}
+
+/// The user's number, or 0 for nobody.
+fn uid_of(owner: Option<Uid>) -> u32 {
+    owner.map_or(0, |user| user.get())
+}
+
+/// Whose numbers the borders of the blocks are, as processes and as LWPs, and whether they are numbers of these at all.
+pub fn owners(rt: &impl Print) -> io::Result<()> {
+    for number in [
+        0, 999, 1000, 1999, 2000, 2999, 63000, 63999, 64000, 64999, 65000, 99999, 100000, 103999,
+        104000, 107999, 348000, 351999, 352000, 355999, 356000, 4294967295,
+    ] {
+        let process = uid_of(owner_of_pid(number));
+        let lwp = uid_of(owner_of_tid(number));
+        let pid = Pid::new(number).map_or(0, |pid| pid.get());
+        let tid = Tid::new(number).map_or(0, |tid| tid.get());
+        println!(rt; "number {number}: {process} {lwp}, {pid} {tid}")?;
+    }
+    Ok(())
+}
+
+/// The free number of the block 10 to 13 that is found from 12 on, and where the next search begins.
+pub fn free_numbers(rt: &impl Print) -> io::Result<()> {
+    let block = Block { first: 10, size: 4 };
+    let none: [u32; 4] = [0, 0, 0, 0];
+    for taken in [
+        none,
+        [12, 0, 0, 0],
+        [12, 13, 0, 0],
+        [10, 12, 13, 0],
+        [10, 11, 12, 13],
+    ] {
+        match next_free(block, 12, |number| taken.contains(&number)) {
+            Some(number) => {
+                let cursor = cursor_after(block, number);
+                println!(rt; "free {number}, then from {cursor}")?;
+            }
+            None => println!(rt; "none is free")?,
+        }
+    }
+    Ok(())
+}

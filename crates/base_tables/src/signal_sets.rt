@@ -1,0 +1,94 @@
+//! Signals, sets of them, and what processes do with them.
+
+use signals::{Action, Disposition, Dispositions, SigSet, Signal, default_action};
+use std::io;
+
+/// The word for what a signal does by default.
+fn word(action: Action) -> &'static str {
+    match action {
+        Action::End => "ends",
+        Action::Stop => "stops",
+        Action::Discard => "is discarded",
+    }
+}
+
+/// The number of the signal with this name, or 0.
+fn named(name: &str) -> u32 {
+    Signal::by_name(name).map_or(0, |signal| signal.number())
+}
+
+/// Each signal's name, the number that the name finds, and what it does by default, as in signal(3).
+pub fn table(rt: &impl Print) -> io::Result<()> {
+    for number in 0..33 {
+        match Signal::new(number) {
+            Ok(signal) => {
+                let name = signal.name();
+                let found = named(name);
+                let action = word(default_action(signal));
+                println!(rt; "signal {number} {name} {found} {action}")?;
+            }
+            Err(fault) => println!(rt; "signal {number}: {fault}")?,
+        }
+    }
+    let shorter = named("SIGUSR");
+    let empty = named("");
+    println!(rt; "no signal's name: {shorter} {empty}")
+}
+
+/// The signal with this number, or SIGKILL.
+fn signal(number: u32) -> Signal {
+    Signal::new(number).unwrap_or(Signal::kill())
+}
+
+/// Sets have bit n - 1 for signal n, and print as the numbers of their signals.
+pub fn sets(rt: &impl Print) -> io::Result<()> {
+    let set = SigSet::empty()
+        .with(signal(31))
+        .with(Signal::kill())
+        .with(signal(1));
+    for set in [
+        set,
+        set.maskable(),
+        set.without(signal(1)),
+        SigSet::stops(),
+        SigSet::empty(),
+    ] {
+        let bits = set.bits();
+        let lowest = set.lowest().map_or(0, |signal| signal.number());
+        println!(rt; "set {bits:#x}: {set}, lowest {lowest}")?;
+    }
+    Ok(())
+}
+
+/// What is done with the signals, before an exec and after it.
+fn told(rt: &impl Print, dispositions: &Dispositions) -> io::Result<()> {
+    let after = dispositions.after_exec();
+    for number in [9, 15, 17, 30] {
+        let before = dispositions.get(signal(number));
+        let later = after.get(signal(number));
+        let ends = after.ends(signal(number));
+        println!(rt; "disposition {number}: {before:?}, after exec {later:?}, ends {ends}")?;
+    }
+    Ok(())
+}
+
+/// SIGKILL and SIGSTOP keep their default.
+pub fn dispositions(rt: &impl Print) -> io::Result<()> {
+    let mut dispositions = Dispositions::standard();
+    for (number, disposition) in [
+        (15, Disposition::Catch),
+        (30, Disposition::Ignore),
+        (9, Disposition::Ignore),
+        (9, Disposition::Catch),
+        (9, Disposition::Default),
+        (17, Disposition::Ignore),
+        (17, Disposition::Catch),
+        (17, Disposition::Default),
+    ] {
+        match dispositions.set(signal(number), disposition) {
+            Ok(()) => println!(rt; "set {number} {disposition:?}")?,
+            Err(fault) => println!(rt; "set {number} {disposition:?}: {fault}")?,
+        }
+    }
+    told(rt, &dispositions)
+}
