@@ -1,10 +1,9 @@
 -- The LWPs of a process that ends, and those that wait for it.
-use Rattle.std.proofs.Common.{◌≡◌, ℕ, List, [], ◌∷◌, map, filter, filter_map, cond, Bool, true, false, not, ◌&&◌, ◌==◌, if◌then◌else◌, Option, Some, None, IfSome, is_none, is_some, refl, sym, ap, ◌∙◌, true≢false, eqb-true, eq-eqb, subst, arith}
+use Rattle.std.proofs.Common.{◌≡◌, ℕ, List, [], ◌∷◌, map, filter, filter_map, Bool, true, false, not, ◌&&◌, ◌==◌, if◌then◌else◌, Option, Some, None, IfSome, is_none, is_some, refl, sym, ap, ◌∙◌, true≢false, eqb-true, eq-eqb, subst, arith}
 use Rattle.std.specs.Option.{option_and_then}
-use Rattle.std.specs.List.{AllByRecursion, cons_option}
+use Rattle.std.specs.List.{AllByRecursion}
 use Rattle.std.proofs.Math.Path.{fun_ext}
 use Rattle.lwp_table.specs.declared.LwpData.{LwpData}
-use Rattle.lwp_table.specs.declared.Due.{Due}
 use Rattle.lwp_table.specs.declared.Mode.{Mode}
 use Rattle.lwp_table.specs.declared.Mode.TheVariants.{User, InCall, VforkWait}
 use Rattle.proc_table.specs.declared.ProcData.{ProcData}
