@@ -26,7 +26,7 @@ use Rattle.trace_stop.proofs.FromSound.{none_is}
 use Rattle.trace_stop.proofs.Children.{child_test, child_from}
 use Rattle.trace_stop.proofs.Edited.{some_is}
 use Rattle.trace_stop.proofs.Numbers.{the_row}
-use Rattle.process_end.proofs.Turned.{turned, turned_lwp, told_lwp, moved, turned_lwp-safe, turned_lwp-fallen}
+use Rattle.process_end.proofs.Turned.{turned, turned_lwp, notified_lwp, moved, turned_lwp-safe, turned_lwp-fallen}
 use Rattle.process_end.proofs.Twice.{alone}
 use Rattle.process_end.proofs.LeafFirst.{told, told-is}
 use Rattle.trace_stop.proofs.Found.{any_by_number}
@@ -187,7 +187,7 @@ module _ (rows : Rows) (s : IsSound rows) (q : ℕ) (p : ProcData) (at : process
               let safe : alone q o.r.pid ≡ false = ap (λ n. n == q) o.number ∙ other in
               ap (by_owner (turned_lwp (alone q) q w t) (released over o.r l)) (ap (λ n. process_of n ps) (released-pid over o.r l) ∙ o.found)
               ∙ turned_lwp-safe (alone q) q w t o.r (released over o.r l) o.stands.live safe
-              ∙ ap (λ k. Some (told_lwp t (moved (alone q) o.r) k)) again
+              ∙ ap (λ k. Some (notified_lwp t (moved (alone q) o.r) k)) again
               ∙ sym (turned_lwp-safe (alone q) q w t o.r l o.stands.live safe)
 
       of_lwp : (l : LwpData) → Owned l → option_and_then (λ k. by_owner (turned_lwp (alone q) q w t) k (process_of k.pid ps)) (by_owner (lwp_made q) l (process_of l.pid ps)) ≡ by_owner (turned_lwp (alone q) q w t) l (process_of l.pid ps)

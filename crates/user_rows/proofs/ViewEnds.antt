@@ -15,7 +15,7 @@ use Rattle.proc_table.specs.Rows.{Rows, each}
 use Rattle.trace_stop.specs.declared.Settings.{Settings}
 use Rattle.trace_stop.specs.Post.{notified}
 use Rattle.trace_stop.specs.Detach.{detached}
-use Rattle.trace_stop.specs.End.{tracer_in, tracer_of, holds_of, meets, is_doomed, dooms, unless, orphaned, dead, uncollected, process_after, waits_where, released, lwp_after, collector, told_of, end_each, end_of, end}
+use Rattle.trace_stop.specs.End.{tracer_in, tracer_of, holds_of, meets, is_doomed, dooms, unless, orphaned, dead, uncollected, process_after, waits_where, released, lwp_after, collector, notifies_of, end_each, end_of, end}
 use Rattle.trace_stop.specs.Facts.{waited_for}
 use Rattle.user_rows.specs.Closed.{Mine, GoodProc, GoodLwp, LiveRow}
 use Rattle.user_rows.proofs.ViewLists.{filter_map_only, All-where}
@@ -191,25 +191,25 @@ collector_mine {u} p (Some z) mine k = by_tracer z.tracer k.2.tracer
 and_false : (b : Bool) → (b && false) ≡ false
 and_false b = grind arith
 
-told_foreign : {u : ℕ} (ends : ProcData → Bool) (over : ℕ → Bool) → Tests u ends over → (n w : ℕ) (p : ProcData) → GoodProc p → p.uid ≢ u → told_of ends over n w p ≡ None
-told_foreign ends over t n w p good ne = rw (t.foreign p good ne, holds_none over t.over_foreign ne p.tracer good.tracer, and_false (not (is_live p))) refl
+notifies_foreign : {u : ℕ} (ends : ProcData → Bool) (over : ℕ → Bool) → Tests u ends over → (n w : ℕ) (p : ProcData) → GoodProc p → p.uid ≢ u → notifies_of ends over n w p ≡ None
+notifies_foreign ends over t n w p good ne = rw (t.foreign p good ne, holds_none over t.over_foreign ne p.tracer good.tracer, and_false (not (is_live p))) refl
 
-told_mine : {u : ℕ} (ends : ProcData → Bool) (over : ℕ → Bool) → Tests u ends over → (n w : ℕ) (p : ProcData) → GoodProc p → IfSome (told_of ends over n w p) (Mine u)
-told_mine {u} ends over t n w p good = by_user (eqb p.uid u) refl
+notifies_mine : {u : ℕ} (ends : ProcData → Bool) (over : ℕ → Bool) → Tests u ends over → (n w : ℕ) (p : ProcData) → GoodProc p → IfSome (notifies_of ends over n w p) (Mine u)
+notifies_mine {u} ends over t n w p good = by_user (eqb p.uid u) refl
   where
     by_test : p.uid ≡ u → (b : Bool) → IfSome (if b then option_map collector (process_after ends over n w p) else None) (Mine u)
     by_test is true = collector_mine p (process_after ends over n w p) is (after_kin ends over n w p good)
     by_test is false = tt
 
-    by_user : (b : Bool) → eqb p.uid u ≡ b → IfSome (told_of ends over n w p) (Mine u)
+    by_user : (b : Bool) → eqb p.uid u ≡ b → IfSome (notifies_of ends over n w p) (Mine u)
     by_user true is = by_test (eqb-true p.uid u is) (ends p || (not (is_live p) && holds_of over p.tracer))
-    by_user false is = subst (λ o. IfSome o (Mine u)) (sym (told_foreign ends over t n w p good (not_equal p.uid u is))) tt
+    by_user false is = subst (λ o. IfSome o (Mine u)) (sym (notifies_foreign ends over t n w p good (not_equal p.uid u is))) tt
 
 end_each_same : {u : ℕ} {start c v : Rows} → Sim u start c v → (ends : ProcData → Bool) (over : ℕ → Bool) → Tests u ends over → (n w : ℕ) → Sim u start (end_each ends over n w c) (end_each ends over n w v)
 end_each_same {u} {start} {c} {v} s ends over t n w = subst (λ ns. Sim u start (end_each ends over n w c) (notified ns (each (process_after ends over n w) (lwp_after ends over) v)))
-    (sym (filter_map_only (told_of ends over n w) (own u) GoodProc (λ p good is. told_foreign ends over t n w p good (not_equal p.uid u is)) c.processes s.kept.closed.processes) ∙ ap (filter_map (told_of ends over n w)) s.processes)
-    (notified_same (each_same s (process_after ends over n w) (lwp_after ends over) (end_keeps s.kept.closed.user ends over t n w)) (filter_map (told_of ends over n w) c.processes)
-    (All-edit (told_of ends over n w) GoodProc (Mine u) (λ p good. told_mine ends over t n w p good) c.processes s.kept.closed.processes))
+    (sym (filter_map_only (notifies_of ends over n w) (own u) GoodProc (λ p good is. notifies_foreign ends over t n w p good (not_equal p.uid u is)) c.processes s.kept.closed.processes) ∙ ap (filter_map (notifies_of ends over n w)) s.processes)
+    (notified_same (each_same s (process_after ends over n w) (lwp_after ends over) (end_keeps s.kept.closed.user ends over t n w)) (filter_map (notifies_of ends over n w) c.processes)
+    (All-edit (notifies_of ends over n w) GoodProc (Mine u) (λ p good. notifies_mine ends over t n w p good) c.processes s.kept.closed.processes))
 
 -- the tests are the same on all rows and on a user's
 doomed_same : {u : ℕ} {start c v : Rows} → Sim u start c v → (settings : Settings) (n : ℕ) → pid_owner n ≡ u → is_doomed settings c.processes n ≡ is_doomed settings v.processes n

@@ -11,7 +11,7 @@ use Rattle.proc_table.specs.declared.State.TheVariants.{Run}
 use Rattle.lwp_table.specs.declared.LwpData.{LwpData}
 use Rattle.proc_table.specs.Processes.{is_live, process_of, is_this, reporting}
 use Rattle.proc_table.specs.Rows.{Rows, is_numbered, change}
-use Rattle.trace_stop.specs.Post.{settled_process, settled_lwp, settle, continues, posted_set, posted_process, posted_lwp, notified, told, posted}
+use Rattle.trace_stop.specs.Post.{settled_process, settled_lwp, settle, continues, posted_set, posted_process, posted_lwp, notified, notifies, posted}
 use Rattle.trace_stop.specs.Detach.{running, reported, run_on, resumed, untraced, untraced_lwp, detached}
 use Rattle.user_rows.specs.Closed.{Mine, GoodProc, GoodLwp, LiveRow}
 use Rattle.user_rows.proofs.ViewSame.{Sim, Kin, KinLwp, not_own, named, process_same, process_some, each_same}
@@ -64,9 +64,9 @@ notified_same s ns all = change_same s (λ p. list_any (λ n. n == p.pid) ns) (p
     (λ p good ne. not_among p.pid ns all (not_one p good) (λ e. ne (sym good.block ∙ e)))
     (λ p good is e. posted_stays SIGCHLD None p good) (λ p l good well. (refl, record { block = well.block; waits = well.waits }))
 
-told_mine : (u sig : ℕ) (o : Option ProcData) → IfSome o (λ p. GoodProc p × (p.uid ≡ u)) → Mines u (told sig o)
-told_mine u sig None g = tt
-told_mine u sig (Some p) g = by_job (continues sig p)
+notifies_mine : (u sig : ℕ) (o : Option ProcData) → IfSome o (λ p. GoodProc p × (p.uid ≡ u)) → Mines u (notifies sig o)
+notifies_mine u sig None g = tt
+notifies_mine u sig (Some p) g = by_job (continues sig p)
   where
     by_job : (b : Bool) → Mines u (if b then p.parent ∷ [] else [])
     by_job true = (λ ne. g.0.parent ne ∙ g.1, tt)
@@ -80,8 +80,8 @@ own_some {u} {start} {c} s n here = at_row (process_of n c.processes) (process_s
     at_row (Some p) g = (g.0, named here p g.0 (eqb-true p.pid n g.1))
 
 pub posted_same : {u : ℕ} {start c v : Rows} → Sim u start c v → (sig : ℕ) (to : Option ℕ) (n : ℕ) → pid_owner n ≡ u → Sim u start (posted sig to n c) (posted sig to n v)
-posted_same {u} {start} {c} {v} s sig to n here = subst (λ o. Sim u start (posted sig to n c) (notified (told sig o) (change (is_numbered n) (posted_process sig to) (posted_lwp sig to) v))) (process_same s n here)
-    (notified_same (change_same s (is_numbered n) (posted_process sig to) (posted_lwp sig to) (is_numbered_foreign n here) (λ p good is e. posted_stays sig to p good) (λ p l good well. (refl, record { block = well.block; waits = well.waits }))) (told sig (process_of n c.processes)) (told_mine u sig (process_of n c.processes) (own_some s n here)))
+posted_same {u} {start} {c} {v} s sig to n here = subst (λ o. Sim u start (posted sig to n c) (notified (notifies sig o) (change (is_numbered n) (posted_process sig to) (posted_lwp sig to) v))) (process_same s n here)
+    (notified_same (change_same s (is_numbered n) (posted_process sig to) (posted_lwp sig to) (is_numbered_foreign n here) (λ p good is e. posted_stays sig to p good) (λ p l good well. (refl, record { block = well.block; waits = well.waits }))) (notifies sig (process_of n c.processes)) (notifies_mine u sig (process_of n c.processes) (own_some s n here)))
 
 -- Running on
 
