@@ -1,5 +1,5 @@
 -- Changes of a process, of an LWP, and of a process with its LWPs, as edits of single rows.
-use Rattle.std.proofs.Common.{◌≡◌, ℕ, true, false, List, [], ◌∷◌, map, refl, sym, ap, ◌∙◌, arith, inl, inr, cond, nat_eq, Option, Some, None}
+use Rattle.std.proofs.Common.{◌≡◌, ℕ, true, false, List, [], ◌∷◌, map, refl, sym, ap, ◌∙◌, arith, inl, inr, cond, nat_eq, is_some, Option, Some, None}
 use Rattle.std.specs.Prelude.{filter_map}
 use Rattle.std.proofs.Math.Path.{fun_ext}
 use Rattle.std.proofs.lemmas.Bool.{cases_Bool}
@@ -11,7 +11,8 @@ use Rattle.proc_table.specs.Processes.{process_of}
 use Rattle.proc_table.specs.Rows.{Rows, change, change_process, change_lwp, remove_lwp, by_owner, is_numbered}
 use Rattle.proc_table.specs.Edits.{own_lwp, map_lwps}
 use Rattle.proc_table.specs.Kept.{Rise, put_process, set_process, set_lwp, drop_lwp}
-use Rattle.lwp_table.proofs.Numbered.{map-changed}
+use Rattle.lwp_table.proofs.Numbered.{any-found, lacks-any, map-changed, map-lacks}
+use Rattle.proc_table.proofs.Every.{every_found, every_untested}
 use Rattle.proc_table.proofs.Rising.{once}
 use Rattle.proc_table.proofs.Rows.{process_of-pid}
 
@@ -80,22 +81,11 @@ module _ (pid : ℕ) (f : ProcData → ProcData) (g : ProcData → LwpData → L
 
 -- a change of a process that isn't there
 absent : (n : ℕ) (q : ProcData) (m : ℕ) (ps : List ProcData) → process_of n ps ≡ None → process_of m ps ≡ Some q → nat_eq q.pid n ≡ false
-absent n q m [] none found = absurd (cc)
-absent n q m (p ∷ ps) none found = elim (cases_Bool (nat_eq p.pid n)) [
-  | inl e ↦ absurd (let h : Some p ≡ None = rw e at none in cc)
-  | inr e ↦ elim (cases_Bool (nat_eq p.pid m)) [
-    | inl k ↦ let its : Some p ≡ Some q = rw k at found in let same : p ≡ q = cc in rw (← same) e
-    | inr k ↦ absent n q m ps (rw e at none) (rw k at found)
-  ]
-]
+absent n q m ps none found = every_found (λ p. nat_eq p.pid n ≡ false) (λ p. nat_eq p.pid m) ps q (every_untested (λ p. nat_eq p.pid n) ps none) found
 
 module _ (n : ℕ) (f : ProcData → ProcData) (g : ProcData → LwpData → LwpData) where
   none-changed : (ps : List ProcData) → process_of n ps ≡ None → map (changed n f) ps ≡ ps
-  none-changed [] none = refl
-  none-changed (p ∷ ps) none = elim (cases_Bool (nat_eq p.pid n)) [
-    | inl e ↦ absurd (let h : Some p ≡ None = rw e at none in cc)
-    | inr e ↦ rw e (ap (λ xs. p ∷ xs) (none-changed ps (rw e at none)))
-  ]
+  none-changed ps none = map-lacks (λ (p : ProcData). p.pid) f n ps (lacks-any (λ (p : ProcData). p.pid) n ps (any-found (λ p. nat_eq p.pid n) ps ∙ ap is_some none))
 
   none-own : (l : LwpData) (o : Option ProcData) (ps : List ProcData) → process_of n ps ≡ None → process_of l.pid ps ≡ o → by_owner (lwp_changed n f g) l o ≡ Some l
   none-own l None ps none at = refl

@@ -130,22 +130,13 @@ module _ (u : ℕ) where
   eq-other None h = refl
   eq-other (Some p) h = rw h refl
 
-  pub own-pid : (n : ℕ) (ps : List ProcData) → Rise ps → owns u n ps ≡ true → option_map (λ (p : ProcData). p.pid) (find (λ p. nat_eq p.pid n && nat_eq p.uid u) ps) ≡ Some n
-  own-pid n ps r own = ap (option_map (λ (p : ProcData). p.pid)) (seen_process-kept u n ps r) ∙ by (process_of n ps) refl (sym (owns-kept u n ps r) ∙ own)
+  -- the number of the row that is seen, where one is
+  pub pid-seen : (n : ℕ) (ps : List ProcData) → Rise ps → option_map (λ (p : ProcData). p.pid) (find (λ p. nat_eq p.pid n && nat_eq p.uid u) ps) ≡ cond (owns u n ps) (Some n) None
+  pid-seen n ps r = ap (option_map (λ (p : ProcData). p.pid)) (seen_process-kept u n ps r) ∙ by (process_of n ps) refl ∙ sym (ap (λ b. cond b (Some n) None) (owns-kept u n ps r))
     where
-      by : (o : Option ProcData) → process_of n ps ≡ o → is_some (keep (λ (p : ProcData). nat_eq p.uid u) o) ≡ true → option_map (λ (p : ProcData). p.pid) (keep (λ (p : ProcData). nat_eq p.uid u) o) ≡ Some n
-      by None e own = absurd (cc)
-      by (Some p) e own = elim (cases_Bool (nat_eq p.uid u)) [
-        | inl k ↦ rw k (ap Some (process_of-pid n p ps e))
-        | inr k ↦ absurd (cc (rw k at own))
-      ]
-
-  pub other-pid : (n : ℕ) (ps : List ProcData) → Rise ps → owns u n ps ≡ false → option_map (λ (p : ProcData). p.pid) (find (λ p. nat_eq p.pid n && nat_eq p.uid u) ps) ≡ None
-  other-pid n ps r own = ap (option_map (λ (p : ProcData). p.pid)) (seen_process-kept u n ps r) ∙ by (keep (λ (p : ProcData). nat_eq p.uid u) (process_of n ps)) (sym (owns-kept u n ps r) ∙ own)
-    where
-      by : (o : Option ProcData) → is_some o ≡ false → option_map (λ (p : ProcData). p.pid) o ≡ None
-      by None own = refl
-      by (Some p) own = absurd (cc)
+      by : (o : Option ProcData) → process_of n ps ≡ o → option_map (λ (p : ProcData). p.pid) (keep its_user o) ≡ cond (is_some (keep its_user o)) (Some n) None
+      by None e = refl
+      by (Some p) e = elim (cases_Bool (nat_eq p.uid u)) [ inl k ↦ rw k (ap Some (process_of-pid n p ps e)) | inr k ↦ rw k refl ]
 
 -- no process has a number outside all blocks
 pub pid-outside : (n : ℕ) (rows : Rows) → IsKept rows → (((1000 ≤ n) × (n < 65000)) → ⊥) → process_of n rows.processes ≡ None
@@ -157,6 +148,3 @@ pid-outside n rows kept out = by (process_of n rows.processes) refl
         let home = every_found AtHome (λ q. nat_eq q.pid n) rows.processes p kept.homes e in
         let same = process_of-pid n p rows.processes e in
         absurd (out (omega (arith, home.block.0, same), omega (arith, home.block.1, home.user.0, home.user.1, same)))
-
-pub nobody : (u n : ℕ) (ps : List ProcData) → Rise ps → process_of n ps ≡ None → option_map (λ (p : ProcData). p.pid) (find (λ p. nat_eq p.pid n && nat_eq p.uid u) ps) ≡ None
-nobody u n ps r none = ap (option_map (λ (p : ProcData). p.pid)) (seen_process-kept u n ps r ∙ ap (keep (λ (p : ProcData). nat_eq p.uid u)) none)

@@ -17,8 +17,8 @@ use Rattle.process_end.specs.Leaving.{LeavingRow, LeavingLwp, IsLeaving}
 use Rattle.trace_stop.proofs.Every.{All-imply, All-both, find_some, none_of}
 use Rattle.trace_stop.proofs.Passes.{passes, any_same, filter_map_same}
 use Rattle.trace_stop.proofs.Numbers.{the_row}
-use Rattle.process_end.proofs.Turned.{told_row, told_lwp, told_lwp-miss, turned, turned_lwp, moved, is_gone, gone-true, gone-false, told-miss, turned-dead, turned-safe, turned-fallen, turned_lwp-safe}
-use Rattle.process_end.proofs.Twice.{alone, Told, told_lwp-moved}
+use Rattle.process_end.proofs.Turned.{notified_row, notified_lwp, notified_lwp-miss, turned, turned_lwp, moved, is_gone, gone-true, gone-false, told-miss, turned-dead, turned-safe, turned-fallen, turned_lwp-safe}
+use Rattle.process_end.proofs.Twice.{alone, Told, notified_lwp-moved}
 use Rattle.process_end.proofs.Tells.{tells, tells-value, told_by, parent_after}
 use Rattle.process_end.proofs.LeafFirst.{told, told-is}
 use Rattle.trace_stop.proofs.Found.{any_by_number}
@@ -131,11 +131,11 @@ module _ (q w : ℕ) (rows : Rows) (rise : Rise rows.processes) (v : IsLeaving q
   ended = turned (alone q) q w t
 
   -- what becomes of each row
-  of_other : (r : ProcData) → Row r → (r.pid == q) ≡ false → ended r ≡ Some (told_row t r)
+  of_other : (r : ProcData) → Row r → (r.pid == q) ≡ false → ended r ≡ Some (notified_row t r)
   of_other r h other = by_live (is_live r) refl
     where
-      by_live : (b : Bool) → is_live r ≡ b → ended r ≡ Some (told_row t r)
-      by_live true live = turned-safe (alone q) q w t r live (sym (is_alone q r.pid) ∙ other) ∙ ap (λ k. Some (told_row t k)) (moved_same q r h.free h.other)
+      by_live : (b : Bool) → is_live r ≡ b → ended r ≡ Some (notified_row t r)
+      by_live true live = turned-safe (alone q) q w t r live (sym (is_alone q r.pid) ∙ other) ∙ ap (λ k. Some (notified_row t k)) (moved_same q r h.free h.other)
       by_live false gone =
           turned-dead (alone q) q w t r gone ((not_told r h).dead gone) ∙ ap uncollected (orphaned_same q r h.free h.other) ∙ gone-false r (h.fits.left gone)
           ∙ ap Some (sym (told-miss t r ((not_told r h).dead gone)))
@@ -146,13 +146,13 @@ module _ (q w : ℕ) (rows : Rows) (rise : Rise rows.processes) (v : IsLeaving q
       ∙ ap (λ b. uncollected (dead (if b then w else SIGKILL) (orphaned (alone q) p))) p_row.1
       ∙ ap (λ k. uncollected (dead w k)) (orphaned_same q p p_row.0.free p_row.0.other)
 
-  of_lwp : (l : LwpData) → LeavingLwp v.alive q l → (r : ProcData) → process_of l.pid ps ≡ Some r → turned_lwp (alone q) q w t r l ≡ Some (told_lwp t r l)
+  of_lwp : (l : LwpData) → LeavingLwp v.alive q l → (r : ProcData) → process_of l.pid ps ≡ Some r → turned_lwp (alone q) q w t r l ≡ Some (notified_lwp t r l)
   of_lwp l h r found =
       let own = find_some (λ k. k.pid == l.pid) Row ps all r found in
       let same = eqb-true r.pid l.pid own.1 in
       turned_lwp-safe (alone q) q w t r l (own.0.fits.lives ∙ ap v.alive same ∙ h.lives) (sym (is_alone q r.pid) ∙ ap (λ n. n == q) same ∙ h.other)
-      ∙ ap (λ k. Some (told_lwp t (moved (alone q) r) k)) (released_none (alone q) r l (sym (waits_alone q l) ∙ h.waits))
-      ∙ ap Some (told_lwp-moved (alone q) t r l)
+      ∙ ap (λ k. Some (notified_lwp t (moved (alone q) r) k)) (released_none (alone q) r l (sym (waits_alone q l) ∙ h.waits))
+      ∙ ap Some (notified_lwp-moved (alone q) t r l)
 
   -- nobody collects it
   pub buried_out : option_map collector (uncollected p) ≡ None → drop_process q rows ≡ end_alone q w rows
@@ -166,8 +166,8 @@ module _ (q w : ℕ) (rows : Rows) (rise : Rise rows.processes) (v : IsLeaving q
       nobody : (x : ℕ) → t x ≡ false
       nobody x = told_them x ∙ untold_gone p.tracer p.parent x (collector_none p none)
 
-      untold_lwp : (r : ProcData) (l : LwpData) → told_lwp t r l ≡ l
-      untold_lwp r l = told_lwp-miss t r l (nobody r.pid)
+      untold_lwp : (r : ProcData) (l : LwpData) → notified_lwp t r l ≡ l
+      untold_lwp r l = notified_lwp-miss t r l (nobody r.pid)
 
       row : (r : ProcData) → Row r → (b : Bool) → (r.pid == q) ≡ b → (if b then None else Some r) ≡ ended r
       row r h true same = sym (ap ended (h.one (eqb-true r.pid q same)) ∙ of_own ∙ gone-true (dead w p) (collector_none p none))
@@ -188,19 +188,19 @@ module _ (q w : ℕ) (rows : Rows) (rise : Rise rows.processes) (v : IsLeaving q
       m_told : alone m ≡ t
       m_told = fun_ext (λ x. ap (λ n. alone n x) (collector_some p m some).1 ∙ sym (told_them x ∙ by_collector p x left))
 
-      row : (r : ProcData) → Row r → (b : Bool) → (r.pid == q) ≡ b → Some (told_row (alone m) (if b then dead w r else r)) ≡ ended r
+      row : (r : ProcData) → Row r → (b : Bool) → (r.pid == q) ≡ b → Some (notified_row (alone m) (if b then dead w r else r)) ≡ ended r
       row r h true same =
           let is = h.one (eqb-true r.pid q same) in
-          ap (λ k. Some (told_row (alone m) (dead w k))) is
-          ∙ ap (λ f. Some (told_row f (dead w p))) m_told
+          ap (λ k. Some (notified_row (alone m) (dead w k))) is
+          ∙ ap (λ f. Some (notified_row f (dead w p))) m_told
           ∙ ap Some (told-miss t (dead w p) ((not_told p p_row.0).falls p_alone))
           ∙ sym (ap ended is ∙ of_own ∙ gone-false (dead w p) left)
-      row r h false other = ap (λ f. Some (told_row f r)) m_told ∙ sym (of_other r h other)
+      row r h false other = ap (λ f. Some (notified_row f r)) m_told ∙ sym (of_other r h other)
 
       lwp : (l : LwpData) → LeavingLwp v.alive q l → (r : ProcData) → process_of l.pid ps ≡ Some r → put_tell_lwp q (dead w) m r l ≡ turned_lwp (alone q) q w t r l
       lwp l h r found =
           let own = find_some (λ k. k.pid == l.pid) Row ps all r found in
           let other : (r.pid == q) ≡ false = ap (λ n. n == q) (eqb-true r.pid l.pid own.1) ∙ h.other in
-          ap (λ b. Some (told_lwp (alone m) (if b then dead w r else r) l)) other
-          ∙ ap (λ f. Some (told_lwp f r l)) m_told
+          ap (λ b. Some (notified_lwp (alone m) (if b then dead w r else r) l)) other
+          ∙ ap (λ f. Some (notified_lwp f r l)) m_told
           ∙ sym (of_lwp l h r found)

@@ -14,7 +14,7 @@ use Rattle.proc_table.specs.Kept.{Rise}
 use Rattle.trace_stop.specs.declared.Settings.{Settings}
 use Rattle.trace_stop.specs.Post.{notified}
 use Rattle.trace_stop.specs.Detach.{detached, untraced}
-use Rattle.trace_stop.specs.End.{tracer_in, holds_of, meets, is_doomed, dooms, process_after, lwp_after, told_of, left_alone, end_each, end_of}
+use Rattle.trace_stop.specs.End.{tracer_in, holds_of, meets, is_doomed, dooms, process_after, lwp_after, notifies_of, left_alone, end_each, end_of}
 use Rattle.trace_stop.specs.Sound.{is_live_of}
 use Rattle.trace_stop.specs.Facts.{IsLiveOf, Linked, Stands}
 use Rattle.process_end.specs.Laws.{traces_live, end_alone, LeafEnd, DetachedEnd}
@@ -49,7 +49,7 @@ meets_none ps q all (suc k) n safe = at_row (process_of n ps) refl safe (meets_n
     at_row (Some p) is live next = let h = find_some (λ r. r.pid == n) (Untracing ps q) ps all p is in at_tracer p.tracer (h.0.free live) h.0.tracer next
 
 -- ends by tests that agree on the rows
-told_same : (ends ends' : ProcData → Bool) (over : ℕ → Bool) (p status : ℕ) (r : ProcData) → ends r ≡ ends' r → told_of ends over p status r ≡ told_of ends' over p status r
+told_same : (ends ends' : ProcData → Bool) (over : ℕ → Bool) (p status : ℕ) (r : ProcData) → ends r ≡ ends' r → notifies_of ends over p status r ≡ notifies_of ends' over p status r
 told_same ends ends' over p status r same = rw same refl
 
 after_same : (ends ends' : ProcData → Bool) (over : ℕ → Bool) (p status : ℕ) (r : ProcData) → ends r ≡ ends' r → process_after ends over p status r ≡ process_after ends' over p status r
@@ -62,8 +62,8 @@ pub end_each_same : (ends ends' : ProcData → Bool) (over over' : ℕ → Bool)
     → AllByRecursion (λ r. ends r ≡ ends' r) rows.processes → ((n : ℕ) → over n ≡ over' n) → end_each ends over p status rows ≡ end_each ends' over' p status rows
 end_each_same ends ends' over over' p status rows all same =
     ap (λ (ns : List ℕ). notified ns (each (process_after ends over p status) (lwp_after ends over) rows))
-    (filter_map_same (told_of ends over p status) (told_of ends' over p status) rows.processes (All-imply (λ r. ends r ≡ ends' r) _ (told_same ends ends' over p status) rows.processes all))
-    ∙ ap (notified (filter_map (told_of ends' over p status) rows.processes))
+    (filter_map_same (notifies_of ends over p status) (notifies_of ends' over p status) rows.processes (All-imply (λ r. ends r ≡ ends' r) _ (told_same ends ends' over p status) rows.processes all))
+    ∙ ap (notified (filter_map (notifies_of ends' over p status) rows.processes))
     (each_same (process_after ends over p status) (process_after ends' over p status) (lwp_after ends over) (lwp_after ends' over) rows
     (All-imply (λ r. ends r ≡ ends' r) _ (λ r e. (after_same ends ends' over p status r e, λ l. lwp_same ends ends' over r l e)) rows.processes all))
     ∙ ap (λ (d : ℕ → Bool). end_each ends' d p status rows) (fun_ext same)

@@ -8,11 +8,11 @@ use Rattle.lwp_table.specs.declared.LwpData.{LwpData}
 use Rattle.proc_table.specs.Processes.{process_of, is_live}
 use Rattle.proc_table.specs.Rows.{Rows, each, by_owner}
 use Rattle.proc_table.specs.Kept.{Rise}
-use Rattle.trace_stop.specs.End.{holds_of, process_after, released, lwp_after, told_of, end_each}
+use Rattle.trace_stop.specs.End.{holds_of, process_after, released, lwp_after, notifies_of, end_each}
 use Rattle.trace_stop.proofs.Every.{by_bool, All-imply, All-both, All-any, any_holds}
 use Rattle.trace_stop.proofs.Passes.{passes, any_same, any_or, any_edited, KeepsNumbers, KeepsOwners, own_rows, rise_edited, each_twice, each_agree}
 use Rattle.process_end.proofs.Doomed.{NoZombie}
-use Rattle.process_end.proofs.Turned.{heard, heard_lwp, fallen, told_row, told_lwp, turned, turned_lwp}
+use Rattle.process_end.proofs.Turned.{heard, heard_lwp, fallen, notified_row, notified_lwp, turned, turned_lwp}
 use Rattle.process_end.proofs.Twice.{alone, rest, Told, told-pid, twice, lwp_twice}
 use Rattle.process_end.proofs.Tells.{tells, tells-is, tells-names, told_by-names, Names, third-whom, tells_twice}
 
@@ -25,16 +25,16 @@ pub turned_keeps : (over : ℕ → Bool) (p status : ℕ) (told : ℕ → Bool) 
 unfolding turned
 turned_keeps over p status told r = at (process_after (fallen over) over p status r) (after_keeps over p status r)
   where
-    at : (o : Option ProcData) → IfSome o (λ s. s.pid ≡ r.pid) → IfSome (option_and_then (λ s. Some (told_row told s)) o) (λ s. s.pid ≡ r.pid)
+    at : (o : Option ProcData) → IfSome o (λ s. s.pid ≡ r.pid) → IfSome (option_and_then (λ s. Some (notified_row told s)) o) (λ s. s.pid ≡ r.pid)
     at None same = tt
     at (Some s) same = told-pid told s ∙ same
 
 released-pid : (over : ℕ → Bool) (r : ProcData) (l : LwpData) → (released over r l).pid ≡ l.pid
 released-pid over r l = grind arith
 
-told_lwp-pid : (told : ℕ → Bool) (r : ProcData) (l : LwpData) → (told_lwp told r l).pid ≡ l.pid
-unfolding told_lwp heard_lwp
-told_lwp-pid told r l = grind arith
+notified_lwp-pid : (told : ℕ → Bool) (r : ProcData) (l : LwpData) → (notified_lwp told r l).pid ≡ l.pid
+unfolding notified_lwp heard_lwp
+notified_lwp-pid told r l = grind arith
 
 lwp_keeps : (over : ℕ → Bool) → KeepsOwners (lwp_after (fallen over) over)
 lwp_keeps over r l = at (fallen over r)
@@ -47,11 +47,11 @@ pub turned_lwp_keeps : (over : ℕ → Bool) (p status : ℕ) (told : ℕ → Bo
 unfolding turned_lwp
 turned_lwp_keeps over p status told r l = at (lwp_after (fallen over) over r l) (lwp_keeps over r l)
   where
-    owned : (k : LwpData) → k.pid ≡ l.pid → (o : Option ProcData) → IfSome (by_owner (λ s j. Some (told_lwp told s j)) k o) (λ j. j.pid ≡ l.pid)
+    owned : (k : LwpData) → k.pid ≡ l.pid → (o : Option ProcData) → IfSome (by_owner (λ s j. Some (notified_lwp told s j)) k o) (λ j. j.pid ≡ l.pid)
     owned k same None = same
-    owned k same (Some s) = told_lwp-pid told s k ∙ same
+    owned k same (Some s) = notified_lwp-pid told s k ∙ same
 
-    at : (o : Option LwpData) → IfSome o (λ k. k.pid ≡ l.pid) → IfSome (option_and_then (λ k. by_owner (λ s j. Some (told_lwp told s j)) k (process_after (fallen over) over p status r)) o) (λ k. k.pid ≡ l.pid)
+    at : (o : Option LwpData) → IfSome o (λ k. k.pid ≡ l.pid) → IfSome (option_and_then (λ k. by_owner (λ s j. Some (notified_lwp told s j)) k (process_after (fallen over) over p status r)) o) (λ k. k.pid ≡ l.pid)
     at None same = tt
     at (Some k) same = owned k same (process_after (fallen over) over p status r)
 
@@ -59,19 +59,19 @@ turned_lwp_keeps over p status told r l = at (lwp_after (fallen over) over r l) 
 
 -- whether x is told
 unfoldable pub told : (ℕ → Bool) → ℕ → ℕ → Rows → ℕ → Bool
-told over p status rows x = list_any (λ n. n == x) (filter_map (told_of (fallen over) over p status) rows.processes)
+told over p status rows x = list_any (λ n. n == x) (filter_map (notifies_of (fallen over) over p status) rows.processes)
 
 pub told-is : (over : ℕ → Bool) (p status : ℕ) (rows : Rows) (x : ℕ) → told over p status rows x ≡ list_any (tells over x) rows.processes
 unfolding told
 told-is over p status rows x =
-    any_edited (told_of (fallen over) over p status) (λ n. n == x) rows.processes
+    any_edited (notifies_of (fallen over) over p status) (λ n. n == x) rows.processes
     ∙ any_same _ (tells over x) rows.processes (All-any _ (tells-is over p status x) rows.processes)
 
 pub end_turned : (over : ℕ → Bool) (p status : ℕ) (rows : Rows) → Rise rows.processes
     → end_each (fallen over) over p status rows ≡ each (turned over p status (told over p status rows)) (turned_lwp over p status (told over p status rows)) rows
-unfolding turned turned_lwp told_row told_lwp heard heard_lwp told
+unfolding turned turned_lwp notified_row notified_lwp heard heard_lwp told
 end_turned over p status rows rise =
-    each_twice (process_after (fallen over) over p status) (λ s. Some (told_row (told over p status rows) s)) (lwp_after (fallen over) over) (λ s j. Some (told_lwp (told over p status rows) s j))
+    each_twice (process_after (fallen over) over p status) (λ s. Some (notified_row (told over p status rows) s)) (lwp_after (fallen over) over) (λ s j. Some (notified_lwp (told over p status rows) s j))
     rows rise (after_keeps over p status) (lwp_keeps over)
 
 -- what each row keeps

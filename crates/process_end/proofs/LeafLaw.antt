@@ -22,7 +22,7 @@ use Rattle.trace_stop.proofs.Named.{live_row}
 use Rattle.trace_stop.proofs.Found.{any_by_number}
 use Rattle.trace_stop.proofs.Chains.{meets-suc, meets-zero, or_more, meets-more}
 use Rattle.process_end.proofs.Doomed.{NoZombie, no_zombie, Untracing, untracing, end_each_same, dooms_alone, doomed_alone}
-use Rattle.process_end.proofs.Turned.{heard, told_row, moved, fallen, turned, turned-fallen, turned-safe, turned-dead}
+use Rattle.process_end.proofs.Turned.{heard, notified_row, moved, fallen, turned, turned-fallen, turned-safe, turned-dead}
 use Rattle.process_end.proofs.Twice.{alone, rest, Told, rest-same, rest-other, rest-safe, told-live, told-pid, moved-live, moved-pid}
 use Rattle.process_end.proofs.Tells.{Names}
 use Rattle.process_end.proofs.LeafFirst.{turned_keeps, Ready, first, left, left-is, left-rises, first_told, rows_twice}
@@ -113,8 +113,8 @@ unfolding alone
 this_holds q None = refl
 this_holds q (Some t) = refl
 
-pub kept-tracer : (t o : ℕ → Bool) (r : ProcData) → (told_row t (moved o r)).tracer ≡ r.tracer
-unfolding told_row moved heard
+pub kept-tracer : (t o : ℕ → Bool) (r : ProcData) → (notified_row t (moved o r)).tracer ≡ r.tracer
+unfolding notified_row moved heard
 kept-tracer t o r = grind arith
 
 pub If-map : {X : Type 0} (P Q : X → Type 0) → ((x : X) → P x → Q x) → (o : Option X) → IfSome o P → IfSome o Q
@@ -215,7 +215,7 @@ module _ (settings : Settings) (rows : Rows) (p q status : ℕ) (kills : setting
   own_at : (n : ℕ) (r : ProcData) → process_of n ps ≡ Some r → process_of r.pid ps ≡ Some r
   own_at n r is = ap (λ m. process_of m ps) (eqb-true r.pid n (number_found n ps r is)) ∙ is
 
-  edit-safe : (n : ℕ) (r : ProcData) → process_of n ps ≡ Some r → is_live r ≡ true → alone q n ≡ false → edit r ≡ Some (told_row t1 (moved (alone q) r))
+  edit-safe : (n : ℕ) (r : ProcData) → process_of n ps ≡ Some r → is_live r ≡ true → alone q n ≡ false → edit r ≡ Some (notified_row t1 (moved (alone q) r))
   edit-safe n r is live other = turned-safe (alone q) q SIGKILL t1 r live (ap (alone q) (eqb-true r.pid n (number_found n ps r is)) ∙ other)
 
   tracer-after : (x : ℕ) → NoZombie ps x → alone q x ≡ false → tracer_of qs x ≡ tracer_of ps x
@@ -255,9 +255,9 @@ module _ (settings : Settings) (rows : Rows) (p q status : ℕ) (kills : setting
       told : (r : ProcData) → process_of n ps ≡ Some r → Told (alone q) t1 r
       told r is = first_told rows d p q status dq qp s.rising ready r (own_at n r is)
 
-      same_chain : (r : ProcData) → process_of n ps ≡ Some r → is_live r ≡ true → alone q n ≡ false → is_doomed settings qs p (told_row t1 (moved (alone q) r)) ≡ is_doomed settings ps p r
+      same_chain : (r : ProcData) → process_of n ps ≡ Some r → is_live r ≡ true → alone q n ≡ false → is_doomed settings qs p (notified_row t1 (moved (alone q) r)) ≡ is_doomed settings ps p r
       same_chain r is live other =
-          let m : ProcData = told_row t1 (moved (alone q) r) in
+          let m : ProcData = notified_row t1 (moved (alone q) r) in
           let pid : m.pid ≡ r.pid = told-pid t1 (moved (alone q) r) ∙ moved-pid (alone q) r in
           let alive : is_live m ≡ is_live r = told-live t1 (moved (alone q) r) ∙ moved-live (alone q) r in
           let here : r.pid ≡ n = eqb-true r.pid n (number_found n ps r is) in

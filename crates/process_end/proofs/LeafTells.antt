@@ -14,8 +14,8 @@ use Rattle.process_end.specs.Leaving.{LeavingRow, LeavingLwp, IsLeaving}
 use Rattle.trace_stop.proofs.Every.{choose, All-imply, All-both, find_some}
 use Rattle.trace_stop.proofs.Passes.{passes, any_or}
 use Rattle.trace_stop.proofs.Numbers.{the_row}
-use Rattle.process_end.proofs.Turned.{heard, heard_lwp, told_row, told_lwp, turned, turned_lwp, moved, told-miss, turned-dead, turned-safe, turned-fallen, turned_lwp-safe, turned_lwp-fallen}
-use Rattle.process_end.proofs.Twice.{alone, Told, told-live, told-pid, moved-pid, told_twice, told_lwp-moved, told_lwp-told, released-told, released_told, told_lwp_twice}
+use Rattle.process_end.proofs.Turned.{heard, heard_lwp, notified_row, notified_lwp, turned, turned_lwp, moved, told-miss, turned-dead, turned-safe, turned-fallen, turned_lwp-safe, turned_lwp-fallen}
+use Rattle.process_end.proofs.Twice.{alone, Told, told-live, told-pid, moved-pid, told_twice, notified_lwp-moved, notified_lwp-told, released-told, released_told, told_lwp_twice}
 use Rattle.process_end.proofs.Tells.{tells, told_by, parent_after}
 use Rattle.process_end.proofs.LeafFirst.{told, told-is}
 use Rattle.trace_stop.proofs.Found.{any_by_number}
@@ -24,20 +24,20 @@ use Rattle.process_end.proofs.Leaving.{Fit, leaving_each, Ends, stepped, told_af
 -- What one who is told keeps
 
 module _ (t : ℕ → Bool) (r : ProcData) where
-  pub told_fits : (alive : ℕ → Bool) (q : ℕ) → LeavingRow alive q r → LeavingRow alive q (told_row t r)
-  unfolding told_row heard
+  pub told_fits : (alive : ℕ → Bool) (q : ℕ) → LeavingRow alive q r → LeavingRow alive q (notified_row t r)
+  unfolding notified_row heard
   told_fits alive q h = choose (t r.pid) (heard r) r (LeavingRow alive q) (λ e. record { lives = h.lives; tracer = h.tracer; parent = h.parent; free = h.free; left = h.left }) (λ e. h)
 
-  pub tells-told : (over : ℕ → Bool) (x : ℕ) → tells over x (told_row t r) ≡ tells over x r
-  unfolding tells told_row heard
+  pub tells-told : (over : ℕ → Bool) (x : ℕ) → tells over x (notified_row t r) ≡ tells over x r
+  unfolding tells notified_row heard
   tells-told over x = grind arith
 
-pub told_lwp_fits : (t : ℕ → Bool) (alive : ℕ → Bool) (q : ℕ) (r : ProcData) (l : LwpData) → LeavingLwp alive q l → LeavingLwp alive q (told_lwp t r l)
-unfolding told_lwp heard_lwp
+pub told_lwp_fits : (t : ℕ → Bool) (alive : ℕ → Bool) (q : ℕ) (r : ProcData) (l : LwpData) → LeavingLwp alive q l → LeavingLwp alive q (notified_lwp t r l)
+unfolding notified_lwp heard_lwp
 told_lwp_fits t alive q r l h = choose (t r.pid) (heard_lwp r l) l (LeavingLwp alive q) (λ e. record { lives = h.lives; other = h.other; waits = h.waits }) (λ e. h)
 
-pub told_lwp_keeps : (t : ℕ → Bool) (r : ProcData) (l : LwpData) → (told_lwp t r l).pid ≡ l.pid
-unfolding told_lwp heard_lwp
+pub told_lwp_keeps : (t : ℕ → Bool) (r : ProcData) (l : LwpData) → (notified_lwp t r l).pid ≡ l.pid
+unfolding notified_lwp heard_lwp
 told_lwp_keeps t r l = grind arith
 
 first_false : (a b c : Bool) → a ≡ (b || c) → a ≡ false → b ≡ false
@@ -53,9 +53,9 @@ unless_this q (Some t) is = ap (λ b. if b then None else Some t) is
 
 -- An LWP of a process that lives on, which may be told first
 lwp_later : (over : ℕ → Bool) (t1 t3 t2 : ℕ → Bool) (r : ProcData) (l : LwpData) → t2 r.pid ≡ (t1 r.pid || t3 r.pid)
-    → told_lwp t3 (moved over (told_row t1 r)) (released over (told_row t1 r) (told_lwp t1 r l)) ≡ told_lwp t2 (moved over r) (released over r l)
+    → notified_lwp t3 (moved over (notified_row t1 r)) (released over (notified_row t1 r) (notified_lwp t1 r l)) ≡ notified_lwp t2 (moved over r) (released over r l)
 lwp_later over t1 t3 t2 r l told =
-    rw (released-told over t1 r (told_lwp t1 r l), released_told over t1 r l, told_lwp-moved over t3 (told_row t1 r), told_lwp-told t3 t1 r, told_lwp-moved over t2 r) (told_lwp_twice t1 t2 t3 r (released over r l) told)
+    rw (released-told over t1 r (notified_lwp t1 r l), released_told over t1 r l, notified_lwp-moved over t3 (notified_row t1 r), notified_lwp-told t3 t1 r, notified_lwp-moved over t2 r) (told_lwp_twice t1 t2 t3 r (released over r l) told)
 
 abbrev pub untrace : ProcData → ProcData
 untrace r = record r { tracer = None }
@@ -103,9 +103,9 @@ module _ (q n : ℕ) (rows : Rows) (v : IsLeaving q rows) (rise : Rise rows.proc
   untold_fit r h one = record {
     row = told_fits (alone m) (if r.pid == n then untrace r else r) v.alive q (changed r one h (r.pid == n) refl);
     here = λ is. (
-      told_row (alone m) (if r.pid == n then untrace r else r),
+      notified_row (alone m) (if r.pid == n then untrace r else r),
       refl,
-      ap (λ k. (k == q) && is_live (told_row (alone m) (if r.pid == n then untrace r else r))) (told-pid (alone m) (if r.pid == n then untrace r else r))
+      ap (λ k. (k == q) && is_live (notified_row (alone m) (if r.pid == n then untrace r else r))) (told-pid (alone m) (if r.pid == n then untrace r else r))
           ∙ ap (λ b. ((if r.pid == n then untrace r else r).pid == q) && b) (told-live (alone m) (if r.pid == n then untrace r else r))
           ∙ at_number is (r.pid == n),
     );
@@ -149,8 +149,8 @@ module _ (q n : ℕ) (rows : Rows) (v : IsLeaving q rows) (rise : Rise rows.proc
         ∙ ap (λ b. b || list_any (λ r. (r.pid == n) && alone m x) rows.processes) (sym (told_after q w rows v rise untold untold_lwp keeps owners untold_leaving x))
         ∙ ap (λ b. after x || b) (any_by_number (λ r. alone m x) n rows.processes rise ∙ ap (passes (λ r. alone m x)) at)
       where
-        tell : (r : ProcData) → (r.pid ≡ n → r ≡ z) → (b : Bool) → (r.pid == n) ≡ b → tells (alone q) x r ≡ (tells (alone q) x (told_row (alone m) (if b then untrace r else r)) || (b && alone m x))
-        tell r one false apart = sym (or-false (tells (alone q) x (told_row (alone m) r)) ∙ tells-told (alone m) r (alone q) x)
+        tell : (r : ProcData) → (r.pid ≡ n → r ≡ z) → (b : Bool) → (r.pid == n) ≡ b → tells (alone q) x r ≡ (tells (alone q) x (notified_row (alone m) (if b then untrace r else r)) || (b && alone m x))
+        tell r one false apart = sym (or-false (tells (alone q) x (notified_row (alone m) r)) ∙ tells-told (alone m) r (alone q) x)
         tell r one true same =
             let is = one (eqb-true r.pid n same) in
             ap (tells (alone q) x) is ∙ z_tells x
@@ -166,16 +166,16 @@ module _ (q n : ℕ) (rows : Rows) (v : IsLeaving q rows) (rise : Rise rows.proc
         not_after k none = first_false (before k) (after k) (alone m k) (both_tell k) none
 
         made : Bool → ProcData
-        made b = told_row (alone m) (if b then untrace r else r)
+        made b = notified_row (alone m) (if b then untrace r else r)
 
         EndsAt : Bool → Type 0
         EndsAt b = (turned (alone q) q w after (made b) ≡ turned (alone q) q w before r)
-            × (is_live r ≡ true → (l : LwpData) → turned_lwp (alone q) q w after (made b) (told_lwp (alone m) (if b then untrace r else r) l) ≡ turned_lwp (alone q) q w before r l)
+            × (is_live r ≡ true → (l : LwpData) → turned_lwp (alone q) q w after (made b) (notified_lwp (alone m) (if b then untrace r else r) l) ≡ turned_lwp (alone q) q w before r l)
 
         unnamed : orphaned (alone q) (untrace z) ≡ orphaned (alone q) z
         unnamed = ap (λ (o : Option ℕ). record z { tracer = o; parent = parent_after (alone q) z.parent }) (sym (unless_this q z.tracer traced))
 
-        of_zombie : turned (alone q) q w after (told_row (alone m) (untrace z)) ≡ turned (alone q) q w before z
+        of_zombie : turned (alone q) q w after (notified_row (alone m) (untrace z)) ≡ turned (alone q) q w before z
         of_zombie =
             let missed = (not_before z z_fits.0).dead ended in
             ap (turned (alone q) q w after) (told-miss (alone m) (untrace z) (not_told z z_fits.0 ended))
@@ -183,7 +183,7 @@ module _ (q n : ℕ) (rows : Rows) (v : IsLeaving q rows) (rise : Rise rows.proc
             ∙ ap uncollected unnamed
             ∙ sym (turned-dead (alone q) q w before z ended missed)
 
-        live_made : is_live r ≡ true → is_live (told_row (alone m) r) ≡ true
+        live_made : is_live r ≡ true → is_live (notified_row (alone m) r) ≡ true
         live_made live = told-live (alone m) r ∙ live
 
         by_doom : is_live r ≡ true → (b : Bool) → alone q r.pid ≡ b → EndsAt false
@@ -192,16 +192,16 @@ module _ (q n : ℕ) (rows : Rows) (v : IsLeaving q rows) (rise : Rise rows.proc
               ∙ turned-fallen (alone q) q w after r live falls (not_after r.pid ((not_before r h).falls falls))
               ∙ sym (turned-fallen (alone q) q w before r live falls ((not_before r h).falls falls)),
           λ alive l.
-              turned_lwp-fallen (alone q) q w after (told_row (alone m) r) (told_lwp (alone m) r l) (live_made live) (ap (alone q) (told-pid (alone m) r) ∙ falls)
+              turned_lwp-fallen (alone q) q w after (notified_row (alone m) r) (notified_lwp (alone m) r l) (live_made live) (ap (alone q) (told-pid (alone m) r) ∙ falls)
               ∙ sym (turned_lwp-fallen (alone q) q w before r l live falls),
         )
         by_doom live false safe =
             let told_both : before r.pid ≡ (alone m r.pid || after r.pid) = both_tell r.pid ∙ or_comm (after r.pid) (alone m r.pid) in (
-              turned-safe (alone q) q w after (told_row (alone m) r) (live_made live) (ap (alone q) (told-pid (alone m) r) ∙ safe)
+              turned-safe (alone q) q w after (notified_row (alone m) r) (live_made live) (ap (alone q) (told-pid (alone m) r) ∙ safe)
                   ∙ ap Some (told_twice (alone q) (alone m) after before r (moved (alone q) r) refl (ap before (moved-pid (alone q) r) ∙ told_both))
                   ∙ sym (turned-safe (alone q) q w before r live safe),
               λ alive l.
-                  turned_lwp-safe (alone q) q w after (told_row (alone m) r) (told_lwp (alone m) r l) (live_made live) (ap (alone q) (told-pid (alone m) r) ∙ safe)
+                  turned_lwp-safe (alone q) q w after (notified_row (alone m) r) (notified_lwp (alone m) r l) (live_made live) (ap (alone q) (told-pid (alone m) r) ∙ safe)
                   ∙ ap Some (lwp_later (alone q) (alone m) after before r l told_both)
                   ∙ sym (turned_lwp-safe (alone q) q w before r l live safe),
             )
@@ -220,7 +220,7 @@ module _ (q n : ℕ) (rows : Rows) (v : IsLeaving q rows) (rise : Rise rows.proc
         by_number false apart = by_live (is_live r) refl
         by_number true same =
             let is = one (eqb-true r.pid n same) in (
-              ap (λ k. turned (alone q) q w after (told_row (alone m) (untrace k))) is ∙ of_zombie ∙ sym (ap (turned (alone q) q w before) is),
+              ap (λ k. turned (alone q) q w after (notified_row (alone m) (untrace k))) is ∙ of_zombie ∙ sym (ap (turned (alone q) q w before) is),
               λ live l. absurd (true≢false (sym live ∙ ap is_live is ∙ ended)),
             )
 

@@ -16,7 +16,7 @@ use Rattle.process_end.specs.Laws.{end_alone}
 use Rattle.trace_stop.proofs.Every.{by_bool, and_left, and_right, All-imply, All-edit, any_holds, any_forward, find_some}
 use Rattle.trace_stop.proofs.Passes.{passes, any_same, any_edited, KeepsNumbers, KeepsOwners, rise_edited, each_twice, each_agree}
 use Rattle.process_end.proofs.Doomed.{end_each_same}
-use Rattle.process_end.proofs.Turned.{heard, heard_lwp, fallen, told_row, told_lwp, turned, turned_lwp}
+use Rattle.process_end.proofs.Turned.{heard, heard_lwp, fallen, notified_row, notified_lwp, turned, turned_lwp}
 use Rattle.process_end.proofs.Twice.{alone, Told}
 use Rattle.process_end.proofs.Tells.{tells, tells-names, Names}
 use Rattle.process_end.proofs.LeafFirst.{told, told-is, end_turned}
@@ -160,16 +160,16 @@ drop_each n rows =
     same (r ∷ ps) = grind (arith, same ps)
 
 -- SIGCHLD posted to one
-pub tell_each : (m : ℕ) (rows : Rows) → notified (m ∷ []) rows ≡ each (λ r. Some (told_row (alone m) r)) (λ r l. Some (told_lwp (alone m) r l)) rows
-unfolding told_row told_lwp heard heard_lwp alone
+pub tell_each : (m : ℕ) (rows : Rows) → notified (m ∷ []) rows ≡ each (λ r. Some (notified_row (alone m) r)) (λ r l. Some (notified_lwp (alone m) r l)) rows
+unfolding notified_row notified_lwp heard heard_lwp alone
 tell_each m rows = notified-one m rows
 
 -- a row changed by its number, and then SIGCHLD posted to m
 abbrev pub put_tell : ℕ → (ProcData → ProcData) → ℕ → ProcData → Option ProcData
-put_tell n f m r = Some (told_row (alone m) (if r.pid == n then f r else r))
+put_tell n f m r = Some (notified_row (alone m) (if r.pid == n then f r else r))
 
 abbrev pub put_tell_lwp : ℕ → (ProcData → ProcData) → ℕ → ProcData → LwpData → Option LwpData
-put_tell_lwp n f m r l = Some (told_lwp (alone m) (if r.pid == n then f r else r) l)
+put_tell_lwp n f m r l = Some (notified_lwp (alone m) (if r.pid == n then f r else r) l)
 
 pub put_keeps : (n : ℕ) (f : ProcData → ProcData) → ((r : ProcData) → (f r).pid ≡ r.pid) → (r : ProcData) → (if r.pid == n then f r else r).pid ≡ r.pid
 put_keeps n f same r = let here = same r in grind (arith, here)
@@ -179,4 +179,4 @@ pub set_tell : (n : ℕ) (f : ProcData → ProcData) (m : ℕ) (rows : Rows) (p 
 set_tell n f m rows p same rise at number =
     ap (notified (m ∷ [])) (set_each n f rows p rise at number)
     ∙ tell_each m (each (put n f) same_lwp rows)
-    ∙ each_twice (put n f) (λ r. Some (told_row (alone m) r)) same_lwp (λ r l. Some (told_lwp (alone m) r l)) rows rise (put_keeps n f same) (λ r l. refl)
+    ∙ each_twice (put n f) (λ r. Some (notified_row (alone m) r)) same_lwp (λ r l. Some (notified_lwp (alone m) r l)) rows rise (put_keeps n f same) (λ r l. refl)

@@ -1,10 +1,9 @@
 -- The LWPs of a process that ends, and those that wait for it.
-use Rattle.std.proofs.Common.{◌≡◌, ℕ, List, [], ◌∷◌, map, filter, filter_map, cond, Bool, true, false, not, ◌&&◌, ◌==◌, if◌then◌else◌, Option, Some, None, IfSome, is_none, is_some, refl, sym, ap, ◌∙◌, true≢false, eqb-true, eq-eqb, subst, arith}
+use Rattle.std.proofs.Common.{◌≡◌, ℕ, List, [], ◌∷◌, map, filter, filter_map, Bool, true, false, not, ◌&&◌, ◌==◌, if◌then◌else◌, Option, Some, None, IfSome, is_none, is_some, refl, sym, ap, ◌∙◌, true≢false, eqb-true, eq-eqb, subst, arith}
 use Rattle.std.specs.Option.{option_and_then}
-use Rattle.std.specs.List.{AllByRecursion, cons_option}
+use Rattle.std.specs.List.{AllByRecursion}
 use Rattle.std.proofs.Math.Path.{fun_ext}
 use Rattle.lwp_table.specs.declared.LwpData.{LwpData}
-use Rattle.lwp_table.specs.declared.Due.{Due}
 use Rattle.lwp_table.specs.declared.Mode.{Mode}
 use Rattle.lwp_table.specs.declared.Mode.TheVariants.{User, InCall, VforkWait}
 use Rattle.proc_table.specs.declared.ProcData.{ProcData}
@@ -27,7 +26,7 @@ use Rattle.trace_stop.proofs.FromSound.{none_is}
 use Rattle.trace_stop.proofs.Children.{child_test, child_from}
 use Rattle.trace_stop.proofs.Edited.{some_is}
 use Rattle.trace_stop.proofs.Numbers.{the_row}
-use Rattle.process_end.proofs.Turned.{turned, turned_lwp, told_lwp, moved, turned_lwp-safe, turned_lwp-fallen}
+use Rattle.process_end.proofs.Turned.{turned, turned_lwp, notified_lwp, moved, turned_lwp-safe, turned_lwp-fallen}
 use Rattle.process_end.proofs.Twice.{alone}
 use Rattle.process_end.proofs.LeafFirst.{told, told-is}
 use Rattle.trace_stop.proofs.Found.{any_by_number}
@@ -188,7 +187,7 @@ module _ (rows : Rows) (s : IsSound rows) (q : ℕ) (p : ProcData) (at : process
               let safe : alone q o.r.pid ≡ false = ap (λ n. n == q) o.number ∙ other in
               ap (by_owner (turned_lwp (alone q) q w t) (released over o.r l)) (ap (λ n. process_of n ps) (released-pid over o.r l) ∙ o.found)
               ∙ turned_lwp-safe (alone q) q w t o.r (released over o.r l) o.stands.live safe
-              ∙ ap (λ k. Some (told_lwp t (moved (alone q) o.r) k)) again
+              ∙ ap (λ k. Some (notified_lwp t (moved (alone q) o.r) k)) again
               ∙ sym (turned_lwp-safe (alone q) q w t o.r l o.stands.live safe)
 
       of_lwp : (l : LwpData) → Owned l → option_and_then (λ k. by_owner (turned_lwp (alone q) q w t) k (process_of k.pid ps)) (by_owner (lwp_made q) l (process_of l.pid ps)) ≡ by_owner (turned_lwp (alone q) q w t) l (process_of l.pid ps)

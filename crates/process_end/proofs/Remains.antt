@@ -17,7 +17,7 @@ use Rattle.process_end.specs.Laws.{traces_live, end_alone}
 use Rattle.trace_stop.proofs.Every.{choose, All-imply, any_holds, count-cons}
 use Rattle.trace_stop.proofs.Passes.{passes, own_rows}
 use Rattle.process_end.proofs.Doomed.{NoZombie, end_each_same}
-use Rattle.process_end.proofs.Turned.{heard, heard_lwp, moved, told_row, told_lwp, fallen, turned, turned_lwp, is_gone, turned-fallen, turned-safe, turned-dead, turned_lwp-fallen, turned_lwp-safe}
+use Rattle.process_end.proofs.Turned.{heard, heard_lwp, moved, notified_row, notified_lwp, fallen, turned, turned_lwp, is_gone, turned-fallen, turned-safe, turned-dead, turned_lwp-fallen, turned_lwp-safe}
 use Rattle.process_end.proofs.Twice.{alone, Told}
 use Rattle.process_end.proofs.Tells.{tells, tells-names, parent_after}
 use Rattle.process_end.proofs.LeafFirst.{told, told-is, end_turned, Told-from}
@@ -46,25 +46,25 @@ Settled r before after = bit_and before (unwanted r) ≡ 0 → bit_and after (un
 abbrev pub remaining : (ℕ → Bool) → ProcData → ℕ → ProcData
 remaining over r n = record r { parent = parent_after over r.parent; pending = n }
 
-told-record : (over t : ℕ → Bool) (r : ProcData) → told_row t (moved over r) ≡ remaining over r (told_row t (moved over r)).pending
-unfolding told_row moved heard
+told-record : (over t : ℕ → Bool) (r : ProcData) → notified_row t (moved over r) ≡ remaining over r (notified_row t (moved over r)).pending
+unfolding notified_row moved heard
 told-record over t r = grind arith
 
-told-settled : (over t : ℕ → Bool) (r : ProcData) → Settled r r.pending (told_row t (moved over r)).pending
-unfolding told_row moved heard
+told-settled : (over t : ℕ → Bool) (r : ProcData) → Settled r r.pending (notified_row t (moved over r)).pending
+unfolding notified_row moved heard
 told-settled over t r before = at (t r.pid)
   where
     at : (b : Bool) → bit_and (if b then heard (record r { parent = parent_after over r.parent }) else record r { parent = parent_after over r.parent }).pending (unwanted r) ≡ 0
     at true = and_without _ (unwanted r)
     at false = before
 
-told_lwp-record : (over t : ℕ → Bool) (r : ProcData) (l : LwpData) → told_lwp t (moved over r) l ≡ record l { pending = (told_lwp t (moved over r) l).pending }
-unfolding told_lwp heard_lwp moved
-told_lwp-record over t r l = grind arith
+notified_lwp-record : (over t : ℕ → Bool) (r : ProcData) (l : LwpData) → notified_lwp t (moved over r) l ≡ record l { pending = (notified_lwp t (moved over r) l).pending }
+unfolding notified_lwp heard_lwp moved
+notified_lwp-record over t r l = grind arith
 
-told_lwp-settled : (over t : ℕ → Bool) (r : ProcData) (l : LwpData) → Settled r l.pending (told_lwp t (moved over r) l).pending
-unfolding told_lwp heard_lwp moved
-told_lwp-settled over t r l before = at (t r.pid)
+notified_lwp-settled : (over t : ℕ → Bool) (r : ProcData) (l : LwpData) → Settled r l.pending (notified_lwp t (moved over r) l).pending
+unfolding notified_lwp heard_lwp moved
+notified_lwp-settled over t r l before = at (t r.pid)
   where
     m : ProcData
     m = record r { parent = parent_after over r.parent }
@@ -129,7 +129,7 @@ module _ (rows : Rows) (q status : ℕ) (s : Stands rows) (live : IsLiveRow rows
 
   -- what is pending of a row that lives on
   abbrev pub kept_pending : ProcData → ℕ
-  kept_pending r = (told_row heeds (moved (alone q) r)).pending
+  kept_pending r = (notified_row heeds (moved (alone q) r)).pending
 
   pub edit-safe : (r : ProcData) → is_live r ≡ true → alone q r.pid ≡ false → edit r ≡ Some (remaining (alone q) r (kept_pending r))
   edit-safe r alive other = turned-safe (alone q) q status heeds r alive other ∙ ap Some (told-record (alone q) heeds r)
@@ -147,7 +147,7 @@ module _ (rows : Rows) (q status : ℕ) (s : Stands rows) (live : IsLiveRow rows
           rw (turned-fallen (alone q) q status heeds r alive same ((told_at r at).falls same), eq-eqb r.pid q (alone-true q r.pid same))
           (If-uncollected P (dead status (orphaned (alone q) r)) (falls alive same))
       by_live true alive false other =
-          rw (edit-safe r alive other) (stays alive other (told_row heeds (moved (alone q) r)).pending (told-settled (alone q) heeds r))
+          rw (edit-safe r alive other) (stays alive other (notified_row heeds (moved (alone q) r)).pending (told-settled (alone q) heeds r))
       by_live false dies c e =
           rw (turned-dead (alone q) q status heeds r dies ((told_at r at).dead dies)) (If-uncollected P (orphaned (alone q) r) (ended dies))
 
@@ -163,4 +163,4 @@ module _ (rows : Rows) (q status : ℕ) (s : Stands rows) (live : IsLiveRow rows
       by_q : (c : Bool) → alone q r.pid ≡ c → IfSome (edit_lwp r l) Q
       by_q true same = rw (turned_lwp-fallen (alone q) q status heeds r l alive same) tt
       by_q false other = rw (turned_lwp-safe (alone q) q status heeds r l alive other)
-          (subst Q (sym (told_lwp-record (alone q) heeds r k)) (stays other (told_lwp heeds (moved (alone q) r) k).pending (told_lwp-settled (alone q) heeds r k)))
+          (subst Q (sym (notified_lwp-record (alone q) heeds r k)) (stays other (notified_lwp heeds (moved (alone q) r) k).pending (notified_lwp-settled (alone q) heeds r k)))

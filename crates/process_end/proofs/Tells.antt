@@ -4,10 +4,10 @@ use Rattle.std.proofs.lemmas.Bool.Decides.{nat_tests}
 use Rattle.signals.specs.Table.{SIGKILL}
 use Rattle.proc_table.specs.declared.ProcData.{ProcData}
 use Rattle.proc_table.specs.Processes.{is_live, is_this}
-use Rattle.trace_stop.specs.End.{unless, holds_of, orphaned, dead, uncollected, collector, told_of}
+use Rattle.trace_stop.specs.End.{unless, holds_of, orphaned, dead, uncollected, collector, notifies_of}
 use Rattle.trace_stop.proofs.Every.{and_right}
 use Rattle.trace_stop.proofs.Passes.{passes}
-use Rattle.process_end.proofs.Turned.{heard, moved, fallen, told_row, turned, turned-safe}
+use Rattle.process_end.proofs.Turned.{heard, moved, fallen, notified_row, turned, turned-safe}
 use Rattle.process_end.proofs.Twice.{alone, rest, Told, parent_twice, tracer_once}
 
 -- whether a zombie with this tracer and parent tells x
@@ -36,7 +36,7 @@ collected z x = by_tracer z.tracer refl
     by_tracer (Some t) some = rw some refl
 
 -- the definition of who is told, by this test
-pub tells-is : (over : ℕ → Bool) (p status x : ℕ) (r : ProcData) → passes (λ n. n == x) (told_of (fallen over) over p status r) ≡ tells over x r
+pub tells-is : (over : ℕ → Bool) (p status x : ℕ) (r : ProcData) → passes (λ n. n == x) (notifies_of (fallen over) over p status r) ≡ tells over x r
 unfolding tells
 tells-is over p status x r = by_live (is_live r) refl (over r.pid) refl (holds_of over r.tracer) refl
   where
@@ -44,7 +44,7 @@ tells-is over p status x r = by_live (is_live r) refl (over r.pid) refl (holds_o
     word = if r.pid == p then status else SIGKILL
 
     by_live : (b : Bool) → is_live r ≡ b → (c : Bool) → over r.pid ≡ c → (h : Bool) → holds_of over r.tracer ≡ h
-        → passes (λ n. n == x) (told_of (fallen over) over p status r) ≡ (tells_any over r && told_by (unless over r.tracer) (parent_after over r.parent) x)
+        → passes (λ n. n == x) (notifies_of (fallen over) over p status r) ≡ (tells_any over r && told_by (unless over r.tracer) (parent_after over r.parent) x)
     by_live true live true falls h e = rw (live, falls) (collected (dead word (orphaned over r)) x)
     by_live true live false safe h e = rw (live, safe) refl
     by_live false ended c falls true e = rw (ended, e) (collected (orphaned over r) x)
@@ -90,18 +90,18 @@ module _ (d : ℕ → Bool) (q : ℕ) (dq : d q ≡ true) (x : ℕ) (r : ProcDat
   whom = told_by (unless d r.tracer) (parent_after d r.parent) x
 
   third-same : is_live r ≡ true → alone q r.pid ≡ true → third ≡ (holds_of d r.tracer && whom)
-  unfolding turned told_row moved alone rest heard tells told_by
+  unfolding turned notified_row moved alone rest heard tells told_by
   third-same live same = grind (arith, nat_tests, k1.falls, free, dq)
 
   third-moved : is_live r ≡ true → alone q r.pid ≡ false → third ≡ (d r.pid && whom)
-  unfolding told_row moved alone rest heard tells
+  unfolding notified_row moved alone rest heard tells
   third-moved live other =
       let once = tracer_once d q dq r.tracer (free live) in
       let parent = parent_twice d q dq r.parent in
       ap (passes (tells (rest d q) x)) (turned-safe (alone q) q SIGKILL t1 r live other) ∙ grind (arith, nat_tests, once, parent)
 
   third-zombie : is_live r ≡ false → third ≡ (holds_of (rest d q) (unless (alone q) r.tracer) && whom)
-  unfolding turned told_row moved alone rest heard tells told_by
+  unfolding turned notified_row moved alone rest heard tells told_by
   third-zombie ended = grind (arith, nat_tests, k1.dead, dq)
 
   -- whom p's end tells then, it would have told at once
@@ -114,7 +114,7 @@ module _ (d : ℕ → Bool) (q : ℕ) (dq : d q ≡ true) (x : ℕ) (r : ProcDat
       by_live false ended c e = and_right _ whom (sym (third-zombie ended) ∙ is)
 
   twice-same : d x ≡ false → is_live r ≡ true → alone q r.pid ≡ true → holds_of d r.tracer ≡ true → tells d x r ≡ (tells (alone q) x r || third)
-  unfolding turned told_row moved alone rest heard tells told_by
+  unfolding turned notified_row moved alone rest heard tells told_by
   twice-same safe live same traced = grind (arith, nat_tests, k1.falls, free, dq)
 
   twice-moved : is_live r ≡ true → alone q r.pid ≡ false → tells d x r ≡ (tells (alone q) x r || third)
@@ -122,7 +122,7 @@ module _ (d : ℕ → Bool) (q : ℕ) (dq : d q ≡ true) (x : ℕ) (r : ProcDat
   twice-moved live other = let later = third-moved live other in grind (arith, nat_tests, later)
 
   twice-zombie : d x ≡ false → is_live r ≡ false → tells d x r ≡ (tells (alone q) x r || third)
-  unfolding turned told_row moved alone rest heard tells told_by
+  unfolding turned notified_row moved alone rest heard tells told_by
   twice-zombie safe ended = grind (arith, nat_tests, k1.dead, dq)
 
   -- who lives on is told by r at q's end or at p's, if at all

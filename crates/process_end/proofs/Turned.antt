@@ -41,35 +41,35 @@ abbrev pub fallen : (ℕ → Bool) → ProcData → Bool
 fallen over p = is_live p && over p.pid
 
 -- a row told of it, where it is
-unfoldable pub told_row : (ℕ → Bool) → ProcData → ProcData
-told_row told p = if told p.pid then heard p else p
+unfoldable pub notified_row : (ℕ → Bool) → ProcData → ProcData
+notified_row told p = if told p.pid then heard p else p
 
-unfoldable pub told_lwp : (ℕ → Bool) → ProcData → LwpData → LwpData
-told_lwp told p l = if told p.pid then heard_lwp p l else l
+unfoldable pub notified_lwp : (ℕ → Bool) → ProcData → LwpData → LwpData
+notified_lwp told p l = if told p.pid then heard_lwp p l else l
 
 -- a row after the end, and after those who are told were told; and an LWP of it
 unfoldable pub turned : (ℕ → Bool) → ℕ → ℕ → (ℕ → Bool) → ProcData → Option ProcData
-turned over p status told r = option_and_then (λ s. Some (told_row told s)) (process_after (fallen over) over p status r)
+turned over p status told r = option_and_then (λ s. Some (notified_row told s)) (process_after (fallen over) over p status r)
 
 unfoldable pub turned_lwp : (ℕ → Bool) → ℕ → ℕ → (ℕ → Bool) → ProcData → LwpData → Option LwpData
 turned_lwp over p status told r l =
-    option_and_then (λ k. by_owner (λ s j. Some (told_lwp told s j)) k (process_after (fallen over) over p status r)) (lwp_after (fallen over) over r l)
+    option_and_then (λ k. by_owner (λ s j. Some (notified_lwp told s j)) k (process_after (fallen over) over p status r)) (lwp_after (fallen over) over r l)
 
-pub told-hit : (told : ℕ → Bool) (p : ProcData) → told p.pid ≡ true → told_row told p ≡ heard p
-unfolding told_row
+pub told-hit : (told : ℕ → Bool) (p : ProcData) → told p.pid ≡ true → notified_row told p ≡ heard p
+unfolding notified_row
 told-hit told p is = rw is refl
 
-pub told-miss : (told : ℕ → Bool) (p : ProcData) → told p.pid ≡ false → told_row told p ≡ p
-unfolding told_row
+pub told-miss : (told : ℕ → Bool) (p : ProcData) → told p.pid ≡ false → notified_row told p ≡ p
+unfolding notified_row
 told-miss told p is = rw is refl
 
-pub told_lwp-hit : (told : ℕ → Bool) (p : ProcData) (l : LwpData) → told p.pid ≡ true → told_lwp told p l ≡ heard_lwp p l
-unfolding told_lwp
-told_lwp-hit told p l is = rw is refl
+pub notified_lwp-hit : (told : ℕ → Bool) (p : ProcData) (l : LwpData) → told p.pid ≡ true → notified_lwp told p l ≡ heard_lwp p l
+unfolding notified_lwp
+notified_lwp-hit told p l is = rw is refl
 
-pub told_lwp-miss : (told : ℕ → Bool) (p : ProcData) (l : LwpData) → told p.pid ≡ false → told_lwp told p l ≡ l
-unfolding told_lwp
-told_lwp-miss told p l is = rw is refl
+pub notified_lwp-miss : (told : ℕ → Bool) (p : ProcData) (l : LwpData) → told p.pid ≡ false → notified_lwp told p l ≡ l
+unfolding notified_lwp
+notified_lwp-miss told p l is = rw is refl
 
 -- a zombie that nobody collects
 abbrev pub is_gone : ProcData → Bool
@@ -81,7 +81,7 @@ gone-true z is = rw is refl
 pub gone-false : (z : ProcData) → is_gone z ≡ false → uncollected z ≡ Some z
 gone-false z is = rw is refl
 
-untold : (told : ℕ → Bool) (z : ProcData) → told z.pid ≡ false → (b : Bool) → option_and_then (λ s. Some (told_row told s)) (if b then None else Some z) ≡ (if b then None else Some z)
+untold : (told : ℕ → Bool) (z : ProcData) → told z.pid ≡ false → (b : Bool) → option_and_then (λ s. Some (notified_row told s)) (if b then None else Some z) ≡ (if b then None else Some z)
 untold told z miss true = refl
 untold told z miss false = ap Some (told-miss told z miss)
 
@@ -92,7 +92,7 @@ unfolding turned
 turned-fallen over p status told r live falls miss =
     rw (live, falls) (untold told (dead (if r.pid == p then status else SIGKILL) (orphaned over r)) miss (is_gone (dead (if r.pid == p then status else SIGKILL) (orphaned over r))))
 
-pub turned-safe : (over : ℕ → Bool) (p status : ℕ) (told : ℕ → Bool) (r : ProcData) → is_live r ≡ true → over r.pid ≡ false → turned over p status told r ≡ Some (told_row told (moved over r))
+pub turned-safe : (over : ℕ → Bool) (p status : ℕ) (told : ℕ → Bool) (r : ProcData) → is_live r ≡ true → over r.pid ≡ false → turned over p status told r ≡ Some (notified_row told (moved over r))
 unfolding turned moved
 turned-safe over p status told r live safe = rw (live, safe) refl
 
@@ -104,6 +104,6 @@ pub turned_lwp-fallen : (over : ℕ → Bool) (p status : ℕ) (told : ℕ → B
 unfolding turned_lwp
 turned_lwp-fallen over p status told r l live falls = rw (live, falls) refl
 
-pub turned_lwp-safe : (over : ℕ → Bool) (p status : ℕ) (told : ℕ → Bool) (r : ProcData) (l : LwpData) → is_live r ≡ true → over r.pid ≡ false → turned_lwp over p status told r l ≡ Some (told_lwp told (moved over r) (released over r l))
+pub turned_lwp-safe : (over : ℕ → Bool) (p status : ℕ) (told : ℕ → Bool) (r : ProcData) (l : LwpData) → is_live r ≡ true → over r.pid ≡ false → turned_lwp over p status told r l ≡ Some (notified_lwp told (moved over r) (released over r l))
 unfolding turned_lwp moved
 turned_lwp-safe over p status told r l live safe = rw (live, safe) refl

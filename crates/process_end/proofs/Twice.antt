@@ -10,7 +10,7 @@ use Rattle.lwp_table.specs.declared.Mode.TheVariants.{User, InCall, VforkWait}
 use Rattle.proc_table.specs.Processes.{is_live}
 use Rattle.trace_stop.specs.End.{unless, holds_of, orphaned, dead, uncollected, released}
 use Rattle.std.proofs.lemmas.Bool.Decides.{nat_tests}
-use Rattle.process_end.proofs.Turned.{heard, heard_lwp, heard_twice, heard_lwp_twice, moved, told_row, told_lwp, turned, turned_lwp, turned-fallen, turned-safe, turned_lwp-fallen, turned_lwp-safe}
+use Rattle.process_end.proofs.Turned.{heard, heard_lwp, heard_twice, heard_lwp_twice, moved, notified_row, notified_lwp, turned, turned_lwp, turned-fallen, turned-safe, turned_lwp-fallen, turned_lwp-safe}
 
 -- the doom of q alone, and a doom without q
 unfoldable pub alone : ℕ → ℕ → Bool
@@ -62,12 +62,12 @@ pub moved-pid : (over : ℕ → Bool) (r : ProcData) → (moved over r).pid ≡ 
 unfolding moved
 moved-pid over r = refl
 
-pub told-live : (told : ℕ → Bool) (r : ProcData) → is_live (told_row told r) ≡ is_live r
-unfolding told_row heard
+pub told-live : (told : ℕ → Bool) (r : ProcData) → is_live (notified_row told r) ≡ is_live r
+unfolding notified_row heard
 told-live told r = grind arith
 
-pub told-pid : (told : ℕ → Bool) (r : ProcData) → (told_row told r).pid ≡ r.pid
-unfolding told_row heard
+pub told-pid : (told : ℕ → Bool) (r : ProcData) → (notified_row told r).pid ≡ r.pid
+unfolding notified_row heard
 told-pid told r = grind arith
 
 moved_heard : (over : ℕ → Bool) (r : ProcData) → moved over (heard r) ≡ heard (moved over r)
@@ -83,8 +83,8 @@ unfolding moved
 moved_twice d q dq r = ap (λ n. record r { parent = n }) (parent_twice d q dq r.parent)
 
 -- told by one end and by the next
-pub told_twice : (over : ℕ → Bool) (t1 t3 t2 : ℕ → Bool) (m m' : ProcData) → moved over m ≡ m' → t2 m'.pid ≡ (t1 m.pid || t3 m.pid) → told_row t3 (moved over (told_row t1 m)) ≡ told_row t2 m'
-unfolding told_row
+pub told_twice : (over : ℕ → Bool) (t1 t3 t2 : ℕ → Bool) (m m' : ProcData) → moved over m ≡ m' → t2 m'.pid ≡ (t1 m.pid || t3 m.pid) → notified_row t3 (moved over (notified_row t1 m)) ≡ notified_row t2 m'
+unfolding notified_row
 told_twice over t1 t3 t2 m m' same told = grind (arith, nat_tests, moved_heard, heard-pid, heard_twice, moved-pid)
 
 -- the facts on one row: q traces no live process, and who is told is a live process that doesn't end
@@ -98,16 +98,16 @@ module _ (d : ℕ → Bool) (p q status : ℕ) (r : ProcData) (dq : d q ≡ true
   Goal = option_and_then (turned (rest d q) p status t3) (turned (alone q) q SIGKILL t1 r) ≡ turned d p status t2 r
 
   twice-dead : is_live r ≡ false → Goal
-  unfolding turned told_row moved alone rest heard
+  unfolding turned notified_row moved alone rest heard
   twice-dead ended = grind (arith, nat_tests, k1.dead, k2.dead, k3.dead, parent_twice, tracer_twice)
 
   twice-same : is_live r ≡ true → alone q r.pid ≡ true → Goal
-  unfolding turned told_row moved alone rest heard
+  unfolding turned notified_row moved alone rest heard
   twice-same live same = grind (arith, nat_tests, qp, k1.falls, k2.falls, k3.falls, parent_twice, tracer_twice)
 
   -- what q's end made of a row that lives on
   abbrev left : ProcData
-  left = told_row t1 (moved (alone q) r)
+  left = notified_row t1 (moved (alone q) r)
 
   left-live : is_live left ≡ is_live r
   left-live = told-live t1 (moved (alone q) r) ∙ moved-live (alone q) r
@@ -116,7 +116,7 @@ module _ (d : ℕ → Bool) (p q status : ℕ) (r : ProcData) (dq : d q ≡ true
   left-pid = told-pid t1 (moved (alone q) r) ∙ moved-pid (alone q) r
 
   fallen_left : is_live r ≡ true → (w v : ℕ) → w ≡ v → dead w (orphaned (rest d q) left) ≡ dead v (orphaned d r)
-  unfolding told_row moved heard
+  unfolding notified_row moved heard
   fallen_left live w v same = let once = tracer_once d q dq r.tracer (free live) in let parent = parent_twice d q dq r.parent in grind (arith, same, once, parent)
 
   -- q's end told it or not, it ends with p
@@ -145,28 +145,28 @@ module _ (d : ℕ → Bool) (p q status : ℕ) (r : ProcData) (dq : d q ≡ true
 
 -- An LWP of a live process
 
-pub told_lwp-moved : (over told : ℕ → Bool) (r : ProcData) (l : LwpData) → told_lwp told (moved over r) l ≡ told_lwp told r l
-unfolding told_lwp moved heard_lwp
-told_lwp-moved over told r l = refl
+pub notified_lwp-moved : (over told : ℕ → Bool) (r : ProcData) (l : LwpData) → notified_lwp told (moved over r) l ≡ notified_lwp told r l
+unfolding notified_lwp moved heard_lwp
+notified_lwp-moved over told r l = refl
 
-pub told_lwp-told : (told t1 : ℕ → Bool) (r : ProcData) (l : LwpData) → told_lwp told (told_row t1 r) l ≡ told_lwp told r l
-unfolding told_lwp told_row heard heard_lwp
-told_lwp-told told t1 r l = grind arith
+pub notified_lwp-told : (told t1 : ℕ → Bool) (r : ProcData) (l : LwpData) → notified_lwp told (notified_row t1 r) l ≡ notified_lwp told r l
+unfolding notified_lwp notified_row heard heard_lwp
+notified_lwp-told told t1 r l = grind arith
 
 pub released-moved : (over o : ℕ → Bool) (r : ProcData) (l : LwpData) → released over (moved o r) l ≡ released over r l
 unfolding moved
 released-moved over o r l = refl
 
-pub released-told : (over t1 : ℕ → Bool) (r : ProcData) (l : LwpData) → released over (told_row t1 r) l ≡ released over r l
-unfolding told_row heard
+pub released-told : (over t1 : ℕ → Bool) (r : ProcData) (l : LwpData) → released over (notified_row t1 r) l ≡ released over r l
+unfolding notified_row heard
 released-told over t1 r l = grind arith
 
-pub released_told : (over told : ℕ → Bool) (r : ProcData) (l : LwpData) → released over r (told_lwp told r l) ≡ told_lwp told r (released over r l)
-unfolding told_lwp heard_lwp
+pub released_told : (over told : ℕ → Bool) (r : ProcData) (l : LwpData) → released over r (notified_lwp told r l) ≡ notified_lwp told r (released over r l)
+unfolding notified_lwp heard_lwp
 released_told over told r l = grind arith
 
-pub told_lwp_twice : (t1 t2 t3 : ℕ → Bool) (r : ProcData) (l : LwpData) → t2 r.pid ≡ (t1 r.pid || t3 r.pid) → told_lwp t3 r (told_lwp t1 r l) ≡ told_lwp t2 r l
-unfolding told_lwp
+pub told_lwp_twice : (t1 t2 t3 : ℕ → Bool) (r : ProcData) (l : LwpData) → t2 r.pid ≡ (t1 r.pid || t3 r.pid) → notified_lwp t3 r (notified_lwp t1 r l) ≡ notified_lwp t2 r l
+unfolding notified_lwp
 told_lwp_twice t1 t2 t3 r l told = grind (arith, nat_tests, heard_lwp_twice)
 
 released_twice : (d : ℕ → Bool) (q : ℕ) → d q ≡ true → (r : ProcData) (l : LwpData) → released (rest d q) r (released (alone q) r l) ≡ released d r l
@@ -185,10 +185,10 @@ module _ (d : ℕ → Bool) (p q status : ℕ) (r : ProcData) (l : LwpData) (dq 
 
   -- q's end left it as m, and the LWP as k
   abbrev m : ProcData
-  m = told_row t1 (moved (alone q) r)
+  m = notified_row t1 (moved (alone q) r)
 
   abbrev k : LwpData
-  k = told_lwp t1 (moved (alone q) r) (released (alone q) r l)
+  k = notified_lwp t1 (moved (alone q) r) (released (alone q) r l)
 
   m-live : is_live m ≡ true
   m-live = told-live t1 (moved (alone q) r) ∙ moved-live (alone q) r ∙ live
@@ -196,8 +196,8 @@ module _ (d : ℕ → Bool) (p q status : ℕ) (r : ProcData) (l : LwpData) (dq 
   m-pid : m.pid ≡ r.pid
   m-pid = told-pid t1 (moved (alone q) r) ∙ moved-pid (alone q) r
 
-  lwp_safe : d r.pid ≡ false → told_lwp t3 (moved (rest d q) m) (released (rest d q) m k) ≡ told_lwp t2 (moved d r) (released d r l)
-  lwp_safe safe = rw (released-told (rest d q) t1 (moved (alone q) r) k, released-moved (rest d q) (alone q) r k, told_lwp-moved (rest d q) t3 m, told_lwp-told t3 t1 (moved (alone q) r), told_lwp-moved (alone q) t3 r, told_lwp-moved (alone q) t1 r (released (alone q) r l), told_lwp-moved d t2 r, released_told (rest d q) t1 r (released (alone q) r l), released_twice d q dq r l)
+  lwp_safe : d r.pid ≡ false → notified_lwp t3 (moved (rest d q) m) (released (rest d q) m k) ≡ notified_lwp t2 (moved d r) (released d r l)
+  lwp_safe safe = rw (released-told (rest d q) t1 (moved (alone q) r) k, released-moved (rest d q) (alone q) r k, notified_lwp-moved (rest d q) t3 m, notified_lwp-told t3 t1 (moved (alone q) r), notified_lwp-moved (alone q) t3 r, notified_lwp-moved (alone q) t1 r (released (alone q) r l), notified_lwp-moved d t2 r, released_told (rest d q) t1 r (released (alone q) r l), released_twice d q dq r l)
       (told_lwp_twice t1 t2 t3 r (released d r l) (told safe))
 
   pub lwp_twice : LwpGoal

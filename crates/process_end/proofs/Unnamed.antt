@@ -15,7 +15,7 @@ use Rattle.trace_stop.proofs.Every.{by_bool, All-imply, any_more, find_some, non
 use Rattle.trace_stop.proofs.Passes.{passes, any_edited}
 use Rattle.process_end.proofs.Remains.{count_kept}
 use Rattle.process_end.proofs.LeafLives.{count_split, any_counts, and_swap}
-use Rattle.process_end.proofs.Turned.{heard, told_row}
+use Rattle.process_end.proofs.Turned.{heard, notified_row}
 use Rattle.trace_stop.proofs.Found.{any_by_number}
 use Rattle.process_end.proofs.Leaving.{put, out, put_tell}
 use Rattle.process_end.proofs.LeafSteps.{orphan}
@@ -98,7 +98,7 @@ pub orphan_passes : (q n : ℕ) → (q == 1) ≡ false → (r : ProcData) → pa
 orphan_passes q n other r = grind (arith, nat_tests, other)
 
 pub untold_passes : (q n m : ℕ) (r : ProcData) → passes (traces q) (put_tell n untrace m r) ≡ (traces q r && not (r.pid == n))
-unfolding told_row heard
+unfolding notified_row heard
 untold_passes q n m r = grind arith
 
 -- the other links stay

@@ -9,9 +9,9 @@ use Rattle.proc_table.specs.Processes.{process_of, is_live, traces, reporting}
 use Rattle.proc_table.specs.Rows.{Rows, each, change, is_numbered}
 use Rattle.proc_table.specs.Kept.{Rise}
 use Rattle.trace_stop.specs.declared.Settings.{Settings}
-use Rattle.trace_stop.specs.Post.{posted_process, posted_lwp, continues, notified, told, posted}
+use Rattle.trace_stop.specs.Post.{posted_process, posted_lwp, continues, notified, notifies, posted}
 use Rattle.trace_stop.specs.Detach.{detached, untraced}
-use Rattle.trace_stop.specs.End.{is_doomed, dooms, uncollected, dead, orphaned, process_after, lwp_after, told_of, left_alone, end_each, end}
+use Rattle.trace_stop.specs.End.{is_doomed, dooms, uncollected, dead, orphaned, process_after, lwp_after, notifies_of, left_alone, end_each, end}
 use Rattle.trace_stop.specs.Stop.{post}
 use Rattle.requests.specs.Reach.{post_if_live, post_all}
 use Rattle.requests.proofs.Steps.{choose}
@@ -79,7 +79,7 @@ remain_posted : (s : ℕ) (to : Option ℕ) (pid : ℕ) (rows : Rows) → Remain
 remain_posted s to pid rows =
     let first = change (is_numbered pid) (posted_process s to) (posted_lwp s to) rows in
     remain_then rows.processes first.processes (posted s to pid rows).processes
-    (remain_some (is_numbered pid) (posted_process s to) (posted_keeps s to) rows.processes) (remain_notified (told s (process_of pid rows.processes)) first)
+    (remain_some (is_numbered pid) (posted_process s to) (posted_keeps s to) rows.processes) (remain_notified (notifies s (process_of pid rows.processes)) first)
 
 -- the end of a process
 after_keeps : (ends : ProcData → Bool) (over : ℕ → Bool) (p status : ℕ) (q : ProcData) → IfSome (process_after ends over p status q) (SameNumber q)
@@ -93,7 +93,7 @@ remain_end_each ends over p status rows =
     let after = each (process_after ends over p status) (lwp_after ends over) rows in
     remain_then rows.processes after.processes (end_each ends over p status rows).processes
     (record { to = process_after ends over p status; made = refl; same = after_keeps ends over p status })
-    (remain_notified (filter_map (told_of ends over p status) rows.processes) after)
+    (remain_notified (filter_map (notifies_of ends over p status) rows.processes) after)
 
 remain_left : (settings : Settings) (p : ℕ) (rows : Rows) → Remain rows.processes (left_alone settings p rows).processes
 remain_left settings p rows = choose settings.kill_on_debugger_exit rows _ (λ r. Remain rows.processes r.processes) (remain_all rows.processes)

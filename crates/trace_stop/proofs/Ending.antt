@@ -1,5 +1,5 @@
 -- Ends keep rows sound, where no live process is left whose tracer ends.
-use Rattle.std.proofs.Common.{◌≡◌, ◌≢◌, ℕ, ◌≤◌, Bool, true, false, ◌==◌, ◌&&◌, ◌||◌, not, if◌then◌else◌, filter_map, option_map, Option, Some, None, IfSome, is_some, is_none, unwrap_or, refl, sym, ap, ◌∙◌, true≢false, subst, arith, eqb-true, eq-eqb, bit_and}
+use Rattle.std.proofs.Common.{◌≡◌, ◌≢◌, ℕ, Bool, true, false, ◌==◌, ◌&&◌, ◌||◌, not, if◌then◌else◌, filter_map, option_map, Option, Some, None, IfSome, is_some, is_none, unwrap_or, refl, sym, ap, ◌∙◌, true≢false, subst, arith, eq-eqb, bit_and}
 use Rattle.std.specs.List.{AllByRecursion}
 use Rattle.event_masks.specs.Exits.{shows, asks}
 use Rattle.event_masks.specs.declared.TheConstants.StopFlags.{PL_FLAG_EXITED}
@@ -14,9 +14,8 @@ use Rattle.proc_table.specs.declared.State.{State}
 use Rattle.proc_table.specs.declared.State.TheVariants.{Run, Trace, Job, Zombie}
 use Rattle.proc_table.specs.Processes.{is_live, is_zombie_state, is_job_state, is_run_state, reporting, named_by}
 use Rattle.proc_table.specs.Rows.{Rows, each}
-use Rattle.proc_table.specs.Fresh.{lwp_count}
 use Rattle.trace_stop.specs.Post.{unwanted}
-use Rattle.trace_stop.specs.End.{holds_of, unless, orphaned, dead, uncollected, process_after, waits_where, released, lwp_after, collector, told_of, end_each}
+use Rattle.trace_stop.specs.End.{holds_of, unless, orphaned, dead, uncollected, process_after, waits_where, released, lwp_after, collector, notifies_of, end_each}
 use Rattle.trace_stop.specs.Sound.{is_end, names_own, is_due}
 use Rattle.trace_stop.specs.Facts.{IsLiveOf, IsLiveChild, Linked, Ended, IfEnded, FitProcess, waited_for, FitLwp, IsSound}
 use Rattle.trace_stop.proofs.Every.{All-both, All-edit, choose}
@@ -263,7 +262,7 @@ module _ (rows : Rows) (ends : ProcData → Bool) (over : ℕ → Bool) (p statu
       by_tracer None live = λ ne. live_told after z.uid z.parent (link.parent ne) ne
       by_tracer (Some t) live = live_told after z.uid t live
 
-  told_row : (q : ProcData) → Row rows (Fact rows ends over) q → IfSome (told_of ends over p status q) (MayTell after)
+  told_row : (q : ProcData) → Row rows (Fact rows ends over) q → IfSome (notifies_of ends over p status q) (MayTell after)
   told_row q row = choose (ends q || (not (is_live q) && holds_of over q.tracer)) (option_map collector (to q)) None (λ o. IfSome o (MayTell after)) (λ e. by_row (to q) refl) (λ e. tt)
     where
       by_row : (o : Option ProcData) → to q ≡ o → IfSome (option_map collector o) (MayTell after)
@@ -271,4 +270,4 @@ module _ (rows : Rows) (ends : ProcData → Bool) (over : ℕ → Bool) (p statu
       by_row (Some z) is = may_tell z (linked_at rows over to to_lwp (Fact rows ends over) FitLwp FitProcess FitLwp held the_edit q z row is)
 
   pub end_each_sound : IsSound (end_each ends over p status rows)
-  end_each_sound = notified_sound after (filter_map (told_of ends over p status) rows.processes) each_sound (All-edit (told_of ends over p status) (Row rows (Fact rows ends over)) (MayTell after) told_row rows.processes (all_rows rows held))
+  end_each_sound = notified_sound after (filter_map (notifies_of ends over p status) rows.processes) each_sound (All-edit (notifies_of ends over p status) (Row rows (Fact rows ends over)) (MayTell after) told_row rows.processes (all_rows rows held))

@@ -1,9 +1,9 @@
 -- The test of soundness, and soundness as facts: each gives the other.
 use Rattle.std.proofs.lemmas.Bool.Decides.{nat_tests}
-use Rattle.std.proofs.Common.{◌≡◌, ◌≢◌, ℕ, zero, suc, ◌+◌, ◌<◌, ◌≤◌, List, [], ◌∷◌, length, map, zip, Bool, true, false, ◌==◌, ◌&&◌, ◌||◌, not, leb, ltb, Option, Some, None, is_some, is_none, IfSome, refl, sym, ap, ◌∙◌, arith, eqb, true≢false, eqb-true, subst, eq-eqb, get_or, ltb-true}
+use Rattle.std.proofs.Common.{◌≡◌, ◌≢◌, ℕ, zero, suc, ◌+◌, ◌<◌, ◌≤◌, List, [], ◌∷◌, length, map, zip, Bool, true, false, ◌==◌, ◌&&◌, ◌||◌, not, leb, ltb, Option, Some, None, is_some, is_none, IfSome, refl, sym, ap, ◌∙◌, arith, eqb, true≢false, eqb-true, subst, eq-eqb, get_or}
 use Rattle.std.specs.Int.RustNames.{bit_and}
 use Rattle.std.specs.List.{AllByRecursion, list_any, list_all}
-use Rattle.std.proofs.lemmas.Bool.{le-leb, lt-ltb, leb-true}
+use Rattle.std.proofs.lemmas.Bool.{le-leb, leb-true}
 use Rattle.pid_blocks.specs.Users.{IsUser}
 use Rattle.pid_blocks.specs.declared.Block.{Block}
 use Rattle.pid_blocks.specs.Blocks.{pid_block, tid_block, in_block, InBlock, slot, users, rising}

@@ -1,6 +1,6 @@
 -- A new process at its place among the others.
 use Rattle.std.proofs.lemmas.Bool.Decides.{nat_tests}
-use Rattle.std.proofs.Common.{◌≡◌, ◌≢◌, ℕ, zero, suc, ◌+◌, ◌<◌, List, [], ◌∷◌, ◌++◌, filter, find, Bool, true, false, cond, ◌==◌, ◌||◌, ltb, Option, Some, None, IfSome, refl, sym, ap, ◌∙◌, arith, eqb, true≢false, eqb-true, eq-eqb, ltb-true, ltb-false, lt-ltb, inl, inr}
+use Rattle.std.proofs.Common.{◌≡◌, ◌≢◌, ℕ, zero, suc, ◌+◌, ◌<◌, List, [], ◌∷◌, ◌++◌, filter, find, Bool, true, false, cond, ◌==◌, ◌||◌, ltb, Option, Some, None, IfSome, refl, sym, ap, ◌∙◌, arith, eqb-true, eq-eqb, ltb-true, lt-ltb, inl, inr}
 use Rattle.std.specs.Prelude.{count_by}
 use Rattle.std.specs.List.{AllByRecursion, list_any}
 use Rattle.std.proofs.lemmas.Bool.{cases_Bool}
@@ -8,7 +8,7 @@ use Rattle.proc_table.specs.declared.ProcData.{ProcData}
 use Rattle.proc_table.specs.Processes.{process_of, placed}
 use Rattle.proc_table.specs.Kept.{Rise, AllAbove}
 use Rattle.trace_stop.specs.End.{tracer_of, meets}
-use Rattle.trace_stop.proofs.Every.{or_true, by_bool, All-append, All-filter, count-cons, count-append}
+use Rattle.trace_stop.proofs.Every.{by_bool, All-append, All-filter, count-cons, count-append}
 
 -- one element more in the middle
 

@@ -8,7 +8,7 @@ use Rattle.proc_table.specs.declared.ProcData.{ProcData}
 use Rattle.proc_table.specs.Processes.{is_live, process_of}
 use Rattle.proc_table.specs.Rows.{Rows, change, is_numbered}
 use Rattle.trace_stop.specs.declared.Settings.{Settings}
-use Rattle.trace_stop.specs.Post.{continues, posted_process, posted_lwp, notified, told, posted}
+use Rattle.trace_stop.specs.Post.{continues, posted_process, posted_lwp, notified, notifies, posted}
 use Rattle.trace_stop.specs.Detach.{running, resumed, detached}
 use Rattle.trace_stop.specs.End.{end}
 use Rattle.trace_stop.specs.Stop.{post, ends_process, resume, detach}
@@ -44,7 +44,7 @@ module _ (rows : Rows) (pid : ℕ) (p : ProcData) (s : IsSound rows) (at : proce
   end_at settings status word = subst (λ n. IsSound (end settings n status rows)) number (end_sound settings rows p s (subst (λ n. process_of n rows.processes ≡ Some p) (sym number) at) live status word)
 
   pub posted_sound : (sig : ℕ) (to : Option ℕ) → IsSound (posted sig to pid rows)
-  posted_sound sig to = subst (λ o. IsSound (notified (told sig o) made)) (sym at) (notified_sound made (told sig (Some p)) made_sound (choose (continues sig p) (p.parent ∷ []) [] (AllByRecursion (MayTell made)) (λ e. (tell, tt)) (λ e. tt)))
+  posted_sound sig to = subst (λ o. IsSound (notified (notifies sig o) made)) (sym at) (notified_sound made (notifies sig (Some p)) made_sound (choose (continues sig p) (p.parent ∷ []) [] (AllByRecursion (MayTell made)) (λ e. (tell, tt)) (λ e. tt)))
     where
       made : Rows
       made = change (is_numbered pid) (posted_process sig to) (posted_lwp sig to) rows

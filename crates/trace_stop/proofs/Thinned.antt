@@ -1,5 +1,5 @@
 -- Changes of LWPs alone, of which some may go, keep rows sound.
-use Rattle.std.proofs.Common.{◌≡◌, ◌≤◌, true, Option, Some, None, IfSome, refl, sym, subst}
+use Rattle.std.proofs.Common.{◌≡◌, ◌≤◌, true, Option, Some, IfSome, refl, sym, subst}
 use Rattle.lwp_table.specs.declared.LwpData.{LwpData}
 use Rattle.proc_table.specs.declared.ProcData.{ProcData}
 use Rattle.proc_table.specs.Processes.{is_live, reporting}
@@ -7,7 +7,7 @@ use Rattle.proc_table.specs.Rows.{Rows, each, edit_lwps}
 use Rattle.proc_table.specs.Fresh.{lwp_count}
 use Rattle.trace_stop.specs.Sound.{names_own}
 use Rattle.trace_stop.specs.Facts.{FitProcess, FitLwp, IsSound}
-use Rattle.trace_stop.proofs.Changed.{Row, Beside, Same, KeptRow, KeptLwp, nobody, holds_sound, sound_holds, like_self, kept_row, none_gone, no_ring, edit_holds, lwps_alone}
+use Rattle.trace_stop.proofs.Changed.{Row, Beside, KeptRow, KeptLwp, nobody, holds_sound, sound_holds, like_self, kept_row, none_gone, no_ring, edit_holds, lwps_alone}
 
 -- what such a change asks
 pub record LwpChange (rows : Rows) (h : LwpData → Option LwpData) : Type 0 where

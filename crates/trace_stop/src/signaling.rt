@@ -7,7 +7,7 @@ ghost use Rattle.proc_table.specs.Kept.{IsRow};
 ghost use Rattle.trace_stop.specs.declared.edits.Edit.TheVariants as edit;
 ghost use Rattle.trace_stop.specs.Facts.{IsSound};
 ghost use Rattle.trace_stop.specs.Before.{IsSoundButPending, MayTell};
-ghost use Rattle.trace_stop.specs.Post.{unwanted, continues, settle, posted_process, posted_lwp, notified, told, posted};
+ghost use Rattle.trace_stop.specs.Post.{unwanted, continues, settle, posted_process, posted_lwp, notified, notifies, posted};
 ghost use Rattle.trace_stop.specs.Stop.{tracers};
 
 use crate::edits::{Edit, edit_lwps, put_signal};
@@ -78,7 +78,7 @@ fn posted_lwps(p: &ProcData, signal: Signal, to: &Option<Tid>) -> Edit
 
 /// The parent of a process that the signal continues.
 fn parent_to_tell(p: &ProcData, signal: Signal) -> Option<u32>
-    ensures { tracers result ≡ told signal (Some p.now) }
+    ensures { tracers result ≡ notifies signal (Some p.now) }
 {
     if continues(signal, p) {
         Some(p.parent)
@@ -88,11 +88,11 @@ fn parent_to_tell(p: &ProcData, signal: Signal) -> Option<u32>
 }
 
 /// Puts a signal into the pending set of a process or of an LWP of it. SIGCONT continues a process
-/// that is stopped by job control, and the answer is then its parent, which is to be told.
+/// that is stopped by job control, and the answer is then its parent, which is to be notified.
 fn put(tables: &mut Tables, pid: Pid, signal: Signal, to: &Option<Tid>) -> Option<u32>
     requires there { IsRow tables.old.rows pid }
     ensures rows { tables.new.rows ≡ change (is_numbered pid) (posted_process signal to.now) (posted_lwp signal to.now) tables.old.rows }
-    ensures told { tracers result ≡ told signal (process_of pid tables.old.rows.processes) }
+    ensures notifies { tracers result ≡ notifies signal (process_of pid tables.old.rows.processes) }
 {
     let p = tables.process(pid).unwrap();
     let parent = parent_to_tell(&p, signal);

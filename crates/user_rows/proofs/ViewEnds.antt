@@ -18,7 +18,7 @@ use Rattle.trace_stop.specs.Post.{notified}
 use Rattle.trace_stop.specs.Detach.{detached}
 use Rattle.trace_stop.specs.Stop.{post, tracers, stop, ends_process, resume, detach}
 use Rattle.trace_stop.specs.declared.Shown.{Shown}
-use Rattle.trace_stop.specs.End.{tracer_in, tracer_of, holds_of, meets, is_doomed, dooms, unless, orphaned, dead, uncollected, process_after, waits_where, released, lwp_after, collector, told_of, end_each, end_of, end}
+use Rattle.trace_stop.specs.End.{tracer_in, tracer_of, holds_of, meets, is_doomed, dooms, unless, orphaned, dead, uncollected, process_after, waits_where, released, lwp_after, collector, notifies_of, end_each, end_of, end}
 use Rattle.trace_stop.specs.Facts.{waited_for}
 use Rattle.trace_stop.proofs.Every.{and_left, and_right, by_bool, choose, choose_both, none_passes, All-edit, All-filter}
 use Rattle.user_rows.specs.Closed.{Mine, GoodProc, GoodLwp, LiveRow}
@@ -144,19 +144,19 @@ module _ {u : ℕ} (ends : ProcData → Bool) (over : ℕ → Bool) (ends_foreig
       by_tracer None g ne = k.2.parent ne ∙ k.1 ∙ mine
       by_tracer (Some t) g ne = g ∙ k.1 ∙ mine
 
-  told_foreign : (p : ProcData) → GoodProc p → p.uid ≢ u → told_of ends over n w p ≡ None
-  told_foreign p good ne = rw (ends_foreign p good ne, holds_none over over_foreign ne p.tracer good.tracer, and_false (not (is_live p))) refl
+  notifies_foreign : (p : ProcData) → GoodProc p → p.uid ≢ u → notifies_of ends over n w p ≡ None
+  notifies_foreign p good ne = rw (ends_foreign p good ne, holds_none over over_foreign ne p.tracer good.tracer, and_false (not (is_live p))) refl
 
-  told_mine : (p : ProcData) → GoodProc p → IfSome (told_of ends over n w p) (Mine u)
-  told_mine p good = either p.uid u
+  notifies_mine : (p : ProcData) → GoodProc p → IfSome (notifies_of ends over n w p) (Mine u)
+  notifies_mine p good = either p.uid u
       (λ is. choose (ends p || (not (is_live p) && holds_of over p.tracer)) _ None (λ o. IfSome o (Mine u)) (λ e. collector_mine p (process_after ends over n w p) is (after_kin p good)) (λ e. tt))
-      (λ ne. subst (λ o. IfSome o (Mine u)) (sym (told_foreign p good ne)) tt)
+      (λ ne. subst (λ o. IfSome o (Mine u)) (sym (notifies_foreign p good ne)) tt)
 
   end_each_same : {start c v : Rows} → Sim u start c v → Sim u start (end_each ends over n w c) (end_each ends over n w v)
   end_each_same {start} {c} {v} s = subst (λ ns. Sim u start (end_each ends over n w c) (notified ns (each (process_after ends over n w) (lwp_after ends over) v)))
-      (sym (filter_map_only (told_of ends over n w) (own u) GoodProc (λ p good is. told_foreign p good (not_equal p.uid u is)) c.processes s.kept.closed.processes) ∙ ap (filter_map (told_of ends over n w)) s.processes)
-      (notified_same (each_same s (process_after ends over n w) (lwp_after ends over) (end_keeps s.kept.closed.user)) (filter_map (told_of ends over n w) c.processes)
-      (All-edit (told_of ends over n w) GoodProc (Mine u) told_mine c.processes s.kept.closed.processes))
+      (sym (filter_map_only (notifies_of ends over n w) (own u) GoodProc (λ p good is. notifies_foreign p good (not_equal p.uid u is)) c.processes s.kept.closed.processes) ∙ ap (filter_map (notifies_of ends over n w)) s.processes)
+      (notified_same (each_same s (process_after ends over n w) (lwp_after ends over) (end_keeps s.kept.closed.user)) (filter_map (notifies_of ends over n w) c.processes)
+      (All-edit (notifies_of ends over n w) GoodProc (Mine u) notifies_mine c.processes s.kept.closed.processes))
 
 -- the tests are the same on all rows and on a user's
 module _ {u : ℕ} (ps : List ProcData) (all : AllByRecursion GoodProc ps) (settings : Settings) (n : ℕ) (here : pid_owner n ≡ u) where

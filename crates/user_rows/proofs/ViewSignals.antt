@@ -11,7 +11,7 @@ use Rattle.proc_table.specs.declared.State.TheVariants.{Run}
 use Rattle.lwp_table.specs.declared.LwpData.{LwpData}
 use Rattle.proc_table.specs.Processes.{is_live, process_of, is_this, reporting}
 use Rattle.proc_table.specs.Rows.{Rows, is_numbered, change}
-use Rattle.trace_stop.specs.Post.{settled_process, settled_lwp, settle, continues, posted_set, posted_process, posted_lwp, notified, told, posted}
+use Rattle.trace_stop.specs.Post.{settled_process, settled_lwp, settle, continues, posted_set, posted_process, posted_lwp, notified, notifies, posted}
 use Rattle.trace_stop.specs.Detach.{running, reported, run_on, resumed, untraced, untraced_lwp, detached}
 use Rattle.user_rows.specs.Closed.{Mine, GoodProc, GoodLwp}
 use Rattle.trace_stop.proofs.Every.{choose}
@@ -56,16 +56,16 @@ notified_same s ns all = change_same s (λ p. list_any (λ n. n == p.pid) ns) (p
     (λ p good ne. not_among p.pid ns all (not_one p good) (λ e. ne (sym good.block ∙ e)))
     (λ p good is e. posted_stays SIGCHLD None p good) (λ p l good well. (refl, record { block = well.block; waits = well.waits }))
 
-told_mine : (u sig : ℕ) (o : Option ProcData) → IfSome o (λ p. GoodProc p × (p.uid ≡ u)) → Mines u (told sig o)
-told_mine u sig None g = tt
-told_mine u sig (Some p) g = choose (continues sig p) (p.parent ∷ []) [] (Mines u) (λ e. (λ ne. g.0.parent ne ∙ g.1, tt)) (λ e. tt)
+notifies_mine : (u sig : ℕ) (o : Option ProcData) → IfSome o (λ p. GoodProc p × (p.uid ≡ u)) → Mines u (notifies sig o)
+notifies_mine u sig None g = tt
+notifies_mine u sig (Some p) g = choose (continues sig p) (p.parent ∷ []) [] (Mines u) (λ e. (λ ne. g.0.parent ne ∙ g.1, tt)) (λ e. tt)
 
 pub own_some : {u : ℕ} {start c v : Rows} → Sim u start c v → (n : ℕ) → pid_owner n ≡ u → IfSome (process_of n c.processes) (λ p. GoodProc p × (p.uid ≡ u))
 own_some {u} {start} {c} s n here = at_number c.processes s.kept.closed.processes n (λ o. IfSome o (λ p. GoodProc p × (p.uid ≡ u))) tt (λ p is good at. (good, named here p good at))
 
 pub posted_same : {u : ℕ} {start c v : Rows} → Sim u start c v → (sig : ℕ) (to : Option ℕ) (n : ℕ) → pid_owner n ≡ u → Sim u start (posted sig to n c) (posted sig to n v)
-posted_same {u} {start} {c} {v} s sig to n here = subst (λ o. Sim u start (posted sig to n c) (notified (told sig o) (change (is_numbered n) (posted_process sig to) (posted_lwp sig to) v))) (process_same s n here)
-    (notified_same (change_same s (is_numbered n) (posted_process sig to) (posted_lwp sig to) (is_numbered_foreign n here) (λ p good is e. posted_stays sig to p good) (λ p l good well. (refl, record { block = well.block; waits = well.waits }))) (told sig (process_of n c.processes)) (told_mine u sig (process_of n c.processes) (own_some s n here)))
+posted_same {u} {start} {c} {v} s sig to n here = subst (λ o. Sim u start (posted sig to n c) (notified (notifies sig o) (change (is_numbered n) (posted_process sig to) (posted_lwp sig to) v))) (process_same s n here)
+    (notified_same (change_same s (is_numbered n) (posted_process sig to) (posted_lwp sig to) (is_numbered_foreign n here) (λ p good is e. posted_stays sig to p good) (λ p l good well. (refl, record { block = well.block; waits = well.waits }))) (notifies sig (process_of n c.processes)) (notifies_mine u sig (process_of n c.processes) (own_some s n here)))
 
 -- Running on
 
