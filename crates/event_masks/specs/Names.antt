@@ -1,5 +1,6 @@
 -- The names of flags, with their bits, in the order of printing.
 use Rattle.std.specs.Prelude.{ℕ, ◌==◌, List, [], ◌∷◌, map, filter, codes}
+use Rattle.std.specs.Borrow.{Bor}
 use Rattle.std.specs.Int.RustNames.{bit_and}
 use Rattle.std.specs.List.{join_with_byte}
 
@@ -42,3 +43,7 @@ flag_text table bits = joined 43 (names_of table bits)
 -- PTRACE_SYSCALL stands for the two events of a system call
 abbrev pub syscall_name : List ℕ
 syscall_name = codes "PTRACE_SYSCALL"
+
+-- a name with its bit, as the program has them in a table
+abbrev pub named_bit : Bor (List ℕ) × ℕ → List ℕ × ℕ
+named_bit row = (row.0.now, row.1)

@@ -10,26 +10,26 @@ use Rattle.host_lock.specs.declared.journal.Entry.{Entry}
 use Rattle.host_lock.specs.Views.{Idle, View}
 use Rattle.host_lock.specs.declared.view.Slot.{Slot}
 use Rattle.host_lock.specs.declared.view.Slot.TheVariants.{There, Away}
-use Rattle.host_lock.specs.Kept.{Kept, kept}
+use Rattle.host_lock.specs.History.{History, history}
 use Rattle.host_lock.specs.Journal.{StartsWith}
-use Rattle.host_lock.specs.Rule.{Each, Matches, Closes, posed, both}
+use Rattle.host_lock.specs.Rule.{Each, Matches, Closes, session_view, both}
 use Rattle.host_lock.specs.Sessions.{SessionData, IsBelow, gathered, seen_by, account_of, Stands}
 use Rattle.host_lock.proofs.Totals.{each_append, each_right}
 
-abbrev kept_or : {F : Type 0} → Kept → Slot F → Kept
-kept_or d (There k) = k
-kept_or d (Away u s) = d
+abbrev history_or : {F : Type 0} → History → Slot F → History
+history_or d (There k) = k
+history_or d (Away u s) = d
 
-abbrev pub Known : Machine → ℕ → View → Kept → Type 0
+abbrev pub Known : Machine → ℕ → View → History → Type 0
 Known h n v k = (k.start ≡ h) × Each (StartsWith k.log) v.seen × Each (Matches n k.log) v.owns × Each (IsBelow n) k.log
 
-pub closes_with : {F : Type 0} (h : Machine) (n : ℕ) (v : View) (xs : List (Slot F)) (k : Kept) → Closes h n v xs → get_elem? xs 0 ≡ some (There k) → Known h n v k
+pub closes_with : {F : Type 0} (h : Machine) (n : ℕ) (v : View) (xs : List (Slot F)) (k : History) → Closes h n v xs → get_elem? xs 0 ≡ some (There k) → Known h n v k
 closes_with h n v xs k c e =
-    let is : kept h c.0 ≡ k = ap (kept_or (kept h [])) (some-injective (There (kept h c.0)) (There k) (sym c.1 ∙ e)) in
+    let is : history h c.0 ≡ k = ap (history_or (history h [])) (some-injective (There (history h c.0)) (There k) (sym c.1 ∙ e)) in
     subst (Known h n v) is (refl, c.3, c.4, c.5)
 
 pub not_away : {F : Type 0} (h : Machine) (n : ℕ) (v : View) (xs : List (Slot F)) (u : ℕ) (s : PlainStep) → Closes h n v xs → get_elem? xs 0 ≡ some (Away u s) → ⊥
-not_away h n v xs u s c e = let is : There (kept h c.0) ≡ Away u s = some-injective (There (kept h c.0)) (Away u s) (sym c.1 ∙ e) in cc
+not_away h n v xs u s c e = let is : There (history h c.0) ≡ Away u s = some-injective (There (history h c.0)) (Away u s) (sym c.1 ∙ e) in cc
 
 pub pops : (P : SessionData → Type 0) (all rem rem' order : List SessionData) (s : SessionData) → Each P all → all ≡ rem ++ reverse order → rem ≡ rem' ++ s ∷ [] → P s × (all ≡ rem' ++ reverse (order ++ s ∷ []))
 pops P all rem rem' order s each is was =
@@ -38,7 +38,7 @@ pops P all rem rem' order s each is was =
       now ∙ ap (λ (l : List SessionData). rem' ++ l) (sym (reverse-append order (s ∷ []))),
     )
 
-pub joined : (h : Machine) (order : List SessionData) (s : SessionData) (b c : ℕ) → both (gathered h order b) (posed h Idle c s.seen s.number s.mine) ≡ gathered h (order ++ s ∷ []) (b + c)
+pub joined : (h : Machine) (order : List SessionData) (s : SessionData) (b c : ℕ) → both (gathered h order b) (session_view h Idle c s.seen s.number s.mine) ≡ gathered h (order ++ s ∷ []) (b + c)
 joined h order s b c =
     λ j. record {
       start = Some h;

@@ -10,92 +10,93 @@ use Rattle.host_lock.specs.declared.journal.Entry.{Entry}
 use Rattle.host_lock.specs.Views.{Stage, Idle, Waiting, Holding, Counted, View}
 use Rattle.host_lock.specs.declared.view.Slot.{Slot}
 use Rattle.host_lock.specs.declared.view.Slot.TheVariants.{There, Away}
-use Rattle.host_lock.specs.Kept.{Kept, kept}
+use Rattle.host_lock.specs.History.{History, history}
 use Rattle.host_lock.specs.Journal.{replay, IsLegal, entries_of, StartsWith, entry}
-use Rattle.host_lock.specs.Rule.{M, nobody, has_slot, posed, drawn, start_of, seen_of, mine_of, TakesSlot, HasCounted, HasTurned, IsOut, IsAtRest, most_calls, view_in}
+use Rattle.host_lock.specs.Rule.{M, nobody, has_slot, session_view, drawn, start_of, seen_of, mine_of, TakesSlot, HasCounted, HasTurned, IsOut, IsAtRest, view_in}
+use Rattle.host_lock.specs.Limits.{most_calls}
 use Rattle.host_lock.proofs.Logs.{entries_mine}
 
 module _ {F : Type 0} where
   abbrev pub IsIdle : ℕ → (M F) → Type 0
-  IsIdle number m = m ≡ (posed (start_of m.0) Idle m.0.budget (seen_of m.0) number (mine_of m.0), [])
+  IsIdle number m = m ≡ (session_view (start_of m.0) Idle m.0.budget (seen_of m.0) number (mine_of m.0), [])
 
   abbrev slot_in : List (ℕ × (Slot F)) → (Slot F)
   slot_in [] = Away 0 Rattle.requests.specs.declared.step.Step.TheVariants.Spawn
   slot_in (x ∷ xs) = x.1
 
-  abbrev kept_in : (Slot F) → Kept
-  kept_in (There k) = k
-  kept_in (Away u s) = kept nobody []
+  abbrev history_in : (Slot F) → History
+  history_in (There k) = k
+  history_in (Away u s) = history nobody []
 
   -- what is known of the host that was taken out
-  abbrev pub IsFound : (M F) → ℕ → ℕ → ℕ → PlainStep → Kept → (M F) → Type 0
-  IsFound m u number ticket s home m' =
-      (start_of m.0 ≡ home.start) × StartsWith home.log (seen_of m.0) × (entries_of number home.log ≡ mine_of m.0)
-      × (m' ≡ (posed home.start (Holding ticket) (m.0.budget - 1) home.log number (mine_of m.0), (0, Away u s) ∷ []))
+  abbrev pub IsFound : (M F) → ℕ → ℕ → ℕ → PlainStep → History → (M F) → Type 0
+  IsFound m u number ticket s state m' =
+      (start_of m.0 ≡ state.start) × StartsWith state.log (seen_of m.0) × (entries_of number state.log ≡ mine_of m.0)
+      × (m' ≡ (session_view state.start (Holding ticket) (m.0.budget - 1) state.log number (mine_of m.0), (0, Away u s) ∷ []))
 
-  pub finds : (m₀ m₁ m₂ m₃ : (M F)) (u number ticket : ℕ) (s : PlainStep) (home : Kept) (result : (Slot F)) → IsIdle number m₀ → m₁ ≡ (drawn m₀.0 ticket, m₀.1) → TakesSlot m₁.0 number ticket m₂ → m₂.1 ≡ (0, result) ∷ rest m₂.1
-      → result ≡ There home → m₃ ≡ (m₂.0, (0, Away u s) ∷ rest m₂.1) → IsFound m₀ u number ticket s home m₃
-  finds m₀ m₁ m₂ m₃ u number ticket s home result e₀ e₁ t is₂ is e₃ =
+  pub finds : (m₀ m₁ m₂ m₃ : (M F)) (u number ticket : ℕ) (s : PlainStep) (state : History) (result : (Slot F)) → IsIdle number m₀ → m₁ ≡ (drawn m₀.0 ticket, m₀.1) → TakesSlot m₁.0 number ticket m₂ → m₂.1 ≡ (0, result) ∷ rest m₂.1
+      → result ≡ There state → m₃ ≡ (m₂.0, (0, Away u s) ∷ rest m₂.1) → IsFound m₀ u number ticket s state m₃
+  finds m₀ m₁ m₂ m₃ u number ticket s state result e₀ e₁ t is₂ is e₃ =
       let h : Machine = start_of m₀.0 in
       let mine : List Entry = mine_of m₀.0 in
-      let now : m₁ ≡ (posed h (Waiting ticket) (m₀.0.budget - 1) (seen_of m₀.0) number mine, []) = e₁ ∙ ap (λ (m : (M F)). (drawn m.0 ticket, m.1)) e₀ in
-      let t' : TakesSlot (posed h (Waiting ticket) (m₀.0.budget - 1) (seen_of m₀.0) number mine) number ticket m₂ = subst (λ (m : (M F)). TakesSlot m.0 number ticket m₂) now t in
+      let now : m₁ ≡ (session_view h (Waiting ticket) (m₀.0.budget - 1) (seen_of m₀.0) number mine, []) = e₁ ∙ ap (λ (m : (M F)). (drawn m.0 ticket, m.1)) e₀ in
+      let t' : TakesSlot (session_view h (Waiting ticket) (m₀.0.budget - 1) (seen_of m₀.0) number mine) number ticket m₂ = subst (λ (m : (M F)). TakesSlot m.0 number ticket m₂) now t in
       let log : List Entry = t'.0 in
-      let held : m₂.1 ≡ (0, There (kept h log)) ∷ [] = ap (λ (m : (M F)). m.1) t'.1 in
-      let home_is : kept h log ≡ home = ap (λ (l : List (ℕ × (Slot F))). kept_in (slot_in l)) (sym held ∙ is₂) ∙ ap kept_in is in
-      let P : Kept → Type 0 = λ k. IsFound m₀ u number ticket s k m₃ in
+      let held : m₂.1 ≡ (0, There (history h log)) ∷ [] = ap (λ (m : (M F)). m.1) t'.1 in
+      let home_is : history h log ≡ state = ap (λ (l : List (ℕ × (Slot F))). history_in (slot_in l)) (sym held ∙ is₂) ∙ ap history_in is in
+      let P : History → Type 0 = λ k. IsFound m₀ u number ticket s k m₃ in
       subst P home_is (refl, t'.2, t'.3, e₃ ∙ ap (λ (m : (M F)). (m.0, (0, Away u s) ∷ rest m.1)) t'.1)
 
-  pub is_out : (number : ℕ) (m : (M F)) (k k' : Kept) (g : Stage) (x : (Slot F)) (b : ℕ) (mine : List Entry) → has_slot g ≡ 1 → m ≡ (posed k.start g b k.log number mine, (0, x) ∷ []) → k' ≡ k → IsOut number k' m
+  pub is_out : (number : ℕ) (m : (M F)) (k k' : History) (g : Stage) (x : (Slot F)) (b : ℕ) (mine : List Entry) → has_slot g ≡ 1 → m ≡ (session_view k.start g b k.log number mine, (0, x) ∷ []) → k' ≡ k → IsOut number k' m
   is_out number m k k' g x b mine out e is =
-      subst (λ (z : Kept). IsOut number z m) (sym is) (g, x, out, e ∙ ap (λ (z : (M F)). (posed k.start g z.0.budget k.log number (mine_of z.0), (0, x) ∷ [])) (sym e))
+      subst (λ (z : History). IsOut number z m) (sym is) (g, x, out, e ∙ ap (λ (z : (M F)). (session_view k.start g z.0.budget k.log number (mine_of z.0), (0, x) ∷ [])) (sym e))
 
-  -- the call is counted, and the home is as long as what is seen
-  pub counts_out : (m₀ m₃ m₄ : (M F)) (u number ticket : ℕ) (s : PlainStep) (home home' : Kept) (r : Reply) → IsFound m₀ u number ticket s home m₃ → HasCounted m₃.0 u number s ticket m₄
-      → r ≡ reply_of u s (replay home.start home.log) → home' ≡ kept home.start (home.log ++ entry u number s r ∷ [])
-      → m₄ ≡ (posed home'.start (Counted ticket) (m₀.0.budget - 1) home'.log number (mine_of m₀.0 ++ entry u number s r ∷ []), (0, Away u s) ∷ [])
-  counts_out m₀ m₃ m₄ u number ticket s home home' r f c reply is =
-      let at : HasCounted (posed home.start (Holding ticket) (m₀.0.budget - 1) home.log number (mine_of m₀.0)) u number s ticket m₄ = subst (λ (m : (M F)). HasCounted m.0 u number s ticket m₄) f.3 c in
-      at ∙ ap (λ (z : Reply). (posed home.start (Counted ticket) (m₀.0.budget - 1) (home.log ++ entry u number s z ∷ []) number (mine_of m₀.0 ++ entry u number s z ∷ []), (0, Away u s) ∷ [])) (sym reply)
-      ∙ ap (λ (k : Kept). (posed k.start (Counted ticket) (m₀.0.budget - 1) k.log number (mine_of m₀.0 ++ entry u number s r ∷ []), (0, Away u s) ∷ [])) (sym is)
+  -- the call is counted, and the state is as long as what is seen
+  pub counts_out : (m₀ m₃ m₄ : (M F)) (u number ticket : ℕ) (s : PlainStep) (state state' : History) (r : Reply) → IsFound m₀ u number ticket s state m₃ → HasCounted m₃.0 u number s ticket m₄
+      → r ≡ reply_of u s (replay state.start state.log) → state' ≡ history state.start (state.log ++ entry u number s r ∷ [])
+      → m₄ ≡ (session_view state'.start (Counted ticket) (m₀.0.budget - 1) state'.log number (mine_of m₀.0 ++ entry u number s r ∷ []), (0, Away u s) ∷ [])
+  counts_out m₀ m₃ m₄ u number ticket s state state' r f c reply is =
+      let at : HasCounted (session_view state.start (Holding ticket) (m₀.0.budget - 1) state.log number (mine_of m₀.0)) u number s ticket m₄ = subst (λ (m : (M F)). HasCounted m.0 u number s ticket m₄) f.3 c in
+      at ∙ ap (λ (z : Reply). (session_view state.start (Counted ticket) (m₀.0.budget - 1) (state.log ++ entry u number s z ∷ []) number (mine_of m₀.0 ++ entry u number s z ∷ []), (0, Away u s) ∷ [])) (sym reply)
+      ∙ ap (λ (k : History). (session_view k.start (Counted ticket) (m₀.0.budget - 1) k.log number (mine_of m₀.0 ++ entry u number s r ∷ []), (0, Away u s) ∷ [])) (sym is)
 
-  pub turned_none : (m₀ m₃ m₅ : (M F)) (u number ticket : ℕ) (s : PlainStep) (home home' : Kept) (r : Reply) → IsFound m₀ u number ticket s home m₃ → is_memory r ≡ true → IsLegal home'.start home'.log → home' ≡ home
-      → m₅ ≡ (posed home'.start Idle m₃.0.budget home'.log number (mine_of m₃.0), []) → HasTurned m₀.0 u number s r m₅
-  turned_none m₀ m₃ m₅ u number ticket s home home' r f memory legal same e =
-      let P : Kept → Type 0 = λ k. IsLegal k.start k.log × (m₅ ≡ (posed k.start Idle m₃.0.budget k.log number (mine_of m₃.0), [])) in
-      let got : P home = subst P same (legal, e) in
-      let Q : Machine → Type 0 = λ h. IsLegal h home.log × (m₅ ≡ (posed h Idle (m₀.0.budget - 1) home.log number (mine_of m₀.0), [])) in
-      let R : Bool → Type 0 = λ b. MatchBool b (IsLegal (start_of m₀.0) home.log × (m₅ ≡ (posed (start_of m₀.0) Idle (m₀.0.budget - 1) home.log number (mine_of m₀.0), [])))
-      (IsLegal (start_of m₀.0) (home.log ++ entry u number s r ∷ []) × (m₅ ≡ (posed (start_of m₀.0) Idle (m₀.0.budget - 1) (home.log ++ entry u number s r ∷ []) number (mine_of m₀.0 ++ entry u number s r ∷ []), []))) in (
-        home.log,
+  pub turned_none : (m₀ m₃ m₅ : (M F)) (u number ticket : ℕ) (s : PlainStep) (state state' : History) (r : Reply) → IsFound m₀ u number ticket s state m₃ → is_memory r ≡ true → IsLegal state'.start state'.log → state' ≡ state
+      → m₅ ≡ (session_view state'.start Idle m₃.0.budget state'.log number (mine_of m₃.0), []) → HasTurned m₀.0 u number s r m₅
+  turned_none m₀ m₃ m₅ u number ticket s state state' r f memory legal same e =
+      let P : History → Type 0 = λ k. IsLegal k.start k.log × (m₅ ≡ (session_view k.start Idle m₃.0.budget k.log number (mine_of m₃.0), [])) in
+      let got : P state = subst P same (legal, e) in
+      let Q : Machine → Type 0 = λ h. IsLegal h state.log × (m₅ ≡ (session_view h Idle (m₀.0.budget - 1) state.log number (mine_of m₀.0), [])) in
+      let R : Bool → Type 0 = λ b. MatchBool b (IsLegal (start_of m₀.0) state.log × (m₅ ≡ (session_view (start_of m₀.0) Idle (m₀.0.budget - 1) state.log number (mine_of m₀.0), [])))
+      (IsLegal (start_of m₀.0) (state.log ++ entry u number s r ∷ []) × (m₅ ≡ (session_view (start_of m₀.0) Idle (m₀.0.budget - 1) (state.log ++ entry u number s r ∷ []) number (mine_of m₀.0 ++ entry u number s r ∷ []), []))) in (
+        state.log,
         f.1,
         f.2,
-        subst R (sym memory) (subst Q (sym f.0) (got.0, got.1 ∙ ap (λ (m : (M F)). (posed home.start Idle m.0.budget home.log number (mine_of m.0), [])) f.3)),
+        subst R (sym memory) (subst Q (sym f.0) (got.0, got.1 ∙ ap (λ (m : (M F)). (session_view state.start Idle m.0.budget state.log number (mine_of m.0), [])) f.3)),
       )
 
-  pub turned_one : (m₀ m₃ m₄ m₅ : (M F)) (u number ticket : ℕ) (s : PlainStep) (home home' : Kept) (r : Reply) → IsFound m₀ u number ticket s home m₃ → is_memory r ≡ false → IsLegal home'.start home'.log
-      → home' ≡ kept home.start (home.log ++ entry u number s r ∷ [])
-      → m₄ ≡ (posed home'.start (Counted ticket) (m₀.0.budget - 1) home'.log number (mine_of m₀.0 ++ entry u number s r ∷ []), (0, Away u s) ∷ [])
-      → m₅ ≡ (posed home'.start Idle m₄.0.budget home'.log number (mine_of m₄.0), []) → HasTurned m₀.0 u number s r m₅
-  turned_one m₀ m₃ m₄ m₅ u number ticket s home home' r f memory legal is at e =
-      let P : Kept → Type 0 = λ k. IsLegal k.start k.log × (m₅ ≡ (posed k.start Idle (m₀.0.budget - 1) k.log number (mine_of m₀.0 ++ entry u number s r ∷ []), [])) in
-      let got = subst P is (legal, e ∙ ap (λ (m : (M F)). (posed home'.start Idle m.0.budget home'.log number (mine_of m.0), [])) at) in
-      let Q : Machine → Type 0 = λ h. IsLegal h (home.log ++ entry u number s r ∷ []) × (m₅ ≡ (posed h Idle (m₀.0.budget - 1) (home.log ++ entry u number s r ∷ []) number (mine_of m₀.0 ++ entry u number s r ∷ []), [])) in
-      let R : Bool → Type 0 = λ b. MatchBool b (IsLegal (start_of m₀.0) home.log × (m₅ ≡ (posed (start_of m₀.0) Idle (m₀.0.budget - 1) home.log number (mine_of m₀.0), [])))
-      (IsLegal (start_of m₀.0) (home.log ++ entry u number s r ∷ []) × (m₅ ≡ (posed (start_of m₀.0) Idle (m₀.0.budget - 1) (home.log ++ entry u number s r ∷ []) number (mine_of m₀.0 ++ entry u number s r ∷ []), []))) in
-      (home.log, f.1, f.2, subst R (sym memory) (subst Q (sym f.0) got))
+  pub turned_one : (m₀ m₃ m₄ m₅ : (M F)) (u number ticket : ℕ) (s : PlainStep) (state state' : History) (r : Reply) → IsFound m₀ u number ticket s state m₃ → is_memory r ≡ false → IsLegal state'.start state'.log
+      → state' ≡ history state.start (state.log ++ entry u number s r ∷ [])
+      → m₄ ≡ (session_view state'.start (Counted ticket) (m₀.0.budget - 1) state'.log number (mine_of m₀.0 ++ entry u number s r ∷ []), (0, Away u s) ∷ [])
+      → m₅ ≡ (session_view state'.start Idle m₄.0.budget state'.log number (mine_of m₄.0), []) → HasTurned m₀.0 u number s r m₅
+  turned_one m₀ m₃ m₄ m₅ u number ticket s state state' r f memory legal is at e =
+      let P : History → Type 0 = λ k. IsLegal k.start k.log × (m₅ ≡ (session_view k.start Idle (m₀.0.budget - 1) k.log number (mine_of m₀.0 ++ entry u number s r ∷ []), [])) in
+      let got = subst P is (legal, e ∙ ap (λ (m : (M F)). (session_view state'.start Idle m.0.budget state'.log number (mine_of m.0), [])) at) in
+      let Q : Machine → Type 0 = λ h. IsLegal h (state.log ++ entry u number s r ∷ []) × (m₅ ≡ (session_view h Idle (m₀.0.budget - 1) (state.log ++ entry u number s r ∷ []) number (mine_of m₀.0 ++ entry u number s r ∷ []), [])) in
+      let R : Bool → Type 0 = λ b. MatchBool b (IsLegal (start_of m₀.0) state.log × (m₅ ≡ (session_view (start_of m₀.0) Idle (m₀.0.budget - 1) state.log number (mine_of m₀.0), [])))
+      (IsLegal (start_of m₀.0) (state.log ++ entry u number s r ∷ []) × (m₅ ≡ (session_view (start_of m₀.0) Idle (m₀.0.budget - 1) (state.log ++ entry u number s r ∷ []) number (mine_of m₀.0 ++ entry u number s r ∷ []), []))) in
+      (state.log, f.1, f.2, subst R (sym memory) (subst Q (sym f.0) got))
 
 -- what a session's type keeps
 abbrev pub IsSettled : ℕ → ℕ → View → Type 0
 IsSettled number calls v = IsAtRest number calls v × IsLegal (start_of v) (seen_of v) × (entries_of number (seen_of v) ≡ mine_of v)
 
-settled : (h : Machine) (b number calls : ℕ) (log mine : List Entry) (v : View) → b ≡ most_calls - calls → IsLegal h log → entries_of number log ≡ mine → v ≡ posed h Idle b log number mine → IsSettled number calls v
-settled h b number calls log mine v is legal same e = subst (IsSettled number calls) (sym e) (ap (λ (z : ℕ). posed h Idle z log number mine) is, legal, same)
+settled : (h : Machine) (b number calls : ℕ) (log mine : List Entry) (v : View) → b ≡ most_calls - calls → IsLegal h log → entries_of number log ≡ mine → v ≡ session_view h Idle b log number mine → IsSettled number calls v
+settled h b number calls log mine v is legal same e = subst (IsSettled number calls) (sym e) (ap (λ (z : ℕ). session_view h Idle z log number mine) is, legal, same)
 
 module _ {F : Type 0} where
   settles_by : (h : Machine) (b number calls u : ℕ) (s : PlainStep) (r : Reply) (log mine : List Entry) (m : M F) → b ≡ most_calls - calls → entries_of number log ≡ mine → (c : Bool)
-      → MatchBool c (IsLegal h log × (m ≡ (posed h Idle b log number mine, [])))
-      (IsLegal h (log ++ entry u number s r ∷ []) × (m ≡ (posed h Idle b (log ++ entry u number s r ∷ []) number (mine ++ entry u number s r ∷ []), [])))
+      → MatchBool c (IsLegal h log × (m ≡ (session_view h Idle b log number mine, [])))
+      (IsLegal h (log ++ entry u number s r ∷ []) × (m ≡ (session_view h Idle b (log ++ entry u number s r ∷ []) number (mine ++ entry u number s r ∷ []), [])))
       → IsSettled number calls m.0
   settles_by h b number calls u s r log mine m is same true t = settled h b number calls log mine m.0 is t.0 same (ap (λ (z : M F). z.0) t.1)
   settles_by h b number calls u s r log mine m is same false t =

@@ -27,9 +27,6 @@ asked_more log e = map-append asked_one log (e ∷ [])
 pub replay_more : (m : Machine) (log : List Entry) (e : Entry) → replay m (log ++ e ∷ []) ≡ host_after e.uid e.step (replay m log)
 replay_more m log e = ap (λ (l : List Asked). last l m) (asked_more log e) ∙ last_more m (asked log) (asked_one e)
 
-pub legal_none : (m : Machine) → IsLegal m []
-legal_none m = record { replies_given = refl }
-
 pub legal_more : (m : Machine) (log : List Entry) (e : Entry) → IsLegal m log → e.reply ≡ reply_of e.uid e.step (replay m log) → IsLegal m (log ++ e ∷ [])
 legal_more m log e legal is = record {
   replies_given =

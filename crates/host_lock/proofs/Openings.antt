@@ -4,35 +4,36 @@ use Rattle.atomic_table.specs.Table.{Splits}
 use Rattle.atomic_table.specs.Seated.{TableId}
 use Rattle.requests.specs.Machine.{Machine}
 use Rattle.host_lock.specs.Views.{Idle, View}
-use Rattle.host_lock.specs.Rule.{IsKept, spare, posed, cut_left, cut_right, most_calls}
-use Rattle.host_lock.specs.Sessions.{SessionData, newborn, newborns}
+use Rattle.host_lock.specs.Rule.{IsKept, fresh_view, session_view, split_left, split_right}
+use Rattle.host_lock.specs.Limits.{most_calls}
+use Rattle.host_lock.specs.Sessions.{SessionData, new_session, new_sessions}
 use Rattle.host_lock.proofs.Turns.{splits}
 
-pub newborns_at : (us : List ℕ) (i : ℕ) (z : TableId) (h : Machine) → i < length us → newborns i z h (drop i us) ≡ newborn (get_or us i 0) i z h ∷ newborns (i + 1) z h (drop (i + 1) us)
-newborns_at us i z h lt =
+pub new_sessions_at : (us : List ℕ) (i : ℕ) (z : TableId) (h : Machine) → i < length us → new_sessions i z h (drop i us) ≡ new_session (get_or us i 0) i z h ∷ new_sessions (i + 1) z h (drop (i + 1) us)
+new_sessions_at us i z h lt =
     let e : drop i us ≡ get_or us i 0 ∷ drop (i + 1) us = rw (add-one) (drop-cons us i 0 lt) in
-    ap (newborns i z h) e
+    ap (new_sessions i z h) e
 
-pub one_more : (us : List ℕ) (i : ℕ) (z : TableId) (h : Machine) (xs ys : List SessionData) → i < length us → xs ++ newborns i z h (drop i us) ≡ newborns 0 z h us → ys ≡ xs ++ newborn (get_or us i 0) i z h ∷ []
-    → ys ++ newborns (i + 1) z h (drop (i + 1) us) ≡ newborns 0 z h us
+pub one_more : (us : List ℕ) (i : ℕ) (z : TableId) (h : Machine) (xs ys : List SessionData) → i < length us → xs ++ new_sessions i z h (drop i us) ≡ new_sessions 0 z h us → ys ≡ xs ++ new_session (get_or us i 0) i z h ∷ []
+    → ys ++ new_sessions (i + 1) z h (drop (i + 1) us) ≡ new_sessions 0 z h us
 one_more us i z h xs ys lt all is =
-    ap (λ (l : List SessionData). l ++ newborns (i + 1) z h (drop (i + 1) us)) is ∙ append_assoc xs (newborn (get_or us i 0) i z h ∷ []) (newborns (i + 1) z h (drop (i + 1) us))
-    ∙ ap (λ (l : List SessionData). xs ++ l) (sym (newborns_at us i z h lt)) ∙ all
+    ap (λ (l : List SessionData). l ++ new_sessions (i + 1) z h (drop (i + 1) us)) is ∙ append_assoc xs (new_session (get_or us i 0) i z h ∷ []) (new_sessions (i + 1) z h (drop (i + 1) us))
+    ∙ ap (λ (l : List SessionData). xs ++ l) (sym (new_sessions_at us i z h lt)) ∙ all
 
-cut_left_is : (h : Machine) (i k : ℕ) → cut_left (spare h i (suc k)) ≡ spare h (i + 1) k
-cut_left_is h i k = let e : suc k * most_calls - most_calls ≡ k * most_calls = omega arith in ap (λ (b : ℕ). record (spare h (i + 1) k) { budget = b }) e
+split_left_is : (h : Machine) (i k : ℕ) → split_left (fresh_view h i (suc k)) ≡ fresh_view h (i + 1) k
+split_left_is h i k = let e : suc k * most_calls - most_calls ≡ k * most_calls = omega arith in ap (λ (b : ℕ). record (fresh_view h (i + 1) k) { budget = b }) e
 
 -- a seat that stands for k sessions from i on gives one away
-pub cuts : (F : Type 0) (h r : Machine) (n id i k : ℕ) (v : View) → 0 < k → v ≡ spare r i k → Splits (IsKept {F = F} h n) id v (cut_left v) (cut_right v)
-cuts F h r n id i zero v some e = absurd (omega arith)
-cuts F h r n id i (suc k) v some e =
-    let P : View → Type 0 = λ z. Splits (IsKept {F = F} h n) id z (cut_left z) (cut_right z) in
-    subst P (sym e) (subst (λ (z : View). Splits (IsKept {F = F} h n) id (spare r i (suc k)) z (posed r Idle most_calls [] i [])) (sym (cut_left_is r i k)) (splits h n r id i k))
+pub splits_one : (F : Type 0) (h r : Machine) (n id i k : ℕ) (v : View) → 0 < k → v ≡ fresh_view r i k → Splits (IsKept {F = F} h n) id v (split_left v) (split_right v)
+splits_one F h r n id i zero v some e = absurd (omega arith)
+splits_one F h r n id i (suc k) v some e =
+    let P : View → Type 0 = λ z. Splits (IsKept {F = F} h n) id z (split_left z) (split_right z) in
+    subst P (sym e) (subst (λ (z : View). Splits (IsKept {F = F} h n) id (fresh_view r i (suc k)) z (session_view r Idle most_calls [] i [])) (sym (split_left_is r i k)) (splits h n r id i k))
 
-pub left_is : (r : Machine) (i k : ℕ) (v w : View) → 0 < k → v ≡ spare r i k → w ≡ cut_left v → w ≡ spare r (i + 1) (k - 1)
+pub left_is : (r : Machine) (i k : ℕ) (v w : View) → 0 < k → v ≡ fresh_view r i k → w ≡ split_left v → w ≡ fresh_view r (i + 1) (k - 1)
 left_is r i zero v w some e is = absurd (omega arith)
-left_is r i (suc k) v w some e is = let z : suc k - 1 ≡ k = omega arith in is ∙ ap cut_left e ∙ cut_left_is r i k ∙ ap (spare r (i + 1)) (sym z)
+left_is r i (suc k) v w some e is = let z : suc k - 1 ≡ k = omega arith in is ∙ ap split_left e ∙ split_left_is r i k ∙ ap (fresh_view r (i + 1)) (sym z)
 
-pub right_is : (r : Machine) (i k : ℕ) (v w : View) → 0 < k → v ≡ spare r i k → w ≡ cut_right v → w ≡ posed r Idle most_calls [] i []
+pub right_is : (r : Machine) (i k : ℕ) (v w : View) → 0 < k → v ≡ fresh_view r i k → w ≡ split_right v → w ≡ session_view r Idle most_calls [] i []
 right_is r i zero v w some e is = absurd (omega arith)
-right_is r i (suc k) v w some e is = is ∙ ap cut_right e
+right_is r i (suc k) v w some e is = is ∙ ap split_right e

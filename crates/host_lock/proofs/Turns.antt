@@ -14,9 +14,10 @@ use Rattle.host_lock.specs.declared.journal.Entry.{Entry}
 use Rattle.host_lock.specs.Views.{Stage, Idle, Waiting, Holding, Counted, Account, View, spent}
 use Rattle.host_lock.specs.declared.view.Slot.{Slot}
 use Rattle.host_lock.specs.declared.view.Slot.TheVariants.{There, Away}
-use Rattle.host_lock.specs.Kept.{Kept, kept}
+use Rattle.host_lock.specs.History.{History, history}
 use Rattle.host_lock.specs.Journal.{StartsWith, next_entry}
-use Rattle.host_lock.specs.Rule.{M, most_calls, total, Each, once, has_ticket, has_slot, owes, times, Matches, AtTurn, Fits, ticket_of, slot_of, number_of, parts_of, budget_of, calls_of, AtHome, IsKept, drawn, taken, drew, Takes, turned, first_seen, ticket_in, counted, released, fresh, spare, opening_view, both, posed, Closes, Tells, start_of, seen_of, mine_of, TakesSlot}
+use Rattle.host_lock.specs.Rule.{M, total, Each, once, has_ticket, has_slot, owes, times, Matches, AtTurn, Fits, ticket_of, slot_of, number_of, parts_of, budget_of, calls_of, InSlot, IsKept, drawn, taken, drew, Takes, turned, first_seen, ticket_in, counted, released, fresh, fresh_view, opening_view, both, session_view, Closes, Tells, start_of, seen_of, mine_of, TakesSlot}
+use Rattle.host_lock.specs.Limits.{most_sessions, most_calls}
 use Rattle.host_lock.proofs.Logs.{entries_mine, entries_other, starts_longer}
 use Rattle.host_lock.proofs.Totals.{once_same, once_else, total_set, total_snoc, total_one, total_two, total_find, seats_set, seats_snoc, each_map, each_append}
 
@@ -24,7 +25,7 @@ total_same : (f : View → ℕ) (l : List View) (i : ℕ) (v w : View) → get_e
 total_same f l i v w e is = let s = total_set f l i v w e in omega arith
 
 -- the next number of a word, which does not wrap
-no_wrap : (x : ℕ) → x < 274877906944 → (x + 1) % 18446744073709551616 ≡ x + 1
+no_wrap : (x : ℕ) → x < most_sessions * most_calls → (x + 1) % 18446744073709551616 ≡ x + 1
 no_wrap x small = let lt : x + 1 < 18446744073709551616 = omega arith in mod-eq_of_lt lt
 
 holder_ticket : (serving : ℕ) (log : List Entry) (g : Stage) (seen : List (List Entry)) → has_slot g ≡ 1 → AtTurn serving log g seen → (t : ℕ) → has_ticket t g ≡ once serving t
@@ -84,11 +85,11 @@ module _ {F : Type 0} where
     abbrev Rule : State (Slot F) View → Type 0
     Rule = IsKept h n
 
-    home_same : (log : List Entry) (views : List View) (homes : List (maybe.Option (Slot F))) (id : ℕ) (v w : View) → get_elem? views id ≡ some v → slot_of w ≡ slot_of v → AtHome h log views homes
-        → AtHome h log (set views id w) homes
-    home_same log views homes id v w at is home =
+    slot_same : (log : List Entry) (views : List View) (homes : List (maybe.Option (Slot F))) (id : ℕ) (v w : View) → get_elem? views id ≡ some v → slot_of w ≡ slot_of v → InSlot h log views homes
+        → InSlot h log (set views id w) homes
+    slot_same log views homes id v w at is slot =
         let same = total_same slot_of views id v w at is in
-        ⊎_elim (λ (t : (total slot_of views ≡ 0) × (homes ≡ some (There (kept h log)) ∷ [])). inl (same ∙ t.0, t.1)) (λ (t : (total slot_of views ≡ 1) × (homes ≡ none ∷ [])). inr (same ∙ t.0, t.1)) home
+        ⊎_elim (λ (t : (total slot_of views ≡ 0) × (homes ≡ some (There (history h log)) ∷ [])). inl (same ∙ t.0, t.1)) (λ (t : (total slot_of views ≡ 1) × (homes ≡ none ∷ [])). inr (same ∙ t.0, t.1)) slot
 
     pub draws : (slots id : ℕ) (m : (M F)) → m.0.stage ≡ Idle → 0 < m.0.budget → Allows Rule slots id m 1 (λ x. (x + 1) % 2 ^ 64) (drew (step slots 1 1 0 none) m)
     draws slots id m idle room s r _ at _ =
@@ -113,7 +114,7 @@ module _ {F : Type 0} where
             log = r.log;
             words = ap (λ (x : ℕ). r.serving ∷ x ∷ length r.log ∷ []) (no_wrap r.ticket (let k = r.tickets_left in let one = total_one budget_of s.views id v at in omega arith));
             seats = seats_set (Fits h n r.serving r.log) (Fits h n r.serving r.log) s.views id w (record { start_is = f.start_is; seen_is = f.seen_is; owns_is = f.owns_is; turn_is = tt; works = omega arith }) (λ j d _ _ k. k) r.seats;
-            home = home_same r.log s.views s.homes id v w at (sym (ap has_slot idle)) r.home;
+            slot = slot_same r.log s.views s.homes id v w at (sym (ap has_slot idle)) r.slot;
             numbers = λ k. let e = total_same (number_of k) s.views id v w at refl in let o = r.numbers k in omega arith;
             parts = total_same parts_of s.views id v w at refl ∙ r.parts;
             given = r.given;
@@ -133,11 +134,11 @@ module _ {F : Type 0} where
         dite (dec_le r.serving t) (λ lo. dite (dec_le r.ticket t) (λ hi. let z = r.later t hi in omega arith) (λ hi. let z = r.out t lo (omega arith) in omega arith))
         (λ lo. let z = r.past t (omega arith) in omega arith)
 
-    -- where a waiting seat's ticket is served, the slot is at home
-    is_home : (s : State (Slot F) View) (r : Rule s) (id : ℕ) (v : View) → get_elem? s.views id ≡ some v → v.stage ≡ Waiting r.serving
-        → (total slot_of s.views ≡ 0) × (s.homes ≡ some (There (kept h r.log)) ∷ [])
-    is_home s r id v at waits =
-        ⊎_elim (λ (t : (total slot_of s.views ≡ 0) × (s.homes ≡ some (There (kept h r.log)) ∷ [])). t)
+    -- where a waiting seat's ticket is served, the slot is at slot
+    is_in_slot : (s : State (Slot F) View) (r : Rule s) (id : ℕ) (v : View) → get_elem? s.views id ≡ some v → v.stage ≡ Waiting r.serving
+        → (total slot_of s.views ≡ 0) × (s.homes ≡ some (There (history h r.log)) ∷ [])
+    is_in_slot s r id v at waits =
+        ⊎_elim (λ (t : (total slot_of s.views ≡ 0) × (s.homes ≡ some (There (history h r.log)) ∷ [])). t)
         (λ (t : (total slot_of s.views ≡ 1) × (s.homes ≡ none ∷ [])).
         let found = total_find slot_of s.views t.0 in
         let d : View = found.1 in
@@ -149,7 +150,7 @@ module _ {F : Type 0} where
         let two = total_two (ticket_of r.serving) s.views id found.0 v d other at found.2 in
         let most = at_most_one s r r.serving in
         absurd (omega arith))
-        r.home
+        r.slot
 
     pub turns : (slots id : ℕ) (m : (M F)) (t : ℕ) → m.0.stage ≡ Waiting t → 0 < length m.0.owns → Allows Rule slots id m 0 (λ x. x) (turned (step slots 0 0 0 none) m)
     turns slots id m t waits some_part s r _ at _ =
@@ -161,17 +162,17 @@ module _ {F : Type 0} where
         subst P (sym r.words) (dite (ℕ_discrete r.serving t)
         (λ hit.
         let waits' : v.stage ≡ Waiting r.serving = waits ∙ ap Waiting (sym hit) in
-        let home = is_home s r id v at waits' in
+        let slot = is_in_slot s r id v at waits' in
         let w : View = taken v t r.log in
         let had : has_slot v.stage ≡ 0 = ap has_slot waits in
         let owed : owes v.stage ≡ 1 = ap owes waits in
         let slots_now = total_set slot_of s.views id v w at in
-        let y = home.0 in
+        let y = slot.0 in
         let calls = total_set calls_of s.views id v w at in
         let tickets : (q : ℕ) → total (ticket_of q) (set s.views id w) ≡ total (ticket_of q) s.views = λ q. total_same (ticket_of q) s.views id v w at (sym (ap (has_ticket q) waits)) in (
           w,
-          takes 0 (There (kept h r.log)),
-          ap (λ (hs : List (maybe.Option (Slot F))). get_elem? hs 0) home.1,
+          takes 0 (There (history h r.log)),
+          ap (λ (hs : List (maybe.Option (Slot F))). get_elem? hs 0) slot.1,
           record {
             serving = r.serving;
             ticket = r.ticket;
@@ -179,7 +180,7 @@ module _ {F : Type 0} where
             words = refl;
             seats = seats_set (Fits h n r.serving r.log) (Fits h n r.serving r.log) s.views id w
                 (record { start_is = f.start_is; seen_is = (([], sym (append-nil r.log)), tt); owns_is = f.owns_is; turn_is = (sym hit, refl); works = omega arith }) (λ j d _ _ k. k) r.seats;
-            home = inr (omega arith, ap (λ (hs : List (maybe.Option (Slot F))). set hs 0 none) home.1);
+            slot = inr (omega arith, ap (λ (hs : List (maybe.Option (Slot F))). set hs 0 none) slot.1);
             numbers = λ k. let e = total_same (number_of k) s.views id v w at refl in let o = r.numbers k in omega arith;
             parts = total_same parts_of s.views id v w at refl ∙ r.parts;
             given = r.given;
@@ -190,8 +191,8 @@ module _ {F : Type 0} where
             tickets_left = let e = total_same budget_of s.views id v w at refl in let k = r.tickets_left in omega arith;
             calls_left = let k = r.calls_left in omega arith;
           },
-          λ t' e. subst (λ b. MatchBool b (Takes m t' (w, (0, There (kept h r.log)) ∷ m.1)) ((w, (0, There (kept h r.log)) ∷ m.1) ≡ m)) (sym (eq-eqb r.serving t' (hit ∙ same_ticket t' e)))
-              (h, r.log, ap (λ (x : ℕ). (taken v x r.log, (0, There (kept h r.log)) ∷ m.1)) (same_ticket t' e), f.start_is, f.seen_is, each_map (Matches n r.log) (Tells r.log) v.owns (λ x k. k.0) f.owns_is),
+          λ t' e. subst (λ b. MatchBool b (Takes m t' (w, (0, There (history h r.log)) ∷ m.1)) ((w, (0, There (history h r.log)) ∷ m.1) ≡ m)) (sym (eq-eqb r.serving t' (hit ∙ same_ticket t' e)))
+              (h, r.log, ap (λ (x : ℕ). (taken v x r.log, (0, There (history h r.log)) ∷ m.1)) (same_ticket t' e), f.start_is, f.seen_is, each_map (Matches n r.log) (Tells r.log) v.owns (λ x k. k.0) f.owns_is),
         ))
         (λ miss. (
           v,
@@ -204,21 +205,21 @@ module _ {F : Type 0} where
     only_holder : (s : State (Slot F) View) (r : Rule s) (id j : ℕ) (v d : View) → id ≢ j → get_elem? s.views id ≡ some v → get_elem? s.views j ≡ some d → has_slot v.stage ≡ 1 → has_slot d.stage ≡ 0
     only_holder s r id j v d ne at at_d out =
         let two = total_two slot_of s.views id j v d ne at at_d in
-        ⊎_elim (λ (t : (total slot_of s.views ≡ 0) × (s.homes ≡ some (There (kept h r.log)) ∷ [])). let z = t.0 in absurd (omega arith)) (λ (t : (total slot_of s.views ≡ 1) × (s.homes ≡ none ∷ [])). let z = t.0 in omega arith) r.home
+        ⊎_elim (λ (t : (total slot_of s.views ≡ 0) × (s.homes ≡ some (There (history h r.log)) ∷ [])). let z = t.0 in absurd (omega arith)) (λ (t : (total slot_of s.views ≡ 1) × (s.homes ≡ none ∷ [])). let z = t.0 in omega arith) r.slot
 
-    -- where the slot is out, it is not at home
+    -- where the slot is out, it is not at slot
     is_out : (s : State (Slot F) View) (r : Rule s) (id : ℕ) (v : View) → get_elem? s.views id ≡ some v → has_slot v.stage ≡ 1 → (total slot_of s.views ≡ 1) × (s.homes ≡ none ∷ [])
     is_out s r id v at out =
         let one = total_one slot_of s.views id v at in
-        ⊎_elim (λ (t : (total slot_of s.views ≡ 0) × (s.homes ≡ some (There (kept h r.log)) ∷ [])). let z = t.0 in absurd (omega arith)) (λ (t : (total slot_of s.views ≡ 1) × (s.homes ≡ none ∷ [])). t) r.home
+        ⊎_elim (λ (t : (total slot_of s.views ≡ 0) × (s.homes ≡ some (There (history h r.log)) ∷ [])). let z = t.0 in absurd (omega arith)) (λ (t : (total slot_of s.views ≡ 1) × (s.homes ≡ none ∷ [])). t) r.slot
 
     pub counts_up : (slots id b t k u : ℕ) (h₀ : Machine) (x mine : List Entry) (s₀ : PlainStep)
-        → Allows Rule slots id (posed h₀ (Holding t) b x k mine, (0, Away u s₀) ∷ []) 2 (λ x. (x + 1) % 2 ^ 64) (counted (step slots 2 1 0 none) (posed h₀ (Holding t) b x k mine, (0, Away u s₀) ∷ []))
+        → Allows Rule slots id (session_view h₀ (Holding t) b x k mine, (0, Away u s₀) ∷ []) 2 (λ x. (x + 1) % 2 ^ 64) (counted (step slots 2 1 0 none) (session_view h₀ (Holding t) b x k mine, (0, Away u s₀) ∷ []))
     counts_up slots id b t k u h₀ x mine s₀ s r _ at _ =
-        let v : View = posed h₀ (Holding t) b x k mine in
+        let v : View = session_view h₀ (Holding t) b x k mine in
         let c : List (ℕ × (Slot F)) = (0, Away u s₀) ∷ [] in
         let e : Entry = next_entry h₀ x u k s₀ in
-        let w : View = posed h₀ (Counted t) b (x ++ e ∷ []) k (mine ++ e ∷ []) in
+        let w : View = session_view h₀ (Counted t) b (x ++ e ∷ []) k (mine ++ e ∷ []) in
         let f = r.seats id v at in
         let seen : x ≡ r.log = ap first_seen f.turn_is.1 in
         let log : List Entry = r.log ++ e ∷ [] in
@@ -259,7 +260,7 @@ module _ {F : Type 0} where
                   works = g.works;
                 })
                 r.seats;
-            home = inr (total_same slot_of s.views id v w at refl ∙ away.0, away.1);
+            slot = inr (total_same slot_of s.views id v w at refl ∙ away.0, away.1);
             numbers = λ q. let y = total_same (number_of q) s.views id v w at refl in let o = r.numbers q in omega arith;
             parts = total_same parts_of s.views id v w at refl ∙ r.parts;
             given = each_append (λ (z : Entry). z.session < n) r.log (e ∷ []) r.given (f.owns_is.0.1, tt);
@@ -274,11 +275,11 @@ module _ {F : Type 0} where
         )
 
     pub releases : (slots id b k : ℕ) (h₀ : Machine) (x mine : List Entry) (g : Stage) → has_slot g ≡ 1
-        → Allows Rule slots id (posed h₀ g b x k mine, (0, There (kept h₀ x)) ∷ []) 0 (λ x. (x + 1) % 2 ^ 64) (released (step slots 0 1 0 none) (posed h₀ g b x k mine, (0, There (kept h₀ x)) ∷ []))
+        → Allows Rule slots id (session_view h₀ g b x k mine, (0, There (history h₀ x)) ∷ []) 0 (λ x. (x + 1) % 2 ^ 64) (released (step slots 0 1 0 none) (session_view h₀ g b x k mine, (0, There (history h₀ x)) ∷ []))
     releases slots id b k h₀ x mine g holds s r _ at _ =
-        let v : View = posed h₀ g b x k mine in
-        let c : List (ℕ × (Slot F)) = (0, There (kept h₀ x)) ∷ [] in
-        let w : View = posed h₀ Idle b x k mine in
+        let v : View = session_view h₀ g b x k mine in
+        let c : List (ℕ × (Slot F)) = (0, There (history h₀ x)) ∷ [] in
+        let w : View = session_view h₀ Idle b x k mine in
         let f = r.seats id v at in
         let seen : x ≡ r.log = ap first_seen (holder_seen r.serving r.log g (x ∷ []) holds f.turn_is) in
         let away = is_out s r id v at holds in
@@ -307,7 +308,7 @@ module _ {F : Type 0} where
                 let idle = only_holder s r id j v d (λ z. ne (sym z)) at at_d holds in
                 record { start_is = q.start_is; seen_is = q.seen_is; owns_is = q.owns_is; turn_is = not_holder (r.serving + 1) r.log d.stage d.seen idle; works = q.works })
                 r.seats;
-            home = inl (omega arith, ap (λ (hs : List (maybe.Option (Slot F))). set hs 0 (some (There (kept h₀ x)))) away.1 ∙ ap (λ (z : Machine × List Entry). some (There (kept z.0 z.1)) ∷ []) (λ i. (f.start_is i, seen i)));
+            slot = inl (omega arith, ap (λ (hs : List (maybe.Option (Slot F))). set hs 0 (some (There (history h₀ x)))) away.1 ∙ ap (λ (z : Machine × List Entry). some (There (history z.0 z.1)) ∷ []) (λ i. (f.start_is i, seen i)));
             numbers = λ q. let y = total_same (number_of q) s.views id v w at refl in let o = r.numbers q in omega arith;
             parts = total_same parts_of s.views id v w at refl ∙ r.parts;
             given = r.given;
@@ -321,11 +322,11 @@ module _ {F : Type 0} where
           refl,
         )
 
-    pub splits : (r₀ : Machine) (id i k : ℕ) → Splits Rule id (spare r₀ i (suc k)) (spare r₀ (i + 1) k) (posed r₀ Idle most_calls [] i [])
+    pub splits : (r₀ : Machine) (id i k : ℕ) → Splits Rule id (fresh_view r₀ i (suc k)) (fresh_view r₀ (i + 1) k) (session_view r₀ Idle most_calls [] i [])
     splits r₀ id i k s r at =
-        let v : View = spare r₀ i (suc k) in
-        let left : View = spare r₀ (i + 1) k in
-        let right : View = posed r₀ Idle most_calls [] i [] in
+        let v : View = fresh_view r₀ i (suc k) in
+        let left : View = fresh_view r₀ (i + 1) k in
+        let right : View = session_view r₀ Idle most_calls [] i [] in
         let f = r.seats id v at in
         let sum : (g : View → ℕ) → g left + g right ≡ g v → total g (set s.views id left ++ right ∷ []) ≡ total g s.views =
         λ g is. let a = total_set g s.views id v left at in let b = total_snoc g (set s.views id left) right in omega arith in
@@ -337,8 +338,8 @@ module _ {F : Type 0} where
           seats = seats_snoc (Fits h n r.serving r.log) (set s.views id left) right (record { start_is = f.start_is; seen_is = f.seen_is; owns_is = (f.owns_is.0, tt); turn_is = tt; works = omega arith })
               (seats_set (Fits h n r.serving r.log) (Fits h n r.serving r.log) s.views id left
               (record { start_is = f.start_is; seen_is = f.seen_is; owns_is = f.owns_is.1; turn_is = tt; works = omega arith }) (λ j d _ _ q. q) r.seats);
-          home = (let same = sum slot_of (omega arith) in
-              ⊎_elim (λ (t : (total slot_of s.views ≡ 0) × (s.homes ≡ some (There (kept h r.log)) ∷ [])). inl (same ∙ t.0, t.1)) (λ (t : (total slot_of s.views ≡ 1) × (s.homes ≡ none ∷ [])). inr (same ∙ t.0, t.1)) r.home);
+          slot = (let same = sum slot_of (omega arith) in
+              ⊎_elim (λ (t : (total slot_of s.views ≡ 0) × (s.homes ≡ some (There (history h r.log)) ∷ [])). inl (same ∙ t.0, t.1)) (λ (t : (total slot_of s.views ≡ 1) × (s.homes ≡ none ∷ [])). inr (same ∙ t.0, t.1)) r.slot);
           numbers = λ q. let e = sum (number_of q) (omega arith) in let o = r.numbers q in omega arith;
           parts = sum parts_of (omega arith) ∙ r.parts;
           given = r.given;
@@ -378,8 +379,8 @@ module _ {F : Type 0} where
                 works = omega arith;
               })
               (λ j d _ _ q. q) r.seats);
-          home = (let same = sum slot_of (omega arith) refl in
-              ⊎_elim (λ (t : (total slot_of s.views ≡ 0) × (s.homes ≡ some (There (kept h r.log)) ∷ [])). inl (same ∙ t.0, t.1)) (λ (t : (total slot_of s.views ≡ 1) × (s.homes ≡ none ∷ [])). inr (same ∙ t.0, t.1)) r.home);
+          slot = (let same = sum slot_of (omega arith) refl in
+              ⊎_elim (λ (t : (total slot_of s.views ≡ 0) × (s.homes ≡ some (There (history h r.log)) ∷ [])). inl (same ∙ t.0, t.1)) (λ (t : (total slot_of s.views ≡ 1) × (s.homes ≡ none ∷ [])). inr (same ∙ t.0, t.1)) r.slot);
           numbers = λ q. let e = sum (number_of q) (times_append h n q v.owns w.owns) refl in let o = r.numbers q in omega arith;
           parts = sum parts_of (length-append v.owns w.owns) refl ∙ r.parts;
           given = r.given;
@@ -391,14 +392,14 @@ module _ {F : Type 0} where
           calls_left = let e = sum calls_of (omega arith) refl in let z = r.calls_left in omega arith;
         }
 
-    pub opens : n ≤ 64 → Rule (opening (0 ∷ 0 ∷ 0 ∷ []) (There (kept h []) ∷ []) (opening_view h n))
+    pub opens : n ≤ most_sessions → Rule (opening (0 ∷ 0 ∷ 0 ∷ []) (There (history h []) ∷ []) (opening_view h n))
     opens few = let v : View = opening_view h n in record {
       serving = 0;
       ticket = 0;
       log = [];
       words = refl;
       seats = λ j d e. only_seat h n v d j (Fits h n 0 []) (record { start_is = refl; seen_is = (([], refl), tt); owns_is = fresh_match h n 0 n (omega arith); turn_is = tt; works = omega arith }) e;
-      home = inl (refl, refl);
+      slot = inl (refl, refl);
       numbers = λ q. let o = fresh_once h n q 0 n in omega arith;
       parts = let o = fresh_length h n 0 n in omega arith;
       given = tt;
@@ -417,8 +418,8 @@ module _ {F : Type 0} where
         let at : get_elem? s.views id ≡ some v = fin.1.1 in
         let f = r.seats id v at in
         let empty : has_slot v.stage ≡ 0 = ap has_slot idle in
-        let home : (total slot_of s.views ≡ 0) × (s.homes ≡ some (There (kept h r.log)) ∷ []) =
-        ⊎_elim (λ (t : (total slot_of s.views ≡ 0) × (s.homes ≡ some (There (kept h r.log)) ∷ [])). t)
+        let slot : (total slot_of s.views ≡ 0) × (s.homes ≡ some (There (history h r.log)) ∷ []) =
+        ⊎_elim (λ (t : (total slot_of s.views ≡ 0) × (s.homes ≡ some (There (history h r.log)) ∷ [])). t)
         (λ (t : (total slot_of s.views ≡ 1) × (s.homes ≡ none ∷ [])).
         let found = total_find slot_of s.views t.0 in
         let d : View = found.1 in
@@ -429,9 +430,9 @@ module _ {F : Type 0} where
         let busy = found.3 in
         let work = g.works in
         absurd (omega arith))
-        r.home in (
+        r.slot in (
           r.log,
-          fin.4 0 (There (kept h r.log)) (ap (λ (hs : List (maybe.Option (Slot F))). get_elem? hs 0) home.1),
+          fin.4 0 (There (history h r.log)) (ap (λ (hs : List (maybe.Option (Slot F))). get_elem? hs 0) slot.1),
           f.start_is,
           f.seen_is,
           f.owns_is,
@@ -440,13 +441,13 @@ module _ {F : Type 0} where
 
   -- the view and the slots of a waiting seat
   abbrev pub IsWaiting : ℕ → ℕ → (M F) → Type 0
-  IsWaiting number ticket m = m ≡ (posed (start_of m.0) (Waiting ticket) m.0.budget (seen_of m.0) number (mine_of m.0), [])
+  IsWaiting number ticket m = m ≡ (session_view (start_of m.0) (Waiting ticket) m.0.budget (seen_of m.0) number (mine_of m.0), [])
 
   pub looks : (h : Machine) (n slots id number ticket : ℕ) (m : (M F)) → IsWaiting number ticket m → Allows (IsKept h n) slots id m 0 (λ x. x) (turned (step slots 0 0 0 none) m)
   looks h n slots id number ticket m e = let one : length m.0.owns ≡ 1 = ap (λ (z : (M F)). length z.0.owns) e in turns h n slots id m ticket (ap (λ (z : (M F)). z.0.stage) e) (omega arith)
 
-  takes₀ : (h : Machine) (b k ticket : ℕ) (x mine : List Entry) (m' : (M F)) → Takes (posed h (Waiting ticket) b x k mine, []) ticket m' → TakesSlot (posed h (Waiting ticket) b x k mine) k ticket m'
-  takes₀ h b k ticket x mine m' t = (t.1, t.2 ∙ ap (λ (z : Machine). (posed h (Holding ticket) b t.1 k mine, (0, There (kept z t.1)) ∷ [])) (sym t.3), t.4.0, t.5.0)
+  takes₀ : (h : Machine) (b k ticket : ℕ) (x mine : List Entry) (m' : (M F)) → Takes (session_view h (Waiting ticket) b x k mine, []) ticket m' → TakesSlot (session_view h (Waiting ticket) b x k mine) k ticket m'
+  takes₀ h b k ticket x mine m' t = (t.1, t.2 ∙ ap (λ (z : Machine). (session_view h (Holding ticket) b t.1 k mine, (0, There (history z t.1)) ∷ [])) (sym t.3), t.4.0, t.5.0)
 
   told : (slots number ticket found : ℕ) (m m' : (M F)) → IsWaiting number ticket m → turned (step slots 0 0 0 none) m found m' → (b : Bool) → eqb found ticket ≡ b → MatchBool b (Takes m ticket m') (m' ≡ m)
   told slots number ticket found m m' e t b is = subst (λ z. MatchBool z (Takes m ticket m') (m' ≡ m)) is (t ticket (ap (λ (z : (M F)). z.0.stage) e))
@@ -458,7 +459,7 @@ module _ {F : Type 0} where
   pub waits_on : (slots number ticket found : ℕ) (m m' : (M F)) → IsWaiting number ticket m → turned (step slots 0 0 0 none) m found m' → found ≢ ticket → m' ≡ m
   waits_on slots number ticket found m m' e t is = told slots number ticket found m m' e t false (ne_eqb found ticket is)
 
-  pub leaves : (h : Machine) (n slots id number : ℕ) (k : Kept) (g : Stage) (x : (Slot F)) (v : View) (m : (M F)) → has_slot g ≡ 1 → v ≡ posed k.start g v.budget k.log number (mine_of v) → m ≡ (v, (0, There k) ∷ [])
+  pub leaves : (h : Machine) (n slots id number : ℕ) (k : History) (g : Stage) (x : (Slot F)) (v : View) (m : (M F)) → has_slot g ≡ 1 → v ≡ session_view k.start g v.budget k.log number (mine_of v) → m ≡ (v, (0, There k) ∷ [])
       → Allows (IsKept h n) slots id m 0 (λ x. (x + 1) % 2 ^ 64) (released (step slots 0 1 0 none) m)
   leaves h n slots id number k g x v m out is now =
       let P : (M F) → Type 0 = λ m. Allows (IsKept h n) slots id m 0 (λ x. (x + 1) % 2 ^ 64) (released (step slots 0 1 0 none) m) in

@@ -8,7 +8,7 @@ use Rattle.host_lock.specs.declared.host.CloseRefusal.{CloseRefusal}
 use Rattle.host_lock.specs.declared.host.CloseRefusal.TheVariants.{Missing}
 use Rattle.host_lock.specs.declared.host.Answer.{Answer}
 use Rattle.host_lock.specs.declared.host.Answer.TheVariants.{Reply, Spent}
-use Rattle.host_lock.specs.Rule.{most_calls}
+use Rattle.host_lock.specs.Limits.{most_sessions, most_calls}
 use Rattle.host_lock.specs.Sessions.{SessionData, HostData, Replies, IsOpenable}
 
 -- what a call of a session answers, and what it leaves of the session
@@ -19,7 +19,7 @@ Calls v s Spent w = (v.calls ≡ most_calls) × (w ≡ v)
 -- why no session was opened, and the host that comes back
 abbrev pub RefusesFor : {F : Type 0} → Machine → List ℕ → OpenRefusal F → Type 0
 RefusesFor host us (NoSessions h) = (h ≡ host) × (length us ≡ 0)
-RefusesFor host us (TooMany h) = (h ≡ host) × (64 < length us)
+RefusesFor host us (TooMany h) = (h ≡ host) × (most_sessions < length us)
 RefusesFor host us Memory = IsOpenable us
 
 -- fewer sessions were handed in than were opened, and all is given back

@@ -14,12 +14,9 @@ use Rattle.host_lock.specs.declared.journal.Entry.{Entry}
 use Rattle.host_lock.specs.Views.{Stage, Idle, Waiting, Holding, Counted, Account, View, spent}
 use Rattle.host_lock.specs.declared.view.Slot.{Slot}
 use Rattle.host_lock.specs.declared.view.Slot.TheVariants.{There, Away}
-use Rattle.host_lock.specs.Kept.{Kept, kept}
+use Rattle.host_lock.specs.History.{History, history}
+use Rattle.host_lock.specs.Limits.{most_sessions, most_calls}
 use Rattle.host_lock.specs.Journal.{IsLegal, entries_of, StartsWith, entry, next_entry}
-
--- the calls that one session may make
-abbrev pub most_calls : ℕ
-most_calls = 4294967295
 
 abbrev pub total : {V : Type 0} → (V → ℕ) → List V → ℕ
 total f [] = 0
@@ -137,24 +134,24 @@ abbrev pub fresh : ℕ → ℕ → List Account
 fresh n zero = []
 fresh n (suc k) = account n [] ∷ fresh (n + 1) k
 
-abbrev pub spare : Machine → ℕ → ℕ → View
-spare h n k = record { start = Some h; stage = Idle; budget = k * most_calls; seen = [] ∷ []; owns = fresh n k }
+abbrev pub fresh_view : Machine → ℕ → ℕ → View
+fresh_view h n k = record { start = Some h; stage = Idle; budget = k * most_calls; seen = [] ∷ []; owns = fresh n k }
 
 abbrev pub opening_view : Machine → ℕ → View
-opening_view h sessions = spare h 0 sessions
+opening_view h sessions = fresh_view h 0 sessions
 
-abbrev pub cut_left : View → View
-cut_left v = record v { budget = v.budget - most_calls; owns = drop 1 v.owns }
+abbrev pub split_left : View → View
+split_left v = record v { budget = v.budget - most_calls; owns = drop 1 v.owns }
 
-abbrev pub cut_right : View → View
-cut_right v = record v { budget = most_calls; owns = take 1 v.owns }
+abbrev pub split_right : View → View
+split_right v = record v { budget = most_calls; owns = take 1 v.owns }
 
 abbrev pub both : View → View → View
 both v w = record v { budget = v.budget + w.budget; seen = v.seen ++ w.seen; owns = v.owns ++ w.owns }
 
 -- the view of the seat of one session
-abbrev pub posed : Machine → Stage → ℕ → List Entry → ℕ → List Entry → View
-posed h g b seen n mine = record { start = Some h; stage = g; budget = b; seen = seen ∷ []; owns = account n mine ∷ [] }
+abbrev pub session_view : Machine → Stage → ℕ → List Entry → ℕ → List Entry → View
+session_view h g b seen n mine = record { start = Some h; stage = g; budget = b; seen = seen ∷ []; owns = account n mine ∷ [] }
 
 -- a host that nobody has used
 abbrev pub nobody : Machine
@@ -175,7 +172,7 @@ mine_of v = (first_owned v.owns).mine
 
 -- the view of a session between two calls
 abbrev pub IsAtRest : ℕ → ℕ → View → Type 0
-IsAtRest number calls v = v ≡ posed (start_of v) Idle (most_calls - calls) (seen_of v) number (mine_of v)
+IsAtRest number calls v = v ≡ session_view (start_of v) Idle (most_calls - calls) (seen_of v) number (mine_of v)
 
 -- the view of a badge
 abbrev pub view_in : List View → View
@@ -183,8 +180,8 @@ view_in [] = spent
 view_in (v ∷ vs) = v
 
 -- three words and a slot
-abbrev pub IsBoard : TableId → Type 0
-IsBoard z = (z.words ≡ 3) × (z.slots ≡ 1)
+abbrev pub IsHostTable : TableId → Type 0
+IsHostTable z = (z.words ≡ 3) × (z.slots ≡ 1)
 
 abbrev pub M : Type 0 → Type 0
 M F = Me (Slot F) View
@@ -193,10 +190,10 @@ abbrev pub At : Type 0 → Type 0
 At F = table.Step (Slot F)
 
 module _ {F : Type 0} where
-  -- the value at home has the rows at opening and the whole log; or it is out with one seat
-  abbrev pub AtHome : Machine → List Entry → List View → List (maybe.Option (Slot F)) → Type 0
-  AtHome start log views homes =
-      ((total slot_of views ≡ 0) × (homes ≡ some (There (kept start log)) ∷ [])) ⊎ ((total slot_of views ≡ 1) × (homes ≡ none ∷ []))
+  -- the slot holds the rows at opening and the whole log; or it is out with one seat
+  abbrev pub InSlot : Machine → List Entry → List View → List (maybe.Option (Slot F)) → Type 0
+  InSlot start log views homes =
+      ((total slot_of views ≡ 0) × (homes ≡ some (There (history start log)) ∷ [])) ⊎ ((total slot_of views ≡ 1) × (homes ≡ none ∷ []))
 
   pub record IsKept (start : Machine) (sessions : ℕ) (s : State (Slot F) View) : Type 0 where
     pub serving : ℕ
@@ -206,7 +203,7 @@ module _ {F : Type 0} where
     pub words : s.words ≡ serving ∷ ticket ∷ length log ∷ []
     -- each seat's lists are beginnings of it, and it has what the seat's sessions did
     pub seats : (id : ℕ) (v : View) → get_elem? s.views id ≡ some v → Fits start sessions serving log v
-    pub home : AtHome start log s.views s.homes
+    pub slot : InSlot start log s.views s.homes
     -- the sessions' numbers differ, and there are as many as sessions
     pub numbers : (n : ℕ) → total (number_of n) s.views ≤ 1
     pub parts : total parts_of s.views ≡ sessions
@@ -218,8 +215,8 @@ module _ {F : Type 0} where
     pub past : (t : ℕ) → t < serving → total (ticket_of t) s.views ≡ 0
     pub later : (t : ℕ) → ticket ≤ t → total (ticket_of t) s.views ≡ 0
     -- so that no word wraps
-    pub tickets_left : total budget_of s.views + ticket ≤ 274877906944
-    pub calls_left : total calls_of s.views + length log ≤ 274877906944
+    pub tickets_left : total budget_of s.views + ticket ≤ most_sessions * most_calls
+    pub calls_left : total calls_of s.views + length log ≤ most_sessions * most_calls
 
   abbrev pub drew : At F → M F → ℕ → M F → Type 0
   drew st m n m' = m' ≡ (drawn m.0 n, m.1)
@@ -227,7 +224,7 @@ module _ {F : Type 0} where
   -- it is the seat's turn: the host is out with it, and it has seen the log so far
   abbrev pub Takes : M F → ℕ → M F → Type 0
   Takes m t m' =
-      (start : Machine) × (log : List Entry) × (m' ≡ (taken m.0 t log, (0, There (kept start log)) ∷ m.1)) × IfSome m.0.start (λ h. h ≡ start) × Each (StartsWith log) m.0.seen × Each (Tells log) m.0.owns
+      (start : Machine) × (log : List Entry) × (m' ≡ (taken m.0 t log, (0, There (history start log)) ∷ m.1)) × IfSome m.0.start (λ h. h ≡ start) × Each (StartsWith log) m.0.seen × Each (Tells log) m.0.owns
 
   abbrev pub turned : At F → M F → ℕ → M F → Type 0
   turned st m n m' = (t : ℕ) → m.0.stage ≡ Waiting t → MatchBool (n == t) (Takes m t m') (m' ≡ m)
@@ -250,27 +247,27 @@ module _ {F : Type 0} where
   -- what is known at the end of a seat that has taken in all others
   abbrev pub Closes : Machine → ℕ → View → List (Slot F) → Type 0
   Closes h n v xs =
-      (log : List Entry) × (get_elem? xs 0 ≡ some (There (kept h log))) × IfSome v.start (λ z. z ≡ h) × Each (StartsWith log) v.seen × Each (Matches n log) v.owns × Each (λ (e : Entry). e.session < n) log
+      (log : List Entry) × (get_elem? xs 0 ≡ some (There (history h log))) × IfSome v.start (λ z. z ≡ h) × Each (StartsWith log) v.seen × Each (Matches n log) v.owns × Each (λ (e : Entry). e.session < n) log
 
   -- the slot is out with the seat, which has seen the log so far
   abbrev pub TakesSlot : View → ℕ → ℕ → M F → Type 0
   TakesSlot v number ticket m' =
-      (log : List Entry) × (m' ≡ (posed (start_of v) (Holding ticket) v.budget log number (mine_of v), (0, There (kept (start_of v) log)) ∷ [])) × StartsWith log (seen_of v) × (entries_of number log ≡ mine_of v)
+      (log : List Entry) × (m' ≡ (session_view (start_of v) (Holding ticket) v.budget log number (mine_of v), (0, There (history (start_of v) log)) ∷ [])) × StartsWith log (seen_of v) × (entries_of number log ≡ mine_of v)
 
   -- the call is counted
   abbrev pub HasCounted : View → ℕ → ℕ → PlainStep → ℕ → M F → Type 0
   HasCounted v u number s ticket m' =
       let e = next_entry (start_of v) (seen_of v) u number s in
-      m' ≡ (posed (start_of v) (Counted ticket) v.budget (seen_of v ++ e ∷ []) number (mine_of v ++ e ∷ []), (0, Away u s) ∷ [])
+      m' ≡ (session_view (start_of v) (Counted ticket) v.budget (seen_of v ++ e ∷ []) number (mine_of v ++ e ∷ []), (0, Away u s) ∷ [])
 
   -- one turn is over: after the log, no entry or one, which is the call's
   abbrev pub HasTurned : View → ℕ → ℕ → PlainStep → Reply → M F → Type 0
   HasTurned v u number s r m' =
       (log : List Entry) × StartsWith log (seen_of v) × (entries_of number log ≡ mine_of v)
-      × MatchBool (is_memory r) (IsLegal (start_of v) log × (m' ≡ (posed (start_of v) Idle (v.budget - 1) log number (mine_of v), [])))
+      × MatchBool (is_memory r) (IsLegal (start_of v) log × (m' ≡ (session_view (start_of v) Idle (v.budget - 1) log number (mine_of v), [])))
       (let e = entry u number s r in
-      IsLegal (start_of v) (log ++ e ∷ []) × (m' ≡ (posed (start_of v) Idle (v.budget - 1) (log ++ e ∷ []) number (mine_of v ++ e ∷ []), [])))
+      IsLegal (start_of v) (log ++ e ∷ []) × (m' ≡ (session_view (start_of v) Idle (v.budget - 1) (log ++ e ∷ []) number (mine_of v ++ e ∷ []), [])))
 
   -- the slot is out with the seat, whose last list is k's
-  abbrev pub IsOut : ℕ → Kept → M F → Type 0
-  IsOut number k m = (g : Stage) × (x : (Slot F)) × (has_slot g ≡ 1) × (m ≡ (posed k.start g m.0.budget k.log number (mine_of m.0), (0, x) ∷ []))
+  abbrev pub IsOut : ℕ → History → M F → Type 0
+  IsOut number k m = (g : Stage) × (x : (Slot F)) × (has_slot g ≡ 1) × (m ≡ (session_view k.start g m.0.budget k.log number (mine_of m.0), (0, x) ∷ []))

@@ -7,6 +7,7 @@ use Rattle.requests.specs.declared.Reply.{Reply}
 use Rattle.requests.specs.Memory.{is_memory}
 use Rattle.host_lock.specs.declared.journal.Entry.{Entry}
 use Rattle.host_lock.specs.Journal.{IsLegal, StartsWith, entries_of, entry}
+use Rattle.host_lock.specs.Limits.{most_sessions}
 use Rattle.host_lock.specs.Rule.{account}
 use Rattle.host_lock.specs.Views.{Idle, Account, View}
 
@@ -50,16 +51,16 @@ abbrev pub Stands : List Entry → SessionData → Type 0
 Stands log s = StartsWith log s.seen × (entries_of s.number log ≡ s.mine)
 
 -- a session that has made no call
-abbrev pub newborn : ℕ → ℕ → TableId → Machine → SessionData
-newborn u n z h = record { uid = u; number = n; calls = 0; seen = []; mine = []; host = z; start = h }
+abbrev pub new_session : ℕ → ℕ → TableId → Machine → SessionData
+new_session u n z h = record { uid = u; number = n; calls = 0; seen = []; mine = []; host = z; start = h }
 
 -- one for each uid, numbered from n
-abbrev pub newborns : ℕ → TableId → Machine → List ℕ → List SessionData
-newborns n z h [] = []
-newborns n z h (u ∷ us) = newborn u n z h ∷ newborns (n + 1) z h us
+abbrev pub new_sessions : ℕ → TableId → Machine → List ℕ → List SessionData
+new_sessions n z h [] = []
+new_sessions n z h (u ∷ us) = new_session u n z h ∷ new_sessions (n + 1) z h us
 
 abbrev pub IsOpenable : List ℕ → Type 0
-IsOpenable us = (0 < length us) × (length us ≤ 64)
+IsOpenable us = (0 < length us) × (length us ≤ most_sessions)
 
 abbrev pub IsAt : TableId → Machine → SessionData → Type 0
 IsAt z h s = (s.host ≡ z) × (s.start ≡ h)

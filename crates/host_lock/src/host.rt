@@ -4,17 +4,20 @@ ghost use Rattle.std.specs.Prelude.{◌≡◌, ℕ, ◌+◌, ◌<◌, ◌≤◌,
 ghost use Rattle.requests.specs.Isolation.{Users};
 ghost use Rattle.host_lock.specs.Answers.{Calls, RefusesFor, GivesBack};
 ghost use Rattle.host_lock.specs.Journal.{asked, IsLegal, replay, StartsWith};
-ghost use Rattle.host_lock.specs.Kept.{kept};
-ghost use Rattle.host_lock.specs.Rule.{Each, IsBoard, spare, opening_view, posed, start_of, most_calls, Matches};
-ghost use Rattle.host_lock.specs.Sessions.{IsOf, IsTrue, Stands, newborn, newborns, IsOpenable, IsAt, IsBelow, SessionData, gathered, IsSame};
+ghost use Rattle.host_lock.specs.History.{history};
+ghost use Rattle.host_lock.specs.Rule.{Each, IsHostTable, fresh_view, opening_view, session_view, start_of, Matches};
+ghost use Rattle.host_lock.specs.Limits.{most_sessions, most_calls};
+ghost use Rattle.host_lock.specs.Sessions.{IsOf, IsTrue, Stands, new_session, new_sessions, IsOpenable, IsAt, IsBelow, SessionData, gathered, IsSame};
 ghost use Rattle.host_lock.specs.Views.{Idle};
 
-use crate::home::Home;
 use crate::journal::Journal;
-use crate::rule::{Board, Cut, Glue, Origin, Place};
+use crate::limits::MOST_SESSIONS;
+use crate::rule::{HostSeat, HostTable, JoinTwo, Origin, SplitOne};
 use crate::session::{Session, budget_left};
+use crate::shared_state::SharedState;
 use crate::turn::turn;
 use crate::view::Slot;
+use crate::waiters::Waiters;
 use atomic_table::{Badge, Table};
 use pid_blocks::Uid;
 use requests::{Host, Reply, Step};
@@ -23,40 +26,38 @@ use std::marker::Model;
 use std::mem;
 use std::snapshot::Snapshot;
 use std::sync::Wait;
-use std::sync::atomic::AtomicU64;
 use stop_handlers::{Decider, Handler};
 
 /// A host that sessions share, each in a thread of its own if it likes. Contracts see which host it is, what it was at opening, and how
 /// many sessions were opened.
 #[derive(Drop)]
 pub struct SharedHost<F: Decider + Send + Drop> {
-    board: Board<F>,
-    /// Where waiters sleep. These words never change.
-    beds: Vec<AtomicU64>,
+    table: HostTable<F>,
+    waiters: Waiters,
     sessions: usize,
 }
 
 impl<F: Decider + Send + Drop> Model for SharedHost<F> {
     ghost use Rattle.std.specs.Prelude.{◌≡◌, ◌<◌};
     ghost use Rattle.host_lock.specs.Sessions.{HostData};
-    ghost use Rattle.host_lock.specs.Rule.{IsBoard};
+    ghost use Rattle.host_lock.specs.Rule.{IsHostTable};
 
     ghost Value = { HostData };
 
     ghost view = { λ h. record {
-      id = h.board.shared.table_id;
-      start = h.board.shared.key.start.value;
+      id = h.table.shared.table_id;
+      start = h.table.shared.key.start.value;
       sessions = h.sessions;
     } };
 
-    ghost invariant = { λ h. IsBoard h.board.shared.table_id × (h.sessions ≡ h.board.shared.key.sessions) × (0 < h.sessions) };
+    ghost invariant = { λ h. IsHostTable h.table.shared.table_id × (h.sessions ≡ h.table.shared.key.sessions) × (0 < h.sessions) };
 }
 
 /// What a call answers.
 #[derive(Debug, Drop)]
 pub enum Answer {
     Reply(Reply),
-    /// The session has made 4294967295 calls, which is all that it may.
+    /// The session has made all the calls that it may, `MOST_CALLS`.
     Spent,
 }
 
@@ -65,7 +66,7 @@ pub enum Answer {
 pub enum OpenRefusal<F: Decider + Send + Drop> {
     /// No user was named. The host comes back.
     NoSessions(Host<F>),
-    /// More than 64 were named. The host comes back.
+    /// More than `MOST_SESSIONS` were named. The host comes back.
     TooMany(Host<F>),
     /// Memory ran out. The host is dropped.
     Memory,
@@ -80,24 +81,25 @@ pub enum CloseRefusal<F: Decider + Send + Drop> {
 
 impl<F: Decider + Send + Drop> SharedHost<F> {
     /// Shares a host among sessions: one for each user that is named, in their order, numbered from 0. A user may be named more than
-    /// once. Refused where no user or more than 64 are named, with the host handed back; where memory runs out, the host is dropped.
+    /// once. Refused where no user or more than `MOST_SESSIONS` are named, with the host handed back; where memory runs out, the host
+    /// is dropped.
     pub fn open(
         alloc: Global,
         host: Host<F>,
         users: &[Uid],
     ) -> Result<(SharedHost<F>, Vec<Session>), OpenRefusal<F>>
         ensures host { IfOk result (λ r. (r.0.start ≡ host) × (r.0.sessions ≡ length users.now)) }
-        ensures sessions { IfOk result (λ r. r.1.items ≡ newborns 0 r.0.id host users.now) }
+        ensures sessions { IfOk result (λ r. r.1.items ≡ new_sessions 0 r.0.id host users.now) }
         ensures accepts { OnOk result (IsOpenable users.now) }
         ensures refuses { IfErr result (RefusesFor host users.now) }
     {
         if users.is_empty() {
             return Err(OpenRefusal::NoSessions(host));
         }
-        if users.len() > 64 {
+        if users.len() > MOST_SESSIONS {
             return Err(OpenRefusal::TooMany(host));
         }
-        match begin(alloc, host, users) {
+        match share(alloc, host, users) {
             Ok(made) => Ok(made),
             Err(_) => Err(OpenRefusal::Memory),
         }
@@ -118,16 +120,16 @@ impl<F: Decider + Send + Drop> SharedHost<F> {
             return Err(CloseRefusal::Missing(self, sessions));
         }
         let SharedHost {
-            board,
-            beds: _,
+            table,
+            waiters: _,
             sessions: _,
         } = self;
-        let seat = gather(&board, sessions);
-        let Home {
+        let seat = join_seats(&table, sessions);
+        let SharedState {
             host,
             journal,
             start: _,
-        } = finish(board, seat);
+        } = take_state(table, seat);
         Ok((host, journal))
     }
 
@@ -154,8 +156,8 @@ impl<F: Decider + Send + Drop> SharedHost<F> {
         let reply = turn(
             rt,
             alloc,
-            &self.board.shared,
-            self.beds.as_slice(),
+            &self.table.shared,
+            &self.waiters,
             &mut seat,
             session.uid,
             session.number,
@@ -168,21 +170,21 @@ impl<F: Decider + Send + Drop> SharedHost<F> {
 }
 
 /// The table, with the host in its slot, and a seat that stands for all sessions.
-fn lay<F: Decider + Send + Drop>(
+fn make_table<F: Decider + Send + Drop>(
     alloc: Global,
     host: Host<F>,
     sessions: usize,
-) -> Result<(Board<F>, Place<F>), AllocError>
-    requires { (0 < sessions) × (sessions ≤ 64) }
-    ensures board { IfOk result (λ t. IsBoard t.0.shared.table_id × (t.0.shared.key.start.value ≡ host) × (t.0.shared.key.sessions ≡ sessions)) }
-    ensures seat { IfOk result (λ t. (t.1.table_id ≡ t.0.shared.table_id) × (t.1.me ≡ (spare host 0 sessions, []))) }
+) -> Result<(HostTable<F>, HostSeat<F>), AllocError>
+    requires { (0 < sessions) × (sessions ≤ most_sessions) }
+    ensures table { IfOk result (λ t. IsHostTable t.0.shared.table_id × (t.0.shared.key.start.value ≡ host) × (t.0.shared.key.sessions ≡ sessions)) }
+    ensures seat { IfOk result (λ t. (t.1.table_id ≡ t.0.shared.table_id) × (t.1.me ≡ (fresh_view host 0 sessions, []))) }
 {
     let about = Origin {
         start: Snapshot::of(&host),
         sessions,
     };
     let mut slots = Vec::with_capacity(alloc, 1)?;
-    slots.push_reserved(Slot::There(opened(alloc, host)));
+    slots.push_reserved(Slot::There(opening_state(alloc, host)));
     match Table::new(alloc, &[0, 0, 0], slots, &about) {
         Ok(made) => Ok(made),
         Err(_) => Err(AllocError),
@@ -190,11 +192,11 @@ fn lay<F: Decider + Send + Drop>(
 }
 
 /// What lies in the slot at first.
-fn opened<F: Decider + Send + Drop>(alloc: Global, host: Host<F>) -> Home<F>
-    ensures { result ≡ kept host [] }
+fn opening_state<F: Decider + Send + Drop>(alloc: Global, host: Host<F>) -> SharedState<F>
+    ensures { result ≡ history host [] }
 {
     let start = Snapshot::of(&host);
-    Home {
+    SharedState {
         host,
         journal: Journal::empty(alloc),
         start,
@@ -202,9 +204,9 @@ fn opened<F: Decider + Send + Drop>(alloc: Global, host: Host<F>) -> Home<F>
 }
 
 /// A session that has made no call.
-fn born<F: Decider + Send + Drop>(uid: Uid, number: usize, seat: Place<F>) -> Session
-    requires { seat.me ≡ (posed (start_of seat.me.0) Idle most_calls [] number [], []) }
-    ensures { result ≡ newborn uid number seat.table_id (start_of seat.me.0) }
+fn make_session<F: Decider + Send + Drop>(uid: Uid, number: usize, seat: HostSeat<F>) -> Session
+    requires { seat.me ≡ (session_view (start_of seat.me.0) Idle most_calls [] number [], []) }
+    ensures { result ≡ new_session uid number seat.table_id (start_of seat.me.0) }
 {
     Session {
         uid,
@@ -214,89 +216,83 @@ fn born<F: Decider + Send + Drop>(uid: Uid, number: usize, seat: Place<F>) -> Se
     }
 }
 
-/// A session for each user.
-fn deal<F: Decider + Send + Drop>(
+/// A session for each user, whose seat is split from the one that stands for all.
+fn make_sessions<F: Decider + Send + Drop>(
     alloc: Global,
-    board: &Board<F>,
-    mut spares: Place<F>,
+    table: &HostTable<F>,
+    mut unsplit: HostSeat<F>,
     users: &[Uid],
 ) -> Result<Vec<Session>, AllocError>
-    requires table { IsBoard board.now.shared.table_id × (spares.table_id ≡ board.now.shared.table_id) }
-    requires seat { spares.me ≡ (spare (start_of spares.me.0) 0 (length users.now), []) }
-    ensures { IfOk result (λ v. v.items ≡ newborns 0 spares.table_id (start_of spares.me.0) users.now) }
+    requires table { IsHostTable table.now.shared.table_id × (unsplit.table_id ≡ table.now.shared.table_id) }
+    requires seat { unsplit.me ≡ (fresh_view (start_of unsplit.me.0) 0 (length users.now), []) }
+    ensures { IfOk result (λ v. v.items ≡ new_sessions 0 unsplit.table_id (start_of unsplit.me.0) users.now) }
 {
     let mut sessions = Vec::with_capacity(alloc, users.len())?;
     for i in 0..users.len() {
-        let seat = board.shared.split_seat::<Cut>(&mut spares);
-        sessions.push_reserved(born(users[i], i, seat));
+        let seat = table.shared.split_seat::<SplitOne>(&mut unsplit);
+        sessions.push_reserved(make_session(users[i], i, seat));
     }
     Ok(sessions)
 }
 
-/// A place to sleep for each of 64 waiters.
-fn make_beds(alloc: Global) -> Result<Vec<AtomicU64>, AllocError> {
-    let mut beds = Vec::with_capacity(alloc, 64)?;
-    for _ in 0..64 {
-        beds.push(AtomicU64::new(0))?;
-    }
-    Ok(beds)
-}
-
-/// Shares the host among the users, of whom there are at most 64.
-fn begin<F: Decider + Send + Drop>(
+/// Shares the host among the users, of whom there are neither none nor too many.
+fn share<F: Decider + Send + Drop>(
     alloc: Global,
     host: Host<F>,
     users: &[Uid],
 ) -> Result<(SharedHost<F>, Vec<Session>), AllocError>
-    requires { (0 < length users.now) × (length users.now ≤ 64) }
+    requires { (0 < length users.now) × (length users.now ≤ most_sessions) }
     ensures host { IfOk result (λ r. (r.0.start ≡ host) × (r.0.sessions ≡ length users.now)) }
-    ensures sessions { IfOk result (λ r. r.1.items ≡ newborns 0 r.0.id host users.now) }
+    ensures sessions { IfOk result (λ r. r.1.items ≡ new_sessions 0 r.0.id host users.now) }
 {
-    let beds = make_beds(alloc)?;
-    let (board, spares) = lay(alloc, host, users.len())?;
-    let sessions = deal(alloc, &board, spares, users)?;
+    let waiters = Waiters::new(alloc)?;
+    let (table, unsplit) = make_table(alloc, host, users.len())?;
+    let sessions = make_sessions(alloc, &table, unsplit, users)?;
     let host = SharedHost {
-        board,
-        beds,
+        table,
+        waiters,
         sessions: users.len(),
     };
     Ok((host, sessions))
 }
 
-/// One seat that stands for all the sessions.
-fn gather<F: Decider + Send + Drop>(board: &Board<F>, mut sessions: Vec<Session>) -> Place<F>
-    requires table { IsBoard board.now.shared.table_id }
+/// Joins the seats of all sessions into one, which stands for them all.
+fn join_seats<F: Decider + Send + Drop>(
+    table: &HostTable<F>,
+    mut sessions: Vec<Session>,
+) -> HostSeat<F>
+    requires table { IsHostTable table.now.shared.table_id }
     requires some_session { 0 < vec_len sessions }
-    requires sessions { Each (IsAt board.now.shared.table_id board.now.shared.key.start.value) sessions.items }
-    ensures table { result.table_id ≡ board.now.shared.table_id }
-    ensures seat { (order : List SessionData) × (b : ℕ) × (sessions.items ≡ reverse order) × (result.me ≡ (gathered board.now.shared.key.start.value order b, [])) }
+    requires sessions { Each (IsAt table.now.shared.table_id table.now.shared.key.start.value) sessions.items }
+    ensures table { result.table_id ≡ table.now.shared.table_id }
+    ensures seat { (order : List SessionData) × (b : ℕ) × (sessions.items ≡ reverse order) × (result.me ≡ (gathered table.now.shared.key.start.value order b, [])) }
 {
     let Some(first) = sessions.pop() else {
         unreachable!()
     };
     let mut seat = first.into_seat();
     while let Some(session) = sessions.pop() {
-        board
+        table
             .shared
-            .join_seat::<Glue>(&mut seat, session.into_seat());
+            .join_seat::<JoinTwo>(&mut seat, session.into_seat());
     }
     seat
 }
 
-/// The slot's value at the end.
-fn finish<F: Decider + Send + Drop>(board: Board<F>, seat: Place<F>) -> Home<F>
-    requires table { IsBoard board.shared.table_id × (seat.table_id ≡ board.shared.table_id) }
-    requires all { (seat.me.0.stage ≡ Idle) × (board.shared.key.sessions ≤ length seat.me.0.owns) }
-    ensures start { result.start ≡ board.shared.key.start.value }
+/// What lies in the slot at the end.
+fn take_state<F: Decider + Send + Drop>(table: HostTable<F>, seat: HostSeat<F>) -> SharedState<F>
+    requires table { IsHostTable table.shared.table_id × (seat.table_id ≡ table.shared.table_id) }
+    requires all { (seat.me.0.stage ≡ Idle) × (table.shared.key.sessions ≤ length seat.me.0.owns) }
+    ensures start { result.start ≡ table.shared.key.start.value }
     ensures seen { Each (StartsWith result.log) seat.me.0.seen }
-    ensures owns { Each (Matches board.shared.key.sessions result.log) seat.me.0.owns }
-    ensures entries { Each (IsBelow board.shared.key.sessions) result.log }
+    ensures owns { Each (Matches table.shared.key.sessions result.log) seat.me.0.owns }
+    ensures entries { Each (IsBelow table.shared.key.sessions) result.log }
 {
-    let mut closed = board.close_with(seat);
+    let mut closed = table.close_with(seat);
     let slot = closed.take(0);
     closed.free();
     match slot {
-        Slot::There(home) => home,
+        Slot::There(state) => state,
         Slot::Away(_, _) => unreachable!(),
     }
 }

@@ -26,11 +26,11 @@ impl<F: Decider + Send + Drop> TableRule<Slot<F>, View, Origin<F>> for Law {
     ghost first = { λ o. opening_view o.start.value o.sessions };
 }
 
-pub type Board<F> = Table<Slot<F>, View, Origin<F>, Law, Global>;
+pub type HostTable<F> = Table<Slot<F>, View, Origin<F>, Law, Global>;
 
-pub type Common<F> = Shared<Slot<F>, View, Origin<F>, Law>;
+pub type SharedTable<F> = Shared<Slot<F>, View, Origin<F>, Law>;
 
-pub type Place<F> = Seat<Slot<F>, View>;
+pub type HostSeat<F> = Seat<Slot<F>, View>;
 
 /// Addition to ticket.
 pub(crate) struct Draw;
@@ -53,28 +53,28 @@ impl<F: Decider + Send + Drop> Play<Slot<F>, View> for Count {
     ghost then = { counted };
 }
 
-/// Addition to serving. The slot is at home again.
+/// Addition to serving. The state is in the slot again.
 pub(crate) struct Release;
 
 impl<F: Decider + Send + Drop> Play<Slot<F>, View> for Release {
     ghost then = { released };
 }
 
-/// The new seat has the first number of the old one.
-pub(crate) struct Cut;
+/// A new seat takes the first session of a seat that stands for several.
+pub(crate) struct SplitOne;
 
-impl Split<View> for Cut {
-    ghost use Rattle.host_lock.specs.Rule.{cut_left, cut_right};
+impl Split<View> for SplitOne {
+    ghost use Rattle.host_lock.specs.Rule.{split_left, split_right};
 
-    ghost left = { cut_left };
+    ghost left = { split_left };
 
-    ghost right = { cut_right };
+    ghost right = { split_right };
 }
 
 /// The kept seat stands for both.
-pub(crate) struct Glue;
+pub(crate) struct JoinTwo;
 
-impl Join<View> for Glue {
+impl Join<View> for JoinTwo {
     ghost use Rattle.host_lock.specs.Rule.{both};
     ghost use Rattle.host_lock.specs.Views.{spent};
 

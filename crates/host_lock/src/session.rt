@@ -1,10 +1,12 @@
 //! A session: what one thread makes its calls with.
 
 ghost use Rattle.std.specs.Prelude.{◌≡◌, ℕ, ◌<◌, ◌-◌, [], ◌↔◌, IsTrue};
-ghost use Rattle.host_lock.specs.Rule.{posed, most_calls};
+ghost use Rattle.host_lock.specs.Rule.{session_view};
+ghost use Rattle.host_lock.specs.Limits.{most_calls};
 ghost use Rattle.host_lock.specs.Views.{Idle};
 
-use crate::rule::Place;
+use crate::limits::MOST_CALLS;
+use crate::rule::HostSeat;
 use crate::view::View;
 use atomic_table::Badge;
 use pid_blocks::Uid;
@@ -47,8 +49,8 @@ impl Model for Session {
 }
 
 impl Session {
-    pub(crate) fn into_seat<F: Decider + Send + Drop>(self) -> Place<F>
-        ensures { (result.table_id ≡ self.host) × (result.me ≡ (posed self.start Idle (most_calls - self.calls) self.seen self.number self.mine, [])) }
+    pub(crate) fn into_seat<F: Decider + Send + Drop>(self) -> HostSeat<F>
+        ensures { (result.table_id ≡ self.host) × (result.me ≡ (session_view self.start Idle (most_calls - self.calls) self.seen self.number self.mine, [])) }
     {
         let Session {
             uid: _,
@@ -83,7 +85,7 @@ impl Session {
 
 /// Whether a session that has made so many calls may make one more.
 pub fn budget_left(calls_made: u32) -> bool
-    ensures { IsTrue result ↔ (calls_made < 4294967295) }
+    ensures { IsTrue result ↔ (calls_made < most_calls) }
 {
-    calls_made < u32::MAX
+    calls_made < MOST_CALLS
 }

@@ -2,6 +2,4 @@
 
 mod opening;
 mod pairs;
-mod sharing;
-mod told;
-mod tracing;
+mod threads;

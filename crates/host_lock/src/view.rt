@@ -1,6 +1,6 @@
 //! What a seat at the table knows, and what the slot holds.
 
-use crate::home::Home;
+use crate::shared_state::SharedState;
 use pid_blocks::Uid;
 use requests::PlainStep;
 use std::marker::Model;
@@ -20,6 +20,6 @@ impl Model for View {
 /// What slot 0 holds: the host, or the step that is being made.
 #[derive(Drop)]
 pub enum Slot<F: Decider + Send + Drop> {
-    There(Home<F>),
+    There(SharedState<F>),
     Away(Uid, PlainStep),
 }

@@ -1,16 +1,16 @@
 -- Counts of rows.
-use Rattle.std.proofs.Common.{◌≡◌, ◌≢◌, ℕ, zero, suc, ◌+◌, ◌-◌, ◌/◌, ◌<◌, ◌≤◌, ◌&&◌, inl, inr, get_or, set, Bool, true, false, List, [], ◌∷◌, ◌++◌, Option, Some, None, refl, sym, ap, ◌∙◌, arith, cond, nat_eq, length, count_by, ◌==◌}
+use Rattle.std.proofs.Common.{◌≡◌, ◌≢◌, ℕ, zero, suc, ◌+◌, ◌<◌, ◌≤◌, inl, inr, get_or, set, Bool, true, false, List, [], ◌∷◌, ◌++◌, Option, Some, None, refl, sym, ap, ◌∙◌, arith, cond, nat_eq, length, count_by, ◌==◌}
 use Rattle.std.specs.List.{cons_option, find}
 use Rattle.std.proofs.lemmas.List.Sums.{sum_by-cons, count_by-le-length}
-use Rattle.std.proofs.lemmas.Option.{same_Some}
 use Rattle.std.proofs.lemmas.Bool.{cases_eq}
 use Rattle.std.proofs.lemmas.Bool.Decides.{nat_tests}
 use Rattle.std.proofs.lemmas.List.{get_or-set_same, get_or-set_other}
 use Rattle.lwp_table.specs.declared.LwpData.{LwpData}
 use Rattle.pid_blocks.specs.Blocks.{tid_owner}
-use Rattle.lwp_table.specs.Lwps.{lwp_of}
+use Rattle.lwp_table.specs.Lwps.{lwp_of, without_lwp, Differ}
+use Rattle.lwp_table.proofs.Numbered.{count-without}
 use Rattle.lwp_table.specs.Kept.{listing, place_of, is_at}
-use Rattle.lwp_table.proofs.WordLemmas.{test_same, test_apart, with_row, without_row}
+use Rattle.lwp_table.proofs.WordLemmas.{test_same, test_apart}
 
 -- one for yes
 abbrev pub one : Bool → ℕ
@@ -23,23 +23,6 @@ module _ (p : LwpData → Bool) where
   pub count-end : (xs : List LwpData) (new : LwpData) → count_by p (xs ++ new ∷ []) ≡ count_by p xs + cond (p new) 1 0
   count-end [] new = omega (arith, count-cons new [])
   count-end (x ∷ xs) new = omega (arith, count-cons x (xs ++ new ∷ []), count-cons x xs, count-end xs new)
-
-  pub count-without : (tid : ℕ) (row : LwpData) (xs : List LwpData) → lwp_of tid xs ≡ Some row → count_by p (without_row tid xs) + cond (p row) 1 0 ≡ count_by p xs
-  count-without tid row [] there = absurd (cc)
-  count-without tid row (x ∷ xs) there = by (nat_eq x.tid tid) (count-without tid row xs) there
-    where
-      by : (c : Bool) → (lwp_of tid xs ≡ Some row → count_by p (without_row tid xs) + cond (p row) 1 0 ≡ count_by p xs) → cond c (Some x) (lwp_of tid xs) ≡ Some row → count_by p (cond c xs (x ∷ without_row tid xs)) + cond (p row) 1 0 ≡ count_by p (x ∷ xs)
-      by true later there = let same = ap (λ r. one (p r)) (same_Some x row there) in omega (arith, count-cons x xs, same)
-      by false later there = omega (arith, count-cons x xs, count-cons x (without_row tid xs), later there)
-
-  pub count-with : (new was : LwpData) (xs : List LwpData) → lwp_of new.tid xs ≡ Some was → p was ≡ p new → count_by p (with_row new xs) ≡ count_by p xs
-  count-with new was [] there same = absurd (cc)
-  count-with new was (x ∷ xs) there same = by (nat_eq x.tid new.tid) (λ later. count-with new was xs later same) there
-    where
-      by : (c : Bool) → (lwp_of new.tid xs ≡ Some was → count_by p (with_row new xs) ≡ count_by p xs) → cond c (Some x) (lwp_of new.tid xs) ≡ Some was → count_by p (cond c (new ∷ xs) (x ∷ with_row new xs)) ≡ count_by p (x ∷ xs)
-      by true later there = let here = ap (λ r. one (p r)) (same_Some x was there) in
-          let after = ap one same in omega (arith, count-cons x xs, count-cons new xs, here, after)
-      by false later there = omega (arith, count-cons x xs, count-cons x (with_row new xs), later there)
 
 pub length-listing : (b : ℕ → Option LwpData) (from count : ℕ) → length (listing b from count) ≤ count
 length-listing b from zero = omega arith
@@ -56,21 +39,13 @@ pub length-end : (xs : List LwpData) (new : LwpData) → length (xs ++ new ∷ [
 length-end [] new = refl
 length-end (x ∷ xs) new = omega (arith, length-end xs new)
 
-pub length-without : (tid : ℕ) (row : LwpData) (xs : List LwpData) → lwp_of tid xs ≡ Some row → length (without_row tid xs) + 1 ≡ length xs
-length-without tid row [] there = absurd (cc)
-length-without tid row (x ∷ xs) there = by (nat_eq x.tid tid) (length-without tid row xs) there
-  where
-    by : (c : Bool) → (lwp_of tid xs ≡ Some row → length (without_row tid xs) + 1 ≡ length xs) → cond c (Some x) (lwp_of tid xs) ≡ Some row → length (cond c xs (x ∷ without_row tid xs)) + 1 ≡ length (x ∷ xs)
-    by true later there = omega arith
-    by false later there = omega (arith, later there)
+count-all : (xs : List LwpData) → count_by (λ l. true) xs ≡ length xs
+count-all [] = refl
+count-all (x ∷ xs) = omega (arith, count-cons (λ l. true) x xs, count-all xs)
 
-pub length-with : (new : LwpData) (xs : List LwpData) → length (with_row new xs) ≡ length xs
-length-with new [] = refl
-length-with new (x ∷ xs) = by (nat_eq x.tid new.tid) (length-with new xs)
-  where
-    by : (c : Bool) → length (with_row new xs) ≡ length xs → length (cond c (new ∷ xs) (x ∷ with_row new xs)) ≡ length (x ∷ xs)
-    by true same = refl
-    by false same = omega (arith, same)
+pub length-without : (tid : ℕ) (row : LwpData) (xs : List LwpData) → Differ xs → lwp_of tid xs ≡ Some row → length (without_lwp tid xs) + 1 ≡ length xs
+length-without tid row xs differ there =
+    omega (arith, count-without (λ (l : LwpData). l.tid) (λ l. true) tid row xs differ there, count-all xs, count-all (without_lwp tid xs))
 
 -- a row's number is of one user's
 pub at_yes : (owner : ℕ) (row : LwpData) → owner ≡ place_of row.tid → is_at owner row ≡ true

@@ -1,17 +1,30 @@
 -- From slots with birth numbers to the rows in order of birth, and what a change of one slot does.
-use Rattle.std.proofs.Common.{◌≡◌, ◌≢◌, ℕ, suc, ◌+◌, ◌<◌, ◌≤◌, Bool, true, false, List, [], ◌∷◌, ◌++◌, Option, Some, None, refl, sym, ap, ◌∙◌, arith, inl, inr, cond, nat_eq}
+use Rattle.std.proofs.Common.{◌≡◌, ◌≢◌, ℕ, suc, ◌+◌, Bool, true, false, not, List, [], ◌∷◌, ◌++◌, Option, Some, None, IsSome, refl, sym, ap, ◌∙◌, arith, inl, inr, cond, nat_eq}
 use Rattle.std.specs.List.{cons_option}
 use Rattle.std.specs.Map.{lookup}
-use Rattle.std.specs.Option.{option_map}
+use Rattle.std.specs.Option.{option_map, IsSomeAnd}
 use Rattle.std.proofs.lemmas.Bool.{cases_eq}
 use Rattle.std.proofs.lemmas.Bool.Decides.{nat_tests}
 use Rattle.std.proofs.lemmas.Option.{same_Some, some_pair_parts}
 use Rattle.lwp_table.specs.declared.LwpData.{LwpData}
 use Rattle.lwp_table.specs.declared.links.Slot.{Slot}
-use Rattle.lwp_table.specs.Lwps.{lwp_of, Differ}
+use Rattle.lwp_table.specs.Lwps.{lwp_of, put_lwp, with_lwp, without_lwp, Differ}
 use Rattle.lwp_table.specs.Kept.{if_born, born_row, listing, rows_of, IsIndexed}
-use Rattle.lwp_table.proofs.WordLemmas.{test_same, test_apart, with_row, without_row}
-use Rattle.lwp_table.proofs.ListLemmas.{AreNumbered, differ-listing, listing-end, listing-same, lwp_of-none, lwp_of-listing, listing-removed, listing-set}
+use Rattle.lwp_table.proofs.WordLemmas.{test_same, test_apart}
+use Rattle.lwp_table.proofs.ListLemmas.{AreNumbered, differ-listing, listing-end, listing-same, lwp_of-none, lwp_of-listing, listing-kept, listing-mapped}
+
+pub some_and : {X : Type 0} (P : X → Type 0) (o : Option X) → IsSomeAnd o P → (x : X) × (o ≡ Some x) × P x
+some_and P None h = absurd h
+some_and P (Some x) h = (x, refl, h)
+
+pub some_of : {X : Type 0} (o : Option X) → IsSome o → (x : X) × (o ≡ Some x)
+some_of None h = absurd (cc)
+some_of (Some x) h = (x, refl)
+
+-- the slot that a mapped one comes from
+pub came : {X : Type 0} (h : Slot → X) (o : Option Slot) (x : X) → option_map h o ≡ Some x → (slot : Slot) × (o ≡ Some slot) × (h slot ≡ x)
+came h None x is = absurd (cc)
+came h (Some slot) x is = (slot, refl, same_Some (h slot) x is)
 
 -- what rows are listed by: the birth number and the row
 abbrev pub face : Slot → ℕ × LwpData
@@ -217,7 +230,7 @@ module _ (f : ℕ → Option Slot) (es : List (ℕ × ℕ)) (births : ℕ) (inde
             indexed.apart i j one.0 two.0 one.1 two.1 (one.2 ∙ same ∙ sym two.2);
       }
 
-      pub rows_of-removed : rows_of g es' births ≡ without_row old.row.tid (rows_of f es births)
+      pub rows_of-removed : rows_of g es' births ≡ without_lwp old.row.tid (rows_of f es births)
       rows_of-removed =
           let after = IsIndexed-removed in
           let others_k : (k : ℕ) → k ≢ old.born → born_row g es' k ≡ born_row f es k = λ k off. born_others births after k (λ slot is same. off (sym same ∙ ap (λ (x : Slot). x.born) (same_Some slot old (sym is ∙ had)))) (λ slot is. absurd (cc (is, gone))) in
@@ -227,7 +240,14 @@ module _ (f : ℕ → Option Slot) (es : List (ℕ × ℕ)) (births : ℕ) (inde
           let was = backward a.0 a.1 (not_gone a.0 a.1 a.2) a.2 in
           absurd (not_gone a.0 a.1 a.2 (indexed.apart a.0 q was.0 old was.1 had (was.2 ∙ a.3))))
           (λ row is. absurd (cc (is))) in
-          listing-removed (born_row f es) numbered old.born old.row (born_of q old had) (born_row g es') others_k none 0 births (omega arith) (omega (arith, indexed.earlier q old had))
+          listing-kept (λ l. not (nat_eq l.tid old.row.tid)) (born_row g es') (born_row f es)
+          (λ k is. elim (cases_eq k old.born) [ inl same ↦ ap (born_row g es') same ∙ none | inr off ↦ others_k k off ∙ is ])
+          (λ k x is. elim (cases_eq k old.born) [
+            | inl same ↦
+                let row = same_Some x old.row (sym is ∙ ap (born_row f es) same ∙ born_of q old had) in
+                ap (born_row g es') same ∙ none ∙ sym (ap (λ (y : LwpData). cond (not (nat_eq y.tid old.row.tid)) (Some x) None) row ∙ ap (λ c. cond (not c) (Some x) None) (test_same old.row.tid))
+            | inr off ↦ others_k k off ∙ is ∙ sym (ap (λ c. cond (not c) (Some x) None) (test_apart x.tid old.row.tid (λ same. off (numbered k old.born x old.row is (born_of q old had) same))))
+          ]) 0 births
 
     module _ (old new : Slot) (had : f q ≡ Some old) (has : g q ≡ Some new) (births_same : new.born ≡ old.born) (tids : new.row.tid ≡ old.row.tid) (same_es : es' ≡ es) where
       its_set : (s : ℕ) (slot : Slot) → s ≡ q → g s ≡ Some slot → new ≡ slot
@@ -253,11 +273,22 @@ module _ (f : ℕ → Option Slot) (es : List (ℕ × ℕ)) (births : ℕ) (inde
         apart = λ i j a b there_a there_b same. let one = was_set i a there_a in let two = was_set j b there_b in indexed.apart i j one.0 two.0 one.1 two.1 (one.2 ∙ same ∙ sym two.2);
       }
 
-      pub rows_of-set : rows_of g es' births ≡ with_row new.row (rows_of f es births)
+      -- a row of another number stays
+      put_k : (k : ℕ) (o : Option LwpData) → k ≢ old.born → born_row f es k ≡ o → option_map (put_lwp new.row) o ≡ o
+      put_k k None off is = refl
+      put_k k (Some x) off is = ap (λ c. Some (cond c new.row x)) (test_apart x.tid new.row.tid (λ same. off (numbered k old.born x old.row is (born_of q old had) (same ∙ tids))))
+
+      pub rows_of-set : rows_of g es' births ≡ with_lwp new.row (rows_of f es births)
       rows_of-set =
           let after = IsIndexed-set in
           let others_k : (k : ℕ) → k ≢ old.born → born_row g es' k ≡ born_row f es k = λ k off. born_others births after k
           (λ slot is same. off (sym same ∙ ap (λ (x : Slot). x.born) (same_Some slot old (sym is ∙ had))))
           (λ slot is same. off (sym same ∙ ap (λ (x : Slot). x.born) (same_Some slot new (sym is ∙ has)) ∙ births_same)) in
           let here : born_row g es' old.born ≡ Some new.row = ap (born_row g es') (sym births_same) ∙ born_listed g after.apart q new new.row.tid has es' (after.listed q new has) in
-          listing-set (born_row f es) numbered old.born old.row (born_of q old had) (born_row g es') others_k new.row here tids 0 births (omega arith) (omega (arith, indexed.earlier q old had))
+          listing-mapped (put_lwp new.row) (born_row g es') (born_row f es)
+          (λ k. elim (cases_eq k old.born) [
+            | inl same ↦
+                ap (born_row g es') same ∙ here
+                ∙ sym (ap (option_map (put_lwp new.row)) (ap (born_row f es) same ∙ born_of q old had) ∙ ap (λ c. Some (cond c new.row old.row)) (ap (nat_eq old.row.tid) tids ∙ test_same old.row.tid))
+            | inr off ↦ others_k k off ∙ sym (put_k k (born_row f es k) off refl)
+          ]) 0 births

@@ -1,36 +1,23 @@
 -- What a table keeps after each change, and the rows that it then has.
-use Rattle.std.proofs.Common.{◌≡◌, ◌≢◌, ℕ, ◌+◌, ◌-◌, ◌/◌, ◌<◌, ◌≤◌, Bool, true, false, List, [], ◌∷◌, ◌++◌, Option, Some, None, IsSome, IfSome, is_some, refl, sym, ap, subst, ◌∙◌, arith, inl, inr, cond, nat_eq, is_none, length, count_by, get_or, set, unwrap_or, replicate}
+use Rattle.std.proofs.Common.{◌≡◌, ◌≢◌, ℕ, ◌+◌, ◌-◌, ◌<◌, ◌≤◌, Bool, true, false, List, [], ◌∷◌, ◌++◌, Option, Some, None, IsSome, IfSome, is_some, refl, sym, ap, subst, ◌∙◌, arith, inl, inr, cond, nat_eq, is_none, length, count_by, get_or, set, unwrap_or, replicate}
 use Rattle.std.specs.Map.{lookup}
-use Rattle.std.specs.Option.{option_map, option_or, IsSomeAnd}
+use Rattle.std.specs.Option.{option_map, option_or}
 use Rattle.std.proofs.lemmas.Bool.{cases_eq}
 use Rattle.std.proofs.lemmas.Option.{same_Some}
-use Rattle.std.proofs.lemmas.List.{get_or-replicate}
+use Rattle.std.proofs.lemmas.List.{get_or-replicate, length-map}
 use Rattle.lwp_table.specs.declared.LwpData.{LwpData}
 use Rattle.lwp_table.specs.declared.links.Slot.{Slot}
 use Rattle.lwp_table.specs.declared.links.Ends.{Ends}
-use Rattle.lwp_table.specs.declared.links.Link.{Link}
-use Rattle.lwp_table.specs.declared.links.Link.TheVariants.{NextOwn, PrevOwn, NextAll, PrevAll}
-use Rattle.lwp_table.specs.Lwps.{lwp_of, first_lwp, next_lwp, Differ}
+use Rattle.lwp_table.specs.declared.links.Link.TheVariants.{NextOwn, NextAll}
+use Rattle.lwp_table.specs.Lwps.{lwp_of, put_lwp, with_lwp, without_lwp, Differ}
 use Rattle.lwp_table.specs.Chain.{Node, IsNearest, IsChain, AreApart, up, down, anywhere, above, below, leads_to, joined, bridged}
-use Rattle.lwp_table.specs.Kept.{own_node, own_nodes, all_node, all_nodes, is_of, is_at, place_of, linked, with_link, ends_at, no_ends, born_row, listing, rows_of, IsIndexed, IsKept}
-use Rattle.lwp_table.proofs.WordLemmas.{test_same, test_apart, with_row, without_row, rows_after, next_lwp-after}
+use Rattle.lwp_table.specs.Kept.{own_node, own_nodes, all_node, all_nodes, is_of, is_at, place_of, linked, closed_up, ends_at, no_ends, born_row, rows_of, IsIndexed, IsKept}
+use Rattle.lwp_table.proofs.WordLemmas.{test_same, test_apart}
 use Rattle.lwp_table.proofs.ChainLemmas.{IsChain-joined, IsChain-joined_other, IsChain-left, IsChain-left_other}
-use Rattle.lwp_table.proofs.ListLemmas.{first-none, first-found, rows_after-listing}
-use Rattle.lwp_table.proofs.CountLemmas.{one, count-end, count-without, count-with, count-below, count-none, length-end, length-without, length-with, length-listing, at_yes, at_no, users_set}
-use Rattle.lwp_table.proofs.IndexLemmas.{differ, face, born_in, born_of, numbered, lwp_of-slot, no_slot, IsIndexed-added, rows_of-added, IsIndexed-removed, rows_of-removed, IsIndexed-set, rows_of-set}
-
-pub some_and : {X : Type 0} (P : X → Type 0) (o : Option X) → IsSomeAnd o P → (x : X) × (o ≡ Some x) × P x
-some_and P None h = absurd h
-some_and P (Some x) h = (x, refl, h)
-
-pub some_of : {X : Type 0} (o : Option X) → IsSome o → (x : X) × (o ≡ Some x)
-some_of None h = absurd (cc)
-some_of (Some x) h = (x, refl)
-
--- the slot that a mapped one comes from
-pub came : {X : Type 0} (h : Slot → X) (o : Option Slot) (x : X) → option_map h o ≡ Some x → (slot : Slot) × (o ≡ Some slot) × (h slot ≡ x)
-came h None x is = absurd (cc)
-came h (Some slot) x is = (slot, refl, same_Some (h slot) x is)
+use Rattle.lwp_table.proofs.Numbered.{count-without, count-put}
+use Rattle.lwp_table.proofs.WalkLemmas.{first-is_none}
+use Rattle.lwp_table.proofs.CountLemmas.{one, count-end, count-below, count-none, length-end, length-without, length-listing, at_yes, at_no, users_set}
+use Rattle.lwp_table.proofs.IndexLemmas.{came, differ, face, lwp_of-slot, no_slot, IsIndexed-added, rows_of-added, IsIndexed-removed, rows_of-removed, IsIndexed-set, rows_of-set}
 
 -- a change of slots as their faces or nodes show it
 pub shown : {X : Type 0} (h : Slot → X) (k : X → X) (l : Slot → Slot) → ((slot : Slot) → h (l slot) ≡ k (h slot)) → (o : Option Slot) → option_map h (option_map l o) ≡ option_map k (option_map h o)
@@ -41,10 +28,6 @@ pub hidden : {X : Type 0} (h : Slot → X) (l : Slot → Slot) → ((slot : Slot
 hidden h l same None = refl
 hidden h l same (Some slot) = ap Some (same slot)
 
-pub shown_twice : {X : Type 0} (h : Slot → X) (k : X → X) (l m : Slot → Slot) → ((slot : Slot) → h (m (l slot)) ≡ k (h slot)) → (o : Option Slot) → option_map h (option_map m (option_map l o)) ≡ option_map k (option_map h o)
-shown_twice h k l m same None = refl
-shown_twice h k l m same (Some slot) = ap Some (same slot)
-
 -- a slot that has a value keeps one
 pub onto : (f g : ℕ → Option Slot) (l : ℕ → Slot → Slot) → ((s : ℕ) → g s ≡ option_map (l s) (f s)) → (o : Option ℕ) → IfSome o (λ s. IsSome (f s)) → IfSome o (λ s. IsSome (g s))
 onto f g l links None there = tt
@@ -53,53 +36,6 @@ onto f g l links (Some s) there = ap is_some (links s) ∙ by (f s) there
     by : (o : Option Slot) → IsSome o → is_some (option_map (l s) o) ≡ true
     by None there = there
     by (Some slot) there = refl
-
-module _ (at to : Option ℕ) (s : ℕ) (slot : Slot) where
-  pub face-linked : (link : Link) → face (linked link at to s slot) ≡ face slot
-  face-linked link = by link (leads_to at s)
-    where
-      by : (link : Link) (c : Bool) → face (cond c (with_link link slot to) slot) ≡ face slot
-      by NextOwn true = refl
-      by PrevOwn true = refl
-      by NextAll true = refl
-      by PrevAll true = refl
-      by link false = refl
-
-  pub own-next_all : own_node (linked NextAll at to s slot) ≡ own_node slot
-  own-next_all = elim (leads_to at s) as (λ c. own_node (cond c (with_link NextAll slot to) slot) ≡ own_node slot) [ true ↦ refl | false ↦ refl ]
-
-  pub own-prev_all : own_node (linked PrevAll at to s slot) ≡ own_node slot
-  own-prev_all = elim (leads_to at s) as (λ c. own_node (cond c (with_link PrevAll slot to) slot) ≡ own_node slot) [ true ↦ refl | false ↦ refl ]
-
-  pub all-next_own : all_node (linked NextOwn at to s slot) ≡ all_node slot
-  all-next_own = elim (leads_to at s) as (λ c. all_node (cond c (with_link NextOwn slot to) slot) ≡ all_node slot) [ true ↦ refl | false ↦ refl ]
-
-  pub all-prev_own : all_node (linked PrevOwn at to s slot) ≡ all_node slot
-  all-prev_own = elim (leads_to at s) as (λ c. all_node (cond c (with_link PrevOwn slot to) slot) ≡ all_node slot) [ true ↦ refl | false ↦ refl ]
-
-pub own-joined : (last : Option ℕ) (q s : ℕ) (slot : Slot) → own_node (linked NextOwn last (Some q) s slot) ≡ joined last q s (own_node slot)
-own-joined last q s slot = elim (leads_to last s) as (λ c. own_node (cond c (with_link NextOwn slot (Some q)) slot) ≡ (record (own_node slot) { next = cond c (Some q) slot.own.next })) [ true ↦ refl | false ↦ refl ]
-
-pub all-joined : (last : Option ℕ) (q s : ℕ) (slot : Slot) → all_node (linked NextAll last (Some q) s slot) ≡ joined last q s (all_node slot)
-all-joined last q s slot = elim (leads_to last s) as (λ c. all_node (cond c (with_link NextAll slot (Some q)) slot) ≡ (record (all_node slot) { next = cond c (Some q) slot.all.next })) [ true ↦ refl | false ↦ refl ]
-
-pub own-bridged : (prev next : Option ℕ) (s : ℕ) (slot : Slot) → own_node (linked PrevOwn next prev s (linked NextOwn prev next s slot)) ≡ bridged prev next s (own_node slot)
-own-bridged prev next s slot = by (leads_to prev s) (leads_to next s)
-  where
-    by : (a b : Bool) → own_node (cond b (with_link PrevOwn (cond a (with_link NextOwn slot next) slot) prev) (cond a (with_link NextOwn slot next) slot)) ≡ (record (own_node slot) { prev = cond b prev slot.own.prev; next = cond a next slot.own.next })
-    by true true = refl
-    by true false = refl
-    by false true = refl
-    by false false = refl
-
-pub all-bridged : (prev next : Option ℕ) (s : ℕ) (slot : Slot) → all_node (linked PrevAll next prev s (linked NextAll prev next s slot)) ≡ bridged prev next s (all_node slot)
-all-bridged prev next s slot = by (leads_to prev s) (leads_to next s)
-  where
-    by : (a b : Bool) → all_node (cond b (with_link PrevAll (cond a (with_link NextAll slot next) slot) prev) (cond a (with_link NextAll slot next) slot)) ≡ (record (all_node slot) { prev = cond b prev slot.all.prev; next = cond a next slot.all.next })
-    by true true = refl
-    by true false = refl
-    by false true = refl
-    by false false = refl
 
 -- a link to a node leads to no slot without one
 pub no_lead : (le : ℕ → ℕ → Type 0) (f : ℕ → Option Node) (t q : ℕ) (P : ℕ → Type 0) (o : Option ℕ) → f q ≡ None → IsNearest le f t P o → leads_to o q ≡ false
@@ -118,41 +54,6 @@ all_apart f apart i j a b there_a there_b same =
     let x = came all_node (f i) a there_a in
     let y = came all_node (f j) b there_b in
     apart i j x.0 y.0 x.1 y.1 (ap (λ n. n.key) x.2 ∙ same ∙ sym (ap (λ n. n.key) y.2))
-
--- a nearest link is the answer of a walk over the list
-module _ (f : ℕ → Option Slot) (es : List (ℕ × ℕ)) (births : ℕ) (indexed : IsIndexed f es births) (pid : ℕ) (P : ℕ → Type 0) (from : ℕ) (later : (k : ℕ) → from ≤ k → P k) where
-  pub walk-none : (count : ℕ) → IsNearest up (own_nodes f) pid P None → first_lwp pid (listing (born_row f es) from count) ≡ None
-  walk-none count none = first-none (born_row f es) (is_of pid) from count (λ j x least is.
-      let a = born_in f es j x is in
-      test_apart x.pid pid (λ same. none a.0 (own_node a.1) (ap (option_map own_node) a.2) (ap (λ (r : LwpData). r.pid) a.4 ∙ same) (subst P (sym a.3) (later j least))))
-
-  pub walk-some : (s : ℕ) (slot : Slot) → f s ≡ Some slot → ((k : ℕ) → P k → from ≤ k) → (count : ℕ) → births ≤ from + count → IsNearest up (own_nodes f) pid P (Some s) → first_lwp pid (listing (born_row f es) from count) ≡ Some slot.row
-  walk-some s slot there earlier count all near =
-      let node : near.0 ≡ own_node slot = same_Some near.0 (own_node slot) (sym near.1 ∙ ap (option_map own_node) there) in
-      let key : near.0.key ≡ slot.born = ap (λ n. n.key) node in
-      let list : slot.row.pid ≡ pid = sym (ap (λ n. n.list) node) ∙ near.2 in
-      let its : from ≤ slot.born = earlier slot.born (subst P key near.3) in
-      first-found (born_row f es) (is_of pid) slot.born slot.row (born_of f es births indexed s slot there) (ap (λ n. nat_eq n pid) list ∙ test_same pid) from count its (omega (arith, all, indexed.earlier s slot there))
-      (λ j x least less is.
-      let a = born_in f es j x is in
-      test_apart x.pid pid (λ same. omega (arith, less, key, near.4 a.0 (own_node a.1) (ap (option_map own_node) a.2) (ap (λ (r : LwpData). r.pid) a.4 ∙ same) (subst P (sym a.3) (later j least)), a.3)))
-
-module _ (f : ℕ → Option Slot) (es : List (ℕ × ℕ)) (births : ℕ) (indexed : IsIndexed f es births) where
-  pub first-is_none : (pid : ℕ) → IsNearest up (own_nodes f) pid anywhere None → first_lwp pid (rows_of f es births) ≡ None
-  first-is_none pid near = walk-none f es births indexed pid anywhere 0 (λ k least. tt) births near
-
-  pub first-is_some : (pid s : ℕ) (slot : Slot) → f s ≡ Some slot → IsNearest up (own_nodes f) pid anywhere (Some s) → first_lwp pid (rows_of f es births) ≡ Some slot.row
-  first-is_some pid s slot there near = walk-some f es births indexed pid anywhere 0 (λ k least. tt) s slot there (λ k p. omega arith) births (omega arith) near
-
-  -- the rows after a slot's
-  after_slot : (at : ℕ) (was : Slot) → f at ≡ Some was → rows_after was.row.tid (rows_of f es births) ≡ listing (born_row f es) (was.born + 1) (0 + births - (was.born + 1))
-  after_slot at was there = rows_after-listing (born_row f es) (numbered f es births indexed) was.born was.row (born_of f es births indexed at was there) 0 births (omega arith) (omega (arith, indexed.earlier at was there))
-
-  pub next-is_none : (pid at : ℕ) (was : Slot) → f at ≡ Some was → IsNearest up (own_nodes f) pid (above was.born) None → next_lwp pid was.row.tid (rows_of f es births) ≡ None
-  next-is_none pid at was there near = next_lwp-after pid was.row.tid (rows_of f es births) ∙ ap (first_lwp pid) (after_slot at was there) ∙ walk-none f es births indexed pid (above was.born) (was.born + 1) (λ k least. omega (arith, least)) (0 + births - (was.born + 1)) near
-
-  pub next-is_some : (pid at s : ℕ) (was slot : Slot) → f at ≡ Some was → f s ≡ Some slot → IsNearest up (own_nodes f) pid (above was.born) (Some s) → next_lwp pid was.row.tid (rows_of f es births) ≡ Some slot.row
-  next-is_some pid at s was slot there_was there near = next_lwp-after pid was.row.tid (rows_of f es births) ∙ ap (first_lwp pid) (after_slot at was there_was) ∙ walk-some f es births indexed pid (above was.born) (was.born + 1) (λ k least. omega (arith, least)) s slot there (λ k p. omega (arith, p)) (0 + births - (was.born + 1)) (omega arith) near
 
 -- a list with no first node has no last one
 pub no_last : (f : ℕ → Option Node) (t : ℕ) (o : Option ℕ) → IsNearest down f t anywhere o → IsNearest up f t anywhere None → o ≡ None
@@ -191,24 +92,24 @@ module _ (f : ℕ → Option Slot) (es : List (ℕ × ℕ)) (hs : List (ℕ × E
         let a : leads_to (ends_at hs row.pid).last q ≡ false = no_lead down (own_nodes f) row.pid q anywhere _ (ap (option_map own_node) vacant) (kept.own row.pid).last_is in
         let b : leads_to all.last q ≡ false = no_lead down (all_nodes f) 0 q anywhere _ (ap (option_map all_node) vacant) kept.whole.last_is in
         whole_g q ∙ ap (λ o. option_map (linked NextAll all.last (Some q) q) (option_map (linked NextOwn (ends_at hs row.pid).last (Some q) q) o)) put
-        ∙ ap (λ c. option_map (linked NextAll all.last (Some q) q) (Some (cond c (with_link NextOwn new (Some q)) new))) a ∙ ap (λ c. Some (cond c (with_link NextAll new (Some q)) new)) b
+        ∙ ap (λ c. option_map (linked NextAll all.last (Some q) q) (Some (record new { own = record new.own { next = cond c (Some q) None } }))) a ∙ ap (λ c. Some (record new { all = record new.all { next = cond c (Some q) None } })) b
 
     faces : (s : ℕ) → s ≢ q → option_map face (g s) ≡ option_map face (f s)
     faces s off =
-        ap (option_map face) (whole_g s) ∙ hidden face (linked NextAll all.last (Some q) s) (λ slot. face-linked all.last (Some q) s slot NextAll) _
-        ∙ hidden face (linked NextOwn (ends_at hs row.pid).last (Some q) s) (λ slot. face-linked (ends_at hs row.pid).last (Some q) s slot NextOwn) (f1 s) ∙ ap (option_map face) (others s off)
+        ap (option_map face) (whole_g s) ∙ hidden face (linked NextAll all.last (Some q) s) (λ slot. refl) _
+        ∙ hidden face (linked NextOwn (ends_at hs row.pid).last (Some q) s) (λ slot. refl) (f1 s) ∙ ap (option_map face) (others s off)
 
     own_g : (s : ℕ) → s ≢ q → own_nodes g s ≡ option_map (joined (ends_at hs row.pid).last q s) (own_nodes f s)
     own_g s off =
-        ap (option_map own_node) (whole_g s) ∙ hidden own_node (linked NextAll all.last (Some q) s) (λ slot. own-next_all all.last (Some q) s slot) _
-        ∙ shown own_node (joined (ends_at hs row.pid).last q s) (linked NextOwn (ends_at hs row.pid).last (Some q) s) (λ slot. own-joined (ends_at hs row.pid).last q s slot) (f1 s)
+        ap (option_map own_node) (whole_g s) ∙ hidden own_node (linked NextAll all.last (Some q) s) (λ slot. refl) _
+        ∙ shown own_node (joined (ends_at hs row.pid).last q s) (linked NextOwn (ends_at hs row.pid).last (Some q) s) (λ slot. refl) (f1 s)
         ∙ ap (λ o. option_map (joined (ends_at hs row.pid).last q s) (option_map own_node o)) (others s off)
 
     all_g : (s : ℕ) → s ≢ q → all_nodes g s ≡ option_map (joined all.last q s) (all_nodes f s)
     all_g s off =
         ap (option_map all_node) (whole_g s)
-        ∙ shown all_node (joined all.last q s) (linked NextAll all.last (Some q) s) (λ slot. all-joined all.last q s slot) _
-        ∙ ap (option_map (joined all.last q s)) (hidden all_node (linked NextOwn (ends_at hs row.pid).last (Some q) s) (λ slot. all-next_own (ends_at hs row.pid).last (Some q) s slot) (f1 s) ∙ ap (option_map all_node) (others s off))
+        ∙ shown all_node (joined all.last q s) (linked NextAll all.last (Some q) s) (λ slot. refl) _
+        ∙ ap (option_map (joined all.last q s)) (hidden all_node (linked NextOwn (ends_at hs row.pid).last (Some q) s) (λ slot. refl) (f1 s) ∙ ap (option_map all_node) (others s off))
 
     own_later : (s : ℕ) (was : Node) → own_nodes f s ≡ Some was → was.key < births
     own_later s was there = let x = came own_node (f s) was there in omega (arith, kept.indexed.earlier s x.0 x.1, ap (λ n. n.key) x.2)
@@ -265,7 +166,7 @@ module _ (f : ℕ → Option Slot) (es : List (ℕ × ℕ)) (hs : List (ℕ × E
       | inr off ↦ sym (ap (option_map all_node) (same_g s off))
     ]
 
-    pub rows-set : rows_of g es births ≡ with_row row (rows_of f es births)
+    pub rows-set : rows_of g es births ≡ with_lwp row (rows_of f es births)
     rows-set = rows_of-set f es births kept.indexed g es q set_faces old (record old { row = row }) had has refl tids refl
 
     before : lwp_of row.tid (rows_of f es births) ≡ Some old.row
@@ -276,9 +177,9 @@ module _ (f : ℕ → Option Slot) (es : List (ℕ × ℕ)) (hs : List (ℕ × E
       indexed = IsIndexed-set f es births kept.indexed g es q set_faces old (record old { row = row }) had has refl tids refl;
       own = λ p. IsChain-same (own_nodes f) (own_nodes g) p _ _ set_own (kept.own p);
       whole = IsChain-same (all_nodes f) (all_nodes g) 0 _ _ set_all kept.whole;
-      counted = λ p. kept.counted p ∙ sym (ap (count_by (is_of p)) rows-set ∙ count-with (is_of p) row old.row (rows_of f es births) before (ap (λ n. nat_eq n p) pids));
-      total = kept.total ∙ sym (ap length rows-set ∙ length-with row (rows_of f es births));
-      homes = λ place within. kept.homes place within ∙ sym (ap (count_by (is_at place)) rows-set ∙ count-with (is_at place) row old.row (rows_of f es births) before (ap (λ n. nat_eq (place_of n) place) (sym tids)));
+      counted = λ p. kept.counted p ∙ sym (ap (count_by (is_of p)) rows-set ∙ count-put (λ (l : LwpData). l.tid) (is_of p) row old.row (rows_of f es births) (differ f es births kept.indexed) before (ap (λ n. nat_eq n p) pids));
+      total = kept.total ∙ sym (ap length rows-set ∙ length-map (rows_of f es births) (put_lwp row));
+      homes = λ place within. kept.homes place within ∙ sym (ap (count_by (is_at place)) rows-set ∙ count-put (λ (l : LwpData). l.tid) (is_at place) row old.row (rows_of f es births) (differ f es births kept.indexed) before (ap (λ n. nat_eq (place_of n) place) (sym tids)));
     }
 
   -- what is known of a row that goes
@@ -288,10 +189,10 @@ module _ (f : ℕ → Option Slot) (es : List (ℕ × ℕ)) (hs : List (ℕ × E
 
     -- the counts that go down were above 0
     pub own_positive : 0 < (ends_at hs old.row.pid).count
-    own_positive = omega (arith, kept.counted old.row.pid, count-without (is_of old.row.pid) old.row.tid old.row (rows_of f es births) row_old, ap one (test_same old.row.pid))
+    own_positive = omega (arith, kept.counted old.row.pid, count-without (λ (l : LwpData). l.tid) (is_of old.row.pid) old.row.tid old.row (rows_of f es births) (differ f es births kept.indexed) row_old, ap one (test_same old.row.pid))
 
     pub user_positive : (owner : ℕ) → owner ≡ place_of old.row.tid → owner < 64 → 0 < get_or users owner 0
-    user_positive owner is within = omega (arith, kept.homes owner within, count-without (is_at owner) old.row.tid old.row (rows_of f es births) row_old, ap one (at_yes owner old.row is))
+    user_positive owner is within = omega (arith, kept.homes owner within, count-without (λ (l : LwpData). l.tid) (is_at owner) old.row.tid old.row (rows_of f es births) (differ f es births kept.indexed) row_old, ap one (at_yes owner old.row is))
 
     module _ (f1 : ℕ → Option Slot) (same_1 : (s : ℕ) → s ≢ q → f1 s ≡ f s) where
       -- the node's neighbours are in their slots at each step
@@ -315,45 +216,27 @@ module _ (f : ℕ → Option Slot) (es : List (ℕ × ℕ)) (hs : List (ℕ × E
       all_next = there_1 all_node up 0 (above old.born) old.all.next (λ n. refl) (λ p. omega (arith, p)) (kept.whole.next_is q (all_node old) (ap (option_map all_node) had) refl)
 
   -- a row goes
-  module _ (q : ℕ) (old : Slot) (f1 f2 f3 f4 g : ℕ → Option Slot) (es' : List (ℕ × ℕ)) (hs' : List (ℕ × Ends)) (left all' : Ends) (had : f q ≡ Some old)
+  module _ (q : ℕ) (old : Slot) (f1 g : ℕ → Option Slot) (es' : List (ℕ × ℕ)) (hs' : List (ℕ × Ends)) (left all' : Ends) (had : f q ≡ Some old)
       (gone : f1 q ≡ None) (same_1 : (s : ℕ) → s ≢ q → f1 s ≡ f s)
-      (links_2 : (s : ℕ) → f2 s ≡ option_map (linked NextOwn old.own.prev old.own.next s) (f1 s))
-      (links_3 : (s : ℕ) → f3 s ≡ option_map (linked PrevOwn old.own.next old.own.prev s) (f2 s))
-      (links_4 : (s : ℕ) → f4 s ≡ option_map (linked NextAll old.all.prev old.all.next s) (f3 s))
-      (links_5 : (s : ℕ) → g s ≡ option_map (linked PrevAll old.all.next old.all.prev s) (f4 s))
+      (closed : (s : ℕ) → g s ≡ option_map (closed_up old s) (f1 s))
       (change : (p : ℕ) → lookup (nat_eq p) es' ≡ cond (nat_eq old.row.tid p) None (lookup (nat_eq p) es)) where
-    from_1 : (s : ℕ) → g s ≡ option_map (linked PrevAll old.all.next old.all.prev s) (option_map (linked NextAll old.all.prev old.all.next s) (option_map (linked PrevOwn old.own.next old.own.prev s) (option_map (linked NextOwn old.own.prev old.own.next s) (f1 s))))
-    from_1 s = links_5 s ∙ ap (option_map (linked PrevAll old.all.next old.all.prev s)) (links_4 s ∙ ap (option_map (linked NextAll old.all.prev old.all.next s)) (links_3 s ∙ ap (option_map (linked PrevOwn old.own.next old.own.prev s)) (links_2 s)))
-
     gone_g : g q ≡ None
-    gone_g = from_1 q ∙ ap (λ o. option_map (linked PrevAll old.all.next old.all.prev q) (option_map (linked NextAll old.all.prev old.all.next q) (option_map (linked PrevOwn old.own.next old.own.prev q) (option_map (linked NextOwn old.own.prev old.own.next q) o)))) gone
+    gone_g = closed q ∙ ap (option_map (closed_up old q)) gone
 
     left_faces : (s : ℕ) → s ≢ q → option_map face (g s) ≡ option_map face (f s)
-    left_faces s off =
-        ap (option_map face) (from_1 s)
-        ∙ hidden face (linked PrevAll old.all.next old.all.prev s) (λ slot. face-linked old.all.next old.all.prev s slot PrevAll) _
-        ∙ hidden face (linked NextAll old.all.prev old.all.next s) (λ slot. face-linked old.all.prev old.all.next s slot NextAll) _
-        ∙ hidden face (linked PrevOwn old.own.next old.own.prev s) (λ slot. face-linked old.own.next old.own.prev s slot PrevOwn) _
-        ∙ hidden face (linked NextOwn old.own.prev old.own.next s) (λ slot. face-linked old.own.prev old.own.next s slot NextOwn) (f1 s)
-        ∙ ap (option_map face) (same_1 s off)
+    left_faces s off = ap (option_map face) (closed s) ∙ hidden face (closed_up old s) (λ slot. refl) (f1 s) ∙ ap (option_map face) (same_1 s off)
 
     left_own : (s : ℕ) → s ≢ q → own_nodes g s ≡ option_map (bridged old.own.prev old.own.next s) (own_nodes f s)
     left_own s off =
-        ap (option_map own_node) (from_1 s)
-        ∙ hidden own_node (linked PrevAll old.all.next old.all.prev s) (λ slot. own-prev_all old.all.next old.all.prev s slot) _
-        ∙ hidden own_node (linked NextAll old.all.prev old.all.next s) (λ slot. own-next_all old.all.prev old.all.next s slot) _
-        ∙ shown_twice own_node (bridged old.own.prev old.own.next s) (linked NextOwn old.own.prev old.own.next s) (linked PrevOwn old.own.next old.own.prev s) (λ slot. own-bridged old.own.prev old.own.next s slot) (f1 s)
+        ap (option_map own_node) (closed s) ∙ shown own_node (bridged old.own.prev old.own.next s) (closed_up old s) (λ slot. refl) (f1 s)
         ∙ ap (λ o. option_map (bridged old.own.prev old.own.next s) (option_map own_node o)) (same_1 s off)
 
     left_all : (s : ℕ) → s ≢ q → all_nodes g s ≡ option_map (bridged old.all.prev old.all.next s) (all_nodes f s)
     left_all s off =
-        ap (option_map all_node) (from_1 s)
-        ∙ shown_twice all_node (bridged old.all.prev old.all.next s) (linked NextAll old.all.prev old.all.next s) (linked PrevAll old.all.next old.all.prev s) (λ slot. all-bridged old.all.prev old.all.next s slot) _
-        ∙ ap (option_map (bridged old.all.prev old.all.next s))
-        (hidden all_node (linked PrevOwn old.own.next old.own.prev s) (λ slot. all-prev_own old.own.next old.own.prev s slot) _
-        ∙ hidden all_node (linked NextOwn old.own.prev old.own.next s) (λ slot. all-next_own old.own.prev old.own.next s slot) (f1 s) ∙ ap (option_map all_node) (same_1 s off))
+        ap (option_map all_node) (closed s) ∙ shown all_node (bridged old.all.prev old.all.next s) (closed_up old s) (λ slot. refl) (f1 s)
+        ∙ ap (λ o. option_map (bridged old.all.prev old.all.next s) (option_map all_node o)) (same_1 s off)
 
-    pub rows-removed : rows_of g es' births ≡ without_row old.row.tid (rows_of f es births)
+    pub rows-removed : rows_of g es' births ≡ without_lwp old.row.tid (rows_of f es births)
     rows-removed = rows_of-removed f es births kept.indexed g es' q left_faces old had gone_g change
 
     module _
@@ -370,7 +253,7 @@ module _ (f : ℕ → Option Slot) (es : List (ℕ × ℕ)) (hs : List (ℕ × E
           let indexed = IsIndexed-removed f es births kept.indexed g es' q left_faces old had gone_g change in
           let zero = count-none (is_of old.row.pid) (rows_of g es' births) (first-is_none g es' births indexed old.row.pid near) in
           let same = ap (count_by (is_of old.row.pid)) rows-removed in
-          let count : left.count ≡ 0 = omega (arith, zero, same, left_count, kept.counted old.row.pid, count-without (is_of old.row.pid) old.row.tid old.row (rows_of f es births) (row_old q old had), ap one (test_same old.row.pid)) in
+          let count : left.count ≡ 0 = omega (arith, zero, same, left_count, kept.counted old.row.pid, count-without (λ (l : LwpData). l.tid) (is_of old.row.pid) old.row.tid old.row (rows_of f es births) (differ f es births kept.indexed) (row_old q old had), ap one (test_same old.row.pid)) in
           (λ i. record { first = none i; last = last i; count = count i })
 
     module _ (ends : (p : ℕ) → ends_at hs' p ≡ cond (nat_eq old.row.pid p) left (ends_at hs p))
@@ -396,13 +279,13 @@ module _ (f : ℕ → Option Slot) (es : List (ℕ × ℕ)) (hs : List (ℕ × E
         ];
         whole = rw (all_first, all_last) (IsChain-left (all_nodes f) (all_nodes g) (all_apart f kept.indexed.apart) 0 all.first all.last kept.whole q (all_node old) (ap (option_map all_node) had) refl (ap (option_map all_node) gone_g) left_all);
         counted = λ p. rw rows-removed (elim (cases_eq old.row.pid p) [
-          | inl same ↦ omega (arith, kept.counted p, left_count, count-without (is_of p) old.row.tid old.row (rows_of f es births) (row_old q old had), ap (λ n. (ends_at hs' n).count) (sym same), ap (λ (e : Ends). e.count) left_own_ends, ap (λ n. (ends_at hs n).count) same, ap one (ap (nat_eq old.row.pid) (sym same) ∙ test_same old.row.pid))
-          | inr off ↦ omega (arith, kept.counted p, count-without (is_of p) old.row.tid old.row (rows_of f es births) (row_old q old had), ap (λ (e : Ends). e.count) (left_other_ends p off), ap one (test_apart old.row.pid p off))
+          | inl same ↦ omega (arith, kept.counted p, left_count, count-without (λ (l : LwpData). l.tid) (is_of p) old.row.tid old.row (rows_of f es births) (differ f es births kept.indexed) (row_old q old had), ap (λ n. (ends_at hs' n).count) (sym same), ap (λ (e : Ends). e.count) left_own_ends, ap (λ n. (ends_at hs n).count) same, ap one (ap (nat_eq old.row.pid) (sym same) ∙ test_same old.row.pid))
+          | inr off ↦ omega (arith, kept.counted p, count-without (λ (l : LwpData). l.tid) (is_of p) old.row.tid old.row (rows_of f es births) (differ f es births kept.indexed) (row_old q old had), ap (λ (e : Ends). e.count) (left_other_ends p off), ap one (test_apart old.row.pid p off))
         ]);
-        total = rw rows-removed (omega (arith, kept.total, all_count, length-without old.row.tid old.row (rows_of f es births) (row_old q old had)));
+        total = rw rows-removed (omega (arith, kept.total, all_count, length-without old.row.tid old.row (rows_of f es births) (differ f es births kept.indexed) (row_old q old had)));
         homes = users_set users (rows_of f es births) (rows_of g es' births) owner _ long within
-            (rw rows-removed (omega (arith, kept.homes owner within, count-without (is_at owner) old.row.tid old.row (rows_of f es births) (row_old q old had), ap one (at_yes owner old.row owner_is))))
-            (λ place off. rw rows-removed (omega (arith, count-without (is_at place) old.row.tid old.row (rows_of f es births) (row_old q old had), ap one (at_no owner place old.row owner_is off))))
+            (rw rows-removed (omega (arith, kept.homes owner within, count-without (λ (l : LwpData). l.tid) (is_at owner) old.row.tid old.row (rows_of f es births) (differ f es births kept.indexed) (row_old q old had), ap one (at_yes owner old.row owner_is))))
+            (λ place off. rw rows-removed (omega (arith, count-without (λ (l : LwpData). l.tid) (is_at place) old.row.tid old.row (rows_of f es births) (differ f es births kept.indexed) (row_old q old had), ap one (at_no owner place old.row owner_is off))))
             kept.homes;
       }
 

@@ -1,10 +1,11 @@
 -- The list of what rising birth numbers find.
-use Rattle.std.proofs.Common.{◌≡◌, ◌≢◌, ℕ, zero, suc, ◌+◌, ◌-◌, ◌<◌, ◌≤◌, Bool, true, false, List, [], ◌∷◌, ◌++◌, Option, Some, None, refl, sym, ap, ◌∙◌, arith, inl, inr, cond, nat_eq, add-zero, filter}
-use Rattle.std.specs.List.{cons_option, find}
-use Rattle.std.proofs.lemmas.Bool.{cases_eq}
+use Rattle.std.proofs.Common.{◌≡◌, ◌≢◌, ℕ, zero, suc, ◌+◌, ◌-◌, ◌<◌, ◌≤◌, Bool, true, false, List, [], ◌∷◌, ◌++◌, Option, Some, None, refl, sym, ap, ◌∙◌, arith, inl, inr, cond, nat_eq, add-zero, filter, map}
+use Rattle.std.specs.List.{cons_option}
+use Rattle.std.specs.Option.{option_map}
+use Rattle.std.proofs.lemmas.Bool.{cases_eq, cases_Bool}
 use Rattle.lwp_table.specs.declared.LwpData.{LwpData}
 use Rattle.lwp_table.specs.Lwps.{lwp_of, LacksLwp, Differ}
-use Rattle.lwp_table.proofs.WordLemmas.{test_same, test_apart, with_row, without_row, rows_after}
+use Rattle.lwp_table.proofs.WordLemmas.{test_same, test_apart, rows_after}
 use Rattle.lwp_table.specs.Kept.{listing}
 
 cons_option-append : (o : Option LwpData) (xs ys : List LwpData) → cons_option o (xs ++ ys) ≡ cons_option o xs ++ ys
@@ -81,83 +82,23 @@ module _ (b : ℕ → Option LwpData) (numbered : AreNumbered b) (k : ℕ) (row 
       by None is off rest = rest
       by (Some x) is off rest = let differs : nat_eq x.tid row.tid ≡ false = test_apart x.tid row.tid (other from x off is) in rw differs rest
 
-  module _ (a : ℕ → Option LwpData) (others : (j : ℕ) → j ≢ k → a j ≡ b j) where
-    rest_same : (from count : ℕ) → k < from → listing a from count ≡ listing b from count
-    rest_same from count past = listing-same a b from count (λ j least less. others j (λ same. omega (arith, same)))
+-- the rows that pass a test, and all rows changed, by what each birth number finds
+pub listing-kept : (test : LwpData → Bool) (a b : ℕ → Option LwpData) → ((k : ℕ) → b k ≡ None → a k ≡ None) → ((k : ℕ) (x : LwpData) → b k ≡ Some x → a k ≡ cond (test x) (Some x) None)
+    → (from count : ℕ) → listing a from count ≡ filter test (listing b from count)
+listing-kept test a b none some from zero = refl
+listing-kept test a b none some from (suc count) = by (b from) refl (listing-kept test a b none some (from + 1) count)
+  where
+    by : (o : Option LwpData) → b from ≡ o → listing a (from + 1) count ≡ filter test (listing b (from + 1) count) → cons_option (a from) (listing a (from + 1) count) ≡ filter test (cons_option o (listing b (from + 1) count))
+    by None is rest = rw (none from is) rest
+    by (Some x) is rest = rw (some from x is) (elim (cases_Bool (test x)) [ inl e ↦ rw e (ap (λ xs. x ∷ xs) rest) | inr e ↦ rw e rest ])
 
-    -- the row goes
-    pub listing-removed : a k ≡ None → (from count : ℕ) → from ≤ k → k < from + count → listing a from count ≡ without_row row.tid (listing b from count)
-    listing-removed none from zero least less = absurd (omega arith)
-    listing-removed none from (suc count) least less = elim (cases_eq from k) [
-      | inl here ↦
-          ap (λ o. cons_option o (listing a (from + 1) count)) (ap a here ∙ none) ∙ rest_same (from + 1) count (omega arith)
-          ∙ sym (ap (λ o. without_row row.tid (cons_option o (listing b (from + 1) count))) (ap b here ∙ at) ∙ ap (λ c. cond c (listing b (from + 1) count) (row ∷ without_row row.tid (listing b (from + 1) count))) (test_same row.tid))
-      | inr off ↦ rw (others from off) (by (b from) refl off (listing-removed none (from + 1) count (omega arith) (omega arith)))
-    ]
-      where
-        by : (o : Option LwpData) → b from ≡ o → from ≢ k → listing a (from + 1) count ≡ without_row row.tid (listing b (from + 1) count) → cons_option o (listing a (from + 1) count) ≡ without_row row.tid (cons_option o (listing b (from + 1) count))
-        by None is off rest = rest
-        by (Some x) is off rest = let differs : nat_eq x.tid row.tid ≡ false = test_apart x.tid row.tid (other from x off is) in rw differs (ap (λ xs. x ∷ xs) rest)
-
-    -- the row is replaced
-    pub listing-set : (new : LwpData) → a k ≡ Some new → new.tid ≡ row.tid → (from count : ℕ) → from ≤ k → k < from + count → listing a from count ≡ with_row new (listing b from count)
-    listing-set new is_new tids from zero least less = absurd (omega arith)
-    listing-set new is_new tids from (suc count) least less = elim (cases_eq from k) [
-      | inl here ↦
-          ap (λ o. cons_option o (listing a (from + 1) count)) (ap a here ∙ is_new) ∙ ap (λ xs. new ∷ xs) (rest_same (from + 1) count (omega arith))
-          ∙ sym (ap (λ o. with_row new (cons_option o (listing b (from + 1) count))) (ap b here ∙ at) ∙ ap (λ c. cond c (new ∷ listing b (from + 1) count) (row ∷ with_row new (listing b (from + 1) count))) (ap (nat_eq row.tid) tids ∙ test_same row.tid))
-      | inr off ↦ rw (others from off) (by (b from) refl off (listing-set new is_new tids (from + 1) count (omega arith) (omega arith)))
-    ]
-      where
-        by : (o : Option LwpData) → b from ≡ o → from ≢ k → listing a (from + 1) count ≡ with_row new (listing b (from + 1) count) → cons_option o (listing a (from + 1) count) ≡ with_row new (cons_option o (listing b (from + 1) count))
-        by None is off rest = rest
-        by (Some x) is off rest = let differs : nat_eq x.tid new.tid ≡ false = test_apart x.tid new.tid (λ same. other from x off is (same ∙ tids)) in rw differs (ap (λ xs. x ∷ xs) rest)
-
-module _ (b : ℕ → Option LwpData) (test : LwpData → Bool) where
-  pub first-none : (from count : ℕ) → ((j : ℕ) (x : LwpData) → from ≤ j → b j ≡ Some x → test x ≡ false) → find test (listing b from count) ≡ None
-  first-none from zero off = refl
-  first-none from (suc count) off = by (b from) refl (first-none (from + 1) count (λ j x least is. off j x (omega arith) is))
-    where
-      by : (o : Option LwpData) → b from ≡ o → find test (listing b (from + 1) count) ≡ None → find test (cons_option o (listing b (from + 1) count)) ≡ None
-      by None is rest = rest
-      by (Some x) is rest = rw (off from x (omega arith) is) rest
-
-  pub first-found : (k : ℕ) (row : LwpData) → b k ≡ Some row → test row ≡ true → (from count : ℕ) → from ≤ k → k < from + count → ((j : ℕ) (x : LwpData) → from ≤ j → j < k → b j ≡ Some x → test x ≡ false) → find test (listing b from count) ≡ Some row
-  first-found k row at passes from zero least less off = absurd (omega arith)
-  first-found k row at passes from (suc count) least less off = elim (cases_eq from k) [
-    | inl here ↦ ap (λ o. find test (cons_option o (listing b (from + 1) count))) (ap b here ∙ at) ∙ ap (λ c. cond c (Some row) (find test (listing b (from + 1) count))) passes
-    | inr apart ↦ by (b from) refl (omega (arith, apart)) (first-found k row at passes (from + 1) count (omega (arith, apart)) (omega arith) (λ j x least less is. off j x (omega arith) less is))
-  ]
-    where
-      by : (o : Option LwpData) → b from ≡ o → from < k → find test (listing b (from + 1) count) ≡ Some row → find test (cons_option o (listing b (from + 1) count)) ≡ Some row
-      by None is before rest = rest
-      by (Some x) is before rest = rw (off from x (omega arith) before is) rest
-
-module _ (b : ℕ → Option LwpData) where
-  -- no birth number from here on finds a row
-  pub listing-empty : (from count : ℕ) → ((j : ℕ) (x : LwpData) → from ≤ j → b j ≡ Some x → ⊥) → listing b from count ≡ []
-  listing-empty from zero none = refl
-  listing-empty from (suc count) none = by (b from) refl (listing-empty (from + 1) count (λ j x least is. none j x (omega arith) is))
-    where
-      by : (o : Option LwpData) → b from ≡ o → listing b (from + 1) count ≡ [] → cons_option o (listing b (from + 1) count) ≡ []
-      by None is rest = rest
-      by (Some x) is rest = absurd (none from x (omega arith) is)
-
-  -- the first birth number from here on that finds a row
-  pub listing-skip : (k : ℕ) (row : LwpData) → b k ≡ Some row → (from count : ℕ) → from ≤ k → k < from + count → ((j : ℕ) (x : LwpData) → from ≤ j → j < k → b j ≡ Some x → ⊥) → listing b from count ≡ row ∷ listing b (k + 1) (from + count - (k + 1))
-  listing-skip k row at from zero least less none = absurd (omega arith)
-  listing-skip k row at from (suc count) least less none = elim (cases_eq from k) [
-    | inl here ↦
-        let left : from + suc count - (k + 1) ≡ count = omega arith in
-        rw (left, ← here) (ap (λ o. cons_option o (listing b (from + 1) count)) (ap b here ∙ at))
-    | inr off ↦
-        let left : from + suc count - (k + 1) ≡ from + 1 + count - (k + 1) = omega arith in
-        rw left (by (b from) refl (omega (arith, off)) (listing-skip k row at (from + 1) count (omega (arith, off)) (omega arith) (λ j x least less is. none j x (omega arith) less is)))
-  ]
-    where
-      by : (o : Option LwpData) → b from ≡ o → from < k → listing b (from + 1) count ≡ row ∷ listing b (k + 1) (from + 1 + count - (k + 1)) → cons_option o (listing b (from + 1) count) ≡ row ∷ listing b (k + 1) (from + 1 + count - (k + 1))
-      by None is before rest = rest
-      by (Some x) is before rest = absurd (none from x (omega arith) before is)
+pub listing-mapped : (h : LwpData → LwpData) (a b : ℕ → Option LwpData) → ((k : ℕ) → a k ≡ option_map h (b k)) → (from count : ℕ) → listing a from count ≡ map h (listing b from count)
+listing-mapped h a b same from zero = refl
+listing-mapped h a b same from (suc count) = rw (same from) (by (b from) (listing-mapped h a b same (from + 1) count))
+  where
+    by : (o : Option LwpData) → listing a (from + 1) count ≡ map h (listing b (from + 1) count) → cons_option (option_map h o) (listing a (from + 1) count) ≡ map h (cons_option o (listing b (from + 1) count))
+    by None rest = rest
+    by (Some x) rest = ap (λ xs. h x ∷ xs) rest
 
 module _ (b : ℕ → Option LwpData) (p : LwpData → Bool) where
   -- rows that fail the test are passed over

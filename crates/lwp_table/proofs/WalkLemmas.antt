@@ -1,99 +1,132 @@
 -- Walks along the links, and the rows that they meet.
-use Rattle.std.proofs.Common.{◌≡◌, ◌≢◌, ℕ, ◌+◌, ◌-◌, ◌/◌, ◌<◌, ◌≤◌, List, [], ◌∷◌, ◌++◌, Option, Some, None, IfSome, refl, sym, ap, subst, ◌∙◌, arith, nat_eq, filter}
+use Rattle.std.proofs.Common.{◌≡◌, ℕ, ◌+◌, ◌-◌, ◌<◌, ◌≤◌, Bool, true, false, inl, inr, List, [], ◌∷◌, Option, Some, None, IfSome, refl, sym, ap, subst, ◌∙◌, arith, nat_eq, filter}
 use Rattle.std.specs.Option.{option_map, IsSomeAnd}
+use Rattle.std.proofs.lemmas.Bool.{cases_Bool}
+use Rattle.std.proofs.lemmas.Bool.Decides.{nat_tests}
 use Rattle.std.proofs.lemmas.Option.{same_Some}
 use Rattle.lwp_table.specs.declared.LwpData.{LwpData}
 use Rattle.lwp_table.specs.declared.links.Slot.{Slot}
 use Rattle.lwp_table.specs.Chain.{Node, IsNearest, IsChain, up, anywhere, above}
 use Rattle.lwp_table.specs.Kept.{own_node, own_nodes, all_node, all_nodes, is_of, born_row, listing, rows_of, IsIndexed, from_slot, rows_from, IsWalk}
-use Rattle.lwp_table.proofs.WordLemmas.{test_same, test_apart}
-use Rattle.lwp_table.proofs.ListLemmas.{listing-empty, listing-skip, filter-skip, filter-first}
-use Rattle.lwp_table.proofs.IndexLemmas.{born_in, born_of}
-use Rattle.lwp_table.proofs.KeptLemmas.{some_and, came}
+use Rattle.std.specs.List.{find}
+use Rattle.lwp_table.specs.Lwps.{first_lwp, next_lwp}
+use Rattle.lwp_table.proofs.WordLemmas.{test_same, next_lwp-after}
+use Rattle.lwp_table.proofs.ListLemmas.{rows_after-listing, filter-skip, filter-first}
+use Rattle.lwp_table.proofs.IndexLemmas.{some_and, came, numbered, born_in, born_of}
 
--- the walk's start, and its next place
-pub whole-first : (f : ℕ → Option Slot) (o : Option ℕ) → IsNearest up (all_nodes f) 0 anywhere o → IsNearest up (all_nodes f) 0 (λ p. 0 ≤ p) o
-whole-first f None near = λ j node there on p. near j node there on tt
-whole-first f (Some s) near = (near.0, near.1, near.2, omega arith, λ j other there on p. near.4 j other there on tt)
+filter-true : (xs : List LwpData) → filter (λ x. true) xs ≡ xs
+filter-true [] = refl
+filter-true (x ∷ xs) = ap (λ ys. x ∷ ys) (filter-true xs)
 
-pub whole-next : (f : ℕ → Option Slot) (key : ℕ) (o : Option ℕ) → IsNearest up (all_nodes f) 0 (above key) o → IsNearest up (all_nodes f) 0 (λ p. key + 1 ≤ p) o
-whole-next f key None near = λ j node there on p. near j node there on (omega (arith, p))
-whole-next f key (Some s) near = (near.0, near.1, near.2, omega (arith, near.3), λ j other there on p. near.4 j other there on (omega (arith, p)))
+abbrev head : List LwpData → Option LwpData
+head [] = None
+head (x ∷ xs) = Some x
 
--- a walk over all rows
-module _ (f : ℕ → Option Slot) (es : List (ℕ × ℕ)) (births : ℕ) (indexed : IsIndexed f es births) where
-  pub whole-none : (from : ℕ) → IsNearest up (all_nodes f) 0 (λ p. from ≤ p) None → listing (born_row f es) from (births - from) ≡ []
-  whole-none from none = listing-empty (born_row f es) from (births - from) (λ j x least is.
-      let a = born_in f es j x is in
-      none a.0 (all_node a.1) (ap (option_map all_node) a.2) refl (omega (arith, least, a.3)))
+find-head : (p : LwpData → Bool) (xs : List LwpData) → find p xs ≡ head (filter p xs)
+find-head p [] = refl
+find-head p (x ∷ xs) = elim (cases_Bool (p x)) [ inl e ↦ rw e refl | inr e ↦ rw e (find-head p xs) ]
 
-  pub whole-some : (from s : ℕ) (slot : Slot) → f s ≡ Some slot → IsNearest up (all_nodes f) 0 (λ p. from ≤ p) (Some s) → listing (born_row f es) from (births - from) ≡ slot.row ∷ listing (born_row f es) (slot.born + 1) (births - (slot.born + 1))
-  whole-some from s slot there near =
-      let key : near.0.key ≡ slot.born = ap (λ n. n.key) (same_Some near.0 (all_node slot) (sym near.1 ∙ ap (option_map all_node) there)) in
-      let least : from ≤ slot.born = omega (arith, key, near.3) in
-      let less : slot.born < births = indexed.earlier s slot there in
-      let left : from + (births - from) - (slot.born + 1) ≡ births - (slot.born + 1) = omega (arith, least, less) in
-      listing-skip (born_row f es) slot.born slot.row (born_of f es births indexed s slot there) from (births - from) least (omega (arith, least, less))
-      (λ j x from_j before is.
-      let a = born_in f es j x is in
-      omega (arith, before, key, a.3, near.4 a.0 (all_node a.1) (ap (option_map all_node) a.2) refl (omega (arith, from_j, a.3))))
-      ∙ ap (λ n. slot.row ∷ listing (born_row f es) (slot.born + 1) n) left
+-- a walk along a list, whose rows are those that pass a test
+module _ (f : ℕ → Option Slot) (es : List (ℕ × ℕ)) (births : ℕ) (indexed : IsIndexed f es births) (node : Slot → Node) (list : ℕ) (p : LwpData → Bool)
+    (keys : (slot : Slot) → (node slot).key ≡ slot.born) (passes : (slot : Slot) → (node slot).list ≡ list → p slot.row ≡ true) (listed : (slot : Slot) → p slot.row ≡ true → (node slot).list ≡ list) where
+  -- a row that stands in no slot of the list fails the test
+  fails : (j : ℕ) (x : LwpData) → born_row f es j ≡ Some x → ((s : ℕ) (slot : Slot) → f s ≡ Some slot → (node slot).list ≡ list → (node slot).key ≡ j → ⊥) → p x ≡ false
+  fails j x is none = elim (cases_Bool (p x)) [
+    | inl its ↦ let a = born_in f es j x is in absurd (none a.0 a.1 a.2 (listed a.1 (ap p a.4 ∙ its)) (keys a.1 ∙ a.3))
+    | inr out ↦ out
+  ]
 
-  -- from a slot on, its row comes first
-  whole-here : (s : ℕ) (slot : Slot) → f s ≡ Some slot → listing (born_row f es) slot.born (births - slot.born) ≡ slot.row ∷ listing (born_row f es) (slot.born + 1) (births - (slot.born + 1))
-  whole-here s slot there =
-      let less : slot.born < births = indexed.earlier s slot there in
-      let left : slot.born + (births - slot.born) - (slot.born + 1) ≡ births - (slot.born + 1) = omega (arith, less) in
-      listing-skip (born_row f es) slot.born slot.row (born_of f es births indexed s slot there) slot.born (births - slot.born) (omega arith) (omega (arith, less)) (λ j x least before is. omega (arith, least, before))
-      ∙ ap (λ n. slot.row ∷ listing (born_row f es) (slot.born + 1) n) left
-
-  -- from a place on, the rows are those from the nearest link on
-  all-nearest : (from : ℕ) (o : Option ℕ) → IsNearest up (all_nodes f) 0 (λ p. from ≤ p) o → listing (born_row f es) from (births - from) ≡ rows_from f es births o
-  all-nearest from None near = whole-none from near
-  all-nearest from (Some s) near =
-      let slot = came all_node (f s) near.0 near.1 in
-      whole-some from s slot.0 slot.1 near ∙ sym (ap (from_slot f es births) slot.1 ∙ whole-here s slot.0 slot.1)
-
-  pub all-first : (o : Option ℕ) → IsNearest up (all_nodes f) 0 anywhere o → rows_of f es births ≡ rows_from f es births o
-  all-first o near = let all : births ≡ births - 0 = omega arith in ap (λ n. listing (born_row f es) 0 n) all ∙ all-nearest 0 o (whole-first f o near)
-
-  -- a step of the walk
-  pub all-step : (s : ℕ) (slot : Slot) → f s ≡ Some slot → IsNearest up (all_nodes f) 0 (above slot.born) slot.all.next → rows_from f es births (Some s) ≡ slot.row ∷ rows_from f es births slot.all.next
-  all-step s slot there near = ap (from_slot f es births) there ∙ whole-here s slot there ∙ ap (λ xs. slot.row ∷ xs) (all-nearest (slot.born + 1) slot.all.next (whole-next f slot.born slot.all.next near))
-
--- a walk over the rows of a process
-module _ (f : ℕ → Option Slot) (es : List (ℕ × ℕ)) (births : ℕ) (indexed : IsIndexed f es births) (pid : ℕ) where
-  -- from a place on, the rows of the process are those from the nearest link on
-  pub left-nearest : (P : ℕ → Type 0) (from : ℕ) → ((k : ℕ) → from ≤ k → P k) → ((k : ℕ) → P k → from ≤ k) → (o : Option ℕ) → IsNearest up (own_nodes f) pid P o → from ≤ births → filter (is_of pid) (listing (born_row f es) from (births - from)) ≡ filter (is_of pid) (rows_from f es births o)
-  left-nearest P from to back None near most =
+  -- from a place on, the rows of the list are those from the nearest link on
+  nearest : (P : ℕ → Type 0) (from : ℕ) → ((k : ℕ) → from ≤ k → P k) → ((k : ℕ) → P k → from ≤ k) → (o : Option ℕ) → IsNearest up (λ j. option_map node (f j)) list P o → from ≤ births
+      → filter p (listing (born_row f es) from (births - from)) ≡ filter p (rows_from f es births o)
+  nearest P from to back None near most =
       let all : from + (births - from) - births ≡ 0 = omega (arith, most) in
-      filter-skip (born_row f es) (is_of pid) births from (births - from) most (omega (arith, most)) (λ j x least less is.
-      let a = born_in f es j x is in
-      test_apart x.pid pid (λ same. near a.0 (own_node a.1) (ap (option_map own_node) a.2) (ap (λ (r : LwpData). r.pid) a.4 ∙ same) (subst P (sym a.3) (to j least))))
-      ∙ ap (λ n. filter (is_of pid) (listing (born_row f es) births n)) all
-  left-nearest P from to back (Some s) near most =
-      let slot = came own_node (f s) near.0 near.1 in
-      let key : near.0.key ≡ slot.0.born = ap (λ n. n.key) (sym slot.2) in
+      filter-skip (born_row f es) p births from (births - from) most (omega (arith, most))
+      (λ j x least less is. fails j x is (λ s slot there on key. near s (node slot) (ap (option_map node) there) on (subst P (sym key) (to j least))))
+      ∙ ap (λ n. filter p (listing (born_row f es) births n)) all
+  nearest P from to back (Some s) near most =
+      let slot = came node (f s) near.0 near.1 in
+      let key : near.0.key ≡ slot.0.born = ap (λ n. n.key) (sym slot.2) ∙ keys slot.0 in
       let least : from ≤ slot.0.born = omega (arith, key, back near.0.key near.3) in
       let less : slot.0.born < births = indexed.earlier s slot.0 slot.1 in
       let left : from + (births - from) - slot.0.born ≡ births - slot.0.born = omega (arith, least, less) in
-      filter-skip (born_row f es) (is_of pid) slot.0.born from (births - from) least (omega (arith, least, less)) (λ j x from_j before is.
-      let a = born_in f es j x is in
-      test_apart x.pid pid (λ same. omega (arith, before, key, a.3, near.4 a.0 (own_node a.1) (ap (option_map own_node) a.2) (ap (λ (r : LwpData). r.pid) a.4 ∙ same) (subst P (sym a.3) (to j from_j)))))
-      ∙ ap (λ n. filter (is_of pid) (listing (born_row f es) slot.0.born n)) left
-      ∙ sym (ap (λ o. filter (is_of pid) (from_slot f es births o)) slot.1)
+      filter-skip (born_row f es) p slot.0.born from (births - from) least (omega (arith, least, less))
+      (λ j x from_j before is. fails j x is (λ t other there on at. omega (arith, before, key, at, near.4 t (node other) (ap (option_map node) there) on (subst P (sym at) (to j from_j)))))
+      ∙ ap (λ n. filter p (listing (born_row f es) slot.0.born n)) left
+      ∙ sym (ap (λ o. filter p (from_slot f es births o)) slot.1)
 
-  pub left-first : (o : Option ℕ) → IsNearest up (own_nodes f) pid anywhere o → filter (is_of pid) (rows_of f es births) ≡ filter (is_of pid) (rows_from f es births o)
-  left-first o near =
+  walk-first : (o : Option ℕ) → IsNearest up (λ j. option_map node (f j)) list anywhere o → filter p (rows_of f es births) ≡ filter p (rows_from f es births o)
+  walk-first o near =
       let all : births ≡ births - 0 = omega arith in
-      ap (λ n. filter (is_of pid) (listing (born_row f es) 0 n)) all ∙ left-nearest anywhere 0 (λ k least. tt) (λ k p. omega arith) o near (omega arith)
+      ap (λ n. filter p (listing (born_row f es) 0 n)) all ∙ nearest anywhere 0 (λ k least. tt) (λ k p. omega arith) o near (omega arith)
+
+  -- the row at which the walk stands
+  walk-here : (s : ℕ) (slot : Slot) → f s ≡ Some slot → (node slot).list ≡ list → filter p (rows_from f es births (Some s)) ≡ slot.row ∷ filter p (listing (born_row f es) (slot.born + 1) (births - (slot.born + 1)))
+  walk-here s slot there on =
+      ap (λ o. filter p (from_slot f es births o)) there
+      ∙ filter-first (born_row f es) p slot.born births slot.row (born_of f es births indexed s slot there) (passes slot on) (indexed.earlier s slot there)
 
   -- a step of the walk
-  pub left-step : (s : ℕ) (slot : Slot) → f s ≡ Some slot → slot.row.pid ≡ pid → IsNearest up (own_nodes f) pid (above slot.born) slot.own.next → filter (is_of pid) (rows_from f es births (Some s)) ≡ slot.row ∷ filter (is_of pid) (rows_from f es births slot.own.next)
-  left-step s slot there list near =
-      ap (λ o. filter (is_of pid) (from_slot f es births o)) there
-      ∙ filter-first (born_row f es) (is_of pid) slot.born births slot.row (born_of f es births indexed s slot there) (ap (λ n. nat_eq n pid) list ∙ test_same pid) (indexed.earlier s slot there)
-      ∙ ap (λ xs. slot.row ∷ xs) (left-nearest (above slot.born) (slot.born + 1) (λ k least. omega (arith, least)) (λ k p. omega (arith, p)) slot.own.next near (omega (arith, indexed.earlier s slot there)))
+  walk-next : (s : ℕ) (slot : Slot) (next : Option ℕ) → f s ≡ Some slot → IsNearest up (λ j. option_map node (f j)) list (above slot.born) next
+      → filter p (listing (born_row f es) (slot.born + 1) (births - (slot.born + 1))) ≡ filter p (rows_from f es births next)
+  walk-next s slot next there near = nearest (above slot.born) (slot.born + 1) (λ k least. omega (arith, least)) (λ k p. omega (arith, p)) next near (omega (arith, indexed.earlier s slot there))
+
+  walk-step : (s : ℕ) (slot : Slot) (next : Option ℕ) → f s ≡ Some slot → (node slot).list ≡ list → IsNearest up (λ j. option_map node (f j)) list (above slot.born) next
+      → filter p (rows_from f es births (Some s)) ≡ slot.row ∷ filter p (rows_from f es births next)
+  walk-step s slot next there on near = walk-here s slot there on ∙ ap (λ xs. slot.row ∷ xs) (walk-next s slot next there near)
+
+-- over all rows, and over those of a process
+module _ (f : ℕ → Option Slot) (es : List (ℕ × ℕ)) (births : ℕ) (indexed : IsIndexed f es births) where
+  pub all-first : (o : Option ℕ) → IsNearest up (all_nodes f) 0 anywhere o → rows_of f es births ≡ rows_from f es births o
+  all-first o near = sym (filter-true (rows_of f es births)) ∙ walk-first f es births indexed all_node 0 (λ x. true) (λ slot. refl) (λ slot on. refl) (λ slot its. refl) o near ∙ filter-true (rows_from f es births o)
+
+  pub all-step : (s : ℕ) (slot : Slot) → f s ≡ Some slot → IsNearest up (all_nodes f) 0 (above slot.born) slot.all.next → rows_from f es births (Some s) ≡ slot.row ∷ rows_from f es births slot.all.next
+  all-step s slot there near =
+      sym (filter-true (rows_from f es births (Some s))) ∙ walk-step f es births indexed all_node 0 (λ x. true) (λ slot. refl) (λ slot on. refl) (λ slot its. refl) s slot slot.all.next there refl near
+      ∙ ap (λ xs. slot.row ∷ xs) (filter-true (rows_from f es births slot.all.next))
+
+  module _ (pid : ℕ) where
+    of_pid : (slot : Slot) → is_of pid slot.row ≡ true → slot.row.pid ≡ pid
+    of_pid slot its = grind (arith, nat_tests, its)
+
+    of_own : (slot : Slot) → slot.row.pid ≡ pid → is_of pid slot.row ≡ true
+    of_own slot on = ap (λ n. nat_eq n pid) on ∙ test_same pid
+
+    pub left-first : (o : Option ℕ) → IsNearest up (own_nodes f) pid anywhere o → filter (is_of pid) (rows_of f es births) ≡ filter (is_of pid) (rows_from f es births o)
+    left-first o near = walk-first f es births indexed own_node pid (is_of pid) (λ slot. refl) of_own of_pid o near
+
+    pub left-step : (s : ℕ) (slot : Slot) → f s ≡ Some slot → slot.row.pid ≡ pid → IsNearest up (own_nodes f) pid (above slot.born) slot.own.next → filter (is_of pid) (rows_from f es births (Some s)) ≡ slot.row ∷ filter (is_of pid) (rows_from f es births slot.own.next)
+    left-step s slot there on near = walk-step f es births indexed own_node pid (is_of pid) (λ slot. refl) of_own of_pid s slot slot.own.next there on near
+
+    -- the first row that a link leads to
+    found : (xs : List LwpData) (s : ℕ) (slot : Slot) (P : ℕ → Type 0) → f s ≡ Some slot → IsNearest up (own_nodes f) pid P (Some s) → filter (is_of pid) xs ≡ filter (is_of pid) (rows_from f es births (Some s))
+        → first_lwp pid xs ≡ Some slot.row
+    found xs s slot P there near same =
+        let on : slot.row.pid ≡ pid = sym (ap (λ n. n.list) (same_Some near.0 (own_node slot) (sym near.1 ∙ ap (option_map own_node) there))) ∙ near.2 in
+        find-head (is_of pid) xs ∙ ap head (same ∙ walk-here f es births indexed own_node pid (is_of pid) (λ slot. refl) of_own of_pid s slot there on)
+
+    pub first-is_none : IsNearest up (own_nodes f) pid anywhere None → first_lwp pid (rows_of f es births) ≡ None
+    first-is_none near = find-head (is_of pid) (rows_of f es births) ∙ ap head (left-first None near)
+
+    pub first-is_some : (s : ℕ) (slot : Slot) → f s ≡ Some slot → IsNearest up (own_nodes f) pid anywhere (Some s) → first_lwp pid (rows_of f es births) ≡ Some slot.row
+    first-is_some s slot there near = found (rows_of f es births) s slot anywhere there near (left-first (Some s) near)
+
+    -- the rows after a slot's
+    after_slot : (at : ℕ) (was : Slot) → f at ≡ Some was → next_lwp pid was.row.tid (rows_of f es births) ≡ first_lwp pid (listing (born_row f es) (was.born + 1) (births - (was.born + 1)))
+    after_slot at was there =
+        let all : 0 + births - (was.born + 1) ≡ births - (was.born + 1) = omega arith in
+        next_lwp-after pid was.row.tid (rows_of f es births) ∙ ap (first_lwp pid) (rows_after-listing (born_row f es) (numbered f es births indexed) was.born was.row (born_of f es births indexed at was there) 0 births (omega arith) (omega (arith, indexed.earlier at was there))
+        ∙ ap (listing (born_row f es) (was.born + 1)) all)
+
+    later : (at : ℕ) (was : Slot) (next : Option ℕ) → f at ≡ Some was → IsNearest up (own_nodes f) pid (above was.born) next
+        → filter (is_of pid) (listing (born_row f es) (was.born + 1) (births - (was.born + 1))) ≡ filter (is_of pid) (rows_from f es births next)
+    later at was next there near = walk-next f es births indexed own_node pid (is_of pid) (λ slot. refl) of_own of_pid at was next there near
+
+    pub next-is_none : (at : ℕ) (was : Slot) → f at ≡ Some was → IsNearest up (own_nodes f) pid (above was.born) None → next_lwp pid was.row.tid (rows_of f es births) ≡ None
+    next-is_none at was there near = after_slot at was there ∙ find-head (is_of pid) _ ∙ ap head (later at was None there near)
+
+    pub next-is_some : (at s : ℕ) (was slot : Slot) → f at ≡ Some was → f s ≡ Some slot → IsNearest up (own_nodes f) pid (above was.born) (Some s) → next_lwp pid was.row.tid (rows_of f es births) ≡ Some slot.row
+    next-is_some at s was slot there_was there near = after_slot at was there_was ∙ found _ s slot (above was.born) there near (later at was (Some s) there_was near)
 
 -- a link leads to a slot of its list
 walk_there : (f : ℕ → Option Slot) (node : Slot → Node) (list : ℕ) (P : ℕ → Type 0) (o : Option ℕ) → IsNearest up (λ j. option_map node (f j)) list P o → IfSome o (λ s. IsSomeAnd (f s) (λ slot. (node slot).list ≡ list))

@@ -6,6 +6,7 @@ use Rattle.std.specs.Map.{lookup}
 use Rattle.pid_blocks.specs.Blocks.{slot, tid_owner}
 use Rattle.lwp_table.specs.declared.LwpData.{LwpData}
 use Rattle.lwp_table.specs.declared.links.Slot.{Slot}
+use Rattle.lwp_table.specs.declared.links.Links.{Links}
 use Rattle.lwp_table.specs.declared.links.Ends.{Ends}
 use Rattle.lwp_table.specs.declared.links.Link.{Link}
 use Rattle.lwp_table.specs.declared.links.Link.TheVariants.{NextOwn, PrevOwn, NextAll, PrevAll}
@@ -37,16 +38,24 @@ all_node slot = record { key = slot.born; list = 0; prev = slot.all.prev; next =
 abbrev pub all_nodes : (ℕ → Option Slot) → ℕ → Option Node
 all_nodes f s = option_map all_node (f s)
 
--- the slot with one of its links changed
-abbrev pub with_link : Link → Slot → Option ℕ → Slot
-with_link NextOwn slot to = record slot { own = record slot.own { next = to } }
-with_link PrevOwn slot to = record slot { own = record slot.own { prev = to } }
-with_link NextAll slot to = record slot { all = record slot.all { next = to } }
-with_link PrevAll slot to = record slot { all = record slot.all { prev = to } }
+-- a link of the slot s, once that of the slot `at` was changed
+abbrev pub turned : Option ℕ → Option ℕ → ℕ → Option ℕ → Option ℕ
+turned at to s link = if leads_to at s then to else link
 
 -- the slot s, once the link of the slot `at` was changed
 abbrev pub linked : Link → Option ℕ → Option ℕ → ℕ → Slot → Slot
-linked link at to s slot = if leads_to at s then with_link link slot to else slot
+linked NextOwn at to s slot = record slot { own = record slot.own { next = turned at to s slot.own.next } }
+linked PrevOwn at to s slot = record slot { own = record slot.own { prev = turned at to s slot.own.prev } }
+linked NextAll at to s slot = record slot { all = record slot.all { next = turned at to s slot.all.next } }
+linked PrevAll at to s slot = record slot { all = record slot.all { prev = turned at to s slot.all.prev } }
+
+-- the links of the slot s in a list, once the slot between these two has left it
+abbrev pub passed_by : Links → ℕ → Links → Links
+passed_by gone s links = record { prev = turned gone.next gone.prev s links.prev; next = turned gone.prev gone.next s links.next }
+
+-- the slot s, once its neighbour has left both lists
+abbrev pub closed_up : Slot → ℕ → Slot → Slot
+closed_up gone s slot = record slot { own = passed_by gone.own s slot.own; all = passed_by gone.all s slot.all }
 
 -- the ends of an empty list
 abbrev pub no_ends : Ends

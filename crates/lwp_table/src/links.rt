@@ -4,7 +4,7 @@ ghost use Rattle.std.specs.Prelude.{◌≡◌, ℕ, ◌+◌, ◌<◌, ◌≤◌,
 ghost use Rattle.std.specs.Option.{option_map};
 ghost use Rattle.slab.specs.Slab.{get, slab_len, ContainsKey};
 ghost use Rattle.indexmap.specs.IndexMap.{get as index_get, spare};
-ghost use Rattle.lwp_table.specs.Kept.{linked, ends_at, no_ends, place_of};
+ghost use Rattle.lwp_table.specs.Kept.{linked, closed_up, ends_at, no_ends, place_of};
 
 use crate::LwpData;
 use indexmap::IndexMap;
@@ -74,6 +74,22 @@ pub fn set_link(slots: &mut Slab<Slot>, link: Link, at: Option<usize>, to: Optio
         }
         slots[s] = slot;
     }
+}
+
+/// Links the neighbours of a slot that has left both of its lists.
+pub fn close_up(slots: &mut Slab<Slot>, gone: &Slot)
+    requires own_prev { IfSome gone.now.own.prev (λ s. ContainsKey slots.old s) }
+    requires own_next { IfSome gone.now.own.next (λ s. ContainsKey slots.old s) }
+    requires all_prev { IfSome gone.now.all.prev (λ s. ContainsKey slots.old s) }
+    requires all_next { IfSome gone.now.all.next (λ s. ContainsKey slots.old s) }
+    ensures closed { (s : ℕ) → get slots.new s ≡ option_map (closed_up gone.now s) (get slots.old s) }
+    ensures len { slab_len slots.new ≡ slab_len slots.old }
+    ensures capacity { slots.new.capacity ≡ slots.old.capacity }
+{
+    set_link(slots, Link::NextOwn, gone.own.prev, gone.own.next);
+    set_link(slots, Link::PrevOwn, gone.own.next, gone.own.prev);
+    set_link(slots, Link::NextAll, gone.all.prev, gone.all.next);
+    set_link(slots, Link::PrevAll, gone.all.next, gone.all.prev);
 }
 
 /// The ends of the list of a process.

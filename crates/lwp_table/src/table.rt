@@ -12,7 +12,9 @@ ghost use Rattle.pid_blocks.specs.Blocks.{tid_owner};
 ghost use Rattle.lwp_table.specs.Lwps.{lwp_of, lwps_of, first_lwp, next_lwp, has_lwp, with_lwp, without_lwp, Differ};
 
 use crate::LwpData;
-use crate::links::{Ends, Link, Links, Slot, ends_of, put_ends, set_link, user_place, without};
+use crate::links::{
+    Ends, Link, Links, Slot, close_up, ends_of, put_ends, set_link, user_place, without,
+};
 use crate::walks::{Iter, OfProcess};
 use indexmap::IndexMap;
 use pid_blocks::{Pid, Tid, Uid};
@@ -168,10 +170,7 @@ impl LwpTable {
     {
         let slot = self.slots.swap_remove(&tid.get()).unwrap();
         let gone = self.rows.remove(slot);
-        set_link(&mut self.rows, Link::NextOwn, gone.own.prev, gone.own.next);
-        set_link(&mut self.rows, Link::PrevOwn, gone.own.next, gone.own.prev);
-        set_link(&mut self.rows, Link::NextAll, gone.all.prev, gone.all.next);
-        set_link(&mut self.rows, Link::PrevAll, gone.all.next, gone.all.prev);
+        close_up(&mut self.rows, &gone);
         let pid = gone.row.pid.get();
         let own = ends_of(&self.heads, pid);
         put_ends(&mut self.heads, pid, without(own, gone.own));

@@ -5,7 +5,7 @@ ghost use Rattle.pid_blocks.specs.Users.{IsUser};
 ghost use Rattle.pid_blocks.specs.Blocks.{pid_block, tid_block, cursor_after, next_free, first_free, InBlock, pid_owner, tid_owner};
 ghost use Rattle.pid_blocks.specs.Search.{Decides};
 
-use crate::{Block, Uid};
+use crate::{Block, FIRST_PID, FIRST_TID, FIRST_USER, PIDS, TIDS, Uid};
 
 /// The process numbers of a user.
 pub fn pid_block(user: Uid) -> Block
@@ -13,8 +13,8 @@ pub fn pid_block(user: Uid) -> Block
     ensures user { IsUser user }
 {
     Block {
-        first: 1000 * (user.slot() as u32 + 1),
-        size: 1000,
+        first: FIRST_PID + PIDS * user.slot() as u32,
+        size: PIDS,
     }
 }
 
@@ -24,8 +24,8 @@ pub fn tid_block(user: Uid) -> Block
     ensures user { IsUser user }
 {
     Block {
-        first: 100000 + 4000 * user.slot() as u32,
-        size: 4000,
+        first: FIRST_TID + TIDS * user.slot() as u32,
+        size: TIDS,
     }
 }
 
@@ -36,7 +36,8 @@ pub fn owner_of_pid(number: u32) -> Option<Uid>
     ensures home { IfSome result (λ u. IsUser u × InBlock (pid_block u) number) }
     ensures stranger { IfNone result ((u : ℕ) → IsUser u → ¬ InBlock (pid_block u) number) }
 {
-    Uid::new(number / 1000 + 1000).ok()
+    let offset = number.checked_sub(FIRST_PID)?;
+    Uid::new(offset / PIDS + FIRST_USER).ok()
 }
 
 /// The user in whose block the LWP number lies; `None` where it lies in no user's block.
@@ -46,8 +47,8 @@ pub fn owner_of_tid(number: u32) -> Option<Uid>
     ensures home { IfSome result (λ u. IsUser u × InBlock (tid_block u) number) }
     ensures stranger { IfNone result ((u : ℕ) → IsUser u → ¬ InBlock (tid_block u) number) }
 {
-    let offset = number.checked_sub(100000)?;
-    Uid::new(offset / 4000 + 1001).ok()
+    let offset = number.checked_sub(FIRST_TID)?;
+    Uid::new(offset / TIDS + FIRST_USER).ok()
 }
 
 /// The first number that isn't taken, from the cursor to the block's end and then from the block's

@@ -1,17 +1,20 @@
 -- Changes of a process, of an LWP, and of a process with its LWPs, as edits of single rows.
-use Rattle.std.proofs.Common.{◌≡◌, ℕ, true, false, List, [], ◌∷◌, map, refl, sym, ap, ◌∙◌, arith, inl, inr, cond, nat_eq, Option, Some, None}
+use Rattle.std.proofs.Common.{◌≡◌, ℕ, true, false, List, [], ◌∷◌, map, refl, sym, ap, ◌∙◌, arith, inl, inr, cond, nat_eq, is_some, Option, Some, None}
 use Rattle.std.specs.Prelude.{filter_map}
 use Rattle.std.proofs.Math.Path.{fun_ext}
 use Rattle.std.proofs.lemmas.Bool.{cases_Bool}
 use Rattle.std.proofs.lemmas.Bool.Decides.{nat_tests}
 use Rattle.lwp_table.specs.declared.LwpData.{LwpData}
-use Rattle.lwp_table.specs.Lwps.{LacksLwp, Differ, lwp_of, put_lwp, with_lwp, without_lwp}
+use Rattle.lwp_table.specs.Lwps.{Differ, lwp_of, with_lwp, without_lwp}
 use Rattle.proc_table.specs.declared.ProcData.{ProcData}
 use Rattle.proc_table.specs.Processes.{process_of}
 use Rattle.proc_table.specs.Rows.{Rows, change, change_process, change_lwp, remove_lwp, by_owner, is_numbered}
 use Rattle.proc_table.specs.Edits.{own_lwp, map_lwps}
-use Rattle.proc_table.specs.Kept.{AllAbove, Rise, put_process, set_process, set_lwp, drop_lwp}
-use Rattle.proc_table.proofs.Rows.{other_number, process_of-pid}
+use Rattle.proc_table.specs.Kept.{Rise, put_process, set_process, set_lwp, drop_lwp}
+use Rattle.lwp_table.proofs.Numbered.{any-found, lacks-any, map-changed, map-lacks}
+use Rattle.proc_table.proofs.Every.{every_found, every_untested}
+use Rattle.proc_table.proofs.Rising.{once}
+use Rattle.proc_table.proofs.Rows.{process_of-pid}
 
 pub map-id : {X : Type 0} (xs : List X) → map (λ x. x) xs ≡ xs
 map-id [] = refl
@@ -26,52 +29,16 @@ module _ (pid : ℕ) (f : ProcData → ProcData) where
   abbrev pub changed : ProcData → ProcData
   changed q = cond (nat_eq q.pid pid) (f q) q
 
-  past : (new : ProcData) → new.pid ≡ pid → (qs : List ProcData) → AllAbove pid qs → map changed qs ≡ map (put_process new) qs
-  past new its [] a = refl
-  past new its (q ∷ qs) a =
-      let other : nat_eq q.pid pid ≡ false = grind (arith, nat_tests, a.0) in
-      let apart : nat_eq q.pid new.pid ≡ false = rw its other in
-      rw (other, apart, past new its qs a.1) refl
-
   pub changed-at : (p : ProcData) (ps : List ProcData) → Rise ps → process_of pid ps ≡ Some p → (f p).pid ≡ pid → map changed ps ≡ map (put_process (f p)) ps
-  changed-at p [] r found its = refl
-  changed-at p (q ∷ qs) r found its = elim (cases_Bool (nat_eq q.pid pid)) [
-    | inl e ↦
-        let at : Some q ≡ Some p = rw e at found in
-        let same : q ≡ p = cc in
-        let number : q.pid ≡ pid = grind (arith, nat_tests) in
-        let here : nat_eq q.pid (f p).pid ≡ true = rw its e in
-        rw (e, here) (ap (λ x. f x ∷ map changed qs) same ∙ ap (λ xs. f p ∷ xs) (past (f p) its qs (rw (← number) r.0)))
-    | inr e ↦
-        let there : nat_eq q.pid (f p).pid ≡ false = rw its e in
-        rw (e, there) (ap (λ xs. q ∷ xs) (changed-at p qs r.1 (rw e at found) its))
-  ]
+  changed-at p ps r found its = map-changed (λ (q : ProcData). q.pid) pid f p ps (once ps r) found its
 
 -- and an LWP
 module _ (tid : ℕ) (f : LwpData → LwpData) where
   abbrev pub changed_lwp : LwpData → LwpData
   changed_lwp l = cond (nat_eq l.tid tid) (f l) l
 
-  past_lwp : (new : LwpData) → new.tid ≡ tid → (ls : List LwpData) → LacksLwp tid ls → map changed_lwp ls ≡ map (put_lwp new) ls
-  past_lwp new its [] a = refl
-  past_lwp new its (l ∷ ls) a =
-      let other : nat_eq l.tid tid ≡ false = other_number l.tid tid a.0 in
-      let apart : nat_eq l.tid new.tid ≡ false = rw its other in
-      rw (other, apart, past_lwp new its ls a.1) refl
-
   pub changed_lwp-at : (k : LwpData) (ls : List LwpData) → Differ ls → lwp_of tid ls ≡ Some k → (f k).tid ≡ tid → map changed_lwp ls ≡ with_lwp (f k) ls
-  changed_lwp-at k [] d found its = refl
-  changed_lwp-at k (l ∷ ls) d found its = elim (cases_Bool (nat_eq l.tid tid)) [
-    | inl e ↦
-        let at : Some l ≡ Some k = rw e at found in
-        let same : l ≡ k = cc in
-        let number : l.tid ≡ tid = grind (arith, nat_tests) in
-        let here : nat_eq l.tid (f k).tid ≡ true = rw its e in
-        rw (e, here) (ap (λ x. f x ∷ map changed_lwp ls) same ∙ ap (λ xs. f k ∷ xs) (past_lwp (f k) its ls (rw (← number) d.0)))
-    | inr e ↦
-        let there : nat_eq l.tid (f k).tid ≡ false = rw its e in
-        rw (e, there) (ap (λ xs. l ∷ xs) (changed_lwp-at k ls d.1 (rw e at found) its))
-  ]
+  changed_lwp-at k ls d found its = map-changed (λ (l : LwpData). l.tid) tid f k ls d found its
 
 pub change_process-at : (pid : ℕ) (f : ProcData → ProcData) (rows : Rows) (p : ProcData) → Rise rows.processes → process_of pid rows.processes ≡ Some p → (f p).pid ≡ pid
     → change_process pid f rows ≡ set_process (f p) rows
@@ -114,22 +81,11 @@ module _ (pid : ℕ) (f : ProcData → ProcData) (g : ProcData → LwpData → L
 
 -- a change of a process that isn't there
 absent : (n : ℕ) (q : ProcData) (m : ℕ) (ps : List ProcData) → process_of n ps ≡ None → process_of m ps ≡ Some q → nat_eq q.pid n ≡ false
-absent n q m [] none found = absurd (cc)
-absent n q m (p ∷ ps) none found = elim (cases_Bool (nat_eq p.pid n)) [
-  | inl e ↦ absurd (let h : Some p ≡ None = rw e at none in cc)
-  | inr e ↦ elim (cases_Bool (nat_eq p.pid m)) [
-    | inl k ↦ let its : Some p ≡ Some q = rw k at found in let same : p ≡ q = cc in rw (← same) e
-    | inr k ↦ absent n q m ps (rw e at none) (rw k at found)
-  ]
-]
+absent n q m ps none found = every_found (λ p. nat_eq p.pid n ≡ false) (λ p. nat_eq p.pid m) ps q (every_untested (λ p. nat_eq p.pid n) ps none) found
 
 module _ (n : ℕ) (f : ProcData → ProcData) (g : ProcData → LwpData → LwpData) where
   none-changed : (ps : List ProcData) → process_of n ps ≡ None → map (changed n f) ps ≡ ps
-  none-changed [] none = refl
-  none-changed (p ∷ ps) none = elim (cases_Bool (nat_eq p.pid n)) [
-    | inl e ↦ absurd (let h : Some p ≡ None = rw e at none in cc)
-    | inr e ↦ rw e (ap (λ xs. p ∷ xs) (none-changed ps (rw e at none)))
-  ]
+  none-changed ps none = map-lacks (λ (p : ProcData). p.pid) f n ps (lacks-any (λ (p : ProcData). p.pid) n ps (any-found (λ p. nat_eq p.pid n) ps ∙ ap is_some none))
 
   none-own : (l : LwpData) (o : Option ProcData) (ps : List ProcData) → process_of n ps ≡ None → process_of l.pid ps ≡ o → by_owner (lwp_changed n f g) l o ≡ Some l
   none-own l None ps none at = refl

@@ -1,8 +1,7 @@
 -- How many rows each user has, under edits.
-use Rattle.std.proofs.Common.{◌≡◌, ◌≢◌, ℕ, ◌+◌, ◌-◌, ◌≤◌, Bool, true, false, List, [], ◌∷◌, map, Some, refl, sym, ap, ◌∙◌, nat_eq, cond, arith, inl, inr, length, set}
+use Rattle.std.proofs.Common.{◌≡◌, ◌≢◌, ℕ, ◌+◌, ◌-◌, ◌≤◌, Bool, true, false, List, [], ◌∷◌, map, Some, sym, ap, ◌∙◌, nat_eq, cond, arith, inl, inr, length, set}
 use Rattle.std.specs.Prelude.{filter, not, count_by}
 use Rattle.std.specs.List.{AllByRecursion}
-use Rattle.std.proofs.lemmas.Bool.Decides.{nat_tests}
 use Rattle.std.proofs.lemmas.List.{get_or-set_same, get_or-set_other}
 use Rattle.std.proofs.lemmas.List.Sums.{sum_by-cons}
 use Rattle.pid_blocks.specs.Users.{IsUser}
@@ -11,7 +10,8 @@ use Rattle.proc_table.specs.declared.ProcData.{ProcData}
 use Rattle.proc_table.specs.Processes.{process_of, placed}
 use Rattle.proc_table.specs.Kept.{AllAbove, Rise, AtHome, put_process}
 use Rattle.proc_table.specs.Slots.{IsTally}
-use Rattle.proc_table.proofs.Rising.{Lacks}
+use Rattle.lwp_table.proofs.Numbered.{count-put, count-without as fewer}
+use Rattle.proc_table.proofs.Rising.{Lacks, once}
 use Rattle.proc_table.proofs.Placed.{stands}
 use Rattle.proc_table.proofs.Finds.{equal_or_not}
 
@@ -36,39 +36,11 @@ module _ (u : ℕ) where
   ]
 
   pub count-set : (new was : ProcData) (ps : List ProcData) → Rise ps → process_of new.pid ps ≡ Some was → was.uid ≡ new.uid → count_by (of u) (map (put_process new) ps) ≡ count_by (of u) ps
-  count-set new was [] r found same = refl
-  count-set new was (p ∷ ps) r found same = elim (equal_or_not p.pid new.pid) [
-    | inl here ↦
-        let its : Some p ≡ Some was = rw here.0 at found in
-        let row : p ≡ was = cc in
-        let uids : p.uid ≡ new.uid = ap (λ q. q.uid) row ∙ same in
-        rw here.0 (count-cons u new (map (put_process new) ps) ∙ (ap (λ n. cond (nat_eq n u) 1 0 + count_by (of u) (map (put_process new) ps)) (sym uids)
-        ∙ ap (λ n. cond (nat_eq p.uid u) 1 0 + n) (past ps (rw here.1 at r.0))) ∙ sym (count-cons u p ps))
-    | inr apart ↦ rw apart.0 (count-cons u p (map (put_process new) ps) ∙ ap (λ n. cond (nat_eq p.uid u) 1 0 + n) (count-set new was ps r.1 (rw apart.0 at found) same) ∙ sym (count-cons u p ps))
-  ]
-    where
-      past : (qs : List ProcData) → AllAbove new.pid qs → count_by (of u) (map (put_process new) qs) ≡ count_by (of u) qs
-      past [] above = refl
-      past (q ∷ qs) above =
-          let other : nat_eq q.pid new.pid ≡ false = grind (arith, nat_tests, above.0) in
-          rw other (count-cons u q (map (put_process new) qs) ∙ ap (λ n. cond (nat_eq q.uid u) 1 0 + n) (past qs above.1) ∙ sym (count-cons u q qs))
+  count-set new was ps r found same = count-put (λ (p : ProcData). p.pid) (of u) new was ps (once ps r) found (ap (λ n. nat_eq n u) same)
 
   pub count-without : (gone : ℕ) (was : ProcData) (ps : List ProcData) → Rise ps → process_of gone ps ≡ Some was
       → count_by (of u) (filter (λ p. not (nat_eq p.pid gone)) ps) + cond (nat_eq was.uid u) 1 0 ≡ count_by (of u) ps
-  count-without gone was [] r found = absurd (cc)
-  count-without gone was (p ∷ ps) r found = elim (equal_or_not p.pid gone) [
-    | inl here ↦
-        let its : Some p ≡ Some was = rw here.0 at found in
-        let uids : p.uid ≡ was.uid = cc in
-        let rest = ap (count_by (of u)) (past ps (rw here.1 at r.0)) in
-        let row = ap {B = ℕ} (λ n. cond (nat_eq n u) 1 0) uids in
-        rw here.0 (omega (arith, rest, row, count-cons u p ps))
-    | inr apart ↦ rw apart.0 (omega (arith, count-without gone was ps r.1 (rw apart.0 at found), count-cons u p ps, count-cons u p (filter (λ q. not (nat_eq q.pid gone)) ps)))
-  ]
-    where
-      past : (qs : List ProcData) → AllAbove gone qs → filter (λ p. not (nat_eq p.pid gone)) qs ≡ qs
-      past [] above = refl
-      past (q ∷ qs) above = let other : nat_eq q.pid gone ≡ false = grind (arith, nat_tests, above.0) in rw other (ap (λ xs. q ∷ xs) (past qs above.1))
+  count-without gone was ps r found = fewer (λ (p : ProcData). p.pid) (of u) gone was ps (once ps r) found
 
   -- a user has no more rows than numbers from `low` on
   pub count-le : (low : ℕ) (ps : List ProcData) → IsUser u → Rise ps → AllByRecursion AtHome ps → AllAbove low ps → (pid_block u).first ≤ low + 1 → count_by (of u) ps ≤ (pid_block u).first + 999 - low

@@ -8,6 +8,8 @@ use Rattle.lwp_table.specs.Lwps.{LacksLwp, Differ, first_lwp, next_lwp, lwp_of, 
 use Rattle.proc_table.specs.Rows.{Rows}
 use Rattle.proc_table.specs.Edits.{own_lwp, map_lwps}
 use Rattle.proc_table.specs.Kept.{IsKept, set_lwp}
+use Rattle.lwp_table.proofs.Numbered.{map-lacks}
+use Rattle.proc_table.proofs.Every.{every_found}
 use Rattle.proc_table.proofs.Lwps.{LacksLwp-map, Differ-with_lwp, put_lwp-tid}
 use Rattle.proc_table.proofs.Rows.{same_number, other_number, lwp_of-map}
 
@@ -36,11 +38,7 @@ pub record IsLwp (pid : ℕ) (ls : List LwpData) (k : LwpData) : Type 0 where
 
 -- an LWP that is found has not the number that all lack
 apart : (n t : ℕ) (k : LwpData) (ls : List LwpData) → LacksLwp n ls → lwp_of t ls ≡ Some k → k.tid ≡ n → ⊥
-apart n t k [] a found = absurd (cc)
-apart n t k (l ∷ ls) a found = elim (cases_Bool (nat_eq l.tid t)) [
-  | inl e ↦ let its : Some l ≡ Some k = rw e at found in let same : l ≡ k = cc in λ h. a.0 (ap (λ x. x.tid) same ∙ h)
-  | inr e ↦ apart n t k ls a.1 (rw e at found)
-]
+apart n t k ls a found = every_found (λ l. l.tid ≡ n → ⊥) (λ l. nat_eq l.tid t) ls k a found
 
 IsLwp-more : (pid : ℕ) (l : LwpData) (ls : List LwpData) (o : Option LwpData) → LacksLwp l.tid ls → IfSome o (IsLwp pid ls) → IfSome o (IsLwp pid (l ∷ ls))
 IsLwp-more pid l ls None lacks h = h
@@ -86,10 +84,7 @@ left-within (Some k) ls = within k.tid ls
     ]
 
 pub unput : (new : LwpData) (ls : List LwpData) → LacksLwp new.tid ls → with_lwp new ls ≡ ls
-unput new [] lacks = refl
-unput new (l ∷ ls) lacks =
-    let other : nat_eq l.tid new.tid ≡ false = other_number l.tid new.tid lacks.0 in
-    rw (other, unput new ls lacks.1) refl
+unput new ls lacks = map-lacks (λ (l : LwpData). l.tid) (λ l. new) new.tid ls lacks
 
 module _ (pid : ℕ) (f : LwpData → LwpData) (keeps : (l : LwpData) → (f l).tid ≡ l.tid) where
   abbrev mine : LwpData → LwpData

@@ -3,14 +3,14 @@ use Rattle.std.proofs.Common.{◌≡◌, ℕ, ◌<◌, ◌≤◌, Bool, true, fa
 use Rattle.std.specs.Prelude.{◌≢◌, filter, ltb}
 use Rattle.std.specs.List.{list_any, AllByRecursion}
 use Rattle.std.proofs.Common.{inl, inr, nat_eq, Some, ◌⊎◌}
-use Rattle.std.proofs.lemmas.Bool.{cases_Bool}
+use Rattle.std.proofs.lemmas.Bool.{cases_Bool, cases_eq}
 use Rattle.std.proofs.lemmas.Bool.Decides.{nat_tests}
 use Rattle.proc_table.specs.declared.ProcData.{ProcData}
 use Rattle.proc_table.specs.Processes.{placed, process_of}
 use Rattle.proc_table.specs.Kept.{AllAbove, Rise}
 use Rattle.proc_table.proofs.Every.{every_append, every_filter}
-use Rattle.proc_table.proofs.Rows.{same_number, other_number}
-use Rattle.proc_table.proofs.Rising.{Lacks, AllAbove-append, AllAbove-filter, AllAbove-lower as lower}
+use Rattle.proc_table.proofs.Rows.{same_number, other_number, row_found, found_row}
+use Rattle.proc_table.proofs.Rising.{Lacks, AllAbove-lower as lower}
 
 abbrev pub below : ℕ → ProcData → Bool
 below n q = ltb q.pid n
@@ -73,16 +73,9 @@ module _ (p : ProcData) where
   ]
 
   pub is_process-placed : (n : ℕ) (ps : List ProcData) → list_any (λ q. nat_eq q.pid n) ps ≡ true → Rise ps → Lacks p.pid ps → list_any (λ q. nat_eq q.pid n) (placed p ps) ≡ true
-  is_process-placed n [] any r l = absurd (cc)
-  is_process-placed n (q ∷ qs) any r l = elim (stands p q qs r l.0) [
-    | inl e ↦ rw e (elim (cases_Bool (nat_eq q.pid n)) [
-      | inl k ↦ rw k refl
-      | inr k ↦ rw k (is_process-placed n qs (rw k at any) r.1 l.1)
-    ])
-    | inr s ↦ rw s.first (elim (cases_Bool (nat_eq p.pid n)) [
-      | inl k ↦ rw k refl
-      | inr k ↦ rw k any
-    ])
+  is_process-placed n ps any r l = elim (cases_eq n p.pid) [
+    | inl same ↦ rw same (found_row p.pid p (placed p ps) (placed-found ps r l))
+    | inr apart ↦ let row = row_found n ps any in found_row n row.0 (placed p ps) (process_of-placed n apart ps r l ∙ row.1)
   ]
 
 pub every_placed : (P : ProcData → Type 0) (p : ProcData) (ps : List ProcData) → P p → AllByRecursion P ps → AllByRecursion P (placed p ps)
@@ -91,15 +84,10 @@ every_placed P p ps new all =
     (new, every_filter P P (above p.pid) (λ q e h. h) ps all)
 
 -- numbers rise with a new one at its place
-AllAbove-placed : (n : ℕ) (p : ProcData) → n < p.pid → (ps : List ProcData) → AllAbove n ps → AllAbove n (placed p ps)
-AllAbove-placed n p less [] a = (less, tt)
-AllAbove-placed n p less (q ∷ qs) a =
-    AllAbove-append n (filter (below p.pid) (q ∷ qs)) (p ∷ filter (above p.pid) (q ∷ qs)) (AllAbove-filter (below p.pid) n (q ∷ qs) a) (less, AllAbove-filter (above p.pid) n (q ∷ qs) a)
-
 pub Rise-placed : (p : ProcData) (ps : List ProcData) → Rise ps → Lacks p.pid ps → Rise (placed p ps)
 Rise-placed p [] r l = (tt, tt)
 Rise-placed p (q ∷ qs) r l = elim (cases_Bool (ltb q.pid p.pid)) [
-  | inl e ↦ let less : q.pid < p.pid = grind (arith, nat_tests) in rw (placed-later p q qs less) (AllAbove-placed q.pid p less qs r.0, Rise-placed p qs r.1 l.1)
+  | inl e ↦ let less : q.pid < p.pid = grind (arith, nat_tests) in rw (placed-later p q qs less) (every_placed (λ r. q.pid < r.pid) p qs less r.0, Rise-placed p qs r.1 l.1)
   | inr e ↦
       let differ : q.pid ≢ p.pid = l.0 in
       let least : p.pid ≤ q.pid = grind (arith, nat_tests) in

@@ -1,59 +1,46 @@
 -- Numbers that rise, under edits of the rows.
-use Rattle.std.proofs.Common.{◌≡◌, ℕ, ◌≤◌, Bool, true, false, List, [], ◌∷◌, ◌++◌, map, refl, arith, inl, inr, nat_eq, Some, None}
+use Rattle.std.proofs.Common.{◌≡◌, ℕ, ◌<◌, ◌≤◌, Bool, true, false, List, [], ◌∷◌, map, refl, arith, inl, inr, nat_eq, Some, None}
 use Rattle.std.specs.Prelude.{filter, ◌&&◌}
 use Rattle.std.specs.List.{list_any}
 use Rattle.std.proofs.lemmas.Bool.{cases_Bool}
 use Rattle.std.proofs.lemmas.Bool.Decides.{nat_tests}
+use Rattle.lwp_table.specs.Lwps.{Lacks as LacksNumber, Once}
+use Rattle.lwp_table.proofs.Numbered.{lacks-any}
 use Rattle.proc_table.specs.declared.ProcData.{ProcData}
 use Rattle.proc_table.specs.Processes.{process_of}
 use Rattle.proc_table.specs.Kept.{AllAbove, Rise}
+use Rattle.proc_table.proofs.Every.{every_weaken, every_map, every_filter}
 use Rattle.proc_table.proofs.Rows.{other_number}
 
 -- no process has the number
 abbrev pub Lacks : ℕ → List ProcData → Type 0
-Lacks n [] = Unit {0}
-Lacks n (q ∷ qs) = (q.pid ≡ n → ⊥) × Lacks n qs
+Lacks n ps = LacksNumber (λ p. p.pid) n ps
+
+-- numbers that rise differ
+pub once : (ps : List ProcData) → Rise ps → Once (λ (p : ProcData). p.pid) ps
+once [] r = tt
+once (p ∷ ps) r = (every_weaken (λ q. p.pid < q.pid) (λ q. q.pid ≡ p.pid → ⊥) (λ q more same. omega (arith, more, same)) ps r.0, once ps r.1)
 
 -- a map that keeps the numbers
 module _ (f : ProcData → ProcData) (same : (p : ProcData) → (f p).pid ≡ p.pid) where
-  pub AllAbove-map : (n : ℕ) (ps : List ProcData) → AllAbove n ps → AllAbove n (map f ps)
-  AllAbove-map n [] a = tt
-  AllAbove-map n (p ∷ ps) a = (rw (same p) a.0, AllAbove-map n ps a.1)
-
   pub Rise-map : (ps : List ProcData) → Rise ps → Rise (map f ps)
   Rise-map [] r = tt
-  Rise-map (p ∷ ps) r = (rw (same p) (AllAbove-map p.pid ps r.0), Rise-map ps r.1)
+  Rise-map (p ∷ ps) r = (rw (same p) (every_map (λ q. p.pid < q.pid) (λ q. p.pid < q.pid) f (λ q h. rw (same q) h) ps r.0), Rise-map ps r.1)
 
 module _ (test : ProcData → Bool) where
-  pub AllAbove-filter : (n : ℕ) (ps : List ProcData) → AllAbove n ps → AllAbove n (filter test ps)
-  AllAbove-filter n [] a = tt
-  AllAbove-filter n (p ∷ ps) a = elim (cases_Bool (test p)) [
-    | inl e ↦ rw e (a.0, AllAbove-filter n ps a.1)
-    | inr e ↦ rw e (AllAbove-filter n ps a.1)
-  ]
-
   pub Rise-filter : (ps : List ProcData) → Rise ps → Rise (filter test ps)
   Rise-filter [] r = tt
   Rise-filter (p ∷ ps) r = elim (cases_Bool (test p)) [
-    | inl e ↦ rw e (AllAbove-filter p.pid ps r.0, Rise-filter ps r.1)
+    | inl e ↦ rw e (every_filter (λ q. p.pid < q.pid) (λ q. p.pid < q.pid) test (λ q e h. h) ps r.0, Rise-filter ps r.1)
     | inr e ↦ rw e (Rise-filter ps r.1)
   ]
 
 pub AllAbove-lower : (m n : ℕ) → m ≤ n → (qs : List ProcData) → AllAbove n qs → AllAbove m qs
-AllAbove-lower m n h [] a = tt
-AllAbove-lower m n h (q ∷ qs) a = (omega arith, AllAbove-lower m n h qs a.1)
-
-pub AllAbove-append : (n : ℕ) (xs ys : List ProcData) → AllAbove n xs → AllAbove n ys → AllAbove n (xs ++ ys)
-AllAbove-append n [] ys a b = b
-AllAbove-append n (x ∷ xs) ys a b = (a.0, AllAbove-append n xs ys a.1 b)
+AllAbove-lower m n h qs a = every_weaken (λ q. n < q.pid) (λ q. m < q.pid) (λ q more. omega (arith, more, h)) qs a
 
 -- no row has a number that none is found to have
 pub Lacks-from_any : (n : ℕ) (ps : List ProcData) → list_any (λ p. nat_eq p.pid n) ps ≡ false → Lacks n ps
-Lacks-from_any n [] none = tt
-Lacks-from_any n (p ∷ ps) none = elim (cases_Bool (nat_eq p.pid n)) [
-  | inl e ↦ absurd (cc (rw e at none))
-  | inr e ↦ (λ same. grind (arith, nat_tests, same, e), Lacks-from_any n ps (rw e at none))
-]
+Lacks-from_any n ps none = lacks-any (λ (p : ProcData). p.pid) n ps none
 
 -- numbers above one lack it
 pub none_above : (n m : ℕ) → m ≤ n → (ps : List ProcData) → AllAbove n ps → process_of m ps ≡ None

@@ -1,14 +1,16 @@
 -- Rows found by their numbers, before and after edits.
-use Rattle.std.proofs.Common.{◌≡◌, ℕ, true, false, List, [], ◌∷◌, map, refl, sym, ap, ◌∙◌, arith, inl, inr, nat_eq, Some}
+use Rattle.std.proofs.Common.{◌≡◌, ℕ, true, false, List, [], ◌∷◌, map, refl, sym, ap, ◌∙◌, arith, inl, inr, nat_eq, is_some, Some}
 use Rattle.std.specs.Prelude.{filter, not, option_map, ◌≢◌}
 use Rattle.std.specs.List.{list_any}
 use Rattle.std.proofs.lemmas.Bool.{cases_Bool}
 use Rattle.std.proofs.lemmas.Bool.Decides.{nat_tests}
 use Rattle.lwp_table.specs.declared.LwpData.{LwpData}
 use Rattle.lwp_table.specs.Lwps.{lwp_of}
+use Rattle.lwp_table.proofs.Numbered.{any-found, found-number, find-map, put-number}
 use Rattle.proc_table.specs.declared.ProcData.{ProcData}
 use Rattle.proc_table.specs.Processes.{process_of}
 use Rattle.proc_table.specs.Kept.{put_process}
+use Rattle.proc_table.proofs.Every.{some_of}
 
 pub same_number : (n : ℕ) → nat_eq n n ≡ true
 same_number n = grind (arith, nat_tests)
@@ -20,42 +22,22 @@ other_number m n h = elim (cases_Bool (nat_eq m n)) [
 ]
 
 pub process_of-pid : (n : ℕ) (p : ProcData) (ps : List ProcData) → process_of n ps ≡ Some p → p.pid ≡ n
-process_of-pid n p [] found = absurd (cc)
-process_of-pid n p (q ∷ qs) found = elim (cases_Bool (nat_eq q.pid n)) [
-  | inl e ↦ let its : Some q ≡ Some p = rw e at found in let same : q ≡ p = cc in ap (λ x. x.pid) (sym same) ∙ grind (arith, nat_tests)
-  | inr e ↦ process_of-pid n p qs (rw e at found)
-]
+process_of-pid n p ps found = found-number (λ (q : ProcData). q.pid) n p ps found
 
 pub lwp_of-tid : (n : ℕ) (k : LwpData) (ls : List LwpData) → lwp_of n ls ≡ Some k → k.tid ≡ n
-lwp_of-tid n k [] found = absurd (cc)
-lwp_of-tid n k (q ∷ qs) found = elim (cases_Bool (nat_eq q.tid n)) [
-  | inl e ↦ let its : Some q ≡ Some k = rw e at found in let same : q ≡ k = cc in ap (λ x. x.tid) (sym same) ∙ grind (arith, nat_tests)
-  | inr e ↦ lwp_of-tid n k qs (rw e at found)
-]
+lwp_of-tid n k ls found = found-number (λ (l : LwpData). l.tid) n k ls found
 
 -- a number is that of a row where a row with it is found
 pub row_found : (n : ℕ) (ps : List ProcData) → list_any (λ p. nat_eq p.pid n) ps ≡ true → (p : ProcData) × (process_of n ps ≡ Some p)
-row_found n [] any = absurd (cc)
-row_found n (p ∷ ps) any = elim (cases_Bool (nat_eq p.pid n)) [
-  | inl e ↦ (p, rw e refl)
-  | inr e ↦ rw e (row_found n ps (rw e at any))
-]
+row_found n ps any = some_of (process_of n ps) (sym (any-found (λ p. nat_eq p.pid n) ps) ∙ any)
 
 pub found_row : (n : ℕ) (p : ProcData) (ps : List ProcData) → process_of n ps ≡ Some p → list_any (λ p. nat_eq p.pid n) ps ≡ true
-found_row n p [] found = absurd (cc)
-found_row n p (q ∷ qs) found = elim (cases_Bool (nat_eq q.pid n)) [
-  | inl e ↦ rw e refl
-  | inr e ↦ rw e (found_row n p qs (rw e at found))
-]
+found_row n p ps found = any-found (λ p. nat_eq p.pid n) ps ∙ ap is_some found
 
 -- a change that keeps numbers
 module _ (f : ProcData → ProcData) (same : (p : ProcData) → (f p).pid ≡ p.pid) (n : ℕ) where
   pub process_of-map : (ps : List ProcData) → process_of n (map f ps) ≡ option_map f (process_of n ps)
-  process_of-map [] = refl
-  process_of-map (p ∷ ps) = elim (cases_Bool (nat_eq p.pid n)) [
-    | inl e ↦ let k : nat_eq (f p).pid n ≡ true = rw (same p) e in rw (e, k) refl
-    | inr e ↦ let k : nat_eq (f p).pid n ≡ false = rw (same p) e in rw (e, k) (process_of-map ps)
-  ]
+  process_of-map ps = find-map (λ (p : ProcData). p.pid) f same n ps
 
   pub is_process-map : (ps : List ProcData) → list_any (λ p. nat_eq p.pid n) (map f ps) ≡ list_any (λ p. nat_eq p.pid n) ps
   is_process-map [] = refl
@@ -65,17 +47,10 @@ module _ (f : ProcData → ProcData) (same : (p : ProcData) → (f p).pid ≡ p.
   ]
 
 pub lwp_of-map : (f : LwpData → LwpData) → ((l : LwpData) → (f l).tid ≡ l.tid) → (n : ℕ) (ls : List LwpData) → lwp_of n (map f ls) ≡ option_map f (lwp_of n ls)
-lwp_of-map f same n [] = refl
-lwp_of-map f same n (l ∷ ls) = elim (cases_Bool (nat_eq l.tid n)) [
-  | inl e ↦ let k : nat_eq (f l).tid n ≡ true = rw (same l) e in rw (e, k) refl
-  | inr e ↦ let k : nat_eq (f l).tid n ≡ false = rw (same l) e in rw (e, k) (lwp_of-map f same n ls)
-]
+lwp_of-map f same n ls = find-map (λ (l : LwpData). l.tid) f same n ls
 
 pub put_process-pid : (new p : ProcData) → (put_process new p).pid ≡ p.pid
-put_process-pid new p = elim (cases_Bool (nat_eq p.pid new.pid)) [
-  | inl e ↦ let same : p.pid ≡ new.pid = grind (arith, nat_tests) in rw e (sym same)
-  | inr e ↦ rw e refl
-]
+put_process-pid new p = put-number (λ (q : ProcData). q.pid) new p
 
 -- the rows without one number
 module _ (pid n : ℕ) (apart : n ≢ pid) where

@@ -4,34 +4,30 @@ use Rattle.std.specs.Prelude.{◌&&◌, find, count_by, option_map}
 use Rattle.std.specs.Option.{option_eq}
 use Rattle.std.specs.List.{AllByRecursion, list_any}
 use Rattle.std.proofs.lemmas.Bool.{cases_Bool}
-use Rattle.std.proofs.lemmas.Bool.Decides.{nat_tests}
 use Rattle.std.proofs.lemmas.List.Sums.{sum_by-cons}
 use Rattle.pid_blocks.specs.Users.{IsUser}
 use Rattle.pid_blocks.specs.Blocks.{tid_block, tid_owner, InBlock}
 use Rattle.lwp_table.specs.declared.LwpData.{LwpData}
-use Rattle.lwp_table.specs.Lwps.{LacksLwp, Differ, lwp_of}
+use Rattle.lwp_table.specs.Lwps.{Lacks, Once, Differ, lwp_of}
+use Rattle.lwp_table.proofs.Numbered.{any-found as any-is_some}
+use Rattle.proc_table.proofs.Rising.{once}
 use Rattle.proc_table.specs.declared.ProcData.{ProcData}
 use Rattle.proc_table.specs.Processes.{process_of}
 use Rattle.proc_table.specs.Seen.{seen_lwp, owns}
 use Rattle.proc_table.specs.Rows.{Rows}
 use Rattle.proc_table.specs.Keep.{keep}
-use Rattle.proc_table.specs.Kept.{AllAbove, Rise, AtHome, Housed, IsKept}
+use Rattle.proc_table.specs.Kept.{Rise, AtHome, Housed, IsKept}
 use Rattle.proc_table.proofs.Every.{every_found}
 use Rattle.proc_table.proofs.Rows.{other_number, process_of-pid, lwp_of-tid}
 use Rattle.proc_table.proofs.Finds.{equal_or_not}
 
 module _ {A : Type 0} (number : A → ℕ) where
-  -- each number is had once
-  abbrev pub Once : List A → Type 0
-  Once [] = Unit {0}
-  Once (x ∷ xs) = AllByRecursion (λ y. nat_eq (number y) (number x) ≡ false) xs × Once xs
-
   module _ (test : A → Bool) (n : ℕ) where
-    none_found : (xs : List A) → AllByRecursion (λ y. nat_eq (number y) n ≡ false) xs → find (λ a. nat_eq (number a) n && test a) xs ≡ None
+    none_found : (xs : List A) → Lacks number n xs → find (λ a. nat_eq (number a) n && test a) xs ≡ None
     none_found [] all = refl
-    none_found (x ∷ xs) all = rw all.0 (none_found xs all.1)
+    none_found (x ∷ xs) all = let other : nat_eq (number x) n ≡ false = other_number (number x) n all.0 in rw other (none_found xs all.1)
 
-    pub find-kept : (xs : List A) → Once xs → find (λ a. nat_eq (number a) n && test a) xs ≡ keep test (find (λ a. nat_eq (number a) n) xs)
+    pub find-kept : (xs : List A) → Once number xs → find (λ a. nat_eq (number a) n && test a) xs ≡ keep test (find (λ a. nat_eq (number a) n) xs)
     find-kept [] once = refl
     find-kept (x ∷ xs) once = elim (equal_or_not (number x) n) [
       | inl h ↦ elim (cases_Bool (test x)) [
@@ -42,35 +38,18 @@ module _ {A : Type 0} (number : A → ℕ) where
     ]
 
   pub any-found : (test : A → Bool) (xs : List A) → list_any test xs ≡ is_some (find test xs)
-  any-found test [] = refl
-  any-found test (x ∷ xs) = elim (cases_Bool (test x)) [ inl e ↦ rw e refl | inr e ↦ rw e (any-found test xs) ]
-
-once-processes : (ps : List ProcData) → Rise ps → Once (λ (p : ProcData). p.pid) ps
-once-processes [] r = tt
-once-processes (p ∷ ps) r = (others ps r.0, once-processes ps r.1)
-  where
-    others : (qs : List ProcData) → AllAbove p.pid qs → AllByRecursion (λ q. nat_eq q.pid p.pid ≡ false) qs
-    others [] a = tt
-    others (q ∷ qs) a = (grind (arith, nat_tests, a.0), others qs a.1)
-
-once-lwps : (ls : List LwpData) → Differ ls → Once (λ (l : LwpData). l.tid) ls
-once-lwps [] d = tt
-once-lwps (l ∷ ls) d = (others ls d.0, once-lwps ls d.1)
-  where
-    others : (ks : List LwpData) → LacksLwp l.tid ks → AllByRecursion (λ k. nat_eq k.tid l.tid ≡ false) ks
-    others [] a = tt
-    others (k ∷ ks) a = (other_number k.tid l.tid a.0, others ks a.1)
+  any-found test xs = any-is_some test xs
 
 -- by what the look-up alone finds
 module _ (u n : ℕ) (ps : List ProcData) (r : Rise ps) where
   pub seen_process-kept : find (λ p. nat_eq p.pid n && nat_eq p.uid u) ps ≡ keep (λ (p : ProcData). nat_eq p.uid u) (process_of n ps)
-  seen_process-kept = find-kept (λ (p : ProcData). p.pid) (λ p. nat_eq p.uid u) n ps (once-processes ps r)
+  seen_process-kept = find-kept (λ (p : ProcData). p.pid) (λ p. nat_eq p.uid u) n ps (once ps r)
 
   pub owns-kept : owns u n ps ≡ is_some (keep (λ (p : ProcData). nat_eq p.uid u) (process_of n ps))
   owns-kept = any-found (λ (p : ProcData). p.pid) (λ p. nat_eq p.pid n && nat_eq p.uid u) ps ∙ ap is_some seen_process-kept
 
 pub seen_lwp-kept : (u n : ℕ) (rows : Rows) → Differ rows.lwps → seen_lwp u n rows ≡ keep (λ (l : LwpData). owns u l.pid rows.processes) (lwp_of n rows.lwps)
-seen_lwp-kept u n rows d = find-kept (λ (l : LwpData). l.tid) (λ l. owns u l.pid rows.processes) n rows.lwps (once-lwps rows.lwps d)
+seen_lwp-kept u n rows d = find-kept (λ (l : LwpData). l.tid) (λ l. owns u l.pid rows.processes) n rows.lwps d
 
 pub has_row : (n : ℕ) (ps : List ProcData) → is_some (process_of n ps) ≡ list_any (λ p. nat_eq p.pid n) ps
 has_row n ps = sym (any-found (λ (p : ProcData). p.pid) (λ p. nat_eq p.pid n) ps)
@@ -151,22 +130,13 @@ module _ (u : ℕ) where
   eq-other None h = refl
   eq-other (Some p) h = rw h refl
 
-  pub own-pid : (n : ℕ) (ps : List ProcData) → Rise ps → owns u n ps ≡ true → option_map (λ (p : ProcData). p.pid) (find (λ p. nat_eq p.pid n && nat_eq p.uid u) ps) ≡ Some n
-  own-pid n ps r own = ap (option_map (λ (p : ProcData). p.pid)) (seen_process-kept u n ps r) ∙ by (process_of n ps) refl (sym (owns-kept u n ps r) ∙ own)
+  -- the number of the row that is seen, where one is
+  pub pid-seen : (n : ℕ) (ps : List ProcData) → Rise ps → option_map (λ (p : ProcData). p.pid) (find (λ p. nat_eq p.pid n && nat_eq p.uid u) ps) ≡ cond (owns u n ps) (Some n) None
+  pid-seen n ps r = ap (option_map (λ (p : ProcData). p.pid)) (seen_process-kept u n ps r) ∙ by (process_of n ps) refl ∙ sym (ap (λ b. cond b (Some n) None) (owns-kept u n ps r))
     where
-      by : (o : Option ProcData) → process_of n ps ≡ o → is_some (keep (λ (p : ProcData). nat_eq p.uid u) o) ≡ true → option_map (λ (p : ProcData). p.pid) (keep (λ (p : ProcData). nat_eq p.uid u) o) ≡ Some n
-      by None e own = absurd (cc)
-      by (Some p) e own = elim (cases_Bool (nat_eq p.uid u)) [
-        | inl k ↦ rw k (ap Some (process_of-pid n p ps e))
-        | inr k ↦ absurd (cc (rw k at own))
-      ]
-
-  pub other-pid : (n : ℕ) (ps : List ProcData) → Rise ps → owns u n ps ≡ false → option_map (λ (p : ProcData). p.pid) (find (λ p. nat_eq p.pid n && nat_eq p.uid u) ps) ≡ None
-  other-pid n ps r own = ap (option_map (λ (p : ProcData). p.pid)) (seen_process-kept u n ps r) ∙ by (keep (λ (p : ProcData). nat_eq p.uid u) (process_of n ps)) (sym (owns-kept u n ps r) ∙ own)
-    where
-      by : (o : Option ProcData) → is_some o ≡ false → option_map (λ (p : ProcData). p.pid) o ≡ None
-      by None own = refl
-      by (Some p) own = absurd (cc)
+      by : (o : Option ProcData) → process_of n ps ≡ o → option_map (λ (p : ProcData). p.pid) (keep its_user o) ≡ cond (is_some (keep its_user o)) (Some n) None
+      by None e = refl
+      by (Some p) e = elim (cases_Bool (nat_eq p.uid u)) [ inl k ↦ rw k (ap Some (process_of-pid n p ps e)) | inr k ↦ rw k refl ]
 
 -- no process has a number outside all blocks
 pub pid-outside : (n : ℕ) (rows : Rows) → IsKept rows → (((1000 ≤ n) × (n < 65000)) → ⊥) → process_of n rows.processes ≡ None
@@ -178,6 +148,3 @@ pid-outside n rows kept out = by (process_of n rows.processes) refl
         let home = every_found AtHome (λ q. nat_eq q.pid n) rows.processes p kept.homes e in
         let same = process_of-pid n p rows.processes e in
         absurd (out (omega (arith, home.block.0, same), omega (arith, home.block.1, home.user.0, home.user.1, same)))
-
-pub nobody : (u n : ℕ) (ps : List ProcData) → Rise ps → process_of n ps ≡ None → option_map (λ (p : ProcData). p.pid) (find (λ p. nat_eq p.pid n && nat_eq p.uid u) ps) ≡ None
-nobody u n ps r none = ap (option_map (λ (p : ProcData). p.pid)) (seen_process-kept u n ps r ∙ ap (keep (λ (p : ProcData). nat_eq p.uid u)) none)

@@ -1,6 +1,6 @@
 -- What is kept of rows, lists and counts together.
 use Rattle.std.proofs.Common.{◌≡◌, ◌≢◌, ℕ, ◌+◌, ◌-◌, ◌<◌, true, false, List, [], Option, Some, None, is_some, refl, sym, ap, ◌∙◌, ◌∷◌, inl, inr, nat_eq, cond, arith, length, get_or, set, map, replicate}
-use Rattle.std.specs.Prelude.{filter, not, ltb, ◌&&◌, find}
+use Rattle.std.specs.Prelude.{filter, not, ltb, ◌&&◌}
 use Rattle.std.specs.List.{list_any}
 use Rattle.std.specs.Map.{lookup}
 use Rattle.std.specs.Option.{option_map}
@@ -20,7 +20,7 @@ use Rattle.proc_table.specs.Kept.{AtHome, Named, IsRow, put_process}
 use Rattle.proc_table.specs.Slots.{all_rows, look}
 use Rattle.proc_table.specs.Links.{Node, keys, key_of, IsNext}
 use Rattle.proc_table.specs.Lanes.{pick, parent_named, chief, lane, lanes, rows_of, IsLaced, IsHead, IsTied, next_named, unlinked}
-use Rattle.proc_table.proofs.Every.{some_of, some_and}
+use Rattle.proc_table.proofs.Every.{some_of, some_and, every_found, every_untested}
 use Rattle.proc_table.proofs.Rows.{same_number, row_found, found_row}
 use Rattle.proc_table.proofs.Finds.{equal_or_not}
 use Rattle.proc_table.proofs.Listing.{find-all_rows, Rise-all_rows}
@@ -29,6 +29,10 @@ use Rattle.proc_table.proofs.Slots.{finds, slot_of, look-slot, IsSlotted-added, 
 use Rattle.proc_table.proofs.Linked.{key_node}
 use Rattle.proc_table.proofs.Lanes.{slot_at, row_slot}
 use Rattle.proc_table.proofs.Laced.{HasHead, each_kin, head-apart, laced-same, laced-born, laced-gone, laced-none}
+
+this-is : (n : ℕ) (o : Option ℕ) → is_this n o ≡ true → o ≡ Some n
+this-is n None h = absurd (cc)
+this-is n (Some m) h = let same : m ≡ n = grind (arith, nat_tests, h) in ap Some same
 
 module _ (f : ℕ → Option Slot) (es : List (ℕ × ℕ)) (counts : List ℕ) (tied : IsTied f es counts) where
   -- a number's slot has its row
@@ -87,10 +91,6 @@ module _ (f : ℕ → Option Slot) (es : List (ℕ × ℕ)) (counts : List ℕ) 
     pub walk-none : IsNext (keys (lanes kin f)) t after None → next_named kin t after (all_rows (look (rows_of f) es)) ≡ None
     walk-none next = next-none (λ (p : ProcData). is_this t (chief kin p)) after _ (Rise-all_rows _ (finds (rows_of f) es counts tied.slotted))
         (λ r there names. let key = key-of-row kin t r there (this-is t (chief kin r) names) in next key.0 r.pid key.1)
-      where
-        this-is : (n : ℕ) (o : Option ℕ) → is_this n o ≡ true → o ≡ Some n
-        this-is n None h = absurd (cc)
-        this-is n (Some m) h = let same : m ≡ n = grind (arith, nat_tests, h) in ap Some same
 
     pub walk-some : (s : ℕ) (slot : Slot) → f s ≡ Some slot → IsNext (keys (lanes kin f)) t after (Some s) → next_named kin t after (all_rows (look (rows_of f) es)) ≡ Some slot.row
     walk-some s slot there next =
@@ -102,10 +102,6 @@ module _ (f : ℕ → Option Slot) (es : List (ℕ × ℕ)) (counts : List ℕ) 
         next-found (λ (p : ProcData). is_this t (chief kin p)) after slot.row.pid slot.row _ (Rise-all_rows _ (finds (rows_of f) es counts tied.slotted)) (row-of s slot there)
         (ap (is_this t) (chief-of kin s slot t there names) ∙ same_number t) (omega (arith, next.2, pid))
         (λ r at test more. let key = key-of-row kin t r at (this-is t (chief kin r) test) in omega (arith, next.3 key.0 r.pid key.1 more, pid))
-      where
-        this-is : (n : ℕ) (o : Option ℕ) → is_this n o ≡ true → o ≡ Some n
-        this-is n None h = absurd (cc)
-        this-is n (Some m) h = let same : m ≡ n = grind (arith, nat_tests, h) in ap Some same
 
     -- no row names a number that has no slot
     pub unnamed-slot : lookup (nat_eq t) es ≡ None → next_named kin t after (all_rows (look (rows_of f) es)) ≡ None
@@ -119,22 +115,17 @@ module _ (f : ℕ → Option Slot) (es : List (ℕ × ℕ)) (counts : List ℕ) 
   pub nobody-names : (kin : Kin) (t : ℕ) → next_named kin t 0 (all_rows (look (rows_of f) es)) ≡ None → (s : ℕ) (slot : Slot) → f s ≡ Some slot → (lane kin slot).chief ≢ Some t
   nobody-names kin t none s slot is names =
       let home = home-of s slot is in
-      let test = every-found (all_rows (look (rows_of f) es)) (row-of s slot is) none in
-      absurd (let yes = ap (is_this t) (chief-of kin s slot t is names) ∙ same_number t in cc (yes, test (omega (arith, home.block.0))))
-    where
-      every-found : (ps : List ProcData) → process_of slot.row.pid ps ≡ Some slot.row → find (λ p. ltb 0 p.pid && is_this t (chief kin p)) ps ≡ None → 0 < slot.row.pid → is_this t (chief kin slot.row) ≡ false
-      every-found [] found none more = absurd (cc)
-      every-found (p ∷ ps) found none more = elim (cases_Bool (ltb 0 p.pid && is_this t (chief kin p))) [
-        | inl e ↦ absurd (let h : Some p ≡ None = rw e at none in cc)
-        | inr e ↦ elim (equal_or_not p.pid slot.row.pid) [
-          | inl h ↦
-              let same : Some p ≡ Some slot.row = rw h.0 at found in
-              let its : p ≡ slot.row = cc in
-              let positive : ltb 0 p.pid ≡ true = grind (arith, nat_tests, h.1, more) in
-              ap (λ q. is_this t (chief kin q)) (sym its) ∙ rw positive at e
-          | inr h ↦ every-found ps (rw h.0 at found) (rw e at none) more
-        ]
-      ]
+      let fails = every_found (λ p. (ltb 0 p.pid && is_this t (chief kin p)) ≡ false) (λ p. nat_eq p.pid slot.row.pid) _ slot.row
+      (every_untested (λ p. ltb 0 p.pid && is_this t (chief kin p)) (all_rows (look (rows_of f) es)) none) (row-of s slot is) in
+      let positive : ltb 0 slot.row.pid ≡ true = grind (arith, nat_tests, home.block.0) in
+      let yes : is_this t (chief kin slot.row) ≡ true = ap (is_this t) (chief-of kin s slot t is names) ∙ same_number t in
+      absurd (cc (rw (positive, yes) at fails))
+
+  nobody-key : (kin : Kin) (t : ℕ) → next_named kin t 0 (all_rows (look (rows_of f) es)) ≡ None → (s p : ℕ) → keys (lanes kin f) s ≡ Some (p, Some t) → ⊥
+  nobody-key kin t none s p there =
+      let node = key_node (lanes kin f) s p (Some t) there in
+      let old = slot_at kin f s node.0 node.1 in
+      nobody-names kin t none s old.0 old.1 (ap (λ (n : Node). n.chief) old.2 ∙ node.3)
 
   -- a row more: its slot is taken, and then linked
   module _ (f1 g : ℕ → Option Slot) (es' : List (ℕ × ℕ)) (at : ℕ) (new : ProcData) (vacant : f at ≡ None) (has : f1 at ≡ Some (unlinked new)) (others : (s : ℕ) → s ≢ at → f1 s ≡ f s)
@@ -175,7 +166,12 @@ module _ (f : ℕ → Option Slot) (es : List (ℕ × ℕ)) (counts : List ℕ) 
 
   -- another row in a number's slot, which was linked anew
   module _ (f1 g : ℕ → Option Slot) (at : ℕ) (new : ProcData) (mid : Slot) (has1 : f1 at ≡ Some mid) (has : g at ≡ Some (record mid { row = new })) (others : (s : ℕ) → s ≢ at → g s ≡ f1 s)
-      (number : lookup (nat_eq new.pid) es ≡ Some at) (same_pid : mid.row.pid ≡ new.pid) where
+      (number : lookup (nat_eq new.pid) es ≡ Some at) (rows : (s : ℕ) → rows_of f1 s ≡ rows_of f s) where
+    same_pid : mid.row.pid ≡ new.pid
+    same_pid =
+        let named = tied.slotted.stored.named new.pid at number in
+        ap (λ (p : ProcData). p.pid) (same_Some mid.row named.0 (sym (ap (option_map (λ (x : Slot). x.row)) has1) ∙ (rows at ∙ named.1))) ∙ named.2
+
     set-lane : (k : Kin) → lane k (record mid { row = new }) ≡ lane k mid
     set-lane Tracees = λ i. record { pid = (sym same_pid) i; chief = mid.tracees.chief; first = mid.tracees.first; next = mid.tracees.next }
     set-lane Children = λ i. record { pid = (sym same_pid) i; chief = mid.children.chief; first = mid.children.first; next = mid.children.next }
@@ -186,11 +182,11 @@ module _ (f : ℕ → Option Slot) (es : List (ℕ × ℕ)) (counts : List ℕ) 
       | inr apart ↦ ap (option_map (lane k)) (others s apart)
     ]
 
-    pub written : (tracer parent : Option ℕ) → tracer ≡ new.tracer → parent ≡ parent_named new.parent → IsLaced f1 es → ((s : ℕ) → rows_of f1 s ≡ rows_of f s)
+    pub written : (tracer parent : Option ℕ) → tracer ≡ new.tracer → parent ≡ parent_named new.parent → IsLaced f1 es
         → ((k : Kin) → keys (lanes k f1) at ≡ option_map (λ (was : Slot). (was.row.pid, pick k tracer parent)) (f at)) → ((k : Kin) (s : ℕ) → s ≢ at → keys (lanes k f1) s ≡ keys (lanes k f) s)
         → (before : ProcData) → process_of new.pid (all_rows (look (rows_of f) es)) ≡ Some before → before.uid ≡ new.uid
         → IsTied g es counts × (all_rows (look (rows_of g) es) ≡ map (put_process new) (all_rows (look (rows_of f) es)))
-    written tracer parent traced parted laced rows here elsewhere before there uids =
+    written tracer parent traced parted laced here elsewhere before there uids =
         let row_at : rows_of g at ≡ Some new = ap (option_map (λ (x : Slot). x.row)) has in
         let row_off : (s : ℕ) → s ≢ at → rows_of g s ≡ rows_of f s = λ s apart. ap (option_map (λ (x : Slot). x.row)) (others s apart) ∙ rows s in
         let all = IsSlotted-set (rows_of f) es counts tied.slotted (rows_of g) es at row_off new row_at number refl before there uids in
@@ -235,9 +231,7 @@ module _ (f : ℕ → Option Slot) (es : List (ℕ × ℕ)) (counts : List ℕ) 
           | inr apart ↦
               let key : ◌≡◌ {A = Option (ℕ × Option ℕ)} (keys (lanes k f) s) (Some (x.row.pid, Some pid)) =
               sym (elsewhere k s apart) ∙ (ap (option_map key_of) (ap (option_map (lane k)) is) ∙ ap (λ u. Some (x.row.pid, u)) (names ∙ ap Some its)) in
-              let node = key_node (lanes k f) s x.row.pid (Some pid) key in
-              let old = slot_at k f s node.0 node.1 in
-              nobody-names k pid (unnamed k) s old.0 old.1 (ap (λ (n : Node). n.chief) old.2 ∙ node.3)
+              nobody-key k pid (unnamed k) s x.row.pid key
         ] in (
           all.0,
           all.1,

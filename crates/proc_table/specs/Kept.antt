@@ -18,8 +18,7 @@ pub record Table : Type 0 where
 
 -- each number is greater than n
 abbrev pub AllAbove : ℕ → List ProcData → Type 0
-AllAbove n [] = Unit {0}
-AllAbove n (q ∷ qs) = (n < q.pid) × AllAbove n qs
+AllAbove n processes = AllByRecursion (λ q. n < q.pid) processes
 
 -- the numbers rise
 abbrev pub Rise : List ProcData → Type 0

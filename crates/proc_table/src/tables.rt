@@ -13,7 +13,9 @@ ghost use Rattle.proc_table.specs.Kept.{IsKept, IsRow, AtHome, Named, put_proces
 use crate::ProcData;
 use crate::processes::Processes;
 use lwp_table::{LwpData, LwpTable};
-use pid_blocks::{Pid, Tid, Uid, cursor_after, next_free, pid_block, tid_block};
+use pid_blocks::{
+    FIRST_PID, FIRST_TID, PIDS, Pid, TIDS, Tid, Uid, cursor_after, next_free, pid_block, tid_block,
+};
 use std::alloc::{AllocError, Global};
 use std::marker::Model;
 
@@ -60,8 +62,8 @@ impl Tables {
         Ok(Tables {
             processes: Processes::new(alloc),
             lwps: LwpTable::new(alloc)?,
-            pid_cursors: cursors(1000, 1000),
-            tid_cursors: cursors(100000, 4000),
+            pid_cursors: cursors(FIRST_PID, PIDS),
+            tid_cursors: cursors(FIRST_TID, TIDS),
         })
     }
 
@@ -195,7 +197,7 @@ impl Tables {
         ensures kept { IsKept self.now.rows }
     {
         let _ = &self.processes;
-        if number <= 99999 {
+        if number < FIRST_TID {
             self.seen_pid(uid, number)
         } else {
             self.seen_lwp_pid(uid, number)

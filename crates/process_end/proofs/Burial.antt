@@ -1,13 +1,11 @@
 -- The end of a process that has no LWP, that no row names and for which nobody waits: its own row, and the one who collects it.
-use Rattle.std.proofs.Common.{◌≡◌, ℕ, List, [], ◌∷◌, filter_map, Bool, true, false, not, ◌&&◌, ◌||◌, ◌==◌, if◌then◌else◌, Option, Some, None, is_none, refl, sym, ap, ◌∙◌, true≢false, eqb-true}
+use Rattle.std.proofs.Common.{◌≡◌, ℕ, List, [], ◌∷◌, filter_map, Bool, true, false, not, ◌&&◌, ◌||◌, ◌==◌, if◌then◌else◌, Option, Some, None, is_none, refl, sym, ap, ◌∙◌, eqb-true}
 use Rattle.std.proofs.Math.Bool.{or-false}
 use Rattle.std.specs.Prelude.{option_map, unwrap_or}
 use Rattle.std.specs.List.{AllByRecursion, list_any}
 use Rattle.std.proofs.Math.Path.{fun_ext}
 use Rattle.signals.specs.Table.{SIGKILL}
 use Rattle.lwp_table.specs.declared.LwpData.{LwpData}
-use Rattle.lwp_table.specs.declared.Due.{Due}
-use Rattle.lwp_table.specs.declared.Mode.TheVariants.{User}
 use Rattle.proc_table.specs.declared.ProcData.{ProcData}
 use Rattle.proc_table.specs.Processes.{process_of, is_live, is_this, traces}
 use Rattle.proc_table.specs.Rows.{Rows, each, by_owner}
@@ -18,7 +16,7 @@ use Rattle.process_end.specs.Laws.{end_alone}
 use Rattle.process_end.specs.Leaving.{LeavingRow, LeavingLwp, IsLeaving}
 use Rattle.trace_stop.proofs.Every.{All-imply, All-both, find_some, none_of}
 use Rattle.trace_stop.proofs.Passes.{passes, any_same, filter_map_same}
-use Rattle.trace_stop.proofs.Stopping.{the_row}
+use Rattle.trace_stop.proofs.Numbers.{the_row}
 use Rattle.process_end.proofs.Turned.{told_row, told_lwp, told_lwp-miss, turned, turned_lwp, moved, is_gone, gone-true, gone-false, told-miss, turned-dead, turned-safe, turned-fallen, turned_lwp-safe}
 use Rattle.process_end.proofs.Twice.{alone, Told, told_lwp-moved}
 use Rattle.process_end.proofs.Tells.{tells, tells-value, told_by, parent_after}
@@ -44,11 +42,7 @@ each_equal f g lwp lwp' rows all every =
 
 -- An LWP that doesn't wait
 pub released_none : (over : ℕ → Bool) (r : ProcData) (l : LwpData) → waits_where over l.mode ≡ false → released over r l ≡ l
-released_none over r l none = at (waits_where over l.mode) none _
-  where
-    at : (b : Bool) → b ≡ false → (d : Due) → (if b then record l { mode = User; due = d } else l) ≡ l
-    at true e d = absurd (true≢false e)
-    at false e d = refl
+released_none over r l none = rw none refl
 
 pub waits_alone : (q : ℕ) (l : LwpData) → waits_where (λ n. n == q) l.mode ≡ waits_where (alone q) l.mode
 unfolding alone

@@ -1,4 +1,5 @@
 -- The way down the tracees of a process that ends, and one turn of its end.
+use Rattle.std.proofs.lemmas.Bool.Decides.{nat_tests}
 use Rattle.std.proofs.Common.{◌≡◌, ℕ, ◌-◌, ◌<◌, ◌≤◌, List, true, false, ◌&&◌, ◌||◌, ◌==◌, not, Option, Some, None, length, refl, sym, ap, ◌∙◌, arith, true≢false, eqb-true, eq-eqb, subst, inl, inr, unwrap_or}
 use Rattle.std.proofs.Math.Bool.{and-false}
 use Rattle.std.specs.Prelude.{count_by, ltb, MatchOption}
@@ -139,7 +140,7 @@ module _ (rows : Rows) (s : Stands rows) where
       omega (arith, more, least)
 
 turned_round : (m n : ℕ) → (m == n) ≡ false → (n == m) ≡ false
-turned_round m n e = by_bool (n == m) (λ same. true≢false (sym (eq-eqb m n (sym (eqb-true n m same))) ∙ e))
+turned_round m n e = grind (arith, nat_tests)
 
 -- One turn: q ends with p, is not p, and traces no live process
 module _ (rows rows' : Rows) (p q status : ℕ) (s : IsSound rows) (other : (q == p) ≡ false) (ends : EndsToo p rows q) (leaf : traces_live q rows ≡ false) (ended : rows' ≡ end_alone q SIGKILL rows) where

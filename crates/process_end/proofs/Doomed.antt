@@ -1,5 +1,7 @@
 -- Who ends with a process.
-use Rattle.std.proofs.Common.{◌≡◌, ℕ, zero, suc, List, [], ◌∷◌, filter_map, Bool, true, false, ◌&&◌, ◌||◌, ◌==◌, if◌then◌else◌, Option, Some, None, IfSome, is_some, refl, sym, ap, ◌∙◌, eqb, eqb-true, eq-eqb}
+use Rattle.std.proofs.Math.Bool.{and-false, and-true}
+use Rattle.std.proofs.lemmas.Bool.Decides.{nat_tests}
+use Rattle.std.proofs.Common.{◌≡◌, ℕ, zero, suc, List, [], ◌∷◌, filter_map, Bool, true, false, ◌&&◌, ◌||◌, ◌==◌, if◌then◌else◌, Option, Some, None, IfSome, is_some, refl, sym, ap, ◌∙◌, arith}
 use Rattle.std.proofs.Math.Path.{fun_ext}
 use Rattle.std.specs.List.{AllByRecursion, list_any}
 use Rattle.signals.specs.Table.{SIGTRAP}
@@ -18,7 +20,7 @@ use Rattle.trace_stop.specs.Facts.{IsLiveOf, Linked, Stands}
 use Rattle.process_end.specs.Laws.{traces_live, end_alone, LeafEnd, DetachedEnd}
 use Rattle.trace_stop.proofs.Every.{All-imply, All-both, none_of, find_some}
 use Rattle.trace_stop.proofs.Named.{live_row}
-use Rattle.trace_stop.proofs.Passes.{filter_map_same, any_same, any_edited, each_same, own_rows}
+use Rattle.trace_stop.proofs.Passes.{filter_map_same, any_same, each_same, own_rows}
 
 -- no row has this number, or a live one
 abbrev pub NoZombie : List ProcData → ℕ → Type 0
@@ -72,31 +74,11 @@ or_false false b h = h
 
 -- the numbers that end where q alone does
 one_number : (q n : ℕ) (ps : List ProcData) → list_any (λ r. r.pid == q) ps ≡ true → list_any (λ r. (r.pid == n) && (r.pid == q)) ps ≡ (n == q)
-one_number q n ps found = by_number (eqb n q) refl
+one_number q n ps found = same ps ∙ ap (λ b. (n == q) && b) found ∙ and-true (n == q)
   where
-    miss : (p : ProcData) → eqb n q ≡ false → (b : Bool) → eqb p.pid n ≡ b → (b && (p.pid == q)) ≡ false
-    miss p other true here = ap (λ m. eqb m q) (eqb-true p.pid n here) ∙ other
-    miss p other false here = refl
-
-    hit : (p : ProcData) → eqb n q ≡ true → (b : Bool) → eqb p.pid q ≡ b → ((p.pid == n) && b) ≡ b
-    hit p same true here = rw (eq-eqb p.pid n (eqb-true p.pid q here ∙ sym (eqb-true n q same))) refl
-    hit p same false here = at (eqb p.pid n)
-      where
-        at : (b : Bool) → (b && false) ≡ false
-        at true = refl
-        at false = refl
-
-    missed : eqb n q ≡ false → (rs : List ProcData) → list_any (λ r. (r.pid == n) && (r.pid == q)) rs ≡ false
-    missed other [] = refl
-    missed other (p ∷ rs) = rw (miss p other (eqb p.pid n) refl) (missed other rs)
-
-    each_hit : eqb n q ≡ true → (rs : List ProcData) → AllByRecursion (λ r. ((r.pid == n) && (r.pid == q)) ≡ (r.pid == q)) rs
-    each_hit same [] = tt
-    each_hit same (p ∷ rs) = (hit p same (eqb p.pid q) refl, each_hit same rs)
-
-    by_number : (b : Bool) → eqb n q ≡ b → list_any (λ r. (r.pid == n) && (r.pid == q)) ps ≡ b
-    by_number true same = any_same _ (λ r. r.pid == q) ps (each_hit same ps) ∙ found
-    by_number false other = missed other ps
+    same : (rs : List ProcData) → list_any (λ r. (r.pid == n) && (r.pid == q)) rs ≡ ((n == q) && list_any (λ r. r.pid == q) rs)
+    same [] = sym (and-false (n == q))
+    same (r ∷ rs) = grind (arith, nat_tests, same rs)
 
 pub dooms_alone : (settings : Settings) (ps : List ProcData) (q : ℕ) → list_any (λ r. r.pid == q) ps ≡ true → AllByRecursion (λ r. is_doomed settings ps q r ≡ (r.pid == q)) ps → (n : ℕ) → dooms settings ps q n ≡ (n == q)
 dooms_alone settings ps q found all n =
@@ -136,19 +118,12 @@ leaf_end settings rows q status kills s found leaf =
 -- where tracees are detached, q alone ends
 not_killing : (settings : Settings) (ps : List ProcData) (q : ℕ) → settings.kill_on_debugger_exit ≡ false → (rs : List ProcData) → AllByRecursion (λ r. is_doomed settings ps q r ≡ (r.pid == q)) rs
 not_killing settings ps q spares [] = tt
-not_killing settings ps q spares (r ∷ rs) = (or_false (r.pid == q) _ (ap (λ b. b && is_live r && meets 250 ps q r.pid) spares), not_killing settings ps q spares rs)
+not_killing settings ps q spares (r ∷ rs) = (grind (arith, nat_tests, spares), not_killing settings ps q spares rs)
 
 number_kept : (chosen : ProcData → Bool) (f : ProcData → ProcData) (q : ℕ) → ((r : ProcData) → (f r).pid ≡ r.pid) → (ps : List ProcData)
     → list_any (λ r. r.pid == q) (filter_map (λ r. Some (if chosen r then f r else r)) ps) ≡ list_any (λ r. r.pid == q) ps
-number_kept chosen f q same ps = any_edited (λ r. Some (if chosen r then f r else r)) (λ r. r.pid == q) ps ∙ any_same _ (λ r. r.pid == q) ps (every ps)
-  where
-    at : (r : ProcData) (b : Bool) → ((if b then f r else r).pid == q) ≡ (r.pid == q)
-    at r true = ap (λ m. eqb m q) (same r)
-    at r false = refl
-
-    every : (rs : List ProcData) → AllByRecursion (λ r. ((if chosen r then f r else r).pid == q) ≡ (r.pid == q)) rs
-    every [] = tt
-    every (r ∷ rs) = (at r (chosen r), every rs)
+number_kept chosen f q same [] = refl
+number_kept chosen f q same (r ∷ ps) = let here = same r in grind (arith, nat_tests, here, number_kept chosen f q same ps)
 
 pub detached_end : DetachedEnd
 detached_end settings rows q status spares found =

@@ -1,16 +1,14 @@
 -- The rows, when a process that is doomed and traces no live one ends before the process that dooms it.
-use Rattle.std.proofs.Common.{◌≡◌, ℕ, List, filter_map, Bool, true, false, ◌&&◌, ◌||◌, ◌==◌, if◌then◌else◌, Option, Some, None, IfSome, is_none, refl, sym, ap, ◌∙◌, true≢false, subst}
+use Rattle.std.proofs.Common.{◌≡◌, ℕ, List, filter_map, Bool, true, false, ◌||◌, ◌==◌, if◌then◌else◌, Option, Some, None, IfSome, sym, ap, ◌∙◌, true≢false, subst, arith}
 use Rattle.std.specs.Option.{option_and_then}
 use Rattle.std.specs.List.{AllByRecursion, list_any}
 use Rattle.signals.specs.Table.{SIGKILL}
 use Rattle.proc_table.specs.declared.ProcData.{ProcData}
 use Rattle.lwp_table.specs.declared.LwpData.{LwpData}
-use Rattle.lwp_table.specs.declared.Due.{Due}
-use Rattle.lwp_table.specs.declared.Mode.TheVariants.{User}
 use Rattle.proc_table.specs.Processes.{process_of, is_live}
 use Rattle.proc_table.specs.Rows.{Rows, each, by_owner}
 use Rattle.proc_table.specs.Kept.{Rise}
-use Rattle.trace_stop.specs.End.{holds_of, orphaned, dead, uncollected, process_after, waits_where, released, lwp_after, told_of, end_each}
+use Rattle.trace_stop.specs.End.{holds_of, process_after, released, lwp_after, told_of, end_each}
 use Rattle.trace_stop.proofs.Every.{by_bool, All-imply, All-both, All-any, any_holds}
 use Rattle.trace_stop.proofs.Passes.{passes, any_same, any_or, any_edited, KeepsNumbers, KeepsOwners, own_rows, rise_edited, each_twice, each_agree}
 use Rattle.process_end.proofs.Doomed.{NoZombie}
@@ -20,20 +18,8 @@ use Rattle.process_end.proofs.Tells.{tells, tells-is, tells-names, told_by-names
 
 -- What an end keeps of a row's number, and of an LWP's process
 
-kept : (r z : ProcData) → z.pid ≡ r.pid → (b : Bool) → IfSome (if b then None else Some z) (λ s. s.pid ≡ r.pid)
-kept r z same true = tt
-kept r z same false = same
-
 pub after_keeps : (over : ℕ → Bool) (p status : ℕ) → KeepsNumbers (process_after (fallen over) over p status)
-after_keeps over p status r = by_case (fallen over r) (is_live r)
-  where
-    z : ProcData
-    z = dead (if r.pid == p then status else SIGKILL) (orphaned over r)
-
-    by_case : (b c : Bool) → IfSome (if b then uncollected z else (if c then Some (record r { parent = if over r.parent then 1 else r.parent }) else uncollected (orphaned over r))) (λ s. s.pid ≡ r.pid)
-    by_case true c = kept r z refl (is_none z.tracer && (z.parent == 1))
-    by_case false true = refl
-    by_case false false = kept r (orphaned over r) refl (is_none (orphaned over r).tracer && ((orphaned over r).parent == 1))
+after_keeps over p status r = first_of (grind arith, search)
 
 pub turned_keeps : (over : ℕ → Bool) (p status : ℕ) (told : ℕ → Bool) → KeepsNumbers (turned over p status told)
 unfolding turned
@@ -44,19 +30,11 @@ turned_keeps over p status told r = at (process_after (fallen over) over p statu
     at (Some s) same = told-pid told s ∙ same
 
 released-pid : (over : ℕ → Bool) (r : ProcData) (l : LwpData) → (released over r l).pid ≡ l.pid
-released-pid over r l = at (waits_where over l.mode) _
-  where
-    at : (b : Bool) (d : Due) → (if b then record l { mode = User; due = d } else l).pid ≡ l.pid
-    at true d = refl
-    at false d = refl
+released-pid over r l = grind arith
 
 told_lwp-pid : (told : ℕ → Bool) (r : ProcData) (l : LwpData) → (told_lwp told r l).pid ≡ l.pid
 unfolding told_lwp heard_lwp
-told_lwp-pid told r l = at (told r.pid)
-  where
-    at : (b : Bool) → (if b then heard_lwp r l else l).pid ≡ l.pid
-    at true = refl
-    at false = refl
+told_lwp-pid told r l = grind arith
 
 lwp_keeps : (over : ℕ → Bool) → KeepsOwners (lwp_after (fallen over) over)
 lwp_keeps over r l = at (fallen over r)

@@ -1,5 +1,6 @@
 -- Who is doomed before a process that traces no live one has ended, and after.
-use Rattle.std.proofs.Common.{◌≡◌, ℕ, zero, suc, List, [], ◌∷◌, filter_map, Bool, true, false, not, ◌&&◌, ◌||◌, ◌==◌, if◌then◌else◌, Option, Some, None, IfSome, refl, sym, ap, ◌∙◌, eqb, true≢false, eqb-true, eq-eqb, subst, inl, inr}
+use Rattle.std.proofs.lemmas.Bool.Decides.{nat_tests}
+use Rattle.std.proofs.Common.{◌≡◌, ℕ, zero, suc, List, [], ◌∷◌, filter_map, Bool, true, false, not, ◌&&◌, ◌||◌, ◌==◌, if◌then◌else◌, Option, Some, None, IfSome, refl, sym, ap, ◌∙◌, eqb, true≢false, eqb-true, eq-eqb, subst, inl, inr, arith}
 use Rattle.std.proofs.Math.Path.{fun_ext}
 use Rattle.std.specs.Option.{option_and_then}
 use Rattle.std.specs.List.{AllByRecursion, list_any}
@@ -21,7 +22,7 @@ use Rattle.trace_stop.proofs.Named.{live_row}
 use Rattle.trace_stop.proofs.Found.{any_by_number}
 use Rattle.trace_stop.proofs.Chains.{meets-suc, meets-zero, or_more, meets-more}
 use Rattle.process_end.proofs.Doomed.{NoZombie, no_zombie, Untracing, untracing, end_each_same, dooms_alone, doomed_alone}
-use Rattle.process_end.proofs.Turned.{heard, told_row, moved, fallen, turned, is_gone, gone-true, gone-false, turned-fallen, turned-safe, turned-dead}
+use Rattle.process_end.proofs.Turned.{heard, told_row, moved, fallen, turned, turned-fallen, turned-safe, turned-dead}
 use Rattle.process_end.proofs.Twice.{alone, rest, Told, rest-same, rest-other, rest-safe, told-live, told-pid, moved-live, moved-pid}
 use Rattle.process_end.proofs.Tells.{Names}
 use Rattle.process_end.proofs.LeafFirst.{turned_keeps, Ready, first, left, left-is, left-rises, first_told, rows_twice}
@@ -41,11 +42,7 @@ zombie_safe settings ps p live r own ended = by_bool (r.pid == p) (λ same.
     true≢false (sym live ∙ ap (λ n. passes is_live (process_of n ps)) (sym (eqb-true r.pid p same)) ∙ ap (passes is_live) own ∙ ended))
 
 doomed-dead : (settings : Settings) (ps : List ProcData) (p : ℕ) (r : ProcData) → (r.pid == p) ≡ false → is_live r ≡ false → is_doomed settings ps p r ≡ false
-doomed-dead settings ps p r other ended = or_false (r.pid == p) _ other (ap (λ b. settings.kill_on_debugger_exit && b && meets 250 ps p r.pid) ended ∙ ap (λ b. b && meets 250 ps p r.pid) (and_false settings.kill_on_debugger_exit))
-  where
-    and_false : (a : Bool) → (a && false) ≡ false
-    and_false true = refl
-    and_false false = refl
+doomed-dead settings ps p r other ended = grind (arith, nat_tests)
 
 doomed_fallen : (settings : Settings) (ps : List ProcData) (p : ℕ) → Rise ps → IsLiveRow ps p → (r : ProcData) → process_of r.pid ps ≡ Some r → is_doomed settings ps p r ≡ fallen (dooms settings ps p) r
 doomed_fallen settings ps p rise live r own = by_live (is_live r) refl
@@ -118,11 +115,7 @@ this_holds q (Some t) = refl
 
 pub kept-tracer : (t o : ℕ → Bool) (r : ProcData) → (told_row t (moved o r)).tracer ≡ r.tracer
 unfolding told_row moved heard
-kept-tracer t o r = at (t r.pid)
-  where
-    at : (b : Bool) → (if b then heard (moved o r) else moved o r).tracer ≡ r.tracer
-    at true = refl
-    at false = refl
+kept-tracer t o r = grind arith
 
 pub If-map : {X : Type 0} (P Q : X → Type 0) → ((x : X) → P x → Q x) → (o : Option X) → IfSome o P → IfSome o Q
 If-map P Q h None k = tt
@@ -132,19 +125,11 @@ pub number_found : (n : ℕ) (ps : List ProcData) (r : ProcData) → process_of 
 number_found n ps r is = (find_some (λ x. x.pid == n) (λ x. Unit {0}) ps (All-any (λ x. Unit {0}) (λ x. tt) ps) r is).1
 
 uncollected_safe : (t : ProcData → Bool) (z : ProcData) → t z ≡ false → passes t (uncollected z) ≡ false
-uncollected_safe t z safe = by_gone (is_gone z) refl
-  where
-    by_gone : (b : Bool) → is_gone z ≡ b → passes t (uncollected z) ≡ false
-    by_gone true e = ap (passes t) (gone-true z e)
-    by_gone false e = ap (passes t) (gone-false z e) ∙ safe
+uncollected_safe t z safe = grind arith
 
 number_listed : (n : ℕ) (ps : List ProcData) (r : ProcData) → process_of n ps ≡ Some r → list_any (λ x. x.pid == n) ps ≡ true
-number_listed n [] r is = absurd (true≢false (sym (ap is_some is)))
-number_listed n (p ∷ ps) r is = by_head (eqb p.pid n) refl is (number_listed n ps r)
-  where
-    by_head : (b : Bool) → eqb p.pid n ≡ b → (if b then Some p else process_of n ps) ≡ Some r → (process_of n ps ≡ Some r → list_any (λ x. x.pid == n) ps ≡ true) → (b || list_any (λ x. x.pid == n) ps) ≡ true
-    by_head true e h rest = refl
-    by_head false e h rest = rest h
+number_listed n [] r is = grind (arith, is)
+number_listed n (p ∷ ps) r is = grind (arith, nat_tests, number_listed n ps r)
 
 pub alone-true : (q n : ℕ) → alone q n ≡ true → n ≡ q
 unfolding alone

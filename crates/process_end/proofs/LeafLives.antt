@@ -1,5 +1,6 @@
 -- Who lives on after the end of a process that traces no live one.
-use Rattle.std.proofs.Common.{◌≡◌, ℕ, ◌+◌, ◌<◌, ◌≤◌, List, [], ◌∷◌, filter_map, Bool, true, false, cond, not, ◌&&◌, ◌||◌, ◌==◌, Option, Some, None, IfSome, refl, sym, ap, ◌∙◌, arith, true≢false, eqb-true, subst}
+use Rattle.std.proofs.lemmas.Bool.Decides.{nat_tests}
+use Rattle.std.proofs.Common.{◌≡◌, ℕ, ◌+◌, ◌<◌, ◌≤◌, List, [], ◌∷◌, filter_map, Bool, true, false, not, ◌&&◌, ◌==◌, Option, Some, None, IfSome, refl, sym, ap, ◌∙◌, arith, true≢false, eqb-true, subst}
 use Rattle.std.specs.Option.{option_and_then}
 use Rattle.std.specs.Prelude.{count_by}
 use Rattle.std.specs.List.{list_any}
@@ -33,34 +34,20 @@ pub end_after : (settings : Settings) (rows : Rows) (q status : ℕ) (kills : se
     → end settings q status rows ≡ after rows q status s (live_from rows q s is) leaf
 end_after settings rows q status kills s is leaf = leaf_end settings rows q status kills s (listed rows q is) leaf ∙ after-is rows q status s (live_from rows q s is) leaf
 
--- a count in two parts
-cond_split : (b c : Bool) → cond {A = ℕ} b 1 0 ≡ cond {A = ℕ} (b && not c) 1 0 + cond {A = ℕ} (b && c) 1 0
-cond_split true true = omega arith
-cond_split true false = omega arith
-cond_split false c = omega arith
-
 pub count_split : (t u : ProcData → Bool) (ps : List ProcData) → count_by t ps ≡ count_by (λ r. t r && not (u r)) ps + count_by (λ r. t r && u r) ps
 count_split t u [] = omega arith
 count_split t u (r ∷ ps) =
-    let ih = count_split t u ps in
     let all = count-cons t r ps in
     let one = count-cons (λ x. t x && not (u x)) r ps in
     let two = count-cons (λ x. t x && u x) r ps in
-    let parts = cond_split (t r) (u r) in
-    omega (arith, ih, all, one, two, parts)
+    grind (arith, all, one, two, count_split t u ps)
 
 pub any_counts : (t : ProcData → Bool) (ps : List ProcData) → list_any t ps ≡ true → 1 ≤ count_by t ps
 any_counts t [] is = absurd (true≢false (sym is))
-any_counts t (r ∷ ps) is = at_head (t r) refl is (any_counts t ps) (count-cons t r ps)
-  where
-    at_head : (b : Bool) → t r ≡ b → (b || list_any t ps) ≡ true → (list_any t ps ≡ true → 1 ≤ count_by t ps) → count_by t (r ∷ ps) ≡ cond (t r) 1 0 + count_by t ps → 1 ≤ count_by t (r ∷ ps)
-    at_head true e h rest all = let one : ◌≡◌ {A = ℕ} (cond (t r) 1 0) 1 = ap (λ b. cond {A = ℕ} b 1 0) e in omega (arith, all, one)
-    at_head false e h rest all = let some = rest h in omega (arith, all, some)
+any_counts t (r ∷ ps) is = let all = count-cons t r ps in grind (arith, nat_tests, all, any_counts t ps)
 
 pub and_swap : (a b : Bool) → (a && b) ≡ true → (b && a) ≡ true
-and_swap true true h = refl
-and_swap true false h = h
-and_swap false b h = absurd (true≢false (sym h))
+and_swap a b h = grind (arith, nat_tests)
 
 module _ (rows : Rows) (q status : ℕ) (s : Stands rows) (live : IsLiveRow rows.processes q) (leaf : traces_live q rows ≡ false) where
   abbrev ps : List ProcData

@@ -1,5 +1,5 @@
 -- Rows that name a process that ends, each taken from it: its end is as it was.
-use Rattle.std.proofs.Common.{◌≡◌, ℕ, Bool, true, false, not, ◌&&◌, ◌==◌, if◌then◌else◌, Option, Some, None, IfSome, is_none, refl, sym, ap, ◌∙◌, true≢false, eqb-true, subst}
+use Rattle.std.proofs.Common.{◌≡◌, ℕ, Bool, true, false, not, ◌&&◌, ◌==◌, Option, Some, None, IfSome, is_none, refl, sym, ap, ◌∙◌, true≢false, eqb-true, subst, arith}
 use Rattle.std.proofs.Math.Bool.{and-false}
 use Rattle.std.specs.Option.{option_and_then}
 use Rattle.std.specs.List.{AllByRecursion}
@@ -8,164 +8,130 @@ use Rattle.proc_table.specs.declared.ProcData.{ProcData}
 use Rattle.proc_table.specs.Processes.{process_of, is_live}
 use Rattle.proc_table.specs.Rows.{Rows, each, by_owner}
 use Rattle.proc_table.specs.Kept.{Rise}
-use Rattle.signals.specs.Table.{SIGKILL}
-use Rattle.trace_stop.specs.End.{unless, orphaned, dead, uncollected, released}
+use Rattle.trace_stop.specs.End.{unless, orphaned}
 use Rattle.process_end.specs.Laws.{end_alone}
 use Rattle.process_end.specs.Leaving.{LeavingRow, IsLeaving}
-use Rattle.trace_stop.proofs.Every.{and_right, All-imply, All-both}
-use Rattle.trace_stop.proofs.Passes.{passes}
-use Rattle.trace_stop.proofs.Stopping.{the_row}
-use Rattle.process_end.proofs.Turned.{fallen, told_row, told_lwp, turned, turned_lwp, is_gone, gone-true, turned-dead}
-use Rattle.process_end.proofs.Twice.{alone}
+use Rattle.trace_stop.proofs.Every.{choose, and_right, All-imply, All-both, find_some}
+use Rattle.trace_stop.proofs.Passes.{passes, KeepsNumbers}
+use Rattle.trace_stop.proofs.Numbers.{the_row}
+use Rattle.process_end.proofs.Turned.{turned, turned_lwp, is_gone, gone-true, turned-dead}
+use Rattle.process_end.proofs.Twice.{alone, Told}
 use Rattle.process_end.proofs.Tells.{tells, told_by, tells_any, parent_after}
 use Rattle.process_end.proofs.LeafFirst.{told}
-use Rattle.process_end.proofs.Leaving.{Fit, leaving_each, Ends, stepped_same, told_alive, Told-of, put, out, same_lwp}
-
--- A zombie whom nobody would collect, taken out
+use Rattle.process_end.proofs.Leaving.{Fit, leaving_each, Ends, stepped_same, told_alive, Told-of, put, put_keeps, out, same_lwp}
 
 pub untold_gone : (o : Option ℕ) (n x : ℕ) → (is_none o && (n == 1)) ≡ true → told_by o n x ≡ false
 unfolding told_by
 untold_gone None n x gone = ap (λ b. not b && (n == x)) gone
 untold_gone (Some t) n x gone = absurd (true≢false (sym gone))
 
-tells_gone : (over : ℕ → Bool) (x : ℕ) (z : ProcData) → is_gone (orphaned over z) ≡ true → tells over x z ≡ false
-unfolding tells
-tells_gone over x z gone = ap (λ b. tells_any over z && b) (untold_gone (unless over z.tracer) (parent_after over z.parent) x gone) ∙ and-false (tells_any over z)
+-- One row, changed or taken out
+
+module _ (q n : ℕ) (rows : Rows) (v : IsLeaving q rows) (rise : Rise rows.processes) (z : ProcData) (at : process_of n rows.processes ≡ Some z)
+    (f : ProcData → Option ProcData) (apart : (r : ProcData) → (r.pid == n) ≡ false → f r ≡ Some r) (keeps : KeepsNumbers f) (fit : LeavingRow v.alive q z → Fit v.alive q f z) where
+  -- a fact of the rows that stay and of the one that is changed
+  each_row : (P : ProcData → Type 0) → ((r : ProcData) → LeavingRow v.alive q r → f r ≡ Some r → P r) → (LeavingRow v.alive q z → P z) → AllByRecursion P rows.processes
+  each_row P stays changes = All-imply (λ r. LeavingRow v.alive q r × (r.pid ≡ n → r ≡ z)) P (λ r h. by_number r h.0 h.1 (r.pid == n) refl) rows.processes
+      (All-both (LeavingRow v.alive q) _ rows.processes v.processes (the_row n rows.processes z rise at))
+    where
+      by_number : (r : ProcData) → LeavingRow v.alive q r → (r.pid ≡ n → r ≡ z) → (b : Bool) → (r.pid == n) ≡ b → P r
+      by_number r h one true same = let is = one (eqb-true r.pid n same) in subst P (sym is) (changes (subst (LeavingRow v.alive q) is h))
+      by_number r h one false other = stays r h (apart r other)
+
+  pub step_leaving : IsLeaving q (each f same_lwp rows)
+  step_leaving = leaving_each q rows v f same_lwp (λ r l h. h)
+      (each_row (Fit v.alive q f) (λ r h is. record { row = subst (λ o. IfSome o (LeavingRow v.alive q)) (sym is) h; here = λ own. (r, is, own) }) fit)
+
+  module _ (w : ℕ) (t : ℕ → Bool) (tells_same : (x : ℕ) → passes (tells (alone q) x) (f z) ≡ tells (alone q) x z) where
+    abbrev pub EndsAs : ProcData → Type 0
+    EndsAs r = Ends q w rows v rise f same_lwp keeps (λ k l. refl) step_leaving t t r
+
+    pub step_same : t ≡ told (alone q) q w rows → (Told (alone q) t z → EndsAs z) → end_alone q w (each f same_lwp rows) ≡ end_alone q w rows
+    step_same is ends = stepped_same q w rows v rise f same_lwp keeps (λ r l. refl) step_leaving
+        (λ x. each_row _ (λ r h same. ap (passes (tells (alone q) x)) same) (λ h. tells_same x))
+        (subst (λ k. AllByRecursion (Ends q w rows v rise f same_lwp keeps (λ r l. refl) step_leaving k k) rows.processes) is
+        (each_row EndsAs (λ r h same. (ap (option_and_then (turned (alone q) q w t)) same, λ live l. ap (by_owner (turned_lwp (alone q) q w t) l) same))
+        (λ h. ends (subst (λ k. Told (alone q) k z) (sym is) (Told-of q rows v (told (alone q) q w rows) (told_alive q rows v w) z h)))))
+
+-- A zombie whom nobody would collect, taken out
 
 module _ (q n : ℕ) (rows : Rows) (v : IsLeaving q rows) (rise : Rise rows.processes) (z : ProcData) (at : process_of n rows.processes ≡ Some z)
     (ended : is_live z ≡ false) (gone : is_gone (orphaned (alone q) z) ≡ true) where
-  rows_fit : AllByRecursion (λ r. LeavingRow v.alive q r × (r.pid ≡ n → r ≡ z)) rows.processes
-  rows_fit = All-both (LeavingRow v.alive q) _ rows.processes v.processes (the_row n rows.processes z rise at)
+  here : (z.pid == n) ≡ true
+  here = (find_some (λ r. r.pid == n) (LeavingRow v.alive q) rows.processes v.processes z at).1
 
-  out_fit : (r : ProcData) → LeavingRow v.alive q r → (r.pid ≡ n → r ≡ z) → Fit v.alive q (out n) r
-  out_fit r h one = record { row = row (r.pid == n); here = here (r.pid == n) refl }
-    where
-      row : (b : Bool) → IfSome (if b then None else Some r) (LeavingRow v.alive q)
-      row true = tt
-      row false = h
+  out_apart : (r : ProcData) → (r.pid == n) ≡ false → out n r ≡ Some r
+  out_apart r other = rw other refl
 
-      here : (b : Bool) → (r.pid == n) ≡ b → ((r.pid == q) && is_live r) ≡ true → (s : ProcData) × ((if b then None else Some r) ≡ Some s) × (((s.pid == q) && is_live s) ≡ true)
-      here true same is = absurd (true≢false (sym (and_right (r.pid == q) (is_live r) is) ∙ ap is_live (one (eqb-true r.pid n same)) ∙ ended))
-      here false other is = (r, refl, is)
+  out_gone : out n z ≡ None
+  out_gone = rw here refl
+
+  out_keeps : KeepsNumbers (out n)
+  out_keeps r = choose (r.pid == n) None (Some r) (λ o. IfSome o (λ s. s.pid ≡ r.pid)) (λ e. tt) (λ e. refl)
+
+  out_fit : LeavingRow v.alive q z → Fit v.alive q (out n) z
+  out_fit h = record {
+    row = rw here tt;
+    here = λ is. absurd (true≢false (sym (and_right (z.pid == q) (is_live z) is) ∙ ended));
+  }
 
   pub out_leaving : IsLeaving q (each (out n) same_lwp rows)
-  out_leaving = leaving_each q rows v (out n) same_lwp (λ r l h. h) (All-imply _ (Fit v.alive q (out n)) (λ r h. out_fit r h.0 h.1) rows.processes rows_fit)
+  out_leaving = step_leaving q n rows v rise z at (out n) out_apart out_keeps out_fit
+
+  tells_none : (x : ℕ) → passes (tells (alone q) x) (out n z) ≡ tells (alone q) x z
+  unfolding tells
+  tells_none x = rw (out_gone, untold_gone (unless (alone q) z.tracer) (parent_after (alone q) z.parent) x gone) (sym (and-false (tells_any (alone q) z)))
 
   pub out_same : (w : ℕ) → end_alone q w (each (out n) same_lwp rows) ≡ end_alone q w rows
-  out_same w = stepped_same q w rows v rise (out n) same_lwp keeps (λ r l. refl) out_leaving
-      (λ x. All-imply _ _ (λ r h. tell x r h.1 (r.pid == n) refl) rows.processes rows_fit)
-      (All-imply _ (Ends q w rows v rise (out n) same_lwp keeps (λ r l. refl) out_leaving t t) (λ r h. ends r h.0 h.1 (r.pid == n) refl) rows.processes rows_fit)
-    where
-      t : ℕ → Bool
-      t = told (alone q) q w rows
-
-      keeps : (r : ProcData) → IfSome (if r.pid == n then None else Some r) (λ s. s.pid ≡ r.pid)
-      keeps r = at_number (r.pid == n)
-        where
-          at_number : (b : Bool) → IfSome (if b then None else Some r) (λ s. s.pid ≡ r.pid)
-          at_number true = tt
-          at_number false = refl
-
-      tell : (x : ℕ) (r : ProcData) → (r.pid ≡ n → r ≡ z) → (b : Bool) → (r.pid == n) ≡ b → passes (tells (alone q) x) (if b then None else Some r) ≡ tells (alone q) x r
-      tell x r one true same = sym (ap (tells (alone q) x) (one (eqb-true r.pid n same)) ∙ tells_gone (alone q) x z gone)
-      tell x r one false other = refl
-
-      miss : LeavingRow v.alive q z → t z.pid ≡ false
-      miss h = (Told-of q rows v t (told_alive q rows v w) z h).dead ended
-
-      ends : (r : ProcData) → LeavingRow v.alive q r → (r.pid ≡ n → r ≡ z) → (b : Bool) → (r.pid == n) ≡ b
-          → (option_and_then (turned (alone q) q w t) (if b then None else Some r) ≡ turned (alone q) q w t r)
-          × (is_live r ≡ true → (l : LwpData) → option_and_then (λ k. by_owner (turned_lwp (alone q) q w t) k (if b then None else Some r)) (Some l) ≡ turned_lwp (alone q) q w t r l)
-      ends r h one false other = (refl, λ live l. refl)
-      ends r h one true same =
-          let is = one (eqb-true r.pid n same) in (
-            sym (ap (turned (alone q) q w t) is ∙ turned-dead (alone q) q w t z ended (miss (subst (LeavingRow v.alive q) is h)) ∙ gone-true (orphaned (alone q) z) gone),
-            λ live l. absurd (true≢false (sym live ∙ ap is_live is ∙ ended)),
-          )
+  out_same w = let t = told (alone q) q w rows in
+      step_same q n rows v rise z at (out n) out_apart out_keeps out_fit w t tells_none refl (λ missed. (
+        ap (option_and_then (turned (alone q) q w t)) out_gone ∙ sym (turned-dead (alone q) q w t z ended (missed.dead ended) ∙ gone-true (orphaned (alone q) z) gone),
+        λ live l. absurd (true≢false (sym live ∙ ended)),
+      ))
 
 -- A child whose parent becomes 1
-
-one_parent : (over : ℕ → Bool) (n : ℕ) → over n ≡ true → parent_after over 1 ≡ parent_after over n
-one_parent over n is = at (over 1) ∙ sym (ap (λ b. if b then 1 else n) is)
-  where
-    at : (b : Bool) → ◌≡◌ {A = ℕ} (if b then 1 else 1) 1
-    at true = refl
-    at false = refl
-
-module _ (over : ℕ → Bool) (p w : ℕ) (t : ℕ → Bool) (r : ProcData) (is : over r.parent ≡ true) where
-  turned-orphan : turned over p w t (record r { parent = 1 }) ≡ turned over p w t r
-  unfolding turned
-  turned-orphan = ap (λ n. option_and_then (λ s. Some (told_row t s))
-      (if fallen over r
-      then uncollected (dead (if r.pid == p then w else SIGKILL) (record r { tracer = unless over r.tracer; parent = n }))
-      else (if is_live r then Some (record r { parent = n }) else uncollected (record r { tracer = unless over r.tracer; parent = n }))))
-      (one_parent over r.parent is)
-
-  turned_lwp-orphan : (l : LwpData) → turned_lwp over p w t (record r { parent = 1 }) l ≡ turned_lwp over p w t r l
-  unfolding turned_lwp
-  turned_lwp-orphan l = ap (λ n. option_and_then (λ k. by_owner (λ s j. Some (told_lwp t s j)) k
-      (if fallen over r
-      then uncollected (dead (if r.pid == p then w else SIGKILL) (record r { tracer = unless over r.tracer; parent = n }))
-      else (if is_live r then Some (record r { parent = n }) else uncollected (record r { tracer = unless over r.tracer; parent = n }))))
-      (if fallen over r then None else Some (released over r l)))
-      (one_parent over r.parent is)
-
-  tells-orphan : (x : ℕ) → tells over x (record r { parent = 1 }) ≡ tells over x r
-  unfolding tells
-  tells-orphan x = ap (λ n. tells_any over r && told_by (unless over r.tracer) n x) (one_parent over r.parent is)
 
 abbrev pub orphan : ProcData → ProcData
 orphan r = record r { parent = 1 }
 
 module _ (q n : ℕ) (rows : Rows) (v : IsLeaving q rows) (rise : Rise rows.processes) (z : ProcData) (at : process_of n rows.processes ≡ Some z)
     (child : alone q z.parent ≡ true) (some : is_live z ≡ false → is_none z.tracer ≡ false) where
-  child_rows : AllByRecursion (λ r. LeavingRow v.alive q r × (r.pid ≡ n → r ≡ z)) rows.processes
-  child_rows = All-both (LeavingRow v.alive q) _ rows.processes v.processes (the_row n rows.processes z rise at)
+  put_here : put n orphan z ≡ Some (orphan z)
+  put_here = rw (find_some (λ r. r.pid == n) (LeavingRow v.alive q) rows.processes v.processes z at).1 refl
 
-  put_fit : (r : ProcData) → LeavingRow v.alive q r → (r.pid ≡ n → r ≡ z) → Fit v.alive q (put n orphan) r
-  put_fit r h one = record { row = row (r.pid == n) refl; here = λ is. here is (r.pid == n) }
-    where
-      row : (b : Bool) → (r.pid == n) ≡ b → LeavingRow v.alive q (if b then orphan r else r)
-      row false other = h
-      row true same = record {
-        lives = h.lives;
-        tracer = h.tracer;
-        parent = λ other. absurd (other refl);
-        free = h.free;
-        left = λ ended. let is = one (eqb-true r.pid n same) in ap (λ b. b && true) (subst (λ k. is_none k.tracer ≡ false) (sym is) (some (ap is_live (sym is) ∙ ended)));
-      }
+  put_apart : (r : ProcData) → (r.pid == n) ≡ false → put n orphan r ≡ Some r
+  put_apart r other = rw other refl
 
-      here : ((r.pid == q) && is_live r) ≡ true → (b : Bool) → (s : ProcData) × (Some (if b then orphan r else r) ≡ Some s) × (((s.pid == q) && is_live s) ≡ true)
-      here is true = (orphan r, refl, is)
-      here is false = (r, refl, is)
+  put_numbers : KeepsNumbers (put n orphan)
+  put_numbers r = put_keeps n orphan (λ k. refl) r
+
+  put_fit : LeavingRow v.alive q z → Fit v.alive q (put n orphan) z
+  put_fit h = record {
+    row = subst (λ o. IfSome o (LeavingRow v.alive q)) (sym put_here) (record { lives = h.lives; tracer = h.tracer; parent = λ other. absurd (other refl); free = h.free; left = λ ended. ap (λ b. b && true) (some ended) });
+    here = λ is. (orphan z, put_here, is);
+  }
 
   pub put_leaving : IsLeaving q (each (put n orphan) same_lwp rows)
-  put_leaving = leaving_each q rows v (put n orphan) same_lwp (λ r l h. h) (All-imply _ (Fit v.alive q (put n orphan)) (λ r h. put_fit r h.0 h.1) rows.processes child_rows)
+  put_leaving = step_leaving q n rows v rise z at (put n orphan) put_apart put_numbers put_fit
+
+  one_parent : parent_after (alone q) 1 ≡ parent_after (alone q) z.parent
+  one_parent = grind (arith, child)
+
+  tells_orphan : (x : ℕ) → passes (tells (alone q) x) (put n orphan z) ≡ tells (alone q) x z
+  unfolding tells
+  tells_orphan x = ap (passes (tells (alone q) x)) put_here ∙ ap (λ k. tells_any (alone q) z && told_by (unless (alone q) z.tracer) k x) one_parent
+
+  turned_orphan : (w : ℕ) (t : ℕ → Bool) → turned (alone q) q w t (orphan z) ≡ turned (alone q) q w t z
+  unfolding turned
+  turned_orphan w t = rw one_parent refl
+
+  turned_lwp_orphan : (w : ℕ) (t : ℕ → Bool) (l : LwpData) → turned_lwp (alone q) q w t (orphan z) l ≡ turned_lwp (alone q) q w t z l
+  unfolding turned_lwp
+  turned_lwp_orphan w t l = rw one_parent refl
 
   pub put_same : (w : ℕ) → end_alone q w (each (put n orphan) same_lwp rows) ≡ end_alone q w rows
-  put_same w = stepped_same q w rows v rise (put n orphan) same_lwp keeps (λ r l. refl) put_leaving
-      (λ x. All-imply _ _ (λ r h. tell x r h.1 (r.pid == n) refl) rows.processes child_rows)
-      (All-imply _ (Ends q w rows v rise (put n orphan) same_lwp keeps (λ r l. refl) put_leaving t t) (λ r h. ends r h.1 (r.pid == n) refl) rows.processes child_rows)
-    where
-      t : ℕ → Bool
-      t = told (alone q) q w rows
-
-      keeps : (r : ProcData) → (if r.pid == n then orphan r else r).pid ≡ r.pid
-      keeps r = at_number (r.pid == n)
-        where
-          at_number : (b : Bool) → (if b then orphan r else r).pid ≡ r.pid
-          at_number true = refl
-          at_number false = refl
-
-      its : (r : ProcData) → (r.pid ≡ n → r ≡ z) → (r.pid == n) ≡ true → alone q r.parent ≡ true
-      its r one same = ap (λ (k : ProcData). alone q k.parent) (one (eqb-true r.pid n same)) ∙ child
-
-      tell : (x : ℕ) (r : ProcData) → (r.pid ≡ n → r ≡ z) → (b : Bool) → (r.pid == n) ≡ b → tells (alone q) x (if b then orphan r else r) ≡ tells (alone q) x r
-      tell x r one true same = tells-orphan (alone q) q w t r (its r one same) x
-      tell x r one false other = refl
-
-      ends : (r : ProcData) → (r.pid ≡ n → r ≡ z) → (b : Bool) → (r.pid == n) ≡ b
-          → (turned (alone q) q w t (if b then orphan r else r) ≡ turned (alone q) q w t r)
-          × (is_live r ≡ true → (l : LwpData) → turned_lwp (alone q) q w t (if b then orphan r else r) l ≡ turned_lwp (alone q) q w t r l)
-      ends r one false other = (refl, λ live l. refl)
-      ends r one true same = (turned-orphan (alone q) q w t r (its r one same), λ live l. turned_lwp-orphan (alone q) q w t r (its r one same) l)
+  put_same w = let t = told (alone q) q w rows in
+      step_same q n rows v rise z at (put n orphan) put_apart put_numbers put_fit w t tells_orphan refl (λ missed. (
+        ap (option_and_then (turned (alone q) q w t)) put_here ∙ turned_orphan w t,
+        λ live l. ap (by_owner (turned_lwp (alone q) q w t) l) put_here ∙ turned_lwp_orphan w t l,
+      ))

@@ -1,5 +1,6 @@
 -- A zombie taken from its tracer, which ends, and its parent told of it: the tracer's end is as it was.
-use Rattle.std.proofs.Common.{◌≡◌, ℕ, Bool, true, false, not, ◌&&◌, ◌||◌, ◌==◌, if◌then◌else◌, Option, Some, None, IfSome, refl, sym, ap, ◌∙◌, true≢false, eqb-true, eq-eqb}
+use Rattle.std.proofs.lemmas.Bool.Decides.{nat_tests}
+use Rattle.std.proofs.Common.{◌≡◌, ℕ, Bool, true, false, ◌&&◌, ◌||◌, ◌==◌, if◌then◌else◌, Option, Some, None, IfSome, refl, sym, ap, ◌∙◌, true≢false, eqb-true, eq-eqb, arith}
 use Rattle.std.proofs.Math.Bool.{or-false, or_comm}
 use Rattle.std.specs.List.{AllByRecursion, list_any}
 use Rattle.lwp_table.specs.declared.LwpData.{LwpData}
@@ -7,18 +8,17 @@ use Rattle.proc_table.specs.declared.ProcData.{ProcData}
 use Rattle.proc_table.specs.Processes.{process_of, is_live, is_this, traces}
 use Rattle.proc_table.specs.Rows.{Rows, each}
 use Rattle.proc_table.specs.Kept.{Rise}
-use Rattle.trace_stop.specs.End.{unless, holds_of, orphaned, uncollected, released}
+use Rattle.trace_stop.specs.End.{unless, orphaned, uncollected, released}
 use Rattle.process_end.specs.Laws.{end_alone}
 use Rattle.process_end.specs.Leaving.{LeavingRow, LeavingLwp, IsLeaving}
-use Rattle.trace_stop.proofs.Every.{by_bool, All-imply, All-both, find_some}
+use Rattle.trace_stop.proofs.Every.{choose, All-imply, All-both, find_some}
 use Rattle.trace_stop.proofs.Passes.{passes, any_or}
-use Rattle.trace_stop.proofs.Stopping.{the_row}
+use Rattle.trace_stop.proofs.Numbers.{the_row}
 use Rattle.process_end.proofs.Turned.{heard, heard_lwp, told_row, told_lwp, turned, turned_lwp, moved, told-miss, turned-dead, turned-safe, turned-fallen, turned_lwp-safe, turned_lwp-fallen}
 use Rattle.process_end.proofs.Twice.{alone, Told, told-live, told-pid, moved-pid, told_twice, told_lwp-moved, told_lwp-told, released-told, released_told, told_lwp_twice}
-use Rattle.process_end.proofs.Tells.{tells, tells-value, told_by, tells_any, parent_after}
+use Rattle.process_end.proofs.Tells.{tells, told_by, parent_after}
 use Rattle.process_end.proofs.LeafFirst.{told, told-is}
 use Rattle.trace_stop.proofs.Found.{any_by_number}
-use Rattle.process_end.proofs.LeafLaw.{this_holds}
 use Rattle.process_end.proofs.Leaving.{Fit, leaving_each, Ends, stepped, told_after, told_alive, Told-of, put_tell, put_tell_lwp, put_keeps}
 
 -- What one who is told keeps
@@ -26,69 +26,36 @@ use Rattle.process_end.proofs.Leaving.{Fit, leaving_each, Ends, stepped, told_af
 module _ (t : ℕ → Bool) (r : ProcData) where
   pub told_fits : (alive : ℕ → Bool) (q : ℕ) → LeavingRow alive q r → LeavingRow alive q (told_row t r)
   unfolding told_row heard
-  told_fits alive q h = at (t r.pid)
-    where
-      at : (b : Bool) → LeavingRow alive q (if b then heard r else r)
-      at true = record { lives = h.lives; tracer = h.tracer; parent = h.parent; free = h.free; left = h.left }
-      at false = h
+  told_fits alive q h = choose (t r.pid) (heard r) r (LeavingRow alive q) (λ e. record { lives = h.lives; tracer = h.tracer; parent = h.parent; free = h.free; left = h.left }) (λ e. h)
 
   pub tells-told : (over : ℕ → Bool) (x : ℕ) → tells over x (told_row t r) ≡ tells over x r
   unfolding tells told_row heard
-  tells-told over x = at (t r.pid)
-    where
-      at : (b : Bool) → tells over x (if b then heard r else r) ≡ tells over x r
-      at true = refl
-      at false = refl
+  tells-told over x = grind arith
 
 pub told_lwp_fits : (t : ℕ → Bool) (alive : ℕ → Bool) (q : ℕ) (r : ProcData) (l : LwpData) → LeavingLwp alive q l → LeavingLwp alive q (told_lwp t r l)
 unfolding told_lwp heard_lwp
-told_lwp_fits t alive q r l h = at (t r.pid)
-  where
-    at : (b : Bool) → LeavingLwp alive q (if b then heard_lwp r l else l)
-    at true = record { lives = h.lives; other = h.other; waits = h.waits }
-    at false = h
+told_lwp_fits t alive q r l h = choose (t r.pid) (heard_lwp r l) l (LeavingLwp alive q) (λ e. record { lives = h.lives; other = h.other; waits = h.waits }) (λ e. h)
 
 pub told_lwp_keeps : (t : ℕ → Bool) (r : ProcData) (l : LwpData) → (told_lwp t r l).pid ≡ l.pid
 unfolding told_lwp heard_lwp
-told_lwp_keeps t r l = at (t r.pid)
-  where
-    at : (b : Bool) → (if b then heard_lwp r l else l).pid ≡ l.pid
-    at true = refl
-    at false = refl
+told_lwp_keeps t r l = grind arith
 
 first_false : (a b c : Bool) → a ≡ (b || c) → a ≡ false → b ≡ false
-first_false a true c is none = absurd (true≢false (sym is ∙ none))
-first_false a false c is none = refl
+first_false a b c is none = grind (arith, nat_tests)
 
 pub same_test : (a b : ℕ) → (a == b) ≡ (b == a)
-same_test a b = by_test (a == b) refl (b == a) refl
-  where
-    by_test : (c : Bool) → (a == b) ≡ c → (d : Bool) → (b == a) ≡ d → (a == b) ≡ (b == a)
-    by_test true is d e = is ∙ sym (eq-eqb b a (sym (eqb-true a b is)))
-    by_test false is true e = absurd (true≢false (sym (eq-eqb a b (sym (eqb-true b a e))) ∙ is))
-    by_test false is false e = is ∙ sym e
+same_test a b = grind (arith, nat_tests)
 
 pub unless_this : (q : ℕ) (o : Option ℕ) → is_this q o ≡ true → unless (alone q) o ≡ None
 unfolding alone
 unless_this q None is = refl
 unless_this q (Some t) is = ap (λ b. if b then None else Some t) is
 
-any_dead : (over : ℕ → Bool) (r : ProcData) → is_live r ≡ false → tells_any over r ≡ holds_of over r.tracer
-any_dead over r ended = rw ended refl
-
-told_parent : (m x : ℕ) → (m == 1) ≡ false → told_by None m x ≡ alone m x
-unfolding told_by alone
-told_parent m x other = ap (λ b. not b && (m == x)) other ∙ same_test m x
-
 -- An LWP of a process that lives on, which may be told first
 lwp_later : (over : ℕ → Bool) (t1 t3 t2 : ℕ → Bool) (r : ProcData) (l : LwpData) → t2 r.pid ≡ (t1 r.pid || t3 r.pid)
     → told_lwp t3 (moved over (told_row t1 r)) (released over (told_row t1 r) (told_lwp t1 r l)) ≡ told_lwp t2 (moved over r) (released over r l)
 lwp_later over t1 t3 t2 r l told =
-    ap (told_lwp t3 (moved over (told_row t1 r))) (released-told over t1 r (told_lwp t1 r l) ∙ released_told over t1 r l)
-    ∙ told_lwp-moved over t3 (told_row t1 r) (told_lwp t1 r (released over r l))
-    ∙ told_lwp-told t3 t1 r (told_lwp t1 r (released over r l))
-    ∙ told_lwp_twice t1 t2 t3 r (released over r l) told
-    ∙ sym (told_lwp-moved over t2 r (released over r l))
+    rw (released-told over t1 r (told_lwp t1 r l), released_told over t1 r l, told_lwp-moved over t3 (told_row t1 r), told_lwp-told t3 t1 r, told_lwp-moved over t2 r) (told_lwp_twice t1 t2 t3 r (released over r l) told)
 
 abbrev pub untrace : ProcData → ProcData
 untrace r = record r { tracer = None }
@@ -116,11 +83,11 @@ module _ (q n : ℕ) (rows : Rows) (v : IsLeaving q rows) (rise : Rise rows.proc
   -- the parent lives, so it isn't a zombie
   not_told : (r : ProcData) → LeavingRow v.alive q r → is_live r ≡ false → alone m r.pid ≡ false
   unfolding alone
-  not_told r h dead = by_bool (r.pid == m) (λ same. true≢false (sym m_alive ∙ ap v.alive (sym (eqb-true r.pid m same)) ∙ sym h.lives ∙ dead))
+  not_told r h dead = let lives = h.lives in grind (arith, nat_tests, m_alive, lives)
 
   not_q : (r : ProcData) → alone q r.pid ≡ true → alone m r.pid ≡ false
   unfolding alone
-  not_q r is = by_bool (r.pid == m) (λ same. true≢false (sym is ∙ ap (λ k. k == q) (eqb-true r.pid m same) ∙ other))
+  not_q r is = grind (arith, nat_tests, other)
 
   changed : (r : ProcData) → (r.pid ≡ n → r ≡ z) → LeavingRow v.alive q r → (b : Bool) → (r.pid == n) ≡ b → LeavingRow v.alive q (if b then untrace r else r)
   changed r one h false apart = h
@@ -167,14 +134,12 @@ module _ (q n : ℕ) (rows : Rows) (v : IsLeaving q rows) (rise : Rise rows.proc
 
     -- the parent is told first, and no more later for this zombie
     z_tells : (x : ℕ) → tells (alone q) x z ≡ alone m x
-    z_tells x =
-        tells-value (alone q) x z true (any_dead (alone q) z ended ∙ this_holds q z.tracer ∙ traced)
-        ∙ ap (λ (o : Option ℕ). told_by o (parent_after (alone q) m) x) (unless_this q z.tracer traced)
-        ∙ ap (λ k. told_by None k x) (ap (λ b. if b then 1 else m) other)
-        ∙ told_parent m x parent
+    unfolding tells told_by alone
+    z_tells x = grind (arith, nat_tests, ended, traced, parent, other)
 
     z_tells_no_more : (x : ℕ) → tells (alone q) x (untrace z) ≡ false
-    z_tells_no_more x = tells-value (alone q) x (untrace z) false (any_dead (alone q) (untrace z) ended)
+    unfolding tells
+    z_tells_no_more x = grind (arith, ended)
 
     both_tell : (x : ℕ) → before x ≡ (after x || alone m x)
     both_tell x =

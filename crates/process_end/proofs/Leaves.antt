@@ -1,4 +1,5 @@
 -- Down the tracees of a process that ends stands one that traces no live process.
+use Rattle.std.proofs.lemmas.Bool.Decides.{nat_tests}
 use Rattle.std.proofs.Common.{◌≡◌, ℕ, zero, suc, ◌+◌, ◌<◌, length, Bool, true, false, ◌&&◌, ◌||◌, ◌==◌, Option, Some, None, refl, sym, ap, ◌∙◌, arith, true≢false, eqb-true, subst}
 use Rattle.proc_table.specs.declared.ProcData.{ProcData}
 use Rattle.proc_table.specs.Processes.{process_of, is_live, is_this, traces}
@@ -16,10 +17,7 @@ use Rattle.trace_stop.proofs.Chains.{no_ring, chains_end, chains_meet, tracee_de
 
 this_is : (x : ℕ) (o : Option ℕ) → is_this x o ≡ true → o ≡ Some x
 this_is x None is = absurd (true≢false (sym is))
-this_is x (Some t) is = ap Some (eqb-true t x is)
-
-or_left_false : (a b : Bool) → a ≡ false → (a || b) ≡ true → b ≡ true
-or_left_false a b e is = sym (ap (λ c. c || b) e) ∙ is
+this_is x (Some t) is = grind (arith, nat_tests, is)
 
 module _ (settings : Settings) (rows : Rows) (p : ℕ) (kills : settings.kill_on_debugger_exit ≡ true) (s : Stands rows) where
   -- a chain of one link more

@@ -1,9 +1,9 @@
 -- A step on the way to the end of a process that traces no live one, as an edit of each row.
-use Rattle.std.proofs.Common.{◌≡◌, ℕ, List, filter, filter_map, Bool, true, false, not, ◌&&◌, ◌==◌, if◌then◌else◌, cond, Option, Some, None, IfSome, refl, sym, ap, ◌∙◌, true≢false, eqb-true, eq-eqb, subst, inl, inr, [], ◌∷◌}
+use Rattle.std.proofs.Common.{◌≡◌, ℕ, List, filter, filter_map, Bool, true, false, not, ◌&&◌, ◌==◌, if◌then◌else◌, Option, Some, None, IfSome, refl, sym, ap, ◌∙◌, true≢false, eqb-true, eq-eqb, subst, inl, inr, [], ◌∷◌, arith}
 use Rattle.std.proofs.Math.Bool.{and-false}
 use Rattle.std.proofs.Math.Path.{fun_ext}
 use Rattle.std.specs.Option.{option_and_then}
-use Rattle.std.specs.List.{AllByRecursion, list_any, cons_option}
+use Rattle.std.specs.List.{AllByRecursion, list_any}
 use Rattle.lwp_table.specs.declared.LwpData.{LwpData}
 use Rattle.proc_table.specs.declared.ProcData.{ProcData}
 use Rattle.proc_table.specs.Processes.{process_of, is_live, is_this}
@@ -155,14 +155,9 @@ drop_each n rows =
     ap (λ (ps : List ProcData). record rows { processes = ps }) (same rows.processes)
     ∙ ap (λ (ls : List LwpData). record rows { processes = filter_map (out n) rows.processes; lwps = ls }) (sym (lwps_same rows))
   where
-    at_head : (r : ProcData) (ps : List ProcData) (b : Bool) → filter (λ p. not (p.pid == n)) ps ≡ filter_map (out n) ps
-        → cond (not b) (r ∷ filter (λ p. not (p.pid == n)) ps) (filter (λ p. not (p.pid == n)) ps) ≡ cons_option (if b then None else Some r) (filter_map (out n) ps)
-    at_head r ps true rest = rest
-    at_head r ps false rest = ap (λ xs. r ∷ xs) rest
-
     same : (ps : List ProcData) → filter (λ p. not (p.pid == n)) ps ≡ filter_map (out n) ps
     same [] = refl
-    same (r ∷ ps) = at_head r ps (r.pid == n) (same ps)
+    same (r ∷ ps) = grind (arith, same ps)
 
 -- SIGCHLD posted to one
 pub tell_each : (m : ℕ) (rows : Rows) → notified (m ∷ []) rows ≡ each (λ r. Some (told_row (alone m) r)) (λ r l. Some (told_lwp (alone m) r l)) rows
@@ -177,11 +172,7 @@ abbrev pub put_tell_lwp : ℕ → (ProcData → ProcData) → ℕ → ProcData �
 put_tell_lwp n f m r l = Some (told_lwp (alone m) (if r.pid == n then f r else r) l)
 
 pub put_keeps : (n : ℕ) (f : ProcData → ProcData) → ((r : ProcData) → (f r).pid ≡ r.pid) → (r : ProcData) → (if r.pid == n then f r else r).pid ≡ r.pid
-put_keeps n f same r = at (r.pid == n)
-  where
-    at : (b : Bool) → (if b then f r else r).pid ≡ r.pid
-    at true = same r
-    at false = refl
+put_keeps n f same r = let here = same r in grind (arith, here)
 
 pub set_tell : (n : ℕ) (f : ProcData → ProcData) (m : ℕ) (rows : Rows) (p : ProcData) → ((r : ProcData) → (f r).pid ≡ r.pid) → Rise rows.processes → process_of n rows.processes ≡ Some p → (f p).pid ≡ n
     → notified (m ∷ []) (set_process (f p) rows) ≡ each (put_tell n f m) (put_tell_lwp n f m) rows

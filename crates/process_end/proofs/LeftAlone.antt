@@ -1,5 +1,6 @@
 -- Tracees detached one after another.
-use Rattle.std.proofs.Common.{◌≡◌, ℕ, ◌<◌, List, filter_map, Bool, true, false, not, ◌&&◌, ◌==◌, if◌then◌else◌, Option, Some, None, IfSome, refl, sym, ap, ◌∙◌, eqb-true}
+use Rattle.std.proofs.lemmas.Bool.Decides.{nat_tests}
+use Rattle.std.proofs.Common.{◌≡◌, ℕ, ◌<◌, List, filter_map, Bool, true, false, not, ◌&&◌, ◌==◌, if◌then◌else◌, Option, Some, None, IfSome, refl, sym, ap, ◌∙◌, eqb-true, arith}
 use Rattle.std.proofs.Math.Bool.{and-false, and-true}
 use Rattle.std.specs.Prelude.{count_by, option_map}
 use Rattle.std.specs.Option.{option_and_then}
@@ -20,23 +21,23 @@ use Rattle.trace_stop.specs.Sound.{is_live_at}
 use Rattle.process_end.specs.Descent.{spares, lost_signals, IsLiveTracee}
 use Rattle.trace_stop.proofs.Every.{All-imply, All-any, any_forward, none_of}
 use Rattle.trace_stop.proofs.Passes.{passes, each_same, each_twice}
-use Rattle.trace_stop.proofs.Stopping.{the_row}
+use Rattle.trace_stop.proofs.Numbers.{the_row}
 use Rattle.process_end.proofs.Leaving.{lwps_same}
 use Rattle.trace_stop.proofs.Found.{any_by_number}
 use Rattle.process_end.proofs.Unnamed.{one_fewer}
 use Rattle.process_end.proofs.Descents.{TraceeRow, tracee_row}
 
-abbrev pub freed_row : (ProcData → Bool) → (ProcData → ℕ) → ProcData → Option ProcData
-freed_row chosen lost r = Some (if chosen r then untraced (lost r) r else r)
+abbrev pub left_row : (ProcData → Bool) → (ProcData → ℕ) → ProcData → Option ProcData
+left_row chosen lost r = Some (if chosen r then untraced (lost r) r else r)
 
-abbrev pub freed_lwp : (ProcData → Bool) → (ProcData → ℕ) → ProcData → LwpData → Option LwpData
-freed_lwp chosen lost r l = if chosen r then option_map (untraced_lwp (lost r) r) (reported r l) else Some l
+abbrev pub left_lwp : (ProcData → Bool) → (ProcData → ℕ) → ProcData → LwpData → Option LwpData
+left_lwp chosen lost r l = if chosen r then option_map (untraced_lwp (lost r) r) (reported r l) else Some l
 
 -- one process's set may be given by itself
-pub freed_by : (rows : Rows) (n c : ℕ) (lost : ProcData → ℕ) (p : ProcData) → Rise rows.processes → process_of n rows.processes ≡ Some p → c ≡ lost p
+pub left_by : (rows : Rows) (n c : ℕ) (lost : ProcData → ℕ) (p : ProcData) → Rise rows.processes → process_of n rows.processes ≡ Some p → c ≡ lost p
     → detached (is_numbered n) (λ r. c) rows ≡ detached (is_numbered n) lost rows
-freed_by rows n c lost p rise at is =
-    each_same (freed_row (is_numbered n) (λ r. c)) (freed_row (is_numbered n) lost) (freed_lwp (is_numbered n) (λ r. c)) (freed_lwp (is_numbered n) lost) rows
+left_by rows n c lost p rise at is =
+    each_same (left_row (is_numbered n) (λ r. c)) (left_row (is_numbered n) lost) (left_lwp (is_numbered n) (λ r. c)) (left_lwp (is_numbered n) lost) rows
     (All-imply (λ r. r.pid ≡ n → r ≡ p) _ (λ r one. by_number r one (r.pid == n) refl) rows.processes (the_row n rows.processes p rise at))
   where
     by_number : (r : ProcData) → (r.pid ≡ n → r ≡ p) → (b : Bool) → (r.pid == n) ≡ b
@@ -62,74 +63,47 @@ module _ (q : ℕ) (rows : Rows) (s : Stands rows) (t : ℕ) (is : IsLiveTracee 
   -- it is no tracee any more, and the others are left to detach
   pub left_one : detached (is_tracee q) lost_signals (detached (is_numbered t) lost_signals rows) ≡ detached (is_tracee q) lost_signals rows
   left_one =
-      each_twice (freed_row (is_numbered t) lost_signals) (freed_row (is_tracee q) lost_signals) (freed_lwp (is_numbered t) lost_signals) (freed_lwp (is_tracee q) lost_signals) rows s.rising keeps owners
-      ∙ each_same _ (freed_row (is_tracee q) lost_signals) _ (freed_lwp (is_tracee q) lost_signals) rows (All-imply _ _ (λ r h. by_number r h (r.pid == t) refl) rows.processes one)
+      each_twice (left_row (is_numbered t) lost_signals) (left_row (is_tracee q) lost_signals) (left_lwp (is_numbered t) lost_signals) (left_lwp (is_tracee q) lost_signals) rows s.rising keeps owners
+      ∙ each_same _ (left_row (is_tracee q) lost_signals) _ (left_lwp (is_tracee q) lost_signals) rows (All-imply _ _ (λ r h. by_number r h (r.pid == t) refl) rows.processes one)
     where
       keeps : (r : ProcData) → (if r.pid == t then untraced (lost_signals r) r else r).pid ≡ r.pid
-      keeps r = at (r.pid == t)
-        where
-          at : (b : Bool) → (if b then untraced (lost_signals r) r else r).pid ≡ r.pid
-          at true = refl
-          at false = refl
-
-      its : (r : ProcData) (l : LwpData) (o : Option LwpData) → IfSome o (λ k. k.pid ≡ l.pid) → IfSome (option_map (untraced_lwp (lost_signals r) r) o) (λ k. k.pid ≡ l.pid)
-      its r l None h = tt
-      its r l (Some k) h = h
-
-      its_report : (l : LwpData) (b c : Bool) → IfSome (if b then (if c then None else Some (record l { flags = no_flags; child = 0; code = 0 })) else Some l) (λ k. k.pid ≡ l.pid)
-      its_report l true true = tt
-      its_report l true false = refl
-      its_report l false c = refl
+      keeps r = grind arith
 
       owners : (r : ProcData) (l : LwpData) → IfSome (if r.pid == t then option_map (untraced_lwp (lost_signals r) r) (reported r l) else Some l) (λ k. k.pid ≡ l.pid)
-      owners r l = at (r.pid == t)
+      owners r l = at (r.pid == t) (is_this l.tid (reporting r)) (shows l.flags PL_FLAG_EXITED)
         where
-          at : (b : Bool) → IfSome (if b then option_map (untraced_lwp (lost_signals r) r) (reported r l) else Some l) (λ k. k.pid ≡ l.pid)
-          at true = its r l (reported r l) (its_report l (is_this l.tid (reporting r)) (shows l.flags PL_FLAG_EXITED))
-          at false = refl
+          at : (b c d : Bool) → IfSome (if b then option_map (untraced_lwp (lost_signals r) r) (if c then (if d then None else Some (record l { flags = no_flags; child = 0; code = 0 })) else Some l) else Some l) (λ k. k.pid ≡ l.pid)
+          at true true true = tt
+          at true true false = refl
+          at true false d = refl
+          at false c d = refl
 
       all_kept : (o : Option LwpData) → option_and_then (λ k. Some k) o ≡ o
       all_kept None = refl
       all_kept (Some k) = refl
 
       by_number : (r : ProcData) → (r.pid ≡ t → is_tracee q r ≡ true) → (b : Bool) → (r.pid == t) ≡ b
-          → (option_and_then (freed_row (is_tracee q) lost_signals) (Some (if b then untraced (lost_signals r) r else r)) ≡ freed_row (is_tracee q) lost_signals r)
-          × ((l : LwpData) → option_and_then (λ k. by_owner (freed_lwp (is_tracee q) lost_signals) k (Some (if b then untraced (lost_signals r) r else r))) (if b then option_map (untraced_lwp (lost_signals r) r) (reported r l) else Some l)
-          ≡ freed_lwp (is_tracee q) lost_signals r l)
+          → (option_and_then (left_row (is_tracee q) lost_signals) (Some (if b then untraced (lost_signals r) r else r)) ≡ left_row (is_tracee q) lost_signals r)
+          × ((l : LwpData) → option_and_then (λ k. by_owner (left_lwp (is_tracee q) lost_signals) k (Some (if b then untraced (lost_signals r) r else r))) (if b then option_map (untraced_lwp (lost_signals r) r) (reported r l) else Some l)
+          ≡ left_lwp (is_tracee q) lost_signals r l)
       by_number r h false other = (refl, λ l. refl)
-      by_number r h true same =
-          let chosen = h (eqb-true r.pid t same) in (
-            sym (ap (λ b. Some (if b then untraced (lost_signals r) r else r)) chosen),
-            λ l. all_kept (option_map (untraced_lwp (lost_signals r) r) (reported r l)) ∙ sym (ap (λ b. if b then option_map (untraced_lwp (lost_signals r) r) (reported r l) else Some l) chosen),
-          )
+      by_number r h true same = let chosen = h (eqb-true r.pid t same) in (rw chosen refl, λ l. rw chosen (all_kept (option_map (untraced_lwp (lost_signals r) r) (reported r l))))
 
   pub left_same : left_alone spares q (detached (is_numbered t) lost_signals rows) ≡ left_alone spares q rows
   left_same = left_one
 
   pub left_fewer : count_by (is_tracee q) (detached (is_numbered t) lost_signals rows).processes < count_by (is_tracee q) rows.processes
-  left_fewer = one_fewer (is_tracee q) (freed_row (is_numbered t) lost_signals) t rows.processes (All-any _ (λ r. passes_at r (r.pid == t)) rows.processes)
+  left_fewer = one_fewer (is_tracee q) (left_row (is_numbered t) lost_signals) t rows.processes (All-any _ (λ r. grind arith) rows.processes)
       (any_by_number (is_tracee q) t rows.processes s.rising ∙ ap (λ n. passes (is_tracee q) (process_of n rows.processes)) (sym row.number) ∙ ap (passes (is_tracee q)) row.own ∙ row.traced)
-    where
-      passes_at : (r : ProcData) (b : Bool) → is_tracee q (if b then untraced (lost_signals r) r else r) ≡ (is_tracee q r && not b)
-      passes_at r true = sym (and-false (is_tracee q r))
-      passes_at r false = sym (and-true (is_tracee q r))
 
   pub left_lives : (n : ℕ) → is_live_at n rows ≡ true → is_live_at n (detached (is_numbered t) lost_signals rows) ≡ true
-  left_lives n live = any_forward (λ r. (r.pid == n) && is_live r) (λ r. (r.pid == n) && is_live r) (λ r. Unit {0}) (freed_row (is_numbered t) lost_signals)
-      (λ r h k. ((if r.pid == t then untraced (lost_signals r) r else r), refl, at r (r.pid == t) k)) rows.processes (All-any _ (λ r. tt) rows.processes) live
-    where
-      both_true : (a b : Bool) → (a && b) ≡ true → (a && true) ≡ true
-      both_true true b h = refl
-      both_true false b h = h
-
-      at : (r : ProcData) (b : Bool) → ((r.pid == n) && is_live r) ≡ true → (((if b then untraced (lost_signals r) r else r).pid == n) && is_live (if b then untraced (lost_signals r) r else r)) ≡ true
-      at r true k = both_true (r.pid == n) (is_live r) k
-      at r false k = k
+  left_lives n live = any_forward (λ r. (r.pid == n) && is_live r) (λ r. (r.pid == n) && is_live r) (λ r. Unit {0}) (left_row (is_numbered t) lost_signals)
+      (λ r h k. ((if r.pid == t then untraced (lost_signals r) r else r), refl, grind (arith, nat_tests, k))) rows.processes (All-any _ (λ r. tt) rows.processes) live
 
 -- with no live tracee, nothing is left to detach
 pub left_none : (q : ℕ) (rows : Rows) → traces_live q rows ≡ false → left_alone spares q rows ≡ rows
 left_none q rows none =
-    each_same (freed_row (is_tracee q) lost_signals) (λ r. Some r) (freed_lwp (is_tracee q) lost_signals) (λ r l. Some l) rows
+    each_same (left_row (is_tracee q) lost_signals) (λ r. Some r) (left_lwp (is_tracee q) lost_signals) (λ r l. Some l) rows
     (All-imply (λ r. is_tracee q r ≡ false) _ (λ r e. (ap (λ b. Some (if b then untraced (lost_signals r) r else r)) e, λ l. ap (λ b. if b then option_map (untraced_lwp (lost_signals r) r) (reported r l) else Some l) e)) rows.processes (none_of (is_tracee q) rows.processes none))
     ∙ ap (λ (ps : List ProcData). record rows { processes = ps; lwps = filter_map (λ l. by_owner (λ r k. Some k) l (process_of l.pid rows.processes)) rows.lwps })
     (filter_map-map (λ r. Some r) (λ r. r) (λ r. refl) rows.processes ∙ map-id rows.processes)

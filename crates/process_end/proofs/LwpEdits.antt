@@ -1,17 +1,16 @@
 -- A walk that takes out the LWPs of a process, and what the end of a vfork wait keeps of an LWP.
+use Rattle.std.proofs.lemmas.Bool.Decides.{nat_tests}
 use Rattle.std.proofs.Common.{◌≡◌, ℕ, ◌<◌, ◌≤◌, Bool, true, false, List, [], ◌∷◌, length, filter, refl, sym, ap, ◌∙◌, arith, inl, inr, eqb, Some, None, true≢false, subst, eq-eqb, eqb-true}
-use Rattle.std.specs.Prelude.{not, ◌==◌, if◌then◌else◌, IfSome}
+use Rattle.std.specs.Prelude.{not, ◌==◌, IfSome}
 use Rattle.std.specs.List.{AllByRecursion}
 use Rattle.std.proofs.lemmas.Bool.{cases_Bool}
 use Rattle.lwp_table.specs.declared.LwpData.{LwpData}
-use Rattle.lwp_table.specs.declared.Due.{Due}
-use Rattle.lwp_table.specs.declared.Mode.TheVariants.{User}
 use Rattle.lwp_table.specs.Lwps.{LacksLwp, Differ, lwp_of, first_lwp, without_lwp}
 use Rattle.proc_table.specs.declared.ProcData.{ProcData}
 use Rattle.proc_table.specs.Rows.{Rows}
 use Rattle.proc_table.specs.Kept.{drop_lwp}
 use Rattle.proc_table.proofs.LwpWalk.{IsLwp, first-found}
-use Rattle.trace_stop.specs.End.{waits_where, released}
+use Rattle.trace_stop.specs.End.{released}
 use Rattle.process_end.specs.Leaving.{without_lwps}
 use Rattle.trace_stop.proofs.Every.{All-imply}
 
@@ -19,10 +18,7 @@ use Rattle.trace_stop.proofs.Every.{All-imply}
 
 pub filter_within : {X : Type 0} (p q : X → Bool) (xs : List X) → AllByRecursion (λ x. q x ≡ false → p x ≡ false) xs → filter p (filter q xs) ≡ filter p xs
 filter_within p q [] all = refl
-filter_within p q (x ∷ xs) all = elim (cases_Bool (q x)) [
-  | inl e ↦ rw (e, filter_within p q xs all.1) refl
-  | inr e ↦ rw (e, all.0 e, filter_within p q xs all.1) refl
-]
+filter_within p q (x ∷ xs) all = grind (arith, all.0, filter_within p q xs all.1)
 
 pub filter_all : {X : Type 0} (p : X → Bool) (xs : List X) → AllByRecursion (λ x. p x ≡ true) xs → filter p xs ≡ xs
 filter_all p [] all = refl
@@ -30,10 +26,7 @@ filter_all p (x ∷ xs) all = rw (all.0, filter_all p xs all.1) refl
 
 filter_less : {X : Type 0} (p : X → Bool) (xs : List X) → length (filter p xs) ≤ length xs
 filter_less p [] = omega arith
-filter_less p (x ∷ xs) = let rest = filter_less p xs in elim (cases_Bool (p x)) [
-  | inl e ↦ rw e (omega (arith, rest))
-  | inr e ↦ rw e (omega (arith, rest))
-]
+filter_less p (x ∷ xs) = grind (arith, filter_less p xs)
 
 -- LWPs by their numbers
 
@@ -54,10 +47,7 @@ the_lwp t k (l ∷ ls) d found = elim (cases_Bool (eqb l.tid t)) [
 
 pub first_own : (pid : ℕ) (k : LwpData) (ls : List LwpData) → first_lwp pid ls ≡ Some k → k.pid ≡ pid
 first_own pid k [] found = absurd (cc)
-first_own pid k (l ∷ ls) found = elim (cases_Bool (eqb l.pid pid)) [
-  | inl e ↦ let its : Some l ≡ Some k = rw e at found in let same : l ≡ k = cc in ap (λ x. x.pid) (sym same) ∙ eqb-true l.pid pid e
-  | inr e ↦ first_own pid k ls (rw e at found)
-]
+first_own pid k (l ∷ ls) found = grind (arith, nat_tests, found, first_own pid k ls)
 
 none_first : (pid : ℕ) (ls : List LwpData) → first_lwp pid ls ≡ None → AllByRecursion (λ l. not (l.pid == pid) ≡ true) ls
 none_first pid [] none = tt
@@ -68,10 +58,7 @@ none_first pid (l ∷ ls) none = elim (cases_Bool (eqb l.pid pid)) [
 
 fewer : (t : ℕ) (k : LwpData) (ls : List LwpData) → lwp_of t ls ≡ Some k → length (without_lwp t ls) < length ls
 fewer t k [] found = absurd (cc)
-fewer t k (l ∷ ls) found = elim (cases_Bool (eqb l.tid t)) [
-  | inl e ↦ let rest = filter_less (λ x. not (x.tid == t)) ls in rw e (omega (arith, rest))
-  | inr e ↦ let rest = fewer t k ls (rw e at found) in rw e (omega (arith, rest))
-]
+fewer t k (l ∷ ls) found = let all = filter_less (λ x. not (x.tid == t)) ls in grind (arith, nat_tests, all, fewer t k ls)
 
 module _ (pid : ℕ) (k : LwpData) (rows : Rows) (d : Differ rows.lwps) (first : first_lwp pid rows.lwps ≡ Some k) where
   pub found : lwp_of k.tid rows.lwps ≡ Some k
@@ -93,13 +80,8 @@ removed_all pid rows none = ap (λ ls. record rows { lwps = ls }) (filter_all (�
 
 -- What is kept of an LWP whose wait is over
 
-module _ (over : ℕ → Bool) (r : ProcData) (l : LwpData) where
-  at : {X : Type 0} (view : LwpData → X) → ((d : Due) → view (record l { mode = User; due = d }) ≡ view l) → (b : Bool) (d : Due) → view (if b then record l { mode = User; due = d } else l) ≡ view l
-  at view same true d = same d
-  at view same false d = refl
+pub released-tid : (over : ℕ → Bool) (r : ProcData) (l : LwpData) → (released over r l).tid ≡ l.tid
+released-tid over r l = grind arith
 
-  pub released-tid : (released over r l).tid ≡ l.tid
-  released-tid = at (λ k. k.tid) (λ d. refl) (waits_where over l.mode) _
-
-  pub released-pid : (released over r l).pid ≡ l.pid
-  released-pid = at (λ k. k.pid) (λ d. refl) (waits_where over l.mode) _
+pub released-pid : (over : ℕ → Bool) (r : ProcData) (l : LwpData) → (released over r l).pid ≡ l.pid
+released-pid over r l = grind arith

@@ -1,5 +1,5 @@
 -- The LWPs of a process that ends, and those that wait for it.
-use Rattle.std.proofs.Common.{◌≡◌, ℕ, List, [], ◌∷◌, map, filter, filter_map, cond, Bool, true, false, not, ◌&&◌, ◌==◌, if◌then◌else◌, Option, Some, None, IfSome, is_none, is_some, refl, sym, ap, ◌∙◌, true≢false, eqb-true, eq-eqb, subst}
+use Rattle.std.proofs.Common.{◌≡◌, ℕ, List, [], ◌∷◌, map, filter, filter_map, cond, Bool, true, false, not, ◌&&◌, ◌==◌, if◌then◌else◌, Option, Some, None, IfSome, is_none, is_some, refl, sym, ap, ◌∙◌, true≢false, eqb-true, eq-eqb, subst, arith}
 use Rattle.std.specs.Option.{option_and_then}
 use Rattle.std.specs.List.{AllByRecursion, cons_option}
 use Rattle.std.proofs.Math.Path.{fun_ext}
@@ -21,12 +21,12 @@ use Rattle.trace_stop.specs.Facts.{IsLiveOf, IsLiveChild, Linked, IfEnded, FitPr
 use Rattle.process_end.specs.Laws.{traces_live, end_alone}
 use Rattle.trace_stop.specs.Sound.{is_live_at}
 use Rattle.process_end.specs.Leaving.{without_lwps, lwps_ended, LeavingRow, LeavingLwp, IsLeaving}
-use Rattle.trace_stop.proofs.Every.{by_bool, and_left, and_right, both, All-imply, All-both, All-edit, any_holds, any_more, none_of}
+use Rattle.trace_stop.proofs.Every.{by_bool, choose, and_left, and_right, both, All-imply, All-both, All-edit, any_holds, any_more, none_of}
 use Rattle.trace_stop.proofs.Passes.{passes, own_rows, filter_map_same, filter_map_twice}
 use Rattle.trace_stop.proofs.FromSound.{none_is}
 use Rattle.trace_stop.proofs.Children.{child_test, child_from}
 use Rattle.trace_stop.proofs.Edited.{some_is}
-use Rattle.trace_stop.proofs.Stopping.{the_row}
+use Rattle.trace_stop.proofs.Numbers.{the_row}
 use Rattle.process_end.proofs.Turned.{turned, turned_lwp, told_lwp, moved, turned_lwp-safe, turned_lwp-fallen}
 use Rattle.process_end.proofs.Twice.{alone}
 use Rattle.process_end.proofs.LeafFirst.{told, told-is}
@@ -38,18 +38,10 @@ use Rattle.process_end.proofs.Burial.{released_none}
 -- an edit that takes some out and changes the others
 map_kept : {X : Type 0} (f : X → Option X) (out : X → Bool) (g : X → X) (xs : List X) → AllByRecursion (λ x. f x ≡ (if out x then None else Some (g x))) xs → map g (filter (λ x. not (out x)) xs) ≡ filter_map f xs
 map_kept f out g [] all = refl
-map_kept {X} f out g (x ∷ xs) all = at_head (out x) all.0 (map_kept f out g xs all.1)
-  where
-    at_head : (b : Bool) → f x ≡ (if b then None else Some (g x)) → map g (filter (λ y. not (out y)) xs) ≡ filter_map f xs → map g (cond (not b) (x ∷ filter (λ y. not (out y)) xs) (filter (λ y. not (out y)) xs)) ≡ cons_option (f x) (filter_map f xs)
-    at_head true is rest = rest ∙ sym (ap (λ o. cons_option o (filter_map f xs)) is)
-    at_head false is rest = ap (λ ys. g x ∷ ys) rest ∙ sym (ap (λ o. cons_option o (filter_map f xs)) is)
+map_kept f out g (x ∷ xs) all = grind (arith, all.0, map_kept f out g xs all.1)
 
 waits_again : (over : ℕ → Bool) (r : ProcData) (l : LwpData) → waits_where over (released over r l).mode ≡ false
-waits_again over r l = at (waits_where over l.mode) refl _
-  where
-    at : (b : Bool) → waits_where over l.mode ≡ b → (d : Due) → waits_where over (if b then record l { mode = User; due = d } else l).mode ≡ false
-    at true is d = refl
-    at false is d = is
+waits_again over r l = choose (waits_where over l.mode) _ l (λ k. waits_where over k.mode ≡ false) (λ e. refl) (λ e. e)
 
 -- the row that a row names as its parent, once its LWPs are gone
 pub parent_at : (rows rows' : Rows) (q : ℕ) (p : ProcData) (o : Option ProcData) → process_of q rows.processes ≡ Some p → rows' ≡ without_lwps q rows

@@ -1,8 +1,11 @@
 -- A tracee or a child that is taken from a process that ends, over the tables' edits.
-use Rattle.std.proofs.Common.{◌≡◌, ℕ, ◌<◌, Bool, true, false, ◌&&◌, ◌||◌, ◌==◌, if◌then◌else◌, Option, Some, None, is_none, is_some, refl, sym, ap, ◌∙◌, arith, true≢false, eqb-true, subst, [], ◌∷◌}
+use Rattle.std.proofs.lemmas.Bool.Decides.{nat_tests}
+use Rattle.std.proofs.Common.{◌≡◌, ℕ, ◌<◌, Bool, true, false, ◌&&◌, ◌||◌, ◌==◌, if◌then◌else◌, Option, Some, None, is_none, is_some, refl, sym, ap, ◌∙◌, arith, true≢false, eqb-true, subst, [], ◌∷◌, not}
 use Rattle.std.specs.Prelude.{count_by, option_map}
 use Rattle.std.specs.List.{list_any}
 use Rattle.proc_table.specs.declared.ProcData.{ProcData}
+use Rattle.lwp_table.specs.declared.LwpData.{LwpData}
+use Rattle.trace_stop.proofs.Passes.{passes}
 use Rattle.proc_table.specs.Processes.{process_of, is_live, traces}
 use Rattle.proc_table.specs.Rows.{Rows, each}
 use Rattle.proc_table.specs.Walks.{next_tracee, next_child}
@@ -13,16 +16,16 @@ use Rattle.proc_table.proofs.Least.{next_tracee-least, next_child-least}
 use Rattle.proc_table.proofs.Rows.{found_row}
 use Rattle.proc_table.proofs.Stays.{named-untraced}
 use Rattle.trace_stop.specs.Post.{notified}
-use Rattle.trace_stop.specs.End.{unless, orphaned, uncollected, collector}
+use Rattle.trace_stop.specs.End.{orphaned, uncollected, collector}
 use Rattle.process_end.specs.Laws.{end_alone}
 use Rattle.process_end.specs.Leaving.{LeavingRow, IsLeaving}
-use Rattle.trace_stop.proofs.Every.{by_bool, and_left, any_holds, All-any, find_some}
+use Rattle.trace_stop.proofs.Every.{by_bool, choose, and_left, any_holds, All-any, find_some}
 use Rattle.trace_stop.proofs.Edited.{some_is}
 use Rattle.process_end.proofs.Turned.{is_gone, gone-true, gone-false}
 use Rattle.process_end.proofs.Twice.{alone}
-use Rattle.process_end.proofs.Leaving.{is_alone, same_lwp, put, out, set_each, drop_each, set_tell}
+use Rattle.process_end.proofs.Leaving.{is_alone, same_lwp, put, out, put_tell, put_tell_lwp, set_each, drop_each, set_tell}
 use Rattle.process_end.proofs.LeafSteps.{orphan, out_leaving, out_same, put_leaving, put_same}
-use Rattle.process_end.proofs.LeafTells.{untrace, unless_this, untold, untold_lwp, untold_leaving, untold_same}
+use Rattle.process_end.proofs.LeafTells.{untrace, unless_this, untold_leaving, untold_same}
 use Rattle.process_end.proofs.Unnamed.{one_fewer, its_row, out_passes, orphan_passes, untold_passes, none_edited}
 
 -- Who collects
@@ -31,11 +34,7 @@ pub collected : (z : ProcData) → is_gone z ≡ false → option_map collector 
 collected z left = ap (option_map collector) (gone-false z left)
 
 pub collector_none : (z : ProcData) → option_map collector (uncollected z) ≡ None → is_gone z ≡ true
-collector_none z none = by_gone (is_gone z) refl
-  where
-    by_gone : (b : Bool) → is_gone z ≡ b → is_gone z ≡ true
-    by_gone true e = e
-    by_gone false e = absurd (true≢false (ap is_some (sym (collected z e) ∙ none)))
+collector_none z none = grind (arith, nat_tests, none)
 
 pub collector_some : (z : ProcData) (m : ℕ) → option_map collector (uncollected z) ≡ Some m → (is_gone z ≡ false) × (m ≡ collector z)
 collector_some z m some = by_gone (is_gone z) refl
@@ -68,6 +67,11 @@ module _ (q : ℕ) (rows rows' : Rows) (kept : IsKept rows) (v : IsLeaving q row
   z_fits : LeavingRow v.alive q z
   z_fits = (find_some (λ r. r.pid == z.pid) (LeavingRow v.alive q) rows.processes v.processes z at).0
 
+  fewer : (t : ProcData → Bool) (f : ProcData → Option ProcData) (h : ProcData → LwpData → Option LwpData) → rows' ≡ each f h rows
+      → ((r : ProcData) → passes t (f r) ≡ (t r && not (r.pid == z.pid))) → t z ≡ true → count_by t rows'.processes < count_by t rows.processes
+  fewer t f h made all is = subst (λ (rs : Rows). count_by t rs.processes < count_by t rows.processes) (sym made)
+      (one_fewer t f z.pid rows.processes (All-any _ all rows.processes) (its_row t rows z.pid z kept at is))
+
   module _ (traced : traces q z ≡ true) where
     pub tracee-ended : is_live z ≡ false
     tracee-ended = by_bool (is_live z) (λ live. true≢false (sym traced ∙ z_fits.free live))
@@ -83,8 +87,7 @@ module _ (q : ℕ) (rows rows' : Rows) (kept : IsKept rows) (v : IsLeaving q row
       tracee_out-leaving = subst (IsLeaving q) (sym tracee-out) (out_leaving q z.pid rows v kept.rising z at tracee-ended tracee-gone)
 
       pub tracee_out-fewer : count_by (traces q) rows'.processes < count_by (traces q) rows.processes
-      tracee_out-fewer = subst (λ (rs : Rows). count_by (traces q) rs.processes < count_by (traces q) rows.processes) (sym tracee-out)
-          (one_fewer (traces q) (out z.pid) z.pid rows.processes (All-any _ (out_passes (traces q) z.pid) rows.processes) (its_row (traces q) rows z.pid z kept at traced))
+      tracee_out-fewer = fewer (traces q) (out z.pid) same_lwp tracee-out (out_passes (traces q) z.pid) traced
 
       pub tracee_out-same : (w : ℕ) → end_alone q w rows' ≡ end_alone q w rows
       tracee_out-same w = ap (end_alone q w) tracee-out ∙ out_same q z.pid rows v kept.rising z at tracee-ended tracee-gone w
@@ -94,7 +97,7 @@ module _ (q : ℕ) (rows rows' : Rows) (kept : IsKept rows) (v : IsLeaving q row
       tracee-left = (collector_some (orphan_of q z) m some).0
 
       tracee-other : (z.parent == q) ≡ false
-      tracee-other = by_bool (z.parent == q) (λ same. true≢false (sym (ap (λ b. (if b then 1 else z.parent) == 1) same) ∙ tracee-left))
+      tracee-other = grind (arith, nat_tests, tracee-left)
 
       tracee-parent : (orphan_of q z).parent ≡ z.parent
       tracee-parent = ap (λ b. if b then 1 else z.parent) tracee-other
@@ -112,7 +115,7 @@ module _ (q : ℕ) (rows rows' : Rows) (kept : IsKept rows) (v : IsLeaving q row
         tracee-apart : alone q z.parent ≡ false
         tracee-apart = sym (is_alone q z.parent) ∙ tracee-other
 
-        tracee-told : rows' ≡ each (untold q z.pid rows v kept.rising z at tracee-ended traced tracee-not_one tracee-apart) (untold_lwp q z.pid rows v kept.rising z at tracee-ended traced tracee-not_one tracee-apart) rows
+        tracee-told : rows' ≡ each (put_tell z.pid untrace z.parent) (put_tell_lwp z.pid untrace z.parent) rows
         tracee-told =
             made
             ∙ ap (λ n. notified (n ∷ []) (set_process (orphan_of q z) rows)) ((collector_some (orphan_of q z) m some).1 ∙ tracee-parent)
@@ -123,8 +126,7 @@ module _ (q : ℕ) (rows rows' : Rows) (kept : IsKept rows) (v : IsLeaving q row
         tracee_told-leaving = subst (IsLeaving q) (sym tracee-told) (untold_leaving q z.pid rows v kept.rising z at tracee-ended traced tracee-not_one tracee-apart)
 
         pub tracee_told-fewer : count_by (traces q) rows'.processes < count_by (traces q) rows.processes
-        tracee_told-fewer = subst (λ (rs : Rows). count_by (traces q) rs.processes < count_by (traces q) rows.processes) (sym tracee-told)
-            (one_fewer (traces q) (untold q z.pid rows v kept.rising z at tracee-ended traced tracee-not_one tracee-apart) z.pid rows.processes (All-any _ (untold_passes q z.pid z.parent) rows.processes) (its_row (traces q) rows z.pid z kept at traced))
+        tracee_told-fewer = fewer (traces q) (put_tell z.pid untrace z.parent) (put_tell_lwp z.pid untrace z.parent) tracee-told (untold_passes q z.pid z.parent) traced
 
         pub tracee_told-same : (w : ℕ) → end_alone q w rows' ≡ end_alone q w rows
         tracee_told-same w = ap (end_alone q w) tracee-told ∙ untold_same q z.pid rows v kept.rising z at tracee-ended traced tracee-not_one tracee-apart w
@@ -137,15 +139,11 @@ module _ (q : ℕ) (rows rows' : Rows) (kept : IsKept rows) (v : IsLeaving q row
         rows.processes kept.homes v.here)
 
     pub child-ended : (is_live z || is_some z.tracer) ≡ false → is_live z ≡ false
-    child-ended stays = by_bool (is_live z) (λ live. true≢false (sym (ap (λ b. b || is_some z.tracer) live) ∙ stays))
+    child-ended stays = grind (arith, stays)
 
     module _ (stays : (is_live z || is_some z.tracer) ≡ false) (made : rows' ≡ drop_process z.pid rows) where
       child-gone : is_gone (orphaned (alone q) z) ≡ true
-      child-gone = ap (λ b. is_none (unless (alone q) z.tracer) && ((if b then 1 else z.parent) == 1)) (sym (is_alone q z.parent) ∙ child) ∙ at_tracer z.tracer (sym (ap (λ b. b || is_some z.tracer) (child-ended stays)) ∙ stays)
-        where
-          at_tracer : (o : Option ℕ) → is_some o ≡ false → (is_none (unless (alone q) o) && true) ≡ true
-          at_tracer None h = refl
-          at_tracer (Some t) h = absurd (true≢false h)
+      child-gone = let mine = sym (is_alone q z.parent) ∙ child in grind (arith, nat_tests, mine, stays)
 
       child-out : rows' ≡ each (out z.pid) same_lwp rows
       child-out = made ∙ drop_each z.pid rows
@@ -154,15 +152,11 @@ module _ (q : ℕ) (rows rows' : Rows) (kept : IsKept rows) (v : IsLeaving q row
       child_out-leaving = subst (IsLeaving q) (sym child-out) (out_leaving q z.pid rows v kept.rising z at (child-ended stays) child-gone)
 
       pub child_out-untraced : list_any (traces q) rows'.processes ≡ false
-      child_out-untraced = ap (λ (rs : Rows). list_any (traces q) rs.processes) child-out ∙ none_edited (traces q) (out z.pid) rows.processes (λ r is. first (traces q r) _ (sym (out_passes (traces q) z.pid r) ∙ is)) untraced
-        where
-          first : (a b : Bool) → (a && b) ≡ true → a ≡ true
-          first true b h = refl
-          first false b h = absurd (true≢false (sym h))
+      child_out-untraced = ap (λ (rs : Rows). list_any (traces q) rs.processes) child-out
+          ∙ none_edited (traces q) (out z.pid) rows.processes (λ r is. and_left (traces q r) _ (sym (out_passes (traces q) z.pid r) ∙ is)) untraced
 
       pub child_out-fewer : count_by (λ r. r.parent == q) rows'.processes < count_by (λ r. r.parent == q) rows.processes
-      child_out-fewer = subst (λ (rs : Rows). count_by (λ r. r.parent == q) rs.processes < count_by (λ r. r.parent == q) rows.processes) (sym child-out)
-          (one_fewer (λ r. r.parent == q) (out z.pid) z.pid rows.processes (All-any _ (out_passes (λ r. r.parent == q) z.pid) rows.processes) (its_row (λ r. r.parent == q) rows z.pid z kept at child))
+      child_out-fewer = fewer (λ r. r.parent == q) (out z.pid) same_lwp child-out (out_passes (λ r. r.parent == q) z.pid) child
 
       pub child_out-same : (w : ℕ) → end_alone q w rows' ≡ end_alone q w rows
       child_out-same w = ap (end_alone q w) child-out ∙ out_same q z.pid rows v kept.rising z at (child-ended stays) child-gone w
@@ -174,11 +168,7 @@ module _ (q : ℕ) (rows rows' : Rows) (kept : IsKept rows) (v : IsLeaving q row
 
     module _ (stays : (is_live z || is_some z.tracer) ≡ true) (made : rows' ≡ set_process (orphan z) rows) where
       child-some : is_live z ≡ false → is_none z.tracer ≡ false
-      child-some ended = at_tracer z.tracer (sym (ap (λ b. b || is_some z.tracer) ended) ∙ stays)
-        where
-          at_tracer : (o : Option ℕ) → is_some o ≡ true → is_none o ≡ false
-          at_tracer None h = absurd (true≢false (sym h))
-          at_tracer (Some t) h = refl
+      child-some ended = grind (arith, ended, stays)
 
       child-put : rows' ≡ each (put z.pid orphan) same_lwp rows
       child-put = made ∙ set_each z.pid orphan rows z kept.rising at refl
@@ -187,15 +177,11 @@ module _ (q : ℕ) (rows rows' : Rows) (kept : IsKept rows) (v : IsLeaving q row
       child_put-leaving = subst (IsLeaving q) (sym child-put) (put_leaving q z.pid rows v kept.rising z at (sym (is_alone q z.parent) ∙ child) child-some)
 
       pub child_put-untraced : list_any (traces q) rows'.processes ≡ false
-      child_put-untraced = ap (λ (rs : Rows). list_any (traces q) rs.processes) child-put ∙ none_edited (traces q) (put z.pid orphan) rows.processes (λ r is. same r (r.pid == z.pid) is) untraced
-        where
-          same : (r : ProcData) (b : Bool) → traces q (if b then orphan r else r) ≡ true → traces q r ≡ true
-          same r true is = is
-          same r false is = is
+      child_put-untraced = ap (λ (rs : Rows). list_any (traces q) rs.processes) child-put
+          ∙ none_edited (traces q) (put z.pid orphan) rows.processes (λ r. choose (r.pid == z.pid) (orphan r) r (λ k. traces q k ≡ true → traces q r ≡ true) (λ e is. is) (λ e is. is)) untraced
 
       pub child_put-fewer : count_by (λ r. r.parent == q) rows'.processes < count_by (λ r. r.parent == q) rows.processes
-      child_put-fewer = subst (λ (rs : Rows). count_by (λ r. r.parent == q) rs.processes < count_by (λ r. r.parent == q) rows.processes) (sym child-put)
-          (one_fewer (λ r. r.parent == q) (put z.pid orphan) z.pid rows.processes (All-any _ (orphan_passes q z.pid q_row) rows.processes) (its_row (λ r. r.parent == q) rows z.pid z kept at child))
+      child_put-fewer = fewer (λ r. r.parent == q) (put z.pid orphan) same_lwp child-put (orphan_passes q z.pid q_row) child
 
       pub child_put-same : (w : ℕ) → end_alone q w rows' ≡ end_alone q w rows
       child_put-same w = ap (end_alone q w) child-put ∙ put_same q z.pid rows v kept.rising z at (sym (is_alone q z.parent) ∙ child) child-some w

@@ -1,23 +1,23 @@
 -- What one row is, and its LWPs are, after a process that traces no live one has ended.
-use Rattle.std.proofs.Common.{◌≡◌, ℕ, ◌+◌, ◌≤◌, List, [], ◌∷◌, filter_map, Bool, true, false, cond, ◌&&◌, ◌||◌, ◌==◌, if◌then◌else◌, Option, Some, None, IfSome, refl, sym, ap, ◌∙◌, arith, true≢false, eq-eqb, subst}
+use Rattle.std.proofs.lemmas.Bool.Decides.{nat_tests}
+use Rattle.std.proofs.Common.{◌≡◌, ℕ, ◌+◌, List, [], ◌∷◌, filter_map, Bool, true, false, cond, ◌&&◌, ◌==◌, if◌then◌else◌, Option, Some, None, IfSome, refl, sym, ap, ◌∙◌, arith, eq-eqb, subst}
 use Rattle.std.specs.Prelude.{count_by}
 use Rattle.std.specs.Int.RustNames.{bit_and}
-use Rattle.std.specs.List.{AllByRecursion, list_any, cons_option}
+use Rattle.std.specs.List.{AllByRecursion, cons_option}
 use Rattle.std.proofs.lemmas.Nat.Bits.{bit_at_and, bit_at_or, bit_at_xor, bit_at-zero, same_from_bits}
 use Rattle.signals.specs.Sets.{without}
 use Rattle.proc_table.specs.declared.ProcData.{ProcData}
 use Rattle.lwp_table.specs.declared.LwpData.{LwpData}
 use Rattle.proc_table.specs.Processes.{process_of, is_live}
 use Rattle.proc_table.specs.Rows.{Rows, each, by_owner}
-use Rattle.trace_stop.specs.declared.Settings.{Settings}
 use Rattle.trace_stop.specs.Post.{unwanted}
 use Rattle.trace_stop.specs.End.{orphaned, dead, uncollected, released, end_each}
 use Rattle.trace_stop.specs.Facts.{Linked, Stands}
 use Rattle.process_end.specs.Laws.{traces_live, end_alone}
-use Rattle.trace_stop.proofs.Every.{All-imply, any_holds, count-cons}
+use Rattle.trace_stop.proofs.Every.{choose, All-imply, any_holds, count-cons}
 use Rattle.trace_stop.proofs.Passes.{passes, own_rows}
 use Rattle.process_end.proofs.Doomed.{NoZombie, end_each_same}
-use Rattle.process_end.proofs.Turned.{heard, heard_lwp, moved, told_row, told_lwp, fallen, turned, turned_lwp, is_gone, gone-true, gone-false, turned-fallen, turned-safe, turned-dead, turned_lwp-fallen, turned_lwp-safe}
+use Rattle.process_end.proofs.Turned.{heard, heard_lwp, moved, told_row, told_lwp, fallen, turned, turned_lwp, is_gone, turned-fallen, turned-safe, turned-dead, turned_lwp-fallen, turned_lwp-safe}
 use Rattle.process_end.proofs.Twice.{alone, Told}
 use Rattle.process_end.proofs.Tells.{tells, tells-names, parent_after}
 use Rattle.process_end.proofs.LeafFirst.{told, told-is, end_turned, Told-from}
@@ -25,50 +25,18 @@ use Rattle.process_end.proofs.LeafLaw.{IsLiveRow, zombie_safe, named, alone-true
 
 -- Lists
 
-pub any_more_at : {X : Type 0} (q t : X → Bool) (P : X → Type 0) → ((x : X) → P x → q x ≡ true → t x ≡ true) → (xs : List X) → AllByRecursion P xs → list_any q xs ≡ true → list_any t xs ≡ true
-any_more_at q t P h [] all is = is
-any_more_at {X} q t P h (x ∷ xs) all is = by_head (q x) refl is (any_more_at q t P h xs all.1)
-  where
-    or_true : (b : Bool) → (b || true) ≡ true
-    or_true true = refl
-    or_true false = refl
-
-    by_head : (b : Bool) → q x ≡ b → (b || list_any q xs) ≡ true → (list_any q xs ≡ true → list_any t xs ≡ true) → (t x || list_any t xs) ≡ true
-    by_head true e k rest = rw (h x all.0 e) refl
-    by_head false e k rest = rw (rest k) (or_true (t x))
-
 pub count_kept : {X Y : Type 0} (f : X → Option Y) (q : X → Bool) (t : Y → Bool) (xs : List X) → AllByRecursion (λ x. passes t (f x) ≡ q x) xs → count_by t (filter_map f xs) ≡ count_by q xs
 count_kept f q t [] all = refl
 count_kept {X} {Y} f q t (x ∷ xs) all = at_head (f x) all.0 (count_kept f q t xs all.1) ∙ sym (count-cons q x xs)
   where
     at_head : (o : Option Y) → passes t o ≡ q x → count_by t (filter_map f xs) ≡ count_by q xs → count_by t (cons_option o (filter_map f xs)) ≡ cond (q x) 1 0 + count_by q xs
-    at_head None same rest = let none : ◌≡◌ {A = ℕ} (cond (q x) 1 0) 0 = ap (λ b. cond {A = ℕ} b 1 0) (sym same) in omega (arith, none, rest)
-    at_head (Some y) same rest =
-        let made = count-cons t y (filter_map f xs) in
-        let one : ◌≡◌ {A = ℕ} (cond (t y) 1 0) (cond (q x) 1 0) = ap (λ b. cond {A = ℕ} b 1 0) same in
-        omega (arith, made, one, rest)
-
-pub count_fewer : {X Y : Type 0} (f : X → Option Y) (q : X → Bool) (t : Y → Bool) (xs : List X) → AllByRecursion (λ x. passes t (f x) ≡ true → q x ≡ true) xs → count_by t (filter_map f xs) ≤ count_by q xs
-count_fewer f q t [] all = omega arith
-count_fewer {X} {Y} f q t (x ∷ xs) all = at_head (f x) all.0 (count_fewer f q t xs all.1) (count-cons q x xs)
-  where
-    at_test : (b c : Bool) → (b ≡ true → c ≡ true) → cond {A = ℕ} b 1 0 ≤ cond {A = ℕ} c 1 0
-    at_test true true h = omega arith
-    at_test true false h = absurd (true≢false (sym (h refl)))
-    at_test false true h = omega arith
-    at_test false false h = omega arith
-
-    at_head : (o : Option Y) → (passes t o ≡ true → q x ≡ true) → count_by t (filter_map f xs) ≤ count_by q xs → count_by q (x ∷ xs) ≡ cond (q x) 1 0 + count_by q xs → count_by t (cons_option o (filter_map f xs)) ≤ count_by q (x ∷ xs)
-    at_head None h rest all = omega (arith, rest, all)
-    at_head (Some y) h rest all = let made = count-cons t y (filter_map f xs) in let le = at_test (t y) (q x) h in omega (arith, rest, all, made, le)
+    at_head None same rest = grind (arith, same, rest)
+    at_head (Some y) same rest = let made = count-cons t y (filter_map f xs) in grind (arith, same, rest, made)
 
 -- Pending sets
 
 pub and_without : (a n : ℕ) → bit_and (without a n) n ≡ 0
 and_without a n = same_from_bits _ _ (λ i. simp (bit_at_and, bit_at_or, bit_at_xor, bit_at-zero) (omega arith))
-
-pub and_zero : (n : ℕ) → bit_and 0 n ≡ 0
-and_zero n = same_from_bits _ _ (λ i. simp (bit_at_and, bit_at-zero) (omega arith))
 
 -- no pending signal whose action is nothing, where there was none
 abbrev pub Settled : ProcData → ℕ → ℕ → Type 0
@@ -80,36 +48,19 @@ remaining over r n = record r { parent = parent_after over r.parent; pending = n
 
 told-record : (over t : ℕ → Bool) (r : ProcData) → told_row t (moved over r) ≡ remaining over r (told_row t (moved over r)).pending
 unfolding told_row moved heard
-told-record over t r = at (t r.pid)
-  where
-    m : ProcData
-    m = record r { parent = parent_after over r.parent }
-
-    at : (b : Bool) → (if b then heard m else m) ≡ record m { pending = (if b then heard m else m).pending }
-    at true = refl
-    at false = refl
+told-record over t r = grind arith
 
 told-settled : (over t : ℕ → Bool) (r : ProcData) → Settled r r.pending (told_row t (moved over r)).pending
 unfolding told_row moved heard
 told-settled over t r before = at (t r.pid)
   where
-    m : ProcData
-    m = record r { parent = parent_after over r.parent }
-
-    at : (b : Bool) → bit_and (if b then heard m else m).pending (unwanted r) ≡ 0
+    at : (b : Bool) → bit_and (if b then heard (record r { parent = parent_after over r.parent }) else record r { parent = parent_after over r.parent }).pending (unwanted r) ≡ 0
     at true = and_without _ (unwanted r)
     at false = before
 
 told_lwp-record : (over t : ℕ → Bool) (r : ProcData) (l : LwpData) → told_lwp t (moved over r) l ≡ record l { pending = (told_lwp t (moved over r) l).pending }
 unfolding told_lwp heard_lwp moved
-told_lwp-record over t r l = at (t r.pid)
-  where
-    m : ProcData
-    m = record r { parent = parent_after over r.parent }
-
-    at : (b : Bool) → (if b then heard_lwp m l else l) ≡ record l { pending = (if b then heard_lwp m l else l).pending }
-    at true = refl
-    at false = refl
+told_lwp-record over t r l = grind arith
 
 told_lwp-settled : (over t : ℕ → Bool) (r : ProcData) (l : LwpData) → Settled r l.pending (told_lwp t (moved over r) l).pending
 unfolding told_lwp heard_lwp moved
@@ -123,11 +74,7 @@ told_lwp-settled over t r l before = at (t r.pid)
     at false = before
 
 If-uncollected : (P : ProcData → Type 0) (z : ProcData) → (is_gone z ≡ false → P z) → IfSome (uncollected z) P
-If-uncollected P z h = by_gone (is_gone z) refl
-  where
-    by_gone : (b : Bool) → is_gone z ≡ b → IfSome (uncollected z) P
-    by_gone true e = rw (gone-true z e) tt
-    by_gone false e = rw (gone-false z e) (h e)
+If-uncollected P z h = choose (is_gone z) None (Some z) (λ o. IfSome o P) (λ e. tt) h
 
 -- The rows
 
@@ -162,12 +109,9 @@ module _ (rows : Rows) (q status : ℕ) (s : Stands rows) (live : IsLiveRow rows
   unfolding alone
   ends_q r at = by_live (is_live r) refl
     where
-      settings : Settings
-      settings = record { kill_on_debugger_exit = true }
-
       by_live : (b : Bool) → is_live r ≡ b → (r.pid == q) ≡ (is_live r && (r.pid == q))
-      by_live true alive = sym (ap (λ b. b && (r.pid == q)) alive)
-      by_live false ended = zombie_safe settings ps q live r at ended ∙ sym (ap (λ b. b && (r.pid == q)) ended)
+      by_live true alive = grind (arith, nat_tests)
+      by_live false ended = zombie_safe (record { kill_on_debugger_exit = true }) ps q live r at ended ∙ sym (ap (λ b. b && (r.pid == q)) ended)
 
   pub after-is : end_alone q status rows ≡ after
   after-is = alone_form ∙ end_turned (alone q) q status rows s.rising
@@ -186,9 +130,6 @@ module _ (rows : Rows) (q status : ℕ) (s : Stands rows) (live : IsLiveRow rows
   -- what is pending of a row that lives on
   abbrev pub kept_pending : ProcData → ℕ
   kept_pending r = (told_row heeds (moved (alone q) r)).pending
-
-  pub kept_settled : (r : ProcData) → Settled r r.pending (kept_pending r)
-  kept_settled r = told-settled (alone q) heeds r
 
   pub edit-safe : (r : ProcData) → is_live r ≡ true → alone q r.pid ≡ false → edit r ≡ Some (remaining (alone q) r (kept_pending r))
   edit-safe r alive other = turned-safe (alone q) q status heeds r alive other ∙ ap Some (told-record (alone q) heeds r)
@@ -223,14 +164,3 @@ module _ (rows : Rows) (q status : ℕ) (s : Stands rows) (live : IsLiveRow rows
       by_q true same = rw (turned_lwp-fallen (alone q) q status heeds r l alive same) tt
       by_q false other = rw (turned_lwp-safe (alone q) q status heeds r l alive other)
           (subst Q (sym (told_lwp-record (alone q) heeds r k)) (stays other (told_lwp heeds (moved (alone q) r) k).pending (told_lwp-settled (alone q) heeds r k)))
-
-  pub lwp-gone : (l : LwpData) (r : ProcData) → process_of l.pid ps ≡ Some r → is_live r ≡ true → alone q r.pid ≡ true → lwp_at l ≡ None
-  lwp-gone l r found alive same = rw found (turned_lwp-fallen (alone q) q status heeds r l alive same)
-
-  -- what is pending of an LWP that stays
-  abbrev pub lwp_pending : ProcData → LwpData → ℕ
-  lwp_pending r l = (told_lwp heeds (moved (alone q) r) (released (alone q) r l)).pending
-
-  pub lwp-safe : (l : LwpData) (r : ProcData) → process_of l.pid ps ≡ Some r → is_live r ≡ true → alone q r.pid ≡ false
-      → lwp_at l ≡ Some (record (released (alone q) r l) { pending = lwp_pending r l })
-  lwp-safe l r found alive other = rw found (turned_lwp-safe (alone q) q status heeds r l alive other ∙ ap Some (told_lwp-record (alone q) heeds r (released (alone q) r l)))

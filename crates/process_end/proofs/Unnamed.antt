@@ -1,6 +1,6 @@
 -- A row that no row names may be taken out, and what each step on the way to a process's end leaves fewer of.
-use Rattle.std.proofs.Common.{◌≡◌, ℕ, ◌<◌, List, [], ◌∷◌, find, filter_map, Bool, true, false, not, ◌&&◌, ◌||◌, ◌==◌, if◌then◌else◌, Option, Some, None, IfSome, refl, sym, ap, ◌∙◌, arith, true≢false, eqb-true, eq-eqb}
-use Rattle.std.proofs.Math.Bool.{and-false, and-true}
+use Rattle.std.proofs.Common.{◌≡◌, ℕ, ◌<◌, List, [], ◌∷◌, find, filter_map, Bool, true, false, not, ◌&&◌, ◌||◌, ◌==◌, Option, Some, None, IfSome, refl, sym, ap, ◌∙◌, arith, true≢false, eqb-true, eq-eqb}
+use Rattle.std.proofs.Math.Bool.{and-false}
 use Rattle.std.proofs.lemmas.Bool.Decides.{nat_tests}
 use Rattle.std.specs.Prelude.{count_by, ltb}
 use Rattle.std.specs.List.{AllByRecursion, list_any}
@@ -16,7 +16,6 @@ use Rattle.trace_stop.proofs.Passes.{passes, any_edited}
 use Rattle.process_end.proofs.Remains.{count_kept}
 use Rattle.process_end.proofs.LeafLives.{count_split, any_counts, and_swap}
 use Rattle.process_end.proofs.Turned.{heard, told_row}
-use Rattle.process_end.proofs.Twice.{alone}
 use Rattle.trace_stop.proofs.Found.{any_by_number}
 use Rattle.process_end.proofs.Leaving.{put, out, put_tell}
 use Rattle.process_end.proofs.LeafSteps.{orphan}
@@ -93,30 +92,14 @@ its_row t rows n z kept at is = any_by_number t n rows.processes kept.rising ∙
 
 -- each of the steps
 pub out_passes : (t : ProcData → Bool) (n : ℕ) (r : ProcData) → passes t (out n r) ≡ (t r && not (r.pid == n))
-out_passes t n r = at (r.pid == n)
-  where
-    at : (b : Bool) → passes t (if b then None else Some r) ≡ (t r && not b)
-    at true = sym (and-false (t r))
-    at false = sym (and-true (t r))
+out_passes t n r = grind arith
 
 pub orphan_passes : (q n : ℕ) → (q == 1) ≡ false → (r : ProcData) → passes (λ k. k.parent == q) (put n orphan r) ≡ ((r.parent == q) && not (r.pid == n))
-orphan_passes q n other r = at (r.pid == n)
-  where
-    at : (b : Bool) → ((if b then orphan r else r).parent == q) ≡ ((r.parent == q) && not b)
-    at true = by_bool (1 == q) (λ is. true≢false (sym (eq-eqb q 1 (sym (eqb-true 1 q is))) ∙ other)) ∙ sym (and-false (r.parent == q))
-    at false = sym (and-true (r.parent == q))
+orphan_passes q n other r = grind (arith, nat_tests, other)
 
 pub untold_passes : (q n m : ℕ) (r : ProcData) → passes (traces q) (put_tell n untrace m r) ≡ (traces q r && not (r.pid == n))
 unfolding told_row heard
-untold_passes q n m r = at (r.pid == n)
-  where
-    told_same : (k : ProcData) (c : Bool) → traces q (if c then heard k else k) ≡ traces q k
-    told_same k true = refl
-    told_same k false = refl
-
-    at : (b : Bool) → traces q (told_row (alone m) (if b then untrace r else r)) ≡ (traces q r && not b)
-    at true = told_same (untrace r) (alone m (untrace r).pid) ∙ sym (and-false (traces q r))
-    at false = told_same r (alone m r.pid) ∙ sym (and-true (traces q r))
+untold_passes q n m r = grind arith
 
 -- the other links stay
 pub none_edited : (t : ProcData → Bool) (f : ProcData → Option ProcData) (ps : List ProcData) → ((r : ProcData) → passes t (f r) ≡ true → t r ≡ true) → list_any t ps ≡ false → list_any t (filter_map f ps) ≡ false

@@ -17,8 +17,9 @@ use Rattle.trace_stop.specs.Facts.{Linked, FitProcess, Standing, FitLwp, WithOwn
 use Rattle.trace_stop.proofs.Every.{find_some, choose}
 use Rattle.trace_stop.proofs.Edited.{find_edit}
 use Rattle.trace_stop.proofs.Changed.{found_number}
+use Rattle.trace_stop.proofs.Changes.{changed_own}
 use Rattle.trace_stop.proofs.Single.{OneProcess, process_sound, OneLwp, lwp_sound}
-use Rattle.trace_stop.proofs.Stopping.{own_lwps}
+use Rattle.trace_stop.proofs.Numbers.{own_lwps}
 use Rattle.trace_stop.proofs.Stops.{run_quiet, may_stop, stopped_sound}
 use Rattle.requests.specs.declared.Reply.{Reply}
 use Rattle.requests.specs.Outcome.{stops_or}
@@ -75,19 +76,18 @@ module _ (rows : Rows) (p : ProcData) (l : LwpData) (a : Acting rows p l) where
   acting_lwp g c = record {
     sound = lwp_sound rows l.tid p l g a.sound a.there owner_is c;
     home = a.home;
-    there = subst (λ n. lwp_of n (change_lwp l.tid g rows).lwps ≡ Some (g l)) (sym (c.tid l)) (find_edit (λ k. k.tid == l.tid) (λ k. Some (if k.tid == l.tid then g k else k))
-        (λ k. choose (k.tid == l.tid) (g k) k (λ j. (j.tid == l.tid) ≡ (k.tid == l.tid)) (λ e. ap (λ n. eqb n l.tid) (c.tid k)) (λ e. refl)) rows.lwps l (g l) a.there (rw (eq-eqb l.tid l.tid refl) refl));
-    own = c.own l ∙ a.own;
+    there = subst (λ n. lwp_of n (change_lwp l.tid g rows).lwps ≡ Some (g l)) (sym (c.same l).0) (find_edit (λ k. k.tid == l.tid) (λ k. Some (if k.tid == l.tid then g k else k))
+        (λ k. choose (k.tid == l.tid) (g k) k (λ j. (j.tid == l.tid) ≡ (k.tid == l.tid)) (λ e. ap (λ n. eqb n l.tid) (c.same k).0) (λ e. refl)) rows.lwps l (g l) a.there (rw (eq-eqb l.tid l.tid refl) refl));
+    own = (c.same l).1 ∙ a.own;
     run = a.run;
   }
 
   pub acting_process : (f : ProcData → ProcData) → OneProcess p f → is_run (f p) ≡ true → Acting (change_process p.pid f rows) (f p) l
   acting_process f c run = record {
     sound = process_sound rows p.pid p f a.sound a.home c;
-    home = subst (λ n. process_of n (change_process p.pid f rows).processes ≡ Some (f p)) (sym (c.pid p)) (find_edit (λ q. q.pid == p.pid) (λ q. Some (if q.pid == p.pid then f q else q))
-        (λ q. choose (q.pid == p.pid) (f q) q (λ r. (r.pid == p.pid) ≡ (q.pid == p.pid)) (λ e. ap (λ n. eqb n p.pid) (c.pid q)) (λ e. refl)) rows.processes p (f p) a.home (rw (eq-eqb p.pid p.pid refl) refl));
+    home = subst (λ n. process_of n (change_process p.pid f rows).processes ≡ Some (f p)) (sym (c.same p).0) (changed_own p f rows.processes (λ q. (c.same q).0) a.home);
     there = a.there;
-    own = a.own ∙ sym (c.pid p);
+    own = a.own ∙ sym (c.same p).0;
     run = run;
   }
 

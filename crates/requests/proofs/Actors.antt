@@ -22,7 +22,7 @@ use Rattle.proc_table.proofs.Changes.{changed, changed_lwp, filter_map-map}
 use Rattle.proc_table.proofs.Stays.{changed-pid, changed_lwp-keeps, own_lwp-keeps}
 use Rattle.trace_stop.specs.Sound.{is_live_at}
 use Rattle.trace_stop.proofs.Every.{and_left, any_more, find_some}
-use Rattle.trace_stop.proofs.Stopping.{own_lwps}
+use Rattle.trace_stop.proofs.Numbers.{own_lwps}
 use Rattle.trace_stop.proofs.Stops.{find_passes, run_quiet}
 use Rattle.signals.specs.Sets.{has, bit, without}
 use Rattle.trace_stop.specs.Facts.{IsSound}

@@ -18,7 +18,7 @@ use Rattle.trace_stop.proofs.Changed.{Holds, sound_holds}
 use Rattle.trace_stop.proofs.Posting.{live_fits, live_state}
 use Rattle.trace_stop.proofs.Stops as stops
 use Rattle.trace_stop.proofs.Linking.{Traced, linked_holds, linked_row}
-use Rattle.trace_stop.proofs.Stopping.{own_lwps}
+use Rattle.trace_stop.proofs.Numbers.{own_lwps}
 use Rattle.requests.specs.Outcome.{Outcome}
 use Rattle.requests.specs.Turn.{plain}
 use Rattle.requests.specs.Ptrace.{closes_chain, traced_by, trace_me, stop_first, attach}

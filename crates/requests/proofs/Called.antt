@@ -18,7 +18,7 @@ use Rattle.trace_stop.specs.Sound.{is_live_at}
 use Rattle.trace_stop.proofs.Every.{and_right, find_some}
 use Rattle.requests.proofs.Living.{live_found, run_live}
 use Rattle.requests.proofs.Replies.{other}
-use Rattle.trace_stop.proofs.Ending.{own_rows}
+use Rattle.trace_stop.proofs.Passes.{own_rows}
 
 refused_otherwise : reply.Errno errno.ESRCH ≢ reply.Errno errno.ENOMEM
 refused_otherwise = other (reply.Errno errno.ESRCH) refl

@@ -13,20 +13,16 @@ use Rattle.requests.specs.Machine.{Installed, Machine, After, after}
 use Rattle.requests.specs.Memory.{takes_memory, is_refusal, may_want}
 use Rattle.requests.specs.Laws.{step_fits}
 use Rattle.requests.specs.Sound.{sound}
-use Rattle.requests.specs.Step.{step, caller_of}
-use Rattle.requests.specs.Callers.{Barred}
-use Rattle.requests.proofs.After.{all_left, answers_same}
+use Rattle.requests.specs.Hosts.{Steps}
+use Rattle.proc_table.specs.declared.ProcData.{ProcData}
+use Rattle.requests.specs.Step.{step, calls, caller_of}
+use Rattle.requests.specs.Callers.{IsCaller, Calls, Barred}
+use Rattle.requests.proofs.After.{all_left, answers_same, rows_sound}
+use Rattle.requests.proofs.Called.{called, is_caller}
 use Rattle.requests.proofs.Drops.{left_in, kept_by, drops}
 use Rattle.requests.proofs.Replies.{cases_memory}
 use Rattle.requests.proofs.Refusing.{never_memory, refused_same}
 use Rattle.requests.proofs.StaysSound.{sound_kept}
-
--- the clauses of a step
-pub record Finished (u : ℕ) (s : PlainStep) (m n : Machine) (r : Reply) : Type 0 where
-  pub machine : r ≢ reply.Errno errno.ENOMEM → (n ≡ (step u s m).machine) × (r ≡ (step u s m).reply)
-  pub memory : r ≡ reply.Errno errno.ENOMEM → (n ≡ m) × (may_want u s m ≡ true)
-  pub refused : is_refusal r ≡ true → n ≡ m
-  pub sound : sound n ≡ true
 
 -- rows and reply of an outcome, or want of memory and the rows as they were
 pub record Did (u : ℕ) (s : PlainStep) (m : Machine) (o : Outcome) (rows : Rows) (r : Reply) : Type 0 where
@@ -34,7 +30,7 @@ pub record Did (u : ℕ) (s : PlainStep) (m : Machine) (o : Outcome) (rows : Row
   pub memory : r ≡ reply.Errno errno.ENOMEM → (rows ≡ m.rows) × (takes_memory u s m ≡ true) × (is_refusal o.reply ≡ false)
 
 module _ (u : ℕ) (s : PlainStep) (m : Machine) (user : IsUser u) (is : sound m ≡ true) (fits : step_fits s ≡ true) where
-  pub from_machine : (n : Machine) (r : Reply) → (r ≢ reply.Errno errno.ENOMEM → (n ≡ (step u s m).machine) × (r ≡ (step u s m).reply)) → (r ≡ reply.Errno errno.ENOMEM → (n ≡ m) × (may_want u s m ≡ true)) → Finished u s m n r
+  pub from_machine : (n : Machine) (r : Reply) → (r ≢ reply.Errno errno.ENOMEM → (n ≡ (step u s m).machine) × (r ≡ (step u s m).reply)) → (r ≡ reply.Errno errno.ENOMEM → (n ≡ m) × (may_want u s m ≡ true)) → Steps u s m n r
   from_machine n r machine memory = record {
     machine = machine;
     memory = memory;
@@ -49,7 +45,7 @@ module _ (u : ℕ) (s : PlainStep) (m : Machine) (user : IsUser u) (is : sound m
   }
 
   -- once the pairs of the user's ended debuggers are gone
-  pub finished : (o : Outcome) (rows : Rows) (r : Reply) → step u s m ≡ after m o → Did u s m o rows r → Finished u s m (kept_by u rows m) r
+  pub finished : (o : Outcome) (rows : Rows) (r : Reply) → step u s m ≡ after m o → Did u s m o rows r → Steps u s m (kept_by u rows m) r
   finished o rows r same did = from_machine (kept_by u rows m) r
       (λ ok. (ap (λ x. kept_by u x m) (did.machine ok).0 ∙ sym (drops m u user is s o same) ∙ sym (ap (λ a. a.machine) same), (did.machine ok).1 ∙ sym (ap (λ a. a.reply) same)))
       (λ e. (
@@ -60,19 +56,45 @@ module _ (u : ℕ) (s : PlainStep) (m : Machine) (user : IsUser u) (is : sound m
       set_at : List (List Installed) → List Installed → List (List Installed)
       set_at xs ys = set xs (slot u) ys
 
-  pub finished_with : (o : Outcome) (rows : Rows) (kept : List (List Installed)) (r : Reply) → kept ≡ set m.installed (slot u) (left_in rows u m) → step u s m ≡ after m o → Did u s m o rows r → Finished u s m (record m { rows = rows; installed = kept }) r
-  finished_with o rows kept r keeps same did = subst (λ x. Finished u s m (record m { rows = rows; installed = x }) r) (sym keeps) (finished o rows r same did)
+  pub finished_with : (o : Outcome) (rows : Rows) (kept : List (List Installed)) (r : Reply) → kept ≡ set m.installed (slot u) (left_in rows u m) → step u s m ≡ after m o → Did u s m o rows r → Steps u s m (record m { rows = rows; installed = kept }) r
+  finished_with o rows kept r keeps same did = subst (λ x. Steps u s m (record m { rows = rows; installed = x }) r) (sym keeps) (finished o rows r same did)
 
   -- a step that takes no memory
-  pub finished_rows : (o : Outcome) (rows : Rows) (kept : List (List Installed)) (r : Reply) → kept ≡ set m.installed (slot u) (left_in rows u m) → step u s m ≡ after m o → rows ≡ o.rows → r ≡ o.reply → Finished u s m (record m { rows = rows; installed = kept }) r
+  pub finished_rows : (o : Outcome) (rows : Rows) (kept : List (List Installed)) (r : Reply) → kept ≡ set m.installed (slot u) (left_in rows u m) → step u s m ≡ after m o → rows ≡ o.rows → r ≡ o.reply → Steps u s m (record m { rows = rows; installed = kept }) r
   finished_rows o rows kept r keeps same changed answered = finished_with o rows kept r keeps same (record { machine = λ ok. (changed, answered); memory = λ e. absurd (never_memory u s m (ap (λ a. a.reply) same ∙ sym answered ∙ e)) })
 
   -- a refusal before anything was done
-  pub refuses_at : (r : Reply) → r ≢ reply.Errno errno.ENOMEM → step u s m ≡ after m (answers r m.rows) → Finished u s m m r
+  pub refuses_at : (r : Reply) → r ≢ reply.Errno errno.ENOMEM → step u s m ≡ after m (answers r m.rows) → Steps u s m m r
   refuses_at r other same = from_machine m r (λ ok. (sym (answers_same m r is) ∙ sym (ap (λ a. a.machine) same), sym (ap (λ a. a.reply) same))) (λ e. absurd (other e))
 
-  pub barred : (n : ℕ) (r : Reply) → caller_of s ≡ Some n → Barred u n m r → Finished u s m m r
+  pub barred : (n : ℕ) (r : Reply) → caller_of s ≡ Some n → Barred u n m r → Steps u s m m r
   barred n r by b = refuses_at r b.other (b.answer s by)
 
-  pub wants_at : may_want u s m ≡ true → Finished u s m m (reply.Errno errno.ENOMEM)
+  pub wants_at : may_want u s m ≡ true → Steps u s m m (reply.Errno errno.ENOMEM)
   wants_at wants = from_machine m (reply.Errno errno.ENOMEM) (λ other. absurd (other refl)) (λ e. (refl, wants))
+
+-- what a caller's step does to the rows
+abbrev done_by : ℕ → PlainStep → ProcData → Machine → Outcome
+done_by u s p m = record { rows = (calls u s p m).machine.rows; reply = (calls u s p m).reply }
+
+-- The same of a host's value h, which its user sees as m
+module _ {u n : ℕ} {h m : Machine} (view : h ≡ m) (user : IsUser u) (kept : sound h ≡ true) where
+  pub host_barred : {s : PlainStep} {r : Reply} → step_fits s ≡ true → caller_of s ≡ Some n → Barred u n m r → Steps u s m m r
+  host_barred {s} {r} fits by b = barred u s m user (subst (λ x. sound x ≡ true) view kept) fits n r by b
+
+  module _ {p : ProcData} (found : Calls u n m.rows p) where
+    by_host : Calls u n h.rows p
+    by_host = subst (λ x. Calls u n x.rows p) (sym view) found
+
+    pub host_caller : IsCaller u p h.rows
+    host_caller = is_caller u n h.rows p (rows_sound h kept).stands.rising by_host
+
+    pub host_calls : (s : PlainStep) → caller_of s ≡ Some n → step u s h ≡ calls u s p h
+    host_calls s by = called u n s h by p by_host.seen by_host.live by_host.runs
+
+    module _ {s : PlainStep} (fits : step_fits s ≡ true) (by : caller_of s ≡ Some n) (same : calls u s p h ≡ after h (done_by u s p h)) {rows : Rows} {left : List (List Installed)} {r : Reply} (keeps : left ≡ set h.installed (slot u) (left_in rows u h)) where
+      pub host_called : Did u s h (done_by u s p h) rows r → Steps u s h (record h { rows = rows; installed = left }) r
+      host_called did = finished_with u s h user kept fits (done_by u s p h) rows left r keeps (host_calls s by ∙ same) did
+
+      pub host_rows : rows ≡ (done_by u s p h).rows → r ≡ (done_by u s p h).reply → Steps u s h (record h { rows = rows; installed = left }) r
+      host_rows changed answered = finished_rows u s h user kept fits (done_by u s p h) rows left r keeps (host_calls s by ∙ same) changed answered

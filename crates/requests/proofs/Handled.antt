@@ -15,7 +15,7 @@ use Rattle.trace_stop.specs.Stop.{detach}
 use Rattle.trace_stop.specs.Facts.{IsSound}
 use Rattle.trace_stop.proofs.Every.{All-filter, find_some}
 use Rattle.trace_stop.proofs.Edited.{If_more, find_edit}
-use Rattle.trace_stop.proofs.Ending.{own_rows}
+use Rattle.trace_stop.proofs.Passes.{own_rows}
 use Rattle.stop_handlers.specs.declared.Rule.{Rule}
 use Rattle.stop_handlers.specs.declared.StopView.{StopView}
 use Rattle.stop_handlers.specs.declared.Decision.{Decision}
@@ -34,7 +34,7 @@ use Rattle.requests.specs.Commands.{with_signal}
 use Rattle.requests.specs.Handle.{view_of, decided, done, no_options, handles_stop, handles_status, handles, handled_by}
 use Rattle.requests.specs.Ptrace.{continues_with}
 use Rattle.trace_stop.proofs.Every.{choose}
-use Rattle.wait4.proofs.CollectSound.{Kept, collected_kept}
+use Rattle.wait4.proofs.CollectSound.{by_kept}
 use Rattle.requests.proofs.Forking.{Heard, heard}
 use Rattle.requests.proofs.Tracees.{continue_as}
 
@@ -100,8 +100,7 @@ module _ (settings : Settings) (caller : ℕ) (policies : List (List Rule)) (row
     to q = if q.pid == p.pid then wait.collected caller q else Some q
 
     same_pid : (q : ProcData) → IfSome (to q) (λ r. (r.pid == p.pid) ≡ (q.pid == p.pid))
-    same_pid q = choose (q.pid == p.pid) (wait.collected caller q) (Some q) (λ o. IfSome o (λ r. (r.pid == p.pid) ≡ (q.pid == p.pid)))
-        (λ e. If_more (Kept q) (λ r. (r.pid == p.pid) ≡ (q.pid == p.pid)) (λ r k. ap (λ n. eqb n p.pid) k.pid) (wait.collected caller q) (collected_kept caller q q.state refl)) (λ e. refl)
+    same_pid q = by_kept caller p q (λ o. IfSome o (λ r. (r.pid == p.pid) ≡ (q.pid == p.pid))) (λ no. tt) (λ r k. ap (λ n. n == p.pid) k.pid)
 
     -- the row of what was collected, where it is left
     left : (z : ProcData) → wait.collected caller p ≡ Some z → Heard after p.pid z

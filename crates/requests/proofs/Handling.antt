@@ -13,7 +13,7 @@ use Rattle.trace_stop.specs.Stop.{resume, detach}
 use Rattle.trace_stop.specs.Facts.{FitProcess, IsSound}
 use Rattle.trace_stop.proofs.Every.{All-filter, find_some, choose}
 use Rattle.trace_stop.proofs.Edited.{If_more, find_edit}
-use Rattle.trace_stop.proofs.Ending.{own_rows}
+use Rattle.trace_stop.proofs.Passes.{own_rows}
 use Rattle.trace_stop.proofs.Posts.{detach_sound}
 use Rattle.stop_handlers.specs.declared.Rule.{Rule}
 use Rattle.stop_handlers.specs.declared.Decision.{Decision}
@@ -30,7 +30,7 @@ use Rattle.requests.specs.Machine.{Machine}
 use Rattle.requests.specs.Sound.{sound}
 use Rattle.requests.specs.Step.{step}
 use Rattle.requests.proofs.After.{rows_sound, after_sound}
-use Rattle.wait4.proofs.CollectSound.{Kept, collected_kept}
+use Rattle.wait4.proofs.CollectSound.{by_kept}
 use Rattle.requests.proofs.Forking.{Heard, heard}
 use Rattle.requests.proofs.Masks.{Tracee, resumes_sound, continues_sound}
 use Rattle.requests.proofs.Steps.{checked_sound, rows_after_sound}
@@ -65,8 +65,7 @@ module _ (settings : Settings) (caller : ℕ) (policies : List (List Rule)) (row
     to q = if q.pid == p.pid then wait.collected caller q else Some q
 
     same_pid : (q : ProcData) → IfSome (to q) (λ r. (r.pid == p.pid) ≡ (q.pid == p.pid))
-    same_pid q = choose (q.pid == p.pid) (wait.collected caller q) (Some q) (λ o. IfSome o (λ r. (r.pid == p.pid) ≡ (q.pid == p.pid)))
-        (λ e. If_more (Kept q) (λ r. (r.pid == p.pid) ≡ (q.pid == p.pid)) (λ r k. ap (λ n. eqb n p.pid) k.pid) (wait.collected caller q) (collected_kept caller q q.state refl)) (λ e. refl)
+    same_pid q = by_kept caller p q (λ o. IfSome o (λ r. (r.pid == p.pid) ≡ (q.pid == p.pid))) (λ no. tt) (λ r k. ap (λ n. n == p.pid) k.pid)
 
     collected_row : process_of p.pid (each to (λ q l. Some l) rows).processes ≡ Some now_seen
     collected_row = find_edit (λ q. q.pid == p.pid) to same_pid rows.processes p now_seen at (rw (eq-eqb p.pid p.pid refl) (ap (wait.collected_in caller p) stops))

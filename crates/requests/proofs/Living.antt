@@ -9,7 +9,7 @@ use Rattle.proc_table.specs.Processes.{is_live, is_run, is_run_state, is_zombie_
 use Rattle.proc_table.specs.Kept.{Rise}
 use Rattle.proc_table.proofs.Rows.{process_of-pid}
 use Rattle.trace_stop.proofs.Every.{and_left, and_right, both, by_bool, any_holds}
-use Rattle.trace_stop.proofs.Stopping.{the_row}
+use Rattle.trace_stop.proofs.Numbers.{the_row}
 use Rattle.trace_stop.proofs.Stops.{find_passes}
 
 pub live_found : (n : ℕ) (ps : List ProcData) (p : ProcData) → Rise ps → process_of n ps ≡ Some p → list_any (λ q. (q.pid == n) && is_live q) ps ≡ is_live p

@@ -1,5 +1,5 @@
 -- An LWP that changes its mode, that is made, or that exits keeps rows sound.
-use Rattle.std.proofs.Common.{◌≡◌, ◌≢◌, ℕ, ◌≤◌, Bool, true, false, cond, ◌==◌, ◌&&◌, not, leb, if◌then◌else◌, List, [], ◌∷◌, ◌++◌, find, Option, Some, None, IfSome, is_some, refl, sym, ap, ◌∙◌, true≢false, subst, arith, eqb-true, eq-eqb}
+use Rattle.std.proofs.Common.{◌≡◌, inl, ℕ, ◌≤◌, Bool, true, false, cond, ◌==◌, ◌&&◌, not, leb, if◌then◌else◌, List, [], ◌∷◌, ◌++◌, find, Option, Some, None, IfSome, is_some, refl, sym, ap, ◌∙◌, true≢false, subst, arith, eqb-true, eq-eqb}
 use Rattle.std.proofs.lemmas.Bool.{leb-false}
 use Rattle.pid_blocks.specs.Users.{IsUser}
 use Rattle.event_masks.specs.declared.TheConstants.StopFlags.{PL_FLAG_EXITED}
@@ -13,7 +13,7 @@ use Rattle.lwp_table.specs.declared.Due.TheVariants as due
 use Rattle.lwp_table.specs.Lwps.{born, lwp_of}
 use Rattle.proc_table.specs.declared.ProcData.{ProcData}
 use Rattle.proc_table.specs.Processes.{reporting, is_this, process_of}
-use Rattle.proc_table.specs.Rows.{Rows, edit_lwps, change_lwp, remove_lwp}
+use Rattle.proc_table.specs.Rows.{Rows, owner, by_owner, each, change_lwp, remove_lwp}
 use Rattle.proc_table.specs.Fresh.{add_lwp, lwp_count}
 use Rattle.proc_table.specs.Kept.{AtHome}
 use Rattle.trace_stop.specs.declared.Settings.{Settings}
@@ -21,14 +21,12 @@ use Rattle.trace_stop.specs.declared.Shown.{Shown}
 use Rattle.trace_stop.specs.Post.{unwanted}
 use Rattle.trace_stop.specs.Stop.{stop}
 use Rattle.trace_stop.specs.Sound.{names_own, is_due, mode_fits}
-use Rattle.trace_stop.specs.Facts.{IsLiveChild, waited_for, Standing, FitLwp, IsSound}
-use Rattle.trace_stop.proofs.Every.{and_left, and_right, both, not_true, any_forward, find_some, choose}
-use Rattle.trace_stop.proofs.Edited.{some_is, if_at}
-use Rattle.trace_stop.proofs.Changed.{found_number}
-use Rattle.trace_stop.proofs.Stopping.{own_lwps}
+use Rattle.trace_stop.specs.Facts.{IsLiveChild, FitProcess, waited_for, FitLwp, IsSound}
+use Rattle.trace_stop.proofs.Every.{and_left, by_bool, find_some, choose}
+use Rattle.trace_stop.proofs.Edited.{If_more, some_is, one_gone}
+use Rattle.trace_stop.proofs.Changed.{Row, Beside, Same, Like, Stay, KeptRow, KeptLwp, nobody, holds_sound, sound_holds, row_is, like_self, kept_row, kept_all, kept_lwp, none_gone, no_ring, stay_where, edit_holds, lwps_alone}
+use Rattle.trace_stop.proofs.Numbers.{own_lwps}
 use Rattle.trace_stop.proofs.Settling.{zero_apart}
-use Rattle.trace_stop.proofs.Running.{count_kept, one_stays}
-use Rattle.trace_stop.proofs.Thinned.{LwpChange, lwps_sound}
 use Rattle.trace_stop.proofs.Joining.{joined_sound}
 use Rattle.requests.specs.Outcome.{Outcome, trap}
 use Rattle.requests.specs.Turn.{due_stop}
@@ -53,9 +51,7 @@ module _ (rows : Rows) (p : ProcData) (l : LwpData) (a : Acting rows p l) where
 
   pub in_mode_acting : (mode : Mode) → IfSome (waited_for mode) (IsLiveChild rows p) → mode_fits mode ≡ true → Acting (in_mode mode l.tid rows) p (record l { mode = mode })
   in_mode_acting mode waits fits = acting_lwp rows p l a (λ k. record k { mode = mode }) (record {
-    tid = λ k. refl;
-    own = λ k. refl;
-    flags = λ k. refl;
+    same = λ k. (refl, refl, refl);
     waits = waits;
     fit = λ fit. record {
       untraced = λ none. let was = fit.untraced none in record { due = was.due; stepping = was.stepping; suspended = was.suspended; pending = was.pending };
@@ -67,9 +63,7 @@ module _ (rows : Rows) (p : ProcData) (l : LwpData) (a : Acting rows p l) where
 
   pub due_acting : Acting (change_lwp l.tid (λ k. record k { due = due.Nothing }) rows) p (record l { due = due.Nothing })
   due_acting = acting_lwp rows p l a (λ k. record k { due = due.Nothing }) (record {
-    tid = λ k. refl;
-    own = λ k. refl;
-    flags = λ k. refl;
+    same = λ k. (refl, refl, refl);
     waits = (lwp_stands rows p l a).waits;
     fit = λ fit. record {
       untraced = λ none. let was = fit.untraced none in record { due = refl; stepping = was.stepping; suspended = was.suspended; pending = was.pending };
@@ -91,101 +85,62 @@ module _ (rows : Rows) (p : ProcData) (l : LwpData) (a : Acting rows p l) where
       acting_stops (change_lwp l.tid (λ k. record k { due = due.Nothing }) rows) p (record l { due = due.Nothing }) due_acting shown
       (traced_where p.tracer (λ none. true≢false (sym d.0 ∙ ((lwp_fit rows p l a).untraced none).due))) (λ on. absurd (true≢false (sym on ∙ d.1)))
 
-  -- LWPs of a process that runs go, and no other one does
+  -- where LWPs of the process alone go, of which one stays, or its row is changed, and it reports nothing
 
-  pub record Thins (h : LwpData → Option LwpData) : Type 0 where
-    pub same : (x : LwpData) → IfSome (h x) (λ k. (k.tid ≡ x.tid) × (k.pid ≡ x.pid))
-    pub others : (x : LwpData) → lwp_of x.tid rows.lwps ≡ Some x → x.pid ≢ p.pid → (k : LwpData) × (h x ≡ Some k)
-    pub stays : 1 ≤ lwp_count p.pid (edit_lwps h rows)
-    pub flags : (x k : LwpData) → h x ≡ Some k → k.flags ≡ x.flags
-    pub waits : (q : ProcData) (x k : LwpData) → Standing rows q x → h x ≡ Some k → IfSome (waited_for k.mode) (IsLiveChild rows q)
-    pub fits : (q : ProcData) (x k : LwpData) → process_of x.pid rows.processes ≡ Some q → FitLwp q x → h x ≡ Some k → FitLwp q k
+  pub its_number : (q : ProcData) → Row rows FitProcess q → (q.pid == p.pid) ≡ true → p ≡ q
+  its_number q row is = sym (row_is row a.home (eqb-true q.pid p.pid is))
 
-  module _ (h : LwpData → Option LwpData) (t : Thins h) where
-    -- a process with the number of p is p
-    the_one : (q : ProcData) → process_of q.pid rows.processes ≡ Some q → (q.pid == p.pid) ≡ true → p ≡ q
-    the_one q at is = some_is p q (sym a.home ∙ (ap (λ n. process_of n rows.processes) (sym (eqb-true q.pid p.pid is)) ∙ at))
+  -- an LWP of it, which shows nothing
+  pub quiet_lwp : {after : Rows} {Q' : ProcData → LwpData → Type 0} (q r : ProcData) (x k : LwpData) → Beside rows FitProcess FitLwp q x → (q.pid == p.pid) ≡ true → k.flags ≡ x.flags → IfSome (waited_for k.mode) (IsLiveChild rows q) → Q' r k → KeptLwp rows after nobody Q' q r k
+  quiet_lwp {after} {Q'} q r x k b mine flags waits fits = record {
+    exited = λ shown. absurd (true≢false (sym (subst (λ f. shows f PL_FLAG_EXITED ≡ true) flags shown) ∙ shows_none x (b.fact.silent (ap (is_this x.tid) (ap (λ (y : ProcData). reporting y) (sym (its_number q b.row mine)) ∙ its_quiet rows p l a))).flags));
+    waits = If_more (IsLiveChild rows q) _ (λ c live. (live, refl)) (waited_for k.mode) waits;
+    fits = fits;
+  }
 
-    goes_on : (q : ProcData) → (q.pid == p.pid) ≡ false → (x : LwpData) → lwp_of x.tid rows.lwps ≡ Some x → x.pid ≡ q.pid → (k : LwpData) × (h x ≡ Some k) × (k.tid ≡ x.tid) × (k.pid ≡ x.pid)
-    goes_on q differs x there own =
-        let k = t.others x there (λ same. true≢false (sym (eq-eqb q.pid p.pid (sym own ∙ same)) ∙ differs)) in
-        let both_same = if_at (λ j. (j.tid ≡ x.tid) × (j.pid ≡ x.pid)) (h x) k.0 k.1 (t.same x) in
-        (k.0, k.1, both_same.0, both_same.1)
-
-    count_on : (q : ProcData) → (q.pid == p.pid) ≡ false → lwp_count q.pid rows ≤ lwp_count q.pid (edit_lwps h rows)
-    count_on q differs = count_kept (λ x. x.pid == q.pid) (λ x. x.pid == q.pid) h (λ x. lwp_of x.tid rows.lwps ≡ Some x) (λ x there is.
-        let k = goes_on q differs x there (eqb-true x.pid q.pid is) in (k.0, k.1, ap (λ n. n == q.pid) k.3 ∙ is)) rows.lwps (own_lwps rows.lwps a.sound.stands.differ)
-
-    names_on : (q : ProcData) → (q.pid == p.pid) ≡ false → (tid : ℕ) → names_own rows q tid ≡ true → names_own (edit_lwps h rows) q tid ≡ true
-    names_on q differs tid is = any_forward (λ x. (x.tid == tid) && (x.pid == q.pid)) (λ x. (x.tid == tid) && (x.pid == q.pid)) (λ x. lwp_of x.tid rows.lwps ≡ Some x) h (λ x there e.
-        let own = and_right (x.tid == tid) (x.pid == q.pid) e in
-        let k = goes_on q differs x there (eqb-true x.pid q.pid own) in
-        (k.0, k.1, both (k.0.tid == tid) (k.0.pid == q.pid) (ap (λ n. n == tid) k.2 ∙ and_left (x.tid == tid) (x.pid == q.pid) e) (ap (λ n. n == q.pid) k.3 ∙ own))) rows.lwps (own_lwps rows.lwps a.sound.stands.differ) is
-
-    by_process : (q : ProcData) (R : Type 0) → process_of q.pid rows.processes ≡ Some q → (p ≡ q → R) → ((q.pid == p.pid) ≡ false → R) → R
-    by_process q R at mine other = by_test (q.pid == p.pid) refl
-      where
-        by_test : (b : Bool) → (q.pid == p.pid) ≡ b → R
-        by_test true e = mine (the_one q at e)
-        by_test false e = other e
-
-    reports_on : (q : ProcData) → process_of q.pid rows.processes ≡ Some q → (o : Option ℕ) → reporting q ≡ o → IfSome o (λ tid. names_own rows q tid ≡ true) → IfSome o (λ tid. names_own (edit_lwps h rows) q tid ≡ true)
-    reports_on q at None e named = tt
-    reports_on q at (Some tid) e named = by_process q _ at (λ mine. absurd (some_none (sym (ap (λ (x : ProcData). reporting x) mine ∙ e) ∙ its_quiet rows p l a))) (λ other. names_on q other tid named)
-      where
-        some_none : Some tid ≡ None → ⊥
-        some_none is = grind (arith, is)
-
-    the_change : LwpChange rows h
-    the_change = record {
-      same = t.same;
-      named = λ q at link. reports_on q at (reporting q) refl link.named;
-      peopled = λ q at link live. by_process q (1 ≤ lwp_count q.pid (edit_lwps h rows)) at (λ mine. subst (λ (x : ProcData). 1 ≤ lwp_count x.pid (edit_lwps h rows)) mine t.stays)
-          (λ other. let some = link.peopled live in let more = count_on q other in omega (arith, some, more));
-      stands = λ q x k there home stood fit is. record {
-        live = stood.live;
-        exited = λ shown.
-            let was : shows x.flags PL_FLAG_EXITED ≡ true = subst (λ f. shows f PL_FLAG_EXITED ≡ true) (t.flags x k is) shown in
-            let at : process_of q.pid rows.processes ≡ Some q = ap (λ n. process_of n rows.processes) (found_number x.pid rows.processes q home) ∙ home in
-            by_process q (2 ≤ lwp_count q.pid (edit_lwps h rows)) at
-            (λ mine. absurd (true≢false (sym was ∙ shows_none x (fit.silent (ap (is_this x.tid) (ap (λ (r : ProcData). reporting r) (sym mine) ∙ its_quiet rows p l a))).flags)))
-            (λ other. let two = stood.exited was in let more = count_on q other in omega (arith, two, more));
-        waits = t.waits q x k stood is;
-      };
-      fits = λ q x k there home stood fit is. t.fits q x k home fit is;
-    }
-
-    pub thins_sound : IsSound (edit_lwps h rows)
-    thins_sound = lwps_sound rows h a.sound the_change
+  -- and its row
+  pub quiet_row : {after : Rows} {P' : ProcData → Type 0} (q r : ProcData) → Row rows FitProcess q → (q.pid == p.pid) ≡ true → Like q r → reporting r ≡ reporting q → 1 ≤ lwp_count p.pid after → P' r → KeptRow rows after nobody P' q r
+  quiet_row {after} {P'} q r row mine like report some fits = kept_row row like (subst (λ o. IfSome o (λ tid. names_own after q tid ≡ true)) (sym (report ∙ (ap (λ (y : ProcData). reporting y) (sym (its_number q row mine)) ∙ its_quiet rows p l a))) tt)
+      (λ live. subst (λ (y : ProcData). 1 ≤ lwp_count y.pid after) (its_number q row mine) some) fits
 
   -- an LWP's exit, where it isn't the last one
 
-  abbrev gone : LwpData → Option LwpData
-  gone x = if x.tid == l.tid then None else Some x
+  abbrev gone : ProcData → LwpData → Option LwpData
+  gone q x = if x.tid == l.tid then None else Some x
 
-  kept_is : (x k : LwpData) → gone x ≡ Some k → x ≡ k
-  kept_is x k is = by_test (x.tid == l.tid) is
-    where
-      by_test : (b : Bool) → (if b then None else Some x) ≡ Some k → x ≡ k
-      by_test true e = absurd (grind (arith, e))
-      by_test false e = some_is x k e
+  abbrev left : Rows
+  left = each (λ q. Some q) gone rows
 
-  exit_thins : 2 ≤ lwp_count p.pid rows → Thins gone
-  exit_thins two = record {
-    same = λ x. choose (x.tid == l.tid) None (Some x) (λ o. IfSome o (λ k. (k.tid ≡ x.tid) × (k.pid ≡ x.pid))) (λ e. tt) (λ e. (refl, refl));
-    others = λ x there ne. by_test x there ne (x.tid == l.tid) refl;
-    stays = one_stays (λ x. x.pid == p.pid) l.tid gone rows.lwps a.sound.stands.differ (λ x is. (x, rw (not_true (x.tid == l.tid) (and_right (x.pid == p.pid) (not (x.tid == l.tid)) is)) refl, and_left (x.pid == p.pid) (not (x.tid == l.tid)) is)) two;
-    flags = λ x k is. ap (λ (j : LwpData). j.flags) (sym (kept_is x k is));
-    waits = λ q x k stood is. subst (λ (j : LwpData). IfSome (waited_for j.mode) (IsLiveChild rows q)) (kept_is x k is) stood.waits;
-    fits = λ q x k home fit is. subst (FitLwp q) (kept_is x k is) fit;
-  }
-    where
-      by_test : (x : LwpData) → lwp_of x.tid rows.lwps ≡ Some x → x.pid ≢ p.pid → (b : Bool) → (x.tid == l.tid) ≡ b → (k : LwpData) × ((if b then None else Some x) ≡ Some k)
-      by_test x there ne true e = let same : l ≡ x = some_is l x (sym a.there ∙ (ap (λ n. lwp_of n rows.lwps) (sym (eqb-true x.tid l.tid e)) ∙ there)) in absurd (ne (ap (λ (k : LwpData). k.pid) (sym same) ∙ a.own))
-      by_test x there ne false e = (x, refl)
+  same : Same (λ q. Some q) gone
+  same = record { process = λ q. (refl, refl); lwp = λ q x. choose (x.tid == l.tid) None (Some x) (λ o. IfSome o (λ k. (k.tid ≡ x.tid) × (k.pid ≡ x.pid))) (λ e. tt) (λ e. (refl, refl)) }
+
+  stays : (q : ProcData) → Row rows FitProcess q → (q.pid == p.pid) ≡ false → Stay rows left q
+  stays q row other = stay_where rows (λ r. Some r) gone same (λ x. lwp_of x.tid rows.lwps ≡ Some x) (own_lwps rows.lwps a.sound.stands.differ) q row.at (λ x there own. (x, rw (by_bool (x.tid == l.tid) (λ is.
+      let one : l ≡ x = some_is l x (sym a.there ∙ (ap (λ n. lwp_of n rows.lwps) (sym (eqb-true x.tid l.tid is)) ∙ there)) in
+      true≢false (sym (eq-eqb q.pid p.pid (sym own ∙ (ap (λ (k : LwpData). k.pid) (sym one) ∙ a.own))) ∙ other))) refl))
 
   pub removed_sound : 2 ≤ lwp_count p.pid rows → IsSound (remove_lwp l.tid rows)
-  removed_sound two = thins_sound gone (exit_thins two)
+  removed_sound two = subst IsSound (lwps_alone rows a.sound.stands.housed (gone p)) (sound_holds left (edit_holds rows nobody (λ q. Some q) gone FitProcess FitLwp FitProcess FitLwp (holds_sound rows a.sound) (record {
+    same = same;
+    ring = no_ring (λ q. Some q) rows.processes a.sound.stands.rising same.process (λ q t is. is);
+    gone = none_gone rows FitProcess gone;
+    process = λ q row. by_number (q.pid == p.pid) (KeptRow rows left nobody FitProcess q q) (λ mine. quiet_row q q row mine (like_self q) refl some row.fact) (λ other. kept_all row (like_self q) (inl refl) (stays q row other) row.fact);
+    lwp = λ q x b on. choose (x.tid == l.tid) None (Some x) (λ o. IfSome o (KeptLwp rows left nobody FitLwp q q)) (λ e. tt)
+        (λ e. by_number (q.pid == p.pid) (KeptLwp rows left nobody FitLwp q q x) (λ mine. quiet_lwp q q x x b mine refl b.stood.waits b.fact) (λ other. kept_lwp b (stays q b.row other) refl refl b.fact));
+  })))
+    where
+      by_number : (b : Bool) (R : Type 0) → (b ≡ true → R) → (b ≡ false → R) → R
+      by_number true R h k = h refl
+      by_number false R h k = k refl
+
+      some : 1 ≤ lwp_count p.pid left
+      some =
+          let most = one_gone (λ x. x.pid == p.pid) l.tid (λ x. by_owner gone x (owner rows x)) (λ x other own. (x, by_home x other (owner rows x), own)) rows.lwps a.sound.stands.differ in
+          omega (arith, two, most)
+        where
+          by_home : (x : LwpData) → (x.tid == l.tid) ≡ false → (o : Option ProcData) → by_owner gone x o ≡ Some x
+          by_home x other None = refl
+          by_home x other (Some q) = rw other refl
 
   pub exits_lwp_sound : (settings : Settings) → IsSound (exits_lwp settings p l rows).rows
   exits_lwp_sound settings = choose (leb (lwp_count p.pid rows) 1) _ _ (λ (o : Outcome). IsSound o.rows) (λ e. end_sound rows p l a settings 0 refl) (λ more.

@@ -13,11 +13,11 @@ use Rattle.trace_stop.specs.Facts.{FitProcess, Standing, FitLwp, WithOwner, IsSo
 use Rattle.trace_stop.proofs.Every.{and_left, and_right, find_some, any_holds, choose}
 use Rattle.trace_stop.proofs.Edited.{find_edit}
 use Rattle.trace_stop.proofs.Changed.{holds_sound, sound_holds}
-use Rattle.trace_stop.proofs.Changes.{changes_hold}
+use Rattle.trace_stop.proofs.Changes.{changed_row, changed_own, changes_hold}
 use Rattle.trace_stop.proofs.Posting.{live_fits, live_state}
 use Rattle.trace_stop.proofs.Single.{process_sound, lwp_sound}
 use Rattle.trace_stop.proofs.Posts.{resume_sound}
-use Rattle.trace_stop.proofs.Stopping.{own_lwps}
+use Rattle.trace_stop.proofs.Numbers.{own_lwps}
 use Rattle.requests.specs.Ptrace.{not_stepping, stepping, suspend, set_mask, continues_with}
 
 -- a live traced process in sound rows
@@ -41,7 +41,7 @@ named_lwp rows p tid s named = any_holds (λ l. (l.tid == tid) && (l.pid == p.pi
 
 pub changed_process : (n : ℕ) (chosen : ProcData → Bool) (f : ProcData → ProcData) (g : ProcData → LwpData → LwpData) (rows : Rows) (p : ProcData) → ((q : ProcData) → (f q).pid ≡ q.pid)
     → process_of n rows.processes ≡ Some p → process_of n (change chosen f g rows).processes ≡ Some (if chosen p then f p else p)
-changed_process n chosen f g rows p same at = find_edit (λ q. q.pid == n) (λ q. Some (if chosen q then f q else q)) (λ q. choose (chosen q) (f q) q (λ r. (r.pid == n) ≡ (q.pid == n)) (λ e. ap (λ m. eqb m n) (same q)) (λ e. refl)) rows.processes p (if chosen p then f p else p) at refl
+changed_process n chosen f g rows p same at = changed_row n chosen f rows.processes p same at
 
 pub changed_lwp : (n : ℕ) (chosen : ProcData → Bool) (f : ProcData → ProcData) (g : ProcData → LwpData → LwpData) (rows : Rows) (l : LwpData) (p : ProcData) → ((q : ProcData) (k : LwpData) → (g q k).tid ≡ k.tid)
     → lwp_of n rows.lwps ≡ Some l → process_of l.pid rows.processes ≡ Some p → lwp_of n (change chosen f g rows).lwps ≡ Some (if chosen p then g p l else l)
@@ -66,20 +66,14 @@ stepless_fits p l fit = record {
 
 pub not_stepping_sound : (rows : Rows) (pid : ℕ) → IsSound rows → IsSound (not_stepping pid rows)
 not_stepping_sound rows pid s = sound_holds (not_stepping pid rows) (changes_hold rows (is_numbered pid) (λ p. p) (λ p l. record l { stepping = false }) FitProcess FitLwp FitProcess FitLwp (holds_sound rows s) (record {
-  pid = λ p. refl;
-  uid = λ p. refl;
-  tracer = λ p. refl;
-  parent = λ p. refl;
-  tid = λ p l. refl;
-  own = λ p l. refl;
-  flags = λ p l. refl;
-  mode = λ p l. refl;
-  live = λ p fact is. refl;
-  named = λ p fact is. inl refl;
-  fits = λ p fact is. fact;
-  rest = λ p fact is. fact;
-  fit_lwp = λ p l fact own is. stepless_fits p l own;
-  rest_lwp = λ p l fact own is. own;
+  same = λ p. (refl, refl, refl, refl);
+  same_lwp = λ p l. (refl, refl, refl, refl);
+  live = λ p row is. refl;
+  named = λ p row is. inl refl;
+  fits = λ p row is. row.fact;
+  rest = λ p row is. row.fact;
+  fit_lwp = λ p l b is. stepless_fits p l b.fact;
+  rest_lwp = λ p l b is. b.fact;
 }))
 
 same_either : {X : Type 0} (b : Bool) (x : X) → (if b then x else x) ≡ x
@@ -119,18 +113,14 @@ module _ (rows : Rows) (p : ProcData) (t : Tracee rows p) where
 
     pub suspend_sound : (on : Bool) → IsSound (suspend on tid rows)
     suspend_sound on = lwp_sound rows tid p o.lwp (λ l. record l { suspended = on }) t.sound o.there owner_is (record {
-      tid = λ k. refl;
-      own = λ k. refl;
-      flags = λ k. refl;
+      same = λ k. (refl, refl, refl);
       waits = stood.waits;
       fit = λ fit. record { untraced = not_free _; silent = λ off. let was = fit.silent off in record { flags = was.flags; child = was.child; code = was.code }; blocked = fit.blocked; mode = fit.mode };
     })
 
     pub step_sound : IsSound (change_lwp tid (λ l. record l { stepping = true }) rows)
     step_sound = lwp_sound rows tid p o.lwp (λ l. record l { stepping = true }) t.sound o.there owner_is (record {
-      tid = λ k. refl;
-      own = λ k. refl;
-      flags = λ k. refl;
+      same = λ k. (refl, refl, refl);
       waits = stood.waits;
       fit = λ fit. record { untraced = not_free _; silent = λ off. let was = fit.silent off in record { flags = was.flags; child = was.child; code = was.code }; blocked = fit.blocked; mode = fit.mode };
     })
@@ -142,10 +132,7 @@ module _ (rows : Rows) (p : ProcData) (t : Tracee rows p) where
 
   pub set_mask_sound : (mask : EventMask → EventMask) → IsSound (set_mask mask p.pid rows)
   set_mask_sound mask = process_sound rows p.pid p (masked mask) t.sound t.home (record {
-    pid = λ q. refl;
-    uid = λ q. refl;
-    tracer = λ q. refl;
-    parent = λ q. refl;
+    same = λ q. (refl, refl, refl, refl);
     live = refl;
     named = inl refl;
     fits = record { stopped = its_fit.stopped; job = its_fit.job; continued = its_fit.continued; untraced = λ none. absurd (true≢false (sym t.traced ∙ ap is_some none)); ended = live_fits (masked mask p) p.state (live_state p t.live) };
@@ -155,7 +142,7 @@ module _ (rows : Rows) (p : ProcData) (t : Tracee rows p) where
   pub set_mask_tracee : (mask : EventMask → EventMask) → Tracee (set_mask mask p.pid rows) (masked mask p)
   set_mask_tracee mask = record {
     sound = set_mask_sound mask;
-    home = find_edit (λ q. q.pid == p.pid) (λ q. Some (if q.pid == p.pid then masked mask q else q)) (λ q. choose (q.pid == p.pid) (masked mask q) q (λ r. (r.pid == p.pid) ≡ (q.pid == p.pid)) (λ e. refl) (λ e. refl)) rows.processes p (masked mask p) t.home (rw (eq-eqb p.pid p.pid refl) refl);
+    home = changed_own p (masked mask) rows.processes (λ q. refl) t.home;
     live = t.live;
     traced = t.traced;
   }

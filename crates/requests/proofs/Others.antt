@@ -8,7 +8,7 @@ use Rattle.proc_table.specs.Kept.{AllAbove, Rise}
 use Rattle.trace_stop.proofs.Every.{and_left, and_right, by_bool}
 use Rattle.trace_stop.proofs.Edited.{some_is}
 use Rattle.requests.specs.Reach.{next_other}
-use Rattle.requests.proofs.Walk.{found_above}
+use Rattle.trace_stop.proofs.Passes.{found_above}
 
 module _ (u caller : ℕ) where
   abbrev its : ProcData → Bool

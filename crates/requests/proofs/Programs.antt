@@ -21,7 +21,7 @@ use Rattle.trace_stop.specs.Facts.{IsLiveChild, waited_for, Standing, WithOwner,
 use Rattle.trace_stop.proofs.Children.{child_test, child_from}
 use Rattle.process_end.proofs.LwpEdits.{filter_within, filter_all, released-tid, released-pid}
 use Rattle.trace_stop.proofs.Every.{All-imply, All-both, any_holds, find_some}
-use Rattle.trace_stop.proofs.Stopping.{the_row, the_lwp, own_lwps}
+use Rattle.trace_stop.proofs.Numbers.{the_row, the_lwp, own_lwps}
 use Rattle.requests.proofs.Actors.{has-process_changed, has-lwps_mapped}
 use Rattle.requests.specs.Actors.{IsActing, HasLwp}
 use Rattle.requests.specs.Programs.{is_other, only_lwp, parent_freed}

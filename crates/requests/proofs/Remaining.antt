@@ -13,7 +13,6 @@ use Rattle.trace_stop.specs.Post.{posted_process, posted_lwp, continues, notifie
 use Rattle.trace_stop.specs.Detach.{detached, untraced}
 use Rattle.trace_stop.specs.End.{is_doomed, dooms, uncollected, dead, orphaned, process_after, lwp_after, told_of, left_alone, end_each, end}
 use Rattle.trace_stop.specs.Stop.{post}
-use Rattle.trace_stop.proofs.Changed.{From, process_from}
 use Rattle.requests.specs.Reach.{post_if_live, post_all}
 use Rattle.requests.proofs.Steps.{choose}
 

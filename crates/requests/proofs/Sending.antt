@@ -13,13 +13,13 @@ use Rattle.proc_table.proofs.Rows.{process_of-pid}
 use Rattle.trace_stop.specs.declared.Settings.{Settings}
 use Rattle.trace_stop.specs.Stop.{post}
 use Rattle.trace_stop.proofs.Every.{and_left, and_right, by_bool, All-imply}
-use Rattle.trace_stop.proofs.Edited.{some_is}
-use Rattle.trace_stop.proofs.Changed.{From, process_from}
+use Rattle.trace_stop.proofs.Edited.{If_more, some_is}
 use Rattle.requests.specs.Reach.{reach, post_if_live, post_all, reached, kill, next_other}
 use Rattle.requests.specs.Outcome.{refuses}
 use Rattle.pid_blocks.specs.declared.Errno.TheVariants.{ESRCH}
 use Rattle.requests.specs.declared.Reply.TheVariants as reply
-use Rattle.trace_stop.proofs.Ending.{own_rows}
+use Rattle.std.specs.Option.{option_and_then}
+use Rattle.trace_stop.proofs.Passes.{own_rows, process_edited}
 use Rattle.requests.proofs.Living.{live_found, live_none}
 use Rattle.requests.proofs.Walk.{above, first_above, above_none, above_first, above_next, next_over}
 use Rattle.requests.proofs.Remaining.{Remain, SameNumber, remain_all, remain_post}
@@ -123,18 +123,13 @@ module _ (settings : Settings) (s : ℕ) (t : ProcData → Bool) (alike : (p q :
   pub as_they_are : (rows after : Rows) → Rise rows.processes → Remain rows.processes after.processes → post_all settings s (filter t after.processes) after ≡ post_all settings s (filter t rows.processes) after
   as_they_are rows after rise r =
       ap (λ ps. post_all settings s (filter t ps) after) r.made ∙ passed_over settings s t alike r.to r.same rows.processes after
-      (All-imply (λ p. process_of p.pid rows.processes ≡ Some p) (Gone r.to after) (λ p own none. lost p own none (process_of p.pid (filter_map r.to rows.processes)) refl) rows.processes (own_rows rows.processes rise))
+      (All-imply (λ p. process_of p.pid rows.processes ≡ Some p) (Gone r.to after) lost rows.processes (own_rows rows.processes rise))
     where
-      number : (p : ProcData) (o : Option ProcData) → IfSome o (SameNumber p) → IfSome o (λ q. q.pid ≡ p.pid)
-      number p None h = tt
-      number p (Some q) h = h.0
+      number : (p : ProcData) → IfSome (r.to p) (λ q. q.pid ≡ p.pid)
+      number p = If_more (SameNumber p) (λ q. q.pid ≡ p.pid) (λ q h. h.0) (r.to p) (r.same p)
 
-      lost : (p : ProcData) → process_of p.pid rows.processes ≡ Some p → r.to p ≡ None → (o : Option ProcData) → process_of p.pid (filter_map r.to rows.processes) ≡ o → process_of p.pid after.processes ≡ None
-      lost p own none None at = rw r.made at
-      lost p own none (Some q) at =
-          let from = process_from r.to (λ x. number x (r.to x) (r.same x)) p.pid rows.processes q rise at in
-          let its : p ≡ from.was = some_is p from.was (sym own ∙ from.at) in
-          absurd (let bad : None ≡ Some q = sym none ∙ (ap r.to its ∙ from.to) in cc)
+      lost : (p : ProcData) → process_of p.pid rows.processes ≡ Some p → r.to p ≡ None → process_of p.pid after.processes ≡ None
+      lost p own none = rw r.made (process_edited r.to number p.pid rows.processes rise ∙ ap (option_and_then r.to) own ∙ none)
 
 -- All others of a user
 

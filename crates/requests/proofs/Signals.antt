@@ -24,7 +24,8 @@ use Rattle.trace_stop.specs.Sound.{is_end}
 use Rattle.trace_stop.specs.Facts.{Linked, FitProcess, FitLwp, IsSound}
 use Rattle.trace_stop.proofs.Bits.{without_apart, without_less}
 use Rattle.trace_stop.proofs.Every.{both, by_bool, find_some, choose, not_some}
-use Rattle.trace_stop.proofs.Edited.{If_more, find_edit}
+use Rattle.trace_stop.proofs.Edited.{If_more}
+use Rattle.trace_stop.proofs.Changes.{changed_own}
 use Rattle.trace_stop.proofs.Single.{process_sound}
 use Rattle.trace_stop.proofs.Posting.{pending_fits}
 use Rattle.trace_stop.proofs.Posts.{end_at, post_sound}
@@ -69,7 +70,7 @@ module _ (rows : Rows) (p : ProcData) (l : LwpData) (a : Acting rows p l) where
       (λ e. record {
         process = p;
         lwp = taken_lwp s l;
-        acting = acting_lwp rows p l a (taken_lwp s) (record { tid = λ k. refl; own = λ k. refl; flags = λ k. refl; waits = (lwp_stands rows p l a).waits; fit = fewer_pending_lwp p l s });
+        acting = acting_lwp rows p l a (taken_lwp s) (record { same = λ k. (refl, refl, refl); waits = (lwp_stands rows p l a).waits; fit = fewer_pending_lwp p l s });
         pid = refl;
         tid = refl;
         tracer = refl;
@@ -79,10 +80,7 @@ module _ (rows : Rows) (p : ProcData) (l : LwpData) (a : Acting rows p l) where
         process = taken s p;
         lwp = l;
         acting = acting_process rows p l a (taken s) (record {
-          pid = λ q. refl;
-          uid = λ q. refl;
-          tracer = λ q. refl;
-          parent = λ q. refl;
+          same = λ q. (refl, refl, refl, refl);
           live = refl;
           named = inl refl;
           fits = fewer_pending p s (its_fit rows p l a) (its_live rows p l a);
@@ -101,10 +99,7 @@ module _ (rows : Rows) (p : ProcData) (l : LwpData) (a : Acting rows p l) where
 
   pub job_process_sound : (s : ℕ) → p.tracer ≡ None → IsSound (change_process p.pid (job_stopped s) rows)
   job_process_sound s free = process_sound rows p.pid p (job_stopped s) a.sound a.home (record {
-    pid = λ q. refl;
-    uid = λ q. refl;
-    tracer = λ q. refl;
-    parent = λ q. refl;
+    same = λ q. (refl, refl, refl, refl);
     live = sym (its_live rows p l a);
     named = inr refl;
     fits = record {
@@ -133,7 +128,7 @@ module _ (rows : Rows) (p : ProcData) (l : LwpData) (a : Acting rows p l) where
       made_sound = job_process_sound s free
 
       found : process_of p.pid made.processes ≡ Some (job_stopped s p)
-      found = find_edit (λ q. q.pid == p.pid) (λ q. Some (if q.pid == p.pid then job_stopped s q else q)) (λ q. choose (q.pid == p.pid) (job_stopped s q) q (λ r. (r.pid == p.pid) ≡ (q.pid == p.pid)) (λ e. refl) (λ e. refl)) rows.processes p (job_stopped s p) a.home (rw (eq-eqb p.pid p.pid refl) refl)
+      found = changed_own p (job_stopped s) rows.processes (λ q. refl) a.home
 
   pub end_sound : (settings : Settings) (status : ℕ) → is_end status ≡ true → IsSound (end settings p.pid status rows)
   end_sound settings status word = end_at rows p.pid p a.sound a.home (its_live rows p l a) settings status word
@@ -194,9 +189,7 @@ module _ (rows : Rows) (p : ProcData) (l : LwpData) (a : Acting rows p l) where
 
   pub block_sound : (set : ℕ) → IsSound (change_lwp l.tid (λ k. record k { blocked = maskable set }) rows)
   block_sound set = (acting_lwp rows p l a (λ k. record k { blocked = maskable set }) (record {
-    tid = λ k. refl;
-    own = λ k. refl;
-    flags = λ k. refl;
+    same = λ k. (refl, refl, refl);
     waits = (lwp_stands rows p l a).waits;
     fit = λ fit. record {
       untraced = λ none. let was = fit.untraced none in record { due = was.due; stepping = was.stepping; suspended = was.suspended; pending = was.pending };
@@ -209,9 +202,7 @@ module _ (rows : Rows) (p : ProcData) (l : LwpData) (a : Acting rows p l) where
   -- a step is over
   pub stepped_acting : Acting (change_lwp l.tid (λ k. record k { stepping = false }) rows) p (record l { stepping = false })
   stepped_acting = acting_lwp rows p l a (λ k. record k { stepping = false }) (record {
-    tid = λ k. refl;
-    own = λ k. refl;
-    flags = λ k. refl;
+    same = λ k. (refl, refl, refl);
     waits = (lwp_stands rows p l a).waits;
     fit = stepless_fits p l;
   })

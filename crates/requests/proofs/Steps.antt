@@ -10,7 +10,7 @@ use Rattle.proc_table.specs.Seen.{seen_process}
 use Rattle.trace_stop.specs.Facts.{IsSound}
 use Rattle.trace_stop.proofs.Every.{and_right, All-filter, find_some}
 use Rattle.trace_stop.proofs.Settling.{disposed_sound}
-use Rattle.trace_stop.proofs.Ending.{own_rows}
+use Rattle.trace_stop.proofs.Passes.{own_rows}
 use Rattle.wait4.specs.declared.Options.{Options}
 use Rattle.wait4.specs.Collect.{reportable, candidates, is_child, fits, reported, rows_after, without_report}
 use Rattle.requests.specs.declared.Reply.{Reply}

@@ -19,7 +19,7 @@ use Rattle.trace_stop.specs.Facts.{IsLiveOf, Linked, IsSound}
 use Rattle.trace_stop.proofs.Every.{and_left, and_right, both, All-any, find_some, choose}
 use Rattle.trace_stop.proofs.Edited.{some_is, if_at}
 use Rattle.trace_stop.proofs.Changed.{found_number}
-use Rattle.trace_stop.proofs.Stopping.{one_row, own_lwps}
+use Rattle.trace_stop.proofs.Numbers.{one_row, own_lwps}
 use Rattle.trace_stop.proofs.Stops.{find_passes}
 use Rattle.trace_stop.proofs.Posts.{detach_sound}
 use Rattle.lwpinfo.specs.declared.LwpInfo.{LwpInfo}

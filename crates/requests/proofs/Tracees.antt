@@ -10,7 +10,7 @@ use Rattle.proc_table.specs.declared.ProcData.{ProcData}
 use Rattle.proc_table.specs.declared.State.{State}
 use Rattle.proc_table.specs.declared.State.TheVariants.{Run, Trace, Job, Zombie}
 use Rattle.proc_table.specs.Processes.{process_of, named_by, reporting, is_zombie_state}
-use Rattle.proc_table.specs.Rows.{Rows, change_process, change_lwp}
+use Rattle.proc_table.specs.Rows.{Rows, change_process, change_lwp, is_numbered}
 use Rattle.proc_table.specs.Edits.{map_lwps}
 use Rattle.proc_table.specs.Fresh.{lwp_count, lwp_count_of}
 use Rattle.proc_table.specs.Seen.{owns}
@@ -24,8 +24,9 @@ use Rattle.trace_stop.specs.declared.Settings.{Settings}
 use Rattle.trace_stop.specs.Stop.{resume}
 use Rattle.trace_stop.specs.Facts.{FitProcess, IsSound}
 use Rattle.trace_stop.specs.Reports.{IsStopped}
-use Rattle.trace_stop.proofs.Edited.{find_edit, count_edit}
-use Rattle.trace_stop.proofs.Changes.{edit_none}
+use Rattle.trace_stop.proofs.Edited.{count_edit}
+use Rattle.trace_stop.proofs.Changes.{changed_row}
+use Rattle.trace_stop.proofs.Edited.{edit_none}
 use Rattle.trace_stop.proofs.Stopped.{IsStopped-from}
 use Rattle.requests.specs.declared.Reply.{Reply}
 use Rattle.requests.specs.declared.Reply.TheVariants as reply
@@ -39,7 +40,7 @@ use Rattle.requests.proofs.Masks.{Tracee, OwnLwp, not_stepping_tracee, not_stepp
 
 pub process_changed : (n : ℕ) (f : ProcData → ProcData) (rows : Rows) (p : ProcData) → ((q : ProcData) → (f q).pid ≡ q.pid) → process_of n rows.processes ≡ Some p
     → process_of n (change_process n f rows).processes ≡ Some (if p.pid == n then f p else p)
-process_changed n f rows p same at = find_edit (λ q. q.pid == n) (λ q. Some (if q.pid == n then f q else q)) (λ q. choose (q.pid == n) (f q) q (λ r. (r.pid == n) ≡ (q.pid == n)) (λ e. ap (λ m. eqb m n) (same q)) (λ e. refl)) rows.processes p (if p.pid == n then f p else p) at refl
+process_changed n f rows p same at = changed_row n (is_numbered n) f rows.processes p same at
 
 pub row_changed : (n : ℕ) (f : ProcData → ProcData) (rows : Rows) (p : ProcData) → ((q : ProcData) → (f q).pid ≡ q.pid) → process_of n rows.processes ≡ Some p → IsRow (change_process n f rows) n
 row_changed n f rows p same at = found_row n (if p.pid == n then f p else p) (change_process n f rows).processes (process_changed n f rows p same at)

@@ -5,14 +5,7 @@ use Rattle.std.proofs.lemmas.Bool.{le-ltb, ltb-true}
 use Rattle.proc_table.specs.declared.ProcData.{ProcData}
 use Rattle.proc_table.specs.Kept.{AllAbove, Rise, AtHome}
 use Rattle.trace_stop.proofs.Every.{and_left}
-
-pub found_above : (t : ProcData → Bool) (n : ℕ) (ps : List ProcData) (p : ProcData) → AllAbove n ps → find t ps ≡ Some p → n < p.pid
-found_above t n [] p all is = absurd (grind (arith, is))
-found_above t n (q ∷ ps) p all is = by_head (t q) is (found_above t n ps p all.1)
-  where
-    by_head : (b : Bool) → cond b (Some q) (find t ps) ≡ Some p → (find t ps ≡ Some p → n < p.pid) → n < p.pid
-    by_head true h rest = let same : q ≡ p = grind (arith, h) in subst (λ r. n < r.pid) same all.0
-    by_head false h rest = rest h
+use Rattle.trace_stop.proofs.Passes.{found_above}
 
 -- Processes that pass a test
 module _ (t : ProcData → Bool) where

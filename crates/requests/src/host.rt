@@ -1,15 +1,13 @@
 //! A host, and the steps that it makes.
 
-ghost use Rattle.std.specs.Prelude.{◌≡◌, ◌≢◌, Some, true, IfOk, IfErr, option_map, slice_get};
-ghost use Rattle.pid_blocks.specs.declared.Errno.TheVariants as errno;
-ghost use Rattle.requests.specs.declared.Reply.TheVariants as reply;
+ghost use Rattle.std.specs.Prelude.{◌≡◌, true, IfOk, IfErr, option_map, slice_get};
+ghost use Rattle.pid_blocks.specs.Users.{IsUser};
 ghost use Rattle.requests.specs.declared.step.Step.TheVariants as op;
 ghost use Rattle.requests.specs.Callers.{Calls, Barred};
+ghost use Rattle.requests.specs.Hosts.{Steps};
 ghost use Rattle.requests.specs.Laws.{act_fits};
 ghost use Rattle.requests.specs.Machine.{empty, installed_by};
-ghost use Rattle.requests.specs.Memory.{is_refusal, may_want};
 ghost use Rattle.requests.specs.Sound.{sound};
-ghost use Rattle.requests.specs.Step.{step};
 
 use crate::calls::{sigaction, wait};
 use crate::commands::ptrace;
@@ -105,15 +103,9 @@ impl<F: Decider + Send + Drop> Host<F> {
 
     /// Makes a process of the user.
     fn spawn(&mut self, user: Uid) -> Reply
-        ensures machine { result ≢ reply.Errno errno.ENOMEM →
-            (self.new ≡ (step user op.Spawn self.old).machine) × (result ≡ (step user op.Spawn self.old).reply) }
-        ensures memory { result ≡ reply.Errno errno.ENOMEM →
-            (self.new ≡ self.old) × (may_want user op.Spawn self.old ≡ true) }
-        ensures refused { is_refusal result ≡ true → self.new ≡ self.old }
-        ensures sound { sound self.new ≡ true }
+        requires { IsUser user }
+        ensures { Steps user op.Spawn self.old self.new result }
     {
-        let _settings = self.settings;
-        let _user = user.get();
         let reply = spawn(&mut self.tables, user);
         self.handlers.drop_ended(user, &self.tables);
         reply
@@ -121,14 +113,9 @@ impl<F: Decider + Send + Drop> Host<F> {
 
     /// The turn of an LWP.
     fn turn(&mut self, user: Uid, tid: u32, act: Act) -> Reply
-        ensures machine { result ≢ reply.Errno errno.ENOMEM →
-            (self.new ≡ (step user (op.Turn tid act) self.old).machine) × (result ≡ (step user (op.Turn tid act) self.old).reply) }
-        ensures memory { result ≡ reply.Errno errno.ENOMEM →
-            (self.new ≡ self.old) × (may_want user (op.Turn tid act) self.old ≡ true) }
-        ensures refused { is_refusal result ≡ true → self.new ≡ self.old }
-        ensures sound { sound self.new ≡ true }
+        requires { IsUser user }
+        ensures { Steps user (op.Turn tid act) self.old self.new result }
     {
-        let _user = user.get();
         exit_fits(&act);
         let reply = turn(&mut self.tables, self.settings, user, tid, act);
         self.handlers.drop_ended(user, &self.tables);
@@ -155,19 +142,13 @@ impl<F: Decider + Send + Drop> Host<F> {
 
     /// Answers the user's processes to one that runs.
     fn list(&mut self, alloc: Global, user: Uid, caller: u32) -> Reply
-        ensures machine { result ≢ reply.Errno errno.ENOMEM →
-            (self.new ≡ (step user (op.List caller) self.old).machine) × (result ≡ (step user (op.List caller) self.old).reply) }
-        ensures memory { result ≡ reply.Errno errno.ENOMEM →
-            (self.new ≡ self.old) × (may_want user (op.List caller) self.old ≡ true) }
-        ensures refused { is_refusal result ≡ true → self.new ≡ self.old }
-        ensures sound { sound self.new ≡ true }
+        requires { IsUser user }
+        ensures { Steps user (op.List caller) self.old self.new result }
     {
-        let _user = user.get();
         let caller = match self.caller(user, caller) {
             Ok(caller) => caller,
             Err(refusal) => return refusal,
         };
-        let _pid = caller.pid;
         match pids_of(&self.tables, alloc, user) {
             Ok(pids) => Reply::Pids(pids),
             Err(_) => Reply::Errno(Errno::ENOMEM),
@@ -176,14 +157,9 @@ impl<F: Decider + Send + Drop> Host<F> {
 
     /// Changes what a signal does to the caller.
     fn sigaction(&mut self, user: Uid, caller: u32, sig: u32, disposition: Disposition) -> Reply
-        ensures machine { result ≢ reply.Errno errno.ENOMEM →
-            (self.new ≡ (step user (op.Sigaction caller sig disposition) self.old).machine) × (result ≡ (step user (op.Sigaction caller sig disposition) self.old).reply) }
-        ensures memory { result ≡ reply.Errno errno.ENOMEM →
-            (self.new ≡ self.old) × (may_want user (op.Sigaction caller sig disposition) self.old ≡ true) }
-        ensures refused { is_refusal result ≡ true → self.new ≡ self.old }
-        ensures sound { sound self.new ≡ true }
+        requires { IsUser user }
+        ensures { Steps user (op.Sigaction caller sig disposition) self.old self.new result }
     {
-        let _user = user.get();
         let caller = match self.caller(user, caller) {
             Ok(caller) => caller,
             Err(refusal) => return refusal,
@@ -195,14 +171,9 @@ impl<F: Decider + Send + Drop> Host<F> {
 
     /// Sends a signal.
     fn kill(&mut self, user: Uid, caller: u32, which: i64, sig: u32) -> Reply
-        ensures machine { result ≢ reply.Errno errno.ENOMEM →
-            (self.new ≡ (step user (op.Kill caller which sig) self.old).machine) × (result ≡ (step user (op.Kill caller which sig) self.old).reply) }
-        ensures memory { result ≡ reply.Errno errno.ENOMEM →
-            (self.new ≡ self.old) × (may_want user (op.Kill caller which sig) self.old ≡ true) }
-        ensures refused { is_refusal result ≡ true → self.new ≡ self.old }
-        ensures sound { sound self.new ≡ true }
+        requires { IsUser user }
+        ensures { Steps user (op.Kill caller which sig) self.old self.new result }
     {
-        let _user = user.get();
         let caller = match self.caller(user, caller) {
             Ok(caller) => caller,
             Err(refusal) => return refusal,
@@ -221,14 +192,9 @@ impl<F: Decider + Send + Drop> Host<F> {
 
     /// Collects what a child reports.
     fn wait(&mut self, user: Uid, caller: u32, which: i64, options: Options) -> Reply
-        ensures machine { result ≢ reply.Errno errno.ENOMEM →
-            (self.new ≡ (step user (op.Wait4 caller which options) self.old).machine) × (result ≡ (step user (op.Wait4 caller which options) self.old).reply) }
-        ensures memory { result ≡ reply.Errno errno.ENOMEM →
-            (self.new ≡ self.old) × (may_want user (op.Wait4 caller which options) self.old ≡ true) }
-        ensures refused { is_refusal result ≡ true → self.new ≡ self.old }
-        ensures sound { sound self.new ≡ true }
+        requires { IsUser user }
+        ensures { Steps user (op.Wait4 caller which options) self.old self.new result }
     {
-        let _user = user.get();
         let caller = match self.caller(user, caller) {
             Ok(caller) => caller,
             Err(refusal) => return refusal,
@@ -248,14 +214,9 @@ impl<F: Decider + Send + Drop> Host<F> {
         target: u32,
         data: u32,
     ) -> Reply
-        ensures machine { result ≢ reply.Errno errno.ENOMEM →
-            (self.new ≡ (step user (op.Ptrace caller request target «data») self.old).machine) × (result ≡ (step user (op.Ptrace caller request target «data») self.old).reply) }
-        ensures memory { result ≡ reply.Errno errno.ENOMEM →
-            (self.new ≡ self.old) × (may_want user (op.Ptrace caller request target «data») self.old ≡ true) }
-        ensures refused { is_refusal result ≡ true → self.new ≡ self.old }
-        ensures sound { sound self.new ≡ true }
+        requires { IsUser user }
+        ensures { Steps user (op.Ptrace caller request target «data») self.old self.new result }
     {
-        let _user = user.get();
         let caller = match self.caller(user, caller) {
             Ok(caller) => caller,
             Err(refusal) => return refusal,
@@ -276,14 +237,9 @@ impl<F: Decider + Send + Drop> Host<F> {
 
     /// Installs a handler.
     fn install(&mut self, user: Uid, caller: u32, handler: Handler<F>) -> Reply
-        ensures machine { result ≢ reply.Errno errno.ENOMEM →
-            (self.new ≡ (step user (op.Install caller handler) self.old).machine) × (result ≡ (step user (op.Install caller handler) self.old).reply) }
-        ensures memory { result ≡ reply.Errno errno.ENOMEM →
-            (self.new ≡ self.old) × (may_want user (op.Install caller handler) self.old ≡ true) }
-        ensures refused { is_refusal result ≡ true → self.new ≡ self.old }
-        ensures sound { sound self.new ≡ true }
+        requires { IsUser user }
+        ensures { Steps user (op.Install caller handler) self.old self.new result }
     {
-        let _user = user.get();
         let caller = match self.caller(user, caller) {
             Ok(caller) => caller,
             Err(refusal) => return refusal,
@@ -299,14 +255,9 @@ impl<F: Decider + Send + Drop> Host<F> {
 
     /// Collects what a child reports, and asks the caller's handlers about a trace stop.
     fn handle(&mut self, user: Uid, caller: u32) -> Reply
-        ensures machine { result ≢ reply.Errno errno.ENOMEM →
-            (self.new ≡ (step user (op.Handle caller) self.old).machine) × (result ≡ (step user (op.Handle caller) self.old).reply) }
-        ensures memory { result ≡ reply.Errno errno.ENOMEM →
-            (self.new ≡ self.old) × (may_want user (op.Handle caller) self.old ≡ true) }
-        ensures refused { is_refusal result ≡ true → self.new ≡ self.old }
-        ensures sound { sound self.new ≡ true }
+        requires { IsUser user }
+        ensures { Steps user (op.Handle caller) self.old self.new result }
     {
-        let _user = user.get();
         let caller = match self.caller(user, caller) {
             Ok(caller) => caller,
             Err(refusal) => return refusal,
@@ -325,13 +276,9 @@ impl<F: Decider + Send + Drop> Host<F> {
     /// Makes a step of the user. Refused as the manual page of its call says, and with ENOMEM where memory runs out;
     /// a step that is refused changes nothing.
     pub fn step(&mut self, alloc: Global, user: Uid, asked: Step<Handler<F>>) -> Reply
-        ensures machine { result ≢ reply.Errno errno.ENOMEM →
-            (self.new ≡ (step user asked self.old).machine) × (result ≡ (step user asked self.old).reply) }
-        ensures memory { result ≡ reply.Errno errno.ENOMEM →
-            (self.new ≡ self.old) × (may_want user asked self.old ≡ true) }
-        ensures refused { is_refusal result ≡ true → self.new ≡ self.old }
-        ensures sound { sound self.new ≡ true }
+        ensures { Steps user asked self.old self.new result }
     {
+        let _user = user.get();
         match asked {
             Step::Spawn => self.spawn(user),
             Step::List { caller } => self.list(alloc, user, caller),

@@ -1,12 +1,11 @@
 -- The lines of one user, and the lines grouped by user.
 use Rattle.std.proofs.Common.{◌≡◌, ◌≢◌, ◌⊎◌, ℕ, ◌+◌, ◌<◌, ◌≤◌, ◌==◌, Bool, true, false, cond, zero, suc, List, [], ◌∷◌, ◌++◌, map, Option, Some, None, eqb-true, if◌then◌else◌, refl, sym, ap, ap₂, ◌∙◌, inl, inr, arith}
-use Rattle.std.specs.List.{concat}
+use Rattle.std.specs.List.{concat, AllByRecursion}
 use Rattle.std.proofs.lemmas.List.{append_assoc, append-nil}
 use Rattle.std.proofs.lemmas.List.Elements.{filter-append}
 use Rattle.std.proofs.lemmas.Bool.{cases_lt}
 use Rattle.std.proofs.lemmas.Bool.Decides.{nat_tests}
-use Rattle.user_rows.specs.Closed.{Every}
-use Rattle.user_rows.proofs.ViewLists.{Every-filter, every, filter-all, filter-none}
+use Rattle.user_rows.proofs.ViewLists.{All-where, every, filter-all, filter-none}
 use Rattle.pid_blocks.specs.Blocks.{rising, users}
 use Rattle.pid_blocks.specs.Users.{IsUser}
 use Rattle.requests.specs.declared.Reply.{Reply}
@@ -95,12 +94,12 @@ grouped_text answers = grouped_from 64 1001 [] answers (λ w above. refl)
 own_again : (u : ℕ) (answers : List Answered) → answers_by u (answers_by u answers) ≡ answers_by u answers
 own_again u answers =
     filter-all (λ a. a.uid == u) (λ a. (a.uid == u) ≡ true) (λ a is. is) (answers_by u answers)
-    (Every-filter (λ a. a.uid == u) (λ a. Unit {0}) (λ a. (a.uid == u) ≡ true) (λ a t is. is) answers (every answers))
+    (All-where (λ a. a.uid == u) (λ a. Unit {0}) (λ a. (a.uid == u) ≡ true) (λ a t is. is) answers (every answers))
 
 none_of_others : (u w : ℕ) (answers : List Answered) → u ≢ w → answers_by u (answers_by w answers) ≡ []
 none_of_others u w answers differ =
     filter-none (λ a. a.uid == u) (λ a. a.uid ≡ w) (λ a same. grind (arith, nat_tests)) (answers_by w answers)
-    (Every-filter (λ a. a.uid == w) (λ a. Unit {0}) (λ a. a.uid ≡ w) (λ a t is. eqb-true a.uid w is) answers (every answers))
+    (All-where (λ a. a.uid == w) (λ a. Unit {0}) (λ a. a.uid ≡ w) (λ a t is. eqb-true a.uid w is) answers (every answers))
 
 none_outside : (n m u : ℕ) (answers : List Answered) → (u < m) ⊎ (m + n ≤ u) → answers_by u (by_users (rising n m) answers) ≡ []
 none_outside zero m u answers outside = refl
@@ -133,7 +132,7 @@ own_among (suc n) m u answers above below =
 
 -- where all answers are users', each one's are those among all users'
 abbrev pub ToUsers : List Answered → Type 0
-ToUsers answers = Every (λ a. IsUser a.uid) answers
+ToUsers answers = AllByRecursion (λ a. IsUser a.uid) answers
 
 no_user : (u : ℕ) (answers : List Answered) → ToUsers answers → (u < 1001) ⊎ (1001 + 64 ≤ u) → answers_by u answers ≡ []
 no_user u answers known (inl below) = filter-none (λ a. a.uid == u) (λ a. IsUser a.uid) (λ a user. grind (arith, nat_tests)) answers known

@@ -1,6 +1,6 @@
 -- Scripts of users: in rising order, each with its user's steps.
 use Rattle.std.proofs.Common.{◌≡◌, ℕ, zero, suc, ◌+◌, ◌<◌, ◌≤◌, ◌==◌, Bool, true, false, cond, List, [], ◌∷◌, ◌++◌, length, get_or, map, filter, inl, inr, refl, sym, ap, ap₂, ◌∙◌, eqb-true, arith}
-use Rattle.std.specs.List.{flat_map}
+use Rattle.std.specs.List.{flat_map, AllByRecursion}
 use Rattle.std.proofs.lemmas.Bool.{cases_lt}
 use Rattle.std.proofs.lemmas.List.{length-map}
 use Rattle.std.proofs.lemmas.List.Sums.{length-filter, count_by-le-length}
@@ -8,8 +8,7 @@ use Rattle.pid_blocks.specs.Blocks.{rising, users}
 use Rattle.pid_blocks.specs.Users.{IsUser}
 use Rattle.requests.specs.Plain.{PlainStep}
 use Rattle.requests.specs.Run.{Asked, asked_by}
-use Rattle.user_rows.specs.Closed.{Every}
-use Rattle.user_rows.proofs.ViewLists.{Every-filter, Every-map}
+use Rattle.user_rows.proofs.ViewLists.{All-where, All-map}
 use Rattle.scenario.specs.Lines.{Answered}
 use Rattle.scenario.specs.Runs.{answers_by, by_users}
 use Rattle.scenario.specs.Scripts.{steps_of, has_steps, scripts_in}
@@ -83,14 +82,14 @@ few_steps u list =
     let same = length-map (asked_by u list) (λ (a : Asked). a.step) in
     omega arith
 
-all_users : (n m : ℕ) → 1001 ≤ m → m + n ≤ 1065 → Every IsUser (rising n m)
+all_users : (n m : ℕ) → 1001 ≤ m → m + n ≤ 1065 → AllByRecursion IsUser (rising n m)
 all_users zero m low high = tt
 all_users (suc n) m low high = ((omega arith, omega arith), all_users n (m + 1) (omega arith) (omega arith))
 
-pub are_scripts : (list : List Asked) → Every (IsScript list) (scripts_in list)
+pub are_scripts : (list : List Asked) → AllByRecursion (IsScript list) (scripts_in list)
 are_scripts list =
-    Every-filter has_steps (IsScript list) (IsScript list) (λ s is has. is) (map (script_of list) users)
-    (Every-map (script_of list) IsUser (IsScript list) (λ u user. record { user = user; steps = own_steps u list; short = few_steps u list }) users (all_users 64 1001 (omega arith) (omega arith)))
+    All-where has_steps (IsScript list) (IsScript list) (λ s is has. is) (map (script_of list) users)
+    (All-map (script_of list) IsUser (IsScript list) (λ u user. record { user = user; steps = own_steps u list; short = few_steps u list }) users (all_users 64 1001 (omega arith) (omega arith)))
 
 pub few_scripts : (list : List Asked) → length (scripts_in list) ≤ 64
 few_scripts list =

@@ -1,5 +1,6 @@
 -- The transcripts of a run by sessions are the machine's answers, one user after another.
 use Rattle.std.proofs.Common.{◌≡◌, ℕ, suc, ◌<◌, ◌==◌, Bool, true, false, cond, if◌then◌else◌, List, [], ◌∷◌, ◌++◌, length, get_or, map, refl, sym, subst, ap, ap₂, ◌∙◌, eqb-true, arith}
+use Rattle.std.specs.Prelude.{All}
 use Rattle.std.specs.List.{flat_map, AllByRecursion}
 use Rattle.std.proofs.lemmas.Bool.{eq-eqb}
 use Rattle.std.proofs.lemmas.List.{get_or-map}
@@ -12,8 +13,7 @@ use Rattle.requests.specs.Machine.{empty}
 use Rattle.requests.specs.Memory.{is_memory}
 use Rattle.requests.specs.Run.{Asked, asked_by, replies}
 use Rattle.requests.specs.View.{alone}
-use Rattle.user_rows.specs.Closed.{Every}
-use Rattle.user_rows.proofs.ViewLists.{Every-both, filter_same}
+use Rattle.user_rows.proofs.ViewLists.{filter_same}
 use Rattle.host_lock.specs.declared.journal.Entry.{Entry}
 use Rattle.host_lock.specs.Journal.{entry, asked, entries_of}
 use Rattle.sessions.specs.Made.{made}
@@ -23,6 +23,7 @@ use Rattle.scenario.specs.Runs.{answers_by, by_users, answers_of}
 use Rattle.scenario.specs.Scripts.{scripts_in}
 use Rattle.scenario.proofs.GroupLemmas.{told_to, own_answers, alone_answers}
 use Rattle.scenario.proofs.ScriptLemmas.{IsScript, RisingFrom, are_scripts, one_script, rising_scripts, scripts_answers, user_at}
+use Rattle.trace_stop.proofs.Every.{All-both}
 
 -- what the k-th script's replies say of the journal
 abbrev pub IsPlayed : List Entry → ℕ → ℕ × List PlainStep → ℕ × List Reply → Type 0
@@ -35,12 +36,12 @@ abbrev pub IsReply : Reply → Type 0
 IsReply r = is_memory r ≡ false
 
 -- a script's entries have its user, and without want of memory all its steps and replies
-made_by : (u n : ℕ) (ss : List PlainStep) (rs : List Reply) → Every (λ e. e.uid ≡ u) (made u n ss rs)
+made_by : (u n : ℕ) (ss : List PlainStep) (rs : List Reply) → AllByRecursion (λ e. e.uid ≡ u) (made u n ss rs)
 made_by u n [] rs = tt
 made_by u n (s ∷ ss) [] = tt
 made_by u n (s ∷ ss) (r ∷ rs) = kept (is_memory r) (made_by u n ss rs)
   where
-    kept : (b : Bool) → Every (λ e. e.uid ≡ u) (made u n ss rs) → Every (λ e. e.uid ≡ u) (if b then made u n ss rs else entry u n s r ∷ made u n ss rs)
+    kept : (b : Bool) → AllByRecursion (λ e. e.uid ≡ u) (made u n ss rs) → AllByRecursion (λ e. e.uid ≡ u) (if b then made u n ss rs else entry u n s r ∷ made u n ss rs)
     kept true rest = rest
     kept false rest = (refl, rest)
 
@@ -61,29 +62,29 @@ made_steps u n (s ∷ ss) (r ∷ rs) told same =
 
 -- each entry's user is that of its script
 abbrev pub FromScripts : List Entry → List (ℕ × List PlainStep) → Type 0
-FromScripts log ss = Every (λ e. e.uid ≡ user_at ss e.session) log
+FromScripts log ss = AllByRecursion (λ e. e.uid ≡ user_at ss e.session) log
 
-later_entries : (P : Entry → Type 0) (e : Entry) (rest : List Entry) (b : Bool) → Every P (cond b (e ∷ rest) rest) → Every P rest
+later_entries : (P : Entry → Type 0) (e : Entry) (rest : List Entry) (b : Bool) → AllByRecursion P (cond b (e ∷ rest) rest) → AllByRecursion P rest
 later_entries P e rest true all = all.1
 later_entries P e rest false all = all
 
-from_each : (ss : List (ℕ × List PlainStep)) (log : List Entry) → ((j : ℕ) → j < length ss → Every (λ e. e.uid ≡ user_at ss j) (entries_of j log))
-    → Every (λ e. e.session < length ss) log → FromScripts log ss
+from_each : (ss : List (ℕ × List PlainStep)) (log : List Entry) → ((j : ℕ) → j < length ss → AllByRecursion (λ e. e.uid ≡ user_at ss j) (entries_of j log))
+    → AllByRecursion (λ e. e.session < length ss) log → FromScripts log ss
 from_each ss [] own below = tt
 from_each ss (e ∷ rest) own below =
-    let here : Every (λ x. x.uid ≡ user_at ss e.session) (e ∷ entries_of e.session rest) =
-    subst (λ b. Every (λ x. x.uid ≡ user_at ss e.session) (cond b (e ∷ entries_of e.session rest) (entries_of e.session rest))) (eq-eqb e.session e.session refl) (own e.session below.0) in
+    let here : AllByRecursion (λ x. x.uid ≡ user_at ss e.session) (e ∷ entries_of e.session rest) =
+    subst (λ b. AllByRecursion (λ x. x.uid ≡ user_at ss e.session) (cond b (e ∷ entries_of e.session rest) (entries_of e.session rest))) (eq-eqb e.session e.session refl) (own e.session below.0) in
     (here.0, from_each ss rest (λ j h. later_entries (λ x. x.uid ≡ user_at ss j) e (entries_of j rest) (e.session == j) (own j h)) below.1)
 
-from_scripts : (log : List Entry) (ss : List (ℕ × List PlainStep)) (ts : List (ℕ × List Reply)) → ArePlayed log ss ts → Every (λ e. e.session < length ss) log → FromScripts log ss
+from_scripts : (log : List Entry) (ss : List (ℕ × List PlainStep)) (ts : List (ℕ × List Reply)) → ArePlayed log ss ts → AllByRecursion (λ e. e.session < length ss) log → FromScripts log ss
 from_scripts log ss ts played below = from_each ss log own below
   where
-    own : (j : ℕ) → j < length ss → Every (λ e. e.uid ≡ user_at ss j) (entries_of j log)
+    own : (j : ℕ) → j < length ss → AllByRecursion (λ e. e.uid ≡ user_at ss j) (entries_of j log)
     own j h =
         let here = played j (0, []) (0, []) h in
         let user = get_or-map (λ (s : ℕ × List PlainStep). s.0) ss j (0, []) 0 h in
-        subst (λ es. Every (λ e. e.uid ≡ user_at ss j) es) (sym here.2)
-        (subst (λ u. Every (λ e. e.uid ≡ u) (made (get_or ss j (0, [])).0 j (get_or ss j (0, [])).1 (get_or ts j (0, [])).1)) (sym user)
+        subst (λ es. AllByRecursion (λ e. e.uid ≡ user_at ss j) es) (sym here.2)
+        (subst (λ u. AllByRecursion (λ e. e.uid ≡ u) (made (get_or ss j (0, [])).0 j (get_or ss j (0, [])).1 (get_or ts j (0, [])).1)) (sym user)
         (made_by (get_or ss j (0, [])).0 j (get_or ss j (0, [])).1 (get_or ts j (0, [])).1))
 
 -- so the entries of a script's user are the script's
@@ -99,16 +100,16 @@ same_test m ss k rises h e from false is = other (e.uid == user_at ss k) refl
         let one : e.session ≡ k = one_script m ss e.session k rises from.1 h (sym from.0 ∙ eqb-true e.uid (user_at ss k) same) in
         sym (eq-eqb e.session k one) ∙ is
 
-own_entries : (m : ℕ) (log : List Entry) (ss : List (ℕ × List PlainStep)) (k : ℕ) → RisingFrom m ss → k < length ss → FromScripts log ss → Every (λ e. e.session < length ss) log
+own_entries : (m : ℕ) (log : List Entry) (ss : List (ℕ × List PlainStep)) (k : ℕ) → RisingFrom m ss → k < length ss → FromScripts log ss → AllByRecursion (λ e. e.session < length ss) log
     → entries_by (user_at ss k) log ≡ entries_of k log
 own_entries m log ss k rises h from below =
     filter_same (λ e. e.uid == user_at ss k) (λ e. e.session == k) (λ e. (e.uid ≡ user_at ss e.session) × (e.session < length ss))
-    (λ e is. same_test m ss k rises h e is (e.session == k) refl) log (Every-both (λ e. e.uid ≡ user_at ss e.session) (λ e. e.session < length ss) log from below)
+    (λ e is. same_test m ss k rises h e is (e.session == k) refl) log (All-both (λ e. e.uid ≡ user_at ss e.session) (λ e. e.session < length ss) log from below)
 
 -- what is known of a run's journal and transcripts
 pub record RanBySessions (plan : Plan) (log : List Entry) (ts : List (ℕ × List Reply)) : Type 0 where
   pub users : Users plan.steps
-  pub below : Every (λ e. e.session < length (scripts_in plan.steps)) log
+  pub below : AllByRecursion (λ e. e.session < length (scripts_in plan.steps)) log
   pub long : length ts ≡ length (scripts_in plan.steps)
   pub played : ArePlayed log (scripts_in plan.steps) ts
   pub own : OwnEntries (empty plan.settings) log

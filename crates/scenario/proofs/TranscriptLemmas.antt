@@ -8,8 +8,6 @@ use Rattle.pid_blocks.specs.Blocks.{users}
 use Rattle.requests.specs.declared.Reply.{Reply}
 use Rattle.requests.specs.Isolation.{Users}
 use Rattle.requests.specs.Machine.{empty}
-use Rattle.user_rows.specs.Closed.{Every}
-use Rattle.user_rows.proofs.ViewLists.{Every-imply}
 use Rattle.host_lock.specs.declared.journal.Entry.{Entry}
 use Rattle.host_lock.specs.Sessions.{IsBelow}
 use Rattle.sessions.specs.declared.script.Script.{Script}
@@ -21,6 +19,7 @@ use Rattle.scenario.specs.Scripts.{plain_script, scripts_in, told_by, IsMade}
 use Rattle.scenario.proofs.ScriptLemmas.{IsScript, are_scripts, few_scripts}
 use Rattle.scenario.proofs.SessionLemmas.{IsReply, IsPlayed, ArePlayed, told_by_users}
 use Rattle.scenario.proofs.GroupLemmas.{told_to}
+use Rattle.trace_stop.proofs.Every.{All-imply}
 
 abbrev pub plain_transcript : Transcript → ℕ × List Reply
 plain_transcript t = (t.uid, t.replies.items)
@@ -53,7 +52,7 @@ told_in_all {F} plan log ss ts n scripts count all below plays own made =
     let long : length ss ≡ length (scripts_in plan.steps) = sym (length-map ss (plain_script {F = F})) ∙ ap length scripts in
     told_plain ts ∙ told_by_users plan log (map plain_transcript ts) (record {
       users = all;
-      below = subst (λ k. Every (λ e. e.session < k) log) (count ∙ long) (recursion_from_All (IsBelow n) log below);
+      below = subst (λ k. AllByRecursion (λ e. e.session < k) log) (count ∙ long) (recursion_from_All (IsBelow n) log below);
       long = length-map ts plain_transcript ∙ plays.0 ∙ long;
       played = subst (λ ps. ArePlayed log ps (map plain_transcript ts)) scripts (played log ss ts plays);
       own = own;
@@ -64,7 +63,7 @@ told_in_all {F} plan log ss ts n scripts count all below plays own made =
 pub few : {F : Type 0} (ss : List (Script F)) (plan : Plan) → map plain_script ss ≡ scripts_in plan.steps → length ss ≤ 64
 few {F} ss plan scripts = let long : length ss ≡ length (scripts_in plan.steps) = sym (length-map ss (plain_script {F = F})) ∙ ap length scripts in subst (λ n. n ≤ 64) (sym long) (few_scripts plan.steps)
 
-short_scripts : {F : Type 0} (most : ℕ) (ss : List (Script F)) → Every (λ p. length p.1 ≤ most) (map plain_script ss) → most ≤ 4294967295 → Every IsShort ss
+short_scripts : {F : Type 0} (most : ℕ) (ss : List (Script F)) → AllByRecursion (λ p. length p.1 ≤ most) (map plain_script ss) → most ≤ 4294967295 → AllByRecursion IsShort ss
 short_scripts most [] all small = tt
 short_scripts {F} most (s ∷ rest) all small =
     let count = s.steps.ok.0 in
@@ -73,5 +72,5 @@ short_scripts {F} most (s ∷ rest) all small =
 
 pub are_short : {F : Type 0} (ss : List (Script F)) (plan : Plan) → map plain_script ss ≡ scripts_in plan.steps → length plan.steps ≤ most_steps → All IsShort ss
 are_short {F} ss plan scripts small = All-from_recursion IsShort ss (short_scripts (length plan.steps) ss
-    (subst (Every (λ p. length p.1 ≤ length plan.steps)) (sym scripts) (Every-imply (IsScript plan.steps) (λ p. length p.1 ≤ length plan.steps) (λ p is. is.short) (scripts_in plan.steps) (are_scripts plan.steps)))
+    (subst (AllByRecursion (λ p. length p.1 ≤ length plan.steps)) (sym scripts) (All-imply (IsScript plan.steps) (λ p. length p.1 ≤ length plan.steps) (λ p is. is.short) (scripts_in plan.steps) (are_scripts plan.steps)))
     (omega arith))

@@ -10,15 +10,16 @@ use Rattle.host_lock.specs.Journal.{entries_of}
 use Rattle.host_lock.specs.Answers.{GivesBack}
 use Rattle.host_lock.specs.declared.host.CloseRefusal.{CloseRefusal}
 use Rattle.host_lock.specs.declared.host.CloseRefusal.TheVariants.{Missing}
+use Rattle.host_lock.specs.Limits.{most_calls}
 use Rattle.host_lock.specs.Rule.{Each}
 use Rattle.host_lock.proofs.Totals.{all_of, each_of}
-use Rattle.host_lock.specs.Sessions.{SessionData, HostData, IsOf, Stands, newborn, newborns}
+use Rattle.host_lock.specs.Sessions.{SessionData, HostData, IsOf, Stands, new_session, new_sessions}
 use Rattle.sessions.specs.declared.job.Job.{Job}
 use Rattle.sessions.specs.declared.job.Done.{Done}
 use Rattle.sessions.specs.declared.script.Script.{Script}
 use Rattle.sessions.specs.declared.script.Transcript.{Transcript}
 use Rattle.sessions.specs.Made.{Did, Pairs}
-use Rattle.sessions.specs.Jobs.{IsReady, HasRoom, job_session, job_steps, done_session, done_transcript}
+use Rattle.sessions.specs.Jobs.{AllDone, IsReady, HasRoom, job_session, job_steps, done_session, done_transcript}
 use Rattle.sessions.specs.Runs.{IsShort, Plays, AllPlay, uid_of, steps_of}
 
 pub each_snoc : {A : Type 0} (P : A → Type 0) (xs : List A) (x : A) → Each P xs → P x → Each P (xs ++ x ∷ [])
@@ -45,14 +46,14 @@ pairs_length R (x ∷ xs) (y ∷ ys) p = let r = pairs_length R xs ys p.1 in ome
 pub not_missing : {F : Type 0} (h : HostData) (ss : List SessionData) (r : CloseRefusal F) → GivesBack h ss r → h.sessions ≤ length ss → ⊥
 not_missing h ss (Missing host sessions) back all = absurd (omega (arith, back.2))
 
-pub newborns_length : (n : ℕ) (z : TableId) (h : Machine) (us : List ℕ) → length (newborns n z h us) ≡ length us
-newborns_length n z h [] = refl
-newborns_length n z h (u ∷ us) = let r = newborns_length (n + 1) z h us in omega arith
+pub new_sessions_length : (n : ℕ) (z : TableId) (h : Machine) (us : List ℕ) → length (new_sessions n z h us) ≡ length us
+new_sessions_length n z h [] = refl
+new_sessions_length n z h (u ∷ us) = let r = new_sessions_length (n + 1) z h us in omega arith
 
-pub newborn_at : (n : ℕ) (z : TableId) (h : Machine) (us : List ℕ) (k : ℕ) (s : SessionData) (u : ℕ) → k < length us → slice_index_or (newborns n z h us) k s ≡ newborn (slice_index_or us k u) (n + k) z h
-newborn_at n z h [] k s u lt = absurd (omega arith)
-newborn_at n z h (v ∷ us) zero s u lt = let e : n ≡ n + 0 = omega arith in ap (λ m. newborn v m z h) e
-newborn_at n z h (v ∷ us) (suc k) s u lt = let e : n + 1 + k ≡ n + suc k = omega arith in newborn_at (n + 1) z h us k s u (omega arith) ∙ ap (λ m. newborn (slice_index_or us k u) m z h) e
+pub new_session_at : (n : ℕ) (z : TableId) (h : Machine) (us : List ℕ) (k : ℕ) (s : SessionData) (u : ℕ) → k < length us → slice_index_or (new_sessions n z h us) k s ≡ new_session (slice_index_or us k u) (n + k) z h
+new_session_at n z h [] k s u lt = absurd (omega arith)
+new_session_at n z h (v ∷ us) zero s u lt = let e : n ≡ n + 0 = omega arith in ap (λ m. new_session v m z h) e
+new_session_at n z h (v ∷ us) (suc k) s u lt = let e : n + 1 + k ≡ n + suc k = omega arith in new_session_at (n + 1) z h us k s u (omega arith) ∙ ap (λ m. new_session (slice_index_or us k u) m z h) e
 
 pub length_map : {A B : Type 0} (f : A → B) (xs : List A) → length (map f xs) ≡ length xs
 length_map f [] = refl
@@ -61,18 +62,18 @@ length_map f (x ∷ xs) = ap suc (length_map f xs)
 module _ {F : Type 0} (h : Machine) (z : TableId) where
   -- what is known of the jobs that were made of the scripts
   abbrev pub Prepared : List (Script F) → List (Job F) → Type 0
-  Prepared ss js = (map job_session js ≡ newborns 0 z h (map uid_of ss)) × (map job_steps js ≡ map steps_of ss) × Each HasRoom js
+  Prepared ss js = (map job_session js ≡ new_sessions 0 z h (map uid_of ss)) × (map job_steps js ≡ map steps_of ss) × Each HasRoom js
 
   pub jobs_length : (ss : List (Script F)) (js : List (Job F)) → Prepared ss js → length js ≡ length ss
   jobs_length ss js p = sym (length_map job_steps js) ∙ ap length p.1 ∙ length_map steps_of ss
 
-  pub session_at : (ss : List (Script F)) (js : List (Job F)) → Prepared ss js → (k : ℕ) (s : Script F) (j : Job F) → k < length ss → (slice_index_or js k j).session ≡ newborn (slice_index_or ss k s).uid k z h
+  pub session_at : (ss : List (Script F)) (js : List (Job F)) → Prepared ss js → (k : ℕ) (s : Script F) (j : Job F) → k < length ss → (slice_index_or js k j).session ≡ new_session (slice_index_or ss k s).uid k z h
   session_at ss js p k s j lt =
       let len = jobs_length ss js p in
       let us = length_map uid_of ss in
       let zero_more : 0 + k ≡ k = omega arith in
-      sym (get_or-map job_session js k j j.session (omega arith)) ∙ ap (λ l. slice_index_or l k j.session) p.0 ∙ newborn_at 0 z h (map uid_of ss) k j.session s.uid (omega arith)
-      ∙ ap (λ m. newborn (slice_index_or (map uid_of ss) k s.uid) m z h) zero_more ∙ ap (λ u. newborn u k z h) (get_or-map uid_of ss k s s.uid lt)
+      sym (get_or-map job_session js k j j.session (omega arith)) ∙ ap (λ l. slice_index_or l k j.session) p.0 ∙ new_session_at 0 z h (map uid_of ss) k j.session s.uid (omega arith)
+      ∙ ap (λ m. new_session (slice_index_or (map uid_of ss) k s.uid) m z h) zero_more ∙ ap (λ u. new_session u k z h) (get_or-map uid_of ss k s s.uid lt)
 
   pub steps_at : (ss : List (Script F)) (js : List (Job F)) → Prepared ss js → (k : ℕ) (s : Script F) (j : Job F) → k < length ss → (slice_index_or js k j).steps ≡ (slice_index_or ss k s).steps
   steps_at ss js p k s j lt =
@@ -87,44 +88,38 @@ module _ {F : Type 0} (h : Machine) (z : TableId) where
       let same = steps_at ss js p k (record { uid = 0; steps = j.steps }) j (omega arith) in
       let new = session_at ss js p k (record { uid = 0; steps = j.steps }) j (omega arith) in
       let room = all_of HasRoom js p.2 k j lt in
-      let few : vec_len (slice_index_or js k j).steps ≤ 4294967295 = subst (λ (v : Vec PlainStep Global). vec_len v ≤ 4294967295) (sym same) (short k (record { uid = 0; steps = j.steps }) (omega arith)) in (
+      let few : vec_len (slice_index_or js k j).steps ≤ most_calls = subst (λ (v : Vec PlainStep Global). vec_len v ≤ most_calls) (sym same) (short k (record { uid = 0; steps = j.steps }) (omega arith)) in (
         (ap (λ (x : SessionData). x.host) new ∙ sym id, ap (λ (x : SessionData). x.start) new ∙ sym start),
         ap (λ (x : SessionData). x.calls) new,
         ap (λ (x : SessionData). x.mine) new,
         few,
-        room.0,
-        room.1,
-        room.2,
+        room,
       ))
 
-  -- what the workers did
-  abbrev pub Ran : List (Job F) → List Done → Type 0
-  Ran js ds = Pairs (λ j d. Did j.session (map plain j.steps.items) d.replies.items d.session) js ds
-
-  pub done_at : (ss : List (Script F)) (js : List (Job F)) (ds : List Done) → Prepared ss js → Ran js ds → (k : ℕ) (s : Script F) (d : Done) → k < length ss
-      → Did (newborn (slice_index_or ss k s).uid k z h) (map plain (slice_index_or ss k s).steps.items) (slice_index_or ds k d).replies.items (slice_index_or ds k d).session
+  pub done_at : (ss : List (Script F)) (js : List (Job F)) (ds : List Done) → Prepared ss js → AllDone js ds → (k : ℕ) (s : Script F) (d : Done) → k < length ss
+      → Did (new_session (slice_index_or ss k s).uid k z h) (slice_index_or ss k s).steps.items (slice_index_or ds k d).replies.items (slice_index_or ds k d).session
   done_at ss js ds p r k s d lt =
       let len = jobs_length ss js p in
       let j : Job F = record { session = d.session; steps = s.steps; replies = d.replies } in
-      let did = pairs_at (λ j d. Did j.session (map plain j.steps.items) d.replies.items d.session) js ds r k j d (omega arith) in
-      let P : SessionData × Vec PlainStep Global → Type 0 = λ w. Did w.0 (map plain w.1.items) (slice_index_or ds k d).replies.items (slice_index_or ds k d).session in
+      let did = pairs_at (λ j d. Did j.session j.steps.items d.replies.items d.session) js ds r k j d (omega arith) in
+      let P : SessionData × Vec PlainStep Global → Type 0 = λ w. Did w.0 w.1.items (slice_index_or ds k d).replies.items (slice_index_or ds k d).session in
       subst P (λ i. (session_at ss js p k s j lt i, steps_at ss js p k s j lt i)) did
 
   -- the sessions are still of this host
-  pub of_host : (e : HostData) (js : List (Job F)) (ds : List Done) → Each (IsReady e) js → Ran js ds → Each (IsOf e) (map done_session ds)
+  pub of_host : (e : HostData) (js : List (Job F)) (ds : List Done) → Each (IsReady e) js → AllDone js ds → Each (IsOf e) (map done_session ds)
   of_host e [] [] a r = tt
   of_host e [] (d ∷ ds) a r = absurd r
   of_host e (j ∷ js) [] a r = absurd r
   of_host e (j ∷ js) (d ∷ ds) a r = ((r.0.3 ∙ a.0.0.0, r.0.4 ∙ a.0.0.1), of_host e js ds a.1 r.1)
 
   -- each transcript is its script's, and the journal has just its entries
-  pub all_play : (log : List Entry) (ss : List (Script F)) (js : List (Job F)) (ds : List Done) → Prepared ss js → Ran js ds → (xs : List SessionData) (ts : List Transcript) → xs ≡ map done_session ds → ts ≡ map done_transcript ds → All (Stands log) xs → AllPlay log ss ts
+  pub all_play : (log : List Entry) (ss : List (Script F)) (js : List (Job F)) (ds : List Done) → Prepared ss js → AllDone js ds → (xs : List SessionData) (ts : List Transcript) → xs ≡ map done_session ds → ts ≡ map done_transcript ds → All (Stands log) xs → AllPlay log ss ts
   all_play log ss js ds p r xs ts is was stands =
       let len = jobs_length ss js p in
-      let len' = pairs_length (λ j d. Did j.session (map plain j.steps.items) d.replies.items d.session) js ds r in (
+      let len' = pairs_length (λ j d. Did j.session j.steps.items d.replies.items d.session) js ds r in (
         ap length was ∙ length_map done_transcript ds ∙ len' ∙ len,
         λ k s t lt.
-            let d : Done = record { session = newborn 0 0 z h; replies = t.replies } in
+            let d : Done = record { session = new_session 0 0 z h; replies = t.replies } in
             let did = done_at ss js ds p r k s d lt in
             let x : Done = slice_index_or ds k d in
             let there : slice_index_or ts k t ≡ done_transcript x = ap (λ l. slice_index_or l k t) was ∙ get_or-map done_transcript ds k d t (omega arith) in
@@ -134,7 +129,7 @@ module _ {F : Type 0} (h : Machine) (z : TableId) where
             let stand : Stands log x.session = subst (Stands log) here (stands k d.session (omega arith)) in
             subst (Plays log k (slice_index_or ss k s)) (sym there) (
               did.1,
-              did.0 ∙ length_map plain (slice_index_or ss k s).steps.items,
+              did.0,
               ap (λ m. entries_of m log) (sym did.2) ∙ stand.1 ∙ did.6,
             ),
       )

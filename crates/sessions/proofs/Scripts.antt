@@ -7,7 +7,6 @@ use Rattle.requests.specs.Memory.{is_memory}
 use Rattle.host_lock.specs.declared.journal.Entry.{Entry}
 use Rattle.host_lock.specs.Journal.{entry}
 use Rattle.sessions.specs.Made.{made, Did, Pairs}
-use mathlib.Core.List.{map-append}
 use Rattle.host_lock.specs.Journal.{StartsWith}
 use Rattle.host_lock.specs.Sessions.{SessionData, Makes}
 use Rattle.host_lock.specs.Answers.{Calls}
@@ -36,20 +35,18 @@ mine_more : (w w' : SessionData) (s : PlainStep) (r : Reply) (b : Bool) → Matc
 mine_more w w' s r true t = t.1 ∙ sym (append-nil w.mine)
 mine_more w w' s r false t = t.3
 
-pub did_more : {F : Type 0} (v w w' : SessionData) (done : List PlainStep) (s : PlainStep) (rs rs' : List Reply) (r : Reply) → Did v (map plain done) rs w → Calls w s (Answered r) w' → rs' ≡ rs ++ r ∷ []
-    → Did v (map plain (done ++ s ∷ [])) rs' w'
+pub did_more : (v w w' : SessionData) (done : List PlainStep) (s : PlainStep) (rs rs' : List Reply) (r : Reply) → Did v done rs w → Calls w s (Answered r) w' → rs' ≡ rs ++ r ∷ [] → Did v (done ++ s ∷ []) rs' w'
 did_more v w w' done s rs rs' r d c is =
-    let same : map plain (done ++ s ∷ []) ≡ map plain done ++ plain s ∷ [] = map-append plain done (s ∷ []) in
     let goes = c.1.0 in
-    let P : List PlainStep × List Reply → Type 0 = λ z. Did v z.0 z.1 w' in
-    subst P (λ i. (sym same i, sym is i)) (
-      length-append rs (r ∷ []) ∙ ap (λ (k : ℕ). k + 1) d.0 ∙ sym (length-append (map plain done) (plain s ∷ [])),
+    let P : List Reply → Type 0 = λ z. Did v (done ++ s ∷ []) z w' in
+    subst P (sym is) (
+      length-append rs (r ∷ []) ∙ ap (λ (k : ℕ). k + 1) d.0 ∙ sym (length-append done (s ∷ [])),
       goes.0 ∙ d.1,
       goes.1 ∙ d.2,
       goes.3 ∙ d.3,
       goes.4 ∙ d.4,
-      goes.2 ∙ ap (λ (k : ℕ). k + 1) d.5 ∙ sym (length-append (map plain done) (plain s ∷ [])),
-      mine_more w w' s r (is_memory r) c.1.1 ∙ ap (λ (z : List Entry × ℕ × ℕ). z.0 ++ one z.1 z.2 s r) (λ i. (d.6 i, d.1 i, d.2 i)) ∙ sym (made_more v.uid v.number (map plain done) rs s r d.0),
+      goes.2 ∙ ap (λ (k : ℕ). k + 1) d.5 ∙ sym (length-append done (s ∷ [])),
+      mine_more w w' s r (is_memory r) c.1.1 ∙ ap (λ (z : List Entry × ℕ × ℕ). z.0 ++ one z.1 z.2 s r) (λ i. (d.6 i, d.1 i, d.2 i)) ∙ sym (made_more v.uid v.number done rs s r d.0),
     )
 
 pub reverse_twice : {A : Type 0} (l : List A) → l ≡ reverse (reverse l)

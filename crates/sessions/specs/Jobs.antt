@@ -1,18 +1,29 @@
 -- A script that is ready to run, and what it has done.
-use Rattle.std.specs.Prelude.{◌≡◌, ◌≤◌, [], Vec, vec_len, vec_capacity}
+use Rattle.std.specs.Prelude.{◌≡◌, ℕ, ◌≤◌, List, [], map, Vec, vec_len, vec_capacity}
+use Rattle.host_lock.specs.Limits.{most_calls}
 use Rattle.host_lock.specs.Sessions.{SessionData, HostData, IsOf}
 use Rattle.requests.specs.Plain.{PlainStep}
 use Rattle.std.specs.Global.{Global}
 use Rattle.sessions.specs.declared.job.Job.{Job}
 use Rattle.sessions.specs.declared.job.Done.{Done}
 use Rattle.sessions.specs.declared.script.Transcript.{Transcript}
+use Rattle.sessions.specs.Made.{Did, Pairs}
 
-abbrev pub IsReady : {F : Type 0} → HostData → Job F → Type 0
-IsReady h j = IsOf h j.session × (j.session.calls ≡ 0) × (j.session.mine ≡ []) × (vec_len j.steps ≤ 4294967295) × (j.replies.items ≡ []) × (vec_len j.replies ≡ 0) × (vec_len j.steps ≤ vec_capacity j.replies)
+-- the list is empty, and has room for so many
+abbrev pub HasRoomFor : {A : Type 0} → ℕ → Vec A Global → Type 0
+HasRoomFor n v = (v.items ≡ []) × (vec_len v ≡ 0) × (n ≤ vec_capacity v)
 
 -- the replies have room
 abbrev pub HasRoom : {F : Type 0} → Job F → Type 0
-HasRoom j = (j.replies.items ≡ []) × (vec_len j.replies ≡ 0) × (vec_len j.steps ≤ vec_capacity j.replies)
+HasRoom j = HasRoomFor (vec_len j.steps) j.replies
+
+-- the session is of this host and has made no call, and its script is short enough
+abbrev pub IsReady : {F : Type 0} → HostData → Job F → Type 0
+IsReady h j = IsOf h j.session × (j.session.calls ≡ 0) × (j.session.mine ≡ []) × (vec_len j.steps ≤ most_calls) × HasRoom j
+
+-- each job was done
+abbrev pub AllDone : {F : Type 0} → List (Job F) → List Done → Type 0
+AllDone js ds = Pairs (λ j d. Did j.session j.steps.items d.replies.items d.session) js ds
 
 abbrev pub job_session : {F : Type 0} → Job F → SessionData
 job_session j = j.session

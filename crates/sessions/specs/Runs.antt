@@ -6,6 +6,7 @@ use Rattle.requests.specs.Machine.{Machine}
 use Rattle.requests.specs.Run.{replies, last}
 use Rattle.requests.specs.View.{view, alone}
 use Rattle.host_lock.specs.Journal.{asked, replay, entries_of}
+use Rattle.host_lock.specs.Limits.{most_sessions, most_calls}
 use Rattle.sessions.specs.declared.script.Script.{Script}
 use Rattle.sessions.specs.declared.script.Transcript.{Transcript}
 use Rattle.sessions.specs.declared.script.RunRefusal.{RunRefusal}
@@ -16,12 +17,12 @@ use Rattle.sessions.specs.Made.{made}
 
 -- the steps can all be made by one session
 abbrev pub IsShort : {F : Type 0} → Script F → Type 0
-IsShort s = vec_len s.steps ≤ 4294967295
+IsShort s = vec_len s.steps ≤ most_calls
 
 -- the transcript has one reply for each step, in order; the steps not answered ENOMEM, with their replies, are the journal's entries of
 -- this number
 abbrev pub Plays : {F : Type 0} → List Entry → ℕ → Script F → Transcript → Type 0
-Plays log k s t = (t.uid ≡ s.uid) × (length t.replies.items ≡ length s.steps.items) × (entries_of k log ≡ made s.uid k (map plain s.steps.items) t.replies.items)
+Plays log k s t = (t.uid ≡ s.uid) × (length t.replies.items ≡ length s.steps.items) × (entries_of k log ≡ made s.uid k s.steps.items t.replies.items)
 
 -- one transcript for each script, in order
 abbrev pub AllPlay : {F : Type 0} → List Entry → List (Script F) → List Transcript → Type 0
@@ -40,9 +41,9 @@ OwnEntries m log = (u : ℕ) → IsUser u
 
 -- why so many scripts are not run
 abbrev pub RefusesFor : ℕ → RunRefusal → Type 0
-RefusesFor n TooMany = 64 < n
-RefusesFor n Memory = (0 < n) × (n ≤ 64)
-RefusesFor n Start = (0 < n) × (n ≤ 64)
+RefusesFor n TooMany = most_sessions < n
+RefusesFor n Memory = (0 < n) × (n ≤ most_sessions)
+RefusesFor n Start = (0 < n) × (n ≤ most_sessions)
 
 abbrev pub uid_of : {F : Type 0} → Script F → ℕ
 uid_of s = s.uid

@@ -42,6 +42,6 @@ impl<F: Decider + Send + Drop> Plan<F> {
     }
 }
 
-impl<F: Decider + Send + Drop> Promise<(Session, Vec<Reply>)> for Plan<F> {
-    ghost kept_by = { λ p r. Did p.session.value (p.steps.value.items) r.1.items r.0 };
+impl<F: Decider + Send + Drop> Promise<Done> for Plan<F> {
+    ghost kept_by = { λ p r. Did p.session.value p.steps.value.items r.replies.items r.session };
 }

@@ -1,13 +1,14 @@
 //! Scripts of many users, run at the same time on one shared host.
 #![tactic(auto)]
 
-mod all;
 mod job;
+mod ready;
+mod run;
 mod script;
-mod sessions;
 #[cfg(test)]
 mod tests;
-mod work;
+mod worker;
+mod workers;
 
+pub use run::run_sessions;
 pub use script::{Gate, RunRefusal, Script, Transcript};
-pub use sessions::run_sessions;

@@ -21,7 +21,7 @@ pub struct Transcript {
 /// Why scripts were not run, or not to their end. The host is dropped.
 #[derive(Clone, Copy, Debug, PartialEq, Eq)]
 pub enum RunRefusal {
-    /// There are more than 64 scripts.
+    /// There are more scripts than a host may have sessions.
     TooMany,
     /// Memory ran out.
     Memory,

@@ -1,4 +1,6 @@
 -- Chains of tracers end within as many links as a user has processes, less one.
+use Rattle.std.proofs.lemmas.Bool.{cases_Bool}
+use Rattle.std.proofs.lemmas.Bool.Decides.{nat_tests}
 use Rattle.std.proofs.Common.{◌≡◌, ℕ, zero, suc, ◌+◌, ◌-◌, ◌≤◌, List, [], ◌∷◌, length, filter, find, Bool, true, false, cond, not, ◌&&◌, ◌||◌, ◌==◌, Option, Some, None, IfSome, is_some, refl, sym, ap, ◌∙◌, arith, eqb, true≢false, eqb-true, eq-eqb, subst, inl, inr}
 use Rattle.std.specs.Prelude.{count_by}
 use Rattle.std.specs.List.{AllByRecursion, list_any}
@@ -57,48 +59,23 @@ of_user u p = p.uid == u
 
 count-le : (u x : ℕ) (ps : List ProcData) → count_by (of_user u) (without_row x ps) ≤ count_by (of_user u) ps
 count-le u x [] = omega arith
-count-le u x (p ∷ ps) = at_head (eqb p.pid x) (count-le u x ps) (count-cons (of_user u) p ps)
-  where
-    at_head : (b : Bool) → count_by (of_user u) (without_row x ps) ≤ count_by (of_user u) ps → count_by (of_user u) (p ∷ ps) ≡ cond (of_user u p) 1 0 + count_by (of_user u) ps
-        → count_by (of_user u) (cond (not b) (p ∷ without_row x ps) (without_row x ps)) ≤ count_by (of_user u) (p ∷ ps)
-    at_head true le all = omega (arith, le, all)
-    at_head false le all = let some = count-cons (of_user u) p (without_row x ps) in omega (arith, le, all, some)
+count-le u x (p ∷ ps) = let all = count-cons (of_user u) p ps in let some = count-cons (of_user u) p (without_row x ps) in grind (arith, nat_tests, all, some, count-le u x ps)
 
 count-less : (u x : ℕ) (ps : List ProcData) → list_any (is_row_of u x) ps ≡ true → suc (count_by (of_user u) (without_row x ps)) ≤ count_by (of_user u) ps
 count-less u x [] is = absurd (true≢false (sym is))
-count-less u x (p ∷ ps) is = at_head (eqb p.pid x) (eqb p.uid u) refl is (count-less u x ps) (count-le u x ps) (count-cons (of_user u) p ps)
-  where
-    at_head : (b c : Bool) → eqb p.uid u ≡ c → ((b && c) || list_any (is_row_of u x) ps) ≡ true → (list_any (is_row_of u x) ps ≡ true → suc (count_by (of_user u) (without_row x ps)) ≤ count_by (of_user u) ps)
-        → count_by (of_user u) (without_row x ps) ≤ count_by (of_user u) ps → count_by (of_user u) (p ∷ ps) ≡ cond (of_user u p) 1 0 + count_by (of_user u) ps
-        → suc (count_by (of_user u) (cond (not b) (p ∷ without_row x ps) (without_row x ps))) ≤ count_by (of_user u) (p ∷ ps)
-    at_head true true e h rest le all = let one : ◌≡◌ {A = ℕ} (cond (of_user u p) 1 0) 1 = ap (λ b. cond {A = ℕ} b 1 0) e in omega (arith, le, all, one)
-    at_head true false e h rest le all = let less = rest h in omega (arith, less, all)
-    at_head false c e h rest le all = let less = rest h in let some = count-cons (of_user u) p (without_row x ps) in omega (arith, less, all, some)
+count-less u x (p ∷ ps) is =
+    let all = count-cons (of_user u) p ps in
+    let some = count-cons (of_user u) p (without_row x ps) in
+    let less = count-le u x ps in
+    grind (arith, nat_tests, is, all, some, less, count-less u x ps)
 
 still_in : (u x y : ℕ) → (y == x) ≡ false → (ps : List ProcData) → list_any (is_row_of u y) ps ≡ true → list_any (is_row_of u y) (without_row x ps) ≡ true
 still_in u x y other [] is = is
-still_in u x y other (p ∷ ps) is = at_head (eqb p.pid x) refl is (still_in u x y other ps)
-  where
-    drop_head : eqb p.pid x ≡ true → (b : Bool) → eqb p.pid y ≡ b → ((b && (p.uid == u)) || list_any (is_row_of u y) ps) ≡ true → list_any (is_row_of u y) ps ≡ true
-    drop_head here true same h = absurd (true≢false (sym (eq-eqb y x (sym (eqb-true p.pid y same) ∙ eqb-true p.pid x here)) ∙ other))
-    drop_head here false e h = h
-
-    keep_head : (b : Bool) → (b || list_any (is_row_of u y) ps) ≡ true → (list_any (is_row_of u y) ps ≡ true → list_any (is_row_of u y) (without_row x ps) ≡ true) → (b || list_any (is_row_of u y) (without_row x ps)) ≡ true
-    keep_head true h rest = refl
-    keep_head false h rest = rest h
-
-    at_head : (b : Bool) → eqb p.pid x ≡ b → (is_row_of u y p || list_any (is_row_of u y) ps) ≡ true → (list_any (is_row_of u y) ps ≡ true → list_any (is_row_of u y) (without_row x ps) ≡ true)
-        → list_any (is_row_of u y) (cond (not b) (p ∷ without_row x ps) (without_row x ps)) ≡ true
-    at_head true here h rest = rest (drop_head here (eqb p.pid y) refl h)
-    at_head false e h rest = keep_head (is_row_of u y p) h rest
+still_in u x y other (p ∷ ps) is = grind (arith, nat_tests, other, is, still_in u x y other ps)
 
 others : (x : ℕ) (xs : List ℕ) → is_in xs x ≡ false → AllByRecursion (λ y. (y == x) ≡ false) xs
 others x [] is = tt
-others x (y ∷ ys) is = at_head (eqb y x) refl is (others x ys)
-  where
-    at_head : (b : Bool) → eqb y x ≡ b → (b || is_in ys x) ≡ false → (is_in ys x ≡ false → AllByRecursion (λ z. (z == x) ≡ false) ys) → ((y == x) ≡ false) × AllByRecursion (λ z. (z == x) ≡ false) ys
-    at_head true e h rest = absurd (true≢false h)
-    at_head false e h rest = (e, rest h)
+others x (y ∷ ys) is = (grind (arith, is), others x ys (grind (arith, is)))
 
 no_more : (u : ℕ) (xs : List ℕ) (ps : List ProcData) → AllDiffer xs → AllByRecursion (λ x. list_any (is_row_of u x) ps ≡ true) xs → length xs ≤ count_by (of_user u) ps
 no_more u [] ps differ rows = omega arith
@@ -112,14 +89,10 @@ no_more u (x ∷ xs) ps differ rows =
 
 any_found : {X : Type 0} (q t : X → Bool) (xs : List X) (x : X) → find q xs ≡ Some x → t x ≡ true → list_any (λ y. q y && t y) xs ≡ true
 any_found q t [] x is has = absurd (true≢false (sym (ap is_some is)))
-any_found {X} q t (y ∷ ys) x is has = at_head (q y) refl is (any_found q t ys x)
-  where
-    some_same : (a b : X) → Some a ≡ Some b → a ≡ b
-    some_same a b e = cc
-
-    at_head : (b : Bool) → q y ≡ b → cond b (Some y) (find q ys) ≡ Some x → (find q ys ≡ Some x → t x ≡ true → list_any (λ z. q z && t z) ys ≡ true) → ((b && t y) || list_any (λ z. q z && t z) ys) ≡ true
-    at_head true e h rest = rw (ap t (some_same y x h) ∙ has) refl
-    at_head false e h rest = rest h has
+any_found q t (y ∷ xs) x is has = elim (cases_Bool (q y)) [
+  | inl e ↦ let same : y ≡ x = grind (arith, e, is) in rw (e, same, has) refl
+  | inr e ↦ rw e (any_found q t xs x (rw e at is) has)
+]
 
 pub chain-suc : (k : ℕ) (ps : List ProcData) (n : ℕ) → chain (suc k) ps n ≡ n ∷ onward (chain k ps) (tracer_of ps n)
 unfolding chain

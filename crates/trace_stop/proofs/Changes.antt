@@ -1,46 +1,38 @@
--- A change of chosen processes and of their LWPs, and a change of one LWP.
-use Rattle.std.proofs.Common.{◌≡◌, ◌⊎◌, inl, inr, List, [], ◌∷◌, filter_map, Bool, true, false, if◌then◌else◌, Option, Some, None, IfSome, refl, sym, ap, ap₂, ◌∙◌, subst}
-use Rattle.std.specs.List.{cons_option}
-use Rattle.event_masks.specs.Exits.{shows}
-use Rattle.event_masks.specs.declared.TheConstants.StopFlags.{PL_FLAG_EXITED}
+-- A change of chosen processes and of their LWPs.
+use Rattle.std.proofs.Common.{◌≡◌, ◌⊎◌, inl, ℕ, ◌==◌, List, filter_map, Bool, true, false, if◌then◌else◌, Option, Some, None, refl, sym, ap, ◌∙◌, subst, eq-eqb}
 use Rattle.lwp_table.specs.declared.LwpData.{LwpData}
 use Rattle.proc_table.specs.declared.ProcData.{ProcData}
-use Rattle.proc_table.specs.Processes.{is_live, reporting}
-use Rattle.proc_table.specs.Rows.{Rows, owner, by_owner, change}
-use Rattle.trace_stop.specs.Sound.{names_own}
-use Rattle.trace_stop.specs.Facts.{IsLiveChild, Linked, waited_for}
-use Rattle.trace_stop.proofs.Edited.{some_is}
-use Rattle.trace_stop.proofs.Changed.{Holds, Change, change_holds}
+use Rattle.proc_table.specs.Processes.{is_live, reporting, process_of}
+use Rattle.proc_table.specs.Rows.{Rows, change, each}
+use Rattle.trace_stop.proofs.Every.{choose, choose_both}
+use Rattle.trace_stop.proofs.Edited.{find_edit}
+use Rattle.trace_stop.proofs.Changed.{Holds, Row, Beside, Same, Edit, Leaves, KeptRow, KeptLwp, Like, Stay, nobody, none_gone, like_self, leaves, kept_all, kept_lwp, no_ring, stay, edit_holds}
 
-pub edits_same : {X : Type 0} (f g : X → Option X) → ((x : X) → f x ≡ g x) → (xs : List X) → filter_map f xs ≡ filter_map g xs
-edits_same f g h [] = refl
-edits_same f g h (x ∷ xs) = ap₂ cons_option (h x) (edits_same f g h xs)
+-- the row of a process after a change of chosen ones
+pub changed_row : (n : ℕ) (chosen : ProcData → Bool) (f : ProcData → ProcData) (ps : List ProcData) (p : ProcData) → ((q : ProcData) → (f q).pid ≡ q.pid) → process_of n ps ≡ Some p → process_of n (filter_map (λ q. Some (if chosen q then f q else q)) ps) ≡ Some (if chosen p then f p else p)
+changed_row n chosen f ps p same at = find_edit (λ q. q.pid == n) (λ q. Some (if chosen q then f q else q)) (λ q. choose (chosen q) (f q) q (λ r. (r.pid == n) ≡ (q.pid == n)) (λ e. ap (λ m. m == n) (same q)) (λ e. refl)) ps p (if chosen p then f p else p) at refl
 
-pub edit_none : {X : Type 0} (f : X → Option X) → ((x : X) → f x ≡ Some x) → (xs : List X) → filter_map f xs ≡ xs
-edit_none f h [] = refl
-edit_none f h (x ∷ xs) = rw (h x) (ap (λ ys. x ∷ ys) (edit_none f h xs))
+pub changed_own : (p : ProcData) (f : ProcData → ProcData) (ps : List ProcData) → ((q : ProcData) → (f q).pid ≡ q.pid) → process_of p.pid ps ≡ Some p → process_of p.pid (filter_map (λ q. Some (if q.pid == p.pid then f q else q)) ps) ≡ Some (f p)
+changed_own p f ps same at = subst (λ b. process_of p.pid (filter_map (λ q. Some (if q.pid == p.pid then f q else q)) ps) ≡ Some (if b then f p else p)) (eq-eqb p.pid p.pid refl) (changed_row p.pid (λ q. q.pid == p.pid) f ps p same at)
 
-abbrev pub beside : (ProcData → LwpData → LwpData) → LwpData → Option ProcData → LwpData
-beside g l None = l
-beside g l (Some p) = g p l
+-- what a change leaves of a process, and of an LWP
+abbrev pub Alike : ProcData → ProcData → Type 0
+Alike p q = (q.pid ≡ p.pid) × (q.uid ≡ p.uid) × (q.tracer ≡ p.tracer) × (q.parent ≡ p.parent)
+
+abbrev pub AlikeLwp : LwpData → LwpData → Type 0
+AlikeLwp l k = (k.tid ≡ l.tid) × (k.pid ≡ l.pid) × (k.flags ≡ l.flags) × (k.mode ≡ l.mode)
 
 -- what a change asks of the chosen processes, and of the others
 pub record Changes (rows : Rows) (chosen : ProcData → Bool) (f : ProcData → ProcData) (g : ProcData → LwpData → LwpData)
     (P : ProcData → Type 0) (Q : ProcData → LwpData → Type 0) (P' : ProcData → Type 0) (Q' : ProcData → LwpData → Type 0) : Type 0 where
-  pub pid : (p : ProcData) → (f p).pid ≡ p.pid
-  pub uid : (p : ProcData) → (f p).uid ≡ p.uid
-  pub tracer : (p : ProcData) → (f p).tracer ≡ p.tracer
-  pub parent : (p : ProcData) → (f p).parent ≡ p.parent
-  pub tid : (p : ProcData) (l : LwpData) → (g p l).tid ≡ l.tid
-  pub own : (p : ProcData) (l : LwpData) → (g p l).pid ≡ l.pid
-  pub flags : (p : ProcData) (l : LwpData) → (g p l).flags ≡ l.flags
-  pub mode : (p : ProcData) (l : LwpData) → (g p l).mode ≡ l.mode
-  pub live : (p : ProcData) → P p → chosen p ≡ true → is_live (f p) ≡ is_live p
-  pub named : (p : ProcData) → P p → chosen p ≡ true → (reporting (f p) ≡ reporting p) ⊎ (reporting (f p) ≡ None)
-  pub fits : (p : ProcData) → P p → chosen p ≡ true → P' (f p)
-  pub rest : (p : ProcData) → P p → chosen p ≡ false → P' p
-  pub fit_lwp : (p : ProcData) (l : LwpData) → P p → Q p l → chosen p ≡ true → Q' (f p) (g p l)
-  pub rest_lwp : (p : ProcData) (l : LwpData) → P p → Q p l → chosen p ≡ false → Q' p l
+  pub same : (p : ProcData) → Alike p (f p)
+  pub same_lwp : (p : ProcData) (l : LwpData) → AlikeLwp l (g p l)
+  pub live : (p : ProcData) → Row rows P p → chosen p ≡ true → is_live (f p) ≡ is_live p
+  pub named : (p : ProcData) → Row rows P p → chosen p ≡ true → (reporting (f p) ≡ reporting p) ⊎ (reporting (f p) ≡ None)
+  pub fits : (p : ProcData) → Row rows P p → chosen p ≡ true → P' (f p)
+  pub rest : (p : ProcData) → Row rows P p → chosen p ≡ false → P' p
+  pub fit_lwp : (p : ProcData) (l : LwpData) → Beside rows P Q p l → chosen p ≡ true → Q' (f p) (g p l)
+  pub rest_lwp : (p : ProcData) (l : LwpData) → Beside rows P Q p l → chosen p ≡ false → Q' p l
 
 module _ (rows : Rows) (chosen : ProcData → Bool) (f : ProcData → ProcData) (g : ProcData → LwpData → LwpData)
     (P : ProcData → Type 0) (Q : ProcData → LwpData → Type 0) (P' : ProcData → Type 0) (Q' : ProcData → LwpData → Type 0)
@@ -48,51 +40,27 @@ module _ (rows : Rows) (chosen : ProcData → Bool) (f : ProcData → ProcData) 
   abbrev to : ProcData → Option ProcData
   to p = Some (if chosen p then f p else p)
 
-  abbrev to_own : ProcData → LwpData → LwpData
-  to_own p l = if chosen p then g p l else l
+  abbrev to_lwp : ProcData → LwpData → Option LwpData
+  to_lwp p l = Some (if chosen p then g p l else l)
 
-  abbrev to_lwp : LwpData → LwpData
-  to_lwp l = beside to_own l (owner rows l)
-
-  either : {X : Type 0} (b : Bool) (x y : X) (R : X → Type 0) → (b ≡ true → R x) → (b ≡ false → R y) → R (if b then x else y)
-  either true x y R h k = h refl
-  either false x y R h k = k refl
-
-  lwp_at : {X : Type 0} (view : LwpData → X) → ((p : ProcData) (l : LwpData) → view (g p l) ≡ view l) → (l : LwpData) → view (to_lwp l) ≡ view l
-  lwp_at view h l = by_owner_of (owner rows l)
-    where
-      by_owner_of : (o : Option ProcData) → view (beside to_own l o) ≡ view l
-      by_owner_of None = refl
-      by_owner_of (Some p) = either (chosen p) (g p l) l (λ k. view k ≡ view l) (λ e. h p l) (λ e. refl)
-
-  the_change : Change rows to to_lwp P Q P' Q'
-  the_change = record {
-    same = record {
-      process = λ p. either (chosen p) (f p) p (λ q. (q.pid ≡ p.pid) × (q.uid ≡ p.uid)) (λ e. (c.pid p, c.uid p)) (λ e. (refl, refl));
-      lwp = λ l. (lwp_at (λ k. k.tid) c.tid l, lwp_at (λ k. k.pid) c.own l);
-    };
-    live = λ p fact is. either (chosen p) (f p) p (λ q. is_live q ≡ true) (λ e. c.live p fact e ∙ is) (λ e. is);
-    ended = λ p fact. either (chosen p) (f p) p (λ q. is_live q ≡ true → is_live p ≡ true) (λ e is. sym (c.live p fact e) ∙ is) (λ e is. is);
-    tracer = λ p fact. either (chosen p) (f p) p (λ q. (q.tracer ≡ p.tracer) ⊎ (q.tracer ≡ None)) (λ e. inl (c.tracer p)) (λ e. inl refl);
-    parent = λ p fact. either (chosen p) (f p) p (λ q. q.parent ≡ p.parent) (λ e. c.parent p) (λ e. refl);
-    named = λ p fact link. either (chosen p) (f p) p (λ q. IfSome (reporting q) (λ tid. names_own rows p tid ≡ true)) (λ e. by_report p link (c.named p fact e)) (λ e. link.named);
-    exited = λ p l fact own stood at shown. stood.exited (subst (λ x. shows x PL_FLAG_EXITED ≡ true) (lwp_at (λ k. k.flags) c.flags l) shown);
-    waits = λ p l own stood at. subst (λ m. IfSome (waited_for m) (IsLiveChild rows p)) (sym (lwp_at (λ k. k.mode) c.mode l)) stood.waits;
-    fits = λ p fact link. either (chosen p) (f p) p P' (λ e. c.fits p fact e) (λ e. c.rest p fact e);
-    fit_lwp = λ p q l fact own stood at is. subst (λ k. Q' q k) (sym (ap (beside to_own l) at)) (subst (λ r. Q' r (to_own p l)) (some_is (if chosen p then f p else p) q is) (both_ways p l fact own (chosen p) refl));
+  same : Same to to_lwp
+  same = record {
+    process = λ p. choose (chosen p) (f p) p (λ q. (q.pid ≡ p.pid) × (q.uid ≡ p.uid)) (λ e. ((c.same p).0, (c.same p).1)) (λ e. (refl, refl));
+    lwp = λ p l. choose (chosen p) (g p l) l (λ k. (k.tid ≡ l.tid) × (k.pid ≡ l.pid)) (λ e. ((c.same_lwp p l).0, (c.same_lwp p l).1)) (λ e. (refl, refl));
   }
-    where
-      by_report : (p : ProcData) → Linked rows p → (reporting (f p) ≡ reporting p) ⊎ (reporting (f p) ≡ None) → IfSome (reporting (f p)) (λ tid. names_own rows p tid ≡ true)
-      by_report p link (inl e) = subst (λ o. IfSome o (λ tid. names_own rows p tid ≡ true)) (sym e) link.named
-      by_report p link (inr e) = subst (λ o. IfSome o (λ tid. names_own rows p tid ≡ true)) (sym e) tt
 
-      both_ways : (p : ProcData) (l : LwpData) → P p → Q p l → (b : Bool) → chosen p ≡ b → Q' (if b then f p else p) (if b then g p l else l)
-      both_ways p l fact own true e = c.fit_lwp p l fact own e
-      both_ways p l fact own false e = c.rest_lwp p l fact own e
+  stays : (p : ProcData) → Row rows P p → Stay rows (each to to_lwp rows) p
+  stays p row = stay rows to to_lwp same p row.at (λ l. (if chosen p then g p l else l, refl))
 
   pub changes_hold : Holds P' Q' (change chosen f g rows)
-  changes_hold = subst (λ ls. Holds P' Q' (record rows { processes = filter_map to rows.processes; lwps = ls })) (edits_same (λ l. Some (to_lwp l)) (λ l. by_owner (λ p k. Some (to_own p k)) l (owner rows l)) (λ l. by_row l (owner rows l)) rows.lwps) (change_holds rows to to_lwp P Q P' Q' s the_change)
-    where
-      by_row : (l : LwpData) (o : Option ProcData) → Some (beside to_own l o) ≡ by_owner (λ p k. Some (to_own p k)) l o
-      by_row l None = refl
-      by_row l (Some p) = refl
+  changes_hold = edit_holds rows nobody to to_lwp P Q P' Q' s (record {
+    same = same;
+    ring = no_ring to rows.processes s.stands.rising same.process (λ p. choose (chosen p) (f p) p (Leaves p) (λ e. leaves p (f p) (inl (c.same p).2)) (λ e. leaves p p (inl refl)));
+    gone = none_gone rows P to_lwp;
+    process = λ p row. choose (chosen p) (f p) p (KeptRow rows (each to to_lwp rows) nobody P' p)
+        (λ e. kept_all row (record { live = c.live p row e; tracer = inl (c.same p).2; parent = (c.same p).3 }) (c.named p row e) (stays p row) (c.fits p row e))
+        (λ e. kept_all row (like_self p) (inl refl) (stays p row) (c.rest p row e));
+    lwp = λ p l b on. choose_both (λ q k. KeptLwp rows (each to to_lwp rows) nobody Q' p q k) (chosen p) (f p) p (g p l) l
+        (λ e. kept_lwp b (stays p b.row) (c.same_lwp p l).2 (c.same_lwp p l).3 (c.fit_lwp p l b e))
+        (λ e. kept_lwp b (stays p b.row) refl refl (c.rest_lwp p l b e));
+  })

@@ -14,10 +14,10 @@ use Rattle.trace_stop.specs.End.{left_alone, end_of, end}
 use Rattle.trace_stop.specs.Sound.{is_end}
 use Rattle.trace_stop.specs.Facts.{FitProcess, FitLwp, Silent, IsSound}
 use Rattle.trace_stop.proofs.Every.{and_left, both, by_bool, All-imply, All-edit, All-any, choose}
-use Rattle.trace_stop.proofs.Edited.{owner_after}
-use Rattle.trace_stop.proofs.Changed.{found_number}
+use Rattle.trace_stop.proofs.Changed.{Row, found_number, row_is}
+use Rattle.trace_stop.proofs.Changes.{changed_row}
 use Rattle.trace_stop.proofs.Bits.{without_apart}
-use Rattle.trace_stop.proofs.Stopping.{the_row}
+use Rattle.trace_stop.proofs.Numbers.{the_row}
 use Rattle.trace_stop.proofs.Killing.{end_killing, end_of_sparing}
 use Rattle.trace_stop.proofs.Running.{Runs, Shape, run_on_sound}
 
@@ -55,8 +55,7 @@ module _ (rows : Rows) (pid : ℕ) (p : ProcData) (s : IsSound rows) (at : proce
   resumed_sound = run_on_sound rows (is_numbered pid) running (λ q l. l) s running_shape resumed_runs
 
   pub resumed_row : process_of pid (resumed pid rows).processes ≡ Some (running p)
-  resumed_row = owner_after rows (λ q. Some (if q.pid == pid then running q else q)) (λ l. Some l) (record { process = λ q. choose (q.pid == pid) (running q) q (λ r. (r.pid ≡ q.pid) × (r.uid ≡ q.uid)) (λ e. (refl, refl)) (λ e. (refl, refl)); lwp = λ l. (refl, refl) }) pid p (running p) at
-      (rw (eq-eqb p.pid pid (found_number pid rows.processes p at)) refl)
+  resumed_row = subst (λ b. process_of pid (resumed pid rows).processes ≡ Some (if b then running p else p)) (eq-eqb p.pid pid (found_number pid rows.processes p at)) (changed_row pid (is_numbered pid) running rows.processes p (λ q. refl) at)
 
 -- Detaching
 
@@ -91,7 +90,7 @@ module _ (chosen : ProcData → Bool) (lost : ProcData → ℕ) where
   detached_sound rows s live = run_on_sound rows chosen free free_lwp s free_shape (All-imply (λ p. chosen p ≡ true → is_live p ≡ true) (Runs chosen free free_lwp) (λ p h. record { live = h; fits = λ c fit. free_fits p; fit_lwp = λ c l silent fit. free_fit_lwp p l silent fit }) rows.processes live)
 
   pub detached_row : (rows : Rows) (n : ℕ) (p : ProcData) → process_of n rows.processes ≡ Some p → process_of n (detached chosen lost rows).processes ≡ Some (if chosen p then free p else p)
-  detached_row rows n p at = owner_after rows (λ q. Some (if chosen q then free q else q)) (λ l. Some l) (record { process = λ q. choose (chosen q) (free q) q (λ r. (r.pid ≡ q.pid) × (r.uid ≡ q.uid)) (λ e. (refl, refl)) (λ e. (refl, refl)); lwp = λ l. (refl, refl) }) n p (if chosen p then free p else p) at refl
+  detached_row rows n p at = changed_row n chosen free rows.processes p (λ q. refl) at
 
 -- Ending
 

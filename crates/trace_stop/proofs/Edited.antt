@@ -1,26 +1,15 @@
--- What sound rows keep when each row is changed by itself, or taken out.
-use Rattle.std.proofs.Common.{◌≡◌, ℕ, ◌<◌, ◌≤◌, List, [], ◌∷◌, find, filter_map, Bool, true, false, cond, ◌==◌, ◌&&◌, ◌||◌, Option, Some, None, IfSome, refl, sym, ap, ◌∙◌, arith, eqb, subst}
+-- Lists whose elements are each changed, or taken out.
+use Rattle.std.proofs.Common.{◌≡◌, ℕ, ◌+◌, ◌≤◌, List, [], ◌∷◌, find, filter_map, Bool, true, false, cond, ◌||◌, ◌==◌, Option, Some, None, IfSome, refl, sym, ap, ◌∙◌, arith, subst, true≢false, eqb-true, eq-eqb}
 use Rattle.std.specs.Prelude.{count_by}
 use Rattle.std.specs.List.{AllByRecursion, list_any, cons_option}
-use Rattle.pid_blocks.specs.Users.{IsUser}
-use Rattle.pid_blocks.specs.Blocks.{pid_block, tid_block, InBlock}
 use Rattle.lwp_table.specs.declared.LwpData.{LwpData}
 use Rattle.lwp_table.specs.Lwps.{Differ, LacksLwp}
 use Rattle.proc_table.specs.declared.ProcData.{ProcData}
-use Rattle.proc_table.specs.Processes.{process_of}
 use Rattle.proc_table.specs.Rows.{Rows}
-use Rattle.proc_table.specs.Seen.{owns}
-use Rattle.proc_table.specs.Kept.{Rise, AllAbove, AtHome, Housed}
-use Rattle.trace_stop.specs.Facts.{Linked, Standing, WithOwner, Stands}
-use Rattle.trace_stop.proofs.Every.{or_true, All-both, All-edit, count-cons}
+use Rattle.trace_stop.proofs.Every.{or_true, All-imply, by_bool, count-cons}
 
 abbrev pub edited : (ProcData → Option ProcData) → (LwpData → Option LwpData) → Rows → Rows
 edited f h rows = record rows { processes = filter_map f rows.processes; lwps = filter_map h rows.lwps }
-
--- each row keeps its numbers
-pub record Same (f : ProcData → Option ProcData) (h : LwpData → Option LwpData) : Type 0 where
-  pub process : (p : ProcData) → IfSome (f p) (λ q. (q.pid ≡ p.pid) × (q.uid ≡ p.uid))
-  pub lwp : (l : LwpData) → IfSome (h l) (λ k. (k.tid ≡ l.tid) × (k.pid ≡ l.pid))
 
 pub If_more : {X : Type 0} (P Q : X → Type 0) → ((x : X) → P x → Q x) → (o : Option X) → IfSome o P → IfSome o Q
 If_more P Q h None is = tt
@@ -31,6 +20,10 @@ some_is a b is = grind (arith, is)
 
 pub if_at : {X : Type 0} (P : X → Type 0) (o : Option X) (x : X) → o ≡ Some x → IfSome o P → P x
 if_at P o x is all = subst (λ p. IfSome p P) is all
+
+pub edit_none : {X : Type 0} (f : X → Option X) → ((x : X) → f x ≡ Some x) → (xs : List X) → filter_map f xs ≡ xs
+edit_none f h [] = refl
+edit_none f h (x ∷ xs) = rw (h x) (ap (λ ys. x ∷ ys) (edit_none f h xs))
 
 -- tests and counts of what is left
 
@@ -71,22 +64,6 @@ find_edit {X} q f h (z ∷ xs) x y is to = at_head (q z) (f z) refl refl (h z) i
     at_head false None here fz k g rest = rest g to
     at_head false (Some w) here fz k g rest = rw (k ∙ here) (rest g to)
 
-above_edit : (f : ProcData → Option ProcData) → ((p : ProcData) → IfSome (f p) (λ q. q.pid ≡ p.pid)) → (n : ℕ) (ps : List ProcData) → AllAbove n ps → AllAbove n (filter_map f ps)
-above_edit f h n [] all = tt
-above_edit f h n (p ∷ ps) all = by_row (f p) (h p) (above_edit f h n ps all.1)
-  where
-    by_row : (o : Option ProcData) → IfSome o (λ q. q.pid ≡ p.pid) → AllAbove n (filter_map f ps) → AllAbove n (cons_option o (filter_map f ps))
-    by_row None g rest = rest
-    by_row (Some q) g rest = (subst (λ m. n < m) (sym g) all.0, rest)
-
-Rise-edit : (f : ProcData → Option ProcData) → ((p : ProcData) → IfSome (f p) (λ q. q.pid ≡ p.pid)) → (ps : List ProcData) → Rise ps → Rise (filter_map f ps)
-Rise-edit f h [] rise = tt
-Rise-edit f h (p ∷ ps) rise = by_row (f p) (h p) (Rise-edit f h ps rise.1) (above_edit f h p.pid ps rise.0)
-  where
-    by_row : (o : Option ProcData) → IfSome o (λ q. q.pid ≡ p.pid) → Rise (filter_map f ps) → AllAbove p.pid (filter_map f ps) → Rise (cons_option o (filter_map f ps))
-    by_row None g rest above = rest
-    by_row (Some q) g rest above = (subst (λ m. AllAbove m (filter_map f ps)) (sym g) above, rest)
-
 lacks_edit : (h : LwpData → Option LwpData) → ((l : LwpData) → IfSome (h l) (λ k. k.tid ≡ l.tid)) → (n : ℕ) (ls : List LwpData) → LacksLwp n ls → LacksLwp n (filter_map h ls)
 lacks_edit h g n [] all = tt
 lacks_edit h g n (l ∷ ls) all = by_row (h l) (g l) (lacks_edit h g n ls all.1)
@@ -95,7 +72,7 @@ lacks_edit h g n (l ∷ ls) all = by_row (h l) (g l) (lacks_edit h g n ls all.1)
     by_row None e rest = rest
     by_row (Some k) e rest = (λ same. all.0 (sym e ∙ same), rest)
 
-Differ-edit : (h : LwpData → Option LwpData) → ((l : LwpData) → IfSome (h l) (λ k. k.tid ≡ l.tid)) → (ls : List LwpData) → Differ ls → Differ (filter_map h ls)
+pub Differ-edit : (h : LwpData → Option LwpData) → ((l : LwpData) → IfSome (h l) (λ k. k.tid ≡ l.tid)) → (ls : List LwpData) → Differ ls → Differ (filter_map h ls)
 Differ-edit h g [] all = tt
 Differ-edit h g (l ∷ ls) all = by_row (h l) (g l) (Differ-edit h g ls all.1) (lacks_edit h g l.tid ls all.0)
   where
@@ -103,65 +80,60 @@ Differ-edit h g (l ∷ ls) all = by_row (h l) (g l) (Differ-edit h g ls all.1) (
     by_row None e rest lacks = rest
     by_row (Some k) e rest lacks = (subst (λ m. LacksLwp m (filter_map h ls)) (sym e) lacks, rest)
 
-module _ (rows : Rows) (f : ProcData → Option ProcData) (h : LwpData → Option LwpData) (same : Same f h) where
-  pid_same : (p : ProcData) → IfSome (f p) (λ q. q.pid ≡ p.pid)
-  pid_same p = If_more _ (λ q. q.pid ≡ p.pid) (λ q e. e.0) (f p) (same.process p)
 
-  owns_less : (u n : ℕ) → owns u n (filter_map f rows.processes) ≡ true → owns u n rows.processes ≡ true
-  owns_less u n = any_edit (λ p. (p.pid == n) && (p.uid == u)) (λ p. (p.pid == n) && (p.uid == u)) f (λ p. If_more _ (λ q. ((q.pid == n) && (q.uid == u)) ≡ true → ((p.pid == n) && (p.uid == u)) ≡ true) (λ q e is. rw (sym e.0, sym e.1) is) (f p) (same.process p)) rows.processes
+-- Counts where none of those counted is gone, and where one may be
 
-  -- the process of an LWP, afterwards
-  pub owner_after : (n : ℕ) (p q : ProcData) → process_of n rows.processes ≡ Some p → f p ≡ Some q → process_of n (filter_map f rows.processes) ≡ Some q
-  owner_after n p q at to = find_edit (λ r. r.pid == n) f (λ r. If_more _ (λ s. (s.pid == n) ≡ (r.pid == n)) (λ s e. ap (λ m. eqb m n) e) (f r) (pid_same r)) rows.processes p q at to
+pub count_kept : {X : Type 0} (t r : X → Bool) (h : X → Option X) (R : X → Type 0) → ((x : X) → R x → t x ≡ true → (y : X) × (h x ≡ Some y) × (r y ≡ true)) → (xs : List X) → AllByRecursion R xs → count_by t xs ≤ count_by r (filter_map h xs)
+count_kept t r h R keep [] all = omega arith
+count_kept {X} t r h R keep (x ∷ xs) all = by_head (t x) refl (count_kept t r h R keep xs all.1)
+  where
+    more : (o : Option X) → count_by t xs ≤ count_by r (filter_map h xs) → count_by t xs ≤ count_by r (cons_option o (filter_map h xs))
+    more None le = le
+    more (Some y) le = let every = count-cons r y (filter_map h xs) in omega (arith, every, le)
 
-  abbrev left : Rows
-  left = edited f h rows
+    by_head : (b : Bool) → t x ≡ b → count_by t xs ≤ count_by r (filter_map h xs) → count_by t (x ∷ xs) ≤ count_by r (cons_option (h x) (filter_map h xs))
+    by_head false e le = let every = count-cons t x xs in let none : cond {A = ℕ} (t x) 1 0 ≡ 0 = rw e refl in let rest = more (h x) le in omega (arith, every, none, rest)
+    by_head true e le =
+        let y = keep x all.0 e in
+        let every = count-cons t x xs in
+        let one : cond {A = ℕ} (t x) 1 0 ≡ 1 = rw e refl in
+        let then_every = count-cons r y.0 (filter_map h xs) in
+        let then_one : cond {A = ℕ} (r y.0) 1 0 ≡ 1 = rw y.2 refl in
+        subst (λ o. count_by t (x ∷ xs) ≤ count_by r (cons_option o (filter_map h xs))) (sym y.1) (omega (arith, every, one, then_every, then_one, le))
 
-  -- an LWP whose process is gone is gone
-  abbrev pub Gone : (LwpData → Type 0) → Type 0
-  Gone R = (l : LwpData) (p : ProcData) → R l → process_of l.pid rows.processes ≡ Some p → f p ≡ None → h l ≡ None
+lacks : (n : ℕ) (ls : List LwpData) → LacksLwp n ls → AllByRecursion (λ l. (l.tid == n) ≡ false) ls
+lacks n [] all = tt
+lacks n (l ∷ ls) all = (by_bool (l.tid == n) (λ e. all.0 (eqb-true l.tid n e)), lacks n ls all.1)
 
-  -- facts of LWPs beside their processes
-  pub owners_after : (R : LwpData → Type 0) (P : ProcData → LwpData → Type 0) → Gone R
-      → ((l k : LwpData) (p q : ProcData) → R l → process_of l.pid rows.processes ≡ Some p → f p ≡ Some q → h l ≡ Some k → P q k)
-      → AllByRecursion (Housed rows) rows.lwps → AllByRecursion R rows.lwps → AllByRecursion (WithOwner left P) left.lwps
-  owners_after R P gone to homes all = All-edit h (λ l. Housed rows l × R l) (WithOwner left P) at_lwp rows.lwps (All-both (Housed rows) R rows.lwps homes all)
-    where
-      at_row : (l : LwpData) → R l → (p : ProcData) → process_of l.pid rows.processes ≡ Some p → (o : Option ProcData) → f p ≡ o → (e : Option LwpData) → h l ≡ e → IfSome e (λ k. (k.tid ≡ l.tid) × (k.pid ≡ l.pid)) → IfSome e (WithOwner left P)
-      at_row l r p at None is e to_k s = subst (λ x. IfSome x (WithOwner left P)) (sym (gone l p r at is) ∙ to_k) tt
-      at_row l r p at (Some q) is None to_k s = tt
-      at_row l r p at (Some q) is (Some k) to_k s = λ q' there. subst (λ x. P x k) (some_is q q' (sym (owner_after l.pid p q at is) ∙ ap (λ n. process_of n (filter_map f rows.processes)) (sym s.1) ∙ there)) (to l k p q r at is to_k)
+-- of the LWPs counted only the one numbered n may go
+pub one_gone : (t : LwpData → Bool) (n : ℕ) (h : LwpData → Option LwpData) → ((l : LwpData) → (l.tid == n) ≡ false → t l ≡ true → (k : LwpData) × (h l ≡ Some k) × (t k ≡ true)) → (ls : List LwpData) → Differ ls → count_by t ls ≤ count_by t (filter_map h ls) + 1
+one_gone t n h keep [] all = omega arith
+one_gone t n h keep (l ∷ ls) all = by_head (l.tid == n) refl (h l) refl (one_gone t n h keep ls all.1)
+  where
+    every : count_by t (l ∷ ls) ≡ cond (t l) 1 0 + count_by t ls
+    every = count-cons t l ls
 
-      at_lwp : (l : LwpData) → Housed rows l × R l → IfSome (h l) (WithOwner left P)
-      at_lwp l r = at_row l r.1 r.0.0 r.0.1 (f r.0.0) refl (h l) refl (same.lwp l)
+    most : (b : Bool) → cond {A = ℕ} b 1 0 ≤ 1
+    most true = omega arith
+    most false = omega arith
 
-  housed_after : (R : LwpData → Type 0) → Gone R → AllByRecursion (Housed rows) rows.lwps → AllByRecursion R rows.lwps → AllByRecursion (Housed left) left.lwps
-  housed_after R gone homes all = All-edit h (λ l. Housed rows l × R l) (Housed left) at_lwp rows.lwps (All-both (Housed rows) R rows.lwps homes all)
-    where
-      at_row : (l : LwpData) → R l → (p : ProcData) → process_of l.pid rows.processes ≡ Some p → InBlock (tid_block p.uid) l.tid → (o : Option ProcData) → f p ≡ o → (e : Option LwpData) → h l ≡ e → IfSome e (λ k. (k.tid ≡ l.tid) × (k.pid ≡ l.pid)) → IfSome e (Housed left)
-      at_row l r p at b None is e to_k s = subst (λ x. IfSome x (Housed left)) (sym (gone l p r at is) ∙ to_k) tt
-      at_row l r p at b (Some q) is None to_k s = tt
-      at_row l r p at b (Some q) is (Some k) to_k s =
-          let uids : q.uid ≡ p.uid = (if_at _ (f p) q is (same.process p)).1 in
-          (q, ap (λ n. process_of n (filter_map f rows.processes)) s.1 ∙ owner_after l.pid p q at is, subst (λ n. InBlock (tid_block q.uid) n) (sym s.0) (subst (λ u. InBlock (tid_block u) l.tid) (sym uids) b))
+    more : (o : Option LwpData) → count_by t (filter_map h ls) ≤ count_by t (cons_option o (filter_map h ls))
+    more None = omega arith
+    more (Some k) = let all = count-cons t k (filter_map h ls) in omega (arith, all)
 
-      at_lwp : (l : LwpData) → Housed rows l × R l → IfSome (h l) (Housed left)
-      at_lwp l r = at_row l r.1 r.0.0 r.0.1 r.0.2 (f r.0.0) refl (h l) refl (same.lwp l)
+    other : (b : Bool) → t l ≡ b → (l.tid == n) ≡ false → count_by t ls ≤ count_by t (filter_map h ls) + 1 → count_by t (l ∷ ls) ≤ count_by t (cons_option (h l) (filter_map h ls)) + 1
+    other false is e rest = let none : cond {A = ℕ} (t l) 1 0 ≡ 0 = rw is refl in let few = more (h l) in omega (arith, every, none, few, rest)
+    other true is e rest =
+        let k = keep l e is in
+        let one : cond {A = ℕ} (t l) 1 0 ≡ 1 = rw is refl in
+        let then_every = count-cons t k.0 (filter_map h ls) in
+        let then_one : cond {A = ℕ} (t k.0) 1 0 ≡ 1 = rw k.2 refl in
+        subst (λ o. count_by t (l ∷ ls) ≤ count_by t (cons_option o (filter_map h ls)) + 1) (sym k.1) (omega (arith, every, one, then_every, then_one, rest))
 
-  -- numbers and limits stay, where links do
-  pub edited_stands : (R : LwpData → Type 0) → Gone R → AllByRecursion R rows.lwps → Stands rows
-      → AllByRecursion (Linked left) left.processes → AllByRecursion (WithOwner left (Standing left)) left.lwps → Stands left
-  edited_stands R gone all s linked standing = record {
-    rising = Rise-edit f pid_same rows.processes s.rising;
-    differ = Differ-edit h (λ l. If_more _ (λ k. k.tid ≡ l.tid) (λ k e. e.0) (h l) (same.lwp l)) rows.lwps s.differ;
-    homes = All-edit f AtHome AtHome (λ p home. If_more _ AtHome (λ q e. record { user = subst IsUser (sym e.1) home.user; block = subst (λ n. InBlock (pid_block q.uid) n) (sym e.0) (subst (λ u. InBlock (pid_block u) p.pid) (sym e.1) home.block) }) (f p) (same.process p)) rows.processes s.homes;
-    housed = housed_after R gone s.housed all;
-    pid_slots = s.pid_slots;
-    tid_slots = s.tid_slots;
-    pid_cursors = s.pid_cursors;
-    tid_cursors = s.tid_cursors;
-    few_processes = λ u user. let few = s.few_processes u user in let less = count_edit (λ p. p.uid == u) (λ p. p.uid == u) f (λ p. If_more _ (λ q. (q.uid == u) ≡ true → (p.uid == u) ≡ true) (λ q e is. rw (sym e.1) is) (f p) (same.process p)) rows.processes in omega (arith, few, less);
-    few_lwps = λ u user. let few = s.few_lwps u user in let less = count_edit (λ l. owns u l.pid (filter_map f rows.processes)) (λ l. owns u l.pid rows.processes) h (λ l. If_more _ (λ k. owns u k.pid (filter_map f rows.processes) ≡ true → owns u l.pid rows.processes ≡ true) (λ k e is. owns_less u l.pid (subst (λ n. owns u n (filter_map f rows.processes) ≡ true) e.1 is)) (h l) (same.lwp l)) rows.lwps in omega (arith, few, less);
-    linked = linked;
-    standing = standing;
-  }
+    by_head : (b : Bool) → (l.tid == n) ≡ b → (o : Option LwpData) → h l ≡ o → count_by t ls ≤ count_by t (filter_map h ls) + 1 → count_by t (l ∷ ls) ≤ count_by t (cons_option (h l) (filter_map h ls)) + 1
+    by_head false e o is rest = other (t l) refl e rest
+    by_head true e o is rest =
+        let kept = count_kept t t h (λ k. (k.tid == n) ≡ false) keep ls (lacks n ls (subst (λ m. LacksLwp m ls) (eqb-true l.tid n e) all.0)) in
+        let one = most (t l) in
+        let few = more (h l) in
+        omega (arith, every, one, kept, few)

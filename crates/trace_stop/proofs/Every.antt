@@ -1,5 +1,6 @@
 -- A fact of each element of a list, and tests and counts on lists.
-use Rattle.std.proofs.Common.{◌≡◌, ◌+◌, List, [], ◌∷◌, ◌++◌, filter, find, filter_map, Bool, true, false, cond, not, ◌&&◌, ◌||◌, Option, Some, None, IfSome, refl, sym, ◌∙◌, arith, true≢false, subst, if◌then◌else◌, is_some}
+use Rattle.std.proofs.lemmas.Bool.{cases_Bool}
+use Rattle.std.proofs.Common.{◌≡◌, ◌+◌, List, [], ◌∷◌, ◌++◌, filter, find, filter_map, Bool, true, false, cond, not, ◌&&◌, ◌||◌, Option, Some, None, IfSome, refl, sym, ◌∙◌, arith, true≢false, subst, if◌then◌else◌, is_some, inl, inr}
 use Rattle.std.specs.Prelude.{count_by}
 use Rattle.std.specs.List.{AllByRecursion, list_any, list_all, cons_option}
 use Rattle.std.proofs.lemmas.List.Sums.{sum_by-cons, sum_by-append}
@@ -45,6 +46,10 @@ pub choose : {X : Type 0} (b : Bool) (x y : X) (R : X → Type 0) → (b ≡ tru
 choose true x y R h k = h refl
 choose false x y R h k = k refl
 
+pub choose_both : {X Y : Type 0} (R : X → Y → Type 0) (b : Bool) (x y : X) (v w : Y) → (b ≡ true → R x v) → (b ≡ false → R y w) → R (if b then x else y) (if b then v else w)
+choose_both R true x y v w h k = h refl
+choose_both R false x y v w h k = k refl
+
 -- what isn't there
 pub not_some : {X : Type 0} (o : Option X) → is_some o ≡ false → o ≡ None
 not_some None is = refl
@@ -78,11 +83,10 @@ All-append P (x ∷ xs) ys all every = (all.0, All-append P xs ys all.1 every)
 
 pub All-filter : {X : Type 0} (q : X → Bool) (P : X → Type 0) (xs : List X) → AllByRecursion P xs → AllByRecursion P (filter q xs)
 All-filter q P [] all = tt
-All-filter q P (x ∷ xs) all = kept (q x) (All-filter q P xs all.1)
-  where
-    kept : (b : Bool) → AllByRecursion P (filter q xs) → AllByRecursion P (cond b (x ∷ filter q xs) (filter q xs))
-    kept false rest = rest
-    kept true rest = (all.0, rest)
+All-filter q P (x ∷ xs) all = elim (cases_Bool (q x)) [
+  | inl e ↦ rw e (all.0, All-filter q P xs all.1)
+  | inr e ↦ rw e (All-filter q P xs all.1)
+]
 
 pub All-edit : {X Y : Type 0} (f : X → Option Y) (P : X → Type 0) (Q : Y → Type 0) → ((x : X) → P x → IfSome (f x) Q) → (xs : List X) → AllByRecursion P xs → AllByRecursion Q (filter_map f xs)
 All-edit f P Q h [] all = tt
@@ -94,28 +98,22 @@ All-edit {X} {Y} f P Q h (x ∷ xs) all = kept (f x) (h x all.0) (All-edit f P Q
 
 pub find_some : {X : Type 0} (q : X → Bool) (P : X → Type 0) (xs : List X) → AllByRecursion P xs → (x : X) → find q xs ≡ Some x → P x × (q x ≡ true)
 find_some q P [] all x is = grind (arith, is)
-find_some {X} q P (y ∷ xs) all x is = at_head (q y) refl is (find_some q P xs all.1 x)
-  where
-    at_head : (b : Bool) → q y ≡ b → cond b (Some y) (find q xs) ≡ Some x → (find q xs ≡ Some x → P x × (q x ≡ true)) → P x × (q x ≡ true)
-    at_head true e h rest = let same : y ≡ x = grind (arith, h) in subst (λ z. P z × (q z ≡ true)) same (all.0, e)
-    at_head false e h rest = rest h
+find_some q P (y ∷ xs) all x is = elim (cases_Bool (q y)) [
+  | inl e ↦ let same : y ≡ x = grind (arith, e, is) in subst (λ z. P z × (q z ≡ true)) same (all.0, e)
+  | inr e ↦ find_some q P xs all.1 x (rw e at is)
+]
 
 -- what holds of every element holds of one that passes
 pub any_holds : {X : Type 0} (q : X → Bool) (P : X → Type 0) (R : Type 0) → ((x : X) → P x → q x ≡ true → R) → (xs : List X) → AllByRecursion P xs → list_any q xs ≡ true → R
 any_holds q P R h [] all is = absurd (true≢false (sym is))
-any_holds {X} q P R h (x ∷ xs) all is = by_head (q x) refl is (any_holds q P R h xs all.1)
-  where
-    by_head : (b : Bool) → q x ≡ b → (b || list_any q xs) ≡ true → (list_any q xs ≡ true → R) → R
-    by_head true here k rest = h x all.0 here
-    by_head false here k rest = rest k
+any_holds q P R h (x ∷ xs) all is = elim (cases_Bool (q x)) [
+  | inl e ↦ h x all.0 e
+  | inr e ↦ any_holds q P R h xs all.1 (rw e at is)
+]
 
 pub none_of : {X : Type 0} (q : X → Bool) (xs : List X) → list_any q xs ≡ false → AllByRecursion (λ x. q x ≡ false) xs
 none_of q [] is = tt
-none_of {X} q (x ∷ xs) is = by_head (q x) refl is (none_of q xs)
-  where
-    by_head : (b : Bool) → q x ≡ b → (b || list_any q xs) ≡ false → (list_any q xs ≡ false → AllByRecursion (λ y. q y ≡ false) xs) → (q x ≡ false) × AllByRecursion (λ y. q y ≡ false) xs
-    by_head true e h rest = absurd (true≢false h)
-    by_head false e h rest = (e, rest h)
+none_of q (x ∷ xs) is = (grind (arith, is), none_of q xs (grind (arith, is)))
 
 pub none_passes : {X : Type 0} (q : X → Bool) (P : X → Type 0) → ((x : X) → P x → q x ≡ false) → (xs : List X) → AllByRecursion P xs → list_any q xs ≡ false
 none_passes q P h [] all = refl
@@ -123,11 +121,7 @@ none_passes q P h (x ∷ xs) all = rw (h x all.0) (none_passes q P h xs all.1)
 
 pub any_more : {X : Type 0} (q t : X → Bool) → ((x : X) → q x ≡ true → t x ≡ true) → (xs : List X) → list_any q xs ≡ true → list_any t xs ≡ true
 any_more q t h [] is = is
-any_more {X} q t h (x ∷ xs) is = by_head (q x) refl is (any_more q t h xs)
-  where
-    by_head : (b : Bool) → q x ≡ b → (b || list_any q xs) ≡ true → (list_any q xs ≡ true → list_any t xs ≡ true) → (t x || list_any t xs) ≡ true
-    by_head true e k rest = rw (h x e) refl
-    by_head false e k rest = rw (rest k) (or_true (t x))
+any_more q t h (x ∷ xs) is = grind (arith, is, h x, any_more q t h xs)
 
 -- one that passes is followed by one that passes
 pub any_forward : {X : Type 0} (q t : X → Bool) (P : X → Type 0) (f : X → Option X) → ((x : X) → P x → q x ≡ true → (y : X) × (f x ≡ Some y) × (t y ≡ true)) → (xs : List X) → AllByRecursion P xs → list_any q xs ≡ true → list_any t (filter_map f xs) ≡ true

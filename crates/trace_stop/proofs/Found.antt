@@ -1,5 +1,6 @@
 -- Rows that are found by their numbers.
-use Rattle.std.proofs.Common.{◌≡◌, ◌∙◌, ℕ, Bool, true, false, ◌||◌, ◌==◌, if◌then◌else◌, true≢false, List, [], ◌∷◌, inl, inr, nat_eq, eqb, eqb-true, sym, ap, subst, refl, Option, Some, None, IsSome, is_some}
+use Rattle.std.proofs.lemmas.Bool.Decides.{nat_tests}
+use Rattle.std.proofs.Common.{◌≡◌, ◌∙◌, ℕ, Bool, true, false, ◌||◌, ◌==◌, if◌then◌else◌, true≢false, List, [], ◌∷◌, inl, inr, nat_eq, eqb, eqb-true, sym, ap, subst, refl, Option, Some, None, IsSome, is_some, arith}
 use Rattle.std.specs.Prelude.{◌&&◌}
 use Rattle.std.specs.List.{list_any}
 use Rattle.std.proofs.lemmas.Bool.{cases_Bool}
@@ -16,16 +17,7 @@ use Rattle.trace_stop.proofs.Passes.{passes, above_none}
 -- a test of the row with a number
 pub any_by_number : (t : ProcData → Bool) (n : ℕ) (ps : List ProcData) → Rise ps → list_any (λ r. (r.pid == n) && t r) ps ≡ passes t (process_of n ps)
 any_by_number t n [] rise = refl
-any_by_number t n (p ∷ ps) rise = at_head (eqb p.pid n) refl (any_by_number t n ps rise.1)
-  where
-    or_none : (b : Bool) → passes t (process_of n ps) ≡ false → list_any (λ r. (r.pid == n) && t r) ps ≡ passes t (process_of n ps) → (b || list_any (λ r. (r.pid == n) && t r) ps) ≡ b
-    or_none true none rest = refl
-    or_none false none rest = rest ∙ none
-
-    at_head : (b : Bool) → eqb p.pid n ≡ b → list_any (λ r. (r.pid == n) && t r) ps ≡ passes t (process_of n ps)
-        → ((b && t p) || list_any (λ r. (r.pid == n) && t r) ps) ≡ passes t (if b then Some p else process_of n ps)
-    at_head true here rest = or_none (t p) (ap (passes t) (above_none n ps (subst (λ m. AllAbove m ps) (eqb-true p.pid n here) rise.0))) rest
-    at_head false here rest = rest
+any_by_number t n (p ∷ ps) rise = grind (arith, nat_tests, rise.0, above_none n ps, any_by_number t n ps rise.1)
 
 -- a live process is a process
 pub listed : (rows : Rows) (q : ℕ) → is_live_at q rows ≡ true → is_process rows q ≡ true
@@ -52,7 +44,4 @@ live_found rows n p at live = by_rows rows.processes at
   where
     by_rows : (ps : List ProcData) → process_of n ps ≡ Some p → list_any (λ r. nat_eq r.pid n && is_live r) ps ≡ true
     by_rows [] found = absurd (cc)
-    by_rows (q ∷ ps) found = elim (cases_Bool (nat_eq q.pid n)) [
-      | inl e ↦ let its : Some q ≡ Some p = rw e at found in let same : q ≡ p = cc in let lives : is_live q ≡ true = rw same live in rw (e, lives) refl
-      | inr e ↦ rw e (by_rows ps (rw e at found))
-    ]
+    by_rows (q ∷ ps) found = grind (arith, nat_tests, found, live, by_rows ps)

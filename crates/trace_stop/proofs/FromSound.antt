@@ -1,4 +1,5 @@
 -- The test of soundness, and soundness as facts: each gives the other.
+use Rattle.std.proofs.lemmas.Bool.Decides.{nat_tests}
 use Rattle.std.proofs.Common.{◌≡◌, ◌≢◌, ℕ, zero, suc, ◌+◌, ◌<◌, ◌≤◌, List, [], ◌∷◌, length, map, zip, Bool, true, false, ◌==◌, ◌&&◌, ◌||◌, not, leb, ltb, Option, Some, None, is_some, is_none, IfSome, refl, sym, ap, ◌∙◌, arith, eqb, true≢false, eqb-true, subst, eq-eqb, get_or, ltb-true}
 use Rattle.std.specs.Int.RustNames.{bit_and}
 use Rattle.std.specs.List.{AllByRecursion, list_any, list_all}
@@ -30,19 +31,11 @@ use Rattle.trace_stop.proofs.Every.{and_left, and_right, both, implies_at, impli
 
 rising_any : (count n k : ℕ) → list_any (λ m. m == k) (rising count n) ≡ true → (n ≤ k) × (k < n + count)
 rising_any zero n k is = absurd (true≢false (sym is))
-rising_any (suc count) n k is = by_head (eqb n k) refl is (rising_any count (n + 1) k)
-  where
-    by_head : (b : Bool) → eqb n k ≡ b → (b || list_any (λ m. m == k) (rising count (n + 1))) ≡ true → (list_any (λ m. m == k) (rising count (n + 1)) ≡ true → (n + 1 ≤ k) × (k < n + 1 + count)) → (n ≤ k) × (k < n + suc count)
-    by_head true e h rest = let same = eqb-true n k e in (omega arith, omega arith)
-    by_head false e h rest = let r = rest h in let from = r.0 in let to = r.1 in (omega arith, omega arith)
+rising_any (suc count) n k is = let rest = rising_any count (n + 1) k in (grind (arith, nat_tests, is, rest), grind (arith, nat_tests, is, rest))
 
 any_rising : (count n k : ℕ) → n ≤ k → k < n + count → list_any (λ m. m == k) (rising count n) ≡ true
 any_rising zero n k from to = absurd (omega arith)
-any_rising (suc count) n k from to = by_head (eqb n k) refl (λ other. any_rising count (n + 1) k (omega arith) (omega arith))
-  where
-    by_head : (b : Bool) → eqb n k ≡ b → (n ≢ k → list_any (λ m. m == k) (rising count (n + 1)) ≡ true) → (b || list_any (λ m. m == k) (rising count (n + 1))) ≡ true
-    by_head true e rest = refl
-    by_head false e rest = rest (λ same. true≢false (sym (eq-eqb n k same) ∙ e))
+any_rising (suc count) n k from to = grind (arith, nat_tests, any_rising count (n + 1) k)
 
 pub is_user : (u : ℕ) → list_any (λ w. w == u) users ≡ true → IsUser u
 is_user u is = let r = rising_any 64 1001 u is in let from = r.0 in let to = r.1 in (omega arith, omega arith)
@@ -52,15 +45,11 @@ user_listed u user = let from = user.0 in let to = user.1 in any_rising 64 1001 
 
 all_at : (q : ℕ → Bool) (count n : ℕ) → list_all q (rising count n) ≡ true → (k : ℕ) → n ≤ k → k < n + count → q k ≡ true
 all_at q zero n all k from to = absurd (omega arith)
-all_at q (suc count) n all k from to = by_head (eqb n k) refl (λ other. all_at q count (n + 1) (and_right (q n) (list_all q (rising count (n + 1))) all) k (omega arith) (omega arith))
-  where
-    by_head : (b : Bool) → eqb n k ≡ b → (n ≢ k → q k ≡ true) → q k ≡ true
-    by_head true e rest = subst (λ m. q m ≡ true) (eqb-true n k e) (and_left (q n) (list_all q (rising count (n + 1))) all)
-    by_head false e rest = rest (λ same. true≢false (sym (eq-eqb n k same) ∙ e))
+all_at q (suc count) n all k from to = grind (arith, nat_tests, all, all_at q count (n + 1))
 
 all_from : (q : ℕ → Bool) (count n : ℕ) → ((k : ℕ) → n ≤ k → k < n + count → q k ≡ true) → list_all q (rising count n) ≡ true
 all_from q zero n h = refl
-all_from q (suc count) n h = both (q n) (list_all q (rising count (n + 1))) (h n (omega arith) (omega arith)) (all_from q count (n + 1) (λ k from to. h k (omega arith) (omega arith)))
+all_from q (suc count) n h = grind (arith, nat_tests, h, all_from q count (n + 1))
 
 pub each_user : (q : ℕ → Bool) → list_all q users ≡ true → (u : ℕ) → IsUser u → q u ≡ true
 each_user q all u user = let from = user.0 in let to = user.1 in all_at q 64 1001 all u (omega arith) (omega arith)
@@ -88,20 +77,20 @@ zip_users q xs d h = zip_from q 64 1001 xs d (λ k lt. subst (λ m. q (1001 + k,
 -- blocks
 
 pub block_in : (b : Block) (n : ℕ) → in_block b n ≡ true → InBlock b n
-block_in b n is = (leb-true b.first n (and_left (leb b.first n) (ltb n (b.first + b.size)) is), ltb-true n (b.first + b.size) (and_right (leb b.first n) (ltb n (b.first + b.size)) is))
+block_in b n is = (grind (arith, nat_tests, is), grind (arith, nat_tests, is))
 
 pub in_block-from : (b : Block) (n : ℕ) → InBlock b n → in_block b n ≡ true
-in_block-from b n i = both (leb b.first n) (ltb n (b.first + b.size)) (le-leb b.first n i.0) (lt-ltb n (b.first + b.size) i.1)
+in_block-from b n i = grind (arith, nat_tests, i.0, i.1)
 
 -- rising and different numbers
 
 above_from : (n : ℕ) (ps : List ProcData) → list_all (λ m. ltb n m) (map (λ p. p.pid) ps) ≡ true → AllAbove n ps
 above_from n [] is = tt
-above_from n (p ∷ ps) is = (ltb-true n p.pid (and_left (ltb n p.pid) _ is), above_from n ps (and_right (ltb n p.pid) _ is))
+above_from n (p ∷ ps) is = (grind (arith, nat_tests, is), above_from n ps (grind (arith, is)))
 
 above_test : (n : ℕ) (ps : List ProcData) → AllAbove n ps → list_all (λ m. ltb n m) (map (λ p. p.pid) ps) ≡ true
 above_test n [] above = refl
-above_test n (p ∷ ps) above = both (ltb n p.pid) _ (lt-ltb n p.pid above.0) (above_test n ps above.1)
+above_test n (p ∷ ps) above = grind (arith, nat_tests, above.0, above_test n ps above.1)
 
 Rise-from : (ps : List ProcData) → rises (map (λ p. p.pid) ps) ≡ true → Rise ps
 Rise-from [] is = tt
@@ -113,11 +102,7 @@ rises-from (p ∷ ps) rise = both (list_all (λ m. ltb p.pid m) (map (λ q. q.pi
 
 lacks_from : (n : ℕ) (ls : List LwpData) → list_any (λ m. m == n) (map (λ l. l.tid) ls) ≡ false → LacksLwp n ls
 lacks_from n [] is = tt
-lacks_from n (l ∷ ls) is = by_head (eqb l.tid n) refl is (lacks_from n ls)
-  where
-    by_head : (b : Bool) → eqb l.tid n ≡ b → (b || list_any (λ m. m == n) (map (λ k. k.tid) ls)) ≡ false → (list_any (λ m. m == n) (map (λ k. k.tid) ls) ≡ false → LacksLwp n ls) → (l.tid ≢ n) × LacksLwp n ls
-    by_head true e h rest = absurd (true≢false h)
-    by_head false e h rest = (λ same. true≢false (sym (eq-eqb l.tid n same) ∙ e), rest h)
+lacks_from n (l ∷ ls) is = (λ same. absurd (grind (arith, nat_tests, is, same)), lacks_from n ls (grind (arith, is)))
 
 lacks_test : (n : ℕ) (ls : List LwpData) → LacksLwp n ls → list_any (λ m. m == n) (map (λ l. l.tid) ls) ≡ false
 lacks_test n [] lacks = refl
@@ -198,11 +183,7 @@ links_from rows p is peopled named = record {
     by_parent false e h other = h
 
 links_test : (rows : Rows) (p : ProcData) → Linked rows p → (not (p.parent == p.pid) && holds (is_live_of rows p.uid) p.tracer && ((p.parent == 1) || is_live_of rows p.uid p.parent) && not (meets 250 rows.processes p.pid p.pid)) ≡ true
-links_test rows p l = both _ _ (both _ _ (both (not (p.parent == p.pid)) _ (ap not (by_bool (p.parent == p.pid) (λ e. l.other (eqb-true p.parent p.pid e)))) (holds_if (is_live_of rows p.uid) p.tracer l.tracer)) (by_parent (eqb p.parent 1) refl)) (ap not l.chain)
-  where
-    by_parent : (b : Bool) → eqb p.parent 1 ≡ b → (b || is_live_of rows p.uid p.parent) ≡ true
-    by_parent true e = refl
-    by_parent false e = l.parent (λ same. true≢false (sym (eq-eqb p.parent 1 same) ∙ e))
+links_test rows p l = let tracer = holds_if (is_live_of rows p.uid) p.tracer l.tracer in grind (arith, nat_tests, tracer, l.chain, l.other, l.parent)
 
 abbrev pub state_test : Rows → ProcData → Bool
 state_test rows p =
@@ -234,11 +215,7 @@ ended_test : (p : ProcData) (s : State) → IfEnded p s → is_state p s ≡ tru
 ended_test p Run e = refl
 ended_test p (Trace tid sig told) e = refl
 ended_test p (Job sig told) e = refl
-ended_test p (Zombie w) e = both _ _ (both _ _ (both _ _ e.word (eq-eqb p.mask.0 0 e.mask)) (eq-eqb p.pending 0 e.pending)) (by_tracer p.tracer e.collector)
-  where
-    by_tracer : (o : Option ℕ) → (o ≡ None → p.parent ≢ 1) → (is_some o || not (p.parent == 1)) ≡ true
-    by_tracer None h = ap not (by_bool (p.parent == 1) (λ same. h refl (eqb-true p.parent 1 same)))
-    by_tracer (Some t) h = refl
+ended_test p (Zombie w) e = grind (arith, nat_tests, e.word, e.mask, e.pending, e.collector)
 
 fit_from : (rows : Rows) (p : ProcData) → state_test rows p ≡ true → FitProcess p
 fit_from rows p is = record {

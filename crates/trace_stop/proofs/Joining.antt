@@ -17,7 +17,7 @@ use Rattle.trace_stop.specs.Facts.{IsLiveChild, Linked, waited_for, Standing, Fi
 use Rattle.trace_stop.proofs.Every.{by_bool, All-imply, All-append, find_some}
 use Rattle.trace_stop.proofs.Edited.{If_more, some_is}
 use Rattle.trace_stop.proofs.Born.{differ_new, cursors_set, count_last, count_more, any_last, cond_at_most}
-use Rattle.trace_stop.proofs.Stopping.{one_row}
+use Rattle.trace_stop.proofs.Numbers.{one_row}
 
 -- a new LWP of a live process, whose user has room for it
 pub record Joins (rows : Rows) (p : ProcData) (l : LwpData) : Type 0 where

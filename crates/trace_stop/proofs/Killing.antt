@@ -12,9 +12,10 @@ use Rattle.trace_stop.specs.Sound.{is_end}
 use Rattle.trace_stop.specs.Facts.{IsLiveOf, Linked, Stands, IsSound}
 use Rattle.trace_stop.proofs.Every.{and_left, and_right, both, by_bool, or_true, or_left, All-imply, All-both, find_some, any_holds, any_more}
 use Rattle.trace_stop.proofs.Changed.{found_number}
-use Rattle.trace_stop.proofs.Stopping.{one_row, the_row}
+use Rattle.trace_stop.proofs.Numbers.{one_row, the_row}
 use Rattle.trace_stop.proofs.Stops.{find_passes}
-use Rattle.trace_stop.proofs.Ending.{Ends, own_rows, end_each_sound}
+use Rattle.trace_stop.proofs.Ending.{Ends, end_each_sound}
+use Rattle.trace_stop.proofs.Passes.{own_rows}
 use Rattle.trace_stop.proofs.Distances.{near_enough}
 
 meets_step : (ps : List ProcData) (links p n t : ℕ) → tracer_of ps n ≡ Some t → ((t == p) || meets links ps p t) ≡ true → meets (suc links) ps p n ≡ true

@@ -6,6 +6,7 @@ pub mod Born
 pub mod Passes
 pub mod Chains
 pub mod Edited
+pub mod Numbers
 pub mod Changed
 pub mod Bits
 pub mod Changes

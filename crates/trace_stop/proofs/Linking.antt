@@ -1,24 +1,20 @@
 -- A process gets a tracer: the new link closes no ring, and rows stay sound but for the process itself.
-use Rattle.std.proofs.Common.{◌≡◌, ◌≢◌, ◌⊎◌, inl, inr, ℕ, zero, suc, ◌+◌, ◌≤◌, Bool, true, false, cond, ◌==◌, ◌&&◌, ◌||◌, if◌then◌else◌, List, [], ◌∷◌, filter_map, Option, Some, None, refl, sym, ap, ◌∙◌, true≢false, subst, arith, eqb-true, eq-eqb}
-use Rattle.std.specs.Prelude.{count_by}
-use Rattle.std.specs.List.{AllByRecursion, list_any, cons_option}
+use Rattle.std.proofs.Common.{◌≡◌, ◌≢◌, ◌⊎◌, inl, inr, ℕ, zero, suc, ◌+◌, Bool, true, false, cond, ◌==◌, ◌||◌, if◌then◌else◌, List, [], ◌∷◌, filter_map, Option, Some, None, refl, sym, ap, ◌∙◌, true≢false, subst, arith, eqb-true, eq-eqb}
+use Rattle.std.specs.List.{cons_option}
 use Rattle.event_masks.specs.declared.EventMask.{EventMask}
 use Rattle.lwp_table.specs.declared.LwpData.{LwpData}
 use Rattle.proc_table.specs.declared.ProcData.{ProcData}
-use Rattle.proc_table.specs.Processes.{is_live, reporting, process_of}
-use Rattle.proc_table.specs.Rows.{Rows, change_process}
-use Rattle.proc_table.specs.Fresh.{lwp_count}
+use Rattle.proc_table.specs.Processes.{reporting, process_of}
+use Rattle.proc_table.specs.Rows.{Rows, each, change_process, is_numbered}
 use Rattle.trace_stop.specs.End.{holds_of, tracer_in, tracer_of, meets}
 use Rattle.trace_stop.specs.Sound.{names_own}
-use Rattle.trace_stop.specs.Facts.{IsLiveOf, IsLiveChild, Linked, FitProcess, waited_for, Standing, FitLwp, WithOwner, IsSound}
-use Rattle.trace_stop.proofs.Every.{or_left, by_bool, any_forward, All-any, All-both, All-edit, choose}
-use Rattle.trace_stop.proofs.Children.{child_test}
-use Rattle.trace_stop.proofs.Edited.{edited, Same, If_more, some_is, find_edit, owners_after, edited_stands}
-use Rattle.trace_stop.proofs.Changed.{Holds}
-use Rattle.trace_stop.proofs.Changes.{edit_none}
+use Rattle.trace_stop.specs.Facts.{IsLiveOf, FitProcess, FitLwp, IsSound}
+use Rattle.trace_stop.proofs.Every.{or_left, by_bool, choose}
+use Rattle.trace_stop.proofs.Edited.{If_more}
+use Rattle.trace_stop.proofs.Changed.{Holds, Row, Same, Stay, NoNewRing, KeptRow, nobody, holds_sound, row_is, like_self, peopled_on, kept_all, kept_lwp, none_gone, stay, edit_holds, processes_alone}
+use Rattle.trace_stop.proofs.Changes.{changed_own}
 use Rattle.trace_stop.proofs.Chains.{or_more, meets-more}
 use Rattle.trace_stop.proofs.Chains.{meets-up, chains_meet}
-use Rattle.trace_stop.proofs.Stopping.{the_row}
 
 -- Chains
 
@@ -119,25 +115,13 @@ module _ (rows : Rows) (p : ProcData) (n : ℕ) (mask : EventMask) (s : IsSound 
   to q = Some (if q.pid == p.pid then linked q else q)
 
   abbrev left : Rows
-  left = edited to (λ l. Some l) rows
+  left = change_process p.pid linked rows
 
   never : (j : ℕ) → meets j rows.processes p.pid n ≡ false
   never j = by_bool (meets j rows.processes p.pid n) (λ is. true≢false (sym (meets-up 1 249 rows.processes p.pid n (chains_meet rows j p.pid n s.stands is)) ∙ far))
 
-  same_rows : Same to (λ l. Some l)
-  same_rows = record { process = λ q. choose (q.pid == p.pid) (linked q) q (λ r. (r.pid ≡ q.pid) × (r.uid ≡ q.uid)) (λ e. (refl, refl)) (λ e. (refl, refl)); lwp = λ l. (refl, refl) }
-
-  passes_on : (t : ProcData → Bool) → ((q : ProcData) → t (linked q) ≡ t q) → list_any t rows.processes ≡ true → list_any t left.processes ≡ true
-  passes_on t h is = any_forward t t (λ q. Unit {0}) to (λ q u e. ((if q.pid == p.pid then linked q else q), refl, choose (q.pid == p.pid) (linked q) q (λ r. t r ≡ true) (λ c. h q ∙ e) (λ c. e))) rows.processes (All-any (λ q. Unit {0}) (λ q. tt) rows.processes) is
-
-  lives_on : (u m : ℕ) → IsLiveOf rows u m → IsLiveOf left u m
-  lives_on u m is = passes_on (λ q. (q.pid == m) && (q.uid == u) && is_live q) (λ q. refl) is
-
-  child_on : (q : ProcData) (m : ℕ) → IsLiveChild rows q m → IsLiveChild left q m
-  child_on q m is = passes_on (child_test q m) (λ r. refl) is
-
-  found_linked : process_of p.pid left.processes ≡ Some (linked p)
-  found_linked = find_edit (λ q. q.pid == p.pid) to (λ q. choose (q.pid == p.pid) (linked q) q (λ r. (r.pid == p.pid) ≡ (q.pid == p.pid)) (λ e. refl) (λ e. refl)) rows.processes p (linked p) at (rw (eq-eqb p.pid p.pid refl) refl)
+  pub linked_row : process_of p.pid left.processes ≡ Some (linked p)
+  linked_row = changed_own p linked rows.processes (λ q. refl) at
 
   found_other : (m : ℕ) → m ≢ p.pid → (ps : List ProcData) → process_of m (filter_map to ps) ≡ process_of m ps
   found_other m ne [] = refl
@@ -147,83 +131,44 @@ module _ (rows : Rows) (p : ProcData) (n : ℕ) (mask : EventMask) (s : IsSound 
       by_head true e rest = let it = eqb-true q.pid p.pid e in rw (by_bool (q.pid == m) (λ k. ne (sym (eqb-true q.pid m k) ∙ it))) rest
       by_head false e rest = ap (λ o. cond (q.pid == m) (Some q) o) rest
 
-  ring : (x : ℕ) → meets 250 rows.processes x x ≡ false → meets 250 left.processes x x ≡ false
-  ring x none = no_new_ring rows.processes left.processes p.pid n (ap tracer_in found_linked) (λ m ne. ap tracer_in (found_other m ne rows.processes)) other never 250 x none
+  ring : NoNewRing rows.processes left.processes
+  ring x none = no_new_ring rows.processes left.processes p.pid n (ap tracer_in linked_row) (λ m ne. ap tracer_in (found_other m ne rows.processes)) other never 250 x none
 
-  same_lwps : filter_map (λ l. Some l) rows.lwps ≡ rows.lwps
-  same_lwps = edit_none (λ l. Some l) (λ l. refl) rows.lwps
+  abbrev made : Rows
+  made = each to (λ q l. Some l) rows
 
-  names_on : (q : ProcData) (tid : ℕ) → names_own rows q tid ≡ true → names_own left q tid ≡ true
-  names_on q tid is = subst (λ ls. list_any (λ l. (l.tid == tid) && (l.pid == q.pid)) ls ≡ true) (sym same_lwps) is
+  same_rows : Same to (λ q l. Some l)
+  same_rows = record { process = λ q. choose (q.pid == p.pid) (linked q) q (λ r. (r.pid ≡ q.pid) × (r.uid ≡ q.uid)) (λ e. (refl, refl)) (λ e. (refl, refl)); lwp = λ q l. (refl, refl) }
 
-  counts_on : (k m : ℕ) → k ≤ lwp_count m rows → k ≤ lwp_count m left
-  counts_on k m few = subst (λ ls. k ≤ count_by (λ l. l.pid == m) ls) (sym same_lwps) few
-
-  abbrev Known : ProcData → Type 0
-  Known q = (FitProcess q × Linked rows q) × (q.pid ≡ p.pid → q ≡ p)
-
-  known : AllByRecursion Known rows.processes
-  known = All-both _ _ rows.processes (All-both FitProcess (Linked rows) rows.processes s.processes s.stands.linked) (the_row p.pid rows.processes p s.stands.rising at)
-
-  link_row : (q : ProcData) → Known q → Linked left (if q.pid == p.pid then linked q else q)
-  link_row q k = choose (q.pid == p.pid) (linked q) q (Linked left)
-      (λ e. record {
-        tracer = lives_on q.uid n (subst (λ r. IsLiveOf rows r.uid n) (sym (k.1 (eqb-true q.pid p.pid e))) tracer);
-        parent = λ ne. lives_on q.uid q.parent (k.0.1.parent ne);
-        other = k.0.1.other;
-        chain = ring q.pid k.0.1.chain;
-        named = If_more (λ tid. names_own rows q tid ≡ true) (λ tid. names_own left q tid ≡ true) (names_on q) (reporting q) k.0.1.named;
-        peopled = λ live. counts_on 1 q.pid (k.0.1.peopled live);
-      })
-      (λ e. record {
-        tracer = If_more (IsLiveOf rows q.uid) (IsLiveOf left q.uid) (lives_on q.uid) q.tracer k.0.1.tracer;
-        parent = λ ne. lives_on q.uid q.parent (k.0.1.parent ne);
-        other = k.0.1.other;
-        chain = ring q.pid k.0.1.chain;
-        named = If_more (λ tid. names_own rows q tid ≡ true) (λ tid. names_own left q tid ≡ true) (names_on q) (reporting q) k.0.1.named;
-        peopled = λ live. counts_on 1 q.pid (k.0.1.peopled live);
-      })
-
-  abbrev Beside : LwpData → Type 0
-  Beside l = WithOwner rows FitLwp l × WithOwner rows (Standing rows) l
-
-  besides : AllByRecursion Beside rows.lwps
-  besides = All-both (WithOwner rows FitLwp) (WithOwner rows (Standing rows)) rows.lwps s.lwps s.stands.standing
-
-  none_gone : (l : LwpData) (q : ProcData) → Beside l → process_of l.pid rows.processes ≡ Some q → to q ≡ None → Some l ≡ None
-  none_gone l q b home is = absurd (grind (arith, is))
-
-  lwp_stands : (l : LwpData) (q : ProcData) → Standing rows q l → Standing left (if q.pid == p.pid then linked q else q) l
-  lwp_stands l q stood = choose (q.pid == p.pid) (linked q) q (λ r. Standing left r l)
-      (λ e. record { live = stood.live; exited = λ shown. counts_on 2 q.pid (stood.exited shown); waits = If_more (IsLiveChild rows q) (IsLiveChild left (linked q)) (child_on q) (waited_for l.mode) stood.waits })
-      (λ e. record { live = stood.live; exited = λ shown. counts_on 2 q.pid (stood.exited shown); waits = If_more (IsLiveChild rows q) (IsLiveChild left q) (child_on q) (waited_for l.mode) stood.waits })
-
-  lwp_fits : (l : LwpData) (q : ProcData) → FitLwp q l → FitLwp (if q.pid == p.pid then linked q else q) l
-  lwp_fits l q fit = choose (q.pid == p.pid) (linked q) q (λ r. FitLwp r l)
-      (λ e. record { untraced = λ none. absurd (some_none none); silent = fit.silent; blocked = fit.blocked; mode = fit.mode })
-      (λ e. fit)
-    where
-      some_none : Some n ≡ None → ⊥
-      some_none is = grind (arith, is)
+  stays : (q : ProcData) → Row rows FitProcess q → Stay rows made q
+  stays q row = stay rows to (λ q l. Some l) same_rows q row.at (λ l. (l, refl))
 
   -- every row is fit but for the one that is traced from now on
   abbrev pub Traced : ProcData → Type 0
   Traced q = (q.pid ≢ p.pid → FitProcess q) × (q.pid ≡ p.pid → q ≡ linked p)
 
-  linked_left : Holds Traced FitLwp left
-  linked_left = record {
-    stands = edited_stands rows to (λ l. Some l) same_rows Beside none_gone besides s.stands (All-edit to Known (Linked left) link_row rows.processes known)
-        (owners_after rows to (λ l. Some l) same_rows Beside (Standing left) none_gone
-        (λ l k q r b home is same. subst (Standing left r) (some_is l k same) (subst (λ x. Standing left x l) (some_is _ r is) (lwp_stands l q (b.1 q home)))) s.stands.housed besides);
-    processes = All-edit to Known Traced (λ q k. choose (q.pid == p.pid) (linked q) q Traced
-        (λ e. (λ ne. absurd (ne (eqb-true q.pid p.pid e)), λ same. ap (λ r. linked r) (k.1 (eqb-true q.pid p.pid e))))
-        (λ e. (λ ne. k.0.0, λ same. absurd (true≢false (sym (eq-eqb q.pid p.pid same) ∙ e))))) rows.processes known;
-    lwps = owners_after rows to (λ l. Some l) same_rows Beside FitLwp none_gone
-        (λ l k q r b home is same. subst (FitLwp r) (some_is l k same) (subst (λ x. FitLwp x l) (some_is _ r is) (lwp_fits l q (b.0 q home)))) s.stands.housed besides;
+  kept_link : (q : ProcData) → Row rows FitProcess q → (q.pid == p.pid) ≡ true → KeptRow rows made nobody Traced q (linked q)
+  kept_link q row e = let its = row_is row at (eqb-true q.pid p.pid e) in record {
+    live = λ live on. live;
+    parent = refl;
+    tracer = (subst (λ r. IsLiveOf rows r.uid n) (sym its) tracer, refl);
+    named = If_more (λ tid. names_own rows q tid ≡ true) (λ tid. names_own made q tid ≡ true) (stays q row).named (reporting q) row.link.named;
+    peopled = peopled_on row (stays q row);
+    fits = (λ ne. absurd (ne (eqb-true q.pid p.pid e)), λ same. ap (λ r. linked r) its);
   }
 
-  pub linked_holds : Holds Traced FitLwp (change_process p.pid linked rows)
-  linked_holds = subst (λ ls. Holds Traced FitLwp (record rows { processes = filter_map to rows.processes; lwps = ls })) same_lwps linked_left
+  lwp_fits : (q : ProcData) (l : LwpData) → FitLwp q l → FitLwp (if q.pid == p.pid then linked q else q) l
+  lwp_fits q l fit = choose (q.pid == p.pid) (linked q) q (λ r. FitLwp r l) (λ e. record { untraced = λ none. absurd (some_none none); silent = fit.silent; blocked = fit.blocked; mode = fit.mode }) (λ e. fit)
+    where
+      some_none : Some n ≡ None → ⊥
+      some_none is = grind (arith, is)
 
-  pub linked_row : process_of p.pid (change_process p.pid linked rows).processes ≡ Some (linked p)
-  linked_row = found_linked
+  pub linked_holds : Holds Traced FitLwp (change_process p.pid linked rows)
+  linked_holds = subst (Holds Traced FitLwp) (processes_alone rows s.stands.housed to) (edit_holds rows nobody to (λ q l. Some l) FitProcess FitLwp Traced FitLwp (holds_sound rows s) (record {
+    same = same_rows;
+    ring = ring;
+    gone = none_gone rows FitProcess (λ q l. Some l);
+    process = λ q row. choose (q.pid == p.pid) (linked q) q (KeptRow rows made nobody Traced q) (kept_link q row)
+        (λ e. kept_all row (like_self q) (inl refl) (stays q row) (λ ne. row.fact, λ same. absurd (true≢false (sym (eq-eqb q.pid p.pid same) ∙ e))));
+    lwp = λ q l b on. kept_lwp b (stays q b.row) refl refl (lwp_fits q l b.fact);
+  }))

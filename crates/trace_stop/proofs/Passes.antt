@@ -1,5 +1,5 @@
 -- Lists edited twice, and what is found after an edit.
-use Rattle.std.proofs.Common.{◌≡◌, ℕ, ◌<◌, List, [], ◌∷◌, filter_map, Bool, true, false, cond, ◌||◌, ◌==◌, Option, Some, None, IfSome, refl, sym, ap, ◌∙◌, arith, eqb, eqb-true, eq-eqb}
+use Rattle.std.proofs.Common.{◌≡◌, ℕ, ◌<◌, List, [], ◌∷◌, filter_map, find, Bool, true, false, cond, ◌||◌, ◌==◌, Option, Some, None, IfSome, refl, sym, ap, ◌∙◌, arith, eqb, eqb-true, eq-eqb}
 use Rattle.std.specs.Option.{option_and_then}
 use Rattle.std.specs.List.{AllByRecursion, list_any, cons_option}
 use Rattle.std.proofs.lemmas.Bool.Decides.{nat_tests}
@@ -16,12 +16,7 @@ filter_map_same f g (x ∷ xs) all = rw (all.0, filter_map_same f g xs all.1) re
 
 pub filter_map_twice : {X Y Z : Type 0} (f : X → Option Y) (g : Y → Option Z) (xs : List X) → filter_map g (filter_map f xs) ≡ filter_map (λ x. option_and_then g (f x)) xs
 filter_map_twice f g [] = refl
-filter_map_twice {X} {Y} {Z} f g (x ∷ xs) = at_head (f x) (filter_map_twice f g xs)
-  where
-    at_head : (o : Option Y) → filter_map g (filter_map f xs) ≡ filter_map (λ y. option_and_then g (f y)) xs
-        → filter_map g (cons_option o (filter_map f xs)) ≡ cons_option (option_and_then g o) (filter_map (λ y. option_and_then g (f y)) xs)
-    at_head None rest = rest
-    at_head (Some y) rest = ap (cons_option (g y)) rest
+filter_map_twice f g (x ∷ xs) = grind (arith, filter_map_twice f g xs)
 
 pub any_same : {X : Type 0} (q t : X → Bool) (xs : List X) → AllByRecursion (λ x. q x ≡ t x) xs → list_any q xs ≡ list_any t xs
 any_same q t [] all = refl
@@ -38,21 +33,13 @@ passes q (Some x) = q x
 
 pub any_edited : {X Y : Type 0} (f : X → Option Y) (q : Y → Bool) (xs : List X) → list_any q (filter_map f xs) ≡ list_any (λ x. passes q (f x)) xs
 any_edited f q [] = refl
-any_edited {X} {Y} f q (x ∷ xs) = at_head (f x) (any_edited f q xs)
-  where
-    at_head : (o : Option Y) → list_any q (filter_map f xs) ≡ list_any (λ y. passes q (f y)) xs → list_any q (cons_option o (filter_map f xs)) ≡ (passes q o || list_any (λ y. passes q (f y)) xs)
-    at_head None rest = rest
-    at_head (Some y) rest = ap (λ b. q y || b) rest
+any_edited f q (x ∷ xs) = grind (arith, any_edited f q xs)
 
 -- Rows by their numbers
 
 pub above_none : (n : ℕ) (ps : List ProcData) → AllAbove n ps → process_of n ps ≡ None
 above_none n [] above = refl
 above_none n (p ∷ ps) above = let other : eqb p.pid n ≡ false = let lt = above.0 in grind (arith, nat_tests) in rw other (above_none n ps above.1)
-
-pub above_less : (n m : ℕ) → n < m → (ps : List ProcData) → AllAbove m ps → AllAbove n ps
-above_less n m lt [] above = tt
-above_less n m lt (p ∷ ps) above = (let more = above.0 in omega arith, above_less n m lt ps above.1)
 
 -- an edit that keeps the numbers of rows
 abbrev pub KeepsNumbers : (ProcData → Option ProcData) → Type 0
@@ -85,14 +72,18 @@ process_edited f keeps n (p ∷ ps) rise = at_head (f p) refl (keeps p) (eqb p.p
     at_head (Some q) is same true here rest = let hit : eqb q.pid n ≡ true = ap (λ m. eqb m n) same ∙ here in rw hit (sym is)
     at_head (Some q) is same false here rest = let miss : eqb q.pid n ≡ false = ap (λ m. eqb m n) same ∙ here in rw miss rest
 
+all_above : (n : ℕ) (ps : List ProcData) → AllAbove n ps → AllByRecursion (λ q. n < q.pid) ps
+all_above n [] above = tt
+all_above n (q ∷ qs) above = (above.0, all_above n qs above.1)
+
+pub found_above : (t : ProcData → Bool) (n : ℕ) (ps : List ProcData) (p : ProcData) → AllAbove n ps → find t ps ≡ Some p → n < p.pid
+found_above t n ps p above is = (find_some t (λ q. n < q.pid) ps (all_above n ps above) p is).0
+
+-- each row is found by its number
 pub own_rows : (ps : List ProcData) → Rise ps → AllByRecursion (λ p. process_of p.pid ps ≡ Some p) ps
 own_rows [] rise = tt
-own_rows (p ∷ ps) rise = (rw (eq-eqb p.pid p.pid refl) refl, All-imply (λ q. (p.pid < q.pid) × (process_of q.pid ps ≡ Some q)) (λ q. process_of q.pid (p ∷ ps) ≡ Some q) later ps (All-both (λ q. p.pid < q.pid) (λ q. process_of q.pid ps ≡ Some q) ps (all_above ps rise.0) (own_rows ps rise.1)))
+own_rows (p ∷ ps) rise = (rw (eq-eqb p.pid p.pid refl) refl, All-imply (λ q. (p.pid < q.pid) × (process_of q.pid ps ≡ Some q)) (λ q. process_of q.pid (p ∷ ps) ≡ Some q) later ps (All-both (λ q. p.pid < q.pid) (λ q. process_of q.pid ps ≡ Some q) ps (all_above p.pid ps rise.0) (own_rows ps rise.1)))
   where
-    all_above : (qs : List ProcData) → AllAbove p.pid qs → AllByRecursion (λ q. p.pid < q.pid) qs
-    all_above [] above = tt
-    all_above (q ∷ qs) above = (above.0, all_above qs above.1)
-
     later : (q : ProcData) → (p.pid < q.pid) × (process_of q.pid ps ≡ Some q) → process_of q.pid (p ∷ ps) ≡ Some q
     later q h = let lt = h.0 in let other : eqb p.pid q.pid ≡ false = grind (arith, nat_tests) in rw other h.1
 

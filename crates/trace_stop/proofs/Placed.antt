@@ -1,8 +1,9 @@
 -- A new process at its place among the others.
-use Rattle.std.proofs.Common.{◌≡◌, ◌≢◌, ℕ, zero, suc, ◌+◌, ◌<◌, List, [], ◌∷◌, ◌++◌, filter, find, Bool, true, false, cond, ◌==◌, ◌||◌, ltb, Option, Some, None, IfSome, refl, sym, ap, ◌∙◌, arith, eqb, true≢false, eqb-true, eq-eqb, ltb-true, ltb-false, lt-ltb}
+use Rattle.std.proofs.lemmas.Bool.Decides.{nat_tests}
+use Rattle.std.proofs.Common.{◌≡◌, ◌≢◌, ℕ, zero, suc, ◌+◌, ◌<◌, List, [], ◌∷◌, ◌++◌, filter, find, Bool, true, false, cond, ◌==◌, ◌||◌, ltb, Option, Some, None, IfSome, refl, sym, ap, ◌∙◌, arith, eqb, true≢false, eqb-true, eq-eqb, ltb-true, ltb-false, lt-ltb, inl, inr}
 use Rattle.std.specs.Prelude.{count_by}
 use Rattle.std.specs.List.{AllByRecursion, list_any}
-use Rattle.std.proofs.lemmas.Bool.{le-ltb}
+use Rattle.std.proofs.lemmas.Bool.{cases_Bool}
 use Rattle.proc_table.specs.declared.ProcData.{ProcData}
 use Rattle.proc_table.specs.Processes.{process_of, placed}
 use Rattle.proc_table.specs.Kept.{Rise, AllAbove}
@@ -13,11 +14,7 @@ use Rattle.trace_stop.proofs.Every.{or_true, by_bool, All-append, All-filter, co
 
 any_mid : {X : Type 0} (q : X → Bool) (x : X) (xs ys : List X) → list_any q (xs ++ (x ∷ ys)) ≡ (q x || list_any q (xs ++ ys))
 any_mid q x [] ys = refl
-any_mid q x (y ∷ xs) ys = rw (any_mid q x xs ys) (swap (q y) (q x) (list_any q (xs ++ ys)))
-  where
-    swap : (a b c : Bool) → (a || (b || c)) ≡ (b || (a || c))
-    swap true b c = sym (or_true b)
-    swap false b c = refl
+any_mid q x (y ∷ xs) ys = grind (arith, any_mid q x xs ys)
 
 count_mid : {X : Type 0} (q : X → Bool) (x : X) (xs ys : List X) → count_by q (xs ++ (x ∷ ys)) ≡ cond (q x) 1 0 + count_by q (xs ++ ys)
 count_mid q x xs ys = let all = count-append q xs (x ∷ ys) in let some = count-append q xs ys in let head = count-cons q x ys in omega (arith, all, some, head)
@@ -28,11 +25,7 @@ find_mid q x (y ∷ xs) ys is = ap (λ o. cond (q y) (Some y) o) (find_mid q x x
 
 find_here : {X : Type 0} (q : X → Bool) (x : X) (xs ys : List X) → list_any q (xs ++ ys) ≡ false → q x ≡ true → find q (xs ++ (x ∷ ys)) ≡ Some x
 find_here q x [] ys none is = rw is refl
-find_here {X} q x (y ∷ xs) ys none is = at_head (q y) refl none (find_here q x xs ys)
-  where
-    at_head : (b : Bool) → q y ≡ b → (b || list_any q (xs ++ ys)) ≡ false → (list_any q (xs ++ ys) ≡ false → q x ≡ true → find q (xs ++ (x ∷ ys)) ≡ Some x) → cond b (Some y) (find q (xs ++ (x ∷ ys))) ≡ Some x
-    at_head true e h rest = absurd (true≢false h)
-    at_head false e h rest = rest h is
+find_here q x (y ∷ xs) ys none is = grind (arith, none, is, find_here q x xs ys)
 
 All_mid : {X : Type 0} (P : X → Type 0) (x : X) (xs ys : List X) → AllByRecursion P xs → P x → AllByRecursion P ys → AllByRecursion P (xs ++ (x ∷ ys))
 All_mid P x xs ys all here rest = All-append P xs (x ∷ ys) all (here, rest)
@@ -45,19 +38,17 @@ above_lower m n lt (p ∷ ps) all = (omega (arith, all.0), above_lower m n lt ps
 
 above_filter : (q : ProcData → Bool) (n : ℕ) (ps : List ProcData) → AllAbove n ps → AllAbove n (filter q ps)
 above_filter q n [] all = tt
-above_filter q n (p ∷ ps) all = kept (q p) (above_filter q n ps all.1)
-  where
-    kept : (b : Bool) → AllAbove n (filter q ps) → AllAbove n (cond b (p ∷ filter q ps) (filter q ps))
-    kept true rest = (all.0, rest)
-    kept false rest = rest
+above_filter q n (p ∷ ps) all = elim (cases_Bool (q p)) [
+  | inl e ↦ rw e (all.0, above_filter q n ps all.1)
+  | inr e ↦ rw e (above_filter q n ps all.1)
+]
 
 pub Rise-filter : (q : ProcData → Bool) (ps : List ProcData) → Rise ps → Rise (filter q ps)
 Rise-filter q [] rise = tt
-Rise-filter q (p ∷ ps) rise = kept (q p) (Rise-filter q ps rise.1)
-  where
-    kept : (b : Bool) → Rise (filter q ps) → Rise (cond b (p ∷ filter q ps) (filter q ps))
-    kept true rest = (above_filter q p.pid ps rise.0, rest)
-    kept false rest = rest
+Rise-filter q (p ∷ ps) rise = elim (cases_Bool (q p)) [
+  | inl e ↦ rw e (above_filter q p.pid ps rise.0, Rise-filter q ps rise.1)
+  | inr e ↦ rw e (Rise-filter q ps rise.1)
+]
 
 above_append : (n : ℕ) (xs ys : List ProcData) → AllAbove n xs → AllAbove n ys → AllAbove n (xs ++ ys)
 above_append n [] ys all rest = rest
@@ -65,19 +56,17 @@ above_append n (x ∷ xs) ys all rest = (all.0, above_append n xs ys all.1 rest)
 
 above_beyond : (n : ℕ) (ps : List ProcData) → AllAbove n (filter (λ q. ltb n q.pid) ps)
 above_beyond n [] = tt
-above_beyond n (p ∷ ps) = kept (ltb n p.pid) refl (above_beyond n ps)
-  where
-    kept : (b : Bool) → ltb n p.pid ≡ b → AllAbove n (filter (λ q. ltb n q.pid) ps) → AllAbove n (cond b (p ∷ filter (λ q. ltb n q.pid) ps) (filter (λ q. ltb n q.pid) ps))
-    kept true e rest = (ltb-true n p.pid e, rest)
-    kept false e rest = rest
+above_beyond n (p ∷ ps) = elim (cases_Bool (ltb n p.pid)) [
+  | inl e ↦ rw e (ltb-true n p.pid e, above_beyond n ps)
+  | inr e ↦ rw e (above_beyond n ps)
+]
 
 all_below : (n : ℕ) (ps : List ProcData) → AllByRecursion (λ q. q.pid < n) (filter (λ q. ltb q.pid n) ps)
 all_below n [] = tt
-all_below n (p ∷ ps) = kept (ltb p.pid n) refl (all_below n ps)
-  where
-    kept : (b : Bool) → ltb p.pid n ≡ b → AllByRecursion (λ q. q.pid < n) (filter (λ q. ltb q.pid n) ps) → AllByRecursion (λ q. q.pid < n) (cond b (p ∷ filter (λ q. ltb q.pid n) ps) (filter (λ q. ltb q.pid n) ps))
-    kept true e rest = (ltb-true p.pid n e, rest)
-    kept false e rest = rest
+all_below n (p ∷ ps) = elim (cases_Bool (ltb p.pid n)) [
+  | inl e ↦ rw e (ltb-true p.pid n e, all_below n ps)
+  | inr e ↦ rw e (all_below n ps)
+]
 
 Rise_mid : (p : ProcData) (xs ys : List ProcData) → Rise xs → AllByRecursion (λ q. q.pid < p.pid) xs → Rise ys → AllAbove p.pid ys → Rise (xs ++ (p ∷ ys))
 Rise_mid p [] ys rise below rest above = (above, rest)
@@ -92,33 +81,22 @@ IsFree n ps = list_any (λ q. q.pid == n) ps ≡ false
 
 none_below : (n : ℕ) (ps : List ProcData) → AllAbove n ps → filter (λ q. ltb q.pid n) ps ≡ []
 none_below n [] above = refl
-none_below n (p ∷ ps) above = let other : ltb p.pid n ≡ false = le-ltb p.pid n (omega (arith, above.0)) in rw other (none_below n ps above.1)
+none_below n (p ∷ ps) above = grind (arith, nat_tests, above.0, none_below n ps above.1)
 
 all_above : (n : ℕ) (ps : List ProcData) → AllAbove n ps → filter (λ q. ltb n q.pid) ps ≡ ps
 all_above n [] above = refl
-all_above n (p ∷ ps) above = rw (lt-ltb n p.pid above.0) (ap (λ qs. p ∷ qs) (all_above n ps above.1))
+all_above n (p ∷ ps) above = grind (arith, nat_tests, above.0, all_above n ps above.1)
 
 -- a number that no row has splits the rows
-split : (n : ℕ) (ps : List ProcData) → Rise ps → IsFree n ps → filter (λ q. ltb q.pid n) ps ++ filter (λ q. ltb n q.pid) ps ≡ ps
+pub split : (n : ℕ) (ps : List ProcData) → Rise ps → IsFree n ps → filter (λ q. ltb q.pid n) ps ++ filter (λ q. ltb n q.pid) ps ≡ ps
 split n [] rise free = refl
-split n (p ∷ ps) rise free = by_head (eqb p.pid n) refl free (split n ps rise.1)
-  where
-    beyond : (ltb p.pid n ≡ false) → p.pid ≢ n → filter (λ q. ltb q.pid n) ps ++ cond (ltb n p.pid) (p ∷ filter (λ q. ltb n q.pid) ps) (filter (λ q. ltb n q.pid) ps) ≡ p ∷ ps
-    beyond is ne =
-        let from = ltb-false p.pid n is in
-        let lt : n < p.pid = omega arith in
-        let over = above_lower n p.pid lt ps rise.0 in
-        rw (none_below n ps over, lt-ltb n p.pid lt, all_above n ps over) refl
-
-    at_head : (b : Bool) → ltb p.pid n ≡ b → p.pid ≢ n → filter (λ q. ltb q.pid n) ps ++ filter (λ q. ltb n q.pid) ps ≡ ps
-        → cond b (p ∷ filter (λ q. ltb q.pid n) ps) (filter (λ q. ltb q.pid n) ps) ++ cond (ltb n p.pid) (p ∷ filter (λ q. ltb n q.pid) ps) (filter (λ q. ltb n q.pid) ps) ≡ p ∷ ps
-    at_head true is ne rest = let lt = ltb-true p.pid n is in let other : ltb n p.pid ≡ false = le-ltb n p.pid (omega arith) in rw other (ap (λ qs. p ∷ qs) rest)
-    at_head false is ne rest = beyond is ne
-
-    by_head : (b : Bool) → eqb p.pid n ≡ b → (b || list_any (λ q. q.pid == n) ps) ≡ false → (IsFree n ps → filter (λ q. ltb q.pid n) ps ++ filter (λ q. ltb n q.pid) ps ≡ ps)
-        → filter (λ q. ltb q.pid n) (p ∷ ps) ++ filter (λ q. ltb n q.pid) (p ∷ ps) ≡ p ∷ ps
-    by_head true e h rest = absurd (true≢false h)
-    by_head false e h rest = at_head (ltb p.pid n) refl (λ same. true≢false (sym (eq-eqb p.pid n same) ∙ e)) (rest h)
+split n (p ∷ ps) rise free = elim (cases_Bool (ltb p.pid n)) [
+  | inl e ↦ grind (arith, nat_tests, e, free, split n ps rise.1)
+  | inr e ↦
+      let lt : n < p.pid = grind (arith, nat_tests, e, free) in
+      let over = above_lower n p.pid lt ps rise.0 in
+      rw (e, none_below n ps over, lt-ltb n p.pid lt, all_above n ps over) refl
+]
 
 module _ (p : ProcData) (ps : List ProcData) (rise : Rise ps) (free : IsFree p.pid ps) where
   abbrev low : List ProcData

@@ -51,6 +51,15 @@ lwp_pending_fits p q l n fit same by none apart = record {
     by_report (inl e) other = let was = fit.silent (ap (is_this l.tid) (sym e) ∙ other) in record { flags = was.flags; child = was.child; code = was.code }
     by_report (inr e) other = let was = fit.silent (ap (is_this l.tid) (none e)) in record { flags = was.flags; child = was.child; code = was.code }
 
+-- an LWP beside a row that is traced and reports as before, and wants the same signals
+pub beside_fits : (p q : ProcData) (l : LwpData) → q.tracer ≡ p.tracer → reporting q ≡ reporting p → unwanted q ≡ unwanted p → FitLwp p l → FitLwp q l
+beside_fits p q l tracer report wants fit = record {
+  untraced = λ none. let was = fit.untraced (sym tracer ∙ none) in record { due = was.due; stepping = was.stepping; suspended = was.suspended; pending = ap (bit_and l.pending) wants ∙ was.pending };
+  silent = λ off. fit.silent (ap (is_this l.tid) (sym report) ∙ off);
+  blocked = fit.blocked;
+  mode = fit.mode;
+}
+
 -- A process that a signal is posted to
 
 pub job_quiet : (s : State) → is_job_state s ≡ true → named_by s ≡ None
@@ -114,18 +123,12 @@ LiveFit chosen p = FitProcess p × (chosen p ≡ true → is_live p ≡ true)
 
 pub post_chosen : (rows : Rows) (chosen : ProcData → Bool) (s : ℕ) (to : Option ℕ) → Holds (LiveFit chosen) FitLwp rows → Holds FitProcess FitLwp (change chosen (posted_process s to) (posted_lwp s to) rows)
 post_chosen rows chosen s to held = changes_hold rows chosen (posted_process s to) (posted_lwp s to) (LiveFit chosen) FitLwp FitProcess FitLwp held (record {
-  pid = λ p. posted_same (λ q. q.pid) s to p (λ n. refl) (λ n. refl);
-  uid = λ p. posted_same (λ q. q.uid) s to p (λ n. refl) (λ n. refl);
-  tracer = λ p. posted_same (λ q. q.tracer) s to p (λ n. refl) (λ n. refl);
-  parent = λ p. posted_same (λ q. q.parent) s to p (λ n. refl) (λ n. refl);
-  tid = λ p l. refl;
-  own = λ p l. refl;
-  flags = λ p l. refl;
-  mode = λ p l. refl;
-  live = λ p fit is. posted_live s to p (fit.1 is) ∙ sym (fit.1 is);
-  named = λ p fit is. inl (posted_report s to p);
-  fits = λ p fit is. posted_fits s to p fit.0 (fit.1 is);
-  rest = λ p fit is. fit.0;
-  fit_lwp = λ p l fit own is. posted_fit_lwp s to p l own;
-  rest_lwp = λ p l fit own is. own;
+  same = λ p. (posted_same (λ q. q.pid) s to p (λ n. refl) (λ n. refl), posted_same (λ q. q.uid) s to p (λ n. refl) (λ n. refl), posted_same (λ q. q.tracer) s to p (λ n. refl) (λ n. refl), posted_same (λ q. q.parent) s to p (λ n. refl) (λ n. refl));
+  same_lwp = λ p l. (refl, refl, refl, refl);
+  live = λ p row is. posted_live s to p (row.fact.1 is) ∙ sym (row.fact.1 is);
+  named = λ p row is. inl (posted_report s to p);
+  fits = λ p row is. posted_fits s to p row.fact.0 (row.fact.1 is);
+  rest = λ p row is. row.fact.0;
+  fit_lwp = λ p l b is. posted_fit_lwp s to p l b.fact;
+  rest_lwp = λ p l b is. b.fact;
 })

@@ -15,11 +15,12 @@ use Rattle.trace_stop.specs.Stop.{post, ends_process, resume, detach}
 use Rattle.trace_stop.specs.Sound.{is_end}
 use Rattle.trace_stop.specs.Facts.{Linked, FitProcess, IsSound}
 use Rattle.trace_stop.proofs.Every.{and_left, and_right, both, by_bool, not_true, All-imply, All-both, find_some, choose}
-use Rattle.trace_stop.proofs.Edited.{owner_after}
 use Rattle.trace_stop.proofs.Changed.{sound_holds, found_number}
+use Rattle.trace_stop.proofs.Changes.{changed_row}
 use Rattle.trace_stop.proofs.Posting.{LiveFit, post_chosen, posted_same}
 use Rattle.trace_stop.specs.Before.{MayTell}
-use Rattle.trace_stop.proofs.Stopping.{the_row, live_told, notified_sound}
+use Rattle.trace_stop.proofs.Numbers.{the_row}
+use Rattle.trace_stop.proofs.Stopping.{live_told, notified_sound}
 use Rattle.trace_stop.proofs.Detached.{resumed_sound, resumed_row, detached_sound, end_sound}
 
 -- a signal that ends a process is the word of an end
@@ -59,9 +60,7 @@ module _ (rows : Rows) (pid : ℕ) (p : ProcData) (s : IsSound rows) (at : proce
       q = posted_process sig to p
 
       found : process_of pid made.processes ≡ Some q
-      found = owner_after rows (λ r. Some (if r.pid == pid then posted_process sig to r else r)) (λ l. Some l)
-          (record { process = λ r. choose (r.pid == pid) (posted_process sig to r) r (λ x. (x.pid ≡ r.pid) × (x.uid ≡ r.uid)) (λ e. (posted_same (λ x. x.pid) sig to r (λ n. refl) (λ n. refl), posted_same (λ x. x.uid) sig to r (λ n. refl) (λ n. refl))) (λ e. (refl, refl)); lwp = λ l. (refl, refl) })
-          pid p q at (rw (eq-eqb p.pid pid number) refl)
+      found = subst (λ b. process_of pid made.processes ≡ Some (if b then posted_process sig to p else p)) (eq-eqb p.pid pid number) (changed_row pid (is_numbered pid) (posted_process sig to) rows.processes p (λ r. posted_same (λ x. x.pid) sig to r (λ n. refl) (λ n. refl)) at)
 
       same : q.parent ≡ p.parent
       same = posted_same (λ x. x.parent) sig to p (λ n. refl) (λ n. refl)

@@ -50,11 +50,7 @@ module _ (pid tid : ℕ) (p : ProcData) (g : LwpData → LwpData) (h : LwpData �
   its_report l b its own e =
       let here : nat_eq l.pid pid ≡ true = rw own (same_number pid) in
       let named : nat_eq tid l.tid ≡ true = rw its (same_number tid) in
-      mine l here ∙ (rw (reports, named) (at b e))
-    where
-      at : (b : Bool) → shows l.flags PL_FLAG_EXITED ≡ b → option_map g (cond (shows l.flags PL_FLAG_EXITED) None (Some (unreported l))) ≡ cond b None (Some (g (unreported l)))
-      at true e = rw e refl
-      at false e = rw e refl
+      mine l here ∙ (rw (reports, named) (grind (arith, e)))
 
   pub reported-lwps : (l : LwpData) (b : Bool) → l.tid ≡ tid → l.pid ≡ pid → shows l.flags PL_FLAG_EXITED ≡ b → (ls : List LwpData) → Differ ls → lwp_of tid ls ≡ Some l
       → filter_map h ls ≡ map (own_lwp pid g) (dropped b l ls)

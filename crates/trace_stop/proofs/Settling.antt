@@ -10,13 +10,11 @@ use Rattle.proc_table.specs.Rows.{Rows, change, change_process, is_numbered}
 use Rattle.trace_stop.specs.Post.{unwanted, settled_process, settled_lwp, settle}
 use Rattle.trace_stop.specs.Facts.{FitProcess, FitLwp, IsSound}
 use Rattle.trace_stop.specs.Before.{FitButPending, FitLwpButPending, IsSoundButPending}
-use Rattle.trace_stop.proofs.Every.{All-both}
 use Rattle.trace_stop.proofs.Bits.{without_apart}
-use Rattle.trace_stop.proofs.Changed.{Holds, sound_holds}
+use Rattle.trace_stop.proofs.Changed.{Holds, holds_sound, sound_holds, row_is}
 use Rattle.trace_stop.proofs.Changes.{changes_hold}
 use Rattle.trace_stop.proofs.Posting.{pending_fits, lwp_pending_fits, live_fits, live_state}
 use Rattle.trace_stop.proofs.Single.{process_alone}
-use Rattle.trace_stop.proofs.Stopping.{the_row}
 
 other : (a b : ℕ) → (a == b) ≡ false → a ≢ b
 other a b e same = true≢false (sym (eq-eqb a b same) ∙ e)
@@ -29,20 +27,14 @@ settled_lwp_fits p l fit = lwp_pending_fits p (settled_process p) (record l { pe
 
 pub settle_sound : (rows : Rows) (pid : ℕ) → IsSoundButPending pid rows → IsSound (settle pid rows)
 settle_sound rows pid s = sound_holds (settle pid rows) (changes_hold rows (is_numbered pid) settled_process settled_lwp (FitButPending pid) (FitLwpButPending pid) FitProcess FitLwp (record { stands = s.stands; processes = s.processes; lwps = s.lwps }) (record {
-  pid = λ p. refl;
-  uid = λ p. refl;
-  tracer = λ p. refl;
-  parent = λ p. refl;
-  tid = λ p l. refl;
-  own = λ p l. refl;
-  flags = λ p l. refl;
-  mode = λ p l. refl;
-  live = λ p fact is. refl;
-  named = λ p fact is. inl refl;
-  fits = λ p fact is. settled_fits p (fact.1 (eqb-true p.pid pid is));
-  rest = λ p fact is. fact.0 (other p.pid pid is);
-  fit_lwp = λ p l fact own is. settled_lwp_fits p l (own.1 (eqb-true p.pid pid is));
-  rest_lwp = λ p l fact own is. own.0 (other p.pid pid is);
+  same = λ p. (refl, refl, refl, refl);
+  same_lwp = λ p l. (refl, refl, refl, refl);
+  live = λ p row is. refl;
+  named = λ p row is. inl refl;
+  fits = λ p row is. settled_fits p (row.fact.1 (eqb-true p.pid pid is));
+  rest = λ p row is. row.fact.0 (other p.pid pid is);
+  fit_lwp = λ p l b is. settled_lwp_fits p l (b.fact.1 (eqb-true p.pid pid is));
+  rest_lwp = λ p l b is. b.fact.0 (other p.pid pid is);
 }))
 
 pub zero_apart : (n : ℕ) → bit_and 0 n ≡ 0
@@ -66,34 +58,20 @@ module _ (rows : Rows) (pid : ℕ) (p : ProcData) (dispose : ProcData → Action
   abbrev to : ProcData → ProcData
   to q = record q { dispositions = dispose q }
 
-  abbrev Known : ProcData → Type 0
-  Known q = FitProcess q × (q.pid ≡ pid → q ≡ p)
-
-  known : (q : ProcData) → Known q → (q.pid == pid) ≡ true → is_live q ≡ true
-  known q fact is = subst (λ r. is_live r ≡ true) (sym (fact.1 (eqb-true q.pid pid is))) live
-
   apart : (q : ProcData) (R : Type 0) → (q.pid == pid) ≡ true → q.pid ≢ pid → R
   apart q R is ne = absurd (ne (eqb-true q.pid pid is))
 
   loose : Holds (FitButPending pid) (FitLwpButPending pid) (change (is_numbered pid) to (λ q l. l) rows)
-  loose = changes_hold rows (is_numbered pid) to (λ q l. l) Known FitLwp (FitButPending pid) (FitLwpButPending pid)
-      (record { stands = s.stands; processes = All-both FitProcess (λ q. q.pid ≡ pid → q ≡ p) rows.processes s.processes (the_row pid rows.processes p s.stands.rising at); lwps = s.lwps })
-      (record {
-        pid = λ q. refl;
-        uid = λ q. refl;
-        tracer = λ q. refl;
-        parent = λ q. refl;
-        tid = λ q l. refl;
-        own = λ q l. refl;
-        flags = λ q l. refl;
-        mode = λ q l. refl;
-        live = λ q fact is. refl;
-        named = λ q fact is. inl refl;
-        fits = λ q fact is. (apart q (FitProcess (to q)) is, λ same. (redisposed (dispose q) q fact.0 (known q fact is), known q fact is));
-        rest = λ q fact is. (λ ne. fact.0, λ same. absurd (other q.pid pid is same));
-        fit_lwp = λ q l fact own is. (apart q (FitLwp (to q) l) is, λ same. redisposed_lwp (dispose q) q l own);
-        rest_lwp = λ q l fact own is. (λ ne. own, λ same. absurd (other q.pid pid is same));
-      })
+  loose = changes_hold rows (is_numbered pid) to (λ q l. l) FitProcess FitLwp (FitButPending pid) (FitLwpButPending pid) (holds_sound rows s) (record {
+    same = λ q. (refl, refl, refl, refl);
+    same_lwp = λ q l. (refl, refl, refl, refl);
+    live = λ q row is. refl;
+    named = λ q row is. inl refl;
+    fits = λ q row is. (apart q (FitProcess (to q)) is, λ same. let alive = subst (λ r. is_live r ≡ true) (sym (row_is row at same)) live in (redisposed (dispose q) q row.fact alive, alive));
+    rest = λ q row is. (λ ne. row.fact, λ same. absurd (other q.pid pid is same));
+    fit_lwp = λ q l b is. (apart q (FitLwp (to q) l) is, λ same. redisposed_lwp (dispose q) q l b.fact);
+    rest_lwp = λ q l b is. (λ ne. b.fact, λ same. absurd (other q.pid pid is same));
+  })
 
   pub disposed_but_pending : IsSoundButPending pid (change_process pid to rows)
   disposed_but_pending = subst (IsSoundButPending pid) (process_alone pid to rows) (record { stands = loose.stands; processes = loose.processes; lwps = loose.lwps })

@@ -1,7 +1,8 @@
 -- A trace stop keeps rows sound.
-use Rattle.std.proofs.Common.{◌≡◌, ◌≢◌, ◌⊎◌, inl, ℕ, ◌≤◌, Bool, true, false, ◌==◌, ◌&&◌, if◌then◌else◌, List, [], ◌∷◌, find, Option, Some, None, IfSome, is_some, not, refl, sym, ap, ◌∙◌, true≢false, subst, arith, eqb-true, eq-eqb}
+use Rattle.std.proofs.Common.{◌≡◌, ◌≢◌, ◌⊎◌, inl, ℕ, ◌≤◌, Bool, true, false, ◌==◌, ◌&&◌, if◌then◌else◌, List, [], ◌∷◌, find, Option, Some, None, IfSome, is_some, not, refl, sym, ap, ◌∙◌, true≢false, subst, arith, eqb-true, eq-eqb, bit_and}
 use Rattle.std.specs.List.{AllByRecursion, list_any}
 use Rattle.std.specs.Option.{IsSomeAnd}
+use Rattle.signals.specs.Table.{unmaskable_set}
 use Rattle.event_masks.specs.Exits.{shows}
 use Rattle.event_masks.specs.declared.TheConstants.StopFlags.{PL_FLAG_EXITED}
 use Rattle.lwp_table.specs.declared.LwpData.{LwpData}
@@ -10,18 +11,20 @@ use Rattle.proc_table.specs.declared.ProcData.{ProcData}
 use Rattle.proc_table.specs.declared.State.{State}
 use Rattle.proc_table.specs.declared.State.TheVariants.{Run, Trace, Job, Zombie}
 use Rattle.proc_table.specs.Processes.{is_live, is_run, is_run_state, is_zombie_state, named_by, reporting, is_this, process_of}
-use Rattle.proc_table.specs.Rows.{Rows}
+use Rattle.proc_table.specs.Rows.{Rows, each}
 use Rattle.proc_table.specs.Fresh.{lwp_count}
 use Rattle.trace_stop.specs.End.{tracer_in, tracer_of}
 use Rattle.trace_stop.specs.Stop.{tracers, stop}
+use Rattle.trace_stop.specs.Post.{notified}
 use Rattle.trace_stop.specs.declared.Shown.{Shown}
-use Rattle.trace_stop.specs.Sound.{names_own}
-use Rattle.trace_stop.specs.Facts.{IsLiveOf, IsLiveChild, Linked, FitProcess, waited_for, Standing, FitLwp, WithOwner, IsSound}
+use Rattle.trace_stop.specs.Sound.{names_own, mode_fits}
+use Rattle.trace_stop.specs.Facts.{IsLiveOf, IsLiveChild, Linked, FitProcess, waited_for, Standing, FitLwp, Silent, WithOwner, IsSound}
 use Rattle.trace_stop.proofs.Every.{by_bool, both, All-imply, All-both, All-any, find_some, choose}
-use Rattle.trace_stop.proofs.Edited.{edited, some_is}
-use Rattle.trace_stop.proofs.Changed.{Holds, sound_holds, found_number, Change, change_holds, live_after}
+use Rattle.trace_stop.proofs.Edited.{If_more}
+use Rattle.trace_stop.proofs.Changed.{Holds, Row, Beside, Same, Stay, Edit, Leaves, KeptRow, nobody, sound_holds, found_number, lwp_is, row_at, like_self, peopled_on, kept_row, kept_all, none_gone, no_ring, stay, edit_holds, lives_after, each_alone}
 use Rattle.trace_stop.specs.Before.{MayTell, Ready, FitOrReady, MayStop}
-use Rattle.trace_stop.proofs.Stopping.{the_row, the_lwp, live_told, notified_sound}
+use Rattle.trace_stop.proofs.Numbers.{the_row, the_lwp}
+use Rattle.trace_stop.proofs.Stopping.{live_told, notified_sound}
 
 pub run_quiet : (s : State) → is_run_state s ≡ true → (named_by s ≡ None) × (is_zombie_state s ≡ false)
 run_quiet Run is = (refl, refl)
@@ -83,21 +86,18 @@ module _ (rows : Rows) (pid tid : ℕ) (shown : Shown) (p : ProcData) (l : LwpDa
   abbrev to_lwp : LwpData → LwpData
   to_lwp k = if k.tid == tid then showing k else k
 
+  abbrev made : Rows
+  made = each to (λ q k. Some (to_lwp k)) rows
+
   abbrev Known : ProcData → LwpData → Type 0
-  Known q k = FitLwp q k × (k.tid ≡ tid → k ≡ l)
+  Known q k = Beside rows (FitOrReady pid) FitLwp q k
 
   other : (q : ProcData) → (q.pid == pid) ≡ false → q.pid ≢ pid
   other q e same = true≢false (sym (eq-eqb q.pid pid same) ∙ e)
 
-  held : Holds (FitOrReady pid) Known rows
-  held = record { stands = s.stands; processes = s.processes; lwps = All-imply (λ k. WithOwner rows FitLwp k × (k.tid ≡ tid → k ≡ l)) (WithOwner rows Known) (λ k h q at. (h.0 q at, h.1)) rows.lwps (All-both (WithOwner rows FitLwp) (λ k. k.tid ≡ tid → k ≡ l) rows.lwps s.lwps (the_lwp tid rows.lwps l s.stands.differ c.there)) }
-
-  number : p.pid ≡ pid
-  number = found_number pid rows.processes p c.at
-
   -- the stopping LWP is the process's own
-  its_own : (q : ProcData) (k : LwpData) → Known q k → process_of k.pid rows.processes ≡ Some q → (k.tid == tid) ≡ true → q.pid ≡ pid
-  its_own q k known at is = found_number k.pid rows.processes q at ∙ (ap (λ j. j.pid) (known.1 (eqb-true k.tid tid is)) ∙ c.own)
+  its_own : (q : ProcData) (k : LwpData) → Known q k → (k.tid == tid) ≡ true → q.pid ≡ pid
+  its_own q k b is = found_number k.pid rows.processes q b.at ∙ (ap (λ j. j.pid) (lwp_is b c.there (eqb-true k.tid tid is)) ∙ c.own)
 
   named : (q : ProcData) → (q.pid == pid) ≡ true → names_own rows q tid ≡ true
   named q is = find_passes (λ k. k.tid == tid) (λ k. (k.tid == tid) && (k.pid == q.pid)) rows.lwps l c.there
@@ -112,53 +112,58 @@ module _ (rows : Rows) (pid tid : ℕ) (shown : Shown) (p : ProcData) (l : LwpDa
     ended = tt;
   }
 
-  fit_lwp : (q : ProcData) (k : LwpData) → FitOrReady pid q → Known q k → process_of k.pid rows.processes ≡ Some q → (b : Bool) → (q.pid == pid) ≡ b → (d : Bool) → (k.tid == tid) ≡ d → FitLwp (if b then stopped q else q) (if d then showing k else k)
-  fit_lwp q k fact known at false e true d = absurd (other q e (its_own q k known at d))
-  fit_lwp q k fact known at false e false d = known.0
-  fit_lwp q k fact known at true e true d = let ready = fact.1 (eqb-true q.pid pid e) in record {
+  fit_lwp : (q : ProcData) (k : LwpData) → Known q k → (b : Bool) → (q.pid == pid) ≡ b → (d : Bool) → (k.tid == tid) ≡ d → FitLwp (if b then stopped q else q) (if d then showing k else k)
+  fit_lwp q k known false e true d = absurd (other q e (its_own q k known d))
+  fit_lwp q k known false e false d = known.fact
+  fit_lwp q k known true e b d = let ready = known.row.fact.1 (eqb-true q.pid pid e) in record {
     untraced = λ none. absurd (none_some q.tracer none ready.traced);
-    silent = λ off. absurd (true≢false (sym (eq-eqb tid k.tid (sym (eqb-true k.tid tid d))) ∙ off));
-    blocked = known.0.blocked;
-    mode = known.0.mode;
-  }
-  fit_lwp q k fact known at true e false d = let ready = fact.1 (eqb-true q.pid pid e) in record {
-    untraced = λ none. absurd (none_some q.tracer none ready.traced);
-    silent = λ off. known.0.silent (ap (is_this k.tid) ready.quiet);
-    blocked = known.0.blocked;
-    mode = known.0.mode;
-  }
-
-  the_change : Change rows to to_lwp (FitOrReady pid) Known FitProcess FitLwp
-  the_change = record {
-    same = record {
-      process = λ q. choose (q.pid == pid) (stopped q) q (λ r. (r.pid ≡ q.pid) × (r.uid ≡ q.uid)) (λ e. (refl, refl)) (λ e. (refl, refl));
-      lwp = λ k. choose (k.tid == tid) (showing k) k (λ j. (j.tid ≡ k.tid) × (j.pid ≡ k.pid)) (λ e. (refl, refl)) (λ e. (refl, refl));
-    };
-    live = λ q fact is. choose (q.pid == pid) (stopped q) q (λ r. is_live r ≡ true) (λ e. refl) (λ e. is);
-    ended = λ q fact. choose (q.pid == pid) (stopped q) q (λ r. is_live r ≡ true → is_live q ≡ true) (λ e is. (fact.1 (eqb-true q.pid pid e)).live) (λ e is. is);
-    tracer = λ q fact. choose (q.pid == pid) (stopped q) q (λ r. (r.tracer ≡ q.tracer) ⊎ (r.tracer ≡ None)) (λ e. inl refl) (λ e. inl refl);
-    parent = λ q fact. choose (q.pid == pid) (stopped q) q (λ r. r.parent ≡ q.parent) (λ e. refl) (λ e. refl);
-    named = λ q fact link. choose (q.pid == pid) (stopped q) q (λ r. IfSome (reporting r) (λ n. names_own rows q n ≡ true)) (λ e. named q e) (λ e. link.named);
-    exited = λ q k fact known stood at shown_is. exited q k known stood at (k.tid == tid) refl shown_is;
-    waits = λ q k known stood at. choose (k.tid == tid) (showing k) k (λ j. IfSome (waited_for j.mode) (IsLiveChild rows q)) (λ e. stood.waits) (λ e. stood.waits);
-    fits = λ q fact link. choose (q.pid == pid) (stopped q) q FitProcess (λ e. fits q (fact.1 (eqb-true q.pid pid e))) (λ e. fact.0 (other q e));
-    fit_lwp = λ q r k fact known stood at is. subst (λ x. FitLwp x (to_lwp k)) (some_is (if q.pid == pid then stopped q else q) r is) (fit_lwp q k fact known at (q.pid == pid) refl (k.tid == tid) refl);
+    silent = by_number b d;
+    blocked = choose b (showing k) k (λ j. bit_and j.blocked unmaskable_set ≡ 0) (λ x. known.fact.blocked) (λ x. known.fact.blocked);
+    mode = choose b (showing k) k (λ j. mode_fits j.mode ≡ true) (λ x. known.fact.mode) (λ x. known.fact.mode);
   }
     where
-      exited : (q : ProcData) (k : LwpData) → Known q k → Standing rows q k → process_of k.pid rows.processes ≡ Some q → (d : Bool) → (k.tid == tid) ≡ d → shows (if d then showing k else k).flags PL_FLAG_EXITED ≡ true → 2 ≤ lwp_count q.pid rows
-      exited q k known stood at true d is = subst (λ n. 2 ≤ lwp_count n rows) (sym (its_own q k known at d)) (c.exits is)
-      exited q k known stood at false d is = stood.exited is
+      by_number : (x : Bool) → (k.tid == tid) ≡ x → is_this (if x then showing k else k).tid (Some tid) ≡ false → Silent (if x then showing k else k)
+      by_number true d off = absurd (true≢false (sym (eq-eqb tid k.tid (sym (eqb-true k.tid tid d))) ∙ off))
+      by_number false d off = known.fact.silent (ap (is_this k.tid) (known.row.fact.1 (eqb-true q.pid pid e)).quiet)
 
-  abbrev made : Rows
-  made = edited to (λ k. Some (to_lwp k)) rows
+  exited : (q : ProcData) (k : LwpData) → Known q k → (d : Bool) → (k.tid == tid) ≡ d → shows (if d then showing k else k).flags PL_FLAG_EXITED ≡ true → 2 ≤ lwp_count q.pid rows
+  exited q k known true d is = subst (λ n. 2 ≤ lwp_count n rows) (sym (its_own q k known d)) (c.exits is)
+  exited q k known false d is = known.stood.exited is
+
+  same : Same to (λ q k. Some (to_lwp k))
+  same = record {
+    process = λ q. choose (q.pid == pid) (stopped q) q (λ r. (r.pid ≡ q.pid) × (r.uid ≡ q.uid)) (λ e. (refl, refl)) (λ e. (refl, refl));
+    lwp = λ q k. choose (k.tid == tid) (showing k) k (λ j. (j.tid ≡ k.tid) × (j.pid ≡ k.pid)) (λ e. (refl, refl)) (λ e. (refl, refl));
+  }
+
+  stays : (q : ProcData) → Row rows (FitOrReady pid) q → Stay rows made q
+  stays q row = stay rows to (λ q k. Some (to_lwp k)) same q row.at (λ k. (to_lwp k, refl))
+
+  the_edit : Edit rows nobody to (λ q k. Some (to_lwp k)) (FitOrReady pid) FitLwp FitProcess FitLwp
+  the_edit = record {
+    same = same;
+    ring = no_ring to rows.processes s.stands.rising same.process (λ q. choose (q.pid == pid) (stopped q) q (Leaves q) (λ e t is. is) (λ e t is. is));
+    gone = none_gone rows (FitOrReady pid) (λ q k. Some (to_lwp k));
+    process = λ q row. choose (q.pid == pid) (stopped q) q (KeptRow rows made nobody FitProcess q)
+        (λ e. let ready = row.fact.1 (eqb-true q.pid pid e) in kept_row row (record { live = sym ready.live; tracer = inl refl; parent = refl }) ((stays q row).named tid (named q e)) (peopled_on row (stays q row)) (fits q ready))
+        (λ e. kept_all row (like_self q) (inl refl) (stays q row) (row.fact.0 (other q e)));
+    lwp = λ q k b on. record {
+      exited = λ shown_is. let two = exited q k b (k.tid == tid) refl shown_is in let more = (stays q b.row).count in omega (arith, two, more);
+      waits = If_more (IsLiveChild rows q) _ (λ n live. (live, refl)) (waited_for (to_lwp k).mode) (choose (k.tid == tid) (showing k) k (λ j. IfSome (waited_for j.mode) (IsLiveChild rows q)) (λ e. b.stood.waits) (λ e. b.stood.waits));
+      fits = fit_lwp q k b (q.pid == pid) refl (k.tid == tid) refl;
+    };
+  }
+
+  made_sound : IsSound made
+  made_sound = sound_holds made (edit_holds rows nobody to (λ q k. Some (to_lwp k)) (FitOrReady pid) FitLwp FitProcess FitLwp s the_edit)
 
   pub stop_sound : IsSound (stop pid tid shown rows)
-  stop_sound = notified_sound made (tracers (tracer_of rows.processes pid)) (sound_holds made (change_holds rows to to_lwp (FitOrReady pid) Known FitProcess FitLwp held the_change))
-      (subst (λ o. AllByRecursion (MayTell made) (tracers (tracer_in o))) (sym c.at) (tell p.tracer (find_some (λ q. q.pid == pid) (Linked rows) rows.processes s.stands.linked p c.at).0.tracer))
+  stop_sound = subst (λ r. IsSound (notified (tracers (tracer_of rows.processes pid)) r)) (each_alone rows s.stands.housed to (λ k. Some (to_lwp k))) (notified_sound made (tracers (tracer_of rows.processes pid)) made_sound
+      (subst (λ o. AllByRecursion (MayTell made) (tracers (tracer_in o))) (sym c.at) (tell p.tracer (row_at rows s pid p c.at).link.tracer)))
     where
       tell : (o : Option ℕ) → IfSome o (IsLiveOf rows p.uid) → AllByRecursion (MayTell made) (tracers o)
       tell None live = tt
-      tell (Some t) live = (live_told made p.uid t (live_after rows to to_lwp (FitOrReady pid) Known FitProcess FitLwp held the_change p.uid t live), tt)
+      tell (Some t) live = (live_told made p.uid t (lives_after rows nobody to (λ q k. Some (to_lwp k)) (FitOrReady pid) FitLwp FitProcess FitLwp s the_edit p.uid t (live, refl)), tt)
 
 pub stopped_sound : (rows : Rows) (pid tid : ℕ) (shown : Shown) (p : ProcData) (l : LwpData) → process_of pid rows.processes ≡ Some p → lwp_of tid rows.lwps ≡ Some l → MayStop pid tid shown rows → IsSound (stop pid tid shown rows)
 stopped_sound rows pid tid shown p l at there may =

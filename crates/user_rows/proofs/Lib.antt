@@ -3,6 +3,4 @@ pub mod ViewSame
 pub mod ViewEdits
 pub mod ViewSignals
 pub mod ViewEnds
-pub mod ViewStops
 pub mod ViewRows
-pub mod ViewLaws

@@ -1,16 +1,22 @@
 -- The other primitives: one process, one LWP, new rows; and branches of rows.
-use Rattle.std.proofs.Common.{◌≡◌, ◌≢◌, ℕ, ◌<◌, List, [], ◌∷◌, ◌++◌, length, filter, find, filter_map, Bool, true, false, ◌==◌, ltb, if◌then◌else◌, Option, Some, None, IfSome, refl, sym, ap, ◌∙◌, arith, eqb, eqb-true, subst, append-nil, get_or, set, get_or-set_same, get_or-set_other, length-set, inl, ltb-true, ltb-false, lt-ltb}
+use Rattle.std.proofs.Common.{◌≡◌, ◌≢◌, ℕ, ◌<◌, List, [], ◌∷◌, ◌++◌, length, filter, find, filter_map, Bool, true, false, ◌==◌, if◌then◌else◌, Option, Some, None, refl, sym, ap, ◌∙◌, arith, eqb, eqb-true, subst, append-nil, get_or, set, get_or-set_same, get_or-set_other, length-set, inl}
+use Rattle.std.specs.List.{AllByRecursion, list_any}
 use Rattle.std.proofs.lemmas.Bool.Decides.{nat_tests}
+use Rattle.std.proofs.lemmas.List.Elements.{filter-append}
 use Rattle.pid_blocks.specs.Users.{IsUser}
 use Rattle.pid_blocks.specs.Blocks.{pid_owner, tid_owner, pid_block, tid_block, slot, cursor_after, InBlock}
 use Rattle.proc_table.specs.declared.ProcData.{ProcData}
 use Rattle.lwp_table.specs.declared.LwpData.{LwpData}
 use Rattle.proc_table.specs.Processes.{is_live, process_of, placed}
-use Rattle.proc_table.specs.Rows.{Rows, change, edit_processes, edit_lwps, change_process, change_lwp, remove_lwp}
-use Rattle.proc_table.specs.Fresh.{add_process, add_lwp}
-use Rattle.user_rows.specs.Closed.{Every, GoodProc, GoodLwp, LiveRow, Housed}
-use Rattle.user_rows.proofs.ViewLists.{find_only, find_no, find_append, or_else, every, find_some, filter_edit, filter_untouched, Every-edit, Every-filter, Every-append, Every-imply, Every-both, Rising-placed, placed-only, placed-other, filter-append}
-use Rattle.user_rows.proofs.ViewSame.{Sim, Kin, KinLwp, own, own_lwp, is_own, not_own, not_equal, named, If-both, kin, processes_kept, rising_kept, untouched, seen_kept, live_after, each_same, process_some}
+use Rattle.proc_table.specs.Rows.{Rows, owner, by_owner, each, change, edit_processes, edit_lwps, change_process, change_lwp, remove_lwp}
+use Rattle.proc_table.specs.Fresh.{is_process, add_process, add_lwp}
+use Rattle.user_rows.specs.Closed.{GoodProc, GoodLwp, LiveRow, LiveOwner}
+use Rattle.trace_stop.proofs.Every.{All-imply, All-append, choose, choose_both}
+use Rattle.trace_stop.proofs.Edited.{edit_none}
+use Rattle.trace_stop.proofs.Passes.{filter_map_same}
+use Rattle.trace_stop.proofs.Placed.{Rise-placed, All-placed, process_of-other}
+use Rattle.user_rows.proofs.ViewLists.{All-where, placed-only, placed-other}
+use Rattle.user_rows.proofs.ViewSame.{Sim, Kin, KinLwp, own, own_lwp, is_own, not_own, named, process_same, each_same}
 
 -- what a process of u becomes where it isn't gone: a live one stays live
 abbrev pub Stays : ProcData → ProcData → Type 0
@@ -19,155 +25,98 @@ Stays p q = (q.pid ≡ p.pid) × (q.uid ≡ p.uid) × GoodProc q × (is_live p �
 abbrev pub StaysLwp : LwpData → LwpData → Type 0
 StaysLwp l k = (k.pid ≡ l.pid) × GoodLwp k
 
+pub stays_if : (p q : ProcData) (b : Bool) → GoodProc p → (b ≡ true → Stays p q) → Stays p (if b then q else p)
+stays_if p q b good h = choose b q p (Stays p) h (λ e. (refl, refl, good, λ live. live))
+
+pub kin_of : (p q : ProcData) → Stays p q → Kin p (Some q)
+kin_of p q st = (st.0, st.1, st.2)
+
 -- chosen rows, all of u
 pub change_same : {u : ℕ} {start c v : Rows} → Sim u start c v → (chosen : ProcData → Bool) (process : ProcData → ProcData) (lwp : ProcData → LwpData → LwpData)
     → ((p : ProcData) → GoodProc p → p.uid ≢ u → chosen p ≡ false)
     → ((p : ProcData) → GoodProc p → p.uid ≡ u → chosen p ≡ true → Stays p (process p))
     → ((p : ProcData) (l : LwpData) → GoodProc p → GoodLwp l → StaysLwp l (lwp p l))
     → Sim u start (change chosen process lwp c) (change chosen process lwp v)
-change_same {u} s chosen process lwp foreign mine mine_lwp = each_same s (λ p. Some (if chosen p then process p else p)) (λ p l. Some (if chosen p then lwp p l else l)) (record {
-  mine = λ p good is. kept p good is (chosen p) refl;
+change_same s chosen process lwp foreign mine mine_lwp = each_same s (λ p. Some (if chosen p then process p else p)) (λ p l. Some (if chosen p then lwp p l else l)) (record {
+  mine = λ p good is. kin_of p _ (stays_if p (process p) (chosen p) good (mine p good is));
   foreign = λ p good ne. rw (foreign p good ne) refl;
-  lwp = λ p l good well is here. kept_lwp p l good well (chosen p);
+  lwp = λ p l good well is here. choose (chosen p) (lwp p l) l (StaysLwp l) (λ e. mine_lwp p l good well) (λ e. (refl, well));
   foreign_lwp = λ p l good well ne here. rw (foreign p good ne) refl;
-  live = λ p l good is live. inl (lives p good is live (chosen p) refl);
+  live = λ p l good is live. let st = stays_if p (process p) (chosen p) good (mine p good is) in inl (st.3 live);
 })
-  where
-    kept : (p : ProcData) → GoodProc p → p.uid ≡ u → (b : Bool) → chosen p ≡ b → Kin p (Some (if b then process p else p))
-    kept p good is true e = let st = mine p good is e in (st.0, st.1, st.2)
-    kept p good is false e = (refl, refl, good)
-
-    kept_lwp : (p : ProcData) (l : LwpData) → GoodProc p → GoodLwp l → (b : Bool) → KinLwp l (Some (if b then lwp p l else l))
-    kept_lwp p l good well true = mine_lwp p l good well
-    kept_lwp p l good well false = (refl, well)
-
-    lives : (p : ProcData) → GoodProc p → p.uid ≡ u → is_live p ≡ true → (b : Bool) → chosen p ≡ b → LiveRow (Some (if b then process p else p))
-    lives p good is live true e = let st = mine p good is e in st.3 live
-    lives p good is live false e = live
 
 -- processes alone
+by_none : (l : LwpData) (o : Option ProcData) → by_owner (λ p k. Some k) l o ≡ Some l
+by_none l None = refl
+by_none l (Some p) = refl
+
+processes_alone : (f : ProcData → Option ProcData) (rows : Rows) → each f (λ p l. Some l) rows ≡ edit_processes f rows
+processes_alone f rows = ap (λ ls. record rows { processes = filter_map f rows.processes; lwps = ls }) (edit_none (λ l. by_owner (λ p k. Some k) l (owner rows l)) (λ l. by_none l (owner rows l)) rows.lwps)
+
 pub edit_same : {u : ℕ} {start c v : Rows} → Sim u start c v → (f : ProcData → Option ProcData)
     → ((p : ProcData) → GoodProc p → p.uid ≡ u → Kin p (f p))
     → ((p : ProcData) → GoodProc p → p.uid ≢ u → f p ≡ Some p)
     → ((p : ProcData) → GoodProc p → p.uid ≡ u → is_live p ≡ true → LiveRow (f p))
     → Sim u start (edit_processes f c) (edit_processes f v)
-edit_same {u} {start} {c} {v} s f mine foreign live = record {
-  kept = record {
-    closed = record {
-      processes = processes_kept f kins c.processes all;
-      lwps = s.kept.closed.lwps;
-      housed = Every-imply (Housed c.processes) (Housed (filter_map f c.processes)) housed c.lwps s.kept.closed.housed;
-      rising = rising_kept f kins c.processes all s.kept.closed.rising;
-      user = s.kept.closed.user;
-      pid_slots = s.kept.closed.pid_slots;
-      tid_slots = s.kept.closed.tid_slots;
-      pid_cursor = s.kept.closed.pid_cursor;
-      tid_cursor = s.kept.closed.tid_cursor;
-    };
-    processes = λ w ne. untouched f kins foreign c.processes all w ne ∙ s.kept.processes w ne;
-    lwps = s.kept.lwps;
-    pid_cursor = s.kept.pid_cursor;
-    tid_cursor = s.kept.tid_cursor;
-  };
-  processes = seen_kept u f kins c.processes all ∙ ap (filter_map f) s.processes;
-  lwps = s.lwps;
-  pid_cursor = s.pid_cursor;
-  tid_cursor = s.tid_cursor;
-  pid_slots = s.pid_slots;
-  tid_slots = s.tid_slots;
-}
-  where
-    kins : (p : ProcData) → GoodProc p → Kin p (f p)
-    kins = kin f mine foreign
-
-    all : Every GoodProc c.processes
-    all = s.kept.closed.processes
-
-    by_user : (p : ProcData) → GoodProc p → is_live p ≡ true → (b : Bool) → eqb p.uid u ≡ b → LiveRow (f p)
-    by_user p good is true e = live p good (eqb-true p.uid u e) is
-    by_user p good is false e = subst LiveRow (sym (foreign p good (not_equal p.uid u e))) is
-
-    housed : (l : LwpData) → Housed c.processes l → Housed (filter_map f c.processes) l
-    housed l h = at_row (process_of l.pid c.processes) refl (process_some c.processes l.pid all) h
-      where
-        at_row : (o : Option ProcData) → process_of l.pid c.processes ≡ o → IfSome o (λ p. GoodProc p × ((p.pid == l.pid) ≡ true)) → LiveRow o → LiveRow (process_of l.pid (filter_map f c.processes))
-        at_row None is g no_row = absurd no_row
-        at_row (Some p) is g is_live_row = live_after f kins c.processes all l.pid p is (by_user p g.0 is_live_row (eqb p.uid u) refl)
+edit_same {u} {start} {c} {v} s f mine foreign live = subst (Sim u start (edit_processes f c)) (processes_alone f v) (subst (λ rows. Sim u start rows (each f (λ p l. Some l) v)) (processes_alone f c) (each_same s f (λ p l. Some l) (record {
+  mine = mine;
+  foreign = foreign;
+  lwp = λ p l good well is here. (refl, well);
+  foreign_lwp = λ p l good well ne here. refl;
+  live = λ p l good is on. inl (live p good is on);
+})))
 
 -- one process of u
 pub process_same_after : {u : ℕ} {start c v : Rows} → Sim u start c v → (n : ℕ) → pid_owner n ≡ u → (f : ProcData → ProcData)
     → ((p : ProcData) → GoodProc p → p.uid ≡ u → p.pid ≡ n → Stays p (f p))
     → Sim u start (change_process n f c) (change_process n f v)
 process_same_after {u} s n here f stays = edit_same s (λ p. Some (if p.pid == n then f p else p))
-    (λ p good is. kept p good is (eqb p.pid n) refl)
+    (λ p good is. kin_of p _ (kept p good is))
     (λ p good ne. rw (not_own n p.pid (λ e. ne (named here p good e))) refl)
-    (λ p good is live. lives p good is live (eqb p.pid n) refl)
+    (λ p good is live. let st = kept p good is in st.3 live)
   where
-    kept : (p : ProcData) → GoodProc p → p.uid ≡ u → (b : Bool) → eqb p.pid n ≡ b → Kin p (Some (if b then f p else p))
-    kept p good is true e = let st = stays p good is (eqb-true p.pid n e) in (st.0, st.1, st.2)
-    kept p good is false e = (refl, refl, good)
-
-    lives : (p : ProcData) → GoodProc p → p.uid ≡ u → is_live p ≡ true → (b : Bool) → eqb p.pid n ≡ b → LiveRow (Some (if b then f p else p))
-    lives p good is live true e = let st = stays p good is (eqb-true p.pid n e) in st.3 live
-    lives p good is live false e = live
+    kept : (p : ProcData) → GoodProc p → p.uid ≡ u → Stays p (if p.pid == n then f p else p)
+    kept p good is = stays_if p (f p) (p.pid == n) good (λ e. stays p good is (eqb-true p.pid n e))
 
 -- LWPs alone
+lwps_alone : (g : LwpData → Option LwpData) (rows : Rows) → AllByRecursion (LiveOwner rows.processes) rows.lwps → each (λ p. Some p) (λ p l. g l) rows ≡ edit_lwps g rows
+lwps_alone g rows housed =
+    ap (λ ps. record rows { processes = ps; lwps = filter_map (λ l. by_owner (λ p k. g k) l (owner rows l)) rows.lwps }) (edit_none (λ p. Some p) (λ p. refl) rows.processes)
+    ∙ ap (λ ls. record rows { lwps = ls }) (filter_map_same _ g rows.lwps (All-imply (LiveOwner rows.processes) _ (λ l house. by_row l (owner rows l) house) rows.lwps housed))
+  where
+    by_row : (l : LwpData) (o : Option ProcData) → LiveRow o → by_owner (λ p k. g k) l o ≡ g l
+    by_row l None no_row = absurd no_row
+    by_row l (Some p) live = refl
+
+seen_housed : {u : ℕ} {start c v : Rows} → Sim u start c v → AllByRecursion (LiveOwner v.processes) v.lwps
+seen_housed {u} {start} {c} {v} s = subst (AllByRecursion (LiveOwner v.processes)) s.lwps (All-where (own_lwp u) (LiveOwner c.processes) (LiveOwner v.processes) (λ l house is. subst LiveRow (process_same s l.pid (eqb-true (pid_owner l.pid) u is)) house) c.lwps s.kept.closed.housed)
+
 pub edit_lwps_same : {u : ℕ} {start c v : Rows} → Sim u start c v → (g : LwpData → Option LwpData)
     → ((l : LwpData) → GoodLwp l → KinLwp l (g l))
     → ((l : LwpData) → GoodLwp l → pid_owner l.pid ≢ u → g l ≡ Some l)
     → Sim u start (edit_lwps g c) (edit_lwps g v)
-edit_lwps_same {u} {start} {c} {v} s g keep foreign = record {
-  kept = record {
-    closed = record {
-      processes = s.kept.closed.processes;
-      lwps = Every-edit g GoodLwp GoodLwp (λ l well. If-both _ GoodLwp (λ k j. j.1) (g l) (keep l well)) c.lwps wells;
-      housed = Every-edit g (λ l. GoodLwp l × Housed c.processes l) (Housed c.processes) (λ l h. If-both _ (Housed c.processes) (λ k j. subst (λ n. LiveRow (process_of n c.processes)) (sym j.0) h.1) (g l) (keep l h.0)) c.lwps (Every-both GoodLwp (Housed c.processes) c.lwps wells s.kept.closed.housed);
-      rising = s.kept.closed.rising;
-      user = s.kept.closed.user;
-      pid_slots = s.kept.closed.pid_slots;
-      tid_slots = s.kept.closed.tid_slots;
-      pid_cursor = s.kept.closed.pid_cursor;
-      tid_cursor = s.kept.closed.tid_cursor;
-    };
-    processes = s.kept.processes;
-    lwps = λ w ne. filter_untouched (own_lwp w) g GoodLwp
-        (λ l well is. foreign l well (λ e. ne (sym (eqb-true (pid_owner l.pid) w is) ∙ e)))
-        (λ l well is. If-both _ (λ k. own_lwp w k ≡ false) (λ k j. ap (λ n. eqb (pid_owner n) w) j.0 ∙ is) (g l) (keep l well))
-        c.lwps wells ∙ s.kept.lwps w ne;
-    pid_cursor = s.kept.pid_cursor;
-    tid_cursor = s.kept.tid_cursor;
-  };
-  processes = s.processes;
-  lwps = filter_edit (own_lwp u) g GoodLwp (λ l well. If-both _ (λ k. own_lwp u k ≡ own_lwp u l) (λ k j. ap (λ n. eqb (pid_owner n) u) j.0) (g l) (keep l well)) c.lwps wells ∙ ap (filter_map g) s.lwps;
-  pid_cursor = s.pid_cursor;
-  tid_cursor = s.tid_cursor;
-  pid_slots = s.pid_slots;
-  tid_slots = s.tid_slots;
-}
-  where
-    wells : Every GoodLwp c.lwps
-    wells = s.kept.closed.lwps
+edit_lwps_same {u} {start} {c} {v} s g keep foreign = subst (Sim u start (edit_lwps g c)) (lwps_alone g v (seen_housed s)) (subst (λ rows. Sim u start rows (each (λ p. Some p) (λ p l. g l) v)) (lwps_alone g c s.kept.closed.housed) (each_same s (λ p. Some p) (λ p l. g l) (record {
+  mine = λ p good is. (refl, refl, good);
+  foreign = λ p good ne. refl;
+  lwp = λ p l good well is here. keep l well;
+  foreign_lwp = λ p l good well ne here. foreign l well (λ e. ne (sym good.block ∙ ap pid_owner here ∙ e));
+  live = λ p l good is live. inl live;
+})))
 
 -- one LWP of u
-pub lwp_same_after : {u : ℕ} {start c v : Rows} → Sim u start c v → (tid : ℕ) → tid_owner tid ≡ u → (f : LwpData → LwpData)
-    → ((l : LwpData) → GoodLwp l → pid_owner l.pid ≡ u → StaysLwp l (f l))
-    → Sim u start (change_lwp tid f c) (change_lwp tid f v)
-lwp_same_after {u} s tid here f stays = edit_lwps_same s (λ l. Some (if l.tid == tid then f l else l))
-    (λ l well. kept l well (eqb l.tid tid) refl)
-    (λ l well ne. rw (not_own tid l.tid (λ e. ne (sym well.block ∙ ap tid_owner e ∙ here))) refl)
-  where
-    kept : (l : LwpData) → GoodLwp l → (b : Bool) → eqb l.tid tid ≡ b → KinLwp l (Some (if b then f l else l))
-    kept l well true e = stays l well (sym well.block ∙ ap tid_owner (eqb-true l.tid tid e) ∙ here)
-    kept l well false e = (refl, well)
+module _ {u : ℕ} {start c v : Rows} (s : Sim u start c v) (tid : ℕ) (here : tid_owner tid ≡ u) where
+  other_tid : (l : LwpData) → GoodLwp l → pid_owner l.pid ≢ u → eqb l.tid tid ≡ false
+  other_tid l well ne = not_own tid l.tid (λ e. ne (sym well.block ∙ ap tid_owner e ∙ here))
 
-pub lwp_removed_same : {u : ℕ} {start c v : Rows} → Sim u start c v → (tid : ℕ) → tid_owner tid ≡ u → Sim u start (remove_lwp tid c) (remove_lwp tid v)
-lwp_removed_same {u} s tid here = edit_lwps_same s (λ l. if l.tid == tid then None else Some l)
-    (λ l well. kept l well (eqb l.tid tid))
-    (λ l well ne. rw (not_own tid l.tid (λ e. ne (sym well.block ∙ ap tid_owner e ∙ here))) refl)
-  where
-    kept : (l : LwpData) → GoodLwp l → (b : Bool) → KinLwp l (if b then None else Some l)
-    kept l well true = tt
-    kept l well false = (refl, well)
+  pub lwp_same_after : (f : LwpData → LwpData) → ((l : LwpData) → GoodLwp l → pid_owner l.pid ≡ u → StaysLwp l (f l)) → Sim u start (change_lwp tid f c) (change_lwp tid f v)
+  lwp_same_after f stays = edit_lwps_same s (λ l. Some (if l.tid == tid then f l else l))
+      (λ l well. choose (l.tid == tid) (f l) l (StaysLwp l) (λ e. stays l well (sym well.block ∙ ap tid_owner (eqb-true l.tid tid e) ∙ here)) (λ e. (refl, well)))
+      (λ l well ne. rw (other_tid l well ne) refl)
+
+  pub lwp_removed_same : Sim u start (remove_lwp tid c) (remove_lwp tid v)
+  lwp_removed_same = edit_lwps_same s (λ l. if l.tid == tid then None else Some l)
+      (λ l well. choose (l.tid == tid) None (Some l) (KinLwp l) (λ e. tt) (λ e. (refl, well)))
+      (λ l well ne. rw (other_tid l well ne) refl)
 
 -- New rows
 
@@ -177,54 +126,39 @@ slots_differ u w user other ne e = ne (omega arith)
 pub slot_in : {X : Type 0} (u : ℕ) (xs : List X) → IsUser u → length xs ≡ 64 → slot u < length xs
 slot_in u xs user is = omega arith
 
-pub cursor_in : (b : _) (n : ℕ) → InBlock b n → InBlock b (cursor_after b n)
+pub put_at : {X : Type 0} (u : ℕ) (xs : List X) (x d : X) → IsUser u → length xs ≡ 64 → get_or (set xs (slot u) x) (slot u) d ≡ x
+put_at u xs x d user is = let lt = slot_in u xs user is in rw get_or-set_same refl
+
+cursor_in : (b : _) (n : ℕ) → InBlock b n → InBlock b (cursor_after b n)
 cursor_in b n i = grind (arith, nat_tests)
 
--- a row that is found is found beside a new one
-or_none : {X : Type 0} (o : Option X) → or_else o None ≡ o
-or_none None = refl
-or_none (Some x) = refl
-
-find_placed : (p : ProcData) (ps : List ProcData) (n : ℕ) → n ≢ p.pid → process_of n (placed p ps) ≡ process_of n ps
-find_placed p ps n ne = by_side (ltb n p.pid) refl
-  where
-    is_n : ProcData → Bool
-    is_n q = q.pid == n
-
-    apart : process_of n (placed p ps) ≡ or_else (find is_n (filter (λ q. ltb q.pid p.pid) ps)) (find is_n (filter (λ q. ltb p.pid q.pid) ps))
-    apart = find_append is_n (filter (λ q. ltb q.pid p.pid) ps) (p ∷ filter (λ q. ltb p.pid q.pid) ps) ∙ (rw (not_own n p.pid (λ e. ne (sym e))) refl)
-
-    by_side : (b : Bool) → ltb n p.pid ≡ b → process_of n (placed p ps) ≡ process_of n ps
-    by_side true is = let lt = ltb-true n p.pid is in
-        apart ∙ ap (λ o. or_else o (find is_n (filter (λ q. ltb p.pid q.pid) ps))) (find_only is_n (λ q. ltb q.pid p.pid) (λ q. Unit {0}) (λ q t e. let same = eqb-true q.pid n e in lt-ltb q.pid p.pid (omega arith)) ps (every ps))
-        ∙ ap (or_else (find is_n ps)) (find_no is_n (λ q. ltb p.pid q.pid) (λ q e. let above = ltb-true p.pid q.pid e in not_own n q.pid (λ same. absurd (omega arith))) ps) ∙ or_none (find is_n ps)
-    by_side false is = let ge = ltb-false n p.pid is in
-        apart ∙ ap (λ o. or_else o (find is_n (filter (λ q. ltb p.pid q.pid) ps))) (find_no is_n (λ q. ltb q.pid p.pid) (λ q e. let under = ltb-true q.pid p.pid e in not_own n q.pid (λ same. absurd (omega arith))) ps)
-        ∙ find_only is_n (λ q. ltb p.pid q.pid) (λ q. Unit {0}) (λ q t e. let same = eqb-true q.pid n e in let other = ne in lt-ltb p.pid q.pid (omega arith)) ps (every ps)
+find_free : {X : Type 0} (q : X → Bool) (xs : List X) → list_any q xs ≡ false → find q xs ≡ None
+find_free q [] is = refl
+find_free q (x ∷ xs) is = grind (arith, is, find_free q xs)
 
 -- a new process of u
-pub process_added_same : {u : ℕ} {start c v : Rows} → Sim u start c v → (p : ProcData) → p.uid ≡ u → GoodProc p → InBlock (pid_block u) p.pid → Every (λ q. q.pid ≢ p.pid) c.processes → Sim u start (add_process p c) (add_process p v)
-process_added_same {u} {start} {c} {v} s p mine good block new = subst (λ w. Sim u start (at w c) (at w v)) (sym mine) (record {
+pub process_added_same : {u : ℕ} {start c v : Rows} → Sim u start c v → (p : ProcData) → p.uid ≡ u → GoodProc p → InBlock (pid_block u) p.pid → is_process c p.pid ≡ false → Sim u start (add_process p c) (add_process p v)
+process_added_same {u} {start} {c} {v} s p mine good block free = subst (λ w. Sim u start (at w c) (at w v)) (sym mine) (record {
   kept = record {
     closed = record {
-      processes = Every-append GoodProc (filter _ c.processes) (p ∷ filter _ c.processes) (Every-filter _ GoodProc GoodProc (λ x g is. g) c.processes s.kept.closed.processes) (good, Every-filter _ GoodProc GoodProc (λ x g is. g) c.processes s.kept.closed.processes);
+      processes = All-placed GoodProc p c.processes s.kept.closed.processes good;
       lwps = s.kept.closed.lwps;
-      housed = Every-imply (Housed c.processes) (Housed (placed p c.processes)) housed c.lwps s.kept.closed.housed;
-      rising = Rising-placed p c.processes s.kept.closed.rising;
+      housed = All-imply (LiveOwner c.processes) (LiveOwner (placed p c.processes)) housed c.lwps s.kept.closed.housed;
+      rising = Rise-placed p c.processes s.kept.closed.rising;
       user = user;
       pid_slots = length-set c.pid_cursors (slot u) _ ∙ s.kept.closed.pid_slots;
       tid_slots = s.kept.closed.tid_slots;
-      pid_cursor = subst (InBlock (pid_block u)) (sym (put c.pid_cursors s.kept.closed.pid_slots)) (cursor_in (pid_block u) p.pid block);
+      pid_cursor = subst (InBlock (pid_block u)) (sym (put_at u c.pid_cursors _ 0 user s.kept.closed.pid_slots)) (cursor_in (pid_block u) p.pid block);
       tid_cursor = s.kept.closed.tid_cursor;
     };
-    processes = λ w ne. placed-other (own w) p c.processes (not_own w p.uid (λ e. ne (sym e ∙ mine))) s.kept.closed.rising new ∙ s.kept.processes w ne;
+    processes = λ w ne. placed-other (own w) p c.processes (not_own w p.uid (λ e. ne (sym e ∙ mine))) s.kept.closed.rising free ∙ s.kept.processes w ne;
     lwps = s.kept.lwps;
     pid_cursor = λ w other ne. let differ = slots_differ u w user other ne in rw get_or-set_other (s.kept.pid_cursor w other ne);
     tid_cursor = s.kept.tid_cursor;
   };
   processes = placed-only (own u) p c.processes (is_own u p.uid mine) ∙ ap (placed p) s.processes;
   lwps = s.lwps;
-  pid_cursor = put c.pid_cursors s.kept.closed.pid_slots ∙ sym (put v.pid_cursors s.pid_slots);
+  pid_cursor = put_at u c.pid_cursors _ 0 user s.kept.closed.pid_slots ∙ sym (put_at u v.pid_cursors _ 0 user s.pid_slots);
   tid_cursor = s.tid_cursor;
   pid_slots = length-set v.pid_cursors (slot u) _ ∙ s.pid_slots;
   tid_slots = s.tid_slots;
@@ -236,33 +170,23 @@ process_added_same {u} {start} {c} {v} s p mine good block new = subst (λ w. Si
     at : ℕ → Rows → Rows
     at w rows = record rows { processes = placed p rows.processes; pid_cursors = set rows.pid_cursors (slot w) (cursor_after (pid_block w) p.pid) }
 
-    put : (xs : List ℕ) → length xs ≡ 64 → get_or (set xs (slot u) (cursor_after (pid_block u) p.pid)) (slot u) 0 ≡ cursor_after (pid_block u) p.pid
-    put xs is = let lt = slot_in u xs user is in rw get_or-set_same refl
-
-    differs : (n : ℕ) → LiveRow (process_of n c.processes) → n ≢ p.pid
-    differs n h e = at_row (process_of n c.processes) (find_some (λ q. q.pid == n) (λ q. q.pid ≢ p.pid) c.processes new) h
-      where
-        at_row : (o : Option ProcData) → IfSome o (λ q. (q.pid ≢ p.pid) × ((q.pid == n) ≡ true)) → LiveRow o → ⊥
-        at_row None g no_row = no_row
-        at_row (Some q) g live = g.0 (eqb-true q.pid n g.1 ∙ e)
-
-    housed : (l : LwpData) → Housed c.processes l → Housed (placed p c.processes) l
-    housed l h = subst LiveRow (sym (find_placed p c.processes l.pid (differs l.pid h))) h
+    housed : (l : LwpData) → LiveOwner c.processes l → LiveOwner (placed p c.processes) l
+    housed l house = subst LiveRow (sym (process_of-other p c.processes s.kept.closed.rising free l.pid (λ e. subst LiveRow (find_free (λ q. q.pid == l.pid) c.processes (ap (is_process c) e ∙ free)) house))) house
 
 -- a new LWP of u
-pub lwp_added_same : {u : ℕ} {start c v : Rows} → Sim u start c v → (l : LwpData) → pid_owner l.pid ≡ u → GoodLwp l → Housed c.processes l → InBlock (tid_block u) l.tid → Sim u start (add_lwp u l c) (add_lwp u l v)
+pub lwp_added_same : {u : ℕ} {start c v : Rows} → Sim u start c v → (l : LwpData) → pid_owner l.pid ≡ u → GoodLwp l → LiveOwner c.processes l → InBlock (tid_block u) l.tid → Sim u start (add_lwp u l c) (add_lwp u l v)
 lwp_added_same {u} {start} {c} {v} s l mine well house block = record {
   kept = record {
     closed = record {
       processes = s.kept.closed.processes;
-      lwps = Every-append GoodLwp c.lwps (l ∷ []) s.kept.closed.lwps (well, tt);
-      housed = Every-append (Housed c.processes) c.lwps (l ∷ []) s.kept.closed.housed (house, tt);
+      lwps = All-append GoodLwp c.lwps (l ∷ []) s.kept.closed.lwps (well, tt);
+      housed = All-append (LiveOwner c.processes) c.lwps (l ∷ []) s.kept.closed.housed (house, tt);
       rising = s.kept.closed.rising;
       user = user;
       pid_slots = s.kept.closed.pid_slots;
       tid_slots = length-set c.tid_cursors (slot u) _ ∙ s.kept.closed.tid_slots;
       pid_cursor = s.kept.closed.pid_cursor;
-      tid_cursor = subst (InBlock (tid_block u)) (sym (put c.tid_cursors s.kept.closed.tid_slots)) (cursor_in (tid_block u) l.tid block);
+      tid_cursor = subst (InBlock (tid_block u)) (sym (put_at u c.tid_cursors _ 0 user s.kept.closed.tid_slots)) (cursor_in (tid_block u) l.tid block);
     };
     processes = s.kept.processes;
     lwps = λ w ne. filter-append (own_lwp w) c.lwps (l ∷ []) ∙ (rw (not_own w (pid_owner l.pid) (λ e. ne (sym e ∙ mine)), append-nil) (s.kept.lwps w ne));
@@ -272,7 +196,7 @@ lwp_added_same {u} {start} {c} {v} s l mine well house block = record {
   processes = s.processes;
   lwps = filter-append (own_lwp u) c.lwps (l ∷ []) ∙ (rw (is_own u (pid_owner l.pid) mine) (ap (λ xs. xs ++ l ∷ []) s.lwps));
   pid_cursor = s.pid_cursor;
-  tid_cursor = put c.tid_cursors s.kept.closed.tid_slots ∙ sym (put v.tid_cursors s.tid_slots);
+  tid_cursor = put_at u c.tid_cursors _ 0 user s.kept.closed.tid_slots ∙ sym (put_at u v.tid_cursors _ 0 user s.tid_slots);
   pid_slots = s.pid_slots;
   tid_slots = length-set v.tid_cursors (slot u) _ ∙ s.tid_slots;
 }
@@ -280,14 +204,7 @@ lwp_added_same {u} {start} {c} {v} s l mine well house block = record {
     user : IsUser u
     user = s.kept.closed.user
 
-    put : (xs : List ℕ) → length xs ≡ 64 → get_or (set xs (slot u) (cursor_after (tid_block u) l.tid)) (slot u) 0 ≡ cursor_after (tid_block u) l.tid
-    put xs is = let lt = slot_in u xs user is in rw get_or-set_same refl
-
 -- A branch of rows
 
 pub branch_rows : {u : ℕ} {start : Rows} (b d : Bool) → b ≡ d → {p q p' q' : Rows} → (b ≡ true → Sim u start p p') → (b ≡ false → Sim u start q q') → Sim u start (if b then p else q) (if d then p' else q')
-branch_rows {u} {start} b d e {p} {q} {p'} {q'} yes' no' = subst (λ x. Sim u start (if b then p else q) (if x then p' else q')) e (cases b refl)
-  where
-    cases : (x : Bool) → b ≡ x → Sim u start (if x then p else q) (if x then p' else q')
-    cases true is = yes' is
-    cases false is = no' is
+branch_rows {u} {start} b d e {p} {q} {p'} {q'} yes' no' = subst (λ x. Sim u start (if b then p else q) (if x then p' else q')) e (choose_both (Sim u start) b p q p' q' yes' no')

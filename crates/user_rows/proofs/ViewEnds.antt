@@ -1,40 +1,40 @@
--- The end of a process.
-use Rattle.std.proofs.Common.{◌≡◌, ◌≢◌, ℕ, zero, suc, List, [], ◌∷◌, filter, filter_map, Bool, true, false, ◌==◌, ◌&&◌, ◌||◌, not, if◌then◌else◌, Option, Some, None, is_some, is_none, unwrap_or, option_map, IfSome, refl, sym, ap, ap₂, ◌∙◌, arith, eqb, true≢false, eqb-true, subst, eq-eqb, inl, inr, ◌⊎◌}
+-- The end of a process; posting any signal, trace stops, and what resumes a process.
+use Rattle.std.proofs.Common.{◌≡◌, ◌≢◌, ℕ, zero, suc, List, filter_map, Bool, true, false, ◌==◌, ◌&&◌, ◌||◌, not, if◌then◌else◌, Option, Some, None, is_some, is_none, unwrap_or, option_map, IfSome, refl, sym, ap, ap₂, ◌∙◌, arith, eqb, true≢false, eqb-true, subst, eq-eqb, inl, inr, ◌⊎◌}
 use Rattle.std.proofs.Math.Path.{fun_ext}
-use Rattle.std.specs.List.{list_any}
+use Rattle.std.specs.List.{AllByRecursion, list_any}
 use Rattle.pid_blocks.specs.Users.{IsUser}
 use Rattle.pid_blocks.specs.Blocks.{pid_owner, tid_owner}
 use Rattle.signals.specs.Table.{SIGKILL, SIGTRAP}
 use Rattle.signals.specs.Sets.{bit}
 use Rattle.proc_table.specs.declared.ProcData.{ProcData}
+use Rattle.proc_table.specs.declared.State.TheVariants.{Trace}
 use Rattle.lwp_table.specs.declared.LwpData.{LwpData}
 use Rattle.lwp_table.specs.declared.Mode.{Mode}
 use Rattle.lwp_table.specs.declared.Mode.TheVariants.{User, InCall, VforkWait}
-use Rattle.lwp_table.specs.declared.Due.{Due}
 use Rattle.proc_table.specs.Processes.{is_live, process_of, is_this, traces, reporting}
-use Rattle.proc_table.specs.Rows.{Rows, each}
+use Rattle.proc_table.specs.Rows.{Rows, each, is_numbered, change_process, change_lwp}
 use Rattle.trace_stop.specs.declared.Settings.{Settings}
 use Rattle.trace_stop.specs.Post.{notified}
 use Rattle.trace_stop.specs.Detach.{detached}
+use Rattle.trace_stop.specs.Stop.{post, tracers, stop, ends_process, resume, detach}
+use Rattle.trace_stop.specs.declared.Shown.{Shown}
 use Rattle.trace_stop.specs.End.{tracer_in, tracer_of, holds_of, meets, is_doomed, dooms, unless, orphaned, dead, uncollected, process_after, waits_where, released, lwp_after, collector, told_of, end_each, end_of, end}
 use Rattle.trace_stop.specs.Facts.{waited_for}
-use Rattle.user_rows.specs.Closed.{Every, Mine, GoodProc, GoodLwp, LiveRow}
-use Rattle.user_rows.proofs.ViewLists.{filter_map_only, Every-edit, Every-filter}
-use Rattle.user_rows.proofs.ViewSame.{Sim, Kin, KinLwp, Keeps, own, is_own, not_own, not_equal, named, process_same, process_some, each_same}
-use Rattle.user_rows.proofs.ViewSignals.{owner_of_1, notified_same, detached_same}
+use Rattle.trace_stop.proofs.Every.{and_left, and_right, by_bool, choose, choose_both, none_passes, All-edit, All-filter}
+use Rattle.user_rows.specs.Closed.{Mine, GoodProc, GoodLwp, LiveRow}
+use Rattle.user_rows.proofs.ViewLists.{any_only, filter_map_only}
+use Rattle.user_rows.proofs.ViewSame.{Sim, Kin, KinLwp, Keeps, own, is_own, not_own, not_equal, either, named, process_same, at_number, each_same}
+use Rattle.user_rows.proofs.ViewEdits.{process_same_after, lwp_same_after, branch_rows}
+use Rattle.user_rows.proofs.ViewSignals.{Mines, owner_of_1, notified_same, posted_same, resumed_same, detached_same, is_numbered_foreign}
 
 -- Chains of tracers
 
-pub holds_same : {u : ℕ} (f g : ℕ → Bool) (o : Option ℕ) → IfSome o (λ t. pid_owner t ≡ u) → ((t : ℕ) → pid_owner t ≡ u → f t ≡ g t) → holds_of f o ≡ holds_of g o
+holds_same : {u : ℕ} (f g : ℕ → Bool) (o : Option ℕ) → IfSome o (λ t. pid_owner t ≡ u) → ((t : ℕ) → pid_owner t ≡ u → f t ≡ g t) → holds_of f o ≡ holds_of g o
 holds_same f g None h same = refl
 holds_same f g (Some t) h same = same t h
 
-pub tracer_facts : (ps : List ProcData) → Every GoodProc ps → (n : ℕ) → IfSome (tracer_of ps n) (λ t. pid_owner t ≡ pid_owner n)
-tracer_facts ps all n = at_row (process_of n ps) (process_some ps n all)
-  where
-    at_row : (o : Option ProcData) → IfSome o (λ p. GoodProc p × ((p.pid == n) ≡ true)) → IfSome (tracer_in o) (λ t. pid_owner t ≡ pid_owner n)
-    at_row None g = tt
-    at_row (Some p) g = subst (λ w. IfSome p.tracer (λ t. pid_owner t ≡ w)) (sym g.0.block ∙ ap pid_owner (eqb-true p.pid n g.1)) g.0.tracer
+pub tracer_facts : (ps : List ProcData) → AllByRecursion GoodProc ps → (n : ℕ) → IfSome (tracer_of ps n) (λ t. pid_owner t ≡ pid_owner n)
+tracer_facts ps all n = at_number ps all n (λ o. IfSome (tracer_in o) (λ t. pid_owner t ≡ pid_owner n)) tt (λ p is good here. subst (λ w. IfSome p.tracer (λ t. pid_owner t ≡ w)) (sym good.block ∙ ap pid_owner here) good.tracer)
 
 meets_own_same : {u : ℕ} {start c v : Rows} → Sim u start c v → (k p n : ℕ) → pid_owner n ≡ u → meets k c.processes p n ≡ meets k v.processes p n
 unfolding meets
@@ -43,253 +43,181 @@ meets_own_same {u} {start} {c} {v} s (suc k) p n mine =
     holds_same _ _ (tracer_of c.processes n) (subst (λ w. IfSome (tracer_of c.processes n) (λ t. pid_owner t ≡ w)) mine (tracer_facts c.processes s.kept.closed.processes n)) (λ t own_t. ap (λ b. (t == p) || b) (meets_own_same s k p t own_t))
     ∙ ap (λ o. holds_of (λ t. (t == p) || meets k v.processes p t) (tracer_in o)) (process_same s n mine)
 
-pub meets_owner : (ps : List ProcData) → Every GoodProc ps → (k p n : ℕ) → meets k ps p n ≡ true → pid_owner n ≡ pid_owner p
+meets_foreign : (ps : List ProcData) → AllByRecursion GoodProc ps → (k p n : ℕ) → pid_owner n ≢ pid_owner p → meets k ps p n ≡ false
 unfolding meets
-meets_owner ps all zero p n is = absurd (true≢false (sym is))
-meets_owner ps all (suc k) p n is = at_tracer (tracer_of ps n) (tracer_facts ps all n) is (meets_owner ps all k p)
+meets_foreign ps all zero p n ne = refl
+meets_foreign ps all (suc k) p n ne = at_tracer (tracer_of ps n) (tracer_facts ps all n) (meets_foreign ps all k p)
   where
-    last : (t : ℕ) (b : Bool) → eqb t p ≡ b → pid_owner t ≡ pid_owner n → (b || meets k ps p t) ≡ true → (meets k ps p t ≡ true → pid_owner t ≡ pid_owner p) → pid_owner n ≡ pid_owner p
-    last t true e g h next = sym g ∙ ap pid_owner (eqb-true t p e)
-    last t false e g h next = sym g ∙ next h
-
-    at_tracer : (o : Option ℕ) → IfSome o (λ t. pid_owner t ≡ pid_owner n) → holds_of (λ t. (t == p) || meets k ps p t) o ≡ true → ((t : ℕ) → meets k ps p t ≡ true → pid_owner t ≡ pid_owner p) → pid_owner n ≡ pid_owner p
-    at_tracer None g h next = absurd (true≢false (sym h))
-    at_tracer (Some t) g h next = last t (eqb t p) refl g h (next t)
-
-pub meets_foreign : (ps : List ProcData) → Every GoodProc ps → (k p n : ℕ) → pid_owner n ≢ pid_owner p → meets k ps p n ≡ false
-meets_foreign ps all k p n ne = by_value (meets k ps p n) refl
-  where
-    by_value : (b : Bool) → meets k ps p n ≡ b → b ≡ false
-    by_value true is = absurd (ne (meets_owner ps all k p n is))
-    by_value false is = refl
-
-pub seen_good : {u : ℕ} {start c v : Rows} → Sim u start c v → Every GoodProc v.processes
-seen_good {u} {start} {c} s = subst (Every GoodProc) s.processes (Every-filter (own u) GoodProc GoodProc (λ p good is. good) c.processes s.kept.closed.processes)
+    at_tracer : (o : Option ℕ) → IfSome o (λ t. pid_owner t ≡ pid_owner n) → ((t : ℕ) → pid_owner t ≢ pid_owner p → meets k ps p t ≡ false) → holds_of (λ t. (t == p) || meets k ps p t) o ≡ false
+    at_tracer None g next = refl
+    at_tracer (Some t) g next = rw (not_own p t (λ e. ne (sym g ∙ ap pid_owner e)), next t (λ e. ne (sym g ∙ e))) refl
 
 pub meets_same : {u : ℕ} {start c v : Rows} → Sim u start c v → (k p n : ℕ) → pid_owner p ≡ u → meets k c.processes p n ≡ meets k v.processes p n
-meets_same {u} {start} {c} {v} s k p n here = by_owner (eqb (pid_owner n) u) refl
-  where
-    by_owner : (b : Bool) → eqb (pid_owner n) u ≡ b → meets k c.processes p n ≡ meets k v.processes p n
-    by_owner true is = meets_own_same s k p n (eqb-true (pid_owner n) u is)
-    by_owner false is = let ne = not_equal (pid_owner n) u is in
-        meets_foreign c.processes s.kept.closed.processes k p n (λ e. ne (e ∙ here)) ∙ sym (meets_foreign v.processes (seen_good s) k p n (λ e. ne (e ∙ here)))
+meets_same {u} {start} {c} {v} s k p n here = either (pid_owner n) u (meets_own_same s k p n) (λ ne.
+    meets_foreign c.processes s.kept.closed.processes k p n (λ e. ne (e ∙ here)) ∙ sym (meets_foreign v.processes (subst (AllByRecursion GoodProc) s.processes (All-filter (own u) GoodProc c.processes s.kept.closed.processes)) k p n (λ e. ne (e ∙ here))))
 
--- Who ends
+-- Who ends: no row of another user, and no number of one
 
-pub record Tests (u : ℕ) (ends : ProcData → Bool) (over : ℕ → Bool) : Type 0 where
-  pub foreign : (p : ProcData) → GoodProc p → p.uid ≢ u → ends p ≡ false
-  pub over_foreign : (n : ℕ) → pid_owner n ≢ u → over n ≡ false
+module _ {u : ℕ} (over : ℕ → Bool) (over_foreign : (n : ℕ) → pid_owner n ≢ u → over n ≡ false) where
+  holds_none : {w : ℕ} → w ≢ u → (o : Option ℕ) → IfSome o (λ t. pid_owner t ≡ w) → holds_of over o ≡ false
+  holds_none ne None g = refl
+  holds_none ne (Some t) g = over_foreign t (λ e. ne (sym g ∙ e))
 
-unless_same : {u w : ℕ} (over : ℕ → Bool) → ((n : ℕ) → pid_owner n ≢ u → over n ≡ false) → w ≢ u → (o : Option ℕ) → IfSome o (λ t. pid_owner t ≡ w) → unless over o ≡ o
-unless_same over h ne None g = refl
-unless_same over h ne (Some t) g = rw (h t (λ e. ne (sym g ∙ e))) refl
+  unless_same : {w : ℕ} → w ≢ u → (o : Option ℕ) → IfSome o (λ t. pid_owner t ≡ w) → unless over o ≡ o
+  unless_same ne None g = refl
+  unless_same ne (Some t) g = rw (over_foreign t (λ e. ne (sym g ∙ e))) refl
 
-holds_none : {u w : ℕ} (over : ℕ → Bool) → ((n : ℕ) → pid_owner n ≢ u → over n ≡ false) → w ≢ u → (o : Option ℕ) → IfSome o (λ t. pid_owner t ≡ w) → holds_of over o ≡ false
-holds_none over h ne None g = refl
-holds_none over h ne (Some t) g = h t (λ e. ne (sym g ∙ e))
+  parent_over : IsUser u → (p : ProcData) → GoodProc p → p.uid ≢ u → over p.parent ≡ false
+  parent_over user p good ne = either p.parent 1
+      (λ is. over_foreign p.parent (λ e. let here = sym e ∙ ap pid_owner is ∙ owner_of_1 in let least = user.0 in absurd (omega arith)))
+      (λ other. over_foreign p.parent (λ e. ne (sym (good.parent other) ∙ e)))
 
-parent_over : {u : ℕ} → IsUser u → (over : ℕ → Bool) → ((n : ℕ) → pid_owner n ≢ u → over n ≡ false) → (p : ProcData) → GoodProc p → p.uid ≢ u → over p.parent ≡ false
-parent_over {u} user over h p good ne = by_one (eqb p.parent 1) refl
-  where
-    by_one : (b : Bool) → eqb p.parent 1 ≡ b → over p.parent ≡ false
-    by_one true is = h p.parent (λ e. let here = sym e ∙ ap pid_owner (eqb-true p.parent 1 is) ∙ owner_of_1 in let least = user.0 in absurd (omega arith))
-    by_one false is = h p.parent (λ e. ne (sym (good.parent (not_equal p.parent 1 is)) ∙ e))
+  waits_foreign : {w : ℕ} → w ≢ u → (m : Mode) → IfSome (waited_for m) (λ c. pid_owner c ≡ w) → waits_where over m ≡ false
+  waits_foreign ne User g = refl
+  waits_foreign ne (InCall call) g = refl
+  waits_foreign ne (VforkWait c) g = over_foreign c (λ e. ne (sym g ∙ e))
 
-orphaned_good : (over : ℕ → Bool) (p : ProcData) → GoodProc p → IfSome (unless over p.tracer) (λ t. pid_owner t ≡ p.uid)
-orphaned_good over p good = by_tracer p.tracer good.tracer
-  where
-    by_test : (t : ℕ) → pid_owner t ≡ p.uid → (b : Bool) → IfSome (if b then None else Some t) (λ t'. pid_owner t' ≡ p.uid)
-    by_test t g true = tt
-    by_test t g false = g
-
-    by_tracer : (o : Option ℕ) → IfSome o (λ t. pid_owner t ≡ p.uid) → IfSome (unless over o) (λ t. pid_owner t ≡ p.uid)
-    by_tracer None g = tt
-    by_tracer (Some t) g = by_test t g (over t)
-
-parent_good : (over : ℕ → Bool) (p : ProcData) → GoodProc p → Mine p.uid (if over p.parent then 1 else p.parent)
-parent_good over p good = by_test (over p.parent)
-  where
-    by_test : (b : Bool) → Mine p.uid (if b then 1 else p.parent)
-    by_test true ne = absurd (ne refl)
-    by_test false ne = good.parent ne
-
--- a zombie that has lost whom it names
-left_kin : (p z : ProcData) → GoodProc p → z.pid ≡ p.pid → z.uid ≡ p.uid → IfSome z.tracer (λ t. pid_owner t ≡ p.uid) → Mine p.uid z.parent → IfSome (reporting z) (λ t. tid_owner t ≡ p.uid) → Kin p (uncollected z)
-left_kin p z good pid uid tracer parent reports = by_test (is_none z.tracer && (z.parent == 1)) refl
-  where
-    by_test : (b : Bool) → (is_none z.tracer && (z.parent == 1)) ≡ b → Kin p (if b then None else Some z)
-    by_test true is = tt
-    by_test false is = (
-      pid,
-      uid,
-      record {
-        user = subst IsUser (sym uid) good.user;
-        block = ap pid_owner pid ∙ good.block ∙ sym uid;
-        tracer = subst (λ w. IfSome z.tracer (λ t. pid_owner t ≡ w)) (sym uid) tracer;
-        parent = subst (λ w. Mine w z.parent) (sym uid) parent;
-        reporting = subst (λ w. IfSome (reporting z) (λ t. tid_owner t ≡ w)) (sym uid) reports;
-        collector = λ d none one. true≢false (sym (ap₂ (λ (o : Option ℕ) (b : Bool). is_none o && b) none (eq-eqb z.parent 1 one)) ∙ is);
-      },
-    )
-
-live_good : (p : ProcData) → GoodProc p → (over : ℕ → Bool) → is_live p ≡ true → GoodProc (record p { parent = if over p.parent then 1 else p.parent })
-live_good p good over live = record {
-  user = good.user;
-  block = good.block;
-  tracer = good.tracer;
-  parent = parent_good over p good;
-  reporting = good.reporting;
-  collector = λ d. absurd (true≢false (sym live ∙ d));
-}
-
-after_kin : (ends : ProcData → Bool) (over : ℕ → Bool) (n w : ℕ) (p : ProcData) → GoodProc p → Kin p (process_after ends over n w p)
-after_kin ends over n w p good = by_test (ends p) (is_live p) refl
-  where
-    by_test : (b d : Bool) → is_live p ≡ d → Kin p (if b then uncollected (dead (if p.pid == n then w else SIGKILL) (orphaned over p)) else (if d then Some (record p { parent = if over p.parent then 1 else p.parent }) else uncollected (orphaned over p)))
-    by_test true d e = left_kin p (dead (if p.pid == n then w else SIGKILL) (orphaned over p)) good refl refl (orphaned_good over p good) (parent_good over p good) tt
-    by_test false true e = (refl, refl, live_good p good over e)
-    by_test false false e = left_kin p (orphaned over p) good refl refl (orphaned_good over p good) (parent_good over p good) good.reporting
-
-after_foreign : {u : ℕ} → IsUser u → (ends : ProcData → Bool) (over : ℕ → Bool) → Tests u ends over → (n w : ℕ) (p : ProcData) → GoodProc p → p.uid ≢ u → process_after ends over n w p ≡ Some p
-after_foreign {u} user ends over t n w p good ne = rw (t.foreign p good ne, parent_over user over t.over_foreign p good ne, unless_same over t.over_foreign ne p.tracer good.tracer) (by_live (is_live p) refl)
-  where
-    by_parent : is_live p ≡ false → (o : Option ℕ) (b : Bool) → p.tracer ≡ o → eqb p.parent 1 ≡ b → (if is_none o && b then None else Some p) ≡ Some p
-    by_parent d None true e h = absurd (good.collector d e (eqb-true p.parent 1 h))
-    by_parent d None false e h = refl
-    by_parent d (Some t') b e h = refl
-
-    by_live : (b : Bool) → is_live p ≡ b → (if b then Some p else uncollected p) ≡ Some p
-    by_live true e = refl
-    by_live false e = by_parent e p.tracer (eqb p.parent 1) refl refl
-
-waits_foreign : {u w : ℕ} (over : ℕ → Bool) → ((n : ℕ) → pid_owner n ≢ u → over n ≡ false) → w ≢ u → (m : Mode) → IfSome (waited_for m) (λ c. pid_owner c ≡ w) → waits_where over m ≡ false
-waits_foreign over h ne User g = refl
-waits_foreign over h ne (InCall call) g = refl
-waits_foreign over h ne (VforkWait c) g = h c (λ e. ne (sym g ∙ e))
+  pub released_foreign : (p : ProcData) (l : LwpData) → GoodLwp l → pid_owner l.pid ≢ u → released over p l ≡ l
+  released_foreign p l well ne = rw (waits_foreign ne l.mode well.waits) refl
 
 pub released_kin : (over : ℕ → Bool) (p : ProcData) (l : LwpData) → GoodLwp l → KinLwp l (Some (released over p l))
-released_kin over p l well = by_wait (waits_where over l.mode) _
-  where
-    by_wait : (b : Bool) (d : Due) → KinLwp l (Some (if b then record l { mode = User; due = d } else l))
-    by_wait true d = (refl, record { block = well.block; waits = tt })
-    by_wait false d = (refl, well)
+released_kin over p l well = choose (waits_where over l.mode) _ l (λ m. KinLwp l (Some m)) (λ e. (refl, record { block = well.block; waits = tt })) (λ e. (refl, well))
 
-pub released_foreign : {u : ℕ} (over : ℕ → Bool) → ((n : ℕ) → pid_owner n ≢ u → over n ≡ false) → (p : ProcData) (l : LwpData) → GoodLwp l → pid_owner l.pid ≢ u → released over p l ≡ l
-released_foreign over h p l well ne = rw (waits_foreign over h ne l.mode well.waits) refl
-
-end_keeps : {u : ℕ} → IsUser u → (ends : ProcData → Bool) (over : ℕ → Bool) → Tests u ends over → (n w : ℕ) → Keeps u (process_after ends over n w) (lwp_after ends over)
-end_keeps {u} user ends over t n w = record {
-  mine = λ p good is. after_kin ends over n w p good;
-  foreign = λ p good ne. after_foreign user ends over t n w p good ne;
-  lwp = λ p l good well is here. kept p l well (ends p);
-  foreign_lwp = λ p l good well ne here. rw (t.foreign p good ne, released_foreign over t.over_foreign p l well (λ e. ne (sym good.block ∙ ap pid_owner here ∙ e))) refl;
-  live = λ p l good is live. lives p l live (ends p);
-}
-  where
-    kept : (p : ProcData) (l : LwpData) → GoodLwp l → (b : Bool) → KinLwp l (if b then None else Some (released over p l))
-    kept p l well true = tt
-    kept p l well false = released_kin over p l well
-
-    lives : (p : ProcData) (l : LwpData) → is_live p ≡ true → (b : Bool)
-        → LiveRow (if b then uncollected (dead (if p.pid == n then w else SIGKILL) (orphaned over p)) else (if is_live p then Some (record p { parent = if over p.parent then 1 else p.parent }) else uncollected (orphaned over p)))
-        ⊎ ((if b then None else Some (released over p l)) ≡ None)
-    lives p l live true = inr refl
-    lives p l live false = inl (rw live live)
-
-collector_mine : {u : ℕ} (p : ProcData) (o : Option ProcData) → p.uid ≡ u → Kin p o → IfSome (option_map collector o) (Mine u)
-collector_mine p None mine k = tt
-collector_mine {u} p (Some z) mine k = by_tracer z.tracer k.2.tracer
-  where
-    by_tracer : (o : Option ℕ) → IfSome o (λ t. pid_owner t ≡ z.uid) → Mine u (unwrap_or o z.parent)
-    by_tracer None g ne = k.2.parent ne ∙ k.1 ∙ mine
-    by_tracer (Some t) g ne = g ∙ k.1 ∙ mine
+is_absent : (o : Option ℕ) → is_none o ≡ true → o ≡ None
+is_absent None is = refl
+is_absent (Some t) is = absurd (cc)
 
 and_false : (b : Bool) → (b && false) ≡ false
 and_false true = refl
 and_false false = refl
 
-told_foreign : {u : ℕ} (ends : ProcData → Bool) (over : ℕ → Bool) → Tests u ends over → (n w : ℕ) (p : ProcData) → GoodProc p → p.uid ≢ u → told_of ends over n w p ≡ None
-told_foreign ends over t n w p good ne = rw (t.foreign p good ne, holds_none over t.over_foreign ne p.tracer good.tracer, and_false (not (is_live p))) refl
+module _ (over : ℕ → Bool) (p : ProcData) (good : GoodProc p) where
+  tracer_good : (o : Option ℕ) → IfSome o (λ t. pid_owner t ≡ p.uid) → IfSome (unless over o) (λ t. pid_owner t ≡ p.uid)
+  tracer_good None g = tt
+  tracer_good (Some t) g = choose (over t) None (Some t) (λ o. IfSome o (λ n. pid_owner n ≡ p.uid)) (λ e. tt) (λ e. g)
 
-told_mine : {u : ℕ} (ends : ProcData → Bool) (over : ℕ → Bool) → Tests u ends over → (n w : ℕ) (p : ProcData) → GoodProc p → IfSome (told_of ends over n w p) (Mine u)
-told_mine {u} ends over t n w p good = by_user (eqb p.uid u) refl
-  where
-    by_test : p.uid ≡ u → (b : Bool) → IfSome (if b then option_map collector (process_after ends over n w p) else None) (Mine u)
-    by_test is true = collector_mine p (process_after ends over n w p) is (after_kin ends over n w p good)
-    by_test is false = tt
+  parent_good : Mine p.uid (if over p.parent then 1 else p.parent)
+  parent_good = choose (over p.parent) 1 p.parent (Mine p.uid) (λ e ne. absurd (ne refl)) (λ e. good.parent)
 
-    by_user : (b : Bool) → eqb p.uid u ≡ b → IfSome (told_of ends over n w p) (Mine u)
-    by_user true is = by_test (eqb-true p.uid u is) (ends p || (not (is_live p) && holds_of over p.tracer))
-    by_user false is = subst (λ o. IfSome o (Mine u)) (sym (told_foreign ends over t n w p good (not_equal p.uid u is))) tt
+  -- a zombie that has lost whom it names
+  left_kin : (z : ProcData) → z.pid ≡ p.pid → z.uid ≡ p.uid → z.tracer ≡ unless over p.tracer → z.parent ≡ (if over p.parent then 1 else p.parent) → IfSome (reporting z) (λ t. tid_owner t ≡ p.uid) → Kin p (uncollected z)
+  left_kin z pid uid tracer parent reports = choose (is_none z.tracer && (z.parent == 1)) None (Some z) (Kin p) (λ e. tt) (λ is. (
+    pid,
+    uid,
+    record {
+      user = rw uid good.user;
+      block = ap pid_owner pid ∙ good.block ∙ sym uid;
+      tracer = rw (tracer, uid) (tracer_good p.tracer good.tracer);
+      parent = rw (parent, uid) parent_good;
+      reporting = rw uid reports;
+      collector = λ d none one. true≢false (sym (ap₂ (λ (o : Option ℕ) (b : Bool). is_none o && b) none (eq-eqb z.parent 1 one)) ∙ is);
+    },
+  ))
 
-end_each_same : {u : ℕ} {start c v : Rows} → Sim u start c v → (ends : ProcData → Bool) (over : ℕ → Bool) → Tests u ends over → (n w : ℕ) → Sim u start (end_each ends over n w c) (end_each ends over n w v)
-end_each_same {u} {start} {c} {v} s ends over t n w = subst (λ ns. Sim u start (end_each ends over n w c) (notified ns (each (process_after ends over n w) (lwp_after ends over) v)))
-    (sym (filter_map_only (told_of ends over n w) (own u) GoodProc (λ p good is. told_foreign ends over t n w p good (not_equal p.uid u is)) c.processes s.kept.closed.processes) ∙ ap (filter_map (told_of ends over n w)) s.processes)
-    (notified_same (each_same s (process_after ends over n w) (lwp_after ends over) (end_keeps s.kept.closed.user ends over t n w)) (filter_map (told_of ends over n w) c.processes)
-    (Every-edit (told_of ends over n w) GoodProc (Mine u) (λ p good. told_mine ends over t n w p good) c.processes s.kept.closed.processes))
+module _ {u : ℕ} (ends : ProcData → Bool) (over : ℕ → Bool) (ends_foreign : (p : ProcData) → GoodProc p → p.uid ≢ u → ends p ≡ false) (over_foreign : (n : ℕ) → pid_owner n ≢ u → over n ≡ false) (n w : ℕ) where
+  after_kin : (p : ProcData) → GoodProc p → Kin p (process_after ends over n w p)
+  after_kin p good = choose (ends p) _ _ (Kin p)
+      (λ e. left_kin over p good (dead (if p.pid == n then w else SIGKILL) (orphaned over p)) refl refl refl refl tt)
+      (λ e. choose (is_live p) _ _ (Kin p)
+      (λ live. (refl, refl, record { user = good.user; block = good.block; tracer = good.tracer; parent = parent_good over p good; reporting = good.reporting; collector = λ d. absurd (true≢false (sym live ∙ d)) }))
+      (λ d. left_kin over p good (orphaned over p) refl refl refl refl good.reporting))
+
+  after_foreign : IsUser u → (p : ProcData) → GoodProc p → p.uid ≢ u → process_after ends over n w p ≡ Some p
+  after_foreign user p good ne = rw (ends_foreign p good ne, parent_over over over_foreign user p good ne, unless_same over over_foreign ne p.tracer good.tracer)
+      (choose (is_live p) (Some p) (uncollected p) (λ o. o ≡ Some p) (λ e. refl) (λ d. choose (is_none p.tracer && (p.parent == 1)) None (Some p) (λ o. o ≡ Some p)
+      (λ e. absurd (good.collector d (is_absent p.tracer (and_left _ _ e)) (eqb-true p.parent 1 (and_right _ _ e)))) (λ e. refl)))
+
+  end_keeps : IsUser u → Keeps u (process_after ends over n w) (lwp_after ends over)
+  end_keeps user = record {
+    mine = λ p good is. after_kin p good;
+    foreign = λ p good ne. after_foreign user p good ne;
+    lwp = λ p l good well is here. choose (ends p) None (Some (released over p l)) (KinLwp l) (λ e. tt) (λ e. released_kin over p l well);
+    foreign_lwp = λ p l good well ne here. rw (ends_foreign p good ne, released_foreign over over_foreign p l well (λ e. ne (sym good.block ∙ ap pid_owner here ∙ e))) refl;
+    live = λ p l good is live. choose_both (λ (o : Option ProcData) (d : Option LwpData). LiveRow o ⊎ (d ≡ None)) (ends p) _ _ None (Some (released over p l)) (λ e. inr refl) (λ e. inl (rw live live));
+  }
+
+  collector_mine : (p : ProcData) (o : Option ProcData) → p.uid ≡ u → Kin p o → IfSome (option_map collector o) (Mine u)
+  collector_mine p None mine k = tt
+  collector_mine p (Some z) mine k = by_tracer z.tracer k.2.tracer
+    where
+      by_tracer : (o : Option ℕ) → IfSome o (λ t. pid_owner t ≡ z.uid) → Mine u (unwrap_or o z.parent)
+      by_tracer None g ne = k.2.parent ne ∙ k.1 ∙ mine
+      by_tracer (Some t) g ne = g ∙ k.1 ∙ mine
+
+  told_foreign : (p : ProcData) → GoodProc p → p.uid ≢ u → told_of ends over n w p ≡ None
+  told_foreign p good ne = rw (ends_foreign p good ne, holds_none over over_foreign ne p.tracer good.tracer, and_false (not (is_live p))) refl
+
+  told_mine : (p : ProcData) → GoodProc p → IfSome (told_of ends over n w p) (Mine u)
+  told_mine p good = either p.uid u
+      (λ is. choose (ends p || (not (is_live p) && holds_of over p.tracer)) _ None (λ o. IfSome o (Mine u)) (λ e. collector_mine p (process_after ends over n w p) is (after_kin p good)) (λ e. tt))
+      (λ ne. subst (λ o. IfSome o (Mine u)) (sym (told_foreign p good ne)) tt)
+
+  end_each_same : {start c v : Rows} → Sim u start c v → Sim u start (end_each ends over n w c) (end_each ends over n w v)
+  end_each_same {start} {c} {v} s = subst (λ ns. Sim u start (end_each ends over n w c) (notified ns (each (process_after ends over n w) (lwp_after ends over) v)))
+      (sym (filter_map_only (told_of ends over n w) (own u) GoodProc (λ p good is. told_foreign p good (not_equal p.uid u is)) c.processes s.kept.closed.processes) ∙ ap (filter_map (told_of ends over n w)) s.processes)
+      (notified_same (each_same s (process_after ends over n w) (lwp_after ends over) (end_keeps s.kept.closed.user)) (filter_map (told_of ends over n w) c.processes)
+      (All-edit (told_of ends over n w) GoodProc (Mine u) told_mine c.processes s.kept.closed.processes))
 
 -- the tests are the same on all rows and on a user's
-doomed_same : {u : ℕ} {start c v : Rows} → Sim u start c v → (settings : Settings) (n : ℕ) → pid_owner n ≡ u → is_doomed settings c.processes n ≡ is_doomed settings v.processes n
-doomed_same s settings n here = fun_ext (λ p. ap (λ b. (p.pid == n) || (settings.kill_on_debugger_exit && is_live p && b)) (meets_same s 250 n p.pid here))
+module _ {u : ℕ} (ps : List ProcData) (all : AllByRecursion GoodProc ps) (settings : Settings) (n : ℕ) (here : pid_owner n ≡ u) where
+  doomed_foreign : (p : ProcData) → GoodProc p → p.uid ≢ u → is_doomed settings ps n p ≡ false
+  doomed_foreign p good ne = rw (not_own n p.pid (λ e. ne (named here p good e)), meets_foreign ps all 250 n p.pid (λ e. ne (sym good.block ∙ e ∙ here)), and_false (settings.kill_on_debugger_exit && is_live p)) refl
 
-pub any_only : {X : Type 0} (q p : X → Bool) (P : X → Type 0) → ((x : X) → P x → q x ≡ true → p x ≡ true) → (xs : List X) → Every P xs → list_any q (filter p xs) ≡ list_any q xs
-any_only q p P h [] e = refl
-any_only q p P h (x ∷ xs) e = grind (arith, h x e.0, any_only q p P h xs e.1)
+  doomed_own : (m : ℕ) (p : ProcData) → GoodProc p → ((p.pid == m) && is_doomed settings ps n p) ≡ true → p.uid ≡ u
+  doomed_own m p good is = either p.uid u (λ e. e) (λ ne. absurd (true≢false (sym (and_right (p.pid == m) _ is) ∙ doomed_foreign p good ne)))
 
-pub any_none : {X : Type 0} (q : X → Bool) (P : X → Type 0) → ((x : X) → P x → q x ≡ false) → (xs : List X) → Every P xs → list_any q xs ≡ false
-any_none q P h [] e = refl
-any_none q P h (x ∷ xs) e = grind (arith, h x e.0, any_none q P h xs e.1)
-
-doomed_foreign : {u : ℕ} (ps : List ProcData) → Every GoodProc ps → (settings : Settings) (n : ℕ) → pid_owner n ≡ u → (p : ProcData) → GoodProc p → p.uid ≢ u → is_doomed settings ps n p ≡ false
-doomed_foreign ps all settings n here p good ne = rw (not_own n p.pid (λ e. ne (named here p good e)), meets_foreign ps all 250 n p.pid (λ e. ne (sym good.block ∙ e ∙ here)), and_false (settings.kill_on_debugger_exit && is_live p)) refl
-
-pub by_bool : (b : Bool) → (b ≡ true → ⊥) → b ≡ false
-by_bool true h = absurd (h refl)
-by_bool false h = refl
-
-doomed_own : {u : ℕ} (ps : List ProcData) → Every GoodProc ps → (settings : Settings) (n m : ℕ) → pid_owner n ≡ u → (p : ProcData) → GoodProc p → ((p.pid == m) && is_doomed settings ps n p) ≡ true → (p.uid ≡ u) × (p.pid ≡ m)
-doomed_own {u} ps all settings n m here p good is = (by_user (eqb p.uid u) refl, eqb-true p.pid m (left (p.pid == m) (is_doomed settings ps n p) is))
-  where
-    left : (a b : Bool) → (a && b) ≡ true → a ≡ true
-    left true b e = refl
-    left false b e = absurd (true≢false (sym e))
-
-    right : (a b : Bool) → (a && b) ≡ true → b ≡ true
-    right true b e = e
-    right false b e = absurd (true≢false (sym e))
-
-    by_user : (b : Bool) → eqb p.uid u ≡ b → p.uid ≡ u
-    by_user true e = eqb-true p.uid u e
-    by_user false e = absurd (true≢false (sym (right (p.pid == m) (is_doomed settings ps n p) is) ∙ doomed_foreign ps all settings n here p good (not_equal p.uid u e)))
-
-dooms_same : {u : ℕ} {start c v : Rows} → Sim u start c v → (settings : Settings) (n : ℕ) → pid_owner n ≡ u → dooms settings c.processes n ≡ dooms settings v.processes n
-dooms_same {u} {start} {c} {v} s settings n here = fun_ext (λ m.
-    sym (any_only (λ q. (q.pid == m) && is_doomed settings c.processes n q) (own u) GoodProc (λ q good is. is_own u q.uid (doomed_own c.processes s.kept.closed.processes settings n m here q good is).0) c.processes s.kept.closed.processes)
-    ∙ ap (list_any (λ q. (q.pid == m) && is_doomed settings c.processes n q)) s.processes
-    ∙ ap (λ d. list_any (λ q. (q.pid == m) && d q) v.processes) (doomed_same s settings n here))
-
-tests : {u : ℕ} {start c v : Rows} → Sim u start c v → (settings : Settings) (n : ℕ) → pid_owner n ≡ u → Tests u (is_doomed settings c.processes n) (dooms settings c.processes n)
-tests {u} {start} {c} {v} s settings n here = record {
-  foreign = λ p good ne. doomed_foreign c.processes s.kept.closed.processes settings n here p good ne;
-  over_foreign = λ m ne. any_none (λ q. (q.pid == m) && is_doomed settings c.processes n q) GoodProc (λ q good. by_bool _ (λ is. let d = doomed_own c.processes s.kept.closed.processes settings n m here q good is in ne (ap pid_owner (sym d.1) ∙ good.block ∙ d.0))) c.processes s.kept.closed.processes;
-}
+  dooms_foreign : (m : ℕ) → pid_owner m ≢ u → dooms settings ps n m ≡ false
+  dooms_foreign m ne = none_passes (λ q. (q.pid == m) && is_doomed settings ps n q) GoodProc (λ q good. by_bool _ (λ is. ne (ap pid_owner (sym (eqb-true q.pid m (and_left (q.pid == m) _ is))) ∙ good.block ∙ doomed_own m q good is))) ps all
 
 end_of_same : {u : ℕ} {start c v : Rows} → Sim u start c v → (settings : Settings) (n w : ℕ) → pid_owner n ≡ u → Sim u start (end_of settings n w c) (end_of settings n w v)
 end_of_same {u} {start} {c} {v} s settings n w here =
-    subst (λ d. Sim u start (end_of settings n w c) (end_each d (dooms settings v.processes n) n w v)) (doomed_same s settings n here)
-    (subst (λ o. Sim u start (end_of settings n w c) (end_each (is_doomed settings c.processes n) o n w v)) (dooms_same s settings n here)
-    (end_each_same s (is_doomed settings c.processes n) (dooms settings c.processes n) (tests s settings n here) n w))
-
-traces_foreign : {u : ℕ} (n : ℕ) → pid_owner n ≡ u → (p : ProcData) → GoodProc p → p.uid ≢ u → (is_live p && traces n p) ≡ false
-traces_foreign n here p good ne = rw (by_tracer p.tracer good.tracer, and_false (is_live p)) refl
+    subst (λ d. Sim u start (end_of settings n w c) (end_each d (dooms settings v.processes n) n w v)) doomed
+    (subst (λ o. Sim u start (end_of settings n w c) (end_each (is_doomed settings c.processes n) o n w v)) over
+    (end_each_same (is_doomed settings c.processes n) (dooms settings c.processes n) (doomed_foreign c.processes all settings n here) (dooms_foreign c.processes all settings n here) n w s))
   where
-    by_tracer : (o : Option ℕ) → IfSome o (λ t. pid_owner t ≡ p.uid) → is_this n o ≡ false
-    by_tracer None g = refl
-    by_tracer (Some t) g = not_own n t (λ e. ne (sym g ∙ ap pid_owner e ∙ here))
+    all : AllByRecursion GoodProc c.processes
+    all = s.kept.closed.processes
+
+    doomed : is_doomed settings c.processes n ≡ is_doomed settings v.processes n
+    doomed = fun_ext (λ p. ap (λ b. (p.pid == n) || (settings.kill_on_debugger_exit && is_live p && b)) (meets_same s 250 n p.pid here))
+
+    over : dooms settings c.processes n ≡ dooms settings v.processes n
+    over = fun_ext (λ m.
+        sym (any_only (λ q. (q.pid == m) && is_doomed settings c.processes n q) (own u) GoodProc (λ q good is. is_own u q.uid (doomed_own c.processes all settings n here m q good is)) c.processes all)
+        ∙ ap (list_any (λ q. (q.pid == m) && is_doomed settings c.processes n q)) s.processes
+        ∙ ap (λ d. list_any (λ q. (q.pid == m) && d q) v.processes) doomed)
 
 pub end_same : {u : ℕ} {start c v : Rows} → Sim u start c v → (settings : Settings) (n w : ℕ) → pid_owner n ≡ u → Sim u start (end settings n w c) (end settings n w v)
-end_same {u} {start} {c} {v} s settings n w here = end_of_same (by_setting settings.kill_on_debugger_exit) settings n w here
+end_same {u} {start} {c} {v} s settings n w here = end_of_same (choose_both (Sim u start) settings.kill_on_debugger_exit _ _ _ _ (λ kills. s) (λ lets.
+    detached_same s (λ q. is_live q && traces n q) (λ q. if is_some (reporting q) then bit SIGTRAP else 0) foreign)) settings n w here
   where
-    by_setting : (b : Bool) → Sim u start (if b then c else detached (λ q. is_live q && traces n q) (λ q. if is_some (reporting q) then bit SIGTRAP else 0) c) (if b then v else detached (λ q. is_live q && traces n q) (λ q. if is_some (reporting q) then bit SIGTRAP else 0) v)
-    by_setting true = s
-    by_setting false = detached_same s _ _ (λ p good ne. traces_foreign n here p good ne)
+    by_tracer : (p : ProcData) → p.uid ≢ u → (o : Option ℕ) → IfSome o (λ t. pid_owner t ≡ p.uid) → is_this n o ≡ false
+    by_tracer p ne None g = refl
+    by_tracer p ne (Some t) g = not_own n t (λ e. ne (sym g ∙ ap pid_owner e ∙ here))
+
+    foreign : (p : ProcData) → GoodProc p → p.uid ≢ u → (is_live p && traces n p) ≡ false
+    foreign p good ne = rw (by_tracer p ne p.tracer good.tracer, and_false (is_live p)) refl
+
+-- Posting any signal, trace stops, and what resumes a process
+
+pub post_same : {u : ℕ} {start c v : Rows} → Sim u start c v → (settings : Settings) (sig : ℕ) (to : Option ℕ) (n : ℕ) → pid_owner n ≡ u → Sim u start (post settings sig to n c) (post settings sig to n v)
+post_same s settings sig to n here = branch_rows (sig == SIGKILL) _ refl (λ b. end_same s settings n SIGKILL here) (λ b. posted_same s sig to n here)
+
+tracers_mine : (u : ℕ) (o : Option ℕ) → IfSome o (λ t. pid_owner t ≡ u) → Mines u (tracers o)
+tracers_mine u None g = tt
+tracers_mine u (Some t) g = (λ ne. g, tt)
+
+pub stop_same : {u : ℕ} {start c v : Rows} → Sim u start c v → (n tid : ℕ) (shown : Shown) → pid_owner n ≡ u → tid_owner tid ≡ u → Sim u start (stop n tid shown c) (stop n tid shown v)
+stop_same {u} {start} {c} {v} s n tid shown here own_tid = subst (λ o. Sim u start (stop n tid shown c) (notified (tracers (tracer_in o)) (stopped v))) (process_same s n here)
+    (notified_same (process_same_after (lwp_same_after s tid own_tid (λ l. record l { flags = shown.flags; child = shown.child; code = shown.code }) (λ l well is. (refl, record { block = well.block; waits = well.waits })))
+    n here (λ p. record p { state = Trace tid shown.sig false }) (λ p good is e. (refl, refl, record { user = good.user; block = good.block; tracer = good.tracer; parent = good.parent; reporting = own_tid ∙ sym is; collector = λ dead. absurd (true≢false dead) }, λ live. refl)))
+    (tracers (tracer_of c.processes n)) (tracers_mine u (tracer_of c.processes n) (subst (λ w. IfSome (tracer_of c.processes n) (λ t. pid_owner t ≡ w)) here (tracer_facts c.processes s.kept.closed.processes n))))
+  where
+    stopped : Rows → Rows
+    stopped rows = change_process n (λ p. record p { state = Trace tid shown.sig false }) (change_lwp tid (λ l. record l { flags = shown.flags; child = shown.child; code = shown.code }) rows)
+
+pub resume_same : {u : ℕ} {start c v : Rows} → Sim u start c v → (settings : Settings) (n sig : ℕ) → pid_owner n ≡ u → Sim u start (resume settings n sig c) (resume settings n sig v)
+resume_same s settings n sig here = branch_rows _ _ (ap (ends_process sig) (process_same s n here)) (λ b. end_same (resumed_same s n here) settings n sig here) (λ b. resumed_same s n here)
+
+pub detach_same : {u : ℕ} {start c v : Rows} → Sim u start c v → (settings : Settings) (n sig : ℕ) → pid_owner n ≡ u → Sim u start (detach settings n sig c) (detach settings n sig v)
+detach_same s settings n sig here = branch_rows _ _ (ap (ends_process sig) (process_same s n here)) (λ b. end_same (resumed_same s n here) settings n sig here) (λ b. detached_same s (is_numbered n) (λ p. 0) (is_numbered_foreign n here))

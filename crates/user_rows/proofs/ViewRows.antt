@@ -1,5 +1,5 @@
--- Sound rows keep users apart, and what a user sees of them.
-use Rattle.std.proofs.Common.{◌≡◌, ◌≢◌, ℕ, ◌<◌, List, [], ◌∷◌, filter, Bool, true, false, ◌==◌, ◌&&◌, not, Option, Some, None, IfSome, refl, sym, ap, ◌∙◌, arith, eqb, true≢false, eqb-true, subst, eq-eqb}
+-- Sound rows keep users apart, and what a user sees of them: before a change, after it, and after the end of a process.
+use Rattle.std.proofs.Common.{◌≡◌, ◌≢◌, ℕ, List, filter, Bool, true, false, ◌==◌, ◌&&◌, if◌then◌else◌, Option, Some, None, IfSome, refl, sym, ap, ◌∙◌, arith, eqb, true≢false, eqb-true, subst, eq-eqb}
 use Rattle.std.specs.List.{AllByRecursion}
 use Rattle.pid_blocks.specs.Users.{IsUser}
 use Rattle.pid_blocks.specs.Blocks.{pid_owner, tid_owner, pid_block, tid_block, InBlock}
@@ -7,21 +7,24 @@ use Rattle.lwp_table.specs.declared.LwpData.{LwpData}
 use Rattle.proc_table.specs.declared.ProcData.{ProcData}
 use Rattle.proc_table.specs.declared.State.{State}
 use Rattle.proc_table.specs.declared.State.TheVariants.{Run, Trace, Job, Zombie}
-use Rattle.proc_table.specs.Processes.{is_live, is_zombie_state, reporting, process_of}
+use Rattle.proc_table.specs.Processes.{is_live, reporting, process_of}
 use Rattle.proc_table.specs.Rows.{Rows}
 use Rattle.proc_table.specs.Seen.{owns}
-use Rattle.proc_table.specs.Kept.{AllAbove, Rise, AtHome}
+use Rattle.proc_table.specs.Kept.{AtHome}
 use Rattle.proc_table.specs.Kept as kept
 use Rattle.trace_stop.specs.Sound.{names_own}
 use Rattle.trace_stop.specs.Facts.{IsLiveOf, IsLiveChild, Linked, IfEnded, FitProcess, waited_for, Standing, WithOwner, IsSound}
-use Rattle.user_rows.specs.Closed.{Every, Rising, GoodProc, GoodLwp, LiveRow, Housed, Closed}
-use Rattle.trace_stop.proofs.Every.{and_left, and_right, All-imply, All-both, any_holds, find_some}
+use Rattle.proc_table.specs.Laws.{only_of}
+use Rattle.trace_stop.specs.declared.Settings.{Settings}
+use Rattle.trace_stop.specs.End.{left_alone, end}
+use Rattle.user_rows.specs.Closed.{GoodProc, GoodLwp, LiveRow, LiveOwner, Closed}
+use Rattle.trace_stop.proofs.Every.{and_left, and_right, choose, All-imply, All-both, any_holds, find_some}
 use Rattle.trace_stop.proofs.Edited.{If_more}
 use Rattle.trace_stop.proofs.Children.{child_lives}
 use Rattle.trace_stop.proofs.Stops.{find_passes}
 use Rattle.user_rows.proofs.ViewLists.{filter_same}
-use Rattle.user_rows.proofs.ViewSame.{own_lwp, not_equal, process_some}
-use Rattle.user_rows.proofs.ViewEnds.{any_none, by_bool}
+use Rattle.user_rows.proofs.ViewSame.{Sim, own_lwp, either, at_number}
+use Rattle.user_rows.proofs.ViewEnds.{end_same}
 
 -- Owners of numbers
 
@@ -33,43 +36,29 @@ pub tid_in_block : (u n : ℕ) → IsUser u → InBlock (tid_block u) n → tid_
 unfolding tid_owner
 tid_in_block u n user b = omega arith
 
-pub owns_owner : (u n : ℕ) (ps : List ProcData) → Every GoodProc ps → owns u n ps ≡ true → pid_owner n ≡ u
-owns_owner u n ps all is = by_owner (eqb (pid_owner n) u) refl
-  where
-    by_owner : (b : Bool) → eqb (pid_owner n) u ≡ b → pid_owner n ≡ u
-    by_owner true e = eqb-true (pid_owner n) u e
-    by_owner false e = absurd (true≢false (sym is ∙ any_none (λ p. (p.pid == n) && (p.uid == u)) GoodProc (λ p good. by_bool _ (λ h. not_equal (pid_owner n) u e (ap pid_owner (sym (eqb-true p.pid n (and_left (p.pid == n) (p.uid == u) h))) ∙ good.block ∙ eqb-true p.uid u (and_right (p.pid == n) (p.uid == u) h)))) ps all))
+pub owns_owner : (u n : ℕ) (ps : List ProcData) → AllByRecursion GoodProc ps → owns u n ps ≡ true → pid_owner n ≡ u
+owns_owner u n ps all is = any_holds (λ p. (p.pid == n) && (p.uid == u)) GoodProc (pid_owner n ≡ u)
+    (λ p good e. ap pid_owner (sym (eqb-true p.pid n (and_left (p.pid == n) (p.uid == u) e))) ∙ good.block ∙ eqb-true p.uid u (and_right (p.pid == n) (p.uid == u) e)) ps all is
+
+-- who has a process is a user
+pub owns_user : (u n : ℕ) (ps : List ProcData) → AllByRecursion AtHome ps → owns u n ps ≡ true → IsUser u
+owns_user u n ps homes is = any_holds (λ p. (p.pid == n) && (p.uid == u)) AtHome (IsUser u) (λ p home e. subst IsUser (eqb-true p.uid u (and_right (p.pid == n) (p.uid == u) e)) home.user) ps homes is
 
 is_true : (a b : Bool) → (a ≡ true → b ≡ true) → (b ≡ true → a ≡ true) → a ≡ b
-is_true true true f g = refl
-is_true false false f g = refl
-is_true true false f g = sym (f refl)
+is_true true b f g = sym (f refl)
 is_true false true f g = g refl
+is_true false false f g = refl
 
 -- an LWP's process is a row of u where its number is in u's block
-pub owns_block : (u : ℕ) (ps : List ProcData) → Every GoodProc ps → (l : LwpData) → Housed ps l → owns u l.pid ps ≡ own_lwp u l
-owns_block u ps all l house = is_true (owns u l.pid ps) (own_lwp u l) (λ e. eq-eqb (pid_owner l.pid) u (owns_owner u l.pid ps all e)) (λ e. at_row (eqb-true (pid_owner l.pid) u e) (process_of l.pid ps) refl (process_some ps l.pid all) house)
-  where
-    at_row : pid_owner l.pid ≡ u → (o : Option ProcData) → process_of l.pid ps ≡ o → IfSome o (λ p. GoodProc p × ((p.pid == l.pid) ≡ true)) → LiveRow o → owns u l.pid ps ≡ true
-    at_row mine None is g live = absurd live
-    at_row mine (Some p) is g live = find_passes (λ q. q.pid == l.pid) (λ q. (q.pid == l.pid) && (q.uid == u)) ps p is (rw (g.1, eq-eqb p.uid u (sym g.0.block ∙ ap pid_owner (eqb-true p.pid l.pid g.1) ∙ mine)) refl)
+pub owns_block : (u : ℕ) (ps : List ProcData) → AllByRecursion GoodProc ps → (l : LwpData) → LiveOwner ps l → owns u l.pid ps ≡ own_lwp u l
+owns_block u ps all l house = is_true (owns u l.pid ps) (own_lwp u l) (λ e. eq-eqb (pid_owner l.pid) u (owns_owner u l.pid ps all e)) (λ e.
+    at_number ps all l.pid (λ o. LiveRow o → owns u l.pid ps ≡ true) (λ no_row. absurd no_row) (λ p is good here live. find_passes (λ q. q.pid == l.pid) (λ q. (q.pid == l.pid) && (q.uid == u)) ps p is
+    (rw (eq-eqb p.pid l.pid here, eq-eqb p.uid u (sym good.block ∙ ap pid_owner here ∙ eqb-true (pid_owner l.pid) u e)) refl)) house)
 
-pub lwps_seen : (w : ℕ) (rows : Rows) → Every GoodProc rows.processes → Every (Housed rows.processes) rows.lwps → filter (λ l. owns w l.pid rows.processes) rows.lwps ≡ filter (own_lwp w) rows.lwps
-lwps_seen w rows all housed = filter_same (λ l. owns w l.pid rows.processes) (own_lwp w) (Housed rows.processes) (λ l house. owns_block w rows.processes all l house) rows.lwps housed
+pub lwps_seen : (w : ℕ) (rows : Rows) → AllByRecursion GoodProc rows.processes → AllByRecursion (LiveOwner rows.processes) rows.lwps → filter (λ l. owns w l.pid rows.processes) rows.lwps ≡ filter (own_lwp w) rows.lwps
+lwps_seen w rows all housed = filter_same (λ l. owns w l.pid rows.processes) (own_lwp w) (LiveOwner rows.processes) (λ l house. owns_block w rows.processes all l house) rows.lwps housed
 
 -- Sound rows
-
-pub every_of : {X : Type 0} (P : X → Type 0) (xs : List X) → AllByRecursion P xs → Every P xs
-every_of P [] all = tt
-every_of P (x ∷ xs) all = (all.0, every_of P xs all.1)
-
-rising_of : (ps : List ProcData) → Rise ps → Rising ps
-rising_of [] rise = tt
-rising_of (p ∷ ps) rise = (above p.pid ps rise.0, rising_of ps rise.1)
-  where
-    above : (n : ℕ) (qs : List ProcData) → AllAbove n qs → Every (λ q. n < q.pid) qs
-    above n [] all = tt
-    above n (q ∷ qs) all = (all.0, above n qs all.1)
 
 module _ (rows : Rows) (s : IsSound rows) where
   block_of : (p : ProcData) → AtHome p → pid_owner p.pid ≡ p.uid
@@ -92,10 +81,10 @@ module _ (rows : Rows) (s : IsSound rows) where
       rows.lwps s.stands.housed is
 
   collector_of : (p : ProcData) (x : State) → p.state ≡ x → IfEnded p x → is_live p ≡ false → p.tracer ≡ None → p.parent ≢ 1
-  collector_of p Run e end dead none = absurd (true≢false (sym (ap (λ y. not (is_zombie_state y)) e) ∙ dead))
-  collector_of p (Trace tid sig told) e end dead none = absurd (true≢false (sym (ap (λ y. not (is_zombie_state y)) e) ∙ dead))
-  collector_of p (Job sig told) e end dead none = absurd (true≢false (sym (ap (λ y. not (is_zombie_state y)) e) ∙ dead))
   collector_of p (Zombie w) e end dead none = end.collector none
+  collector_of p Run e end dead none = absurd (grind (arith, e, dead))
+  collector_of p (Trace tid sig told) e end dead none = absurd (grind (arith, e, dead))
+  collector_of p (Job sig told) e end dead none = absurd (grind (arith, e, dead))
 
   good_row : (p : ProcData) → AtHome p × (Linked rows p × FitProcess p) → GoodProc p
   good_row p h = record {
@@ -116,7 +105,7 @@ module _ (rows : Rows) (s : IsSound rows) where
         waits = If_more (IsLiveChild rows h.0.0) (λ c. pid_owner c ≡ pid_owner l.pid) (λ c is. live_owner h.0.0.uid c (child_lives rows h.0.0 c is) ∙ own) (waited_for l.mode) (h.1 h.0.0 h.0.1).waits;
       }
 
-  lives : (l : LwpData) → kept.Housed rows l × WithOwner rows (Standing rows) l → Housed rows.processes l
+  lives : (l : LwpData) → kept.Housed rows l × WithOwner rows (Standing rows) l → LiveOwner rows.processes l
   lives l h = subst LiveRow (sym h.0.1) (h.1 h.0.0 h.0.1).live
 
   placed_lwps : AllByRecursion (λ l. kept.Housed rows l × WithOwner rows (Standing rows) l) rows.lwps
@@ -124,13 +113,68 @@ module _ (rows : Rows) (s : IsSound rows) where
 
   pub sound_closed : (u : ℕ) → IsUser u → Closed u rows
   sound_closed u user = record {
-    processes = every_of GoodProc rows.processes (All-imply (λ p. AtHome p × (Linked rows p × FitProcess p)) GoodProc good_row rows.processes (All-both AtHome _ rows.processes s.stands.homes (All-both (Linked rows) FitProcess rows.processes s.stands.linked s.processes)));
-    lwps = every_of GoodLwp rows.lwps (All-imply _ GoodLwp good_lwp rows.lwps placed_lwps);
-    housed = every_of (Housed rows.processes) rows.lwps (All-imply _ (Housed rows.processes) lives rows.lwps placed_lwps);
-    rising = rising_of rows.processes s.stands.rising;
+    processes = All-imply (λ p. AtHome p × (Linked rows p × FitProcess p)) GoodProc good_row rows.processes (All-both AtHome _ rows.processes s.stands.homes (All-both (Linked rows) FitProcess rows.processes s.stands.linked s.processes));
+    lwps = All-imply _ GoodLwp good_lwp rows.lwps placed_lwps;
+    housed = All-imply _ (LiveOwner rows.processes) lives rows.lwps placed_lwps;
+    rising = s.stands.rising;
     user = user;
     pid_slots = s.stands.pid_slots;
     tid_slots = s.stands.tid_slots;
     pid_cursor = s.stands.pid_cursors u user;
     tid_cursor = s.stands.tid_cursors u user;
   }
+
+-- What a user's own rows are
+
+same_rows : (a b : Rows) → a.processes ≡ b.processes → a.lwps ≡ b.lwps → a.pid_cursors ≡ b.pid_cursors → a.tid_cursors ≡ b.tid_cursors → a ≡ b
+same_rows a b processes lwps pids tids =
+    ap {B = Rows} (λ ps. record a { processes = ps }) processes
+    ∙ ap {B = Rows} (λ ls. record a { processes = b.processes; lwps = ls }) lwps
+    ∙ ap {B = Rows} (λ ns. record b { pid_cursors = ns; tid_cursors = a.tid_cursors }) pids
+    ∙ ap {B = Rows} (λ ns. record b { tid_cursors = ns }) tids
+
+-- before the change
+pub own_start : (u : ℕ) (rows : Rows) → Closed u rows → Sim u rows rows (only_of u rows)
+own_start u rows closed = record {
+  kept = record { closed = closed; processes = λ w ne. refl; lwps = λ w ne. refl; pid_cursor = λ w user ne. refl; tid_cursor = λ w user ne. refl };
+  processes = refl;
+  lwps = sym (lwps_seen u rows closed.processes closed.housed);
+  pid_cursor = refl;
+  tid_cursor = refl;
+  pid_slots = closed.pid_slots;
+  tid_slots = closed.tid_slots;
+}
+
+-- and after it, for the user and for others
+pub own_after : {u : ℕ} {start c v : Rows} → Sim u start c v → c.pid_cursors ≡ v.pid_cursors → c.tid_cursors ≡ v.tid_cursors → only_of u c ≡ v
+own_after {u} {start} {c} {v} s pids tids = same_rows (only_of u c) v s.processes (lwps_seen u c s.kept.closed.processes s.kept.closed.housed ∙ s.lwps) pids tids
+
+pub others_after : {u : ℕ} {start c v : Rows} → Closed u start → Sim u start c v → c.pid_cursors ≡ start.pid_cursors → c.tid_cursors ≡ start.tid_cursors → (w : ℕ) → w ≢ u → only_of w c ≡ only_of w start
+others_after {u} {start} {c} {v} closed s pids tids w ne = same_rows (only_of w c) (only_of w start) (s.kept.processes w ne)
+    (lwps_seen w c s.kept.closed.processes s.kept.closed.housed ∙ s.kept.lwps w ne ∙ sym (lwps_seen w start closed.processes closed.housed)) pids tids
+
+-- an end takes no number
+module _ (settings : Settings) (p status : ℕ) (rows : Rows) where
+  left : Rows
+  left = left_alone (record { kill_on_debugger_exit = false }) p rows
+
+  pub end_pid_cursors : (end settings p status rows).pid_cursors ≡ rows.pid_cursors
+  unfolding left
+  end_pid_cursors = choose settings.kill_on_debugger_exit rows left (λ r. r.pid_cursors ≡ rows.pid_cursors) (λ e. refl) (λ e. refl)
+
+  pub end_tid_cursors : (end settings p status rows).tid_cursors ≡ rows.tid_cursors
+  unfolding left
+  end_tid_cursors = choose settings.kill_on_debugger_exit rows left (λ r. r.tid_cursors ≡ rows.tid_cursors) (λ e. refl) (λ e. refl)
+
+module _ (settings : Settings) (rows : Rows) (u p status : ℕ) (s : IsSound rows) (is : owns u p rows.processes ≡ true) where
+  closed : Closed u rows
+  closed = sound_closed rows s u (owns_user u p rows.processes s.stands.homes is)
+
+  ends : Sim u rows (end settings p status rows) (end settings p status (only_of u rows))
+  ends = end_same (own_start u rows closed) settings p status (owns_owner u p rows.processes closed.processes is)
+
+  pub own_end : only_of u (end settings p status rows) ≡ end settings p status (only_of u rows)
+  own_end = own_after ends (end_pid_cursors settings p status rows ∙ sym (end_pid_cursors settings p status (only_of u rows))) (end_tid_cursors settings p status rows ∙ sym (end_tid_cursors settings p status (only_of u rows)))
+
+  pub other_end : (w : ℕ) → w ≢ u → only_of w (end settings p status rows) ≡ only_of w rows
+  other_end = others_after closed ends (end_pid_cursors settings p status rows) (end_tid_cursors settings p status rows)

@@ -1,6 +1,7 @@
 -- One relation says all of isolation: what a step did to all rows, what the same step does to one
 -- user's rows, and that other users' rows are as they were.
 use Rattle.std.proofs.Common.{◌≡◌, ◌≢◌, ℕ, List, length, filter, find, filter_map, Bool, true, false, ◌==◌, Option, Some, None, IfSome, refl, sym, ap, ◌∙◌, arith, eqb, true≢false, eqb-true, subst, eq-eqb, get_or, inl, inr, ◌⊎◌}
+use Rattle.std.specs.List.{AllByRecursion}
 use Rattle.std.proofs.lemmas.Bool.Decides.{nat_tests}
 use Rattle.pid_blocks.specs.Users.{IsUser}
 use Rattle.pid_blocks.specs.Blocks.{pid_owner, slot}
@@ -8,8 +9,11 @@ use Rattle.proc_table.specs.declared.ProcData.{ProcData}
 use Rattle.lwp_table.specs.declared.LwpData.{LwpData}
 use Rattle.proc_table.specs.Processes.{is_live, process_of, of_user}
 use Rattle.proc_table.specs.Rows.{Rows, by_owner, each}
-use Rattle.user_rows.specs.Closed.{Every, Rising, GoodProc, GoodLwp, LiveRow, Housed, Closed}
-use Rattle.user_rows.proofs.ViewLists.{find_only, find_some, filter_only, filter_edit, filter_untouched, Every-edit, Every-filter, Every-both, Rising-edit, find_edit, edit_same_at}
+use Rattle.user_rows.specs.Closed.{GoodProc, GoodLwp, LiveRow, LiveOwner, Closed}
+use Rattle.trace_stop.proofs.Every.{All-both, All-edit}
+use Rattle.trace_stop.proofs.Edited.{If_more}
+use Rattle.trace_stop.proofs.Passes.{filter_map_same}
+use Rattle.user_rows.proofs.ViewLists.{find_only, find_some, filter_only, filter_edit, filter_untouched, find_edit, All-where, Rise-edit}
 
 abbrev pub own : ℕ → ProcData → Bool
 own u p = p.uid == u
@@ -44,19 +48,29 @@ not_own u n ne = grind (arith, nat_tests)
 pub not_equal : (n m : ℕ) → eqb n m ≡ false → n ≢ m
 not_equal n m is e = true≢false (sym (eq-eqb n m e) ∙ is)
 
+pub either : (n m : ℕ) {R : Type 0} → (n ≡ m → R) → (n ≢ m → R) → R
+either n m {R} yes' no' = by_test (eqb n m) refl
+  where
+    by_test : (b : Bool) → eqb n m ≡ b → R
+    by_test true is = yes' (eqb-true n m is)
+    by_test false is = no' (not_equal n m is)
+
 -- Queries
 
-pub row_query : {u : ℕ} {start c v : Rows} → Sim u start c v → (q : ProcData → Bool) → ((p : ProcData) → GoodProc p → q p ≡ true → p.uid ≡ u) → find q c.processes ≡ find q v.processes
-row_query {u} {start} {c} s q mine = sym (find_only q (own u) GoodProc (λ p good is. is_own u p.uid (mine p good is)) c.processes s.kept.closed.processes) ∙ ap (find q) s.processes
+module _ {u : ℕ} {start c v : Rows} (s : Sim u start c v) where
+  module _ (q : ProcData → Bool) (mine : (p : ProcData) → GoodProc p → q p ≡ true → p.uid ≡ u) where
+    pub row_query : find q c.processes ≡ find q v.processes
+    row_query = sym (find_only q (own u) GoodProc (λ p good is. is_own u p.uid (mine p good is)) c.processes s.kept.closed.processes) ∙ ap (find q) s.processes
 
-pub rows_query : {u : ℕ} {start c v : Rows} → Sim u start c v → (q : ProcData → Bool) → ((p : ProcData) → GoodProc p → q p ≡ true → p.uid ≡ u) → filter q c.processes ≡ filter q v.processes
-rows_query {u} {start} {c} s q mine = sym (filter_only q (own u) GoodProc (λ p good is. is_own u p.uid (mine p good is)) c.processes s.kept.closed.processes) ∙ ap (filter q) s.processes
+    pub rows_query : filter q c.processes ≡ filter q v.processes
+    rows_query = sym (filter_only q (own u) GoodProc (λ p good is. is_own u p.uid (mine p good is)) c.processes s.kept.closed.processes) ∙ ap (filter q) s.processes
 
-pub lwp_query : {u : ℕ} {start c v : Rows} → Sim u start c v → (q : LwpData → Bool) → ((l : LwpData) → GoodLwp l → q l ≡ true → pid_owner l.pid ≡ u) → find q c.lwps ≡ find q v.lwps
-lwp_query {u} {start} {c} s q mine = sym (find_only q (own_lwp u) GoodLwp (λ l good is. is_own u (pid_owner l.pid) (mine l good is)) c.lwps s.kept.closed.lwps) ∙ ap (find q) s.lwps
+  module _ (q : LwpData → Bool) (mine : (l : LwpData) → GoodLwp l → q l ≡ true → pid_owner l.pid ≡ u) where
+    pub lwp_query : find q c.lwps ≡ find q v.lwps
+    lwp_query = sym (find_only q (own_lwp u) GoodLwp (λ l well is. is_own u (pid_owner l.pid) (mine l well is)) c.lwps s.kept.closed.lwps) ∙ ap (find q) s.lwps
 
-pub lwps_query : {u : ℕ} {start c v : Rows} → Sim u start c v → (q : LwpData → Bool) → ((l : LwpData) → GoodLwp l → q l ≡ true → pid_owner l.pid ≡ u) → filter q c.lwps ≡ filter q v.lwps
-lwps_query {u} {start} {c} s q mine = sym (filter_only q (own_lwp u) GoodLwp (λ l good is. is_own u (pid_owner l.pid) (mine l good is)) c.lwps s.kept.closed.lwps) ∙ ap (filter q) s.lwps
+    pub lwps_query : filter q c.lwps ≡ filter q v.lwps
+    lwps_query = sym (filter_only q (own_lwp u) GoodLwp (λ l well is. is_own u (pid_owner l.pid) (mine l well is)) c.lwps s.kept.closed.lwps) ∙ ap (filter q) s.lwps
 
 -- who has a number of u is a row of u
 pub named : {u n : ℕ} → pid_owner n ≡ u → (p : ProcData) → GoodProc p → p.pid ≡ n → p.uid ≡ u
@@ -65,12 +79,13 @@ named mine p good e = sym good.block ∙ ap pid_owner e ∙ mine
 pub process_same : {u : ℕ} {start c v : Rows} → Sim u start c v → (n : ℕ) → pid_owner n ≡ u → process_of n c.processes ≡ process_of n v.processes
 process_same s n mine = row_query s (λ p. p.pid == n) (λ p good is. named mine p good (eqb-true p.pid n is))
 
-pub process_some : (ps : List ProcData) (n : ℕ) → Every GoodProc ps → IfSome (process_of n ps) (λ p. GoodProc p × ((p.pid == n) ≡ true))
-process_some ps n all = find_some (λ p. p.pid == n) GoodProc ps all
-
-pub If-both : {X : Type 0} (P Q : X → Type 0) → ((x : X) → P x → Q x) → (o : Option X) → IfSome o P → IfSome o Q
-If-both P Q h None p = tt
-If-both P Q h (Some x) p = h x p
+-- the row of a number, if there is one
+pub at_number : (ps : List ProcData) → AllByRecursion GoodProc ps → (n : ℕ) (R : Option ProcData → Type 0) → R None → ((p : ProcData) → process_of n ps ≡ Some p → GoodProc p → p.pid ≡ n → R (Some p)) → R (process_of n ps)
+at_number ps all n R none some = by_row (process_of n ps) refl (find_some (λ p. p.pid == n) GoodProc ps all)
+  where
+    by_row : (o : Option ProcData) → process_of n ps ≡ o → IfSome o (λ p. GoodProc p × ((p.pid == n) ≡ true)) → R o
+    by_row None is g = none
+    by_row (Some p) is g = some p is g.0 (eqb-true p.pid n g.1)
 
 -- Each row by itself
 
@@ -87,123 +102,81 @@ pub record Keeps (u : ℕ) (f : ProcData → Option ProcData) (g : ProcData → 
   pub foreign_lwp : (p : ProcData) (l : LwpData) → GoodProc p → GoodLwp l → p.uid ≢ u → p.pid ≡ l.pid → g p l ≡ Some l
   pub live : (p : ProcData) (l : LwpData) → GoodProc p → p.uid ≡ u → is_live p ≡ true → LiveRow (f p) ⊎ (g p l ≡ None)
 
-pub kin : {u : ℕ} (f : ProcData → Option ProcData) → ((p : ProcData) → GoodProc p → p.uid ≡ u → Kin p (f p)) → ((p : ProcData) → GoodProc p → p.uid ≢ u → f p ≡ Some p) → (p : ProcData) → GoodProc p → Kin p (f p)
-kin {u} f mine foreign p good = by_user (eqb p.uid u) refl
-  where
-    by_user : (b : Bool) → eqb p.uid u ≡ b → Kin p (f p)
-    by_user true is = mine p good (eqb-true p.uid u is)
-    by_user false is = subst (Kin p) (sym (foreign p good (not_equal p.uid u is))) (refl, refl, good)
+module _ {u : ℕ} {start c v : Rows} (s : Sim u start c v) (f : ProcData → Option ProcData) (g : ProcData → LwpData → Option LwpData) (k : Keeps u f g) where
+  all : AllByRecursion GoodProc c.processes
+  all = s.kept.closed.processes
 
-kin_lwp : {u : ℕ} (f : ProcData → Option ProcData) (g : ProcData → LwpData → Option LwpData) → Keeps u f g → (p : ProcData) (l : LwpData) → GoodProc p → GoodLwp l → p.pid ≡ l.pid → KinLwp l (g p l)
-kin_lwp {u} f g k p l good well here = by_user (eqb p.uid u) refl
-  where
-    by_user : (b : Bool) → eqb p.uid u ≡ b → KinLwp l (g p l)
-    by_user true is = k.lwp p l good well (eqb-true p.uid u is) here
-    by_user false is = subst (KinLwp l) (sym (k.foreign_lwp p l good well (not_equal p.uid u is) here)) (refl, well)
+  abbrev after : List ProcData
+  after = filter_map f c.processes
 
--- rows that change as processes alone
-pub processes_kept : (f : ProcData → Option ProcData) → ((p : ProcData) → GoodProc p → Kin p (f p)) → (ps : List ProcData) → Every GoodProc ps → Every GoodProc (filter_map f ps)
-processes_kept f h ps all = Every-edit f GoodProc GoodProc (λ p good. If-both _ GoodProc (λ q k. k.2) (f p) (h p good)) ps all
+  -- a process, afterwards
+  kin : (p : ProcData) → GoodProc p → Kin p (f p)
+  kin p good = either p.uid u (k.mine p good) (λ ne. subst (Kin p) (sym (k.foreign p good ne)) (refl, refl, good))
 
-pub rising_kept : (f : ProcData → Option ProcData) → ((p : ProcData) → GoodProc p → Kin p (f p)) → (ps : List ProcData) → Every GoodProc ps → Rising ps → Rising (filter_map f ps)
-rising_kept f h ps all rising = Rising-edit f GoodProc (λ p good. If-both _ (λ q. q.pid ≡ p.pid) (λ q k. k.0) (f p) (h p good)) ps all rising
+  kins : (R : ProcData → ProcData → Type 0) → ((p q : ProcData) → (q.pid ≡ p.pid) × (q.uid ≡ p.uid) × GoodProc q → R p q) → (p : ProcData) → GoodProc p → IfSome (f p) (R p)
+  kins R h p good = If_more _ (R p) (h p) (f p) (kin p good)
 
-pub untouched : {u : ℕ} (f : ProcData → Option ProcData) → ((p : ProcData) → GoodProc p → Kin p (f p)) → ((p : ProcData) → GoodProc p → p.uid ≢ u → f p ≡ Some p) → (ps : List ProcData) → Every GoodProc ps → (w : ℕ) → w ≢ u → of_user w (filter_map f ps) ≡ of_user w ps
-untouched f h foreign ps all w ne = filter_untouched (own w) f GoodProc
-    (λ p good is. foreign p good (λ e. ne (sym (eqb-true p.uid w is) ∙ e)))
-    (λ p good is. If-both _ (λ q. own w q ≡ false) (λ q k. ap (λ n. eqb n w) k.1 ∙ is) (f p) (h p good))
-    ps all
+  live_after : (n : ℕ) (p : ProcData) → process_of n c.processes ≡ Some p → LiveRow (f p) → LiveRow (process_of n after)
+  live_after n p is = by_row (f p) refl
+    where
+      by_row : (o : Option ProcData) → f p ≡ o → LiveRow o → LiveRow (process_of n after)
+      by_row None e no_row = absurd no_row
+      by_row (Some q) e live = subst LiveRow (sym (find_edit (λ x. x.pid == n) f GoodProc (kins (λ x y. (y.pid == n) ≡ (x.pid == n)) (λ x y j. ap (λ m. eqb m n) j.0)) c.processes all p q is e)) live
 
-pub seen_kept : (u : ℕ) (f : ProcData → Option ProcData) → ((p : ProcData) → GoodProc p → Kin p (f p)) → (ps : List ProcData) → Every GoodProc ps → of_user u (filter_map f ps) ≡ filter_map f (of_user u ps)
-seen_kept u f h ps all = filter_edit (own u) f GoodProc (λ p good. If-both _ (λ q. own u q ≡ own u p) (λ q k. ap (λ n. eqb n u) k.1) (f p) (h p good)) ps all
+  -- an LWP, with what its process becomes
+  abbrev to : LwpData → Option LwpData
+  to l = by_owner g l (process_of l.pid c.processes)
 
--- the process of an LWP, afterwards
-pub live_after : (f : ProcData → Option ProcData) → ((p : ProcData) → GoodProc p → Kin p (f p)) → (ps : List ProcData) → Every GoodProc ps → (n : ℕ) (p : ProcData) → process_of n ps ≡ Some p → LiveRow (f p) → LiveRow (process_of n (filter_map f ps))
-live_after f h ps all n p is live = at_row (f p) refl live
-  where
-    at_row : (o : Option ProcData) → f p ≡ o → LiveRow o → LiveRow (process_of n (filter_map f ps))
-    at_row None e l = absurd l
-    at_row (Some q) e l = subst LiveRow (sym (find_edit (λ x. x.pid == n) f GoodProc (λ x good. If-both _ (λ y. (y.pid == n) ≡ (x.pid == n)) (λ y k. ap (λ m. eqb m n) k.0) (f x) (h x good)) ps all p q is e)) l
+  kin_lwp : (p : ProcData) (l : LwpData) → GoodProc p → GoodLwp l → p.pid ≡ l.pid → KinLwp l (g p l)
+  kin_lwp p l good well here = either p.uid u (λ is. k.lwp p l good well is here) (λ ne. subst (KinLwp l) (sym (k.foreign_lwp p l good well ne here)) (refl, well))
 
--- an LWP with what its process becomes
-lwp_facts : {u : ℕ} (f : ProcData → Option ProcData) (g : ProcData → LwpData → Option LwpData) → Keeps u f g → (ps : List ProcData) → Every GoodProc ps → (l : LwpData) → GoodLwp l → KinLwp l (by_owner g l (process_of l.pid ps))
-lwp_facts f g k ps all l well = at_row (process_of l.pid ps) (process_some ps l.pid all)
-  where
-    at_row : (o : Option ProcData) → IfSome o (λ p. GoodProc p × ((p.pid == l.pid) ≡ true)) → KinLwp l (by_owner g l o)
-    at_row None h = (refl, well)
-    at_row (Some p) h = kin_lwp f g k p l h.0 well (eqb-true p.pid l.pid h.1)
+  kin_to : (l : LwpData) → GoodLwp l → KinLwp l (to l)
+  kin_to l well = at_number c.processes all l.pid (λ o. KinLwp l (by_owner g l o)) (refl, well) (λ p is good here. kin_lwp p l good well here)
 
-foreign_facts : {u : ℕ} (f : ProcData → Option ProcData) (g : ProcData → LwpData → Option LwpData) → Keeps u f g → (ps : List ProcData) → Every GoodProc ps → (l : LwpData) → GoodLwp l → pid_owner l.pid ≢ u → by_owner g l (process_of l.pid ps) ≡ Some l
-foreign_facts f g k ps all l well ne = at_row (process_of l.pid ps) (process_some ps l.pid all)
-  where
-    at_row : (o : Option ProcData) → IfSome o (λ p. GoodProc p × ((p.pid == l.pid) ≡ true)) → by_owner g l o ≡ Some l
-    at_row None h = refl
-    at_row (Some p) h = k.foreign_lwp p l h.0 well (λ e. ne (sym (ap pid_owner (eqb-true p.pid l.pid h.1)) ∙ h.0.block ∙ e)) (eqb-true p.pid l.pid h.1)
+  kins_to : (R : LwpData → LwpData → Type 0) → ((l m : LwpData) → (m.pid ≡ l.pid) × GoodLwp m → R l m) → (l : LwpData) → GoodLwp l → IfSome (to l) (R l)
+  kins_to R h l well = If_more _ (R l) (h l) (to l) (kin_to l well)
 
-housed_after : {u : ℕ} (f : ProcData → Option ProcData) (g : ProcData → LwpData → Option LwpData) → Keeps u f g → (ps : List ProcData) → Every GoodProc ps → (l : LwpData) → GoodLwp l → Housed ps l → IfSome (by_owner g l (process_of l.pid ps)) (Housed (filter_map f ps))
-housed_after {u} f g k ps all l well house = at_row (process_of l.pid ps) refl (process_some ps l.pid all) house
-  where
-    kins : (p : ProcData) → GoodProc p → Kin p (f p)
-    kins = kin f k.mine k.foreign
+  foreign_to : (l : LwpData) → GoodLwp l → pid_owner l.pid ≢ u → to l ≡ Some l
+  foreign_to l well ne = at_number c.processes all l.pid (λ o. by_owner g l o ≡ Some l) refl (λ p is good here. k.foreign_lwp p l good well (λ e. ne (sym (ap pid_owner here) ∙ good.block ∙ e)) here)
 
-    still : (p : ProcData) → GoodProc p → p.pid ≡ l.pid → process_of l.pid ps ≡ Some p → LiveRow (f p) → IfSome (g p l) (Housed (filter_map f ps))
-    still p good here is live = If-both (λ m. (m.pid ≡ l.pid) × GoodLwp m) (Housed (filter_map f ps)) (λ m j. subst (λ n. LiveRow (process_of n (filter_map f ps))) (sym j.0) (live_after f kins ps all l.pid p is live)) (g p l) (kin_lwp f g k p l good well here)
+  live_to : (l : LwpData) → GoodLwp l × LiveOwner c.processes l → IfSome (to l) (LiveOwner after)
+  live_to l h = at_number c.processes all l.pid (λ o. LiveRow o → IfSome (by_owner g l o) (LiveOwner after)) (λ no_row. absurd no_row) at_row h.1
+    where
+      still : (p : ProcData) → process_of l.pid c.processes ≡ Some p → GoodProc p → p.pid ≡ l.pid → LiveRow (f p) → IfSome (g p l) (LiveOwner after)
+      still p is good here live = If_more _ (LiveOwner after) (λ m j. subst (λ n. LiveRow (process_of n after)) (sym j.0) (live_after l.pid p is live)) (g p l) (kin_lwp p l good h.0 here)
 
-    either : (p : ProcData) → GoodProc p → p.pid ≡ l.pid → process_of l.pid ps ≡ Some p → LiveRow (f p) ⊎ (g p l ≡ None) → IfSome (g p l) (Housed (filter_map f ps))
-    either p good here is (inl live) = still p good here is live
-    either p good here is (inr gone) = subst (λ o. IfSome o (Housed (filter_map f ps))) (sym gone) tt
+      at_row : (p : ProcData) → process_of l.pid c.processes ≡ Some p → GoodProc p → p.pid ≡ l.pid → is_live p ≡ true → IfSome (g p l) (LiveOwner after)
+      at_row p is good here live = either p.uid u
+          (λ mine. elim (k.live p l good mine live) [ inl on ↦ still p is good here on | inr gone ↦ subst (λ o. IfSome o (LiveOwner after)) (sym gone) tt ])
+          (λ ne. still p is good here (subst LiveRow (sym (k.foreign p good ne)) live))
 
-    by_user : (p : ProcData) → GoodProc p → p.pid ≡ l.pid → process_of l.pid ps ≡ Some p → is_live p ≡ true → (b : Bool) → eqb p.uid u ≡ b → IfSome (g p l) (Housed (filter_map f ps))
-    by_user p good here is live true e = either p good here is (k.live p l good (eqb-true p.uid u e) live)
-    by_user p good here is live false e = still p good here is (subst LiveRow (sym (k.foreign p good (not_equal p.uid u e))) live)
-
-    at_row : (o : Option ProcData) → process_of l.pid ps ≡ o → IfSome o (λ p. GoodProc p × ((p.pid == l.pid) ≡ true)) → LiveRow o → IfSome (by_owner g l o) (Housed (filter_map f ps))
-    at_row None is h live = absurd live
-    at_row (Some p) is h live = by_user p h.0 (eqb-true p.pid l.pid h.1) is live (eqb p.uid u) refl
-
-pub each_same : {u : ℕ} {start c v : Rows} → Sim u start c v → (f : ProcData → Option ProcData) (g : ProcData → LwpData → Option LwpData) → Keeps u f g → Sim u start (each f g c) (each f g v)
-each_same {u} {start} {c} {v} s f g k = record {
-  kept = record {
-    closed = record {
-      processes = processes_kept f kins c.processes all;
-      lwps = Every-edit to GoodLwp GoodLwp (λ l well. If-both _ GoodLwp (λ m j. j.1) (to l) (lwp_facts f g k c.processes all l well)) c.lwps wells;
-      housed = Every-edit to (λ l. GoodLwp l × Housed c.processes l) (Housed (filter_map f c.processes)) (λ l h. housed_after f g k c.processes all l h.0 h.1) c.lwps (Every-both GoodLwp (Housed c.processes) c.lwps wells s.kept.closed.housed);
-      rising = rising_kept f kins c.processes all s.kept.closed.rising;
-      user = s.kept.closed.user;
-      pid_slots = s.kept.closed.pid_slots;
-      tid_slots = s.kept.closed.tid_slots;
-      pid_cursor = s.kept.closed.pid_cursor;
-      tid_cursor = s.kept.closed.tid_cursor;
+  pub each_same : Sim u start (each f g c) (each f g v)
+  each_same = record {
+    kept = record {
+      closed = record {
+        processes = All-edit f GoodProc GoodProc (kins (λ p q. GoodProc q) (λ p q j. j.2)) c.processes all;
+        lwps = All-edit to GoodLwp GoodLwp (kins_to (λ l m. GoodLwp m) (λ l m j. j.1)) c.lwps s.kept.closed.lwps;
+        housed = All-edit to (λ l. GoodLwp l × LiveOwner c.processes l) (LiveOwner after) live_to c.lwps (All-both GoodLwp (LiveOwner c.processes) c.lwps s.kept.closed.lwps s.kept.closed.housed);
+        rising = Rise-edit f GoodProc (kins (λ p q. q.pid ≡ p.pid) (λ p q j. j.0)) c.processes all s.kept.closed.rising;
+        user = s.kept.closed.user;
+        pid_slots = s.kept.closed.pid_slots;
+        tid_slots = s.kept.closed.tid_slots;
+        pid_cursor = s.kept.closed.pid_cursor;
+        tid_cursor = s.kept.closed.tid_cursor;
+      };
+      processes = λ w ne. filter_untouched (own w) f GoodProc (λ p good is. k.foreign p good (λ e. ne (sym (eqb-true p.uid w is) ∙ e)))
+          (λ p good is. If_more _ (λ q. own w q ≡ false) (λ q j. ap (λ n. eqb n w) j.1 ∙ is) (f p) (kin p good)) c.processes all ∙ s.kept.processes w ne;
+      lwps = λ w ne. filter_untouched (own_lwp w) to GoodLwp (λ l well is. foreign_to l well (λ e. ne (sym (eqb-true (pid_owner l.pid) w is) ∙ e)))
+          (λ l well is. If_more _ (λ m. own_lwp w m ≡ false) (λ m j. ap (λ n. eqb (pid_owner n) w) j.0 ∙ is) (to l) (kin_to l well)) c.lwps s.kept.closed.lwps ∙ s.kept.lwps w ne;
+      pid_cursor = s.kept.pid_cursor;
+      tid_cursor = s.kept.tid_cursor;
     };
-    processes = λ w ne. untouched f kins k.foreign c.processes all w ne ∙ s.kept.processes w ne;
-    lwps = λ w ne. filter_untouched (own_lwp w) to GoodLwp
-        (λ l well is. foreign_facts f g k c.processes all l well (λ e. ne (sym (eqb-true (pid_owner l.pid) w is) ∙ e)))
-        (λ l well is. If-both _ (λ m. own_lwp w m ≡ false) (λ m j. ap (λ n. eqb (pid_owner n) w) j.0 ∙ is) (to l) (lwp_facts f g k c.processes all l well))
-        c.lwps wells ∙ s.kept.lwps w ne;
-    pid_cursor = s.kept.pid_cursor;
-    tid_cursor = s.kept.tid_cursor;
-  };
-  processes = seen_kept u f kins c.processes all ∙ ap (filter_map f) s.processes;
-  lwps = filter_edit (own_lwp u) to GoodLwp (λ l well. If-both _ (λ m. own_lwp u m ≡ own_lwp u l) (λ m j. ap (λ n. eqb (pid_owner n) u) j.0) (to l) (lwp_facts f g k c.processes all l well)) c.lwps wells
-      ∙ edit_same_at to seen_to (λ l. pid_owner l.pid ≡ u) (λ l mine. ap (by_owner g l) (process_same s l.pid mine)) (filter (own_lwp u) c.lwps) (Every-filter (own_lwp u) GoodLwp (λ l. pid_owner l.pid ≡ u) (λ l well is. eqb-true (pid_owner l.pid) u is) c.lwps wells)
-      ∙ ap (filter_map seen_to) s.lwps;
-  pid_cursor = s.pid_cursor;
-  tid_cursor = s.tid_cursor;
-  pid_slots = s.pid_slots;
-  tid_slots = s.tid_slots;
-}
-  where
-    kins : (p : ProcData) → GoodProc p → Kin p (f p)
-    kins = kin f k.mine k.foreign
-
-    all : Every GoodProc c.processes
-    all = s.kept.closed.processes
-
-    wells : Every GoodLwp c.lwps
-    wells = s.kept.closed.lwps
-
-    to : LwpData → Option LwpData
-    to l = by_owner g l (process_of l.pid c.processes)
-
-    seen_to : LwpData → Option LwpData
-    seen_to l = by_owner g l (process_of l.pid v.processes)
+    processes = filter_edit (own u) f GoodProc (kins (λ p q. own u q ≡ own u p) (λ p q j. ap (λ n. eqb n u) j.1)) c.processes all ∙ ap (filter_map f) s.processes;
+    lwps = filter_edit (own_lwp u) to GoodLwp (kins_to (λ l m. own_lwp u m ≡ own_lwp u l) (λ l m j. ap (λ n. eqb (pid_owner n) u) j.0)) c.lwps s.kept.closed.lwps
+        ∙ filter_map_same to _ (filter (own_lwp u) c.lwps) (All-where (own_lwp u) GoodLwp (λ l. to l ≡ by_owner g l (process_of l.pid v.processes)) (λ l well is. ap (by_owner g l) (process_same s l.pid (eqb-true (pid_owner l.pid) u is))) c.lwps s.kept.closed.lwps)
+        ∙ ap (filter_map (λ l. by_owner g l (process_of l.pid v.processes))) s.lwps;
+    pid_cursor = s.pid_cursor;
+    tid_cursor = s.tid_cursor;
+    pid_slots = s.pid_slots;
+    tid_slots = s.tid_slots;
+  }

@@ -1,6 +1,6 @@
 -- Posting signals, and running on.
-use Rattle.std.proofs.Common.{◌≡◌, ◌≢◌, ℕ, List, [], ◌∷◌, Bool, true, false, ◌==◌, ◌||◌, if◌then◌else◌, Option, Some, None, is_none, option_map, IfSome, refl, sym, ap, ◌∙◌, arith, eqb, true≢false, eqb-true, subst, inl}
-use Rattle.std.specs.List.{list_any}
+use Rattle.std.proofs.Common.{◌≡◌, ◌≢◌, ℕ, List, [], ◌∷◌, Bool, false, ◌==◌, ◌||◌, if◌then◌else◌, Option, Some, None, is_none, option_map, IfSome, refl, sym, ap, ◌∙◌, arith, eqb, true≢false, eqb-true, subst, inl}
+use Rattle.std.specs.List.{AllByRecursion, list_any}
 use Rattle.pid_blocks.specs.Users.{IsUser}
 use Rattle.pid_blocks.specs.Blocks.{pid_owner}
 use Rattle.event_masks.specs.Exits.{no_flags, shows}
@@ -13,12 +13,13 @@ use Rattle.proc_table.specs.Processes.{is_live, process_of, is_this, reporting}
 use Rattle.proc_table.specs.Rows.{Rows, is_numbered, change}
 use Rattle.trace_stop.specs.Post.{settled_process, settled_lwp, settle, continues, posted_set, posted_process, posted_lwp, notified, told, posted}
 use Rattle.trace_stop.specs.Detach.{running, reported, run_on, resumed, untraced, untraced_lwp, detached}
-use Rattle.user_rows.specs.Closed.{Every, Mine, GoodProc, GoodLwp, LiveRow}
-use Rattle.user_rows.proofs.ViewSame.{Sim, Kin, KinLwp, not_own, named, process_same, process_some, each_same}
-use Rattle.user_rows.proofs.ViewEdits.{Stays, StaysLwp, change_same}
+use Rattle.user_rows.specs.Closed.{Mine, GoodProc, GoodLwp}
+use Rattle.trace_stop.proofs.Every.{choose}
+use Rattle.user_rows.proofs.ViewSame.{Sim, KinLwp, not_own, either, named, process_same, at_number, each_same}
+use Rattle.user_rows.proofs.ViewEdits.{Stays, StaysLwp, stays_if, kin_of, change_same}
 
 abbrev pub Mines : ℕ → List ℕ → Type 0
-Mines u ns = Every (Mine u) ns
+Mines u ns = AllByRecursion (Mine u) ns
 
 pub owner_of_1 : pid_owner 1 ≡ 1000
 unfolding pid_owner
@@ -33,11 +34,7 @@ user_not_one u n user mine e = let here = sym mine ∙ ap pid_owner e ∙ owner_
 -- nobody else's number is in a list of u's numbers
 pub not_among : {u : ℕ} (n : ℕ) (ns : List ℕ) → Mines u ns → n ≢ 1 → pid_owner n ≢ u → list_any (λ m. m == n) ns ≡ false
 not_among n [] all one ne = refl
-not_among {u} n (m ∷ ms) all one ne = at_head (eqb m n) refl (not_among n ms all.1 one ne)
-  where
-    at_head : (b : Bool) → eqb m n ≡ b → list_any (λ k. k == n) ms ≡ false → (b || list_any (λ k. k == n) ms) ≡ false
-    at_head true is rest = let same = eqb-true m n is in absurd (ne (ap pid_owner (sym same) ∙ all.0 (λ e. one (sym same ∙ e))))
-    at_head false is rest = rest
+not_among {u} n (m ∷ ms) all one ne = rw (not_own n m (λ e. ne (ap pid_owner (sym e) ∙ all.0 (λ i. one (sym e ∙ i)))), not_among n ms all.1 one ne) refl
 
 pub is_numbered_foreign : {u : ℕ} (n : ℕ) → pid_owner n ≡ u → (p : ProcData) → GoodProc p → p.uid ≢ u → is_numbered n p ≡ false
 is_numbered_foreign n here p good ne = not_own n p.pid (λ e. ne (named here p good e))
@@ -50,14 +47,9 @@ settle_same s n here = change_same s (is_numbered n) settled_process settled_lwp
     (λ p good is e. settled_stays p good) (λ p l good well. (refl, record { block = well.block; waits = well.waits }))
 
 posted_stays : (s : ℕ) (to : Option ℕ) (p : ProcData) → GoodProc p → Stays p (posted_process s to p)
-posted_stays s to p good = by_job (continues s p)
-  where
-    q : ProcData
-    q = record p { pending = posted_set s (is_none to) p p.pending }
-
-    by_job : (b : Bool) → Stays p (if b then record q { state = Run; continued = true } else q)
-    by_job true = (refl, refl, record { user = good.user; block = good.block; tracer = good.tracer; parent = good.parent; reporting = tt; collector = λ dead. absurd (true≢false dead) }, λ l. refl)
-    by_job false = (refl, refl, record { user = good.user; block = good.block; tracer = good.tracer; parent = good.parent; reporting = good.reporting; collector = good.collector }, λ l. l)
+posted_stays s to p good = choose (continues s p) _ _ (Stays p)
+    (λ e. (refl, refl, record { user = good.user; block = good.block; tracer = good.tracer; parent = good.parent; reporting = tt; collector = λ dead. absurd (true≢false dead) }, λ l. refl))
+    (λ e. (refl, refl, record { user = good.user; block = good.block; tracer = good.tracer; parent = good.parent; reporting = good.reporting; collector = good.collector }, λ l. l))
 
 pub notified_same : {u : ℕ} {start c v : Rows} → Sim u start c v → (ns : List ℕ) → Mines u ns → Sim u start (notified ns c) (notified ns v)
 notified_same s ns all = change_same s (λ p. list_any (λ n. n == p.pid) ns) (posted_process SIGCHLD None) (posted_lwp SIGCHLD None)
@@ -66,18 +58,10 @@ notified_same s ns all = change_same s (λ p. list_any (λ n. n == p.pid) ns) (p
 
 told_mine : (u sig : ℕ) (o : Option ProcData) → IfSome o (λ p. GoodProc p × (p.uid ≡ u)) → Mines u (told sig o)
 told_mine u sig None g = tt
-told_mine u sig (Some p) g = by_job (continues sig p)
-  where
-    by_job : (b : Bool) → Mines u (if b then p.parent ∷ [] else [])
-    by_job true = (λ ne. g.0.parent ne ∙ g.1, tt)
-    by_job false = tt
+told_mine u sig (Some p) g = choose (continues sig p) (p.parent ∷ []) [] (Mines u) (λ e. (λ ne. g.0.parent ne ∙ g.1, tt)) (λ e. tt)
 
 pub own_some : {u : ℕ} {start c v : Rows} → Sim u start c v → (n : ℕ) → pid_owner n ≡ u → IfSome (process_of n c.processes) (λ p. GoodProc p × (p.uid ≡ u))
-own_some {u} {start} {c} s n here = at_row (process_of n c.processes) (process_some c.processes n s.kept.closed.processes)
-  where
-    at_row : (o : Option ProcData) → IfSome o (λ p. GoodProc p × ((p.pid == n) ≡ true)) → IfSome o (λ p. GoodProc p × (p.uid ≡ u))
-    at_row None g = tt
-    at_row (Some p) g = (g.0, named here p g.0 (eqb-true p.pid n g.1))
+own_some {u} {start} {c} s n here = at_number c.processes s.kept.closed.processes n (λ o. IfSome o (λ p. GoodProc p × (p.uid ≡ u))) tt (λ p is good at. (good, named here p good at))
 
 pub posted_same : {u : ℕ} {start c v : Rows} → Sim u start c v → (sig : ℕ) (to : Option ℕ) (n : ℕ) → pid_owner n ≡ u → Sim u start (posted sig to n c) (posted sig to n v)
 posted_same {u} {start} {c} {v} s sig to n here = subst (λ o. Sim u start (posted sig to n c) (notified (told sig o) (change (is_numbered n) (posted_process sig to) (posted_lwp sig to) v))) (process_same s n here)
@@ -86,41 +70,29 @@ posted_same {u} {start} {c} {v} s sig to n here = subst (λ o. Sim u start (post
 -- Running on
 
 reported_kin : (p : ProcData) (l : LwpData) → GoodLwp l → KinLwp l (reported p l)
-reported_kin p l well = by_stop (is_this l.tid (reporting p)) (shows l.flags PL_FLAG_EXITED)
-  where
-    by_stop : (b d : Bool) → KinLwp l (if b then (if d then None else Some (record l { flags = no_flags; child = 0; code = 0 })) else Some l)
-    by_stop true true = tt
-    by_stop true false = (refl, record { block = well.block; waits = well.waits })
-    by_stop false d = (refl, well)
+reported_kin p l well = choose (is_this l.tid (reporting p)) _ (Some l) (KinLwp l)
+    (λ e. choose (shows l.flags PL_FLAG_EXITED) None (Some (record l { flags = no_flags; child = 0; code = 0 })) (KinLwp l) (λ d. tt) (λ d. (refl, record { block = well.block; waits = well.waits })))
+    (λ e. (refl, well))
 
 pub run_on_same : {u : ℕ} {start c v : Rows} → Sim u start c v → (chosen : ProcData → Bool) (process : ProcData → ProcData) (lwp : ProcData → LwpData → LwpData)
     → ((p : ProcData) → GoodProc p → p.uid ≢ u → chosen p ≡ false)
     → ((p : ProcData) → GoodProc p → Stays p (process p))
     → ((p : ProcData) (l : LwpData) → GoodLwp l → StaysLwp l (lwp p l))
     → Sim u start (run_on chosen process lwp c) (run_on chosen process lwp v)
-run_on_same {u} s chosen process lwp foreign stays stays_lwp = each_same s (λ p. Some (if chosen p then process p else p)) (λ p l. if chosen p then option_map (lwp p) (reported p l) else Some l) (record {
-  mine = λ p good is. kept p good (chosen p);
+run_on_same s chosen process lwp foreign stays stays_lwp = each_same s (λ p. Some (if chosen p then process p else p)) (λ p l. if chosen p then option_map (lwp p) (reported p l) else Some l) (record {
+  mine = λ p good is. kin_of p _ (kept p good);
   foreign = λ p good ne. rw (foreign p good ne) refl;
-  lwp = λ p l good well is here. kept_lwp p l well (chosen p);
+  lwp = λ p l good well is here. choose (chosen p) (option_map (lwp p) (reported p l)) (Some l) (KinLwp l) (λ e. then_lwp p l (reported p l) (reported_kin p l well)) (λ e. (refl, well));
   foreign_lwp = λ p l good well ne here. rw (foreign p good ne) refl;
-  live = λ p l good is live. inl (lives p good live (chosen p));
+  live = λ p l good is live. let st = kept p good in inl (st.3 live);
 })
   where
-    kept : (p : ProcData) → GoodProc p → (b : Bool) → Kin p (Some (if b then process p else p))
-    kept p good true = let st = stays p good in (st.0, st.1, st.2)
-    kept p good false = (refl, refl, good)
-
-    lives : (p : ProcData) → GoodProc p → is_live p ≡ true → (b : Bool) → LiveRow (Some (if b then process p else p))
-    lives p good live true = let st = stays p good in st.3 live
-    lives p good live false = live
+    kept : (p : ProcData) → GoodProc p → Stays p (if chosen p then process p else p)
+    kept p good = stays_if p (process p) (chosen p) good (λ e. stays p good)
 
     then_lwp : (p : ProcData) (l : LwpData) (o : Option LwpData) → KinLwp l o → KinLwp l (option_map (lwp p) o)
     then_lwp p l None k = tt
     then_lwp p l (Some m) k = let st = stays_lwp p m k.1 in (st.0 ∙ k.0, st.1)
-
-    kept_lwp : (p : ProcData) (l : LwpData) → GoodLwp l → (b : Bool) → KinLwp l (if b then option_map (lwp p) (reported p l) else Some l)
-    kept_lwp p l well true = then_lwp p l (reported p l) (reported_kin p l well)
-    kept_lwp p l well false = (refl, well)
 
 pub resumed_same : {u : ℕ} {start c v : Rows} → Sim u start c v → (n : ℕ) → pid_owner n ≡ u → Sim u start (resumed n c) (resumed n v)
 resumed_same s n here = run_on_same s (is_numbered n) running (λ p l. l) (is_numbered_foreign n here)

@@ -1,22 +1,14 @@
 -- Rows that keep users apart: what they name is of one user.
-use Rattle.std.specs.Prelude.{◌≡◌, ◌≢◌, ℕ, ◌<◌, false, true, List, [], ◌∷◌, Option, Some, None, IfSome, length, get_or}
+use Rattle.std.specs.Prelude.{◌≡◌, ◌≢◌, ℕ, false, true, List, Option, Some, None, IfSome, length, get_or}
+use Rattle.std.specs.List.{AllByRecursion}
 use Rattle.pid_blocks.specs.Users.{IsUser}
 use Rattle.pid_blocks.specs.Blocks.{pid_owner, tid_owner, pid_block, tid_block, slot, InBlock}
 use Rattle.proc_table.specs.declared.ProcData.{ProcData}
 use Rattle.lwp_table.specs.declared.LwpData.{LwpData}
 use Rattle.proc_table.specs.Processes.{is_live, reporting, process_of}
 use Rattle.proc_table.specs.Rows.{Rows}
+use Rattle.proc_table.specs.Kept.{Rise}
 use Rattle.trace_stop.specs.Facts.{waited_for}
-
--- P of each element
-abbrev pub Every : {X : Type 0} → (X → Type 0) → List X → Type 0
-Every P [] = Unit {0}
-Every P (x ∷ xs) = P x × Every P xs
-
--- in strictly rising order of their numbers
-abbrev pub Rising : List ProcData → Type 0
-Rising [] = Unit {0}
-Rising (p ∷ ps) = Every (λ q. p.pid < q.pid) ps × Rising ps
 
 -- the number of process 1, or one in the user's block
 abbrev pub Mine : ℕ → ℕ → Type 0
@@ -41,15 +33,15 @@ LiveRow None = ⊥
 LiveRow (Some p) = is_live p ≡ true
 
 -- the process of an LWP is a live row
-abbrev pub Housed : List ProcData → LwpData → Type 0
-Housed ps l = LiveRow (process_of l.pid ps)
+abbrev pub LiveOwner : List ProcData → LwpData → Type 0
+LiveOwner ps l = LiveRow (process_of l.pid ps)
 
 -- what rows keep at every moment of a step of u
 pub record Closed (u : ℕ) (rows : Rows) : Type 0 where
-  pub processes : Every GoodProc rows.processes
-  pub lwps : Every GoodLwp rows.lwps
-  pub housed : Every (Housed rows.processes) rows.lwps
-  pub rising : Rising rows.processes
+  pub processes : AllByRecursion GoodProc rows.processes
+  pub lwps : AllByRecursion GoodLwp rows.lwps
+  pub housed : AllByRecursion (LiveOwner rows.processes) rows.lwps
+  pub rising : Rise rows.processes
   pub user : IsUser u
   pub pid_slots : length rows.pid_cursors ≡ 64
   pub tid_slots : length rows.tid_cursors ≡ 64

@@ -169,7 +169,9 @@ view_is v w is =
     }
 
 view_itself : (v : View) → same_view v v ≡ true
-view_itself v = rw ((same_processes v.processes v.processes).1 refl, (same_lwps v.lwps v.lwps).1 refl, number v.pid_cursor, number v.tid_cursor, (same_handlers v.installed v.installed).1 refl) (settings_itself v.settings)
+view_itself v =
+    rw ((same_processes v.processes v.processes).1 refl, (same_lwps v.lwps v.lwps).1 refl, number v.pid_cursor, number v.tid_cursor, (same_handlers v.installed v.installed).1 refl)
+    (settings_itself v.settings)
 
 pub view_decides : (v w : View) → Decides (same_view v w) (v ≡ w)
 view_decides = decides same_view view_is view_itself

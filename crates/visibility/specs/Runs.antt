@@ -8,9 +8,9 @@ use Rattle.requests.specs.Run.{Asked, asked_by}
 use Rattle.requests.specs.View.{view}
 use Rattle.requests.specs.Isolation.{reply_of, host_after, replies_to, answered, somes}
 
--- a step and its user, with a policy in place of a handler
-abbrev pub asked : {F : Type 0} → ℕ × PlainStep → Asked
-asked s = record { uid = s.0; step = plain s.1 }
+-- a step and its user
+abbrev pub asked : ℕ × PlainStep → Asked
+asked s = record { uid = s.0; step = s.1 }
 
 -- an answer, where memory didn't run out
 abbrev pub told : Reply → Option Reply

@@ -1,6 +1,6 @@
 //! Laws of the tracing machine alone: what keeps users apart, over rows and lists of steps, with no host and no memory.
 
-ghost use Rattle.visibility.specs.Examples.{ForkIsFollowed};
+ghost use Rattle.visibility.specs.WorkedRuns.{ForkIsFollowed};
 ghost use Rattle.requests.specs.Isolation.{Alone, OneStep, OtherStep, OwnRun, TwoLists, KeepsApart, ForeignNumber, AloneApart, EmptyApart, OwnList, SoundApart, RunsArePrivate, TwoRuns};
 
 /// A worked run, by computation: a debugger follows a fork.

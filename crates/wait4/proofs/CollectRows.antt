@@ -8,8 +8,8 @@ use Rattle.proc_table.specs.Rows.{Rows, owner, by_owner, each}
 use Rattle.proc_table.specs.Kept.{Rise, put_process, set_process, drop_process}
 use Rattle.proc_table.proofs.Finds.{equal_or_not}
 use Rattle.trace_stop.specs.Post.{notified}
-use Rattle.trace_stop.proofs.Changes.{edit_none}
-use Rattle.trace_stop.proofs.Stopping.{the_row}
+use Rattle.trace_stop.proofs.Edited.{edit_none}
+use Rattle.trace_stop.proofs.Numbers.{the_row}
 use Rattle.trace_stop.proofs.Told.{notified-none}
 use Rattle.wait4.specs.Collect.{stays, collected, collect_one}
 

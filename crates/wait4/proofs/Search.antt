@@ -1,5 +1,5 @@
 -- Searches for the child that is reported.
-use Rattle.std.proofs.Common.{◌≡◌, ℕ, ◌<◌, ◌≤◌, List, [], ◌∷◌, filter, find, Bool, true, false, ◌&&◌, ◌||◌, ltb, leb, Option, Some, None, is_some, refl, sym, ap, ◌∙◌, arith, inl, inr, nat_eq, subst, if◌then◌else◌}
+use Rattle.std.proofs.Common.{◌≡◌, ℕ, ◌<◌, ◌≤◌, List, [], ◌∷◌, filter, find, Bool, true, false, ◌&&◌, ◌||◌, ltb, leb, Option, Some, None, is_some, refl, sym, ap, ◌∙◌, arith, inl, inr, nat_eq, subst, true≢false, if◌then◌else◌}
 use Rattle.std.specs.List.{AllByRecursion, list_any}
 use Rattle.std.proofs.lemmas.Bool.{cases_Bool}
 use Rattle.std.proofs.lemmas.Bool.Decides.{nat_tests}
@@ -9,11 +9,25 @@ use Rattle.proc_table.specs.Processes.{process_of}
 use Rattle.proc_table.specs.Kept.{AllAbove, Rise, AtHome}
 use Rattle.proc_table.proofs.Rising.{none_above}
 use Rattle.proc_table.proofs.Finds.{equal_or_not}
-use Rattle.trace_stop.proofs.Changed.{found_above}
+use Rattle.trace_stop.proofs.Passes.{found_above}
+use Rattle.trace_stop.proofs.Every.{and_left, and_right, both, by_bool}
+use Rattle.proc_table.specs.Laws.{IsLeast, LeastOrNone}
+use Rattle.proc_table.proofs.Least.{least_or_none}
 use Rattle.wait4.specs.declared.Collected.TheVariants.{Nothing, Got, NoChild}
 use Rattle.wait4.specs.Collect.{lesser, answer, status_of}
 
 -- Rows above a number that pass a test, and have something to report
+
+-- the least of those that pass is one
+least_unique : (t : ProcData → Bool) (n : ℕ) (ps : List ProcData) (o w : Option ProcData) → LeastOrNone t n ps o → LeastOrNone t n ps w → o ≡ w
+least_unique t n ps None None x y = refl
+least_unique t n ps None (Some p) x y = absurd (true≢false (sym y.passes ∙ x p y.row y.above))
+least_unique t n ps (Some p) None x y = absurd (true≢false (sym x.passes ∙ y p x.row x.above))
+least_unique t n ps (Some p) (Some q) x y =
+    let a = x.least q y.row y.above y.passes in
+    let b = y.least p x.row x.above x.passes in
+    let same : p.pid ≡ q.pid = omega (arith, a, b) in
+    sym x.row ∙ (ap (λ m. process_of m ps) same ∙ y.row)
 
 module _ (a r : ProcData → Bool) where
   -- what a search that has come to n still finds
@@ -30,68 +44,39 @@ module _ (a r : ProcData → Bool) where
       let some : ltb 0 p.pid ≡ true = grind (arith, nat_tests, low) in
       rw (some, to_come-first ps homes.1) refl
 
-  pub to_come-here : (n : ℕ) (ps : List ProcData) (p : ProcData) → next_above n ps ≡ Some p → r p ≡ true → to_come n ps ≡ Some p
-  to_come-here n [] p is passes = absurd (cc)
-  to_come-here n (q ∷ ps) p is passes = elim (cases_Bool (ltb n q.pid)) [
-    | inr low ↦ rw low (to_come-here n ps p (rw low at is) passes)
-    | inl above ↦ elim (cases_Bool (a q)) [
-      | inr other ↦ rw (above, other) (to_come-here n ps p (rw (above, other) at is) passes)
-      | inl own ↦
-          let its : Some q ≡ Some p = rw (above, own) at is in
-          let same : q ≡ p = cc in
-          let here : r q ≡ true = ap r same ∙ passes in
-          rw (above, own, here) its
-    ]
-  ]
+  module _ (n : ℕ) (ps : List ProcData) (up : Rise ps) where
+    found : (o : Option ProcData) → next_above n ps ≡ o → LeastOrNone a n ps o
+    found o is = subst (LeastOrNone a n ps) is (least_or_none a n ps up)
 
-  pub to_come-none : (n : ℕ) (ps : List ProcData) → next_above n ps ≡ None → to_come n ps ≡ None
-  to_come-none n [] is = refl
-  to_come-none n (q ∷ ps) is = elim (cases_Bool (ltb n q.pid)) [
-    | inr low ↦ rw low (to_come-none n ps (rw low at is))
-    | inl above ↦ elim (cases_Bool (a q)) [
-      | inr other ↦ rw (above, other) (to_come-none n ps (rw (above, other) at is))
-      | inl own ↦ absurd (let its : Some q ≡ None = rw (above, own) at is in cc)
-    ]
-  ]
+    is_next : (o : Option ProcData) → LeastOrNone (λ p. a p && r p) n ps o → to_come n ps ≡ o
+    is_next o least = least_unique (λ p. a p && r p) n ps (to_come n ps) o (least_or_none (λ p. a p && r p) n ps up) least
 
-  -- rows that are all above m
-  under : (n m : ℕ) (ps : List ProcData) → n < m → AllAbove m ps → to_come m ps ≡ to_come n ps
-  under n m [] lt all = refl
-  under n m (q ∷ ps) lt all =
-      let over : ltb m q.pid ≡ true = grind (arith, nat_tests, all.0) in
-      let more : ltb n q.pid ≡ true = grind (arith, nat_tests, all.0, lt) in
-      rw (over, more, under n m ps lt all.1) refl
+    pub to_come-none : next_above n ps ≡ None → to_come n ps ≡ None
+    to_come-none is = is_next None (λ q there more. by_bool (a q && r q) (λ e. true≢false (sym (and_left (a q) (r q) e) ∙ found None is q there more)))
 
-  pub to_come-past : (n : ℕ) (ps : List ProcData) (p : ProcData) → Rise ps → next_above n ps ≡ Some p → r p ≡ false → to_come p.pid ps ≡ to_come n ps
-  to_come-past n [] p up is fails = absurd (cc)
-  to_come-past n (q ∷ ps) p up is fails = elim (cases_Bool (ltb n q.pid && a q)) [
-    | inl first ↦
-        let its : Some q ≡ Some p = rw first at is in
-        let same : q ≡ p = cc in
-        let silent : r q ≡ false = ap r same ∙ fails in
-        let above : ltb n q.pid ≡ true = grind (arith, first) in
-        let own : a q ≡ true = grind (arith, first) in
-        let less : n < q.pid = grind (arith, nat_tests, above) in
-        let self : ltb q.pid q.pid ≡ false = grind (arith, nat_tests) in
-        subst (λ z. to_come z.pid (q ∷ ps) ≡ to_come n (q ∷ ps)) same (rw (self, above, own, silent) (under n q.pid ps less up.0))
-    | inr passed ↦
-        let later : next_above n ps ≡ Some p = rw passed at is in
-        let over = found_above (λ x. ltb n x.pid && a x) q.pid ps p up.0 later in
-        let before : ltb p.pid q.pid ≡ false = grind (arith, nat_tests, over) in
-        let none : (ltb n q.pid && (a q && r q)) ≡ false = grind (arith, passed) in
-        rw (before, none) (to_come-past n ps p up.1 later fails)
-  ]
+    module _ (p : ProcData) (is : next_above n ps ≡ Some p) where
+      its : IsLeast a n ps p
+      its = found (Some p) is
 
-  pub next_over : (n : ℕ) (ps : List ProcData) (p : ProcData) → next_above n ps ≡ Some p → n < p.pid
-  next_over n [] p is = absurd (cc)
-  next_over n (q ∷ ps) p is = elim (cases_Bool (ltb n q.pid && a q)) [
-    | inl first ↦
-        let its : Some q ≡ Some p = rw first at is in
-        let same : q ≡ p = cc in
-        let above : ltb n q.pid ≡ true = grind (arith, first) in
-        rw (← same) (grind (arith, nat_tests, above))
-    | inr passed ↦ next_over n ps p (rw passed at is)
-  ]
+      pub next_over : n < p.pid
+      next_over = its.above
+
+      pub to_come-here : r p ≡ true → to_come n ps ≡ Some p
+      to_come-here passes = is_next (Some p) (record { row = its.row; above = its.above; passes = both (a p) (r p) its.passes passes; least = λ q there more own. its.least q there more (and_left (a q) (r q) own) })
+
+      -- where p has nothing to report, the rest is above it
+      pub to_come-past : r p ≡ false → to_come p.pid ps ≡ to_come n ps
+      to_come-past fails = sym (is_next (to_come p.pid ps) (past (to_come p.pid ps) (least_or_none (λ q. a q && r q) p.pid ps up)))
+        where
+          later : (q : ProcData) → process_of q.pid ps ≡ Some q → n < q.pid → (a q && r q) ≡ true → p.pid < q.pid
+          later q there more own = elim (equal_or_not p.pid q.pid) [
+            | inl h ↦ let one : Some p ≡ Some q = sym its.row ∙ (ap (λ m. process_of m ps) h.1 ∙ there) in let same : p ≡ q = cc in absurd (true≢false (sym (and_right (a q) (r q) own) ∙ (ap r (sym same) ∙ fails)))
+            | inr h ↦ let least = its.least q there more (and_left (a q) (r q) own) in omega (arith, least, h.1)
+          ]
+
+          past : (o : Option ProcData) → LeastOrNone (λ q. a q && r q) p.pid ps o → LeastOrNone (λ q. a q && r q) n ps o
+          past None x = λ q there more. by_bool (a q && r q) (λ e. true≢false (sym e ∙ x q there (later q there more e)))
+          past (Some z) x = record { row = x.row; above = omega (arith, its.above, x.above); passes = x.passes; least = λ q there more own. x.least q there (later q there more own) own }
 
 -- The first of two kinds is the lesser of the first ones of each
 

@@ -8,8 +8,7 @@ use Rattle.proc_table.specs.Laws.{only_of}
 use Rattle.trace_stop.specs.Facts.{IsSound}
 use Rattle.user_rows.specs.Closed.{Closed}
 use Rattle.user_rows.proofs.ViewSame.{Sim}
-use Rattle.user_rows.proofs.ViewRows.{owns_owner, sound_closed}
-use Rattle.user_rows.proofs.ViewLaws.{owns_user, own_start, own_after, others_after}
+use Rattle.user_rows.proofs.ViewRows.{owns_owner, owns_user, sound_closed, own_start, own_after, others_after}
 use Rattle.wait4.specs.declared.Options.{Options}
 use Rattle.wait4.specs.Collect.{reported, collect, without_report, rows_after}
 use Rattle.wait4.specs.Laws.{ReportedOwn, CollectOwn, AfterOwn, AfterOthers}

@@ -10,8 +10,9 @@ use Rattle.proc_table.specs.Rows.{Rows}
 use Rattle.wait4.specs.declared.Options.{Options}
 use Rattle.wait4.specs.Collect.{answer, is_child, fits, reportable, collected_in, collected, stays, told, collect_one, candidates, reported, collect, without_report, rows_after}
 use Rattle.user_rows.specs.Closed.{GoodProc, LiveRow}
-use Rattle.user_rows.proofs.ViewLists.{find_some, Every-filter}
-use Rattle.user_rows.proofs.ViewSame.{Sim, Kin, not_own, named, rows_query, each_same, If-both}
+use Rattle.user_rows.proofs.ViewLists.{find_some, All-where}
+use Rattle.user_rows.proofs.ViewSame.{Sim, Kin, not_own, named, rows_query, each_same}
+use Rattle.trace_stop.proofs.Edited.{If_more}
 use Rattle.user_rows.proofs.ViewSignals.{Mines, user_not_one, notified_same}
 use Rattle.trace_stop.proofs.Every.{and_left}
 
@@ -39,8 +40,8 @@ pub reported_same : {u : ℕ} {start c v : Rows} → Sim u start c v → (caller
 reported_same s caller which options mine = ap (find (reportable options caller)) (candidates_same s caller which mine)
 
 pub reported_some : {u : ℕ} {start c v : Rows} → Sim u start c v → (caller : ℕ) (which : ℤ) (options : Options) → pid_owner caller ≡ u → IfSome (reported caller which options c) (λ p. GoodProc p × (p.uid ≡ u))
-reported_some {u} {start} {c} s caller which options mine = If-both _ (λ p. GoodProc p × (p.uid ≡ u)) (λ p g. g.0) (reported caller which options c) (find_some (reportable options caller) (λ p. GoodProc p × (p.uid ≡ u)) (candidates caller which c)
-    (Every-filter (λ p. is_child caller p && fits which p) GoodProc (λ p. GoodProc p × (p.uid ≡ u)) (λ p good is. (good, fits_own u caller which s.kept.closed.user mine p good is)) c.processes s.kept.closed.processes))
+reported_some {u} {start} {c} s caller which options mine = If_more _ (λ p. GoodProc p × (p.uid ≡ u)) (λ p g. g.0) (reported caller which options c) (find_some (reportable options caller) (λ p. GoodProc p × (p.uid ≡ u)) (candidates caller which c)
+    (All-where (λ p. is_child caller p && fits which p) GoodProc (λ p. GoodProc p × (p.uid ≡ u)) (λ p good is. (good, fits_own u caller which s.kept.closed.user mine p good is)) c.processes s.kept.closed.processes))
 
 pub collect_same : {u : ℕ} {start c v : Rows} → Sim u start c v → (caller : ℕ) (which : ℤ) (options : Options) → pid_owner caller ≡ u → collect caller which options c ≡ collect caller which options v
 collect_same {u} {start} {c} {v} s caller which options mine = ap (λ ps. answer ps (find (reportable options caller) ps)) (candidates_same s caller which mine)

@@ -2,11 +2,11 @@
 
 ghost use Rattle.host_lock.specs.Sessions.{IsOf, IsSame};
 
-use super::pairs::{close_one, close_two, open_two};
-use super::told::{Told, answered, are_entries, ask};
-use crate::{Journal, OpenRefusal, Session, SharedHost, budget_left};
+use super::pairs::{ask, close_one, close_two, new_process, open_two};
+use crate::{Journal, MOST_CALLS, OpenRefusal, Session, SharedHost, budget_left};
+use lwpinfo::NumList;
 use pid_blocks::Uid;
-use requests::{Host, PlainStep, Step};
+use requests::{Host, PlainStep, Reply, Step};
 use std::alloc::Global;
 use std::process::Abort;
 use std::sync::Wait;
@@ -16,128 +16,169 @@ use trace_stop::Settings;
 
 #[test]
 fn a_session_makes_4294967295_calls(rt: HostRuntime) {
-    assert!(rt; budget_left(4294967294));
-    assert!(rt; !budget_left(4294967295));
+    assert_eq!(rt; MOST_CALLS, 4294967295);
+    assert!(rt; budget_left(4294967294) && !budget_left(4294967295));
+}
+
+/// The host that comes back, and whether too many sessions were named.
+fn came_back(
+    opened: Result<(SharedHost<ByPolicy>, Vec<Session>), OpenRefusal<ByPolicy>>,
+) -> Option<(Host<ByPolicy>, bool)> {
+    match opened {
+        Err(OpenRefusal::NoSessions(host)) => Some((host, false)),
+        Err(OpenRefusal::TooMany(host)) => Some((host, true)),
+        _ => None,
+    }
 }
 
 /// The host that comes back has the process that it was given.
 #[test]
-fn nobody_opens_no_session(rt: HostRuntime) -> Result<(), Fail> {
+fn neither_none_nor_sixty_five_open_a_host(rt: HostRuntime) -> Result<(), Fail> {
     let alloc = rt.alloc();
-    let user = Uid::new(1001)?;
-    let mut host = Host::<ByPolicy>::new(alloc, Settings::standard())?;
-    let first = host.step(alloc, user, Step::Spawn);
-    assert_eq!(rt; answered(&first), Told::New(1000, 100000));
-    match SharedHost::open(alloc, host, &[]) {
-        Err(OpenRefusal::NoSessions(mut back)) => {
-            let second = back.step(alloc, user, Step::Spawn);
-            assert_eq!(rt; answered(&second), Told::New(1001, 100001));
-        }
-        _ => panic!(rt; "not NoSessions"),
+    let users = [Uid::new(1001)?; 65];
+    for (count, too_many) in [(0, false), (65, true)] {
+        let mut host = Host::<ByPolicy>::new(alloc, Settings::standard())?;
+        let first = host.step(alloc, users[0], Step::Spawn);
+        let opened = SharedHost::open(alloc, host, &users[..count]);
+        let (mut host, many) = came_back(opened).ok_or("opened")?;
+        let second = host.step(alloc, users[0], Step::Spawn);
+        assert_eq!(rt; Some(first), new_process(1000, 100000));
+        assert_eq!(rt; Some(second), new_process(1001, 100001));
+        assert_eq!(rt; many, too_many);
     }
     Ok(())
 }
 
-#[test]
-fn sixty_five_are_too_many(rt: HostRuntime) -> Result<(), Fail> {
-    let alloc = rt.alloc();
-    let user = Uid::new(1001)?;
-    let mut host = Host::<ByPolicy>::new(alloc, Settings::standard())?;
-    let first = host.step(alloc, user, Step::Spawn);
-    assert_eq!(rt; answered(&first), Told::New(1000, 100000));
-    match SharedHost::open(alloc, host, [user; 65].as_slice()) {
-        Err(OpenRefusal::TooMany(mut back)) => {
-            let second = back.step(alloc, user, Step::Spawn);
-            assert_eq!(rt; answered(&second), Told::New(1001, 100001));
-        }
-        _ => panic!(rt; "not TooMany"),
-    }
-    Ok(())
+/// A call: the session's number, who asks for a list (nobody where it is a spawn), and the reply.
+#[derive(Drop)]
+struct Called {
+    session: usize,
+    lists: Option<u32>,
+    reply: Reply,
 }
 
-#[test]
-fn a_user_may_have_two_sessions(rt: HostRuntime) -> Result<(), Fail> {
-    let alloc = rt.alloc();
-    let user = Uid::new(1001)?;
-    let host = Host::<ByPolicy>::new(alloc, Settings::standard())?;
-    let (host, mut first, mut second) = open_two(alloc, host, user, user).ok_or("open")?;
-    assert_eq!(rt;
-        (first.uid().get(), first.number(), first.calls_made()),
-        (1001, 0, 0)
-    );
-    assert_eq!(rt;
-        (second.uid().get(), second.number(), second.calls_made()),
-        (1001, 1, 0)
-    );
-    let told = ask(&rt, alloc, &host, &mut first, Step::Spawn);
-    assert_eq!(rt; told, Told::New(1000, 100000));
-    let told = ask(&rt, alloc, &host, &mut second, Step::Spawn);
-    assert_eq!(rt; told, Told::New(1001, 100001));
-    assert_eq!(rt; (first.calls_made(), second.calls_made()), (1, 1));
-    let (_host, journal) = close_two(alloc, host, first, second).ok_or("close")?;
-    assert_eq!(rt; journal.len(), 2);
-    let entries = [
-        (1001, 0, PlainStep::Spawn, Told::New(1000, 100000)),
-        (1001, 1, PlainStep::Spawn, Told::New(1001, 100001)),
-    ];
-    are_entries(&rt, &journal, &entries[..]);
-    Ok(())
+fn spawned(session: usize, pid: u32, tid: u32) -> Option<Called> {
+    let reply = new_process(pid, tid)?;
+    Some(Called {
+        session,
+        lists: None,
+        reply,
+    })
 }
 
-/// The calls of two users, one after the other.
+/// Makes the calls in this order, each by its session.
 fn call_in_turn<R: Abort + Wait>(
     rt: &R,
     alloc: Global,
     host: &SharedHost<ByPolicy>,
     first: &mut Session,
     second: &mut Session,
+    calls: &[Called],
 )
     requires first { IsOf host.now first.old }
     requires second { IsOf host.now second.old }
-    ensures first { IsSame first.old first.new }
-    ensures second { IsSame second.old second.new }
+    ensures first { IsOf host.now first.new }
+    ensures second { IsOf host.now second.new }
 {
-    let told = ask(rt, alloc, host, first, Step::Spawn);
-    assert_eq!(rt; told, Told::New(1000, 100000));
-    let told = ask(rt, alloc, host, second, Step::Spawn);
-    assert_eq!(rt; told, Told::New(2000, 104000));
-    let told = ask(rt, alloc, host, first, Step::Spawn);
-    assert_eq!(rt; told, Told::New(1001, 100001));
-    let told = ask(rt, alloc, host, first, Step::List { caller: 1000 });
-    assert_eq!(rt; told, Told::Pids([1000, 1001, 0]));
-    assert_eq!(rt; (first.calls_made(), second.calls_made()), (3, 1));
+    for called in calls {
+        let step = match called.lists {
+            Some(caller) => Step::List { caller },
+            None => Step::Spawn,
+        };
+        let reply = if called.session == 0 {
+            ask(rt, alloc, host, first, step)
+        } else {
+            ask(rt, alloc, host, second, step)
+        };
+        assert_eq!(rt; reply.as_ref(), Some(&called.reply));
+    }
 }
 
-/// The journal of `call_in_turn`.
-fn stand_in_turn<R: Abort>(rt: &R, journal: &Journal) {
-    let list = PlainStep::List { caller: 1000 };
-    let entries = [
-        (1001, 0, PlainStep::Spawn, Told::New(1000, 100000)),
-        (1002, 1, PlainStep::Spawn, Told::New(2000, 104000)),
-        (1001, 0, PlainStep::Spawn, Told::New(1001, 100001)),
-        (1001, 0, list, Told::Pids([1000, 1001, 0])),
+/// The journal has these calls and no others.
+fn are_calls<R: Abort>(rt: &R, journal: &Journal, users: [Uid; 2], calls: &[Called]) {
+    assert_eq!(rt;
+        (journal.len(), journal.is_empty()),
+        (calls.len(), calls.is_empty())
+    );
+    assert!(rt; journal.get(calls.len()).is_none());
+    for (place, called) in calls.iter().enumerate() {
+        let Some(entry) = journal.get(place) else {
+            panic!(rt; "no entry at {place}");
+        };
+        let step = match called.lists {
+            Some(caller) => PlainStep::List { caller },
+            None => PlainStep::Spawn,
+        };
+        assert_eq!(rt;
+            (Some(&entry.uid), entry.session, entry.step),
+            (users.get(called.session), called.session, step),
+            "at {place}"
+        );
+        assert_eq!(rt; entry.reply, called.reply, "at {place}");
+    }
+}
+
+fn shown(session: &Session) -> (u32, usize, u32) {
+    (session.uid().get(), session.number(), session.calls_made())
+}
+
+/// Two sessions make these calls. The host is closed once both are handed in.
+fn work_in_turn<R: Abort + Wait>(
+    rt: &R,
+    alloc: Global,
+    users: [Uid; 2],
+    made: (u32, u32),
+    calls: &[Called],
+) -> Result<Host<ByPolicy>, Fail> {
+    let host = Host::<ByPolicy>::new(alloc, Settings::standard())?;
+    let opened = open_two(alloc, host, users[0], users[1]);
+    let (host, mut first, mut second) = opened.ok_or("open")?;
+    let (one, other) = (users[0].get(), users[1].get());
+    assert_eq!(rt;
+        (shown(&first), shown(&second)),
+        ((one, 0, 0), (other, 1, 0))
+    );
+    call_in_turn(rt, alloc, &host, &mut first, &mut second, calls);
+    let (host, first) = close_one(alloc, host, first).ok_or("Missing")?;
+    assert_eq!(rt;
+        (shown(&first), shown(&second)),
+        ((one, 0, made.0), (other, 1, made.1))
+    );
+    let (host, journal) = close_two(alloc, host, first, second).ok_or("close")?;
+    are_calls(rt, &journal, users, calls);
+    Ok(host)
+}
+
+#[test]
+fn a_user_may_have_two_sessions(rt: HostRuntime) -> Result<(), Fail> {
+    let alloc = rt.alloc();
+    let user = Uid::new(1001)?;
+    let calls = [
+        spawned(0, 1000, 100000).ok_or("number")?,
+        spawned(1, 1001, 100001).ok_or("number")?,
     ];
-    are_entries(rt, journal, &entries[..]);
+    work_in_turn(&rt, alloc, [user, user], (1, 1), &calls[..])?;
+    Ok(())
 }
 
-/// A host is closed once all its sessions are handed in.
 #[test]
 fn a_host_waits_for_all_its_sessions(rt: HostRuntime) -> Result<(), Fail> {
     let alloc = rt.alloc();
-    let (one, other) = (Uid::new(1001)?, Uid::new(1002)?);
-    let host = Host::<ByPolicy>::new(alloc, Settings::standard())?;
-    let (host, mut first, mut second) = open_two(alloc, host, one, other).ok_or("open")?;
-    call_in_turn(&rt, alloc, &host, &mut first, &mut second);
-    let (host, first) = close_one(alloc, host, first).ok_or("Missing")?;
-    assert_eq!(rt;
-        (first.uid().get(), first.number(), first.calls_made()),
-        (1001, 0, 3)
-    );
-    let (mut host, journal) = close_two(alloc, host, first, second).ok_or("close")?;
-    stand_in_turn(&rt, &journal);
-    let next = host.step(alloc, one, Step::Spawn);
-    assert_eq!(rt; answered(&next), Told::New(1002, 100002));
-    let next = host.step(alloc, other, Step::Spawn);
-    assert_eq!(rt; answered(&next), Told::New(2001, 104001));
+    let users = [Uid::new(1001)?, Uid::new(1002)?];
+    let calls = [
+        spawned(0, 1000, 100000).ok_or("number")?,
+        spawned(1, 2000, 104000).ok_or("number")?,
+        spawned(0, 1001, 100001).ok_or("number")?,
+        Called {
+            session: 0,
+            lists: Some(1000),
+            reply: Reply::Pids(NumList::of(vec![in alloc; 1000, 1001]?)),
+        },
+    ];
+    let mut host = work_in_turn(&rt, alloc, users, (3, 1), &calls[..])?;
+    let next = host.step(alloc, users[0], Step::Spawn);
+    assert_eq!(rt; Some(next), new_process(1002, 100002));
+    let next = host.step(alloc, users[1], Step::Spawn);
+    assert_eq!(rt; Some(next), new_process(2001, 104001));
     Ok(())
 }

@@ -1,16 +1,39 @@
 //! Two sessions on one host.
 
 ghost use Rattle.std.specs.Prelude.{◌≡◌, [], ◌∷◌, IfSome};
-ghost use Rattle.host_lock.specs.Sessions.{IsOf};
+ghost use Rattle.host_lock.specs.Sessions.{IsOf, IsSame};
 
-use super::told::{Told, ask};
-use crate::{CloseRefusal, Journal, Session, SharedHost};
-use pid_blocks::Uid;
-use requests::{Host, Step};
+use crate::{Answer, CloseRefusal, Journal, Session, SharedHost};
+use pid_blocks::{Pid, Tid, Uid};
+use requests::{Host, Reply, Step};
 use std::alloc::Global;
 use std::sync::Wait;
 use std::thread::{Threads, join};
 use stop_handlers::{ByPolicy, Handler};
+
+/// The reply to a spawn. None where no user has such numbers.
+pub fn new_process(pid: u32, tid: u32) -> Option<Reply> {
+    let pid = Pid::new(pid)?;
+    let tid = Tid::new(tid)?;
+    Some(Reply::New { pid, tid })
+}
+
+/// One call of the session. None where it has made all its calls.
+pub fn ask<R: Wait>(
+    rt: &R,
+    alloc: Global,
+    host: &SharedHost<ByPolicy>,
+    session: &mut Session,
+    step: Step<Handler<ByPolicy>>,
+) -> Option<Reply>
+    requires { IsOf host.now session.old }
+    ensures { IsSame session.old session.new }
+{
+    match host.call(rt, alloc, session, step) {
+        Answer::Reply(reply) => Some(reply),
+        Answer::Spent => None,
+    }
+}
 
 /// The host, shared by a session of each of the users.
 pub fn open_two(
@@ -80,14 +103,14 @@ pub fn close_one(
     Some((host, sessions.pop()?))
 }
 
-/// A session after its steps, with what it was told.
+/// A session after its steps, with the replies.
 #[derive(Drop)]
 pub struct Worked {
     pub session: Session,
-    pub replies: Vec<Told>,
+    pub replies: Vec<Reply>,
 }
 
-/// Makes the steps. None where memory ran out.
+/// Makes the steps. None where memory or the calls ran out.
 fn work<R: Wait>(
     rt: &R,
     alloc: Global,
@@ -100,8 +123,8 @@ fn work<R: Wait>(
 {
     let mut replies = Vec::new(alloc);
     for step in steps {
-        let told = ask(rt, alloc, host, &mut session, step);
-        replies.push(told).ok()?;
+        let reply = ask(rt, alloc, host, &mut session, step)?;
+        replies.push(reply).ok()?;
     }
     Some(Worked { session, replies })
 }

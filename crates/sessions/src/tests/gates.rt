@@ -21,26 +21,10 @@ struct Counts {
     words: [AtomicU64; 11],
 }
 
-fn zero() -> AtomicU64 {
-    AtomicU64::new(0)
-}
-
 impl Counts {
     fn new() -> Counts {
         Counts {
-            words: [
-                zero(),
-                zero(),
-                zero(),
-                zero(),
-                zero(),
-                zero(),
-                zero(),
-                zero(),
-                zero(),
-                zero(),
-                zero(),
-            ],
+            words: [const { AtomicU64::new(0) }; 11],
         }
     }
 
@@ -74,9 +58,9 @@ impl Meet {
         Meet {
             entered: Counts::new(),
             left: Counts::new(),
-            first: zero(),
-            others: zero(),
-            failed: zero(),
+            first: AtomicU64::new(0),
+            others: AtomicU64::new(0),
+            failed: AtomicU64::new(0),
         }
     }
 

@@ -1,26 +1,67 @@
 //! Runs of scripts, whose replies were worked out by hand from the manual pages.
 
 use super::gates::{Meet, Open};
-use super::scripts::{are_own, new_host, new_numbers, spawn_at, spawn_each};
-use crate::{RunRefusal, Transcript, run_sessions};
+use super::scripts::{are_own, new_host, new_process, spawn_at, spawn_each};
+use crate::{Gate, RunRefusal, Transcript, run_sessions};
+use host_lock::Journal;
 use pid_blocks::Uid;
-use requests::Step;
+use requests::{Host, Reply, Step};
 use std::alloc::Global;
 use std::process::Abort;
+use std::sync::Wait;
 use std::test::Fail;
+use std::thread::Threads;
+use stop_handlers::ByPolicy;
+
+/// What a run answers.
+#[derive(Drop)]
+struct Ran {
+    host: Host<ByPolicy>,
+    journal: Journal,
+    transcripts: Vec<Transcript>,
+}
+
+/// A run with a script of so many spawns for each of the users.
+fn run<G: Gate, R: Threads + Wait + Sync>(
+    rt: &R,
+    alloc: Global,
+    host: Host<ByPolicy>,
+    (users, count): (&[Uid], u32),
+    gate: &G,
+) -> Result<Ran, RunRefusal> {
+    let Some(scripts) = spawn_each(alloc, users, count) else {
+        return Err(RunRefusal::Memory);
+    };
+    let (host, journal, transcripts) = run_sessions(rt, alloc, host, scripts, gate)?;
+    Ok(Ran {
+        host,
+        journal,
+        transcripts,
+    })
+}
+
+/// Two scripts of ten calls each, which meet at each call. So many calls are user 1001's, so many another's.
+fn meet<R: Abort + Threads + Wait + Sync>(
+    rt: &R,
+    alloc: Global,
+    users: [Uid; 2],
+    (first, others): (u64, u64),
+) -> Result<Ran, Fail> {
+    let host = new_host(alloc).ok_or("host")?;
+    let gate = Meet::new();
+    let ran = run(rt, alloc, host, (&users[..], 10), &gate);
+    let ran = ran.ok().ok_or("run")?;
+    gate.all_met(rt, first, others);
+    assert_eq!(rt; (ran.journal.len(), ran.transcripts.len()), (20, 2));
+    Ok(ran)
+}
 
 #[test]
 fn two_users_run_at_the_same_time(rt: HostRuntime) -> Result<(), Fail> {
     let alloc: Global = rt.alloc();
     let users = [Uid::new(1001)?, Uid::new(1002)?];
-    let host = new_host(alloc).ok_or("host")?;
-    let scripts = spawn_each(alloc, &users[..], 10).ok_or("scripts")?;
-    let gate = Meet::new();
-    let run = run_sessions(&rt, alloc, host, scripts, &gate);
-    let (_host, journal, transcripts) = run.ok().ok_or("run")?;
-    gate.all_met(&rt, 10, 10);
-    assert_eq!(rt; journal.len(), 20);
-    are_own(&rt, transcripts.as_slice(), 2, 10);
+    let ran = meet(&rt, alloc, users, (10, 10))?;
+    are_own(&rt, ran.transcripts.as_slice(), 2, 10);
     Ok(())
 }
 
@@ -28,32 +69,25 @@ fn two_users_run_at_the_same_time(rt: HostRuntime) -> Result<(), Fail> {
 fn two_scripts_of_a_user_run_at_the_same_time(rt: HostRuntime) -> Result<(), Fail> {
     let alloc: Global = rt.alloc();
     let user = Uid::new(1001)?;
-    let host = new_host(alloc).ok_or("host")?;
-    let scripts = spawn_each(alloc, &[user, user], 10).ok_or("scripts")?;
-    let gate = Meet::new();
-    let run = run_sessions(&rt, alloc, host, scripts, &gate);
-    let (_host, journal, transcripts) = run.ok().ok_or("run")?;
-    gate.all_met(&rt, 20, 0);
-    assert_eq!(rt; journal.len(), 20);
-    assert_eq!(rt; transcripts.len(), 2);
-    for transcript in transcripts.iter() {
-        assert_eq!(rt; transcript.uid.get(), 1001);
-        assert_eq!(rt; transcript.replies.len(), 10);
+    let ran = meet(&rt, alloc, [user, user], (20, 0))?;
+    for transcript in ran.transcripts.iter() {
+        assert_eq!(rt; (transcript.uid, transcript.replies.len()), (user, 10));
     }
     for i in 0u32..20 {
-        let made = spawn_at(&journal, i as usize).map(|(uid, _, pid, tid)| (uid, pid, tid));
-        assert_eq!(rt; made, Some((1001, 1000 + i, 100000 + i)), "at {i}");
+        let made = spawn_at(&ran.journal, i as usize).map(|(uid, _, reply)| (uid, Some(reply)));
+        let wanted = new_process(1000 + i, 100000 + i);
+        assert_eq!(rt; made, Some((user, wanted.as_ref())), "at {i}");
     }
     Ok(())
 }
 
-/// The new numbers of a transcript's only reply.
-fn only_spawn(transcripts: &[Transcript], script: usize) -> Option<(u32, u32)> {
+/// A transcript's only reply.
+fn only_reply(transcripts: &[Transcript], script: usize, user: Uid) -> Option<&Reply> {
     let transcript = transcripts.get(script)?;
-    if transcript.replies.len() != 1 || transcript.uid.get() != 1001 {
+    if transcript.replies.len() != 1 || transcript.uid != user {
         return None;
     }
-    new_numbers(transcript.replies.get(0)?)
+    transcript.replies.get(0)
 }
 
 /// Whichever script comes first gets the first numbers.
@@ -62,25 +96,26 @@ fn a_user_has_two_scripts(rt: HostRuntime) -> Result<(), Fail> {
     let alloc: Global = rt.alloc();
     let user = Uid::new(1001)?;
     let host = new_host(alloc).ok_or("host")?;
-    let scripts = spawn_each(alloc, &[user, user], 1).ok_or("scripts")?;
-    let run = run_sessions(&rt, alloc, host, scripts, &Open);
-    let (_host, journal, transcripts) = run.ok().ok_or("run")?;
-    assert_eq!(rt; journal.len(), 2);
-    assert_eq!(rt; transcripts.len(), 2);
-    let told = [
-        only_spawn(transcripts.as_slice(), 0),
-        only_spawn(transcripts.as_slice(), 1),
-    ];
-    let (one, other) = (Some((1000, 100000)), Some((1001, 100001)));
-    let (first, second) = if told == [one, other] { (0, 1) } else { (1, 0) };
-    let wanted = if first == 0 {
-        [one, other]
-    } else {
-        [other, one]
-    };
-    assert_eq!(rt; told, wanted);
-    assert_eq!(rt; spawn_at(&journal, 0), Some((1001, first, 1000, 100000)));
-    assert_eq!(rt; spawn_at(&journal, 1), Some((1001, second, 1001, 100001)));
+    let ran = run(&rt, alloc, host, (&[user, user], 1), &Open);
+    let ran = ran.ok().ok_or("run")?;
+    assert_eq!(rt; (ran.journal.len(), ran.transcripts.len()), (2, 2));
+    let numbers = [new_process(1000, 100000), new_process(1001, 100001)];
+    let replies = ran.transcripts.as_slice();
+    let first = usize::from(only_reply(replies, 0, user) != numbers[0].as_ref());
+    for place in 0..2usize {
+        let script = if place == 0 { first } else { 1 - first };
+        let wanted = numbers
+            .as_slice()
+            .get(place)
+            .and_then(|reply| reply.as_ref());
+        assert_eq!(rt; only_reply(replies, script, user), wanted, "at {place}");
+        let found = spawn_at(&ran.journal, place);
+        assert_eq!(rt;
+            found,
+            wanted.map(|reply| (user, script, reply)),
+            "at {place}"
+        );
+    }
     Ok(())
 }
 
@@ -89,8 +124,7 @@ fn sixty_five_scripts_are_too_many(rt: HostRuntime) -> Result<(), Fail> {
     let alloc: Global = rt.alloc();
     let host = new_host(alloc).ok_or("host")?;
     let users = [Uid::new(1001)?; 65];
-    let scripts = spawn_each(alloc, &users[..], 1).ok_or("scripts")?;
-    let run = run_sessions(&rt, alloc, host, scripts, &Open);
+    let run = run(&rt, alloc, host, (&users[..], 1), &Open);
     assert!(rt; matches!(&run, Err(RunRefusal::TooMany)));
     Ok(())
 }
@@ -102,15 +136,19 @@ fn no_script_does_nothing(rt: HostRuntime) -> Result<(), Fail> {
     let user = Uid::new(1001)?;
     let mut host = new_host(alloc).ok_or("host")?;
     let first = host.step(alloc, user, Step::Spawn);
-    assert_eq!(rt; new_numbers(&first), Some((1000, 100000)));
-    let scripts = spawn_each(alloc, &[], 1).ok_or("scripts")?;
-    let run = run_sessions(&rt, alloc, host, scripts, &Open);
-    let (mut host, journal, transcripts) = run.ok().ok_or("run")?;
-    assert_eq!(rt; journal.len(), 0);
-    assert!(rt; journal.is_empty());
-    assert_eq!(rt; transcripts.len(), 0);
-    let second = host.step(alloc, user, Step::Spawn);
-    assert_eq!(rt; new_numbers(&second), Some((1001, 100001)));
+    let ran = run(&rt, alloc, host, (&[], 1), &Open);
+    let mut ran = ran.ok().ok_or("run")?;
+    assert_eq!(rt;
+        (
+            ran.journal.len(),
+            ran.journal.is_empty(),
+            ran.transcripts.len()
+        ),
+        (0, true, 0)
+    );
+    let second = ran.host.step(alloc, user, Step::Spawn);
+    assert_eq!(rt; Some(first), new_process(1000, 100000));
+    assert_eq!(rt; Some(second), new_process(1001, 100001));
     Ok(())
 }
 
@@ -128,10 +166,9 @@ fn sixty_four_users_make_a_hundred_calls_each(rt: HostRuntime) -> Result<(), Fai
     let alloc: Global = rt.alloc();
     let host = new_host(alloc).ok_or("host")?;
     let users = all_users(alloc).ok_or("users")?;
-    let scripts = spawn_each(alloc, users.as_slice(), 100).ok_or("scripts")?;
-    let run = run_sessions(&rt, alloc, host, scripts, &Open);
-    let (_host, journal, transcripts) = run.ok().ok_or("run")?;
-    assert_eq!(rt; journal.len(), 6400);
-    are_own(&rt, transcripts.as_slice(), 64, 100);
+    let ran = run(&rt, alloc, host, (users.as_slice(), 100), &Open);
+    let ran = ran.ok().ok_or("run")?;
+    assert_eq!(rt; ran.journal.len(), 6400);
+    are_own(&rt, ran.transcripts.as_slice(), 64, 100);
     Ok(())
 }

@@ -4,8 +4,8 @@ ghost use Rattle.std.specs.Prelude.{◌<◌, ◌≤◌, IfSome, All};
 ghost use Rattle.sessions.specs.Runs.{IsShort};
 
 use crate::{Script, Transcript};
-use host_lock::Journal;
-use pid_blocks::Uid;
+use host_lock::{Journal, MOST_CALLS};
+use pid_blocks::{Pid, Tid, Uid};
 use requests::{Host, PlainStep, Reply, Step};
 use std::alloc::Global;
 use std::process::Abort;
@@ -25,7 +25,7 @@ fn spawn_often(alloc: Global, uid: Uid, count: u32) -> Option<Script<ByPolicy>>
     for _ in 0..count {
         steps.push(Step::Spawn).ok()?;
     }
-    if steps.len() > 4294967295 {
+    if steps.len() > MOST_CALLS as usize {
         return None;
     }
     Some(Script { uid, steps })
@@ -42,23 +42,11 @@ pub fn spawn_each(alloc: Global, users: &[Uid], count: u32) -> Option<Vec<Script
     Some(scripts)
 }
 
-/// The process and the LWP of a reply to a spawn.
-pub fn new_numbers(reply: &Reply) -> Option<(u32, u32)> {
-    match reply {
-        Reply::New { pid, tid } => Some((pid.get(), tid.get())),
-        _ => None,
-    }
-}
-
-/// The replies are to spawns, with the numbers from these on.
-fn are_spawned<R: Abort>(rt: &R, replies: &[Reply], count: u32, pid: u32, tid: u32)
-    requires { (count < 65000) × (pid < 65000) × (tid < 356000) }
-{
-    assert_eq!(rt; replies.len(), count as usize);
-    for i in 0..count {
-        let found = replies.get(i as usize).and_then(new_numbers);
-        assert_eq!(rt; found, Some((pid + i, tid + i)), "at {i}");
-    }
+/// The reply to a spawn. None where no user has such numbers.
+pub fn new_process(pid: u32, tid: u32) -> Option<Reply> {
+    let pid = Pid::new(pid)?;
+    let tid = Tid::new(tid)?;
+    Some(Reply::New { pid, tid })
 }
 
 /// The transcripts are of so many users from 1001 on, each with so many spawns of the user's first numbers.
@@ -67,23 +55,29 @@ pub fn are_own<R: Abort>(rt: &R, transcripts: &[Transcript], users: u32, count: 
 {
     assert_eq!(rt; transcripts.len(), users as usize);
     for slot in 0..users {
-        match transcripts.get(slot as usize) {
-            Some(transcript) => {
-                assert_eq!(rt; transcript.uid.get(), 1001 + slot);
-                let (pid, tid) = (1000 + 1000 * slot, 100000 + 4000 * slot);
-                are_spawned(rt, transcript.replies.as_slice(), count, pid, tid);
-            }
-            None => panic!(rt; "no transcript at {slot}"),
+        let Some(transcript) = transcripts.get(slot as usize) else {
+            panic!(rt; "no transcript at {slot}");
+        };
+        assert_eq!(rt;
+            (transcript.uid.get(), transcript.replies.len()),
+            (1001 + slot, count as usize)
+        );
+        for i in 0..count {
+            let wanted = new_process(1000 + 1000 * slot + i, 100000 + 4000 * slot + i);
+            assert_eq!(rt;
+                transcript.replies.get(i as usize),
+                wanted.as_ref(),
+                "at {i}"
+            );
         }
     }
 }
 
-/// The entry at the place is a spawn: its user, its session and the new numbers.
-pub fn spawn_at(journal: &Journal, place: usize) -> Option<(u32, usize, u32, u32)> {
+/// The entry at the place is a spawn: its user, its session and the reply.
+pub fn spawn_at(journal: &Journal, place: usize) -> Option<(Uid, usize, &Reply)> {
     let entry = journal.get(place)?;
     if entry.step != PlainStep::Spawn {
         return None;
     }
-    let (pid, tid) = new_numbers(&entry.reply)?;
-    Some((entry.uid.get(), entry.session, pid, tid))
+    Some((entry.uid, entry.session, &entry.reply))
 }

@@ -9,13 +9,13 @@ use Rattle.host_lock.proofs.turn.count_up.Goals as goal
 
 pub fetch_add-requires : goal.fetch_add-requires
 fetch_add-requires g c =
-    let common = c.args.common.now in
+    let table = c.args.table.now in
     let seat = c.args.seat.now in
     let v = seat.me.0 in
-    let slots : ℕ = common.table_id.slots in
-    let P : Me (Slot g.row.F.Denot) View → Type 0 = λ m. Allows (IsKept common.key.start.value common.key.sessions) slots seat.id m 2 (λ x. (x + 1) % 2 ^ 64) (counted (step slots 2 1 0 none) m) in (
+    let slots : ℕ = table.table_id.slots in
+    let P : Me (Slot g.row.F.Denot) View → Type 0 = λ m. Allows (IsKept table.key.start.value table.key.sessions) slots seat.id m 2 (λ x. (x + 1) % 2 ^ 64) (counted (step slots 2 1 0 none) m) in (
       c.requires.table.1,
       omega (arith, c.requires.table.0.0),
       subst P (sym c.requires.holds)
-          (counts_up common.key.start.value common.key.sessions slots seat.id v.budget c.args.ticket c.args.number c.args.user (start_of v) (seen_of v) (mine_of v) c.args.step.now),
+          (counts_up table.key.start.value table.key.sessions slots seat.id v.budget c.args.ticket c.args.number c.args.user (start_of v) (seen_of v) (mine_of v) c.args.step.now),
     )

@@ -15,14 +15,14 @@ exchange-away-requires g c =
 
 pub fetch_add-served-requires : goal.fetch_add-served-requires
 fetch_add-served-requires g c =
-    let common = c.args.common.now in
+    let table = c.args.table.now in
     let out = c.requires.out in
     let v = c.args.seat.now.me.0 in
     let m = c.exchange-away.new.seat.me in
-    let now : m ≡ (v, (0, There c.args.home) ∷ []) = c.exchange-away.ensures.3 ∙ ap (λ (z : Me (Slot g.row.F.Denot) View). (v, (0, There c.args.home) ∷ rest z.1)) out.3 in (
+    let now : m ≡ (v, (0, There c.args.state) ∷ []) = c.exchange-away.ensures.3 ∙ ap (λ (z : Me (Slot g.row.F.Denot) View). (v, (0, There c.args.state) ∷ rest z.1)) out.3 in (
       c.exchange-away.ensures.0 ∙ c.requires.table.1,
       omega (arith, c.requires.table.0.0),
-      leaves common.key.start.value common.key.sessions common.table_id.slots c.exchange-away.new.seat.id c.args.number c.args.home out.0 out.1 v m out.2 (ap (λ (z : Me (Slot g.row.F.Denot) View). z.0) out.3) now,
+      leaves table.key.start.value table.key.sessions table.table_id.slots c.exchange-away.new.seat.id c.args.number c.args.state out.0 out.1 v m out.2 (ap (λ (z : Me (Slot g.row.F.Denot) View). z.0) out.3) now,
     )
 
 pub returns-clause-released : goal.returns-clause-released

@@ -8,11 +8,11 @@ use Rattle.host_lock.proofs.turn.take_turn.Goals as goal
 
 pub load-serving-requires : goal.load-serving-requires
 load-serving-requires g c =
-    let common = c.args.common.now in
+    let table = c.args.table.now in
     let waits : IsWaiting c.args.number c.args.ticket c.loop.seat.me = subst (IsWaiting c.args.number c.args.ticket) (sym c.loop.invariant.3) c.requires.waits in (
       c.loop.invariant.2 ∙ c.requires.table.1,
       omega (arith, c.requires.table.0.0),
-      looks common.key.start.value common.key.sessions common.table_id.slots c.loop.seat.id c.args.number c.args.ticket c.loop.seat.me waits,
+      looks table.key.start.value table.key.sessions table.table_id.slots c.loop.seat.id c.args.number c.args.ticket c.loop.seat.me waits,
     )
 
 pub returns-then-serving-ticket-clause-taken : goal.returns-then-serving-ticket-clause-taken
@@ -20,10 +20,10 @@ returns-then-serving-ticket-clause-taken g c =
     let waits : IsWaiting c.args.number c.args.ticket c.loop.seat.me = subst (IsWaiting c.args.number c.args.ticket) (sym c.loop.invariant.3) c.requires.waits in
     let found : c.load-serving.result ≡ c.args.ticket = search rules in
     subst (λ (m : Me (Slot g.row.F.Denot) View). TakesSlot m.0 c.args.number c.args.ticket c.load-serving.new.seat.me) c.loop.invariant.3
-    (takes_slot c.args.common.now.table_id.slots c.args.number c.args.ticket c.load-serving.result c.loop.seat.me c.load-serving.new.seat.me waits c.load-serving.ensures.2 found)
+    (takes_slot c.args.table.now.table_id.slots c.args.number c.args.ticket c.load-serving.result c.loop.seat.me c.load-serving.new.seat.me waits c.load-serving.ensures.2 found)
 
 pub loop-preserved : goal.loop-preserved
 loop-preserved g c =
     let waits : IsWaiting c.args.number c.args.ticket c.loop.seat.me = subst (IsWaiting c.args.number c.args.ticket) (sym c.loop.invariant.3) c.requires.waits in
     let missed : c.load-serving.result ≢ c.args.ticket = search rules in
-    (tt, tt, c.load-serving.ensures.0 ∙ c.loop.invariant.2, waits_on c.args.common.now.table_id.slots c.args.number c.args.ticket c.load-serving.result c.loop.seat.me c.load-serving.new.seat.me waits c.load-serving.ensures.2 missed ∙ c.loop.invariant.3)
+    (tt, tt, c.load-serving.ensures.0 ∙ c.loop.invariant.2, waits_on c.args.table.now.table_id.slots c.args.number c.args.ticket c.load-serving.result c.loop.seat.me c.load-serving.new.seat.me waits c.load-serving.ensures.2 missed ∙ c.loop.invariant.3)

@@ -8,67 +8,67 @@ use Rattle.host_lock.specs.Views.{View, Holding, Counted}
 use Rattle.host_lock.specs.declared.view.Slot.{Slot}
 use Rattle.host_lock.specs.declared.view.Slot.TheVariants.{There, Away}
 use Rattle.host_lock.specs.Rule.{start_of, mine_of, HasTurned}
-use Rattle.host_lock.specs.Kept.{kept}
+use Rattle.host_lock.specs.History.{history}
 use Rattle.host_lock.proofs.Turns.{draws}
 use Rattle.host_lock.proofs.Journey.{finds, is_out, counts_out, turned_none, turned_one}
 use Rattle.host_lock.proofs.turn.turn.Goals as goal
 
 pub fetch_add-ticket-requires : goal.fetch_add-ticket-requires
 fetch_add-ticket-requires g c =
-    let common = c.args.common.now in
+    let table = c.args.table.now in
     let seat = c.args.seat.now in (
       c.requires.table.1,
       omega (arith, c.requires.table.0.0),
-      draws common.key.start.value common.key.sessions common.table_id.slots seat.id seat.me (ap (λ (m : Me (Slot g.row.F.Denot) View). m.0.stage) c.requires.rests) c.requires.room,
+      draws table.key.start.value table.key.sessions table.table_id.slots seat.id seat.me (ap (λ (m : Me (Slot g.row.F.Denot) View). m.0.stage) c.requires.rests) c.requires.room,
     )
 
 pub exchange-requires : goal.exchange-requires
 exchange-requires g c =
     let t = c.take_turn.ensures.taken in
     let held = ap (λ (m : Me (Slot g.row.F.Denot) View). m.1) t.1 in
-    let x : Slot g.row.F.Denot = There (kept (start_of c.fetch_add-ticket.new.seat.me.0) t.0) in
+    let x : Slot g.row.F.Denot = There (history (start_of c.fetch_add-ticket.new.seat.me.0) t.0) in
     (search rules, (x, held ∙ ap (λ (l : List (ℕ × Slot g.row.F.Denot)). (0, x) ∷ rest l) (sym held)))
 
 pub give_back-requires-clause-out : goal.give_back-requires-clause-out
 give_back-requires-clause-out g c =
     let told : is_memory c.make-reply.result ≡ true = sym c.is_memory.ensures ∙ c.if-is_memory.true in
-    let f = finds c.args.seat.now.me c.fetch_add-ticket.new.seat.me c.take_turn.new.seat.me c.exchange.new.seat.me c.args.user c.args.number c.fetch_add-ticket.result c.plain-plain.result c.in-There.home c.exchange.result c.requires.rests c.fetch_add-ticket.ensures.2
+    let f = finds c.args.seat.now.me c.fetch_add-ticket.new.seat.me c.take_turn.new.seat.me c.exchange.new.seat.me c.args.user c.args.number c.fetch_add-ticket.result c.plain-plain.result c.in-There.state c.exchange.result c.requires.rests c.fetch_add-ticket.ensures.2
     c.take_turn.ensures.taken c.exchange.ensures.2 c.in-There.is c.exchange.ensures.3 in
-    λ κs lives. is_out c.args.number c.exchange.new.seat.me c.in-There.home c.make-reply.new.self (Holding c.fetch_add-ticket.result) (Away c.args.user c.plain-plain.result) _ (mine_of c.args.seat.now.me.0) refl f.3 (c.make-reply.ensures.memory told)
+    λ κs lives. is_out c.args.number c.exchange.new.seat.me c.in-There.state c.make-reply.new.self (Holding c.fetch_add-ticket.result) (Away c.args.user c.plain-plain.result) _ (mine_of c.args.seat.now.me.0) refl f.3 (c.make-reply.ensures.memory told)
 
 pub give_back-requires-2-clause-out : goal.give_back-requires-2-clause-out
 give_back-requires-2-clause-out g c =
     let told : is_memory c.make-reply.result ≡ false = sym c.is_memory.ensures ∙ c.if-is_memory.false in
-    let f = finds c.args.seat.now.me c.fetch_add-ticket.new.seat.me c.take_turn.new.seat.me c.exchange.new.seat.me c.args.user c.args.number c.fetch_add-ticket.result c.plain-plain.result c.in-There.home c.exchange.result c.requires.rests c.fetch_add-ticket.ensures.2
+    let f = finds c.args.seat.now.me c.fetch_add-ticket.new.seat.me c.take_turn.new.seat.me c.exchange.new.seat.me c.args.user c.args.number c.fetch_add-ticket.result c.plain-plain.result c.in-There.state c.exchange.result c.requires.rests c.fetch_add-ticket.ensures.2
     c.take_turn.ensures.taken c.exchange.ensures.2 c.in-There.is c.exchange.ensures.3 in
-    let home = c.in-There.home in
+    let state = c.in-There.state in
     let r = c.make-reply.result in
-    let P : PlainStep → Type 0 = λ s. (r ≡ reply_of c.args.user s (replay home.start home.log)) × (c.make-reply.new.self ≡ kept home.start (home.log ++ entry c.args.user c.args.number s r ∷ [])) in
+    let P : PlainStep → Type 0 = λ s. (r ≡ reply_of c.args.user s (replay state.start state.log)) × (c.make-reply.new.self ≡ history state.start (state.log ++ entry c.args.user c.args.number s r ∷ [])) in
     let made = subst P (sym c.plain-plain.ensures) (c.make-reply.ensures.made told) in
-    let now = counts_out c.args.seat.now.me c.exchange.new.seat.me c.count_up.new.seat.me c.args.user c.args.number c.fetch_add-ticket.result c.plain-plain.result c.in-There.home c.make-reply.new.self c.make-reply.result f c.count_up.ensures.counted made.0 made.1 in
+    let now = counts_out c.args.seat.now.me c.exchange.new.seat.me c.count_up.new.seat.me c.args.user c.args.number c.fetch_add-ticket.result c.plain-plain.result c.in-There.state c.make-reply.new.self c.make-reply.result f c.count_up.ensures.counted made.0 made.1 in
     λ κs lives. is_out c.args.number c.count_up.new.seat.me c.make-reply.new.self c.make-reply.new.self (Counted c.fetch_add-ticket.result) (Away c.args.user c.plain-plain.result) _ _ refl now refl
 
 pub returns-then-is_memory-clause-turned : goal.returns-then-is_memory-clause-turned
 returns-then-is_memory-clause-turned g c =
     let told : is_memory c.make-reply.result ≡ true = sym c.is_memory.ensures ∙ c.if-is_memory.true in
-    let f = finds c.args.seat.now.me c.fetch_add-ticket.new.seat.me c.take_turn.new.seat.me c.exchange.new.seat.me c.args.user c.args.number c.fetch_add-ticket.result c.plain-plain.result c.in-There.home c.exchange.result c.requires.rests c.fetch_add-ticket.ensures.2
+    let f = finds c.args.seat.now.me c.fetch_add-ticket.new.seat.me c.take_turn.new.seat.me c.exchange.new.seat.me c.args.user c.args.number c.fetch_add-ticket.result c.plain-plain.result c.in-There.state c.exchange.result c.requires.rests c.fetch_add-ticket.ensures.2
     c.take_turn.ensures.taken c.exchange.ensures.2 c.in-There.is c.exchange.ensures.3 in
     let P : PlainStep → Type 0 = λ s. HasTurned c.args.seat.now.me.0 c.args.user c.args.number s c.make-reply.result c.give_back.new.seat.me in
     subst P c.plain-plain.ensures
-    (turned_none c.args.seat.now.me c.exchange.new.seat.me c.give_back.new.seat.me c.args.user c.args.number c.fetch_add-ticket.result c.plain-plain.result c.in-There.home c.make-reply.new.self c.make-reply.result f told
+    (turned_none c.args.seat.now.me c.exchange.new.seat.me c.give_back.new.seat.me c.args.user c.args.number c.fetch_add-ticket.result c.plain-plain.result c.in-There.state c.make-reply.new.self c.make-reply.result f told
     c.make-reply.ensures.legal (c.make-reply.ensures.memory told) c.give_back.ensures.released)
 
 pub returns-clause-turned : goal.returns-clause-turned
 returns-clause-turned g c =
     let told : is_memory c.make-reply.result ≡ false = sym c.is_memory.ensures ∙ c.if-is_memory.false in
-    let f = finds c.args.seat.now.me c.fetch_add-ticket.new.seat.me c.take_turn.new.seat.me c.exchange.new.seat.me c.args.user c.args.number c.fetch_add-ticket.result c.plain-plain.result c.in-There.home c.exchange.result c.requires.rests c.fetch_add-ticket.ensures.2
+    let f = finds c.args.seat.now.me c.fetch_add-ticket.new.seat.me c.take_turn.new.seat.me c.exchange.new.seat.me c.args.user c.args.number c.fetch_add-ticket.result c.plain-plain.result c.in-There.state c.exchange.result c.requires.rests c.fetch_add-ticket.ensures.2
     c.take_turn.ensures.taken c.exchange.ensures.2 c.in-There.is c.exchange.ensures.3 in
-    let home = c.in-There.home in
+    let state = c.in-There.state in
     let r = c.make-reply.result in
-    let M : PlainStep → Type 0 = λ s. (r ≡ reply_of c.args.user s (replay home.start home.log)) × (c.make-reply.new.self ≡ kept home.start (home.log ++ entry c.args.user c.args.number s r ∷ [])) in
+    let M : PlainStep → Type 0 = λ s. (r ≡ reply_of c.args.user s (replay state.start state.log)) × (c.make-reply.new.self ≡ history state.start (state.log ++ entry c.args.user c.args.number s r ∷ [])) in
     let made = subst M (sym c.plain-plain.ensures) (c.make-reply.ensures.made told) in
-    let now = counts_out c.args.seat.now.me c.exchange.new.seat.me c.count_up.new.seat.me c.args.user c.args.number c.fetch_add-ticket.result c.plain-plain.result home c.make-reply.new.self r f c.count_up.ensures.counted made.0 made.1 in
+    let now = counts_out c.args.seat.now.me c.exchange.new.seat.me c.count_up.new.seat.me c.args.user c.args.number c.fetch_add-ticket.result c.plain-plain.result state c.make-reply.new.self r f c.count_up.ensures.counted made.0 made.1 in
     let P : PlainStep → Type 0 = λ s. HasTurned c.args.seat.now.me.0 c.args.user c.args.number s r c.give_back-2.new.seat.me in
     subst P c.plain-plain.ensures
-    (turned_one c.args.seat.now.me c.exchange.new.seat.me c.count_up.new.seat.me c.give_back-2.new.seat.me c.args.user c.args.number c.fetch_add-ticket.result c.plain-plain.result home c.make-reply.new.self r f told
+    (turned_one c.args.seat.now.me c.exchange.new.seat.me c.count_up.new.seat.me c.give_back-2.new.seat.me c.args.user c.args.number c.fetch_add-ticket.result c.plain-plain.result state c.make-reply.new.self r f told
     c.make-reply.ensures.legal made.1 now c.give_back-2.ensures.released)

@@ -3,7 +3,7 @@ use Rattle.std.specs.List.{list_any}
 use Rattle.std.proofs.lemmas.Int.{to_z-of_z}
 use Rattle.proc_table.specs.Processes.{process_of}
 use Rattle.trace_stop.specs.Facts.{IsSound, FitProcess}
-use Rattle.trace_stop.proofs.Ending.{own_rows}
+use Rattle.trace_stop.proofs.Passes.{own_rows}
 use Rattle.wait4.specs.declared.Collected.TheVariants.{Nothing, NoChild}
 use Rattle.wait4.specs.Collect.{is_child, fits, candidates, reported, answer}
 use Rattle.wait4.proofs.CollectSound.{collect_sound}

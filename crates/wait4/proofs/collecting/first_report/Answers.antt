@@ -13,14 +13,14 @@ returns-then-reportable-clause-row c =
     let ps = c.args.tables.now.rows.processes in
     let at : next_above a r c.loop-p.after ps ≡ Some c.in-Some.p = cc in
     let passes : r c.in-Some.p ≡ true = cc in
-    sym (to_come-here a r c.loop-p.after ps c.in-Some.p at passes) ∙ c.loop-p.invariant
+    sym (to_come-here a r c.loop-p.after ps c.kept.ensures.rising c.in-Some.p at passes) ∙ c.loop-p.invariant
 
 pub loop-p-smaller : goal.loop-p-smaller
 loop-p-smaller c =
     let a = names_as c.args.kin c.args.caller in
     let r = reportable c.args.options c.args.caller in
     let at : next_above a r c.loop-p.after c.args.tables.now.rows.processes ≡ Some c.in-Some.p = cc in
-    let over : c.loop-p.after < c.in-Some.p.pid = next_over a r c.loop-p.after c.args.tables.now.rows.processes c.in-Some.p at in
+    let over : c.loop-p.after < c.in-Some.p.pid = next_over a r c.loop-p.after c.args.tables.now.rows.processes c.kept.ensures.rising c.in-Some.p at in
     omega (arith, over, c.get-after.ensures.number, c.get-after.ensures.below)
 
 pub loop-p-preserved : goal.loop-p-preserved
@@ -30,7 +30,7 @@ loop-p-preserved c =
     let ps = c.args.tables.now.rows.processes in
     let at : next_above a r c.loop-p.after ps ≡ Some c.in-Some.p = cc in
     let fails : r c.in-Some.p ≡ false = cc in
-    ap (λ n. to_come a r n ps) c.get-after.ensures.number ∙ to_come-past a r c.loop-p.after ps c.in-Some.p c.next_of_kin.ensures.kept.rising at fails ∙ c.loop-p.invariant
+    ap (λ n. to_come a r n ps) c.get-after.ensures.number ∙ to_come-past a r c.loop-p.after ps c.kept.ensures.rising c.in-Some.p at fails ∙ c.loop-p.invariant
 
 pub returns-clause-row : goal.returns-clause-row
 returns-clause-row c =
@@ -38,4 +38,4 @@ returns-clause-row c =
     let r = reportable c.args.options c.args.caller in
     let ps = c.args.tables.now.rows.processes in
     let at : next_above a r c.loop-p.after ps ≡ None = search rules in
-    sym (to_come-none a r c.loop-p.after ps at) ∙ c.loop-p.invariant
+    sym (to_come-none a r c.loop-p.after ps c.kept.ensures.rising at) ∙ c.loop-p.invariant

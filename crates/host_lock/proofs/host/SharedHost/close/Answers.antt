@@ -3,7 +3,7 @@ use Rattle.atomic_table.specs.Table.{Me}
 use Rattle.host_lock.specs.Views.{View}
 use Rattle.host_lock.specs.declared.view.Slot.{Slot}
 use Rattle.host_lock.specs.declared.journal.Entry.{Entry}
-use Rattle.host_lock.specs.Kept.{Kept}
+use Rattle.host_lock.specs.History.{History}
 use Rattle.host_lock.specs.Journal.{StartsWith}
 use Rattle.host_lock.specs.Rule.{Each, Matches}
 use Rattle.host_lock.specs.Sessions.{Stands}
@@ -13,10 +13,10 @@ use Rattle.host_lock.proofs.host.SharedHost.close.Goals as goal
 
 pub returns-clause-sessions : goal.returns-clause-sessions
 returns-clause-sessions g c =
-    let got = c.gather-seat.ensures.seat in
-    let log = c.finish.result.log in
-    let at : c.gather-seat.result.me.0 ≡ _ = ap (λ (m : Me (Slot g.row.F.Denot) View). m.0) got.3 in
-    let seen = subst (λ (v : View). Each (StartsWith log) v.seen) at c.finish.ensures.seen in
-    let owns = subst (λ (v : View). Each (Matches c.self.inside.board.shared.key.sessions log) v.owns) at c.finish.ensures.owns in
-    let all : Each (Stands log) c.args.sessions.items = subst (Each (Stands log)) (sym got.2) (each_reverse (Stands log) got.0 (stand c.self.inside.board.shared.key.sessions log got.0 seen owns)) in
-    all_of (Stands _) c.args.sessions.items (subst (λ (l : List Entry). Each (Stands l) c.args.sessions.items) (sym (ap (λ (k : Kept). k.log) c.host.view_is)) all)
+    let got = c.join_seats-seat.ensures.seat in
+    let log = c.take_state.result.log in
+    let at : c.join_seats-seat.result.me.0 ≡ _ = ap (λ (m : Me (Slot g.row.F.Denot) View). m.0) got.3 in
+    let seen = subst (λ (v : View). Each (StartsWith log) v.seen) at c.take_state.ensures.seen in
+    let owns = subst (λ (v : View). Each (Matches c.self.inside.table.shared.key.sessions log) v.owns) at c.take_state.ensures.owns in
+    let all : Each (Stands log) c.args.sessions.items = subst (Each (Stands log)) (sym got.2) (each_reverse (Stands log) got.0 (stand c.self.inside.table.shared.key.sessions log got.0 seen owns)) in
+    all_of (Stands _) c.args.sessions.items (subst (λ (l : List Entry). Each (Stands l) c.args.sessions.items) (sym (ap (λ (k : History). k.log) c.host.view_is)) all)

@@ -3,7 +3,8 @@ use Rattle.slab.specs.Slab.{get as slot_get}
 use Rattle.lwp_table.specs.Lwps.{first_lwp}
 use Rattle.lwp_table.specs.Chain.{IsNearest, up, anywhere}
 use Rattle.lwp_table.specs.Kept.{own_nodes, rows_of}
-use Rattle.lwp_table.proofs.KeptLemmas.{first-is_none, first-is_some, differ-seen}
+use Rattle.lwp_table.proofs.KeptLemmas.{differ-seen}
+use Rattle.lwp_table.proofs.WalkLemmas.{first-is_none, first-is_some}
 use Rattle.lwp_table.proofs.table.LwpTable.first_of.Goals as goal
 
 pub returns-in_err-slot-clause-row : goal.returns-in_err-slot-clause-row

@@ -5,8 +5,9 @@ use Rattle.slab.specs.Slab.{get as slot_get}
 use Rattle.lwp_table.specs.Lwps.{lwp_of, next_lwp}
 use Rattle.lwp_table.specs.Chain.{IsNearest, up, above}
 use Rattle.lwp_table.specs.Kept.{own_node, own_nodes, rows_of}
-use Rattle.lwp_table.proofs.IndexLemmas.{slot_for, lwp_of-found}
-use Rattle.lwp_table.proofs.KeptLemmas.{some_and, came, next-is_none, next-is_some, differ-seen}
+use Rattle.lwp_table.proofs.IndexLemmas.{some_and, came, slot_for, lwp_of-found}
+use Rattle.lwp_table.proofs.KeptLemmas.{differ-seen}
+use Rattle.lwp_table.proofs.WalkLemmas.{next-is_none, next-is_some}
 use Rattle.lwp_table.proofs.table.LwpTable.next_of.Goals as goal
 
 pub index-at-requires : goal.index-at-requires

@@ -2,12 +2,10 @@ use Rattle.std.proofs.Common.{◌≡◌, ℕ, None, sym, ap, subst, ◌∙◌, i
 use Rattle.std.specs.Map.{lookup}
 use Rattle.slab.specs.Slab.{get as slot_get}
 use Rattle.lwp_table.specs.declared.links.Ends.{Ends}
-use Rattle.lwp_table.specs.declared.links.Link.TheVariants.{NextOwn, PrevOwn, NextAll}
 use Rattle.lwp_table.specs.Lwps.{lwp_of, without_lwp}
-use Rattle.lwp_table.specs.Kept.{place_of, rows_of, ends_at, linked}
-use Rattle.lwp_table.proofs.WordLemmas.{without_row-same}
-use Rattle.lwp_table.proofs.IndexLemmas.{differ, slot_for, lwp_of-found}
-use Rattle.lwp_table.proofs.KeptLemmas.{some_of, onto, own_prev, own_next, all_prev, all_next, own_positive, user_positive, left_empty, IsKept-removed, rows-removed}
+use Rattle.lwp_table.specs.Kept.{place_of, rows_of, ends_at}
+use Rattle.lwp_table.proofs.IndexLemmas.{some_of, slot_for, lwp_of-found}
+use Rattle.lwp_table.proofs.KeptLemmas.{own_prev, own_next, all_prev, all_next, own_positive, user_positive, left_empty, IsKept-removed, rows-removed}
 use Rattle.lwp_table.proofs.table.LwpTable.remove.Goals as goal
 
 pub unwrap-slot-requires : goal.unwrap-slot-requires
@@ -18,29 +16,19 @@ unwrap-slot-requires c =
     let there = ap (λ n. lwp_of n (rows_of f es c.self.inside.births)) c.get.ensures.number ∙ ap (λ v. lwp_of c.args.tid v.rows) c.self.view_is ∙ row.1 in
     ap is_some (c.swap_remove.ensures.value ∙ (slot_for f es c.self.inside.births c.self.invariant.indexed c.get.result row.0 there).2)
 
-pub set_link-requires : goal.set_link-requires
-set_link-requires c = own_prev (slot_get c.self.inside.rows) _ _ c.self.inside.all c.self.inside.births c.self.inside.users c.self.invariant c.unwrap-slot.result c.remove-gone.result c.remove-gone.ensures.value (slot_get c.remove-gone.new.self) c.remove-gone.ensures.updates.others
-
-pub set_link-requires-2 : goal.set_link-requires-2
-set_link-requires-2 c =
+pub close_up-requires : goal.close_up-requires
+close_up-requires c =
+    let at = slot_get c.self.inside.rows in
+    let kept = c.self.invariant in
     let gone = c.remove-gone.result in
-    onto (slot_get c.remove-gone.new.self) (slot_get c.set_link.new.slots) (linked NextOwn gone.own.prev gone.own.next) c.set_link.ensures.linked gone.own.next
-    (own_next (slot_get c.self.inside.rows) _ _ c.self.inside.all c.self.inside.births c.self.inside.users c.self.invariant c.unwrap-slot.result gone c.remove-gone.ensures.value (slot_get c.remove-gone.new.self) c.remove-gone.ensures.updates.others)
-
-pub set_link-requires-3 : goal.set_link-requires-3
-set_link-requires-3 c =
-    let gone = c.remove-gone.result in
-    onto (slot_get c.set_link.new.slots) (slot_get c.set_link-2.new.slots) (linked PrevOwn gone.own.next gone.own.prev) c.set_link-2.ensures.linked gone.all.prev
-    (onto (slot_get c.remove-gone.new.self) (slot_get c.set_link.new.slots) (linked NextOwn gone.own.prev gone.own.next) c.set_link.ensures.linked gone.all.prev
-    (all_prev (slot_get c.self.inside.rows) _ _ c.self.inside.all c.self.inside.births c.self.inside.users c.self.invariant c.unwrap-slot.result gone c.remove-gone.ensures.value (slot_get c.remove-gone.new.self) c.remove-gone.ensures.updates.others))
-
-pub set_link-requires-4 : goal.set_link-requires-4
-set_link-requires-4 c =
-    let gone = c.remove-gone.result in
-    onto (slot_get c.set_link-2.new.slots) (slot_get c.set_link-3.new.slots) (linked NextAll gone.all.prev gone.all.next) c.set_link-3.ensures.linked gone.all.next
-    (onto (slot_get c.set_link.new.slots) (slot_get c.set_link-2.new.slots) (linked PrevOwn gone.own.next gone.own.prev) c.set_link-2.ensures.linked gone.all.next
-    (onto (slot_get c.remove-gone.new.self) (slot_get c.set_link.new.slots) (linked NextOwn gone.own.prev gone.own.next) c.set_link.ensures.linked gone.all.next
-    (all_next (slot_get c.self.inside.rows) _ _ c.self.inside.all c.self.inside.births c.self.inside.users c.self.invariant c.unwrap-slot.result gone c.remove-gone.ensures.value (slot_get c.remove-gone.new.self) c.remove-gone.ensures.updates.others)))
+    let others = c.remove-gone.ensures.updates.others in
+    let after = slot_get c.remove-gone.new.self in
+    record {
+      own_prev = own_prev at _ _ c.self.inside.all c.self.inside.births c.self.inside.users kept c.unwrap-slot.result gone c.remove-gone.ensures.value after others;
+      own_next = own_next at _ _ c.self.inside.all c.self.inside.births c.self.inside.users kept c.unwrap-slot.result gone c.remove-gone.ensures.value after others;
+      all_prev = all_prev at _ _ c.self.inside.all c.self.inside.births c.self.inside.users kept c.unwrap-slot.result gone c.remove-gone.ensures.value after others;
+      all_next = all_next at _ _ c.self.inside.all c.self.inside.births c.self.inside.users kept c.unwrap-slot.result gone c.remove-gone.ensures.value after others;
+    }
 
 pub without-requires : goal.without-requires
 without-requires c =
@@ -64,8 +52,8 @@ invariant_of-self c =
     let own = c.ends_of-own.ensures ∙ ap (ends_at c.self.inside.heads.entries) c.get-pid.ensures.number in
     let owner = c.user_place.ensures.place ∙ ap place_of (sym (tid ∙ c.get.ensures.number)) in
     IsKept-removed f _ _ c.self.inside.all c.self.inside.births c.self.inside.users c.self.invariant c.unwrap-slot.result gone
-    (slot_get c.remove-gone.new.self) (slot_get c.set_link.new.slots) (slot_get c.set_link-2.new.slots) (slot_get c.set_link-3.new.slots) (slot_get c.set_link-4.new.slots) c.swap_remove.new.self.entries c.put_ends.new.heads.entries c.without.result c.without-self-inside.result
-    c.remove-gone.ensures.value c.remove-gone.ensures.updates.changed c.remove-gone.ensures.updates.others c.set_link.ensures.linked c.set_link-2.ensures.linked c.set_link-3.ensures.linked c.set_link-4.ensures.linked change
+    (slot_get c.remove-gone.new.self) (slot_get c.close_up.new.slots) c.swap_remove.new.self.entries c.put_ends.new.heads.entries c.without.result c.without-self-inside.result
+    c.remove-gone.ensures.value c.remove-gone.ensures.updates.changed c.remove-gone.ensures.updates.others c.close_up.ensures.closed change
     (λ p. c.put_ends.ensures.ends p ∙ ap (λ n. cond (nat_eq n p) c.without.result (ends_at c.self.inside.heads.entries p)) c.get-pid.ensures.number)
     (c.without.ensures.first ∙ ap (λ (e : Ends). cond (is_none gone.own.prev) gone.own.next e.first) own)
     (c.without.ensures.last ∙ ap (λ (e : Ends). cond (is_none gone.own.next) gone.own.prev e.last) own)
@@ -81,9 +69,9 @@ returns-clause-rows c =
     let es = c.self.inside.slots.entries in
     let rows = rows_of f es c.self.inside.births in
     rw (← c.self.view_is) (rows-removed f _ _ c.self.inside.all c.self.inside.births c.self.inside.users c.self.invariant c.unwrap-slot.result gone
-    (slot_get c.remove-gone.new.self) (slot_get c.set_link.new.slots) (slot_get c.set_link-2.new.slots) (slot_get c.set_link-3.new.slots) (slot_get c.set_link-4.new.slots) c.swap_remove.new.self.entries c.put_ends.new.heads.entries c.without.result c.without-self-inside.result
-    c.remove-gone.ensures.value c.remove-gone.ensures.updates.changed c.remove-gone.ensures.updates.others c.set_link.ensures.linked c.set_link-2.ensures.linked c.set_link-3.ensures.linked c.set_link-4.ensures.linked change
-    ∙ without_row-same gone.row.tid rows (differ f es c.self.inside.births c.self.invariant.indexed) ∙ ap (λ n. without_lwp n rows) (tid ∙ c.get.ensures.number))
+    (slot_get c.remove-gone.new.self) (slot_get c.close_up.new.slots) c.swap_remove.new.self.entries c.put_ends.new.heads.entries c.without.result c.without-self-inside.result
+    c.remove-gone.ensures.value c.remove-gone.ensures.updates.changed c.remove-gone.ensures.updates.others c.close_up.ensures.closed change
+    ∙ ap (λ n. without_lwp n rows) (tid ∙ c.get.ensures.number))
 
 pub put_ends-requires-clause-empty : goal.put_ends-requires-clause-empty
 put_ends-requires-clause-empty c =
@@ -93,8 +81,8 @@ put_ends-requires-clause-empty c =
     let change = subst (λ n. (p : ℕ) → lookup (nat_eq p) c.swap_remove.new.self.entries ≡ cond (nat_eq n p) None (lookup (nat_eq p) c.self.inside.slots.entries)) (sym tid) c.swap_remove.ensures.updates.0 in
     let own = c.ends_of-own.ensures ∙ ap (ends_at c.self.inside.heads.entries) c.get-pid.ensures.number in
     left_empty f _ _ c.self.inside.all c.self.inside.births c.self.inside.users c.self.invariant c.unwrap-slot.result gone
-    (slot_get c.remove-gone.new.self) (slot_get c.set_link.new.slots) (slot_get c.set_link-2.new.slots) (slot_get c.set_link-3.new.slots) (slot_get c.set_link-4.new.slots) c.swap_remove.new.self.entries c.self.inside.heads.entries c.without.result c.self.inside.all
-    c.remove-gone.ensures.value c.remove-gone.ensures.updates.changed c.remove-gone.ensures.updates.others c.set_link.ensures.linked c.set_link-2.ensures.linked c.set_link-3.ensures.linked c.set_link-4.ensures.linked change
+    (slot_get c.remove-gone.new.self) (slot_get c.close_up.new.slots) c.swap_remove.new.self.entries c.self.inside.heads.entries c.without.result c.self.inside.all
+    c.remove-gone.ensures.value c.remove-gone.ensures.updates.changed c.remove-gone.ensures.updates.others c.close_up.ensures.closed change
     (c.without.ensures.first ∙ ap (λ (e : Ends). cond (is_none gone.own.prev) gone.own.next e.first) own)
     (c.without.ensures.last ∙ ap (λ (e : Ends). cond (is_none gone.own.next) gone.own.prev e.last) own)
     (c.without.ensures.count ∙ ap (λ (e : Ends). e.count) own)

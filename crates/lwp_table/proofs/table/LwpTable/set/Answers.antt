@@ -5,9 +5,8 @@ use Rattle.slab.proofs.SlabLemmas.{Updates-with_value}
 use Rattle.lwp_table.specs.declared.links.Slot.{Slot}
 use Rattle.lwp_table.specs.Lwps.{lwp_of}
 use Rattle.lwp_table.specs.Kept.{rows_of}
-use Rattle.lwp_table.proofs.WordLemmas.{with_row-same}
-use Rattle.lwp_table.proofs.IndexLemmas.{differ, slot_for, lwp_of-found}
-use Rattle.lwp_table.proofs.KeptLemmas.{some_and, IsKept-set, rows-set}
+use Rattle.lwp_table.proofs.IndexLemmas.{some_and, slot_for, lwp_of-found}
+use Rattle.lwp_table.proofs.KeptLemmas.{IsKept-set, rows-set}
 use Rattle.lwp_table.proofs.table.LwpTable.set.Goals as goal
 
 pub index-slot-requires : goal.index-slot-requires
@@ -44,4 +43,4 @@ returns-clause-rows c =
     let pid = ap (λ r. r.pid) (same_Some old.row row.0 found) ∙ row.2 in
     let new : Slot = record old { row = c.args.row } in
     let updates = Updates-with_value c.self.inside.rows c.index-slot.result.now new (ap is_some c.index_mut.ensures.value) in
-    rw (← c.self.view_is) (rows-set f c.self.inside.slots.entries c.self.inside.heads.entries c.self.inside.all c.self.inside.births c.self.inside.users c.self.invariant c.args.row c.index-slot.result.now old _ c.index-place.ensures updates.changed updates.others (sym tid) pid ∙ with_row-same c.args.row (rows_of f c.self.inside.slots.entries c.self.inside.births) (differ f c.self.inside.slots.entries c.self.inside.births c.self.invariant.indexed))
+    rw (← c.self.view_is) (rows-set f c.self.inside.slots.entries c.self.inside.heads.entries c.self.inside.all c.self.inside.births c.self.inside.users c.self.invariant c.args.row c.index-slot.result.now old _ c.index-place.ensures updates.changed updates.others (sym tid) pid)

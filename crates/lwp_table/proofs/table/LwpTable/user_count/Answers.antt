@@ -1,4 +1,4 @@
-use Rattle.std.proofs.Common.{ap, ◌∙◌, arith, count_by, ◌-◌, ◌==◌}
+use Rattle.std.proofs.Common.{ap, ◌∙◌, arith, count_by, ◌==◌}
 use Rattle.slab.specs.Slab.{get as slot_get}
 use Rattle.lwp_table.specs.Kept.{rows_of}
 use Rattle.pid_blocks.specs.Blocks.{tid_owner}

@@ -21,7 +21,7 @@ returns-then-is_some c =
     let size = ap (λ b. b.size) c.pid_block-block.ensures.block in
     let above : c.args.after < c.loop-number.number = omega (arith, first, size, c.pid_block-block.ensures.user) in
     let own : InBlock (pid_block c.args.uid) c.loop-number.number = (omega (arith, first), omega (arith, first, size)) in
-    row.1 ∙ sym (next_of-found c.args.uid c.args.after c.loop-number.number row.0 _ up homes there (uid-from_block c.args.uid _ row.0 _ c.pid_block-block.ensures.user homes there own) above c.loop-number.invariant)
+    row.1 ∙ sym (next_of-found c.args.uid c.args.after _ up homes c.loop-number.number row.0 there (uid-from_block c.args.uid _ row.0 _ c.pid_block-block.ensures.user homes there own) above c.loop-number.invariant)
 
 pub returns : goal.returns
 returns c =

@@ -1,12 +1,9 @@
 use Rattle.std.proofs.Common.{◌≡◌, Some, ap, sym, ◌∙◌, is_some, nat_eq}
 use Rattle.std.specs.List.{list_any}
 use Rattle.std.specs.Map.{lookup}
-use Rattle.std.specs.Option.{option_map}
-use Rattle.std.proofs.lemmas.Option.{same_Some}
 use Rattle.slab.specs.Slab.{get, with_value}
 use Rattle.slab.proofs.SlabLemmas.{Updates-with_value}
 use Rattle.proc_table.specs.declared.ProcData.{ProcData}
-use Rattle.proc_table.specs.declared.links.Slot.{Slot}
 use Rattle.proc_table.specs.Processes.{process_of}
 use Rattle.proc_table.specs.Lanes.{pick, chief, rows_of}
 use Rattle.proc_table.proofs.Every.{some_and}
@@ -32,10 +29,8 @@ invariant_of-self c =
     let there = ap (λ v. process_of c.args.row.pid v.rows) c.self.view_is ∙ was.1 in
     let updates = Updates-with_value c.relink_both.new.nodes c.index-slot.result.now c.with_row.result (ap is_some c.index_mut.ensures.value) in
     let number : lookup (nat_eq c.args.row.pid) c.self.inside.slots.entries ≡ Some c.index-slot.result.now = rw c.get.ensures.number at c.index-slot.ensures in
-    let named = c.self.invariant.slotted.stored.named c.args.row.pid c.index-slot.result.now number in
-    let pid = ap (λ (p : ProcData). p.pid) (same_Some c.index.result.now.row named.0 (sym (ap (option_map (λ (x : Slot). x.row)) c.index.ensures) ∙ (c.relink_both.ensures.rows c.index-slot.result.now ∙ named.1))) ∙ named.2 in
     (written (get c.self.inside.nodes) c.self.inside.slots.entries c.self.inside.counts c.self.invariant (get c.relink_both.new.nodes) (get (with_value c.relink_both.new.nodes c.index-slot.result.now c.with_row.result)) c.index-slot.result.now c.args.row
-    c.index.result.now c.index.ensures (updates.changed ∙ ap Some c.with_row.ensures) updates.others number pid _ _ c.tracer_of.ensures c.parent_of.ensures c.relink_both.ensures.laced c.relink_both.ensures.rows c.relink_both.ensures.here
+    c.index.result.now c.index.ensures (updates.changed ∙ ap Some c.with_row.ensures) updates.others number c.relink_both.ensures.rows _ _ c.tracer_of.ensures c.parent_of.ensures c.relink_both.ensures.laced c.relink_both.ensures.here
     c.relink_both.ensures.others was.0 there was.2).0
 
 pub returns-clause-rows : goal.returns-clause-rows
@@ -44,8 +39,6 @@ returns-clause-rows c =
     let there = ap (λ v. process_of c.args.row.pid v.rows) c.self.view_is ∙ was.1 in
     let updates = Updates-with_value c.relink_both.new.nodes c.index-slot.result.now c.with_row.result (ap is_some c.index_mut.ensures.value) in
     let number : lookup (nat_eq c.args.row.pid) c.self.inside.slots.entries ≡ Some c.index-slot.result.now = rw c.get.ensures.number at c.index-slot.ensures in
-    let named = c.self.invariant.slotted.stored.named c.args.row.pid c.index-slot.result.now number in
-    let pid = ap (λ (p : ProcData). p.pid) (same_Some c.index.result.now.row named.0 (sym (ap (option_map (λ (x : Slot). x.row)) c.index.ensures) ∙ (c.relink_both.ensures.rows c.index-slot.result.now ∙ named.1))) ∙ named.2 in
     rw (← c.self.view_is) (written (get c.self.inside.nodes) c.self.inside.slots.entries c.self.inside.counts c.self.invariant (get c.relink_both.new.nodes) (get (with_value c.relink_both.new.nodes c.index-slot.result.now c.with_row.result)) c.index-slot.result.now c.args.row
-    c.index.result.now c.index.ensures (updates.changed ∙ ap Some c.with_row.ensures) updates.others number pid _ _ c.tracer_of.ensures c.parent_of.ensures c.relink_both.ensures.laced c.relink_both.ensures.rows c.relink_both.ensures.here
+    c.index.result.now c.index.ensures (updates.changed ∙ ap Some c.with_row.ensures) updates.others number c.relink_both.ensures.rows _ _ c.tracer_of.ensures c.parent_of.ensures c.relink_both.ensures.laced c.relink_both.ensures.here
     c.relink_both.ensures.others was.0 there was.2).1

@@ -1,55 +1,24 @@
-use Rattle.std.proofs.Common.{◌≡◌, true, refl, sym, subst}
+use Rattle.std.proofs.Common.{refl}
 use Rattle.requests.specs.declared.step.Step.TheVariants as op
-use Rattle.requests.specs.Callers.{Calls, IsCaller}
-use Rattle.requests.specs.Hosts.{machine_of}
-use Rattle.requests.specs.Machine.{Machine}
-use Rattle.requests.specs.Sound.{sound}
-use Rattle.requests.specs.Handle.{handle}
+use Rattle.requests.specs.Hosts.{machine_of, Steps}
 use Rattle.requests.proofs.After.{rows_sound, few_installed}
-use Rattle.requests.proofs.Called.{called, is_caller, caller_live}
-use Rattle.requests.proofs.Finished.{Did, Finished, barred, finished_with, finished_rows}
+use Rattle.requests.proofs.Finished.{host_barred, host_rows}
 use Rattle.requests.proofs.host.Host.handle.Given.{Over}
 use Rattle.requests.proofs.host.Host.handle.Goals as goal
 
-pub returns-in-Err-clause-machine : goal.returns-in-Err-clause-machine
-returns-in-Err-clause-machine g c =
-    let is : sound c.args.self.now ≡ true = rw (← c.self.view_is) c.self.invariant in
-    (barred c.args.user (op.Handle c.args.caller) c.args.self.now c.get-user.ensures.user is refl c.args.caller c.in-Err.refusal refl c.in-Err.ensures.barred).machine
-
-pub returns-in-Err-clause-memory : goal.returns-in-Err-clause-memory
-returns-in-Err-clause-memory g c =
-    let is : sound c.args.self.now ≡ true = rw (← c.self.view_is) c.self.invariant in
-    (barred c.args.user (op.Handle c.args.caller) c.args.self.now c.get-user.ensures.user is refl c.args.caller c.in-Err.refusal refl c.in-Err.ensures.barred).memory
-
-pub returns-in-Err-clause-sound : goal.returns-in-Err-clause-sound
-returns-in-Err-clause-sound g c = rw (← c.self.view_is) c.self.invariant
+pub returns-in-Err : goal.returns-in-Err
+returns-in-Err g c = host_barred c.self.view_is c.requires c.self.invariant refl refl c.in-Err.ensures.barred
 
 pub handle-reply-requires : goal.handle-reply-requires
-handle-reply-requires g c =
-    let m : Machine = machine_of c.self.inside.settings c.self.inside.tables c.self.inside.handlers in
-    let is = rows_sound m c.self.invariant in
-    (c.type_bounds.send-F, (is, few_installed m c.self.invariant c.args.user c.get-user.ensures.user))
+handle-reply-requires g c = (c.type_bounds.send-F, (rows_sound (machine_of c.self.inside.settings c.self.inside.tables c.self.inside.handlers) c.self.invariant, few_installed (machine_of c.self.inside.settings c.self.inside.tables c.self.inside.handlers) c.self.invariant c.args.user c.requires))
 
-done : (g : Over) (c : goal.After-drop_ended g) → Finished c.args.user (op.Handle c.args.caller) (machine_of c.self.inside.settings c.self.inside.tables c.self.inside.handlers)
+done : (g : Over) (c : goal.After-drop_ended g) → Steps c.args.user (op.Handle c.args.caller) (machine_of c.self.inside.settings c.self.inside.tables c.self.inside.handlers)
     (machine_of c.self.inside.settings c.handle-reply.new.tables c.drop_ended.new.self) c.handle-reply.result
-done g c =
-    let m : Machine = machine_of c.self.inside.settings c.self.inside.tables c.self.inside.handlers in
-    let by : Calls c.args.user c.args.caller m.rows c.in-Ok.caller = subst (λ x. Calls c.args.user c.args.caller x.rows c.in-Ok.caller) (sym c.self.view_is) c.in-Ok.ensures.found in
-    finished_rows c.args.user (op.Handle c.args.caller) m c.get-user.ensures.user c.self.invariant refl (handle c.args.user c.in-Ok.caller m) c.handle-reply.new.tables.rows c.drop_ended.new.self c.handle-reply.result c.drop_ended.ensures
-    (called c.args.user c.args.caller (op.Handle c.args.caller) m refl c.in-Ok.caller by.seen by.live by.runs)
+done g c = host_rows c.self.view_is c.requires c.self.invariant c.in-Ok.ensures.found refl refl refl c.drop_ended.ensures
     c.handle-reply.ensures.rows c.handle-reply.ensures.reply
 
 pub invariant_of-self : goal.invariant_of-self
 invariant_of-self g c = (done g c).sound
 
-pub returns-clause-machine : goal.returns-clause-machine
-returns-clause-machine g c = rw (← c.self.view_is) (done g c).machine
-
-pub returns-clause-memory : goal.returns-clause-memory
-returns-clause-memory g c = rw (← c.self.view_is) (done g c).memory
-
-pub returns-clause-refused : goal.returns-clause-refused
-returns-clause-refused g c = rw (← c.self.view_is) (done g c).refused
-
-pub returns-clause-sound : goal.returns-clause-sound
-returns-clause-sound g c = (done g c).sound
+pub returns : goal.returns
+returns g c = rw (← c.self.view_is) (done g c)

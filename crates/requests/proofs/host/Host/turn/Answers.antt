@@ -1,34 +1,24 @@
-use Rattle.std.proofs.Common.{◌≡◌, refl, ap, ◌∙◌, sym}
+use Rattle.std.proofs.Common.{refl}
 use Rattle.requests.specs.declared.step.Step.TheVariants as op
-use Rattle.requests.specs.Hosts.{machine_of}
-use Rattle.requests.specs.Machine.{Machine}
+use Rattle.requests.specs.Hosts.{machine_of, Steps}
 use Rattle.requests.specs.Turn.{turn}
 use Rattle.requests.proofs.After.{rows_sound}
-use Rattle.requests.proofs.Finished.{Did, Finished, finished_with}
+use Rattle.requests.proofs.Finished.{finished_with}
 use Rattle.requests.proofs.host.Host.turn.Given.{Over}
 use Rattle.requests.proofs.host.Host.turn.Goals as goal
 
 pub turn-reply-requires : goal.turn-reply-requires
 turn-reply-requires g c = record { sound = rows_sound (machine_of c.self.inside.settings c.self.inside.tables c.self.inside.handlers) c.self.invariant }
 
-done : (g : Over) (c : goal.After-drop_ended g) → Finished c.args.user (op.Turn c.args.tid c.args.act) (machine_of c.self.inside.settings c.self.inside.tables c.self.inside.handlers)
+done : (g : Over) (c : goal.After-drop_ended g) → Steps c.args.user (op.Turn c.args.tid c.args.act) (machine_of c.self.inside.settings c.self.inside.tables c.self.inside.handlers)
     (machine_of c.self.inside.settings c.turn-reply.new.tables c.drop_ended.new.self) c.turn-reply.result
 done g c =
-    let m : Machine = machine_of c.self.inside.settings c.self.inside.tables c.self.inside.handlers in
-    finished_with c.args.user (op.Turn c.args.tid c.args.act) m c.get-user.ensures.user c.self.invariant c.exit_fits.ensures (turn m.settings c.args.user c.args.tid c.args.act m.rows) c.turn-reply.new.tables.rows c.drop_ended.new.self c.turn-reply.result c.drop_ended.ensures refl
+    let h = machine_of c.self.inside.settings c.self.inside.tables c.self.inside.handlers in
+    finished_with c.args.user (op.Turn c.args.tid c.args.act) h c.requires c.self.invariant c.exit_fits.ensures (turn h.settings c.args.user c.args.tid c.args.act h.rows) _ _ _ c.drop_ended.ensures refl
     (record { machine = c.turn-reply.ensures.machine; memory = c.turn-reply.ensures.memory })
 
 pub invariant_of-self : goal.invariant_of-self
 invariant_of-self g c = (done g c).sound
 
-pub returns-clause-machine : goal.returns-clause-machine
-returns-clause-machine g c = rw (← c.self.view_is) (done g c).machine
-
-pub returns-clause-memory : goal.returns-clause-memory
-returns-clause-memory g c = rw (← c.self.view_is) (done g c).memory
-
-pub returns-clause-refused : goal.returns-clause-refused
-returns-clause-refused g c = rw (← c.self.view_is) (done g c).refused
-
-pub returns-clause-sound : goal.returns-clause-sound
-returns-clause-sound g c = (done g c).sound
+pub returns : goal.returns
+returns g c = rw (← c.self.view_is) (done g c)

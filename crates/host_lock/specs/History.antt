@@ -1,0 +1,11 @@
+-- What lies in the slot, as plain data: the rows at opening, and the journal. The host's rows are its replay.
+use Rattle.std.specs.Prelude.{List}
+use Rattle.requests.specs.Machine.{Machine}
+use Rattle.host_lock.specs.declared.journal.Entry.{Entry}
+
+pub record History : Type 0 where
+  pub start : Machine
+  pub log : List Entry
+
+abbrev pub history : Machine → List Entry → History
+history h log = record { start = h; log = log }

@@ -1,0 +1,93 @@
+//! What lies in the slot.
+
+ghost use Rattle.std.specs.Prelude.{◌≡◌, ℕ, [], ◌∷◌, ◌++◌, List, true, false, IfSome, IfNone};
+ghost use Rattle.requests.specs.Isolation.{reply_of, host_after};
+ghost use Rattle.requests.specs.Memory.{is_memory};
+ghost use Rattle.host_lock.specs.Journal.{replay, entry, IsLegal};
+ghost use Rattle.host_lock.specs.History.{history};
+
+use crate::journal::{Entry, Journal};
+use pid_blocks::{Errno, Uid};
+use requests::{Host, Reply, Step};
+use std::alloc::Global;
+use std::marker::Model;
+use std::snapshot::Snapshot;
+use stop_handlers::{Decider, Handler};
+
+/// The host, the journal, and the host at opening, which clauses alone see. The journal is legal from there, and the host is its
+/// replay.
+#[derive(Drop)]
+pub struct SharedState<F: Decider + Send + Drop> {
+    pub(crate) host: Host<F>,
+    pub(crate) journal: Journal,
+    pub(crate) start: Snapshot<Host<F>>,
+}
+
+impl<F: Decider + Send + Drop> Model for SharedState<F> {
+    ghost use Rattle.std.specs.Prelude.{◌≡◌, List};
+    ghost use Rattle.host_lock.specs.History.{History};
+    ghost use Rattle.host_lock.specs.Journal.{asked, replay, IsLegal};
+    ghost use Rattle.requests.specs.Isolation.{Users};
+
+    ghost Value = { History };
+
+    ghost view = { λ h. record { start = h.start.value; log = h.journal } };
+
+    ghost invariant = { λ h. IsLegal h.start.value h.journal × (h.host ≡ replay h.start.value h.journal) × Users (asked h.journal) };
+}
+
+/// Makes a step on the host, and answers the reply with a copy of it. None where memory ran out: the host is as it was.
+fn answered<F: Decider + Send + Drop>(
+    host: &mut Host<F>,
+    alloc: Global,
+    user: Uid,
+    step: Step<Handler<F>>,
+) -> Option<(Reply, Reply)>
+    ensures made { IfSome result (λ r. (is_memory r.0 ≡ false) × (r.1 ≡ r.0)
+        × (r.0 ≡ reply_of user step host.old) × (host.new ≡ host_after user step host.old)) }
+    ensures memory { IfNone result (host.new ≡ host.old) }
+{
+    host.kept();
+    let reply = host.step(alloc, user, step);
+    if reply.is_memory() {
+        return None;
+    }
+    match reply.copy(alloc) {
+        Ok(copy) => Some((reply, copy)),
+        Err(_) => None,
+    }
+}
+
+impl<F: Decider + Send + Drop> SharedState<F> {
+    /// Makes a step, and adds it to the journal. Where memory runs out all is as before.
+    pub(crate) fn make(
+        &mut self,
+        alloc: Global,
+        user: Uid,
+        session: usize,
+        step: Step<Handler<F>>,
+    ) -> Reply
+        ensures made { is_memory result ≡ false →
+            (result ≡ reply_of user step (replay self.old.start self.old.log))
+            × (self.new ≡ history self.old.start (self.old.log ++ entry user session step result ∷ [])) }
+        ensures legal { IsLegal self.new.start self.new.log }
+        ensures memory { is_memory result ≡ true → self.new ≡ self.old }
+    {
+        let _number = user.get();
+        let SharedState { host, journal, .. } = self;
+        if journal.entries.reserve(1).is_err() {
+            return Reply::Errno(Errno::ENOMEM);
+        }
+        let plain = step.plain();
+        let Some((reply, copy)) = answered(host, alloc, user, step) else {
+            return Reply::Errno(Errno::ENOMEM);
+        };
+        journal.entries.push_reserved(Entry {
+            uid: user,
+            session,
+            step: plain,
+            reply: copy,
+        });
+        reply
+    }
+}

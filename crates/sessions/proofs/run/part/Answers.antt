@@ -1,0 +1,25 @@
+use Rattle.std.proofs.Common.{rules, ◌≡◌, ◌+◌, [], ◌∷◌, ◌++◌, List, vec_len, sym, ap, ◌∙◌, arith}
+use Rattle.sessions.specs.declared.job.Done.{Done}
+use Rattle.sessions.specs.Jobs.{done_session, done_transcript}
+use Rattle.sessions.proofs.Scripts.{next_step}
+use Rattle.sessions.proofs.Pairing.{map_snoc}
+use Rattle.sessions.proofs.run.part.Goals as goal
+
+pub loop-one-preserved : goal.loop-one-preserved
+loop-one-preserved c =
+    let inv = c.loop-one.invariant in
+    let past : List Done = inv.0 in
+    let one : Done = c.in-Some.one in
+    let popped : c.loop-one.done.items ≡ c.pop.new.self.items ++ one ∷ [] = search rules in
+    let less : vec_len c.pop.new.self + 1 ≡ vec_len c.loop-one.done = search rules in
+    let pushed = c.push_reserved.ensures.len in
+    let room = c.push_reserved.ensures.capacity in
+    let pushed' = c.push_reserved-in-Some.ensures.len in
+    let room' = c.push_reserved-in-Some.ensures.capacity in (
+      past ++ one ∷ [],
+      next_step c.args.done.items past c.loop-one.done.items c.pop.new.self.items one inv.1 popped,
+      c.push_reserved-in-Some.ensures.items ∙ sym (map_snoc done_session past _ one c.loop-one.sessions.items one.session (λ i. past ++ one ∷ []) (sym inv.2) (λ i. one.session)),
+      c.push_reserved.ensures.items ∙ ap (λ u. c.loop-one.transcripts.items ++ record { uid = u; replies = one.replies } ∷ []) c.uid.ensures ∙ sym (map_snoc done_transcript past _ one c.loop-one.transcripts.items (done_transcript one) (λ i. past ++ one ∷ []) (sym inv.3) (λ i. done_transcript one)),
+      omega arith,
+      omega arith,
+    )

@@ -1,0 +1,145 @@
+//! What a run takes before its first worker starts.
+
+ghost use Rattle.std.specs.Prelude.{◌≡◌, ◌<◌, ◌≤◌, length, map, vec_len, All, IfOk};
+ghost use Rattle.host_lock.specs.Limits.{most_sessions};
+ghost use Rattle.host_lock.specs.Rule.{Each};
+ghost use Rattle.host_lock.specs.Sessions.{IsOpenable, new_sessions};
+ghost use Rattle.sessions.specs.Jobs.{HasRoom, HasRoomFor, job_session, job_steps};
+ghost use Rattle.sessions.specs.Runs.{IsShort, uid_of, steps_of};
+
+use crate::job::{Done, Job};
+use crate::script::{Script, Transcript};
+use crate::worker::reversed;
+use host_lock::{Session, SharedHost};
+use pid_blocks::Uid;
+use requests::Host;
+use std::alloc::{AllocError, Global};
+use stop_handlers::Decider;
+
+/// Room for what the workers give back.
+#[derive(Drop)]
+pub(crate) struct Room {
+    pub done: Vec<Done>,
+    pub sessions: Vec<Session>,
+    pub transcripts: Vec<Transcript>,
+}
+
+/// An open host, and its sessions.
+struct Opened<F: Decider + Send + Drop> {
+    host: SharedHost<F>,
+    sessions: Vec<Session>,
+}
+
+/// An open host, a job for each script, and room for what comes of them.
+pub(crate) struct Ready<F: Decider + Send + Drop> {
+    pub host: SharedHost<F>,
+    pub jobs: Vec<Job<F>>,
+    pub room: Room,
+}
+
+/// Opens the host and takes all memory that the run itself takes.
+pub(crate) fn prepare<F: Decider + Send + Drop>(
+    alloc: Global,
+    host: Host<F>,
+    scripts: Vec<Script<F>>,
+) -> Result<Ready<F>, AllocError>
+    requires some_script { (0 < vec_len scripts) × (vec_len scripts ≤ most_sessions) }
+    ensures host { IfOk result (λ r. (r.host.start ≡ host) × (r.host.sessions ≡ vec_len scripts)) }
+    ensures sessions { IfOk result (λ r. map job_session r.jobs.items ≡ new_sessions 0 r.host.id host (map uid_of scripts.items)) }
+    ensures steps { IfOk result (λ r. map job_steps r.jobs.items ≡ map steps_of scripts.items) }
+    ensures jobs { IfOk result (λ r. Each HasRoom r.jobs.items) }
+    ensures done { IfOk result (λ r. HasRoomFor (vec_len scripts) r.room.done) }
+    ensures sessions_room { IfOk result (λ r. HasRoomFor (vec_len scripts) r.room.sessions) }
+    ensures transcripts_room { IfOk result (λ r. HasRoomFor (vec_len scripts) r.room.transcripts) }
+{
+    let room = room_for(alloc, scripts.len())?;
+    let opened = open_for(alloc, host, scripts.as_slice())?;
+    let Opened { host, sessions } = opened;
+    let jobs = pair(alloc, sessions, scripts)?;
+    Ok(Ready { host, jobs, room })
+}
+
+/// Room for so many scripts.
+fn room_for(alloc: Global, count: usize) -> Result<Room, AllocError>
+    ensures done { IfOk result (λ r. HasRoomFor count r.done) }
+    ensures sessions { IfOk result (λ r. HasRoomFor count r.sessions) }
+    ensures transcripts { IfOk result (λ r. HasRoomFor count r.transcripts) }
+{
+    let done = Vec::with_capacity(alloc, count)?;
+    let sessions = Vec::with_capacity(alloc, count)?;
+    let transcripts = Vec::with_capacity(alloc, count)?;
+    Ok(Room {
+        done,
+        sessions,
+        transcripts,
+    })
+}
+
+/// Opens the host for the scripts' users.
+fn open_for<F: Decider + Send + Drop>(
+    alloc: Global,
+    host: Host<F>,
+    scripts: &[Script<F>],
+) -> Result<Opened<F>, AllocError>
+    requires { IsOpenable (map uid_of scripts.now) }
+    ensures host { IfOk result (λ o. (o.host.start ≡ host) × (o.host.sessions ≡ length scripts.now)) }
+    ensures sessions { IfOk result (λ o. o.sessions.items ≡ new_sessions 0 o.host.id host (map uid_of scripts.now)) }
+{
+    let uids = uids_of(alloc, scripts)?;
+    match SharedHost::open(alloc, host, uids.as_slice()) {
+        Ok((host, sessions)) => Ok(Opened { host, sessions }),
+        Err(_) => Err(AllocError),
+    }
+}
+
+fn uids_of<F: Decider + Send + Drop>(
+    alloc: Global,
+    scripts: &[Script<F>],
+) -> Result<Vec<Uid>, AllocError>
+    ensures { IfOk result (λ v. v.items ≡ map uid_of scripts.now) }
+{
+    let mut uids = Vec::with_capacity(alloc, scripts.len())?;
+    for script in scripts {
+        uids.push(script.uid)?;
+    }
+    Ok(uids)
+}
+
+/// Each session with its script, and room for the replies.
+fn pair<F: Decider + Send + Drop>(
+    alloc: Global,
+    sessions: Vec<Session>,
+    scripts: Vec<Script<F>>,
+) -> Result<Vec<Job<F>>, AllocError>
+    requires { length sessions.items ≡ length scripts.items }
+    ensures sessions { IfOk result (λ v. map job_session v.items ≡ sessions.items) }
+    ensures steps { IfOk result (λ v. map job_steps v.items ≡ map steps_of scripts.items) }
+    ensures jobs { IfOk result (λ v. Each HasRoom v.items) }
+{
+    let mut jobs = Vec::with_capacity(alloc, scripts.len())?;
+    let mut sessions = reversed(sessions);
+    let mut scripts = reversed(scripts);
+    while let Some(script) = scripts.pop() {
+        let Some(session) = sessions.pop() else {
+            unreachable!()
+        };
+        jobs.push_reserved(job(alloc, session, script)?);
+    }
+    Ok(jobs)
+}
+
+fn job<F: Decider + Send + Drop>(
+    alloc: Global,
+    session: Session,
+    script: Script<F>,
+) -> Result<Job<F>, AllocError>
+    ensures { IfOk result (λ j. (j.session ≡ session) × (j.steps ≡ script.steps) × HasRoom j) }
+{
+    let Script { uid: _, steps } = script;
+    let replies = Vec::with_capacity(alloc, steps.len())?;
+    Ok(Job {
+        session,
+        steps,
+        replies,
+    })
+}

@@ -1,0 +1,115 @@
+//! Scripts of many users, run at the same time on one host.
+ghost use Rattle.std.specs.Prelude.{◌≡◌, ◌≤◌, [], map, vec_len, All, IfOk, IfErr, OnOk};
+ghost use Rattle.requests.specs.Isolation.{Users};
+ghost use Rattle.host_lock.specs.Journal.{asked, IsLegal, replay};
+ghost use Rattle.host_lock.specs.Limits.{most_sessions};
+ghost use Rattle.host_lock.specs.Sessions.{IsBelow};
+ghost use Rattle.sessions.specs.Jobs.{HasRoomFor, done_session, done_transcript};
+ghost use Rattle.sessions.specs.Runs.{IsShort, AllPlay, OwnEntries, RefusesFor};
+
+use crate::job::Done;
+use crate::ready::{Ready, Room, prepare};
+use crate::script::{Gate, RunRefusal, Script, Transcript};
+use crate::worker::reversed;
+use crate::workers::run_all;
+use host_lock::{Journal, MOST_SESSIONS, Session};
+use requests::Host;
+use std::alloc::Global;
+use std::sync::Wait;
+use std::thread::Threads;
+use stop_handlers::Decider;
+
+/// Runs each script by a session in a thread of its own, all at the same time, and waits for their end. A user may have several scripts.
+///
+/// The answer has the host, the journal, where a script's place is its session's number, and a transcript for each script.
+///
+/// # Errors
+///
+/// `TooMany` where there are more scripts than a host may have sessions, `Memory` where memory ran out before the first worker began,
+/// `Start` where a thread could not be started. The host is dropped.
+pub fn run_sessions<F: Decider + Send + Drop, G: Gate, R: Threads + Wait + Sync>(
+    rt: &R,
+    alloc: Global,
+    host: Host<F>,
+    scripts: Vec<Script<F>>,
+    gate: &G,
+) -> Result<(Host<F>, Journal, Vec<Transcript>), RunRefusal>
+    requires { All IsShort scripts.items }
+    ensures legal { IfOk result (λ r. IsLegal host r.1) }
+    ensures host { IfOk result (λ r. r.0 ≡ replay host r.1) }
+    ensures entries { IfOk result (λ r. All (IsBelow (vec_len scripts)) r.1) }
+    ensures transcripts { IfOk result (λ r. AllPlay r.1 scripts.items r.2.items) }
+    ensures own { IfOk result (λ r. OwnEntries host r.1) }
+    ensures none { IfOk result (λ r. vec_len scripts ≡ 0 → (r.0 ≡ host) × (r.1 ≡ [])) }
+    ensures few { OnOk result (vec_len scripts ≤ most_sessions) }
+    ensures refuses { IfErr result (RefusesFor (vec_len scripts)) }
+{
+    host.kept();
+    play(rt, alloc, host, scripts, gate)
+}
+
+/// Opens the host, runs the scripts, and closes it.
+fn play<F: Decider + Send + Drop, G: Gate, R: Threads + Wait + Sync>(
+    rt: &R,
+    alloc: Global,
+    host: Host<F>,
+    scripts: Vec<Script<F>>,
+    gate: &G,
+) -> Result<(Host<F>, Journal, Vec<Transcript>), RunRefusal>
+    requires { All IsShort scripts.items }
+    ensures legal { IfOk result (λ r. IsLegal host r.1) }
+    ensures users { IfOk result (λ r. Users (asked r.1)) }
+    ensures host { IfOk result (λ r. r.0 ≡ replay host r.1) }
+    ensures entries { IfOk result (λ r. All (IsBelow (vec_len scripts)) r.1) }
+    ensures transcripts { IfOk result (λ r. AllPlay r.1 scripts.items r.2.items) }
+    ensures none { IfOk result (λ r. vec_len scripts ≡ 0 → (r.0 ≡ host) × (r.1 ≡ [])) }
+    ensures few { OnOk result (vec_len scripts ≤ most_sessions) }
+    ensures refuses { IfErr result (RefusesFor (vec_len scripts)) }
+{
+    if scripts.len() > MOST_SESSIONS {
+        return Err(RunRefusal::TooMany);
+    }
+    if scripts.is_empty() {
+        return Ok((host, Journal::empty(alloc), Vec::new(alloc)));
+    }
+    let Ok(ready) = prepare(alloc, host, scripts) else {
+        return Err(RunRefusal::Memory);
+    };
+    let Ready { host, jobs, room } = ready;
+    let Room {
+        done,
+        sessions,
+        transcripts,
+    } = room;
+    let Some(done) = run_all(rt, alloc, &host, jobs, done, gate) else {
+        return Err(RunRefusal::Start);
+    };
+    let (sessions, transcripts) = part(done, sessions, transcripts);
+    match host.close(sessions) {
+        Ok((host, journal)) => Ok((host, journal, transcripts)),
+        Err(_) => unreachable!(),
+    }
+}
+
+/// The sessions apart from the transcripts.
+fn part(
+    done: Vec<Done>,
+    mut sessions: Vec<Session>,
+    mut transcripts: Vec<Transcript>,
+) -> (Vec<Session>, Vec<Transcript>)
+    requires sessions { HasRoomFor (vec_len done) sessions }
+    requires transcripts { HasRoomFor (vec_len done) transcripts }
+    ensures sessions { result.0.items ≡ map done_session done.items }
+    ensures transcripts { result.1.items ≡ map done_transcript done.items }
+{
+    let mut done = reversed(done);
+    while let Some(one) = done.pop() {
+        let Done { session, replies } = one;
+        transcripts.push_reserved(Transcript {
+            uid: session.uid(),
+            replies,
+        });
+        sessions.push_reserved(session);
+    }
+    (sessions, transcripts)
+}

@@ -1,0 +1,54 @@
+//! One worker.
+
+ghost use Rattle.std.specs.Prelude.{◌≡◌, ◌≤◌, [], map, reverse, vec_len};
+ghost use Rattle.host_lock.specs.Limits.{most_calls};
+ghost use Rattle.host_lock.specs.Sessions.{IsOf};
+ghost use Rattle.sessions.specs.Jobs.{HasRoomFor};
+ghost use Rattle.sessions.specs.Made.{Did};
+
+use crate::job::Done;
+use crate::script::Gate;
+use host_lock::{Answer, Session, SharedHost};
+use requests::{Reply, Step};
+use std::alloc::Global;
+use std::sync::Wait;
+use stop_handlers::{Decider, Handler};
+
+/// Makes the steps of a script, in order. The replies have room.
+pub(crate) fn work<F: Decider + Send + Drop, G: Gate, R: Wait>(
+    rt: &R,
+    alloc: Global,
+    host: &SharedHost<F>,
+    mut session: Session,
+    steps: Vec<Step<Handler<F>>>,
+    mut replies: Vec<Reply>,
+    gate: &G,
+) -> Done
+    requires of { IsOf host.now session }
+    requires fresh { (session.calls ≡ 0) × (session.mine ≡ []) }
+    requires few { vec_len steps ≤ most_calls }
+    requires room { HasRoomFor (vec_len steps) replies }
+    ensures { Did session steps.items result.replies.items result.session }
+{
+    let uid = session.uid();
+    let mut steps = reversed(steps);
+    while let Some(step) = steps.pop() {
+        let index = session.calls_made() + 1;
+        gate.before(uid, index);
+        let Answer::Reply(reply) = host.call(rt, alloc, &mut session, step) else {
+            unreachable!()
+        };
+        replies.push_reserved(reply);
+        gate.after(uid, index);
+    }
+    Done { session, replies }
+}
+
+/// The same, from the last on.
+pub(crate) fn reversed<T>(mut items: Vec<T>) -> Vec<T>
+    ensures items { result.items ≡ reverse items.items }
+    ensures len { vec_len result ≡ vec_len items }
+{
+    items.as_mut_slice().reverse();
+    items
+}

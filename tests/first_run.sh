@@ -1,0 +1,72 @@
+#!/usr/bin/env bash
+# What a first ./tracehost says while it proves and builds, with a stand-in for rt that proves nothing: each crate once, after
+# all below it; where one fails; and that an interrupted run goes on where it was.
+set -uo pipefail
+top=$(cd "$(dirname "$(readlink -f "${BASH_SOURCE[0]}")")/.." && pwd)
+room=$(mktemp -d)
+trap 'rm -rf "$room"' EXIT
+failed=0
+wrong() {
+  echo "FAILED: $1"
+  failed=1
+}
+
+# a copy without what was built, and the stand-in: it notes its calls, and fails in the crate that FAILS names
+mkdir "$room/copy" "$room/bin"
+(cd "$top" && git ls-files -z | xargs -0 cp --parents -t "$room/copy")
+cat >"$room/bin/rt" <<'STAND_IN'
+#!/usr/bin/env bash
+crate=$(basename "$PWD")
+echo "$1 $crate" >>"$CALLS"
+case $1 in
+  check)
+    echo "so far: 0 of 2 functions checked; the verdict comes last"
+    sleep "${PAUSE:-0.05}"
+    [ "$crate" != "${FAILS:-}" ] || { echo "error: not proved"; exit 1; }
+    echo "checked $crate::one, 1 of 2"
+    echo "checked $crate::two, 2 of 2" ;;
+  lib) mkdir -p out/rlib && touch out/rlib/stamp ;;
+  run)
+    printf '#!/bin/sh\necho "ran $*"\n' >out/tracehost
+    chmod +x out/tracehost ;;
+esac
+STAND_IN
+chmod +x "$room/bin/rt"
+export PATH=$room/bin:$PATH CALLS=$room/calls
+cd "$room/copy" || exit 1
+
+# a crate that fails: its log's end, and the status
+FAILS=wait4 ./tracehost some.json >"$room/out" 2>"$room/err"
+[ $? -eq 1 ] || wrong "a failed proof doesn't end with status 1"
+grep -q '^error: not proved$' "$room/err" || wrong "the failed proof isn't told"
+grep -q 'wait4 is not proved' "$room/err" || wrong "the failed crate isn't named"
+
+# the next call goes on: what was proved is checked no more, and every crate is told once
+grep '^lib ' "$CALLS" | sort >"$room/first"
+: >"$CALLS"
+./tracehost some.json --user 1001 >"$room/out" 2>"$room/err"
+[ $? -eq 0 ] || wrong "the run after a failed one doesn't end with status 0"
+[ "$(cat "$room/out")" = "ran some.json --user 1001" ] || wrong "the program isn't run with the arguments"
+sed -n 's/^check //p' "$CALLS" | sort >"$room/again"
+sed 's/^lib //' "$room/first" | comm -12 - "$room/again" | grep . && wrong "these are proved twice"
+crates=$(grep -c ' is proved (' "$room/err")
+grep -q "$crates of $crates crates, 100% of the work" "$room/err" || wrong "the last line isn't that of the whole work"
+[ "$(sed -n 's/.*tracehost: \([a-z_0-9]*\) is proved.*/\1/p' "$room/err" | sort | uniq -d | wc -l)" -eq 0 ] || wrong "a crate is told twice"
+
+# each crate comes after all that it stands on
+sed -n 's/.*tracehost: \([a-z_0-9]*\) is proved.*/\1/p' "$room/err" >"$room/order"
+while IFS=: read -r name uses; do
+  at=$(grep -nx "${name%% *}" "$room/order" | cut -d: -f1)
+  for use in $uses; do
+    below=$(grep -nx "$use" "$room/order" | cut -d: -f1)
+    [ -z "$at" ] || [ -z "$below" ] || [ "$below" -lt "$at" ] || wrong "$name is told before $use"
+  done
+done < <(grep -v '^#' crates.txt)
+
+# an interrupt
+rm -rf crates/*/out
+PAUSE=5 timeout --signal INT 1 python3 tools/first_run.py 2>"$room/err"
+grep -q 'interrupted; the next call goes on from here' "$room/err" || wrong "an interrupt isn't told"
+
+[ "$failed" -eq 0 ] && echo "a first run of $crates crates, one that fails and one that is interrupted: as wanted"
+exit "$failed"
