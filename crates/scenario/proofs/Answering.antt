@@ -3,35 +3,20 @@ use Rattle.std.proofs.Common.{◌≡◌, List, ℕ, Result, Ok, Err, Option, Som
 use Rattle.std.proofs.lemmas.List.{length-append, append_assoc}
 use Rattle.std.specs.Io.KnownBytes.{Consumes}
 use Rattle.scenario.specs.declared.fault.Fault.{Fault}
-use Rattle.scenario.specs.declared.fault.Fault.TheVariants.{Read, TooLong, BadJson, TooManySteps, BadShape, BadUser, BadName, BadNumber, TooManyRules, Memory}
+use Rattle.scenario.specs.declared.fault.Fault.TheVariants.{Read, TooLong, BadJson, Memory}
 use Rattle.scenario.specs.Plan.{Plan}
 use Rattle.scenario.specs.Scenarios.{plan_of, most_bytes, StandsFor, too_long, no_value, value, Answers, Yields, Tells, IsFront, Takes}
 
 pub answers_of : (P : Result Plan Fault → Type 0) (plan r : Result Plan Fault) → Yields (λ s. s) r plan → P plan → Answers r P
-answers_of P plan (Ok s) y p = subst P y p
 answers_of P plan (Err Memory) y p = tt
-answers_of P plan (Err Read) y p = subst P y p
-answers_of P plan (Err TooLong) y p = subst P y p
-answers_of P plan (Err BadJson) y p = subst P y p
-answers_of P plan (Err TooManySteps) y p = subst P y p
-answers_of P plan (Err (BadShape n)) y p = subst P y p
-answers_of P plan (Err (BadUser n)) y p = subst P y p
-answers_of P plan (Err (BadName n)) y p = subst P y p
-answers_of P plan (Err (BadNumber n)) y p = subst P y p
-answers_of P plan (Err (TooManyRules n)) y p = subst P y p
+answers_of P plan (Ok s) y p = subst P y p
+answers_of P plan (Err e) y p = subst P y p
 
 pub weaker_answers : (P Q : Result Plan Fault → Type 0) (r : Result Plan Fault) → ((q : Result Plan Fault) → P q → Q q) → Answers r P → Tells r Q
 weaker_answers P Q (Ok s) f a = f (Ok s) a
 weaker_answers P Q (Err Memory) f a = tt
 weaker_answers P Q (Err Read) f a = tt
-weaker_answers P Q (Err TooLong) f a = f (Err TooLong) a
-weaker_answers P Q (Err BadJson) f a = f (Err BadJson) a
-weaker_answers P Q (Err TooManySteps) f a = f (Err TooManySteps) a
-weaker_answers P Q (Err (BadShape n)) f a = f (Err (BadShape n)) a
-weaker_answers P Q (Err (BadUser n)) f a = f (Err (BadUser n)) a
-weaker_answers P Q (Err (BadName n)) f a = f (Err (BadName n)) a
-weaker_answers P Q (Err (BadNumber n)) f a = f (Err (BadNumber n)) a
-weaker_answers P Q (Err (TooManyRules n)) f a = f (Err (TooManyRules n)) a
+weaker_answers P Q (Err e) f a = f (Err e) a
 
 -- what a long front has, the whole has
 longer : (bytes rest input : List ℕ) (q : Result Plan Fault) → most_bytes < length bytes → input ≡ bytes ++ rest → StandsFor bytes q → StandsFor input q

@@ -1,7 +1,8 @@
-use crate::{Fault, parse};
+use crate::{Fault, Scenario, handlers_of, parse, policies};
 use std::alloc::Global;
 use std::process::Abort;
 use std::test::Fail;
+use stop_handlers::{ByPolicy, Handler, Policy};
 
 mod acts;
 mod arrays;
@@ -38,6 +39,16 @@ const SESSION: &str = "{\"steps\":[
 {\"user\":1001,\"op\":\"handle\",\"caller\":1000},
 {\"user\":1001,\"op\":\"turn\",\"lwp\":100001,\"act\":\"leave\"}
 ]}";
+
+/// A handler for each of the scenario's policies, which answers by it.
+fn handlers_by_policy(alloc: Global, scenario: &Scenario) -> Result<Vec<Handler<ByPolicy>>, Fail> {
+    let policies = policies(alloc, scenario)?;
+    Ok(handlers_of(
+        alloc,
+        policies.as_slice(),
+        |policy: Policy| ByPolicy(policy),
+    )?)
+}
 
 /// The fault of a scenario whose second step is user 1001's and has this op with what follows it.
 fn fault_of(alloc: Global, op: &str) -> Result<Option<Fault>, Fail> {

@@ -1,7 +1,6 @@
 //! The steps of one user, by a fixed rule.
 
 use crate::dice::Dice;
-use crate::replay::step_of;
 use event_masks::{Call, StopFlags};
 use lwp_table::{LwpData, Mode};
 use pid_blocks::{Pid, Uid, pid_block, tid_block};
@@ -87,7 +86,7 @@ impl Writer {
     /// The next step.
     fn next(&mut self, alloc: Global) -> PlainStep {
         let step = self.made_up();
-        let (user, asked) = (self.user, step_of(&step));
+        let (user, asked) = (self.user, step.by_policy());
         let _reply = self.host.step(alloc, user, asked);
         step
     }

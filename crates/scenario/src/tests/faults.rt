@@ -34,6 +34,11 @@ fn faults(rt: HostRuntime) -> Result<(), Fail> {
         let found = format!(in rt.alloc(); "{fault} ({})", fault.status())?;
         assert!(rt; found.as_str() == want, "{found}");
     }
+    Ok(())
+}
+
+#[test]
+fn faults_of_runs(rt: HostRuntime) -> Result<(), Fail> {
     let table = [
         (RunFault::Memory, "tracehost: out of memory (3)"),
         (RunFault::Start, "tracehost: cannot start a worker (3)"),

@@ -1,6 +1,7 @@
 use super::{ITS_LINES, SPAWN_AND_LIST};
 use crate::{RunFault, RunOptions, parse, run};
 use std::io;
+use std::process::Abort;
 use std::test::Fail;
 use stop_handlers::{ByPolicy, Handler};
 
@@ -33,30 +34,38 @@ impl io::Write for Full {
     }
 }
 
+/// A writer with so much room takes the front of the lines that it has room for, and the run ends so.
+fn check<R: Abort + AllocGlobal>(
+    rt: &R,
+    room: usize,
+    fails: bool,
+    want: Option<RunFault>,
+) -> Result<(), Fail> {
+    let alloc = rt.alloc();
+    let mut writer = Full {
+        taken: Vec::new(alloc),
+        room,
+        fails,
+    };
+    let scenario = parse(alloc, SPAWN_AND_LIST.as_bytes())?;
+    let handlers: Vec<Handler<ByPolicy>> = Vec::new(alloc);
+    let options = RunOptions { user: None };
+    let ended = run(alloc, &scenario, handlers, options, &mut writer).err();
+    assert!(rt; ended == want, "at {room}");
+    assert!(rt;
+        ITS_LINES.as_bytes().get(..room) == Some(writer.taken.as_slice()),
+        "at {room}"
+    );
+    Ok(())
+}
+
 #[test]
 fn writers_that_end(rt: HostRuntime) -> Result<(), Fail> {
-    let scenario = parse(rt.alloc(), SPAWN_AND_LIST.as_bytes())?;
     for fails in [true, false] {
-        for room in 0..=ITS_LINES.len() {
-            let mut writer = Full {
-                taken: Vec::new(rt.alloc()),
-                room,
-                fails,
-            };
-            let handlers: Vec<Handler<ByPolicy>> = Vec::new(rt.alloc());
-            let options = RunOptions { user: None };
-            let ended = run(rt.alloc(), &scenario, handlers, options, &mut writer).err();
-            let want = if room < ITS_LINES.len() {
-                Some(RunFault::Write)
-            } else {
-                None
-            };
-            assert_eq!(rt; ended, want, "at {room}");
-            assert!(rt;
-                writer.taken.as_slice() == &ITS_LINES.as_bytes()[..room],
-                "at {room}"
-            );
+        for room in 0..ITS_LINES.len() {
+            check(&rt, room, fails, Some(RunFault::Write))?;
         }
+        check(&rt, ITS_LINES.len(), fails, None)?;
     }
     Ok(())
 }

@@ -1,5 +1,5 @@
-use super::{SESSION, SPAWN_AND_LIST};
-use crate::{RunFault, RunOptions, handlers_of, parse, policies, run, run_threads};
+use super::{SESSION, SPAWN_AND_LIST, handlers_by_policy};
+use crate::{RunFault, RunOptions, parse, run, run_threads};
 use pid_blocks::Uid;
 use std::alloc::Global;
 use std::sync::Wait;
@@ -16,8 +16,7 @@ fn text_of<R: Threads + Wait + Sync + AllocGlobal>(
 ) -> Result<Vec<u8>, Fail> {
     let alloc = rt.alloc();
     let scenario = parse(alloc, text.as_bytes())?;
-    let policies = policies(alloc, &scenario)?;
-    let handlers = handlers_of(alloc, policies.as_slice(), |policy| ByPolicy(policy))?;
+    let handlers = handlers_by_policy(alloc, &scenario)?;
     let options = RunOptions { user };
     let mut writer = Vec::new(alloc);
     if threads {
@@ -34,16 +33,21 @@ fn lines_by_user(rt: HostRuntime) -> Result<(), Fail> {
     let second = "1002 1 new 2000 104000\n";
     let both =
         "1001 1 new 1000 100000\n1001 2 new 1001 100001\n1001 3 pids 1000 1001\n1002 1 new 2000 104000\n";
-    let found = text_of(&rt, SPAWN_AND_LIST, None, true)?;
-    assert!(rt; found.as_slice() == both.as_bytes());
-    let found = text_of(&rt, SPAWN_AND_LIST, Some(Uid::new(1001)?), true)?;
-    assert!(rt; found.as_slice() == first.as_bytes());
-    let found = text_of(&rt, SPAWN_AND_LIST, Some(Uid::new(1002)?), true)?;
-    assert!(rt; found.as_slice() == second.as_bytes());
-    let found = text_of(&rt, SPAWN_AND_LIST, Some(Uid::new(1003)?), true)?;
-    assert!(rt; found.is_empty());
-    let found = text_of(&rt, "{\"steps\":[]}", None, true)?;
-    assert!(rt; found.is_empty());
+    for (user, want) in [
+        (None, both),
+        (Some(Uid::new(1001)?), first),
+        (Some(Uid::new(1002)?), second),
+        (Some(Uid::new(1003)?), ""),
+    ] {
+        let found = text_of(&rt, SPAWN_AND_LIST, user, true)?;
+        assert!(rt; found.as_slice() == want.as_bytes());
+    }
+    Ok(())
+}
+
+#[test]
+fn no_steps(rt: HostRuntime) -> Result<(), Fail> {
+    assert!(rt; text_of(&rt, "{\"steps\":[]}", None, true)?.is_empty());
     Ok(())
 }
 

@@ -1,5 +1,5 @@
-use super::SESSION;
-use crate::{RunFault, bind, handlers_of, parse, policies};
+use super::{SESSION, handlers_by_policy};
+use crate::{RunFault, bind, parse, policies};
 use event_masks::{Call, StopFlags};
 use requests::{Act, PlainStep, Request};
 use signals::{Disposition, Pass, SigSet, Signal};
@@ -36,7 +36,10 @@ fn at_entry() -> Result<Policy, Fail> {
         flags: StopFlags::PL_FLAG_SCE,
         decision: Decision::Continue(Pass::new(0)?),
     };
-    Policy::new(&[rule]).map_err(|_| Fail::from("too many rules"))
+    match Policy::new(&[rule]) {
+        Ok(policy) => Ok(policy),
+        Err(_) => Err(Fail::from("too many rules")),
+    }
 }
 
 #[test]
@@ -92,12 +95,7 @@ fn a_session(rt: HostRuntime) -> Result<(), Fail> {
 #[test]
 fn a_session_with_its_handler(rt: HostRuntime) -> Result<(), Fail> {
     let scenario = parse(rt.alloc(), SESSION.as_bytes())?;
-    let policies = policies(rt.alloc(), &scenario)?;
-    let handlers = handlers_of(
-        rt.alloc(),
-        policies.as_slice(),
-        |policy: Policy| ByPolicy(policy),
-    )?;
+    let handlers = handlers_by_policy(rt.alloc(), &scenario)?;
     assert_eq!(rt; bind(rt.alloc(), &scenario, handlers)?.len(), 12);
     let none: Vec<Handler<ByPolicy>> = Vec::new(rt.alloc());
     assert_eq!(rt;
