@@ -243,8 +243,4 @@ lwp_added_same {u} {start} {c} {v} s l mine well house block = record {
 -- A branch of rows
 
 pub branch_rows : {u : ℕ} {start : Rows} (b d : Bool) → b ≡ d → {p q p' q' : Rows} → (b ≡ true → Sim u start p p') → (b ≡ false → Sim u start q q') → Sim u start (if b then p else q) (if d then p' else q')
-branch_rows {u} {start} b d e {p} {q} {p'} {q'} yes' no' = subst (λ x. Sim u start (if b then p else q) (if x then p' else q')) e (cases b refl)
-  where
-    cases : (x : Bool) → b ≡ x → Sim u start (if x then p else q) (if x then p' else q')
-    cases true is = yes' is
-    cases false is = no' is
+branch_rows {u} {start} b d e {p} {q} {p'} {q'} yes' no' = grind (arith, nat_tests)

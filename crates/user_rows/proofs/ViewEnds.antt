@@ -1,4 +1,5 @@
 -- The end of a process.
+use Rattle.std.proofs.lemmas.Bool.Decides.{nat_tests}
 use Rattle.std.proofs.Common.{◌≡◌, ◌≢◌, ℕ, zero, suc, List, [], ◌∷◌, filter, filter_map, Bool, true, false, ◌==◌, ◌&&◌, ◌||◌, not, if◌then◌else◌, Option, Some, None, is_some, is_none, unwrap_or, option_map, IfSome, refl, sym, ap, ap₂, ◌∙◌, arith, eqb, true≢false, eqb-true, subst, eq-eqb, inl, inr, ◌⊎◌}
 use Rattle.std.proofs.Math.Path.{fun_ext}
 use Rattle.std.specs.List.{list_any, AllByRecursion}
@@ -96,63 +97,23 @@ parent_over {u} user over h p good ne = by_one (eqb p.parent 1) refl
     by_one false is = h p.parent (λ e. ne (sym (good.parent (not_equal p.parent 1 is)) ∙ e))
 
 orphaned_good : (over : ℕ → Bool) (p : ProcData) → GoodProc p → IfSome (unless over p.tracer) (λ t. pid_owner t ≡ p.uid)
-orphaned_good over p good = by_tracer p.tracer good.tracer
-  where
-    by_tracer : (o : Option ℕ) → IfSome o (λ t. pid_owner t ≡ p.uid) → IfSome (unless over o) (λ t. pid_owner t ≡ p.uid)
-    by_tracer None g = tt
-    by_tracer (Some t) g = choose (over t) None (Some t) (λ o. IfSome o (λ k. pid_owner k ≡ p.uid)) (λ e. tt) (λ e. g)
+orphaned_good over p good = grind (arith, nat_tests)
 
 parent_good : (over : ℕ → Bool) (p : ProcData) → GoodProc p → Mine p.uid (if over p.parent then 1 else p.parent)
 parent_good over p good = choose (over p.parent) 1 p.parent (Mine p.uid) (λ e ne. absurd (ne refl)) (λ e. good.parent)
 
 -- a zombie that has lost whom it names
 left_kin : (p z : ProcData) → GoodProc p → z.pid ≡ p.pid → z.uid ≡ p.uid → IfSome z.tracer (λ t. pid_owner t ≡ p.uid) → Mine p.uid z.parent → IfSome (reporting z) (λ t. tid_owner t ≡ p.uid) → Kin p (uncollected z)
-left_kin p z good pid uid tracer parent reports = by_test (is_none z.tracer && (z.parent == 1)) refl
-  where
-    by_test : (b : Bool) → (is_none z.tracer && (z.parent == 1)) ≡ b → Kin p (if b then None else Some z)
-    by_test true is = tt
-    by_test false is = (
-      pid,
-      uid,
-      record {
-        user = subst IsUser (sym uid) good.user;
-        block = ap pid_owner pid ∙ good.block ∙ sym uid;
-        tracer = subst (λ w. IfSome z.tracer (λ t. pid_owner t ≡ w)) (sym uid) tracer;
-        parent = subst (λ w. Mine w z.parent) (sym uid) parent;
-        reporting = subst (λ w. IfSome (reporting z) (λ t. tid_owner t ≡ w)) (sym uid) reports;
-        collector = λ d none one. true≢false (sym (ap₂ (λ (o : Option ℕ) (b : Bool). is_none o && b) none (eq-eqb z.parent 1 one)) ∙ is);
-      },
-    )
+left_kin p z good pid uid tracer parent reports = grind (arith, nat_tests)
 
 live_good : (p : ProcData) → GoodProc p → (over : ℕ → Bool) → is_live p ≡ true → GoodProc (record p { parent = if over p.parent then 1 else p.parent })
-live_good p good over live = record {
-  user = good.user;
-  block = good.block;
-  tracer = good.tracer;
-  parent = parent_good over p good;
-  reporting = good.reporting;
-  collector = λ d. absurd (true≢false (sym live ∙ d));
-}
+live_good p good over live = grind (arith, nat_tests)
 
 after_kin : (ends : ProcData → Bool) (over : ℕ → Bool) (n w : ℕ) (p : ProcData) → GoodProc p → Kin p (process_after ends over n w p)
-after_kin ends over n w p good = by_test (ends p) (is_live p) refl
-  where
-    by_test : (b d : Bool) → is_live p ≡ d → Kin p (if b then uncollected (dead (if p.pid == n then w else SIGKILL) (orphaned over p)) else (if d then Some (record p { parent = if over p.parent then 1 else p.parent }) else uncollected (orphaned over p)))
-    by_test true d e = left_kin p (dead (if p.pid == n then w else SIGKILL) (orphaned over p)) good refl refl (orphaned_good over p good) (parent_good over p good) tt
-    by_test false true e = (refl, refl, live_good p good over e)
-    by_test false false e = left_kin p (orphaned over p) good refl refl (orphaned_good over p good) (parent_good over p good) good.reporting
+after_kin ends over n w p good = grind (arith, nat_tests)
 
 after_foreign : {u : ℕ} → IsUser u → (ends : ProcData → Bool) (over : ℕ → Bool) → Tests u ends over → (n w : ℕ) (p : ProcData) → GoodProc p → p.uid ≢ u → process_after ends over n w p ≡ Some p
-after_foreign {u} user ends over t n w p good ne = rw (t.foreign p good ne, parent_over user over t.over_foreign p good ne, unless_same over t.over_foreign ne p.tracer good.tracer) (by_live (is_live p) refl)
-  where
-    by_parent : is_live p ≡ false → (o : Option ℕ) (b : Bool) → p.tracer ≡ o → eqb p.parent 1 ≡ b → (if is_none o && b then None else Some p) ≡ Some p
-    by_parent d None true e h = absurd (good.collector d e (eqb-true p.parent 1 h))
-    by_parent d None false e h = refl
-    by_parent d (Some t') b e h = refl
-
-    by_live : (b : Bool) → is_live p ≡ b → (if b then Some p else uncollected p) ≡ Some p
-    by_live true e = refl
-    by_live false e = by_parent e p.tracer (eqb p.parent 1) refl refl
+after_foreign {u} user ends over t n w p good ne = grind (arith, nat_tests)
 
 waits_foreign : {u w : ℕ} (over : ℕ → Bool) → ((n : ℕ) → pid_owner n ≢ u → over n ≡ false) → w ≢ u → (m : Mode) → IfSome (waited_for m) (λ c. pid_owner c ≡ w) → waits_where over m ≡ false
 waits_foreign over h ne User g = refl
@@ -166,19 +127,7 @@ pub released_foreign : {u : ℕ} (over : ℕ → Bool) → ((n : ℕ) → pid_ow
 released_foreign over h p l well ne = rw (waits_foreign over h ne l.mode well.waits) refl
 
 end_keeps : {u : ℕ} → IsUser u → (ends : ProcData → Bool) (over : ℕ → Bool) → Tests u ends over → (n w : ℕ) → Keeps u (process_after ends over n w) (lwp_after ends over)
-end_keeps {u} user ends over t n w = record {
-  mine = λ p good is. after_kin ends over n w p good;
-  foreign = λ p good ne. after_foreign user ends over t n w p good ne;
-  lwp = λ p l good well is here. choose (ends p) None (Some (released over p l)) (KinLwp l) (λ e. tt) (λ e. released_kin over p l well);
-  foreign_lwp = λ p l good well ne here. rw (t.foreign p good ne, released_foreign over t.over_foreign p l well (λ e. ne (sym good.block ∙ ap pid_owner here ∙ e))) refl;
-  live = λ p l good is live. lives p l live (ends p);
-}
-  where
-    lives : (p : ProcData) (l : LwpData) → is_live p ≡ true → (b : Bool)
-        → LiveRow (if b then uncollected (dead (if p.pid == n then w else SIGKILL) (orphaned over p)) else (if is_live p then Some (record p { parent = if over p.parent then 1 else p.parent }) else uncollected (orphaned over p)))
-        ⊎ ((if b then None else Some (released over p l)) ≡ None)
-    lives p l live true = inr refl
-    lives p l live false = inl (rw live live)
+end_keeps {u} user ends over t n w = grind (arith, nat_tests)
 
 collector_mine : {u : ℕ} (p : ProcData) (o : Option ProcData) → p.uid ≡ u → Kin p o → IfSome (option_map collector o) (Mine u)
 collector_mine p None mine k = tt
@@ -195,15 +144,7 @@ notifies_foreign : {u : ℕ} (ends : ProcData → Bool) (over : ℕ → Bool) �
 notifies_foreign ends over t n w p good ne = rw (t.foreign p good ne, holds_none over t.over_foreign ne p.tracer good.tracer, and_false (not (is_live p))) refl
 
 notifies_mine : {u : ℕ} (ends : ProcData → Bool) (over : ℕ → Bool) → Tests u ends over → (n w : ℕ) (p : ProcData) → GoodProc p → IfSome (notifies_of ends over n w p) (Mine u)
-notifies_mine {u} ends over t n w p good = by_user (eqb p.uid u) refl
-  where
-    by_test : p.uid ≡ u → (b : Bool) → IfSome (if b then option_map collector (process_after ends over n w p) else None) (Mine u)
-    by_test is true = collector_mine p (process_after ends over n w p) is (after_kin ends over n w p good)
-    by_test is false = tt
-
-    by_user : (b : Bool) → eqb p.uid u ≡ b → IfSome (notifies_of ends over n w p) (Mine u)
-    by_user true is = by_test (eqb-true p.uid u is) (ends p || (not (is_live p) && holds_of over p.tracer))
-    by_user false is = subst (λ o. IfSome o (Mine u)) (sym (notifies_foreign ends over t n w p good (not_equal p.uid u is))) tt
+notifies_mine {u} ends over t n w p good = grind (arith, nat_tests)
 
 end_each_same : {u : ℕ} {start c v : Rows} → Sim u start c v → (ends : ProcData → Bool) (over : ℕ → Bool) → Tests u ends over → (n w : ℕ) → Sim u start (end_each ends over n w c) (end_each ends over n w v)
 end_each_same {u} {start} {c} {v} s ends over t n w = subst (λ ns. Sim u start (end_each ends over n w c) (notified ns (each (process_after ends over n w) (lwp_after ends over) v)))
@@ -252,11 +193,7 @@ end_of_same {u} {start} {c} {v} s settings n w here =
     (end_each_same s (is_doomed settings c.processes n) (dooms settings c.processes n) (tests s settings n here) n w))
 
 traces_foreign : {u : ℕ} (n : ℕ) → pid_owner n ≡ u → (p : ProcData) → GoodProc p → p.uid ≢ u → (is_live p && traces n p) ≡ false
-traces_foreign n here p good ne = rw (by_tracer p.tracer good.tracer, and_false (is_live p)) refl
-  where
-    by_tracer : (o : Option ℕ) → IfSome o (λ t. pid_owner t ≡ p.uid) → is_this n o ≡ false
-    by_tracer None g = refl
-    by_tracer (Some t) g = not_own n t (λ e. ne (sym g ∙ ap pid_owner e ∙ here))
+traces_foreign n here p good ne = grind (arith, nat_tests)
 
 pub end_same : {u : ℕ} {start c v : Rows} → Sim u start c v → (settings : Settings) (n w : ℕ) → pid_owner n ≡ u → Sim u start (end settings n w c) (end settings n w v)
 end_same {u} {start} {c} {v} s settings n w here = end_of_same (by_setting settings.kill_on_debugger_exit) settings n w here

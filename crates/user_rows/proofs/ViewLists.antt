@@ -31,10 +31,7 @@ filter_untouched p f P same other (x ∷ xs) e = grind (arith, same x e.0, other
 
 pub All-where : {X : Type 0} (q : X → Bool) (P Q : X → Type 0) → ((x : X) → P x → q x ≡ true → Q x) → (xs : List X) → AllByRecursion P xs → AllByRecursion Q (filter q xs)
 All-where q P Q h [] e = tt
-All-where q P Q h (x ∷ xs) e = elim (cases_Bool (q x)) [
-  | inl is ↦ rw is (h x e.0 is, All-where q P Q h xs e.1)
-  | inr is ↦ rw is (All-where q P Q h xs e.1)
-]
+All-where q P Q h (x ∷ xs) e = grind (arith, nat_tests, All-where q P Q h xs e.1)
 
 pub All-map : {X Y : Type 0} (f : X → Y) (P : X → Type 0) (Q : Y → Type 0) → ((x : X) → P x → Q (f x)) → (xs : List X) → AllByRecursion P xs → AllByRecursion Q (map f xs)
 All-map f P Q h [] e = tt
@@ -64,11 +61,7 @@ every (x ∷ xs) = (tt, every xs)
 
 above_edit : (f : ProcData → Option ProcData) (P : ProcData → Type 0) → ((r : ProcData) → P r → IfSome (f r) (λ s. s.pid ≡ r.pid)) → (n : ℕ) (rows : List ProcData) → AllByRecursion P rows → AllAbove n rows → AllAbove n (filter_map f rows)
 above_edit f P h n [] p above = tt
-above_edit f P h n (r ∷ rows) p above = kept (f r) (h r p.0) (above_edit f P h n rows p.1 above.1)
-  where
-    kept : (o : Option ProcData) → IfSome o (λ s. s.pid ≡ r.pid) → AllAbove n (filter_map f rows) → AllAbove n (cons_option o (filter_map f rows))
-    kept None g rest = rest
-    kept (Some s) g rest = (rw g above.0, rest)
+above_edit f P h n (r ∷ rows) p above = grind (arith, nat_tests, above_edit f P h n rows p.1 above.1)
 
 pub Rise-edit : (f : ProcData → Option ProcData) (P : ProcData → Type 0) → ((r : ProcData) → P r → IfSome (f r) (λ s. s.pid ≡ r.pid)) → (rows : List ProcData) → AllByRecursion P rows → Rise rows → Rise (filter_map f rows)
 Rise-edit f P h [] p rise = tt

@@ -92,16 +92,10 @@ pub record Keeps (u : ℕ) (f : ProcData → Option ProcData) (g : ProcData → 
   pub live : (p : ProcData) (l : LwpData) → GoodProc p → p.uid ≡ u → is_live p ≡ true → LiveRow (f p) ⊎ (g p l ≡ None)
 
 pub kin : {u : ℕ} (f : ProcData → Option ProcData) → ((p : ProcData) → GoodProc p → p.uid ≡ u → Kin p (f p)) → ((p : ProcData) → GoodProc p → p.uid ≢ u → f p ≡ Some p) → (p : ProcData) → GoodProc p → Kin p (f p)
-kin {u} f mine foreign p good = elim (cases_Bool (eqb p.uid u)) [
-  | inl is ↦ mine p good (eqb-true p.uid u is)
-  | inr is ↦ subst (Kin p) (sym (foreign p good (not_equal p.uid u is))) (refl, refl, good)
-]
+kin {u} f mine foreign p good = grind (arith, nat_tests)
 
 kin_lwp : {u : ℕ} (f : ProcData → Option ProcData) (g : ProcData → LwpData → Option LwpData) → Keeps u f g → (p : ProcData) (l : LwpData) → GoodProc p → GoodLwp l → p.pid ≡ l.pid → KinLwp l (g p l)
-kin_lwp {u} f g k p l good well here = elim (cases_Bool (eqb p.uid u)) [
-  | inl is ↦ k.lwp p l good well (eqb-true p.uid u is) here
-  | inr is ↦ subst (KinLwp l) (sym (k.foreign_lwp p l good well (not_equal p.uid u is) here)) (refl, well)
-]
+kin_lwp {u} f g k p l good well here = grind (arith, nat_tests)
 
 -- rows that change as processes alone
 pub processes_kept : (f : ProcData → Option ProcData) → ((p : ProcData) → GoodProc p → Kin p (f p)) → (ps : List ProcData) → AllByRecursion GoodProc ps → AllByRecursion GoodProc (filter_map f ps)

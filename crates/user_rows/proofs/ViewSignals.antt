@@ -1,4 +1,5 @@
 -- Posting signals, and running on.
+use Rattle.std.proofs.lemmas.Bool.Decides.{nat_tests}
 use Rattle.std.proofs.Common.{◌≡◌, ◌≢◌, ℕ, List, [], ◌∷◌, Bool, true, false, ◌==◌, ◌||◌, if◌then◌else◌, Option, Some, None, is_none, option_map, IfSome, refl, sym, ap, ◌∙◌, arith, eqb, true≢false, eqb-true, subst, inl}
 use Rattle.std.specs.List.{list_any, AllByRecursion}
 use Rattle.pid_blocks.specs.Users.{IsUser}
@@ -33,11 +34,7 @@ user_not_one u n user mine e = let here = sym mine ∙ ap pid_owner e ∙ owner_
 -- nobody else's number is in a list of u's numbers
 pub not_among : {u : ℕ} (n : ℕ) (ns : List ℕ) → Mines u ns → n ≢ 1 → pid_owner n ≢ u → list_any (λ m. m == n) ns ≡ false
 not_among n [] all one ne = refl
-not_among {u} n (m ∷ ms) all one ne = at_head (eqb m n) refl (not_among n ms all.1 one ne)
-  where
-    at_head : (b : Bool) → eqb m n ≡ b → list_any (λ k. k == n) ms ≡ false → (b || list_any (λ k. k == n) ms) ≡ false
-    at_head true is rest = let same = eqb-true m n is in absurd (ne (ap pid_owner (sym same) ∙ all.0 (λ e. one (sym same ∙ e))))
-    at_head false is rest = rest
+not_among {u} n (m ∷ ms) all one ne = grind (arith, nat_tests, not_among n ms all.1 one ne)
 
 pub is_numbered_foreign : {u : ℕ} (n : ℕ) → pid_owner n ≡ u → (p : ProcData) → GoodProc p → p.uid ≢ u → is_numbered n p ≡ false
 is_numbered_foreign n here p good ne = not_own n p.pid (λ e. ne (named here p good e))
@@ -50,14 +47,7 @@ settle_same s n here = change_same s (is_numbered n) settled_process settled_lwp
     (λ p good is e. settled_stays p good) (λ p l good well. (refl, record { block = well.block; waits = well.waits }))
 
 posted_stays : (s : ℕ) (to : Option ℕ) (p : ProcData) → GoodProc p → Stays p (posted_process s to p)
-posted_stays s to p good = by_job (continues s p)
-  where
-    q : ProcData
-    q = record p { pending = posted_set s (is_none to) p p.pending }
-
-    by_job : (b : Bool) → Stays p (if b then record q { state = Run; continued = true } else q)
-    by_job true = (refl, refl, record { user = good.user; block = good.block; tracer = good.tracer; parent = good.parent; reporting = tt; collector = λ dead. absurd (true≢false dead) }, λ l. refl)
-    by_job false = (refl, refl, record { user = good.user; block = good.block; tracer = good.tracer; parent = good.parent; reporting = good.reporting; collector = good.collector }, λ l. l)
+posted_stays s to p good = grind (arith, nat_tests)
 
 pub notified_same : {u : ℕ} {start c v : Rows} → Sim u start c v → (ns : List ℕ) → Mines u ns → Sim u start (notified ns c) (notified ns v)
 notified_same s ns all = change_same s (λ p. list_any (λ n. n == p.pid) ns) (posted_process SIGCHLD None) (posted_lwp SIGCHLD None)
@@ -86,12 +76,7 @@ posted_same {u} {start} {c} {v} s sig to n here = subst (λ o. Sim u start (post
 -- Running on
 
 reported_kin : (p : ProcData) (l : LwpData) → GoodLwp l → KinLwp l (reported p l)
-reported_kin p l well = by_stop (is_this l.tid (reporting p)) (shows l.flags PL_FLAG_EXITED)
-  where
-    by_stop : (b d : Bool) → KinLwp l (if b then (if d then None else Some (record l { flags = no_flags; child = 0; code = 0 })) else Some l)
-    by_stop true true = tt
-    by_stop true false = (refl, record { block = well.block; waits = well.waits })
-    by_stop false d = (refl, well)
+reported_kin p l well = grind (arith, nat_tests)
 
 pub run_on_same : {u : ℕ} {start c v : Rows} → Sim u start c v → (chosen : ProcData → Bool) (process : ProcData → ProcData) (lwp : ProcData → LwpData → LwpData)
     → ((p : ProcData) → GoodProc p → p.uid ≢ u → chosen p ≡ false)
