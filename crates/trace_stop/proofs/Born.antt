@@ -1,27 +1,28 @@
 -- A sound host with one more process and its first LWP, or with one more LWP, is sound.
-use Rattle.std.proofs.Common.{◌≡◌, ◌≢◌, ℕ, ◌+◌, ◌<◌, ◌≤◌, List, [], ◌∷◌, ◌++◌, length, find, Bool, true, false, cond, ◌==◌, ◌&&◌, ◌||◌, leb, Option, Some, None, IfSome, refl, sym, ap, ◌∙◌, arith, eqb, true≢false, eqb-true, subst, eq-eqb, get_or, set, get_or-set_same, get_or-set_other, length-set, if◌then◌else◌}
+use Rattle.std.proofs.Common.{◌≡◌, ◌≢◌, ℕ, ◌+◌, ◌<◌, ◌≤◌, List, [], ◌∷◌, ◌++◌, find, Bool, true, false, cond, ◌==◌, ◌&&◌, ◌||◌, Option, Some, None, IfSome, refl, sym, ap, ◌∙◌, arith, eqb, true≢false, eqb-true, subst, eq-eqb, length-set}
 use Rattle.std.specs.Prelude.{count_by}
 use Rattle.std.specs.List.{AllByRecursion, list_any}
-use Rattle.std.proofs.lemmas.Bool.{leb-false}
 use Rattle.std.proofs.lemmas.List.Folds.{list_any-append}
 use Rattle.pid_blocks.specs.Users.{IsUser}
-use Rattle.pid_blocks.specs.declared.Block.{Block}
 use Rattle.pid_blocks.specs.Blocks.{slot, pid_block, tid_block, InBlock, cursor_after}
 use Rattle.event_masks.specs.Exits.{shows}
 use Rattle.event_masks.specs.declared.TheConstants.StopFlags.{PL_FLAG_EXITED}
 use Rattle.lwp_table.specs.declared.LwpData.{LwpData}
-use Rattle.lwp_table.specs.Lwps.{Differ, LacksLwp, has_lwp}
+use Rattle.lwp_table.specs.Lwps.{Differ}
 use Rattle.proc_table.specs.declared.ProcData.{ProcData}
 use Rattle.proc_table.specs.Processes.{is_live, reporting, process_of, placed}
 use Rattle.proc_table.specs.Rows.{Rows}
 use Rattle.proc_table.specs.Seen.{owns}
 use Rattle.proc_table.specs.Fresh.{is_process, is_lwp, add_process, add_lwp, process_count, lwp_count_of}
+use Rattle.proc_table.proofs.Cursors.{InBlock-after, cursors-set}
+use Rattle.proc_table.proofs.Lwps.{LacksLwp-from_any, Differ-push}
 use Rattle.proc_table.specs.Kept.{AtHome, Housed}
 use Rattle.trace_stop.specs.End.{tracer_in, tracer_of}
 use Rattle.trace_stop.specs.Sound.{names_own}
 use Rattle.trace_stop.specs.Facts.{IsLiveOf, IsLiveChild, Linked, FitProcess, waited_for, Standing, FitLwp, WithOwner, IsSound}
 use Rattle.trace_stop.proofs.Every.{and_left, or_true, by_bool, All-imply, All-both, All-append, find_some, any_holds, none_of, any_more, count-cons, count-append, count_same}
-use Rattle.trace_stop.proofs.Children.{child_test, child_passes}
+use Rattle.trace_stop.proofs.Children.{child_test}
+use Rattle.trace_stop.proofs.Edited.{If_more}
 use Rattle.trace_stop.proofs.Placed.{Rise-placed, any-placed, count-placed, process_of-other, process_of-placed, All-placed, TracesNone, meets_other, meets_new}
 
 -- a new process with its first LWP, whose user has room for both
@@ -47,45 +48,10 @@ pub record Born (rows : Rows) (p : ProcData) (l : LwpData) : Type 0 where
 pub not_same : (a b : ℕ) → eqb a b ≡ false → a ≢ b
 not_same a b is same = true≢false (sym (eq-eqb a b same) ∙ is)
 
-LacksLwp-from : (n : ℕ) (ls : List LwpData) → has_lwp n ls ≡ false → LacksLwp n ls
-LacksLwp-from n [] is = tt
-LacksLwp-from n (l ∷ ls) is = by_head (eqb l.tid n) refl is (LacksLwp-from n ls)
-  where
-    by_head : (b : Bool) → eqb l.tid n ≡ b → (b || has_lwp n ls) ≡ false → (has_lwp n ls ≡ false → LacksLwp n ls) → (l.tid ≢ n) × LacksLwp n ls
-    by_head true e h rest = absurd (true≢false h)
-    by_head false e h rest = (not_same l.tid n e, rest h)
-
-lacks_push : (n : ℕ) (ls : List LwpData) (l : LwpData) → LacksLwp n ls → l.tid ≢ n → LacksLwp n (ls ++ (l ∷ []))
-lacks_push n [] l all other = (other, tt)
-lacks_push n (k ∷ ls) l all other = (all.0, lacks_push n ls l all.1 other)
-
-Differ-push : (ls : List LwpData) (l : LwpData) → Differ ls → LacksLwp l.tid ls → Differ (ls ++ (l ∷ []))
-Differ-push [] l all new = (tt, tt)
-Differ-push (k ∷ ls) l all new = (lacks_push k.tid ls l all.0 (λ e. new.0 (sym e)), Differ-push ls l all.1 new.1)
-
 pub differ_new : (rows : Rows) (l : LwpData) → Differ rows.lwps → is_lwp rows l.tid ≡ false → Differ (rows.lwps ++ (l ∷ []))
-differ_new rows l all new = Differ-push rows.lwps l all (LacksLwp-from l.tid rows.lwps new)
-
-InBlock-after : (b : Block) (n : ℕ) → InBlock b n → 0 < b.size → InBlock b (cursor_after b n)
-InBlock-after b n home some = by_end (leb (b.first + b.size) (n + 1)) refl
-  where
-    by_end : (c : Bool) → leb (b.first + b.size) (n + 1) ≡ c → InBlock b (if c then b.first else n + 1)
-    by_end true e = (omega arith, omega arith)
-    by_end false e = let more = leb-false (b.first + b.size) (n + 1) e in let from = home.0 in (omega arith, more)
-
-pub cursors_set : (block : ℕ → Block) (cursors : List ℕ) (v n : ℕ) → IsUser v → length cursors ≡ 64 → InBlock (block v) n → 0 < (block v).size
-    → ((u : ℕ) → IsUser u → InBlock (block u) (get_or cursors (slot u) 0))
-    → (u : ℕ) → IsUser u → InBlock (block u) (get_or (set cursors (slot v) (cursor_after (block v) n)) (slot u) 0)
-cursors_set block cursors v n user len home some all u its = by_user (eqb u v) refl
-  where
-    by_user : (b : Bool) → eqb u v ≡ b → InBlock (block u) (get_or (set cursors (slot v) (cursor_after (block v) n)) (slot u) 0)
-    by_user true e = let same = eqb-true u v e in let at : get_or (set cursors (slot v) (cursor_after (block v) n)) (slot v) 0 ≡ cursor_after (block v) n = get_or-set_same cursors (slot v) (cursor_after (block v) n) 0 (omega (arith, user.0, user.1, len)) in rw (same, at) (InBlock-after (block v) n home some)
-    by_user false e = let ne = not_same u v e in let other : slot v ≢ slot u = omega (arith, user.0, user.1, its.0, its.1) in rw (get_or-set_other cursors (slot v) (slot u) (cursor_after (block v) n) 0 (λ same. other (sym same))) (all u its)
+differ_new rows l all new = Differ-push rows.lwps l all (LacksLwp-from_any l.tid rows.lwps new)
 
 -- What is asked of the rows, with one LWP more
-
-abbrev pub with_last : LwpData → Rows → Rows
-with_last l rows = record rows { lwps = rows.lwps ++ (l ∷ []) }
 
 pub count_last : {X : Type 0} (q : X → Bool) (xs : List X) (x : X) → count_by q (xs ++ (x ∷ [])) ≡ count_by q xs + cond (q x) 1 0
 count_last q xs x = let all = count-append q xs (x ∷ []) in let last = count-cons q x [] in let none : count_by q [] ≡ 0 = refl in omega (arith, all, last, none)
@@ -116,17 +82,12 @@ home_other rows n free l home same = true≢false (sym (any_at (λ p. p.pid == n
     any_at q t h [] p is = absurd (grind (arith, is))
     any_at q t h (x ∷ ps) p is = grind (arith, h x, any_at q t h ps p, is)
 
-If_more : {X : Type 0} (P Q : X → Type 0) → ((x : X) → P x → Q x) → (o : Option X) → IfSome o P → IfSome o Q
-If_more P Q h None is = tt
-If_more P Q h (Some x) is = h x is
-
 find_any : {X : Type 0} (q : X → Bool) (xs : List X) (x : X) → find q xs ≡ Some x → list_any q xs ≡ true
 find_any q [] x is = absurd (grind (arith, is))
 find_any q (y ∷ xs) x is = grind (arith, find_any q xs x, is)
 
 pub cond_at_most : (b : Bool) → cond b 1 0 ≤ 1
-cond_at_most true = omega arith
-cond_at_most false = omega arith
+cond_at_most b = grind arith
 
 module _ (rows : Rows) (p : ProcData) (l : LwpData) (s : IsSound rows) (b : Born rows p l) where
   abbrev ps : List ProcData
@@ -140,10 +101,6 @@ module _ (rows : Rows) (p : ProcData) (l : LwpData) (s : IsSound rows) (b : Born
 
   child_more : (q : ProcData) (n : ℕ) → IsLiveChild rows q n → IsLiveChild made q n
   child_more q n is = any-placed p ps s.stands.rising b.free (child_test q n) ∙ rw is (or_true (child_test q n p))
-
-  -- the new process is a live child of its parent
-  pub born_child : (q : ProcData) → p.parent ≡ q.pid → p.uid ≡ q.uid → IsLiveChild made q p.pid
-  born_child q parent uid = any-placed p ps s.stands.rising b.free (child_test q p.pid) ∙ rw (child_passes q p.pid p (record { pid = refl; uid = uid; live = b.live; parent = parent })) refl
 
   other : AllByRecursion (λ q. q.pid ≢ p.pid) ps
   other = All-imply (λ q. (q.pid == p.pid) ≡ false) (λ q. q.pid ≢ p.pid) (λ q is. not_same q.pid p.pid is) ps (none_of (λ q. q.pid == p.pid) ps b.free)
@@ -248,8 +205,8 @@ module _ (rows : Rows) (p : ProcData) (l : LwpData) (s : IsSound rows) (b : Born
       housed = All-append (Housed made) rows.lwps (l ∷ []) (All-imply (λ k. (k.pid ≢ p.pid) × Housed rows k) (Housed made) housed_old rows.lwps (All-both _ (Housed rows) rows.lwps apart s.stands.housed)) ((p, owner_new, b.tid), tt);
       pid_slots = length-set rows.pid_cursors (slot p.uid) _ ∙ s.stands.pid_slots;
       tid_slots = length-set rows.tid_cursors (slot p.uid) _ ∙ s.stands.tid_slots;
-      pid_cursors = cursors_set pid_block rows.pid_cursors p.uid p.pid b.home.user s.stands.pid_slots b.home.block (omega arith) s.stands.pid_cursors;
-      tid_cursors = cursors_set tid_block rows.tid_cursors p.uid l.tid b.home.user s.stands.tid_slots b.tid (omega arith) s.stands.tid_cursors;
+      pid_cursors = cursors-set pid_block rows.pid_cursors p.uid (cursor_after (pid_block p.uid) p.pid) b.home.user s.stands.pid_slots (InBlock-after (pid_block p.uid) p.pid b.home.block (omega arith)) s.stands.pid_cursors;
+      tid_cursors = cursors-set tid_block rows.tid_cursors p.uid (cursor_after (tid_block p.uid) l.tid) b.home.user s.stands.tid_slots (InBlock-after (tid_block p.uid) l.tid b.tid (omega arith)) s.stands.tid_cursors;
       few_processes = few_processes;
       few_lwps = few_lwps;
       linked = All-placed (Linked made) p ps (All-imply (λ q. (q.pid ≢ p.pid) × Linked rows q) (Linked made) linked_old ps (All-both _ (Linked rows) ps other s.stands.linked)) linked_new;

@@ -2,7 +2,7 @@
 use Rattle.std.proofs.Common.{◌≡◌, ℕ, ◌+◌, ◌<◌, ◌≤◌, [], ◌∷◌, Bool, true, false, cond, ◌==◌, ◌&&◌, Some, None, IfSome, refl, sym, ap, ◌∙◌, true≢false, subst, arith, eqb-true, length-set}
 use Rattle.std.specs.List.{list_any}
 use Rattle.pid_blocks.specs.Users.{IsUser}
-use Rattle.pid_blocks.specs.Blocks.{slot, tid_block, InBlock}
+use Rattle.pid_blocks.specs.Blocks.{slot, tid_block, InBlock, cursor_after}
 use Rattle.event_masks.specs.Exits.{shows}
 use Rattle.event_masks.specs.declared.TheConstants.StopFlags.{PL_FLAG_EXITED}
 use Rattle.lwp_table.specs.declared.LwpData.{LwpData}
@@ -16,7 +16,8 @@ use Rattle.trace_stop.specs.Sound.{names_own}
 use Rattle.trace_stop.specs.Facts.{IsLiveChild, Linked, waited_for, Standing, FitLwp, WithOwner, IsSound}
 use Rattle.trace_stop.proofs.Every.{by_bool, All-imply, All-append, find_some}
 use Rattle.trace_stop.proofs.Edited.{If_more, some_is}
-use Rattle.trace_stop.proofs.Born.{differ_new, cursors_set, count_last, count_more, any_last, cond_at_most}
+use Rattle.proc_table.proofs.Cursors.{InBlock-after, cursors-set}
+use Rattle.trace_stop.proofs.Born.{differ_new, count_last, count_more, any_last, cond_at_most}
 use Rattle.trace_stop.proofs.Numbers.{one_row}
 
 -- a new LWP of a live process, whose user has room for it
@@ -90,7 +91,7 @@ module _ (rows : Rows) (p : ProcData) (l : LwpData) (s : IsSound rows) (j : Join
       pid_slots = s.stands.pid_slots;
       tid_slots = length-set rows.tid_cursors (slot p.uid) _ ∙ s.stands.tid_slots;
       pid_cursors = s.stands.pid_cursors;
-      tid_cursors = cursors_set tid_block rows.tid_cursors p.uid l.tid user s.stands.tid_slots j.tid (omega arith) s.stands.tid_cursors;
+      tid_cursors = cursors-set tid_block rows.tid_cursors p.uid (cursor_after (tid_block p.uid) l.tid) user s.stands.tid_slots (InBlock-after (tid_block p.uid) l.tid j.tid (omega arith)) s.stands.tid_cursors;
       few_processes = s.stands.few_processes;
       few_lwps = few_lwps;
       linked = All-imply (Linked rows) (Linked made) linked_on rows.processes s.stands.linked;

@@ -4,51 +4,31 @@ use Rattle.std.specs.List.{AllByRecursion, list_any}
 use Rattle.proc_table.specs.declared.ProcData.{ProcData}
 use Rattle.proc_table.specs.Processes.{is_live, traces, is_this, process_of}
 use Rattle.proc_table.specs.Rows.{Rows}
-use Rattle.proc_table.specs.Seen.{owns}
 use Rattle.proc_table.specs.Kept.{AtHome}
 use Rattle.trace_stop.specs.declared.Settings.{Settings}
 use Rattle.trace_stop.specs.End.{tracer_in, tracer_of, meets, is_doomed, dooms, end_of, left_alone, end}
 use Rattle.trace_stop.specs.Sound.{is_end}
-use Rattle.trace_stop.specs.Facts.{IsLiveOf, Linked, Stands, IsSound}
-use Rattle.trace_stop.proofs.Every.{and_left, and_right, both, by_bool, or_true, or_left, All-imply, All-both, find_some, any_holds, any_more}
-use Rattle.trace_stop.proofs.Changed.{found_number}
+use Rattle.trace_stop.specs.Facts.{Linked, IsSound}
+use Rattle.trace_stop.proofs.Every.{and_left, and_right, both, by_bool, or_true, or_left, All-imply, All-both, any_holds}
 use Rattle.trace_stop.proofs.Numbers.{one_row, the_row}
 use Rattle.trace_stop.proofs.Stops.{find_passes}
 use Rattle.trace_stop.proofs.Ending.{Ends, end_each_sound}
 use Rattle.trace_stop.proofs.Passes.{own_rows}
-use Rattle.trace_stop.proofs.Distances.{near_enough}
+use Rattle.trace_stop.proofs.Chains.{meets-more, chains_meet}
 
 meets_step : (ps : List ProcData) (links p n t : ℕ) → tracer_of ps n ≡ Some t → ((t == p) || meets links ps p t) ≡ true → meets (suc links) ps p n ≡ true
 unfolding meets
 meets_step ps links p n t is near = rw is near
 
 same_test : (a b : Bool) → (a ≡ true → b ≡ true) → (b ≡ true → a ≡ true) → a ≡ b
-same_test true b h k = sym (h refl)
-same_test false true h k = k refl
-same_test false false h k = refl
+same_test a b h k = grind (arith, h, k)
 
 or_second : (a b : Bool) → b ≡ true → (a || b) ≡ true
-or_second true b is = refl
-or_second false b is = is
+or_second a b is = grind (arith, is)
 
 or_cases : (a b : Bool) (R : Type 0) → (a || b) ≡ true → (a ≡ true → R) → (b ≡ true → R) → R
 or_cases true b R is h k = h refl
 or_cases false b R is h k = k is
-
--- a user's processes are traced by that user's
-pub own_tracer : (rows : Rows) → Stands rows → (u n t : ℕ) → owns u n rows.processes ≡ true → tracer_of rows.processes n ≡ Some t → owns u t rows.processes ≡ true
-own_tracer rows s u n t own is = at_row (process_of n rows.processes) refl is
-  where
-    owned : (v : ℕ) → IsLiveOf rows v t → owns v t rows.processes ≡ true
-    owned v live = any_more (λ r. (r.pid == t) && (r.uid == v) && is_live r) (λ r. (r.pid == t) && (r.uid == v)) (λ r e. and_left ((r.pid == t) && (r.uid == v)) (is_live r) e) rows.processes live
-
-    at_row : (o : Option ProcData) → process_of n rows.processes ≡ o → tracer_in o ≡ Some t → owns u t rows.processes ≡ true
-    at_row None e k = absurd (grind (arith, k))
-    at_row (Some r) e k =
-        let fact = (find_some (λ q. q.pid == n) (λ q. Linked rows q × (list_any (λ x. (x.pid == q.pid) && (x.uid == u)) rows.processes ≡ true → (q.uid == u) ≡ true)) rows.processes (All-both (Linked rows) _ rows.processes s.linked (one_row (λ x. x.uid == u) rows.processes s.rising)) r e).0 in
-        let number = found_number n rows.processes r e in
-        let mine : r.uid ≡ u = eqb-true r.uid u (fact.1 (subst (λ m. list_any (λ x. (x.pid == m) && (x.uid == u)) rows.processes ≡ true) (sym number) own)) in
-        subst (λ v. owns v t rows.processes ≡ true) mine (owned r.uid (subst (λ o. IfSome o (IsLiveOf rows r.uid)) k fact.0.tracer))
 
 module _ (settings : Settings) (rows : Rows) (p : ProcData) (s : IsSound rows) (at : process_of p.pid rows.processes ≡ Some p) (live : is_live p ≡ true) where
   abbrev ends : ProcData → Bool
@@ -95,9 +75,7 @@ module _ (settings : Settings) (rows : Rows) (p : ProcData) (s : IsSound rows) (
           let link : tracer_of rows.processes q.pid ≡ Some t = ap tracer_in k.found ∙ e in
           or_cases (r.pid == p.pid) (settings.kill_on_debugger_exit && is_live r && meets 250 rows.processes p.pid r.pid) ⊥ (and_right (r.pid == t) (ends r) h)
           (λ same. far (meets_step rows.processes 249 p.pid q.pid t link (or_left (t == p.pid) (meets 249 rows.processes p.pid t) (eq-eqb t p.pid (sym here ∙ eqb-true r.pid p.pid same)))))
-          (λ doomed. far (near_enough rows.processes q.uid p.pid (λ n m own tr. own_tracer rows s.stands q.uid n m own tr) (s.stands.few_processes q.uid k.home.user) q.pid
-          (find_passes (λ x. x.pid == q.pid) (λ x. (x.pid == q.pid) && (x.uid == q.uid)) rows.processes q k.found (both (q.pid == q.pid) (q.uid == q.uid) (eq-eqb q.pid q.pid refl) (eq-eqb q.uid q.uid refl)))
-          (meets_step rows.processes 250 p.pid q.pid t link (or_second (t == p.pid) (meets 250 rows.processes p.pid t) (subst (λ n. meets 250 rows.processes p.pid n ≡ true) here (and_right (settings.kill_on_debugger_exit && is_live r) (meets 250 rows.processes p.pid r.pid) doomed)))))))
+          (λ doomed. far (meets-more 249 rows.processes p.pid q.pid (chains_meet rows 251 p.pid q.pid s.stands (meets_step rows.processes 250 p.pid q.pid t link (or_second (t == p.pid) (meets 250 rows.processes p.pid t) (subst (λ n. meets 250 rows.processes p.pid n ≡ true) here (and_right (settings.kill_on_debugger_exit && is_live r) (meets 250 rows.processes p.pid r.pid) doomed))))))))
           rows.processes known is)
 
   -- where they don't, and nobody live is traced by p, p ends alone

@@ -16,7 +16,6 @@ pub mod Single
 pub mod Stops
 pub mod Settling
 pub mod Ending
-pub mod Distances
 pub mod Runs
 pub mod Told
 pub mod Stopped

@@ -23,8 +23,7 @@ or_second true h = refl
 or_second false h = h
 
 or_none : (a b : Bool) → (a || b) ≡ false → b ≡ false
-or_none true b is = absurd (true≢false is)
-or_none false b is = is
+or_none a b is = grind (arith, is)
 
 -- from a process to p, and from p on
 pub meets_joined : (ps : List ProcData) (j k x p n : ℕ) → meets k ps p n ≡ true → ((p == x) || meets j ps x p) ≡ true → meets (k + j) ps x n ≡ true
