@@ -13,7 +13,6 @@ pub mod Refusing
 pub mod ViewFresh
 pub mod ViewTurns
 pub mod ViewSteps
-pub mod ViewHosts
 pub mod ViewLaws
 pub mod ViewSound
 pub mod Living
