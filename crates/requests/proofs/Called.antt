@@ -48,9 +48,6 @@ is_caller u n rows p rise c =
     let found = find_some (λ q. (q.pid == n) && (q.uid == u)) (λ q. process_of q.pid rows.processes ≡ Some q) rows.processes (own_rows rows.processes rise) p c.seen in
     record { at = found.0; own = eqb-true p.uid u (and_right (p.pid == n) (p.uid == u) found.1); runs = c.runs }
 
-pub caller_live : (u : ℕ) (rows : Rows) (p : ProcData) → Rise rows.processes → IsCaller u p rows → is_live_at p.pid rows ≡ true
-caller_live u rows p rise c = live_found p.pid rows.processes p rise c.at ∙ run_live p c.runs
-
 pub barred_unseen : (u n : ℕ) (m : Machine) → seen_process u n m.rows ≡ None → Barred u n m (reply.Errno errno.ESRCH)
 barred_unseen u n m seen = record { answer = λ s by. unseen u n s m by seen; other = refused_otherwise }
 
