@@ -5,18 +5,15 @@ use Rattle.proc_table.specs.declared.ProcData.{ProcData}
 use Rattle.proc_table.specs.Processes.{is_live, is_run}
 use Rattle.proc_table.specs.Seen.{seen_process}
 use Rattle.requests.specs.Plain.{PlainStep}
-use Rattle.requests.specs.declared.Reply.{Reply}
 use Rattle.requests.specs.declared.Reply.TheVariants as reply
 use Rattle.requests.specs.Outcome.{answers}
-use Rattle.requests.specs.Machine.{Machine, After, after}
+use Rattle.requests.specs.Machine.{Machine, after}
 use Rattle.requests.specs.Step.{step, step_of, checked, calls, caller_of}
 use Rattle.requests.specs.Callers.{IsCaller, Calls, Barred}
 use Rattle.proc_table.specs.Rows.{Rows}
 use Rattle.proc_table.specs.Processes.{process_of}
 use Rattle.proc_table.specs.Kept.{Rise}
-use Rattle.trace_stop.specs.Sound.{is_live_at}
 use Rattle.trace_stop.proofs.Every.{and_right, find_some}
-use Rattle.requests.proofs.Living.{live_found, run_live}
 use Rattle.requests.proofs.Replies.{other}
 use Rattle.trace_stop.proofs.Passes.{own_rows}
 

@@ -1,5 +1,5 @@
 -- The clauses of a step, from what was done to the rows and what was answered.
-use Rattle.std.proofs.Common.{◌≡◌, ◌≢◌, ℕ, Some, List, [], set, true, false, not, ◌&&◌, refl, sym, ap, ◌∙◌, subst, inl, inr}
+use Rattle.std.proofs.Common.{◌≡◌, ◌≢◌, ℕ, Some, List, [], set, true, false, refl, sym, ap, ◌∙◌, subst, inl, inr}
 use Rattle.std.proofs.lemmas.List.{set-get_or}
 use Rattle.pid_blocks.specs.Users.{IsUser}
 use Rattle.pid_blocks.specs.Blocks.{slot}
@@ -9,7 +9,7 @@ use Rattle.requests.specs.Plain.{PlainStep}
 use Rattle.requests.specs.declared.Reply.{Reply}
 use Rattle.requests.specs.declared.Reply.TheVariants as reply
 use Rattle.requests.specs.Outcome.{Outcome, answers}
-use Rattle.requests.specs.Machine.{Installed, Machine, After, after}
+use Rattle.requests.specs.Machine.{Installed, Machine, after}
 use Rattle.requests.specs.Memory.{takes_memory, is_refusal, may_want}
 use Rattle.requests.specs.Laws.{step_fits}
 use Rattle.requests.specs.Sound.{sound}

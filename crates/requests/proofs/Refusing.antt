@@ -1,8 +1,6 @@
 -- A refused step changes nothing, and none is_memory memory, kind by kind.
-use Rattle.std.proofs.Common.{◌≡◌, ◌≢◌, ℕ, ℤ, negsuc, Bool, true, false, ◌==◌, not, ◌||◌, ◌&&◌, leb, if◌then◌else◌, List, [], ◌∷◌, find, length, Option, Some, None, is_some, option_map, refl, sym, ap, ◌∙◌, true≢false}
-use Rattle.pid_blocks.specs.declared.Errno.{Errno}
+use Rattle.std.proofs.Common.{◌≡◌, ℕ, ℤ, negsuc, Bool, true, false, ◌==◌, not, ◌||◌, ◌&&◌, leb, if◌then◌else◌, List, [], ◌∷◌, find, length, Option, Some, None, is_some, option_map, refl, sym, ap, ◌∙◌, true≢false}
 use Rattle.pid_blocks.specs.declared.Errno.TheVariants.{EPERM, ESRCH, ECHILD, EBUSY, EINVAL, EAGAIN}
-use Rattle.event_masks.specs.declared.EventMask.{EventMask}
 use Rattle.event_masks.specs.declared.TheConstants.EventMask.{PTRACE_LWP}
 use Rattle.event_masks.specs.declared.TheConstants.StopFlags.{PL_FLAG_EXITED}
 use Rattle.event_masks.specs.Exits.{asks, entry_flags}
@@ -44,7 +42,7 @@ use Rattle.requests.specs.declared.Reply.{Reply}
 use Rattle.requests.specs.declared.Reply.TheVariants as reply
 use Rattle.requests.specs.Outcome.{Outcome, answers, refuses, stops_with, stops_or, trap}
 use Rattle.requests.specs.Leave.{Numbers, room_for_process, room_for_lwp, in_mode, exit_stop, with_child, exec_rows, due_at_birth, forks, makes_lwp, exits_lwp, leaves}
-use Rattle.requests.specs.Turn.{waits, due_stop, next_signal, takes_by_default, takes_untraced, takes, computes, raises, enters, acts, signal_or_act, due_or_more, turn_of, turn_by, turn_seen, turn}
+use Rattle.requests.specs.Turn.{waits, due_stop, next_signal, takes_by_default, takes_untraced, takes, acts, signal_or_act, due_or_more, turn_by, turn_seen, turn}
 use Rattle.requests.specs.Ptrace.{trace_me, attach, closes_chain, told_stop, bad_argument, shows_info, does, commands_stopped, commands, is_attach, about, target_of, is_trace_me, ptrace}
 use Rattle.requests.specs.Reach.{is_which, reach, reached, kill}
 use Rattle.requests.specs.Calls.{spawn_with, spawn, list, is_refused, sigaction, collect_reply, wait}
@@ -53,7 +51,7 @@ use Rattle.requests.specs.Machine.{Machine, installed_by, After, after}
 use Rattle.requests.specs.Memory.{is_refusal, is_memory}
 use Rattle.requests.specs.Refusals.{RefusedSame, NeverMemory, ListingSame, is_listing}
 use Rattle.requests.specs.Sound.{sound}
-use Rattle.requests.specs.Step.{calls, caller_of, checked, uncalled, step_of, step}
+use Rattle.requests.specs.Step.{calls, checked, step}
 use Rattle.requests.proofs.After.{answers_same}
 use Rattle.requests.proofs.Steps.{choose}
 

@@ -8,9 +8,7 @@ use Rattle.signals.specs.Table.{SIGKILL}
 use Rattle.lwp_table.specs.declared.LwpData.{LwpData}
 use Rattle.lwp_table.specs.Lwps.{lwp_of}
 use Rattle.proc_table.specs.declared.ProcData.{ProcData}
-use Rattle.proc_table.specs.declared.State.{State}
-use Rattle.proc_table.specs.declared.State.TheVariants.{Run, Trace, Job, Zombie}
-use Rattle.proc_table.specs.Processes.{is_live, named_by, reporting, traces, process_of}
+use Rattle.proc_table.specs.Processes.{is_live, reporting, traces, process_of}
 use Rattle.proc_table.specs.Rows.{Rows}
 use Rattle.proc_table.specs.Seen.{owns, seen_process, seen_lwp, find_seen}
 use Rattle.trace_stop.specs.declared.Settings.{Settings}

@@ -1,5 +1,5 @@
 -- A step with its handler's policy.
-use Rattle.std.specs.Prelude.{List, Option, Some, None, option_map}
+use Rattle.std.specs.Prelude.{List, Option, Some, option_map}
 use Rattle.stop_handlers.specs.declared.Rule.{Rule}
 use Rattle.requests.specs.declared.step.Step.{Step}
 use Rattle.requests.specs.declared.step.Step.TheVariants as op

@@ -3,7 +3,6 @@ use Rattle.std.proofs.lemmas.Bool.{le-leb}
 use Rattle.pid_blocks.specs.declared.Errno.TheVariants as errno
 use Rattle.requests.specs.declared.step.Step.TheVariants as op
 use Rattle.requests.specs.declared.Reply.TheVariants as reply
-use Rattle.requests.specs.Callers.{Calls}
 use Rattle.requests.specs.Hosts.{machine_of, Steps}
 use Rattle.requests.specs.Machine.{Machine, installed_by}
 use Rattle.requests.specs.Memory.{is_refusal}
