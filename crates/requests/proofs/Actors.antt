@@ -1,19 +1,18 @@
 -- An LWP and its process are there after changes that keep their numbers.
 use Rattle.std.proofs.Common.{◌≡◌, ◌∙◌, ℕ, true, false, true≢false, nat_eq, ◌&&◌, Bool, List, [], ◌∷◌, ◌++◌, inl, inr, refl, sym, ap, Option, Some, None, subst}
-use Rattle.std.specs.Prelude.{option_map, filter_map, IsSomeAnd}
+use Rattle.std.specs.Prelude.{option_map, IsSomeAnd}
 use Rattle.std.specs.List.{list_any}
 use Rattle.lwp_table.specs.declared.LwpData.{LwpData}
 use Rattle.lwp_table.specs.Lwps.{Differ, lwp_of, has_lwp}
 use Rattle.proc_table.specs.declared.ProcData.{ProcData}
-use Rattle.proc_table.specs.declared.State.{State}
-use Rattle.proc_table.specs.declared.State.TheVariants.{Run, Trace, Job, Zombie}
-use Rattle.proc_table.specs.Processes.{process_of, is_live, is_run, is_run_state, is_zombie_state}
+use Rattle.proc_table.specs.declared.State.TheVariants.{Trace}
+use Rattle.proc_table.specs.Processes.{process_of, is_live, is_run}
 use Rattle.proc_table.specs.Rows.{Rows, change, change_process, change_lwp, is_numbered}
 use Rattle.proc_table.specs.Edits.{own_lwp, map_lwps}
 use Rattle.proc_table.specs.Fresh.{is_process, add_process, add_lwp}
-use Rattle.proc_table.specs.Kept.{IsKept, IsRow}
+use Rattle.proc_table.specs.Kept.{IsKept}
 use Rattle.proc_table.specs.Seen.{owns, seen_lwp}
-use Rattle.proc_table.proofs.Rows.{same_number, process_of-pid, row_found, found_row, lwp_of-tid, lwp_of-map, is_process-map}
+use Rattle.proc_table.proofs.Rows.{same_number, process_of-pid, row_found, found_row, lwp_of-map, is_process-map}
 use Rattle.std.proofs.lemmas.Bool.{cases_Bool}
 use Rattle.proc_table.proofs.Every.{some_and}
 use Rattle.proc_table.proofs.Rising.{Lacks-from_any}
@@ -21,7 +20,7 @@ use Rattle.proc_table.proofs.Placed.{is_process-placed}
 use Rattle.proc_table.proofs.Changes.{changed, changed_lwp, filter_map-map}
 use Rattle.proc_table.proofs.Stays.{changed-pid, changed_lwp-keeps, own_lwp-keeps}
 use Rattle.trace_stop.specs.Sound.{is_live_at}
-use Rattle.trace_stop.proofs.Every.{and_left, any_more, find_some}
+use Rattle.trace_stop.proofs.Every.{find_some}
 use Rattle.trace_stop.proofs.Numbers.{own_lwps}
 use Rattle.trace_stop.proofs.Stops.{find_passes, run_quiet}
 use Rattle.signals.specs.Sets.{has, bit, without}

@@ -5,18 +5,15 @@ use Rattle.proc_table.specs.declared.ProcData.{ProcData}
 use Rattle.proc_table.specs.Processes.{is_live, is_run}
 use Rattle.proc_table.specs.Seen.{seen_process}
 use Rattle.requests.specs.Plain.{PlainStep}
-use Rattle.requests.specs.declared.Reply.{Reply}
 use Rattle.requests.specs.declared.Reply.TheVariants as reply
 use Rattle.requests.specs.Outcome.{answers}
-use Rattle.requests.specs.Machine.{Machine, After, after}
+use Rattle.requests.specs.Machine.{Machine, after}
 use Rattle.requests.specs.Step.{step, step_of, checked, calls, caller_of}
 use Rattle.requests.specs.Callers.{IsCaller, Calls, Barred}
 use Rattle.proc_table.specs.Rows.{Rows}
 use Rattle.proc_table.specs.Processes.{process_of}
 use Rattle.proc_table.specs.Kept.{Rise}
-use Rattle.trace_stop.specs.Sound.{is_live_at}
 use Rattle.trace_stop.proofs.Every.{and_right, find_some}
-use Rattle.requests.proofs.Living.{live_found, run_live}
 use Rattle.requests.proofs.Replies.{other}
 use Rattle.trace_stop.proofs.Passes.{own_rows}
 
@@ -47,9 +44,6 @@ pub is_caller : (u n : ℕ) (rows : Rows) (p : ProcData) → Rise rows.processes
 is_caller u n rows p rise c =
     let found = find_some (λ q. (q.pid == n) && (q.uid == u)) (λ q. process_of q.pid rows.processes ≡ Some q) rows.processes (own_rows rows.processes rise) p c.seen in
     record { at = found.0; own = eqb-true p.uid u (and_right (p.pid == n) (p.uid == u) found.1); runs = c.runs }
-
-pub caller_live : (u : ℕ) (rows : Rows) (p : ProcData) → Rise rows.processes → IsCaller u p rows → is_live_at p.pid rows ≡ true
-caller_live u rows p rise c = live_found p.pid rows.processes p rise c.at ∙ run_live p c.runs
 
 pub barred_unseen : (u n : ℕ) (m : Machine) → seen_process u n m.rows ≡ None → Barred u n m (reply.Errno errno.ESRCH)
 barred_unseen u n m seen = record { answer = λ s by. unseen u n s m by seen; other = refused_otherwise }

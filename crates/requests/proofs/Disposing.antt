@@ -1,5 +1,5 @@
 -- Which dispositions a process may have, and its row with others.
-use Rattle.std.proofs.Common.{◌≡◌, ℕ, ◌≤◌, Option, Some, None, is_some, Bool, true, false, ◌==◌, not, ◌&&◌, ◌||◌, leb, if◌then◌else◌, List, [], ◌∷◌, refl, sym, ap, ◌∙◌, arith, inl, inr}
+use Rattle.std.proofs.Common.{◌≡◌, ℕ, Some, None, is_some, Bool, true, false, ◌==◌, not, ◌&&◌, ◌||◌, if◌then◌else◌, [], ◌∷◌, refl, sym, ap, ◌∙◌, arith, inl, inr}
 use Rattle.std.proofs.lemmas.Bool.{cases_Bool, le-leb}
 use Rattle.signals.specs.Sets.{set_of, has}
 use Rattle.signals.specs.Table.{unmaskable_set, may_have, set_disposition}
@@ -10,7 +10,7 @@ use Rattle.signals.proofs.Members.{members_after}
 use Rattle.signals.specs.Dispositions.{Actions}
 use Rattle.proc_table.specs.declared.ProcData.{ProcData}
 use Rattle.proc_table.specs.Processes.{process_of}
-use Rattle.proc_table.specs.Rows.{Rows, change_process}
+use Rattle.proc_table.specs.Rows.{Rows}
 use Rattle.proc_table.specs.Kept.{Rise, IsRow, set_process}
 use Rattle.proc_table.proofs.Rows.{found_row}
 use Rattle.proc_table.proofs.Stays.{process-set}

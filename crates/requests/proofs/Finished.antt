@@ -1,5 +1,5 @@
 -- The clauses of a step, from what was done to the rows and what was answered.
-use Rattle.std.proofs.Common.{◌≡◌, ◌≢◌, ℕ, Some, List, [], set, true, false, not, ◌&&◌, refl, sym, ap, ◌∙◌, subst, inl, inr}
+use Rattle.std.proofs.Common.{◌≡◌, ◌≢◌, ℕ, Some, List, [], set, true, false, refl, sym, ap, ◌∙◌, subst, inl, inr}
 use Rattle.std.proofs.lemmas.List.{set-get_or}
 use Rattle.pid_blocks.specs.Users.{IsUser}
 use Rattle.pid_blocks.specs.Blocks.{slot}
@@ -9,7 +9,7 @@ use Rattle.requests.specs.Plain.{PlainStep}
 use Rattle.requests.specs.declared.Reply.{Reply}
 use Rattle.requests.specs.declared.Reply.TheVariants as reply
 use Rattle.requests.specs.Outcome.{Outcome, answers}
-use Rattle.requests.specs.Machine.{Installed, Machine, After, after}
+use Rattle.requests.specs.Machine.{Installed, Machine, after}
 use Rattle.requests.specs.Memory.{takes_memory, is_refusal, may_want}
 use Rattle.requests.specs.Laws.{step_fits}
 use Rattle.requests.specs.Sound.{sound}
@@ -20,7 +20,7 @@ use Rattle.requests.specs.Callers.{IsCaller, Calls, Barred}
 use Rattle.requests.proofs.After.{all_left, answers_same, rows_sound}
 use Rattle.requests.proofs.Called.{called, is_caller}
 use Rattle.requests.proofs.Drops.{left_in, kept_by, drops}
-use Rattle.requests.proofs.Replies.{cases_memory}
+use Rattle.requests.proofs.Replies.{cases_memory, other}
 use Rattle.requests.proofs.Refusing.{never_memory, refused_same}
 use Rattle.requests.proofs.StaysSound.{sound_kept}
 
@@ -36,11 +36,11 @@ module _ (u : ℕ) (s : PlainStep) (m : Machine) (user : IsUser u) (is : sound m
     memory = memory;
     refused = λ refusal. elim (cases_memory r) [
       | inl e ↦ (memory e).0
-      | inr e ↦ (machine e).0 ∙ refused_same u s m user is (subst (λ x. is_refusal x ≡ true) (machine e).1 refusal)
+      | inr e ↦ let did = machine (other r e) in did.0 ∙ refused_same u s m user is (subst (λ x. is_refusal x ≡ true) did.1 refusal)
     ];
     sound = elim (cases_memory r) [
       | inl e ↦ subst (λ x. sound x ≡ true) (sym (memory e).0) is
-      | inr e ↦ subst (λ x. sound x ≡ true) (sym (machine e).0) (sound_kept u user s fits m is)
+      | inr e ↦ subst (λ x. sound x ≡ true) (sym (machine (other r e)).0) (sound_kept u user s fits m is)
     ];
   }
 
@@ -65,13 +65,13 @@ module _ (u : ℕ) (s : PlainStep) (m : Machine) (user : IsUser u) (is : sound m
 
   -- a refusal before anything was done
   pub refuses_at : (r : Reply) → r ≢ reply.Errno errno.ENOMEM → step u s m ≡ after m (answers r m.rows) → Steps u s m m r
-  refuses_at r other same = from_machine m r (λ ok. (sym (answers_same m r is) ∙ sym (ap (λ a. a.machine) same), sym (ap (λ a. a.reply) same))) (λ e. absurd (other e))
+  refuses_at r plenty same = from_machine m r (λ ok. (sym (answers_same m r is) ∙ sym (ap (λ a. a.machine) same), sym (ap (λ a. a.reply) same))) (λ e. absurd (plenty e))
 
   pub barred : (n : ℕ) (r : Reply) → caller_of s ≡ Some n → Barred u n m r → Steps u s m m r
   barred n r by b = refuses_at r b.other (b.answer s by)
 
   pub wants_at : may_want u s m ≡ true → Steps u s m m (reply.Errno errno.ENOMEM)
-  wants_at wants = from_machine m (reply.Errno errno.ENOMEM) (λ other. absurd (other refl)) (λ e. (refl, wants))
+  wants_at wants = from_machine m (reply.Errno errno.ENOMEM) (λ plenty. absurd (plenty refl)) (λ e. (refl, wants))
 
 -- what a caller's step does to the rows
 abbrev done_by : ℕ → PlainStep → ProcData → Machine → Outcome

@@ -1,5 +1,5 @@
 -- A stop that installed policies decide on keeps a host sound.
-use Rattle.std.proofs.Common.{◌≡◌, ℕ, negsuc, Bool, true, ◌==◌, ◌&&◌, if◌then◌else◌, List, Option, Some, None, IfSome, is_some, refl, sym, ap, ◌∙◌, subst, eqb, eq-eqb}
+use Rattle.std.proofs.Common.{◌≡◌, ℕ, negsuc, Bool, true, ◌==◌, ◌&&◌, if◌then◌else◌, List, Option, Some, None, IfSome, is_some, refl, sym, ap, ◌∙◌, subst, eq-eqb}
 use Rattle.signals.specs.Table.{SIGKILL}
 use Rattle.lwp_table.specs.declared.LwpData.{LwpData}
 use Rattle.lwp_table.specs.Lwps.{lwp_of}
@@ -11,8 +11,8 @@ use Rattle.proc_table.specs.Rows.{Rows, each}
 use Rattle.trace_stop.specs.declared.Settings.{Settings}
 use Rattle.trace_stop.specs.Stop.{resume, detach}
 use Rattle.trace_stop.specs.Facts.{FitProcess, IsSound}
-use Rattle.trace_stop.proofs.Every.{All-filter, find_some, choose}
-use Rattle.trace_stop.proofs.Edited.{If_more, find_edit}
+use Rattle.trace_stop.proofs.Every.{All-filter, find_some}
+use Rattle.trace_stop.proofs.Edited.{find_edit}
 use Rattle.trace_stop.proofs.Passes.{own_rows}
 use Rattle.trace_stop.proofs.Posts.{detach_sound}
 use Rattle.stop_handlers.specs.declared.Rule.{Rule}

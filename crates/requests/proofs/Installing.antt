@@ -1,5 +1,5 @@
 -- A host in which a debugger has installed one policy more.
-use Rattle.std.proofs.Common.{◌≡◌, ℕ, ◌<◌, List, [], ◌∷◌, ◌++◌, set, true, false, leb, refl, arith}
+use Rattle.std.proofs.Common.{◌≡◌, ℕ, ◌<◌, List, [], ◌∷◌, ◌++◌, set, false, leb, arith}
 use Rattle.std.proofs.lemmas.Bool.{leb-true}
 use Rattle.pid_blocks.specs.Blocks.{slot}
 use Rattle.stop_handlers.specs.declared.Rule.{Rule}

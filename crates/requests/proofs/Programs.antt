@@ -1,7 +1,7 @@
 -- The changes that make an exec.
-use Rattle.std.proofs.Common.{◌≡◌, ◌≢◌, ℕ, ◌<◌, ◌≤◌, Bool, true, false, List, [], ◌∷◌, length, filter, find, map, filter_map, cond, nat_eq, refl, sym, ap, ◌∙◌, arith, inl, inr, Option, Some, None, IfSome, true≢false, subst, eqb-true}
-use Rattle.std.specs.Prelude.{not, ◌==◌, ◌&&◌, if◌then◌else◌, IsSomeAnd, IsSome}
-use Rattle.std.specs.List.{AllByRecursion, list_any, cons_option}
+use Rattle.std.proofs.Common.{◌≡◌, ◌≢◌, ℕ, ◌<◌, ◌≤◌, Bool, true, false, List, [], ◌∷◌, length, filter, find, map, filter_map, nat_eq, refl, sym, ap, ◌∙◌, arith, inl, inr, Option, Some, None, IfSome, true≢false, subst, eqb-true}
+use Rattle.std.specs.Prelude.{not, ◌==◌, ◌&&◌, if◌then◌else◌, IsSomeAnd}
+use Rattle.std.specs.List.{AllByRecursion}
 use Rattle.std.proofs.lemmas.Bool.{cases_Bool}
 use Rattle.signals.specs.Table.{after_exec}
 use Rattle.lwp_table.specs.declared.LwpData.{LwpData}
@@ -11,7 +11,7 @@ use Rattle.lwp_table.specs.Lwps.{LacksLwp, Differ, lwp_of, first_lwp, next_lwp, 
 use Rattle.proc_table.specs.declared.ProcData.{ProcData}
 use Rattle.proc_table.specs.Processes.{process_of}
 use Rattle.proc_table.specs.Rows.{Rows, by_owner, each, change_process}
-use Rattle.proc_table.specs.Edits.{own_lwp, map_lwps}
+use Rattle.proc_table.specs.Edits.{own_lwp}
 use Rattle.proc_table.specs.Kept.{Housed, drop_lwp}
 use Rattle.proc_table.proofs.Rows.{same_number, other_number, process_of-pid}
 use Rattle.proc_table.proofs.Changes.{changed_lwp, map-id, filter_map-map}

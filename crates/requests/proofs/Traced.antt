@@ -8,9 +8,7 @@ use Rattle.signals.specs.Table.{SIGKILL}
 use Rattle.lwp_table.specs.declared.LwpData.{LwpData}
 use Rattle.lwp_table.specs.Lwps.{lwp_of}
 use Rattle.proc_table.specs.declared.ProcData.{ProcData}
-use Rattle.proc_table.specs.declared.State.{State}
-use Rattle.proc_table.specs.declared.State.TheVariants.{Run, Trace, Job, Zombie}
-use Rattle.proc_table.specs.Processes.{is_live, named_by, reporting, traces, process_of}
+use Rattle.proc_table.specs.Processes.{is_live, reporting, traces, process_of}
 use Rattle.proc_table.specs.Rows.{Rows}
 use Rattle.proc_table.specs.Seen.{owns, seen_process, seen_lwp, find_seen}
 use Rattle.trace_stop.specs.declared.Settings.{Settings}
@@ -32,6 +30,7 @@ use Rattle.requests.specs.Ptrace.{attach, told_stop, bad_argument, stepping, swi
 use Rattle.requests.specs.Machine.{Machine}
 use Rattle.requests.specs.Sound.{sound}
 use Rattle.requests.specs.Step.{step}
+use Rattle.requests.proofs.Asked.{told_reports}
 use Rattle.requests.proofs.After.{rows_sound, after_sound}
 use Rattle.requests.proofs.Steps.{Caller, checked_sound}
 use Rattle.requests.proofs.Kills.{live_caller}
@@ -75,17 +74,6 @@ owned_uid : (u m : ℕ) (rows : Rows) (p : ProcData) → IsSound rows → owns u
 owned_uid u m rows p s own at =
     let one = (find_some (λ q. q.pid == m) (λ q. list_any (λ r. (r.pid == q.pid) && (r.uid == u)) rows.processes ≡ true → (q.uid == u) ≡ true) rows.processes (one_row (λ r. r.uid == u) rows.processes s.stands.rising) p at).0 in
     eqb-true p.uid u (one (subst (λ k. owns u k rows.processes ≡ true) (sym (found_number m rows.processes p at)) own))
-
--- the LWP of a told stop
-told_reports : (x : State) (tid : ℕ) → told_stop x ≡ Some tid → named_by x ≡ Some tid
-told_reports Run tid is = absurd (grind (arith, is))
-told_reports (Trace t sig told) tid is = by_told told is
-  where
-    by_told : (b : Bool) → (if b then Some t else None) ≡ Some tid → Some t ≡ Some tid
-    by_told true e = e
-    by_told false e = absurd (grind (arith, e))
-told_reports (Job sig told) tid is = absurd (grind (arith, is))
-told_reports (Zombie w) tid is = absurd (grind (arith, is))
 
 -- Requests about a stopped tracee
 

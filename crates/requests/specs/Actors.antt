@@ -7,7 +7,7 @@ use Rattle.lwp_table.specs.declared.Mode.{Mode}
 use Rattle.lwp_table.specs.declared.Mode.TheVariants.{User, VforkWait}
 use Rattle.lwp_table.specs.Lwps.{lwp_of}
 use Rattle.proc_table.specs.declared.ProcData.{ProcData}
-use Rattle.proc_table.specs.Processes.{process_of, is_run}
+use Rattle.proc_table.specs.Processes.{process_of}
 use Rattle.proc_table.specs.Kept.{IsRow}
 use Rattle.proc_table.specs.Rows.{Rows}
 

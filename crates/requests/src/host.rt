@@ -17,7 +17,7 @@ use crate::lists::pids_of;
 use crate::lwp_turns::turn;
 use crate::sends::kill;
 use crate::spawns::spawn;
-use crate::{Act, Reply, Request, Step};
+use crate::{Act, MOST_HANDLERS, Reply, Request, Step};
 use event_masks::Call;
 use pid_blocks::{Errno, Pid, Uid};
 use proc_table::{ProcData, Tables};
@@ -244,7 +244,7 @@ impl<F: Decider + Send + Drop> Host<F> {
             Ok(caller) => caller,
             Err(refusal) => return refusal,
         };
-        if self.handlers.count(user) >= 64 {
+        if self.handlers.count(user) >= MOST_HANDLERS {
             return Reply::Errno(Errno::EAGAIN);
         }
         match self.handlers.install(user, caller.pid, handler) {

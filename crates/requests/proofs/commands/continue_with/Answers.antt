@@ -1,10 +1,7 @@
-use Rattle.std.proofs.Common.{refl, sym, subst}
-use Rattle.proc_table.specs.Kept.{IsRow}
-use Rattle.proc_table.specs.Rows.{Rows}
 use Rattle.requests.specs.Ptrace.{not_stepping, set_mask}
 use Rattle.trace_stop.specs.Stop.{resume}
 use Rattle.requests.specs.declared.Reply.TheVariants as reply
-use Rattle.requests.proofs.Tracees.{signalled, row_changed, is_tracee, masked_ready}
+use Rattle.requests.proofs.Tracees.{signalled, is_tracee, masked_ready}
 use Rattle.requests.proofs.commands.continue_with.Goals as goal
 
 pub resume-requires : goal.resume-requires

@@ -1,4 +1,3 @@
-use Rattle.proc_table.proofs.Rows.{found_row}
 use Rattle.requests.specs.Ptrace.{stepping}
 use Rattle.trace_stop.specs.Stop.{resume}
 use Rattle.requests.specs.declared.Reply.TheVariants as reply

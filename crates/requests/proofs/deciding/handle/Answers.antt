@@ -1,4 +1,4 @@
-use Rattle.std.proofs.Common.{◌≡◌, sym, ap, ◌∙◌, get_or, []}
+use Rattle.std.proofs.Common.{sym, ap, ◌∙◌, get_or, []}
 use Rattle.pid_blocks.specs.Blocks.{slot}
 use Rattle.requests.specs.Asking.{asks}
 use Rattle.requests.specs.Handle.{policies_in}

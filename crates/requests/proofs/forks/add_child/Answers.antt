@@ -1,4 +1,4 @@
-use Rattle.std.proofs.Common.{◌≡◌, ℕ, Bool, true, false, Some, None, IfSome, if◌then◌else◌, ◌++◌, ◌∷◌, [], List, refl, sym, ap, ◌∙◌, subst, nat_eq}
+use Rattle.std.proofs.Common.{◌≡◌, ℕ, Bool, true, false, Some, None, IfSome, if◌then◌else◌, ◌++◌, ◌∷◌, [], List, refl, sym, subst, nat_eq}
 use Rattle.std.specs.Prelude.{IsSomeAnd}
 use Rattle.lwp_table.specs.declared.LwpData.{LwpData}
 use Rattle.lwp_table.specs.declared.Due.TheVariants as due
@@ -11,7 +11,7 @@ use Rattle.proc_table.specs.Kept.{IsKept, IsRow, Named}
 use Rattle.proc_table.proofs.Every.{every_found}
 use Rattle.proc_table.proofs.Rows.{found_row}
 use Rattle.requests.specs.Actors.{IsActing, HasLwp}
-use Rattle.requests.specs.Leave.{forked, child_stop}
+use Rattle.requests.specs.Leave.{forked}
 use Rattle.requests.proofs.Actors.{acting_has, lwp_added, has-lwp_added, has-process_added, has-stop}
 use Rattle.requests.proofs.forks.add_child.Goals as goal
 

@@ -1,6 +1,3 @@
-use Rattle.std.proofs.Common.{◌≡◌, true, sym, ap, subst}
-use Rattle.proc_table.specs.Seen.{owns}
-use Rattle.requests.specs.Actors.{HasLwp}
 use Rattle.requests.proofs.Actors.{acting_has, owns_itself, has-lwp_added}
 use Rattle.requests.proofs.leaves.make_lwp.Goals as goal
 

@@ -1,5 +1,5 @@
-use Rattle.std.proofs.Common.{◌≡◌, pos, false, sym, ap, ◌∙◌, subst}
-use Rattle.std.specs.Prelude.{int_lt, ℤ}
+use Rattle.std.proofs.Common.{◌≡◌, pos, false, sym, ap, subst}
+use Rattle.std.specs.Prelude.{int_lt}
 use Rattle.std.specs.Int.{FitsUnsignedBits}
 use Rattle.std.proofs.Math.Facts.{to_z-of_z}
 use Rattle.requests.proofs.Sending.{nobody_reached}

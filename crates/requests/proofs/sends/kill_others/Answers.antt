@@ -1,6 +1,6 @@
-use Rattle.std.proofs.Common.{◌≡◌, Some, None, Option, ℕ, sym, ap, ◌∙◌, ◌<◌, subst, not}
+use Rattle.std.proofs.Common.{sym, ap, ◌∙◌, ◌<◌, subst, not}
 use Rattle.std.specs.Prelude.{option_map}
-use Rattle.requests.specs.Reach.{reach, reached, next_other}
+use Rattle.requests.specs.Reach.{reached, next_other}
 use Rattle.requests.proofs.Sending.{no_number, reached_none, reached_others, rest_next, post_rest, left, next_smaller}
 use Rattle.requests.proofs.sends.kill_others.Goals as goal
 

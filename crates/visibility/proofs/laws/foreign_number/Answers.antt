@@ -3,12 +3,11 @@ use Rattle.visibility.proofs.Steps.{did, unseen_numbers}
 use Rattle.visibility.proofs.laws.foreign_number.Goals as goal
 
 pub returns-clause-first : goal.returns-clause-first
-returns-clause-first g c = did c.args.user c.args.step c.args.first.now c.step-reply.new.self c.step-reply.result c.step-reply.ensures.machine c.step-reply.ensures.memory
+returns-clause-first g c = did c.step-reply.ensures
 
 pub returns-clause-second : goal.returns-clause-second
-returns-clause-second g c = did c.args.user c.args.other c.args.second.now c.step-answer.new.self c.step-answer.result c.step-answer.ensures.machine c.step-answer.ensures.memory
+returns-clause-second g c = did c.step-answer.ensures
 
 pub returns-clause-equal : goal.returns-clause-equal
-returns-clause-equal g c = unseen_numbers c.args.user c.args.step c.args.other (told c.step-reply.result) (told c.step-answer.result) c.args.first.now c.args.second.now c.step-reply.new.self c.step-answer.new.self c.get-number.ensures.user c.kept.ensures c.requires.hosts c.requires.steps
-    (did c.args.user c.args.step c.args.first.now c.step-reply.new.self c.step-reply.result c.step-reply.ensures.machine c.step-reply.ensures.memory)
-    (did c.args.user c.args.other c.args.second.now c.step-answer.new.self c.step-answer.result c.step-answer.ensures.machine c.step-answer.ensures.memory)
+returns-clause-equal g c = unseen_numbers c.args.user c.args.step c.args.other (told c.step-reply.result) (told c.step-answer.result) c.args.first.now c.args.second.now c.step-reply.new.self c.step-answer.new.self
+    c.get-number.ensures.user c.kept.ensures c.requires.hosts c.requires.steps (did c.step-reply.ensures) (did c.step-answer.ensures)

@@ -3,8 +3,8 @@ use Rattle.visibility.proofs.Steps.{did, step_of_another}
 use Rattle.visibility.proofs.laws.other_step.Goals as goal
 
 pub returns-clause-step : goal.returns-clause-step
-returns-clause-step g c = did c.args.other c.args.step c.args.host.now c.step.new.self c.step.result c.step.ensures.machine c.step.ensures.memory
+returns-clause-step g c = did c.step.ensures
 
 pub returns-clause-view : goal.returns-clause-view
-returns-clause-view g c = step_of_another c.args.user c.args.other c.args.step (told c.step.result) c.args.host.now c.step.new.self c.get.ensures.user c.get-2.ensures.user c.requires.differ c.kept.ensures
-    (did c.args.other c.args.step c.args.host.now c.step.new.self c.step.result c.step.ensures.machine c.step.ensures.memory)
+returns-clause-view g c = step_of_another c.args.user c.args.other c.args.step (told c.step.result) c.args.host.now c.step.new.self
+    c.get.ensures.user c.get-2.ensures.user c.requires.differ c.kept.ensures (did c.step.ensures)

@@ -3,7 +3,6 @@ use Rattle.std.proofs.lemmas.Bool.{le-leb}
 use Rattle.pid_blocks.specs.declared.Errno.TheVariants as errno
 use Rattle.requests.specs.declared.step.Step.TheVariants as op
 use Rattle.requests.specs.declared.Reply.TheVariants as reply
-use Rattle.requests.specs.Callers.{Calls}
 use Rattle.requests.specs.Hosts.{machine_of, Steps}
 use Rattle.requests.specs.Machine.{Machine, installed_by}
 use Rattle.requests.specs.Memory.{is_refusal}
@@ -20,13 +19,13 @@ use Rattle.requests.proofs.host.Host.install.Goals as goal
 pub returns-in-Err : goal.returns-in-Err
 returns-in-Err g c = host_barred c.self.view_is c.requires c.self.invariant refl refl c.in-Err.ensures.barred
 
-pub returns-then-count-ge64 : goal.returns-then-count-ge64
-returns-then-count-ge64 g c =
+pub returns-then-count-ge-MOST_HANDLERS : goal.returns-then-count-ge-MOST_HANDLERS
+returns-then-count-ge-MOST_HANDLERS g c =
     let m : Machine = c.args.self.now in
     let s = op.Install c.args.caller c.args.handler in
     let is : sound m ≡ true = rw (← c.self.view_is) c.self.invariant in
     let by = c.in-Ok.ensures.found in
-    let many : 64 ≤ length (installed_by c.args.user m) = subst (λ x. 64 ≤ length (installed_by c.args.user x)) c.self.view_is (subst (λ n. 64 ≤ n) c.count.ensures c.if-count-ge64.true) in
+    let many : 64 ≤ length (installed_by c.args.user m) = subst (λ x. 64 ≤ length (installed_by c.args.user x)) c.self.view_is (subst (λ n. 64 ≤ n) c.count.ensures c.if-count-ge-MOST_HANDLERS.true) in
     refuses_at c.args.user s m c.requires is refl (reply.Errno errno.EAGAIN) (other (reply.Errno errno.EAGAIN) refl)
     (called c.args.user c.args.caller s m refl c.in-Ok.caller by.seen by.live by.runs ∙ rw (le-leb 64 (length (installed_by c.args.user m)) many) refl)
 
@@ -36,7 +35,7 @@ done g c =
     let h : Machine = machine_of c.self.inside.settings c.self.inside.tables c.self.inside.handlers in
     let s = op.Install c.args.caller c.args.handler in
     let n : Machine = machine_of c.self.inside.settings c.self.inside.tables c.install.new.self in
-    let few : length (installed_by c.args.user h) < 64 = subst (λ n. n < 64) c.count.ensures c.if-count-ge64.false in
+    let few : length (installed_by c.args.user h) < 64 = subst (λ n. n < 64) c.count.ensures c.if-count-ge-MOST_HANDLERS.false in
     let at : step c.args.user s h ≡ installed_with c.args.user c.in-Ok.caller.pid c.args.handler h =
     host_calls c.self.view_is c.requires c.self.invariant c.in-Ok.ensures.found s refl ∙ rw (few_leb (length (installed_by c.args.user h)) few) refl in
     elim c.match-install.branch [

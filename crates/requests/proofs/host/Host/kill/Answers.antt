@@ -1,4 +1,4 @@
-use Rattle.std.proofs.Common.{◌≡◌, refl, ap, ◌∙◌, w64}
+use Rattle.std.proofs.Common.{refl, ap, ◌∙◌, w64}
 use Rattle.std.proofs.lemmas.Int.{to_z-of_z}
 use Rattle.requests.specs.declared.step.Step.TheVariants as op
 use Rattle.requests.specs.Hosts.{machine_of, Steps}

@@ -1,6 +1,3 @@
-use Rattle.std.proofs.Common.{◌≡◌, true, sym, subst, ap, ap₂}
-use Rattle.requests.specs.Sound.{sound}
-use Rattle.requests.specs.Machine.{Machine}
 use Rattle.requests.proofs.Born.{empty_sound}
 use Rattle.requests.proofs.host.Host.new.Goals as goal
 

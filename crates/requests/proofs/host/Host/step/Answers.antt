@@ -1,4 +1,4 @@
-use Rattle.std.proofs.Common.{◌≡◌, w64, SFits, arith}
+use Rattle.std.proofs.Common.{w64, SFits, arith}
 use Rattle.std.proofs.lemmas.Int.{to_z-of_z}
 use Rattle.requests.proofs.host.Host.step.Goals as goal
 
