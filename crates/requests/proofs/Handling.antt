@@ -11,8 +11,8 @@ use Rattle.proc_table.specs.Rows.{Rows, each}
 use Rattle.trace_stop.specs.declared.Settings.{Settings}
 use Rattle.trace_stop.specs.Stop.{resume, detach}
 use Rattle.trace_stop.specs.Facts.{FitProcess, IsSound}
-use Rattle.trace_stop.proofs.Every.{All-filter, find_some, choose}
-use Rattle.trace_stop.proofs.Edited.{If_more, find_edit}
+use Rattle.trace_stop.proofs.Every.{All-filter, find_some}
+use Rattle.trace_stop.proofs.Edited.{find_edit}
 use Rattle.trace_stop.proofs.Passes.{own_rows}
 use Rattle.trace_stop.proofs.Posts.{detach_sound}
 use Rattle.stop_handlers.specs.declared.Rule.{Rule}

@@ -1,5 +1,5 @@
 -- An LWP that changes its mode, that is made, or that exits keeps rows sound.
-use Rattle.std.proofs.Common.{◌≡◌, inl, ℕ, ◌≤◌, Bool, true, false, cond, ◌==◌, ◌&&◌, not, leb, if◌then◌else◌, List, [], ◌∷◌, ◌++◌, find, Option, Some, None, IfSome, is_some, refl, sym, ap, ◌∙◌, true≢false, subst, arith, eqb-true, eq-eqb}
+use Rattle.std.proofs.Common.{◌≡◌, inl, ℕ, ◌≤◌, Bool, true, false, cond, ◌==◌, ◌&&◌, leb, if◌then◌else◌, List, [], ◌∷◌, ◌++◌, find, Option, Some, None, IfSome, is_some, refl, sym, ap, ◌∙◌, true≢false, subst, arith, eqb-true, eq-eqb}
 use Rattle.std.proofs.lemmas.Bool.{leb-false}
 use Rattle.pid_blocks.specs.Users.{IsUser}
 use Rattle.event_masks.specs.declared.TheConstants.StopFlags.{PL_FLAG_EXITED}
@@ -12,7 +12,7 @@ use Rattle.lwp_table.specs.declared.Due.{Due}
 use Rattle.lwp_table.specs.declared.Due.TheVariants as due
 use Rattle.lwp_table.specs.Lwps.{born, lwp_of}
 use Rattle.proc_table.specs.declared.ProcData.{ProcData}
-use Rattle.proc_table.specs.Processes.{reporting, is_this, process_of}
+use Rattle.proc_table.specs.Processes.{reporting, is_this}
 use Rattle.proc_table.specs.Rows.{Rows, owner, by_owner, each, change_lwp, remove_lwp}
 use Rattle.proc_table.specs.Fresh.{add_lwp, lwp_count}
 use Rattle.proc_table.specs.Kept.{AtHome}

@@ -1,19 +1,16 @@
 -- Rows of processes that are left, with their numbers and users: what posting a signal leaves.
-use Rattle.std.proofs.Common.{◌≡◌, ℕ, Bool, true, false, ◌==◌, ◌&&◌, not, if◌then◌else◌, List, [], ◌∷◌, filter, filter_map, find, Option, Some, None, IfSome, is_some, is_none, refl, sym, ap, ◌∙◌, subst}
+use Rattle.std.proofs.Common.{◌≡◌, ℕ, Bool, ◌==◌, ◌&&◌, if◌then◌else◌, List, [], ◌∷◌, filter_map, Option, Some, None, IfSome, is_some, is_none, refl, ap, ◌∙◌}
 use Rattle.std.specs.List.{list_any, cons_option}
 use Rattle.signals.specs.Sets.{bit}
 use Rattle.signals.specs.Table.{SIGKILL, SIGTRAP, SIGCHLD}
-use Rattle.lwp_table.specs.declared.LwpData.{LwpData}
 use Rattle.proc_table.specs.declared.ProcData.{ProcData}
 use Rattle.proc_table.specs.Processes.{process_of, is_live, traces, reporting}
 use Rattle.proc_table.specs.Rows.{Rows, each, change, is_numbered}
-use Rattle.proc_table.specs.Kept.{Rise}
 use Rattle.trace_stop.specs.declared.Settings.{Settings}
 use Rattle.trace_stop.specs.Post.{posted_process, posted_lwp, continues, notified, told, posted}
-use Rattle.trace_stop.specs.Detach.{detached, untraced}
-use Rattle.trace_stop.specs.End.{is_doomed, dooms, uncollected, dead, orphaned, process_after, lwp_after, told_of, left_alone, end_each, end}
+use Rattle.trace_stop.specs.Detach.{untraced}
+use Rattle.trace_stop.specs.End.{is_doomed, dooms, orphaned, process_after, lwp_after, told_of, left_alone, end_each, end}
 use Rattle.trace_stop.specs.Stop.{post}
-use Rattle.requests.specs.Reach.{post_if_live, post_all}
 use Rattle.requests.proofs.Steps.{choose}
 
 abbrev pub SameNumber : ProcData → ProcData → Type 0

@@ -12,7 +12,7 @@ use Rattle.proc_table.specs.Kept.{AllAbove, Rise, AtHome, IsKept}
 use Rattle.proc_table.proofs.Rows.{process_of-pid}
 use Rattle.trace_stop.specs.declared.Settings.{Settings}
 use Rattle.trace_stop.specs.Stop.{post}
-use Rattle.trace_stop.proofs.Every.{and_left, and_right, by_bool, All-imply}
+use Rattle.trace_stop.proofs.Every.{by_bool, All-imply}
 use Rattle.trace_stop.proofs.Edited.{If_more, some_is}
 use Rattle.requests.specs.Reach.{reach, post_if_live, post_all, reached, kill, next_other}
 use Rattle.requests.specs.Outcome.{refuses}
@@ -21,7 +21,7 @@ use Rattle.requests.specs.declared.Reply.TheVariants as reply
 use Rattle.std.specs.Option.{option_and_then}
 use Rattle.trace_stop.proofs.Passes.{own_rows, process_edited}
 use Rattle.requests.proofs.Living.{live_found, live_none}
-use Rattle.requests.proofs.Walk.{above, first_above, above_none, above_first, above_next, next_over}
+use Rattle.requests.proofs.Walk.{above, above_none, above_first, above_next, next_over}
 use Rattle.requests.proofs.Remaining.{Remain, SameNumber, remain_all, remain_post}
 
 -- One process

@@ -1,5 +1,5 @@
 -- Pending signals that an LWP takes, and what they do, keep rows sound.
-use Rattle.std.proofs.Common.{◌≡◌, inl, inr, ℕ, Bool, true, false, ◌==◌, ◌&&◌, ◌||◌, not, leb, if◌then◌else◌, [], ◌∷◌, Option, Some, None, IfSome, is_some, refl, sym, ap, ◌∙◌, true≢false, subst, eqb-true, eq-eqb, bit_or}
+use Rattle.std.proofs.Common.{◌≡◌, inl, inr, ℕ, Bool, true, false, ◌==◌, ◌&&◌, ◌||◌, not, leb, [], ◌∷◌, Option, Some, None, IfSome, is_some, refl, sym, ap, ◌∙◌, true≢false, subst, eqb-true, bit_or}
 use Rattle.std.proofs.lemmas.Bool.{le-leb}
 use Rattle.signals.specs.Sets.{has, bit, without, lowest}
 use Rattle.signals.specs.Table.{SIGTRAP, unmaskable_set, is_signal, maskable, disposition_of, default_action}

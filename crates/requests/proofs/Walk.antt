@@ -1,5 +1,5 @@
 -- A walk over processes by rising numbers.
-use Rattle.std.proofs.Common.{◌≡◌, ℕ, ◌<◌, List, [], ◌∷◌, ◌++◌, map, filter, find, Option, Bool, true, false, cond, ◌==◌, ◌&&◌, ltb, Some, None, refl, sym, ap, ◌∙◌, arith, subst, lt-ltb, append_assoc, append-nil}
+use Rattle.std.proofs.Common.{◌≡◌, ℕ, ◌<◌, List, [], ◌∷◌, ◌++◌, map, filter, find, Option, Bool, true, false, cond, ◌&&◌, ltb, Some, None, refl, sym, ap, ◌∙◌, arith, subst, lt-ltb, append_assoc, append-nil}
 use Rattle.std.specs.List.{AllByRecursion}
 use Rattle.std.proofs.lemmas.Bool.{le-ltb, ltb-true}
 use Rattle.proc_table.specs.declared.ProcData.{ProcData}

@@ -21,7 +21,7 @@ use Rattle.trace_stop.specs.End.{tracer_in, tracer_of}
 use Rattle.trace_stop.specs.Sound.{names_own}
 use Rattle.trace_stop.specs.Facts.{IsLiveOf, IsLiveChild, Linked, FitProcess, waited_for, Standing, FitLwp, WithOwner, IsSound}
 use Rattle.trace_stop.proofs.Every.{and_left, or_true, by_bool, All-imply, All-both, All-append, find_some, any_holds, none_of, any_more, count-cons, count-append, count_same}
-use Rattle.trace_stop.proofs.Children.{child_test, child_passes}
+use Rattle.trace_stop.proofs.Children.{child_test}
 use Rattle.trace_stop.proofs.Placed.{Rise-placed, any-placed, count-placed, process_of-other, process_of-placed, All-placed, TracesNone, meets_other, meets_new}
 
 -- a new process with its first LWP, whose user has room for both
@@ -84,9 +84,6 @@ cursors_set block cursors v n user len home some all u its = by_user (eqb u v) r
 
 -- What is asked of the rows, with one LWP more
 
-abbrev pub with_last : LwpData → Rows → Rows
-with_last l rows = record rows { lwps = rows.lwps ++ (l ∷ []) }
-
 pub count_last : {X : Type 0} (q : X → Bool) (xs : List X) (x : X) → count_by q (xs ++ (x ∷ [])) ≡ count_by q xs + cond (q x) 1 0
 count_last q xs x = let all = count-append q xs (x ∷ []) in let last = count-cons q x [] in let none : count_by q [] ≡ 0 = refl in omega (arith, all, last, none)
 
@@ -140,10 +137,6 @@ module _ (rows : Rows) (p : ProcData) (l : LwpData) (s : IsSound rows) (b : Born
 
   child_more : (q : ProcData) (n : ℕ) → IsLiveChild rows q n → IsLiveChild made q n
   child_more q n is = any-placed p ps s.stands.rising b.free (child_test q n) ∙ rw is (or_true (child_test q n p))
-
-  -- the new process is a live child of its parent
-  pub born_child : (q : ProcData) → p.parent ≡ q.pid → p.uid ≡ q.uid → IsLiveChild made q p.pid
-  born_child q parent uid = any-placed p ps s.stands.rising b.free (child_test q p.pid) ∙ rw (child_passes q p.pid p (record { pid = refl; uid = uid; live = b.live; parent = parent })) refl
 
   other : AllByRecursion (λ q. q.pid ≢ p.pid) ps
   other = All-imply (λ q. (q.pid == p.pid) ≡ false) (λ q. q.pid ≢ p.pid) (λ q is. not_same q.pid p.pid is) ps (none_of (λ q. q.pid == p.pid) ps b.free)

@@ -1,10 +1,9 @@
 -- Rows after an edit are as rows must be, where each row keeps its part.
-use Rattle.std.proofs.Common.{◌≡◌, ◌≢◌, ◌⊎◌, inl, inr, ℕ, zero, suc, ◌≤◌, ◌<◌, List, [], ◌∷◌, find, filter_map, Bool, true, false, cond, ◌==◌, ◌&&◌, ◌||◌, not, if◌then◌else◌, Option, Some, None, IfSome, refl, sym, ap, ◌∙◌, arith, true≢false, eqb-true, subst, eq-eqb}
-use Rattle.std.specs.Prelude.{count_by}
+use Rattle.std.proofs.Common.{◌≡◌, ◌≢◌, ◌⊎◌, inl, inr, ℕ, zero, suc, ◌≤◌, List, filter_map, Bool, true, false, ◌==◌, ◌&&◌, ◌||◌, not, if◌then◌else◌, Option, Some, None, IfSome, refl, sym, ap, ◌∙◌, arith, true≢false, eqb-true, subst}
 use Rattle.std.specs.Option.{option_and_then}
 use Rattle.std.specs.List.{AllByRecursion, list_any}
 use Rattle.pid_blocks.specs.Users.{IsUser}
-use Rattle.pid_blocks.specs.Blocks.{pid_block, tid_block, InBlock}
+use Rattle.pid_blocks.specs.Blocks.{tid_block, InBlock}
 use Rattle.event_masks.specs.Exits.{shows}
 use Rattle.event_masks.specs.declared.TheConstants.StopFlags.{PL_FLAG_EXITED}
 use Rattle.lwp_table.specs.declared.LwpData.{LwpData}
@@ -14,13 +13,13 @@ use Rattle.proc_table.specs.Processes.{is_live, reporting, process_of}
 use Rattle.proc_table.specs.Rows.{Rows, owner, by_owner, each, edit_processes, edit_lwps}
 use Rattle.proc_table.specs.Seen.{owns}
 use Rattle.proc_table.specs.Fresh.{lwp_count}
-use Rattle.proc_table.specs.Kept.{Rise, AllAbove, AtHome, Housed}
+use Rattle.proc_table.specs.Kept.{Rise, AtHome, Housed}
 use Rattle.trace_stop.specs.End.{holds_of, tracer_in, tracer_of, meets}
 use Rattle.trace_stop.specs.Sound.{names_own}
 use Rattle.trace_stop.specs.Facts.{IsLiveOf, IsLiveChild, Linked, FitProcess, waited_for, Standing, FitLwp, WithOwner, Stands, IsSound}
 use Rattle.trace_stop.proofs.Every.{and_left, and_right, both, by_bool, All-imply, All-both, All-edit, All-any, find_some, any_forward}
 use Rattle.trace_stop.proofs.Passes.{own_rows, rise_edited, process_edited, filter_map_same}
-use Rattle.trace_stop.proofs.Children.{Follows, child_after}
+use Rattle.trace_stop.proofs.Children.{child_after}
 use Rattle.trace_stop.proofs.Edited.{If_more, some_is, if_at, any_edit, count_edit, count_kept, Differ-edit, edited, edit_none}
 use Rattle.trace_stop.proofs.Numbers.{own_lwps}
 

@@ -1,12 +1,12 @@
 -- A change of chosen processes and of their LWPs.
-use Rattle.std.proofs.Common.{◌≡◌, ◌⊎◌, inl, ℕ, ◌==◌, List, filter_map, Bool, true, false, if◌then◌else◌, Option, Some, None, refl, sym, ap, ◌∙◌, subst, eq-eqb}
+use Rattle.std.proofs.Common.{◌≡◌, ◌⊎◌, inl, ℕ, ◌==◌, List, filter_map, Bool, true, false, if◌then◌else◌, Option, Some, None, refl, ap, subst, eq-eqb}
 use Rattle.lwp_table.specs.declared.LwpData.{LwpData}
 use Rattle.proc_table.specs.declared.ProcData.{ProcData}
 use Rattle.proc_table.specs.Processes.{is_live, reporting, process_of}
 use Rattle.proc_table.specs.Rows.{Rows, change, each}
 use Rattle.trace_stop.proofs.Every.{choose, choose_both}
 use Rattle.trace_stop.proofs.Edited.{find_edit}
-use Rattle.trace_stop.proofs.Changed.{Holds, Row, Beside, Same, Edit, Leaves, KeptRow, KeptLwp, Like, Stay, nobody, none_gone, like_self, leaves, kept_all, kept_lwp, no_ring, stay, edit_holds}
+use Rattle.trace_stop.proofs.Changed.{Holds, Row, Beside, Same, Leaves, KeptRow, KeptLwp, Stay, nobody, none_gone, like_self, leaves, kept_all, kept_lwp, no_ring, stay, edit_holds}
 
 -- the row of a process after a change of chosen ones
 pub changed_row : (n : ℕ) (chosen : ProcData → Bool) (f : ProcData → ProcData) (ps : List ProcData) (p : ProcData) → ((q : ProcData) → (f q).pid ≡ q.pid) → process_of n ps ≡ Some p → process_of n (filter_map (λ q. Some (if chosen q then f q else q)) ps) ≡ Some (if chosen p then f p else p)

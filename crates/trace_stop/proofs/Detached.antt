@@ -1,5 +1,5 @@
 -- Resuming, detaching and ending keep rows sound.
-use Rattle.std.proofs.Common.{◌≡◌, inl, inr, ℕ, Bool, true, false, ◌==◌, ◌&&◌, if◌then◌else◌, Some, is_some, refl, sym, ◌∙◌, true≢false, subst, eqb-true, eq-eqb}
+use Rattle.std.proofs.Common.{◌≡◌, inl, inr, ℕ, Bool, true, false, ◌&&◌, if◌then◌else◌, Some, is_some, refl, sym, ◌∙◌, true≢false, subst, eqb-true, eq-eqb}
 use Rattle.std.specs.List.{AllByRecursion}
 use Rattle.signals.specs.Sets.{without, bit}
 use Rattle.signals.specs.Table.{SIGTRAP}
@@ -14,7 +14,7 @@ use Rattle.trace_stop.specs.End.{left_alone, end_of, end}
 use Rattle.trace_stop.specs.Sound.{is_end}
 use Rattle.trace_stop.specs.Facts.{FitProcess, FitLwp, Silent, IsSound}
 use Rattle.trace_stop.proofs.Every.{and_left, both, by_bool, All-imply, All-edit, All-any, choose}
-use Rattle.trace_stop.proofs.Changed.{Row, found_number, row_is}
+use Rattle.trace_stop.proofs.Changed.{found_number}
 use Rattle.trace_stop.proofs.Changes.{changed_row}
 use Rattle.trace_stop.proofs.Bits.{without_apart}
 use Rattle.trace_stop.proofs.Numbers.{the_row}

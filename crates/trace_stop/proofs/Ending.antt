@@ -1,5 +1,5 @@
 -- Ends keep rows sound, where no live process is left whose tracer ends.
-use Rattle.std.proofs.Common.{◌≡◌, ◌≢◌, ℕ, ◌≤◌, Bool, true, false, ◌==◌, ◌&&◌, ◌||◌, not, if◌then◌else◌, filter_map, option_map, Option, Some, None, IfSome, is_some, is_none, unwrap_or, refl, sym, ap, ◌∙◌, true≢false, subst, arith, eqb-true, eq-eqb, bit_and}
+use Rattle.std.proofs.Common.{◌≡◌, ◌≢◌, ℕ, Bool, true, false, ◌==◌, ◌&&◌, ◌||◌, not, if◌then◌else◌, filter_map, option_map, Option, Some, None, IfSome, is_some, is_none, unwrap_or, refl, sym, ap, ◌∙◌, true≢false, subst, arith, eq-eqb, bit_and}
 use Rattle.std.specs.List.{AllByRecursion}
 use Rattle.event_masks.specs.Exits.{shows, asks}
 use Rattle.event_masks.specs.declared.TheConstants.StopFlags.{PL_FLAG_EXITED}
@@ -14,7 +14,6 @@ use Rattle.proc_table.specs.declared.State.{State}
 use Rattle.proc_table.specs.declared.State.TheVariants.{Run, Trace, Job, Zombie}
 use Rattle.proc_table.specs.Processes.{is_live, is_zombie_state, is_job_state, is_run_state, reporting, named_by}
 use Rattle.proc_table.specs.Rows.{Rows, each}
-use Rattle.proc_table.specs.Fresh.{lwp_count}
 use Rattle.trace_stop.specs.Post.{unwanted}
 use Rattle.trace_stop.specs.End.{holds_of, unless, orphaned, dead, uncollected, process_after, waits_where, released, lwp_after, collector, told_of, end_each}
 use Rattle.trace_stop.specs.Sound.{is_end, names_own, is_due}

@@ -25,7 +25,6 @@ pub mod Running
 pub mod Detached
 pub mod Posts
 pub mod Linking
-pub mod Thinned
 pub mod Joining
 pub mod Found
 pub mod Shows

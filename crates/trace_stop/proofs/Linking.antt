@@ -5,7 +5,7 @@ use Rattle.event_masks.specs.declared.EventMask.{EventMask}
 use Rattle.lwp_table.specs.declared.LwpData.{LwpData}
 use Rattle.proc_table.specs.declared.ProcData.{ProcData}
 use Rattle.proc_table.specs.Processes.{reporting, process_of}
-use Rattle.proc_table.specs.Rows.{Rows, each, change_process, is_numbered}
+use Rattle.proc_table.specs.Rows.{Rows, each, change_process}
 use Rattle.trace_stop.specs.End.{holds_of, tracer_in, tracer_of, meets}
 use Rattle.trace_stop.specs.Sound.{names_own}
 use Rattle.trace_stop.specs.Facts.{IsLiveOf, FitProcess, FitLwp, IsSound}

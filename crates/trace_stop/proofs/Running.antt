@@ -1,5 +1,5 @@
 -- Processes that run on keep rows sound: an LWP that has exited is gone, and it isn't the last one.
-use Rattle.std.proofs.Common.{◌≡◌, ◌⊎◌, inl, inr, ℕ, ◌≤◌, Bool, true, false, ◌==◌, ◌&&◌, leb, if◌then◌else◌, option_map, unwrap_or, Option, Some, None, IfSome, refl, sym, ap, ◌∙◌, true≢false, subst, arith, eqb-true, eq-eqb, bit_and}
+use Rattle.std.proofs.Common.{◌≡◌, ◌⊎◌, inl, ℕ, ◌≤◌, Bool, true, false, ◌==◌, ◌&&◌, leb, if◌then◌else◌, option_map, unwrap_or, Option, Some, None, IfSome, refl, sym, ap, ◌∙◌, true≢false, subst, arith, eqb-true, eq-eqb, bit_and}
 use Rattle.std.specs.List.{AllByRecursion}
 use Rattle.std.proofs.lemmas.Bool.{leb-true, leb-false}
 use Rattle.event_masks.specs.Exits.{shows, no_flags}

@@ -1,17 +1,15 @@
 -- Notifying, trace stops and changes of one LWP keep rows sound.
-use Rattle.std.proofs.Common.{◌≡◌, ◌≢◌, ℕ, ◌<◌, Bool, true, false, cond, ◌==◌, ◌&&◌, ◌||◌, List, [], ◌∷◌, Some, None, refl, sym, ◌∙◌, true≢false, subst, arith, eqb-true, eq-eqb}
+use Rattle.std.proofs.Common.{◌≡◌, ◌≢◌, ℕ, Bool, true, false, ◌==◌, ◌&&◌, ◌||◌, List, [], ◌∷◌, None, refl, sym, true≢false, subst, arith, eqb-true}
 use Rattle.std.specs.List.{AllByRecursion, list_any}
 use Rattle.signals.specs.Table.{SIGCHLD}
-use Rattle.lwp_table.specs.declared.LwpData.{LwpData}
-use Rattle.lwp_table.specs.Lwps.{lwp_of, Differ, LacksLwp}
 use Rattle.proc_table.specs.declared.ProcData.{ProcData}
-use Rattle.proc_table.specs.Processes.{is_live, process_of}
+use Rattle.proc_table.specs.Processes.{is_live}
 use Rattle.proc_table.specs.Rows.{Rows}
-use Rattle.proc_table.specs.Kept.{Rise, AllAbove, AtHome}
+use Rattle.proc_table.specs.Kept.{AtHome}
 use Rattle.trace_stop.specs.Post.{notified}
 use Rattle.trace_stop.specs.Facts.{IsLiveOf, FitProcess, IsSound}
 use Rattle.trace_stop.specs.Before.{MayTell}
-use Rattle.trace_stop.proofs.Every.{and_left, and_right, both, by_bool, All-imply, All-both, any_more}
+use Rattle.trace_stop.proofs.Every.{and_left, and_right, both, All-imply, All-both, any_more}
 use Rattle.trace_stop.proofs.Numbers.{one_row}
 use Rattle.trace_stop.proofs.Changed.{sound_holds}
 use Rattle.trace_stop.proofs.Posting.{LiveFit, post_chosen}

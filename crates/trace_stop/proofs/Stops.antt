@@ -1,5 +1,5 @@
 -- A trace stop keeps rows sound.
-use Rattle.std.proofs.Common.{◌≡◌, ◌≢◌, ◌⊎◌, inl, ℕ, ◌≤◌, Bool, true, false, ◌==◌, ◌&&◌, if◌then◌else◌, List, [], ◌∷◌, find, Option, Some, None, IfSome, is_some, not, refl, sym, ap, ◌∙◌, true≢false, subst, arith, eqb-true, eq-eqb, bit_and}
+use Rattle.std.proofs.Common.{◌≡◌, ◌≢◌, inl, ℕ, ◌≤◌, Bool, true, false, ◌==◌, ◌&&◌, if◌then◌else◌, List, [], ◌∷◌, find, Option, Some, None, IfSome, is_some, not, refl, sym, ap, ◌∙◌, true≢false, subst, arith, eqb-true, eq-eqb, bit_and}
 use Rattle.std.specs.List.{AllByRecursion, list_any}
 use Rattle.std.specs.Option.{IsSomeAnd}
 use Rattle.signals.specs.Table.{unmaskable_set}
@@ -10,7 +10,7 @@ use Rattle.lwp_table.specs.Lwps.{lwp_of}
 use Rattle.proc_table.specs.declared.ProcData.{ProcData}
 use Rattle.proc_table.specs.declared.State.{State}
 use Rattle.proc_table.specs.declared.State.TheVariants.{Run, Trace, Job, Zombie}
-use Rattle.proc_table.specs.Processes.{is_live, is_run, is_run_state, is_zombie_state, named_by, reporting, is_this, process_of}
+use Rattle.proc_table.specs.Processes.{is_run, is_run_state, is_zombie_state, named_by, is_this, process_of}
 use Rattle.proc_table.specs.Rows.{Rows, each}
 use Rattle.proc_table.specs.Fresh.{lwp_count}
 use Rattle.trace_stop.specs.End.{tracer_in, tracer_of}
@@ -18,12 +18,12 @@ use Rattle.trace_stop.specs.Stop.{tracers, stop}
 use Rattle.trace_stop.specs.Post.{notified}
 use Rattle.trace_stop.specs.declared.Shown.{Shown}
 use Rattle.trace_stop.specs.Sound.{names_own, mode_fits}
-use Rattle.trace_stop.specs.Facts.{IsLiveOf, IsLiveChild, Linked, FitProcess, waited_for, Standing, FitLwp, Silent, WithOwner, IsSound}
+use Rattle.trace_stop.specs.Facts.{IsLiveOf, IsLiveChild, FitProcess, waited_for, FitLwp, Silent, IsSound}
 use Rattle.trace_stop.proofs.Every.{by_bool, both, All-imply, All-both, All-any, find_some, choose}
 use Rattle.trace_stop.proofs.Edited.{If_more}
 use Rattle.trace_stop.proofs.Changed.{Holds, Row, Beside, Same, Stay, Edit, Leaves, KeptRow, nobody, sound_holds, found_number, lwp_is, row_at, like_self, peopled_on, kept_row, kept_all, none_gone, no_ring, stay, edit_holds, lives_after, each_alone}
 use Rattle.trace_stop.specs.Before.{MayTell, Ready, FitOrReady, MayStop}
-use Rattle.trace_stop.proofs.Numbers.{the_row, the_lwp}
+use Rattle.trace_stop.proofs.Numbers.{the_row}
 use Rattle.trace_stop.proofs.Stopping.{live_told, notified_sound}
 
 pub run_quiet : (s : State) → is_run_state s ≡ true → (named_by s ≡ None) × (is_zombie_state s ≡ false)
