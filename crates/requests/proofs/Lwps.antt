@@ -115,9 +115,12 @@ module _ (rows : Rows) (p : ProcData) (l : LwpData) (a : Acting rows p l) where
   same = record { process = λ q. (refl, refl); lwp = λ q x. choose (x.tid == l.tid) None (Some x) (λ o. IfSome o (λ k. (k.tid ≡ x.tid) × (k.pid ≡ x.pid))) (λ e. tt) (λ e. (refl, refl)) }
 
   stays : (q : ProcData) → Row rows FitProcess q → (q.pid == p.pid) ≡ false → Stay rows left q
-  stays q row other = stay_where rows (λ r. Some r) gone same (λ x. lwp_of x.tid rows.lwps ≡ Some x) (own_lwps rows.lwps a.sound.stands.differ) q row.at (λ x there own. (x, rw (by_bool (x.tid == l.tid) (λ is.
-      let one : l ≡ x = some_is l x (sym a.there ∙ (ap (λ n. lwp_of n rows.lwps) (sym (eqb-true x.tid l.tid is)) ∙ there)) in
-      true≢false (sym (eq-eqb q.pid p.pid (sym own ∙ (ap (λ (k : LwpData). k.pid) (sym one) ∙ a.own))) ∙ other))) refl))
+  stays q row other = stay_where rows (λ r. Some r) gone same (λ x. lwp_of x.tid rows.lwps ≡ Some x) (own_lwps rows.lwps a.sound.stands.differ) q row.at (λ x there own. (
+    x,
+    rw (by_bool (x.tid == l.tid) (λ is.
+        let one : l ≡ x = some_is l x (sym a.there ∙ (ap (λ n. lwp_of n rows.lwps) (sym (eqb-true x.tid l.tid is)) ∙ there)) in
+        true≢false (sym (eq-eqb q.pid p.pid (sym own ∙ (ap (λ (k : LwpData). k.pid) (sym one) ∙ a.own))) ∙ other))) refl,
+  ))
 
   pub removed_sound : 2 ≤ lwp_count p.pid rows → IsSound (remove_lwp l.tid rows)
   removed_sound two = subst IsSound (lwps_alone rows a.sound.stands.housed (gone p)) (sound_holds left (edit_holds rows nobody (λ q. Some q) gone FitProcess FitLwp FitProcess FitLwp (holds_sound rows a.sound) (record {
