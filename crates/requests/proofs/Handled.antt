@@ -1,6 +1,6 @@
 -- What is decided about a trace stop, and what a handle asks.
 use Rattle.std.specs.Prelude.{option_map}
-use Rattle.std.proofs.Common.{◌≡◌, ℕ, ◌≤◌, ◌%◌, [], ◌∷◌, negsuc, Bool, true, false, ◌==◌, ◌&&◌, if◌then◌else◌, List, Option, Some, None, IfSome, refl, sym, ap, ◌∙◌, subst, eq-eqb, true≢false}
+use Rattle.std.proofs.Common.{◌≡◌, ℕ, ◌≤◌, ◌%◌, [], ◌∷◌, negsuc, Bool, true, false, ◌==◌, ◌&&◌, if◌then◌else◌, List, Option, Some, None, IfSome, refl, sym, ap, ◌∙◌, subst, eq-eqb, true≢false, leb, eqb}
 use Rattle.std.proofs.lemmas.Bool.{le-leb}
 use Rattle.lwp_table.specs.declared.LwpData.{LwpData}
 use Rattle.lwp_table.specs.Lwps.{lwp_of}
@@ -25,7 +25,7 @@ use Rattle.wait4.specs.declared.Collected.{Collected}
 use Rattle.wait4.specs.declared.Collected.TheVariants as collected
 use Rattle.wait4.specs.declared.StatusKind.TheVariants.{Continued}
 use Rattle.wait4.specs.Status.{ended}
-use Rattle.wait4.specs.Collect.{is_child, fits, candidates, collect, answer, reportable, reported, rows_after, collect_one, told, status_of, status_of_state}
+use Rattle.wait4.specs.Collect.{is_child, fits, candidates, collect, answer, reportable, reported, rows_after, told, status_of, status_of_state}
 use Rattle.wait4.specs.Collect as wait
 use Rattle.requests.specs.declared.Reply.TheVariants as reply
 use Rattle.requests.specs.Outcome.{Outcome, answers}

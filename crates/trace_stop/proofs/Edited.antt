@@ -1,12 +1,13 @@
 -- Lists whose elements are each changed, or taken out.
-use Rattle.std.proofs.Common.{◌≡◌, ℕ, ◌+◌, ◌≤◌, List, [], ◌∷◌, find, filter_map, Bool, true, false, cond, ◌||◌, ◌==◌, Option, Some, None, IfSome, refl, sym, ap, ◌∙◌, arith, subst, eqb-true}
+use Rattle.std.proofs.Common.{◌≡◌, ℕ, ◌+◌, ◌≤◌, List, [], ◌∷◌, find, filter_map, Bool, true, false, cond, ◌||◌, ◌==◌, Option, Some, None, IfSome, refl, sym, ap, ◌∙◌, arith, subst, eqb-true, true≢false}
 use Rattle.std.specs.Prelude.{count_by}
 use Rattle.std.specs.List.{AllByRecursion, list_any, cons_option}
 use Rattle.lwp_table.specs.declared.LwpData.{LwpData}
 use Rattle.lwp_table.specs.Lwps.{Differ, LacksLwp}
 use Rattle.proc_table.specs.declared.ProcData.{ProcData}
 use Rattle.proc_table.specs.Rows.{Rows}
-use Rattle.trace_stop.proofs.Every.{or_true, by_bool, count-cons}
+use Rattle.trace_stop.proofs.Every.{or_true, by_bool, count-cons, All-imply, All-any, any_more, count_more}
+use Rattle.trace_stop.proofs.Passes.{passes, any_edited, count_edited}
 
 abbrev pub edited : (ProcData → Option ProcData) → (LwpData → Option LwpData) → Rows → Rows
 edited f h rows = record rows { processes = filter_map f rows.processes; lwps = filter_map h rows.lwps }
@@ -27,30 +28,15 @@ edit_none f h (x ∷ xs) = rw (h x) (ap (λ ys. x ∷ ys) (edit_none f h xs))
 
 -- tests and counts of what is left
 
-pub any_edit : {X : Type 0} (q t : X → Bool) (f : X → Option X) → ((x : X) → IfSome (f x) (λ y. q y ≡ true → t x ≡ true)) → (xs : List X) → list_any q (filter_map f xs) ≡ true → list_any t xs ≡ true
-any_edit q t f h [] is = is
-any_edit {X} q t f h (x ∷ xs) is = by_row (f x) (h x) is (any_edit q t f h xs)
-  where
-    by_row : (o : Option X) → IfSome o (λ y. q y ≡ true → t x ≡ true) → list_any q (cons_option o (filter_map f xs)) ≡ true → (list_any q (filter_map f xs) ≡ true → list_any t xs ≡ true) → (t x || list_any t xs) ≡ true
-    by_row None g k rest = rw (rest k) (or_true (t x))
-    by_row (Some y) g k rest = at_head (q y) refl k
-      where
-        at_head : (b : Bool) → q y ≡ b → (b || list_any q (filter_map f xs)) ≡ true → (t x || list_any t xs) ≡ true
-        at_head true e j = rw (g e) refl
-        at_head false e j = rw (rest j) (or_true (t x))
+if_passes : {X : Type 0} (q : X → Bool) (R : Type 0) (o : Option X) → IfSome o (λ y. q y ≡ true → R) → passes q o ≡ true → R
+if_passes q R None h is = absurd (true≢false (sym is))
+if_passes q R (Some y) h is = h is
 
-cond_less : (a b : Bool) → (a ≡ true → b ≡ true) → cond {A = ℕ} a 1 0 ≤ cond b 1 0
-cond_less true b h = rw (h refl) (omega arith)
-cond_less false true h = omega arith
-cond_less false false h = omega arith
+pub any_edit : {X : Type 0} (q t : X → Bool) (f : X → Option X) → ((x : X) → IfSome (f x) (λ y. q y ≡ true → t x ≡ true)) → (xs : List X) → list_any q (filter_map f xs) ≡ true → list_any t xs ≡ true
+any_edit q t f h xs is = any_more (λ x. passes q (f x)) t (λ x. if_passes q (t x ≡ true) (f x) (h x)) xs (sym (any_edited f q xs) ∙ is)
 
 pub count_edit : {X : Type 0} (q t : X → Bool) (f : X → Option X) → ((x : X) → IfSome (f x) (λ y. q y ≡ true → t x ≡ true)) → (xs : List X) → count_by q (filter_map f xs) ≤ count_by t xs
-count_edit q t f h [] = omega arith
-count_edit {X} q t f h (x ∷ xs) = by_row (f x) (h x) (count_edit q t f h xs)
-  where
-    by_row : (o : Option X) → IfSome o (λ y. q y ≡ true → t x ≡ true) → count_by q (filter_map f xs) ≤ count_by t xs → count_by q (cons_option o (filter_map f xs)) ≤ count_by t (x ∷ xs)
-    by_row None g le = let all = count-cons t x xs in omega (arith, all, le)
-    by_row (Some y) g le = let all = count-cons t x xs in let some = count-cons q y (filter_map f xs) in let one = cond_less (q y) (t x) g in omega (arith, all, some, one, le)
+count_edit q t f h xs = let same = count_edited f q xs in let less = count_more (λ x. passes q (f x)) t xs (All-any _ (λ x. if_passes q (t x ≡ true) (f x) (h x)) xs) in omega (arith, same, less)
 
 -- what is found of what is left
 
@@ -80,26 +66,10 @@ Differ-edit h g (l ∷ ls) all = by_row (h l) (g l) (Differ-edit h g ls all.1) (
     by_row None e rest lacks = rest
     by_row (Some k) e rest lacks = (subst (λ m. LacksLwp m (filter_map h ls)) (sym e) lacks, rest)
 
-
 -- Counts where none of those counted is gone, and where one may be
 
 pub count_kept : {X : Type 0} (t r : X → Bool) (h : X → Option X) (R : X → Type 0) → ((x : X) → R x → t x ≡ true → (y : X) × (h x ≡ Some y) × (r y ≡ true)) → (xs : List X) → AllByRecursion R xs → count_by t xs ≤ count_by r (filter_map h xs)
-count_kept t r h R keep [] all = omega arith
-count_kept {X} t r h R keep (x ∷ xs) all = by_head (t x) refl (count_kept t r h R keep xs all.1)
-  where
-    more : (o : Option X) → count_by t xs ≤ count_by r (filter_map h xs) → count_by t xs ≤ count_by r (cons_option o (filter_map h xs))
-    more None le = le
-    more (Some y) le = let every = count-cons r y (filter_map h xs) in omega (arith, every, le)
-
-    by_head : (b : Bool) → t x ≡ b → count_by t xs ≤ count_by r (filter_map h xs) → count_by t (x ∷ xs) ≤ count_by r (cons_option (h x) (filter_map h xs))
-    by_head false e le = let every = count-cons t x xs in let none : cond {A = ℕ} (t x) 1 0 ≡ 0 = rw e refl in let rest = more (h x) le in omega (arith, every, none, rest)
-    by_head true e le =
-        let y = keep x all.0 e in
-        let every = count-cons t x xs in
-        let one : cond {A = ℕ} (t x) 1 0 ≡ 1 = rw e refl in
-        let then_every = count-cons r y.0 (filter_map h xs) in
-        let then_one : cond {A = ℕ} (r y.0) 1 0 ≡ 1 = rw y.2 refl in
-        subst (λ o. count_by t (x ∷ xs) ≤ count_by r (cons_option o (filter_map h xs))) (sym y.1) (omega (arith, every, one, then_every, then_one, le))
+count_kept t r h R keep xs all = let same = count_edited h r xs in let less = count_more t (λ x. passes r (h x)) xs (All-imply R _ (λ x rx is. let y = keep x rx is in ap (passes r) y.1 ∙ y.2) xs all) in omega (arith, same, less)
 
 lacks : (n : ℕ) (ls : List LwpData) → LacksLwp n ls → AllByRecursion (λ l. (l.tid == n) ≡ false) ls
 lacks n [] all = tt
@@ -108,7 +78,7 @@ lacks n (l ∷ ls) all = (by_bool (l.tid == n) (λ e. all.0 (eqb-true l.tid n e)
 -- of the LWPs counted only the one numbered n may go
 pub one_gone : (t : LwpData → Bool) (n : ℕ) (h : LwpData → Option LwpData) → ((l : LwpData) → (l.tid == n) ≡ false → t l ≡ true → (k : LwpData) × (h l ≡ Some k) × (t k ≡ true)) → (ls : List LwpData) → Differ ls → count_by t ls ≤ count_by t (filter_map h ls) + 1
 one_gone t n h keep [] all = omega arith
-one_gone t n h keep (l ∷ ls) all = by_head (l.tid == n) refl (h l) refl (one_gone t n h keep ls all.1)
+one_gone t n h keep (l ∷ ls) all = by_head (l.tid == n) refl (one_gone t n h keep ls all.1)
   where
     every : count_by t (l ∷ ls) ≡ cond (t l) 1 0 + count_by t ls
     every = count-cons t l ls
@@ -117,23 +87,16 @@ one_gone t n h keep (l ∷ ls) all = by_head (l.tid == n) refl (h l) refl (one_g
     most true = omega arith
     most false = omega arith
 
-    more : (o : Option LwpData) → count_by t (filter_map h ls) ≤ count_by t (cons_option o (filter_map h ls))
-    more None = omega arith
-    more (Some k) = let all = count-cons t k (filter_map h ls) in omega (arith, all)
+    left : count_by t (filter_map h (l ∷ ls)) ≡ cond (passes t (h l)) 1 0 + count_by t (filter_map h ls)
+    left = let all = count_edited h t (l ∷ ls) in let rest = count_edited h t ls in let head = count-cons (λ k. passes t (h k)) l ls in omega (arith, all, rest, head)
 
-    other : (b : Bool) → t l ≡ b → (l.tid == n) ≡ false → count_by t ls ≤ count_by t (filter_map h ls) + 1 → count_by t (l ∷ ls) ≤ count_by t (cons_option (h l) (filter_map h ls)) + 1
-    other false is e rest = let none : cond {A = ℕ} (t l) 1 0 ≡ 0 = rw is refl in let few = more (h l) in omega (arith, every, none, few, rest)
-    other true is e rest =
-        let k = keep l e is in
-        let one : cond {A = ℕ} (t l) 1 0 ≡ 1 = rw is refl in
-        let then_every = count-cons t k.0 (filter_map h ls) in
-        let then_one : cond {A = ℕ} (t k.0) 1 0 ≡ 1 = rw k.2 refl in
-        subst (λ o. count_by t (l ∷ ls) ≤ count_by t (cons_option o (filter_map h ls)) + 1) (sym k.1) (omega (arith, every, one, then_every, then_one, rest))
-
-    by_head : (b : Bool) → (l.tid == n) ≡ b → (o : Option LwpData) → h l ≡ o → count_by t ls ≤ count_by t (filter_map h ls) + 1 → count_by t (l ∷ ls) ≤ count_by t (cons_option (h l) (filter_map h ls)) + 1
-    by_head false e o is rest = other (t l) refl e rest
-    by_head true e o is rest =
+    by_head : (b : Bool) → (l.tid == n) ≡ b → count_by t ls ≤ count_by t (filter_map h ls) + 1 → count_by t (l ∷ ls) ≤ count_by t (filter_map h (l ∷ ls)) + 1
+    by_head false e rest = by_test (t l) refl
+      where
+        by_test : (b : Bool) → t l ≡ b → count_by t (l ∷ ls) ≤ count_by t (filter_map h (l ∷ ls)) + 1
+        by_test false is = let none : cond {A = ℕ} (t l) 1 0 ≡ 0 = rw is refl in omega (arith, every, left, none, rest)
+        by_test true is = let k = keep l e is in let one : cond {A = ℕ} (t l) 1 0 ≡ 1 = rw is refl in let stays : cond {A = ℕ} (passes t (h l)) 1 0 ≡ 1 = rw (ap (passes t) k.1 ∙ k.2) refl in omega (arith, every, left, one, stays, rest)
+    by_head true e rest =
         let kept = count_kept t t h (λ k. (k.tid == n) ≡ false) keep ls (lacks n ls (subst (λ m. LacksLwp m ls) (eqb-true l.tid n e) all.0)) in
         let one = most (t l) in
-        let few = more (h l) in
-        omega (arith, every, one, kept, few)
+        omega (arith, every, left, one, kept)

@@ -1,6 +1,6 @@
 -- A fact of each element of a list, and tests and counts on lists.
 use Rattle.std.proofs.lemmas.Bool.{cases_Bool}
-use Rattle.std.proofs.Common.{◌≡◌, ◌+◌, List, [], ◌∷◌, ◌++◌, filter, find, filter_map, Bool, true, false, cond, not, ◌&&◌, ◌||◌, Option, Some, None, IfSome, refl, sym, ◌∙◌, arith, true≢false, subst, if◌then◌else◌, is_some, inl, inr}
+use Rattle.std.proofs.Common.{◌≡◌, ◌+◌, List, [], ◌∷◌, ◌++◌, filter, find, filter_map, Bool, true, false, cond, not, ◌&&◌, ◌||◌, Option, Some, None, IfSome, refl, sym, ◌∙◌, arith, true≢false, subst, if◌then◌else◌, is_some, inl, inr, ℕ, ◌≤◌}
 use Rattle.std.specs.Prelude.{count_by}
 use Rattle.std.specs.List.{AllByRecursion, list_any, list_all, cons_option}
 use Rattle.std.proofs.lemmas.List.Sums.{sum_by-cons, sum_by-append}
@@ -141,6 +141,16 @@ count-cons q x xs = sum_by-cons (λ y. cond (q y) 1 0) x xs
 
 pub count-append : {X : Type 0} (q : X → Bool) (xs ys : List X) → count_by q (xs ++ ys) ≡ count_by q xs + count_by q ys
 count-append q xs ys = sum_by-append (λ y. cond (q y) 1 0) xs ys
+
+-- of elements that pass a test, and pass another
+pub count_more : {X : Type 0} (q t : X → Bool) (xs : List X) → AllByRecursion (λ x. q x ≡ true → t x ≡ true) xs → count_by q xs ≤ count_by t xs
+count_more q t [] all = omega arith
+count_more q t (x ∷ xs) all = let one = less (q x) (t x) all.0 in let some = count-cons q x xs in let every = count-cons t x xs in let rest = count_more q t xs all.1 in omega (arith, one, some, every, rest)
+  where
+    less : (a b : Bool) → (a ≡ true → b ≡ true) → cond {A = ℕ} a 1 0 ≤ cond b 1 0
+    less true b h = rw (h refl) (omega arith)
+    less false true h = omega arith
+    less false false h = omega arith
 
 -- tests that agree on each element
 pub count_same : {X : Type 0} (q t : X → Bool) (xs : List X) → AllByRecursion (λ x. q x ≡ t x) xs → count_by q xs ≡ count_by t xs

@@ -8,13 +8,15 @@ use Rattle.proc_table.specs.Kept.{AtHome}
 use Rattle.trace_stop.specs.declared.Settings.{Settings}
 use Rattle.trace_stop.specs.End.{tracer_in, tracer_of, meets, is_doomed, dooms, end_of, left_alone, end}
 use Rattle.trace_stop.specs.Sound.{is_end}
-use Rattle.trace_stop.specs.Facts.{Linked, IsSound}
-use Rattle.trace_stop.proofs.Every.{and_left, and_right, both, by_bool, or_true, or_left, All-imply, All-both, any_holds}
+use Rattle.trace_stop.specs.Facts.{Linked, IsSound, IsLiveOf, FitProcess, Stands}
+use Rattle.trace_stop.proofs.Every.{and_left, and_right, both, by_bool, or_true, or_left, All-imply, All-both, any_holds, find_some, any_more}
 use Rattle.trace_stop.proofs.Numbers.{one_row, the_row}
 use Rattle.trace_stop.proofs.Stops.{find_passes}
 use Rattle.trace_stop.proofs.Ending.{Ends, end_each_sound}
 use Rattle.trace_stop.proofs.Passes.{own_rows}
 use Rattle.trace_stop.proofs.Chains.{meets-more, chains_meet}
+use Rattle.proc_table.specs.Seen.{owns}
+use Rattle.trace_stop.proofs.Changed.{Row, holds_sound, row_is, all_rows, found_number}
 
 meets_step : (ps : List ProcData) (links p n t : ℕ) → tracer_of ps n ≡ Some t → ((t == p) || meets links ps p t) ≡ true → meets (suc links) ps p n ≡ true
 unfolding meets
@@ -37,25 +39,19 @@ module _ (settings : Settings) (rows : Rows) (p : ProcData) (s : IsSound rows) (
   abbrev over : ℕ → Bool
   over n = dooms settings rows.processes p.pid n
 
-  -- what each row of the list is
-  record Known (q : ProcData) : Type 0 where
-    found : process_of q.pid rows.processes ≡ Some q
-    one : list_any (λ r. (r.pid == q.pid) && ends r) rows.processes ≡ true → ends q ≡ true
-    same : q.pid ≡ p.pid → q ≡ p
-    home : AtHome q
-    link : Linked rows q
+  abbrev Known : ProcData → Type 0
+  Known q = Row rows FitProcess q
 
   known : AllByRecursion Known rows.processes
-  known = All-imply (λ q. (process_of q.pid rows.processes ≡ Some q) × ((list_any (λ r. (r.pid == q.pid) && ends r) rows.processes ≡ true → ends q ≡ true) × ((q.pid ≡ p.pid → q ≡ p) × (AtHome q × Linked rows q)))) Known
-      (λ q h. record { found = h.0; one = h.1.0; same = h.1.1.0; home = h.1.1.1.0; link = h.1.1.1.1 }) rows.processes
-      (All-both _ _ rows.processes (own_rows rows.processes s.stands.rising) (All-both _ _ rows.processes (one_row ends rows.processes s.stands.rising) (All-both _ _ rows.processes (the_row p.pid rows.processes p s.stands.rising at) (All-both AtHome (Linked rows) rows.processes s.stands.homes s.stands.linked))))
+  known = all_rows rows (holds_sound rows s)
 
   over_is : (q : ProcData) → Known q → over q.pid ≡ ends q
-  over_is q k = same_test (over q.pid) (ends q) k.one (λ e. find_passes (λ r. r.pid == q.pid) (λ r. (r.pid == q.pid) && ends r) rows.processes q k.found (both (q.pid == q.pid) (ends q) (eq-eqb q.pid q.pid refl) e))
+  over_is q k = same_test (over q.pid) (ends q) (any_holds (λ r. (r.pid == q.pid) && ends r) Known (ends q ≡ true) (λ r its is. subst (λ x. ends x ≡ true) (row_is its k.at (eqb-true r.pid q.pid (and_left (r.pid == q.pid) (ends r) is))) (and_right (r.pid == q.pid) (ends r) is)) rows.processes known)
+      (λ e. find_passes (λ r. r.pid == q.pid) (λ r. (r.pid == q.pid) && ends r) rows.processes q k.at (both (q.pid == q.pid) (ends q) (eq-eqb q.pid q.pid refl) e))
 
   ends_live : (q : ProcData) → Known q → ends q ≡ true → is_live q ≡ true
   ends_live q k e = or_cases (q.pid == p.pid) (settings.kill_on_debugger_exit && is_live q && meets 250 rows.processes p.pid q.pid) (is_live q ≡ true) e
-      (λ same. subst (λ r. is_live r ≡ true) (sym (k.same (eqb-true q.pid p.pid same))) live)
+      (λ same. subst (λ r. is_live r ≡ true) (sym (row_is k at (eqb-true q.pid p.pid same))) live)
       (λ doomed. and_right settings.kill_on_debugger_exit (is_live q) (and_left (settings.kill_on_debugger_exit && is_live q) (meets 250 rows.processes p.pid q.pid) doomed))
 
   -- where debuggers kill, a chain of tracers is doomed whole
@@ -72,7 +68,7 @@ module _ (settings : Settings) (rows : Rows) (p : ProcData) (s : IsSound rows) (
       by_tracer None e = tt
       by_tracer (Some t) e = by_bool (over t) (λ is. any_holds (λ r. (r.pid == t) && ends r) Known ⊥ (λ r k' h.
           let here : r.pid ≡ t = eqb-true r.pid t (and_left (r.pid == t) (ends r) h) in
-          let link : tracer_of rows.processes q.pid ≡ Some t = ap tracer_in k.found ∙ e in
+          let link : tracer_of rows.processes q.pid ≡ Some t = ap tracer_in k.at ∙ e in
           or_cases (r.pid == p.pid) (settings.kill_on_debugger_exit && is_live r && meets 250 rows.processes p.pid r.pid) ⊥ (and_right (r.pid == t) (ends r) h)
           (λ same. far (meets_step rows.processes 249 p.pid q.pid t link (or_left (t == p.pid) (meets 249 rows.processes p.pid t) (eq-eqb t p.pid (sym here ∙ eqb-true r.pid p.pid same)))))
           (λ doomed. far (meets-more 249 rows.processes p.pid q.pid (chains_meet rows 251 p.pid q.pid s.stands (meets_step rows.processes 250 p.pid q.pid t link (or_second (t == p.pid) (meets 250 rows.processes p.pid t) (subst (λ n. meets 250 rows.processes p.pid n ≡ true) here (and_right (settings.kill_on_debugger_exit && is_live r) (meets 250 rows.processes p.pid r.pid) doomed))))))))

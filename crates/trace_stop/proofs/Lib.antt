@@ -24,7 +24,6 @@ pub mod Running
 pub mod Detached
 pub mod Posts
 pub mod Linking
-pub mod Thinned
 pub mod Joining
 pub mod Found
 pub mod Shows

@@ -1,5 +1,6 @@
 -- Lists edited twice, and what is found after an edit.
-use Rattle.std.proofs.Common.{◌≡◌, ℕ, ◌<◌, List, [], ◌∷◌, filter_map, find, Bool, true, false, cond, ◌||◌, ◌==◌, Option, Some, None, IfSome, refl, sym, ap, ◌∙◌, arith, eqb, eqb-true, eq-eqb}
+use Rattle.std.proofs.Common.{◌≡◌, ℕ, ◌+◌, ◌<◌, List, [], ◌∷◌, filter_map, find, Bool, true, false, cond, ◌||◌, ◌==◌, Option, Some, None, IfSome, refl, sym, ap, ◌∙◌, arith, eqb, eqb-true, eq-eqb}
+use Rattle.std.specs.Prelude.{count_by}
 use Rattle.std.specs.Option.{option_and_then}
 use Rattle.std.specs.List.{AllByRecursion, list_any, cons_option}
 use Rattle.std.proofs.lemmas.Bool.Decides.{nat_tests}
@@ -8,7 +9,7 @@ use Rattle.lwp_table.specs.declared.LwpData.{LwpData}
 use Rattle.proc_table.specs.Processes.{process_of, is_live}
 use Rattle.proc_table.specs.Rows.{Rows, by_owner, each}
 use Rattle.proc_table.specs.Kept.{AllAbove, Rise}
-use Rattle.trace_stop.proofs.Every.{find_some, All-imply, All-both}
+use Rattle.trace_stop.proofs.Every.{find_some, All-imply, All-both, count-cons}
 
 pub filter_map_same : {X Y : Type 0} (f g : X → Option Y) (xs : List X) → AllByRecursion (λ x. f x ≡ g x) xs → filter_map f xs ≡ filter_map g xs
 filter_map_same f g [] all = refl
@@ -34,6 +35,14 @@ passes q (Some x) = q x
 pub any_edited : {X Y : Type 0} (f : X → Option Y) (q : Y → Bool) (xs : List X) → list_any q (filter_map f xs) ≡ list_any (λ x. passes q (f x)) xs
 any_edited f q [] = refl
 any_edited f q (x ∷ xs) = grind (arith, any_edited f q xs)
+
+pub count_edited : {X Y : Type 0} (f : X → Option Y) (q : Y → Bool) (xs : List X) → count_by q (filter_map f xs) ≡ count_by (λ x. passes q (f x)) xs
+count_edited f q [] = refl
+count_edited {X} {Y} f q (x ∷ xs) = at_head (f x) (count_edited f q xs) ∙ sym (count-cons (λ y. passes q (f y)) x xs)
+  where
+    at_head : (o : Option Y) → count_by q (filter_map f xs) ≡ count_by (λ y. passes q (f y)) xs → count_by q (cons_option o (filter_map f xs)) ≡ cond (passes q o) 1 0 + count_by (λ y. passes q (f y)) xs
+    at_head None rest = omega (arith, rest)
+    at_head (Some y) rest = count-cons q y (filter_map f xs) ∙ ap (λ n. cond (q y) 1 0 + n) rest
 
 -- Rows by their numbers
 

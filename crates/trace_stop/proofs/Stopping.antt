@@ -1,5 +1,5 @@
 -- Notifying, trace stops and changes of one LWP keep rows sound.
-use Rattle.std.proofs.Common.{◌≡◌, ℕ, Bool, true, false, ◌==◌, ◌&&◌, ◌||◌, List, [], ◌∷◌, None, refl, sym, true≢false, subst, arith, eqb-true}
+use Rattle.std.proofs.Common.{◌≡◌, ℕ, Bool, true, false, ◌==◌, ◌&&◌, ◌||◌, List, [], ◌∷◌, None, refl, sym, true≢false, subst, arith, eqb-true, ◌≢◌}
 use Rattle.std.specs.List.{AllByRecursion, list_any}
 use Rattle.signals.specs.Table.{SIGCHLD}
 use Rattle.proc_table.specs.declared.ProcData.{ProcData}

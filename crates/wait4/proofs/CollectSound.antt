@@ -1,5 +1,5 @@
 -- Collecting a status keeps rows sound.
-use Rattle.std.proofs.Common.{◌≡◌, ◌⊎◌, inl, inr, ℕ, Bool, true, false, ◌==◌, ◌&&◌, not, if◌then◌else◌, [], ◌∷◌, Option, Some, None, IfSome, is_some, refl, sym, ap, ◌∙◌, true≢false, subst, eq-eqb, bit_and}
+use Rattle.std.proofs.Common.{◌≡◌, inl, inr, ℕ, true, false, ◌==◌, ◌&&◌, not, if◌then◌else◌, [], ◌∷◌, Option, Some, None, IfSome, refl, sym, ap, ◌∙◌, true≢false, subst, eq-eqb, bit_and}
 use Rattle.std.specs.List.{AllByRecursion}
 use Rattle.lwp_table.specs.declared.LwpData.{LwpData}
 use Rattle.proc_table.specs.declared.ProcData.{ProcData}
@@ -7,7 +7,7 @@ use Rattle.proc_table.specs.declared.State.{State}
 use Rattle.proc_table.specs.declared.State.TheVariants.{Run, Trace, Job, Zombie}
 use Rattle.proc_table.specs.Processes.{is_live, reporting, traces, process_of}
 use Rattle.proc_table.specs.Rows.{Rows, each}
-use Rattle.trace_stop.specs.Post.{unwanted, notified}
+use Rattle.trace_stop.specs.Post.{unwanted}
 use Rattle.trace_stop.specs.Facts.{FitProcess, FitLwp, IsSound}
 use Rattle.trace_stop.specs.Before.{MayTell}
 use Rattle.trace_stop.proofs.Every.{and_left, and_right, choose}

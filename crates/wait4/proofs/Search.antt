@@ -13,8 +13,8 @@ use Rattle.trace_stop.proofs.Passes.{found_above}
 use Rattle.trace_stop.proofs.Every.{and_left, and_right, both, by_bool}
 use Rattle.proc_table.specs.Laws.{IsLeast, LeastOrNone}
 use Rattle.proc_table.proofs.Least.{least_or_none}
-use Rattle.wait4.specs.declared.Collected.TheVariants.{Nothing, Got, NoChild}
-use Rattle.wait4.specs.Collect.{lesser, answer, status_of}
+use Rattle.wait4.specs.declared.Collected.TheVariants.{Nothing, NoChild}
+use Rattle.wait4.specs.Collect.{lesser, answer}
 
 -- Rows above a number that pass a test, and have something to report
 
@@ -151,10 +151,6 @@ find-filter q r (p ∷ ps) = elim (cases_Bool (q p)) [
   | inl e ↦ elim (cases_Bool (r p)) [ inl f ↦ rw (e, f) refl | inr f ↦ rw (e, f) (find-filter q r ps) ]
   | inr e ↦ rw e (find-filter q r ps)
 ]
-
-pub answer-some : (r : ProcData → Bool) (cs : List ProcData) (p : ProcData) → find r cs ≡ Some p → answer cs (Some p) ≡ Got p.pid (status_of p)
-answer-some r [] p is = absurd (cc)
-answer-some r (c ∷ cs) p is = refl
 
 pub answer-none : (q : ProcData → Bool) (ps : List ProcData) → answer (filter q ps) None ≡ (if list_any q ps then Nothing else NoChild)
 answer-none q [] = refl
