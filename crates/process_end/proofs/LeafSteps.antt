@@ -1,4 +1,5 @@
 -- Rows that name a process that ends, each taken from it: its end is as it was.
+use Rattle.std.proofs.lemmas.Bool.Decides.{nat_tests}
 use Rattle.std.proofs.Common.{◌≡◌, ℕ, Bool, true, false, not, ◌&&◌, ◌==◌, Option, Some, None, IfSome, is_none, refl, sym, ap, ◌∙◌, true≢false, eqb-true, subst, arith}
 use Rattle.std.proofs.Math.Bool.{and-false}
 use Rattle.std.specs.Option.{option_and_then}
@@ -70,10 +71,7 @@ module _ (q n : ℕ) (rows : Rows) (v : IsLeaving q rows) (rise : Rise rows.proc
   out_keeps r = choose (r.pid == n) None (Some r) (λ o. IfSome o (λ s. s.pid ≡ r.pid)) (λ e. tt) (λ e. refl)
 
   out_fit : LeavingRow v.alive q z → Fit v.alive q (out n) z
-  out_fit h = record {
-    row = rw here tt;
-    here = λ is. absurd (true≢false (sym (and_right (z.pid == q) (is_live z) is) ∙ ended));
-  }
+  out_fit h = grind (arith, nat_tests)
 
   pub out_leaving : IsLeaving q (each (out n) same_lwp rows)
   out_leaving = step_leaving q n rows v rise z at (out n) out_apart out_keeps out_fit

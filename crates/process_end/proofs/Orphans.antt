@@ -37,11 +37,7 @@ pub collector_none : (z : ProcData) → option_map collector (uncollected z) ≡
 collector_none z none = grind (arith, nat_tests, none)
 
 pub collector_some : (z : ProcData) (m : ℕ) → option_map collector (uncollected z) ≡ Some m → (is_gone z ≡ false) × (m ≡ collector z)
-collector_some z m some = by_gone (is_gone z) refl
-  where
-    by_gone : (b : Bool) → is_gone z ≡ b → (is_gone z ≡ false) × (m ≡ collector z)
-    by_gone true e = absurd (true≢false (sym (sym (ap is_some (ap (option_map collector) (gone-true z e))) ∙ ap is_some some)))
-    by_gone false e = (e, some_is m (collector z) (sym some ∙ collected z e))
+collector_some z m some = grind (arith, nat_tests)
 
 -- Walks
 

@@ -107,11 +107,7 @@ module _ (rows : Rows) (q status : ℕ) (s : Stands rows) (live : IsLiveRow rows
   -- q is live, so that nothing else with its number ends
   ends_q : (r : ProcData) → process_of r.pid ps ≡ Some r → (r.pid == q) ≡ fallen (alone q) r
   unfolding alone
-  ends_q r at = by_live (is_live r) refl
-    where
-      by_live : (b : Bool) → is_live r ≡ b → (r.pid == q) ≡ (is_live r && (r.pid == q))
-      by_live true alive = grind (arith, nat_tests)
-      by_live false ended = zombie_safe (record { kill_on_debugger_exit = true }) ps q live r at ended ∙ sym (ap (λ b. b && (r.pid == q)) ended)
+  ends_q r at = grind (arith, nat_tests)
 
   pub after-is : end_alone q status rows ≡ after
   after-is = alone_form ∙ end_turned (alone q) q status rows s.rising

@@ -171,12 +171,7 @@ told_lwp_twice t1 t2 t3 r l told = grind (arith, nat_tests, heard_lwp_twice)
 
 released_twice : (d : ℕ → Bool) (q : ℕ) → d q ≡ true → (r : ProcData) (l : LwpData) → released (rest d q) r (released (alone q) r l) ≡ released d r l
 unfolding rest alone
-released_twice d q dq r l = by_mode l.mode
-  where
-    by_mode : (m : Mode) → released (rest d q) r (released (alone q) r (record l { mode = m })) ≡ released d r (record l { mode = m })
-    by_mode User = refl
-    by_mode (InCall call) = refl
-    by_mode (VforkWait c) = grind (arith, nat_tests)
+released_twice d q dq r l = grind (arith, nat_tests)
 
 module _ (d : ℕ → Bool) (p q status : ℕ) (r : ProcData) (l : LwpData) (dq : d q ≡ true) (live : is_live r ≡ true)
     (t1 t2 t3 : ℕ → Bool) (k1 : Told (alone q) t1 r) (told : d r.pid ≡ false → t2 r.pid ≡ (t1 r.pid || t3 r.pid)) where
