@@ -1,6 +1,6 @@
 -- The rows, when a process that is doomed and traces no live one ends before the process that dooms it.
 use Rattle.std.proofs.lemmas.Bool.Decides.{nat_tests}
-use Rattle.std.proofs.Common.{◌≡◌, ℕ, List, filter_map, Bool, true, false, ◌||◌, ◌==◌, if◌then◌else◌, Option, Some, None, IfSome, sym, ap, ◌∙◌, true≢false, subst, arith}
+use Rattle.std.proofs.Common.{◌≡◌, ℕ, List, filter_map, Bool, true, false, ◌||◌, ◌==◌, Option, Some, None, IfSome, sym, ap, ◌∙◌, subst, arith}
 use Rattle.std.specs.Option.{option_and_then}
 use Rattle.std.specs.List.{AllByRecursion, list_any}
 use Rattle.signals.specs.Table.{SIGKILL}
@@ -10,7 +10,7 @@ use Rattle.proc_table.specs.Processes.{process_of, is_live}
 use Rattle.proc_table.specs.Rows.{Rows, each, by_owner}
 use Rattle.proc_table.specs.Kept.{Rise}
 use Rattle.trace_stop.specs.End.{holds_of, process_after, released, lwp_after, notifies_of, end_each}
-use Rattle.trace_stop.proofs.Every.{by_bool, All-imply, All-both, All-any, any_holds}
+use Rattle.trace_stop.proofs.Every.{All-imply, All-both, All-any, any_holds}
 use Rattle.trace_stop.proofs.Passes.{passes, any_same, any_or, any_edited, KeepsNumbers, KeepsOwners, own_rows, rise_edited, each_twice, each_agree}
 use Rattle.process_end.proofs.Doomed.{NoZombie}
 use Rattle.process_end.proofs.Turned.{heard, heard_lwp, fallen, notified_row, notified_lwp, turned, turned_lwp}

@@ -12,7 +12,7 @@ use Rattle.proc_table.specs.Kept.{Rise}
 use Rattle.trace_stop.specs.End.{unless, orphaned}
 use Rattle.process_end.specs.Laws.{end_alone}
 use Rattle.process_end.specs.Leaving.{LeavingRow, IsLeaving}
-use Rattle.trace_stop.proofs.Every.{choose, and_right, All-imply, All-both, find_some}
+use Rattle.trace_stop.proofs.Every.{choose, All-imply, All-both, find_some}
 use Rattle.trace_stop.proofs.Passes.{passes, KeepsNumbers}
 use Rattle.trace_stop.proofs.Numbers.{the_row}
 use Rattle.process_end.proofs.Turned.{turned, turned_lwp, is_gone, gone-true, turned-dead}

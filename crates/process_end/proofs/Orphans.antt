@@ -20,8 +20,7 @@ use Rattle.trace_stop.specs.End.{orphaned, uncollected, collector}
 use Rattle.process_end.specs.Laws.{end_alone}
 use Rattle.process_end.specs.Leaving.{LeavingRow, IsLeaving}
 use Rattle.trace_stop.proofs.Every.{by_bool, choose, and_left, any_holds, All-any, find_some}
-use Rattle.trace_stop.proofs.Edited.{some_is}
-use Rattle.process_end.proofs.Turned.{is_gone, gone-true, gone-false}
+use Rattle.process_end.proofs.Turned.{is_gone, gone-false}
 use Rattle.process_end.proofs.Twice.{alone}
 use Rattle.process_end.proofs.Leaving.{is_alone, same_lwp, put, out, put_tell, put_tell_lwp, set_each, drop_each, set_tell}
 use Rattle.process_end.proofs.LeafSteps.{orphan, out_leaving, out_same, put_leaving, put_same}

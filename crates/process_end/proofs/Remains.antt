@@ -1,6 +1,6 @@
 -- What one row is, and its LWPs are, after a process that traces no live one has ended.
 use Rattle.std.proofs.lemmas.Bool.Decides.{nat_tests}
-use Rattle.std.proofs.Common.{◌≡◌, ℕ, ◌+◌, List, [], ◌∷◌, filter_map, Bool, true, false, cond, ◌&&◌, ◌==◌, if◌then◌else◌, Option, Some, None, IfSome, refl, sym, ap, ◌∙◌, arith, eq-eqb, subst}
+use Rattle.std.proofs.Common.{◌≡◌, ℕ, ◌+◌, List, [], ◌∷◌, filter_map, Bool, true, false, cond, ◌==◌, if◌then◌else◌, Option, Some, None, IfSome, refl, sym, ap, ◌∙◌, arith, eq-eqb, subst}
 use Rattle.std.specs.Prelude.{count_by}
 use Rattle.std.specs.Int.RustNames.{bit_and}
 use Rattle.std.specs.List.{AllByRecursion, cons_option}
@@ -21,7 +21,7 @@ use Rattle.process_end.proofs.Turned.{heard, heard_lwp, moved, notified_row, not
 use Rattle.process_end.proofs.Twice.{alone, Told}
 use Rattle.process_end.proofs.Tells.{tells, tells-names, parent_after}
 use Rattle.process_end.proofs.LeafFirst.{told, told-is, end_turned, Told-from}
-use Rattle.process_end.proofs.LeafLaw.{IsLiveRow, zombie_safe, named, alone-true}
+use Rattle.process_end.proofs.LeafLaw.{IsLiveRow, named, alone-true}
 
 -- Lists
 

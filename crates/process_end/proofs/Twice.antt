@@ -5,8 +5,6 @@ use Rattle.signals.specs.Table.{SIGKILL}
 use Rattle.proc_table.specs.Rows.{by_owner}
 use Rattle.proc_table.specs.declared.ProcData.{ProcData}
 use Rattle.lwp_table.specs.declared.LwpData.{LwpData}
-use Rattle.lwp_table.specs.declared.Mode.{Mode}
-use Rattle.lwp_table.specs.declared.Mode.TheVariants.{User, InCall, VforkWait}
 use Rattle.proc_table.specs.Processes.{is_live}
 use Rattle.trace_stop.specs.End.{unless, holds_of, orphaned, dead, uncollected, released}
 use Rattle.std.proofs.lemmas.Bool.Decides.{nat_tests}

@@ -321,15 +321,19 @@ module _ (rows : Rows) (over : ℕ → Bool) (f : ProcData → Option ProcData) 
       by_lwp : (l : LwpData) (p q : ProcData) → Beside rows P Q p l → InBlock (tid_block p.uid) l.tid → over p.pid ≡ false → f p ≡ Some q → (q.pid ≡ p.pid) × (q.uid ≡ p.uid) → is_live q ≡ true
           → (o : Option LwpData) → IfSome o (λ k. (k.tid ≡ l.tid) × (k.pid ≡ l.pid)) → IfSome o (KeptLwp rows made over Q' p q) → IfSome o Here
       by_lwp l p q b home on to same live None numbers kept = tt
-      by_lwp l p q b home on to same live (Some k) numbers kept = (q, ap (λ n. process_of n made.processes) numbers.1 ∙ row_after rows f g e.same s.stands.rising l.pid p q b.at to, record {
-        home = rw (same.1, numbers.0) home;
-        stood = record {
-          live = live;
-          exited = λ shown. subst (λ n. 2 ≤ lwp_count n made) (sym same.0) (kept.exited shown);
-          waits = If_more _ (IsLiveChild made q) (child_on p q on same) (waited_for k.mode) kept.waits;
-        };
-        fits = kept.fits;
-      })
+      by_lwp l p q b home on to same live (Some k) numbers kept = (
+        q,
+        ap (λ n. process_of n made.processes) numbers.1 ∙ row_after rows f g e.same s.stands.rising l.pid p q b.at to,
+        record {
+          home = rw (same.1, numbers.0) home;
+          stood = record {
+            live = live;
+            exited = λ shown. subst (λ n. 2 ≤ lwp_count n made) (sym same.0) (kept.exited shown);
+            waits = If_more _ (IsLiveChild made q) (child_on p q on same) (waited_for k.mode) kept.waits;
+          };
+          fits = kept.fits;
+        },
+      )
 
       by_over : (l : LwpData) (p : ProcData) → InBlock (tid_block p.uid) l.tid → Beside rows P Q p l → (b : Bool) → over p.pid ≡ b → IfSome (g p l) Here
       by_over l p home b true is = subst (λ o. IfSome o Here) (sym (e.gone p l b.row is)) tt

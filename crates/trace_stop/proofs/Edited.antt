@@ -80,7 +80,6 @@ Differ-edit h g (l ∷ ls) all = by_row (h l) (g l) (Differ-edit h g ls all.1) (
     by_row None e rest lacks = rest
     by_row (Some k) e rest lacks = (subst (λ m. LacksLwp m (filter_map h ls)) (sym e) lacks, rest)
 
-
 -- Counts where none of those counted is gone, and where one may be
 
 pub count_kept : {X : Type 0} (t r : X → Bool) (h : X → Option X) (R : X → Type 0) → ((x : X) → R x → t x ≡ true → (y : X) × (h x ≡ Some y) × (r y ≡ true)) → (xs : List X) → AllByRecursion R xs → count_by t xs ≤ count_by r (filter_map h xs)

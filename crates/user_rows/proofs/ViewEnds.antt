@@ -1,24 +1,24 @@
 -- The end of a process.
 use Rattle.std.proofs.lemmas.Bool.Decides.{nat_tests}
-use Rattle.std.proofs.Common.{◌≡◌, ◌≢◌, ℕ, zero, suc, List, [], ◌∷◌, filter, filter_map, Bool, true, false, ◌==◌, ◌&&◌, ◌||◌, not, if◌then◌else◌, Option, Some, None, is_some, is_none, unwrap_or, option_map, IfSome, refl, sym, ap, ap₂, ◌∙◌, arith, eqb, true≢false, eqb-true, subst, eq-eqb, inl, inr, ◌⊎◌}
+use Rattle.std.proofs.Common.{◌≡◌, ◌≢◌, ℕ, zero, suc, List, [], ◌∷◌, filter, filter_map, Bool, true, false, ◌==◌, ◌&&◌, ◌||◌, not, if◌then◌else◌, Option, Some, None, is_some, unwrap_or, option_map, IfSome, refl, sym, ap, ◌∙◌, arith, eqb, true≢false, eqb-true, subst}
 use Rattle.std.proofs.Math.Path.{fun_ext}
 use Rattle.std.specs.List.{list_any, AllByRecursion}
 use Rattle.pid_blocks.specs.Users.{IsUser}
 use Rattle.pid_blocks.specs.Blocks.{pid_owner, tid_owner}
-use Rattle.signals.specs.Table.{SIGKILL, SIGTRAP}
+use Rattle.signals.specs.Table.{SIGTRAP}
 use Rattle.signals.specs.Sets.{bit}
 use Rattle.proc_table.specs.declared.ProcData.{ProcData}
 use Rattle.lwp_table.specs.declared.LwpData.{LwpData}
 use Rattle.lwp_table.specs.declared.Mode.{Mode}
 use Rattle.lwp_table.specs.declared.Mode.TheVariants.{User, InCall, VforkWait}
-use Rattle.proc_table.specs.Processes.{is_live, process_of, is_this, traces, reporting}
+use Rattle.proc_table.specs.Processes.{is_live, process_of, traces, reporting}
 use Rattle.proc_table.specs.Rows.{Rows, each}
 use Rattle.trace_stop.specs.declared.Settings.{Settings}
 use Rattle.trace_stop.specs.Post.{notified}
 use Rattle.trace_stop.specs.Detach.{detached}
-use Rattle.trace_stop.specs.End.{tracer_in, tracer_of, holds_of, meets, is_doomed, dooms, unless, orphaned, dead, uncollected, process_after, waits_where, released, lwp_after, collector, notifies_of, end_each, end_of, end}
+use Rattle.trace_stop.specs.End.{tracer_in, tracer_of, holds_of, meets, is_doomed, dooms, unless, uncollected, process_after, waits_where, released, lwp_after, collector, notifies_of, end_each, end_of, end}
 use Rattle.trace_stop.specs.Facts.{waited_for}
-use Rattle.user_rows.specs.Closed.{Mine, GoodProc, GoodLwp, LiveRow}
+use Rattle.user_rows.specs.Closed.{Mine, GoodProc, GoodLwp}
 use Rattle.user_rows.proofs.ViewLists.{filter_map_only, All-where}
 use Rattle.user_rows.proofs.ViewSame.{Sim, Kin, KinLwp, Keeps, own, is_own, not_own, not_equal, named, process_same, process_some, each_same}
 use Rattle.user_rows.proofs.ViewSignals.{owner_of_1, notified_same, detached_same}

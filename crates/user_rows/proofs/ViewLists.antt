@@ -1,6 +1,5 @@
 -- Filters, and what is looked up in a filtered list.
-use Rattle.std.proofs.lemmas.Bool.{cases_Bool}
-use Rattle.std.proofs.Common.{◌≡◌, ◌≢◌, ℕ, List, [], ◌∷◌, ◌++◌, map, filter, find, filter_map, Bool, true, false, Option, Some, None, is_some, IfSome, refl, sym, ap, ◌∙◌, arith, ltb, inl, inr, ◌==◌}
+use Rattle.std.proofs.Common.{◌≡◌, ◌≢◌, ℕ, List, [], ◌∷◌, ◌++◌, map, filter, find, filter_map, Bool, true, false, Option, Some, None, is_some, IfSome, refl, sym, ap, ◌∙◌, arith, ltb, ◌==◌}
 use Rattle.std.proofs.lemmas.Bool.Decides.{nat_tests}
 use Rattle.std.specs.List.{AllByRecursion, cons_option}
 use Rattle.proc_table.specs.declared.ProcData.{ProcData}

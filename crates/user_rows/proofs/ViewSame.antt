@@ -1,5 +1,4 @@
 -- One relation says all of isolation: what a step did to all rows, what the same step does to one
-use Rattle.std.proofs.lemmas.Bool.{cases_Bool}
 -- user's rows, and that other users' rows are as they were.
 use Rattle.std.proofs.Common.{◌≡◌, ◌≢◌, ℕ, List, length, filter, find, filter_map, Bool, true, false, ◌==◌, Option, Some, None, IfSome, refl, sym, ap, ◌∙◌, arith, eqb, true≢false, eqb-true, subst, eq-eqb, get_or, inl, inr, ◌⊎◌}
 use Rattle.std.proofs.lemmas.Bool.Decides.{nat_tests}

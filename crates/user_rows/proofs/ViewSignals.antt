@@ -1,18 +1,15 @@
 -- Posting signals, and running on.
 use Rattle.std.proofs.lemmas.Bool.Decides.{nat_tests}
-use Rattle.std.proofs.Common.{◌≡◌, ◌≢◌, ℕ, List, [], ◌∷◌, Bool, true, false, ◌==◌, ◌||◌, if◌then◌else◌, Option, Some, None, is_none, option_map, IfSome, refl, sym, ap, ◌∙◌, arith, eqb, true≢false, eqb-true, subst, inl}
+use Rattle.std.proofs.Common.{◌≡◌, ◌≢◌, ℕ, List, [], ◌∷◌, Bool, true, false, ◌==◌, if◌then◌else◌, Option, Some, None, option_map, IfSome, refl, sym, ap, ◌∙◌, arith, true≢false, eqb-true, subst, inl}
 use Rattle.std.specs.List.{list_any, AllByRecursion}
 use Rattle.pid_blocks.specs.Users.{IsUser}
 use Rattle.pid_blocks.specs.Blocks.{pid_owner}
-use Rattle.event_masks.specs.Exits.{no_flags, shows}
-use Rattle.event_masks.specs.declared.TheConstants.StopFlags.{PL_FLAG_EXITED}
 use Rattle.signals.specs.Table.{SIGCHLD}
 use Rattle.proc_table.specs.declared.ProcData.{ProcData}
-use Rattle.proc_table.specs.declared.State.TheVariants.{Run}
 use Rattle.lwp_table.specs.declared.LwpData.{LwpData}
-use Rattle.proc_table.specs.Processes.{is_live, process_of, is_this, reporting}
+use Rattle.proc_table.specs.Processes.{is_live, process_of}
 use Rattle.proc_table.specs.Rows.{Rows, is_numbered, change}
-use Rattle.trace_stop.specs.Post.{settled_process, settled_lwp, settle, continues, posted_set, posted_process, posted_lwp, notified, notifies, posted}
+use Rattle.trace_stop.specs.Post.{settled_process, settled_lwp, settle, continues, posted_process, posted_lwp, notified, notifies, posted}
 use Rattle.trace_stop.specs.Detach.{running, reported, run_on, resumed, untraced, untraced_lwp, detached}
 use Rattle.user_rows.specs.Closed.{Mine, GoodProc, GoodLwp, LiveRow}
 use Rattle.user_rows.proofs.ViewSame.{Sim, Kin, KinLwp, not_own, named, process_same, process_some, each_same}
