@@ -1,5 +1,6 @@
 -- The rows, when a process that is doomed and traces no live one ends before the process that dooms it.
-use Rattle.std.proofs.Common.{◌≡◌, ℕ, List, filter_map, Bool, true, false, ◌||◌, ◌==◌, if◌then◌else◌, Option, Some, None, IfSome, sym, ap, ◌∙◌, true≢false, subst, arith}
+use Rattle.std.proofs.lemmas.Bool.Decides.{nat_tests}
+use Rattle.std.proofs.Common.{◌≡◌, ℕ, List, filter_map, Bool, true, false, ◌||◌, ◌==◌, Option, Some, None, IfSome, sym, ap, ◌∙◌, subst, arith}
 use Rattle.std.specs.Option.{option_and_then}
 use Rattle.std.specs.List.{AllByRecursion, list_any}
 use Rattle.signals.specs.Table.{SIGKILL}
@@ -9,7 +10,7 @@ use Rattle.proc_table.specs.Processes.{process_of, is_live}
 use Rattle.proc_table.specs.Rows.{Rows, each, by_owner}
 use Rattle.proc_table.specs.Kept.{Rise}
 use Rattle.trace_stop.specs.End.{holds_of, process_after, released, lwp_after, notifies_of, end_each}
-use Rattle.trace_stop.proofs.Every.{by_bool, All-imply, All-both, All-any, any_holds}
+use Rattle.trace_stop.proofs.Every.{All-imply, All-both, All-any, any_holds}
 use Rattle.trace_stop.proofs.Passes.{passes, any_same, any_or, any_edited, KeepsNumbers, KeepsOwners, own_rows, rise_edited, each_twice, each_agree}
 use Rattle.process_end.proofs.Doomed.{NoZombie}
 use Rattle.process_end.proofs.Turned.{heard, heard_lwp, fallen, notified_row, notified_lwp, turned, turned_lwp}
@@ -37,11 +38,7 @@ unfolding notified_lwp heard_lwp
 notified_lwp-pid told r l = grind arith
 
 lwp_keeps : (over : ℕ → Bool) → KeepsOwners (lwp_after (fallen over) over)
-lwp_keeps over r l = at (fallen over r)
-  where
-    at : (b : Bool) → IfSome (if b then None else Some (released over r l)) (λ k. k.pid ≡ l.pid)
-    at true = tt
-    at false = released-pid over r l
+lwp_keeps over r l = grind (arith, nat_tests)
 
 pub turned_lwp_keeps : (over : ℕ → Bool) (p status : ℕ) (told : ℕ → Bool) → KeepsOwners (turned_lwp over p status told)
 unfolding turned_lwp
@@ -81,10 +78,7 @@ pub record Ready (ps : List ProcData) (d : ℕ → Bool) (q : ℕ) (r : ProcData
   pub names : (x : ℕ) → Names r x → NoZombie ps x
 
 pub Told-from : (ps : List ProcData) (over t : ℕ → Bool) → ((x : ℕ) → t x ≡ true → (over x ≡ false) × NoZombie ps x) → (r : ProcData) → process_of r.pid ps ≡ Some r → Told over t r
-Told-from ps over t h r own = record {
-  dead = λ ended. by_bool (t r.pid) (λ is. true≢false (sym (subst (λ o. IfSome o (λ s. is_live s ≡ true)) own (h r.pid is).1) ∙ ended));
-  falls = λ falls. by_bool (t r.pid) (λ is. true≢false (sym falls ∙ (h r.pid is).0));
-}
+Told-from ps over t h r own = grind (arith, nat_tests)
 
 module _ (rows : Rows) (d : ℕ → Bool) (p q status : ℕ) (dq : d q ≡ true) (qp : (q == p) ≡ false) (rise : Rise rows.processes) (ready : AllByRecursion (Ready rows.processes d q) rows.processes) where
   -- who is told at q's end, at both at once, and at the end of p after that of q

@@ -1,4 +1,5 @@
 -- Rows that name a process that ends, each taken from it: its end is as it was.
+use Rattle.std.proofs.lemmas.Bool.Decides.{nat_tests}
 use Rattle.std.proofs.Common.{◌≡◌, ℕ, Bool, true, false, not, ◌&&◌, ◌==◌, Option, Some, None, IfSome, is_none, refl, sym, ap, ◌∙◌, true≢false, eqb-true, subst, arith}
 use Rattle.std.proofs.Math.Bool.{and-false}
 use Rattle.std.specs.Option.{option_and_then}
@@ -11,7 +12,7 @@ use Rattle.proc_table.specs.Kept.{Rise}
 use Rattle.trace_stop.specs.End.{unless, orphaned}
 use Rattle.process_end.specs.Laws.{end_alone}
 use Rattle.process_end.specs.Leaving.{LeavingRow, IsLeaving}
-use Rattle.trace_stop.proofs.Every.{choose, and_right, All-imply, All-both, find_some}
+use Rattle.trace_stop.proofs.Every.{choose, All-imply, All-both, find_some}
 use Rattle.trace_stop.proofs.Passes.{passes, KeepsNumbers}
 use Rattle.trace_stop.proofs.Numbers.{the_row}
 use Rattle.process_end.proofs.Turned.{turned, turned_lwp, is_gone, gone-true, turned-dead}
@@ -70,10 +71,7 @@ module _ (q n : ℕ) (rows : Rows) (v : IsLeaving q rows) (rise : Rise rows.proc
   out_keeps r = choose (r.pid == n) None (Some r) (λ o. IfSome o (λ s. s.pid ≡ r.pid)) (λ e. tt) (λ e. refl)
 
   out_fit : LeavingRow v.alive q z → Fit v.alive q (out n) z
-  out_fit h = record {
-    row = rw here tt;
-    here = λ is. absurd (true≢false (sym (and_right (z.pid == q) (is_live z) is) ∙ ended));
-  }
+  out_fit h = grind (arith, nat_tests)
 
   pub out_leaving : IsLeaving q (each (out n) same_lwp rows)
   out_leaving = step_leaving q n rows v rise z at (out n) out_apart out_keeps out_fit

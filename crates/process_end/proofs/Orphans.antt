@@ -20,8 +20,7 @@ use Rattle.trace_stop.specs.End.{orphaned, uncollected, collector}
 use Rattle.process_end.specs.Laws.{end_alone}
 use Rattle.process_end.specs.Leaving.{LeavingRow, IsLeaving}
 use Rattle.trace_stop.proofs.Every.{by_bool, choose, and_left, any_holds, All-any, find_some}
-use Rattle.trace_stop.proofs.Edited.{some_is}
-use Rattle.process_end.proofs.Turned.{is_gone, gone-true, gone-false}
+use Rattle.process_end.proofs.Turned.{is_gone, gone-false}
 use Rattle.process_end.proofs.Twice.{alone}
 use Rattle.process_end.proofs.Leaving.{is_alone, same_lwp, put, out, put_tell, put_tell_lwp, set_each, drop_each, set_tell}
 use Rattle.process_end.proofs.LeafSteps.{orphan, out_leaving, out_same, put_leaving, put_same}
@@ -37,11 +36,7 @@ pub collector_none : (z : ProcData) → option_map collector (uncollected z) ≡
 collector_none z none = grind (arith, nat_tests, none)
 
 pub collector_some : (z : ProcData) (m : ℕ) → option_map collector (uncollected z) ≡ Some m → (is_gone z ≡ false) × (m ≡ collector z)
-collector_some z m some = by_gone (is_gone z) refl
-  where
-    by_gone : (b : Bool) → is_gone z ≡ b → (is_gone z ≡ false) × (m ≡ collector z)
-    by_gone true e = absurd (true≢false (sym (sym (ap is_some (ap (option_map collector) (gone-true z e))) ∙ ap is_some some)))
-    by_gone false e = (e, some_is m (collector z) (sym some ∙ collected z e))
+collector_some z m some = grind (arith, nat_tests)
 
 -- Walks
 

@@ -1,6 +1,6 @@
 -- What one row is, and its LWPs are, after a process that traces no live one has ended.
 use Rattle.std.proofs.lemmas.Bool.Decides.{nat_tests}
-use Rattle.std.proofs.Common.{◌≡◌, ℕ, ◌+◌, List, [], ◌∷◌, filter_map, Bool, true, false, cond, ◌&&◌, ◌==◌, if◌then◌else◌, Option, Some, None, IfSome, refl, sym, ap, ◌∙◌, arith, eq-eqb, subst}
+use Rattle.std.proofs.Common.{◌≡◌, ℕ, ◌+◌, List, [], ◌∷◌, filter_map, Bool, true, false, cond, ◌==◌, if◌then◌else◌, Option, Some, None, IfSome, refl, sym, ap, ◌∙◌, arith, eq-eqb, subst}
 use Rattle.std.specs.Prelude.{count_by}
 use Rattle.std.specs.Int.RustNames.{bit_and}
 use Rattle.std.specs.List.{AllByRecursion, cons_option}
@@ -21,7 +21,7 @@ use Rattle.process_end.proofs.Turned.{heard, heard_lwp, moved, notified_row, not
 use Rattle.process_end.proofs.Twice.{alone, Told}
 use Rattle.process_end.proofs.Tells.{tells, tells-names, parent_after}
 use Rattle.process_end.proofs.LeafFirst.{told, told-is, end_turned, Told-from}
-use Rattle.process_end.proofs.LeafLaw.{IsLiveRow, zombie_safe, named, alone-true}
+use Rattle.process_end.proofs.LeafLaw.{IsLiveRow, named, alone-true}
 
 -- Lists
 
@@ -107,11 +107,7 @@ module _ (rows : Rows) (q status : ℕ) (s : Stands rows) (live : IsLiveRow rows
   -- q is live, so that nothing else with its number ends
   ends_q : (r : ProcData) → process_of r.pid ps ≡ Some r → (r.pid == q) ≡ fallen (alone q) r
   unfolding alone
-  ends_q r at = by_live (is_live r) refl
-    where
-      by_live : (b : Bool) → is_live r ≡ b → (r.pid == q) ≡ (is_live r && (r.pid == q))
-      by_live true alive = grind (arith, nat_tests)
-      by_live false ended = zombie_safe (record { kill_on_debugger_exit = true }) ps q live r at ended ∙ sym (ap (λ b. b && (r.pid == q)) ended)
+  ends_q r at = grind (arith, nat_tests)
 
   pub after-is : end_alone q status rows ≡ after
   after-is = alone_form ∙ end_turned (alone q) q status rows s.rising

@@ -1,5 +1,5 @@
 -- Who is told of an end, when a process that is doomed and traces no live one ends before the process that dooms it.
-use Rattle.std.proofs.Common.{◌≡◌, ℕ, Bool, true, false, not, ◌&&◌, ◌||◌, ◌==◌, if◌then◌else◌, Option, Some, None, option_map, refl, sym, ap, ◌∙◌, eqb-true, inl, inr, ◌⊎◌, arith}
+use Rattle.std.proofs.Common.{◌≡◌, ℕ, Bool, true, false, not, ◌&&◌, ◌||◌, ◌==◌, if◌then◌else◌, Option, Some, None, option_map, refl, sym, ap, ◌∙◌, ◌⊎◌, arith}
 use Rattle.std.proofs.lemmas.Bool.Decides.{nat_tests}
 use Rattle.signals.specs.Table.{SIGKILL}
 use Rattle.proc_table.specs.declared.ProcData.{ProcData}
@@ -29,11 +29,7 @@ tells over x r = tells_any over r && told_by (unless over r.tracer) (parent_afte
 
 collected : (z : ProcData) (x : ℕ) → passes (λ n. n == x) (option_map collector (uncollected z)) ≡ told_by z.tracer z.parent x
 unfolding told_by
-collected z x = by_tracer z.tracer refl
-  where
-    by_tracer : (o : Option ℕ) → z.tracer ≡ o → passes (λ n. n == x) (option_map collector (uncollected z)) ≡ told_by o z.parent x
-    by_tracer None none = grind (arith, nat_tests)
-    by_tracer (Some t) some = rw some refl
+collected z x = grind (arith, nat_tests)
 
 -- the definition of who is told, by this test
 pub tells-is : (over : ℕ → Bool) (p status x : ℕ) (r : ProcData) → passes (λ n. n == x) (notifies_of (fallen over) over p status r) ≡ tells over x r
@@ -60,21 +56,7 @@ pub record Names (r : ProcData) (x : ℕ) : Type 0 where
 
 pub told_by-names : (over : ℕ → Bool) (x : ℕ) (r : ProcData) → told_by (unless over r.tracer) (parent_after over r.parent) x ≡ true → (over x ≡ false) × Names r x
 unfolding told_by
-told_by-names over x r is = let k = by_tracer r.tracer is in (k.0, record { names = k.1 })
-  where
-    Result : Option ℕ → Type 0
-    Result o = (over x ≡ false) × ((is_this x o ≡ true) ⊎ (((r.parent == x) ≡ true) × ((r.parent == 1) ≡ false)))
-
-    by_parent : (o : Option ℕ) → told_by None (parent_after over r.parent) x ≡ true → Result o
-    by_parent o h = (grind (arith, nat_tests), inr (grind (arith, nat_tests), grind (arith, nat_tests)))
-
-    by_over : (t : ℕ) (b : Bool) → over t ≡ b → told_by (if b then None else Some t) (parent_after over r.parent) x ≡ true → Result (Some t)
-    by_over t true e h = by_parent (Some t) h
-    by_over t false e h = (ap over (sym (eqb-true t x h)) ∙ e, inl h)
-
-    by_tracer : (o : Option ℕ) → told_by (unless over o) (parent_after over r.parent) x ≡ true → Result o
-    by_tracer None h = by_parent None h
-    by_tracer (Some t) h = by_over t (over t) refl h
+told_by-names over x r is = grind (arith, nat_tests)
 
 pub tells-names : (over : ℕ → Bool) (x : ℕ) (r : ProcData) → tells over x r ≡ true → (over x ≡ false) × Names r x
 unfolding tells

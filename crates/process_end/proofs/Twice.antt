@@ -5,8 +5,6 @@ use Rattle.signals.specs.Table.{SIGKILL}
 use Rattle.proc_table.specs.Rows.{by_owner}
 use Rattle.proc_table.specs.declared.ProcData.{ProcData}
 use Rattle.lwp_table.specs.declared.LwpData.{LwpData}
-use Rattle.lwp_table.specs.declared.Mode.{Mode}
-use Rattle.lwp_table.specs.declared.Mode.TheVariants.{User, InCall, VforkWait}
 use Rattle.proc_table.specs.Processes.{is_live}
 use Rattle.trace_stop.specs.End.{unless, holds_of, orphaned, dead, uncollected, released}
 use Rattle.std.proofs.lemmas.Bool.Decides.{nat_tests}
@@ -171,12 +169,7 @@ told_lwp_twice t1 t2 t3 r l told = grind (arith, nat_tests, heard_lwp_twice)
 
 released_twice : (d : ℕ → Bool) (q : ℕ) → d q ≡ true → (r : ProcData) (l : LwpData) → released (rest d q) r (released (alone q) r l) ≡ released d r l
 unfolding rest alone
-released_twice d q dq r l = by_mode l.mode
-  where
-    by_mode : (m : Mode) → released (rest d q) r (released (alone q) r (record l { mode = m })) ≡ released d r (record l { mode = m })
-    by_mode User = refl
-    by_mode (InCall call) = refl
-    by_mode (VforkWait c) = grind (arith, nat_tests)
+released_twice d q dq r l = grind (arith, nat_tests)
 
 module _ (d : ℕ → Bool) (p q status : ℕ) (r : ProcData) (l : LwpData) (dq : d q ≡ true) (live : is_live r ≡ true)
     (t1 t2 t3 : ℕ → Bool) (k1 : Told (alone q) t1 r) (told : d r.pid ≡ false → t2 r.pid ≡ (t1 r.pid || t3 r.pid)) where

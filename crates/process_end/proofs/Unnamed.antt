@@ -1,5 +1,5 @@
 -- A row that no row names may be taken out, and what each step on the way to a process's end leaves fewer of.
-use Rattle.std.proofs.Common.{◌≡◌, ℕ, ◌<◌, List, [], ◌∷◌, find, filter_map, Bool, true, false, not, ◌&&◌, ◌||◌, ◌==◌, Option, Some, None, IfSome, refl, sym, ap, ◌∙◌, arith, true≢false, eqb-true, eq-eqb}
+use Rattle.std.proofs.Common.{◌≡◌, ℕ, ◌<◌, List, [], ◌∷◌, find, filter_map, Bool, true, false, not, ◌&&◌, ◌==◌, Option, Some, None, IfSome, refl, sym, ap, ◌∙◌, arith, true≢false, eqb-true, eq-eqb}
 use Rattle.std.proofs.Math.Bool.{and-false}
 use Rattle.std.proofs.lemmas.Bool.Decides.{nat_tests}
 use Rattle.std.specs.Prelude.{count_by, ltb}
@@ -28,14 +28,7 @@ find_none q (x ∷ xs) all = rw (all.0, find_none q xs all.1) refl
 -- no row passes a test where none above zero does
 pub none_from : (t : ProcData → Bool) (ps : List ProcData) → AllByRecursion AtHome ps → find (λ p. ltb 0 p.pid && t p) ps ≡ None → list_any t ps ≡ false
 none_from t [] homes none = refl
-none_from t (p ∷ ps) homes none = at_head (t p) refl (none_from t ps homes.1)
-  where
-    above : ltb 0 p.pid ≡ true
-    above = let home = homes.0.block.0 in grind (arith, nat_tests, home)
-
-    at_head : (b : Bool) → t p ≡ b → (find (λ r. ltb 0 r.pid && t r) ps ≡ None → list_any t ps ≡ false) → (b || list_any t ps) ≡ false
-    at_head true is rest = absurd (let h : Some p ≡ None = rw (above, is) at none in cc)
-    at_head false is rest = rest (rw (above, is) at none)
+none_from t (p ∷ ps) homes none = grind (arith, nat_tests, none_from t ps homes.1)
 
 -- no row has the number 1
 pub not_one : (n : ℕ) (ps : List ProcData) → AllByRecursion AtHome ps → (p : ProcData) → process_of n ps ≡ Some p → (n == 1) ≡ false
