@@ -1,5 +1,5 @@
 -- What is collected, among one user's rows.
-use Rattle.std.proofs.Common.{◌≡◌, ◌≢◌, ℕ, ℤ, [], ◌∷◌, find, Bool, true, false, ◌==◌, ◌&&◌, ◌||◌, not, if◌then◌else◌, Option, Some, None, IfSome, refl, sym, ap, ◌∙◌, eqb, true≢false, eqb-true, subst, eq-eqb, inl}
+use Rattle.std.proofs.Common.{◌≡◌, ◌≢◌, ℕ, ℤ, [], ◌∷◌, find, Bool, true, false, ◌==◌, ◌&&◌, ◌||◌, not, if◌then◌else◌, Option, Some, None, IfSome, refl, sym, ap, ◌∙◌, true≢false, eqb-true, subst, eq-eqb, inl}
 use Rattle.pid_blocks.specs.Users.{IsUser}
 use Rattle.pid_blocks.specs.Blocks.{pid_owner, tid_owner}
 use Rattle.proc_table.specs.declared.ProcData.{ProcData}
@@ -11,10 +11,10 @@ use Rattle.wait4.specs.declared.Options.{Options}
 use Rattle.wait4.specs.Collect.{answer, is_child, fits, reportable, collected_in, collected, stays, told, collect_one, candidates, reported, collect, without_report, rows_after}
 use Rattle.user_rows.specs.Closed.{GoodProc, LiveRow}
 use Rattle.user_rows.proofs.ViewLists.{find_some, All-where}
-use Rattle.user_rows.proofs.ViewSame.{Sim, Kin, not_own, named, rows_query, each_same}
+use Rattle.user_rows.proofs.ViewSame.{Sim, Kin, not_own, either, named, rows_query, each_same}
 use Rattle.trace_stop.proofs.Edited.{If_more}
 use Rattle.user_rows.proofs.ViewSignals.{Mines, user_not_one, notified_same}
-use Rattle.trace_stop.proofs.Every.{and_left}
+use Rattle.trace_stop.proofs.Every.{choose, and_left}
 
 pub child_own : (u caller : ℕ) → IsUser u → pid_owner caller ≡ u → (p : ProcData) → GoodProc p → is_child caller p ≡ true → p.uid ≡ u
 child_own u caller user mine p good is = by_tracer p.tracer good.tracer is
@@ -22,13 +22,9 @@ child_own u caller user mine p good is = by_tracer p.tracer good.tracer is
     by_parent : (p.parent == caller) ≡ true → p.uid ≡ u
     by_parent e = let same = eqb-true p.parent caller e in sym (good.parent (λ one. user_not_one u caller user mine (sym same ∙ one))) ∙ ap pid_owner same ∙ mine
 
-    by_eq : (t : ℕ) (b : Bool) → eqb t caller ≡ b → pid_owner t ≡ p.uid → (b || (p.parent == caller)) ≡ true → p.uid ≡ u
-    by_eq t true e g h = sym g ∙ ap pid_owner (eqb-true t caller e) ∙ mine
-    by_eq t false e g h = by_parent h
-
     by_tracer : (o : Option ℕ) → IfSome o (λ t. pid_owner t ≡ p.uid) → (is_this caller o || (p.parent == caller)) ≡ true → p.uid ≡ u
     by_tracer None g h = by_parent h
-    by_tracer (Some t) g h = by_eq t (eqb t caller) refl g h
+    by_tracer (Some t) g h = either t caller (λ e. sym g ∙ ap pid_owner e ∙ mine) (λ ne. by_parent (rw (not_own caller t ne) at h))
 
 fits_own : (u caller : ℕ) (which : ℤ) → IsUser u → pid_owner caller ≡ u → (p : ProcData) → GoodProc p → (is_child caller p && fits which p) ≡ true → p.uid ≡ u
 fits_own u caller which user mine p good is = child_own u caller user mine p good (and_left (is_child caller p) (fits which p) is)
@@ -57,11 +53,8 @@ collected_kin : (caller : ℕ) (p : ProcData) → GoodProc p → (st : State) �
 collected_kin caller p good Run e = (refl, refl, record { user = good.user; block = good.block; tracer = good.tracer; parent = good.parent; reporting = good.reporting; collector = good.collector })
 collected_kin caller p good (Trace tid sig told) e = (refl, refl, record { user = good.user; block = good.block; tracer = good.tracer; parent = good.parent; reporting = subst (λ x. IfSome (named_by x) (λ t. tid_owner t ≡ p.uid)) e good.reporting; collector = λ dead. absurd (true≢false dead) })
 collected_kin caller p good (Job sig told) e = (refl, refl, record { user = good.user; block = good.block; tracer = good.tracer; parent = good.parent; reporting = tt; collector = λ dead. absurd (true≢false dead) })
-collected_kin caller p good (Zombie status) e = by_stays (stays caller p) refl
-  where
-    by_stays : (b : Bool) → stays caller p ≡ b → Kin p (if b then Some (record p { tracer = None }) else None)
-    by_stays true is = (refl, refl, record { user = good.user; block = good.block; tracer = tt; parent = good.parent; reporting = good.reporting; collector = λ dead none. stays_parent caller p is })
-    by_stays false is = tt
+collected_kin caller p good (Zombie status) e = choose (stays caller p) (Some (record p { tracer = None })) None (Kin p)
+    (λ is. (refl, refl, record { user = good.user; block = good.block; tracer = tt; parent = good.parent; reporting = good.reporting; collector = λ dead none. stays_parent caller p is })) (λ is. tt)
 
 collected_live : (caller : ℕ) (p : ProcData) (st : State) → p.state ≡ st → is_live p ≡ true → LiveRow (collected_in caller p st)
 collected_live caller p Run e live = live
@@ -70,28 +63,16 @@ collected_live caller p (Job sig told) e live = refl
 collected_live caller p (Zombie status) e live = absurd (true≢false (sym live ∙ ap (λ x. not (is_zombie_state x)) e))
 
 told_mine : {u : ℕ} (caller : ℕ) (p : ProcData) → GoodProc p → p.uid ≡ u → Mines u (told caller p)
-told_mine {u} caller p good mine = by_test (not (is_live p) && stays caller p)
-  where
-    by_test : (b : Bool) → Mines u (if b then p.parent ∷ [] else [])
-    by_test true = (λ ne. good.parent ne ∙ mine, tt)
-    by_test false = tt
+told_mine {u} caller p good mine = choose (not (is_live p) && stays caller p) (p.parent ∷ []) [] (Mines u) (λ e. (λ ne. good.parent ne ∙ mine, tt)) (λ e. tt)
 
 pub collect_one_same : {u : ℕ} {start c v : Rows} → Sim u start c v → (caller : ℕ) (p : ProcData) → GoodProc p → p.uid ≡ u → Sim u start (collect_one caller p c) (collect_one caller p v)
 collect_one_same {u} s caller p good mine = notified_same (each_same s (λ q. if q.pid == p.pid then collected caller q else Some q) (λ q l. Some l) (record {
-  mine = λ q g is. kept q g (q.pid == p.pid);
+  mine = λ q g is. choose (q.pid == p.pid) (collected caller q) (Some q) (Kin q) (λ e. collected_kin caller q g q.state refl) (λ e. (refl, refl, g));
   foreign = λ q g ne. rw (not_own p.pid q.pid (λ e. ne (named (good.block ∙ mine) q g e))) refl;
   lwp = λ q l g well is here. (refl, well);
   foreign_lwp = λ q l g well ne here. refl;
-  live = λ q l g is live. inl (lives q live (q.pid == p.pid));
+  live = λ q l g is live. inl (choose (q.pid == p.pid) (collected caller q) (Some q) LiveRow (λ e. collected_live caller q q.state refl live) (λ e. live));
 })) (told caller p) (told_mine caller p good mine)
-  where
-    kept : (q : ProcData) → GoodProc q → (b : Bool) → Kin q (if b then collected caller q else Some q)
-    kept q g true = collected_kin caller q g q.state refl
-    kept q g false = (refl, refl, g)
-
-    lives : (q : ProcData) → is_live q ≡ true → (b : Bool) → LiveRow (if b then collected caller q else Some q)
-    lives q live true = collected_live caller q q.state refl live
-    lives q live false = live
 
 pub rows_after_same : {u : ℕ} {start c v : Rows} → Sim u start c v → (caller : ℕ) (which : ℤ) (options : Options) → pid_owner caller ≡ u → Sim u start (rows_after caller which options c) (rows_after caller which options v)
 rows_after_same {u} {start} {c} {v} s caller which options mine = subst (λ o. Sim u start (rows_after caller which options c) (without_report caller o v)) (reported_same s caller which options mine) (at_row (reported caller which options c) (reported_some s caller which options mine))
