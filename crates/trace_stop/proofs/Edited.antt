@@ -1,12 +1,13 @@
 -- Lists whose elements are each changed, or taken out.
-use Rattle.std.proofs.Common.{◌≡◌, ℕ, ◌+◌, ◌≤◌, List, [], ◌∷◌, find, filter_map, Bool, true, false, cond, ◌||◌, ◌==◌, Option, Some, None, IfSome, refl, sym, ap, ◌∙◌, arith, subst, eqb-true}
+use Rattle.std.proofs.lemmas.Bool.Decides.{nat_tests}
+use Rattle.std.proofs.Common.{◌≡◌, ℕ, ◌+◌, ◌≤◌, List, [], ◌∷◌, find, filter_map, Bool, true, false, cond, ◌==◌, Option, Some, None, IfSome, refl, sym, ap, arith, subst, eqb-true}
 use Rattle.std.specs.Prelude.{count_by}
 use Rattle.std.specs.List.{AllByRecursion, list_any, cons_option}
 use Rattle.lwp_table.specs.declared.LwpData.{LwpData}
 use Rattle.lwp_table.specs.Lwps.{Differ, LacksLwp}
 use Rattle.proc_table.specs.declared.ProcData.{ProcData}
 use Rattle.proc_table.specs.Rows.{Rows}
-use Rattle.trace_stop.proofs.Every.{or_true, by_bool, count-cons}
+use Rattle.trace_stop.proofs.Every.{by_bool, count-cons}
 
 abbrev pub edited : (ProcData → Option ProcData) → (LwpData → Option LwpData) → Rows → Rows
 edited f h rows = record rows { processes = filter_map f rows.processes; lwps = filter_map h rows.lwps }
@@ -29,15 +30,7 @@ edit_none f h (x ∷ xs) = rw (h x) (ap (λ ys. x ∷ ys) (edit_none f h xs))
 
 pub any_edit : {X : Type 0} (q t : X → Bool) (f : X → Option X) → ((x : X) → IfSome (f x) (λ y. q y ≡ true → t x ≡ true)) → (xs : List X) → list_any q (filter_map f xs) ≡ true → list_any t xs ≡ true
 any_edit q t f h [] is = is
-any_edit {X} q t f h (x ∷ xs) is = by_row (f x) (h x) is (any_edit q t f h xs)
-  where
-    by_row : (o : Option X) → IfSome o (λ y. q y ≡ true → t x ≡ true) → list_any q (cons_option o (filter_map f xs)) ≡ true → (list_any q (filter_map f xs) ≡ true → list_any t xs ≡ true) → (t x || list_any t xs) ≡ true
-    by_row None g k rest = rw (rest k) (or_true (t x))
-    by_row (Some y) g k rest = at_head (q y) refl k
-      where
-        at_head : (b : Bool) → q y ≡ b → (b || list_any q (filter_map f xs)) ≡ true → (t x || list_any t xs) ≡ true
-        at_head true e j = rw (g e) refl
-        at_head false e j = rw (rest j) (or_true (t x))
+any_edit {X} q t f h (x ∷ xs) is = grind (arith, nat_tests, any_edit q t f h xs)
 
 cond_less : (a b : Bool) → (a ≡ true → b ≡ true) → cond {A = ℕ} a 1 0 ≤ cond b 1 0
 cond_less true b h = rw (h refl) (omega arith)
@@ -56,21 +49,11 @@ count_edit {X} q t f h (x ∷ xs) = by_row (f x) (h x) (count_edit q t f h xs)
 
 pub find_edit : {X : Type 0} (q : X → Bool) (f : X → Option X) → ((x : X) → IfSome (f x) (λ y. q y ≡ q x)) → (xs : List X) → (x y : X) → find q xs ≡ Some x → f x ≡ Some y → find q (filter_map f xs) ≡ Some y
 find_edit q f h [] x y is to = absurd (grind (arith, is))
-find_edit {X} q f h (z ∷ xs) x y is to = at_head (q z) (f z) refl refl (h z) is (find_edit q f h xs x y)
-  where
-    at_head : (b : Bool) (o : Option X) → q z ≡ b → f z ≡ o → IfSome o (λ w. q w ≡ q z) → cond b (Some z) (find q xs) ≡ Some x → (find q xs ≡ Some x → f x ≡ Some y → find q (filter_map f xs) ≡ Some y) → find q (cons_option o (filter_map f xs)) ≡ Some y
-    at_head true None here fz k g rest = absurd (grind (arith, g, to, fz))
-    at_head true (Some w) here fz k g rest = rw (k ∙ here) (sym fz ∙ ap f (some_is z x g) ∙ to)
-    at_head false None here fz k g rest = rest g to
-    at_head false (Some w) here fz k g rest = rw (k ∙ here) (rest g to)
+find_edit {X} q f h (z ∷ xs) x y is to = grind (arith, nat_tests, find_edit q f h xs x y)
 
 lacks_edit : (h : LwpData → Option LwpData) → ((l : LwpData) → IfSome (h l) (λ k. k.tid ≡ l.tid)) → (n : ℕ) (ls : List LwpData) → LacksLwp n ls → LacksLwp n (filter_map h ls)
 lacks_edit h g n [] all = tt
-lacks_edit h g n (l ∷ ls) all = by_row (h l) (g l) (lacks_edit h g n ls all.1)
-  where
-    by_row : (o : Option LwpData) → IfSome o (λ k. k.tid ≡ l.tid) → LacksLwp n (filter_map h ls) → LacksLwp n (cons_option o (filter_map h ls))
-    by_row None e rest = rest
-    by_row (Some k) e rest = (λ same. all.0 (sym e ∙ same), rest)
+lacks_edit h g n (l ∷ ls) all = grind (arith, nat_tests, lacks_edit h g n ls all.1)
 
 pub Differ-edit : (h : LwpData → Option LwpData) → ((l : LwpData) → IfSome (h l) (λ k. k.tid ≡ l.tid)) → (ls : List LwpData) → Differ ls → Differ (filter_map h ls)
 Differ-edit h g [] all = tt
