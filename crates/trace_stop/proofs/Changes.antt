@@ -1,5 +1,6 @@
 -- A change of chosen processes and of their LWPs.
-use Rattle.std.proofs.Common.{◌≡◌, ◌⊎◌, inl, ℕ, ◌==◌, List, filter_map, Bool, true, false, if◌then◌else◌, Option, Some, None, refl, ap, subst, eq-eqb}
+use Rattle.std.proofs.lemmas.Bool.Decides.{nat_tests}
+use Rattle.std.proofs.Common.{◌≡◌, ◌⊎◌, inl, ℕ, ◌==◌, List, filter_map, Bool, true, false, if◌then◌else◌, Option, Some, None, refl, ap, subst, eq-eqb, arith}
 use Rattle.lwp_table.specs.declared.LwpData.{LwpData}
 use Rattle.proc_table.specs.declared.ProcData.{ProcData}
 use Rattle.proc_table.specs.Processes.{is_live, reporting, process_of}
@@ -44,10 +45,7 @@ module _ (rows : Rows) (chosen : ProcData → Bool) (f : ProcData → ProcData) 
   to_lwp p l = Some (if chosen p then g p l else l)
 
   same : Same to to_lwp
-  same = record {
-    process = λ p. choose (chosen p) (f p) p (λ q. (q.pid ≡ p.pid) × (q.uid ≡ p.uid)) (λ e. ((c.same p).0, (c.same p).1)) (λ e. (refl, refl));
-    lwp = λ p l. choose (chosen p) (g p l) l (λ k. (k.tid ≡ l.tid) × (k.pid ≡ l.pid)) (λ e. ((c.same_lwp p l).0, (c.same_lwp p l).1)) (λ e. (refl, refl));
-  }
+  same = grind (arith, nat_tests)
 
   stays : (p : ProcData) → Row rows P p → Stay rows (each to to_lwp rows) p
   stays p row = stay rows to to_lwp same p row.at (λ l. (if chosen p then g p l else l, refl))

@@ -1,11 +1,12 @@
 -- The live children of a process, before and after a change.
-use Rattle.std.proofs.Common.{◌≡◌, ℕ, List, filter_map, Bool, true, ◌==◌, ◌&&◌, Option, Some, sym, ◌∙◌, eqb-true, eq-eqb}
+use Rattle.std.proofs.lemmas.Bool.Decides.{nat_tests}
+use Rattle.std.proofs.Common.{◌≡◌, ℕ, List, filter_map, Bool, true, ◌==◌, ◌&&◌, Option, Some, sym, ◌∙◌, eq-eqb, arith}
 use Rattle.std.specs.List.{AllByRecursion, list_any}
 use Rattle.proc_table.specs.declared.ProcData.{ProcData}
 use Rattle.proc_table.specs.Processes.{is_live}
 use Rattle.proc_table.specs.Rows.{Rows}
 use Rattle.trace_stop.specs.Facts.{IsLiveOf, IsLiveChild}
-use Rattle.trace_stop.proofs.Every.{and_left, and_right, both, any_more, any_forward}
+use Rattle.trace_stop.proofs.Every.{and_left, both, any_more, any_forward}
 
 abbrev pub child_test : ProcData → ℕ → ProcData → Bool
 child_test p n k = (k.pid == n) && (k.uid == p.uid) && is_live k && (k.parent == p.pid)
@@ -18,12 +19,7 @@ pub record Child (p : ProcData) (n : ℕ) (k : ProcData) : Type 0 where
   pub parent : k.parent ≡ p.pid
 
 pub child_from : (p : ProcData) (n : ℕ) (k : ProcData) → child_test p n k ≡ true → Child p n k
-child_from p n k is = record {
-  pid = eqb-true k.pid n (and_left (k.pid == n) (k.uid == p.uid) (and_left _ (is_live k) (and_left _ (k.parent == p.pid) is)));
-  uid = eqb-true k.uid p.uid (and_right (k.pid == n) (k.uid == p.uid) (and_left _ (is_live k) (and_left _ (k.parent == p.pid) is)));
-  live = and_right _ (is_live k) (and_left _ (k.parent == p.pid) is);
-  parent = eqb-true k.parent p.pid (and_right _ (k.parent == p.pid) is);
-}
+child_from p n k is = grind (arith, nat_tests)
 
 pub child_passes : (p : ProcData) (n : ℕ) (k : ProcData) → Child p n k → child_test p n k ≡ true
 child_passes p n k c = both _ (k.parent == p.pid) (both _ (is_live k) (both (k.pid == n) (k.uid == p.uid) (eq-eqb k.pid n c.pid) (eq-eqb k.uid p.uid c.uid)) c.live) (eq-eqb k.parent p.pid c.parent)

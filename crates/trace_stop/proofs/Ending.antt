@@ -1,22 +1,22 @@
 -- Ends keep rows sound, where no live process is left whose tracer ends.
-use Rattle.std.proofs.Common.{◌≡◌, ◌≢◌, ℕ, Bool, true, false, ◌==◌, ◌&&◌, ◌||◌, not, if◌then◌else◌, filter_map, option_map, Option, Some, None, IfSome, is_some, is_none, unwrap_or, refl, sym, ap, ◌∙◌, true≢false, subst, arith, eq-eqb, bit_and}
+use Rattle.std.proofs.lemmas.Bool.Decides.{nat_tests}
+use Rattle.std.proofs.Common.{◌≡◌, ◌≢◌, ℕ, Bool, true, false, ◌==◌, ◌&&◌, ◌||◌, not, if◌then◌else◌, filter_map, option_map, Option, Some, None, IfSome, is_some, unwrap_or, refl, sym, ap, ◌∙◌, true≢false, subst, arith, bit_and}
 use Rattle.std.specs.List.{AllByRecursion}
 use Rattle.event_masks.specs.Exits.{shows, asks}
 use Rattle.event_masks.specs.declared.TheConstants.StopFlags.{PL_FLAG_EXITED}
 use Rattle.event_masks.specs.declared.TheConstants.EventMask.{PTRACE_VFORK}
 use Rattle.signals.specs.Table.{SIGKILL}
 use Rattle.lwp_table.specs.declared.LwpData.{LwpData}
-use Rattle.lwp_table.specs.declared.Mode.{Mode}
-use Rattle.lwp_table.specs.declared.Mode.TheVariants.{User, InCall, VforkWait}
+use Rattle.lwp_table.specs.declared.Mode.TheVariants.{User}
 use Rattle.lwp_table.specs.declared.Due.TheVariants.{VforkDone}
 use Rattle.proc_table.specs.declared.ProcData.{ProcData}
 use Rattle.proc_table.specs.declared.State.{State}
 use Rattle.proc_table.specs.declared.State.TheVariants.{Run, Trace, Job, Zombie}
-use Rattle.proc_table.specs.Processes.{is_live, is_zombie_state, is_job_state, is_run_state, reporting, named_by}
+use Rattle.proc_table.specs.Processes.{is_live, is_zombie_state, is_job_state, is_run_state, reporting}
 use Rattle.proc_table.specs.Rows.{Rows, each}
 use Rattle.trace_stop.specs.Post.{unwanted}
 use Rattle.trace_stop.specs.End.{holds_of, unless, orphaned, dead, uncollected, process_after, waits_where, released, lwp_after, collector, notifies_of, end_each}
-use Rattle.trace_stop.specs.Sound.{is_end, names_own, is_due}
+use Rattle.trace_stop.specs.Sound.{is_end, names_own}
 use Rattle.trace_stop.specs.Facts.{IsLiveOf, IsLiveChild, Linked, Ended, IfEnded, FitProcess, waited_for, FitLwp, IsSound}
 use Rattle.trace_stop.proofs.Every.{All-both, All-edit, choose}
 use Rattle.trace_stop.proofs.Edited.{If_more, some_is}
@@ -56,33 +56,11 @@ module _ (over : ℕ → Bool) (q : ProcData) (l : LwpData) where
   released_flags = released_case (λ k. k.flags ≡ l.flags) refl refl
 
   pub released_fits : FitLwp q l → FitLwp q (released over q l)
-  released_fits fit = released_case (FitLwp q) (record {
-    untraced = λ none. let was = fit.untraced none in record {
-      due = subst (λ o. is_due (if is_some o && asks q.mask PTRACE_VFORK then VforkDone else l.due) ≡ false) (sym none) was.due;
-      stepping = was.stepping;
-      suspended = was.suspended;
-      pending = was.pending;
-    };
-    silent = λ off. let was = fit.silent off in record { flags = was.flags; child = was.child; code = was.code };
-    blocked = fit.blocked;
-    mode = refl;
-  }) fit
+  released_fits fit = grind (arith, nat_tests)
 
   -- it waits for a child that isn't over
   pub released_waits : (R : ℕ → Type 0) → IfSome (waited_for l.mode) R → IfSome (waited_for (released over q l).mode) (λ c. R c × (over c ≡ false))
-  released_waits R child = by_mode l.mode refl child
-    where
-      Waits : Bool → Type 0
-      Waits b = IfSome (waited_for (if b then done else l).mode) (λ c. R c × (over c ≡ false))
-
-      by_mode : (m : Mode) → l.mode ≡ m → IfSome (waited_for m) R → Waits (waits_where over l.mode)
-      by_mode User is h = rw is tt
-      by_mode (InCall call) is h = rw is tt
-      by_mode (VforkWait c) is h = subst Waits (sym (ap (waits_where over) is)) (by_over (over c) refl)
-        where
-          by_over : (b : Bool) → over c ≡ b → Waits b
-          by_over true e = tt
-          by_over false e = subst (λ m. IfSome (waited_for m) (λ n. R n × (over n ≡ false))) (sym is) (h, e)
+  released_waits R child = grind (arith, nat_tests)
 
 module _ (rows : Rows) (ends : ProcData → Bool) (over : ℕ → Bool) (p status : ℕ) (s : IsSound rows) (word : is_end status ≡ true) (all : AllByRecursion (Ends rows ends over) rows.processes) where
   abbrev to : ProcData → Option ProcData
@@ -99,12 +77,7 @@ module _ (rows : Rows) (ends : ProcData → Bool) (over : ℕ → Bool) (p statu
 
   -- a row after the end, by cases
   if_left : (z : ProcData) (R : Option ProcData → Type 0) → R None → ((z.tracer ≡ None → z.parent ≢ 1) → R (Some z)) → R (uncollected z)
-  if_left z R gone left = by_tracer z.tracer refl (z.parent == 1) refl
-    where
-      by_tracer : (o : Option ℕ) → z.tracer ≡ o → (b : Bool) → (z.parent == 1) ≡ b → R (if is_none o && b then None else Some z)
-      by_tracer None e true one = gone
-      by_tracer None e false one = left (λ none same. true≢false (sym (eq-eqb z.parent 1 same) ∙ one))
-      by_tracer (Some t) e b one = left (λ none. absurd (true≢false (ap is_some (sym e ∙ none))))
+  if_left z R gone left = grind (arith, nat_tests)
 
   abbrev last : ProcData → ℕ
   last q = if q.pid == p then status else SIGKILL
@@ -113,12 +86,7 @@ module _ (rows : Rows) (ends : ProcData → Bool) (over : ℕ → Bool) (p statu
   heir q = record q { parent = if over q.parent then 1 else q.parent }
 
   by_case : (R : Option ProcData → Type 0) (q : ProcData) → (ends q ≡ true → R (uncollected (dead (last q) (orphaned over q)))) → (ends q ≡ false → is_live q ≡ true → R (Some (heir q))) → (ends q ≡ false → is_live q ≡ false → R (uncollected (orphaned over q))) → R (to q)
-  by_case R q ended lives zombie = by_end (ends q) refl (is_live q) refl
-    where
-      by_end : (b : Bool) → ends q ≡ b → (c : Bool) → is_live q ≡ c → R (if b then uncollected (dead (last q) (orphaned over q)) else (if c then Some (heir q) else uncollected (orphaned over q)))
-      by_end true e c l = ended e
-      by_end false e true l = lives e l
-      by_end false e false l = zombie e l
+  by_case R q ended lives zombie = grind (arith, nat_tests)
 
   same_row : (q : ProcData) → IfSome (to q) (λ r. (r.pid ≡ q.pid) × (r.uid ≡ q.uid))
   same_row q = by_case (λ o. IfSome o (λ r. (r.pid ≡ q.pid) × (r.uid ≡ q.uid))) q (λ e. if_left (dead (last q) (orphaned over q)) (λ o. IfSome o (λ r. (r.pid ≡ q.pid) × (r.uid ≡ q.uid))) tt (λ left. (refl, refl))) (λ e live. (refl, refl))
@@ -155,27 +123,14 @@ module _ (rows : Rows) (ends : ProcData → Bool) (over : ℕ → Bool) (p statu
   tracer_left u (Some t) live = choose (over t) None (Some t) (λ o. IfSome o (LivesOn rows over u)) (λ e. tt) (λ e. (live, e))
 
   leaves : (q : ProcData) → IfSome (to q) (Leaves q)
-  leaves q = by_case R q (λ e. if_left (dead (last q) (orphaned over q)) R tt (λ left t is. (unless_at q.tracer t is).0)) (λ e live t is. is) (λ e zombie. if_left (orphaned over q) R tt (λ left t is. (unless_at q.tracer t is).0))
-    where
-      R : Option ProcData → Type 0
-      R o = IfSome o (Leaves q)
+  leaves q = grind (arith, nat_tests)
 
   zombie_quiet : (q : ProcData) → is_live q ≡ false → reporting q ≡ None
-  zombie_quiet q no_longer = by_state q.state no_longer
-    where
-      by_state : (x : State) → not (is_zombie_state x) ≡ false → named_by x ≡ None
-      by_state Run is = refl
-      by_state (Trace tid sig told) is = absurd (true≢false is)
-      by_state (Job sig told) is = refl
-      by_state (Zombie w) is = refl
+  zombie_quiet q no_longer = grind (arith, nat_tests)
 
   -- rows by themselves after the end
   last_word : (q : ProcData) → is_end (last q) ≡ true
-  last_word q = by_number (q.pid == p)
-    where
-      by_number : (b : Bool) → is_end (if b then status else SIGKILL) ≡ true
-      by_number true = word
-      by_number false = refl
+  last_word q = grind (arith, nat_tests)
 
   kept : (q : ProcData) → Row rows (Fact rows ends over) q → IfKept rows after over FitProcess q (to q)
   kept q row = by_case (IfKept rows after over FitProcess q) q

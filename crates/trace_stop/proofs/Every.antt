@@ -1,8 +1,9 @@
 -- A fact of each element of a list, and tests and counts on lists.
+use Rattle.std.proofs.lemmas.Bool.Decides.{nat_tests}
 use Rattle.std.proofs.lemmas.Bool.{cases_Bool}
 use Rattle.std.proofs.Common.{◌≡◌, ◌+◌, List, [], ◌∷◌, ◌++◌, filter, find, filter_map, Bool, true, false, cond, not, ◌&&◌, ◌||◌, Option, Some, None, IfSome, refl, sym, ◌∙◌, arith, true≢false, subst, if◌then◌else◌, is_some, inl, inr, ℕ, ◌≤◌}
 use Rattle.std.specs.Prelude.{count_by}
-use Rattle.std.specs.List.{AllByRecursion, list_any, list_all, cons_option}
+use Rattle.std.specs.List.{AllByRecursion, list_any, list_all}
 use Rattle.std.proofs.lemmas.List.Sums.{sum_by-cons, sum_by-append}
 
 pub and_left : (a b : Bool) → (a && b) ≡ true → a ≡ true
@@ -83,18 +84,11 @@ All-append P (x ∷ xs) ys all every = (all.0, All-append P xs ys all.1 every)
 
 pub All-filter : {X : Type 0} (q : X → Bool) (P : X → Type 0) (xs : List X) → AllByRecursion P xs → AllByRecursion P (filter q xs)
 All-filter q P [] all = tt
-All-filter q P (x ∷ xs) all = elim (cases_Bool (q x)) [
-  | inl e ↦ rw e (all.0, All-filter q P xs all.1)
-  | inr e ↦ rw e (All-filter q P xs all.1)
-]
+All-filter q P (x ∷ xs) all = grind (arith, nat_tests, All-filter q P xs all.1)
 
 pub All-edit : {X Y : Type 0} (f : X → Option Y) (P : X → Type 0) (Q : Y → Type 0) → ((x : X) → P x → IfSome (f x) Q) → (xs : List X) → AllByRecursion P xs → AllByRecursion Q (filter_map f xs)
 All-edit f P Q h [] all = tt
-All-edit {X} {Y} f P Q h (x ∷ xs) all = kept (f x) (h x all.0) (All-edit f P Q h xs all.1)
-  where
-    kept : (o : Option Y) → IfSome o Q → AllByRecursion Q (filter_map f xs) → AllByRecursion Q (cons_option o (filter_map f xs))
-    kept None g rest = rest
-    kept (Some y) g rest = (g, rest)
+All-edit {X} {Y} f P Q h (x ∷ xs) all = grind (arith, nat_tests, All-edit f P Q h xs all.1)
 
 pub find_some : {X : Type 0} (q : X → Bool) (P : X → Type 0) (xs : List X) → AllByRecursion P xs → (x : X) → find q xs ≡ Some x → P x × (q x ≡ true)
 find_some q P [] all x is = grind (arith, is)
@@ -126,15 +120,7 @@ any_more q t h (x ∷ xs) is = grind (arith, is, h x, any_more q t h xs)
 -- one that passes is followed by one that passes
 pub any_forward : {X : Type 0} (q t : X → Bool) (P : X → Type 0) (f : X → Option X) → ((x : X) → P x → q x ≡ true → (y : X) × (f x ≡ Some y) × (t y ≡ true)) → (xs : List X) → AllByRecursion P xs → list_any q xs ≡ true → list_any t (filter_map f xs) ≡ true
 any_forward q t P f h [] all is = is
-any_forward {X} q t P f h (x ∷ xs) all is = by_head (q x) refl is (any_forward q t P f h xs all.1)
-  where
-    more : (o : Option X) → list_any t (filter_map f xs) ≡ true → list_any t (cons_option o (filter_map f xs)) ≡ true
-    more None k = k
-    more (Some y) k = rw k (or_true (t y))
-
-    by_head : (b : Bool) → q x ≡ b → (b || list_any q xs) ≡ true → (list_any q xs ≡ true → list_any t (filter_map f xs) ≡ true) → list_any t (cons_option (f x) (filter_map f xs)) ≡ true
-    by_head true e k rest = let y = h x all.0 e in subst (λ o. list_any t (cons_option o (filter_map f xs)) ≡ true) (sym y.1) (rw y.2 refl)
-    by_head false e k rest = more (f x) (rest k)
+any_forward {X} q t P f h (x ∷ xs) all is = grind (arith, nat_tests, any_forward q t P f h xs all.1)
 
 pub count-cons : {X : Type 0} (q : X → Bool) (x : X) (xs : List X) → count_by q (x ∷ xs) ≡ cond (q x) 1 0 + count_by q xs
 count-cons q x xs = sum_by-cons (λ y. cond (q y) 1 0) x xs

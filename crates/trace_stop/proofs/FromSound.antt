@@ -1,6 +1,6 @@
 -- The test of soundness, and soundness as facts: each gives the other.
 use Rattle.std.proofs.lemmas.Bool.Decides.{nat_tests}
-use Rattle.std.proofs.Common.{◌≡◌, ◌≢◌, ℕ, zero, suc, ◌+◌, ◌<◌, ◌≤◌, List, [], ◌∷◌, length, map, zip, Bool, true, false, ◌==◌, ◌&&◌, ◌||◌, not, leb, ltb, Option, Some, None, is_some, is_none, IfSome, refl, sym, ap, ◌∙◌, arith, eqb, true≢false, eqb-true, subst, eq-eqb, get_or}
+use Rattle.std.proofs.Common.{◌≡◌, ℕ, zero, suc, ◌+◌, ◌<◌, ◌≤◌, List, [], ◌∷◌, length, map, zip, Bool, true, false, ◌==◌, ◌&&◌, ◌||◌, not, leb, ltb, Option, Some, None, is_some, is_none, IfSome, refl, sym, ap, ◌∙◌, arith, eqb, true≢false, eqb-true, subst, eq-eqb, get_or}
 use Rattle.std.specs.Int.RustNames.{bit_and}
 use Rattle.std.specs.List.{AllByRecursion, list_any, list_all}
 use Rattle.std.proofs.lemmas.Bool.{le-leb, leb-true}
@@ -24,7 +24,7 @@ use Rattle.proc_table.specs.Kept.{Rise, AllAbove, AtHome, Housed}
 use Rattle.trace_stop.specs.Post.{unwanted}
 use Rattle.trace_stop.specs.End.{meets}
 use Rattle.trace_stop.specs.Sound.{rises, differ, implies, holds, exists, of_owner, is_live_of, sound_numbers, sound_limits, sound_links, sound_owners, names_own, is_state, sound_states, is_due, waits_for, mode_fits, sound_lwp, sound_lwps, sound_rows}
-use Rattle.trace_stop.specs.Facts.{IsLiveOf, IsLiveChild, Linked, IfEnded, FitProcess, waited_for, Standing, FitLwp, WithOwner, Stands, IsSound}
+use Rattle.trace_stop.specs.Facts.{IsLiveChild, Linked, IfEnded, FitProcess, waited_for, Standing, FitLwp, WithOwner, Stands, IsSound}
 use Rattle.trace_stop.proofs.Every.{and_left, and_right, both, implies_at, implies_from, not_true, by_bool, All-from_list_all, list_all-from_All, All-imply, All-both}
 
 -- users, and lists beside them
@@ -142,11 +142,7 @@ owner_test : (rows : Rows) (test : ProcData → LwpData → Bool) (l : LwpData) 
 owner_test rows test l home all = subst (λ o. exists (λ q. test q l) o ≡ true) (sym home.1) (all home.0 home.1)
 
 owner_found : (rows : Rows) (test : ProcData → LwpData → Bool) (l : LwpData) → of_owner rows test l ≡ true → (p : ProcData) × (process_of l.pid rows.processes ≡ Some p) × (test p l ≡ true)
-owner_found rows test l is = at_row (process_of l.pid rows.processes) refl is
-  where
-    at_row : (o : Option ProcData) → process_of l.pid rows.processes ≡ o → exists (λ p. test p l) o ≡ true → (p : ProcData) × (process_of l.pid rows.processes ≡ Some p) × (test p l ≡ true)
-    at_row None e h = absurd (true≢false (sym h))
-    at_row (Some p) e h = (p, e, h)
+owner_found rows test l is = grind (arith, nat_tests)
 
 housed_from : (rows : Rows) (l : LwpData) → of_owner rows (λ p k. in_block (tid_block p.uid) k.tid) l ≡ true → Housed rows l
 housed_from rows l is = let f = owner_found rows (λ p k. in_block (tid_block p.uid) k.tid) l is in (f.0, f.1, block_in (tid_block f.0.uid) l.tid f.2)
@@ -169,18 +165,7 @@ home_test p h = both (list_any (λ u. u == p.uid) users) (in_block (pid_block p.
 
 links_from : (rows : Rows) (p : ProcData) → (not (p.parent == p.pid) && holds (is_live_of rows p.uid) p.tracer && ((p.parent == 1) || is_live_of rows p.uid p.parent) && not (meets 250 rows.processes p.pid p.pid)) ≡ true
     → implies (is_live p) (leb 1 (lwp_count p.pid rows)) ≡ true → IfSome (reporting p) (λ tid. names_own rows p tid ≡ true) → Linked rows p
-links_from rows p is peopled named = record {
-  tracer = if_holds (is_live_of rows p.uid) p.tracer (and_right _ _ (and_left _ _ (and_left _ _ is)));
-  parent = λ other. by_parent (eqb p.parent 1) refl (and_right _ _ (and_left _ _ is)) other;
-  other = λ same. true≢false (sym (and_left (not (p.parent == p.pid)) _ (and_left _ _ (and_left _ _ is))) ∙ ap not (eq-eqb p.parent p.pid same));
-  chain = not_true (meets 250 rows.processes p.pid p.pid) (and_right _ _ is);
-  named = named;
-  peopled = λ live. leb-true 1 (lwp_count p.pid rows) (implies_at (is_live p) _ peopled live);
-}
-  where
-    by_parent : (b : Bool) → eqb p.parent 1 ≡ b → (b || is_live_of rows p.uid p.parent) ≡ true → p.parent ≢ 1 → IsLiveOf rows p.uid p.parent
-    by_parent true e h other = absurd (other (eqb-true p.parent 1 e))
-    by_parent false e h other = h
+links_from rows p is peopled named = grind (arith, nat_tests)
 
 links_test : (rows : Rows) (p : ProcData) → Linked rows p → (not (p.parent == p.pid) && holds (is_live_of rows p.uid) p.tracer && ((p.parent == 1) || is_live_of rows p.uid p.parent) && not (meets 250 rows.processes p.pid p.pid)) ≡ true
 links_test rows p l = let tracer = holds_if (is_live_of rows p.uid) p.tracer l.tracer in grind (arith, nat_tests, tracer, l.chain, l.other, l.parent)
@@ -194,11 +179,7 @@ state_test rows p =
     && is_state p p.state
 
 names_from : (rows : Rows) (p : ProcData) → state_test rows p ≡ true → IfSome (reporting p) (λ tid. names_own rows p tid ≡ true)
-names_from rows p is = at_report (reporting p) (implies_at (is_some (reporting p)) (is_some p.tracer && exists (names_own rows p) (reporting p)) (and_left _ _ (and_left _ _ (and_left _ _ (and_left _ _ is)))))
-  where
-    at_report : (o : Option ℕ) → (is_some o ≡ true → (is_some p.tracer && exists (names_own rows p) o) ≡ true) → IfSome o (λ tid. names_own rows p tid ≡ true)
-    at_report None h = tt
-    at_report (Some tid) h = and_right (is_some p.tracer) _ (h refl)
+names_from rows p is = grind (arith, nat_tests)
 
 ended_from : (p : ProcData) (s : State) → is_state p s ≡ true → IfEnded p s
 ended_from p Run is = tt
@@ -227,16 +208,7 @@ fit_from rows p is = record {
 }
 
 fit_test : (rows : Rows) (p : ProcData) → IfSome (reporting p) (λ tid. names_own rows p tid ≡ true) → FitProcess p → state_test rows p ≡ true
-fit_test rows p named f = both _ _ (both _ _ (both _ _ (both _ _
-    (implies_from (is_some (reporting p)) _ (λ reports. both (is_some p.tracer) _ (f.stopped reports) (at_report (reporting p) named reports)))
-    (implies_from (is_job p) _ (λ stopped. none_test p.tracer (f.job stopped))))
-    (implies_from p.continued _ (λ on. let h = f.continued on in both _ _ (none_test p.tracer h.0) h.1)))
-    (implies_from (is_none p.tracer) _ (λ none. let h = f.untraced (none_is p.tracer none) in both _ _ (eq-eqb p.mask.0 0 h.mask) (eq-eqb (bit_and p.pending (unwanted p)) 0 h.pending))))
-    (ended_test p p.state f.ended)
-  where
-    at_report : (o : Option ℕ) → IfSome o (λ tid. names_own rows p tid ≡ true) → is_some o ≡ true → exists (names_own rows p) o ≡ true
-    at_report None h is = absurd (true≢false (sym is))
-    at_report (Some tid) h is = h
+fit_test rows p named f = grind (arith, nat_tests)
 
 -- LWPs
 

@@ -1,5 +1,6 @@
 -- A process with one more LWP keeps rows sound.
-use Rattle.std.proofs.Common.{◌≡◌, ℕ, ◌+◌, ◌<◌, ◌≤◌, [], ◌∷◌, Bool, true, false, cond, ◌==◌, ◌&&◌, Some, None, IfSome, refl, sym, ap, ◌∙◌, true≢false, subst, arith, eqb-true, length-set}
+use Rattle.std.proofs.lemmas.Bool.Decides.{nat_tests}
+use Rattle.std.proofs.Common.{◌≡◌, ℕ, ◌+◌, ◌<◌, ◌≤◌, [], ◌∷◌, Bool, true, false, cond, ◌==◌, ◌&&◌, Some, None, refl, sym, ap, ◌∙◌, true≢false, subst, arith, eqb-true, length-set}
 use Rattle.std.specs.List.{list_any}
 use Rattle.pid_blocks.specs.Users.{IsUser}
 use Rattle.pid_blocks.specs.Blocks.{slot, tid_block, InBlock, cursor_after}
@@ -13,7 +14,7 @@ use Rattle.proc_table.specs.Seen.{owns}
 use Rattle.proc_table.specs.Fresh.{is_lwp, add_lwp, lwp_count_of}
 use Rattle.proc_table.specs.Kept.{AtHome, Housed}
 use Rattle.trace_stop.specs.Sound.{names_own}
-use Rattle.trace_stop.specs.Facts.{IsLiveChild, Linked, waited_for, Standing, FitLwp, WithOwner, IsSound}
+use Rattle.trace_stop.specs.Facts.{Linked, waited_for, Standing, FitLwp, WithOwner, IsSound}
 use Rattle.trace_stop.proofs.Every.{by_bool, All-imply, All-append, find_some}
 use Rattle.trace_stop.proofs.Edited.{If_more, some_is}
 use Rattle.proc_table.proofs.Cursors.{InBlock-after, cursors-set}
@@ -60,11 +61,7 @@ module _ (rows : Rows) (p : ProcData) (l : LwpData) (s : IsSound rows) (j : Join
   }
 
   standing_new : WithOwner made (Standing made) l
-  standing_new q at = subst (λ r. Standing made r l) (some_is p q (sym owner_is ∙ at)) (record {
-    live = j.live;
-    exited = λ shown. absurd (true≢false (sym shown ∙ j.here));
-    waits = subst (λ o. IfSome o (IsLiveChild made p)) (sym j.waits) tt;
-  })
+  standing_new q at = grind (arith, nat_tests)
 
   few_lwps : (u : ℕ) → IsUser u → lwp_count_of u made ≤ 1000
   few_lwps u its = by_user (p.uid == u) refl

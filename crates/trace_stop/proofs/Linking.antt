@@ -1,6 +1,6 @@
 -- A process gets a tracer: the new link closes no ring, and rows stay sound but for the process itself.
-use Rattle.std.proofs.Common.{◌≡◌, ◌≢◌, ◌⊎◌, inl, inr, ℕ, zero, suc, ◌+◌, Bool, true, false, cond, ◌==◌, ◌||◌, if◌then◌else◌, List, [], ◌∷◌, filter_map, Option, Some, None, refl, sym, ap, ◌∙◌, true≢false, subst, arith, eqb-true, eq-eqb}
-use Rattle.std.specs.List.{cons_option}
+use Rattle.std.proofs.lemmas.Bool.Decides.{nat_tests}
+use Rattle.std.proofs.Common.{◌≡◌, ◌≢◌, ◌⊎◌, inl, inr, ℕ, zero, suc, ◌+◌, Bool, true, false, ◌==◌, ◌||◌, if◌then◌else◌, List, [], ◌∷◌, filter_map, Option, Some, None, refl, sym, ap, ◌∙◌, true≢false, subst, arith, eqb-true, eq-eqb}
 use Rattle.event_masks.specs.declared.EventMask.{EventMask}
 use Rattle.lwp_table.specs.declared.LwpData.{LwpData}
 use Rattle.proc_table.specs.declared.ProcData.{ProcData}
@@ -124,11 +124,7 @@ module _ (rows : Rows) (p : ProcData) (n : ℕ) (mask : EventMask) (s : IsSound 
 
   found_other : (m : ℕ) → m ≢ p.pid → (ps : List ProcData) → process_of m (filter_map to ps) ≡ process_of m ps
   found_other m ne [] = refl
-  found_other m ne (q ∷ ps) = by_head (q.pid == p.pid) refl (found_other m ne ps)
-    where
-      by_head : (b : Bool) → (q.pid == p.pid) ≡ b → process_of m (filter_map to ps) ≡ process_of m ps → process_of m (cons_option (Some (if b then linked q else q)) (filter_map to ps)) ≡ process_of m (q ∷ ps)
-      by_head true e rest = let it = eqb-true q.pid p.pid e in rw (by_bool (q.pid == m) (λ k. ne (sym (eqb-true q.pid m k) ∙ it))) rest
-      by_head false e rest = ap (λ o. cond (q.pid == m) (Some q) o) rest
+  found_other m ne (q ∷ ps) = grind (arith, nat_tests, found_other m ne ps)
 
   ring : NoNewRing rows.processes left.processes
   ring x none = no_new_ring rows.processes left.processes p.pid n (ap tracer_in linked_row) (λ m ne. ap tracer_in (found_other m ne rows.processes)) other never 250 x none
@@ -157,10 +153,7 @@ module _ (rows : Rows) (p : ProcData) (n : ℕ) (mask : EventMask) (s : IsSound 
   }
 
   lwp_fits : (q : ProcData) (l : LwpData) → FitLwp q l → FitLwp (if q.pid == p.pid then linked q else q) l
-  lwp_fits q l fit = choose (q.pid == p.pid) (linked q) q (λ r. FitLwp r l) (λ e. record { untraced = λ none. absurd (some_none none); silent = fit.silent; blocked = fit.blocked; mode = fit.mode }) (λ e. fit)
-    where
-      some_none : Some n ≡ None → ⊥
-      some_none is = grind (arith, is)
+  lwp_fits q l fit = grind (arith, nat_tests)
 
   pub linked_holds : Holds Traced FitLwp (change_process p.pid linked rows)
   linked_holds = subst (Holds Traced FitLwp) (processes_alone rows s.stands.housed to) (edit_holds rows nobody to (λ q l. Some l) FitProcess FitLwp Traced FitLwp (holds_sound rows s) (record {

@@ -56,11 +56,7 @@ KeepsNumbers f = (p : ProcData) → IfSome (f p) (λ q. q.pid ≡ p.pid)
 
 pub above_edited : (f : ProcData → Option ProcData) → KeepsNumbers f → (n : ℕ) (ps : List ProcData) → AllAbove n ps → AllAbove n (filter_map f ps)
 above_edited f keeps n [] above = tt
-above_edited f keeps n (p ∷ ps) above = at_head (f p) (keeps p) (above_edited f keeps n ps above.1)
-  where
-    at_head : (o : Option ProcData) → IfSome o (λ q. q.pid ≡ p.pid) → AllAbove n (filter_map f ps) → AllAbove n (cons_option o (filter_map f ps))
-    at_head None same rest = rest
-    at_head (Some q) same rest = (let lt = above.0 in omega (arith, same), rest)
+above_edited f keeps n (p ∷ ps) above = grind (arith, nat_tests, above_edited f keeps n ps above.1)
 
 pub rise_edited : (f : ProcData → Option ProcData) → KeepsNumbers f → (ps : List ProcData) → Rise ps → Rise (filter_map f ps)
 rise_edited f keeps [] rise = tt

@@ -1,6 +1,6 @@
 -- A new process at its place among the others.
 use Rattle.std.proofs.lemmas.Bool.Decides.{nat_tests}
-use Rattle.std.proofs.Common.{◌≡◌, ◌≢◌, ℕ, zero, suc, ◌+◌, ◌<◌, List, [], ◌∷◌, ◌++◌, filter, find, Bool, true, false, cond, ◌==◌, ◌||◌, ltb, Option, Some, None, IfSome, refl, sym, ap, ◌∙◌, arith, eqb-true, eq-eqb, ltb-true, lt-ltb, inl, inr}
+use Rattle.std.proofs.Common.{◌≡◌, ◌≢◌, ℕ, zero, suc, ◌+◌, ◌<◌, List, [], ◌∷◌, ◌++◌, filter, find, Bool, true, false, cond, ◌==◌, ◌||◌, ltb, Option, Some, None, IfSome, refl, sym, ap, ◌∙◌, arith, eqb-true, eq-eqb, lt-ltb, inl, inr}
 use Rattle.std.specs.Prelude.{count_by}
 use Rattle.std.specs.List.{AllByRecursion, list_any}
 use Rattle.std.proofs.lemmas.Bool.{cases_Bool}
@@ -38,10 +38,7 @@ above_lower m n lt (p ∷ ps) all = (omega (arith, all.0), above_lower m n lt ps
 
 above_filter : (q : ProcData → Bool) (n : ℕ) (ps : List ProcData) → AllAbove n ps → AllAbove n (filter q ps)
 above_filter q n [] all = tt
-above_filter q n (p ∷ ps) all = elim (cases_Bool (q p)) [
-  | inl e ↦ rw e (all.0, above_filter q n ps all.1)
-  | inr e ↦ rw e (above_filter q n ps all.1)
-]
+above_filter q n (p ∷ ps) all = grind (arith, nat_tests, above_filter q n ps all.1)
 
 pub Rise-filter : (q : ProcData → Bool) (ps : List ProcData) → Rise ps → Rise (filter q ps)
 Rise-filter q [] rise = tt
@@ -56,17 +53,11 @@ above_append n (x ∷ xs) ys all rest = (all.0, above_append n xs ys all.1 rest)
 
 above_beyond : (n : ℕ) (ps : List ProcData) → AllAbove n (filter (λ q. ltb n q.pid) ps)
 above_beyond n [] = tt
-above_beyond n (p ∷ ps) = elim (cases_Bool (ltb n p.pid)) [
-  | inl e ↦ rw e (ltb-true n p.pid e, above_beyond n ps)
-  | inr e ↦ rw e (above_beyond n ps)
-]
+above_beyond n (p ∷ ps) = grind (arith, nat_tests, above_beyond n ps)
 
 all_below : (n : ℕ) (ps : List ProcData) → AllByRecursion (λ q. q.pid < n) (filter (λ q. ltb q.pid n) ps)
 all_below n [] = tt
-all_below n (p ∷ ps) = elim (cases_Bool (ltb p.pid n)) [
-  | inl e ↦ rw e (ltb-true p.pid n e, all_below n ps)
-  | inr e ↦ rw e (all_below n ps)
-]
+all_below n (p ∷ ps) = grind (arith, nat_tests, all_below n ps)
 
 Rise_mid : (p : ProcData) (xs ys : List ProcData) → Rise xs → AllByRecursion (λ q. q.pid < p.pid) xs → Rise ys → AllAbove p.pid ys → Rise (xs ++ (p ∷ ys))
 Rise_mid p [] ys rise below rest above = (above, rest)
@@ -129,20 +120,12 @@ TracesNone ps p = (n t : ℕ) → tracer_of ps n ≡ Some t → t ≢ p
 pub meets_other : (ps qs : List ProcData) (p : ℕ) → ((n : ℕ) → n ≢ p → tracer_of qs n ≡ tracer_of ps n) → TracesNone ps p → (links q n : ℕ) → n ≢ p → meets links qs q n ≡ meets links ps q n
 unfolding meets
 meets_other ps qs p same none zero q n other = refl
-meets_other ps qs p same none (suc links) q n other = by_tracer (tracer_of ps n) refl (same n other) (meets_other ps qs p same none links q)
-  where
-    by_tracer : (o : Option ℕ) → tracer_of ps n ≡ o → tracer_of qs n ≡ tracer_of ps n → ((t : ℕ) → t ≢ p → meets links qs q t ≡ meets links ps q t) → meets (suc links) qs q n ≡ meets (suc links) ps q n
-    by_tracer None e k rest = rw (k ∙ e, e) refl
-    by_tracer (Some t) e k rest = rw (k ∙ e, e) (ap (λ b. (t == q) || b) (rest t (none n t e)))
+meets_other ps qs p same none (suc links) q n other = grind (arith, nat_tests, meets_other ps qs p same none links q)
 
 pub meets_none : (ps : List ProcData) (p : ℕ) → TracesNone ps p → (links n : ℕ) → meets links ps p n ≡ false
 unfolding meets
 meets_none ps p none zero n = refl
-meets_none ps p none (suc links) n = by_tracer (tracer_of ps n) refl (meets_none ps p none links)
-  where
-    by_tracer : (o : Option ℕ) → tracer_of ps n ≡ o → ((t : ℕ) → meets links ps p t ≡ false) → meets (suc links) ps p n ≡ false
-    by_tracer None e rest = rw e refl
-    by_tracer (Some t) e rest = rw (e, by_bool (t == p) (λ h. none n t e (eqb-true t p h))) (rest t)
+meets_none ps p none (suc links) n = grind (arith, nat_tests, meets_none ps p none links)
 
 pub meets_new : (ps qs : List ProcData) (p : ℕ) → ((n : ℕ) → n ≢ p → tracer_of qs n ≡ tracer_of ps n) → TracesNone ps p → (o : Option ℕ) → tracer_of qs p ≡ o → IfSome o (λ t. t ≢ p) → (links : ℕ) → meets links qs p p ≡ false
 unfolding meets

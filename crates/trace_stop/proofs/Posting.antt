@@ -1,5 +1,6 @@
 -- Settling and posting keep rows sound.
-use Rattle.std.proofs.Common.{◌≡◌, ◌⊎◌, inl, inr, ℕ, Bool, true, false, ◌==◌, if◌then◌else◌, Option, None, is_none, not, refl, sym, ap, ◌∙◌, true≢false, bit_and}
+use Rattle.std.proofs.lemmas.Bool.Decides.{nat_tests}
+use Rattle.std.proofs.Common.{◌≡◌, ◌⊎◌, inl, ℕ, Bool, true, false, ◌==◌, if◌then◌else◌, Option, None, is_none, refl, sym, ap, ◌∙◌, true≢false, bit_and, arith}
 use Rattle.signals.specs.Sets.{with, without}
 use Rattle.signals.specs.Table.{SIGCONT, opposed}
 use Rattle.lwp_table.specs.declared.LwpData.{LwpData}
@@ -9,7 +10,7 @@ use Rattle.proc_table.specs.declared.State.TheVariants.{Run, Trace, Job, Zombie}
 use Rattle.proc_table.specs.Processes.{is_live, is_zombie_state, is_job, is_job_state, reporting, named_by, is_this}
 use Rattle.proc_table.specs.Rows.{Rows, change}
 use Rattle.trace_stop.specs.Post.{unwanted, continues, posted_set, posted_process, posted_lwp}
-use Rattle.trace_stop.specs.Facts.{IfEnded, FitProcess, FitLwp, Silent}
+use Rattle.trace_stop.specs.Facts.{IfEnded, FitProcess, FitLwp}
 use Rattle.trace_stop.proofs.Every.{and_right}
 use Rattle.trace_stop.proofs.Bits.{without_apart}
 use Rattle.trace_stop.proofs.Changed.{Holds}
@@ -23,42 +24,18 @@ live_fits p (Job sig told) live = tt
 live_fits p (Zombie w) live = absurd (true≢false live)
 
 pub live_state : (p : ProcData) → is_live p ≡ true → is_zombie_state p.state ≡ false
-live_state p live = by_test (is_zombie_state p.state) live
-  where
-    by_test : (b : Bool) → not b ≡ true → b ≡ false
-    by_test true h = absurd (true≢false (sym h))
-    by_test false h = refl
+live_state p live = grind (arith, nat_tests)
 
 -- the same row with another pending set, which has nothing that is unwanted
 pub pending_fits : (p : ProcData) (n : ℕ) → FitProcess p → is_live p ≡ true → (p.tracer ≡ None → bit_and n (unwanted p) ≡ 0) → FitProcess (record p { pending = n })
-pending_fits p n fit live apart = record {
-  stopped = fit.stopped;
-  job = fit.job;
-  continued = fit.continued;
-  untraced = λ none. record { mask = (fit.untraced none).mask; pending = apart none };
-  ended = live_fits (record p { pending = n }) p.state (live_state p live);
-}
+pending_fits p n fit live apart = grind (arith, nat_tests)
 
 pub lwp_pending_fits : (p q : ProcData) (l : LwpData) (n : ℕ) → FitLwp p l → q.tracer ≡ p.tracer → (reporting q ≡ reporting p) ⊎ (reporting q ≡ None) → (reporting q ≡ None → reporting p ≡ None) → (q.tracer ≡ None → bit_and n (unwanted q) ≡ 0) → FitLwp q (record l { pending = n })
-lwp_pending_fits p q l n fit same by none apart = record {
-  untraced = λ free. let was = fit.untraced (sym same ∙ free) in record { due = was.due; stepping = was.stepping; suspended = was.suspended; pending = apart free };
-  silent = λ other. by_report by other;
-  blocked = fit.blocked;
-  mode = fit.mode;
-}
-  where
-    by_report : (reporting q ≡ reporting p) ⊎ (reporting q ≡ None) → is_this l.tid (reporting q) ≡ false → Silent (record l { pending = n })
-    by_report (inl e) other = let was = fit.silent (ap (is_this l.tid) (sym e) ∙ other) in record { flags = was.flags; child = was.child; code = was.code }
-    by_report (inr e) other = let was = fit.silent (ap (is_this l.tid) (none e)) in record { flags = was.flags; child = was.child; code = was.code }
+lwp_pending_fits p q l n fit same by none apart = grind (arith, nat_tests)
 
 -- an LWP beside a row that is traced and reports as before, and wants the same signals
 pub beside_fits : (p q : ProcData) (l : LwpData) → q.tracer ≡ p.tracer → reporting q ≡ reporting p → unwanted q ≡ unwanted p → FitLwp p l → FitLwp q l
-beside_fits p q l tracer report wants fit = record {
-  untraced = λ none. let was = fit.untraced (sym tracer ∙ none) in record { due = was.due; stepping = was.stepping; suspended = was.suspended; pending = ap (bit_and l.pending) wants ∙ was.pending };
-  silent = λ off. fit.silent (ap (is_this l.tid) (sym report) ∙ off);
-  blocked = fit.blocked;
-  mode = fit.mode;
-}
+beside_fits p q l tracer report wants fit = grind (arith, nat_tests)
 
 -- A process that a signal is posted to
 
@@ -90,11 +67,7 @@ posted_fits s to p fit live = by_continue (continues s p) refl
         }
 
 pub posted_report : (s : ℕ) (to : Option ℕ) (p : ProcData) → reporting (posted_process s to p) ≡ reporting p
-posted_report s to p = by_continue (continues s p) refl
-  where
-    by_continue : (b : Bool) → continues s p ≡ b → reporting (if b then record p { pending = posted_set s (is_none to) p p.pending; state = Run; continued = true } else record p { pending = posted_set s (is_none to) p p.pending }) ≡ reporting p
-    by_continue true e = sym (job_quiet p.state (and_right (s == SIGCONT) (is_job p) e))
-    by_continue false e = refl
+posted_report s to p = grind (arith, nat_tests)
 
 same_of : {X : Type 0} (view : ProcData → X) (b : Bool) (x y p : ProcData) → view x ≡ view p → view y ≡ view p → view (if b then x else y) ≡ view p
 same_of view true x y p h k = h
@@ -104,11 +77,7 @@ pub posted_same : {X : Type 0} (view : ProcData → X) (s : ℕ) (to : Option �
 posted_same view s to p h k = same_of view (continues s p) (record p { pending = posted_set s (is_none to) p p.pending; state = Run; continued = true }) (record p { pending = posted_set s (is_none to) p p.pending }) p (k _) (h _)
 
 pub posted_live : (s : ℕ) (to : Option ℕ) (p : ProcData) → is_live p ≡ true → is_live (posted_process s to p) ≡ true
-posted_live s to p live = by_continue (continues s p)
-  where
-    by_continue : (b : Bool) → is_live (if b then record p { pending = posted_set s (is_none to) p p.pending; state = Run; continued = true } else record p { pending = posted_set s (is_none to) p p.pending }) ≡ true
-    by_continue true = refl
-    by_continue false = live
+posted_live s to p live = grind (arith, nat_tests)
 
 unwanted_posted : (s : ℕ) (to : Option ℕ) (p : ProcData) → unwanted (posted_process s to p) ≡ unwanted p
 unwanted_posted s to p = posted_same unwanted s to p (λ n. refl) (λ n. refl)

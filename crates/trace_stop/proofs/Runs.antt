@@ -37,20 +37,14 @@ module _ (pid tid : ℕ) (p : ProcData) (g : LwpData → LwpData) (h : LwpData �
     (mine : (x : LwpData) → nat_eq x.pid pid ≡ true → h x ≡ option_map g (reported p x))
     (others : (x : LwpData) → nat_eq x.pid pid ≡ false → h x ≡ Some x) where
   silent : (x : LwpData) → nat_eq x.tid tid ≡ false → h x ≡ Some (own_lwp pid g x)
-  silent x e = elim (cases_Bool (nat_eq x.pid pid)) [
-    | inl k ↦ mine x k ∙ (rw (reports, swapped x.tid tid false e, k) refl)
-    | inr k ↦ others x k ∙ (rw k refl)
-  ]
+  silent x e = grind (arith, nat_tests)
 
   quiet : (ls : List LwpData) → LacksLwp tid ls → filter_map h ls ≡ map (own_lwp pid g) ls
   quiet [] a = refl
   quiet (x ∷ ls) a = rw (silent x (other_number x.tid tid a.0), quiet ls a.1) refl
 
   its_report : (l : LwpData) (b : Bool) → l.tid ≡ tid → l.pid ≡ pid → shows l.flags PL_FLAG_EXITED ≡ b → h l ≡ cond b None (Some (g (unreported l)))
-  its_report l b its own e =
-      let here : nat_eq l.pid pid ≡ true = rw own (same_number pid) in
-      let named : nat_eq tid l.tid ≡ true = rw its (same_number tid) in
-      mine l here ∙ (rw (reports, named) (grind (arith, e)))
+  its_report l b its own e = grind (arith, nat_tests)
 
   pub reported-lwps : (l : LwpData) (b : Bool) → l.tid ≡ tid → l.pid ≡ pid → shows l.flags PL_FLAG_EXITED ≡ b → (ls : List LwpData) → Differ ls → lwp_of tid ls ≡ Some l
       → filter_map h ls ≡ map (own_lwp pid g) (dropped b l ls)

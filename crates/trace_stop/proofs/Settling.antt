@@ -1,4 +1,5 @@
 -- Settling makes rows sound that are so but for the pending sets of one process.
+use Rattle.std.proofs.lemmas.Bool.Decides.{nat_tests}
 use Rattle.std.proofs.Common.{◌≡◌, ◌≢◌, inl, ℕ, true, false, ◌==◌, Some, refl, sym, ◌∙◌, true≢false, subst, eqb-true, eq-eqb, bit_and, arith}
 use Rattle.std.proofs.lemmas.Nat.{and_le_l}
 use Rattle.signals.specs.Dispositions.{Actions}
@@ -13,7 +14,7 @@ use Rattle.trace_stop.specs.Before.{FitButPending, FitLwpButPending, IsSoundButP
 use Rattle.trace_stop.proofs.Bits.{without_apart}
 use Rattle.trace_stop.proofs.Changed.{Holds, holds_sound, sound_holds, row_is}
 use Rattle.trace_stop.proofs.Changes.{changes_hold}
-use Rattle.trace_stop.proofs.Posting.{pending_fits, lwp_pending_fits, live_fits, live_state}
+use Rattle.trace_stop.proofs.Posting.{pending_fits, lwp_pending_fits}
 use Rattle.trace_stop.proofs.Single.{process_alone}
 
 other : (a b : ℕ) → (a == b) ≡ false → a ≢ b
@@ -42,13 +43,7 @@ zero_apart n = let most = and_le_l 0 n in omega arith
 
 -- a live process with other dispositions is fit but for what is pending
 pub redisposed : (d : Actions) (p : ProcData) → FitProcess p → is_live p ≡ true → FitProcess (record p { dispositions = d; pending = 0 })
-redisposed d p fit live = record {
-  stopped = fit.stopped;
-  job = fit.job;
-  continued = fit.continued;
-  untraced = λ none. record { mask = (fit.untraced none).mask; pending = zero_apart (unwanted (record p { dispositions = d })) };
-  ended = live_fits (record p { dispositions = d; pending = 0 }) p.state (live_state p live);
-}
+redisposed d p fit live = grind (arith, nat_tests)
 
 pub redisposed_lwp : (d : Actions) (p : ProcData) (l : LwpData) → FitLwp p l → FitLwp (record p { dispositions = d }) (record l { pending = 0 })
 redisposed_lwp d p l fit = lwp_pending_fits p (record p { dispositions = d }) l 0 fit refl (inl refl) (λ e. e) (λ none. zero_apart (unwanted (record p { dispositions = d })))

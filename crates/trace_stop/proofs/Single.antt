@@ -1,5 +1,6 @@
 -- A change of one process, and of one LWP.
-use Rattle.std.proofs.Common.{◌≡◌, ◌⊎◌, inl, ℕ, Bool, true, false, ◌==◌, if◌then◌else◌, filter_map, Option, Some, None, IfSome, refl, sym, ap, ◌∙◌, subst, eqb-true}
+use Rattle.std.proofs.lemmas.Bool.Decides.{nat_tests}
+use Rattle.std.proofs.Common.{◌≡◌, ◌⊎◌, inl, ℕ, Bool, true, false, ◌==◌, if◌then◌else◌, filter_map, Option, Some, None, IfSome, refl, sym, ap, subst, eqb-true, arith}
 use Rattle.lwp_table.specs.declared.LwpData.{LwpData}
 use Rattle.lwp_table.specs.Lwps.{lwp_of}
 use Rattle.proc_table.specs.declared.ProcData.{ProcData}
@@ -7,8 +8,8 @@ use Rattle.proc_table.specs.Processes.{is_live, reporting, process_of}
 use Rattle.proc_table.specs.Rows.{Rows, owner, by_owner, each, change, change_process, change_lwp, is_numbered}
 use Rattle.trace_stop.specs.Facts.{IsLiveChild, FitProcess, waited_for, FitLwp, IsSound}
 use Rattle.trace_stop.proofs.Every.{choose}
-use Rattle.trace_stop.proofs.Edited.{some_is, edit_none}
-use Rattle.trace_stop.proofs.Changed.{Row, Beside, Same, Stay, KeptLwp, nobody, holds_sound, sound_holds, row_is, lwp_is, like_self, kept_all, kept_waiting, kept_lwp, none_gone, no_ring, stay, edit_holds, lwps_alone}
+use Rattle.trace_stop.proofs.Edited.{edit_none}
+use Rattle.trace_stop.proofs.Changed.{Row, Beside, Same, Stay, KeptLwp, nobody, holds_sound, sound_holds, row_is, like_self, kept_all, kept_waiting, kept_lwp, none_gone, no_ring, stay, edit_holds, lwps_alone}
 use Rattle.trace_stop.proofs.Changes.{Alike, changes_hold}
 
 -- One process
@@ -73,10 +74,7 @@ module _ (rows : Rows) (tid : ℕ) (p : ProcData) (l : LwpData) (g : LwpData →
   Changed q k = (FitLwp q k → FitLwp q (g k)) × IfSome (waited_for (g k).mode) (IsLiveChild rows q)
 
   the_lwp : (q : ProcData) (k : LwpData) → Beside rows FitProcess FitLwp q k → (k.tid == tid) ≡ true → Changed q k
-  the_lwp q k b is =
-      let one : l ≡ k = sym (lwp_is b at (eqb-true k.tid tid is)) in
-      let its : p ≡ q = some_is p q (sym home ∙ (ap (λ j. process_of j.pid rows.processes) one ∙ b.at)) in
-      subst (λ j. Changed q j) one (subst (λ x. Changed x l) its (c.fit, c.waits))
+  the_lwp q k b is = grind (arith, nat_tests)
 
   pub lwp_sound : IsSound (change_lwp tid g rows)
   lwp_sound = subst IsSound (lwps_alone rows s.stands.housed (λ k. Some (to k))) (sound_holds made (edit_holds rows nobody (λ q. Some q) (λ q k. Some (to k)) FitProcess FitLwp FitProcess FitLwp (holds_sound rows s) (record {

@@ -1,15 +1,13 @@
 -- A process in a trace stop is stopped by an LWP of its own.
 use Rattle.std.proofs.Common.{◌≡◌, ◌∙◌, ℕ, true, Option, List, [], ◌∷◌, Some, None, IsSome, is_some, refl, ap, arith, inl, inr, nat_eq}
-use Rattle.std.specs.Prelude.{IfSome, ◌&&◌, not}
+use Rattle.std.specs.Prelude.{IfSome, ◌&&◌}
 use Rattle.std.specs.List.{list_any}
 use Rattle.std.proofs.lemmas.Bool.{cases_Bool}
 use Rattle.std.proofs.lemmas.Bool.Decides.{nat_tests}
 use Rattle.lwp_table.specs.declared.LwpData.{LwpData}
 use Rattle.lwp_table.specs.Lwps.{LacksLwp, Differ, lwp_of}
 use Rattle.proc_table.specs.declared.ProcData.{ProcData}
-use Rattle.proc_table.specs.Processes.{process_of, reporting, named_by, is_live, is_zombie_state}
-use Rattle.proc_table.specs.declared.State.{State}
-use Rattle.proc_table.specs.declared.State.TheVariants.{Run, Trace, Job, Zombie}
+use Rattle.proc_table.specs.Processes.{process_of, reporting, is_live}
 use Rattle.proc_table.specs.Rows.{Rows}
 use Rattle.proc_table.specs.Kept.{IsRow}
 use Rattle.proc_table.proofs.Every.{every_found}
@@ -60,10 +58,4 @@ pub stopped_row : (pid : ℕ) (rows : Rows) → IsStopped pid rows → IsRow row
 stopped_row pid rows s = found_row pid s.p rows.processes s.at
 
 pub stopped_live : (pid : ℕ) (rows : Rows) (s : IsStopped pid rows) → is_live s.p ≡ true
-stopped_live pid rows s = by_state s.p.state s.reports
-  where
-    by_state : (state : State) → named_by state ≡ Some s.tid → not (is_zombie_state state) ≡ true
-    by_state Run e = absurd (cc)
-    by_state (Trace tid sig told) e = refl
-    by_state (Job sig told) e = refl
-    by_state (Zombie w) e = absurd (cc)
+stopped_live pid rows s = grind (arith, nat_tests)

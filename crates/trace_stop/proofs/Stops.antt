@@ -1,5 +1,6 @@
 -- A trace stop keeps rows sound.
-use Rattle.std.proofs.Common.{◌≡◌, ◌≢◌, inl, ℕ, ◌≤◌, Bool, true, false, ◌==◌, ◌&&◌, if◌then◌else◌, List, [], ◌∷◌, find, Option, Some, None, IfSome, is_some, not, refl, sym, ap, ◌∙◌, true≢false, subst, arith, eqb-true, eq-eqb, bit_and}
+use Rattle.std.proofs.lemmas.Bool.Decides.{nat_tests}
+use Rattle.std.proofs.Common.{◌≡◌, ◌≢◌, inl, ℕ, ◌≤◌, Bool, true, false, ◌==◌, ◌&&◌, if◌then◌else◌, List, [], ◌∷◌, find, Option, Some, None, IfSome, is_some, refl, sym, ap, ◌∙◌, true≢false, subst, arith, eqb-true, eq-eqb, bit_and}
 use Rattle.std.specs.List.{AllByRecursion, list_any}
 use Rattle.std.specs.Option.{IsSomeAnd}
 use Rattle.signals.specs.Table.{unmaskable_set}
@@ -19,7 +20,7 @@ use Rattle.trace_stop.specs.Post.{notified}
 use Rattle.trace_stop.specs.declared.Shown.{Shown}
 use Rattle.trace_stop.specs.Sound.{names_own, mode_fits}
 use Rattle.trace_stop.specs.Facts.{IsLiveOf, IsLiveChild, FitProcess, waited_for, FitLwp, Silent, IsSound}
-use Rattle.trace_stop.proofs.Every.{by_bool, both, All-imply, All-both, All-any, find_some, choose}
+use Rattle.trace_stop.proofs.Every.{both, All-imply, All-both, All-any, find_some, choose}
 use Rattle.trace_stop.proofs.Edited.{If_more}
 use Rattle.trace_stop.proofs.Changed.{Holds, Row, Beside, Same, Stay, Edit, Leaves, KeptRow, nobody, sound_holds, found_number, lwp_is, row_at, like_self, peopled_on, kept_row, kept_all, none_gone, no_ring, stay, edit_holds, lives_after, each_alone}
 use Rattle.trace_stop.specs.Before.{MayTell, Ready, FitOrReady, MayStop}
@@ -37,12 +38,7 @@ none_some o none is = true≢false (sym is ∙ ap is_some none)
 
 -- a traced process that runs is ready
 pub run_ready : (p : ProcData) → FitProcess p → is_run p ≡ true → is_some p.tracer ≡ true → Ready p
-run_ready p fit run traced = record {
-  live = ap (λ b. not b) (run_quiet p.state run).1;
-  traced = traced;
-  quiet = (run_quiet p.state run).0;
-  calm = by_bool p.continued (λ on. none_some p.tracer (fit.continued on).0 traced);
-}
+run_ready p fit run traced = grind (arith, nat_tests)
 
 -- so an LWP of it may stop it
 pub sound_ready : (rows : Rows) (pid tid : ℕ) (shown : Shown) (p : ProcData) → IsSound rows → process_of pid rows.processes ≡ Some p → Ready p
@@ -104,13 +100,7 @@ module _ (rows : Rows) (pid tid : ℕ) (shown : Shown) (p : ProcData) (l : LwpDa
       (both (l.tid == tid) (l.pid == q.pid) (eq-eqb l.tid tid (found_tid tid rows.lwps l c.there)) (eq-eqb l.pid q.pid (c.own ∙ sym (eqb-true q.pid pid is))))
 
   fits : (q : ProcData) → Ready q → FitProcess (stopped q)
-  fits q ready = record {
-    stopped = λ is. ready.traced;
-    job = λ is. absurd (true≢false (sym is));
-    continued = λ on. absurd (true≢false (sym on ∙ ready.calm));
-    untraced = λ none. absurd (none_some q.tracer none ready.traced);
-    ended = tt;
-  }
+  fits q ready = grind (arith, nat_tests)
 
   fit_lwp : (q : ProcData) (k : LwpData) → Known q k → (b : Bool) → (q.pid == pid) ≡ b → (d : Bool) → (k.tid == tid) ≡ d → FitLwp (if b then stopped q else q) (if d then showing k else k)
   fit_lwp q k known false e true d = absurd (other q e (its_own q k known d))
@@ -131,10 +121,7 @@ module _ (rows : Rows) (pid tid : ℕ) (shown : Shown) (p : ProcData) (l : LwpDa
   exited q k known false d is = known.stood.exited is
 
   same : Same to (λ q k. Some (to_lwp k))
-  same = record {
-    process = λ q. choose (q.pid == pid) (stopped q) q (λ r. (r.pid ≡ q.pid) × (r.uid ≡ q.uid)) (λ e. (refl, refl)) (λ e. (refl, refl));
-    lwp = λ q k. choose (k.tid == tid) (showing k) k (λ j. (j.tid ≡ k.tid) × (j.pid ≡ k.pid)) (λ e. (refl, refl)) (λ e. (refl, refl));
-  }
+  same = grind (arith, nat_tests)
 
   stays : (q : ProcData) → Row rows (FitOrReady pid) q → Stay rows made q
   stays q row = stay rows to (λ q k. Some (to_lwp k)) same q row.at (λ k. (to_lwp k, refl))

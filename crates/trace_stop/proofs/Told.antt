@@ -1,7 +1,6 @@
 -- Who is told of a signal or a stop: one process, or none.
-use Rattle.std.proofs.Common.{◌≡◌, ℕ, false, [], ◌∷◌, refl, ap, ◌∙◌, arith, inl, inr, nat_eq, Option, Some, None}
-use Rattle.std.specs.Prelude.{◌||◌, filter_map}
-use Rattle.std.proofs.Math.Path.{fun_ext}
+use Rattle.std.proofs.Common.{◌≡◌, ℕ, [], ◌∷◌, refl, ap, ◌∙◌, arith, inl, inr, Option, Some, None}
+use Rattle.std.specs.Prelude.{filter_map}
 use Rattle.std.proofs.lemmas.Bool.{cases_Bool}
 use Rattle.std.proofs.lemmas.Bool.Decides.{nat_tests}
 use Rattle.signals.specs.Table.{SIGCHLD}
@@ -13,10 +12,7 @@ use Rattle.proc_table.proofs.Changes.{map-id, filter_map-map, change-none}
 use Rattle.trace_stop.specs.Post.{notified, posted_process, posted_lwp, continues}
 
 pub notified-one : (n : ℕ) (rows : Rows) → notified (n ∷ []) rows ≡ change (is_numbered n) (posted_process SIGCHLD None) (posted_lwp SIGCHLD None) rows
-notified-one n rows = ap (λ chosen. change chosen (posted_process SIGCHLD None) (posted_lwp SIGCHLD None) rows) (fun_ext (λ p. same p.pid))
-  where
-    same : (m : ℕ) → (nat_eq n m || false) ≡ nat_eq m n
-    same m = grind (arith, nat_tests)
+notified-one n rows = grind (arith, nat_tests)
 
 -- nobody is told where the number is no process's
 pub notified-absent : (n : ℕ) (rows : Rows) → process_of n rows.processes ≡ None → notified (n ∷ []) rows ≡ rows
