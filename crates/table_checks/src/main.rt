@@ -15,9 +15,18 @@ mod rounds;
 mod tally;
 
 use pid_blocks::{BadUser, Uid};
+use rounds::ROUND;
 use std::alloc::AllocError;
 use std::io;
 use tally::{Difference, Tally};
+
+/// How many rounds of edits there are, of the tables and of a table of LWPs alone.
+const ROUNDS: usize = 1000;
+
+/// How many processes and LWPs one user bears, more than a block has numbers.
+const PROCESSES: usize = 2500;
+
+const LWPS: usize = 5500;
 
 /// Why the program ends with status 1.
 #[derive(Debug, Drop)]
@@ -61,17 +70,19 @@ fn judge(tally: &Tally) -> Result<(), Trouble> {
 fn main(rt: HostRuntime) -> Result<(), Trouble> {
     let alloc = rt.alloc();
     let users = [Uid::new(1001)?, Uid::new(1002)?, Uid::new(1064)?];
-    let tally = rounds::mixed_edits(alloc, 1000, &users, Uid::new(1003)?)?;
+    let tally = rounds::mixed_edits(alloc, ROUNDS, &users, Uid::new(1003)?)?;
     let differ = tally.differ();
-    println!(rt; "mixed edits of 3 users: 1000 rounds of 4 edits, {differ} differ")?;
+    println!(rt; "mixed edits of 3 users: {ROUNDS} rounds of {ROUND} edits, {differ} differ")?;
     judge(&tally)?;
-    let tally = rounds::numbers(alloc, Uid::new(1064)?, 2500, 5500)?;
+    let tally = rounds::numbers(alloc, Uid::new(1064)?, PROCESSES, LWPS)?;
     let differ = tally.differ();
-    println!(rt; "numbers of 1 user: 2500 births of processes, 5500 of LWPs, {differ} differ")?;
+    println!(rt;
+        "numbers of 1 user: {PROCESSES} births of processes, {LWPS} of LWPs, {differ} differ"
+    )?;
     judge(&tally)?;
     let users = [Uid::new(1001)?, Uid::new(1002)?, Uid::new(1003)?];
-    let tally = rounds::lwps_alone(alloc, 1000, &users)?;
+    let tally = rounds::lwps_alone(alloc, ROUNDS, &users)?;
     let differ = tally.differ();
-    println!(rt; "a table of LWPs alone: 1000 rounds of 4 edits, {differ} differ")?;
+    println!(rt; "a table of LWPs alone: {ROUNDS} rounds of {ROUND} edits, {differ} differ")?;
     judge(&tally)
 }

@@ -10,7 +10,7 @@ use pid_blocks::Uid;
 use std::alloc::{AllocError, Global};
 
 /// After so many edits every reader is asked.
-const ROUND: usize = 4;
+pub const ROUND: usize = 4;
 
 /// A round of mixed edits of the users.
 fn edits(both: &mut Both, users: &[Uid]) -> Result<(), AllocError> {
