@@ -1,12 +1,11 @@
 //! What each reader of the tables answers, against the lists.
 
 use crate::edits::{next_born, next_sibling};
-use crate::plain::Plain;
+use crate::plain::{Plain, first_tid};
+use crate::tally::Tally;
 use lwp_table::{LwpData, LwpTable};
 use pid_blocks::{Pid, Tid, Uid};
 use proc_table::Tables;
-use std::process::Abort;
-use std::test::Fail;
 
 /// Numbers about the borders of what processes, LWPs and users have.
 const BORDERS: [u32; 16] = [
@@ -15,144 +14,156 @@ const BORDERS: [u32; 16] = [
 ];
 
 /// Every reader, at every row and about it.
-pub fn all(rt: &impl Abort, tables: &Tables, plain: &Plain, users: &[Uid]) -> Result<(), Fail> {
-    for (place, row) in plain.lwps.iter().enumerate() {
-        assert_eq!(rt; tables.lwp_at(place), Some(*row));
-        lwp(rt, tables, plain, row.tid);
-    }
-    assert_eq!(rt; tables.lwp_at(plain.lwps.len()), None);
+pub fn all(tally: &mut Tally, tables: &Tables, plain: &Plain, users: &[Uid]) {
+    lwps(tally, tables, plain);
     for row in &plain.processes {
-        process(rt, tables, plain, row.pid);
+        process(tally, tables, plain, row.pid);
         for other in &plain.processes {
             let number = other.pid.get();
-            links(rt, tables, plain, row.pid, number);
-            links(rt, tables, plain, row.pid, number - 1);
+            links(tally, tables, plain, row.pid, number);
+            links(tally, tables, plain, row.pid, number - 1);
         }
     }
     for uid in users {
-        user(rt, tables, plain, *uid);
+        user(tally, tables, plain, *uid);
     }
-    Ok(())
+}
+
+/// The readers at each LWP, by its place and by its number.
+fn lwps(tally: &mut Tally, tables: &Tables, plain: &Plain) {
+    for (place, row) in plain.lwps.iter().enumerate() {
+        let same = tables.lwp_at(place) == Some(*row);
+        tally.see("lwp_at", same, 0, row.tid.get());
+        lwp(tally, tables, plain, row.tid);
+    }
+    let past = tables.lwp_at(plain.lwps.len()).is_none();
+    tally.see("lwp_at past the last", past, 0, 0);
 }
 
 /// The readers at an LWP's number.
-pub fn lwp(rt: &impl Abort, tables: &Tables, plain: &Plain, tid: Tid) {
-    assert_eq!(rt; tables.lwp(tid), plain.lwp(tid.get()), "{tid:?}");
-    assert_eq!(rt;
-        next_sibling(tables, tid),
-        plain.next_sibling(tid),
-        "after {tid:?}"
-    );
+pub fn lwp(tally: &mut Tally, tables: &Tables, plain: &Plain, tid: Tid) {
+    let number = tid.get();
+    let same = tables.lwp(tid) == plain.lwp(number);
+    tally.see("lwp", same, 0, number);
+    let same = next_sibling(tables, tid) == plain.next_sibling(tid);
+    tally.see("next_lwp", same, 0, number);
 }
 
 /// The readers at a process's number.
-pub fn process(rt: &impl Abort, tables: &Tables, plain: &Plain, pid: Pid) {
+pub fn process(tally: &mut Tally, tables: &Tables, plain: &Plain, pid: Pid) {
     let number = pid.get();
-    assert_eq!(rt; tables.process(pid), plain.process(number), "{pid:?}");
-    assert_eq!(rt; tables.numbered(number), plain.process(number), "{pid:?}");
-    assert_eq!(rt; tables.first_lwp(pid), plain.first_lwp(pid), "of {pid:?}");
-    assert_eq!(rt; tables.lwp_count(pid), plain.lwp_count(pid), "of {pid:?}");
+    let same = tables.process(pid) == plain.process(number);
+    tally.see("process", same, 0, number);
+    let same = tables.numbered(number) == plain.process(number);
+    tally.see("numbered", same, 0, number);
+    let same = tables.first_lwp(pid) == plain.first_lwp(pid);
+    tally.see("first_lwp", same, number, 0);
+    let same = tables.lwp_count(pid) == plain.lwp_count(pid);
+    tally.see("lwp_count", same, number, 0);
     for after in BORDERS {
-        links(rt, tables, plain, pid, after);
+        links(tally, tables, plain, pid, after);
     }
 }
 
 /// The tracees and the children of a process, above a number.
-fn links(rt: &impl Abort, tables: &Tables, plain: &Plain, pid: Pid, after: u32) {
-    assert_eq!(rt;
-        tables.next_tracee(pid, after),
-        plain.next_tracee(pid, after),
-        "of {pid:?} above {after}"
-    );
-    assert_eq!(rt;
-        tables.next_child(pid, after),
-        plain.next_child(pid, after),
-        "of {pid:?} above {after}"
-    );
+fn links(tally: &mut Tally, tables: &Tables, plain: &Plain, pid: Pid, after: u32) {
+    let same = tables.next_tracee(pid, after) == plain.next_tracee(pid, after);
+    tally.see("next_tracee", same, pid.get(), after);
+    let same = tables.next_child(pid, after) == plain.next_child(pid, after);
+    tally.see("next_child", same, pid.get(), after);
 }
 
 /// The readers at a user, and what the user sees of each row.
-pub fn user(rt: &impl Abort, tables: &Tables, plain: &Plain, uid: Uid) {
-    assert_eq!(rt;
-        tables.process_count(uid),
-        plain.process_count(uid),
-        "{uid:?}"
-    );
-    assert_eq!(rt;
-        tables.lwp_count_of(uid),
-        plain.lwp_count_of(uid),
-        "{uid:?}"
-    );
-    assert_eq!(rt; tables.pid_cursor(uid), plain.pid_cursor(uid), "{uid:?}");
-    assert_eq!(rt; tables.tid_cursor(uid), plain.tid_cursor(uid), "{uid:?}");
-    assert_eq!(rt; tables.fresh_pid(uid), plain.fresh_pid(uid), "{uid:?}");
-    assert_eq!(rt; tables.fresh_tid(uid), plain.fresh_tid(uid), "{uid:?}");
+pub fn user(tally: &mut Tally, tables: &Tables, plain: &Plain, uid: Uid) {
+    counts(tally, tables, plain, uid);
+    fresh(tally, tables, plain, uid);
     for number in BORDERS {
-        sight(rt, tables, plain, uid, number);
+        sight(tally, tables, plain, uid, number);
     }
     for row in &plain.processes {
-        sight(rt, tables, plain, uid, row.pid.get());
-        sight(rt, tables, plain, uid, row.pid.get() - 1);
+        sight(tally, tables, plain, uid, row.pid.get());
+        sight(tally, tables, plain, uid, row.pid.get() - 1);
     }
     for row in &plain.lwps {
-        sight(rt, tables, plain, uid, row.tid.get());
+        sight(tally, tables, plain, uid, row.tid.get());
     }
+}
+
+/// How many rows a user has.
+fn counts(tally: &mut Tally, tables: &Tables, plain: &Plain, uid: Uid) {
+    let same = tables.process_count(uid) == plain.process_count(uid);
+    tally.see("process_count", same, uid.get(), 0);
+    let same = tables.lwp_count_of(uid) == plain.lwp_count_of(uid);
+    tally.see("lwp_count_of", same, uid.get(), 0);
+}
+
+/// A user's next numbers, and where the search for them begins.
+fn fresh(tally: &mut Tally, tables: &Tables, plain: &Plain, uid: Uid) {
+    let same = tables.pid_cursor(uid) == plain.pid_cursor(uid);
+    tally.see("pid_cursor", same, uid.get(), 0);
+    let same = tables.tid_cursor(uid) == plain.tid_cursor(uid);
+    tally.see("tid_cursor", same, uid.get(), 0);
+    let same = tables.fresh_pid(uid) == plain.fresh_pid(uid);
+    tally.see("fresh_pid", same, uid.get(), 0);
+    let same = tables.fresh_tid(uid) == plain.fresh_tid(uid);
+    tally.see("fresh_tid", same, uid.get(), 0);
 }
 
 /// What a user sees at a number, which may be nobody's.
-fn sight(rt: &impl Abort, tables: &Tables, plain: &Plain, uid: Uid, number: u32) {
-    assert_eq!(rt;
-        tables.find_seen(uid, number),
-        plain.find_seen(uid, number),
-        "{number} by {uid:?}"
-    );
-    assert_eq!(rt;
-        tables.seen_process(uid, number),
-        plain.seen_process(uid, number),
-        "{number} by {uid:?}"
-    );
-    assert_eq!(rt;
-        tables.seen_lwp(uid, number),
-        plain.seen_lwp(uid, number),
-        "{number} by {uid:?}"
-    );
-    assert_eq!(rt;
-        tables.next_of(uid, number),
-        plain.next_of(uid, number),
-        "above {number} by {uid:?}"
-    );
+fn sight(tally: &mut Tally, tables: &Tables, plain: &Plain, uid: Uid, number: u32) {
+    let same = tables.find_seen(uid, number) == plain.find_seen(uid, number);
+    tally.see("find_seen", same, uid.get(), number);
+    let same = tables.seen_process(uid, number) == plain.seen_process(uid, number);
+    tally.see("seen_process", same, uid.get(), number);
+    let same = tables.seen_lwp(uid, number) == plain.seen_lwp(uid, number);
+    tally.see("seen_lwp", same, uid.get(), number);
+    let same = tables.next_of(uid, number) == plain.next_of(uid, number);
+    tally.see("next_of", same, uid.get(), number);
 }
 
 /// The readers of a table of LWPs alone, against a list.
-pub fn lwp_table(rt: &impl Abort, table: &LwpTable, rows: &[LwpData], users: &[Uid]) {
-    assert!(rt; table.iter().eq(rows.iter().copied()));
-    assert_eq!(rt; table.len(), rows.len());
-    assert_eq!(rt; table.at(rows.len()), None);
+pub fn lwp_table(tally: &mut Tally, table: &LwpTable, rows: &[LwpData], users: &[Uid]) {
+    let same = table.iter().eq(rows.iter().copied());
+    tally.see("iter", same, 0, 0);
+    tally.see("len", table.len() == rows.len(), 0, 0);
+    tally.see("at past the last", table.at(rows.len()).is_none(), 0, 0);
     for (place, row) in rows.iter().enumerate() {
-        let pid = row.pid;
-        assert_eq!(rt; table.at(place), Some(*row));
-        assert_eq!(rt; table.get(row.tid), Some(*row));
-        assert!(rt;
-            table
-                .of_process(pid)
-                .eq(rows.iter().copied().filter(|l| l.pid == pid))
-        );
-        assert_eq!(rt;
-            table.first_of(pid),
-            rows.iter().copied().find(|l| l.pid == pid)
-        );
-        assert_eq!(rt;
-            table.count(pid),
-            rows.iter().filter(|l| l.pid == pid).count()
-        );
-        let mut later = rows[place..].iter().copied().skip(1);
-        assert_eq!(rt; next_born(table, row.tid), later.find(|l| l.pid == pid));
+        let number = row.tid.get();
+        tally.see("at", table.at(place) == Some(*row), 0, number);
+        tally.see("get", table.get(row.tid) == Some(*row), 0, number);
+        let same = next_born(table, row.tid) == later(rows, place, row.pid);
+        tally.see("next_born", same, 0, number);
+        of_process(tally, table, rows, row.pid);
     }
     for uid in users {
-        let first = 100000 + 4000 * (uid.get() - 1001);
-        let own = rows
-            .iter()
-            .filter(|l| (first..first + 4000).contains(&l.tid.get()));
-        assert_eq!(rt; table.user_count(*uid), own.count(), "{uid:?}");
+        let same = table.user_count(*uid) == own_count(rows, *uid);
+        tally.see("user_count", same, uid.get(), 0);
     }
+}
+
+/// The next row of the process after this place.
+fn later(rows: &[LwpData], place: usize, pid: Pid) -> Option<LwpData> {
+    let mut later = rows.iter().copied().skip(place.saturating_add(1));
+    later.find(|row| row.pid == pid)
+}
+
+/// How many rows have a number of the user's.
+fn own_count(rows: &[LwpData], uid: Uid) -> usize {
+    let first = first_tid(uid);
+    let own = first..first + 4000;
+    rows.iter()
+        .filter(|row| own.contains(&row.tid.get()))
+        .count()
+}
+
+/// The readers at a process of a table of LWPs alone.
+fn of_process(tally: &mut Tally, table: &LwpTable, rows: &[LwpData], pid: Pid) {
+    let number = pid.get();
+    let own = rows.iter().copied().filter(|row| row.pid == pid);
+    let same = table.of_process(pid).eq(own);
+    tally.see("of_process", same, number, 0);
+    let first = rows.iter().copied().find(|row| row.pid == pid);
+    tally.see("first_of", table.first_of(pid) == first, number, 0);
+    let count = rows.iter().filter(|row| row.pid == pid).count();
+    tally.see("count", table.count(pid) == count, number, 0);
 }

@@ -2,15 +2,14 @@
 
 use crate::dice::Dice;
 use crate::plain::Plain;
+use crate::tally::Tally;
 use crate::{agree, edits};
 use event_masks::{Call, EventMask, StopFlags};
 use lwp_table::{Due, LwpData, Mode};
 use pid_blocks::{Pid, Uid};
 use proc_table::{ProcData, State, Tables};
 use signals::{Dispositions, SigSet, Signal};
-use std::alloc::Global;
-use std::process::Abort;
-use std::test::Fail;
+use std::alloc::{AllocError, Global};
 
 /// How many processes and LWPs a user may have here.
 const PROCESSES: usize = 12;
@@ -20,18 +19,55 @@ const LWPS: usize = 30;
 /// The tables, the lists and what comes next.
 #[derive(Drop)]
 pub struct Both {
-    pub tables: Tables,
-    pub plain: Plain,
-    pub dice: Dice,
+    tables: Tables,
+    plain: Plain,
+    dice: Dice,
+    tally: Tally,
 }
 
 impl Both {
-    pub fn new(alloc: Global, seed: u64) -> Result<Both, Fail> {
+    pub fn new(alloc: Global, seed: u64) -> Result<Both, AllocError> {
         Ok(Both {
             tables: Tables::new(alloc)?,
             plain: Plain::new(alloc),
             dice: Dice::new(seed),
+            tally: Tally::new(),
         })
+    }
+
+    pub fn tally(&self) -> Tally {
+        self.tally
+    }
+
+    pub fn process_count(&self) -> usize {
+        self.plain.processes.len()
+    }
+
+    pub fn lwp_count(&self) -> usize {
+        self.plain.lwps.len()
+    }
+
+    pub fn pid_cursor(&self, uid: Uid) -> u32 {
+        self.plain.pid_cursor(uid)
+    }
+
+    pub fn tid_cursor(&self, uid: Uid) -> u32 {
+        self.plain.tid_cursor(uid)
+    }
+
+    /// What must hold, beside the readers.
+    pub fn see(&mut self, of: &'static str, holds: bool, number: u32) {
+        self.tally.see(of, holds, 0, number);
+    }
+
+    /// Every reader, at every row and about it, and at the users.
+    pub fn compare(&mut self, users: &[Uid]) {
+        agree::all(&mut self.tally, &self.tables, &self.plain, users);
+    }
+
+    /// The readers at a user.
+    pub fn compare_user(&mut self, uid: Uid) {
+        agree::user(&mut self.tally, &self.tables, &self.plain, uid);
     }
 
     /// A number of a process of the user, or of anyone, or of nobody.
@@ -81,81 +117,82 @@ impl Both {
     }
 
     /// A new process, also where the user has one too many or the names are refused.
-    pub fn spawn(&mut self, rt: &impl Abort, uid: Uid) -> Result<(), Fail> {
+    pub fn spawn(&mut self, uid: Uid) -> Result<(), AllocError> {
         let Some(pid) = self.plain.fresh_pid(uid) else {
             return Ok(());
         };
         if self.plain.process_count(uid) >= PROCESSES {
-            self.clear(rt);
+            self.clear();
             return Ok(());
         }
         let row = self.row(pid, uid);
         let made = self.plain.spawn(row)?;
-        assert_eq!(rt; edits::spawn(&mut self.tables, row)?, made, "{row:?}");
-        agree::process(rt, &self.tables, &self.plain, pid);
+        let same = edits::spawn(&mut self.tables, row)? == made;
+        self.tally.see("spawn", same, 0, row.pid.get());
+        agree::process(&mut self.tally, &self.tables, &self.plain, pid);
         Ok(())
     }
 
     /// A process's row changed, its tracer and its parent moved.
-    pub fn turn(&mut self, rt: &impl Abort) {
+    pub fn turn(&mut self) {
         if let Some(was) = self.dice.pick(self.plain.processes.as_slice()) {
             let row = self.row(was.pid, was.uid);
             let made = self.plain.turn(row);
-            assert_eq!(rt; edits::turn(&mut self.tables, row), made, "{row:?}");
-            agree::process(rt, &self.tables, &self.plain, row.pid);
+            let same = edits::turn(&mut self.tables, row) == made;
+            self.tally.see("turn", same, 0, row.pid.get());
+            agree::process(&mut self.tally, &self.tables, &self.plain, row.pid);
         }
     }
 
     /// A process out, if no row names it.
-    pub fn forget(&mut self, rt: &impl Abort, pid: Pid) {
+    pub fn forget(&mut self, pid: Pid) {
         let made = self.plain.forget(pid);
-        assert_eq!(rt; edits::forget(&mut self.tables, pid), made, "{pid:?}");
-        agree::process(rt, &self.tables, &self.plain, pid);
+        let same = edits::forget(&mut self.tables, pid) == made;
+        self.tally.see("forget", same, 0, pid.get());
+        agree::process(&mut self.tally, &self.tables, &self.plain, pid);
     }
 
     /// A row in the place of the one with its number.
-    fn put(&mut self, rt: &impl Abort, row: ProcData) {
+    fn put(&mut self, row: ProcData) {
         let made = self.plain.turn(row);
-        assert!(rt; made, "{row:?}");
-        assert!(rt; edits::turn(&mut self.tables, row), "{row:?}");
+        let same = made && edits::turn(&mut self.tables, row);
+        self.tally.see("turn", same, 0, row.pid.get());
     }
 
     /// A process's first LWP out, and its first tracee and its first child let go.
-    fn release(&mut self, rt: &impl Abort, pid: Pid) {
+    fn release(&mut self, pid: Pid) {
         let lwp = self.plain.first_lwp(pid);
         if let Some(row) = lwp {
-            self.stop(rt, row);
+            self.stop(row);
         }
         let tracee = self.plain.next_tracee(pid, 0);
         if let Some(row) = tracee {
-            self.put(
-                rt,
-                ProcData {
-                    tracer: None,
-                    ..row
-                },
-            );
+            self.put(ProcData {
+                tracer: None,
+                ..row
+            });
         }
         let child = self.plain.next_child(pid, 0);
         if let Some(row) = child {
-            self.put(rt, ProcData { parent: 1, ..row });
+            self.put(ProcData { parent: 1, ..row });
         }
     }
 
     /// Some process out, once no row names it.
-    pub fn clear(&mut self, rt: &impl Abort) {
+    pub fn clear(&mut self) {
         let picked = self.dice.pick(self.plain.processes.as_slice());
         if let Some(row) = picked {
             for _ in 0..100 {
-                self.release(rt, row.pid);
+                self.release(row.pid);
             }
-            self.forget(rt, row.pid);
-            assert_eq!(rt; self.plain.process(row.pid.get()), None);
+            self.forget(row.pid);
+            let gone = self.plain.process(row.pid.get()).is_none();
+            self.tally.see("clear", gone, 0, row.pid.get());
         }
     }
 
     /// A new LWP of a process, which may be another user's.
-    pub fn start(&mut self, rt: &impl Abort, uid: Uid) -> Result<(), Fail> {
+    pub fn start(&mut self, uid: Uid) -> Result<(), AllocError> {
         let (Some(tid), Some(pid)) = (self.plain.fresh_tid(uid), self.someone(uid)) else {
             return Ok(());
         };
@@ -164,13 +201,14 @@ impl Both {
         }
         let row = LwpData::born(tid, pid, SigSet::empty(), Due::Born);
         let made = self.plain.start(uid, row)?;
-        assert_eq!(rt; edits::start(&mut self.tables, uid, row)?, made, "{row:?}");
-        agree::lwp(rt, &self.tables, &self.plain, tid);
+        let same = edits::start(&mut self.tables, uid, row)? == made;
+        self.tally.see("start", same, 0, row.tid.get());
+        agree::lwp(&mut self.tally, &self.tables, &self.plain, tid);
         Ok(())
     }
 
     /// An LWP's row changed.
-    pub fn change(&mut self, rt: &impl Abort) {
+    pub fn change(&mut self) {
         if let Some(was) = self.dice.pick(self.plain.lwps.as_slice()) {
             let roll = self.dice.roll();
             let row = LwpData {
@@ -180,37 +218,47 @@ impl Both {
                 ..was
             };
             let made = self.plain.change(row);
-            assert_eq!(rt; edits::change(&mut self.tables, row), made, "{row:?}");
-            agree::lwp(rt, &self.tables, &self.plain, row.tid);
+            let same = edits::change(&mut self.tables, row) == made;
+            self.tally.see("change", same, 0, row.tid.get());
+            agree::lwp(&mut self.tally, &self.tables, &self.plain, row.tid);
         }
     }
 
     /// An LWP out.
-    pub fn stop(&mut self, rt: &impl Abort, row: LwpData) {
+    pub fn stop(&mut self, row: LwpData) {
         let made = self.plain.stop(row.tid);
-        assert_eq!(rt; edits::stop(&mut self.tables, row.tid), made, "{row:?}");
-        agree::lwp(rt, &self.tables, &self.plain, row.tid);
+        let same = edits::stop(&mut self.tables, row.tid) == made;
+        self.tally.see("stop", same, 0, row.tid.get());
+        agree::lwp(&mut self.tally, &self.tables, &self.plain, row.tid);
+    }
+
+    /// The oldest LWP out.
+    pub fn stop_oldest(&mut self) {
+        let oldest = self.plain.lwps.first().copied();
+        if let Some(row) = oldest {
+            self.stop(row);
+        }
     }
 
     /// An edit of some kind.
-    pub fn edit(&mut self, rt: &impl Abort, users: &[Uid]) -> Result<(), Fail> {
+    pub fn edit(&mut self, users: &[Uid]) -> Result<(), AllocError> {
         let Some(uid) = self.dice.pick(users) else {
             return Ok(());
         };
         match self.dice.roll() % 16 {
-            0..=2 => self.spawn(rt, uid)?,
-            3..=7 => self.start(rt, uid)?,
-            8..=10 => self.turn(rt),
-            11 => self.change(rt),
-            12 => self.clear(rt),
+            0..=2 => self.spawn(uid)?,
+            3..=7 => self.start(uid)?,
+            8..=10 => self.turn(),
+            11 => self.change(),
+            12 => self.clear(),
             13..=14 => {
                 if let Some(pid) = self.someone(uid) {
-                    self.forget(rt, pid);
+                    self.forget(pid);
                 }
             }
             _ => {
                 if let Some(row) = self.dice.pick(self.plain.lwps.as_slice()) {
-                    self.stop(rt, row);
+                    self.stop(row);
                 }
             }
         }

@@ -25,7 +25,7 @@ fn first_pid(uid: Uid) -> u32
 }
 
 /// The user's first LWP number.
-fn first_tid(uid: Uid) -> u32
+pub fn first_tid(uid: Uid) -> u32
     ensures { result ≤ 352000 }
 {
     100000 + 4000 * (uid.get() - 1001)

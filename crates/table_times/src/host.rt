@@ -1,5 +1,7 @@
 //! A host of 64 users, and timed operations on rows of it that a fixed rule chooses.
 
+ghost use Rattle.std.specs.Prelude.{◌≤◌};
+
 use crate::edits;
 use pid_blocks::{Pid, Tid, Uid};
 use proc_table::Tables;
@@ -9,10 +11,23 @@ use std::alloc::{AllocError, Global};
 const LWPS: usize = 8;
 
 /// A process and its user.
-#[derive(Clone, Copy, Debug, Drop)]
+#[derive(Clone, Copy, Drop)]
 struct Owner {
     uid: Uid,
     pid: Pid,
+}
+
+/// A kind of operation.
+#[derive(Clone, Copy, Drop)]
+pub enum Kind {
+    Add,
+    Get,
+    Set,
+    Walk,
+    Remove,
+    NextOf,
+    NextTracee,
+    Trace,
 }
 
 /// The tables, with what rows there are.
@@ -23,6 +38,13 @@ pub struct Host {
     owners: Vec<Owner>,
     tids: Vec<Tid>,
     answers: usize,
+}
+
+/// The user's first process number.
+fn first_pid(uid: Uid) -> u32
+    ensures { result ≤ 64000 }
+{
+    1000 * (uid.get() - 1000)
 }
 
 impl Host {
@@ -90,8 +112,23 @@ impl Host {
         self.answers = self.answers.wrapping_add(rows);
     }
 
+    /// So many operations of a kind.
+    pub fn operate(&mut self, kind: Kind, count: usize) -> Result<(), AllocError> {
+        match kind {
+            Kind::Add => self.add(count)?,
+            Kind::Get => self.get(count),
+            Kind::Set => self.set(count),
+            Kind::Walk => self.walk(count),
+            Kind::Remove => self.remove(count),
+            Kind::NextOf => self.next_of(count),
+            Kind::NextTracee => self.next_tracee(count),
+            Kind::Trace => self.trace(count),
+        }
+        Ok(())
+    }
+
     /// Adds LWPs to processes.
-    pub fn add(&mut self, count: usize) -> Result<(), AllocError> {
+    fn add(&mut self, count: usize) -> Result<(), AllocError> {
         for _ in 0..count {
             if let Some(owner) = self.owner() {
                 if let Some(tid) = edits::start(&mut self.tables, owner.uid, owner.pid)? {
@@ -103,7 +140,7 @@ impl Host {
     }
 
     /// Takes LWPs out.
-    pub fn remove(&mut self, count: usize) {
+    fn remove(&mut self, count: usize) {
         for _ in 0..count {
             let at = self.roll();
             if !self.tids.is_empty() {
@@ -114,7 +151,7 @@ impl Host {
     }
 
     /// Reads LWPs.
-    pub fn get(&mut self, count: usize) {
+    fn get(&mut self, count: usize) {
         for _ in 0..count {
             if let Some(tid) = self.tid() {
                 let found = self.tables.lwp(tid).is_some();
@@ -124,7 +161,7 @@ impl Host {
     }
 
     /// Changes LWPs' rows.
-    pub fn set(&mut self, count: usize) {
+    fn set(&mut self, count: usize) {
         for at in 0..count {
             if let Some(tid) = self.tid() {
                 let found = edits::suspend(&mut self.tables, tid, at % 2 == 0);
@@ -134,7 +171,7 @@ impl Host {
     }
 
     /// Walks over the LWPs of processes.
-    pub fn walk(&mut self, count: usize) {
+    fn walk(&mut self, count: usize) {
         for _ in 0..count {
             if let Some(owner) = self.owner() {
                 let met = edits::walk(&self.tables, owner.pid);
@@ -144,7 +181,7 @@ impl Host {
     }
 
     /// Reads users' next processes.
-    pub fn next_of(&mut self, count: usize) {
+    fn next_of(&mut self, count: usize) {
         for _ in 0..count {
             if let Some(owner) = self.owner() {
                 let found = self.tables.next_of(owner.uid, owner.pid.get()).is_some();
@@ -154,7 +191,7 @@ impl Host {
     }
 
     /// Reads the next process that the same process traces.
-    pub fn next_tracee(&mut self, count: usize) {
+    fn next_tracee(&mut self, count: usize) {
         for _ in 0..count {
             if let Some(owner) = self.owner() {
                 if let Some(row) = self.tables.process(owner.pid) {
@@ -167,14 +204,22 @@ impl Host {
         }
     }
 
+    /// A process of the user, at one of the lowest numbers.
+    fn tracer(&self, uid: Uid, after: usize) -> Option<Pid> {
+        let above = first_pid(uid) + (after % 60) as u32;
+        match self.tables.next_of(uid, above) {
+            Some(row) => Some(row.pid),
+            None => None,
+        }
+    }
+
     /// Gives processes other tracers, of the same user.
-    pub fn trace(&mut self, count: usize) {
+    fn trace(&mut self, count: usize) {
         for _ in 0..count {
-            let after = self.roll() % 60;
-            if let Some(owner) = self.owner() {
-                let first = 1000 * (owner.uid.get() - 1000);
-                if let Some(tracer) = self.tables.next_of(owner.uid, first + after as u32) {
-                    let found = edits::trace(&mut self.tables, owner.pid, tracer.pid);
+            let after = self.roll();
+            if let Some(Owner { uid, pid }) = self.owner() {
+                if let Some(tracer) = self.tracer(uid, after) {
+                    let found = edits::trace(&mut self.tables, pid, tracer);
                     self.count(usize::from(found));
                 }
             }

@@ -7,7 +7,7 @@
 mod edits;
 mod host;
 
-use host::Host;
+use host::{Host, Kind};
 use std::io;
 use std::rt::Clock;
 use std::time::Instant;
@@ -17,87 +17,55 @@ const ROUNDS: usize = 40;
 
 const ROUND: usize = 50;
 
-/// The nanoseconds that each kind of operation took, over all rounds.
-#[derive(Clone, Copy, Debug, Drop)]
-struct Times {
-    add: u64,
-    get: u64,
-    set: u64,
-    walk: u64,
-    remove: u64,
-    next_of: u64,
-    next_tracee: u64,
-    trace: u64,
-}
+/// How often each is timed in all.
+const OPERATIONS: u64 = (ROUNDS * ROUND) as u64;
 
-/// The nanoseconds since then, and so many more.
-fn add_time(rt: &impl Clock, sum: u64, start: Instant) -> io::Result<u64> {
+/// The kinds of operation, in the order of a round. The rows are as many after it as before it.
+const KINDS: [Kind; 8] = [
+    Kind::Add,
+    Kind::Get,
+    Kind::Set,
+    Kind::Walk,
+    Kind::Remove,
+    Kind::NextOf,
+    Kind::NextTracee,
+    Kind::Trace,
+];
+
+/// The nanoseconds since then.
+fn took(rt: &impl Clock, start: Instant) -> io::Result<u64> {
     let took = start.elapsed(rt)?.as_nanos();
-    Ok(sum.saturating_add(u64::try_from(took).unwrap_or(u64::MAX)))
+    Ok(u64::try_from(took).unwrap_or(u64::MAX))
 }
 
-/// Times every kind of operation. The rows are as many after each round as before it.
-fn measure(rt: &impl Clock, host: &mut Host) -> io::Result<Times> {
-    let mut times = Times {
-        add: 0,
-        get: 0,
-        set: 0,
-        walk: 0,
-        remove: 0,
-        next_of: 0,
-        next_tracee: 0,
-        trace: 0,
-    };
+/// The nanoseconds of a round's operations of one kind.
+fn time(rt: &impl Clock, host: &mut Host, kind: Kind) -> io::Result<u64> {
+    let start = Instant::now(rt)?;
+    host.operate(kind, ROUND)?;
+    took(rt, start)
+}
+
+/// The nanoseconds that each kind of operation took, over all rounds.
+fn measure(rt: &impl Clock, host: &mut Host) -> io::Result<[u64; 8]> {
+    let mut times = [0u64; 8];
     for _ in 0..ROUNDS {
-        let start = Instant::now(rt)?;
-        host.add(ROUND)?;
-        times.add = add_time(rt, times.add, start)?;
-        let start = Instant::now(rt)?;
-        host.get(ROUND);
-        times.get = add_time(rt, times.get, start)?;
-        let start = Instant::now(rt)?;
-        host.set(ROUND);
-        times.set = add_time(rt, times.set, start)?;
-        let start = Instant::now(rt)?;
-        host.walk(ROUND);
-        times.walk = add_time(rt, times.walk, start)?;
-        let start = Instant::now(rt)?;
-        host.remove(ROUND);
-        times.remove = add_time(rt, times.remove, start)?;
-        let start = Instant::now(rt)?;
-        host.next_of(ROUND);
-        times.next_of = add_time(rt, times.next_of, start)?;
-        let start = Instant::now(rt)?;
-        host.next_tracee(ROUND);
-        times.next_tracee = add_time(rt, times.next_tracee, start)?;
-        let start = Instant::now(rt)?;
-        host.trace(ROUND);
-        times.trace = add_time(rt, times.trace, start)?;
+        for place in 0..8 {
+            let took = time(rt, host, KINDS[place])?;
+            times[place] = times[place].saturating_add(took);
+        }
     }
     Ok(times)
-}
-
-/// The nanoseconds of one operation.
-fn each(sum: u64) -> u64 {
-    sum / 2000
 }
 
 fn main(rt: HostRuntime) -> io::Result<()> {
     eprintln!(rt; "nanoseconds     add    get    set   walk remove next_of next_tracee  trace")?;
     for size in [1000, 10000, 30000] {
         let mut host = Host::filled(rt.alloc(), size)?;
-        let t = measure(&rt, &mut host)?;
+        let times = measure(&rt, &mut host)?;
+        let [add, get, set, walk, remove, next_of, next_tracee, trace] = times.map(|sum| sum
+            / OPERATIONS);
         eprintln!(rt;
-            "{:>6} LWPs {:>8} {:>6} {:>6} {:>6} {:>6} {:>7} {:>11} {:>6}",
-            size,
-            each(t.add),
-            each(t.get),
-            each(t.set),
-            each(t.walk),
-            each(t.remove),
-            each(t.next_of),
-            each(t.next_tracee),
-            each(t.trace)
+            "{size:>6} LWPs {add:>8} {get:>6} {set:>6} {walk:>6} {remove:>6} {next_of:>7} {next_tracee:>11} {trace:>6}"
         )?;
         let processes = host.processes();
         let lwps = host.lwps();

@@ -1,0 +1,88 @@
+//! Compares the tables of processes and LWPs with plain lists.
+//!
+//! A fixed rule makes some sixteen thousand edits, each made to the tables and to lists that are gone through by loops. What each reader
+//! answers must then be the same. The program prints how much it compared, which is the same in each run, and ends with status 1 where
+//! anything differs.
+#![tactic(auto)]
+
+mod agree;
+mod both;
+mod dice;
+mod edits;
+mod lwps;
+mod plain;
+mod rounds;
+mod tally;
+
+use pid_blocks::{BadUser, Uid};
+use rounds::ROUND;
+use std::alloc::AllocError;
+use std::io;
+use tally::{Difference, Tally};
+
+/// How many rounds of edits there are, of the tables and of a table of LWPs alone.
+const ROUNDS: usize = 1000;
+
+/// How many processes and LWPs one user bears, more than a block has numbers.
+const PROCESSES: usize = 2500;
+
+const LWPS: usize = 5500;
+
+/// Why the program ends with status 1.
+#[derive(Debug, Drop)]
+enum Trouble {
+    /// Something differs, first this.
+    Differs(Difference),
+    /// A number is no user's.
+    User,
+    /// Memory ran out.
+    Memory,
+    /// Nothing could be printed.
+    Print,
+}
+
+impl From<BadUser> for Trouble {
+    fn from(_fault: BadUser) -> Trouble {
+        Trouble::User
+    }
+}
+
+impl From<AllocError> for Trouble {
+    fn from(_error: AllocError) -> Trouble {
+        Trouble::Memory
+    }
+}
+
+impl From<io::Error> for Trouble {
+    fn from(_error: io::Error) -> Trouble {
+        Trouble::Print
+    }
+}
+
+/// The first difference, as the program's end.
+fn judge(tally: &Tally) -> Result<(), Trouble> {
+    match tally.first() {
+        Some(difference) => Err(Trouble::Differs(difference)),
+        None => Ok(()),
+    }
+}
+
+fn main(rt: HostRuntime) -> Result<(), Trouble> {
+    let alloc = rt.alloc();
+    let users = [Uid::new(1001)?, Uid::new(1002)?, Uid::new(1064)?];
+    let tally = rounds::mixed_edits(alloc, ROUNDS, &users, Uid::new(1003)?)?;
+    let differ = tally.differ();
+    println!(rt; "mixed edits of 3 users: {ROUNDS} rounds of {ROUND} edits, {differ} differ")?;
+    judge(&tally)?;
+    let tally = rounds::numbers(alloc, Uid::new(1064)?, PROCESSES, LWPS)?;
+    let differ = tally.differ();
+    println!(rt;
+        "numbers of 1 user: {PROCESSES} births of processes, {LWPS} of LWPs, {differ} differ"
+    )?;
+    judge(&tally)?;
+    let users = [Uid::new(1001)?, Uid::new(1002)?, Uid::new(1003)?];
+    let tally = rounds::lwps_alone(alloc, ROUNDS, &users)?;
+    let differ = tally.differ();
+    println!(rt; "a table of LWPs alone: {ROUNDS} rounds of {ROUND} edits, {differ} differ")?;
+    judge(&tally)
+}

@@ -1,0 +1,107 @@
+//! Rounds of edits, and what every reader answers between them.
+
+use crate::agree;
+use crate::both::Both;
+use crate::dice::Dice;
+use crate::lwps::edit_lwps;
+use crate::tally::Tally;
+use lwp_table::{LwpData, LwpTable};
+use pid_blocks::Uid;
+use std::alloc::{AllocError, Global};
+
+/// After so many edits every reader is asked.
+pub const ROUND: usize = 4;
+
+/// A round of mixed edits of the users.
+fn edits(both: &mut Both, users: &[Uid]) -> Result<(), AllocError> {
+    for _ in 0..ROUND {
+        both.edit(users)?;
+    }
+    Ok(())
+}
+
+/// Mixed edits of the users, with the readers after each round, also at a user who has nothing. There must be more than 24 processes
+/// and more than 24 LWPs at some time.
+pub fn mixed_edits(
+    alloc: Global,
+    rounds: usize,
+    users: &[Uid],
+    idle: Uid,
+) -> Result<Tally, AllocError> {
+    let mut both = Both::new(alloc, 2026)?;
+    let mut processes = 0;
+    let mut lwps = 0;
+    for _ in 0..rounds {
+        edits(&mut both, users)?;
+        processes = both.process_count().max(processes);
+        lwps = both.lwp_count().max(lwps);
+        both.compare(users);
+        both.compare_user(idle);
+    }
+    both.see("most processes", processes > 24, 24);
+    both.see("most LWPs", lwps > 24, 24);
+    Ok(both.tally())
+}
+
+/// Births of processes of a user, whose numbers must go round their block.
+fn processes_go_round(both: &mut Both, uid: Uid, births: usize) -> Result<(), AllocError> {
+    let mut round = false;
+    for _ in 0..births {
+        let before = both.pid_cursor(uid);
+        both.spawn(uid)?;
+        round = round || both.pid_cursor(uid) < before;
+    }
+    both.see("round of processes", round, uid.get());
+    Ok(())
+}
+
+/// An LWP of the user more, and the oldest out, but for some turns in a row.
+fn start_and_stop(both: &mut Both, uid: Uid, turn: usize) -> Result<(), AllocError> {
+    both.start(uid)?;
+    if turn % 500 > 20 {
+        both.stop_oldest();
+    }
+    Ok(())
+}
+
+/// Births and ends of LWPs of a user, whose numbers must go round their block.
+fn lwps_go_round(both: &mut Both, uid: Uid, births: usize) -> Result<(), AllocError> {
+    let mut round = false;
+    for turn in 0..births {
+        let before = both.tid_cursor(uid);
+        start_and_stop(both, uid, turn)?;
+        round = round || both.tid_cursor(uid) < before;
+    }
+    both.see("round of LWPs", round, uid.get());
+    Ok(())
+}
+
+/// So many births of processes and then of LWPs of one user, and the readers at the end.
+pub fn numbers(
+    alloc: Global,
+    uid: Uid,
+    processes: usize,
+    lwps: usize,
+) -> Result<Tally, AllocError> {
+    let mut both = Both::new(alloc, 7)?;
+    processes_go_round(&mut both, uid, processes)?;
+    lwps_go_round(&mut both, uid, lwps)?;
+    both.compare(&[uid]);
+    Ok(both.tally())
+}
+
+/// Edits of a table of LWPs alone, with the readers after each round. There must be more than 16 LWPs in the end.
+pub fn lwps_alone(alloc: Global, rounds: usize, users: &[Uid]) -> Result<Tally, AllocError> {
+    let mut table = LwpTable::new(alloc)?;
+    let mut rows: Vec<LwpData> = Vec::new(alloc);
+    let mut dice = Dice::new(11);
+    let mut tally = Tally::new();
+    for _ in 0..rounds {
+        for _ in 0..ROUND {
+            edit_lwps(&mut tally, &mut table, &mut rows, &mut dice)?;
+        }
+        agree::lwp_table(&mut tally, &table, rows.as_slice(), users);
+    }
+    tally.see("LWPs alone", rows.len() > 16, 0, 16);
+    Ok(tally)
+}
