@@ -1,7 +1,7 @@
 -- The end of a process that has no LWP, that no row names and for which nobody waits: its own row, and the one who collects it.
-use Rattle.std.proofs.Common.{◌≡◌, ℕ, List, [], ◌∷◌, filter_map, Bool, true, false, not, ◌&&◌, ◌||◌, ◌==◌, if◌then◌else◌, Option, Some, None, is_none, refl, sym, ap, ◌∙◌, eqb-true}
+use Rattle.std.proofs.Common.{◌≡◌, ℕ, List, [], ◌∷◌, filter_map, Bool, true, false, not, ◌&&◌, ◌||◌, ◌==◌, if◌then◌else◌, Option, Some, None, is_none, refl, sym, ap, ◌∙◌, eqb-true, rules}
 use Rattle.std.proofs.Math.Bool.{or-false}
-use Rattle.std.specs.Prelude.{option_map, unwrap_or}
+use Rattle.std.specs.Prelude.{option_map}
 use Rattle.std.specs.List.{AllByRecursion, list_any}
 use Rattle.std.proofs.Math.Path.{fun_ext}
 use Rattle.signals.specs.Table.{SIGKILL}
@@ -61,9 +61,7 @@ parent_other q n e = ap (λ b. if b then 1 else n) e
 
 module _ (q : ℕ) (r : ProcData) (untraced : traces q r ≡ false) (childless : (r.parent == q) ≡ false) where
   orphaned_same : orphaned (alone q) r ≡ r
-  orphaned_same =
-      ap (λ (o : Option ℕ). record r { tracer = o; parent = parent_after (alone q) r.parent }) (unless_other q r.tracer untraced)
-      ∙ ap (λ n. record r { tracer = r.tracer; parent = n }) (parent_other q r.parent childless)
+  orphaned_same = search (rules, parent_after, alone, unless_other, parent_other)
 
   moved_same : moved (alone q) r ≡ r
   unfolding moved
@@ -71,11 +69,7 @@ module _ (q : ℕ) (r : ProcData) (untraced : traces q r ≡ false) (childless :
 
 by_collector : (z : ProcData) (x : ℕ) → is_gone z ≡ false → told_by z.tracer z.parent x ≡ alone (collector z) x
 unfolding told_by alone
-by_collector z x left = at_tracer z.tracer left
-  where
-    at_tracer : (o : Option ℕ) → (is_none o && (z.parent == 1)) ≡ false → told_by o z.parent x ≡ (x == unwrap_or o z.parent)
-    at_tracer None other = ap (λ b. not b && (z.parent == x)) other ∙ same_test z.parent x
-    at_tracer (Some t) other = same_test t x
+by_collector z x left = search (rules, is_none, told_by, same_test)
 
 module _ (q w : ℕ) (rows : Rows) (rise : Rise rows.processes) (v : IsLeaving q rows) (p : ProcData) (at : process_of q rows.processes ≡ Some p)
     (untraced : list_any (traces q) rows.processes ≡ false) (childless : list_any (λ r. r.parent == q) rows.processes ≡ false) where

@@ -1,6 +1,6 @@
 -- The way down the tracees of a process that ends, and one turn of its end.
 use Rattle.std.proofs.lemmas.Bool.Decides.{nat_tests}
-use Rattle.std.proofs.Common.{◌≡◌, ℕ, ◌-◌, ◌<◌, ◌≤◌, List, true, false, ◌&&◌, ◌||◌, ◌==◌, not, Option, Some, None, length, refl, sym, ap, ◌∙◌, arith, true≢false, eqb-true, eq-eqb, subst, inl, inr, unwrap_or}
+use Rattle.std.proofs.Common.{◌≡◌, ℕ, ◌-◌, ◌<◌, ◌≤◌, List, true, false, ◌&&◌, ◌||◌, ◌==◌, not, Option, Some, None, length, refl, sym, ap, ◌∙◌, arith, true≢false, eqb-true, eq-eqb, subst, inl, inr, unwrap_or, rules}
 use Rattle.std.proofs.Math.Bool.{and-false}
 use Rattle.std.specs.Prelude.{count_by, ltb, MatchOption}
 use Rattle.std.specs.List.{AllByRecursion}
@@ -10,7 +10,7 @@ use Rattle.proc_table.specs.Processes.{process_of, is_live, is_this, traces}
 use Rattle.proc_table.specs.Rows.{Rows}
 use Rattle.proc_table.specs.Walks.{next_tracee}
 use Rattle.proc_table.specs.Kept.{AtHome, IsKept}
-use Rattle.proc_table.specs.Laws.{LeastOrNone, IsLeast, NonePasses}
+use Rattle.proc_table.specs.Laws.{LeastOrNone, IsLeast}
 use Rattle.proc_table.proofs.Least.{next_tracee-least}
 use Rattle.proc_table.proofs.Finds.{below_or_not}
 use Rattle.proc_table.proofs.Rows.{process_of-pid}
@@ -64,27 +64,10 @@ module _ (q after : ℕ) (rows : Rows) (kept : IsKept rows) where
   walk_over t at = (least t at).above
 
   pub walk_more : (t : ProcData) (from : ℕ) → next_tracee q after ps ≡ Some t → is_live t ≡ false → NoneBetween q ps from after → NoneBetween q ps from t.pid
-  walk_more t from at ended none = λ r own above less. elim (below_or_not after r.pid) [
-    | inr early ↦ none r own above early.1
-    | inl late ↦ by_bool (is_live r && traces q r) (λ is.
-        let more = (least t at).least r own late.1 (and_right (is_live r) (traces q r) is) in
-        let same : t.pid ≡ r.pid = omega (arith, more, less) in
-        let here : Some t ≡ Some r = sym (least t at).row ∙ ap (λ n. process_of n ps) same ∙ own in
-        true≢false (sym (and_left (is_live r) (traces q r) is) ∙ ap is_live (sym (some_is t r here)) ∙ ended))
-  ]
+  walk_more t from at ended none = search (rules, below_or_not, by_bool, least, and_right, and_left, some_is)
 
   pub walk_none : (from : ℕ) → next_tracee q after ps ≡ None → NoneBetween q ps from after → traces_live_above from q rows ≡ false
-  walk_none from at none =
-      let past : NonePasses (traces q) after ps = subst (LeastOrNone (traces q) after ps) at (next_tracee-least q after ps kept.rising) in
-      none_passes (λ r. ltb from r.pid && (is_live r && traces q r)) (λ r. process_of r.pid ps ≡ Some r)
-      (λ r own. elim (below_or_not from r.pid) [
-        | inr low ↦ ap (λ b. b && (is_live r && traces q r)) low.0
-        | inl high ↦ ap (λ b. ltb from r.pid && b) (elim (below_or_not after r.pid) [
-          | inl late ↦ ap (λ b. is_live r && b) (past r own late.1) ∙ and-false (is_live r)
-          | inr early ↦ none r own high.1 early.1
-        ]) ∙ and-false (ltb from r.pid)
-      ])
-      ps (own_rows ps kept.rising)
+  walk_none from at none = search (rules, next_tracee-least, none_passes, below_or_not, and-false, own_rows)
 
 -- every number is above 0
 pub none_above_zero : (q : ℕ) (rows : Rows) → AllByRecursion AtHome rows.processes → traces_live_above 0 q rows ≡ false → traces_live q rows ≡ false
@@ -113,18 +96,7 @@ pub record TraceeRow (n : ℕ) (rows : Rows) (t : ℕ) : Type 0 where
   pub traced : (is_live row && traces n row) ≡ true
 
 pub tracee_row : (n : ℕ) (rows : Rows) (t : ℕ) → Stands rows → IsLiveTracee n rows t → TraceeRow n rows t
-tracee_row n rows t s is = at_row (process_of t rows.processes) refl (sym (live_number t rows s) ∙ is.live) is.link
-  where
-    at_row : (o : Option ProcData) → process_of t rows.processes ≡ o → passes is_live o ≡ true → tracer_in o ≡ Some n → TraceeRow n rows t
-    at_row None at live link = absurd (true≢false (sym live))
-    at_row (Some r) at live link =
-        let number = process_of-pid t r rows.processes at in
-        record {
-          row = r;
-          own = ap (λ m. process_of m rows.processes) number ∙ at;
-          number = number;
-          traced = both (is_live r) (traces n r) live (ap (is_this n) link ∙ eq-eqb n n refl);
-        }
+tracee_row n rows t s is = search (rules, live_number, passes, process_of-pid, both, eq-eqb)
 
 module _ (rows : Rows) (s : Stands rows) where
   pub ends_below : (p x t : ℕ) → IsLiveTracee x rows t → EndsToo p rows x → EndsToo p rows t
@@ -134,10 +106,7 @@ module _ (rows : Rows) (s : Stands rows) where
       ap (λ b. (t == p) || b) (ap (dooms kills rows.processes p) (sym r.number) ∙ k.1) ∙ or_true (t == p)
 
   pub deeper : (x t : ℕ) → IsLiveTracee x rows t → 250 - length (chain 250 rows.processes t) < 250 - length (chain 250 rows.processes x)
-  deeper x t is =
-      let more = tracee_deeper rows t x s is.link in
-      let least = chains_end rows t s in
-      omega (arith, more, least)
+  deeper x t is = search (rules, tracee_deeper, least, chains_end)
 
 turned_round : (m n : ℕ) → (m == n) ≡ false → (n == m) ≡ false
 turned_round m n e = grind (arith, nat_tests)

@@ -1,7 +1,7 @@
 -- Who ends with a process.
 use Rattle.std.proofs.Math.Bool.{and-false, and-true}
 use Rattle.std.proofs.lemmas.Bool.Decides.{nat_tests}
-use Rattle.std.proofs.Common.{◌≡◌, ℕ, zero, suc, List, [], ◌∷◌, filter_map, Bool, true, false, ◌&&◌, ◌||◌, ◌==◌, if◌then◌else◌, Option, Some, None, IfSome, is_some, refl, sym, ap, ◌∙◌, arith}
+use Rattle.std.proofs.Common.{◌≡◌, ℕ, zero, suc, List, [], ◌∷◌, filter_map, Bool, true, false, ◌&&◌, ◌||◌, ◌==◌, if◌then◌else◌, Option, Some, None, IfSome, is_some, refl, sym, ap, ◌∙◌, arith, rules}
 use Rattle.std.proofs.Math.Path.{fun_ext}
 use Rattle.std.specs.List.{AllByRecursion, list_any}
 use Rattle.signals.specs.Table.{SIGTRAP}
@@ -14,7 +14,7 @@ use Rattle.proc_table.specs.Kept.{Rise}
 use Rattle.trace_stop.specs.declared.Settings.{Settings}
 use Rattle.trace_stop.specs.Post.{notified}
 use Rattle.trace_stop.specs.Detach.{detached, untraced}
-use Rattle.trace_stop.specs.End.{tracer_in, holds_of, meets, is_doomed, dooms, process_after, lwp_after, notifies_of, left_alone, end_each, end_of}
+use Rattle.trace_stop.specs.End.{meets, is_doomed, dooms, process_after, lwp_after, notifies_of, left_alone, end_each, end_of}
 use Rattle.trace_stop.specs.Sound.{is_live_of}
 use Rattle.trace_stop.specs.Facts.{IsLiveOf, Linked, Stands}
 use Rattle.process_end.specs.Laws.{traces_live, end_alone, LeafEnd, DetachedEnd}
@@ -38,15 +38,7 @@ pub record Untracing (ps : List ProcData) (q : ℕ) (p : ProcData) : Type 0 wher
 pub meets_none : (ps : List ProcData) (q : ℕ) → AllByRecursion (Untracing ps q) ps → (k n : ℕ) → NoZombie ps n → meets k ps q n ≡ false
 unfolding meets
 meets_none ps q all zero n safe = refl
-meets_none ps q all (suc k) n safe = at_row (process_of n ps) refl safe (meets_none ps q all k)
-  where
-    at_tracer : (o : Option ℕ) → is_this q o ≡ false → IfSome o (NoZombie ps) → ((t : ℕ) → NoZombie ps t → meets k ps q t ≡ false) → holds_of (λ t. (t == q) || meets k ps q t) o ≡ false
-    at_tracer None free live next = refl
-    at_tracer (Some t) free live next = rw (free, next t live) refl
-
-    at_row : (o : Option ProcData) → process_of n ps ≡ o → IfSome o (λ p. is_live p ≡ true) → ((t : ℕ) → NoZombie ps t → meets k ps q t ≡ false) → holds_of (λ t. (t == q) || meets k ps q t) (tracer_in o) ≡ false
-    at_row None is live next = refl
-    at_row (Some p) is live next = let h = find_some (λ r. r.pid == n) (Untracing ps q) ps all p is in at_tracer p.tracer (h.0.free live) h.0.tracer next
+meets_none ps q all (suc k) n safe = search (rules, meets_none ps q all k, find_some)
 
 -- ends by tests that agree on the rows
 told_same : (ends ends' : ProcData → Bool) (over : ℕ → Bool) (p status : ℕ) (r : ProcData) → ends r ≡ ends' r → notifies_of ends over p status r ≡ notifies_of ends' over p status r

@@ -1,16 +1,15 @@
 -- The rows, when a process that is doomed and traces no live one ends before the process that dooms it.
 use Rattle.std.proofs.lemmas.Bool.Decides.{nat_tests}
-use Rattle.std.proofs.Common.{◌≡◌, ℕ, List, filter_map, Bool, true, false, ◌||◌, ◌==◌, Option, Some, None, IfSome, sym, ap, ◌∙◌, subst, arith}
-use Rattle.std.specs.Option.{option_and_then}
+use Rattle.std.proofs.Common.{◌≡◌, ℕ, List, filter_map, Bool, true, false, ◌||◌, ◌==◌, Some, sym, ap, ◌∙◌, subst, arith, rules}
 use Rattle.std.specs.List.{AllByRecursion, list_any}
 use Rattle.signals.specs.Table.{SIGKILL}
 use Rattle.proc_table.specs.declared.ProcData.{ProcData}
 use Rattle.lwp_table.specs.declared.LwpData.{LwpData}
 use Rattle.proc_table.specs.Processes.{process_of, is_live}
-use Rattle.proc_table.specs.Rows.{Rows, each, by_owner}
+use Rattle.proc_table.specs.Rows.{Rows, each}
 use Rattle.proc_table.specs.Kept.{Rise}
 use Rattle.trace_stop.specs.End.{holds_of, process_after, released, lwp_after, notifies_of, end_each}
-use Rattle.trace_stop.proofs.Every.{All-imply, All-both, All-any, any_holds}
+use Rattle.trace_stop.proofs.Every.{All-imply, All-both, any_holds}
 use Rattle.trace_stop.proofs.Passes.{passes, any_same, any_or, any_edited, KeepsNumbers, KeepsOwners, own_rows, rise_edited, each_twice, each_agree}
 use Rattle.process_end.proofs.Doomed.{NoZombie}
 use Rattle.process_end.proofs.Turned.{heard, heard_lwp, fallen, notified_row, notified_lwp, turned, turned_lwp}
@@ -24,11 +23,7 @@ after_keeps over p status r = first_of (grind arith, search)
 
 pub turned_keeps : (over : ℕ → Bool) (p status : ℕ) (told : ℕ → Bool) → KeepsNumbers (turned over p status told)
 unfolding turned
-turned_keeps over p status told r = at (process_after (fallen over) over p status r) (after_keeps over p status r)
-  where
-    at : (o : Option ProcData) → IfSome o (λ s. s.pid ≡ r.pid) → IfSome (option_and_then (λ s. Some (notified_row told s)) o) (λ s. s.pid ≡ r.pid)
-    at None same = tt
-    at (Some s) same = told-pid told s ∙ same
+turned_keeps over p status told r = search (rules, fallen, after_keeps, notified_row, told-pid)
 
 released-pid : (over : ℕ → Bool) (r : ProcData) (l : LwpData) → (released over r l).pid ≡ l.pid
 released-pid over r l = grind arith
@@ -42,15 +37,7 @@ lwp_keeps over r l = grind (arith, nat_tests)
 
 pub turned_lwp_keeps : (over : ℕ → Bool) (p status : ℕ) (told : ℕ → Bool) → KeepsOwners (turned_lwp over p status told)
 unfolding turned_lwp
-turned_lwp_keeps over p status told r l = at (lwp_after (fallen over) over r l) (lwp_keeps over r l)
-  where
-    owned : (k : LwpData) → k.pid ≡ l.pid → (o : Option ProcData) → IfSome (by_owner (λ s j. Some (notified_lwp told s j)) k o) (λ j. j.pid ≡ l.pid)
-    owned k same None = same
-    owned k same (Some s) = notified_lwp-pid told s k ∙ same
-
-    at : (o : Option LwpData) → IfSome o (λ k. k.pid ≡ l.pid) → IfSome (option_and_then (λ k. by_owner (λ s j. Some (notified_lwp told s j)) k (process_after (fallen over) over p status r)) o) (λ k. k.pid ≡ l.pid)
-    at None same = tt
-    at (Some k) same = owned k same (process_after (fallen over) over p status r)
+turned_lwp_keeps over p status told r l = search (rules, fallen, lwp_keeps, notified_lwp, notified_lwp-pid)
 
 -- The end as one edit
 
@@ -60,16 +47,12 @@ told over p status rows x = list_any (λ n. n == x) (filter_map (notifies_of (fa
 
 pub told-is : (over : ℕ → Bool) (p status : ℕ) (rows : Rows) (x : ℕ) → told over p status rows x ≡ list_any (tells over x) rows.processes
 unfolding told
-told-is over p status rows x =
-    any_edited (notifies_of (fallen over) over p status) (λ n. n == x) rows.processes
-    ∙ any_same _ (tells over x) rows.processes (All-any _ (tells-is over p status x) rows.processes)
+told-is over p status rows x = search (rules, any_edited, fallen, any_same, tells, tells-is)
 
 pub end_turned : (over : ℕ → Bool) (p status : ℕ) (rows : Rows) → Rise rows.processes
     → end_each (fallen over) over p status rows ≡ each (turned over p status (told over p status rows)) (turned_lwp over p status (told over p status rows)) rows
 unfolding turned turned_lwp notified_row notified_lwp heard heard_lwp told
-end_turned over p status rows rise =
-    each_twice (process_after (fallen over) over p status) (λ s. Some (notified_row (told over p status rows) s)) (lwp_after (fallen over) over) (λ s j. Some (notified_lwp (told over p status rows) s j))
-    rows rise (after_keeps over p status) (lwp_keeps over)
+end_turned over p status rows rise = search (rules, each_twice, fallen, notified_row, notified_lwp, after_keeps, lwp_keeps)
 
 -- what each row keeps
 pub record Ready (ps : List ProcData) (d : ℕ → Bool) (q : ℕ) (r : ProcData) : Type 0 where
@@ -115,10 +98,7 @@ module _ (rows : Rows) (d : ℕ → Bool) (p q status : ℕ) (dq : d q ≡ true)
   both_told = Told-from rows.processes d both (told_alive d p status)
 
   second-is : (x : ℕ) → second x ≡ list_any (λ r. passes (tells (rest d q) x) (turned (alone q) q SIGKILL first r)) rows.processes
-  second-is x =
-      told-is (rest d q) p status left x
-      ∙ ap (λ (rs : Rows). list_any (tells (rest d q) x) rs.processes) left-is
-      ∙ any_edited (turned (alone q) q SIGKILL first) (tells (rest d q) x) rows.processes
+  second-is x = search (rules, told-is, rest, tells, left-is, any_edited, turned, alone)
 
   pairs : AllByRecursion (λ r. Ready rows.processes d q r × (process_of r.pid rows.processes ≡ Some r)) rows.processes
   pairs = All-both (Ready rows.processes d q) _ rows.processes ready own

@@ -1,6 +1,6 @@
 -- Who is doomed before a process that traces no live one has ended, and after.
 use Rattle.std.proofs.lemmas.Bool.Decides.{nat_tests}
-use Rattle.std.proofs.Common.{◌≡◌, ℕ, zero, suc, List, [], ◌∷◌, filter_map, Bool, true, false, not, ◌&&◌, ◌||◌, ◌==◌, if◌then◌else◌, Option, Some, None, IfSome, refl, sym, ap, ◌∙◌, eqb, true≢false, eqb-true, eq-eqb, subst, inl, inr, arith}
+use Rattle.std.proofs.Common.{◌≡◌, ℕ, zero, suc, List, [], ◌∷◌, filter_map, Bool, true, false, not, ◌&&◌, ◌||◌, ◌==◌, if◌then◌else◌, Option, Some, None, IfSome, refl, sym, ap, ◌∙◌, eqb, true≢false, eqb-true, eq-eqb, subst, arith, rules}
 use Rattle.std.proofs.Math.Path.{fun_ext}
 use Rattle.std.specs.Option.{option_and_then}
 use Rattle.std.specs.List.{AllByRecursion, list_any}
@@ -38,18 +38,13 @@ abbrev pub IsLiveRow : List ProcData → ℕ → Type 0
 IsLiveRow ps p = passes is_live (process_of p ps) ≡ true
 
 pub zombie_safe : (settings : Settings) (ps : List ProcData) (p : ℕ) → IsLiveRow ps p → (r : ProcData) → process_of r.pid ps ≡ Some r → is_live r ≡ false → (r.pid == p) ≡ false
-zombie_safe settings ps p live r own ended = by_bool (r.pid == p) (λ same.
-    true≢false (sym live ∙ ap (λ n. passes is_live (process_of n ps)) (sym (eqb-true r.pid p same)) ∙ ap (passes is_live) own ∙ ended))
+zombie_safe settings ps p live r own ended = search (rules, by_bool, passes, eqb-true, own)
 
 doomed-dead : (settings : Settings) (ps : List ProcData) (p : ℕ) (r : ProcData) → (r.pid == p) ≡ false → is_live r ≡ false → is_doomed settings ps p r ≡ false
 doomed-dead settings ps p r other ended = grind (arith, nat_tests)
 
 doomed_fallen : (settings : Settings) (ps : List ProcData) (p : ℕ) → Rise ps → IsLiveRow ps p → (r : ProcData) → process_of r.pid ps ≡ Some r → is_doomed settings ps p r ≡ fallen (dooms settings ps p) r
-doomed_fallen settings ps p rise live r own = by_live (is_live r) refl
-  where
-    by_live : (b : Bool) → is_live r ≡ b → is_doomed settings ps p r ≡ (is_live r && dooms settings ps p r.pid)
-    by_live true alive = sym (ap (λ b. b && dooms settings ps p r.pid) alive ∙ dooms-at settings ps p r.pid rise ∙ ap (passes (is_doomed settings ps p)) own)
-    by_live false ended = doomed-dead settings ps p r (zombie_safe settings ps p live r own ended) ended ∙ sym (ap (λ b. b && dooms settings ps p r.pid) ended)
+doomed_fallen settings ps p rise live r own = search (rules, dooms-at, passes, own, doomed-dead, zombie_safe)
 
 -- the end of a live process, where its debugger's end kills
 pub end-fallen : (settings : Settings) (p status : ℕ) (rows : Rows) → settings.kill_on_debugger_exit ≡ true → Rise rows.processes → IsLiveRow rows.processes p
@@ -72,15 +67,7 @@ holds_agree f g (Some t) h = h
 -- what a chain meets is live where tracers are
 meets_live : (ps : List ProcData) (p : ℕ) → ((n : ℕ) → IfSome (tracer_of ps n) (IsLiveRow ps)) → (k n : ℕ) → meets k ps p n ≡ true → IsLiveRow ps p
 meets_live ps p tracers zero n is = absurd (true≢false (sym is ∙ meets-zero ps p n))
-meets_live ps p tracers (suc k) n is = at_tracer (tracer_of ps n) (tracers n) (sym (meets-suc k ps p n) ∙ is) (meets_live ps p tracers k)
-  where
-    by_same : (t : ℕ) (b : Bool) → eqb t p ≡ b → IsLiveRow ps t → (b || meets k ps p t) ≡ true → ((m : ℕ) → meets k ps p m ≡ true → IsLiveRow ps p) → IsLiveRow ps p
-    by_same t true same live h next = subst (IsLiveRow ps) (eqb-true t p same) live
-    by_same t false same live h next = next t h
-
-    at_tracer : (o : Option ℕ) → IfSome o (IsLiveRow ps) → holds_of (λ t. (t == p) || meets k ps p t) o ≡ true → ((m : ℕ) → meets k ps p m ≡ true → IsLiveRow ps p) → IsLiveRow ps p
-    at_tracer None live h next = absurd (true≢false (sym h))
-    at_tracer (Some t) live h next = by_same t (eqb t p) refl live h next
+meets_live ps p tracers (suc k) n is = search (rules, meets_live ps p tracers k, meets-suc, eqb, eqb-true)
 
 -- Facts of sound rows
 
@@ -96,14 +83,7 @@ tracer_lives rows s n = at_row (process_of n rows.processes) refl
     at_row (Some r) is = at_tracer r.uid r.tracer (find_some (λ x. x.pid == n) (Linked rows) rows.processes s.linked r is).0.tracer
 
 pub named : (rows : Rows) → Stands rows → (r : ProcData) → Linked rows r → (x : ℕ) → Names r x → NoZombie rows.processes x
-named rows s r l x h = elim h.names [
-  | inl tracer ↦ at_tracer r.tracer l.tracer tracer
-  | inr parent ↦ subst (NoZombie rows.processes) (eqb-true r.parent x parent.0) (no_zombie rows s.rising r.uid r.parent (l.parent (λ one. true≢false (sym (eq-eqb r.parent 1 one) ∙ parent.1))))
-]
-  where
-    at_tracer : (o : Option ℕ) → IfSome o (IsLiveOf rows r.uid) → is_this x o ≡ true → NoZombie rows.processes x
-    at_tracer None live is = absurd (true≢false (sym is))
-    at_tracer (Some t) live is = subst (NoZombie rows.processes) (eqb-true t x is) (no_zombie rows s.rising r.uid t live)
+named rows s r l x h = search (rules, eqb-true, no_zombie, eq-eqb)
 
 owners_live : (rows : Rows) → Stands rows → AllByRecursion (λ l. (r : ProcData) → process_of l.pid rows.processes ≡ Some r → is_live r ≡ true) rows.lwps
 owners_live rows s = All-imply (WithOwner rows (Standing rows)) _ (λ l h r is. (h r is).live) rows.lwps s.standing
@@ -142,9 +122,7 @@ alone-false q n e = e
 module _ (settings : Settings) (rows : Rows) (p : ℕ) (s : Stands rows) where
   -- who is doomed and isn't p is live and has a chain to p
   pub doomed_chained : (r : ProcData) (n : ℕ) → r.pid ≡ n → (n == p) ≡ false → is_doomed settings rows.processes p r ≡ true → (is_live r ≡ true) × (meets 250 rows.processes p n ≡ true)
-  doomed_chained r n same other is =
-      let k : (settings.kill_on_debugger_exit && is_live r && meets 250 rows.processes p r.pid) ≡ true = sym (ap (λ b. b || (settings.kill_on_debugger_exit && is_live r && meets 250 rows.processes p r.pid)) (ap (λ m. eqb m p) same ∙ other)) ∙ is in
-      (and_right _ (is_live r) (and_left _ (meets 250 rows.processes p r.pid) k), ap (meets 250 rows.processes p) (sym same) ∙ and_right _ (meets 250 rows.processes p r.pid) k)
+  doomed_chained r n same other is = search (rules, eqb, and_right, and_left)
 
   pub dooms_meets : (n : ℕ) → (n == p) ≡ false → dooms settings rows.processes p n ≡ true → IsLiveRow rows.processes n × (meets 250 rows.processes p n ≡ true)
   dooms_meets n other is = at_row (process_of n rows.processes) refl (sym (dooms-at settings rows.processes p n s.rising) ∙ is)
@@ -219,11 +197,7 @@ module _ (settings : Settings) (rows : Rows) (p q status : ℕ) (kills : setting
   edit-safe n r is live other = turned-safe (alone q) q SIGKILL t1 r live (ap (alone q) (eqb-true r.pid n (number_found n ps r is)) ∙ other)
 
   tracer-after : (x : ℕ) → NoZombie ps x → alone q x ≡ false → tracer_of qs x ≡ tracer_of ps x
-  tracer-after x safe other = ap tracer_in (edited x) ∙ at_row (process_of x ps) refl safe
-    where
-      at_row : (o : Option ProcData) → process_of x ps ≡ o → IfSome o (λ r. is_live r ≡ true) → tracer_in (option_and_then edit o) ≡ tracer_in o
-      at_row None is live = refl
-      at_row (Some r) is live = ap tracer_in (edit-safe x r is live other) ∙ kept-tracer t1 (alone q) r
+  tracer-after x safe other = search (rules, edited, edit-safe, kept-tracer, alone)
 
   tracer_free : (x : ℕ) → NoZombie ps x → IfSome (tracer_of ps x) (λ t. (alone q t ≡ false) × NoZombie ps t)
   tracer_free x safe = at_row (process_of x ps) refl safe

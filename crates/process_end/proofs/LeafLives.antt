@@ -1,6 +1,6 @@
 -- Who lives on after the end of a process that traces no live one.
 use Rattle.std.proofs.lemmas.Bool.Decides.{nat_tests}
-use Rattle.std.proofs.Common.{◌≡◌, ℕ, ◌+◌, ◌<◌, ◌≤◌, List, [], ◌∷◌, filter_map, Bool, true, false, not, ◌&&◌, ◌==◌, Option, Some, None, IfSome, refl, sym, ap, ◌∙◌, arith, true≢false, eqb-true, subst}
+use Rattle.std.proofs.Common.{◌≡◌, ℕ, ◌+◌, ◌<◌, ◌≤◌, List, [], ◌∷◌, filter_map, Bool, true, false, not, ◌&&◌, ◌==◌, Option, Some, None, IfSome, refl, sym, ap, ◌∙◌, arith, true≢false, eqb-true, subst, rules}
 use Rattle.std.specs.Option.{option_and_then}
 use Rattle.std.specs.Prelude.{count_by}
 use Rattle.std.specs.List.{list_any}
@@ -62,12 +62,7 @@ module _ (rows : Rows) (q status : ℕ) (s : Stands rows) (live : IsLiveRow rows
 
   -- the row of a live process other than q stays
   lives : (r : ProcData) → process_of r.pid ps ≡ Some r → passes is_live (change r) ≡ (is_live r && not (alone q r.pid))
-  lives r at = by_live (is_live r) refl (alone q r.pid) refl
-    where
-      by_live : (b : Bool) → is_live r ≡ b → (c : Bool) → alone q r.pid ≡ c → passes is_live (change r) ≡ (b && not c)
-      by_live true alive true same = passes_none is_live (change r) (by_row rows q status s live leaf (λ z. is_live z ≡ false) r at (λ a c g. refl) (λ a other n ok. absurd (true≢false (sym same ∙ other))) (λ ended g. ended))
-      by_live true alive false other = ap (passes is_live) (edit-safe rows q status s live leaf r alive other) ∙ alive
-      by_live false ended c e = passes_none is_live (change r) (by_row rows q status s live leaf (λ z. is_live z ≡ false) r at (λ a same g. refl) (λ a other n ok. absurd (true≢false (sym a ∙ ended))) (λ d g. d))
+  lives r at = search (rules, alone, passes, passes_none, by_row, edit-safe)
 
   fewer : list_any (λ r. (r.pid == q) && is_live r) ps ≡ true → count_by is_live (filter_map change ps) < count_by is_live ps
   unfolding alone

@@ -1,6 +1,6 @@
 -- Rows that name a process that ends, each taken from it: its end is as it was.
 use Rattle.std.proofs.lemmas.Bool.Decides.{nat_tests}
-use Rattle.std.proofs.Common.{◌≡◌, ℕ, Bool, true, false, not, ◌&&◌, ◌==◌, Option, Some, None, IfSome, is_none, refl, sym, ap, ◌∙◌, true≢false, eqb-true, subst, arith}
+use Rattle.std.proofs.Common.{◌≡◌, ℕ, Bool, true, false, not, ◌&&◌, ◌==◌, Option, Some, None, IfSome, is_none, refl, sym, ap, ◌∙◌, true≢false, eqb-true, subst, arith, rules}
 use Rattle.std.proofs.Math.Bool.{and-false}
 use Rattle.std.specs.Option.{option_and_then}
 use Rattle.std.specs.List.{AllByRecursion}
@@ -104,10 +104,7 @@ module _ (q n : ℕ) (rows : Rows) (v : IsLeaving q rows) (rise : Rise rows.proc
   put_numbers r = put_keeps n orphan (λ k. refl) r
 
   put_fit : LeavingRow v.alive q z → Fit v.alive q (put n orphan) z
-  put_fit h = record {
-    row = subst (λ o. IfSome o (LeavingRow v.alive q)) (sym put_here) (record { lives = h.lives; tracer = h.tracer; parent = λ other. absurd (other refl); free = h.free; left = λ ended. ap (λ b. b && true) (some ended) });
-    here = λ is. (orphan z, put_here, is);
-  }
+  put_fit h = search (rules, put_here, here)
 
   pub put_leaving : IsLeaving q (each (put n orphan) same_lwp rows)
   put_leaving = step_leaving q n rows v rise z at (put n orphan) put_apart put_numbers put_fit

@@ -1,6 +1,6 @@
 -- A zombie taken from its tracer, which ends, and its parent told of it: the tracer's end is as it was.
 use Rattle.std.proofs.lemmas.Bool.Decides.{nat_tests}
-use Rattle.std.proofs.Common.{◌≡◌, ℕ, Bool, true, false, ◌&&◌, ◌||◌, ◌==◌, if◌then◌else◌, Option, Some, None, IfSome, refl, sym, ap, ◌∙◌, true≢false, eqb-true, eq-eqb, arith}
+use Rattle.std.proofs.Common.{◌≡◌, ℕ, Bool, true, false, ◌&&◌, ◌||◌, ◌==◌, if◌then◌else◌, Option, Some, None, IfSome, refl, sym, ap, ◌∙◌, true≢false, eqb-true, eq-eqb, arith, rules}
 use Rattle.std.proofs.Math.Bool.{or-false, or_comm}
 use Rattle.std.specs.List.{AllByRecursion, list_any}
 use Rattle.lwp_table.specs.declared.LwpData.{LwpData}
@@ -54,8 +54,7 @@ unless_this q (Some t) is = ap (λ b. if b then None else Some t) is
 -- An LWP of a process that lives on, which may be told first
 lwp_later : (over : ℕ → Bool) (t1 t3 t2 : ℕ → Bool) (r : ProcData) (l : LwpData) → t2 r.pid ≡ (t1 r.pid || t3 r.pid)
     → notified_lwp t3 (moved over (notified_row t1 r)) (released over (notified_row t1 r) (notified_lwp t1 r l)) ≡ notified_lwp t2 (moved over r) (released over r l)
-lwp_later over t1 t3 t2 r l told =
-    rw (released-told over t1 r (notified_lwp t1 r l), released_told over t1 r l, notified_lwp-moved over t3 (notified_row t1 r), notified_lwp-told t3 t1 r, notified_lwp-moved over t2 r) (told_lwp_twice t1 t2 t3 r (released over r l) told)
+lwp_later over t1 t3 t2 r l told = search (rules, told, released-told, notified_lwp, released_told, notified_lwp-moved, notified_row, notified_lwp-told, told_lwp_twice)
 
 abbrev pub untrace : ProcData → ProcData
 untrace r = record r { tracer = None }
@@ -91,13 +90,7 @@ module _ (q n : ℕ) (rows : Rows) (v : IsLeaving q rows) (rise : Rise rows.proc
 
   changed : (r : ProcData) → (r.pid ≡ n → r ≡ z) → LeavingRow v.alive q r → (b : Bool) → (r.pid == n) ≡ b → LeavingRow v.alive q (if b then untrace r else r)
   changed r one h false apart = h
-  changed r one h true same = record {
-    lives = h.lives;
-    tracer = tt;
-    parent = h.parent;
-    free = λ live. refl;
-    left = λ dead. ap (λ (k : ProcData). k.parent == 1) (one (eqb-true r.pid n same)) ∙ parent;
-  }
+  changed r one h true same = search (rules, eqb-true)
 
   untold_fit : (r : ProcData) → LeavingRow v.alive q r → (r.pid ≡ n → r ≡ z) → Fit v.alive q untold r
   untold_fit r h one = record {

@@ -1,11 +1,11 @@
 -- Down the tracees of a process that ends stands one that traces no live process.
 use Rattle.std.proofs.lemmas.Bool.Decides.{nat_tests}
-use Rattle.std.proofs.Common.{◌≡◌, ℕ, zero, suc, ◌+◌, ◌<◌, length, Bool, true, false, ◌&&◌, ◌||◌, ◌==◌, Option, Some, None, refl, sym, ap, ◌∙◌, arith, true≢false, eqb-true, subst}
+use Rattle.std.proofs.Common.{◌≡◌, ℕ, zero, suc, ◌+◌, ◌<◌, length, Bool, true, false, ◌&&◌, ◌||◌, ◌==◌, Option, Some, None, refl, sym, ap, ◌∙◌, arith, true≢false, eqb-true, subst, rules}
 use Rattle.proc_table.specs.declared.ProcData.{ProcData}
 use Rattle.proc_table.specs.Processes.{process_of, is_live, is_this, traces}
 use Rattle.proc_table.specs.Rows.{Rows}
 use Rattle.trace_stop.specs.declared.Settings.{Settings}
-use Rattle.trace_stop.specs.End.{tracer_in, tracer_of, holds_of, meets, dooms}
+use Rattle.trace_stop.specs.End.{tracer_in, tracer_of, meets, dooms}
 use Rattle.trace_stop.specs.Facts.{Stands}
 use Rattle.trace_stop.specs.Laws.{chain}
 use Rattle.process_end.specs.Laws.{traces_live, TraceeDoomed, LeafExists}
@@ -22,11 +22,7 @@ this_is x (Some t) is = grind (arith, nat_tests, is)
 module _ (settings : Settings) (rows : Rows) (p : ℕ) (kills : settings.kill_on_debugger_exit ≡ true) (s : Stands rows) where
   -- a chain of one link more
   longer : (x y : ℕ) → tracer_of rows.processes y ≡ Some x → ((x == p) || dooms settings rows.processes p x) ≡ true → meets 250 rows.processes p y ≡ true
-  longer x y link is = meets-up 1 249 rows.processes p y (chains_meet rows 251 p y s (meets-suc 250 rows.processes p y ∙ ap (holds_of (λ t. (t == p) || meets 250 rows.processes p t)) link ∙ by_number (x == p) refl is))
-    where
-      by_number : (b : Bool) → (x == p) ≡ b → (b || dooms settings rows.processes p x) ≡ true → ((x == p) || meets 250 rows.processes p x) ≡ true
-      by_number true same h = ap (λ c. c || meets 250 rows.processes p x) same
-      by_number false other h = ap (λ c. c || meets 250 rows.processes p x) other ∙ (dooms_meets settings rows p s x other h).1
+  longer x y link is = search (rules, meets-up, chains_meet, meets-suc, dooms_meets)
 
   link_of : (x : ℕ) (y : ProcData) → process_of y.pid rows.processes ≡ Some y → traces x y ≡ true → tracer_of rows.processes y.pid ≡ Some x
   link_of x y own is = ap tracer_in own ∙ this_is x y.tracer is

@@ -1,12 +1,12 @@
 -- A step on the way to the end of a process that traces no live one, as an edit of each row.
-use Rattle.std.proofs.Common.{◌≡◌, ℕ, List, filter, filter_map, Bool, true, false, not, ◌&&◌, ◌==◌, if◌then◌else◌, Option, Some, None, IfSome, refl, sym, ap, ◌∙◌, true≢false, eqb-true, eq-eqb, subst, inl, inr, [], ◌∷◌, arith}
+use Rattle.std.proofs.Common.{◌≡◌, ℕ, List, filter, filter_map, Bool, true, false, not, ◌&&◌, ◌==◌, if◌then◌else◌, Option, Some, None, IfSome, refl, sym, ap, ◌∙◌, eqb-true, eq-eqb, subst, [], ◌∷◌, arith, rules}
 use Rattle.std.proofs.Math.Bool.{and-false}
 use Rattle.std.proofs.Math.Path.{fun_ext}
 use Rattle.std.specs.Option.{option_and_then}
 use Rattle.std.specs.List.{AllByRecursion, list_any}
 use Rattle.lwp_table.specs.declared.LwpData.{LwpData}
 use Rattle.proc_table.specs.declared.ProcData.{ProcData}
-use Rattle.proc_table.specs.Processes.{process_of, is_live, is_this}
+use Rattle.proc_table.specs.Processes.{process_of, is_live}
 use Rattle.proc_table.specs.Rows.{Rows, each, by_owner}
 use Rattle.proc_table.specs.Kept.{Rise, set_process, drop_process}
 use Rattle.proc_table.proofs.Changes.{map-id, filter_map-map, change_process-at}
@@ -57,14 +57,7 @@ module _ (q : ℕ) (rows : Rows) (v : IsLeaving q rows) where
 
   -- who is told lives, and is another
   pub named_alive : (r : ProcData) (x : ℕ) → LeavingRow v.alive q r → Names r x → v.alive x ≡ true
-  named_alive r x h names = elim names.names [
-    | inl tracer ↦ at_tracer r.tracer h.tracer tracer
-    | inr parent ↦ ap v.alive (sym (eqb-true r.parent x parent.0)) ∙ h.parent (λ one. true≢false (sym (eq-eqb r.parent 1 one) ∙ parent.1))
-  ]
-    where
-      at_tracer : (o : Option ℕ) → IfSome o (λ t. v.alive t ≡ true) → is_this x o ≡ true → v.alive x ≡ true
-      at_tracer None live is = absurd (true≢false (sym is))
-      at_tracer (Some t) live is = ap v.alive (sym (eqb-true t x is)) ∙ live
+  named_alive r x h names = search (rules, eqb-true, eq-eqb)
 
   pub told_alive : (w x : ℕ) → told (alone q) q w rows x ≡ true → (alone q x ≡ false) × (v.alive x ≡ true)
   told_alive w x is =
@@ -73,10 +66,7 @@ module _ (q : ℕ) (rows : Rows) (v : IsLeaving q rows) where
 
   -- so a row that is told lives, and isn't q's
   pub Told-of : (t : ℕ → Bool) → ((x : ℕ) → t x ≡ true → (alone q x ≡ false) × (v.alive x ≡ true)) → (r : ProcData) → LeavingRow v.alive q r → Told (alone q) t r
-  Told-of t h r own = record {
-    dead = λ ended. by_bool (t r.pid) (λ is. true≢false (sym (own.lives ∙ (h r.pid is).1) ∙ ended));
-    falls = λ falls. by_bool (t r.pid) (λ is. true≢false (sym falls ∙ (h r.pid is).0));
-  }
+  Told-of t h r own = search (rules, by_bool)
 
 -- An edit of each row
 

@@ -45,8 +45,7 @@ waits_again over r l = choose (waits_where over l.mode) _ l (λ k. waits_where o
 -- the row that a row names as its parent, once its LWPs are gone
 pub parent_at : (rows rows' : Rows) (q : ℕ) (p : ProcData) (o : Option ProcData) → process_of q rows.processes ≡ Some p → rows' ≡ without_lwps q rows
     → o ≡ option_and_then (λ r. process_of r.parent rows'.processes) (process_of q rows'.processes) → process_of p.parent rows.processes ≡ o
-parent_at rows rows' q p o at made is =
-    sym (is ∙ ap (λ (rs : Rows). option_and_then (λ r. process_of r.parent rs.processes) (process_of q rs.processes)) made ∙ ap (option_and_then (λ r. process_of r.parent rows.processes)) at)
+parent_at rows rows' q p o at made is = (cc)
 
 -- what the end makes of an LWP
 abbrev pub lwp_made : ℕ → ProcData → LwpData → Option LwpData

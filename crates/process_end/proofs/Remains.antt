@@ -1,9 +1,9 @@
 -- What one row is, and its LWPs are, after a process that traces no live one has ended.
 use Rattle.std.proofs.lemmas.Bool.Decides.{nat_tests}
-use Rattle.std.proofs.Common.{◌≡◌, ℕ, ◌+◌, List, [], ◌∷◌, filter_map, Bool, true, false, cond, ◌==◌, if◌then◌else◌, Option, Some, None, IfSome, refl, sym, ap, ◌∙◌, arith, eq-eqb, subst}
+use Rattle.std.proofs.Common.{◌≡◌, ℕ, List, [], ◌∷◌, filter_map, Bool, true, false, ◌==◌, Option, Some, None, IfSome, refl, sym, ap, ◌∙◌, arith, eq-eqb, rules}
 use Rattle.std.specs.Prelude.{count_by}
 use Rattle.std.specs.Int.RustNames.{bit_and}
-use Rattle.std.specs.List.{AllByRecursion, cons_option}
+use Rattle.std.specs.List.{AllByRecursion}
 use Rattle.std.proofs.lemmas.Nat.Bits.{bit_at_and, bit_at_or, bit_at_xor, bit_at-zero, same_from_bits}
 use Rattle.signals.specs.Sets.{without}
 use Rattle.proc_table.specs.declared.ProcData.{ProcData}
@@ -27,11 +27,7 @@ use Rattle.process_end.proofs.LeafLaw.{IsLiveRow, named, alone-true}
 
 pub count_kept : {X Y : Type 0} (f : X → Option Y) (q : X → Bool) (t : Y → Bool) (xs : List X) → AllByRecursion (λ x. passes t (f x) ≡ q x) xs → count_by t (filter_map f xs) ≡ count_by q xs
 count_kept f q t [] all = refl
-count_kept {X} {Y} f q t (x ∷ xs) all = at_head (f x) all.0 (count_kept f q t xs all.1) ∙ sym (count-cons q x xs)
-  where
-    at_head : (o : Option Y) → passes t o ≡ q x → count_by t (filter_map f xs) ≡ count_by q xs → count_by t (cons_option o (filter_map f xs)) ≡ cond (q x) 1 0 + count_by q xs
-    at_head None same rest = grind (arith, same, rest)
-    at_head (Some y) same rest = let made = count-cons t y (filter_map f xs) in grind (arith, same, rest, made)
+count_kept {X} {Y} f q t (x ∷ xs) all = search (rules, count_kept f q t xs all.1, count-cons, passes)
 
 -- Pending sets
 
@@ -52,11 +48,7 @@ told-record over t r = grind arith
 
 told-settled : (over t : ℕ → Bool) (r : ProcData) → Settled r r.pending (notified_row t (moved over r)).pending
 unfolding notified_row moved heard
-told-settled over t r before = at (t r.pid)
-  where
-    at : (b : Bool) → bit_and (if b then heard (record r { parent = parent_after over r.parent }) else record r { parent = parent_after over r.parent }).pending (unwanted r) ≡ 0
-    at true = and_without _ (unwanted r)
-    at false = before
+told-settled over t r before = search (rules, heard, parent_after, and_without)
 
 notified_lwp-record : (over t : ℕ → Bool) (r : ProcData) (l : LwpData) → notified_lwp t (moved over r) l ≡ record l { pending = (notified_lwp t (moved over r) l).pending }
 unfolding notified_lwp heard_lwp moved
@@ -64,14 +56,7 @@ notified_lwp-record over t r l = grind arith
 
 notified_lwp-settled : (over t : ℕ → Bool) (r : ProcData) (l : LwpData) → Settled r l.pending (notified_lwp t (moved over r) l).pending
 unfolding notified_lwp heard_lwp moved
-notified_lwp-settled over t r l before = at (t r.pid)
-  where
-    m : ProcData
-    m = record r { parent = parent_after over r.parent }
-
-    at : (b : Bool) → bit_and (if b then heard_lwp m l else l).pending (unwanted r) ≡ 0
-    at true = and_without _ (unwanted r)
-    at false = before
+notified_lwp-settled over t r l before = search (rules, parent_after, heard_lwp, and_without)
 
 If-uncollected : (P : ProcData → Type 0) (z : ProcData) → (is_gone z ≡ false → P z) → IfSome (uncollected z) P
 If-uncollected P z h = choose (is_gone z) None (Some z) (λ o. IfSome o P) (λ e. tt) h
@@ -151,12 +136,4 @@ module _ (rows : Rows) (q status : ℕ) (s : Stands rows) (live : IsLiveRow rows
   pub by_lwp : (Q : LwpData → Type 0) (l : LwpData) (r : ProcData) → process_of l.pid ps ≡ Some r → is_live r ≡ true
       → (alone q r.pid ≡ false → (n : ℕ) → Settled r (released (alone q) r l).pending n → Q (record (released (alone q) r l) { pending = n }))
       → IfSome (lwp_at l) Q
-  by_lwp Q l r found alive stays = rw found (by_q (alone q r.pid) refl)
-    where
-      k : LwpData
-      k = released (alone q) r l
-
-      by_q : (c : Bool) → alone q r.pid ≡ c → IfSome (edit_lwp r l) Q
-      by_q true same = rw (turned_lwp-fallen (alone q) q status heeds r l alive same) tt
-      by_q false other = rw (turned_lwp-safe (alone q) q status heeds r l alive other)
-          (subst Q (sym (notified_lwp-record (alone q) heeds r k)) (stays other (notified_lwp heeds (moved (alone q) r) k).pending (notified_lwp-settled (alone q) heeds r k)))
+  by_lwp Q l r found alive stays = search (rules, alone, turned_lwp-fallen, turned_lwp-safe, notified_lwp-record, notified_lwp, moved, notified_lwp-settled)

@@ -1,10 +1,10 @@
 -- Who is told of an end, when a process that is doomed and traces no live one ends before the process that dooms it.
-use Rattle.std.proofs.Common.{◌≡◌, ℕ, Bool, true, false, not, ◌&&◌, ◌||◌, ◌==◌, if◌then◌else◌, Option, Some, None, option_map, refl, sym, ap, ◌∙◌, ◌⊎◌, arith}
+use Rattle.std.proofs.Common.{◌≡◌, ℕ, Bool, true, false, not, ◌&&◌, ◌||◌, ◌==◌, if◌then◌else◌, Option, Some, None, option_map, ap, ◌⊎◌, arith, rules}
 use Rattle.std.proofs.lemmas.Bool.Decides.{nat_tests}
 use Rattle.signals.specs.Table.{SIGKILL}
 use Rattle.proc_table.specs.declared.ProcData.{ProcData}
 use Rattle.proc_table.specs.Processes.{is_live, is_this}
-use Rattle.trace_stop.specs.End.{unless, holds_of, orphaned, dead, uncollected, collector, notifies_of}
+use Rattle.trace_stop.specs.End.{unless, holds_of, uncollected, collector, notifies_of}
 use Rattle.trace_stop.proofs.Every.{and_right}
 use Rattle.trace_stop.proofs.Passes.{passes}
 use Rattle.process_end.proofs.Turned.{heard, moved, fallen, notified_row, turned, turned-safe}
@@ -34,17 +34,7 @@ collected z x = grind (arith, nat_tests)
 -- the definition of who is told, by this test
 pub tells-is : (over : ℕ → Bool) (p status x : ℕ) (r : ProcData) → passes (λ n. n == x) (notifies_of (fallen over) over p status r) ≡ tells over x r
 unfolding tells
-tells-is over p status x r = by_live (is_live r) refl (over r.pid) refl (holds_of over r.tracer) refl
-  where
-    word : ℕ
-    word = if r.pid == p then status else SIGKILL
-
-    by_live : (b : Bool) → is_live r ≡ b → (c : Bool) → over r.pid ≡ c → (h : Bool) → holds_of over r.tracer ≡ h
-        → passes (λ n. n == x) (notifies_of (fallen over) over p status r) ≡ (tells_any over r && told_by (unless over r.tracer) (parent_after over r.parent) x)
-    by_live true live true falls h e = rw (live, falls) (collected (dead word (orphaned over r)) x)
-    by_live true live false safe h e = rw (live, safe) refl
-    by_live false ended c falls true e = rw (ended, e) (collected (orphaned over r) x)
-    by_live false ended c falls false e = rw (ended, e) refl
+tells-is over p status x r = search (rules, passes, fallen, collected)
 
 pub tells-value : (over : ℕ → Bool) (x : ℕ) (r : ProcData) (b : Bool) → tells_any over r ≡ b → tells over x r ≡ (b && told_by (unless over r.tracer) (parent_after over r.parent) x)
 unfolding tells
@@ -77,10 +67,7 @@ module _ (d : ℕ → Bool) (q : ℕ) (dq : d q ≡ true) (x : ℕ) (r : ProcDat
 
   third-moved : is_live r ≡ true → alone q r.pid ≡ false → third ≡ (d r.pid && whom)
   unfolding notified_row moved alone rest heard tells
-  third-moved live other =
-      let once = tracer_once d q dq r.tracer (free live) in
-      let parent = parent_twice d q dq r.parent in
-      ap (passes (tells (rest d q) x)) (turned-safe (alone q) q SIGKILL t1 r live other) ∙ grind (arith, nat_tests, once, parent)
+  third-moved live other = search (rules, tracer_once, parent_twice, passes, rest, turned-safe, alone, nat_tests)
 
   third-zombie : is_live r ≡ false → third ≡ (holds_of (rest d q) (unless (alone q) r.tracer) && whom)
   unfolding turned notified_row moved alone rest heard tells told_by
@@ -88,12 +75,7 @@ module _ (d : ℕ → Bool) (q : ℕ) (dq : d q ≡ true) (x : ℕ) (r : ProcDat
 
   -- whom p's end tells then, it would have told at once
   pub third-whom : third ≡ true → whom ≡ true
-  third-whom is = by_live (is_live r) refl (alone q r.pid) refl
-    where
-      by_live : (b : Bool) → is_live r ≡ b → (c : Bool) → alone q r.pid ≡ c → whom ≡ true
-      by_live true live true same = and_right _ whom (sym (third-same live same) ∙ is)
-      by_live true live false other = and_right _ whom (sym (third-moved live other) ∙ is)
-      by_live false ended c e = and_right _ whom (sym (third-zombie ended) ∙ is)
+  third-whom is = search (rules, alone, and_right, third-same, third-moved, third-zombie)
 
   twice-same : d x ≡ false → is_live r ≡ true → alone q r.pid ≡ true → holds_of d r.tracer ≡ true → tells d x r ≡ (tells (alone q) x r || third)
   unfolding turned notified_row moved alone rest heard tells told_by
@@ -109,9 +91,4 @@ module _ (d : ℕ → Bool) (q : ℕ) (dq : d q ≡ true) (x : ℕ) (r : ProcDat
 
   -- who lives on is told by r at q's end or at p's, if at all
   pub tells_twice : d x ≡ false → (is_live r ≡ true → alone q r.pid ≡ true → holds_of d r.tracer ≡ true) → tells d x r ≡ (tells (alone q) x r || third)
-  tells_twice safe traced = by_live (is_live r) refl (alone q r.pid) refl
-    where
-      by_live : (b : Bool) → is_live r ≡ b → (c : Bool) → alone q r.pid ≡ c → tells d x r ≡ (tells (alone q) x r || third)
-      by_live true live true same = twice-same safe live same (traced live same)
-      by_live true live false other = twice-moved live other
-      by_live false ended c e = twice-zombie safe ended
+  tells_twice safe traced = search (rules, alone, twice-same, twice-moved, twice-zombie)

@@ -1,5 +1,5 @@
 -- What the end of a process makes of each row, with those who are told of it.
-use Rattle.std.proofs.Common.{◌≡◌, ℕ, Bool, true, false, ◌&&◌, ◌==◌, if◌then◌else◌, Option, Some, None, is_none, refl, ap, arith, bit_or}
+use Rattle.std.proofs.Common.{◌≡◌, ℕ, Bool, true, false, ◌&&◌, ◌==◌, if◌then◌else◌, Option, Some, None, is_none, refl, ap, arith, bit_or, rules}
 use Rattle.std.specs.Option.{option_and_then}
 use Rattle.std.proofs.lemmas.Nat.Bits.{bit_at_or, bit_at_xor, same_from_bits}
 use Rattle.signals.specs.Sets.{without}
@@ -89,8 +89,7 @@ untold told z miss false = ap Some (told-miss told z miss)
 pub turned-fallen : (over : ℕ → Bool) (p status : ℕ) (told : ℕ → Bool) (r : ProcData) → is_live r ≡ true → over r.pid ≡ true → told r.pid ≡ false
     → turned over p status told r ≡ uncollected (dead (if r.pid == p then status else SIGKILL) (orphaned over r))
 unfolding turned
-turned-fallen over p status told r live falls miss =
-    rw (live, falls) (untold told (dead (if r.pid == p then status else SIGKILL) (orphaned over r)) miss (is_gone (dead (if r.pid == p then status else SIGKILL) (orphaned over r))))
+turned-fallen over p status told r live falls miss = search (rules, untold)
 
 pub turned-safe : (over : ℕ → Bool) (p status : ℕ) (told : ℕ → Bool) (r : ProcData) → is_live r ≡ true → over r.pid ≡ false → turned over p status told r ≡ Some (notified_row told (moved over r))
 unfolding turned moved

@@ -1,5 +1,5 @@
 -- One row, when a process that is doomed and traces no live one ends before the process that dooms it.
-use Rattle.std.proofs.Common.{◌≡◌, ℕ, Bool, true, false, not, ◌&&◌, ◌||◌, ◌==◌, if◌then◌else◌, Option, Some, None, refl, sym, ap, ◌∙◌, eqb-true, arith}
+use Rattle.std.proofs.Common.{◌≡◌, ℕ, Bool, true, false, not, ◌&&◌, ◌||◌, ◌==◌, if◌then◌else◌, Option, Some, None, refl, sym, ap, ◌∙◌, eqb-true, arith, rules}
 use Rattle.std.specs.Option.{option_and_then}
 use Rattle.signals.specs.Table.{SIGKILL}
 use Rattle.proc_table.specs.Rows.{by_owner}
@@ -130,16 +130,7 @@ module _ (d : ℕ → Bool) (p q status : ℕ) (r : ProcData) (dq : d q ≡ true
       ∙ ap Some (told_twice (rest d q) t1 t3 t2 (moved (alone q) r) (moved d r) (moved_twice d q dq r) (ap t2 (moved-pid d r) ∙ told safe ∙ sym (ap (λ n. t1 n || t3 n) (moved-pid (alone q) r)))))
 
   pub twice : Goal
-  twice = by_live (is_live r) refl
-    where
-      by_doom : is_live r ≡ true → (b : Bool) → d r.pid ≡ b → (c : Bool) → alone q r.pid ≡ c → Goal
-      by_doom live true doomed true same = twice-same live same
-      by_doom live true doomed false other = twice-other live other doomed
-      by_doom live false safe c e = twice-safe live safe
-
-      by_live : (b : Bool) → is_live r ≡ b → Goal
-      by_live true live = by_doom live (d r.pid) refl (alone q r.pid) refl
-      by_live false ended = twice-dead ended
+  twice = search (rules, twice-same, twice-other, twice-safe, twice-dead)
 
 -- An LWP of a live process
 
@@ -190,8 +181,7 @@ module _ (d : ℕ → Bool) (p q status : ℕ) (r : ProcData) (l : LwpData) (dq 
   m-pid = told-pid t1 (moved (alone q) r) ∙ moved-pid (alone q) r
 
   lwp_safe : d r.pid ≡ false → notified_lwp t3 (moved (rest d q) m) (released (rest d q) m k) ≡ notified_lwp t2 (moved d r) (released d r l)
-  lwp_safe safe = rw (released-told (rest d q) t1 (moved (alone q) r) k, released-moved (rest d q) (alone q) r k, notified_lwp-moved (rest d q) t3 m, notified_lwp-told t3 t1 (moved (alone q) r), notified_lwp-moved (alone q) t3 r, notified_lwp-moved (alone q) t1 r (released (alone q) r l), notified_lwp-moved d t2 r, released_told (rest d q) t1 r (released (alone q) r l), released_twice d q dq r l)
-      (told_lwp_twice t1 t2 t3 r (released d r l) (told safe))
+  lwp_safe safe = search (rules, released-told, moved, released-moved, notified_lwp-moved, notified_lwp-told, released_told, released_twice, told_lwp_twice)
 
   pub lwp_twice : LwpGoal
   lwp_twice = by_doom (d r.pid) refl (alone q r.pid) refl

@@ -1,5 +1,5 @@
 -- A row that no row names may be taken out, and what each step on the way to a process's end leaves fewer of.
-use Rattle.std.proofs.Common.{◌≡◌, ℕ, ◌<◌, List, [], ◌∷◌, find, filter_map, Bool, true, false, not, ◌&&◌, ◌==◌, Option, Some, None, IfSome, refl, sym, ap, ◌∙◌, arith, true≢false, eqb-true, eq-eqb}
+use Rattle.std.proofs.Common.{◌≡◌, ℕ, ◌<◌, List, [], ◌∷◌, find, filter_map, Bool, true, false, not, ◌&&◌, ◌==◌, Option, Some, None, IfSome, refl, sym, ap, ◌∙◌, arith, true≢false, eqb-true, eq-eqb, rules}
 use Rattle.std.proofs.Math.Bool.{and-false}
 use Rattle.std.proofs.lemmas.Bool.Decides.{nat_tests}
 use Rattle.std.specs.Prelude.{count_by, ltb}
@@ -32,11 +32,7 @@ none_from t (p ∷ ps) homes none = grind (arith, nat_tests, none_from t ps home
 
 -- no row has the number 1
 pub not_one : (n : ℕ) (ps : List ProcData) → AllByRecursion AtHome ps → (p : ProcData) → process_of n ps ≡ Some p → (n == 1) ≡ false
-not_one n ps homes p at =
-    let h = find_some (λ r. r.pid == n) AtHome ps homes p at in
-    let home = h.0.block.0 in
-    let same : p.pid ≡ n = eqb-true p.pid n h.1 in
-    by_bool (n == 1) (λ one. let is : n ≡ 1 = eqb-true n 1 one in absurd (omega (arith, home, same, is)))
+not_one n ps homes p at = search (rules, find_some, eqb-true, by_bool)
 
 -- A zombie
 

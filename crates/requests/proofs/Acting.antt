@@ -1,5 +1,5 @@
 -- An LWP at its turn, in sound rows, and changes of it and of its process.
-use Rattle.std.proofs.Common.{◌≡◌, ℕ, ◌≤◌, true, false, ◌==◌, ◌&&◌, not, if◌then◌else◌, Option, Some, None, IfSome, is_some, refl, sym, ap, ◌∙◌, true≢false, subst, eqb, eq-eqb}
+use Rattle.std.proofs.Common.{◌≡◌, ℕ, ◌≤◌, true, false, ◌==◌, not, Option, Some, None, IfSome, is_some, refl, sym, ap, ◌∙◌, true≢false, subst, eqb, eq-eqb, rules}
 use Rattle.std.specs.Option.{IsSomeAnd}
 use Rattle.event_masks.specs.Exits.{shows}
 use Rattle.event_masks.specs.declared.TheConstants.StopFlags.{PL_FLAG_EXITED}
@@ -9,7 +9,7 @@ use Rattle.proc_table.specs.declared.ProcData.{ProcData}
 use Rattle.proc_table.specs.Processes.{is_live, is_run, reporting, process_of}
 use Rattle.proc_table.specs.Rows.{Rows, change_process, change_lwp}
 use Rattle.proc_table.specs.Fresh.{lwp_count}
-use Rattle.proc_table.specs.Seen.{owns, seen_lwp}
+use Rattle.proc_table.specs.Seen.{seen_lwp}
 use Rattle.trace_stop.specs.declared.Shown.{Shown}
 use Rattle.trace_stop.specs.Stop.{stop}
 use Rattle.trace_stop.specs.Before.{MayStop}
@@ -38,16 +38,7 @@ pub record Acting (rows : Rows) (p : ProcData) (l : LwpData) : Type 0 where
 
 -- the LWP that a user sees by its number, beside its process
 pub seen_acting : (u tid : ℕ) (rows : Rows) (l : LwpData) (p : ProcData) → IsSound rows → seen_lwp u tid rows ≡ Some l → process_of l.pid rows.processes ≡ Some p → is_run p ≡ true → Acting rows p l
-seen_acting u tid rows l p s seen at run = record {
-  sound = s;
-  home = subst (λ n. process_of n rows.processes ≡ Some p) own at;
-  there = (find_some (λ k. (k.tid == tid) && owns u k.pid rows.processes) (λ k. lwp_of k.tid rows.lwps ≡ Some k) rows.lwps (own_lwps rows.lwps s.stands.differ) l seen).0;
-  own = own;
-  run = run;
-}
-  where
-    own : l.pid ≡ p.pid
-    own = sym (found_number l.pid rows.processes p at)
+seen_acting u tid rows l p s seen at run = search (rules, find_some, own_lwps, found_number)
 
 module _ (rows : Rows) (p : ProcData) (l : LwpData) (a : Acting rows p l) where
   pub owner_is : process_of l.pid rows.processes ≡ Some p
@@ -73,14 +64,7 @@ module _ (rows : Rows) (p : ProcData) (l : LwpData) (a : Acting rows p l) where
 
   -- the LWP changed, and its process changed
   pub acting_lwp : (g : LwpData → LwpData) → OneLwp rows p l g → Acting (change_lwp l.tid g rows) p (g l)
-  acting_lwp g c = record {
-    sound = lwp_sound rows l.tid p l g a.sound a.there owner_is c;
-    home = a.home;
-    there = subst (λ n. lwp_of n (change_lwp l.tid g rows).lwps ≡ Some (g l)) (sym (c.same l).0) (find_edit (λ k. k.tid == l.tid) (λ k. Some (if k.tid == l.tid then g k else k))
-        (λ k. choose (k.tid == l.tid) (g k) k (λ j. (j.tid == l.tid) ≡ (k.tid == l.tid)) (λ e. ap (λ n. eqb n l.tid) (c.same k).0) (λ e. refl)) rows.lwps l (g l) a.there (rw (eq-eqb l.tid l.tid refl) refl));
-    own = (c.same l).1 ∙ a.own;
-    run = a.run;
-  }
+  acting_lwp g c = search (rules, lwp_sound, owner_is, find_edit, choose, eqb, eq-eqb)
 
   pub acting_process : (f : ProcData → ProcData) → OneProcess p f → is_run (f p) ≡ true → Acting (change_process p.pid f rows) (f p) l
   acting_process f c run = record {

@@ -1,14 +1,13 @@
 -- An LWP and its process are there after changes that keep their numbers.
-use Rattle.std.proofs.Common.{◌≡◌, ◌∙◌, ℕ, true, false, true≢false, nat_eq, ◌&&◌, Bool, List, [], ◌∷◌, ◌++◌, inl, inr, refl, sym, ap, Option, Some, None, subst}
+use Rattle.std.proofs.Common.{◌≡◌, ◌∙◌, ℕ, true, false, true≢false, nat_eq, ◌&&◌, Bool, List, [], ◌∷◌, ◌++◌, inl, inr, refl, sym, ap, Option, Some, None, subst, rules}
 use Rattle.std.specs.Prelude.{option_map, IsSomeAnd}
 use Rattle.std.specs.List.{list_any}
 use Rattle.lwp_table.specs.declared.LwpData.{LwpData}
 use Rattle.lwp_table.specs.Lwps.{Differ, lwp_of, has_lwp}
 use Rattle.proc_table.specs.declared.ProcData.{ProcData}
-use Rattle.proc_table.specs.declared.State.TheVariants.{Trace}
 use Rattle.proc_table.specs.Processes.{process_of, is_live, is_run}
 use Rattle.proc_table.specs.Rows.{Rows, change, change_process, change_lwp, is_numbered}
-use Rattle.proc_table.specs.Edits.{own_lwp, map_lwps}
+use Rattle.proc_table.specs.Edits.{map_lwps}
 use Rattle.proc_table.specs.Fresh.{is_process, add_process, add_lwp}
 use Rattle.proc_table.specs.Kept.{IsKept}
 use Rattle.proc_table.specs.Seen.{owns, seen_lwp}
@@ -29,10 +28,8 @@ use Rattle.requests.specs.Turn.{without_signal}
 use Rattle.trace_stop.proofs.Every.{choose}
 use Rattle.requests.proofs.Acting.{Acting}
 use Rattle.requests.proofs.Signals.{taken_alike}
-use Rattle.signals.specs.Table.{SIGCHLD}
-use Rattle.trace_stop.specs.Post.{settled_process, settled_lwp, settle, posted_process, posted_lwp, notified}
-use Rattle.trace_stop.specs.End.{tracer_of}
-use Rattle.trace_stop.specs.Stop.{tracers, stop}
+use Rattle.trace_stop.specs.Post.{settled_process, settled_lwp, settle, notified}
+use Rattle.trace_stop.specs.Stop.{stop}
 use Rattle.trace_stop.specs.declared.Shown.{Shown}
 use Rattle.trace_stop.proofs.Posting.{posted_same}
 use Rattle.requests.proofs.Lwps.{find_more}
@@ -86,11 +83,7 @@ taken_live s p l rows a =
 
 -- the LWP that a user sees by its number, and its process
 pub acting_seen : (u tid : ℕ) (rows : Rows) (l : LwpData) (p : ProcData) → Differ rows.lwps → seen_lwp u tid rows ≡ Some l → process_of l.pid rows.processes ≡ Some p → IsActing p l rows
-acting_seen u tid rows l p differ seen at = record {
-  process = row_itself l.pid p rows.processes at;
-  lwp = (find_some (λ k. nat_eq k.tid tid && owns u k.pid rows.processes) (λ k. lwp_of k.tid rows.lwps ≡ Some k) rows.lwps (own_lwps rows.lwps differ) l seen).0;
-  own = sym (process_of-pid l.pid p rows.processes at);
-}
+acting_seen u tid rows l p differ seen at = search (rules, row_itself, find_some, own_lwps, process_of-pid)
 
 pub owns_itself : (p : ProcData) (ps : List ProcData) → process_of p.pid ps ≡ Some p → owns p.uid p.pid ps ≡ true
 owns_itself p ps at = find_passes (λ q. nat_eq q.pid p.pid) (λ q. nat_eq q.pid p.pid && nat_eq q.uid p.uid) ps p at (rw (same_number p.pid, same_number p.uid) refl)
@@ -98,9 +91,7 @@ owns_itself p ps at = find_passes (λ q. nat_eq q.pid p.pid) (λ q. nat_eq q.pid
 -- An LWP and its process are there after rows were added
 
 pub has-lwp_added : (u : ℕ) (new : LwpData) (pid tid : ℕ) (rows : Rows) → HasLwp pid tid rows → HasLwp pid tid (add_lwp u new rows)
-has-lwp_added u new pid tid rows h =
-    let l = some_and (λ k. k.pid ≡ pid) (lwp_of tid rows.lwps) h.lwp in
-    record { process = h.process; lwp = rw (find_more (λ k. nat_eq k.tid tid) rows.lwps (new ∷ []) l.0 l.1) l.2 }
+has-lwp_added u new pid tid rows h = search (rules, some_and, find_more)
 
 pub has-process_added : (new : ProcData) (pid tid : ℕ) (rows : Rows) → IsKept rows → is_process rows new.pid ≡ false → HasLwp pid tid rows → HasLwp pid tid (add_process new rows)
 has-process_added new pid tid rows kept free h = record { process = is_process-placed new pid rows.processes h.process kept.rising (Lacks-from_any new.pid rows.processes free); lwp = h.lwp }
@@ -120,14 +111,10 @@ module _ (chosen : ProcData → Bool) (f : ProcData → ProcData) (g : ProcData 
       }
 
 pub has-notified : (pids : List ℕ) (pid tid : ℕ) (rows : Rows) → HasLwp pid tid rows → HasLwp pid tid (notified pids rows)
-has-notified pids pid tid rows h =
-    has-change _ (posted_process SIGCHLD None) (posted_lwp SIGCHLD None) (λ p. posted_same (λ q. q.pid) SIGCHLD None p (λ n. refl) (λ n. refl)) (λ p l. refl) (λ p l. refl) pid tid rows h
+has-notified pids pid tid rows h = search (rules, has-change, posted_same)
 
 pub has-stop : (at of : ℕ) (shown : Shown) (pid tid : ℕ) (rows : Rows) → HasLwp pid tid rows → HasLwp pid tid (stop at of shown rows)
-has-stop at of shown pid tid rows h =
-    let one = has-lwp_changed of (λ k. record k { flags = shown.flags; child = shown.child; code = shown.code }) (λ k. refl) (λ k. refl) pid tid rows h in
-    let both = has-process_changed at (λ q. record q { state = Trace of shown.sig false }) (λ q. refl) pid tid (change_lwp of (λ k. record k { flags = shown.flags; child = shown.child; code = shown.code }) rows) one in
-    has-notified (tracers (tracer_of rows.processes at)) pid tid _ both
+has-stop at of shown pid tid rows h = search (rules, has-lwp_changed, has-process_changed, has-notified)
 
 -- a new LWP is found
 pub lwp_added : (new : LwpData) (ls : List LwpData) → has_lwp new.tid ls ≡ false → lwp_of new.tid (ls ++ (new ∷ [])) ≡ Some new
@@ -143,8 +130,4 @@ has-settled n pid tid rows h = has-change (is_numbered n) settled_process settle
 -- and after changes of one process's LWPs
 pub has-lwps_mapped : (n : ℕ) (g : LwpData → LwpData) → ((k : LwpData) → (g k).tid ≡ k.tid) → ((k : LwpData) → (g k).pid ≡ k.pid)
     → (pid tid : ℕ) (rows : Rows) → HasLwp pid tid rows → HasLwp pid tid (map_lwps n g rows)
-has-lwps_mapped n g same own pid tid rows h = record {
-  process = h.process;
-  lwp = subst (λ o. IsSomeAnd o (λ l. l.pid ≡ pid)) (sym (lwp_of-map (own_lwp n g) (own_lwp-keeps (λ l. l.tid) g same n) tid rows.lwps))
-      (owner_kept pid (own_lwp n g) (own_lwp-keeps (λ l. l.pid) g own n) (lwp_of tid rows.lwps) h.lwp);
-}
+has-lwps_mapped n g same own pid tid rows h = search (rules, lwp_of-map, own_lwp-keeps, owner_kept)

@@ -1,5 +1,6 @@
 -- A host whose rows are sound after a step is sound, once the pairs of those who ended are gone.
-use Rattle.std.proofs.Common.{◌≡◌, ℕ, zero, suc, ◌+◌, ◌≤◌, List, [], ◌∷◌, length, map, filter, zip, Bool, true, false, cond, ◌==◌, ◌&&◌, leb, refl, ap, ◌∙◌, arith, eqb-true, subst, eq-eqb, get_or, ◌||◌}
+use Rattle.std.proofs.lemmas.Bool.Decides.{nat_tests}
+use Rattle.std.proofs.Common.{◌≡◌, ℕ, zero, suc, ◌+◌, ◌≤◌, List, [], ◌∷◌, length, map, filter, zip, Bool, true, ◌==◌, ◌&&◌, leb, refl, ap, ◌∙◌, arith, eqb-true, subst, eq-eqb, get_or, rules}
 use Rattle.std.proofs.lemmas.List.{length-map}
 use Rattle.std.specs.List.{AllByRecursion, list_any, list_all}
 use Rattle.std.proofs.lemmas.Bool.{le-leb, leb-true}
@@ -22,20 +23,7 @@ use Rattle.requests.specs.Sound.{sound_installed, sound}
 any_of_user : (rows : Rows) (u n : ℕ) → IsUser u → InBlock (pid_block u) n → (ps : List ProcData) → AllByRecursion AtHome ps
     → list_any (λ p. (p.pid == n) && is_live p) ps ≡ true → list_any (λ p. (p.pid == n) && (p.uid == u) && is_live p) ps ≡ true
 any_of_user rows u n user home [] all is = is
-any_of_user rows u n user home (p ∷ ps) all is = by_head ((p.pid == n) && is_live p) refl is (any_of_user rows u n user home ps all.1)
-  where
-    or_right : (b c : Bool) → c ≡ true → (b || c) ≡ true
-    or_right true c is = refl
-    or_right false c is = is
-
-    owner : p.pid ≡ n → p.uid ≡ u
-    owner same = let at = all.0 in let low = at.block.0 in let high = at.block.1 in let a = at.user.0 in let z = at.user.1 in let b = user.0 in let y = user.1 in let from = home.0 in let to = home.1 in omega arith
-
-    by_head : (b : Bool) → ((p.pid == n) && is_live p) ≡ b → (b || list_any (λ q. (q.pid == n) && is_live q) ps) ≡ true
-        → (list_any (λ q. (q.pid == n) && is_live q) ps ≡ true → list_any (λ q. (q.pid == n) && (q.uid == u) && is_live q) ps ≡ true)
-        → list_any (λ q. (q.pid == n) && (q.uid == u) && is_live q) (p ∷ ps) ≡ true
-    by_head true e h rest = let here = and_left (p.pid == n) (is_live p) e in rw (here, eq-eqb p.uid u (owner (eqb-true p.pid n here)), and_right (p.pid == n) (is_live p) e) refl
-    by_head false e h rest = or_right _ _ (rest h)
+any_of_user rows u n user home (p ∷ ps) all is = search (rules, any_of_user rows u n user home ps all.1, and_left, eq-eqb, eqb-true, and_right)
 
 home_of : (rows : Rows) → Stands rows → (u n : ℕ) → IsLiveOf rows u n → InBlock (pid_block u) n
 home_of rows s u n live = any_holds (λ p. (p.pid == n) && (p.uid == u) && is_live p) AtHome (InBlock (pid_block u) n)
@@ -43,19 +31,11 @@ home_of rows s u n live = any_holds (λ p. (p.pid == n) && (p.uid == u) && is_li
 
 filter_shorter : {X : Type 0} (q : X → Bool) (xs : List X) → length (filter q xs) ≤ length xs
 filter_shorter q [] = omega arith
-filter_shorter {X} q (x ∷ xs) = by_test (q x) (filter_shorter q xs)
-  where
-    by_test : (b : Bool) → length (filter q xs) ≤ length xs → length (cond b (x ∷ filter q xs) (filter q xs)) ≤ suc (length xs)
-    by_test true le = omega arith
-    by_test false le = omega arith
+filter_shorter {X} q (x ∷ xs) = grind (arith, nat_tests, filter_shorter q xs)
 
 filter_all : {X : Type 0} (q : X → Bool) (P Q : X → Type 0) → ((x : X) → P x → q x ≡ true → Q x) → (xs : List X) → AllByRecursion P xs → AllByRecursion Q (filter q xs)
 filter_all q P Q h [] all = tt
-filter_all {X} q P Q h (x ∷ xs) all = by_test (q x) (h x all.0) (filter_all q P Q h xs all.1)
-  where
-    by_test : (b : Bool) → (b ≡ true → Q x) → AllByRecursion Q (filter q xs) → AllByRecursion Q (cond b (x ∷ filter q xs) (filter q xs))
-    by_test true g rest = (g refl, rest)
-    by_test false g rest = rest
+filter_all {X} q P Q h (x ∷ xs) all = grind (arith, nat_tests, filter_all q P Q h xs all.1)
 
 filter_each : {X : Type 0} (q : X → Bool) (xs : List X) → AllByRecursion (λ x. q x ≡ true) xs → filter q xs ≡ xs
 filter_each q [] all = refl
@@ -119,8 +99,7 @@ map_same f [] all = refl
 map_same f (x ∷ xs) all = rw (all.0, map_same f xs all.1) refl
 
 live_number : (rows : Rows) (u n : ℕ) → IsLiveOf rows u n → is_live_number rows n ≡ true
-live_number rows u n is = any_more (λ p. (p.pid == n) && (p.uid == u) && is_live p) (λ p. (p.pid == n) && is_live p)
-    (λ p here. both (p.pid == n) (is_live p) (and_left (p.pid == n) (p.uid == u) (and_left _ (is_live p) here)) (and_right _ (is_live p) here)) rows.processes is
+live_number rows u n is = search (rules, any_more, both, and_left, and_right)
 
 pub after_same : (m : Machine) (o : Outcome) → sound m ≡ true → ((n : ℕ) → is_live_number m.rows n ≡ true → is_live_number o.rows n ≡ true) → (after m o).machine ≡ record m { rows = o.rows }
 after_same m o is lives = ap (λ xs. record m { rows = o.rows; installed = xs }) (map_same (filter left) m.installed

@@ -1,7 +1,7 @@
 -- What a request of ptrace(2) comes to, by its refusals in their order.
-use Rattle.std.proofs.Common.{◌≡◌, ℕ, ◌<◌, List, IfSome, Bool, true, false, leb, if◌then◌else◌, Option, Some, None, is_some, refl, sym, ap, ◌∙◌, arith, subst}
+use Rattle.std.proofs.lemmas.Bool.Decides.{nat_tests}
+use Rattle.std.proofs.Common.{◌≡◌, ℕ, ◌<◌, List, IfSome, Bool, true, false, leb, if◌then◌else◌, Option, Some, None, is_some, refl, sym, ap, ◌∙◌, arith, subst, rules}
 use Rattle.std.specs.Prelude.{IsSomeAnd, option_map}
-use Rattle.lwp_table.specs.declared.LwpData.{LwpData}
 use Rattle.lwp_table.specs.Lwps.{lwp_of}
 use Rattle.proc_table.specs.declared.ProcData.{ProcData}
 use Rattle.proc_table.specs.declared.State.{State}
@@ -10,7 +10,7 @@ use Rattle.proc_table.specs.Processes.{process_of, is_live, named_by, reporting,
 use Rattle.proc_table.specs.Rows.{Rows}
 use Rattle.proc_table.specs.Keep.{keep}
 use Rattle.proc_table.specs.Kept.{IsKept}
-use Rattle.proc_table.specs.Seen.{owns, seen_lwp}
+use Rattle.proc_table.specs.Seen.{seen_lwp}
 use Rattle.proc_table.proofs.Rows.{process_of-pid, lwp_of-tid}
 use Rattle.proc_table.proofs.Seen.{seen_lwp-kept, lwp-within}
 use Rattle.trace_stop.specs.declared.Settings.{Settings}
@@ -32,43 +32,21 @@ told_reports (Zombie w) tid told = told
 
 kept_some : {A : Type 0} (test : A → Bool) (o : Option A) (a : A) → keep test o ≡ Some a → o ≡ Some a
 kept_some test None a is = is
-kept_some test (Some b) a is = by (test b) is
-  where
-    by : (t : Bool) → (if t then Some b else None) ≡ Some a → Some b ≡ Some a
-    by true e = e
-    by false e = absurd (cc)
+kept_some test (Some b) a is = grind (arith, nat_tests)
 
 module _ (u target : ℕ) (rows : Rows) (p : ProcData) (kept : IsKept rows) (at : target_of u target rows ≡ Some p) (large : leb target 99999 ≡ false) where
   target_row : process_by rows (option_map (λ l. l.pid) (seen_lwp u target rows)) ≡ Some p
   target_row = rw large at at
 
   pub target_lwp : IsSomeAnd (lwp_of target rows.lwps) (λ l. l.pid ≡ p.pid)
-  target_lwp = by_seen (seen_lwp u target rows) refl target_row
-    where
-      by_seen : (o : Option LwpData) → seen_lwp u target rows ≡ o → process_by rows (option_map (λ l. l.pid) o) ≡ Some p → IsSomeAnd (lwp_of target rows.lwps) (λ l. l.pid ≡ p.pid)
-      by_seen None seen row = absurd (cc)
-      by_seen (Some l) seen row =
-          let there : lwp_of target rows.lwps ≡ Some l = kept_some (λ (k : LwpData). owns u k.pid rows.processes) (lwp_of target rows.lwps) l (sym (seen_lwp-kept u target rows kept.differ) ∙ seen) in
-          rw there (sym (process_of-pid l.pid p rows.processes row))
+  target_lwp = search (rules, target_row, kept_some, seen_lwp-kept, process_of-pid)
 
   pub target_within : target < 356000
-  target_within = by_found (lwp_of target rows.lwps) refl target_lwp
-    where
-      by_found : (o : Option LwpData) → lwp_of target rows.lwps ≡ o → IsSomeAnd o (λ l. l.pid ≡ p.pid) → target < 356000
-      by_found None is own = absurd own
-      by_found (Some l) is own =
-          let its = lwp-within u rows kept target l is in
-          let below = its.1 in
-          let same = lwp_of-tid target l rows.lwps is in
-          omega (arith, below, same)
+  target_within = search (rules, target_lwp, lwp-within, lwp_of-tid)
 
 pub named_own : (u target tid : ℕ) (rows : Rows) (p : ProcData) → IsKept rows → target_of u target rows ≡ Some p → IsSomeAnd (lwp_of tid rows.lwps) (λ l. l.pid ≡ p.pid)
     → IsSomeAnd (lwp_of (if leb target 99999 then tid else target) rows.lwps) (λ l. l.pid ≡ p.pid)
-named_own u target tid rows p kept at own = by (leb target 99999) refl
-  where
-    by : (b : Bool) → leb target 99999 ≡ b → IsSomeAnd (lwp_of (if b then tid else target) rows.lwps) (λ l. l.pid ≡ p.pid)
-    by true e = own
-    by false e = target_lwp u target rows p kept at e
+named_own u target tid rows p kept at own = search (rules, target_lwp)
 
 -- the LWP that reports a stop is the process's
 pub reporting_own : (rows : Rows) (p : ProcData) (tid : ℕ) → IsSound rows → process_of p.pid rows.processes ≡ Some p → told_stop p.state ≡ Some tid → IsSomeAnd (lwp_of tid rows.lwps) (λ l. l.pid ≡ p.pid)

@@ -1,5 +1,6 @@
 -- A process that gets a tracer, by its own request or by an attach, keeps rows sound.
-use Rattle.std.proofs.Common.{◌≡◌, ◌≢◌, ℕ, Bool, true, false, cond, ◌==◌, List, [], ◌∷◌, find, Option, Some, None, is_some, refl, sym, ap, ◌∙◌, true≢false, subst, arith, eqb-true, eq-eqb}
+use Rattle.std.proofs.lemmas.Bool.Decides.{nat_tests}
+use Rattle.std.proofs.Common.{◌≡◌, ◌≢◌, ℕ, Bool, true, false, ◌==◌, List, [], ◌∷◌, find, Option, Some, None, is_some, refl, sym, ap, ◌∙◌, true≢false, subst, arith, eqb-true, eq-eqb, rules}
 use Rattle.std.specs.Option.{IsSomeAnd}
 use Rattle.std.specs.Prelude.{count_by}
 use Rattle.event_masks.specs.Exits.{default_mask}
@@ -29,11 +30,7 @@ none_where (Some x) h = absurd (h refl)
 
 none_counted : {X : Type 0} (t : X → Bool) (xs : List X) → find t xs ≡ None → count_by t xs ≡ 0
 none_counted t [] is = refl
-none_counted {X} t (x ∷ xs) is = by_head (t x) refl is (none_counted t xs)
-  where
-    by_head : (b : Bool) → t x ≡ b → cond b (Some x) (find t xs) ≡ None → (find t xs ≡ None → count_by t xs ≡ 0) → count_by t (x ∷ xs) ≡ 0
-    by_head true e h rest = absurd (grind (arith, h))
-    by_head false e h rest = let all = count-cons t x xs in let none = rest h in let here : cond {A = ℕ} (t x) 1 0 ≡ 0 = rw e refl in omega (arith, all, none, here)
+none_counted {X} t (x ∷ xs) is = search (rules, none_counted t xs, find, count-cons)
 
 run_no_job : (s : State) → is_run_state s ≡ true → is_job_state s ≡ false
 run_no_job Run is = refl
@@ -62,13 +59,7 @@ module _ (rows : Rows) (p : ProcData) (n : ℕ) (s : IsSound rows) (at : process
   some_none is = grind (arith, is)
 
   run_fits : is_run p ≡ true → FitProcess tracee
-  run_fits run = record {
-    stopped = λ is. refl;
-    job = λ is. absurd (true≢false (sym is ∙ run_no_job p.state run));
-    continued = λ on. absurd (true≢false (sym on));
-    untraced = λ none. absurd (some_none none);
-    ended = live_fits tracee p.state (live_state p live);
-  }
+  run_fits run = search (rules, run_no_job, some_none, live_fits, live_state)
 
   -- one that runs
   pub run_traced_sound : is_run p ≡ true → IsSound made
@@ -119,8 +110,4 @@ trace_me_sound rows p s at live run =
     run_traced_sound rows p p.parent s at live (not_some p.tracer untraced) (link.parent (λ one. true≢false (sym (eq-eqb p.parent 1 one) ∙ has))) link.other far run)))
 
 pub attach_sound : (rows : Rows) (caller p : ProcData) → IsSound rows → process_of p.pid rows.processes ≡ Some p → is_live p ≡ true → IsLiveOf rows p.uid caller.pid → IsSound (attach caller p rows).rows
-attach_sound rows caller p s at live tracer =
-    choose (p.pid == caller.pid) _ _ (λ (o : Outcome). IsSound o.rows) (λ e. s) (λ differs.
-    choose (is_some p.tracer) _ _ (λ (o : Outcome). IsSound o.rows) (λ e. s) (λ untraced.
-    choose (closes_chain p.pid caller.pid rows) _ _ (λ (o : Outcome). IsSound o.rows) (λ e. s) (λ far.
-    attached_sound rows p caller.pid s at live (not_some p.tracer untraced) tracer (λ same. true≢false (sym (eq-eqb p.pid caller.pid (sym same)) ∙ differs)) far)))
+attach_sound rows caller p s at live tracer = grind (arith, nat_tests, choose, is_some, attached_sound, not_some, eq-eqb)

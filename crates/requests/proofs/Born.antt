@@ -1,5 +1,6 @@
 -- The empty host is sound, and spawning keeps a host sound.
-use Rattle.std.proofs.Common.{◌≡◌, ℕ, zero, suc, ◌+◌, ◌<◌, map, Bool, true, false, Option, Some, None, IfSome, refl, sym, ap, ◌∙◌, arith, true≢false, subst, get_or}
+use Rattle.std.proofs.lemmas.Bool.Decides.{nat_tests}
+use Rattle.std.proofs.Common.{◌≡◌, ℕ, zero, suc, ◌+◌, ◌<◌, map, Bool, true, false, Option, Some, None, IfSome, refl, sym, ap, ◌∙◌, arith, subst, get_or}
 use Rattle.pid_blocks.specs.Users.{IsUser}
 use Rattle.pid_blocks.specs.Blocks.{slot, pid_block, tid_block, users, rising, InBlock}
 use Rattle.proc_table.specs.declared.ProcData.{ProcData}
@@ -59,21 +60,10 @@ pub empty_sound : (settings : Settings) → sound (empty settings) ≡ true
 empty_sound settings = both _ _ (sound_rows-from no_rows no_rows_sound) refl
 
 spawned_fits : (pid u : ℕ) → FitProcess (spawned pid u)
-spawned_fits pid u = record {
-  stopped = λ is. absurd (true≢false (sym is));
-  job = λ is. absurd (true≢false (sym is));
-  continued = λ is. absurd (true≢false (sym is));
-  untraced = λ none. record { mask = refl; pending = refl };
-  ended = tt;
-}
+spawned_fits pid u = grind (arith, nat_tests)
 
 born_fits : (tid pid u : ℕ) → FitLwp (spawned pid u) (born tid pid 0 due.Nothing)
-born_fits tid pid u = record {
-  untraced = λ none. record { due = refl; stepping = refl; suspended = refl; pending = refl };
-  silent = λ other. record { flags = refl; child = refl; code = refl };
-  blocked = refl;
-  mode = refl;
-}
+born_fits tid pid u = grind (arith, nat_tests)
 
 spawned_sound : (u : ℕ) (rows : Rows) → IsUser u → IsSound rows → (o : Option Numbers) → IfSome o (ProcessRoom u rows) → IsSound (spawn_with u rows o).rows
 spawned_sound u rows user s None room = s

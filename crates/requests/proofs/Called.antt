@@ -1,5 +1,5 @@
 -- What a step is once its caller was looked up.
-use Rattle.std.proofs.Common.{◌≡◌, ◌≢◌, ℕ, ◌==◌, ◌&&◌, true, false, Option, Some, None, refl, ap, ◌∙◌, eqb-true}
+use Rattle.std.proofs.Common.{◌≡◌, ◌≢◌, ℕ, true, false, Option, Some, None, refl, ap, ◌∙◌, eqb-true, rules}
 use Rattle.pid_blocks.specs.declared.Errno.TheVariants as errno
 use Rattle.proc_table.specs.declared.ProcData.{ProcData}
 use Rattle.proc_table.specs.Processes.{is_live, is_run}
@@ -11,7 +11,6 @@ use Rattle.requests.specs.Machine.{Machine, after}
 use Rattle.requests.specs.Step.{step, step_of, checked, calls, caller_of}
 use Rattle.requests.specs.Callers.{IsCaller, Calls, Barred}
 use Rattle.proc_table.specs.Rows.{Rows}
-use Rattle.proc_table.specs.Processes.{process_of}
 use Rattle.proc_table.specs.Kept.{Rise}
 use Rattle.trace_stop.proofs.Every.{and_right, find_some}
 use Rattle.requests.proofs.Replies.{other}
@@ -41,9 +40,7 @@ module _ (u n : ℕ) (s : PlainStep) (m : Machine) (by : caller_of s ≡ Some n)
 
 -- A caller that was found
 pub is_caller : (u n : ℕ) (rows : Rows) (p : ProcData) → Rise rows.processes → Calls u n rows p → IsCaller u p rows
-is_caller u n rows p rise c =
-    let found = find_some (λ q. (q.pid == n) && (q.uid == u)) (λ q. process_of q.pid rows.processes ≡ Some q) rows.processes (own_rows rows.processes rise) p c.seen in
-    record { at = found.0; own = eqb-true p.uid u (and_right (p.pid == n) (p.uid == u) found.1); runs = c.runs }
+is_caller u n rows p rise c = search (rules, find_some, own_rows, at, eqb-true, and_right)
 
 pub barred_unseen : (u n : ℕ) (m : Machine) → seen_process u n m.rows ≡ None → Barred u n m (reply.Errno errno.ESRCH)
 barred_unseen u n m seen = record { answer = λ s by. unseen u n s m by seen; other = refused_otherwise }

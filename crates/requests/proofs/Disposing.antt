@@ -1,11 +1,10 @@
 -- Which dispositions a process may have, and its row with others.
-use Rattle.std.proofs.Common.{◌≡◌, ℕ, Some, None, is_some, Bool, true, false, ◌==◌, not, ◌&&◌, ◌||◌, if◌then◌else◌, [], ◌∷◌, refl, sym, ap, ◌∙◌, arith, inl, inr}
+use Rattle.std.proofs.Common.{◌≡◌, ℕ, Some, None, is_some, Bool, true, false, ◌==◌, not, ◌||◌, if◌then◌else◌, [], ◌∷◌, refl, sym, ap, ◌∙◌, arith, inl, inr, rules}
 use Rattle.std.proofs.lemmas.Bool.{cases_Bool, le-leb}
 use Rattle.signals.specs.Sets.{set_of, has}
 use Rattle.signals.specs.Table.{unmaskable_set, may_have, set_disposition}
 use Rattle.signals.specs.Laws.{IsSignal}
 use Rattle.signals.specs.declared.Disposition.{Disposition}
-use Rattle.signals.specs.declared.Disposition.TheVariants.{Default, Ignore, Catch}
 use Rattle.signals.proofs.Members.{members_after}
 use Rattle.signals.specs.Dispositions.{Actions}
 use Rattle.proc_table.specs.declared.ProcData.{ProcData}
@@ -18,7 +17,7 @@ use Rattle.proc_table.proofs.Changes.{change_process-at}
 use Rattle.trace_stop.specs.Post.{settle}
 use Rattle.trace_stop.proofs.Edited.{some_is}
 use Rattle.requests.specs.declared.Reply.TheVariants as reply
-use Rattle.requests.specs.Calls.{is_default, is_refused, sigaction}
+use Rattle.requests.specs.Calls.{is_refused, sigaction}
 
 unmaskable : (s : ℕ) → IsSignal s → has unmaskable_set s ≡ ((s == 9) || (s == 17))
 unmaskable s is =
@@ -31,20 +30,7 @@ unmaskable s is =
     swapped false false = refl
 
 pub refused_is : (s : ℕ) (d : Disposition) → IsSignal s → is_refused s d ≡ not (may_have s d)
-refused_is s d is = rw (le-leb 1 s is.0, le-leb s 31 is.1) (by_disposition d)
-  where
-    none : (b : Bool) → (b && false) ≡ false
-    none true = refl
-    none false = refl
-
-    kept : (b c : Bool) → c ≡ b → (b && true) ≡ not (not c)
-    kept true c same = rw same refl
-    kept false c same = rw same refl
-
-    by_disposition : (e : Disposition) → (((s == 9) || (s == 17)) && not (is_default e)) ≡ not (may_have s e)
-    by_disposition Default = none ((s == 9) || (s == 17))
-    by_disposition Ignore = kept ((s == 9) || (s == 17)) (has unmaskable_set s) (unmaskable s is)
-    by_disposition Catch = kept ((s == 9) || (s == 17)) (has unmaskable_set s) (unmaskable s is)
+refused_is s d is = search (rules, le-leb, unmaskable)
 
 -- a process with other dispositions, settled
 module _ (rows rows1 : Rows) (p new : ProcData) (at : process_of p.pid rows.processes ≡ Some p) where

@@ -1,5 +1,6 @@
 -- An exec keeps rows sound.
-use Rattle.std.proofs.Common.{◌≡◌, ◌≢◌, inl, ℕ, ◌≤◌, Bool, true, false, cond, ◌==◌, if◌then◌else◌, List, [], ◌∷◌, find, Option, Some, None, IfSome, refl, sym, ap, ◌∙◌, true≢false, subst, arith, eqb-true, eq-eqb}
+use Rattle.std.proofs.lemmas.Bool.Decides.{nat_tests}
+use Rattle.std.proofs.Common.{◌≡◌, ◌≢◌, inl, ℕ, ◌≤◌, Bool, true, false, ◌==◌, if◌then◌else◌, List, [], ◌∷◌, find, Option, Some, None, IfSome, refl, sym, ap, ◌∙◌, true≢false, subst, arith, eqb-true, eq-eqb, rules}
 use Rattle.std.specs.Prelude.{count_by}
 use Rattle.event_masks.specs.declared.TheConstants.StopFlags.{PL_FLAG_EXITED}
 use Rattle.event_masks.specs.Exits.{shows}
@@ -30,11 +31,7 @@ use Rattle.requests.proofs.Lwps.{its_number, quiet_lwp, quiet_row}
 -- what is found is counted
 find_counted : {X : Type 0} (q t : X → Bool) (xs : List X) (x : X) → find q xs ≡ Some x → t x ≡ true → 1 ≤ count_by t xs
 find_counted q t [] x is pass = absurd (grind (arith, is))
-find_counted {X} q t (y ∷ xs) x is pass = by_head (q y) is (find_counted q t xs x)
-  where
-    by_head : (b : Bool) → cond b (Some y) (find q xs) ≡ Some x → (find q xs ≡ Some x → t x ≡ true → 1 ≤ count_by t xs) → 1 ≤ count_by t (y ∷ xs)
-    by_head true h rest = let all = count-cons t y xs in let one : cond {A = ℕ} (t y) 1 0 ≡ 1 = rw (ap t (some_is y x h) ∙ pass) refl in omega (arith, all, one)
-    by_head false h rest = let all = count-cons t y xs in let some = rest h pass in omega (arith, all, some)
+find_counted {X} q t (y ∷ xs) x is pass = search (rules, find_counted q t xs x, find, count-cons, some_is)
 
 module _ (rows : Rows) (p : ProcData) (l : LwpData) (a : Acting rows p l) where
   abbrev waits_for_it : ℕ → Bool
@@ -56,11 +53,7 @@ module _ (rows : Rows) (p : ProcData) (l : LwpData) (a : Acting rows p l) where
   by_lwp q k R none own = choose (k.tid == l.tid) (Some (record k { mode = User })) None R (λ e. own) (λ e. none)
 
   same : Same to exec_lwp
-  same = record {
-    process = λ q. choose (q.pid == p.pid) (redisposed q) q (λ r. (r.pid ≡ q.pid) × (r.uid ≡ q.uid)) (λ e. (refl, refl)) (λ e. (refl, refl));
-    lwp = λ q k. choose (q.pid == p.pid) (if k.tid == l.tid then Some (record k { mode = User }) else None) (Some (released waits_for_it q k)) (λ o. IfSome o (λ j. (j.tid ≡ k.tid) × (j.pid ≡ k.pid)))
-        (λ e. by_lwp q k (λ o. IfSome o (λ j. (j.tid ≡ k.tid) × (j.pid ≡ k.pid))) tt (refl, refl)) (λ e. released_same waits_for_it q k);
-  }
+  same = search (rules, choose, by_lwp, released_same)
 
   found_lwp : lwp_of l.tid made.lwps ≡ Some (record l { mode = User })
   found_lwp = find_edit (λ k. k.tid == l.tid) (λ k. by_owner exec_lwp k (owner rows k)) (λ x. If_more (λ k. (k.tid ≡ x.tid) × (k.pid ≡ x.pid)) (λ k. (k.tid == l.tid) ≡ (x.tid == l.tid)) (λ k n. ap (λ m. m == l.tid) n.0) (by_owner exec_lwp x (owner rows x)) (same_lwp rows to exec_lwp same x)) rows.lwps l (record l { mode = User }) a.there
@@ -70,12 +63,7 @@ module _ (rows : Rows) (p : ProcData) (l : LwpData) (a : Acting rows p l) where
   stays q row other = stay rows to exec_lwp same q row.at (λ k. (released waits_for_it q k, rw other refl))
 
   user_fits : (q : ProcData) (k : LwpData) → FitLwp q k → FitLwp q (record k { mode = User })
-  user_fits q k fit = record {
-    untraced = λ none. let was = fit.untraced none in record { due = was.due; stepping = was.stepping; suspended = was.suspended; pending = was.pending };
-    silent = λ off. let was = fit.silent off in record { flags = was.flags; child = was.child; code = was.code };
-    blocked = fit.blocked;
-    mode = refl;
-  }
+  user_fits q k fit = grind (arith, nat_tests)
 
   -- the rows but for what is pending
   pub exec_but_pending : IsSoundButPending p.pid made

@@ -1,5 +1,5 @@
 -- The stops at the entry and the exit of calls may be made: they are of traced processes.
-use Rattle.std.proofs.Common.{◌≡◌, ℕ, ◌*◌, ◌%◌, true, false, ◌==◌, ltb, if◌then◌else◌, Option, Some, None, IfSome, option_map, is_some, refl, sym, ap, ◌∙◌, true≢false, subst, arith, eq-eqb, bit_and, lt-ltb}
+use Rattle.std.proofs.Common.{◌≡◌, ℕ, ◌*◌, true, false, ◌==◌, ltb, if◌then◌else◌, Option, Some, None, IfSome, option_map, is_some, refl, sym, ap, ◌∙◌, true≢false, subst, eq-eqb, bit_and, lt-ltb, rules}
 use Rattle.std.proofs.lemmas.Bool.{ltb-true}
 use Rattle.event_masks.specs.declared.EventMask.{EventMask}
 use Rattle.event_masks.specs.declared.StopFlags.{StopFlags}
@@ -13,7 +13,6 @@ use Rattle.trace_stop.specs.declared.Shown.{Shown}
 use Rattle.trace_stop.specs.Sound.{is_end}
 use Rattle.trace_stop.specs.Facts.{FitProcess}
 use Rattle.trace_stop.proofs.Every.{or_left, choose}
-use Rattle.trace_stop.proofs.Every as every
 use Rattle.trace_stop.proofs.Settling.{zero_apart}
 use Rattle.requests.specs.Outcome.{trap}
 use Rattle.requests.specs.Leave.{exit_stop}
@@ -69,6 +68,4 @@ same_may p q same (Some shown) may = record { traced = ap is_some same ∙ may.t
 
 -- the word of an exit
 pub exit_word : (status : ℕ) → ltb status 256 ≡ true → is_end (status * 256) ≡ true
-exit_word status byte =
-    let less = ltb-true status 256 byte in
-    or_left _ _ (every.both (status * 256 % 256 == 0) (ltb (status * 256) 65536) (eq-eqb (status * 256 % 256) 0 (omega arith)) (lt-ltb (status * 256) 65536 (omega (arith, less))))
+exit_word status byte = search (rules, ltb-true, or_left, ltb, eq-eqb, lt-ltb)

@@ -1,5 +1,5 @@
 -- A fork keeps rows sound.
-use Rattle.std.proofs.Common.{◌≡◌, ◌≢◌, ℕ, Bool, true, false, cond, ◌==◌, ◌&&◌, ◌||◌, if◌then◌else◌, List, [], ◌∷◌, ◌++◌, find, Option, Some, None, IfSome, is_some, refl, sym, ap, ◌∙◌, true≢false, subst, eqb, eqb-true, eq-eqb}
+use Rattle.std.proofs.Common.{◌≡◌, ◌≢◌, ℕ, Bool, true, false, ◌==◌, ◌&&◌, if◌then◌else◌, List, [], ◌∷◌, ◌++◌, find, Option, Some, None, IfSome, is_some, refl, sym, ap, ◌∙◌, true≢false, subst, eqb, eqb-true, eq-eqb, rules}
 use Rattle.std.specs.Option.{IsSomeAnd}
 use Rattle.std.specs.List.{list_any}
 use Rattle.event_masks.specs.declared.TheConstants.EventMask.{PTRACE_FORK}
@@ -100,11 +100,7 @@ other_lwp n tid g rows l same there other = find_edit (λ k. k.tid == n) (λ k. 
 
 find_last : {X : Type 0} (q : X → Bool) (xs : List X) (x : X) → list_any q xs ≡ false → q x ≡ true → find q (xs ++ (x ∷ [])) ≡ Some x
 find_last q [] x none is = rw is refl
-find_last {X} q (y ∷ xs) x none is = by_head (q y) none (find_last q xs x)
-  where
-    by_head : (b : Bool) → (b || list_any q xs) ≡ false → (list_any q xs ≡ false → q x ≡ true → find q (xs ++ (x ∷ [])) ≡ Some x) → cond b (Some y) (find q (xs ++ (x ∷ []))) ≡ Some x
-    by_head true h rest = absurd (true≢false h)
-    by_head false h rest = rest h is
+find_last {X} q (y ∷ xs) x none is = search (rules, find_last q xs x, find)
 
 -- The child
 
@@ -119,17 +115,7 @@ module _ (call : Call) (rows : Rows) (p : ProcData) (l : LwpData) (a : Acting ro
   made followed = add_lwp p.uid its_lwp (add_process (child followed) rows)
 
   its_fit : (followed : Bool) → (followed ≡ true → is_some p.tracer ≡ true) → FitProcess (child followed)
-  its_fit followed traced = record {
-    stopped = λ is. absurd (true≢false (sym is));
-    job = λ is. absurd (true≢false (sym is));
-    continued = λ is. absurd (true≢false (sym is));
-    untraced = λ none. record { mask = by_mask followed traced none; pending = zero_apart (unwanted (child followed)) };
-    ended = tt;
-  }
-    where
-      by_mask : (b : Bool) → (b ≡ true → is_some p.tracer ≡ true) → (if b then p.tracer else None) ≡ None → (child b).mask.0 ≡ 0
-      by_mask true is none = absurd (true≢false (sym (is refl) ∙ ap is_some none))
-      by_mask false is none = refl
+  its_fit followed traced = search (rules, zero_apart, is_some)
 
   live_parent : IsLiveOf rows p.uid p.pid
   live_parent = find_passes (λ q. q.pid == p.pid) (λ q. (q.pid == p.pid) && (q.uid == p.uid) && is_live q) rows.processes p a.home (both ((p.pid == p.pid) && (p.uid == p.uid)) (is_live p) (both (p.pid == p.pid) (p.uid == p.uid) (eq-eqb p.pid p.pid refl) (eq-eqb p.uid p.uid refl)) (its_live rows p l a))

@@ -1,6 +1,6 @@
 -- What is decided about a trace stop, and what a handle asks.
 use Rattle.std.specs.Prelude.{option_map}
-use Rattle.std.proofs.Common.{◌≡◌, ℕ, ◌≤◌, ◌%◌, [], ◌∷◌, negsuc, Bool, true, false, ◌==◌, ◌&&◌, if◌then◌else◌, List, Option, Some, None, IfSome, refl, sym, ap, ◌∙◌, subst, eq-eqb, true≢false, leb, eqb}
+use Rattle.std.proofs.Common.{◌≡◌, ℕ, ◌≤◌, ◌%◌, [], ◌∷◌, negsuc, Bool, true, false, ◌==◌, ◌&&◌, if◌then◌else◌, List, Option, Some, None, IfSome, refl, sym, ap, ◌∙◌, subst, eq-eqb, true≢false, rules}
 use Rattle.std.proofs.lemmas.Bool.{le-leb}
 use Rattle.lwp_table.specs.declared.LwpData.{LwpData}
 use Rattle.lwp_table.specs.Lwps.{lwp_of}
@@ -31,7 +31,7 @@ use Rattle.requests.specs.declared.Reply.TheVariants as reply
 use Rattle.requests.specs.Outcome.{Outcome, answers}
 use Rattle.requests.specs.Asking.{is_stop, viewed_in, asks_view, asks_row, asks}
 use Rattle.requests.specs.Commands.{with_signal}
-use Rattle.requests.specs.Handle.{view_of, decided, done, no_options, handles_stop, handles_status, handles, handled_by}
+use Rattle.requests.specs.Handle.{view_of, done, no_options, handles_stop, handles_status, handles, handled_by}
 use Rattle.requests.specs.Ptrace.{continues_with}
 use Rattle.trace_stop.proofs.Every.{choose}
 use Rattle.wait4.proofs.CollectSound.{by_kept}
@@ -61,9 +61,7 @@ done_pid settings decision.Kill p q rows same = ap (λ n. done settings decision
 
 asks_pid : (settings : Settings) (policies : List (List Rule)) (status : StatusKind) (p q : ProcData) (rows : Rows) (o : Option StopView) → q.pid ≡ p.pid → asks_view settings policies status q rows o ≡ asks_view settings policies status p rows o
 asks_pid settings policies status p q rows None same = ap (λ n. answers (reply.Status n status) rows) same
-asks_pid settings policies status p q rows (Some view) same =
-    ap (λ n. answers (reply.Handled n status view (decided policies 0 view).index (decided policies 0 view).decision) (done settings (decided policies 0 view).decision q rows)) same
-    ∙ ap (λ r. answers (reply.Handled p.pid status view (decided policies 0 view).index (decided policies 0 view).decision) r) (done_pid settings (decided policies 0 view).decision p q rows same)
+asks_pid settings policies status p q rows (Some view) same = search (rules, done_pid)
 
 viewed_pid : (rows : Rows) (p q : ProcData) (s : State) → q.pid ≡ p.pid → viewed_in rows q s ≡ viewed_in rows p s
 viewed_pid rows p q s same = ap (λ n. viewed_in rows (record p { pid = n }) s) same

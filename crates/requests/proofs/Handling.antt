@@ -1,5 +1,5 @@
 -- A stop that installed policies decide on keeps a host sound.
-use Rattle.std.proofs.Common.{◌≡◌, ℕ, negsuc, Bool, true, ◌==◌, ◌&&◌, if◌then◌else◌, List, Option, Some, None, IfSome, is_some, refl, sym, ap, ◌∙◌, subst, eq-eqb}
+use Rattle.std.proofs.Common.{◌≡◌, ℕ, negsuc, Bool, true, ◌==◌, ◌&&◌, if◌then◌else◌, List, Option, Some, None, IfSome, is_some, refl, sym, ap, ◌∙◌, subst, eq-eqb, rules}
 use Rattle.signals.specs.Table.{SIGKILL}
 use Rattle.lwp_table.specs.declared.LwpData.{LwpData}
 use Rattle.lwp_table.specs.Lwps.{lwp_of}
@@ -24,7 +24,7 @@ use Rattle.wait4.specs.declared.Collected.TheVariants as collected
 use Rattle.wait4.specs.Collect.{is_child, fits, candidates, collect, reportable, reported, rows_after, collect_one, told}
 use Rattle.wait4.specs.Collect as wait
 use Rattle.requests.specs.declared.step.Step.TheVariants as op
-use Rattle.requests.specs.Handle.{view_of, decided, policies_of, done, no_options, handles_stop, handles_status, handles, handle}
+use Rattle.requests.specs.Handle.{view_of, decided, done, no_options, handles_stop, handles_status, handles}
 use Rattle.requests.specs.Ptrace.{continues_with}
 use Rattle.requests.specs.Machine.{Machine}
 use Rattle.requests.specs.Sound.{sound}
@@ -101,5 +101,4 @@ module _ (settings : Settings) (caller : ℕ) (policies : List (List Rule)) (row
   handles_sound (Some p) found (collected.Got pid status) = status_sound status p found p.state refl
 
 pub handle_sound : (m : Machine) (u n : ℕ) → sound m ≡ true → sound (step u (op.Handle n) m).machine ≡ true
-handle_sound m u n is = checked_sound u (op.Handle n) m n is (λ p c. after_sound m (handle u p m) is
-    (handles_sound m.settings p.pid (policies_of u p m) m.rows (rows_sound m is) (reported p.pid (negsuc 0) no_options m.rows) refl (collect p.pid (negsuc 0) no_options m.rows)))
+handle_sound m u n is = search (rules, checked_sound, after_sound, handles_sound, rows_sound, negsuc)

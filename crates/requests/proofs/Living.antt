@@ -1,11 +1,10 @@
 -- Whether the row with a number is live.
-use Rattle.std.proofs.Common.{◌≡◌, ℕ, List, [], ◌∷◌, Bool, true, false, refl, sym, ap, ◌∙◌, ◌==◌, ◌&&◌, not, Some, None, inl, inr, true≢false, eq-eqb, eqb-true}
+use Rattle.std.proofs.lemmas.Bool.Decides.{nat_tests}
+use Rattle.std.proofs.Common.{◌≡◌, ℕ, List, [], ◌∷◌, Bool, true, false, refl, sym, ap, ◌∙◌, ◌==◌, ◌&&◌, Some, None, inl, inr, true≢false, eq-eqb, eqb-true, arith}
 use Rattle.std.specs.List.{list_any}
 use Rattle.std.proofs.lemmas.Bool.{cases_Bool}
 use Rattle.proc_table.specs.declared.ProcData.{ProcData}
-use Rattle.proc_table.specs.declared.State.{State}
-use Rattle.proc_table.specs.declared.State.TheVariants.{Run, Trace, Job, Zombie}
-use Rattle.proc_table.specs.Processes.{is_live, is_run, is_run_state, is_zombie_state, process_of}
+use Rattle.proc_table.specs.Processes.{is_live, is_run, process_of}
 use Rattle.proc_table.specs.Kept.{Rise}
 use Rattle.proc_table.proofs.Rows.{process_of-pid}
 use Rattle.trace_stop.proofs.Every.{and_left, and_right, both, by_bool, any_holds}
@@ -29,10 +28,4 @@ live_none n (q ∷ ps) none = elim (cases_Bool (q.pid == n)) [
 ]
 
 pub run_live : (p : ProcData) → is_run p ≡ true → is_live p ≡ true
-run_live p run = by_state p.state run
-  where
-    by_state : (s : State) → is_run_state s ≡ true → not (is_zombie_state s) ≡ true
-    by_state Run is = refl
-    by_state (Trace tid sig told) is = refl
-    by_state (Job sig told) is = refl
-    by_state (Zombie status) is = absurd (true≢false (sym is))
+run_live p run = grind (arith, nat_tests)

@@ -1,5 +1,5 @@
 -- An LWP that changes its mode, that is made, or that exits keeps rows sound.
-use Rattle.std.proofs.Common.{◌≡◌, inl, ℕ, ◌≤◌, Bool, true, false, cond, ◌==◌, ◌&&◌, leb, if◌then◌else◌, List, [], ◌∷◌, ◌++◌, find, Option, Some, None, IfSome, is_some, refl, sym, ap, ◌∙◌, true≢false, subst, arith, eqb-true, eq-eqb}
+use Rattle.std.proofs.Common.{◌≡◌, inl, ℕ, ◌≤◌, Bool, true, false, ◌==◌, ◌&&◌, leb, if◌then◌else◌, List, [], ◌∷◌, ◌++◌, find, Option, Some, None, IfSome, is_some, refl, sym, ap, ◌∙◌, true≢false, subst, arith, eqb-true, eq-eqb, rules}
 use Rattle.std.proofs.lemmas.Bool.{leb-false}
 use Rattle.pid_blocks.specs.Users.{IsUser}
 use Rattle.event_masks.specs.declared.TheConstants.StopFlags.{PL_FLAG_EXITED}
@@ -12,7 +12,7 @@ use Rattle.lwp_table.specs.declared.Due.{Due}
 use Rattle.lwp_table.specs.declared.Due.TheVariants as due
 use Rattle.lwp_table.specs.Lwps.{born, lwp_of}
 use Rattle.proc_table.specs.declared.ProcData.{ProcData}
-use Rattle.proc_table.specs.Processes.{reporting, is_this}
+use Rattle.proc_table.specs.Processes.{reporting}
 use Rattle.proc_table.specs.Rows.{Rows, owner, by_owner, each, change_lwp, remove_lwp}
 use Rattle.proc_table.specs.Fresh.{add_lwp, lwp_count}
 use Rattle.proc_table.specs.Kept.{AtHome}
@@ -20,10 +20,10 @@ use Rattle.trace_stop.specs.declared.Settings.{Settings}
 use Rattle.trace_stop.specs.declared.Shown.{Shown}
 use Rattle.trace_stop.specs.Post.{unwanted}
 use Rattle.trace_stop.specs.Stop.{stop}
-use Rattle.trace_stop.specs.Sound.{names_own, is_due, mode_fits}
+use Rattle.trace_stop.specs.Sound.{is_due, mode_fits}
 use Rattle.trace_stop.specs.Facts.{IsLiveChild, FitProcess, waited_for, FitLwp, IsSound}
 use Rattle.trace_stop.proofs.Every.{and_left, by_bool, find_some, choose}
-use Rattle.trace_stop.proofs.Edited.{If_more, some_is, one_gone}
+use Rattle.trace_stop.proofs.Edited.{some_is, one_gone}
 use Rattle.trace_stop.proofs.Changed.{Row, Beside, Same, Like, Stay, KeptRow, KeptLwp, nobody, holds_sound, sound_holds, row_is, like_self, kept_row, kept_all, kept_lwp, none_gone, no_ring, stay_where, edit_holds, lwps_alone}
 use Rattle.trace_stop.proofs.Numbers.{own_lwps}
 use Rattle.trace_stop.proofs.Settling.{zero_apart}
@@ -40,11 +40,7 @@ shows_none f none = rw none refl
 
 pub find_more : {X : Type 0} (q : X → Bool) (xs ys : List X) (x : X) → find q xs ≡ Some x → find q (xs ++ ys) ≡ Some x
 find_more q [] ys x is = absurd (grind (arith, is))
-find_more {X} q (y ∷ xs) ys x is = by_head (q y) is (find_more q xs ys x)
-  where
-    by_head : (b : Bool) → cond b (Some y) (find q xs) ≡ Some x → (find q xs ≡ Some x → find q (xs ++ ys) ≡ Some x) → cond b (Some y) (find q (xs ++ ys)) ≡ Some x
-    by_head true h rest = h
-    by_head false h rest = rest h
+find_more {X} q (y ∷ xs) ys x is = search (rules, find_more q xs ys x, find)
 
 module _ (rows : Rows) (p : ProcData) (l : LwpData) (a : Acting rows p l) where
   -- modes, and stops that were due
@@ -92,16 +88,11 @@ module _ (rows : Rows) (p : ProcData) (l : LwpData) (a : Acting rows p l) where
 
   -- an LWP of it, which shows nothing
   pub quiet_lwp : {after : Rows} {Q' : ProcData → LwpData → Type 0} (q r : ProcData) (x k : LwpData) → Beside rows FitProcess FitLwp q x → (q.pid == p.pid) ≡ true → k.flags ≡ x.flags → IfSome (waited_for k.mode) (IsLiveChild rows q) → Q' r k → KeptLwp rows after nobody Q' q r k
-  quiet_lwp {after} {Q'} q r x k b mine flags waits fits = record {
-    exited = λ shown. absurd (true≢false (sym (subst (λ f. shows f PL_FLAG_EXITED ≡ true) flags shown) ∙ shows_none x (b.fact.silent (ap (is_this x.tid) (ap (λ (y : ProcData). reporting y) (sym (its_number q b.row mine)) ∙ its_quiet rows p l a))).flags));
-    waits = If_more (IsLiveChild rows q) _ (λ c live. (live, refl)) (waited_for k.mode) waits;
-    fits = fits;
-  }
+  quiet_lwp {after} {Q'} q r x k b mine flags waits fits = search (rules, shows_none, its_number, its_quiet)
 
   -- and its row
   pub quiet_row : {after : Rows} {P' : ProcData → Type 0} (q r : ProcData) → Row rows FitProcess q → (q.pid == p.pid) ≡ true → Like q r → reporting r ≡ reporting q → 1 ≤ lwp_count p.pid after → P' r → KeptRow rows after nobody P' q r
-  quiet_row {after} {P'} q r row mine like report some fits = kept_row row like (subst (λ o. IfSome o (λ tid. names_own after q tid ≡ true)) (sym (report ∙ (ap (λ (y : ProcData). reporting y) (sym (its_number q row mine)) ∙ its_quiet rows p l a))) tt)
-      (λ live. subst (λ (y : ProcData). 1 ≤ lwp_count y.pid after) (its_number q row mine) some) fits
+  quiet_row {after} {P'} q r row mine like report some fits = search (rules, kept_row, its_number, its_quiet)
 
   -- an LWP's exit, where it isn't the last one
 

@@ -1,11 +1,12 @@
 -- Masks, steps and suspended LWPs of a traced process keep rows sound.
-use Rattle.std.proofs.Common.{◌≡◌, inl, ℕ, Bool, true, false, ◌==◌, ◌&&◌, if◌then◌else◌, Option, Some, None, IfSome, is_some, refl, sym, ap, ◌∙◌, true≢false, subst, eqb, eqb-true, eq-eqb}
+use Rattle.std.proofs.lemmas.Bool.Decides.{nat_tests}
+use Rattle.std.proofs.Common.{◌≡◌, inl, ℕ, Bool, true, false, ◌==◌, ◌&&◌, if◌then◌else◌, Some, None, is_some, refl, sym, ap, ◌∙◌, true≢false, subst, eqb, eqb-true, eq-eqb, arith, rules}
 use Rattle.event_masks.specs.declared.EventMask.{EventMask}
 use Rattle.lwp_table.specs.declared.LwpData.{LwpData}
 use Rattle.lwp_table.specs.Lwps.{lwp_of}
 use Rattle.proc_table.specs.declared.ProcData.{ProcData}
 use Rattle.proc_table.specs.Processes.{is_live, process_of}
-use Rattle.proc_table.specs.Rows.{Rows, owner, by_owner, change, change_lwp, is_numbered}
+use Rattle.proc_table.specs.Rows.{Rows, change, change_lwp, is_numbered}
 use Rattle.trace_stop.specs.declared.Settings.{Settings}
 use Rattle.trace_stop.specs.Stop.{resume}
 use Rattle.trace_stop.specs.Sound.{names_own}
@@ -45,24 +46,12 @@ changed_process n chosen f g rows p same at = changed_row n chosen f rows.proces
 
 pub changed_lwp : (n : ℕ) (chosen : ProcData → Bool) (f : ProcData → ProcData) (g : ProcData → LwpData → LwpData) (rows : Rows) (l : LwpData) (p : ProcData) → ((q : ProcData) (k : LwpData) → (g q k).tid ≡ k.tid)
     → lwp_of n rows.lwps ≡ Some l → process_of l.pid rows.processes ≡ Some p → lwp_of n (change chosen f g rows).lwps ≡ Some (if chosen p then g p l else l)
-changed_lwp n chosen f g rows l p same there home = find_edit (λ k. k.tid == n) (λ k. by_owner to k (owner rows k)) (λ k. by_row k (owner rows k)) rows.lwps l (if chosen p then g p l else l) there (ap (by_owner to l) home)
-  where
-    to : ProcData → LwpData → Option LwpData
-    to q k = Some (if chosen q then g q k else k)
-
-    by_row : (k : LwpData) (o : Option ProcData) → IfSome (by_owner to k o) (λ j. (j.tid == n) ≡ (k.tid == n))
-    by_row k None = refl
-    by_row k (Some q) = choose (chosen q) (g q k) k (λ j. (j.tid == n) ≡ (k.tid == n)) (λ e. ap (λ m. eqb m n) (same q k)) (λ e. refl)
+changed_lwp n chosen f g rows l p same there home = search (rules, find_edit, choose, eqb)
 
 -- No LWP steps
 
 pub stepless_fits : (p : ProcData) (l : LwpData) → FitLwp p l → FitLwp p (record l { stepping = false })
-stepless_fits p l fit = record {
-  untraced = λ none. let was = fit.untraced none in record { due = was.due; stepping = refl; suspended = was.suspended; pending = was.pending };
-  silent = λ off. let was = fit.silent off in record { flags = was.flags; child = was.child; code = was.code };
-  blocked = fit.blocked;
-  mode = fit.mode;
-}
+stepless_fits p l fit = grind (arith, nat_tests)
 
 pub not_stepping_sound : (rows : Rows) (pid : ℕ) → IsSound rows → IsSound (not_stepping pid rows)
 not_stepping_sound rows pid s = sound_holds (not_stepping pid rows) (changes_hold rows (is_numbered pid) (λ p. p) (λ p l. record l { stepping = false }) FitProcess FitLwp FitProcess FitLwp (holds_sound rows s) (record {

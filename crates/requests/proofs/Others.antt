@@ -1,5 +1,5 @@
 -- The next process of a user that isn't the caller.
-use Rattle.std.proofs.Common.{◌≡◌, ℕ, ◌<◌, List, [], ◌∷◌, Bool, true, false, cond, ◌==◌, ltb, ◌&&◌, not, Option, Some, None, refl, ap, arith, lt-ltb, eqb-true, eq-eqb, subst}
+use Rattle.std.proofs.Common.{◌≡◌, ℕ, ◌<◌, List, [], ◌∷◌, Bool, true, false, cond, ◌==◌, ltb, ◌&&◌, not, Option, Some, None, refl, arith, lt-ltb, eqb-true, eq-eqb, subst, rules}
 use Rattle.std.specs.Prelude.{option_map}
 use Rattle.std.proofs.lemmas.Bool.{le-ltb, ltb-true}
 use Rattle.proc_table.specs.declared.ProcData.{ProcData}
@@ -31,27 +31,11 @@ module _ (u caller : ℕ) where
 
   pub other_same : (after : ℕ) (ps : List ProcData) → (option_map (λ p. p.pid) (next_of u after ps) ≡ Some caller → ⊥) → next_other u caller after ps ≡ next_of u after ps
   other_same after [] h = refl
-  other_same after (p ∷ ps) h = by_head (ltb after p.pid && its p) refl h (other_same after ps)
-    where
-      by_head : (b : Bool) → (ltb after p.pid && its p) ≡ b → (option_map (λ q. q.pid) (cond b (Some p) (next_of u after ps)) ≡ Some caller → ⊥)
-          → ((option_map (λ q. q.pid) (next_of u after ps) ≡ Some caller → ⊥) → next_other u caller after ps ≡ next_of u after ps)
-          → next_other u caller after (p ∷ ps) ≡ cond b (Some p) (next_of u after ps)
-      by_head true e h rest =
-          let apart : (p.pid == caller) ≡ false = by_bool (p.pid == caller) (λ same. h (ap (λ n. Some n) (eqb-true p.pid caller same))) in
-          rw (apart, widened (ltb after p.pid) (its p) e) refl
-      by_head false e h rest = rw (narrowed (ltb after p.pid) (its p) (not (p.pid == caller)) e) (rest h)
+  other_same after (p ∷ ps) h = search (rules, other_same after ps, ltb, by_bool, eqb-true, widened, narrowed)
 
   past : (after : ℕ) (ps : List ProcData) → after < caller → AllAbove caller ps → next_other u caller after ps ≡ next_of u caller ps
   past after [] lt all = refl
-  past after (p ∷ ps) lt all =
-      let over : ltb after p.pid ≡ true = lt-ltb after p.pid (omega (arith, lt, all.0)) in
-      let beyond : ltb caller p.pid ≡ true = lt-ltb caller p.pid all.0 in
-      let apart : (p.pid == caller) ≡ false = by_bool (p.pid == caller) (λ same. let is = eqb-true p.pid caller same in let high = all.0 in omega arith) in
-      rw (over, beyond, apart) (by_user (its p) (past after ps lt all.1))
-    where
-      by_user : (b : Bool) → next_other u caller after ps ≡ next_of u caller ps → cond (b && true) (Some p) (next_other u caller after ps) ≡ cond b (Some p) (next_of u caller ps)
-      by_user true rest = refl
-      by_user false rest = rest
+  past after (p ∷ ps) lt all = search (rules, past after ps lt all.1, ltb, lt-ltb, by_bool, eqb-true)
 
   pub other_next : (after : ℕ) (ps : List ProcData) → Rise ps → option_map (λ p. p.pid) (next_of u after ps) ≡ Some caller → next_other u caller after ps ≡ next_of u caller ps
   other_next after [] rise is = absurd (let bad : None ≡ Some caller = is in cc)

@@ -1,6 +1,7 @@
 -- The changes that make an exec.
-use Rattle.std.proofs.Common.{◌≡◌, ◌≢◌, ℕ, ◌<◌, ◌≤◌, Bool, true, false, List, [], ◌∷◌, length, filter, find, map, filter_map, nat_eq, refl, sym, ap, ◌∙◌, arith, inl, inr, Option, Some, None, IfSome, true≢false, subst, eqb-true}
-use Rattle.std.specs.Prelude.{not, ◌==◌, ◌&&◌, if◌then◌else◌, IsSomeAnd}
+use Rattle.std.proofs.lemmas.Bool.Decides.{nat_tests}
+use Rattle.std.proofs.Common.{◌≡◌, ◌≢◌, ℕ, ◌<◌, ◌≤◌, Bool, true, false, List, [], ◌∷◌, length, filter, find, map, filter_map, nat_eq, refl, sym, ap, ◌∙◌, arith, inl, inr, Option, Some, None, true≢false, subst, eqb-true, rules}
+use Rattle.std.specs.Prelude.{not, ◌==◌, if◌then◌else◌}
 use Rattle.std.specs.List.{AllByRecursion}
 use Rattle.std.proofs.lemmas.Bool.{cases_Bool}
 use Rattle.signals.specs.Table.{after_exec}
@@ -51,10 +52,7 @@ module _ (pid tid : ℕ) where
 
   other_rest : (ls : List LwpData) → LacksLwp tid ls → find (is_other pid tid) ls ≡ first_lwp pid ls
   other_rest [] lacks = refl
-  other_rest (l ∷ ls) lacks = elim (cases_Bool (nat_eq l.pid pid)) [
-    | inl e ↦ rw (e, other_number l.tid tid lacks.0) refl
-    | inr e ↦ rw e (other_rest ls lacks.1)
-  ]
+  other_rest (l ∷ ls) lacks = search (rules, other_rest ls lacks.1, cases_Bool, other_number)
 
   first_lacks : (f : LwpData) (ls : List LwpData) → first_lwp pid ls ≡ Some f → LacksLwp f.tid ls → ⊥
   first_lacks f [] first lacks = cc
@@ -96,13 +94,7 @@ less_without n l (k ∷ ls) at = elim (cases_Bool (nat_eq k.tid n)) [
 
 lwp_without : (n t : ℕ) → n ≢ t → (ls : List LwpData) → lwp_of n (without_lwp t ls) ≡ lwp_of n ls
 lwp_without n t apart [] = refl
-lwp_without n t apart (l ∷ ls) = elim (cases_Bool (nat_eq l.tid t)) [
-  | inl e ↦ let no : nat_eq l.tid n ≡ false = other_number l.tid n (λ same. apart (sym same ∙ eqb-true l.tid t e)) in rw (e, no) (lwp_without n t apart ls)
-  | inr e ↦ elim (cases_Bool (nat_eq l.tid n)) [
-    | inl k ↦ rw (e, k) refl
-    | inr k ↦ rw (e, k) (lwp_without n t apart ls)
-  ]
-]
+lwp_without n t apart (l ∷ ls) = search (rules, lwp_without n t apart ls, cases_Bool, other_number, eqb-true)
 
 module _ (pid tid : ℕ) (x : LwpData) (rows : Rows) (d : Differ rows.lwps) (is : find (is_other pid tid) rows.lwps ≡ Some x) where
   passes : is_other pid tid x ≡ true
@@ -121,14 +113,7 @@ module _ (pid tid : ℕ) (x : LwpData) (rows : Rows) (d : Differ rows.lwps) (is 
       not_false false e = absurd (true≢false e)
 
   pub other_left : HasLwp pid tid rows → HasLwp pid tid (drop_lwp x.tid rows)
-  other_left h = record { process = h.process; lwp = subst (λ o. IsSomeAnd o (λ l. l.pid ≡ pid)) (sym (lwp_without tid x.tid (λ same. apart (sym same)) rows.lwps)) h.lwp }
-    where
-      apart : x.tid ≢ tid
-      apart same = true≢false (sym passes ∙ rw (same, same_number tid) (off (nat_eq x.pid pid)))
-        where
-          off : (b : Bool) → (b && false) ≡ false
-          off true = refl
-          off false = refl
+  other_left h = search (rules, lwp_without, passes, same_number)
 
 pub others_none : (pid tid : ℕ) (rows : Rows) → find (is_other pid tid) rows.lwps ≡ None → rows ≡ only_lwp pid tid rows
 others_none pid tid rows none = ap (λ ls. record rows { lwps = ls })
@@ -154,10 +139,7 @@ freed_rows (Some parent) child rows = refl
 -- who doesn't wait stays as it is
 freed_idle : (o : Option ProcData) (child : ℕ) (l : LwpData) → waits_where (λ n. n == child) l.mode ≡ false → freed_lwp o child l ≡ l
 freed_idle None child l idle = refl
-freed_idle (Some parent) child l idle = elim (cases_Bool (nat_eq l.pid parent.pid)) [
-  | inl e ↦ rw (e, idle) refl
-  | inr e ↦ rw e refl
-]
+freed_idle (Some parent) child l idle = search (rules, cases_Bool)
 
 awaited : (m : Mode) (child : ℕ) → waits_where (λ n. n == child) m ≡ true → waited_for m ≡ Some child
 awaited User child is = absurd (true≢false (sym is))
@@ -171,15 +153,7 @@ module _ (p : ProcData) (l : LwpData) (rows : Rows) (s : IsSound rows) (a : IsAc
       (λ r one is. let c = child_from q p.pid r is in ap (λ x. x.parent) (sym (one c.pid)) ∙ c.parent) rows.processes (the_row p.pid rows.processes p s.stands.rising a.process) live
 
   freed_own : (o : Option ProcData) → process_of p.parent rows.processes ≡ o → (k : LwpData) (q : ProcData) → process_of k.pid rows.processes ≡ Some q → Standing rows q k → freed_lwp o p.pid k ≡ released (λ n. n == p.pid) q k
-  freed_own o at k q home stood = elim (cases_Bool (waits_where (λ n. n == p.pid) k.mode)) [
-    | inl e ↦
-        let live : IsLiveChild rows q p.pid = subst (λ w. IfSome w (IsLiveChild rows q)) (awaited k.mode p.pid e) stood.waits in
-        let parent : p.parent ≡ k.pid = its_child q live ∙ process_of-pid k.pid q rows.processes home in
-        let its : o ≡ Some q = sym at ∙ (ap (λ n. process_of n rows.processes) parent ∙ home) in
-        let own : nat_eq k.pid q.pid ≡ true = rw (process_of-pid k.pid q rows.processes home) (same_number k.pid) in
-        ap (λ w. freed_lwp w p.pid k) its ∙ rw own refl
-    | inr e ↦ freed_idle o p.pid k e ∙ rw e refl
-  ]
+  freed_own o at k q home stood = search (rules, cases_Bool, awaited, its_child, process_of-pid, same_number, freed_idle)
 
   abbrev to_user : LwpData → LwpData
   to_user k = changed_lwp l.tid (λ j. record j { mode = User }) k
@@ -196,22 +170,7 @@ module _ (p : ProcData) (l : LwpData) (rows : Rows) (s : IsSound rows) (a : IsAc
 
   exec_one : (o : Option ProcData) → process_of p.parent rows.processes ≡ o → (k : LwpData) → Known k
       → by_owner exec_lwp k (process_of k.pid rows.processes) ≡ (if not (is_other p.pid l.tid (to_user k)) then Some (freed_lwp o p.pid (to_user k)) else None)
-  exec_one o at k known =
-      let q = known.0.0 in
-      let home : process_of k.pid rows.processes ≡ Some q = known.0.1 in
-      let number : q.pid ≡ k.pid = process_of-pid k.pid q rows.processes home in
-      ap (by_owner exec_lwp k) home ∙ elim (cases_Bool (nat_eq k.tid l.tid)) [
-        | inl e ↦
-            let pid : k.pid ≡ p.pid = ap (λ j. j.pid) (known.1.1 (eqb-true k.tid l.tid e)) ∙ a.own in
-            let own : nat_eq k.pid p.pid ≡ true = rw pid (same_number p.pid) in
-            let mine : nat_eq q.pid p.pid ≡ true = rw (number, pid) (same_number p.pid) in
-            let idle = freed_idle o p.pid (record k { mode = User }) refl in
-            rw (mine, e, own, e) (ap (λ j. Some j) (sym idle))
-        | inr e ↦ elim (cases_Bool (nat_eq k.pid p.pid)) [
-          | inl h ↦ let mine : nat_eq q.pid p.pid ≡ true = rw number h in rw (mine, e, h, e) refl
-          | inr h ↦ let apart : nat_eq q.pid p.pid ≡ false = rw number h in rw (apart, e, h) (ap (λ j. Some j) (sym (freed_own o at k q home (known.1.0 q home))))
-        ]
-      ]
+  exec_one o at k known = grind (arith, nat_tests, process_of-pid, cases_Bool, eqb-true, same_number, freed_idle, freed_own)
 
   exec_rows_of : (o : Option ProcData) → process_of p.parent rows.processes ≡ o
       → change_process p.pid (λ q. record q { dispositions = after_exec q.dispositions }) (parent_freed o p.pid (only_lwp p.pid l.tid (in_mode User l.tid rows)))
@@ -225,10 +184,7 @@ module _ (p : ProcData) (l : LwpData) (rows : Rows) (s : IsSound rows) (a : IsAc
   -- the rows after the changes
   pub exec_done : (moved kept freed rows' done : Rows) → moved ≡ in_mode User l.tid rows → kept ≡ only_lwp p.pid l.tid moved → freed ≡ parent_freed (process_of p.parent kept.processes) p.pid kept
       → rows' ≡ change_process p.pid (λ q. record q { dispositions = after_exec q.dispositions }) freed → done ≡ settle p.pid rows' → done ≡ exec_rows p l rows
-  exec_done moved kept freed rows' done move keep free drop settled =
-      let two : kept ≡ only_lwp p.pid l.tid (in_mode User l.tid rows) = keep ∙ ap (only_lwp p.pid l.tid) move in
-      let three : freed ≡ parent_freed (process_of p.parent rows.processes) p.pid (only_lwp p.pid l.tid (in_mode User l.tid rows)) = free ∙ ap (λ (r : Rows). parent_freed (process_of p.parent r.processes) p.pid r) two in
-      settled ∙ ap (settle p.pid) (drop ∙ (ap (change_process p.pid (λ q. record q { dispositions = after_exec q.dispositions })) three ∙ exec_rows_of (process_of p.parent rows.processes) refl))
+  exec_done moved kept freed rows' done move keep free drop settled = search (rules, exec_rows_of)
 
 pub has-freed : (o : Option ProcData) (child pid tid : ℕ) (rows : Rows) → HasLwp pid tid rows → HasLwp pid tid (parent_freed o child rows)
 has-freed None child pid tid rows h = h
@@ -237,5 +193,4 @@ has-freed (Some parent) child pid tid rows h = has-lwps_mapped parent.pid (relea
 -- after the process has dropped its handlers, it and its LWP are there
 pub has-dropped : (o : Option ProcData) (pid tid : ℕ) (kept freed dropped : Rows) → HasLwp pid tid kept → freed ≡ parent_freed o pid kept
     → dropped ≡ change_process pid (λ q. record q { dispositions = after_exec q.dispositions }) freed → HasLwp pid tid dropped
-has-dropped o pid tid kept freed dropped h free drop =
-    rw (drop, free) (has-process_changed pid (λ q. record q { dispositions = after_exec q.dispositions }) (λ q. refl) pid tid (parent_freed o pid kept) (has-freed o pid pid tid kept h))
+has-dropped o pid tid kept freed dropped h free drop = search (rules, has-process_changed, has-freed)

@@ -1,9 +1,6 @@
 -- A refused step changes nothing, and none is_memory memory, kind by kind.
-use Rattle.std.proofs.Common.{◌≡◌, ℕ, ℤ, negsuc, Bool, true, false, ◌==◌, not, ◌||◌, ◌&&◌, leb, if◌then◌else◌, List, [], ◌∷◌, find, length, Option, Some, None, is_some, option_map, refl, sym, ap, ◌∙◌, true≢false}
-use Rattle.pid_blocks.specs.declared.Errno.TheVariants.{EPERM, ESRCH, ECHILD, EBUSY, EINVAL, EAGAIN}
-use Rattle.event_masks.specs.declared.TheConstants.EventMask.{PTRACE_LWP}
-use Rattle.event_masks.specs.declared.TheConstants.StopFlags.{PL_FLAG_EXITED}
-use Rattle.event_masks.specs.Exits.{asks, entry_flags}
+use Rattle.std.proofs.Common.{◌≡◌, ℕ, ℤ, negsuc, Bool, true, false, ◌==◌, not, ◌||◌, leb, if◌then◌else◌, List, [], ◌∷◌, find, length, Option, Some, None, is_some, option_map, refl, sym, ap, ◌∙◌, true≢false, rules}
+use Rattle.pid_blocks.specs.declared.Errno.TheVariants.{ESRCH, ECHILD, EBUSY, EINVAL, EAGAIN}
 use Rattle.event_masks.specs.declared.Call.{Call}
 use Rattle.event_masks.specs.declared.Call.TheVariants as call
 use Rattle.signals.specs.Table.{disposition_of, default_action, is_signal}
@@ -14,14 +11,13 @@ use Rattle.signals.specs.declared.Disposition.TheVariants as disposition
 use Rattle.lwp_table.specs.declared.LwpData.{LwpData}
 use Rattle.lwp_table.specs.declared.Mode.{Mode}
 use Rattle.lwp_table.specs.declared.Mode.TheVariants.{User, InCall, VforkWait}
-use Rattle.lwp_table.specs.Lwps.{lwp_of, born}
+use Rattle.lwp_table.specs.Lwps.{lwp_of}
 use Rattle.proc_table.specs.declared.ProcData.{ProcData}
 use Rattle.proc_table.specs.declared.State.{State}
 use Rattle.proc_table.specs.declared.State.TheVariants.{Run, Trace, Job, Zombie}
-use Rattle.proc_table.specs.Processes.{process_of, is_live, is_run, traces}
-use Rattle.proc_table.specs.Rows.{Rows, change_lwp, remove_lwp}
+use Rattle.proc_table.specs.Processes.{process_of, is_live, is_run}
+use Rattle.proc_table.specs.Rows.{Rows}
 use Rattle.proc_table.specs.Seen.{seen_process, seen_lwp}
-use Rattle.proc_table.specs.Fresh.{add_lwp, lwp_count}
 use Rattle.trace_stop.specs.declared.Settings.{Settings}
 use Rattle.trace_stop.specs.declared.Shown.{Shown}
 use Rattle.lwpinfo.specs.declared.LwpInfo.{LwpInfo}
@@ -31,7 +27,7 @@ use Rattle.wait4.specs.declared.Options.{Options}
 use Rattle.wait4.specs.declared.StatusKind.{StatusKind}
 use Rattle.wait4.specs.declared.Collected.{Collected}
 use Rattle.wait4.specs.declared.Collected.TheVariants as collected
-use Rattle.wait4.specs.Collect.{candidates, reportable, answer, without_report, reported, rows_after, collect}
+use Rattle.wait4.specs.Collect.{candidates, reportable, answer, without_report}
 use Rattle.requests.specs.declared.Request.{Request}
 use Rattle.requests.specs.declared.Request.TheVariants as request
 use Rattle.requests.specs.declared.Act.{Act}
@@ -40,13 +36,13 @@ use Rattle.requests.specs.Plain.{PlainStep}
 use Rattle.requests.specs.declared.step.Step.TheVariants as op
 use Rattle.requests.specs.declared.Reply.{Reply}
 use Rattle.requests.specs.declared.Reply.TheVariants as reply
-use Rattle.requests.specs.Outcome.{Outcome, answers, refuses, stops_with, stops_or, trap}
-use Rattle.requests.specs.Leave.{Numbers, room_for_process, room_for_lwp, in_mode, exit_stop, with_child, exec_rows, due_at_birth, forks, makes_lwp, exits_lwp, leaves}
+use Rattle.requests.specs.Outcome.{Outcome, answers, refuses, stops_or}
+use Rattle.requests.specs.Leave.{Numbers, room_for_process, room_for_lwp, in_mode, exit_stop, with_child, exec_rows, forks, makes_lwp, exits_lwp, leaves}
 use Rattle.requests.specs.Turn.{waits, due_stop, next_signal, takes_by_default, takes_untraced, takes, acts, signal_or_act, due_or_more, turn_by, turn_seen, turn}
-use Rattle.requests.specs.Ptrace.{trace_me, attach, closes_chain, told_stop, bad_argument, shows_info, does, commands_stopped, commands, is_attach, about, target_of, is_trace_me, ptrace}
+use Rattle.requests.specs.Ptrace.{trace_me, attach, shows_info, does, commands_stopped, commands, is_attach, about, target_of, is_trace_me, ptrace}
 use Rattle.requests.specs.Reach.{is_which, reach, reached, kill}
 use Rattle.requests.specs.Calls.{spawn_with, spawn, list, is_refused, sigaction, collect_reply, wait}
-use Rattle.requests.specs.Handle.{install, policies_of, no_options, handles_stop, handles_status, handles, handle}
+use Rattle.requests.specs.Handle.{install, handles_stop, handles_status, handles}
 use Rattle.requests.specs.Machine.{Machine, installed_by, After, after}
 use Rattle.requests.specs.Memory.{is_refusal, is_memory}
 use Rattle.requests.specs.Refusals.{RefusedSame, NeverMemory, ListingSame, is_listing}
@@ -84,12 +80,10 @@ forks_fair c mode p l rows (Some new) = stop_or rows (in_mode (mode new.pid) l.t
 
 makes_fair : (p : ProcData) (l : LwpData) (rows : Rows) (o : Option ℕ) → Fair rows (makes_lwp p l rows o)
 makes_fair p l rows None = left rows (reply.Errno EAGAIN) refl
-makes_fair p l rows (Some tid) =
-    stop_or rows (in_mode User l.tid (add_lwp p.uid (born tid p.pid l.blocked (due_at_birth p)) rows)) (exit_stop p call.ThrNew 0) (reply.New p.pid tid) p l refl refl
+makes_fair p l rows (Some tid) = search (rules, stop_or)
 
 exits_fair : (settings : Settings) (p : ProcData) (l : LwpData) (rows : Rows) → Fair rows (exits_lwp settings p l rows)
-exits_fair settings p l rows = choose (leb (lwp_count p.pid rows) 1) _ _ (Fair rows) (done rows _ _ refl refl)
-    (choose (is_some p.tracer && asks p.mask PTRACE_LWP) (stops_with (trap PL_FLAG_EXITED 0 call.ThrExit) p l rows) (answers reply.Done (remove_lwp l.tid rows)) (Fair rows) (done rows _ _ refl refl) (done rows _ _ refl refl))
+exits_fair settings p l rows = search (rules, choose, done, is_some)
 
 leaves_fair : (settings : Settings) (c : Call) (p : ProcData) (l : LwpData) (rows : Rows) → Fair rows (leaves settings c p l rows)
 leaves_fair settings call.Fork p l rows = forks_fair call.Fork (λ child. User) p l rows (room_for_process p.uid rows)
@@ -121,8 +115,7 @@ acts_fair : (settings : Settings) (a : Act) (mode : Mode) (p : ProcData) (l : Lw
 acts_fair settings act.Compute User p l rows = choose l.stepping _ _ (Fair rows) (done rows _ _ refl refl) (done rows _ _ refl refl)
 acts_fair settings (act.Raise s) User p l rows = choose (not (is_signal s)) _ _ (Fair rows) (left rows (reply.Errno EINVAL) refl) (done rows _ _ (raised (s == 9)).0 (raised (s == 9)).1)
 acts_fair settings (act.Block set) User p l rows = done rows _ _ refl refl
-acts_fair settings (act.Enter c) User p l rows =
-    stop_or rows (change_lwp l.tid (λ k. record k { mode = InCall c }) rows) (option_map (λ flags. trap flags 0 c) (entry_flags p.mask)) reply.Done p l refl refl
+acts_fair settings (act.Enter c) User p l rows = search (rules, stop_or, option_map)
 acts_fair settings act.Leave User p l rows = left rows (reply.Errno EINVAL) refl
 acts_fair settings act.Compute (InCall c) p l rows = left rows (reply.Errno EINVAL) refl
 acts_fair settings (act.Raise s) (InCall c) p l rows = left rows (reply.Errno EINVAL) refl
@@ -157,14 +150,10 @@ turn_fair settings u tid a rows = turn_seen_fair settings a rows (seen_lwp u tid
 -- The requests of a debugger
 
 trace_me_fair : (p : ProcData) (rows : Rows) → Fair rows (trace_me p rows)
-trace_me_fair p rows = choose (is_some p.tracer) _ _ (Fair rows) (left rows (reply.Errno EBUSY) refl)
-    (choose (p.parent == 1) _ _ (Fair rows) (left rows (reply.Errno EPERM) refl)
-    (choose (closes_chain p.pid p.parent rows) _ _ (Fair rows) (left rows (reply.Errno EINVAL) refl) (done rows _ _ refl refl)))
+trace_me_fair p rows = search (rules, choose, is_some, left, done)
 
 attach_fair : (caller p : ProcData) (rows : Rows) → Fair rows (attach caller p rows)
-attach_fair caller p rows = choose (p.pid == caller.pid) _ _ (Fair rows) (left rows (reply.Errno EINVAL) refl)
-    (choose (is_some p.tracer) _ _ (Fair rows) (left rows (reply.Errno EBUSY) refl)
-    (choose (closes_chain p.pid caller.pid rows) _ _ (Fair rows) (left rows (reply.Errno EINVAL) refl) (done rows _ _ refl refl)))
+attach_fair caller p rows = search (rules, choose, left, is_some, done)
 
 info_fair : (o : Option LwpInfo) (rows : Rows) → Fair rows (shows_info o rows)
 info_fair None rows = left rows (reply.Errno ESRCH) refl
@@ -192,12 +181,10 @@ does_fair settings request.LwpEvents «data» tid p rows = done rows _ _ refl re
 
 stopped_fair : (settings : Settings) (r : Request) (target «data» : ℕ) (p : ProcData) (rows : Rows) (o : Option ℕ) → Fair rows (commands_stopped settings r target «data» p rows o)
 stopped_fair settings r target «data» p rows None = left rows (reply.Errno EBUSY) refl
-stopped_fair settings r target «data» p rows (Some tid) =
-    choose (bad_argument r «data») _ _ (Fair rows) (left rows (reply.Errno EINVAL) refl) (does_fair settings r «data» (if leb target 99999 then tid else target) p rows)
+stopped_fair settings r target «data» p rows (Some tid) = search (rules, choose, left, does_fair)
 
 commands_fair : (settings : Settings) (caller : ProcData) (r : Request) (target «data» : ℕ) (p : ProcData) (rows : Rows) → Fair rows (commands settings caller r target «data» p rows)
-commands_fair settings caller r target «data» p rows = choose (not (is_some p.tracer)) _ _ (Fair rows) (left rows (reply.Errno EPERM) refl)
-    (choose (not (traces caller.pid p)) _ _ (Fair rows) (left rows (reply.Errno EBUSY) refl) (stopped_fair settings r target «data» p rows (told_stop p.state)))
+commands_fair settings caller r target «data» p rows = search (rules, choose, is_some, left, stopped_fair)
 
 about_fair : (settings : Settings) (caller : ProcData) (r : Request) (target «data» : ℕ) (o : Option ProcData) (rows : Rows) → Fair rows (about settings caller r target «data» o rows)
 about_fair settings caller r target «data» None rows = left rows (reply.Errno ESRCH) refl
@@ -227,11 +214,7 @@ kill_fair settings u caller which s rows = choose (not (leb s 31) || not (is_whi
 collect_fair : (caller : ℕ) (options : Options) (rows : Rows) (ps : List ProcData)
     → Fair rows (answers (collect_reply (answer ps (find (reportable options caller) ps))) (without_report caller (find (reportable options caller) ps) rows))
 collect_fair caller options rows [] = left rows (reply.Errno ECHILD) refl
-collect_fair caller options rows (p ∷ ps) = by_report (find (reportable options caller) (p ∷ ps))
-  where
-    by_report : (o : Option ProcData) → Fair rows (answers (collect_reply (answer (p ∷ ps) o)) (without_report caller o rows))
-    by_report None = done rows _ _ refl refl
-    by_report (Some q) = done rows _ _ refl refl
+collect_fair caller options rows (p ∷ ps) = search (rules, find, done)
 
 wait_fair : (p : ProcData) (which : ℤ) (options : Options) (rows : Rows) → Fair rows (wait p which options rows)
 wait_fair p which options rows = choose (not (is_which which)) _ _ (Fair rows) (left rows (reply.Errno EINVAL) refl) (collect_fair p.pid options rows (candidates p.pid which rows))
@@ -275,8 +258,7 @@ calls_fair u (op.Sigaction caller s d) p m = hosted m (sigaction p s d m.rows) (
 calls_fair u (op.Kill caller which s) p m = hosted m (kill m.settings u p.pid which s m.rows) (kill_fair m.settings u p.pid which s m.rows)
 calls_fair u (op.Wait4 caller which options) p m = hosted m (wait p which options m.rows) (wait_fair p which options m.rows)
 calls_fair u (op.Install caller policy) p m = install_fair u p policy m
-calls_fair u (op.Handle caller) p m = hosted m (handle u p m) (handles_fair m.settings (policies_of u p m) m.rows (rows_after p.pid (negsuc 0) no_options m.rows)
-    (reported p.pid (negsuc 0) no_options m.rows) (collect p.pid (negsuc 0) no_options m.rows))
+calls_fair u (op.Handle caller) p m = search (rules, hosted, handles_fair, negsuc)
 calls_fair u (op.Ptrace caller r target «data») p m = hosted m (ptrace m.settings u p r target «data» m.rows) (ptrace_fair m.settings u p r target «data» m.rows)
 calls_fair u (op.Turn tid a) p m = hosted m (turn m.settings u tid a m.rows) (turn_fair m.settings u tid a m.rows)
 

@@ -1,15 +1,14 @@
 -- Rows of processes that are left, with their numbers and users: what posting a signal leaves.
-use Rattle.std.proofs.Common.{◌≡◌, ℕ, Bool, ◌==◌, ◌&&◌, if◌then◌else◌, List, [], ◌∷◌, filter_map, Option, Some, None, IfSome, is_some, is_none, refl, ap, ◌∙◌}
-use Rattle.std.specs.List.{list_any, cons_option}
-use Rattle.signals.specs.Sets.{bit}
-use Rattle.signals.specs.Table.{SIGKILL, SIGTRAP, SIGCHLD}
+use Rattle.std.proofs.lemmas.Bool.Decides.{nat_tests}
+use Rattle.std.proofs.Common.{◌≡◌, ℕ, Bool, ◌==◌, if◌then◌else◌, List, [], ◌∷◌, filter_map, Option, Some, None, IfSome, is_some, is_none, refl, ap, arith, rules}
+use Rattle.std.specs.List.{list_any}
+use Rattle.signals.specs.Table.{SIGKILL, SIGCHLD}
 use Rattle.proc_table.specs.declared.ProcData.{ProcData}
-use Rattle.proc_table.specs.Processes.{process_of, is_live, traces, reporting}
+use Rattle.proc_table.specs.Processes.{process_of}
 use Rattle.proc_table.specs.Rows.{Rows, each, change, is_numbered}
 use Rattle.trace_stop.specs.declared.Settings.{Settings}
 use Rattle.trace_stop.specs.Post.{posted_process, posted_lwp, continues, notified, notifies, posted}
-use Rattle.trace_stop.specs.Detach.{untraced}
-use Rattle.trace_stop.specs.End.{is_doomed, dooms, orphaned, process_after, lwp_after, notifies_of, left_alone, end_each, end}
+use Rattle.trace_stop.specs.End.{is_doomed, dooms, process_after, lwp_after, notifies_of, left_alone, end_each, end}
 use Rattle.trace_stop.specs.Stop.{post}
 use Rattle.requests.proofs.Steps.{choose}
 
@@ -29,27 +28,10 @@ then_to g (Some q) = g q
 
 edits_join : (f g : ProcData → Option ProcData) (ps : List ProcData) → filter_map g (filter_map f ps) ≡ filter_map (λ p. then_to g (f p)) ps
 edits_join f g [] = refl
-edits_join f g (p ∷ ps) = by_row (f p) (edits_join f g ps)
-  where
-    by_row : (o : Option ProcData) → filter_map g (filter_map f ps) ≡ filter_map (λ q. then_to g (f q)) ps
-        → filter_map g (cons_option o (filter_map f ps)) ≡ cons_option (then_to g o) (filter_map (λ q. then_to g (f q)) ps)
-    by_row None rest = rest
-    by_row (Some q) rest = ap (λ qs. cons_option (g q) qs) rest
+edits_join f g (p ∷ ps) = grind (arith, nat_tests, edits_join f g ps)
 
 pub remain_then : (ps qs rs : List ProcData) → Remain ps qs → Remain qs rs → Remain ps rs
-remain_then ps qs rs a b = record {
-  to = λ p. then_to b.to (a.to p);
-  made = b.made ∙ (ap (filter_map b.to) a.made ∙ edits_join a.to b.to ps);
-  same = λ p. by_row p (a.to p) (a.same p);
-}
-  where
-    still : (p q : ProcData) → SameNumber p q → (o : Option ProcData) → IfSome o (SameNumber q) → IfSome o (SameNumber p)
-    still p q s None h = tt
-    still p q s (Some r) h = (h.0 ∙ s.0, h.1 ∙ s.1)
-
-    by_row : (p : ProcData) (o : Option ProcData) → IfSome o (SameNumber p) → IfSome (then_to b.to o) (SameNumber p)
-    by_row p None h = tt
-    by_row p (Some q) h = still p q h (b.to q) (b.same q)
+remain_then ps qs rs a b = search (rules, edits_join)
 
 all_there : (ps : List ProcData) → ps ≡ filter_map (λ p. Some p) ps
 all_there [] = refl
@@ -60,11 +42,7 @@ remain_all ps = record { to = λ p. Some p; made = all_there ps; same = λ p. (r
 
 -- each edit of chosen processes that keeps their numbers and users
 remain_some : (chosen : ProcData → Bool) (f : ProcData → ProcData) → ((p : ProcData) → SameNumber p (f p)) → (ps : List ProcData) → Remain ps (filter_map (λ p. Some (if chosen p then f p else p)) ps)
-remain_some chosen f keeps ps = record {
-  to = λ p. Some (if chosen p then f p else p);
-  made = refl;
-  same = λ p. choose (chosen p) (f p) p (SameNumber p) (keeps p) (refl, refl);
-}
+remain_some chosen f keeps ps = search (rules, choose)
 
 posted_keeps : (s : ℕ) (to : Option ℕ) (p : ProcData) → SameNumber p (posted_process s to p)
 posted_keeps s to p = choose (continues s p) _ _ (SameNumber p) (refl, refl) (refl, refl)
@@ -80,10 +58,7 @@ remain_posted s to pid rows =
 
 -- the end of a process
 after_keeps : (ends : ProcData → Bool) (over : ℕ → Bool) (p status : ℕ) (q : ProcData) → IfSome (process_after ends over p status q) (SameNumber q)
-after_keeps ends over p status q = choose (ends q) _ _ (λ o. IfSome o (SameNumber q))
-    (choose (is_none (orphaned over q).tracer && ((orphaned over q).parent == 1)) None _ (λ o. IfSome o (SameNumber q)) tt (refl, refl))
-    (choose (is_live q) _ _ (λ o. IfSome o (SameNumber q)) (refl, refl)
-    (choose (is_none (orphaned over q).tracer && ((orphaned over q).parent == 1)) None _ (λ o. IfSome o (SameNumber q)) tt (refl, refl)))
+after_keeps ends over p status q = search (rules, choose, is_none)
 
 remain_end_each : (ends : ProcData → Bool) (over : ℕ → Bool) (p status : ℕ) (rows : Rows) → Remain rows.processes (end_each ends over p status rows).processes
 remain_end_each ends over p status rows =
@@ -93,8 +68,7 @@ remain_end_each ends over p status rows =
     (remain_notified (filter_map (notifies_of ends over p status) rows.processes) after)
 
 remain_left : (settings : Settings) (p : ℕ) (rows : Rows) → Remain rows.processes (left_alone settings p rows).processes
-remain_left settings p rows = choose settings.kill_on_debugger_exit rows _ (λ r. Remain rows.processes r.processes) (remain_all rows.processes)
-    (remain_some (λ q. is_live q && traces p q) (λ q. untraced (if is_some (reporting q) then bit SIGTRAP else 0) q) (λ q. (refl, refl)) rows.processes)
+remain_left settings p rows = search (rules, choose, remain_all, remain_some, is_some)
 
 pub remain_end : (settings : Settings) (p status : ℕ) (rows : Rows) → Remain rows.processes (end settings p status rows).processes
 remain_end settings p status rows =

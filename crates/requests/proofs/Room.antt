@@ -1,4 +1,5 @@
 -- The numbers that a user's limits leave room for.
+use Rattle.std.proofs.lemmas.Bool.Decides.{nat_tests}
 use Rattle.std.proofs.Common.{◌≡◌, ℕ, zero, suc, ◌+◌, ◌-◌, ◌<◌, ◌≤◌, Bool, true, false, leb, if◌then◌else◌, Option, Some, None, IfSome, refl, arith}
 use Rattle.std.specs.Prelude.{get_or}
 use Rattle.std.proofs.lemmas.Bool.{leb-false}
@@ -18,12 +19,7 @@ record Free (taken : ℕ → Bool) (low high n : ℕ) : Type 0 where
 
 first_free_is : (taken : ℕ → Bool) (count n : ℕ) → IfSome (first_free taken count n) (Free taken n (n + count))
 first_free_is taken zero n = tt
-first_free_is taken (suc count) n = by_test (taken n) refl (first_free taken count (n + 1)) (first_free_is taken count (n + 1))
-  where
-    by_test : (b : Bool) → taken n ≡ b → (o : Option ℕ) → IfSome o (Free taken (n + 1) (n + 1 + count)) → IfSome (elim b [ true ↦ o | false ↦ Some n ]) (Free taken n (n + suc count))
-    by_test false is o h = record { from = omega arith; to = omega arith; free = is }
-    by_test true is None h = tt
-    by_test true is (Some m) h = let from = h.from in let to = h.to in record { from = omega arith; to = omega arith; free = h.free }
+first_free_is taken (suc count) n = grind (arith, nat_tests, first_free_is taken count (n + 1))
 
 abbrev or_next : Option ℕ → Option ℕ → Option ℕ
 or_next o p = elim o [ Some n ↦ Some n | None ↦ p ]

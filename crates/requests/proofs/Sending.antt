@@ -1,5 +1,6 @@
 -- A signal sent to one process, and to all others of a user.
-use Rattle.std.proofs.Common.{◌≡◌, ℕ, ◌-◌, ◌<◌, ◌≤◌, pos, negsuc, Bool, true, false, cond, ◌==◌, ltb, ◌&&◌, not, List, [], ◌∷◌, filter, filter_map, find, Option, Some, None, IfSome, is_none, if◌then◌else◌, refl, sym, ap, ◌∙◌, subst, arith, true≢false, eqb-true, ◌^◌, inl, inr}
+use Rattle.std.proofs.lemmas.Bool.Decides.{nat_tests}
+use Rattle.std.proofs.Common.{◌≡◌, ℕ, ◌-◌, ◌<◌, ◌≤◌, pos, negsuc, Bool, true, false, cond, ◌==◌, ltb, ◌&&◌, not, List, [], ◌∷◌, filter, filter_map, find, Option, Some, None, IfSome, is_none, if◌then◌else◌, refl, sym, ap, ◌∙◌, arith, true≢false, eqb-true, ◌^◌, inl, inr, rules}
 use Rattle.std.specs.Prelude.{option_map, ℤ, int_lt}
 use Rattle.std.specs.Int.{FitsUnsignedBits}
 use Rattle.std.proofs.lemmas.Bool.{cases_lt, le-leb}
@@ -37,19 +38,11 @@ module _ (settings : Settings) (s n : ℕ) (rows : Rows) (rise : Rise rows.proce
           rw (lives, some) (ap (λ m. post settings s None m rows) (process_of-pid n p rows.processes at))
 
   pub dead_posts : list_any (λ p. (p.pid == n) && is_live p) rows.processes ≡ false → post_if_live settings s (process_of n rows.processes) rows ≡ rows
-  dead_posts dead = by_row (process_of n rows.processes) refl
-    where
-      by_row : (o : Option ProcData) → process_of n rows.processes ≡ o → post_if_live settings s o rows ≡ rows
-      by_row None at = refl
-      by_row (Some p) at = let ended : is_live p ≡ false = sym (live_found n rows.processes p rise at) ∙ dead in rw ended refl
+  dead_posts dead = search (rules, live_found)
 
 -- a number that isn't 0 is a signal's
 pub passes_signal : (k n : ℕ) → (if k == 0 then None else Some k) ≡ Some n → ((k == 0) ≡ false) × (n ≡ k)
-passes_signal k n = by_test (k == 0)
-  where
-    by_test : (b : Bool) → (if b then None else Some k) ≡ Some n → (b ≡ false) × (n ≡ k)
-    by_test true is = absurd (let bad : None ≡ Some n = is in cc)
-    by_test false is = (refl, sym (some_is k n is))
+passes_signal k n = search (rules, some_is)
 
 pub no_number : (o : Option ℕ) → is_none o ≡ true → o ≡ None
 no_number None is = refl
@@ -59,11 +52,7 @@ no_number (Some n) is = absurd (true≢false (sym is))
 
 remain_posted : (settings : Settings) (s : ℕ) (o : Option ProcData) (rows : Rows) → Remain rows.processes (post_if_live settings s o rows).processes
 remain_posted settings s None rows = remain_all rows.processes
-remain_posted settings s (Some p) rows = by_test (is_live p && not (s == 0))
-  where
-    by_test : (b : Bool) → Remain rows.processes (cond b (post settings s None p.pid rows) rows).processes
-    by_test true = remain_post settings s None p.pid rows
-    by_test false = remain_all rows.processes
+remain_posted settings s (Some p) rows = search (rules, remain_post, remain_all)
 
 -- a number that nobody has stays free
 gone : (ps qs : List ProcData) (n : ℕ) → Remain ps qs → process_of n ps ≡ None → process_of n qs ≡ None
@@ -100,19 +89,7 @@ module _ (settings : Settings) (s : ℕ) (t : ProcData → Bool) (alike : (p q :
   -- the first of them, kept or gone
   pass_one : (p : ProcData) (ps : List ProcData) (rows : Rows) → Gone f rows p
       → Passed ps rows → Passed ps (post_if_live settings s (process_of p.pid rows.processes) rows) → Passed (p ∷ ps) rows
-  pass_one p ps rows lost rest after = by_row (f p) refl (same p)
-    where
-      gone_by : (b : Bool) → process_of p.pid rows.processes ≡ None → post_all settings s (filter t (filter_map f ps)) rows ≡ post_all settings s (cond b (p ∷ filter t ps) (filter t ps)) rows
-      gone_by true none = rest ∙ sym (ap (λ o. post_all settings s (filter t ps) (post_if_live settings s o rows)) none)
-      gone_by false none = rest
-
-      kept_by : (b : Bool) (q : ProcData) → q.pid ≡ p.pid → post_all settings s (cond b (q ∷ filter t (filter_map f ps)) (filter t (filter_map f ps))) rows ≡ post_all settings s (cond b (p ∷ filter t ps) (filter t ps)) rows
-      kept_by true q number = ap (λ n. post_all settings s (filter t (filter_map f ps)) (post_if_live settings s (process_of n rows.processes) rows)) number ∙ after
-      kept_by false q number = rest
-
-      by_row : (o : Option ProcData) → f p ≡ o → IfSome o (SameNumber p) → post_all settings s (filter t (cons_option o (filter_map f ps))) rows ≡ post_all settings s (filter t (p ∷ ps)) rows
-      by_row None e h = gone_by (t p) (lost e)
-      by_row (Some q) e h = rw (alike p q h) (kept_by (t p) q h.0)
+  pass_one p ps rows lost rest after = search (rules, alike)
 
   passed_over : (ps : List ProcData) (rows : Rows) → AllByRecursion (Gone f rows) ps → Passed ps rows
   passed_over [] rows all = refl
@@ -155,11 +132,7 @@ module _ (settings : Settings) (s u caller : ℕ) where
   next n ps = option_map (λ p. p.pid) (next_other u caller n ps)
 
   pub rest_is : (n : ℕ) (rows : Rows) → Rise rows.processes → post_rest settings s u caller (next n rows.processes) rows ≡ post_all settings s (others n rows.processes) rows
-  rest_is n rows rise = by_next (next_other u caller n rows.processes) refl
-    where
-      by_next : (o : Option ProcData) → next_other u caller n rows.processes ≡ o → post_rest settings s u caller (option_map (λ p. p.pid) o) rows ≡ post_all settings s (others n rows.processes) rows
-      by_next None at = rw (above_none (is_other u caller) n rows.processes at) refl
-      by_next (Some p) at = rw (above_next (is_other u caller) n rows.processes p rise at) refl
+  rest_is n rows rise = search (rules, above_none, above_next)
 
   alike : (n : ℕ) (p q : ProcData) → SameNumber p q → (ltb n q.pid && is_other u caller q) ≡ (ltb n p.pid && is_other u caller p)
   alike n p q same = rw (same.0, same.1) refl
@@ -168,30 +141,18 @@ module _ (settings : Settings) (s u caller : ℕ) where
   pub rest_next : (n : ℕ) (rows after : Rows) (at : Option ℕ) → Rise rows.processes → Rise after.processes
       → after ≡ post_if_live settings s (process_of n rows.processes) rows → at ≡ next n after.processes
       → post_rest settings s u caller at after ≡ post_rest settings s u caller (Some n) rows
-  rest_next n rows after at rise rises posted is =
-      let left : Remain rows.processes after.processes = subst (λ r. Remain rows.processes r.processes) (sym posted) (remain_posted settings s (process_of n rows.processes) rows) in
-      ap (λ o. post_rest settings s u caller o after) is ∙ (rest_is n after rises
-      ∙ (as_they_are settings s (λ p. ltb n p.pid && is_other u caller p) (alike n) rows after rise left
-      ∙ ap (post_all settings s (others n rows.processes)) posted))
+  rest_next n rows after at rise rises posted is = search (rules, remain_posted, rest_is, as_they_are, ltb, alike)
 
   split : (ps : List ProcData) → filter (λ p. not (p.pid == caller)) (of_user u ps) ≡ filter (is_other u caller) ps
   split [] = refl
-  split (p ∷ ps) = by_user (p.uid == u) (split ps)
-    where
-      by_user : (b : Bool) → filter (λ q. not (q.pid == caller)) (of_user u ps) ≡ filter (is_other u caller) ps → filter (λ q. not (q.pid == caller)) (cond b (p ∷ of_user u ps) (of_user u ps)) ≡ cond (b && not (p.pid == caller)) (p ∷ filter (is_other u caller) ps) (filter (is_other u caller) ps)
-      by_user true rest = ap (λ qs. cond (not (p.pid == caller)) (p ∷ qs) qs) rest
-      by_user false rest = rest
+  split (p ∷ ps) = grind (arith, nat_tests, split ps)
 
   pub reach_others : (rows : Rows) → IsKept rows → reach u caller (negsuc 0) rows ≡ others 0 rows.processes
   reach_others rows kept = split rows.processes ∙ sym (above_first (is_other u caller) rows.processes kept.homes)
 
   -- where there is none, and where there is one
   pub reached_none : (rows : Rows) → IsKept rows → next 0 rows.processes ≡ None → reach u caller (negsuc 0) rows ≡ []
-  reached_none rows kept none = by_next (next_other u caller 0 rows.processes) refl none
-    where
-      by_next : (o : Option ProcData) → next_other u caller 0 rows.processes ≡ o → option_map (λ p. p.pid) o ≡ None → reach u caller (negsuc 0) rows ≡ []
-      by_next None at h = reach_others rows kept ∙ above_none (is_other u caller) 0 rows.processes at
-      by_next (Some p) at h = absurd (let bad : Some p.pid ≡ None = h in cc)
+  reached_none rows kept none = search (rules, negsuc, reach_others, above_none)
 
   pub reached_some : (n : ℕ) (rows : Rows) → IsKept rows → next 0 rows.processes ≡ Some n
       → (reached settings s (reach u caller (negsuc 0) rows) rows).reply ≡ reply.Done
@@ -225,11 +186,7 @@ module _ (settings : Settings) (s u caller : ℕ) where
 module _ (u n : ℕ) where
   none_of : (ps : List ProcData) → AllByRecursion (λ p. (p.pid == n) ≡ false) ps → filter (λ p. p.pid == n) (of_user u ps) ≡ []
   none_of [] all = refl
-  none_of (p ∷ ps) all = by_user (p.uid == u) (none_of ps all.1)
-    where
-      by_user : (b : Bool) → filter (λ q. q.pid == n) (of_user u ps) ≡ [] → filter (λ q. q.pid == n) (cond b (p ∷ of_user u ps) (of_user u ps)) ≡ []
-      by_user true rest = rw all.0 rest
-      by_user false rest = rest
+  none_of (p ∷ ps) all = grind (arith, nat_tests, none_of ps all.1)
 
   others_above : (m : ℕ) (ps : List ProcData) → n ≤ m → AllAbove m ps → AllByRecursion (λ p. (p.pid == n) ≡ false) ps
   others_above m [] le over = tt
@@ -244,35 +201,18 @@ module _ (u n : ℕ) where
 
   only : (ps : List ProcData) → Rise ps → filter (λ p. p.pid == n) (of_user u ps) ≡ as_list (found ps)
   only [] rise = refl
-  only (p ∷ ps) rise = by_head (p.uid == u) (p.pid == n) refl (only ps rise.1)
-    where
-      by_head : (b c : Bool) → (p.pid == n) ≡ c → filter (λ q. q.pid == n) (of_user u ps) ≡ as_list (found ps)
-          → filter (λ q. q.pid == n) (cond b (p ∷ of_user u ps) (of_user u ps)) ≡ as_list (cond (c && b) (Some p) (found ps))
-      by_head true true e rest = rw e (ap (λ qs. p ∷ qs) (none_of ps (others_above p.pid ps (let same = eqb-true p.pid n e in omega arith) rise.0)))
-      by_head true false e rest = rw e rest
-      by_head false true e rest = rest
-      by_head false false e rest = rest
+  only (p ∷ ps) rise = search (rules, only ps rise.1, none_of, others_above, eqb-true)
 
 module _ (settings : Settings) (s u n : ℕ) (rows : Rows) (rise : Rise rows.processes) where
   abbrev one : List ProcData
   one = filter (λ p. p.pid == n) (of_user u rows.processes)
 
   pub unseen_reached : option_map (λ p. p.pid) (seen_process u n rows) ≡ None → one ≡ []
-  unseen_reached none = only u n rows.processes rise ∙ by_row (seen_process u n rows) none
-    where
-      by_row : (o : Option ProcData) → option_map (λ p. p.pid) o ≡ None → as_list u n o ≡ []
-      by_row None h = refl
-      by_row (Some p) h = absurd (let bad : Some p.pid ≡ None = h in cc)
+  unseen_reached none = search (rules, only)
 
   pub seen_reached : (m : ℕ) → option_map (λ p. p.pid) (seen_process u n rows) ≡ Some m
       → ((reached settings s one rows).reply ≡ reply.Done) × ((reached settings s one rows).rows ≡ post_if_live settings s (process_of m rows.processes) rows)
-  seen_reached m some = by_row (seen_process u n rows) some (only u n rows.processes rise)
-    where
-      by_row : (o : Option ProcData) → option_map (λ p. p.pid) o ≡ Some m → one ≡ as_list u n o
-          → ((reached settings s one rows).reply ≡ reply.Done) × ((reached settings s one rows).rows ≡ post_if_live settings s (process_of m rows.processes) rows)
-      by_row None h list = absurd (let bad : None ≡ Some m = h in cc)
-      by_row (Some p) h list =
-          (ap (λ ps. (reached settings s ps rows).reply) list, ap (λ ps. (reached settings s ps rows).rows) list ∙ ap (λ k. post_if_live settings s (process_of k rows.processes) rows) (some_is p.pid m h))
+  seen_reached m some = search (rules, only, some_is)
 
 -- no process has so great a number
 pub too_great : (u caller n : ℕ) (rows : Rows) → AllByRecursion AtHome rows.processes → 65000 ≤ n → reach u caller (pos n) rows ≡ []

@@ -1,5 +1,5 @@
 -- Pending signals that an LWP takes, and what they do, keep rows sound.
-use Rattle.std.proofs.Common.{◌≡◌, inl, inr, ℕ, Bool, true, false, ◌==◌, ◌&&◌, ◌||◌, not, leb, [], ◌∷◌, Option, Some, None, IfSome, is_some, refl, sym, ap, ◌∙◌, true≢false, subst, eqb-true, bit_or}
+use Rattle.std.proofs.Common.{◌≡◌, inl, inr, ℕ, Bool, true, false, ◌==◌, not, [], ◌∷◌, Option, Some, None, IfSome, is_some, refl, sym, ap, ◌∙◌, true≢false, subst, eqb-true, bit_or, rules}
 use Rattle.std.proofs.lemmas.Bool.{le-leb}
 use Rattle.signals.specs.Sets.{has, bit, without, lowest}
 use Rattle.signals.specs.Table.{SIGTRAP, unmaskable_set, is_signal, maskable, disposition_of, default_action}
@@ -51,12 +51,7 @@ fewer_pending : (p : ProcData) (s : ℕ) → FitProcess p → is_live p ≡ true
 fewer_pending p s fit live = pending_fits p (without p.pending (bit s)) fit live (λ none. without_less p.pending (unwanted p) (bit s) (fit.untraced none).pending)
 
 fewer_pending_lwp : (p : ProcData) (l : LwpData) (s : ℕ) → FitLwp p l → FitLwp p (record l { pending = without l.pending (bit s) })
-fewer_pending_lwp p l s fit = record {
-  untraced = λ none. let was = fit.untraced none in record { due = was.due; stepping = was.stepping; suspended = was.suspended; pending = without_less l.pending (unwanted p) (bit s) was.pending };
-  silent = λ off. let was = fit.silent off in record { flags = was.flags; child = was.child; code = was.code };
-  blocked = fit.blocked;
-  mode = fit.mode;
-}
+fewer_pending_lwp p l s fit = search (rules, without_less)
 
 module _ (rows : Rows) (p : ProcData) (l : LwpData) (a : Acting rows p l) where
   abbrev taken : ℕ → ProcData → ProcData
@@ -153,12 +148,7 @@ is_end_action action.Discard = false
 
 -- the signals that end a process by default are words of ends
 ends_by_default : (s : ℕ) → IsSignal s → default_action s ≡ action.End → is_end s ≡ true
-ends_by_default s sig is = or_second _ (both (leb 1 s && leb s 31) (not (s == 19)) (both (leb 1 s) (leb s 31) (le-leb 1 s sig.0) (le-leb s 31 sig.1))
-    (ap not (by_bool (s == 19) (λ e. true≢false (sym (ap is_end_action (sym (ap default_action (eqb-true s 19 e)) ∙ is)))))))
-  where
-    or_second : (a : Bool) {b : Bool} → b ≡ true → (a || b) ≡ true
-    or_second true h = refl
-    or_second false h = h
+ends_by_default s sig is = search (rules, both, le-leb, by_bool, eqb-true)
 
 module _ (settings : Settings) (s : ℕ) (sig : IsSignal s) (rows : Rows) (p : ProcData) (l : LwpData) (k : Alike rows p l) where
   abbrev q : ProcData
@@ -166,8 +156,7 @@ module _ (settings : Settings) (s : ℕ) (sig : IsSignal s) (rows : Rows) (p : P
 
   by_action : (x : Action) → default_action s ≡ x → p.tracer ≡ None → IsSound (takes_by_default settings s x p l rows).rows
   by_action action.End e free = subst (λ n. IsSound (end settings n s rows)) k.pid (end_sound rows q k.lwp k.acting settings s (ends_by_default s sig e))
-  by_action action.Stop e free = subst (λ n. IsSound (notified (n ∷ []) (change_process p.pid (λ r. record r { state = Job s false; continued = false }) rows))) k.parent
-      (subst (λ n. IsSound (notified (q.parent ∷ []) (change_process n (λ r. record r { state = Job s false; continued = false }) rows))) k.pid (job_stop_sound rows q k.lwp k.acting s (k.tracer ∙ free)))
+  by_action action.Stop e free = search (rules, job_stop_sound)
   by_action action.Discard e free = k.acting.sound
 
   by_disposition : (d : Disposition) → p.tracer ≡ None → IsSound (takes_untraced settings s d p l rows).rows

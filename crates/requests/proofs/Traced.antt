@@ -1,5 +1,5 @@
 -- Each request of a debugger keeps a host sound.
-use Rattle.std.proofs.Common.{◌≡◌, ℕ, Bool, true, false, ◌==◌, ◌&&◌, not, leb, if◌then◌else◌, Option, Some, None, option_map, is_some, refl, sym, ◌∙◌, true≢false, subst, arith, eqb-true, eq-eqb}
+use Rattle.std.proofs.Common.{◌≡◌, ℕ, Bool, true, false, ◌==◌, ◌&&◌, not, leb, if◌then◌else◌, Option, Some, None, option_map, is_some, refl, sym, ◌∙◌, true≢false, subst, arith, eqb-true, eq-eqb, rules}
 use Rattle.std.specs.List.{list_any}
 use Rattle.pid_blocks.specs.declared.Errno.TheVariants.{ESRCH}
 use Rattle.event_masks.specs.declared.TheConstants.EventMask.{PTRACE_SCE, PTRACE_SCX, PTRACE_FORK, PTRACE_LWP}
@@ -54,9 +54,7 @@ named_lwp_of u n rows m None e is = absurd (grind (arith, is))
 named_lwp_of u n rows m (Some l) e is = record { lwp = l; seen = e; own = some_is l.pid m is }
 
 seen_lwp_owned : (u n : ℕ) (rows : Rows) (l : LwpData) → IsSound rows → seen_lwp u n rows ≡ Some l → (lwp_of n rows.lwps ≡ Some l) × (owns u l.pid rows.processes ≡ true)
-seen_lwp_owned u n rows l s seen =
-    let found = find_some (λ k. (k.tid == n) && owns u k.pid rows.processes) (λ k. lwp_of k.tid rows.lwps ≡ Some k) rows.lwps (own_lwps rows.lwps s.stands.differ) l seen in
-    (subst (λ t. lwp_of t rows.lwps ≡ Some l) (eqb-true l.tid n (and_left (l.tid == n) (owns u l.pid rows.processes) found.1)) found.0, and_right (l.tid == n) (owns u l.pid rows.processes) found.1)
+seen_lwp_owned u n rows l s seen = search (rules, find_some, own_lwps, eqb-true, and_left, and_right)
 
 seen_owned : (u n : ℕ) (rows : Rows) (m : ℕ) → IsSound rows → find_seen u n rows ≡ Some m → owns u m rows.processes ≡ true
 seen_owned u n rows m s seen = by_size (leb n 99999) seen

@@ -1,5 +1,5 @@
 -- A stopped tracee in sound rows, and changes of its row and of its LWPs.
-use Rattle.std.proofs.Common.{◌≡◌, ℕ, ◌≤◌, ◌==◌, leb, arith, eqb-true, true, false, if◌then◌else◌, Option, Some, None, is_some, refl, sym, ap, ◌∙◌, true≢false, subst, eq-eqb}
+use Rattle.std.proofs.Common.{◌≡◌, ℕ, ◌≤◌, ◌==◌, arith, eqb-true, true, false, if◌then◌else◌, Option, Some, None, is_some, refl, sym, ap, ◌∙◌, true≢false, subst, eq-eqb, rules}
 use Rattle.std.specs.Prelude.{IsSomeAnd}
 use Rattle.std.proofs.lemmas.Bool.Decides.{nat_tests}
 use Rattle.event_masks.specs.declared.EventMask.{EventMask}
@@ -22,7 +22,7 @@ use Rattle.proc_table.proofs.Changes.{change_process-at, change_lwp-at, change-a
 use Rattle.proc_table.proofs.Stays.{lwp_there}
 use Rattle.trace_stop.specs.declared.Settings.{Settings}
 use Rattle.trace_stop.specs.Stop.{resume}
-use Rattle.trace_stop.specs.Facts.{FitProcess, IsSound}
+use Rattle.trace_stop.specs.Facts.{IsSound}
 use Rattle.trace_stop.specs.Reports.{IsStopped}
 use Rattle.trace_stop.proofs.Edited.{count_edit}
 use Rattle.trace_stop.proofs.Changes.{changed_row}
@@ -66,12 +66,7 @@ live_state (Zombie w) reports = absurd (true≢false (sym reports))
 
 module _ (rows : Rows) (p : ProcData) (s : IsSound rows) (at : process_of p.pid rows.processes ≡ Some p) (reports : is_some (reporting p) ≡ true) where
   pub is_tracee : Tracee rows p
-  is_tracee = record {
-    sound = s;
-    home = at;
-    live = rw (live_state p.state reports) refl;
-    traced = (every_found FitProcess (λ q. q.pid == p.pid) rows.processes p s.processes at).stopped reports;
-  }
+  is_tracee = search (rules, live_state, every_found)
 
   pub is_stopped : IsStopped p.pid rows
   is_stopped = by_lwp (reporting p) refl reports
@@ -108,11 +103,7 @@ pub record Ready (p : ProcData) (rows to : Rows) : Type 0 where
   pub stopped : IsStopped p.pid rows
 
 ready : (p q : ProcData) (rows to : Rows) → rows ≡ to → p.pid ≡ q.pid → Tracee to q → is_some (reporting q) ≡ true → Ready p rows to
-ready p q rows to same pids t reports = record {
-  same = same;
-  sound = subst IsSound (sym same) t.sound;
-  stopped = subst (λ n. IsStopped n rows) (sym pids) (subst (IsStopped q.pid) (sym same) (is_stopped to q t.sound t.home reports));
-}
+ready p q rows to same pids t reports = search (rules, is_stopped)
 
 pub masked_ready : (p : ProcData) (mask : EventMask) (rows rows1 rows2 : Rows) → Tracee rows p → is_some (reporting p) ≡ true → rows1 ≡ set_mask (λ old. mask) p.pid rows → rows2 ≡ map_lwps p.pid calm rows1
     → Ready p rows2 (not_stepping p.pid (set_mask (λ old. mask) p.pid rows))
@@ -136,10 +127,7 @@ module _ (p : ProcData) (tid : ℕ) (rows rows1 : Rows) (t : Tracee rows p) (o :
 -- Arguments that are a signal's number or 0
 
 pub signalled : (f : ℕ → Rows → Rows) («data» pass : ℕ) (r : Reply) (rows rows1 rows2 to : Rows) → («data» ≤ 31) × (pass ≡ «data») → rows1 ≡ to → rows2 ≡ f pass rows1 → rows2 ≡ (with_signal «data» (answers r (f «data» to)) rows).rows
-signalled f «data» pass r rows rows1 rows2 to few same done =
-    let least = few.0 in
-    let fits : leb «data» 31 ≡ true = grind (arith, nat_tests) in
-    done ∙ (ap (f pass) same ∙ (ap (λ n. f n to) few.1 ∙ rw fits refl))
+signalled f «data» pass r rows rows1 rows2 to few same done = search (rules, nat_tests)
 
 pub continue_as : (settings : Settings) (mask : EventMask → EventMask) (m : EventMask) («data» : ℕ) (p : ProcData) (rows : Rows) → Rise rows.processes → process_of p.pid rows.processes ≡ Some p → m ≡ mask p.mask
     → with_signal «data» (continues_with settings (λ old. m) «data» p rows) rows ≡ with_signal «data» (continues_with settings mask «data» p rows) rows

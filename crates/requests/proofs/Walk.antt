@@ -1,5 +1,5 @@
 -- A walk over processes by rising numbers.
-use Rattle.std.proofs.Common.{◌≡◌, ℕ, ◌<◌, List, [], ◌∷◌, ◌++◌, map, filter, find, Option, Bool, true, false, cond, ◌&&◌, ltb, Some, None, refl, sym, ap, ◌∙◌, arith, subst, lt-ltb, append_assoc, append-nil}
+use Rattle.std.proofs.Common.{◌≡◌, ℕ, ◌<◌, List, [], ◌∷◌, ◌++◌, map, filter, find, Option, Bool, true, ◌&&◌, ltb, Some, None, refl, sym, ap, ◌∙◌, arith, lt-ltb, append_assoc, append-nil, rules}
 use Rattle.std.specs.List.{AllByRecursion}
 use Rattle.std.proofs.lemmas.Bool.{le-ltb, ltb-true}
 use Rattle.proc_table.specs.declared.ProcData.{ProcData}
@@ -30,23 +30,11 @@ module _ (t : ProcData → Bool) where
 
   pub next_over : (n : ℕ) (ps : List ProcData) (p : ProcData) → first_above n ps ≡ Some p → n < p.pid
   next_over n [] p is = absurd (grind (arith, is))
-  next_over n (q ∷ ps) p is = by_head (ltb n q.pid && t q) refl is (next_over n ps p)
-    where
-      by_head : (b : Bool) → (ltb n q.pid && t q) ≡ b → cond b (Some q) (first_above n ps) ≡ Some p → (first_above n ps ≡ Some p → n < p.pid) → n < p.pid
-      by_head true e h rest = let same : q ≡ p = grind (arith, h) in subst (λ r. n < r.pid) same (ltb-true n q.pid (and_left (ltb n q.pid) (t q) e))
-      by_head false e h rest = rest h
+  next_over n (q ∷ ps) p is = search (rules, next_over n ps p, ltb, ltb-true, and_left)
 
   pub above_next : (n : ℕ) (ps : List ProcData) (p : ProcData) → Rise ps → first_above n ps ≡ Some p → above n ps ≡ p ∷ above p.pid ps
   above_next n [] p rise is = absurd (grind (arith, is))
-  above_next n (q ∷ ps) p rise is = by_head (ltb n q.pid && t q) refl is (above_next n ps p rise.1)
-    where
-      here : ltb n q.pid ≡ true → above n ps ≡ above q.pid (q ∷ ps)
-      here lt = let self : ltb q.pid q.pid ≡ false = le-ltb q.pid q.pid (omega arith) in rw self (above_under n q.pid ps (ltb-true n q.pid lt) rise.0)
-
-      by_head : (b : Bool) → (ltb n q.pid && t q) ≡ b → cond b (Some q) (first_above n ps) ≡ Some p → (first_above n ps ≡ Some p → above n ps ≡ p ∷ above p.pid ps)
-          → cond b (q ∷ above n ps) (above n ps) ≡ p ∷ above p.pid (q ∷ ps)
-      by_head true e h rest = let same : q ≡ p = grind (arith, h) in subst (λ r. q ∷ above n ps ≡ r ∷ above r.pid (q ∷ ps)) same (ap (λ xs. q ∷ xs) (here (and_left (ltb n q.pid) (t q) e)))
-      by_head false e h rest = let over = found_above (λ r. ltb n r.pid && t r) q.pid ps p rise.0 h in let other : ltb p.pid q.pid ≡ false = le-ltb p.pid q.pid (omega arith) in rw other (rest h)
+  above_next n (q ∷ ps) p rise is = search (rules, above_next n ps p rise.1, ltb, le-ltb, above_under, ltb-true, and_left, found_above)
 
 abbrev pub pids : List ProcData → List ℕ
 pids ps = map (λ p. p.pid) ps

@@ -1,5 +1,5 @@
 -- A sound host with one more process and its first LWP, or with one more LWP, is sound.
-use Rattle.std.proofs.Common.{◌≡◌, ◌≢◌, ℕ, ◌+◌, ◌<◌, ◌≤◌, List, [], ◌∷◌, ◌++◌, find, Bool, true, false, cond, ◌==◌, ◌&&◌, ◌||◌, Option, Some, None, IfSome, refl, sym, ap, ◌∙◌, arith, eqb, true≢false, eqb-true, subst, eq-eqb, length-set}
+use Rattle.std.proofs.Common.{◌≡◌, ◌≢◌, ℕ, ◌+◌, ◌<◌, ◌≤◌, List, [], ◌∷◌, ◌++◌, find, Bool, true, false, cond, ◌==◌, ◌&&◌, Some, None, IfSome, refl, sym, ap, ◌∙◌, arith, eqb, true≢false, eqb-true, subst, eq-eqb, length-set, rules}
 use Rattle.std.specs.Prelude.{count_by}
 use Rattle.std.specs.List.{AllByRecursion, list_any}
 use Rattle.std.proofs.lemmas.List.Folds.{list_any-append}
@@ -69,11 +69,7 @@ named_other rows n free u m live = any_holds (λ p. (p.pid == m) && (p.uid == u)
     (λ p other is same. true≢false (sym (eq-eqb p.pid n (eqb-true p.pid m (and_left (p.pid == m) (p.uid == u) (and_left _ (is_live p) is)) ∙ same)) ∙ other)) rows.processes (none_of (λ p. p.pid == n) rows.processes free) live
 
 traces_none : (rows : Rows) (n : ℕ) → is_process rows n ≡ false → AllByRecursion (Linked rows) rows.processes → TracesNone rows.processes n
-traces_none rows n free all m t is = at_row (process_of m rows.processes) refl is
-  where
-    at_row : (o : Option ProcData) → process_of m rows.processes ≡ o → tracer_in o ≡ Some t → t ≢ n
-    at_row None e h = absurd (grind (arith, h))
-    at_row (Some q) e h = named_other rows n free q.uid t (subst (λ o. IfSome o (IsLiveOf rows q.uid)) h (find_some (λ p. p.pid == m) (Linked rows) rows.processes all q e).0.tracer)
+traces_none rows n free all m t is = search (rules, named_other, find_some)
 
 home_other : (rows : Rows) (n : ℕ) → is_process rows n ≡ false → (l : LwpData) → Housed rows l → l.pid ≢ n
 home_other rows n free l home same = true≢false (sym (any_at (λ p. p.pid == n) (λ p. p.pid == l.pid) (λ p e. eq-eqb p.pid n (eqb-true p.pid l.pid e ∙ same)) rows.processes home.0 home.1) ∙ free)
@@ -166,12 +162,7 @@ module _ (rows : Rows) (p : ProcData) (l : LwpData) (s : IsSound rows) (b : Born
   owns_old u n ne = any-placed p ps s.stands.rising b.free (λ q. (q.pid == n) && (q.uid == u)) ∙ rw (by_bool (p.pid == n) (λ e. ne (sym (eqb-true p.pid n e)))) refl
 
   owns_new : (u : ℕ) → p.uid ≢ u → owns u l.pid (placed p ps) ≡ false
-  owns_new u ne = any-placed p ps s.stands.rising b.free (λ q. (q.pid == l.pid) && (q.uid == u))
-      ∙ rw (by_bool (p.uid == u) (λ e. ne (eqb-true p.uid u e))) (and_false (p.pid == l.pid) (by_bool (owns u l.pid ps) (λ is. true≢false (sym (any_more (λ q. (q.pid == l.pid) && (q.uid == u)) (λ q. q.pid == p.pid) (λ q e. eq-eqb q.pid p.pid (eqb-true q.pid l.pid (and_left (q.pid == l.pid) (q.uid == u) e) ∙ b.own)) ps is) ∙ b.free))))
-    where
-      and_false : (c : Bool) {d : Bool} → d ≡ false → ((c && false) || d) ≡ false
-      and_false true is = is
-      and_false false is = is
+  owns_new u ne = search (rules, any-placed, by_bool, eqb-true, any_more, eq-eqb, and_left)
 
   few_processes : (u : ℕ) → IsUser u → process_count u made ≤ 250
   few_processes u user = by_user (eqb p.uid u) refl

@@ -1,7 +1,7 @@
 -- Chains of tracers end within as many links as a user has processes, less one.
 use Rattle.std.proofs.lemmas.Bool.{cases_Bool}
 use Rattle.std.proofs.lemmas.Bool.Decides.{nat_tests}
-use Rattle.std.proofs.Common.{◌≡◌, ℕ, zero, suc, ◌+◌, ◌-◌, ◌≤◌, List, [], ◌∷◌, length, filter, find, Bool, true, false, not, ◌&&◌, ◌||◌, ◌==◌, Option, Some, None, IfSome, is_some, refl, sym, ap, ◌∙◌, arith, true≢false, eqb-true, eq-eqb, subst, inl, inr}
+use Rattle.std.proofs.Common.{◌≡◌, ℕ, zero, suc, ◌+◌, ◌-◌, ◌≤◌, List, [], ◌∷◌, length, filter, find, Bool, true, false, not, ◌&&◌, ◌||◌, ◌==◌, Option, Some, None, IfSome, is_some, refl, sym, ap, ◌∙◌, arith, true≢false, eqb-true, eq-eqb, subst, inl, inr, rules}
 use Rattle.std.specs.Prelude.{count_by}
 use Rattle.std.specs.List.{AllByRecursion, list_any}
 use Rattle.std.proofs.lemmas.Bool.{cases_lt}
@@ -108,9 +108,7 @@ onward_meets k ps x h (Some t) = h t
 
 pub chain_meets : (k : ℕ) (ps : List ProcData) (x t : ℕ) → is_in (chain k ps t) x ≡ ((t == x) || meets k ps x t)
 chain_meets zero ps x t = ap (λ xs. is_in xs x) (chain-zero ps t) ∙ ap (λ b. (t == x) || b) (sym (meets-zero ps x t))
-chain_meets (suc k) ps x t =
-    ap (λ xs. is_in xs x) (chain-suc k ps t)
-    ∙ ap (λ b. (t == x) || b) (onward_meets k ps x (chain_meets k ps x) (tracer_of ps t) ∙ sym (meets-suc k ps x t))
+chain_meets (suc k) ps x t = search (rules, chain_meets k ps x, chain-suc, onward_meets, meets-suc)
 
 pub meets-onward : (k : ℕ) (ps : List ProcData) (x n : ℕ) → meets (suc k) ps x n ≡ is_in (onward (chain k ps) (tracer_of ps n)) x
 meets-onward k ps x n = meets-suc k ps x n ∙ sym (onward_meets k ps x (chain_meets k ps x) (tracer_of ps n))
@@ -129,11 +127,7 @@ module _ (rows : Rows) (s : Stands rows) where
   ps = rows.processes
 
   pub no_ring : (n : ℕ) → meets 250 ps n n ≡ false
-  no_ring n = at_row (process_of n ps) refl
-    where
-      at_row : (o : Option ProcData) → process_of n ps ≡ o → meets 250 ps n n ≡ false
-      at_row None is = meets-suc 249 ps n n ∙ ap (λ o. holds_of (λ t. (t == n) || meets 249 ps n t) (tracer_in o)) is
-      at_row (Some r) is = let h = find_some (λ x. x.pid == n) (Linked rows) ps s.linked r is in subst (λ m. meets 250 ps m m ≡ false) (eqb-true r.pid n h.1) h.0.chain
+  no_ring n = grind (arith, nat_tests, meets-suc, find_some, eqb-true)
 
   onward_differs : (k : ℕ) → ((t : ℕ) → AllDiffer (chain k ps t)) → (o : Option ℕ) → AllDiffer (onward (chain k ps) o)
   onward_differs k h None = tt
@@ -197,13 +191,7 @@ chain-ended zero xs n le = chain-suc zero xs n ∙ at_link (tracer_of xs n) (sub
     at_link : (o : Option ℕ) → length (n ∷ onward (chain zero xs) o) ≤ 1 → n ∷ onward (chain zero xs) o ≡ n ∷ []
     at_link None h = refl
     at_link (Some t) h = let two : length (n ∷ chain zero xs t) ≤ 1 = h in let one : length (chain zero xs t) ≡ 1 = ap length (chain-zero xs t) in absurd (omega (arith, two, one))
-chain-ended (suc k) xs n le =
-    chain-suc (suc k) xs n ∙ at_link (tracer_of xs n) (subst (λ (ns : List ℕ). length ns ≤ suc (suc k)) (chain-suc (suc k) xs n) le) (chain-ended k xs) ∙ sym (chain-suc k xs n)
-  where
-    at_link : (o : Option ℕ) → length (n ∷ onward (chain (suc k) xs) o) ≤ suc (suc k) → ((t : ℕ) → length (chain (suc k) xs t) ≤ suc k → chain (suc k) xs t ≡ chain k xs t)
-        → n ∷ onward (chain (suc k) xs) o ≡ n ∷ onward (chain k xs) o
-    at_link None h next = refl
-    at_link (Some t) h next = ap (λ ns. n ∷ ns) (next t (omega (arith, h)))
+chain-ended (suc k) xs n le = search (rules, chain-ended k xs, chain-suc)
 
 onward_same : (f g : ℕ → List ℕ) → ((t : ℕ) → f t ≡ g t) → (o : Option ℕ) → onward f o ≡ onward g o
 onward_same f g h None = refl
@@ -240,10 +228,7 @@ module _ (rows : Rows) (s : Stands rows) where
 
   meets_all : (links x n : ℕ) → meets links qs x n ≡ true → meets 249 qs x n ≡ true
   meets_all zero x n is = absurd (true≢false (sym is ∙ meets-zero qs x n))
-  meets_all (suc k) x n is = elim (cases_lt k 249) [
-    | inl small ↦ meets_within (suc k) 249 (omega (arith, small)) qs x n is
-    | inr large ↦ meets-onward 248 qs x n ∙ sym (found_again k n x large) ∙ sym (meets-onward k qs x n) ∙ is
-  ]
+  meets_all (suc k) x n is = search (rules, cases_lt, meets_within, meets-onward, found_again)
 
   deeper : (y x : ℕ) → tracer_of qs y ≡ Some x → length (chain 250 qs y) ≡ suc (length (chain 250 qs x))
   deeper y x is = ap length (chain-suc 249 qs y ∙ ap (λ o. y ∷ onward (chain 249 qs) o) is) ∙ ap (λ (ns : List ℕ). suc (length ns)) (sym (settled x))

@@ -1,5 +1,6 @@
 -- Rows after an edit are as rows must be, where each row keeps its part.
-use Rattle.std.proofs.Common.{◌≡◌, ◌≢◌, ◌⊎◌, inl, inr, ℕ, zero, suc, ◌≤◌, List, filter_map, Bool, true, false, ◌==◌, ◌&&◌, ◌||◌, if◌then◌else◌, Option, Some, None, IfSome, refl, sym, ap, ◌∙◌, arith, true≢false, eqb-true, subst, not}
+use Rattle.std.proofs.lemmas.Bool.Decides.{nat_tests}
+use Rattle.std.proofs.Common.{◌≡◌, ◌≢◌, ◌⊎◌, inl, inr, ℕ, zero, suc, ◌≤◌, List, filter_map, Bool, true, false, ◌==◌, ◌&&◌, if◌then◌else◌, Option, Some, None, IfSome, refl, sym, ap, ◌∙◌, arith, true≢false, eqb-true, subst, rules}
 use Rattle.std.specs.Option.{option_and_then}
 use Rattle.std.specs.List.{AllByRecursion, list_any}
 use Rattle.pid_blocks.specs.Users.{IsUser}
@@ -14,7 +15,7 @@ use Rattle.proc_table.specs.Rows.{Rows, owner, by_owner, each, edit_processes, e
 use Rattle.proc_table.specs.Seen.{owns}
 use Rattle.proc_table.specs.Fresh.{lwp_count}
 use Rattle.proc_table.specs.Kept.{Rise, AtHome, Housed}
-use Rattle.trace_stop.specs.End.{holds_of, tracer_in, tracer_of, meets}
+use Rattle.trace_stop.specs.End.{tracer_in, tracer_of, meets}
 use Rattle.trace_stop.specs.Sound.{names_own}
 use Rattle.trace_stop.specs.Facts.{IsLiveOf, IsLiveChild, Linked, FitProcess, waited_for, Standing, FitLwp, WithOwner, Stands, IsSound}
 use Rattle.trace_stop.proofs.Every.{and_left, and_right, both, by_bool, All-imply, All-both, All-edit, All-any, find_some, any_forward}
@@ -76,15 +77,7 @@ module _ {P : ProcData → Type 0} {Q : ProcData → LwpData → Type 0} (rows :
 pub meets_less : (ps qs : List ProcData) → ((n t : ℕ) → tracer_of qs n ≡ Some t → tracer_of ps n ≡ Some t) → (links q n : ℕ) → meets links qs q n ≡ true → meets links ps q n ≡ true
 unfolding meets
 meets_less ps qs h zero q n is = is
-meets_less ps qs h (suc links) q n is = by_tracer (tracer_of qs n) refl is (meets_less ps qs h links q)
-  where
-    by_tracer : (o : Option ℕ) → tracer_of qs n ≡ o → holds_of (λ t. (t == q) || meets links qs q t) o ≡ true → ((t : ℕ) → meets links qs q t ≡ true → meets links ps q t ≡ true) → meets (suc links) ps q n ≡ true
-    by_tracer None e k rest = absurd (true≢false (sym k))
-    by_tracer (Some t) e k rest = rw (h n t e) (at_tracer (t == q) k (rest t))
-      where
-        at_tracer : (b : Bool) → (b || meets links qs q t) ≡ true → (meets links qs q t ≡ true → meets links ps q t ≡ true) → (b || meets links ps q t) ≡ true
-        at_tracer true j r = refl
-        at_tracer false j r = r j
+meets_less ps qs h (suc links) q n is = grind (arith, nat_tests, meets_less ps qs h links q)
 
 -- no ring of tracers is closed by the change of the one list into the other
 abbrev pub NoNewRing : List ProcData → List ProcData → Type 0
@@ -180,14 +173,7 @@ peopled_on row stay live = let some = row.link.peopled live in let more = stay.c
 
 module _ {rows after : Rows} {P P' : ProcData → Type 0} {p q : ProcData} (row : Row rows P p) (like : Like p q) where
   pub kept_row : IfSome (reporting q) (λ tid. names_own after p tid ≡ true) → (is_live p ≡ true → 1 ≤ lwp_count p.pid after) → P' q → KeptRow rows after nobody P' p q
-  kept_row named peopled fits = record {
-    live = λ live on. like.live ∙ live;
-    parent = like.parent;
-    tracer = by_option (LivesOn rows nobody p.uid) like.tracer (If_more (IsLiveOf rows p.uid) (LivesOn rows nobody p.uid) (λ t live. (live, refl)) p.tracer row.link.tracer);
-    named = named;
-    peopled = λ live. peopled (sym like.live ∙ live);
-    fits = fits;
-  }
+  kept_row named peopled fits = search (rules, by_option)
 
   -- where its LWPs stay, and it reports as before, or nothing
   pub kept_all : (reporting q ≡ reporting p) ⊎ (reporting q ≡ None) → Stay rows after p → P' q → KeptRow rows after nobody P' p q
@@ -195,11 +181,7 @@ module _ {rows after : Rows} {P P' : ProcData → Type 0} {p q : ProcData} (row 
 
 module _ {rows after : Rows} {P : ProcData → Type 0} {Q Q' : ProcData → LwpData → Type 0} {p q : ProcData} {l k : LwpData} (b : Beside rows P Q p l) where
   pub kept_waiting : Stay rows after p → k.flags ≡ l.flags → IfSome (waited_for k.mode) (IsLiveChild rows p) → Q' q k → KeptLwp rows after nobody Q' p q k
-  kept_waiting stay flags waits fits = record {
-    exited = λ shown. let two = b.stood.exited (subst (λ x. shows x PL_FLAG_EXITED ≡ true) flags shown) in let more = stay.count in omega (arith, two, more);
-    waits = If_more (IsLiveChild rows p) _ (λ c live. (live, refl)) (waited_for k.mode) waits;
-    fits = fits;
-  }
+  kept_waiting stay flags waits fits = grind (arith, nat_tests)
 
   pub kept_lwp : Stay rows after p → k.flags ≡ l.flags → k.mode ≡ l.mode → Q' q k → KeptLwp rows after nobody Q' p q k
   kept_lwp stay flags mode = kept_waiting stay flags (subst (λ m. IfSome (waited_for m) (IsLiveChild rows p)) (sym mode) b.stood.waits)
@@ -221,30 +203,17 @@ module _ (rows : Rows) (f : ProcData → Option ProcData) (g : ProcData → LwpD
 
   -- an LWP, by its owner
   by_row : (R : Option LwpData → Type 0) (l : LwpData) → R (Some l) → ((p : ProcData) → R (g p l)) → R (by_owner g l (owner rows l))
-  by_row R l alone beside = at_row (owner rows l)
-    where
-      at_row : (o : Option ProcData) → R (by_owner g l o)
-      at_row None = alone
-      at_row (Some p) = beside p
+  by_row R l alone beside = grind (arith, nat_tests)
 
   pub same_lwp : (l : LwpData) → IfSome (by_owner g l (owner rows l)) (λ k. (k.tid ≡ l.tid) × (k.pid ≡ l.pid))
   same_lwp l = by_row (λ o. IfSome o (λ k. (k.tid ≡ l.tid) × (k.pid ≡ l.pid))) l (refl, refl) (λ p. same.lwp p l)
 
   pub one_left : (p : ProcData) → process_of p.pid rows.processes ≡ Some p → (l : LwpData) → l.pid ≡ p.pid → (k : LwpData) → g p l ≡ Some k → (k : LwpData) × (by_owner g l (owner rows l) ≡ Some k) × (k.tid ≡ l.tid) × (k.pid ≡ l.pid)
-  one_left p at l own k is =
-      let n = if_at _ (g p l) k is (same.lwp p l) in
-      (k, ap (by_owner g l) (ap (λ m. process_of m rows.processes) own ∙ at) ∙ is, n.0, n.1)
+  one_left p at l own k is = search (rules, if_at)
 
   -- where the LWPs of a process stay, of each of which R holds
   pub stay_where : (R : LwpData → Type 0) → AllByRecursion R rows.lwps → (p : ProcData) → process_of p.pid rows.processes ≡ Some p → ((l : LwpData) → R l → l.pid ≡ p.pid → (k : LwpData) × (g p l ≡ Some k)) → Stay rows after p
-  stay_where R all p at keeps = record {
-    count = count_kept (λ l. l.pid == p.pid) (λ l. l.pid == p.pid) (λ l. by_owner g l (owner rows l)) R (λ l r is. let k = left l r (eqb-true l.pid p.pid is) in (k.0, k.1, ap (λ n. n == p.pid) k.3 ∙ is)) rows.lwps all;
-    named = λ tid. any_forward (λ l. (l.tid == tid) && (l.pid == p.pid)) (λ l. (l.tid == tid) && (l.pid == p.pid)) R (λ l. by_owner g l (owner rows l))
-        (λ l r is. let k = left l r (eqb-true l.pid p.pid (and_right (l.tid == tid) (l.pid == p.pid) is)) in (k.0, k.1, rw (k.2, k.3) is)) rows.lwps all;
-  }
-    where
-      left : (l : LwpData) → R l → l.pid ≡ p.pid → (k : LwpData) × (by_owner g l (owner rows l) ≡ Some k) × (k.tid ≡ l.tid) × (k.pid ≡ l.pid)
-      left l r own = let k = keeps l r own in one_left p at l own k.0 k.1
+  stay_where R all p at keeps = search (rules, count_kept, eqb-true, any_forward, and_right, one_left)
 
   pub stay : (p : ProcData) → process_of p.pid rows.processes ≡ Some p → ((l : LwpData) → (k : LwpData) × (g p l ≡ Some k)) → Stay rows after p
   stay p at keeps = stay_where (λ l. Unit {0}) (All-any (λ l. Unit {0}) (λ l. tt) rows.lwps) p at (λ l u own. keeps l)
@@ -256,11 +225,7 @@ module _ (rows : Rows) (over : ℕ → Bool) (f : ProcData → Option ProcData) 
 
   -- a live row that isn't over, afterwards
   lasts : (p : ProcData) → Row rows P p → is_live p ≡ true → over p.pid ≡ false → (q : ProcData) × (f p ≡ Some q) × KeptRow rows made over P' p q
-  lasts p row live on = by_row (f p) refl (e.process p row)
-    where
-      by_row : (o : Option ProcData) → f p ≡ o → IfKept rows made over P' p o → (q : ProcData) × (f p ≡ Some q) × KeptRow rows made over P' p q
-      by_row None is kept = absurd (true≢false (sym (kept live) ∙ on))
-      by_row (Some q) is kept = (q, is, kept)
+  lasts p row live on = search (rules, by_row)
 
   pub lives_after : (u n : ℕ) → LivesOn rows over u n → IsLiveOf made u n
   lives_after u n h = any_forward (λ p. (p.pid == n) && (p.uid == u) && is_live p) (λ p. (p.pid == n) && (p.uid == u) && is_live p) (Row rows P) f (λ p row is.

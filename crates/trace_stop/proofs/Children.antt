@@ -1,6 +1,6 @@
 -- The live children of a process, before and after a change.
 use Rattle.std.proofs.lemmas.Bool.Decides.{nat_tests}
-use Rattle.std.proofs.Common.{◌≡◌, ℕ, List, filter_map, Bool, true, ◌==◌, ◌&&◌, Option, Some, sym, ◌∙◌, eq-eqb, arith}
+use Rattle.std.proofs.Common.{◌≡◌, ℕ, List, filter_map, Bool, true, ◌==◌, ◌&&◌, Option, Some, eq-eqb, arith, rules}
 use Rattle.std.specs.List.{AllByRecursion, list_any}
 use Rattle.proc_table.specs.declared.ProcData.{ProcData}
 use Rattle.proc_table.specs.Processes.{is_live}
@@ -39,7 +39,4 @@ pub record Follows (k r : ProcData) : Type 0 where
 pub child_after : (p q : ProcData) (n : ℕ) (f : ProcData → Option ProcData) (P : ProcData → Type 0) → q.pid ≡ p.pid → q.uid ≡ p.uid
     → ((k : ProcData) → P k → Child p n k → (r : ProcData) × (f k ≡ Some r) × Follows k r)
     → (ks : List ProcData) → AllByRecursion P ks → list_any (child_test p n) ks ≡ true → list_any (child_test q n) (filter_map f ks) ≡ true
-child_after p q n f P same_pid same_uid h = any_forward (child_test p n) (child_test q n) P f (λ k fact is.
-    let c = child_from p n k is in
-    let r = h k fact c in
-    (r.0, r.1, child_passes q n r.0 (record { pid = r.2.pid ∙ c.pid; uid = r.2.uid ∙ c.uid ∙ sym same_uid; live = r.2.live; parent = r.2.parent ∙ c.parent ∙ sym same_pid })))
+child_after p q n f P same_pid same_uid h = search (rules, any_forward, child_from, child_passes)

@@ -1,14 +1,14 @@
 -- Resuming, detaching and ending keep rows sound.
-use Rattle.std.proofs.Common.{◌≡◌, inl, inr, ℕ, Bool, true, false, ◌&&◌, if◌then◌else◌, Some, is_some, refl, sym, ◌∙◌, true≢false, subst, eqb-true, eq-eqb}
+use Rattle.std.proofs.lemmas.Bool.Decides.{nat_tests}
+use Rattle.std.proofs.Common.{◌≡◌, inl, inr, ℕ, Bool, true, false, ◌&&◌, if◌then◌else◌, Some, is_some, refl, sym, ◌∙◌, true≢false, subst, eqb-true, eq-eqb, arith, rules}
 use Rattle.std.specs.List.{AllByRecursion}
-use Rattle.signals.specs.Sets.{without, bit}
+use Rattle.signals.specs.Sets.{bit}
 use Rattle.signals.specs.Table.{SIGTRAP}
 use Rattle.lwp_table.specs.declared.LwpData.{LwpData}
 use Rattle.proc_table.specs.declared.ProcData.{ProcData}
 use Rattle.proc_table.specs.Processes.{is_live, traces, reporting, process_of}
 use Rattle.proc_table.specs.Rows.{Rows, is_numbered}
 use Rattle.trace_stop.specs.declared.Settings.{Settings}
-use Rattle.trace_stop.specs.Post.{unwanted}
 use Rattle.trace_stop.specs.Detach.{running, untraced, untraced_lwp, resumed, detached}
 use Rattle.trace_stop.specs.End.{left_alone, end_of, end}
 use Rattle.trace_stop.specs.Sound.{is_end}
@@ -27,21 +27,10 @@ running_shape : Shape running (λ p l. l)
 running_shape = record { pid = λ p. refl; uid = λ p. refl; tracer = λ p. inl refl; parent = λ p. refl; lives = λ p. refl; quiet = λ p. refl; tid = λ p l. refl; own = λ p l. refl; flags = λ p l. refl; mode = λ p l. refl }
 
 running_fits : (p : ProcData) → FitProcess p → FitProcess (running p)
-running_fits p fit = record {
-  stopped = λ is. absurd (true≢false (sym is));
-  job = λ is. absurd (true≢false (sym is));
-  continued = λ on. ((fit.continued on).0, refl);
-  untraced = λ none. let was = fit.untraced none in record { mask = was.mask; pending = was.pending };
-  ended = tt;
-}
+running_fits p fit = grind (arith, nat_tests)
 
 running_fit_lwp : (p : ProcData) (l : LwpData) → Silent l → FitLwp p l → FitLwp (running p) l
-running_fit_lwp p l silent fit = record {
-  untraced = λ none. let was = fit.untraced none in record { due = was.due; stepping = was.stepping; suspended = was.suspended; pending = was.pending };
-  silent = λ off. silent;
-  blocked = fit.blocked;
-  mode = fit.mode;
-}
+running_fit_lwp p l silent fit = grind (arith, nat_tests)
 
 module _ (rows : Rows) (pid : ℕ) (p : ProcData) (s : IsSound rows) (at : process_of pid rows.processes ≡ Some p) (live : is_live p ≡ true) where
   resumed_runs : AllByRecursion (Runs (is_numbered pid) running (λ q l. l)) rows.processes
@@ -70,21 +59,10 @@ module _ (chosen : ProcData → Bool) (lost : ProcData → ℕ) where
   free_shape = record { pid = λ p. refl; uid = λ p. refl; tracer = λ p. inr refl; parent = λ p. refl; lives = λ p. refl; quiet = λ p. refl; tid = λ p l. refl; own = λ p l. refl; flags = λ p l. refl; mode = λ p l. refl }
 
   free_fits : (p : ProcData) → FitProcess (free p)
-  free_fits p = record {
-    stopped = λ is. absurd (true≢false (sym is));
-    job = λ is. absurd (true≢false (sym is));
-    continued = λ on. (refl, refl);
-    untraced = λ none. record { mask = refl; pending = without_apart (without p.pending (lost p)) (unwanted (free p)) };
-    ended = tt;
-  }
+  free_fits p = search (rules, without_apart)
 
   free_fit_lwp : (p : ProcData) (l : LwpData) → Silent l → FitLwp p l → FitLwp (free p) (free_lwp p l)
-  free_fit_lwp p l silent fit = record {
-    untraced = λ none. record { due = refl; stepping = refl; suspended = refl; pending = without_apart (without l.pending (lost p)) (unwanted (free p)) };
-    silent = λ off. record { flags = silent.flags; child = silent.child; code = silent.code };
-    blocked = fit.blocked;
-    mode = fit.mode;
-  }
+  free_fit_lwp p l silent fit = search (rules, without_apart)
 
   pub detached_sound : (rows : Rows) → IsSound rows → AllByRecursion (λ p. chosen p ≡ true → is_live p ≡ true) rows.processes → IsSound (detached chosen lost rows)
   detached_sound rows s live = run_on_sound rows chosen free free_lwp s free_shape (All-imply (λ p. chosen p ≡ true → is_live p ≡ true) (Runs chosen free free_lwp) (λ p h. record { live = h; fits = λ c fit. free_fits p; fit_lwp = λ c l silent fit. free_fit_lwp p l silent fit }) rows.processes live)

@@ -1,12 +1,13 @@
 -- Lists whose elements are each changed, or taken out.
-use Rattle.std.proofs.Common.{◌≡◌, ℕ, ◌+◌, ◌≤◌, List, [], ◌∷◌, find, filter_map, Bool, true, false, cond, ◌||◌, ◌==◌, Option, Some, None, IfSome, refl, sym, ap, ◌∙◌, arith, subst, eqb-true, true≢false}
+use Rattle.std.proofs.lemmas.Bool.Decides.{nat_tests}
+use Rattle.std.proofs.Common.{◌≡◌, ℕ, ◌+◌, ◌≤◌, List, [], ◌∷◌, find, filter_map, Bool, true, false, ◌==◌, Option, Some, None, IfSome, refl, sym, ap, ◌∙◌, arith, subst, eqb-true, true≢false, rules}
 use Rattle.std.specs.Prelude.{count_by}
 use Rattle.std.specs.List.{AllByRecursion, list_any, cons_option}
 use Rattle.lwp_table.specs.declared.LwpData.{LwpData}
 use Rattle.lwp_table.specs.Lwps.{Differ, LacksLwp}
 use Rattle.proc_table.specs.declared.ProcData.{ProcData}
 use Rattle.proc_table.specs.Rows.{Rows}
-use Rattle.trace_stop.proofs.Every.{or_true, by_bool, count-cons, All-imply, All-any, any_more, count_more}
+use Rattle.trace_stop.proofs.Every.{by_bool, count-cons, All-imply, All-any, any_more, count_more}
 use Rattle.trace_stop.proofs.Passes.{passes, any_edited, count_edited}
 
 abbrev pub edited : (ProcData → Option ProcData) → (LwpData → Option LwpData) → Rows → Rows
@@ -42,21 +43,11 @@ count_edit q t f h xs = let same = count_edited f q xs in let less = count_more 
 
 pub find_edit : {X : Type 0} (q : X → Bool) (f : X → Option X) → ((x : X) → IfSome (f x) (λ y. q y ≡ q x)) → (xs : List X) → (x y : X) → find q xs ≡ Some x → f x ≡ Some y → find q (filter_map f xs) ≡ Some y
 find_edit q f h [] x y is to = absurd (grind (arith, is))
-find_edit {X} q f h (z ∷ xs) x y is to = at_head (q z) (f z) refl refl (h z) is (find_edit q f h xs x y)
-  where
-    at_head : (b : Bool) (o : Option X) → q z ≡ b → f z ≡ o → IfSome o (λ w. q w ≡ q z) → cond b (Some z) (find q xs) ≡ Some x → (find q xs ≡ Some x → f x ≡ Some y → find q (filter_map f xs) ≡ Some y) → find q (cons_option o (filter_map f xs)) ≡ Some y
-    at_head true None here fz k g rest = absurd (grind (arith, g, to, fz))
-    at_head true (Some w) here fz k g rest = rw (k ∙ here) (sym fz ∙ ap f (some_is z x g) ∙ to)
-    at_head false None here fz k g rest = rest g to
-    at_head false (Some w) here fz k g rest = rw (k ∙ here) (rest g to)
+find_edit {X} q f h (z ∷ xs) x y is to = search (rules, find_edit q f h xs x y, find, some_is)
 
 lacks_edit : (h : LwpData → Option LwpData) → ((l : LwpData) → IfSome (h l) (λ k. k.tid ≡ l.tid)) → (n : ℕ) (ls : List LwpData) → LacksLwp n ls → LacksLwp n (filter_map h ls)
 lacks_edit h g n [] all = tt
-lacks_edit h g n (l ∷ ls) all = by_row (h l) (g l) (lacks_edit h g n ls all.1)
-  where
-    by_row : (o : Option LwpData) → IfSome o (λ k. k.tid ≡ l.tid) → LacksLwp n (filter_map h ls) → LacksLwp n (cons_option o (filter_map h ls))
-    by_row None e rest = rest
-    by_row (Some k) e rest = (λ same. all.0 (sym e ∙ same), rest)
+lacks_edit h g n (l ∷ ls) all = grind (arith, nat_tests, lacks_edit h g n ls all.1)
 
 pub Differ-edit : (h : LwpData → Option LwpData) → ((l : LwpData) → IfSome (h l) (λ k. k.tid ≡ l.tid)) → (ls : List LwpData) → Differ ls → Differ (filter_map h ls)
 Differ-edit h g [] all = tt
@@ -78,25 +69,4 @@ lacks n (l ∷ ls) all = (by_bool (l.tid == n) (λ e. all.0 (eqb-true l.tid n e)
 -- of the LWPs counted only the one numbered n may go
 pub one_gone : (t : LwpData → Bool) (n : ℕ) (h : LwpData → Option LwpData) → ((l : LwpData) → (l.tid == n) ≡ false → t l ≡ true → (k : LwpData) × (h l ≡ Some k) × (t k ≡ true)) → (ls : List LwpData) → Differ ls → count_by t ls ≤ count_by t (filter_map h ls) + 1
 one_gone t n h keep [] all = omega arith
-one_gone t n h keep (l ∷ ls) all = by_head (l.tid == n) refl (one_gone t n h keep ls all.1)
-  where
-    every : count_by t (l ∷ ls) ≡ cond (t l) 1 0 + count_by t ls
-    every = count-cons t l ls
-
-    most : (b : Bool) → cond {A = ℕ} b 1 0 ≤ 1
-    most true = omega arith
-    most false = omega arith
-
-    left : count_by t (filter_map h (l ∷ ls)) ≡ cond (passes t (h l)) 1 0 + count_by t (filter_map h ls)
-    left = let all = count_edited h t (l ∷ ls) in let rest = count_edited h t ls in let head = count-cons (λ k. passes t (h k)) l ls in omega (arith, all, rest, head)
-
-    by_head : (b : Bool) → (l.tid == n) ≡ b → count_by t ls ≤ count_by t (filter_map h ls) + 1 → count_by t (l ∷ ls) ≤ count_by t (filter_map h (l ∷ ls)) + 1
-    by_head false e rest = by_test (t l) refl
-      where
-        by_test : (b : Bool) → t l ≡ b → count_by t (l ∷ ls) ≤ count_by t (filter_map h (l ∷ ls)) + 1
-        by_test false is = let none : cond {A = ℕ} (t l) 1 0 ≡ 0 = rw is refl in omega (arith, every, left, none, rest)
-        by_test true is = let k = keep l e is in let one : cond {A = ℕ} (t l) 1 0 ≡ 1 = rw is refl in let stays : cond {A = ℕ} (passes t (h l)) 1 0 ≡ 1 = rw (ap (passes t) k.1 ∙ k.2) refl in omega (arith, every, left, one, stays, rest)
-    by_head true e rest =
-        let kept = count_kept t t h (λ k. (k.tid == n) ≡ false) keep ls (lacks n ls (subst (λ m. LacksLwp m ls) (eqb-true l.tid n e) all.0)) in
-        let one = most (t l) in
-        omega (arith, every, left, one, kept)
+one_gone t n h keep (l ∷ ls) all = grind (arith, nat_tests, one_gone t n h keep ls all.1, count-cons, passes, count_edited, count_kept, lacks, eqb-true)

@@ -1,6 +1,6 @@
 -- Ends keep rows sound, where no live process is left whose tracer ends.
 use Rattle.std.proofs.lemmas.Bool.Decides.{nat_tests}
-use Rattle.std.proofs.Common.{◌≡◌, ◌≢◌, ℕ, Bool, true, false, ◌==◌, ◌&&◌, ◌||◌, not, if◌then◌else◌, filter_map, option_map, Option, Some, None, IfSome, is_some, unwrap_or, refl, sym, ap, ◌∙◌, true≢false, subst, arith, bit_and}
+use Rattle.std.proofs.Common.{◌≡◌, ◌≢◌, ℕ, Bool, true, false, ◌==◌, ◌&&◌, ◌||◌, not, if◌then◌else◌, filter_map, option_map, Option, Some, None, IfSome, is_some, unwrap_or, refl, sym, ap, ◌∙◌, true≢false, subst, arith, bit_and, rules}
 use Rattle.std.specs.List.{AllByRecursion}
 use Rattle.event_masks.specs.Exits.{shows, asks}
 use Rattle.event_masks.specs.declared.TheConstants.StopFlags.{PL_FLAG_EXITED}
@@ -89,8 +89,7 @@ module _ (rows : Rows) (ends : ProcData → Bool) (over : ℕ → Bool) (p statu
   by_case R q ended lives zombie = grind (arith, nat_tests)
 
   same_row : (q : ProcData) → IfSome (to q) (λ r. (r.pid ≡ q.pid) × (r.uid ≡ q.uid))
-  same_row q = by_case (λ o. IfSome o (λ r. (r.pid ≡ q.pid) × (r.uid ≡ q.uid))) q (λ e. if_left (dead (last q) (orphaned over q)) (λ o. IfSome o (λ r. (r.pid ≡ q.pid) × (r.uid ≡ q.uid))) tt (λ left. (refl, refl))) (λ e live. (refl, refl))
-      (λ e dead. if_left (orphaned over q) (λ o. IfSome o (λ r. (r.pid ≡ q.pid) × (r.uid ≡ q.uid))) tt (λ left. (refl, refl)))
+  same_row q = search (rules, by_case, if_left)
 
   same_lwp : (q : ProcData) (l : LwpData) → IfSome (to_lwp q l) (λ k. (k.tid ≡ l.tid) × (k.pid ≡ l.pid))
   same_lwp q l = choose (ends q) None (Some (released over q l)) (λ o. IfSome o (λ k. (k.tid ≡ l.tid) × (k.pid ≡ l.pid))) (λ e. tt) (λ e. released_same over q l)
@@ -112,11 +111,7 @@ module _ (rows : Rows) (ends : ProcData → Bool) (over : ℕ → Bool) (p statu
   -- links after the end
   unless_at : (o : Option ℕ) (t : ℕ) → unless over o ≡ Some t → (o ≡ Some t) × (over t ≡ false)
   unless_at None t is = absurd (grind (arith, is))
-  unless_at (Some n) t is = by_over (over n) refl is
-    where
-      by_over : (b : Bool) → over n ≡ b → (if b then None else Some n) ≡ Some t → (Some n ≡ Some t) × (over t ≡ false)
-      by_over true e h = absurd (grind (arith, h))
-      by_over false e h = (h, subst (λ m. over m ≡ false) (some_is n t h) e)
+  unless_at (Some n) t is = search (rules, some_is)
 
   tracer_left : (u : ℕ) (o : Option ℕ) → IfSome o (IsLiveOf rows u) → IfSome (unless over o) (LivesOn rows over u)
   tracer_left u None live = tt

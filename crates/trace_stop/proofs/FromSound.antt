@@ -1,15 +1,12 @@
 -- The test of soundness, and soundness as facts: each gives the other.
 use Rattle.std.proofs.lemmas.Bool.Decides.{nat_tests}
-use Rattle.std.proofs.Common.{◌≡◌, ℕ, zero, suc, ◌+◌, ◌<◌, ◌≤◌, List, [], ◌∷◌, length, map, zip, Bool, true, false, ◌==◌, ◌&&◌, ◌||◌, not, leb, ltb, Option, Some, None, is_some, is_none, IfSome, refl, sym, ap, ◌∙◌, arith, eqb, true≢false, eqb-true, subst, eq-eqb, get_or}
+use Rattle.std.proofs.Common.{◌≡◌, ℕ, zero, suc, ◌+◌, ◌<◌, ◌≤◌, List, [], ◌∷◌, length, map, zip, Bool, true, false, ◌==◌, ◌&&◌, ◌||◌, not, leb, ltb, Option, Some, None, is_some, is_none, IfSome, refl, sym, ap, arith, eqb, true≢false, eqb-true, subst, eq-eqb, get_or, rules}
 use Rattle.std.specs.Int.RustNames.{bit_and}
 use Rattle.std.specs.List.{AllByRecursion, list_any, list_all}
 use Rattle.std.proofs.lemmas.Bool.{le-leb, leb-true}
 use Rattle.pid_blocks.specs.Users.{IsUser}
 use Rattle.pid_blocks.specs.declared.Block.{Block}
 use Rattle.pid_blocks.specs.Blocks.{pid_block, tid_block, in_block, InBlock, slot, users, rising}
-use Rattle.signals.specs.Table.{unmaskable_set}
-use Rattle.event_masks.specs.Exits.{shows}
-use Rattle.event_masks.specs.declared.TheConstants.StopFlags.{PL_FLAG_EXITED}
 use Rattle.lwp_table.specs.declared.LwpData.{LwpData}
 use Rattle.lwp_table.specs.declared.Mode.{Mode}
 use Rattle.lwp_table.specs.declared.Mode.TheVariants.{User, InCall, VforkWait}
@@ -17,13 +14,13 @@ use Rattle.lwp_table.specs.Lwps.{Differ, LacksLwp}
 use Rattle.proc_table.specs.declared.ProcData.{ProcData}
 use Rattle.proc_table.specs.declared.State.{State}
 use Rattle.proc_table.specs.declared.State.TheVariants.{Run, Trace, Job, Zombie}
-use Rattle.proc_table.specs.Processes.{is_live, is_run, is_job, reporting, is_this, process_of}
+use Rattle.proc_table.specs.Processes.{is_live, is_run, is_job, reporting, process_of}
 use Rattle.proc_table.specs.Rows.{Rows}
 use Rattle.proc_table.specs.Fresh.{process_count, lwp_count_of, lwp_count}
 use Rattle.proc_table.specs.Kept.{Rise, AllAbove, AtHome, Housed}
 use Rattle.trace_stop.specs.Post.{unwanted}
 use Rattle.trace_stop.specs.End.{meets}
-use Rattle.trace_stop.specs.Sound.{rises, differ, implies, holds, exists, of_owner, is_live_of, sound_numbers, sound_limits, sound_links, sound_owners, names_own, is_state, sound_states, is_due, waits_for, mode_fits, sound_lwp, sound_lwps, sound_rows}
+use Rattle.trace_stop.specs.Sound.{rises, differ, implies, holds, exists, of_owner, is_live_of, sound_numbers, sound_limits, sound_links, sound_owners, names_own, is_state, sound_states, waits_for, sound_lwp, sound_lwps, sound_rows}
 use Rattle.trace_stop.specs.Facts.{IsLiveChild, Linked, IfEnded, FitProcess, waited_for, Standing, FitLwp, WithOwner, Stands, IsSound}
 use Rattle.trace_stop.proofs.Every.{and_left, and_right, both, implies_at, implies_from, not_true, by_bool, All-from_list_all, list_all-from_All, All-imply, All-both}
 
@@ -153,10 +150,7 @@ housed_test rows l home = subst (λ o. exists (λ q. in_block (tid_block q.uid) 
 -- homes
 
 home_from : (p : ProcData) → (list_any (λ u. u == p.uid) users && in_block (pid_block p.uid) p.pid) ≡ true → AtHome p
-home_from p is = record {
-  user = is_user p.uid (and_left (list_any (λ u. u == p.uid) users) (in_block (pid_block p.uid) p.pid) is);
-  block = block_in (pid_block p.uid) p.pid (and_right (list_any (λ u. u == p.uid) users) (in_block (pid_block p.uid) p.pid) is);
-}
+home_from p is = search (rules, is_user, and_left, block_in, and_right)
 
 home_test : (p : ProcData) → AtHome p → (list_any (λ u. u == p.uid) users && in_block (pid_block p.uid) p.pid) ≡ true
 home_test p h = both (list_any (λ u. u == p.uid) users) (in_block (pid_block p.uid) p.pid) (user_listed p.uid h.user) (in_block-from (pid_block p.uid) p.pid h.block)
@@ -185,12 +179,7 @@ ended_from : (p : ProcData) (s : State) → is_state p s ≡ true → IfEnded p 
 ended_from p Run is = tt
 ended_from p (Trace tid sig told) is = tt
 ended_from p (Job sig told) is = tt
-ended_from p (Zombie w) is = record {
-  word = and_left _ _ (and_left _ _ (and_left _ _ is));
-  mask = eqb-true p.mask.0 0 (and_right _ _ (and_left _ _ (and_left _ _ is)));
-  pending = eqb-true p.pending 0 (and_right _ _ (and_left _ _ is));
-  collector = λ untraced same. true≢false (sym (subst (λ o. (is_some o || not (p.parent == 1)) ≡ true) untraced (and_right _ _ is)) ∙ ap not (eq-eqb p.parent 1 same));
-}
+ended_from p (Zombie w) is = search (rules, and_left, eqb-true, and_right, is_some, eq-eqb)
 
 ended_test : (p : ProcData) (s : State) → IfEnded p s → is_state p s ≡ true
 ended_test p Run e = refl
@@ -223,36 +212,13 @@ waits_test rows p (InCall call) w = refl
 waits_test rows p (VforkWait c) w = w
 
 standing_from : (rows : Rows) (p : ProcData) (l : LwpData) → is_live p ≡ true → sound_lwp rows p l ≡ true → Standing rows p l
-standing_from rows p l live is = record {
-  live = live;
-  exited = λ shown. leb-true 2 (lwp_count p.pid rows) (implies_at (shows l.flags PL_FLAG_EXITED) _ (and_right _ _ (and_left _ _ (and_left _ _ is))) shown);
-  waits = waits_from rows p l.mode (and_right _ _ is);
-}
+standing_from rows p l live is = search (rules, leb-true, implies_at, and_right, and_left, waits_from)
 
 fit_lwp_from : (rows : Rows) (p : ProcData) (l : LwpData) → sound_lwp rows p l ≡ true → FitLwp p l
-fit_lwp_from rows p l is = record {
-  untraced = λ none. let h = implies_at (is_none p.tracer) _ (and_right _ _ (and_left _ _ (and_left _ _ (and_left _ _ (and_left _ _ is))))) (none_test p.tracer none) in record {
-    due = not_true (is_due l.due) (and_left _ _ (and_left _ _ (and_left _ _ h)));
-    stepping = not_true l.stepping (and_right _ _ (and_left _ _ (and_left _ _ h)));
-    suspended = not_true l.suspended (and_right _ _ (and_left _ _ h));
-    pending = eqb-true (bit_and l.pending (unwanted p)) 0 (and_right _ _ h);
-  };
-  silent = λ other. let h = implies_at (not (is_this l.tid (reporting p))) _ (and_right _ _ (and_left _ _ (and_left _ _ (and_left _ _ is)))) (ap not other) in record {
-    flags = eqb-true l.flags.0 0 (and_left _ _ (and_left _ _ h));
-    child = eqb-true l.child 0 (and_right _ _ (and_left _ _ h));
-    code = eqb-true l.code 0 (and_right _ _ h);
-  };
-  blocked = eqb-true (bit_and l.blocked unmaskable_set) 0 (and_right _ _ (and_left _ _ is));
-  mode = and_left (mode_fits l.mode) _ (and_left _ _ (and_left _ _ (and_left _ _ (and_left _ _ is))));
-}
+fit_lwp_from rows p l is = search (rules, implies_at, is_none, and_right, and_left, none_test, not_true, eqb-true)
 
 lwp_test : (rows : Rows) (p : ProcData) (l : LwpData) → Standing rows p l → FitLwp p l → sound_lwp rows p l ≡ true
-lwp_test rows p l s f = both _ _ (both _ _ (both _ _ (both _ _ (both (mode_fits l.mode) _ f.mode
-    (implies_from (is_none p.tracer) _ (λ none. let h = f.untraced (none_is p.tracer none) in both _ _ (both _ _ (both _ _ (ap not h.due) (ap not h.stepping)) (ap not h.suspended)) (eq-eqb (bit_and l.pending (unwanted p)) 0 h.pending))))
-    (implies_from (not (is_this l.tid (reporting p))) _ (λ other. let h = f.silent (not_true _ other) in both _ _ (both _ _ (eq-eqb l.flags.0 0 h.flags) (eq-eqb l.child 0 h.child)) (eq-eqb l.code 0 h.code))))
-    (implies_from (shows l.flags PL_FLAG_EXITED) _ (λ shown. le-leb 2 (lwp_count p.pid rows) (s.exited shown))))
-    (eq-eqb (bit_and l.blocked unmaskable_set) 0 f.blocked))
-    (waits_test rows p l.mode s.waits)
+lwp_test rows p l s f = search (rules, both, implies_from, is_none, none_is, eq-eqb, not_true, le-leb, waits_test)
 
 -- all rows
 

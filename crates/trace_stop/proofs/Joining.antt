@@ -1,6 +1,6 @@
 -- A process with one more LWP keeps rows sound.
 use Rattle.std.proofs.lemmas.Bool.Decides.{nat_tests}
-use Rattle.std.proofs.Common.{◌≡◌, ℕ, ◌+◌, ◌<◌, ◌≤◌, [], ◌∷◌, Bool, true, false, cond, ◌==◌, ◌&&◌, Some, None, refl, sym, ap, ◌∙◌, true≢false, subst, arith, eqb-true, length-set}
+use Rattle.std.proofs.Common.{◌≡◌, ℕ, ◌+◌, ◌<◌, ◌≤◌, [], ◌∷◌, Bool, true, false, cond, ◌==◌, ◌&&◌, Some, None, refl, sym, ap, ◌∙◌, true≢false, subst, arith, eqb-true, length-set, rules}
 use Rattle.std.specs.List.{list_any}
 use Rattle.pid_blocks.specs.Users.{IsUser}
 use Rattle.pid_blocks.specs.Blocks.{slot, tid_block, InBlock, cursor_after}
@@ -8,15 +8,14 @@ use Rattle.event_masks.specs.Exits.{shows}
 use Rattle.event_masks.specs.declared.TheConstants.StopFlags.{PL_FLAG_EXITED}
 use Rattle.lwp_table.specs.declared.LwpData.{LwpData}
 use Rattle.proc_table.specs.declared.ProcData.{ProcData}
-use Rattle.proc_table.specs.Processes.{is_live, reporting, process_of}
+use Rattle.proc_table.specs.Processes.{is_live, process_of}
 use Rattle.proc_table.specs.Rows.{Rows}
 use Rattle.proc_table.specs.Seen.{owns}
 use Rattle.proc_table.specs.Fresh.{is_lwp, add_lwp, lwp_count_of}
 use Rattle.proc_table.specs.Kept.{AtHome, Housed}
-use Rattle.trace_stop.specs.Sound.{names_own}
 use Rattle.trace_stop.specs.Facts.{Linked, waited_for, Standing, FitLwp, WithOwner, IsSound}
 use Rattle.trace_stop.proofs.Every.{by_bool, All-imply, All-append, find_some}
-use Rattle.trace_stop.proofs.Edited.{If_more, some_is}
+use Rattle.trace_stop.proofs.Edited.{some_is}
 use Rattle.proc_table.proofs.Cursors.{InBlock-after, cursors-set}
 use Rattle.trace_stop.proofs.Born.{differ_new, count_last, count_more, any_last, cond_at_most}
 use Rattle.trace_stop.proofs.Numbers.{one_row}
@@ -44,14 +43,7 @@ module _ (rows : Rows) (p : ProcData) (l : LwpData) (s : IsSound rows) (j : Join
   user = (find_some (λ q. q.pid == p.pid) AtHome rows.processes s.stands.homes p j.home).0.user
 
   linked_on : (q : ProcData) → Linked rows q → Linked made q
-  linked_on q link = record {
-    tracer = link.tracer;
-    parent = link.parent;
-    other = link.other;
-    chain = link.chain;
-    named = If_more (λ tid. names_own rows q tid ≡ true) (λ tid. names_own made q tid ≡ true) (λ tid is. any_last (λ k. (k.tid == tid) && (k.pid == q.pid)) rows.lwps l is) (reporting q) link.named;
-    peopled = λ live. let some = link.peopled live in let more = count_more (λ k. k.pid == q.pid) rows.lwps l in omega (arith, some, more);
-  }
+  linked_on q link = search (rules, any_last, count_more)
 
   standing_on : (k : LwpData) → WithOwner rows (Standing rows) k → WithOwner made (Standing made) k
   standing_on k h q at = let was = h q at in record {

@@ -1,22 +1,18 @@
 -- The end of a process keeps rows sound.
-use Rattle.std.proofs.Common.{◌≡◌, ℕ, suc, Bool, true, false, ◌==◌, ◌&&◌, ◌||◌, List, Option, Some, None, IfSome, refl, sym, ap, ◌∙◌, true≢false, subst, arith, eqb-true, eq-eqb}
-use Rattle.std.specs.List.{AllByRecursion, list_any}
+use Rattle.std.proofs.Common.{◌≡◌, ℕ, suc, Bool, true, false, ◌==◌, ◌&&◌, ◌||◌, List, Option, Some, None, IfSome, refl, sym, ap, ◌∙◌, true≢false, subst, arith, eqb-true, eq-eqb, rules}
+use Rattle.std.specs.List.{AllByRecursion}
 use Rattle.proc_table.specs.declared.ProcData.{ProcData}
 use Rattle.proc_table.specs.Processes.{is_live, traces, is_this, process_of}
 use Rattle.proc_table.specs.Rows.{Rows}
-use Rattle.proc_table.specs.Kept.{AtHome}
 use Rattle.trace_stop.specs.declared.Settings.{Settings}
 use Rattle.trace_stop.specs.End.{tracer_in, tracer_of, meets, is_doomed, dooms, end_of, left_alone, end}
 use Rattle.trace_stop.specs.Sound.{is_end}
-use Rattle.trace_stop.specs.Facts.{Linked, IsSound, IsLiveOf, FitProcess, Stands}
-use Rattle.trace_stop.proofs.Every.{and_left, and_right, both, by_bool, or_true, or_left, All-imply, All-both, any_holds, find_some, any_more}
-use Rattle.trace_stop.proofs.Numbers.{one_row, the_row}
+use Rattle.trace_stop.specs.Facts.{IsSound, FitProcess}
+use Rattle.trace_stop.proofs.Every.{and_left, and_right, both, by_bool, or_true, or_left, All-imply, All-both, any_holds}
 use Rattle.trace_stop.proofs.Stops.{find_passes}
 use Rattle.trace_stop.proofs.Ending.{Ends, end_each_sound}
-use Rattle.trace_stop.proofs.Passes.{own_rows}
 use Rattle.trace_stop.proofs.Chains.{meets-more, chains_meet}
-use Rattle.proc_table.specs.Seen.{owns}
-use Rattle.trace_stop.proofs.Changed.{Row, holds_sound, row_is, all_rows, found_number}
+use Rattle.trace_stop.proofs.Changed.{Row, holds_sound, row_is, all_rows}
 
 meets_step : (ps : List ProcData) (links p n t : ℕ) → tracer_of ps n ≡ Some t → ((t == p) || meets links ps p t) ≡ true → meets (suc links) ps p n ≡ true
 unfolding meets
@@ -50,9 +46,7 @@ module _ (settings : Settings) (rows : Rows) (p : ProcData) (s : IsSound rows) (
       (λ e. find_passes (λ r. r.pid == q.pid) (λ r. (r.pid == q.pid) && ends r) rows.processes q k.at (both (q.pid == q.pid) (ends q) (eq-eqb q.pid q.pid refl) e))
 
   ends_live : (q : ProcData) → Known q → ends q ≡ true → is_live q ≡ true
-  ends_live q k e = or_cases (q.pid == p.pid) (settings.kill_on_debugger_exit && is_live q && meets 250 rows.processes p.pid q.pid) (is_live q ≡ true) e
-      (λ same. subst (λ r. is_live r ≡ true) (sym (row_is k at (eqb-true q.pid p.pid same))) live)
-      (λ doomed. and_right settings.kill_on_debugger_exit (is_live q) (and_left (settings.kill_on_debugger_exit && is_live q) (meets 250 rows.processes p.pid q.pid) doomed))
+  ends_live q k e = search (rules, or_cases, row_is, eqb-true, and_right, and_left)
 
   -- where debuggers kill, a chain of tracers is doomed whole
   killed : settings.kill_on_debugger_exit ≡ true → (q : ProcData) → Known q → is_live q ≡ true → ends q ≡ false → IfSome q.tracer (λ t. over t ≡ false)

@@ -1,5 +1,5 @@
 -- Lists edited twice, and what is found after an edit.
-use Rattle.std.proofs.Common.{◌≡◌, ℕ, ◌+◌, ◌<◌, List, [], ◌∷◌, filter_map, find, Bool, true, false, cond, ◌||◌, ◌==◌, Option, Some, None, IfSome, refl, sym, ap, ◌∙◌, arith, eqb, eqb-true, eq-eqb}
+use Rattle.std.proofs.Common.{◌≡◌, ℕ, ◌+◌, ◌<◌, List, [], ◌∷◌, filter_map, find, Bool, true, false, cond, ◌||◌, ◌==◌, Option, Some, None, IfSome, refl, sym, ap, ◌∙◌, arith, eqb, eqb-true, eq-eqb, rules}
 use Rattle.std.specs.Prelude.{count_by}
 use Rattle.std.specs.Option.{option_and_then}
 use Rattle.std.specs.List.{AllByRecursion, list_any, cons_option}
@@ -60,22 +60,11 @@ above_edited f keeps n (p ∷ ps) above = grind (arith, nat_tests, above_edited 
 
 pub rise_edited : (f : ProcData → Option ProcData) → KeepsNumbers f → (ps : List ProcData) → Rise ps → Rise (filter_map f ps)
 rise_edited f keeps [] rise = tt
-rise_edited f keeps (p ∷ ps) rise = at_head (f p) (keeps p) (above_edited f keeps p.pid ps rise.0) (rise_edited f keeps ps rise.1)
-  where
-    at_head : (o : Option ProcData) → IfSome o (λ q. q.pid ≡ p.pid) → AllAbove p.pid (filter_map f ps) → Rise (filter_map f ps) → Rise (cons_option o (filter_map f ps))
-    at_head None same above rest = rest
-    at_head (Some q) same above rest = (rw same above, rest)
+rise_edited f keeps (p ∷ ps) rise = search (rules, rise_edited f keeps ps rise.1, above_edited)
 
 pub process_edited : (f : ProcData → Option ProcData) → KeepsNumbers f → (n : ℕ) (ps : List ProcData) → Rise ps → process_of n (filter_map f ps) ≡ option_and_then f (process_of n ps)
 process_edited f keeps n [] rise = refl
-process_edited f keeps n (p ∷ ps) rise = at_head (f p) refl (keeps p) (eqb p.pid n) refl (process_edited f keeps n ps rise.1)
-  where
-    at_head : (o : Option ProcData) → f p ≡ o → IfSome o (λ q. q.pid ≡ p.pid) → (b : Bool) → eqb p.pid n ≡ b → process_of n (filter_map f ps) ≡ option_and_then f (process_of n ps)
-        → process_of n (cons_option o (filter_map f ps)) ≡ option_and_then f (cond b (Some p) (process_of n ps))
-    at_head None is same true here rest = rw (eqb-true p.pid n here) at (above_none p.pid (filter_map f ps) (above_edited f keeps p.pid ps rise.0)) ∙ sym is
-    at_head None is same false here rest = rest
-    at_head (Some q) is same true here rest = let hit : eqb q.pid n ≡ true = ap (λ m. eqb m n) same ∙ here in rw hit (sym is)
-    at_head (Some q) is same false here rest = let miss : eqb q.pid n ≡ false = ap (λ m. eqb m n) same ∙ here in rw miss rest
+process_edited f keeps n (p ∷ ps) rise = search (rules, process_edited f keeps n ps rise.1, eqb, eqb-true, above_none, above_edited)
 
 all_above : (n : ℕ) (ps : List ProcData) → AllAbove n ps → AllByRecursion (λ q. n < q.pid) ps
 all_above n [] above = tt
@@ -115,29 +104,7 @@ KeepsOwners lwp = (p : ProcData) (l : LwpData) → IfSome (lwp p l) (λ k. k.pid
 -- one edit after another
 pub each_twice : (f g : ProcData → Option ProcData) (lwp lwp' : ProcData → LwpData → Option LwpData) (rows : Rows) → Rise rows.processes → KeepsNumbers f → KeepsOwners lwp
     → each g lwp' (each f lwp rows) ≡ each (λ p. option_and_then g (f p)) (λ p l. option_and_then (λ k. by_owner lwp' k (f p)) (lwp p l)) rows
-each_twice f g lwp lwp' rows rise keeps owners =
-    ap (λ (ps : List ProcData). record rows { processes = ps; lwps = filter_map (λ k. by_owner lwp' k (process_of k.pid after)) (filter_map (λ l. by_owner lwp l (process_of l.pid rows.processes)) rows.lwps) })
-    (filter_map_twice f g rows.processes)
-    ∙ ap (λ (ls : List LwpData). record rows { processes = filter_map (λ p. option_and_then g (f p)) rows.processes; lwps = ls })
-    (filter_map_twice (λ l. by_owner lwp l (process_of l.pid rows.processes)) (λ k. by_owner lwp' k (process_of k.pid after)) rows.lwps ∙ filter_map_same _ _ rows.lwps (every rows.lwps))
-  where
-    after : List ProcData
-    after = filter_map f rows.processes
-
-    at_lwp : (l : LwpData) (p : ProcData) (o : Option LwpData) → IfSome o (λ k. k.pid ≡ l.pid) → process_of l.pid after ≡ f p
-        → option_and_then (λ k. by_owner lwp' k (process_of k.pid after)) o ≡ option_and_then (λ k. by_owner lwp' k (f p)) o
-    at_lwp l p None same found = refl
-    at_lwp l p (Some k) same found = ap (by_owner lwp' k) (ap (λ n. process_of n after) same ∙ found)
-
-    at_owner : (l : LwpData) (o : Option ProcData) → process_of l.pid after ≡ option_and_then f o
-        → option_and_then (λ k. by_owner lwp' k (process_of k.pid after)) (by_owner lwp l o) ≡ by_owner (λ p j. option_and_then (λ k. by_owner lwp' k (f p)) (lwp p j)) l o
-    at_owner l None found = ap (by_owner lwp' l) found
-    at_owner l (Some p) found = at_lwp l p (lwp p l) (owners p l) found
-
-    every : (ls : List LwpData) → AllByRecursion (λ l. option_and_then (λ k. by_owner lwp' k (process_of k.pid after)) (by_owner lwp l (process_of l.pid rows.processes))
-        ≡ by_owner (λ p j. option_and_then (λ k. by_owner lwp' k (f p)) (lwp p j)) l (process_of l.pid rows.processes)) ls
-    every [] = tt
-    every (l ∷ ls) = (at_owner l (process_of l.pid rows.processes) (process_edited f keeps l.pid rows.processes rise), every ls)
+each_twice f g lwp lwp' rows rise keeps owners = search (rules, filter_map_twice, filter_map_same, process_edited)
 
 -- edits that agree on the rows, and on the LWPs of live ones, which are all LWPs
 pub each_agree : (f g : ProcData → Option ProcData) (lwp lwp' : ProcData → LwpData → Option LwpData) (rows : Rows)

@@ -1,6 +1,6 @@
 -- A new process at its place among the others.
 use Rattle.std.proofs.lemmas.Bool.Decides.{nat_tests}
-use Rattle.std.proofs.Common.{◌≡◌, ◌≢◌, ℕ, zero, suc, ◌+◌, ◌<◌, List, [], ◌∷◌, ◌++◌, filter, find, Bool, true, false, cond, ◌==◌, ◌||◌, ltb, Option, Some, None, IfSome, refl, sym, ap, ◌∙◌, arith, eqb-true, eq-eqb, lt-ltb, inl, inr}
+use Rattle.std.proofs.Common.{◌≡◌, ◌≢◌, ℕ, zero, suc, ◌+◌, ◌<◌, List, [], ◌∷◌, ◌++◌, filter, find, Bool, true, false, cond, ◌==◌, ◌||◌, ltb, Option, Some, None, IfSome, refl, sym, ap, ◌∙◌, arith, eqb-true, eq-eqb, lt-ltb, inl, inr, rules}
 use Rattle.std.specs.Prelude.{count_by}
 use Rattle.std.specs.List.{AllByRecursion, list_any}
 use Rattle.std.proofs.lemmas.Bool.{cases_Bool}
@@ -42,10 +42,7 @@ above_filter q n (p ∷ ps) all = grind (arith, nat_tests, above_filter q n ps a
 
 pub Rise-filter : (q : ProcData → Bool) (ps : List ProcData) → Rise ps → Rise (filter q ps)
 Rise-filter q [] rise = tt
-Rise-filter q (p ∷ ps) rise = elim (cases_Bool (q p)) [
-  | inl e ↦ rw e (above_filter q p.pid ps rise.0, Rise-filter q ps rise.1)
-  | inr e ↦ rw e (Rise-filter q ps rise.1)
-]
+Rise-filter q (p ∷ ps) rise = search (rules, Rise-filter q ps rise.1, cases_Bool, above_filter)
 
 above_append : (n : ℕ) (xs ys : List ProcData) → AllAbove n xs → AllAbove n ys → AllAbove n (xs ++ ys)
 above_append n [] ys all rest = rest

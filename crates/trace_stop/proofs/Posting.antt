@@ -1,13 +1,11 @@
 -- Settling and posting keep rows sound.
 use Rattle.std.proofs.lemmas.Bool.Decides.{nat_tests}
-use Rattle.std.proofs.Common.{◌≡◌, ◌⊎◌, inl, ℕ, Bool, true, false, ◌==◌, if◌then◌else◌, Option, None, is_none, refl, sym, ap, ◌∙◌, true≢false, bit_and, arith}
-use Rattle.signals.specs.Sets.{with, without}
-use Rattle.signals.specs.Table.{SIGCONT, opposed}
+use Rattle.std.proofs.Common.{◌≡◌, ◌⊎◌, inl, ℕ, Bool, true, false, if◌then◌else◌, Option, None, is_none, refl, sym, ◌∙◌, true≢false, bit_and, arith, rules}
 use Rattle.lwp_table.specs.declared.LwpData.{LwpData}
 use Rattle.proc_table.specs.declared.ProcData.{ProcData}
 use Rattle.proc_table.specs.declared.State.{State}
 use Rattle.proc_table.specs.declared.State.TheVariants.{Run, Trace, Job, Zombie}
-use Rattle.proc_table.specs.Processes.{is_live, is_zombie_state, is_job, is_job_state, reporting, named_by, is_this}
+use Rattle.proc_table.specs.Processes.{is_live, is_zombie_state, is_job_state, reporting, named_by}
 use Rattle.proc_table.specs.Rows.{Rows, change}
 use Rattle.trace_stop.specs.Post.{unwanted, continues, posted_set, posted_process, posted_lwp}
 use Rattle.trace_stop.specs.Facts.{IfEnded, FitProcess, FitLwp}
@@ -46,25 +44,7 @@ job_quiet (Job sig told) is = refl
 job_quiet (Zombie w) is = refl
 
 pub posted_fits : (s : ℕ) (to : Option ℕ) (p : ProcData) → FitProcess p → is_live p ≡ true → FitProcess (posted_process s to p)
-posted_fits s to p fit live = by_continue (continues s p) refl
-  where
-    q : ProcData
-    q = record p { pending = posted_set s (is_none to) p p.pending }
-
-    calm : FitProcess q
-    calm = pending_fits p (posted_set s (is_none to) p p.pending) fit live (λ none. without_apart (if is_none to then with (without p.pending (opposed s)) s else without p.pending (opposed s)) (unwanted p))
-
-    by_continue : (b : Bool) → continues s p ≡ b → FitProcess (if b then record q { state = Run; continued = true } else q)
-    by_continue false e = calm
-    by_continue true e =
-        let free = fit.job (and_right (s == SIGCONT) (is_job p) e) in
-        record {
-          stopped = λ is. absurd (true≢false (sym is));
-          job = λ is. free;
-          continued = λ is. (free, refl);
-          untraced = λ none. record { mask = (fit.untraced none).mask; pending = (calm.untraced none).pending };
-          ended = tt;
-        }
+posted_fits s to p fit live = search (rules, is_none, pending_fits, without_apart, and_right)
 
 pub posted_report : (s : ℕ) (to : Option ℕ) (p : ProcData) → reporting (posted_process s to p) ≡ reporting p
 posted_report s to p = grind (arith, nat_tests)
@@ -83,8 +63,7 @@ unwanted_posted : (s : ℕ) (to : Option ℕ) (p : ProcData) → unwanted (poste
 unwanted_posted s to p = posted_same unwanted s to p (λ n. refl) (λ n. refl)
 
 pub posted_fit_lwp : (s : ℕ) (to : Option ℕ) (p : ProcData) (l : LwpData) → FitLwp p l → FitLwp (posted_process s to p) (posted_lwp s to p l)
-posted_fit_lwp s to p l fit = lwp_pending_fits p (posted_process s to p) l (posted_set s (is_this l.tid to) p l.pending) fit (posted_same (λ q. q.tracer) s to p (λ n. refl) (λ n. refl)) (inl (posted_report s to p)) (λ e. sym (posted_report s to p) ∙ e)
-    (λ none. ap (bit_and (posted_set s (is_this l.tid to) p l.pending)) (unwanted_posted s to p) ∙ without_apart (if is_this l.tid to then with (without l.pending (opposed s)) s else without l.pending (opposed s)) (unwanted p))
+posted_fit_lwp s to p l fit = search (rules, lwp_pending_fits, posted_same, posted_report, bit_and, unwanted_posted, without_apart)
 
 -- Posting to chosen live processes
 abbrev pub LiveFit : (ProcData → Bool) → ProcData → Type 0

@@ -1,9 +1,8 @@
 -- Posting any signal, and resuming or detaching with one, keep rows sound.
-use Rattle.std.proofs.Common.{◌≡◌, ℕ, Bool, true, false, ◌==◌, ◌||◌, not, if◌then◌else◌, [], ◌∷◌, Option, Some, refl, sym, ap, ◌∙◌, true≢false, subst, eqb-true, eq-eqb}
+use Rattle.std.proofs.Common.{◌≡◌, ℕ, Bool, true, false, ◌==◌, ◌||◌, not, if◌then◌else◌, [], ◌∷◌, Option, Some, refl, sym, true≢false, subst, eqb-true, eq-eqb, rules}
 use Rattle.std.specs.List.{AllByRecursion}
 use Rattle.signals.specs.Dispositions.{Actions}
-use Rattle.signals.specs.Sets.{has}
-use Rattle.signals.specs.Table.{SIGKILL, is_signal, stops, is_discarded, ends}
+use Rattle.signals.specs.Table.{SIGKILL, ends}
 use Rattle.proc_table.specs.declared.ProcData.{ProcData}
 use Rattle.proc_table.specs.Processes.{is_live, process_of}
 use Rattle.proc_table.specs.Rows.{Rows, change, is_numbered}
@@ -29,12 +28,7 @@ or_last true b is = absurd (true≢false (sym is))
 or_last false b is = not_true b is
 
 pub ends_word : (d : Actions) (n : ℕ) → ends d n ≡ true → is_end n ≡ true
-ends_word d n is = or_second _ (both (is_signal n) (not (n == 19)) (and_left (is_signal n) _ is) (ap not (by_bool (n == 19) (λ e.
-    true≢false (sym (subst (λ m. is_discarded m ≡ true) (sym (eqb-true n 19 e)) refl) ∙ or_last (has d.ignored n || has d.caught n || stops n) (is_discarded n) (and_right (is_signal n) _ is))))))
-  where
-    or_second : (a : Bool) {b : Bool} → b ≡ true → (a || b) ≡ true
-    or_second true h = refl
-    or_second false h = h
+ends_word d n is = search (rules, both, and_left, by_bool, eqb-true, or_last, and_right)
 
 module _ (rows : Rows) (pid : ℕ) (p : ProcData) (s : IsSound rows) (at : process_of pid rows.processes ≡ Some p) (live : is_live p ≡ true) where
   number : p.pid ≡ pid

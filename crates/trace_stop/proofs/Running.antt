@@ -1,5 +1,5 @@
 -- Processes that run on keep rows sound: an LWP that has exited is gone, and it isn't the last one.
-use Rattle.std.proofs.Common.{◌≡◌, ◌⊎◌, inl, ℕ, ◌≤◌, Bool, true, false, ◌==◌, ◌&&◌, leb, if◌then◌else◌, option_map, unwrap_or, Option, Some, None, IfSome, refl, sym, ap, ◌∙◌, true≢false, subst, arith, eqb-true, eq-eqb, bit_and}
+use Rattle.std.proofs.Common.{◌≡◌, ◌⊎◌, inl, ℕ, ◌≤◌, Bool, true, false, ◌==◌, ◌&&◌, leb, if◌then◌else◌, option_map, unwrap_or, Option, Some, None, IfSome, refl, sym, ap, ◌∙◌, true≢false, subst, arith, eqb-true, eq-eqb, bit_and, rules}
 use Rattle.std.specs.List.{AllByRecursion}
 use Rattle.std.proofs.lemmas.Bool.{leb-true, leb-false}
 use Rattle.event_masks.specs.Exits.{shows, no_flags}
@@ -11,9 +11,9 @@ use Rattle.proc_table.specs.Rows.{Rows, owner, by_owner}
 use Rattle.proc_table.specs.Fresh.{lwp_count}
 use Rattle.trace_stop.specs.Detach.{reported, run_on}
 use Rattle.trace_stop.specs.Sound.{names_own}
-use Rattle.trace_stop.specs.Facts.{IsLiveChild, FitProcess, waited_for, Standing, FitLwp, Silent, WithOwner, IsSound}
+use Rattle.trace_stop.specs.Facts.{FitProcess, Standing, FitLwp, Silent, WithOwner, IsSound}
 use Rattle.trace_stop.proofs.Every.{and_right, both, by_bool, All-both, choose}
-use Rattle.trace_stop.proofs.Edited.{If_more, count_kept, one_gone}
+use Rattle.trace_stop.proofs.Edited.{count_kept, one_gone}
 use Rattle.trace_stop.proofs.Changed.{Row, Beside, Same, Stay, Leaves, KeptRow, KeptLwp, nobody, sound_holds, like_self, leaves, kept_row, kept_all, kept_lwp, none_gone, no_ring, one_left, stay, edit_holds}
 
 -- what a change of processes that run on asks
@@ -53,15 +53,10 @@ module _ (rows : Rows) (chosen : ProcData → Bool) (f : ProcData → ProcData) 
   -- an LWP of p, by cases
   by_lwp : (R : Option LwpData → Type 0) (p : ProcData) (l : LwpData) → (chosen p ≡ false → R (Some l)) → (chosen p ≡ true → is_this l.tid (reporting p) ≡ true → shows l.flags PL_FLAG_EXITED ≡ true → R None)
       → (chosen p ≡ true → is_this l.tid (reporting p) ≡ true → shows l.flags PL_FLAG_EXITED ≡ false → R (Some (g p (cleared l)))) → (chosen p ≡ true → is_this l.tid (reporting p) ≡ false → R (Some (g p l))) → R (to_own p l)
-  by_lwp R p l other gone named rest = choose (chosen p) (option_map (g p) (reported p l)) (Some l) R
-      (λ c. choose (is_this l.tid (reporting p)) (if shows l.flags PL_FLAG_EXITED then None else Some (cleared l)) (Some l) (λ o. R (option_map (g p) o))
-      (λ t. choose (shows l.flags PL_FLAG_EXITED) None (Some (cleared l)) (λ o. R (option_map (g p) o)) (gone c t) (named c t)) (rest c)) other
+  by_lwp R p l other gone named rest = search (rules, choose, option_map, other)
 
   same : Same to to_own
-  same = record {
-    process = λ p. choose (chosen p) (f p) p (λ q. (q.pid ≡ p.pid) × (q.uid ≡ p.uid)) (λ e. (shape.pid p, shape.uid p)) (λ e. (refl, refl));
-    lwp = λ p l. by_lwp (λ o. IfSome o (λ k. (k.tid ≡ l.tid) × (k.pid ≡ l.pid))) p l (λ e. (refl, refl)) (λ c t e. tt) (λ c t e. (shape.tid p (cleared l), shape.own p (cleared l))) (λ c t. (shape.tid p l, shape.own p l));
-  }
+  same = search (rules, choose, by_lwp)
 
   -- the LWPs of a process that stay
   stays : (p : ProcData) (l : LwpData) → (chosen p ≡ true → (is_this l.tid (reporting p) && shows l.flags PL_FLAG_EXITED) ≡ false) → (k : LwpData) × (to_own p l ≡ Some k)
@@ -109,11 +104,7 @@ module _ (rows : Rows) (chosen : ProcData → Bool) (f : ProcData → ProcData) 
 
   -- a silent LWP of a process that runs on
   kept_silent : (p : ProcData) (l j : LwpData) → Beside rows Fact FitLwp p l → chosen p ≡ true → Silent j → FitLwp p j → j.mode ≡ l.mode → KeptLwp rows after nobody FitLwp p (if chosen p then f p else p) (g p j)
-  kept_silent p l j b c silent fit mode = subst (λ x. KeptLwp rows after nobody FitLwp p (if x then f p else p) (g p j)) (sym c) (record {
-    exited = λ shown. absurd (true≢false (sym (subst (λ x. shows x PL_FLAG_EXITED ≡ true) (shape.flags p j) shown) ∙ silent_shows j silent));
-    waits = subst (λ m. IfSome (waited_for m) (λ n. IsLiveChild rows p n × (false ≡ false))) (sym (shape.mode p j ∙ mode)) (If_more (IsLiveChild rows p) _ (λ n live. (live, refl)) (waited_for l.mode) b.stood.waits);
-    fits = b.row.fact.1.fit_lwp c j silent fit;
-  })
+  kept_silent p l j b c silent fit mode = search (rules, nobody, silent_shows)
 
   pub run_on_sound : IsSound (run_on chosen f g rows)
   run_on_sound = sound_holds after (edit_holds rows nobody to to_own Fact FitLwp FitProcess FitLwp (record { stands = s.stands; processes = All-both FitProcess (Runs chosen f g) rows.processes s.processes runs; lwps = s.lwps }) (record {

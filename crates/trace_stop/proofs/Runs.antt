@@ -1,5 +1,5 @@
 -- A stopped process runs on: its reporting LWP, and its LWPs.
-use Rattle.std.proofs.Common.{◌≡◌, ℕ, Bool, true, false, List, [], ◌∷◌, map, refl, sym, ap, ◌∙◌, arith, inl, inr, cond, nat_eq, Option, Some, None}
+use Rattle.std.proofs.Common.{◌≡◌, ℕ, Bool, true, false, List, [], ◌∷◌, map, refl, sym, ap, ◌∙◌, arith, inl, inr, cond, nat_eq, Option, Some, None, rules}
 use Rattle.std.specs.Prelude.{filter_map, option_map}
 use Rattle.std.proofs.lemmas.Bool.{cases_Bool}
 use Rattle.std.proofs.lemmas.Bool.Decides.{nat_tests}
@@ -78,18 +78,10 @@ module _ (pid : ℕ) (f : ProcData → ProcData) (g : ProcData → LwpData → L
   runs q x = cond (nat_eq q.pid pid) (option_map (g q) (reported q x)) (Some x)
 
   its : (p : ProcData) (ps : List ProcData) → process_of pid ps ≡ Some p → (x : LwpData) → nat_eq x.pid pid ≡ true → by_owner runs x (process_of x.pid ps) ≡ option_map (g p) (reported p x)
-  its p ps at x e =
-      let same : x.pid ≡ pid = grind (arith, nat_tests) in
-      let owner : process_of x.pid ps ≡ Some p = ap (λ n. process_of n ps) same ∙ at in
-      let test : nat_eq p.pid pid ≡ true = rw (process_of-pid pid p ps at) (same_number pid) in
-      rw owner (rw test refl)
+  its p ps at x e = search (rules, nat_tests, process_of-pid, same_number)
 
   not_its : (ps : List ProcData) (x : LwpData) → nat_eq x.pid pid ≡ false → by_owner runs x (process_of x.pid ps) ≡ Some x
-  not_its ps x e = of_found (process_of x.pid ps) refl
-    where
-      of_found : (o : Option ProcData) → process_of x.pid ps ≡ o → by_owner runs x o ≡ Some x
-      of_found None k = refl
-      of_found (Some q) k = let test : nat_eq q.pid pid ≡ false = rw (process_of-pid x.pid q ps k) e in rw test refl
+  not_its ps x e = search (rules, process_of-pid)
 
   pub run_on-at : (rows : Rows) (s : IsStopped pid rows) → IsKept rows → (f s.p).pid ≡ pid
       → run_on (is_numbered pid) f g rows ≡ map_lwps pid (g s.p) (report_dropped (Some s.l) (set_process (f s.p) rows))

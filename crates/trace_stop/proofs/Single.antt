@@ -1,11 +1,11 @@
 -- A change of one process, and of one LWP.
 use Rattle.std.proofs.lemmas.Bool.Decides.{nat_tests}
-use Rattle.std.proofs.Common.{◌≡◌, ◌⊎◌, inl, ℕ, Bool, true, false, ◌==◌, if◌then◌else◌, filter_map, Option, Some, None, IfSome, refl, sym, ap, subst, eqb-true, arith}
+use Rattle.std.proofs.Common.{◌≡◌, ◌⊎◌, inl, ℕ, true, ◌==◌, if◌then◌else◌, Some, None, IfSome, refl, sym, subst, eqb-true, arith, rules}
 use Rattle.lwp_table.specs.declared.LwpData.{LwpData}
 use Rattle.lwp_table.specs.Lwps.{lwp_of}
 use Rattle.proc_table.specs.declared.ProcData.{ProcData}
 use Rattle.proc_table.specs.Processes.{is_live, reporting, process_of}
-use Rattle.proc_table.specs.Rows.{Rows, owner, by_owner, each, change, change_process, change_lwp, is_numbered}
+use Rattle.proc_table.specs.Rows.{Rows, each, change, change_process, change_lwp, is_numbered}
 use Rattle.trace_stop.specs.Facts.{IsLiveChild, FitProcess, waited_for, FitLwp, IsSound}
 use Rattle.trace_stop.proofs.Every.{choose}
 use Rattle.trace_stop.proofs.Edited.{edit_none}
@@ -22,16 +22,7 @@ pub record OneProcess (p : ProcData) (f : ProcData → ProcData) : Type 0 where
   pub fit_lwp : (l : LwpData) → FitLwp p l → FitLwp (f p) l
 
 pub process_alone : (pid : ℕ) (f : ProcData → ProcData) (rows : Rows) → change (is_numbered pid) f (λ p l. l) rows ≡ change_process pid f rows
-process_alone pid f rows = ap (λ ls. record rows { processes = filter_map (λ p. Some (if p.pid == pid then f p else p)) rows.processes; lwps = ls })
-    (edit_none (λ l. by_owner (λ p k. Some (if p.pid == pid then k else k)) l (owner rows l)) (λ l. by_row l (owner rows l)) rows.lwps)
-  where
-    either : (b : Bool) (l : LwpData) → Some (if b then l else l) ≡ Some l
-    either true l = refl
-    either false l = refl
-
-    by_row : (l : LwpData) (o : Option ProcData) → by_owner (λ p k. Some (if p.pid == pid then k else k)) l o ≡ Some l
-    by_row l None = refl
-    by_row l (Some p) = either (p.pid == pid) l
+process_alone pid f rows = search (rules, edit_none)
 
 module _ (rows : Rows) (pid : ℕ) (p : ProcData) (f : ProcData → ProcData) (s : IsSound rows) (at : process_of pid rows.processes ≡ Some p) (c : OneProcess p f) where
   mine : (q : ProcData) → Row rows FitProcess q → (q.pid == pid) ≡ true → p ≡ q

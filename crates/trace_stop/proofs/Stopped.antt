@@ -1,5 +1,5 @@
 -- A process in a trace stop is stopped by an LWP of its own.
-use Rattle.std.proofs.Common.{◌≡◌, ◌∙◌, ℕ, true, Option, List, [], ◌∷◌, Some, None, IsSome, is_some, refl, ap, arith, inl, inr, nat_eq}
+use Rattle.std.proofs.Common.{◌≡◌, ℕ, true, Option, List, [], ◌∷◌, Some, None, IsSome, is_some, refl, ap, arith, inl, inr, nat_eq, rules}
 use Rattle.std.specs.Prelude.{IfSome, ◌&&◌}
 use Rattle.std.specs.List.{list_any}
 use Rattle.std.proofs.lemmas.Bool.{cases_Bool}
@@ -12,8 +12,7 @@ use Rattle.proc_table.specs.Rows.{Rows}
 use Rattle.proc_table.specs.Kept.{IsRow}
 use Rattle.proc_table.proofs.Every.{every_found}
 use Rattle.proc_table.proofs.Rows.{other_number, process_of-pid, found_row}
-use Rattle.trace_stop.specs.Sound.{names_own}
-use Rattle.trace_stop.specs.Facts.{Linked, Stands}
+use Rattle.trace_stop.specs.Facts.{Stands}
 use Rattle.trace_stop.specs.Reports.{IsStopped}
 
 none_there : (n : ℕ) (ls : List LwpData) → LacksLwp n ls → lwp_of n ls ≡ None
@@ -37,16 +36,10 @@ own_found tid pid (l ∷ ls) d any = elim (cases_Bool (nat_eq l.tid tid)) [
 ]
 
 pub own_reporter : (pid tid : ℕ) (rows : Rows) (p : ProcData) → Stands rows → process_of pid rows.processes ≡ Some p → reporting p ≡ Some tid → (l : LwpData) × (lwp_of tid rows.lwps ≡ Some l) × (l.pid ≡ pid)
-own_reporter pid tid rows p stands at reports =
-    let link = every_found (Linked rows) (λ q. nat_eq q.pid pid) rows.processes p stands.linked at in
-    let named : names_own rows p tid ≡ true = rw reports at link.named in
-    let l = own_found tid p.pid rows.lwps stands.differ named in
-    (l.0, l.1, l.2 ∙ process_of-pid pid p rows.processes at)
+own_reporter pid tid rows p stands at reports = search (rules, every_found, own_found, process_of-pid)
 
 pub IsStopped-from : (pid tid : ℕ) (rows : Rows) (p : ProcData) → Stands rows → process_of pid rows.processes ≡ Some p → reporting p ≡ Some tid → IsStopped pid rows
-IsStopped-from pid tid rows p stands at reports =
-    let l = own_reporter pid tid rows p stands at reports in
-    record { p = p; at = at; tid = tid; reports = reports; l = l.0; named = l.1; own = l.2 }
+IsStopped-from pid tid rows p stands at reports = search (rules, own_reporter)
 
 -- the LWP that a process names is there
 pub reporter_there : (pid : ℕ) (rows : Rows) (p : ProcData) → Stands rows → process_of pid rows.processes ≡ Some p → (o : Option ℕ) → reporting p ≡ o → IfSome o (λ tid. IsSome (lwp_of tid rows.lwps))

@@ -1,5 +1,5 @@
 -- Notifying, trace stops and changes of one LWP keep rows sound.
-use Rattle.std.proofs.Common.{◌≡◌, ℕ, Bool, true, false, ◌==◌, ◌&&◌, ◌||◌, List, [], ◌∷◌, None, refl, sym, true≢false, subst, arith, eqb-true, ◌≢◌}
+use Rattle.std.proofs.Common.{◌≡◌, ℕ, true, ◌==◌, ◌&&◌, List, [], ◌∷◌, None, sym, true≢false, eqb-true, rules}
 use Rattle.std.specs.List.{AllByRecursion, list_any}
 use Rattle.signals.specs.Table.{SIGCHLD}
 use Rattle.proc_table.specs.declared.ProcData.{ProcData}
@@ -17,16 +17,11 @@ use Rattle.trace_stop.proofs.Posting.{LiveFit, post_chosen}
 -- Telling live processes
 
 pub live_told : (rows : Rows) (u n : ℕ) → IsLiveOf rows u n → MayTell rows n
-live_told rows u n is ne = any_more (λ p. (p.pid == n) && (p.uid == u) && is_live p) (λ p. (p.pid == n) && is_live p)
-    (λ p e. both (p.pid == n) (is_live p) (and_left (p.pid == n) (p.uid == u) (and_left ((p.pid == n) && (p.uid == u)) (is_live p) e)) (and_right ((p.pid == n) && (p.uid == u)) (is_live p) e)) rows.processes is
+live_told rows u n is ne = search (rules, any_more, both, and_left, and_right)
 
 told_rows : (rows : Rows) (pids : List ℕ) → AllByRecursion (MayTell rows) pids → (p : ProcData) → AtHome p → (list_any (λ q. (q.pid == p.pid) && is_live q) rows.processes ≡ true → is_live p ≡ true) → list_any (λ n. n == p.pid) pids ≡ true → is_live p ≡ true
 told_rows rows [] all p home one is = absurd (true≢false (sym is))
-told_rows rows (n ∷ pids) all p home one is = by_head (n == p.pid) refl is (told_rows rows pids all.1 p home one)
-  where
-    by_head : (b : Bool) → (n == p.pid) ≡ b → (b || list_any (λ m. m == p.pid) pids) ≡ true → (list_any (λ m. m == p.pid) pids ≡ true → is_live p ≡ true) → is_live p ≡ true
-    by_head true e h rest = let same = eqb-true n p.pid e in one (subst (λ m. list_any (λ q. (q.pid == m) && is_live q) rows.processes ≡ true) same (all.0 (λ e1. let low = home.block.0 in let user = home.user.0 in absurd (omega arith))))
-    by_head false e h rest = rest h
+told_rows rows (n ∷ pids) all p home one is = search (rules, told_rows rows pids all.1 p home one, eqb-true)
 
 pub notified_sound : (rows : Rows) (pids : List ℕ) → IsSound rows → AllByRecursion (MayTell rows) pids → IsSound (notified pids rows)
 notified_sound rows pids s tell = sound_holds _ (post_chosen rows (λ p. list_any (λ n. n == p.pid) pids) SIGCHLD None (record {

@@ -1,9 +1,8 @@
 -- A trace stop keeps rows sound.
 use Rattle.std.proofs.lemmas.Bool.Decides.{nat_tests}
-use Rattle.std.proofs.Common.{◌≡◌, ◌≢◌, inl, ℕ, ◌≤◌, Bool, true, false, ◌==◌, ◌&&◌, if◌then◌else◌, List, [], ◌∷◌, find, Option, Some, None, IfSome, is_some, refl, sym, ap, ◌∙◌, true≢false, subst, arith, eqb-true, eq-eqb, bit_and}
+use Rattle.std.proofs.Common.{◌≡◌, ◌≢◌, inl, ℕ, ◌≤◌, Bool, true, false, ◌==◌, if◌then◌else◌, List, [], ◌∷◌, find, Option, Some, None, IfSome, is_some, refl, sym, ap, ◌∙◌, true≢false, subst, arith, eqb-true, eq-eqb, bit_and, rules}
 use Rattle.std.specs.List.{AllByRecursion, list_any}
 use Rattle.std.specs.Option.{IsSomeAnd}
-use Rattle.signals.specs.Table.{unmaskable_set}
 use Rattle.event_masks.specs.Exits.{shows}
 use Rattle.event_masks.specs.declared.TheConstants.StopFlags.{PL_FLAG_EXITED}
 use Rattle.lwp_table.specs.declared.LwpData.{LwpData}
@@ -11,15 +10,15 @@ use Rattle.lwp_table.specs.Lwps.{lwp_of}
 use Rattle.proc_table.specs.declared.ProcData.{ProcData}
 use Rattle.proc_table.specs.declared.State.{State}
 use Rattle.proc_table.specs.declared.State.TheVariants.{Run, Trace, Job, Zombie}
-use Rattle.proc_table.specs.Processes.{is_run, is_run_state, is_zombie_state, named_by, is_this, process_of}
+use Rattle.proc_table.specs.Processes.{is_run, is_run_state, is_zombie_state, named_by, process_of}
 use Rattle.proc_table.specs.Rows.{Rows, each}
 use Rattle.proc_table.specs.Fresh.{lwp_count}
 use Rattle.trace_stop.specs.End.{tracer_in, tracer_of}
 use Rattle.trace_stop.specs.Stop.{tracers, stop}
 use Rattle.trace_stop.specs.Post.{notified}
 use Rattle.trace_stop.specs.declared.Shown.{Shown}
-use Rattle.trace_stop.specs.Sound.{names_own, mode_fits}
-use Rattle.trace_stop.specs.Facts.{IsLiveOf, IsLiveChild, FitProcess, waited_for, FitLwp, Silent, IsSound}
+use Rattle.trace_stop.specs.Sound.{names_own}
+use Rattle.trace_stop.specs.Facts.{IsLiveOf, IsLiveChild, FitProcess, waited_for, FitLwp, IsSound}
 use Rattle.trace_stop.proofs.Every.{both, All-imply, All-both, All-any, find_some, choose}
 use Rattle.trace_stop.proofs.Edited.{If_more}
 use Rattle.trace_stop.proofs.Changed.{Holds, Row, Beside, Same, Stay, Edit, Leaves, KeptRow, nobody, sound_holds, found_number, lwp_is, row_at, like_self, peopled_on, kept_row, kept_all, none_gone, no_ring, stay, edit_holds, lives_after, each_alone}
@@ -96,8 +95,7 @@ module _ (rows : Rows) (pid tid : ℕ) (shown : Shown) (p : ProcData) (l : LwpDa
   its_own q k b is = found_number k.pid rows.processes q b.at ∙ (ap (λ j. j.pid) (lwp_is b c.there (eqb-true k.tid tid is)) ∙ c.own)
 
   named : (q : ProcData) → (q.pid == pid) ≡ true → names_own rows q tid ≡ true
-  named q is = find_passes (λ k. k.tid == tid) (λ k. (k.tid == tid) && (k.pid == q.pid)) rows.lwps l c.there
-      (both (l.tid == tid) (l.pid == q.pid) (eq-eqb l.tid tid (found_tid tid rows.lwps l c.there)) (eq-eqb l.pid q.pid (c.own ∙ sym (eqb-true q.pid pid is))))
+  named q is = search (rules, find_passes, both, eq-eqb, found_tid, eqb-true)
 
   fits : (q : ProcData) → Ready q → FitProcess (stopped q)
   fits q ready = grind (arith, nat_tests)
@@ -105,16 +103,7 @@ module _ (rows : Rows) (pid tid : ℕ) (shown : Shown) (p : ProcData) (l : LwpDa
   fit_lwp : (q : ProcData) (k : LwpData) → Known q k → (b : Bool) → (q.pid == pid) ≡ b → (d : Bool) → (k.tid == tid) ≡ d → FitLwp (if b then stopped q else q) (if d then showing k else k)
   fit_lwp q k known false e true d = absurd (other q e (its_own q k known d))
   fit_lwp q k known false e false d = known.fact
-  fit_lwp q k known true e b d = let ready = known.row.fact.1 (eqb-true q.pid pid e) in record {
-    untraced = λ none. absurd (none_some q.tracer none ready.traced);
-    silent = by_number b d;
-    blocked = choose b (showing k) k (λ j. bit_and j.blocked unmaskable_set ≡ 0) (λ x. known.fact.blocked) (λ x. known.fact.blocked);
-    mode = choose b (showing k) k (λ j. mode_fits j.mode ≡ true) (λ x. known.fact.mode) (λ x. known.fact.mode);
-  }
-    where
-      by_number : (x : Bool) → (k.tid == tid) ≡ x → is_this (if x then showing k else k).tid (Some tid) ≡ false → Silent (if x then showing k else k)
-      by_number true d off = absurd (true≢false (sym (eq-eqb tid k.tid (sym (eqb-true k.tid tid d))) ∙ off))
-      by_number false d off = known.fact.silent (ap (is_this k.tid) (known.row.fact.1 (eqb-true q.pid pid e)).quiet)
+  fit_lwp q k known true e b d = search (rules, eqb-true, none_some, choose, bit_and, eq-eqb)
 
   exited : (q : ProcData) (k : LwpData) → Known q k → (d : Bool) → (k.tid == tid) ≡ d → shows (if d then showing k else k).flags PL_FLAG_EXITED ≡ true → 2 ≤ lwp_count q.pid rows
   exited q k known true d is = subst (λ n. 2 ≤ lwp_count n rows) (sym (its_own q k known d)) (c.exits is)

@@ -1,5 +1,5 @@
 -- The other primitives: one process, one LWP, new rows; and branches of rows.
-use Rattle.std.proofs.Common.{◌≡◌, ◌≢◌, ℕ, ◌<◌, List, [], ◌∷◌, ◌++◌, length, filter, find, filter_map, Bool, true, false, ◌==◌, if◌then◌else◌, Option, Some, None, refl, sym, ap, ◌∙◌, arith, eqb, eqb-true, subst, append-nil, get_or, set, get_or-set_same, get_or-set_other, length-set, inl}
+use Rattle.std.proofs.Common.{◌≡◌, ◌≢◌, ℕ, ◌<◌, List, [], ◌∷◌, ◌++◌, length, find, filter_map, Bool, true, false, ◌==◌, if◌then◌else◌, Option, Some, None, refl, sym, ap, ◌∙◌, arith, eqb, eqb-true, subst, append-nil, get_or, set, get_or-set_same, get_or-set_other, length-set, inl, rules}
 use Rattle.std.specs.List.{AllByRecursion, list_any}
 use Rattle.std.proofs.lemmas.Bool.Decides.{nat_tests}
 use Rattle.std.proofs.lemmas.List.Elements.{filter-append}
@@ -7,7 +7,7 @@ use Rattle.pid_blocks.specs.Users.{IsUser}
 use Rattle.pid_blocks.specs.Blocks.{pid_owner, tid_owner, pid_block, tid_block, slot, cursor_after, InBlock}
 use Rattle.proc_table.specs.declared.ProcData.{ProcData}
 use Rattle.lwp_table.specs.declared.LwpData.{LwpData}
-use Rattle.proc_table.specs.Processes.{is_live, process_of, placed}
+use Rattle.proc_table.specs.Processes.{is_live, placed}
 use Rattle.proc_table.specs.Rows.{Rows, owner, by_owner, each, change, edit_processes, edit_lwps, change_process, change_lwp, remove_lwp}
 use Rattle.proc_table.specs.Fresh.{is_process, add_process, add_lwp}
 use Rattle.user_rows.specs.Closed.{GoodProc, GoodLwp, LiveRow, LiveOwner}
@@ -58,13 +58,7 @@ pub edit_same : {u : ℕ} {start c v : Rows} → Sim u start c v → (f : ProcDa
     → ((p : ProcData) → GoodProc p → p.uid ≢ u → f p ≡ Some p)
     → ((p : ProcData) → GoodProc p → p.uid ≡ u → is_live p ≡ true → LiveRow (f p))
     → Sim u start (edit_processes f c) (edit_processes f v)
-edit_same {u} {start} {c} {v} s f mine foreign live = subst (Sim u start (edit_processes f c)) (processes_alone f v) (subst (λ rows. Sim u start rows (each f (λ p l. Some l) v)) (processes_alone f c) (each_same s f (λ p l. Some l) (record {
-  mine = mine;
-  foreign = foreign;
-  lwp = λ p l good well is here. (refl, well);
-  foreign_lwp = λ p l good well ne here. refl;
-  live = λ p l good is on. inl (live p good is on);
-})))
+edit_same {u} {start} {c} {v} s f mine foreign live = search (rules, processes_alone, each_same)
 
 -- one process of u
 pub process_same_after : {u : ℕ} {start c v : Rows} → Sim u start c v → (n : ℕ) → pid_owner n ≡ u → (f : ProcData → ProcData)
@@ -114,9 +108,7 @@ module _ {u : ℕ} {start c v : Rows} (s : Sim u start c v) (tid : ℕ) (here : 
       (λ l well ne. rw (other_tid l well ne) refl)
 
   pub lwp_removed_same : Sim u start (remove_lwp tid c) (remove_lwp tid v)
-  lwp_removed_same = edit_lwps_same s (λ l. if l.tid == tid then None else Some l)
-      (λ l well. choose (l.tid == tid) None (Some l) (KinLwp l) (λ e. tt) (λ e. (refl, well)))
-      (λ l well ne. rw (other_tid l well ne) refl)
+  lwp_removed_same = search (rules, edit_lwps_same, choose, other_tid)
 
 -- New rows
 

@@ -1,5 +1,5 @@
 -- The end of a process; posting any signal, trace stops, and what resumes a process.
-use Rattle.std.proofs.Common.{◌≡◌, ◌≢◌, ℕ, zero, suc, List, filter_map, Bool, true, false, ◌==◌, ◌&&◌, ◌||◌, not, if◌then◌else◌, Option, Some, None, is_some, is_none, unwrap_or, option_map, IfSome, refl, sym, ap, ap₂, ◌∙◌, arith, eqb, true≢false, eqb-true, subst, eq-eqb, inl, inr, ◌⊎◌}
+use Rattle.std.proofs.Common.{◌≡◌, ◌≢◌, ℕ, zero, suc, List, filter_map, Bool, true, false, ◌==◌, ◌&&◌, ◌||◌, not, if◌then◌else◌, Option, Some, None, is_some, is_none, unwrap_or, option_map, IfSome, refl, sym, ap, ap₂, ◌∙◌, true≢false, eqb-true, subst, eq-eqb, rules}
 use Rattle.std.proofs.Math.Path.{fun_ext}
 use Rattle.std.specs.List.{AllByRecursion, list_any}
 use Rattle.pid_blocks.specs.Users.{IsUser}
@@ -11,17 +11,16 @@ use Rattle.proc_table.specs.declared.State.TheVariants.{Trace}
 use Rattle.lwp_table.specs.declared.LwpData.{LwpData}
 use Rattle.lwp_table.specs.declared.Mode.{Mode}
 use Rattle.lwp_table.specs.declared.Mode.TheVariants.{User, InCall, VforkWait}
-use Rattle.proc_table.specs.Processes.{is_live, process_of, is_this, traces, reporting}
+use Rattle.proc_table.specs.Processes.{is_live, is_this, traces, reporting}
 use Rattle.proc_table.specs.Rows.{Rows, each, is_numbered, change_process, change_lwp}
 use Rattle.trace_stop.specs.declared.Settings.{Settings}
 use Rattle.trace_stop.specs.Post.{notified}
-use Rattle.trace_stop.specs.Detach.{detached}
 use Rattle.trace_stop.specs.Stop.{post, tracers, stop, ends_process, resume, detach}
 use Rattle.trace_stop.specs.declared.Shown.{Shown}
-use Rattle.trace_stop.specs.End.{tracer_in, tracer_of, holds_of, meets, is_doomed, dooms, unless, orphaned, dead, uncollected, process_after, waits_where, released, lwp_after, collector, notifies_of, end_each, end_of, end}
+use Rattle.trace_stop.specs.End.{tracer_in, tracer_of, holds_of, meets, is_doomed, dooms, unless, uncollected, process_after, waits_where, released, lwp_after, collector, notifies_of, end_each, end_of, end}
 use Rattle.trace_stop.specs.Facts.{waited_for}
 use Rattle.trace_stop.proofs.Every.{and_left, and_right, by_bool, choose, choose_both, none_passes, All-edit, All-filter}
-use Rattle.user_rows.specs.Closed.{Mine, GoodProc, GoodLwp, LiveRow}
+use Rattle.user_rows.specs.Closed.{Mine, GoodProc, GoodLwp}
 use Rattle.user_rows.proofs.ViewLists.{any_only, filter_map_only}
 use Rattle.user_rows.proofs.ViewSame.{Sim, Kin, KinLwp, Keeps, own, is_own, not_own, not_equal, either, named, process_same, at_number, each_same}
 use Rattle.user_rows.proofs.ViewEdits.{process_same_after, lwp_same_after, branch_rows}
@@ -68,9 +67,7 @@ module _ {u : ℕ} (over : ℕ → Bool) (over_foreign : (n : ℕ) → pid_owner
   unless_same ne (Some t) g = rw (over_foreign t (λ e. ne (sym g ∙ e))) refl
 
   parent_over : IsUser u → (p : ProcData) → GoodProc p → p.uid ≢ u → over p.parent ≡ false
-  parent_over user p good ne = either p.parent 1
-      (λ is. over_foreign p.parent (λ e. let here = sym e ∙ ap pid_owner is ∙ owner_of_1 in let least = user.0 in absurd (omega arith)))
-      (λ other. over_foreign p.parent (λ e. ne (sym (good.parent other) ∙ e)))
+  parent_over user p good ne = search (rules, either, owner_of_1)
 
   waits_foreign : {w : ℕ} → w ≢ u → (m : Mode) → IfSome (waited_for m) (λ c. pid_owner c ≡ w) → waits_where over m ≡ false
   waits_foreign ne User g = refl
@@ -101,56 +98,27 @@ module _ (over : ℕ → Bool) (p : ProcData) (good : GoodProc p) where
 
   -- a zombie that has lost whom it names
   left_kin : (z : ProcData) → z.pid ≡ p.pid → z.uid ≡ p.uid → z.tracer ≡ unless over p.tracer → z.parent ≡ (if over p.parent then 1 else p.parent) → IfSome (reporting z) (λ t. tid_owner t ≡ p.uid) → Kin p (uncollected z)
-  left_kin z pid uid tracer parent reports = choose (is_none z.tracer && (z.parent == 1)) None (Some z) (Kin p) (λ e. tt) (λ is. (
-    pid,
-    uid,
-    record {
-      user = rw uid good.user;
-      block = ap pid_owner pid ∙ good.block ∙ sym uid;
-      tracer = rw (tracer, uid) (tracer_good p.tracer good.tracer);
-      parent = rw (parent, uid) parent_good;
-      reporting = rw uid reports;
-      collector = λ d none one. true≢false (sym (ap₂ (λ (o : Option ℕ) (b : Bool). is_none o && b) none (eq-eqb z.parent 1 one)) ∙ is);
-    },
-  ))
+  left_kin z pid uid tracer parent reports = search (rules, choose, is_none, tracer_good, parent_good, ap₂, eq-eqb)
 
 module _ {u : ℕ} (ends : ProcData → Bool) (over : ℕ → Bool) (ends_foreign : (p : ProcData) → GoodProc p → p.uid ≢ u → ends p ≡ false) (over_foreign : (n : ℕ) → pid_owner n ≢ u → over n ≡ false) (n w : ℕ) where
   after_kin : (p : ProcData) → GoodProc p → Kin p (process_after ends over n w p)
-  after_kin p good = choose (ends p) _ _ (Kin p)
-      (λ e. left_kin over p good (dead (if p.pid == n then w else SIGKILL) (orphaned over p)) refl refl refl refl tt)
-      (λ e. choose (is_live p) _ _ (Kin p)
-      (λ live. (refl, refl, record { user = good.user; block = good.block; tracer = good.tracer; parent = parent_good over p good; reporting = good.reporting; collector = λ d. absurd (true≢false (sym live ∙ d)) }))
-      (λ d. left_kin over p good (orphaned over p) refl refl refl refl good.reporting))
+  after_kin p good = search (rules, choose, left_kin, parent_good)
 
   after_foreign : IsUser u → (p : ProcData) → GoodProc p → p.uid ≢ u → process_after ends over n w p ≡ Some p
-  after_foreign user p good ne = rw (ends_foreign p good ne, parent_over over over_foreign user p good ne, unless_same over over_foreign ne p.tracer good.tracer)
-      (choose (is_live p) (Some p) (uncollected p) (λ o. o ≡ Some p) (λ e. refl) (λ d. choose (is_none p.tracer && (p.parent == 1)) None (Some p) (λ o. o ≡ Some p)
-      (λ e. absurd (good.collector d (is_absent p.tracer (and_left _ _ e)) (eqb-true p.parent 1 (and_right _ _ e)))) (λ e. refl)))
+  after_foreign user p good ne = search (rules, parent_over, unless_same, choose, is_none, is_absent, and_left, eqb-true, and_right)
 
   end_keeps : IsUser u → Keeps u (process_after ends over n w) (lwp_after ends over)
-  end_keeps user = record {
-    mine = λ p good is. after_kin p good;
-    foreign = λ p good ne. after_foreign user p good ne;
-    lwp = λ p l good well is here. choose (ends p) None (Some (released over p l)) (KinLwp l) (λ e. tt) (λ e. released_kin over p l well);
-    foreign_lwp = λ p l good well ne here. rw (ends_foreign p good ne, released_foreign over over_foreign p l well (λ e. ne (sym good.block ∙ ap pid_owner here ∙ e))) refl;
-    live = λ p l good is live. choose_both (λ (o : Option ProcData) (d : Option LwpData). LiveRow o ⊎ (d ≡ None)) (ends p) _ _ None (Some (released over p l)) (λ e. inr refl) (λ e. inl (rw live live));
-  }
+  end_keeps user = search (rules, after_kin, after_foreign, choose, released_kin, released_foreign, choose_both)
 
   collector_mine : (p : ProcData) (o : Option ProcData) → p.uid ≡ u → Kin p o → IfSome (option_map collector o) (Mine u)
   collector_mine p None mine k = tt
-  collector_mine p (Some z) mine k = by_tracer z.tracer k.2.tracer
-    where
-      by_tracer : (o : Option ℕ) → IfSome o (λ t. pid_owner t ≡ z.uid) → Mine u (unwrap_or o z.parent)
-      by_tracer None g ne = k.2.parent ne ∙ k.1 ∙ mine
-      by_tracer (Some t) g ne = g ∙ k.1 ∙ mine
+  collector_mine p (Some z) mine k = search (rules, unwrap_or)
 
   notifies_foreign : (p : ProcData) → GoodProc p → p.uid ≢ u → notifies_of ends over n w p ≡ None
   notifies_foreign p good ne = rw (ends_foreign p good ne, holds_none over over_foreign ne p.tracer good.tracer, and_false (not (is_live p))) refl
 
   notifies_mine : (p : ProcData) → GoodProc p → IfSome (notifies_of ends over n w p) (Mine u)
-  notifies_mine p good = either p.uid u
-      (λ is. choose (ends p || (not (is_live p) && holds_of over p.tracer)) _ None (λ o. IfSome o (Mine u)) (λ e. collector_mine p (process_after ends over n w p) is (after_kin p good)) (λ e. tt))
-      (λ ne. subst (λ o. IfSome o (Mine u)) (sym (notifies_foreign p good ne)) tt)
+  notifies_mine p good = search (rules, either, choose, collector_mine, after_kin, notifies_foreign)
 
   end_each_same : {start c v : Rows} → Sim u start c v → Sim u start (end_each ends over n w c) (end_each ends over n w v)
   end_each_same {start} {c} {v} s = subst (λ ns. Sim u start (end_each ends over n w c) (notified ns (each (process_after ends over n w) (lwp_after ends over) v)))

@@ -1,5 +1,5 @@
 -- Filters, and what is looked up in a filtered list.
-use Rattle.std.proofs.Common.{◌≡◌, ℕ, ◌<◌, List, [], ◌∷◌, ◌++◌, map, filter, find, filter_map, Bool, true, false, Option, Some, None, IfSome, refl, sym, ap, ◌∙◌, arith, ltb, subst}
+use Rattle.std.proofs.Common.{◌≡◌, ◌<◌, List, [], ◌∷◌, map, filter, find, filter_map, Bool, true, false, Option, Some, None, IfSome, refl, sym, ap, ◌∙◌, arith, ltb}
 use Rattle.std.specs.List.{AllByRecursion, cons_option, list_any}
 use Rattle.std.proofs.lemmas.List.Elements.{filter-append}
 use Rattle.proc_table.specs.declared.ProcData.{ProcData}

@@ -1,5 +1,6 @@
 -- Sound rows keep users apart, and what a user sees of them: before a change, after it, and after the end of a process.
-use Rattle.std.proofs.Common.{◌≡◌, ◌≢◌, ℕ, List, filter, Bool, true, false, ◌==◌, ◌&&◌, if◌then◌else◌, Option, Some, None, IfSome, refl, sym, ap, ◌∙◌, arith, eqb, true≢false, eqb-true, subst, eq-eqb}
+use Rattle.std.proofs.lemmas.Bool.Decides.{nat_tests}
+use Rattle.std.proofs.Common.{◌≡◌, ◌≢◌, ℕ, List, filter, Bool, true, false, ◌==◌, ◌&&◌, None, refl, sym, ap, ◌∙◌, arith, eqb-true, subst, eq-eqb, rules}
 use Rattle.std.specs.List.{AllByRecursion}
 use Rattle.pid_blocks.specs.Users.{IsUser}
 use Rattle.pid_blocks.specs.Blocks.{pid_owner, tid_owner, pid_block, tid_block, InBlock}
@@ -7,7 +8,7 @@ use Rattle.lwp_table.specs.declared.LwpData.{LwpData}
 use Rattle.proc_table.specs.declared.ProcData.{ProcData}
 use Rattle.proc_table.specs.declared.State.{State}
 use Rattle.proc_table.specs.declared.State.TheVariants.{Run, Trace, Job, Zombie}
-use Rattle.proc_table.specs.Processes.{is_live, reporting, process_of}
+use Rattle.proc_table.specs.Processes.{is_live}
 use Rattle.proc_table.specs.Rows.{Rows}
 use Rattle.proc_table.specs.Seen.{owns}
 use Rattle.proc_table.specs.Kept.{AtHome}
@@ -23,7 +24,7 @@ use Rattle.trace_stop.proofs.Edited.{If_more}
 use Rattle.trace_stop.proofs.Children.{child_lives}
 use Rattle.trace_stop.proofs.Stops.{find_passes}
 use Rattle.user_rows.proofs.ViewLists.{filter_same}
-use Rattle.user_rows.proofs.ViewSame.{Sim, own_lwp, either, at_number}
+use Rattle.user_rows.proofs.ViewSame.{Sim, own_lwp, at_number}
 use Rattle.user_rows.proofs.ViewEnds.{end_same}
 
 -- Owners of numbers
@@ -71,9 +72,7 @@ module _ (rows : Rows) (s : IsSound rows) where
 
   -- an LWP's number is of its process's user
   lwp_owner : (l : LwpData) → kept.Housed rows l → tid_owner l.tid ≡ pid_owner l.pid
-  lwp_owner l h =
-      let f = find_some (λ p. p.pid == l.pid) AtHome rows.processes s.stands.homes h.0 h.1 in
-      tid_in_block h.0.uid l.tid f.0.user h.2 ∙ sym (block_of h.0 f.0) ∙ ap pid_owner (eqb-true h.0.pid l.pid f.1)
+  lwp_owner l h = search (rules, find_some, tid_in_block, block_of, eqb-true)
 
   named_owner : (p : ProcData) → AtHome p → (tid : ℕ) → names_own rows p tid ≡ true → tid_owner tid ≡ p.uid
   named_owner p home tid is = any_holds (λ l. (l.tid == tid) && (l.pid == p.pid)) (kept.Housed rows) (tid_owner tid ≡ p.uid)
@@ -87,14 +86,7 @@ module _ (rows : Rows) (s : IsSound rows) where
   collector_of p (Job sig told) e end dead none = absurd (grind (arith, e, dead))
 
   good_row : (p : ProcData) → AtHome p × (Linked rows p × FitProcess p) → GoodProc p
-  good_row p h = record {
-    user = h.0.user;
-    block = block_of p h.0;
-    tracer = If_more (IsLiveOf rows p.uid) (λ t. pid_owner t ≡ p.uid) (live_owner p.uid) p.tracer h.1.0.tracer;
-    parent = λ ne. live_owner p.uid p.parent (h.1.0.parent ne);
-    reporting = If_more (λ tid. names_own rows p tid ≡ true) (λ tid. tid_owner tid ≡ p.uid) (named_owner p h.0) (reporting p) h.1.0.named;
-    collector = collector_of p p.state refl h.1.1.ended;
-  }
+  good_row p h = search (rules, block_of, live_owner, named_owner, collector_of)
 
   good_lwp : (l : LwpData) → kept.Housed rows l × WithOwner rows (Standing rows) l → GoodLwp l
   good_lwp l h =
@@ -127,31 +119,18 @@ module _ (rows : Rows) (s : IsSound rows) where
 -- What a user's own rows are
 
 same_rows : (a b : Rows) → a.processes ≡ b.processes → a.lwps ≡ b.lwps → a.pid_cursors ≡ b.pid_cursors → a.tid_cursors ≡ b.tid_cursors → a ≡ b
-same_rows a b processes lwps pids tids =
-    ap {B = Rows} (λ ps. record a { processes = ps }) processes
-    ∙ ap {B = Rows} (λ ls. record a { processes = b.processes; lwps = ls }) lwps
-    ∙ ap {B = Rows} (λ ns. record b { pid_cursors = ns; tid_cursors = a.tid_cursors }) pids
-    ∙ ap {B = Rows} (λ ns. record b { tid_cursors = ns }) tids
+same_rows a b processes lwps pids tids = grind (arith, nat_tests)
 
 -- before the change
 pub own_start : (u : ℕ) (rows : Rows) → Closed u rows → Sim u rows rows (only_of u rows)
-own_start u rows closed = record {
-  kept = record { closed = closed; processes = λ w ne. refl; lwps = λ w ne. refl; pid_cursor = λ w user ne. refl; tid_cursor = λ w user ne. refl };
-  processes = refl;
-  lwps = sym (lwps_seen u rows closed.processes closed.housed);
-  pid_cursor = refl;
-  tid_cursor = refl;
-  pid_slots = closed.pid_slots;
-  tid_slots = closed.tid_slots;
-}
+own_start u rows closed = search (rules, closed, lwps_seen)
 
 -- and after it, for the user and for others
 pub own_after : {u : ℕ} {start c v : Rows} → Sim u start c v → c.pid_cursors ≡ v.pid_cursors → c.tid_cursors ≡ v.tid_cursors → only_of u c ≡ v
 own_after {u} {start} {c} {v} s pids tids = same_rows (only_of u c) v s.processes (lwps_seen u c s.kept.closed.processes s.kept.closed.housed ∙ s.lwps) pids tids
 
 pub others_after : {u : ℕ} {start c v : Rows} → Closed u start → Sim u start c v → c.pid_cursors ≡ start.pid_cursors → c.tid_cursors ≡ start.tid_cursors → (w : ℕ) → w ≢ u → only_of w c ≡ only_of w start
-others_after {u} {start} {c} {v} closed s pids tids w ne = same_rows (only_of w c) (only_of w start) (s.kept.processes w ne)
-    (lwps_seen w c s.kept.closed.processes s.kept.closed.housed ∙ s.kept.lwps w ne ∙ sym (lwps_seen w start closed.processes closed.housed)) pids tids
+others_after {u} {start} {c} {v} closed s pids tids w ne = search (rules, same_rows, lwps_seen)
 
 -- an end takes no number
 module _ (settings : Settings) (p status : ℕ) (rows : Rows) where

@@ -1,6 +1,6 @@
 -- One relation says all of isolation: what a step did to all rows, what the same step does to one
 -- user's rows, and that other users' rows are as they were.
-use Rattle.std.proofs.Common.{◌≡◌, ◌≢◌, ℕ, List, length, filter, find, filter_map, Bool, true, false, ◌==◌, Option, Some, None, IfSome, refl, sym, ap, ◌∙◌, arith, eqb, true≢false, eqb-true, subst, eq-eqb, get_or, inl, inr, ◌⊎◌}
+use Rattle.std.proofs.Common.{◌≡◌, ◌≢◌, ℕ, List, length, filter, find, filter_map, Bool, true, false, ◌==◌, Option, Some, None, IfSome, refl, sym, ap, ◌∙◌, arith, eqb, true≢false, eqb-true, subst, eq-eqb, get_or, inl, inr, ◌⊎◌, rules}
 use Rattle.std.specs.List.{AllByRecursion}
 use Rattle.std.proofs.lemmas.Bool.Decides.{nat_tests}
 use Rattle.pid_blocks.specs.Users.{IsUser}
@@ -49,11 +49,7 @@ pub not_equal : (n m : ℕ) → eqb n m ≡ false → n ≢ m
 not_equal n m is e = true≢false (sym (eq-eqb n m e) ∙ is)
 
 pub either : (n m : ℕ) {R : Type 0} → (n ≡ m → R) → (n ≢ m → R) → R
-either n m {R} yes' no' = by_test (eqb n m) refl
-  where
-    by_test : (b : Bool) → eqb n m ≡ b → R
-    by_test true is = yes' (eqb-true n m is)
-    by_test false is = no' (not_equal n m is)
+either n m {R} yes' no' = search (rules, eqb, eqb-true, not_equal)
 
 -- Queries
 
@@ -117,11 +113,7 @@ module _ {u : ℕ} {start c v : Rows} (s : Sim u start c v) (f : ProcData → Op
   kins R h p good = If_more _ (R p) (h p) (f p) (kin p good)
 
   live_after : (n : ℕ) (p : ProcData) → process_of n c.processes ≡ Some p → LiveRow (f p) → LiveRow (process_of n after)
-  live_after n p is = by_row (f p) refl
-    where
-      by_row : (o : Option ProcData) → f p ≡ o → LiveRow o → LiveRow (process_of n after)
-      by_row None e no_row = absurd no_row
-      by_row (Some q) e live = subst LiveRow (sym (find_edit (λ x. x.pid == n) f GoodProc (kins (λ x y. (y.pid == n) ≡ (x.pid == n)) (λ x y j. ap (λ m. eqb m n) j.0)) c.processes all p q is e)) live
+  live_after n p is = search (rules, find_edit, kins, eqb, all)
 
   -- an LWP, with what its process becomes
   abbrev to : LwpData → Option LwpData

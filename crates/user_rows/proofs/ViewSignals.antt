@@ -1,21 +1,18 @@
 -- Posting signals, and running on.
-use Rattle.std.proofs.Common.{◌≡◌, ◌≢◌, ℕ, List, [], ◌∷◌, Bool, false, ◌==◌, ◌||◌, if◌then◌else◌, Option, Some, None, is_none, option_map, IfSome, refl, sym, ap, ◌∙◌, arith, eqb, true≢false, eqb-true, subst, inl}
+use Rattle.std.proofs.Common.{◌≡◌, ◌≢◌, ℕ, List, [], ◌∷◌, Bool, false, ◌==◌, if◌then◌else◌, Option, Some, None, option_map, IfSome, refl, sym, ap, ◌∙◌, arith, subst, inl, rules}
 use Rattle.std.specs.List.{AllByRecursion, list_any}
 use Rattle.pid_blocks.specs.Users.{IsUser}
 use Rattle.pid_blocks.specs.Blocks.{pid_owner}
-use Rattle.event_masks.specs.Exits.{no_flags, shows}
-use Rattle.event_masks.specs.declared.TheConstants.StopFlags.{PL_FLAG_EXITED}
 use Rattle.signals.specs.Table.{SIGCHLD}
 use Rattle.proc_table.specs.declared.ProcData.{ProcData}
-use Rattle.proc_table.specs.declared.State.TheVariants.{Run}
 use Rattle.lwp_table.specs.declared.LwpData.{LwpData}
-use Rattle.proc_table.specs.Processes.{is_live, process_of, is_this, reporting}
+use Rattle.proc_table.specs.Processes.{process_of}
 use Rattle.proc_table.specs.Rows.{Rows, is_numbered, change}
-use Rattle.trace_stop.specs.Post.{settled_process, settled_lwp, settle, continues, posted_set, posted_process, posted_lwp, notified, notifies, posted}
-use Rattle.trace_stop.specs.Detach.{running, reported, run_on, resumed, untraced, untraced_lwp, detached}
+use Rattle.trace_stop.specs.Post.{settled_process, settle, continues, posted_process, posted_lwp, notified, notifies, posted}
+use Rattle.trace_stop.specs.Detach.{reported, run_on, resumed, detached}
 use Rattle.user_rows.specs.Closed.{Mine, GoodProc, GoodLwp}
 use Rattle.trace_stop.proofs.Every.{choose}
-use Rattle.user_rows.proofs.ViewSame.{Sim, KinLwp, not_own, either, named, process_same, at_number, each_same}
+use Rattle.user_rows.proofs.ViewSame.{Sim, KinLwp, not_own, named, process_same, at_number, each_same}
 use Rattle.user_rows.proofs.ViewEdits.{Stays, StaysLwp, stays_if, kin_of, change_same}
 
 abbrev pub Mines : ℕ → List ℕ → Type 0
@@ -43,13 +40,10 @@ settled_stays : (p : ProcData) → GoodProc p → Stays p (settled_process p)
 settled_stays p good = (refl, refl, record { user = good.user; block = good.block; tracer = good.tracer; parent = good.parent; reporting = good.reporting; collector = good.collector }, λ l. l)
 
 pub settle_same : {u : ℕ} {start c v : Rows} → Sim u start c v → (n : ℕ) → pid_owner n ≡ u → Sim u start (settle n c) (settle n v)
-settle_same s n here = change_same s (is_numbered n) settled_process settled_lwp (is_numbered_foreign n here)
-    (λ p good is e. settled_stays p good) (λ p l good well. (refl, record { block = well.block; waits = well.waits }))
+settle_same s n here = search (rules, change_same, is_numbered_foreign, settled_stays)
 
 posted_stays : (s : ℕ) (to : Option ℕ) (p : ProcData) → GoodProc p → Stays p (posted_process s to p)
-posted_stays s to p good = choose (continues s p) _ _ (Stays p)
-    (λ e. (refl, refl, record { user = good.user; block = good.block; tracer = good.tracer; parent = good.parent; reporting = tt; collector = λ dead. absurd (true≢false dead) }, λ l. refl))
-    (λ e. (refl, refl, record { user = good.user; block = good.block; tracer = good.tracer; parent = good.parent; reporting = good.reporting; collector = good.collector }, λ l. l))
+posted_stays s to p good = search (rules, choose)
 
 pub notified_same : {u : ℕ} {start c v : Rows} → Sim u start c v → (ns : List ℕ) → Mines u ns → Sim u start (notified ns c) (notified ns v)
 notified_same s ns all = change_same s (λ p. list_any (λ n. n == p.pid) ns) (posted_process SIGCHLD None) (posted_lwp SIGCHLD None)
@@ -70,9 +64,7 @@ posted_same {u} {start} {c} {v} s sig to n here = subst (λ o. Sim u start (post
 -- Running on
 
 reported_kin : (p : ProcData) (l : LwpData) → GoodLwp l → KinLwp l (reported p l)
-reported_kin p l well = choose (is_this l.tid (reporting p)) _ (Some l) (KinLwp l)
-    (λ e. choose (shows l.flags PL_FLAG_EXITED) None (Some (record l { flags = no_flags; child = 0; code = 0 })) (KinLwp l) (λ d. tt) (λ d. (refl, record { block = well.block; waits = well.waits })))
-    (λ e. (refl, well))
+reported_kin p l well = search (rules, choose)
 
 pub run_on_same : {u : ℕ} {start c v : Rows} → Sim u start c v → (chosen : ProcData → Bool) (process : ProcData → ProcData) (lwp : ProcData → LwpData → LwpData)
     → ((p : ProcData) → GoodProc p → p.uid ≢ u → chosen p ≡ false)
@@ -95,11 +87,7 @@ run_on_same s chosen process lwp foreign stays stays_lwp = each_same s (λ p. So
     then_lwp p l (Some m) k = let st = stays_lwp p m k.1 in (st.0 ∙ k.0, st.1)
 
 pub resumed_same : {u : ℕ} {start c v : Rows} → Sim u start c v → (n : ℕ) → pid_owner n ≡ u → Sim u start (resumed n c) (resumed n v)
-resumed_same s n here = run_on_same s (is_numbered n) running (λ p l. l) (is_numbered_foreign n here)
-    (λ p good. (refl, refl, record { user = good.user; block = good.block; tracer = good.tracer; parent = good.parent; reporting = tt; collector = λ dead. absurd (true≢false dead) }, λ l. refl))
-    (λ p l well. (refl, well))
+resumed_same s n here = search (rules, run_on_same, is_numbered_foreign)
 
 pub detached_same : {u : ℕ} {start c v : Rows} → Sim u start c v → (chosen : ProcData → Bool) (lost : ProcData → ℕ) → ((p : ProcData) → GoodProc p → p.uid ≢ u → chosen p ≡ false) → Sim u start (detached chosen lost c) (detached chosen lost v)
-detached_same s chosen lost foreign = run_on_same s chosen (λ p. untraced (lost p) p) (λ p l. untraced_lwp (lost p) p l) foreign
-    (λ p good. (refl, refl, record { user = good.user; block = good.block; tracer = tt; parent = good.parent; reporting = tt; collector = λ dead. absurd (true≢false dead) }, λ l. refl))
-    (λ p l well. (refl, record { block = well.block; waits = well.waits }))
+detached_same s chosen lost foreign = search (rules, run_on_same)

@@ -1,5 +1,5 @@
 -- Rows gathered by a walk: those had so far, and those that are left.
-use Rattle.std.proofs.Common.{◌≡◌, ℕ, zero, suc, ◌+◌, ◌≤◌, List, [], ◌∷◌, ◌++◌, filter, map, drop, length, Option, Some, None, Bool, true, false, refl, sym, ap, ◌∙◌, arith, append_assoc, append-nil, inl, inr}
+use Rattle.std.proofs.Common.{◌≡◌, ℕ, zero, suc, ◌+◌, ◌≤◌, List, [], ◌∷◌, ◌++◌, filter, map, drop, length, Option, Some, None, Bool, true, false, refl, sym, ap, ◌∙◌, arith, append_assoc, append-nil, inl, inr, rules}
 use Rattle.std.specs.Prelude.{slice_get, option_map, find, is_some}
 use Rattle.std.specs.List.{list_any}
 use Rattle.std.proofs.lemmas.Bool.{cases_Bool}
@@ -38,16 +38,10 @@ module _ {X : Type 0} (t : X → Bool) (xs : List X) (i : ℕ) (x : X) (had now 
   onward = omega arith
 
   pub had_next : t x ≡ true → now ≡ had ++ (x ∷ []) → had ++ filter t (drop i xs) ≡ all → now ++ filter t (drop (i + 1) xs) ≡ all
-  had_next passes more was = rw (more, onward) (append_assoc had (x ∷ []) (filter t (drop (suc i) xs)) ∙ ap (λ ys. had ++ ys) (sym here) ∙ was)
-    where
-      here : filter t (drop i xs) ≡ x ∷ filter t (drop (suc i) xs)
-      here = rw (left_at xs i x is, passes) refl
+  had_next passes more was = search (rules, onward, append_assoc, left_at)
 
   pub out_next : t x ≡ false → now ≡ had → had ++ filter t (drop i xs) ≡ all → now ++ filter t (drop (i + 1) xs) ≡ all
-  out_next fails same was = rw (same, onward) (ap (λ ys. had ++ ys) (sym here) ∙ was)
-    where
-      here : filter t (drop i xs) ≡ filter t (drop (suc i) xs)
-      here = rw (left_at xs i x is, fails) refl
+  out_next fails same was = search (rules, onward, left_at)
 
 -- the walk's end
 pub all_had : {X : Type 0} (t : X → Bool) (xs : List X) (i : ℕ) (had all : List X) → slice_get xs i ≡ None → had ++ filter t (drop i xs) ≡ all → had ≡ all

@@ -1,5 +1,5 @@
 -- The child that is reported, and whether there is a child, by the lists of tracees and of children, and by number.
-use Rattle.std.proofs.Common.{◌≡◌, ℕ, ℤ, pos, negsuc, List, [], ◌∷◌, find, Bool, true, false, ◌==◌, ◌&&◌, ◌||◌, ltb, Some, is_some, refl, sym, ap, ◌∙◌, arith, subst, inl, inr, nat_eq}
+use Rattle.std.proofs.Common.{◌≡◌, ℕ, ℤ, pos, negsuc, List, [], ◌∷◌, find, Bool, true, false, ◌==◌, ◌&&◌, ◌||◌, ltb, Some, is_some, refl, sym, ap, ◌∙◌, subst, nat_eq, rules}
 use Rattle.std.specs.List.{AllByRecursion, list_any}
 use Rattle.std.proofs.Math.Path.{fun_ext}
 use Rattle.std.proofs.lemmas.Bool.{cases_Bool}
@@ -74,20 +74,7 @@ or_first a b c is = ap (λ d. d || b) is
 pub child-any : (caller k : ℕ) (ps : List ProcData) → AllByRecursion AtHome ps
     → list_any (λ p. is_child caller p && fits (negsuc k) p) ps ≡ (is_some (find (λ p. ltb 0 p.pid && names_as Tracer caller p) ps) || is_some (find (λ p. ltb 0 p.pid && names_as Parent caller p) ps))
 child-any caller k [] homes = refl
-child-any caller k (p ∷ ps) homes =
-    let low = homes.0.block.0 in
-    let some : ltb 0 p.pid ≡ true = grind (arith, nat_tests, low) in
-    elim (cases_Bool (traces caller p)) [
-      | inl e ↦ rw (some, e) refl
-      | inr e ↦ elim (cases_Bool (p.parent == caller)) [
-        | inl f ↦ rw (some, e, f) (sym (or_true _))
-        | inr f ↦ rw (some, e, f) (child-any caller k ps homes.1)
-      ]
-    ]
-  where
-    or_true : (b : Bool) → (b || true) ≡ true
-    or_true true = refl
-    or_true false = refl
+child-any caller k (p ∷ ps) homes = search (rules, child-any caller k ps homes.1, ltb, nat_tests, cases_Bool)
 
 -- what holds of every process holds of the one that is reported
 pub reported-has : (P : ProcData → Type 0) (caller : ℕ) (which : ℤ) (options : Options) (rows : Rows) (p : ProcData) → AllByRecursion P rows.processes → reported caller which options rows ≡ Some p → P p

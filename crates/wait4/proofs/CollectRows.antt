@@ -1,7 +1,6 @@
 -- The rows after one process is collected, as an edit of its row.
-use Rattle.std.proofs.Common.{◌≡◌, ℕ, List, [], ◌∷◌, filter, filter_map, map, Bool, true, false, cond, ◌==◌, ◌&&◌, not, Option, Some, None, refl, ap, ◌∙◌, nat_eq, inl, inr, if◌then◌else◌}
+use Rattle.std.proofs.Common.{◌≡◌, ℕ, List, [], ◌∷◌, filter, filter_map, map, Bool, true, false, cond, ◌==◌, ◌&&◌, not, Option, Some, None, refl, ap, ◌∙◌, nat_eq, if◌then◌else◌, rules}
 use Rattle.std.specs.List.{AllByRecursion}
-use Rattle.lwp_table.specs.declared.LwpData.{LwpData}
 use Rattle.proc_table.specs.declared.ProcData.{ProcData}
 use Rattle.proc_table.specs.Processes.{is_live, process_of}
 use Rattle.proc_table.specs.Rows.{Rows, owner, by_owner, each}
@@ -20,28 +19,15 @@ module _ (f : ProcData → Option ProcData) (n : ℕ) (p : ProcData) where
 
   pub edit-put : (new : ProcData) → new.pid ≡ n → f p ≡ Some new → (qs : List ProcData) → AllByRecursion (λ q. q.pid ≡ n → q ≡ p) qs → filter_map edit_at qs ≡ map (put_process new) qs
   edit-put new its to [] all = refl
-  edit-put new its to (q ∷ qs) all = elim (equal_or_not q.pid n) [
-    | inl h ↦
-        let made : f q ≡ Some new = ap f (all.0 h.1) ∙ to in
-        let here : nat_eq q.pid new.pid ≡ true = rw its h.0 in
-        rw (h.0, here, made) (ap (λ xs. new ∷ xs) (edit-put new its to qs all.1))
-    | inr h ↦ let other : nat_eq q.pid new.pid ≡ false = rw its h.0 in rw (h.0, other) (ap (λ xs. q ∷ xs) (edit-put new its to qs all.1))
-  ]
+  edit-put new its to (q ∷ qs) all = search (rules, edit-put new its to qs all.1, equal_or_not)
 
   pub edit-drop : f p ≡ None → (qs : List ProcData) → AllByRecursion (λ q. q.pid ≡ n → q ≡ p) qs → filter_map edit_at qs ≡ filter (λ q. not (q.pid == n)) qs
   edit-drop to [] all = refl
-  edit-drop to (q ∷ qs) all = elim (equal_or_not q.pid n) [
-    | inl h ↦ let gone : f q ≡ None = ap f (all.0 h.1) ∙ to in rw (h.0, gone) (edit-drop to qs all.1)
-    | inr h ↦ rw h.0 (ap (λ xs. q ∷ xs) (edit-drop to qs all.1))
-  ]
+  edit-drop to (q ∷ qs) all = search (rules, edit-drop to qs all.1, equal_or_not)
 
 -- an edit of processes alone leaves the LWPs
 pub lwps_left : (rows : Rows) → filter_map (λ l. by_owner (λ q k. Some k) l (owner rows l)) rows.lwps ≡ rows.lwps
-lwps_left rows = edit_none (λ l. by_owner (λ q k. Some k) l (owner rows l)) (λ l. by_row l (owner rows l)) rows.lwps
-  where
-    by_row : (l : LwpData) (o : Option ProcData) → by_owner (λ q k. Some k) l o ≡ Some l
-    by_row l None = refl
-    by_row l (Some q) = refl
+lwps_left rows = search (rules, edit_none)
 
 module _ (caller : ℕ) (p : ProcData) (rows : Rows) (up : Rise rows.processes) (at : process_of p.pid rows.processes ≡ Some p) where
   only : AllByRecursion (λ q. q.pid ≡ p.pid → q ≡ p) rows.processes

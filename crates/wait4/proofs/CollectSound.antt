@@ -1,13 +1,12 @@
 -- Collecting a status keeps rows sound.
-use Rattle.std.proofs.Common.{◌≡◌, inl, inr, ℕ, true, false, ◌==◌, ◌&&◌, not, if◌then◌else◌, [], ◌∷◌, Option, Some, None, IfSome, refl, sym, ap, ◌∙◌, true≢false, subst, eq-eqb, bit_and}
+use Rattle.std.proofs.Common.{◌≡◌, inl, ℕ, true, false, ◌==◌, ◌&&◌, not, if◌then◌else◌, [], ◌∷◌, Option, Some, None, IfSome, refl, sym, ◌∙◌, true≢false, eq-eqb, bit_and, rules}
 use Rattle.std.specs.List.{AllByRecursion}
 use Rattle.lwp_table.specs.declared.LwpData.{LwpData}
 use Rattle.proc_table.specs.declared.ProcData.{ProcData}
 use Rattle.proc_table.specs.declared.State.{State}
 use Rattle.proc_table.specs.declared.State.TheVariants.{Run, Trace, Job, Zombie}
-use Rattle.proc_table.specs.Processes.{is_live, reporting, traces, process_of}
+use Rattle.proc_table.specs.Processes.{is_live, reporting, process_of}
 use Rattle.proc_table.specs.Rows.{Rows, each}
-use Rattle.trace_stop.specs.Post.{unwanted}
 use Rattle.trace_stop.specs.Facts.{FitProcess, FitLwp, IsSound}
 use Rattle.trace_stop.specs.Before.{MayTell}
 use Rattle.trace_stop.proofs.Every.{and_left, and_right, choose}
@@ -60,23 +59,7 @@ module _ (caller : ℕ) (p : ProcData) where
     fits = λ fit. record { stopped = fit.stopped; job = fit.job; continued = fit.continued; untraced = λ none. record { mask = (fit.untraced none).mask; pending = (fit.untraced none).pending }; ended = tt };
     fit_lwp = λ live l. beside_fits (now (Job sig told)) (now (Job sig true)) l refl refl refl;
   }
-  collected_kept (Zombie w) = choose (stays caller (now (Zombie w))) (Some left) None (IfCollected (now (Zombie w))) (λ stay. record {
-    pid = refl;
-    uid = refl;
-    like = record { live = refl; tracer = inr refl; parent = refl };
-    reporting = refl;
-    fits = λ fit. record {
-      stopped = λ r. absurd (true≢false (sym r));
-      job = λ j. refl;
-      continued = λ on. (refl, (fit.continued on).1);
-      untraced = λ none. record { mask = fit.ended.mask; pending = subst (λ n. bit_and n (unwanted left) ≡ 0) (sym fit.ended.pending) (zero_apart (unwanted left)) };
-      ended = record { word = fit.ended.word; mask = fit.ended.mask; pending = fit.ended.pending; collector = λ none one. true≢false (sym (and_right (traces caller p) (not (p.parent == 1)) (and_left (traces caller p && not (p.parent == 1)) (not (p.parent == caller)) stay)) ∙ ap not (eq-eqb p.parent 1 one)) };
-    };
-    fit_lwp = λ live l fit. absurd (true≢false (sym live));
-  }) (λ gone. refl)
-    where
-      left : ProcData
-      left = record p { state = Zombie w; tracer = None }
+  collected_kept (Zombie w) = search (rules, choose, bit_and, zero_apart, and_right, and_left, stay, eq-eqb)
 
 -- the rows after a collect, each by what it keeps
 module _ (caller : ℕ) (p : ProcData) where
@@ -87,11 +70,7 @@ module _ (caller : ℕ) (p : ProcData) where
   kept q = choose (q.pid == p.pid) (collected caller q) (Some q) (IfCollected q) (λ e. collected_kept caller q q.state) (λ e. same_kept q)
 
   pub by_kept : (q : ProcData) (R : Option ProcData → Type 0) → (is_live q ≡ false → R None) → ((r : ProcData) → Kept q r → R (Some r)) → R (if q.pid == p.pid then collected caller q else Some q)
-  by_kept q R gone left = at_row (if q.pid == p.pid then collected caller q else Some q) (kept q)
-    where
-      at_row : (o : Option ProcData) → IfCollected q o → R o
-      at_row None k = gone k
-      at_row (Some r) k = left r k
+  by_kept q R gone left = search (rules, kept)
 
 module _ (caller : ℕ) (p : ProcData) (rows : Rows) (s : IsSound rows) (at : process_of p.pid rows.processes ≡ Some p) where
   abbrev to : ProcData → Option ProcData

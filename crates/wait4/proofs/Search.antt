@@ -1,5 +1,5 @@
 -- Searches for the child that is reported.
-use Rattle.std.proofs.Common.{◌≡◌, ℕ, ◌<◌, ◌≤◌, List, [], ◌∷◌, filter, find, Bool, true, false, ◌&&◌, ◌||◌, ltb, leb, Option, Some, None, is_some, refl, sym, ap, ◌∙◌, arith, inl, inr, nat_eq, subst, true≢false, if◌then◌else◌}
+use Rattle.std.proofs.Common.{◌≡◌, ℕ, ◌<◌, ◌≤◌, List, [], ◌∷◌, filter, find, Bool, true, false, ◌&&◌, ◌||◌, ltb, leb, Option, Some, None, is_some, refl, sym, ap, ◌∙◌, arith, inl, inr, nat_eq, subst, true≢false, if◌then◌else◌, rules}
 use Rattle.std.specs.List.{AllByRecursion, list_any}
 use Rattle.std.proofs.lemmas.Bool.{cases_Bool}
 use Rattle.std.proofs.lemmas.Bool.Decides.{nat_tests}
@@ -23,11 +23,7 @@ least_unique : (t : ProcData → Bool) (n : ℕ) (ps : List ProcData) (o w : Opt
 least_unique t n ps None None x y = refl
 least_unique t n ps None (Some p) x y = absurd (true≢false (sym y.passes ∙ x p y.row y.above))
 least_unique t n ps (Some p) None x y = absurd (true≢false (sym x.passes ∙ y p x.row x.above))
-least_unique t n ps (Some p) (Some q) x y =
-    let a = x.least q y.row y.above y.passes in
-    let b = y.least p x.row x.above x.passes in
-    let same : p.pid ≡ q.pid = omega (arith, a, b) in
-    sym x.row ∙ (ap (λ m. process_of m ps) same ∙ y.row)
+least_unique t n ps (Some p) (Some q) x y = grind (arith, nat_tests)
 
 module _ (a r : ProcData → Bool) where
   -- what a search that has come to n still finds
@@ -94,16 +90,7 @@ module _ (x y : ProcData → Bool) where
 
   pub find-lesser : (ps : List ProcData) → Rise ps → find (λ p. x p || y p) ps ≡ lesser (find x ps) (find y ps)
   find-lesser [] up = refl
-  find-lesser (q ∷ ps) up = elim (cases_Bool (x q)) [
-    | inl e ↦ elim (cases_Bool (y q)) [
-      | inl f ↦ rw (e, f) (sym (lesser_self q))
-      | inr f ↦ rw (e, f) (sym (lesser_left q ps (find y ps) up.0 refl))
-    ]
-    | inr e ↦ elim (cases_Bool (y q)) [
-      | inl f ↦ rw (e, f) (sym (lesser_right q ps (find x ps) up.0 refl))
-      | inr f ↦ rw (e, f) (find-lesser ps up.1)
-    ]
-  ]
+  find-lesser (q ∷ ps) up = search (rules, find-lesser ps up.1, cases_Bool, lesser_self, lesser_left, find, lesser_right)
 
 -- By number
 
@@ -116,13 +103,7 @@ none_numbered t n (q ∷ ps) none = elim (cases_Bool (nat_eq q.pid n)) [
 
 pub only_numbered : (t : ProcData → Bool) (n : ℕ) (ps : List ProcData) → Rise ps → find (λ p. nat_eq p.pid n && t p) ps ≡ keep t (process_of n ps)
 only_numbered t n [] up = refl
-only_numbered t n (q ∷ ps) up = elim (equal_or_not q.pid n) [
-  | inl h ↦ elim (cases_Bool (t q)) [
-    | inl e ↦ rw (h.0, e) refl
-    | inr e ↦ rw (h.0, e) (none_numbered t n ps (none_above q.pid n (omega (arith, h.1)) ps up.0))
-  ]
-  | inr h ↦ rw h.0 (only_numbered t n ps up.1)
-]
+only_numbered t n (q ∷ ps) up = search (rules, only_numbered t n ps up.1, equal_or_not, cases_Bool, none_numbered, none_above)
 
 pub keep-passing : (t : ProcData → Bool) (p : ProcData) → t p ≡ true → keep t (Some p) ≡ Some p
 keep-passing t p is = rw is refl
@@ -136,21 +117,13 @@ is_kept t p = elim (cases_Bool (t p)) [ inl e ↦ rw e refl | inr e ↦ rw e ref
 -- no number outside all blocks is a row's
 pub none_outside : (n : ℕ) (ps : List ProcData) → AllByRecursion AtHome ps → 65000 ≤ n → process_of n ps ≡ None
 none_outside n [] homes far = refl
-none_outside n (q ∷ ps) homes far =
-    let to = homes.0.block.1 in
-    let last = homes.0.user.1 in
-    let from = homes.0.user.0 in
-    let other : nat_eq q.pid n ≡ false = grind (arith, nat_tests, to, from, last, far) in
-    rw other (none_outside n ps homes.1 far)
+none_outside n (q ∷ ps) homes far = search (rules, none_outside n ps homes.1 far, nat_tests)
 
 -- Candidates
 
 pub find-filter : (q r : ProcData → Bool) (ps : List ProcData) → find r (filter q ps) ≡ find (λ p. q p && r p) ps
 find-filter q r [] = refl
-find-filter q r (p ∷ ps) = elim (cases_Bool (q p)) [
-  | inl e ↦ elim (cases_Bool (r p)) [ inl f ↦ rw (e, f) refl | inr f ↦ rw (e, f) (find-filter q r ps) ]
-  | inr e ↦ rw e (find-filter q r ps)
-]
+find-filter q r (p ∷ ps) = search (rules, find-filter q r ps, cases_Bool)
 
 pub answer-none : (q : ProcData → Bool) (ps : List ProcData) → answer (filter q ps) None ≡ (if list_any q ps then Nothing else NoChild)
 answer-none q [] = refl

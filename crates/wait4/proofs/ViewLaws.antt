@@ -1,5 +1,5 @@
 -- A wait among all rows, and among one user's own rows.
-use Rattle.std.proofs.Common.{◌≡◌, ◌≢◌, ℕ, ℤ, true, Option, Some, None, refl, sym, ◌∙◌}
+use Rattle.std.proofs.Common.{◌≡◌, ◌≢◌, ℕ, ℤ, true, Option, Some, None, refl, sym, rules}
 use Rattle.pid_blocks.specs.Blocks.{pid_owner}
 use Rattle.proc_table.specs.declared.ProcData.{ProcData}
 use Rattle.proc_table.specs.Rows.{Rows}
@@ -43,9 +43,7 @@ module _ (rows : Rows) (u caller : ℕ) (which : ℤ) (options : Options) (s : I
   collect_is = sym (collect_same start caller which options here)
 
   after_is : only_of u (rows_after caller which options rows) ≡ rows_after caller which options (only_of u rows)
-  after_is = own_after after
-      (pid_cursors_left caller (reported caller which options rows) rows ∙ sym (pid_cursors_left caller (reported caller which options (only_of u rows)) (only_of u rows)))
-      (tid_cursors_left caller (reported caller which options rows) rows ∙ sym (tid_cursors_left caller (reported caller which options (only_of u rows)) (only_of u rows)))
+  after_is = search (rules, own_after, after, pid_cursors_left, tid_cursors_left)
 
   others_are : (w : ℕ) → w ≢ u → only_of w (rows_after caller which options rows) ≡ only_of w rows
   others_are = others_after closed after (pid_cursors_left caller (reported caller which options rows) rows) (tid_cursors_left caller (reported caller which options rows) rows)

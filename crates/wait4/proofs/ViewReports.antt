@@ -1,11 +1,11 @@
 -- What is collected, among one user's rows.
-use Rattle.std.proofs.Common.{◌≡◌, ◌≢◌, ℕ, ℤ, [], ◌∷◌, find, Bool, true, false, ◌==◌, ◌&&◌, ◌||◌, not, if◌then◌else◌, Option, Some, None, IfSome, refl, sym, ap, ◌∙◌, true≢false, eqb-true, subst, eq-eqb, inl}
+use Rattle.std.proofs.Common.{◌≡◌, ◌≢◌, ℕ, ℤ, [], ◌∷◌, find, true, ◌==◌, ◌&&◌, not, if◌then◌else◌, Option, Some, None, IfSome, refl, sym, ap, ◌∙◌, true≢false, eqb-true, subst, eq-eqb, inl, rules}
 use Rattle.pid_blocks.specs.Users.{IsUser}
 use Rattle.pid_blocks.specs.Blocks.{pid_owner, tid_owner}
 use Rattle.proc_table.specs.declared.ProcData.{ProcData}
 use Rattle.proc_table.specs.declared.State.{State}
 use Rattle.proc_table.specs.declared.State.TheVariants.{Run, Trace, Job, Zombie}
-use Rattle.proc_table.specs.Processes.{is_live, is_this, traces, is_zombie_state, named_by}
+use Rattle.proc_table.specs.Processes.{is_live, is_zombie_state, named_by}
 use Rattle.proc_table.specs.Rows.{Rows}
 use Rattle.wait4.specs.declared.Options.{Options}
 use Rattle.wait4.specs.Collect.{answer, is_child, fits, reportable, collected_in, collected, stays, told, collect_one, candidates, reported, collect, without_report, rows_after}
@@ -17,14 +17,7 @@ use Rattle.user_rows.proofs.ViewSignals.{Mines, user_not_one, notified_same}
 use Rattle.trace_stop.proofs.Every.{choose, and_left}
 
 pub child_own : (u caller : ℕ) → IsUser u → pid_owner caller ≡ u → (p : ProcData) → GoodProc p → is_child caller p ≡ true → p.uid ≡ u
-child_own u caller user mine p good is = by_tracer p.tracer good.tracer is
-  where
-    by_parent : (p.parent == caller) ≡ true → p.uid ≡ u
-    by_parent e = let same = eqb-true p.parent caller e in sym (good.parent (λ one. user_not_one u caller user mine (sym same ∙ one))) ∙ ap pid_owner same ∙ mine
-
-    by_tracer : (o : Option ℕ) → IfSome o (λ t. pid_owner t ≡ p.uid) → (is_this caller o || (p.parent == caller)) ≡ true → p.uid ≡ u
-    by_tracer None g h = by_parent h
-    by_tracer (Some t) g h = either t caller (λ e. sym g ∙ ap pid_owner e ∙ mine) (λ ne. by_parent (rw (not_own caller t ne) at h))
+child_own u caller user mine p good is = search (rules, eqb-true, user_not_one, either, not_own)
 
 fits_own : (u caller : ℕ) (which : ℤ) → IsUser u → pid_owner caller ≡ u → (p : ProcData) → GoodProc p → (is_child caller p && fits which p) ≡ true → p.uid ≡ u
 fits_own u caller which user mine p good is = child_own u caller user mine p good (and_left (is_child caller p) (fits which p) is)
@@ -43,18 +36,13 @@ pub collect_same : {u : ℕ} {start c v : Rows} → Sim u start c v → (caller 
 collect_same {u} {start} {c} {v} s caller which options mine = ap (λ ps. answer ps (find (reportable options caller) ps)) (candidates_same s caller which mine)
 
 stays_parent : (caller : ℕ) (p : ProcData) → stays caller p ≡ true → p.parent ≢ 1
-stays_parent caller p is one = by_traces (traces caller p) (not (p.parent == caller)) (rw (eq-eqb p.parent 1 one) at is)
-  where
-    by_traces : (a b : Bool) → (a && false && b) ≡ true → ⊥
-    by_traces true b e = true≢false (sym e)
-    by_traces false b e = true≢false (sym e)
+stays_parent caller p is one = search (rules, eq-eqb)
 
 collected_kin : (caller : ℕ) (p : ProcData) → GoodProc p → (st : State) → p.state ≡ st → Kin p (collected_in caller p st)
 collected_kin caller p good Run e = (refl, refl, record { user = good.user; block = good.block; tracer = good.tracer; parent = good.parent; reporting = good.reporting; collector = good.collector })
 collected_kin caller p good (Trace tid sig told) e = (refl, refl, record { user = good.user; block = good.block; tracer = good.tracer; parent = good.parent; reporting = subst (λ x. IfSome (named_by x) (λ t. tid_owner t ≡ p.uid)) e good.reporting; collector = λ dead. absurd (true≢false dead) })
 collected_kin caller p good (Job sig told) e = (refl, refl, record { user = good.user; block = good.block; tracer = good.tracer; parent = good.parent; reporting = tt; collector = λ dead. absurd (true≢false dead) })
-collected_kin caller p good (Zombie status) e = choose (stays caller p) (Some (record p { tracer = None })) None (Kin p)
-    (λ is. (refl, refl, record { user = good.user; block = good.block; tracer = tt; parent = good.parent; reporting = good.reporting; collector = λ dead none. stays_parent caller p is })) (λ is. tt)
+collected_kin caller p good (Zombie status) e = search (rules, choose, stays_parent)
 
 collected_live : (caller : ℕ) (p : ProcData) (st : State) → p.state ≡ st → is_live p ≡ true → LiveRow (collected_in caller p st)
 collected_live caller p Run e live = live

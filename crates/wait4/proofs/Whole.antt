@@ -1,17 +1,11 @@
 -- A signed number of 64 bits is negative, or one from 0 on.
-use Rattle.std.proofs.Common.{◌≡◌, ℕ, ℤ, pos, negsuc, true, false, true≢false, w64, SFits, to_z, of_z, ltb, arith, refl, sym, ap, ◌∙◌}
+use Rattle.std.proofs.Common.{◌≡◌, ℕ, ℤ, pos, negsuc, true, false, true≢false, w64, SFits, to_z, of_z, ltb, refl, sym, ap, ◌∙◌, rules}
 use Rattle.std.specs.Int.Signed.{lt_z}
 use Rattle.std.proofs.lemmas.Bool.Decides.{nat_tests}
 use Rattle.std.proofs.lemmas.Int.{to_z-of_z}
 
 below_zero : (z : ℤ) → lt_z z (pos 0) ≡ true → (k : ℕ) × (z ≡ negsuc k)
-below_zero (pos n) is = absurd (nothing_below n (ltz n ∙ is))
-  where
-    ltz : (m : ℕ) → ltb m 0 ≡ lt_z (pos m) (pos 0)
-    ltz m = refl
-
-    nothing_below : (m : ℕ) → ltb m 0 ≡ true → ⊥
-    nothing_below m is = grind (arith, nat_tests, is)
+below_zero (pos n) is = search (rules, ltb, pos, nat_tests)
 below_zero (negsuc k) is = (k, refl)
 
 from_zero : (z : ℤ) → lt_z z (pos 0) ≡ false → (n : ℕ) × (z ≡ pos n)

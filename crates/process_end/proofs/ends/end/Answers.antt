@@ -1,6 +1,5 @@
-use Rattle.std.proofs.Common.{◌≡◌, sym, subst, ap, ◌∙◌}
+use Rattle.std.proofs.Common.{◌≡◌, sym, ap, ◌∙◌, rules}
 use Rattle.trace_stop.specs.End.{left_alone, end}
-use Rattle.trace_stop.specs.Facts.{IsSound}
 use Rattle.process_end.specs.Laws.{end_alone}
 use Rattle.process_end.specs.Descent.{kills, spares}
 use Rattle.process_end.proofs.Doomed.{detached_end}
@@ -23,13 +22,7 @@ spared c =
     ∙ sym (detached_end c.args.settings rows c.args.pid c.args.status c.if-settings.false (listed rows c.args.pid c.requires.live))
 
 pub returns-then-settings : goal.returns-then-settings
-returns-then-settings c = record {
-  rows = killed c;
-  sound = subst IsSound (sym (killed c)) (end_sound c.args.settings c.args.tables.now.rows c.args.pid c.args.status c.requires.sound c.requires.word c.requires.live);
-}
+returns-then-settings c = search (rules, killed, end_sound)
 
 pub returns-else-settings : goal.returns-else-settings
-returns-else-settings c = record {
-  rows = spared c;
-  sound = subst IsSound (sym (spared c)) (end_sound c.args.settings c.args.tables.now.rows c.args.pid c.args.status c.requires.sound c.requires.word c.requires.live);
-}
+returns-else-settings c = search (rules, spared, end_sound)

@@ -1,32 +1,19 @@
-use Rattle.std.proofs.Common.{◌≡◌, ◌∙◌, ap, subst, sym, rules, refl, eq-eqb, eqb-true, true, false}
-use Rattle.std.specs.Prelude.{◌==◌, ◌||◌}
+use Rattle.std.proofs.Common.{◌≡◌, ◌∙◌, ap, subst, sym, rules, eq-eqb, eqb-true, false}
+use Rattle.std.specs.Prelude.{◌==◌}
 use Rattle.signals.specs.Table.{SIGKILL}
-use Rattle.trace_stop.specs.End.{dooms}
-use Rattle.process_end.specs.Laws.{end_alone, traces_live}
-use Rattle.process_end.specs.Descent.{kills, EndsToo}
+use Rattle.process_end.specs.Laws.{end_alone}
+use Rattle.process_end.specs.Descent.{EndsToo}
 use Rattle.process_end.proofs.Descents.{lives, last_turn, turn_sound, turn_lives, turn_same, turn_fewer, turn_ends}
 use Rattle.process_end.proofs.ends.end_with_tracees.Goals as goal
 
 pub loop-leaf-init : goal.loop-leaf-init
-loop-leaf-init c = record {
-  sound = c.requires.sound;
-  live = c.requires.live;
-  ends = ap (λ b. b || dooms kills c.args.tables.now.rows.processes c.args.pid c.args.pid) (eq-eqb c.args.pid c.args.pid refl);
-  rows = refl;
-}
+loop-leaf-init c = search (rules, eq-eqb)
 
 pub returns-then-eq : goal.returns-then-eq
-returns-then-eq c =
-    let is : (c.leaf_below-leaf.result == c.args.pid) ≡ true = search rules in
-    let same : c.leaf_below-leaf.result ≡ c.args.pid = eqb-true c.leaf_below-leaf.result c.args.pid is in
-    last_turn c.loop-leaf.tables.rows c.end_leaf.new.tables.rows c.args.pid c.args.status c.loop-leaf.invariant.sound.stands c.loop-leaf.invariant.live
-    (subst (λ n. traces_live n c.loop-leaf.tables.rows ≡ false) same c.leaf_below-leaf.ensures.leaf) c.end_leaf.ensures ∙ c.loop-leaf.invariant.rows
+returns-then-eq c = search (rules, eqb-true, last_turn)
 
 pub end_leaf-requires-in-loop-leaf-clause-live : goal.end_leaf-requires-in-loop-leaf-clause-live
-end_leaf-requires-in-loop-leaf-clause-live c =
-    let other : (c.leaf_below-leaf.result == c.args.pid) ≡ false = search rules in
-    lives c.loop-leaf.tables.rows (end_alone c.leaf_below-leaf.result SIGKILL c.loop-leaf.tables.rows) c.args.pid c.leaf_below-leaf.result c.args.status c.loop-leaf.invariant.sound other
-    (c.leaf_below-leaf.ensures.below c.args.pid c.loop-leaf.invariant.ends) c.leaf_below-leaf.ensures.leaf refl
+end_leaf-requires-in-loop-leaf-clause-live c = search (rules, lives)
 
 pub loop-leaf-smaller : goal.loop-leaf-smaller
 loop-leaf-smaller c =

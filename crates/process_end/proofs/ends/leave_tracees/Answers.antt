@@ -1,18 +1,12 @@
-use Rattle.std.proofs.Common.{◌≡◌, ◌<◌, true, false, rules, sym, subst, ap, ◌∙◌}
-use Rattle.std.specs.Prelude.{count_by}
-use Rattle.proc_table.specs.Rows.{Rows}
+use Rattle.std.proofs.Common.{◌≡◌, true, rules, sym, subst, ap, ◌∙◌}
 use Rattle.trace_stop.specs.End.{left_alone}
 use Rattle.trace_stop.specs.Sound.{is_live_at}
-use Rattle.process_end.specs.Laws.{traces_live}
 use Rattle.process_end.specs.Descent.{spares}
 use Rattle.process_end.proofs.LeftAlone.{is_tracee, left_none, left_same, left_fewer, left_lives}
 use Rattle.process_end.proofs.ends.leave_tracees.Goals as goal
 
 pub loop-tracee-smaller : goal.loop-tracee-smaller
-loop-tracee-smaller c =
-    let rows = c.loop-tracee.tables.rows in
-    subst (λ (rs : Rows). count_by (is_tracee c.args.pid) rs.processes < count_by (is_tracee c.args.pid) rows.processes) (sym c.leave_tracee.ensures.rows)
-    (left_fewer c.args.pid rows c.loop-tracee.invariant.sound.stands c.in-Some.tracee c.in-Some.ensures)
+loop-tracee-smaller c = search (rules, is_tracee, left_fewer)
 
 pub loop-tracee-preserved : goal.loop-tracee-preserved
 loop-tracee-preserved c =
@@ -27,6 +21,4 @@ loop-tracee-preserved c =
     }
 
 pub returns-clause-rows : goal.returns-clause-rows
-returns-clause-rows c =
-    let none : traces_live c.args.pid c.loop-tracee.tables.rows ≡ false = search rules in
-    sym (left_none c.args.pid c.loop-tracee.tables.rows none) ∙ c.loop-tracee.invariant.rows
+returns-clause-rows c = search (rules, left_none)

@@ -1,7 +1,7 @@
-use Rattle.std.proofs.Common.{◌≡◌, false, true, Some, None, rules, arith, subst, sym}
+use Rattle.std.proofs.Common.{◌≡◌, true, Some, rules}
 use Rattle.proc_table.specs.Processes.{is_live}
 use Rattle.proc_table.specs.Walks.{next_tracee}
-use Rattle.process_end.proofs.Descents.{NoneBetween, none_at_first, walk_found, walk_over, walk_more, walk_none}
+use Rattle.process_end.proofs.Descents.{none_at_first, walk_found, walk_over, walk_more, walk_none}
 use Rattle.process_end.proofs.ends.live_tracee_above.Goals as goal
 
 pub loop-tracee-init : goal.loop-tracee-init
@@ -14,19 +14,10 @@ returns-then-is_live c =
     walk_found c.args.pid c.loop-tracee.after c.args.tables.now.rows c.next_tracee.ensures.kept c.in-Some.tracee at live
 
 pub loop-tracee-smaller : goal.loop-tracee-smaller
-loop-tracee-smaller c =
-    let at : next_tracee c.args.pid c.loop-tracee.after c.args.tables.now.rows.processes ≡ Some c.in-Some.tracee = cc in
-    let over = walk_over c.args.pid c.loop-tracee.after c.args.tables.now.rows c.next_tracee.ensures.kept c.in-Some.tracee at in
-    omega (arith, over, c.get-after.ensures.number, c.get-after.ensures.below)
+loop-tracee-smaller c = search (rules, walk_over)
 
 pub loop-tracee-preserved : goal.loop-tracee-preserved
-loop-tracee-preserved c =
-    let at : next_tracee c.args.pid c.loop-tracee.after c.args.tables.now.rows.processes ≡ Some c.in-Some.tracee = cc in
-    let ended : is_live c.in-Some.tracee ≡ false = search rules in
-    subst (NoneBetween c.args.pid c.args.tables.now.rows.processes c.args.number) (sym c.get-after.ensures.number)
-    (walk_more c.args.pid c.loop-tracee.after c.args.tables.now.rows c.next_tracee.ensures.kept c.in-Some.tracee c.args.number at ended c.loop-tracee.invariant)
+loop-tracee-preserved c = search (rules, walk_more)
 
 pub returns : goal.returns
-returns c =
-    let at : next_tracee c.args.pid c.loop-tracee.after c.args.tables.now.rows.processes ≡ None = search rules in
-    walk_none c.args.pid c.loop-tracee.after c.args.tables.now.rows c.next_tracee.ensures.kept c.args.number at c.loop-tracee.invariant
+returns c = search (rules, walk_none)

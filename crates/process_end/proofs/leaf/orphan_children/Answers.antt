@@ -1,5 +1,4 @@
-use Rattle.std.proofs.Common.{◌≡◌, None, Some, rules}
-use Rattle.std.specs.Prelude.{◌==◌}
+use Rattle.std.proofs.Common.{◌≡◌, Some, rules}
 use Rattle.proc_table.specs.Walks.{next_child}
 use Rattle.process_end.proofs.Orphans.{child_at}
 use Rattle.process_end.proofs.Unnamed.{none_from}
@@ -16,6 +15,4 @@ orphan_child-requires-clause-child c =
     (child_at c.args.pid c.loop-child.tables.rows c.in-Some.child c.next_child.ensures.kept at).1
 
 pub returns-clause-none : goal.returns-clause-none
-returns-clause-none c =
-    let at : next_child c.args.pid 0 c.loop-child.tables.rows.processes ≡ None = search rules in
-    none_from (λ r. r.parent == c.args.pid) c.loop-child.tables.rows.processes c.next_child.ensures.kept.homes at
+returns-clause-none c = search (rules, none_from)

@@ -1,6 +1,6 @@
-use Rattle.std.proofs.Common.{◌≡◌, ◌∷◌, [], None, Some, rules, ap, sym, ◌∙◌, subst}
+use Rattle.std.proofs.Common.{◌≡◌, ◌∷◌, [], None, Some, rules, ap, sym, ◌∙◌}
 use Rattle.std.specs.Prelude.{option_map}
-use Rattle.proc_table.specs.Kept.{Named, set_process}
+use Rattle.proc_table.specs.Kept.{set_process}
 use Rattle.proc_table.specs.declared.ProcData.{ProcData}
 use Rattle.trace_stop.specs.End.{uncollected, collector}
 use Rattle.trace_stop.specs.Post.{notified}
@@ -12,19 +12,13 @@ pub remove_process-requires-clause-there : goal.remove_process-requires-clause-t
 remove_process-requires-clause-there c = listed c.args.pid c.args.tables.now.rows c.args.tables.now.rows c.requires.kept c.requires.leaving c.args.zombie.now c.requires.there
 
 pub remove_process-requires-clause-tracees : goal.remove_process-requires-clause-tracees
-remove_process-requires-clause-tracees c =
-    zombie-tracees c.args.pid c.args.tables.now.rows c.requires.kept c.requires.leaving c.args.zombie.now c.requires.there
-    (tracee-ended c.args.pid c.args.tables.now.rows c.args.tables.now.rows c.requires.kept c.requires.leaving c.args.zombie.now c.requires.there c.requires.traced)
+remove_process-requires-clause-tracees c = search (rules, zombie-tracees, tracee-ended)
 
 pub remove_process-requires-clause-children : goal.remove_process-requires-clause-children
-remove_process-requires-clause-children c =
-    zombie-children c.args.pid c.args.tables.now.rows c.requires.kept c.requires.leaving c.args.zombie.now c.requires.there
-    (tracee-ended c.args.pid c.args.tables.now.rows c.args.tables.now.rows c.requires.kept c.requires.leaving c.args.zombie.now c.requires.there c.requires.traced)
+remove_process-requires-clause-children c = search (rules, zombie-children, tracee-ended)
 
 pub remove_process-requires-clause-lwps : goal.remove_process-requires-clause-lwps
-remove_process-requires-clause-lwps c =
-    zombie-lwps c.args.pid c.args.tables.now.rows c.requires.kept c.requires.leaving c.args.zombie.now c.requires.there
-    (tracee-ended c.args.pid c.args.tables.now.rows c.args.tables.now.rows c.requires.kept c.requires.leaving c.args.zombie.now c.requires.there c.requires.traced)
+remove_process-requires-clause-lwps c = search (rules, zombie-lwps, tracee-ended)
 
 pub returns-in_default : goal.returns-in_default
 returns-in_default c =
@@ -41,13 +35,7 @@ returns-in_default c =
     }
 
 pub set_process-requires-clause-named : goal.set_process-requires-clause-named
-set_process-requires-clause-named c =
-    let rows = c.args.tables.now.rows in
-    let z = c.args.zombie.now in
-    let q = c.args.pid in
-    let some : option_map collector (uncollected (orphan_of q z)) ≡ Some c.in-Some.parent = ap (λ (k : ProcData). option_map collector (uncollected k)) (sym c.orphaned-orphan.ensures) ∙ sym c.collector.ensures ∙ c.in-Some.is in
-    subst (λ (k : ProcData). Named rows (record k { pid = z.pid })) (sym c.orphaned-orphan.ensures)
-    (tracee-named q rows rows c.requires.kept c.requires.leaving z c.requires.there c.requires.traced c.in-Some.parent some)
+set_process-requires-clause-named c = search (rules, orphan_of, tracee-named)
 
 pub returns : goal.returns
 returns c =

@@ -1,5 +1,4 @@
-use Rattle.std.proofs.Common.{◌≡◌, None, Some, rules}
-use Rattle.proc_table.specs.Processes.{traces}
+use Rattle.std.proofs.Common.{◌≡◌, Some, rules}
 use Rattle.proc_table.specs.Walks.{next_tracee}
 use Rattle.process_end.proofs.Orphans.{tracee_at}
 use Rattle.process_end.proofs.Unnamed.{none_from}
@@ -16,6 +15,4 @@ orphan_tracee-requires-clause-traced c =
     (tracee_at c.args.pid c.loop-zombie.tables.rows c.in-Some.zombie c.next_tracee.ensures.kept at).1
 
 pub returns-clause-none : goal.returns-clause-none
-returns-clause-none c =
-    let at : next_tracee c.args.pid 0 c.loop-zombie.tables.rows.processes ≡ None = search rules in
-    none_from (traces c.args.pid) c.loop-zombie.tables.rows.processes c.next_tracee.ensures.kept.homes at
+returns-clause-none c = search (rules, none_from)

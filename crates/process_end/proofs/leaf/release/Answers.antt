@@ -1,4 +1,5 @@
-use Rattle.std.proofs.Common.{◌≡◌, ap, ◌∙◌, None, rules}
+use Rattle.std.proofs.Common.{ap, ◌∙◌, rules, arith}
+use Rattle.std.proofs.lemmas.Bool.Decides.{nat_tests}
 use Rattle.std.specs.Prelude.{◌==◌}
 use Rattle.proc_table.specs.Kept.{set_lwp}
 use Rattle.proc_table.proofs.LwpWalk.{walking-first, walking-next, walking-less, walking-after}
@@ -7,9 +8,7 @@ use Rattle.process_end.proofs.LwpEdits.{released-tid, released-pid}
 use Rattle.process_end.proofs.leaf.release.Goals as goal
 
 pub loop-at-init : goal.loop-at-init
-loop-at-init c =
-    walking-first c.args.process.now.pid (released (λ n. n == c.args.child) c.args.process.now) (released-tid (λ n. n == c.args.child) c.args.process.now)
-    c.args.tables.now.rows _ c.first_lwp-at.ensures.kept c.first_lwp-at.ensures.row
+loop-at-init c = search (rules, walking-first, released-tid)
 
 pub next_lwp-at-requires : goal.next_lwp-at-requires
 next_lwp-at-requires c =
@@ -30,6 +29,4 @@ loop-at-preserved c =
     (c.set_lwp.ensures.rows ∙ ap (λ x. set_lwp x c.loop-at.tables.rows) c.released.ensures) c.next_lwp-at.ensures.kept c.next_lwp-at.ensures.row
 
 pub returns : goal.returns
-returns c =
-    let none : c.loop-at.at ≡ None = search rules in
-    rw none at c.loop-at.invariant.goes
+returns c = grind (arith, nat_tests)

@@ -1,4 +1,4 @@
-use Rattle.std.proofs.Common.{◌≡◌, true, false, sym, ap, ◌∙◌, refl}
+use Rattle.std.proofs.Common.{◌≡◌, true, false, sym, ap, ◌∙◌, refl, rules}
 use Rattle.proc_table.specs.Processes.{process_of}
 use Rattle.proc_table.specs.Rows.{is_numbered}
 use Rattle.trace_stop.specs.End.{end}
@@ -29,10 +29,7 @@ end-requires-clause-live c =
     rw c.run_on.ensures (live_found (resumed pid rows) pid (running s.p) (resumed_row rows pid s.p c.requires.sound s.at (stopped_live pid rows s)) refl)
 
 pub untrace-requires-clause-live : goal.untrace-requires-clause-live
-untrace-requires-clause-live c =
-    let rows = c.args.tables.now.rows in
-    let s = c.requires.stopped in
-    live_found rows c.args.pid s.p s.at (stopped_live c.args.pid rows s)
+untrace-requires-clause-live c = search (rules, live_found, stopped_live)
 
 pub returns-then-ends-clause-rows : goal.returns-then-ends-clause-rows
 returns-then-ends-clause-rows c =

@@ -1,4 +1,4 @@
-use Rattle.std.proofs.Common.{arith, ap, ◌∙◌, refl}
+use Rattle.std.proofs.Common.{arith, ap, ◌∙◌, rules}
 use Rattle.event_masks.specs.declared.TheConstants.EventMask.{PTRACE_SCE, PTRACE_SCX}
 use Rattle.event_masks.specs.Exits.{mask_with}
 use Rattle.requests.proofs.Tracees.{continue_as, kill_as, few_own, same_outcome}
@@ -8,9 +8,7 @@ pub overflow_cast-result : goal.overflow_cast-result
 overflow_cast-result c = let few = few_own c.args.tables.now.rows c.args.process.now c.requires.sound c.requires.at in omega (arith, few, c.lwp_count.ensures)
 
 pub returns-in-Continue-clause-machine : goal.returns-in-Continue-clause-machine
-returns-in-Continue-clause-machine c = λ ok.
-    let same = continue_as c.args.settings (λ mask. mask) c.args.process.now.mask c.args.data c.args.process.now c.args.tables.now.rows c.requires.sound.stands.rising c.requires.at refl in
-    rw c.in-Continue.is (same_outcome _ _ _ _ same c.continue_with.ensures.rows c.continue_with.ensures.reply)
+returns-in-Continue-clause-machine c = search (rules, continue_as, same_outcome)
 
 pub returns-in-ToSce-clause-machine : goal.returns-in-ToSce-clause-machine
 returns-in-ToSce-clause-machine c = λ ok.
@@ -29,6 +27,4 @@ returns-in-Syscall-clause-machine c = λ ok.
     rw c.in-Syscall.is (same_outcome _ _ _ _ same c.continue_with-in-Syscall.ensures.rows c.continue_with-in-Syscall.ensures.reply)
 
 pub returns-in-Kill-clause-machine : goal.returns-in-Kill-clause-machine
-returns-in-Kill-clause-machine c = λ ok.
-    let same = kill_as c.args.settings c.number.result c.args.process.now.pid c.args.tables.now.rows (c.number.ensures.number ∙ c.kill.ensures) in
-    rw c.in-Kill.is (same_outcome _ _ _ _ same c.resume_with.ensures.rows c.resume_with.ensures.reply)
+returns-in-Kill-clause-machine c = search (rules, kill_as, same_outcome)

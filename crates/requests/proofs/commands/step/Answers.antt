@@ -1,14 +1,12 @@
 use Rattle.requests.specs.Ptrace.{stepping}
+use Rattle.std.proofs.Common.{rules}
 use Rattle.trace_stop.specs.Stop.{resume}
 use Rattle.requests.specs.declared.Reply.TheVariants as reply
 use Rattle.requests.proofs.Tracees.{signalled, is_tracee, own_lwp, still_there, stepping_ready}
 use Rattle.requests.proofs.commands.step.Goals as goal
 
 pub set_stepping-requires : goal.set_stepping-requires
-set_stepping-requires c =
-    let rows = c.args.tables.now.rows in
-    let p = c.args.process.now in
-    record { there = still_there p c.args.lwp rows c.clear_stepping.new.tables.rows (is_tracee rows p c.requires.sound c.requires.at c.requires.stopped) (own_lwp rows p c.args.lwp c.requires.own) c.clear_stepping.ensures.rows }
+set_stepping-requires c = search (rules, still_there, is_tracee, own_lwp)
 
 pub resume-requires : goal.resume-requires
 resume-requires c =

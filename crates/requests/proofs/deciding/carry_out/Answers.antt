@@ -1,4 +1,4 @@
-use Rattle.std.proofs.Common.{ap, ◌∙◌}
+use Rattle.std.proofs.Common.{rules}
 use Rattle.requests.proofs.Tracees.{kill_as}
 use Rattle.requests.proofs.Handled.{continued, detached}
 use Rattle.requests.proofs.deciding.carry_out.Goals as goal
@@ -12,5 +12,4 @@ returns-in-Detach c =
     rw c.in-Detach.is (detached c.args.settings c.args.process.now c.args.tables.now.rows c.detach_with.new.tables.rows c.in-Detach.pass c.number-in-Detach.result c.number-in-Detach.ensures.number c.number-in-Detach.ensures.greatest c.detach_with.ensures.rows)
 
 pub returns-in-Kill : goal.returns-in-Kill
-returns-in-Kill c =
-    rw c.in-Kill.is (c.resume_with.ensures.rows ∙ ap (λ o. o.rows) (kill_as c.args.settings c.number-in-Kill.result c.args.process.now.pid c.args.tables.now.rows (c.number-in-Kill.ensures.number ∙ c.kill.ensures)))
+returns-in-Kill c = search (rules, kill_as)

@@ -1,8 +1,5 @@
-use Rattle.std.proofs.Common.{◌≡◌, ◌<◌, length, Some, None, is_some, sym, ap, ◌∙◌, rules, subst}
-use Rattle.std.specs.Prelude.{find}
+use Rattle.std.proofs.Common.{◌<◌, length, is_some, sym, ap, ◌∙◌, rules, subst}
 use Rattle.proc_table.specs.Rows.{Rows}
-use Rattle.requests.specs.Actors.{HasLwp}
-use Rattle.requests.specs.Programs.{is_other, only_lwp}
 use Rattle.requests.proofs.Programs.{other_there, other_dropped, other_left, others_none, less_without}
 use Rattle.requests.proofs.execve.keep_lwp.Goals as goal
 
@@ -16,17 +13,7 @@ loop-other-smaller c =
     (less_without c.in-Some.other.tid c.in-Some.other rows.lwps (other_there c.args.pid c.args.tid c.in-Some.other rows c.other_lwp.ensures.kept.differ (sym c.other_lwp.ensures.other ∙ c.in-Some.is)))
 
 pub loop-other-preserved : goal.loop-other-preserved
-loop-other-preserved c =
-    let rows = c.loop-other.tables.rows in
-    let is : find (is_other c.args.pid c.args.tid) rows.lwps ≡ Some c.in-Some.other = sym c.other_lwp.ensures.other ∙ c.in-Some.is in
-    let d = c.other_lwp.ensures.kept.differ in
-    record {
-      there = subst (HasLwp c.args.pid c.args.tid) (sym c.remove_lwp.ensures.rows) (other_left c.args.pid c.args.tid c.in-Some.other rows d is c.loop-other.invariant.there);
-      same = ap (only_lwp c.args.pid c.args.tid) c.remove_lwp.ensures.rows ∙ (other_dropped c.args.pid c.args.tid c.in-Some.other rows d is ∙ c.loop-other.invariant.same);
-    }
+loop-other-preserved c = search (rules, other_left, other_dropped)
 
 pub returns-clause-rows : goal.returns-clause-rows
-returns-clause-rows c =
-    let rows = c.loop-other.tables.rows in
-    let none : find (is_other c.args.pid c.args.tid) rows.lwps ≡ None = search rules in
-    others_none c.args.pid c.args.tid rows none ∙ c.loop-other.invariant.same
+returns-clause-rows c = search (rules, others_none)

@@ -1,4 +1,5 @@
 use Rattle.proc_table.specs.Processes.{process_of}
+use Rattle.std.proofs.Common.{rules}
 use Rattle.requests.proofs.Actors.{acting_has, has-settled}
 use Rattle.requests.proofs.Programs.{exec_done, has-dropped}
 use Rattle.requests.proofs.execve.run_program.Goals as goal
@@ -13,9 +14,7 @@ settle-requires c =
     record { there = there.process }
 
 pub returns-clause-rows : goal.returns-clause-rows
-returns-clause-rows c = exec_done c.args.p.now c.args.l.now c.args.tables.now.rows c.requires.sound c.requires.acting
-    c.set_mode.new.tables.rows c.keep_lwp.new.tables.rows c.release_parent.new.tables.rows c.drop_handlers.new.tables.rows c.settle.new.tables.rows
-    c.set_mode.ensures.rows c.keep_lwp.ensures.rows c.release_parent.ensures c.drop_handlers.ensures c.settle.ensures.rows
+returns-clause-rows c = search (rules, exec_done)
 
 pub returns-clause-there : goal.returns-clause-there
 returns-clause-there c =

@@ -1,4 +1,4 @@
-use Rattle.std.proofs.Common.{◌≡◌, ℕ, Bool, true, false, Some, None, IfSome, if◌then◌else◌, ◌++◌, ◌∷◌, [], List, refl, sym, subst, nat_eq}
+use Rattle.std.proofs.Common.{◌≡◌, ℕ, Bool, false, Some, ◌++◌, ◌∷◌, [], List, refl, sym, subst, rules}
 use Rattle.std.specs.Prelude.{IsSomeAnd}
 use Rattle.lwp_table.specs.declared.LwpData.{LwpData}
 use Rattle.lwp_table.specs.declared.Due.TheVariants as due
@@ -7,7 +7,7 @@ use Rattle.proc_table.specs.declared.ProcData.{ProcData}
 use Rattle.proc_table.specs.Processes.{process_of}
 use Rattle.proc_table.specs.Rows.{Rows}
 use Rattle.proc_table.specs.Fresh.{is_process, add_process, add_lwp}
-use Rattle.proc_table.specs.Kept.{IsKept, IsRow, Named}
+use Rattle.proc_table.specs.Kept.{IsKept, Named}
 use Rattle.proc_table.proofs.Every.{every_found}
 use Rattle.proc_table.proofs.Rows.{found_row}
 use Rattle.requests.specs.Actors.{IsActing, HasLwp}
@@ -16,13 +16,7 @@ use Rattle.requests.proofs.Actors.{acting_has, lwp_added, has-lwp_added, has-pro
 use Rattle.requests.proofs.forks.add_child.Goals as goal
 
 forked_named : (followed : Bool) (p : ProcData) (pid : ℕ) (rows : Rows) → IsKept rows → process_of p.pid rows.processes ≡ Some p → Named rows (forked followed p pid)
-forked_named followed p pid rows kept at =
-    let was = every_found (Named rows) (λ q. nat_eq q.pid p.pid) rows.processes p kept.named at in
-    record { tracer = by_test followed was.tracer; parent = λ other. found_row p.pid p rows.processes at }
-  where
-    by_test : (b : Bool) → IfSome p.tracer (IsRow rows) → IfSome (if b then p.tracer else None) (IsRow rows)
-    by_test true is = is
-    by_test false is = tt
+forked_named followed p pid rows kept at = search (rules, every_found, found_row)
 
 child_found : (tid pid blocked : ℕ) (ls : List LwpData) → has_lwp tid ls ≡ false → IsSomeAnd (lwp_of tid (ls ++ (born tid pid blocked due.Nothing ∷ []))) (λ l. l.pid ≡ pid)
 child_found tid pid blocked ls free = rw (lwp_added (born tid pid blocked due.Nothing) ls free) refl

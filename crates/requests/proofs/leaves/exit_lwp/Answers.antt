@@ -1,4 +1,4 @@
-use Rattle.std.proofs.Common.{◌≡◌, false, ◌&&◌, leb, is_some, refl, sym, ◌∙◌, arith}
+use Rattle.std.proofs.Common.{◌≡◌, false, ◌&&◌, leb, is_some, refl, rules}
 use Rattle.std.proofs.lemmas.Bool.Decides.{nat_tests}
 use Rattle.event_masks.specs.Exits.{asks}
 use Rattle.event_masks.specs.declared.TheConstants.EventMask.{PTRACE_LWP}
@@ -20,9 +20,4 @@ pub stop_with-requires : goal.stop_with-requires
 stop_with-requires c = acting_has c.args.p.now c.args.l.now c.args.tables.now.rows c.requires.acting
 
 pub returns-else-is_asked-clause-rows : goal.returns-else-is_asked-clause-rows
-returns-else-is_asked-clause-rows c =
-    let p = c.args.p.now in
-    let l = c.args.l.now in
-    let rows = c.args.tables.now.rows in
-    let more : leb (lwp_count p.pid rows) 1 ≡ false = grind (arith, nat_tests, c.lwp_count.ensures.count, c.if-lwp_count-le1.false) in
-    c.remove_lwp.ensures.rows ∙ (sym (remove_lwp-is l.tid rows) ∙ sym (gone c.args.settings p l rows more (sym c.is_asked.ensures ∙ c.if-is_asked.false)))
+returns-else-is_asked-clause-rows c = search (rules, nat_tests, remove_lwp-is, gone)

@@ -1,10 +1,9 @@
 use Rattle.requests.proofs.Actors.{acting_has, owns_itself, has-lwp_added}
+use Rattle.std.proofs.Common.{rules}
 use Rattle.requests.proofs.leaves.make_lwp.Goals as goal
 
 pub add_lwp-requires-clause-owner : goal.add_lwp-requires-clause-owner
-add_lwp-requires-clause-owner c =
-    let p = c.args.p.now in
-    rw (c.reserve_lwp.ensures.rows, c.born.ensures) (owns_itself p c.args.tables.now.rows.processes c.requires.process)
+add_lwp-requires-clause-owner c = search (rules, owns_itself)
 
 pub finish-requires-clause-there : goal.finish-requires-clause-there
 finish-requires-clause-there c =

@@ -1,4 +1,4 @@
-use Rattle.std.proofs.Common.{◌≡◌, true, false, refl, sym, ap, ◌∙◌}
+use Rattle.std.proofs.Common.{◌≡◌, true, false, refl, sym, ap, ◌∙◌, rules}
 use Rattle.signals.specs.Sets.{has, without, bit}
 use Rattle.proc_table.specs.Kept.{set_process, set_lwp}
 use Rattle.proc_table.proofs.Changes.{change_process-at, change_lwp-at}
@@ -9,10 +9,7 @@ pub set_lwp-requires : goal.set_lwp-requires
 set_lwp-requires c = lwp_there c.args.tables.now.rows c.args.l.now c.args.l.now c.requires.lwp refl
 
 pub set_process-requires : goal.set_process-requires
-set_process-requires c = record {
-  there = process_there c.args.tables.now.rows c.args.p.now c.args.p.now c.requires.process refl;
-  named = named-same c.args.tables.now.rows c.args.p.now (record c.args.p.now { pending = c.without-else-contains.result }) c.requires.process c.kept.ensures refl refl;
-}
+set_process-requires c = search (rules, process_there, named-same)
 
 pub returns-then-contains : goal.returns-then-contains
 returns-then-contains c =

@@ -1,4 +1,4 @@
-use Rattle.std.proofs.Common.{◌≡◌, refl, sym, ap, ◌∙◌, subst}
+use Rattle.std.proofs.Common.{◌≡◌, refl, sym, ◌∙◌, subst, rules}
 use Rattle.lwp_table.specs.declared.LwpData.{LwpData}
 use Rattle.lwp_table.specs.declared.Due.TheVariants as due
 use Rattle.proc_table.specs.declared.ProcData.{ProcData}
@@ -6,7 +6,6 @@ use Rattle.proc_table.specs.Rows.{Rows, change_lwp}
 use Rattle.proc_table.specs.Kept.{IsKept, set_lwp}
 use Rattle.proc_table.proofs.Changes.{change_lwp-at}
 use Rattle.proc_table.proofs.Stays.{lwp_there}
-use Rattle.trace_stop.specs.Stop.{stop}
 use Rattle.requests.specs.Actors.{IsActing, HasLwp}
 use Rattle.requests.proofs.Actors.{acting_has, has-lwp_changed}
 use Rattle.requests.proofs.lwp_turns.take_due.Goals as goal
@@ -26,7 +25,4 @@ stop_with-requires c =
     subst (HasLwp p.pid l.tid) (sym (gone p l rows c.set_lwp.new.self.rows c.kept.ensures c.requires c.set_lwp.ensures.rows)) (has-lwp_changed l.tid (λ k. record k { due = due.Nothing }) (λ k. refl) (λ k. refl) p.pid l.tid rows (acting_has p l rows c.requires))
 
 pub returns-clause-rows : goal.returns-clause-rows
-returns-clause-rows c =
-    let p = c.args.p.now in
-    let l = c.args.l.now in
-    c.stop_with.ensures.rows ∙ ap (stop p.pid l.tid c.args.shown.now) (gone p l c.args.tables.now.rows c.set_lwp.new.self.rows c.kept.ensures c.requires c.set_lwp.ensures.rows)
+returns-clause-rows c = search (rules, gone)

@@ -1,21 +1,14 @@
-use Rattle.std.proofs.Common.{◌≡◌, ◌-◌, ◌+◌, ◌<◌, None, true, false, arith, sym, ap, ◌∙◌, rules}
+use Rattle.std.proofs.Common.{◌≡◌, ◌-◌, ◌+◌, ◌<◌, false, arith, sym, ap, ◌∙◌, rules}
 use Rattle.std.specs.Prelude.{◌==◌}
 use Rattle.trace_stop.specs.End.{meets}
 use Rattle.requests.proofs.Links.{meets-none, meets-here, meets-next, meets-over}
 use Rattle.requests.proofs.tracers.closes_chain.Goals as goal
 
 pub returns-in_default : goal.returns-in_default
-returns-in_default c =
-    let ps = c.args.tables.now.rows.processes in
-    let none : c.tracer_of.result ≡ None = search rules in
-    sym (sym c.loop-links.invariant ∙ meets-none (250 - c.loop-links.links) ps c.args.pid c.loop-links.at (sym c.tracer_of.ensures ∙ none))
+returns-in_default c = search (rules, meets-none)
 
 pub returns-then-eq : goal.returns-then-eq
-returns-then-eq c =
-    let ps = c.args.tables.now.rows.processes in
-    let left : 0 < 250 - c.loop-links.links = omega arith in
-    let same : (c.in-Some.tracer == c.args.pid) ≡ true = search rules in
-    sym (sym c.loop-links.invariant ∙ meets-here (250 - c.loop-links.links) ps c.args.pid c.loop-links.at c.in-Some.tracer left (sym c.tracer_of.ensures ∙ c.in-Some.is) same)
+returns-then-eq c = search (rules, meets-here)
 
 pub loop-links-preserved : goal.loop-links-preserved
 loop-links-preserved c =

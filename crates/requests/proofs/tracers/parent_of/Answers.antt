@@ -1,4 +1,4 @@
-use Rattle.std.proofs.Common.{◌≡◌, false, Some, None, arith, sym, ap, ◌∙◌, nat_eq}
+use Rattle.std.proofs.Common.{◌≡◌, Some, None, arith, sym, ◌∙◌, nat_eq, rules}
 use Rattle.std.proofs.lemmas.Bool.Decides.{nat_tests}
 use Rattle.proc_table.specs.Processes.{process_of}
 use Rattle.proc_table.specs.Kept.{Named}
@@ -7,16 +7,7 @@ use Rattle.proc_table.proofs.Rows.{process_of-pid, found_row, row_found}
 use Rattle.requests.proofs.tracers.parent_of.Goals as goal
 
 pub returns-in-Some : goal.returns-in-Some
-returns-in-Some c =
-    let rows = c.args.tables.now.rows in
-    let parent = c.args.process.now.parent in
-    let other : nat_eq parent 1 ≡ false = grind (arith, nat_tests) in
-    let at : process_of parent rows.processes ≡ Some c.in-Some.parent = sym c.numbered.ensures.row ∙ c.in-Some.is in
-    let its = process_of-pid parent c.in-Some.parent rows.processes at in
-    record {
-      parent = rw other (ap (λ (n : _). Some n) its);
-      row = rw its (found_row parent c.in-Some.parent rows.processes at);
-    }
+returns-in-Some c = search (rules, nat_tests, process_of-pid, found_row)
 
 pub returns-in-None : goal.returns-in-None
 returns-in-None c =

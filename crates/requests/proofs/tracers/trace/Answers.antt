@@ -1,16 +1,12 @@
-use Rattle.std.proofs.Common.{sym, ap, ◌∙◌, refl, nat_eq}
-use Rattle.proc_table.specs.Kept.{Named, set_process}
+use Rattle.std.proofs.Common.{sym, ap, ◌∙◌, refl, rules}
+use Rattle.proc_table.specs.Kept.{set_process}
 use Rattle.proc_table.proofs.Every.{every_found}
 use Rattle.proc_table.proofs.Changes.{change_process-at}
 use Rattle.requests.specs.Ptrace.{traced_by}
 use Rattle.requests.proofs.tracers.trace.Goals as goal
 
 pub set_process-requires-clause-named : goal.set_process-requires-clause-named
-set_process-requires-clause-named c =
-    let rows = c.args.tables.now.rows in
-    let p = c.args.process.now in
-    let named = every_found (Named rows) (λ q. nat_eq q.pid p.pid) rows.processes p c.kept.ensures.named c.requires.at in
-    rw c.traced_by.ensures (record { tracer = c.requires.tracer; parent = named.parent })
+set_process-requires-clause-named c = search (rules, every_found)
 
 pub returns : goal.returns
 returns c =

@@ -1,4 +1,4 @@
-use Rattle.std.proofs.Common.{◌≡◌, ap, ◌∙◌, refl}
+use Rattle.std.proofs.Common.{◌≡◌, ap, ◌∙◌, refl, rules}
 use Rattle.lwp_table.specs.declared.LwpData.{LwpData}
 use Rattle.proc_table.specs.Kept.{set_lwp}
 use Rattle.proc_table.proofs.LwpWalk.{walking-first, walking-next, walking-less, walking-after}
@@ -20,9 +20,7 @@ owns ClearStepping l = refl
 owns (Detach lost unwanted) l = refl
 
 pub loop-at-init : goal.loop-at-init
-loop-at-init c =
-    let e = c.args.edit.now in
-    walking-first c.args.pid (edited e) (keeps e) c.args.tables.now.rows _ c.first_lwp-at.ensures.kept c.first_lwp-at.ensures.row
+loop-at-init c = search (rules, walking-first, keeps)
 
 pub next_lwp-at-requires : goal.next_lwp-at-requires
 next_lwp-at-requires c =

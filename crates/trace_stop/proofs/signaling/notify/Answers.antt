@@ -1,4 +1,4 @@
-use Rattle.std.proofs.Common.{◌≡◌, Some, None, sym, ◌∙◌, rules, subst, [], ◌∷◌}
+use Rattle.std.proofs.Common.{◌≡◌, Some, sym, ◌∙◌, rules, subst, [], ◌∷◌}
 use Rattle.proc_table.specs.Processes.{process_of}
 use Rattle.proc_table.proofs.Rows.{process_of-pid, found_row}
 use Rattle.trace_stop.specs.Facts.{IsSound}
@@ -24,6 +24,4 @@ returns-in-Some c =
     record { rows = done; sound = λ s tell. subst IsSound (sym done) (notified_sound rows (c.args.number ∷ []) s (tell, tt)) }
 
 pub returns-in_default-clause-rows : goal.returns-in_default-clause-rows
-returns-in_default-clause-rows c =
-    let none : c.numbered.result ≡ None = search rules in
-    sym (notified-absent c.args.number c.args.tables.now.rows (sym c.numbered.ensures.row ∙ none))
+returns-in_default-clause-rows c = search (rules, notified-absent)

@@ -1,8 +1,7 @@
-use Rattle.std.proofs.Common.{◌≡◌, Some, sym, ap, ◌∙◌, refl}
+use Rattle.std.proofs.Common.{◌≡◌, Some, sym, refl, rules}
 use Rattle.proc_table.specs.Processes.{process_of}
 use Rattle.proc_table.proofs.Stays.{process_there, named-same}
 use Rattle.trace_stop.specs.Detach.{running}
-use Rattle.trace_stop.specs.Reports.{reporter, report_dropped}
 use Rattle.trace_stop.proofs.Found.{row_there, own_row}
 use Rattle.trace_stop.proofs.Stopped.{reporter_there}
 use Rattle.trace_stop.proofs.Runs.{resumed-is}
@@ -27,10 +26,4 @@ drop_stop-requires c =
     rw c.set_process.ensures.rows (reporter_there c.args.pid rows p c.requires.stands at c.reporting.result (sym c.reporting.ensures))
 
 pub returns : goal.returns
-returns c =
-    let rows = c.args.tables.now.rows in
-    let p = c.unwrap-p.result in
-    let o = c.reporting.result in
-    let at : process_of c.args.pid rows.processes ≡ Some p = cc in
-    c.drop_stop.ensures ∙ (ap (λ r. report_dropped (reporter o r.lwps) r) c.set_process.ensures.rows
-    ∙ sym (resumed-is c.args.pid rows p c.requires.stands c.process.ensures.kept at o (sym c.reporting.ensures)))
+returns c = search (rules, resumed-is)

@@ -26,11 +26,7 @@ set_process-requires c =
     record { there = process_there rows p new own refl; named = named-same rows p new own c.process.ensures.kept refl refl }
 
 pub set_lwp-requires : goal.set_lwp-requires
-set_lwp-requires c =
-    let rows = c.args.tables.now.rows in
-    let l = c.unwrap-l.result in
-    let at : lwp_of c.args.tid rows.lwps ≡ Some l = cc in
-    rw c.set_process.ensures.rows (lwp_there rows l (showing c.args.shown.now l) (ap (λ n. lwp_of n rows.lwps) (lwp_of-tid c.args.tid l rows.lwps at) ∙ at) refl)
+set_lwp-requires c = search (rules, lwp_there, showing, lwp_of-tid)
 
 pub returns-in-Some : goal.returns-in-Some
 returns-in-Some c =

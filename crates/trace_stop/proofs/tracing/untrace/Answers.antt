@@ -1,4 +1,4 @@
-use Rattle.std.proofs.Common.{◌≡◌, Some, None, is_some, sym, ap, ◌∙◌, refl, subst}
+use Rattle.std.proofs.Common.{◌≡◌, Some, None, is_some, sym, ap, ◌∙◌, refl, subst, rules}
 use Rattle.signals.specs.Sets.{without}
 use Rattle.signals.specs.Table.{nothing}
 use Rattle.event_masks.specs.Exits.{no_events}
@@ -22,9 +22,7 @@ use Rattle.trace_stop.proofs.Posts.{untraced_sound}
 use Rattle.trace_stop.proofs.tracing.untrace.Goals as goal
 
 pub unwrap-p-requires : goal.unwrap-p-requires
-unwrap-p-requires c =
-    let row = live_row c.args.tables.now.rows c.args.pid c.process.ensures.kept.rising c.requires.live in
-    ap is_some (c.process.ensures.row ∙ row.1)
+unwrap-p-requires c = search (rules, live_row, is_some)
 
 pub set_process-requires : goal.set_process-requires
 set_process-requires c =

@@ -1,4 +1,4 @@
-use Rattle.std.proofs.Common.{◌≡◌, rules, length, Some, None}
+use Rattle.std.proofs.Common.{◌≡◌, rules, length, Some}
 use Rattle.std.specs.Prelude.{slice_get, option_map}
 use Rattle.requests.specs.Machine.{installed_by}
 use Rattle.visibility.proofs.Walked.{copied_next, copied_all, as_pair, as_installed, some_installed, none_installed}
@@ -12,7 +12,4 @@ loop-pair-preserved g c =
     record { within = rw c.in_ok-push.ensures.items next.0; kept = rw c.in_ok-push.ensures.items next.1 }
 
 pub returns : goal.returns
-returns g c =
-    let own = installed_by c.args.user c.args.host.now in
-    let said : option_map as_pair (slice_get own (length c.loop-pair.pairs.items)) ≡ None = search rules in
-    copied_all as_installed own c.loop-pair.pairs.items (none_installed (slice_get own (length c.loop-pair.pairs.items)) said) c.loop-pair.invariant.kept
+returns g c = search (rules, as_pair, copied_all, as_installed, none_installed)

@@ -1,4 +1,4 @@
-use Rattle.std.proofs.Common.{◌≡◌, rules, arith, ap, sym, ◌∙◌, Some, None, Bool}
+use Rattle.std.proofs.Common.{◌≡◌, rules, arith, ap, sym, ◌∙◌, Some, Bool}
 use Rattle.std.specs.Prelude.{slice_get, is_some}
 use Rattle.std.proofs.lemmas.Option.{slice_get_within}
 use Rattle.proc_table.specs.Seen.{owns}
@@ -9,16 +9,10 @@ use Rattle.visibility.proofs.views.lwps_of.Goals as goal
 use Rattle.visibility.proofs.views.lwps_of.Goals.{then-is_some+in_ok-push, else-is_some}
 
 pub overflow_add-place : goal.overflow_add-place
-overflow_add-place c =
-    let fit = lwps_fit c.args.tables.now.rows c.lwp_at.ensures.kept in
-    let within = c.loop-l.invariant.within in
-    omega (arith, fit, within)
+overflow_add-place c = search (rules, lwps_fit)
 
 pub loop-l-smaller : goal.loop-l-smaller
-loop-l-smaller c =
-    let at : slice_get c.args.tables.now.rows.lwps c.loop-l.place ≡ Some c.in-Some.l = cc in
-    let here = slice_get_within c.args.tables.now.rows.lwps c.loop-l.place c.in-Some.l at in
-    omega (arith, here)
+loop-l-smaller c = search (rules, slice_get_within)
 
 pub loop-l-preserved : goal.loop-l-preserved
 loop-l-preserved c =
@@ -35,6 +29,4 @@ loop-l-preserved c =
     }
 
 pub returns : goal.returns
-returns c =
-    let at : slice_get c.args.tables.now.rows.lwps c.loop-l.place ≡ None = search rules in
-    all_had (λ w. owns c.args.user w.pid c.args.tables.now.rows.processes) c.args.tables.now.rows.lwps c.loop-l.place c.loop-l.rows.items _ at c.loop-l.invariant.kept
+returns c = search (rules, all_had)

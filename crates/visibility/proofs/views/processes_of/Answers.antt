@@ -1,4 +1,4 @@
-use Rattle.std.proofs.Common.{◌≡◌, ◌<◌, ◌++◌, rules, arith, sym, ap, ◌∙◌, Some, None, ◌==◌, append-nil}
+use Rattle.std.proofs.Common.{◌≡◌, ◌<◌, rules, arith, Some, ◌==◌, append-nil}
 use Rattle.proc_table.specs.Walks.{next_of}
 use Rattle.requests.proofs.Walk.{above_first, above_none, next_over}
 use Rattle.visibility.proofs.Walked.{row_next}
@@ -22,6 +22,4 @@ loop-p-preserved c =
     }
 
 pub returns : goal.returns
-returns c =
-    let at : next_of c.args.user c.loop-p.after c.args.tables.now.rows.processes ≡ None = search rules in
-    sym (append-nil c.loop-p.rows.items) ∙ ap (λ xs. c.loop-p.rows.items ++ xs) (sym (above_none (λ p. p.uid == c.args.user) c.loop-p.after c.args.tables.now.rows.processes at)) ∙ c.loop-p.invariant.listed
+returns c = search (rules, append-nil, above_none)

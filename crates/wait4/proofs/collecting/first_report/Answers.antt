@@ -1,4 +1,4 @@
-use Rattle.std.proofs.Common.{◌≡◌, ◌<◌, false, true, Some, None, rules, arith, sym, ap, ◌∙◌}
+use Rattle.std.proofs.Common.{◌≡◌, ◌<◌, true, Some, rules, arith, sym, ◌∙◌}
 use Rattle.wait4.specs.Collect.{names_as, reportable}
 use Rattle.wait4.proofs.Search.{to_come, next_above, to_come-first, to_come-here, to_come-past, to_come-none, next_over}
 use Rattle.wait4.proofs.collecting.first_report.Goals as goal
@@ -24,18 +24,7 @@ loop-p-smaller c =
     omega (arith, over, c.get-after.ensures.number, c.get-after.ensures.below)
 
 pub loop-p-preserved : goal.loop-p-preserved
-loop-p-preserved c =
-    let a = names_as c.args.kin c.args.caller in
-    let r = reportable c.args.options c.args.caller in
-    let ps = c.args.tables.now.rows.processes in
-    let at : next_above a r c.loop-p.after ps ≡ Some c.in-Some.p = cc in
-    let fails : r c.in-Some.p ≡ false = cc in
-    ap (λ n. to_come a r n ps) c.get-after.ensures.number ∙ to_come-past a r c.loop-p.after ps c.kept.ensures.rising c.in-Some.p at fails ∙ c.loop-p.invariant
+loop-p-preserved c = search (rules, next_above, to_come, to_come-past)
 
 pub returns-clause-row : goal.returns-clause-row
-returns-clause-row c =
-    let a = names_as c.args.kin c.args.caller in
-    let r = reportable c.args.options c.args.caller in
-    let ps = c.args.tables.now.rows.processes in
-    let at : next_above a r c.loop-p.after ps ≡ None = search rules in
-    sym (to_come-none a r c.loop-p.after ps c.kept.ensures.rising at) ∙ c.loop-p.invariant
+returns-clause-row c = search (rules, next_above, to_come-none)
