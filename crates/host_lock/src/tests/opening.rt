@@ -35,13 +35,14 @@ fn came_back(
 #[test]
 fn neither_none_nor_sixty_five_open_a_host(rt: HostRuntime) -> Result<(), Fail> {
     let alloc = rt.alloc();
-    let users = [Uid::new(1001)?; 65];
-    for (count, too_many) in [(0, false), (65, true)] {
+    let user = Uid::new(1001)?;
+    let sixty_five = [user; 65];
+    for (users, too_many) in [(&sixty_five[..0], false), (&sixty_five[..], true)] {
         let mut host = Host::<ByPolicy>::new(alloc, Settings::standard())?;
-        let first = host.step(alloc, users[0], Step::Spawn);
-        let opened = SharedHost::open(alloc, host, &users[..count]);
+        let first = host.step(alloc, user, Step::Spawn);
+        let opened = SharedHost::open(alloc, host, users);
         let (mut host, many) = came_back(opened).ok_or("opened")?;
-        let second = host.step(alloc, users[0], Step::Spawn);
+        let second = host.step(alloc, user, Step::Spawn);
         assert_eq!(rt; Some(first), new_process(1000, 100000));
         assert_eq!(rt; Some(second), new_process(1001, 100001));
         assert_eq!(rt; many, too_many);
@@ -95,7 +96,7 @@ fn call_in_turn<R: Abort + Wait>(
 }
 
 /// The journal has these calls and no others.
-fn are_calls<R: Abort>(rt: &R, journal: &Journal, users: [Uid; 2], calls: &[Called]) {
+fn are_calls<R: Abort>(rt: &R, journal: &Journal, users: &[Uid], calls: &[Called]) {
     assert_eq!(rt;
         (journal.len(), journal.is_empty()),
         (calls.len(), calls.is_empty())
@@ -126,26 +127,26 @@ fn shown(session: &Session) -> (u32, usize, u32) {
 fn work_in_turn<R: Abort + Wait>(
     rt: &R,
     alloc: Global,
-    users: [Uid; 2],
+    (one, other): (Uid, Uid),
     made: (u32, u32),
     calls: &[Called],
 ) -> Result<Host<ByPolicy>, Fail> {
     let host = Host::<ByPolicy>::new(alloc, Settings::standard())?;
-    let opened = open_two(alloc, host, users[0], users[1]);
+    let opened = open_two(alloc, host, one, other);
     let (host, mut first, mut second) = opened.ok_or("open")?;
-    let (one, other) = (users[0].get(), users[1].get());
+    let (uid, other_uid) = (one.get(), other.get());
     assert_eq!(rt;
         (shown(&first), shown(&second)),
-        ((one, 0, 0), (other, 1, 0))
+        ((uid, 0, 0), (other_uid, 1, 0))
     );
     call_in_turn(rt, alloc, &host, &mut first, &mut second, calls);
     let (host, first) = close_one(alloc, host, first).ok_or("Missing")?;
     assert_eq!(rt;
         (shown(&first), shown(&second)),
-        ((one, 0, made.0), (other, 1, made.1))
+        ((uid, 0, made.0), (other_uid, 1, made.1))
     );
     let (host, journal) = close_two(alloc, host, first, second).ok_or("close")?;
-    are_calls(rt, &journal, users, calls);
+    are_calls(rt, &journal, &[one, other], calls);
     Ok(host)
 }
 
@@ -157,14 +158,14 @@ fn a_user_may_have_two_sessions(rt: HostRuntime) -> Result<(), Fail> {
         spawned(0, 1000, 100000).ok_or("number")?,
         spawned(1, 1001, 100001).ok_or("number")?,
     ];
-    work_in_turn(&rt, alloc, [user, user], (1, 1), &calls[..])?;
+    work_in_turn(&rt, alloc, (user, user), (1, 1), &calls[..])?;
     Ok(())
 }
 
 #[test]
 fn a_host_waits_for_all_its_sessions(rt: HostRuntime) -> Result<(), Fail> {
     let alloc = rt.alloc();
-    let users = [Uid::new(1001)?, Uid::new(1002)?];
+    let (one, other) = (Uid::new(1001)?, Uid::new(1002)?);
     let calls = [
         spawned(0, 1000, 100000).ok_or("number")?,
         spawned(1, 2000, 104000).ok_or("number")?,
@@ -175,10 +176,10 @@ fn a_host_waits_for_all_its_sessions(rt: HostRuntime) -> Result<(), Fail> {
             reply: Reply::Pids(NumList::of(vec![in alloc; 1000, 1001]?)),
         },
     ];
-    let mut host = work_in_turn(&rt, alloc, users, (3, 1), &calls[..])?;
-    let next = host.step(alloc, users[0], Step::Spawn);
+    let mut host = work_in_turn(&rt, alloc, (one, other), (3, 1), &calls[..])?;
+    let next = host.step(alloc, one, Step::Spawn);
     assert_eq!(rt; Some(next), new_process(1002, 100002));
-    let next = host.step(alloc, users[1], Step::Spawn);
+    let next = host.step(alloc, other, Step::Spawn);
     assert_eq!(rt; Some(next), new_process(2001, 104001));
     Ok(())
 }

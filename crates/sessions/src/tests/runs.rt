@@ -99,22 +99,22 @@ fn a_user_has_two_scripts(rt: HostRuntime) -> Result<(), Fail> {
     let ran = run(&rt, alloc, host, (&[user, user], 1), &Open);
     let ran = ran.ok().ok_or("run")?;
     assert_eq!(rt; (ran.journal.len(), ran.transcripts.len()), (2, 2));
-    let numbers = [new_process(1000, 100000), new_process(1001, 100001)];
+    let one = new_process(1000, 100000).ok_or("number")?;
+    let other = new_process(1001, 100001).ok_or("number")?;
     let replies = ran.transcripts.as_slice();
-    let first = usize::from(only_reply(replies, 0, user) != numbers[0].as_ref());
-    for place in 0..2usize {
-        let script = if place == 0 { first } else { 1 - first };
-        let wanted = numbers
-            .as_slice()
-            .get(place)
-            .and_then(|reply| reply.as_ref());
-        assert_eq!(rt; only_reply(replies, script, user), wanted, "at {place}");
-        let found = spawn_at(&ran.journal, place);
+    let (first, second) = if only_reply(replies, 0, user) == Some(&one) {
+        (0, 1)
+    } else {
+        (1, 0)
+    };
+    for (place, script, wanted) in [(0, first, &one), (1, second, &other)] {
         assert_eq!(rt;
-            found,
-            wanted.map(|reply| (user, script, reply)),
+            only_reply(replies, script, user),
+            Some(wanted),
             "at {place}"
         );
+        let made = spawn_at(&ran.journal, place);
+        assert_eq!(rt; made, Some((user, script, wanted)), "at {place}");
     }
     Ok(())
 }
