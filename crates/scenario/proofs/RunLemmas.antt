@@ -1,5 +1,5 @@
 -- The answers of a whole run.
-use Rattle.std.proofs.Common.{◌≡◌, ℕ, false, List, [], ◌∷◌, map, zip, Some, None, if◌then◌else◌, refl, ap, ap₂, subst}
+use Rattle.std.proofs.Common.{◌≡◌, ℕ, false, List, [], ◌∷◌, ◌++◌, length, map, zip, Some, None, if◌then◌else◌, refl, sym, ap, ap₂, subst, ◌∙◌, append-nil, arith}
 use Rattle.std.specs.Prelude.{Result, Ok, Err, IfErr}
 use Rattle.std.specs.Result.{IsErrAnd}
 use Rattle.std.specs.List.{AllByRecursion}
@@ -26,6 +26,12 @@ all_replies (x ∷ xs) [] m k made ran = absurd ran
 all_replies (x ∷ xs) (r ∷ rs) m k made ran =
     let both = subst (λ o. Ran (x ∷ xs) (o ∷ map told rs) m k) (told_made r made.0) ran in
     ap₂ (λ (s : Reply) (ss : List Reply). s ∷ ss) both.0 (all_replies xs rs (host_after x.uid x.step m) k made.1 both.1)
+
+-- no pair is left where no reply is
+pub none_zipped : {X Y : Type 0} (done : List (X × Y)) (xs : List X) (ys : List Y) (all : List (X × Y)) → ys ≡ [] → done ++ zip xs ys ≡ all → done ≡ all
+none_zipped done [] ys all none is = sym (append-nil done) ∙ is
+none_zipped done (x ∷ xs) [] all none is = sym (append-nil done) ∙ is
+none_zipped done (x ∷ xs) (y ∷ ys) all none is = let long = ap length none in absurd (omega arith)
 
 -- the steps' users with the replies
 pub paired_with : (ss : List (ℕ × PlainStep)) (rs : List Reply) → map answered (zip (map (λ s. s.0) ss) rs) ≡ paired (map asked ss) rs
