@@ -1,6 +1,6 @@
 -- The answers of a whole run.
 use Rattle.std.proofs.Common.{◌≡◌, ℕ, false, List, [], ◌∷◌, ◌++◌, length, map, zip, Some, None, if◌then◌else◌, refl, sym, ap, ap₂, subst, ◌∙◌, append-nil, arith}
-use Rattle.std.specs.Prelude.{Result, Ok, Err, IfErr}
+use Rattle.std.specs.Prelude.{Result, Ok, Err, IfOk, IfErr, OnOk}
 use Rattle.std.specs.Result.{IsErrAnd}
 use Rattle.std.specs.List.{AllByRecursion}
 use Rattle.requests.specs.Plain.{PlainStep}
@@ -38,6 +38,11 @@ pub paired_with : (ss : List (ℕ × PlainStep)) (rs : List Reply) → map answe
 paired_with [] rs = refl
 paired_with (s ∷ ss) [] = refl
 paired_with (s ∷ ss) (r ∷ rs) = ap (λ xs. answered (s.0, r) ∷ xs) (paired_with ss rs)
+
+-- what holds of the answer, by two facts
+pub ok_by : {X E : Type 0} (P R : X → Type 0) (Q : Type 0) (r : Result X E) → IfOk r P → OnOk r Q → ((x : X) → P x → Q → R x) → IfOk r R
+ok_by P R Q (Ok x) p q h = h x p q
+ok_by P R Q (Err e) p q h = tt
 
 -- a fault of which P holds
 pub fault_with : {X : Type 0} (P : RunFault → Type 0) (r : Result X RunFault) → IsErrAnd r P → IfErr r P
