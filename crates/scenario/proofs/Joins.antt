@@ -1,11 +1,8 @@
 -- Words that are written one after another, each behind what is to stand before it.
-use Rattle.std.proofs.Common.{◌≡◌, ℕ, ◌+◌, ◌<◌, Bool, true, false, List, [], ◌∷◌, ◌++◌, length, drop, get_or, map, filter, codes, decimal, refl, sym, ap, ◌∙◌, append-nil}
-use Rattle.std.proofs.Common.{Bor, ◌==◌, Option}
-use Rattle.std.specs.Int.RustNames.{bit_and}
+use Rattle.std.proofs.Common.{◌≡◌, ℕ, List, [], ◌∷◌, ◌++◌, map, codes, decimal, refl, sym, ap, ◌∙◌, append-nil, Option}
 use Rattle.std.specs.List.{join_with_byte, flat_map}
-use Rattle.std.proofs.lemmas.List.{append_assoc, at_drop_more}
-use Rattle.event_masks.specs.Names.{joined}
-use Rattle.scenario.specs.Texts.{named_bit, view_words}
+use Rattle.std.proofs.lemmas.List.{append_assoc}
+use Rattle.scenario.specs.Texts.{view_words}
 use Rattle.scenario.specs.Words.{reply_words, decision_words, index_text, flags_word}
 use Rattle.requests.specs.declared.Reply.TheVariants as reply
 use Rattle.stop_handlers.specs.declared.StopView.{StopView}
@@ -14,51 +11,6 @@ use Rattle.stop_handlers.specs.declared.Decision.TheVariants as decision
 use Rattle.wait4.specs.declared.StatusKind.{StatusKind}
 use Rattle.wait4.specs.Status.{word}
 
--- what is still to be written: before the first word `none` where none comes, and then the words with the byte before each
-abbrev pub ending : ℕ → Bool → List (List ℕ) → List ℕ
-ending byte true ws = joined byte ws
-ending byte false ws = flat_map (λ w. byte ∷ w) ws
-
-pub from_first : (byte : ℕ) (w : List ℕ) (ws : List (List ℕ)) → join_with_byte byte (w ∷ ws) ≡ w ++ ending byte false ws
-from_first byte w [] = sym (append-nil w)
-from_first byte w (v ∷ ws) = ap (λ xs. w ++ (byte ∷ xs)) (from_first byte v ws)
-
--- the words of those that pass a test
-abbrev pub chosen : {X : Type 0} → (X → Bool) → (X → List ℕ) → List X → List (List ℕ)
-chosen test text xs = map text (filter test xs)
-
--- what stands before a word
-abbrev pub separator : ℕ → Bool → List ℕ
-separator byte true = []
-separator byte false = byte ∷ []
-
-one_more : (byte : ℕ) (empty : Bool) (w : List ℕ) (ws : List (List ℕ)) → ending byte empty (w ∷ ws) ≡ separator byte empty ++ (w ++ ending byte false ws)
-one_more byte true w ws = from_first byte w ws
-one_more byte false w ws = refl
-
--- one that fails the test is passed over
-pub passed_over : {X : Type 0} (byte : ℕ) (empty : Bool) (test : X → Bool) (text : X → List ℕ) (xs : List X) (i : ℕ) (d : X) (done all : List ℕ) → i < length xs → test (get_or xs i d) ≡ false
-    → done ++ ending byte empty (chosen test text (drop i xs)) ≡ all
-    → done ++ ending byte empty (chosen test text (drop (i + 1) xs)) ≡ all
-passed_over byte empty test text xs i d done all h fails before =
-    let next = at_drop_more (λ ys. ending byte empty (chosen test text ys)) xs i d h in
-    let here : ending byte empty (chosen test text (drop i xs)) ≡ ending byte empty (chosen test text (drop (i + 1) xs)) = next ∙ rw fails refl in
-    ap (λ ys. done ++ ys) (sym here) ∙ before
-
--- one that passes it is written
-pub one_written : {X : Type 0} (byte : ℕ) (empty after : Bool) (test : X → Bool) (text : X → List ℕ) (xs : List X) (i : ℕ) (d : X) (done all : List ℕ) → i < length xs → test (get_or xs i d) ≡ true
-    → done ++ ending byte empty (chosen test text (drop i xs)) ≡ all
-    → after ≡ false
-    → (done ++ (separator byte empty ++ text (get_or xs i d))) ++ ending byte after (chosen test text (drop (i + 1) xs)) ≡ all
-one_written byte empty after test text xs i d done all h passes before is =
-    let next = at_drop_more (λ ys. ending byte empty (chosen test text ys)) xs i d h in
-    let rest = chosen test text (drop (i + 1) xs) in
-    let word = text (get_or xs i d) in
-    let here : ending byte empty (chosen test text (drop i xs)) ≡ separator byte empty ++ (word ++ ending byte false rest) = next ∙ rw passes (one_more byte empty word rest) in
-    ap (λ b. (done ++ (separator byte empty ++ word)) ++ ending byte b rest) is
-    ∙ append_assoc done (separator byte empty ++ word) (ending byte false rest)
-    ∙ ap (λ ys. done ++ ys) (append_assoc (separator byte empty) word (ending byte false rest) ∙ sym here) ∙ before
-
 -- the numbers, each after a space
 abbrev pub spaced : List ℕ → List ℕ
 spaced numbers = flat_map (λ n. 32 ∷ decimal n) numbers
@@ -66,17 +18,6 @@ spaced numbers = flat_map (λ n. 32 ∷ decimal n) numbers
 pub spaced_words : (w : List ℕ) (ns : List ℕ) → join_with_byte 32 (w ∷ map (λ n. decimal n) ns) ≡ w ++ spaced ns
 spaced_words w [] = sym (append-nil w)
 spaced_words w (n ∷ ns) = ap (λ xs. w ++ (32 ∷ xs)) (spaced_words (decimal n) ns)
-
-flag_names_at : (bits : ℕ) (n : Bor (List ℕ) × ℕ) (ns : List (Bor (List ℕ) × ℕ)) (b : Bool) → (bit_and bits n.1 == n.1) ≡ b
-    → chosen (λ n. bit_and bits n.1 == n.1) (λ n. n.0.now) ns ≡ map (λ n. n.0) (filter (λ n. bit_and bits n.1 == n.1) (map named_bit ns))
-    → chosen (λ n. bit_and bits n.1 == n.1) (λ n. n.0.now) (n ∷ ns) ≡ map (λ n. n.0) (filter (λ n. bit_and bits n.1 == n.1) (map named_bit (n ∷ ns)))
-flag_names_at bits n ns true is e = rw is (ap (λ ws. n.0.now ∷ ws) e)
-flag_names_at bits n ns false is e = rw is e
-
--- the names of the flags of a set, from references to them
-pub flag_names : (bits : ℕ) (ns : List (Bor (List ℕ) × ℕ)) → chosen (λ n. bit_and bits n.1 == n.1) (λ n. n.0.now) ns ≡ map (λ n. n.0) (filter (λ n. bit_and bits n.1 == n.1) (map named_bit ns))
-flag_names bits [] = refl
-flag_names bits (n ∷ ns) = flag_names_at bits n ns _ refl (flag_names bits ns)
 
 -- the text before what was decided
 abbrev pub handled_front : ℕ → StatusKind → StopView → Option ℕ → List ℕ → List ℕ

@@ -1,14 +1,9 @@
 -- Texts as they are written.
 use Rattle.std.specs.Prelude.{ℕ, List, [], ◌∷◌, ◌++◌, codes, decimal}
-use Rattle.std.specs.Borrow.{Bor}
 use Rattle.stop_handlers.specs.declared.StopView.{StopView}
 use Rattle.signals.specs.Sets.{set_text}
 use Rattle.scenario.specs.Words.{flags_word}
 use Rattle.lwpinfo.specs.declared.LwpInfo.{LwpInfo}
-
--- a name with its bit
-abbrev pub named_bit : Bor (List ℕ) × ℕ → List ℕ × ℕ
-named_bit n = (n.0.now, n.1)
 
 -- what a handler sees of a stop
 abbrev pub view_words : StopView → List (List ℕ)

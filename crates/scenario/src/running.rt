@@ -1,5 +1,7 @@
 //! Runs a scenario, and writes its lines.
-ghost use Rattle.std.specs.Prelude.{◌≡◌, ◌≢◌, ◌⊎◌, ◌↔◌, IsErrOf, map, IfOk, IfErr};
+ghost use Rattle.std.specs.Prelude.{◌≡◌, ◌≢◌, ◌⊎◌, ◌↔◌, IsErrOf, map, zip, false, IfOk, IfErr, OnOk};
+ghost use Rattle.std.specs.List.{AllByRecursion};
+ghost use Rattle.requests.specs.Memory.{is_memory};
 ghost use Rattle.scenario.specs.Plan.{asked, policies_in};
 ghost use Rattle.scenario.specs.Runs.{answered, answers_of, shown, Writes};
 ghost use Rattle.scenario.specs.Faults.{run_fault_status};
@@ -15,6 +17,7 @@ use std::io::Write;
 use stop_handlers::{Decider, Handler};
 use thiserror::Error;
 use trace_stop::Settings;
+use visibility::run_list;
 
 /// Why a run came to no end.
 #[derive(Clone, Copy, Debug, PartialEq, Eq, Error)]
@@ -60,6 +63,43 @@ impl<T: Drop> From<AllocFailed<T>> for RunFault {
     }
 }
 
+/// The users of the steps, in order. An error is want of memory.
+fn users_of<F: Decider + Send + Drop>(
+    alloc: Global,
+    steps: &[(Uid, Step<Handler<F>>)],
+) -> Result<Vec<Uid>, AllocError>
+    ensures { IfOk result (λ users. users.items ≡ map (λ s. s.0) steps.now) }
+{
+    let mut users = Vec::new(alloc);
+    for step in steps {
+        users.push(step.0)?;
+    }
+    Ok(users)
+}
+
+/// Each user with the reply in the same place. A step that found no memory made no reply: then there are no pairs.
+fn pairs_of(
+    alloc: Global,
+    users: Vec<Uid>,
+    replies: Vec<Reply>,
+) -> Result<Vec<(Uid, Reply)>, RunFault>
+    ensures pairs { IfOk result (λ pairs. pairs.items ≡ zip users.items replies.items) }
+    ensures made { OnOk result (AllByRecursion (λ r. is_memory r ≡ false) replies.items) }
+    ensures err { IfErr result (λ e. e ≡ Memory) }
+{
+    let mut pairs = Vec::new(alloc);
+    let mut users = users.into_iter();
+    for reply in replies {
+        if reply.is_memory() {
+            return Err(RunFault::Memory);
+        }
+        if let Some(user) = users.next() {
+            pairs.push((user, reply))?;
+        }
+    }
+    Ok(pairs)
+}
+
 /// The replies to the steps, made one after another by a new host. A step that is answered ENOMEM ends the run.
 fn replies_of<F: Decider + Send + Drop>(
     alloc: Global,
@@ -70,16 +110,10 @@ fn replies_of<F: Decider + Send + Drop>(
         ≡ answers_of (record { settings = settings; steps = map asked steps.items })) }
     ensures err { IfErr result (λ e. e ≡ Memory) }
 {
+    let users = users_of(alloc, steps.as_slice())?;
     let mut host = Host::new(alloc, settings)?;
-    let mut replies = Vec::new(alloc);
-    for (user, step) in steps {
-        let reply = host.step(alloc, user, step);
-        if reply.is_memory() {
-            return Err(RunFault::Memory);
-        }
-        replies.push((user, reply))?;
-    }
-    Ok(replies)
+    let replies = run_list(alloc, &mut host, steps)?;
+    pairs_of(alloc, users, replies)
 }
 
 /// Writes all the bytes, or a front of them.

@@ -1,69 +1,13 @@
 //! The words of replies.
-ghost use Rattle.std.specs.Prelude.{◌≡◌, ◌∷◌, Some, map, decimal};
+ghost use Rattle.std.specs.Prelude.{◌∷◌, Some, map, decimal};
 ghost use Rattle.std.specs.List.{join_with_byte};
-ghost use Rattle.event_masks.specs.Names.{event_table, stop_table, flag_text};
 ghost use Rattle.scenario.specs.Words.{index_text, decision_words, reply_words};
-ghost use Rattle.scenario.specs.Texts.{named_bit, view_words, rest_words};
+ghost use Rattle.scenario.specs.Texts.{view_words, rest_words};
 
-use event_masks::{EventMask, StopFlags};
 use lwpinfo::{LwpInfo, NumList};
 use requests::Reply;
 use std::fmt;
 use stop_handlers::{Decision, StopView};
-
-/// The flags of a stop in the order of printing, with their bits.
-const STOP_FLAGS: [(&str, u32); 9] = [
-    ("PL_FLAG_SCE", 1),
-    ("PL_FLAG_SCX", 2),
-    ("PL_FLAG_EXEC", 4),
-    ("PL_FLAG_FORKED", 8),
-    ("PL_FLAG_CHILD", 16),
-    ("PL_FLAG_BORN", 32),
-    ("PL_FLAG_EXITED", 64),
-    ("PL_FLAG_VFORKED", 128),
-    ("PL_FLAG_VFORK_DONE", 256),
-];
-
-/// The flags of an event mask in the order of printing, with their bits.
-const EVENTS: [(&str, u32); 6] = [
-    ("PTRACE_EXEC", 1),
-    ("PTRACE_SCE", 2),
-    ("PTRACE_SCX", 4),
-    ("PTRACE_FORK", 8),
-    ("PTRACE_LWP", 16),
-    ("PTRACE_VFORK", 32),
-];
-
-/// The flags of a set by name, joined by `+`, or `none`.
-#[derive(Clone, Copy, Drop)]
-struct Flags<'a> {
-    bits: u32,
-    names: &'a [(&'a str, u32)],
-}
-
-impl fmt::Display for Flags<'_> {
-    ghost output = { λ f. Some (flag_text (map named_bit f.names.now) f.bits) };
-
-    fn fmt<W: fmt::Write>(&self, f: &mut fmt::Formatter<W>) -> fmt::Result {
-        let bits = self.bits;
-        let mut empty = true;
-        for (name, bit) in self.names {
-            if bits & *bit != *bit {
-                continue;
-            }
-            if empty {
-                write!(f, "{name}")?;
-                empty = false;
-                continue;
-            }
-            write!(f, "+{name}")?;
-        }
-        if empty {
-            return write!(f, "none");
-        }
-        Ok(())
-    }
-}
 
 /// A word and numbers, with a space between each two.
 #[derive(Clone, Copy, Drop)]
@@ -124,26 +68,6 @@ impl fmt::Display for Doing {
     }
 }
 
-/// The flags of a stop.
-fn stop_flags<'a>(flags: StopFlags) -> Flags<'a>
-    ensures { flag_text (map named_bit result.names.now) result.bits ≡ flag_text stop_table flags.0 }
-{
-    Flags {
-        bits: flags.0,
-        names: &STOP_FLAGS,
-    }
-}
-
-/// The flags of an event mask.
-fn events<'a>(mask: EventMask) -> Flags<'a>
-    ensures { flag_text (map named_bit result.names.now) result.bits ≡ flag_text event_table mask.0 }
-{
-    Flags {
-        bits: mask.0,
-        names: &EVENTS,
-    }
-}
-
 /// A trace stop as a handler saw it.
 #[derive(Clone, Copy, Drop)]
 struct Seen<'a>(&'a StopView);
@@ -154,7 +78,7 @@ impl fmt::Display for Seen<'_> {
     fn fmt<W: fmt::Write>(&self, f: &mut fmt::Formatter<W>) -> fmt::Result {
         let tid = self.0.tid.get();
         let signal = self.0.sig.number();
-        let flags = stop_flags(self.0.flags);
+        let flags = self.0.flags;
         let child = self.0.child;
         let code = self.0.code;
         write!(
@@ -205,7 +129,7 @@ impl fmt::Display for Words<'_> {
             Reply::Info(info) => {
                 let tid = info.tid.get();
                 let event = info.event;
-                let flags = stop_flags(info.flags);
+                let flags = info.flags;
                 let rest = Rest(info);
                 write!(f, "info {tid} {event} flags={flags} {rest}")
             }
@@ -223,10 +147,7 @@ impl fmt::Display for Words<'_> {
                 };
                 write!(f, "{listed}")
             }
-            Reply::Mask(mask) => {
-                let mask = events(*mask);
-                write!(f, "mask {mask}")
-            }
+            Reply::Mask(mask) => write!(f, "mask {mask}"),
             Reply::Handled {
                 pid,
                 status,
@@ -244,7 +165,6 @@ impl fmt::Display for Words<'_> {
             Reply::Stopped { tid, sig, flags } => {
                 let tid = tid.get();
                 let signal = sig.number();
-                let flags = stop_flags(*flags);
                 write!(f, "stopped {tid} {signal} flags={flags}")
             }
             Reply::Caught(sig) => {

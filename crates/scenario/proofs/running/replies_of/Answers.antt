@@ -1,31 +1,25 @@
-use Rattle.std.proofs.Common.{◌≡◌, ◌++◌, false, map, sym, ap, ap₂, ◌∙◌, rules}
-use Rattle.std.specs.Vec.Iter.{into_iter_items}
-use Rattle.std.proofs.lemmas.List.{append-nil, nil_from_length}
+use Rattle.std.proofs.Common.{◌≡◌, ℕ, false, map, zip, ap, ◌∙◌}
+use Rattle.std.specs.List.{AllByRecursion}
 use Rattle.requests.specs.Memory.{is_memory}
+use Rattle.requests.specs.Plain.{PlainStep}
+use Rattle.requests.specs.Run.{replies as replies_from}
 use Rattle.scenario.specs.declared.running.RunFault.TheVariants.{Memory}
-use Rattle.scenario.specs.Runs.{answered}
-use Rattle.scenario.proofs.RunLemmas.{answers_from, one_answered, fault_with}
+use Rattle.scenario.specs.Plan.{asked}
+use Rattle.scenario.specs.Runs.{answered, answers_of, paired}
+use Rattle.scenario.proofs.RunLemmas.{all_replies, fault_with, ok_by, paired_with}
 use Rattle.scenario.proofs.running.replies_of.Goals as goal
-
-pub loop-user-init : goal.loop-user-init
-loop-user-init g c =
-    let steps : into_iter_items c.into_iter-user-iterator.result ≡ c.args.steps.items = search rules in
-    ap (λ items. map answered items ++ answers_from (into_iter_items c.into_iter-user-iterator.result) c.in_ok-host.host) c.new-replies.ensures.items
-    ∙ ap₂ answers_from steps c.in_ok-host.ensures
-
-pub loop-user-preserved : goal.loop-user-preserved
-loop-user-preserved g c =
-    let at = c.loop-user in
-    let made : is_memory c.step-reply.result ≡ false = sym c.is_memory.ensures ∙ c.if-is_memory.false in
-    ap (λ items. map answered items ++ answers_from (into_iter_items c.next.new.self) c.step-reply.new.self) c.in_ok-push.ensures.items
-    ∙ one_answered at.replies.items (into_iter_items at.user-iterator) (into_iter_items c.next.new.self) (c.in-Some.user, c.in-Some.step) at.host c.step-reply.new.self c.step-reply.result _
-    c.in-Some.ensures.steps.0 made c.step-reply.ensures.machine at.invariant
 
 pub returns-clause-ok : goal.returns-clause-ok
 returns-clause-ok g c =
-    let at = c.loop-user in
-    let none = nil_from_length _ (sym at.user-iterator.rest.ok.0 ∙ c.in-None.ensures.steps.0) in
-    sym (append-nil (map answered at.replies.items)) ∙ ap (λ steps. map answered at.replies.items ++ answers_from steps at.host) (sym none) ∙ at.invariant
+    let steps = c.args.steps.items in
+    let replies = c.in_ok-replies.replies.items in
+    let users = c.in_ok-users.ensures ∙ ap (map (λ (s : ℕ × PlainStep). s.0)) c.as_slice.ensures.value in
+    ok_by (λ v. v.items ≡ zip c.in_ok-users.users.items replies) (λ v. map answered v.items ≡ answers_of (record { settings = c.args.settings; steps = map asked steps }))
+    (AllByRecursion (λ r. is_memory r ≡ false) replies) c.pairs_of.result c.pairs_of.ensures.pairs c.pairs_of.ensures.made (λ v pairs made.
+        let told = all_replies (map asked steps) replies c.in_ok-host.host c.run_list.new.host made c.in_ok-replies.ensures.ran in
+        ap (map answered) (pairs ∙ ap (λ us. zip us replies) users)
+        ∙ paired_with steps replies
+        ∙ ap (paired (map asked steps)) (told ∙ ap (replies_from (map asked steps)) c.in_ok-host.ensures))
 
-pub returns-in_err-push-clause-err : goal.returns-in_err-push-clause-err
-returns-in_err-push-clause-err g c = fault_with (λ e. e ≡ Memory) c.from_residual-in_err-push.result c.from_residual-in_err-push.ensures.1
+pub returns-in_err-replies-clause-err : goal.returns-in_err-replies-clause-err
+returns-in_err-replies-clause-err g c = fault_with (λ e. e ≡ Memory) c.from_residual-in_err-replies.result c.from_residual-in_err-replies.ensures.1
