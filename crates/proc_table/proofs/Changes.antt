@@ -1,5 +1,5 @@
 -- Changes of a process, of an LWP, and of a process with its LWPs, as edits of single rows.
-use Rattle.std.proofs.Common.{◌≡◌, ℕ, true, false, List, [], ◌∷◌, map, refl, sym, ap, ◌∙◌, arith, inl, inr, cond, nat_eq, is_some, Option, Some, None}
+use Rattle.std.proofs.Common.{◌≡◌, ℕ, false, List, [], ◌∷◌, map, refl, ap, ◌∙◌, arith, inl, inr, cond, nat_eq, is_some, Option, Some, None, rules}
 use Rattle.std.specs.Prelude.{filter_map}
 use Rattle.std.proofs.Math.Path.{fun_ext}
 use Rattle.std.proofs.lemmas.Bool.{cases_Bool}
@@ -59,17 +59,7 @@ module _ (pid : ℕ) (f : ProcData → ProcData) (g : ProcData → LwpData → L
     | inl e ↦ let same : l.pid ≡ pid = grind (arith, nat_tests) in absurd (let h : process_of pid ps ≡ None = rw (← same) at in cc)
     | inr e ↦ rw e refl
   ]
-  by_found p l (Some q) ps found at =
-      let named = process_of-pid l.pid q ps at in
-      elim (cases_Bool (nat_eq l.pid pid)) [
-        | inl e ↦
-            let same : l.pid ≡ pid = grind (arith, nat_tests) in
-            let its : process_of pid ps ≡ Some q = rw (← same) at in
-            let row : q ≡ p = cc in
-            let test : nat_eq q.pid pid ≡ true = rw named e in
-            rw (e, test) (ap (λ x. Some (g x l)) row)
-        | inr e ↦ let test : nat_eq q.pid pid ≡ false = rw named e in rw (e, test) refl
-      ]
+  by_found p l (Some q) ps found at = search (rules, process_of-pid, cases_Bool, nat_tests)
 
   pub change-at : (rows : Rows) (p : ProcData) → Rise rows.processes → process_of pid rows.processes ≡ Some p → (f p).pid ≡ pid
       → change (is_numbered pid) f g rows ≡ map_lwps pid (g p) (set_process (f p) rows)
@@ -124,6 +114,4 @@ remove_lwp-is tid rows = ap (λ ls. record rows { lwps = ls }) (gone rows.lwps)
 pub change-done : (pid : ℕ) (f : ProcData → ProcData) (g : ProcData → LwpData → LwpData) (h : LwpData → LwpData) (p q : ProcData) (rows rows1 rows2 : Rows)
     → Rise rows.processes → process_of pid rows.processes ≡ Some p → (f p).pid ≡ pid → q ≡ f p → rows1 ≡ set_process q rows → ((l : LwpData) → h l ≡ g p l) → rows2 ≡ map_lwps pid h rows1
     → rows2 ≡ change (is_numbered pid) f g rows
-change-done pid f g h p q rows rows1 rows2 up at its row put same done =
-    done ∙ (ap (map_lwps pid h) (put ∙ ap (λ r. set_process r rows) row)
-    ∙ (ap (λ k. map_lwps pid k (set_process (f p) rows)) (fun_ext same) ∙ sym (change-at pid f g rows p up at its)))
+change-done pid f g h p q rows rows1 rows2 up at its row put same done = search (rules, fun_ext, change-at)

@@ -1,6 +1,6 @@
 -- Cursors of the users' blocks.
-use Rattle.std.proofs.Common.{◌≡◌, ℕ, zero, suc, ◌+◌, ◌-◌, ◌<◌, List, ◌∷◌, ◌++◌, length, set, get_or, map, refl, ap, ◌∙◌, arith, inl, inr, nat_eq}
-use Rattle.std.specs.Prelude.{◌≢◌, leb, replicate}
+use Rattle.std.proofs.Common.{◌≡◌, ℕ, zero, suc, ◌+◌, ◌-◌, ◌<◌, List, ◌∷◌, ◌++◌, length, set, get_or, map, refl, ap, ◌∙◌, arith, rules}
+use Rattle.std.specs.Prelude.{replicate}
 use Rattle.std.proofs.lemmas.List.{get_or-set_same, get_or-set_other}
 use Rattle.std.proofs.lemmas.Bool.{cases_Bool}
 use Rattle.std.proofs.lemmas.Bool.Decides.{nat_tests}
@@ -10,18 +10,12 @@ use Rattle.pid_blocks.specs.declared.Block.{Block}
 
 -- cursors stay in their blocks
 pub InBlock-after : (b : Block) (n : ℕ) → InBlock b n → 0 < b.size → InBlock b (cursor_after b n)
-InBlock-after b n h some = elim (cases_Bool (leb (b.first + b.size) (n + 1))) [
-  | inl e ↦ rw e (omega arith, omega arith)
-  | inr e ↦ let more : n + 1 < b.first + b.size = grind (arith, nat_tests) in rw e (omega (arith, h.0), more)
-]
+InBlock-after b n h some = search (rules, cases_Bool, nat_tests)
 
 pub cursors-set : (block : ℕ → Block) (cursors : List ℕ) (v c : ℕ) → IsUser v → length cursors ≡ 64 → InBlock (block v) c
     → ((u : ℕ) → IsUser u → InBlock (block u) (get_or cursors (slot u) 0))
     → (u : ℕ) → IsUser u → InBlock (block u) (get_or (set cursors (slot v) c) (slot u) 0)
-cursors-set block cursors v c user len home all u its = elim (cases_Bool (nat_eq u v)) [
-  | inl e ↦ let same : u ≡ v = grind (arith, nat_tests) in let here : get_or (set cursors (slot v) c) (slot v) 0 ≡ c = get_or-set_same cursors (slot v) c 0 (omega (arith, user.0, user.1, len)) in rw same (rw here home)
-  | inr e ↦ let other : slot u ≢ slot v = grind (arith, nat_tests, user.0, user.1, its.0, its.1) in let there : get_or (set cursors (slot v) c) (slot u) 0 ≡ get_or cursors (slot u) 0 = get_or-set_other cursors (slot v) (slot u) c 0 other in rw there (all u its)
-]
+cursors-set block cursors v c user len home all u its = search (rules, cases_Bool, nat_tests, get_or-set_same, get_or-set_other)
 
 -- a list of one value for each of some numbers that rise
 pub get_or-rising : (f : ℕ → ℕ) (n m k d : ℕ) → k < n → get_or (map f (rising n m)) k d ≡ f (m + k)

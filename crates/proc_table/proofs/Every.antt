@@ -1,5 +1,5 @@
 -- Lists of which each element is something.
-use Rattle.std.proofs.Common.{◌≡◌, Bool, true, false, List, [], ◌∷◌, ◌++◌, map, refl, inl, inr, Option, Some, None}
+use Rattle.std.proofs.Common.{◌≡◌, Bool, true, false, List, [], ◌∷◌, ◌++◌, map, refl, inl, inr, Option, Some, None, rules}
 use Rattle.std.specs.Prelude.{filter, find, IsSome, IsSomeAnd}
 use Rattle.std.specs.List.{AllByRecursion}
 use Rattle.std.proofs.lemmas.Bool.{cases_Bool}
@@ -19,10 +19,7 @@ module _ {A : Type 0} (P Q : A → Type 0) where
 
   pub every_filter : (test : A → Bool) → ((a : A) → test a ≡ true → P a → Q a) → (xs : List A) → AllByRecursion P xs → AllByRecursion Q (filter test xs)
   every_filter test step [] p = tt
-  every_filter test step (a ∷ xs) p = elim (cases_Bool (test a)) [
-    | inl e ↦ rw e (step a e p.0, every_filter test step xs p.1)
-    | inr e ↦ rw e (every_filter test step xs p.1)
-  ]
+  every_filter test step (a ∷ xs) p = search (rules, every_filter test step xs p.1, cases_Bool)
 
 module _ {A : Type 0} (P : A → Type 0) where
   pub every_append : (xs ys : List A) → AllByRecursion P xs → AllByRecursion P ys → AllByRecursion P (xs ++ ys)

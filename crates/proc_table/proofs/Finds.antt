@@ -1,6 +1,6 @@
 -- What each number finds after an edit, and which rows two lists of them share.
-use Rattle.std.proofs.Common.{◌≡◌, ℕ, ◌+◌, ◌<◌, ◌≤◌, true, false, List, [], ◌∷◌, map, refl, sym, ap, ◌∙◌, arith, inl, inr, ◌⊎◌, cond, nat_eq, Option, Some, None, IsSome}
-use Rattle.std.specs.Prelude.{filter, not, option_map, ltb, ◌≢◌}
+use Rattle.std.proofs.Common.{◌≡◌, ℕ, ◌+◌, ◌<◌, ◌≤◌, true, false, List, [], ◌∷◌, map, refl, sym, ◌∙◌, arith, inl, inr, ◌⊎◌, cond, nat_eq, Some, None, IsSome, rules}
+use Rattle.std.specs.Prelude.{filter, not, ltb, ◌≢◌}
 use Rattle.std.proofs.lemmas.Bool.{cases_Bool}
 use Rattle.std.proofs.lemmas.Bool.Decides.{nat_tests, eqb_tells, leb_tells}
 use Rattle.proc_table.specs.declared.ProcData.{ProcData}
@@ -18,17 +18,7 @@ pub below_or_not : (a b : ℕ) → ((ltb a b ≡ true) × (a < b)) ⊎ ((ltb a b
 below_or_not a b = elim (leb_tells (a + 1) b) [ inl h ↦ inl (grind (arith, nat_tests), omega arith) | inr h ↦ inr (grind (arith, nat_tests), omega arith) ]
 
 pub find-set : (new : ProcData) (ps : List ProcData) → IsSome (process_of new.pid ps) → (n : ℕ) → process_of n (map (put_process new) ps) ≡ cond (nat_eq n new.pid) (Some new) (process_of n ps)
-find-set new ps there n = process_of-map (put_process new) (put_process-pid new) n ps ∙ of_found (process_of n ps) refl
-  where
-    of_found : (o : Option ProcData) → process_of n ps ≡ o → option_map (put_process new) o ≡ cond (nat_eq n new.pid) (Some new) o
-    of_found None is = elim (equal_or_not n new.pid) [
-      | inl h ↦ absurd (let none : process_of new.pid ps ≡ None = rw h.1 at is in cc)
-      | inr h ↦ rw h.0 refl
-    ]
-    of_found (Some p) is = ap (λ m. Some (cond (nat_eq m new.pid) new p)) (process_of-pid n p ps is) ∙ elim (equal_or_not n new.pid) [
-      | inl h ↦ rw h.0 refl
-      | inr h ↦ rw h.0 refl
-    ]
+find-set new ps there n = search (rules, process_of-map, put_process-pid, equal_or_not, process_of-pid)
 
 pub find-without : (pid : ℕ) (ps : List ProcData) (n : ℕ) → process_of n (filter (λ p. not (nat_eq p.pid pid)) ps) ≡ cond (nat_eq n pid) None (process_of n ps)
 find-without pid ps n = elim (equal_or_not n pid) [
@@ -44,10 +34,7 @@ find-without pid ps n = elim (equal_or_not n pid) [
     ]
 
 pub find-placed : (new : ProcData) (ps : List ProcData) → Rise ps → Lacks new.pid ps → (n : ℕ) → process_of n (placed new ps) ≡ cond (nat_eq n new.pid) (Some new) (process_of n ps)
-find-placed new ps r lacks n = elim (equal_or_not n new.pid) [
-  | inl h ↦ rw (h.0, h.1) (placed-found new ps r lacks)
-  | inr h ↦ rw h.0 (process_of-placed new n h.1 ps r lacks)
-]
+find-placed new ps r lacks n = search (rules, equal_or_not, placed-found, process_of-placed)
 
 -- rows in rising order are told by what each number finds
 pub rising_same : (xs ys : List ProcData) → Rise xs → Rise ys → ((n : ℕ) → process_of n xs ≡ process_of n ys) → xs ≡ ys

@@ -1,6 +1,6 @@
 -- What edits of a process's row keep.
-use Rattle.std.proofs.Common.{◌≡◌, ℕ, ◌<◌, true, false, refl, sym, ap, ◌∙◌, arith, inl, inr, nat_eq, Option, Some, None}
-use Rattle.std.specs.Prelude.{filter, not, ltb, option_map, IfSome, IsSomeAnd, ◌&&◌, ◌≢◌}
+use Rattle.std.proofs.Common.{◌≡◌, ℕ, ◌<◌, true, false, ap, ◌∙◌, arith, inl, inr, nat_eq, Some, None, rules}
+use Rattle.std.specs.Prelude.{filter, not, ltb, option_map, IsSomeAnd, ◌&&◌, ◌≢◌}
 use Rattle.std.specs.List.{AllByRecursion}
 use Rattle.std.proofs.lemmas.List.{length-set}
 use Rattle.std.proofs.lemmas.Bool.{cases_Bool}
@@ -9,7 +9,7 @@ use Rattle.pid_blocks.specs.Blocks.{slot, pid_block}
 use Rattle.lwp_table.specs.declared.LwpData.{LwpData}
 use Rattle.lwp_table.specs.Lwps.{first_lwp}
 use Rattle.proc_table.specs.declared.ProcData.{ProcData}
-use Rattle.proc_table.specs.Processes.{process_of, traces, is_this}
+use Rattle.proc_table.specs.Processes.{process_of, traces}
 use Rattle.proc_table.specs.Rows.{Rows}
 use Rattle.proc_table.specs.Fresh.{is_process, add_process}
 use Rattle.proc_table.specs.Walks.{next_tracee, next_child}
@@ -21,11 +21,7 @@ use Rattle.proc_table.proofs.Placed.{every_placed, process_of-placed, is_process
 use Rattle.proc_table.proofs.Cursors.{InBlock-after, cursors-set}
 
 pub Named-more : (rows rows' : Rows) → ((n : ℕ) → IsRow rows n → IsRow rows' n) → (p : ProcData) → Named rows p → Named rows' p
-Named-more rows rows' more p h = record { tracer = of_tracer p.tracer h.tracer; parent = λ apart. more p.parent (h.parent apart) }
-  where
-    of_tracer : (o : Option ℕ) → IfSome o (IsRow rows) → IfSome o (IsRow rows')
-    of_tracer None t = t
-    of_tracer (Some n) t = more n t
+Named-more rows rows' more p h = grind (arith, nat_tests)
 
 module _ (new : ProcData) (rows : Rows) (kept : IsKept rows)
     (there : IsSomeAnd (process_of new.pid rows.processes) (λ was. was.uid ≡ new.uid)) (named : Named rows new) where
@@ -33,26 +29,13 @@ module _ (new : ProcData) (rows : Rows) (kept : IsKept rows)
   still n row = is_process-map (put_process new) (put_process-pid new) n rows.processes ∙ row
 
   home : AtHome new
-  home =
-      let was = some_and (λ p. p.uid ≡ new.uid) (process_of new.pid rows.processes) there in
-      let its = every_found AtHome (λ p. nat_eq p.pid new.pid) rows.processes was.0 kept.homes was.1 in
-      let number = process_of-pid new.pid was.0 rows.processes was.1 in
-      record { user = rw was.2 at its.user; block = rw (number, was.2) at its.block }
+  home = search (rules, some_and, every_found, process_of-pid)
 
   put : (P : ProcData → Type 0) → P new → (p : ProcData) → P p → P (put_process new p)
   put P its p h = elim (cases_Bool (nat_eq p.pid new.pid)) [ inl e ↦ rw e its | inr e ↦ rw e h ]
 
   same_user : (n : ℕ) (p : ProcData) → process_of n rows.processes ≡ Some p → (put_process new p).uid ≡ p.uid
-  same_user n p at = elim (cases_Bool (nat_eq p.pid new.pid)) [
-    | inl e ↦
-        let was = some_and (λ q. q.uid ≡ new.uid) (process_of new.pid rows.processes) there in
-        let number : n ≡ new.pid = sym (process_of-pid n p rows.processes at) ∙ grind (arith, nat_tests) in
-        let found : process_of new.pid rows.processes ≡ Some p = rw number at at in
-        let both : Some p ≡ Some was.0 = sym found ∙ was.1 in
-        let same : p ≡ was.0 = cc in
-        rw e (sym (ap (λ q. q.uid) same ∙ was.2))
-    | inr e ↦ rw e refl
-  ]
+  same_user n p at = search (rules, cases_Bool, some_and, process_of-pid, nat_tests)
 
   housed : (l : LwpData) → Housed rows l → Housed (set_process new rows) l
   housed l h =
@@ -84,26 +67,13 @@ module _ (pid : ℕ) (rows : Rows) (kept : IsKept rows)
   Apart p = ((ltb 0 p.pid && traces pid p) ≡ false) × ((ltb 0 p.pid && nat_eq p.parent pid) ≡ false)
 
   apart : AllByRecursion Apart rows.processes
-  apart =
-      every_both (λ p. (ltb 0 p.pid && traces pid p) ≡ false) (λ p. (ltb 0 p.pid && nat_eq p.parent pid) ≡ false) rows.processes
-      (every_untested (λ p. ltb 0 p.pid && traces pid p) rows.processes tracees) (every_untested (λ p. ltb 0 p.pid && nat_eq p.parent pid) rows.processes children)
+  apart = search (rules, every_both, every_untested)
 
   some : (p : ProcData) → AtHome p → ltb 0 p.pid ≡ true
   some p home = let more : 0 < p.pid = omega (arith, home.block.0) in grind (arith, nat_tests)
 
   names_others : (p : ProcData) → (Named rows p × AtHome p) × Apart p → Named (drop_process pid rows) p
-  names_others p h =
-      let positive = some p h.0.1 in
-      let tracer : traces pid p ≡ false = rw positive at h.1.0 in
-      let parent : nat_eq p.parent pid ≡ false = rw positive at h.1.1 in
-      record {
-        tracer = of_tracer p.tracer tracer h.0.0.tracer;
-        parent = λ other. left p.parent (λ same. grind (arith, nat_tests, same, parent)) (h.0.0.parent other);
-      }
-    where
-      of_tracer : (o : Option ℕ) → is_this pid o ≡ false → IfSome o (IsRow rows) → IfSome o (IsRow (drop_process pid rows))
-      of_tracer None e t = t
-      of_tracer (Some n) e t = left n (λ same. grind (arith, nat_tests, same, e)) t
+  names_others p h = search (rules, some, left, nat_tests)
 
   still_housed : (l : LwpData) → Housed rows l × (nat_eq l.pid pid ≡ false) → Housed (drop_process pid rows) l
   still_housed l h =
@@ -133,12 +103,7 @@ module _ (new : ProcData) (rows : Rows) (kept : IsKept rows) (fresh : is_process
   more n row = is_process-placed new n rows.processes row kept.rising lacks
 
   housed_more : (l : LwpData) → Housed rows l → Housed (add_process new rows) l
-  housed_more l h =
-      let apart : l.pid ≢ new.pid = λ same. (
-      let its : is_process rows l.pid ≡ true = found_row l.pid h.0 rows.processes h.1 in
-      let row : is_process rows new.pid ≡ true = rw same at its in
-      cc) in
-      (h.0, process_of-placed new l.pid apart rows.processes kept.rising lacks ∙ h.1, h.2)
+  housed_more l h = grind (arith, nat_tests, apart, found_row, process_of-placed, lacks)
 
   pub keeps-add_process : IsKept (add_process new rows)
   keeps-add_process = record {

@@ -1,10 +1,10 @@
 -- The lists of both kinds after a row has moved from one to another.
-use Rattle.std.proofs.Common.{◌≡◌, ◌≢◌, ℕ, List, Option, Some, None, sym, ap, ◌∙◌, inl, inr, nat_eq, cond, ◌<◌}
+use Rattle.std.proofs.lemmas.Bool.Decides.{nat_tests}
+use Rattle.std.proofs.Common.{◌≡◌, ◌≢◌, ℕ, List, Option, Some, None, sym, ap, ◌∙◌, inl, inr, nat_eq, cond, ◌<◌, arith, rules}
 use Rattle.std.specs.Map.{lookup}
 use Rattle.std.specs.Option.{option_map}
 use Rattle.std.proofs.lemmas.Bool.{cases_eq}
 use Rattle.std.proofs.lemmas.Option.{same_Some, some_pair_parts}
-use Rattle.proc_table.specs.declared.ProcData.{ProcData}
 use Rattle.proc_table.specs.declared.links.Kin.{Kin}
 use Rattle.proc_table.specs.declared.links.Kin.TheVariants.{Tracees, Children}
 use Rattle.proc_table.specs.declared.links.Slot.{Slot}
@@ -26,10 +26,7 @@ each_kin P Children a b Children = a
 
 -- a head stays one where rows stay
 pub head-kept : (f g : ℕ → Option Slot) (h t : ℕ) → rows_of g h ≡ rows_of f h → IsHead f h t → IsHead g h t
-head-kept f g h t rows there =
-    let was = some_and (λ (slot : Slot). slot.row.pid ≡ t) (f h) there in
-    let now = row_slot g h was.0.row (rows ∙ ap (option_map (λ (x : Slot). x.row)) was.1) in
-    rw now.1 (ap (λ (p : ProcData). p.pid) now.2 ∙ was.2)
+head-kept f g h t rows there = grind (arith, nat_tests)
 
 -- where a process's list begins
 abbrev pub HasHead : (ℕ → Option Slot) → List (ℕ × ℕ) → ℕ → Type 0
@@ -157,16 +154,4 @@ module _ (f g : ℕ → Option Slot) (es es' : List (ℕ × ℕ)) (q : ℕ) (lac
 
 -- no slot
 pub laced-none : (f : ℕ → Option Slot) (es : List (ℕ × ℕ)) → ((s : ℕ) → f s ≡ None) → IsLaced f es
-laced-none f es vacant = record {
-  listed = λ s slot is. absurd (cc (vacant s, is));
-  linked = λ k. record {
-    apart = λ i j a b ia jb same. absurd (nothing k i a ia);
-    above_zero = λ s node is. absurd (nothing k s node is);
-    heads = λ s node is. absurd (nothing k s node is);
-    links = λ s node t is its. absurd (nothing k s node is);
-  };
-  headed = λ k s slot t is its. absurd (cc (vacant s, is));
-}
-  where
-    nothing : (k : Kin) (s : ℕ) (node : Node) → lanes k f s ≡ Some node → ⊥
-    nothing k s node is = let slot = slot_at k f s node is in cc (vacant s, slot.1)
+laced-none f es vacant = search (rules, slot_at)

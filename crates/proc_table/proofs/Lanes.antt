@@ -1,5 +1,5 @@
 -- What a write of links does to what the lists and the table's rows see of a slot.
-use Rattle.std.proofs.Common.{◌≡◌, ◌≢◌, ℕ, ◌<◌, ◌≤◌, Option, Some, None, refl, sym, ap, ◌∙◌, inl, inr, unwrap_or}
+use Rattle.std.proofs.Common.{◌≡◌, ◌≢◌, ℕ, ◌<◌, ◌≤◌, Option, Some, None, refl, sym, ap, ◌∙◌, unwrap_or, rules}
 use Rattle.std.specs.Option.{option_map}
 use Rattle.std.proofs.lemmas.Bool.{cases_eq}
 use Rattle.std.proofs.lemmas.Option.{same_Some}
@@ -27,16 +27,10 @@ put-lane Children l slot = refl
 -- the links of one kind written in one slot
 module _ (f g : ℕ → Option Slot) (at : ℕ) (kin : Kin) (l : Links) (was : Slot) (has : f at ≡ Some was) (gets : g at ≡ Some (put_links kin l was)) (others : (s : ℕ) → s ≢ at → g s ≡ f s) where
   pub put-rows : (s : ℕ) → rows_of g s ≡ rows_of f s
-  put-rows s = elim (cases_eq s at) [
-    | inl here ↦ rw here (ap (option_map (λ (x : Slot). x.row)) gets ∙ ap Some (put-row kin l was) ∙ sym (ap (option_map (λ (x : Slot). x.row)) has))
-    | inr apart ↦ ap (option_map (λ (x : Slot). x.row)) (others s apart)
-  ]
+  put-rows s = search (rules, cases_eq, put-row)
 
   pub put-others : (s : ℕ) → lanes (other kin) g s ≡ lanes (other kin) f s
-  put-others s = elim (cases_eq s at) [
-    | inl here ↦ rw here (ap (option_map (lane (other kin))) gets ∙ ap Some (put-other kin l was) ∙ sym (ap (option_map (lane (other kin))) has))
-    | inr apart ↦ ap (option_map (lane (other kin))) (others s apart)
-  ]
+  put-others s = search (rules, cases_eq, put-other)
 
 -- the links that a slot had, with one or two of them changed
 module _ (f g : ℕ → Option Slot) (at : ℕ) (kin : Kin) (x : Slot) (r : Links) (has : f at ≡ Some x) (read : r ≡ links_in kin x) where
@@ -63,18 +57,10 @@ module _ (f g : ℕ → Option Slot) (at : ℕ) (kin : Kin) (x : Slot) (r : Link
 
 -- from what a list sees of a slot to the slot
 pub slot_at : (kin : Kin) (f : ℕ → Option Slot) (s : ℕ) (node : Node) → lanes kin f s ≡ Some node → (slot : Slot) × (f s ≡ Some slot) × (lane kin slot ≡ node)
-slot_at kin f s node there = by (f s) refl
-  where
-    by : (o : Option Slot) → f s ≡ o → (slot : Slot) × (f s ≡ Some slot) × (lane kin slot ≡ node)
-    by None is = absurd (cc (sym (ap (option_map (lane kin)) is) ∙ there))
-    by (Some slot) is = (slot, is, same_Some (lane kin slot) node (sym (ap (option_map (lane kin)) is) ∙ there))
+slot_at kin f s node there = search (rules, same_Some)
 
 pub row_slot : (f : ℕ → Option Slot) (s : ℕ) (row : ProcData) → rows_of f s ≡ Some row → (slot : Slot) × (f s ≡ Some slot) × (slot.row ≡ row)
-row_slot f s row there = by (f s) refl
-  where
-    by : (o : Option Slot) → f s ≡ o → (slot : Slot) × (f s ≡ Some slot) × (slot.row ≡ row)
-    by None is = absurd (cc (sym (ap (option_map (λ (x : Slot). x.row)) is) ∙ there))
-    by (Some slot) is = (slot, is, same_Some slot.row row (sym (ap (option_map (λ (x : Slot). x.row)) is) ∙ there))
+row_slot f s row there = search (rules, same_Some)
 
 -- a row joins a list at a place, or leaves it there: its slot is written after the place's, which may be the same
 module _ (kin : Kin) (f g z : ℕ → Option Slot) (linked : IsLinked (lanes kin f)) (head t q passed : ℕ) (at link fresh : Option ℕ) (was : Slot) (has : f q ≡ Some was)

@@ -1,5 +1,5 @@
 -- The first row above a number that passes a test has the least number of those.
-use Rattle.std.proofs.Common.{◌≡◌, ℕ, ◌<◌, Bool, false, List, [], ◌∷◌, Option, Some, None, refl, ap, sym, ◌∙◌, arith, inl, inr, nat_eq}
+use Rattle.std.proofs.Common.{◌≡◌, ℕ, ◌<◌, Bool, false, List, [], ◌∷◌, Option, Some, None, refl, ap, sym, ◌∙◌, arith, inl, inr, nat_eq, rules}
 use Rattle.std.specs.Prelude.{◌&&◌, ltb, find}
 use Rattle.std.proofs.lemmas.Bool.{cases_Bool}
 use Rattle.proc_table.specs.declared.ProcData.{ProcData}
@@ -12,10 +12,7 @@ use Rattle.proc_table.proofs.Finds.{equal_or_not, below_or_not}
 
 -- a row after the first has a greater number
 pub later_above : (q r : ProcData) (ps : List ProcData) → AllAbove r.pid ps → process_of q.pid ps ≡ Some q → r.pid < q.pid
-later_above q r ps above there = elim (below_or_not r.pid q.pid) [
-  | inl more ↦ more.1
-  | inr less ↦ absurd (let none = none_above r.pid q.pid less.1 ps above in cc (none, there))
-]
+later_above q r ps above there = search (rules, below_or_not, none_above)
 
 module _ (test : ProcData → Bool) (after : ℕ) where
   passed : (r : ProcData) (ps : List ProcData) (o : Option ProcData) → AllAbove r.pid ps → (after < r.pid → test r ≡ false) → LeastOrNone test after ps o → LeastOrNone test after (r ∷ ps) o
@@ -23,18 +20,7 @@ module _ (test : ProcData → Bool) (after : ℕ) where
     | inl h ↦ let its : Some r ≡ Some q = rw h.0 at there in let same : r ≡ q = cc in ap test (sym same) ∙ fails (omega (arith, h.1, more))
     | inr h ↦ rest q (rw h.0 at there) more
   ]
-  passed r ps (Some p) above fails rest = record {
-    row = let less = later_above p r ps above rest.row in elim (equal_or_not r.pid p.pid) [ inl h ↦ absurd (omega (arith, less, h.1)) | inr h ↦ rw h.0 rest.row ];
-    above = rest.above;
-    passes = rest.passes;
-    least = λ q there more passes. elim (equal_or_not r.pid q.pid) [
-      | inl h ↦
-          let its : Some r ≡ Some q = rw h.0 at there in
-          let same : r ≡ q = cc in
-          absurd (cc (ap test same, passes, fails (omega (arith, h.1, more))))
-      | inr h ↦ rest.least q (rw h.0 at there) more passes
-    ];
-  }
+  passed r ps (Some p) above fails rest = search (rules, later_above, equal_or_not)
 
   pub least_or_none : (ps : List ProcData) → Rise ps → LeastOrNone test after ps (find (λ p. ltb after p.pid && test p) ps)
   least_or_none [] up = λ q there more. absurd (cc)

@@ -1,10 +1,9 @@
 -- What becomes of all lists where a node joins or leaves one.
-use Rattle.std.proofs.Common.{◌≡◌, ◌≢◌, ℕ, ◌<◌, ◌≤◌, Option, Some, None, refl, sym, ap, ◌∙◌, arith, inl, inr, unwrap_or}
+use Rattle.std.proofs.Common.{◌≡◌, ◌≢◌, ℕ, ◌<◌, ◌≤◌, Option, Some, None, refl, sym, ap, ◌∙◌, arith, inl, inr, unwrap_or, rules}
 use Rattle.std.proofs.lemmas.Bool.{cases_eq}
 use Rattle.std.proofs.lemmas.Option.{some_pair_parts, same_Some}
 use Rattle.std.specs.Option.{option_map}
-use Rattle.proc_table.specs.Links.{Node}
-use Rattle.proc_table.specs.Links.{key_of, keys, IsNext, IsLinked, with_link, StandsAt, IsPlace}
+use Rattle.proc_table.specs.Links.{Node, key_of, keys, IsNext, IsLinked, with_link, StandsAt, IsPlace}
 use Rattle.proc_table.proofs.Next.{IsHolder, added-elsewhere, added-here, added-own, added-other, removed-elsewhere, removed-here, removed-other}
 
 -- a place finds the least member above the number that it stands at
@@ -27,20 +26,11 @@ module _ (f z : ℕ → Option Node) (linked : IsLinked f) (t w q passed : ℕ) 
 
   -- no key changes but that of q
   pub keys_others : (s : ℕ) → s ≢ q → keys z s ≡ keys f s
-  keys_others s apart = elim (cases_eq s w) [
-    | inl same ↦ rw same (ap (option_map key_of) (gets_w (λ here. apart (same ∙ here))) ∙ ap Some (key_with_link at) ∙ sym (ap (option_map key_of) has_w))
-    | inr other ↦ ap (option_map key_of) (others s other apart)
-  ]
+  keys_others s apart = search (rules, cases_eq, gets_w, key_with_link)
 
   -- a node afterwards was there before, with this pid
   pub before : (s : ℕ) (node : Node) → z s ≡ Some node → (old : Node) × (f s ≡ Some old) × (old.pid ≡ node.pid)
-  before s node is = elim (cases_eq s q) [
-    | inl same ↦ let its = same_Some new node (sym gets_q ∙ ap z (sym same) ∙ is) in (nq, ap f same ∙ has_q, sym same_pid ∙ ap (λ n. n.pid) its)
-    | inr apart ↦ elim (cases_eq s w) [
-      | inl same ↦ let its = same_Some (with_link at nw fresh) node (sym (gets_w (λ here. apart (same ∙ here))) ∙ ap z (sym same) ∙ is) in (nw, ap f same ∙ has_w, ap (λ k. k.0) (sym (key_with_link at)) ∙ ap (λ n. n.pid) its)
-      | inr other ↦ (node, sym (others s other apart) ∙ is, refl)
-    ]
-  ]
+  before s node is = search (rules, cases_eq, same_Some, gets_w, key_with_link)
 
   -- the lists' new facts: `elsewhere` at the lists of others, `other` at the other places of the list of t, and `here` at the place itself
   module _ (elsewhere : (u a : ℕ) (o : Option ℕ) → u ≢ t → IsNext (keys f) u a o → IsNext (keys z) u a o)
@@ -120,17 +110,10 @@ module _ (f z : ℕ → Option Node) (linked : IsLinked f) (t w q passed : ℕ) 
 
 -- the node of a key
 pub key_node : (f : ℕ → Option Node) (s p : ℕ) (u : Option ℕ) → keys f s ≡ Some (p, u) → (node : Node) × (f s ≡ Some node) × (node.pid ≡ p) × (node.chief ≡ u)
-key_node f s p u there = by (f s) refl
-  where
-    by : (o : Option Node) → f s ≡ o → (node : Node) × (f s ≡ Some node) × (node.pid ≡ p) × (node.chief ≡ u)
-    by None is = absurd (cc (sym (ap (option_map key_of) is) ∙ there))
-    by (Some node) is = let parts = some_pair_parts node.pid p node.chief u (sym (ap (option_map key_of) is) ∙ there) in (node, is, parts.0, parts.1)
+key_node f s p u there = search (rules, some_pair_parts)
 
 pub keys_apart : (f : ℕ → Option Node) → IsLinked f → (i j p : ℕ) (u v : Option ℕ) → keys f i ≡ Some (p, u) → keys f j ≡ Some (p, v) → i ≡ j
-keys_apart f linked i j p u v one two =
-    let a = key_node f i p u one in
-    let b = key_node f j p v two in
-    linked.apart i j a.0 b.0 a.1 b.1 (a.2 ∙ sym b.2)
+keys_apart f linked i j p u v one two = search (rules, key_node)
 
 -- the node in q joins the list of t at a place, or leaves it there
 module _ (f g z : ℕ → Option Node) (linked : IsLinked f) (head t q passed : ℕ) (at link fresh : Option ℕ) (nq new : Node)
@@ -141,11 +124,7 @@ module _ (f g z : ℕ → Option Node) (linked : IsLinked f) (head t q passed : 
     (last : (s : ℕ) (node : Node) → link ≡ Some s → f s ≡ Some node → nq.pid ≤ node.pid)
     (same_pid : new.pid ≡ nq.pid) (first : (mid : Node) → g q ≡ Some mid → new.first ≡ mid.first) where
   headed : unwrap_or at head ≡ q → at ≡ None
-  headed here = by at place.stands (same_Some place.node nq (sym place.there ∙ ap f here ∙ has_q))
-    where
-      by : (o : Option ℕ) → StandsAt o place.node t passed link → place.node ≡ nq → o ≡ None
-      by None stands its = refl
-      by (Some p) stands its = absurd (omega (arith, stands.1, ap (λ n. n.pid) its))
+  headed here = search (rules, same_Some)
 
   others_z : (s : ℕ) → s ≢ unwrap_or at head → s ≢ q → z s ≡ f s
   others_z s w apart = stays s apart ∙ keeps s w

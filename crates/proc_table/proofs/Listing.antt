@@ -20,11 +20,7 @@ pub record IsFound (f : ℕ → Option ProcData) : Type 0 where
 module _ (f : ℕ → Option ProcData) where
   pub all-listing : (P : ProcData → Type 0) (first count : ℕ) → ((pid : ℕ) (row : ProcData) → first ≤ pid → f pid ≡ Some row → P row) → AllByRecursion P (listing f first count)
   all-listing P first zero each = tt
-  all-listing P first (suc count) each = by (f first) refl (all-listing P (first + 1) count (λ pid row above found. each pid row (omega arith) found))
-    where
-      by : (o : Option ProcData) → f first ≡ o → AllByRecursion P (listing f (first + 1) count) → AllByRecursion P (cons_option o (listing f (first + 1) count))
-      by None is rest = rest
-      by (Some row) is rest = (each first row (omega arith) is, rest)
+  all-listing P first (suc count) each = grind (arith, nat_tests, all-listing P (first + 1) count (λ pid row above found. each pid row (omega arith) found))
 
   module _ (named : (pid : ℕ) (row : ProcData) → f pid ≡ Some row → row.pid ≡ pid) where
     pub above-listing : (low first count : ℕ) → low < first → AllAbove low (listing f first count)

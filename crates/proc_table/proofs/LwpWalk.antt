@@ -1,6 +1,6 @@
 -- A walk over the LWPs of one process that changes each.
-use Rattle.std.proofs.Common.{◌≡◌, ℕ, suc, ◌<◌, ◌≤◌, true, false, List, [], ◌∷◌, map, length, refl, sym, ap, ◌∙◌, arith, inl, inr, cond, nat_eq, Option, Some, None}
-use Rattle.std.specs.Prelude.{IfSome, IsSomeAnd, option_map}
+use Rattle.std.proofs.Common.{◌≡◌, ℕ, suc, ◌<◌, ◌≤◌, true, false, List, [], ◌∷◌, map, length, refl, sym, ap, ◌∙◌, arith, inl, inr, cond, nat_eq, Option, Some, None, rules}
+use Rattle.std.specs.Prelude.{IfSome, IsSomeAnd}
 use Rattle.std.proofs.lemmas.Bool.{cases_Bool}
 use Rattle.std.proofs.lemmas.Bool.Decides.{nat_tests}
 use Rattle.lwp_table.specs.declared.LwpData.{LwpData}
@@ -42,9 +42,7 @@ apart n t k ls a found = every_found (λ l. l.tid ≡ n → ⊥) (λ l. nat_eq l
 
 IsLwp-more : (pid : ℕ) (l : LwpData) (ls : List LwpData) (o : Option LwpData) → LacksLwp l.tid ls → IfSome o (IsLwp pid ls) → IfSome o (IsLwp pid (l ∷ ls))
 IsLwp-more pid l ls None lacks h = h
-IsLwp-more pid l ls (Some k) lacks h =
-    let other : nat_eq l.tid k.tid ≡ false = other_number l.tid k.tid (λ e. apart l.tid k.tid k ls lacks h.at (sym e)) in
-    record { at = rw other h.at; own = h.own }
+IsLwp-more pid l ls (Some k) lacks h = search (rules, other_number, apart)
 
 pub first-found : (pid : ℕ) (ls : List LwpData) → Differ ls → IfSome (first_lwp pid ls) (IsLwp pid ls)
 first-found pid [] d = tt
@@ -62,15 +60,11 @@ next-found pid t (l ∷ ls) d = elim (cases_Bool (nat_eq l.tid t)) [
 
 skipped : (g : LwpData → LwpData) (pid : ℕ) (l : LwpData) (ls : List LwpData) (o : Option LwpData) → LacksLwp l.tid ls → IfSome o (IsLwp pid ls) → edited_at g o (l ∷ ls) ≡ l ∷ edited_at g o ls
 skipped g pid l ls None lacks h = refl
-skipped g pid l ls (Some k) lacks h =
-    let other : nat_eq l.tid k.tid ≡ false = other_number l.tid k.tid (λ e. apart l.tid k.tid k ls lacks h.at (sym e)) in
-    rw other refl
+skipped g pid l ls (Some k) lacks h = search (rules, other_number, apart)
 
 left-skipped : (pid : ℕ) (l : LwpData) (ls : List LwpData) (o : Option LwpData) → LacksLwp l.tid ls → IfSome o (IsLwp pid ls) → left_at o (l ∷ ls) ≡ left_at o ls
 left-skipped pid l ls None lacks h = refl
-left-skipped pid l ls (Some k) lacks h =
-    let other : nat_eq l.tid k.tid ≡ false = other_number l.tid k.tid (λ e. apart l.tid k.tid k ls lacks h.at (sym e)) in
-    rw other refl
+left-skipped pid l ls (Some k) lacks h = search (rules, other_number, apart)
 
 left-within : (o : Option LwpData) (ls : List LwpData) → left_at o ls ≤ length ls
 left-within None ls = omega arith
@@ -92,10 +86,7 @@ module _ (pid : ℕ) (f : LwpData → LwpData) (keeps : (l : LwpData) → (f l).
 
   pub walk-first : (ls : List LwpData) → Differ ls → edited_at mine (first_lwp pid ls) ls ≡ map mine ls
   walk-first [] d = refl
-  walk-first (l ∷ ls) d = elim (cases_Bool (nat_eq l.pid pid)) [
-    | inl e ↦ rw (e, same_number l.tid) (rw e refl)
-    | inr e ↦ rw e (skipped mine pid l ls (first_lwp pid ls) d.0 (first-found pid ls d.1) ∙ ap (λ xs. l ∷ xs) (walk-first ls d.1))
-  ]
+  walk-first (l ∷ ls) d = search (rules, walk-first ls d.1, cases_Bool, same_number, skipped, first-found)
 
   pub walk-next : (k : LwpData) (ls : List LwpData) → Differ ls → IsLwp pid ls k
       → edited_from mine k.tid ls ≡ edited_at mine (next_lwp pid k.tid (with_lwp (f k) ls)) (with_lwp (f k) ls)
@@ -151,34 +142,17 @@ pub record IsWalking (pid : ℕ) (f : LwpData → LwpData) (at : Option LwpData)
 
 module _ (pid : ℕ) (f : LwpData → LwpData) (keeps : (l : LwpData) → (f l).tid ≡ l.tid) (was : Rows) where
   pub walking-first : (at : Option LwpData) → IsKept was → at ≡ first_lwp pid was.lwps → IsWalking pid f at was was
-  walking-first at k e = record {
-    differ = k.differ;
-    found = rw e (first-found pid was.lwps k.differ);
-    goes = rw e (ap (λ ls. record was { lwps = ls }) (walk-first pid f keeps was.lwps k.differ));
-  }
+  walking-first at k e = search (rules, first-found, walk-first)
 
   pub walking-next : (o : Option LwpData) (k : LwpData) (rows rows' : Rows) (at : Option LwpData) → IsWalking pid f o rows was → o ≡ Some k → rows' ≡ set_lwp (f k) rows → IsKept rows' → at ≡ next_lwp pid k.tid rows'.lwps
       → IsWalking pid f at rows' was
-  walking-next o k rows rows' at w is e kept next =
-      let its : IsLwp pid rows.lwps k = rw is at w.found in
-      let goes : record rows { lwps = edited_from (own_lwp pid f) k.tid rows.lwps } ≡ map_lwps pid f was = rw is at w.goes in
-      record {
-        differ = kept.differ;
-        found = rw next (next-found pid k.tid rows'.lwps kept.differ);
-        goes = rw (next, e) (ap (λ ls. record rows { lwps = ls }) (sym (walk-next pid f keeps k rows.lwps w.differ its)) ∙ goes);
-      }
+  walking-next o k rows rows' at w is e kept next = search (rules, next-found, walk-next)
 
   pub walking-less : (o : Option LwpData) (k : LwpData) (rows rows' : Rows) (at : Option LwpData) → IsWalking pid f o rows was → o ≡ Some k → rows' ≡ set_lwp (f k) rows → at ≡ next_lwp pid k.tid rows'.lwps
       → left_at at rows'.lwps < left_at o rows.lwps
-  walking-less o k rows rows' at w is e next =
-      let its : IsLwp pid rows.lwps k = rw is at w.found in
-      rw (next, e, is) (walk-less pid f keeps k rows.lwps w.differ its)
+  walking-less o k rows rows' at w is e next = search (rules, walk-less)
 
 -- what each turn of a walk asks
 module _ (pid : ℕ) (f : LwpData → LwpData) (keeps : (l : LwpData) → (f l).tid ≡ l.tid) (owns : (l : LwpData) → (f l).pid ≡ l.pid) (was : Rows) where
   pub walking-after : (o : Option LwpData) (k : LwpData) (rows rows' : Rows) → IsWalking pid f o rows was → o ≡ Some k → rows' ≡ set_lwp (f k) rows → IsSomeAnd (lwp_of k.tid rows'.lwps) (λ l. l.pid ≡ pid)
-  walking-after o k rows rows' w is e =
-      let its : IsLwp pid rows.lwps k = rw is at w.found in
-      let found : lwp_of k.tid (set_lwp (f k) rows).lwps ≡ Some (put_lwp (f k) k) = lwp_of-map (put_lwp (f k)) (put_lwp-tid (f k)) k.tid rows.lwps ∙ ap (option_map (put_lwp (f k))) its.at in
-      let here : nat_eq k.tid (f k).tid ≡ true = rw (keeps k) (same_number k.tid) in
-      rw (e, found, here) (owns k ∙ its.own)
+  walking-after o k rows rows' w is e = search (rules, lwp_of-map, put_lwp-tid, same_number)

@@ -1,5 +1,5 @@
 -- A user's questions, where nobody else has rows.
-use Rattle.std.proofs.Common.{◌≡◌, ℕ, zero, suc, ◌+◌, ◌-◌, ◌<◌, ◌≤◌, List, [], ◌∷◌, filter, find, Bool, true, false, cond, ◌&&◌, leb, ltb, if◌then◌else◌, Option, Some, None, refl, sym, ap, ap₂, ◌∙◌, arith, inl, inr, nat_eq}
+use Rattle.std.proofs.Common.{◌≡◌, ℕ, zero, suc, ◌+◌, ◌<◌, ◌≤◌, List, [], ◌∷◌, filter, find, Bool, true, false, cond, ◌&&◌, leb, ltb, if◌then◌else◌, Option, Some, None, refl, ap, ap₂, ◌∙◌, arith, nat_eq, rules}
 use Rattle.std.specs.Prelude.{count_by, get_or, option_map}
 use Rattle.std.specs.List.{AllByRecursion, list_any}
 use Rattle.std.proofs.Math.Path.{fun_ext}
@@ -35,12 +35,7 @@ module _ {A : Type 0} (q p : A → Bool) (P : A → Type 0) (narrow : (a : A) �
 
   pub count-only : (xs : List A) → AllByRecursion P xs → count_by q (filter p xs) ≡ count_by q xs
   count-only [] all = refl
-  count-only (x ∷ xs) all = elim (cases_Bool (p x)) [
-    | inl e ↦ rw e (count-cons x (filter p xs) ∙ (ap (λ n. cond (q x) 1 0 + n) (count-only xs all.1) ∙ sym (count-cons x xs)))
-    | inr e ↦
-        let fails : q x ≡ false = elim (cases_Bool (q x)) [ inl k ↦ absurd (cc (narrow x all.0 k, e)) | inr k ↦ k ] in
-        rw e (omega (arith, count-only xs all.1, count-cons x xs, ap {B = ℕ} (λ b. cond b 1 0) fails))
-  ]
+  count-only (x ∷ xs) all = search (rules, count-only xs all.1, cases_Bool, count-cons)
 
 always : {A : Type 0} (xs : List A) → AllByRecursion (λ a. Unit {0}) xs
 always [] = tt
@@ -93,28 +88,15 @@ abbrev or_next : Option ℕ → Option ℕ → Option ℕ
 or_next o p = elim o [ Some n ↦ Some n | None ↦ p ]
 
 pub next_free-same : (b : Block) (cursor : ℕ) (taken other : ℕ → Bool) → InBlock b cursor → ((n : ℕ) → InBlock b n → taken n ≡ other n) → next_free b cursor taken ≡ next_free b cursor other
-next_free-same b cursor taken other i h = let from = i.0 in let to = i.1 in ap₂ or_next
-    (first_free-same taken other (b.first + b.size - cursor) cursor (λ m le lt. h m (omega arith, omega arith)))
-    (first_free-same taken other (cursor - b.first) b.first (λ m le lt. h m (omega arith, omega arith)))
+next_free-same b cursor taken other i h = search (rules, ap₂, first_free-same)
 
 module _ (u : ℕ) (rows : Rows) (user : IsUser u) (kept : IsKept rows) where
   -- who has a number of the user's block is the user's
   at_home : (n : ℕ) → InBlock (pid_block u) n → (p : ProcData) → AtHome p → nat_eq p.pid n ≡ true → own u p ≡ true
-  at_home n its p home is = elim (equal_or_not p.pid n) [
-    | inr h ↦ absurd (cc (is, h.0))
-    | inl h ↦ elim (equal_or_not p.uid u) [ inl k ↦ k.0 | inr k ↦ absurd (k.1 (omega (arith, user.0, user.1, home.user.0, home.user.1, home.block.0, home.block.1, its.0, its.1, h.1))) ]
-  ]
+  at_home n its p home is = search (rules, equal_or_not)
 
   housed : (n : ℕ) → InBlock (tid_block u) n → (l : LwpData) → Housed rows l → nat_eq l.tid n ≡ true → its_lwp u rows l ≡ true
-  housed n its l house is = elim (equal_or_not l.tid n) [
-    | inr h ↦ absurd (cc (is, h.0))
-    | inl h ↦
-        let home = every_found AtHome (λ p. nat_eq p.pid l.pid) rows.processes house.0 kept.homes house.1 in
-        elim (equal_or_not house.0.uid u) [
-          | inl k ↦ rw (owns-kept u l.pid rows.processes kept.rising, house.1, k.0) refl
-          | inr k ↦ absurd (k.1 (omega (arith, user.0, user.1, home.user.0, home.user.1, house.2.0, house.2.1, its.0, its.1, h.1)))
-        ]
-  ]
+  housed n its l house is = search (rules, equal_or_not, every_found, owns-kept)
 
   pub fresh_pid_own : fresh_pid u (only_of u rows) ≡ fresh_pid u rows
   fresh_pid_own = next_free-same (pid_block u) (get_or rows.pid_cursors (slot u) 0) (is_process (only_of u rows)) (is_process rows) (kept.pid_cursors u user)

@@ -1,8 +1,7 @@
 -- Where a new process stands among rising numbers.
-use Rattle.std.proofs.Common.{◌≡◌, ℕ, ◌<◌, ◌≤◌, Bool, true, false, List, [], ◌∷◌, ◌++◌, arith, refl, sym, ap, ◌∙◌}
+use Rattle.std.proofs.Common.{◌≡◌, ℕ, ◌<◌, ◌≤◌, Bool, true, false, List, [], ◌∷◌, arith, refl, sym, ap, rules, inl, inr, nat_eq, Some, ◌⊎◌}
 use Rattle.std.specs.Prelude.{◌≢◌, filter, ltb}
 use Rattle.std.specs.List.{list_any, AllByRecursion}
-use Rattle.std.proofs.Common.{inl, inr, nat_eq, Some, ◌⊎◌}
 use Rattle.std.proofs.lemmas.Bool.{cases_Bool, cases_eq}
 use Rattle.std.proofs.lemmas.Bool.Decides.{nat_tests}
 use Rattle.proc_table.specs.declared.ProcData.{ProcData}
@@ -36,8 +35,7 @@ placed-later : (p q : ProcData) (qs : List ProcData) → q.pid < p.pid → place
 placed-later p q qs less = rw (ltb-yes q.pid p.pid less, ltb-no p.pid q.pid (omega (arith, less))) refl
 
 placed-first : (p : ProcData) (qs : List ProcData) → AllAbove p.pid qs → placed p qs ≡ p ∷ qs
-placed-first p qs all =
-    ap (λ xs. xs ++ (p ∷ filter (above p.pid) qs)) (none_below p.pid qs all) ∙ ap (λ xs. p ∷ xs) (all_above p.pid qs all)
+placed-first p qs all = search (rules, none_below, all_above)
 
 -- a row either stands before the new one, or after it with all that follow
 pub record Stands (p q : ProcData) (qs : List ProcData) : Type 0 where
@@ -57,26 +55,14 @@ stands p q qs r lacks = elim (cases_Bool (ltb q.pid p.pid)) [
 module _ (p : ProcData) where
   pub process_of-placed : (n : ℕ) → n ≢ p.pid → (ps : List ProcData) → Rise ps → Lacks p.pid ps → process_of n (placed p ps) ≡ process_of n ps
   process_of-placed n apart [] r l = let no : nat_eq p.pid n ≡ false = other_number p.pid n (λ e. apart (sym e)) in rw no refl
-  process_of-placed n apart (q ∷ qs) r l = elim (stands p q qs r l.0) [
-    | inl e ↦ rw e (elim (cases_Bool (nat_eq q.pid n)) [
-      | inl k ↦ rw k refl
-      | inr k ↦ rw k (process_of-placed n apart qs r.1 l.1)
-    ])
-    | inr s ↦ let no : nat_eq p.pid n ≡ false = other_number p.pid n (λ e. apart (sym e)) in rw s.first (rw no refl)
-  ]
+  process_of-placed n apart (q ∷ qs) r l = search (rules, process_of-placed n apart qs r.1 l.1, stands, cases_Bool, other_number)
 
   pub placed-found : (ps : List ProcData) → Rise ps → Lacks p.pid ps → process_of p.pid (placed p ps) ≡ Some p
   placed-found [] r l = rw (same_number p.pid) refl
-  placed-found (q ∷ qs) r l = elim (stands p q qs r l.0) [
-    | inl e ↦ let no : nat_eq q.pid p.pid ≡ false = other_number q.pid p.pid l.0 in rw e (rw no (placed-found qs r.1 l.1))
-    | inr s ↦ rw s.first (rw (same_number p.pid) refl)
-  ]
+  placed-found (q ∷ qs) r l = search (rules, placed-found qs r.1 l.1, stands, other_number, same_number)
 
   pub is_process-placed : (n : ℕ) (ps : List ProcData) → list_any (λ q. nat_eq q.pid n) ps ≡ true → Rise ps → Lacks p.pid ps → list_any (λ q. nat_eq q.pid n) (placed p ps) ≡ true
-  is_process-placed n ps any r l = elim (cases_eq n p.pid) [
-    | inl same ↦ rw same (found_row p.pid p (placed p ps) (placed-found ps r l))
-    | inr apart ↦ let row = row_found n ps any in found_row n row.0 (placed p ps) (process_of-placed n apart ps r l ∙ row.1)
-  ]
+  is_process-placed n ps any r l = search (rules, cases_eq, found_row, placed-found, row_found, process_of-placed)
 
 pub every_placed : (P : ProcData → Type 0) (p : ProcData) (ps : List ProcData) → P p → AllByRecursion P ps → AllByRecursion P (placed p ps)
 every_placed P p ps new all =

@@ -1,5 +1,5 @@
 -- Rows found by their numbers, before and after edits.
-use Rattle.std.proofs.Common.{◌≡◌, ℕ, true, false, List, [], ◌∷◌, map, refl, sym, ap, ◌∙◌, arith, inl, inr, nat_eq, is_some, Some}
+use Rattle.std.proofs.Common.{◌≡◌, ℕ, true, false, List, [], ◌∷◌, map, refl, sym, ap, ◌∙◌, arith, nat_eq, is_some, Some, rules}
 use Rattle.std.specs.Prelude.{filter, not, option_map, ◌≢◌}
 use Rattle.std.specs.List.{list_any}
 use Rattle.std.proofs.lemmas.Bool.{cases_Bool}
@@ -16,10 +16,7 @@ pub same_number : (n : ℕ) → nat_eq n n ≡ true
 same_number n = grind (arith, nat_tests)
 
 pub other_number : (m n : ℕ) → (m ≡ n → ⊥) → nat_eq m n ≡ false
-other_number m n h = elim (cases_Bool (nat_eq m n)) [
-  | inl e ↦ absurd (h (grind (arith, nat_tests)))
-  | inr e ↦ e
-]
+other_number m n h = search (rules, cases_Bool, nat_tests)
 
 pub process_of-pid : (n : ℕ) (p : ProcData) (ps : List ProcData) → process_of n ps ≡ Some p → p.pid ≡ n
 process_of-pid n p ps found = found-number (λ (q : ProcData). q.pid) n p ps found
@@ -41,10 +38,7 @@ module _ (f : ProcData → ProcData) (same : (p : ProcData) → (f p).pid ≡ p.
 
   pub is_process-map : (ps : List ProcData) → list_any (λ p. nat_eq p.pid n) (map f ps) ≡ list_any (λ p. nat_eq p.pid n) ps
   is_process-map [] = refl
-  is_process-map (p ∷ ps) = elim (cases_Bool (nat_eq p.pid n)) [
-    | inl e ↦ let k : nat_eq (f p).pid n ≡ true = rw (same p) e in rw (e, k) refl
-    | inr e ↦ let k : nat_eq (f p).pid n ≡ false = rw (same p) e in rw (e, k) (is_process-map ps)
-  ]
+  is_process-map (p ∷ ps) = search (rules, is_process-map ps, cases_Bool)
 
 pub lwp_of-map : (f : LwpData → LwpData) → ((l : LwpData) → (f l).tid ≡ l.tid) → (n : ℕ) (ls : List LwpData) → lwp_of n (map f ls) ≡ option_map f (lwp_of n ls)
 lwp_of-map f same n ls = find-map (λ (l : LwpData). l.tid) f same n ls
@@ -56,10 +50,4 @@ put_process-pid new p = put-number (λ (q : ProcData). q.pid) new p
 module _ (pid n : ℕ) (apart : n ≢ pid) where
   pub process_of-without : (ps : List ProcData) → process_of n (filter (λ p. not (nat_eq p.pid pid)) ps) ≡ process_of n ps
   process_of-without [] = refl
-  process_of-without (p ∷ ps) = elim (cases_Bool (nat_eq p.pid pid)) [
-    | inl e ↦ let no : nat_eq p.pid n ≡ false = other_number p.pid n (λ same. apart (sym same ∙ grind (arith, nat_tests))) in rw (e, no) (process_of-without ps)
-    | inr e ↦ elim (cases_Bool (nat_eq p.pid n)) [
-      | inl k ↦ rw (e, k) refl
-      | inr k ↦ rw (e, k) (process_of-without ps)
-    ]
-  ]
+  process_of-without (p ∷ ps) = search (rules, process_of-without ps, cases_Bool, other_number, nat_tests)

@@ -1,5 +1,5 @@
 -- Look-ups by a number that elements have once, with a further test.
-use Rattle.std.proofs.Common.{◌≡◌, ℕ, ◌<◌, ◌≤◌, Bool, true, false, List, [], ◌∷◌, Option, Some, None, refl, sym, ap, ◌∙◌, nat_eq, cond, arith, inl, inr, is_some}
+use Rattle.std.proofs.Common.{◌≡◌, ℕ, ◌<◌, ◌≤◌, Bool, true, false, List, [], ◌∷◌, Option, Some, None, refl, sym, ap, ◌∙◌, nat_eq, cond, arith, inl, inr, is_some, rules}
 use Rattle.std.specs.Prelude.{◌&&◌, find, count_by, option_map}
 use Rattle.std.specs.Option.{option_eq}
 use Rattle.std.specs.List.{AllByRecursion, list_any}
@@ -16,7 +16,7 @@ use Rattle.proc_table.specs.Processes.{process_of}
 use Rattle.proc_table.specs.Seen.{seen_lwp, owns}
 use Rattle.proc_table.specs.Rows.{Rows}
 use Rattle.proc_table.specs.Keep.{keep}
-use Rattle.proc_table.specs.Kept.{Rise, AtHome, Housed, IsKept}
+use Rattle.proc_table.specs.Kept.{Rise, Housed, IsKept}
 use Rattle.proc_table.proofs.Every.{every_found}
 use Rattle.proc_table.proofs.Rows.{other_number, process_of-pid, lwp_of-tid}
 use Rattle.proc_table.proofs.Finds.{equal_or_not}
@@ -61,15 +61,7 @@ tid-owner u n user home = omega (arith, user.0, user.1, home.0, home.1)
 
 module _ (u : ℕ) (rows : Rows) (kept : IsKept rows) where
   same_owner : (l : LwpData) → Housed rows l → nat_eq (tid_owner l.tid) u ≡ owns u l.pid rows.processes
-  same_owner l h =
-      let home = every_found AtHome (λ p. nat_eq p.pid l.pid) rows.processes h.0 kept.homes h.1 in
-      let its : tid_owner l.tid ≡ h.0.uid = tid-owner h.0.uid l.tid home.user h.2 in
-      let found = owns-kept u l.pid rows.processes kept.rising ∙ ap (λ o. is_some (keep (λ (p : ProcData). nat_eq p.uid u) o)) h.1 in
-      ap (λ m. nat_eq m u) its ∙ (by (nat_eq h.0.uid u) ∙ sym found)
-    where
-      by : (b : Bool) → ◌≡◌ {A = Bool} b (is_some (cond {A = Option ProcData} b (Some h.0) None))
-      by true = refl
-      by false = refl
+  same_owner l h = search (rules, every_found, tid-owner, owns-kept, is_some)
 
   pub lwps-counted : count_by (λ l. nat_eq (tid_owner l.tid) u) rows.lwps ≡ count_by (λ l. owns u l.pid rows.processes) rows.lwps
   lwps-counted = counted rows.lwps kept.housed
@@ -81,20 +73,10 @@ module _ (u : ℕ) (rows : Rows) (kept : IsKept rows) where
 
   -- no LWP has a number outside all blocks
   pub lwp-within : (n : ℕ) (l : LwpData) → lwp_of n rows.lwps ≡ Some l → (100000 ≤ l.tid) × (l.tid < 356000)
-  lwp-within n l found =
-      let h = every_found (Housed rows) (λ k. nat_eq k.tid n) rows.lwps l kept.housed found in
-      let home = every_found AtHome (λ p. nat_eq p.pid l.pid) rows.processes h.0 kept.homes h.1 in
-      (omega (arith, h.2.0), omega (arith, h.2.1, home.user.0, home.user.1))
+  lwp-within n l found = search (rules, every_found)
 
   pub home-outside : (n : ℕ) → (((100000 ≤ n) × (n < 356000)) → ⊥) → lwp_of n rows.lwps ≡ None
-  home-outside n out = by (lwp_of n rows.lwps) refl
-    where
-      by : (o : Option LwpData) → lwp_of n rows.lwps ≡ o → o ≡ None
-      by None e = refl
-      by (Some l) e =
-          let its = lwp-within n l e in
-          let same = lwp_of-tid n l rows.lwps e in
-          absurd (out (omega (arith, its.0, same), omega (arith, its.1, same)))
+  home-outside n out = search (rules, lwp-within, lwp_of-tid)
 
 -- a row is kept or not by what its process is
 module _ (u : ℕ) (ps : List ProcData) where
@@ -132,19 +114,8 @@ module _ (u : ℕ) where
 
   -- the number of the row that is seen, where one is
   pub pid-seen : (n : ℕ) (ps : List ProcData) → Rise ps → option_map (λ (p : ProcData). p.pid) (find (λ p. nat_eq p.pid n && nat_eq p.uid u) ps) ≡ cond (owns u n ps) (Some n) None
-  pid-seen n ps r = ap (option_map (λ (p : ProcData). p.pid)) (seen_process-kept u n ps r) ∙ by (process_of n ps) refl ∙ sym (ap (λ b. cond b (Some n) None) (owns-kept u n ps r))
-    where
-      by : (o : Option ProcData) → process_of n ps ≡ o → option_map (λ (p : ProcData). p.pid) (keep its_user o) ≡ cond (is_some (keep its_user o)) (Some n) None
-      by None e = refl
-      by (Some p) e = elim (cases_Bool (nat_eq p.uid u)) [ inl k ↦ rw k (ap Some (process_of-pid n p ps e)) | inr k ↦ rw k refl ]
+  pid-seen n ps r = search (rules, seen_process-kept, owns-kept, is_some, cases_Bool, process_of-pid)
 
 -- no process has a number outside all blocks
 pub pid-outside : (n : ℕ) (rows : Rows) → IsKept rows → (((1000 ≤ n) × (n < 65000)) → ⊥) → process_of n rows.processes ≡ None
-pid-outside n rows kept out = by (process_of n rows.processes) refl
-  where
-    by : (o : Option ProcData) → process_of n rows.processes ≡ o → o ≡ None
-    by None e = refl
-    by (Some p) e =
-        let home = every_found AtHome (λ q. nat_eq q.pid n) rows.processes p kept.homes e in
-        let same = process_of-pid n p rows.processes e in
-        absurd (out (omega (arith, home.block.0, same), omega (arith, home.block.1, home.user.0, home.user.1, same)))
+pid-outside n rows kept out = search (rules, every_found, process_of-pid)

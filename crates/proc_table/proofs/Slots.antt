@@ -1,5 +1,5 @@
 -- What a change of one slot does to what each number finds.
-use Rattle.std.proofs.Common.{◌≡◌, ◌≢◌, ℕ, ◌+◌, ◌-◌, ◌<◌, ◌≤◌, true, false, List, [], Option, Some, None, IsSome, is_some, refl, sym, ap, ◌∙◌, nat_eq, cond, arith, inl, inr, length, get_or, set, replicate, map}
+use Rattle.std.proofs.Common.{◌≡◌, ◌≢◌, ℕ, ◌+◌, ◌-◌, ◌<◌, ◌≤◌, true, false, List, [], Option, Some, None, IsSome, is_some, refl, sym, ap, ◌∙◌, nat_eq, cond, arith, inl, inr, length, get_or, set, replicate, map, rules}
 use Rattle.std.specs.Prelude.{filter, not, count_by}
 use Rattle.std.specs.List.{list_any}
 use Rattle.std.specs.Option.{option_and_then}
@@ -25,33 +25,15 @@ module _ (slots : ℕ → Option ProcData) (es : List (ℕ × ℕ)) where
 
   -- a number with a row has a slot
   pub slot_of : (pid : ℕ) → IsSome (look slots es pid) → IsSome (lookup (nat_eq pid) es)
-  slot_of pid there = by (lookup (nat_eq pid) es) refl
-    where
-      by : (o : Option ℕ) → lookup (nat_eq pid) es ≡ o → IsSome (lookup (nat_eq pid) es)
-      by (Some slot) is = ap is_some is
-      by None is = absurd (cc (there, ap (option_and_then slots) is))
+  slot_of pid there = search (rules, is_some)
 
   pub found : IsStored slots es → IsFound (look slots es)
-  found owned = record {
-    named = λ pid row is. by pid row (lookup (nat_eq pid) es) refl is;
-    home = owned.home;
-  }
-    where
-      by : (pid : ℕ) (row : ProcData) (o : Option ℕ) → lookup (nat_eq pid) es ≡ o → look slots es pid ≡ Some row → row.pid ≡ pid
-      by pid row None none is = absurd (cc (sym (ap (option_and_then slots) none) ∙ is))
-      by pid row (Some slot) at is =
-          let its = owned.named pid slot at in
-          let same : Some its.0 ≡ Some row = sym its.1 ∙ sym (look-slot pid slot at) ∙ is in
-          cc (its.2)
+  found owned = search (rules, look-slot)
 
 module _ (slots : ℕ → Option ProcData) (es : List (ℕ × ℕ)) (owned : IsStored slots es) where
   -- two numbers have different slots
   pub slots_apart : (pid other slot at : ℕ) → lookup (nat_eq pid) es ≡ Some slot → lookup (nat_eq other) es ≡ Some at → other ≢ pid → at ≢ slot
-  slots_apart pid other slot at one two apart same =
-      let a = owned.named pid slot one in
-      let b = owned.named other at two in
-      let rows : Some b.0 ≡ Some a.0 = sym b.1 ∙ ap slots same ∙ a.1 in
-      apart (cc (a.2, b.2))
+  slots_apart pid other slot at one two apart same = grind (arith, nat_tests)
 
   module _ (slots' : ℕ → Option ProcData) (es' : List (ℕ × ℕ)) (slot : ℕ) (others : (k : ℕ) → k ≢ slot → slots' k ≡ slots k) where
     -- a number whose slot is another keeps its row

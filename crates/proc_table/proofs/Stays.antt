@@ -1,5 +1,5 @@
 -- What edits of rows ask, and rows that are found after changes that keep numbers.
-use Rattle.std.proofs.Common.{◌≡◌, ◌∙◌, ℕ, refl, inl, inr, nat_eq, Some, None, IsSome}
+use Rattle.std.proofs.Common.{◌≡◌, ◌∙◌, ℕ, refl, inl, inr, nat_eq, Some, None, IsSome, rules}
 use Rattle.std.specs.Prelude.{IsSomeAnd}
 use Rattle.std.proofs.lemmas.Bool.{cases_Bool}
 use Rattle.lwp_table.specs.declared.LwpData.{LwpData}
@@ -34,14 +34,10 @@ module _ (rows : Rows) (p new : ProcData) (at : process_of new.pid rows.processe
   process_there same = rw at same
 
   pub named-same : IsKept rows → new.tracer ≡ p.tracer → new.parent ≡ p.parent → Named rows new
-  named-same kept tracer parent =
-      let was = every_found (Named rows) (λ q. nat_eq q.pid new.pid) rows.processes p kept.named at in
-      record { tracer = rw tracer was.tracer; parent = rw parent was.parent }
+  named-same kept tracer parent = search (rules, every_found)
 
   pub named-untraced : IsKept rows → new.tracer ≡ None → new.parent ≡ p.parent → Named rows new
-  named-untraced kept tracer parent =
-      let was = every_found (Named rows) (λ q. nat_eq q.pid new.pid) rows.processes p kept.named at in
-      record { tracer = rw tracer tt; parent = rw parent was.parent }
+  named-untraced kept tracer parent = search (rules, every_found)
 
 -- and of an LWP
 pub lwp_there : (rows : Rows) (l new : LwpData) → lwp_of new.tid rows.lwps ≡ Some l → l.pid ≡ new.pid → IsSomeAnd (lwp_of new.tid rows.lwps) (λ was. was.pid ≡ new.pid)

@@ -1,5 +1,5 @@
 -- What is kept of rows, lists and counts together.
-use Rattle.std.proofs.Common.{◌≡◌, ◌≢◌, ℕ, ◌+◌, ◌-◌, ◌<◌, true, false, List, [], Option, Some, None, is_some, refl, sym, ap, ◌∙◌, ◌∷◌, inl, inr, nat_eq, cond, arith, length, get_or, set, map, replicate}
+use Rattle.std.proofs.Common.{◌≡◌, ◌≢◌, ℕ, ◌+◌, ◌-◌, ◌<◌, true, false, List, [], Option, Some, None, is_some, refl, sym, ap, ◌∙◌, ◌∷◌, inl, inr, nat_eq, cond, arith, length, get_or, set, map, replicate, rules}
 use Rattle.std.specs.Prelude.{filter, not, ltb, ◌&&◌}
 use Rattle.std.specs.List.{list_any}
 use Rattle.std.specs.Map.{lookup}
@@ -37,17 +37,11 @@ this-is n (Some m) h = let same : m ≡ n = grind (arith, nat_tests, h) in ap So
 module _ (f : ℕ → Option Slot) (es : List (ℕ × ℕ)) (counts : List ℕ) (tied : IsTied f es counts) where
   -- a number's slot has its row
   pub head-of : (t h : ℕ) → lookup (nat_eq t) es ≡ Some h → IsHead f h t
-  head-of t h at =
-      let named = tied.slotted.stored.named t h at in
-      let slot = row_slot f h named.0 named.1 in
-      rw slot.1 (ap (λ (p : ProcData). p.pid) slot.2 ∙ named.2)
+  head-of t h at = search (rules, row_slot)
 
   -- a row's number has a slot
   pub head-row : (t : ℕ) → list_any (λ p. nat_eq p.pid t) (all_rows (look (rows_of f) es)) ≡ true → HasHead f es t
-  head-row t any =
-      let row = row_found t _ any in
-      let at = some_of _ (slot_of (rows_of f) es t (ap is_some (sym (find-all_rows _ (finds (rows_of f) es counts tied.slotted) t) ∙ row.1))) in
-      (at.0, at.1, head-of t at.0 at.1)
+  head-row t any = search (rules, row_found, some_of, slot_of, is_some, find-all_rows, finds, head-of)
 
   -- and a number that no row has has none
   pub no-slot : (t : ℕ) → list_any (λ p. nat_eq p.pid t) (all_rows (look (rows_of f) es)) ≡ false → lookup (nat_eq t) es ≡ None
@@ -62,9 +56,7 @@ module _ (f : ℕ → Option Slot) (es : List (ℕ × ℕ)) (counts : List ℕ) 
 
   -- a slot's row is in the list of all
   pub row-of : (s : ℕ) (slot : Slot) → f s ≡ Some slot → process_of slot.row.pid (all_rows (look (rows_of f) es)) ≡ Some slot.row
-  row-of s slot is =
-      find-all_rows _ (finds (rows_of f) es counts tied.slotted) slot.row.pid
-      ∙ (look-slot (rows_of f) es slot.row.pid s (tied.laced.listed s slot is) ∙ ap (option_map (λ (x : Slot). x.row)) is)
+  row-of s slot is = search (rules, find-all_rows, finds, look-slot)
 
   pub home-of : (s : ℕ) (slot : Slot) → f s ≡ Some slot → AtHome slot.row
   home-of s slot is = tied.slotted.stored.home slot.row.pid slot.row (look-slot (rows_of f) es slot.row.pid s (tied.laced.listed s slot is) ∙ ap (option_map (λ (x : Slot). x.row)) is)
@@ -122,10 +114,7 @@ module _ (f : ℕ → Option Slot) (es : List (ℕ × ℕ)) (counts : List ℕ) 
       absurd (cc (rw (positive, yes) at fails))
 
   nobody-key : (kin : Kin) (t : ℕ) → next_named kin t 0 (all_rows (look (rows_of f) es)) ≡ None → (s p : ℕ) → keys (lanes kin f) s ≡ Some (p, Some t) → ⊥
-  nobody-key kin t none s p there =
-      let node = key_node (lanes kin f) s p (Some t) there in
-      let old = slot_at kin f s node.0 node.1 in
-      nobody-names kin t none s old.0 old.1 (ap (λ (n : Node). n.chief) old.2 ∙ node.3)
+  nobody-key kin t none s p there = search (rules, key_node, slot_at, nobody-names)
 
   -- a row more: its slot is taken, and then linked
   module _ (f1 g : ℕ → Option Slot) (es' : List (ℕ × ℕ)) (at : ℕ) (new : ProcData) (vacant : f at ≡ None) (has : f1 at ≡ Some (unlinked new)) (others : (s : ℕ) → s ≢ at → f1 s ≡ f s)
@@ -260,20 +249,9 @@ tied-none f es vacant none =
 
 -- who a row names is a row
 pub named-chiefs : (rows : Rows) (p : ProcData) → Named rows p → (k : Kin) (t : ℕ) → chief k p ≡ Some t → IsRow rows t
-named-chiefs rows p named = each_kin (λ k. (t : ℕ) → chief k p ≡ Some t → IsRow rows t) Tracees (λ t is. rw is at named.tracer) parents
-  where
-    parents : (t : ℕ) → parent_named p.parent ≡ Some t → IsRow rows t
-    parents t is = elim (equal_or_not p.parent 1) [
-      | inl h ↦ absurd (let none : None ≡ Some t = rw h.0 at is in cc)
-      | inr h ↦ let its : Some p.parent ≡ Some t = rw h.0 at is in let same : p.parent ≡ t = cc in rw (← same) (named.parent h.1)
-    ]
+named-chiefs rows p named = search (rules, each_kin, equal_or_not)
 
 -- who has this parent names it, but for the number 1
 pub children-named : (n after : ℕ) → n ≢ 1 → (ps : List ProcData) → next_named Children n after ps ≡ next_child n after ps
 children-named n after apart [] = refl
-children-named n after apart (p ∷ ps) =
-    let test : is_this n (parent_named p.parent) ≡ nat_eq p.parent n = elim (equal_or_not p.parent 1) [
-      | inl h ↦ let differs : nat_eq p.parent n ≡ false = grind (arith, nat_tests, h.1, apart) in rw (h.0, differs) refl
-      | inr h ↦ rw h.0 refl
-    ] in
-    rw test (elim (cases_Bool (ltb after p.pid && nat_eq p.parent n)) [ inl e ↦ rw e refl | inr e ↦ rw e (children-named n after apart ps) ])
+children-named n after apart (p ∷ ps) = search (rules, children-named n after apart ps, equal_or_not, nat_tests, cases_Bool)

@@ -2,10 +2,9 @@ use Rattle.std.proofs.Common.{◌≡◌, Some, ap, ◌∙◌, is_some, arith, na
 use Rattle.std.specs.Map.{lookup}
 use Rattle.slab.specs.Slab.{get}
 use Rattle.proc_table.specs.Processes.{process_of}
-use Rattle.proc_table.specs.Lanes.{next_named}
+use Rattle.proc_table.specs.Lanes.{next_named, rows_of}
 use Rattle.proc_table.proofs.Slots.{slot_there}
 use Rattle.proc_table.proofs.Tied.{removed}
-use Rattle.proc_table.specs.Lanes.{rows_of}
 use Rattle.proc_table.proofs.processes.Processes.remove.Goals as goal
 
 pub index-slot-requires : goal.index-slot-requires

@@ -1,10 +1,7 @@
-use Rattle.std.proofs.Common.{◌≡◌, ◌≢◌, ap, ◌∙◌, None, nat_eq, arith}
+use Rattle.std.proofs.Common.{ap, ◌∙◌, rules}
 use Rattle.lwp_table.specs.Lwps.{first_lwp}
-use Rattle.proc_table.specs.declared.links.Kin.TheVariants.{Tracees}
 use Rattle.proc_table.specs.Walks.{next_tracee, next_child}
 use Rattle.proc_table.specs.Fresh.{is_process}
-use Rattle.proc_table.specs.Kept.{AtHome}
-use Rattle.proc_table.specs.Lanes.{next_named}
 use Rattle.proc_table.proofs.Every.{every_found}
 use Rattle.proc_table.proofs.Rows.{row_found, process_of-pid}
 use Rattle.proc_table.proofs.Laced.{each_kin}
@@ -17,12 +14,7 @@ pub remove-requires-clause-there : goal.remove-requires-clause-there
 remove-requires-clause-there c = has_row c.args.pid c.self.inside.processes.rows ∙ ap (λ v. is_process v.rows c.args.pid) c.self.view_is ∙ c.requires.there
 
 pub remove-requires-clause-unnamed : goal.remove-requires-clause-unnamed
-remove-requires-clause-unnamed c =
-    let row = row_found c.args.pid c.self.inside.processes.rows (ap (λ v. is_process v.rows c.args.pid) c.self.view_is ∙ c.requires.there) in
-    let home = every_found AtHome (λ p. nat_eq p.pid c.args.pid) c.self.inside.processes.rows row.0 c.self.invariant.homes row.1 in
-    let apart : c.args.pid ≢ 1 = omega (arith, home.block.0, process_of-pid c.args.pid row.0 c.self.inside.processes.rows row.1) in
-    each_kin (λ k. next_named k c.args.pid 0 c.self.inside.processes.rows ≡ None) Tracees (ap (λ v. next_tracee c.args.pid 0 v.rows.processes) c.self.view_is ∙ c.requires.tracees)
-    (children-named c.args.pid 0 apart c.self.inside.processes.rows ∙ (ap (λ v. next_child c.args.pid 0 v.rows.processes) c.self.view_is ∙ c.requires.children))
+remove-requires-clause-unnamed c = search (rules, row_found, every_found, process_of-pid, each_kin, children-named)
 
 pub invariant_of-self : goal.invariant_of-self
 invariant_of-self c =
