@@ -1,5 +1,5 @@
 -- What becomes of a list where a node joins at its end, or leaves.
-use Rattle.std.proofs.Common.{◌≡◌, ◌≢◌, ℕ, ◌<◌, ◌≤◌, Bool, true, false, Option, Some, None, refl, sym, ap, subst, ◌∙◌, arith, inl, inr, ◌⊎◌, cond, nat_eq, is_none}
+use Rattle.std.proofs.Common.{◌≡◌, ◌≢◌, ℕ, ◌<◌, ◌≤◌, Bool, true, false, Option, Some, None, refl, sym, ap, subst, ◌∙◌, arith, inl, inr, ◌⊎◌, cond, is_none, rules}
 use Rattle.std.proofs.lemmas.Bool.{cases_eq}
 use Rattle.std.proofs.lemmas.Bool.Decides.{nat_tests}
 use Rattle.std.proofs.lemmas.Option.{same_Some}
@@ -31,9 +31,7 @@ nearest-fewer : (le : ℕ → ℕ → Type 0) (f g : ℕ → Option Node) (t : �
     → ((s : ℕ) (was : Node) → o ≡ Some s → f s ≡ Some was → was.list ≡ t → P was.key → (node : Node) × (g s ≡ Some node) × (node.list ≡ t) × (was.key ≡ node.key) × Q node.key)
     → IsNearest le f t P o → IsNearest le g t Q o
 nearest-fewer le f g t P Q None comes stays near = λ j node there on q. let was = comes j node there on q in near j was.0 was.1 was.2 was.4
-nearest-fewer le f g t P Q (Some s) comes stays near =
-    let new = stays s near.0 refl near.1 near.2 near.3 in
-    (new.0, new.1, new.2, new.4, λ j other there on q. let was = comes j other there on q in moved le near.0.key was.0.key new.0.key other.key new.3 was.3 (near.4 j was.0 was.1 was.2 was.4))
+nearest-fewer le f g t P Q (Some s) comes stays near = search (rules, moved)
 
 -- a list whose nodes stay as they are
 pub IsChain-kept : (f g : ℕ → Option Node) (t : ℕ) (first last : Option ℕ) → ((s : ℕ) (node : Node) → f s ≡ Some node → node.list ≡ t → g s ≡ Some node) → ((s : ℕ) (node : Node) → g s ≡ Some node → node.list ≡ t → f s ≡ Some node)
@@ -66,61 +64,28 @@ module _ (f g : ℕ → Option Node) (apart : AreApart f) (t : ℕ) (first last 
 
   -- the one that was nearest stays so
   stays_in : (P : ℕ → Type 0) (s : ℕ) → IsNearest up f t P (Some s) → IsNearest up g t P (Some s)
-  stays_in P s near = (
-    joined last q s near.0,
-    forth s near.0 near.1,
-    near.2,
-    near.3,
-    λ j other there on p. elim (cases_eq j q) [
-      | inl same ↦ omega (arith, later s near.0 near.1, ap (λ n. n.key) (its j other same there))
-      | inr off ↦ let was = back j other off there in let key : was.0.key ≡ other.key = ap (λ n. n.key) was.2 in moved up near.0.key was.0.key near.0.key other.key refl key (near.4 j was.0 was.1 (ap (λ n. n.list) was.2 ∙ on) (subst P (sym key) p))
-    ],
-  )
+  stays_in P s near = search (rules, forth, cases_eq, its, back, moved)
 
   -- the new one is the nearest where there was none
   comes_in : (P : ℕ → Type 0) → P new.key → IsNearest up f t P None → IsNearest up g t P (Some q)
-  comes_in P p none = (
-    new,
-    has,
-    list,
-    p,
-    λ j other there on p. elim (cases_eq j q) [
-      | inl same ↦ omega (arith, ap (λ n. n.key) (its j other same there))
-      | inr off ↦ let was = back j other off there in absurd (none j was.0 was.1 (ap (λ n. n.list) was.2 ∙ on) (subst P (sym (ap (λ n. n.key) was.2)) p))
-    ],
-  )
+  comes_in P p none = search (rules, cases_eq, its, back)
 
   first_in : (o : Option ℕ) → IsNearest up f t anywhere o → IsNearest up g t anywhere (option_or o (Some q))
   first_in None near = comes_in anywhere tt near
   first_in (Some s) near = stays_in anywhere s near
 
   last_in : IsNearest down g t anywhere (Some q)
-  last_in = (
-    new,
-    has,
-    list,
-    tt,
-    λ j other there on p. elim (cases_eq j q) [
-      | inl same ↦ omega (arith, ap (λ n. n.key) (its j other same there))
-      | inr off ↦ let was = back j other off there in omega (arith, later j was.0 was.1, ap (λ n. n.key) was.2)
-    ],
-  )
+  last_in = search (rules, cases_eq, its, back)
 
   -- the last one has no later one
   end : (s : ℕ) (was : Node) (o : Option ℕ) → IsNearest down f t anywhere o → o ≡ Some s → f s ≡ Some was → IsNearest up f t (above was.key) None
   end s was None near is there = absurd (cc)
-  end s was (Some l) near is there = λ j other at on more.
-      let slot : l ≡ s = cc in
-      let same = same_Some near.0 was (sym near.1 ∙ ap f slot ∙ there) in
-      omega (arith, near.4 j other at on tt, more, ap (λ n. n.key) same)
+  end s was (Some l) near is there = search (rules, same_Some)
 
   -- and each other has one
   goes_on : (s : ℕ) (was : Node) (o : Option ℕ) → IsNearest down f t anywhere o → leads_to o s ≡ false → f s ≡ Some was → was.list ≡ t → IsNearest up f t (above was.key) None → ⊥
   goes_on s was None near off there on none = near s was there on tt
-  goes_on s was (Some l) near off there on none =
-      let differs : l ≢ s = grind (arith, nat_tests, off) in
-      let keys : near.0.key ≢ was.key = λ e. differs (apart l s near.0 was near.1 there e) in
-      none l near.0 near.1 near.2 (omega (arith, near.4 s was there on tt, keys))
+  goes_on s was (Some l) near off there on none = search (rules, nat_tests)
 
   next_in : (s : ℕ) (was : Node) → f s ≡ Some was → was.list ≡ t → (b : Bool) → leads_to last s ≡ b → (o : Option ℕ) → IsNearest up f t (above was.key) o → IsNearest up g t (above was.key) (cond b (Some q) o)
   next_in s was there on true is o near = comes_in (above was.key) (later s was there) (end s was last chain.last_is (leads last s is) there)
@@ -158,11 +123,7 @@ module _ (f g : ℕ → Option Node) (apart : AreApart f) (t : ℕ) (first last 
   -- the last node is of the list
   last_of : (o : Option ℕ) → IsNearest down f t anywhere o → (s : ℕ) (was : Node) → f s ≡ Some was → was.list ≢ t → leads_to o s ≡ false
   last_of None near s was there off = refl
-  last_of (Some l) near s was there off = by (nat_eq l s) refl
-    where
-      by : (b : Bool) → nat_eq l s ≡ b → nat_eq l s ≡ false
-      by false is = is
-      by true is = let same : l ≡ s = grind (arith, nat_tests, is) in absurd (off (sym (ap (λ n. n.list) (same_Some near.0 was (sym near.1 ∙ ap f same ∙ there))) ∙ near.2))
+  last_of (Some l) near s was there off = search (rules, nat_tests, same_Some)
 
   -- the other lists stay
   pub IsChain-joined_other : (u : ℕ) (a b : Option ℕ) → u ≢ t → IsChain f u a b → IsChain g u a b
@@ -192,30 +153,17 @@ module _ (f g : ℕ → Option Node) (apart : AreApart f) (t : ℕ) (first last 
 
   -- a place that did not lead to the node finds what it found
   pass_by : (le : ℕ → ℕ → Type 0) (P : ℕ → Type 0) (o : Option ℕ) → o ≢ Some q → IsNearest le f t P o → IsNearest le g t P o
-  pass_by le P o off near = nearest-fewer le f g t P P o
-      (λ j node there on p. let was = before j node there in let key : was.0.key ≡ node.key = ap (λ n. n.key) was.2 in (was.0, was.1, ap (λ n. n.list) was.2 ∙ on, key, subst P (sym key) p))
-      (λ s was is there on p. (bridged old.prev old.next s was, remains s was (λ same. off (is ∙ ap Some same)) there, on, refl, p)) near
+  pass_by le P o off near = search (rules, nearest-fewer, before, remains)
 
   -- the place that led to it finds what it led to
   take_over : (le : ℕ → ℕ → Type 0) (P R : ℕ → Type 0) (o : Option ℕ) → ((j : ℕ) (was : Node) → j ≢ q → f j ≡ Some was → was.list ≡ t → P was.key → R was.key) → ((k : ℕ) → R k → P k) → (R old.key → ⊥)
       → IsNearest le f t R o → IsNearest le g t P o
-  take_over le P R o each back not near = nearest-fewer le f g t R P o
-      (λ j node there on p.
-      let was = before j node there in
-      let key : was.0.key ≡ node.key = ap (λ n. n.key) was.2 in
-      let in_list = ap (λ n. n.list) was.2 ∙ on in
-      (was.0, was.1, in_list, key, each j was.0 (not_gone j node there) was.1 in_list (subst P (sym key) p)))
-      (λ s was is there on r.
-      let off : s ≢ q = λ same. not (subst R (ap (λ n. n.key) (same_Some was old (sym there ∙ ap f same ∙ has))) r) in
-      (bridged old.prev old.next s was, remains s was off there, on, refl, back was.key r)) near
+  take_over le P R o each back not near = search (rules, nearest-fewer, before, not_gone, same_Some, remains, back)
 
   -- the node that a nearest link leads to
   found : (le : ℕ → ℕ → Type 0) (P : ℕ → Type 0) (o : Option ℕ) (s : ℕ) (was : Node) → o ≡ Some s → f s ≡ Some was → IsNearest le f t P o → P was.key × ((j : ℕ) (other : Node) → f j ≡ Some other → other.list ≡ t → P other.key → le was.key other.key)
   found le P None s was is there near = absurd (cc)
-  found le P (Some a) s was is there near =
-      let slot : a ≡ s = cc in
-      let same : near.0 ≡ was = same_Some near.0 was (sym near.1 ∙ ap f slot ∙ there) in
-      (subst P (ap (λ n. n.key) same) near.3, λ j other at on p. subst (λ k. le k other.key) (ap (λ n. n.key) same) (near.4 j other at on p))
+  found le P (Some a) s was is there near = search (rules, same_Some)
 
   -- who is nearest before the node is the only place that leads to it
   no_link_up : (P : ℕ → Type 0) (o b : Option ℕ) → IsNearest up f t P o → IsNearest down f t (below old.key) b → ((s : ℕ) (was : Node) → b ≡ Some s → f s ≡ Some was → was.list ≡ t → P was.key) → b ≢ None → o ≢ Some q
@@ -287,26 +235,15 @@ module _ (f g : ℕ → Option Node) (apart : AreApart f) (t : ℕ) (first last 
       at_none (Some p) near none more = absurd (cc (none))
 
   pub IsChain-left : IsChain g t (cond (is_none old.prev) old.next first) (cond (is_none old.next) old.prev last)
-  IsChain-left = record {
-    first_is = first_out old.prev refl prev_q;
-    last_is = last_out old.next refl next_q;
-    next_is = λ s node there on. let was = before s node there in rw (← was.2) (next_out s was.0 (not_gone s node there) was.1 (ap (λ n. n.list) was.2 ∙ on) (leads_to old.prev s) refl);
-    prev_is = λ s node there on. let was = before s node there in rw (← was.2) (prev_out s was.0 (not_gone s node there) was.1 (ap (λ n. n.list) was.2 ∙ on) (leads_to old.next s) refl);
-  }
+  IsChain-left = search (rules, first_out, prev_q, last_out, next_q, before, next_out, not_gone, prev_out)
 
   -- a neighbour is of the list
   neighbour : (le : ℕ → ℕ → Type 0) (P : ℕ → Type 0) (o : Option ℕ) → IsNearest le f t P o → (s : ℕ) (was : Node) → f s ≡ Some was → was.list ≢ t → leads_to o s ≡ false
   neighbour le P None near s was there off = refl
-  neighbour le P (Some l) near s was there off = by (nat_eq l s) refl
-    where
-      by : (b : Bool) → nat_eq l s ≡ b → nat_eq l s ≡ false
-      by false is = is
-      by true is = let same : l ≡ s = grind (arith, nat_tests, is) in absurd (off (sym (ap (λ n. n.list) (same_Some near.0 was (sym near.1 ∙ ap f same ∙ there))) ∙ near.2))
+  neighbour le P (Some l) near s was there off = search (rules, nat_tests, same_Some)
 
   stays_same : (s : ℕ) (was : Node) → f s ≡ Some was → was.list ≢ t → bridged old.prev old.next s was ≡ was
-  stays_same s was there off =
-      ap (λ c. record was { prev = cond c old.prev was.prev; next = cond (leads_to old.prev s) old.next was.next }) (neighbour up (above old.key) old.next next_q s was there off)
-      ∙ ap (λ c. record was { next = cond c old.next was.next }) (neighbour down (below old.key) old.prev prev_q s was there off)
+  stays_same s was there off = search (rules, neighbour, next_q, prev_q)
 
   -- the other lists stay
   pub IsChain-left_other : (u : ℕ) (a b : Option ℕ) → u ≢ t → IsChain f u a b → IsChain g u a b

@@ -1,6 +1,6 @@
 -- Counts of rows.
-use Rattle.std.proofs.Common.{◌≡◌, ◌≢◌, ℕ, zero, suc, ◌+◌, ◌<◌, ◌≤◌, inl, inr, get_or, set, Bool, true, false, List, [], ◌∷◌, ◌++◌, Option, Some, None, refl, sym, ap, ◌∙◌, arith, cond, nat_eq, length, count_by, ◌==◌}
-use Rattle.std.specs.List.{cons_option, find}
+use Rattle.std.proofs.Common.{◌≡◌, ◌≢◌, ℕ, zero, suc, ◌+◌, ◌<◌, ◌≤◌, inl, inr, get_or, set, Bool, true, false, List, [], ◌∷◌, ◌++◌, Option, Some, None, refl, sym, ap, ◌∙◌, arith, cond, nat_eq, length, count_by, ◌==◌, rules}
+use Rattle.std.specs.List.{find}
 use Rattle.std.proofs.lemmas.List.Sums.{sum_by-cons, count_by-le-length}
 use Rattle.std.proofs.lemmas.Bool.{cases_eq}
 use Rattle.std.proofs.lemmas.Bool.Decides.{nat_tests}
@@ -26,11 +26,7 @@ module _ (p : LwpData → Bool) where
 
 pub length-listing : (b : ℕ → Option LwpData) (from count : ℕ) → length (listing b from count) ≤ count
 length-listing b from zero = omega arith
-length-listing b from (suc count) = by (b from) (length-listing b (from + 1) count)
-  where
-    by : (o : Option LwpData) → length (listing b (from + 1) count) ≤ count → length (cons_option o (listing b (from + 1) count)) ≤ suc count
-    by None less = omega (arith, less)
-    by (Some x) less = omega (arith, less)
+length-listing b from (suc count) = grind (arith, nat_tests, length-listing b (from + 1) count)
 
 pub count-below : (p : LwpData → Bool) (b : ℕ → Option LwpData) (from count : ℕ) → count_by p (listing b from count) ≤ count
 count-below p b from count = omega (arith, count_by-le-length p (listing b from count), length-listing b from count)
@@ -57,10 +53,7 @@ at_no owner place row is off = test_apart (place_of row.tid) place (λ same. off
 -- the users' places stand for the users
 pub count-owner : (uid place : ℕ) (xs : List LwpData) → uid ≡ place + 1001 → count_by (is_at place) xs ≡ count_by (λ l. tid_owner l.tid == uid) xs
 unfolding tid_owner
-count-owner uid place xs is = ap (λ p. count_by p xs) (λ i l. same l.tid i)
-  where
-    same : (n : ℕ) → nat_eq (place_of n) place ≡ nat_eq (tid_owner n) uid
-    same n = grind (arith, nat_tests, is)
+count-owner uid place xs is = search (rules, count_by, nat_tests)
 
 -- the counts of users after a change of one of them
 pub users_set : (users : List ℕ) (xs ys : List LwpData) (owner n : ℕ) → length users ≡ 64 → owner < 64 → n ≡ count_by (is_at owner) ys → ((place : ℕ) → place ≢ owner → count_by (is_at place) ys ≡ count_by (is_at place) xs)
@@ -73,8 +66,4 @@ users_set users xs ys owner n long within own others counted place its = elim (c
 -- no row passes, so none is counted
 pub count-none : (p : LwpData → Bool) (xs : List LwpData) → find p xs ≡ None → count_by p xs ≡ 0
 count-none p [] none = refl
-count-none p (x ∷ xs) none = by (p x) refl none (count-none p xs)
-  where
-    by : (c : Bool) → p x ≡ c → cond c (Some x) (find p xs) ≡ None → (find p xs ≡ None → count_by p xs ≡ 0) → count_by p (x ∷ xs) ≡ 0
-    by true is none later = absurd (cc (none))
-    by false is none later = omega (arith, count-cons p x xs, ap one is, later none)
+count-none p (x ∷ xs) none = search (rules, count-none p xs, count_by, count-cons)

@@ -1,5 +1,5 @@
 -- From slots with birth numbers to the rows in order of birth, and what a change of one slot does.
-use Rattle.std.proofs.Common.{◌≡◌, ◌≢◌, ℕ, suc, ◌+◌, Bool, true, false, not, List, [], ◌∷◌, ◌++◌, Option, Some, None, IsSome, refl, sym, ap, ◌∙◌, arith, inl, inr, cond, nat_eq}
+use Rattle.std.proofs.Common.{◌≡◌, ◌≢◌, ℕ, suc, ◌+◌, not, List, [], ◌∷◌, ◌++◌, Option, Some, None, IsSome, refl, sym, ap, ◌∙◌, arith, inl, inr, cond, nat_eq, rules}
 use Rattle.std.specs.List.{cons_option}
 use Rattle.std.specs.Map.{lookup}
 use Rattle.std.specs.Option.{option_map, IsSomeAnd}
@@ -9,7 +9,7 @@ use Rattle.std.proofs.lemmas.Option.{same_Some, some_pair_parts}
 use Rattle.lwp_table.specs.declared.LwpData.{LwpData}
 use Rattle.lwp_table.specs.declared.links.Slot.{Slot}
 use Rattle.lwp_table.specs.Lwps.{lwp_of, put_lwp, with_lwp, without_lwp, Differ}
-use Rattle.lwp_table.specs.Kept.{if_born, born_row, listing, rows_of, IsIndexed}
+use Rattle.lwp_table.specs.Kept.{born_row, listing, rows_of, IsIndexed}
 use Rattle.lwp_table.proofs.WordLemmas.{test_same, test_apart}
 use Rattle.lwp_table.proofs.ListLemmas.{AreNumbered, differ-listing, listing-end, listing-same, lwp_of-none, lwp_of-listing, listing-kept, listing-mapped}
 
@@ -48,32 +48,12 @@ option_same (Some x) p to from = sym (to x refl)
 -- a row that a birth number finds stands in a slot
 pub born_in : (f : ℕ → Option Slot) (es : List (ℕ × ℕ)) (birth : ℕ) (row : LwpData) → born_row f es birth ≡ Some row → (s : ℕ) × (slot : Slot) × (f s ≡ Some slot) × (slot.born ≡ birth) × (slot.row ≡ row)
 born_in f [] birth row is = absurd (cc)
-born_in f (e ∷ es) birth row is = by (f e.1) refl is (born_in f es birth row)
-  where
-    by : (o : Option Slot) → f e.1 ≡ o → if_born birth (born_row f es birth) o ≡ Some row → (born_row f es birth ≡ Some row → (s : ℕ) × (slot : Slot) × (f s ≡ Some slot) × (slot.born ≡ birth) × (slot.row ≡ row)) → (s : ℕ) × (slot : Slot) × (f s ≡ Some slot) × (slot.born ≡ birth) × (slot.row ≡ row)
-    by None there is later = later is
-    by (Some slot) there is later = elim (nat_eq slot.born birth) as (λ c. nat_eq slot.born birth ≡ c → cond c (Some slot.row) (born_row f es birth) ≡ Some row → (s : ℕ) × (slot : Slot) × (f s ≡ Some slot) × (slot.born ≡ birth) × (slot.row ≡ row)) [
-      | true ↦ λ same is. (e.1, slot, there, grind (arith, nat_tests, same), same_Some slot.row row is)
-      | false ↦ λ same is. later is
-    ] refl is
+born_in f (e ∷ es) birth row is = search (rules, born_in f es birth row, nat_tests, same_Some)
 
 -- the row of a slot with an entry is found by its birth number
 born_listed : (f : ℕ → Option Slot) → ((i j : ℕ) (a b : Slot) → f i ≡ Some a → f j ≡ Some b → a.born ≡ b.born → i ≡ j) → (s : ℕ) (slot : Slot) (tid : ℕ) → f s ≡ Some slot → (es : List (ℕ × ℕ)) → lookup (nat_eq tid) es ≡ Some s → born_row f es slot.born ≡ Some slot.row
 born_listed f apart s slot tid there [] at = absurd (cc)
-born_listed f apart s slot tid there (e ∷ es) at = by (f e.1) refl (nat_eq tid e.0) at (born_listed f apart s slot tid there es)
-  where
-    by : (o : Option Slot) → f e.1 ≡ o → (c : Bool) → cond c (Some e.1) (lookup (nat_eq tid) es) ≡ Some s → (lookup (nat_eq tid) es ≡ Some s → born_row f es slot.born ≡ Some slot.row) → if_born slot.born (born_row f es slot.born) o ≡ Some slot.row
-    by None is true at later = absurd (let same : e.1 ≡ s = cc in cc (ap f same, is, there))
-    by None is false at later = later at
-    by (Some x) is true at later =
-        let same : e.1 ≡ s = cc in
-        let its = same_Some x slot (sym is ∙ ap f same ∙ there) in
-        let here : nat_eq x.born slot.born ≡ true = ap (λ (y : Slot). nat_eq y.born slot.born) its ∙ test_same slot.born in
-        rw here (ap (λ (y : Slot). Some y.row) its)
-    by (Some x) is false at later = elim (cases_eq x.born slot.born) [
-      | inl same ↦ let its = same_Some x slot (sym is ∙ ap f (apart e.1 s x slot is there same) ∙ there) in let here : nat_eq x.born slot.born ≡ true = ap (λ (y : Slot). nat_eq y.born slot.born) its ∙ test_same slot.born in rw here (ap (λ (y : Slot). Some y.row) its)
-      | inr off ↦ rw (test_apart x.born slot.born off) (later at)
-    ]
+born_listed f apart s slot tid there (e ∷ es) at = search (rules, born_listed f apart s slot tid there es, same_Some, test_same, cases_eq, test_apart)
 
 module _ (f : ℕ → Option Slot) (es : List (ℕ × ℕ)) (births : ℕ) (indexed : IsIndexed f es births) where
   pub born_of : (s : ℕ) (slot : Slot) → f s ≡ Some slot → born_row f es slot.born ≡ Some slot.row
@@ -98,34 +78,18 @@ module _ (f : ℕ → Option Slot) (es : List (ℕ × ℕ)) (births : ℕ) (inde
   lwp_of-slot s slot there = lwp_of-listing (born_row f es) numbered slot.born slot.row (born_of s slot there) 0 births (omega arith) (omega (arith, indexed.earlier s slot there))
 
   pub lwp_of-absent : (tid : ℕ) → lookup (nat_eq tid) es ≡ None → lwp_of tid (rows_of f es births) ≡ None
-  lwp_of-absent tid none = lwp_of-none (born_row f es) tid 0 births (λ k row is same.
-      let a = born_in f es k row is in
-      let tids : a.1.row.tid ≡ tid = ap (λ (r : LwpData). r.tid) a.4 ∙ same in
-      cc (none, ap (λ n. lookup (nat_eq n) es) (sym tids), indexed.listed a.0 a.1 a.2))
+  lwp_of-absent tid none = search (rules, lwp_of-none, born_in)
 
   -- a number with a row has a slot
   pub slot_for : (tid : ℕ) (row : LwpData) → lwp_of tid (rows_of f es births) ≡ Some row → (s : ℕ) × (slot : Slot) × (lookup (nat_eq tid) es ≡ Some s) × (f s ≡ Some slot) × (slot.row ≡ row) × (slot.row.tid ≡ tid)
-  slot_for tid row is = by (lookup (nat_eq tid) es) refl
-    where
-      by : (o : Option ℕ) → lookup (nat_eq tid) es ≡ o → (s : ℕ) × (slot : Slot) × (lookup (nat_eq tid) es ≡ Some s) × (f s ≡ Some slot) × (slot.row ≡ row) × (slot.row.tid ≡ tid)
-      by None none = absurd (cc (is, lwp_of-absent tid none))
-      by (Some s) at =
-          let its = indexed.named tid s at in
-          (s, its.0, at, its.1, same_Some its.0.row row (sym (lwp_of-slot s its.0 its.1) ∙ ap (λ n. lwp_of n (rows_of f es births)) its.2 ∙ is), its.2)
+  slot_for tid row is = search (rules, lwp_of-absent, same_Some, lwp_of-slot)
 
   -- the row in a number's slot
   pub lwp_of-found : (tid s : ℕ) (slot : Slot) → lookup (nat_eq tid) es ≡ Some s → f s ≡ Some slot → (slot.row.tid ≡ tid) × (lwp_of tid (rows_of f es births) ≡ Some slot.row)
-  lwp_of-found tid s slot at there =
-      let its = indexed.named tid s at in
-      let tids : slot.row.tid ≡ tid = ap (λ (x : Slot). x.row.tid) (same_Some slot its.0 (sym there ∙ its.1)) ∙ its.2 in
-      (tids, ap (λ n. lwp_of n (rows_of f es births)) (sym tids) ∙ lwp_of-slot s slot there)
+  lwp_of-found tid s slot at there = search (rules, same_Some, lwp_of-slot)
 
   pub no_slot : (tid : ℕ) → lwp_of tid (rows_of f es births) ≡ None → lookup (nat_eq tid) es ≡ None
-  no_slot tid none = by (lookup (nat_eq tid) es) refl
-    where
-      by : (o : Option ℕ) → lookup (nat_eq tid) es ≡ o → lookup (nat_eq tid) es ≡ None
-      by None is = is
-      by (Some s) at = let its = indexed.named tid s at in absurd (cc (none, sym (ap (λ n. lwp_of n (rows_of f es births)) its.2) ∙ lwp_of-slot s its.0 its.1))
+  no_slot tid none = search (rules, lwp_of-slot)
 
   -- one slot changes its face
   module _ (g : ℕ → Option Slot) (es' : List (ℕ × ℕ)) (q : ℕ) (others : (s : ℕ) → s ≢ q → option_map face (g s) ≡ option_map face (f s)) where

@@ -1,5 +1,5 @@
 -- What a table keeps after each change, and the rows that it then has.
-use Rattle.std.proofs.Common.{◌≡◌, ◌≢◌, ℕ, ◌+◌, ◌-◌, ◌<◌, ◌≤◌, Bool, true, false, List, [], ◌∷◌, ◌++◌, Option, Some, None, IsSome, IfSome, is_some, refl, sym, ap, subst, ◌∙◌, arith, inl, inr, cond, nat_eq, is_none, length, count_by, get_or, set, unwrap_or, replicate}
+use Rattle.std.proofs.Common.{◌≡◌, ◌≢◌, ℕ, ◌+◌, ◌-◌, ◌<◌, ◌≤◌, false, List, [], ◌∷◌, ◌++◌, Option, Some, None, IsSome, IfSome, is_some, refl, sym, ap, subst, ◌∙◌, arith, inl, inr, cond, nat_eq, is_none, length, count_by, get_or, set, unwrap_or, replicate, rules}
 use Rattle.std.specs.Map.{lookup}
 use Rattle.std.specs.Option.{option_map, option_or}
 use Rattle.std.proofs.lemmas.Bool.{cases_eq}
@@ -31,11 +31,7 @@ hidden h l same (Some slot) = ap Some (same slot)
 -- a slot that has a value keeps one
 pub onto : (f g : ℕ → Option Slot) (l : ℕ → Slot → Slot) → ((s : ℕ) → g s ≡ option_map (l s) (f s)) → (o : Option ℕ) → IfSome o (λ s. IsSome (f s)) → IfSome o (λ s. IsSome (g s))
 onto f g l links None there = tt
-onto f g l links (Some s) there = ap is_some (links s) ∙ by (f s) there
-  where
-    by : (o : Option Slot) → IsSome o → is_some (option_map (l s) o) ≡ true
-    by None there = there
-    by (Some slot) there = refl
+onto f g l links (Some s) there = search (rules, is_some)
 
 -- a link to a node leads to no slot without one
 pub no_lead : (le : ℕ → ℕ → Type 0) (f : ℕ → Option Node) (t q : ℕ) (P : ℕ → Type 0) (o : Option ℕ) → f q ≡ None → IsNearest le f t P o → leads_to o q ≡ false
@@ -44,16 +40,10 @@ no_lead le f t q P (Some a) vacant near = test_apart a q (λ same. cc (near.1, a
 
 -- births tell slots apart in both lists
 pub own_apart : (f : ℕ → Option Slot) → ((i j : ℕ) (a b : Slot) → f i ≡ Some a → f j ≡ Some b → a.born ≡ b.born → i ≡ j) → AreApart (own_nodes f)
-own_apart f apart i j a b there_a there_b same =
-    let x = came own_node (f i) a there_a in
-    let y = came own_node (f j) b there_b in
-    apart i j x.0 y.0 x.1 y.1 (ap (λ n. n.key) x.2 ∙ same ∙ sym (ap (λ n. n.key) y.2))
+own_apart f apart i j a b there_a there_b same = search (rules, came)
 
 pub all_apart : (f : ℕ → Option Slot) → ((i j : ℕ) (a b : Slot) → f i ≡ Some a → f j ≡ Some b → a.born ≡ b.born → i ≡ j) → AreApart (all_nodes f)
-all_apart f apart i j a b there_a there_b same =
-    let x = came all_node (f i) a there_a in
-    let y = came all_node (f j) b there_b in
-    apart i j x.0 y.0 x.1 y.1 (ap (λ n. n.key) x.2 ∙ same ∙ sym (ap (λ n. n.key) y.2))
+all_apart f apart i j a b there_a there_b same = search (rules, came)
 
 -- a list with no first node has no last one
 pub no_last : (f : ℕ → Option Node) (t : ℕ) (o : Option ℕ) → IsNearest down f t anywhere o → IsNearest up f t anywhere None → o ≡ None
@@ -310,11 +300,7 @@ module _ (f : ℕ → Option Slot) (es : List (ℕ × ℕ)) (hs : List (ℕ × E
   heads p = heads_at p ∙ ap (λ n. cond (nat_eq n p) (Some (record { first = first; last = Some q; count = own.count + 1 })) (lookup (nat_eq p) hs)) pid_is
 
   ends_put : (p : ℕ) → ends_at hs' p ≡ cond (nat_eq row.pid p) (record { first = option_or (ends_at hs row.pid).first (Some q); last = Some q; count = (ends_at hs row.pid).count + 1 }) (ends_at hs p)
-  ends_put p = ap (λ o. unwrap_or o no_ends) (heads p) ∙ by (nat_eq row.pid p)
-    where
-      by : (c : Bool) → unwrap_or (cond c (Some (record { first = first; last = Some q; count = own.count + 1 })) (lookup (nat_eq p) hs)) no_ends ≡ cond c (record { first = option_or (ends_at hs row.pid).first (Some q); last = Some q; count = (ends_at hs row.pid).count + 1 }) (ends_at hs p)
-      by true = λ i. record { first = (first_is ∙ ap (λ (e : Ends). option_or e.first (Some q)) own_is) i; last = Some q; count = (own_is i).count + 1 }
-      by false = refl
+  ends_put p = search (rules, unwrap_or, heads, own_is)
 
   put_now : f1 q ≡ Some (record { row = row; born = births; own = record { prev = (ends_at hs row.pid).last; next = None }; all = record { prev = all.last; next = None } })
   put_now = subst (λ (e : Ends). f1 q ≡ Some (record { row = row; born = births; own = record { prev = e.last; next = None }; all = record { prev = all.last; next = None } })) own_is put

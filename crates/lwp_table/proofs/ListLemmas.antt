@@ -1,5 +1,6 @@
 -- The list of what rising birth numbers find.
-use Rattle.std.proofs.Common.{◌≡◌, ◌≢◌, ℕ, zero, suc, ◌+◌, ◌-◌, ◌<◌, ◌≤◌, Bool, true, false, List, [], ◌∷◌, ◌++◌, Option, Some, None, refl, sym, ap, ◌∙◌, arith, inl, inr, cond, nat_eq, add-zero, filter, map}
+use Rattle.std.proofs.lemmas.Bool.Decides.{nat_tests}
+use Rattle.std.proofs.Common.{◌≡◌, ◌≢◌, ℕ, zero, suc, ◌+◌, ◌-◌, ◌<◌, ◌≤◌, Bool, true, false, List, [], ◌∷◌, ◌++◌, Option, Some, None, refl, sym, ap, ◌∙◌, arith, inl, inr, cond, nat_eq, add-zero, filter, map, rules}
 use Rattle.std.specs.List.{cons_option}
 use Rattle.std.specs.Option.{option_map}
 use Rattle.std.proofs.lemmas.Bool.{cases_eq, cases_Bool}
@@ -15,9 +16,7 @@ cons_option-append (Some x) xs ys = refl
 -- one birth number more
 pub listing-end : (b : ℕ → Option LwpData) (from count : ℕ) → listing b from (suc count) ≡ listing b from count ++ cons_option (b (from + count)) []
 listing-end b from zero = rw add-zero refl
-listing-end b from (suc count) =
-    let shift : from + suc count ≡ from + 1 + count = omega arith in
-    rw shift (ap (cons_option (b from)) (listing-end b (from + 1) count) ∙ cons_option-append (b from) (listing b (from + 1) count) (cons_option (b (from + 1 + count)) []))
+listing-end b from (suc count) = search (rules, listing-end b (from + 1) count, cons_option-append)
 
 pub listing-same : (a b : ℕ → Option LwpData) (from count : ℕ) → ((k : ℕ) → from ≤ k → k < from + count → a k ≡ b k) → listing a from count ≡ listing b from count
 listing-same a b from zero same = refl
@@ -29,11 +28,7 @@ AreNumbered b = (j k : ℕ) (x y : LwpData) → b j ≡ Some x → b k ≡ Some 
 
 lacks-listing : (b : ℕ → Option LwpData) (tid from count : ℕ) → ((k : ℕ) (row : LwpData) → from ≤ k → b k ≡ Some row → row.tid ≢ tid) → LacksLwp tid (listing b from count)
 lacks-listing b tid from zero off = tt
-lacks-listing b tid from (suc count) off = by (b from) refl (lacks-listing b tid (from + 1) count (λ k row least is. off k row (omega (arith, least)) is))
-  where
-    by : (o : Option LwpData) → b from ≡ o → LacksLwp tid (listing b (from + 1) count) → LacksLwp tid (cons_option o (listing b (from + 1) count))
-    by None is rest = rest
-    by (Some x) is rest = (off from x (omega arith) is, rest)
+lacks-listing b tid from (suc count) off = grind (arith, nat_tests, lacks-listing b tid (from + 1) count (λ k row least is. off k row (omega (arith, least)) is))
 
 pub differ-listing : (b : ℕ → Option LwpData) → AreNumbered b → (from count : ℕ) → Differ (listing b from count)
 differ-listing b numbered from zero = tt
@@ -45,11 +40,7 @@ differ-listing b numbered from (suc count) = by (b from) refl (differ-listing b 
 
 pub lwp_of-none : (b : ℕ → Option LwpData) (tid from count : ℕ) → ((k : ℕ) (row : LwpData) → b k ≡ Some row → row.tid ≢ tid) → lwp_of tid (listing b from count) ≡ None
 lwp_of-none b tid from zero off = refl
-lwp_of-none b tid from (suc count) off = by (b from) refl (lwp_of-none b tid (from + 1) count off)
-  where
-    by : (o : Option LwpData) → b from ≡ o → lwp_of tid (listing b (from + 1) count) ≡ None → lwp_of tid (cons_option o (listing b (from + 1) count)) ≡ None
-    by None is rest = rest
-    by (Some x) is rest = let other : nat_eq x.tid tid ≡ false = test_apart x.tid tid (off from x is) in rw other rest
+lwp_of-none b tid from (suc count) off = grind (arith, nat_tests, lwp_of-none b tid (from + 1) count off)
 
 module _ (b : ℕ → Option LwpData) (numbered : AreNumbered b) (k : ℕ) (row : LwpData) (at : b k ≡ Some row) where
   other : (from : ℕ) (x : LwpData) → from ≢ k → b from ≡ Some x → x.tid ≢ row.tid
@@ -94,11 +85,7 @@ listing-kept test a b none some from (suc count) = by (b from) refl (listing-kep
 
 pub listing-mapped : (h : LwpData → LwpData) (a b : ℕ → Option LwpData) → ((k : ℕ) → a k ≡ option_map h (b k)) → (from count : ℕ) → listing a from count ≡ map h (listing b from count)
 listing-mapped h a b same from zero = refl
-listing-mapped h a b same from (suc count) = rw (same from) (by (b from) (listing-mapped h a b same (from + 1) count))
-  where
-    by : (o : Option LwpData) → listing a (from + 1) count ≡ map h (listing b (from + 1) count) → cons_option (option_map h o) (listing a (from + 1) count) ≡ map h (cons_option o (listing b (from + 1) count))
-    by None rest = rest
-    by (Some x) rest = ap (λ xs. h x ∷ xs) rest
+listing-mapped h a b same from (suc count) = grind (arith, nat_tests, listing-mapped h a b same (from + 1) count)
 
 module _ (b : ℕ → Option LwpData) (p : LwpData → Bool) where
   -- rows that fail the test are passed over
@@ -117,6 +104,4 @@ module _ (b : ℕ → Option LwpData) (p : LwpData → Bool) where
 
   -- a row that passes comes first
   pub filter-first : (k births : ℕ) (row : LwpData) → b k ≡ Some row → p row ≡ true → k < births → filter p (listing b k (births - k)) ≡ row ∷ filter p (listing b (k + 1) (births - (k + 1)))
-  filter-first k births row at passes less =
-      let more : births - k ≡ suc (births - (k + 1)) = omega arith in
-      rw more (ap (λ o. filter p (cons_option o (listing b (k + 1) (births - (k + 1))))) at ∙ ap (λ c. cond c (row ∷ filter p (listing b (k + 1) (births - (k + 1)))) (filter p (listing b (k + 1) (births - (k + 1))))) passes)
+  filter-first k births row at passes less = grind (arith, nat_tests)

@@ -1,5 +1,5 @@
 -- Rows that are found by numbers of their own, whatever the rows are.
-use Rattle.std.proofs.Common.{◌≡◌, ℕ, ◌+◌, Bool, true, false, not, List, [], ◌∷◌, Some, map, refl, sym, ap, subst, ◌∙◌, arith, inl, inr, cond, nat_eq, count_by, is_some}
+use Rattle.std.proofs.Common.{◌≡◌, ℕ, ◌+◌, Bool, true, false, not, List, [], ◌∷◌, Some, map, refl, sym, ap, subst, ◌∙◌, arith, inl, inr, cond, nat_eq, count_by, is_some, rules}
 use Rattle.std.specs.Prelude.{filter, option_map}
 use Rattle.std.specs.List.{find, list_any}
 use Rattle.std.proofs.lemmas.Bool.{cases_Bool}
@@ -29,10 +29,7 @@ module _ {A : Type 0} (number : A → ℕ) where
   pub find-map : (f : A → A) → ((x : A) → number (f x) ≡ number x) → (n : ℕ) (xs : List A)
       → find (λ y. nat_eq (number y) n) (map f xs) ≡ option_map f (find (λ y. nat_eq (number y) n) xs)
   find-map f same n [] = refl
-  find-map f same n (y ∷ ys) = elim (eqb_tells (number y) n) [
-    | inl h ↦ let k : nat_eq (number (f y)) n ≡ true = rw (same y) h.0 in rw (h.0, k) refl
-    | inr h ↦ let k : nat_eq (number (f y)) n ≡ false = rw (same y) h.0 in rw (h.0, k) (find-map f same n ys)
-  ]
+  find-map f same n (y ∷ ys) = search (rules, find-map f same n ys, eqb_tells)
 
   -- a row, or the new one in the place of the one with its number
   abbrev pub put : A → A → A
@@ -44,15 +41,11 @@ module _ {A : Type 0} (number : A → ℕ) where
   -- an edit at a number that no row has
   pub filter-lacks : (n : ℕ) (xs : List A) → Lacks number n xs → filter (λ x. not (nat_eq (number x) n)) xs ≡ xs
   filter-lacks n [] lacks = refl
-  filter-lacks n (y ∷ ys) lacks =
-      let other : nat_eq (number y) n ≡ false = grind (arith, nat_tests, lacks.0) in
-      rw other (ap (λ zs. y ∷ zs) (filter-lacks n ys lacks.1))
+  filter-lacks n (y ∷ ys) lacks = search (rules, filter-lacks n ys lacks.1, nat_tests)
 
   pub map-lacks : (f : A → A) (n : ℕ) (xs : List A) → Lacks number n xs → map (λ x. cond (nat_eq (number x) n) (f x) x) xs ≡ xs
   map-lacks f n [] lacks = refl
-  map-lacks f n (y ∷ ys) lacks =
-      let other : nat_eq (number y) n ≡ false = grind (arith, nat_tests, lacks.0) in
-      rw other (ap (λ zs. y ∷ zs) (map-lacks f n ys lacks.1))
+  map-lacks f n (y ∷ ys) lacks = search (rules, map-lacks f n ys lacks.1, nat_tests)
 
   -- the row with a number changed is a new row put in its place
   pub map-changed : (n : ℕ) (f : A → A) (x : A) (xs : List A) → Once number xs → find (λ y. nat_eq (number y) n) xs ≡ Some x → number (f x) ≡ n

@@ -1,5 +1,5 @@
 -- Walks along the links, and the rows that they meet.
-use Rattle.std.proofs.Common.{◌≡◌, ℕ, ◌+◌, ◌-◌, ◌<◌, ◌≤◌, Bool, true, false, inl, inr, List, [], ◌∷◌, Option, Some, None, IfSome, refl, sym, ap, subst, ◌∙◌, arith, nat_eq, filter}
+use Rattle.std.proofs.Common.{◌≡◌, ℕ, ◌+◌, ◌-◌, ◌<◌, ◌≤◌, Bool, true, false, inl, inr, List, [], ◌∷◌, Option, Some, None, IfSome, refl, sym, ap, subst, ◌∙◌, arith, nat_eq, filter, rules}
 use Rattle.std.specs.Option.{option_map, IsSomeAnd}
 use Rattle.std.proofs.lemmas.Bool.{cases_Bool}
 use Rattle.std.proofs.lemmas.Bool.Decides.{nat_tests}
@@ -31,10 +31,7 @@ module _ (f : ℕ → Option Slot) (es : List (ℕ × ℕ)) (births : ℕ) (inde
     (keys : (slot : Slot) → (node slot).key ≡ slot.born) (passes : (slot : Slot) → (node slot).list ≡ list → p slot.row ≡ true) (listed : (slot : Slot) → p slot.row ≡ true → (node slot).list ≡ list) where
   -- a row that stands in no slot of the list fails the test
   fails : (j : ℕ) (x : LwpData) → born_row f es j ≡ Some x → ((s : ℕ) (slot : Slot) → f s ≡ Some slot → (node slot).list ≡ list → (node slot).key ≡ j → ⊥) → p x ≡ false
-  fails j x is none = elim (cases_Bool (p x)) [
-    | inl its ↦ let a = born_in f es j x is in absurd (none a.0 a.1 a.2 (listed a.1 (ap p a.4 ∙ its)) (keys a.1 ∙ a.3))
-    | inr out ↦ out
-  ]
+  fails j x is none = search (rules, cases_Bool, born_in)
 
   -- from a place on, the rows of the list are those from the nearest link on
   nearest : (P : ℕ → Type 0) (from : ℕ) → ((k : ℕ) → from ≤ k → P k) → ((k : ℕ) → P k → from ≤ k) → (o : Option ℕ) → IsNearest up (λ j. option_map node (f j)) list P o → from ≤ births
@@ -144,14 +141,8 @@ module _ (f : ℕ → Option Slot) (es : List (ℕ × ℕ)) (births : ℕ) (node
 
   -- the slot that a walk stands at is of its list
   pub walk_on : (s : ℕ) (slot : Slot) → IsWalk f es births node list (Some s) → f s ≡ Some slot → (node slot).list ≡ list
-  walk_on s slot walk there =
-      let at = some_and (λ (x : Slot). (node x).list ≡ list) (f s) walk.there in
-      ap (λ (x : Slot). (node x).list) (same_Some slot at.0 (sym there ∙ at.1)) ∙ at.2
+  walk_on s slot walk there = search (rules, some_and, same_Some)
 
   -- and it goes on
   pub IsWalk-next : (s : ℕ) (slot : Slot) → IsWalk f es births node list (Some s) → f s ≡ Some slot → IsWalk f es births node list (node slot).next
-  IsWalk-next s slot walk there = record {
-    indexed = walk.indexed;
-    next_is = walk.next_is;
-    there = walk_there f node list (above (node slot).key) (node slot).next (walk.next_is s slot there (walk_on s slot walk there));
-  }
+  IsWalk-next s slot walk there = search (rules, walk_there, walk_on)

@@ -1,5 +1,5 @@
 -- Words on rows that proofs use beside those of Lwps, and how they agree where the LWPs' numbers differ.
-use Rattle.std.proofs.Common.{◌≡◌, ◌≢◌, ℕ, Bool, true, false, List, [], ◌∷◌, Option, Some, None, refl, sym, ◌∙◌, arith, cond, nat_eq, is_some}
+use Rattle.std.proofs.Common.{◌≡◌, ◌≢◌, ℕ, true, false, List, [], ◌∷◌, None, refl, sym, arith, cond, nat_eq, is_some, rules}
 use Rattle.std.proofs.lemmas.Bool.Decides.{nat_tests}
 use Rattle.lwp_table.specs.declared.LwpData.{LwpData}
 use Rattle.lwp_table.proofs.Numbered.{any-found}
@@ -18,18 +18,10 @@ rows_after tid (row ∷ rows) = cond (nat_eq row.tid tid) rows (rows_after tid r
 
 pub next_lwp-after : (pid tid : ℕ) (xs : List LwpData) → next_lwp pid tid xs ≡ first_lwp pid (rows_after tid xs)
 next_lwp-after pid tid [] = refl
-next_lwp-after pid tid (x ∷ xs) = by (nat_eq x.tid tid) (next_lwp-after pid tid xs)
-  where
-    by : (c : Bool) → next_lwp pid tid xs ≡ first_lwp pid (rows_after tid xs) → cond c (first_lwp pid xs) (next_lwp pid tid xs) ≡ first_lwp pid (cond c xs (rows_after tid xs))
-    by true later = refl
-    by false later = later
+next_lwp-after pid tid (x ∷ xs) = grind (arith, nat_tests, next_lwp-after pid tid xs)
 
 pub lwp_of-fresh : (tid : ℕ) (xs : List LwpData) → has_lwp tid xs ≡ false → lwp_of tid xs ≡ None
-lwp_of-fresh tid xs fresh = by (lwp_of tid xs) (sym (any-found (λ l. nat_eq l.tid tid) xs) ∙ fresh)
-  where
-    by : (o : Option LwpData) → is_some o ≡ false → o ≡ None
-    by None none = refl
-    by (Some x) none = absurd (cc (none))
+lwp_of-fresh tid xs fresh = search (rules, any-found, is_some)
 
 pub has_lwp-found : (tid : ℕ) (xs : List LwpData) → is_some (lwp_of tid xs) ≡ has_lwp tid xs
 has_lwp-found tid xs = sym (any-found (λ l. nat_eq l.tid tid) xs)

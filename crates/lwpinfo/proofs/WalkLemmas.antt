@@ -1,5 +1,5 @@
 -- A walk over the LWPs of a process by birth, and the front of the list that it has met.
-use Rattle.std.proofs.Common.{◌≡◌, ℕ, zero, suc, ◌+◌, ◌≤◌, Bool, true, false, List, [], ◌∷◌, ◌++◌, Some, None, slice_get, option_map, map, take, refl, sym, ap, subst, ◌∙◌, arith, cond, nat_eq}
+use Rattle.std.proofs.Common.{◌≡◌, ℕ, zero, suc, ◌+◌, ◌≤◌, Bool, true, false, List, [], ◌∷◌, ◌++◌, Some, None, slice_get, option_map, map, take, refl, sym, ap, subst, ◌∙◌, arith, cond, nat_eq, rules}
 use Rattle.std.proofs.Math.Seq.{take-nil}
 use Rattle.std.proofs.lemmas.List.{take_more}
 use Rattle.std.proofs.lemmas.Option.{same_Some, slice_get_within, slice_get-map, get_or_from_slice_get}
@@ -29,11 +29,7 @@ apart pid m (k ∷ ks) i l lacks e = by (λ j. apart pid m ks j l lacks.1) (nat_
 
 pub first-at : (pid : ℕ) (lwps : List LwpData) → first_lwp pid lwps ≡ slice_get (lwps_of pid lwps) 0
 first-at pid [] = refl
-first-at pid (k ∷ ks) = by (first-at pid ks) (nat_eq k.pid pid)
-  where
-    by : first_lwp pid ks ≡ slice_get (lwps_of pid ks) 0 → (c : Bool) → cond c (Some k) (first_lwp pid ks) ≡ slice_get (cond c (k ∷ lwps_of pid ks) (lwps_of pid ks)) 0
-    by later true = refl
-    by later false = later
+first-at pid (k ∷ ks) = search (rules, first-at pid ks, slice_get)
 
 next-after : (pid : ℕ) (lwps : List LwpData) (i : ℕ) (l : LwpData) → Differ lwps → IsAt pid lwps l i → next_lwp pid l.tid lwps ≡ slice_get (lwps_of pid lwps) (suc i)
 next-after pid [] i l differ e = absurd (cc (e))

@@ -1,14 +1,13 @@
 -- Sets of signals as numbers, bit by bit.
-use Rattle.std.proofs.Common.{◌≡◌, ℕ, zero, suc, ◌+◌, ◌-◌, ◌*◌, ◌/◌, ◌%◌, ◌^◌, min, max, ◌<◌, ◌≤◌, Bool, true, false, arith, refl, sym, ap, ◌∙◌, bit_and, bit_or, w32, inl, inr, ◌⊎◌}
-use Rattle.std.specs.Int.RustNames.{bit_xor}
+use Rattle.std.proofs.Common.{◌≡◌, ℕ, zero, suc, ◌+◌, ◌-◌, ◌%◌, ◌^◌, min, max, ◌<◌, ◌≤◌, Bool, true, false, arith, refl, sym, ap, ◌∙◌, bit_and, bit_or, w32, inl, inr, ◌⊎◌, rules}
 use Rattle.std.specs.Int.{bit_at, trailing_zeros}
-use Rattle.std.proofs.lemmas.Nat.{or_lt, xor_lt, one_shl, pow_pos, and_le_l}
+use Rattle.std.proofs.lemmas.Nat.{or_lt, xor_lt, pow_pos, and_le_l}
 use Rattle.std.proofs.lemmas.Nat.Bits.{bit_at_and, bit_at_or, bit_at_xor, bit_at_not, bit_at-lt, same_from_bits_below, and_pow, bit_at-trailing_zeros, bit_at_above}
-use Rattle.std.specs.Prelude.{Option, Some, None, find, ◌≢◌, not, eqb, Result, Ok, Err, OkIff}
+use Rattle.std.specs.Prelude.{Some, None, find, Result, Ok, Err, OkIff}
 use Rattle.std.specs.Result.{result_ok}
 use Rattle.std.proofs.lemmas.Bool.{cases_lt}
 use Rattle.std.specs.List.{range_with_len}
-use Rattle.signals.specs.Sets.{without, has, bit, lowest}
+use Rattle.signals.specs.Sets.{without, has, lowest}
 use Rattle.signals.proofs.Rising.{find-over, find-here}
 
 -- one bit of a difference, computed in the two ways
@@ -29,17 +28,10 @@ difference-is a b small other =
 
 -- a number is in the set where its bit is 1
 pub has-one : (set k : ℕ) → bit_at set k ≡ 1 → has set (k + 1) ≡ true
-has-one set k one =
-    let same : bit_and set (2 ^ k) ≡ 2 ^ k = and_pow set k ∙ (ap (λ x. x * 2 ^ k) one ∙ omega arith) in
-    let some : 0 < 2 ^ k = pow_pos k in
-    let there : bit_and set (2 ^ k) ≢ 0 = λ none. omega arith in
-    grind arith
+has-one set k one = search (rules, bit_and, and_pow, pow_pos)
 
 pub has-zero : (set k : ℕ) → bit_at set k ≡ 0 → has set (k + 1) ≡ false
-has-zero set k none =
-    let place : k + 1 - 1 ≡ k = omega arith in
-    let gone : bit_and set (bit (k + 1)) ≡ 0 = ap (λ j. bit_and set (2 ^ j)) place ∙ (and_pow set k ∙ (ap (λ x. x * 2 ^ k) none ∙ omega arith)) in
-    ap (λ x. not (eqb x 0)) gone
+has-zero set k none = search (rules, bit_and, and_pow)
 
 -- the first of the numbers that passes
 find-first : (p : ℕ → Bool) (n left k : ℕ) → k < left → ((i : ℕ) → i < k → p (n + i) ≡ false) → p (n + k) ≡ true → find p (range_with_len n left) ≡ Some (n + k)
@@ -70,11 +62,7 @@ unfolding lib.Count.count_trailing_zeros
 zeros-of-none = refl
 
 pub lowest-is : {E : Type 0} (set : ℕ) (r : Result ℕ E) → set < 2 ^ 31 → OkIff r ((1 ≤ trailing_zeros w32 set + 1) × (trailing_zeros w32 set + 1 ≤ 31)) (trailing_zeros w32 set + 1) → result_ok r ≡ lowest set
-lowest-is set (Ok n) small h = ap (λ x. Some x) h.1 ∙ sym (of_some (cases_lt 0 set) h.0)
-  where
-    of_some : (0 < set) ⊎ (set ≤ 0) → (1 ≤ trailing_zeros w32 set + 1) × (trailing_zeros w32 set + 1 ≤ 31) → lowest set ≡ Some (trailing_zeros w32 set + 1)
-    of_some (inl some) h = (least-some set some small).1
-    of_some (inr none) h = absurd (let empty : set ≡ 0 = omega arith in let all : trailing_zeros w32 set ≡ 32 = ap (trailing_zeros w32) empty ∙ zeros-of-none in omega (arith, h))
+lowest-is set (Ok n) small h = search (rules, cases_lt, w32, least-some, zeros-of-none)
 lowest-is set (Err e) small h = of_none (cases_lt 0 set)
   where
     of_none : (0 < set) ⊎ (set ≤ 0) → None ≡ lowest set

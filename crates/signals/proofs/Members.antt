@@ -1,25 +1,17 @@
 -- The members of sets of signals.
-use Rattle.std.proofs.Common.{◌≡◌, ℕ, zero, suc, ◌+◌, ◌-◌, ◌*◌, ◌%◌, ◌^◌, max, ◌<◌, ◌≤◌, Bool, true, false, arith, refl, sym, ap, true≢false, ◌∙◌, inl, inr, ◌⊎◌, bit_or}
-use Rattle.std.specs.Prelude.{◌==◌, nat_eq, not, ◌&&◌, ◌||◌, ◌≢◌, find, IfSome, IfNone, Option, Some, None}
-use Rattle.std.specs.Int.RustNames.{bit_xor}
+use Rattle.std.proofs.Common.{◌≡◌, ℕ, zero, suc, ◌+◌, ◌-◌, ◌%◌, max, ◌<◌, ◌≤◌, Bool, true, false, arith, inl, inr, ◌⊎◌, bit_or, rules}
+use Rattle.std.specs.Prelude.{◌==◌, not, ◌&&◌, ◌||◌, find, IfSome, IfNone, Option, Some, None}
 use Rattle.std.specs.Int.{bit_at}
 use Rattle.std.specs.List.{range_with_len}
 use Rattle.std.proofs.lemmas.Bool.{cases_lt, cases_Bool}
-use Rattle.std.proofs.lemmas.Nat.Bits.{bit_at_or, bit_at_xor, bit_at-lt, bit_at-zero, bit_at-pow_same, bit_at-pow_other}
-use Rattle.signals.specs.Sets.{has, bit, with, without, lowest}
+use Rattle.std.proofs.lemmas.Nat.Bits.{bit_at_or, bit_at_xor, bit_at-lt, bit_at-pow_same, bit_at-pow_other}
+use Rattle.signals.specs.Sets.{has, bit, without, lowest}
 use Rattle.signals.specs.Laws.{IsSignal, IsLowest, MembersAfter}
 use Rattle.signals.proofs.Bits.{has-one, has-zero}
 
 -- whether a signal is in the set, by its bit
 pub has-bit : (set n : ℕ) → 1 ≤ n → has set n ≡ (bit_at set (n - 1) == 1)
-has-bit set n some =
-    let place : n - 1 + 1 ≡ n = omega arith in
-    rw place at (by_bit (bit_at set (n - 1)) refl)
-  where
-    by_bit : (x : ℕ) → bit_at set (n - 1) ≡ x → has set (n - 1 + 1) ≡ (bit_at set (n - 1) == 1)
-    by_bit zero e = has-zero set (n - 1) e ∙ sym (ap (λ x. x == 1) e)
-    by_bit (suc zero) e = has-one set (n - 1) e ∙ sym (ap (λ x. x == 1) e)
-    by_bit (suc (suc x)) e = absurd (let below = bit_at-lt set (n - 1) in omega arith)
+has-bit set n some = search (rules, has-zero, has-one, bit_at-lt)
 
 either_bit : (x y : ℕ) → x < 2 → y < 2 → (max x y == 1) ≡ ((x == 1) || (y == 1))
 either_bit x y a b = grind arith
@@ -28,35 +20,16 @@ less_bit : (x y : ℕ) → x < 2 → y < 2 → ((max x y + y) % 2 == 1) ≡ ((x 
 less_bit x y a b = grind arith
 
 pub has-union : (a b n : ℕ) → 1 ≤ n → has (bit_or a b) n ≡ (has a n || has b n)
-has-union a b n some =
-    has-bit (bit_or a b) n some ∙ (ap (λ x. x == 1) (bit_at_or a b (n - 1)) ∙ (either_bit _ _ (bit_at-lt a (n - 1)) (bit_at-lt b (n - 1))
-    ∙ sym (ap (λ x. x || has b n) (has-bit a n some) ∙ ap (λ y. (bit_at a (n - 1) == 1) || y) (has-bit b n some))))
+has-union a b n some = search (rules, has-bit, bit_or, bit_at_or, either_bit, bit_at-lt)
 
 pub has-difference : (a b n : ℕ) → 1 ≤ n → has (without a b) n ≡ (has a n && not (has b n))
-has-difference a b n some =
-    has-bit (without a b) n some
-    ∙ (ap (λ x. x == 1) (bit_at_xor (bit_or a b) b (n - 1) ∙ ap (λ x. (x + bit_at b (n - 1)) % 2) (bit_at_or a b (n - 1)))
-    ∙ (less_bit _ _ (bit_at-lt a (n - 1)) (bit_at-lt b (n - 1))
-    ∙ sym (ap (λ x. x && not (has b n)) (has-bit a n some) ∙ ap (λ y. (bit_at a (n - 1) == 1) && not y) (has-bit b n some))))
+has-difference a b n some = search (rules, has-bit, bit_at_xor, bit_or, bit_at_or, less_bit, bit_at-lt)
 
 pub has-one_signal : (n m : ℕ) → 1 ≤ n → 1 ≤ m → has (bit n) m ≡ (m == n)
-has-one_signal n m one some = has-bit (bit n) m some ∙ by_place (cases_Bool (m == n))
-  where
-    by_place : ((m == n) ≡ true) ⊎ ((m == n) ≡ false) → (bit_at (bit n) (m - 1) == 1) ≡ (m == n)
-    by_place (inl e) =
-        let same : m ≡ n = grind arith in
-        ap (λ x. x == 1) (ap (λ k. bit_at (bit n) (k - 1)) same ∙ bit_at-pow_same (n - 1)) ∙ sym e
-    by_place (inr e) =
-        let other : m - 1 ≢ n - 1 = λ same. let clash : m ≡ n = omega arith in grind (arith, clash) in
-        ap (λ x. x == 1) (bit_at-pow_other (n - 1) (m - 1) other) ∙ sym e
+has-one_signal n m one some = search (rules, has-bit, cases_Bool, bit_at-pow_same, bit_at-pow_other)
 
 pub members_after : (set other n m : ℕ) → IsSignal n → IsSignal m → MembersAfter set other n m
-members_after set other n m one some = record {
-  added = has-union set (bit n) m some.0 ∙ ap (λ x. has set m || x) (has-one_signal n m one.0 some.0);
-  removed = has-difference set (bit n) m some.0 ∙ ap (λ x. has set m && not x) (has-one_signal n m one.0 some.0);
-  joined = has-union set other m some.0;
-  left = has-difference set other m some.0;
-}
+members_after set other n m one some = search (rules, has-union, has-one_signal, has-difference)
 
 -- what a search over rising numbers finds is the least that passes
 pub record IsFound (p : ℕ → Bool) (from end n : ℕ) : Type 0 where
@@ -67,14 +40,7 @@ pub record IsFound (p : ℕ → Bool) (from end n : ℕ) : Type 0 where
 
 found_wider : (p : ℕ → Bool) (from left : ℕ) (o : Option ℕ) → p from ≡ false → IfSome o (IsFound p (from + 1) (from + 1 + left)) → IfSome o (IsFound p from (from + suc left))
 found_wider p from left None e h = h
-found_wider p from left (Some n) e h =
-    let above : from + 1 ≤ n = h.above in
-    let below : n < from + 1 + left = h.below in
-    record { above = omega arith; below = omega arith; passes = h.passes; least = λ m low high pass. at m low high pass (cases_lt from m) }
-  where
-    at : (m : ℕ) → from ≤ m → m < from + suc left → p m ≡ true → (from < m) ⊎ (m ≤ from) → n ≤ m
-    at m low high pass (inl over) = h.least m (omega arith) (omega arith) pass
-    at m low high pass (inr here) = absurd (let same : m ≡ from = omega arith in true≢false (sym pass ∙ (ap p same ∙ e)))
+found_wider p from left (Some n) e h = search (rules, cases_lt)
 
 -- the cases of the first number
 found_by : (p : ℕ → Bool) (from left : ℕ) → IfSome (find p (range_with_len (from + 1) left)) (IsFound p (from + 1) (from + 1 + left))
@@ -89,11 +55,7 @@ found p from (suc left) = found_by p from left (found p (from + 1) left) (cases_
 -- where a search finds nothing no number passes
 none_wider : (p : ℕ → Bool) (from left : ℕ) (o : Option ℕ) → p from ≡ false → IfNone o ((m : ℕ) → from + 1 ≤ m → m < from + 1 + left → p m ≡ false) → IfNone o ((m : ℕ) → from ≤ m → m < from + suc left → p m ≡ false)
 none_wider p from left (Some n) e h = h
-none_wider p from left None e h = λ m low high. at m low high (cases_lt from m)
-  where
-    at : (m : ℕ) → from ≤ m → m < from + suc left → (from < m) ⊎ (m ≤ from) → p m ≡ false
-    at m low high (inl over) = h m (omega arith) (omega arith)
-    at m low high (inr here) = let same : m ≡ from = omega arith in ap p same ∙ e
+none_wider p from left None e h = search (rules, cases_lt)
 
 none_by : (p : ℕ → Bool) (from left : ℕ) → IfNone (find p (range_with_len (from + 1) left)) ((m : ℕ) → from + 1 ≤ m → m < from + 1 + left → p m ≡ false)
     → (p from ≡ true) ⊎ (p from ≡ false) → IfNone (find p (range_with_len from (suc left))) ((m : ℕ) → from ≤ m → m < from + suc left → p m ≡ false)

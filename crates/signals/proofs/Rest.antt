@@ -1,50 +1,28 @@
 -- A set's signals, rising: the lowest one and then those of the set without it.
-use Rattle.std.proofs.Common.{◌≡◌, ℕ, zero, suc, ◌+◌, ◌<◌, ◌≤◌, Bool, true, false, List, [], ◌∷◌, arith, refl, sym, ap, ◌∙◌, inl, inr, ◌⊎◌, cond}
-use Rattle.std.specs.Prelude.{◌==◌, not, ◌&&◌, filter, Option, Some, None, IfSome, IfNone}
+use Rattle.std.proofs.lemmas.Bool.Decides.{nat_tests}
+use Rattle.std.proofs.Common.{◌≡◌, ℕ, zero, suc, ◌+◌, ◌<◌, ◌≤◌, Bool, true, false, [], ◌∷◌, arith, refl, inl, inr, ◌⊎◌, rules}
+use Rattle.std.specs.Prelude.{◌==◌, not, ◌&&◌, filter, Some, None}
 use Rattle.std.specs.List.{range_with_len}
-use Rattle.std.proofs.lemmas.Bool.{cases_lt, cases_Bool, eq-eqb, ne_eqb, true≢false}
+use Rattle.std.proofs.lemmas.Bool.{cases_lt, cases_Bool, eq-eqb, ne_eqb}
 use Rattle.signals.specs.Sets.{has, bit, without, lowest, members}
-use Rattle.signals.specs.Laws.{IsSignal, IsLowest}
+use Rattle.signals.specs.Laws.{IsLowest}
 use Rattle.signals.proofs.Members.{members_after, lowest-some, lowest-none}
 
 -- two tests that agree on all the numbers let the same ones pass
 filter-same : (p q : ℕ → Bool) (from left : ℕ) → ((m : ℕ) → from ≤ m → m < from + left → q m ≡ p m) → filter p (range_with_len from left) ≡ filter q (range_with_len from left)
 filter-same p q from zero same = refl
-filter-same p q from (suc left) same =
-    rw (same from (omega arith) (omega arith))
-    (ap (λ xs. cond (p from) (from ∷ xs) xs) (filter-same p q (from + 1) left (λ m low high. same m (omega arith) (omega arith))))
+filter-same p q from (suc left) same = grind (arith, nat_tests, filter-same p q (from + 1) left (λ m low high. same m (omega arith) (omega arith)))
 
 -- a test that lets no number pass
 filter-none : (p : ℕ → Bool) (from left : ℕ) → ((m : ℕ) → from ≤ m → m < from + left → p m ≡ false) → filter p (range_with_len from left) ≡ []
 filter-none p from zero none = refl
-filter-none p from (suc left) none =
-    rw (none from (omega arith) (omega arith)) (filter-none p (from + 1) left (λ m low high. none m (omega arith) (omega arith)))
+filter-none p from (suc left) none = grind (arith, nat_tests, filter-none p (from + 1) left (λ m low high. none m (omega arith) (omega arith)))
 
 -- the first number that passes, and the others by the test that it fails
 filter-first : (p q : ℕ → Bool) (n from left : ℕ) → from ≤ n → n < from + left → p n ≡ true → ((m : ℕ) → from ≤ m → m < n → p m ≡ false)
     → ((m : ℕ) → from ≤ m → m < from + left → q m ≡ (p m && not (m == n))) → filter p (range_with_len from left) ≡ n ∷ filter q (range_with_len from left)
 filter-first p q n from zero low high passes before others = absurd (omega arith)
-filter-first p q n from (suc left) low high passes before others = by_place (cases_lt from n) (filter-first p q n (from + 1) left)
-  where
-    by_place : (from < n) ⊎ (n ≤ from)
-        → (from + 1 ≤ n → n < from + 1 + left → p n ≡ true → ((m : ℕ) → from + 1 ≤ m → m < n → p m ≡ false)
-        → ((m : ℕ) → from + 1 ≤ m → m < from + 1 + left → q m ≡ (p m && not (m == n))) → filter p (range_with_len (from + 1) left) ≡ n ∷ filter q (range_with_len (from + 1) left))
-        → filter p (range_with_len from (suc left)) ≡ n ∷ filter q (range_with_len from (suc left))
-    by_place (inl below) next =
-        let no : p from ≡ false = before from (omega arith) below in
-        let neither : q from ≡ false = others from (omega arith) (omega arith) ∙ ap (λ b. b && not (from == n)) no in
-        rw (no, neither) (next (omega arith) (omega arith) passes (λ m a b. before m (omega arith) b) (λ m a b. others m (omega arith) (omega arith)))
-    by_place (inr above) next =
-        let here : n ≡ from = omega arith in
-        let yes : p from ≡ true = ap p (sym here) ∙ passes in
-        let no : q from ≡ false = others from (omega arith) (omega arith) ∙ (ap (λ b. b && not (from == n)) yes ∙ ap (λ b. not b) (eq-eqb from n (sym here))) in
-        let rest : filter p (range_with_len (from + 1) left) ≡ filter q (range_with_len (from + 1) left) =
-        filter-same p q (from + 1) left (λ m a b. others m (omega arith) (omega arith) ∙ (ap (λ b. p m && not b) (ne_eqb m n (λ e. omega arith)) ∙ both (p m))) in
-        rw (yes, no) (ap (λ xs. from ∷ xs) rest ∙ ap (λ x. x ∷ filter q (range_with_len (from + 1) left)) (sym here))
-      where
-        both : (b : Bool) → (b && true) ≡ b
-        both true = refl
-        both false = refl
+filter-first p q n from (suc left) low high passes before others = search (rules, filter-first p q n (from + 1) left, cases_lt, eq-eqb, filter-same, ne_eqb)
 
 pub members-first : (set n : ℕ) → lowest set ≡ Some n → members set ≡ n ∷ members (without set (bit n))
 unfolding members

@@ -1,14 +1,13 @@
 -- A search over rising numbers, one number further.
+use Rattle.std.proofs.lemmas.Bool.Decides.{nat_tests}
 use Rattle.std.proofs.Common.{◌≡◌, ℕ, zero, suc, ◌+◌, ◌-◌, ◌<◌, Bool, true, false, arith, refl}
-use Rattle.std.specs.Prelude.{Option, Some, find}
+use Rattle.std.specs.Prelude.{Some, find}
 use Rattle.std.specs.List.{range_with_len}
 
 -- a number that doesn't pass is passed over
 pub find-over : (p : ℕ → Bool) (n left : ℕ) → 0 < left → p n ≡ false → find p (range_with_len n left) ≡ find p (range_with_len (n + 1) (left - 1))
 find-over p n zero some h = absurd (omega arith)
-find-over p n (suc left) some h =
-    let less : suc left - 1 ≡ left = omega arith in
-    rw less (rw h refl)
+find-over p n (suc left) some h = grind (arith, nat_tests)
 
 -- one that passes is the answer
 pub find-here : (p : ℕ → Bool) (n left : ℕ) → 0 < left → p n ≡ true → find p (range_with_len n left) ≡ Some n

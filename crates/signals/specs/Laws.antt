@@ -1,9 +1,9 @@
 -- What the tables and the sets of signals say, by signal.
-use Rattle.std.specs.Prelude.{ℕ, ◌≡◌, ◌<◌, ◌≤◌, Bool, true, false, not, ◌&&◌, ◌||◌, ◌==◌, IfSome, IfNone, map, List, [], ◌∷◌}
+use Rattle.std.specs.Prelude.{ℕ, ◌≡◌, ◌≤◌, true, not, ◌&&◌, ◌||◌, ◌==◌, List, [], ◌∷◌}
 use Rattle.std.specs.Int.RustNames.{bit_or}
-use Rattle.signals.specs.Sets.{has, bit, with, without, lowest, numbers}
+use Rattle.signals.specs.Sets.{has, bit, with, without}
 use Rattle.signals.specs.Table.{default_action}
-use Rattle.signals.specs.Names.{Row, table}
+use Rattle.signals.specs.Names.{Row}
 
 -- a signal's number
 abbrev pub IsSignal : ℕ → Type 0

@@ -1,4 +1,3 @@
-use Rattle.std.proofs.Common.{◌∙◌}
 use Rattle.signals.proofs.Bits.{difference-is}
 use Rattle.signals.proofs.SigSet.difference.Goals as goal
 

@@ -1,16 +1,13 @@
-use Rattle.std.proofs.Common.{◌≡◌, ◌+◌, ◌-◌, ℕ, Bool, true, false, arith, ap, sym, ◌∙◌}
+use Rattle.std.proofs.Common.{◌≡◌, ◌+◌, ◌-◌, ℕ, Bool, false, arith, ap, sym, ◌∙◌, rules}
 use Rattle.std.specs.Prelude.{nat_eq, find}
 use Rattle.std.specs.List.{range_with_len}
 use Rattle.std.specs.Cmp.Lexicographic.{pointwise}
-use Rattle.signals.specs.Names.{signal_name, by_name}
+use Rattle.signals.specs.Names.{signal_name}
 use Rattle.signals.proofs.Rising.{find-over, find-here}
 use Rattle.signals.proofs.Signal.by_name.Goals as goal
 
 pub returns-then-eq : goal.returns-then-eq
-returns-then-eq c =
-    let p : ℕ → Bool = λ n. pointwise nat_eq (signal_name n) c.args.name.now in
-    let same : p c.loop-number.number ≡ true = ap (λ text. pointwise nat_eq text c.args.name.now) (sym c.name.ensures) ∙ (sym c.eq.ensures ∙ c.if-eq.true) in
-    sym (c.loop-number.invariant.rest ∙ find-here p c.loop-number.number _ (omega arith) same)
+returns-then-eq c = search (rules, find-here)
 
 pub loop-number-preserved : goal.loop-number-preserved
 loop-number-preserved c =

@@ -1,4 +1,4 @@
-use Rattle.std.proofs.Common.{sym, ap, subst, ◌∙◌}
+use Rattle.std.proofs.Common.{sym, ap, subst, ◌∙◌, rules}
 use Rattle.slab.specs.Slab.{get as slot_get}
 use Rattle.lwp_table.specs.Lwps.{first_lwp}
 use Rattle.lwp_table.specs.Chain.{IsNearest, up, anywhere}
@@ -30,9 +30,7 @@ returns-clause-row c =
     sym (first-is_some f es c.self.inside.births c.self.invariant.indexed pid c.in_ok-slot.slot c.index.result.now c.index.ensures near) ∙ key ∙ seen
 
 pub returns-in_err-slot-clause-differ : goal.returns-in_err-slot-clause-differ
-returns-in_err-slot-clause-differ c =
-    differ-seen c.self.invariant.indexed (ap (λ v. v.rows) c.self.view_is)
+returns-in_err-slot-clause-differ c = search (rules, differ-seen)
 
 pub returns-clause-differ : goal.returns-clause-differ
-returns-clause-differ c =
-    differ-seen c.self.invariant.indexed (ap (λ v. v.rows) c.self.view_is)
+returns-clause-differ c = search (rules, differ-seen)

@@ -1,31 +1,16 @@
-use Rattle.std.proofs.Common.{sym, ap, ◌∙◌}
-use Rattle.slab.specs.Slab.{get as slot_get}
-use Rattle.lwp_table.specs.Lwps.{lwp_of}
-use Rattle.lwp_table.specs.Kept.{rows_of}
+use Rattle.std.proofs.Common.{rules}
 use Rattle.lwp_table.proofs.IndexLemmas.{lwp_of-absent, lwp_of-found}
 use Rattle.lwp_table.proofs.KeptLemmas.{differ-seen}
 use Rattle.lwp_table.proofs.table.LwpTable.get.Goals as goal
 
 pub returns-in_err-slot-clause-row : goal.returns-in_err-slot-clause-row
-returns-in_err-slot-clause-row c =
-    let f = slot_get c.self.inside.rows in
-    let es = c.self.inside.slots.entries in
-    let key = ap (λ n. lwp_of n (rows_of f es c.self.inside.births)) c.get.ensures.number in
-    let seen = ap (λ v. lwp_of c.args.tid v.rows) c.self.view_is in
-    c.from_residual.ensures ∙ sym (lwp_of-absent f es c.self.inside.births c.self.invariant.indexed c.get.result (sym c.in_err-slot.ensures.value)) ∙ key ∙ seen
+returns-in_err-slot-clause-row c = search (rules, lwp_of-absent)
 
 pub returns-clause-row : goal.returns-clause-row
-returns-clause-row c =
-    let f = slot_get c.self.inside.rows in
-    let es = c.self.inside.slots.entries in
-    let key = ap (λ n. lwp_of n (rows_of f es c.self.inside.births)) c.get.ensures.number in
-    let seen = ap (λ v. lwp_of c.args.tid v.rows) c.self.view_is in
-    sym (lwp_of-found f es c.self.inside.births c.self.invariant.indexed c.get.result c.in_ok-slot.field-0.now c.index.result.now (sym c.in_ok-slot.ensures.value) c.index.ensures).1 ∙ key ∙ seen
+returns-clause-row c = search (rules, lwp_of-found)
 
 pub returns-in_err-slot-clause-differ : goal.returns-in_err-slot-clause-differ
-returns-in_err-slot-clause-differ c =
-    differ-seen c.self.invariant.indexed (ap (λ v. v.rows) c.self.view_is)
+returns-in_err-slot-clause-differ c = search (rules, differ-seen)
 
 pub returns-clause-differ : goal.returns-clause-differ
-returns-clause-differ c =
-    differ-seen c.self.invariant.indexed (ap (λ v. v.rows) c.self.view_is)
+returns-clause-differ c = search (rules, differ-seen)

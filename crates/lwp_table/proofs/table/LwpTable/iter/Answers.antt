@@ -1,4 +1,4 @@
-use Rattle.std.proofs.Common.{sym, ap, ◌∙◌}
+use Rattle.std.proofs.Common.{rules}
 use Rattle.slab.specs.Slab.{get as slot_get}
 use Rattle.lwp_table.specs.Kept.{all_node}
 use Rattle.lwp_table.proofs.KeptLemmas.{differ-seen}
@@ -9,9 +9,7 @@ pub invariant_of-result : goal.invariant_of-result
 invariant_of-result c = IsWalk-first (slot_get c.self.inside.rows) c.self.inside.slots.entries c.self.inside.births all_node 0 c.self.inside.all.first c.self.inside.all.last c.self.invariant.indexed c.self.invariant.whole
 
 pub returns-clause-rows : goal.returns-clause-rows
-returns-clause-rows c =
-    sym (all-first (slot_get c.self.inside.rows) c.self.inside.slots.entries c.self.inside.births c.self.invariant.indexed c.self.inside.all.first c.self.invariant.whole.first_is) ∙ ap (λ v. v.rows) c.self.view_is
+returns-clause-rows c = search (rules, all-first)
 
 pub returns-clause-differ : goal.returns-clause-differ
-returns-clause-differ c =
-    differ-seen c.self.invariant.indexed (ap (λ v. v.rows) c.self.view_is)
+returns-clause-differ c = search (rules, differ-seen)

@@ -1,4 +1,4 @@
-use Rattle.std.proofs.Common.{sym, ap, subst, ◌∙◌, is_some}
+use Rattle.std.proofs.Common.{sym, ap, subst, ◌∙◌, is_some, rules}
 use Rattle.std.proofs.lemmas.Option.{same_Some}
 use Rattle.std.specs.Option.{option_map}
 use Rattle.slab.specs.Slab.{get as slot_get}
@@ -59,9 +59,7 @@ returns-clause-row c =
     sym (next-is_some f es c.self.inside.births c.self.invariant.indexed c.args.pid c.index-at.result.now c.in_ok-slot.slot c.index.result.now c.index-2.result.now c.index.ensures c.index-2.ensures near) ∙ number ∙ seen
 
 pub returns-in_err-slot-clause-differ : goal.returns-in_err-slot-clause-differ
-returns-in_err-slot-clause-differ c =
-    differ-seen c.self.invariant.indexed (ap (λ v. v.rows) c.self.view_is)
+returns-in_err-slot-clause-differ c = search (rules, differ-seen)
 
 pub returns-clause-differ : goal.returns-clause-differ
-returns-clause-differ c =
-    differ-seen c.self.invariant.indexed (ap (λ v. v.rows) c.self.view_is)
+returns-clause-differ c = search (rules, differ-seen)

@@ -1,4 +1,4 @@
-use Rattle.std.proofs.Common.{ap, ◌∙◌, arith, count_by, ◌==◌}
+use Rattle.std.proofs.Common.{ap, ◌∙◌, arith, count_by, ◌==◌, rules}
 use Rattle.slab.specs.Slab.{get as slot_get}
 use Rattle.lwp_table.specs.Kept.{rows_of}
 use Rattle.pid_blocks.specs.Blocks.{tid_owner}
@@ -13,5 +13,4 @@ returns-clause-count c =
     ∙ ap (λ v. count_by (λ l. tid_owner l.tid == c.args.uid) v.rows) c.self.view_is
 
 pub returns-clause-differ : goal.returns-clause-differ
-returns-clause-differ c =
-    differ-seen c.self.invariant.indexed (ap (λ v. v.rows) c.self.view_is)
+returns-clause-differ c = search (rules, differ-seen)

@@ -1,15 +1,12 @@
-use Rattle.std.proofs.Common.{sym, ap, subst, ◌∙◌, arith, length, refl}
+use Rattle.std.proofs.Common.{sym, ap, ◌∙◌, arith, length, refl}
+use Rattle.std.proofs.lemmas.Bool.Decides.{nat_tests}
 use Rattle.slab.specs.Slab.{get as slot_get}
-use Rattle.lwp_table.specs.Kept.{all_node, rows_from, IsWalk}
-use Rattle.lwp_table.proofs.WalkLemmas.{IsWalk-next, all-step}
+use Rattle.lwp_table.specs.Kept.{rows_from}
+use Rattle.lwp_table.proofs.WalkLemmas.{all-step}
 use Rattle.lwp_table.proofs.walks.IterIterator.next.Goals as goal
 
 pub invariant_of-self : goal.invariant_of-self
-invariant_of-self c =
-    let f = slot_get c.self.inside.rows.now in
-    let es = c.self.inside.slots.now.entries in
-    let walk = subst (IsWalk f es c.self.inside.births all_node 0) c.in_ok-self.was c.self.invariant in
-    IsWalk-next f es c.self.inside.births all_node 0 c.in_ok-self.field-0 c.index-slot.result.now walk c.index-slot.ensures
+invariant_of-self c = grind (arith, nat_tests)
 
 pub returns-clause-steps : goal.returns-clause-steps
 returns-clause-steps c =

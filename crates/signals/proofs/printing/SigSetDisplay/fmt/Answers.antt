@@ -1,14 +1,12 @@
-use Rattle.std.proofs.Common.{◌≡◌, ◌∷◌, [], ◌++◌, List, ℕ, ap, sym, ◌∙◌, rules, Some, None, append_assoc, append-nil, refl}
+use Rattle.std.proofs.Common.{◌≡◌, ◌∷◌, [], ◌++◌, List, ℕ, ap, sym, ◌∙◌, rules, append_assoc, append-nil, refl}
 use Rattle.std.proofs.Output.{has_written_append, has_written_of_eq}
 use Rattle.std.specs.Prelude.{decimal}
-use Rattle.signals.specs.Sets.{members, without, bit, lowest, set_text}
+use Rattle.signals.specs.Sets.{members, without, bit, set_text}
 use Rattle.signals.proofs.Text.{after, after-last, text-first, text-none}
 use Rattle.signals.proofs.printing.SigSetDisplay.fmt.Goals as goal
 
 pub returns-in_default-clause-writes : goal.returns-in_default-clause-writes
-returns-in_default-clause-writes g c = λ plain ok.
-    let gone : c.lowest.result ≡ None = search rules in
-    has_written_of_eq _ _ _ _ _ (text-none c.args.self.now (sym c.lowest.ensures ∙ gone)) (c.write_str.ensures.writes plain ok)
+returns-in_default-clause-writes g c = search (rules, has_written_of_eq, text-none)
 
 pub loop-signal-preserved : goal.loop-signal-preserved
 loop-signal-preserved g c =
