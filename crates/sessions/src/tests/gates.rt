@@ -21,10 +21,26 @@ struct Counts {
     words: [AtomicU64; 11],
 }
 
+fn zero() -> AtomicU64 {
+    AtomicU64::new(0)
+}
+
 impl Counts {
     fn new() -> Counts {
         Counts {
-            words: [const { AtomicU64::new(0) }; 11],
+            words: [
+                zero(),
+                zero(),
+                zero(),
+                zero(),
+                zero(),
+                zero(),
+                zero(),
+                zero(),
+                zero(),
+                zero(),
+                zero(),
+            ],
         }
     }
 
@@ -58,9 +74,9 @@ impl Meet {
         Meet {
             entered: Counts::new(),
             left: Counts::new(),
-            first: AtomicU64::new(0),
-            others: AtomicU64::new(0),
-            failed: AtomicU64::new(0),
+            first: zero(),
+            others: zero(),
+            failed: zero(),
         }
     }
 

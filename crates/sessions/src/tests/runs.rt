@@ -74,9 +74,13 @@ fn two_scripts_of_a_user_run_at_the_same_time(rt: HostRuntime) -> Result<(), Fai
         assert_eq!(rt; (transcript.uid, transcript.replies.len()), (user, 10));
     }
     for i in 0u32..20 {
-        let made = spawn_at(&ran.journal, i as usize).map(|(uid, _, reply)| (uid, Some(reply)));
-        let wanted = new_process(1000 + i, 100000 + i);
-        assert_eq!(rt; made, Some((user, wanted.as_ref())), "at {i}");
+        let wanted = new_process(1000 + i, 100000 + i).ok_or("number")?;
+        let made = spawn_at(&ran.journal, i as usize);
+        let script = match made {
+            Some((_, script, _)) => script,
+            None => 2,
+        };
+        assert_eq!(rt; made, Some((user, script, &wanted)), "at {i}");
     }
     Ok(())
 }
