@@ -212,6 +212,9 @@ class Builder:
 
 
 def main():
+    # also where the caller ignores interrupts, as a shell does for what it runs in the background
+    for number in (signal.SIGINT, signal.SIGTERM):
+        signal.signal(number, signal.default_int_handler)
     builder = Builder()
     builder.say(
         f"proving and building {len(builder.below)} crates, once, on {builder.lanes} processors; "
