@@ -20,6 +20,8 @@ TOP = os.path.dirname(os.path.dirname(os.path.realpath(__file__)))
 PROGRAM = "tracehost"
 # what one check is likely to take at most, in bytes
 MEMORY_OF_A_CHECK = 3_500_000_000
+# from so many processor seconds on, a crate that nothing else can be proved beside gets a second process
+LARGE = 90
 
 
 def crates_below(program):
@@ -159,12 +161,12 @@ class Builder:
         log = f"{TOP}/crates/{name}/out/build.log"
         if os.path.exists(log):
             os.remove(log)
-        well = self.is_proved(name) or self.call(name, ["check", "--jobs", str(jobs)])
-        if well and name == PROGRAM:
-            # a scenario of no steps prints nothing, so that this run builds and does no more
-            well = self.call(name, ["run"], b'{"steps":[]}')
-        elif well:
-            well = self.call(name, ["lib", "--jobs", str(jobs)])
+        if name == PROGRAM:
+            # a scenario of no steps prints nothing, so that this run proves and builds, and does no more
+            well = self.call(name, ["run", "--jobs", str(jobs)], b'{"steps":[]}')
+        else:
+            # a library is built only where it is proved
+            well = self.is_proved(name) or self.call(name, ["lib", "--jobs", str(jobs)])
         with self.lock:
             functions = self.running.pop(name)[1]
             if well:
@@ -188,13 +190,17 @@ class Builder:
         above = [it for it, uses in self.below.items() if name in uses]
         return self.weight[name] + max((self.chain(it) for it in above), default=0)
 
+    def jobs(self, name, at_once):
+        """Returns by how many processes a crate is proved: each reads all that the crate stands on, so a second pays for large ones alone."""
+        return 2 if at_once == 1 and self.lanes > 1 and self.weight[name] >= LARGE else 1
+
     def run(self):
         threads = []
         with self.lock:
             while len(self.done) < len(self.below) and not self.failed:
                 ready = sorted(self.ready(), key=self.chain, reverse=True)
                 for name in ready[: self.lanes - len(self.running)]:
-                    jobs = max(1, self.lanes // (len(self.running) + len(ready)))
+                    jobs = self.jobs(name, len(self.running) + len(ready))
                     self.running[name] = (0, 0)
                     thread = threading.Thread(target=self.prove, args=(name, jobs), daemon=True)
                     threads.append(thread)
