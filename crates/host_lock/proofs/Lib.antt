@@ -5,5 +5,4 @@ pub mod Turns
 pub mod Journey
 pub mod Openings
 pub mod Closings
-pub mod Two
 pub mod Crossing

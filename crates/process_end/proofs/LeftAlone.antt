@@ -13,11 +13,11 @@ use Rattle.proc_table.specs.Rows.{Rows, by_owner, is_numbered}
 use Rattle.proc_table.specs.Kept.{Rise}
 use Rattle.proc_table.proofs.Changes.{map-id, filter_map-map}
 use Rattle.trace_stop.specs.Detach.{reported, untraced, untraced_lwp, detached}
-use Rattle.trace_stop.specs.End.{left_alone}
+use Rattle.trace_stop.specs.End.{left_alone, lost_signals}
 use Rattle.trace_stop.specs.Facts.{Stands}
 use Rattle.process_end.specs.Laws.{traces_live}
 use Rattle.trace_stop.specs.Sound.{is_live_at}
-use Rattle.process_end.specs.Descent.{spares, lost_signals, IsLiveTracee}
+use Rattle.process_end.specs.Descent.{spares, IsLiveTracee}
 use Rattle.trace_stop.proofs.Every.{All-imply, All-any, any_forward, none_of}
 use Rattle.trace_stop.proofs.Passes.{passes, each_same, each_twice}
 use Rattle.trace_stop.proofs.Numbers.{the_row}

@@ -1,13 +1,11 @@
 -- The way down the tracees of a process that ends, where a debugger's end kills, and where it spares them.
-use Rattle.std.specs.Prelude.{◌≡◌, ℕ, Bool, true, false, ltb, ◌==◌, ◌&&◌, ◌||◌, Option, Some, None, is_some, if◌then◌else◌}
+use Rattle.std.specs.Prelude.{◌≡◌, ℕ, Bool, true, false, ltb, ◌==◌, ◌&&◌, ◌||◌, Option, Some, None}
 use Rattle.std.specs.List.{list_any}
-use Rattle.signals.specs.Sets.{bit}
-use Rattle.signals.specs.Table.{SIGTRAP}
 use Rattle.proc_table.specs.declared.ProcData.{ProcData}
-use Rattle.proc_table.specs.Processes.{is_live, traces, reporting}
+use Rattle.proc_table.specs.Processes.{is_live, traces}
 use Rattle.proc_table.specs.Rows.{Rows}
 use Rattle.trace_stop.specs.declared.Settings.{Settings}
-use Rattle.trace_stop.specs.End.{tracer_of, dooms}
+use Rattle.trace_stop.specs.End.{tracer_of, dooms, lost_signals}
 use Rattle.trace_stop.specs.Sound.{is_live_at}
 
 abbrev pub kills : Settings
@@ -16,11 +14,7 @@ kills = record { kill_on_debugger_exit = true }
 abbrev pub spares : Settings
 spares = record { kill_on_debugger_exit = false }
 
--- the signals that a tracee loses when its debugger ends: SIGTRAP, where it is in a trace stop
-abbrev pub lost_signals : ProcData → ℕ
-lost_signals p = if is_some (reporting p) then bit SIGTRAP else 0
-
--- the same of the row that a number finds
+-- the signals that the tracee whose row a number finds loses when its debugger ends
 abbrev pub lost_at : Option ProcData → ℕ
 lost_at None = 0
 lost_at (Some p) = lost_signals p

@@ -3,13 +3,13 @@
 ghost use Rattle.std.specs.Prelude.{◌≡◌, ℕ, ◌==◌, ◌||◌, true, false, MatchOption};
 ghost use Rattle.proc_table.specs.Processes.{process_of};
 ghost use Rattle.proc_table.specs.Rows.{is_numbered};
-ghost use Rattle.trace_stop.specs.End.{tracer_of, left_alone, end};
+ghost use Rattle.trace_stop.specs.End.{tracer_of, lost_signals, left_alone, end};
 ghost use Rattle.trace_stop.specs.Detach.{detached};
 ghost use Rattle.trace_stop.specs.Facts.{IsSound};
 ghost use Rattle.process_end.specs.Laws.{traces_live};
 ghost use Rattle.trace_stop.specs.Sound.{is_live_at};
 ghost use Rattle.trace_stop.specs.Sound.{is_end};
-ghost use Rattle.process_end.specs.Descent.{kills, spares, lost_signals, lost_at, traces_live_above, IsLiveTracee, EndsToo};
+ghost use Rattle.process_end.specs.Descent.{kills, spares, lost_at, traces_live_above, IsLiveTracee, EndsToo};
 
 use crate::leaf::end_leaf;
 use pid_blocks::Pid;

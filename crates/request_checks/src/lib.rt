@@ -12,6 +12,8 @@ mod posting;
 #[cfg(test)]
 mod script;
 #[cfg(test)]
+mod statuses;
+#[cfg(test)]
 mod tracing;
 #[cfg(test)]
 mod users;

@@ -5,8 +5,6 @@ mod job;
 mod ready;
 mod run;
 mod script;
-#[cfg(test)]
-mod tests;
 mod worker;
 mod workers;
 

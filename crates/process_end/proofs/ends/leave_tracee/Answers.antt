@@ -1,5 +1,6 @@
 use Rattle.std.proofs.Common.{ap, ◌∙◌}
-use Rattle.process_end.specs.Descent.{lost_signals, lost_at}
+use Rattle.trace_stop.specs.End.{lost_signals}
+use Rattle.process_end.specs.Descent.{lost_at}
 use Rattle.trace_stop.proofs.Found.{live_row}
 use Rattle.process_end.proofs.LeftAlone.{left_by}
 use Rattle.process_end.proofs.ends.leave_tracee.Goals as goal

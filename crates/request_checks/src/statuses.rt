@@ -1,0 +1,65 @@
+//! Status words of wait(2), each of 16 bits.
+
+use wait4::{Status, StatusKind};
+use signals::Signal;
+use std::alloc::Global;
+use std::test::Fail;
+
+/// What each word of 16 bits tells, by the words of all statuses.
+fn statuses_by_word(alloc: Global) -> Result<Vec<Option<StatusKind>>, Fail> {
+    let mut kinds = vec![in alloc; None; 65_536]?;
+    for code in 0..=255u8 {
+        write(&mut kinds, code as usize * 256, StatusKind::Exited(code));
+    }
+    for number in 1..=31u32 {
+        let signal = Signal::new(number)?;
+        write(
+            &mut kinds,
+            number as usize * 256 + 127,
+            StatusKind::Stopped(signal),
+        );
+        write(&mut kinds, number as usize, StatusKind::Signaled(signal));
+    }
+    write(&mut kinds, 19, StatusKind::Continued);
+    Ok(kinds)
+}
+
+fn write(kinds: &mut Vec<Option<StatusKind>>, place: usize, kind: StatusKind) {
+    if let Some(it) = kinds.get_mut(place) {
+        *it = Some(kind);
+    }
+}
+
+/// What the status with this word tells, if its word is this.
+fn kind_of(word: u32) -> Option<StatusKind> {
+    let status = Status::of_word(word)?;
+    (status.word() == word).then_some(status.kind())
+}
+
+#[test]
+fn status_of_each_word(rt: HostRuntime) -> Result<(), Fail> {
+    let kinds = statuses_by_word(rt.alloc())?;
+    assert_eq!(rt; kinds.iter().flatten().count(), 318);
+    for word in 0..65_536u32 {
+        let kind = kinds.get(word as usize).copied().flatten();
+        assert_eq!(rt; kind_of(word), kind, "of {word}");
+    }
+    Ok(())
+}
+
+#[test]
+fn words_of_wait(rt: HostRuntime) -> Result<(), Fail> {
+    assert_eq!(rt; Status::of_word(0), Some(Status::exited(0)));
+    assert_eq!(rt; Status::of_word(768), Some(Status::exited(3)));
+    assert_eq!(rt; Status::of_word(9), Status::signaled(Signal::new(9)?));
+    assert_eq!(rt; Status::of_word(19), Some(Status::continued()));
+    assert_eq!(rt;
+        Status::of_word(1407),
+        Some(Status::stopped(Signal::new(5)?))
+    );
+    for word in [32, 127, 128, 65_536, u32::MAX] {
+        assert_eq!(rt; Status::of_word(word), None, "of {word}");
+    }
+    assert_eq!(rt; Status::signaled(Signal::new(19)?), None);
+    Ok(())
+}

@@ -1,0 +1,77 @@
+use super::{SESSION, SPAWN_AND_LIST, handlers_by_policy};
+use scenario::{RunFault, RunOptions, parse, run, run_threads};
+use pid_blocks::Uid;
+use std::alloc::Global;
+use std::sync::Wait;
+use std::test::Fail;
+use std::thread::Threads;
+use stop_handlers::{ByPolicy, Handler};
+
+/// What the scenario writes, with a thread for each user or without.
+fn text_of<R: Threads + Wait + Sync + AllocGlobal>(
+    rt: &R,
+    text: &str,
+    user: Option<Uid>,
+    threads: bool,
+) -> Result<Vec<u8>, Fail> {
+    let alloc = rt.alloc();
+    let scenario = parse(alloc, text.as_bytes())?;
+    let handlers = handlers_by_policy(alloc, &scenario)?;
+    let options = RunOptions { user };
+    let mut writer = Vec::new(alloc);
+    if threads {
+        run_threads(rt, alloc, &scenario, handlers, options, &mut writer)?;
+    } else {
+        run(alloc, &scenario, handlers, options, &mut writer)?;
+    }
+    Ok(writer)
+}
+
+#[test]
+fn lines_by_user(rt: HostRuntime) -> Result<(), Fail> {
+    let first = "1001 1 new 1000 100000\n1001 2 new 1001 100001\n1001 3 pids 1000 1001\n";
+    let second = "1002 1 new 2000 104000\n";
+    let both =
+        "1001 1 new 1000 100000\n1001 2 new 1001 100001\n1001 3 pids 1000 1001\n1002 1 new 2000 104000\n";
+    for (user, want) in [
+        (None, both),
+        (Some(Uid::new(1001)?), first),
+        (Some(Uid::new(1002)?), second),
+        (Some(Uid::new(1003)?), ""),
+    ] {
+        let found = text_of(&rt, SPAWN_AND_LIST, user, true)?;
+        assert!(rt; found.as_slice() == want.as_bytes());
+    }
+    Ok(())
+}
+
+#[test]
+fn no_steps(rt: HostRuntime) -> Result<(), Fail> {
+    assert!(rt; text_of(&rt, "{\"steps\":[]}", None, true)?.is_empty());
+    Ok(())
+}
+
+#[test]
+fn each_user_gets_the_same(rt: HostRuntime) -> Result<(), Fail> {
+    for user in [1001, 1002] {
+        let user = Some(Uid::new(user)?);
+        let alone = text_of(&rt, SESSION, user, false)?;
+        let beside = text_of(&rt, SESSION, user, true)?;
+        assert!(rt; !alone.is_empty());
+        assert!(rt; alone.as_slice() == beside.as_slice());
+    }
+    Ok(())
+}
+
+#[test]
+fn handlers_of_others(rt: HostRuntime) -> Result<(), Fail> {
+    let alloc = rt.alloc();
+    let scenario = parse(alloc, SESSION.as_bytes())?;
+    let none: Vec<Handler<ByPolicy>> = Vec::new(alloc);
+    let mut writer = Vec::new(alloc);
+    let options = RunOptions { user: None };
+    let ended = run_threads(&rt, alloc, &scenario, none, options, &mut writer).err();
+    assert_eq!(rt; ended, Some(RunFault::Mismatch));
+    assert!(rt; writer.is_empty());
+    Ok(())
+}

@@ -1,0 +1,7 @@
+//! Tests of sessions on a shared host, in a crate of their own, so that those that they test are proved once.
+#![tactic(auto)]
+
+#[cfg(test)]
+mod session_runs;
+#[cfg(test)]
+mod shared_host;

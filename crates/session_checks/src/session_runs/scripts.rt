@@ -1,0 +1,83 @@
+//! Scripts of spawns, and what they are answered.
+
+ghost use Rattle.std.specs.Prelude.{◌<◌, ◌≤◌, IfSome, All};
+ghost use Rattle.sessions.specs.Runs.{IsShort};
+
+use sessions::{Script, Transcript};
+use host_lock::{Journal, MOST_CALLS};
+use pid_blocks::{Pid, Tid, Uid};
+use requests::{Host, PlainStep, Reply, Step};
+use std::alloc::Global;
+use std::process::Abort;
+use stop_handlers::ByPolicy;
+use trace_stop::Settings;
+
+/// A host that nobody has used. None where memory ran out.
+pub fn new_host(alloc: Global) -> Option<Host<ByPolicy>> {
+    Host::<ByPolicy>::new(alloc, Settings::standard()).ok()
+}
+
+/// So many spawns of the user.
+fn spawn_often(alloc: Global, uid: Uid, count: u32) -> Option<Script<ByPolicy>>
+    ensures { IfSome result (λ s. IsShort s) }
+{
+    let mut steps = Vec::new(alloc);
+    for _ in 0..count {
+        steps.push(Step::Spawn).ok()?;
+    }
+    if steps.len() > MOST_CALLS as usize {
+        return None;
+    }
+    Some(Script { uid, steps })
+}
+
+/// A script of so many spawns for each of the users.
+pub fn spawn_each(alloc: Global, users: &[Uid], count: u32) -> Option<Vec<Script<ByPolicy>>>
+    ensures { IfSome result (λ v. All IsShort v.items) }
+{
+    let mut scripts = Vec::new(alloc);
+    for uid in users {
+        scripts.push(spawn_often(alloc, *uid, count)?).ok()?;
+    }
+    Some(scripts)
+}
+
+/// The reply to a spawn. None where no user has such numbers.
+pub fn new_process(pid: u32, tid: u32) -> Option<Reply> {
+    let pid = Pid::new(pid)?;
+    let tid = Tid::new(tid)?;
+    Some(Reply::New { pid, tid })
+}
+
+/// The transcripts are of so many users from 1001 on, each with so many spawns of the user's first numbers.
+pub fn are_own<R: Abort>(rt: &R, transcripts: &[Transcript], users: u32, count: u32)
+    requires { (users ≤ 64) × (count < 65000) }
+{
+    assert_eq!(rt; transcripts.len(), users as usize);
+    for slot in 0..users {
+        let Some(transcript) = transcripts.get(slot as usize) else {
+            panic!(rt; "no transcript at {slot}");
+        };
+        assert_eq!(rt;
+            (transcript.uid.get(), transcript.replies.len()),
+            (1001 + slot, count as usize)
+        );
+        for i in 0..count {
+            let wanted = new_process(1000 + 1000 * slot + i, 100000 + 4000 * slot + i);
+            assert_eq!(rt;
+                transcript.replies.get(i as usize),
+                wanted.as_ref(),
+                "at {i}"
+            );
+        }
+    }
+}
+
+/// The entry at the place is a spawn: its user, its session and the reply.
+pub fn spawn_at(journal: &Journal, place: usize) -> Option<(Uid, usize, &Reply)> {
+    let entry = journal.get(place)?;
+    if entry.step != PlainStep::Spawn {
+        return None;
+    }
+    Some((entry.uid, entry.session, &entry.reply))
+}

@@ -1,0 +1,165 @@
+//! Two sessions on one host.
+
+ghost use Rattle.std.specs.Prelude.{◌≡◌, [], ◌∷◌, IfSome};
+ghost use Rattle.host_lock.specs.Sessions.{IsOf, IsSame};
+
+use host_lock::{Answer, CloseRefusal, Journal, Session, SharedHost};
+use pid_blocks::{Pid, Tid, Uid};
+use requests::{Host, Reply, Step};
+use std::alloc::Global;
+use std::sync::Wait;
+use std::thread::{Threads, join};
+use stop_handlers::{ByPolicy, Handler};
+
+/// The reply to a spawn. None where no user has such numbers.
+pub fn new_process(pid: u32, tid: u32) -> Option<Reply> {
+    let pid = Pid::new(pid)?;
+    let tid = Tid::new(tid)?;
+    Some(Reply::New { pid, tid })
+}
+
+/// One call of the session. None where it has made all its calls.
+pub fn ask<R: Wait>(
+    rt: &R,
+    alloc: Global,
+    host: &SharedHost<ByPolicy>,
+    session: &mut Session,
+    step: Step<Handler<ByPolicy>>,
+) -> Option<Reply>
+    requires { IsOf host.now session.old }
+    ensures { IsSame session.old session.new }
+{
+    match host.call(rt, alloc, session, step) {
+        Answer::Reply(reply) => Some(reply),
+        Answer::Spent => None,
+    }
+}
+
+/// The host, shared by a session of each of the users.
+pub fn open_two(
+    alloc: Global,
+    host: Host<ByPolicy>,
+    first: Uid,
+    second: Uid,
+) -> Option<(SharedHost<ByPolicy>, Session, Session)>
+    ensures first { IfSome result (λ r. IsOf r.0 r.1) }
+    ensures second { IfSome result (λ r. IsOf r.0 r.2) }
+{
+    let Ok((host, mut sessions)) = SharedHost::open(alloc, host, &[first, second]) else {
+        return None;
+    };
+    let second = sessions.pop()?;
+    let first = sessions.pop()?;
+    Some((host, first, second))
+}
+
+fn both(alloc: Global, first: Session, second: Session) -> Option<Vec<Session>>
+    ensures { IfSome result (λ v. v.items ≡ first ∷ second ∷ []) }
+{
+    let mut sessions = Vec::new(alloc);
+    sessions.push(first).ok()?;
+    sessions.push(second).ok()?;
+    Some(sessions)
+}
+
+/// The host and the journal, once both are handed in.
+pub fn close_two(
+    alloc: Global,
+    host: SharedHost<ByPolicy>,
+    first: Session,
+    second: Session,
+) -> Option<(Host<ByPolicy>, Journal)>
+    requires first { IsOf host first }
+    requires second { IsOf host second }
+{
+    let sessions = both(alloc, first, second)?;
+    host.close(sessions).ok()
+}
+
+fn alone(alloc: Global, session: Session) -> Option<Vec<Session>>
+    ensures { IfSome result (λ v. v.items ≡ session ∷ []) }
+{
+    let mut sessions = Vec::new(alloc);
+    sessions.push(session).ok()?;
+    Some(sessions)
+}
+
+/// The host, and one of its two sessions, once this session is handed in alone.
+pub fn close_one(
+    alloc: Global,
+    host: SharedHost<ByPolicy>,
+    session: Session,
+) -> Option<(SharedHost<ByPolicy>, Session)>
+    requires { IsOf host session }
+    ensures { IfSome result (λ r. (r.0 ≡ host) × (r.1 ≡ session)) }
+{
+    let sessions = alone(alloc, session)?;
+    let Err(CloseRefusal::Missing(host, mut sessions)) = host.close(sessions) else {
+        return None;
+    };
+    if sessions.len() > 1 {
+        return None;
+    }
+    Some((host, sessions.pop()?))
+}
+
+/// A session after its steps, with the replies.
+#[derive(Drop)]
+pub struct Worked {
+    pub session: Session,
+    pub replies: Vec<Reply>,
+}
+
+/// Makes the steps. None where memory or the calls ran out.
+fn work<R: Wait>(
+    rt: &R,
+    alloc: Global,
+    host: &SharedHost<ByPolicy>,
+    mut session: Session,
+    steps: Vec<Step<Handler<ByPolicy>>>,
+) -> Option<Worked>
+    requires { IsOf host.now session }
+    ensures { IfSome result (λ w. IsOf host.now w.session) }
+{
+    let mut replies = Vec::new(alloc);
+    for step in steps {
+        let reply = ask(rt, alloc, host, &mut session, step)?;
+        replies.push(reply).ok()?;
+    }
+    Some(Worked { session, replies })
+}
+
+/// Makes the steps of two sessions, each in a thread of its own.
+pub fn work_beside<R: Threads + Wait + Sync>(
+    rt: &R,
+    alloc: Global,
+    host: &SharedHost<ByPolicy>,
+    first: (Session, Vec<Step<Handler<ByPolicy>>>),
+    second: (Session, Vec<Step<Handler<ByPolicy>>>),
+) -> (Option<Worked>, Option<Worked>)
+    requires first { IsOf host.now first.0 }
+    requires second { IsOf host.now second.0 }
+    ensures first { IfSome result.0 (λ w. IsOf host.now w.session) }
+    ensures second { IfSome result.1 (λ w. IsOf host.now w.session) }
+{
+    join(
+        rt,
+        || -> Option<Worked>
+            requires { IsOf host.now first.0 }
+            ensures { IfSome result (λ w. IsOf host.entry.now w.session) }
+        { work(rt, alloc, host, first.0, first.1) },
+        || -> Option<Worked>
+            requires { IsOf host.now second.0 }
+            ensures { IfSome result (λ w. IsOf host.entry.now w.session) }
+        { work(rt, alloc, host, second.0, second.1) },
+    )
+}
+
+/// A hundred spawns.
+pub fn spawn_hundred(alloc: Global) -> Option<Vec<Step<Handler<ByPolicy>>>> {
+    let mut steps = Vec::new(alloc);
+    for _ in 0u32..100 {
+        steps.push(Step::Spawn).ok()?;
+    }
+    Some(steps)
+}

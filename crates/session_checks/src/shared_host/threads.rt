@@ -1,0 +1,252 @@
+//! Two users, each in a thread of its own: spawns, and a debugger with its handler.
+
+ghost use Rattle.std.specs.Prelude.{◌<◌};
+
+use super::pairs::{close_two, new_process, open_two, spawn_hundred, work_beside};
+use host_lock::Journal;
+use event_masks::{Call, EventMask, StopFlags};
+use pid_blocks::{Errno, Pid, Tid, Uid};
+use requests::{Act, Host, PlainStep, Reply, Request, Step};
+use signals::{Pass, Signal};
+use std::alloc::Global;
+use std::process::Abort;
+use std::test::Fail;
+use stop_handlers::{ByPolicy, Decision, Handler, Policy, Rule, StopView};
+use trace_stop::Settings;
+use wait4::{Options, Status};
+
+/// The replies are to a hundred spawns, with the numbers from these on.
+fn are_hundred<R: Abort>(rt: &R, replies: &[Reply], pid: u32, tid: u32)
+    requires { (pid < 65000) × (tid < 356000) }
+{
+    assert_eq!(rt; replies.len(), 100);
+    for i in 0u32..100 {
+        let wanted = new_process(pid + i, tid + i);
+        assert_eq!(rt; replies.get(i as usize), wanted.as_ref(), "at {i}");
+    }
+}
+
+/// The session's entries are the user's, and a hundred spawns, with the numbers from these on.
+fn are_entries<R: Abort>(rt: &R, journal: &Journal, session: usize, user: Uid, first: (u32, u32)) {
+    let mut count = 0u32;
+    for place in 0..journal.len() {
+        if let Some(entry) = journal.get(place) {
+            if entry.session == session {
+                let wanted = new_process(
+                    first.0.saturating_add(count),
+                    first.1.saturating_add(count),
+                );
+                assert_eq!(rt;
+                    (entry.uid, entry.step),
+                    (user, PlainStep::Spawn),
+                    "at {place}"
+                );
+                assert_eq!(rt; Some(&entry.reply), wanted.as_ref(), "at {place}");
+                count = count.saturating_add(1);
+            }
+        }
+    }
+    assert_eq!(rt; count, 100);
+}
+
+#[test]
+fn two_threads_spawn(rt: HostRuntime) -> Result<(), Fail> {
+    let alloc = rt.alloc();
+    let (one, other) = (Uid::new(1001)?, Uid::new(1002)?);
+    let host = Host::<ByPolicy>::new(alloc, Settings::standard())?;
+    let (host, first, second) = open_two(alloc, host, one, other).ok_or("open")?;
+    let mine = spawn_hundred(alloc).ok_or("memory")?;
+    let theirs = spawn_hundred(alloc).ok_or("memory")?;
+    let (first, second) = work_beside(&rt, alloc, &host, (first, mine), (second, theirs));
+    let (first, second) = (first.ok_or("first")?, second.ok_or("second")?);
+    are_hundred(&rt, first.replies.as_slice(), 1000, 100000);
+    are_hundred(&rt, second.replies.as_slice(), 2000, 104000);
+    let (_host, journal) = close_two(alloc, host, first.session, second.session).ok_or("close")?;
+    assert_eq!(rt; journal.len(), 200);
+    are_entries(&rt, &journal, 0, one, (1000, 100000));
+    are_entries(&rt, &journal, 1, other, (2000, 104000));
+    Ok(())
+}
+
+/// A rule for a signal, and stops with at least these flags.
+fn rule(signal: Signal, flags: StopFlags, decision: Decision) -> Rule {
+    Rule {
+        signal: Some(signal),
+        flags,
+        decision,
+    }
+}
+
+/// Goes on at a fork, detaches at SIGUSR1 and kills at another SIGTRAP.
+fn make_handler(none: Pass) -> Result<Handler<ByPolicy>, Fail> {
+    let (trap, usr) = (Signal::new(5)?, Signal::new(30)?);
+    let policy = Policy::new(&[
+        rule(trap, StopFlags::PL_FLAG_FORKED, Decision::Continue(none)),
+        rule(usr, StopFlags(0), Decision::Detach(none)),
+        rule(trap, StopFlags(0), Decision::Kill),
+    ])?;
+    Ok(Handler::new(policy, ByPolicy(policy)))
+}
+
+fn command(request: Request, target: u32, data: u32) -> Step<Handler<ByPolicy>> {
+    Step::Ptrace {
+        caller: 1000,
+        request,
+        target,
+        data,
+    }
+}
+
+fn turn(act: Act) -> Step<Handler<ByPolicy>> {
+    Step::Turn { tid: 100001, act }
+}
+
+fn handle() -> Step<Handler<ByPolicy>> {
+    Step::Handle { caller: 1000 }
+}
+
+/// The debugger's steps: its tracee forks and gets a signal, and its handler is asked about each stop.
+fn debug(alloc: Global, handler: Handler<ByPolicy>) -> Option<Vec<Step<Handler<ByPolicy>>>> {
+    let (untraced, continued) = (false, false);
+    let wait = Step::Wait4 {
+        caller: 1000,
+        which: -1,
+        options: Options {
+            untraced,
+            continued,
+        },
+    };
+    let install = Step::Install {
+        caller: 1000,
+        handler,
+    };
+    let kill = Step::Kill {
+        caller: 1000,
+        which: 1001,
+        sig: 30,
+    };
+    let steps = vec![in alloc;
+        command(Request::Attach, 1001, 0),
+        wait,
+        command(Request::SetEventMask, 1001, EventMask::PTRACE_FORK.0),
+        install,
+        command(Request::Continue, 1001, 0),
+        turn(Act::Enter(Call::Fork)),
+        turn(Act::Leave),
+        handle(),
+        handle(),
+        kill,
+        turn(Act::Compute),
+        handle(),
+        command(Request::Continue, 1001, 0),
+        command(Request::Continue, 1002, 0),
+        handle(),
+    ];
+    steps.ok()
+}
+
+/// A stop that a handler was asked about: the process and its status word, then the LWP, the signal, the flags, the child and the code
+/// that the handler is shown.
+fn handled(
+    (pid, word): (u32, u32),
+    view: [u32; 5],
+    index: Option<u32>,
+    decision: Decision,
+) -> Option<Reply> {
+    let pid = Pid::new(pid)?;
+    let [tid, sig, flags, child, code] = view;
+    Some(Reply::Handled {
+        pid,
+        status: Status::of_word(word)?,
+        view: StopView {
+            pid,
+            tid: Tid::new(tid)?,
+            sig: Signal::new(sig).ok()?,
+            flags: StopFlags(flags),
+            child,
+            code,
+        },
+        index,
+        decision,
+    })
+}
+
+/// The LWP of the tracee stopped.
+fn stopped(sig: u32, flags: u32) -> Option<Reply> {
+    Some(Reply::Stopped {
+        tid: Tid::new(100001)?,
+        sig: Signal::new(sig).ok()?,
+        flags: StopFlags(flags),
+    })
+}
+
+fn reported(pid: u32, word: u32) -> Option<Reply> {
+    Some(Reply::Status {
+        pid: Pid::new(pid)?,
+        status: Status::of_word(word)?,
+    })
+}
+
+/// What the debugger is answered. The stop flags are PL_FLAG_SCX and PL_FLAG_FORKED, then PL_FLAG_SCX and PL_FLAG_CHILD.
+fn debugged(none: Pass) -> [Option<Reply>; 15] {
+    let forked = [100001, 5, 10, 1002, 2];
+    let born = [100002, 17, 18, 0, 2];
+    let signalled = [100001, 30, 0, 0, 0];
+    [
+        Some(Reply::Done),
+        reported(1001, 4479),
+        Some(Reply::Done),
+        Some(Reply::Done),
+        Some(Reply::Done),
+        Some(Reply::Done),
+        stopped(5, 10),
+        handled((1001, 1407), forked, Some(0), Decision::Continue(none)),
+        handled((1002, 4479), born, None, Decision::Decline),
+        Some(Reply::Done),
+        stopped(30, 0),
+        handled((1001, 7807), signalled, Some(0), Decision::Detach(none)),
+        Some(Reply::Errno(Errno::EPERM)),
+        Some(Reply::Done),
+        Some(Reply::Nothing),
+    ]
+}
+
+/// Two processes of the first user, one of the second between them.
+fn spawn_three<R: Abort>(rt: &R, alloc: Global, host: &mut Host<ByPolicy>, one: Uid, other: Uid) {
+    for (user, pid, tid) in [
+        (one, 1000, 100000),
+        (other, 2000, 104000),
+        (one, 1001, 100001),
+    ] {
+        let reply = host.step(alloc, user, Step::Spawn);
+        assert_eq!(rt; Some(reply), new_process(pid, tid));
+    }
+}
+
+#[test]
+fn a_debugger_works_beside_another_user(rt: HostRuntime) -> Result<(), Fail> {
+    let alloc = rt.alloc();
+    let (one, other) = (Uid::new(1001)?, Uid::new(1002)?);
+    let none = Pass::new(0)?;
+    let mut host = Host::<ByPolicy>::new(alloc, Settings::standard())?;
+    spawn_three(&rt, alloc, &mut host, one, other);
+    let (host, first, second) = open_two(alloc, host, one, other).ok_or("open")?;
+    let mine = debug(alloc, make_handler(none)?).ok_or("memory")?;
+    let theirs = spawn_hundred(alloc).ok_or("memory")?;
+    let (first, second) = work_beside(&rt, alloc, &host, (first, mine), (second, theirs));
+    let (first, second) = (first.ok_or("first")?, second.ok_or("second")?);
+    let wanted = debugged(none);
+    assert_eq!(rt; first.replies.len(), wanted.len());
+    for (place, reply) in first.replies.iter().enumerate() {
+        let found = wanted
+            .as_slice()
+            .get(place)
+            .and_then(|wanted| wanted.as_ref());
+        assert_eq!(rt; Some(reply), found, "at {place}");
+    }
+    are_hundred(&rt, second.replies.as_slice(), 2001, 104001);
+    let (_host, journal) = close_two(alloc, host, first.session, second.session).ok_or("close")?;
+    assert_eq!(rt; journal.len(), 115);
+    are_entries(&rt, &journal, 1, other, (2001, 104001));
+    Ok(())
+}
