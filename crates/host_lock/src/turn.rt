@@ -1,5 +1,5 @@
 //! One call, as steps on the table.
-ghost use Rattle.std.specs.Prelude.{◌≡◌, ℕ, ◌+◌, ◌-◌, ◌*◌, ◌<◌, ◌≤◌, [], ◌∷◌, ◌++◌, true, false, MatchBool};
+ghost use Rattle.std.specs.Prelude.{◌≡◌, ℕ, ◌+◌, ◌-◌, ◌*◌, ◌%◌, ◌^◌, ◌<◌, ◌≤◌, [], ◌∷◌, ◌++◌, true, false, MatchBool};
 ghost use Rattle.host_lock.specs.Views.{Idle, Waiting, Holding, Counted};
 ghost use Rattle.host_lock.specs.declared.view.Slot.TheVariants.{There, Away};
 ghost use Rattle.host_lock.specs.History.{history};
@@ -15,12 +15,15 @@ use std::alloc::Global;
 use std::sync::Wait;
 use stop_handlers::{Decider, Handler};
 
-/// The part of a number that a sleep on a word looks at.
-fn low_half(number: u64) -> u32 {
-    (number & 0xffff_ffff) as u32
+/// What a sleep on a word looks at of its number: the low 32 bits.
+fn low_half(number: u64) -> u32
+    ensures { result ≡ number % 2 ^ 32 }
+{
+    (number % 4294967296) as u32
 }
 
-/// Waits until the ticket is served. Where it isn't, it sleeps while serving is the number that was found, so that no wake is lost.
+/// Waits until the ticket is served. The lock that is held during a call mostly sees to it that it is at the first look. Where it isn't,
+/// the thread sleeps while serving is what was found, so that a wake after the look is not lost.
 pub(crate) fn take_turn<F: Decider + Send + Drop, R: Wait>(
     rt: &R,
     table: &SharedTable<F>,
@@ -60,7 +63,7 @@ pub(crate) fn count_up<F: Decider + Send + Drop>(
     table.fetch_add::<Count>(seat, 2, 1);
 }
 
-/// Puts the host back, lets the next one in, and wakes it where it has drawn its ticket.
+/// Puts the host back, and serves the next ticket. Wakes who waits, if a further ticket was drawn.
 pub(crate) fn give_back<F: Decider + Send + Drop>(
     table: &SharedTable<F>,
     seat: &mut HostSeat<F>,
