@@ -1,14 +1,19 @@
 #!/usr/bin/env python3
-"""Times the program with a thread for each user beside its plain run, on scenarios of 2, 8 and 64 users that have as many steps in all.
+"""Times the program with a thread for each user beside its plain run, on a machine that has nothing else to do and on one that is busy.
 
-    python3 bench/threads.py [PROGRAM] [--runs N]
+    python3 bench/threads.py [PROGRAM] [--runs N] [--steps N] [--busy N]
 
-PROGRAM is the built program (default: crates/tracehost/out/tracehost, which ./tracehost builds). Each scenario is made by a fixed rule, the steps of its users in turn; where one of 60,000 steps is longer than the program reads, all of that length have as many as fit into the longest. In each of N rounds (default 7) each scenario is run plain and with --threads, one right after the other. Printed are the best wall time and the best processor time of each (in user and system mode, of all threads), and how many times that of the plain run --threads takes: the middle one of the N rounds' ratios. Before it is timed, each scenario's lines with --threads are compared with the plain run's, grouped by rising user: status 1 where they differ.
+PROGRAM is the built program (default: crates/tracehost/out/tracehost, which ./tracehost builds). Scenarios of 2, 6, 9, 16, 33 and 64 users have as many steps in all (default 20,000), in three shapes: `even`, the users in turn; `half`, where one user makes half of the steps; `random`, where each step is a user's by chance, some users' more often than others', lists among them. Each is made by a fixed rule.
+
+Each scenario is run N times (default 20) plain and with --threads, one right after the other: first as the machine is, then beside busy loops (default: twice as many as there are processors). Printed are wall times in seconds and how many times the middle plain run's time the middle and the longest run with --threads took.
+
+Before anything is timed, each scenario's lines with --threads are compared with the plain run's, grouped by rising user. Status 1 where they differ, or where a bound is passed: beside the busy loops 3 for the middle run and 10 for the longest; else 2 for the middle run of 64 users.
 """
 
 import argparse
+import contextlib
 import os
-import resource
+import random
 import statistics
 import subprocess
 import sys
@@ -17,26 +22,40 @@ import time
 
 import steps
 
-LENGTHS = (20000, 60000)
-COUNTS = (2, 8, 64)
+COUNTS = (2, 6, 9, 16, 33, 64)
+MAKES = (steps.attach_cycles, steps.forks_and_exits, steps.threads, steps.chains_that_end)
 
 
-def mixed(users, length):
-    """Steps of the first users in turn: cycles of attaches, forks, threads, and debuggers that end."""
-    makes = [steps.attach_cycles, steps.forks_and_exits, steps.threads, steps.chains_that_end]
-    sources = [makes[user % 4](user) for user in steps.USERS[:users]]
-    return [next(sources[n % users]) for n in range(length)]
+def sources_of(users):
+    """Each user's steps without end: cycles of attaches, forks, threads, and debuggers that end."""
+    return [MAKES[user % 4](user) for user in users]
 
 
-def scenarios(room):
-    """The files of the scenarios, with the number of users and of steps. All of a length have the same number of steps."""
-    for length in LENGTHS:
-        file = os.path.join(room, 'longest.json')
-        count = min(steps.write(mixed(users, length), file) for users in COUNTS)
-        for users in COUNTS:
-            file = os.path.join(room, f'{users}-{length}.json')
-            steps.write(mixed(users, count), file)
-            yield users, count, file
+def even(users, length):
+    """The users' steps in turn."""
+    sources = sources_of(users)
+    return [next(sources[n % len(users)]) for n in range(length)]
+
+
+def half(users, length):
+    """Every other step is the first user's, the others are the other users' in turn."""
+    first, *others = sources_of(users)
+    return [next(others[n // 2 % len(others)] if n % 2 else first) for n in range(length)]
+
+
+def chance(users, length):
+    """Each step is a user's by chance. A tenth of them are lists."""
+    dice = random.Random(len(users))
+    sources = sources_of(users)
+    weights = [dice.random() for _ in users]
+    turns = dice.choices(range(len(users)), weights, k=length)
+    return [
+        {'user': users[n], 'op': 'list', 'caller': steps.first_pid(users[n])} if dice.random() < 0.1 else next(sources[n])
+        for n in turns
+    ]
+
+
+SHAPES = {'even': even, 'half': half, 'random': chance}
 
 
 def grouped(text):
@@ -55,48 +74,69 @@ def lines(program, *words):
 
 
 def timed(program, *words):
-    """The wall time and the processor time of one run, in seconds."""
-    before = resource.getrusage(resource.RUSAGE_CHILDREN)
+    """The wall time of one run, in seconds."""
     began = time.perf_counter()
     subprocess.run([program, *words], stdout=subprocess.DEVNULL, check=True)
-    wall = time.perf_counter() - began
-    after = resource.getrusage(resource.RUSAGE_CHILDREN)
-    return wall, after.ru_utime - before.ru_utime + after.ru_stime - before.ru_stime
+    return time.perf_counter() - began
 
 
-def columns(plain, threads):
-    """The best time of each, and the middle ratio of the rounds, for wall and for processor times."""
-    for ones, manys in zip(zip(*plain), zip(*threads)):
-        ratio = statistics.median(many / one for one, many in zip(ones, manys))
-        yield f' {min(ones):8.3f} {min(manys):8.3f} {ratio:8.2f}'
+@contextlib.contextmanager
+def busy(loops):
+    """So many busy loops run at the same time."""
+    running = [subprocess.Popen([sys.executable, '-c', 'while True: pass']) for _ in range(loops)]
+    try:
+        yield
+    finally:
+        for loop in running:
+            loop.kill()
+            loop.wait()
+
+
+def measure(program, made, runs, loops):
+    """A line for each scenario. Answers how many passed a bound."""
+    passed = 0
+    print(f'\nbeside {loops} busy loops' if loops else '\nas the machine is')
+    print(f'{"shape":8} {"users":>5} {"plain: middle":>13} {"longest":>8} {"threads: middle":>15} {"longest":>8} {"times: middle":>13} {"longest":>8}')
+    for shape, users, file in made:
+        pairs = [(timed(program, file), timed(program, '--threads', file)) for _ in range(runs)]
+        plain, threads = zip(*pairs)
+        middle = statistics.median(plain)
+        usual, longest = statistics.median(threads) / middle, max(threads) / middle
+        beyond = usual > 3 or longest > 10 if loops else users == 64 and usual > 2
+        passed += beyond
+        print(
+            f'{shape:8} {users:5} {middle:13.3f} {max(plain):8.3f} {statistics.median(threads):15.3f} {max(threads):8.3f} {usual:13.2f} {longest:8.2f}'
+            + ('  FAILED' if beyond else ''),
+            flush=True,
+        )
+    return passed
 
 
 def main():
     parser = argparse.ArgumentParser()
     top = os.path.join(os.path.dirname(os.path.abspath(__file__)), '..')
     parser.add_argument('program', nargs='?', default=os.path.join(top, 'crates/tracehost/out/tracehost'))
-    parser.add_argument('--runs', type=int, default=7)
+    parser.add_argument('--runs', type=int, default=20)
+    parser.add_argument('--steps', type=int, default=20000)
+    parser.add_argument('--busy', type=int, default=2 * os.cpu_count())
     options = parser.parse_args()
-    program = options.program
-    differing = 0
+    failed = 0
     with tempfile.TemporaryDirectory() as room:
-        made = list(scenarios(room))
-        for users, count, file in made:
-            if lines(program, '--threads', file) != grouped(lines(program, file)):
-                differing += 1
-                print(f'FAILED: {users} users, {count} steps: the lines with --threads are others')
-        plain = {file: [] for _, _, file in made}
-        threads = {file: [] for _, _, file in made}
-        for _ in range(options.runs):
-            for _, _, file in made:
-                plain[file].append(timed(program, file))
-                threads[file].append(timed(program, '--threads', file))
-        print(f'{"":>5} {"":>7} {"wall seconds":>26} {"processor seconds":>26}')
-        print(f'{"users":>5} {"steps":>7}' + f' {"plain":>8} {"threads":>8} {"times":>8}' * 2)
-        for users, count, file in made:
-            print(f'{users:5} {count:7}' + ''.join(columns(plain[file], threads[file])))
-    print(f'{len(made)} scenarios with --threads compared with the plain run, {differing} differ')
-    sys.exit(1 if differing else 0)
+        made = []
+        for shape, make in SHAPES.items():
+            for count in COUNTS:
+                file = os.path.join(room, f'{shape}-{count}.json')
+                steps.write(make(steps.USERS[:count], options.steps), file)
+                made.append((shape, count, file))
+        for shape, count, file in made:
+            if lines(options.program, '--threads', file) != grouped(lines(options.program, file)):
+                failed += 1
+                print(f'FAILED: {shape}, {count} users: the lines with --threads are others')
+        print(f'{len(made)} scenarios of {options.steps} steps with --threads compared with the plain run, {failed} differ')
+        failed += measure(options.program, made, options.runs, 0)
+        with busy(options.busy):
+            failed += measure(options.program, made, options.runs, options.busy)
+    sys.exit(1 if failed else 0)
 
 
 if __name__ == '__main__':

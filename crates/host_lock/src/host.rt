@@ -17,7 +17,6 @@ use crate::session::{Session, budget_left};
 use crate::shared_state::SharedState;
 use crate::turn::turn;
 use crate::view::Slot;
-use crate::waiters::Waiters;
 use atomic_table::{Badge, Table};
 use pid_blocks::Uid;
 use requests::{Host, Reply, Step};
@@ -25,7 +24,7 @@ use std::alloc::{AllocError, Global};
 use std::marker::Model;
 use std::mem;
 use std::snapshot::Snapshot;
-use std::sync::Wait;
+use std::sync::{Mutex, Wait};
 use stop_handlers::{Decider, Handler};
 
 /// A host that sessions share, each in a thread of its own if it likes. Contracts see which host it is, what it was at opening, and how
@@ -33,7 +32,8 @@ use stop_handlers::{Decider, Handler};
 #[derive(Drop)]
 pub struct SharedHost<F: Decider + Send + Drop> {
     table: HostTable<F>,
-    waiters: Waiters,
+    /// Held during a call, and waited for before it draws its ticket. No contract rests on it: the ticket is waited for all the same.
+    door: Mutex<()>,
     sessions: usize,
 }
 
@@ -121,7 +121,7 @@ impl<F: Decider + Send + Drop> SharedHost<F> {
         }
         let SharedHost {
             table,
-            waiters: _,
+            door: _,
             sessions: _,
         } = self;
         let seat = join_seats(&table, sessions);
@@ -153,16 +153,17 @@ impl<F: Decider + Send + Drop> SharedHost<F> {
         }
         let badge = mem::replace(&mut session.badge, Badge::blank());
         let mut seat = badge.into_seat();
+        let inside = self.door.lock(rt);
         let reply = turn(
             rt,
             alloc,
             &self.table.shared,
-            &self.waiters,
             &mut seat,
             session.uid,
             session.number,
             step,
         );
+        drop(inside);
         session.badge = seat.into_badge();
         session.calls_made += 1;
         Answer::Reply(reply)
@@ -245,12 +246,11 @@ fn share<F: Decider + Send + Drop>(
     ensures host { IfOk result (λ r. (r.0.start ≡ host) × (r.0.sessions ≡ length users.now)) }
     ensures sessions { IfOk result (λ r. r.1.items ≡ new_sessions 0 r.0.id host users.now) }
 {
-    let waiters = Waiters::new(alloc)?;
     let (table, unsplit) = make_table(alloc, host, users.len())?;
     let sessions = make_sessions(alloc, &table, unsplit, users)?;
     let host = SharedHost {
         table,
-        waiters,
+        door: Mutex::new(()),
         sessions: users.len(),
     };
     Ok((host, sessions))

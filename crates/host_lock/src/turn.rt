@@ -1,5 +1,5 @@
 //! One call, as steps on the table.
-ghost use Rattle.std.specs.Prelude.{◌≡◌, ℕ, ◌+◌, ◌-◌, ◌*◌, ◌<◌, ◌≤◌, [], ◌∷◌, ◌++◌, true, false, MatchBool};
+ghost use Rattle.std.specs.Prelude.{◌≡◌, ℕ, ◌+◌, ◌-◌, ◌*◌, ◌%◌, ◌^◌, ◌<◌, ◌≤◌, [], ◌∷◌, ◌++◌, true, false, MatchBool};
 ghost use Rattle.host_lock.specs.Views.{Idle, Waiting, Holding, Counted};
 ghost use Rattle.host_lock.specs.declared.view.Slot.TheVariants.{There, Away};
 ghost use Rattle.host_lock.specs.History.{history};
@@ -9,18 +9,24 @@ ghost use Rattle.host_lock.specs.Rule.{session_view, start_of, seen_of, mine_of,
 use crate::rule::{Count, Draw, HostSeat, Release, SharedTable, Turn};
 use crate::shared_state::SharedState;
 use crate::view::Slot;
-use crate::waiters::Waiters;
 use pid_blocks::Uid;
 use requests::{PlainStep, Reply, Step};
 use std::alloc::Global;
 use std::sync::Wait;
 use stop_handlers::{Decider, Handler};
 
-/// Waits until the ticket is served.
+/// What a sleep on a word looks at of its number: the low 32 bits.
+fn low_half(number: u64) -> u32
+    ensures { result ≡ number % 2 ^ 32 }
+{
+    (number % 4294967296) as u32
+}
+
+/// Waits until the ticket is served. The lock that is held during a call mostly sees to it that it is at the first look. Where it isn't,
+/// the thread sleeps while serving is what was found, so that a wake after the look is not lost.
 pub(crate) fn take_turn<F: Decider + Send + Drop, R: Wait>(
     rt: &R,
     table: &SharedTable<F>,
-    waiters: &Waiters,
     seat: &mut HostSeat<F>,
     number: usize,
     ticket: u64,
@@ -35,7 +41,7 @@ pub(crate) fn take_turn<F: Decider + Send + Drop, R: Wait>(
         if serving == ticket {
             return;
         }
-        waiters.rest(rt, serving, ticket);
+        table.park(rt, 0, low_half(serving));
     }
     unreachable!()
 }
@@ -57,10 +63,9 @@ pub(crate) fn count_up<F: Decider + Send + Drop>(
     table.fetch_add::<Count>(seat, 2, 1);
 }
 
-/// Puts the host back, and lets the next one in.
+/// Puts the host back, and serves the next ticket. Wakes who waits, if a further ticket was drawn.
 pub(crate) fn give_back<F: Decider + Send + Drop>(
     table: &SharedTable<F>,
-    waiters: &Waiters,
     seat: &mut HostSeat<F>,
     number: usize,
     state: SharedState<F>,
@@ -72,7 +77,9 @@ pub(crate) fn give_back<F: Decider + Send + Drop>(
 {
     let _away = table.exchange(seat, 0, Slot::There(state));
     let served = table.fetch_add::<Release>(seat, 0, 1);
-    waiters.wake_next(served);
+    if table.peek(1) > served.wrapping_add(1) {
+        table.wake_all(0);
+    }
 }
 
 /// Draws a ticket, waits for its turn, makes the step, and lets the next one in.
@@ -80,7 +87,6 @@ pub(crate) fn turn<F: Decider + Send + Drop, R: Wait>(
     rt: &R,
     alloc: Global,
     table: &SharedTable<F>,
-    waiters: &Waiters,
     seat: &mut HostSeat<F>,
     user: Uid,
     number: usize,
@@ -94,16 +100,16 @@ pub(crate) fn turn<F: Decider + Send + Drop, R: Wait>(
 {
     let plain = step.plain();
     let ticket = table.fetch_add::<Draw>(seat, 1, 1);
-    take_turn(rt, table, waiters, seat, number, ticket);
+    take_turn(rt, table, seat, number, ticket);
     let Slot::There(mut state) = table.exchange(seat, 0, Slot::Away(user, plain)) else {
         unreachable!()
     };
     let reply = state.make(alloc, user, number, step);
     if reply.is_memory() {
-        give_back(table, waiters, seat, number, state);
+        give_back(table, seat, number, state);
         return reply;
     }
     count_up(table, seat, user, number, &plain, ticket);
-    give_back(table, waiters, seat, number, state);
+    give_back(table, seat, number, state);
     reply
 }
