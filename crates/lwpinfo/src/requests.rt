@@ -1,4 +1,5 @@
-ghost use Rattle.std.specs.Prelude.{◌≡◌, IfOk, option_map};
+ghost use Rattle.std.specs.Prelude.{◌≡◌, IfOk, IfSome, option_map};
+ghost use Rattle.lwp_table.specs.Lwps.{lwp_of};
 ghost use Rattle.proc_table.specs.Fresh.{lwp_count};
 ghost use Rattle.proc_table.specs.Processes.{reporting, is_this};
 ghost use Rattle.lwpinfo.specs.Info.{info_of, lwp_info, lwp_list};
@@ -9,8 +10,10 @@ use pid_blocks::{Pid, Tid};
 use proc_table::{ProcData, State, Tables};
 use std::alloc::{AllocError, Global};
 
-/// What PT_LWPINFO of ptrace(2) tells of an LWP of the process. None where no process or no LWP has the number.
+/// What PT_LWPINFO of ptrace(2) tells of an LWP of the process. None where no process or no LWP has the number. It asks
+/// that the LWP, if there is one, is not another process's.
 pub fn info(tables: &Tables, pid: Pid, tid: Tid) -> Option<LwpInfo>
+    requires own { IfSome (lwp_of tid tables.now.rows.lwps) (λ l. l.pid ≡ pid) }
     ensures { result ≡ info_of pid tid tables.now.rows }
 {
     match tables.process(pid) {

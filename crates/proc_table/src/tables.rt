@@ -374,6 +374,7 @@ impl Tables {
         requires children { next_child pid 0 self.old.rows.processes ≡ None }
         requires lwps { first_lwp pid self.old.rows.lwps ≡ None }
         ensures rows { self.new.rows ≡ drop_process pid self.old.rows }
+        ensures spare { self.old.spare_processes ≤ self.new.spare_processes }
         ensures others { self.new.spare_lwps ≡ self.old.spare_lwps }
     {
         self.processes.remove(pid);
@@ -383,6 +384,7 @@ impl Tables {
     pub fn remove_lwp(&mut self, tid: Tid)
         requires { IsSome (lwp_of tid self.old.rows.lwps) }
         ensures rows { self.new.rows ≡ drop_lwp tid self.old.rows }
+        ensures spare { self.old.spare_lwps ≤ self.new.spare_lwps }
         ensures others { self.new.spare_processes ≡ self.old.spare_processes }
     {
         self.lwps.remove(tid);

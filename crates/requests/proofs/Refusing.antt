@@ -45,22 +45,26 @@ use Rattle.requests.specs.Calls.{spawn_with, spawn, list, is_refused, sigaction,
 use Rattle.requests.specs.Handle.{install, handles_stop, handles_status, handles}
 use Rattle.requests.specs.Machine.{Machine, installed_by, After, after}
 use Rattle.requests.specs.Memory.{is_refusal, is_memory}
-use Rattle.requests.specs.Refusals.{RefusedSame, NeverMemory, ListingSame, is_listing}
+use Rattle.requests.specs.Refusals.{RefusedSame, NothingSame, NeverMemory, ListingSame, is_listing}
 use Rattle.requests.specs.Sound.{sound}
 use Rattle.requests.specs.Step.{calls, checked, step}
 use Rattle.requests.proofs.After.{answers_same}
 use Rattle.requests.proofs.Steps.{choose}
 
--- whether an answer leaves all as it was: a refusal, or a list
-abbrev keeps : Reply → Bool
-keeps r = is_refusal r || is_listing r
+abbrev is_nothing : Reply → Bool
+is_nothing reply.Nothing = true
+is_nothing r = false
 
--- a refusal or a list leaves the rows, and isn't want of memory
+-- whether an answer leaves all as it was: a refusal, a list, or nothing
+abbrev keeps : Reply → Bool
+keeps r = is_refusal r || (is_listing r || is_nothing r)
+
+-- such an answer leaves the rows, and none is want of memory
 record Fair (rows : Rows) (o : Outcome) : Type 0 where
   pub same : keeps o.reply ≡ true → o.rows ≡ rows
   pub plenty : is_memory o.reply ≡ false
 
--- an answer that is neither
+-- an answer that is none of these
 done : (rows now : Rows) (r : Reply) → keeps r ≡ false → is_memory r ≡ false → Fair rows (answers r now)
 done rows now r good plenty = record { same = λ is. absurd (true≢false (sym is ∙ good)); plenty = plenty }
 
@@ -210,11 +214,15 @@ reached_fair settings s (p ∷ ps) rows = done rows _ _ refl refl
 kill_fair : (settings : Settings) (u caller : ℕ) (which : ℤ) (s : ℕ) (rows : Rows) → Fair rows (kill settings u caller which s rows)
 kill_fair settings u caller which s rows = choose (not (leb s 31) || not (is_which which)) _ _ (Fair rows) (left rows (reply.Errno EINVAL) refl) (reached_fair settings s (reach u caller which rows) rows)
 
+found_fair : (caller : ℕ) (p : ProcData) (ps : List ProcData) (rows : Rows) (o : Option ProcData) → Fair rows (answers (collect_reply (answer (p ∷ ps) o)) (without_report caller o rows))
+found_fair caller p ps rows None = left rows reply.Nothing refl
+found_fair caller p ps rows (Some q) = done rows _ _ refl refl
+
 -- who has no child gets ECHILD, and nothing is collected
 collect_fair : (caller : ℕ) (options : Options) (rows : Rows) (ps : List ProcData)
     → Fair rows (answers (collect_reply (answer ps (find (reportable options caller) ps))) (without_report caller (find (reportable options caller) ps) rows))
 collect_fair caller options rows [] = left rows (reply.Errno ECHILD) refl
-collect_fair caller options rows (p ∷ ps) = search (rules, find, done)
+collect_fair caller options rows (p ∷ ps) = found_fair caller p ps rows (find (reportable options caller) (p ∷ ps))
 
 wait_fair : (p : ProcData) (which : ℤ) (options : Options) (rows : Rows) → Fair rows (wait p which options rows)
 wait_fair p which options rows = choose (not (is_which which)) _ _ (Fair rows) (left rows (reply.Errno EINVAL) refl) (collect_fair p.pid options rows (candidates p.pid which rows))
@@ -279,14 +287,17 @@ step_fair u (op.Ptrace n r target «data») m = checked_fair u (op.Ptrace n r ta
 step_fair u (op.Turn tid a) m = hosted m (turn m.settings u tid a m.rows) (turn_fair m.settings u tid a m.rows)
 
 pub refused_same : RefusedSame
-refused_same u s m user is refused = (step_fair u s m).same is (ap (λ b. b || is_listing (step u s m).reply) refused)
+refused_same u s m user is refused = (step_fair u s m).same is (ap (λ b. b || (is_listing (step u s m).reply || is_nothing (step u s m).reply)) refused)
 
 or_true : (b : Bool) → b || true ≡ true
 or_true true = refl
 or_true false = refl
 
 pub listing_same : ListingSame
-listing_same u s m is listed = (step_fair u s m).same is (ap (λ b. is_refusal (step u s m).reply || b) listed ∙ or_true (is_refusal (step u s m).reply))
+listing_same u s m is listed = (step_fair u s m).same is (ap (λ b. is_refusal (step u s m).reply || (b || is_nothing (step u s m).reply)) listed ∙ or_true (is_refusal (step u s m).reply))
+
+pub nothing_same : NothingSame
+nothing_same u s m is none = (step_fair u s m).same is (ap keeps none)
 
 pub never_memory : NeverMemory
 never_memory u s m memory = true≢false (sym (ap is_memory memory) ∙ (step_fair u s m).plenty)

@@ -14,6 +14,10 @@ use Rattle.requests.specs.Step.{step}
 abbrev pub RefusedSame : Type 0
 RefusedSame = (u : ℕ) (s : PlainStep) (m : Machine) → IsUser u → sound m ≡ true → is_refusal (step u s m).reply ≡ true → (step u s m).machine ≡ m
 
+-- a step that answers Nothing, as a wait or a handle does where no child has something to report, changes nothing
+abbrev pub NothingSame : Type 0
+NothingSame = (u : ℕ) (s : PlainStep) (m : Machine) → sound m ≡ true → (step u s m).reply ≡ reply.Nothing → (step u s m).machine ≡ m
+
 -- the machine wants no memory: a host alone answers ENOMEM
 abbrev pub NeverMemory : Type 0
 NeverMemory = (u : ℕ) (s : PlainStep) (m : Machine) → (step u s m).reply ≢ reply.Errno ENOMEM

@@ -346,6 +346,7 @@ fn set_mask(tables: &mut Tables, process: &ProcData, mask: EventMask)
 /// PT_LWPINFO.
 fn show_lwp(tables: &Tables, process: &ProcData, lwp: Tid) -> Reply
     requires at { process_of process.now.pid tables.now.rows.processes ≡ Some process.now }
+    requires own { IsSomeAnd (lwp_of lwp tables.now.rows.lwps) (λ l. l.pid ≡ process.now.pid) }
     ensures reply { result ≡ (shows_info (info process.now lwp tables.now.rows) tables.now.rows).reply }
 {
     match info(tables, process.pid, lwp) {

@@ -2,7 +2,7 @@
 
 ghost use Rattle.std.specs.Prelude.{◌≡◌, true};
 ghost use Rattle.requests.specs.Laws.{SoundKept, SoundAtFirst, SoundRuns, step_fits};
-ghost use Rattle.requests.specs.Refusals.{ListingSame, NeverMemory, RefusedSame};
+ghost use Rattle.requests.specs.Refusals.{ListingSame, NeverMemory, NothingSame, RefusedSame};
 
 use crate::PlainStep;
 
@@ -25,6 +25,11 @@ pub fn fits(step: PlainStep)
 /// A refused step changes nothing.
 pub fn refused_same()
     ensures { RefusedSame }
+{}
+
+/// A wait or a handle that has nothing to report changes nothing.
+pub fn nothing_same()
+    ensures { NothingSame }
 {}
 
 /// No step of the machine wants memory: the host alone answers ENOMEM.
