@@ -47,7 +47,7 @@ with tempfile.TemporaryDirectory() as room:
             faults = {
                 'yields': sum('sched_yield(' in line for line in lines),
                 'sleeps that timed out': sum('ETIMEDOUT' in line for line in lines),
-                'wakes of more than one thread': sum(re.search(r'FUTEX_WAKE\w*, (?!1[,)])', line) is not None for line in lines),
+                'wakes of more than one thread': sum(re.search(r'FUTEX_WAKE\w*, (?!1\b)', line) is not None for line in lines),
                 'sleeps': sleeps if sleeps >= STEPS else 0,
             }
             for what, count in faults.items():
