@@ -23,7 +23,8 @@ case $1 in
     echo "so far: 0 of 2 functions checked; the verdict comes last"
     sleep "${PAUSE:-0.05}"
     [ "$crate" != "${FAILS:-}" ] || { echo "error: not proved"; exit 1; }
-    echo "so far: 2 of 2 functions checked" ;;&
+    echo "so far: 1 of 2 functions checked"
+    echo "logic=proved functions=2" ;;&
   lib) mkdir -p out/rlib && touch out/rlib/stamp && echo "built $crate" >>"$CALLS" ;;
   run)
     printf '#!/bin/sh\necho "ran $*"\n' >out/tracehost

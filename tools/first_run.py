@@ -147,7 +147,7 @@ class Builder:
             child.stdin.close()
             for line in child.stdout:
                 log.write(line)
-                count = re.match(rb"(?:so far: |checked .*, )(\d+) of (\d+)", line)
+                count = re.match(rb"so far: (\d+) of (\d+)", line) or re.match(rb"logic=proved functions=((\d+))", line)
                 if count:
                     with self.lock:
                         self.running[name] = (int(count[1]), int(count[2]))
