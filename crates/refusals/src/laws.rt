@@ -32,7 +32,7 @@ struct Hosts {
 }
 
 /// Two hosts that nobody has used.
-fn new_hosts(alloc: Global, users: Users, settings: Settings) -> Result<Hosts, Trouble>
+fn new_hosts(alloc: Global, users: &Users, settings: Settings) -> Result<Hosts, Trouble>
     ensures first { IfOk result (λ hosts. hosts.first ≡ empty settings) }
     ensures second { IfOk result (λ hosts. hosts.second ≡ empty settings) }
 {
@@ -46,69 +46,89 @@ fn new_hosts(alloc: Global, users: Users, settings: Settings) -> Result<Hosts, T
     })
 }
 
-impl Hosts {
-    /// Whether both hosts answered, and the same; a refused step has left its host.
-    fn have_answered(
-        &self,
-        alloc: Global,
-        users: Users,
-        replies: &(Reply, Reply),
-    ) -> Result<bool, Trouble> {
-        if replies.0.is_memory() {
-            self.before.is_still(
-                alloc,
-                users,
-                &self.first,
-                "a refused step changed the first host",
-            )?;
-        }
-        if replies.1.is_memory() {
-            self.before.is_still(
-                alloc,
-                users,
-                &self.second,
-                "a refused step changed the second host",
-            )?;
-        }
-        if replies.0.is_memory() || replies.1.is_memory() {
-            return Ok(false);
-        }
-        if replies.0 == replies.1 {
-            Ok(true)
-        } else {
-            Err(Trouble::Wrong("two hosts answer differently"))
-        }
+/// Whether the step was answered; a refused one has left the host.
+fn is_answered(
+    alloc: Global,
+    users: &Users,
+    host: &Host<ByPolicy>,
+    before: &Seen,
+    reply: &Reply,
+) -> Result<bool, Trouble> {
+    if !reply.is_memory() {
+        return Ok(true);
+    }
+    before.is_still(
+        alloc,
+        users,
+        host,
+        "a refused step changed one of two hosts",
+    )?;
+    Ok(false)
+}
+
+/// Nothing, or a trouble where the replies aren't the same.
+fn are_same(reply: &Reply, other: &Reply) -> Result<(), Trouble> {
+    if reply == other {
+        Ok(())
+    } else {
+        Err(Trouble::Wrong("two hosts answer differently"))
     }
 }
 
 /// The same step in two hosts.
-fn check_one_step(alloc: Global, users: Users, settings: Settings) -> Result<(), Trouble> {
+fn check_one_step(alloc: Global, users: &Users, settings: Settings) -> Result<(), Trouble> {
     for _ in 0..TRIES {
-        let mut hosts = new_hosts(alloc, users, settings)?;
-        let (first, second) = (&mut hosts.first, &mut hosts.second);
-        let replies = one_step(alloc, first, second, users.first, Step::Spawn, Step::Spawn);
-        if hosts.have_answered(alloc, users, &replies)? {
-            return Ok(());
+        let Hosts {
+            mut first,
+            mut second,
+            before,
+        } = new_hosts(alloc, users, settings)?;
+        let user = users.first;
+        let (reply, other) = one_step(
+            alloc,
+            &mut first,
+            &mut second,
+            user,
+            Step::Spawn,
+            Step::Spawn,
+        );
+        let is_first = is_answered(alloc, users, &first, &before, &reply)?;
+        let is_second = is_answered(alloc, users, &second, &before, &other)?;
+        if is_first && is_second {
+            return are_same(&reply, &other);
         }
     }
     Err(Trouble::Memory)
 }
 
 /// A step with no number that the user doesn't see, in two hosts.
-fn check_foreign_number(alloc: Global, users: Users, settings: Settings) -> Result<(), Trouble> {
+fn check_foreign_number(alloc: Global, users: &Users, settings: Settings) -> Result<(), Trouble> {
     for _ in 0..TRIES {
-        let mut hosts = new_hosts(alloc, users, settings)?;
-        let (first, second) = (&mut hosts.first, &mut hosts.second);
-        let replies = foreign_number(alloc, first, second, users.first, Step::Spawn, Step::Spawn);
-        if hosts.have_answered(alloc, users, &replies)? {
-            return Ok(());
+        let Hosts {
+            mut first,
+            mut second,
+            before,
+        } = new_hosts(alloc, users, settings)?;
+        let user = users.first;
+        let (reply, other) = foreign_number(
+            alloc,
+            &mut first,
+            &mut second,
+            user,
+            Step::Spawn,
+            Step::Spawn,
+        );
+        let is_first = is_answered(alloc, users, &first, &before, &reply)?;
+        let is_second = is_answered(alloc, users, &second, &before, &other)?;
+        if is_first && is_second {
+            return are_same(&reply, &other);
         }
     }
     Err(Trouble::Memory)
 }
 
 /// The step of another user: a refused one leaves the host.
-fn check_other_step(alloc: Global, users: Users, settings: Settings) -> Result<(), Trouble> {
+fn check_other_step(alloc: Global, users: &Users, settings: Settings) -> Result<(), Trouble> {
     if users.first == users.second {
         return Err(Trouble::Wrong("two users are one"));
     }
@@ -129,8 +149,20 @@ fn check_other_step(alloc: Global, users: Users, settings: Settings) -> Result<(
     Err(Trouble::Memory)
 }
 
+/// Whether all steps of both lists were answered, and the same.
+fn agree(replies: &[Reply], others: &[Reply]) -> Result<bool, Trouble> {
+    if !are_made(replies) || !are_made(others) {
+        return Ok(false);
+    }
+    if replies == others {
+        Ok(true)
+    } else {
+        Err(Trouble::Wrong("two lists have different replies"))
+    }
+}
+
 /// The same list in two hosts: where it is refused, both are left.
-fn check_two_lists(alloc: Global, users: Users, scenario: &Scenario) -> Result<(), Trouble> {
+fn check_two_lists(alloc: Global, users: &Users, scenario: &Scenario) -> Result<(), Trouble> {
     for _ in 0..TRIES {
         let steps = bound(alloc, scenario)?;
         let others = bound(alloc, scenario)?;
@@ -139,36 +171,29 @@ fn check_two_lists(alloc: Global, users: Users, scenario: &Scenario) -> Result<(
             mut second,
             before,
         } = new_hosts(alloc, users, scenario.settings())?;
-        if let Ok((replies, answers)) = two_lists(
-            alloc,
-            &mut first,
-            &mut second,
-            users.first,
-            steps,
-            others,
-        ) {
-            if !are_made(replies.as_slice()) || !are_made(answers.as_slice()) {
-                continue;
+        let ran = two_lists(alloc, &mut first, &mut second, users.first, steps, others);
+        match ran {
+            Ok((replies, answers)) => {
+                if agree(replies.as_slice(), answers.as_slice())? {
+                    return Ok(());
+                }
             }
-            return if replies == answers {
-                Ok(())
-            } else {
-                Err(Trouble::Wrong("two lists have different replies"))
-            };
+            Err(_) => {
+                before.is_still(alloc, users, &first, "refused lists changed the first host")?;
+                before.is_still(
+                    alloc,
+                    users,
+                    &second,
+                    "refused lists changed the second host",
+                )?;
+            }
         }
-        before.is_still(alloc, users, &first, "refused lists changed the first host")?;
-        before.is_still(
-            alloc,
-            users,
-            &second,
-            "refused lists changed the second host",
-        )?;
     }
     Err(Trouble::Memory)
 }
 
 /// What is refused leaves the hosts, and else both answer the same.
-pub fn check(alloc: Global, users: Users, scenario: &Scenario) -> Result<(), Trouble> {
+pub fn check(alloc: Global, users: &Users, scenario: &Scenario) -> Result<(), Trouble> {
     check_one_step(alloc, users, scenario.settings())?;
     check_foreign_number(alloc, users, scenario.settings())?;
     check_other_step(alloc, users, scenario.settings())?;

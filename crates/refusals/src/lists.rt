@@ -43,7 +43,7 @@ pub fn bound(
 /// The answered steps, made one after another on a new host, have the same replies, and users see the same in the end.
 fn check_answered(
     alloc: Global,
-    users: Users,
+    users: &Users,
     scenario: &Scenario,
     host: &Host<ByPolicy>,
     replies: &[Reply],
@@ -63,7 +63,7 @@ fn check_answered(
 }
 
 /// A refused list leaves the host; else the answered steps are answered as one by one.
-pub fn check(alloc: Global, users: Users, scenario: &Scenario) -> Result<(), Trouble> {
+pub fn check(alloc: Global, users: &Users, scenario: &Scenario) -> Result<(), Trouble> {
     let mut host = new_host(alloc, scenario.settings())?;
     let before = users.see(alloc, &host)?;
     for _ in 0..TRIES {

@@ -40,7 +40,7 @@ fn check<R: Print + AllocGlobal + Threads + Wait + Sync>(
     text: &str,
 ) -> Result<(), Trouble> {
     let alloc = rt.alloc();
-    let users = Users {
+    let users = &Users {
         first: Uid::new(1001)?,
         second: Uid::new(1002)?,
     };

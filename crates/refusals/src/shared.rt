@@ -1,6 +1,6 @@
 //! Calls of a shared host.
 
-ghost use Rattle.std.specs.Prelude.{◌≡◌, [], IfOk};
+ghost use Rattle.std.specs.Prelude.{◌≡◌, [], All, IfOk};
 ghost use Rattle.host_lock.specs.Sessions.{IsOf, IsSame};
 
 use crate::steps::{Made, Users, new_host};
@@ -22,28 +22,51 @@ struct Opened {
     room: Vec<Session>,
 }
 
+/// The sessions, apart.
+fn apart(host: SharedHost<ByPolicy>, mut room: Vec<Session>) -> Result<Opened, Trouble>
+    requires { All (IsOf host) room.items }
+    ensures first { IfOk result (λ o. IsOf o.host o.first) }
+    ensures second { IfOk result (λ o. IsOf o.host o.second) }
+    ensures room { IfOk result (λ o. o.room.items ≡ []) }
+{
+    let (Some(second), Some(first)) = (room.pop(), room.pop()) else {
+        return Err(Trouble::Wrong("a user has no session"));
+    };
+    if !room.is_empty() {
+        return Err(Trouble::Wrong("a user has a session more"));
+    }
+    Ok(Opened {
+        host,
+        first,
+        second,
+        room,
+    })
+}
+
 /// Shares a new host between the users.
-fn open(alloc: Global, users: Users, settings: Settings) -> Result<Opened, Trouble>
+fn open(alloc: Global, users: &Users, settings: Settings) -> Result<Opened, Trouble>
+    ensures first { IfOk result (λ o. IsOf o.host o.first) }
+    ensures second { IfOk result (λ o. IsOf o.host o.second) }
+    ensures room { IfOk result (λ o. o.room.items ≡ []) }
+{
+    let host = new_host(alloc, settings)?;
+    match SharedHost::open(alloc, host, &[users.first, users.second]) {
+        Ok((host, room)) => apart(host, room),
+        Err(OpenRefusal::Memory) => Err(Trouble::Memory),
+        Err(_) => Err(Trouble::Wrong("two users can't share a host")),
+    }
+}
+
+/// The same, made again while it is refused.
+fn open_again(alloc: Global, users: &Users, settings: Settings) -> Result<Opened, Trouble>
     ensures first { IfOk result (λ o. IsOf o.host o.first) }
     ensures second { IfOk result (λ o. IsOf o.host o.second) }
     ensures room { IfOk result (λ o. o.room.items ≡ []) }
 {
     for _ in 0..TRIES {
-        let host = new_host(alloc, settings)?;
-        match SharedHost::open(alloc, host, &[users.first, users.second]) {
-            Ok((host, mut room)) => {
-                let (Some(second), Some(first)) = (room.pop(), room.pop()) else {
-                    return Err(Trouble::Wrong("a user has no session"));
-                };
-                return Ok(Opened {
-                    host,
-                    first,
-                    second,
-                    room,
-                });
-            }
-            Err(OpenRefusal::Memory) => {}
-            Err(_) => return Err(Trouble::Wrong("two users can't share a host")),
+        match open(alloc, users, settings) {
+            Err(Trouble::Memory) => {}
+            ended => return ended,
         }
     }
     Err(Trouble::Memory)
@@ -95,7 +118,7 @@ fn is_of(journal: &Journal, scenario: &Scenario, made: &Made) -> bool {
 pub fn check<R: Wait>(
     rt: &R,
     alloc: Global,
-    users: Users,
+    users: &Users,
     scenario: &Scenario,
     made: &Made,
 ) -> Result<(), Trouble> {
@@ -104,7 +127,7 @@ pub fn check<R: Wait>(
         mut first,
         mut second,
         mut room,
-    } = open(alloc, users, scenario.settings())?;
+    } = open_again(alloc, users, scenario.settings())?;
     for step in scenario.steps() {
         if step.0 == users.first {
             call(rt, alloc, &host, &mut first, &step.1)?;

@@ -13,7 +13,7 @@ use trace_stop::Settings;
 use visibility::{View, user_view};
 
 /// The users of the scenarios.
-#[derive(Clone, Copy)]
+#[derive(Drop)]
 pub struct Users {
     pub first: Uid,
     pub second: Uid,
@@ -31,7 +31,7 @@ impl Seen {
     pub fn is_still(
         &self,
         alloc: Global,
-        users: Users,
+        users: &Users,
         host: &Host<ByPolicy>,
         name: &'static str,
     ) -> Result<(), Trouble> {
@@ -46,7 +46,7 @@ impl Seen {
 
 impl Users {
     /// What they see of the host.
-    pub fn see(self, alloc: Global, host: &Host<ByPolicy>) -> Result<Seen, Trouble> {
+    pub fn see(&self, alloc: Global, host: &Host<ByPolicy>) -> Result<Seen, Trouble> {
         let first = retried!(user_view(alloc, host, self.first));
         let second = retried!(user_view(alloc, host, self.second));
         Ok(Seen { first, second })
@@ -102,7 +102,7 @@ fn takes_memory(step: &PlainStep) -> bool {
 /// The same, and each time all is as before.
 fn answer_kept(
     alloc: Global,
-    users: Users,
+    users: &Users,
     host: &mut Host<ByPolicy>,
     user: Uid,
     step: &PlainStep,
@@ -129,7 +129,7 @@ pub struct Made {
 }
 
 /// Makes the steps of the scenario on a new host.
-pub fn make_all(alloc: Global, users: Users, scenario: &Scenario) -> Result<Made, Trouble> {
+pub fn make_all(alloc: Global, users: &Users, scenario: &Scenario) -> Result<Made, Trouble> {
     let mut host = new_host(alloc, scenario.settings())?;
     let mut replies = retried!(Vec::with_capacity(alloc, scenario.steps().len()));
     for step in scenario.steps() {

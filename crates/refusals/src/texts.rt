@@ -23,23 +23,35 @@ fn is_done(ended: Result<(), RunFault>, written: &[u8], text: &[u8]) -> Result<b
     }
 }
 
-/// The lines of the user, or of all, by a run with threads or without.
+/// A run with threads or without writes the text.
 fn check_text<R: Threads + Wait + Sync>(
     rt: &R,
     alloc: Global,
     scenario: &Scenario,
     text: &[u8],
-    user: Option<Uid>,
+    user: &Option<Uid>,
     threads: bool,
 ) -> Result<(), Trouble> {
-    let options = RunOptions { user };
     for _ in 0..TRIES {
         let handlers = handlers(alloc, scenario)?;
         let mut writer = retried!(Vec::with_capacity(alloc, ROOM));
         let ended = if threads {
-            run_threads(rt, alloc, scenario, handlers, options, &mut writer)
+            run_threads(
+                rt,
+                alloc,
+                scenario,
+                handlers,
+                RunOptions { user: *user },
+                &mut writer,
+            )
         } else {
-            run(alloc, scenario, handlers, options, &mut writer)
+            run(
+                alloc,
+                scenario,
+                handlers,
+                RunOptions { user: *user },
+                &mut writer,
+            )
         };
         if is_done(ended, writer.as_slice(), text)? {
             return Ok(());
@@ -48,21 +60,28 @@ fn check_text<R: Threads + Wait + Sync>(
     Err(Trouble::Memory)
 }
 
+/// A run with threads or without writes the lines of the replies to the user, or of all.
+fn check_user<R: Threads + Wait + Sync>(
+    rt: &R,
+    alloc: Global,
+    scenario: &Scenario,
+    made: &Made,
+    user: &Option<Uid>,
+    threads: bool,
+) -> Result<(), Trouble> {
+    let text = retried!(render(alloc, made.replies.as_slice(), *user));
+    check_text(rt, alloc, scenario, text.as_bytes(), user, threads)
+}
+
 /// A run writes the lines of the replies, and a refused run nothing.
 pub fn check<R: Threads + Wait + Sync>(
     rt: &R,
     alloc: Global,
-    users: Users,
+    users: &Users,
     scenario: &Scenario,
     made: &Made,
 ) -> Result<(), Trouble> {
-    for (user, threads) in [
-        (None, false),
-        (Some(users.first), true),
-        (Some(users.second), true),
-    ] {
-        let text = retried!(render(alloc, made.replies.as_slice(), user));
-        check_text(rt, alloc, scenario, text.as_bytes(), user, threads)?;
-    }
-    Ok(())
+    check_user(rt, alloc, scenario, made, &None, false)?;
+    check_user(rt, alloc, scenario, made, &Some(users.first), true)?;
+    check_user(rt, alloc, scenario, made, &Some(users.second), true)
 }

@@ -72,7 +72,7 @@ fn script(alloc: Global, scenario: &Scenario, uid: Uid) -> Result<Script<ByPolic
 /// A script for each user.
 fn scripts(
     alloc: Global,
-    users: Users,
+    users: &Users,
     scenario: &Scenario,
 ) -> Result<Vec<Script<ByPolicy>>, AllocError>
     ensures { IfOk result (λ scripts. All IsShort scripts.items) }
@@ -106,7 +106,7 @@ fn is_told(journal: &Journal, number: usize, transcript: &Transcript) -> bool {
 /// The entries, made one after another on a new host, have the same replies, and users see the same in the end.
 fn check_journal(
     alloc: Global,
-    users: Users,
+    users: &Users,
     scenario: &Scenario,
     host: &Host<ByPolicy>,
     journal: &Journal,
@@ -154,7 +154,7 @@ fn check_transcripts(journal: &Journal, transcripts: &[Transcript]) -> Result<()
 pub fn check<R: Threads + Wait + Sync>(
     rt: &R,
     alloc: Global,
-    users: Users,
+    users: &Users,
     scenario: &Scenario,
 ) -> Result<(), Trouble> {
     for _ in 0..TRIES {
