@@ -1,1 +1,4 @@
 pub mod Faults
+pub mod LinesIn
+pub mod Sessions
+pub mod Turns
