@@ -6,3 +6,6 @@ mod writing;
 
 pub use reading::{LineEnd, read_line};
 pub use writing::write_flushed;
+
+#[cfg(test)]
+mod tests;

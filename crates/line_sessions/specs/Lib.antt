@@ -1,4 +1,3 @@
 pub mod Faults
-pub mod LinesIn
 pub mod Sessions
 pub mod Turns

@@ -1,5 +1,5 @@
 -- A session line by line: each line of the input has one answer.
-use Rattle.std.specs.Prelude.{⊤, ◌≡◌, ◌≤◌, ℕ, ◌==◌, ◌+◌, List, [], ◌∷◌, ◌++◌, length, take, Option, Result, Ok, Err, count_by, codes}
+use Rattle.std.specs.Prelude.{⊤, ◌≡◌, ◌≤◌, ℕ, ◌==◌, ◌+◌, List, [], ◌∷◌, ◌++◌, length, take, Option, IfSome, Result, Ok, Err, count_by, codes}
 use Rattle.std.specs.Io.KnownBytes.{Appends, Consumes, IsAtEnd}
 use Rattle.requests.specs.declared.Reply.{Reply}
 use Rattle.requests.specs.Machine.{Machine, empty}
@@ -12,7 +12,7 @@ use Rattle.scenario.specs.Lines.{Answered, line}
 use Rattle.scenario.specs.OneStep.{IsStep}
 use Rattle.line_sessions.specs.declared.fault.ServeFault.{ServeFault}
 use Rattle.line_sessions.specs.declared.fault.ServeFault.TheVariants.{Write}
-use Rattle.line_sessions.specs.LinesIn.{lines_in}
+use Rattle.line_io.specs.Lines.{lines_in}
 
 -- what a line is answered: a reply to a user, or why the line is no step
 abbrev pub LineReply : Type 0
@@ -59,7 +59,7 @@ pub record Talk (settings : Settings) (read unread : Option (List ℕ)) (rest : 
 -- of that text. Else it has got the text of the answers to all lines but a last one, of which nothing, a part or all was taken.
 abbrev pub Serves : Result ⊤ ServeFault → Settings → (read unread had has : Option (List ℕ)) → Type 0
 Serves (Ok done) settings read unread had has =
-    (rs : List LineReply) × Talk settings read unread [] rs × Appends had has (text_of rs) × IsAtEnd unread
+    (rs : List LineReply) × Talk settings read unread [] rs × Appends had has (text_of rs) × IfSome read (λ _. IsAtEnd unread)
 Serves (Err Write) settings read unread had has =
     (rs : List LineReply) × Talk settings read unread [] rs × (n : ℕ) × Appends had has (take n (text_of rs))
 Serves (Err e) settings read unread had has =

@@ -1,25 +1,15 @@
 -- One line of a session: how it is read, and what comes of it.
-use Rattle.std.specs.Prelude.{ℕ, ◌-◌, ◌+◌, List, [], ◌∷◌, ◌++◌, Option, None, Some, Ok, Err, get_or, take, slice_index, slice_set}
-use Rattle.std.specs.Io.KnownBytes.{Consumes}
+use Rattle.std.specs.Prelude.{⊤, ◌≡◌, ℕ, ◌-◌, ◌+◌, List, Option, Result, Ok, Err, take, slice_index, slice_set}
+use Rattle.std.specs.Io.KnownBytes.{Appends, Keeps}
 use Rattle.pid_blocks.specs.Users.{IsUser}
+use Rattle.requests.specs.Machine.{Machine}
 use Rattle.scenario.specs.Lines.{line}
 use Rattle.scenario.specs.OneStep.{most_step_bytes}
-use Rattle.line_sessions.specs.declared.reading.LineEnd.{LineEnd}
-use Rattle.line_sessions.specs.declared.reading.LineEnd.TheVariants.{Feed, Input}
-use Rattle.line_sessions.specs.LinesIn.{NoFeed}
-use Rattle.line_sessions.specs.Sessions.{LineReply, refusal}
+use Rattle.line_sessions.specs.declared.fault.ServeFault.{ServeFault}
+use Rattle.line_sessions.specs.declared.fault.ServeFault.TheVariants.{Write}
+use Rattle.line_sessions.specs.Sessions.{LineReply, AnswersLine, refusal}
 
--- the bytes that end a line
-abbrev pub end_bytes : Option LineEnd → List ℕ
-end_bytes None = []
-end_bytes (Some Feed) = 10 ∷ []
-end_bytes (Some Input) = []
-
--- the reader lost these bytes of a line, and then what ended it
-abbrev pub Loses : Option (List ℕ) → Option (List ℕ) → List ℕ → Option LineEnd → Type 0
-Loses read unread text end = NoFeed text × Consumes read unread (text ++ end_bytes end)
-
--- what is kept of a line: a longer one is no step
+-- what is kept of a line: a longer one is no step, and neither is what is kept of it
 abbrev pub kept : List ℕ → List ℕ
 kept text = take (most_step_bytes + 1) text
 
@@ -35,4 +25,12 @@ made_after made (Err f) = made
 
 abbrev pub ToUser : LineReply → Type 0
 ToUser (Ok a) = IsUser a.uid
-ToUser (Err f) = Unit {0}
+ToUser (Err f) = ⊤
+
+-- a line was answered, by a host that was m and is k then; where the write failed the writer has a front of the answer, else nothing
+abbrev pub Told : Result ⊤ ServeFault → List ℕ → (m k : Machine) → (made after : List ℕ) → (had has : Option (List ℕ)) → Type 0
+Told (Ok done) text m k made after had has =
+    (r : LineReply) × AnswersLine text m r k × ToUser r × (after ≡ made_after made r) × Appends had has (reply_text made r)
+Told (Err Write) text m k made after had has =
+    (r : LineReply) × AnswersLine text m r k × ToUser r × (n : ℕ) × Appends had has (take n (reply_text made r))
+Told (Err e) text m k made after had has = Keeps had has

@@ -1,11 +1,12 @@
-//! Sessions line by line: each line is a step, whose reply is written before the next line is read.
+//! Sessions line by line: each line is a step, whose answer is written before the next line is read.
 #![tactic(auto)]
 
 mod answering;
 mod fault;
-mod reading;
 mod serving;
-mod writing;
 
 pub use fault::ServeFault;
 pub use serving::serve;
+
+#[cfg(test)]
+mod tests;
