@@ -10,6 +10,7 @@ use Rattle.line_io.specs.declared.reading.LineEnd.TheVariants.{Feed, Input}
 use Rattle.line_io.specs.Lines.{lines_in, NoFeed, Loses, end_bytes}
 use Rattle.line_io.proofs.LineLemmas.{Whole, whole_start, whole_line, whole_more, lines_last, lines_few, lines_one}
 use Rattle.line_io.proofs.ReadLemmas.{consumes_more}
+use Rattle.pid_blocks.specs.Users.{IsUser}
 use Rattle.requests.specs.Machine.{Machine, empty}
 use Rattle.scenario.proofs.LineLemmas.{Counted, counted_start, counted_more, counted_few, counted_number}
 use Rattle.scenario.proofs.WriteLemmas.{appends_more, appends_kept}
@@ -21,7 +22,7 @@ use Rattle.trace_stop.specs.declared.Settings.{Settings}
 use Rattle.line_sessions.specs.declared.fault.ServeFault.{ServeFault}
 use Rattle.line_sessions.specs.declared.fault.ServeFault.TheVariants.{Read, Write, Memory, TooManyLines}
 use Rattle.line_sessions.specs.Sessions.{LineReply, AnswersLine, step, refused, AnswersLines, refusal, text_after, text_of, Talk, Serves}
-use Rattle.line_sessions.specs.Turns.{kept, reply_text, made_after, ToUser, Told}
+use Rattle.line_sessions.specs.Turns.{kept, reply_text, made_after, Told}
 
 -- ---- a line that is longer than a step
 
@@ -31,7 +32,7 @@ step_of_kept text q long (no_value short h) = let all = length-take (most_step_b
 step_of_kept text q long (value d short h) = let all = length-take (most_step_bytes + 1) text in absurd (omega arith)
 
 answers_long : (text : List ℕ) (m : Machine) (r : LineReply) (k : Machine) → most_step_bytes < length text → AnswersLine (kept text) m r k → AnswersLine text m r k
-answers_long text m r k long (step a reply after is did) = step a reply after (step_of_kept text (Ok a) long is) did
+answers_long text m r k long (step a reply after is user did) = step a reply after (step_of_kept text (Ok a) long is) user did
 answers_long text m r k long (refused f is) = refused f (step_of_kept text (Err f) long is)
 
 pub answers_kept : (text : List ℕ) (m : Machine) (r : LineReply) (k : Machine) → AnswersLine (kept text) m r k → AnswersLine text m r k
@@ -47,6 +48,14 @@ answers_more [] l m n k [] r p q = (k, subst (λ x. AnswersLine l x r k) p q, re
 answers_more [] l m n k (s ∷ rs) r p q = absurd p
 answers_more (x ∷ ls) l m n k [] r p q = absurd p
 answers_more (x ∷ ls) l m n k (s ∷ rs) r p q = (p.0, p.1, answers_more ls l p.0 n k rs r p.2 q)
+
+abbrev pub ToUser : LineReply → Type 0
+ToUser (Ok a) = IsUser a.uid
+ToUser (Err f) = ⊤
+
+to_user : {text : List ℕ} {m : Machine} {r : LineReply} {k : Machine} → AnswersLine text m r k → ToUser r
+to_user (step a reply after is user did) = user
+to_user (refused f is) = tt
 
 -- the users of the replies so far
 abbrev pub users_after : List ℕ → LineReply → List ℕ
@@ -160,7 +169,7 @@ module _ (settings : Settings) (r u h w : Option (List ℕ)) (m : Machine) (made
         → IfSome u (λ _. IsAtEnd v) → Serves (Ok tt) settings r v h x
     ends_last k after x some told over =
         let P : List ℕ → Type 0 = λ t. Appends h x t in
-        (at.replies ++ (told.0 ∷ []), line_answered k told.0 some told.1, subst P (sym (text_answered told.0 told.2)) (appends_more h w x (text_of at.replies) (reply_text made told.0) at.told told.4), at_end r u v at.bytes at.taken over)
+        (at.replies ++ (told.0 ∷ []), line_answered k told.0 some told.1, subst P (sym (text_answered told.0 (to_user told.1))) (appends_more h w x (text_of at.replies) (reply_text made told.0) at.told told.3), at_end r u v at.bytes at.taken over)
 
     -- a line was taken, and its answer was not written
     pub fails : (k : Machine) (after : List ℕ) (x : Option (List ℕ)) (e : ServeFault) → (end ≡ Input → 0 < length text) → Told (Err e) (kept text) m k made after w x → Serves (Err e) settings r v h x
@@ -168,10 +177,10 @@ module _ (settings : Settings) (r u h w : Option (List ℕ)) (m : Machine) (made
         let P : List ℕ → Type 0 = λ t. Appends h x t in
         let one = reply_text made told.0 in
         let all = text_of (at.replies ++ (told.0 ∷ [])) in
-        let n = length (text_of at.replies) + told.3 in
-        let front : text_of at.replies ++ take told.3 one ≡ take n all =
-        sym (take-append-add (text_of at.replies) one told.3) ∙ ap (take n) (sym (text_answered told.0 told.2)) in
-        (at.replies ++ (told.0 ∷ []), line_answered k told.0 some told.1, n, subst P front (appends_more h w x (text_of at.replies) (take told.3 one) at.told told.4))
+        let n = length (text_of at.replies) + told.2 in
+        let front : text_of at.replies ++ take told.2 one ≡ take n all =
+        sym (take-append-add (text_of at.replies) one told.2) ∙ ap (take n) (sym (text_answered told.0 (to_user told.1))) in
+        (at.replies ++ (told.0 ∷ []), line_answered k told.0 some told.1, n, subst P front (appends_more h w x (text_of at.replies) (take told.2 one) at.told told.3))
     fails k after x Read some told = stops x (text ++ end_bytes end) (lines_one text end lost.0) lost.1 told
     fails k after x Memory some told = stops x (text ++ end_bytes end) (lines_one text end lost.0) lost.1 told
     fails k after x TooManyLines some told = stops x (text ++ end_bytes end) (lines_one text end lost.0) lost.1 told
@@ -204,7 +213,8 @@ module _ (settings : Settings) (r u h w : Option (List ℕ)) (m : Machine) (made
       let P : List ℕ → Type 0 = λ t. Appends h x t in
       let Q : List (List ℕ) → Type 0 = λ ls. AnswersLines ls (empty settings) (at.replies ++ (reply ∷ [])) k in
       let R : List ℕ → Type 0 = λ xs. Counted xs (users_after at.before reply) in
-      let text_is = text_answered text Feed lost reply told.2 in
+      let user = to_user told.1 in
+      let text_is = text_answered text Feed lost reply user in
       record {
         bytes = at.bytes ++ (text ++ (10 ∷ []));
         replies = at.replies ++ (reply ∷ []);
@@ -213,13 +223,13 @@ module _ (settings : Settings) (r u h w : Option (List ℕ)) (m : Machine) (made
         taken = consumes_more r u v at.bytes (text ++ (10 ∷ [])) at.taken lost.1;
         answered = subst Q (sym (whole_line at.bytes text at.whole lost.0))
             (answers_more (lines_in at.bytes) text (empty settings) m k at.replies reply at.answered (answers_kept text m reply k told.1));
-        told = subst P (sym text_is) (appends_more h w x (text_of at.replies) (reply_text made reply) at.told told.4);
+        told = subst P (sym text_is) (appends_more h w x (text_of at.replies) (reply_text made reply) at.told told.3);
         next = λ rs.
             ap text_of (append_assoc at.replies (reply ∷ []) rs) ∙ at.next (reply ∷ rs)
-            ∙ ap (λ t. text_of at.replies ++ t) (text_more made at.before reply rs at.counted told.2)
+            ∙ ap (λ t. text_of at.replies ++ t) (text_more made at.before reply rs at.counted user)
             ∙ sym (append_assoc (text_of at.replies) (reply_text made reply) (text_after (users_after at.before reply) rs))
             ∙ ap (λ t. t ++ text_after (users_after at.before reply) rs) (sym text_is);
-        counted = subst R (sym told.3) (counted_after made at.before reply at.counted told.2);
+        counted = subst R (sym told.2) (counted_after made at.before reply at.counted user);
         few = few_after at.before reply count at.few;
       }
 

@@ -1,3 +1,4 @@
 pub mod Faults
 pub mod Sessions
 pub mod Turns
+pub mod Laws

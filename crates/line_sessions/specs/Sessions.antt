@@ -1,6 +1,7 @@
 -- A session line by line: each line of the input has one answer.
 use Rattle.std.specs.Prelude.{⊤, ◌≡◌, ◌≤◌, ℕ, ◌==◌, ◌+◌, List, [], ◌∷◌, ◌++◌, length, take, Option, IfSome, Result, Ok, Err, count_by, codes}
 use Rattle.std.specs.Io.KnownBytes.{Appends, Consumes, IsAtEnd}
+use Rattle.pid_blocks.specs.Users.{IsUser}
 use Rattle.requests.specs.declared.Reply.{Reply}
 use Rattle.requests.specs.Machine.{Machine, empty}
 use Rattle.requests.specs.Run.{Asked}
@@ -21,7 +22,8 @@ LineReply = Result Answered Fault
 -- a line's answer, and the host after it. A step has the machine's reply and leaves the machine's host; or, where it takes memory and
 -- the machine wouldn't refuse it, it wants memory and leaves the host as it was. A line that is no step leaves the host as it was.
 pub data AnswersLine (text : List ℕ) (m : Machine) : LineReply → Machine → Type 0 where
-  step : (a : Asked) (r : Reply) (k : Machine) → IsStep text (Ok a) → Did (told r) a.uid a.step m k → AnswersLine text m (Ok (record { uid = a.uid; reply = r })) k
+  step : (a : Asked) (r : Reply) (k : Machine) → IsStep text (Ok a) → IsUser a.uid → Did (told r) a.uid a.step m k
+      → AnswersLine text m (Ok (record { uid = a.uid; reply = r })) k
   refused : (f : Fault) → IsStep text (Err f) → AnswersLine text m (Err f) m
 
 -- the answers to lines one after another, from the host m on, which is k after them

@@ -1,7 +1,6 @@
 -- One line of a session: how it is read, and what comes of it.
-use Rattle.std.specs.Prelude.{⊤, ◌≡◌, ℕ, ◌-◌, ◌+◌, List, Option, Result, Ok, Err, take, slice_index, slice_set}
+use Rattle.std.specs.Prelude.{⊤, ◌≡◌, ℕ, ◌-◌, ◌+◌, List, ◌++◌, Option, Result, Ok, Err, take, slice_index, slice_set}
 use Rattle.std.specs.Io.KnownBytes.{Appends, Keeps}
-use Rattle.pid_blocks.specs.Users.{IsUser}
 use Rattle.requests.specs.Machine.{Machine}
 use Rattle.scenario.specs.Lines.{line}
 use Rattle.scenario.specs.OneStep.{most_step_bytes}
@@ -23,14 +22,14 @@ abbrev pub made_after : List ℕ → LineReply → List ℕ
 made_after made (Ok a) = slice_set made (a.uid - 1001) (slice_index made (a.uid - 1001) + 1)
 made_after made (Err f) = made
 
-abbrev pub ToUser : LineReply → Type 0
-ToUser (Ok a) = IsUser a.uid
-ToUser (Err f) = ⊤
+-- one more answer: it is counted, and its line stands behind the text
+abbrev pub Adds : (made after text new : List ℕ) → LineReply → Type 0
+Adds made after text new r = (after ≡ made_after made r) × (new ≡ text ++ reply_text made r)
 
 -- a line was answered, by a host that was m and is k then; where the write failed the writer has a front of the answer, else nothing
 abbrev pub Told : Result ⊤ ServeFault → List ℕ → (m k : Machine) → (made after : List ℕ) → (had has : Option (List ℕ)) → Type 0
 Told (Ok done) text m k made after had has =
-    (r : LineReply) × AnswersLine text m r k × ToUser r × (after ≡ made_after made r) × Appends had has (reply_text made r)
+    (r : LineReply) × AnswersLine text m r k × (after ≡ made_after made r) × Appends had has (reply_text made r)
 Told (Err Write) text m k made after had has =
-    (r : LineReply) × AnswersLine text m r k × ToUser r × (n : ℕ) × Appends had has (take n (reply_text made r))
+    (r : LineReply) × AnswersLine text m r k × (n : ℕ) × Appends had has (take n (reply_text made r))
 Told (Err e) text m k made after had has = Keeps had has

@@ -1,13 +1,17 @@
 //! What a line is answered.
-ghost use Rattle.std.specs.Prelude.{◌≡◌, ◌+◌, ◌^◌, ◌<◌, ◌++◌, ℕ, [], replicate, IfOk, IfErr, OnOk, OnErr, slice_index, string_bytes};
+ghost use Rattle.std.specs.Prelude.{◌≡◌, ◌+◌, ◌^◌, ◌<◌, ◌++◌, ℕ, Ok, replicate, IfOk, IfErr, OnOk, slice_index, string_bytes};
+ghost use Rattle.pid_blocks.specs.Users.{IsUser};
 ghost use Rattle.requests.specs.Machine.{empty};
+ghost use Rattle.requests.specs.declared.Reply.{Reply};
+ghost use Rattle.visibility.specs.Runs.{told, Did};
 ghost use Rattle.line_sessions.specs.declared.fault.ServeFault.TheVariants.{Memory};
-ghost use Rattle.line_sessions.specs.Sessions.{LineReply, AnswersLine};
-ghost use Rattle.line_sessions.specs.Turns.{ToUser, reply_text, made_after, Told};
+ghost use Rattle.line_sessions.specs.Sessions.{LineReply, AnswersLine, refusal};
+ghost use Rattle.line_sessions.specs.Turns.{Adds, Told};
 
 use crate::fault::ServeFault;
 use line_io::write_flushed;
-use requests::Host;
+use pid_blocks::Uid;
+use requests::{Host, PlainStep};
 use scenario::{Fault, USERS, count_reply, parse_step, push_line};
 use std::alloc::{AllocError, Global};
 use std::io::Write;
@@ -34,34 +38,54 @@ impl Session {
         })
     }
 
+    /// Makes the step, and adds the line of its reply to the text. An error is want of memory.
+    fn make(
+        &mut self,
+        alloc: Global,
+        uid: Uid,
+        step: PlainStep,
+        text: &mut String,
+    ) -> Result<(), ServeFault>
+        requires { (k : ℕ) → slice_index self.old.made k + 1 < 2 ^ 64 }
+        ensures ok { OnOk result ((r : Reply) × IsUser uid × Did (told r) uid step self.old.host self.new.host
+            × Adds self.old.made self.new.made (string_bytes text.old) (string_bytes text.new) (Ok (record { uid = uid; reply = r }))) }
+        ensures err { IfErr result (λ e. e ≡ Memory) }
+    {
+        let reply = self.host.step(alloc, uid, step.by_policy());
+        let number = count_reply(&mut self.made, uid);
+        push_line(text, uid, number, &reply)?;
+        Ok(())
+    }
+
     /// Makes the step that the line is, and adds the line of its reply to the text; or adds why the line is no step. An error is want of
     /// memory.
-    pub(crate) fn answer(
+    fn answer(
         &mut self,
         alloc: Global,
         line: &[u8],
         text: &mut String,
     ) -> Result<(), ServeFault>
         requires { (k : ℕ) → slice_index self.old.made k + 1 < 2 ^ 64 }
-        ensures ok { OnOk result ((reply : LineReply) × AnswersLine line.now self.old.host reply self.new.host × ToUser reply
-            × (self.new.made ≡ made_after self.old.made reply)
-            × (string_bytes text.new ≡ string_bytes text.old ++ reply_text self.old.made reply)) }
+        ensures ok { OnOk result ((r : LineReply) × AnswersLine line.now self.old.host r self.new.host
+            × Adds self.old.made self.new.made (string_bytes text.old) (string_bytes text.new) r) }
         ensures err { IfErr result (λ e. e ≡ Memory) }
     {
         match parse_step(alloc, line) {
-            Ok((uid, step)) => {
-                let reply = self.host.step(alloc, uid, step.by_policy());
-                let number = count_reply(&mut self.made, uid);
-                push_line(text, uid, number, &reply)?;
-            }
-            Err(Fault::Memory) => return Err(ServeFault::Memory),
-            Err(fault) => {
-                let name = fault.name();
-                writeln!(text, "refused {name}")?;
-            }
+            Ok((uid, step)) => self.make(alloc, uid, step, text),
+            Err(Fault::Memory) => Err(ServeFault::Memory),
+            Err(fault) => push_refusal(fault, text),
         }
-        Ok(())
     }
+}
+
+/// Adds the line that says why a line is no step. An error is want of memory.
+fn push_refusal(fault: Fault, text: &mut String) -> Result<(), ServeFault>
+    ensures ok { OnOk result (string_bytes text.new ≡ string_bytes text.old ++ refusal fault) }
+    ensures err { IfErr result (λ e. e ≡ Memory) }
+{
+    let name = fault.name();
+    writeln!(text, "refused {name}")?;
+    Ok(())
 }
 
 /// Answers the line to the writer, with `text` for the answer's text.

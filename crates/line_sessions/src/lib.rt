@@ -3,6 +3,7 @@
 
 mod answering;
 mod fault;
+pub mod laws;
 mod serving;
 
 pub use fault::ServeFault;
