@@ -4,6 +4,8 @@ use Rattle.std.proofs.lemmas.List.{length-append, append_assoc}
 use Rattle.std.specs.Io.KnownBytes.{Consumes}
 use Rattle.scenario.specs.declared.fault.Fault.{Fault}
 use Rattle.scenario.specs.declared.fault.Fault.TheVariants.{Read, Memory}
+use Rattle.scenario.specs.Fields.{Gives}
+use Rattle.scenario.specs.OneStep.{AnswersBy}
 use Rattle.scenario.specs.Plan.{Plan}
 use Rattle.scenario.specs.Scenarios.{plan_of, most_bytes, StandsFor, too_long, no_value, value, Answers, Yields, Tells, IsFront, Takes}
 
@@ -11,6 +13,11 @@ pub answers_of : (P : Result Plan Fault → Type 0) (plan r : Result Plan Fault)
 answers_of P plan (Err Memory) y p = tt
 answers_of P plan (Ok s) y p = subst P y p
 answers_of P plan (Err e) y p = subst P y p
+
+pub answers_by : {X Y : Type 0} (view : X → Y) (P : Result Y Fault → Type 0) (r : Result X Fault) (q : Result Y Fault) → Gives view r q → P q → AnswersBy view r P
+answers_by view P (Err Memory) q is p = tt
+answers_by view P (Ok x) q is p = subst P (sym is) p
+answers_by view P (Err e) q is p = subst P (sym is) p
 
 pub weaker_answers : (P Q : Result Plan Fault → Type 0) (r : Result Plan Fault) → ((q : Result Plan Fault) → P q → Q q) → Answers r P → Tells r Q
 weaker_answers P Q (Ok s) f a = f (Ok s) a

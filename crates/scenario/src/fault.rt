@@ -1,6 +1,6 @@
 ghost use Rattle.std.specs.Prelude.{◌≡◌};
 ghost use Rattle.scenario.specs.declared.fault.Fault.TheVariants.{Memory};
-ghost use Rattle.scenario.specs.Faults.{fault_status};
+ghost use Rattle.scenario.specs.Faults.{fault_status, fault_name};
 
 use std::alloc::{AllocError, AllocFailed};
 use thiserror::Error;
@@ -49,6 +49,24 @@ impl Fault {
         match self {
             Fault::Read | Fault::Memory => 3,
             _ => 1,
+        }
+    }
+
+    /// The name of the fault.
+    pub fn name(&self) -> &'static str
+        ensures { result.now ≡ fault_name self.now }
+    {
+        match self {
+            Fault::Read => "Read",
+            Fault::TooLong => "TooLong",
+            Fault::BadJson => "BadJson",
+            Fault::TooManySteps => "TooManySteps",
+            Fault::BadShape(_) => "BadShape",
+            Fault::BadUser(_) => "BadUser",
+            Fault::BadName(_) => "BadName",
+            Fault::BadNumber(_) => "BadNumber",
+            Fault::TooManyRules(_) => "TooManyRules",
+            Fault::Memory => "Memory",
         }
     }
 }

@@ -11,12 +11,28 @@ use pid_blocks::Uid;
 use requests::Reply;
 use std::alloc::{AllocError, Global};
 
+/// Adds the line of a reply that is its user's with this number.
+pub fn push_line(
+    text: &mut String,
+    uid: Uid,
+    number: u64,
+    reply: &Reply,
+) -> Result<(), AllocError>
+    ensures { OnOk result (string_bytes text.new
+        ≡ string_bytes text.old ++ (line number (answered (uid, reply.now))).text) }
+{
+    let uid = uid.get();
+    let words = Words(reply);
+    writeln!(text, "{uid} {number} {words}")?;
+    Ok(())
+}
+
 /// Adds the line of a reply, where it is to be shown.
-fn push_line(
+fn push_shown(
     text: &mut String,
     user: &Option<Uid>,
     uid: Uid,
-    number: usize,
+    number: u64,
     reply: &Reply,
 ) -> Result<(), AllocError>
     ensures { OnOk result (string_bytes text.new
@@ -27,15 +43,13 @@ fn push_line(
         None => true,
     };
     if is_shown {
-        let uid = uid.get();
-        let words = Words(reply);
-        writeln!(text, "{uid} {number} {words}")?;
+        push_line(text, uid, number, reply)?;
     }
     Ok(())
 }
 
 /// Counts one more reply of the user, and answers how many that makes.
-fn count_reply(made: &mut [usize; USERS], uid: Uid) -> usize
+pub fn count_reply(made: &mut [u64; USERS], uid: Uid) -> u64
     requires { (k : ℕ) → slice_index made.old k + 1 < 2 ^ 64 }
     ensures range { (1001 ≤ uid) × (uid ≤ 1064) }
     ensures number { result ≡ slice_index made.old (uid - 1001) + 1 }
@@ -57,10 +71,10 @@ pub fn render(
     ensures { IfOk result (λ s. string_bytes s ≡ shown user (map answered replies.now)) }
 {
     let mut text = String::new(alloc);
-    let mut made = [0usize; USERS];
+    let mut made = [0u64; USERS];
     for reply in replies {
         let number = count_reply(&mut made, reply.0);
-        push_line(&mut text, &user, reply.0, number, &reply.1)?;
+        push_shown(&mut text, &user, reply.0, number, &reply.1)?;
     }
     Ok(text)
 }

@@ -22,7 +22,7 @@ use trace_stop::Settings;
 pub(crate) const MOST_BYTES: usize = 4194304;
 
 impl Flaw {
-    fn at(self, number: u32) -> Fault
+    pub(crate) fn at(self, number: u32) -> Fault
         ensures { result ≡ at_step number self }
     {
         match self {

@@ -4,7 +4,7 @@ use std::marker::Model;
 use trace_stop::Settings;
 
 /// How many users there are.
-pub(crate) const USERS: usize = 64;
+pub const USERS: usize = 64;
 
 /// The most steps of a scenario.
 pub(crate) const MOST_STEPS: usize = 100000;

@@ -1,0 +1,257 @@
+-- A session, line after line.
+use Rattle.std.proofs.Common.{◌≡◌, ◌≤◌, ◌<◌, ◌+◌, ◌-◌, ℕ, List, [], ◌∷◌, ◌++◌, length, take, get_or, Option, Some, None, refl, sym, ap, subst, ◌∙◌, inl, inr, arith, take_all}
+use Rattle.std.specs.Prelude.{⊤, Result, Ok, Err, IfSome}
+use Rattle.std.specs.Io.KnownBytes.{Appends, Consumes, Keeps, IsAtEnd}
+use Rattle.std.proofs.Math.Seq.{take-append-add}
+use Rattle.std.proofs.lemmas.Bool.{cases_lt}
+use Rattle.std.proofs.lemmas.List.{append_assoc, append-nil, length-take}
+use Rattle.line_io.specs.declared.reading.LineEnd.{LineEnd}
+use Rattle.line_io.specs.declared.reading.LineEnd.TheVariants.{Feed, Input}
+use Rattle.line_io.specs.Lines.{lines_in, NoFeed, Loses, end_bytes}
+use Rattle.line_io.proofs.LineLemmas.{Whole, whole_start, whole_line, whole_more, lines_last, lines_few, lines_one}
+use Rattle.line_io.proofs.ReadLemmas.{consumes_more}
+use Rattle.pid_blocks.specs.Users.{IsUser}
+use Rattle.requests.specs.Machine.{Machine, empty}
+use Rattle.scenario.proofs.LineLemmas.{Counted, counted_start, counted_more, counted_few, counted_number}
+use Rattle.scenario.proofs.WriteLemmas.{appends_more, appends_kept}
+use Rattle.scenario.specs.declared.fault.Fault.{Fault}
+use Rattle.scenario.specs.Lines.{line}
+use Rattle.scenario.specs.OneStep.{IsStep, too_long, no_value, value, most_step_bytes}
+use Rattle.requests.specs.Run.{Asked}
+use Rattle.trace_stop.specs.declared.Settings.{Settings}
+use Rattle.line_sessions.specs.declared.fault.ServeFault.{ServeFault}
+use Rattle.line_sessions.specs.declared.fault.ServeFault.TheVariants.{Read, Write, Memory, TooManyLines}
+use Rattle.line_sessions.specs.Sessions.{LineReply, AnswersLine, step, refused, AnswersLines, refusal, text_after, text_of, Talk, Serves}
+use Rattle.line_sessions.specs.Turns.{kept, reply_text, made_after, Told}
+
+-- ---- a line that is longer than a step
+
+step_of_kept : (text : List ℕ) (q : Result Asked Fault) → most_step_bytes < length text → IsStep (kept text) q → IsStep text q
+step_of_kept text q long (too_long h) = too_long long
+step_of_kept text q long (no_value short h) = let all = length-take (most_step_bytes + 1) text in absurd (omega arith)
+step_of_kept text q long (value d short h) = let all = length-take (most_step_bytes + 1) text in absurd (omega arith)
+
+answers_long : (text : List ℕ) (m : Machine) (r : LineReply) (k : Machine) → most_step_bytes < length text → AnswersLine (kept text) m r k → AnswersLine text m r k
+answers_long text m r k long (step a reply after is user did) = step a reply after (step_of_kept text (Ok a) long is) user did
+answers_long text m r k long (refused f is) = refused f (step_of_kept text (Err f) long is)
+
+pub answers_kept : (text : List ℕ) (m : Machine) (r : LineReply) (k : Machine) → AnswersLine (kept text) m r k → AnswersLine text m r k
+answers_kept text m r k p = elim (cases_lt most_step_bytes (length text)) [
+  | inl long ↦ answers_long text m r k long p
+  | inr short ↦ subst (λ t. AnswersLine t m r k) (take_all (most_step_bytes + 1) text (omega arith)) p
+]
+
+-- ---- one more answer
+
+answers_more : (ls : List (List ℕ)) (l : List ℕ) (m n k : Machine) (rs : List LineReply) (r : LineReply) → AnswersLines ls m rs n → AnswersLine l n r k → AnswersLines (ls ++ (l ∷ [])) m (rs ++ (r ∷ [])) k
+answers_more [] l m n k [] r p q = (k, subst (λ x. AnswersLine l x r k) p q, refl)
+answers_more [] l m n k (s ∷ rs) r p q = absurd p
+answers_more (x ∷ ls) l m n k [] r p q = absurd p
+answers_more (x ∷ ls) l m n k (s ∷ rs) r p q = (p.0, p.1, answers_more ls l p.0 n k rs r p.2 q)
+
+abbrev pub ToUser : LineReply → Type 0
+ToUser (Ok a) = IsUser a.uid
+ToUser (Err f) = ⊤
+
+to_user : {text : List ℕ} {m : Machine} {r : LineReply} {k : Machine} → AnswersLine text m r k → ToUser r
+to_user (step a reply after is user did) = user
+to_user (refused f is) = tt
+
+-- the users of the replies so far
+abbrev pub users_after : List ℕ → LineReply → List ℕ
+users_after before (Ok a) = a.uid ∷ before
+users_after before (Err f) = before
+
+-- the line of an answer behind others, and what follows it
+text_more : (made before : List ℕ) (r : LineReply) (rs : List LineReply) → Counted made before → ToUser r → text_after before (r ∷ rs) ≡ reply_text made r ++ text_after (users_after before r) rs
+text_more made before (Ok a) rs counted user =
+    ap (λ n. (line (n + 1) a).text ++ text_after (a.uid ∷ before) rs) (sym (counted_number made before a.uid user.0 user.1 counted))
+text_more made before (Err f) rs counted user = refl
+
+counted_after : (made before : List ℕ) (r : LineReply) → Counted made before → ToUser r → Counted (made_after made r) (users_after before r)
+counted_after made before (Ok a) counted user = counted_more made before a.uid user.0 user.1 counted
+counted_after made before (Err f) counted user = counted
+
+few_after : (before : List ℕ) (r : LineReply) (n : ℕ) → length before ≤ n → length (users_after before r) ≤ n + 1
+few_after before (Ok a) n few = omega arith
+few_after before (Err f) n few = omega arith
+
+-- ---- what holds between lines: all lines that were taken have ended, and are answered
+
+pub record Talking (settings : Settings) (read unread had has : Option (List ℕ)) (m : Machine) (made : List ℕ) (count : ℕ) : Type 0 where
+  pub bytes : List ℕ
+  pub replies : List LineReply
+  pub before : List ℕ
+  pub whole : Whole bytes
+  pub taken : Consumes read unread bytes
+  pub answered : AnswersLines (lines_in bytes) (empty settings) replies m
+  pub told : Appends had has (text_of replies)
+  pub next : (rs : List LineReply) → text_of (replies ++ rs) ≡ text_of replies ++ text_after before rs
+  pub counted : Counted made before
+  pub few : length before ≤ count
+
+consumes_none : (a : Option (List ℕ)) → Consumes a a []
+consumes_none None = tt
+consumes_none (Some xs) = refl
+
+keeps_same : (a : Option (List ℕ)) → Keeps a a
+keeps_same None = tt
+keeps_same (Some xs) = refl
+
+-- a reader whose bytes were known is at its end
+at_end : (r u v : Option (List ℕ)) (bytes : List ℕ) → Consumes r u bytes → IfSome u (λ _. IsAtEnd v) → IfSome r (λ _. IsAtEnd v)
+at_end None u v bytes taken over = tt
+at_end (Some xs) None v bytes taken over = absurd taken
+at_end (Some xs) (Some ys) v bytes taken over = over
+
+appends_none : (a : Option (List ℕ)) → Appends a a []
+appends_none None = tt
+appends_none (Some xs) = sym (append-nil xs)
+
+pub start : (settings : Settings) (r w : Option (List ℕ)) (m : Machine) (made : List ℕ) → m ≡ empty settings → Counted made [] → Talking settings r r w w m made 0
+start settings r w m made is counted = record {
+  bytes = [];
+  replies = [];
+  before = [];
+  whole = whole_start;
+  taken = consumes_none r;
+  answered = is;
+  told = appends_none w;
+  next = λ rs. refl;
+  counted = counted;
+  few = omega arith;
+}
+
+-- the lines, with one that was taken now
+only_line : (text : List ℕ) → NoFeed text → 0 < length text → lines_in text ≡ text ∷ []
+only_line [] no_feed some = absurd (omega arith)
+only_line (x ∷ text) no_feed some = lines_last x text no_feed
+
+lines_with : (bytes text : List ℕ) (end : LineEnd) → Whole bytes → NoFeed text → (end ≡ Input → 0 < length text)
+    → lines_in (bytes ++ (text ++ end_bytes end)) ≡ lines_in bytes ++ (text ∷ [])
+lines_with bytes text Feed whole no_feed some = whole_line bytes text whole no_feed
+lines_with bytes text Input whole no_feed some =
+    whole (text ++ []) ∙ ap (λ ls. lines_in bytes ++ ls) (ap lines_in (append-nil text) ∙ only_line text no_feed (some refl))
+
+module _ (settings : Settings) (r u h w : Option (List ℕ)) (m : Machine) (made : List ℕ) (count : ℕ) (at : Talking settings r u h w m made count) (v : Option (List ℕ)) where
+  -- a line or a part of one was taken, and nothing was written
+  stops : (x : Option (List ℕ)) (rest : List ℕ) → length (lines_in rest) ≤ 1 → Consumes u v rest → Keeps w x
+      → (rs : List LineReply) × (rest : List ℕ) × (length (lines_in rest) ≤ 1) × Talk settings r v rest rs × Appends h x (text_of rs)
+  stops x rest few lost kept = (
+    at.replies,
+    rest,
+    few,
+    record { bytes = at.bytes; host = m; taken = consumes_more r u v at.bytes rest at.taken lost; answered = at.answered },
+    appends_kept h w x (text_of at.replies) at.told kept,
+  )
+
+  module _ (text : List ℕ) (end : LineEnd) (lost : Loses u v text (end_bytes end)) where
+    -- a line was taken, and has this answer
+    line_answered : (k : Machine) (reply : LineReply) → (end ≡ Input → 0 < length text) → AnswersLine (kept text) m reply k → Talk settings r v [] (at.replies ++ (reply ∷ []))
+    line_answered k reply some is =
+        let P : List ℕ → Type 0 = λ bytes. Consumes r v bytes in
+        let Q : List (List ℕ) → Type 0 = λ ls. AnswersLines ls (empty settings) (at.replies ++ (reply ∷ [])) k in
+        let bytes = at.bytes ++ (text ++ end_bytes end) in
+        record {
+          bytes = bytes;
+          host = k;
+          taken = subst P (sym (append-nil bytes)) (consumes_more r u v at.bytes (text ++ end_bytes end) at.taken lost.1);
+          answered = subst Q (sym (lines_with at.bytes text end at.whole lost.0 some))
+              (answers_more (lines_in at.bytes) text (empty settings) m k at.replies reply at.answered (answers_kept text m reply k is));
+        }
+
+    text_answered : (reply : LineReply) → ToUser reply → text_of (at.replies ++ (reply ∷ [])) ≡ text_of at.replies ++ reply_text made reply
+    text_answered reply user =
+        at.next (reply ∷ []) ∙ ap (λ t. text_of at.replies ++ t) (text_more made at.before reply [] at.counted user ∙ append-nil (reply_text made reply))
+
+    -- the last line was answered
+    pub ends_last : (k : Machine) (after : List ℕ) (x : Option (List ℕ)) → (end ≡ Input → 0 < length text) → Told (Ok tt) (kept text) m k made after w x
+        → IfSome u (λ _. IsAtEnd v) → Serves (Ok tt) settings r v h x
+    ends_last k after x some told over =
+        let P : List ℕ → Type 0 = λ t. Appends h x t in
+        (at.replies ++ (told.0 ∷ []), line_answered k told.0 some told.1, subst P (sym (text_answered told.0 (to_user told.1))) (appends_more h w x (text_of at.replies) (reply_text made told.0) at.told told.3), at_end r u v at.bytes at.taken over)
+
+    -- a line was taken, and its answer was not written
+    pub fails : (k : Machine) (after : List ℕ) (x : Option (List ℕ)) (e : ServeFault) → (end ≡ Input → 0 < length text) → Told (Err e) (kept text) m k made after w x → Serves (Err e) settings r v h x
+    fails k after x Write some told =
+        let P : List ℕ → Type 0 = λ t. Appends h x t in
+        let one = reply_text made told.0 in
+        let all = text_of (at.replies ++ (told.0 ∷ [])) in
+        let n = length (text_of at.replies) + told.2 in
+        let front : text_of at.replies ++ take told.2 one ≡ take n all =
+        sym (take-append-add (text_of at.replies) one told.2) ∙ ap (take n) (sym (text_answered told.0 (to_user told.1))) in
+        (at.replies ++ (told.0 ∷ []), line_answered k told.0 some told.1, n, subst P front (appends_more h w x (text_of at.replies) (take told.2 one) at.told told.3))
+    fails k after x Read some told = stops x (text ++ end_bytes end) (lines_one text end lost.0) lost.1 told
+    fails k after x Memory some told = stops x (text ++ end_bytes end) (lines_one text end lost.0) lost.1 told
+    fails k after x TooManyLines some told = stops x (text ++ end_bytes end) (lines_one text end lost.0) lost.1 told
+
+  -- the next line could not be read
+  pub cannot_read : (e : ServeFault) → (e ≡ Read) ⊎ (e ≡ Memory) → (text : List ℕ) → Loses u v text [] → Serves (Err e) settings r v h w
+  cannot_read e kind text lost =
+      let few = let one = lines_few text lost.0 in let same = ap (λ xs. length (lines_in xs)) (append-nil text) in omega arith in
+      let left = stops w (text ++ []) few lost.1 (keeps_same w) in
+      elim kind [
+        | inl is ↦ subst (λ x. Serves (Err x) settings r v h w) (sym is) left
+        | inr is ↦ subst (λ x. Serves (Err x) settings r v h w) (sym is) left
+      ]
+
+  -- the input has ended
+  pub ends_now : (text : List ℕ) → Loses u v text (end_bytes Input) → text ≡ [] → IfSome u (λ _. IsAtEnd v) → Serves (Ok tt) settings r v h w
+  ends_now text lost none over =
+      let P : List ℕ → Type 0 = λ bytes. Consumes r v (at.bytes ++ (bytes ++ [])) in (
+        at.replies,
+        record { bytes = at.bytes; host = m; taken = subst P none (consumes_more r u v at.bytes (text ++ []) at.taken lost.1); answered = at.answered },
+        at.told,
+        at_end r u v at.bytes at.taken over,
+      )
+
+  -- the line was answered, and there may be more
+  pub goes_on : (text : List ℕ) → Loses u v text (end_bytes Feed) → (k : Machine) (after : List ℕ) (x : Option (List ℕ)) → Told (Ok tt) (kept text) m k made after w x
+      → Talking settings r v h x k after (count + 1)
+  goes_on text lost k after x told =
+      let reply = told.0 in
+      let P : List ℕ → Type 0 = λ t. Appends h x t in
+      let Q : List (List ℕ) → Type 0 = λ ls. AnswersLines ls (empty settings) (at.replies ++ (reply ∷ [])) k in
+      let R : List ℕ → Type 0 = λ xs. Counted xs (users_after at.before reply) in
+      let user = to_user told.1 in
+      let text_is = text_answered text Feed lost reply user in
+      record {
+        bytes = at.bytes ++ (text ++ (10 ∷ []));
+        replies = at.replies ++ (reply ∷ []);
+        before = users_after at.before reply;
+        whole = whole_more at.bytes text at.whole lost.0;
+        taken = consumes_more r u v at.bytes (text ++ (10 ∷ [])) at.taken lost.1;
+        answered = subst Q (sym (whole_line at.bytes text at.whole lost.0))
+            (answers_more (lines_in at.bytes) text (empty settings) m k at.replies reply at.answered (answers_kept text m reply k told.1));
+        told = subst P (sym text_is) (appends_more h w x (text_of at.replies) (reply_text made reply) at.told told.3);
+        next = λ rs.
+            ap text_of (append_assoc at.replies (reply ∷ []) rs) ∙ at.next (reply ∷ rs)
+            ∙ ap (λ t. text_of at.replies ++ t) (text_more made at.before reply rs at.counted user)
+            ∙ sym (append_assoc (text_of at.replies) (reply_text made reply) (text_after (users_after at.before reply) rs))
+            ∙ ap (λ t. t ++ text_after (users_after at.before reply) rs) (sym text_is);
+        counted = subst R (sym told.2) (counted_after made at.before reply at.counted user);
+        few = few_after at.before reply count at.few;
+      }
+
+  -- no more lines are answered
+  pub too_many : Serves (Err TooManyLines) settings r u h w
+  too_many = (
+    at.replies,
+    [],
+    omega arith,
+    record { bytes = at.bytes; host = m; taken = let P : List ℕ → Type 0 = λ bytes. Consumes r u bytes in subst P (sym (append-nil at.bytes)) at.taken; answered = at.answered },
+    at.told,
+  )
+
+  pub room : (k : ℕ) → get_or made k 0 ≤ count
+  room k = let few = at.few in let each = counted_few made at.before at.counted k in omega arith
+
+-- nothing was taken, and nothing written
+pub begins_not : (settings : Settings) (r h : Option (List ℕ)) → Serves (Err Memory) settings r r h h
+begins_not settings r h = (
+  [],
+  [],
+  omega arith,
+  record { bytes = []; host = empty settings; taken = consumes_none r; answered = refl },
+  appends_none h,
+)

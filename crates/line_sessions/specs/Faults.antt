@@ -1,0 +1,11 @@
+-- The exit statuses of a session that ended early.
+use Rattle.std.specs.Prelude.{ℕ}
+use Rattle.line_sessions.specs.declared.fault.ServeFault.{ServeFault}
+use Rattle.line_sessions.specs.declared.fault.ServeFault.TheVariants as serve_fault
+
+-- 3 where the host failed the program, 1 where the input is refused
+abbrev pub serve_fault_status : ServeFault → ℕ
+serve_fault_status serve_fault.Read = 3
+serve_fault_status serve_fault.Write = 3
+serve_fault_status serve_fault.Memory = 3
+serve_fault_status serve_fault.TooManyLines = 1

@@ -1,0 +1,4 @@
+pub mod Faults
+pub mod Sessions
+pub mod Turns
+pub mod Laws

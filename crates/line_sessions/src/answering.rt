@@ -1,0 +1,108 @@
+//! What a line is answered.
+ghost use Rattle.std.specs.Prelude.{◌≡◌, ◌+◌, ◌^◌, ◌<◌, ◌++◌, ℕ, Ok, replicate, IfOk, IfErr, OnOk, slice_index, string_bytes};
+ghost use Rattle.pid_blocks.specs.Users.{IsUser};
+ghost use Rattle.requests.specs.Machine.{empty};
+ghost use Rattle.requests.specs.declared.Reply.{Reply};
+ghost use Rattle.visibility.specs.Runs.{told, Did};
+ghost use Rattle.line_sessions.specs.declared.fault.ServeFault.TheVariants.{Memory};
+ghost use Rattle.line_sessions.specs.Sessions.{LineReply, AnswersLine, refusal};
+ghost use Rattle.line_sessions.specs.Turns.{Adds, Told};
+
+use crate::fault::ServeFault;
+use line_io::write_flushed;
+use pid_blocks::Uid;
+use requests::{Host, PlainStep};
+use scenario::{Fault, USERS, count_reply, parse_step, push_line};
+use std::alloc::{AllocError, Global};
+use std::io::Write;
+use stop_handlers::ByPolicy;
+use trace_stop::Settings;
+
+/// A host, and how many steps of each user were answered.
+#[derive(Drop)]
+pub(crate) struct Session {
+    pub(crate) host: Host<ByPolicy>,
+    pub(crate) made: [u64; USERS],
+}
+
+impl Session {
+    /// A session in which nothing was answered. An error is want of memory.
+    pub(crate) fn new(alloc: Global, settings: Settings) -> Result<Session, AllocError>
+        ensures host { IfOk result (λ s. s.host ≡ empty settings) }
+        ensures made { IfOk result (λ s. s.made ≡ replicate 64 0) }
+    {
+        let host = Host::new(alloc, settings)?;
+        Ok(Session {
+            host,
+            made: [0; USERS],
+        })
+    }
+
+    /// Makes the step, and adds the line of its reply to the text. An error is want of memory.
+    fn make(
+        &mut self,
+        alloc: Global,
+        uid: Uid,
+        step: PlainStep,
+        text: &mut String,
+    ) -> Result<(), ServeFault>
+        requires { (k : ℕ) → slice_index self.old.made k + 1 < 2 ^ 64 }
+        ensures ok { OnOk result ((r : Reply) × IsUser uid × Did (told r) uid step self.old.host self.new.host
+            × Adds self.old.made self.new.made (string_bytes text.old) (string_bytes text.new) (Ok (record { uid = uid; reply = r }))) }
+        ensures err { IfErr result (λ e. e ≡ Memory) }
+    {
+        let reply = self.host.step(alloc, uid, step.by_policy());
+        let number = count_reply(&mut self.made, uid);
+        push_line(text, uid, number, &reply)?;
+        Ok(())
+    }
+
+    /// Makes the step that the line is, and adds the line of its reply to the text; or adds why the line is no step. An error is want of
+    /// memory.
+    fn answer(
+        &mut self,
+        alloc: Global,
+        line: &[u8],
+        text: &mut String,
+    ) -> Result<(), ServeFault>
+        requires { (k : ℕ) → slice_index self.old.made k + 1 < 2 ^ 64 }
+        ensures ok { OnOk result ((r : LineReply) × AnswersLine line.now self.old.host r self.new.host
+            × Adds self.old.made self.new.made (string_bytes text.old) (string_bytes text.new) r) }
+        ensures err { IfErr result (λ e. e ≡ Memory) }
+    {
+        match parse_step(alloc, line) {
+            Ok((uid, step)) => self.make(alloc, uid, step, text),
+            Err(Fault::Memory) => Err(ServeFault::Memory),
+            Err(fault) => push_refusal(fault, text),
+        }
+    }
+}
+
+/// Adds the line that says why a line is no step. An error is want of memory.
+fn push_refusal(fault: Fault, text: &mut String) -> Result<(), ServeFault>
+    ensures ok { OnOk result (string_bytes text.new ≡ string_bytes text.old ++ refusal fault) }
+    ensures err { IfErr result (λ e. e ≡ Memory) }
+{
+    let name = fault.name();
+    writeln!(text, "refused {name}")?;
+    Ok(())
+}
+
+/// Answers the line to the writer, with `text` for the answer's text.
+pub(crate) fn answer_line<W: Write>(
+    alloc: Global,
+    session: &mut Session,
+    line: &[u8],
+    text: &mut String,
+    writer: &mut W,
+) -> Result<(), ServeFault>
+    requires { (k : ℕ) → slice_index session.old.made k + 1 < 2 ^ 64 }
+    ensures { Told result line.now session.old.host session.new.host session.old.made session.new.made (W.contents writer.old) (W.contents writer.new) }
+{
+    text.clear();
+    session.answer(alloc, line, text)?;
+    match write_flushed(writer, text.as_bytes()) {
+        Ok(()) => Ok(()),
+        Err(_) => Err(ServeFault::Write),
+    }
+}

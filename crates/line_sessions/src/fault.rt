@@ -1,0 +1,51 @@
+ghost use Rattle.std.specs.Prelude.{◌≡◌};
+ghost use Rattle.line_sessions.specs.declared.fault.ServeFault.TheVariants.{Memory};
+ghost use Rattle.line_sessions.specs.Faults.{serve_fault_status};
+
+use std::alloc::{AllocError, AllocFailed};
+use thiserror::Error;
+
+/// Why a session ended before the end of its input.
+#[derive(Clone, Copy, Debug, PartialEq, Eq, Error)]
+pub enum ServeFault {
+    /// The reader failed.
+    #[error("tracehost: cannot read")]
+    Read,
+    /// The writer failed, or took no byte.
+    #[error("tracehost: cannot write")]
+    Write,
+    /// No memory was left to read a line, or for the text of its reply.
+    #[error("tracehost: out of memory")]
+    Memory,
+    /// As many lines were answered as a session may have.
+    #[error("tracehost: refused: TooManyLines")]
+    TooManyLines,
+}
+
+impl ServeFault {
+    /// The exit status of a program that ends by the fault.
+    pub fn status(&self) -> u8
+        ensures { result ≡ serve_fault_status self.now }
+    {
+        match self {
+            ServeFault::Read | ServeFault::Write | ServeFault::Memory => 3,
+            ServeFault::TooManyLines => 1,
+        }
+    }
+}
+
+impl From<AllocError> for ServeFault {
+    ghost from_gives = { λ _ e. e ≡ Memory };
+
+    fn from(_refused: AllocError) -> ServeFault {
+        ServeFault::Memory
+    }
+}
+
+impl<T: Drop> From<AllocFailed<T>> for ServeFault {
+    ghost from_gives = { λ _ e. e ≡ Memory };
+
+    fn from(_refused: AllocFailed<T>) -> ServeFault {
+        ServeFault::Memory
+    }
+}

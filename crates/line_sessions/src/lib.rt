@@ -1,0 +1,13 @@
+//! Sessions line by line: each line is a step, whose answer is written before the next line is read.
+#![tactic(auto)]
+
+mod answering;
+mod fault;
+pub mod laws;
+mod serving;
+
+pub use fault::ServeFault;
+pub use serving::serve;
+
+#[cfg(test)]
+mod tests;

@@ -1,0 +1,66 @@
+//! A session from its first line to its last.
+ghost use Rattle.std.specs.Prelude.{◌≡◌, ◌⊎◌, ◌+◌, ℕ, List, [], Ok, take, IfOk, IfErr, IfSome, OnErr};
+ghost use Rattle.std.specs.Io.KnownBytes.{IsAtEnd};
+ghost use Rattle.line_io.specs.declared.reading.LineEnd.TheVariants.{Input};
+ghost use Rattle.line_io.specs.Lines.{Loses, end_bytes};
+ghost use Rattle.scenario.specs.OneStep.{most_step_bytes};
+ghost use Rattle.line_sessions.specs.declared.fault.ServeFault.TheVariants.{Read as ReadFault, Memory};
+ghost use Rattle.line_sessions.specs.Sessions.{Serves};
+ghost use Rattle.line_sessions.specs.Turns.{kept};
+
+use crate::answering::{Session, answer_line};
+use crate::fault::ServeFault;
+use line_io::{LineEnd, read_line};
+use scenario::MOST_STEP_BYTES;
+use std::alloc::Global;
+use std::io::{BufRead, ErrorKind, Write};
+use trace_stop::Settings;
+
+/// Reads the next line; of a longer one than a step may have, enough is kept to tell.
+fn next_line<R: BufRead>(reader: &mut R, line: &mut Vec<u8>) -> Result<LineEnd, ServeFault>
+    ensures line { IfOk result (λ end. (text : List ℕ) × Loses (R.Read.remaining reader.old) (R.Read.remaining reader.new) text (end_bytes end)
+        × (line.new.items ≡ kept text)) }
+    ensures end { result ≡ Ok Input → IfSome (R.Read.remaining reader.old) (λ _. IsAtEnd (R.Read.remaining reader.new)) }
+    ensures err { OnErr result ((text : List ℕ) × Loses (R.Read.remaining reader.old) (R.Read.remaining reader.new) text []) }
+    ensures kind { IfErr result (λ e. (e ≡ ReadFault) ⊎ (e ≡ Memory)) }
+{
+    match read_line(reader, MOST_STEP_BYTES + 1, line) {
+        Ok(end) => Ok(end),
+        Err(error) if error.kind() == ErrorKind::OutOfMemory => Err(ServeFault::Memory),
+        Err(_) => Err(ServeFault::Read),
+    }
+}
+
+/// Answers each line of the reader by a line to the writer, to the reader's end: the steps are made by a host with these settings that
+/// nobody has used, and handlers answer by the policies that the lines install. A line's answer is written and flushed before the next
+/// line is read, and the memory that a line took is free by then.
+///
+/// # Errors
+///
+/// `Read` where the reader failed, `Memory` where none was left to read a line or for an answer's text: all lines before were answered.
+/// `Write` where the writer failed, or took no byte: it has a front of the answers. `TooManyLines` after 2^64 - 1 lines. A step that is
+/// answered ENOMEM is no error of the session.
+pub fn serve<R: BufRead, W: Write>(
+    alloc: Global,
+    settings: Settings,
+    reader: &mut R,
+    writer: &mut W,
+) -> Result<(), ServeFault>
+    ensures { Serves result settings (R.Read.remaining reader.old) (R.Read.remaining reader.new) (W.contents writer.old) (W.contents writer.new) }
+{
+    let mut session = Session::new(alloc, settings)?;
+    let mut line = Vec::new(alloc);
+    let mut text = String::new(alloc);
+    for _ in 0..u64::MAX {
+        let end = next_line(reader, &mut line)?;
+        let is_last = end == LineEnd::Input;
+        if is_last && line.is_empty() {
+            return Ok(());
+        }
+        answer_line(alloc, &mut session, line.as_slice(), &mut text, writer)?;
+        if is_last {
+            return Ok(());
+        }
+    }
+    Err(ServeFault::TooManyLines)
+}

@@ -1,0 +1,120 @@
+use crate::{ServeFault, serve};
+use std::io;
+use std::io::BufReader;
+use std::process::Abort;
+use std::test::Fail;
+use trace_stop::Settings;
+
+const LINES: &str = "{\"user\":1001,\"op\":\"spawn\"}
+
+{\"user\":1002,\"op\":\"spawn\"}
+{\"user\":1001,\"op\":\"fly\"}
+{\"user\":1065,\"op\":\"spawn\"}
+{\"user\":1001,\"op\":\"list\",\"caller\":7}
+{\"user\":1001,\"op\":\"list\",\"caller\":1000}";
+
+const ANSWERS: &str = "1001 1 new 1000 100000
+refused BadJson
+1002 1 new 2000 104000
+refused BadName
+refused BadUser
+1001 2 error ESRCH 3
+1001 3 pids 1000
+";
+
+/// Gives some bytes, and then fails.
+#[derive(Drop)]
+struct Broken<'a>(&'a [u8]);
+
+impl io::Read for Broken<'_> {
+    fn read(&mut self, buf: &mut [u8]) -> io::Result<usize> {
+        if self.0.is_empty() {
+            return Err(io::Error::from(io::ErrorKind::Other));
+        }
+        self.0.read(buf)
+    }
+}
+
+/// Has room for some bytes, and then fails.
+#[derive(Drop)]
+struct Full {
+    taken: Vec<u8>,
+    room: usize,
+}
+
+impl io::Write for Full {
+    fn write(&mut self, buf: &[u8]) -> io::Result<usize> {
+        let n = buf.len().min(self.room - self.room.min(self.taken.len()));
+        if n == 0 {
+            return Err(io::Error::from(io::ErrorKind::Other));
+        }
+        self.taken.extend_from_slice(&buf[..n])?;
+        Ok(n)
+    }
+
+    fn flush(&mut self) -> io::Result<()> {
+        Ok(())
+    }
+}
+
+#[test]
+fn lines_and_answers(rt: HostRuntime) -> Result<(), Fail> {
+    let mut reader = LINES.as_bytes();
+    let mut writer = Vec::new(rt.alloc());
+    serve(rt.alloc(), Settings::standard(), &mut reader, &mut writer)?;
+    assert_eq!(rt; writer.as_slice(), ANSWERS.as_bytes());
+    Ok(())
+}
+
+/// A line of so many bytes that begins with a step.
+fn check_length<R: Abort + AllocGlobal>(rt: &R, length: usize, want: &str) -> Result<(), Fail> {
+    let mut line = Vec::new(rt.alloc());
+    line.extend_from_slice(b"{\"user\":1001,\"op\":\"spawn\"}")?;
+    line.resize(length, b' ')?;
+    line.push(b'\n')?;
+    let mut reader = line.as_slice();
+    let mut writer = Vec::new(rt.alloc());
+    serve(rt.alloc(), Settings::standard(), &mut reader, &mut writer)?;
+    assert!(rt; writer.as_slice() == want.as_bytes(), "at {length}");
+    Ok(())
+}
+
+#[test]
+fn longest_lines(rt: HostRuntime) -> Result<(), Fail> {
+    check_length(&rt, 65536, "1001 1 new 1000 100000\n")?;
+    check_length(&rt, 65537, "refused TooLong\n")?;
+    check_length(&rt, 65538, "refused TooLong\n")
+}
+
+#[test]
+fn readers_that_fail(rt: HostRuntime) -> Result<(), Fail> {
+    let mut reader = BufReader::new(rt.alloc(), Broken(LINES.as_bytes()))?;
+    let mut writer = Vec::new(rt.alloc());
+    let ended = serve(rt.alloc(), Settings::standard(), &mut reader, &mut writer).err();
+    assert_eq!(rt; ended, Some(ServeFault::Read));
+    let before = ANSWERS.len() - "1001 3 pids 1000\n".len();
+    assert_eq!(rt; Some(writer.as_slice()), ANSWERS.as_bytes().get(..before));
+    Ok(())
+}
+
+/// A writer with so much room takes the front of the answers that it has room for.
+fn check_room<R: Abort + AllocGlobal>(rt: &R, room: usize) -> Result<(), Fail> {
+    let mut reader = LINES.as_bytes();
+    let mut writer = Full {
+        taken: Vec::new(rt.alloc()),
+        room,
+    };
+    let ended = serve(rt.alloc(), Settings::standard(), &mut reader, &mut writer).err();
+    let want = if room < ANSWERS.len() { Some(ServeFault::Write) } else { None };
+    assert!(rt; ended == want, "at {room}");
+    assert!(rt; ANSWERS.as_bytes().get(..room) == Some(writer.taken.as_slice()), "at {room}");
+    Ok(())
+}
+
+#[test]
+fn writers_that_fail(rt: HostRuntime) -> Result<(), Fail> {
+    for room in 0..ANSWERS.len() + 1 {
+        check_room(&rt, room)?;
+    }
+    Ok(())
+}
