@@ -38,7 +38,7 @@ from typing import Any, Literal, NamedTuple, NoReturn, TypeVar, Union, overload
 __all__ = [
     "Action", "Block", "Call", "Caught", "Compute", "Decision", "Ended", "Enter", "EventMask", "Handled", "Held", "Host",
     "Leave", "LwpEvent", "LwpInfo", "New", "Process", "ProgramEnded", "ProtocolError", "Raise", "RefusedStep", "Request",
-    "Rule", "Signal", "StopFlag", "Stopped", "User", "WaitOption", "Waited",
+    "Rule", "Signal", "StopFlag", "Stopped", "Turned", "User", "WaitOption", "Waited",
 ]  # fmt: skip
 
 

@@ -24,11 +24,13 @@ from tracehost import (
     Handled,
     Host,
     Leave,
+    New,
     Process,
     Raise,
     Request,
     Rule,
     Signal,
+    Turned,
     User,
     Waited,
 )
@@ -87,11 +89,13 @@ def names(signals: Iterable[Signal]) -> str:
     return " ".join(signal.name for signal in sorted(signals)) or "none"
 
 
-def run(user: User, collector: Collector, lwp: int, acts: list[Act]) -> None:
-    """The LWP has a turn for each act, and the collector takes what they bring."""
+def run(user: User, collector: Collector, lwp: int, acts: list[Act]) -> Turned:
+    """The LWP has a turn for each act, and the collector takes what they bring; what came of the last one."""
+    turned = None
     for act in acts:
-        user.turn(lwp, act)
+        turned = user.turn(lwp, act)
         collector.collect()
+    return turned
 
 
 def main() -> None:
@@ -102,8 +106,10 @@ def main() -> None:
         for worker in (first, second, third, fourth):
             collector.watch(worker.pid)
         # an LWP of the first worker has a signal pending when another crashes
-        run(user, collector, first.tid, [Block([Signal.SIGUSR1]), Raise(Signal.SIGUSR1), Enter(Call.THR_NEW), Leave()])
-        run(user, collector, fourth.tid + 1, [Raise(Signal.SIGSEGV), Compute()])
+        acts: list[Act] = [Block([Signal.SIGUSR1]), Raise(Signal.SIGUSR1), Enter(Call.THR_NEW), Leave()]
+        made = run(user, collector, first.tid, acts)
+        assert isinstance(made, New)
+        run(user, collector, made.tid, [Raise(Signal.SIGSEGV), Compute()])
         run(user, collector, second.tid, [Raise(Signal.SIGTERM), Compute()])
         run(user, collector, third.tid, [Raise(Signal.SIGABRT), Compute()])
         run(user, collector, fourth.tid, [Enter(Call.EXIT, 0), Leave()])
