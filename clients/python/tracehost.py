@@ -27,6 +27,7 @@ from __future__ import annotations
 
 import enum
 import errno
+import io
 import json
 import os
 import subprocess
@@ -181,8 +182,8 @@ class Decision(enum.Enum):
 class Compute(NamedTuple):
     """The LWP runs in user mode."""
 
-    def _keys(self) -> dict[str, Any]:
-        return {"act": "compute"}
+    def _keys(self) -> str:
+        return '"act":"compute"'
 
 
 class Raise(NamedTuple):
@@ -190,8 +191,8 @@ class Raise(NamedTuple):
 
     signal: int
 
-    def _keys(self) -> dict[str, Any]:
-        return {"act": "raise", "signal": _word(self.signal)}
+    def _keys(self) -> str:
+        return f'"act":"raise","signal":{_word(self.signal)}'
 
 
 class Block(NamedTuple):
@@ -199,8 +200,8 @@ class Block(NamedTuple):
 
     signals: Iterable[int]
 
-    def _keys(self) -> dict[str, Any]:
-        return {"act": "block", "set": [int(signal) for signal in self.signals]}
+    def _keys(self) -> str:
+        return f'"act":"block","set":{[int(signal) for signal in self.signals]}'
 
 
 class Enter(NamedTuple):
@@ -209,18 +210,16 @@ class Enter(NamedTuple):
     call: Call
     code: int | None = None
 
-    def _keys(self) -> dict[str, Any]:
-        keys: dict[str, Any] = {"act": "enter", "call": self.call.value}
-        if self.code is not None:
-            keys["code"] = int(self.code)
-        return keys
+    def _keys(self) -> str:
+        code = "" if self.code is None else f',"code":{int(self.code)}'
+        return f'"act":"enter","call":"{self.call.value}"{code}'
 
 
 class Leave(NamedTuple):
     """The system call that the LWP is in does its work, and is left."""
 
-    def _keys(self) -> dict[str, Any]:
-        return {"act": "leave"}
+    def _keys(self) -> str:
+        return '"act":"leave"'
 
 
 Act = Union[Compute, Raise, Block, Enter, Leave]
@@ -235,15 +234,11 @@ class Rule(NamedTuple):
     pass_signal: int | None = None
     """The signal that the process goes on with, for `Decision.CONTINUE` and `Decision.DETACH` alone."""
 
-    def _keys(self) -> dict[str, Any]:
-        keys: dict[str, Any] = {"decision": self.decision.value}
-        if self.signal is not None:
-            keys["signal"] = int(self.signal)
-        if self.flags:
-            keys["flags"] = _names_of(self.flags, _STOP_FLAGS)
-        if self.pass_signal is not None:
-            keys["pass"] = int(self.pass_signal)
-        return keys
+    def _object(self) -> str:
+        signal = "" if self.signal is None else f',"signal":{int(self.signal)}'
+        flags = f',"flags":{_names_of(self.flags, _STOP_FLAGS)}' if self.flags else ""
+        passed = "" if self.pass_signal is None else f',"pass":{int(self.pass_signal)}'
+        return f'{{"decision":"{self.decision.value}"{signal}{flags}{passed}}}'
 
 
 # ---------------------------------------------------------------- what is answered
@@ -374,10 +369,10 @@ class Host:
         command = [os.fspath(program or os.environ.get("TRACEHOST") or "tracehost"), "--lines"]
         if kill_on_debugger_exit is not None:
             command += ["--kill-on-debugger-exit", str(int(kill_on_debugger_exit))]
-        process = subprocess.Popen(command, stdin=subprocess.PIPE, stdout=subprocess.PIPE)
-        assert process.stdin is not None and process.stdout is not None
+        process = subprocess.Popen(command, stdin=subprocess.PIPE, stdout=subprocess.PIPE, bufsize=0)
+        assert isinstance(process.stdin, io.FileIO) and isinstance(process.stdout, io.FileIO)
         self._process = process
-        self._to, self._from = process.stdin, process.stdout
+        self._to, self._from = process.stdin, io.BufferedReader(process.stdout)
         self._lock = threading.Lock()
 
     def __enter__(self) -> Host:
@@ -419,8 +414,7 @@ class Host:
             if self._to.closed:
                 raise ProgramEnded(self._process.poll())
             try:
-                self._to.write(line + b"\n")
-                self._to.flush()
+                self._write(line + b"\n")
                 answer = self._from.readline()
             except BrokenPipeError:
                 answer = b""
@@ -432,12 +426,14 @@ class Host:
                 raise ProgramEnded(self._status_soon())
         return answer[:-1].decode()
 
+    def _write(self, line: bytes) -> None:
+        written = self._to.write(line)
+        while written < len(line):
+            written += self._to.write(line[written:])
+
     def _shut(self) -> None:
         """Ends the input, which ends the session."""
-        try:
-            self._to.close()
-        except BrokenPipeError:
-            pass  # the program went first
+        self._to.close()
 
     def _status_soon(self) -> int | None:
         """The status of a program that answers no more; None where it stays."""
@@ -446,13 +442,13 @@ class Host:
         except subprocess.TimeoutExpired:
             return None
 
-    def _reply(self, step: Mapping[str, Any]) -> Sequence[str]:
-        """The words of the reply to a step."""
-        line = self.step(step)
+    def _reply(self, uid: int, keys: str) -> Sequence[str]:
+        """The words of the reply to a step of the user with these keys: names and numbers, with nothing to escape."""
+        line = self._exchange(f'{{"user":{uid},{keys}}}'.encode())
         words = line.split(" ")
         if words[0] == "refused" and len(words) > 1:
             raise RefusedStep(words[1], " ".join(words[2:]))
-        if len(words) < 3 or words[0] != str(step["user"]) or not words[1].isdecimal():
+        if len(words) < 3 or words[0] != str(uid) or not words[1].isdecimal():
             raise ProtocolError(f"no answer to this step: {line!r}")
         if words[2] == "held":
             raise Held
@@ -466,14 +462,14 @@ class User:
 
     def __init__(self, host: Host, uid: int) -> None:
         self.host = host
-        self.uid = uid
+        self.uid = int(uid)
 
     def __repr__(self) -> str:
         return f"User({self.uid})"
 
     def spawn(self) -> New:
         """A new process with one LWP, whose parent is process 1. EAGAIN where the user has 250 processes or 1000 LWPs."""
-        return _answer(self._ask({"op": "spawn"}), "new", _new)
+        return _answer(self._ask('"op":"spawn"'), "new", _new)
 
     def process(self, pid: int) -> Process:
         """The process with this number, as a caller. Whether the user has such a process is seen at each call."""
@@ -485,14 +481,14 @@ class User:
         ESRCH where the user has no such LWP; EINVAL for an act that doesn't go with what the LWP is in; EAGAIN at a limit;
         raises Held where it doesn't run.
         """
-        words = self._ask({"op": "turn", "lwp": _word(lwp), **act._keys()})
+        words = self._ask(f'"op":"turn","lwp":{_word(lwp)},{act._keys()}')
         reader = _TURNED.get(words[0])
         if reader is None:
             raise ProtocolError(f"no answer to a turn: {' '.join(words)!r}")
         return _read(words, reader)
 
-    def _ask(self, keys: Mapping[str, Any]) -> Sequence[str]:
-        return self.host._reply({"user": self.uid, **keys})
+    def _ask(self, keys: str) -> Sequence[str]:
+        return self.host._reply(self.uid, keys)
 
 
 class Process:
@@ -533,64 +529,60 @@ class Process:
         another process traces it, or its stop wasn't told by wait4 yet; ESRCH where the user has none; EINVAL for a bad
         `data`, or where tracers would make a cycle.
         """
-        keys: dict[str, Any] = {"op": "ptrace", "caller": _word(self.pid), "request": request.name}
         if request == Request.PT_SET_EVENT_MASK:
-            return self._set_event_mask(keys, target, data)
-        if request != Request.PT_TRACE_ME:
-            keys["target"] = _word(target)
-            keys["data"] = _word(data)
-        words = self.user._ask(keys)
+            return self._set_event_mask(target, data)
+        if request == Request.PT_TRACE_ME:
+            more = ""
+        else:
+            more = f',"target":{_word(target)},"data":{_word(data)}'
         word, reader = _PTRACE.get(request, ("ok", _done))
-        return _answer(words, word, reader)
+        return _answer(self._ask("ptrace", f',"request":"{request.name}"{more}'), word, reader)
 
-    def _set_event_mask(self, keys: dict[str, Any], target: int, mask: int) -> None:
-        keys["target"] = _word(target)
+    def _set_event_mask(self, target: int, mask: int) -> None:
         if int(mask) & ~_ALL_EVENTS:
             # bits without a name: the model is asked for what it refuses first, and EINVAL comes last
-            keys["request"] = Request.PT_GET_EVENT_MASK.name
-            self.user._ask(keys)
+            self.ptrace(Request.PT_GET_EVENT_MASK, target)
             raise OSError(errno.EINVAL, os.strerror(errno.EINVAL))
-        keys["mask"] = _names_of(mask, _EVENTS)
-        _answer(self.user._ask(keys), "ok", _done)
+        more = f',"target":{_word(target)},"mask":{_names_of(mask, _EVENTS)}'
+        _answer(self._ask("ptrace", f',"request":"PT_SET_EVENT_MASK"{more}'), "ok", _done)
 
     def wait4(self, which: int = -1, options: WaitOption = WaitOption(0)) -> Waited:
         """wait4(2): the status of a child or tracee, `which` by number or -1 for any; ``Waited(0, 0)`` for nothing.
 
         ECHILD where the caller has none that `which` names; EINVAL where `which` is 0 or below -1.
         """
-        keys: dict[str, Any] = {"op": "wait4", "caller": _word(self.pid), "which": int(which)}
-        if options:
-            keys["options"] = _names_of(options, _OPTIONS)
-        words = self.user._ask(keys)
+        named = f',"options":{_names_of(options, _OPTIONS)}' if options else ""
+        words = self._ask("wait4", f',"which":{int(which)}{named}')
         return Waited(0, 0) if words[0] == "nothing" else _answer(words, "status", _waited)
 
     def kill(self, which: int, signal: int) -> None:
         """kill(2): posts a signal (0 for none) to a process, or with -1 to all others of the user."""
-        keys = {"op": "kill", "caller": _word(self.pid), "which": int(which), "signal": _word(signal)}
-        _answer(self.user._ask(keys), "ok", _done)
+        _answer(self._ask("kill", f',"which":{int(which)},"signal":{_word(signal)}'), "ok", _done)
 
     def sigaction(self, signal: int, action: Action) -> None:
         """sigaction(2): what the caller does with a signal. EINVAL for no signal, and for SIGKILL and SIGSTOP."""
-        keys = {"op": "sigaction", "caller": _word(self.pid), "signal": _word(signal), "action": action.value}
-        _answer(self.user._ask(keys), "ok", _done)
+        _answer(self._ask("sigaction", f',"signal":{_word(signal)},"action":"{action.value}"'), "ok", _done)
 
     def list(self) -> tuple[int, ...]:
         """The user's processes, zombies too, by rising number."""
-        return _answer(self.user._ask({"op": "list", "caller": _word(self.pid)}), "pids", _numbers)
+        return _answer(self._ask("list"), "pids", _numbers)
 
     def install(self, rules: Iterable[Rule]) -> None:
         """Adds a stop handler with these rules behind the caller's others. EAGAIN where the user has 64."""
-        keys = {"op": "install", "caller": _word(self.pid), "rules": [rule._keys() for rule in rules]}
-        _answer(self.user._ask(keys), "ok", _done)
+        objects = ",".join(rule._object() for rule in rules)
+        _answer(self._ask("install", f',"rules":[{objects}]'), "ok", _done)
 
     def handle(self) -> None | Waited | Handled:
         """Waits for any child, and gives a trace stop to the caller's handlers; None for nothing. ECHILD as wait4."""
-        words = self.user._ask({"op": "handle", "caller": _word(self.pid)})
+        words = self._ask("handle")
         if words[0] == "nothing":
             return None
         if words[0] == "status":
             return _answer(words, "status", _waited)
         return _answer(words, "handled", _handled)
+
+    def _ask(self, op: str, keys: str = "") -> Sequence[str]:
+        return self.user._ask(f'"op":"{op}","caller":{_word(self.pid)}{keys}')
 
 
 # ---------------------------------------------------------------- reading replies
@@ -614,11 +606,12 @@ def _word(number: int) -> int:
     return number + (1 << 32) if -(1 << 31) <= number < 0 else number
 
 
-def _names_of(flags: int, names: Mapping[str, int]) -> list[str]:
+def _names_of(flags: int, names: Mapping[str, int]) -> str:
+    """The flags' names, as an array of JSON."""
     rest = int(flags) & ~sum(int(bit) for bit in names.values())
     if rest:
         raise ValueError(f"no flag has the bits {rest:#x}")
-    return [name for name, bit in names.items() if flags & bit]
+    return "[" + ",".join(f'"{name}"' for name, bit in names.items() if flags & bit) + "]"
 
 
 def _raise_errno(words: Sequence[str]) -> NoReturn:
