@@ -260,13 +260,14 @@ int th_spawn(th_host *h, unsigned user, th_pid *pid, th_lwpid *lwp);
 enum th_call { TH_CALL_EXIT, TH_CALL_FORK, TH_CALL_VFORK, TH_CALL_EXEC, TH_CALL_THR_NEW, TH_CALL_THR_EXIT, TH_CALL_OTHER };
 
 /* What came of an LWP's turn, and the fields that go with it. */
+enum th_outcome { TH_DONE, TH_NEW, TH_STOPPED, TH_CAUGHT, TH_ENDED };
 struct th_turned {
-    enum { TH_DONE, TH_NEW, TH_STOPPED, TH_CAUGHT, TH_ENDED } what;
-    th_pid pid;    /* TH_NEW: the new process, or the LWP's own where an LWP was made */
-    th_lwpid lwp;  /* TH_NEW: the new LWP; TH_STOPPED: the LWP that stopped */
-    int signal;    /* TH_STOPPED, TH_CAUGHT */
-    int flags;     /* TH_STOPPED */
-    int status;    /* TH_ENDED */
+    enum th_outcome what;
+    th_pid pid;   /* TH_NEW: the new process, or the LWP's own where an LWP was made */
+    th_lwpid lwp; /* TH_NEW: the new LWP; TH_STOPPED: the LWP that stopped */
+    int signal;   /* TH_STOPPED, TH_CAUGHT */
+    int flags;    /* TH_STOPPED */
+    int status;   /* TH_ENDED */
 };
 
 /*

@@ -89,7 +89,44 @@ static void statuses(void)
     CHECK(TH_WIFSTOPPED(17 << 8 | 0177) && TH_WSTOPSIG(17 << 8 | 0177) == TH_SIGSTOP && !TH_WIFSIGNALED(17 << 8 | 0177));
     CHECK(TH_WIFCONTINUED(0x13) && !TH_WIFSIGNALED(0x13) && !TH_WIFEXITED(0x13));
     CHECK(th_freebsd_errno(EAGAIN) == 35 && th_freebsd_errno(ESRCH) == 3 && th_freebsd_errno(TH_EHELD) == 0);
-    CHECK(strcmp(th_signame(TH_SIGINFO), "SIGINFO") == 0 && th_signame(0) == NULL && th_signame(32) == NULL);
+}
+
+/* each signal's name, and its number in <sys/signal.h> of FreeBSD */
+static void signals(void)
+{
+#define SIGNAL(name, number) CHECK(TH_##name == (number) && strcmp(th_signame(number), #name) == 0)
+    SIGNAL(SIGHUP, 1);
+    SIGNAL(SIGINT, 2);
+    SIGNAL(SIGQUIT, 3);
+    SIGNAL(SIGILL, 4);
+    SIGNAL(SIGTRAP, 5);
+    SIGNAL(SIGABRT, 6);
+    SIGNAL(SIGEMT, 7);
+    SIGNAL(SIGFPE, 8);
+    SIGNAL(SIGKILL, 9);
+    SIGNAL(SIGBUS, 10);
+    SIGNAL(SIGSEGV, 11);
+    SIGNAL(SIGSYS, 12);
+    SIGNAL(SIGPIPE, 13);
+    SIGNAL(SIGALRM, 14);
+    SIGNAL(SIGTERM, 15);
+    SIGNAL(SIGURG, 16);
+    SIGNAL(SIGSTOP, 17);
+    SIGNAL(SIGTSTP, 18);
+    SIGNAL(SIGCONT, 19);
+    SIGNAL(SIGCHLD, 20);
+    SIGNAL(SIGTTIN, 21);
+    SIGNAL(SIGTTOU, 22);
+    SIGNAL(SIGIO, 23);
+    SIGNAL(SIGXCPU, 24);
+    SIGNAL(SIGXFSZ, 25);
+    SIGNAL(SIGVTALRM, 26);
+    SIGNAL(SIGPROF, 27);
+    SIGNAL(SIGWINCH, 28);
+    SIGNAL(SIGINFO, 29);
+    SIGNAL(SIGUSR1, 30);
+    SIGNAL(SIGUSR2, 31);
+    CHECK(th_signame(0) == NULL && th_signame(32) == NULL);
 }
 
 /* what is no step: its fault, and the session goes on */
@@ -207,6 +244,7 @@ int main(int argc, char **argv)
         return 2;
     arguments(argv[1]);
     statuses();
+    signals();
     refused_steps(argv[1]);
     settings(argv[1]);
     interrupted(argv[1]);

@@ -5,6 +5,7 @@ What is expected comes from the manual pages, named beside each test, and from t
 
 from __future__ import annotations
 
+import enum
 import errno
 import os
 import pathlib
@@ -78,6 +79,38 @@ class Sessions(unittest.TestCase):
         with self.assertRaises(OSError) as caught:
             call(*arguments)  # type: ignore[operator]
         self.assertEqual(caught.exception.errno, number)
+
+
+class Numbers(unittest.TestCase):
+    """The numbers of FreeBSD's headers. The protocol goes by names, so that no session would show a wrong one."""
+
+    def test_sys_ptrace_h(self) -> None:
+        requests = (
+            "TRACE_ME 0 CONTINUE 7 KILL 8 STEP 9 ATTACH 10 DETACH 11 LWPINFO 13 GETNUMLWPS 14 GETLWPLIST 15 SUSPEND 18"
+            " RESUME 19 TO_SCE 20 TO_SCX 21 SYSCALL 22 FOLLOW_FORK 23 LWP_EVENTS 24 GET_EVENT_MASK 25 SET_EVENT_MASK 26"
+        )
+        flags = "SCE 4 SCX 8 EXEC 16 FORKED 64 CHILD 128 BORN 256 EXITED 512 VFORKED 1024 VFORK_DONE 2048"
+        events = "EXEC 1 SCE 2 SCX 4 SYSCALL 6 FORK 8 LWP 16 VFORK 32"
+        tables: list[tuple[type[enum.IntEnum] | type[enum.IntFlag], str, str]] = [
+            (Request, "PT_", requests),
+            (StopFlag, "PL_FLAG_", flags),
+            (EventMask, "PTRACE_", events),
+        ]
+        for kind, prefix, table in tables:
+            words = table.split()
+            wanted = {prefix + name: int(number) for name, number in zip(words[::2], words[1::2])}
+            self.assertEqual({name: int(member) for name, member in kind.__members__.items()}, wanted)
+
+    def test_sys_signal_h(self) -> None:
+        names = (
+            "HUP INT QUIT ILL TRAP ABRT EMT FPE KILL BUS SEGV SYS PIPE ALRM TERM URG STOP TSTP CONT CHLD TTIN TTOU IO XCPU"
+            " XFSZ VTALRM PROF WINCH INFO USR1 USR2"
+        )
+        self.assertEqual([signal.name for signal in Signal], ["SIG" + name for name in names.split()])
+        self.assertEqual([int(signal) for signal in Signal], list(range(1, 32)))
+
+    def test_sys_wait_h(self) -> None:
+        self.assertEqual([int(o) for o in (WaitOption.WNOHANG, WaitOption.WUNTRACED, WaitOption.WCONTINUED)], [1, 2, 4])
 
 
 class WithoutADebugger(Sessions):
