@@ -424,7 +424,7 @@ class Host:
             if not answer.endswith(b"\n"):
                 self._shut()
                 raise ProgramEnded(self._status_soon())
-        return answer[:-1].decode()
+        return answer[:-1].decode("utf-8", "replace")
 
     def _write(self, line: bytes) -> None:
         written = self._to.write(line)
