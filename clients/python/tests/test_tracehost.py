@@ -115,7 +115,7 @@ class Numbers(unittest.TestCase):
 
 class WithoutADebugger(Sessions):
     def test_spawn_and_list(self) -> None:
-        """Numbers count up in a user's own block; a user sees no process of another's (security(7))."""
+        """Numbers count up in a user's own block; a user sees no process of another's (cr_seeotheruids(9))."""
         self.assertEqual(self.target, New(1001, 100001))
         other = self.host.user(1002)
         self.assertEqual(other.spawn(), New(2000, 104000))
