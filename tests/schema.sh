@@ -7,7 +7,7 @@ set -euo pipefail
 cd "$(dirname "$(readlink -f "${BASH_SOURCE[0]}")")/.."
 program=${1:-$PWD/crates/tracehost/out/tracehost}
 
-if ! python3 -c 'import jsonschema' 2>/dev/null; then
+if ! python3 -c 'from jsonschema import Draft202012Validator' 2>/dev/null; then
   echo "skipped: python3 with its module jsonschema isn't here, and the schema isn't compared with the program"
   exit 0
 fi
