@@ -26,8 +26,7 @@ struct th_host {
     int socket; /* -1 once the session is broken */
     pid_t program;
     struct text step;   /* the line that is sent */
-    struct text answer; /* what was received; the line ends at `line_end`, the rest is the next one's */
-    size_t line_end;
+    struct text answer; /* the line that was received, with a NUL in place of its line feed */
     char fault[32];
 };
 
@@ -288,19 +287,24 @@ static int send_all(th_host *h, const char *bytes, size_t length)
     return 0;
 }
 
-/* Receives to the end of a line, which then stands in `answer`, with a NUL in place of its line feed. */
+static int no_reply(th_host *h)
+{
+    break_off(h);
+    errno = EPROTO;
+    return -1;
+}
+
+/* Receives to the end of a line, behind which nothing may stand: the program answers a line by one line. */
 static int receive_line(th_host *h)
 {
     struct text *answer = &h->answer;
-    size_t seen = 0;
+    answer->length = 0;
     for (;;) {
-        char *feed = answer->length > seen ? memchr(answer->bytes + seen, '\n', answer->length - seen) : NULL;
+        char *feed = answer->length > 0 ? memchr(answer->bytes, '\n', answer->length) : NULL;
         if (feed != NULL) {
             *feed = '\0';
-            h->line_end = (size_t)(feed - answer->bytes) + 1;
-            return 0;
+            return feed + 1 == answer->bytes + answer->length ? 0 : no_reply(h);
         }
-        seen = answer->length;
         if (room_for(answer, 4096) != 0) {
             break_off(h);
             errno = ENOMEM;
@@ -330,12 +334,6 @@ static int exchange(th_host *h)
         errno = EPIPE;
         return -1;
     }
-    /* what stands behind the last answer's line is the next one's */
-    if (h->line_end > 0) {
-        memmove(h->answer.bytes, h->answer.bytes + h->line_end, h->answer.length - h->line_end);
-        h->answer.length -= h->line_end;
-        h->line_end = 0;
-    }
     if (send_all(h, h->step.bytes, h->step.length) != 0 || receive_line(h) != 0)
         return -1;
     h->fault[0] = '\0';
@@ -360,7 +358,7 @@ ssize_t th_step_text(th_host *h, const char *line, char *answer, size_t size)
     add_bytes(&h->step, line, strlen(line));
     if (exchange(h) != 0)
         return -1;
-    size_t length = h->line_end - 1;
+    size_t length = h->answer.length - 1;
     if (size > 0) {
         size_t kept = length < size ? length : size - 1;
         memcpy(answer, h->answer.bytes, kept);
@@ -442,13 +440,6 @@ static void begin_call(th_host *h, th_caller caller, const char *op)
 }
 
 /* ---------------------------------------------------------------- reading a reply */
-
-static int no_reply(th_host *h)
-{
-    break_off(h);
-    errno = EPROTO;
-    return -1;
-}
 
 /* The length of the word at *at, which moves behind it and the space that follows. */
 static size_t word_length(const char **at, const char **word)

@@ -62,8 +62,9 @@ static void arguments(const char *program)
     REFUSED(EINVAL, th_ptrace(h, self, TH_PT_LWPINFO, 1001, &info, 0));
     REFUSED(EINVAL, th_ptrace(h, self, TH_PT_LWPINFO, 1001, &info, (int)sizeof info + 1));
     REFUSED(EFAULT, th_ptrace(h, self, TH_PT_LWPINFO, 1001, NULL, (int)sizeof info));
-    CHECK(th_ptrace(h, self, TH_PT_LWPINFO, 1001, &info, (int)(2 * sizeof(int))) == 0);
-    CHECK(info.pl_lwpid == 100001 && info.pl_event == TH_PL_EVENT_SIGNAL);
+    int front[3] = {0, 0, 7};
+    CHECK(th_ptrace(h, self, TH_PT_LWPINFO, 1001, front, (int)(2 * sizeof(int))) == 0);
+    CHECK(front[0] == 100001 && front[1] == TH_PL_EVENT_SIGNAL && front[2] == 7);
     REFUSED(EINVAL, th_ptrace(h, self, TH_PT_GET_EVENT_MASK, 1001, &mask, 1));
     REFUSED(EFAULT, th_ptrace(h, self, TH_PT_SET_EVENT_MASK, 1001, NULL, (int)sizeof mask));
     mask = 64;
@@ -176,7 +177,7 @@ static void alarmed(int sig)
     alarms++;
 }
 
-/* a signal at each millisecond, without SA_RESTART: every call still answers */
+/* a signal at each millisecond, without SA_RESTART: every call still answers, and a line of 8 MB is sent whole */
 static void interrupted(const char *program)
 {
     struct sigaction action = {0};
@@ -192,6 +193,13 @@ static void interrupted(const char *program)
             break;
         }
     }
+    size_t most = 8 << 20;
+    char *line = malloc(most), answer[64];
+    memset(line, ' ', most - 1);
+    line[most - 1] = '\0';
+    CHECK(th_step_text(h, line, answer, sizeof answer) == 15 && strcmp(answer, "refused TooLong") == 0);
+    free(line);
+    CHECK(th_kill(h, self, 1001, 0) == 0);
     int status = th_close(h);
     setitimer(ITIMER_REAL, &none, NULL);
     CHECK(alarms > 0 && status == 0);
@@ -210,6 +218,8 @@ static void broken(const char *fake)
         {"1002 1 new 1000 100000", EPROTO, EPIPE},
         {"1001 1 new 1000", EPROTO, EPIPE},
         {"1001 1 new 1000 99999999999", EPROTO, EPIPE},
+        {"1001 1 new 1000 4294967297", EPROTO, EPIPE},
+        {"1001 1 new 1000 100000\n1001 2 ok", EPROTO, EPIPE},
         {"1001 1 new 1000 x", EPROTO, EPIPE},
         {"1001 1 ok", EPROTO, EPIPE},
         {"1001 1 error EFLY 99", EPROTO, EPIPE},
@@ -230,8 +240,16 @@ static void broken(const char *fake)
         int status = th_close(h);
         CHECK(WIFEXITED(status) && WEXITSTATUS(status) == (rows[i].answer[0] == '\0' ? 4 : 0));
     }
-    setenv("FAKE", "1001 1 lwps", 1);
+    /* a program that has ended before anything is sent */
+    setenv("FAKE", "gone", 1);
+    siginfo_t ended;
     th_host *h = th_start(fake, NULL);
+    while (waitid(P_ALL, 0, &ended, WEXITED | WNOWAIT) != 0 && errno == EINTR)
+        continue;
+    REFUSED(EPIPE, th_spawn(h, 1001, NULL, NULL));
+    th_close(h);
+    setenv("FAKE", "1001 1 lwps", 1);
+    h = th_start(fake, NULL);
     struct th_lwpinfo info;
     REFUSED(EPROTO, th_ptrace(h, self, TH_PT_LWPINFO, 1001, &info, (int)sizeof info));
     th_close(h);

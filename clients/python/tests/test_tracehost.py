@@ -465,7 +465,8 @@ class Programs(unittest.TestCase):
             self.assertEqual(host.user(1001).spawn(), New(1000, 100000))
 
     def test_lines_that_are_no_reply(self) -> None:
-        for line in ("", "1001", "1001 1", "1002 1 ok", "1001 1 number 3", "1001 1 new 5", "1001 1 new a b", "1001 1 error EFLY 99"):
+        lines = ["", "1001", "1001 1", "1002 1 new 2000 104000", "1001 1 number 3", "1001 1 new 5", "1001 1 new a b"]
+        for line in [*lines, "1001 1 error EFLY 99"]:
             with Host(self.script(f"while read line; do echo '{line}'; done\n")) as host:
                 with self.assertRaises(ProtocolError, msg=line):
                     host.user(1001).spawn()
