@@ -1,0 +1,9 @@
+#!/bin/sh
+# A stand-in for the program: answers each line with $FAKE, or ends with status 4 at the first one where FAKE is empty, and at once
+# where it is `gone`.
+[ "$FAKE" != gone ] || exit 4
+while read -r line; do
+  [ -n "$FAKE" ] || exit 4
+  printf '%s\n' "$FAKE"
+done
+exit 0

@@ -1,0 +1,288 @@
+/*
+ * A client of `tracehost --lines`: FreeBSD's ptrace(2), wait(2), sigaction(2) and kill(2), answered by a model.
+ *
+ *     th_host *h = th_start("./tracehost", NULL);
+ *     th_pid debugger, target;
+ *     int status;
+ *     th_spawn(h, 1001, &debugger, NULL);
+ *     th_spawn(h, 1001, &target, NULL);
+ *     th_caller self = {1001, debugger};
+ *     th_ptrace(h, self, TH_PT_ATTACH, target, NULL, 0);
+ *     th_wait4(h, self, -1, &status, 0);          // TH_WIFSTOPPED(status), TH_WSTOPSIG(status) == TH_SIGSTOP
+ *     th_close(h);
+ *
+ * A call has the signature of its manual page, with the session and the caller before it. It returns -1 and sets errno where
+ * it is refused:
+ *
+ *   - ESRCH, EPERM, ECHILD, EBUSY, EINVAL, EAGAIN, ENOMEM: as the model answers. These are the host system's numbers, so that
+ *     perror(3) tells them; th_freebsd_errno gives FreeBSD's.
+ *   - TH_EHELD: the caller, or the LWP at its turn, doesn't run, and the call isn't made.
+ *   - TH_EREFUSED: what was sent is no step (a user outside 1001 to 1064, a 17th rule); th_fault names the fault.
+ *   - EPIPE: the program has ended, or broke off its answer. No SIGPIPE is raised: the program's standard input and output
+ *     are a socket, which is written by send(2) with MSG_NOSIGNAL.
+ *   - EPROTO: a line of the program's isn't one that docs/LINES.md tells; the next call answers EPIPE.
+ *
+ * A call that a signal interrupts goes on (EINTR is never returned). A session isn't to be used by two threads at a time; each
+ * thread may have a session of its own. Numbers are FreeBSD's, whatever the host's headers say; the protocol goes by names.
+ */
+#ifndef TRACEHOST_H
+#define TRACEHOST_H
+
+#include <errno.h>
+#include <stddef.h>
+#include <stdint.h>
+#include <sys/types.h>
+
+#ifdef __cplusplus
+extern "C" {
+#endif
+
+typedef int32_t th_pid;
+typedef int32_t th_lwpid;
+typedef uint32_t th_sigset; /* signal n has bit n - 1 */
+#define TH_SIGMASK(sig) ((th_sigset)1 << ((sig) - 1))
+
+/* requests of ptrace(2) */
+#define TH_PT_TRACE_ME 0
+#define TH_PT_CONTINUE 7
+#define TH_PT_KILL 8
+#define TH_PT_STEP 9
+#define TH_PT_ATTACH 10
+#define TH_PT_DETACH 11
+#define TH_PT_LWPINFO 13
+#define TH_PT_GETNUMLWPS 14
+#define TH_PT_GETLWPLIST 15
+#define TH_PT_SUSPEND 18
+#define TH_PT_RESUME 19
+#define TH_PT_TO_SCE 20
+#define TH_PT_TO_SCX 21
+#define TH_PT_SYSCALL 22
+#define TH_PT_FOLLOW_FORK 23
+#define TH_PT_LWP_EVENTS 24
+#define TH_PT_GET_EVENT_MASK 25
+#define TH_PT_SET_EVENT_MASK 26
+
+/* events, for PT_SET_EVENT_MASK */
+#define TH_PTRACE_EXEC 0x0001
+#define TH_PTRACE_SCE 0x0002
+#define TH_PTRACE_SCX 0x0004
+#define TH_PTRACE_SYSCALL (TH_PTRACE_SCE | TH_PTRACE_SCX)
+#define TH_PTRACE_FORK 0x0008
+#define TH_PTRACE_LWP 0x0010
+#define TH_PTRACE_VFORK 0x0020
+
+/* pl_event and pl_flags */
+#define TH_PL_EVENT_NONE 0
+#define TH_PL_EVENT_SIGNAL 1
+#define TH_PL_FLAG_SCE 0x0004
+#define TH_PL_FLAG_SCX 0x0008
+#define TH_PL_FLAG_EXEC 0x0010
+#define TH_PL_FLAG_FORKED 0x0040
+#define TH_PL_FLAG_CHILD 0x0080
+#define TH_PL_FLAG_BORN 0x0100
+#define TH_PL_FLAG_EXITED 0x0200
+#define TH_PL_FLAG_VFORKED 0x0400
+#define TH_PL_FLAG_VFORK_DONE 0x0800
+
+/* the fields of FreeBSD's struct ptrace_lwpinfo that the model has */
+struct th_lwpinfo {
+    th_lwpid pl_lwpid;
+    int pl_event;
+    int pl_flags;
+    th_sigset pl_sigmask;
+    th_sigset pl_siglist;
+    th_pid pl_child_pid;
+    unsigned pl_syscall_code;
+};
+
+/* wait(2): options, and what a status tells */
+#define TH_WNOHANG 1
+#define TH_WUNTRACED 2
+#define TH_WCONTINUED 4
+#define TH_WSTATUS_(status) ((status) & 0177)
+#define TH_WIFSTOPPED(status) (TH_WSTATUS_(status) == 0177)
+#define TH_WSTOPSIG(status) ((status) >> 8)
+#define TH_WIFCONTINUED(status) ((status) == 0x13)
+#define TH_WIFSIGNALED(status) (!TH_WIFSTOPPED(status) && TH_WSTATUS_(status) != 0 && !TH_WIFCONTINUED(status))
+#define TH_WTERMSIG(status) TH_WSTATUS_(status)
+#define TH_WIFEXITED(status) (TH_WSTATUS_(status) == 0)
+#define TH_WEXITSTATUS(status) ((status) >> 8)
+
+/* signals */
+#define TH_SIGHUP 1
+#define TH_SIGINT 2
+#define TH_SIGQUIT 3
+#define TH_SIGILL 4
+#define TH_SIGTRAP 5
+#define TH_SIGABRT 6
+#define TH_SIGEMT 7
+#define TH_SIGFPE 8
+#define TH_SIGKILL 9
+#define TH_SIGBUS 10
+#define TH_SIGSEGV 11
+#define TH_SIGSYS 12
+#define TH_SIGPIPE 13
+#define TH_SIGALRM 14
+#define TH_SIGTERM 15
+#define TH_SIGURG 16
+#define TH_SIGSTOP 17
+#define TH_SIGTSTP 18
+#define TH_SIGCONT 19
+#define TH_SIGCHLD 20
+#define TH_SIGTTIN 21
+#define TH_SIGTTOU 22
+#define TH_SIGIO 23
+#define TH_SIGXCPU 24
+#define TH_SIGXFSZ 25
+#define TH_SIGVTALRM 26
+#define TH_SIGPROF 27
+#define TH_SIGWINCH 28
+#define TH_SIGINFO 29
+#define TH_SIGUSR1 30
+#define TH_SIGUSR2 31
+
+/* the name of a signal, as "SIGHUP"; NULL where there is none */
+const char *th_signame(int sig);
+
+/* FreeBSD's errno numbers */
+#define TH_EPERM 1
+#define TH_ESRCH 3
+#define TH_ECHILD 10
+#define TH_ENOMEM 12
+#define TH_EBUSY 16
+#define TH_EINVAL 22
+#define TH_EAGAIN 35
+
+/* FreeBSD's number of a host system's errno that a call has set; 0 for one that isn't the model's */
+int th_freebsd_errno(int error);
+
+/* own errno values, none of which the model answers */
+#define TH_EHELD EINPROGRESS
+#define TH_EREFUSED EBADMSG
+
+/* ---- a session */
+
+typedef struct th_host th_host;
+
+struct th_settings {
+    int kill_on_debugger_exit; /* the sysctl kern.kill_on_debugger_exit: 0 or 1 */
+};
+
+/*
+ * Starts the program, looked up on PATH where its name has no slash, with a host that nobody has used. `settings` may be NULL:
+ * then the end of a debugger kills the processes that it traces. NULL and errno where it can't be started.
+ */
+th_host *th_start(const char *program, const struct th_settings *settings);
+
+/* Ends the session, frees it, and returns the program's status as waitpid(2) of the host system gives it. NULL is left alone. */
+int th_close(th_host *h);
+
+/* The fault of the last refused step, as docs/FORMAT.md names it, "BadUser" as an example; "" for none. */
+const char *th_fault(const th_host *h);
+
+/*
+ * Sends a line as it is (a step as docs/FORMAT.md tells it, without a line feed), and stores the line of its answer, without
+ * its line feed, of at most size - 1 bytes. Returns the length of the whole answer.
+ */
+ssize_t th_step_text(th_host *h, const char *line, char *answer, size_t size);
+
+/* ---- steps of a caller */
+
+/* Who calls: a process of a user. The user is 1001 to 1064. */
+typedef struct th_caller {
+    unsigned user;
+    th_pid pid;
+} th_caller;
+
+/*
+ * ptrace(2). Returns 0, or what PT_GETNUMLWPS and PT_GETLWPLIST count. `addr` and `data` as the manual page has them:
+ *
+ *   PT_LWPINFO          a struct th_lwpinfo and its size; a smaller size stores the front of it
+ *   PT_GET_EVENT_MASK   an int and its size; PT_SET_EVENT_MASK the same
+ *   PT_GETLWPLIST       an array of th_lwpid and its length
+ *   PT_FOLLOW_FORK, PT_LWP_EVENTS: `data` not 0 sets the event, 0 clears it
+ *   PT_CONTINUE, PT_STEP, PT_TO_SCE, PT_TO_SCX, PT_SYSCALL, PT_DETACH: `data` is a signal or 0
+ *
+ * Elsewhere they count for nothing: there is no memory, and no program counter to set.
+ */
+int th_ptrace(th_host *h, th_caller caller, int request, th_pid pid, void *addr, int data);
+
+/* wait4(2) without its rusage. No wait blocks: 0 where there is nothing to collect, with every option. `status` may be NULL. */
+th_pid th_wait4(th_host *h, th_caller caller, th_pid wpid, int *status, int options);
+
+/* kill(2); -1 names all other processes of the user */
+int th_kill(th_host *h, th_caller caller, th_pid pid, int sig);
+
+/* sigaction(2), as far as the model has it: what the caller does with a signal from now on */
+enum th_action { TH_SIG_DFL, TH_SIG_IGN, TH_SIG_CATCH };
+int th_sigaction(th_host *h, th_caller caller, int sig, enum th_action action);
+
+/* Stores the numbers of the user's processes, zombies too, rising, at most `size`; returns how many there are. */
+ssize_t th_list(th_host *h, th_caller caller, th_pid *pids, size_t size);
+
+/* ---- stop handlers */
+
+enum th_decision { TH_DECLINE, TH_LEAVE, TH_CONTINUE, TH_DETACH, TH_KILL };
+
+/* fits a stop with this signal (0: any) that shows all these flags; a signal is passed on by TH_CONTINUE and TH_DETACH alone */
+struct th_rule {
+    int signal;
+    int flags;
+    enum th_decision decision;
+    int pass;
+};
+
+/* Adds a stop handler with these rules, at most 16, behind the caller's others. */
+int th_install(th_host *h, th_caller caller, const struct th_rule *rules, size_t count);
+
+/* What a trace stop shows, and what the caller's handlers decided. */
+struct th_handled {
+    int stopped; /* 1: a trace stop, and all that follows holds; 0: a status alone */
+    int status;
+    th_lwpid lwp;
+    int signal;
+    int flags;
+    th_pid child;
+    unsigned code;
+    int handler; /* which of the caller's handlers decided, from 0; -1 where all declined */
+    enum th_decision decision;
+    int pass;
+};
+
+/* Waits for any child, and gives a trace stop to the caller's handlers. Returns the process, or 0 for nothing. */
+th_pid th_handle(th_host *h, th_caller caller, struct th_handled *handled);
+
+/* ---- steps without a caller */
+
+/* A new process with one LWP, whose parent is process 1. `pid` and `lwp` may be NULL. */
+int th_spawn(th_host *h, unsigned user, th_pid *pid, th_lwpid *lwp);
+
+enum th_call { TH_CALL_EXIT, TH_CALL_FORK, TH_CALL_VFORK, TH_CALL_EXEC, TH_CALL_THR_NEW, TH_CALL_THR_EXIT, TH_CALL_OTHER };
+
+/* What came of an LWP's turn, and the fields that go with it. */
+enum th_outcome { TH_DONE, TH_NEW, TH_STOPPED, TH_CAUGHT, TH_ENDED };
+struct th_turned {
+    enum th_outcome what;
+    th_pid pid;   /* TH_NEW: the new process, or the LWP's own where an LWP was made */
+    th_lwpid lwp; /* TH_NEW: the new LWP; TH_STOPPED: the LWP that stopped */
+    int signal;   /* TH_STOPPED, TH_CAUGHT */
+    int flags;    /* TH_STOPPED */
+    int status;   /* TH_ENDED */
+};
+
+/*
+ * The turn of an LWP, with its act: it runs in user mode, has a signal posted to it, sets its blocked signals, enters a system
+ * call (`code` is the exit code of TH_CALL_EXIT, the number of TH_CALL_OTHER, else it counts for nothing), or leaves the one
+ * that it is in. A stop that is due and a pending signal come first, in place of the act. `turned` may be NULL.
+ */
+int th_turn_compute(th_host *h, unsigned user, th_lwpid lwp, struct th_turned *turned);
+int th_turn_raise(th_host *h, unsigned user, th_lwpid lwp, int sig, struct th_turned *turned);
+int th_turn_block(th_host *h, unsigned user, th_lwpid lwp, th_sigset set, struct th_turned *turned);
+int th_turn_enter(th_host *h, unsigned user, th_lwpid lwp, enum th_call call, unsigned code, struct th_turned *turned);
+int th_turn_leave(th_host *h, unsigned user, th_lwpid lwp, struct th_turned *turned);
+
+#ifdef __cplusplus
+}
+#endif
+
+#endif
