@@ -48,8 +48,9 @@ if cc "${checks[@]}" -o "$room/empty" "$room/empty.c" 2>/dev/null && "$room/empt
 else
   echo "cc has no sanitizers here: the client in C runs without them"
 fi
+cc "${flags[@]}" -c -o "$room/tracehost.o" clients/c/tracehost.c || failed "cc clients/c/tracehost.c"
 for source in clients/c/tests/test.c clients/c/tests/replay.c clients/c/examples/*.c; do
-  cc "${flags[@]}" -o "$room/$(basename "$source" .c)" "$source" clients/c/tracehost.c || failed "cc $source"
+  cc "${flags[@]}" -o "$room/$(basename "$source" .c)" "$source" "$room/tracehost.o" || failed "cc $source"
 done
 "$room/test" "$program" clients/c/tests/fake.sh || failed "the tests of the client in C"
 python3 clients/c/tests/words.py "$room" "${scenarios[@]}" || failed "words.py"
@@ -76,7 +77,7 @@ block python >"$room/page.py"
 PYTHONPATH=clients/python python3 "$room/page.py" >"$room/out" || failed "the code in docs/CLIENTS.md in Python: status"
 sed -n 's/^    \(Waited(.*\|None .*\|SIGSEGV\)$/\1/p' docs/CLIENTS.md | diff - "$room/out" || failed "the code in docs/CLIENTS.md in Python"
 block c >"$room/page.c"
-cc "${flags[@]}" -I clients/c -o "$room/page" "$room/page.c" clients/c/tracehost.c || failed "cc of the code in docs/CLIENTS.md"
+cc "${flags[@]}" -I clients/c -o "$room/page" "$room/page.c" "$room/tracehost.o" || failed "cc of the code in docs/CLIENTS.md"
 LC_ALL=C "$room/page" "$program" >"$room/out" 2>&1 || failed "the code in docs/CLIENTS.md in C: status"
 printf '%s\n' '1001 stopped: SIGSTOP' '99: No such process' | diff - <(sort "$room/out") || failed "the code in docs/CLIENTS.md in C"
 
