@@ -60,12 +60,7 @@ impl Session {
 
     /// Makes the step that the line is, and adds the line of its reply to the text; or adds why the line is no step. An error is want of
     /// memory.
-    fn answer(
-        &mut self,
-        alloc: Global,
-        line: &[u8],
-        text: &mut String,
-    ) -> Result<(), ServeFault>
+    fn answer(&mut self, alloc: Global, line: &[u8], text: &mut String) -> Result<(), ServeFault>
         requires { (k : ℕ) → slice_index self.old.made k + 1 < 2 ^ 64 }
         ensures ok { OnOk result ((r : LineReply) × AnswersLine line.now self.old.host r self.new.host
             × Adds self.old.made self.new.made (string_bytes text.old) (string_bytes text.new) r) }

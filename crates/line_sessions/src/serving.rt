@@ -17,10 +17,7 @@ use trace_stop::Settings;
 
 /// Reads the next line, and answers how it ends; none at the end of the input. Of a longer line than a step may have, enough is kept to
 /// tell.
-fn next_line<R: BufRead>(
-    reader: &mut R,
-    line: &mut Vec<u8>,
-) -> Result<Option<LineEnd>, ServeFault>
+fn next_line<R: BufRead>(reader: &mut R, line: &mut Vec<u8>) -> Result<Option<LineEnd>, ServeFault>
     ensures line { IfOk result (λ found. IfSome found (λ end. (text : List ℕ)
         × Loses (R.Read.remaining reader.old) (R.Read.remaining reader.new) text (end_bytes end)
         × (line.new.items ≡ kept text) × (end ≡ Input → 0 < length text))) }
