@@ -62,11 +62,7 @@ fn take_part<R: BufRead>(
 /// # Errors
 ///
 /// The reader's, but for `Interrupted`: then it is asked again; or want of memory. What was taken before is a part of the line.
-pub fn read_line<R: BufRead>(
-    reader: &mut R,
-    most: usize,
-    line: &mut Vec<u8>,
-) -> io::Result<LineEnd>
+pub fn read_line<R: BufRead>(reader: &mut R, most: usize, line: &mut Vec<u8>) -> io::Result<LineEnd>
     ensures line { IfOk result (λ end. (text : List ℕ) × Loses (R.Read.remaining reader.old) (R.Read.remaining reader.new) text (end_bytes end)
         × (line.new.items ≡ take most text)) }
     ensures end { result ≡ Ok Input → IfSome (R.Read.remaining reader.old) (λ _. IsAtEnd (R.Read.remaining reader.new)) }

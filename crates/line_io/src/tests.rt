@@ -113,7 +113,10 @@ fn check<R: Abort + AllocGlobal>(rt: &R, room: usize, fails: bool) -> Result<(),
     let mut wire = Wire::new(rt.alloc(), b"", room, fails);
     let is_written = write_flushed(&mut wire, bytes).is_ok();
     assert!(rt; is_written == (room >= bytes.len()), "at {room}");
-    assert!(rt; bytes.get(..room.min(bytes.len())) == Some(wire.taken.as_slice()), "at {room}");
+    assert!(rt;
+        bytes.get(..room.min(bytes.len())) == Some(wire.taken.as_slice()),
+        "at {room}"
+    );
     Ok(())
 }
 

@@ -1,5 +1,5 @@
 -- A session, line after line.
-use Rattle.std.proofs.Common.{◌≡◌, ◌≤◌, ◌<◌, ◌+◌, ◌-◌, ℕ, List, [], ◌∷◌, ◌++◌, length, take, get_or, Option, Some, None, refl, sym, ap, subst, ◌∙◌, inl, inr, arith, take_all}
+use Rattle.std.proofs.Common.{◌≡◌, ◌≤◌, ◌<◌, ◌+◌, ◌-◌, ℕ, List, [], ◌∷◌, ◌++◌, length, take, get_or, Option, Some, None, refl, sym, ap, subst, ◌∙◌, inl, inr, arith, take_all, ◌⊎◌}
 use Rattle.std.specs.Prelude.{⊤, Result, Ok, Err, IfSome}
 use Rattle.std.specs.Io.KnownBytes.{Appends, Consumes, Keeps, IsAtEnd}
 use Rattle.std.proofs.Math.Seq.{take-append-add}
@@ -25,6 +25,9 @@ use Rattle.line_sessions.specs.Sessions.{LineReply, AnswersLine, step, refused, 
 use Rattle.line_sessions.specs.Turns.{kept, reply_text, made_after, Told}
 
 -- ---- a line that is longer than a step
+
+pub kept_some : (text : List ℕ) → 0 < length (kept text) → 0 < length text
+kept_some text some = let all = length-take (most_step_bytes + 1) text in omega arith
 
 step_of_kept : (text : List ℕ) (q : Result Asked Fault) → most_step_bytes < length text → IsStep (kept text) q → IsStep text q
 step_of_kept text q long (too_long h) = too_long long
@@ -196,14 +199,13 @@ module _ (settings : Settings) (r u h w : Option (List ℕ)) (m : Machine) (made
       ]
 
   -- the input has ended
-  pub ends_now : (text : List ℕ) → Loses u v text (end_bytes Input) → text ≡ [] → IfSome u (λ _. IsAtEnd v) → Serves (Ok tt) settings r v h w
-  ends_now text lost none over =
-      let P : List ℕ → Type 0 = λ bytes. Consumes r v (at.bytes ++ (bytes ++ [])) in (
-        at.replies,
-        record { bytes = at.bytes; host = m; taken = subst P none (consumes_more r u v at.bytes (text ++ []) at.taken lost.1); answered = at.answered },
-        at.told,
-        at_end r u v at.bytes at.taken over,
-      )
+  pub ends_now : Consumes u v [] → IfSome u (λ _. IsAtEnd v) → Serves (Ok tt) settings r v h w
+  ends_now lost over = (
+    at.replies,
+    record { bytes = at.bytes; host = m; taken = consumes_more r u v at.bytes [] at.taken lost; answered = at.answered },
+    at.told,
+    at_end r u v at.bytes at.taken over,
+  )
 
   -- the line was answered, and there may be more
   pub goes_on : (text : List ℕ) → Loses u v text (end_bytes Feed) → (k : Machine) (after : List ℕ) (x : Option (List ℕ)) → Told (Ok tt) (kept text) m k made after w x

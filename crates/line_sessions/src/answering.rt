@@ -1,9 +1,10 @@
 //! What a line is answered.
-ghost use Rattle.std.specs.Prelude.{◌≡◌, ◌+◌, ◌^◌, ◌<◌, ◌++◌, ℕ, Ok, replicate, IfOk, IfErr, OnOk, slice_index, string_bytes};
+ghost use Rattle.std.specs.Prelude.{◌≡◌, ◌≢◌, ◌+◌, ◌^◌, ◌<◌, ◌++◌, ℕ, Ok, replicate, IfOk, IfErr, OnOk, slice_index, string_bytes};
 ghost use Rattle.pid_blocks.specs.Users.{IsUser};
 ghost use Rattle.requests.specs.Machine.{empty};
 ghost use Rattle.requests.specs.declared.Reply.{Reply};
 ghost use Rattle.visibility.specs.Runs.{told, Did};
+ghost use Rattle.scenario.specs.declared.fault.Fault.TheVariants.{Memory as NoMemory};
 ghost use Rattle.line_sessions.specs.declared.fault.ServeFault.TheVariants.{Memory};
 ghost use Rattle.line_sessions.specs.Sessions.{LineReply, AnswersLine, refusal};
 ghost use Rattle.line_sessions.specs.Turns.{Adds, Told};
@@ -59,12 +60,7 @@ impl Session {
 
     /// Makes the step that the line is, and adds the line of its reply to the text; or adds why the line is no step. An error is want of
     /// memory.
-    fn answer(
-        &mut self,
-        alloc: Global,
-        line: &[u8],
-        text: &mut String,
-    ) -> Result<(), ServeFault>
+    fn answer(&mut self, alloc: Global, line: &[u8], text: &mut String) -> Result<(), ServeFault>
         requires { (k : ℕ) → slice_index self.old.made k + 1 < 2 ^ 64 }
         ensures ok { OnOk result ((r : LineReply) × AnswersLine line.now self.old.host r self.new.host
             × Adds self.old.made self.new.made (string_bytes text.old) (string_bytes text.new) r) }
@@ -72,20 +68,24 @@ impl Session {
     {
         match parse_step(alloc, line) {
             Ok((uid, step)) => self.make(alloc, uid, step, text),
-            Err(Fault::Memory) => Err(ServeFault::Memory),
             Err(fault) => push_refusal(fault, text),
         }
     }
 }
 
-/// Adds the line that says why a line is no step. An error is want of memory.
+/// Adds the line that says why a line is no step. An error is want of memory, for the line already where that is the fault.
 fn push_refusal(fault: Fault, text: &mut String) -> Result<(), ServeFault>
-    ensures ok { OnOk result (string_bytes text.new ≡ string_bytes text.old ++ refusal fault) }
+    ensures ok { OnOk result ((fault ≢ NoMemory) × (string_bytes text.new ≡ string_bytes text.old ++ refusal fault)) }
     ensures err { IfErr result (λ e. e ≡ Memory) }
 {
-    let name = fault.name();
-    writeln!(text, "refused {name}")?;
-    Ok(())
+    match fault {
+        Fault::Memory => Err(ServeFault::Memory),
+        _ => {
+            let name = fault.name();
+            writeln!(text, "refused {name}")?;
+            Ok(())
+        }
+    }
 }
 
 /// Answers the line to the writer, with `text` for the answer's text.
@@ -100,9 +100,11 @@ pub(crate) fn answer_line<W: Write>(
     ensures { Told result line.now session.old.host session.new.host session.old.made session.new.made (W.contents writer.old) (W.contents writer.new) }
 {
     text.clear();
-    session.answer(alloc, line, text)?;
-    match write_flushed(writer, text.as_bytes()) {
-        Ok(()) => Ok(()),
-        Err(_) => Err(ServeFault::Write),
+    match session.answer(alloc, line, text) {
+        Ok(()) => match write_flushed(writer, text.as_bytes()) {
+            Ok(()) => Ok(()),
+            Err(_) => Err(ServeFault::Write),
+        },
+        Err(fault) => Err(fault),
     }
 }

@@ -1,9 +1,8 @@
 //! A session from its first line to its last.
-ghost use Rattle.std.specs.Prelude.{◌≡◌, ◌⊎◌, ◌+◌, ℕ, List, [], Ok, take, IfOk, IfErr, IfSome, OnErr};
-ghost use Rattle.std.specs.Io.KnownBytes.{IsAtEnd};
-ghost use Rattle.line_io.specs.declared.reading.LineEnd.TheVariants.{Input};
+ghost use Rattle.std.specs.Prelude.{◌≡◌, ◌≢◌, ◌<◌, ◌⊎◌, ℕ, List, [], Ok, None, Some, length, IfOk, IfErr, IfSome, OnErr};
+ghost use Rattle.std.specs.Io.KnownBytes.{Consumes, IsAtEnd};
+ghost use Rattle.line_io.specs.declared.reading.LineEnd.TheVariants.{Feed, Input};
 ghost use Rattle.line_io.specs.Lines.{Loses, end_bytes};
-ghost use Rattle.scenario.specs.OneStep.{most_step_bytes};
 ghost use Rattle.line_sessions.specs.declared.fault.ServeFault.TheVariants.{Read as ReadFault, Memory};
 ghost use Rattle.line_sessions.specs.Sessions.{Serves};
 ghost use Rattle.line_sessions.specs.Turns.{kept};
@@ -16,16 +15,21 @@ use std::alloc::Global;
 use std::io::{BufRead, ErrorKind, Write};
 use trace_stop::Settings;
 
-/// Reads the next line; of a longer one than a step may have, enough is kept to tell.
-fn next_line<R: BufRead>(reader: &mut R, line: &mut Vec<u8>) -> Result<LineEnd, ServeFault>
-    ensures line { IfOk result (λ end. (text : List ℕ) × Loses (R.Read.remaining reader.old) (R.Read.remaining reader.new) text (end_bytes end)
-        × (line.new.items ≡ kept text)) }
-    ensures end { result ≡ Ok Input → IfSome (R.Read.remaining reader.old) (λ _. IsAtEnd (R.Read.remaining reader.new)) }
+/// Reads the next line, and answers how it ends; none at the end of the input. Of a longer line than a step may have, enough is kept to
+/// tell.
+fn next_line<R: BufRead>(reader: &mut R, line: &mut Vec<u8>) -> Result<Option<LineEnd>, ServeFault>
+    ensures line { IfOk result (λ found. IfSome found (λ end. (text : List ℕ)
+        × Loses (R.Read.remaining reader.old) (R.Read.remaining reader.new) text (end_bytes end)
+        × (line.new.items ≡ kept text) × (end ≡ Input → 0 < length text))) }
+    ensures none { result ≡ Ok None → Consumes (R.Read.remaining reader.old) (R.Read.remaining reader.new) [] }
+    ensures end { IfOk result (λ found. found ≢ Some Feed → IfSome (R.Read.remaining reader.old) (λ _. IsAtEnd (R.Read.remaining reader.new))) }
     ensures err { OnErr result ((text : List ℕ) × Loses (R.Read.remaining reader.old) (R.Read.remaining reader.new) text []) }
     ensures kind { IfErr result (λ e. (e ≡ ReadFault) ⊎ (e ≡ Memory)) }
 {
     match read_line(reader, MOST_STEP_BYTES + 1, line) {
-        Ok(end) => Ok(end),
+        Ok(LineEnd::Feed) => Ok(Some(LineEnd::Feed)),
+        Ok(LineEnd::Input) if line.is_empty() => Ok(None),
+        Ok(LineEnd::Input) => Ok(Some(LineEnd::Input)),
         Err(error) if error.kind() == ErrorKind::OutOfMemory => Err(ServeFault::Memory),
         Err(_) => Err(ServeFault::Read),
     }
@@ -52,13 +56,11 @@ pub fn serve<R: BufRead, W: Write>(
     let mut line = Vec::new(alloc);
     let mut text = String::new(alloc);
     for _ in 0..u64::MAX {
-        let end = next_line(reader, &mut line)?;
-        let is_last = end == LineEnd::Input;
-        if is_last && line.is_empty() {
+        let Some(end) = next_line(reader, &mut line)? else {
             return Ok(());
-        }
+        };
         answer_line(alloc, &mut session, line.as_slice(), &mut text, writer)?;
-        if is_last {
+        if let LineEnd::Input = end {
             return Ok(());
         }
     }

@@ -105,9 +105,16 @@ fn check_room<R: Abort + AllocGlobal>(rt: &R, room: usize) -> Result<(), Fail> {
         room,
     };
     let ended = serve(rt.alloc(), Settings::standard(), &mut reader, &mut writer).err();
-    let want = if room < ANSWERS.len() { Some(ServeFault::Write) } else { None };
+    let want = if room < ANSWERS.len() {
+        Some(ServeFault::Write)
+    } else {
+        None
+    };
     assert!(rt; ended == want, "at {room}");
-    assert!(rt; ANSWERS.as_bytes().get(..room) == Some(writer.taken.as_slice()), "at {room}");
+    assert!(rt;
+        ANSWERS.as_bytes().get(..room) == Some(writer.taken.as_slice()),
+        "at {room}"
+    );
     Ok(())
 }
 

@@ -12,12 +12,7 @@ use requests::Reply;
 use std::alloc::{AllocError, Global};
 
 /// Adds the line of a reply that is its user's with this number.
-pub fn push_line(
-    text: &mut String,
-    uid: Uid,
-    number: u64,
-    reply: &Reply,
-) -> Result<(), AllocError>
+pub fn push_line(text: &mut String, uid: Uid, number: u64, reply: &Reply) -> Result<(), AllocError>
     ensures { OnOk result (string_bytes text.new
         ≡ string_bytes text.old ++ (line number (answered (uid, reply.now))).text) }
 {

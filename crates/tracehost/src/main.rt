@@ -171,12 +171,7 @@ fn serve_reader<R: Print + AllocGlobal, I: Read + Drop>(
     input: I,
 ) -> Result<(), Trouble> {
     let mut reader = BufReader::new(rt.alloc(), input)?;
-    serve(
-        rt.alloc(),
-        settings,
-        &mut reader,
-        &mut io::writer(rt),
-    )?;
+    serve(rt.alloc(), settings, &mut reader, &mut io::writer(rt))?;
     Ok(())
 }
 
@@ -200,13 +195,7 @@ fn run_scenario<
     R: Files + Input + Print + AllocGlobal + Threads + Wait + Sync,
     F: Decider + Send + Drop,
     M: Fn(Policy) -> F,
->(
-    rt: &R,
-    make: M,
-    file: Option<&str>,
-    options: RunOptions,
-    threads: bool,
-) -> Result<(), Trouble>
+>(rt: &R, make: M, file: Option<&str>, options: RunOptions, threads: bool) -> Result<(), Trouble>
     requires callable { M.IsAlwaysCallable make }
     requires obeys { MakesObeying F.can_ask F.gives (M.post make) }
 {
@@ -227,10 +216,7 @@ fn go<
     R: Files + Input + Print + Eprint + Env + AllocGlobal + Threads + Wait + Sync,
     F: Decider + Send + Drop,
     M: Fn(Policy) -> F,
->(
-    rt: &R,
-    make: M,
-) -> Result<(), Trouble>
+>(rt: &R, make: M) -> Result<(), Trouble>
     requires callable { M.IsAlwaysCallable make }
     requires obeys { MakesObeying F.can_ask F.gives (M.post make) }
 {
