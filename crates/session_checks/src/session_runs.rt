@@ -1,5 +1,6 @@
 //! Scripts of users, run at the same time on one host.
 
 mod gates;
+mod order;
 mod runs;
 mod scripts;

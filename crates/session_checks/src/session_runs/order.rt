@@ -1,0 +1,161 @@
+//! A gate is told before and after each call. The steps install for a process that isn't there: the call refuses and lets the
+//! handler go, which is counted.
+
+ghost use Rattle.std.specs.Prelude.{⊤, ◌≡◌, IfSome, All};
+ghost use Rattle.stop_handlers.specs.Decide.{decide};
+ghost use Rattle.sessions.specs.Runs.{IsShort};
+
+use sessions::{Gate, Script, run_sessions};
+use host_lock::MOST_CALLS;
+use pid_blocks::Uid;
+use requests::{Host, Step};
+use std::alloc::Global;
+use std::process::Abort;
+use std::sync::atomic::{AtomicU64, Ordering};
+use std::test::Fail;
+use stop_handlers::{Decider, Decision, Handler, Policy, StopView};
+use trace_stop::Settings;
+
+/// Answers as a policy decides. That it is let go is counted.
+struct Counted<'a> {
+    policy: Policy,
+    gone: &'a AtomicU64,
+}
+
+impl Drop for Counted<'_> {
+    fn drop(self) {
+        let Counted { policy: _, gone } = self;
+        gone.fetch_add(1, Ordering::SeqCst);
+    }
+}
+
+impl Decider for Counted<'_> {
+    ghost can_ask = { λ _. ⊤ };
+
+    ghost gives = { λ c view decision. decision ≡ decide c.policy view };
+
+    fn answer(&self, view: &StopView) -> Decision {
+        self.policy.decide(view)
+    }
+}
+
+/// What is seen of the calls of a script.
+#[derive(Drop)]
+struct Calls {
+    /// How many were made.
+    made: AtomicU64,
+    /// How often the gate was told of them.
+    told: AtomicU64,
+    /// Whether it was told out of order.
+    failed: AtomicU64,
+}
+
+impl Calls {
+    fn new() -> Calls {
+        Calls {
+            made: AtomicU64::new(0),
+            told: AtomicU64::new(0),
+            failed: AtomicU64::new(0),
+        }
+    }
+
+    /// The gate is told for the time `telling`, when so many calls were made.
+    fn tell(&self, telling: u64, made: u64) {
+        let told = self.told.fetch_add(1, Ordering::SeqCst);
+        if told != telling || self.made.load(Ordering::SeqCst) != made {
+            self.failed.store(1, Ordering::SeqCst);
+        }
+    }
+
+    /// Each of so many calls was made once the gate had been told, and the gate was told again then.
+    fn are_in_order<R: Abort>(&self, rt: &R, count: u32) {
+        let count = u64::from(count);
+        assert_eq!(rt; self.failed.load(Ordering::SeqCst), 0);
+        assert_eq!(rt; self.made.load(Ordering::SeqCst), count);
+        assert_eq!(rt; self.told.load(Ordering::SeqCst), 2 * count);
+    }
+}
+
+/// The calls of user 1001, and those of another.
+#[derive(Drop)]
+struct Order {
+    first: Calls,
+    other: Calls,
+}
+
+impl Order {
+    fn of(&self, user: Uid) -> &Calls {
+        if user.get() == 1001 {
+            &self.first
+        } else {
+            &self.other
+        }
+    }
+}
+
+impl Gate for Order {
+    fn before(&self, user: Uid, index: u32) {
+        let made = u64::from(index).saturating_sub(1);
+        self.of(user).tell(2 * made, made);
+    }
+
+    fn after(&self, user: Uid, index: u32) {
+        let made = u64::from(index);
+        self.of(user).tell((2 * made).saturating_sub(1), made);
+    }
+}
+
+/// So many steps of the user, each of which installs a handler for a process that isn't there.
+fn install_often<'a>(
+    alloc: Global,
+    uid: Uid,
+    count: u32,
+    gone: &'a AtomicU64,
+) -> Option<Script<Counted<'a>>>
+    ensures { IfSome result (λ s. IsShort s) }
+{
+    let policy = Policy::new(&[]).ok()?;
+    let mut steps = Vec::new(alloc);
+    for _ in 0..count {
+        let handler = Handler::new(policy, Counted { policy, gone });
+        let caller = 1000;
+        steps.push(Step::Install { caller, handler }).ok()?;
+    }
+    if steps.len() > MOST_CALLS as usize {
+        return None;
+    }
+    Some(Script { uid, steps })
+}
+
+/// Such a script of each of the two users.
+fn install_each<'a>(
+    alloc: Global,
+    users: [Uid; 2],
+    order: &'a Order,
+) -> Option<Vec<Script<Counted<'a>>>>
+    ensures { IfSome result (λ v. All IsShort v.items) }
+{
+    let mut scripts = Vec::new(alloc);
+    for uid in users {
+        let script = install_often(alloc, uid, 10, &order.of(uid).made)?;
+        scripts.push(script).ok()?;
+    }
+    Some(scripts)
+}
+
+#[test]
+fn a_gate_is_told_before_and_after_each_call(rt: HostRuntime) -> Result<(), Fail> {
+    let alloc: Global = rt.alloc();
+    let users = [Uid::new(1001)?, Uid::new(1002)?];
+    let order = Order {
+        first: Calls::new(),
+        other: Calls::new(),
+    };
+    let scripts = install_each(alloc, users, &order).ok_or("scripts")?;
+    let host = Host::new(alloc, Settings::standard()).ok().ok_or("host")?;
+    let ran = run_sessions(&rt, alloc, host, scripts, &order);
+    assert!(rt; ran.is_ok());
+    order.first.are_in_order(&rt, 10);
+    order.other.are_in_order(&rt, 10);
+    Ok(())
+}
