@@ -3,7 +3,7 @@ use Rattle.std.proofs.Common.{◌≡◌, List, ℕ, Result, Ok, Err, Option, Som
 use Rattle.std.proofs.lemmas.List.{length-append, append_assoc}
 use Rattle.std.specs.Io.KnownBytes.{Consumes}
 use Rattle.scenario.specs.declared.fault.Fault.{Fault}
-use Rattle.scenario.specs.declared.fault.Fault.TheVariants.{Read, TooLong, BadJson, Memory}
+use Rattle.scenario.specs.declared.fault.Fault.TheVariants.{Read, Memory}
 use Rattle.scenario.specs.Plan.{Plan}
 use Rattle.scenario.specs.Scenarios.{plan_of, most_bytes, StandsFor, too_long, no_value, value, Answers, Yields, Tells, IsFront, Takes}
 

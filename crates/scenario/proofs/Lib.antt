@@ -12,3 +12,4 @@ pub mod SessionLemmas
 pub mod ThreadLemmas
 pub mod TranscriptLemmas
 pub mod RunLemmas
+pub mod RetryLemmas

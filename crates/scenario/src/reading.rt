@@ -6,6 +6,7 @@ ghost use Rattle.scenario.specs.Scenarios.{IsFront, StandsFor, Tells, Takes, mos
 use crate::fault::Fault;
 use crate::parsing::{MOST_BYTES, parse};
 use crate::plan::Scenario;
+use crate::retrying::read_some;
 use std::alloc::Global;
 use std::io::Read;
 
@@ -20,7 +21,7 @@ fn front_of<R: Read>(alloc: Global, reader: &mut R) -> Result<Vec<u8>, Fault>
         let mut chunk = [0u8; 4096];
         let room = chunk.len().min(MOST_BYTES + 1 - bytes.len());
         let part = &mut chunk[..room];
-        let n = reader.read(part).map_err(|_| Fault::Read)?;
+        let n = read_some(reader, part).map_err(|_| Fault::Read)?;
         if n == 0 {
             return Ok(bytes);
         }

@@ -10,6 +10,7 @@ ghost use Rattle.scenario.specs.declared.running.RunFault.TheVariants.{Mismatch,
 use crate::binding::bind;
 use crate::lines::render;
 use crate::plan::Scenario;
+use crate::retrying::write_some;
 use pid_blocks::Uid;
 use requests::{Host, Reply, Step};
 use std::alloc::{AllocError, AllocFailed, Global};
@@ -123,7 +124,7 @@ fn write_whole<W: Write>(writer: &mut W, bytes: &[u8]) -> Result<(), RunFault>
 {
     let mut rest = bytes;
     while !rest.is_empty() {
-        match writer.write(rest) {
+        match write_some(writer, rest) {
             Ok(0) => return Err(RunFault::Write),
             Ok(n) => rest = &rest[n..],
             Err(_) => return Err(RunFault::Write),

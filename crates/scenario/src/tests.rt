@@ -24,6 +24,9 @@ const SPAWN_AND_LIST: &str =
 const ITS_LINES: &str =
     "1001 1 new 1000 100000\n1002 1 new 2000 104000\n1001 2 new 1001 100001\n1001 3 pids 1000 1001\n";
 
+const ITS_LINES_BY_USER: &str =
+    "1001 1 new 1000 100000\n1001 2 new 1001 100001\n1001 3 pids 1000 1001\n1002 1 new 2000 104000\n";
+
 /// Two users, one of whom traces a process through a system call by a policy.
 const SESSION: &str = "{\"steps\":[
 {\"user\":1001,\"op\":\"spawn\"},

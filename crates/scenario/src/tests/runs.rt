@@ -1,20 +1,27 @@
-use super::{ITS_LINES, SPAWN_AND_LIST};
-use crate::{RunFault, RunOptions, parse, run};
+use super::{ITS_LINES, ITS_LINES_BY_USER, SPAWN_AND_LIST};
+use crate::{RunFault, RunOptions, parse, run, run_threads};
 use std::io;
 use std::process::Abort;
+use std::sync::Wait;
 use std::test::Fail;
+use std::thread::Threads;
 use stop_handlers::{ByPolicy, Handler};
 
-/// Takes some bytes, one at a time, and then none, or fails.
+/// Takes some bytes, one at a time, and then none, or fails. Before each byte it is interrupted.
 #[derive(Drop)]
 struct Full {
     taken: Vec<u8>,
     room: usize,
     fails: bool,
+    is_awake: bool,
 }
 
 impl io::Write for Full {
     fn write(&mut self, buf: &[u8]) -> io::Result<usize> {
+        self.is_awake = !self.is_awake;
+        if self.is_awake {
+            return Err(io::Error::from(io::ErrorKind::Interrupted));
+        }
         if self.taken.len() >= self.room {
             return if self.fails {
                 Err(io::Error::from(io::ErrorKind::Other))
@@ -34,11 +41,12 @@ impl io::Write for Full {
     }
 }
 
-/// A writer with so much room takes the front of the lines that it has room for, and the run ends so.
-fn check<R: Abort + AllocGlobal>(
+/// A writer with so much room takes the front of the lines that it has room for, and the run, with a thread for each user or without,
+/// ends so.
+fn check<R: Abort + Threads + Wait + Sync + AllocGlobal>(
     rt: &R,
-    room: usize,
-    fails: bool,
+    (room, fails): (usize, bool),
+    threads: bool,
     want: Option<RunFault>,
 ) -> Result<(), Fail> {
     let alloc = rt.alloc();
@@ -46,14 +54,21 @@ fn check<R: Abort + AllocGlobal>(
         taken: Vec::new(alloc),
         room,
         fails,
+        is_awake: false,
     };
     let scenario = parse(alloc, SPAWN_AND_LIST.as_bytes())?;
     let handlers: Vec<Handler<ByPolicy>> = Vec::new(alloc);
     let options = RunOptions { user: None };
-    let ended = run(alloc, &scenario, handlers, options, &mut writer).err();
-    assert!(rt; ended == want, "at {room}");
+    let (ended, lines) = if threads {
+        let ended = run_threads(rt, alloc, &scenario, handlers, options, &mut writer);
+        (ended, ITS_LINES_BY_USER)
+    } else {
+        let ended = run(alloc, &scenario, handlers, options, &mut writer);
+        (ended, ITS_LINES)
+    };
+    assert!(rt; ended.err() == want, "at {room}");
     assert!(rt;
-        ITS_LINES.as_bytes().get(..room) == Some(writer.taken.as_slice()),
+        lines.as_bytes().get(..room) == Some(writer.taken.as_slice()),
         "at {room}"
     );
     Ok(())
@@ -61,11 +76,11 @@ fn check<R: Abort + AllocGlobal>(
 
 #[test]
 fn writers_that_end(rt: HostRuntime) -> Result<(), Fail> {
-    for fails in [true, false] {
+    for (fails, threads) in [(true, false), (false, false), (true, true), (false, true)] {
         for room in 0..ITS_LINES.len() {
-            check(&rt, room, fails, Some(RunFault::Write))?;
+            check(&rt, (room, fails), threads, Some(RunFault::Write))?;
         }
-        check(&rt, ITS_LINES.len(), fails, None)?;
+        check(&rt, (ITS_LINES.len(), fails), threads, None)?;
     }
     Ok(())
 }

@@ -1,4 +1,4 @@
-use super::{SESSION, SPAWN_AND_LIST, handlers_by_policy};
+use super::{ITS_LINES_BY_USER, SESSION, SPAWN_AND_LIST, handlers_by_policy};
 use crate::{RunFault, RunOptions, parse, run, run_threads};
 use pid_blocks::Uid;
 use std::alloc::Global;
@@ -31,10 +31,8 @@ fn text_of<R: Threads + Wait + Sync + AllocGlobal>(
 fn lines_by_user(rt: HostRuntime) -> Result<(), Fail> {
     let first = "1001 1 new 1000 100000\n1001 2 new 1001 100001\n1001 3 pids 1000 1001\n";
     let second = "1002 1 new 2000 104000\n";
-    let both =
-        "1001 1 new 1000 100000\n1001 2 new 1001 100001\n1001 3 pids 1000 1001\n1002 1 new 2000 104000\n";
     for (user, want) in [
-        (None, both),
+        (None, ITS_LINES_BY_USER),
         (Some(Uid::new(1001)?), first),
         (Some(Uid::new(1002)?), second),
         (Some(Uid::new(1003)?), ""),
