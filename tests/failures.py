@@ -1,6 +1,6 @@
-"""Runs tracehost with each allocation, read, write and start of a thread failing in turn.
+"""Runs tracehost and refusals with each allocation, read, write and start of a thread failing in turn.
 
-    python3 tests/failures.py TRACEHOST SHIM
+    python3 tests/failures.py TRACEHOST REFUSALS SHIM
 
 SHIM is tests/shim.c as a shared library. Each run has to end in one of a few ways, which are known beforehand: with the whole
 text, or with one line on standard error, its status, and a part of the text only where a write failed. Prints how many failures
@@ -30,6 +30,17 @@ class End:
     status: int
     out: bytes
     err: bytes
+
+
+@dataclasses.dataclass(frozen=True)
+class GivesUp:
+    """The ends of refusals where a call was refused again and again: a front of its text, and the word."""
+
+    text: bytes
+
+    def __eq__(self, end):
+        said = (end.status, end.err) == (3, b'refusals: out of memory\n')
+        return said and end.out != self.text and self.text.startswith(end.out)
 
 
 @dataclasses.dataclass(frozen=True)
@@ -243,10 +254,27 @@ def runs_without(program):
     return [name for name, is_right in ends.items() if not is_right]
 
 
-# ---- all
+# ---- refusals
 
 
-def all_runs(shim, program, room):
+def retried_refusals(shim, program):
+    """A call that is refused is made again: the text is whole, unless all calls from one on are refused, or too many."""
+    with open('crates/refusals/stdout', 'rb') as stored:
+        text = stored.read()
+    command, done = (program,), whole(text)
+    _, counts = shim.end_of(Run(command, b'', {}, (done,)))
+    for n in range(1, counts.allocations + 1):
+        yield 'allocations', Run(command, b'', {'ALLOCATION': n}, (done,))
+        yield 'allocations', Run(command, b'', {'ALLOCATION': f'{n}-'}, (GivesUp(text), done))
+    for chance in (1, 2, 3):
+        for seed in range(200):
+            yield 'allocations', Run(command, b'', {'CHANCE': chance, 'SEED': seed}, (done, GivesUp(text)))
+    for n in range(1, counts.threads + 1):
+        yield 'threads', Run(command, b'', {'THREAD': n}, (done,))
+        yield 'threads', Run(command, b'', {'THREAD': f'{n}-'}, (GivesUp(text),))
+
+
+def all_runs(shim, program, refusals, room):
     file, text = row('every_kind_of_step')
     short, short_text = row('a_debugger_ends_without_killing')
     for name, its_text, seeds in ((file, text, 60), (short, short_text, 20)):
@@ -257,10 +285,11 @@ def all_runs(shim, program, room):
     yield from (('writes', run) for run in failing_writes(shim, program, file, text))
     yield from (('writes', run) for run in faults_told_in_pieces(program))
     yield from (('threads', run) for run in refused_threads(program, f'{room}/users.json'))
+    yield from retried_refusals(shim, refusals)
 
 
 def main():
-    program, library = sys.argv[1:]
+    program, refusals, library = sys.argv[1:]
     shim = Shim(library)
     runs = collections.Counter()
     failures = collections.Counter()
@@ -277,7 +306,7 @@ def main():
         return kind, counts.failures if counts else 0, None if right else told
 
     with tempfile.TemporaryDirectory() as room, concurrent.futures.ThreadPoolExecutor(os.cpu_count()) as pool:
-        waiting = [pool.submit(judged, kind, run) for kind, run in all_runs(shim, program, room)]
+        waiting = [pool.submit(judged, kind, run) for kind, run in all_runs(shim, program, refusals, room)]
         for ended in waiting:
             kind, failed, complaint = ended.result()
             runs[kind] += 1
