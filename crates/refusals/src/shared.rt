@@ -1,75 +1,89 @@
 //! Calls of a shared host.
 
-ghost use Rattle.std.specs.Prelude.{◌≡◌, [], All, IfOk};
+ghost use Rattle.std.specs.Prelude.{◌≡◌, [], ◌∷◌, IfOk, IfSome};
 ghost use Rattle.host_lock.specs.Sessions.{IsOf, IsSame};
 
 use crate::steps::{Made, Users, new_host};
 use crate::trouble::{TRIES, Trouble};
-use host_lock::{Answer, Journal, OpenRefusal, Session, SharedHost};
-use requests::{PlainStep, Reply};
+use host_lock::{Answer, Journal, Session, SharedHost};
+use pid_blocks::Uid;
+use requests::{Host, PlainStep, Reply};
 use scenario::Scenario;
 use std::alloc::Global;
 use std::sync::Wait;
 use stop_handlers::ByPolicy;
 use trace_stop::Settings;
 
-/// A shared host with a session of each user, and room for these sessions.
-#[derive(Drop)]
-struct Opened {
-    host: SharedHost<ByPolicy>,
-    first: Session,
-    second: Session,
-    room: Vec<Session>,
-}
-
-/// The sessions, apart.
-fn apart(host: SharedHost<ByPolicy>, mut room: Vec<Session>) -> Result<Opened, Trouble>
-    requires { All (IsOf host) room.items }
-    ensures first { IfOk result (λ o. IsOf o.host o.first) }
-    ensures second { IfOk result (λ o. IsOf o.host o.second) }
-    ensures room { IfOk result (λ o. o.room.items ≡ []) }
+/// The host, shared by a session of each of the users; none where memory ran out.
+fn open_two(
+    alloc: Global,
+    host: Host<ByPolicy>,
+    first: Uid,
+    second: Uid,
+) -> Option<(SharedHost<ByPolicy>, Session, Session)>
+    ensures first { IfSome result (λ r. IsOf r.0 r.1) }
+    ensures second { IfSome result (λ r. IsOf r.0 r.2) }
 {
-    let (Some(second), Some(first)) = (room.pop(), room.pop()) else {
-        return Err(Trouble::Wrong("a user has no session"));
+    let Ok((host, mut sessions)) = SharedHost::open(alloc, host, &[first, second]) else {
+        return None;
     };
-    if !room.is_empty() {
-        return Err(Trouble::Wrong("a user has a session more"));
-    }
-    Ok(Opened {
-        host,
-        first,
-        second,
-        room,
-    })
+    let second = sessions.pop()?;
+    let first = sessions.pop()?;
+    Some((host, first, second))
 }
 
-/// Shares a new host between the users.
-fn open(alloc: Global, users: &Users, settings: Settings) -> Result<Opened, Trouble>
-    ensures first { IfOk result (λ o. IsOf o.host o.first) }
-    ensures second { IfOk result (λ o. IsOf o.host o.second) }
-    ensures room { IfOk result (λ o. o.room.items ≡ []) }
-{
-    let host = new_host(alloc, settings)?;
-    match SharedHost::open(alloc, host, &[users.first, users.second]) {
-        Ok((host, room)) => apart(host, room),
-        Err(OpenRefusal::Memory) => Err(Trouble::Memory),
-        Err(_) => Err(Trouble::Wrong("two users can't share a host")),
-    }
-}
-
-/// The same, made again while it is refused.
-fn open_again(alloc: Global, users: &Users, settings: Settings) -> Result<Opened, Trouble>
-    ensures first { IfOk result (λ o. IsOf o.host o.first) }
-    ensures second { IfOk result (λ o. IsOf o.host o.second) }
-    ensures room { IfOk result (λ o. o.room.items ≡ []) }
+/// The same of a new host, made again while it is refused.
+fn open(
+    alloc: Global,
+    users: &Users,
+    settings: Settings,
+) -> Result<(SharedHost<ByPolicy>, Session, Session), Trouble>
+    ensures first { IfOk result (λ r. IsOf r.0 r.1) }
+    ensures second { IfOk result (λ r. IsOf r.0 r.2) }
 {
     for _ in 0..TRIES {
-        match open(alloc, users, settings) {
-            Err(Trouble::Memory) => {}
-            ended => return ended,
+        let host = new_host(alloc, settings)?;
+        if let Some(opened) = open_two(alloc, host, users.first, users.second) {
+            return Ok(opened);
         }
     }
     Err(Trouble::Memory)
+}
+
+/// Room for two sessions.
+fn room_for_two(alloc: Global) -> Result<Vec<Session>, Trouble>
+    ensures { IfOk result (λ room. room.items ≡ []) }
+{
+    for _ in 0..TRIES {
+        if let Ok(room) = Vec::with_capacity(alloc, 2) {
+            return Ok(room);
+        }
+    }
+    Err(Trouble::Memory)
+}
+
+fn both(mut room: Vec<Session>, first: Session, second: Session) -> Option<Vec<Session>>
+    requires { room.items ≡ [] }
+    ensures { IfSome result (λ v. v.items ≡ first ∷ second ∷ []) }
+{
+    room.push(first).ok()?;
+    room.push(second).ok()?;
+    Some(room)
+}
+
+/// The host and the journal, once both are handed in.
+fn close_two(
+    room: Vec<Session>,
+    host: SharedHost<ByPolicy>,
+    first: Session,
+    second: Session,
+) -> Option<(Host<ByPolicy>, Journal)>
+    requires room { room.items ≡ [] }
+    requires first { IsOf host first }
+    requires second { IsOf host second }
+{
+    let sessions = both(room, first, second)?;
+    host.close(sessions).ok()
 }
 
 /// The reply to a call, which is made again while it is refused; each counts as one.
@@ -114,6 +128,31 @@ fn is_of(journal: &Journal, scenario: &Scenario, made: &Made) -> bool {
     true
 }
 
+/// Makes the calls in turn, each by its user's session.
+fn call_all<R: Wait>(
+    rt: &R,
+    alloc: Global,
+    host: &SharedHost<ByPolicy>,
+    users: &Users,
+    scenario: &Scenario,
+    first: &mut Session,
+    second: &mut Session,
+) -> Result<(), Trouble>
+    requires first { IsOf host.now first.old }
+    requires second { IsOf host.now second.old }
+    ensures first { IsOf host.now first.new }
+    ensures second { IsOf host.now second.new }
+{
+    for step in scenario.steps() {
+        if step.0 == users.first {
+            call(rt, alloc, host, first, &step.1)?;
+        } else {
+            call(rt, alloc, host, second, &step.1)?;
+        }
+    }
+    Ok(())
+}
+
 /// Each call has the reply of the step by itself, and a refused call has no entry in the journal.
 pub fn check<R: Wait>(
     rt: &R,
@@ -122,22 +161,10 @@ pub fn check<R: Wait>(
     scenario: &Scenario,
     made: &Made,
 ) -> Result<(), Trouble> {
-    let Opened {
-        host,
-        mut first,
-        mut second,
-        mut room,
-    } = open_again(alloc, users, scenario.settings())?;
-    for step in scenario.steps() {
-        if step.0 == users.first {
-            call(rt, alloc, &host, &mut first, &step.1)?;
-        } else {
-            call(rt, alloc, &host, &mut second, &step.1)?;
-        }
-    }
-    room.push(first)?;
-    room.push(second)?;
-    let Ok((host, journal)) = host.close(room) else {
+    let room = room_for_two(alloc)?;
+    let (host, mut first, mut second) = open(alloc, users, scenario.settings())?;
+    call_all(rt, alloc, &host, users, scenario, &mut first, &mut second)?;
+    let Some((host, journal)) = close_two(room, host, first, second) else {
         return Err(Trouble::Wrong("a session is missing"));
     };
     if !is_of(&journal, scenario, made) {
