@@ -1,9 +1,10 @@
 -- The answer to one line.
-use Rattle.std.proofs.Common.{◌≡◌, ◌≢◌, ℕ, List, [], ◌++◌, take, Option, None, Some, refl, sym, ap, subst, ◌∙◌}
+use Rattle.std.proofs.Common.{◌≡◌, ◌≢◌, ℕ, List, [], ◌++◌, take, Option, None, Some, refl, sym, ap, subst, ◌∙◌, is_some, true≢false}
 use Rattle.std.specs.Prelude.{⊤, Result, Ok, Err, OnOk}
 use Rattle.std.specs.Result.{IsErrAnd}
 use Rattle.std.specs.Io.KnownBytes.{Keeps}
-use Rattle.requests.specs.Plain.{PlainStep}
+use Rattle.line_io.specs.declared.reading.LineEnd.{LineEnd}
+use Rattle.line_io.specs.declared.reading.LineEnd.TheVariants.{Feed}
 use Rattle.requests.specs.Run.{Asked}
 use Rattle.trace_stop.specs.declared.Settings.{Settings}
 use Rattle.scenario.specs.declared.fault.Fault.{Fault}
@@ -28,3 +29,6 @@ keeps_same (Some xs) = refl
 pub serves_by : (settings : Settings) (r u h w : Option (List ℕ)) (result : Result ⊤ ServeFault) (e : ServeFault) → IsErrAnd result (λ x. x ≡ e) → Serves (Err e) settings r u h w → Serves result settings r u h w
 serves_by settings r u h w (Ok done) e is p = absurd is
 serves_by settings r u h w (Err x) e is p = subst (λ y. Serves (Err y) settings r u h w) (sym is) p
+
+pub none_feed : (x : Option LineEnd) → x ≡ None → x ≢ Some Feed
+none_feed x none some = true≢false (ap is_some (sym some ∙ none))

@@ -191,7 +191,7 @@ module _ (settings : Settings) (r u h w : Option (List ℕ)) (m : Machine) (made
   -- the next line could not be read
   pub cannot_read : (e : ServeFault) → (e ≡ Read) ⊎ (e ≡ Memory) → (text : List ℕ) → Loses u v text [] → Serves (Err e) settings r v h w
   cannot_read e kind text lost =
-      let few = let one = lines_few text lost.0 in let same = ap (λ xs. length (lines_in xs)) (append-nil text) in omega arith in
+      let few = lines_one text Input lost.0 in
       let left = stops w (text ++ []) few lost.1 (keeps_same w) in
       elim kind [
         | inl is ↦ subst (λ x. Serves (Err x) settings r v h w) (sym is) left

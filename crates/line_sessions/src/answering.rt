@@ -67,7 +67,7 @@ impl Session {
         ensures err { IfErr result (λ e. e ≡ Memory) }
     {
         match parse_step(alloc, line) {
-            Ok((uid, step)) => self.make(alloc, uid, step, text),
+            Ok(asked) => self.make(alloc, asked.0, asked.1, text),
             Err(fault) => push_refusal(fault, text),
         }
     }

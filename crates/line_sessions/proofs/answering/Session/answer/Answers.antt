@@ -7,8 +7,8 @@ use Rattle.line_sessions.proofs.answering.Session.answer.Goals as goal
 
 pub returns-in-Ok-clause-ok : goal.returns-in-Ok-clause-ok
 returns-in-Ok-clause-ok c =
-    let is : IsStep c.args.line.now (Ok (asked (c.in-Ok.uid, c.in-Ok.step))) = c.in-Ok.ensures.step in
-    on_ok_so c.make.result _ _ (λ p. (Ok (record { uid = c.in-Ok.uid; reply = p.0 }), step (asked (c.in-Ok.uid, c.in-Ok.step)) p.0 _ is p.1 p.2, p.3)) c.make.ensures.ok
+    on_ok_so c.make.result _ _
+    (λ p. (Ok (record { uid = c.in-Ok.asked.0; reply = p.0 }), step (asked c.in-Ok.asked) p.0 _ c.in-Ok.ensures.step p.1 p.2, p.3)) c.make.ensures.ok
 
 pub returns-in-Err-clause-ok : goal.returns-in-Err-clause-ok
 returns-in-Err-clause-ok c =
