@@ -1,3 +1,5 @@
+ghost use Rattle.std.specs.Prelude.{◌≡◌, IfOk};
+
 use crate::{LineEnd, read_line, write_flushed};
 use std::io;
 use std::io::BufReader;
@@ -26,7 +28,9 @@ impl<'a> Wire<'a> {
     }
 
     /// What a call that moves no byte answers.
-    fn ended(&self) -> io::Result<usize> {
+    fn ended(&self) -> io::Result<usize>
+        ensures { IfOk result (λ n. n ≡ 0) }
+    {
         if self.fails {
             Err(io::Error::from(io::ErrorKind::Other))
         } else {

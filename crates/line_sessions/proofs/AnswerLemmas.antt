@@ -1,12 +1,12 @@
 -- The answer to one line.
-use Rattle.std.proofs.Common.{◌≡◌, ◌≢◌, ℕ, List, [], ◌++◌, take, Option, None, Some, refl, sym, ap, subst, ◌∙◌, is_some, true≢false}
-use Rattle.std.specs.Prelude.{⊤, Result, Ok, Err, OnOk}
+use Rattle.std.proofs.Common.{◌≡◌, ◌≢◌, ℕ, List, [], ◌++◌, take, Option, None, Some, refl, sym, ap, subst, ◌∙◌, is_some, Bool, true, false, true≢false}
+use Rattle.std.specs.Prelude.{⊤, Result, Ok, Err, OnOk, IfSome}
 use Rattle.std.specs.Result.{IsErrAnd}
 use Rattle.std.specs.Io.KnownBytes.{Keeps}
 use Rattle.line_io.specs.declared.reading.LineEnd.{LineEnd}
-use Rattle.line_io.specs.declared.reading.LineEnd.TheVariants.{Feed}
+use Rattle.line_io.specs.declared.reading.LineEnd.TheVariants.{Feed, Input}
 use Rattle.requests.specs.Run.{Asked}
-use Rattle.trace_stop.specs.declared.Settings.{Settings}
+use Rattle.requests.specs.Machine.{Machine}
 use Rattle.scenario.specs.declared.fault.Fault.{Fault}
 use Rattle.scenario.specs.declared.fault.Fault.TheVariants.{Memory}
 use Rattle.scenario.specs.OneStep.{AnswersBy}
@@ -26,9 +26,23 @@ pub keeps_same : (a : Option (List ℕ)) → Keeps a a
 keeps_same None = tt
 keeps_same (Some xs) = refl
 
-pub serves_by : (settings : Settings) (r u h w : Option (List ℕ)) (result : Result ⊤ ServeFault) (e : ServeFault) → IsErrAnd result (λ x. x ≡ e) → Serves (Err e) settings r u h w → Serves result settings r u h w
-serves_by settings r u h w (Ok done) e is p = absurd is
-serves_by settings r u h w (Err x) e is p = subst (λ y. Serves (Err y) settings r u h w) (sym is) p
+pub serves_by : (m : Machine) (r u h w : Option (List ℕ)) (result : Result ⊤ ServeFault) (e : ServeFault) → IsErrAnd result (λ x. x ≡ e) → Serves (Err e) m r u h w → Serves result m r u h w
+serves_by m r u h w (Ok done) e is p = absurd is
+serves_by m r u h w (Err x) e is p = subst (λ y. Serves (Err y) m r u h w) (sym is) p
 
 pub none_feed : (x : Option LineEnd) → x ≡ None → x ≢ Some Feed
 none_feed x none some = true≢false (ap is_some (sym some ∙ none))
+
+abbrev is_input : Option LineEnd → Bool
+is_input None = false
+is_input (Some Feed) = false
+is_input (Some Input) = true
+
+pub input_feed : (x : Option LineEnd) (end : LineEnd) → x ≡ Some end → end ≡ Input → x ≢ Some Feed
+input_feed x end some is feed = true≢false (ap is_input (sym (some ∙ ap Some is) ∙ feed))
+
+pub some_so : {X : Type 0} (x : Option X) (P : X → Type 0) (a : X) → x ≡ Some a → IfSome x P → P a
+some_so x P a is p = subst (λ y. IfSome y P) is p
+
+pub serves_from : (result : Result ⊤ ServeFault) (m n : Machine) (r u h w : Option (List ℕ)) → m ≡ n → Serves result m r u h w → Serves result n r u h w
+serves_from result m n r u h w is p = subst (λ x. Serves result x r u h w) is p

@@ -11,14 +11,13 @@ use Rattle.line_io.specs.Lines.{lines_in, NoFeed, Loses, end_bytes}
 use Rattle.line_io.proofs.LineLemmas.{Whole, whole_start, whole_line, whole_more, lines_last, lines_few, lines_one}
 use Rattle.line_io.proofs.ReadLemmas.{consumes_more}
 use Rattle.pid_blocks.specs.Users.{IsUser}
-use Rattle.requests.specs.Machine.{Machine, empty}
+use Rattle.requests.specs.Machine.{Machine}
 use Rattle.scenario.proofs.LineLemmas.{Counted, counted_start, counted_more, counted_few, counted_number}
 use Rattle.scenario.proofs.WriteLemmas.{appends_more, appends_kept}
 use Rattle.scenario.specs.declared.fault.Fault.{Fault}
 use Rattle.scenario.specs.Lines.{line}
 use Rattle.scenario.specs.OneStep.{IsStep, too_long, no_value, value, most_step_bytes}
 use Rattle.requests.specs.Run.{Asked}
-use Rattle.trace_stop.specs.declared.Settings.{Settings}
 use Rattle.line_sessions.specs.declared.fault.ServeFault.{ServeFault}
 use Rattle.line_sessions.specs.declared.fault.ServeFault.TheVariants.{Read, Write, Memory, TooManyLines}
 use Rattle.line_sessions.specs.Sessions.{LineReply, AnswersLine, step, refused, AnswersLines, refusal, text_after, text_of, Talk, Serves}
@@ -81,13 +80,13 @@ few_after before (Err f) n few = omega arith
 
 -- ---- what holds between lines: all lines that were taken have ended, and are answered
 
-pub record Talking (settings : Settings) (read unread had has : Option (List ℕ)) (m : Machine) (made : List ℕ) (count : ℕ) : Type 0 where
+pub record Talking (first : Machine) (read unread had has : Option (List ℕ)) (m : Machine) (made : List ℕ) (count : ℕ) : Type 0 where
   pub bytes : List ℕ
   pub replies : List LineReply
   pub before : List ℕ
   pub whole : Whole bytes
   pub taken : Consumes read unread bytes
-  pub answered : AnswersLines (lines_in bytes) (empty settings) replies m
+  pub answered : AnswersLines (lines_in bytes) first replies m
   pub told : Appends had has (text_of replies)
   pub next : (rs : List LineReply) → text_of (replies ++ rs) ≡ text_of replies ++ text_after before rs
   pub counted : Counted made before
@@ -111,8 +110,8 @@ appends_none : (a : Option (List ℕ)) → Appends a a []
 appends_none None = tt
 appends_none (Some xs) = sym (append-nil xs)
 
-pub start : (settings : Settings) (r w : Option (List ℕ)) (m : Machine) (made : List ℕ) → m ≡ empty settings → Counted made [] → Talking settings r r w w m made 0
-start settings r w m made is counted = record {
+pub start : (first : Machine) (r w : Option (List ℕ)) (m : Machine) (made : List ℕ) → m ≡ first → Counted made [] → Talking first r r w w m made 0
+start first r w m made is counted = record {
   bytes = [];
   replies = [];
   before = [];
@@ -136,10 +135,10 @@ lines_with bytes text Feed whole no_feed some = whole_line bytes text whole no_f
 lines_with bytes text Input whole no_feed some =
     whole (text ++ []) ∙ ap (λ ls. lines_in bytes ++ ls) (ap lines_in (append-nil text) ∙ only_line text no_feed (some refl))
 
-module _ (settings : Settings) (r u h w : Option (List ℕ)) (m : Machine) (made : List ℕ) (count : ℕ) (at : Talking settings r u h w m made count) (v : Option (List ℕ)) where
+module _ (first : Machine) (r u h w : Option (List ℕ)) (m : Machine) (made : List ℕ) (count : ℕ) (at : Talking first r u h w m made count) (v : Option (List ℕ)) where
   -- a line or a part of one was taken, and nothing was written
   stops : (x : Option (List ℕ)) (rest : List ℕ) → length (lines_in rest) ≤ 1 → Consumes u v rest → Keeps w x
-      → (rs : List LineReply) × (rest : List ℕ) × (length (lines_in rest) ≤ 1) × Talk settings r v rest rs × Appends h x (text_of rs)
+      → (rs : List LineReply) × (rest : List ℕ) × (length (lines_in rest) ≤ 1) × Talk first r v rest rs × Appends h x (text_of rs)
   stops x rest few lost kept = (
     at.replies,
     rest,
@@ -150,17 +149,17 @@ module _ (settings : Settings) (r u h w : Option (List ℕ)) (m : Machine) (made
 
   module _ (text : List ℕ) (end : LineEnd) (lost : Loses u v text (end_bytes end)) where
     -- a line was taken, and has this answer
-    line_answered : (k : Machine) (reply : LineReply) → (end ≡ Input → 0 < length text) → AnswersLine (kept text) m reply k → Talk settings r v [] (at.replies ++ (reply ∷ []))
+    line_answered : (k : Machine) (reply : LineReply) → (end ≡ Input → 0 < length text) → AnswersLine (kept text) m reply k → Talk first r v [] (at.replies ++ (reply ∷ []))
     line_answered k reply some is =
         let P : List ℕ → Type 0 = λ bytes. Consumes r v bytes in
-        let Q : List (List ℕ) → Type 0 = λ ls. AnswersLines ls (empty settings) (at.replies ++ (reply ∷ [])) k in
+        let Q : List (List ℕ) → Type 0 = λ ls. AnswersLines ls first (at.replies ++ (reply ∷ [])) k in
         let bytes = at.bytes ++ (text ++ end_bytes end) in
         record {
           bytes = bytes;
           host = k;
           taken = subst P (sym (append-nil bytes)) (consumes_more r u v at.bytes (text ++ end_bytes end) at.taken lost.1);
           answered = subst Q (sym (lines_with at.bytes text end at.whole lost.0 some))
-              (answers_more (lines_in at.bytes) text (empty settings) m k at.replies reply at.answered (answers_kept text m reply k is));
+              (answers_more (lines_in at.bytes) text first m k at.replies reply at.answered (answers_kept text m reply k is));
         }
 
     text_answered : (reply : LineReply) → ToUser reply → text_of (at.replies ++ (reply ∷ [])) ≡ text_of at.replies ++ reply_text made reply
@@ -169,13 +168,13 @@ module _ (settings : Settings) (r u h w : Option (List ℕ)) (m : Machine) (made
 
     -- the last line was answered
     pub ends_last : (k : Machine) (after : List ℕ) (x : Option (List ℕ)) → (end ≡ Input → 0 < length text) → Told (Ok tt) (kept text) m k made after w x
-        → IfSome u (λ _. IsAtEnd v) → Serves (Ok tt) settings r v h x
+        → IfSome u (λ _. IsAtEnd v) → Serves (Ok tt) first r v h x
     ends_last k after x some told over =
         let P : List ℕ → Type 0 = λ t. Appends h x t in
         (at.replies ++ (told.0 ∷ []), line_answered k told.0 some told.1, subst P (sym (text_answered told.0 (to_user told.1))) (appends_more h w x (text_of at.replies) (reply_text made told.0) at.told told.3), at_end r u v at.bytes at.taken over)
 
     -- a line was taken, and its answer was not written
-    pub fails : (k : Machine) (after : List ℕ) (x : Option (List ℕ)) (e : ServeFault) → (end ≡ Input → 0 < length text) → Told (Err e) (kept text) m k made after w x → Serves (Err e) settings r v h x
+    pub fails : (k : Machine) (after : List ℕ) (x : Option (List ℕ)) (e : ServeFault) → (end ≡ Input → 0 < length text) → Told (Err e) (kept text) m k made after w x → Serves (Err e) first r v h x
     fails k after x Write some told =
         let P : List ℕ → Type 0 = λ t. Appends h x t in
         let one = reply_text made told.0 in
@@ -189,17 +188,17 @@ module _ (settings : Settings) (r u h w : Option (List ℕ)) (m : Machine) (made
     fails k after x TooManyLines some told = stops x (text ++ end_bytes end) (lines_one text end lost.0) lost.1 told
 
   -- the next line could not be read
-  pub cannot_read : (e : ServeFault) → (e ≡ Read) ⊎ (e ≡ Memory) → (text : List ℕ) → Loses u v text [] → Serves (Err e) settings r v h w
+  pub cannot_read : (e : ServeFault) → (e ≡ Read) ⊎ (e ≡ Memory) → (text : List ℕ) → Loses u v text [] → Serves (Err e) first r v h w
   cannot_read e kind text lost =
       let few = lines_one text Input lost.0 in
       let left = stops w (text ++ []) few lost.1 (keeps_same w) in
       elim kind [
-        | inl is ↦ subst (λ x. Serves (Err x) settings r v h w) (sym is) left
-        | inr is ↦ subst (λ x. Serves (Err x) settings r v h w) (sym is) left
+        | inl is ↦ subst (λ x. Serves (Err x) first r v h w) (sym is) left
+        | inr is ↦ subst (λ x. Serves (Err x) first r v h w) (sym is) left
       ]
 
   -- the input has ended
-  pub ends_now : Consumes u v [] → IfSome u (λ _. IsAtEnd v) → Serves (Ok tt) settings r v h w
+  pub ends_now : Consumes u v [] → IfSome u (λ _. IsAtEnd v) → Serves (Ok tt) first r v h w
   ends_now lost over = (
     at.replies,
     record { bytes = at.bytes; host = m; taken = consumes_more r u v at.bytes [] at.taken lost; answered = at.answered },
@@ -209,11 +208,11 @@ module _ (settings : Settings) (r u h w : Option (List ℕ)) (m : Machine) (made
 
   -- the line was answered, and there may be more
   pub goes_on : (text : List ℕ) → Loses u v text (end_bytes Feed) → (k : Machine) (after : List ℕ) (x : Option (List ℕ)) → Told (Ok tt) (kept text) m k made after w x
-      → Talking settings r v h x k after (count + 1)
+      → Talking first r v h x k after (count + 1)
   goes_on text lost k after x told =
       let reply = told.0 in
       let P : List ℕ → Type 0 = λ t. Appends h x t in
-      let Q : List (List ℕ) → Type 0 = λ ls. AnswersLines ls (empty settings) (at.replies ++ (reply ∷ [])) k in
+      let Q : List (List ℕ) → Type 0 = λ ls. AnswersLines ls first (at.replies ++ (reply ∷ [])) k in
       let R : List ℕ → Type 0 = λ xs. Counted xs (users_after at.before reply) in
       let user = to_user told.1 in
       let text_is = text_answered text Feed lost reply user in
@@ -224,7 +223,7 @@ module _ (settings : Settings) (r u h w : Option (List ℕ)) (m : Machine) (made
         whole = whole_more at.bytes text at.whole lost.0;
         taken = consumes_more r u v at.bytes (text ++ (10 ∷ [])) at.taken lost.1;
         answered = subst Q (sym (whole_line at.bytes text at.whole lost.0))
-            (answers_more (lines_in at.bytes) text (empty settings) m k at.replies reply at.answered (answers_kept text m reply k told.1));
+            (answers_more (lines_in at.bytes) text first m k at.replies reply at.answered (answers_kept text m reply k told.1));
         told = subst P (sym text_is) (appends_more h w x (text_of at.replies) (reply_text made reply) at.told told.3);
         next = λ rs.
             ap text_of (append_assoc at.replies (reply ∷ []) rs) ∙ at.next (reply ∷ rs)
@@ -236,7 +235,7 @@ module _ (settings : Settings) (r u h w : Option (List ℕ)) (m : Machine) (made
       }
 
   -- no more lines are answered
-  pub too_many : Serves (Err TooManyLines) settings r u h w
+  pub too_many : Serves (Err TooManyLines) first r u h w
   too_many = (
     at.replies,
     [],
@@ -248,12 +247,22 @@ module _ (settings : Settings) (r u h w : Option (List ℕ)) (m : Machine) (made
   pub room : (k : ℕ) → get_or made k 0 ≤ count
   room k = let few = at.few in let each = counted_few made at.before at.counted k in omega arith
 
+-- what is told of the bytes that are kept of a line
+pub told_kept : (result : Result ⊤ ServeFault) (line items text : List ℕ) (m k : Machine) (made after : List ℕ) (had has : Option (List ℕ)) → line ≡ items → items ≡ kept text
+    → Told result line m k made after had has → Told result (kept text) m k made after had has
+told_kept result line items text m k made after had has p q told = subst (λ t. Told result t m k made after had has) (p ∙ q) told
+
+-- a line that does not end with the input
+pub lost_feed : (u v : Option (List ℕ)) (text : List ℕ) (end : LineEnd) → (end ≡ Input → ⊥) → Loses u v text (end_bytes end) → Loses u v text (end_bytes Feed)
+lost_feed u v text Feed not lost = lost
+lost_feed u v text Input not lost = absurd (not refl)
+
 -- nothing was taken, and nothing written
-pub begins_not : (settings : Settings) (r h : Option (List ℕ)) → Serves (Err Memory) settings r r h h
-begins_not settings r h = (
+pub begins_not : (first : Machine) (r h : Option (List ℕ)) → Serves (Err Memory) first r r h h
+begins_not first r h = (
   [],
   [],
   omega arith,
-  record { bytes = []; host = empty settings; taken = consumes_none r; answered = refl },
+  record { bytes = []; host = first; taken = consumes_none r; answered = refl },
   appends_none h,
 )

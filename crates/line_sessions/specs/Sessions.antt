@@ -3,9 +3,8 @@ use Rattle.std.specs.Prelude.{⊤, ◌≡◌, ◌≤◌, ℕ, ◌==◌, ◌+◌,
 use Rattle.std.specs.Io.KnownBytes.{Appends, Consumes, IsAtEnd}
 use Rattle.pid_blocks.specs.Users.{IsUser}
 use Rattle.requests.specs.declared.Reply.{Reply}
-use Rattle.requests.specs.Machine.{Machine, empty}
+use Rattle.requests.specs.Machine.{Machine}
 use Rattle.requests.specs.Run.{Asked}
-use Rattle.trace_stop.specs.declared.Settings.{Settings}
 use Rattle.visibility.specs.Runs.{told, Did}
 use Rattle.scenario.specs.declared.fault.Fault.{Fault}
 use Rattle.scenario.specs.Faults.{fault_name}
@@ -50,19 +49,19 @@ text_of rs = text_after [] rs
 
 -- ---- what a session took and wrote
 
--- the reader lost some lines, which have these answers from the host that nobody has used, and then `rest`
-pub record Talk (settings : Settings) (read unread : Option (List ℕ)) (rest : List ℕ) (rs : List LineReply) : Type 0 where
+-- the reader lost some lines, which have these answers from the host m on, and then `rest`
+pub record Talk (m : Machine) (read unread : Option (List ℕ)) (rest : List ℕ) (rs : List LineReply) : Type 0 where
   pub bytes : List ℕ
   pub host : Machine
   pub taken : Consumes read unread (bytes ++ rest)
-  pub answered : AnswersLines (lines_in bytes) (empty settings) rs host
+  pub answered : AnswersLines (lines_in bytes) m rs host
 
--- At the end of the input all lines were answered, and the writer has got the text of the answers. Where a write failed it has got a front
+-- A session from the host m on. At the end of the input all lines were answered, and the writer has got the text of the answers. Where a write failed it has got a front
 -- of that text. Else it has got the text of the answers to all lines but a last one, of which nothing, a part or all was taken.
-abbrev pub Serves : Result ⊤ ServeFault → Settings → (read unread had has : Option (List ℕ)) → Type 0
-Serves (Ok done) settings read unread had has =
-    (rs : List LineReply) × Talk settings read unread [] rs × Appends had has (text_of rs) × IfSome read (λ _. IsAtEnd unread)
-Serves (Err Write) settings read unread had has =
-    (rs : List LineReply) × Talk settings read unread [] rs × (n : ℕ) × Appends had has (take n (text_of rs))
-Serves (Err e) settings read unread had has =
-    (rs : List LineReply) × (rest : List ℕ) × (length (lines_in rest) ≤ 1) × Talk settings read unread rest rs × Appends had has (text_of rs)
+abbrev pub Serves : Result ⊤ ServeFault → Machine → (read unread had has : Option (List ℕ)) → Type 0
+Serves (Ok done) m read unread had has =
+    (rs : List LineReply) × Talk m read unread [] rs × Appends had has (text_of rs) × IfSome read (λ _. IsAtEnd unread)
+Serves (Err Write) m read unread had has =
+    (rs : List LineReply) × Talk m read unread [] rs × (n : ℕ) × Appends had has (take n (text_of rs))
+Serves (Err e) m read unread had has =
+    (rs : List LineReply) × (rest : List ℕ) × (length (lines_in rest) ≤ 1) × Talk m read unread rest rs × Appends had has (text_of rs)

@@ -1,8 +1,9 @@
 //! A session from its first line to its last.
-ghost use Rattle.std.specs.Prelude.{◌≡◌, ◌≢◌, ◌<◌, ◌⊎◌, ℕ, List, [], Ok, None, Some, length, IfOk, IfErr, IfSome, OnErr};
+ghost use Rattle.std.specs.Prelude.{◌≡◌, ◌≢◌, ◌<◌, ◌⊎◌, ℕ, List, [], Ok, None, Some, length, replicate, IfOk, IfErr, IfSome, OnErr};
 ghost use Rattle.std.specs.Io.KnownBytes.{Consumes, IsAtEnd};
 ghost use Rattle.line_io.specs.declared.reading.LineEnd.TheVariants.{Feed, Input};
 ghost use Rattle.line_io.specs.Lines.{Loses, end_bytes};
+ghost use Rattle.requests.specs.Machine.{empty};
 ghost use Rattle.line_sessions.specs.declared.fault.ServeFault.TheVariants.{Read as ReadFault, Memory};
 ghost use Rattle.line_sessions.specs.Sessions.{Serves};
 ghost use Rattle.line_sessions.specs.Turns.{kept};
@@ -35,6 +36,30 @@ fn next_line<R: BufRead>(reader: &mut R, line: &mut Vec<u8>) -> Result<Option<Li
     }
 }
 
+/// Answers each line of the reader by a line to the writer, to the reader's end, with `line` and `text` for a line's bytes and its answer.
+fn answer_all<R: BufRead, W: Write>(
+    alloc: Global,
+    session: &mut Session,
+    line: &mut Vec<u8>,
+    text: &mut String,
+    reader: &mut R,
+    writer: &mut W,
+) -> Result<(), ServeFault>
+    requires { session.old.made ≡ replicate 64 0 }
+    ensures { Serves result session.old.host (R.Read.remaining reader.old) (R.Read.remaining reader.new) (W.contents writer.old) (W.contents writer.new) }
+{
+    for _ in 0..u64::MAX {
+        let Some(end) = next_line(reader, line)? else {
+            return Ok(());
+        };
+        answer_line(alloc, session, line.as_slice(), text, writer)?;
+        if let LineEnd::Input = end {
+            return Ok(());
+        }
+    }
+    Err(ServeFault::TooManyLines)
+}
+
 /// Answers each line of the reader by a line to the writer, to the reader's end: the steps are made by a host with these settings that
 /// nobody has used, and handlers answer by the policies that the lines install. A line's answer is written and flushed before the next
 /// line is read, and the memory that a line took is free by then.
@@ -50,19 +75,17 @@ pub fn serve<R: BufRead, W: Write>(
     reader: &mut R,
     writer: &mut W,
 ) -> Result<(), ServeFault>
-    ensures { Serves result settings (R.Read.remaining reader.old) (R.Read.remaining reader.new) (W.contents writer.old) (W.contents writer.new) }
+    ensures { Serves result (empty settings) (R.Read.remaining reader.old) (R.Read.remaining reader.new) (W.contents writer.old) (W.contents writer.new) }
 {
     let mut session = Session::new(alloc, settings)?;
     let mut line = Vec::new(alloc);
     let mut text = String::new(alloc);
-    for _ in 0..u64::MAX {
-        let Some(end) = next_line(reader, &mut line)? else {
-            return Ok(());
-        };
-        answer_line(alloc, &mut session, line.as_slice(), &mut text, writer)?;
-        if let LineEnd::Input = end {
-            return Ok(());
-        }
-    }
-    Err(ServeFault::TooManyLines)
+    answer_all(
+        alloc,
+        &mut session,
+        &mut line,
+        &mut text,
+        reader,
+        writer,
+    )
 }
