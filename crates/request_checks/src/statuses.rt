@@ -1,9 +1,9 @@
 //! Status words of wait(2), each of 16 bits.
 
-use wait4::{Status, StatusKind};
 use signals::Signal;
 use std::alloc::Global;
 use std::test::Fail;
+use wait4::{Status, StatusKind};
 
 /// What each word of 16 bits tells, by the words of all statuses.
 fn statuses_by_word(alloc: Global) -> Result<Vec<Option<StatusKind>>, Fail> {

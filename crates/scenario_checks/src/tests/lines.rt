@@ -1,8 +1,8 @@
-use scenario::render;
 use event_masks::{EventMask, StopFlags};
 use lwpinfo::NumList;
 use pid_blocks::{Errno, Pid, Tid, Uid};
 use requests::Reply;
+use scenario::render;
 use signals::Signal;
 use std::process::Abort;
 use std::test::Fail;

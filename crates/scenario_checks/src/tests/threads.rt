@@ -1,6 +1,6 @@
 use super::{ITS_LINES_BY_USER, SESSION, SPAWN_AND_LIST, handlers_by_policy};
-use scenario::{RunFault, RunOptions, parse, run, run_threads};
 use pid_blocks::Uid;
+use scenario::{RunFault, RunOptions, parse, run, run_threads};
 use std::alloc::Global;
 use std::sync::Wait;
 use std::test::Fail;

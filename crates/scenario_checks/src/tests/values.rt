@@ -1,7 +1,7 @@
 use super::{SESSION, handlers_by_policy};
-use scenario::{RunFault, bind, parse, policies};
 use event_masks::{Call, StopFlags};
 use requests::{Act, PlainStep, Request};
+use scenario::{RunFault, bind, parse, policies};
 use signals::{Disposition, Pass, SigSet, Signal};
 use std::alloc::Global;
 use std::process::Abort;

@@ -1,7 +1,7 @@
 //! Gates: one that lets everybody through, and one at which two scripts meet.
 
-use sessions::Gate;
 use pid_blocks::Uid;
+use sessions::Gate;
 use std::process::Abort;
 use std::sync::atomic::{AtomicU64, Ordering};
 use std::thread;

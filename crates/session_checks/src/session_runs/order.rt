@@ -5,10 +5,10 @@ ghost use Rattle.std.specs.Prelude.{⊤, ◌≡◌, IfSome, All};
 ghost use Rattle.stop_handlers.specs.Decide.{decide};
 ghost use Rattle.sessions.specs.Runs.{IsShort};
 
-use sessions::{Gate, Script, run_sessions};
 use host_lock::MOST_CALLS;
 use pid_blocks::Uid;
 use requests::{Host, Step};
+use sessions::{Gate, Script, run_sessions};
 use std::alloc::Global;
 use std::process::Abort;
 use std::sync::atomic::{AtomicU64, Ordering};

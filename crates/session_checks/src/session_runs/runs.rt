@@ -2,10 +2,10 @@
 
 use super::gates::{Meet, Open};
 use super::scripts::{are_own, new_host, new_process, spawn_at, spawn_each};
-use sessions::{Gate, RunRefusal, Transcript, run_sessions};
 use host_lock::Journal;
 use pid_blocks::Uid;
 use requests::{Host, Reply, Step};
+use sessions::{Gate, RunRefusal, Transcript, run_sessions};
 use std::alloc::Global;
 use std::process::Abort;
 use std::sync::Wait;

@@ -3,10 +3,10 @@
 ghost use Rattle.std.specs.Prelude.{◌<◌, ◌≤◌, IfSome, All};
 ghost use Rattle.sessions.specs.Runs.{IsShort};
 
-use sessions::{Script, Transcript};
 use host_lock::{Journal, MOST_CALLS};
 use pid_blocks::{Pid, Tid, Uid};
 use requests::{Host, PlainStep, Reply, Step};
+use sessions::{Script, Transcript};
 use std::alloc::Global;
 use std::process::Abort;
 use stop_handlers::ByPolicy;

@@ -3,8 +3,8 @@
 ghost use Rattle.std.specs.Prelude.{◌<◌};
 
 use super::pairs::{close_two, new_process, open_two, spawn_hundred, work_beside};
-use host_lock::Journal;
 use event_masks::{Call, EventMask, StopFlags};
+use host_lock::Journal;
 use pid_blocks::{Errno, Pid, Tid, Uid};
 use requests::{Act, Host, PlainStep, Reply, Request, Step};
 use signals::{Pass, Signal};
