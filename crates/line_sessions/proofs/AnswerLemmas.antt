@@ -1,5 +1,5 @@
 -- The answer to one line.
-use Rattle.std.proofs.Common.{◌≡◌, ◌≢◌, ℕ, List, [], ◌++◌, take, Option, None, Some, refl, sym, ap, subst, ◌∙◌, is_some, Bool, true, false, true≢false}
+use Rattle.std.proofs.Common.{◌≡◌, ◌≢◌, ℕ, List, Option, None, Some, refl, sym, ap, subst, ◌∙◌, is_some, Bool, true, false, true≢false}
 use Rattle.std.specs.Prelude.{⊤, Result, Ok, Err, OnOk, IfSome}
 use Rattle.std.specs.Result.{IsErrAnd}
 use Rattle.std.specs.Io.KnownBytes.{Keeps}

@@ -1,5 +1,5 @@
 -- A session, line after line.
-use Rattle.std.proofs.Common.{◌≡◌, ◌≤◌, ◌<◌, ◌+◌, ◌-◌, ℕ, List, [], ◌∷◌, ◌++◌, length, take, get_or, Option, Some, None, refl, sym, ap, subst, ◌∙◌, inl, inr, arith, take_all, ◌⊎◌}
+use Rattle.std.proofs.Common.{◌≡◌, ◌≤◌, ◌<◌, ◌+◌, ℕ, List, [], ◌∷◌, ◌++◌, length, take, get_or, Option, Some, None, refl, sym, ap, subst, ◌∙◌, inl, inr, arith, take_all, ◌⊎◌}
 use Rattle.std.specs.Prelude.{⊤, Result, Ok, Err, IfSome}
 use Rattle.std.specs.Io.KnownBytes.{Appends, Consumes, Keeps, IsAtEnd}
 use Rattle.std.proofs.Math.Seq.{take-append-add}
@@ -8,11 +8,11 @@ use Rattle.std.proofs.lemmas.List.{append_assoc, append-nil, length-take}
 use Rattle.line_io.specs.declared.reading.LineEnd.{LineEnd}
 use Rattle.line_io.specs.declared.reading.LineEnd.TheVariants.{Feed, Input}
 use Rattle.line_io.specs.Lines.{lines_in, NoFeed, Loses, end_bytes}
-use Rattle.line_io.proofs.LineLemmas.{Whole, whole_start, whole_line, whole_more, lines_last, lines_few, lines_one}
+use Rattle.line_io.proofs.LineLemmas.{Whole, whole_start, whole_line, whole_more, lines_last, lines_one}
 use Rattle.line_io.proofs.ReadLemmas.{consumes_more}
 use Rattle.pid_blocks.specs.Users.{IsUser}
 use Rattle.requests.specs.Machine.{Machine}
-use Rattle.scenario.proofs.LineLemmas.{Counted, counted_start, counted_more, counted_few, counted_number}
+use Rattle.scenario.proofs.LineLemmas.{Counted, counted_more, counted_few, counted_number}
 use Rattle.scenario.proofs.WriteLemmas.{appends_more, appends_kept}
 use Rattle.scenario.specs.declared.fault.Fault.{Fault}
 use Rattle.scenario.specs.Lines.{line}
@@ -20,7 +20,7 @@ use Rattle.scenario.specs.OneStep.{IsStep, too_long, no_value, value, most_step_
 use Rattle.requests.specs.Run.{Asked}
 use Rattle.line_sessions.specs.declared.fault.ServeFault.{ServeFault}
 use Rattle.line_sessions.specs.declared.fault.ServeFault.TheVariants.{Read, Write, Memory, TooManyLines}
-use Rattle.line_sessions.specs.Sessions.{LineReply, AnswersLine, step, refused, AnswersLines, refusal, text_after, text_of, Talk, Serves}
+use Rattle.line_sessions.specs.Sessions.{LineReply, AnswersLine, step, refused, AnswersLines, text_after, text_of, Talk, Serves}
 use Rattle.line_sessions.specs.Turns.{kept, reply_text, made_after, Told}
 
 -- ---- a line that is longer than a step

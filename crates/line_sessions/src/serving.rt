@@ -80,12 +80,5 @@ pub fn serve<R: BufRead, W: Write>(
     let mut session = Session::new(alloc, settings)?;
     let mut line = Vec::new(alloc);
     let mut text = String::new(alloc);
-    answer_all(
-        alloc,
-        &mut session,
-        &mut line,
-        &mut text,
-        reader,
-        writer,
-    )
+    answer_all(alloc, &mut session, &mut line, &mut text, reader, writer)
 }

@@ -1,4 +1,4 @@
-use Rattle.std.proofs.Common.{◌≡◌, ℕ, List, [], Ok, Err, get_or, ap, refl, sym, subst, ◌∙◌, arith, rules}
+use Rattle.std.proofs.Common.{[], Ok, Err, ap, refl, sym, subst, ◌∙◌, arith}
 use Rattle.scenario.proofs.LineLemmas.{Counted, counted_start}
 use Rattle.line_sessions.proofs.AnswerLemmas.{serves_by, none_feed, input_feed, some_so}
 use Rattle.line_sessions.proofs.TalkLemmas.{start, cannot_read, ends_now, ends_last, fails, goes_on, too_many, room, told_kept, lost_feed}
@@ -24,16 +24,16 @@ pub returns-in_err-answer_line : goal.returns-in_err-answer_line
 returns-in_err-answer_line g c =
     let found = some_so _ _ _ c.in-Some.is c.in_ok-end.ensures.line in
     let told = told_kept (Err c.in_err-answer_line.field-0.0) _ _ found.0 c.loop.session.host c.answer_line.new.session.host c.loop.session.made c.answer_line.new.session.made
-        (g.W.Write.contents c.loop.writer) (g.W.Write.contents c.answer_line.new.writer) c.as_slice.ensures.value found.2 c.in_err-answer_line.ensures in
+    (g.W.Write.contents c.loop.writer) (g.W.Write.contents c.answer_line.new.writer) c.as_slice.ensures.value found.2 c.in_err-answer_line.ensures in
     serves_by _ _ _ _ _ _ _ c.from_residual-in_err-answer_line.ensures.1
     (fails _ _ _ _ _ _ _ _ c.loop.invariant _ found.0 c.in-Some.end found.1 c.answer_line.new.session.host c.answer_line.new.session.made (g.W.Write.contents c.answer_line.new.writer)
-        c.in_err-answer_line.field-0.0 found.3 told)
+    c.in_err-answer_line.field-0.0 found.3 told)
 
 pub returns-in-Input : goal.returns-in-Input
 returns-in-Input g c =
     let found = some_so _ _ _ c.in-Some.is c.in_ok-end.ensures.line in
     let told = told_kept (Ok tt) _ _ found.0 c.loop.session.host c.answer_line.new.session.host c.loop.session.made c.answer_line.new.session.made
-        (g.W.Write.contents c.loop.writer) (g.W.Write.contents c.answer_line.new.writer) c.as_slice.ensures.value found.2 c.in_ok-answer_line.ensures in
+    (g.W.Write.contents c.loop.writer) (g.W.Write.contents c.answer_line.new.writer) c.as_slice.ensures.value found.2 c.in_ok-answer_line.ensures in
     ends_last _ _ _ _ _ _ _ _ c.loop.invariant _ found.0 c.in-Some.end found.1 c.answer_line.new.session.host c.answer_line.new.session.made (g.W.Write.contents c.answer_line.new.writer)
     found.3 told (c.in_ok-end.ensures.end (input_feed _ _ c.in-Some.is c.in-Input.is))
 
@@ -41,7 +41,7 @@ pub loop-preserved : goal.loop-preserved
 loop-preserved g c =
     let found = some_so _ _ _ c.in-Some.is c.in_ok-end.ensures.line in
     let told = told_kept (Ok tt) _ _ found.0 c.loop.session.host c.answer_line.new.session.host c.loop.session.made c.answer_line.new.session.made
-        (g.W.Write.contents c.loop.writer) (g.W.Write.contents c.answer_line.new.writer) c.as_slice.ensures.value found.2 c.in_ok-answer_line.ensures in
+    (g.W.Write.contents c.loop.writer) (g.W.Write.contents c.answer_line.new.writer) c.as_slice.ensures.value found.2 c.in_ok-answer_line.ensures in
     goes_on _ _ _ _ _ _ _ _ c.loop.invariant _ found.0 (lost_feed _ _ found.0 c.in-Some.end c.in_default-end.not-Input found.1) c.answer_line.new.session.host c.answer_line.new.session.made
     (g.W.Write.contents c.answer_line.new.writer) told
 

@@ -1,4 +1,3 @@
-use Rattle.std.proofs.Common.{◌≡◌}
 use Rattle.line_sessions.specs.declared.fault.ServeFault.TheVariants.{Memory}
 use Rattle.line_sessions.proofs.AnswerLemmas.{serves_by, serves_from}
 use Rattle.line_sessions.proofs.TalkLemmas.{begins_not}

@@ -1,4 +1,4 @@
-use Rattle.std.proofs.Common.{◌≡◌, ◌-◌, ◌++◌, ap, subst, ◌∙◌, slice_set, string_bytes}
+use Rattle.std.proofs.Common.{◌-◌, ◌++◌, ap, subst, ◌∙◌, slice_set, string_bytes}
 use Rattle.scenario.specs.Lines.{line}
 use Rattle.visibility.specs.Runs.{told, Did}
 use Rattle.visibility.proofs.Steps.{did}
