@@ -7,7 +7,7 @@
 ghost use Rattle.stop_handlers.specs.Handlers.{MakesObeying};
 
 use clap::error::ErrorKind;
-use clap::{Arg, ArgAction, Command};
+use clap::{Arg, ArgAction, ArgMatches, Command};
 use line_sessions::{ServeFault, serve};
 use pid_blocks::Uid;
 use scenario::{
@@ -99,8 +99,8 @@ struct Asked<'a> {
     mode: Mode,
 }
 
-/// The options that the program has.
-fn command_of(alloc: Global) -> Result<Command<'static>, AllocError> {
+/// The command line, by the options that the program has.
+fn matches_of(alloc: Global, words: &[String]) -> Result<ArgMatches<'_>, Trouble> {
     let file = Arg::new(alloc, "FILE");
     let user = Arg::new(alloc, "UID")
         .long("user")
@@ -112,23 +112,25 @@ fn command_of(alloc: Global) -> Result<Command<'static>, AllocError> {
     let lines = Arg::new(alloc, "lines")
         .long("lines")
         .action(ArgAction::SetTrue)
-        .conflicts_with_all(&["UID", "threads"])?;
+        .conflicts_with("UID")?
+        .conflicts_with("threads")?;
     let kill = Arg::new(alloc, "0|1")
         .long("kill-on-debugger-exit")
         .action(ArgAction::Set)
         .value_parser(clap::value_parser!(u32).range(0..=1))
         .requires_arg("lines")?;
-    Command::new(alloc, "tracehost")
+    let command = Command::new(alloc, "tracehost")
         .arg(file)?
         .arg(user)?
         .arg(threads)?
         .arg(lines)?
-        .arg(kill)
+        .arg(kill)?;
+    Ok(command.try_get_matches_from(words)?)
 }
 
 /// What the command line asks for.
 fn asked_of(alloc: Global, words: &[String]) -> Result<Asked<'_>, Trouble> {
-    let matches = command_of(alloc)?.try_get_matches_from(words)?;
+    let matches = matches_of(alloc, words)?;
     let mode = if matches.get_flag("lines") {
         Mode::Lines(match matches.get_one::<u32>("0|1") {
             Some(0) => Settings::detach_on_exit(),
@@ -221,12 +223,10 @@ fn go<
     requires obeys { MakesObeying F.can_ask F.gives (M.post make) }
 {
     let words: Vec<String> = env::args(rt)?.collect(rt.alloc())?;
-    let asked = asked_of(rt.alloc(), words.as_slice())?;
-    match asked.mode {
-        Mode::Scenario { options, threads } => {
-            run_scenario(rt, make, asked.file, options, threads)
-        }
-        Mode::Lines(settings) => serve_lines(rt, settings, asked.file),
+    let Asked { file, mode } = asked_of(rt.alloc(), words.as_slice())?;
+    match mode {
+        Mode::Scenario { options, threads } => run_scenario(rt, make, file, options, threads),
+        Mode::Lines(settings) => serve_lines(rt, settings, file),
     }
 }
 
