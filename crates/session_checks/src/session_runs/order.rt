@@ -151,7 +151,9 @@ fn a_gate_is_told_before_and_after_each_call(rt: HostRuntime) -> Result<(), Fail
         first: Calls::new(),
         other: Calls::new(),
     };
-    let scripts = install_each(alloc, users, &order).ok_or("scripts")?;
+    let Some(scripts) = install_each(alloc, users, &order) else {
+        panic!(rt; "no scripts");
+    };
     let host = Host::new(alloc, Settings::standard()).ok().ok_or("host")?;
     let ran = run_sessions(&rt, alloc, host, scripts, &order);
     assert!(rt; ran.is_ok());
