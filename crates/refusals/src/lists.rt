@@ -1,27 +1,38 @@
 //! Lists of steps.
 
-use crate::steps::{Users, answer, new_host};
-use crate::trouble::{TRIES, Trouble, retried};
+use crate::steps::{Seen, Users, answer, new_host};
+use crate::trouble::{TRIES, Trouble};
 use pid_blocks::Uid;
-use requests::{Host, Reply, Step};
+use requests::{Host, PlainStep, Reply, Step};
 use scenario::{RunFault, Scenario, bind, handlers_of, policies};
 use std::alloc::Global;
 use stop_handlers::{ByPolicy, Handler, Policy};
 use visibility::run_list;
 
-/// A handler for each policy of the scenario.
-pub fn handlers(alloc: Global, scenario: &Scenario) -> Result<Vec<Handler<ByPolicy>>, Trouble> {
-    let policies = retried!(policies(alloc, scenario));
+/// The policies of the scenario.
+fn policies_of(alloc: Global, scenario: &Scenario) -> Result<Vec<Policy>, Trouble> {
     for _ in 0..TRIES {
-        if let Ok(handlers) = handlers_of(
-            alloc,
-            policies.as_slice(),
-            |policy: Policy| ByPolicy(policy),
-        ) {
+        if let Ok(policies) = policies(alloc, scenario) {
+            return Ok(policies);
+        }
+    }
+    Err(Trouble::Memory)
+}
+
+/// A handler for each of the policies.
+fn handlers_by(alloc: Global, policies: &[Policy]) -> Result<Vec<Handler<ByPolicy>>, Trouble> {
+    for _ in 0..TRIES {
+        if let Ok(handlers) = handlers_of(alloc, policies, |policy: Policy| ByPolicy(policy)) {
             return Ok(handlers);
         }
     }
     Err(Trouble::Memory)
+}
+
+/// A handler for each policy of the scenario.
+pub fn handlers(alloc: Global, scenario: &Scenario) -> Result<Vec<Handler<ByPolicy>>, Trouble> {
+    let policies = policies_of(alloc, scenario)?;
+    handlers_by(alloc, policies.as_slice())
 }
 
 /// The steps of the scenario, with their handlers.
@@ -40,6 +51,52 @@ pub fn bound(
     Err(Trouble::Memory)
 }
 
+/// The step has this reply, unless it was refused.
+fn check_reply(
+    alloc: Global,
+    host: &mut Host<ByPolicy>,
+    user: Uid,
+    step: &PlainStep,
+    reply: &Reply,
+) -> Result<(), Trouble> {
+    if reply.is_memory() {
+        return Ok(());
+    }
+    let other = answer(alloc, host, user, step)?;
+    if other == *reply {
+        Ok(())
+    } else {
+        Err(Trouble::Wrong("a list has other replies"))
+    }
+}
+
+/// The answered steps, made one after another, have the same replies.
+fn check_replies(
+    alloc: Global,
+    host: &mut Host<ByPolicy>,
+    scenario: &Scenario,
+    replies: &[Reply],
+) -> Result<(), Trouble> {
+    if replies.len() != scenario.steps().len() {
+        return Err(Trouble::Wrong("a list has not a reply for each step"));
+    }
+    for (step, reply) in scenario.steps().iter().zip(replies.iter()) {
+        check_reply(alloc, host, step.0, &step.1, reply)?;
+    }
+    Ok(())
+}
+
+/// Users see the same of both hosts.
+fn check_hosts(
+    alloc: Global,
+    users: &Users,
+    host: &Host<ByPolicy>,
+    other: &Host<ByPolicy>,
+) -> Result<(), Trouble> {
+    let seen = users.see(alloc, host)?;
+    seen.is_still(alloc, users, other, "a list leaves another host")
+}
+
 /// The answered steps, made one after another on a new host, have the same replies, and users see the same in the end.
 fn check_answered(
     alloc: Global,
@@ -48,30 +105,41 @@ fn check_answered(
     host: &Host<ByPolicy>,
     replies: &[Reply],
 ) -> Result<(), Trouble> {
-    if replies.len() != scenario.steps().len() {
-        return Err(Trouble::Wrong("a list has not a reply for each step"));
-    }
     let mut other = new_host(alloc, scenario.settings())?;
-    for (step, reply) in scenario.steps().iter().zip(replies.iter()) {
-        if !reply.is_memory() && answer(alloc, &mut other, step.0, &step.1)? != *reply {
-            return Err(Trouble::Wrong("a list has other replies"));
-        }
-    }
-    users
-        .see(alloc, host)?
-        .is_still(alloc, users, &other, "a list leaves another host")
+    check_replies(alloc, &mut other, scenario, replies)?;
+    check_hosts(alloc, users, host, &other)
+}
+
+/// The replies to the scenario's steps as a list, or none where it is refused.
+fn ran(
+    alloc: Global,
+    scenario: &Scenario,
+    host: &mut Host<ByPolicy>,
+) -> Result<Option<Vec<Reply>>, Trouble> {
+    let steps = bound(alloc, scenario)?;
+    Ok(run_list(alloc, host, steps).ok())
 }
 
 /// A refused list leaves the host; else the answered steps are answered as one by one.
+fn check_list(
+    alloc: Global,
+    users: &Users,
+    scenario: &Scenario,
+    before: &Seen,
+    host: &mut Host<ByPolicy>,
+) -> Result<(), Trouble> {
+    for _ in 0..TRIES {
+        if let Some(replies) = ran(alloc, scenario, host)? {
+            return check_answered(alloc, users, scenario, host, replies.as_slice());
+        }
+        before.is_still(alloc, users, host, "a refused list changed the host")?;
+    }
+    Err(Trouble::Memory)
+}
+
+/// The same on a new host.
 pub fn check(alloc: Global, users: &Users, scenario: &Scenario) -> Result<(), Trouble> {
     let mut host = new_host(alloc, scenario.settings())?;
     let before = users.see(alloc, &host)?;
-    for _ in 0..TRIES {
-        let steps = bound(alloc, scenario)?;
-        if let Ok(replies) = run_list(alloc, &mut host, steps) {
-            return check_answered(alloc, users, scenario, &host, replies.as_slice());
-        }
-        before.is_still(alloc, users, &host, "a refused list changed the host")?;
-    }
-    Err(Trouble::Memory)
+    check_list(alloc, users, scenario, &before, &mut host)
 }

@@ -1,26 +1,23 @@
-//! Makes every kind of step, lists of them, calls of a shared host, sessions in threads and runs of whole scenarios. Whatever is refused
+//! Makes every kind of step, lists of them, and runs of whole scenarios, with threads and without. Whatever is refused
 //! for want of memory is made again, and first all has to be as before. So a run in which allocations are refused prints what a run with
 //! ample memory does, or ends with status 3 where it is refused again and again; tests/failures.sh makes such runs.
 #![tactic(auto)]
 
-mod laws;
 mod lists;
 mod scenarios;
-mod shared;
 mod steps;
 mod texts;
-mod threads;
 mod trouble;
 
 use pid_blocks::Uid;
-use scenario::{Fault, Scenario, parse, render};
+use scenario::{Fault, Scenario, parse};
 use scenarios::{EVERY_STEP, LEAVING};
 use std::alloc::Global;
 use std::process::ExitCode;
 use std::sync::Wait;
 use std::thread::Threads;
-use steps::Users;
-use trouble::{TRIES, Trouble, retried};
+use steps::{Made, Users};
+use trouble::{TRIES, Trouble};
 
 /// The scenario that the text stands for.
 fn parsed(alloc: Global, text: &str) -> Result<Scenario, Trouble> {
@@ -34,31 +31,56 @@ fn parsed(alloc: Global, text: &str) -> Result<Scenario, Trouble> {
     Err(Trouble::Memory)
 }
 
-/// Makes the steps of the text in every way, and prints the replies to them.
+/// Prints the replies.
+fn print_replies<R: Print>(rt: &R, alloc: Global, made: &Made) -> Result<(), Trouble> {
+    let lines = texts::lines(alloc, made, &None)?;
+    print!(rt; "{lines}")?;
+    Ok(())
+}
+
+/// Prints that what was made in this way was the same.
+fn say<R: Print>(rt: &R, way: &str) -> Result<(), Trouble> {
+    println!(rt; "{way}: the same")?;
+    Ok(())
+}
+
+/// Makes the steps again in every way, and prints the replies to them.
+fn check_made<R: Print + Threads + Wait + Sync>(
+    rt: &R,
+    alloc: Global,
+    users: &Users,
+    scenario: &Scenario,
+    made: &Made,
+) -> Result<(), Trouble> {
+    print_replies(rt, alloc, made)?;
+    lists::check(alloc, users, scenario)?;
+    say(rt, "a list of steps")?;
+    texts::check(rt, alloc, users, scenario, made)?;
+    say(rt, "runs of the scenario")
+}
+
+/// Makes the steps of the scenario one after another, and then in every way.
+fn check_scenario<R: Print + Threads + Wait + Sync>(
+    rt: &R,
+    alloc: Global,
+    scenario: &Scenario,
+) -> Result<(), Trouble> {
+    let users = Users {
+        first: Uid::new(1001)?,
+        second: Uid::new(1002)?,
+    };
+    let made = steps::make_all(alloc, &users, scenario)?;
+    check_made(rt, alloc, &users, scenario, &made)
+}
+
+/// The same for a text.
 fn check<R: Print + AllocGlobal + Threads + Wait + Sync>(
     rt: &R,
     text: &str,
 ) -> Result<(), Trouble> {
     let alloc = rt.alloc();
-    let users = &Users {
-        first: Uid::new(1001)?,
-        second: Uid::new(1002)?,
-    };
     let scenario = parsed(alloc, text)?;
-    let made = steps::make_all(alloc, users, &scenario)?;
-    let lines = retried!(render(alloc, made.replies.as_slice(), None));
-    print!(rt; "{lines}")?;
-    lists::check(alloc, users, &scenario)?;
-    println!(rt; "a list of steps: the same")?;
-    laws::check(alloc, users, &scenario)?;
-    println!(rt; "two hosts: the same")?;
-    shared::check(rt, alloc, users, &scenario, &made)?;
-    println!(rt; "a shared host: the same")?;
-    threads::check(rt, alloc, users, &scenario)?;
-    println!(rt; "sessions in threads: the same")?;
-    texts::check(rt, alloc, users, &scenario, &made)?;
-    println!(rt; "runs of the scenario: the same")?;
-    Ok(())
+    check_scenario(rt, alloc, &scenario)
 }
 
 fn main(rt: HostRuntime) -> ExitCode {

@@ -3,7 +3,7 @@
 ghost use Rattle.std.specs.Prelude.{◌≡◌, IfOk};
 ghost use Rattle.requests.specs.Machine.{empty};
 
-use crate::trouble::{TRIES, Trouble, retried};
+use crate::trouble::{TRIES, Trouble};
 use pid_blocks::Uid;
 use requests::{Act, Host, PlainStep, Reply, Request};
 use scenario::Scenario;
@@ -44,11 +44,21 @@ impl Seen {
     }
 }
 
+/// What the user sees of the host.
+fn view_of(alloc: Global, host: &Host<ByPolicy>, user: Uid) -> Result<View, Trouble> {
+    for _ in 0..TRIES {
+        if let Ok(view) = user_view(alloc, host, user) {
+            return Ok(view);
+        }
+    }
+    Err(Trouble::Memory)
+}
+
 impl Users {
     /// What they see of the host.
     pub fn see(&self, alloc: Global, host: &Host<ByPolicy>) -> Result<Seen, Trouble> {
-        let first = retried!(user_view(alloc, host, self.first));
-        let second = retried!(user_view(alloc, host, self.second));
+        let first = view_of(alloc, host, self.first)?;
+        let second = view_of(alloc, host, self.second)?;
         Ok(Seen { first, second })
     }
 }
@@ -65,6 +75,12 @@ pub fn new_host(alloc: Global, settings: Settings) -> Result<Host<ByPolicy>, Tro
     Err(Trouble::Memory)
 }
 
+/// The reply to a step, or none where it is refused.
+fn replied(alloc: Global, host: &mut Host<ByPolicy>, user: Uid, step: &PlainStep) -> Option<Reply> {
+    let reply = host.step(alloc, user, step.by_policy());
+    if reply.is_memory() { None } else { Some(reply) }
+}
+
 /// The reply to a step, which is made again while it is refused.
 pub fn answer(
     alloc: Global,
@@ -73,8 +89,7 @@ pub fn answer(
     step: &PlainStep,
 ) -> Result<Reply, Trouble> {
     for _ in 0..TRIES {
-        let reply = host.step(alloc, user, step.by_policy());
-        if !reply.is_memory() {
+        if let Some(reply) = replied(alloc, host, user, step) {
             return Ok(reply);
         }
     }
@@ -100,17 +115,16 @@ fn takes_memory(step: &PlainStep) -> bool {
 }
 
 /// The same, and each time all is as before.
-fn answer_kept(
+fn answer_from(
     alloc: Global,
     users: &Users,
+    before: &Seen,
     host: &mut Host<ByPolicy>,
     user: Uid,
     step: &PlainStep,
 ) -> Result<Reply, Trouble> {
-    let before = users.see(alloc, host)?;
     for _ in 0..TRIES {
-        let reply = host.step(alloc, user, step.by_policy());
-        if !reply.is_memory() {
+        if let Some(reply) = replied(alloc, host, user, step) {
             return Ok(reply);
         }
         if !takes_memory(step) {
@@ -121,6 +135,18 @@ fn answer_kept(
     Err(Trouble::Memory)
 }
 
+/// The same from what is seen now.
+fn answer_kept(
+    alloc: Global,
+    users: &Users,
+    host: &mut Host<ByPolicy>,
+    user: Uid,
+    step: &PlainStep,
+) -> Result<Reply, Trouble> {
+    let before = users.see(alloc, host)?;
+    answer_from(alloc, users, &before, host, user, step)
+}
+
 /// A host after steps, and the replies to them.
 #[derive(Drop)]
 pub struct Made {
@@ -128,13 +154,40 @@ pub struct Made {
     pub replies: Vec<(Uid, Reply)>,
 }
 
+/// Room for so many replies.
+fn room(alloc: Global, length: usize) -> Result<Vec<(Uid, Reply)>, Trouble> {
+    for _ in 0..TRIES {
+        if let Ok(room) = Vec::with_capacity(alloc, length) {
+            return Ok(room);
+        }
+    }
+    Err(Trouble::Memory)
+}
+
+/// A new host, and room for the replies to the scenario's steps.
+fn new_made(alloc: Global, scenario: &Scenario) -> Result<Made, Trouble> {
+    let replies = room(alloc, scenario.steps().len())?;
+    let host = new_host(alloc, scenario.settings())?;
+    Ok(Made { host, replies })
+}
+
+/// Makes the steps of the scenario.
+fn make_each(
+    alloc: Global,
+    users: &Users,
+    scenario: &Scenario,
+    made: &mut Made,
+) -> Result<(), Trouble> {
+    for step in scenario.steps() {
+        let reply = answer_kept(alloc, users, &mut made.host, step.0, &step.1)?;
+        made.replies.push((step.0, reply))?;
+    }
+    Ok(())
+}
+
 /// Makes the steps of the scenario on a new host.
 pub fn make_all(alloc: Global, users: &Users, scenario: &Scenario) -> Result<Made, Trouble> {
-    let mut host = new_host(alloc, scenario.settings())?;
-    let mut replies = retried!(Vec::with_capacity(alloc, scenario.steps().len()));
-    for step in scenario.steps() {
-        let reply = answer_kept(alloc, users, &mut host, step.0, &step.1)?;
-        replies.push((step.0, reply))?;
-    }
-    Ok(Made { host, replies })
+    let mut made = new_made(alloc, scenario)?;
+    make_each(alloc, users, scenario, &mut made)?;
+    Ok(made)
 }

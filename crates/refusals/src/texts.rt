@@ -2,12 +2,13 @@
 
 use crate::lists::handlers;
 use crate::steps::{Made, Users};
-use crate::trouble::{TRIES, Trouble, retried};
+use crate::trouble::{TRIES, Trouble};
 use pid_blocks::Uid;
 use scenario::{RunFault, RunOptions, Scenario, render, run, run_threads};
 use std::alloc::Global;
 use std::sync::Wait;
 use std::thread::Threads;
+use stop_handlers::{ByPolicy, Handler};
 
 /// More bytes than a text has.
 const ROOM: usize = 16384;
@@ -23,6 +24,49 @@ fn is_done(ended: Result<(), RunFault>, written: &[u8], text: &[u8]) -> Result<b
     }
 }
 
+/// Runs the scenario with threads or without.
+fn run_into<R: Threads + Wait + Sync>(
+    rt: &R,
+    alloc: Global,
+    scenario: &Scenario,
+    handlers: Vec<Handler<ByPolicy>>,
+    user: &Option<Uid>,
+    threads: bool,
+    writer: &mut Vec<u8>,
+) -> Result<(), RunFault> {
+    let options = RunOptions { user: *user };
+    if threads {
+        run_threads(rt, alloc, scenario, handlers, options, writer)
+    } else {
+        run(alloc, scenario, handlers, options, writer)
+    }
+}
+
+/// Room for a text.
+fn room(alloc: Global) -> Result<Vec<u8>, Trouble> {
+    for _ in 0..TRIES {
+        if let Ok(room) = Vec::with_capacity(alloc, ROOM) {
+            return Ok(room);
+        }
+    }
+    Err(Trouble::Memory)
+}
+
+/// Whether a run with threads or without went to its end; then it wrote the text.
+fn is_run<R: Threads + Wait + Sync>(
+    rt: &R,
+    alloc: Global,
+    scenario: &Scenario,
+    text: &[u8],
+    user: &Option<Uid>,
+    threads: bool,
+) -> Result<bool, Trouble> {
+    let mut writer = room(alloc)?;
+    let handlers = handlers(alloc, scenario)?;
+    let ended = run_into(rt, alloc, scenario, handlers, user, threads, &mut writer);
+    is_done(ended, writer.as_slice(), text)
+}
+
 /// A run with threads or without writes the text.
 fn check_text<R: Threads + Wait + Sync>(
     rt: &R,
@@ -33,28 +77,18 @@ fn check_text<R: Threads + Wait + Sync>(
     threads: bool,
 ) -> Result<(), Trouble> {
     for _ in 0..TRIES {
-        let handlers = handlers(alloc, scenario)?;
-        let mut writer = retried!(Vec::with_capacity(alloc, ROOM));
-        let ended = if threads {
-            run_threads(
-                rt,
-                alloc,
-                scenario,
-                handlers,
-                RunOptions { user: *user },
-                &mut writer,
-            )
-        } else {
-            run(
-                alloc,
-                scenario,
-                handlers,
-                RunOptions { user: *user },
-                &mut writer,
-            )
-        };
-        if is_done(ended, writer.as_slice(), text)? {
+        if is_run(rt, alloc, scenario, text, user, threads)? {
             return Ok(());
+        }
+    }
+    Err(Trouble::Memory)
+}
+
+/// The lines of the replies to the user, or of all.
+pub fn lines(alloc: Global, made: &Made, user: &Option<Uid>) -> Result<String, Trouble> {
+    for _ in 0..TRIES {
+        if let Ok(lines) = render(alloc, made.replies.as_slice(), *user) {
+            return Ok(lines);
         }
     }
     Err(Trouble::Memory)
@@ -69,7 +103,7 @@ fn check_user<R: Threads + Wait + Sync>(
     user: &Option<Uid>,
     threads: bool,
 ) -> Result<(), Trouble> {
-    let text = retried!(render(alloc, made.replies.as_slice(), *user));
+    let text = lines(alloc, made, user)?;
     check_text(rt, alloc, scenario, text.as_bytes(), user, threads)
 }
 

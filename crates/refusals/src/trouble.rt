@@ -66,19 +66,3 @@ impl From<RunFault> for Trouble {
         }
     }
 }
-
-/// Makes a call, whose only error is want of memory, again while it is refused.
-macro_rules! retried {
-    ($call:expr) => {{
-        let mut made = None;
-        for _ in 0..TRIES {
-            if let Ok(answer) = $call {
-                made = Some(answer);
-                break;
-            }
-        }
-        made.ok_or(Trouble::Memory)?
-    }};
-}
-
-pub(crate) use retried;
