@@ -11,6 +11,7 @@ pub mod Listing
 pub mod Counts
 pub mod Slots
 pub mod NextOf
+pub mod Indexed
 pub mod Seen
 pub mod Next
 pub mod Linked

@@ -4,13 +4,13 @@ ghost use Rattle.std.specs.Prelude.{◌≡◌, ℕ, ◌+◌, ◌<◌, ◌≤◌,
 ghost use Rattle.std.specs.List.{list_any};
 ghost use Rattle.proc_table.specs.Processes.{process_of, placed};
 ghost use Rattle.proc_table.specs.Lanes.{chief, parent_named, unlinked, next_named};
-ghost use Rattle.proc_table.specs.Walks.{next_of, next_tracee, next_child};
+ghost use Rattle.proc_table.specs.Walks.{next_tracee, next_child};
 ghost use Rattle.proc_table.specs.Kept.{AtHome, put_process};
 
 use crate::ProcData;
 use crate::links::{Kin, Links, Slot, next_slot, relink_both};
 use indexmap::IndexMap;
-use pid_blocks::{Pid, Uid, pid_block};
+use pid_blocks::{Pid, Uid};
 use slab::Slab;
 use std::alloc::{AllocError, Global};
 use std::marker::Model;
@@ -149,21 +149,6 @@ impl Processes {
     {
         let _number = pid.get();
         self.next_named(Kin::Children, pid, after)
-    }
-
-    /// The user's first row above a number, among those of the user's own block.
-    pub fn next_of(&self, uid: Uid, after: u32) -> Option<ProcData>
-        ensures { result ≡ next_of uid after self.now.rows }
-    {
-        let _ = &self.slots;
-        let block = pid_block(uid);
-        for number in after.saturating_add(1).max(block.first)..block.first + block.size {
-            let row = self.get(number);
-            if row.is_some() {
-                return row;
-            }
-        }
-        None
     }
 
     /// How many rows the user has.

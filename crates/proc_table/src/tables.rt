@@ -13,23 +13,30 @@ ghost use Rattle.proc_table.specs.Kept.{IsKept, IsRow, AtHome, Named, put_proces
 use crate::ProcData;
 use crate::processes::Processes;
 use lwp_table::{LwpData, LwpTable};
+use number_sets::NumberSet;
 use pid_blocks::{
     FIRST_PID, FIRST_TID, PIDS, Pid, TIDS, Tid, Uid, cursor_after, next_free, pid_block, tid_block,
 };
 use std::alloc::{AllocError, Global};
 use std::marker::Model;
 
+/// How many words have a bit for each process number of all users.
+const PID_WORDS: usize = 1000;
+
 /// The rows of processes and LWPs, and the users' cursors.
 #[derive(Drop)]
 pub struct Tables {
     processes: Processes,
+    /// The numbers that processes have, counted from the first one of all users.
+    pids: NumberSet,
     lwps: LwpTable,
     pid_cursors: [u32; 64],
     tid_cursors: [u32; 64],
 }
 
 impl Model for Tables {
-    ghost use Rattle.proc_table.specs.Kept.{Table, IsKept};
+    ghost use Rattle.proc_table.specs.Kept.{Table};
+    ghost use Rattle.proc_table.specs.Indexed.{IsIndexed};
 
     ghost Value = { Table };
 
@@ -39,7 +46,7 @@ impl Model for Tables {
       spare_lwps = t.lwps.spare;
     } };
 
-    ghost invariant = { λ t. IsKept (record { processes = t.processes.rows; lwps = t.lwps.rows; pid_cursors = t.pid_cursors; tid_cursors = t.tid_cursors }) };
+    ghost invariant = { λ t. IsIndexed t.pids (record { processes = t.processes.rows; lwps = t.lwps.rows; pid_cursors = t.pid_cursors; tid_cursors = t.tid_cursors }) };
 }
 
 /// Numbers that rise from the first one by steps, one for each user.
@@ -61,6 +68,7 @@ impl Tables {
     {
         Ok(Tables {
             processes: Processes::new(alloc),
+            pids: NumberSet::new(alloc, PID_WORDS)?,
             lwps: LwpTable::new(alloc)?,
             pid_cursors: cursors(FIRST_PID, PIDS),
             tid_cursors: cursors(FIRST_TID, TIDS),
@@ -209,7 +217,12 @@ impl Tables {
         ensures row { result ≡ next_of uid after self.now.rows.processes }
         ensures kept { IsKept self.now.rows }
     {
-        self.processes.next_of(uid, after)
+        let block = pid_block(uid);
+        let first = after.saturating_add(1).max(block.first) - FIRST_PID;
+        let place = self
+            .pids
+            .next(true, first, block.first + block.size - FIRST_PID)?;
+        self.processes.get(FIRST_PID + place)
     }
 
     /// The first process above a number that this one traces.
@@ -328,6 +341,7 @@ impl Tables {
     {
         let slot = row.uid.slot();
         self.pid_cursors[slot] = cursor_after(pid_block(row.uid), row.pid.get());
+        self.pids.insert(row.pid.get() - FIRST_PID);
         self.processes.add(row);
     }
 
@@ -377,6 +391,7 @@ impl Tables {
         ensures spare { self.old.spare_processes ≤ self.new.spare_processes }
         ensures others { self.new.spare_lwps ≡ self.old.spare_lwps }
     {
+        self.pids.remove(pid.get() - FIRST_PID);
         self.processes.remove(pid);
     }
 

@@ -9,12 +9,12 @@ pub returns-then-eq-clause-row : goal.returns-then-eq-clause-row
 returns-then-eq-clause-row c =
     let ps = c.self.inside.processes.rows in
     let same = sym (ap (λ o. option_eq nat_eq o (Some c.args.uid)) c.owner.ensures) ∙ (sym c.eq.ensures ∙ c.if-eq.true) in
-    c.numbered.ensures.row ∙ sym (ap (λ v. process_of c.args.number v.rows.processes) c.self.view_is) ∙ (sym (eq-own c.args.uid (process_of c.args.number ps) same) ∙ sym (seen_process-kept c.args.uid c.args.number ps c.self.invariant.rising))
+    c.numbered.ensures.row ∙ sym (ap (λ v. process_of c.args.number v.rows.processes) c.self.view_is) ∙ (sym (eq-own c.args.uid (process_of c.args.number ps) same) ∙ sym (seen_process-kept c.args.uid c.args.number ps c.self.invariant.kept.rising))
     ∙ ap (λ v. seen_process c.args.uid c.args.number v.rows) c.self.view_is
 
 pub returns-else-eq-clause-row : goal.returns-else-eq-clause-row
 returns-else-eq-clause-row c =
     let ps = c.self.inside.processes.rows in
     let same = sym (ap (λ o. option_eq nat_eq o (Some c.args.uid)) c.owner.ensures) ∙ (sym c.eq.ensures ∙ c.if-eq.false) in
-    sym (eq-other c.args.uid (process_of c.args.number ps) same) ∙ sym (seen_process-kept c.args.uid c.args.number ps c.self.invariant.rising)
+    sym (eq-other c.args.uid (process_of c.args.number ps) same) ∙ sym (seen_process-kept c.args.uid c.args.number ps c.self.invariant.kept.rising)
     ∙ ap (λ v. seen_process c.args.uid c.args.number v.rows) c.self.view_is

@@ -1,0 +1,13 @@
+-- Sets of numbers as words of 64 bits: number n is in the set where bit n % 64 of word n / 64 is 1.
+use Rattle.std.specs.Prelude.{ℕ, ◌*◌, ◌/◌, ◌%◌, ◌==◌, Bool, List, length, get_or}
+use Rattle.std.specs.Int.{bit_at}
+
+abbrev pub has_bit : ℕ → ℕ → Bool
+has_bit word place = bit_at word place == 1
+
+abbrev pub member : List ℕ → ℕ → Bool
+member words n = has_bit (get_or words (n / 64) 0) (n % 64)
+
+-- the numbers below it have bits
+abbrev pub room : List ℕ → ℕ
+room words = 64 * length words

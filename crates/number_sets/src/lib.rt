@@ -1,0 +1,111 @@
+//! Sets of numbers below a bound, a bit for each, in which the next number is found by whole words.
+#![tactic(auto)]
+
+ghost use Rattle.std.specs.Prelude.{◌≡◌, ◌≢◌, ℕ, ◌<◌, ◌≤◌, ◌*◌, true, false, not, get_or, ◌/◌, IfSome, IfNone, IfOk, if◌then◌else◌};
+ghost use Rattle.number_sets.specs.Members.{has_bit, member, room};
+
+use std::alloc::{AllocError, Global};
+use std::marker::Model;
+
+/// How many numbers a word has.
+const WIDTH: u32 = 64;
+
+/// A set of numbers below the bound that it was made for.
+#[derive(Drop)]
+pub struct NumberSet {
+    words: Vec<u64>,
+}
+
+impl Model for NumberSet {
+    ghost use Rattle.std.specs.Prelude.{ℕ, List};
+
+    ghost Value = { List ℕ };
+
+    ghost view = { λ s. s.words.items };
+}
+
+/// The word, or its complement where `wanted` is false: its bits are 1 at the places wanted.
+fn marks(word: u64, wanted: bool) -> u64
+    ensures { (i : ℕ) → i < 64 → has_bit result i ≡ (if wanted then has_bit word i else not (has_bit word i)) }
+{
+    if wanted { word } else { !word }
+}
+
+/// The first place from `from` on at which the word has a 1.
+fn first_one(word: u64, from: u32) -> Option<u32>
+    requires { from < 64 }
+    ensures some { IfSome result (λ r. (from ≤ r) × (r < 64) × (has_bit word r ≡ true)
+        × ((i : ℕ) → from ≤ i → i < r → has_bit word i ≡ false)) }
+    ensures none { IfNone result ((i : ℕ) → from ≤ i → i < 64 → has_bit word i ≡ false) }
+{
+    let rest = word >> from;
+    if rest == 0 {
+        None
+    } else {
+        Some(from + rest.trailing_zeros())
+    }
+}
+
+impl NumberSet {
+    /// The set of no number, which has room for those below 64 times `words`. An error is want of memory.
+    pub fn new(alloc: Global, words: usize) -> Result<NumberSet, AllocError>
+        ensures none { IfOk result (λ s. (n : ℕ) → member s n ≡ false) }
+        ensures room { IfOk result (λ s. room s ≡ 64 * words) }
+    {
+        let mut set = NumberSet {
+            words: Vec::new(alloc),
+        };
+        set.words.resize(words, 0)?;
+        Ok(set)
+    }
+
+    /// The word that has the number's bit.
+    fn word(&self, number: u32) -> u64
+        requires { number < room self.now }
+        ensures { result ≡ get_or self.now (number / 64) 0 }
+    {
+        self.words[(number / WIDTH) as usize]
+    }
+
+    /// Puts the number into the set.
+    pub fn insert(&mut self, number: u32)
+        requires { number < room self.old }
+        ensures there { member self.new number ≡ true }
+        ensures others { (n : ℕ) → n ≢ number → member self.new n ≡ member self.old n }
+        ensures room { room self.new ≡ room self.old }
+    {
+        let word = self.word(number) | 1 << (number % WIDTH);
+        self.words[(number / WIDTH) as usize] = word;
+    }
+
+    /// Takes the number out of the set.
+    pub fn remove(&mut self, number: u32)
+        requires { number < room self.old }
+        ensures gone { member self.new number ≡ false }
+        ensures others { (n : ℕ) → n ≢ number → member self.new n ≡ member self.old n }
+        ensures room { room self.new ≡ room self.old }
+    {
+        let word = self.word(number) & !(1 << (number % WIDTH));
+        self.words[(number / WIDTH) as usize] = word;
+    }
+
+    /// The first number from `from` to below `end` that is in the set, or isn't: as `wanted` says.
+    pub fn next(&self, wanted: bool, from: u32, end: u32) -> Option<u32>
+        requires { end ≤ room self.now }
+        ensures some { IfSome result (λ r. (from ≤ r) × (r < end) × (member self.now r ≡ wanted)
+            × ((n : ℕ) → from ≤ n → n < r → member self.now n ≡ not wanted)) }
+        ensures none { IfNone result ((n : ℕ) → from ≤ n → n < end → member self.now n ≡ not wanted) }
+    {
+        let mut at = from;
+        while at < end {
+            let base = at / WIDTH * WIDTH;
+            let word = marks(self.word(at), wanted);
+            if let Some(place) = first_one(word, at % WIDTH) {
+                let number = base + place;
+                return if number < end { Some(number) } else { None };
+            }
+            at = base.saturating_add(WIDTH);
+        }
+        None
+    }
+}
