@@ -84,3 +84,16 @@ pub fn printed(rt: &impl Print) -> io::Result<()> {
     let none = StopFlags::none();
     println!(rt; "tracing begins with {first}; a vfork shows {vfork}, a plain stop {none}")
 }
+
+/// Programmers are shown masks and flags by their names, and last what is no flag's.
+pub fn shown(rt: &impl Print) -> io::Result<()> {
+    for bits in [63, 6, 0, 65, 192] {
+        let mask = EventMask(bits);
+        println!(rt; "mask {bits} {mask:?}")?;
+    }
+    for bits in [511, 9, 0, 768, 1024] {
+        let flags = StopFlags(bits);
+        println!(rt; "flags {bits} {flags:?}")?;
+    }
+    Ok(())
+}

@@ -19,9 +19,11 @@ fn main(rt: HostRuntime) -> io::Result<()> {
     signal_sets::table(&rt)?;
     signal_sets::sets(&rt)?;
     signal_sets::dispositions(&rt)?;
+    signal_sets::shown(&rt)?;
     events::names(&rt)?;
     events::calls(&rt)?;
     events::printed(&rt)?;
+    events::shown(&rt)?;
     handlers::policies(&rt)?;
     handlers::limits(&rt)?;
     handlers::cases(&rt)?;

@@ -1,6 +1,6 @@
 //! Signals, sets of them, and what processes do with them.
 
-use signals::{Action, Disposition, Dispositions, SigSet, Signal, default_action};
+use signals::{Action, Disposition, Dispositions, Pass, SigSet, Signal, default_action};
 use std::io;
 
 /// The word for what a signal does by default.
@@ -91,4 +91,17 @@ pub fn dispositions(rt: &impl Print) -> io::Result<()> {
         }
     }
     told(rt, &dispositions)
+}
+
+/// Programmers are shown signals by their names.
+pub fn shown(rt: &impl Print) -> io::Result<()> {
+    for number in [0, 1, 11, 31, 32] {
+        let signal = Signal::new(number);
+        let pass = Pass::new(number);
+        println!(rt; "signal {number}: {signal:?} {pass:?}")?;
+    }
+    let one = SigSet::of(Signal::kill());
+    let three = one.with(signal(31)).with(signal(1));
+    let none = SigSet::empty();
+    println!(rt; "sets {one:?} {three:?} {none:?}")
 }

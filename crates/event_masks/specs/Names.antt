@@ -1,8 +1,9 @@
 -- The names of flags, with their bits, in the order of printing.
-use Rattle.std.specs.Prelude.{ℕ, ◌==◌, List, [], ◌∷◌, map, filter, codes}
+use Rattle.std.specs.Prelude.{ℕ, false, ◌==◌, ◌-◌, ◌^◌, List, [], ◌∷◌, ◌++◌, map, filter, codes, if◌then◌else◌}
 use Rattle.std.specs.Borrow.{Bor}
+use Rattle.std.specs.Fmt.{digits}
 use Rattle.std.specs.Int.RustNames.{bit_and}
-use Rattle.std.specs.List.{join_with_byte}
+use Rattle.std.specs.List.{join_by}
 
 abbrev pub event_table : List (List ℕ × ℕ)
 event_table =
@@ -31,14 +32,26 @@ stop_table =
 abbrev pub names_of : List (List ℕ × ℕ) → ℕ → List (List ℕ)
 names_of table bits = map (λ row. row.0) (filter (λ row. bit_and bits row.1 == row.1) table)
 
--- words with a byte between each two, and `none` for no word
-abbrev pub joined : ℕ → List (List ℕ) → List ℕ
-joined byte [] = codes "none"
-joined byte (w ∷ ws) = join_with_byte byte (w ∷ ws)
+-- words with a text between each two, and another text for no word
+abbrev pub joined : List ℕ → List ℕ → List (List ℕ) → List ℕ
+joined none between [] = none
+joined none between (w ∷ ws) = join_by (λ v. v) between (w ∷ ws)
 
--- the text of a set of flags: its names with `+`, which is 43, between them
+-- the text of a set of flags: its names with `+` between them
 abbrev pub flag_text : List (List ℕ × ℕ) → ℕ → List ℕ
-flag_text table bits = joined 43 (names_of table bits)
+flag_text table bits = joined (codes "none") (codes "+") (names_of table bits)
+
+-- bits as a word in hexadecimal; no word where none is set
+abbrev pub hex_words : ℕ → List (List ℕ)
+hex_words bits = if bits == 0 then [] else (codes "0x" ++ digits 16 false bits) ∷ []
+
+-- the bits of a set that are none of the known ones
+abbrev pub unknown : ℕ → ℕ → ℕ
+unknown known bits = bit_and bits (2 ^ 32 - 1 - known)
+
+-- a set as programmers are shown it, in the way of Rust's crate `bitflags`: the names, and last the bits that are no flag's
+abbrev pub shown_flags : List (List ℕ × ℕ) → ℕ → ℕ → List ℕ
+shown_flags table known bits = joined (codes "0x0") (codes " | ") (names_of table bits ++ hex_words (unknown known bits))
 
 -- PTRACE_SYSCALL stands for the two events of a system call
 abbrev pub syscall_name : List ℕ

@@ -1,7 +1,8 @@
 //! The text of masks and flags.
 
-ghost use Rattle.std.specs.Prelude.{◌≡◌, Some, map};
-ghost use Rattle.event_masks.specs.Names.{event_table, stop_table, flag_text, named_bit};
+ghost use Rattle.std.specs.Prelude.{◌≡◌, ◌++◌, Some, map, codes};
+ghost use Rattle.event_masks.specs.Exits.{all_events, all_flags};
+ghost use Rattle.event_masks.specs.Names.{event_table, stop_table, joined, names_of, hex_words, flag_text, shown_flags, named_bit};
 
 use crate::{EventMask, StopFlags};
 use std::fmt;
@@ -29,18 +30,23 @@ const STOP_FLAGS: [(&str, u32); 9] = [
     ("PL_FLAG_VFORK_DONE", 256),
 ];
 
-/// The flags of a set by name, with `+` between them, or `none`.
+/// A set of flags as text: their names, and then further bits, with a text between each two; or another text for none.
 #[derive(Clone, Copy, Drop)]
 struct Flags<'a> {
-    bits: u32,
     names: &'a [(&'a str, u32)],
+    bits: u32,
+    further: u32,
+    between: &'a str,
+    none: &'a str,
 }
 
 impl fmt::Display for Flags<'_> {
-    ghost output = { λ f. Some (flag_text (map named_bit f.names.now) f.bits) };
+    ghost output = { λ f. Some (joined f.none.now f.between.now (names_of (map named_bit f.names.now) f.bits ++ hex_words f.further)) };
 
     fn fmt<W: fmt::Write>(&self, f: &mut fmt::Formatter<W>) -> fmt::Result {
         let bits = self.bits;
+        let between = self.between;
+        let none = self.none;
         let mut empty = true;
         for (name, bit) in self.names {
             if bits & *bit != *bit {
@@ -51,32 +57,70 @@ impl fmt::Display for Flags<'_> {
                 empty = false;
                 continue;
             }
-            write!(f, "+{name}")?;
+            write!(f, "{between}{name}")?;
         }
-        if empty {
-            return write!(f, "none");
+        match (empty, self.further) {
+            (true, 0) => write!(f, "{none}"),
+            (false, 0) => Ok(()),
+            (true, further) => write!(f, "0x{further:x}"),
+            (false, further) => write!(f, "{between}0x{further:x}"),
         }
-        Ok(())
     }
 }
 
 /// The events of a mask.
 fn events<'a>(mask: EventMask) -> Flags<'a>
-    ensures { flag_text (map named_bit result.names.now) result.bits ≡ flag_text event_table mask.0 }
+    ensures { joined result.none.now result.between.now (names_of (map named_bit result.names.now) result.bits ++ hex_words result.further)
+        ≡ flag_text event_table mask.0 }
 {
     Flags {
-        bits: mask.0,
         names: &EVENTS,
+        bits: mask.0,
+        further: 0,
+        between: "+",
+        none: "none",
+    }
+}
+
+/// The events of a mask for programmers, and last the bits that are no event's.
+fn shown_events<'a>(mask: EventMask) -> Flags<'a>
+    ensures { joined result.none.now result.between.now (names_of (map named_bit result.names.now) result.bits ++ hex_words result.further)
+        ≡ shown_flags event_table all_events mask.0 }
+{
+    Flags {
+        names: &EVENTS,
+        bits: mask.0,
+        further: mask.0 & !63,
+        between: " | ",
+        none: "0x0",
     }
 }
 
 /// The flags of a stop.
 fn stop_flags<'a>(flags: StopFlags) -> Flags<'a>
-    ensures { flag_text (map named_bit result.names.now) result.bits ≡ flag_text stop_table flags.0 }
+    ensures { joined result.none.now result.between.now (names_of (map named_bit result.names.now) result.bits ++ hex_words result.further)
+        ≡ flag_text stop_table flags.0 }
 {
     Flags {
-        bits: flags.0,
         names: &STOP_FLAGS,
+        bits: flags.0,
+        further: 0,
+        between: "+",
+        none: "none",
+    }
+}
+
+/// The flags of a stop for programmers, and last the bits that are no flag's.
+fn shown_stop_flags<'a>(flags: StopFlags) -> Flags<'a>
+    ensures { joined result.none.now result.between.now (names_of (map named_bit result.names.now) result.bits ++ hex_words result.further)
+        ≡ shown_flags stop_table all_flags flags.0 }
+{
+    Flags {
+        names: &STOP_FLAGS,
+        bits: flags.0,
+        further: flags.0 & !511,
+        between: " | ",
+        none: "0x0",
     }
 }
 
@@ -90,6 +134,16 @@ impl fmt::Display for EventMask {
     }
 }
 
+/// Prints the type and the events' names, as Rust's crate `bitflags`: `EventMask(PTRACE_SCE | PTRACE_SCX)`, `EventMask(0x0)`.
+impl fmt::Debug for EventMask {
+    ghost debug_output = { λ m. Some (codes "EventMask(" ++ (shown_flags event_table all_events m.0 ++ codes ")")) };
+
+    fn fmt<W: fmt::Write>(&self, f: &mut fmt::Formatter<W>) -> fmt::Result {
+        let events = shown_events(*self);
+        write!(f, "EventMask({events})")
+    }
+}
+
 /// Prints the flags' names in order, with `+` between them, or `none`.
 impl fmt::Display for StopFlags {
     ghost output = { λ m. Some (flag_text stop_table m.0) };
@@ -97,5 +151,15 @@ impl fmt::Display for StopFlags {
     fn fmt<W: fmt::Write>(&self, f: &mut fmt::Formatter<W>) -> fmt::Result {
         let flags = stop_flags(*self);
         write!(f, "{flags}")
+    }
+}
+
+/// Prints the type and the flags' names, as Rust's crate `bitflags`: `StopFlags(PL_FLAG_SCE | PL_FLAG_BORN)`, `StopFlags(0x0)`.
+impl fmt::Debug for StopFlags {
+    ghost debug_output = { λ m. Some (codes "StopFlags(" ++ (shown_flags stop_table all_flags m.0 ++ codes ")")) };
+
+    fn fmt<W: fmt::Write>(&self, f: &mut fmt::Formatter<W>) -> fmt::Result {
+        let flags = shown_stop_flags(*self);
+        write!(f, "StopFlags({flags})")
     }
 }

@@ -1,8 +1,10 @@
 -- The text of a set of signals, one signal further.
 use Rattle.std.proofs.Common.{◌≡◌, ℕ, List, [], ◌∷◌, ◌++◌, map, sym, ap, ◌∙◌, append_assoc}
 use Rattle.std.proofs.lemmas.List.{append-nil}
+use Rattle.std.proofs.lemmas.Grind.{flat_map-append}
 use Rattle.std.specs.Prelude.{Some, None, codes, decimal}
-use Rattle.std.specs.List.{join_with_byte}
+use Rattle.std.specs.List.{join_with_byte, flat_map}
+use Rattle.signals.specs.Names.{signal_name, named}
 use Rattle.signals.specs.Sets.{bit, without, lowest, members, set_text, joined}
 use Rattle.signals.proofs.Rest.{members-first, members-none}
 
@@ -24,3 +26,16 @@ text-first set n first = sym (ap (λ ns. joined 44 (map (λ m. decimal m) ns)) (
 
 pub text-none : (set : ℕ) → lowest set ≡ None → codes "none" ≡ set_text set
 text-none set none = sym (ap (λ ns. joined 44 (map (λ m. decimal m) ns)) (members-none set none))
+
+-- the names that follow the first, each after its bar
+abbrev pub bars : List ℕ → List ℕ
+bars ns = flat_map (λ m. codes " | " ++ signal_name m) ns
+
+pub bars-last : (ns : List ℕ) (n : ℕ) → bars ns ++ (codes " | " ++ signal_name n) ≡ bars (ns ++ n ∷ [])
+bars-last ns n = ap (λ t. bars ns ++ t) (sym (append-nil (codes " | " ++ signal_name n))) ∙ sym (flat_map-append (λ m. codes " | " ++ signal_name m) ns (n ∷ []))
+
+pub named-first : (set n : ℕ) → lowest set ≡ Some n → signal_name n ++ bars (members (without set (bit n))) ≡ named (members set)
+named-first set n first = sym (ap (λ ns. named ns) (members-first set n first))
+
+pub named-none : (set : ℕ) → lowest set ≡ None → codes "SigSet(0x0)" ≡ codes "SigSet(" ++ (named (members set) ++ codes ")")
+named-none set none = sym (ap (λ ns. codes "SigSet(" ++ (named ns ++ codes ")")) (members-none set none))

@@ -1,5 +1,6 @@
 -- The signals, as in the tables of signal(3) and sigaction(2).
-use Rattle.std.specs.Prelude.{ℕ, ◌==◌, nat_eq, List, [], ◌∷◌, Option, find, codes}
+use Rattle.std.specs.Prelude.{ℕ, ◌==◌, nat_eq, List, [], ◌∷◌, Option, find, codes, if◌then◌else◌}
+use Rattle.std.specs.List.{join_by}
 use Rattle.std.specs.Option.{option_map_or}
 use Rattle.std.specs.Cmp.Lexicographic.{pointwise}
 use Rattle.signals.specs.Sets.{numbers}
@@ -57,3 +58,12 @@ signal_name n = option_map_or (λ r. r.name) (find (λ r. r.number == n) table) 
 -- the signal with the name
 abbrev pub by_name : List ℕ → Option ℕ
 by_name text = find (λ n. pointwise nat_eq (signal_name n) text) numbers
+
+-- what a process is resumed with, for programmers
+abbrev pub pass_name : ℕ → List ℕ
+pass_name n = if n == 0 then codes "0" else signal_name n
+
+-- the names of signals with ` | ` between them, in the way of Rust's crate `bitflags`
+abbrev pub named : List ℕ → List ℕ
+named [] = codes "0x0"
+named (n ∷ ns) = join_by (λ m. signal_name m) (codes " | ") (n ∷ ns)
