@@ -25,11 +25,7 @@ fn install<R: Abort, F: Decider + Send + Drop>(
     user: Uid,
     handler: Handler<F>,
 ) {
-    let step = Step::Install {
-        caller: 1000,
-        handler,
-    };
-    let reply = host.step(alloc, user, step);
+    let reply = host.step(alloc, user, Step::install(1000, handler));
     assert_eq!(rt; answered(&reply), Answer::Done);
 }
 

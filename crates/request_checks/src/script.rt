@@ -3,7 +3,7 @@
 use event_masks::Call;
 use lwpinfo::{Event, LwpInfo, NumList};
 use pid_blocks::{Errno, Uid};
-use requests::{Act, Host, PlainStep, Reply, Request};
+use requests::{Act, Host, PlainStep, Reply, Request, Step};
 use signals::Disposition;
 use std::alloc::Global;
 use std::process::Abort;
@@ -230,23 +230,20 @@ pub fn with_tracee<R: Abort>(
 }
 
 pub fn list(caller: u32) -> PlainStep {
-    PlainStep::List { caller }
+    Step::list(caller)
 }
 
 pub fn kill(caller: u32, which: i64, sig: u32) -> PlainStep {
-    PlainStep::Kill { caller, which, sig }
+    Step::kill(caller, which, sig)
 }
 
 /// A wait without options.
 pub fn wait_for(caller: u32, which: i64) -> PlainStep {
-    PlainStep::Wait4 {
-        caller,
-        which,
-        options: Options {
-            untraced: false,
-            continued: false,
-        },
-    }
+    let options = Options {
+        untraced: false,
+        continued: false,
+    };
+    Step::wait4(caller, which, options)
 }
 
 /// A wait for any child, without options.
@@ -255,16 +252,11 @@ pub fn wait(caller: u32) -> PlainStep {
 }
 
 pub fn handle(caller: u32) -> PlainStep {
-    PlainStep::Handle { caller }
+    Step::handle(caller)
 }
 
 pub fn ask(caller: u32, request: Request, target: u32, data: u32) -> PlainStep {
-    PlainStep::Ptrace {
-        caller,
-        request,
-        target,
-        data,
-    }
+    Step::ptrace(caller, request, target, data)
 }
 
 pub fn attach(caller: u32, target: u32) -> PlainStep {
@@ -276,49 +268,30 @@ pub fn go_on(caller: u32, target: u32, sig: u32) -> PlainStep {
 }
 
 pub fn compute(tid: u32) -> PlainStep {
-    PlainStep::Turn {
-        tid,
-        act: Act::Compute,
-    }
+    Step::turn(tid, Act::Compute)
 }
 
 pub fn enter(tid: u32, call: Call) -> PlainStep {
-    PlainStep::Turn {
-        tid,
-        act: Act::Enter(call),
-    }
+    Step::turn(tid, Act::Enter(call))
 }
 
 pub fn leave(tid: u32) -> PlainStep {
-    PlainStep::Turn {
-        tid,
-        act: Act::Leave,
-    }
+    Step::turn(tid, Act::Leave)
 }
 
 pub fn sigaction(caller: u32, sig: u32, disposition: Disposition) -> PlainStep {
-    PlainStep::Sigaction {
-        caller,
-        sig,
-        disposition,
-    }
+    Step::sigaction(caller, sig, disposition)
 }
 
 /// A wait for any child, also for one that has stopped or been continued.
 pub fn wait_for_jobs(caller: u32, untraced: bool, continued: bool) -> PlainStep {
-    PlainStep::Wait4 {
-        caller,
-        which: -1,
-        options: Options {
-            untraced,
-            continued,
-        },
-    }
+    let options = Options {
+        untraced,
+        continued,
+    };
+    Step::wait4(caller, -1, options)
 }
 
 pub fn raise(tid: u32, sig: u32) -> PlainStep {
-    PlainStep::Turn {
-        tid,
-        act: Act::Raise(sig),
-    }
+    Step::turn(tid, Act::Raise(sig))
 }

@@ -38,3 +38,4 @@ pub mod Turns
 pub mod Handling
 pub mod StaysSound
 pub mod Handled
+pub mod Joins

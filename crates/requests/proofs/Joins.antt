@@ -1,0 +1,47 @@
+-- Words that are written one after another, each behind what is to stand before it.
+use Rattle.std.proofs.Common.{◌≡◌, ℕ, List, [], ◌∷◌, ◌++◌, map, codes, decimal, refl, sym, ap, ◌∙◌, append-nil, Option}
+use Rattle.std.specs.List.{join_with_byte, flat_map}
+use Rattle.std.proofs.lemmas.List.{append_assoc}
+use Rattle.requests.specs.Texts.{view_words}
+use Rattle.requests.specs.Words.{reply_words, decision_words, index_text, flags_word}
+use Rattle.requests.specs.declared.Reply.TheVariants as reply
+use Rattle.stop_handlers.specs.declared.StopView.{StopView}
+use Rattle.stop_handlers.specs.declared.Decision.{Decision}
+use Rattle.stop_handlers.specs.declared.Decision.TheVariants as decision
+use Rattle.wait4.specs.declared.StatusKind.{StatusKind}
+use Rattle.wait4.specs.Status.{word}
+
+-- the numbers, each after a space
+abbrev pub spaced : List ℕ → List ℕ
+spaced numbers = flat_map (λ n. 32 ∷ decimal n) numbers
+
+pub spaced_words : (w : List ℕ) (ns : List ℕ) → join_with_byte 32 (w ∷ map (λ n. decimal n) ns) ≡ w ++ spaced ns
+spaced_words w [] = sym (append-nil w)
+spaced_words w (n ∷ ns) = ap (λ xs. w ++ (32 ∷ xs)) (spaced_words (decimal n) ns)
+
+-- the text before what was decided
+abbrev pub handled_front : ℕ → StatusKind → StopView → Option ℕ → List ℕ → List ℕ
+handled_front pid status view index rest =
+    codes "handled " ++ (decimal pid ++ (codes " " ++ (decimal (word status) ++ (codes " at " ++ (join_with_byte 32 (view_words view) ++ (codes " by " ++ (index_text index ++ (codes " " ++ rest))))))))
+
+join_append : (byte : ℕ) (x : List ℕ) (xs : List (List ℕ)) (y : List ℕ) (ys : List (List ℕ))
+    → join_with_byte byte (x ∷ xs) ++ (byte ∷ join_with_byte byte (y ∷ ys)) ≡ join_with_byte byte (x ∷ (xs ++ y ∷ ys))
+join_append byte x [] y ys = refl
+join_append byte x (v ∷ vs) y ys =
+    append_assoc x (byte ∷ join_with_byte byte (v ∷ vs)) (byte ∷ join_with_byte byte (y ∷ ys))
+    ∙ ap (λ text. x ++ (byte ∷ text)) (join_append byte v vs y ys)
+
+handled_list : (pid : ℕ) (status : StatusKind) (view : StopView) (index : Option ℕ) (d : List (List ℕ))
+    → codes "handled " ++ (decimal pid ++ (codes " " ++ (decimal (word status) ++ (codes " at " ++ (join_with_byte 32 (view_words view) ++ (32 ∷ join_with_byte 32 (codes "by" ∷ index_text index ∷ d)))))))
+    ≡ codes "handled " ++ (decimal pid ++ (codes " " ++ (decimal (word status) ++ (codes " at " ++ join_with_byte 32 (view_words view ++ (codes "by" ∷ index_text index ∷ d))))))
+handled_list pid status view index d =
+    ap (λ text. codes "handled " ++ (decimal pid ++ (codes " " ++ (decimal (word status) ++ (codes " at " ++ text)))))
+    (join_append 32 (decimal view.tid) ((codes "signal=" ++ decimal view.sig) ∷ flags_word view.flags ∷ (codes "child=" ++ decimal view.child) ∷ (codes "code=" ++ decimal view.code) ∷ []) (codes "by") (index_text index ∷ d))
+
+pub handled_words : (pid : ℕ) (status : StatusKind) (view : StopView) (index : Option ℕ) (d : Decision)
+    → handled_front pid status view index (join_with_byte 32 (decision_words d)) ≡ join_with_byte 32 (reply_words (reply.Handled pid status view index d))
+handled_words pid status view index decision.Decline = handled_list pid status view index (decision_words decision.Decline)
+handled_words pid status view index decision.Leave = handled_list pid status view index (decision_words decision.Leave)
+handled_words pid status view index (decision.Continue n) = handled_list pid status view index (decision_words (decision.Continue n))
+handled_words pid status view index (decision.Detach n) = handled_list pid status view index (decision_words (decision.Detach n))
+handled_words pid status view index decision.Kill = handled_list pid status view index (decision_words decision.Kill)
