@@ -8,6 +8,7 @@ use Rattle.line_io.specs.declared.reading.LineEnd.TheVariants.{Feed, Input}
 use Rattle.requests.specs.Run.{Asked}
 use Rattle.requests.specs.Machine.{Machine}
 use Rattle.scenario.specs.declared.fault.Fault.{Fault}
+use Rattle.scenario.specs.declared.style.Style.{Style}
 use Rattle.scenario.specs.declared.fault.Fault.TheVariants.{Memory}
 use Rattle.scenario.specs.OneStep.{AnswersBy}
 use Rattle.line_sessions.specs.declared.fault.ServeFault.{ServeFault}
@@ -26,9 +27,9 @@ pub keeps_same : (a : Option (List ℕ)) → Keeps a a
 keeps_same None = tt
 keeps_same (Some xs) = refl
 
-pub serves_by : (m : Machine) (r u h w : Option (List ℕ)) (result : Result ⊤ ServeFault) (e : ServeFault) → IsErrAnd result (λ x. x ≡ e) → Serves (Err e) m r u h w → Serves result m r u h w
-serves_by m r u h w (Ok done) e is p = absurd is
-serves_by m r u h w (Err x) e is p = subst (λ y. Serves (Err y) m r u h w) (sym is) p
+pub serves_by : (style : Style) (m : Machine) (r u h w : Option (List ℕ)) (result : Result ⊤ ServeFault) (e : ServeFault) → IsErrAnd result (λ x. x ≡ e) → Serves style (Err e) m r u h w → Serves style result m r u h w
+serves_by style m r u h w (Ok done) e is p = absurd is
+serves_by style m r u h w (Err x) e is p = subst (λ y. Serves style (Err y) m r u h w) (sym is) p
 
 pub none_feed : (x : Option LineEnd) → x ≡ None → x ≢ Some Feed
 none_feed x none some = true≢false (ap is_some (sym some ∙ none))
@@ -44,5 +45,5 @@ input_feed x end some is feed = true≢false (ap is_input (sym (some ∙ ap Some
 pub some_so : {X : Type 0} (x : Option X) (P : X → Type 0) (a : X) → x ≡ Some a → IfSome x P → P a
 some_so x P a is p = subst (λ y. IfSome y P) is p
 
-pub serves_from : (result : Result ⊤ ServeFault) (m n : Machine) (r u h w : Option (List ℕ)) → m ≡ n → Serves result m r u h w → Serves result n r u h w
-serves_from result m n r u h w is p = subst (λ x. Serves result x r u h w) is p
+pub serves_from : (style : Style) (result : Result ⊤ ServeFault) (m n : Machine) (r u h w : Option (List ℕ)) → m ≡ n → Serves style result m r u h w → Serves style result n r u h w
+serves_from style result m n r u h w is p = subst (λ x. Serves style result x r u h w) is p

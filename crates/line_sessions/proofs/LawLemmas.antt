@@ -11,6 +11,7 @@ use Rattle.visibility.specs.Runs.{told, Did}
 use Rattle.visibility.proofs.Answered.{runs_are_private}
 use Rattle.visibility.proofs.Apart.{empty_apart}
 use Rattle.scenario.specs.declared.fault.Fault.{Fault}
+use Rattle.scenario.specs.declared.style.Style.{Style}
 use Rattle.scenario.specs.Lines.{Answered, line, lines_after, text_of}
 use Rattle.scenario.specs.OneStep.{IsStep, too_long, no_value, value}
 use Rattle.scenario.specs.Runs.{paired}
@@ -57,24 +58,24 @@ made : (text : List ℕ) (a : Asked) (m : Machine) (r : LineReply) (k : Machine)
 made text a m r k is (step b reply after was user did) left = same_step a b reply m after (ap (or_else a) (one_step text (Ok b) (Ok a) was is)) left did
 made text a m r k is (refused f was) left = absurd (true≢false (ap is_made (one_step text (Ok a) (Err f) is was)))
 
-lines_of_scenario : (before : List ℕ) (lines : List (List ℕ)) (steps : List Asked) (m : Machine) (rs : List LineReply) (k : Machine)
+lines_of_scenario : (style : Style) (before : List ℕ) (lines : List (List ℕ)) (steps : List Asked) (m : Machine) (rs : List LineReply) (k : Machine)
     → AreSteps lines steps → AnswersLines lines m rs k → AllByRecursion IsMade rs
-    → text_after before rs ≡ text_of (lines_after before (paired steps (replies steps m)))
-lines_of_scenario before [] [] m [] k are answers left = refl
-lines_of_scenario before [] [] m (r ∷ rs) k are answers left = absurd answers
-lines_of_scenario before [] (a ∷ steps) m rs k are answers left = absurd are
-lines_of_scenario before (l ∷ lines) [] m rs k are answers left = absurd are
-lines_of_scenario before (l ∷ lines) (a ∷ steps) m [] k are answers left = absurd answers
-lines_of_scenario before (l ∷ lines) (a ∷ steps) m (r ∷ rs) k are answers left =
+    → text_after style before rs ≡ text_of (lines_after style before (paired steps (replies steps m)))
+lines_of_scenario style before [] [] m [] k are answers left = refl
+lines_of_scenario style before [] [] m (r ∷ rs) k are answers left = absurd answers
+lines_of_scenario style before [] (a ∷ steps) m rs k are answers left = absurd are
+lines_of_scenario style before (l ∷ lines) [] m rs k are answers left = absurd are
+lines_of_scenario style before (l ∷ lines) (a ∷ steps) m [] k are answers left = absurd answers
+lines_of_scenario style before (l ∷ lines) (a ∷ steps) m (r ∷ rs) k are answers left =
     let one = made l a m r answers.0 are.0 answers.1 left.0 in
     let P : Machine → Type 0 = λ n. AnswersLines lines n rs k in
-    let rest = lines_of_scenario (a.uid ∷ before) lines steps (host_after a.uid a.step m) rs k are.1 (subst P one.host answers.2) left.1 in
+    let rest = lines_of_scenario style (a.uid ∷ before) lines steps (host_after a.uid a.step m) rs k are.1 (subst P one.host answers.2) left.1 in
     let now : Answered = record { uid = a.uid; reply = reply_of a.uid a.step m } in
-    ap (λ x. text_after before (x ∷ rs)) one.reply
-    ∙ ap (λ t. (line (count_by (λ u. u == a.uid) before + 1) now).text ++ t) rest
+    ap (λ x. text_after style before (x ∷ rs)) one.reply
+    ∙ ap (λ t. (line style (count_by (λ u. u == a.uid) before + 1) now).text ++ t) rest
 
 pub as_scenario : AsScenario
-as_scenario settings lines steps rs k are answers left = lines_of_scenario [] lines steps (empty settings) rs k are answers left
+as_scenario style settings lines steps rs k are answers left = lines_of_scenario style [] lines steps (empty settings) rs k are answers left
 
 -- the steps of a session, as a run
 record Found (lines : List (List ℕ)) (m : Machine) (rs : List LineReply) (k : Machine) : Type 0 where

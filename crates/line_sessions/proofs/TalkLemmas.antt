@@ -15,6 +15,7 @@ use Rattle.requests.specs.Machine.{Machine}
 use Rattle.scenario.proofs.LineLemmas.{Counted, counted_more, counted_few, counted_number}
 use Rattle.scenario.proofs.WriteLemmas.{appends_more, appends_kept}
 use Rattle.scenario.specs.declared.fault.Fault.{Fault}
+use Rattle.scenario.specs.declared.style.Style.{Style}
 use Rattle.scenario.specs.Lines.{line}
 use Rattle.scenario.specs.OneStep.{IsStep, too_long, no_value, value, most_step_bytes}
 use Rattle.requests.specs.Run.{Asked}
@@ -65,10 +66,10 @@ users_after before (Ok a) = a.uid ∷ before
 users_after before (Err f) = before
 
 -- the line of an answer behind others, and what follows it
-text_more : (made before : List ℕ) (r : LineReply) (rs : List LineReply) → Counted made before → ToUser r → text_after before (r ∷ rs) ≡ reply_text made r ++ text_after (users_after before r) rs
-text_more made before (Ok a) rs counted user =
-    ap (λ n. (line (n + 1) a).text ++ text_after (a.uid ∷ before) rs) (sym (counted_number made before a.uid user.0 user.1 counted))
-text_more made before (Err f) rs counted user = refl
+text_more : (style : Style) (made before : List ℕ) (r : LineReply) (rs : List LineReply) → Counted made before → ToUser r → text_after style before (r ∷ rs) ≡ reply_text style made r ++ text_after style (users_after before r) rs
+text_more style made before (Ok a) rs counted user =
+    ap (λ n. (line style (n + 1) a).text ++ text_after style (a.uid ∷ before) rs) (sym (counted_number made before a.uid user.0 user.1 counted))
+text_more style made before (Err f) rs counted user = refl
 
 counted_after : (made before : List ℕ) (r : LineReply) → Counted made before → ToUser r → Counted (made_after made r) (users_after before r)
 counted_after made before (Ok a) counted user = counted_more made before a.uid user.0 user.1 counted
@@ -80,15 +81,15 @@ few_after before (Err f) n few = omega arith
 
 -- ---- what holds between lines: all lines that were taken have ended, and are answered
 
-pub record Talking (first : Machine) (read unread had has : Option (List ℕ)) (m : Machine) (made : List ℕ) (count : ℕ) : Type 0 where
+pub record Talking (style : Style) (first : Machine) (read unread had has : Option (List ℕ)) (m : Machine) (made : List ℕ) (count : ℕ) : Type 0 where
   pub bytes : List ℕ
   pub replies : List LineReply
   pub before : List ℕ
   pub whole : Whole bytes
   pub taken : Consumes read unread bytes
   pub answered : AnswersLines (lines_in bytes) first replies m
-  pub told : Appends had has (text_of replies)
-  pub next : (rs : List LineReply) → text_of (replies ++ rs) ≡ text_of replies ++ text_after before rs
+  pub told : Appends had has (text_of style replies)
+  pub next : (rs : List LineReply) → text_of style (replies ++ rs) ≡ text_of style replies ++ text_after style before rs
   pub counted : Counted made before
   pub few : length before ≤ count
 
@@ -110,8 +111,8 @@ appends_none : (a : Option (List ℕ)) → Appends a a []
 appends_none None = tt
 appends_none (Some xs) = sym (append-nil xs)
 
-pub start : (first : Machine) (r w : Option (List ℕ)) (m : Machine) (made : List ℕ) → m ≡ first → Counted made [] → Talking first r r w w m made 0
-start first r w m made is counted = record {
+pub start : (style : Style) (first : Machine) (r w : Option (List ℕ)) (m : Machine) (made : List ℕ) → m ≡ first → Counted made [] → Talking style first r r w w m made 0
+start style first r w m made is counted = record {
   bytes = [];
   replies = [];
   before = [];
@@ -135,16 +136,16 @@ lines_with bytes text Feed whole no_feed some = whole_line bytes text whole no_f
 lines_with bytes text Input whole no_feed some =
     whole (text ++ []) ∙ ap (λ ls. lines_in bytes ++ ls) (ap lines_in (append-nil text) ∙ only_line text no_feed (some refl))
 
-module _ (first : Machine) (r u h w : Option (List ℕ)) (m : Machine) (made : List ℕ) (count : ℕ) (at : Talking first r u h w m made count) (v : Option (List ℕ)) where
+module _ (style : Style) (first : Machine) (r u h w : Option (List ℕ)) (m : Machine) (made : List ℕ) (count : ℕ) (at : Talking style first r u h w m made count) (v : Option (List ℕ)) where
   -- a line or a part of one was taken, and nothing was written
   stops : (x : Option (List ℕ)) (rest : List ℕ) → length (lines_in rest) ≤ 1 → Consumes u v rest → Keeps w x
-      → (rs : List LineReply) × (rest : List ℕ) × (length (lines_in rest) ≤ 1) × Talk first r v rest rs × Appends h x (text_of rs)
+      → (rs : List LineReply) × (rest : List ℕ) × (length (lines_in rest) ≤ 1) × Talk first r v rest rs × Appends h x (text_of style rs)
   stops x rest few lost kept = (
     at.replies,
     rest,
     few,
     record { bytes = at.bytes; host = m; taken = consumes_more r u v at.bytes rest at.taken lost; answered = at.answered },
-    appends_kept h w x (text_of at.replies) at.told kept,
+    appends_kept h w x (text_of style at.replies) at.told kept,
   )
 
   module _ (text : List ℕ) (end : LineEnd) (lost : Loses u v text (end_bytes end)) where
@@ -162,43 +163,43 @@ module _ (first : Machine) (r u h w : Option (List ℕ)) (m : Machine) (made : L
               (answers_more (lines_in at.bytes) text first m k at.replies reply at.answered (answers_kept text m reply k is));
         }
 
-    text_answered : (reply : LineReply) → ToUser reply → text_of (at.replies ++ (reply ∷ [])) ≡ text_of at.replies ++ reply_text made reply
+    text_answered : (reply : LineReply) → ToUser reply → text_of style (at.replies ++ (reply ∷ [])) ≡ text_of style at.replies ++ reply_text style made reply
     text_answered reply user =
-        at.next (reply ∷ []) ∙ ap (λ t. text_of at.replies ++ t) (text_more made at.before reply [] at.counted user ∙ append-nil (reply_text made reply))
+        at.next (reply ∷ []) ∙ ap (λ t. text_of style at.replies ++ t) (text_more style made at.before reply [] at.counted user ∙ append-nil (reply_text style made reply))
 
     -- the last line was answered
-    pub ends_last : (k : Machine) (after : List ℕ) (x : Option (List ℕ)) → (end ≡ Input → 0 < length text) → Told (Ok tt) (kept text) m k made after w x
-        → IfSome u (λ _. IsAtEnd v) → Serves (Ok tt) first r v h x
+    pub ends_last : (k : Machine) (after : List ℕ) (x : Option (List ℕ)) → (end ≡ Input → 0 < length text) → Told style (Ok tt) (kept text) m k made after w x
+        → IfSome u (λ _. IsAtEnd v) → Serves style (Ok tt) first r v h x
     ends_last k after x some told over =
         let P : List ℕ → Type 0 = λ t. Appends h x t in
-        (at.replies ++ (told.0 ∷ []), line_answered k told.0 some told.1, subst P (sym (text_answered told.0 (to_user told.1))) (appends_more h w x (text_of at.replies) (reply_text made told.0) at.told told.3), at_end r u v at.bytes at.taken over)
+        (at.replies ++ (told.0 ∷ []), line_answered k told.0 some told.1, subst P (sym (text_answered told.0 (to_user told.1))) (appends_more h w x (text_of style at.replies) (reply_text style made told.0) at.told told.3), at_end r u v at.bytes at.taken over)
 
     -- a line was taken, and its answer was not written
-    pub fails : (k : Machine) (after : List ℕ) (x : Option (List ℕ)) (e : ServeFault) → (end ≡ Input → 0 < length text) → Told (Err e) (kept text) m k made after w x → Serves (Err e) first r v h x
+    pub fails : (k : Machine) (after : List ℕ) (x : Option (List ℕ)) (e : ServeFault) → (end ≡ Input → 0 < length text) → Told style (Err e) (kept text) m k made after w x → Serves style (Err e) first r v h x
     fails k after x Write some told =
         let P : List ℕ → Type 0 = λ t. Appends h x t in
-        let one = reply_text made told.0 in
-        let all = text_of (at.replies ++ (told.0 ∷ [])) in
-        let n = length (text_of at.replies) + told.2 in
-        let front : text_of at.replies ++ take told.2 one ≡ take n all =
-        sym (take-append-add (text_of at.replies) one told.2) ∙ ap (take n) (sym (text_answered told.0 (to_user told.1))) in
-        (at.replies ++ (told.0 ∷ []), line_answered k told.0 some told.1, n, subst P front (appends_more h w x (text_of at.replies) (take told.2 one) at.told told.3))
+        let one = reply_text style made told.0 in
+        let all = text_of style (at.replies ++ (told.0 ∷ [])) in
+        let n = length (text_of style at.replies) + told.2 in
+        let front : text_of style at.replies ++ take told.2 one ≡ take n all =
+        sym (take-append-add (text_of style at.replies) one told.2) ∙ ap (take n) (sym (text_answered told.0 (to_user told.1))) in
+        (at.replies ++ (told.0 ∷ []), line_answered k told.0 some told.1, n, subst P front (appends_more h w x (text_of style at.replies) (take told.2 one) at.told told.3))
     fails k after x Read some told = stops x (text ++ end_bytes end) (lines_one text end lost.0) lost.1 told
     fails k after x Memory some told = stops x (text ++ end_bytes end) (lines_one text end lost.0) lost.1 told
     fails k after x TooManyLines some told = stops x (text ++ end_bytes end) (lines_one text end lost.0) lost.1 told
 
   -- the next line could not be read
-  pub cannot_read : (e : ServeFault) → (e ≡ Read) ⊎ (e ≡ Memory) → (text : List ℕ) → Loses u v text [] → Serves (Err e) first r v h w
+  pub cannot_read : (e : ServeFault) → (e ≡ Read) ⊎ (e ≡ Memory) → (text : List ℕ) → Loses u v text [] → Serves style (Err e) first r v h w
   cannot_read e kind text lost =
       let few = lines_one text Input lost.0 in
       let left = stops w (text ++ []) few lost.1 (keeps_same w) in
       elim kind [
-        | inl is ↦ subst (λ x. Serves (Err x) first r v h w) (sym is) left
-        | inr is ↦ subst (λ x. Serves (Err x) first r v h w) (sym is) left
+        | inl is ↦ subst (λ x. Serves style (Err x) first r v h w) (sym is) left
+        | inr is ↦ subst (λ x. Serves style (Err x) first r v h w) (sym is) left
       ]
 
   -- the input has ended
-  pub ends_now : Consumes u v [] → IfSome u (λ _. IsAtEnd v) → Serves (Ok tt) first r v h w
+  pub ends_now : Consumes u v [] → IfSome u (λ _. IsAtEnd v) → Serves style (Ok tt) first r v h w
   ends_now lost over = (
     at.replies,
     record { bytes = at.bytes; host = m; taken = consumes_more r u v at.bytes [] at.taken lost; answered = at.answered },
@@ -207,8 +208,8 @@ module _ (first : Machine) (r u h w : Option (List ℕ)) (m : Machine) (made : L
   )
 
   -- the line was answered, and there may be more
-  pub goes_on : (text : List ℕ) → Loses u v text (end_bytes Feed) → (k : Machine) (after : List ℕ) (x : Option (List ℕ)) → Told (Ok tt) (kept text) m k made after w x
-      → Talking first r v h x k after (count + 1)
+  pub goes_on : (text : List ℕ) → Loses u v text (end_bytes Feed) → (k : Machine) (after : List ℕ) (x : Option (List ℕ)) → Told style (Ok tt) (kept text) m k made after w x
+      → Talking style first r v h x k after (count + 1)
   goes_on text lost k after x told =
       let reply = told.0 in
       let P : List ℕ → Type 0 = λ t. Appends h x t in
@@ -224,18 +225,18 @@ module _ (first : Machine) (r u h w : Option (List ℕ)) (m : Machine) (made : L
         taken = consumes_more r u v at.bytes (text ++ (10 ∷ [])) at.taken lost.1;
         answered = subst Q (sym (whole_line at.bytes text at.whole lost.0))
             (answers_more (lines_in at.bytes) text first m k at.replies reply at.answered (answers_kept text m reply k told.1));
-        told = subst P (sym text_is) (appends_more h w x (text_of at.replies) (reply_text made reply) at.told told.3);
+        told = subst P (sym text_is) (appends_more h w x (text_of style at.replies) (reply_text style made reply) at.told told.3);
         next = λ rs.
-            ap text_of (append_assoc at.replies (reply ∷ []) rs) ∙ at.next (reply ∷ rs)
-            ∙ ap (λ t. text_of at.replies ++ t) (text_more made at.before reply rs at.counted user)
-            ∙ sym (append_assoc (text_of at.replies) (reply_text made reply) (text_after (users_after at.before reply) rs))
-            ∙ ap (λ t. t ++ text_after (users_after at.before reply) rs) (sym text_is);
+            ap (text_of style) (append_assoc at.replies (reply ∷ []) rs) ∙ at.next (reply ∷ rs)
+            ∙ ap (λ t. text_of style at.replies ++ t) (text_more style made at.before reply rs at.counted user)
+            ∙ sym (append_assoc (text_of style at.replies) (reply_text style made reply) (text_after style (users_after at.before reply) rs))
+            ∙ ap (λ t. t ++ text_after style (users_after at.before reply) rs) (sym text_is);
         counted = subst R (sym told.2) (counted_after made at.before reply at.counted user);
         few = few_after at.before reply count at.few;
       }
 
   -- no more lines are answered
-  pub too_many : Serves (Err TooManyLines) first r u h w
+  pub too_many : Serves style (Err TooManyLines) first r u h w
   too_many = (
     at.replies,
     [],
@@ -248,9 +249,9 @@ module _ (first : Machine) (r u h w : Option (List ℕ)) (m : Machine) (made : L
   room k = let few = at.few in let each = counted_few made at.before at.counted k in omega arith
 
 -- what is told of the bytes that are kept of a line
-pub told_kept : (result : Result ⊤ ServeFault) (line items text : List ℕ) (m k : Machine) (made after : List ℕ) (had has : Option (List ℕ)) → line ≡ items → items ≡ kept text
-    → Told result line m k made after had has → Told result (kept text) m k made after had has
-told_kept result line items text m k made after had has p q told = subst (λ t. Told result t m k made after had has) (p ∙ q) told
+pub told_kept : (style : Style) (result : Result ⊤ ServeFault) (line items text : List ℕ) (m k : Machine) (made after : List ℕ) (had has : Option (List ℕ)) → line ≡ items → items ≡ kept text
+    → Told style result line m k made after had has → Told style result (kept text) m k made after had has
+told_kept style result line items text m k made after had has p q told = subst (λ t. Told style result t m k made after had has) (p ∙ q) told
 
 -- a line that does not end with the input
 pub lost_feed : (u v : Option (List ℕ)) (text : List ℕ) (end : LineEnd) → (end ≡ Input → ⊥) → Loses u v text (end_bytes end) → Loses u v text (end_bytes Feed)
@@ -258,8 +259,8 @@ lost_feed u v text Feed not lost = lost
 lost_feed u v text Input not lost = absurd (not refl)
 
 -- nothing was taken, and nothing written
-pub begins_not : (first : Machine) (r h : Option (List ℕ)) → Serves (Err Memory) first r r h h
-begins_not first r h = (
+pub begins_not : (style : Style) (first : Machine) (r h : Option (List ℕ)) → Serves style (Err Memory) first r r h h
+begins_not style first r h = (
   [],
   [],
   omega arith,

@@ -9,6 +9,7 @@ use Rattle.requests.specs.Run.{Asked}
 use Rattle.trace_stop.specs.declared.Settings.{Settings}
 use Rattle.visibility.specs.Runs.{told}
 use Rattle.scenario.specs.declared.fault.Fault.{Fault}
+use Rattle.scenario.specs.declared.style.Style.{Style}
 use Rattle.scenario.specs.Lines.{text}
 use Rattle.scenario.specs.OneStep.{IsStep}
 use Rattle.scenario.specs.Runs.{answers_of}
@@ -28,9 +29,9 @@ IsMade (Err f) = ⊤
 
 -- where every line is a step, and memory was left, the text is that of the scenario with these steps
 abbrev pub AsScenario : Type 0
-AsScenario = (settings : Settings) (lines : List (List ℕ)) (steps : List Asked) (rs : List LineReply) (k : Machine)
+AsScenario = (style : Style) (settings : Settings) (lines : List (List ℕ)) (steps : List Asked) (rs : List LineReply) (k : Machine)
     → AreSteps lines steps → AnswersLines lines (empty settings) rs k → AllByRecursion IsMade rs
-    → text_of rs ≡ text (answers_of (record { settings = settings; steps = steps }))
+    → text_of style rs ≡ text style (answers_of (record { settings = settings; steps = steps }))
 
 -- the steps among the lines, in order
 pub data StepsIn : List (List ℕ) → List Asked → Type 0 where

@@ -6,7 +6,11 @@ use Rattle.requests.specs.declared.Reply.{Reply}
 use Rattle.requests.specs.Machine.{Machine}
 use Rattle.requests.specs.Run.{Asked}
 use Rattle.visibility.specs.Runs.{told, Did}
+use Rattle.reply_json.specs.Objects.{json_text}
+use Rattle.reply_json.specs.Replies.{refusal_value}
 use Rattle.scenario.specs.declared.fault.Fault.{Fault}
+use Rattle.scenario.specs.declared.style.Style.{Style}
+use Rattle.scenario.specs.declared.style.Style.TheVariants.{Words, Json}
 use Rattle.scenario.specs.Faults.{fault_name}
 use Rattle.scenario.specs.Lines.{Answered, line}
 use Rattle.scenario.specs.OneStep.{IsStep}
@@ -34,18 +38,20 @@ AnswersLines (l ∷ ls) m (r ∷ rs) k = (n : Machine) × AnswersLine l m r n ×
 
 -- ---- the text of answers
 
--- the line that says why a line is no step
-abbrev pub refusal : Fault → List ℕ
-refusal f = codes "refused " ++ (fault_name f ++ (10 ∷ []))
+-- the line that says why a line is no step; 10 is a line feed
+abbrev pub refusal : Style → Fault → List ℕ
+refusal Words f = codes "refused " ++ (fault_name f ++ (10 ∷ []))
+refusal Json f = json_text (refusal_value (fault_name f)) ++ (10 ∷ [])
 
 -- a line for each answer, a reply's with its user's own number; `before` are the users of the replies before
-abbrev pub text_after : List ℕ → List LineReply → List ℕ
-text_after before [] = []
-text_after before (Ok a ∷ rs) = (line (count_by (λ u. u == a.uid) before + 1) a).text ++ text_after (a.uid ∷ before) rs
-text_after before (Err f ∷ rs) = refusal f ++ text_after before rs
+abbrev pub text_after : Style → List ℕ → List LineReply → List ℕ
+text_after style before [] = []
+text_after style before (Ok a ∷ rs) =
+    (line style (count_by (λ u. u == a.uid) before + 1) a).text ++ text_after style (a.uid ∷ before) rs
+text_after style before (Err f ∷ rs) = refusal style f ++ text_after style before rs
 
-abbrev pub text_of : List LineReply → List ℕ
-text_of rs = text_after [] rs
+abbrev pub text_of : Style → List LineReply → List ℕ
+text_of style rs = text_after style [] rs
 
 -- ---- what a session took and wrote
 
@@ -58,10 +64,10 @@ pub record Talk (m : Machine) (read unread : Option (List ℕ)) (rest : List ℕ
 
 -- A session from the host m on. At the end of the input all lines were answered, and the writer has got the text of the answers. Where a write failed it has got a front
 -- of that text. Else it has got the text of the answers to all lines but a last one, of which nothing, a part or all was taken.
-abbrev pub Serves : Result ⊤ ServeFault → Machine → (read unread had has : Option (List ℕ)) → Type 0
-Serves (Ok done) m read unread had has =
-    (rs : List LineReply) × Talk m read unread [] rs × Appends had has (text_of rs) × IfSome read (λ _. IsAtEnd unread)
-Serves (Err Write) m read unread had has =
-    (rs : List LineReply) × Talk m read unread [] rs × (n : ℕ) × Appends had has (take n (text_of rs))
-Serves (Err e) m read unread had has =
-    (rs : List LineReply) × (rest : List ℕ) × (length (lines_in rest) ≤ 1) × Talk m read unread rest rs × Appends had has (text_of rs)
+abbrev pub Serves : Style → Result ⊤ ServeFault → Machine → (read unread had has : Option (List ℕ)) → Type 0
+Serves style (Ok done) m read unread had has =
+    (rs : List LineReply) × Talk m read unread [] rs × Appends had has (text_of style rs) × IfSome read (λ _. IsAtEnd unread)
+Serves style (Err Write) m read unread had has =
+    (rs : List LineReply) × Talk m read unread [] rs × (n : ℕ) × Appends had has (take n (text_of style rs))
+Serves style (Err e) m read unread had has =
+    (rs : List LineReply) × (rest : List ℕ) × (length (lines_in rest) ≤ 1) × Talk m read unread rest rs × Appends had has (text_of style rs)

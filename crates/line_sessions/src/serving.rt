@@ -11,7 +11,7 @@ ghost use Rattle.line_sessions.specs.Turns.{kept};
 use crate::answering::{Session, answer_line};
 use crate::fault::ServeFault;
 use line_io::{LineEnd, read_line};
-use scenario::MOST_STEP_BYTES;
+use scenario::{MOST_STEP_BYTES, Style};
 use std::alloc::Global;
 use std::io::{BufRead, ErrorKind, Write};
 use trace_stop::Settings;
@@ -39,6 +39,7 @@ fn next_line<R: BufRead>(reader: &mut R, line: &mut Vec<u8>) -> Result<Option<Li
 /// Answers each line of the reader by a line to the writer, to the reader's end, with `line` and `text` for a line's bytes and its answer.
 fn answer_all<R: BufRead, W: Write>(
     alloc: Global,
+    style: Style,
     session: &mut Session,
     line: &mut Vec<u8>,
     text: &mut String,
@@ -46,13 +47,13 @@ fn answer_all<R: BufRead, W: Write>(
     writer: &mut W,
 ) -> Result<(), ServeFault>
     requires { session.old.made ≡ replicate 64 0 }
-    ensures { Serves result session.old.host (R.Read.remaining reader.old) (R.Read.remaining reader.new) (W.contents writer.old) (W.contents writer.new) }
+    ensures { Serves style result session.old.host (R.Read.remaining reader.old) (R.Read.remaining reader.new) (W.contents writer.old) (W.contents writer.new) }
 {
     for _ in 0..u64::MAX {
         let Some(end) = next_line(reader, line)? else {
             return Ok(());
         };
-        answer_line(alloc, session, line.as_slice(), text, writer)?;
+        answer_line(alloc, style, session, line.as_slice(), text, writer)?;
         if let LineEnd::Input = end {
             return Ok(());
         }
@@ -61,8 +62,8 @@ fn answer_all<R: BufRead, W: Write>(
 }
 
 /// Answers each line of the reader by a line to the writer, to the reader's end: the steps are made by a host with these settings that
-/// nobody has used, and handlers answer by the policies that the lines install. A line's answer is written and flushed before the next
-/// line is read, and the memory that a line took is free by then.
+/// nobody has used, and handlers answer by the policies that the lines install. A line's answer is written in the style, and flushed before
+/// the next line is read, and the memory that a line took is free by then.
 ///
 /// # Errors
 ///
@@ -72,13 +73,22 @@ fn answer_all<R: BufRead, W: Write>(
 pub fn serve<R: BufRead, W: Write>(
     alloc: Global,
     settings: Settings,
+    style: Style,
     reader: &mut R,
     writer: &mut W,
 ) -> Result<(), ServeFault>
-    ensures { Serves result (empty settings) (R.Read.remaining reader.old) (R.Read.remaining reader.new) (W.contents writer.old) (W.contents writer.new) }
+    ensures { Serves style result (empty settings) (R.Read.remaining reader.old) (R.Read.remaining reader.new) (W.contents writer.old) (W.contents writer.new) }
 {
     let mut session = Session::new(alloc, settings)?;
     let mut line = Vec::new(alloc);
     let mut text = String::new(alloc);
-    answer_all(alloc, &mut session, &mut line, &mut text, reader, writer)
+    answer_all(
+        alloc,
+        style,
+        &mut session,
+        &mut line,
+        &mut text,
+        reader,
+        writer,
+    )
 }

@@ -1,4 +1,5 @@
 use crate::{ServeFault, serve};
+use scenario::Style;
 use std::io;
 use std::io::BufReader;
 use std::process::Abort;
@@ -61,7 +62,13 @@ impl io::Write for Full {
 fn lines_and_answers(rt: HostRuntime) -> Result<(), Fail> {
     let mut reader = LINES.as_bytes();
     let mut writer = Vec::new(rt.alloc());
-    serve(rt.alloc(), Settings::standard(), &mut reader, &mut writer)?;
+    serve(
+        rt.alloc(),
+        Settings::standard(),
+        Style::Words,
+        &mut reader,
+        &mut writer,
+    )?;
     assert_eq!(rt; writer.as_slice(), ANSWERS.as_bytes());
     Ok(())
 }
@@ -74,7 +81,13 @@ fn check_length<R: Abort + AllocGlobal>(rt: &R, length: usize, want: &str) -> Re
     line.push(b'\n')?;
     let mut reader = line.as_slice();
     let mut writer = Vec::new(rt.alloc());
-    serve(rt.alloc(), Settings::standard(), &mut reader, &mut writer)?;
+    serve(
+        rt.alloc(),
+        Settings::standard(),
+        Style::Words,
+        &mut reader,
+        &mut writer,
+    )?;
     assert!(rt; writer.as_slice() == want.as_bytes(), "at {length}");
     Ok(())
 }
@@ -90,7 +103,14 @@ fn longest_lines(rt: HostRuntime) -> Result<(), Fail> {
 fn readers_that_fail(rt: HostRuntime) -> Result<(), Fail> {
     let mut reader = BufReader::new(rt.alloc(), Broken(LINES.as_bytes()))?;
     let mut writer = Vec::new(rt.alloc());
-    let ended = serve(rt.alloc(), Settings::standard(), &mut reader, &mut writer).err();
+    let ended = serve(
+        rt.alloc(),
+        Settings::standard(),
+        Style::Words,
+        &mut reader,
+        &mut writer,
+    )
+    .err();
     assert_eq!(rt; ended, Some(ServeFault::Read));
     let before = ANSWERS.len() - "1001 3 pids 1000\n".len();
     assert_eq!(rt; Some(writer.as_slice()), ANSWERS.as_bytes().get(..before));
@@ -104,7 +124,14 @@ fn check_room<R: Abort + AllocGlobal>(rt: &R, room: usize) -> Result<(), Fail> {
         taken: Vec::new(rt.alloc()),
         room,
     };
-    let ended = serve(rt.alloc(), Settings::standard(), &mut reader, &mut writer).err();
+    let ended = serve(
+        rt.alloc(),
+        Settings::standard(),
+        Style::Words,
+        &mut reader,
+        &mut writer,
+    )
+    .err();
     let want = if room < ANSWERS.len() {
         Some(ServeFault::Write)
     } else {

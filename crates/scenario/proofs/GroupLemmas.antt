@@ -16,6 +16,7 @@ use Rattle.requests.specs.View.{alone}
 use Rattle.visibility.proofs.Apart.{own_list_law, empty_apart}
 use Rattle.scenario.specs.Lines.{Answered, Line, line, lines, lines_after, lines_of, text, text_of, grouped}
 use Rattle.scenario.specs.Plan.{Plan}
+use Rattle.scenario.specs.declared.style.Style.{Style}
 use Rattle.scenario.specs.Runs.{answers_by, by_users, answers_of, paired, shown, shown_grouped}
 use Rattle.scenario.proofs.LineLemmas.{replies_to, counted_one}
 
@@ -27,31 +28,31 @@ counted_other : (u user : ℕ) (before : List ℕ) → (u == user) ≡ false →
 counted_other u user before other = let more = counted_one u user before false other in omega (arith, more)
 
 -- a user's lines number only the user's own answers
-own_line : (u : ℕ) (before others : List ℕ) (a : Answered) (rest : List Answered) (b : Bool) → (a.uid == u) ≡ b → replies_to u before ≡ replies_to u others
-    → ((before others : List ℕ) → replies_to u before ≡ replies_to u others → lines_of u (lines_after before rest) ≡ lines_after others (answers_by u rest))
-    → cond b (line (replies_to a.uid before + 1) a ∷ lines_of u (lines_after (a.uid ∷ before) rest)) (lines_of u (lines_after (a.uid ∷ before) rest))
-    ≡ lines_after others (cond b (a ∷ answers_by u rest) (answers_by u rest))
-own_line u before others a rest true is same later =
+own_line : (style : Style) (u : ℕ) (before others : List ℕ) (a : Answered) (rest : List Answered) (b : Bool) → (a.uid == u) ≡ b → replies_to u before ≡ replies_to u others
+    → ((before others : List ℕ) → replies_to u before ≡ replies_to u others → lines_of u (lines_after style before rest) ≡ lines_after style others (answers_by u rest))
+    → cond b (line style (replies_to a.uid before + 1) a ∷ lines_of u (lines_after style (a.uid ∷ before) rest)) (lines_of u (lines_after style (a.uid ∷ before) rest))
+    ≡ lines_after style others (cond b (a ∷ answers_by u rest) (answers_by u rest))
+own_line style u before others a rest true is same later =
     let number = ap (λ v. replies_to v before) (eqb-true a.uid u is) ∙ same ∙ ap (λ v. replies_to v others) (sym (eqb-true a.uid u is)) in
     let more = counted_one a.uid u before true is ∙ ap (λ n. 1 + n) same ∙ sym (counted_one a.uid u others true is) in
-    ap₂ (λ (n : ℕ) (ls : List Line). line (n + 1) a ∷ ls) number (later (a.uid ∷ before) (a.uid ∷ others) more)
-own_line u before others a rest false is same later =
+    ap₂ (λ (n : ℕ) (ls : List Line). line style (n + 1) a ∷ ls) number (later (a.uid ∷ before) (a.uid ∷ others) more)
+own_line style u before others a rest false is same later =
     later (a.uid ∷ before) others (counted_other a.uid u before is ∙ same)
 
-pub own_lines : (u : ℕ) (before others : List ℕ) (answers : List Answered) → replies_to u before ≡ replies_to u others
-    → lines_of u (lines_after before answers) ≡ lines_after others (answers_by u answers)
-own_lines u before others [] same = refl
-own_lines u before others (a ∷ rest) same =
-    own_line u before others a rest (a.uid == u) refl same (λ before others same. own_lines u before others rest same)
+pub own_lines : (style : Style) (u : ℕ) (before others : List ℕ) (answers : List Answered) → replies_to u before ≡ replies_to u others
+    → lines_of u (lines_after style before answers) ≡ lines_after style others (answers_by u answers)
+own_lines style u before others [] same = refl
+own_lines style u before others (a ∷ rest) same =
+    own_line style u before others a rest (a.uid == u) refl same (λ before others same. own_lines style u before others rest same)
 
 -- the users of the answers before, after more of them
 abbrev pub users_after : List ℕ → List Answered → List ℕ
 users_after before [] = before
 users_after before (a ∷ rest) = users_after (a.uid ∷ before) rest
 
-lines_append : (before : List ℕ) (xs ys : List Answered) → lines_after before (xs ++ ys) ≡ lines_after before xs ++ lines_after (users_after before xs) ys
-lines_append before [] ys = refl
-lines_append before (a ∷ rest) ys = ap (λ ls. line (replies_to a.uid before + 1) a ∷ ls) (lines_append (a.uid ∷ before) rest ys)
+lines_append : (style : Style) (before : List ℕ) (xs ys : List Answered) → lines_after style before (xs ++ ys) ≡ lines_after style before xs ++ lines_after style (users_after before xs) ys
+lines_append style before [] ys = refl
+lines_append style before (a ∷ rest) ys = ap (λ ls. line style (replies_to a.uid before + 1) a ∷ ls) (lines_append style (a.uid ∷ before) rest ys)
 
 text_append : (xs ys : List Line) → text_of (xs ++ ys) ≡ text_of xs ++ text_of ys
 text_append [] ys = refl
@@ -72,23 +73,23 @@ other_counts u w before [] above = refl
 other_counts u w before (a ∷ rest) above = other_count u w before a rest (a.uid == u) refl above (λ before. other_counts u w before rest above)
 
 -- users one after another, none of whom has answers before
-abbrev pub lines_by_users : List ℕ → List Answered → List ℕ
-lines_by_users us answers = concat (map (λ u. text_of (lines_of u (lines answers))) us)
+abbrev pub lines_by_users : Style → List ℕ → List Answered → List ℕ
+lines_by_users style us answers = concat (map (λ u. text_of (lines_of u (lines style answers))) us)
 
-grouped_from : (n m : ℕ) (before : List ℕ) (answers : List Answered) → ((w : ℕ) → m ≤ w → replies_to w before ≡ 0)
-    → text_of (lines_after before (by_users (rising n m) answers)) ≡ lines_by_users (rising n m) answers
-grouped_from zero m before answers none = refl
-grouped_from (suc n) m before answers none =
+grouped_from : (style : Style) (n m : ℕ) (before : List ℕ) (answers : List Answered) → ((w : ℕ) → m ≤ w → replies_to w before ≡ 0)
+    → text_of (lines_after style before (by_users (rising n m) answers)) ≡ lines_by_users style (rising n m) answers
+grouped_from style zero m before answers none = refl
+grouped_from style (suc n) m before answers none =
     let own = answers_by m answers in
     let rest = by_users (rising n (m + 1)) answers in
     let fresh : replies_to m before ≡ 0 = none m (omega arith) in
     let later : (w : ℕ) → m + 1 ≤ w → replies_to w (users_after before own) ≡ 0 = λ w above. other_counts m w before answers (omega arith) ∙ none w (omega arith) in
-    ap text_of (lines_append before own rest)
-    ∙ text_append (lines_after before own) (lines_after (users_after before own) rest)
-    ∙ ap₂ (λ (xs ys : List ℕ). xs ++ ys) (ap text_of (sym (own_lines m [] before answers (sym fresh)))) (grouped_from n (m + 1) (users_after before own) answers later)
+    ap text_of (lines_append style before own rest)
+    ∙ text_append (lines_after style before own) (lines_after style (users_after before own) rest)
+    ∙ ap₂ (λ (xs ys : List ℕ). xs ++ ys) (ap text_of (sym (own_lines style m [] before answers (sym fresh)))) (grouped_from style n (m + 1) (users_after before own) answers later)
 
-pub grouped_text : (answers : List Answered) → text (by_users users answers) ≡ grouped answers
-grouped_text answers = grouped_from 64 1001 [] answers (λ w above. refl)
+pub grouped_text : (style : Style) (answers : List Answered) → text style (by_users users answers) ≡ grouped style answers
+grouped_text style answers = grouped_from style 64 1001 [] answers (λ w above. refl)
 
 -- a user's answers among those of some users
 own_again : (u : ℕ) (answers : List Answered) → answers_by u (answers_by u answers) ≡ answers_by u answers
@@ -147,10 +148,10 @@ own_of_users u answers known = among (cases_lt u 1001) (cases_lt u (1001 + 64))
     among (inr start) (inr above) = none_outside 64 1001 u answers (inr above) ∙ sym (no_user u answers known (inr above))
 
 -- what is shown of the answers of all users, one user after another
-pub shown_by_users : (user : Option ℕ) (answers : List Answered) → ToUsers answers → shown user (by_users users answers) ≡ shown_grouped user answers
-shown_by_users None answers known = grouped_text answers
-shown_by_users (Some u) answers known =
-    ap text_of (own_lines u [] [] (by_users users answers) refl ∙ ap lines (own_of_users u answers known) ∙ sym (own_lines u [] [] answers refl))
+pub shown_by_users : (style : Style) (user : Option ℕ) (answers : List Answered) → ToUsers answers → shown style user (by_users users answers) ≡ shown_grouped style user answers
+shown_by_users style None answers known = grouped_text style answers
+shown_by_users style (Some u) answers known =
+    ap text_of (own_lines style u [] [] (by_users users answers) refl ∙ ap (lines style) (own_of_users u answers known) ∙ sym (own_lines style u [] [] answers refl))
 
 -- the answers of one user in a list of all users' answers
 own_answer : (u : ℕ) (x : Asked) (r : Reply) (xs : List Asked) (rs : List Reply) (b : Bool) → (x.uid == u) ≡ b → answers_by u (paired xs rs) ≡ told_to u (replies_of u xs rs)
@@ -176,5 +177,5 @@ users_answered (x ∷ xs) [] all = tt
 users_answered (x ∷ xs) (r ∷ rs) all = (all.0, users_answered xs rs all.1)
 
 -- so of a whole run
-pub shown_plan : (user : Option ℕ) (plan : Plan) → Users plan.steps → shown user (by_users users (answers_of plan)) ≡ shown_grouped user (answers_of plan)
-shown_plan user plan all = shown_by_users user (answers_of plan) (users_answered plan.steps (replies plan.steps (empty plan.settings)) all)
+pub shown_plan : (style : Style) (user : Option ℕ) (plan : Plan) → Users plan.steps → shown style user (by_users users (answers_of plan)) ≡ shown_grouped style user (answers_of plan)
+shown_plan style user plan all = shown_by_users style user (answers_of plan) (users_answered plan.steps (replies plan.steps (empty plan.settings)) all)

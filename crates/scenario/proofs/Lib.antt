@@ -3,7 +3,6 @@ pub mod BindLemmas
 pub mod RuleLemmas
 pub mod StepLemmas
 pub mod Answering
-pub mod Joins
 pub mod WriteLemmas
 pub mod LineLemmas
 pub mod GroupLemmas

@@ -8,6 +8,7 @@ use Rattle.std.proofs.lemmas.Bool.Decides.{nat_tests}
 use Rattle.requests.specs.declared.Reply.{Reply}
 use Rattle.scenario.specs.Lines.{Answered, Line, line, lines_after, lines_of, text_of}
 use Rattle.scenario.specs.Runs.{answered, shown}
+use Rattle.scenario.specs.declared.style.Style.{Style}
 use Rattle.scenario.specs.Shown.{shown_line}
 
 -- how many replies went to the user
@@ -68,12 +69,12 @@ shown_lines None list = text_of list
 shown_lines (Some user) list = text_of (lines_of user list)
 
 -- what is shown of the answers after others
-abbrev pub shown_after : Option ℕ → List ℕ → List Answered → List ℕ
-shown_after user before answers = shown_lines user (lines_after before answers)
+abbrev pub shown_after : Style → Option ℕ → List ℕ → List Answered → List ℕ
+shown_after style user before answers = shown_lines user (lines_after style before answers)
 
-pub shown_whole : (user : Option ℕ) (answers : List Answered) → shown_after user [] answers ≡ shown user answers
-shown_whole None answers = refl
-shown_whole (Some user) answers = refl
+pub shown_whole : (style : Style) (user : Option ℕ) (answers : List Answered) → shown_after style user [] answers ≡ shown style user answers
+shown_whole style None answers = refl
+shown_whole style (Some user) answers = refl
 
 first_of_one : (user : ℕ) (l : Line) (list : List Line) (b : Bool) → (l.uid == user) ≡ b → shown_lines (Some user) (l ∷ list) ≡ shown_line (Some user) l ++ shown_lines (Some user) list
 first_of_one user l list true is = rw is refl
@@ -84,15 +85,15 @@ first_line None l list = refl
 first_line (Some user) l list = first_of_one user l list _ refl
 
 -- after one more line, the text so far and the lines to come are still the whole text
-pub text_more : (user : Option ℕ) (es : List (ℕ × Reply)) (i : ℕ) (e : ℕ × Reply) (before : List ℕ) (number : ℕ) (old new all : List ℕ) → i < length es → get_or es i e ≡ e
-    → number ≡ replies_to e.0 before + 1 → new ≡ old ++ shown_line user (line number (answered e))
-    → old ++ shown_after user before (map answered (drop i es)) ≡ all
-    → new ++ shown_after user (e.0 ∷ before) (map answered (drop (i + 1) es)) ≡ all
-text_more user es i e before number old new all h here number_is new_is whole =
-    let rest = lines_after (e.0 ∷ before) (map answered (drop (i + 1) es)) in
-    let next : shown_after user before (map answered (drop i es)) ≡ shown_line user (line (replies_to e.0 before + 1) (answered e)) ++ shown_lines user rest =
-    at_drop_more (λ xs. shown_after user before (map answered xs)) es i e h
-    ∙ ap (λ (x : ℕ × Reply). shown_after user before (answered x ∷ map answered (drop (i + 1) es))) here
-    ∙ first_line user (line (replies_to e.0 before + 1) (answered e)) rest in
-    ap (λ xs. xs ++ shown_lines user rest) new_is ∙ append_assoc old (shown_line user (line number (answered e))) (shown_lines user rest)
-    ∙ ap (λ n. old ++ (shown_line user (line n (answered e)) ++ shown_lines user rest)) number_is ∙ ap (λ xs. old ++ xs) (sym next) ∙ whole
+pub text_more : (style : Style) (user : Option ℕ) (es : List (ℕ × Reply)) (i : ℕ) (e : ℕ × Reply) (before : List ℕ) (number : ℕ) (old new all : List ℕ) → i < length es → get_or es i e ≡ e
+    → number ≡ replies_to e.0 before + 1 → new ≡ old ++ shown_line user (line style number (answered e))
+    → old ++ shown_after style user before (map answered (drop i es)) ≡ all
+    → new ++ shown_after style user (e.0 ∷ before) (map answered (drop (i + 1) es)) ≡ all
+text_more style user es i e before number old new all h here number_is new_is whole =
+    let rest = lines_after style (e.0 ∷ before) (map answered (drop (i + 1) es)) in
+    let next : shown_after style user before (map answered (drop i es)) ≡ shown_line user (line style (replies_to e.0 before + 1) (answered e)) ++ shown_lines user rest =
+    at_drop_more (λ xs. shown_after style user before (map answered xs)) es i e h
+    ∙ ap (λ (x : ℕ × Reply). shown_after style user before (answered x ∷ map answered (drop (i + 1) es))) here
+    ∙ first_line user (line style (replies_to e.0 before + 1) (answered e)) rest in
+    ap (λ xs. xs ++ shown_lines user rest) new_is ∙ append_assoc old (shown_line user (line style number (answered e))) (shown_lines user rest)
+    ∙ ap (λ n. old ++ (shown_line user (line style n (answered e)) ++ shown_lines user rest)) number_is ∙ ap (λ xs. old ++ xs) (sym next) ∙ whole

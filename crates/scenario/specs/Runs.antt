@@ -9,20 +9,21 @@ use Rattle.scenario.specs.declared.running.RunFault.{RunFault}
 use Rattle.scenario.specs.declared.running.RunFault.TheVariants.{Mismatch, Memory, Start, Write}
 use Rattle.scenario.specs.Lines.{Answered, text, text_of, grouped, lines, lines_of}
 use Rattle.scenario.specs.Plan.{Plan}
+use Rattle.scenario.specs.declared.style.Style.{Style}
 
 -- a reply to a user
 abbrev pub answered : ℕ × Reply → Answered
 answered r = record { uid = r.0; reply = r.1 }
 
 -- the text of all, or of one user; the numbers of the lines stay
-abbrev pub shown : Option ℕ → List Answered → List ℕ
-shown None answers = text answers
-shown (Some user) answers = text_of (lines_of user (lines answers))
+abbrev pub shown : Style → Option ℕ → List Answered → List ℕ
+shown style None answers = text style answers
+shown style (Some user) answers = text_of (lines_of user (lines style answers))
 
 -- the same, grouped by rising user
-abbrev pub shown_grouped : Option ℕ → List Answered → List ℕ
-shown_grouped None answers = grouped answers
-shown_grouped (Some user) answers = shown (Some user) answers
+abbrev pub shown_grouped : Style → Option ℕ → List Answered → List ℕ
+shown_grouped style None answers = grouped style answers
+shown_grouped style (Some user) answers = shown style (Some user) answers
 
 -- a user's answers, in order, and those of some users, one user after another
 abbrev pub answers_by : ℕ → List Answered → List Answered

@@ -2,43 +2,80 @@
 ghost use Rattle.std.specs.Prelude.{◌≡◌, ◌+◌, ◌-◌, ◌^◌, ◌<◌, ◌≤◌, ◌++◌, ◌==◌, ℕ, map, Option, IfOk, OnOk, string_bytes, slice_index, slice_set};
 ghost use Rattle.pid_blocks.specs.Blocks.{slot};
 ghost use Rattle.scenario.specs.Lines.{line};
+ghost use Rattle.scenario.specs.declared.style.Style.TheVariants as style;
 ghost use Rattle.scenario.specs.Runs.{answered, shown};
 ghost use Rattle.scenario.specs.Shown.{shown_line};
 
 use crate::plan::USERS;
-use crate::words::Words;
+use crate::running::RunOptions;
+use crate::style::Style;
 use pid_blocks::Uid;
+use reply_json::reply_json;
 use requests::Reply;
 use std::alloc::{AllocError, Global};
 
-/// Adds the line of a reply that is its user's with this number.
-pub fn push_line(text: &mut String, uid: Uid, number: u64, reply: &Reply) -> Result<(), AllocError>
+/// Adds the line of a reply in words.
+fn push_words(text: &mut String, uid: Uid, number: u64, reply: &Reply) -> Result<(), AllocError>
     ensures { OnOk result (string_bytes text.new
-        ≡ string_bytes text.old ++ (line number (answered (uid, reply.now))).text) }
+        ≡ string_bytes text.old ++ (line style.Words number (answered (uid, reply.now))).text) }
 {
     let uid = uid.get();
-    let words = Words(reply);
-    writeln!(text, "{uid} {number} {words}")?;
+    writeln!(text, "{uid} {number} {reply}")?;
     Ok(())
 }
 
-/// Adds the line of a reply, where it is to be shown.
-fn push_shown(
+/// Adds the line of a reply as a JSON object.
+fn push_object(
+    alloc: Global,
     text: &mut String,
-    user: &Option<Uid>,
     uid: Uid,
     number: u64,
     reply: &Reply,
 ) -> Result<(), AllocError>
     ensures { OnOk result (string_bytes text.new
-        ≡ string_bytes text.old ++ shown_line user.now (line number (answered (uid, reply.now)))) }
+        ≡ string_bytes text.old ++ (line style.Json number (answered (uid, reply.now))).text) }
 {
-    let is_shown = match user {
-        Some(user) => uid == *user,
+    let object = reply_json(alloc, uid, number, reply)?;
+    writeln!(text, "{object}")?;
+    Ok(())
+}
+
+/// Adds the line of a reply that is its user's with this number.
+pub fn push_line(
+    alloc: Global,
+    style: Style,
+    text: &mut String,
+    uid: Uid,
+    number: u64,
+    reply: &Reply,
+) -> Result<(), AllocError>
+    ensures { OnOk result (string_bytes text.new
+        ≡ string_bytes text.old ++ (line style number (answered (uid, reply.now))).text) }
+{
+    match style {
+        Style::Words => push_words(text, uid, number, reply),
+        Style::Json => push_object(alloc, text, uid, number, reply),
+    }
+}
+
+/// Adds the line of a reply, where it is to be shown.
+fn push_shown(
+    alloc: Global,
+    options: &RunOptions,
+    text: &mut String,
+    uid: Uid,
+    number: u64,
+    reply: &Reply,
+) -> Result<(), AllocError>
+    ensures { OnOk result (string_bytes text.new
+        ≡ string_bytes text.old ++ shown_line options.now.user (line options.now.style number (answered (uid, reply.now)))) }
+{
+    let is_shown = match options.user {
+        Some(user) => uid == user,
         None => true,
     };
     if is_shown {
-        push_line(text, uid, number, reply)?;
+        push_line(alloc, options.style, text, uid, number, reply)?;
     }
     Ok(())
 }
@@ -61,15 +98,15 @@ pub fn count_reply(made: &mut [u64; USERS], uid: Uid) -> u64
 pub fn render(
     alloc: Global,
     replies: &[(Uid, Reply)],
-    user: Option<Uid>,
+    options: RunOptions,
 ) -> Result<String, AllocError>
-    ensures { IfOk result (λ s. string_bytes s ≡ shown user (map answered replies.now)) }
+    ensures { IfOk result (λ s. string_bytes s ≡ shown options.style options.user (map answered replies.now)) }
 {
     let mut text = String::new(alloc);
     let mut made = [0u64; USERS];
     for reply in replies {
         let number = count_reply(&mut made, reply.0);
-        push_shown(&mut text, &user, reply.0, number, &reply.1)?;
+        push_shown(alloc, &options, &mut text, reply.0, number, &reply.1)?;
     }
     Ok(text)
 }

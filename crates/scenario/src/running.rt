@@ -11,6 +11,7 @@ use crate::binding::bind;
 use crate::lines::render;
 use crate::plan::Scenario;
 use crate::retrying::write_some;
+use crate::style::Style;
 use pid_blocks::Uid;
 use requests::{Host, Reply, Step};
 use std::alloc::{AllocError, AllocFailed, Global};
@@ -140,10 +141,10 @@ pub(crate) fn write_lines<W: Write>(
     options: RunOptions,
     writer: &mut W,
 ) -> Result<(), RunFault>
-    ensures writes { Writes result (W.contents writer.old) (W.contents writer.new) (shown options.user (map answered replies.now)) }
+    ensures writes { Writes result (W.contents writer.old) (W.contents writer.new) (shown options.style options.user (map answered replies.now)) }
     ensures kind { IfErr result (λ e. (e ≡ Memory) ⊎ (e ≡ WriteFault)) }
 {
-    let text = render(alloc, replies, options.user)?;
+    let text = render(alloc, replies, options)?;
     write_whole(writer, text.as_bytes())
 }
 
@@ -152,6 +153,8 @@ pub(crate) fn write_lines<W: Write>(
 pub struct RunOptions {
     /// The user whose lines alone are shown. The numbers of the lines stay.
     pub user: Option<Uid>,
+    /// How the lines are written.
+    pub style: Style,
 }
 
 /// Makes the steps of the scenario one after another on a new host, with a handler for each policy that is installed, and then
@@ -169,7 +172,7 @@ pub fn run<F: Decider + Send + Drop, W: Write>(
     writer: &mut W,
 ) -> Result<(), RunFault>
     ensures writes { Writes result (W.contents writer.old) (W.contents writer.new)
-        (shown options.user (answers_of scenario.now)) }
+        (shown options.style options.user (answers_of scenario.now)) }
     ensures mismatch { IsErrOf result Mismatch ↔ (handlers.items ≢ policies_in scenario.now.steps) }
     ensures start { IfErr result (λ e. e ≢ Start) }
 {

@@ -152,7 +152,7 @@ pub fn run_threads<F: Decider + Send + Drop, W: Write, R: Threads + Wait + Sync>
     writer: &mut W,
 ) -> Result<(), RunFault>
     ensures writes { Writes result (W.contents writer.old) (W.contents writer.new)
-        (shown_grouped options.user (answers_of scenario.now)) }
+        (shown_grouped options.style options.user (answers_of scenario.now)) }
     ensures mismatch { IsErrOf result Mismatch ↔ (handlers.items ≢ policies_in scenario.now.steps) }
 {
     let steps = bind(alloc, scenario, handlers)?;

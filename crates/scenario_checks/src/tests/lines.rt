@@ -2,7 +2,7 @@ use event_masks::{EventMask, StopFlags};
 use lwpinfo::NumList;
 use pid_blocks::{Errno, Pid, Tid, Uid};
 use requests::Reply;
-use scenario::render;
+use scenario::{RunOptions, Style, render};
 use signals::Signal;
 use std::process::Abort;
 use std::test::Fail;
@@ -11,7 +11,11 @@ use std::test::Fail;
 fn check<R: Abort + AllocGlobal>(rt: &R, reply: Reply, want: &str) -> Result<(), Fail> {
     let mut replies = Vec::new(rt.alloc());
     replies.push((Uid::new(1001)?, reply))?;
-    let found = render(rt.alloc(), replies.as_slice(), None)?;
+    let options = RunOptions {
+        user: None,
+        style: Style::Words,
+    };
+    let found = render(rt.alloc(), replies.as_slice(), options)?;
     assert!(rt; found.as_str() == want, "{found}");
     Ok(())
 }
@@ -65,7 +69,11 @@ fn lines_of_one_user(rt: HostRuntime) -> Result<(), Fail> {
         (Some(second), "1002 1 new 2000 104000\n"),
         (Some(Uid::new(1064)?), ""),
     ] {
-        let found = render(alloc, replies.as_slice(), user)?;
+        let options = RunOptions {
+            user,
+            style: Style::Words,
+        };
+        let found = render(alloc, replies.as_slice(), options)?;
         assert!(rt; found.as_str() == want, "{found}");
     }
     Ok(())

@@ -1,5 +1,5 @@
 use super::{ITS_LINES, SPAWN_AND_LIST};
-use scenario::{Fault, RunOptions, read, run};
+use scenario::{Fault, RunOptions, Style, read, run};
 use std::io;
 use std::test::Fail;
 use stop_handlers::{ByPolicy, Handler};
@@ -67,7 +67,10 @@ fn a_reader_that_is_interrupted(rt: HostRuntime) -> Result<(), Fail> {
         alloc,
         &scenario,
         handlers,
-        RunOptions { user: None },
+        RunOptions {
+            user: None,
+            style: Style::Words,
+        },
         &mut lines,
     )?;
     assert!(rt; lines.as_slice() == ITS_LINES.as_bytes());

@@ -1,5 +1,5 @@
 use super::{ITS_LINES, ITS_LINES_BY_USER, SPAWN_AND_LIST};
-use scenario::{RunFault, RunOptions, parse, run, run_threads};
+use scenario::{RunFault, RunOptions, Style, parse, run, run_threads};
 use std::io;
 use std::process::Abort;
 use std::sync::Wait;
@@ -58,7 +58,10 @@ fn check<R: Abort + Threads + Wait + Sync + AllocGlobal>(
     };
     let scenario = parse(alloc, SPAWN_AND_LIST.as_bytes())?;
     let handlers: Vec<Handler<ByPolicy>> = Vec::new(alloc);
-    let options = RunOptions { user: None };
+    let options = RunOptions {
+        user: None,
+        style: Style::Words,
+    };
     let (ended, lines) = if threads {
         let ended = run_threads(rt, alloc, &scenario, handlers, options, &mut writer);
         (ended, ITS_LINES_BY_USER)

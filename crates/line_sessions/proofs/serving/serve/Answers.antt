@@ -4,7 +4,7 @@ use Rattle.line_sessions.proofs.TalkLemmas.{begins_not}
 use Rattle.line_sessions.proofs.serving.serve.Goals as goal
 
 pub returns-in_err-session : goal.returns-in_err-session
-returns-in_err-session g c = serves_by _ _ _ _ _ _ Memory c.from_residual.ensures.1 (begins_not _ _ _)
+returns-in_err-session g c = serves_by _ _ _ _ _ _ _ Memory c.from_residual.ensures.1 (begins_not _ _ _ _)
 
 pub returns : goal.returns
-returns g c = serves_from _ _ _ _ _ _ _ c.in_ok-session.ensures.host c.answer_all.ensures
+returns g c = serves_from _ _ _ _ _ _ _ _ c.in_ok-session.ensures.host c.answer_all.ensures

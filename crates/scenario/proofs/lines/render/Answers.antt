@@ -8,7 +8,7 @@ loop-reply-init c = record {
   before = [];
   few = refl;
   counted = counted_start;
-  text = ap (λ text. text ++ shown_after c.args.user [] (map answered c.args.replies.now)) c.new-text.ensures.bytes ∙ shown_whole c.args.user (map answered c.args.replies.now);
+  text = ap (λ text. text ++ shown_after c.args.options.style c.args.options.user [] (map answered c.args.replies.now)) c.new-text.ensures.bytes ∙ shown_whole c.args.options.style c.args.options.user (map answered c.args.replies.now);
 }
 
 pub count_reply-number-requires : goal.count_reply-number-requires
@@ -30,7 +30,7 @@ loop-reply-preserved c =
       before = e.0 ∷ before;
       few = let few = c.loop-reply.invariant.few in omega arith;
       counted = rw (c.count_reply-number.ensures.after, c.count_reply-number.ensures.number) (counted_more made before e.0 range.0 range.1 counted);
-      text = text_more c.args.user es i e before c.count_reply-number.result _ _ _ c.loop-reply-test.true here
+      text = text_more c.args.options.style c.args.options.user es i e before c.count_reply-number.result _ _ _ c.loop-reply-test.true here
           (c.count_reply-number.ensures.number ∙ ap (λ n. n + 1) (counted_number made before e.0 range.0 range.1 counted))
           (search rules) c.loop-reply.invariant.text;
     }

@@ -9,5 +9,5 @@ invariant-loop-reply l = record {
   before : List ℕ;
   few : length before ≡ l.reply-index;
   counted : Counted l.made before;
-  text : string_bytes l.text ++ shown_after l.user before (map answered (drop l.reply-index l.replies)) ≡ shown l.user (map answered l.replies);
+  text : string_bytes l.text ++ shown_after l.options.style l.options.user before (map answered (drop l.reply-index l.replies)) ≡ shown l.options.style l.options.user (map answered l.replies);
 }

@@ -10,11 +10,12 @@ use Rattle.scenario.proofs.threading.run_threads.Goals as goal
 pub returns-clause-writes : goal.returns-clause-writes
 returns-clause-writes g c =
     let plan = c.args.scenario.now in
+    let style = c.args.options.style in
     let user = c.args.options.user in
     let steps = c.in_ok-steps.ensures.ok in
     let all : Users plan.steps = subst Users steps c.in_ok-replies.ensures.users in
     let answers : map answered c.as_slice.result.now ≡ by_users users (answers_of plan) =
     ap (map answered) c.as_slice.ensures.value ∙ c.in_ok-replies.ensures.ok
     ∙ ap₂ (λ (settings : Settings) (xs : List Asked). by_users users (answers_of (record { settings = settings; steps = xs }))) c.settings.ensures steps in
-    let text = ap (shown user) answers ∙ shown_plan user plan all in
+    let text = ap (shown style user) answers ∙ shown_plan style user plan all in
     subst (Writes c.write_lines.result (g.W.Write.contents c.args.writer.now) (g.W.Write.contents c.write_lines.new.writer)) text c.write_lines.ensures.writes

@@ -16,6 +16,6 @@ returns-clause-ok c =
       done,
       (
         count.after ∙ ap (slice_set made (uid - 1001)) count.number,
-        c.in_ok-push_line.ensures ∙ ap (λ n. string_bytes c.args.text.now ++ (line n (record { uid = uid; reply = reply })).text) count.number,
+        c.in_ok-push_line.ensures ∙ ap (λ n. string_bytes c.args.text.now ++ (line c.args.style n (record { uid = uid; reply = reply })).text) count.number,
       ),
     )

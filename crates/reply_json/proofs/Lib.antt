@@ -1,0 +1,3 @@
+pub mod SignalLemmas
+pub mod TokenLemmas
+pub mod DepthLemmas

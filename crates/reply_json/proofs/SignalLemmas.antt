@@ -1,0 +1,29 @@
+-- No signal has a number outside 1 to 31.
+use Rattle.std.proofs.Common.{◌≡◌, ◌≢◌, ◌⊎◌, ℕ, ◌<◌, ◌≤◌, ◌==◌, Bool, true, List, [], ◌∷◌, find, Option, None, refl, ap, arith, inl, inr}
+use Rattle.std.specs.Prelude.{◌&&◌}
+use Rattle.std.specs.Option.{option_map_or}
+use Rattle.std.proofs.lemmas.Bool.{ne_eqb, leb-true, and_parts}
+use Rattle.signals.specs.Names.{Row, table, signal_name}
+use Rattle.signals.specs.Table.{is_signal}
+
+-- each row has a signal's number
+abbrev all_signals : List Row → Bool
+all_signals [] = true
+all_signals (r ∷ rows) = is_signal r.number && all_signals rows
+
+none_outside : (rows : List Row) (n : ℕ) → all_signals rows ≡ true → (n < 1) ⊎ (31 < n) → find (λ r. r.number == n) rows ≡ None
+none_outside [] n h out = refl
+none_outside (r ∷ rows) n h out =
+    let parts = and_parts _ _ h in
+    let range = and_parts _ _ parts.0 in
+    let low = leb-true 1 r.number range.0 in
+    let high = leb-true r.number 31 range.1 in
+    rw (ne_eqb r.number n (differs r.number low high out)) (none_outside rows n parts.1 out)
+  where
+    differs : (m : ℕ) → 1 ≤ m → m ≤ 31 → (n < 1) ⊎ (31 < n) → m ≢ n
+    differs m low high (inl below) = λ same. omega arith
+    differs m low high (inr above) = λ same. omega arith
+
+pub no_name : (n : ℕ) → (n < 1) ⊎ (31 < n) → signal_name n ≡ []
+unfolding table
+no_name n out = ap (λ (o : Option Row). option_map_or (λ r. r.name) o []) (none_outside table n refl out)

@@ -1,0 +1,10 @@
+use Rattle.std.proofs.Common.{rules, true, [], ◌∷◌, codes}
+use Rattle.json.specs.Token.{key, boolean}
+use Rattle.reply_json.proofs.TokenLemmas.{tokens_put}
+use Rattle.reply_json.proofs.statuses.push_continued.Goals as goal
+
+pub returns : goal.returns
+returns c = (
+  search rules,
+  tokens_put _ (key (codes "continued") ∷ []) (boolean true ∷ []) c.args.out.now.tokens c.key.new.self.tokens c.boolean.new.self.tokens c.in_ok-key.ensures.ok c.boolean.ensures.ok,
+)

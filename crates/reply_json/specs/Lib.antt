@@ -1,0 +1,3 @@
+pub mod Objects
+pub mod Replies
+pub mod Example

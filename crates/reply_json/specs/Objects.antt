@@ -1,0 +1,47 @@
+-- JSON objects by the lists of their members, and the text of a value.
+use Rattle.std.specs.Prelude.{◌≡◌, ℕ, List, [], ◌∷◌, ◌++◌, map, decimal, OnOk, Result}
+use Rattle.json.specs.Json.{Json, number, string, array, object, Members, no_members, member}
+use Rattle.json.specs.Print.{print}
+use Rattle.json.specs.Token.{Token, key}
+use Rattle.json.specs.Tree.{json_tokens}
+use Rattle.json.specs.Value.{items_of}
+use Rattle.json.specs.Written.{Written}
+
+-- a member: its name and its value
+abbrev pub Member : Type 0
+Member = List ℕ × Json
+
+abbrev pub members_of : List Member → Members
+members_of [] = no_members
+members_of (m ∷ ms) = member m.0 m.1 (members_of ms)
+
+abbrev pub object_of : List Member → Json
+object_of ms = object (members_of ms)
+
+abbrev pub natural : ℕ → Json
+natural n = number (decimal n)
+
+abbrev pub numbers_of : List ℕ → Json
+numbers_of ns = array (items_of (map (λ n. natural n) ns))
+
+abbrev pub strings_of : List (List ℕ) → Json
+strings_of texts = array (items_of (map (λ text. string text) texts))
+
+-- the text of a value: its tokens, printed without a space
+abbrev pub json_text : Json → List ℕ
+json_text j = print (json_tokens j)
+
+-- ---- what a writer gets
+
+-- the tokens of values, and of members, one after another
+abbrev pub value_tokens : List Json → List Token
+value_tokens [] = []
+value_tokens (j ∷ js) = json_tokens j ++ value_tokens js
+
+abbrev pub member_tokens : List Member → List Token
+member_tokens [] = []
+member_tokens (m ∷ ms) = key m.0 ∷ (json_tokens m.1 ++ member_tokens ms)
+
+-- the writer has got these tokens behind those that it had
+abbrev pub Puts : {E : Type 0} → Result (Unit {0}) E → Written → Written → List Token → Type 0
+Puts r old new ts = (new.before ≡ old.before) × OnOk r (new.tokens ≡ old.tokens ++ ts)

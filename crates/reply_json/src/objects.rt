@@ -1,0 +1,202 @@
+//! The object of a reply.
+ghost use Rattle.std.specs.Prelude.{◌≡◌, ◌∷◌, ◌++◌, [], codes, Some, IfOk, OnOk, string_bytes};
+ghost use Rattle.json.specs.Json.{document};
+ghost use Rattle.json.specs.Lex.{tokens};
+ghost use Rattle.json.specs.Print.{print};
+ghost use Rattle.requests.specs.declared.Reply.TheVariants as reply;
+ghost use Rattle.reply_json.specs.Objects.{json_text, member_tokens, natural, object_of, Puts};
+ghost use Rattle.reply_json.specs.Replies.{view_members, index_of, decision_members, head_members, reply_word, reply_members, reply_value, reply_tokens, reply_json, refusal_value};
+
+use crate::arrays::{push_flags, push_numbers};
+use crate::members::{push_number, push_string};
+use crate::statuses::{push_end, push_signal, push_status};
+use crate::stops::{push_at, push_decision, push_index, push_info, push_stop_flags};
+use event_masks::StopFlags;
+use json::Writer;
+use pid_blocks::{Errno, Pid, Tid, Uid};
+use requests::Reply;
+use signals::Signal;
+use std::alloc::{AllocError, Global};
+use stop_handlers::{Decision, StopView};
+use wait4::Status;
+
+/// Room for most lines, in bytes.
+const ROOM: usize = 256;
+
+/// The reply's word.
+fn word_of(reply: &Reply) -> &'static str
+    ensures { result.now ≡ reply_word reply.now }
+{
+    match reply {
+        Reply::Done => "ok",
+        Reply::New { .. } => "new",
+        Reply::Number(_) => "number",
+        Reply::Status { .. } => "status",
+        Reply::Nothing => "nothing",
+        Reply::Info(_) => "info",
+        Reply::Lwps(_) => "lwps",
+        Reply::Pids(_) => "pids",
+        Reply::Mask(_) => "mask",
+        Reply::Handled { .. } => "handled",
+        Reply::Stopped { .. } => "stopped",
+        Reply::Caught(_) => "caught",
+        Reply::Ended(_) => "ended",
+        Reply::Held => "held",
+        Reply::Errno(_) => "error",
+    }
+}
+
+/// Writes the numbers of a new process.
+fn push_new(out: &mut Writer, pid: Pid, tid: Tid) -> Result<(), AllocError>
+    ensures { Puts result out.old out.new (member_tokens (reply_members (reply.New pid tid))) }
+{
+    push_number(out, "pid", u64::from(pid.get()))?;
+    push_number(out, "lwp", u64::from(tid.get()))
+}
+
+/// Writes what a wait reported.
+fn push_waited(out: &mut Writer, pid: Pid, status: &Status) -> Result<(), AllocError>
+    ensures { Puts result out.old out.new (member_tokens (reply_members (reply.Status pid status.now))) }
+{
+    push_number(out, "pid", u64::from(pid.get()))?;
+    push_status(out, status)
+}
+
+/// Writes the stop that an LWP made.
+fn push_stopped(out: &mut Writer, tid: Tid, sig: Signal, flags: StopFlags) -> Result<(), AllocError>
+    ensures { Puts result out.old out.new (member_tokens (reply_members (reply.Stopped tid sig flags))) }
+{
+    push_number(out, "lwp", u64::from(tid.get()))?;
+    push_signal(out, "signal", sig)?;
+    push_stop_flags(out, flags)
+}
+
+/// Writes the stop that handlers were asked about, which of them decided, and what.
+fn push_handling(
+    out: &mut Writer,
+    view: &StopView,
+    index: Option<u32>,
+    decision: Decision,
+) -> Result<(), AllocError>
+    ensures { Puts result out.old out.new (member_tokens ((codes "at", object_of (view_members view.now))
+        ∷ (codes "by", index_of index) ∷ decision_members decision)) }
+{
+    push_at(out, view)?;
+    push_index(out, index)?;
+    push_decision(out, decision)
+}
+
+/// Writes what a wait reported, and how handlers dealt with it.
+fn push_handled(
+    out: &mut Writer,
+    pid: Pid,
+    status: &Status,
+    view: &StopView,
+    index: Option<u32>,
+    decision: Decision,
+) -> Result<(), AllocError>
+    ensures { Puts result out.old out.new (member_tokens (reply_members (reply.Handled pid status.now view.now index decision))) }
+{
+    push_waited(out, pid, status)?;
+    push_handling(out, view, index, decision)
+}
+
+/// Writes an error by its name and its number.
+fn push_errno(out: &mut Writer, errno: Errno) -> Result<(), AllocError>
+    ensures { Puts result out.old out.new (member_tokens (reply_members (reply.Errno errno))) }
+{
+    push_string(out, "errno", errno.name())?;
+    push_number(out, "number", u64::from(errno.number()))
+}
+
+/// Writes the members behind the reply's word.
+fn push_members(out: &mut Writer, reply: &Reply) -> Result<(), AllocError>
+    ensures { Puts result out.old out.new (member_tokens (reply_members reply.now)) }
+{
+    match reply {
+        Reply::Done | Reply::Nothing | Reply::Held => Ok(()),
+        Reply::New { pid, tid } => push_new(out, *pid, *tid),
+        Reply::Number(number) => push_number(out, "number", u64::from(*number)),
+        Reply::Status { pid, status } => push_waited(out, *pid, status),
+        Reply::Info(info) => push_info(out, info),
+        Reply::Lwps(tids) => push_numbers(out, "lwps", tids.as_slice()),
+        Reply::Pids(pids) => push_numbers(out, "pids", pids.as_slice()),
+        Reply::Mask(mask) => push_flags(out, "events", *mask),
+        Reply::Handled {
+            pid,
+            status,
+            view,
+            index,
+            decision,
+        } => push_handled(out, *pid, status, view, *index, *decision),
+        Reply::Stopped { tid, sig, flags } => push_stopped(out, *tid, *sig, *flags),
+        Reply::Caught(sig) => push_signal(out, "signal", *sig),
+        Reply::Ended(word) => push_end(out, *word),
+        Reply::Errno(errno) => push_errno(out, *errno),
+    }
+}
+
+/// Writes the user and the step's number.
+fn push_place(out: &mut Writer, uid: Uid, number: u64) -> Result<(), AllocError>
+    ensures { Puts result out.old out.new (member_tokens ((codes "user", natural uid) ∷ (codes "step", natural number) ∷ [])) }
+{
+    push_number(out, "user", u64::from(uid.get()))?;
+    push_number(out, "step", number)
+}
+
+/// Writes the user, the step's number, and the reply's word.
+fn push_head(out: &mut Writer, uid: Uid, number: u64, word: &str) -> Result<(), AllocError>
+    ensures { Puts result out.old out.new (member_tokens (head_members uid number word.now)) }
+{
+    push_place(out, uid, number)?;
+    push_string(out, "reply", word)
+}
+
+/// Writes all members of the reply's object.
+fn push_all(out: &mut Writer, uid: Uid, number: u64, reply: &Reply) -> Result<(), AllocError>
+    ensures { Puts result out.old out.new (member_tokens (head_members uid number (reply_word reply.now) ++ reply_members reply.now)) }
+{
+    push_head(out, uid, number, word_of(reply))?;
+    push_members(out, reply)
+}
+
+/// Writes the object of the reply.
+fn push_object(out: &mut Writer, uid: Uid, number: u64, reply: &Reply) -> Result<(), AllocError>
+    ensures { Puts result out.old out.new (reply_tokens uid number reply.now) }
+{
+    out.begin_object()?;
+    push_all(out, uid, number, reply)?;
+    out.end_object()
+}
+
+/// The text of the tokens that a writer got.
+fn text_of(out: Writer) -> String
+    requires { out.before ≡ [] }
+    ensures text { string_bytes result ≡ print out.tokens }
+    ensures reads_back { tokens (print out.tokens) ≡ out.tokens }
+{
+    String::from_utf8(out.into_inner()).unwrap()
+}
+
+/// The reply to a user's step with this number as one JSON object, without a space or a line feed. Refused where no
+/// memory is left.
+pub fn reply_json(alloc: Global, uid: Uid, number: u64, reply: &Reply) -> Result<String, AllocError>
+    ensures text { IfOk result (λ text. string_bytes text ≡ reply_json uid number reply.now) }
+    ensures reads_back { OnOk result (document (reply_json uid number reply.now) ≡ Some (reply_value uid number reply.now)) }
+{
+    let mut out = Writer::new(Vec::with_capacity(alloc, ROOM)?);
+    push_object(&mut out, uid, number, reply)?;
+    Ok(text_of(out))
+}
+
+/// An object that says by a name why a line is no step. Refused where no memory is left.
+pub fn refusal_json(alloc: Global, name: &str) -> Result<String, AllocError>
+    ensures text { IfOk result (λ text. string_bytes text ≡ json_text (refusal_value name.now)) }
+    ensures reads_back { OnOk result (document (json_text (refusal_value name.now)) ≡ Some (refusal_value name.now)) }
+{
+    let mut out = Writer::new(Vec::with_capacity(alloc, ROOM)?);
+    out.begin_object()?;
+    push_string(&mut out, "refused", name)?;
+    out.end_object()?;
+    Ok(text_of(out))
+}

@@ -1,0 +1,72 @@
+//! Signals and wait statuses.
+ghost use Rattle.std.specs.Prelude.{◌≡◌};
+ghost use Rattle.signals.specs.Names.{signal_name};
+ghost use Rattle.wait4.specs.declared.StatusKind.TheVariants.{Continued};
+ghost use Rattle.wait4.specs.Status.{word, ended};
+ghost use Rattle.reply_json.specs.Objects.{member_tokens, Puts};
+ghost use Rattle.reply_json.specs.Replies.{named_signal, status_members, word_members};
+
+use crate::members::{push_number, push_string};
+use json::Writer;
+use signals::Signal;
+use std::alloc::AllocError;
+use wait4::{Status, StatusKind};
+
+/// Writes a signal by its name, under the member's name, and by its number.
+pub(crate) fn push_signal(out: &mut Writer, name: &str, signal: Signal) -> Result<(), AllocError>
+    ensures { Puts result out.old out.new (member_tokens (named_signal name.now signal)) }
+{
+    push_string(out, name, signal.name())?;
+    push_number(out, "number", u64::from(signal.number()))
+}
+
+/// Writes that a process goes on.
+fn push_continued(out: &mut Writer) -> Result<(), AllocError>
+    ensures { Puts result out.old out.new (member_tokens (status_members Continued)) }
+{
+    out.key("continued")?;
+    out.boolean(true)
+}
+
+/// Writes what a status says.
+fn push_kind(out: &mut Writer, kind: StatusKind) -> Result<(), AllocError>
+    ensures { Puts result out.old out.new (member_tokens (status_members kind)) }
+{
+    match kind {
+        StatusKind::Exited(code) => push_number(out, "exited", u64::from(code)),
+        StatusKind::Signaled(signal) => push_signal(out, "signaled", signal),
+        StatusKind::Stopped(signal) => push_signal(out, "stopped", signal),
+        StatusKind::Continued => push_continued(out),
+    }
+}
+
+/// Writes a status: its word, and what it says.
+pub(crate) fn push_status(out: &mut Writer, status: &Status) -> Result<(), AllocError>
+    ensures { Puts result out.old out.new (member_tokens (word_members (word status.now) status.now)) }
+{
+    push_number(out, "word", u64::from(status.word()))?;
+    push_kind(out, status.kind())
+}
+
+/// The name of the signal with this number; empty where no signal has it.
+#[tactic(auto, using(crate::proofs::SignalLemmas::no_name))]
+fn name_of(number: u32) -> &'static str
+    ensures { result.now ≡ signal_name number }
+{
+    match Signal::new(number) {
+        Ok(signal) => signal.name(),
+        Err(_) => "",
+    }
+}
+
+/// Writes how a process ended, by its word.
+pub(crate) fn push_end(out: &mut Writer, word: u32) -> Result<(), AllocError>
+    ensures { Puts result out.old out.new (member_tokens (word_members word (ended word))) }
+{
+    push_number(out, "word", u64::from(word))?;
+    if word % 256 == 0 {
+        return push_number(out, "exited", u64::from(word / 256));
+    }
+    push_string(out, "signaled", name_of(word))?;
+    push_number(out, "number", u64::from(word))
+}
