@@ -1,0 +1,306 @@
+//! Where a text stops being JSON.
+
+/// What may come next.
+#[derive(Clone, Copy, PartialEq, Eq)]
+pub(crate) enum Wants {
+    /// A value: at the front, or behind a colon.
+    Value,
+    /// A value behind a comma.
+    Item,
+    ItemOrEnd,
+    /// A key behind a comma.
+    Key,
+    KeyOrEnd,
+    Colon,
+    CommaOrBrace,
+    CommaOrBracket,
+    /// Nothing but white space.
+    End,
+}
+
+/// What is wrong.
+#[derive(Clone, Copy)]
+pub(crate) enum Wrong {
+    /// It isn't what may come.
+    Other(Wants),
+    /// A word that is no value; where it ends.
+    Word(usize),
+    /// A text has no quotes at its end, or a control character in it.
+    Control,
+    /// A backslash in a text, and what can't stand behind it.
+    Escape,
+    TooDeep,
+    /// A number beyond what a double holds; where it ends.
+    TooLarge(usize),
+}
+
+/// A mistake and its place: how many bytes stand before it.
+#[derive(Clone, Copy)]
+pub(crate) struct JsonMistake {
+    pub(crate) at: usize,
+    pub(crate) wrong: Wrong,
+    /// Where the array or object, or the text, begins that isn't closed.
+    pub(crate) opened: Option<usize>,
+}
+
+/// How deep arrays and objects may nest.
+const MOST_DEPTH: usize = 127;
+
+/// The arrays and objects that aren't closed yet.
+#[derive(Drop)]
+struct Open {
+    depth: usize,
+    begins: [usize; MOST_DEPTH],
+    is_object: [bool; MOST_DEPTH],
+}
+
+impl Open {
+    /// Opens one more; false where that is too deep.
+    fn push(&mut self, at: usize, is_object: bool) -> bool {
+        if self.depth >= MOST_DEPTH {
+            return false;
+        }
+        self.begins[self.depth] = at;
+        self.is_object[self.depth] = is_object;
+        self.depth += 1;
+        true
+    }
+
+    fn pop(&mut self) {
+        self.depth = self.depth.saturating_sub(1);
+    }
+
+    /// Where the innermost begins.
+    fn begin(&self) -> Option<usize> {
+        self.begins.get(self.depth.checked_sub(1)?).copied()
+    }
+
+    /// What may come behind a value.
+    fn after_value(&self) -> Wants {
+        let Some(last) = self.depth.checked_sub(1) else {
+            return Wants::End;
+        };
+        match self.is_object.get(last) {
+            Some(true) => Wants::CommaOrBrace,
+            _ => Wants::CommaOrBracket,
+        }
+    }
+}
+
+/// A walk over a text.
+#[derive(Drop)]
+struct Walk {
+    open: Open,
+    wants: Wants,
+    /// Where the next token may begin.
+    next: usize,
+}
+
+/// Where the text that begins behind `from` ends, or what is wrong with it.
+fn text_end(text: &[u8], from: usize) -> Result<usize, (usize, Wrong)> {
+    let mut is_escaped = false;
+    let mut digits = 0u8;
+    for at in from..text.len() {
+        let byte = text[at];
+        if digits > 0 {
+            if !byte.is_ascii_hexdigit() {
+                return Err((at, Wrong::Escape));
+            }
+            digits -= 1;
+        } else if is_escaped {
+            if !b"\"\\/bfnrtu".contains(&byte) {
+                return Err((at, Wrong::Escape));
+            }
+            digits = if byte == b'u' { 4 } else { 0 };
+            is_escaped = false;
+        } else if byte == b'"' {
+            return Ok(at.saturating_add(1));
+        } else if byte < 0x20 {
+            return Err((at, Wrong::Control));
+        } else {
+            is_escaped = byte == b'\\';
+        }
+    }
+    Err((text.len(), Wrong::Control))
+}
+
+/// Where the word ends that begins at `from`.
+fn word_end(text: &[u8], from: usize) -> usize {
+    for at in from..text.len() {
+        if b" \t\n\r,:{}[]\"".contains(&text[at]) {
+            return at;
+        }
+    }
+    text.len()
+}
+
+fn is_value(word: &[u8]) -> bool {
+    match std::str::from_utf8(word) {
+        Ok("true" | "false" | "null") => true,
+        Ok(text) => json::is_number(text),
+        Err(_) => false,
+    }
+}
+
+fn is_too_large(word: &[u8]) -> bool {
+    match std::str::from_utf8(word) {
+        Ok(text) => text.parse::<f64>().is_ok_and(|number| number.is_infinite()),
+        Err(_) => false,
+    }
+}
+
+impl Walk {
+    fn new() -> Walk {
+        Walk {
+            open: Open {
+                depth: 0,
+                begins: [0; MOST_DEPTH],
+                is_object: [false; MOST_DEPTH],
+            },
+            wants: Wants::Value,
+            next: 0,
+        }
+    }
+
+    fn wants_value(&self) -> bool {
+        matches!(self.wants, Wants::Value | Wants::Item | Wants::ItemOrEnd)
+    }
+
+    fn other(&self, at: usize) -> JsonMistake {
+        JsonMistake {
+            at,
+            wrong: Wrong::Other(self.wants),
+            opened: self.open.begin(),
+        }
+    }
+
+    fn begin(&mut self, at: usize, is_object: bool) -> Result<(), JsonMistake> {
+        if !self.wants_value() {
+            return Err(self.other(at));
+        }
+        if !self.open.push(at, is_object) {
+            return Err(JsonMistake {
+                at,
+                wrong: Wrong::TooDeep,
+                opened: None,
+            });
+        }
+        self.wants = if is_object {
+            Wants::KeyOrEnd
+        } else {
+            Wants::ItemOrEnd
+        };
+        Ok(())
+    }
+
+    fn end(&mut self, at: usize, may_end: bool) -> Result<(), JsonMistake> {
+        if !may_end {
+            return Err(self.other(at));
+        }
+        self.open.pop();
+        self.wants = self.open.after_value();
+        Ok(())
+    }
+
+    fn comma(&mut self, at: usize) -> Result<(), JsonMistake> {
+        self.wants = match self.wants {
+            Wants::CommaOrBrace => Wants::Key,
+            Wants::CommaOrBracket => Wants::Item,
+            _ => return Err(self.other(at)),
+        };
+        Ok(())
+    }
+
+    fn colon(&mut self, at: usize) -> Result<(), JsonMistake> {
+        if self.wants != Wants::Colon {
+            return Err(self.other(at));
+        }
+        self.wants = Wants::Value;
+        Ok(())
+    }
+
+    /// A text, which is a value or a key.
+    fn quoted(&mut self, text: &[u8], at: usize) -> Result<(), JsonMistake> {
+        let is_key = matches!(self.wants, Wants::Key | Wants::KeyOrEnd);
+        if !is_key && !self.wants_value() {
+            return Err(self.other(at));
+        }
+        match text_end(text, at.saturating_add(1)) {
+            Ok(end) => self.next = end,
+            Err((place, wrong)) => {
+                return Err(JsonMistake {
+                    at: place,
+                    wrong,
+                    opened: Some(at),
+                });
+            }
+        }
+        self.wants = if is_key {
+            Wants::Colon
+        } else {
+            self.open.after_value()
+        };
+        Ok(())
+    }
+
+    /// A number, or one of the three words.
+    fn word(&mut self, text: &[u8], at: usize) -> Result<(), JsonMistake> {
+        if !self.wants_value() {
+            return Err(self.other(at));
+        }
+        let end = word_end(text, at);
+        if !is_value(text.get(at..end).unwrap_or(&[])) {
+            return Err(JsonMistake {
+                at,
+                wrong: Wrong::Word(end),
+                opened: None,
+            });
+        }
+        if is_too_large(text.get(at..end).unwrap_or(&[])) {
+            return Err(JsonMistake {
+                at,
+                wrong: Wrong::TooLarge(end),
+                opened: None,
+            });
+        }
+        self.next = end;
+        self.wants = self.open.after_value();
+        Ok(())
+    }
+
+    /// The token that begins with this byte.
+    fn step(&mut self, text: &[u8], at: usize, byte: u8) -> Result<(), JsonMistake> {
+        match byte {
+            b' ' | b'\t' | b'\n' | b'\r' => Ok(()),
+            b'{' => self.begin(at, true),
+            b'[' => self.begin(at, false),
+            b'}' => {
+                let may_end = matches!(self.wants, Wants::KeyOrEnd | Wants::CommaOrBrace);
+                self.end(at, may_end)
+            }
+            b']' => {
+                let may_end = matches!(self.wants, Wants::ItemOrEnd | Wants::CommaOrBracket);
+                self.end(at, may_end)
+            }
+            b',' => self.comma(at),
+            b':' => self.colon(at),
+            b'"' => self.quoted(text, at),
+            _ => self.word(text, at),
+        }
+    }
+}
+
+/// The first mistake of the text; none where it is JSON.
+pub(crate) fn first_mistake(text: &[u8]) -> Result<(), JsonMistake> {
+    let mut walk = Walk::new();
+    for (at, byte) in text.iter().enumerate() {
+        if at >= walk.next {
+            walk.step(text, at, *byte)?;
+        }
+    }
+    if walk.wants == Wants::End {
+        Ok(())
+    } else {
+        Err(walk.other(text.len()))
+    }
+}
