@@ -1,6 +1,6 @@
 /*
- * Refuses chosen allocations, reads, writes and starts of threads of the program that it is loaded before (LD_PRELOAD), as
- * these words of the environment say:
+ * Refuses chosen allocations, reads, writes and starts of threads of the program that it is loaded before (LD_PRELOAD),
+ * as these words of the environment say:
  *
  *   SHIM_ALLOCATION=CALLS    these allocations are refused
  *   SHIM_READ=CALLS          these reads fail
@@ -9,7 +9,8 @@
  *   SHIM_ERROR=NUMBER        the errno of the reads and writes that fail; without it they move one byte
  *   SHIM_MOST=NUMBER         each read and write moves at most so many bytes
  *   SHIM_CHANCE=NUMBER       of a thousand allocations about so many are refused, by the dice of SHIM_SEED=NUMBER
- *   SHIM_REPORT=FILE         at the end the numbers of allocations, reads, writes, threads and failures are written here
+ *   SHIM_REPORT=FILE         at the end the numbers of allocations, reads, writes, threads and failures are written
+ *                            here, and how many allocations there were when the first thread was to start
  *
  * CALLS are counted from 1 for each kind: N is the Nth alone, N-M those from N to M, N- all from N on.
  */
@@ -42,7 +43,7 @@ static struct {
   long first, last;
 } calls[KINDS];
 
-static atomic_long failures;
+static atomic_long failures, before_threads;
 static int error;
 static size_t most = SIZE_MAX;
 static long chance, seed;
@@ -74,8 +75,8 @@ _Noreturn void _exit(int status) {
   int file = name ? open(name, O_WRONLY | O_CREAT | O_TRUNC, 0644) : -1;
   if (file >= 0) {
     char text[120];
-    int length = snprintf(text, sizeof text, "%ld %ld %ld %ld %ld\n", calls[ALLOCATION].made, calls[READ].made,
-                          calls[WRITE].made, calls[THREAD].made, failures);
+    int length = snprintf(text, sizeof text, "%ld %ld %ld %ld %ld %ld\n", calls[ALLOCATION].made, calls[READ].made,
+                          calls[WRITE].made, calls[THREAD].made, failures, before_threads);
     syscall(SYS_write, file, text, (size_t)length);
   }
   syscall(SYS_exit_group, status);
@@ -147,6 +148,8 @@ ssize_t write(int file, const void *bytes, size_t size) {
 }
 
 int pthread_create(pthread_t *thread, const pthread_attr_t *attributes, void *(*body)(void *), void *argument) {
+  if (calls[THREAD].made == 0)
+    before_threads = calls[ALLOCATION].made;
   if (fails(THREAD))
     return EAGAIN;
   int (*real)(pthread_t *, const pthread_attr_t *, void *(*)(void *), void *);

@@ -1,17 +1,21 @@
-//! Makes every kind of step, lists of them, and runs of whole scenarios, with threads and without. Whatever is refused
-//! for want of memory is made again, and first all has to be as before. So a run in which allocations are refused prints what a run with
-//! ample memory does, or ends with status 3 where it is refused again and again; tests/failures.sh makes such runs.
+//! Makes every kind of step, lists of them, the laws of isolation on hosts, calls of a shared host, sessions in threads,
+//! and runs of whole scenarios, with threads and without. Whatever is refused for want of memory is made again, and first
+//! all has to be as before. So a run in which allocations are refused prints what a run with ample memory does, or ends
+//! with status 3 where it is refused again and again; tests/failures.sh makes such runs.
 #![tactic(auto)]
 
+mod laws;
 mod lists;
 mod scenarios;
+mod shared;
 mod steps;
 mod texts;
+mod threads;
 mod trouble;
 
 use pid_blocks::Uid;
 use scenario::{Fault, Scenario, parse};
-use scenarios::{EVERY_STEP, LEAVING};
+use scenarios::{EVERY_STEP, GROWING, LEAVING};
 use std::alloc::Global;
 use std::process::ExitCode;
 use std::sync::Wait;
@@ -55,6 +59,12 @@ fn check_made<R: Print + Threads + Wait + Sync>(
     print_replies(rt, alloc, made)?;
     lists::check(alloc, users, scenario)?;
     say(rt, "a list of steps")?;
+    laws::check(alloc, users, scenario)?;
+    say(rt, "two hosts")?;
+    shared::check(rt, alloc, users, scenario, made)?;
+    say(rt, "a shared host")?;
+    threads::check(rt, alloc, users, scenario)?;
+    say(rt, "sessions in threads")?;
     texts::check(rt, alloc, users, scenario, made)?;
     say(rt, "runs of the scenario")
 }
@@ -84,7 +94,7 @@ fn check<R: Print + AllocGlobal + Threads + Wait + Sync>(
 }
 
 fn main(rt: HostRuntime) -> ExitCode {
-    for text in [EVERY_STEP, LEAVING] {
+    for text in [EVERY_STEP, LEAVING, GROWING] {
         if let Err(trouble) = check(&rt, text) {
             let _ = eprintln!(&rt; "refusals: {trouble}");
             return ExitCode::from(trouble.status());

@@ -96,3 +96,15 @@ pub const LEAVING: &str = "{\"kill_on_debugger_exit\":0,\"steps\":[
 {\"user\":1001,\"op\":\"turn\",\"lwp\":100001,\"act\":\"enter\",\"call\":\"thr_new\"},
 {\"user\":1001,\"op\":\"turn\",\"lwp\":100001,\"act\":\"leave\"}
 ]}";
+
+/// A fork where both tables have to grow.
+pub const GROWING: &str = "{\"steps\":[
+{\"user\":1001,\"op\":\"spawn\"},
+{\"user\":1002,\"op\":\"spawn\"},
+{\"user\":1001,\"op\":\"spawn\"},
+{\"user\":1001,\"op\":\"spawn\"},
+{\"user\":1001,\"op\":\"turn\",\"lwp\":100000,\"act\":\"enter\",\"call\":\"fork\"},
+{\"user\":1001,\"op\":\"turn\",\"lwp\":100000,\"act\":\"leave\"},
+{\"user\":1001,\"op\":\"list\",\"caller\":1003},
+{\"user\":1002,\"op\":\"list\",\"caller\":2000}
+]}";

@@ -4,7 +4,7 @@ use crate::lists::handlers;
 use crate::steps::{Made, Users};
 use crate::trouble::{TRIES, Trouble};
 use pid_blocks::Uid;
-use scenario::{RunFault, RunOptions, Scenario, render, run, run_threads};
+use scenario::{RunFault, RunOptions, Scenario, Style, render, run, run_threads};
 use std::alloc::Global;
 use std::sync::Wait;
 use std::thread::Threads;
@@ -24,6 +24,14 @@ fn is_done(ended: Result<(), RunFault>, written: &[u8], text: &[u8]) -> Result<b
     }
 }
 
+/// The lines of the user, or of all, in words.
+fn shown(user: &Option<Uid>) -> RunOptions {
+    RunOptions {
+        user: *user,
+        style: Style::Words,
+    }
+}
+
 /// Runs the scenario with threads or without.
 fn run_into<R: Threads + Wait + Sync>(
     rt: &R,
@@ -34,7 +42,7 @@ fn run_into<R: Threads + Wait + Sync>(
     threads: bool,
     writer: &mut Vec<u8>,
 ) -> Result<(), RunFault> {
-    let options = RunOptions { user: *user };
+    let options = shown(user);
     if threads {
         run_threads(rt, alloc, scenario, handlers, options, writer)
     } else {
@@ -87,7 +95,7 @@ fn check_text<R: Threads + Wait + Sync>(
 /// The lines of the replies to the user, or of all.
 pub fn lines(alloc: Global, made: &Made, user: &Option<Uid>) -> Result<String, Trouble> {
     for _ in 0..TRIES {
-        if let Ok(lines) = render(alloc, made.replies.as_slice(), *user) {
+        if let Ok(lines) = render(alloc, made.replies.as_slice(), shown(user)) {
             return Ok(lines);
         }
     }

@@ -1,0 +1,195 @@
+//! Calls of a shared host.
+
+ghost use Rattle.std.specs.Prelude.{All, IfOk};
+ghost use Rattle.host_lock.specs.Sessions.{IsOf, IsSame};
+
+use crate::steps::{Made, Users, new_host};
+use crate::trouble::{TRIES, Trouble};
+use host_lock::{Answer, Entry, Journal, Session, SharedHost};
+use pid_blocks::Uid;
+use requests::{Host, PlainStep, Reply};
+use scenario::Scenario;
+use std::alloc::Global;
+use std::sync::Wait;
+use stop_handlers::ByPolicy;
+use trace_stop::Settings;
+
+/// A host that nobody has used, shared by a session of each of the users. It is opened again while that is refused.
+fn open(
+    alloc: Global,
+    users: &Users,
+    settings: Settings,
+) -> Result<(SharedHost<ByPolicy>, Vec<Session>), Trouble>
+    ensures { IfOk result (λ r. All (IsOf r.0) r.1.items) }
+{
+    for _ in 0..TRIES {
+        let host = new_host(alloc, settings)?;
+        if let Ok(opened) = SharedHost::open(alloc, host, &[users.first, users.second]) {
+            return Ok(opened);
+        }
+    }
+    Err(Trouble::Memory)
+}
+
+/// The reply to a call, or none where it is refused. Either counts as one.
+fn replied<R: Wait>(
+    rt: &R,
+    alloc: Global,
+    host: &SharedHost<ByPolicy>,
+    session: &mut Session,
+    step: &PlainStep,
+) -> Result<Option<Reply>, Trouble>
+    requires { IsOf host.now session.old }
+    ensures { IsSame session.old session.new }
+{
+    let made = session.calls_made();
+    let Answer::Reply(reply) = host.call(rt, alloc, session, step.by_policy()) else {
+        return Err(Trouble::Wrong("a session is spent"));
+    };
+    if session.calls_made() != made.wrapping_add(1) {
+        return Err(Trouble::Wrong("a call counts otherwise than as one"));
+    }
+    Ok(if reply.is_memory() { None } else { Some(reply) })
+}
+
+/// The reply to a call, which is made again while it is refused.
+fn call<R: Wait>(
+    rt: &R,
+    alloc: Global,
+    host: &SharedHost<ByPolicy>,
+    session: &mut Session,
+    step: &PlainStep,
+) -> Result<Reply, Trouble>
+    requires { IsOf host.now session.old }
+    ensures { IsSame session.old session.new }
+{
+    for _ in 0..TRIES {
+        if let Some(reply) = replied(rt, alloc, host, session, step)? {
+            return Ok(reply);
+        }
+    }
+    Err(Trouble::Memory)
+}
+
+/// The place of the user's session.
+fn place_of(users: &Users, user: Uid) -> usize {
+    if user == users.first { 0 } else { 1 }
+}
+
+/// The session at this place is answered as the step was by itself.
+fn check_call<R: Wait>(
+    rt: &R,
+    alloc: Global,
+    host: &SharedHost<ByPolicy>,
+    sessions: &mut Vec<Session>,
+    place: usize,
+    step: &PlainStep,
+    reply: &Reply,
+) -> Result<(), Trouble>
+    requires { All (IsOf host.now) sessions.old.items }
+    ensures { All (IsOf host.now) sessions.new.items }
+{
+    if place >= sessions.len() {
+        return Err(Trouble::Wrong("a session is missing"));
+    }
+    let answered = call(rt, alloc, host, &mut sessions[place], step)?;
+    if answered == *reply {
+        Ok(())
+    } else {
+        Err(Trouble::Wrong("a call has another reply"))
+    }
+}
+
+/// Makes the scenario's steps in turn, each as a call of its user's session.
+fn call_all<R: Wait>(
+    rt: &R,
+    alloc: Global,
+    host: &SharedHost<ByPolicy>,
+    sessions: &mut Vec<Session>,
+    users: &Users,
+    scenario: &Scenario,
+    made: &Made,
+) -> Result<(), Trouble>
+    requires { All (IsOf host.now) sessions.old.items }
+    ensures { All (IsOf host.now) sessions.new.items }
+{
+    for (step, answer) in scenario.steps().iter().zip(made.replies.iter()) {
+        let place = place_of(users, step.0);
+        check_call(rt, alloc, host, sessions, place, &step.1, &answer.1)?;
+    }
+    Ok(())
+}
+
+/// Whether the entry is this step of the session at this place, with this reply.
+fn is_of(entry: &Entry, place: usize, step: &(Uid, PlainStep), reply: &Reply) -> bool {
+    entry.session == place && entry.uid == step.0 && entry.step == step.1 && entry.reply == *reply
+}
+
+/// The journal has the scenario's steps with their replies, and nothing else.
+fn check_journal(
+    users: &Users,
+    scenario: &Scenario,
+    made: &Made,
+    journal: &Journal,
+) -> Result<(), Trouble> {
+    if journal.len() != made.replies.len() {
+        return Err(Trouble::Wrong("a refused call has an entry"));
+    }
+    for (place, step) in scenario.steps().iter().enumerate() {
+        let (Some(entry), Some(answer)) = (journal.get(place), made.replies.get(place)) else {
+            return Err(Trouble::Wrong("an entry is missing"));
+        };
+        if !is_of(entry, place_of(users, step.0), step, &answer.1) {
+            return Err(Trouble::Wrong("the journal has another entry"));
+        }
+    }
+    Ok(())
+}
+
+/// Users see the same of the host as of the one on which the steps were made by themselves.
+fn check_host(
+    alloc: Global,
+    users: &Users,
+    made: &Made,
+    host: &Host<ByPolicy>,
+) -> Result<(), Trouble> {
+    let seen = users.see(alloc, host)?;
+    seen.is_still(alloc, users, &made.host, "calls leave another host")
+}
+
+/// The host and the journal, once all sessions are handed in.
+fn close(
+    host: SharedHost<ByPolicy>,
+    sessions: Vec<Session>,
+) -> Result<(Host<ByPolicy>, Journal), Trouble>
+    requires { All (IsOf host) sessions.items }
+{
+    let closed = host.close(sessions).ok();
+    closed.ok_or(Trouble::Wrong("a session is missing"))
+}
+
+/// The host and the journal after the scenario's steps.
+fn called<R: Wait>(
+    rt: &R,
+    alloc: Global,
+    users: &Users,
+    scenario: &Scenario,
+    made: &Made,
+) -> Result<(Host<ByPolicy>, Journal), Trouble> {
+    let (host, mut sessions) = open(alloc, users, scenario.settings())?;
+    call_all(rt, alloc, &host, &mut sessions, users, scenario, made)?;
+    close(host, sessions)
+}
+
+/// Each call has the reply of the step by itself, and a refused call has no entry in the journal.
+pub fn check<R: Wait>(
+    rt: &R,
+    alloc: Global,
+    users: &Users,
+    scenario: &Scenario,
+    made: &Made,
+) -> Result<(), Trouble> {
+    let (host, journal) = called(rt, alloc, users, scenario, made)?;
+    check_journal(users, scenario, made, &journal)?;
+    check_host(alloc, users, made, &host)
+}

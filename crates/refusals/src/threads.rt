@@ -1,0 +1,291 @@
+//! Sessions in threads of their own.
+
+ghost use Rattle.std.specs.Prelude.{All, IfOk};
+ghost use Rattle.sessions.specs.Runs.{IsShort};
+
+use crate::steps::{Users, answer, new_host};
+use crate::trouble::{TRIES, Trouble};
+use host_lock::{Entry, Journal};
+use pid_blocks::Uid;
+use requests::{Host, Reply};
+use scenario::Scenario;
+use sessions::{Gate, RunRefusal, Script, Transcript, run_sessions};
+use std::alloc::{AllocError, Global};
+use std::sync::Wait;
+use std::sync::atomic::{AtomicUsize, Ordering};
+use std::thread::Threads;
+use stop_handlers::ByPolicy;
+
+/// The most steps of a script.
+const MOST_STEPS: usize = 1000;
+
+/// How many calls were begun, and how many were answered.
+#[derive(Drop)]
+struct Counts {
+    begun: AtomicUsize,
+    answered: AtomicUsize,
+}
+
+impl Counts {
+    fn new() -> Counts {
+        Counts {
+            begun: AtomicUsize::new(0),
+            answered: AtomicUsize::new(0),
+        }
+    }
+
+    /// How many calls there were, where each that was begun was answered.
+    fn calls(&self) -> Result<usize, Trouble> {
+        let begun = self.begun.load(Ordering::SeqCst);
+        if begun == self.answered.load(Ordering::SeqCst) {
+            Ok(begun)
+        } else {
+            Err(Trouble::Wrong("a worker hasn't gone to its end"))
+        }
+    }
+}
+
+impl Gate for Counts {
+    fn before(&self, _user: Uid, _index: u32) {
+        self.begun.fetch_add(1, Ordering::SeqCst);
+    }
+
+    fn after(&self, _user: Uid, _index: u32) {
+        self.answered.fetch_add(1, Ordering::SeqCst);
+    }
+}
+
+/// The user's steps.
+fn script(alloc: Global, scenario: &Scenario, uid: Uid) -> Result<Script<ByPolicy>, AllocError>
+    ensures { IfOk result IsShort }
+{
+    let mut steps = Vec::new(alloc);
+    for step in scenario.steps() {
+        if step.0 == uid {
+            steps.push(step.1.by_policy())?;
+        }
+    }
+    steps.truncate(MOST_STEPS);
+    Ok(Script { uid, steps })
+}
+
+/// A script for each user.
+fn scripts(
+    alloc: Global,
+    users: &Users,
+    scenario: &Scenario,
+) -> Result<Vec<Script<ByPolicy>>, AllocError>
+    ensures { IfOk result (λ scripts. All IsShort scripts.items) }
+{
+    let mut scripts = Vec::with_capacity(alloc, 2)?;
+    scripts.push(script(alloc, scenario, users.first)?)?;
+    scripts.push(script(alloc, scenario, users.second)?)?;
+    Ok(scripts)
+}
+
+/// The same, made again while they are refused.
+fn scripts_of(
+    alloc: Global,
+    users: &Users,
+    scenario: &Scenario,
+) -> Result<Vec<Script<ByPolicy>>, Trouble>
+    ensures { IfOk result (λ scripts. All IsShort scripts.items) }
+{
+    for _ in 0..TRIES {
+        if let Ok(scripts) = scripts(alloc, users, scenario) {
+            return Ok(scripts);
+        }
+    }
+    Err(Trouble::Memory)
+}
+
+/// What the sessions leave.
+#[derive(Drop)]
+struct Left {
+    host: Host<ByPolicy>,
+    journal: Journal,
+    transcripts: Vec<Transcript>,
+}
+
+/// Runs the scripts on a host that nobody has used. None where that is refused: who was started is at the end then.
+fn ran<R: Threads + Wait + Sync>(
+    rt: &R,
+    alloc: Global,
+    users: &Users,
+    scenario: &Scenario,
+    gate: &Counts,
+) -> Result<Option<Left>, Trouble> {
+    let host = new_host(alloc, scenario.settings())?;
+    let scripts = scripts_of(alloc, users, scenario)?;
+    match run_sessions(rt, alloc, host, scripts, gate) {
+        Ok((host, journal, transcripts)) => Ok(Some(Left {
+            host,
+            journal,
+            transcripts,
+        })),
+        Err(RunRefusal::TooMany) => Err(Trouble::Wrong("two scripts are too many")),
+        Err(RunRefusal::Memory | RunRefusal::Start) => Ok(None),
+    }
+}
+
+/// How many steps were answered.
+fn answered(transcript: &Transcript) -> usize {
+    let mut count: usize = 0;
+    for reply in transcript.replies.iter() {
+        if !reply.is_memory() {
+            count = count.wrapping_add(1);
+        }
+    }
+    count
+}
+
+/// How many steps of all scripts were answered.
+fn all_answered(transcripts: &[Transcript]) -> usize {
+    let mut count: usize = 0;
+    for transcript in transcripts {
+        count = count.wrapping_add(answered(transcript));
+    }
+    count
+}
+
+/// The place of the session's next entry, from a place on.
+fn next_entry(journal: &Journal, session: usize, from: usize) -> Option<usize> {
+    for place in from..journal.len() {
+        if journal.get(place)?.session == session {
+            return Some(place);
+        }
+    }
+    None
+}
+
+/// Whether the entry at this place has this reply.
+fn has_reply(journal: &Journal, place: usize, reply: &Reply) -> bool {
+    match journal.get(place) {
+        Some(entry) => entry.reply == *reply,
+        None => false,
+    }
+}
+
+/// Whether the session's entries have the answered replies of the transcript, in order.
+fn is_told(journal: &Journal, session: usize, transcript: &Transcript) -> bool {
+    let mut from: usize = 0;
+    for reply in transcript.replies.iter() {
+        if !reply.is_memory() {
+            let Some(place) = next_entry(journal, session, from) else {
+                return false;
+            };
+            if !has_reply(journal, place, reply) {
+                return false;
+            }
+            from = place.wrapping_add(1);
+        }
+    }
+    true
+}
+
+/// The journal has the answered calls of all scripts and no others.
+fn check_transcripts(journal: &Journal, transcripts: &[Transcript]) -> Result<(), Trouble> {
+    if all_answered(transcripts) != journal.len() {
+        return Err(Trouble::Wrong("a refused call has an entry"));
+    }
+    for (session, transcript) in transcripts.iter().enumerate() {
+        if !is_told(journal, session, transcript) {
+            return Err(Trouble::Wrong("a transcript has other replies"));
+        }
+    }
+    Ok(())
+}
+
+/// The entry's step has its reply.
+fn check_entry(alloc: Global, host: &mut Host<ByPolicy>, entry: &Entry) -> Result<(), Trouble> {
+    let reply = answer(alloc, host, entry.uid, &entry.step)?;
+    if reply == entry.reply {
+        Ok(())
+    } else {
+        Err(Trouble::Wrong("an entry has another reply"))
+    }
+}
+
+/// The entries' steps, made one after another, have their replies.
+fn check_entries(
+    alloc: Global,
+    host: &mut Host<ByPolicy>,
+    journal: &Journal,
+) -> Result<(), Trouble> {
+    for place in 0..journal.len() {
+        if let Some(entry) = journal.get(place) {
+            check_entry(alloc, host, entry)?;
+        }
+    }
+    Ok(())
+}
+
+/// Users see the same of both hosts.
+fn check_hosts(
+    alloc: Global,
+    users: &Users,
+    host: &Host<ByPolicy>,
+    other: &Host<ByPolicy>,
+) -> Result<(), Trouble> {
+    let seen = users.see(alloc, host)?;
+    seen.is_still(alloc, users, other, "the journal leaves another host")
+}
+
+/// The journal's steps, made one after another on a new host, have the same replies and leave the same host.
+fn check_replay(
+    alloc: Global,
+    users: &Users,
+    scenario: &Scenario,
+    left: &Left,
+) -> Result<(), Trouble> {
+    let mut other = new_host(alloc, scenario.settings())?;
+    check_entries(alloc, &mut other, &left.journal)?;
+    check_hosts(alloc, users, &left.host, &other)
+}
+
+/// What was left fits together, and each of the scenario's steps was a call.
+fn check_left(
+    alloc: Global,
+    users: &Users,
+    scenario: &Scenario,
+    calls: usize,
+    left: &Left,
+) -> Result<(), Trouble> {
+    if calls != scenario.steps().len() {
+        return Err(Trouble::Wrong("a step isn't made"));
+    }
+    check_transcripts(&left.journal, left.transcripts.as_slice())?;
+    check_replay(alloc, users, scenario, left)
+}
+
+/// Whether the sessions ran; then what they leave fits together.
+fn is_run<R: Threads + Wait + Sync>(
+    rt: &R,
+    alloc: Global,
+    users: &Users,
+    scenario: &Scenario,
+) -> Result<bool, Trouble> {
+    let gate = Counts::new();
+    let ran = ran(rt, alloc, users, scenario, &gate)?;
+    let calls = gate.calls()?;
+    let Some(left) = ran else {
+        return Ok(false);
+    };
+    check_left(alloc, users, scenario, calls, &left)?;
+    Ok(true)
+}
+
+/// The sessions run, and are started again while that is refused.
+pub fn check<R: Threads + Wait + Sync>(
+    rt: &R,
+    alloc: Global,
+    users: &Users,
+    scenario: &Scenario,
+) -> Result<(), Trouble> {
+    for _ in 0..TRIES {
+        if is_run(rt, alloc, users, scenario)? {
+            return Ok(());
+        }
+    }
+    Err(Trouble::Memory)
+}
