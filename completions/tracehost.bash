@@ -9,13 +9,18 @@ _tracehost()
         mapfile -t COMPREPLY < <(compgen -W "$(printf '%d ' {1001..1064})" -- "$word")
         return
         ;;
+    --expect)
+        compopt -o filenames 2>/dev/null
+        mapfile -t COMPREPLY < <(compgen -f -- "$word")
+        return
+        ;;
     --kill-on-debugger-exit)
         mapfile -t COMPREPLY < <(compgen -W "0 1" -- "$word")
         return
         ;;
     esac
     if [[ $word == -* ]]; then
-        mapfile -t COMPREPLY < <(compgen -W "--user --threads --lines --kill-on-debugger-exit --help -h" -- "$word")
+        mapfile -t COMPREPLY < <(compgen -W "--user --threads --json --expect --explain --lines --kill-on-debugger-exit --help -h --version -V" -- "$word")
     else
         compopt -o filenames 2>/dev/null
         mapfile -t COMPREPLY < <(compgen -f -- "$word")

@@ -65,7 +65,7 @@ done < <(grep -v '^#' crates.txt)
 
 # an interrupt
 rm -rf crates/*/out
-PAUSE=5 timeout --signal INT 1 python3 tools/first_run.py 2>"$room/err"
+PAUSE=9 timeout --signal INT 3 python3 tools/first_run.py 2>"$room/err"
 grep -q 'interrupted; the next call goes on from here' "$room/err" || wrong "an interrupt isn't told"
 
 [ "$failed" -eq 0 ] && echo "a first run of $crates crates, one that fails and one that is interrupted: as wanted"

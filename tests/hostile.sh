@@ -70,13 +70,16 @@ want "a missing file" 3 "tracehost: cannot read"
 run /dev/null "$room"
 want "a folder" 3 "tracehost: cannot read"
 
-# a command line that is refused: the text is clap's
-got=0
-"$program" --fly </dev/null >"$room/out" 2>"$room/err" || got=$?
-if [ "$got" -ne 2 ] || [ -s "$room/out" ] || [ ! -s "$room/err" ]; then
-  echo "FAILED: an unknown option: status $got"
-  wrong=$((wrong + 1))
-fi
+# command lines that are refused: the text is clap's
+for words in '--fly' '--user 1000' '--user 1065' '--user root'; do
+  got=0
+  # shellcheck disable=SC2086
+  "$program" $words </dev/null >"$room/out" 2>"$room/err" || got=$?
+  if [ "$got" -ne 2 ] || [ -s "$room/out" ] || [ ! -s "$room/err" ]; then
+    echo "FAILED: $words: status $got"
+    wrong=$((wrong + 1))
+  fi
+done
 
 # a full disk
 if [ -c /dev/full ]; then

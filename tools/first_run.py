@@ -171,15 +171,20 @@ class Builder:
             functions = self.running.pop(name)[1]
             if well:
                 self.done.append(name)
+                self.tell(name, functions)
             else:
                 self.failed = self.failed or name
             self.lock.notify_all()
-        if well and not self.is_terminal:
-            counted = f"{functions} functions" if functions else "as before"
-            self.say(
-                f"{name} is proved ({counted}): {len(self.done)} of {len(self.below)} crates, "
-                f"{self.share():.0%} of the work, {self.elapsed()}"
-            )
+
+    def tell(self, name, functions):
+        """Says that a crate is proved, with the lock held, so that no crate above it is told before."""
+        if self.is_terminal:
+            return
+        counted = f"{functions} functions" if functions else "as before"
+        self.say(
+            f"{name} is proved ({counted}): {len(self.done)} of {len(self.below)} crates, "
+            f"{self.share():.0%} of the work, {self.elapsed()}"
+        )
 
     def ready(self):
         started = {*self.done, *self.running}
