@@ -1,0 +1,4 @@
+pub mod Keys
+pub mod Lookups
+pub mod NumberTexts
+pub mod Ranges

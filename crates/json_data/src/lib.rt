@@ -1,0 +1,9 @@
+//! JSON values that borrow their text, with the data that `serde_json` reads from it.
+#![tactic(auto)]
+
+mod finding;
+mod numbers;
+mod reading;
+
+pub use finding::{array, get, has_only, integer, is_object, text};
+pub use reading::{Refusal, next_value};

@@ -1,0 +1,68 @@
+//! Numbers by their texts.
+ghost use Rattle.std.specs.Prelude.{◌≡◌, ◌==◌, true, false, is_some, option_and_then, slice_index};
+ghost use Rattle.serde_json.specs.Find.{as_i64};
+ghost use Rattle.serde_json.specs.Read.{number_of, number_from, float_of};
+
+use fast_float::Numeral;
+
+fn has_minus(bytes: &[u8]) -> bool
+    ensures { result ≡ (slice_index bytes.now 0 == 45) }
+{
+    bytes.first() == Some(&b'-')
+}
+
+fn is_finite(negative: bool, numeral: &Numeral<'_>) -> bool
+    ensures { result ≡ is_some (float_of negative numeral.now) }
+{
+    numeral.to_float::<f64>(negative).is_finite()
+}
+
+fn unsigned(numeral: &Numeral<'_>) -> Option<i64>
+    ensures { result ≡ option_and_then as_i64 (number_from false numeral.now) }
+{
+    numeral.to_i64(false)
+}
+
+/// The whole number below 0. `-0` is no whole number.
+fn negative(numeral: &Numeral<'_>) -> Option<i64>
+    ensures { result ≡ option_and_then as_i64 (number_from true numeral.now) }
+{
+    let number = numeral.to_i64(true)?;
+    if number < 0 { Some(number) } else { None }
+}
+
+/// The whole number that a text is, where it fits 64 bits with a sign.
+pub(crate) fn integer_of(text: &str) -> Option<i64>
+    ensures { result ≡ option_and_then as_i64 (number_of text.now) }
+{
+    let bytes = text.as_bytes();
+    if has_minus(bytes) {
+        negative(&Numeral::scan(&bytes[1..]))
+    } else {
+        unsigned(&Numeral::scan(bytes))
+    }
+}
+
+fn unsigned_in_range(numeral: &Numeral<'_>) -> bool
+    ensures { result ≡ is_some (number_from false numeral.now) }
+{
+    numeral.to_u64().is_some() || is_finite(false, numeral)
+}
+
+fn negative_in_range(numeral: &Numeral<'_>) -> bool
+    ensures { result ≡ is_some (number_from true numeral.now) }
+{
+    negative(numeral).is_some() || is_finite(true, numeral)
+}
+
+/// Whether the number that a text is has a value: a float isn't too large.
+pub(crate) fn is_in_range(text: &str) -> bool
+    ensures { result ≡ is_some (number_of text.now) }
+{
+    let bytes = text.as_bytes();
+    if has_minus(bytes) {
+        negative_in_range(&Numeral::scan(&bytes[1..]))
+    } else {
+        unsigned_in_range(&Numeral::scan(bytes))
+    }
+}

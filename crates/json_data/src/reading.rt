@@ -1,0 +1,87 @@
+//! From tokens to values.
+ghost use Rattle.std.specs.Prelude.{◌≡◌, ◌<◌, Some, None, Err, IfOk, OnOk, length};
+ghost use Rattle.json.specs.Json.{value};
+ghost use Rattle.json.specs.Value.{value_view, items_view, members_view};
+ghost use Rattle.serde_json.specs.Read.{of_json, converted};
+ghost use Rattle.json_data.specs.Reading.{view, in_range, items_in_range, members_in_range};
+
+use crate::numbers::is_in_range;
+use json::{Error, Reader, Value};
+use std::alloc::Global;
+
+/// Why no value was read.
+#[derive(Clone, Copy, Debug, PartialEq, Eq, Drop)]
+pub enum Refusal {
+    /// There is no value of JSON, or a number in it is too large.
+    Invalid,
+    /// No memory was left.
+    Memory,
+}
+
+impl From<Error> for Refusal {
+    ghost use Rattle.std.specs.Prelude.{◌≡◌};
+    ghost use Rattle.json_data.specs.Reading.{refusal};
+
+    ghost from_gives = { λ error e. e ≡ refusal error };
+
+    fn from(error: Error) -> Refusal {
+        match error {
+            Error::OutOfMemory | Error::TooLong => Refusal::Memory,
+            Error::Invalid | Error::DuplicateKey => Refusal::Invalid,
+        }
+    }
+}
+
+#[cycle(walk)]
+fn numbers_in_range(value: &Value<'_>) -> bool
+    ensures { result ≡ in_range (value_view value.now) }
+{
+    match value {
+        Value::Null | Value::Bool(_) | Value::String(_) => true,
+        Value::Number(text) => is_in_range(text),
+        Value::Array(items) => items_in_range(items),
+        Value::Object(members) => members_in_range(members),
+    }
+}
+
+#[cycle(walk)]
+fn items_in_range(items: &Vec<Value<'_>>) -> bool
+    ensures { result ≡ items_in_range (items_view items.now.items) }
+{
+    for item in items {
+        if !numbers_in_range(item) {
+            return false;
+        }
+    }
+    true
+}
+
+#[cycle(walk)]
+fn members_in_range<'a>(members: &Vec<(&'a str, Value<'a>)>) -> bool
+    ensures { result ≡ members_in_range (members_view members.now.items) }
+{
+    for member in members {
+        if !numbers_in_range(&member.1) {
+            return false;
+        }
+    }
+    true
+}
+
+/// The next value of the reader, as `serde_json` reads it. Arrays and objects may nest `depth` deep.
+pub fn next_value<'a>(
+    alloc: Global,
+    reader: &mut Reader<'a>,
+    depth: usize,
+) -> Result<Value<'a>, Refusal>
+    ensures ok { IfOk result (λ v. converted of_json (value depth reader.old) ≡ Some (view v, reader.new)) }
+    ensures shorter { OnOk result (length reader.new < length reader.old) }
+    ensures invalid { result ≡ Err Refusal.Invalid → converted of_json (value depth reader.old) ≡ None }
+{
+    let value = Value::read(alloc, reader, depth)?;
+    if numbers_in_range(&value) {
+        Ok(value)
+    } else {
+        Err(Refusal::Invalid)
+    }
+}
