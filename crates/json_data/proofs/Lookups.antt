@@ -1,5 +1,5 @@
 -- A look-up in a value finds what `serde_json` finds in its data.
-use Rattle.std.proofs.Common.{◌≡◌, ℕ, List, [], ◌∷◌, Bool, true, false, ◌&&◌, cond, bytes_eq, Option, Some, None, option_map, Vec, Bor, true≢false, refl, sym, ap, ◌∙◌}
+use Rattle.std.proofs.Common.{◌≡◌, ℕ, suc, List, length, [], ◌∷◌, Bool, true, false, ◌&&◌, cond, bytes_eq, Option, Some, None, option_map, Vec, Bor, true≢false, refl, sym, ap, ◌∙◌}
 use Rattle.std.proofs.lemmas.Slice.Eq.{bytes_eq-Decides}
 use Rattle.std.specs.List.{list_any}
 use Rattle.json.specs.Json as json
@@ -9,6 +9,7 @@ use Rattle.json.specs.declared.value.Value.{Value, Array, Object}
 use Rattle.json.proofs.Trees as Trees
 use Rattle.serde_json.specs.Data.{Data, Num, Members, no_members, put, array, object, item}
 use Rattle.serde_json.specs.Read.{number_of}
+use Rattle.serde_json.specs.Events.{items_len}
 use Rattle.serde_json.specs.Find.{get, get_member}
 use Rattle.serde_json.proofs.Views.{get_member-put, get_member-put_other}
 use Rattle.json_data.specs.Reading.{number_data, data_of, items_data, members_data, members_among, view, items_view}
@@ -88,3 +89,7 @@ view-Array v = ap data_of (Trees.view-Array v) ∙ ap array (items_data-of v.ite
 
 pub view-Object : {A : Type 0} (v : Vec (Bor (List ℕ) × Value A) A) → view (Object v) ≡ object (members_data (json_members_view v.items) no_members)
 view-Object v = ap data_of (Trees.view-Object v)
+
+pub items_len-items_view : {A : Type 0} (vs : List (Value A)) → items_len (items_view vs) ≡ length vs
+items_len-items_view [] = refl
+items_len-items_view (v ∷ vs) = ap suc (items_len-items_view vs)

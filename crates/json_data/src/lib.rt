@@ -6,4 +6,4 @@ mod numbers;
 mod reading;
 
 pub use finding::{array, get, has_only, integer, is_object, text};
-pub use reading::{Refusal, next_value};
+pub use reading::{Refusal, from_slice, from_str, next_value};

@@ -1,12 +1,12 @@
 //! From tokens to values.
-ghost use Rattle.std.specs.Prelude.{◌≡◌, ◌<◌, Some, None, Err, IfOk, OnOk, length};
+ghost use Rattle.std.specs.Prelude.{◌≡◌, ◌<◌, Some, None, Err, IfOk, OnOk, length, IsUtf8};
 ghost use Rattle.json.specs.Json.{value};
 ghost use Rattle.json.specs.Value.{value_view, items_view, members_view};
-ghost use Rattle.serde_json.specs.Read.{of_json, converted};
+ghost use Rattle.serde_json.specs.Read.{of_json, converted, read};
 ghost use Rattle.json_data.specs.Reading.{view, in_range, items_in_range, members_in_range};
 
 use crate::numbers::is_in_range;
-use json::{Error, Reader, Value};
+use json::{Error, Reader, Scratch, Value};
 use std::alloc::Global;
 
 /// Why no value was read.
@@ -83,5 +83,42 @@ pub fn next_value<'a>(
         Ok(value)
     } else {
         Err(Refusal::Invalid)
+    }
+}
+
+/// Arrays and objects of a text nest as deep as `serde_json` allows.
+const MAX_DEPTH: usize = 127;
+
+/// The value of a text, as `serde_json` reads it.
+pub fn from_str<'a>(
+    alloc: Global,
+    text: &'a str,
+    scratch: &'a mut Scratch,
+) -> Result<Value<'a>, Refusal>
+    ensures ok { IfOk result (λ v. read text.now ≡ Some (view v)) }
+    ensures invalid { result ≡ Err Refusal.Invalid → read text.now ≡ None }
+{
+    let Ok(mut reader) = Reader::new(text, scratch) else {
+        return Err(Refusal::Memory);
+    };
+    let value = next_value(alloc, &mut reader, MAX_DEPTH)?;
+    if reader.next().is_some() {
+        return Err(Refusal::Invalid);
+    }
+    Ok(value)
+}
+
+/// The value of the bytes of a text, as `serde_json` reads it.
+pub fn from_slice<'a>(
+    alloc: Global,
+    bytes: &'a [u8],
+    scratch: &'a mut Scratch,
+) -> Result<Value<'a>, Refusal>
+    ensures ok { IfOk result (λ v. IsUtf8 bytes.now × (read bytes.now ≡ Some (view v))) }
+    ensures invalid { result ≡ Err Refusal.Invalid → IsUtf8 bytes.now → read bytes.now ≡ None }
+{
+    match std::str::from_utf8(bytes) {
+        Ok(text) => from_str(alloc, text, scratch),
+        Err(_) => Err(Refusal::Invalid),
     }
 }

@@ -7,10 +7,10 @@ use Rattle.line_io.specs.declared.reading.LineEnd.{LineEnd}
 use Rattle.line_io.specs.declared.reading.LineEnd.TheVariants.{Feed, Input}
 use Rattle.requests.specs.Run.{Asked}
 use Rattle.requests.specs.Machine.{Machine}
-use Rattle.scenario.specs.declared.fault.Fault.{Fault}
+use Rattle.scenario_text.specs.declared.fault.Fault.{Fault}
 use Rattle.scenario.specs.declared.style.Style.{Style}
-use Rattle.scenario.specs.declared.fault.Fault.TheVariants.{Memory}
-use Rattle.scenario.specs.OneStep.{AnswersBy}
+use Rattle.scenario_text.specs.declared.fault.Fault.TheVariants.{Memory}
+use Rattle.scenario_text.specs.OneStep.{AnswersBy}
 use Rattle.line_sessions.specs.declared.fault.ServeFault.{ServeFault}
 use Rattle.line_sessions.specs.Sessions.{Serves}
 

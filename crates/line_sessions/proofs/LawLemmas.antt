@@ -10,13 +10,13 @@ use Rattle.requests.specs.Run.{Asked, replies}
 use Rattle.visibility.specs.Runs.{told, Did}
 use Rattle.visibility.proofs.Answered.{runs_are_private}
 use Rattle.visibility.proofs.Apart.{empty_apart}
-use Rattle.scenario.specs.declared.fault.Fault.{Fault}
+use Rattle.scenario_text.specs.declared.fault.Fault.{Fault}
 use Rattle.scenario.specs.declared.style.Style.{Style}
 use Rattle.scenario.specs.Lines.{Answered, line, lines_after, text_of}
-use Rattle.scenario.specs.OneStep.{IsStep, too_long, no_value, value}
+use Rattle.scenario_text.specs.OneStep.{IsStep, too_long, no_value, value}
 use Rattle.scenario.specs.Runs.{paired}
-use Rattle.scenario.specs.Scenarios.{numbered}
-use Rattle.scenario.specs.Steps.{step_of}
+use Rattle.scenario_text.specs.Scenarios.{numbered}
+use Rattle.scenario_text.specs.Steps.{step_of}
 use Rattle.line_sessions.specs.Sessions.{LineReply, AnswersLine, step, refused, AnswersLines, text_after}
 use Rattle.line_sessions.specs.Laws.{AreSteps, IsMade, AsScenario, StepsIn, replies_in, SessionsArePrivate}
 use Rattle.line_sessions.specs.Laws.{none as no_step, step as a_step, refused as no_step_here}

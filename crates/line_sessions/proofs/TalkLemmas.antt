@@ -14,10 +14,10 @@ use Rattle.pid_blocks.specs.Users.{IsUser}
 use Rattle.requests.specs.Machine.{Machine}
 use Rattle.scenario.proofs.LineLemmas.{Counted, counted_more, counted_few, counted_number}
 use Rattle.scenario.proofs.WriteLemmas.{appends_more, appends_kept}
-use Rattle.scenario.specs.declared.fault.Fault.{Fault}
+use Rattle.scenario_text.specs.declared.fault.Fault.{Fault}
 use Rattle.scenario.specs.declared.style.Style.{Style}
 use Rattle.scenario.specs.Lines.{line}
-use Rattle.scenario.specs.OneStep.{IsStep, too_long, no_value, value, most_step_bytes}
+use Rattle.scenario_text.specs.OneStep.{IsStep, too_long, no_value, value, most_step_bytes}
 use Rattle.requests.specs.Run.{Asked}
 use Rattle.line_sessions.specs.declared.fault.ServeFault.{ServeFault}
 use Rattle.line_sessions.specs.declared.fault.ServeFault.TheVariants.{Read, Write, Memory, TooManyLines}

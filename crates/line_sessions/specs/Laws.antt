@@ -8,10 +8,10 @@ use Rattle.requests.specs.Memory.{is_memory}
 use Rattle.requests.specs.Run.{Asked}
 use Rattle.trace_stop.specs.declared.Settings.{Settings}
 use Rattle.visibility.specs.Runs.{told}
-use Rattle.scenario.specs.declared.fault.Fault.{Fault}
+use Rattle.scenario_text.specs.declared.fault.Fault.{Fault}
 use Rattle.scenario.specs.declared.style.Style.{Style}
 use Rattle.scenario.specs.Lines.{text}
-use Rattle.scenario.specs.OneStep.{IsStep}
+use Rattle.scenario_text.specs.OneStep.{IsStep}
 use Rattle.scenario.specs.Runs.{answers_of}
 use Rattle.line_sessions.specs.Sessions.{LineReply, AnswersLines, text_of}
 

@@ -8,12 +8,12 @@ use Rattle.requests.specs.Run.{Asked}
 use Rattle.visibility.specs.Runs.{told, Did}
 use Rattle.reply_json.specs.Objects.{json_text}
 use Rattle.reply_json.specs.Replies.{refusal_value}
-use Rattle.scenario.specs.declared.fault.Fault.{Fault}
+use Rattle.scenario_text.specs.declared.fault.Fault.{Fault}
 use Rattle.scenario.specs.declared.style.Style.{Style}
 use Rattle.scenario.specs.declared.style.Style.TheVariants.{Words, Json}
-use Rattle.scenario.specs.Faults.{fault_name}
+use Rattle.scenario_text.specs.Faults.{fault_name}
 use Rattle.scenario.specs.Lines.{Answered, line}
-use Rattle.scenario.specs.OneStep.{IsStep}
+use Rattle.scenario_text.specs.OneStep.{IsStep}
 use Rattle.line_sessions.specs.declared.fault.ServeFault.{ServeFault}
 use Rattle.line_sessions.specs.declared.fault.ServeFault.TheVariants.{Write}
 use Rattle.line_io.specs.Lines.{lines_in}

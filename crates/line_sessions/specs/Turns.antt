@@ -3,7 +3,7 @@ use Rattle.std.specs.Prelude.{⊤, ◌≡◌, ℕ, ◌-◌, ◌+◌, List, ◌++
 use Rattle.std.specs.Io.KnownBytes.{Appends, Keeps}
 use Rattle.requests.specs.Machine.{Machine}
 use Rattle.scenario.specs.Lines.{line}
-use Rattle.scenario.specs.OneStep.{most_step_bytes}
+use Rattle.scenario_text.specs.OneStep.{most_step_bytes}
 use Rattle.scenario.specs.declared.style.Style.{Style}
 use Rattle.line_sessions.specs.declared.fault.ServeFault.{ServeFault}
 use Rattle.line_sessions.specs.declared.fault.ServeFault.TheVariants.{Write}

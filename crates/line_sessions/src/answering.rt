@@ -4,7 +4,7 @@ ghost use Rattle.pid_blocks.specs.Users.{IsUser};
 ghost use Rattle.requests.specs.Machine.{empty};
 ghost use Rattle.requests.specs.declared.Reply.{Reply};
 ghost use Rattle.visibility.specs.Runs.{told, Did};
-ghost use Rattle.scenario.specs.declared.fault.Fault.TheVariants.{Memory as NoMemory};
+ghost use Rattle.scenario_text.specs.declared.fault.Fault.TheVariants.{Memory as NoMemory};
 ghost use Rattle.scenario.specs.declared.style.Style.TheVariants as style;
 ghost use Rattle.line_sessions.specs.declared.fault.ServeFault.TheVariants.{Memory};
 ghost use Rattle.line_sessions.specs.Sessions.{LineReply, AnswersLine, refusal};

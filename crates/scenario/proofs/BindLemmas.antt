@@ -2,7 +2,7 @@
 use Rattle.std.proofs.Common.{◌≡◌, ℕ, ◌+◌, ◌<◌, List, [], ◌∷◌, ◌++◌, length, get_or, map, take, drop, sym, ap, ap₂, ◌∙◌}
 use Rattle.std.proofs.lemmas.List.{at_drop_more, take_more}
 use Rattle.requests.specs.Plain.{PlainStep}
-use Rattle.scenario.specs.Plan.{asked, policies_in, policy_before}
+use Rattle.scenario_text.specs.Plan.{asked, policies_in, policy_before}
 
 -- the policies that are left, by the step that stands here
 pub policies_here : (ps : List (ℕ × PlainStep)) (i : ℕ) (p : ℕ × PlainStep) → i < length ps → get_or ps i p ≡ p

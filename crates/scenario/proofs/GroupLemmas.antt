@@ -15,7 +15,7 @@ use Rattle.requests.specs.Run.{Asked, asked_by, replies}
 use Rattle.requests.specs.View.{alone}
 use Rattle.visibility.proofs.Apart.{own_list_law, empty_apart}
 use Rattle.scenario.specs.Lines.{Answered, Line, line, lines, lines_after, lines_of, text, text_of, grouped}
-use Rattle.scenario.specs.Plan.{Plan}
+use Rattle.scenario_text.specs.Plan.{Plan}
 use Rattle.scenario.specs.declared.style.Style.{Style}
 use Rattle.scenario.specs.Runs.{answers_by, by_users, answers_of, paired, shown, shown_grouped}
 use Rattle.scenario.proofs.LineLemmas.{replies_to, counted_one}

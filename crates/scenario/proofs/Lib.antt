@@ -1,8 +1,4 @@
-pub mod FieldLemmas
 pub mod BindLemmas
-pub mod RuleLemmas
-pub mod StepLemmas
-pub mod Answering
 pub mod WriteLemmas
 pub mod LineLemmas
 pub mod GroupLemmas

@@ -11,7 +11,7 @@ use Rattle.requests.specs.Memory.{is_memory}
 use Rattle.requests.specs.Run.{Asked, replies}
 use Rattle.visibility.specs.Runs.{told}
 use Rattle.scenario.specs.declared.running.RunFault.{RunFault}
-use Rattle.scenario.specs.Plan.{asked}
+use Rattle.scenario_text.specs.Plan.{asked}
 use Rattle.scenario.specs.Runs.{answered, paired}
 
 -- a reply that is no want of memory is told

@@ -17,7 +17,7 @@ use Rattle.host_lock.specs.declared.journal.Entry.{Entry}
 use Rattle.host_lock.specs.Journal.{entry, asked, entries_of}
 use Rattle.sessions.specs.Made.{made}
 use Rattle.sessions.specs.Runs.{entries_by, OwnEntries}
-use Rattle.scenario.specs.Plan.{Plan}
+use Rattle.scenario_text.specs.Plan.{Plan}
 use Rattle.scenario.specs.Runs.{answers_by, by_users, answers_of}
 use Rattle.scenario.specs.Scripts.{scripts_in}
 use Rattle.scenario.proofs.GroupLemmas.{told_to, own_answers, alone_answers}

@@ -11,7 +11,7 @@ use Rattle.requests.specs.Plain.{PlainStep}
 use Rattle.requests.specs.Run.{Asked, asked_by}
 use Rattle.sessions.specs.declared.script.Script.{Script}
 use Rattle.requests.proofs.ViewLaws.{at_slot}
-use Rattle.scenario.specs.Plan.{asked}
+use Rattle.scenario_text.specs.Plan.{asked}
 use Rattle.scenario.specs.Scripts.{has_steps, plain_script, some_steps, steps_of}
 use Rattle.scenario.proofs.ScriptLemmas.{script_of}
 

@@ -13,7 +13,7 @@ use Rattle.host_lock.specs.Sessions.{IsBelow}
 use Rattle.sessions.specs.declared.script.Script.{Script}
 use Rattle.sessions.specs.declared.script.Transcript.{Transcript}
 use Rattle.sessions.specs.Runs.{AllPlay, IsShort, OwnEntries}
-use Rattle.scenario.specs.Plan.{Plan, most_steps}
+use Rattle.scenario_text.specs.Plan.{Plan, most_steps}
 use Rattle.scenario.specs.Runs.{answers_of, by_users}
 use Rattle.scenario.specs.Scripts.{plain_script, scripts_in, told_by, IsMade}
 use Rattle.scenario.proofs.ScriptLemmas.{IsScript, are_scripts, few_scripts}

@@ -1,27 +1,7 @@
--- The exit statuses of faults.
-use Rattle.std.specs.Prelude.{ℕ, List, codes}
-use Rattle.scenario.specs.declared.fault.Fault.{Fault}
-use Rattle.scenario.specs.declared.fault.Fault.TheVariants as fault
+-- The exit statuses of runs that came to no end.
+use Rattle.std.specs.Prelude.{ℕ}
 use Rattle.scenario.specs.declared.running.RunFault.{RunFault}
 use Rattle.scenario.specs.declared.running.RunFault.TheVariants as run_fault
-
--- 3 where the host failed the program, 1 where the input is refused
-abbrev pub fault_status : Fault → ℕ
-fault_status fault.Read = 3
-fault_status fault.Memory = 3
-fault_status f = 1
-
-abbrev pub fault_name : Fault → List ℕ
-fault_name fault.Read = codes "Read"
-fault_name fault.TooLong = codes "TooLong"
-fault_name fault.BadJson = codes "BadJson"
-fault_name fault.TooManySteps = codes "TooManySteps"
-fault_name (fault.BadShape n) = codes "BadShape"
-fault_name (fault.BadUser n) = codes "BadUser"
-fault_name (fault.BadName n) = codes "BadName"
-fault_name (fault.BadNumber n) = codes "BadNumber"
-fault_name (fault.TooManyRules n) = codes "TooManyRules"
-fault_name fault.Memory = codes "Memory"
 
 abbrev pub run_fault_status : RunFault → ℕ
 run_fault_status run_fault.Memory = 3

@@ -8,7 +8,7 @@ use Rattle.requests.specs.Run.{Asked, replies}
 use Rattle.scenario.specs.declared.running.RunFault.{RunFault}
 use Rattle.scenario.specs.declared.running.RunFault.TheVariants.{Mismatch, Memory, Start, Write}
 use Rattle.scenario.specs.Lines.{Answered, text, text_of, grouped, lines, lines_of}
-use Rattle.scenario.specs.Plan.{Plan}
+use Rattle.scenario_text.specs.Plan.{Plan}
 use Rattle.scenario.specs.declared.style.Style.{Style}
 
 -- a reply to a user

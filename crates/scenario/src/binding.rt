@@ -3,10 +3,10 @@ ghost use Rattle.std.specs.Prelude.{List, ◌≡◌, ◌≢◌, ◌≤◌, ◌�
 ghost use Rattle.std.specs.Vec.Iter.{into_iter_items};
 ghost use Rattle.stop_handlers.specs.declared.Rule.{Rule};
 ghost use Rattle.stop_handlers.specs.Handlers.{MakesObeying};
-ghost use Rattle.scenario.specs.Plan.{asked, most_steps, policies_in, policy_before};
+ghost use Rattle.scenario_text.specs.Plan.{asked, most_steps, policies_in, policy_before};
 ghost use Rattle.scenario.specs.declared.running.RunFault.TheVariants.{Mismatch, Memory};
 
-use crate::plan::Scenario;
+use scenario_text::Scenario;
 use crate::running::RunFault;
 use pid_blocks::Uid;
 use requests::{PlainStep, Step};

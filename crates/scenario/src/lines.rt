@@ -6,7 +6,7 @@ ghost use Rattle.scenario.specs.declared.style.Style.TheVariants as style;
 ghost use Rattle.scenario.specs.Runs.{answered, shown};
 ghost use Rattle.scenario.specs.Shown.{shown_line};
 
-use crate::plan::USERS;
+use scenario_text::USERS;
 use crate::running::RunOptions;
 use crate::style::Style;
 use pid_blocks::Uid;

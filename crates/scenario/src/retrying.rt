@@ -1,29 +1,12 @@
-//! Reads and writes that are made again where a signal interrupts them.
+//! Writes that are made again where a signal interrupts them.
 
 ghost use Rattle.std.specs.Prelude.{◌≢◌, IfErr};
-ghost use Rattle.std.specs.Io.{ReadsAtMost, WritesAtMost};
+ghost use Rattle.std.specs.Io.{WritesAtMost};
 ghost use Rattle.std.specs.IoError.{error_kind};
-ghost use Rattle.std.specs.Io.KnownBytes.{ReadConsumes, WriteAppends};
+ghost use Rattle.std.specs.Io.KnownBytes.{WriteAppends};
 ghost use Rattle.std.specs.declared.io.ErrorKind.TheVariants.{Interrupted};
 
-use std::io::{Error, ErrorKind, Read, Result, Write};
-
-/// One read, made again while a signal interrupts it.
-#[tactic(auto, using(crate::proofs::RetryLemmas::reads_behind))]
-pub(crate) fn read_some<R: Read>(reader: &mut R, buf: &mut [u8]) -> Result<usize>
-    ensures bound { ReadsAtMost result buf.new }
-    ensures bytes { ReadConsumes (R.remaining reader.old) (R.remaining reader.new) result buf.new }
-    ensures retried { IfErr result (λ e. error_kind e ≢ Interrupted) }
-{
-    for _ in 0..u64::MAX {
-        match reader.read(buf) {
-            Ok(n) => return Ok(n),
-            Err(error) if error.kind() == ErrorKind::Interrupted => {}
-            Err(error) => return Err(error),
-        }
-    }
-    Err(Error::from(ErrorKind::Other))
-}
+use std::io::{Error, ErrorKind, Result, Write};
 
 /// One write, made again while a signal interrupts it.
 #[tactic(auto, using(crate::proofs::RetryLemmas::writes_behind))]

@@ -2,14 +2,14 @@
 ghost use Rattle.std.specs.Prelude.{◌≡◌, ◌≢◌, ◌⊎◌, ◌↔◌, IsErrOf, map, zip, false, IfOk, IfErr, OnOk};
 ghost use Rattle.std.specs.List.{AllByRecursion};
 ghost use Rattle.requests.specs.Memory.{is_memory};
-ghost use Rattle.scenario.specs.Plan.{asked, policies_in};
+ghost use Rattle.scenario_text.specs.Plan.{asked, policies_in};
 ghost use Rattle.scenario.specs.Runs.{answered, answers_of, shown, Writes};
 ghost use Rattle.scenario.specs.Faults.{run_fault_status};
 ghost use Rattle.scenario.specs.declared.running.RunFault.TheVariants.{Mismatch, Memory, Start, Write as WriteFault};
 
 use crate::binding::bind;
 use crate::lines::render;
-use crate::plan::Scenario;
+use scenario_text::Scenario;
 use crate::retrying::write_some;
 use crate::style::Style;
 use pid_blocks::Uid;

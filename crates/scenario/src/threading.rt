@@ -4,13 +4,13 @@ ghost use Rattle.std.specs.Prelude.{◌≡◌, ◌≢◌, ◌⊎◌, ◌↔◌, 
 ghost use Rattle.std.specs.List.{flat_map, AllByRecursion};
 ghost use Rattle.pid_blocks.specs.Blocks.{users};
 ghost use Rattle.requests.specs.Isolation.{Users};
-ghost use Rattle.scenario.specs.Plan.{asked, most_steps, policies_in};
+ghost use Rattle.scenario_text.specs.Plan.{asked, most_steps, policies_in};
 ghost use Rattle.scenario.specs.Runs.{answered, answers_of, by_users, shown_grouped, Writes};
 ghost use Rattle.scenario.specs.Scripts.{has_steps, plain_script, scripts_in, told_by, IsMade};
 ghost use Rattle.scenario.specs.declared.running.RunFault.TheVariants.{Mismatch, Memory, Start};
 
 use crate::binding::bind;
-use crate::plan::{Scenario, USERS};
+use scenario_text::{Scenario, USERS};
 use crate::running::{RunFault, RunOptions, write_lines};
 use pid_blocks::Uid;
 use requests::{Host, Reply, Step};

@@ -1,6 +1,6 @@
 use Rattle.std.proofs.Common.{◌≡◌, map, take, drop}
 use Rattle.std.specs.Vec.Iter.{into_iter_items}
-use Rattle.scenario.specs.Plan.{asked, policies_in}
+use Rattle.scenario_text.specs.Plan.{asked, policies_in}
 use Rattle.scenario.proofs.binding.bound.Given as goal
 
 abbrev pub invariant-loop-plain : goal.invariant-loop-plain

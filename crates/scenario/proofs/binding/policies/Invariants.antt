@@ -1,5 +1,5 @@
 use Rattle.std.proofs.Common.{◌≡◌, ◌++◌, map, drop}
-use Rattle.scenario.specs.Plan.{asked, policies_in}
+use Rattle.scenario_text.specs.Plan.{asked, policies_in}
 use Rattle.scenario.proofs.binding.policies.Given as goal
 
 abbrev pub invariant-loop-step : goal.invariant-loop-step

@@ -4,7 +4,7 @@ use Rattle.requests.specs.Memory.{is_memory}
 use Rattle.requests.specs.Plain.{PlainStep}
 use Rattle.requests.specs.Run.{replies as replies_from}
 use Rattle.scenario.specs.declared.running.RunFault.TheVariants.{Memory}
-use Rattle.scenario.specs.Plan.{asked}
+use Rattle.scenario_text.specs.Plan.{asked}
 use Rattle.scenario.specs.Runs.{answered, answers_of, paired}
 use Rattle.scenario.proofs.RunLemmas.{all_replies, fault_with, ok_by, paired_with}
 use Rattle.scenario.proofs.running.replies_of.Goals as goal

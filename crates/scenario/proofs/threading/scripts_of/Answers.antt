@@ -8,7 +8,7 @@ use Rattle.sessions.specs.declared.script.Script.{Script}
 use Rattle.requests.specs.Plain.{PlainStep}
 use Rattle.requests.specs.Isolation.{Users}
 use Rattle.visibility.proofs.Answered.{map-push, Users-push}
-use Rattle.scenario.specs.Plan.{asked}
+use Rattle.scenario_text.specs.Plan.{asked}
 use Rattle.scenario.specs.Scripts.{has_steps, plain_script}
 use Rattle.scenario.proofs.ScriptLemmas.{script_of}
 use Rattle.scenario.proofs.ThreadLemmas.{step_added, kept_scripts}

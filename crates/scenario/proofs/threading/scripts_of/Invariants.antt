@@ -2,7 +2,7 @@ use Rattle.std.proofs.Common.{◌≡◌, ◌++◌, map}
 use Rattle.std.specs.Vec.Iter.{into_iter_items}
 use Rattle.pid_blocks.specs.Blocks.{users}
 use Rattle.requests.specs.Isolation.{Users}
-use Rattle.scenario.specs.Plan.{asked as as_asked}
+use Rattle.scenario_text.specs.Plan.{asked as as_asked}
 use Rattle.scenario.specs.Scripts.{plain_script}
 use Rattle.scenario.proofs.ScriptLemmas.{script_of}
 use Rattle.scenario.proofs.threading.scripts_of.Given as goal

@@ -2,7 +2,7 @@ use Rattle.std.proofs.Common.{◌<◌, ◌≤◌, map, length, sym, subst, arith
 use Rattle.std.specs.Prelude.{vec_len}
 use Rattle.std.proofs.lemmas.List.{length-map}
 use Rattle.sessions.specs.Runs.{OwnEntries, RefusesFor}
-use Rattle.scenario.specs.Plan.{Plan, asked}
+use Rattle.scenario_text.specs.Plan.{Plan, asked}
 use Rattle.scenario.proofs.TranscriptLemmas.{told_in_all, few, are_short}
 use Rattle.scenario.proofs.threading.transcripts_of.Goals as goal
 

@@ -1,6 +1,6 @@
 use Rattle.std.proofs.Common.{Ok, Err, refl}
-use Rattle.scenario.specs.OneStep.{IsStep}
-use Rattle.scenario.specs.Plan.{asked}
+use Rattle.scenario_text.specs.OneStep.{IsStep}
+use Rattle.scenario_text.specs.Plan.{asked}
 use Rattle.line_sessions.specs.Sessions.{step, refused}
 use Rattle.line_sessions.proofs.AnswerLemmas.{on_ok_so, told_fault}
 use Rattle.line_sessions.proofs.answering.Session.answer.Goals as goal

@@ -1,0 +1,59 @@
+-- From the plan that a value is to what the bytes stand for.
+use Rattle.std.proofs.Common.{◌≡◌, List, ℕ, Result, Ok, Err, Option, Some, None, IfSome, ◌<◌, ◌≤◌, ◌+◌, ◌++◌, [], length, ◌∙◌, inl, inr, refl, ap, sym, subst, arith}
+use Rattle.std.proofs.lemmas.List.{length-append, append_assoc}
+use Rattle.std.specs.Io.KnownBytes.{Consumes}
+use Rattle.scenario_text.specs.declared.fault.Fault.{Fault}
+use Rattle.scenario_text.specs.declared.fault.Fault.TheVariants.{Read, Memory}
+use Rattle.scenario_text.specs.Fields.{Gives}
+use Rattle.scenario_text.specs.OneStep.{AnswersBy}
+use Rattle.scenario_text.specs.Plan.{Plan}
+use Rattle.scenario_text.specs.Scenarios.{plan_of, most_bytes, StandsFor, too_long, no_value, value, Answers, Yields, Tells, IsFront, Takes}
+
+pub answers_of : (P : Result Plan Fault → Type 0) (plan r : Result Plan Fault) → Yields (λ s. s) r plan → P plan → Answers r P
+answers_of P plan (Err Memory) y p = tt
+answers_of P plan (Ok s) y p = subst P y p
+answers_of P plan (Err e) y p = subst P y p
+
+pub answers_by : {X Y : Type 0} (view : X → Y) (P : Result Y Fault → Type 0) (r : Result X Fault) (q : Result Y Fault) → Gives view r q → P q → AnswersBy view r P
+answers_by view P (Err Memory) q is p = tt
+answers_by view P (Ok x) q is p = subst P (sym is) p
+answers_by view P (Err e) q is p = subst P (sym is) p
+
+pub weaker_answers : (P Q : Result Plan Fault → Type 0) (r : Result Plan Fault) → ((q : Result Plan Fault) → P q → Q q) → Answers r P → Tells r Q
+weaker_answers P Q (Ok s) f a = f (Ok s) a
+weaker_answers P Q (Err Memory) f a = tt
+weaker_answers P Q (Err Read) f a = tt
+weaker_answers P Q (Err e) f a = f (Err e) a
+
+-- what a long front has, the whole has
+longer : (bytes rest input : List ℕ) (q : Result Plan Fault) → most_bytes < length bytes → input ≡ bytes ++ rest → StandsFor bytes q → StandsFor input q
+longer bytes rest input q long is (too_long h) = too_long (simp (is, length-append) (omega arith))
+longer bytes rest input q long is (no_value short h) = absurd (omega arith)
+longer bytes rest input q long is (value d short h) = absurd (omega arith)
+
+pub front_stands : (bytes input : List ℕ) (q : Result Plan Fault) → IsFront bytes input → StandsFor bytes q → StandsFor input q
+front_stands bytes input q (inl e) s = let P : List ℕ → Type 0 = λ xs. StandsFor xs q in subst P (sym e) s
+front_stands bytes input q (inr h) s = longer bytes h.1 input q h.0 h.2 s
+
+pub some_weaker : {X : Type 0} (o : Option X) (P Q : X → Type 0) → ((x : X) → P x → Q x) → IfSome o P → IfSome o Q
+some_weaker None P Q f h = tt
+some_weaker (Some x) P Q f h = f x h
+
+pub one : (bytes : List ℕ) (r q : Result Plan Fault) → StandsFor bytes r → StandsFor bytes q → r ≡ q
+one bytes r q (too_long h) (too_long k) = refl
+one bytes r q (too_long h) (no_value s k) = absurd (omega arith)
+one bytes r q (too_long h) (value d s k) = absurd (omega arith)
+one bytes r q (no_value s h) (too_long k) = absurd (omega arith)
+one bytes r q (no_value s h) (no_value t k) = refl
+one bytes r q (no_value s h) (value d t k) = let no = h k.0 in let yes = k.1 in cc
+one bytes r q (value d s h) (too_long k) = absurd (omega arith)
+one bytes r q (value d s h) (no_value t k) = let no = k h.0 in let yes = h.1 in cc
+one bytes r q (value d s h) (value e t k) = let a = h.1 in let b = k.1 in let same : d ≡ e = cc in ap plan_of same
+
+-- what two reads lost one after the other
+pub takes_more : (a b c : Option (List ℕ)) (xs ys : List ℕ) (n : ℕ) → Consumes a b xs → Consumes b c ys → length xs + length ys ≤ n → Takes a c n
+takes_more None b c xs ys n p q h = ([], omega arith, tt)
+takes_more (Some a) None c xs ys n p q h = absurd p
+takes_more (Some a) (Some b) None xs ys n p q h = absurd q
+takes_more (Some a) (Some b) (Some c) xs ys n p q h =
+    (xs ++ ys, simp length-append h, p ∙ ap (λ zs. xs ++ zs) q ∙ sym (append_assoc xs ys c))

@@ -1,0 +1,4 @@
+pub mod RuleLemmas
+pub mod StepLemmas
+pub mod Answering
+pub mod RetryLemmas

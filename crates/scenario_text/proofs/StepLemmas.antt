@@ -1,0 +1,16 @@
+-- How many steps an array has.
+use Rattle.std.proofs.Common.{◌≡◌, ◌<◌, ◌≤◌, List, length, Result, Err, arith}
+use Rattle.std.proofs.lemmas.Bool.Decides.{nat_tests}
+use Rattle.json_data.proofs.Lookups.{items_len-items_view}
+use Rattle.json_data.specs.Reading.{items_view}
+use Rattle.json.specs.declared.value.Value.{Value}
+use Rattle.scenario_text.specs.declared.fault.Fault.{Fault}
+use Rattle.scenario_text.specs.declared.fault.Fault.TheVariants.{TooManySteps}
+use Rattle.scenario_text.specs.Plan.{most_steps}
+use Rattle.scenario_text.specs.Scenarios.{bounded}
+
+pub many_steps : {X : Type 0} (vs : List Value) (r : Result X Fault) → most_steps < length vs → bounded (items_view vs) r ≡ Err TooManySteps
+many_steps vs r h = let n = items_len-items_view vs in grind (arith, nat_tests)
+
+pub few_steps : {X : Type 0} (vs : List Value) (r : Result X Fault) → length vs ≤ most_steps → bounded (items_view vs) r ≡ r
+few_steps vs r h = let n = items_len-items_view vs in grind (arith, nat_tests)

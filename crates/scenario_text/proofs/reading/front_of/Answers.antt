@@ -1,0 +1,10 @@
+use Rattle.std.proofs.Common.{rules, ◌≤◌, ◌-◌, length, take, arith}
+use Rattle.std.proofs.lemmas.List.{length-take}
+use Rattle.scenario_text.proofs.Answering.{takes_more}
+use Rattle.scenario_text.proofs.reading.front_of.Goals as goal
+
+pub returns-in_err-extend_from_slice-clause-takes : goal.returns-in_err-extend_from_slice-clause-takes
+returns-in_err-extend_from_slice-clause-takes g c =
+    let short : length c.read_some.new.buf ≤ 4194305 - c.len-in-loop-chunk.result = search rules in
+    takes_more _ _ _ c.loop-chunk.bytes.items (take c.in_ok-n.n c.read_some.new.buf) 4194305
+    c.loop-chunk.invariant.1 (search rules) (omega (arith, length-take c.in_ok-n.n c.read_some.new.buf, short))

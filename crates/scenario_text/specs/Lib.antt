@@ -1,0 +1,11 @@
+pub mod Fields
+pub mod Names
+pub mod Plan
+pub mod Arrays
+pub mod Rules
+pub mod Acts
+pub mod Tracing
+pub mod Steps
+pub mod Faults
+pub mod Scenarios
+pub mod OneStep

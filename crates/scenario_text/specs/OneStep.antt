@@ -1,0 +1,23 @@
+-- A text that is one step.
+use Rattle.std.specs.Prelude.{⊤, ◌<◌, ◌≤◌, ℕ, List, length, Result, Ok, Err}
+use Rattle.serde_json.specs.Data.{Data}
+use Rattle.requests.specs.Run.{Asked}
+use Rattle.scenario_text.specs.declared.fault.Fault.{Fault}
+use Rattle.scenario_text.specs.declared.fault.Fault.TheVariants.{TooLong, BadJson, Memory}
+use Rattle.scenario_text.specs.Scenarios.{numbered, HasValue, HasNoValue}
+use Rattle.scenario_text.specs.Steps.{step_of}
+
+abbrev pub most_step_bytes : ℕ
+most_step_bytes = 65536
+
+-- the bytes are a step, as an item of a scenario's `steps` is, or have the fault; such a step has the number 1
+pub data IsStep (bytes : List ℕ) : Result Asked Fault → Type 0 where
+  too_long : most_step_bytes < length bytes → IsStep bytes (Err TooLong)
+  no_value : length bytes ≤ most_step_bytes → HasNoValue bytes → IsStep bytes (Err BadJson)
+  value : (d : Data) → length bytes ≤ most_step_bytes → HasValue bytes d → IsStep bytes (numbered 1 (step_of d))
+
+-- what was returned, seen by view, stands in the relation, unless memory ran out
+abbrev pub AnswersBy : {X Y : Type 0} → (X → Y) → Result X Fault → (Result Y Fault → Type 0) → Type 0
+AnswersBy view (Ok x) P = P (Ok (view x))
+AnswersBy view (Err Memory) P = ⊤
+AnswersBy view (Err e) P = P (Err e)

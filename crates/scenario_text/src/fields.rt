@@ -1,0 +1,104 @@
+//! One key of a JSON object, and what is wrong with it.
+ghost use Rattle.std.specs.Prelude.{◌≡◌, map};
+ghost use Rattle.json_data.specs.Reading.{view, items_view};
+ghost use Rattle.scenario_text.specs.Fields.{member_at, integer_of, integer_at, number_within, word_of, word_at, text_of, text_at, items_of, only, object_of, Gives};
+
+use json::Value;
+use json_data::{get, has_only, is_object};
+
+/// What is wrong with a step.
+#[derive(Clone, Copy, Debug, PartialEq, Eq)]
+pub(crate) enum Flaw {
+    Shape,
+    User,
+    Name,
+    Number,
+    TooManyRules,
+}
+
+pub(crate) fn member<'v, 'a>(object: &'v Value<'a>, key: &str) -> Result<&'v Value<'a>, Flaw>
+    ensures { Gives (λ v. view v.now) result (member_at key.now (view object.now)) }
+{
+    get(object, key).ok_or(Flaw::Shape)
+}
+
+/// A whole number that fits i64.
+pub(crate) fn integer_of(value: &Value<'_>) -> Result<i64, Flaw>
+    ensures { result ≡ integer_of (view value.now) }
+{
+    json_data::integer(value).ok_or(Flaw::Shape)
+}
+
+pub(crate) fn integer(object: &Value<'_>, key: &str) -> Result<i64, Flaw>
+    ensures { result ≡ integer_at key.now (view object.now) }
+{
+    integer_of(member(object, key)?)
+}
+
+/// A whole number from the least to the greatest.
+pub(crate) fn number_within(value: &Value<'_>, least: u32, greatest: u32) -> Result<u32, Flaw>
+    ensures { result ≡ number_within least greatest (view value.now) }
+{
+    let number = integer_of(value)?;
+    if i64::from(least) <= number && number <= i64::from(greatest) {
+        Ok(number as u32)
+    } else {
+        Err(Flaw::Number)
+    }
+}
+
+/// A whole number of 32 bits.
+pub(crate) fn word_of(value: &Value<'_>) -> Result<u32, Flaw>
+    ensures { result ≡ word_of (view value.now) }
+{
+    number_within(value, 0, u32::MAX)
+}
+
+pub(crate) fn word(object: &Value<'_>, key: &str) -> Result<u32, Flaw>
+    ensures { result ≡ word_at key.now (view object.now) }
+{
+    word_of(member(object, key)?)
+}
+
+/// The text at a key.
+pub(crate) fn text<'a>(object: &Value<'a>, key: &str) -> Result<&'a str, Flaw>
+    ensures { Gives (λ t. t.now) result (text_at key.now (view object.now)) }
+{
+    text_of(member(object, key)?)
+}
+
+/// The items of an array.
+pub(crate) fn items_of<'v, 'a>(value: &'v Value<'a>) -> Result<&'v [Value<'a>], Flaw>
+    ensures { Gives (λ items. items_view items.now) result (items_of (view value.now)) }
+{
+    json_data::array(value).ok_or(Flaw::Shape)
+}
+
+/// The value is a text.
+pub(crate) fn text_of<'a>(value: &Value<'a>) -> Result<&'a str, Flaw>
+    ensures { Gives (λ t. t.now) result (text_of (view value.now)) }
+{
+    json_data::text(value).ok_or(Flaw::Shape)
+}
+
+/// There is no other key than these.
+pub(crate) fn only(object: &Value<'_>, keys: &[&str]) -> Result<(), Flaw>
+    ensures { result ≡ only (map (λ k. k.now) keys.now) (view object.now) }
+{
+    if has_only(object, keys) {
+        Ok(())
+    } else {
+        Err(Flaw::Shape)
+    }
+}
+
+/// The value is an object.
+pub(crate) fn object_of(value: &Value<'_>) -> Result<(), Flaw>
+    ensures { result ≡ object_of (view value.now) }
+{
+    if is_object(value) {
+        Ok(())
+    } else {
+        Err(Flaw::Shape)
+    }
+}

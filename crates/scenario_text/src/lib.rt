@@ -1,0 +1,22 @@
+//! Scenarios as text: from JSON bytes to the steps of users.
+#![tactic(auto)]
+
+mod acts;
+mod arrays;
+mod fault;
+mod fields;
+mod names;
+mod one_step;
+mod parsing;
+mod plan;
+mod reading;
+mod retrying;
+mod rules;
+mod steps;
+mod tracing;
+
+pub use fault::Fault;
+pub use one_step::{MOST_STEP_BYTES, parse_step};
+pub use parsing::{one_answer, parse};
+pub use plan::{Scenario, USERS};
+pub use reading::read;

@@ -1,0 +1,52 @@
+//! A text that is one step.
+ghost use Rattle.std.specs.Prelude.{◌≢◌, IfErr};
+ghost use Rattle.json_data.specs.Reading.{view};
+ghost use Rattle.scenario_text.specs.Fields.{Gives};
+ghost use Rattle.scenario_text.specs.OneStep.{IsStep, AnswersBy};
+ghost use Rattle.scenario_text.specs.Plan.{asked};
+ghost use Rattle.scenario_text.specs.Scenarios.{numbered};
+ghost use Rattle.scenario_text.specs.Steps.{step_of};
+ghost use Rattle.scenario_text.specs.declared.fault.Fault.TheVariants.{Read as ReadFault};
+
+use crate::fault::Fault;
+use crate::steps::step_of;
+use pid_blocks::Uid;
+use requests::PlainStep;
+use json::{Scratch, Value};
+use json_data::{Refusal, from_slice};
+use std::alloc::Global;
+
+/// The most bytes of a step's text.
+pub const MOST_STEP_BYTES: usize = 65536;
+
+/// The step that a JSON value is, or its first flaw, as the fault of the step with number 1.
+fn step_at(value: &Value<'_>) -> Result<(Uid, PlainStep), Fault>
+    ensures step { Gives asked result (numbered 1 (step_of (view value.now))) }
+    ensures no_read { IfErr result (λ e. e ≢ ReadFault) }
+{
+    match step_of(value) {
+        Ok((user, step)) => Ok((user, step)),
+        Err(flaw) => Err(flaw.at(1)),
+    }
+}
+
+/// The step that the bytes of a JSON text are, as an item of a scenario's steps.
+///
+/// # Errors
+///
+/// The first check that fails: more than `MOST_STEP_BYTES` bytes, no JSON text, and then the step's keys as `parse` checks them; the
+/// step has the number 1. `Memory` where no memory was left. Never `Read`.
+pub fn parse_step(alloc: Global, bytes: &[u8]) -> Result<(Uid, PlainStep), Fault>
+    ensures step { AnswersBy asked result (IsStep bytes.now) }
+    ensures no_read { IfErr result (λ e. e ≢ ReadFault) }
+{
+    if bytes.len() > MOST_STEP_BYTES {
+        return Err(Fault::TooLong);
+    }
+    let mut scratch = Scratch::new(alloc);
+    match from_slice(alloc, bytes, &mut scratch) {
+        Ok(value) => step_at(&value),
+        Err(Refusal::Memory) => Err(Fault::Memory),
+        Err(Refusal::Invalid) => Err(Fault::BadJson),
+    }
+}

@@ -1,0 +1,150 @@
+//! Bytes to a scenario.
+ghost use Rattle.std.specs.Prelude.{List, ℕ, Result, Ok, ◌≡◌, ◌≢◌, ◌≤◌, length, map, IfOk, IfErr, codes, pos};
+ghost use Rattle.json_data.specs.Reading.{view, items_view};
+ghost use Rattle.scenario_text.specs.Fields.{Gives, integer_of, optional_at};
+ghost use Rattle.scenario_text.specs.Plan.{Plan, most_steps, asked};
+ghost use Rattle.scenario_text.specs.declared.fault.Fault.{Fault};
+ghost use Rattle.scenario_text.specs.declared.fault.Fault.TheVariants.{Read as ReadFault};
+ghost use Rattle.scenario_text.specs.Steps.{step_of};
+ghost use Rattle.scenario_text.specs.Scenarios.{at_step, numbered, settings_of, steps_from, head_of, plan_of, bounded, StandsFor, Yields, Pushes, Answers};
+
+use crate::fault::Fault;
+use crate::fields::{Flaw, integer_of, items_of, member, object_of, only};
+use crate::plan::{MOST_STEPS, Scenario};
+use crate::steps::step_of;
+use pid_blocks::Uid;
+use requests::PlainStep;
+use json::{Scratch, Value};
+use json_data::{Refusal, from_slice, get};
+use std::alloc::Global;
+use trace_stop::Settings;
+
+/// The most bytes of a scenario's text.
+pub(crate) const MOST_BYTES: usize = 4194304;
+
+impl Flaw {
+    pub(crate) fn at(self, number: u32) -> Fault
+        ensures { result ≡ at_step number self }
+    {
+        match self {
+            Flaw::Shape => Fault::BadShape(number),
+            Flaw::User => Fault::BadUser(number),
+            Flaw::Name => Fault::BadName(number),
+            Flaw::Number => Fault::BadNumber(number),
+            Flaw::TooManyRules => Fault::TooManyRules(number),
+        }
+    }
+}
+
+fn push<T: Drop>(items: &mut Vec<T>, item: T) -> Result<(), Fault>
+    ensures { Pushes (λ v. v.items) items.old items.new result (Ok item) }
+{
+    items.push(item)?;
+    Ok(())
+}
+
+/// Adds the step that a value is, or names its first flaw as the fault of the step with this number.
+fn push_step(steps: &mut Vec<(Uid, PlainStep)>, value: &Value<'_>, number: u32) -> Result<(), Fault>
+    ensures pushes { Pushes (λ v. map asked v.items) steps.old steps.new result
+        (numbered number (step_of (view value.now))) }
+    ensures no_read { IfErr result (λ e. e ≢ ReadFault) }
+{
+    match step_of(value) {
+        Ok((user, step)) => push(steps, (user, step)),
+        Err(flaw) => Err(flaw.at(number)),
+    }
+}
+
+fn steps_of(alloc: Global, items: &[Value<'_>]) -> Result<Vec<(Uid, PlainStep)>, Fault>
+    requires { length items.now ≤ most_steps }
+    ensures yields { Yields (λ v. map asked v.items) result (steps_from 1 (items_view items.now)) }
+    ensures bound { IfOk result (λ v. length v.items ≤ most_steps) }
+    ensures no_read { IfErr result (λ e. e ≢ ReadFault) }
+{
+    let mut steps = Vec::new(alloc);
+    for (i, item) in items.iter().enumerate() {
+        push_step(&mut steps, item, i as u32 + 1)?;
+    }
+    Ok(steps)
+}
+
+fn kill_at(value: &Value<'_>) -> Result<i64, Flaw>
+    ensures { result ≡ optional_at (codes "kill_on_debugger_exit") (pos 1) integer_of (view value.now) }
+{
+    match get(value, "kill_on_debugger_exit") {
+        Some(value) => integer_of(value),
+        None => Ok(1),
+    }
+}
+
+fn settings_of(kill: i64) -> Result<Settings, Flaw>
+    ensures { result ≡ settings_of kill }
+{
+    match kill {
+        0 => Ok(Settings::detach_on_exit()),
+        1 => Ok(Settings::standard()),
+        _ => Err(Flaw::Number),
+    }
+}
+
+#[tactic(auto, unfolding(crate::specs::Scenarios::head_of))]
+fn head_of<'v, 'a>(value: &'v Value<'a>) -> Result<(&'v [Value<'a>], Settings), Flaw>
+    ensures { Gives (λ x. (items_view x.0.now, x.1)) result (head_of (view value.now)) }
+{
+    object_of(value)?;
+    let items = items_of(member(value, "steps")?)?;
+    let kill = kill_at(value)?;
+    only(value, &["steps", "kill_on_debugger_exit"])?;
+    let settings = settings_of(kill)?;
+    Ok((items, settings))
+}
+
+#[tactic(auto, using(crate::proofs::StepLemmas::many_steps, crate::proofs::StepLemmas::few_steps))]
+fn bounded_steps(alloc: Global, items: &[Value<'_>]) -> Result<Vec<(Uid, PlainStep)>, Fault>
+    ensures yields { Yields (λ v. map asked v.items) result
+        (bounded (items_view items.now) (steps_from 1 (items_view items.now))) }
+    ensures bound { IfOk result (λ v. length v.items ≤ most_steps) }
+    ensures no_read { IfErr result (λ e. e ≢ ReadFault) }
+{
+    if items.len() > MOST_STEPS {
+        return Err(Fault::TooManySteps);
+    }
+    steps_of(alloc, items)
+}
+
+#[tactic(auto, unfolding(crate::specs::Scenarios::plan_of))]
+fn plan_of(alloc: Global, value: &Value<'_>) -> Result<Scenario, Fault>
+    ensures yields { Yields (λ s. s) result (plan_of (view value.now)) }
+    ensures no_read { IfErr result (λ e. e ≢ ReadFault) }
+{
+    let (items, settings) = head_of(value).map_err(|flaw| flaw.at(0))?;
+    let steps = bounded_steps(alloc, items)?;
+    Ok(Scenario::new(settings, steps))
+}
+
+/// The scenario that the bytes of a JSON text stand for.
+///
+/// # Errors
+///
+/// The first check that fails: more than `MOST_BYTES` bytes, no JSON text, the shape of the whole, more than `MOST_STEPS` steps,
+/// and then each step in order, with its keys in the order of its op, and last a key that its op doesn't have. `Memory` where no
+/// memory was left. Never `Read`.
+pub fn parse(alloc: Global, bytes: &[u8]) -> Result<Scenario, Fault>
+    ensures stands { Answers result (StandsFor bytes.now) }
+    ensures no_read { IfErr result (λ e. e ≢ ReadFault) }
+{
+    if bytes.len() > MOST_BYTES {
+        return Err(Fault::TooLong);
+    }
+    let mut scratch = Scratch::new(alloc);
+    match from_slice(alloc, bytes, &mut scratch) {
+        Ok(value) => plan_of(alloc, &value),
+        Err(Refusal::Memory) => Err(Fault::Memory),
+        Err(Refusal::Invalid) => Err(Fault::BadJson),
+    }
+}
+
+/// No bytes stand for two scenarios, nor for one and a fault, nor have two faults.
+pub fn one_answer()
+    ensures { (bytes : List ℕ) (r q : Result Plan Fault) → StandsFor bytes r → StandsFor bytes q → r ≡ q }
+{}

@@ -1,0 +1,44 @@
+//! A reader's bytes to a scenario.
+ghost use Rattle.std.specs.Prelude.{◌≡◌, ◌+◌, ◌⊎◌, IfOk, IfErr, IfSome};
+ghost use Rattle.scenario_text.specs.declared.fault.Fault.TheVariants.{Memory, Read as ReadFault};
+ghost use Rattle.scenario_text.specs.Scenarios.{IsFront, StandsFor, Tells, Takes, most_bytes};
+
+use crate::fault::Fault;
+use crate::parsing::{MOST_BYTES, parse};
+use crate::plan::Scenario;
+use crate::retrying::read_some;
+use std::alloc::Global;
+use std::io::Read;
+
+/// The bytes of a reader to their end, or to the first that is too many.
+fn front_of<R: Read>(alloc: Global, reader: &mut R) -> Result<Vec<u8>, Fault>
+    ensures front { IfOk result (λ v. IfSome (R.remaining reader.old) (IsFront v.items)) }
+    ensures takes { Takes (R.remaining reader.old) (R.remaining reader.new) (most_bytes + 1) }
+    ensures err { IfErr result (λ e. (e ≡ Memory) ⊎ (e ≡ ReadFault)) }
+{
+    let mut bytes = Vec::new(alloc);
+    while bytes.len() <= MOST_BYTES {
+        let mut chunk = [0u8; 4096];
+        let room = chunk.len().min(MOST_BYTES + 1 - bytes.len());
+        let part = &mut chunk[..room];
+        let n = read_some(reader, part).map_err(|_| Fault::Read)?;
+        if n == 0 {
+            return Ok(bytes);
+        }
+        bytes.extend_from_slice(&part[..n])?;
+    }
+    Ok(bytes)
+}
+
+/// The scenario that a reader's bytes stand for. No more than one byte beyond `MOST_BYTES` is taken from the reader.
+///
+/// # Errors
+///
+/// `Read` where the reader failed, else as `parse`.
+pub fn read<R: Read>(alloc: Global, reader: &mut R) -> Result<Scenario, Fault>
+    ensures stands { IfSome (R.remaining reader.old) (λ input. Tells result (StandsFor input)) }
+    ensures takes { Takes (R.remaining reader.old) (R.remaining reader.new) (most_bytes + 1) }
+{
+    let bytes = front_of(alloc, reader)?;
+    parse(alloc, bytes.as_slice())
+}

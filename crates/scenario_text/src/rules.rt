@@ -1,0 +1,128 @@
+//! The rules of a policy.
+ghost use Rattle.std.specs.Prelude.{◌≡◌, ◌≤◌, length, None, codes};
+ghost use Rattle.json_data.specs.Reading.{view, items_view};
+ghost use Rattle.event_masks.specs.Exits.{no_flags};
+ghost use Rattle.scenario_text.specs.Arrays.{flags_of as flags_in};
+ghost use Rattle.scenario_text.specs.Fields.{each, only, optional_at, name_at};
+ghost use Rattle.scenario_text.specs.Names.{decision_named};
+ghost use Rattle.scenario_text.specs.Rules.{some_signal_of, pass_at, decision_of, rule_keys, rule_of, rules_of};
+
+use crate::arrays::{flags_of, signal_of};
+use crate::fields::{Flaw, number_within, object_of, only, text};
+use crate::names::{DecisionKind, decision_named};
+use event_masks::StopFlags;
+use json::Value;
+use json_data::get;
+use signals::{Pass, Signal};
+use stop_handlers::{Decision, Policy, Rule};
+
+fn signal_at(rule: &Value<'_>) -> Result<Option<Signal>, Flaw>
+    ensures { result ≡ optional_at (codes "signal") None some_signal_of (view rule.now) }
+{
+    match get(rule, "signal") {
+        Some(value) => Ok(Some(signal_of(value)?)),
+        None => Ok(None),
+    }
+}
+
+fn flags_at(rule: &Value<'_>) -> Result<StopFlags, Flaw>
+    ensures { result ≡ optional_at (codes "flags") no_flags flags_in (view rule.now) }
+{
+    match get(rule, "flags") {
+        Some(value) => flags_of(value),
+        None => Ok(StopFlags::none()),
+    }
+}
+
+fn pass_number_at(rule: &Value<'_>) -> Result<u32, Flaw>
+    ensures { result ≡ pass_at (view rule.now) }
+{
+    match get(rule, "pass") {
+        Some(value) => number_within(value, 0, 31),
+        None => Ok(0),
+    }
+}
+
+/// The signal that a process is let go on with.
+fn pass_at(rule: &Value<'_>) -> Result<Pass, Flaw>
+    ensures { result ≡ pass_at (view rule.now) }
+{
+    Pass::new(pass_number_at(rule)?).map_err(|_| Flaw::Number)
+}
+
+fn kind_at(rule: &Value<'_>) -> Result<DecisionKind, Flaw>
+    ensures { result ≡ name_at (codes "decision") decision_named (view rule.now) }
+{
+    decision_named(text(rule, "decision")?).ok_or(Flaw::Name)
+}
+
+fn decision_of(rule: &Value<'_>, kind: DecisionKind) -> Result<Decision, Flaw>
+    ensures { result ≡ decision_of kind (view rule.now) }
+{
+    match kind {
+        DecisionKind::Decline => Ok(Decision::Decline),
+        DecisionKind::Leave => Ok(Decision::Leave),
+        DecisionKind::Continue => Ok(Decision::Continue(pass_at(rule)?)),
+        DecisionKind::Detach => Ok(Decision::Detach(pass_at(rule)?)),
+        DecisionKind::Kill => Ok(Decision::Kill),
+    }
+}
+
+/// The rule has no other keys than those with such a decision.
+fn only_rule_keys(rule: &Value<'_>, kind: DecisionKind) -> Result<(), Flaw>
+    ensures { result ≡ only (rule_keys kind) (view rule.now) }
+{
+    match kind {
+        DecisionKind::Decline | DecisionKind::Leave | DecisionKind::Kill => {
+            only(rule, &["signal", "flags", "decision"])
+        }
+        DecisionKind::Continue | DecisionKind::Detach => {
+            only(rule, &["signal", "flags", "decision", "pass"])
+        }
+    }
+}
+
+#[tactic(auto, unfolding(crate::specs::Rules::rule_of))]
+fn rule_of(value: &Value<'_>) -> Result<Rule, Flaw>
+    ensures { result ≡ rule_of (view value.now) }
+{
+    object_of(value)?;
+    let signal = signal_at(value)?;
+    let flags = flags_at(value)?;
+    let kind = kind_at(value)?;
+    let decision = decision_of(value, kind)?;
+    only_rule_keys(value, kind)?;
+    Ok(Rule {
+        signal,
+        flags,
+        decision,
+    })
+}
+
+/// The policy of an array of at most 16 rules.
+fn few_rules(items: &[Value<'_>]) -> Result<Policy, Flaw>
+    requires { length items.now ≤ 16 }
+    ensures { result ≡ each rule_of (items_view items.now) }
+{
+    let idle = Rule {
+        signal: None,
+        flags: StopFlags::none(),
+        decision: Decision::Decline,
+    };
+    let mut rules = [idle; 16];
+    for (i, item) in items.iter().enumerate() {
+        rules[i] = rule_of(item)?;
+    }
+    Policy::new(&rules[..items.len()]).map_err(|_| Flaw::TooManyRules)
+}
+
+/// The policy of an array of rules. More than 16 rules are refused before any of them is read.
+#[tactic(auto, using(crate::proofs::RuleLemmas::many_rules, crate::proofs::RuleLemmas::few_rules))]
+pub(crate) fn rules_of(items: &[Value<'_>]) -> Result<Policy, Flaw>
+    ensures { result ≡ rules_of (items_view items.now) }
+{
+    if items.len() > 16 {
+        return Err(Flaw::TooManyRules);
+    }
+    few_rules(items)
+}
