@@ -8,10 +8,10 @@ use Rattle.scenario_text.specs.declared.fields.Flaw.TheVariants.{TooManyRules}
 use Rattle.scenario_text.specs.Fields.{each}
 use Rattle.scenario_text.specs.Rules.{rule_of, rules_of}
 
-pub many_rules : (vs : List Value) → 16 < length vs → rules_of (items_view vs) ≡ Err TooManyRules
+pub many_rules : {A : Type 0} (vs : List (Value A)) → 16 < length vs → rules_of (items_view vs) ≡ Err TooManyRules
 unfolding rules_of
 many_rules vs h = let n = items_len-items_view vs in grind (arith, nat_tests)
 
-pub few_rules : (vs : List Value) → length vs ≤ 16 → rules_of (items_view vs) ≡ each rule_of (items_view vs)
+pub few_rules : {A : Type 0} (vs : List (Value A)) → length vs ≤ 16 → rules_of (items_view vs) ≡ each rule_of (items_view vs)
 unfolding rules_of
 few_rules vs h = let n = items_len-items_view vs in grind (arith, nat_tests)

@@ -9,8 +9,8 @@ use Rattle.scenario_text.specs.declared.fault.Fault.TheVariants.{TooManySteps}
 use Rattle.scenario_text.specs.Plan.{most_steps}
 use Rattle.scenario_text.specs.Scenarios.{bounded}
 
-pub many_steps : {X : Type 0} (vs : List Value) (r : Result X Fault) → most_steps < length vs → bounded (items_view vs) r ≡ Err TooManySteps
+pub many_steps : {X A : Type 0} (vs : List (Value A)) (r : Result X Fault) → most_steps < length vs → bounded (items_view vs) r ≡ Err TooManySteps
 many_steps vs r h = let n = items_len-items_view vs in grind (arith, nat_tests)
 
-pub few_steps : {X : Type 0} (vs : List Value) (r : Result X Fault) → length vs ≤ most_steps → bounded (items_view vs) r ≡ r
+pub few_steps : {X A : Type 0} (vs : List (Value A)) (r : Result X Fault) → length vs ≤ most_steps → bounded (items_view vs) r ≡ r
 few_steps vs r h = let n = items_len-items_view vs in grind (arith, nat_tests)

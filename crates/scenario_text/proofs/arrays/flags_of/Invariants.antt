@@ -8,4 +8,4 @@ use Rattle.scenario_text.proofs.arrays.flags_of.Given as goal
 
 abbrev pub invariant-loop-item : goal.invariant-loop-item
 invariant-loop-item l =
-    (each (name_in flag_named) (items_view (drop l.item-index l.item-items)) >>= (λ xs. Ok (fold both l.flags xs))) ≡ flags_of (view l.value)
+    (each (name_in flag_named) (items_view (drop l.item-index l.items)) >>= (λ xs. Ok (fold both l.flags xs))) ≡ flags_of (view l.value)

@@ -7,4 +7,4 @@ use Rattle.scenario_text.proofs.arrays.options_of.Given as goal
 
 abbrev pub invariant-loop-item : goal.invariant-loop-item
 invariant-loop-item l =
-    (each (name_in option_named) (items_view (drop l.item-index l.item-items)) >>= (λ xs. Ok (fold with_option l.options xs))) ≡ options_of (view l.value)
+    (each (name_in option_named) (items_view (drop l.item-index l.items)) >>= (λ xs. Ok (fold with_option l.options xs))) ≡ options_of (view l.value)

@@ -7,4 +7,4 @@ use Rattle.scenario_text.proofs.arrays.set_of.Given as goal
 
 abbrev pub invariant-loop-item : goal.invariant-loop-item
 invariant-loop-item l =
-    (each signal_of (items_view (drop l.item-index l.item-items)) >>= (λ xs. Ok (fold with l.set xs))) ≡ set_of (view l.value)
+    (each signal_of (items_view (drop l.item-index l.items)) >>= (λ xs. Ok (fold with l.set xs))) ≡ set_of (view l.value)

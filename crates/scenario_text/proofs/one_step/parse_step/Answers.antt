@@ -15,5 +15,5 @@ returns-in-Ok-clause-step c =
     answers_by asked (IsStep c.args.bytes.now) c.step_at.result (numbered 1 (step_of (view c.in-Ok.value))) c.step_at.ensures.step
     (value (view c.in-Ok.value) (omega arith) (search rules))
 
-pub returns-in-Err-2-clause-step : goal.returns-in-Err-2-clause-step
-returns-in-Err-2-clause-step c = no_value (omega arith) (search rules)
+pub returns-clause-step : goal.returns-clause-step
+returns-clause-step c = no_value (omega arith) (search rules)

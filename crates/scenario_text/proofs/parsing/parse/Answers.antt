@@ -12,5 +12,5 @@ returns-in-Ok-clause-stands c =
     answers_of (StandsFor c.args.bytes.now) (plan_of (view c.in-Ok.value)) c.plan_of.result c.plan_of.ensures.yields
     (value (view c.in-Ok.value) (omega arith) (search rules))
 
-pub returns-in-Err-2-clause-stands : goal.returns-in-Err-2-clause-stands
-returns-in-Err-2-clause-stands c = no_value (omega arith) (search rules)
+pub returns-clause-stands : goal.returns-clause-stands
+returns-clause-stands c = no_value (omega arith) (search rules)
