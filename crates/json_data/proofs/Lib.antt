@@ -1,4 +1,5 @@
 pub mod Keys
 pub mod Lookups
+pub mod Loops
 pub mod NumberTexts
 pub mod Ranges

@@ -45,8 +45,8 @@ mutual
   of_members-data (json.member k j ms) found =
       rw (of_json-data j) (on_member (in_range j) (members_in_range ms) (data_of j) (members_data ms (put k (data_of j) found)) (λ d. of_members ms (put k d found)) (of_members-data ms (put k (data_of j) found)))
 
-pub read_in_range : (o : Option (json.Json × List Token)) (j : json.Json) (r : List Token) → o ≡ Some (j, r) → in_range j ≡ true → converted of_json o ≡ Some (data_of j, r)
-read_in_range o j r e within = ap (converted of_json) e ∙ rw (of_json-data j, within)
+pub read_in_range : (j : json.Json) → in_range j ≡ true → of_json j ≡ Some (data_of j)
+read_in_range j within = of_json-data j ∙ rw within refl
 
 pub read_beyond : (o : Option (json.Json × List Token)) (j : json.Json) (r : List Token) → o ≡ Some (j, r) → in_range j ≡ false → converted of_json o ≡ None
 read_beyond o j r e beyond = ap (converted of_json) e ∙ rw (of_json-data j, beyond)

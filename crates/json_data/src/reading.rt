@@ -74,7 +74,7 @@ pub fn next_value<'a>(
     reader: &mut Reader<'a>,
     depth: usize,
 ) -> Result<Value<'a>, Refusal>
-    ensures ok { IfOk result (λ v. converted of_json (value depth reader.old) ≡ Some (view v, reader.new)) }
+    ensures ok { IfOk result (λ v. (value depth reader.old ≡ Some (value_view v, reader.new)) × (of_json (value_view v) ≡ Some (view v))) }
     ensures shorter { OnOk result (length reader.new < length reader.old) }
     ensures invalid { result ≡ Err Refusal.Invalid → converted of_json (value depth reader.old) ≡ None }
 {

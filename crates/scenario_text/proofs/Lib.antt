@@ -2,3 +2,5 @@ pub mod RuleLemmas
 pub mod StepLemmas
 pub mod Answering
 pub mod RetryLemmas
+pub mod ItemLemmas
+pub mod MemberLemmas

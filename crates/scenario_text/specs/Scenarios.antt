@@ -92,6 +92,11 @@ Pushes items old new (Ok done) r = r >>= (λ x. Ok (items old ++ (x ∷ []))) �
 Pushes items old new (Err Memory) r = ⊤
 Pushes items old new (Err e) r = r ≡ Err e
 
+-- it is the scenario of the value that was read, or its fault, and `BadJson` where none was read, unless memory ran out
+abbrev pub IsPlanOf : Result Plan Fault → Option Data → Type 0
+IsPlanOf r (Some d) = Yields (λ s. s) r (plan_of d)
+IsPlanOf r None = Yields (λ s. s) r (Err BadJson)
+
 -- it stands in the relation, unless memory ran out
 abbrev pub Answers : Result Plan Fault → (Result Plan Fault → Type 0) → Type 0
 Answers (Ok s) P = P (Ok s)

@@ -13,6 +13,7 @@ mod reading;
 mod retrying;
 mod rules;
 mod steps;
+mod streaming;
 mod tracing;
 
 pub use fault::Fault;

@@ -6,16 +6,18 @@ ghost use Rattle.scenario_text.specs.Plan.{Plan, most_steps, asked};
 ghost use Rattle.scenario_text.specs.declared.fault.Fault.{Fault};
 ghost use Rattle.scenario_text.specs.declared.fault.Fault.TheVariants.{Read as ReadFault};
 ghost use Rattle.scenario_text.specs.Steps.{step_of};
-ghost use Rattle.scenario_text.specs.Scenarios.{at_step, numbered, settings_of, steps_from, head_of, plan_of, bounded, StandsFor, Yields, Pushes, Answers};
+ghost use Rattle.scenario_text.specs.Scenarios.{at_step, numbered, settings_of, steps_from, head_of, plan_of, bounded, StandsFor, Yields, Pushes, Answers, IsPlanOf};
+ghost use Rattle.serde_json.specs.Read.{read};
 
 use crate::fault::Fault;
 use crate::fields::{Flaw, integer_of, items_of, member, object_of, only};
 use crate::plan::{MOST_STEPS, Scenario};
 use crate::steps::step_of;
+use crate::streaming::stream;
 use pid_blocks::Uid;
 use requests::PlainStep;
 use json::{Scratch, Value};
-use json_data::{Refusal, from_slice, get};
+use json_data::{Refusal, from_str, get};
 use std::alloc::Global;
 use trace_stop::Settings;
 
@@ -44,7 +46,7 @@ fn push<T: Drop>(items: &mut Vec<T>, item: T) -> Result<(), Fault>
 }
 
 /// Adds the step that a value is, or names its first flaw as the fault of the step with this number.
-fn push_step(steps: &mut Vec<(Uid, PlainStep)>, value: &Value<'_>, number: u32) -> Result<(), Fault>
+pub(crate) fn push_step(steps: &mut Vec<(Uid, PlainStep)>, value: &Value<'_>, number: u32) -> Result<(), Fault>
     ensures pushes { Pushes (λ v. map asked v.items) steps.old steps.new result
         (numbered number (step_of (view value.now))) }
     ensures no_read { IfErr result (λ e. e ≢ ReadFault) }
@@ -77,7 +79,7 @@ fn kill_at(value: &Value<'_>) -> Result<i64, Flaw>
     }
 }
 
-fn settings_of(kill: i64) -> Result<Settings, Flaw>
+pub(crate) fn settings_of(kill: i64) -> Result<Settings, Flaw>
     ensures { result ≡ settings_of kill }
 {
     match kill {
@@ -122,6 +124,19 @@ fn plan_of(alloc: Global, value: &Value<'_>) -> Result<Scenario, Fault>
     Ok(Scenario::new(settings, steps))
 }
 
+/// The scenario that a text's value is, or its first fault.
+fn parse_whole(alloc: Global, text: &str) -> Result<Scenario, Fault>
+    ensures yields { IsPlanOf result (read text.now) }
+    ensures no_read { IfErr result (λ e. e ≢ ReadFault) }
+{
+    let mut scratch = Scratch::new(alloc);
+    match from_str(alloc, text, &mut scratch) {
+        Ok(value) => plan_of(alloc, &value),
+        Err(Refusal::Memory) => Err(Fault::Memory),
+        Err(Refusal::Invalid) => Err(Fault::BadJson),
+    }
+}
+
 /// The scenario that the bytes of a JSON text stand for.
 ///
 /// # Errors
@@ -136,11 +151,12 @@ pub fn parse(alloc: Global, bytes: &[u8]) -> Result<Scenario, Fault>
     if bytes.len() > MOST_BYTES {
         return Err(Fault::TooLong);
     }
-    let mut scratch = Scratch::new(alloc);
-    match from_slice(alloc, bytes, &mut scratch) {
-        Ok(value) => plan_of(alloc, &value),
-        Err(Refusal::Memory) => Err(Fault::Memory),
-        Err(Refusal::Invalid) => Err(Fault::BadJson),
+    let Ok(text) = str::from_utf8(bytes) else {
+        return Err(Fault::BadJson);
+    };
+    match stream(alloc, text) {
+        Some(scenario) => Ok(scenario),
+        None => parse_whole(alloc, text),
     }
 }
 

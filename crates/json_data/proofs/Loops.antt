@@ -1,0 +1,45 @@
+-- An array or an object that is read an item or a member at a time, with the data that is read from each.
+use Rattle.std.proofs.Common.{◌≡◌, ℕ, ◌-◌, ◌<◌, ◌≤◌, List, length, Option, Some, None, option_map, refl, ap, ◌∙◌}
+use Rattle.json.specs.Token.{Token}
+use Rattle.json.specs.Json as json
+use Rattle.json.specs.Json.{Parse, parse_map, after_end_array, read_key, items, members}
+use Rattle.json.proofs.Grammar.{items_end, items_more, members_end, members_more}
+use Rattle.serde_json.specs.Data.{Data, array, object, no_items, item, Members, no_members, put}
+use Rattle.serde_json.specs.Read.{of_json, of_items, of_members, converted}
+
+-- what follows a value stays the same
+mapped : {A B : Type 0} (f : A → B) (left : List Token) (o : Option A) → option_map (λ b. (b, left)) (option_map f o) ≡ parse_map f (option_map (λ a. (a, left)) o)
+mapped f left None = refl
+mapped f left (Some a) = refl
+
+pub read_array : (o : Option (json.Items × List Token)) → converted of_json (parse_map json.array o) ≡ parse_map array (converted of_items o)
+read_array None = refl
+read_array (Some p) = mapped array p.1 (of_items p.0)
+
+pub read_object : (o : Option (json.Members × List Token)) → converted of_json (parse_map json.object o) ≡ parse_map object (converted (λ ms. of_members ms no_members) o)
+read_object None = refl
+read_object (Some p) = mapped object p.1 (of_members p.0 no_members)
+
+behind_item : (j : json.Json) (d : Data) (o : Option (json.Items × List Token)) → of_json j ≡ Some d → converted of_items (parse_map (json.item j) o) ≡ parse_map (item d) (converted of_items o)
+behind_item j d None is = refl
+behind_item j d (Some p) is = rw is (mapped (item d) p.1 (of_items p.0))
+
+behind_member : (k : List ℕ) (j : json.Json) (d : Data) (found : Members) (o : Option (json.Members × List Token)) → of_json j ≡ Some d
+    → converted (λ ms. of_members ms found) (parse_map (json.member k j) o) ≡ converted (λ ms. of_members ms (put k d found)) o
+behind_member k j d found None is = refl
+behind_member k j d found (Some p) is = rw is
+
+pub next_item : (p : Parse json.Json) (n : ℕ) (ts left : List Token) (j : json.Json) (d : Data) → 0 < n → after_end_array ts ≡ None → p ts ≡ Some (j, left) → of_json j ≡ Some d
+    → converted of_items (items p n ts) ≡ parse_map (item d) (converted of_items (items p (n - 1) left))
+next_item p n ts left j d some going one is = ap (converted of_items) (items_more p n ts left j some going one) ∙ behind_item j d (items p (n - 1) left) is
+
+pub last_item : (p : Parse json.Json) (n : ℕ) (ts left : List Token) → length ts ≤ n → after_end_array ts ≡ Some left → converted of_items (items p n ts) ≡ Some (no_items, left)
+last_item p n ts left enough over = ap (converted of_items) (items_end p n ts left enough over)
+
+pub next_member : (p : Parse json.Json) (found : Members) (n : ℕ) (k : List ℕ) (ts after left : List Token) (j : json.Json) (d : Data) → 0 < n → read_key ts ≡ Some (Some k, after) → p after ≡ Some (j, left) → of_json j ≡ Some d
+    → converted (λ ms. of_members ms found) (members p n ts) ≡ converted (λ ms. of_members ms (put k d found)) (members p (n - 1) left)
+next_member p found n k ts after left j d some key one is =
+    ap (converted (λ ms. of_members ms found)) (members_more p n k ts after left j some key one) ∙ behind_member k j d found (members p (n - 1) left) is
+
+pub last_member : (p : Parse json.Json) (found : Members) (n : ℕ) (ts left : List Token) → length ts ≤ n → read_key ts ≡ Some (None, left) → converted (λ ms. of_members ms found) (members p n ts) ≡ Some (found, left)
+last_member p found n ts left enough over = ap (converted (λ ms. of_members ms found)) (members_end p n ts left enough over)

@@ -1,0 +1,30 @@
+-- A scenario read step by step.
+use Rattle.std.specs.Prelude.{◌≡◌, ◌+◌, ◌<◌, ◌≤◌, ◌++◌, ℤ, List, [], ◌∷◌, length, Option, Some, Ok}
+use Rattle.json.specs.Json.{Json, value}
+use Rattle.json.specs.Token.{Token}
+use Rattle.serde_json.specs.Data.{Data, Items, array}
+use Rattle.serde_json.specs.Events.{items_len}
+use Rattle.serde_json.specs.Read.{of_json}
+use Rattle.requests.specs.Run.{Asked}
+use Rattle.scenario_text.specs.Fields.{integer_of}
+use Rattle.scenario_text.specs.Plan.{Plan, most_steps}
+use Rattle.scenario_text.specs.Scenarios.{numbered, plan_of, steps_from}
+use Rattle.scenario_text.specs.Steps.{step_of}
+
+-- what was read is an array of these steps, none of which has a fault; what follows it is left
+abbrev pub IsArrayOfSteps : List Asked → Option (Data × List Token) → List Token → Type 0
+IsArrayOfSteps steps r left = (ds : Items) × (r ≡ Some (array ds, left)) × (steps_from 1 ds ≡ Ok steps) × (items_len ds ≡ length steps) × (length steps ≤ most_steps)
+
+-- the value that was read is the step behind these
+abbrev pub IsNextStep : List Asked → List Asked → List Token → List Token → Type 0
+IsNextStep before after ts left =
+    (j : Json) × (d : Data) × (x : Asked) × (value 125 ts ≡ Some (j, left)) × (of_json j ≡ Some d)
+    × (numbered (length before + 1) (step_of d) ≡ Ok x) × (after ≡ before ++ x ∷ []) × (length left < length ts)
+
+-- the value that was read is this whole number
+abbrev pub IsInteger : ℤ → List Token → List Token → Type 0
+IsInteger z ts left = (j : Json) × (d : Data) × (value 126 ts ≡ Some (j, left)) × (of_json j ≡ Some d) × (integer_of d ≡ Ok z) × (length left < length ts)
+
+-- what was read is this scenario
+abbrev pub IsScenario : Plan → Option (Data × List Token) → List Token → Type 0
+IsScenario plan r left = (d : Data) × (r ≡ Some (d, left)) × (plan_of d ≡ Ok plan)

@@ -1,0 +1,104 @@
+//! A scenario read step by step: no more than the values of one step stand in memory.
+//!
+//! Only a scenario without a fault is read so. Where anything is wrong, nothing is said here: the text is read as a
+//! whole then, and its first fault is found in the order of the checks.
+ghost use Rattle.std.specs.Prelude.{◌≡◌, ◌+◌, ◌<◌, Ok, Some, IfSome, OnSome, length, map};
+ghost use Rattle.json.specs.Json.{value};
+ghost use Rattle.serde_json.specs.Data.{Data, Items, array};
+ghost use Rattle.serde_json.specs.Read.{of_json, converted, read};
+ghost use Rattle.scenario_text.specs.Plan.{asked, most_steps};
+ghost use Rattle.scenario_text.specs.Scenarios.{plan_of, steps_from};
+ghost use Rattle.scenario_text.specs.Streams.{IsArrayOfSteps, IsInteger, IsNextStep, IsScenario};
+
+use crate::parsing::{push_step, settings_of};
+use crate::plan::{MOST_STEPS, Scenario};
+use json::{Reader, Scratch, Token};
+use json_data::{integer, next_value};
+use pid_blocks::Uid;
+use requests::PlainStep;
+use std::alloc::Global;
+
+/// How deep arrays and objects nest in a text.
+const MAX_DEPTH: usize = 127;
+
+/// Adds the step of the item that comes next, where it is one without a fault.
+fn read_step<'a>(
+    alloc: Global,
+    reader: &mut Reader<'a>,
+    steps: &mut Vec<(Uid, PlainStep)>,
+) -> Option<()>
+    requires { length steps.old.items < most_steps }
+    ensures step { OnSome result (IsNextStep (map asked steps.old.items) (map asked steps.new.items) reader.old reader.new) }
+    ensures one { OnSome result (length steps.new.items ≡ length steps.old.items + 1) }
+{
+    let Ok(value) = next_value(alloc, reader, MAX_DEPTH - 2) else {
+        return None;
+    };
+    let number = steps.len() as u32 + 1;
+    match push_step(steps, &value, number) {
+        Ok(()) => Some(()),
+        Err(_) => None,
+    }
+}
+
+/// The whole number that comes next, where it is one.
+fn read_integer<'a>(alloc: Global, reader: &mut Reader<'a>) -> Option<i64>
+    ensures { IfSome result (λ z. IsInteger z reader.old reader.new) }
+{
+    match next_value(alloc, reader, MAX_DEPTH - 1) {
+        Ok(value) => integer(&value),
+        Err(_) => None,
+    }
+}
+
+/// The steps of the array that comes next, where it is one of at most `MOST_STEPS` steps without a fault.
+fn read_steps<'a>(alloc: Global, reader: &mut Reader<'a>) -> Option<Vec<(Uid, PlainStep)>>
+    ensures steps { IfSome result (λ v. IsArrayOfSteps (map asked v.items) (converted of_json (value 126 reader.old)) reader.new) }
+    ensures shorter { IfSome result (λ v. length reader.new < length reader.old) }
+{
+    let Some(Token::BeginArray) = reader.next() else {
+        return None;
+    };
+    let mut steps = Vec::new(alloc);
+    'items: while !reader.take_end_array() {
+        if steps.len() == MOST_STEPS {
+            return None;
+        }
+        read_step(alloc, reader, &mut steps)?;
+    }
+    Some(steps)
+}
+
+/// The scenario of the object that comes next, where it is one without a fault.
+fn read_scenario<'a>(alloc: Global, reader: &mut Reader<'a>) -> Option<Scenario>
+    ensures { IfSome result (λ s. IsScenario s (converted of_json (value 127 reader.old)) reader.new) }
+{
+    let Some(Token::BeginObject) = reader.next() else {
+        return None;
+    };
+    let mut steps = None;
+    let mut kill = 1;
+    'members: while let Some(key) = reader.next_key().ok()? {
+        if key == "steps" {
+            steps = Some(read_steps(alloc, reader)?);
+        } else if key == "kill_on_debugger_exit" {
+            kill = read_integer(alloc, reader)?;
+        } else {
+            return None;
+        }
+    }
+    Some(Scenario::new(settings_of(kill).ok()?, steps?))
+}
+
+/// The scenario of a text without a fault. `None` says nothing.
+pub(crate) fn stream(alloc: Global, text: &str) -> Option<Scenario>
+    ensures { IfSome result (λ s. (d : Data) × (read text.now ≡ Some d) × (plan_of d ≡ Ok s)) }
+{
+    let mut scratch = Scratch::new(alloc);
+    let mut reader = Reader::new(text, &mut scratch).ok()?;
+    let scenario = read_scenario(alloc, &mut reader)?;
+    if reader.next().is_some() {
+        return None;
+    }
+    Some(scenario)
+}
