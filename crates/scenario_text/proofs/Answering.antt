@@ -3,11 +3,14 @@ use Rattle.std.proofs.Common.{◌≡◌, List, ℕ, Result, Ok, Err, Option, Som
 use Rattle.std.proofs.lemmas.List.{length-append, append_assoc}
 use Rattle.std.specs.Io.KnownBytes.{Consumes}
 use Rattle.scenario_text.specs.declared.fault.Fault.{Fault}
-use Rattle.scenario_text.specs.declared.fault.Fault.TheVariants.{Read, Memory}
+use Rattle.scenario_text.specs.declared.fault.Fault.TheVariants.{Read, Memory, BadJson}
 use Rattle.scenario_text.specs.Fields.{Gives}
 use Rattle.scenario_text.specs.OneStep.{AnswersBy}
 use Rattle.scenario_text.specs.Plan.{Plan}
-use Rattle.scenario_text.specs.Scenarios.{plan_of, most_bytes, StandsFor, too_long, no_value, value, Answers, Yields, Tells, IsFront, Takes}
+use Rattle.std.specs.Prelude.{IsUtf8}
+use Rattle.serde_json.specs.Data.{Data}
+use Rattle.serde_json.specs.Read.{read}
+use Rattle.scenario_text.specs.Scenarios.{plan_of, most_bytes, StandsFor, too_long, no_value, value, Answers, Yields, Tells, IsFront, Takes, IsPlanOf}
 
 pub answers_of : (P : Result Plan Fault → Type 0) (plan r : Result Plan Fault) → Yields (λ s. s) r plan → P plan → Answers r P
 answers_of P plan (Err Memory) y p = tt
@@ -57,3 +60,8 @@ takes_more (Some a) None c xs ys n p q h = absurd p
 takes_more (Some a) (Some b) None xs ys n p q h = absurd q
 takes_more (Some a) (Some b) (Some c) xs ys n p q h =
     (xs ++ ys, simp length-append h, p ∙ ap (λ zs. xs ++ zs) q ∙ sym (append_assoc xs ys c))
+
+-- what was read of the text is its value
+pub whole_stands : (bytes : List ℕ) (r : Result Plan Fault) (o : Option Data) → read bytes ≡ o → length bytes ≤ most_bytes → IsUtf8 bytes → IsPlanOf r o → Answers r (StandsFor bytes)
+whole_stands bytes r None is short good y = answers_of (StandsFor bytes) (Err BadJson) r y (no_value short (λ g. is))
+whole_stands bytes r (Some d) is short good y = answers_of (StandsFor bytes) (plan_of d) r y (value d short (good, is))

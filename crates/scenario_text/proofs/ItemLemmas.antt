@@ -1,5 +1,5 @@
 -- Steps that are read one after another, beside the array that they are in.
-use Rattle.std.proofs.Common.{◌≡◌, ℕ, suc, ◌+◌, ◌-◌, ◌<◌, ◌≤◌, List, [], ◌∷◌, ◌++◌, length, Option, Some, None, Result, Ok, Err, refl, sym, ap, ◌∙◌, subst, arith, rules}
+use Rattle.std.proofs.Common.{◌≡◌, ℕ, ◌+◌, ◌-◌, ◌<◌, ◌≤◌, List, [], ◌∷◌, ◌++◌, length, Option, Some, None, Result, Ok, Err, refl, sym, ap, ◌∙◌, subst, arith, rules}
 use Rattle.std.proofs.lemmas.List.{length-append, append_assoc, append-nil}
 use Rattle.json.specs.Token.{Token}
 use Rattle.json.specs.Json as json
@@ -56,7 +56,7 @@ begins ts = record {
   shorter = omega arith;
   same = as_it_is _;
   given = λ ds. none_before (steps_from 1 ds);
-  counted = λ ds. omega arith
+  counted = λ ds. omega arith;
 }
 
 pub goes_on : (all left r : List Token) (steps more : List Asked) → HasRead all left steps → after_end_array left ≡ None → IsNextStep steps more left r → HasRead all r more
@@ -69,7 +69,7 @@ goes_on all left r steps more h going (j, d, x, one, read, is, after, less) =
       shorter = omega (arith, h.shorter);
       same = h.same ∙ ap (parse_map h.front) (next_item (value 125) h.turns left r j d (omega (arith, h.enough)) going one read) ∙ both h.front (item d) _;
       given = λ ds. h.given (item d ds) ∙ with_step steps _ x (steps_from (length steps + 1 + 1) ds) is ∙ ap (λ n. steps_from (n + 1) ds >>= (λ ss. Ok ((steps ++ x ∷ []) ++ ss))) (sym long);
-      counted = λ ds. h.counted (item d ds) ∙ (rw long (omega arith))
+      counted = λ ds. h.counted (item d ds) ∙ (rw long (omega arith));
     })
 
 pub next_step : (j : json.Json) (d : Data) (r : Result Asked Fault) (before more : List Asked) (ts left : List Token) → value 125 ts ≡ Some (j, left) → of_json j ≡ Some d → r ≡ numbered (length before + 1) (step_of d)
@@ -79,9 +79,10 @@ next_step j d (Err e) before more ts left one read is pushed less = absurd (cc)
 
 pub ends : (all left r : List Token) (steps : List Asked) → HasRead all left steps → after_end_array left ≡ Some r → length steps ≤ most_steps
     → IsArrayOfSteps steps (converted of_json (value 126 (Token.begin_array ∷ all))) r
-ends all left r steps h over few =
-    (h.front no_items,
-      ap (converted of_json) (value-begin_array 126 all (omega arith)) ∙ read_array (items (value 125) (length all) all) ∙ ap (parse_map array) (h.same ∙ ap (parse_map h.front) (last_item (value 125) h.turns left r h.enough over)),
-      h.given no_items ∙ ap Ok (append-nil steps),
-      h.counted no_items ∙ omega arith,
-      few)
+ends all left r steps h over few = (
+  h.front no_items,
+  ap (converted of_json) (value-begin_array 126 all (omega arith)) ∙ read_array (items (value 125) (length all) all) ∙ ap (parse_map array) (h.same ∙ ap (parse_map h.front) (last_item (value 125) h.turns left r h.enough over)),
+  h.given no_items ∙ ap Ok (append-nil steps),
+  h.counted no_items ∙ omega arith,
+  few,
+)

@@ -1,5 +1,5 @@
 -- The members of a scenario that are read one after another, beside the object that they are in.
-use Rattle.std.proofs.Common.{◌≡◌, ℕ, ℤ, pos, ◌+◌, ◌-◌, ◌<◌, ◌≤◌, Bool, true, false, List, [], ◌∷◌, length, codes, Option, Some, None, option_map, IfSome, Result, Ok, Err, refl, sym, ap, ◌∙◌, arith, rules, true≢false, nat_lt}
+use Rattle.std.proofs.Common.{◌≡◌, ℕ, ℤ, pos, ◌-◌, ◌<◌, ◌≤◌, true, false, List, [], ◌∷◌, length, codes, Option, Some, None, option_map, IfSome, Ok, refl, sym, ap, ◌∙◌, arith, rules, true≢false, nat_lt}
 use Rattle.std.proofs.lemmas.Bool.Decides.{nat_tests}
 use Rattle.std.specs.Str.{bytes_eq}
 use Rattle.json.specs.Token.{Token}
@@ -17,7 +17,7 @@ use Rattle.json_data.proofs.Loops.{next_member, last_member, read_object}
 use Rattle.trace_stop.specs.declared.Settings.{Settings}
 use Rattle.requests.specs.Run.{Asked}
 use Rattle.scenario_text.specs.Fields.{integer_of, optional}
-use Rattle.scenario_text.specs.Plan.{Plan, most_steps}
+use Rattle.scenario_text.specs.Plan.{most_steps}
 use Rattle.scenario_text.specs.Scenarios.{steps_from, settings_of, plan_of, head_of}
 use Rattle.scenario_text.specs.Streams.{IsArrayOfSteps, IsInteger, IsScenario}
 
@@ -51,7 +51,7 @@ begins ts = record {
   same = refl;
   given = tt;
   setting = refl;
-  only = refl
+  only = refl;
 }
 
 differ : steps_key ≡ kill_key → ⊥
@@ -79,7 +79,7 @@ with_steps all left s r before steps kill h key is less =
       same = h.same ∙ next_member (value 126) h.found h.turns steps_key left s r j.0 d (omega (arith, h.enough, named)) key j.1 j.2;
       given = (is.0, get_member-put steps_key d h.found, is.2, is.3, is.4);
       setting = ap (optional (pos 1) integer_of) (get_member-put_other kill_key steps_key d h.found (λ e. differ (sym e))) ∙ h.setting;
-      only = members_among-put (steps_key ∷ kill_key ∷ []) steps_key d h.found ∙ h.only
+      only = members_among-put (steps_key ∷ kill_key ∷ []) steps_key d h.found ∙ h.only;
     }
 
 kept : (found : Members) (d : Data) (steps : Option (List Asked)) → IfSome steps (AreFound found) → IfSome steps (AreFound (put kill_key d found))
@@ -97,7 +97,7 @@ with_kill all left s r steps before kill h key (j, d, one, is, number, less) =
       same = h.same ∙ next_member (value 126) h.found h.turns kill_key left s r j d (omega (arith, h.enough, named)) key one is;
       given = kept h.found d steps h.given;
       setting = ap (optional (pos 1) integer_of) (get_member-put kill_key d h.found) ∙ number;
-      only = members_among-put (steps_key ∷ kill_key ∷ []) kill_key d h.found ∙ h.only
+      only = members_among-put (steps_key ∷ kill_key ∷ []) kill_key d h.found ∙ h.only;
     }
 
 planned : (found : Members) (steps : List Asked) (kill : ℤ) (settings : Settings) → AreFound found steps → optional (pos 1) integer_of (get_member kill_key found) ≡ Ok kill
@@ -109,7 +109,8 @@ planned found steps kill settings given setting only set =
 
 pub ends : (all left r : List Token) (steps : List Asked) (kill : ℤ) (settings : Settings) → HasFound all left (Some steps) kill → read_key left ≡ Some (None, r) → settings_of kill ≡ Ok settings
     → IsScenario (record { settings = settings; steps = steps }) (converted of_json (value 127 (Token.begin_object ∷ all))) r
-ends all left r steps kill settings h over set =
-    (object h.found,
-      ap (converted of_json) (value-begin_object 127 all (omega arith)) ∙ read_object (members (value 126) (length all) all) ∙ ap (json.parse_map object) (h.same ∙ last_member (value 126) h.found h.turns left r h.enough over),
-      planned h.found steps kill settings h.given h.setting h.only set)
+ends all left r steps kill settings h over set = (
+  object h.found,
+  ap (converted of_json) (value-begin_object 127 all (omega arith)) ∙ read_object (members (value 126) (length all) all) ∙ ap (json.parse_map object) (h.same ∙ last_member (value 126) h.found h.turns left r h.enough over),
+  planned h.found steps kill settings h.given h.setting h.only set,
+)

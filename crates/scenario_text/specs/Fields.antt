@@ -1,5 +1,5 @@
 -- The keys of a JSON object, one by one, and what is wrong with each.
-use Rattle.std.specs.Prelude.{⊤, ◌≡◌, ℕ, ◌&&◌, Bool, true, false, ℤ, pos, negsuc, List, [], ◌∷◌, Option, Some, None, is_some, Result, Ok, Err, option_and_then, nat_lt, if◌then◌else◌}
+use Rattle.std.specs.Prelude.{⊤, ◌≡◌, ℕ, ℤ, pos, negsuc, List, [], ◌∷◌, Option, Some, None, is_some, Result, Ok, Err, option_and_then, nat_lt, if◌then◌else◌}
 use Rattle.std.specs.Option.{ok_or}
 use Rattle.json_data.specs.Reading.{has_only}
 use Rattle.serde_json.specs.Data.{Data, Items, no_items, item}

@@ -1,11 +1,13 @@
 -- A scenario read step by step.
-use Rattle.std.specs.Prelude.{◌≡◌, ◌+◌, ◌<◌, ◌≤◌, ◌++◌, ℤ, List, [], ◌∷◌, length, Option, Some, Ok}
+use Rattle.std.specs.Prelude.{◌≡◌, ◌+◌, ◌<◌, ◌≤◌, ◌++◌, ℤ, List, [], ◌∷◌, length, codes, ℕ, Option, Some, None, Ok}
 use Rattle.json.specs.Json.{Json, value}
 use Rattle.json.specs.Token.{Token}
 use Rattle.serde_json.specs.Data.{Data, Items, array}
 use Rattle.serde_json.specs.Events.{items_len}
 use Rattle.serde_json.specs.Read.{of_json}
 use Rattle.requests.specs.Run.{Asked}
+use Rattle.scenario_text.specs.declared.streaming.Key.{Key}
+use Rattle.scenario_text.specs.declared.streaming.Key.TheVariants.{Steps, KillOnDebuggerExit, End}
 use Rattle.scenario_text.specs.Fields.{integer_of}
 use Rattle.scenario_text.specs.Plan.{Plan, most_steps}
 use Rattle.scenario_text.specs.Scenarios.{numbered, plan_of, steps_from}
@@ -28,3 +30,9 @@ IsInteger z ts left = (j : Json) × (d : Data) × (value 126 ts ≡ Some (j, lef
 -- what was read is this scenario
 abbrev pub IsScenario : Plan → Option (Data × List Token) → List Token → Type 0
 IsScenario plan r left = (d : Data) × (r ≡ Some (d, left)) × (plan_of d ≡ Ok plan)
+
+-- a key's text; None is the end of the object
+abbrev pub text_of : Key → Option (List ℕ)
+text_of Steps = Some (codes "steps")
+text_of KillOnDebuggerExit = Some (codes "kill_on_debugger_exit")
+text_of End = None

@@ -9,8 +9,8 @@ use crate::arrays::set_of;
 use crate::fields::{Flaw, member, number_within, only, text, word};
 use crate::names::{ActKind, CallKind, act_named, call_named};
 use event_masks::Call;
-use requests::Act;
 use json::Value;
+use requests::Act;
 
 fn call_kind_at(step: &Value<'_>) -> Result<CallKind, Flaw>
     ensures { result ≡ name_at (codes "call") call_named (view step.now) }

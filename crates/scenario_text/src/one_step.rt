@@ -10,10 +10,10 @@ ghost use Rattle.scenario_text.specs.declared.fault.Fault.TheVariants.{Read as R
 
 use crate::fault::Fault;
 use crate::steps::step_of;
-use pid_blocks::Uid;
-use requests::PlainStep;
 use json::{Scratch, Value};
 use json_data::{Refusal, from_slice};
+use pid_blocks::Uid;
+use requests::PlainStep;
 use std::alloc::Global;
 
 /// The most bytes of a step's text.

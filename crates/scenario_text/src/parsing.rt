@@ -14,10 +14,10 @@ use crate::fields::{Flaw, integer_of, items_of, member, object_of, only};
 use crate::plan::{MOST_STEPS, Scenario};
 use crate::steps::step_of;
 use crate::streaming::stream;
-use pid_blocks::Uid;
-use requests::PlainStep;
 use json::{Scratch, Value};
 use json_data::{Refusal, from_str, get};
+use pid_blocks::Uid;
+use requests::PlainStep;
 use std::alloc::Global;
 use trace_stop::Settings;
 
@@ -46,7 +46,11 @@ fn push<T: Drop>(items: &mut Vec<T>, item: T) -> Result<(), Fault>
 }
 
 /// Adds the step that a value is, or names its first flaw as the fault of the step with this number.
-pub(crate) fn push_step(steps: &mut Vec<(Uid, PlainStep)>, value: &Value<'_>, number: u32) -> Result<(), Fault>
+pub(crate) fn push_step(
+    steps: &mut Vec<(Uid, PlainStep)>,
+    value: &Value<'_>,
+    number: u32,
+) -> Result<(), Fault>
     ensures pushes { Pushes (λ v. map asked v.items) steps.old steps.new result
         (numbered number (step_of (view value.now))) }
     ensures no_read { IfErr result (λ e. e ≢ ReadFault) }

@@ -14,10 +14,10 @@ use crate::fields::{Flaw, integer, items_of, member, object_of, only, text, word
 use crate::names::{Op, disposition_named, op_named};
 use crate::rules::rules_of;
 use crate::tracing::ptrace_of;
-use pid_blocks::Uid;
-use requests::PlainStep;
 use json::Value;
 use json_data::get;
+use pid_blocks::Uid;
+use requests::PlainStep;
 use signals::Disposition;
 use wait4::Options;
 

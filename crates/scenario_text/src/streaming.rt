@@ -2,13 +2,14 @@
 //!
 //! Only a scenario without a fault is read so. Where anything is wrong, nothing is said here: the text is read as a
 //! whole then, and its first fault is found in the order of the checks.
-ghost use Rattle.std.specs.Prelude.{◌≡◌, ◌+◌, ◌<◌, Ok, Some, IfSome, OnSome, length, map};
-ghost use Rattle.json.specs.Json.{value};
-ghost use Rattle.serde_json.specs.Data.{Data, Items, array};
+ghost use Rattle.std.specs.Prelude.{◌≡◌, ◌+◌, ◌<◌, ◌≤◌, Ok, Some, IfSome, OnSome, length, map};
+ghost use Rattle.json.specs.Json.{value, read_key};
+ghost use Rattle.serde_json.specs.Data.{Data};
 ghost use Rattle.serde_json.specs.Read.{of_json, converted, read};
+ghost use Rattle.trace_stop.specs.declared.Settings.{Settings};
 ghost use Rattle.scenario_text.specs.Plan.{asked, most_steps};
-ghost use Rattle.scenario_text.specs.Scenarios.{plan_of, steps_from};
-ghost use Rattle.scenario_text.specs.Streams.{IsArrayOfSteps, IsInteger, IsNextStep, IsScenario};
+ghost use Rattle.scenario_text.specs.Scenarios.{plan_of, settings_of};
+ghost use Rattle.scenario_text.specs.Streams.{IsArrayOfSteps, IsInteger, IsNextStep, IsScenario, text_of};
 
 use crate::parsing::{push_step, settings_of};
 use crate::plan::{MOST_STEPS, Scenario};
@@ -69,6 +70,43 @@ fn read_steps<'a>(alloc: Global, reader: &mut Reader<'a>) -> Option<Vec<(Uid, Pl
     Some(steps)
 }
 
+/// What stands next in the object of a scenario.
+#[derive(Clone, Copy, Drop)]
+enum Key {
+    Steps,
+    KillOnDebuggerExit,
+    End,
+}
+
+/// The next key, where it is one of a scenario, or the end of the object.
+fn next_key<'a>(reader: &mut Reader<'a>) -> Option<Key>
+    ensures { IfSome result (λ key. read_key reader.old ≡ Some (text_of key, reader.new)) }
+{
+    match reader.next_key() {
+        Ok(Some(key)) => {
+            if key == "steps" {
+                Some(Key::Steps)
+            } else if key == "kill_on_debugger_exit" {
+                Some(Key::KillOnDebuggerExit)
+            } else {
+                None
+            }
+        }
+        Ok(None) => Some(Key::End),
+        Err(_) => None,
+    }
+}
+
+fn scenario_of(kill: i64, steps: Vec<(Uid, PlainStep)>) -> Option<Scenario>
+    requires { length steps.items ≤ most_steps }
+    ensures { IfSome result (λ s. (settings : Settings) × (settings_of kill ≡ Ok settings) × (s ≡ record { settings = settings; steps = map asked steps.items })) }
+{
+    match settings_of(kill) {
+        Ok(settings) => Some(Scenario::new(settings, steps)),
+        Err(_) => None,
+    }
+}
+
 /// The scenario of the object that comes next, where it is one without a fault.
 fn read_scenario<'a>(alloc: Global, reader: &mut Reader<'a>) -> Option<Scenario>
     ensures { IfSome result (λ s. IsScenario s (converted of_json (value 127 reader.old)) reader.new) }
@@ -78,16 +116,13 @@ fn read_scenario<'a>(alloc: Global, reader: &mut Reader<'a>) -> Option<Scenario>
     };
     let mut steps = None;
     let mut kill = 1;
-    'members: while let Some(key) = reader.next_key().ok()? {
-        if key == "steps" {
-            steps = Some(read_steps(alloc, reader)?);
-        } else if key == "kill_on_debugger_exit" {
-            kill = read_integer(alloc, reader)?;
-        } else {
-            return None;
+    'members: loop {
+        match next_key(reader)? {
+            Key::Steps => steps = Some(read_steps(alloc, reader)?),
+            Key::KillOnDebuggerExit => kill = read_integer(alloc, reader)?,
+            Key::End => return scenario_of(kill, steps?),
         }
     }
-    Some(Scenario::new(settings_of(kill).ok()?, steps?))
 }
 
 /// The scenario of a text without a fault. `None` says nothing.
