@@ -34,8 +34,8 @@ LOADS = {
 PARTS = {
     'parse': (r'scenario::reading::read\b.*', r'scenario::parsing::parse\b.*'),
     'bind': (r'scenario::binding::bind\b.*', r'scenario::binding::bound\b.*'),
-    'steps': (r'scenario::running::replies_of\b.*', r'.*::run_list\b.*'),
-    'text': (r'scenario::lines::render\b.*',),
+    'steps': (r'requests::host::Host::step\b.*', r'visibility::runs::run_list\b.*'),
+    'text': (r'scenario::lines::render\b.*', r'scenario::running::write_lines\b.*'),
 }
 
 # A line of callgrind_annotate: the cost, its share, and the function as FILE:NAME [OBJECT]
