@@ -92,7 +92,7 @@ CASES = (
     ('list', lists, MOST_PROCESSES, 1),
     ('kill -1 with signal 0', checks, MOST_PROCESSES, 2),
     ('kill -1 with SIGURG', discarded_signals, MOST_PROCESSES, 2),
-    ('spawn and exit', spawns_and_exits, MOST_PROCESSES - 1, 0),
+    ('spawn and exit', spawns_and_exits, MOST_PROCESSES - 1, 1),
 )
 
 
