@@ -105,7 +105,9 @@ def print_load(load, programs, options, room):
         profile(program, scenario, file)
         whole, functions = costs(file, inclusive=True)
         cells = [load, number, millions(whole), *(millions(part(functions, names)) for names in PARTS.values())]
-        print_row(cells + [f'{peak(program, scenario):.1f}'] * options.peak)
+        if options.peak:
+            cells.append(f'{peak(program, scenario):.1f}')
+        print_row(cells)
         if options.top:
             alone.append((load, number, *costs(file, inclusive=False)))
     return alone
