@@ -1,0 +1,144 @@
+#!/usr/bin/env python3
+"""Counts the instructions of whole runs and of their parts, by valgrind's callgrind: the count is the same each time.
+
+    python3 bench/instructions.py [PROGRAM ..] [--steps N] [--peak] [--top N]
+
+PROGRAM is a built program (default: crates/tracehost/out/tracehost, which ./tracehost builds); several are compared,
+numbered from 1. Each runs six loads of N steps (default 40,000; as many as fit, where these are longer than the program
+reads). Printed is a row for each load and program: millions of instructions of the whole run, of reading the scenario,
+of binding handlers to its steps, of the host's steps, and of the text; `-` where a part has no function of its own in
+that program. With --peak also the resident memory at most, in times the scenario's bytes. With --top the N functions
+that cost most by themselves follow, for each load and program.
+"""
+
+import argparse
+import os
+import re
+import subprocess
+import sys
+import tempfile
+
+import steps
+
+LOADS = {
+    'churn of processes': steps.of_one(steps.forks_and_exits),
+    'attach, wait, detach': steps.of_one(steps.attach_cycles),
+    'chains of debuggers that end': steps.of_one(steps.chains_that_end),
+    'threads': steps.of_one(steps.threads),
+    'lists of 64 users': steps.spawns_and_lists,
+    'parsing alone': steps.refusals,
+}
+
+# The functions of each part, as regular expressions of their whole names. Where the first one isn't there, since it was
+# inlined or has moved, the next one counts.
+PARTS = {
+    'parse': (r'scenario::reading::read\b.*', r'scenario::parsing::parse\b.*'),
+    'bind': (r'scenario::binding::bind\b.*', r'scenario::binding::bound\b.*'),
+    'steps': (r'requests::host::Host::step\b.*', r'visibility::runs::run_list\b.*'),
+    'text': (r'scenario::lines::render\b.*', r'scenario::running::write_lines\b.*'),
+}
+
+# A line of callgrind_annotate: the cost, its share, and the function as FILE:NAME [OBJECT]
+COST = re.compile(r'\s*([\d,]+) \(\s*[\d.]+%\)\s+(.*)')
+FUNCTION = re.compile(r'[^:]*:(.*?)(?: \[[^\]]*\])?$')
+
+# Runs what its arguments name, and tells the most kilobytes that it had. A process starts with the peak of the one that
+# starts it, so this one, which is small, stands between.
+PEAK = """
+import resource, subprocess, sys
+subprocess.run(sys.argv[1:], stdout=subprocess.DEVNULL, check=True)
+print(resource.getrusage(resource.RUSAGE_CHILDREN).ru_maxrss)
+"""
+
+
+def profile(program, scenario, file):
+    """Writes callgrind's profile of a run to the file."""
+    words = ['valgrind', '--tool=callgrind', '--quiet', f'--callgrind-out-file={file}', program, scenario]
+    subprocess.run(words, stdout=subprocess.DEVNULL, check=True)
+
+
+def costs(file, inclusive):
+    """The instructions of the whole run, and each function's with that of all it calls, or alone; most first."""
+    words = ['callgrind_annotate', f'--inclusive={"yes" if inclusive else "no"}', '--threshold=100', '--auto=no', file]
+    text = subprocess.run(words, capture_output=True, text=True, check=True).stdout
+    whole, functions = 0, []
+    for cost, rest in (row.groups() for row in map(COST.match, text.splitlines()) if row):
+        number = int(cost.replace(',', ''))
+        if rest.startswith('PROGRAM TOTALS'):
+            whole = number
+        else:
+            functions.append((FUNCTION.sub(r'\1', rest), number))
+    return whole, functions
+
+
+def part(functions, patterns):
+    """The instructions of the first pattern's function, or None. Where it has several, the outermost has the most."""
+    for pattern in patterns:
+        found = [cost for name, cost in functions if re.fullmatch(pattern, name)]
+        if found:
+            return max(found)
+    return None
+
+
+def millions(count):
+    return '-' if count is None else f'{count / 1e6:.1f}'
+
+
+def peak(program, scenario):
+    """The resident memory at most, in times the scenario's bytes."""
+    words = [sys.executable, '-c', PEAK, program, scenario]
+    kilobytes = int(subprocess.run(words, capture_output=True, text=True, check=True).stdout)
+    return kilobytes * 1024 / os.path.getsize(scenario)
+
+
+def print_row(cells):
+    print('| ' + ' | '.join(map(str, cells)) + ' |', flush=True)
+
+
+def print_load(load, programs, options, room):
+    """A row for each program. Answers the functions of each by their own cost."""
+    scenario = os.path.join(room, 'scenario.json')
+    steps.write(LOADS[load](options.steps), scenario)
+    alone = []
+    for number, program in enumerate(programs, 1):
+        file = os.path.join(room, 'callgrind.out')
+        profile(program, scenario, file)
+        whole, functions = costs(file, inclusive=True)
+        cells = [load, number, millions(whole), *(millions(part(functions, names)) for names in PARTS.values())]
+        if options.peak:
+            cells.append(f'{peak(program, scenario):.1f}')
+        print_row(cells)
+        if options.top:
+            alone.append((load, number, *costs(file, inclusive=False)))
+    return alone
+
+
+def print_top(load, number, whole, functions, count):
+    print(f'\n{load}, program {number}: the functions that cost most by themselves\n')
+    print_row(['millions', 'share', 'function'])
+    print('|---|---|---|')
+    for name, cost in functions[:count]:
+        print_row([millions(cost), f'{cost / whole:.1%}', f'`{name}`'])
+
+
+def main():
+    parser = argparse.ArgumentParser()
+    top = os.path.join(os.path.dirname(os.path.abspath(__file__)), '..')
+    parser.add_argument('programs', nargs='*', default=[os.path.join(top, 'crates/tracehost/out/tracehost')])
+    parser.add_argument('--steps', type=int, default=40000)
+    parser.add_argument('--peak', action='store_true')
+    parser.add_argument('--top', type=int, default=0)
+    options = parser.parse_args()
+    heads = ['load', 'program', 'whole', *PARTS] + ['peak'] * options.peak
+    print_row(heads)
+    print('|' + '---|' * len(heads))
+    alone = []
+    with tempfile.TemporaryDirectory() as room:
+        for load in LOADS:
+            alone += print_load(load, options.programs, options, room)
+    for load, number, whole, functions in alone:
+        print_top(load, number, whole, functions, options.top)
+
+
+if __name__ == '__main__':
+    main()

@@ -1,0 +1,140 @@
+#!/usr/bin/env python3
+"""What steps cost at worst: with as many processes as a user may have, and on a host that is as good as empty.
+
+    python3 bench/worst.py [PROGRAM] [--steps N] [--runs N]
+
+PROGRAM is the built program (default: crates/tracehost/out/tracehost, which ./tracehost builds). Each case is made by a
+fixed rule, with many processes and with the fewest that it can have: a preparation, and then the steps of a round again
+and again, N in all (default 20,000). Printed are, for one step, nanoseconds by the best of N runs (default 5), the
+instructions from bytes to text, and those of the host's steps alone (valgrind's callgrind). What the preparation costs
+is measured by itself and taken off.
+"""
+
+import argparse
+import itertools
+import os
+import tempfile
+
+import instructions
+import steps
+
+USER = 1001
+DEBUGGER = steps.first_pid(USER)
+MOST_PROCESSES = 250
+
+
+def spawns(count):
+    return [steps.spawn(USER) for _ in range(count)]
+
+
+def kill_all(signal):
+    return {'user': USER, 'op': 'kill', 'caller': DEBUGGER, 'which': -1, 'signal': signal}
+
+
+def attach(tracee):
+    """The attach, and the wait that is told of the stop."""
+    yield steps.ptrace(USER, DEBUGGER, 'PT_ATTACH', tracee)
+    yield {'user': USER, 'op': 'wait4', 'caller': DEBUGGER, 'which': tracee}
+
+
+def attached(tracees):
+    """A debugger that was told of the stop of each of its tracees."""
+    numbers = range(DEBUGGER + 1, DEBUGGER + 1 + tracees)
+    return spawns(1 + tracees) + list(itertools.chain.from_iterable(map(attach, numbers)))
+
+
+def waits(tracees):
+    """The debugger waits, and no tracee has anything to tell."""
+    return attached(tracees), itertools.repeat(steps.wait(USER, DEBUGGER))
+
+
+def attaches(tracees):
+    """The debugger detaches from the tracee that was attached last, and attaches to it again."""
+    last = DEBUGGER + tracees
+    round_of_steps = [steps.ptrace(USER, DEBUGGER, 'PT_DETACH', last), *attach(last)]
+    return attached(tracees), itertools.cycle(round_of_steps)
+
+
+def lists(processes):
+    return spawns(processes), itertools.repeat({'user': USER, 'op': 'list', 'caller': DEBUGGER})
+
+
+def checks(processes):
+    """Signal 0 for all others: only whether there are any is looked at."""
+    return spawns(processes), itertools.repeat(kill_all(0))
+
+
+def discarded_signals(processes):
+    """SIGURG for all others, which each of them discards."""
+    return spawns(processes), itertools.repeat(kill_all(16))
+
+
+def spawns_and_exits(processes):
+    """A process more, which exits at once, beside so many others."""
+    numbers = steps.Numbers(USER)
+    for _ in range(processes):
+        numbers.process()
+
+    def rounds():
+        while True:
+            pid, tid = numbers.process()
+            yield steps.spawn(USER)
+            yield from steps.call(USER, tid, 'exit', code=0)
+            numbers.gone(pid, tid)
+
+    return spawns(processes), rounds()
+
+
+# The case, what makes it, and how many tracees or processes there are at most and at least
+CASES = (
+    ('wait, nothing to report', waits, MOST_PROCESSES - 2, 1),
+    ('detach, attach, wait for the last tracee', attaches, MOST_PROCESSES - 2, 1),
+    ('list', lists, MOST_PROCESSES, 1),
+    ('kill -1 with signal 0', checks, MOST_PROCESSES, 2),
+    ('kill -1 with SIGURG', discarded_signals, MOST_PROCESSES, 2),
+    ('spawn and exit', spawns_and_exits, MOST_PROCESSES - 1, 1),
+)
+
+
+def measured(program, made, runs, room):
+    """Seconds of a run, its instructions, and those of the host's steps."""
+    scenario = os.path.join(room, 'scenario.json')
+    if steps.write(made, scenario) < len(made):
+        raise SystemExit('bench/worst.py: the program reads no scenario of so many steps')
+    file = os.path.join(room, 'callgrind.out')
+    instructions.profile(program, scenario, file)
+    whole, functions = instructions.costs(file, inclusive=True)
+    hosts = instructions.part(functions, instructions.PARTS['steps'])
+    if hosts is None:
+        raise SystemExit('bench/worst.py: no function of the program is the part steps of bench/instructions.py')
+    return steps.best(program, scenario, runs), whole, hosts
+
+
+def cost_of_a_step(make, size, options, room):
+    """Nanoseconds, instructions, and those of the host's steps."""
+    prepared, rounds = make(size)
+    before = measured(options.program, prepared, options.runs, room)
+    after = measured(options.program, prepared + list(itertools.islice(rounds, options.steps)), options.runs, room)
+    seconds, whole, hosts = ((b - a) / options.steps for a, b in zip(before, after))
+    return seconds * 1e9, whole, hosts
+
+
+def main():
+    parser = argparse.ArgumentParser()
+    top = os.path.join(os.path.dirname(os.path.abspath(__file__)), '..')
+    parser.add_argument('program', nargs='?', default=os.path.join(top, 'crates/tracehost/out/tracehost'))
+    parser.add_argument('--steps', type=int, default=20000)
+    parser.add_argument('--runs', type=int, default=5)
+    options = parser.parse_args()
+    heads = ['steps', 'tracees or processes', 'nanoseconds', 'instructions', "instructions of the host's steps"]
+    instructions.print_row(heads)
+    print('|' + '---|' * len(heads))
+    with tempfile.TemporaryDirectory() as room:
+        for case, make, *sizes in CASES:
+            for size in sizes:
+                costs = cost_of_a_step(make, size, options, room)
+                instructions.print_row([case, size, *(f'{cost:.0f}' for cost in costs)])
+
+
+if __name__ == '__main__':
+    main()
