@@ -1,16 +1,16 @@
 -- The answers of a whole run.
-use Rattle.std.proofs.Common.{◌≡◌, ℕ, false, List, [], ◌∷◌, ◌++◌, length, map, zip, Some, None, if◌then◌else◌, refl, sym, ap, ap₂, subst, ◌∙◌, append-nil, arith}
-use Rattle.std.specs.Prelude.{Result, Ok, Err, IfOk, IfErr, OnOk}
-use Rattle.std.specs.Result.{IsErrAnd}
-use Rattle.std.specs.List.{AllByRecursion}
+use Rattle.std.proofs.Common.{◌≡◌, ℕ, ◌+◌, ◌<◌, ◌≤◌, false, List, [], ◌∷◌, ◌++◌, length, get_or, map, drop, Some, None, if◌then◌else◌, sym, ap, ap₂, subst, ◌∙◌, append_assoc, append-nil}
+use Rattle.std.proofs.lemmas.List.{at_drop_all, at_drop_more}
 use Rattle.requests.specs.Plain.{PlainStep}
 use Rattle.requests.specs.declared.Reply.{Reply}
-use Rattle.requests.specs.Isolation.{Ran, host_after}
+use Rattle.requests.specs.Hosts.{Steps}
 use Rattle.requests.specs.Machine.{Machine}
 use Rattle.requests.specs.Memory.{is_memory}
 use Rattle.requests.specs.Run.{Asked, replies}
-use Rattle.visibility.specs.Runs.{told}
-use Rattle.scenario.specs.declared.running.RunFault.{RunFault}
+use Rattle.visibility.specs.Runs.{told, Did}
+use Rattle.visibility.proofs.Answered.{map-push}
+use Rattle.visibility.proofs.Steps.{did}
+use Rattle.scenario.specs.Lines.{Answered}
 use Rattle.scenario_text.specs.Plan.{asked}
 use Rattle.scenario.specs.Runs.{answered, paired}
 
@@ -18,33 +18,31 @@ use Rattle.scenario.specs.Runs.{answered, paired}
 told_made : (r : Reply) → is_memory r ≡ false → told r ≡ Some r
 told_made r made = ap (λ b. if b then None else Some r) made
 
--- a run without want of memory gives the machine's replies
-pub all_replies : (xs : List Asked) (rs : List Reply) (m k : Machine) → AllByRecursion (λ r. is_memory r ≡ false) rs → Ran xs (map told rs) m k → rs ≡ replies xs m
-all_replies [] [] m k made ran = refl
-all_replies [] (r ∷ rs) m k made ran = absurd ran
-all_replies (x ∷ xs) [] m k made ran = absurd ran
-all_replies (x ∷ xs) (r ∷ rs) m k made ran =
-    let both = subst (λ o. Ran (x ∷ xs) (o ∷ map told rs) m k) (told_made r made.0) ran in
-    ap₂ (λ (s : Reply) (ss : List Reply). s ∷ ss) both.0 (all_replies xs rs (host_after x.uid x.step m) k made.1 both.1)
+-- one more reply, and those that are left
+told_more : (pairs : List (ℕ × Reply)) (u : ℕ) (s : PlainStep) (r : Reply) (rest : List Asked) (m k : Machine) (all : List Answered) → is_memory r ≡ false → Steps u s m k r
+    → map answered pairs ++ paired (asked (u, s) ∷ rest) (replies (asked (u, s) ∷ rest) m) ≡ all → map answered (pairs ++ (u, r) ∷ []) ++ paired rest (replies rest k) ≡ all
+told_more pairs u s r rest m k all made steps was =
+    let done : Did (Some r) u s m k = subst (λ o. Did o u s m k) (told_made r made) (did steps) in
+    ap (λ xs. xs ++ paired rest (replies rest k)) (map-push answered pairs (u, r))
+    ∙ append_assoc (map answered pairs) (answered (u, r) ∷ []) (paired rest (replies rest k))
+    ∙ ap₂ (λ (q : Reply) (n : Machine). map answered pairs ++ answered (u, q) ∷ paired rest (replies rest n)) done.0 done.1
+    ∙ was
 
--- no pair is left where no reply is
-pub none_zipped : {X Y : Type 0} (done : List (X × Y)) (xs : List X) (ys : List Y) (all : List (X × Y)) → ys ≡ [] → done ++ zip xs ys ≡ all → done ≡ all
-none_zipped done [] ys all none is = sym (append-nil done) ∙ is
-none_zipped done (x ∷ xs) [] all none is = sym (append-nil done) ∙ is
-none_zipped done (x ∷ xs) (y ∷ ys) all none is = let long = ap length none in absurd (omega arith)
+-- the same at a place in the steps
+pub answers_more : (pairs now : List (ℕ × Reply)) (ps : List (ℕ × PlainStep)) (i : ℕ) (p : ℕ × PlainStep) (s : PlainStep) (r : Reply) (m k : Machine) (all : List Answered) → i < length ps → get_or ps i p ≡ p → s ≡ p.1
+    → is_memory r ≡ false → Steps p.0 s m k r → now ≡ pairs ++ (p.0, r) ∷ []
+    → map answered pairs ++ paired (map asked (drop i ps)) (replies (map asked (drop i ps)) m) ≡ all
+    → map answered now ++ paired (map asked (drop (i + 1) ps)) (replies (map asked (drop (i + 1) ps)) k) ≡ all
+answers_more pairs now ps i p s r m k all h here same made steps pushed was =
+    let left = map asked (drop (i + 1) ps) in
+    let next = λ (x : ℕ × PlainStep). map answered pairs ++ paired (asked x ∷ left) (replies (asked x ∷ left) m) in
+    ap (λ xs. map answered xs ++ paired left (replies left k)) pushed
+    ∙ told_more pairs p.0 p.1 r left m k all made (subst (λ t. Steps p.0 t m k r) same steps)
+    (sym (at_drop_more (λ xs. map answered pairs ++ paired (map asked xs) (replies (map asked xs) m)) ps i p h ∙ ap next here) ∙ was)
 
--- the steps' users with the replies
-pub paired_with : (ss : List (ℕ × PlainStep)) (rs : List Reply) → map answered (zip (map (λ s. s.0) ss) rs) ≡ paired (map asked ss) rs
-paired_with [] rs = refl
-paired_with (s ∷ ss) [] = refl
-paired_with (s ∷ ss) (r ∷ rs) = ap (λ xs. answered (s.0, r) ∷ xs) (paired_with ss rs)
-
--- what holds of the answer, by two facts
-pub ok_by : {X E : Type 0} (P R : X → Type 0) (Q : Type 0) (r : Result X E) → IfOk r P → OnOk r Q → ((x : X) → P x → Q → R x) → IfOk r R
-ok_by P R Q (Ok x) p q h = h x p q
-ok_by P R Q (Err e) p q h = tt
-
--- a fault of which P holds
-pub fault_with : {X : Type 0} (P : RunFault → Type 0) (r : Result X RunFault) → IsErrAnd r P → IfErr r P
-fault_with P (Ok x) h = tt
-fault_with P (Err e) h = h
+-- no step is left
+pub all_answered : (pairs : List (ℕ × Reply)) (ps : List (ℕ × PlainStep)) (i : ℕ) (m : Machine) (all : List Answered) → length ps ≤ i
+    → map answered pairs ++ paired (map asked (drop i ps)) (replies (map asked (drop i ps)) m) ≡ all → map answered pairs ≡ all
+all_answered pairs ps i m all past was =
+    sym (append-nil (map answered pairs))
+    ∙ sym (at_drop_all (λ xs. map answered pairs ++ paired (map asked xs) (replies (map asked xs) m)) ps i past) ∙ was

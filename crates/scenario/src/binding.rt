@@ -6,10 +6,10 @@ ghost use Rattle.stop_handlers.specs.Handlers.{MakesObeying};
 ghost use Rattle.scenario_text.specs.Plan.{asked, most_steps, policies_in, policy_before};
 ghost use Rattle.scenario.specs.declared.running.RunFault.TheVariants.{Mismatch, Memory};
 
-use scenario_text::Scenario;
 use crate::running::RunFault;
 use pid_blocks::Uid;
 use requests::{PlainStep, Step};
+use scenario_text::Scenario;
 use std::alloc::{AllocError, Global};
 use std::vec::IntoIter;
 use stop_handlers::{Decider, Handler, Policy};
@@ -55,7 +55,7 @@ fn left_after<'a, F: Decider + Send + Drop>(
 }
 
 /// Whether the handlers answer by the policies of the scenario's installs, one for one and in order.
-fn obey<F: Decider + Send + Drop>(handlers: &[Handler<F>], scenario: &Scenario) -> bool
+pub(crate) fn obey<F: Decider + Send + Drop>(handlers: &[Handler<F>], scenario: &Scenario) -> bool
     ensures { IsTrue result ↔ (handlers.now ≡ policies_in scenario.now.steps) }
 {
     let mut rest = handlers;
@@ -69,7 +69,7 @@ fn obey<F: Decider + Send + Drop>(handlers: &[Handler<F>], scenario: &Scenario) 
 }
 
 /// The step as a host makes it, with the next handler where it is an install.
-fn bound_step<F: Decider + Send + Drop>(
+pub(crate) fn bound_step<F: Decider + Send + Drop>(
     step: &PlainStep,
     handlers: &mut IntoIter<Handler<F>>,
 ) -> Option<Step<Handler<F>>>
@@ -94,7 +94,7 @@ fn bound<F: Decider + Send + Drop>(
     ensures err { IfErr result (λ e. e ≡ Memory) }
 {
     let mut rest = handlers.into_iter();
-    let mut steps = Vec::new(alloc);
+    let mut steps = Vec::with_capacity(alloc, scenario.steps().len())?;
     for plain in scenario.steps() {
         let step = bound_step(&plain.1, &mut rest).ok_or(RunFault::Mismatch)?;
         steps.push((plain.0, step))?;
@@ -133,7 +133,7 @@ pub fn handlers_of<F: Decider + Send + Drop, M: Fn(Policy) -> F>(
     requires obeys { MakesObeying F.can_ask F.gives (M.post make) }
     ensures { IfOk result (λ handlers. handlers.items ≡ policies.now) }
 {
-    let mut handlers = Vec::new(alloc);
+    let mut handlers = Vec::with_capacity(alloc, policies.len())?;
     for policy in policies {
         handlers.push(Handler::new(*policy, make(*policy)))?;
     }

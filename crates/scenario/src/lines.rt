@@ -6,12 +6,12 @@ ghost use Rattle.scenario.specs.declared.style.Style.TheVariants as style;
 ghost use Rattle.scenario.specs.Runs.{answered, shown};
 ghost use Rattle.scenario.specs.Shown.{shown_line};
 
-use scenario_text::USERS;
 use crate::running::RunOptions;
 use crate::style::Style;
 use pid_blocks::Uid;
 use reply_json::reply_json;
 use requests::Reply;
+use scenario_text::USERS;
 use std::alloc::{AllocError, Global};
 
 /// Adds the line of a reply in words.

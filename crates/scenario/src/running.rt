@@ -1,25 +1,21 @@
 //! Runs a scenario, and writes its lines.
-ghost use Rattle.std.specs.Prelude.{◌≡◌, ◌≢◌, ◌⊎◌, ◌↔◌, IsErrOf, map, zip, false, IfOk, IfErr, OnOk};
-ghost use Rattle.std.specs.List.{AllByRecursion};
-ghost use Rattle.requests.specs.Memory.{is_memory};
-ghost use Rattle.scenario_text.specs.Plan.{asked, policies_in};
+ghost use Rattle.std.specs.Prelude.{◌≡◌, ◌≢◌, ◌⊎◌, ◌↔◌, IsErrOf, map, IfOk, IfErr};
+ghost use Rattle.scenario_text.specs.Plan.{policies_in};
 ghost use Rattle.scenario.specs.Runs.{answered, answers_of, shown, Writes};
 ghost use Rattle.scenario.specs.Faults.{run_fault_status};
 ghost use Rattle.scenario.specs.declared.running.RunFault.TheVariants.{Mismatch, Memory, Start, Write as WriteFault};
 
-use crate::binding::bind;
+use crate::binding::{bound_step, obey};
 use crate::lines::render;
-use scenario_text::Scenario;
 use crate::retrying::write_some;
 use crate::style::Style;
 use pid_blocks::Uid;
-use requests::{Host, Reply, Step};
+use requests::{Host, Reply};
+use scenario_text::Scenario;
 use std::alloc::{AllocError, AllocFailed, Global};
 use std::io::Write;
 use stop_handlers::{Decider, Handler};
 use thiserror::Error;
-use trace_stop::Settings;
-use visibility::run_list;
 
 /// Why a run came to no end.
 #[derive(Clone, Copy, Debug, PartialEq, Eq, Error)]
@@ -65,57 +61,31 @@ impl<T: Drop> From<AllocFailed<T>> for RunFault {
     }
 }
 
-/// The users of the steps, in order. An error is want of memory.
-fn users_of<F: Decider + Send + Drop>(
+/// The replies to the scenario's steps, made one after another by a new host. A step that is answered ENOMEM ends the run.
+fn replies_of<F: Decider + Send + Drop>(
     alloc: Global,
-    steps: &[(Uid, Step<Handler<F>>)],
-) -> Result<Vec<Uid>, AllocError>
-    ensures { IfOk result (λ users. users.items ≡ map (λ s. s.0) steps.now) }
-{
-    let mut users = Vec::new(alloc);
-    for step in steps {
-        users.push(step.0)?;
-    }
-    Ok(users)
-}
-
-/// Each user with the reply in the same place. A step that found no memory made no reply: then there are no pairs.
-fn pairs_of(
-    alloc: Global,
-    users: Vec<Uid>,
-    replies: Vec<Reply>,
+    scenario: &Scenario,
+    handlers: Vec<Handler<F>>,
 ) -> Result<Vec<(Uid, Reply)>, RunFault>
-    ensures pairs { IfOk result (λ pairs. pairs.items ≡ zip users.items replies.items) }
-    ensures made { OnOk result (AllByRecursion (λ r. is_memory r ≡ false) replies.items) }
+    requires { handlers.items ≡ policies_in scenario.now.steps }
+    ensures ok { IfOk result (λ v. map answered v.items ≡ answers_of scenario.now) }
     ensures err { IfErr result (λ e. e ≡ Memory) }
 {
-    let mut pairs = Vec::new(alloc);
-    let mut users = users.into_iter();
-    for reply in replies {
+    let steps = scenario.steps();
+    let mut pairs = Vec::with_capacity(alloc, steps.len())?;
+    let mut host = Host::new(alloc, scenario.settings())?;
+    let mut rest = handlers.into_iter();
+    for plain in steps {
+        let Some(step) = bound_step(&plain.1, &mut rest) else {
+            unreachable!()
+        };
+        let reply = host.step(alloc, plain.0, step);
         if reply.is_memory() {
             return Err(RunFault::Memory);
         }
-        if let Some(user) = users.next() {
-            pairs.push((user, reply))?;
-        }
+        pairs.push_reserved((plain.0, reply));
     }
     Ok(pairs)
-}
-
-/// The replies to the steps, made one after another by a new host. A step that is answered ENOMEM ends the run.
-fn replies_of<F: Decider + Send + Drop>(
-    alloc: Global,
-    settings: Settings,
-    steps: Vec<(Uid, Step<Handler<F>>)>,
-) -> Result<Vec<(Uid, Reply)>, RunFault>
-    ensures ok { IfOk result (λ v. map answered v.items
-        ≡ answers_of (record { settings = settings; steps = map asked steps.items })) }
-    ensures err { IfErr result (λ e. e ≡ Memory) }
-{
-    let users = users_of(alloc, steps.as_slice())?;
-    let mut host = Host::new(alloc, settings)?;
-    let replies = run_list(alloc, &mut host, steps)?;
-    pairs_of(alloc, users, replies)
 }
 
 /// Writes all the bytes, or a front of them.
@@ -176,7 +146,9 @@ pub fn run<F: Decider + Send + Drop, W: Write>(
     ensures mismatch { IsErrOf result Mismatch ↔ (handlers.items ≢ policies_in scenario.now.steps) }
     ensures start { IfErr result (λ e. e ≢ Start) }
 {
-    let steps = bind(alloc, scenario, handlers)?;
-    let replies = replies_of(alloc, scenario.settings(), steps)?;
+    if !obey(handlers.as_slice(), scenario) {
+        return Err(RunFault::Mismatch);
+    }
+    let replies = replies_of(alloc, scenario, handlers)?;
     write_lines(alloc, replies.as_slice(), options, writer)
 }
