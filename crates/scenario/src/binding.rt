@@ -6,10 +6,10 @@ ghost use Rattle.stop_handlers.specs.Handlers.{MakesObeying};
 ghost use Rattle.scenario_text.specs.Plan.{asked, most_steps, policies_in, policy_before};
 ghost use Rattle.scenario.specs.declared.running.RunFault.TheVariants.{Mismatch, Memory};
 
-use scenario_text::Scenario;
 use crate::running::RunFault;
 use pid_blocks::Uid;
 use requests::{PlainStep, Step};
+use scenario_text::Scenario;
 use std::alloc::{AllocError, Global};
 use std::vec::IntoIter;
 use stop_handlers::{Decider, Handler, Policy};

@@ -9,11 +9,11 @@ ghost use Rattle.scenario.specs.declared.running.RunFault.TheVariants.{Mismatch,
 
 use crate::binding::bind;
 use crate::lines::render;
-use scenario_text::Scenario;
 use crate::retrying::write_some;
 use crate::style::Style;
 use pid_blocks::Uid;
 use requests::{Host, Reply, Step};
+use scenario_text::Scenario;
 use std::alloc::{AllocError, AllocFailed, Global};
 use std::io::Write;
 use stop_handlers::{Decider, Handler};

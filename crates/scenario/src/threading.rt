@@ -10,10 +10,10 @@ ghost use Rattle.scenario.specs.Scripts.{has_steps, plain_script, scripts_in, to
 ghost use Rattle.scenario.specs.declared.running.RunFault.TheVariants.{Mismatch, Memory, Start};
 
 use crate::binding::bind;
-use scenario_text::{Scenario, USERS};
 use crate::running::{RunFault, RunOptions, write_lines};
 use pid_blocks::Uid;
 use requests::{Host, Reply, Step};
+use scenario_text::{Scenario, USERS};
 use sessions::{Gate, RunRefusal, Script, Transcript, run_sessions};
 use std::alloc::{AllocError, Global};
 use std::io::Write;
