@@ -5,6 +5,7 @@ ghost use Rattle.requests.specs.Words.{index_text, decision_words, reply_words};
 ghost use Rattle.requests.specs.Texts.{view_words, rest_words};
 
 use crate::Reply;
+use itoa::Buffer;
 use lwpinfo::{LwpInfo, NumList};
 use std::fmt;
 use stop_handlers::{Decision, StopView};
@@ -20,10 +21,11 @@ impl fmt::Display for Listed<'_> {
     ghost output = { λ l. Some (join_with_byte 32 (l.word.now ∷ map (λ n. decimal n) l.numbers.now)) };
 
     fn fmt<W: fmt::Write>(&self, f: &mut fmt::Formatter<W>) -> fmt::Result {
-        let word = self.word;
-        write!(f, "{word}")?;
+        f.write_str(self.word)?;
+        let mut digits = Buffer::new();
         for number in self.numbers.as_slice() {
-            write!(f, " {number}")?;
+            f.write_str(" ")?;
+            f.write_str(digits.format(*number))?;
         }
         Ok(())
     }

@@ -8,6 +8,7 @@ ghost use Rattle.scenario.specs.Shown.{shown_line};
 
 use crate::running::RunOptions;
 use crate::style::Style;
+use itoa::Buffer;
 use pid_blocks::Uid;
 use reply_json::reply_json;
 use requests::Reply;
@@ -19,8 +20,11 @@ fn push_words(text: &mut String, uid: Uid, number: u64, reply: &Reply) -> Result
     ensures { OnOk result (string_bytes text.new
         ≡ string_bytes text.old ++ (line style.Words number (answered (uid, reply.now))).text) }
 {
-    let uid = uid.get();
-    writeln!(text, "{uid} {number} {reply}")?;
+    let mut digits = Buffer::new();
+    text.push_str(digits.format(uid.get()))?;
+    text.push_str(" ")?;
+    text.push_str(digits.format(number))?;
+    writeln!(text, " {reply}")?;
     Ok(())
 }
 
