@@ -145,33 +145,55 @@ pub(crate) fn tell_name(told: &mut Told, name: &str, table: Table) {
     }
 }
 
-/// The first key that isn't known.
-fn unknown_key<'a>(members: &[Member<'a>], first: &'static [Key]) -> &'a str {
-    for member in members {
-        let mut is_known = false;
-        for level in 0..LEVELS {
-            is_known = is_known || has_key(keys_at(members, first, level), member.0);
+/// The keys that an object may have, level by level.
+type Levels = [&'static [Key]; LEVELS];
+
+fn is_known(levels: &Levels, name: &str) -> bool {
+    for keys in levels {
+        if has_key(keys, name) {
+            return true;
         }
-        if !is_known {
+    }
+    false
+}
+
+/// The first key that isn't known.
+fn unknown_key<'a>(members: &[Member<'a>], levels: &Levels) -> &'a str {
+    for member in members {
+        if !is_known(levels, member.0) {
             return member.0;
         }
     }
     ""
 }
 
+/// Notes those of the keys that are near.
+fn add_keys(told: &mut Told, nearest: &mut Nearest, name: &str, keys: &[Key]) {
+    for key in keys {
+        nearest.add(told, name, key.name());
+    }
+}
+
+/// The keys of one level, before which there are `index` of `count`; how many there are then.
+fn push_level(told: &mut Told, keys: &[Key], index: usize, count: usize) -> usize {
+    let mut index = index;
+    for key in keys {
+        push_item(told, index, count, key.name());
+        index = index.saturating_add(1);
+    }
+    index
+}
+
 /// All keys that are known.
-fn push_keys(told: &mut Told, members: &[Member<'_>], first: &'static [Key]) {
+fn push_keys(told: &mut Told, levels: &Levels) {
     let mut count = 0usize;
-    for level in 0..LEVELS {
-        count = count.saturating_add(keys_at(members, first, level).len());
+    for keys in levels {
+        count = count.saturating_add(keys.len());
     }
     told.push("; its keys are ");
     let mut index = 0usize;
-    for level in 0..LEVELS {
-        for key in keys_at(members, first, level) {
-            push_item(told, index, count, key.name());
-            index = index.saturating_add(1);
-        }
+    for keys in levels {
+        index = push_level(told, keys, index, count);
     }
 }
 
@@ -193,20 +215,24 @@ pub(crate) fn tell_unknown(
     whole: &'static str,
     first: &'static [Key],
 ) -> bool {
-    let name = unknown_key(members, first);
+    let levels = [
+        first,
+        keys_at(members, first, 1),
+        keys_at(members, first, 2),
+        keys_at(members, first, 3),
+    ];
+    let name = unknown_key(members, &levels);
     told.begin("", None);
     told.push(owner_of(members, whole, first));
     told.push(" has no key \"");
     told.push_shown(name);
     told.push("\"");
     let mut nearest = Nearest::NONE;
-    for level in 0..LEVELS {
-        for key in keys_at(members, first, level) {
-            nearest.add(told, name, key.name());
-        }
+    for keys in &levels {
+        add_keys(told, &mut nearest, name, keys);
     }
     if !nearest.tell(told) {
-        push_keys(told, members, first);
+        push_keys(told, &levels);
     }
     false
 }
