@@ -1,6 +1,7 @@
 #!/usr/bin/env bash
-# What a first ./tracehost says while it proves and builds, with a stand-in for rt that proves nothing: each crate once, after
-# all below it; where one fails; and that an interrupted run goes on where it was.
+# What a first ./tracehost says while it proves and builds, with a stand-in for rt that proves nothing: each crate once,
+# after all below it, and beside others that share a lower crate; where one fails; and that an interrupted run goes on
+# from where it was.
 set -uo pipefail
 top=$(cd "$(dirname "$(readlink -f "${BASH_SOURCE[0]}")")/.." && pwd)
 room=$(mktemp -d)
@@ -11,13 +12,22 @@ wrong() {
   failed=1
 }
 
-# a copy without what was built, and the stand-in: it notes its calls, and fails in the crate that FAILS names
+# a copy without what was built, and the stand-in: it notes its calls, locks the folders of the crate and of those below
+# it as rt does, needs their libraries, and fails in the crate that FAILS names
 mkdir "$room/copy" "$room/bin"
 (cd "$top" && git ls-files -z | xargs -0 cp --parents -t "$room/copy")
 cat >"$room/bin/rt" <<'STAND_IN'
 #!/usr/bin/env bash
 crate=$(basename "$PWD")
 echo "$1 $crate" >>"$CALLS"
+for it in $(sed -n "s/^$crate: *//p" ../../crates.txt) "$crate"; do
+  [ -d "../$it" ] || continue
+  [ "$it" = "$crate" ] || [ -f "../$it/out/rlib/stamp" ] || { echo "error: $it is not built"; exit 1; }
+  exec {folder}<"../$it"
+  flock "$folder"
+done
+mkdir -p out/incremental
+echo "begin $crate" >>"$CALLS"
 case $1 in
   lib | run)
     echo "so far: 0 of 2 functions checked; the verdict comes last"
@@ -25,7 +35,10 @@ case $1 in
     [ "$crate" != "${FAILS:-}" ] || { echo "error: not proved"; exit 1; }
     echo "so far: 1 of 2 functions checked"
     echo "logic=proved functions=2" ;;&
-  lib) mkdir -p out/rlib && touch out/rlib/stamp && echo "built $crate" >>"$CALLS" ;;
+  lib)
+    mkdir -p out/rlib
+    touch out/rlib/stamp
+    echo "built $crate" >>"$CALLS" ;;
   run)
     printf '#!/bin/sh\necho "ran $*"\n' >out/tracehost
     chmod +x out/tracehost ;;
@@ -51,10 +64,10 @@ sed -n 's/^lib //p' "$CALLS" | sort >"$room/again"
 comm -12 "$room/first" "$room/again" | grep . && wrong "these are proved twice"
 crates=$(grep -c ' is proved (' "$room/err")
 grep -q "$crates of $crates crates, 100% of the work" "$room/err" || wrong "the last line isn't that of the whole work"
-[ "$(sed -n 's/.*tracehost: \([a-z_0-9]*\) is proved.*/\1/p' "$room/err" | sort | uniq -d | wc -l)" -eq 0 ] || wrong "a crate is told twice"
+sed -n 's/.*tracehost: \([a-z_0-9]*\) is proved.*/\1/p' "$room/err" >"$room/order"
+[ -z "$(sort "$room/order" | uniq -d)" ] || wrong "a crate is told twice"
 
 # each crate comes after all that it stands on
-sed -n 's/.*tracehost: \([a-z_0-9]*\) is proved.*/\1/p' "$room/err" >"$room/order"
 while IFS=: read -r name uses; do
   at=$(grep -nx "${name%% *}" "$room/order" | cut -d: -f1)
   for use in $uses; do
@@ -63,10 +76,47 @@ while IFS=: read -r name uses; do
   done
 done < <(grep -v '^#' crates.txt)
 
+# side by side: one begins before another is built, though both lock the same crates
+below() {
+  sed -n "s/^$1: *//p" crates.txt | tr ' ' '\n' | sort
+}
+rm -rf crates/*/out
+: >"$CALLS"
+PAUSE=0.2 python3 tools/first_run.py 2>"$room/err"
+[ $? -eq 0 ] || wrong "a run from nothing doesn't end with status 0"
+running=()
+beside=0
+while read -r what name; do
+  case $what in
+    begin)
+      for other in ${running[@]+"${running[@]}"}; do
+        [ -z "$(comm -12 <(below "$name") <(below "$other"))" ] || beside=$((beside + 1))
+      done
+      running+=("$name") ;;
+    built)
+      mapfile -t running < <(printf '%s\n' "${running[@]}" | grep -vx "$name") ;;
+  esac
+done <"$CALLS"
+grep -q 'on 1 processors' "$room/err" || [ "$beside" -gt 0 ] || wrong "crates that share one are proved one by one"
+find crates -path '*/out/lane' | grep . && wrong "these lanes are left"
+
+# a source that changes is noticed, and a library that is moved keeps its place
+built=$(find crates -path 'crates/*/out/rlib/stamp' | wc -l)
+[ "$built" -eq $((crates - 1)) ] || wrong "not every library is in its crate's folder"
+: >"$CALLS"
+echo >>crates/scenario/src/lib.rt
+python3 tools/first_run.py 2>"$room/err"
+again=$(sed -n 's/^lib //p' "$CALLS" | sort | tr '\n' ' ')
+[ "$again" = "line_sessions scenario " ] || wrong "a changed source has these proved again: $again"
+
 # an interrupt
 rm -rf crates/*/out
 PAUSE=9 timeout --signal INT 3 python3 tools/first_run.py 2>"$room/err"
 grep -q 'interrupted; the next call goes on from here' "$room/err" || wrong "an interrupt isn't told"
+find crates -path '*/out/lane' | grep . && wrong "these lanes are left after an interrupt"
+[ -d crates/pid_blocks/out/incremental ] || wrong "what an interrupted proof had made is lost"
 
-[ "$failed" -eq 0 ] && echo "a first run of $crates crates, one that fails and one that is interrupted: as wanted"
+if [ "$failed" -eq 0 ]; then
+  echo "runs of $crates crates, one failed, one interrupted; $beside pairs side by side above one crate: as wanted"
+fi
 exit "$failed"

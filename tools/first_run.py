@@ -1,10 +1,10 @@
 #!/usr/bin/env python3
 """Proves and builds the program, and says on standard error how far it is.
 
-Each crate is proved once all below it are, as many side by side as there are processors and memory for. On a terminal one
-line is rewritten; else a line is printed for each crate. The share of the work that is done comes from the processor seconds
-of each crate in docs/TIMES.md. What is proved stays in the crates' out/ folders, so that after an interrupt the next call
-goes on from there.
+Each crate is proved once all below it are, as many side by side as there are processors and memory for, each in a lane
+of its own (lane.py). On a terminal one line is rewritten; else a line is printed for each crate. The share of the work
+that is done comes from the processor seconds of each crate in docs/TIMES.md. What is proved stays in the crates' out/
+folders, so that after an interrupt the next call goes on from there.
 """
 
 import os
@@ -15,6 +15,8 @@ import subprocess
 import sys
 import threading
 import time
+
+from lane import Lane
 
 TOP = os.path.dirname(os.path.dirname(os.path.realpath(__file__)))
 PROGRAM = "tracehost"
@@ -83,7 +85,7 @@ class Builder:
         self.began = time.monotonic()
         self.lock = threading.Condition()
         self.running, self.done, self.failed = {}, [], None
-        self.children = set()
+        self.children, self.threads = set(), []
         self.is_terminal = sys.stderr.isatty()
 
     def share(self):
@@ -132,11 +134,10 @@ class Builder:
             found |= {use} | self.all_below(use)
         return found
 
-    def call(self, name, words, given=b""):
-        """Runs rt in the crate's folder, notes the functions that it counts, and returns whether all went well."""
-        folder = f"{TOP}/crates/{name}"
-        os.makedirs(f"{folder}/out", exist_ok=True)
-        with open(f"{folder}/out/build.log", "ab") as log:
+    def call(self, name, folder, words, given=b""):
+        """Runs rt in the folder, notes the functions of the crate that it counts, and returns whether all went well."""
+        os.makedirs(f"{TOP}/crates/{name}/out", exist_ok=True)
+        with open(f"{TOP}/crates/{name}/out/build.log", "ab") as log:
             child = subprocess.Popen(
                 ["rt", *words], cwd=folder, stdin=subprocess.PIPE, stdout=subprocess.PIPE,
                 stderr=subprocess.STDOUT, start_new_session=True,
@@ -157,16 +158,25 @@ class Builder:
                 self.children.discard(child)
         return status == 0
 
+    def prove_library(self, name, jobs):
+        """Builds a library, which rt does only where it is proved."""
+        if self.is_proved(name):
+            return True
+        with Lane(TOP, name, self.all_below(name)) as lane:
+            well = self.call(name, lane.folder, ["lib", "--jobs", str(jobs)])
+            if well:
+                lane.date()
+        return well
+
     def prove(self, name, jobs):
         log = f"{TOP}/crates/{name}/out/build.log"
         if os.path.exists(log):
             os.remove(log)
         if name == PROGRAM:
             # a scenario of no steps prints nothing, so that this run proves and builds, and does no more
-            well = self.call(name, ["run", "--jobs", str(jobs)], b'{"steps":[]}')
+            well = self.call(name, f"{TOP}/crates/{name}", ["run", "--jobs", str(jobs)], b'{"steps":[]}')
         else:
-            # a library is built only where it is proved
-            well = self.is_proved(name) or self.call(name, ["lib", "--jobs", str(jobs)])
+            well = self.prove_library(name, jobs)
         with self.lock:
             functions = self.running.pop(name)[1]
             if well:
@@ -196,11 +206,13 @@ class Builder:
         return self.weight[name] + max((self.chain(it) for it in above), default=0)
 
     def jobs(self, name, at_once):
-        """Returns by how many processes a crate is proved: each reads all that the crate stands on, so a second pays for large ones alone."""
+        """Returns by how many processes a crate is proved.
+
+        Each reads all that the crate stands on, so a second pays for large ones alone.
+        """
         return 2 if at_once == 1 and self.lanes > 1 and self.weight[name] >= LARGE else 1
 
     def run(self):
-        threads = []
         with self.lock:
             while len(self.done) < len(self.below) and not self.failed:
                 ready = sorted(self.ready(), key=self.chain, reverse=True)
@@ -208,24 +220,34 @@ class Builder:
                     jobs = self.jobs(name, len(self.running) + len(ready))
                     self.running[name] = (0, 0)
                     thread = threading.Thread(target=self.prove, args=(name, jobs), daemon=True)
-                    threads.append(thread)
+                    self.threads.append(thread)
                     thread.start()
                 self.show()
                 self.lock.wait(1.0)
         return self.failed
 
     def stop(self):
+        """Ends what runs, and waits a while until the lanes are gone."""
         for child in list(self.children):
             try:
                 os.killpg(child.pid, signal.SIGTERM)
             except ProcessLookupError:
                 pass
+        for thread in self.threads:
+            thread.join(5)
+
+
+def interrupt(*_):
+    """Ends the run at the first signal, and ignores those that come while it ends."""
+    for number in (signal.SIGINT, signal.SIGTERM):
+        signal.signal(number, signal.SIG_IGN)
+    raise KeyboardInterrupt
 
 
 def main():
     # also where the caller ignores interrupts, as a shell does for what it runs in the background
     for number in (signal.SIGINT, signal.SIGTERM):
-        signal.signal(number, signal.default_int_handler)
+        signal.signal(number, interrupt)
     builder = Builder()
     builder.say(
         f"proving and building {len(builder.below)} crates, once, on {builder.lanes} processors; "

@@ -1,283 +1,271 @@
-//! The first mistake of a scenario or a step, in the order in which they are checked.
-ghost use Rattle.std.specs.Prelude.{◌<◌, length, IfSome};
-
+//! The first mistake of a scenario or a step, in the order in which they are checked. Each check answers whether all is
+//! well, and else has told what is wrong.
 use crate::format::{
-    ANY, Case, KEYS, Key, Kind, LEVELS, MOST_RULES, MOST_STEPS, RULE, Range, SCENARIO, SETTING,
-    SETTING_KEY, STEP, Table,
+    Case, Key, Kind, LEVELS, MOST_RULES, MOST_STEPS, RULE, Range, SCENARIO, SETTING, SETTING_KEY,
+    STEP,
 };
-use crate::mistake::{Found, Got, Known, Member, Mistake, Place, Wanted};
+use crate::told::Told;
+use crate::wording::{
+    tell_kind, tell_missing, tell_name, tell_no_object, tell_number, tell_too_many, tell_unknown,
+};
 use json::Value;
 
-/// The index of the last member with this key, which is the one that counts.
-pub(crate) fn index_of(members: &[Member<'_>], key: &str) -> Option<usize>
-    ensures { IfSome result (λ index. index < length members.now) }
-{
-    members.iter().rposition(|member| member.0 == key)
-}
+/// A key of an object, and its value.
+pub(crate) type Member<'a> = (&'a str, Value<'a>);
 
-fn wrong_kind<'a>(value: &Value<'a>, place: Place, wanted: Wanted) -> Found<'a> {
-    place.has(Mistake::Kind {
-        wanted,
-        got: Got::of(value),
-    })
-}
-
-/// A whole number of 64 bits, as it is written.
-fn whole(text: &str) -> Option<i64> {
-    if text == "-0" {
-        return None;
+/// The value of the last member with this key, which is the one that counts.
+pub(crate) fn value_of<'m, 'a>(members: &'m [Member<'a>], key: &str) -> Option<&'m Value<'a>> {
+    let mut found = None;
+    for member in members {
+        if member.0 == key {
+            found = Some(&member.1);
+        }
     }
-    text.parse::<i64>().ok()
+    found
 }
 
-/// A number within a range, in place of which `wanted` is told.
-fn check_number<'a>(
-    value: &Value<'a>,
-    place: Place,
-    range: Range,
-    wanted: Wanted,
-) -> Result<(), Found<'a>> {
-    let Value::Number(text) = value else {
-        return Err(wrong_kind(value, place, wanted));
-    };
-    let Some(number) = whole(text) else {
-        return Err(wrong_kind(value, place, wanted));
-    };
-    if range.least <= number && number <= range.most {
-        Ok(())
-    } else {
-        let number = *text;
-        Err(place.has(Mistake::Range { number, range }))
+/// Whether the text is a whole number of 64 bits.
+fn is_whole(text: &str) -> bool {
+    text != "-0" && text.parse::<i64>().is_ok()
+}
+
+/// Whether the whole number is in the range.
+fn is_in(text: &str, range: Range) -> bool {
+    match text.parse::<u32>() {
+        Ok(number) => range.least <= number && number <= range.most,
+        Err(_) => false,
     }
 }
 
-/// A name of the table, and its keys.
-fn check_name<'a>(
-    value: &Value<'a>,
-    place: Place,
-    table: Table,
-    wanted: Wanted,
-) -> Result<Case, Found<'a>> {
-    let Value::String(name) = value else {
-        return Err(wrong_kind(value, place, wanted));
-    };
-    let name = *name;
-    match table.find(name) {
-        Some(case) => Ok(case),
-        None => Err(place.has(Mistake::Name { name, table })),
+/// A number or a name, which is the value of a key or an item of it.
+fn check_one(
+    told: &mut Told,
+    value: &Value<'_>,
+    key: &str,
+    item: Option<usize>,
+    kind: Kind,
+) -> bool {
+    match (kind, value) {
+        (Kind::Whole | Kind::Setting, Value::Number(text)) if is_whole(text) => return true,
+        (Kind::Number(range), Value::Number(text)) if is_whole(text) => {
+            if is_in(text, range) {
+                return true;
+            }
+            told.begin(key, item);
+            tell_number(told, text, range);
+        }
+        (Kind::Choice(table) | Kind::Name(table), Value::String(name)) => {
+            if table.find(name).is_some() {
+                return true;
+            }
+            told.begin(key, item);
+            tell_name(told, name, table);
+        }
+        _ => {
+            told.begin(key, item);
+            tell_kind(told, kind, value);
+        }
     }
+    false
 }
 
-fn check_names<'a>(
-    value: &Value<'a>,
-    place: Place,
-    table: Table,
-    wanted: Wanted,
-) -> Result<(), Found<'a>> {
-    let Value::Array(items) = value else {
-        return Err(wrong_kind(value, place, wanted));
-    };
-    let wanted = Wanted::Key(Kind::Name(table));
-    for (index, item) in items.iter().enumerate() {
-        check_name(item, place.item(index), table, wanted)?;
+fn check_items(told: &mut Told, items: &[Value<'_>], key: &str, kind: Kind) -> bool {
+    for index in 0..items.len() {
+        if !check_one(told, &items[index], key, Some(index), kind) {
+            return false;
+        }
     }
-    Ok(())
-}
-
-fn check_numbers<'a>(
-    value: &Value<'a>,
-    place: Place,
-    range: Range,
-    wanted: Wanted,
-) -> Result<(), Found<'a>> {
-    let Value::Array(items) = value else {
-        return Err(wrong_kind(value, place, wanted));
-    };
-    let wanted = Wanted::Key(Kind::Number(range));
-    for (index, item) in items.iter().enumerate() {
-        check_number(item, place.item(index), range, wanted)?;
-    }
-    Ok(())
+    true
 }
 
 /// At most so many rules. What the rules are is checked behind the other keys.
-fn check_few_rules<'a>(value: &Value<'a>, place: Place, wanted: Wanted) -> Result<(), Found<'a>> {
-    let Value::Array(items) = value else {
-        return Err(wrong_kind(value, place, wanted));
-    };
-    if items.len() > MOST_RULES {
-        return Err(place.has(Mistake::TooManyRules(items.len())));
+fn check_few_rules(told: &mut Told, count: usize, key: &str) -> bool {
+    if count <= MOST_RULES {
+        return true;
     }
-    Ok(())
+    told.begin(key, None);
+    tell_too_many(told, count, " rules; a policy has at most ", MOST_RULES);
+    false
 }
 
-fn check_array<'a>(value: &Value<'a>, place: Place, wanted: Wanted) -> Result<(), Found<'a>> {
-    match value {
-        Value::Array(_) => Ok(()),
-        _ => Err(wrong_kind(value, place, wanted)),
-    }
-}
-
-/// The value of a key; the entry of its name, where more keys belong to that.
-fn check_value<'a>(value: &Value<'a>, place: Place, kind: Kind) -> Result<Option<Case>, Found<'a>> {
-    let wanted = Wanted::Key(kind);
-    match kind {
-        Kind::Choice(table) => return Ok(Some(check_name(value, place, table, wanted)?)),
-        Kind::Number(range) => check_number(value, place, range, wanted)?,
-        Kind::Name(table) => {
-            check_name(value, place, table, wanted)?;
+/// The value of a key.
+fn check_value(told: &mut Told, value: &Value<'_>, key: &str, kind: Kind) -> bool {
+    match (kind, value) {
+        (Kind::Names(table), Value::Array(items)) => {
+            check_items(told, items.as_slice(), key, Kind::Name(table))
         }
-        Kind::Names(table) => check_names(value, place, table, wanted)?,
-        Kind::Numbers(range) => check_numbers(value, place, range, wanted)?,
-        Kind::Rules => check_few_rules(value, place, wanted)?,
-        Kind::Steps => check_array(value, place, wanted)?,
-        Kind::Setting => check_number(value, place, ANY, wanted)?,
-    }
-    Ok(None)
-}
-
-/// The first key that isn't known.
-fn other_key<'a>(members: &[Member<'a>], known: &Known) -> Option<&'a str> {
-    for member in members {
-        if !known.has(member.0) {
-            return Some(member.0);
+        (Kind::Numbers(range), Value::Array(items)) => {
+            check_items(told, items.as_slice(), key, Kind::Number(range))
         }
-    }
-    None
-}
-
-/// The first key that belongs to nothing.
-fn strange_key<'a>(members: &[Member<'a>]) -> Option<&'a str> {
-    for member in members {
-        if !KEYS.contains(&member.0) {
-            return Some(member.0);
-        }
-    }
-    None
-}
-
-/// A key, if it is there; the entry of its name, where more keys belong to that.
-fn check_key<'a>(
-    members: &[Member<'a>],
-    place: Place,
-    key: Key,
-) -> Result<Option<Case>, Found<'a>> {
-    match (index_of(members, key.name()), key) {
-        (Some(index), _) => check_value(&members[index].1, place.key(key.name()), key.kind()),
-        (None, Key::Needed(key, _)) => {
-            let other = strange_key(members);
-            Err(place.has(Mistake::Missing { key, other }))
-        }
-        (None, Key::Optional(_, _)) => Ok(None),
+        (Kind::Rules, Value::Array(items)) => check_few_rules(told, items.len(), key),
+        (Kind::Steps, Value::Array(_)) => true,
+        _ => check_one(told, value, key, None, kind),
     }
 }
 
-/// The keys of one level, one by one; the entry of the name by which it goes on.
-fn check_keys<'a>(
-    members: &[Member<'a>],
-    place: Place,
-    keys: &'static [Key],
-) -> Result<Option<Case>, Found<'a>> {
-    let mut chosen = None;
+/// The keys of one level, one by one.
+fn check_keys(told: &mut Told, members: &[Member<'_>], keys: &[Key]) -> bool {
     for key in keys {
-        let case = check_key(members, place, *key)?;
-        if case.is_some() {
-            chosen = case;
+        let name = key.name();
+        if let Some(value) = value_of(members, name) {
+            if !check_value(told, value, name, key.kind()) {
+                return false;
+            }
+        } else if key.is_needed() {
+            tell_missing(told, members, name);
+            return false;
         }
     }
-    Ok(chosen)
+    true
 }
 
-/// The keys of an object, and those that belong to its names: all that it may have.
-fn check_levels<'a>(
-    members: &[Member<'a>],
-    place: Place,
-    keys: &'static [Key],
-    owner: &'static str,
-) -> Result<Known, Found<'a>> {
-    let mut known = Known::of(owner, keys);
-    for level in 0..LEVELS {
-        match check_keys(members, place, known.at(level))? {
-            Some(case) => known = known.with(level, case),
-            None => return Ok(known),
+/// The entry of the name by which it goes on behind the keys of one level.
+pub(crate) fn chosen(members: &[Member<'_>], keys: &[Key]) -> Option<&'static Case> {
+    for key in keys {
+        if let Kind::Choice(table) = key.kind() {
+            if let Some(Value::String(name)) = value_of(members, key.name()) {
+                return table.find(name);
+            }
         }
     }
-    Ok(known)
+    None
 }
 
-/// No other keys than those that are known.
-fn check_others<'a>(members: &[Member<'a>], place: Place, known: Known) -> Result<(), Found<'a>> {
-    match other_key(members, &known) {
-        Some(key) => Err(place.has(Mistake::Unknown { key, known })),
-        None => Ok(()),
+/// The keys that belong to the names of an object, which begin with the first ones: those of one level.
+pub(crate) fn keys_at(
+    members: &[Member<'_>],
+    first: &'static [Key],
+    level: usize,
+) -> &'static [Key] {
+    let mut keys = first;
+    for _ in 0..level {
+        match chosen(members, keys) {
+            Some(case) => keys = case.keys(),
+            None => return &[],
+        }
     }
+    keys
 }
 
-fn check_rule<'a>(rule: &Value<'a>, place: Place) -> Result<(), Found<'a>> {
+pub(crate) fn has_key(keys: &[Key], name: &str) -> bool {
+    for key in keys {
+        if key.name() == name {
+            return true;
+        }
+    }
+    false
+}
+
+/// How many members have one of the keys.
+fn count_known(members: &[Member<'_>], keys: &[Key]) -> usize {
+    let mut count = 0usize;
+    for member in members {
+        if has_key(keys, member.0) {
+            count = count.saturating_add(1);
+        }
+    }
+    count
+}
+
+/// The keys that belong to an object, level by level; how many members have one of them, if all is well.
+fn check_levels(told: &mut Told, members: &[Member<'_>], first: &'static [Key]) -> Option<usize> {
+    let mut keys = first;
+    let mut count = 0usize;
+    for _ in 0..LEVELS {
+        if !check_keys(told, members, keys) {
+            return None;
+        }
+        count = count.saturating_add(count_known(members, keys));
+        match chosen(members, keys) {
+            Some(case) => keys = case.keys(),
+            None => break,
+        }
+    }
+    Some(count)
+}
+
+fn check_rule(told: &mut Told, rule: &Value<'_>) -> bool {
     let Value::Object(members) = rule else {
-        return Err(wrong_kind(rule, place, Wanted::Object));
+        return tell_no_object(told, rule);
     };
-    let known = check_levels(members.as_slice(), place, &RULE, "a rule")?;
-    check_others(members.as_slice(), place, known)
+    let members = members.as_slice();
+    match check_levels(told, members, &RULE) {
+        Some(known) => known == members.len() || tell_unknown(told, members, "a rule", &RULE),
+        None => false,
+    }
 }
 
-fn check_rules<'a>(rules: &Value<'a>, place: Place) -> Result<(), Found<'a>> {
-    if let Value::Array(rules) = rules {
-        for (index, rule) in rules.iter().enumerate() {
-            check_rule(rule, place.rule(index))?;
+fn check_rules(told: &mut Told, members: &[Member<'_>]) -> bool {
+    if let Some(Value::Array(rules)) = value_of(members, "rules") {
+        let rules = rules.as_slice();
+        for index in 0..rules.len() {
+            told.rule = Some(index);
+            if !check_rule(told, &rules[index]) {
+                return false;
+            }
         }
+        told.rule = None;
     }
-    Ok(())
+    true
 }
 
-/// The first mistake of a step.
-pub(crate) fn check_step<'a>(step: &Value<'a>, place: Place) -> Result<(), Found<'a>> {
+pub(crate) fn check_step(told: &mut Told, step: &Value<'_>) -> bool {
     let Value::Object(members) = step else {
-        return Err(wrong_kind(step, place, Wanted::Object));
+        return tell_no_object(told, step);
     };
-    let known = check_levels(members.as_slice(), place, &STEP, "a step")?;
-    match index_of(members.as_slice(), "rules") {
-        Some(index) if known.has("rules") => check_rules(&members[index].1, place)?,
-        _ => {}
+    let members = members.as_slice();
+    let Some(known) = check_levels(told, members, &STEP) else {
+        return false;
+    };
+    if has_key(keys_at(members, &STEP, 1), "rules") && !check_rules(told, members) {
+        return false;
     }
-    check_others(members.as_slice(), place, known)
+    known == members.len() || tell_unknown(told, members, "a step", &STEP)
 }
 
 /// The setting is 0 or 1, where it is there.
-fn check_setting<'a>(members: &[Member<'a>]) -> Result<(), Found<'a>> {
-    let Some(index) = index_of(members, SETTING_KEY) else {
-        return Ok(());
-    };
-    let place = Place::WHOLE.key(SETTING_KEY);
-    let wanted = Wanted::Key(Kind::Setting);
-    check_number(&members[index].1, place, SETTING, wanted)
+fn check_setting(told: &mut Told, members: &[Member<'_>]) -> bool {
+    match value_of(members, SETTING_KEY) {
+        Some(value) => check_one(told, value, SETTING_KEY, None, Kind::Number(SETTING)),
+        None => true,
+    }
 }
 
 /// The steps, in order.
-fn check_steps<'a>(members: &[Member<'a>]) -> Result<(), Found<'a>> {
-    let Some(index) = index_of(members, "steps") else {
-        return Ok(());
+fn check_steps(told: &mut Told, members: &[Member<'_>]) -> bool {
+    let Some(Value::Array(steps)) = value_of(members, "steps") else {
+        return true;
     };
-    let Value::Array(steps) = &members[index].1 else {
-        return Ok(());
-    };
+    let steps = steps.as_slice();
     if steps.len() > MOST_STEPS {
-        let place = Place::WHOLE.key("steps");
-        return Err(place.has(Mistake::TooManySteps(steps.len())));
+        told.begin("steps", None);
+        tell_too_many(
+            told,
+            steps.len(),
+            " steps; a scenario has at most ",
+            MOST_STEPS,
+        );
+        return false;
     }
-    for (index, step) in steps.iter().enumerate() {
-        check_step(step, Place::step(index))?;
+    for index in 0..steps.len() {
+        told.step = Some(index);
+        if !check_step(told, &steps[index]) {
+            return false;
+        }
     }
-    Ok(())
+    true
 }
 
-/// The first mistake of a scenario.
-pub(crate) fn check_scenario<'a>(scenario: &Value<'a>) -> Result<(), Found<'a>> {
+pub(crate) fn check_scenario(told: &mut Told, scenario: &Value<'_>) -> bool {
     let Value::Object(members) = scenario else {
-        return Err(wrong_kind(scenario, Place::WHOLE, Wanted::Object));
+        return tell_no_object(told, scenario);
     };
-    let known = check_levels(members.as_slice(), Place::WHOLE, &SCENARIO, "it")?;
-    check_others(members.as_slice(), Place::WHOLE, known)?;
-    check_setting(members.as_slice())?;
-    check_steps(members.as_slice())
+    let members = members.as_slice();
+    let Some(known) = check_levels(told, members, &SCENARIO) else {
+        return false;
+    };
+    if known < members.len() {
+        return tell_unknown(told, members, "it", &SCENARIO);
+    }
+    check_setting(told, members) && check_steps(told, members)
 }

@@ -1,10 +1,11 @@
-//! The format of scenarios as a table: the keys of an object in the order in which they are checked, and what their values may be.
+//! The format of scenarios as a table: the keys of an object in the order in which they are checked, and what their
+//! values may be. No key stands in two levels of one object.
 
 /// Whole numbers from one to another.
-#[derive(Clone, Copy, PartialEq, Eq)]
+#[derive(Clone, Copy)]
 pub(crate) struct Range {
-    pub(crate) least: i64,
-    pub(crate) most: i64,
+    pub(crate) least: u32,
+    pub(crate) most: u32,
 }
 
 /// A table of names.
@@ -25,6 +26,8 @@ pub(crate) enum Table {
 #[derive(Clone, Copy)]
 pub(crate) enum Kind {
     Number(Range),
+    /// A whole number of 64 bits.
+    Whole,
     /// A name, by which it goes on: more keys may belong to it.
     Choice(Table),
     Name(Table),
@@ -37,22 +40,28 @@ pub(crate) enum Kind {
 }
 
 /// A key of an object.
-#[derive(Clone, Copy)]
 pub(crate) enum Key {
     Needed(&'static str, Kind),
     Optional(&'static str, Kind),
 }
 
 impl Key {
-    pub(crate) fn name(self) -> &'static str {
+    pub(crate) fn name(&self) -> &'static str {
         match self {
             Key::Needed(name, _) | Key::Optional(name, _) => name,
         }
     }
 
-    pub(crate) fn kind(self) -> Kind {
+    pub(crate) fn kind(&self) -> Kind {
         match self {
-            Key::Needed(_, kind) | Key::Optional(_, kind) => kind,
+            Key::Needed(_, kind) | Key::Optional(_, kind) => *kind,
+        }
+    }
+
+    pub(crate) fn is_needed(&self) -> bool {
+        match self {
+            Key::Needed(_, _) => true,
+            Key::Optional(_, _) => false,
         }
     }
 }
@@ -85,11 +94,40 @@ const SIGNAL: Range = Range { least: 1, most: 31 };
 
 const PASS: Range = Range { least: 0, most: 31 };
 
-/// All whole numbers that a scenario may have.
-pub(crate) const ANY: Range = Range {
-    least: -9223372036854775808,
-    most: 9223372036854775807,
-};
+/// The names of the signals, from number 1 on.
+pub(crate) const SIGNALS: [&str; 31] = [
+    "SIGHUP",
+    "SIGINT",
+    "SIGQUIT",
+    "SIGILL",
+    "SIGTRAP",
+    "SIGABRT",
+    "SIGEMT",
+    "SIGFPE",
+    "SIGKILL",
+    "SIGBUS",
+    "SIGSEGV",
+    "SIGSYS",
+    "SIGPIPE",
+    "SIGALRM",
+    "SIGTERM",
+    "SIGURG",
+    "SIGSTOP",
+    "SIGTSTP",
+    "SIGCONT",
+    "SIGCHLD",
+    "SIGTTIN",
+    "SIGTTOU",
+    "SIGIO",
+    "SIGXCPU",
+    "SIGXFSZ",
+    "SIGVTALRM",
+    "SIGPROF",
+    "SIGWINCH",
+    "SIGINFO",
+    "SIGUSR1",
+    "SIGUSR2",
+];
 
 /// The key of the setting of the host, and its values.
 pub(crate) const SETTING_KEY: &str = "kill_on_debugger_exit";
@@ -144,15 +182,14 @@ pub(crate) const RULE: [Key; 3] = [
 ];
 
 /// A name of a table, and the keys that belong to it.
-#[derive(Clone, Copy)]
 pub(crate) struct Case(&'static str, &'static [Key]);
 
 impl Case {
-    pub(crate) fn name(self) -> &'static str {
+    pub(crate) fn name(&self) -> &'static str {
         self.0
     }
 
-    pub(crate) fn keys(self) -> &'static [Key] {
+    pub(crate) fn keys(&self) -> &'static [Key] {
         self.1
     }
 }
@@ -167,7 +204,7 @@ const OPS: [Case; 9] = [
         "wait4",
         &[
             CALLER,
-            Key::Needed("which", Kind::Number(ANY)),
+            Key::Needed("which", Kind::Whole),
             Key::Optional("options", Kind::Names(Table::WaitOption)),
         ],
     ),
@@ -175,7 +212,7 @@ const OPS: [Case; 9] = [
         "kill",
         &[
             CALLER,
-            Key::Needed("which", Kind::Number(ANY)),
+            Key::Needed("which", Kind::Whole),
             Key::Needed("signal", Kind::Number(WORD)),
         ],
     ),
@@ -323,10 +360,10 @@ impl Table {
     }
 
     /// The entry with this name.
-    pub(crate) fn find(self, name: &str) -> Option<Case> {
+    pub(crate) fn find(self, name: &str) -> Option<&'static Case> {
         for case in self.cases() {
             if case.name() == name {
-                return Some(*case);
+                return Some(case);
             }
         }
         None

@@ -1,9 +1,6 @@
 //! Why a text is no JSON, in words.
 use crate::scanning::{JsonMistake, Wants, Wrong, first_mistake};
-use crate::texts::Source;
-use crate::wording::Shown;
-use std::alloc::{AllocError, Global};
-use std::fmt;
+use crate::told::Told;
 use std::str::from_utf8;
 
 /// A line of a text and a column in characters, both from 1.
@@ -30,21 +27,19 @@ impl LineColumn {
     }
 }
 
-/// A place as it is told: of a line that stands alone the column is enough.
-#[derive(Clone, Copy)]
-struct Spot {
-    source: Source,
-    at: LineColumn,
-}
+impl Told {
+    /// A line of the text and a column; of a line that stands alone its number.
+    fn push_spot(&mut self, line: usize, column: usize) {
+        self.push("line ");
+        self.push_number(self.line.unwrap_or(line));
+        self.push(", column ");
+        self.push_number(column);
+    }
 
-impl fmt::Display for Spot {
-    fn fmt<W: fmt::Write>(&self, f: &mut fmt::Formatter<W>) -> fmt::Result {
-        let LineColumn { line, column } = self.at;
-        let line = match self.source {
-            Source::Scenario => line,
-            Source::Line(number) => number,
-        };
-        write!(f, "line {line}, column {column}")
+    /// Where so many bytes of the text stand before.
+    fn push_spot_in(&mut self, text: &[u8], before: usize) {
+        let at = LineColumn::of(text, before);
+        self.push_spot(at.line, at.column);
     }
 }
 
@@ -73,133 +68,109 @@ impl Wants {
     }
 }
 
-/// What is told of a word that is no value.
-fn word_told(alloc: Global, word: &str) -> Result<String, AllocError> {
-    if word.starts_with('\u{feff}') {
-        return String::from_str(alloc, "a byte order mark begins the text; leave it out");
+/// What helps where a word is no value.
+fn word_hint(word: &str) -> &'static str {
+    if word.eq_ignore_ascii_case("true") {
+        return "; did you mean `true`?";
     }
-    let shown = Shown(word);
-    let mut told = format!(in alloc; "`{shown}` is no value of JSON")?;
-    for value in ["true", "false", "null"] {
-        if word.eq_ignore_ascii_case(value) {
-            write!(told, "; did you mean `{value}`?")?;
-            return Ok(told);
-        }
+    if word.eq_ignore_ascii_case("false") {
+        return "; did you mean `false`?";
     }
-    let hint = match word.chars().next() {
-        Some(first) if first.is_ascii_digit() || first == '-' || first == '+' || first == '.' => "",
-        Some('/') | Some('#') => "; JSON has no comments",
+    if word.eq_ignore_ascii_case("null") {
+        return "; did you mean `null`?";
+    }
+    match word.chars().next() {
+        Some('0'..='9' | '-' | '+' | '.') => "",
+        Some('/' | '#') => "; JSON has no comments",
         _ => "; texts stand in double quotes",
-    };
-    told.push_str(hint)?;
-    Ok(told)
-}
-
-/// What is told where the text ends too early.
-fn cut_told(
-    alloc: Global,
-    source: Source,
-    text: &[u8],
-    wants: Wants,
-    opened: Option<usize>,
-) -> Result<String, AllocError> {
-    let wanted = wants.words();
-    let Some(begin) = opened else {
-        return format!(in alloc; "expected {wanted}, but the text ends");
-    };
-    let spot = Spot {
-        source,
-        at: LineColumn::of(text, begin),
-    };
-    format!(in alloc; "expected {wanted}, but the text ends; what opens at {spot} isn't closed")
-}
-
-/// What is told of the mistake.
-fn mistake_told(
-    alloc: Global,
-    source: Source,
-    text: &[u8],
-    mistake: JsonMistake,
-) -> Result<String, AllocError> {
-    let rest = from_utf8(text.get(mistake.at..).unwrap_or(&[])).unwrap_or("");
-    match mistake.wrong {
-        Wrong::Word(end) => {
-            let word = from_utf8(text.get(mistake.at..end).unwrap_or(&[])).unwrap_or("");
-            word_told(alloc, word)
-        }
-        Wrong::TooLarge(end) => {
-            let word = from_utf8(text.get(mistake.at..end).unwrap_or(&[])).unwrap_or("");
-            let shown = Shown(word);
-            format!(in alloc; "{shown} is beyond what a double holds")
-        }
-        Wrong::TooDeep => String::from_str(alloc, "arrays and objects nest more than 127 deep"),
-        Wrong::Escape => String::from_str(
-            alloc,
-            "this is no escape of JSON; write `\\\\` for a backslash",
-        ),
-        Wrong::Control => control_told(alloc, source, text, mistake),
-        Wrong::Other(wants) => match rest.chars().next() {
-            Some(got) => {
-                let (wanted, hint) = (wants.words(), wants.hint(got));
-                let got = Shown(rest.get(..got.len_utf8()).unwrap_or(""));
-                format!(in alloc; "expected {wanted}, got `{got}`{hint}")
-            }
-            None => cut_told(alloc, source, text, wants, mistake.opened),
-        },
     }
 }
 
-/// What is told of a text with a control character, or without quotes at its end.
-fn control_told(
-    alloc: Global,
-    source: Source,
-    text: &[u8],
-    mistake: JsonMistake,
-) -> Result<String, AllocError> {
+/// A word that is no value.
+fn tell_word(told: &mut Told, word: &str) {
+    if word.starts_with('\u{feff}') {
+        return told.push("a byte order mark begins the text; leave it out");
+    }
+    told.push("`");
+    told.push_shown(word);
+    told.push("` is no value of JSON");
+    told.push(word_hint(word));
+}
+
+/// Another character than what may come, or the text's end.
+fn tell_other(told: &mut Told, text: &[u8], mistake: &JsonMistake, wants: Wants) {
+    told.push("expected ");
+    told.push(wants.words());
+    let rest = from_utf8(text.get(mistake.at..).unwrap_or(&[])).unwrap_or("");
+    if let Some(got) = rest.chars().next() {
+        told.push(", got `");
+        told.push_character(got);
+        told.push("`");
+        told.push(wants.hint(got));
+        return;
+    }
+    told.push(", but the text ends");
+    if let Some(begin) = mistake.opened {
+        told.push("; what opens at ");
+        told.push_spot_in(text, begin);
+        told.push(" isn't closed");
+    }
+}
+
+/// A text with a control character, or without quotes at its end.
+fn tell_control(told: &mut Told, text: &[u8], mistake: &JsonMistake) {
     match text.get(mistake.at) {
         Some(byte) if *byte != b'\n' && *byte != b'\r' => {
-            format!(in alloc; "a control character stands in a text; write it as `\\u{byte:04x}`")
+            told.push("a control character stands in a text; write it as `\\u");
+            if write!(told.lines, "{byte:04x}").is_err() {
+                told.is_cut = true;
+            }
+            told.push("`");
         }
         _ => {
-            let spot = Spot {
-                source,
-                at: LineColumn::of(text, mistake.opened.unwrap_or(0)),
-            };
-            format!(in alloc; "the text that begins at {spot} has no quotes at its end")
+            told.push("the text that begins at ");
+            told.push_spot_in(text, mistake.opened.unwrap_or(0));
+            told.push(" has no quotes at its end");
         }
     }
 }
 
-/// Why the bytes are no JSON, with the place; the reader's words where nothing else is found.
-pub(crate) fn json_told(
-    alloc: Global,
-    source: Source,
-    text: &[u8],
-    error: &serde_json::Error,
-) -> Result<String, AllocError> {
-    if let Err(error) = from_utf8(text) {
-        let spot = Spot {
-            source,
-            at: LineColumn::of(text, error.valid_up_to()),
-        };
-        return format!(in alloc; "{spot}: the bytes aren't UTF-8");
+/// The bytes from one place to another, which is a word of the text.
+fn word_at(text: &[u8], begin: usize, end: usize) -> &str {
+    from_utf8(text.get(begin..end).unwrap_or(&[])).unwrap_or("")
+}
+
+fn tell_mistake(told: &mut Told, text: &[u8], mistake: &JsonMistake) {
+    match mistake.wrong {
+        Wrong::Word(end) => tell_word(told, word_at(text, mistake.at, end)),
+        Wrong::TooLarge(end) => {
+            told.push_shown(word_at(text, mistake.at, end));
+            told.push(" is beyond what a double holds");
+        }
+        Wrong::TooDeep => told.push("arrays and objects nest more than 127 deep"),
+        Wrong::Escape => told.push("this is no escape of JSON; write `\\\\` for a backslash"),
+        Wrong::Control => tell_control(told, text, mistake),
+        Wrong::Other(wants) => tell_other(told, text, mistake, wants),
     }
-    match first_mistake(text) {
-        Err(mistake) => {
-            let spot = Spot {
-                source,
-                at: LineColumn::of(text, mistake.at),
-            };
-            let told = mistake_told(alloc, source, text, mistake)?;
-            format!(in alloc; "{spot}: {told}")
-        }
-        Ok(()) => {
-            let at = LineColumn {
-                line: error.line(),
-                column: error.column(),
-            };
-            let spot = Spot { source, at };
-            format!(in alloc; "{spot}: {error}")
-        }
+}
+
+/// Tells why the bytes are no JSON, with the place; the reader's words where nothing else is found.
+pub(crate) fn tell_no_json(told: &mut Told, text: &[u8], error: &serde_json::Error) {
+    told.push("  ");
+    if let Err(error) = from_utf8(text) {
+        told.push_spot_in(text, error.valid_up_to());
+        told.push(": the bytes aren't UTF-8\n");
+        return;
+    }
+    if let Err(mistake) = first_mistake(text) {
+        told.push_spot_in(text, mistake.at);
+        told.push(": ");
+        tell_mistake(told, text, &mistake);
+        told.push("\n");
+        return;
+    }
+    told.push_spot(error.line(), error.column());
+    if writeln!(told.lines, ": {error}").is_err() {
+        told.is_cut = true;
     }
 }

@@ -1,14 +1,15 @@
-//! Why a text is no scenario, or no step, for its author to read: where the first mistake is, what is wrong there, and what was likely meant.
+//! Why a text is no scenario, or no step, for its author to read: where the first mistake is, what is wrong there, and
+//! what was likely meant.
 #![tactic(auto)]
 
 mod checking;
 mod format;
 mod json_mistakes;
-mod mistake;
 mod nearness;
 mod repeated;
 mod scanning;
 mod texts;
+mod told;
 mod wording;
 
 pub use texts::{Source, explain};

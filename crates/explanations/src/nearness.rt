@@ -1,4 +1,5 @@
 //! Names that are spelt much like another.
+use crate::told::Told;
 use std::alloc::{AllocError, Global};
 use strsim::generic_levenshtein;
 
@@ -21,65 +22,73 @@ fn most_edits(length: usize) -> usize {
     }
 }
 
-/// How many letters lead from what was written to the name, whether great or small; none where they are too many.
-pub(crate) fn edits(alloc: Global, written: &str, name: &str) -> Result<Option<usize>, AllocError> {
-    if written.len() > MOST_BYTES || written.is_empty() {
-        return Ok(None);
-    }
-    let most = most_edits(written.len().max(name.len()));
+/// How many letters lead from one name to the other, whether great or small.
+fn edits(alloc: Global, written: &str, name: &str) -> Result<usize, AllocError> {
     let written = lowered(alloc, written)?;
     let name = lowered(alloc, name)?;
-    let edits = generic_levenshtein(alloc, written.as_slice(), name.as_slice())?;
-    if edits <= most {
-        Ok(Some(edits))
-    } else {
-        Ok(None)
+    generic_levenshtein(alloc, written.as_slice(), name.as_slice())
+}
+
+impl Told {
+    /// How many letters lead from what was written to the name; none where they are too many.
+    pub(crate) fn few_edits(&mut self, written: &str, name: &str) -> Option<usize> {
+        if written.len() > MOST_BYTES || written.is_empty() {
+            return None;
+        }
+        let most = most_edits(written.len().max(name.len()));
+        match edits(self.alloc, written, name) {
+            Ok(edits) if edits <= most => Some(edits),
+            Ok(_) => None,
+            Err(_) => {
+                self.is_cut = true;
+                None
+            }
+        }
     }
 }
 
 /// The names that are nearest to what was written, at most two of them.
 #[derive(Clone, Copy)]
 pub(crate) struct Nearest {
-    pub(crate) first: Option<(usize, &'static str)>,
-    pub(crate) second: Option<(usize, &'static str)>,
+    edits: usize,
+    /// Empty where there is none, as is the second.
+    first: &'static str,
+    second: &'static str,
 }
 
 impl Nearest {
     pub(crate) const NONE: Nearest = Nearest {
-        first: None,
-        second: None,
+        edits: usize::MAX,
+        first: "",
+        second: "",
     };
 
-    /// These, or with the name in the place of one that is farther from what was written.
-    pub(crate) fn or(
-        self,
-        alloc: Global,
-        written: &str,
-        name: &'static str,
-    ) -> Result<Nearest, AllocError> {
-        let Some(edits) = edits(alloc, written, name)? else {
-            return Ok(self);
+    /// Notes a name, if it is as near as those before.
+    pub(crate) fn add(&mut self, told: &mut Told, written: &str, name: &'static str) {
+        let Some(edits) = told.few_edits(written, name) else {
+            return;
         };
-        let found = Some((edits, name));
-        if is_nearer(edits, &self.first) {
-            Ok(Nearest {
-                first: found,
-                second: self.first,
-            })
-        } else if is_nearer(edits, &self.second) {
-            Ok(Nearest {
-                second: found,
-                ..self
-            })
-        } else {
-            Ok(self)
+        if edits < self.edits {
+            self.edits = edits;
+            self.first = name;
+            self.second = "";
+        } else if edits == self.edits && self.second.is_empty() {
+            self.second = name;
         }
     }
-}
 
-fn is_nearer(edits: usize, other: &Option<(usize, &'static str)>) -> bool {
-    match other {
-        Some(other) => edits < other.0,
-        None => true,
+    /// Tells what was likely meant, and answers whether there is anything.
+    pub(crate) fn tell(&self, told: &mut Told) -> bool {
+        if self.first.is_empty() {
+            return false;
+        }
+        told.push("; did you mean \"");
+        told.push(self.first);
+        if !self.second.is_empty() {
+            told.push("\" or \"");
+            told.push(self.second);
+        }
+        told.push("\"?");
+        true
     }
 }

@@ -1,92 +1,101 @@
 //! Keys that stand more than once in an object, of which the last counts.
-use crate::checking::index_of;
+use crate::checking::{Member, value_of};
 use crate::format::KEYS;
-use crate::mistake::{Member, Place};
+use crate::told::Told;
 use json::Value;
-use std::alloc::{AllocError, Global};
 
 /// The most keys that are told.
 const MOST_TOLD: usize = 10;
 
-/// Keys that were found.
-#[derive(Drop)]
-pub(crate) struct Repeated {
-    /// Each with its place, and how often it stands there.
-    pub(crate) told: Vec<(Place, &'static str, usize)>,
-    /// How many more there are.
-    pub(crate) others: usize,
+fn count_of(members: &[Member<'_>], key: &str) -> usize {
+    let mut count = 0usize;
+    for member in members {
+        if member.0 == key {
+            count = count.saturating_add(1);
+        }
+    }
+    count
 }
 
-impl Repeated {
-    pub(crate) fn none(alloc: Global) -> Repeated {
-        Repeated {
-            told: Vec::new(alloc),
-            others: 0,
-        }
+fn tell_times(told: &mut Told, key: &str, times: usize) {
+    told.begin("", None);
+    told.push("the key \"");
+    told.push(key);
+    if times == 2 {
+        told.push("\" stands twice; the last counts\n");
+    } else {
+        told.push("\" stands ");
+        told.push_number(times);
+        told.push(" times; the last counts\n");
     }
+}
 
-    fn add(&mut self, place: Place, key: &'static str, times: usize) -> Result<(), AllocError> {
-        if self.told.len() < MOST_TOLD {
-            self.told.push((place, key, times))?;
-        } else {
-            self.others = self.others.saturating_add(1);
-        }
-        Ok(())
-    }
-
-    /// Adds those of an object.
-    fn add_object(&mut self, members: &[Member<'_>], place: Place) -> Result<(), AllocError> {
-        for key in KEYS {
-            let times = members.iter().filter(|member| member.0 == *key).count();
-            if times > 1 {
-                self.add(place, key, times)?;
+/// Tells those of an object, where `before` were found before, and answers how many there are now.
+fn tell_members(told: &mut Told, members: &[Member<'_>], before: usize) -> usize {
+    let mut found = before;
+    for key in KEYS {
+        let times = count_of(members, key);
+        if times > 1 {
+            if found < MOST_TOLD {
+                tell_times(told, key, times);
             }
-        }
-        Ok(())
-    }
-
-    fn add_rules(&mut self, rules: &Value<'_>, place: Place) -> Result<(), AllocError> {
-        let Value::Array(rules) = rules else {
-            return Ok(());
-        };
-        for (index, rule) in rules.iter().enumerate() {
-            if let Value::Object(members) = rule {
-                self.add_object(members.as_slice(), place.rule(index))?;
-            }
-        }
-        Ok(())
-    }
-
-    /// Adds those of a step.
-    pub(crate) fn add_step(&mut self, step: &Value<'_>, place: Place) -> Result<(), AllocError> {
-        let Value::Object(members) = step else {
-            return Ok(());
-        };
-        self.add_object(members.as_slice(), place)?;
-        match index_of(members.as_slice(), "rules") {
-            Some(index) => self.add_rules(&members[index].1, place),
-            None => Ok(()),
+            found = found.saturating_add(1);
         }
     }
+    found
+}
 
-    fn add_steps(&mut self, steps: &Value<'_>) -> Result<(), AllocError> {
-        if let Value::Array(steps) = steps {
-            for (index, step) in steps.iter().enumerate() {
-                self.add_step(step, Place::step(index))?;
-            }
+fn tell_rules(told: &mut Told, members: &[Member<'_>], before: usize) -> usize {
+    let Some(Value::Array(rules)) = value_of(members, "rules") else {
+        return before;
+    };
+    let mut found = before;
+    let rules = rules.as_slice();
+    for index in 0..rules.len() {
+        if let Value::Object(members) = &rules[index] {
+            told.rule = Some(index);
+            found = tell_members(told, members.as_slice(), found);
         }
-        Ok(())
     }
+    told.rule = None;
+    found
+}
 
-    /// Adds those of a scenario.
-    pub(crate) fn add_scenario(&mut self, scenario: &Value<'_>) -> Result<(), AllocError> {
-        let Value::Object(members) = scenario else {
-            return Ok(());
-        };
-        self.add_object(members.as_slice(), Place::WHOLE)?;
-        match index_of(members.as_slice(), "steps") {
-            Some(index) => self.add_steps(&members[index].1),
-            None => Ok(()),
+fn tell_step(told: &mut Told, step: &Value<'_>, before: usize) -> usize {
+    let Value::Object(members) = step else {
+        return before;
+    };
+    let found = tell_members(told, members.as_slice(), before);
+    tell_rules(told, members.as_slice(), found)
+}
+
+fn tell_scenario(told: &mut Told, scenario: &Value<'_>) -> usize {
+    let Value::Object(members) = scenario else {
+        return 0;
+    };
+    let mut found = tell_members(told, members.as_slice(), 0);
+    if let Some(Value::Array(steps)) = value_of(members.as_slice(), "steps") {
+        let steps = steps.as_slice();
+        for index in 0..steps.len() {
+            told.step = Some(index);
+            found = tell_step(told, &steps[index], found);
         }
+    }
+    found
+}
+
+/// Tells those of a scenario, or of a step that stands alone.
+pub(crate) fn tell_repeated(told: &mut Told, value: &Value<'_>) {
+    told.step = None;
+    told.rule = None;
+    let found = if told.line.is_some() {
+        tell_step(told, value, 0)
+    } else {
+        tell_scenario(told, value)
+    };
+    if found > MOST_TOLD {
+        told.push("  ");
+        told.push_number(found.saturating_sub(MOST_TOLD));
+        told.push(" more keys stand more than once\n");
     }
 }

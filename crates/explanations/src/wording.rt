@@ -1,269 +1,266 @@
-//! Mistakes in words.
-use crate::format::{ANY, Kind, LEVELS, MOST_RULES, MOST_STEPS, Range, Table};
-use crate::mistake::{Found, Got, Known, Mistake, Place, Wanted};
-use crate::nearness::{Nearest, edits};
-use crate::texts::Source;
-use signals::Signal;
-use std::alloc::{AllocError, Global};
-use std::fmt;
+//! Mistakes in words, each behind its place.
+use crate::checking::{Member, chosen, has_key, keys_at};
+use crate::format::{KEYS, Key, Kind, LEVELS, Range, SIGNALS, Table};
+use crate::nearness::Nearest;
+use crate::told::Told;
+use json::Value;
 
-/// The most characters of a text that are shown.
-const MOST_SHOWN: usize = 40;
+fn push_range(told: &mut Told, range: Range) {
+    told.push(" from ");
+    told.push_number(range.least as usize);
+    told.push(" to ");
+    told.push_number(range.most as usize);
+}
 
-/// A text with its control characters escaped, cut where it is long.
-#[derive(Clone, Copy)]
-pub(crate) struct Shown<'a>(pub(crate) &'a str);
-
-impl fmt::Display for Shown<'_> {
-    fn fmt<W: fmt::Write>(&self, f: &mut fmt::Formatter<W>) -> fmt::Result {
-        for (index, character) in self.0.chars().enumerate() {
-            if index >= MOST_SHOWN {
-                return f.write_str("..");
-            }
-            if character.is_control() {
-                let escaped = character.escape_default();
-                write!(f, "{escaped}")?;
-            } else {
-                f.write_char(character)?;
-            }
+fn push_kind(told: &mut Told, kind: Kind) {
+    match kind {
+        Kind::Number(range) => {
+            told.push("a whole number");
+            push_range(told, range);
         }
-        Ok(())
+        Kind::Whole => told.push("a whole number of 64 bits"),
+        Kind::Numbers(range) => {
+            told.push("an array with whole numbers");
+            push_range(told, range);
+        }
+        Kind::Choice(table) | Kind::Name(table) => {
+            told.push("the name of one of the ");
+            told.push(table.word());
+            told.push("s");
+        }
+        Kind::Names(table) => {
+            told.push("an array with names of ");
+            told.push(table.word());
+            told.push("s");
+        }
+        Kind::Rules => told.push("an array of rules"),
+        Kind::Steps => told.push("an array of steps"),
+        Kind::Setting => told.push("0 or 1"),
     }
 }
 
-/// A range in words.
-impl fmt::Display for Range {
-    fn fmt<W: fmt::Write>(&self, f: &mut fmt::Formatter<W>) -> fmt::Result {
-        let (least, most) = (self.least, self.most);
-        if *self == ANY {
-            f.write_str("of 64 bits")
-        } else {
-            write!(f, "from {least} to {most}")
+/// What a value is.
+fn push_value(told: &mut Told, value: &Value<'_>) {
+    match value {
+        Value::Null => told.push("null"),
+        Value::Bool(is_true) => told.push(if *is_true { "true" } else { "false" }),
+        Value::Number(text) => told.push_shown(text),
+        Value::String(text) => {
+            told.push("\"");
+            told.push_shown(text);
+            told.push("\"");
         }
+        Value::Array(_) => told.push("an array"),
+        Value::Object(_) => told.push("an object"),
     }
 }
 
-impl fmt::Display for Wanted {
-    fn fmt<W: fmt::Write>(&self, f: &mut fmt::Formatter<W>) -> fmt::Result {
-        let kind = match self {
-            Wanted::Object => return f.write_str("an object"),
-            Wanted::Key(kind) => *kind,
-        };
-        match kind {
-            Kind::Number(range) => write!(f, "a whole number {range}"),
-            Kind::Choice(table) | Kind::Name(table) => {
-                let word = table.word();
-                write!(f, "the name of one of the {word}s")
-            }
-            Kind::Names(table) => {
-                let word = table.word();
-                write!(f, "an array with names of {word}s")
-            }
-            Kind::Numbers(range) => write!(f, "an array with whole numbers {range}"),
-            Kind::Rules => f.write_str("an array of rules"),
-            Kind::Steps => f.write_str("an array of steps"),
-            Kind::Setting => f.write_str("0 or 1"),
+/// The number of the signal with this name.
+fn signal_number(name: &str) -> Option<usize> {
+    for index in 0..SIGNALS.len() {
+        if SIGNALS[index] == name {
+            return Some(index + 1);
         }
     }
-}
-
-impl fmt::Display for Got<'_> {
-    fn fmt<W: fmt::Write>(&self, f: &mut fmt::Formatter<W>) -> fmt::Result {
-        match self {
-            Got::Null => f.write_str("null"),
-            Got::Bool(is_true) => write!(f, "{is_true}"),
-            Got::Number(text) => {
-                let shown = Shown(text);
-                write!(f, "{shown}")
-            }
-            Got::Text(text) => {
-                let shown = Shown(text);
-                write!(f, "\"{shown}\"")
-            }
-            Got::Array => f.write_str("an array"),
-            Got::Object => f.write_str("an object"),
-        }
-    }
+    None
 }
 
 /// What helps where a text stands in place of a number.
-fn push_number_hint(told: &mut String, wanted: Wanted, got: Got<'_>) -> Result<(), AllocError> {
-    if let Wanted::Key(Kind::Number(_)) = wanted {
-        if let Got::Text(text) = got {
-            if let Some(signal) = Signal::by_name(text) {
-                let number = signal.number();
-                write!(told, "; write {number} for {text}")?;
-            } else if text.parse::<i64>().is_ok() {
-                told.push_str("; numbers have no quotes")?;
-            }
-        }
+fn push_number_hint(told: &mut Told, text: &str) {
+    if let Some(number) = signal_number(text) {
+        told.push("; write ");
+        told.push_number(number);
+        told.push(" for ");
+        told.push(text);
+    } else if text.parse::<i64>().is_ok() {
+        told.push("; numbers have no quotes");
     }
-    Ok(())
+}
+
+/// A value of another kind.
+pub(crate) fn tell_kind(told: &mut Told, kind: Kind, value: &Value<'_>) {
+    told.push("expected ");
+    push_kind(told, kind);
+    told.push(", got ");
+    push_value(told, value);
+    if let (Kind::Number(_) | Kind::Whole, Value::String(text)) = (kind, value) {
+        push_number_hint(told, text);
+    }
+}
+
+/// A value in place of an object; all isn't well then.
+pub(crate) fn tell_no_object(told: &mut Told, value: &Value<'_>) -> bool {
+    told.begin("", None);
+    told.push("expected an object, got ");
+    push_value(told, value);
+    false
+}
+
+/// A number out of its range.
+pub(crate) fn tell_number(told: &mut Told, number: &str, range: Range) {
+    told.push(number);
+    told.push(" is out of range; expected a whole number");
+    push_range(told, range);
+}
+
+pub(crate) fn tell_too_many(told: &mut Told, count: usize, words: &str, most: usize) {
+    told.push_number(count);
+    told.push(words);
+    told.push_number(most);
 }
 
 /// `first`, `second` and `last` in quotes.
-fn push_list(told: &mut String, index: usize, count: usize, name: &str) -> Result<(), AllocError> {
+fn push_item(told: &mut Told, index: usize, count: usize, name: &str) {
     if index > 0 {
-        told.push_str(if index.saturating_add(1) == count {
+        told.push(if index.saturating_add(1) == count {
             " and "
         } else {
             ", "
-        })?;
+        });
     }
-    write!(told, "\"{name}\"")
+    told.push("\"");
+    told.push(name);
+    told.push("\"");
 }
 
-/// The names that are near, or all of the table.
-fn push_names(
-    told: &mut String,
-    alloc: Global,
-    name: &str,
-    table: Table,
-) -> Result<(), AllocError> {
+/// A name that isn't one of the table, and the names that are near, or all of them.
+pub(crate) fn tell_name(told: &mut Told, name: &str, table: Table) {
+    told.push("\"");
+    told.push_shown(name);
+    told.push("\" is no ");
+    told.push(table.word());
+    let cases = table.cases();
     let mut nearest = Nearest::NONE;
-    for case in table.cases() {
-        nearest = nearest.or(alloc, name, case.name())?;
+    for case in cases {
+        nearest.add(told, name, case.name());
     }
-    if push_nearest(told, &nearest)? {
-        return Ok(());
+    if nearest.tell(told) {
+        return;
     }
-    let word = table.word();
-    write!(told, "; the {word}s are ")?;
-    for (index, case) in table.cases().iter().enumerate() {
-        push_list(told, index, table.cases().len(), case.name())?;
+    told.push("; the ");
+    told.push(table.word());
+    told.push("s are ");
+    for index in 0..cases.len() {
+        push_item(told, index, cases.len(), cases[index].name());
     }
-    Ok(())
 }
 
-/// Adds what was likely meant, and answers whether there is anything.
-fn push_nearest(told: &mut String, nearest: &Nearest) -> Result<bool, AllocError> {
-    let Some((edits, first)) = nearest.first else {
-        return Ok(false);
-    };
-    write!(told, "; did you mean \"{first}\"")?;
-    if let Some((more, second)) = nearest.second {
-        if more == edits {
-            write!(told, " or \"{second}\"")?;
+/// The keys that an object may have, level by level.
+type Levels = [&'static [Key]; LEVELS];
+
+fn is_known(levels: &Levels, name: &str) -> bool {
+    for keys in levels {
+        if has_key(keys, name) {
+            return true;
         }
     }
-    told.push_str("?")?;
-    Ok(true)
+    false
 }
 
-/// The known keys that are near, or all.
-fn push_keys(
-    told: &mut String,
-    alloc: Global,
-    name: &str,
-    known: &Known,
-) -> Result<(), AllocError> {
-    let mut nearest = Nearest::NONE;
+/// The first key that isn't known.
+fn unknown_key<'a>(members: &[Member<'a>], levels: &Levels) -> &'a str {
+    for member in members {
+        if !is_known(levels, member.0) {
+            return member.0;
+        }
+    }
+    ""
+}
+
+/// Notes those of the keys that are near.
+fn add_keys(told: &mut Told, nearest: &mut Nearest, name: &str, keys: &[Key]) {
+    for key in keys {
+        nearest.add(told, name, key.name());
+    }
+}
+
+/// The keys of one level, before which there are `index` of `count`; how many there are then.
+fn push_level(told: &mut Told, keys: &[Key], index: usize, count: usize) -> usize {
+    let mut index = index;
+    for key in keys {
+        push_item(told, index, count, key.name());
+        index = index.saturating_add(1);
+    }
+    index
+}
+
+/// All keys that are known.
+fn push_keys(told: &mut Told, levels: &Levels) {
     let mut count = 0usize;
-    for level in 0..LEVELS {
-        count = count.saturating_add(known.at(level).len());
-        for key in known.at(level) {
-            nearest = nearest.or(alloc, name, key.name())?;
-        }
+    for keys in levels {
+        count = count.saturating_add(keys.len());
     }
-    if push_nearest(told, &nearest)? {
-        return Ok(());
-    }
-    told.push_str("; its keys are ")?;
+    told.push("; its keys are ");
     let mut index = 0usize;
+    for keys in levels {
+        index = push_level(told, keys, index, count);
+    }
+}
+
+/// What the keys of the last level belong to.
+fn owner_of(members: &[Member<'_>], whole: &'static str, first: &'static [Key]) -> &'static str {
+    let mut owner = whole;
     for level in 0..LEVELS {
-        for key in known.at(level) {
-            push_list(told, index, count, key.name())?;
-            index = index.saturating_add(1);
+        if let Some(case) = chosen(members, keys_at(members, first, level)) {
+            owner = case.name();
         }
     }
-    Ok(())
+    owner
 }
 
-/// A value of another kind, in words.
-fn kind_told(alloc: Global, wanted: Wanted, got: Got<'_>) -> Result<String, AllocError> {
-    let mut told = format!(in alloc; "expected {wanted}, got {got}")?;
-    push_number_hint(&mut told, wanted, got)?;
-    Ok(told)
+/// A key that isn't known, and the known ones that are near, or all; all isn't well then.
+pub(crate) fn tell_unknown(
+    told: &mut Told,
+    members: &[Member<'_>],
+    whole: &'static str,
+    first: &'static [Key],
+) -> bool {
+    let levels = [
+        first,
+        keys_at(members, first, 1),
+        keys_at(members, first, 2),
+        keys_at(members, first, 3),
+    ];
+    let name = unknown_key(members, &levels);
+    told.begin("", None);
+    told.push(owner_of(members, whole, first));
+    told.push(" has no key \"");
+    told.push_shown(name);
+    told.push("\"");
+    let mut nearest = Nearest::NONE;
+    for keys in &levels {
+        add_keys(told, &mut nearest, name, keys);
+    }
+    if !nearest.tell(told) {
+        push_keys(told, &levels);
+    }
+    false
 }
 
-/// A key that isn't there, in words, and what may have been meant for it.
-fn missing_told(alloc: Global, key: &str, other: Option<&str>) -> Result<String, AllocError> {
-    let mut told = format!(in alloc; "the key \"{key}\" is missing")?;
-    if let Some(other) = other {
-        let written = Shown(other);
-        if edits(alloc, other, key)?.is_some() {
-            write!(told, "; did you mean it by \"{written}\"?")?;
+/// The first key that belongs to nothing.
+fn strange_key<'a>(members: &[Member<'a>]) -> Option<&'a str> {
+    for member in members {
+        if !KEYS.contains(&member.0) {
+            return Some(member.0);
+        }
+    }
+    None
+}
+
+/// A key that isn't there, and what may have been meant for it.
+pub(crate) fn tell_missing(told: &mut Told, members: &[Member<'_>], key: &str) {
+    told.begin("", None);
+    told.push("the key \"");
+    told.push(key);
+    told.push("\" is missing");
+    if let Some(other) = strange_key(members) {
+        let is_near = told.few_edits(other, key).is_some();
+        told.push(if is_near {
+            "; did you mean it by \""
         } else {
-            write!(told, "; there is no key \"{written}\"")?;
-        }
+            "; there is no key \""
+        });
+        told.push_shown(other);
+        told.push(if is_near { "\"?" } else { "\"" });
     }
-    Ok(told)
-}
-
-fn unknown_told(alloc: Global, key: &str, known: &Known) -> Result<String, AllocError> {
-    let owner = known.owner;
-    let shown = Shown(key);
-    let mut told = format!(in alloc; "{owner} has no key \"{shown}\"")?;
-    push_keys(&mut told, alloc, key, known)?;
-    Ok(told)
-}
-
-fn name_told(alloc: Global, name: &str, table: Table) -> Result<String, AllocError> {
-    let word = table.word();
-    let shown = Shown(name);
-    let mut told = format!(in alloc; "\"{shown}\" is no {word}")?;
-    push_names(&mut told, alloc, name, table)?;
-    Ok(told)
-}
-
-/// What is wrong, in words.
-fn mistake_told(alloc: Global, mistake: Mistake<'_>) -> Result<String, AllocError> {
-    match mistake {
-        Mistake::Kind { wanted, got } => kind_told(alloc, wanted, got),
-        Mistake::Missing { key, other } => missing_told(alloc, key, other),
-        Mistake::Unknown { key, known } => unknown_told(alloc, key, &known),
-        Mistake::Name { name, table } => name_told(alloc, name, table),
-        Mistake::Range { number, range } => {
-            format!(in alloc; "{number} is out of range; expected a whole number {range}")
-        }
-        Mistake::TooManySteps(count) => {
-            format!(in alloc; "{count} steps; a scenario has at most {MOST_STEPS}")
-        }
-        Mistake::TooManyRules(count) => {
-            format!(in alloc; "{count} rules; a policy has at most {MOST_RULES}")
-        }
-    }
-}
-
-/// A place in a text.
-#[derive(Clone, Copy)]
-pub(crate) struct PlaceIn {
-    pub(crate) source: Source,
-    pub(crate) place: Place,
-}
-
-impl fmt::Display for PlaceIn {
-    fn fmt<W: fmt::Write>(&self, f: &mut fmt::Formatter<W>) -> fmt::Result {
-        let place = self.place;
-        match self.source {
-            Source::Scenario if place.is_whole() => f.write_str("the scenario"),
-            Source::Scenario => write!(f, "{place}"),
-            Source::Line(number) if place.is_whole() => write!(f, "line {number}"),
-            Source::Line(number) => write!(f, "line {number}, {place}"),
-        }
-    }
-}
-
-/// A mistake with its place, in words.
-pub(crate) fn found_told(
-    alloc: Global,
-    source: Source,
-    found: &Found<'_>,
-) -> Result<String, AllocError> {
-    let place = PlaceIn {
-        source,
-        place: found.place,
-    };
-    let told = mistake_told(alloc, found.mistake)?;
-    format!(in alloc; "{place}: {told}")
 }
