@@ -1,12 +1,12 @@
 -- Steps whose policies stand apart.
 use Rattle.std.specs.Prelude.{⊤}
-use Rattle.std.proofs.Common.{◌≡◌, ℕ, List, [], ◌∷◌, ◌++◌, length, Some, refl, sym, ap, ap₂, subst, ◌∙◌, arith}
+use Rattle.std.proofs.Common.{◌≡◌, ℕ, List, [], ◌∷◌, ◌++◌, length, map, Some, refl, sym, ap, ap₂, subst, ◌∙◌, arith}
 use Rattle.stop_handlers.specs.declared.Rule.{Rule}
 use Rattle.requests.specs.declared.step.Step.{Step}
 use Rattle.requests.specs.declared.step.Step.TheVariants as op
 use Rattle.requests.specs.Plain.{PlainStep, with_handler}
 use Rattle.requests.specs.Run.{Asked}
-use Rattle.scenario_text.specs.Plan.{asked, filled, first_policy, policies_after, policies_in, policy_before, step_with}
+use Rattle.scenario_text.specs.Plan.{asked, filled, first_policy, policies_after, policies_in, policy_before, step_with, user_and_step}
 
 -- a step with a handler
 pub handled : {A : Type 0} {B : Type 0} (b : B) (s : Step A) → with_handler (Some b) s ≡ Some (step_with b s)
@@ -95,3 +95,7 @@ module _ (ss now : List (ℕ × Step ⊤)) (ps qs : List (List Rule)) (u : ℕ) 
 
   pub pushed_each : policies_in (filled now qs) ≡ qs
   pushed_each = ap policies_in pushed ∙ policies_more (filled ss ps) (asked (u, s)) ∙ ap (λ rs. rs ++ policy_before s []) each ∙ sym policies
+
+pub asked_again : (xs : List Asked) → map asked (map user_and_step xs) ≡ xs
+asked_again [] = refl
+asked_again (a ∷ rest) = ap (λ ys. a ∷ ys) (asked_again rest)

@@ -1,5 +1,5 @@
 -- What a scenario is.
-use Rattle.std.specs.Prelude.{⊤, ℕ, List, [], ◌∷◌}
+use Rattle.std.specs.Prelude.{⊤, ℕ, List, [], ◌∷◌, Option, Some, None}
 use Rattle.stop_handlers.specs.declared.Rule.{Rule}
 use Rattle.trace_stop.specs.declared.Settings.{Settings}
 use Rattle.requests.specs.Plain.{PlainStep}
@@ -59,3 +59,11 @@ policies_after s policies = policies
 abbrev pub filled : List (ℕ × Step ⊤) → List (List Rule) → List Asked
 filled [] policies = []
 filled (s ∷ rest) policies = record { uid = s.0; step = step_with (first_policy policies) s.1 } ∷ filled rest (policies_after s.1 policies)
+
+abbrev pub first : List (List Rule) → Option (List Rule)
+first [] = None
+first (policy ∷ others) = Some policy
+
+-- a step beside its user
+abbrev pub user_and_step : Asked → ℕ × PlainStep
+user_and_step a = (a.uid, a.step)

@@ -22,4 +22,4 @@ pub use one_step::{MOST_STEP_BYTES, parse_step};
 pub use parsing::{one_answer, parse};
 pub use plan::{Scenario, USERS};
 pub use reading::read;
-pub use step_list::{StepList, StepShape};
+pub use step_list::{StepList, StepShape, Steps};

@@ -1,4 +1,4 @@
-use crate::step_list::{StepList, StepShape};
+use crate::step_list::{StepList, StepShape, Steps};
 use pid_blocks::Uid;
 use std::marker::Model;
 use stop_handlers::Policy;
@@ -29,8 +29,8 @@ impl Model for Scenario {
 }
 
 impl Scenario {
-    ghost use Rattle.std.specs.Prelude.{◌≡◌, ◌≤◌, length};
-    ghost use Rattle.scenario_text.specs.Plan.{Plan, filled, most_steps, policies_in};
+    ghost use Rattle.std.specs.Prelude.{◌≡◌, ◌≤◌, length, map};
+    ghost use Rattle.scenario_text.specs.Plan.{Plan, asked, filled, most_steps, policies_in};
 
     /// The scenario of these steps, of which there are at most `MOST_STEPS`.
     pub fn new(settings: Settings, steps: StepList) -> Scenario
@@ -53,6 +53,13 @@ impl Scenario {
         ensures bound { length result.now ≤ most_steps }
     {
         self.steps.shapes()
+    }
+
+    /// The steps in order, each with its user.
+    pub fn steps(&self) -> Steps<'_>
+        ensures { map asked result ≡ self.now.steps }
+    {
+        self.steps.steps()
     }
 
     /// The policies of the installs, in order.
