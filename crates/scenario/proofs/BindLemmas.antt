@@ -1,17 +1,42 @@
 -- One more step with its handler.
-use Rattle.std.proofs.Common.{◌≡◌, ℕ, ◌+◌, ◌<◌, List, [], ◌∷◌, ◌++◌, length, get_or, map, take, drop, sym, ap, ap₂, ◌∙◌}
-use Rattle.std.proofs.lemmas.List.{at_drop_more, take_more}
+use Rattle.std.specs.Prelude.{⊤}
+use Rattle.std.proofs.Common.{◌≡◌, ℕ, ◌+◌, ◌<◌, ◌≤◌, List, [], ◌∷◌, ◌++◌, length, get_or, map, drop, sym, ap, subst, ◌∙◌, append_assoc, append-nil, arith}
+use Rattle.std.proofs.lemmas.List.{at_drop_all, at_drop_more, length-append}
+use Rattle.stop_handlers.specs.declared.Rule.{Rule}
+use Rattle.requests.specs.declared.step.Step.{Step}
 use Rattle.requests.specs.Plain.{PlainStep}
-use Rattle.scenario_text.specs.Plan.{asked, policies_in, policy_before}
+use Rattle.requests.specs.Run.{Asked}
+use Rattle.visibility.proofs.Answered.{map-push}
+use Rattle.scenario_text.specs.Plan.{asked, filled, first_policy, policies_after, policies_in, policy_before, step_with}
+use Rattle.scenario_text.proofs.FilledLemmas.{left_after}
 
--- the policies that are left, by the step that stands here
-pub policies_here : (ps : List (ℕ × PlainStep)) (i : ℕ) (p : ℕ × PlainStep) → i < length ps → get_or ps i p ≡ p
-    → policies_in (map asked (drop i ps)) ≡ policy_before p.1 (policies_in (map asked (drop (i + 1) ps)))
-policies_here ps i p h here =
-    at_drop_more (λ xs. policies_in (map asked xs)) ps i p h
-    ∙ ap (λ (x : ℕ × PlainStep). policy_before x.1 (policies_in (map asked (drop (i + 1) ps)))) here
+-- the steps from place i on, of which x is the first, with the policies from there on
+module _ (ss : List (ℕ × Step ⊤)) (i : ℕ) (x : ℕ × Step ⊤) (ps qs : List (List Rule)) (h : i < length ss) (here : get_or ss i x ≡ x) where
+  filled_first : filled (drop i ss) ps ≡ asked (x.0, step_with (first_policy ps) x.1) ∷ filled (drop (i + 1) ss) (policies_after x.1 ps)
+  filled_first = at_drop_more (λ xs. filled xs ps) ss i x h ∙ ap (λ (y : ℕ × Step ⊤). filled (y ∷ drop (i + 1) ss) ps) here
+
+  pub first_before : policies_in (filled (drop i ss) ps) ≡ ps → policy_before (step_with (first_policy ps) x.1) (policies_in (filled (drop (i + 1) ss) (policies_after x.1 ps))) ≡ ps
+  first_before each = sym (ap policies_in filled_first) ∙ each
+
+  pub filled_next : qs ≡ policies_after x.1 ps → filled (drop i ss) ps ≡ asked (x.0, step_with (first_policy ps) x.1) ∷ filled (drop (i + 1) ss) qs
+  filled_next left = filled_first ∙ ap (λ rs. asked (x.0, step_with (first_policy ps) x.1) ∷ filled (drop (i + 1) ss) rs) (sym left)
+
+  pub each_next : policies_in (filled (drop i ss) ps) ≡ ps → qs ≡ policies_after x.1 ps → policies_in (filled (drop (i + 1) ss) qs) ≡ qs
+  each_next each left = subst (λ rs. policies_in (filled (drop (i + 1) ss) rs) ≡ rs) (sym left) (left_after x.1 ps _ (first_before each))
 
 -- the steps so far and one more
-pub one_bound : (ss ps : List (ℕ × PlainStep)) (i : ℕ) (p : ℕ × PlainStep) (s : PlainStep) → i < length ps → get_or ps i p ≡ p → s ≡ p.1 → ss ≡ take i ps → ss ++ (p.0, s) ∷ [] ≡ take (i + 1) ps
-one_bound ss ps i p s h here same so_far =
-    ap₂ (λ (xs : List (ℕ × PlainStep)) (x : ℕ × PlainStep). xs ++ x ∷ []) so_far (ap (λ x. (p.0, x)) same ∙ sym here) ∙ sym (take_more ps i p h)
+pub one_bound : (done now : List (ℕ × PlainStep)) (u : ℕ) (s t : PlainStep) (left rest all : List Asked) → s ≡ t → now ≡ done ++ (u, s) ∷ [] → left ≡ asked (u, t) ∷ rest
+    → map asked done ++ left ≡ all → map asked now ++ rest ≡ all
+one_bound done now u s t left rest all same pushed first so_far =
+    ap (λ xs. map asked xs ++ rest) (pushed ∙ ap (λ y. done ++ (u, y) ∷ []) same)
+    ∙ ap (λ xs. xs ++ rest) (map-push asked done (u, t))
+    ∙ append_assoc (map asked done) (asked (u, t) ∷ []) rest
+    ∙ sym (ap (λ xs. map asked done ++ xs) first) ∙ so_far
+
+pub one_longer : {X : Type 0} (done now : List X) (x : X) (n : ℕ) → now ≡ done ++ x ∷ [] → length done ≡ n → length now ≡ n + 1
+one_longer done now x n pushed count = ap length pushed ∙ simp length-append (omega (arith, count))
+
+-- no step is left
+pub all_bound : (done : List (ℕ × PlainStep)) (ss : List (ℕ × Step ⊤)) (i : ℕ) (ps : List (List Rule)) (all : List Asked) → length ss ≤ i → map asked done ++ filled (drop i ss) ps ≡ all → map asked done ≡ all
+all_bound done ss i ps all past so_far =
+    sym (append-nil (map asked done)) ∙ sym (at_drop_all (λ xs. map asked done ++ filled xs ps) ss i past) ∙ so_far

@@ -1,15 +1,15 @@
 //! From the steps of a scenario to those that a host makes, with their handlers.
-ghost use Rattle.std.specs.Prelude.{List, ◌≡◌, ◌≢◌, ◌≤◌, ◌↔◌, ◌⊎◌, length, map, Some, None, IsTrue, IfSome, IfOk, IfErr, IsErrOf};
+ghost use Rattle.std.specs.Prelude.{◌≡◌, ◌≢◌, ◌≤◌, ◌↔◌, ◌⊎◌, length, map, IsTrue, IfOk, IfErr, IsErrOf};
 ghost use Rattle.std.specs.Vec.Iter.{into_iter_items};
-ghost use Rattle.stop_handlers.specs.declared.Rule.{Rule};
 ghost use Rattle.stop_handlers.specs.Handlers.{MakesObeying};
-ghost use Rattle.scenario_text.specs.Plan.{asked, most_steps, policies_in, policy_before};
+ghost use Rattle.scenario_text.specs.Plan.{asked, most_steps, policies_in};
+ghost use Rattle.scenario.specs.Binding.{IsBound};
 ghost use Rattle.scenario.specs.declared.running.RunFault.TheVariants.{Mismatch, Memory};
 
 use crate::running::RunFault;
 use pid_blocks::Uid;
-use requests::{PlainStep, Step};
-use scenario_text::Scenario;
+use requests::Step;
+use scenario_text::{Scenario, StepShape};
 use std::alloc::{AllocError, Global};
 use std::vec::IntoIter;
 use stop_handlers::{Decider, Handler, Policy};
@@ -18,67 +18,39 @@ use stop_handlers::{Decider, Handler, Policy};
 pub fn policies(alloc: Global, scenario: &Scenario) -> Result<Vec<Policy>, AllocError>
     ensures { IfOk result (λ v. v.items ≡ policies_in scenario.now.steps) }
 {
-    let mut policies = Vec::new(alloc);
-    for step in scenario.steps() {
-        if let PlainStep::Install {
-            handler: policy,
-            ..
-        } = step.1
-        {
-            policies.push(policy)?;
-        }
+    let installed = scenario.policies();
+    let mut policies = Vec::with_capacity(alloc, installed.len())?;
+    for policy in installed {
+        policies.push(*policy)?;
     }
     Ok(policies)
 }
 
-/// The handlers that are left after the step; `None` where it installs another policy than the first one's.
-fn left_after<'a, F: Decider + Send + Drop>(
-    handlers: &'a [Handler<F>],
-    step: &PlainStep,
-) -> Option<&'a [Handler<F>]>
-    ensures some { IfSome result (λ left. handlers.now ≡ policy_before step.now left.now) }
-    ensures none { result ≡ None → (others : List (List Rule)) → handlers.now ≢ policy_before step.now others }
+/// Whether the handlers answer by the policies, one for one and in order.
+pub(crate) fn obey<F: Decider + Send + Drop>(handlers: &[Handler<F>], policies: &[Policy]) -> bool
+    ensures { IsTrue result ↔ (handlers.now ≡ policies.now) }
 {
-    let PlainStep::Install {
-        handler: policy,
-        ..
-    } = step
-    else {
-        return Some(handlers);
-    };
-    let (first, left) = handlers.split_first()?;
-    if first.policy().is_same(policy) {
-        Some(left)
-    } else {
-        None
+    if handlers.len() != policies.len() {
+        return false;
     }
-}
-
-/// Whether the handlers answer by the policies of the scenario's installs, one for one and in order.
-pub(crate) fn obey<F: Decider + Send + Drop>(handlers: &[Handler<F>], scenario: &Scenario) -> bool
-    ensures { IsTrue result ↔ (handlers.now ≡ policies_in scenario.now.steps) }
-{
-    let mut rest = handlers;
-    for step in scenario.steps() {
-        rest = match left_after(rest, &step.1) {
-            Some(left) => left,
-            None => return false,
-        };
+    for (i, handler) in handlers.iter().enumerate() {
+        if !handler.policy().is_same(&policies[i]) {
+            return false;
+        }
     }
-    rest.is_empty()
+    true
 }
 
 /// The step as a host makes it, with the next handler where it is an install.
 pub(crate) fn bound_step<F: Decider + Send + Drop>(
-    step: &PlainStep,
+    shape: &StepShape,
     handlers: &mut IntoIter<Handler<F>>,
 ) -> Option<Step<Handler<F>>>
-    ensures { (others : List (List Rule)) → into_iter_items handlers.old ≡ policy_before step.now others
-        → (into_iter_items handlers.new ≡ others) × (result ≡ Some step.now) }
+    ensures { IsBound shape.now (into_iter_items handlers.old) (into_iter_items handlers.new) result }
 {
-    match step {
-        PlainStep::Install { .. } => step.with_handler(Some(handlers.next()?)),
-        _ => step.with_handler(None),
+    match shape {
+        Step::Install { .. } => shape.with_handler(Some(handlers.next()?)),
+        _ => shape.with_handler(None),
     }
 }
 
@@ -93,11 +65,14 @@ fn bound<F: Decider + Send + Drop>(
     ensures few { IfOk result (λ v. length v.items ≤ most_steps) }
     ensures err { IfErr result (λ e. e ≡ Memory) }
 {
+    let shapes = scenario.shapes();
+    let mut steps = Vec::with_capacity(alloc, shapes.len())?;
     let mut rest = handlers.into_iter();
-    let mut steps = Vec::with_capacity(alloc, scenario.steps().len())?;
-    for plain in scenario.steps() {
-        let step = bound_step(&plain.1, &mut rest).ok_or(RunFault::Mismatch)?;
-        steps.push((plain.0, step))?;
+    for shape in shapes {
+        let Some(step) = bound_step(&shape.1, &mut rest) else {
+            unreachable!()
+        };
+        steps.push((shape.0, step))?;
     }
     Ok(steps)
 }
@@ -117,7 +92,7 @@ pub fn bind<F: Decider + Send + Drop>(
     ensures mismatch { IsErrOf result Mismatch ↔ (handlers.items ≢ policies_in scenario.now.steps) }
     ensures err { IfErr result (λ e. (e ≡ Mismatch) ⊎ (e ≡ Memory)) }
 {
-    if !obey(handlers.as_slice(), scenario) {
+    if !obey(handlers.as_slice(), scenario.policies()) {
         return Err(RunFault::Mismatch);
     }
     bound(alloc, scenario, handlers)

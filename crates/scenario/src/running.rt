@@ -71,19 +71,19 @@ fn replies_of<F: Decider + Send + Drop>(
     ensures ok { IfOk result (λ v. map answered v.items ≡ answers_of scenario.now) }
     ensures err { IfErr result (λ e. e ≡ Memory) }
 {
-    let steps = scenario.steps();
-    let mut pairs = Vec::with_capacity(alloc, steps.len())?;
+    let shapes = scenario.shapes();
+    let mut pairs = Vec::with_capacity(alloc, shapes.len())?;
     let mut host = Host::new(alloc, scenario.settings())?;
     let mut rest = handlers.into_iter();
-    for plain in steps {
-        let Some(step) = bound_step(&plain.1, &mut rest) else {
+    for shape in shapes {
+        let Some(step) = bound_step(&shape.1, &mut rest) else {
             unreachable!()
         };
-        let reply = host.step(alloc, plain.0, step);
+        let reply = host.step(alloc, shape.0, step);
         if reply.is_memory() {
             return Err(RunFault::Memory);
         }
-        pairs.push_reserved((plain.0, reply));
+        pairs.push_reserved((shape.0, reply));
     }
     Ok(pairs)
 }
@@ -146,7 +146,7 @@ pub fn run<F: Decider + Send + Drop, W: Write>(
     ensures mismatch { IsErrOf result Mismatch ↔ (handlers.items ≢ policies_in scenario.now.steps) }
     ensures start { IfErr result (λ e. e ≢ Start) }
 {
-    if !obey(handlers.as_slice(), scenario) {
+    if !obey(handlers.as_slice(), scenario.policies()) {
         return Err(RunFault::Mismatch);
     }
     let replies = replies_of(alloc, scenario, handlers)?;

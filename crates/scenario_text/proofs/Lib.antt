@@ -4,3 +4,4 @@ pub mod Answering
 pub mod RetryLemmas
 pub mod ItemLemmas
 pub mod MemberLemmas
+pub mod FilledLemmas

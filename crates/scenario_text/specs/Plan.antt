@@ -1,9 +1,11 @@
 -- What a scenario is.
-use Rattle.std.specs.Prelude.{ℕ, List, [], ◌∷◌}
+use Rattle.std.specs.Prelude.{⊤, ℕ, List, [], ◌∷◌, Option, Some, None}
 use Rattle.stop_handlers.specs.declared.Rule.{Rule}
 use Rattle.trace_stop.specs.declared.Settings.{Settings}
 use Rattle.requests.specs.Plain.{PlainStep}
-use Rattle.requests.specs.declared.step.Step.TheVariants.{Install}
+use Rattle.requests.specs.declared.step.Step.{Step}
+use Rattle.requests.specs.declared.step.Step.TheVariants.{Spawn, Sigaction, Kill, Wait4, Install, Handle, Ptrace, Turn}
+use Rattle.requests.specs.declared.step.Step.TheVariants as op
 use Rattle.requests.specs.Run.{Asked}
 
 -- the settings of the host, and the steps in order
@@ -25,3 +27,43 @@ policy_before s others = others
 abbrev pub policies_in : List Asked → List (List Rule)
 policies_in [] = []
 policies_in (a ∷ rest) = policy_before a.step (policies_in rest)
+
+-- ---- steps whose policies stand apart
+
+-- the step with this in place of its handler, if it installs one
+abbrev pub step_with : {A : Type 0} {B : Type 0} → B → Step A → Step B
+step_with b Spawn = Spawn
+step_with b (op.List caller) = op.List caller
+step_with b (Sigaction caller sig disposition) = Sigaction caller sig disposition
+step_with b (Kill caller which sig) = Kill caller which sig
+step_with b (Wait4 caller which options) = Wait4 caller which options
+step_with b (Install caller own) = Install caller b
+step_with b (Handle caller) = Handle caller
+step_with b (Ptrace caller request target «data») = Ptrace caller request target «data»
+step_with b (Turn tid act) = Turn tid act
+
+abbrev pub first_policy : List (List Rule) → List Rule
+first_policy [] = []
+first_policy (policy ∷ others) = policy
+
+abbrev pub other_policies : List (List Rule) → List (List Rule)
+other_policies [] = []
+other_policies (policy ∷ others) = others
+
+-- the policies that are left after a step
+abbrev pub policies_after : Step ⊤ → List (List Rule) → List (List Rule)
+policies_after (Install caller own) policies = other_policies policies
+policies_after s policies = policies
+
+-- the steps, each install with the next policy
+abbrev pub filled : List (ℕ × Step ⊤) → List (List Rule) → List Asked
+filled [] policies = []
+filled (s ∷ rest) policies = record { uid = s.0; step = step_with (first_policy policies) s.1 } ∷ filled rest (policies_after s.1 policies)
+
+abbrev pub first : List (List Rule) → Option (List Rule)
+first [] = None
+first (policy ∷ others) = Some policy
+
+-- a step beside its user
+abbrev pub user_and_step : Asked → ℕ × PlainStep
+user_and_step a = (a.uid, a.step)

@@ -1,5 +1,5 @@
 //! Bytes to a scenario.
-ghost use Rattle.std.specs.Prelude.{List, ℕ, Result, Ok, ◌≡◌, ◌≢◌, ◌≤◌, length, map, IfOk, IfErr, codes, pos};
+ghost use Rattle.std.specs.Prelude.{List, ℕ, Result, Ok, ◌≡◌, ◌≢◌, ◌≤◌, length, IfOk, IfErr, codes, pos};
 ghost use Rattle.json_data.specs.Reading.{view, items_view};
 ghost use Rattle.scenario_text.specs.Fields.{Gives, integer_of, optional_at};
 ghost use Rattle.scenario_text.specs.Plan.{Plan, most_steps, asked};
@@ -12,6 +12,7 @@ ghost use Rattle.serde_json.specs.Read.{read};
 use crate::fault::Fault;
 use crate::fields::{Flaw, integer_of, items_of, member, object_of, only};
 use crate::plan::{MOST_STEPS, Scenario};
+use crate::step_list::StepList;
 use crate::steps::step_of;
 use crate::streaming::stream;
 use json::{Scratch, Value};
@@ -38,36 +39,32 @@ impl Flaw {
     }
 }
 
-fn push<T: Drop>(items: &mut Vec<T>, item: T) -> Result<(), Fault>
-    ensures { Pushes (λ v. v.items) items.old items.new result (Ok item) }
+fn push(steps: &mut StepList, user: Uid, step: PlainStep) -> Result<(), Fault>
+    ensures { Pushes (λ xs. xs) steps.old steps.new result (Ok (asked (user, step))) }
 {
-    items.push(item)?;
+    steps.push(user, step)?;
     Ok(())
 }
 
 /// Adds the step that a value is, or names its first flaw as the fault of the step with this number.
-pub(crate) fn push_step(
-    steps: &mut Vec<(Uid, PlainStep)>,
-    value: &Value<'_>,
-    number: u32,
-) -> Result<(), Fault>
-    ensures pushes { Pushes (λ v. map asked v.items) steps.old steps.new result
+pub(crate) fn push_step(steps: &mut StepList, value: &Value<'_>, number: u32) -> Result<(), Fault>
+    ensures pushes { Pushes (λ xs. xs) steps.old steps.new result
         (numbered number (step_of (view value.now))) }
     ensures no_read { IfErr result (λ e. e ≢ ReadFault) }
 {
     match step_of(value) {
-        Ok((user, step)) => push(steps, (user, step)),
+        Ok((user, step)) => push(steps, user, step),
         Err(flaw) => Err(flaw.at(number)),
     }
 }
 
-fn steps_of(alloc: Global, items: &[Value<'_>]) -> Result<Vec<(Uid, PlainStep)>, Fault>
+fn steps_of(alloc: Global, items: &[Value<'_>]) -> Result<StepList, Fault>
     requires { length items.now ≤ most_steps }
-    ensures yields { Yields (λ v. map asked v.items) result (steps_from 1 (items_view items.now)) }
-    ensures bound { IfOk result (λ v. length v.items ≤ most_steps) }
+    ensures yields { Yields (λ xs. xs) result (steps_from 1 (items_view items.now)) }
+    ensures bound { IfOk result (λ xs. length xs ≤ most_steps) }
     ensures no_read { IfErr result (λ e. e ≢ ReadFault) }
 {
-    let mut steps = Vec::new(alloc);
+    let mut steps = StepList::new(alloc);
     for (i, item) in items.iter().enumerate() {
         push_step(&mut steps, item, i as u32 + 1)?;
     }
@@ -106,10 +103,10 @@ fn head_of<'v, 'a>(value: &'v Value<'a>) -> Result<(&'v [Value<'a>], Settings), 
 }
 
 #[tactic(auto, using(crate::proofs::StepLemmas::many_steps, crate::proofs::StepLemmas::few_steps))]
-fn bounded_steps(alloc: Global, items: &[Value<'_>]) -> Result<Vec<(Uid, PlainStep)>, Fault>
-    ensures yields { Yields (λ v. map asked v.items) result
+fn bounded_steps(alloc: Global, items: &[Value<'_>]) -> Result<StepList, Fault>
+    ensures yields { Yields (λ xs. xs) result
         (bounded (items_view items.now) (steps_from 1 (items_view items.now))) }
-    ensures bound { IfOk result (λ v. length v.items ≤ most_steps) }
+    ensures bound { IfOk result (λ xs. length xs ≤ most_steps) }
     ensures no_read { IfErr result (λ e. e ≢ ReadFault) }
 {
     if items.len() > MOST_STEPS {

@@ -1,6 +1,7 @@
+use crate::step_list::{StepList, StepShape, Steps};
 use pid_blocks::Uid;
-use requests::PlainStep;
 use std::marker::Model;
+use stop_handlers::Policy;
 use trace_stop::Settings;
 
 /// How many users there are.
@@ -13,28 +14,28 @@ pub(crate) const MOST_STEPS: usize = 100000;
 #[derive(Drop)]
 pub struct Scenario {
     settings: Settings,
-    steps: Vec<(Uid, PlainStep)>,
+    steps: StepList,
 }
 
 impl Model for Scenario {
-    ghost use Rattle.std.specs.Prelude.{◌≤◌, length, map};
-    ghost use Rattle.scenario_text.specs.Plan.{Plan, most_steps, asked};
+    ghost use Rattle.std.specs.Prelude.{◌≤◌, length};
+    ghost use Rattle.scenario_text.specs.Plan.{Plan, most_steps};
 
     ghost Value = { Plan };
 
-    ghost view = { λ s. record { settings = s.settings; steps = map asked s.steps.items } };
+    ghost view = { λ s. record { settings = s.settings; steps = s.steps } };
 
-    ghost invariant = { λ s. length s.steps.items ≤ most_steps };
+    ghost invariant = { λ s. length s.steps ≤ most_steps };
 }
 
 impl Scenario {
     ghost use Rattle.std.specs.Prelude.{◌≡◌, ◌≤◌, length, map};
-    ghost use Rattle.scenario_text.specs.Plan.{Plan, most_steps, asked};
+    ghost use Rattle.scenario_text.specs.Plan.{Plan, asked, filled, most_steps, policies_in};
 
     /// The scenario of these steps, of which there are at most `MOST_STEPS`.
-    pub fn new(settings: Settings, steps: Vec<(Uid, PlainStep)>) -> Scenario
-        requires { length steps.items ≤ most_steps }
-        ensures { result ≡ record { settings = settings; steps = map asked steps.items } }
+    pub fn new(settings: Settings, steps: StepList) -> Scenario
+        requires { length steps ≤ most_steps }
+        ensures { result ≡ record { settings = settings; steps = steps } }
     {
         Scenario { settings, steps }
     }
@@ -46,11 +47,25 @@ impl Scenario {
         self.settings
     }
 
-    /// The steps in order, each with its user.
-    pub fn steps(&self) -> &[(Uid, PlainStep)]
-        ensures steps { map asked result.now ≡ self.now.steps }
+    /// The steps in order without the policies that they install, each with its user.
+    pub fn shapes(&self) -> &[(Uid, StepShape)]
+        ensures steps { filled result.now (policies_in self.now.steps) ≡ self.now.steps }
         ensures bound { length result.now ≤ most_steps }
     {
-        self.steps.as_slice()
+        self.steps.shapes()
+    }
+
+    /// The steps in order, each with its user.
+    pub fn steps(&self) -> Steps<'_>
+        ensures { map asked result ≡ self.now.steps }
+    {
+        self.steps.steps()
+    }
+
+    /// The policies of the installs, in order.
+    pub fn policies(&self) -> &[Policy]
+        ensures { result.now ≡ policies_in self.now.steps }
+    {
+        self.steps.policies()
     }
 }

@@ -2,35 +2,30 @@
 //!
 //! Only a scenario without a fault is read so. Where anything is wrong, nothing is said here: the text is read as a
 //! whole then, and its first fault is found in the order of the checks.
-ghost use Rattle.std.specs.Prelude.{◌≡◌, ◌+◌, ◌<◌, ◌≤◌, Ok, Some, IfSome, OnSome, length, map};
+ghost use Rattle.std.specs.Prelude.{◌≡◌, ◌+◌, ◌<◌, ◌≤◌, Ok, Some, IfSome, OnSome, length};
 ghost use Rattle.json.specs.Json.{value, read_key};
 ghost use Rattle.serde_json.specs.Data.{Data};
 ghost use Rattle.serde_json.specs.Read.{of_json, converted, read};
 ghost use Rattle.trace_stop.specs.declared.Settings.{Settings};
-ghost use Rattle.scenario_text.specs.Plan.{asked, most_steps};
+ghost use Rattle.scenario_text.specs.Plan.{most_steps};
 ghost use Rattle.scenario_text.specs.Scenarios.{plan_of, settings_of};
 ghost use Rattle.scenario_text.specs.Streams.{IsArrayOfSteps, IsInteger, IsNextStep, IsScenario, text_of};
 
 use crate::parsing::{push_step, settings_of};
 use crate::plan::{MOST_STEPS, Scenario};
+use crate::step_list::StepList;
 use json::{Reader, Scratch, Token};
 use json_data::{integer, next_value};
-use pid_blocks::Uid;
-use requests::PlainStep;
 use std::alloc::Global;
 
 /// How deep arrays and objects nest in a text.
 const MAX_DEPTH: usize = 127;
 
 /// Adds the step of the item that comes next, where it is one without a fault.
-fn read_step<'a>(
-    alloc: Global,
-    reader: &mut Reader<'a>,
-    steps: &mut Vec<(Uid, PlainStep)>,
-) -> Option<()>
-    requires { length steps.old.items < most_steps }
-    ensures step { OnSome result (IsNextStep (map asked steps.old.items) (map asked steps.new.items) reader.old reader.new) }
-    ensures one { OnSome result (length steps.new.items ≡ length steps.old.items + 1) }
+fn read_step<'a>(alloc: Global, reader: &mut Reader<'a>, steps: &mut StepList) -> Option<()>
+    requires { length steps.old < most_steps }
+    ensures step { OnSome result (IsNextStep steps.old steps.new reader.old reader.new) }
+    ensures one { OnSome result (length steps.new ≡ length steps.old + 1) }
 {
     let Ok(value) = next_value(alloc, reader, MAX_DEPTH - 2) else {
         return None;
@@ -53,14 +48,14 @@ fn read_integer<'a>(alloc: Global, reader: &mut Reader<'a>) -> Option<i64>
 }
 
 /// The steps of the array that comes next, where it is one of at most `MOST_STEPS` steps without a fault.
-fn read_steps<'a>(alloc: Global, reader: &mut Reader<'a>) -> Option<Vec<(Uid, PlainStep)>>
-    ensures steps { IfSome result (λ v. IsArrayOfSteps (map asked v.items) (converted of_json (value 126 reader.old)) reader.new) }
+fn read_steps<'a>(alloc: Global, reader: &mut Reader<'a>) -> Option<StepList>
+    ensures steps { IfSome result (λ steps. IsArrayOfSteps steps (converted of_json (value 126 reader.old)) reader.new) }
     ensures shorter { IfSome result (λ v. length reader.new < length reader.old) }
 {
     let Some(Token::BeginArray) = reader.next() else {
         return None;
     };
-    let mut steps = Vec::new(alloc);
+    let mut steps = StepList::new(alloc);
     'items: while !reader.take_end_array() {
         if steps.len() == MOST_STEPS {
             return None;
@@ -97,9 +92,9 @@ fn next_key<'a>(reader: &mut Reader<'a>) -> Option<Key>
     }
 }
 
-fn scenario_of(kill: i64, steps: Vec<(Uid, PlainStep)>) -> Option<Scenario>
-    requires { length steps.items ≤ most_steps }
-    ensures { IfSome result (λ s. (settings : Settings) × (settings_of kill ≡ Ok settings) × (s ≡ record { settings = settings; steps = map asked steps.items })) }
+fn scenario_of(kill: i64, steps: StepList) -> Option<Scenario>
+    requires { length steps ≤ most_steps }
+    ensures { IfSome result (λ s. (settings : Settings) × (settings_of kill ≡ Ok settings) × (s ≡ record { settings = settings; steps = steps })) }
 {
     match settings_of(kill) {
         Ok(settings) => Some(Scenario::new(settings, steps)),

@@ -1,10 +1,12 @@
-use Rattle.std.proofs.Common.{◌≡◌, map, take, drop}
+use Rattle.std.proofs.Common.{◌≡◌, ◌≤◌, ◌++◌, map, length, drop}
 use Rattle.std.specs.Vec.Iter.{into_iter_items}
-use Rattle.scenario_text.specs.Plan.{asked, policies_in}
+use Rattle.scenario_text.specs.Plan.{asked, filled, policies_in}
 use Rattle.scenario.proofs.binding.bound.Given as goal
 
-abbrev pub invariant-loop-plain : goal.invariant-loop-plain
-invariant-loop-plain g l =
-    (l.steps.items ≡ take l.plain-index l.plain-items)
-    × (map asked l.plain-items ≡ l.scenario.steps)
-    × (into_iter_items l.rest ≡ policies_in (map asked (drop l.plain-index l.plain-items)))
+abbrev pub invariant-loop-shape : goal.invariant-loop-shape
+invariant-loop-shape g l = let left = filled (drop l.shape-index l.shapes) (into_iter_items l.rest) in record {
+  steps : map asked l.steps.items ++ left ≡ l.scenario.steps;
+  each : policies_in left ≡ into_iter_items l.rest;
+  count : length l.steps.items ≡ l.shape-index;
+  within : l.shape-index ≤ length l.shapes;
+}

@@ -1,7 +1,5 @@
-use Rattle.std.proofs.Common.{◌≡◌, ◌↔◌, map, drop}
-use Rattle.scenario_text.specs.Plan.{asked, policies_in}
+use Rattle.std.proofs.Common.{◌≡◌, length, take}
 use Rattle.scenario.proofs.binding.obey.Given as goal
 
-abbrev pub invariant-loop-step : goal.invariant-loop-step
-invariant-loop-step g l =
-    (l.rest ≡ policies_in (map asked (drop l.step-index l.step-items))) ↔ (l.handlers ≡ policies_in l.scenario.steps)
+abbrev pub invariant-loop-i : goal.invariant-loop-i
+invariant-loop-i g l = (length l.handlers ≡ length l.policies) × (take l.i l.handlers ≡ take l.i l.policies)

@@ -1,57 +1,64 @@
-use Rattle.std.proofs.Common.{◌≡◌, ◌+◌, ◌∙◌, List, Some, None, ap, sym, rules, arith}
+use Rattle.std.proofs.Common.{◌≡◌, ◌+◌, ◌∙◌, List, drop, Some, None, ap, sym, rules, arith}
+use Rattle.std.specs.Vec.Iter.{into_iter_items}
 use Rattle.requests.specs.Machine.{empty}
 use Rattle.requests.specs.Run.{Asked, replies}
-use Rattle.scenario_text.specs.Plan.{policies_in}
+use Rattle.scenario_text.specs.Plan.{filled, policies_in, first_policy, step_with}
 use Rattle.scenario.specs.Runs.{answers_of, paired}
-use Rattle.scenario.proofs.BindLemmas.{policies_here}
+use Rattle.scenario.proofs.BindLemmas.{each_next, filled_next, first_before}
 use Rattle.scenario.proofs.RunLemmas.{all_answered, answers_more}
 use Rattle.scenario.proofs.running.replies_of.Goals as goal
 
-pub loop-plain-init : goal.loop-plain-init
-loop-plain-init g c =
+pub loop-shape-init : goal.loop-shape-init
+loop-shape-init g c =
     let plan = c.args.scenario.now in
-    let steps = c.steps-steps.ensures.steps in
+    let handlers = c.into_iter-rest.ensures.rest ∙ c.requires in
+    let steps = ap (filled c.shapes-shapes.result.now) handlers ∙ c.shapes-shapes.ensures.steps in
     let none = c.in_ok-pairs.ensures.items in
     let host = c.in_ok-host.ensures ∙ ap empty c.settings.ensures in
     record {
       answers = rw (none, host) (ap (λ (xs : List Asked). paired xs (replies xs (empty plan.settings))) steps);
-      handlers = c.into_iter-rest.ensures.rest ∙ c.requires ∙ sym (ap policies_in steps);
+      each = ap policies_in steps ∙ sym handlers;
       made = c.in_ok-pairs.ensures.len;
       room = search rules;
     }
 
-pub loop-plain-preserved : goal.loop-plain-preserved
-loop-plain-preserved g c =
-    let at = c.loop-plain in
-    let ps = c.steps-steps.result.now in
-    let more = c.loop-plain-test.true in
-    let here = sym c.plain-item.is in
-    let bound = c.bound_step.ensures _ (at.invariant.handlers ∙ policies_here ps at.plain-index c.plain-item.result more here) in
-    let same : Some c.in-Some.step ≡ Some c.plain-item.result.1 = sym c.in-Some.is ∙ bound.1 in
+pub loop-shape-preserved : goal.loop-shape-preserved
+loop-shape-preserved g c =
+    let at = c.loop-shape in
+    let ss = c.shapes-shapes.result.now in
+    let x = c.shape-item.result in
+    let had = into_iter_items at.rest in
+    let left = into_iter_items c.bound_step.new.handlers in
+    let more = c.loop-shape-test.true in
+    let here = sym c.shape-item.is in
+    let bound = c.bound_step.ensures _ (first_before ss at.shape-index x had left more here at.invariant.each) in
+    let same : Some c.in-Some.step ≡ Some (step_with (first_policy had) x.1) = sym c.in-Some.is ∙ bound.1 in
     record {
-      answers = answers_more at.pairs.items c.push_reserved.new.self.items ps at.plain-index c.plain-item.result c.in-Some.step c.step-reply.result at.host c.step-reply.new.self (answers_of c.args.scenario.now)
-          more here (cc) (sym c.is_memory.ensures ∙ c.if-is_memory.false) c.step-reply.ensures c.push_reserved.ensures.items at.invariant.answers;
-      handlers = bound.0;
+      answers = answers_more at.pairs.items c.push_reserved.new.self.items x.0 c.in-Some.step (step_with (first_policy had) x.1) c.step-reply.result (filled (drop at.shape-index ss) had) (filled (drop (at.shape-index + 1) ss) left)
+          at.host c.step-reply.new.self (answers_of c.args.scenario.now) (cc) (filled_next ss at.shape-index x had left more here bound.0)
+          (sym c.is_memory.ensures ∙ c.if-is_memory.false) c.step-reply.ensures c.push_reserved.ensures.items at.invariant.answers;
+      each = each_next ss at.shape-index x had left more here at.invariant.each bound.0;
       made = c.push_reserved.ensures.len ∙ ap (λ n. n + 1) at.invariant.made;
       room = c.push_reserved.ensures.capacity ∙ at.invariant.room;
     }
 
 pub push_reserved-requires : goal.push_reserved-requires
 push_reserved-requires g c =
-    let made = c.loop-plain.invariant.made in
-    let room = c.loop-plain.invariant.room in
-    let more = c.loop-plain-test.true in
+    let made = c.loop-shape.invariant.made in
+    let room = c.loop-shape.invariant.room in
+    let more = c.loop-shape-test.true in
     omega (arith, made, room, more)
 
 pub unreachable-requires : goal.unreachable-requires
 unreachable-requires g c =
-    let at = c.loop-plain in
-    let here = policies_here c.steps-steps.result.now at.plain-index c.plain-item.result c.loop-plain-test.true (sym c.plain-item.is) in
-    let bound = c.bound_step.ensures _ (at.invariant.handlers ∙ here) in
-    let none : None ≡ Some c.plain-item.result.1 = sym c.in_default.is ∙ bound.1 in
+    let at = c.loop-shape in
+    let had = into_iter_items at.rest in
+    let x = c.shape-item.result in
+    let bound = c.bound_step.ensures _ (first_before c.shapes-shapes.result.now at.shape-index x had had c.loop-shape-test.true (sym c.shape-item.is) at.invariant.each) in
+    let none : None ≡ Some (step_with (first_policy had) x.1) = sym c.in_default.is ∙ bound.1 in
     absurd (cc)
 
 pub returns-clause-ok : goal.returns-clause-ok
 returns-clause-ok g c =
-    all_answered c.loop-plain.pairs.items c.steps-steps.result.now c.loop-plain.plain-index c.loop-plain.host (answers_of c.args.scenario.now)
-    (let done = c.loop-plain-test.false in omega (arith, done)) c.loop-plain.invariant.answers
+    all_answered c.loop-shape.pairs.items c.shapes-shapes.result.now c.loop-shape.shape-index (into_iter_items c.loop-shape.rest) c.loop-shape.host (answers_of c.args.scenario.now)
+    (let done = c.loop-shape-test.false in omega (arith, done)) c.loop-shape.invariant.answers

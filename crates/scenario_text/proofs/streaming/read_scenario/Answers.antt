@@ -1,9 +1,8 @@
-use Rattle.std.proofs.Common.{◌≡◌, ◌∷◌, map, Some, sym, ap, ◌∙◌, subst, rules}
+use Rattle.std.proofs.Common.{◌≡◌, ◌∷◌, Some, sym, ap, ◌∙◌, subst, rules}
 use Rattle.json.specs.Token.{Token}
 use Rattle.json.specs.Json.{value}
 use Rattle.json.specs.Reads.{token_of}
 use Rattle.serde_json.specs.Read.{of_json, converted}
-use Rattle.scenario_text.specs.Plan.{asked}
 use Rattle.scenario_text.specs.Scenarios.{settings_of}
 use Rattle.scenario_text.specs.Streams.{IsScenario, text_of}
 use Rattle.scenario_text.proofs.Answering.{some_weaker}
@@ -17,7 +16,7 @@ pub members-preserved-in-Steps : goal.members-preserved-in-Steps
 members-preserved-in-Steps c =
     let key = c.in_ok-next_key.ensures ∙ ap (λ k. Some (text_of k, c.next_key.new.reader)) c.in-Steps.is in
     let read = c.in_ok-read_steps-in-Steps.ensures in
-    with_steps _ c.members.reader c.next_key.new.reader c.read_steps.new.reader _ (map asked c.in_ok-read_steps-in-Steps.field-0.items) _ c.members.invariant key read.steps read.shorter
+    with_steps _ c.members.reader c.next_key.new.reader c.read_steps.new.reader _ c.in_ok-read_steps-in-Steps.field-0 _ c.members.invariant key read.steps read.shorter
 
 pub members-preserved : goal.members-preserved
 members-preserved c =
@@ -30,7 +29,7 @@ returns-in-End c =
     let l = c.members in
     let first : c.args.reader.now ≡ Token.begin_object ∷ c.next.new.self = c.in-Some-BeginObject.ensures.value ∙ ap (λ t. token_of t ∷ c.next.new.self) c.in-Some-BeginObject.field-0-is in
     let over = c.in_ok-next_key.ensures ∙ ap (λ k. Some (text_of k, c.next_key.new.reader)) c.in-End.is in
-    let steps = map asked c.in_ok-steps-in-End.field-0.items in
+    let steps = c.in_ok-steps-in-End.field-0 in
     let found : HasFound c.next.new.self l.reader (Some steps) l.kill = search (rules, l.invariant) in
     some_weaker c.scenario_of.result _ _
     (λ s is. subst (λ plan. IsScenario plan (converted of_json (value 127 c.args.reader.now)) c.next_key.new.reader) (sym is.2)

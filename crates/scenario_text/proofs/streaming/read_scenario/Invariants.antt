@@ -1,10 +1,9 @@
-use Rattle.std.proofs.Common.{length, map, option_map}
-use Rattle.scenario_text.specs.Plan.{asked}
+use Rattle.std.proofs.Common.{length}
 use Rattle.scenario_text.proofs.MemberLemmas.{HasFound}
 use Rattle.scenario_text.proofs.streaming.read_scenario.Given as goal
 
 abbrev pub invariant-members : goal.invariant-members
-invariant-members l = HasFound l.initial.reader l.reader (option_map (λ v. map asked v.items) l.steps) l.kill
+invariant-members l = HasFound l.initial.reader l.reader l.steps l.kill
 
 abbrev pub decreases-members : goal.decreases-members
 decreases-members l = length l.reader
