@@ -77,10 +77,10 @@ fn check_replies(
     scenario: &Scenario,
     replies: &[Reply],
 ) -> Result<(), Trouble> {
-    if replies.len() != scenario.steps().len() {
+    if replies.len() != scenario.shapes().len() {
         return Err(Trouble::Wrong("a list has not a reply for each step"));
     }
-    for (step, reply) in scenario.steps().iter().zip(replies.iter()) {
+    for (step, reply) in scenario.steps().zip(replies.iter()) {
         check_reply(alloc, host, step.0, &step.1, reply)?;
     }
     Ok(())

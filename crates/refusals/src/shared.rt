@@ -113,7 +113,7 @@ fn call_all<R: Wait>(
     requires { All (IsOf host.now) sessions.old.items }
     ensures { All (IsOf host.now) sessions.new.items }
 {
-    for (step, answer) in scenario.steps().iter().zip(made.replies.iter()) {
+    for (step, answer) in scenario.steps().zip(made.replies.iter()) {
         let place = place_of(users, step.0);
         check_call(rt, alloc, host, sessions, place, &step.1, &answer.1)?;
     }
@@ -135,11 +135,11 @@ fn check_journal(
     if journal.len() != made.replies.len() {
         return Err(Trouble::Wrong("a refused call has an entry"));
     }
-    for (place, step) in scenario.steps().iter().enumerate() {
+    for (place, step) in scenario.steps().enumerate() {
         let (Some(entry), Some(answer)) = (journal.get(place), made.replies.get(place)) else {
             return Err(Trouble::Wrong("an entry is missing"));
         };
-        if !is_of(entry, place_of(users, step.0), step, &answer.1) {
+        if !is_of(entry, place_of(users, step.0), &step, &answer.1) {
             return Err(Trouble::Wrong("the journal has another entry"));
         }
     }

@@ -166,7 +166,7 @@ fn room(alloc: Global, length: usize) -> Result<Vec<(Uid, Reply)>, Trouble> {
 
 /// A new host, and room for the replies to the scenario's steps.
 fn new_made(alloc: Global, scenario: &Scenario) -> Result<Made, Trouble> {
-    let replies = room(alloc, scenario.steps().len())?;
+    let replies = room(alloc, scenario.shapes().len())?;
     let host = new_host(alloc, scenario.settings())?;
     Ok(Made { host, replies })
 }

@@ -251,7 +251,7 @@ fn check_left(
     calls: usize,
     left: &Left,
 ) -> Result<(), Trouble> {
-    if calls != scenario.steps().len() {
+    if calls != scenario.shapes().len() {
         return Err(Trouble::Wrong("a step isn't made"));
     }
     check_transcripts(&left.journal, left.transcripts.as_slice())?;

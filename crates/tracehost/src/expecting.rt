@@ -3,8 +3,7 @@ use crate::explaining::unread;
 use crate::{Shown, Trouble};
 use expected_text::Difference;
 use pid_blocks::Uid;
-use requests::PlainStep;
-use scenario::{Fault, Scenario};
+use scenario::{Fault, Scenario, StepShape};
 use std::alloc::{AllocError, Global};
 use std::rt::Files;
 use std::{fmt, fs, io};
@@ -65,7 +64,7 @@ fn difference_told(
         end: "no more lines",
     };
     let mut told = format!(in alloc; "{path}:{line}: expected {wanted}, got {had}")?;
-    if let Some(step) = step_of_line(scenario.steps(), shown, line) {
+    if let Some(step) = step_of_line(scenario.shapes(), shown, line) {
         write!(told, "\n  it answers {step}")?;
     }
     Ok(told)
@@ -124,7 +123,7 @@ impl fmt::Display for StepPlace {
 }
 
 /// The step that the run's line with this number answers; none behind the last line.
-fn step_of_line(steps: &[(Uid, PlainStep)], shown: &Shown, line: usize) -> Option<StepPlace> {
+fn step_of_line(steps: &[(Uid, StepShape)], shown: &Shown, line: usize) -> Option<StepPlace> {
     match shown.options.user {
         Some(user) => step_of_user(steps, user, line),
         None if shown.threads => step_by_users(steps, line),
@@ -133,7 +132,7 @@ fn step_of_line(steps: &[(Uid, PlainStep)], shown: &Shown, line: usize) -> Optio
 }
 
 /// The user's own step with this number.
-fn step_of_user(steps: &[(Uid, PlainStep)], user: Uid, number: usize) -> Option<StepPlace> {
+fn step_of_user(steps: &[(Uid, StepShape)], user: Uid, number: usize) -> Option<StepPlace> {
     let mut left = number;
     for (index, step) in steps.iter().enumerate() {
         if step.0 == user {
@@ -151,12 +150,12 @@ fn step_of_user(steps: &[(Uid, PlainStep)], user: Uid, number: usize) -> Option<
 }
 
 /// How many steps the user has.
-fn count_of(steps: &[(Uid, PlainStep)], user: Uid) -> usize {
+fn count_of(steps: &[(Uid, StepShape)], user: Uid) -> usize {
     steps.iter().filter(|step| step.0 == user).count()
 }
 
 /// The step with this number where the steps of each user stand together, by rising users.
-fn step_by_users(steps: &[(Uid, PlainStep)], line: usize) -> Option<StepPlace> {
+fn step_by_users(steps: &[(Uid, StepShape)], line: usize) -> Option<StepPlace> {
     let mut left = line;
     for number in 1001..1065 {
         let user = Uid::new(number).ok()?;
@@ -170,7 +169,7 @@ fn step_by_users(steps: &[(Uid, PlainStep)], line: usize) -> Option<StepPlace> {
 }
 
 /// The step with this number among all.
-fn step_at(steps: &[(Uid, PlainStep)], line: usize) -> Option<StepPlace> {
+fn step_at(steps: &[(Uid, StepShape)], line: usize) -> Option<StepPlace> {
     let before = steps.get(..line)?;
     let user = before.last()?.0;
     Some(StepPlace {

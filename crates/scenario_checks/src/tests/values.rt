@@ -78,8 +78,8 @@ fn a_session(rt: HostRuntime) -> Result<(), Fail> {
             },
         ),
     ];
-    assert_eq!(rt; scenario.steps().len(), want.len());
-    for (found, (user, step)) in scenario.steps().iter().zip(want.iter()) {
+    assert_eq!(rt; scenario.shapes().len(), want.len());
+    for (found, (user, step)) in scenario.steps().zip(want.iter()) {
         assert_eq!(rt; found.0.get(), *user);
         assert!(rt; found.1 == *step, "{step:?} is read as {:?}", found.1);
     }
@@ -111,7 +111,7 @@ fn step_of(alloc: Global, op: &str) -> Result<PlainStep, Fail> {
     text.push_str(op)?;
     text.push_str("}]}")?;
     let scenario = parse(alloc, text.as_bytes())?;
-    let first = scenario.steps().first().ok_or("no step")?;
+    let first = scenario.steps().next().ok_or("no step")?;
     Ok(first.1)
 }
 
