@@ -1,5 +1,6 @@
 //! Numbers by their texts.
-ghost use Rattle.std.specs.Prelude.{◌≡◌, ◌==◌, true, false, is_some, option_and_then, slice_index};
+ghost use Rattle.std.specs.Prelude.{◌≡◌, ◌<◌, ◌^◌, ◌==◌, true, false, Some, IfSome, is_some, option_and_then, slice_index};
+ghost use Rattle.serde_json.specs.Data.{unsigned as unsigned_number};
 ghost use Rattle.serde_json.specs.Find.{as_i64};
 ghost use Rattle.serde_json.specs.Read.{number_of, number_from, float_of};
 
@@ -31,8 +32,34 @@ fn negative(numeral: &Numeral<'_>) -> Option<i64>
     if number < 0 { Some(number) } else { None }
 }
 
+/// The whole number of a few digits, as nearly all numbers are. `None` says nothing.
+fn few_digits(bytes: &[u8]) -> Option<u64>
+    ensures { IfSome result (λ n. (n < 10 ^ 18) × (number_of bytes.now ≡ Some (unsigned_number n))) }
+{
+    if bytes.is_empty() {
+        return None;
+    }
+    let mut number = 0u64;
+    for byte in bytes {
+        if !byte.is_ascii_digit() || number >= 100_000_000_000_000_000 {
+            return None;
+        }
+        number = number * 10 + u64::from(*byte - b'0');
+    }
+    Some(number)
+}
+
 /// The whole number that a text is, where it fits 64 bits with a sign.
 pub(crate) fn integer_of(text: &str) -> Option<i64>
+    ensures { result ≡ option_and_then as_i64 (number_of text.now) }
+{
+    match few_digits(text.as_bytes()) {
+        Some(number) => Some(number as i64),
+        None => any_integer(text),
+    }
+}
+
+fn any_integer(text: &str) -> Option<i64>
     ensures { result ≡ option_and_then as_i64 (number_of text.now) }
 {
     let bytes = text.as_bytes();
@@ -57,6 +84,12 @@ fn negative_in_range(numeral: &Numeral<'_>) -> bool
 
 /// Whether the number that a text is has a value: a float isn't too large.
 pub(crate) fn is_in_range(text: &str) -> bool
+    ensures { result ≡ is_some (number_of text.now) }
+{
+    few_digits(text.as_bytes()).is_some() || any_is_in_range(text)
+}
+
+fn any_is_in_range(text: &str) -> bool
     ensures { result ≡ is_some (number_of text.now) }
 {
     let bytes = text.as_bytes();

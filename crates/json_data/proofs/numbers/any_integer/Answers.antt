@@ -3,7 +3,7 @@ use Rattle.fast_float.specs.Text.{scan}
 use Rattle.serde_json.specs.Find.{as_i64}
 use Rattle.serde_json.specs.Read.{number_of, number_from}
 use Rattle.json_data.proofs.NumberTexts.{with_minus, without_minus}
-use Rattle.json_data.proofs.numbers.integer_of.Goals as goal
+use Rattle.json_data.proofs.numbers.any_integer.Goals as goal
 
 pub returns-then-has_minus : goal.returns-then-has_minus
 returns-then-has_minus c =

@@ -2,7 +2,7 @@ use Rattle.std.proofs.Common.{◌≡◌, drop, true, false, is_some, ap, ◌∙�
 use Rattle.fast_float.specs.Text.{scan}
 use Rattle.serde_json.specs.Read.{number_of, number_from}
 use Rattle.json_data.proofs.NumberTexts.{with_minus, without_minus}
-use Rattle.json_data.proofs.numbers.is_in_range.Goals as goal
+use Rattle.json_data.proofs.numbers.any_is_in_range.Goals as goal
 
 pub returns-then-has_minus : goal.returns-then-has_minus
 returns-then-has_minus c =
