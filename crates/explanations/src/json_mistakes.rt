@@ -1,5 +1,5 @@
 //! Why a text is no JSON, in words.
-use crate::scanning::{JsonMistake, Wants, Wrong, first_mistake};
+use crate::scanning::{JsonMistake, Wants, Wrong, first_mistake, word_at};
 use crate::told::Told;
 use std::str::from_utf8;
 
@@ -101,7 +101,7 @@ fn tell_word(told: &mut Told, word: &str) {
 fn tell_other(told: &mut Told, text: &[u8], mistake: &JsonMistake, wants: Wants) {
     told.push("expected ");
     told.push(wants.words());
-    let rest = from_utf8(text.get(mistake.at..).unwrap_or(&[])).unwrap_or("");
+    let rest = word_at(text, mistake.at, text.len());
     if let Some(got) = rest.chars().next() {
         told.push(", got `");
         told.push_character(got);
@@ -133,11 +133,6 @@ fn tell_control(told: &mut Told, text: &[u8], mistake: &JsonMistake) {
             told.push(" has no quotes at its end");
         }
     }
-}
-
-/// The bytes from one place to another, which is a word of the text.
-fn word_at(text: &[u8], begin: usize, end: usize) -> &str {
-    from_utf8(text.get(begin..end).unwrap_or(&[])).unwrap_or("")
 }
 
 fn tell_mistake(told: &mut Told, text: &[u8], mistake: &JsonMistake) {

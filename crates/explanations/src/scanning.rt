@@ -1,7 +1,8 @@
 //! Where a text stops being JSON.
+use std::str::from_utf8;
 
 /// What may come next.
-#[derive(Clone, Copy, PartialEq, Eq)]
+#[derive(Clone, Copy)]
 pub(crate) enum Wants {
     /// A value: at the front, or behind a colon.
     Value,
@@ -134,17 +135,18 @@ fn word_end(text: &[u8], from: usize) -> usize {
     text.len()
 }
 
-fn is_value(word: &[u8]) -> bool {
-    match std::str::from_utf8(word) {
-        Ok("true" | "false" | "null") => true,
-        Ok(text) => json::is_number(text),
-        Err(_) => false,
-    }
+/// The bytes from one place to another, which is a word of the text.
+pub(crate) fn word_at(text: &[u8], begin: usize, end: usize) -> &str {
+    from_utf8(text.get(begin..end).unwrap_or(&[])).unwrap_or("")
 }
 
-fn is_too_large(word: &[u8]) -> bool {
-    match std::str::from_utf8(word) {
-        Ok(text) => text.parse::<f64>().is_ok_and(|number| number.is_infinite()),
+fn is_value(word: &str) -> bool {
+    matches!(word, "true" | "false" | "null") || json::is_number(word)
+}
+
+fn is_too_large(word: &str) -> bool {
+    match word.parse::<f64>() {
+        Ok(number) => number.is_infinite(),
         Err(_) => false,
     }
 }
@@ -212,7 +214,7 @@ impl Walk {
     }
 
     fn colon(&mut self, at: usize) -> Result<(), JsonMistake> {
-        if self.wants != Wants::Colon {
+        if !matches!(self.wants, Wants::Colon) {
             return Err(self.other(at));
         }
         self.wants = Wants::Value;
@@ -249,14 +251,15 @@ impl Walk {
             return Err(self.other(at));
         }
         let end = word_end(text, at);
-        if !is_value(text.get(at..end).unwrap_or(&[])) {
+        let word = word_at(text, at, end);
+        if !is_value(word) {
             return Err(JsonMistake {
                 at,
                 wrong: Wrong::Word(end),
                 opened: None,
             });
         }
-        if is_too_large(text.get(at..end).unwrap_or(&[])) {
+        if is_too_large(word) {
             return Err(JsonMistake {
                 at,
                 wrong: Wrong::TooLarge(end),
@@ -298,9 +301,8 @@ pub(crate) fn first_mistake(text: &[u8]) -> Result<(), JsonMistake> {
             walk.step(text, at, *byte)?;
         }
     }
-    if walk.wants == Wants::End {
-        Ok(())
-    } else {
-        Err(walk.other(text.len()))
+    match walk.wants {
+        Wants::End => Ok(()),
+        _ => Err(walk.other(text.len())),
     }
 }
