@@ -32,7 +32,13 @@ LOADS = {
 # The functions of each part, as regular expressions of their whole names. Where the first one isn't there, since it was
 # inlined or has moved, the next one counts.
 PARTS = {
-    'parse': (r'scenario::reading::read\b.*', r'scenario::parsing::parse\b.*'),
+    'parse': (
+        r'scenario_text::reading::read\b.*',
+        r'scenario_text::parsing::parse\b.*',
+        r'scenario_text::streaming::(stream|read_scenario)\b.*',
+        r'scenario::reading::read\b.*',
+        r'scenario::parsing::parse\b.*',
+    ),
     'bind': (r'scenario::binding::bind\b.*', r'scenario::binding::bound\b.*'),
     'steps': (r'requests::host::Host::step\b.*', r'visibility::runs::run_list\b.*'),
     'text': (r'scenario::lines::render\b.*', r'scenario::running::write_lines\b.*'),
