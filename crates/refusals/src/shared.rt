@@ -135,7 +135,7 @@ fn check_journal(
     if journal.len() != made.replies.len() {
         return Err(Trouble::Wrong("a refused call has an entry"));
     }
-    for (place, step) in scenario.steps().enumerate() {
+    for (place, step) in (0..made.replies.len()).zip(scenario.steps()) {
         let (Some(entry), Some(answer)) = (journal.get(place), made.replies.get(place)) else {
             return Err(Trouble::Wrong("an entry is missing"));
         };
