@@ -15,7 +15,6 @@ import argparse
 import os
 import re
 import subprocess
-import sys
 import tempfile
 
 import steps
@@ -48,13 +47,7 @@ PARTS = {
 COST = re.compile(r'\s*([\d,]+) \(\s*[\d.]+%\)\s+(.*)')
 FUNCTION = re.compile(r'[^:]*:(.*?)(?: \[[^\]]*\])?$')
 
-# Runs what its arguments name, and tells the most kilobytes that it had. A process starts with the peak of the one that
-# starts it, so this one, which is small, stands between.
-PEAK = """
-import resource, subprocess, sys
-subprocess.run(sys.argv[1:], stdout=subprocess.DEVNULL, check=True)
-print(resource.getrusage(resource.RUSAGE_CHILDREN).ru_maxrss)
-"""
+HERE = os.path.dirname(os.path.abspath(__file__))
 
 
 def profile(program, scenario, file):
@@ -90,11 +83,13 @@ def millions(count):
     return '-' if count is None else f'{count / 1e6:.1f}'
 
 
-def peak(program, scenario):
+def peak(program, scenario, room):
     """The resident memory at most, in times the scenario's bytes."""
-    words = [sys.executable, '-c', PEAK, program, scenario]
-    kilobytes = int(subprocess.run(words, capture_output=True, text=True, check=True).stdout)
-    return kilobytes * 1024 / os.path.getsize(scenario)
+    small = os.path.join(room, 'peak')
+    if not os.path.exists(small):
+        subprocess.run(['cc', '-O1', '-o', small, os.path.join(HERE, 'peak.c')], check=True)
+    ran = subprocess.run([small, program, scenario], stdout=subprocess.DEVNULL, stderr=subprocess.PIPE, check=True)
+    return int(ran.stderr) * 1024 / os.path.getsize(scenario)
 
 
 def print_row(cells):
@@ -112,7 +107,7 @@ def print_load(load, programs, options, room):
         whole, functions = costs(file, inclusive=True)
         cells = [load, number, millions(whole), *(millions(part(functions, names)) for names in PARTS.values())]
         if options.peak:
-            cells.append(f'{peak(program, scenario):.1f}')
+            cells.append(f'{peak(program, scenario, room):.1f}')
         print_row(cells)
         if options.top:
             alone.append((load, number, *costs(file, inclusive=False)))
@@ -129,7 +124,7 @@ def print_top(load, number, whole, functions, count):
 
 def main():
     parser = argparse.ArgumentParser()
-    top = os.path.join(os.path.dirname(os.path.abspath(__file__)), '..')
+    top = os.path.join(HERE, '..')
     parser.add_argument('programs', nargs='*', default=[os.path.join(top, 'crates/tracehost/out/tracehost')])
     parser.add_argument('--steps', type=int, default=40000)
     parser.add_argument('--peak', action='store_true')

@@ -1,17 +1,21 @@
 #!/usr/bin/env bash
-# A run takes little memory: on scenarios of nearly 4 MiB the program has at most 4 times the bytes of the scenario and
-# of the lines that it prints, at any time. The scenarios are those of bench/steps.py.
+# A run takes little memory: on the scenarios of bench/steps.py, of nearly 4 MiB, the program has at most 4 times the
+# scenario's bytes at any time. Where the lines are longer than their scenario, as with lists of many processes, the
+# lines count with it, since none is written before all are known.
 #
 #   bash tests/memory.sh PROGRAM
 set -euo pipefail
 cd "$(dirname "$(readlink -f "${BASH_SOURCE[0]}")")/.."
 program=${1:-$PWD/crates/tracehost/out/tracehost}
 
-python3 - "$program" <<'CODE'
+room=$(mktemp -d)
+trap 'rm -rf "$room"' EXIT
+cc -O1 -o "$room/peak" bench/peak.c
+
+python3 - "$program" "$room" <<'CODE'
 import os
 import subprocess
 import sys
-import tempfile
 
 sys.path.insert(0, 'bench')
 import steps
@@ -22,25 +26,21 @@ LOADS = {
     'attach, wait and detach': steps.of_one(steps.attach_cycles),
     'chains of debuggers': steps.of_one(steps.chains_that_end),
     'threads': steps.of_one(steps.threads),
+    'refusals': steps.refusals,
     'lists of 64 users': steps.spawns_and_lists,
 }
-# A process starts with the peak of the one that starts it, so this one, which is small, stands between.
-PEAK = """
-import resource, subprocess, sys
-subprocess.run(sys.argv[2:], stdout=open(sys.argv[1], 'w'), check=True)
-print(resource.getrusage(resource.RUSAGE_CHILDREN).ru_maxrss * 1024)
-"""
 
+program, room = sys.argv[1:]
+scenario, lines = f'{room}/scenario.json', f'{room}/lines'
 failed = False
-with tempfile.TemporaryDirectory() as room:
-    scenario, lines = f'{room}/scenario.json', f'{room}/lines'
-    for name, make in LOADS.items():
-        count = steps.write(make(70000), scenario)
-        words = [sys.executable, '-c', PEAK, lines, sys.argv[1], scenario]
-        peak = int(subprocess.run(words, stdout=subprocess.PIPE, check=True).stdout)
-        size = os.path.getsize(scenario) + os.path.getsize(lines)
-        well = peak <= TIMES * size
-        failed |= not well
-        print(f'{name}: {count} steps, {size} bytes with the lines, at most {peak} in memory, {peak / size:.2f} times{"" if well else ": too much"}')
+for name, make in LOADS.items():
+    count = steps.write(make(100000), scenario)
+    with open(lines, 'wb') as out:
+        ran = subprocess.run([f'{room}/peak', program, scenario], stdout=out, stderr=subprocess.PIPE, check=True)
+    peak = int(ran.stderr) * 1024
+    size, printed = os.path.getsize(scenario), os.path.getsize(lines)
+    times = peak / (size + printed if printed > size else size)
+    failed |= times > TIMES
+    print(f'{name}: {count} steps, {size} bytes, at most {peak} in memory, {times:.2f} times')
 sys.exit(failed)
 CODE
