@@ -1,5 +1,5 @@
 -- A look-up in a value finds what `serde_json` finds in its data.
-use Rattle.std.proofs.Common.{◌≡◌, ℕ, suc, List, length, [], ◌∷◌, Bool, true, false, ◌&&◌, cond, bytes_eq, Option, Some, None, option_map, Vec, Bor, true≢false, refl, sym, ap, ◌∙◌}
+use Rattle.std.proofs.Common.{◌≡◌, ℕ, suc, List, length, [], ◌∷◌, ◌++◌, Bool, true, false, ◌&&◌, cond, bytes_eq, Option, Some, None, option_map, Vec, Bor, true≢false, refl, sym, ap, ◌∙◌}
 use Rattle.std.proofs.lemmas.Slice.Eq.{bytes_eq-Decides}
 use Rattle.std.specs.List.{list_any}
 use Rattle.json.specs.Json as json
@@ -12,7 +12,7 @@ use Rattle.serde_json.specs.Read.{number_of}
 use Rattle.serde_json.specs.Events.{items_len}
 use Rattle.serde_json.specs.Find.{get, get_member}
 use Rattle.serde_json.proofs.Views.{get_member-put, get_member-put_other}
-use Rattle.json_data.specs.Reading.{number_data, data_of, items_data, members_data, members_among, view, items_view}
+use Rattle.json_data.specs.Reading.{number_data, data_of, items_data, members_data, members_among, view, items_view, members_of}
 use Rattle.json_data.proofs.Keys.{members_among-put}
 
 -- the data of what was found, or else what was there before
@@ -89,6 +89,14 @@ view-Array v = ap data_of (Trees.view-Array v) ∙ ap array (items_data-of v.ite
 
 pub view-Object : {A : Type 0} (v : Vec (Bor (List ℕ) × Value A) A) → view (Object v) ≡ object (members_data (json_members_view v.items) no_members)
 view-Object v = ap data_of (Trees.view-Object v)
+
+-- a member behind the others is put in
+pushed : {A : Type 0} (ms : List (Bor (List ℕ) × Value A)) (m : Bor (List ℕ) × Value A) (found : Members) → members_data (json_members_view (ms ++ m ∷ [])) found ≡ put m.0.now (view m.1) (members_data (json_members_view ms) found)
+pushed [] m found = refl
+pushed (l ∷ ms) m found = pushed ms m (put l.0.now (view l.1) found)
+
+pub members_of-push : {A : Type 0} (ms : List (Bor (List ℕ) × Value A)) (m : Bor (List ℕ) × Value A) → members_of (ms ++ m ∷ []) ≡ put m.0.now (view m.1) (members_of ms)
+members_of-push ms m = pushed ms m no_members
 
 pub items_len-items_view : {A : Type 0} (vs : List (Value A)) → items_len (items_view vs) ≡ length vs
 items_len-items_view [] = refl

@@ -1,5 +1,5 @@
 -- An array or an object that is read an item or a member at a time, with the data that is read from each.
-use Rattle.std.proofs.Common.{◌≡◌, ℕ, ◌-◌, ◌<◌, ◌≤◌, List, length, Option, Some, None, option_map, refl, ap, ◌∙◌}
+use Rattle.std.proofs.Common.{◌≡◌, ℕ, ◌-◌, ◌<◌, ◌≤◌, List, length, Option, Some, None, option_map, refl, ap, ◌∙◌, rules}
 use Rattle.json.specs.Token.{Token}
 use Rattle.json.specs.Json as json
 use Rattle.json.specs.Json.{Parse, parse_map, after_end_array, read_key, items, members}
@@ -28,6 +28,15 @@ behind_member : (k : List ℕ) (j : json.Json) (d : Data) (found : Members) (o :
     → converted (λ ms. of_members ms found) (parse_map (json.member k j) o) ≡ converted (λ ms. of_members ms (put k d found)) o
 behind_member k j d found None is = refl
 behind_member k j d found (Some p) is = rw is
+
+-- the value behind the data that was read
+as_read : (o : Option Data) (d : Data) (r left : List Token) → option_map {U = Data × List Token} (λ e. (e, left)) o ≡ Some (d, r) → (left ≡ r) × (o ≡ Some d)
+as_read None d r left e = absurd (cc)
+as_read (Some c) d r left e = (search (rules, e), search (rules, e))
+
+pub what_was_read : (o : Option (json.Json × List Token)) (d : Data) (r : List Token) → converted of_json o ≡ Some (d, r) → (j : json.Json) × (o ≡ Some (j, r)) × (of_json j ≡ Some d)
+what_was_read None d r e = absurd (cc)
+what_was_read (Some p) d r e = let both = as_read (of_json p.0) d r p.1 e in (p.0, ap (λ ts. Some (p.0, ts)) both.0, both.1)
 
 pub next_item : (p : Parse json.Json) (n : ℕ) (ts left : List Token) (j : json.Json) (d : Data) → 0 < n → after_end_array ts ≡ None → p ts ≡ Some (j, left) → of_json j ≡ Some d
     → converted of_items (items p n ts) ≡ parse_map (item d) (converted of_items (items p (n - 1) left))

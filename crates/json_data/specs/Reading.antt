@@ -1,9 +1,10 @@
 -- The data that `serde_json` reads from a JSON value, where all of its numbers are in range.
 use Rattle.std.specs.Prelude.{ℕ, ◌&&◌, List, Bool, true, false, Option, Some, None, is_some, map}
+use Rattle.std.specs.Borrow.{Bor}
 use Rattle.std.specs.List.{list_any}
 use Rattle.std.specs.Str.{bytes_eq}
 use Rattle.json.specs.Json as json
-use Rattle.json.specs.Value.{value_view}
+use Rattle.json.specs.Value.{value_view, members_view}
 use Rattle.json.specs.declared.error.Error.{Error}
 use Rattle.json.specs.declared.error.Error.TheVariants as error
 use Rattle.json.specs.declared.value.Value.{Value}
@@ -53,12 +54,18 @@ abbrev mutual
   members_in_range json.no_members = true
   members_in_range (json.member k j ms) = in_range j && members_in_range ms
 
--- the data of a value, and of the values of an array
+-- the data of a value, of the values of an array, and of an object's members as a text has them
 abbrev pub view : {A : Type 0} → Value A → Data
 view v = data_of (value_view v)
 
 abbrev pub items_view : {A : Type 0} → List (Value A) → Items
 items_view vs = items_of (map view vs)
+
+abbrev pub members_of : {A : Type 0} → List (Bor (List ℕ) × Value A) → Members
+members_of ms = members_data (members_view ms) no_members
+
+abbrev pub object_view : {A : Type 0} → List (Bor (List ℕ) × Value A) → Data
+object_view ms = object (members_of ms)
 
 abbrev pub members_among : List (List ℕ) → Members → Bool
 members_among keys no_members = true

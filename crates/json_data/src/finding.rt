@@ -1,18 +1,40 @@
 //! Looking into a value.
-ghost use Rattle.std.specs.Prelude.{◌≡◌, map, is_some, option_map, option_and_then};
+ghost use Rattle.std.specs.Prelude.{◌≡◌, map, option_map, option_and_then};
 ghost use Rattle.std.specs.List.{list_any};
 ghost use Rattle.std.specs.Str.{bytes_eq};
 ghost use Rattle.serde_json.specs.Find.{get, as_number, as_i64, as_str, as_array, as_object};
-ghost use Rattle.json_data.specs.Reading.{view, items_view, has_only};
+ghost use Rattle.json_data.specs.Reading.{view, items_view, members_of, object_view, has_only};
 
 use crate::numbers::integer_of;
 use json::Value;
 
-/// The value of a key, where this is an object: the last one where the key comes twice.
-pub fn get<'v, 'a>(object: &'v Value<'a>, key: &str) -> Option<&'v Value<'a>>
-    ensures { option_map (λ v. view v.now) result ≡ get key.now (view object.now) }
+/// A member of an object: its key and its value. Where a key comes twice, its last member counts.
+pub type Member<'a> = (&'a str, Value<'a>);
+
+/// The members of an object.
+pub fn object<'v, 'a>(value: &'v Value<'a>) -> Option<&'v [Member<'a>]>
+    ensures { option_map (λ members. members_of members.now) result ≡ as_object (view value.now) }
 {
-    object.get(key)
+    if let Value::Object(members) = value {
+        Some(members.as_slice())
+    } else {
+        None
+    }
+}
+
+/// The value of a key of an object.
+pub fn get<'v, 'a>(object: &'v [Member<'a>], key: &str) -> Option<&'v Value<'a>>
+    ensures { option_map (λ v. view v.now) result ≡ get key.now (object_view object.now) }
+{
+    let mut left = object.len();
+    while left > 0 {
+        left -= 1;
+        let member = &object[left];
+        if member.0 == key {
+            return Some(&member.1);
+        }
+    }
+    None
 }
 
 /// The text of a string.
@@ -40,13 +62,6 @@ pub fn array<'v, 'a>(value: &'v Value<'a>) -> Option<&'v [Value<'a>]>
     }
 }
 
-/// Whether the value is an object.
-pub fn is_object(value: &Value<'_>) -> bool
-    ensures { result ≡ is_some (as_object (view value.now)) }
-{
-    matches!(value, Value::Object(_))
-}
-
 fn is_among(key: &str, keys: &[&str]) -> bool
     ensures { result ≡ list_any (bytes_eq key.now) (map (λ k. k.now) keys.now) }
 {
@@ -58,14 +73,11 @@ fn is_among(key: &str, keys: &[&str]) -> bool
     false
 }
 
-/// Whether the value is an object with no other key than these.
-pub fn has_only(value: &Value<'_>, keys: &[&str]) -> bool
-    ensures { result ≡ has_only (map (λ k. k.now) keys.now) (view value.now) }
+/// Whether an object has no other key than these.
+pub fn has_only(object: &[Member<'_>], keys: &[&str]) -> bool
+    ensures { result ≡ has_only (map (λ k. k.now) keys.now) (object_view object.now) }
 {
-    let Value::Object(members) = value else {
-        return false;
-    };
-    for member in members {
+    for member in object {
         if !is_among(member.0, keys) {
             return false;
         }

@@ -5,5 +5,5 @@ mod finding;
 mod numbers;
 mod reading;
 
-pub use finding::{array, get, has_only, integer, is_object, text};
+pub use finding::{Member, array, get, has_only, integer, object, text};
 pub use reading::{Refusal, from_slice, from_str, next_value};

@@ -8,7 +8,7 @@ use Rattle.json.proofs.Grammar.{value-begin_array}
 use Rattle.serde_json.specs.Data.{Data, array, Items, no_items, item}
 use Rattle.serde_json.specs.Events.{items_len}
 use Rattle.serde_json.specs.Read.{of_json, of_items, converted}
-use Rattle.json_data.proofs.Loops.{next_item, last_item, read_array}
+use Rattle.json_data.proofs.Loops.{next_item, last_item, read_array, what_was_read}
 use Rattle.requests.specs.Run.{Asked}
 use Rattle.scenario_text.specs.declared.fault.Fault.{Fault}
 use Rattle.scenario_text.specs.Fields.{◌>>=◌}
@@ -60,22 +60,18 @@ begins ts = record {
 }
 
 pub goes_on : (all left r : List Token) (steps more : List Asked) → HasRead all left steps → after_end_array left ≡ None → IsNextStep steps more left r → HasRead all r more
-goes_on all left r steps more h going (j, d, x, one, read, is, after, less) =
+goes_on all left r steps more h going (d, x, was, is, after, less) =
+    let j = what_was_read (value 125 left) d r was in
     let long : length (steps ++ x ∷ []) ≡ length steps + 1 = length-append steps (x ∷ []) in
     subst (HasRead all r) (sym after) (record {
       front = λ ds. h.front (item d ds);
       turns = h.turns - 1;
       enough = omega (arith, h.enough);
       shorter = omega (arith, h.shorter);
-      same = h.same ∙ ap (parse_map h.front) (next_item (value 125) h.turns left r j d (omega (arith, h.enough)) going one read) ∙ both h.front (item d) _;
-      given = λ ds. h.given (item d ds) ∙ with_step steps _ x (steps_from (length steps + 1 + 1) ds) is ∙ ap (λ n. steps_from (n + 1) ds >>= (λ ss. Ok ((steps ++ x ∷ []) ++ ss))) (sym long);
+      same = h.same ∙ ap (parse_map h.front) (next_item (value 125) h.turns left r j.0 d (omega (arith, h.enough)) going j.1 j.2) ∙ both h.front (item d) _;
+      given = λ ds. h.given (item d ds) ∙ with_step steps _ x (steps_from (length steps + 1 + 1) ds) (ap (numbered (length steps + 1)) is) ∙ ap (λ n. steps_from (n + 1) ds >>= (λ ss. Ok ((steps ++ x ∷ []) ++ ss))) (sym long);
       counted = λ ds. h.counted (item d ds) ∙ (rw long (omega arith));
     })
-
-pub next_step : (j : json.Json) (d : Data) (r : Result Asked Fault) (before more : List Asked) (ts left : List Token) → value 125 ts ≡ Some (j, left) → of_json j ≡ Some d → r ≡ numbered (length before + 1) (step_of d)
-    → (r >>= (λ x. Ok (before ++ x ∷ []))) ≡ Ok more → length left < length ts → IsNextStep before more ts left
-next_step j d (Ok x) before more ts left one read is pushed less = (j, d, x, one, read, sym is, search (rules, pushed), less)
-next_step j d (Err e) before more ts left one read is pushed less = absurd (cc)
 
 pub ends : (all left r : List Token) (steps : List Asked) → HasRead all left steps → after_end_array left ≡ Some r → length steps ≤ most_steps
     → IsArrayOfSteps steps (converted of_json (value 126 (Token.begin_array ∷ all))) r

@@ -4,4 +4,5 @@ pub mod Answering
 pub mod RetryLemmas
 pub mod ItemLemmas
 pub mod MemberLemmas
+pub mod ObjectLemmas
 pub mod FilledLemmas

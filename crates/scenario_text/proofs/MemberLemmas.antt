@@ -13,7 +13,7 @@ use Rattle.serde_json.proofs.Views.{get_member-put, get_member-put_other}
 use Rattle.json.specs.Json as json
 use Rattle.json_data.specs.Reading.{members_among}
 use Rattle.json_data.proofs.Keys.{members_among-put}
-use Rattle.json_data.proofs.Loops.{next_member, last_member, read_object}
+use Rattle.json_data.proofs.Loops.{next_member, last_member, read_object, what_was_read}
 use Rattle.trace_stop.specs.declared.Settings.{Settings}
 use Rattle.requests.specs.Run.{Asked}
 use Rattle.scenario_text.specs.Fields.{integer_of, optional}
@@ -56,14 +56,6 @@ begins ts = record {
 
 differ : steps_key ≡ kill_key → ⊥
 differ e = true≢false (ap (bytes_eq steps_key) e)
-
-as_read : (o : Option Data) (d : Data) (r left : List Token) → option_map {U = Data × List Token} (λ e. (e, left)) o ≡ Some (d, r) → (left ≡ r) × (o ≡ Some d)
-as_read None d r left e = absurd (cc)
-as_read (Some c) d r left e = (search (rules, e), search (rules, e))
-
-what_was_read : (o : Option (json.Json × List Token)) (d : Data) (r : List Token) → converted of_json o ≡ Some (d, r) → (j : json.Json) × (o ≡ Some (j, r)) × (of_json j ≡ Some d)
-what_was_read None d r e = absurd (cc)
-what_was_read (Some p) d r e = let both = as_read (of_json p.0) d r p.1 e in (p.0, ap (λ ts. Some (p.0, ts)) both.0, both.1)
 
 pub with_steps : (all left s r : List Token) (before : Option (List Asked)) (steps : List Asked) (kill : ℤ) → HasFound all left before kill → read_key left ≡ Some (Some steps_key, s)
     → IsArrayOfSteps steps (converted of_json (value 126 s)) r → length r < length s → HasFound all r (Some steps) kill

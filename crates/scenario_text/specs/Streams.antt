@@ -1,27 +1,34 @@
 -- A scenario read step by step.
 use Rattle.std.specs.Prelude.{◌≡◌, ◌+◌, ◌<◌, ◌≤◌, ◌++◌, ℤ, List, [], ◌∷◌, length, codes, ℕ, Option, Some, None, Ok}
+use Rattle.std.specs.Borrow.{Bor}
 use Rattle.json.specs.Json.{Json, value}
 use Rattle.json.specs.Token.{Token}
+use Rattle.json.specs.declared.value.Value.{Value}
 use Rattle.serde_json.specs.Data.{Data, Items, array}
 use Rattle.serde_json.specs.Events.{items_len}
-use Rattle.serde_json.specs.Read.{of_json}
+use Rattle.serde_json.specs.Read.{of_json, converted}
+use Rattle.json_data.specs.Reading.{object_view}
 use Rattle.requests.specs.Run.{Asked}
 use Rattle.scenario_text.specs.declared.streaming.Key.{Key}
 use Rattle.scenario_text.specs.declared.streaming.Key.TheVariants.{Steps, KillOnDebuggerExit, End}
 use Rattle.scenario_text.specs.Fields.{integer_of}
 use Rattle.scenario_text.specs.Plan.{Plan, most_steps}
-use Rattle.scenario_text.specs.Scenarios.{numbered, plan_of, steps_from}
+use Rattle.scenario_text.specs.Scenarios.{plan_of, steps_from}
 use Rattle.scenario_text.specs.Steps.{step_of}
 
 -- what was read is an array of these steps, none of which has a fault; what follows it is left
 abbrev pub IsArrayOfSteps : List Asked → Option (Data × List Token) → List Token → Type 0
 IsArrayOfSteps steps r left = (ds : Items) × (r ≡ Some (array ds, left)) × (steps_from 1 ds ≡ Ok steps) × (items_len ds ≡ length steps) × (length steps ≤ most_steps)
 
+-- the object that was read has these members
+abbrev pub AreMembers : {A : Type 0} → List (Bor (List ℕ) × Value A) → List Token → List Token → Type 0
+AreMembers ms ts left = (converted of_json (value 125 ts) ≡ Some (object_view ms, left)) × (length left < length ts)
+
 -- the value that was read is the step behind these
 abbrev pub IsNextStep : List Asked → List Asked → List Token → List Token → Type 0
 IsNextStep before after ts left =
-    (j : Json) × (d : Data) × (x : Asked) × (value 125 ts ≡ Some (j, left)) × (of_json j ≡ Some d)
-    × (numbered (length before + 1) (step_of d) ≡ Ok x) × (after ≡ before ++ x ∷ []) × (length left < length ts)
+    (d : Data) × (x : Asked) × (converted of_json (value 125 ts) ≡ Some (d, left)) × (step_of d ≡ Ok x) × (after ≡ before ++ x ∷ [])
+    × (length left < length ts)
 
 -- the value that was read is this whole number
 abbrev pub IsInteger : ℤ → List Token → List Token → Type 0

@@ -1,6 +1,6 @@
 //! What an LWP does at its turn.
 ghost use Rattle.std.specs.Prelude.{◌≡◌, ◌++◌, codes};
-ghost use Rattle.json_data.specs.Reading.{view};
+ghost use Rattle.json_data.specs.Reading.{object_view};
 ghost use Rattle.scenario_text.specs.Acts.{call_of, call_keys, turn_keys, raise_of, block_of, enter_of, act_of, act_at};
 ghost use Rattle.scenario_text.specs.Fields.{name_at, number_within, only};
 ghost use Rattle.scenario_text.specs.Names.{act_named, call_named};
@@ -9,18 +9,18 @@ use crate::arrays::set_of;
 use crate::fields::{Flaw, member, number_within, only, text, word};
 use crate::names::{ActKind, CallKind, act_named, call_named};
 use event_masks::Call;
-use json::Value;
+use json_data::Member;
 use requests::Act;
 
-fn call_kind_at(step: &Value<'_>) -> Result<CallKind, Flaw>
-    ensures { result ≡ name_at (codes "call") call_named (view step.now) }
+fn call_kind_at(step: &[Member<'_>]) -> Result<CallKind, Flaw>
+    ensures { result ≡ name_at (codes "call") call_named (object_view step.now) }
 {
     call_named(text(step, "call")?).ok_or(Flaw::Name)
 }
 
 /// The call, with the exit code of an exit and the number of another call.
-fn call_of(step: &Value<'_>, kind: CallKind) -> Result<Call, Flaw>
-    ensures { result ≡ call_of kind (view step.now) }
+fn call_of(step: &[Member<'_>], kind: CallKind) -> Result<Call, Flaw>
+    ensures { result ≡ call_of kind (object_view step.now) }
 {
     match kind {
         CallKind::Exit => {
@@ -37,8 +37,8 @@ fn call_of(step: &Value<'_>, kind: CallKind) -> Result<Call, Flaw>
 }
 
 /// The step has no other keys than those of a turn that enters such a call.
-fn only_call_keys(step: &Value<'_>, kind: CallKind) -> Result<(), Flaw>
-    ensures { result ≡ only (turn_keys ++ call_keys kind) (view step.now) }
+fn only_call_keys(step: &[Member<'_>], kind: CallKind) -> Result<(), Flaw>
+    ensures { result ≡ only (turn_keys ++ call_keys kind) (object_view step.now) }
 {
     match kind {
         CallKind::Exit | CallKind::Other => {
@@ -50,8 +50,8 @@ fn only_call_keys(step: &Value<'_>, kind: CallKind) -> Result<(), Flaw>
 }
 
 #[tactic(auto, unfolding(crate::specs::Acts::raise_of))]
-fn raise_of(step: &Value<'_>) -> Result<Act, Flaw>
-    ensures { result ≡ raise_of (view step.now) }
+fn raise_of(step: &[Member<'_>]) -> Result<Act, Flaw>
+    ensures { result ≡ raise_of (object_view step.now) }
 {
     let signal = word(step, "signal")?;
     only(step, &["user", "op", "lwp", "act", "signal"])?;
@@ -59,8 +59,8 @@ fn raise_of(step: &Value<'_>) -> Result<Act, Flaw>
 }
 
 #[tactic(auto, unfolding(crate::specs::Acts::block_of))]
-fn block_of(step: &Value<'_>) -> Result<Act, Flaw>
-    ensures { result ≡ block_of (view step.now) }
+fn block_of(step: &[Member<'_>]) -> Result<Act, Flaw>
+    ensures { result ≡ block_of (object_view step.now) }
 {
     let set = set_of(member(step, "set")?)?;
     only(step, &["user", "op", "lwp", "act", "set"])?;
@@ -68,8 +68,8 @@ fn block_of(step: &Value<'_>) -> Result<Act, Flaw>
 }
 
 #[tactic(auto, unfolding(crate::specs::Acts::enter_of))]
-fn enter_of(step: &Value<'_>) -> Result<Act, Flaw>
-    ensures { result ≡ enter_of (view step.now) }
+fn enter_of(step: &[Member<'_>]) -> Result<Act, Flaw>
+    ensures { result ≡ enter_of (object_view step.now) }
 {
     let kind = call_kind_at(step)?;
     let call = call_of(step, kind)?;
@@ -77,8 +77,8 @@ fn enter_of(step: &Value<'_>) -> Result<Act, Flaw>
     Ok(Act::Enter(call))
 }
 
-fn act_of(step: &Value<'_>, kind: ActKind) -> Result<Act, Flaw>
-    ensures { result ≡ act_of kind (view step.now) }
+fn act_of(step: &[Member<'_>], kind: ActKind) -> Result<Act, Flaw>
+    ensures { result ≡ act_of kind (object_view step.now) }
 {
     match kind {
         ActKind::Compute => {
@@ -96,8 +96,8 @@ fn act_of(step: &Value<'_>, kind: ActKind) -> Result<Act, Flaw>
 }
 
 /// The act of a turn, with its keys.
-pub(crate) fn act_at(step: &Value<'_>) -> Result<Act, Flaw>
-    ensures { result ≡ act_at (view step.now) }
+pub(crate) fn act_at(step: &[Member<'_>]) -> Result<Act, Flaw>
+    ensures { result ≡ act_at (object_view step.now) }
 {
     let kind = act_named(text(step, "act")?).ok_or(Flaw::Name)?;
     act_of(step, kind)

@@ -1,10 +1,10 @@
 //! One key of a JSON object, and what is wrong with it.
-ghost use Rattle.std.specs.Prelude.{◌≡◌, map};
-ghost use Rattle.json_data.specs.Reading.{view, items_view};
-ghost use Rattle.scenario_text.specs.Fields.{member_at, integer_of, integer_at, number_within, word_of, word_at, text_of, text_at, items_of, only, object_of, Gives};
+ghost use Rattle.std.specs.Prelude.{◌≡◌, map, IfOk};
+ghost use Rattle.json_data.specs.Reading.{view, items_view, object_view};
+ghost use Rattle.scenario_text.specs.Fields.{member_at, integer_of, integer_at, number_within, word_of, word_at, text_of, text_at, items_of, only, object_of, seen, Gives};
 
 use json::Value;
-use json_data::{get, has_only, is_object};
+use json_data::{Member, get, has_only, object};
 
 /// What is wrong with a step.
 #[derive(Clone, Copy, Debug, PartialEq, Eq)]
@@ -16,8 +16,8 @@ pub(crate) enum Flaw {
     TooManyRules,
 }
 
-pub(crate) fn member<'v, 'a>(object: &'v Value<'a>, key: &str) -> Result<&'v Value<'a>, Flaw>
-    ensures { Gives (λ v. view v.now) result (member_at key.now (view object.now)) }
+pub(crate) fn member<'v, 'a>(object: &'v [Member<'a>], key: &str) -> Result<&'v Value<'a>, Flaw>
+    ensures { Gives (λ v. view v.now) result (member_at key.now (object_view object.now)) }
 {
     get(object, key).ok_or(Flaw::Shape)
 }
@@ -29,8 +29,8 @@ pub(crate) fn integer_of(value: &Value<'_>) -> Result<i64, Flaw>
     json_data::integer(value).ok_or(Flaw::Shape)
 }
 
-pub(crate) fn integer(object: &Value<'_>, key: &str) -> Result<i64, Flaw>
-    ensures { result ≡ integer_at key.now (view object.now) }
+pub(crate) fn integer(object: &[Member<'_>], key: &str) -> Result<i64, Flaw>
+    ensures { result ≡ integer_at key.now (object_view object.now) }
 {
     integer_of(member(object, key)?)
 }
@@ -54,15 +54,15 @@ pub(crate) fn word_of(value: &Value<'_>) -> Result<u32, Flaw>
     number_within(value, 0, u32::MAX)
 }
 
-pub(crate) fn word(object: &Value<'_>, key: &str) -> Result<u32, Flaw>
-    ensures { result ≡ word_at key.now (view object.now) }
+pub(crate) fn word(object: &[Member<'_>], key: &str) -> Result<u32, Flaw>
+    ensures { result ≡ word_at key.now (object_view object.now) }
 {
     word_of(member(object, key)?)
 }
 
 /// The text at a key.
-pub(crate) fn text<'a>(object: &Value<'a>, key: &str) -> Result<&'a str, Flaw>
-    ensures { Gives (λ t. t.now) result (text_at key.now (view object.now)) }
+pub(crate) fn text<'a>(object: &[Member<'a>], key: &str) -> Result<&'a str, Flaw>
+    ensures { Gives (λ t. t.now) result (text_at key.now (object_view object.now)) }
 {
     text_of(member(object, key)?)
 }
@@ -82,8 +82,8 @@ pub(crate) fn text_of<'a>(value: &Value<'a>) -> Result<&'a str, Flaw>
 }
 
 /// There is no other key than these.
-pub(crate) fn only(object: &Value<'_>, keys: &[&str]) -> Result<(), Flaw>
-    ensures { result ≡ only (map (λ k. k.now) keys.now) (view object.now) }
+pub(crate) fn only(object: &[Member<'_>], keys: &[&str]) -> Result<(), Flaw>
+    ensures { result ≡ only (map (λ k. k.now) keys.now) (object_view object.now) }
 {
     if has_only(object, keys) {
         Ok(())
@@ -92,13 +92,10 @@ pub(crate) fn only(object: &Value<'_>, keys: &[&str]) -> Result<(), Flaw>
     }
 }
 
-/// The value is an object.
-pub(crate) fn object_of(value: &Value<'_>) -> Result<(), Flaw>
-    ensures { result ≡ object_of (view value.now) }
+/// The members of an object.
+pub(crate) fn object_of<'v, 'a>(value: &'v Value<'a>) -> Result<&'v [Member<'a>], Flaw>
+    ensures shape { seen (λ _. tt) result ≡ object_of (view value.now) }
+    ensures members { IfOk result (λ members. object_view members.now ≡ view value.now) }
 {
-    if is_object(value) {
-        Ok(())
-    } else {
-        Err(Flaw::Shape)
-    }
+    object(value).ok_or(Flaw::Shape)
 }

@@ -5,6 +5,7 @@ mod acts;
 mod arrays;
 mod fault;
 mod fields;
+mod members;
 mod names;
 mod one_step;
 mod parsing;

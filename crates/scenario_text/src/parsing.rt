@@ -1,6 +1,6 @@
 //! Bytes to a scenario.
 ghost use Rattle.std.specs.Prelude.{List, ℕ, Result, Ok, ◌≡◌, ◌≢◌, ◌≤◌, length, IfOk, IfErr, codes, pos};
-ghost use Rattle.json_data.specs.Reading.{view, items_view};
+ghost use Rattle.json_data.specs.Reading.{view, items_view, object_view};
 ghost use Rattle.scenario_text.specs.Fields.{Gives, integer_of, optional_at};
 ghost use Rattle.scenario_text.specs.Plan.{Plan, most_steps, asked};
 ghost use Rattle.scenario_text.specs.declared.fault.Fault.{Fault};
@@ -16,7 +16,7 @@ use crate::step_list::StepList;
 use crate::steps::step_of;
 use crate::streaming::stream;
 use json::{Scratch, Value};
-use json_data::{Refusal, from_str, get};
+use json_data::{Member, Refusal, from_str, get};
 use pid_blocks::Uid;
 use requests::PlainStep;
 use std::alloc::Global;
@@ -71,10 +71,10 @@ fn steps_of(alloc: Global, items: &[Value<'_>]) -> Result<StepList, Fault>
     Ok(steps)
 }
 
-fn kill_at(value: &Value<'_>) -> Result<i64, Flaw>
-    ensures { result ≡ optional_at (codes "kill_on_debugger_exit") (pos 1) integer_of (view value.now) }
+fn kill_at(scenario: &[Member<'_>]) -> Result<i64, Flaw>
+    ensures { result ≡ optional_at (codes "kill_on_debugger_exit") (pos 1) integer_of (object_view scenario.now) }
 {
-    match get(value, "kill_on_debugger_exit") {
+    match get(scenario, "kill_on_debugger_exit") {
         Some(value) => integer_of(value),
         None => Ok(1),
     }
@@ -91,15 +91,21 @@ pub(crate) fn settings_of(kill: i64) -> Result<Settings, Flaw>
 }
 
 #[tactic(auto, unfolding(crate::specs::Scenarios::head_of))]
+fn head_with<'v, 'a>(scenario: &'v [Member<'a>]) -> Result<(&'v [Value<'a>], Settings), Flaw>
+    ensures { Gives (λ x. (items_view x.0.now, x.1)) result (head_of (object_view scenario.now)) }
+{
+    let items = items_of(member(scenario, "steps")?)?;
+    let kill = kill_at(scenario)?;
+    only(scenario, &["steps", "kill_on_debugger_exit"])?;
+    let settings = settings_of(kill)?;
+    Ok((items, settings))
+}
+
+#[tactic(auto, unfolding(crate::specs::Scenarios::head_of))]
 fn head_of<'v, 'a>(value: &'v Value<'a>) -> Result<(&'v [Value<'a>], Settings), Flaw>
     ensures { Gives (λ x. (items_view x.0.now, x.1)) result (head_of (view value.now)) }
 {
-    object_of(value)?;
-    let items = items_of(member(value, "steps")?)?;
-    let kill = kill_at(value)?;
-    only(value, &["steps", "kill_on_debugger_exit"])?;
-    let settings = settings_of(kill)?;
-    Ok((items, settings))
+    head_with(object_of(value)?)
 }
 
 #[tactic(auto, using(crate::proofs::StepLemmas::many_steps, crate::proofs::StepLemmas::few_steps))]

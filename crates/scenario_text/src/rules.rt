@@ -1,6 +1,6 @@
 //! The rules of a policy.
 ghost use Rattle.std.specs.Prelude.{◌≡◌, ◌≤◌, length, None, codes};
-ghost use Rattle.json_data.specs.Reading.{view, items_view};
+ghost use Rattle.json_data.specs.Reading.{view, items_view, object_view};
 ghost use Rattle.event_masks.specs.Exits.{no_flags};
 ghost use Rattle.scenario_text.specs.Arrays.{flags_of as flags_in};
 ghost use Rattle.scenario_text.specs.Fields.{each, only, optional_at, name_at};
@@ -12,12 +12,12 @@ use crate::fields::{Flaw, number_within, object_of, only, text};
 use crate::names::{DecisionKind, decision_named};
 use event_masks::StopFlags;
 use json::Value;
-use json_data::get;
+use json_data::{Member, get};
 use signals::{Pass, Signal};
 use stop_handlers::{Decision, Policy, Rule};
 
-fn signal_at(rule: &Value<'_>) -> Result<Option<Signal>, Flaw>
-    ensures { result ≡ optional_at (codes "signal") None some_signal_of (view rule.now) }
+fn signal_at(rule: &[Member<'_>]) -> Result<Option<Signal>, Flaw>
+    ensures { result ≡ optional_at (codes "signal") None some_signal_of (object_view rule.now) }
 {
     match get(rule, "signal") {
         Some(value) => Ok(Some(signal_of(value)?)),
@@ -25,8 +25,8 @@ fn signal_at(rule: &Value<'_>) -> Result<Option<Signal>, Flaw>
     }
 }
 
-fn flags_at(rule: &Value<'_>) -> Result<StopFlags, Flaw>
-    ensures { result ≡ optional_at (codes "flags") no_flags flags_in (view rule.now) }
+fn flags_at(rule: &[Member<'_>]) -> Result<StopFlags, Flaw>
+    ensures { result ≡ optional_at (codes "flags") no_flags flags_in (object_view rule.now) }
 {
     match get(rule, "flags") {
         Some(value) => flags_of(value),
@@ -34,8 +34,8 @@ fn flags_at(rule: &Value<'_>) -> Result<StopFlags, Flaw>
     }
 }
 
-fn pass_number_at(rule: &Value<'_>) -> Result<u32, Flaw>
-    ensures { result ≡ pass_at (view rule.now) }
+fn pass_number_at(rule: &[Member<'_>]) -> Result<u32, Flaw>
+    ensures { result ≡ pass_at (object_view rule.now) }
 {
     match get(rule, "pass") {
         Some(value) => number_within(value, 0, 31),
@@ -44,20 +44,20 @@ fn pass_number_at(rule: &Value<'_>) -> Result<u32, Flaw>
 }
 
 /// The signal that a process is let go on with.
-fn pass_at(rule: &Value<'_>) -> Result<Pass, Flaw>
-    ensures { result ≡ pass_at (view rule.now) }
+fn pass_at(rule: &[Member<'_>]) -> Result<Pass, Flaw>
+    ensures { result ≡ pass_at (object_view rule.now) }
 {
     Pass::new(pass_number_at(rule)?).map_err(|_| Flaw::Number)
 }
 
-fn kind_at(rule: &Value<'_>) -> Result<DecisionKind, Flaw>
-    ensures { result ≡ name_at (codes "decision") decision_named (view rule.now) }
+fn kind_at(rule: &[Member<'_>]) -> Result<DecisionKind, Flaw>
+    ensures { result ≡ name_at (codes "decision") decision_named (object_view rule.now) }
 {
     decision_named(text(rule, "decision")?).ok_or(Flaw::Name)
 }
 
-fn decision_of(rule: &Value<'_>, kind: DecisionKind) -> Result<Decision, Flaw>
-    ensures { result ≡ decision_of kind (view rule.now) }
+fn decision_of(rule: &[Member<'_>], kind: DecisionKind) -> Result<Decision, Flaw>
+    ensures { result ≡ decision_of kind (object_view rule.now) }
 {
     match kind {
         DecisionKind::Decline => Ok(Decision::Decline),
@@ -69,8 +69,8 @@ fn decision_of(rule: &Value<'_>, kind: DecisionKind) -> Result<Decision, Flaw>
 }
 
 /// The rule has no other keys than those with such a decision.
-fn only_rule_keys(rule: &Value<'_>, kind: DecisionKind) -> Result<(), Flaw>
-    ensures { result ≡ only (rule_keys kind) (view rule.now) }
+fn only_rule_keys(rule: &[Member<'_>], kind: DecisionKind) -> Result<(), Flaw>
+    ensures { result ≡ only (rule_keys kind) (object_view rule.now) }
 {
     match kind {
         DecisionKind::Decline | DecisionKind::Leave | DecisionKind::Kill => {
@@ -83,20 +83,26 @@ fn only_rule_keys(rule: &Value<'_>, kind: DecisionKind) -> Result<(), Flaw>
 }
 
 #[tactic(auto, unfolding(crate::specs::Rules::rule_of))]
-fn rule_of(value: &Value<'_>) -> Result<Rule, Flaw>
-    ensures { result ≡ rule_of (view value.now) }
+fn rule_with(rule: &[Member<'_>]) -> Result<Rule, Flaw>
+    ensures { result ≡ rule_of (object_view rule.now) }
 {
-    object_of(value)?;
-    let signal = signal_at(value)?;
-    let flags = flags_at(value)?;
-    let kind = kind_at(value)?;
-    let decision = decision_of(value, kind)?;
-    only_rule_keys(value, kind)?;
+    let signal = signal_at(rule)?;
+    let flags = flags_at(rule)?;
+    let kind = kind_at(rule)?;
+    let decision = decision_of(rule, kind)?;
+    only_rule_keys(rule, kind)?;
     Ok(Rule {
         signal,
         flags,
         decision,
     })
+}
+
+#[tactic(auto, unfolding(crate::specs::Rules::rule_of))]
+fn rule_of(value: &Value<'_>) -> Result<Rule, Flaw>
+    ensures { result ≡ rule_of (view value.now) }
+{
+    rule_with(object_of(value)?)
 }
 
 /// The policy of an array of at most 16 rules.

@@ -1,6 +1,6 @@
 //! A step of a scenario: its user, its op, and the keys of that op.
 ghost use Rattle.std.specs.Prelude.{◌≡◌, codes};
-ghost use Rattle.json_data.specs.Reading.{view};
+ghost use Rattle.json_data.specs.Reading.{view, object_view};
 ghost use Rattle.requests.specs.Handle.{no_options};
 ghost use Rattle.scenario_text.specs.Arrays.{options_of as options_in};
 ghost use Rattle.scenario_text.specs.Fields.{name_at, optional_at, Gives};
@@ -15,14 +15,14 @@ use crate::names::{Op, disposition_named, op_named};
 use crate::rules::rules_of;
 use crate::tracing::ptrace_of;
 use json::Value;
-use json_data::get;
+use json_data::{Member, get};
 use pid_blocks::Uid;
 use requests::PlainStep;
 use signals::Disposition;
 use wait4::Options;
 
-fn user_at(step: &Value<'_>) -> Result<Uid, Flaw>
-    ensures { result ≡ user_at (view step.now) }
+fn user_at(step: &[Member<'_>]) -> Result<Uid, Flaw>
+    ensures { result ≡ user_at (object_view step.now) }
 {
     let number = integer(step, "user")?;
     if 1001 <= number && number <= 1064 {
@@ -32,22 +32,22 @@ fn user_at(step: &Value<'_>) -> Result<Uid, Flaw>
     }
 }
 
-fn op_at(step: &Value<'_>) -> Result<Op, Flaw>
-    ensures { result ≡ name_at (codes "op") op_named (view step.now) }
+fn op_at(step: &[Member<'_>]) -> Result<Op, Flaw>
+    ensures { result ≡ name_at (codes "op") op_named (object_view step.now) }
 {
     op_named(text(step, "op")?).ok_or(Flaw::Name)
 }
 
 #[tactic(auto, unfolding(crate::specs::Steps::spawn_of))]
-fn spawn_of(step: &Value<'_>) -> Result<PlainStep, Flaw>
-    ensures { result ≡ spawn_of (view step.now) }
+fn spawn_of(step: &[Member<'_>]) -> Result<PlainStep, Flaw>
+    ensures { result ≡ spawn_of (object_view step.now) }
 {
     only(step, &["user", "op"])?;
     Ok(PlainStep::Spawn)
 }
 
-fn options_at(step: &Value<'_>) -> Result<Options, Flaw>
-    ensures { result ≡ optional_at (codes "options") no_options options_in (view step.now) }
+fn options_at(step: &[Member<'_>]) -> Result<Options, Flaw>
+    ensures { result ≡ optional_at (codes "options") no_options options_in (object_view step.now) }
 {
     match get(step, "options") {
         Some(value) => options_of(value),
@@ -59,8 +59,8 @@ fn options_at(step: &Value<'_>) -> Result<Options, Flaw>
 }
 
 #[tactic(auto, unfolding(crate::specs::Steps::wait4_of))]
-fn wait4_of(step: &Value<'_>) -> Result<PlainStep, Flaw>
-    ensures { result ≡ wait4_of (view step.now) }
+fn wait4_of(step: &[Member<'_>]) -> Result<PlainStep, Flaw>
+    ensures { result ≡ wait4_of (object_view step.now) }
 {
     let caller = word(step, "caller")?;
     let which = integer(step, "which")?;
@@ -74,8 +74,8 @@ fn wait4_of(step: &Value<'_>) -> Result<PlainStep, Flaw>
 }
 
 #[tactic(auto, unfolding(crate::specs::Steps::kill_of))]
-fn kill_of(step: &Value<'_>) -> Result<PlainStep, Flaw>
-    ensures { result ≡ kill_of (view step.now) }
+fn kill_of(step: &[Member<'_>]) -> Result<PlainStep, Flaw>
+    ensures { result ≡ kill_of (object_view step.now) }
 {
     let caller = word(step, "caller")?;
     let which = integer(step, "which")?;
@@ -84,15 +84,15 @@ fn kill_of(step: &Value<'_>) -> Result<PlainStep, Flaw>
     Ok(PlainStep::Kill { caller, which, sig })
 }
 
-fn disposition_at(step: &Value<'_>) -> Result<Disposition, Flaw>
-    ensures { result ≡ name_at (codes "action") disposition_named (view step.now) }
+fn disposition_at(step: &[Member<'_>]) -> Result<Disposition, Flaw>
+    ensures { result ≡ name_at (codes "action") disposition_named (object_view step.now) }
 {
     disposition_named(text(step, "action")?).ok_or(Flaw::Name)
 }
 
 #[tactic(auto, unfolding(crate::specs::Steps::sigaction_of))]
-fn sigaction_of(step: &Value<'_>) -> Result<PlainStep, Flaw>
-    ensures { result ≡ sigaction_of (view step.now) }
+fn sigaction_of(step: &[Member<'_>]) -> Result<PlainStep, Flaw>
+    ensures { result ≡ sigaction_of (object_view step.now) }
 {
     let caller = word(step, "caller")?;
     let sig = word(step, "signal")?;
@@ -106,8 +106,8 @@ fn sigaction_of(step: &Value<'_>) -> Result<PlainStep, Flaw>
 }
 
 #[tactic(auto, unfolding(crate::specs::Steps::list_of))]
-fn list_of(step: &Value<'_>) -> Result<PlainStep, Flaw>
-    ensures { result ≡ list_of (view step.now) }
+fn list_of(step: &[Member<'_>]) -> Result<PlainStep, Flaw>
+    ensures { result ≡ list_of (object_view step.now) }
 {
     let caller = word(step, "caller")?;
     only(step, &["user", "op", "caller"])?;
@@ -115,8 +115,8 @@ fn list_of(step: &Value<'_>) -> Result<PlainStep, Flaw>
 }
 
 #[tactic(auto, unfolding(crate::specs::Steps::install_of))]
-fn install_of(step: &Value<'_>) -> Result<PlainStep, Flaw>
-    ensures { result ≡ install_of (view step.now) }
+fn install_of(step: &[Member<'_>]) -> Result<PlainStep, Flaw>
+    ensures { result ≡ install_of (object_view step.now) }
 {
     let caller = word(step, "caller")?;
     let items = items_of(member(step, "rules")?)?;
@@ -129,8 +129,8 @@ fn install_of(step: &Value<'_>) -> Result<PlainStep, Flaw>
 }
 
 #[tactic(auto, unfolding(crate::specs::Steps::handle_of))]
-fn handle_of(step: &Value<'_>) -> Result<PlainStep, Flaw>
-    ensures { result ≡ handle_of (view step.now) }
+fn handle_of(step: &[Member<'_>]) -> Result<PlainStep, Flaw>
+    ensures { result ≡ handle_of (object_view step.now) }
 {
     let caller = word(step, "caller")?;
     only(step, &["user", "op", "caller"])?;
@@ -138,8 +138,8 @@ fn handle_of(step: &Value<'_>) -> Result<PlainStep, Flaw>
 }
 
 #[tactic(auto, unfolding(crate::specs::Steps::turn_of))]
-fn turn_of(step: &Value<'_>) -> Result<PlainStep, Flaw>
-    ensures { result ≡ turn_of (view step.now) }
+fn turn_of(step: &[Member<'_>]) -> Result<PlainStep, Flaw>
+    ensures { result ≡ turn_of (object_view step.now) }
 {
     let tid = word(step, "lwp")?;
     let act = act_at(step)?;
@@ -147,8 +147,8 @@ fn turn_of(step: &Value<'_>) -> Result<PlainStep, Flaw>
 }
 
 /// What the step does, with the keys of its op.
-fn rest_of(step: &Value<'_>, op: Op) -> Result<PlainStep, Flaw>
-    ensures { result ≡ rest_of op (view step.now) }
+fn rest_of(step: &[Member<'_>], op: Op) -> Result<PlainStep, Flaw>
+    ensures { result ≡ rest_of op (object_view step.now) }
 {
     match op {
         Op::Spawn => spawn_of(step),
@@ -163,14 +163,21 @@ fn rest_of(step: &Value<'_>, op: Op) -> Result<PlainStep, Flaw>
     }
 }
 
+/// The step with these keys, or its first flaw.
+#[tactic(auto, unfolding(crate::specs::Steps::step_of))]
+pub(crate) fn step_with(step: &[Member<'_>]) -> Result<(Uid, PlainStep), Flaw>
+    ensures { Gives asked result (step_of (object_view step.now)) }
+{
+    let user = user_at(step)?;
+    let op = op_at(step)?;
+    let rest = rest_of(step, op)?;
+    Ok((user, rest))
+}
+
 /// The step that a JSON value is, or its first flaw.
 #[tactic(auto, unfolding(crate::specs::Steps::step_of))]
 pub(crate) fn step_of(value: &Value<'_>) -> Result<(Uid, PlainStep), Flaw>
     ensures { Gives asked result (step_of (view value.now)) }
 {
-    object_of(value)?;
-    let user = user_at(value)?;
-    let op = op_at(value)?;
-    let step = rest_of(value, op)?;
-    Ok((user, step))
+    step_with(object_of(value)?)
 }

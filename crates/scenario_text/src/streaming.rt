@@ -11,27 +11,33 @@ ghost use Rattle.scenario_text.specs.Plan.{most_steps};
 ghost use Rattle.scenario_text.specs.Scenarios.{plan_of, settings_of};
 ghost use Rattle.scenario_text.specs.Streams.{IsArrayOfSteps, IsInteger, IsNextStep, IsScenario, text_of};
 
-use crate::parsing::{push_step, settings_of};
+use crate::members::read_members;
+use crate::parsing::settings_of;
 use crate::plan::{MOST_STEPS, Scenario};
 use crate::step_list::StepList;
+use crate::steps::step_with;
 use json::{Reader, Scratch, Token};
-use json_data::{integer, next_value};
+use json_data::{Member, integer, next_value};
 use std::alloc::Global;
 
 /// How deep arrays and objects nest in a text.
-const MAX_DEPTH: usize = 127;
+pub(crate) const MAX_DEPTH: usize = 127;
 
-/// Adds the step of the item that comes next, where it is one without a fault.
-fn read_step<'a>(alloc: Global, reader: &mut Reader<'a>, steps: &mut StepList) -> Option<()>
-    requires { length steps.old < most_steps }
+/// Adds the step of the item that comes next, where it is one without a fault. Its members stand in `members` meanwhile.
+fn read_step<'a>(
+    alloc: Global,
+    reader: &mut Reader<'a>,
+    members: &mut Vec<Member<'a>>,
+    steps: &mut StepList,
+) -> Option<()>
     ensures step { OnSome result (IsNextStep steps.old steps.new reader.old reader.new) }
     ensures one { OnSome result (length steps.new ≡ length steps.old + 1) }
 {
-    let Ok(value) = next_value(alloc, reader, MAX_DEPTH - 2) else {
+    read_members(alloc, reader, members)?;
+    let Ok((user, step)) = step_with(members.as_slice()) else {
         return None;
     };
-    let number = steps.len() as u32 + 1;
-    match push_step(steps, &value, number) {
+    match steps.push(user, step) {
         Ok(()) => Some(()),
         Err(_) => None,
     }
@@ -56,11 +62,12 @@ fn read_steps<'a>(alloc: Global, reader: &mut Reader<'a>) -> Option<StepList>
         return None;
     };
     let mut steps = StepList::new(alloc);
+    let mut members = Vec::new(alloc);
     'items: while !reader.take_end_array() {
         if steps.len() == MOST_STEPS {
             return None;
         }
-        read_step(alloc, reader, &mut steps)?;
+        read_step(alloc, reader, &mut members, &mut steps)?;
     }
     Some(steps)
 }

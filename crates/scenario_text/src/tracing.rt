@@ -1,6 +1,6 @@
 //! What a debugger asks by ptrace(2).
 ghost use Rattle.std.specs.Prelude.{◌≡◌, codes};
-ghost use Rattle.json_data.specs.Reading.{view};
+ghost use Rattle.json_data.specs.Reading.{object_view};
 ghost use Rattle.scenario_text.specs.Fields.{name_at, optional_at, word_of as word_in};
 ghost use Rattle.scenario_text.specs.Names.{request_named};
 ghost use Rattle.scenario_text.specs.Tracing.{trace_me_of, set_event_mask_of, request_of, asked_of, ptrace_of};
@@ -8,18 +8,17 @@ ghost use Rattle.scenario_text.specs.Tracing.{trace_me_of, set_event_mask_of, re
 use crate::arrays::mask_of;
 use crate::fields::{Flaw, member, only, text, word, word_of};
 use crate::names::request_named;
-use json::Value;
-use json_data::get;
+use json_data::{Member, get};
 use requests::{PlainStep, Request};
 
-fn request_at(step: &Value<'_>) -> Result<Request, Flaw>
-    ensures { result ≡ name_at (codes "request") request_named (view step.now) }
+fn request_at(step: &[Member<'_>]) -> Result<Request, Flaw>
+    ensures { result ≡ name_at (codes "request") request_named (object_view step.now) }
 {
     request_named(text(step, "request")?).ok_or(Flaw::Name)
 }
 
-fn data_at(step: &Value<'_>) -> Result<u32, Flaw>
-    ensures { result ≡ optional_at (codes "data") 0 word_in (view step.now) }
+fn data_at(step: &[Member<'_>]) -> Result<u32, Flaw>
+    ensures { result ≡ optional_at (codes "data") 0 word_in (object_view step.now) }
 {
     match get(step, "data") {
         Some(value) => word_of(value),
@@ -28,8 +27,8 @@ fn data_at(step: &Value<'_>) -> Result<u32, Flaw>
 }
 
 #[tactic(auto, unfolding(crate::specs::Tracing::trace_me_of))]
-fn trace_me_of(step: &Value<'_>, caller: u32) -> Result<PlainStep, Flaw>
-    ensures { result ≡ trace_me_of caller (view step.now) }
+fn trace_me_of(step: &[Member<'_>], caller: u32) -> Result<PlainStep, Flaw>
+    ensures { result ≡ trace_me_of caller (object_view step.now) }
 {
     only(step, &["user", "op", "caller", "request"])?;
     Ok(PlainStep::Ptrace {
@@ -41,8 +40,8 @@ fn trace_me_of(step: &Value<'_>, caller: u32) -> Result<PlainStep, Flaw>
 }
 
 #[tactic(auto, unfolding(crate::specs::Tracing::set_event_mask_of))]
-fn set_event_mask_of(step: &Value<'_>, caller: u32) -> Result<PlainStep, Flaw>
-    ensures { result ≡ set_event_mask_of caller (view step.now) }
+fn set_event_mask_of(step: &[Member<'_>], caller: u32) -> Result<PlainStep, Flaw>
+    ensures { result ≡ set_event_mask_of caller (object_view step.now) }
 {
     let target = word(step, "target")?;
     let mask = mask_of(member(step, "mask")?)?;
@@ -57,8 +56,8 @@ fn set_event_mask_of(step: &Value<'_>, caller: u32) -> Result<PlainStep, Flaw>
 
 /// A request with a target and data.
 #[tactic(auto, unfolding(crate::specs::Tracing::request_of))]
-fn request_of(step: &Value<'_>, caller: u32, request: Request) -> Result<PlainStep, Flaw>
-    ensures { result ≡ request_of caller request (view step.now) }
+fn request_of(step: &[Member<'_>], caller: u32, request: Request) -> Result<PlainStep, Flaw>
+    ensures { result ≡ request_of caller request (object_view step.now) }
 {
     let target = word(step, "target")?;
     let data = data_at(step)?;
@@ -71,8 +70,8 @@ fn request_of(step: &Value<'_>, caller: u32, request: Request) -> Result<PlainSt
     })
 }
 
-fn asked_of(step: &Value<'_>, caller: u32, request: Request) -> Result<PlainStep, Flaw>
-    ensures { result ≡ asked_of caller request (view step.now) }
+fn asked_of(step: &[Member<'_>], caller: u32, request: Request) -> Result<PlainStep, Flaw>
+    ensures { result ≡ asked_of caller request (object_view step.now) }
 {
     match request {
         Request::TraceMe => trace_me_of(step, caller),
@@ -83,8 +82,8 @@ fn asked_of(step: &Value<'_>, caller: u32, request: Request) -> Result<PlainStep
 
 /// A ptrace, with the keys of its request.
 #[tactic(auto, unfolding(crate::specs::Tracing::ptrace_of))]
-pub(crate) fn ptrace_of(step: &Value<'_>) -> Result<PlainStep, Flaw>
-    ensures { result ≡ ptrace_of (view step.now) }
+pub(crate) fn ptrace_of(step: &[Member<'_>]) -> Result<PlainStep, Flaw>
+    ensures { result ≡ ptrace_of (object_view step.now) }
 {
     let caller = word(step, "caller")?;
     let request = request_at(step)?;
