@@ -1,6 +1,9 @@
 //! From tokens to values.
-ghost use Rattle.std.specs.Prelude.{◌≡◌, ◌<◌, Some, None, Err, IfOk, OnOk, length, IsUtf8};
+ghost use Rattle.std.specs.Prelude.{◌≡◌, ◌<◌, Some, None, Err, IfOk, OnOk, IsTrue, ◌⊎◌, length, IsUtf8};
 ghost use Rattle.json.specs.Json.{value};
+ghost use Rattle.json.specs.Lex.{tokens};
+ghost use Rattle.json.specs.Reads.{opens};
+ghost use Rattle.json.specs.Scratch.{room};
 ghost use Rattle.json.specs.Value.{value_view, items_view, members_view};
 ghost use Rattle.serde_json.specs.Read.{of_json, converted, read};
 ghost use Rattle.json_data.specs.Reading.{view, in_range, items_in_range, members_in_range};
@@ -68,7 +71,8 @@ fn members_in_range<'a>(members: &Vec<(&'a str, Value<'a>)>) -> bool
     true
 }
 
-/// The next value of the reader, as `serde_json` reads it. Arrays and objects may nest `depth` deep.
+/// The next value of the reader, as `serde_json` reads it. Arrays and objects may nest `depth` deep. Only such a one needs
+/// memory. After a refusal the reader stands somewhere behind where it stood, or has no more tokens.
 pub fn next_value<'a>(
     alloc: Global,
     reader: &mut Reader<'a>,
@@ -77,6 +81,7 @@ pub fn next_value<'a>(
     ensures ok { IfOk result (λ v. (value depth reader.old ≡ Some (value_view v, reader.new)) × (of_json (value_view v) ≡ Some (view v))) }
     ensures shorter { OnOk result (length reader.new < length reader.old) }
     ensures invalid { result ≡ Err Refusal.Invalid → converted of_json (value depth reader.old) ≡ None }
+    ensures memory { result ≡ Err Refusal.Memory → IsTrue (opens reader.old) }
 {
     let value = Value::read(alloc, reader, depth)?;
     if numbers_in_range(&value) {
@@ -97,6 +102,7 @@ pub fn from_str<'a>(
 ) -> Result<Value<'a>, Refusal>
     ensures ok { IfOk result (λ v. read text.now ≡ Some (view v)) }
     ensures invalid { result ≡ Err Refusal.Invalid → read text.now ≡ None }
+    ensures memory { result ≡ Err Refusal.Memory → IsTrue (opens (tokens text.now)) ⊎ (room scratch.old < length text.now) }
 {
     let Ok(mut reader) = Reader::new(text, scratch) else {
         return Err(Refusal::Memory);
@@ -116,6 +122,7 @@ pub fn from_slice<'a>(
 ) -> Result<Value<'a>, Refusal>
     ensures ok { IfOk result (λ v. IsUtf8 bytes.now × (read bytes.now ≡ Some (view v))) }
     ensures invalid { result ≡ Err Refusal.Invalid → IsUtf8 bytes.now → read bytes.now ≡ None }
+    ensures memory { result ≡ Err Refusal.Memory → IsTrue (opens (tokens bytes.now)) ⊎ (room scratch.old < length bytes.now) }
 {
     match std::str::from_utf8(bytes) {
         Ok(text) => from_str(alloc, text, scratch),
