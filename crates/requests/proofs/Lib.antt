@@ -39,3 +39,4 @@ pub mod Handling
 pub mod StaysSound
 pub mod Handled
 pub mod Joins
+pub mod Making

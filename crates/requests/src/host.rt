@@ -1,10 +1,12 @@
 //! A host, and the steps that it makes.
 
-ghost use Rattle.std.specs.Prelude.{◌≡◌, true, IfOk, IfErr, option_map, slice_get};
+ghost use Rattle.std.specs.Prelude.{◌≡◌, None, true, IfOk, IfErr, option_map, slice_get};
 ghost use Rattle.pid_blocks.specs.Users.{IsUser};
 ghost use Rattle.requests.specs.declared.step.Step.TheVariants as op;
 ghost use Rattle.requests.specs.Callers.{Calls, Barred};
 ghost use Rattle.requests.specs.Hosts.{Steps};
+ghost use Rattle.requests.specs.Making.{Makes};
+ghost use Rattle.requests.specs.Plain.{with_handler};
 ghost use Rattle.requests.specs.Laws.{act_fits};
 ghost use Rattle.requests.specs.Machine.{empty, installed_by};
 ghost use Rattle.requests.specs.Sound.{sound};
@@ -273,35 +275,50 @@ impl<F: Decider + Send + Drop> Host<F> {
         reply
     }
 
-    /// Makes a step of the user. Refused as the manual page of its call says, and with ENOMEM where memory runs out;
-    /// a step that is refused changes nothing.
-    pub fn step(&mut self, alloc: Global, user: Uid, asked: Step<Handler<F>>) -> Reply
-        ensures { Steps user asked self.old self.new result }
+    /// Makes a step of the user, as `step` does, where it needs no handler. `None` is an install, and changes nothing.
+    pub fn make<H>(&mut self, alloc: Global, user: Uid, asked: &Step<H>) -> Option<Reply>
+        ensures { Makes user (with_handler None asked.now) self.old self.new result }
     {
         let _user = user.get();
-        match asked {
-            Step::Spawn => self.spawn(user),
-            Step::List { caller } => self.list(alloc, user, caller),
+        match *asked {
+            Step::Spawn => Some(self.spawn(user)),
+            Step::List { caller } => Some(self.list(alloc, user, caller)),
             Step::Sigaction {
                 caller,
                 sig,
                 disposition,
-            } => self.sigaction(user, caller, sig, disposition),
-            Step::Kill { caller, which, sig } => self.kill(user, caller, which, sig),
+            } => Some(self.sigaction(user, caller, sig, disposition)),
+            Step::Kill { caller, which, sig } => Some(self.kill(user, caller, which, sig)),
             Step::Wait4 {
                 caller,
                 which,
                 options,
-            } => self.wait(user, caller, which, options),
-            Step::Install { caller, handler } => self.install(user, caller, handler),
-            Step::Handle { caller } => self.handle(user, caller),
+            } => Some(self.wait(user, caller, which, options)),
+            Step::Install { .. } => None,
+            Step::Handle { caller } => Some(self.handle(user, caller)),
             Step::Ptrace {
                 caller,
                 request,
                 target,
                 data,
-            } => self.ptrace(alloc, user, caller, request, target, data),
-            Step::Turn { tid, act } => self.turn(user, tid, act),
+            } => Some(self.ptrace(alloc, user, caller, request, target, data)),
+            Step::Turn { tid, act } => Some(self.turn(user, tid, act)),
         }
+    }
+
+    /// Makes a step of the user. Refused as the manual page of its call says, and with ENOMEM where memory runs out;
+    /// a step that is refused changes nothing.
+    #[tactic(auto, using(crate::proofs::Making::steps_made))]
+    pub fn step(&mut self, alloc: Global, user: Uid, asked: Step<Handler<F>>) -> Reply
+        ensures { Steps user asked self.old self.new result }
+    {
+        let _user = user.get();
+        if let Some(reply) = self.make(alloc, user, &asked) {
+            return reply;
+        }
+        let Step::Install { caller, handler } = asked else {
+            unreachable!()
+        };
+        self.install(user, caller, handler)
     }
 }

@@ -1,0 +1,20 @@
+-- A step that was made with no handler, as a step.
+use Rattle.std.proofs.Common.{◌≡◌, ℕ, List, Option, Some, None}
+use Rattle.stop_handlers.specs.declared.Rule.{Rule}
+use Rattle.requests.specs.declared.Reply.{Reply}
+use Rattle.requests.specs.declared.step.Step.TheVariants as op
+use Rattle.requests.specs.Hosts.{Steps}
+use Rattle.requests.specs.Making.{Makes}
+use Rattle.requests.specs.Machine.{Machine}
+use Rattle.requests.specs.Plain.{PlainStep, with_handler}
+
+pub steps_made : (u : ℕ) (s : PlainStep) (m n : Machine) (r : Reply) → Makes u (with_handler {B = List Rule} None s) m n (Some r) → Steps u s m n r
+steps_made u op.Spawn m n r h = h
+steps_made u (op.List caller) m n r h = h
+steps_made u (op.Sigaction caller sig disposition) m n r h = h
+steps_made u (op.Kill caller which sig) m n r h = h
+steps_made u (op.Wait4 caller which options) m n r h = h
+steps_made u (op.Install caller own) m n r h = let none = h.0 in absurd (cc)
+steps_made u (op.Handle caller) m n r h = h
+steps_made u (op.Ptrace caller request target «data») m n r h = h
+steps_made u (op.Turn tid act) m n r h = h

@@ -1,0 +1,12 @@
+-- A step that may need a handler, where none is given.
+use Rattle.std.specs.Prelude.{⊥, ◌≡◌, ℕ, Option, Some, None}
+use Rattle.requests.specs.declared.Reply.{Reply}
+use Rattle.requests.specs.Hosts.{Steps}
+use Rattle.requests.specs.Machine.{Machine}
+use Rattle.requests.specs.Plain.{PlainStep}
+
+-- what a user's step makes of a host, and its answer; a step that needs a handler is not made
+abbrev pub Makes : ℕ → Option PlainStep → Machine → Machine → Option Reply → Type 0
+Makes u None m n r = (r ≡ None) × (n ≡ m)
+Makes u (Some s) m n None = ⊥
+Makes u (Some s) m n (Some r) = Steps u s m n r
