@@ -62,9 +62,14 @@ pub fn array<'v, 'a>(value: &'v Value<'a>) -> Option<&'v [Value<'a>]>
     }
 }
 
-fn is_among(key: &str, keys: &[&str]) -> bool
+/// Whether the key is one of these. It is looked for at the index first, since members mostly stand in the order of the
+/// keys.
+fn is_among(key: &str, keys: &[&str], index: usize) -> bool
     ensures { result ≡ list_any (bytes_eq key.now) (map (λ k. k.now) keys.now) }
 {
+    if index < keys.len() && key == keys[index] {
+        return true;
+    }
     for other in keys {
         if key == *other {
             return true;
@@ -77,8 +82,8 @@ fn is_among(key: &str, keys: &[&str]) -> bool
 pub fn has_only(object: &[Member<'_>], keys: &[&str]) -> bool
     ensures { result ≡ has_only (map (λ k. k.now) keys.now) (object_view object.now) }
 {
-    for member in object {
-        if !is_among(member.0, keys) {
+    for i in 0..object.len() {
+        if !is_among(object[i].0, keys, i) {
             return false;
         }
     }

@@ -1,5 +1,5 @@
 //! Numbers by their texts.
-ghost use Rattle.std.specs.Prelude.{◌≡◌, ◌<◌, ◌^◌, ◌==◌, true, false, Some, IfSome, is_some, option_and_then, slice_index};
+ghost use Rattle.std.specs.Prelude.{◌≡◌, ◌<◌, ◌^◌, ◌==◌, true, false, Some, IfSome, IsTrue, is_some, option_and_then, slice_index};
 ghost use Rattle.serde_json.specs.Data.{unsigned as unsigned_number};
 ghost use Rattle.serde_json.specs.Find.{as_i64};
 ghost use Rattle.serde_json.specs.Read.{number_of, number_from, float_of};
@@ -49,6 +49,21 @@ fn few_digits(bytes: &[u8]) -> Option<u64>
     Some(number)
 }
 
+/// Whether these are digits, and so few that they are a whole number.
+fn are_few_digits(bytes: &[u8]) -> bool
+    ensures { IsTrue result → is_some (number_of bytes.now) ≡ true }
+{
+    if bytes.is_empty() || bytes.len() > 18 {
+        return false;
+    }
+    for byte in bytes {
+        if !byte.is_ascii_digit() {
+            return false;
+        }
+    }
+    true
+}
+
 /// The whole number that a text is, where it fits 64 bits with a sign.
 pub(crate) fn integer_of(text: &str) -> Option<i64>
     ensures { result ≡ option_and_then as_i64 (number_of text.now) }
@@ -86,7 +101,7 @@ fn negative_in_range(numeral: &Numeral<'_>) -> bool
 pub(crate) fn is_in_range(text: &str) -> bool
     ensures { result ≡ is_some (number_of text.now) }
 {
-    few_digits(text.as_bytes()).is_some() || any_is_in_range(text)
+    are_few_digits(text.as_bytes()) || any_is_in_range(text)
 }
 
 fn any_is_in_range(text: &str) -> bool
