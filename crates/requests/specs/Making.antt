@@ -1,5 +1,5 @@
 -- A step that may need a handler, where none is given.
-use Rattle.std.specs.Prelude.{⊥, ◌≡◌, ℕ, Option, Some, None}
+use Rattle.std.specs.Prelude.{◌≡◌, ℕ, Option, Some, None}
 use Rattle.requests.specs.declared.Reply.{Reply}
 use Rattle.requests.specs.Hosts.{Steps}
 use Rattle.requests.specs.Machine.{Machine}

@@ -1,6 +1,8 @@
 //! Runs a scenario, and writes its lines.
 ghost use Rattle.std.specs.Prelude.{◌≡◌, ◌≢◌, ◌⊎◌, ◌↔◌, IsErrOf, map, IfOk, IfErr};
+ghost use Rattle.std.specs.Vec.Iter.{into_iter_items};
 ghost use Rattle.scenario_text.specs.Plan.{policies_in};
+ghost use Rattle.scenario.specs.Binding.{IsAnswered};
 ghost use Rattle.scenario.specs.Runs.{answered, answers_of, shown, Writes};
 ghost use Rattle.scenario.specs.Faults.{run_fault_status};
 ghost use Rattle.scenario.specs.declared.running.RunFault.TheVariants.{Mismatch, Memory, Start, Write as WriteFault};
@@ -11,9 +13,10 @@ use crate::retrying::write_some;
 use crate::style::Style;
 use pid_blocks::Uid;
 use requests::{Host, Reply};
-use scenario_text::Scenario;
+use scenario_text::{Scenario, StepShape};
 use std::alloc::{AllocError, AllocFailed, Global};
 use std::io::Write;
+use std::vec::IntoIter;
 use stop_handlers::{Decider, Handler};
 use thiserror::Error;
 
@@ -61,6 +64,24 @@ impl<T: Drop> From<AllocFailed<T>> for RunFault {
     }
 }
 
+/// The host's reply to the step, which is made with the next handler where it is an install.
+#[tactic(auto, using(crate::proofs::BindLemmas::needs_none))]
+fn reply_of<F: Decider + Send + Drop>(
+    alloc: Global,
+    host: &mut Host<F>,
+    user: Uid,
+    shape: &StepShape,
+    handlers: &mut IntoIter<Handler<F>>,
+) -> Option<Reply>
+    ensures { IsAnswered user shape.now (into_iter_items handlers.old) (into_iter_items handlers.new) host.old host.new result }
+{
+    if let Some(reply) = host.make(alloc, user, shape) {
+        return Some(reply);
+    }
+    let step = bound_step(shape, handlers)?;
+    Some(host.step(alloc, user, step))
+}
+
 /// The replies to the scenario's steps, made one after another by a new host. A step that is answered ENOMEM ends the run.
 fn replies_of<F: Decider + Send + Drop>(
     alloc: Global,
@@ -76,10 +97,9 @@ fn replies_of<F: Decider + Send + Drop>(
     let mut host = Host::new(alloc, scenario.settings())?;
     let mut rest = handlers.into_iter();
     for shape in shapes {
-        let Some(step) = bound_step(&shape.1, &mut rest) else {
+        let Some(reply) = reply_of(alloc, &mut host, shape.0, &shape.1, &mut rest) else {
             unreachable!()
         };
-        let reply = host.step(alloc, shape.0, step);
         if reply.is_memory() {
             return Err(RunFault::Memory);
         }

@@ -1,4 +1,4 @@
-use Rattle.std.proofs.Common.{◌≡◌, ◌+◌, ◌∙◌, List, drop, Some, None, ap, sym, rules, arith}
+use Rattle.std.proofs.Common.{◌≡◌, ◌+◌, ◌∙◌, List, drop, refl, ap, sym, rules, arith}
 use Rattle.std.specs.Vec.Iter.{into_iter_items}
 use Rattle.requests.specs.Machine.{empty}
 use Rattle.requests.specs.Run.{Asked, replies}
@@ -28,16 +28,16 @@ loop-shape-preserved g c =
     let ss = c.shapes-shapes.result.now in
     let x = c.shape-item.result in
     let had = into_iter_items at.rest in
-    let left = into_iter_items c.bound_step.new.handlers in
+    let left = into_iter_items c.reply_of.new.handlers in
     let more = c.loop-shape-test.true in
     let here = sym c.shape-item.is in
-    let bound = c.bound_step.ensures _ (first_before ss at.shape-index x had left more here at.invariant.each) in
-    let same : Some c.in-Some.step ≡ Some (step_with (first_policy had) x.1) = sym c.in-Some.is ∙ bound.1 in
+    let step = step_with (first_policy had) x.1 in
+    let made = c.in-Some.ensures _ (first_before ss at.shape-index x had left more here at.invariant.each) in
     record {
-      answers = answers_more at.pairs.items c.push_reserved.new.self.items x.0 c.in-Some.step (step_with (first_policy had) x.1) c.step-reply.result (filled (drop at.shape-index ss) had) (filled (drop (at.shape-index + 1) ss) left)
-          at.host c.step-reply.new.self (answers_of c.args.scenario.now) (cc) (filled_next ss at.shape-index x had left more here bound.0)
-          (sym c.is_memory.ensures ∙ c.if-is_memory.false) c.step-reply.ensures c.push_reserved.ensures.items at.invariant.answers;
-      each = each_next ss at.shape-index x had left more here at.invariant.each bound.0;
+      answers = answers_more at.pairs.items c.push_reserved.new.self.items x.0 step step c.in-Some.reply (filled (drop at.shape-index ss) had) (filled (drop (at.shape-index + 1) ss) left)
+          at.host c.reply_of.new.host (answers_of c.args.scenario.now) refl (filled_next ss at.shape-index x had left more here made.0)
+          (sym c.is_memory.ensures ∙ c.if-is_memory.false) made.1 c.push_reserved.ensures.items at.invariant.answers;
+      each = each_next ss at.shape-index x had left more here at.invariant.each made.0;
       made = c.push_reserved.ensures.len ∙ ap (λ n. n + 1) at.invariant.made;
       room = c.push_reserved.ensures.capacity ∙ at.invariant.room;
     }
@@ -54,9 +54,8 @@ unreachable-requires g c =
     let at = c.loop-shape in
     let had = into_iter_items at.rest in
     let x = c.shape-item.result in
-    let bound = c.bound_step.ensures _ (first_before c.shapes-shapes.result.now at.shape-index x had had c.loop-shape-test.true (sym c.shape-item.is) at.invariant.each) in
-    let none : None ≡ Some (step_with (first_policy had) x.1) = sym c.in_default.is ∙ bound.1 in
-    absurd (cc)
+    let made = c.reply_of.ensures _ (first_before c.shapes-shapes.result.now at.shape-index x had had c.loop-shape-test.true (sym c.shape-item.is) at.invariant.each) in
+    rw c.in_default.is at made.1
 
 pub returns-clause-ok : goal.returns-clause-ok
 returns-clause-ok g c =

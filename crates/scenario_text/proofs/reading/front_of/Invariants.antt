@@ -2,9 +2,9 @@ use Rattle.std.proofs.Common.{◌-◌, ◌≤◌, vec_len}
 use Rattle.std.specs.Io.KnownBytes.{Consumes}
 use Rattle.scenario_text.proofs.reading.front_of.Given as goal
 
-abbrev pub invariant-loop-chunk : goal.invariant-loop-chunk
-invariant-loop-chunk g l =
+abbrev pub invariant-chunks : goal.invariant-chunks
+invariant-chunks g l =
     (vec_len l.bytes ≤ 4194305) × Consumes (g.R.Read.remaining l.initial.reader) (g.R.Read.remaining l.reader) l.bytes.items
 
-abbrev pub decreases-loop-chunk : goal.decreases-loop-chunk
-decreases-loop-chunk g l = 4194305 - vec_len l.bytes
+abbrev pub decreases-chunks : goal.decreases-chunks
+decreases-chunks g l = 4194305 - vec_len l.bytes
