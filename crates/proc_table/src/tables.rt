@@ -156,11 +156,8 @@ impl Tables {
         ensures row { result ≡ seen_process uid number self.now.rows }
         ensures kept { IsKept self.now.rows }
     {
-        if self.processes.owner(number) == Some(uid) {
-            self.numbered(number)
-        } else {
-            None
-        }
+        let row = self.processes.find(number)?;
+        if row.uid == uid { Some(*row) } else { None }
     }
 
     /// Whether the user has the process.

@@ -1,4 +1,4 @@
-use Rattle.std.proofs.Common.{ℕ, ◌+◌, ap, sym, ◌∙◌, is_some}
+use Rattle.std.proofs.Common.{◌+◌, ap, sym, ◌∙◌, is_some}
 use Rattle.proc_table.specs.Processes.{process_of}
 use Rattle.proc_table.proofs.KeepsLwps.{keeps-none}
 use Rattle.proc_table.proofs.tables.Tables.new.Goals as goal
