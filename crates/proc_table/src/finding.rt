@@ -7,28 +7,8 @@ ghost use Rattle.proc_table.specs.Lanes.{IsLaced};
 
 use crate::links::Slot;
 use indexmap::IndexMap;
+use lwp_table::Hints;
 use slab::Slab;
-
-/// How many hints there are.
-const HINTS: usize = 1024;
-
-/// For the numbers of each remainder, the slot of the row that was added last. Any slot may stand here: a row is looked
-/// at before a hint is believed.
-#[derive(Drop)]
-pub struct Hints {
-    slots: [u32; HINTS],
-}
-
-impl Hints {
-    pub fn new() -> Hints {
-        Hints { slots: [0; HINTS] }
-    }
-
-    /// The row with this number was put into the slot.
-    pub fn note(&mut self, number: u32, slot: usize) {
-        self.slots[number as usize % HINTS] = u32::try_from(slot).unwrap_or(0);
-    }
-}
 
 /// The slot of the row with this number.
 #[inline(always)]
@@ -41,7 +21,7 @@ pub fn slot_of(
     requires laced { IsLaced (get nodes.now) slots.now.entries }
     ensures { result ≡ lookup (nat_eq number) slots.now.entries }
 {
-    let hint = hints.slots[number as usize % HINTS] as usize;
+    let hint = hints.slot(number);
     match nodes.get(hint) {
         Some(slot) if slot.row.pid.get() == number => Some(hint),
         _ => indexed(slots, number),

@@ -8,9 +8,10 @@ ghost use Rattle.proc_table.specs.Walks.{next_tracee, next_child};
 ghost use Rattle.proc_table.specs.Kept.{AtHome, put_process};
 
 use crate::ProcData;
-use crate::finding::{Hints, slot_of};
+use crate::finding::slot_of;
 use crate::links::{Kin, Links, Slot, next_slot, relink_both};
 use indexmap::IndexMap;
+use lwp_table::Hints;
 use pid_blocks::{Pid, Uid};
 use slab::Slab;
 use std::alloc::{AllocError, Global};
