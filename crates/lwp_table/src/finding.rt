@@ -9,32 +9,40 @@ ghost use Rattle.lwp_table.specs.Kept.{ends_at, own_nodes};
 use crate::links::{Ends, Slot, ends_of};
 use indexmap::IndexMap;
 use slab::Slab;
+use std::alloc::{AllocError, Global};
 
-/// How many hints there are.
-const HINTS: usize = 1024;
+/// How many hints there are, so that all numbers of processes have one each.
+const HINTS: usize = 65536;
 
 /// For the numbers of each remainder, the slot that was noted last. Any slot may stand here: what it has is looked at
 /// before a hint is believed.
 #[derive(Drop)]
 pub struct Hints {
-    slots: [u16; HINTS],
+    slots: Vec<u16>,
 }
 
 impl Hints {
     /// No slot was noted.
-    pub fn new() -> Hints {
-        Hints { slots: [0; HINTS] }
+    pub fn new(alloc: Global) -> Result<Hints, AllocError> {
+        Ok(Hints {
+            slots: vec![in alloc; 0; HINTS]?,
+        })
     }
 
     /// The slot that was noted for the number, or another one.
     #[inline(always)]
     pub fn slot(&self, number: u32) -> usize {
-        self.slots[number as usize % HINTS] as usize
+        match self.slots.get(number as usize % HINTS) {
+            Some(slot) => *slot as usize,
+            None => 0,
+        }
     }
 
     /// Notes the slot for the number.
     pub fn note(&mut self, number: u32, slot: usize) {
-        self.slots[number as usize % HINTS] = u16::try_from(slot).unwrap_or(0);
+        if let Some(place) = self.slots.get_mut(number as usize % HINTS) {
+            *place = u16::try_from(slot).unwrap_or(0);
+        }
     }
 }
 

@@ -85,14 +85,14 @@ impl Model for Processes {
 
 impl Processes {
     /// No process.
-    pub fn new(alloc: Global) -> Processes
+    pub fn new(alloc: Global, hints: Hints) -> Processes
         ensures { result.rows ≡ [] }
     {
         let counts = [0; 64];
         Processes {
             nodes: Slab::new(alloc),
             slots: IndexMap::new(alloc),
-            hints: Hints::new(),
+            hints,
             counts,
         }
     }
