@@ -12,6 +12,7 @@ ghost use Rattle.pid_blocks.specs.Blocks.{tid_owner};
 ghost use Rattle.lwp_table.specs.Lwps.{lwp_of, lwps_of, first_lwp, next_lwp, has_lwp, with_lwp, without_lwp, Differ};
 
 use crate::LwpData;
+use crate::finding::{Hints, first_slot, slot_of};
 use crate::links::{
     Ends, Link, Links, Slot, close_up, ends_of, put_ends, set_link, user_place, without,
 };
@@ -30,6 +31,8 @@ pub struct LwpTable {
     rows: Slab<Slot>,
     slots: IndexMap<u32, usize>,
     heads: IndexMap<u32, Ends>,
+    hints: Hints,
+    first_hints: Hints,
     all: Ends,
     births: usize,
     users: [usize; 64],
@@ -62,6 +65,8 @@ impl LwpTable {
             rows: Slab::new(alloc),
             slots: IndexMap::new(alloc),
             heads: IndexMap::new(alloc),
+            hints: Hints::new(alloc)?,
+            first_hints: Hints::new(alloc)?,
             all: Ends::empty(),
             births: 0,
             users,
@@ -115,6 +120,8 @@ impl LwpTable {
             count: own.count + 1,
         };
         self.heads.insert(pid, ends).unwrap();
+        self.hints.note(tid, slot);
+        self.first_hints.note(pid, own.first.unwrap_or(slot));
         self.all = Ends {
             first: all.first.or(Some(slot)),
             last: Some(slot),
@@ -137,7 +144,7 @@ impl LwpTable {
         ensures row { result ≡ lwp_of tid self.now.rows }
         ensures differ { Differ self.now.rows }
     {
-        let slot = *self.slots.get(&tid.get())?;
+        let slot = slot_of(&self.rows, &self.slots, &self.hints, tid.get())?;
         Some(self.rows[slot].row)
     }
 
@@ -146,7 +153,7 @@ impl LwpTable {
         ensures process { result ≡ option_map (λ l. l.pid) (lwp_of tid self.now.rows) }
         ensures differ { Differ self.now.rows }
     {
-        let place = *self.slots.get(&tid.get())?;
+        let place = slot_of(&self.rows, &self.slots, &self.hints, tid.get())?;
         Some(self.rows[place].row.pid)
     }
 
@@ -156,7 +163,7 @@ impl LwpTable {
         ensures rows { self.new.rows ≡ with_lwp row self.old.rows }
         ensures spare { self.new.spare ≡ self.old.spare }
     {
-        let slot = self.slots[&row.tid.get()];
+        let slot = slot_of(&self.rows, &self.slots, &self.hints, row.tid.get()).unwrap();
         let mut place = self.rows[slot];
         place.row = row;
         self.rows[slot] = place;
@@ -191,7 +198,7 @@ impl LwpTable {
         ensures row { result ≡ first_lwp pid self.now.rows }
         ensures differ { Differ self.now.rows }
     {
-        let slot = ends_of(&self.heads, pid.get()).first?;
+        let slot = first_slot(&self.rows, &self.heads, &self.first_hints, pid.get())?;
         Some(self.rows[slot].row)
     }
 
@@ -201,7 +208,7 @@ impl LwpTable {
         ensures row { result ≡ next_lwp pid after self.now.rows }
         ensures differ { Differ self.now.rows }
     {
-        let at = self.slots[&after.get()];
+        let at = slot_of(&self.rows, &self.slots, &self.hints, after.get()).unwrap();
         let slot = self.rows[at].own.next?;
         Some(self.rows[slot].row)
     }

@@ -1,5 +1,5 @@
 -- The set of the processes' numbers, after each edit of the rows.
-use Rattle.std.proofs.Common.{◌≡◌, ℕ, ◌+◌, ◌-◌, ◌≤◌, true, false, List, [], map, ap, sym, ◌∙◌, refl, arith, inl, inr, is_some, nat_eq, Option, Some, None}
+use Rattle.std.proofs.Common.{◌≡◌, ℕ, ◌+◌, ◌-◌, ◌≤◌, true, false, List, map, ap, sym, ◌∙◌, refl, arith, inl, inr, is_some, nat_eq, Option, Some, None}
 use Rattle.std.specs.Prelude.{◌≢◌, filter, not}
 use Rattle.std.proofs.lemmas.Bool.{true≢false, false≢true}
 use Rattle.number_sets.specs.Members.{member}

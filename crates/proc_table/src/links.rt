@@ -246,7 +246,32 @@ fn join(
     }
 }
 
-/// Moves the row in `slot` into the list of `chief`, or into none. Takes no memory.
+/// Moves the row in `slot` out of the list that it is in, if any, into the list of `chief`, or into none.
+#[inline(never)]
+fn rehang(
+    nodes: &mut Slab<Slot>,
+    slots: &IndexMap<u32, usize>,
+    kin: Kin,
+    slot: usize,
+    chief: Option<u32>,
+)
+    requires laced { IsLaced (get nodes.old) slots.now.entries }
+    requires there { ContainsKey nodes.old slot }
+    requires chief { (t : ℕ) → chief ≡ Some t → (h : ℕ) × (lookup (nat_eq t) slots.now.entries ≡ Some h) × IsHead (get nodes.old) h t }
+    ensures laced { IsLaced (get nodes.new) slots.now.entries }
+    ensures here { keys (lanes kin (get nodes.new)) slot ≡ option_map (λ was. (was.row.pid, chief)) (get nodes.old slot) }
+    ensures others { (s : ℕ) → s ≢ slot → keys (lanes kin (get nodes.new)) s ≡ keys (lanes kin (get nodes.old)) s }
+    ensures rows { (s : ℕ) → rows_of (get nodes.new) s ≡ rows_of (get nodes.old) s }
+    ensures apart { (s : ℕ) → lanes (other kin) (get nodes.new) s ≡ lanes (other kin) (get nodes.old) s }
+    ensures len { slab_len nodes.new ≡ slab_len nodes.old }
+    ensures capacity { nodes.new.capacity ≡ nodes.old.capacity }
+{
+    leave(nodes, slots, kin, slot);
+    join(nodes, slots, kin, slot, chief);
+}
+
+/// Moves the row in `slot` into the list of `chief`, or into none, if it isn't there. Takes no memory.
+#[inline(always)]
 pub fn relink(
     nodes: &mut Slab<Slot>,
     slots: &IndexMap<u32, usize>,
@@ -265,11 +290,9 @@ pub fn relink(
     ensures len { slab_len nodes.new ≡ slab_len nodes.old }
     ensures capacity { nodes.new.capacity ≡ nodes.old.capacity }
 {
-    if links_of(kin, &nodes[slot]).chief == chief {
-        return;
+    if links_of(kin, &nodes[slot]).chief != chief {
+        rehang(nodes, slots, kin, slot, chief);
     }
-    leave(nodes, slots, kin, slot);
-    join(nodes, slots, kin, slot, chief);
 }
 
 /// Moves the row in `slot` into the lists of its tracer and of its parent, or into none.
@@ -310,6 +333,9 @@ pub fn next_slot(
     requires below { (s : ℕ) (slot : Slot) → get nodes.now s ≡ Some slot → slot.row.pid < 65000 }
     ensures { IsNext (keys (lanes kin (get nodes.now))) chief after result }
 {
+    if after == 0 {
+        return links_of(kin, &nodes[head]).first;
+    }
     if let Some(at) = slots.get(&after) {
         let links = links_of(kin, &nodes[*at]);
         if links.chief == Some(chief) {

@@ -1,6 +1,6 @@
 //! The rows of processes, each found by its number, with the lists of each one's tracees and children.
 
-ghost use Rattle.std.specs.Prelude.{◌≡◌, ℕ, ◌+◌, ◌<◌, ◌≤◌, ◌==◌, [], true, false, not, filter, map, count_by, option_map, Some, None, IsSome, IsSomeAnd, OnOk};
+ghost use Rattle.std.specs.Prelude.{◌≡◌, ℕ, ◌+◌, ◌<◌, ◌≤◌, ◌==◌, [], true, false, not, filter, map, count_by, option_map, option_copied, Some, None, IsSome, IsSomeAnd, OnOk};
 ghost use Rattle.std.specs.List.{list_any};
 ghost use Rattle.proc_table.specs.Processes.{process_of, placed};
 ghost use Rattle.proc_table.specs.Lanes.{chief, parent_named, unlinked, next_named};
@@ -8,8 +8,10 @@ ghost use Rattle.proc_table.specs.Walks.{next_tracee, next_child};
 ghost use Rattle.proc_table.specs.Kept.{AtHome, put_process};
 
 use crate::ProcData;
+use crate::finding::slot_of;
 use crate::links::{Kin, Links, Slot, next_slot, relink_both};
 use indexmap::IndexMap;
+use lwp_table::Hints;
 use pid_blocks::{Pid, Uid};
 use slab::Slab;
 use std::alloc::{AllocError, Global};
@@ -60,6 +62,7 @@ fn with_row(slot: &Slot, row: ProcData) -> Slot
 pub struct Processes {
     nodes: Slab<Slot>,
     slots: IndexMap<u32, usize>,
+    hints: Hints,
     counts: [usize; 64],
 }
 
@@ -82,13 +85,14 @@ impl Model for Processes {
 
 impl Processes {
     /// No process.
-    pub fn new(alloc: Global) -> Processes
+    pub fn new(alloc: Global, hints: Hints) -> Processes
         ensures { result.rows ≡ [] }
     {
         let counts = [0; 64];
         Processes {
             nodes: Slab::new(alloc),
             slots: IndexMap::new(alloc),
+            hints,
             counts,
         }
     }
@@ -105,19 +109,26 @@ impl Processes {
     }
 
     /// The row with this number.
+    #[inline(always)]
+    pub fn find(&self, number: u32) -> Option<&ProcData>
+        ensures { option_copied result ≡ process_of number self.now.rows }
+    {
+        let slot = slot_of(&self.nodes, &self.slots, &self.hints, number)?;
+        Some(&self.nodes[slot].row)
+    }
+
+    /// The row with this number.
     pub fn get(&self, number: u32) -> Option<ProcData>
         ensures { result ≡ process_of number self.now.rows }
     {
-        let slot = *self.slots.get(&number)?;
-        Some(self.nodes[slot].row)
+        self.find(number).copied()
     }
 
     /// The user of the row with this number.
     pub fn owner(&self, number: u32) -> Option<Uid>
         ensures { result ≡ option_map (λ p. p.uid) (process_of number self.now.rows) }
     {
-        let slot = *self.slots.get(&number)?;
-        Some(self.nodes[slot].row.uid)
+        Some(self.find(number)?.uid)
     }
 
     /// Whether a row has this number.
@@ -131,7 +142,7 @@ impl Processes {
     fn next_named(&self, kin: Kin, pid: Pid, after: u32) -> Option<ProcData>
         ensures { result ≡ next_named kin pid after self.now.rows }
     {
-        let head = *self.slots.get(&pid.get())?;
+        let head = slot_of(&self.nodes, &self.slots, &self.hints, pid.get())?;
         let slot = next_slot(&self.nodes, &self.slots, kin, head, pid.get(), after)?;
         Some(self.nodes[slot].row)
     }
@@ -171,6 +182,7 @@ impl Processes {
         let parent = parent_of(&row);
         let slot = self.nodes.insert_reserved(unlinked(row));
         self.slots.insert(row.pid.get(), slot).unwrap();
+        self.hints.note(row.pid.get(), slot);
         relink_both(&mut self.nodes, &self.slots, slot, tracer, parent);
         self.counts[row.uid.slot()] += 1;
     }
@@ -183,7 +195,7 @@ impl Processes {
         ensures rows { self.new.rows ≡ map (put_process row) self.old.rows }
         ensures spare { self.new.spare ≡ self.old.spare }
     {
-        let slot = self.slots[&row.pid.get()];
+        let slot = slot_of(&self.nodes, &self.slots, &self.hints, row.pid.get()).unwrap();
         relink_both(
             &mut self.nodes,
             &self.slots,

@@ -12,7 +12,7 @@ ghost use Rattle.proc_table.specs.Kept.{IsKept, IsRow, AtHome, Named, put_proces
 
 use crate::ProcData;
 use crate::processes::Processes;
-use lwp_table::{LwpData, LwpTable};
+use lwp_table::{Hints, LwpData, LwpTable};
 use number_sets::NumberSet;
 use pid_blocks::{
     FIRST_PID, FIRST_TID, PIDS, Pid, TIDS, Tid, Uid, cursor_after, next_free, pid_block, tid_block,
@@ -66,8 +66,9 @@ impl Tables {
     pub fn new(alloc: Global) -> Result<Tables, AllocError>
         ensures { IfOk result (λ tables. tables.rows ≡ no_rows) }
     {
+        let hints = Hints::new(alloc)?;
         Ok(Tables {
-            processes: Processes::new(alloc),
+            processes: Processes::new(alloc, hints),
             pids: NumberSet::new(alloc, PID_WORDS)?,
             lwps: LwpTable::new(alloc)?,
             pid_cursors: cursors(FIRST_PID, PIDS),
@@ -156,11 +157,8 @@ impl Tables {
         ensures row { result ≡ seen_process uid number self.now.rows }
         ensures kept { IsKept self.now.rows }
     {
-        if self.processes.owner(number) == Some(uid) {
-            self.numbered(number)
-        } else {
-            None
-        }
+        let row = self.processes.find(number)?;
+        if row.uid == uid { Some(*row) } else { None }
     }
 
     /// Whether the user has the process.

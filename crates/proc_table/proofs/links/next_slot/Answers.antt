@@ -15,8 +15,17 @@ equal : (o : Option ℕ) (n : ℕ) → option_eq nat_eq o (Some n) ≡ true → 
 equal None n h = absurd (cc)
 equal (Some m) n h = let same : m ≡ n = grind (arith, nat_tests, h) in ap Some same
 
-pub index-requires : goal.index-requires
-index-requires c =
+pub returns-then-after-eq0 : goal.returns-then-after-eq0
+returns-then-after-eq0 c =
+    let kin = c.args.kin in
+    let there = some_and (λ (slot : Slot). slot.row.pid ≡ c.args.chief) _ c.requires.there in
+    let same = same_Some c.index.result.now there.0 (sym c.index.ensures ∙ there.1) in
+    let number : c.index.result.now.row.pid ≡ c.args.chief = ap (λ (x : Slot). x.row.pid) same ∙ there.2 in
+    let zero : c.args.after ≡ 0 = grind (arith, nat_tests, c.if-after-eq0.true) in
+    rw (zero, ← number, ap (λ l. l.first) c.links_of.ensures) ((c.requires.laced.linked kin).heads c.args.head (lane kin c.index.result.now) (ap (option_map (lane kin)) c.index.ensures))
+
+pub index-requires-in-Some : goal.index-requires-in-Some
+index-requires-in-Some c =
     let there = some_and (λ (slot : Slot). slot.row.pid ≡ c.args.after) _ (c.requires.at c.args.after c.in-Some.at.now (sym c.in-Some.ensures.value)) in
     ap is_some there.1
 
@@ -24,10 +33,10 @@ pub returns-then-eq : goal.returns-then-eq
 returns-then-eq c =
     let kin = c.args.kin in
     let there = some_and (λ (slot : Slot). slot.row.pid ≡ c.args.after) _ (c.requires.at c.args.after c.in-Some.at.now (sym c.in-Some.ensures.value)) in
-    let same = same_Some c.index.result.now there.0 (sym c.index.ensures ∙ there.1) in
-    let number : c.index.result.now.row.pid ≡ c.args.after = ap (λ (x : Slot). x.row.pid) same ∙ there.2 in
-    let chief : (lane kin c.index.result.now).chief ≡ Some c.args.chief = ap (λ l. l.chief) (sym c.links_of-links.ensures) ∙ equal c.links_of-links.result.chief c.args.chief (sym c.eq.ensures ∙ c.if-eq.true) in
-    rw (← number, ap (λ l. l.next) c.links_of-links.ensures) ((c.requires.laced.linked kin).links c.in-Some.at.now (lane kin c.index.result.now) c.args.chief (ap (option_map (lane kin)) c.index.ensures) chief)
+    let same = same_Some c.index-in-Some.result.now there.0 (sym c.index-in-Some.ensures ∙ there.1) in
+    let number : c.index-in-Some.result.now.row.pid ≡ c.args.after = ap (λ (x : Slot). x.row.pid) same ∙ there.2 in
+    let chief : (lane kin c.index-in-Some.result.now).chief ≡ Some c.args.chief = ap (λ l. l.chief) (sym c.links_of-links.ensures) ∙ equal c.links_of-links.result.chief c.args.chief (sym c.eq.ensures ∙ c.if-eq.true) in
+    rw (← number, ap (λ l. l.next) c.links_of-links.ensures) ((c.requires.laced.linked kin).links c.in-Some.at.now (lane kin c.index-in-Some.result.now) c.args.chief (ap (option_map (lane kin)) c.index-in-Some.ensures) chief)
 
 pub returns : goal.returns
 returns c =

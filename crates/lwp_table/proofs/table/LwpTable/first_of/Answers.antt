@@ -14,7 +14,7 @@ returns-in_err-slot-clause-row c =
     let pid = c.get.result in
     let key = ap (λ n. first_lwp n (rows_of f es c.self.inside.births)) c.get.ensures.number in
     let seen = ap (λ v. first_lwp c.args.pid v.rows) c.self.view_is in
-    let link = ap (λ e. e.first) (sym c.ends_of.ensures) ∙ c.in_err-slot.was in
+    let link = sym c.in_err-slot.ensures in
     let near = subst (IsNearest up (own_nodes f) pid anywhere) link (c.self.invariant.own pid).first_is in
     c.from_residual.ensures ∙ sym (first-is_none f es c.self.inside.births c.self.invariant.indexed pid near) ∙ key ∙ seen
 
@@ -25,7 +25,7 @@ returns-clause-row c =
     let pid = c.get.result in
     let key = ap (λ n. first_lwp n (rows_of f es c.self.inside.births)) c.get.ensures.number in
     let seen = ap (λ v. first_lwp c.args.pid v.rows) c.self.view_is in
-    let link = ap (λ e. e.first) (sym c.ends_of.ensures) ∙ c.in_ok-slot.was in
+    let link = sym c.in_ok-slot.ensures in
     let near = subst (IsNearest up (own_nodes f) pid anywhere) link (c.self.invariant.own pid).first_is in
     sym (first-is_some f es c.self.inside.births c.self.invariant.indexed pid c.in_ok-slot.slot c.index.result.now c.index.ensures near) ∙ key ∙ seen
 

@@ -11,11 +11,11 @@ use Rattle.proc_table.proofs.Slots.{slot_there}
 use Rattle.proc_table.proofs.Tied.{head-row, written}
 use Rattle.proc_table.proofs.processes.Processes.set.Goals as goal
 
-pub index-slot-requires : goal.index-slot-requires
-index-slot-requires c =
+pub unwrap-slot-requires : goal.unwrap-slot-requires
+unwrap-slot-requires c =
     let was = some_and (λ (was : ProcData). was.uid ≡ c.args.row.uid) (process_of c.args.row.pid c.args.self.now.rows) c.requires.there in
     let there = ap (λ v. process_of c.args.row.pid v.rows) c.self.view_is ∙ was.1 in
-    rw c.get.ensures.number (slot_there (rows_of (get c.self.inside.nodes)) c.self.inside.slots.entries c.self.inside.counts c.self.invariant.slotted c.args.row.pid (ap is_some there))
+    rw (c.slot_of.ensures, c.get.ensures.number) (slot_there (rows_of (get c.self.inside.nodes)) c.self.inside.slots.entries c.self.inside.counts c.self.invariant.slotted c.args.row.pid (ap is_some there))
 
 pub relink_both-requires-clause-chiefs : goal.relink_both-requires-clause-chiefs
 relink_both-requires-clause-chiefs c = λ k t is.
@@ -27,9 +27,9 @@ pub invariant_of-self : goal.invariant_of-self
 invariant_of-self c =
     let was = some_and (λ (was : ProcData). was.uid ≡ c.args.row.uid) (process_of c.args.row.pid c.args.self.now.rows) c.requires.there in
     let there = ap (λ v. process_of c.args.row.pid v.rows) c.self.view_is ∙ was.1 in
-    let updates = Updates-with_value c.relink_both.new.nodes c.index-slot.result.now c.with_row.result (ap is_some c.index_mut.ensures.value) in
-    let number : lookup (nat_eq c.args.row.pid) c.self.inside.slots.entries ≡ Some c.index-slot.result.now = rw c.get.ensures.number at c.index-slot.ensures in
-    (written (get c.self.inside.nodes) c.self.inside.slots.entries c.self.inside.counts c.self.invariant (get c.relink_both.new.nodes) (get (with_value c.relink_both.new.nodes c.index-slot.result.now c.with_row.result)) c.index-slot.result.now c.args.row
+    let updates = Updates-with_value c.relink_both.new.nodes c.unwrap-slot.result c.with_row.result (ap is_some c.index_mut.ensures.value) in
+    let number : lookup (nat_eq c.args.row.pid) c.self.inside.slots.entries ≡ Some c.unwrap-slot.result = rw c.get.ensures.number at (sym c.slot_of.ensures ∙ c.unwrap-slot.ensures) in
+    (written (get c.self.inside.nodes) c.self.inside.slots.entries c.self.inside.counts c.self.invariant (get c.relink_both.new.nodes) (get (with_value c.relink_both.new.nodes c.unwrap-slot.result c.with_row.result)) c.unwrap-slot.result c.args.row
     c.index.result.now c.index.ensures (updates.changed ∙ ap Some c.with_row.ensures) updates.others number c.relink_both.ensures.rows _ _ c.tracer_of.ensures c.parent_of.ensures c.relink_both.ensures.laced c.relink_both.ensures.here
     c.relink_both.ensures.others was.0 there was.2).0
 
@@ -37,8 +37,8 @@ pub returns-clause-rows : goal.returns-clause-rows
 returns-clause-rows c =
     let was = some_and (λ (was : ProcData). was.uid ≡ c.args.row.uid) (process_of c.args.row.pid c.args.self.now.rows) c.requires.there in
     let there = ap (λ v. process_of c.args.row.pid v.rows) c.self.view_is ∙ was.1 in
-    let updates = Updates-with_value c.relink_both.new.nodes c.index-slot.result.now c.with_row.result (ap is_some c.index_mut.ensures.value) in
-    let number : lookup (nat_eq c.args.row.pid) c.self.inside.slots.entries ≡ Some c.index-slot.result.now = rw c.get.ensures.number at c.index-slot.ensures in
-    rw (← c.self.view_is) (written (get c.self.inside.nodes) c.self.inside.slots.entries c.self.inside.counts c.self.invariant (get c.relink_both.new.nodes) (get (with_value c.relink_both.new.nodes c.index-slot.result.now c.with_row.result)) c.index-slot.result.now c.args.row
+    let updates = Updates-with_value c.relink_both.new.nodes c.unwrap-slot.result c.with_row.result (ap is_some c.index_mut.ensures.value) in
+    let number : lookup (nat_eq c.args.row.pid) c.self.inside.slots.entries ≡ Some c.unwrap-slot.result = rw c.get.ensures.number at (sym c.slot_of.ensures ∙ c.unwrap-slot.ensures) in
+    rw (← c.self.view_is) (written (get c.self.inside.nodes) c.self.inside.slots.entries c.self.inside.counts c.self.invariant (get c.relink_both.new.nodes) (get (with_value c.relink_both.new.nodes c.unwrap-slot.result c.with_row.result)) c.unwrap-slot.result c.args.row
     c.index.result.now c.index.ensures (updates.changed ∙ ap Some c.with_row.ensures) updates.others number c.relink_both.ensures.rows _ _ c.tracer_of.ensures c.parent_of.ensures c.relink_both.ensures.laced c.relink_both.ensures.here
     c.relink_both.ensures.others was.0 there was.2).1

@@ -1,11 +1,11 @@
-use Rattle.std.proofs.Common.{ℕ, ◌+◌, ap, sym, ◌∙◌, is_some}
+use Rattle.std.proofs.Common.{◌+◌, ap, sym, ◌∙◌, is_some}
 use Rattle.proc_table.specs.Processes.{process_of}
 use Rattle.proc_table.proofs.KeepsLwps.{keeps-none}
 use Rattle.proc_table.proofs.tables.Tables.new.Goals as goal
 
 pub invariant_of-result : goal.invariant_of-result
 invariant_of-result c = record {
-  kept = rw (c.new.ensures, c.in_ok-new-2.ensures, c.cursors.ensures, c.cursors-2.ensures) keeps-none;
+  kept = rw (c.new-2.ensures, c.in_ok-new-2.ensures, c.cursors.ensures, c.cursors-2.ensures) keeps-none;
   room = c.in_ok-new.ensures.room;
-  numbers = λ n. c.in_ok-new.ensures.none n ∙ sym (ap (λ ps. is_some (process_of (n + 1000) ps)) c.new.ensures);
+  numbers = λ n. c.in_ok-new.ensures.none n ∙ sym (ap (λ ps. is_some (process_of (n + 1000) ps)) c.new-2.ensures);
 }

@@ -1,4 +1,4 @@
-use Rattle.std.proofs.Common.{ℕ, ◌+◌, ◌-◌, ◌<◌, ◌≤◌, arith, sym, ap, ◌∙◌}
+use Rattle.std.proofs.Common.{◌+◌, ◌-◌, ◌<◌, arith, sym, ap, ◌∙◌}
 use Rattle.pid_blocks.specs.Blocks.{pid_block, InBlock}
 use Rattle.proc_table.specs.Walks.{next_of}
 use Rattle.proc_table.proofs.NextOf.{next_of-found, next_of-none, uid-from_block}

@@ -1,13 +1,8 @@
-use Rattle.std.proofs.Common.{is_some, arith, rules}
+use Rattle.std.proofs.Common.{arith, rules}
 use Rattle.std.proofs.lemmas.Bool.Decides.{nat_tests}
-use Rattle.proc_table.proofs.Every.{some_and}
 use Rattle.proc_table.proofs.Listing.{find-all_rows}
 use Rattle.proc_table.proofs.Slots.{finds, look-slot}
-use Rattle.proc_table.proofs.Tied.{head-of}
-use Rattle.proc_table.proofs.processes.Processes.get.Goals as goal
-
-pub index-requires : goal.index-requires
-index-requires c = search (rules, head-of, is_some, some_and)
+use Rattle.proc_table.proofs.processes.Processes.find.Goals as goal
 
 pub returns-in_err-slot : goal.returns-in_err-slot
 returns-in_err-slot c = search (rules, find-all_rows, finds)
