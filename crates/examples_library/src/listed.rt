@@ -45,8 +45,8 @@ fn run(
     Ok(())
 }
 
-/// Makes steps of two users on a new host, and prints the replies and what each user sees then.
-pub fn two_users(rt: &impl Print, alloc: Global) -> Result<(), Trouble> {
+/// Makes steps of two users on the host, and prints the replies and what each user sees then.
+fn make(rt: &impl Print, alloc: Global, host: &mut Host<ByPolicy>) -> Result<(), Trouble> {
     let (one, other) = (Uid::new(1001)?, Uid::new(1002)?);
     let steps = [
         (one, Step::Spawn),
@@ -56,8 +56,13 @@ pub fn two_users(rt: &impl Print, alloc: Global) -> Result<(), Trouble> {
         (one, Step::kill(1000, 1001, 9)),
         (other, Step::list(2000)),
     ];
+    run(rt, alloc, host, &steps)?;
+    see(rt, alloc, host, one)?;
+    see(rt, alloc, host, other)
+}
+
+/// The same on a new host.
+pub fn two_users(rt: &impl Print, alloc: Global) -> Result<(), Trouble> {
     let mut host = Host::new(alloc, Settings::standard())?;
-    run(rt, alloc, &mut host, &steps)?;
-    see(rt, alloc, &host, one)?;
-    see(rt, alloc, &host, other)
+    make(rt, alloc, &mut host)
 }

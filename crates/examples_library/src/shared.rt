@@ -173,15 +173,30 @@ fn run_both<R: Threads + Wait + Sync>(
 }
 
 /// Prints the replies of a session.
-fn tell(rt: &impl Print, worked: &Worked) -> io::Result<()> {
-    let user = worked.session.uid().get();
-    for reply in worked.replies.iter() {
+fn tell(rt: &impl Print, user: Uid, replies: &[Reply]) -> io::Result<()> {
+    let user = user.get();
+    for reply in replies {
         println!(rt; "user {user}: {reply}")?;
     }
     Ok(())
 }
 
-/// Prints the replies of both sessions, hands these in, and prints how many entries the journal has.
+/// How many entries the journal has, once both sessions are handed in.
+fn entries(
+    alloc: Global,
+    host: SharedHost<ByPolicy>,
+    first: Session,
+    second: Session,
+) -> Result<usize, Trouble>
+    requires first { IsOf host first }
+    requires second { IsOf host second }
+{
+    let closed = close_two(alloc, host, first, second);
+    let (_host, journal) = closed.ok_or(Trouble::Memory)?;
+    Ok(journal.len())
+}
+
+/// Hands both sessions in, and prints their replies and how many entries the journal has.
 fn finish(
     rt: &impl Print,
     alloc: Global,
@@ -192,13 +207,28 @@ fn finish(
     requires first { IsOf host first.session }
     requires second { IsOf host second.session }
 {
-    tell(rt, &first)?;
-    tell(rt, &second)?;
-    let closed = close_two(alloc, host, first.session, second.session);
-    let (_host, journal) = closed.ok_or(Trouble::Memory)?;
-    let len = journal.len();
+    let (one, other) = (first.session.uid(), second.session.uid());
+    let len = entries(alloc, host, first.session, second.session)?;
+    tell(rt, one, first.replies.as_slice())?;
+    tell(rt, other, second.replies.as_slice())?;
     println!(rt; "the journal has {len} entries")?;
     Ok(())
+}
+
+/// Runs both sessions, and then tells what they leave.
+fn run_and_finish<R: Print + Threads + Wait + Sync>(
+    rt: &R,
+    alloc: Global,
+    host: SharedHost<ByPolicy>,
+    first: Session,
+    second: Session,
+) -> Result<(), Trouble>
+    requires first { IsOf host first }
+    requires second { IsOf host second }
+{
+    let ran = run_both(rt, alloc, &host, first, second);
+    let (first, second) = ran.ok_or(Trouble::Session)?;
+    finish(rt, alloc, host, first, second)
 }
 
 /// Shares a host among a session of each of two users, which make their steps at the same time.
@@ -207,7 +237,5 @@ pub fn two_threads<R: Print + Threads + Wait + Sync>(rt: &R, alloc: Global) -> R
     let host = Host::new(alloc, Settings::standard())?;
     let opened = open_two(alloc, host, one, other);
     let (host, first, second) = opened.ok_or(Trouble::Memory)?;
-    let ran = run_both(rt, alloc, &host, first, second);
-    let (first, second) = ran.ok_or(Trouble::Session)?;
-    finish(rt, alloc, host, first, second)
+    run_and_finish(rt, alloc, host, first, second)
 }

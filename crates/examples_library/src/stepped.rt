@@ -80,6 +80,19 @@ fn execute<F: Decider + Send + Drop>(
     make(rt, alloc, host, user, Step::wait4(1000, -1, NONE))
 }
 
+/// Process 1001 is traced with this handler, and executes another program.
+fn debug<F: Decider + Send + Drop>(
+    rt: &impl Print,
+    alloc: Global,
+    host: &mut Host<F>,
+    handler: Handler<F>,
+) -> Result<(), Trouble> {
+    let user = Uid::new(1001)?;
+    attach(rt, alloc, host, user, handler)?;
+    execute(rt, alloc, host, user)?;
+    Ok(())
+}
+
 /// What a debugger with this decider is answered, on a host of its own.
 fn drive<F: Decider + Send + Drop>(
     rt: &impl Print,
@@ -90,11 +103,8 @@ fn drive<F: Decider + Send + Drop>(
     requires askable { F.can_ask decider }
     requires obeys { Obeys (F.gives decider) policy }
 {
-    let user = Uid::new(1001)?;
     let mut host = Host::new(alloc, Settings::standard())?;
-    attach(rt, alloc, &mut host, user, Handler::new(policy, decider))?;
-    execute(rt, alloc, &mut host, user)?;
-    Ok(())
+    debug(rt, alloc, &mut host, Handler::new(policy, decider))
 }
 
 /// Kills a process that executes another program; each other stop is left to the debugger.

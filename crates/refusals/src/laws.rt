@@ -67,6 +67,23 @@ fn is_answered(reply: &Reply, other: &Reply) -> Result<bool, Trouble> {
     }
 }
 
+/// Whether two hosts that are the same answer a step; one that refuses is as before.
+fn is_made_in_both(
+    alloc: Global,
+    users: &Users,
+    before: &Seen,
+    law: Law,
+    first: &mut Host<ByPolicy>,
+    second: &mut Host<ByPolicy>,
+) -> Result<bool, Trouble>
+    requires { second.old ≡ first.old }
+{
+    let (reply, other) = law.replies(alloc, first, second, users.first);
+    check_refused(alloc, users, before, first, reply.is_memory())?;
+    check_refused(alloc, users, before, second, other.is_memory())?;
+    is_answered(&reply, &other)
+}
+
 /// Whether a host that nobody has used and another such host answer a step; one that refuses is as before.
 fn is_made_in(
     alloc: Global,
@@ -79,10 +96,7 @@ fn is_made_in(
     requires { first.old ≡ empty settings }
 {
     let mut second = new_host(alloc, settings)?;
-    let (reply, other) = law.replies(alloc, first, &mut second, users.first);
-    check_refused(alloc, users, before, first, reply.is_memory())?;
-    check_refused(alloc, users, before, &second, other.is_memory())?;
-    is_answered(&reply, &other)
+    is_made_in_both(alloc, users, before, law, first, &mut second)
 }
 
 /// Whether two hosts that nobody has used answer a step; one that refuses is as before.
@@ -245,17 +259,33 @@ fn check_two_lists(
 }
 
 /// What is refused leaves the hosts, and else two hosts answer the same.
+fn check_from(
+    alloc: Global,
+    users: &Users,
+    scenario: &Scenario,
+    before: &Seen,
+    host: &mut Host<ByPolicy>,
+) -> Result<(), Trouble> {
+    let settings = scenario.settings();
+    check_law(alloc, users, before, settings, Law::OneStep)?;
+    check_law(alloc, users, before, settings, Law::ForeignNumber)?;
+    check_other_step(alloc, users, before, host)?;
+    check_two_lists(alloc, users, before, scenario)
+}
+
+/// The same, from what is seen of a host that nobody has used.
+fn check_on(
+    alloc: Global,
+    users: &Users,
+    scenario: &Scenario,
+    host: &mut Host<ByPolicy>,
+) -> Result<(), Trouble> {
+    let before = users.see(alloc, host)?;
+    check_from(alloc, users, scenario, &before, host)
+}
+
+/// The same on a new host.
 pub fn check(alloc: Global, users: &Users, scenario: &Scenario) -> Result<(), Trouble> {
     let mut host = new_host(alloc, scenario.settings())?;
-    let before = users.see(alloc, &host)?;
-    check_law(alloc, users, &before, scenario.settings(), Law::OneStep)?;
-    check_law(
-        alloc,
-        users,
-        &before,
-        scenario.settings(),
-        Law::ForeignNumber,
-    )?;
-    check_other_step(alloc, users, &before, &mut host)?;
-    check_two_lists(alloc, users, &before, scenario)
+    check_on(alloc, users, scenario, &mut host)
 }

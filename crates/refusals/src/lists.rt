@@ -97,7 +97,20 @@ fn check_hosts(
     seen.is_still(alloc, users, other, "a list leaves another host")
 }
 
-/// The answered steps, made one after another on a new host, have the same replies, and users see the same in the end.
+/// The answered steps, made one after another on another host, have the same replies, and users see the same in the end.
+fn check_answered_on(
+    alloc: Global,
+    users: &Users,
+    scenario: &Scenario,
+    host: &Host<ByPolicy>,
+    replies: &[Reply],
+    other: &mut Host<ByPolicy>,
+) -> Result<(), Trouble> {
+    check_replies(alloc, other, scenario, replies)?;
+    check_hosts(alloc, users, host, other)
+}
+
+/// The same on a new host.
 fn check_answered(
     alloc: Global,
     users: &Users,
@@ -106,8 +119,7 @@ fn check_answered(
     replies: &[Reply],
 ) -> Result<(), Trouble> {
     let mut other = new_host(alloc, scenario.settings())?;
-    check_replies(alloc, &mut other, scenario, replies)?;
-    check_hosts(alloc, users, host, &other)
+    check_answered_on(alloc, users, scenario, host, replies, &mut other)
 }
 
 /// The replies to the scenario's steps as a list, or none where it is refused.
@@ -137,9 +149,19 @@ fn check_list(
     Err(Trouble::Memory)
 }
 
+/// The same on a host that nobody has used.
+fn check_on(
+    alloc: Global,
+    users: &Users,
+    scenario: &Scenario,
+    host: &mut Host<ByPolicy>,
+) -> Result<(), Trouble> {
+    let before = users.see(alloc, host)?;
+    check_list(alloc, users, scenario, &before, host)
+}
+
 /// The same on a new host.
 pub fn check(alloc: Global, users: &Users, scenario: &Scenario) -> Result<(), Trouble> {
     let mut host = new_host(alloc, scenario.settings())?;
-    let before = users.see(alloc, &host)?;
-    check_list(alloc, users, scenario, &before, &mut host)
+    check_on(alloc, users, scenario, &mut host)
 }

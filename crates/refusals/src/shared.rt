@@ -181,6 +181,19 @@ fn called<R: Wait>(
     close(host, sessions)
 }
 
+/// The host and the journal are those of the steps by themselves.
+fn check_left(
+    alloc: Global,
+    users: &Users,
+    scenario: &Scenario,
+    made: &Made,
+    host: &Host<ByPolicy>,
+    journal: &Journal,
+) -> Result<(), Trouble> {
+    check_journal(users, scenario, made, journal)?;
+    check_host(alloc, users, made, host)
+}
+
 /// Each call has the reply of the step by itself, and a refused call has no entry in the journal.
 pub fn check<R: Wait>(
     rt: &R,
@@ -190,6 +203,5 @@ pub fn check<R: Wait>(
     made: &Made,
 ) -> Result<(), Trouble> {
     let (host, journal) = called(rt, alloc, users, scenario, made)?;
-    check_journal(users, scenario, made, &journal)?;
-    check_host(alloc, users, made, &host)
+    check_left(alloc, users, scenario, made, &host, &journal)
 }

@@ -107,15 +107,15 @@ struct Left {
     transcripts: Vec<Transcript>,
 }
 
-/// Runs the scripts on a host that nobody has used. None where that is refused: who was started is at the end then.
-fn ran<R: Threads + Wait + Sync>(
+/// Runs the scripts on the host. None where that is refused: who was started is at the end then.
+fn ran_on<R: Threads + Wait + Sync>(
     rt: &R,
     alloc: Global,
     users: &Users,
     scenario: &Scenario,
     gate: &Counts,
+    host: Host<ByPolicy>,
 ) -> Result<Option<Left>, Trouble> {
-    let host = new_host(alloc, scenario.settings())?;
     let scripts = scripts_of(alloc, users, scenario)?;
     match run_sessions(rt, alloc, host, scripts, gate) {
         Ok((host, journal, transcripts)) => Ok(Some(Left {
@@ -126,6 +126,18 @@ fn ran<R: Threads + Wait + Sync>(
         Err(RunRefusal::TooMany) => Err(Trouble::Wrong("two scripts are too many")),
         Err(RunRefusal::Memory | RunRefusal::Start) => Ok(None),
     }
+}
+
+/// The same on a host that nobody has used.
+fn ran<R: Threads + Wait + Sync>(
+    rt: &R,
+    alloc: Global,
+    users: &Users,
+    scenario: &Scenario,
+    gate: &Counts,
+) -> Result<Option<Left>, Trouble> {
+    let host = new_host(alloc, scenario.settings())?;
+    ran_on(rt, alloc, users, scenario, gate, host)
 }
 
 /// How many steps were answered.
@@ -231,7 +243,18 @@ fn check_hosts(
     seen.is_still(alloc, users, other, "the journal leaves another host")
 }
 
-/// The journal's steps, made one after another on a new host, have the same replies and leave the same host.
+/// The journal's steps, made one after another on another host, have the same replies and leave the same host.
+fn check_replay_on(
+    alloc: Global,
+    users: &Users,
+    left: &Left,
+    other: &mut Host<ByPolicy>,
+) -> Result<(), Trouble> {
+    check_entries(alloc, other, &left.journal)?;
+    check_hosts(alloc, users, &left.host, other)
+}
+
+/// The same on a new host.
 fn check_replay(
     alloc: Global,
     users: &Users,
@@ -239,8 +262,7 @@ fn check_replay(
     left: &Left,
 ) -> Result<(), Trouble> {
     let mut other = new_host(alloc, scenario.settings())?;
-    check_entries(alloc, &mut other, &left.journal)?;
-    check_hosts(alloc, users, &left.host, &other)
+    check_replay_on(alloc, users, left, &mut other)
 }
 
 /// What was left fits together, and each of the scenario's steps was a call.
@@ -258,6 +280,22 @@ fn check_left(
     check_replay(alloc, users, scenario, left)
 }
 
+/// Whether something was left; then it fits together.
+fn is_left(
+    alloc: Global,
+    users: &Users,
+    scenario: &Scenario,
+    gate: &Counts,
+    ran: &Option<Left>,
+) -> Result<bool, Trouble> {
+    let calls = gate.calls()?;
+    let Some(left) = ran else {
+        return Ok(false);
+    };
+    check_left(alloc, users, scenario, calls, left)?;
+    Ok(true)
+}
+
 /// Whether the sessions ran; then what they leave fits together.
 fn is_run<R: Threads + Wait + Sync>(
     rt: &R,
@@ -267,12 +305,7 @@ fn is_run<R: Threads + Wait + Sync>(
 ) -> Result<bool, Trouble> {
     let gate = Counts::new();
     let ran = ran(rt, alloc, users, scenario, &gate)?;
-    let calls = gate.calls()?;
-    let Some(left) = ran else {
-        return Ok(false);
-    };
-    check_left(alloc, users, scenario, calls, &left)?;
-    Ok(true)
+    is_left(alloc, users, scenario, &gate, &ran)
 }
 
 /// The sessions run, and are started again while that is refused.

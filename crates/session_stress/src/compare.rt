@@ -3,7 +3,7 @@
 ghost use Rattle.std.specs.Prelude.{◌≡◌, ◌↔◌, IsTrue, IfOk};
 ghost use Rattle.requests.specs.View.{view};
 
-use crate::replay::replay;
+use crate::replay::{Replayed, replay};
 use crate::scripts::{scripts, users};
 use host_lock::{Entry, Journal};
 use pid_blocks::Uid;
@@ -69,8 +69,73 @@ fn misplaced(
     Ok(count)
 }
 
-/// How often the threads' run differs from what one thread makes of the journal: in the sessions' steps and replies, in the replies to all
-/// entries in order, in those to each user's entries where nobody else does anything, and in what users see in the end.
+/// 1 where the user sees something else of the two hosts.
+fn seen_otherwise(
+    alloc: Global,
+    left: &Host<ByPolicy>,
+    right: &Host<ByPolicy>,
+    user: Uid,
+) -> Result<usize, AllocError> {
+    Ok(if sees_same(alloc, left, right, user)? {
+        0
+    } else {
+        1
+    })
+}
+
+/// The differences from a replay, in its replies and in what the user sees in the end.
+fn differences_from(
+    alloc: Global,
+    host: &Host<ByPolicy>,
+    replayed: &Replayed,
+    user: Uid,
+) -> Result<usize, AllocError> {
+    let seen = seen_otherwise(alloc, host, &replayed.host, user)?;
+    Ok(replayed.differ.wrapping_add(seen))
+}
+
+/// The differences from the user's entries where nobody else does anything.
+fn differences_alone(
+    alloc: Global,
+    host: &Host<ByPolicy>,
+    journal: &Journal,
+    user: Uid,
+) -> Result<usize, AllocError> {
+    let own = replay(alloc, host.settings(), journal, &[user])?;
+    differences_from(alloc, host, &own, user)
+}
+
+/// The differences from the replay of all entries, and for each user from the replay of its own.
+fn differences_in(
+    alloc: Global,
+    host: &Host<ByPolicy>,
+    all: &Replayed,
+    journal: &Journal,
+    users: &[Uid],
+) -> Result<usize, AllocError> {
+    let mut count = all.differ;
+    for user in users {
+        let beside = seen_otherwise(alloc, host, &all.host, *user)?;
+        let alone = differences_alone(alloc, host, journal, *user)?;
+        count = count.wrapping_add(beside).wrapping_add(alone);
+    }
+    Ok(count)
+}
+
+/// The same, once all entries are replayed in order.
+fn differences_replayed(
+    alloc: Global,
+    host: &Host<ByPolicy>,
+    journal: &Journal,
+    users: &[Uid],
+) -> Result<usize, AllocError> {
+    let all = replay(alloc, host.settings(), journal, users)?;
+    differences_in(alloc, host, &all, journal, users)
+}
+
+/// How often the threads' run differs from what one thread makes of the journal: in the sessions' steps and replies, in
+/// the replies to all entries in order, in those to each user's entries where nobody else does anything, and in what
+/// users see in the end.
 pub fn differences(
     alloc: Global,
     seed: u32,
@@ -79,18 +144,7 @@ pub fn differences(
     transcripts: &[Transcript],
 ) -> Result<usize, AllocError> {
     let users = users(alloc, seed)?;
-    let settings = host.settings();
     let misplaced = misplaced(alloc, seed, journal, transcripts)?;
-    let all = replay(alloc, settings, journal, users.as_slice())?;
-    let mut count = misplaced.wrapping_add(all.differ);
-    for user in users.iter() {
-        let own = replay(alloc, settings, journal, &[*user])?;
-        count = count.wrapping_add(own.differ);
-        for replayed in [&all.host, &own.host] {
-            if !sees_same(alloc, host, replayed, *user)? {
-                count = count.wrapping_add(1);
-            }
-        }
-    }
-    Ok(count)
+    let replayed = differences_replayed(alloc, host, journal, users.as_slice())?;
+    Ok(misplaced.wrapping_add(replayed))
 }

@@ -9,12 +9,16 @@ mod scripts;
 mod writer;
 
 use compare::differences;
+use host_lock::Journal;
 use pid_blocks::Uid;
 use requests::Host;
 use scripts::{scripts, settings};
-use sessions::{Gate, RunRefusal, run_sessions};
-use std::alloc::AllocError;
+use sessions::{Gate, RunRefusal, Transcript, run_sessions};
+use std::alloc::{AllocError, Global};
 use std::io;
+use std::sync::Wait;
+use std::thread::Threads;
+use stop_handlers::ByPolicy;
 
 const RUNS: u32 = 10;
 
@@ -58,29 +62,92 @@ impl From<io::Error> for Trouble {
     }
 }
 
+/// How much was compared in runs, and how often something differs.
+#[derive(Clone, Copy, Default, Drop)]
+struct Tally {
+    /// How many sessions each run has.
+    sessions: usize,
+    steps: usize,
+    answered: usize,
+    differ: usize,
+}
+
+impl Tally {
+    /// That of a further run put to it.
+    fn with(self, run: Tally) -> Tally {
+        Tally {
+            sessions: run.sessions,
+            steps: self.steps.wrapping_add(run.steps),
+            answered: self.answered.wrapping_add(run.answered),
+            differ: self.differ.wrapping_add(run.differ),
+        }
+    }
+}
+
+/// How many steps all sessions made.
+fn steps_of(transcripts: &[Transcript]) -> usize {
+    let mut steps: usize = 0;
+    for transcript in transcripts {
+        steps = steps.wrapping_add(transcript.replies.len());
+    }
+    steps
+}
+
+/// What a run left, compared.
+fn tally_of(
+    alloc: Global,
+    seed: u32,
+    host: &Host<ByPolicy>,
+    journal: &Journal,
+    transcripts: &[Transcript],
+) -> Result<Tally, Trouble> {
+    let differ = differences(alloc, seed, host, journal, transcripts)?;
+    Ok(Tally {
+        sessions: transcripts.len(),
+        steps: steps_of(transcripts),
+        answered: journal.len(),
+        differ,
+    })
+}
+
+/// What a run leaves: the host, the journal of its calls and what each session was answered.
+type Left = (Host<ByPolicy>, Journal, Vec<Transcript>);
+
+/// Runs the scripts in threads on the host.
+fn run_on<R: Threads + Wait + Sync>(
+    rt: &R,
+    alloc: Global,
+    host: Host<ByPolicy>,
+    seed: u32,
+) -> Result<Left, Trouble> {
+    let scripts = scripts(alloc, seed)?;
+    Ok(run_sessions(rt, alloc, host, scripts, &Open)?)
+}
+
+/// The same on a host that nobody has used.
+fn run<R: Threads + Wait + Sync>(rt: &R, alloc: Global, seed: u32) -> Result<Left, Trouble> {
+    let host = Host::new(alloc, settings(seed))?;
+    run_on(rt, alloc, host, seed)
+}
+
+/// A run, compared with what one thread makes of its journal.
+fn compared<R: Threads + Wait + Sync>(rt: &R, alloc: Global, seed: u32) -> Result<Tally, Trouble> {
+    let (host, journal, transcripts) = run(rt, alloc, seed)?;
+    tally_of(alloc, seed, &host, &journal, transcripts.as_slice())
+}
+
 fn main(rt: HostRuntime) -> Result<(), Trouble> {
     let alloc = rt.alloc();
-    let mut sessions: usize = 0;
-    let mut steps: usize = 0;
-    let mut answered: usize = 0;
-    let mut differ: usize = 0;
+    let mut all = Tally::default();
     for seed in 0..RUNS {
-        let host = Host::new(alloc, settings(seed))?;
-        let (host, journal, transcripts) = run_sessions(
-            &rt,
-            alloc,
-            host,
-            scripts(alloc, seed)?,
-            &Open,
-        )?;
-        sessions = transcripts.len();
-        for transcript in transcripts.iter() {
-            steps = steps.wrapping_add(transcript.replies.len());
-        }
-        answered = answered.wrapping_add(journal.len());
-        let found = differences(alloc, seed, &host, &journal, transcripts.as_slice())?;
-        differ = differ.wrapping_add(found);
+        all = all.with(compared(&rt, alloc, seed)?);
     }
+    let Tally {
+        sessions,
+        steps,
+        answered,
+        differ,
+    } = all;
     println!(rt;
         "{RUNS} runs, {sessions} sessions, {steps} steps, {answered} answered, {differ} differ"
     )?;

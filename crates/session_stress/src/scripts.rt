@@ -61,7 +61,8 @@ fn steps_of(
     count: usize,
 ) -> Result<Vec<PlainStep>, AllocError> {
     let dice = Dice::new(u64::from(seed) * 10000 + u64::from(user.get()));
-    Writer::new(alloc, dice, user, settings(seed))?.steps(alloc, count)
+    let mut writer = Writer::new(alloc, dice, user, settings(seed))?;
+    writer.steps(alloc, count)
 }
 
 /// The script of one of a user's sessions, which have the steps in turn.

@@ -48,25 +48,42 @@ fn first_pid(uid: Uid) -> u32
 }
 
 impl Host {
-    /// A host with so many LWPs.
-    pub fn filled(alloc: Global, lwps: usize) -> Result<Host, AllocError> {
-        let mut host = Host {
+    /// A host with no rows.
+    fn empty(alloc: Global) -> Result<Host, AllocError> {
+        Ok(Host {
             tables: Tables::new(alloc)?,
             seed: 2026,
             owners: Vec::new(alloc),
             tids: Vec::new(alloc),
             answers: 0,
-        };
-        for at in 0..lwps.div_ceil(LWPS) {
+        })
+    }
+
+    /// Adds processes, of each user in turn.
+    fn spawn(&mut self, count: usize) -> Result<(), AllocError> {
+        for at in 0..count {
             if let Ok(uid) = Uid::new(1001 + (at % 64) as u32) {
-                if let Some(pid) = edits::spawn(&mut host.tables, uid)? {
-                    host.owners.push(Owner { uid, pid })?;
+                if let Some(pid) = edits::spawn(&mut self.tables, uid)? {
+                    self.owners.push(Owner { uid, pid })?;
                 }
             }
         }
-        host.trace(2000);
-        host.add(lwps)?;
-        host.answers = 0;
+        Ok(())
+    }
+
+    /// Adds processes with so many LWPs.
+    fn fill(&mut self, lwps: usize) -> Result<(), AllocError> {
+        self.spawn(lwps.div_ceil(LWPS))?;
+        self.trace(2000);
+        self.add(lwps)?;
+        self.answers = 0;
+        Ok(())
+    }
+
+    /// A host with so many LWPs.
+    pub fn filled(alloc: Global, lwps: usize) -> Result<Host, AllocError> {
+        let mut host = Host::empty(alloc)?;
+        host.fill(lwps)?;
         Ok(host)
     }
 

@@ -8,6 +8,7 @@ mod edits;
 mod host;
 
 use host::{Host, Kind};
+use std::alloc::Global;
 use std::io;
 use std::rt::Clock;
 use std::time::Instant;
@@ -57,20 +58,30 @@ fn measure(rt: &impl Clock, host: &mut Host) -> io::Result<[u64; 8]> {
     Ok(times)
 }
 
+/// Prints the nanoseconds of an operation of each kind, and what was done.
+fn tell(rt: &(impl Print + Eprint + Clock), host: &mut Host, size: usize) -> io::Result<()> {
+    let times = measure(rt, host)?;
+    let [add, get, set, walk, remove, next_of, next_tracee, trace] = times.map(|sum| sum
+        / OPERATIONS);
+    eprintln!(rt;
+        "{size:>6} LWPs {add:>8} {get:>6} {set:>6} {walk:>6} {remove:>6} {next_of:>7} {next_tracee:>11} {trace:>6}"
+    )?;
+    let processes = host.processes();
+    let lwps = host.lwps();
+    let answers = host.answers();
+    println!(rt; "{processes} processes and {lwps} LWPs: {answers} rows answered")
+}
+
+/// The same for a new host with so many LWPs.
+fn tell_of(rt: &(impl Print + Eprint + Clock), alloc: Global, size: usize) -> io::Result<()> {
+    let mut host = Host::filled(alloc, size)?;
+    tell(rt, &mut host, size)
+}
+
 fn main(rt: HostRuntime) -> io::Result<()> {
     eprintln!(rt; "nanoseconds     add    get    set   walk remove next_of next_tracee  trace")?;
     for size in [1000, 10000, 30000] {
-        let mut host = Host::filled(rt.alloc(), size)?;
-        let times = measure(&rt, &mut host)?;
-        let [add, get, set, walk, remove, next_of, next_tracee, trace] = times.map(|sum| sum
-            / OPERATIONS);
-        eprintln!(rt;
-            "{size:>6} LWPs {add:>8} {get:>6} {set:>6} {walk:>6} {remove:>6} {next_of:>7} {next_tracee:>11} {trace:>6}"
-        )?;
-        let processes = host.processes();
-        let lwps = host.lwps();
-        let answers = host.answers();
-        println!(rt; "{processes} processes and {lwps} LWPs: {answers} rows answered")?;
+        tell_of(&rt, rt.alloc(), size)?;
     }
     Ok(())
 }

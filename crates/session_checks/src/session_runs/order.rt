@@ -11,8 +11,10 @@ use requests::{Host, Step};
 use sessions::{Gate, Script, run_sessions};
 use std::alloc::Global;
 use std::process::Abort;
+use std::sync::Wait;
 use std::sync::atomic::{AtomicU64, Ordering};
 use std::test::Fail;
+use std::thread::Threads;
 use stop_handlers::{Decider, Decision, Handler, Policy, StopView};
 use trace_stop::Settings;
 
@@ -143,6 +145,21 @@ fn install_each<'a>(
     Some(scripts)
 }
 
+/// Whether the scripts run to their end on a host that nobody has used.
+fn is_run<'a, R: Threads + Wait + Sync>(
+    rt: &R,
+    alloc: Global,
+    order: &'a Order,
+    scripts: Vec<Script<Counted<'a>>>,
+) -> bool
+    requires { All IsShort scripts.items }
+{
+    let Ok(host) = Host::new(alloc, Settings::standard()) else {
+        return false;
+    };
+    run_sessions(rt, alloc, host, scripts, order).is_ok()
+}
+
 #[test]
 fn a_gate_is_told_before_and_after_each_call(rt: HostRuntime) -> Result<(), Fail> {
     let alloc: Global = rt.alloc();
@@ -151,12 +168,8 @@ fn a_gate_is_told_before_and_after_each_call(rt: HostRuntime) -> Result<(), Fail
         first: Calls::new(),
         other: Calls::new(),
     };
-    let Some(scripts) = install_each(alloc, users, &order) else {
-        panic!(rt; "no scripts");
-    };
-    let host = Host::new(alloc, Settings::standard()).ok().ok_or("host")?;
-    let ran = run_sessions(&rt, alloc, host, scripts, &order);
-    assert!(rt; ran.is_ok());
+    let scripts = install_each(alloc, users, &order).ok_or("scripts")?;
+    assert!(rt; is_run(&rt, alloc, &order, scripts));
     order.first.are_in_order(&rt, 10);
     order.other.are_in_order(&rt, 10);
     Ok(())

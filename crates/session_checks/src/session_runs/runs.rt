@@ -2,6 +2,7 @@
 
 use super::gates::{Meet, Open};
 use super::scripts::{are_own, new_host, new_process, spawn_at, spawn_each};
+use crate::hosts::last_spawn;
 use host_lock::Journal;
 use pid_blocks::Uid;
 use requests::{Host, Reply, Step};
@@ -13,31 +14,44 @@ use std::test::Fail;
 use std::thread::Threads;
 use stop_handlers::ByPolicy;
 
-/// What a run answers.
+/// What a run answers beside the host.
 #[derive(Drop)]
 struct Ran {
-    host: Host<ByPolicy>,
     journal: Journal,
     transcripts: Vec<Transcript>,
 }
 
-/// A run with a script of so many spawns for each of the users.
-fn run<G: Gate, R: Threads + Wait + Sync>(
+/// A run on the host, with a script of so many spawns for each of the users.
+fn run_on<G: Gate, R: Threads + Wait + Sync>(
     rt: &R,
     alloc: Global,
     host: Host<ByPolicy>,
     (users, count): (&[Uid], u32),
     gate: &G,
-) -> Result<Ran, RunRefusal> {
+) -> Result<(Host<ByPolicy>, Ran), RunRefusal> {
     let Some(scripts) = spawn_each(alloc, users, count) else {
         return Err(RunRefusal::Memory);
     };
     let (host, journal, transcripts) = run_sessions(rt, alloc, host, scripts, gate)?;
-    Ok(Ran {
-        host,
+    let ran = Ran {
         journal,
         transcripts,
-    })
+    };
+    Ok((host, ran))
+}
+
+/// The same on a host that nobody has used.
+fn run<G: Gate, R: Threads + Wait + Sync>(
+    rt: &R,
+    alloc: Global,
+    (users, count): (&[Uid], u32),
+    gate: &G,
+) -> Result<Ran, RunRefusal> {
+    let Some(host) = new_host(alloc) else {
+        return Err(RunRefusal::Memory);
+    };
+    let (_host, ran) = run_on(rt, alloc, host, (users, count), gate)?;
+    Ok(ran)
 }
 
 /// Two scripts of ten calls each, which meet at each call. So many calls are user 1001's, so many another's.
@@ -46,35 +60,32 @@ fn meet<R: Abort + Threads + Wait + Sync>(
     alloc: Global,
     users: [Uid; 2],
     (first, others): (u64, u64),
-) -> Result<Ran, Fail> {
-    let host = new_host(alloc).ok_or("host")?;
+) -> Option<Ran> {
     let gate = Meet::new();
-    let ran = run(rt, alloc, host, (&users[..], 10), &gate);
-    let ran = ran.ok().ok_or("run")?;
+    let ran = run(rt, alloc, (&users[..], 10), &gate).ok()?;
     gate.all_met(rt, first, others);
     assert_eq!(rt; (ran.journal.len(), ran.transcripts.len()), (20, 2));
-    Ok(ran)
+    Some(ran)
 }
 
 #[test]
 fn two_users_run_at_the_same_time(rt: HostRuntime) -> Result<(), Fail> {
     let alloc: Global = rt.alloc();
     let users = [Uid::new(1001)?, Uid::new(1002)?];
-    let ran = meet(&rt, alloc, users, (10, 10))?;
+    let ran = meet(&rt, alloc, users, (10, 10)).ok_or("run")?;
     are_own(&rt, ran.transcripts.as_slice(), 2, 10);
     Ok(())
 }
 
-#[test]
-fn two_scripts_of_a_user_run_at_the_same_time(rt: HostRuntime) -> Result<(), Fail> {
-    let alloc: Global = rt.alloc();
-    let user = Uid::new(1001)?;
-    let ran = meet(&rt, alloc, [user, user], (20, 0))?;
+/// The user's two scripts of ten calls each got the user's first twenty numbers.
+fn share_twenty<R: Abort>(rt: &R, ran: &Ran, user: Uid) {
     for transcript in ran.transcripts.iter() {
         assert_eq!(rt; (transcript.uid, transcript.replies.len()), (user, 10));
     }
     for i in 0u32..20 {
-        let wanted = new_process(1000 + i, 100000 + i).ok_or("number")?;
+        let Some(wanted) = new_process(1000 + i, 100000 + i) else {
+            panic!(rt; "no number at {i}");
+        };
         let made = spawn_at(&ran.journal, i as usize);
         let script = match made {
             Some((_, script, _)) => script,
@@ -82,6 +93,13 @@ fn two_scripts_of_a_user_run_at_the_same_time(rt: HostRuntime) -> Result<(), Fai
         };
         assert_eq!(rt; made, Some((user, script, &wanted)), "at {i}");
     }
+}
+
+#[test]
+fn two_scripts_of_a_user_run_at_the_same_time(rt: HostRuntime) -> Result<(), Fail> {
+    let user = Uid::new(1001)?;
+    let ran = meet(&rt, rt.alloc(), [user, user], (20, 0)).ok_or("run")?;
+    share_twenty(&rt, &ran, user);
     Ok(())
 }
 
@@ -94,24 +112,16 @@ fn only_reply(transcripts: &[Transcript], script: usize, user: Uid) -> Option<&R
     transcript.replies.get(0)
 }
 
-/// Whichever script comes first gets the first numbers.
-#[test]
-fn a_user_has_two_scripts(rt: HostRuntime) -> Result<(), Fail> {
-    let alloc: Global = rt.alloc();
-    let user = Uid::new(1001)?;
-    let host = new_host(alloc).ok_or("host")?;
-    let ran = run(&rt, alloc, host, (&[user, user], 1), &Open);
-    let ran = ran.ok().ok_or("run")?;
+/// The user's two scripts of one call each: whichever comes first gets the first numbers.
+fn share_two<R: Abort>(rt: &R, ran: &Ran, user: Uid, one: &Reply, other: &Reply) {
     assert_eq!(rt; (ran.journal.len(), ran.transcripts.len()), (2, 2));
-    let one = new_process(1000, 100000).ok_or("number")?;
-    let other = new_process(1001, 100001).ok_or("number")?;
     let replies = ran.transcripts.as_slice();
-    let (first, second) = if only_reply(replies, 0, user) == Some(&one) {
+    let (first, second) = if only_reply(replies, 0, user) == Some(one) {
         (0, 1)
     } else {
         (1, 0)
     };
-    for (place, script, wanted) in [(0, first, &one), (1, second, &other)] {
+    for (place, script, wanted) in [(0, first, one), (1, second, other)] {
         assert_eq!(rt;
             only_reply(replies, script, user),
             Some(wanted),
@@ -120,37 +130,57 @@ fn a_user_has_two_scripts(rt: HostRuntime) -> Result<(), Fail> {
         let made = spawn_at(&ran.journal, place);
         assert_eq!(rt; made, Some((user, script, wanted)), "at {place}");
     }
+}
+
+#[test]
+fn a_user_has_two_scripts(rt: HostRuntime) -> Result<(), Fail> {
+    let user = Uid::new(1001)?;
+    let one = new_process(1000, 100000).ok_or("number")?;
+    let other = new_process(1001, 100001).ok_or("number")?;
+    let ran = run(&rt, rt.alloc(), (&[user, user], 1), &Open);
+    let ran = ran.ok().ok_or("run")?;
+    share_two(&rt, &ran, user, &one, &other);
     Ok(())
 }
 
 #[test]
 fn sixty_five_scripts_are_too_many(rt: HostRuntime) -> Result<(), Fail> {
-    let alloc: Global = rt.alloc();
-    let host = new_host(alloc).ok_or("host")?;
     let users = [Uid::new(1001)?; 65];
-    let run = run(&rt, alloc, host, (&users[..], 1), &Open);
+    let run = run(&rt, rt.alloc(), (&users[..], 1), &Open);
     assert!(rt; matches!(&run, Err(RunRefusal::TooMany)));
     Ok(())
+}
+
+/// The host after a run of no scripts, which has nothing to answer.
+fn run_none<R: Abort + Threads + Wait + Sync>(
+    rt: &R,
+    alloc: Global,
+    host: Host<ByPolicy>,
+) -> Option<Host<ByPolicy>> {
+    let (host, ran) = run_on(rt, alloc, host, (&[], 1), &Open).ok()?;
+    assert_eq!(rt; (ran.journal.len(), ran.transcripts.len()), (0, 0));
+    assert!(rt; ran.journal.is_empty());
+    Some(host)
+}
+
+/// The replies to a spawn before a run of no scripts and to one after it.
+fn spawns_around<R: Abort + Threads + Wait + Sync>(
+    rt: &R,
+    alloc: Global,
+    user: Uid,
+) -> Option<(Reply, Reply)> {
+    let mut host = new_host(alloc)?;
+    let first = host.step(alloc, user, Step::Spawn);
+    let host = run_none(rt, alloc, host)?;
+    let second = last_spawn(alloc, host, user);
+    Some((first, second))
 }
 
 /// With no scripts the host comes back as it was: it has one process.
 #[test]
 fn no_script_does_nothing(rt: HostRuntime) -> Result<(), Fail> {
-    let alloc: Global = rt.alloc();
     let user = Uid::new(1001)?;
-    let mut host = new_host(alloc).ok_or("host")?;
-    let first = host.step(alloc, user, Step::Spawn);
-    let ran = run(&rt, alloc, host, (&[], 1), &Open);
-    let mut ran = ran.ok().ok_or("run")?;
-    assert_eq!(rt;
-        (
-            ran.journal.len(),
-            ran.journal.is_empty(),
-            ran.transcripts.len()
-        ),
-        (0, true, 0)
-    );
-    let second = ran.host.step(alloc, user, Step::Spawn);
+    let (first, second) = spawns_around(&rt, rt.alloc(), user).ok_or("run")?;
     assert_eq!(rt; Some(first), new_process(1000, 100000));
     assert_eq!(rt; Some(second), new_process(1001, 100001));
     Ok(())
@@ -168,9 +198,8 @@ fn all_users(alloc: Global) -> Option<Vec<Uid>> {
 #[test]
 fn sixty_four_users_make_a_hundred_calls_each(rt: HostRuntime) -> Result<(), Fail> {
     let alloc: Global = rt.alloc();
-    let host = new_host(alloc).ok_or("host")?;
     let users = all_users(alloc).ok_or("users")?;
-    let ran = run(&rt, alloc, host, (users.as_slice(), 100), &Open);
+    let ran = run(&rt, alloc, (users.as_slice(), 100), &Open);
     let ran = ran.ok().ok_or("run")?;
     assert_eq!(rt; ran.journal.len(), 6400);
     are_own(&rt, ran.transcripts.as_slice(), 64, 100);

@@ -49,6 +49,22 @@ pub fn new_process(pid: u32, tid: u32) -> Option<Reply> {
     Some(Reply::New { pid, tid })
 }
 
+/// The transcript is of the user at this place from 1001 on, with so many spawns of the user's first numbers.
+fn are_spawns<R: Abort>(rt: &R, transcript: &Transcript, slot: u32, count: u32)
+    requires { (slot < 64) × (count < 65000) }
+{
+    assert_eq!(rt; transcript.uid.get(), 1001 + slot);
+    assert_eq!(rt; transcript.replies.len(), count as usize);
+    for i in 0..count {
+        let wanted = new_process(1000 + 1000 * slot + i, 100000 + 4000 * slot + i);
+        assert_eq!(rt;
+            transcript.replies.get(i as usize),
+            wanted.as_ref(),
+            "at {i}"
+        );
+    }
+}
+
 /// The transcripts are of so many users from 1001 on, each with so many spawns of the user's first numbers.
 pub fn are_own<R: Abort>(rt: &R, transcripts: &[Transcript], users: u32, count: u32)
     requires { (users ≤ 64) × (count < 65000) }
@@ -58,18 +74,7 @@ pub fn are_own<R: Abort>(rt: &R, transcripts: &[Transcript], users: u32, count: 
         let Some(transcript) = transcripts.get(slot as usize) else {
             panic!(rt; "no transcript at {slot}");
         };
-        assert_eq!(rt;
-            (transcript.uid.get(), transcript.replies.len()),
-            (1001 + slot, count as usize)
-        );
-        for i in 0..count {
-            let wanted = new_process(1000 + 1000 * slot + i, 100000 + 4000 * slot + i);
-            assert_eq!(rt;
-                transcript.replies.get(i as usize),
-                wanted.as_ref(),
-                "at {i}"
-            );
-        }
+        are_spawns(rt, transcript, slot, count);
     }
 }
 

@@ -1,8 +1,10 @@
 //! Opening, closing, and what stands in the journal between.
 
+ghost use Rattle.std.specs.Prelude.{IfSome};
 ghost use Rattle.host_lock.specs.Sessions.{IsOf, IsSame};
 
-use super::pairs::{ask, close_one, close_two, new_process, open_two};
+use super::pairs::{ask, close_one, close_two, new_host, new_process, open_two};
+use crate::hosts::last_spawn;
 use host_lock::{Journal, MOST_CALLS, OpenRefusal, Session, SharedHost, budget_left};
 use lwpinfo::NumList;
 use pid_blocks::Uid;
@@ -12,7 +14,6 @@ use std::process::Abort;
 use std::sync::Wait;
 use std::test::Fail;
 use stop_handlers::ByPolicy;
-use trace_stop::Settings;
 
 #[test]
 fn a_session_makes_4294967295_calls(rt: HostRuntime) {
@@ -31,18 +32,22 @@ fn came_back(
     }
 }
 
+/// The replies to a spawn before a refused opening and to one after it, and whether too many sessions were named.
+fn spawns_around(alloc: Global, user: Uid, users: &[Uid]) -> Option<(Reply, Reply, bool)> {
+    let mut host = new_host(alloc)?;
+    let first = host.step(alloc, user, Step::Spawn);
+    let (host, too_many) = came_back(SharedHost::open(alloc, host, users))?;
+    let second = last_spawn(alloc, host, user);
+    Some((first, second, too_many))
+}
+
 /// The host that comes back has the process that it was given.
 #[test]
 fn neither_none_nor_sixty_five_open_a_host(rt: HostRuntime) -> Result<(), Fail> {
-    let alloc = rt.alloc();
     let user = Uid::new(1001)?;
     let sixty_five = [user; 65];
     for (users, too_many) in [(&sixty_five[..0], false), (&sixty_five[..], true)] {
-        let mut host = Host::<ByPolicy>::new(alloc, Settings::standard())?;
-        let first = host.step(alloc, user, Step::Spawn);
-        let opened = SharedHost::open(alloc, host, users);
-        let (mut host, many) = came_back(opened).ok_or("opened")?;
-        let second = host.step(alloc, user, Step::Spawn);
+        let (first, second, many) = spawns_around(rt.alloc(), user, users).ok_or("opened")?;
         assert_eq!(rt; Some(first), new_process(1000, 100000));
         assert_eq!(rt; Some(second), new_process(1001, 100001));
         assert_eq!(rt; many, too_many);
@@ -123,6 +128,67 @@ fn shown(session: &Session) -> (u32, usize, u32) {
     (session.uid().get(), session.number(), session.calls_made())
 }
 
+/// The sessions are the users', and have made so many calls.
+fn are_shown<R: Abort>(
+    rt: &R,
+    first: &Session,
+    second: &Session,
+    users: (Uid, Uid),
+    made: (u32, u32),
+) {
+    assert_eq!(rt; shown(first), (users.0.get(), 0, made.0));
+    assert_eq!(rt; shown(second), (users.1.get(), 1, made.1));
+}
+
+/// The host isn't closed by one of the two sessions alone, and is by both.
+fn close_in_turn<R: Abort>(
+    rt: &R,
+    alloc: Global,
+    host: SharedHost<ByPolicy>,
+    first: Session,
+    second: Session,
+    users: (Uid, Uid),
+    made: (u32, u32),
+) -> Option<(Host<ByPolicy>, Journal)>
+    requires first { IsOf host first }
+    requires second { IsOf host second }
+{
+    let (host, first) = close_one(alloc, host, first)?;
+    are_shown(rt, &first, &second, users, made);
+    close_two(alloc, host, first, second)
+}
+
+/// A new host, shared by a session of each of the users.
+fn open_new(alloc: Global, users: (Uid, Uid)) -> Option<(SharedHost<ByPolicy>, Session, Session)>
+    ensures first { IfSome result (λ r. IsOf r.0 r.1) }
+    ensures second { IfSome result (λ r. IsOf r.0 r.2) }
+{
+    let host = new_host(alloc)?;
+    open_two(alloc, host, users.0, users.1)
+}
+
+/// The host and the journal, after these calls of two sessions.
+fn called_in_turn<R: Abort + Wait>(
+    rt: &R,
+    alloc: Global,
+    (one, other): (Uid, Uid),
+    (first_made, second_made): (u32, u32),
+    calls: &[Called],
+) -> Option<(Host<ByPolicy>, Journal)> {
+    let (host, mut first, mut second) = open_new(alloc, (one, other))?;
+    are_shown(rt, &first, &second, (one, other), (0, 0));
+    call_in_turn(rt, alloc, &host, &mut first, &mut second, calls);
+    close_in_turn(
+        rt,
+        alloc,
+        host,
+        first,
+        second,
+        (one, other),
+        (first_made, second_made),
+    )
+}
+
 /// Two sessions make these calls. The host is closed once both are handed in.
 fn work_in_turn<R: Abort + Wait>(
     rt: &R,
@@ -130,56 +196,73 @@ fn work_in_turn<R: Abort + Wait>(
     (one, other): (Uid, Uid),
     made: (u32, u32),
     calls: &[Called],
-) -> Result<Host<ByPolicy>, Fail> {
-    let host = Host::<ByPolicy>::new(alloc, Settings::standard())?;
-    let opened = open_two(alloc, host, one, other);
-    let (host, mut first, mut second) = opened.ok_or("open")?;
-    let (uid, other_uid) = (one.get(), other.get());
-    assert_eq!(rt;
-        (shown(&first), shown(&second)),
-        ((uid, 0, 0), (other_uid, 1, 0))
-    );
-    call_in_turn(rt, alloc, &host, &mut first, &mut second, calls);
-    let (host, first) = close_one(alloc, host, first).ok_or("Missing")?;
-    assert_eq!(rt;
-        (shown(&first), shown(&second)),
-        ((uid, 0, made.0), (other_uid, 1, made.1))
-    );
-    let (host, journal) = close_two(alloc, host, first, second).ok_or("close")?;
+) -> Option<Host<ByPolicy>> {
+    let (host, journal) = called_in_turn(rt, alloc, (one, other), made, calls)?;
     are_calls(rt, &journal, &[one, other], calls);
-    Ok(host)
+    Some(host)
+}
+
+/// A call of each session.
+fn two_calls() -> Option<[Called; 2]> {
+    Some([spawned(0, 1000, 100000)?, spawned(1, 1001, 100001)?])
+}
+
+/// A host after these calls by two sessions of a user.
+fn after_two_calls<R: Abort + Wait>(rt: &R, alloc: Global, user: Uid) -> Option<Host<ByPolicy>> {
+    let calls = two_calls()?;
+    work_in_turn(rt, alloc, (user, user), (1, 1), &calls[..])
 }
 
 #[test]
 fn a_user_may_have_two_sessions(rt: HostRuntime) -> Result<(), Fail> {
-    let alloc = rt.alloc();
     let user = Uid::new(1001)?;
-    let calls = [
-        spawned(0, 1000, 100000).ok_or("number")?,
-        spawned(1, 1001, 100001).ok_or("number")?,
-    ];
-    work_in_turn(&rt, alloc, (user, user), (1, 1), &calls[..])?;
+    let _host = after_two_calls(&rt, rt.alloc(), user).ok_or("host")?;
     Ok(())
+}
+
+/// Three calls of the first session, one of the second between them.
+fn four_calls(alloc: Global) -> Option<[Called; 4]> {
+    let pids = vec![in alloc; 1000, 1001].ok()?;
+    Some([
+        spawned(0, 1000, 100000)?,
+        spawned(1, 2000, 104000)?,
+        spawned(0, 1001, 100001)?,
+        Called {
+            session: 0,
+            lists: Some(1000),
+            reply: Reply::Pids(NumList::of(pids)),
+        },
+    ])
+}
+
+/// A host after these calls.
+fn after_four_calls<R: Abort + Wait>(
+    rt: &R,
+    alloc: Global,
+    users: (Uid, Uid),
+) -> Option<Host<ByPolicy>> {
+    let calls = four_calls(alloc)?;
+    work_in_turn(rt, alloc, users, (3, 1), &calls[..])
+}
+
+/// The next spawn of the user has these numbers.
+fn spawns_next<R: Abort>(
+    rt: &R,
+    alloc: Global,
+    host: &mut Host<ByPolicy>,
+    user: Uid,
+    (pid, tid): (u32, u32),
+) {
+    let next = host.step(alloc, user, Step::Spawn);
+    assert_eq!(rt; Some(next), new_process(pid, tid));
 }
 
 #[test]
 fn a_host_waits_for_all_its_sessions(rt: HostRuntime) -> Result<(), Fail> {
     let alloc = rt.alloc();
     let (one, other) = (Uid::new(1001)?, Uid::new(1002)?);
-    let calls = [
-        spawned(0, 1000, 100000).ok_or("number")?,
-        spawned(1, 2000, 104000).ok_or("number")?,
-        spawned(0, 1001, 100001).ok_or("number")?,
-        Called {
-            session: 0,
-            lists: Some(1000),
-            reply: Reply::Pids(NumList::of(vec![in alloc; 1000, 1001]?)),
-        },
-    ];
-    let mut host = work_in_turn(&rt, alloc, (one, other), (3, 1), &calls[..])?;
-    let next = host.step(alloc, one, Step::Spawn);
-    assert_eq!(rt; Some(next), new_process(1002, 100002));
-    let next = host.step(alloc, other, Step::Spawn);
-    assert_eq!(rt; Some(next), new_process(2001, 104001));
+    let mut host = after_four_calls(&rt, alloc, (one, other)).ok_or("host")?;
+    spawns_next(&rt, alloc, &mut host, one, (1002, 100002));
+    spawns_next(&rt, alloc, &mut host, other, (2001, 104001));
     Ok(())
 }

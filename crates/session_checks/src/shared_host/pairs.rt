@@ -5,17 +5,23 @@ ghost use Rattle.host_lock.specs.Sessions.{IsOf, IsSame};
 
 use host_lock::{Answer, CloseRefusal, Journal, Session, SharedHost};
 use pid_blocks::{Pid, Tid, Uid};
-use requests::{Host, Reply, Step};
+use requests::{Host, PlainStep, Reply, Step};
 use std::alloc::Global;
 use std::sync::Wait;
 use std::thread::{Threads, join};
 use stop_handlers::{ByPolicy, Handler};
+use trace_stop::Settings;
 
 /// The reply to a spawn. None where no user has such numbers.
 pub fn new_process(pid: u32, tid: u32) -> Option<Reply> {
     let pid = Pid::new(pid)?;
     let tid = Tid::new(tid)?;
     Some(Reply::New { pid, tid })
+}
+
+/// A host that nobody has used. None where memory ran out.
+pub fn new_host(alloc: Global) -> Option<Host<ByPolicy>> {
+    Host::<ByPolicy>::new(alloc, Settings::standard()).ok()
 }
 
 /// One call of the session. None where it has made all its calls.
@@ -105,9 +111,9 @@ pub fn close_one(
 
 /// A session after its steps, with the replies.
 #[derive(Drop)]
-pub struct Worked {
-    pub session: Session,
-    pub replies: Vec<Reply>,
+struct Worked {
+    session: Session,
+    replies: Vec<Reply>,
 }
 
 /// Makes the steps. None where memory or the calls ran out.
@@ -130,7 +136,7 @@ fn work<R: Wait>(
 }
 
 /// Makes the steps of two sessions, each in a thread of its own.
-pub fn work_beside<R: Threads + Wait + Sync>(
+fn work_beside<R: Threads + Wait + Sync>(
     rt: &R,
     alloc: Global,
     host: &SharedHost<ByPolicy>,
@@ -155,11 +161,59 @@ pub fn work_beside<R: Threads + Wait + Sync>(
     )
 }
 
-/// A hundred spawns.
-pub fn spawn_hundred(alloc: Global) -> Option<Vec<Step<Handler<ByPolicy>>>> {
-    let mut steps = Vec::new(alloc);
-    for _ in 0u32..100 {
-        steps.push(Step::Spawn).ok()?;
+/// The journal, and the replies to each of two sessions.
+#[derive(Drop)]
+pub struct Left {
+    pub journal: Journal,
+    pub first: Vec<Reply>,
+    pub second: Vec<Reply>,
+}
+
+/// What both sessions leave, once they are handed in.
+fn hand_in(alloc: Global, host: SharedHost<ByPolicy>, first: Worked, second: Worked) -> Option<Left>
+    requires first { IsOf host first.session }
+    requires second { IsOf host second.session }
+{
+    let (_host, journal) = close_two(alloc, host, first.session, second.session)?;
+    Some(Left {
+        journal,
+        first: first.replies,
+        second: second.replies,
+    })
+}
+
+/// What both sessions leave, after their steps in threads of their own.
+fn work_and_close<R: Threads + Wait + Sync>(
+    rt: &R,
+    alloc: Global,
+    host: SharedHost<ByPolicy>,
+    first: (Session, Vec<Step<Handler<ByPolicy>>>),
+    second: (Session, Vec<Step<Handler<ByPolicy>>>),
+) -> Option<Left>
+    requires first { IsOf host first.0 }
+    requires second { IsOf host second.0 }
+{
+    let (first, second) = work_beside(rt, alloc, &host, first, second);
+    hand_in(alloc, host, first?, second?)
+}
+
+/// Makes the steps of two users on the host, in threads of their own.
+pub fn run_beside<R: Threads + Wait + Sync>(
+    rt: &R,
+    alloc: Global,
+    host: Host<ByPolicy>,
+    users: (Uid, Uid),
+    (mine, theirs): (Vec<Step<Handler<ByPolicy>>>, Vec<Step<Handler<ByPolicy>>>),
+) -> Option<Left> {
+    let (host, first, second) = open_two(alloc, host, users.0, users.1)?;
+    work_and_close(rt, alloc, host, (first, mine), (second, theirs))
+}
+
+/// The steps, with handlers that answer by their policies.
+pub fn by_policy(alloc: Global, steps: &[PlainStep]) -> Option<Vec<Step<Handler<ByPolicy>>>> {
+    let mut own = Vec::new(alloc);
+    for step in steps {
+        own.push(step.by_policy()).ok()?;
     }
-    Some(steps)
+    Some(own)
 }

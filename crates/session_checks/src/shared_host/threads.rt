@@ -2,7 +2,7 @@
 
 ghost use Rattle.std.specs.Prelude.{◌<◌};
 
-use super::pairs::{close_two, new_process, open_two, spawn_hundred, work_beside};
+use super::pairs::{Left, by_policy, new_host, new_process, run_beside};
 use event_masks::{Call, EventMask, StopFlags};
 use host_lock::Journal;
 use pid_blocks::{Errno, Pid, Tid, Uid};
@@ -10,9 +10,10 @@ use requests::{Act, Host, PlainStep, Reply, Request, Step};
 use signals::{Pass, Signal};
 use std::alloc::Global;
 use std::process::Abort;
+use std::sync::Wait;
 use std::test::Fail;
-use stop_handlers::{ByPolicy, Decision, Handler, Policy, Rule, StopView};
-use trace_stop::Settings;
+use std::thread::Threads;
+use stop_handlers::{ByPolicy, Decision, Policy, Rule, StopView};
 use wait4::{Options, Status};
 
 /// The replies are to a hundred spawns, with the numbers from these on.
@@ -49,22 +50,29 @@ fn are_entries<R: Abort>(rt: &R, journal: &Journal, session: usize, user: Uid, f
     assert_eq!(rt; count, 100);
 }
 
+/// What a hundred spawns of each of the users leave.
+fn hundred_each<R: Threads + Wait + Sync>(
+    rt: &R,
+    alloc: Global,
+    users: (Uid, Uid),
+) -> Option<Left> {
+    let mine = by_policy(alloc, &[PlainStep::Spawn; 100])?;
+    let theirs = by_policy(alloc, &[PlainStep::Spawn; 100])?;
+    let host = new_host(alloc)?;
+    run_beside(rt, alloc, host, users, (mine, theirs))
+}
+
 #[test]
 fn two_threads_spawn(rt: HostRuntime) -> Result<(), Fail> {
-    let alloc = rt.alloc();
     let (one, other) = (Uid::new(1001)?, Uid::new(1002)?);
-    let host = Host::<ByPolicy>::new(alloc, Settings::standard())?;
-    let (host, first, second) = open_two(alloc, host, one, other).ok_or("open")?;
-    let mine = spawn_hundred(alloc).ok_or("memory")?;
-    let theirs = spawn_hundred(alloc).ok_or("memory")?;
-    let (first, second) = work_beside(&rt, alloc, &host, (first, mine), (second, theirs));
-    let (first, second) = (first.ok_or("first")?, second.ok_or("second")?);
-    are_hundred(&rt, first.replies.as_slice(), 1000, 100000);
-    are_hundred(&rt, second.replies.as_slice(), 2000, 104000);
-    let (_host, journal) = close_two(alloc, host, first.session, second.session).ok_or("close")?;
-    assert_eq!(rt; journal.len(), 200);
-    are_entries(&rt, &journal, 0, one, (1000, 100000));
-    are_entries(&rt, &journal, 1, other, (2000, 104000));
+    let Some(left) = hundred_each(&rt, rt.alloc(), (one, other)) else {
+        panic!(rt; "nothing is left");
+    };
+    are_hundred(&rt, left.first.as_slice(), 1000, 100000);
+    are_hundred(&rt, left.second.as_slice(), 2000, 104000);
+    assert_eq!(rt; left.journal.len(), 200);
+    are_entries(&rt, &left.journal, 0, one, (1000, 100000));
+    are_entries(&rt, &left.journal, 1, other, (2000, 104000));
     Ok(())
 }
 
@@ -78,56 +86,40 @@ fn rule(signal: Signal, flags: StopFlags, decision: Decision) -> Rule {
 }
 
 /// Goes on at a fork, detaches at SIGUSR1 and kills at another SIGTRAP.
-fn make_handler(none: Pass) -> Result<Handler<ByPolicy>, Fail> {
+fn fork_policy(none: Pass) -> Result<Policy, Fail> {
     let (trap, usr) = (Signal::new(5)?, Signal::new(30)?);
-    let policy = Policy::new(&[
+    Ok(Policy::new(&[
         rule(trap, StopFlags::PL_FLAG_FORKED, Decision::Continue(none)),
         rule(usr, StopFlags(0), Decision::Detach(none)),
         rule(trap, StopFlags(0), Decision::Kill),
-    ])?;
-    Ok(Handler::new(policy, ByPolicy(policy)))
+    ])?)
 }
 
-fn command(request: Request, target: u32, data: u32) -> Step<Handler<ByPolicy>> {
-    Step::Ptrace {
-        caller: 1000,
-        request,
-        target,
-        data,
-    }
+fn command(request: Request, target: u32, data: u32) -> PlainStep {
+    Step::ptrace(1000, request, target, data)
 }
 
-fn turn(act: Act) -> Step<Handler<ByPolicy>> {
-    Step::Turn { tid: 100001, act }
+fn turn(act: Act) -> PlainStep {
+    Step::turn(100001, act)
 }
 
-fn handle() -> Step<Handler<ByPolicy>> {
-    Step::Handle { caller: 1000 }
+fn handle() -> PlainStep {
+    Step::handle(1000)
 }
 
 /// The debugger's steps: its tracee forks and gets a signal, and its handler is asked about each stop.
-fn debug(alloc: Global, handler: Handler<ByPolicy>) -> Option<Vec<Step<Handler<ByPolicy>>>> {
-    let (untraced, continued) = (false, false);
-    let wait = Step::Wait4 {
-        caller: 1000,
-        which: -1,
-        options: Options {
-            untraced,
-            continued,
-        },
+fn debug(policy: Policy) -> [PlainStep; 15] {
+    let options = Options {
+        untraced: false,
+        continued: false,
     };
-    let install = Step::Install {
+    let install = PlainStep::Install {
         caller: 1000,
-        handler,
+        handler: policy,
     };
-    let kill = Step::Kill {
-        caller: 1000,
-        which: 1001,
-        sig: 30,
-    };
-    let steps = vec![in alloc;
+    [
         command(Request::Attach, 1001, 0),
-        wait,
+        Step::wait4(1000, -1, options),
         command(Request::SetEventMask, 1001, EventMask::PTRACE_FORK.0),
         install,
         command(Request::Continue, 1001, 0),
@@ -135,14 +127,13 @@ fn debug(alloc: Global, handler: Handler<ByPolicy>) -> Option<Vec<Step<Handler<B
         turn(Act::Leave),
         handle(),
         handle(),
-        kill,
+        Step::kill(1000, 1001, 30),
         turn(Act::Compute),
         handle(),
         command(Request::Continue, 1001, 0),
         command(Request::Continue, 1002, 0),
         handle(),
-    ];
-    steps.ok()
+    ]
 }
 
 /// A stop that a handler was asked about: the process and its status word, then the LWP, the signal, the flags, the child and the code
@@ -211,8 +202,13 @@ fn debugged(none: Pass) -> [Option<Reply>; 15] {
     ]
 }
 
-/// Two processes of the first user, one of the second between them.
-fn spawn_three<R: Abort>(rt: &R, alloc: Global, host: &mut Host<ByPolicy>, one: Uid, other: Uid) {
+/// A host on which the first user has two processes, the second one between them.
+fn spawn_three<R: Abort>(
+    rt: &R,
+    alloc: Global,
+    (one, other): (Uid, Uid),
+) -> Option<Host<ByPolicy>> {
+    let mut host = new_host(alloc)?;
     for (user, pid, tid) in [
         (one, 1000, 100000),
         (other, 2000, 104000),
@@ -221,32 +217,46 @@ fn spawn_three<R: Abort>(rt: &R, alloc: Global, host: &mut Host<ByPolicy>, one: 
         let reply = host.step(alloc, user, Step::Spawn);
         assert_eq!(rt; Some(reply), new_process(pid, tid));
     }
+    Some(host)
 }
 
-#[test]
-fn a_debugger_works_beside_another_user(rt: HostRuntime) -> Result<(), Fail> {
-    let alloc = rt.alloc();
-    let (one, other) = (Uid::new(1001)?, Uid::new(1002)?);
-    let none = Pass::new(0)?;
-    let mut host = Host::<ByPolicy>::new(alloc, Settings::standard())?;
-    spawn_three(&rt, alloc, &mut host, one, other);
-    let (host, first, second) = open_two(alloc, host, one, other).ok_or("open")?;
-    let mine = debug(alloc, make_handler(none)?).ok_or("memory")?;
-    let theirs = spawn_hundred(alloc).ok_or("memory")?;
-    let (first, second) = work_beside(&rt, alloc, &host, (first, mine), (second, theirs));
-    let (first, second) = (first.ok_or("first")?, second.ok_or("second")?);
+/// What the debugger's steps leave, beside a hundred spawns of another user.
+fn debug_beside<R: Abort + Threads + Wait + Sync>(
+    rt: &R,
+    alloc: Global,
+    (one, other): (Uid, Uid),
+    policy: Policy,
+) -> Option<Left> {
+    let mine = by_policy(alloc, &debug(policy))?;
+    let theirs = by_policy(alloc, &[PlainStep::Spawn; 100])?;
+    let host = spawn_three(rt, alloc, (one, other))?;
+    run_beside(rt, alloc, host, (one, other), (mine, theirs))
+}
+
+/// The replies are those that the debugger is to be answered.
+fn are_debugged<R: Abort>(rt: &R, replies: &[Reply], none: Pass) {
     let wanted = debugged(none);
-    assert_eq!(rt; first.replies.len(), wanted.len());
-    for (place, reply) in first.replies.iter().enumerate() {
+    assert_eq!(rt; replies.len(), wanted.len());
+    for (place, reply) in replies.iter().enumerate() {
         let found = wanted
             .as_slice()
             .get(place)
             .and_then(|wanted| wanted.as_ref());
         assert_eq!(rt; Some(reply), found, "at {place}");
     }
-    are_hundred(&rt, second.replies.as_slice(), 2001, 104001);
-    let (_host, journal) = close_two(alloc, host, first.session, second.session).ok_or("close")?;
-    assert_eq!(rt; journal.len(), 115);
-    are_entries(&rt, &journal, 1, other, (2001, 104001));
+}
+
+#[test]
+fn a_debugger_works_beside_another_user(rt: HostRuntime) -> Result<(), Fail> {
+    let (one, other) = (Uid::new(1001)?, Uid::new(1002)?);
+    let none = Pass::new(0)?;
+    let policy = fork_policy(none)?;
+    let Some(left) = debug_beside(&rt, rt.alloc(), (one, other), policy) else {
+        panic!(rt; "nothing is left");
+    };
+    are_debugged(&rt, left.first.as_slice(), none);
+    are_hundred(&rt, left.second.as_slice(), 2001, 104001);
+    assert_eq!(rt; left.journal.len(), 115);
+    are_entries(&rt, &left.journal, 1, other, (2001, 104001));
     Ok(())
 }
