@@ -17,9 +17,10 @@ returns-in_default-key c =
     let r = c.next_key.new.self in
     let first : c.args.reader.now ≡ Token.begin_object ∷ c.next.new.self = c.in-Some-BeginObject.ensures.value ∙ ap (λ t. token_of t ∷ c.next.new.self) c.in-Some-BeginObject.field-0-is in
     let over = c.in-Ok.ensures.value ∙ ap (λ k. Some (option_map (λ s. s.now) k, r)) c.in_default-key.is in
-    let less = read_key-shorter l.reader _ r over in
-    (subst (λ ts. converted of_json (value 125 ts) ≡ Some (object_view l.members.items, r)) (sym first) (ends _ l.reader r l.members.items l.invariant over),
-     rw first (omega (arith, l.invariant.shorter, less)))
+    let less = read_key-shorter l.reader _ r over in (
+      subst (λ ts. converted of_json (value 125 ts) ≡ Some (object_view l.members.items, r)) (sym first) (ends _ l.reader r l.members.items l.invariant over),
+      rw first (omega (arith, l.invariant.shorter, less)),
+    )
 
 pub members-preserved : goal.members-preserved
 members-preserved c =
@@ -27,4 +28,4 @@ members-preserved c =
     let key = c.in-Ok.ensures.value ∙ ap (λ k. Some (option_map (λ s. s.now) k, c.next_key.new.self)) c.in-Some.is in
     let read = c.in-Ok-next_value.ensures in
     rw (c.push_reserved.ensures.items, c.reserve.ensures.items)
-      (goes_on _ l.reader c.next_key.new.self c.next_value.new.reader l.members.items c.in-Some.key c.in-Ok-next_value.value l.invariant key read.ok.0 read.ok.1 read.shorter)
+    (goes_on _ l.reader c.next_key.new.self c.next_value.new.reader l.members.items c.in-Some.key c.in-Ok-next_value.value l.invariant key read.ok.0 read.ok.1 read.shorter)
