@@ -39,7 +39,12 @@ PARTS = {
         r'scenario::parsing::parse\b.*',
     ),
     'bind': (r'scenario::binding::bind\b.*', r'scenario::binding::bound\b.*'),
-    'steps': (r'requests::host::Host::step\b.*', r'visibility::runs::run_list\b.*'),
+    'steps': (
+        r'requests::host::Host::(step|make)\b.*',
+        r'visibility::runs::run_list\b.*',
+        # the steps and what is around them, where they are inlined
+        r'scenario::running::replies_of\b.*',
+    ),
     'text': (r'scenario::lines::render\b.*', r'scenario::running::write_lines\b.*'),
 }
 
