@@ -74,10 +74,6 @@ and_true false = refl
 pub among-data : (keys : List (List ℕ)) (ms : json.Members) → among keys ms ≡ members_among keys (members_data ms no_members)
 among-data keys ms = sym (members_among-data keys ms no_members ∙ and_true (among keys ms))
 
-pub view_of_ref : {A : Type 0} (r : Option (Bor (Value A))) → option_map (λ v. view v.now) r ≡ option_map data_of (option_map (λ v. value_view v.now) r)
-view_of_ref None = refl
-view_of_ref (Some v) = refl
-
 -- ---- arrays and objects
 
 pub items_data-of : {A : Type 0} (vs : List (Value A)) → items_data (json_items_view vs) ≡ items_view vs
