@@ -1,28 +1,9 @@
 -- An LWP at its turn, in sound rows, and changes of it and of its process.
-use Rattle.std.proofs.Common.{◌≡◌, ℕ, ◌≤◌, true, false, ◌==◌, not, Option, Some, None, IfSome, is_some, refl, sym, ap, ◌∙◌, true≢false, subst, eqb, eq-eqb, rules}
+use Rattle.requests.proofs.Names.{◌≡◌, ℕ, ◌≤◌, true, false, ◌==◌, not, Option, Some, None, IfSome, is_some, refl, sym, ap, ◌∙◌, true≢false, subst, eqb, eq-eqb, rules, shows, PL_FLAG_EXITED, LwpData}
+use Rattle.requests.proofs.Names.{lwp_of, ProcData, is_live, is_run, reporting, process_of, Rows, change_process, change_lwp, lwp_count, seen_lwp, Shown, stop, MayStop, Linked, FitProcess, Standing}
+use Rattle.requests.proofs.Names.{FitLwp, WithOwner, IsSound, find_some, choose, find_edit, found_number, changed_own, OneProcess, process_sound, OneLwp, lwp_sound, own_lwps, run_quiet, may_stop}
+use Rattle.requests.proofs.Names.{stopped_sound, Reply, stops_or}
 use Rattle.std.specs.Option.{IsSomeAnd}
-use Rattle.event_masks.specs.Exits.{shows}
-use Rattle.event_masks.specs.declared.TheConstants.StopFlags.{PL_FLAG_EXITED}
-use Rattle.lwp_table.specs.declared.LwpData.{LwpData}
-use Rattle.lwp_table.specs.Lwps.{lwp_of}
-use Rattle.proc_table.specs.declared.ProcData.{ProcData}
-use Rattle.proc_table.specs.Processes.{is_live, is_run, reporting, process_of}
-use Rattle.proc_table.specs.Rows.{Rows, change_process, change_lwp}
-use Rattle.proc_table.specs.Fresh.{lwp_count}
-use Rattle.proc_table.specs.Seen.{seen_lwp}
-use Rattle.trace_stop.specs.declared.Shown.{Shown}
-use Rattle.trace_stop.specs.Stop.{stop}
-use Rattle.trace_stop.specs.Before.{MayStop}
-use Rattle.trace_stop.specs.Facts.{Linked, FitProcess, Standing, FitLwp, WithOwner, IsSound}
-use Rattle.trace_stop.proofs.Every.{find_some, choose}
-use Rattle.trace_stop.proofs.Edited.{find_edit}
-use Rattle.trace_stop.proofs.Changed.{found_number}
-use Rattle.trace_stop.proofs.Changes.{changed_own}
-use Rattle.trace_stop.proofs.Single.{OneProcess, process_sound, OneLwp, lwp_sound}
-use Rattle.trace_stop.proofs.Numbers.{own_lwps}
-use Rattle.trace_stop.proofs.Stops.{run_quiet, may_stop, stopped_sound}
-use Rattle.requests.specs.declared.Reply.{Reply}
-use Rattle.requests.specs.Outcome.{stops_or}
 
 -- a process that isn't untraced is traced
 pub traced_where : {X : Type 0} (o : Option X) → (o ≡ None → ⊥) → is_some o ≡ true

@@ -1,40 +1,15 @@
 -- An LWP and its process are there after changes that keep their numbers.
-use Rattle.std.proofs.Common.{◌≡◌, ◌∙◌, ℕ, true, false, true≢false, nat_eq, ◌&&◌, Bool, List, [], ◌∷◌, ◌++◌, inl, inr, refl, sym, ap, Option, Some, None, subst, rules}
-use Rattle.std.specs.Prelude.{option_map, IsSomeAnd}
-use Rattle.std.specs.List.{list_any}
-use Rattle.lwp_table.specs.declared.LwpData.{LwpData}
-use Rattle.lwp_table.specs.Lwps.{Differ, lwp_of, has_lwp}
-use Rattle.proc_table.specs.declared.ProcData.{ProcData}
-use Rattle.proc_table.specs.Processes.{process_of, is_live, is_run}
-use Rattle.proc_table.specs.Rows.{Rows, change, change_process, change_lwp, is_numbered}
-use Rattle.proc_table.specs.Edits.{map_lwps}
-use Rattle.proc_table.specs.Fresh.{is_process, add_process, add_lwp}
-use Rattle.proc_table.specs.Kept.{IsKept}
-use Rattle.proc_table.specs.Seen.{owns, seen_lwp}
-use Rattle.proc_table.proofs.Rows.{same_number, process_of-pid, row_found, found_row, lwp_of-map, is_process-map}
-use Rattle.std.proofs.lemmas.Bool.{cases_Bool}
-use Rattle.proc_table.proofs.Every.{some_and}
+use Rattle.requests.proofs.Names.{◌≡◌, ◌∙◌, ℕ, true, false, true≢false, nat_eq, ◌&&◌, Bool, List, [], ◌∷◌, ◌++◌, inl, inr, refl, sym, ap, Option, Some, None, subst, rules, option_map, IsSomeAnd}
+use Rattle.requests.proofs.Names.{list_any, LwpData, Differ, lwp_of, has_lwp, ProcData, process_of, is_live, is_run, Rows, change, change_process, change_lwp, is_numbered, map_lwps, is_process}
+use Rattle.requests.proofs.Names.{add_process, add_lwp, IsKept, owns, seen_lwp, same_number, process_of-pid, row_found, found_row, lwp_of-map, is_process-map, cases_Bool, some_and, changed}
+use Rattle.requests.proofs.Names.{changed_lwp, filter_map-map, changed-pid, changed_lwp-keeps, own_lwp-keeps, is_live_at, find_some, own_lwps, find_passes, run_quiet, has, bit, without, IsSound}
+use Rattle.requests.proofs.Names.{without_signal, choose, settled_process, settled_lwp, settle, notified, stop, Shown, posted_same, IsActing, HasLwp}
 use Rattle.proc_table.proofs.Rising.{Lacks-from_any}
 use Rattle.proc_table.proofs.Placed.{is_process-placed}
-use Rattle.proc_table.proofs.Changes.{changed, changed_lwp, filter_map-map}
-use Rattle.proc_table.proofs.Stays.{changed-pid, changed_lwp-keeps, own_lwp-keeps}
-use Rattle.trace_stop.specs.Sound.{is_live_at}
-use Rattle.trace_stop.proofs.Every.{find_some}
-use Rattle.trace_stop.proofs.Numbers.{own_lwps}
-use Rattle.trace_stop.proofs.Stops.{find_passes, run_quiet}
-use Rattle.signals.specs.Sets.{has, bit, without}
-use Rattle.trace_stop.specs.Facts.{IsSound}
-use Rattle.requests.specs.Turn.{without_signal}
-use Rattle.trace_stop.proofs.Every.{choose}
 use Rattle.requests.proofs.Acting.{Acting}
 use Rattle.requests.proofs.Signals.{taken_alike}
-use Rattle.trace_stop.specs.Post.{settled_process, settled_lwp, settle, notified}
-use Rattle.trace_stop.specs.Stop.{stop}
-use Rattle.trace_stop.specs.declared.Shown.{Shown}
-use Rattle.trace_stop.proofs.Posting.{posted_same}
 use Rattle.requests.proofs.Lwps.{find_more}
 use Rattle.requests.proofs.Masks.{changed_process, changed_lwp as lwp_changed}
-use Rattle.requests.specs.Actors.{IsActing, HasLwp}
 
 pub acting_has : (p : ProcData) (l : LwpData) (rows : Rows) → IsActing p l rows → HasLwp p.pid l.tid rows
 acting_has p l rows a = record { process = found_row p.pid p rows.processes a.process; lwp = rw a.lwp a.own }

@@ -1,23 +1,9 @@
 -- A host whose rows are sound after a step is sound, once the pairs of those who ended are gone.
-use Rattle.std.proofs.lemmas.Bool.Decides.{nat_tests}
-use Rattle.std.proofs.Common.{◌≡◌, ℕ, zero, suc, ◌+◌, ◌≤◌, List, [], ◌∷◌, length, map, filter, zip, Bool, true, ◌==◌, ◌&&◌, leb, refl, ap, ◌∙◌, arith, eqb-true, subst, eq-eqb, get_or, rules}
-use Rattle.std.proofs.lemmas.List.{length-map}
-use Rattle.std.specs.List.{AllByRecursion, list_any, list_all}
-use Rattle.std.proofs.lemmas.Bool.{le-leb, leb-true}
-use Rattle.pid_blocks.specs.Users.{IsUser}
-use Rattle.pid_blocks.specs.Blocks.{slot, pid_block, users, rising, InBlock}
-use Rattle.proc_table.specs.declared.ProcData.{ProcData}
-use Rattle.proc_table.specs.Processes.{is_live}
-use Rattle.proc_table.specs.Rows.{Rows}
-use Rattle.proc_table.specs.Kept.{AtHome}
-use Rattle.trace_stop.specs.Sound.{is_live_of, sound_rows}
-use Rattle.trace_stop.specs.Facts.{IsLiveOf, Stands, IsSound}
-use Rattle.trace_stop.proofs.Every.{and_left, and_right, both, All-from_list_all, list_all-from_All, All-imply, any_holds, any_more}
-use Rattle.trace_stop.proofs.FromSound.{IsSound-from, sound_rows-from, user_at, zip_users}
-use Rattle.requests.specs.Outcome.{Outcome, answers}
-use Rattle.requests.specs.declared.Reply.{Reply}
-use Rattle.requests.specs.Machine.{Installed, Machine, installed_by, is_live_number, after}
-use Rattle.requests.specs.Sound.{sound_installed, sound}
+use Rattle.requests.proofs.Names.{nat_tests, ◌≡◌, ℕ, zero, suc, ◌+◌, ◌≤◌, List, [], ◌∷◌, length, map, filter, zip, Bool, true, ◌==◌, ◌&&◌, leb, refl, ap, ◌∙◌, arith, eqb-true, subst, eq-eqb, get_or}
+use Rattle.requests.proofs.Names.{rules, length-map, AllByRecursion, list_any, list_all, le-leb, leb-true, IsUser, slot, pid_block, users, rising, ProcData, is_live, Rows, AtHome, is_live_of}
+use Rattle.requests.proofs.Names.{sound_rows, IsLiveOf, Stands, IsSound, and_left, and_right, both, All-from_list_all, list_all-from_All, All-imply, any_holds, any_more, IsSound-from, sound_rows-from}
+use Rattle.requests.proofs.Names.{user_at, zip_users, Outcome, answers, Reply, Installed, Machine, installed_by, is_live_number, after, sound_installed, sound}
+use Rattle.pid_blocks.specs.Blocks.{InBlock}
 
 -- a live process with a number of the user's block is the user's
 any_of_user : (rows : Rows) (u n : ℕ) → IsUser u → InBlock (pid_block u) n → (ps : List ProcData) → AllByRecursion AtHome ps

@@ -1,25 +1,9 @@
 -- What a request of ptrace(2) comes to, by its refusals in their order.
-use Rattle.std.proofs.lemmas.Bool.Decides.{nat_tests}
-use Rattle.std.proofs.Common.{◌≡◌, ℕ, ◌<◌, List, IfSome, Bool, true, false, leb, if◌then◌else◌, Option, Some, None, is_some, refl, sym, ap, ◌∙◌, arith, subst, rules}
-use Rattle.std.specs.Prelude.{IsSomeAnd, option_map}
-use Rattle.lwp_table.specs.Lwps.{lwp_of}
-use Rattle.proc_table.specs.declared.ProcData.{ProcData}
-use Rattle.proc_table.specs.declared.State.{State}
-use Rattle.proc_table.specs.declared.State.TheVariants.{Run, Trace, Job, Zombie}
-use Rattle.proc_table.specs.Processes.{process_of, is_live, named_by, reporting, traces}
-use Rattle.proc_table.specs.Rows.{Rows}
+use Rattle.requests.proofs.Names.{nat_tests, ◌≡◌, ℕ, ◌<◌, List, IfSome, Bool, true, false, leb, if◌then◌else◌, Option, Some, None, is_some, refl, sym, ap, ◌∙◌, arith, subst, rules, IsSomeAnd}
+use Rattle.requests.proofs.Names.{option_map, lwp_of, ProcData, State, Run, Trace, Job, Zombie, process_of, is_live, named_by, reporting, traces, Rows, IsKept, seen_lwp, process_of-pid, lwp_of-tid}
+use Rattle.requests.proofs.Names.{seen_lwp-kept, lwp-within, Settings, IsSound, some_is, Request, command, told_stop, target_of, process_by, is_trace_me, is_attach, ptrace}
 use Rattle.proc_table.specs.Keep.{keep}
-use Rattle.proc_table.specs.Kept.{IsKept}
-use Rattle.proc_table.specs.Seen.{seen_lwp}
-use Rattle.proc_table.proofs.Rows.{process_of-pid, lwp_of-tid}
-use Rattle.proc_table.proofs.Seen.{seen_lwp-kept, lwp-within}
-use Rattle.trace_stop.specs.declared.Settings.{Settings}
-use Rattle.trace_stop.specs.Facts.{IsSound}
-use Rattle.trace_stop.proofs.Edited.{some_is}
 use Rattle.trace_stop.proofs.Stopped.{IsStopped-from}
-use Rattle.requests.specs.declared.Request.{Request}
-use Rattle.requests.specs.Commands.{command}
-use Rattle.requests.specs.Ptrace.{told_stop, target_of, process_by, is_trace_me, is_attach, ptrace}
 
 pub told_reports : (s : State) (tid : ℕ) → told_stop s ≡ Some tid → named_by s ≡ Some tid
 told_reports Run tid told = told

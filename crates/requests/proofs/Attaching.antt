@@ -1,28 +1,11 @@
 -- A process that gets a tracer, by its own request or by an attach, keeps rows sound.
-use Rattle.std.proofs.lemmas.Bool.Decides.{nat_tests}
-use Rattle.std.proofs.Common.{◌≡◌, ◌≢◌, ℕ, Bool, true, false, ◌==◌, List, [], ◌∷◌, find, Option, Some, None, is_some, refl, sym, ap, ◌∙◌, true≢false, subst, arith, eqb-true, eq-eqb, rules}
+use Rattle.requests.proofs.Names.{nat_tests, ◌≡◌, ◌≢◌, ℕ, Bool, true, false, ◌==◌, List, [], ◌∷◌, find, Option, Some, None, is_some, refl, sym, ap, ◌∙◌, true≢false, subst, arith, eqb-true, eq-eqb}
+use Rattle.requests.proofs.Names.{rules, count_by, default_mask, SIGSTOP, LwpData, lwp_of, first_lwp, ProcData, State, Run, Trace, Job, Zombie, is_live, is_run, is_run_state, is_job_state, reporting}
+use Rattle.requests.proofs.Names.{process_of, Rows, change_process, Ready, FitOrReady, MayStop, IsLiveOf, Linked, FitProcess, FitLwp, IsSound, All-imply, find_some, count-cons, choose, not_some}
+use Rattle.requests.proofs.Names.{Holds, sound_holds, live_fits, live_state, own_lwps, Outcome, plain, closes_chain, traced_by, trace_me, stop_first, attach}
 use Rattle.std.specs.Option.{IsSomeAnd}
-use Rattle.std.specs.Prelude.{count_by}
-use Rattle.event_masks.specs.Exits.{default_mask}
-use Rattle.signals.specs.Table.{SIGSTOP}
-use Rattle.lwp_table.specs.declared.LwpData.{LwpData}
-use Rattle.lwp_table.specs.Lwps.{lwp_of, first_lwp}
-use Rattle.proc_table.specs.declared.ProcData.{ProcData}
-use Rattle.proc_table.specs.declared.State.{State}
-use Rattle.proc_table.specs.declared.State.TheVariants.{Run, Trace, Job, Zombie}
-use Rattle.proc_table.specs.Processes.{is_live, is_run, is_run_state, is_job_state, reporting, process_of}
-use Rattle.proc_table.specs.Rows.{Rows, change_process}
-use Rattle.trace_stop.specs.Before.{Ready, FitOrReady, MayStop}
-use Rattle.trace_stop.specs.Facts.{IsLiveOf, Linked, FitProcess, FitLwp, IsSound}
-use Rattle.trace_stop.proofs.Every.{All-imply, find_some, count-cons, choose, not_some}
-use Rattle.trace_stop.proofs.Changed.{Holds, sound_holds}
-use Rattle.trace_stop.proofs.Posting.{live_fits, live_state}
 use Rattle.trace_stop.proofs.Stops as stops
 use Rattle.trace_stop.proofs.Linking.{Traced, linked_holds, linked_row}
-use Rattle.trace_stop.proofs.Numbers.{own_lwps}
-use Rattle.requests.specs.Outcome.{Outcome}
-use Rattle.requests.specs.Turn.{plain}
-use Rattle.requests.specs.Ptrace.{closes_chain, traced_by, trace_me, stop_first, attach}
 
 none_where : {X : Type 0} (o : Option X) → (is_some o ≡ true → ⊥) → o ≡ None
 none_where None h = refl

@@ -1,30 +1,12 @@
 -- The empty host is sound, and spawning keeps a host sound.
-use Rattle.std.proofs.lemmas.Bool.Decides.{nat_tests}
-use Rattle.std.proofs.Common.{◌≡◌, ℕ, zero, suc, ◌+◌, ◌<◌, map, Bool, true, false, Option, Some, None, IfSome, refl, sym, ap, ◌∙◌, arith, subst, get_or}
-use Rattle.pid_blocks.specs.Users.{IsUser}
-use Rattle.pid_blocks.specs.Blocks.{slot, pid_block, tid_block, users, rising, InBlock}
-use Rattle.proc_table.specs.declared.ProcData.{ProcData}
+use Rattle.requests.proofs.Names.{nat_tests, ◌≡◌, ℕ, zero, suc, ◌+◌, ◌<◌, map, Bool, true, false, Option, Some, None, IfSome, refl, sym, ap, ◌∙◌, arith, subst, get_or, IsUser, slot, pid_block}
+use Rattle.requests.proofs.Names.{tid_block, users, rising, ProcData, born, spawned, is_live, is_run, of_user, seen_process, ESRCH, Reply, Rows, Settings, FitProcess, FitLwp, IsSound, both}
+use Rattle.requests.proofs.Names.{sound_rows-from, answers, Numbers, room_for_process, spawn, spawn_with, Machine, empty, after, no_rows, sound, step, checked}
+use Rattle.pid_blocks.specs.Blocks.{InBlock}
 use Rattle.lwp_table.specs.declared.Due.TheVariants as due
-use Rattle.lwp_table.specs.Lwps.{born}
-use Rattle.proc_table.specs.Processes.{spawned, is_live, is_run, of_user}
-use Rattle.proc_table.specs.Seen.{seen_process}
-use Rattle.pid_blocks.specs.declared.Errno.TheVariants.{ESRCH}
-use Rattle.requests.specs.declared.Reply.{Reply}
 use Rattle.requests.specs.declared.Reply.TheVariants as reply
-use Rattle.proc_table.specs.Rows.{Rows}
-use Rattle.trace_stop.specs.declared.Settings.{Settings}
-use Rattle.trace_stop.specs.Facts.{FitProcess, FitLwp, IsSound}
-use Rattle.trace_stop.proofs.Every.{both}
-use Rattle.trace_stop.proofs.FromSound.{sound_rows-from}
 use Rattle.trace_stop.proofs.Born.{born_sound}
-use Rattle.requests.specs.Outcome.{answers}
-use Rattle.requests.specs.Leave.{Numbers, room_for_process}
-use Rattle.requests.specs.Calls.{spawn, spawn_with}
-use Rattle.requests.specs.Machine.{Machine, empty, after}
-use Rattle.proc_table.specs.Fresh.{no_rows}
-use Rattle.requests.specs.Sound.{sound}
 use Rattle.requests.specs.declared.step.Step.TheVariants as op
-use Rattle.requests.specs.Step.{step, checked}
 use Rattle.requests.proofs.Room.{ProcessRoom, process_room}
 use Rattle.requests.proofs.After.{rows_sound, after_sound, answers_same}
 

@@ -1,20 +1,10 @@
 -- What a step is once its caller was looked up.
-use Rattle.std.proofs.Common.{◌≡◌, ◌≢◌, ℕ, true, false, Option, Some, None, refl, ap, ◌∙◌, eqb-true, rules}
+use Rattle.requests.proofs.Names.{◌≡◌, ◌≢◌, ℕ, true, false, Option, Some, None, refl, ap, ◌∙◌, eqb-true, rules, ProcData, is_live, is_run, seen_process, PlainStep, answers, Machine, after, step}
+use Rattle.requests.proofs.Names.{step_of, checked, calls, caller_of, Rows, Rise, and_right, find_some, own_rows}
 use Rattle.pid_blocks.specs.declared.Errno.TheVariants as errno
-use Rattle.proc_table.specs.declared.ProcData.{ProcData}
-use Rattle.proc_table.specs.Processes.{is_live, is_run}
-use Rattle.proc_table.specs.Seen.{seen_process}
-use Rattle.requests.specs.Plain.{PlainStep}
 use Rattle.requests.specs.declared.Reply.TheVariants as reply
-use Rattle.requests.specs.Outcome.{answers}
-use Rattle.requests.specs.Machine.{Machine, after}
-use Rattle.requests.specs.Step.{step, step_of, checked, calls, caller_of}
 use Rattle.requests.specs.Callers.{IsCaller, Calls, Barred}
-use Rattle.proc_table.specs.Rows.{Rows}
-use Rattle.proc_table.specs.Kept.{Rise}
-use Rattle.trace_stop.proofs.Every.{and_right, find_some}
 use Rattle.requests.proofs.Replies.{other}
-use Rattle.trace_stop.proofs.Passes.{own_rows}
 
 refused_otherwise : reply.Errno errno.ESRCH ≢ reply.Errno errno.ENOMEM
 refused_otherwise = other (reply.Errno errno.ESRCH) refl

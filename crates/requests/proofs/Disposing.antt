@@ -1,23 +1,10 @@
 -- Which dispositions a process may have, and its row with others.
-use Rattle.std.proofs.Common.{◌≡◌, ℕ, Some, None, is_some, Bool, true, false, ◌==◌, not, ◌||◌, if◌then◌else◌, [], ◌∷◌, refl, sym, ap, ◌∙◌, arith, inl, inr, rules}
-use Rattle.std.proofs.lemmas.Bool.{cases_Bool, le-leb}
-use Rattle.signals.specs.Sets.{set_of, has}
-use Rattle.signals.specs.Table.{unmaskable_set, may_have, set_disposition}
-use Rattle.signals.specs.Laws.{IsSignal}
-use Rattle.signals.specs.declared.Disposition.{Disposition}
+use Rattle.requests.proofs.Names.{◌≡◌, ℕ, Some, None, is_some, Bool, true, false, ◌==◌, not, ◌||◌, if◌then◌else◌, [], ◌∷◌, refl, sym, ap, ◌∙◌, arith, inl, inr, rules, cases_Bool, le-leb, set_of, has}
+use Rattle.requests.proofs.Names.{unmaskable_set, may_have, set_disposition, IsSignal, Disposition, ProcData, process_of, Rows, Rise, IsRow, set_process, found_row, process-set, change_process-at}
+use Rattle.requests.proofs.Names.{settle, some_is, is_refused, sigaction}
 use Rattle.signals.proofs.Members.{members_after}
 use Rattle.signals.specs.Dispositions.{Actions}
-use Rattle.proc_table.specs.declared.ProcData.{ProcData}
-use Rattle.proc_table.specs.Processes.{process_of}
-use Rattle.proc_table.specs.Rows.{Rows}
-use Rattle.proc_table.specs.Kept.{Rise, IsRow, set_process}
-use Rattle.proc_table.proofs.Rows.{found_row}
-use Rattle.proc_table.proofs.Stays.{process-set}
-use Rattle.proc_table.proofs.Changes.{change_process-at}
-use Rattle.trace_stop.specs.Post.{settle}
-use Rattle.trace_stop.proofs.Edited.{some_is}
 use Rattle.requests.specs.declared.Reply.TheVariants as reply
-use Rattle.requests.specs.Calls.{is_refused, sigaction}
 
 unmaskable : (s : ℕ) → IsSignal s → has unmaskable_set s ≡ ((s == 9) || (s == 17))
 unmaskable s is =

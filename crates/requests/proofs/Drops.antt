@@ -1,14 +1,7 @@
 -- After a step, what ended debuggers had installed goes; only the step's own user can have such.
-use Rattle.std.proofs.Common.{◌≡◌, ◌≢◌, ℕ, zero, suc, ◌+◌, ◌<◌, List, [], ◌∷◌, length, map, filter, set, Bool, true, false, ◌==◌, refl, sym, ap, ◌∙◌, arith, eqb-true, eq-eqb, true≢false, subst, get_or}
-use Rattle.std.proofs.lemmas.List.{length-map, length-set, get_or-set_same, get_or-set_other}
-use Rattle.pid_blocks.specs.Users.{IsUser}
-use Rattle.pid_blocks.specs.Blocks.{slot}
-use Rattle.proc_table.specs.Rows.{Rows}
-use Rattle.requests.specs.Plain.{PlainStep}
-use Rattle.requests.specs.Outcome.{Outcome}
-use Rattle.requests.specs.Machine.{Installed, Machine, installed_by, is_live_number, after}
-use Rattle.requests.specs.Sound.{sound}
-use Rattle.requests.specs.Step.{step}
+use Rattle.requests.proofs.Names.{◌≡◌, ◌≢◌, ℕ, zero, suc, ◌+◌, ◌<◌, List, [], ◌∷◌, length, map, filter, set, Bool, true, false, ◌==◌, refl, sym, ap, ◌∙◌, arith, eqb-true, eq-eqb, true≢false, subst}
+use Rattle.requests.proofs.Names.{get_or, length-map, get_or-set_same, IsUser, slot, Rows, PlainStep, Outcome, Installed, Machine, installed_by, is_live_number, after, sound, step}
+use Rattle.std.proofs.lemmas.List.{length-set, get_or-set_other}
 use Rattle.requests.specs.View.{view}
 use Rattle.requests.proofs.After.{get_or-filter, slots_of}
 use Rattle.requests.proofs.ViewLaws.{other_step}

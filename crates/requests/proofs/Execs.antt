@@ -1,28 +1,11 @@
 -- An exec keeps rows sound.
-use Rattle.std.proofs.lemmas.Bool.Decides.{nat_tests}
-use Rattle.std.proofs.Common.{◌≡◌, ◌≢◌, inl, ℕ, ◌≤◌, Bool, true, false, ◌==◌, if◌then◌else◌, List, [], ◌∷◌, find, Option, Some, None, IfSome, refl, sym, ap, ◌∙◌, true≢false, subst, arith, eqb-true, eq-eqb, rules}
-use Rattle.std.specs.Prelude.{count_by}
-use Rattle.event_masks.specs.declared.TheConstants.StopFlags.{PL_FLAG_EXITED}
-use Rattle.event_masks.specs.Exits.{shows}
-use Rattle.signals.specs.Table.{after_exec}
-use Rattle.lwp_table.specs.declared.LwpData.{LwpData}
-use Rattle.lwp_table.specs.declared.Mode.TheVariants.{User}
-use Rattle.lwp_table.specs.Lwps.{lwp_of}
-use Rattle.proc_table.specs.declared.ProcData.{ProcData}
-use Rattle.proc_table.specs.Processes.{is_live, process_of}
-use Rattle.proc_table.specs.Rows.{Rows, owner, by_owner, each, is_numbered}
-use Rattle.proc_table.specs.Fresh.{lwp_count}
-use Rattle.trace_stop.specs.Post.{settled_process, settled_lwp, settle}
-use Rattle.trace_stop.specs.End.{released}
-use Rattle.trace_stop.specs.Before.{FitButPending, FitLwpButPending, IsSoundButPending}
-use Rattle.trace_stop.specs.Facts.{IsLiveChild, FitProcess, waited_for, FitLwp, IsSound}
-use Rattle.trace_stop.proofs.Every.{count-cons, choose, choose_both}
-use Rattle.trace_stop.proofs.Edited.{If_more, some_is, find_edit}
-use Rattle.trace_stop.proofs.Changed.{Holds, Row, Same, Stay, Leaves, KeptRow, KeptLwp, nobody, holds_sound, like_self, kept_all, none_gone, no_ring, same_lwp, stay, edit_holds}
-use Rattle.trace_stop.proofs.Changes.{changed_own}
-use Rattle.trace_stop.proofs.Settling.{redisposed as redisposed_fits, redisposed_lwp, settle_sound}
+use Rattle.requests.proofs.Names.{nat_tests, ◌≡◌, ◌≢◌, inl, ℕ, ◌≤◌, Bool, true, false, ◌==◌, if◌then◌else◌, List, [], ◌∷◌, find, Option, Some, None, IfSome, refl, sym, ap, ◌∙◌, true≢false, subst}
+use Rattle.requests.proofs.Names.{arith, eqb-true, eq-eqb, rules, count_by, PL_FLAG_EXITED, shows, after_exec, LwpData, User, lwp_of, ProcData, is_live, process_of, Rows, owner, by_owner, each}
+use Rattle.requests.proofs.Names.{is_numbered, lwp_count, settled_process, settled_lwp, settle, released, FitButPending, FitLwpButPending, IsSoundButPending, IsLiveChild, FitProcess, waited_for}
+use Rattle.requests.proofs.Names.{FitLwp, IsSound, count-cons, choose, choose_both, If_more, some_is, find_edit, Holds, Row, Same, Stay, Leaves, KeptRow, KeptLwp, nobody, holds_sound, like_self}
+use Rattle.requests.proofs.Names.{kept_all, none_gone, no_ring, same_lwp, stay, edit_holds, changed_own, redisposed_lwp, settle_sound, exec_rows}
+use Rattle.trace_stop.proofs.Settling.{redisposed as redisposed_fits}
 use Rattle.trace_stop.proofs.Ending.{released_same, released_flags, released_fits, released_waits}
-use Rattle.requests.specs.Leave.{exec_rows}
 use Rattle.requests.proofs.Acting.{Acting, owner_is, its_live}
 use Rattle.requests.proofs.Masks.{changed_process, changed_lwp}
 use Rattle.requests.proofs.Signals.{Alike}

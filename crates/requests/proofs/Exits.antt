@@ -1,21 +1,11 @@
 -- The stops at the entry and the exit of calls may be made: they are of traced processes.
-use Rattle.std.proofs.Common.{◌≡◌, ℕ, ◌*◌, true, false, ◌==◌, ltb, if◌then◌else◌, Option, Some, None, IfSome, option_map, is_some, refl, sym, ap, ◌∙◌, true≢false, subst, eq-eqb, bit_and, lt-ltb, rules}
-use Rattle.std.proofs.lemmas.Bool.{ltb-true}
-use Rattle.event_masks.specs.declared.EventMask.{EventMask}
+use Rattle.requests.proofs.Names.{◌≡◌, ℕ, ◌*◌, true, false, ◌==◌, ltb, if◌then◌else◌, Option, Some, None, IfSome, is_some, refl, sym, ap, ◌∙◌, true≢false, subst, eq-eqb, bit_and, lt-ltb, rules}
+use Rattle.requests.proofs.Names.{ltb-true, EventMask, Call, PTRACE_EXEC, PTRACE_SCE, PTRACE_SCX, PTRACE_FORK, PL_FLAG_SCE, PL_FLAG_SCX, PL_FLAG_EXEC, PL_FLAG_FORKED, PL_FLAG_EXITED, PL_FLAG_VFORKED}
+use Rattle.requests.proofs.Names.{asks, shows, stop_where, event_or_exit, entry_flags, exit_flags, ProcData, Shown, is_end, FitProcess, or_left, choose, zero_apart, trap, exit_stop}
+use Rattle.std.proofs.Common.{option_map}
 use Rattle.event_masks.specs.declared.StopFlags.{StopFlags}
-use Rattle.event_masks.specs.declared.Call.{Call}
 use Rattle.event_masks.specs.declared.Call.TheVariants as call
-use Rattle.event_masks.specs.declared.TheConstants.EventMask.{PTRACE_EXEC, PTRACE_SCE, PTRACE_SCX, PTRACE_FORK}
-use Rattle.event_masks.specs.declared.TheConstants.StopFlags.{PL_FLAG_SCE, PL_FLAG_SCX, PL_FLAG_EXEC, PL_FLAG_FORKED, PL_FLAG_EXITED, PL_FLAG_VFORKED}
-use Rattle.event_masks.specs.Exits.{asks, shows, both, stop_where, event_or_exit, entry_flags, exit_flags}
-use Rattle.proc_table.specs.declared.ProcData.{ProcData}
-use Rattle.trace_stop.specs.declared.Shown.{Shown}
-use Rattle.trace_stop.specs.Sound.{is_end}
-use Rattle.trace_stop.specs.Facts.{FitProcess}
-use Rattle.trace_stop.proofs.Every.{or_left, choose}
-use Rattle.trace_stop.proofs.Settling.{zero_apart}
-use Rattle.requests.specs.Outcome.{trap}
-use Rattle.requests.specs.Leave.{exit_stop}
+use Rattle.event_masks.specs.Exits.{both}
 use Rattle.requests.proofs.Acting.{traced_where, MayMake}
 
 -- the flags of a stop that may be made

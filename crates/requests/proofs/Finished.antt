@@ -1,21 +1,8 @@
 -- The clauses of a step, from what was done to the rows and what was answered.
-use Rattle.std.proofs.Common.{◌≡◌, ◌≢◌, ℕ, Some, List, [], set, true, false, refl, sym, ap, ◌∙◌, subst, inl, inr}
-use Rattle.std.proofs.lemmas.List.{set-get_or}
-use Rattle.pid_blocks.specs.Users.{IsUser}
-use Rattle.pid_blocks.specs.Blocks.{slot}
+use Rattle.requests.proofs.Names.{◌≡◌, ◌≢◌, ℕ, Some, List, [], set, true, false, refl, sym, ap, ◌∙◌, subst, inl, inr, set-get_or, IsUser, slot, Rows, PlainStep, Reply, Outcome, answers, Installed}
+use Rattle.requests.proofs.Names.{Machine, after, takes_memory, is_refusal, may_want, step_fits, sound, Steps, ProcData, step, calls, caller_of}
 use Rattle.pid_blocks.specs.declared.Errno.TheVariants as errno
-use Rattle.proc_table.specs.Rows.{Rows}
-use Rattle.requests.specs.Plain.{PlainStep}
-use Rattle.requests.specs.declared.Reply.{Reply}
 use Rattle.requests.specs.declared.Reply.TheVariants as reply
-use Rattle.requests.specs.Outcome.{Outcome, answers}
-use Rattle.requests.specs.Machine.{Installed, Machine, after}
-use Rattle.requests.specs.Memory.{takes_memory, is_refusal, may_want}
-use Rattle.requests.specs.Laws.{step_fits}
-use Rattle.requests.specs.Sound.{sound}
-use Rattle.requests.specs.Hosts.{Steps}
-use Rattle.proc_table.specs.declared.ProcData.{ProcData}
-use Rattle.requests.specs.Step.{step, calls, caller_of}
 use Rattle.requests.specs.Callers.{IsCaller, Calls, Barred}
 use Rattle.requests.proofs.After.{all_left, answers_same, rows_sound}
 use Rattle.requests.proofs.Called.{called, is_caller}

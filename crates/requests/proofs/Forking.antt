@@ -1,34 +1,14 @@
 -- A fork keeps rows sound.
-use Rattle.std.proofs.Common.{◌≡◌, ◌≢◌, ℕ, Bool, true, false, ◌==◌, ◌&&◌, if◌then◌else◌, List, [], ◌∷◌, ◌++◌, find, Option, Some, None, IfSome, is_some, refl, sym, ap, ◌∙◌, true≢false, subst, eqb, eqb-true, eq-eqb, rules}
+use Rattle.requests.proofs.Names.{◌≡◌, ◌≢◌, ℕ, Bool, true, false, ◌==◌, ◌&&◌, if◌then◌else◌, List, [], ◌∷◌, ◌++◌, find, Option, Some, None, IfSome, is_some, refl, sym, ap, ◌∙◌, true≢false, subst, eqb}
+use Rattle.requests.proofs.Names.{eqb-true, eq-eqb, rules, list_any, PTRACE_FORK, Call, asks, SIGCHLD, LwpData, born, lwp_of, ProcData, Trace, is_live, is_run, process_of, Rows, change_process}
+use Rattle.requests.proofs.Names.{change_lwp, add_process, add_lwp, unwanted, continues, posted_process, posted_lwp, notified, tracer_of, tracers, stop, Shown, MayStop, IsLiveOf, IsLiveChild}
+use Rattle.requests.proofs.Names.{FitProcess, IsSound, and_left, both, by_bool, choose, find_edit, posted_same, posted_live, zero_apart, find_passes, sound_ready, stopped_sound, Numbers, forked}
+use Rattle.requests.proofs.Names.{child_stop, with_child}
 use Rattle.std.specs.Option.{IsSomeAnd}
-use Rattle.std.specs.List.{list_any}
-use Rattle.event_masks.specs.declared.TheConstants.EventMask.{PTRACE_FORK}
-use Rattle.event_masks.specs.declared.Call.{Call}
-use Rattle.event_masks.specs.Exits.{asks}
-use Rattle.signals.specs.Table.{SIGCHLD}
-use Rattle.lwp_table.specs.declared.LwpData.{LwpData}
 use Rattle.lwp_table.specs.declared.Due.TheVariants as due
-use Rattle.lwp_table.specs.Lwps.{born, lwp_of}
-use Rattle.proc_table.specs.declared.ProcData.{ProcData}
-use Rattle.proc_table.specs.declared.State.TheVariants.{Trace}
-use Rattle.proc_table.specs.Processes.{is_live, is_run, process_of}
-use Rattle.proc_table.specs.Rows.{Rows, change_process, change_lwp}
-use Rattle.proc_table.specs.Fresh.{add_process, add_lwp}
-use Rattle.trace_stop.specs.Post.{unwanted, continues, posted_process, posted_lwp, notified}
-use Rattle.trace_stop.specs.End.{tracer_of}
-use Rattle.trace_stop.specs.Stop.{tracers, stop}
-use Rattle.trace_stop.specs.declared.Shown.{Shown}
-use Rattle.trace_stop.specs.Before.{MayStop}
-use Rattle.trace_stop.specs.Facts.{IsLiveOf, IsLiveChild, FitProcess, IsSound}
-use Rattle.trace_stop.proofs.Every.{and_left, both, by_bool, choose}
-use Rattle.trace_stop.proofs.Edited.{find_edit}
 use Rattle.trace_stop.proofs.Children.{child_test, child_passes}
 use Rattle.trace_stop.proofs.Placed.{process_of-other, process_of-placed}
 use Rattle.trace_stop.proofs.Born.{born_sound}
-use Rattle.trace_stop.proofs.Posting.{posted_same, posted_live}
-use Rattle.trace_stop.proofs.Settling.{zero_apart}
-use Rattle.trace_stop.proofs.Stops.{find_passes, sound_ready, stopped_sound}
-use Rattle.requests.specs.Leave.{Numbers, forked, child_stop, with_child}
 use Rattle.requests.proofs.Acting.{Acting, its_live, its_link, lwp_fit}
 use Rattle.requests.proofs.Masks.{changed_process, changed_lwp}
 use Rattle.requests.proofs.Signals.{Alike}

@@ -1,40 +1,16 @@
 -- What is decided about a trace stop, and what a handle asks.
-use Rattle.std.specs.Prelude.{option_map}
-use Rattle.std.proofs.Common.{◌≡◌, ℕ, ◌≤◌, ◌%◌, [], ◌∷◌, negsuc, Bool, true, false, ◌==◌, ◌&&◌, if◌then◌else◌, List, Option, Some, None, IfSome, refl, sym, ap, ◌∙◌, subst, eq-eqb, true≢false, rules}
-use Rattle.std.proofs.lemmas.Bool.{le-leb}
-use Rattle.lwp_table.specs.declared.LwpData.{LwpData}
-use Rattle.lwp_table.specs.Lwps.{lwp_of}
-use Rattle.proc_table.specs.declared.ProcData.{ProcData}
-use Rattle.proc_table.specs.declared.State.{State}
-use Rattle.proc_table.specs.declared.State.TheVariants.{Run, Trace, Job, Zombie}
-use Rattle.proc_table.specs.Kept.{Rise}
-use Rattle.proc_table.specs.Processes.{process_of}
-use Rattle.proc_table.specs.Rows.{Rows, each}
-use Rattle.trace_stop.specs.declared.Settings.{Settings}
-use Rattle.trace_stop.specs.Stop.{detach}
-use Rattle.trace_stop.specs.Facts.{IsSound}
-use Rattle.trace_stop.proofs.Every.{All-filter, find_some}
-use Rattle.trace_stop.proofs.Edited.{find_edit}
-use Rattle.trace_stop.proofs.Passes.{own_rows}
-use Rattle.stop_handlers.specs.declared.Rule.{Rule}
+use Rattle.requests.proofs.Names.{option_map, ◌≡◌, ℕ, ◌≤◌, ◌%◌, [], ◌∷◌, negsuc, Bool, true, false, ◌==◌, ◌&&◌, if◌then◌else◌, List, Option, Some, None, IfSome, refl, sym, ap, ◌∙◌, subst, eq-eqb}
+use Rattle.requests.proofs.Names.{true≢false, rules, le-leb, LwpData, lwp_of, ProcData, State, Run, Trace, Job, Zombie, Rise, process_of, Rows, each, Settings, detach, IsSound, All-filter, find_some}
+use Rattle.requests.proofs.Names.{find_edit, own_rows, Rule, Decision, StatusKind, Collected, is_child, fits, candidates, collect, answer, reportable, reported, rows_after, told, status_of}
+use Rattle.requests.proofs.Names.{status_of_state, Outcome, answers, with_signal, view_of, done, no_options, handles_stop, handles_status, handles, handled_by, continues_with, choose, by_kept}
 use Rattle.stop_handlers.specs.declared.StopView.{StopView}
-use Rattle.stop_handlers.specs.declared.Decision.{Decision}
 use Rattle.stop_handlers.specs.declared.Decision.TheVariants as decision
-use Rattle.wait4.specs.declared.StatusKind.{StatusKind}
-use Rattle.wait4.specs.declared.Collected.{Collected}
 use Rattle.wait4.specs.declared.Collected.TheVariants as collected
 use Rattle.wait4.specs.declared.StatusKind.TheVariants.{Continued}
 use Rattle.wait4.specs.Status.{ended}
-use Rattle.wait4.specs.Collect.{is_child, fits, candidates, collect, answer, reportable, reported, rows_after, told, status_of, status_of_state}
 use Rattle.wait4.specs.Collect as wait
 use Rattle.requests.specs.declared.Reply.TheVariants as reply
-use Rattle.requests.specs.Outcome.{Outcome, answers}
 use Rattle.requests.specs.Asking.{is_stop, viewed_in, asks_view, asks_row, asks}
-use Rattle.requests.specs.Commands.{with_signal}
-use Rattle.requests.specs.Handle.{view_of, done, no_options, handles_stop, handles_status, handles, handled_by}
-use Rattle.requests.specs.Ptrace.{continues_with}
-use Rattle.trace_stop.proofs.Every.{choose}
-use Rattle.wait4.proofs.CollectSound.{by_kept}
 use Rattle.requests.proofs.Forking.{Heard, heard}
 use Rattle.requests.proofs.Tracees.{continue_as}
 

@@ -1,36 +1,13 @@
 -- A stop that installed policies decide on keeps a host sound.
-use Rattle.std.proofs.Common.{◌≡◌, ℕ, negsuc, Bool, true, ◌==◌, ◌&&◌, if◌then◌else◌, List, Option, Some, None, IfSome, is_some, refl, sym, ap, ◌∙◌, subst, eq-eqb, rules}
-use Rattle.signals.specs.Table.{SIGKILL}
-use Rattle.lwp_table.specs.declared.LwpData.{LwpData}
-use Rattle.lwp_table.specs.Lwps.{lwp_of}
-use Rattle.proc_table.specs.declared.ProcData.{ProcData}
-use Rattle.proc_table.specs.declared.State.{State}
-use Rattle.proc_table.specs.declared.State.TheVariants.{Run, Trace, Job, Zombie}
-use Rattle.proc_table.specs.Processes.{named_by, process_of}
-use Rattle.proc_table.specs.Rows.{Rows, each}
-use Rattle.trace_stop.specs.declared.Settings.{Settings}
-use Rattle.trace_stop.specs.Stop.{resume, detach}
-use Rattle.trace_stop.specs.Facts.{FitProcess, IsSound}
-use Rattle.trace_stop.proofs.Every.{All-filter, find_some}
-use Rattle.trace_stop.proofs.Edited.{find_edit}
-use Rattle.trace_stop.proofs.Passes.{own_rows}
-use Rattle.trace_stop.proofs.Posts.{detach_sound}
-use Rattle.stop_handlers.specs.declared.Rule.{Rule}
-use Rattle.stop_handlers.specs.declared.Decision.{Decision}
+use Rattle.requests.proofs.Names.{◌≡◌, ℕ, negsuc, Bool, true, ◌==◌, ◌&&◌, if◌then◌else◌, List, Option, Some, None, IfSome, is_some, refl, sym, ap, ◌∙◌, subst, eq-eqb, rules, SIGKILL, LwpData, lwp_of}
+use Rattle.requests.proofs.Names.{ProcData, State, Run, Trace, Job, Zombie, named_by, process_of, Rows, each, Settings, resume, detach, FitProcess, IsSound, All-filter, find_some, find_edit, own_rows}
+use Rattle.requests.proofs.Names.{detach_sound, Rule, Decision, StatusKind, Collected, is_child, fits, candidates, collect, reportable, reported, rows_after, collect_one, told, view_of, decided, done}
+use Rattle.requests.proofs.Names.{no_options, handles_stop, handles_status, handles, continues_with, Machine, sound, step, by_kept}
 use Rattle.stop_handlers.specs.declared.Decision.TheVariants as decision
-use Rattle.wait4.specs.declared.StatusKind.{StatusKind}
-use Rattle.wait4.specs.declared.Collected.{Collected}
 use Rattle.wait4.specs.declared.Collected.TheVariants as collected
-use Rattle.wait4.specs.Collect.{is_child, fits, candidates, collect, reportable, reported, rows_after, collect_one, told}
 use Rattle.wait4.specs.Collect as wait
 use Rattle.requests.specs.declared.step.Step.TheVariants as op
-use Rattle.requests.specs.Handle.{view_of, decided, done, no_options, handles_stop, handles_status, handles}
-use Rattle.requests.specs.Ptrace.{continues_with}
-use Rattle.requests.specs.Machine.{Machine}
-use Rattle.requests.specs.Sound.{sound}
-use Rattle.requests.specs.Step.{step}
 use Rattle.requests.proofs.After.{rows_sound, after_sound}
-use Rattle.wait4.proofs.CollectSound.{by_kept}
 use Rattle.requests.proofs.Forking.{Heard, heard}
 use Rattle.requests.proofs.Masks.{Tracee, resumes_sound, continues_sound}
 use Rattle.requests.proofs.Steps.{checked_sound, rows_after_sound}

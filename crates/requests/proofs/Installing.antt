@@ -1,11 +1,6 @@
 -- A host in which a debugger has installed one policy more.
-use Rattle.std.proofs.Common.{◌≡◌, ℕ, ◌<◌, List, [], ◌∷◌, ◌++◌, set, false, leb, arith}
-use Rattle.std.proofs.lemmas.Bool.{leb-true}
-use Rattle.pid_blocks.specs.Blocks.{slot}
-use Rattle.stop_handlers.specs.declared.Rule.{Rule}
+use Rattle.requests.proofs.Names.{◌≡◌, ℕ, ◌<◌, List, [], ◌∷◌, ◌++◌, set, false, leb, arith, leb-true, slot, Rule, Machine, After, installed_by, by_bool}
 use Rattle.requests.specs.declared.Reply.TheVariants as reply
-use Rattle.requests.specs.Machine.{Machine, After, installed_by}
-use Rattle.trace_stop.proofs.Every.{by_bool}
 
 abbrev pub installed_with : ℕ → ℕ → List Rule → Machine → After
 installed_with u debugger policy m = record {

@@ -1,14 +1,10 @@
 -- Words that are written one after another, each behind what is to stand before it.
-use Rattle.std.proofs.Common.{◌≡◌, ℕ, List, [], ◌∷◌, ◌++◌, map, codes, decimal, refl, sym, ap, ◌∙◌, append-nil, Option}
-use Rattle.std.specs.List.{join_with_byte, flat_map}
-use Rattle.std.proofs.lemmas.List.{append_assoc}
+use Rattle.requests.proofs.Names.{◌≡◌, ℕ, List, [], ◌∷◌, ◌++◌, map, codes, decimal, refl, sym, ap, ◌∙◌, append-nil, Option, join_with_byte, flat_map, append_assoc, Decision, StatusKind}
 use Rattle.requests.specs.Texts.{view_words}
 use Rattle.requests.specs.Words.{reply_words, decision_words, index_text, flags_word}
 use Rattle.requests.specs.declared.Reply.TheVariants as reply
 use Rattle.stop_handlers.specs.declared.StopView.{StopView}
-use Rattle.stop_handlers.specs.declared.Decision.{Decision}
 use Rattle.stop_handlers.specs.declared.Decision.TheVariants as decision
-use Rattle.wait4.specs.declared.StatusKind.{StatusKind}
 use Rattle.wait4.specs.Status.{word}
 
 -- the numbers, each after a space

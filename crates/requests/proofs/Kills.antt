@@ -1,31 +1,11 @@
 -- Kills and installed policies keep a host sound.
-use Rattle.std.proofs.Common.{◌≡◌, ◌≢◌, ℕ, ℤ, Bool, true, false, ◌==◌, ◌&&◌, ◌||◌, not, leb, List, [], ◌∷◌, ◌++◌, length, length-append, zip, Option, Some, None, refl, sym, ◌∙◌, arith, true≢false, subst, eqb-true, eq-eqb, get_or, set, get_or-set_same, get_or-set_other, length-set}
-use Rattle.std.specs.List.{list_all}
-use Rattle.std.proofs.lemmas.Bool.{le-leb, leb-false}
+use Rattle.requests.proofs.Names.{◌≡◌, ◌≢◌, ℕ, ℤ, Bool, true, false, ◌==◌, ◌&&◌, ◌||◌, not, leb, List, [], ◌∷◌, ◌++◌, length, length-append, zip, Option, Some, None, refl, sym, ◌∙◌, arith, true≢false}
+use Rattle.requests.proofs.Names.{subst, eqb-true, eq-eqb, get_or, set, get_or-set_other, length-set, list_all, le-leb, leb-false, IsUser, slot, users, EINVAL, EAGAIN, ProcData, is_live, process_of}
+use Rattle.requests.proofs.Names.{Rows, Settings, post, is_live_of, sound_rows, IsLiveOf, IsSound, and_left, and_right, both, choose, found_number, user_at, zip_users, post_sound, find_passes, Rule}
+use Rattle.requests.proofs.Names.{refuses, is_which, reach, post_if_live, post_all, reached, kill, install, Installed, Machine, installed_by, after, sound_installed, sound, step}
+use Rattle.std.proofs.Common.{get_or-set_same}
 use Rattle.std.proofs.lemmas.List.Folds.{list_all-append}
-use Rattle.pid_blocks.specs.Users.{IsUser}
-use Rattle.pid_blocks.specs.Blocks.{slot, users}
-use Rattle.pid_blocks.specs.declared.Errno.TheVariants.{EINVAL, EAGAIN}
-use Rattle.proc_table.specs.declared.ProcData.{ProcData}
-use Rattle.proc_table.specs.Processes.{is_live, process_of}
-use Rattle.proc_table.specs.Rows.{Rows}
-use Rattle.trace_stop.specs.declared.Settings.{Settings}
-use Rattle.trace_stop.specs.Stop.{post}
-use Rattle.trace_stop.specs.Sound.{is_live_of, sound_rows}
-use Rattle.trace_stop.specs.Facts.{IsLiveOf, IsSound}
-use Rattle.trace_stop.proofs.Every.{and_left, and_right, both, choose}
-use Rattle.trace_stop.proofs.Changed.{found_number}
-use Rattle.trace_stop.proofs.FromSound.{user_at, zip_users}
-use Rattle.trace_stop.proofs.Posts.{post_sound}
-use Rattle.trace_stop.proofs.Stops.{find_passes}
-use Rattle.stop_handlers.specs.declared.Rule.{Rule}
 use Rattle.requests.specs.declared.step.Step.TheVariants as op
-use Rattle.requests.specs.Outcome.{refuses}
-use Rattle.requests.specs.Reach.{is_which, reach, post_if_live, post_all, reached, kill}
-use Rattle.requests.specs.Handle.{install}
-use Rattle.requests.specs.Machine.{Installed, Machine, installed_by, after}
-use Rattle.requests.specs.Sound.{sound_installed, sound}
-use Rattle.requests.specs.Step.{step}
 use Rattle.requests.proofs.After.{pairs_test, rows_sound, after_sound}
 use Rattle.requests.proofs.Steps.{Caller, checked_sound}
 

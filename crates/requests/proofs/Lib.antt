@@ -1,3 +1,4 @@
+pub mod Names
 pub mod Room
 pub mod After
 pub mod Born

@@ -1,15 +1,6 @@
 -- Whether the row with a number is live.
-use Rattle.std.proofs.lemmas.Bool.Decides.{nat_tests}
-use Rattle.std.proofs.Common.{◌≡◌, ℕ, List, [], ◌∷◌, Bool, true, false, refl, sym, ap, ◌∙◌, ◌==◌, ◌&&◌, Some, None, inl, inr, true≢false, eq-eqb, eqb-true, arith}
-use Rattle.std.specs.List.{list_any}
-use Rattle.std.proofs.lemmas.Bool.{cases_Bool}
-use Rattle.proc_table.specs.declared.ProcData.{ProcData}
-use Rattle.proc_table.specs.Processes.{is_live, is_run, process_of}
-use Rattle.proc_table.specs.Kept.{Rise}
-use Rattle.proc_table.proofs.Rows.{process_of-pid}
-use Rattle.trace_stop.proofs.Every.{and_left, and_right, both, by_bool, any_holds}
-use Rattle.trace_stop.proofs.Numbers.{the_row}
-use Rattle.trace_stop.proofs.Stops.{find_passes}
+use Rattle.requests.proofs.Names.{nat_tests, ◌≡◌, ℕ, List, [], ◌∷◌, Bool, true, false, refl, sym, ap, ◌∙◌, ◌==◌, ◌&&◌, Some, None, inl, inr, true≢false, eq-eqb, eqb-true, arith, list_any, cases_Bool}
+use Rattle.requests.proofs.Names.{ProcData, is_live, is_run, process_of, Rise, process_of-pid, and_left, and_right, both, by_bool, any_holds, the_row, find_passes}
 
 pub live_found : (n : ℕ) (ps : List ProcData) (p : ProcData) → Rise ps → process_of n ps ≡ Some p → list_any (λ q. (q.pid == n) && is_live q) ps ≡ is_live p
 live_found n ps p rise at = by_live (is_live p) refl

@@ -1,36 +1,14 @@
 -- An LWP that changes its mode, that is made, or that exits keeps rows sound.
-use Rattle.std.proofs.Common.{◌≡◌, inl, ℕ, ◌≤◌, Bool, true, false, ◌==◌, ◌&&◌, leb, if◌then◌else◌, List, [], ◌∷◌, ◌++◌, find, Option, Some, None, IfSome, is_some, refl, sym, ap, ◌∙◌, true≢false, subst, arith, eqb-true, eq-eqb, rules}
-use Rattle.std.proofs.lemmas.Bool.{leb-false}
-use Rattle.pid_blocks.specs.Users.{IsUser}
-use Rattle.event_masks.specs.declared.TheConstants.StopFlags.{PL_FLAG_EXITED}
-use Rattle.event_masks.specs.declared.TheConstants.EventMask.{PTRACE_LWP, PTRACE_SCX}
+use Rattle.requests.proofs.Names.{◌≡◌, inl, ℕ, ◌≤◌, Bool, true, false, ◌==◌, ◌&&◌, leb, if◌then◌else◌, List, [], ◌∷◌, ◌++◌, find, Option, Some, None, IfSome, is_some, refl, sym, ap, ◌∙◌, true≢false}
+use Rattle.requests.proofs.Names.{subst, arith, eqb-true, eq-eqb, rules, leb-false, IsUser, PL_FLAG_EXITED, PTRACE_LWP, PTRACE_SCX, asks, shows, LwpData, Mode, born, lwp_of, ProcData, reporting, Rows}
+use Rattle.requests.proofs.Names.{owner, by_owner, each, change_lwp, remove_lwp, add_lwp, lwp_count, AtHome, Settings, Shown, unwanted, stop, is_due, mode_fits, IsLiveChild, FitProcess, waited_for}
+use Rattle.requests.proofs.Names.{FitLwp, IsSound, and_left, by_bool, find_some, choose, some_is, one_gone, Row, Beside, Same, Like, Stay, KeptRow, KeptLwp, nobody, holds_sound, sound_holds, row_is}
+use Rattle.requests.proofs.Names.{like_self, kept_row, kept_all, kept_lwp, none_gone, no_ring, stay_where, edit_holds, lwps_alone, own_lwps, zero_apart, Outcome, trap, due_stop, in_mode, due_at_birth}
+use Rattle.requests.proofs.Names.{exits_lwp}
 use Rattle.event_masks.specs.declared.Call.TheVariants as call
-use Rattle.event_masks.specs.Exits.{asks, shows}
-use Rattle.lwp_table.specs.declared.LwpData.{LwpData}
-use Rattle.lwp_table.specs.declared.Mode.{Mode}
 use Rattle.lwp_table.specs.declared.Due.{Due}
 use Rattle.lwp_table.specs.declared.Due.TheVariants as due
-use Rattle.lwp_table.specs.Lwps.{born, lwp_of}
-use Rattle.proc_table.specs.declared.ProcData.{ProcData}
-use Rattle.proc_table.specs.Processes.{reporting}
-use Rattle.proc_table.specs.Rows.{Rows, owner, by_owner, each, change_lwp, remove_lwp}
-use Rattle.proc_table.specs.Fresh.{add_lwp, lwp_count}
-use Rattle.proc_table.specs.Kept.{AtHome}
-use Rattle.trace_stop.specs.declared.Settings.{Settings}
-use Rattle.trace_stop.specs.declared.Shown.{Shown}
-use Rattle.trace_stop.specs.Post.{unwanted}
-use Rattle.trace_stop.specs.Stop.{stop}
-use Rattle.trace_stop.specs.Sound.{is_due, mode_fits}
-use Rattle.trace_stop.specs.Facts.{IsLiveChild, FitProcess, waited_for, FitLwp, IsSound}
-use Rattle.trace_stop.proofs.Every.{and_left, by_bool, find_some, choose}
-use Rattle.trace_stop.proofs.Edited.{some_is, one_gone}
-use Rattle.trace_stop.proofs.Changed.{Row, Beside, Same, Like, Stay, KeptRow, KeptLwp, nobody, holds_sound, sound_holds, row_is, like_self, kept_row, kept_all, kept_lwp, none_gone, no_ring, stay_where, edit_holds, lwps_alone}
-use Rattle.trace_stop.proofs.Numbers.{own_lwps}
-use Rattle.trace_stop.proofs.Settling.{zero_apart}
 use Rattle.trace_stop.proofs.Joining.{joined_sound}
-use Rattle.requests.specs.Outcome.{Outcome, trap}
-use Rattle.requests.specs.Turn.{due_stop}
-use Rattle.requests.specs.Leave.{in_mode, due_at_birth, exits_lwp}
 use Rattle.requests.proofs.Acting.{traced_where, Acting, its_live, its_quiet, lwp_fit, lwp_stands, acting_lwp, acting_stops}
 use Rattle.requests.proofs.Room.{LwpRoom}
 use Rattle.requests.proofs.Signals.{end_sound}

@@ -1,12 +1,7 @@
 -- A step that was made with no handler, as a step.
-use Rattle.std.proofs.Common.{◌≡◌, ℕ, List, Option, Some, None}
-use Rattle.stop_handlers.specs.declared.Rule.{Rule}
-use Rattle.requests.specs.declared.Reply.{Reply}
+use Rattle.requests.proofs.Names.{◌≡◌, ℕ, List, Option, Some, None, Rule, Reply, Steps, Machine, PlainStep, with_handler}
 use Rattle.requests.specs.declared.step.Step.TheVariants as op
-use Rattle.requests.specs.Hosts.{Steps}
 use Rattle.requests.specs.Making.{Makes}
-use Rattle.requests.specs.Machine.{Machine}
-use Rattle.requests.specs.Plain.{PlainStep, with_handler}
 
 pub steps_made : (u : ℕ) (s : PlainStep) (m n : Machine) (r : Reply) → Makes u (with_handler {B = List Rule} None s) m n (Some r) → Steps u s m n r
 steps_made u op.Spawn m n r h = h

@@ -1,25 +1,8 @@
 -- Masks, steps and suspended LWPs of a traced process keep rows sound.
-use Rattle.std.proofs.lemmas.Bool.Decides.{nat_tests}
-use Rattle.std.proofs.Common.{◌≡◌, inl, ℕ, Bool, true, false, ◌==◌, ◌&&◌, if◌then◌else◌, Some, None, is_some, refl, sym, ap, ◌∙◌, true≢false, subst, eqb, eqb-true, eq-eqb, arith, rules}
-use Rattle.event_masks.specs.declared.EventMask.{EventMask}
-use Rattle.lwp_table.specs.declared.LwpData.{LwpData}
-use Rattle.lwp_table.specs.Lwps.{lwp_of}
-use Rattle.proc_table.specs.declared.ProcData.{ProcData}
-use Rattle.proc_table.specs.Processes.{is_live, process_of}
-use Rattle.proc_table.specs.Rows.{Rows, change, change_lwp, is_numbered}
-use Rattle.trace_stop.specs.declared.Settings.{Settings}
-use Rattle.trace_stop.specs.Stop.{resume}
-use Rattle.trace_stop.specs.Sound.{names_own}
-use Rattle.trace_stop.specs.Facts.{FitProcess, Standing, FitLwp, WithOwner, IsSound}
-use Rattle.trace_stop.proofs.Every.{and_left, and_right, find_some, any_holds, choose}
-use Rattle.trace_stop.proofs.Edited.{find_edit}
-use Rattle.trace_stop.proofs.Changed.{holds_sound, sound_holds}
-use Rattle.trace_stop.proofs.Changes.{changed_row, changed_own, changes_hold}
-use Rattle.trace_stop.proofs.Posting.{live_fits, live_state}
-use Rattle.trace_stop.proofs.Single.{process_sound, lwp_sound}
-use Rattle.trace_stop.proofs.Posts.{resume_sound}
-use Rattle.trace_stop.proofs.Numbers.{own_lwps}
-use Rattle.requests.specs.Ptrace.{not_stepping, stepping, suspend, set_mask, continues_with}
+use Rattle.requests.proofs.Names.{nat_tests, ◌≡◌, inl, ℕ, Bool, true, false, ◌==◌, ◌&&◌, if◌then◌else◌, Some, None, is_some, refl, sym, ap, ◌∙◌, true≢false, subst, eqb, eqb-true, eq-eqb, arith, rules}
+use Rattle.requests.proofs.Names.{EventMask, LwpData, lwp_of, ProcData, is_live, process_of, Rows, change, change_lwp, is_numbered, Settings, resume, names_own, FitProcess, Standing, FitLwp}
+use Rattle.requests.proofs.Names.{WithOwner, IsSound, and_left, and_right, find_some, any_holds, choose, find_edit, holds_sound, sound_holds, changed_row, changed_own, changes_hold, live_fits}
+use Rattle.requests.proofs.Names.{live_state, process_sound, lwp_sound, resume_sound, own_lwps, not_stepping, stepping, suspend, set_mask, continues_with}
 
 -- a live traced process in sound rows
 pub record Tracee (rows : Rows) (p : ProcData) : Type 0 where

@@ -1,14 +1,7 @@
 -- The next process of a user that isn't the caller.
-use Rattle.std.proofs.Common.{◌≡◌, ℕ, ◌<◌, List, [], ◌∷◌, Bool, true, false, cond, ◌==◌, ltb, ◌&&◌, not, Option, Some, None, refl, arith, lt-ltb, eqb-true, eq-eqb, subst, rules}
-use Rattle.std.specs.Prelude.{option_map}
-use Rattle.std.proofs.lemmas.Bool.{le-ltb, ltb-true}
-use Rattle.proc_table.specs.declared.ProcData.{ProcData}
+use Rattle.requests.proofs.Names.{◌≡◌, ℕ, ◌<◌, List, [], ◌∷◌, Bool, true, false, cond, ◌==◌, ltb, ◌&&◌, not, Option, Some, None, refl, arith, lt-ltb, eqb-true, eq-eqb, subst, rules, option_map}
+use Rattle.requests.proofs.Names.{le-ltb, ltb-true, ProcData, AllAbove, Rise, and_left, by_bool, some_is, next_other, found_above}
 use Rattle.proc_table.specs.Walks.{next_of}
-use Rattle.proc_table.specs.Kept.{AllAbove, Rise}
-use Rattle.trace_stop.proofs.Every.{and_left, by_bool}
-use Rattle.trace_stop.proofs.Edited.{some_is}
-use Rattle.requests.specs.Reach.{next_other}
-use Rattle.trace_stop.proofs.Passes.{found_above}
 
 module _ (u caller : ℕ) where
   abbrev its : ProcData → Bool

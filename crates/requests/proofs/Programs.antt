@@ -1,33 +1,15 @@
 -- The changes that make an exec.
-use Rattle.std.proofs.lemmas.Bool.Decides.{nat_tests}
-use Rattle.std.proofs.Common.{◌≡◌, ◌≢◌, ℕ, ◌<◌, ◌≤◌, Bool, true, false, List, [], ◌∷◌, length, filter, find, map, filter_map, nat_eq, refl, sym, ap, ◌∙◌, arith, inl, inr, Option, Some, None, true≢false, subst, eqb-true, rules}
+use Rattle.requests.proofs.Names.{nat_tests, ◌≡◌, ◌≢◌, ℕ, ◌<◌, ◌≤◌, Bool, true, false, List, [], ◌∷◌, length, filter, find, map, filter_map, nat_eq, refl, sym, ap, ◌∙◌, arith, inl, inr, Option, Some}
+use Rattle.requests.proofs.Names.{None, true≢false, subst, eqb-true, rules, AllByRecursion, cases_Bool, after_exec, LwpData, Mode, User, InCall, VforkWait, LacksLwp, Differ, lwp_of, first_lwp}
+use Rattle.requests.proofs.Names.{next_lwp, without_lwp, ProcData, process_of, Rows, by_owner, each, change_process, Housed, drop_lwp, same_number, other_number, process_of-pid, changed_lwp, map-id}
+use Rattle.requests.proofs.Names.{filter_map-map, every_untested, found_tested, waits_where, released, IsLiveChild, waited_for, Standing, WithOwner, IsSound, All-imply, All-both, any_holds, find_some}
+use Rattle.requests.proofs.Names.{the_row, the_lwp, own_lwps, IsActing, HasLwp, settle, in_mode, exec_rows}
 use Rattle.std.specs.Prelude.{not, ◌==◌, if◌then◌else◌}
-use Rattle.std.specs.List.{AllByRecursion}
-use Rattle.std.proofs.lemmas.Bool.{cases_Bool}
-use Rattle.signals.specs.Table.{after_exec}
-use Rattle.lwp_table.specs.declared.LwpData.{LwpData}
-use Rattle.lwp_table.specs.declared.Mode.{Mode}
-use Rattle.lwp_table.specs.declared.Mode.TheVariants.{User, InCall, VforkWait}
-use Rattle.lwp_table.specs.Lwps.{LacksLwp, Differ, lwp_of, first_lwp, next_lwp, without_lwp}
-use Rattle.proc_table.specs.declared.ProcData.{ProcData}
-use Rattle.proc_table.specs.Processes.{process_of}
-use Rattle.proc_table.specs.Rows.{Rows, by_owner, each, change_process}
 use Rattle.proc_table.specs.Edits.{own_lwp}
-use Rattle.proc_table.specs.Kept.{Housed, drop_lwp}
-use Rattle.proc_table.proofs.Rows.{same_number, other_number, process_of-pid}
-use Rattle.proc_table.proofs.Changes.{changed_lwp, map-id, filter_map-map}
-use Rattle.proc_table.proofs.Every.{every_untested, found_tested}
-use Rattle.trace_stop.specs.End.{waits_where, released}
-use Rattle.trace_stop.specs.Facts.{IsLiveChild, waited_for, Standing, WithOwner, IsSound}
 use Rattle.trace_stop.proofs.Children.{child_test, child_from}
 use Rattle.process_end.proofs.LwpEdits.{filter_within, filter_all, released-tid, released-pid}
-use Rattle.trace_stop.proofs.Every.{All-imply, All-both, any_holds, find_some}
-use Rattle.trace_stop.proofs.Numbers.{the_row, the_lwp, own_lwps}
 use Rattle.requests.proofs.Actors.{has-process_changed, has-lwps_mapped}
-use Rattle.requests.specs.Actors.{IsActing, HasLwp}
 use Rattle.requests.specs.Programs.{is_other, only_lwp, parent_freed}
-use Rattle.trace_stop.specs.Post.{settle}
-use Rattle.requests.specs.Leave.{in_mode, exec_rows}
 
 -- An LWP of the process with another number
 

@@ -1,53 +1,22 @@
 -- A refused step changes nothing, and none is_memory memory, kind by kind.
-use Rattle.std.proofs.Common.{◌≡◌, ℕ, ℤ, negsuc, Bool, true, false, ◌==◌, not, ◌||◌, leb, if◌then◌else◌, List, [], ◌∷◌, find, length, Option, Some, None, is_some, option_map, refl, sym, ap, ◌∙◌, true≢false, rules}
-use Rattle.pid_blocks.specs.declared.Errno.TheVariants.{ESRCH, ECHILD, EBUSY, EINVAL, EAGAIN}
-use Rattle.event_masks.specs.declared.Call.{Call}
+use Rattle.requests.proofs.Names.{◌≡◌, ℕ, ℤ, negsuc, Bool, true, false, ◌==◌, not, ◌||◌, leb, if◌then◌else◌, List, [], ◌∷◌, find, length, Option, Some, None, is_some, refl, sym, ap, ◌∙◌, true≢false}
+use Rattle.requests.proofs.Names.{rules, ESRCH, ECHILD, EBUSY, EINVAL, EAGAIN, Call, disposition_of, default_action, is_signal, Action, Disposition, LwpData, Mode, User, InCall, VforkWait, lwp_of}
+use Rattle.requests.proofs.Names.{ProcData, State, Run, Trace, Job, Zombie, process_of, is_live, is_run, Rows, seen_process, seen_lwp, Settings, Shown, LwpInfo, info, Rule, Options, StatusKind}
+use Rattle.requests.proofs.Names.{Collected, candidates, reportable, answer, without_report, Request, Act, PlainStep, Reply, Outcome, answers, refuses, stops_or, Numbers, room_for_process}
+use Rattle.requests.proofs.Names.{room_for_lwp, in_mode, exit_stop, with_child, exec_rows, forks, makes_lwp, exits_lwp, leaves, waits, due_stop, next_signal, takes_by_default, takes_untraced, takes}
+use Rattle.requests.proofs.Names.{acts, signal_or_act, due_or_more, turn_by, turn_seen, turn, trace_me, attach, shows_info, does, commands_stopped, commands, is_attach, about, target_of, is_trace_me}
+use Rattle.requests.proofs.Names.{ptrace, is_which, reach, reached, kill, spawn_with, spawn, list, is_refused, sigaction, collect_reply, wait, install, handles_stop, handles_status, handles, Machine}
+use Rattle.requests.proofs.Names.{installed_by, After, after, is_refusal, is_memory, sound, calls, checked, step}
+use Rattle.std.proofs.Common.{option_map}
 use Rattle.event_masks.specs.declared.Call.TheVariants as call
-use Rattle.signals.specs.Table.{disposition_of, default_action, is_signal}
-use Rattle.signals.specs.declared.Action.{Action}
 use Rattle.signals.specs.declared.Action.TheVariants as action
-use Rattle.signals.specs.declared.Disposition.{Disposition}
 use Rattle.signals.specs.declared.Disposition.TheVariants as disposition
-use Rattle.lwp_table.specs.declared.LwpData.{LwpData}
-use Rattle.lwp_table.specs.declared.Mode.{Mode}
-use Rattle.lwp_table.specs.declared.Mode.TheVariants.{User, InCall, VforkWait}
-use Rattle.lwp_table.specs.Lwps.{lwp_of}
-use Rattle.proc_table.specs.declared.ProcData.{ProcData}
-use Rattle.proc_table.specs.declared.State.{State}
-use Rattle.proc_table.specs.declared.State.TheVariants.{Run, Trace, Job, Zombie}
-use Rattle.proc_table.specs.Processes.{process_of, is_live, is_run}
-use Rattle.proc_table.specs.Rows.{Rows}
-use Rattle.proc_table.specs.Seen.{seen_process, seen_lwp}
-use Rattle.trace_stop.specs.declared.Settings.{Settings}
-use Rattle.trace_stop.specs.declared.Shown.{Shown}
-use Rattle.lwpinfo.specs.declared.LwpInfo.{LwpInfo}
-use Rattle.lwpinfo.specs.Info.{info}
-use Rattle.stop_handlers.specs.declared.Rule.{Rule}
-use Rattle.wait4.specs.declared.Options.{Options}
-use Rattle.wait4.specs.declared.StatusKind.{StatusKind}
-use Rattle.wait4.specs.declared.Collected.{Collected}
 use Rattle.wait4.specs.declared.Collected.TheVariants as collected
-use Rattle.wait4.specs.Collect.{candidates, reportable, answer, without_report}
-use Rattle.requests.specs.declared.Request.{Request}
 use Rattle.requests.specs.declared.Request.TheVariants as request
-use Rattle.requests.specs.declared.Act.{Act}
 use Rattle.requests.specs.declared.Act.TheVariants as act
-use Rattle.requests.specs.Plain.{PlainStep}
 use Rattle.requests.specs.declared.step.Step.TheVariants as op
-use Rattle.requests.specs.declared.Reply.{Reply}
 use Rattle.requests.specs.declared.Reply.TheVariants as reply
-use Rattle.requests.specs.Outcome.{Outcome, answers, refuses, stops_or}
-use Rattle.requests.specs.Leave.{Numbers, room_for_process, room_for_lwp, in_mode, exit_stop, with_child, exec_rows, forks, makes_lwp, exits_lwp, leaves}
-use Rattle.requests.specs.Turn.{waits, due_stop, next_signal, takes_by_default, takes_untraced, takes, acts, signal_or_act, due_or_more, turn_by, turn_seen, turn}
-use Rattle.requests.specs.Ptrace.{trace_me, attach, shows_info, does, commands_stopped, commands, is_attach, about, target_of, is_trace_me, ptrace}
-use Rattle.requests.specs.Reach.{is_which, reach, reached, kill}
-use Rattle.requests.specs.Calls.{spawn_with, spawn, list, is_refused, sigaction, collect_reply, wait}
-use Rattle.requests.specs.Handle.{install, handles_stop, handles_status, handles}
-use Rattle.requests.specs.Machine.{Machine, installed_by, After, after}
-use Rattle.requests.specs.Memory.{is_refusal, is_memory}
 use Rattle.requests.specs.Refusals.{RefusedSame, NothingSame, NeverMemory, ListingSame, is_listing}
-use Rattle.requests.specs.Sound.{sound}
-use Rattle.requests.specs.Step.{calls, checked, step}
 use Rattle.requests.proofs.After.{answers_same}
 use Rattle.requests.proofs.Steps.{choose}
 

@@ -1,15 +1,7 @@
 -- Rows of processes that are left, with their numbers and users: what posting a signal leaves.
-use Rattle.std.proofs.lemmas.Bool.Decides.{nat_tests}
-use Rattle.std.proofs.Common.{◌≡◌, ℕ, Bool, ◌==◌, if◌then◌else◌, List, [], ◌∷◌, filter_map, Option, Some, None, IfSome, is_some, is_none, refl, ap, arith, rules}
-use Rattle.std.specs.List.{list_any}
-use Rattle.signals.specs.Table.{SIGKILL, SIGCHLD}
-use Rattle.proc_table.specs.declared.ProcData.{ProcData}
-use Rattle.proc_table.specs.Processes.{process_of}
-use Rattle.proc_table.specs.Rows.{Rows, each, change, is_numbered}
-use Rattle.trace_stop.specs.declared.Settings.{Settings}
-use Rattle.trace_stop.specs.Post.{posted_process, posted_lwp, continues, notified, notifies, posted}
-use Rattle.trace_stop.specs.End.{is_doomed, dooms, process_after, lwp_after, notifies_of, left_alone, end_each, end}
-use Rattle.trace_stop.specs.Stop.{post}
+use Rattle.requests.proofs.Names.{nat_tests, ◌≡◌, ℕ, Bool, ◌==◌, if◌then◌else◌, List, [], ◌∷◌, filter_map, Option, Some, None, IfSome, is_some, is_none, refl, ap, arith, rules, list_any, SIGKILL}
+use Rattle.requests.proofs.Names.{SIGCHLD, ProcData, process_of, Rows, each, change, is_numbered, Settings, posted_process, posted_lwp, continues, notified, notifies, posted, is_doomed, dooms}
+use Rattle.requests.proofs.Names.{process_after, lwp_after, notifies_of, left_alone, end_each, end, post}
 use Rattle.requests.proofs.Steps.{choose}
 
 abbrev pub SameNumber : ProcData → ProcData → Type 0

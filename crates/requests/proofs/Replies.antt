@@ -1,9 +1,7 @@
 -- A reply is want of memory, or it isn't.
-use Rattle.std.proofs.Common.{◌≡◌, ◌≢◌, false, refl, sym, ap, ◌∙◌, true≢false, ◌⊎◌, inl, inr}
+use Rattle.requests.proofs.Names.{◌≡◌, ◌≢◌, false, refl, sym, ap, ◌∙◌, true≢false, ◌⊎◌, inl, inr, Reply, is_memory}
 use Rattle.pid_blocks.specs.declared.Errno.TheVariants as errno
-use Rattle.requests.specs.declared.Reply.{Reply}
 use Rattle.requests.specs.declared.Reply.TheVariants as reply
-use Rattle.requests.specs.Memory.{is_memory}
 
 pub other : (r : Reply) → is_memory r ≡ false → r ≢ reply.Errno errno.ENOMEM
 other r none is = true≢false (sym (ap is_memory is) ∙ none)

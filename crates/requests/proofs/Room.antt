@@ -1,15 +1,10 @@
 -- The numbers that a user's limits leave room for.
-use Rattle.std.proofs.lemmas.Bool.Decides.{nat_tests}
-use Rattle.std.proofs.Common.{◌≡◌, ℕ, zero, suc, ◌+◌, ◌-◌, ◌<◌, ◌≤◌, Bool, true, false, leb, if◌then◌else◌, Option, Some, None, IfSome, refl, arith}
+use Rattle.requests.proofs.Names.{nat_tests, ◌≡◌, ℕ, zero, suc, ◌+◌, ◌-◌, ◌<◌, ◌≤◌, Bool, true, false, leb, if◌then◌else◌, Option, Some, None, IfSome, refl, arith, leb-false, IsUser, slot, pid_block}
+use Rattle.requests.proofs.Names.{tid_block, first_free, next_free, Rows, is_process, is_lwp, fresh_pid, fresh_tid, process_count, lwp_count_of, Stands, Numbers, with_tid, room_for_lwp}
+use Rattle.requests.proofs.Names.{room_for_process}
 use Rattle.std.specs.Prelude.{get_or}
-use Rattle.std.proofs.lemmas.Bool.{leb-false}
-use Rattle.pid_blocks.specs.Users.{IsUser}
 use Rattle.pid_blocks.specs.declared.Block.{Block}
-use Rattle.pid_blocks.specs.Blocks.{slot, pid_block, tid_block, first_free, next_free, InBlock}
-use Rattle.proc_table.specs.Rows.{Rows}
-use Rattle.proc_table.specs.Fresh.{is_process, is_lwp, fresh_pid, fresh_tid, process_count, lwp_count_of}
-use Rattle.trace_stop.specs.Facts.{Stands}
-use Rattle.requests.specs.Leave.{Numbers, with_tid, room_for_lwp, room_for_process}
+use Rattle.pid_blocks.specs.Blocks.{InBlock}
 
 -- a free number between two
 record Free (taken : ℕ → Bool) (low high n : ℕ) : Type 0 where

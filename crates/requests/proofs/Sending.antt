@@ -1,26 +1,11 @@
 -- A signal sent to one process, and to all others of a user.
-use Rattle.std.proofs.lemmas.Bool.Decides.{nat_tests}
-use Rattle.std.proofs.Common.{◌≡◌, ℕ, ◌-◌, ◌<◌, ◌≤◌, pos, negsuc, Bool, true, false, cond, ◌==◌, ltb, ◌&&◌, not, List, [], ◌∷◌, filter, filter_map, find, Option, Some, None, IfSome, is_none, if◌then◌else◌, refl, sym, ap, ◌∙◌, arith, true≢false, eqb-true, ◌^◌, inl, inr, rules}
-use Rattle.std.specs.Prelude.{option_map, ℤ, int_lt}
+use Rattle.requests.proofs.Names.{nat_tests, ◌≡◌, ℕ, ◌-◌, ◌<◌, ◌≤◌, pos, negsuc, Bool, true, false, cond, ◌==◌, ltb, ◌&&◌, not, List, [], ◌∷◌, filter, filter_map, find, Option, Some, None, IfSome}
+use Rattle.requests.proofs.Names.{is_none, if◌then◌else◌, refl, sym, ap, ◌∙◌, arith, true≢false, eqb-true, ◌^◌, inl, inr, rules, option_map, int_lt, cases_lt, le-leb, AllByRecursion, list_any}
+use Rattle.requests.proofs.Names.{cons_option, ProcData, process_of, is_live, of_user, Rows, seen_process, AllAbove, Rise, AtHome, IsKept, process_of-pid, Settings, post, by_bool, All-imply, If_more}
+use Rattle.requests.proofs.Names.{some_is, reach, post_if_live, post_all, reached, kill, next_other, refuses, ESRCH, option_and_then, own_rows, process_edited}
+use Rattle.std.specs.Prelude.{ℤ}
 use Rattle.std.specs.Int.{FitsUnsignedBits}
-use Rattle.std.proofs.lemmas.Bool.{cases_lt, le-leb}
-use Rattle.std.specs.List.{AllByRecursion, list_any, cons_option}
-use Rattle.proc_table.specs.declared.ProcData.{ProcData}
-use Rattle.proc_table.specs.Processes.{process_of, is_live, of_user}
-use Rattle.proc_table.specs.Rows.{Rows}
-use Rattle.proc_table.specs.Seen.{seen_process}
-use Rattle.proc_table.specs.Kept.{AllAbove, Rise, AtHome, IsKept}
-use Rattle.proc_table.proofs.Rows.{process_of-pid}
-use Rattle.trace_stop.specs.declared.Settings.{Settings}
-use Rattle.trace_stop.specs.Stop.{post}
-use Rattle.trace_stop.proofs.Every.{by_bool, All-imply}
-use Rattle.trace_stop.proofs.Edited.{If_more, some_is}
-use Rattle.requests.specs.Reach.{reach, post_if_live, post_all, reached, kill, next_other}
-use Rattle.requests.specs.Outcome.{refuses}
-use Rattle.pid_blocks.specs.declared.Errno.TheVariants.{ESRCH}
 use Rattle.requests.specs.declared.Reply.TheVariants as reply
-use Rattle.std.specs.Option.{option_and_then}
-use Rattle.trace_stop.proofs.Passes.{own_rows, process_edited}
 use Rattle.requests.proofs.Living.{live_found, live_none}
 use Rattle.requests.proofs.Walk.{above, above_none, above_first, above_next, next_over}
 use Rattle.requests.proofs.Remaining.{Remain, SameNumber, remain_all, remain_post}

@@ -1,37 +1,14 @@
 -- Pending signals that an LWP takes, and what they do, keep rows sound.
-use Rattle.std.proofs.Common.{◌≡◌, inl, inr, ℕ, Bool, true, false, ◌==◌, not, [], ◌∷◌, Option, Some, None, IfSome, is_some, refl, sym, ap, ◌∙◌, true≢false, subst, eqb-true, bit_or, rules}
-use Rattle.std.proofs.lemmas.Bool.{le-leb}
-use Rattle.signals.specs.Sets.{has, bit, without, lowest}
-use Rattle.signals.specs.Table.{SIGTRAP, unmaskable_set, is_signal, maskable, disposition_of, default_action}
-use Rattle.signals.specs.Laws.{IsSignal, IsLowest}
-use Rattle.signals.specs.declared.Action.{Action}
+use Rattle.requests.proofs.Names.{◌≡◌, inl, inr, ℕ, Bool, true, false, ◌==◌, not, [], ◌∷◌, Option, Some, None, IfSome, is_some, refl, sym, ap, ◌∙◌, true≢false, subst, eqb-true, bit_or, rules, le-leb}
+use Rattle.requests.proofs.Names.{has, bit, without, lowest, SIGTRAP, unmaskable_set, is_signal, maskable, disposition_of, default_action, IsSignal, IsLowest, Action, Disposition, LwpData, Mode, User}
+use Rattle.requests.proofs.Names.{InCall, VforkWait, ProcData, Job, is_live, is_this, process_of, Rows, change_process, change_lwp, Settings, unwanted, notified, end, stop, is_end, Linked, FitProcess}
+use Rattle.requests.proofs.Names.{FitLwp, IsSound, both, by_bool, find_some, choose, not_some, If_more, changed_own, process_sound, pending_fits, end_at, post_sound, Outcome, in_user_mode}
+use Rattle.requests.proofs.Names.{next_signal, without_signal, plain, takes_by_default, takes_untraced, takes, computes, raises}
 use Rattle.signals.specs.declared.Action.TheVariants as action
-use Rattle.signals.specs.declared.Disposition.{Disposition}
 use Rattle.signals.specs.declared.Disposition.TheVariants as disposition
 use Rattle.signals.proofs.Members.{lowest-some}
-use Rattle.lwp_table.specs.declared.LwpData.{LwpData}
-use Rattle.lwp_table.specs.declared.Mode.{Mode}
-use Rattle.lwp_table.specs.declared.Mode.TheVariants.{User, InCall, VforkWait}
-use Rattle.proc_table.specs.declared.ProcData.{ProcData}
-use Rattle.proc_table.specs.declared.State.TheVariants.{Job}
-use Rattle.proc_table.specs.Processes.{is_live, is_this, process_of}
-use Rattle.proc_table.specs.Rows.{Rows, change_process, change_lwp}
-use Rattle.trace_stop.specs.declared.Settings.{Settings}
-use Rattle.trace_stop.specs.Post.{unwanted, notified}
-use Rattle.trace_stop.specs.End.{end}
-use Rattle.trace_stop.specs.Stop.{stop}
-use Rattle.trace_stop.specs.Sound.{is_end}
-use Rattle.trace_stop.specs.Facts.{Linked, FitProcess, FitLwp, IsSound}
 use Rattle.trace_stop.proofs.Bits.{without_apart, without_less}
-use Rattle.trace_stop.proofs.Every.{both, by_bool, find_some, choose, not_some}
-use Rattle.trace_stop.proofs.Edited.{If_more}
-use Rattle.trace_stop.proofs.Changes.{changed_own}
-use Rattle.trace_stop.proofs.Single.{process_sound}
-use Rattle.trace_stop.proofs.Posting.{pending_fits}
-use Rattle.trace_stop.proofs.Posts.{end_at, post_sound}
 use Rattle.trace_stop.proofs.Stopping.{live_told, notified_sound}
-use Rattle.requests.specs.Outcome.{Outcome}
-use Rattle.requests.specs.Turn.{in_user_mode, next_signal, without_signal, plain, takes_by_default, takes_untraced, takes, computes, raises}
 use Rattle.requests.proofs.Acting.{Acting, its_live, its_quiet, its_fit, lwp_stands, lwp_fit, acting_lwp, acting_process, acting_stops, traced_where}
 use Rattle.requests.proofs.Masks.{stepless_fits}
 

@@ -1,8 +1,6 @@
 -- Every step keeps a host sound.
-use Rattle.std.proofs.Common.{[], ◌∷◌}
+use Rattle.requests.proofs.Names.{[], ◌∷◌, SoundKept, SoundRuns, step}
 use Rattle.requests.specs.declared.step.Step.TheVariants as op
-use Rattle.requests.specs.Laws.{SoundKept, SoundRuns}
-use Rattle.requests.specs.Step.{step}
 use Rattle.requests.proofs.Born.{spawn_sound, list_sound}
 use Rattle.requests.proofs.Steps.{sigaction_sound, wait_sound}
 use Rattle.requests.proofs.Kills.{kill_sound, install_sound}

@@ -1,30 +1,11 @@
 -- Steps of a caller keep a host sound, kind by kind.
-use Rattle.std.proofs.Common.{◌≡◌, ℕ, ℤ, Bool, true, false, ◌==◌, ◌&&◌, ◌||◌, not, if◌then◌else◌, Option, Some, None, refl, sym, subst, eqb-true}
-use Rattle.pid_blocks.specs.declared.Errno.TheVariants.{ESRCH, EINVAL}
-use Rattle.signals.specs.Table.{is_signal, set_disposition}
-use Rattle.signals.specs.declared.Disposition.{Disposition}
-use Rattle.proc_table.specs.declared.ProcData.{ProcData}
-use Rattle.proc_table.specs.Processes.{is_live, is_run, process_of}
-use Rattle.proc_table.specs.Rows.{Rows}
-use Rattle.proc_table.specs.Seen.{seen_process}
-use Rattle.trace_stop.specs.Facts.{IsSound}
-use Rattle.trace_stop.proofs.Every.{and_right, All-filter, find_some}
-use Rattle.trace_stop.proofs.Settling.{disposed_sound}
-use Rattle.trace_stop.proofs.Passes.{own_rows}
-use Rattle.wait4.specs.declared.Options.{Options}
-use Rattle.wait4.specs.Collect.{reportable, candidates, is_child, fits, reported, rows_after, without_report}
-use Rattle.requests.specs.declared.Reply.{Reply}
+use Rattle.requests.proofs.Names.{◌≡◌, ℕ, ℤ, Bool, true, false, ◌==◌, ◌&&◌, ◌||◌, not, if◌then◌else◌, Option, Some, None, refl, sym, subst, eqb-true, ESRCH, EINVAL, is_signal, set_disposition}
+use Rattle.requests.proofs.Names.{Disposition, ProcData, is_live, is_run, process_of, Rows, seen_process, IsSound, and_right, All-filter, find_some, disposed_sound, own_rows, Options, reportable}
+use Rattle.requests.proofs.Names.{candidates, is_child, fits, reported, rows_after, without_report, Reply, PlainStep, answers, refuses, sigaction, is_default, wait, is_which, Machine, after, sound}
+use Rattle.requests.proofs.Names.{step, checked, calls, collect_sound}
 use Rattle.requests.specs.declared.Reply.TheVariants as reply
-use Rattle.requests.specs.Plain.{PlainStep}
 use Rattle.requests.specs.declared.step.Step.TheVariants as op
-use Rattle.requests.specs.Outcome.{answers, refuses}
-use Rattle.requests.specs.Calls.{sigaction, is_default, wait}
-use Rattle.requests.specs.Reach.{is_which}
-use Rattle.requests.specs.Machine.{Machine, after}
-use Rattle.requests.specs.Sound.{sound}
-use Rattle.requests.specs.Step.{step, checked, calls}
 use Rattle.requests.proofs.After.{rows_sound, after_sound, answers_same}
-use Rattle.wait4.proofs.CollectSound.{collect_sound}
 
 -- a caller: a live process of the user that runs
 pub record Caller (u : ℕ) (rows : Rows) (p : ProcData) : Type 0 where

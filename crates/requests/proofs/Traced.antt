@@ -1,35 +1,12 @@
 -- Each request of a debugger keeps a host sound.
-use Rattle.std.proofs.Common.{◌≡◌, ℕ, Bool, true, false, ◌==◌, ◌&&◌, not, leb, if◌then◌else◌, Option, Some, None, option_map, is_some, refl, sym, ◌∙◌, true≢false, subst, arith, eqb-true, eq-eqb, rules}
-use Rattle.std.specs.List.{list_any}
-use Rattle.pid_blocks.specs.declared.Errno.TheVariants.{ESRCH}
-use Rattle.event_masks.specs.declared.TheConstants.EventMask.{PTRACE_SCE, PTRACE_SCX, PTRACE_FORK, PTRACE_LWP}
-use Rattle.event_masks.specs.Exits.{mask_with}
-use Rattle.signals.specs.Table.{SIGKILL}
-use Rattle.lwp_table.specs.declared.LwpData.{LwpData}
-use Rattle.lwp_table.specs.Lwps.{lwp_of}
-use Rattle.proc_table.specs.declared.ProcData.{ProcData}
-use Rattle.proc_table.specs.Processes.{is_live, reporting, traces, process_of}
-use Rattle.proc_table.specs.Rows.{Rows}
-use Rattle.proc_table.specs.Seen.{owns, seen_process, seen_lwp, find_seen}
-use Rattle.trace_stop.specs.declared.Settings.{Settings}
-use Rattle.trace_stop.specs.Sound.{names_own}
-use Rattle.trace_stop.specs.Facts.{IsLiveOf, Linked, IsSound}
-use Rattle.trace_stop.proofs.Every.{and_left, and_right, both, All-any, find_some, choose}
-use Rattle.trace_stop.proofs.Edited.{some_is, if_at}
-use Rattle.trace_stop.proofs.Changed.{found_number}
-use Rattle.trace_stop.proofs.Numbers.{one_row, own_lwps}
-use Rattle.trace_stop.proofs.Stops.{find_passes}
-use Rattle.trace_stop.proofs.Posts.{detach_sound}
-use Rattle.lwpinfo.specs.declared.LwpInfo.{LwpInfo}
-use Rattle.lwpinfo.specs.Info.{info}
-use Rattle.requests.specs.declared.Request.{Request}
+use Rattle.requests.proofs.Names.{◌≡◌, ℕ, Bool, true, false, ◌==◌, ◌&&◌, not, leb, if◌then◌else◌, Option, Some, None, is_some, refl, sym, ◌∙◌, true≢false, subst, arith, eqb-true, eq-eqb, rules}
+use Rattle.requests.proofs.Names.{list_any, ESRCH, PTRACE_SCE, PTRACE_SCX, PTRACE_FORK, PTRACE_LWP, mask_with, SIGKILL, LwpData, lwp_of, ProcData, is_live, reporting, traces, process_of, Rows, owns}
+use Rattle.requests.proofs.Names.{seen_process, seen_lwp, find_seen, Settings, names_own, IsLiveOf, Linked, IsSound, and_left, and_right, both, All-any, find_some, choose, some_is, if_at}
+use Rattle.requests.proofs.Names.{found_number, one_row, own_lwps, find_passes, detach_sound, LwpInfo, info, Request, Outcome, refuses, attach, told_stop, bad_argument, stepping, switched, shows_info}
+use Rattle.requests.proofs.Names.{does, commands_stopped, commands, is_attach, about, process_by, target_of, is_trace_me, ptrace, Machine, sound, step}
+use Rattle.std.proofs.Common.{option_map}
 use Rattle.requests.specs.declared.Request.TheVariants as request
 use Rattle.requests.specs.declared.step.Step.TheVariants as op
-use Rattle.requests.specs.Outcome.{Outcome, refuses}
-use Rattle.requests.specs.Ptrace.{attach, told_stop, bad_argument, stepping, switched, shows_info, does, commands_stopped, commands, is_attach, about, process_by, target_of, is_trace_me, ptrace}
-use Rattle.requests.specs.Machine.{Machine}
-use Rattle.requests.specs.Sound.{sound}
-use Rattle.requests.specs.Step.{step}
 use Rattle.requests.proofs.Asked.{told_reports}
 use Rattle.requests.proofs.After.{rows_sound, after_sound}
 use Rattle.requests.proofs.Steps.{Caller, checked_sound}

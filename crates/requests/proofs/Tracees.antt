@@ -1,39 +1,12 @@
 -- A stopped tracee in sound rows, and changes of its row and of its LWPs.
-use Rattle.std.proofs.Common.{◌≡◌, ℕ, ◌≤◌, ◌==◌, arith, eqb-true, true, false, if◌then◌else◌, Option, Some, None, is_some, refl, sym, ap, ◌∙◌, true≢false, subst, eq-eqb, rules}
-use Rattle.std.specs.Prelude.{IsSomeAnd}
-use Rattle.std.proofs.lemmas.Bool.Decides.{nat_tests}
-use Rattle.event_masks.specs.declared.EventMask.{EventMask}
-use Rattle.signals.specs.Table.{SIGKILL}
-use Rattle.lwp_table.specs.declared.LwpData.{LwpData}
-use Rattle.lwp_table.specs.Lwps.{lwp_of, Differ}
-use Rattle.proc_table.specs.declared.ProcData.{ProcData}
-use Rattle.proc_table.specs.declared.State.{State}
-use Rattle.proc_table.specs.declared.State.TheVariants.{Run, Trace, Job, Zombie}
-use Rattle.proc_table.specs.Processes.{process_of, named_by, reporting, is_zombie_state}
-use Rattle.proc_table.specs.Rows.{Rows, change_process, change_lwp, is_numbered}
-use Rattle.proc_table.specs.Edits.{map_lwps}
-use Rattle.proc_table.specs.Fresh.{lwp_count, lwp_count_of}
-use Rattle.proc_table.specs.Seen.{owns}
-use Rattle.proc_table.specs.Kept.{Rise, IsRow, AtHome, set_lwp}
-use Rattle.proc_table.proofs.Seen.{owns-kept}
-use Rattle.proc_table.proofs.Rows.{found_row, lwp_of-tid}
-use Rattle.proc_table.proofs.Every.{every_found, some_and}
-use Rattle.proc_table.proofs.Changes.{change_process-at, change_lwp-at, change-at}
-use Rattle.proc_table.proofs.Stays.{lwp_there}
-use Rattle.trace_stop.specs.declared.Settings.{Settings}
-use Rattle.trace_stop.specs.Stop.{resume}
-use Rattle.trace_stop.specs.Facts.{IsSound}
+use Rattle.requests.proofs.Names.{◌≡◌, ℕ, ◌≤◌, ◌==◌, arith, eqb-true, true, false, if◌then◌else◌, Option, Some, None, is_some, refl, sym, ap, ◌∙◌, true≢false, subst, eq-eqb, rules, IsSomeAnd}
+use Rattle.requests.proofs.Names.{nat_tests, EventMask, SIGKILL, LwpData, lwp_of, Differ, ProcData, State, Run, Trace, Job, Zombie, process_of, named_by, reporting, is_zombie_state, Rows}
+use Rattle.requests.proofs.Names.{change_process, change_lwp, is_numbered, map_lwps, lwp_count, lwp_count_of, owns, Rise, IsRow, AtHome, set_lwp, owns-kept, found_row, lwp_of-tid, every_found}
+use Rattle.requests.proofs.Names.{some_and, change_process-at, change_lwp-at, change-at, lwp_there, Settings, resume, IsSound, count_edit, changed_row, edit_none, Reply, Outcome, answers}
+use Rattle.requests.proofs.Names.{not_stepping, stepping, set_mask, continues_with, with_signal, choose}
 use Rattle.trace_stop.specs.Reports.{IsStopped}
-use Rattle.trace_stop.proofs.Edited.{count_edit}
-use Rattle.trace_stop.proofs.Changes.{changed_row}
-use Rattle.trace_stop.proofs.Edited.{edit_none}
 use Rattle.trace_stop.proofs.Stopped.{IsStopped-from}
-use Rattle.requests.specs.declared.Reply.{Reply}
 use Rattle.requests.specs.declared.Reply.TheVariants as reply
-use Rattle.requests.specs.Outcome.{Outcome, answers}
-use Rattle.requests.specs.Ptrace.{not_stepping, stepping, set_mask, continues_with}
-use Rattle.requests.specs.Commands.{with_signal}
-use Rattle.trace_stop.proofs.Every.{choose}
 use Rattle.requests.proofs.Masks.{Tracee, OwnLwp, not_stepping_tracee, not_stepping_lwp, set_mask_tracee, stepping_tracee}
 
 -- A process with a number is found with its change

@@ -1,32 +1,12 @@
 -- The turn of an LWP keeps a host sound.
-use Rattle.std.proofs.Common.{◌≡◌, ℕ, ◌*◌, Bool, true, false, ◌||◌, not, Option, Some, None, IfSome, refl, sym, ap, ◌∙◌, true≢false, subst}
-use Rattle.event_masks.specs.declared.Call.{Call}
+use Rattle.requests.proofs.Names.{◌≡◌, ℕ, ◌*◌, Bool, true, false, ◌||◌, not, Option, Some, None, IfSome, refl, sym, ap, ◌∙◌, true≢false, subst, Call, LwpData, Mode, User, InCall, VforkWait, ProcData}
+use Rattle.requests.proofs.Names.{is_run, process_of, Rows, seen_lwp, add_lwp, born, Settings, Shown, status_fits, mode_fits, IsLiveChild, waited_for, IsSound, IsSignal, Act, Outcome, Numbers}
+use Rattle.requests.proofs.Names.{room_for_lwp, room_for_process, in_mode, exit_stop, with_child, forks, exec_rows, due_at_birth, makes_lwp, leaves, waits, due_stop, next_signal, without_signal, acts}
+use Rattle.requests.proofs.Names.{signal_or_act, due_or_more, turn_of, turn_by, turn_seen, turn, Machine, sound, step, act_fits, choose}
 use Rattle.event_masks.specs.declared.Call.TheVariants as call
-use Rattle.lwp_table.specs.declared.LwpData.{LwpData}
-use Rattle.lwp_table.specs.declared.Mode.{Mode}
-use Rattle.lwp_table.specs.declared.Mode.TheVariants.{User, InCall, VforkWait}
-use Rattle.proc_table.specs.declared.ProcData.{ProcData}
-use Rattle.proc_table.specs.Processes.{is_run, process_of}
-use Rattle.proc_table.specs.Rows.{Rows}
-use Rattle.proc_table.specs.Seen.{seen_lwp}
-use Rattle.proc_table.specs.Fresh.{add_lwp}
-use Rattle.lwp_table.specs.Lwps.{born}
-use Rattle.trace_stop.specs.declared.Settings.{Settings}
-use Rattle.trace_stop.specs.declared.Shown.{Shown}
-use Rattle.trace_stop.specs.Sound.{status_fits, mode_fits}
-use Rattle.trace_stop.specs.Facts.{IsLiveChild, waited_for, IsSound}
-use Rattle.signals.specs.Laws.{IsSignal}
-use Rattle.requests.specs.declared.Act.{Act}
 use Rattle.requests.specs.declared.Act.TheVariants as act
 use Rattle.requests.specs.declared.step.Step.TheVariants as op
 use Rattle.requests.specs.declared.Reply.TheVariants as reply
-use Rattle.requests.specs.Outcome.{Outcome}
-use Rattle.requests.specs.Leave.{Numbers, room_for_lwp, room_for_process, in_mode, exit_stop, with_child, forks, exec_rows, due_at_birth, makes_lwp, leaves}
-use Rattle.requests.specs.Turn.{waits, due_stop, next_signal, without_signal, acts, signal_or_act, due_or_more, turn_of, turn_by, turn_seen, turn}
-use Rattle.requests.specs.Machine.{Machine}
-use Rattle.requests.specs.Sound.{sound}
-use Rattle.requests.specs.Step.{step}
-use Rattle.requests.specs.Laws.{act_fits}
 use Rattle.requests.proofs.Acting.{Acting, seen_acting, its_fit, lwp_fit, MayMake, stops_or_sound}
 use Rattle.requests.proofs.After.{rows_sound, after_sound}
 use Rattle.requests.proofs.Room.{LwpRoom, lwp_room, ProcessRoom, process_room}
@@ -35,7 +15,6 @@ use Rattle.requests.proofs.Lwps.{in_mode_acting, due_sound, exits_lwp_sound, joi
 use Rattle.requests.proofs.Execs.{exec_alike}
 use Rattle.requests.proofs.Exits.{entry_may, fork_may, vfork_may, exec_may, thr_new_may, other_may, same_may, exit_word}
 use Rattle.requests.proofs.Forking.{child_forked}
-use Rattle.trace_stop.proofs.Every.{choose}
 
 module _ (settings : Settings) (rows : Rows) (p : ProcData) (l : LwpData) (a : Acting rows p l) where
   -- The work of calls

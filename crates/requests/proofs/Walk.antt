@@ -1,11 +1,7 @@
 -- A walk over processes by rising numbers.
-use Rattle.std.proofs.Common.{◌≡◌, ℕ, ◌<◌, List, [], ◌∷◌, ◌++◌, map, filter, find, Option, Bool, true, ◌&&◌, ltb, Some, None, refl, sym, ap, ◌∙◌, arith, lt-ltb, append_assoc, append-nil, rules}
-use Rattle.std.specs.List.{AllByRecursion}
-use Rattle.std.proofs.lemmas.Bool.{le-ltb, ltb-true}
-use Rattle.proc_table.specs.declared.ProcData.{ProcData}
-use Rattle.proc_table.specs.Kept.{AllAbove, Rise, AtHome}
-use Rattle.trace_stop.proofs.Every.{and_left}
-use Rattle.trace_stop.proofs.Passes.{found_above}
+use Rattle.requests.proofs.Names.{◌≡◌, ℕ, ◌<◌, List, [], ◌∷◌, ◌++◌, map, filter, find, Option, Bool, true, ◌&&◌, ltb, Some, None, refl, sym, ap, ◌∙◌, arith, lt-ltb, append-nil, rules, AllByRecursion}
+use Rattle.requests.proofs.Names.{le-ltb, ltb-true, ProcData, AllAbove, Rise, AtHome, and_left, found_above}
+use Rattle.std.proofs.Common.{append_assoc}
 
 -- Processes that pass a test
 module _ (t : ProcData → Bool) where

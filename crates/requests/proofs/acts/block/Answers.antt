@@ -1,7 +1,4 @@
-use Rattle.std.proofs.Common.{sym, refl, ap, ◌∙◌}
-use Rattle.signals.specs.Table.{maskable}
-use Rattle.proc_table.specs.Kept.{set_lwp}
-use Rattle.proc_table.proofs.Changes.{change_lwp-at}
+use Rattle.requests.proofs.Names.{sym, refl, ap, ◌∙◌, maskable, set_lwp, change_lwp-at}
 use Rattle.requests.proofs.acts.block.Goals as goal
 
 pub returns : goal.returns

@@ -1,5 +1,4 @@
-use Rattle.std.proofs.Common.{false, sym, refl, subst}
-use Rattle.requests.specs.Actors.{HasLwp}
+use Rattle.requests.proofs.Names.{false, sym, refl, subst, HasLwp}
 use Rattle.requests.proofs.Actors.{acting_has, has-lwp_changed}
 use Rattle.requests.proofs.acts.compute.Goals as goal
 

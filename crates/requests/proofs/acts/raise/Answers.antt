@@ -1,11 +1,4 @@
-use Rattle.std.proofs.Common.{◌≡◌, ℕ, ◌≤◌, Some, refl, sym, ap, ◌∙◌}
-use Rattle.std.proofs.lemmas.Bool.{le-leb}
-use Rattle.lwp_table.specs.declared.LwpData.{LwpData}
-use Rattle.proc_table.specs.declared.ProcData.{ProcData}
-use Rattle.proc_table.specs.Rows.{Rows}
-use Rattle.trace_stop.specs.declared.Settings.{Settings}
-use Rattle.trace_stop.specs.Stop.{post}
-use Rattle.requests.specs.Turn.{raises}
+use Rattle.requests.proofs.Names.{◌≡◌, ℕ, ◌≤◌, Some, refl, sym, ap, ◌∙◌, le-leb, LwpData, ProcData, Rows, Settings, post, raises}
 use Rattle.requests.proofs.Actors.{runs_live}
 use Rattle.requests.proofs.acts.raise.Goals as goal
 

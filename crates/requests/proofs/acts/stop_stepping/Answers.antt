@@ -1,5 +1,4 @@
-use Rattle.std.proofs.Common.{false, sym, refl, ◌∙◌}
-use Rattle.proc_table.proofs.Changes.{change_lwp-at}
+use Rattle.requests.proofs.Names.{false, sym, refl, ◌∙◌, change_lwp-at}
 use Rattle.requests.proofs.acts.stop_stepping.Goals as goal
 
 pub returns : goal.returns

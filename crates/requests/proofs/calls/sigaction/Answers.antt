@@ -1,5 +1,4 @@
-use Rattle.std.proofs.Common.{sym, ap, ◌∙◌, refl}
-use Rattle.proc_table.proofs.Stays.{named-same}
+use Rattle.requests.proofs.Names.{sym, ap, ◌∙◌, refl, named-same}
 use Rattle.requests.proofs.Disposing.{row_there, disposed_rows}
 use Rattle.requests.proofs.calls.sigaction.Goals as goal
 

@@ -1,5 +1,4 @@
-use Rattle.std.proofs.Common.{rules}
-use Rattle.std.proofs.lemmas.Bool.{cases_Bool}
+use Rattle.requests.proofs.Names.{rules, cases_Bool}
 use Rattle.requests.proofs.Disposing.{refused_is}
 use Rattle.requests.proofs.calls.with_disposition.Goals as goal
 

@@ -1,6 +1,4 @@
-use Rattle.std.proofs.Common.{arith, ap, ◌∙◌, rules}
-use Rattle.event_masks.specs.declared.TheConstants.EventMask.{PTRACE_SCE, PTRACE_SCX}
-use Rattle.event_masks.specs.Exits.{mask_with}
+use Rattle.requests.proofs.Names.{arith, ap, ◌∙◌, rules, PTRACE_SCE, PTRACE_SCX, mask_with}
 use Rattle.requests.proofs.Tracees.{continue_as, kill_as, few_own, same_outcome}
 use Rattle.requests.proofs.commands.command.Goals as goal
 

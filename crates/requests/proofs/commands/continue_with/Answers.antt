@@ -1,5 +1,4 @@
-use Rattle.requests.specs.Ptrace.{not_stepping, set_mask}
-use Rattle.trace_stop.specs.Stop.{resume}
+use Rattle.requests.proofs.Names.{not_stepping, set_mask, resume}
 use Rattle.requests.specs.declared.Reply.TheVariants as reply
 use Rattle.requests.proofs.Tracees.{signalled, is_tracee, masked_ready}
 use Rattle.requests.proofs.commands.continue_with.Goals as goal

@@ -1,5 +1,4 @@
-use Rattle.std.proofs.Common.{refl}
-use Rattle.trace_stop.specs.Stop.{detach}
+use Rattle.requests.proofs.Names.{refl, detach}
 use Rattle.requests.specs.declared.Reply.TheVariants as reply
 use Rattle.requests.proofs.Tracees.{is_stopped, signalled}
 use Rattle.requests.proofs.commands.detach_with.Goals as goal

@@ -1,6 +1,4 @@
-use Rattle.std.proofs.Common.{◌≡◌, sym, ◌∙◌, subst, rules}
-use Rattle.std.specs.Prelude.{IsSomeAnd}
-use Rattle.lwp_table.specs.Lwps.{lwp_of}
+use Rattle.requests.proofs.Names.{◌≡◌, sym, ◌∙◌, subst, rules, IsSomeAnd, lwp_of}
 use Rattle.requests.proofs.Asked.{target_within, named_own, reporting_own, asks_tracee}
 use Rattle.requests.proofs.Tracees.{same_outcome}
 use Rattle.requests.proofs.commands.ptrace.Goals as goal

@@ -1,5 +1,4 @@
-use Rattle.std.proofs.Common.{refl}
-use Rattle.trace_stop.specs.Stop.{resume}
+use Rattle.requests.proofs.Names.{refl, resume}
 use Rattle.requests.specs.declared.Reply.TheVariants as reply
 use Rattle.requests.proofs.Tracees.{is_stopped, signalled}
 use Rattle.requests.proofs.commands.resume_with.Goals as goal

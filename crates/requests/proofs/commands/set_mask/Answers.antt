@@ -1,6 +1,4 @@
-use Rattle.std.proofs.Common.{refl, sym, ◌∙◌}
-use Rattle.proc_table.proofs.Changes.{change_process-at}
-use Rattle.proc_table.proofs.Stays.{named-same}
+use Rattle.requests.proofs.Names.{refl, sym, ◌∙◌, change_process-at, named-same}
 use Rattle.requests.proofs.commands.set_mask.Goals as goal
 
 pub set_process-requires-clause-named : goal.set_process-requires-clause-named

@@ -1,6 +1,4 @@
-use Rattle.requests.specs.Ptrace.{stepping}
-use Rattle.std.proofs.Common.{rules}
-use Rattle.trace_stop.specs.Stop.{resume}
+use Rattle.requests.proofs.Names.{stepping, rules, resume}
 use Rattle.requests.specs.declared.Reply.TheVariants as reply
 use Rattle.requests.proofs.Tracees.{signalled, is_tracee, own_lwp, still_there, stepping_ready}
 use Rattle.requests.proofs.commands.step.Goals as goal

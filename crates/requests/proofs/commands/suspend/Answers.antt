@@ -1,4 +1,4 @@
-use Rattle.std.proofs.Common.{refl, sym, ◌∙◌}
+use Rattle.requests.proofs.Names.{refl, sym, ◌∙◌}
 use Rattle.requests.proofs.Tracees.{lwp_may_change, lwp_changed}
 use Rattle.requests.proofs.commands.suspend.Goals as goal
 

@@ -1,5 +1,4 @@
-use Rattle.std.proofs.Common.{ap, ◌∙◌}
-use Rattle.requests.specs.Ptrace.{set_mask, switched}
+use Rattle.requests.proofs.Names.{ap, ◌∙◌, set_mask, switched}
 use Rattle.requests.proofs.Tracees.{set_mask_as}
 use Rattle.requests.proofs.commands.switch.Goals as goal
 

@@ -1,5 +1,4 @@
-use Rattle.std.proofs.Common.{rules}
-use Rattle.proc_table.proofs.Rows.{process_of-pid}
+use Rattle.requests.proofs.Names.{rules, process_of-pid}
 use Rattle.requests.proofs.deciding.ask.Goals as goal
 
 pub ask_about-requires-clause-at : goal.ask_about-requires-clause-at

@@ -1,4 +1,4 @@
-use Rattle.std.proofs.Common.{rules}
+use Rattle.requests.proofs.Names.{rules}
 use Rattle.requests.proofs.Handled.{asked}
 use Rattle.requests.proofs.deciding.handle.Goals as goal
 

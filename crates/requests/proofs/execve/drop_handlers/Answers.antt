@@ -1,11 +1,4 @@
-use Rattle.std.proofs.Common.{◌≡◌, Some, is_some, refl, sym, ap, ◌∙◌}
-use Rattle.signals.specs.Table.{after_exec}
-use Rattle.proc_table.specs.Kept.{set_process}
-use Rattle.proc_table.specs.Processes.{process_of}
-use Rattle.proc_table.proofs.Rows.{process_of-pid}
-use Rattle.proc_table.proofs.Changes.{change_process-at}
-use Rattle.proc_table.proofs.Seen.{has_row}
-use Rattle.proc_table.proofs.Stays.{process_there, named-same}
+use Rattle.requests.proofs.Names.{◌≡◌, Some, is_some, refl, sym, ap, ◌∙◌, after_exec, set_process, process_of, process_of-pid, change_process-at, has_row, process_there, named-same}
 use Rattle.requests.proofs.Actors.{row_itself}
 use Rattle.requests.proofs.execve.drop_handlers.Goals as goal
 

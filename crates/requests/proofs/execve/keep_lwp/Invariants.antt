@@ -1,5 +1,4 @@
-use Rattle.std.proofs.Common.{◌≡◌, length}
-use Rattle.requests.specs.Actors.{HasLwp}
+use Rattle.requests.proofs.Names.{◌≡◌, length, HasLwp}
 use Rattle.requests.specs.Programs.{only_lwp}
 use Rattle.requests.proofs.execve.keep_lwp.Given as goal
 

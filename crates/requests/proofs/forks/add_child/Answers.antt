@@ -1,17 +1,6 @@
-use Rattle.std.proofs.Common.{◌≡◌, ℕ, Bool, false, Some, ◌++◌, ◌∷◌, [], List, refl, sym, subst, rules}
-use Rattle.std.specs.Prelude.{IsSomeAnd}
-use Rattle.lwp_table.specs.declared.LwpData.{LwpData}
+use Rattle.requests.proofs.Names.{◌≡◌, ℕ, Bool, false, Some, ◌++◌, ◌∷◌, [], List, refl, sym, subst, rules, IsSomeAnd, LwpData, born, has_lwp, lwp_of, ProcData, process_of, Rows, is_process}
+use Rattle.requests.proofs.Names.{add_process, add_lwp, IsKept, Named, every_found, found_row, IsActing, HasLwp, forked}
 use Rattle.lwp_table.specs.declared.Due.TheVariants as due
-use Rattle.lwp_table.specs.Lwps.{born, has_lwp, lwp_of}
-use Rattle.proc_table.specs.declared.ProcData.{ProcData}
-use Rattle.proc_table.specs.Processes.{process_of}
-use Rattle.proc_table.specs.Rows.{Rows}
-use Rattle.proc_table.specs.Fresh.{is_process, add_process, add_lwp}
-use Rattle.proc_table.specs.Kept.{IsKept, Named}
-use Rattle.proc_table.proofs.Every.{every_found}
-use Rattle.proc_table.proofs.Rows.{found_row}
-use Rattle.requests.specs.Actors.{IsActing, HasLwp}
-use Rattle.requests.specs.Leave.{forked}
 use Rattle.requests.proofs.Actors.{acting_has, lwp_added, has-lwp_added, has-process_added, has-stop}
 use Rattle.requests.proofs.forks.add_child.Goals as goal
 

@@ -1,14 +1,4 @@
-use Rattle.std.proofs.Common.{◌≡◌, false, ◌&&◌, leb, is_some, refl, rules}
-use Rattle.std.proofs.lemmas.Bool.Decides.{nat_tests}
-use Rattle.event_masks.specs.Exits.{asks}
-use Rattle.event_masks.specs.declared.TheConstants.EventMask.{PTRACE_LWP}
-use Rattle.lwp_table.specs.declared.LwpData.{LwpData}
-use Rattle.proc_table.specs.declared.ProcData.{ProcData}
-use Rattle.proc_table.specs.Rows.{Rows, remove_lwp}
-use Rattle.proc_table.specs.Fresh.{lwp_count}
-use Rattle.proc_table.proofs.Changes.{remove_lwp-is}
-use Rattle.trace_stop.specs.declared.Settings.{Settings}
-use Rattle.requests.specs.Leave.{exits_lwp}
+use Rattle.requests.proofs.Names.{◌≡◌, false, ◌&&◌, leb, is_some, refl, rules, nat_tests, asks, PTRACE_LWP, LwpData, ProcData, Rows, remove_lwp, lwp_count, remove_lwp-is, Settings, exits_lwp}
 use Rattle.requests.proofs.Actors.{acting_has}
 use Rattle.requests.proofs.leaves.exit_lwp.Goals as goal
 

@@ -1,4 +1,4 @@
-use Rattle.std.proofs.Common.{◌≡◌, ◌<◌, rules, arith, ap, ◌∙◌, Some, None, ◌==◌}
+use Rattle.requests.proofs.Names.{◌≡◌, ◌<◌, rules, arith, ap, ◌∙◌, Some, None, ◌==◌}
 use Rattle.proc_table.specs.Walks.{next_of}
 use Rattle.requests.proofs.Walk.{pids, above_first, listed_next, listed_all, next_over}
 use Rattle.requests.proofs.lists.pids_of.Goals as goal

@@ -1,5 +1,4 @@
-use Rattle.std.proofs.Common.{◌≡◌, ◌++◌, ◌-◌, ◌<◌, ◌==◌}
-use Rattle.proc_table.specs.Processes.{of_user}
+use Rattle.requests.proofs.Names.{◌≡◌, ◌++◌, ◌-◌, ◌<◌, ◌==◌, of_user}
 use Rattle.requests.proofs.Walk.{above, pids}
 use Rattle.requests.proofs.lists.pids_of.Given as goal
 

@@ -1,8 +1,4 @@
-use Rattle.std.proofs.Common.{◌≡◌, true, false, refl, sym, ap, ◌∙◌, rules}
-use Rattle.signals.specs.Sets.{has, without, bit}
-use Rattle.proc_table.specs.Kept.{set_process, set_lwp}
-use Rattle.proc_table.proofs.Changes.{change_process-at, change_lwp-at}
-use Rattle.proc_table.proofs.Stays.{process_there, named-same, lwp_there}
+use Rattle.requests.proofs.Names.{◌≡◌, true, false, refl, sym, ap, ◌∙◌, rules, has, without, bit, set_process, set_lwp, change_process-at, change_lwp-at, process_there, named-same, lwp_there}
 use Rattle.requests.proofs.lwp_turns.drop_signal.Goals as goal
 
 pub set_lwp-requires : goal.set_lwp-requires

@@ -1,11 +1,5 @@
-use Rattle.std.proofs.Common.{◌≡◌, [], ◌∷◌, false, Some, is_some, refl, sym, ap, ◌∙◌}
+use Rattle.requests.proofs.Names.{◌≡◌, [], ◌∷◌, false, Some, is_some, refl, sym, ap, ◌∙◌, process_of, process_of-pid, change_process-at, has_row, process_there, named-same, notified}
 use Rattle.proc_table.specs.declared.State.TheVariants as state
-use Rattle.proc_table.specs.Processes.{process_of}
-use Rattle.proc_table.proofs.Rows.{process_of-pid}
-use Rattle.proc_table.proofs.Changes.{change_process-at}
-use Rattle.proc_table.proofs.Seen.{has_row}
-use Rattle.proc_table.proofs.Stays.{process_there, named-same}
-use Rattle.trace_stop.specs.Post.{notified}
 use Rattle.requests.proofs.Actors.{row_itself}
 use Rattle.requests.proofs.lwp_turns.job_stop.Goals as goal
 

@@ -1,12 +1,5 @@
-use Rattle.std.proofs.Common.{◌≡◌, refl, sym, ◌∙◌, subst, rules}
-use Rattle.lwp_table.specs.declared.LwpData.{LwpData}
+use Rattle.requests.proofs.Names.{◌≡◌, refl, sym, ◌∙◌, subst, rules, LwpData, ProcData, Rows, change_lwp, IsKept, set_lwp, change_lwp-at, lwp_there, IsActing, HasLwp}
 use Rattle.lwp_table.specs.declared.Due.TheVariants as due
-use Rattle.proc_table.specs.declared.ProcData.{ProcData}
-use Rattle.proc_table.specs.Rows.{Rows, change_lwp}
-use Rattle.proc_table.specs.Kept.{IsKept, set_lwp}
-use Rattle.proc_table.proofs.Changes.{change_lwp-at}
-use Rattle.proc_table.proofs.Stays.{lwp_there}
-use Rattle.requests.specs.Actors.{IsActing, HasLwp}
 use Rattle.requests.proofs.Actors.{acting_has, has-lwp_changed}
 use Rattle.requests.proofs.lwp_turns.take_due.Goals as goal
 

@@ -1,7 +1,4 @@
-use Rattle.std.proofs.Common.{◌≡◌, true, sym, subst}
-use Rattle.trace_stop.specs.Facts.{IsSound}
-use Rattle.trace_stop.specs.Sound.{is_live_at}
-use Rattle.requests.specs.Actors.{HasLwp}
+use Rattle.requests.proofs.Names.{◌≡◌, true, sym, subst, IsSound, is_live_at, HasLwp}
 use Rattle.requests.proofs.Signals.{taken_alike}
 use Rattle.requests.proofs.Actors.{acting_from, taken_there, taken_live}
 use Rattle.requests.proofs.lwp_turns.take_signal.Goals as goal

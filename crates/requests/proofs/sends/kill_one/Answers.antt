@@ -1,5 +1,4 @@
-use Rattle.std.proofs.Common.{◌≡◌, None, sym, ap, ◌∙◌, rules}
-use Rattle.requests.specs.Reach.{reached}
+use Rattle.requests.proofs.Names.{◌≡◌, None, sym, ap, ◌∙◌, rules, reached}
 use Rattle.requests.proofs.Sending.{unseen_reached, seen_reached}
 use Rattle.requests.proofs.sends.kill_one.Goals as goal
 

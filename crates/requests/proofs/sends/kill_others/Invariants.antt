@@ -1,6 +1,4 @@
-use Rattle.std.proofs.Common.{◌≡◌, negsuc}
-use Rattle.trace_stop.specs.Facts.{IsSound}
-use Rattle.requests.specs.Reach.{reach, reached}
+use Rattle.requests.proofs.Names.{◌≡◌, negsuc, IsSound, reach, reached}
 use Rattle.requests.specs.declared.Reply.TheVariants as reply
 use Rattle.requests.proofs.Sending.{post_rest, left}
 use Rattle.requests.proofs.sends.kill_others.Given as goal

@@ -1,5 +1,4 @@
-use Rattle.std.proofs.Common.{eq-eqb, eqb-true, rules}
-use Rattle.trace_stop.proofs.Edited.{some_is}
+use Rattle.requests.proofs.Names.{eq-eqb, eqb-true, rules, some_is}
 use Rattle.requests.proofs.Others.{other_same, other_next}
 use Rattle.requests.proofs.sends.next_other.Goals as goal
 

@@ -1,5 +1,4 @@
-use Rattle.std.proofs.Common.{None, sym, ap, ◌∙◌}
-use Rattle.trace_stop.specs.Stop.{post}
+use Rattle.requests.proofs.Names.{None, sym, ap, ◌∙◌, post}
 use Rattle.requests.proofs.Sending.{passes_signal, live_posts, dead_posts}
 use Rattle.requests.proofs.sends.post_if_live.Goals as goal
 

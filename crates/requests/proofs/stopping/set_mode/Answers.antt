@@ -1,9 +1,4 @@
-use Rattle.std.proofs.Common.{◌≡◌, Some, sym, refl, ◌∙◌, subst}
-use Rattle.lwp_table.specs.Lwps.{lwp_of}
-use Rattle.proc_table.proofs.Rows.{lwp_of-tid}
-use Rattle.proc_table.proofs.Changes.{change_lwp-at}
-use Rattle.requests.specs.Actors.{HasLwp}
-use Rattle.requests.specs.Leave.{in_mode}
+use Rattle.requests.proofs.Names.{◌≡◌, Some, sym, refl, ◌∙◌, subst, lwp_of, lwp_of-tid, change_lwp-at, HasLwp, in_mode}
 use Rattle.requests.proofs.Tracees.{lwp_may_change}
 use Rattle.requests.proofs.Actors.{has-lwp_changed}
 use Rattle.requests.proofs.stopping.set_mode.Goals as goal

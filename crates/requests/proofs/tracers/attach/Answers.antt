@@ -1,5 +1,4 @@
-use Rattle.std.proofs.Common.{rules}
-use Rattle.proc_table.proofs.Rows.{found_row}
+use Rattle.requests.proofs.Names.{rules, found_row}
 use Rattle.requests.proofs.Tracees.{row_changed}
 use Rattle.requests.proofs.tracers.attach.Goals as goal
 

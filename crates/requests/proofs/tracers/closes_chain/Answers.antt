@@ -1,6 +1,5 @@
-use Rattle.std.proofs.Common.{◌≡◌, ◌-◌, ◌+◌, ◌<◌, false, arith, sym, ap, ◌∙◌, rules}
+use Rattle.requests.proofs.Names.{◌≡◌, ◌-◌, ◌+◌, ◌<◌, false, arith, sym, ap, ◌∙◌, rules, meets}
 use Rattle.std.specs.Prelude.{◌==◌}
-use Rattle.trace_stop.specs.End.{meets}
 use Rattle.requests.proofs.Links.{meets-none, meets-here, meets-next, meets-over}
 use Rattle.requests.proofs.tracers.closes_chain.Goals as goal
 

@@ -1,9 +1,4 @@
-use Rattle.std.proofs.Common.{◌≡◌, Some, None, arith, sym, ◌∙◌, nat_eq, rules}
-use Rattle.std.proofs.lemmas.Bool.Decides.{nat_tests}
-use Rattle.proc_table.specs.Processes.{process_of}
-use Rattle.proc_table.specs.Kept.{Named}
-use Rattle.proc_table.proofs.Every.{every_found}
-use Rattle.proc_table.proofs.Rows.{process_of-pid, found_row, row_found}
+use Rattle.requests.proofs.Names.{◌≡◌, Some, None, arith, sym, ◌∙◌, nat_eq, rules, nat_tests, process_of, Named, every_found, process_of-pid, found_row, row_found}
 use Rattle.requests.proofs.tracers.parent_of.Goals as goal
 
 pub returns-in-Some : goal.returns-in-Some

@@ -1,8 +1,4 @@
-use Rattle.std.proofs.Common.{sym, ap, ◌∙◌, refl, rules}
-use Rattle.proc_table.specs.Kept.{set_process}
-use Rattle.proc_table.proofs.Every.{every_found}
-use Rattle.proc_table.proofs.Changes.{change_process-at}
-use Rattle.requests.specs.Ptrace.{traced_by}
+use Rattle.requests.proofs.Names.{sym, ap, ◌∙◌, refl, rules, set_process, every_found, change_process-at, traced_by}
 use Rattle.requests.proofs.tracers.trace.Goals as goal
 
 pub set_process-requires-clause-named : goal.set_process-requires-clause-named

@@ -1,6 +1,5 @@
-use Rattle.std.proofs.Common.{rules, filter, ap, ◌∙◌}
+use Rattle.requests.proofs.Names.{rules, filter, ap, ◌∙◌, is_live_number}
 use Rattle.std.proofs.lemmas.Fn.{filter_same}
-use Rattle.requests.specs.Machine.{is_live_number}
 use Rattle.requests.proofs.handlers.HandlerList.drop_ended.Goals as goal
 
 pub returns : goal.returns

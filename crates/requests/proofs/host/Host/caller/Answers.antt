@@ -1,5 +1,4 @@
-use Rattle.std.proofs.Common.{arith}
-use Rattle.std.proofs.lemmas.Bool.Decides.{nat_tests}
+use Rattle.requests.proofs.Names.{arith, nat_tests}
 use Rattle.requests.proofs.host.Host.caller.Goals as goal
 
 pub returns-in_default : goal.returns-in_default

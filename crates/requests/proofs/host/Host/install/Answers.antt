@@ -1,13 +1,7 @@
-use Rattle.std.proofs.Common.{◌≡◌, ◌<◌, ◌≤◌, length, true, refl, sym, subst, ap, ◌∙◌, not}
-use Rattle.std.proofs.lemmas.Bool.{le-leb}
+use Rattle.requests.proofs.Names.{◌≡◌, ◌<◌, ◌≤◌, length, true, refl, sym, subst, ap, ◌∙◌, not, le-leb, machine_of, Steps, Machine, installed_by, is_refusal, sound, step}
 use Rattle.pid_blocks.specs.declared.Errno.TheVariants as errno
 use Rattle.requests.specs.declared.step.Step.TheVariants as op
 use Rattle.requests.specs.declared.Reply.TheVariants as reply
-use Rattle.requests.specs.Hosts.{machine_of, Steps}
-use Rattle.requests.specs.Machine.{Machine, installed_by}
-use Rattle.requests.specs.Memory.{is_refusal}
-use Rattle.requests.specs.Sound.{sound}
-use Rattle.requests.specs.Step.{step}
 use Rattle.requests.proofs.Called.{called}
 use Rattle.requests.proofs.Finished.{host_barred, host_calls, from_machine, refuses_at, wants_at}
 use Rattle.requests.proofs.Installing.{installed_with, few_leb}

@@ -1,13 +1,6 @@
-use Rattle.std.proofs.Common.{◌≡◌, true, refl, sym, subst, ap, ◌∙◌, not, map}
+use Rattle.requests.proofs.Names.{◌≡◌, true, refl, sym, subst, ap, ◌∙◌, not, map, of_user, list, Steps, Machine, after, is_refusal, sound, step}
 use Rattle.requests.specs.declared.step.Step.TheVariants as op
 use Rattle.requests.specs.declared.Reply.TheVariants as reply
-use Rattle.proc_table.specs.Processes.{of_user}
-use Rattle.requests.specs.Calls.{list}
-use Rattle.requests.specs.Hosts.{Steps}
-use Rattle.requests.specs.Machine.{Machine, after}
-use Rattle.requests.specs.Memory.{is_refusal}
-use Rattle.requests.specs.Sound.{sound}
-use Rattle.requests.specs.Step.{step}
 use Rattle.requests.proofs.Called.{called}
 use Rattle.requests.proofs.Finished.{host_barred, refuses_at, wants_at}
 use Rattle.requests.proofs.Replies.{other}

@@ -1,5 +1,4 @@
-use Rattle.std.proofs.Common.{w64, SFits, arith}
-use Rattle.std.proofs.lemmas.Int.{to_z-of_z}
+use Rattle.requests.proofs.Names.{w64, SFits, arith, to_z-of_z}
 use Rattle.requests.proofs.host.Host.make.Goals as goal
 
 pub returns-in-Kill : goal.returns-in-Kill

@@ -1,6 +1,5 @@
-use Rattle.std.proofs.Common.{refl}
+use Rattle.requests.proofs.Names.{refl, machine_of, Steps}
 use Rattle.requests.specs.declared.step.Step.TheVariants as op
-use Rattle.requests.specs.Hosts.{machine_of, Steps}
 use Rattle.requests.proofs.Finished.{host_barred, host_caller, host_rows}
 use Rattle.requests.proofs.host.Host.sigaction.Given.{Over}
 use Rattle.requests.proofs.host.Host.sigaction.Goals as goal

@@ -1,7 +1,5 @@
-use Rattle.std.proofs.Common.{refl}
+use Rattle.requests.proofs.Names.{refl, machine_of, Steps, spawn}
 use Rattle.requests.specs.declared.step.Step.TheVariants as op
-use Rattle.requests.specs.Hosts.{machine_of, Steps}
-use Rattle.requests.specs.Calls.{spawn}
 use Rattle.requests.proofs.Finished.{finished_with}
 use Rattle.requests.proofs.host.Host.spawn.Given.{Over}
 use Rattle.requests.proofs.host.Host.spawn.Goals as goal

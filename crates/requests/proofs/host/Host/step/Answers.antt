@@ -1,6 +1,5 @@
-use Rattle.std.proofs.Common.{subst}
+use Rattle.requests.proofs.Names.{subst, Steps}
 use Rattle.requests.specs.declared.step.Step.TheVariants.{Install}
-use Rattle.requests.specs.Hosts.{Steps}
 use Rattle.requests.proofs.host.Host.step.Goals as goal
 
 pub returns : goal.returns

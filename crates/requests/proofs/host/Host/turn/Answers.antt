@@ -1,7 +1,5 @@
-use Rattle.std.proofs.Common.{refl}
+use Rattle.requests.proofs.Names.{refl, machine_of, Steps, turn}
 use Rattle.requests.specs.declared.step.Step.TheVariants as op
-use Rattle.requests.specs.Hosts.{machine_of, Steps}
-use Rattle.requests.specs.Turn.{turn}
 use Rattle.requests.proofs.After.{rows_sound}
 use Rattle.requests.proofs.Finished.{finished_with}
 use Rattle.requests.proofs.host.Host.turn.Given.{Over}

@@ -1,8 +1,5 @@
-use Rattle.std.proofs.Common.{refl, ap, ◌∙◌, w64}
-use Rattle.std.proofs.lemmas.Int.{to_z-of_z}
+use Rattle.requests.proofs.Names.{refl, ap, ◌∙◌, w64, to_z-of_z, machine_of, Steps, wait}
 use Rattle.requests.specs.declared.step.Step.TheVariants as op
-use Rattle.requests.specs.Hosts.{machine_of, Steps}
-use Rattle.requests.specs.Calls.{wait}
 use Rattle.requests.proofs.After.{rows_sound}
 use Rattle.requests.proofs.Finished.{host_barred, host_rows}
 use Rattle.requests.proofs.host.Host.wait.Given.{Over}

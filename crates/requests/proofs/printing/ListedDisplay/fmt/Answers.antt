@@ -1,6 +1,4 @@
-use Rattle.std.proofs.Common.{◌≡◌, ◌++◌, ap, ◌∙◌, sym, subst, List, ℕ, take}
-use Rattle.std.proofs.lemmas.List.{take_all}
-use Rattle.std.specs.Fmt.{HasWritten}
+use Rattle.requests.proofs.Names.{◌≡◌, ◌++◌, ap, ◌∙◌, sym, subst, List, ℕ, take, take_all, HasWritten}
 use Rattle.requests.proofs.Joins.{spaced, spaced_words}
 use Rattle.requests.proofs.printing.ListedDisplay.fmt.Goals as goal
 

@@ -1,5 +1,4 @@
-use Rattle.std.proofs.Common.{◌++◌, take}
-use Rattle.std.specs.Fmt.{HasWritten, IsPlainFormatter}
+use Rattle.requests.proofs.Names.{◌++◌, take, HasWritten, IsPlainFormatter}
 use Rattle.requests.proofs.Joins.{spaced}
 use Rattle.requests.proofs.printing.ListedDisplay.fmt.Given as goal
 

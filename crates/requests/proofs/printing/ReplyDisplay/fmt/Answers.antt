@@ -1,6 +1,4 @@
-use Rattle.std.proofs.Common.{rules, ap, sym, ◌∙◌, subst, List, ℕ}
-use Rattle.std.specs.Fmt.{HasWritten}
-use Rattle.std.specs.List.{join_with_byte}
+use Rattle.requests.proofs.Names.{rules, ap, sym, ◌∙◌, subst, List, ℕ, HasWritten, join_with_byte}
 use Rattle.requests.specs.Words.{reply_words, decision_words}
 use Rattle.requests.proofs.Joins.{handled_front, handled_words}
 use Rattle.requests.proofs.printing.ReplyDisplay.fmt.Goals as goal
