@@ -1,7 +1,7 @@
 -- The empty host is sound, and spawning keeps a host sound.
-use Rattle.requests.proofs.Names.{nat_tests, ◌≡◌, ℕ, zero, suc, ◌+◌, ◌<◌, map, Bool, true, false, Option, Some, None, IfSome, refl, sym, ap, ◌∙◌, arith, subst, get_or, IsUser, slot, pid_block}
-use Rattle.requests.proofs.Names.{tid_block, users, rising, ProcData, born, spawned, is_live, is_run, of_user, seen_process, ESRCH, Reply, Rows, Settings, FitProcess, FitLwp, IsSound, both}
-use Rattle.requests.proofs.Names.{sound_rows-from, answers, Numbers, room_for_process, spawn, spawn_with, Machine, empty, after, no_rows, sound, step, checked}
+use Rattle.requests.proofs.Names.{nat_tests, ◌≡◌, ℕ, map, Bool, true, false, Option, Some, None, IfSome, refl, sym, arith, subst, IsUser, pid_block, tid_block, rising, ProcData, born, spawned}
+use Rattle.requests.proofs.Names.{is_live, is_run, of_user, seen_process, ESRCH, Reply, Rows, Settings, FitProcess, FitLwp, IsSound, both, sound_rows-from, answers, Numbers, room_for_process, spawn}
+use Rattle.requests.proofs.Names.{spawn_with, Machine, empty, after, no_rows, sound, step, checked}
 use Rattle.pid_blocks.specs.Blocks.{InBlock}
 use Rattle.lwp_table.specs.declared.Due.TheVariants as due
 use Rattle.requests.specs.declared.Reply.TheVariants as reply
@@ -9,14 +9,7 @@ use Rattle.trace_stop.proofs.Born.{born_sound}
 use Rattle.requests.specs.declared.step.Step.TheVariants as op
 use Rattle.requests.proofs.Room.{ProcessRoom, process_room}
 use Rattle.requests.proofs.After.{rows_sound, after_sound, answers_same}
-
-get_or-rising : {X : Type 0} (f : ℕ → X) (d : X) (count n k : ℕ) → k < count → get_or (map f (rising count n)) k d ≡ f (n + k)
-get_or-rising f d zero n k lt = absurd (omega arith)
-get_or-rising f d (suc count) n zero lt = ap f (omega arith)
-get_or-rising f d (suc count) n (suc k) lt = get_or-rising f d count (n + 1) k (omega arith) ∙ ap f (omega arith)
-
-at_slot : {X : Type 0} (f : ℕ → X) (u : ℕ) (d : X) → IsUser u → get_or (map f users) (slot u) d ≡ f u
-at_slot f u d user = let from = user.0 in let to = user.1 in get_or-rising f d 64 1001 (slot u) (omega arith) ∙ ap f (omega arith)
+use Rattle.requests.proofs.ViewLaws.{at_slot}
 
 no_rows_sound : IsSound no_rows
 no_rows_sound = record {
@@ -68,7 +61,7 @@ spawned_sound u rows user s (Some new) room = born_sound rows (spawned new.pid u
 })
 
 pub spawn_rows : (u : ℕ) (rows : Rows) → IsUser u → IsSound rows → IsSound (spawn u rows).rows
-spawn_rows u rows user s = spawned_sound u rows user s (room_for_process u rows) (process_room u rows user s.stands)
+spawn_rows u rows user s = spawned_sound u rows user s (room_for_process u rows) (process_room u rows (s.stands.pid_cursors u user) (s.stands.tid_cursors u user))
 
 -- a spawn keeps a host sound
 pub spawn_sound : (m : Machine) (u : ℕ) → IsUser u → sound m ≡ true → sound (step u op.Spawn m).machine ≡ true

@@ -8,7 +8,7 @@ use Rattle.trace_stop.proofs.Settling.{redisposed as redisposed_fits}
 use Rattle.trace_stop.proofs.Ending.{released_same, released_flags, released_fits, released_waits}
 use Rattle.requests.proofs.Acting.{Acting, owner_is, its_live}
 use Rattle.requests.proofs.Masks.{changed_process, changed_lwp}
-use Rattle.requests.proofs.Signals.{Alike}
+use Rattle.requests.proofs.Signals.{Alike, alike_of}
 use Rattle.requests.proofs.Lwps.{its_number, quiet_lwp, quiet_row}
 
 -- what is found is counted
@@ -89,20 +89,12 @@ module _ (rows : Rows) (p : ProcData) (l : LwpData) (a : Acting rows p l) where
   made_process = changed_own p redisposed rows.processes (λ q. refl) a.home
 
   pub exec_alike : Alike (exec_rows p l rows) p l
-  exec_alike = record {
-    process = settled_process (redisposed p);
-    lwp = settled_lwp (redisposed p) (record l { mode = User });
-    acting = record {
-      sound = exec_sound;
-      home = subst (λ b. process_of p.pid (settle p.pid made).processes ≡ Some (if b then settled_process (redisposed p) else redisposed p)) (eq-eqb p.pid p.pid refl)
-          (changed_process p.pid (is_numbered p.pid) settled_process settled_lwp made (redisposed p) (λ q. refl) made_process);
-      there = subst (λ b. lwp_of l.tid (settle p.pid made).lwps ≡ Some (if b then settled_lwp (redisposed p) (record l { mode = User }) else record l { mode = User })) (eq-eqb p.pid p.pid refl)
-          (changed_lwp l.tid (is_numbered p.pid) settled_process settled_lwp made (record l { mode = User }) (redisposed p) (λ q k. refl) found_lwp (ap (λ n. process_of n made.processes) a.own ∙ made_process));
-      own = a.own;
-      run = a.run;
-    };
-    pid = refl;
-    tid = refl;
-    tracer = refl;
-    parent = refl;
-  }
+  exec_alike = alike_of (settled_process (redisposed p)) (settled_lwp (redisposed p) (record l { mode = User })) (record {
+    sound = exec_sound;
+    home = subst (λ b. process_of p.pid (settle p.pid made).processes ≡ Some (if b then settled_process (redisposed p) else redisposed p)) (eq-eqb p.pid p.pid refl)
+        (changed_process p.pid (is_numbered p.pid) settled_process settled_lwp made (redisposed p) (λ q. refl) made_process);
+    there = subst (λ b. lwp_of l.tid (settle p.pid made).lwps ≡ Some (if b then settled_lwp (redisposed p) (record l { mode = User }) else record l { mode = User })) (eq-eqb p.pid p.pid refl)
+        (changed_lwp l.tid (is_numbered p.pid) settled_process settled_lwp made (record l { mode = User }) (redisposed p) (λ q k. refl) found_lwp (ap (λ n. process_of n made.processes) a.own ∙ made_process));
+    own = a.own;
+    run = a.run;
+  }) refl refl refl refl

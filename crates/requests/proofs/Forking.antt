@@ -1,9 +1,8 @@
 -- A fork keeps rows sound.
-use Rattle.requests.proofs.Names.{◌≡◌, ◌≢◌, ℕ, Bool, true, false, ◌==◌, ◌&&◌, if◌then◌else◌, List, [], ◌∷◌, ◌++◌, find, Option, Some, None, IfSome, is_some, refl, sym, ap, ◌∙◌, true≢false, subst, eqb}
-use Rattle.requests.proofs.Names.{eqb-true, eq-eqb, rules, list_any, PTRACE_FORK, Call, asks, SIGCHLD, LwpData, born, lwp_of, ProcData, Trace, is_live, is_run, process_of, Rows, change_process}
-use Rattle.requests.proofs.Names.{change_lwp, add_process, add_lwp, unwanted, continues, posted_process, posted_lwp, notified, tracer_of, tracers, stop, Shown, MayStop, IsLiveOf, IsLiveChild}
-use Rattle.requests.proofs.Names.{FitProcess, IsSound, and_left, both, by_bool, choose, find_edit, posted_same, posted_live, zero_apart, find_passes, sound_ready, stopped_sound, Numbers, forked}
-use Rattle.requests.proofs.Names.{child_stop, with_child}
+use Rattle.requests.proofs.Names.{◌≡◌, ◌≢◌, ℕ, Bool, true, false, ◌==◌, ◌&&◌, if◌then◌else◌, List, [], ◌∷◌, ◌++◌, find, Some, None, IfSome, is_some, refl, sym, ap, ◌∙◌, true≢false, subst, eqb}
+use Rattle.requests.proofs.Names.{eqb-true, eq-eqb, rules, list_any, PTRACE_FORK, Call, asks, SIGCHLD, LwpData, born, lwp_of, ProcData, Trace, is_live, process_of, Rows, change_process, change_lwp}
+use Rattle.requests.proofs.Names.{add_process, add_lwp, unwanted, posted_process, posted_lwp, notified, tracer_of, tracers, stop, Shown, MayStop, IsLiveOf, IsLiveChild, FitProcess, IsSound, and_left}
+use Rattle.requests.proofs.Names.{both, by_bool, choose, find_edit, zero_apart, find_passes, sound_ready, stopped_sound, Numbers, forked, child_stop, with_child, changed_own}
 use Rattle.std.specs.Option.{IsSomeAnd}
 use Rattle.lwp_table.specs.declared.Due.TheVariants as due
 use Rattle.trace_stop.proofs.Children.{child_test, child_passes}
@@ -11,64 +10,30 @@ use Rattle.trace_stop.proofs.Placed.{process_of-other, process_of-placed}
 use Rattle.trace_stop.proofs.Born.{born_sound}
 use Rattle.requests.proofs.Acting.{Acting, its_live, its_link, lwp_fit}
 use Rattle.requests.proofs.Masks.{changed_process, changed_lwp}
-use Rattle.requests.proofs.Signals.{Alike}
+use Rattle.requests.proofs.Signals.{Alike, alike_of}
 use Rattle.requests.proofs.Lwps.{find_more, its_user}
 use Rattle.requests.proofs.Room.{ProcessRoom}
 
--- What stays of a row where SIGCHLD is posted, to it or to others
-
-pub record Heard (rows : Rows) (n : ℕ) (p : ProcData) : Type 0 where
-  pub row : ProcData
-  pub at : process_of n rows.processes ≡ Some row
-  pub pid : row.pid ≡ p.pid
-  pub uid : row.uid ≡ p.uid
-  pub tracer : row.tracer ≡ p.tracer
-  pub parent : row.parent ≡ p.parent
-  pub state : row.state ≡ p.state
-  pub live : is_live p ≡ true → is_live row ≡ true
-  pub run : is_run p ≡ true → is_run row ≡ true
-
-posted_run : (s : ℕ) (to : Option ℕ) (p : ProcData) → is_run p ≡ true → is_run (posted_process s to p) ≡ true
-posted_run s to p run = choose (continues s p) _ _ (λ (q : ProcData). is_run q ≡ true) (λ e. refl) (λ e. run)
-
-pub heard : (rows : Rows) (pids : List ℕ) (n : ℕ) (p : ProcData) → process_of n rows.processes ≡ Some p → Heard (notified pids rows) n p
-heard rows pids n p at = record {
-  row = row;
-  at = changed_process n is_told (posted_process SIGCHLD None) (posted_lwp SIGCHLD None) rows p (λ q. posted_same (λ x. x.pid) SIGCHLD None q (λ m. refl) (λ m. refl)) at;
-  pid = either (λ q. q.pid ≡ p.pid) (posted_same (λ x. x.pid) SIGCHLD None p (λ m. refl) (λ m. refl)) refl;
-  uid = either (λ q. q.uid ≡ p.uid) (posted_same (λ x. x.uid) SIGCHLD None p (λ m. refl) (λ m. refl)) refl;
-  tracer = either (λ q. q.tracer ≡ p.tracer) (posted_same (λ x. x.tracer) SIGCHLD None p (λ m. refl) (λ m. refl)) refl;
-  parent = either (λ q. q.parent ≡ p.parent) (posted_same (λ x. x.parent) SIGCHLD None p (λ m. refl) (λ m. refl)) refl;
-  state = either (λ q. q.state ≡ p.state) refl refl;
-  live = λ is. either (λ q. is_live q ≡ true) (posted_live SIGCHLD None p is) is;
-  run = λ is. either (λ q. is_run q ≡ true) (posted_run SIGCHLD None p is) is;
-}
+-- A row where SIGCHLD is posted, to it or to others, has other pending signals at most
+pub heard : (rows : Rows) (pids : List ℕ) (n : ℕ) (p : ProcData) → process_of n rows.processes ≡ Some p → (m : ℕ) × (process_of n (notified pids rows).processes ≡ Some (record p { pending = m }))
+heard rows pids n p at = by_told (is_told p) (changed_process n is_told (posted_process SIGCHLD None) (posted_lwp SIGCHLD None) rows p (λ q. refl) at)
   where
     is_told : ProcData → Bool
     is_told q = list_any (λ m. m == q.pid) pids
 
-    row : ProcData
-    row = if is_told p then posted_process SIGCHLD None p else p
+    by_told : (b : Bool) → process_of n (notified pids rows).processes ≡ Some (if b then posted_process SIGCHLD None p else p) → (m : ℕ) × (process_of n (notified pids rows).processes ≡ Some (record p { pending = m }))
+    by_told true is = (_, is)
+    by_told false is = (p.pending, is)
 
-    either : (R : ProcData → Type 0) → R (posted_process SIGCHLD None p) → R p → R row
-    either R told untold = choose (is_told p) (posted_process SIGCHLD None p) p R (λ e. told) (λ e. untold)
-
-pub record HeardLwp (rows : Rows) (n : ℕ) (l : LwpData) : Type 0 where
-  pub row : LwpData
-  pub there : lwp_of n rows.lwps ≡ Some row
-  pub tid : row.tid ≡ l.tid
-  pub pid : row.pid ≡ l.pid
-
-pub heard_lwp : (rows : Rows) (pids : List ℕ) (n : ℕ) (l : LwpData) (p : ProcData) → lwp_of n rows.lwps ≡ Some l → process_of l.pid rows.processes ≡ Some p → HeardLwp (notified pids rows) n l
-heard_lwp rows pids n l p there home = record {
-  row = if is_told p then posted_lwp SIGCHLD None p l else l;
-  there = changed_lwp n is_told (posted_process SIGCHLD None) (posted_lwp SIGCHLD None) rows l p (λ q k. refl) there home;
-  tid = choose (is_told p) (posted_lwp SIGCHLD None p l) l (λ k. k.tid ≡ l.tid) (λ e. refl) (λ e. refl);
-  pid = choose (is_told p) (posted_lwp SIGCHLD None p l) l (λ k. k.pid ≡ l.pid) (λ e. refl) (λ e. refl);
-}
+heard_lwp : (rows : Rows) (pids : List ℕ) (n : ℕ) (l : LwpData) (p : ProcData) → lwp_of n rows.lwps ≡ Some l → process_of l.pid rows.processes ≡ Some p → (m : ℕ) × (lwp_of n (notified pids rows).lwps ≡ Some (record l { pending = m }))
+heard_lwp rows pids n l p there home = by_told (is_told p) (changed_lwp n is_told (posted_process SIGCHLD None) (posted_lwp SIGCHLD None) rows l p (λ q k. refl) there home)
   where
     is_told : ProcData → Bool
     is_told q = list_any (λ m. m == q.pid) pids
+
+    by_told : (b : Bool) → lwp_of n (notified pids rows).lwps ≡ Some (if b then posted_lwp SIGCHLD None p l else l) → (m : ℕ) × (lwp_of n (notified pids rows).lwps ≡ Some (record l { pending = m }))
+    by_told true is = (_, is)
+    by_told false is = (l.pending, is)
 
 -- Rows beside the one that stops
 
@@ -166,15 +131,7 @@ module _ (call : Call) (rows : Rows) (p : ProcData) (l : LwpData) (a : Acting ro
   -- not followed
   made_forked : (followed : Bool) → (followed ≡ true → is_some p.tracer ≡ true) → Forked (made followed)
   made_forked followed traced = record {
-    alike = record {
-      process = p;
-      lwp = l;
-      acting = record { sound = made_sound followed traced; home = found_parent followed; there = found_forker followed; own = a.own; run = a.run };
-      pid = refl;
-      tid = refl;
-      tracer = refl;
-      parent = refl;
-    };
+    alike = alike_of p l (record { sound = made_sound followed traced; home = found_parent followed; there = found_forker followed; own = a.own; run = a.run }) refl refl refl refl;
     uid = refl;
     child = is_child (made followed) p (child followed) (found_child followed) refl refl refl refl;
   }
@@ -206,36 +163,20 @@ module _ (call : Call) (rows : Rows) (p : ProcData) (l : LwpData) (a : Acting ro
     its_stop_sound : IsSound after
     its_stop_sound = stopped_sound (made true) new.pid new.tid shown (child true) its_lwp (found_child true) (found_first true) child_may_stop
 
-    parent_heard : Heard after p.pid p
-    parent_heard = heard stopping told p.pid p (other_process p.pid new.pid stops_it (change_lwp new.tid shows_it (made true)) p (λ q. refl) (found_parent true) not_pid)
-
-    forker_heard : HeardLwp after l.tid l
-    forker_heard = heard_lwp stopping told l.tid l p (other_lwp l.tid new.tid shows_it (made true) l (λ k. refl) (found_forker true) not_tid)
-        (ap (λ n. process_of n stopping.processes) a.own ∙ other_process p.pid new.pid stops_it (change_lwp new.tid shows_it (made true)) p (λ q. refl) (found_parent true) not_pid)
-
-    child_heard : Heard after new.pid (stops_it (child true))
-    child_heard = heard stopping told new.pid (stops_it (child true)) (find_edit (λ q. q.pid == new.pid) (λ q. Some (if q.pid == new.pid then stops_it q else q)) (λ q. choose (q.pid == new.pid) (stops_it q) q (λ r. (r.pid == new.pid) ≡ (q.pid == new.pid)) (λ e. refl) (λ e. refl)) (made true).processes (child true) (stops_it (child true)) (found_child true) (rw (eq-eqb new.pid new.pid refl) refl))
+    parent_stays : process_of p.pid stopping.processes ≡ Some p
+    parent_stays = other_process p.pid new.pid stops_it (change_lwp new.tid shows_it (made true)) p (λ q. refl) (found_parent true) not_pid
 
     stopped_forked : Forked after
-    stopped_forked = record {
-      alike = record {
-        process = parent_heard.row;
-        lwp = forker_heard.row;
-        acting = record {
-          sound = its_stop_sound;
-          home = subst (λ n. process_of n after.processes ≡ Some parent_heard.row) (sym parent_heard.pid) parent_heard.at;
-          there = subst (λ n. lwp_of n after.lwps ≡ Some forker_heard.row) (sym forker_heard.tid) forker_heard.there;
-          own = forker_heard.pid ∙ (a.own ∙ sym parent_heard.pid);
-          run = parent_heard.run a.run;
-        };
-        pid = parent_heard.pid;
-        tid = forker_heard.tid;
-        tracer = parent_heard.tracer;
-        parent = parent_heard.parent;
-      };
-      uid = parent_heard.uid;
-      child = is_child after parent_heard.row child_heard.row child_heard.at child_heard.pid (child_heard.uid ∙ sym parent_heard.uid) (child_heard.live refl) (child_heard.parent ∙ sym parent_heard.pid);
-    }
+    stopped_forked =
+        let parent = heard stopping told p.pid p parent_stays in
+        let forker = heard_lwp stopping told l.tid l p (other_lwp l.tid new.tid shows_it (made true) l (λ k. refl) (found_forker true) not_tid) (ap (λ n. process_of n stopping.processes) a.own ∙ parent_stays) in
+        let its = heard stopping told new.pid (stops_it (child true)) (changed_own (child true) stops_it (made true).processes (λ q. refl) (found_child true)) in
+        let q : ProcData = record p { pending = parent.0 } in
+        record {
+          alike = alike_of q (record l { pending = forker.0 }) (record { sound = its_stop_sound; home = parent.1; there = forker.1; own = a.own; run = a.run }) refl refl refl refl;
+          uid = refl;
+          child = is_child after q (record (stops_it (child true)) { pending = its.0 }) its.1 refl refl refl refl;
+        }
 
   pub child_forked : Forked (with_child call p l new rows)
   child_forked = by_following (is_some p.tracer && asks p.mask PTRACE_FORK) (λ e. and_left (is_some p.tracer) (asks p.mask PTRACE_FORK) e)

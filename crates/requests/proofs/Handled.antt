@@ -1,8 +1,8 @@
 -- What is decided about a trace stop, and what a handle asks.
-use Rattle.requests.proofs.Names.{option_map, ◌≡◌, ℕ, ◌≤◌, ◌%◌, [], ◌∷◌, negsuc, Bool, true, false, ◌==◌, ◌&&◌, if◌then◌else◌, List, Option, Some, None, IfSome, refl, sym, ap, ◌∙◌, subst, eq-eqb}
-use Rattle.requests.proofs.Names.{true≢false, rules, le-leb, LwpData, lwp_of, ProcData, State, Run, Trace, Job, Zombie, Rise, process_of, Rows, each, Settings, detach, IsSound, All-filter, find_some}
-use Rattle.requests.proofs.Names.{find_edit, own_rows, Rule, Decision, StatusKind, Collected, is_child, fits, candidates, collect, answer, reportable, reported, rows_after, told, status_of}
-use Rattle.requests.proofs.Names.{status_of_state, Outcome, answers, with_signal, view_of, done, no_options, handles_stop, handles_status, handles, handled_by, continues_with, choose, by_kept}
+use Rattle.requests.proofs.Names.{option_map, ◌≡◌, ℕ, ◌≤◌, ◌%◌, [], ◌∷◌, negsuc, Bool, true, false, ◌==◌, if◌then◌else◌, List, Option, Some, None, IfSome, refl, sym, ap, ◌∙◌, subst, eq-eqb}
+use Rattle.requests.proofs.Names.{true≢false, rules, le-leb, LwpData, lwp_of, ProcData, State, Run, Trace, Job, Zombie, Rise, process_of, Rows, each, Settings, detach, IsSound, find_edit, Rule}
+use Rattle.requests.proofs.Names.{Decision, StatusKind, Collected, candidates, collect, answer, reported, rows_after, told, status_of, status_of_state, Outcome, answers, with_signal, view_of, done}
+use Rattle.requests.proofs.Names.{no_options, handles_stop, handles_status, handles, handled_by, continues_with, choose, by_kept}
 use Rattle.stop_handlers.specs.declared.StopView.{StopView}
 use Rattle.stop_handlers.specs.declared.Decision.TheVariants as decision
 use Rattle.wait4.specs.declared.Collected.TheVariants as collected
@@ -11,8 +11,9 @@ use Rattle.wait4.specs.Status.{ended}
 use Rattle.wait4.specs.Collect as wait
 use Rattle.requests.specs.declared.Reply.TheVariants as reply
 use Rattle.requests.specs.Asking.{is_stop, viewed_in, asks_view, asks_row, asks}
-use Rattle.requests.proofs.Forking.{Heard, heard}
+use Rattle.requests.proofs.Forking.{heard}
 use Rattle.requests.proofs.Tracees.{continue_as}
+use Rattle.requests.proofs.Steps.{reported_row}
 
 within : (n : ℕ) (o : Outcome) (rows : Rows) → n ≤ 31 → with_signal n o rows ≡ o
 within n o rows small = rw (le-leb n 31 small) refl
@@ -66,10 +67,6 @@ module _ (settings : Settings) (caller : ℕ) (policies : List (List Rule)) (row
   after = rows_after caller (negsuc 0) no_options rows
 
   module _ (p : ProcData) (found : reported caller (negsuc 0) no_options rows ≡ Some p) where
-    at : process_of p.pid rows.processes ≡ Some p
-    at = (find_some (reportable no_options caller) (λ r. process_of r.pid rows.processes ≡ Some r) (candidates caller (negsuc 0) rows)
-        (All-filter (λ r. is_child caller r && fits (negsuc 0) r) (λ r. process_of r.pid rows.processes ≡ Some r) rows.processes (own_rows rows.processes s.stands.rising)) p found).0
-
     abbrev to : ProcData → Option ProcData
     to q = if q.pid == p.pid then wait.collected caller q else Some q
 
@@ -77,17 +74,15 @@ module _ (settings : Settings) (caller : ℕ) (policies : List (List Rule)) (row
     same_pid q = by_kept caller p q (λ o. IfSome o (λ r. (r.pid == p.pid) ≡ (q.pid == p.pid))) (λ no. tt) (λ r k. ap (λ n. n == p.pid) k.pid)
 
     -- the row of what was collected, where it is left
-    left : (z : ProcData) → wait.collected caller p ≡ Some z → Heard after p.pid z
-    left z is = subst (λ r. Heard r p.pid z) (ap (λ o. wait.without_report caller o rows) (sym found))
-        (heard (each to (λ q l. Some l) rows) (told caller p) p.pid z (find_edit (λ q. q.pid == p.pid) to same_pid rows.processes p z at (rw (eq-eqb p.pid p.pid refl) is)))
+    pub row_left : (z : ProcData) → wait.collected caller p ≡ Some z → (m : ℕ) × (process_of p.pid after.processes ≡ Some (record z { pending = m }))
+    row_left z is = subst (λ (r : Rows). (m : ℕ) × (process_of p.pid r.processes ≡ Some (record z { pending = m }))) (ap (λ o. wait.without_report caller o rows) (sym found))
+        (heard (each to (λ q l. Some l) rows) (told caller p) p.pid z (find_edit (λ q. q.pid == p.pid) to same_pid rows.processes p z (reported_row rows caller (negsuc 0) no_options p s.stands.rising found) (rw (eq-eqb p.pid p.pid refl) is)))
 
     row_asked : (status : StatusKind) (z : ProcData) → wait.collected caller p ≡ Some z → z.pid ≡ p.pid → asks_row settings policies p.pid status after (process_of p.pid after.processes) ≡ asks_view settings policies status p after (viewed_in after p z.state)
     row_asked status z is own =
-        let h = left z is in
-        let same : h.row.pid ≡ p.pid = h.pid ∙ own in
-        ap (asks_row settings policies p.pid status after) h.at
-        ∙ asks_pid settings policies status p h.row after (viewed_in after h.row h.row.state) same
-        ∙ ap (asks_view settings policies status p after) (viewed_pid after p h.row h.row.state same ∙ ap (viewed_in after p) h.state)
+        let h = row_left z is in
+        let row : ProcData = record z { pending = h.0 } in
+        ap (asks_row settings policies p.pid status after) h.1 ∙ asks_pid settings policies status p row after (viewed_in after row z.state) own ∙ ap (asks_view settings policies status p after) (viewed_pid after p row z.state own)
 
     by_lwp : (status : StatusKind) (tid sig : ℕ) (o : Option LwpData) → handles_stop settings policies p tid sig status after o ≡ asks_view settings policies status p after (option_map (view_of p tid sig) o)
     by_lwp status tid sig None = refl

@@ -1,12 +1,11 @@
 -- Kills and installed policies keep a host sound.
-use Rattle.requests.proofs.Names.{◌≡◌, ◌≢◌, ℕ, ℤ, Bool, true, false, ◌==◌, ◌&&◌, ◌||◌, not, leb, List, [], ◌∷◌, ◌++◌, length, length-append, zip, Option, Some, None, refl, sym, ◌∙◌, arith, true≢false}
+use Rattle.requests.proofs.Names.{◌≡◌, ℕ, ℤ, Bool, true, false, ◌==◌, ◌&&◌, ◌||◌, not, leb, List, [], ◌∷◌, ◌++◌, length, length-append, zip, Option, Some, None, refl, sym, ◌∙◌, arith, true≢false}
 use Rattle.requests.proofs.Names.{subst, eqb-true, eq-eqb, get_or, set, get_or-set_other, length-set, list_all, le-leb, leb-false, IsUser, slot, users, EINVAL, EAGAIN, ProcData, is_live, process_of}
-use Rattle.requests.proofs.Names.{Rows, Settings, post, is_live_of, sound_rows, IsLiveOf, IsSound, and_left, and_right, both, choose, found_number, user_at, zip_users, post_sound, find_passes, Rule}
-use Rattle.requests.proofs.Names.{refuses, is_which, reach, post_if_live, post_all, reached, kill, install, Installed, Machine, installed_by, after, sound_installed, sound, step}
-use Rattle.std.proofs.Common.{get_or-set_same}
+use Rattle.requests.proofs.Names.{Rows, Settings, post, is_live_of, sound_rows, IsLiveOf, IsSound, and_left, both, choose, found_number, zip_users, post_sound, find_passes, Rule, refuses, is_which}
+use Rattle.requests.proofs.Names.{reach, post_if_live, post_all, reached, kill, install, Installed, Machine, installed_by, after, sound_installed, sound, step, list_all-from_All, put_at, slots_differ}
 use Rattle.std.proofs.lemmas.List.Folds.{list_all-append}
 use Rattle.requests.specs.declared.step.Step.TheVariants as op
-use Rattle.requests.proofs.After.{pairs_test, rows_sound, after_sound}
+use Rattle.requests.proofs.After.{pairs_test, rows_sound, after_sound, slots_of, pairs_of, live_pairs}
 use Rattle.requests.proofs.Steps.{Caller, checked_sound}
 
 posted_if_live : (settings : Settings) (sig n : ℕ) (rows : Rows) → IsSound rows → (o : Option ProcData) → process_of n rows.processes ≡ o → IsSound (post_if_live settings sig o rows)
@@ -38,38 +37,28 @@ module _ (m : Machine) (u : ℕ) (p : ProcData) (policy : List Rule) (user : IsU
   abbrev more : List (List Installed)
   more = set m.installed (slot u) (installed_by u m ++ (pair ∷ []))
 
-  had : sound_installed m ≡ true
-  had = and_right (sound_rows m.rows) (sound_installed m) is
-
-  slots : length m.installed ≡ 64
-  slots = eqb-true (length m.installed) 64 (and_left (length m.installed == 64) (list_all (pairs_test m.rows) (zip users m.installed)) had)
-
-  each : (w : ℕ) → IsUser w → pairs_test m.rows (w, installed_by w m) ≡ true
-  each w its = user_at (pairs_test m.rows) m.installed [] slots (and_right (length m.installed == 64) (list_all (pairs_test m.rows) (zip users m.installed)) had) w its
-
   room : leb 64 (length (installed_by u m)) ≡ false → (w : ℕ) → IsUser w → pairs_test m.rows (w, get_or more (slot w) []) ≡ true
   room few w its = by_user (w == u) refl
     where
       by_user : (b : Bool) → (w == u) ≡ b → pairs_test m.rows (w, get_or more (slot w) []) ≡ true
       by_user true e =
           let same = eqb-true w u e in
-          let here : get_or more (slot u) [] ≡ installed_by u m ++ (pair ∷ []) = get_or-set_same m.installed (slot u) (installed_by u m ++ (pair ∷ [])) [] (omega (arith, user.0, user.1, slots)) in
+          let here : get_or more (slot u) [] ≡ installed_by u m ++ (pair ∷ []) = put_at u m.installed (installed_by u m ++ (pair ∷ [])) [] user (slots_of m is) in
           let less = leb-false 64 (length (installed_by u m)) few in
           let count = length-append (installed_by u m) (pair ∷ []) in
           let one : length {A = Installed} (pair ∷ []) ≡ 1 = refl in
           let all = list_all-append (λ i. is_live_of m.rows u i.debugger) (installed_by u m) (pair ∷ []) in
           subst (λ v. pairs_test m.rows (v, get_or more (slot v) []) ≡ true) (sym same) (rw here (both (leb (length (installed_by u m ++ (pair ∷ []))) 64) (list_all (λ i. is_live_of m.rows u i.debugger) (installed_by u m ++ (pair ∷ [])))
           (le-leb (length (installed_by u m ++ (pair ∷ []))) 64 (omega (arith, less, count, one)))
-          (all ∙ both (list_all (λ i. is_live_of m.rows u i.debugger) (installed_by u m)) (list_all (λ i. is_live_of m.rows u i.debugger) (pair ∷ [])) (and_right (leb (length (installed_by u m)) 64) (list_all (λ i. is_live_of m.rows u i.debugger) (installed_by u m)) (each u user)) (both (is_live_of m.rows u p.pid) true (live_caller m.rows u p c) refl))))
+          (all ∙ both (list_all (λ i. is_live_of m.rows u i.debugger) (installed_by u m)) (list_all (λ i. is_live_of m.rows u i.debugger) (pair ∷ [])) (list_all-from_All (λ i. is_live_of m.rows u i.debugger) (installed_by u m) (live_pairs m is u user)) (both (is_live_of m.rows u p.pid) true (live_caller m.rows u p c) refl))))
       by_user false e =
-          let ne : w ≢ u = λ same. true≢false (sym (eq-eqb w u same) ∙ e) in
-          let other : slot w ≢ slot u = omega (arith, ne, user.0, user.1, its.0, its.1) in
-          rw (get_or-set_other m.installed (slot u) (slot w) (installed_by u m ++ (pair ∷ [])) [] other) (each w its)
+          let other = slots_differ u w user its (λ same. true≢false (sym (eq-eqb w u same) ∙ e)) in
+          rw (get_or-set_other m.installed (slot u) (slot w) (installed_by u m ++ (pair ∷ [])) [] other) (pairs_of m is w its)
 
   pub installed_sound : sound (install u p policy m).machine ≡ true
   installed_sound = choose (leb 64 (length (installed_by u m))) (after m (refuses EAGAIN m.rows)) _ (λ a. sound a.machine ≡ true) (λ e. after_sound m (refuses EAGAIN m.rows) is (rows_sound m is))
       (λ few. both (sound_rows m.rows) (sound_installed (record m { installed = more })) (and_left (sound_rows m.rows) (sound_installed m) is)
-      (both (length more == 64) (list_all (pairs_test m.rows) (zip users more)) (eq-eqb (length more) 64 (length-set m.installed (slot u) (installed_by u m ++ (pair ∷ [])) ∙ slots)) (zip_users (pairs_test m.rows) more [] (room few))))
+      (both (length more == 64) (list_all (pairs_test m.rows) (zip users more)) (eq-eqb (length more) 64 (length-set m.installed (slot u) (installed_by u m ++ (pair ∷ [])) ∙ slots_of m is)) (zip_users (pairs_test m.rows) more [] (room few))))
 
 pub install_sound : (m : Machine) (u n : ℕ) (policy : List Rule) → IsUser u → sound m ≡ true → sound (step u (op.Install n policy) m).machine ≡ true
 install_sound m u n policy user is = checked_sound u (op.Install n policy) m n is (λ p c. installed_sound m u p policy user is c)

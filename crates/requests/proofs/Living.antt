@@ -1,6 +1,6 @@
 -- Whether the row with a number is live.
-use Rattle.requests.proofs.Names.{nat_tests, ◌≡◌, ℕ, List, [], ◌∷◌, Bool, true, false, refl, sym, ap, ◌∙◌, ◌==◌, ◌&&◌, Some, None, inl, inr, true≢false, eq-eqb, eqb-true, arith, list_any, cases_Bool}
-use Rattle.requests.proofs.Names.{ProcData, is_live, is_run, process_of, Rise, process_of-pid, and_left, and_right, both, by_bool, any_holds, the_row, find_passes}
+use Rattle.requests.proofs.Names.{◌≡◌, ℕ, List, [], ◌∷◌, Bool, true, false, refl, sym, ap, ◌∙◌, ◌==◌, ◌&&◌, Some, None, inl, inr, true≢false, eq-eqb, eqb-true, list_any, cases_Bool, ProcData, is_live}
+use Rattle.requests.proofs.Names.{process_of, Rise, process_of-pid, and_left, and_right, both, by_bool, any_holds, the_row, find_passes}
 
 pub live_found : (n : ℕ) (ps : List ProcData) (p : ProcData) → Rise ps → process_of n ps ≡ Some p → list_any (λ q. (q.pid == n) && is_live q) ps ≡ is_live p
 live_found n ps p rise at = by_live (is_live p) refl
@@ -17,6 +17,3 @@ live_none n (q ∷ ps) none = elim (cases_Bool (q.pid == n)) [
   | inl e ↦ absurd (let bad : Some q ≡ None = rw e at none in cc)
   | inr e ↦ rw e (live_none n ps (rw e at none))
 ]
-
-pub run_live : (p : ProcData) → is_run p ≡ true → is_live p ≡ true
-run_live p run = grind (arith, nat_tests)

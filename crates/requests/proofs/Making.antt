@@ -1,5 +1,5 @@
 -- A step that was made with no handler, as a step.
-use Rattle.requests.proofs.Names.{◌≡◌, ℕ, List, Option, Some, None, Rule, Reply, Steps, Machine, PlainStep, with_handler}
+use Rattle.requests.proofs.Names.{ℕ, List, Some, None, Rule, Reply, Steps, Machine, PlainStep, with_handler}
 use Rattle.requests.specs.declared.step.Step.TheVariants as op
 use Rattle.requests.specs.Making.{Makes}
 

@@ -1,7 +1,7 @@
 -- The changes that make an exec.
-use Rattle.requests.proofs.Names.{nat_tests, ◌≡◌, ◌≢◌, ℕ, ◌<◌, ◌≤◌, Bool, true, false, List, [], ◌∷◌, length, filter, find, map, filter_map, nat_eq, refl, sym, ap, ◌∙◌, arith, inl, inr, Option, Some}
-use Rattle.requests.proofs.Names.{None, true≢false, subst, eqb-true, rules, AllByRecursion, cases_Bool, after_exec, LwpData, Mode, User, InCall, VforkWait, LacksLwp, Differ, lwp_of, first_lwp}
-use Rattle.requests.proofs.Names.{next_lwp, without_lwp, ProcData, process_of, Rows, by_owner, each, change_process, Housed, drop_lwp, same_number, other_number, process_of-pid, changed_lwp, map-id}
+use Rattle.requests.proofs.Names.{nat_tests, ◌≡◌, ◌≢◌, ℕ, ◌<◌, Bool, true, false, List, [], ◌∷◌, length, filter, find, map, filter_map, nat_eq, refl, sym, ap, ◌∙◌, arith, inl, inr, Option, Some, None}
+use Rattle.requests.proofs.Names.{true≢false, subst, eqb-true, rules, AllByRecursion, cases_Bool, after_exec, LwpData, Mode, User, InCall, VforkWait, LacksLwp, Differ, lwp_of, first_lwp, next_lwp}
+use Rattle.requests.proofs.Names.{without_lwp, ProcData, process_of, Rows, by_owner, each, change_process, Housed, drop_lwp, same_number, other_number, process_of-pid, changed_lwp, map-id}
 use Rattle.requests.proofs.Names.{filter_map-map, every_untested, found_tested, waits_where, released, IsLiveChild, waited_for, Standing, WithOwner, IsSound, All-imply, All-both, any_holds, find_some}
 use Rattle.requests.proofs.Names.{the_row, the_lwp, own_lwps, IsActing, HasLwp, settle, in_mode, exec_rows}
 use Rattle.std.specs.Prelude.{not, ◌==◌, if◌then◌else◌}
@@ -10,6 +10,7 @@ use Rattle.trace_stop.proofs.Children.{child_test, child_from}
 use Rattle.process_end.proofs.LwpEdits.{filter_within, filter_all, released-tid, released-pid}
 use Rattle.requests.proofs.Actors.{has-process_changed, has-lwps_mapped}
 use Rattle.requests.specs.Programs.{is_other, only_lwp, parent_freed}
+use Rattle.std.proofs.lemmas.List.Sums.{length-filter, count_by-le-length}
 
 -- An LWP of the process with another number
 
@@ -60,17 +61,10 @@ module _ (pid tid : ℕ) where
 
 -- One LWP less
 
-filter_less : {X : Type 0} (p : X → Bool) (xs : List X) → length (filter p xs) ≤ length xs
-filter_less p [] = omega arith
-filter_less p (x ∷ xs) = let rest = filter_less p xs in elim (cases_Bool (p x)) [
-  | inl e ↦ rw e (omega (arith, rest))
-  | inr e ↦ rw e (omega (arith, rest))
-]
-
 pub less_without : (n : ℕ) (l : LwpData) (ls : List LwpData) → lwp_of n ls ≡ Some l → length (without_lwp n ls) < length ls
 less_without n l [] at = absurd (cc)
 less_without n l (k ∷ ls) at = elim (cases_Bool (nat_eq k.tid n)) [
-  | inl e ↦ let less = filter_less (λ k. not (nat_eq k.tid n)) ls in rw e (omega (arith, less))
+  | inl e ↦ let few = count_by-le-length (λ k. not (nat_eq k.tid n)) ls in let same = length-filter (λ k. not (nat_eq k.tid n)) ls in rw e (omega (arith, few, same))
   | inr e ↦ let less = less_without n l ls (rw e at at) in rw e (omega (arith, less))
 ]
 

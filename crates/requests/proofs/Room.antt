@@ -1,7 +1,6 @@
 -- The numbers that a user's limits leave room for.
-use Rattle.requests.proofs.Names.{nat_tests, ◌≡◌, ℕ, zero, suc, ◌+◌, ◌-◌, ◌<◌, ◌≤◌, Bool, true, false, leb, if◌then◌else◌, Option, Some, None, IfSome, refl, arith, leb-false, IsUser, slot, pid_block}
-use Rattle.requests.proofs.Names.{tid_block, first_free, next_free, Rows, is_process, is_lwp, fresh_pid, fresh_tid, process_count, lwp_count_of, Stands, Numbers, with_tid, room_for_lwp}
-use Rattle.requests.proofs.Names.{room_for_process}
+use Rattle.requests.proofs.Names.{nat_tests, ◌≡◌, ℕ, zero, suc, ◌+◌, ◌-◌, ◌<◌, ◌≤◌, Bool, true, false, leb, if◌then◌else◌, Option, Some, None, IfSome, refl, arith, leb-false, slot, pid_block}
+use Rattle.requests.proofs.Names.{tid_block, first_free, next_free, Rows, is_process, is_lwp, fresh_pid, fresh_tid, process_count, lwp_count_of, Numbers, with_tid, room_for_lwp, room_for_process}
 use Rattle.std.specs.Prelude.{get_or}
 use Rattle.pid_blocks.specs.declared.Block.{Block}
 use Rattle.pid_blocks.specs.Blocks.{InBlock}
@@ -39,16 +38,16 @@ pub record ProcessRoom (u : ℕ) (rows : Rows) (new : Numbers) : Type 0 where
   pub few : process_count u rows < 250
   pub lwp : LwpRoom u rows new.tid
 
-pub lwp_room : (u : ℕ) (rows : Rows) → IsUser u → Stands rows → IfSome (room_for_lwp u rows) (LwpRoom u rows)
-lwp_room u rows user s = by_room (leb 1000 (lwp_count_of u rows)) refl (fresh_tid u rows) (next_free_is (tid_block u) (get_or rows.tid_cursors (slot u) 0) (is_lwp rows) (s.tid_cursors u user))
+pub lwp_room : (u : ℕ) (rows : Rows) → InBlock (tid_block u) (get_or rows.tid_cursors (slot u) 0) → IfSome (room_for_lwp u rows) (LwpRoom u rows)
+lwp_room u rows cursor = by_room (leb 1000 (lwp_count_of u rows)) refl (fresh_tid u rows) (next_free_is (tid_block u) (get_or rows.tid_cursors (slot u) 0) (is_lwp rows) cursor)
   where
     by_room : (b : Bool) → leb 1000 (lwp_count_of u rows) ≡ b → (o : Option ℕ) → IfSome o (Free (is_lwp rows) (tid_block u).first ((tid_block u).first + (tid_block u).size)) → IfSome (if b then None else o) (LwpRoom u rows)
     by_room true e o h = tt
     by_room false e None h = tt
     by_room false e (Some n) h = record { tid = (h.from, h.to); new = h.free; few = leb-false 1000 (lwp_count_of u rows) e }
 
-pub process_room : (u : ℕ) (rows : Rows) → IsUser u → Stands rows → IfSome (room_for_process u rows) (ProcessRoom u rows)
-process_room u rows user s = by_room (leb 250 (process_count u rows)) refl (fresh_pid u rows) (next_free_is (pid_block u) (get_or rows.pid_cursors (slot u) 0) (is_process rows) (s.pid_cursors u user)) (room_for_lwp u rows) (lwp_room u rows user s)
+pub process_room : (u : ℕ) (rows : Rows) → InBlock (pid_block u) (get_or rows.pid_cursors (slot u) 0) → InBlock (tid_block u) (get_or rows.tid_cursors (slot u) 0) → IfSome (room_for_process u rows) (ProcessRoom u rows)
+process_room u rows cursor name = by_room (leb 250 (process_count u rows)) refl (fresh_pid u rows) (next_free_is (pid_block u) (get_or rows.pid_cursors (slot u) 0) (is_process rows) cursor) (room_for_lwp u rows) (lwp_room u rows name)
   where
     by_room : (b : Bool) → leb 250 (process_count u rows) ≡ b → (o : Option ℕ) → IfSome o (Free (is_process rows) (pid_block u).first ((pid_block u).first + (pid_block u).size)) → (t : Option ℕ) → IfSome t (LwpRoom u rows) → IfSome (if b then None else with_tid o t) (ProcessRoom u rows)
     by_room true e o h t g = tt

@@ -22,6 +22,9 @@ pub record Alike (rows : Rows) (p : ProcData) (l : LwpData) : Type 0 where
   pub tracer : process.tracer ≡ p.tracer
   pub parent : process.parent ≡ p.parent
 
+abbrev pub alike_of : {rows : Rows} {p : ProcData} {l : LwpData} (q : ProcData) (k : LwpData) → Acting rows q k → q.pid ≡ p.pid → k.tid ≡ l.tid → q.tracer ≡ p.tracer → q.parent ≡ p.parent → Alike rows p l
+alike_of q k a number name tracer parent = record { process = q; lwp = k; acting = a; pid = number; tid = name; tracer = tracer; parent = parent }
+
 -- fewer pending signals
 
 fewer_pending : (p : ProcData) (s : ℕ) → FitProcess p → is_live p ≡ true → FitProcess (record p { pending = without p.pending (bit s) })
@@ -39,30 +42,14 @@ module _ (rows : Rows) (p : ProcData) (l : LwpData) (a : Acting rows p l) where
 
   pub taken_alike : (s : ℕ) → Alike (without_signal s p l rows) p l
   taken_alike s = choose (has l.pending s) (change_lwp l.tid (taken_lwp s) rows) (change_process p.pid (taken s) rows) (λ r. Alike r p l)
-      (λ e. record {
-        process = p;
-        lwp = taken_lwp s l;
-        acting = acting_lwp rows p l a (taken_lwp s) (record { same = λ k. (refl, refl, refl); waits = (lwp_stands rows p l a).waits; fit = fewer_pending_lwp p l s });
-        pid = refl;
-        tid = refl;
-        tracer = refl;
-        parent = refl;
-      })
-      (λ e. record {
-        process = taken s p;
-        lwp = l;
-        acting = acting_process rows p l a (taken s) (record {
-          same = λ q. (refl, refl, refl, refl);
-          live = refl;
-          named = inl refl;
-          fits = fewer_pending p s (its_fit rows p l a) (its_live rows p l a);
-          fit_lwp = λ k fit. record { untraced = λ none. let was = fit.untraced none in record { due = was.due; stepping = was.stepping; suspended = was.suspended; pending = was.pending }; silent = fit.silent; blocked = fit.blocked; mode = fit.mode };
-        }) a.run;
-        pid = refl;
-        tid = refl;
-        tracer = refl;
-        parent = refl;
-      })
+      (λ e. alike_of p (taken_lwp s l) (acting_lwp rows p l a (taken_lwp s) (record { same = λ k. (refl, refl, refl); waits = (lwp_stands rows p l a).waits; fit = fewer_pending_lwp p l s })) refl refl refl refl)
+      (λ e. alike_of (taken s p) l (acting_process rows p l a (taken s) (record {
+        same = λ q. (refl, refl, refl, refl);
+        live = refl;
+        named = inl refl;
+        fits = fewer_pending p s (its_fit rows p l a) (its_live rows p l a);
+        fit_lwp = λ k fit. record { untraced = λ none. let was = fit.untraced none in record { due = was.due; stepping = was.stepping; suspended = was.suspended; pending = was.pending }; silent = fit.silent; blocked = fit.blocked; mode = fit.mode };
+      }) a.run) refl refl refl refl)
 
   -- a stop for job control
 

@@ -2,7 +2,7 @@
 use Rattle.requests.proofs.Names.{◌≡◌, ℕ, ℤ, Bool, true, false, ◌==◌, ◌&&◌, ◌||◌, not, if◌then◌else◌, Option, Some, None, refl, sym, subst, eqb-true, ESRCH, EINVAL, is_signal, set_disposition}
 use Rattle.requests.proofs.Names.{Disposition, ProcData, is_live, is_run, process_of, Rows, seen_process, IsSound, and_right, All-filter, find_some, disposed_sound, own_rows, Options, reportable}
 use Rattle.requests.proofs.Names.{candidates, is_child, fits, reported, rows_after, without_report, Reply, PlainStep, answers, refuses, sigaction, is_default, wait, is_which, Machine, after, sound}
-use Rattle.requests.proofs.Names.{step, checked, calls, collect_sound}
+use Rattle.requests.proofs.Names.{step, checked, calls, collect_sound, Rise}
 use Rattle.requests.specs.declared.Reply.TheVariants as reply
 use Rattle.requests.specs.declared.step.Step.TheVariants as op
 use Rattle.requests.proofs.After.{rows_sound, after_sound, answers_same}
@@ -43,13 +43,17 @@ sigaction_sound m u n sig d is = checked_sound u (op.Sigaction n sig d) m n is (
     (choose (not (is_signal sig) || (((sig == 9) || (sig == 17)) && not (is_default d))) (refuses EINVAL m.rows) _ (λ o. IsSound o.rows) (rows_sound m is)
     (disposed_sound m.rows p.pid p (λ q. set_disposition q.dispositions sig d) (rows_sound m is) c.at c.live)))
 
+-- a child that reports is found by its number
+pub reported_row : (rows : Rows) (caller : ℕ) (which : ℤ) (options : Options) (p : ProcData) → Rise rows.processes → reported caller which options rows ≡ Some p → process_of p.pid rows.processes ≡ Some p
+reported_row rows caller which options p rise found = (find_some (reportable options caller) (λ r. process_of r.pid rows.processes ≡ Some r) (candidates caller which rows)
+    (All-filter (λ r. is_child caller r && fits which r) (λ r. process_of r.pid rows.processes ≡ Some r) rows.processes (own_rows rows.processes rise)) p found).0
+
 pub rows_after_sound : (rows : Rows) (caller : ℕ) (which : ℤ) (options : Options) → IsSound rows → IsSound (rows_after caller which options rows)
 rows_after_sound rows caller which options s = by_report (reported caller which options rows) refl
   where
     by_report : (o : Option ProcData) → reported caller which options rows ≡ o → IsSound (without_report caller o rows)
     by_report None e = s
-    by_report (Some q) e = collect_sound caller q rows s (find_some (reportable options caller) (λ r. process_of r.pid rows.processes ≡ Some r) (candidates caller which rows)
-        (All-filter (λ r. is_child caller r && fits which r) (λ r. process_of r.pid rows.processes ≡ Some r) rows.processes (own_rows rows.processes s.stands.rising)) q e).0
+    by_report (Some q) e = collect_sound caller q rows s (reported_row rows caller which options q s.stands.rising e)
 
 pub wait_sound : (m : Machine) (u n : ℕ) (which : ℤ) (options : Options) → sound m ≡ true → sound (step u (op.Wait4 n which options) m).machine ≡ true
 wait_sound m u n which options is = checked_sound u (op.Wait4 n which options) m n is (λ p c. after_sound m (wait p which options m.rows) is

@@ -37,11 +37,14 @@ module _ (settings : Settings) (rows : Rows) (p : ProcData) (l : LwpData) (a : A
       stops_or_sound (in_mode User l.tid made) p p l (record l { mode = User }) (exit_stop p call.ThrNew 0) (reply.New p.pid tid)
       (in_mode_acting made p l (joined_acting rows p l a tid room) User tt refl) refl refl (thr_new_may p (its_fit rows p l a))
 
+  its_room : IfSome (room_for_process p.uid rows) (ProcessRoom p.uid rows)
+  its_room = let user = its_user rows p l a in process_room p.uid rows (a.sound.stands.pid_cursors p.uid user) (a.sound.stands.tid_cursors p.uid user)
+
   pub leaves_sound : (c : Call) → status_fits c ≡ true → IsSound (leaves settings c p l rows).rows
-  leaves_sound call.Fork fits = forks_sound call.Fork (λ n. User) (fork_may p (its_fit rows p l a)) (λ after q n is. tt) (λ n. refl) (room_for_process p.uid rows) (process_room p.uid rows (its_user rows p l a) a.sound.stands)
-  leaves_sound call.Vfork fits = forks_sound call.Vfork (λ n. VforkWait n) (vfork_may p (its_fit rows p l a)) (λ after q n is. is) (λ n. refl) (room_for_process p.uid rows) (process_room p.uid rows (its_user rows p l a) a.sound.stands)
+  leaves_sound call.Fork fits = forks_sound call.Fork (λ n. User) (fork_may p (its_fit rows p l a)) (λ after q n is. tt) (λ n. refl) (room_for_process p.uid rows) its_room
+  leaves_sound call.Vfork fits = forks_sound call.Vfork (λ n. VforkWait n) (vfork_may p (its_fit rows p l a)) (λ after q n is. is) (λ n. refl) (room_for_process p.uid rows) its_room
   leaves_sound call.Exec fits = let k = exec_alike rows p l a in stops_or_sound (exec_rows p l rows) p k.process l k.lwp (exit_stop p call.Exec 0) reply.Done k.acting k.pid k.tid (same_may p k.process k.tracer (exit_stop p call.Exec 0) (exec_may p (its_fit rows p l a)))
-  leaves_sound call.ThrNew fits = makes_sound (room_for_lwp p.uid rows) (lwp_room p.uid rows (its_user rows p l a) a.sound.stands)
+  leaves_sound call.ThrNew fits = makes_sound (room_for_lwp p.uid rows) (lwp_room p.uid rows (a.sound.stands.tid_cursors p.uid (its_user rows p l a)))
   leaves_sound call.ThrExit fits = exits_lwp_sound rows p l a settings
   leaves_sound (call.Exit status) fits = end_sound rows p l a settings (status * 256) (exit_word status fits)
   leaves_sound (call.Other code) fits = stops_or_sound (in_mode User l.tid rows) p p l (record l { mode = User }) (exit_stop p (call.Other code) 0) reply.Done (in_mode_acting rows p l a User tt refl) refl refl (other_may p (its_fit rows p l a) code)
