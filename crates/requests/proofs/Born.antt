@@ -1,14 +1,12 @@
 -- The empty host is sound, and spawning keeps a host sound.
-use Rattle.requests.proofs.Names.{nat_tests, ◌≡◌, ℕ, map, Bool, true, false, Option, Some, None, IfSome, refl, sym, arith, subst, IsUser, pid_block, tid_block, rising, ProcData, born, spawned}
-use Rattle.requests.proofs.Names.{is_live, is_run, of_user, seen_process, ESRCH, Reply, Rows, Settings, FitProcess, FitLwp, IsSound, both, sound_rows-from, answers, Numbers, room_for_process, spawn}
-use Rattle.requests.proofs.Names.{spawn_with, Machine, empty, after, no_rows, sound, step, checked}
+use Rattle.requests.proofs.Names.{nat_tests, ◌≡◌, ℕ, true, Option, Some, None, IfSome, refl, sym, arith, subst, IsUser, pid_block, tid_block, rising, born, spawned, Rows, Settings, FitProcess, FitLwp}
+use Rattle.requests.proofs.Names.{IsSound, both, sound_rows-from, Numbers, room_for_process, spawn, spawn_with, Machine, empty, no_rows, sound, step}
 use Rattle.pid_blocks.specs.Blocks.{InBlock}
 use Rattle.lwp_table.specs.declared.Due.TheVariants as due
-use Rattle.requests.specs.declared.Reply.TheVariants as reply
 use Rattle.trace_stop.proofs.Born.{born_sound}
 use Rattle.requests.specs.declared.step.Step.TheVariants as op
 use Rattle.requests.proofs.Room.{ProcessRoom, process_room}
-use Rattle.requests.proofs.After.{rows_sound, after_sound, answers_same}
+use Rattle.requests.proofs.After.{rows_sound, after_sound}
 use Rattle.requests.proofs.ViewLaws.{at_slot}
 
 no_rows_sound : IsSound no_rows
@@ -66,19 +64,3 @@ spawn_rows u rows user s = spawned_sound u rows user s (room_for_process u rows)
 -- a spawn keeps a host sound
 pub spawn_sound : (m : Machine) (u : ℕ) → IsUser u → sound m ≡ true → sound (step u op.Spawn m).machine ≡ true
 spawn_sound m u user is = after_sound m (spawn u m.rows) is (spawn_rows u m.rows user (rows_sound m is))
-
--- so does a list
-pub list_sound : (m : Machine) (u caller : ℕ) → sound m ≡ true → sound (step u (op.List caller) m).machine ≡ true
-list_sound m u caller is = by_caller (seen_process u caller m.rows)
-  where
-    stays : (r : Reply) → sound (after m (answers r m.rows)).machine ≡ true
-    stays r = subst (λ k. sound k ≡ true) (sym (answers_same m r is)) is
-
-    at_run : (p : ProcData) (b : Bool) → is_run p ≡ b → (live : Bool) → is_live p ≡ live → sound (checked u (op.List caller) (Some p) m).machine ≡ true
-    at_run p b run false e = rw e (stays (reply.Errno ESRCH))
-    at_run p false run true e = rw (e, run) (stays reply.Held)
-    at_run p true run true e = rw (e, run) (stays (reply.Pids (map (λ p. p.pid) (of_user u m.rows.processes))))
-
-    by_caller : (o : Option ProcData) → sound (checked u (op.List caller) o m).machine ≡ true
-    by_caller None = stays (reply.Errno ESRCH)
-    by_caller (Some p) = at_run p (is_run p) refl (is_live p) refl

@@ -2,7 +2,7 @@
 use Rattle.requests.proofs.Names.{◌≡◌, ◌≢◌, ℕ, Bool, true, false, ◌==◌, ◌&&◌, if◌then◌else◌, List, [], ◌∷◌, ◌++◌, find, Some, None, IfSome, is_some, refl, sym, ap, ◌∙◌, true≢false, subst, eqb}
 use Rattle.requests.proofs.Names.{eqb-true, eq-eqb, rules, list_any, PTRACE_FORK, Call, asks, SIGCHLD, LwpData, born, lwp_of, ProcData, Trace, is_live, process_of, Rows, change_process, change_lwp}
 use Rattle.requests.proofs.Names.{add_process, add_lwp, unwanted, posted_process, posted_lwp, notified, tracer_of, tracers, stop, Shown, MayStop, IsLiveOf, IsLiveChild, FitProcess, IsSound, and_left}
-use Rattle.requests.proofs.Names.{both, by_bool, choose, find_edit, zero_apart, find_passes, sound_ready, stopped_sound, Numbers, forked, child_stop, with_child, changed_own}
+use Rattle.requests.proofs.Names.{by_bool, choose, find_edit, zero_apart, find_passes, sound_ready, stopped_sound, Numbers, forked, child_stop, with_child, changed_own}
 use Rattle.std.specs.Option.{IsSomeAnd}
 use Rattle.lwp_table.specs.declared.Due.TheVariants as due
 use Rattle.trace_stop.proofs.Children.{child_test, child_passes}
@@ -13,6 +13,7 @@ use Rattle.requests.proofs.Masks.{changed_process, changed_lwp}
 use Rattle.requests.proofs.Signals.{Alike, alike_of}
 use Rattle.requests.proofs.Lwps.{find_more, its_user}
 use Rattle.requests.proofs.Room.{ProcessRoom}
+use Rattle.requests.proofs.Living.{live_row}
 
 -- A row where SIGCHLD is posted, to it or to others, has other pending signals at most
 pub heard : (rows : Rows) (pids : List ℕ) (n : ℕ) (p : ProcData) → process_of n rows.processes ≡ Some p → (m : ℕ) × (process_of n (notified pids rows).processes ≡ Some (record p { pending = m }))
@@ -63,7 +64,7 @@ module _ (call : Call) (rows : Rows) (p : ProcData) (l : LwpData) (a : Acting ro
   its_fit followed traced = search (rules, zero_apart, is_some)
 
   live_parent : IsLiveOf rows p.uid p.pid
-  live_parent = find_passes (λ q. q.pid == p.pid) (λ q. (q.pid == p.pid) && (q.uid == p.uid) && is_live q) rows.processes p a.home (both ((p.pid == p.pid) && (p.uid == p.uid)) (is_live p) (both (p.pid == p.pid) (p.uid == p.uid) (eq-eqb p.pid p.pid refl) (eq-eqb p.uid p.uid refl)) (its_live rows p l a))
+  live_parent = live_row rows p a.home (its_live rows p l a)
 
   its_tracer : (b : Bool) → IfSome (if b then p.tracer else None) (IsLiveOf rows p.uid)
   its_tracer true = (its_link rows p l a).tracer

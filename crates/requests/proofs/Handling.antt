@@ -1,15 +1,13 @@
 -- A stop that installed policies decide on keeps a host sound.
-use Rattle.requests.proofs.Names.{◌≡◌, ℕ, negsuc, Bool, true, ◌==◌, List, Option, Some, None, is_some, refl, ap, subst, rules, SIGKILL, LwpData, lwp_of, ProcData, State, Run, Trace, Job, Zombie}
-use Rattle.requests.proofs.Names.{named_by, process_of, Rows, Settings, resume, detach, FitProcess, IsSound, detach_sound, Rule, Decision, StatusKind, Collected, reported, rows_after, told, view_of}
-use Rattle.requests.proofs.Names.{decided, done, no_options, handles_stop, handles_status, handles, continues_with, Machine, sound, step, every_found}
+use Rattle.requests.proofs.Names.{◌≡◌, ℕ, negsuc, Bool, true, ◌==◌, List, Option, Some, None, is_some, refl, ap, subst, SIGKILL, LwpData, lwp_of, ProcData, State, Run, Trace, Job, Zombie, named_by}
+use Rattle.requests.proofs.Names.{process_of, Rows, Settings, resume, detach, FitProcess, IsSound, detach_sound, Rule, Decision, StatusKind, Collected, reported, rows_after, told, view_of, decided}
+use Rattle.requests.proofs.Names.{done, no_options, handles_stop, handles_status, handles, continues_with, sound, every_found}
 use Rattle.stop_handlers.specs.declared.Decision.TheVariants as decision
 use Rattle.wait4.specs.declared.Collected.TheVariants as collected
 use Rattle.wait4.specs.Collect as wait
-use Rattle.requests.specs.declared.step.Step.TheVariants as op
-use Rattle.requests.proofs.After.{rows_sound, after_sound}
 use Rattle.requests.proofs.Handled.{row_left}
 use Rattle.requests.proofs.Masks.{Tracee, resumes_sound, continues_sound}
-use Rattle.requests.proofs.Steps.{checked_sound, rows_after_sound, reported_row}
+use Rattle.requests.proofs.Steps.{rows_after_sound, reported_row}
 
 -- what a decision does to a tracee
 decision_sound : (settings : Settings) (d : Decision) (p q : ProcData) (rows : Rows) → Tracee rows q → q.pid ≡ p.pid → IsSound (done settings d p rows)
@@ -54,6 +52,3 @@ module _ (settings : Settings) (caller : ℕ) (policies : List (List Rule)) (row
   handles_sound o found collected.Nothing = s
   handles_sound None found (collected.Got pid status) = after_is_sound
   handles_sound (Some p) found (collected.Got pid status) = status_sound status p found p.state refl
-
-pub handle_sound : (m : Machine) (u n : ℕ) → sound m ≡ true → sound (step u (op.Handle n) m).machine ≡ true
-handle_sound m u n is = search (rules, checked_sound, after_sound, handles_sound, rows_sound, negsuc)

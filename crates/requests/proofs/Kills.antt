@@ -1,12 +1,12 @@
 -- Kills and installed policies keep a host sound.
 use Rattle.requests.proofs.Names.{◌≡◌, ℕ, ℤ, Bool, true, false, ◌==◌, ◌&&◌, ◌||◌, not, leb, List, [], ◌∷◌, ◌++◌, length, length-append, zip, Option, Some, None, refl, sym, ◌∙◌, arith, true≢false}
 use Rattle.requests.proofs.Names.{subst, eqb-true, eq-eqb, get_or, set, get_or-set_other, length-set, list_all, le-leb, leb-false, IsUser, slot, users, EINVAL, EAGAIN, ProcData, is_live, process_of}
-use Rattle.requests.proofs.Names.{Rows, Settings, post, is_live_of, sound_rows, IsLiveOf, IsSound, and_left, both, choose, found_number, zip_users, post_sound, find_passes, Rule, refuses, is_which}
-use Rattle.requests.proofs.Names.{reach, post_if_live, post_all, reached, kill, install, Installed, Machine, installed_by, after, sound_installed, sound, step, list_all-from_All, put_at, slots_differ}
+use Rattle.requests.proofs.Names.{Rows, Settings, post, is_live_of, sound_rows, IsSound, and_left, both, choose, found_number, zip_users, post_sound, Rule, refuses, is_which, reach, post_if_live}
+use Rattle.requests.proofs.Names.{post_all, reached, kill, install, Installed, Machine, installed_by, after, sound_installed, sound, list_all-from_All, put_at, slots_differ}
 use Rattle.std.proofs.lemmas.List.Folds.{list_all-append}
-use Rattle.requests.specs.declared.step.Step.TheVariants as op
 use Rattle.requests.proofs.After.{pairs_test, rows_sound, after_sound, slots_of, pairs_of, live_pairs}
-use Rattle.requests.proofs.Steps.{Caller, checked_sound}
+use Rattle.requests.proofs.Steps.{live_caller}
+use Rattle.requests.specs.Callers.{IsCaller}
 
 posted_if_live : (settings : Settings) (sig n : ℕ) (rows : Rows) → IsSound rows → (o : Option ProcData) → process_of n rows.processes ≡ o → IsSound (post_if_live settings sig o rows)
 posted_if_live settings sig n rows s None at = s
@@ -21,16 +21,11 @@ reached_sound : (settings : Settings) (sig : ℕ) (ps : List ProcData) (rows : R
 reached_sound settings sig [] rows s = s
 reached_sound settings sig (p ∷ ps) rows s = posted_all settings sig (p ∷ ps) rows s
 
-pub kill_sound : (m : Machine) (u n : ℕ) (which : ℤ) (sig : ℕ) → sound m ≡ true → sound (step u (op.Kill n which sig) m).machine ≡ true
-kill_sound m u n which sig is = checked_sound u (op.Kill n which sig) m n is (λ p c. after_sound m (kill m.settings u p.pid which sig m.rows) is
-    (choose (not (leb sig 31) || not (is_which which)) (refuses EINVAL m.rows) (reached m.settings sig (reach u p.pid which m.rows) m.rows) (λ o. IsSound o.rows) (λ e. rows_sound m is) (λ e. reached_sound m.settings sig (reach u p.pid which m.rows) m.rows (rows_sound m is))))
+pub kill_rows : (settings : Settings) (u caller : ℕ) (which : ℤ) (sig : ℕ) (rows : Rows) → IsSound rows → IsSound (kill settings u caller which sig rows).rows
+kill_rows settings u caller which sig rows s = choose (not (leb sig 31) || not (is_which which)) (refuses EINVAL rows) _ (λ o. IsSound o.rows) (λ e. s) (λ e. reached_sound settings sig (reach u caller which rows) rows s)
 
 -- Installed policies
-
-pub live_caller : (rows : Rows) (u : ℕ) (p : ProcData) → Caller u rows p → IsLiveOf rows u p.pid
-live_caller rows u p c = find_passes (λ q. q.pid == p.pid) (λ q. (q.pid == p.pid) && (q.uid == u) && is_live q) rows.processes p c.at (both ((p.pid == p.pid) && (p.uid == u)) (is_live p) (both (p.pid == p.pid) (p.uid == u) (eq-eqb p.pid p.pid refl) (eq-eqb p.uid u c.uid)) c.live)
-
-module _ (m : Machine) (u : ℕ) (p : ProcData) (policy : List Rule) (user : IsUser u) (is : sound m ≡ true) (c : Caller u m.rows p) where
+module _ (m : Machine) (u : ℕ) (p : ProcData) (policy : List Rule) (user : IsUser u) (is : sound m ≡ true) (c : IsCaller u p m.rows) where
   abbrev pair : Installed
   pair = record { debugger = p.pid; policy = policy }
 
@@ -50,7 +45,7 @@ module _ (m : Machine) (u : ℕ) (p : ProcData) (policy : List Rule) (user : IsU
           let all = list_all-append (λ i. is_live_of m.rows u i.debugger) (installed_by u m) (pair ∷ []) in
           subst (λ v. pairs_test m.rows (v, get_or more (slot v) []) ≡ true) (sym same) (rw here (both (leb (length (installed_by u m ++ (pair ∷ []))) 64) (list_all (λ i. is_live_of m.rows u i.debugger) (installed_by u m ++ (pair ∷ [])))
           (le-leb (length (installed_by u m ++ (pair ∷ []))) 64 (omega (arith, less, count, one)))
-          (all ∙ both (list_all (λ i. is_live_of m.rows u i.debugger) (installed_by u m)) (list_all (λ i. is_live_of m.rows u i.debugger) (pair ∷ [])) (list_all-from_All (λ i. is_live_of m.rows u i.debugger) (installed_by u m) (live_pairs m is u user)) (both (is_live_of m.rows u p.pid) true (live_caller m.rows u p c) refl))))
+          (all ∙ both (list_all (λ i. is_live_of m.rows u i.debugger) (installed_by u m)) (list_all (λ i. is_live_of m.rows u i.debugger) (pair ∷ [])) (list_all-from_All (λ i. is_live_of m.rows u i.debugger) (installed_by u m) (live_pairs m is u user)) (both (is_live_of m.rows u p.pid) true (live_caller u m.rows p c) refl))))
       by_user false e =
           let other = slots_differ u w user its (λ same. true≢false (sym (eq-eqb w u same) ∙ e)) in
           rw (get_or-set_other m.installed (slot u) (slot w) (installed_by u m ++ (pair ∷ [])) [] other) (pairs_of m is w its)
@@ -59,6 +54,3 @@ module _ (m : Machine) (u : ℕ) (p : ProcData) (policy : List Rule) (user : IsU
   installed_sound = choose (leb 64 (length (installed_by u m))) (after m (refuses EAGAIN m.rows)) _ (λ a. sound a.machine ≡ true) (λ e. after_sound m (refuses EAGAIN m.rows) is (rows_sound m is))
       (λ few. both (sound_rows m.rows) (sound_installed (record m { installed = more })) (and_left (sound_rows m.rows) (sound_installed m) is)
       (both (length more == 64) (list_all (pairs_test m.rows) (zip users more)) (eq-eqb (length more) 64 (length-set m.installed (slot u) (installed_by u m ++ (pair ∷ [])) ∙ slots_of m is)) (zip_users (pairs_test m.rows) more [] (room few))))
-
-pub install_sound : (m : Machine) (u n : ℕ) (policy : List Rule) → IsUser u → sound m ≡ true → sound (step u (op.Install n policy) m).machine ≡ true
-install_sound m u n policy user is = checked_sound u (op.Install n policy) m n is (λ p c. installed_sound m u p policy user is c)

@@ -1,6 +1,6 @@
 -- Whether the row with a number is live.
 use Rattle.requests.proofs.Names.{◌≡◌, ℕ, List, [], ◌∷◌, Bool, true, false, refl, sym, ap, ◌∙◌, ◌==◌, ◌&&◌, Some, None, inl, inr, true≢false, eq-eqb, eqb-true, list_any, cases_Bool, ProcData, is_live}
-use Rattle.requests.proofs.Names.{process_of, Rise, process_of-pid, and_left, and_right, both, by_bool, any_holds, the_row, find_passes}
+use Rattle.requests.proofs.Names.{process_of, Rise, process_of-pid, and_left, and_right, both, by_bool, any_holds, the_row, find_passes, Rows, IsLiveOf}
 
 pub live_found : (n : ℕ) (ps : List ProcData) (p : ProcData) → Rise ps → process_of n ps ≡ Some p → list_any (λ q. (q.pid == n) && is_live q) ps ≡ is_live p
 live_found n ps p rise at = by_live (is_live p) refl
@@ -17,3 +17,7 @@ live_none n (q ∷ ps) none = elim (cases_Bool (q.pid == n)) [
   | inl e ↦ absurd (let bad : Some q ≡ None = rw e at none in cc)
   | inr e ↦ rw e (live_none n ps (rw e at none))
 ]
+
+-- a live process is one of its user's
+pub live_row : (rows : Rows) (p : ProcData) → process_of p.pid rows.processes ≡ Some p → is_live p ≡ true → IsLiveOf rows p.uid p.pid
+live_row rows p at live = find_passes (λ q. q.pid == p.pid) (λ q. (q.pid == p.pid) && (q.uid == p.uid) && is_live q) rows.processes p at (rw (eq-eqb p.pid p.pid refl, eq-eqb p.uid p.uid refl, live) refl)

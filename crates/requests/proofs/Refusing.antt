@@ -6,7 +6,7 @@ use Rattle.requests.proofs.Names.{Collected, candidates, reportable, answer, wit
 use Rattle.requests.proofs.Names.{room_for_lwp, in_mode, exit_stop, with_child, exec_rows, forks, makes_lwp, exits_lwp, leaves, waits, due_stop, next_signal, takes_by_default, takes_untraced, takes}
 use Rattle.requests.proofs.Names.{acts, signal_or_act, due_or_more, turn_by, turn_seen, turn, trace_me, attach, shows_info, does, commands_stopped, commands, is_attach, about, target_of, is_trace_me}
 use Rattle.requests.proofs.Names.{ptrace, is_which, reach, reached, kill, spawn_with, spawn, list, is_refused, sigaction, collect_reply, wait, install, handles_stop, handles_status, handles, Machine}
-use Rattle.requests.proofs.Names.{installed_by, After, after, is_refusal, is_memory, sound, calls, checked, step}
+use Rattle.requests.proofs.Names.{installed_by, After, after, is_refusal, is_memory, sound, calls, checked, step, step_of, subst}
 use Rattle.std.proofs.Common.{option_map}
 use Rattle.event_masks.specs.declared.Call.TheVariants as call
 use Rattle.signals.specs.declared.Action.TheVariants as action
@@ -19,6 +19,7 @@ use Rattle.requests.specs.declared.Reply.TheVariants as reply
 use Rattle.requests.specs.Refusals.{RefusedSame, NothingSame, NeverMemory, ListingSame, is_listing}
 use Rattle.requests.proofs.After.{answers_same}
 use Rattle.requests.proofs.Steps.{choose}
+use Rattle.requests.proofs.Called.{by_step}
 
 abbrev is_nothing : Reply → Bool
 is_nothing reply.Nothing = true
@@ -245,15 +246,8 @@ checked_fair u s (Some p) m = choose (not (is_live p)) _ _ (FairStep m) (hosted 
     (choose (not (is_run p)) _ _ (FairStep m) (hosted m (answers reply.Held m.rows) (left m.rows reply.Held refl)) (calls_fair u s p m))
 
 step_fair : (u : ℕ) (s : PlainStep) (m : Machine) → FairStep m (step u s m)
-step_fair u op.Spawn m = hosted m (spawn u m.rows) (spawn_fair u m.rows (room_for_process u m.rows))
-step_fair u (op.List n) m = checked_fair u (op.List n) (seen_process u n m.rows) m
-step_fair u (op.Sigaction n s d) m = checked_fair u (op.Sigaction n s d) (seen_process u n m.rows) m
-step_fair u (op.Kill n which s) m = checked_fair u (op.Kill n which s) (seen_process u n m.rows) m
-step_fair u (op.Wait4 n which options) m = checked_fair u (op.Wait4 n which options) (seen_process u n m.rows) m
-step_fair u (op.Install n policy) m = checked_fair u (op.Install n policy) (seen_process u n m.rows) m
-step_fair u (op.Handle n) m = checked_fair u (op.Handle n) (seen_process u n m.rows) m
-step_fair u (op.Ptrace n r target «data») m = checked_fair u (op.Ptrace n r target «data») (seen_process u n m.rows) m
-step_fair u (op.Turn tid a) m = hosted m (turn m.settings u tid a m.rows) (turn_fair m.settings u tid a m.rows)
+step_fair u s m = by_step (λ s. FairStep m (step u s m)) (hosted m (spawn u m.rows) (spawn_fair u m.rows (room_for_process u m.rows))) (λ tid a. hosted m (turn m.settings u tid a m.rows) (turn_fair m.settings u tid a m.rows))
+    (λ s n by. subst (λ o. FairStep m (step_of u s m o)) (sym by) (checked_fair u s (seen_process u n m.rows) m)) s
 
 pub refused_same : RefusedSame
 refused_same u s m user is refused = (step_fair u s m).same is (ap (λ b. b || (is_listing (step u s m).reply || is_nothing (step u s m).reply)) refused)

@@ -1,23 +1,32 @@
 -- Every step keeps a host sound.
-use Rattle.requests.proofs.Names.{[], ◌∷◌, SoundKept, SoundRuns, step}
+use Rattle.requests.proofs.Names.{◌≡◌, ℕ, negsuc, [], ◌∷◌, true, refl, sym, subst, ProcData, IsUser, PlainStep, Machine, sound, reported, collect, no_options, policies_of, SoundKept, SoundRuns}
+use Rattle.requests.proofs.Names.{step_fits, step, step_of, calls, sigaction, ptrace, list, kill, wait}
 use Rattle.requests.specs.declared.step.Step.TheVariants as op
-use Rattle.requests.proofs.Born.{spawn_sound, list_sound}
-use Rattle.requests.proofs.Steps.{sigaction_sound, wait_sound}
-use Rattle.requests.proofs.Kills.{kill_sound, install_sound}
-use Rattle.requests.proofs.Handling.{handle_sound}
-use Rattle.requests.proofs.Traced.{ptrace_sound}
+use Rattle.requests.specs.Handle.{handle}
+use Rattle.requests.specs.Callers.{IsCaller}
+use Rattle.requests.proofs.After.{rows_sound, after_sound}
+use Rattle.requests.proofs.Born.{spawn_sound}
+use Rattle.requests.proofs.Called.{by_step}
+use Rattle.requests.proofs.Steps.{checked_sound, sigaction_rows, wait_rows}
+use Rattle.requests.proofs.Kills.{kill_rows, installed_sound}
+use Rattle.requests.proofs.Handling.{handles_sound}
+use Rattle.requests.proofs.Traced.{ptrace_rows}
 use Rattle.requests.proofs.Turns.{turn_sound}
 
+calls_sound : (u : ℕ) (s : PlainStep) (p : ProcData) (m : Machine) → IsUser u → step_fits s ≡ true → sound m ≡ true → IsCaller u p m.rows → sound (calls u s p m).machine ≡ true
+calls_sound u op.Spawn p m user fits is c = spawn_sound m u user is
+calls_sound u (op.List n) p m user fits is c = after_sound m (list u m.rows) is (rows_sound m is)
+calls_sound u (op.Sigaction n s d) p m user fits is c = after_sound m (sigaction p s d m.rows) is (sigaction_rows u m.rows p s d (rows_sound m is) c)
+calls_sound u (op.Kill n which s) p m user fits is c = after_sound m (kill m.settings u p.pid which s m.rows) is (kill_rows m.settings u p.pid which s m.rows (rows_sound m is))
+calls_sound u (op.Wait4 n which options) p m user fits is c = after_sound m (wait p which options m.rows) is (wait_rows p which options m.rows (rows_sound m is))
+calls_sound u (op.Install n policy) p m user fits is c = installed_sound m u p policy user is c
+calls_sound u (op.Handle n) p m user fits is c = after_sound m (handle u p m) is (handles_sound m.settings p.pid (policies_of u p m) m.rows (rows_sound m is) (reported p.pid (negsuc 0) no_options m.rows) refl (collect p.pid (negsuc 0) no_options m.rows))
+calls_sound u (op.Ptrace n r target «data») p m user fits is c = after_sound m (ptrace m.settings u p r target «data» m.rows) is (ptrace_rows m.settings u p r target «data» m.rows (rows_sound m is) c)
+calls_sound u (op.Turn tid a) p m user fits is c = turn_sound m u tid a fits is
+
 pub sound_kept : SoundKept
-sound_kept u user op.Spawn fits m is = spawn_sound m u user is
-sound_kept u user (op.List caller) fits m is = list_sound m u caller is
-sound_kept u user (op.Sigaction caller s d) fits m is = sigaction_sound m u caller s d is
-sound_kept u user (op.Kill caller which s) fits m is = kill_sound m u caller which s is
-sound_kept u user (op.Wait4 caller which options) fits m is = wait_sound m u caller which options is
-sound_kept u user (op.Install caller policy) fits m is = install_sound m u caller policy user is
-sound_kept u user (op.Handle caller) fits m is = handle_sound m u caller is
-sound_kept u user (op.Ptrace caller r target «data») fits m is = ptrace_sound m u caller r target «data» is
-sound_kept u user (op.Turn tid a) fits m is = turn_sound m u tid a fits is
+sound_kept u user s fits m is = by_step (λ s. step_fits s ≡ true → sound (step u s m).machine ≡ true) (λ fits. spawn_sound m u user is) (λ tid a fits. turn_sound m u tid a fits is)
+    (λ s n by fits. subst (λ o. sound (step_of u s m o).machine ≡ true) (sym by) (checked_sound u s m n is (λ p c. calls_sound u s p m user fits is c))) s fits
 
 pub sound_runs : SoundRuns
 sound_runs [] m all is = is

@@ -3,16 +3,14 @@ use Rattle.requests.proofs.Names.{◌≡◌, ℕ, Bool, true, false, ◌==◌, �
 use Rattle.requests.proofs.Names.{list_any, ESRCH, PTRACE_SCE, PTRACE_SCX, PTRACE_FORK, PTRACE_LWP, mask_with, SIGKILL, LwpData, lwp_of, ProcData, is_live, reporting, traces, process_of, Rows, owns}
 use Rattle.requests.proofs.Names.{seen_process, seen_lwp, find_seen, Settings, names_own, IsLiveOf, Linked, IsSound, and_left, and_right, both, All-any, find_some, choose, some_is, if_at}
 use Rattle.requests.proofs.Names.{found_number, one_row, own_lwps, find_passes, detach_sound, LwpInfo, info, Request, Outcome, refuses, attach, told_stop, bad_argument, stepping, switched, shows_info}
-use Rattle.requests.proofs.Names.{does, commands_stopped, commands, is_attach, about, process_by, target_of, is_trace_me, ptrace, Machine, sound, step}
+use Rattle.requests.proofs.Names.{does, commands_stopped, commands, is_attach, about, process_by, target_of, is_trace_me, ptrace, sound}
 use Rattle.std.proofs.Common.{option_map}
 use Rattle.requests.specs.declared.Request.TheVariants as request
-use Rattle.requests.specs.declared.step.Step.TheVariants as op
 use Rattle.requests.proofs.Asked.{told_reports}
-use Rattle.requests.proofs.After.{rows_sound, after_sound}
-use Rattle.requests.proofs.Steps.{Caller, checked_sound}
-use Rattle.requests.proofs.Kills.{live_caller}
+use Rattle.requests.proofs.Steps.{caller_live, live_caller}
 use Rattle.requests.proofs.Masks.{Tracee, OwnLwp, named_lwp, suspend_sound, set_mask_sound, resumes_sound, stepping_tracee, continues_sound}
 use Rattle.requests.proofs.Attaching.{trace_me_sound, attach_sound}
+use Rattle.requests.specs.Callers.{IsCaller}
 
 -- whom a target names
 
@@ -76,7 +74,7 @@ does_sound settings request.Syscall «data» tid p rows t o = continues_sound se
 does_sound settings request.FollowFork «data» tid p rows t o = set_mask_sound rows p t (switched PTRACE_FORK «data»)
 does_sound settings request.LwpEvents «data» tid p rows t o = set_mask_sound rows p t (switched PTRACE_LWP «data»)
 
-module _ (settings : Settings) (u : ℕ) (caller : ProcData) (r : Request) (target «data» : ℕ) (rows : Rows) (s : IsSound rows) (c : Caller u rows caller) where
+module _ (settings : Settings) (u : ℕ) (caller : ProcData) (r : Request) (target «data» : ℕ) (rows : Rows) (s : IsSound rows) (c : IsCaller u caller rows) where
   module _ (m : ℕ) (seen : find_seen u target rows ≡ Some m) (p : ProcData) (at : process_of m rows.processes ≡ Some p) (live : is_live p ≡ true) where
     number : p.pid ≡ m
     number = found_number m rows.processes p at
@@ -109,7 +107,7 @@ module _ (settings : Settings) (u : ℕ) (caller : ProcData) (r : Request) (targ
         not_false false e = absurd (true≢false e)
 
     tracer : IsLiveOf rows p.uid caller.pid
-    tracer = subst (λ v. IsLiveOf rows v caller.pid) (sym (owned_uid u m rows p s (seen_owned u target rows m s seen) at)) (live_caller rows u caller c)
+    tracer = subst (λ v. IsLiveOf rows v caller.pid) (sym (owned_uid u m rows p s (seen_owned u target rows m s seen) at)) (live_caller u rows caller c)
 
     pub live_sound : IsSound (if is_attach r then attach caller p rows else commands settings caller r target «data» p rows).rows
     live_sound = choose (is_attach r) _ _ (λ (x : Outcome). IsSound x.rows) (λ e. attach_sound rows caller p s home live tracer) (λ e. commands_sound)
@@ -124,7 +122,4 @@ module _ (settings : Settings) (u : ℕ) (caller : ProcData) (r : Request) (targ
       by_life false live = s
 
   pub ptrace_rows : IsSound (ptrace settings u caller r target «data» rows).rows
-  ptrace_rows = choose (is_trace_me r) _ _ (λ (x : Outcome). IsSound x.rows) (λ e. trace_me_sound rows caller s c.at c.live c.run) (λ e. about_sound (find_seen u target rows) refl (target_of u target rows) refl)
-
-pub ptrace_sound : (m : Machine) (u n : ℕ) (r : Request) (target «data» : ℕ) → sound m ≡ true → sound (step u (op.Ptrace n r target «data») m).machine ≡ true
-ptrace_sound m u n r target «data» is = checked_sound u (op.Ptrace n r target «data») m n is (λ p c. after_sound m (ptrace m.settings u p r target «data» m.rows) is (ptrace_rows m.settings u p r target «data» m.rows (rows_sound m is) c))
+  ptrace_rows = choose (is_trace_me r) _ _ (λ (x : Outcome). IsSound x.rows) (λ e. trace_me_sound rows caller s c.at (caller_live u rows caller c) c.runs) (λ e. about_sound (find_seen u target rows) refl (target_of u target rows) refl)
