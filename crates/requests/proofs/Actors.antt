@@ -3,7 +3,7 @@ use Rattle.requests.proofs.Names.{◌≡◌, ◌∙◌, ℕ, true, false, true�
 use Rattle.requests.proofs.Names.{list_any, LwpData, Differ, lwp_of, has_lwp, ProcData, process_of, is_live, is_run, Rows, change, change_process, change_lwp, is_numbered, map_lwps, is_process}
 use Rattle.requests.proofs.Names.{add_process, add_lwp, IsKept, owns, seen_lwp, same_number, process_of-pid, row_found, found_row, lwp_of-map, is_process-map, cases_Bool, some_and, changed}
 use Rattle.requests.proofs.Names.{changed_lwp, filter_map-map, changed-pid, changed_lwp-keeps, own_lwp-keeps, is_live_at, find_some, own_lwps, find_passes, run_quiet, has, bit, without, IsSound}
-use Rattle.requests.proofs.Names.{without_signal, choose, settled_process, settled_lwp, settle, notified, stop, Shown, posted_same, IsActing, HasLwp}
+use Rattle.requests.proofs.Names.{without_signal, choose, settled_process, settled_lwp, settle, notified, stop, Shown, IsActing, HasLwp}
 use Rattle.proc_table.proofs.Rising.{Lacks-from_any}
 use Rattle.proc_table.proofs.Placed.{is_process-placed}
 use Rattle.requests.proofs.Acting.{Acting}
@@ -86,7 +86,7 @@ module _ (chosen : ProcData → Bool) (f : ProcData → ProcData) (g : ProcData 
       }
 
 pub has-notified : (pids : List ℕ) (pid tid : ℕ) (rows : Rows) → HasLwp pid tid rows → HasLwp pid tid (notified pids rows)
-has-notified pids pid tid rows h = search (rules, has-change, posted_same)
+has-notified pids pid tid rows h = search (rules, has-change)
 
 pub has-stop : (at of : ℕ) (shown : Shown) (pid tid : ℕ) (rows : Rows) → HasLwp pid tid rows → HasLwp pid tid (stop at of shown rows)
 has-stop at of shown pid tid rows h = search (rules, has-lwp_changed, has-process_changed, has-notified)

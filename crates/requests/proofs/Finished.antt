@@ -1,12 +1,15 @@
 -- The clauses of a step, from what was done to the rows and what was answered.
 use Rattle.requests.proofs.Names.{◌≡◌, ◌≢◌, ℕ, Some, List, [], set, true, false, refl, sym, ap, ◌∙◌, subst, inl, inr, set-get_or, IsUser, slot, Rows, PlainStep, Reply, Outcome, answers, Installed}
-use Rattle.requests.proofs.Names.{Machine, after, takes_memory, is_refusal, may_want, step_fits, sound, Steps, ProcData, step, calls, caller_of}
+use Rattle.requests.proofs.Names.{Machine, after, takes_memory, is_refusal, may_want, step_fits, sound, Steps, ProcData, step, calls, caller_of, Rule, length, installed_by, le-leb, not, ◌<◌, ◌≤◌}
+use Rattle.requests.proofs.Names.{◌++◌, ◌∷◌}
 use Rattle.pid_blocks.specs.declared.Errno.TheVariants as errno
 use Rattle.requests.specs.declared.Reply.TheVariants as reply
+use Rattle.requests.specs.declared.step.Step.TheVariants as op
 use Rattle.requests.specs.Callers.{IsCaller, Calls, Barred}
 use Rattle.requests.proofs.After.{all_left, answers_same, rows_sound}
 use Rattle.requests.proofs.Called.{called, is_caller}
 use Rattle.requests.proofs.Drops.{left_in, kept_by, drops}
+use Rattle.requests.proofs.Installing.{installed_with, few_leb}
 use Rattle.requests.proofs.Replies.{cases_memory, other}
 use Rattle.requests.proofs.Refusing.{never_memory, refused_same}
 use Rattle.requests.proofs.StaysSound.{sound_kept}
@@ -78,6 +81,22 @@ module _ {u n : ℕ} {h m : Machine} (view : h ≡ m) (user : IsUser u) (kept : 
 
     pub host_calls : (s : PlainStep) → caller_of s ≡ Some n → step u s h ≡ calls u s p h
     host_calls s by = called u n s h by p by_host.seen by_host.live by_host.runs
+
+    -- an installation: there is no room for it, it is made, or memory is wanting
+    module _ (policy : List Rule) where
+      pub host_full : 64 ≤ length (installed_by u m) → Steps u (op.Install n policy) m m (reply.Errno errno.EAGAIN)
+      host_full many = refuses_at u (op.Install n policy) m user (subst (λ x. sound x ≡ true) view kept) refl (reply.Errno errno.EAGAIN) (other (reply.Errno errno.EAGAIN) refl)
+          (called u n (op.Install n policy) m refl p found.seen found.live found.runs ∙ rw (le-leb 64 (length (installed_by u m)) many) refl)
+
+      installs : length (installed_by u h) < 64 → step u (op.Install n policy) h ≡ installed_with u p.pid policy h
+      installs few = host_calls (op.Install n policy) refl ∙ rw (few_leb (length (installed_by u h)) few) refl
+
+      pub host_installed : {xs : List (List Installed)} → length (installed_by u h) < 64 → xs ≡ set h.installed (slot u) (installed_by u h ++ (record { debugger = p.pid; policy = policy } ∷ [])) → Steps u (op.Install n policy) h (record h { installed = xs }) reply.Done
+      host_installed {xs} few done = from_machine u (op.Install n policy) h user kept refl (record h { installed = xs }) reply.Done
+          (λ ok. (ap (λ ys. record h { installed = ys }) done ∙ sym (ap (λ a. a.machine) (installs few)), sym (ap (λ a. a.reply) (installs few)))) (λ e. absurd (other reply.Done refl e))
+
+      pub host_wants : {xs : List (List Installed)} → length (installed_by u h) < 64 → xs ≡ h.installed → Steps u (op.Install n policy) h (record h { installed = xs }) (reply.Errno errno.ENOMEM)
+      host_wants few same = subst (λ xs. Steps u (op.Install n policy) h (record h { installed = xs }) (reply.Errno errno.ENOMEM)) (sym same) (wants_at u (op.Install n policy) h user kept refl (ap (λ a. not (is_refusal a.reply)) (installs few)))
 
     module _ {s : PlainStep} (fits : step_fits s ≡ true) (by : caller_of s ≡ Some n) (same : calls u s p h ≡ after h (done_by u s p h)) {rows : Rows} {left : List (List Installed)} {r : Reply} (keeps : left ≡ set h.installed (slot u) (left_in rows u h)) where
       pub host_called : Did u s h (done_by u s p h) rows r → Steps u s h (record h { rows = rows; installed = left }) r

@@ -1,13 +1,12 @@
 -- A refused step changes nothing, and none is_memory memory, kind by kind.
-use Rattle.requests.proofs.Names.{◌≡◌, ℕ, ℤ, negsuc, Bool, true, false, ◌==◌, not, ◌||◌, leb, if◌then◌else◌, List, [], ◌∷◌, find, length, Option, Some, None, is_some, refl, sym, ap, ◌∙◌, true≢false}
-use Rattle.requests.proofs.Names.{rules, ESRCH, ECHILD, EBUSY, EINVAL, EAGAIN, Call, disposition_of, default_action, is_signal, Action, Disposition, LwpData, Mode, User, InCall, VforkWait, lwp_of}
-use Rattle.requests.proofs.Names.{ProcData, State, Run, Trace, Job, Zombie, process_of, is_live, is_run, Rows, seen_process, seen_lwp, Settings, Shown, LwpInfo, info, Rule, Options, StatusKind}
-use Rattle.requests.proofs.Names.{Collected, candidates, reportable, answer, without_report, Request, Act, PlainStep, Reply, Outcome, answers, refuses, stops_or, Numbers, room_for_process}
-use Rattle.requests.proofs.Names.{room_for_lwp, in_mode, exit_stop, with_child, exec_rows, forks, makes_lwp, exits_lwp, leaves, waits, due_stop, next_signal, takes_by_default, takes_untraced, takes}
-use Rattle.requests.proofs.Names.{acts, signal_or_act, due_or_more, turn_by, turn_seen, turn, trace_me, attach, shows_info, does, commands_stopped, commands, is_attach, about, target_of, is_trace_me}
-use Rattle.requests.proofs.Names.{ptrace, is_which, reach, reached, kill, spawn_with, spawn, list, is_refused, sigaction, collect_reply, wait, install, handles_stop, handles_status, handles, Machine}
-use Rattle.requests.proofs.Names.{installed_by, After, after, is_refusal, is_memory, sound, calls, checked, step, step_of, subst}
-use Rattle.std.proofs.Common.{option_map}
+use Rattle.requests.proofs.Names.{◌≡◌, ℕ, ℤ, Bool, true, false, ◌==◌, not, ◌||◌, leb, if◌then◌else◌, List, [], ◌∷◌, find, length, Option, Some, None, is_some, refl, sym, ap, ◌∙◌, true≢false, rules}
+use Rattle.requests.proofs.Names.{ESRCH, ECHILD, EBUSY, EINVAL, EAGAIN, Call, disposition_of, default_action, is_signal, Action, Disposition, LwpData, Mode, User, InCall, VforkWait, lwp_of, ProcData}
+use Rattle.requests.proofs.Names.{State, Run, Trace, Job, Zombie, process_of, is_live, is_run, Rows, seen_process, seen_lwp, Settings, Shown, LwpInfo, info, Rule, Options, StatusKind, Collected}
+use Rattle.requests.proofs.Names.{candidates, reportable, answer, without_report, Request, Act, PlainStep, Reply, Outcome, answers, refuses, stops_or, Numbers, room_for_process, room_for_lwp, in_mode}
+use Rattle.requests.proofs.Names.{exit_stop, with_child, exec_rows, forks, makes_lwp, exits_lwp, leaves, waits, due_stop, next_signal, takes_by_default, takes_untraced, takes, acts, signal_or_act}
+use Rattle.requests.proofs.Names.{due_or_more, turn_by, turn_seen, turn, trace_me, attach, shows_info, does, commands_stopped, commands, is_attach, about, target_of, is_trace_me, ptrace, is_which}
+use Rattle.requests.proofs.Names.{reach, reached, kill, spawn_with, spawn, list, is_refused, sigaction, collect_reply, wait, install, handles_stop, handles_status, handles, Machine, installed_by}
+use Rattle.requests.proofs.Names.{After, after, is_refusal, is_memory, sound, calls, checked, step, step_of, subst}
 use Rattle.event_masks.specs.declared.Call.TheVariants as call
 use Rattle.signals.specs.declared.Action.TheVariants as action
 use Rattle.signals.specs.declared.Disposition.TheVariants as disposition
@@ -89,7 +88,7 @@ acts_fair : (settings : Settings) (a : Act) (mode : Mode) (p : ProcData) (l : Lw
 acts_fair settings act.Compute User p l rows = choose l.stepping _ _ (Fair rows) (done rows _ _ refl refl) (done rows _ _ refl refl)
 acts_fair settings (act.Raise s) User p l rows = choose (not (is_signal s)) _ _ (Fair rows) (left rows (reply.Errno EINVAL) refl) (done rows _ _ (raised (s == 9)).0 (raised (s == 9)).1)
 acts_fair settings (act.Block set) User p l rows = done rows _ _ refl refl
-acts_fair settings (act.Enter c) User p l rows = search (rules, stop_or, option_map)
+acts_fair settings (act.Enter c) User p l rows = search (rules, stop_or)
 acts_fair settings act.Leave User p l rows = left rows (reply.Errno EINVAL) refl
 acts_fair settings act.Compute (InCall c) p l rows = left rows (reply.Errno EINVAL) refl
 acts_fair settings (act.Raise s) (InCall c) p l rows = left rows (reply.Errno EINVAL) refl
@@ -236,7 +235,7 @@ calls_fair u (op.Sigaction caller s d) p m = hosted m (sigaction p s d m.rows) (
 calls_fair u (op.Kill caller which s) p m = hosted m (kill m.settings u p.pid which s m.rows) (kill_fair m.settings u p.pid which s m.rows)
 calls_fair u (op.Wait4 caller which options) p m = hosted m (wait p which options m.rows) (wait_fair p which options m.rows)
 calls_fair u (op.Install caller policy) p m = install_fair u p policy m
-calls_fair u (op.Handle caller) p m = search (rules, hosted, handles_fair, negsuc)
+calls_fair u (op.Handle caller) p m = search (rules, hosted, handles_fair)
 calls_fair u (op.Ptrace caller r target «data») p m = hosted m (ptrace m.settings u p r target «data» m.rows) (ptrace_fair m.settings u p r target «data» m.rows)
 calls_fair u (op.Turn tid a) p m = hosted m (turn m.settings u tid a m.rows) (turn_fair m.settings u tid a m.rows)
 
