@@ -1,5 +1,5 @@
 -- The empty host is sound, and spawning keeps a host sound.
-use Rattle.requests.proofs.Names.{nat_tests, ◌≡◌, ℕ, true, Option, Some, None, IfSome, refl, sym, arith, subst, IsUser, pid_block, tid_block, rising, born, spawned, Rows, Settings, FitProcess, FitLwp}
+use Rattle.requests.proofs.Names.{nat_tests, ◌≡◌, ℕ, true, Option, Some, None, IfSome, refl, sym, arith, subst, IsUser, pid_block, tid_block, born, spawned, Rows, Settings, FitProcess, FitLwp}
 use Rattle.requests.proofs.Names.{IsSound, both, sound_rows-from, Numbers, room_for_process, spawn, spawn_with, Machine, empty, no_rows, sound, step}
 use Rattle.pid_blocks.specs.Blocks.{InBlock}
 use Rattle.lwp_table.specs.declared.Due.TheVariants as due

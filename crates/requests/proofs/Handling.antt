@@ -1,7 +1,7 @@
 -- A stop that installed policies decide on keeps a host sound.
 use Rattle.requests.proofs.Names.{◌≡◌, ℕ, negsuc, Bool, true, ◌==◌, List, Option, Some, None, is_some, refl, ap, subst, SIGKILL, LwpData, lwp_of, ProcData, State, Run, Trace, Job, Zombie, named_by}
 use Rattle.requests.proofs.Names.{process_of, Rows, Settings, resume, detach, FitProcess, IsSound, detach_sound, Rule, Decision, StatusKind, Collected, reported, rows_after, told, view_of, decided}
-use Rattle.requests.proofs.Names.{done, no_options, handles_stop, handles_status, handles, continues_with, sound, every_found}
+use Rattle.requests.proofs.Names.{done, no_options, handles_stop, handles_status, handles, continues_with, every_found}
 use Rattle.stop_handlers.specs.declared.Decision.TheVariants as decision
 use Rattle.wait4.specs.declared.Collected.TheVariants as collected
 use Rattle.wait4.specs.Collect as wait

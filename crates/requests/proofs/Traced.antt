@@ -3,7 +3,7 @@ use Rattle.requests.proofs.Names.{◌≡◌, ℕ, Bool, true, false, ◌==◌, �
 use Rattle.requests.proofs.Names.{list_any, ESRCH, PTRACE_SCE, PTRACE_SCX, PTRACE_FORK, PTRACE_LWP, mask_with, SIGKILL, LwpData, lwp_of, ProcData, is_live, reporting, traces, process_of, Rows, owns}
 use Rattle.requests.proofs.Names.{seen_process, seen_lwp, find_seen, Settings, names_own, IsLiveOf, Linked, IsSound, and_left, and_right, both, All-any, find_some, choose, some_is, if_at}
 use Rattle.requests.proofs.Names.{found_number, one_row, own_lwps, find_passes, detach_sound, LwpInfo, info, Request, Outcome, refuses, attach, told_stop, bad_argument, stepping, switched, shows_info}
-use Rattle.requests.proofs.Names.{does, commands_stopped, commands, is_attach, about, process_by, target_of, is_trace_me, ptrace, sound}
+use Rattle.requests.proofs.Names.{does, commands_stopped, commands, is_attach, about, process_by, target_of, is_trace_me, ptrace}
 use Rattle.std.proofs.Common.{option_map}
 use Rattle.requests.specs.declared.Request.TheVariants as request
 use Rattle.requests.proofs.Asked.{told_reports}

@@ -13,7 +13,7 @@ handle-reply-requires g c = (c.type_bounds.send-F, (rows_sound (machine_of c.sel
 
 done : (g : Over) (c : goal.After-drop_ended g) → Steps c.args.user (op.Handle c.args.caller) (machine_of c.self.inside.settings c.self.inside.tables c.self.inside.handlers)
     (machine_of c.self.inside.settings c.handle-reply.new.tables c.drop_ended.new.self) c.handle-reply.result
-done g c = host_rows c.self.view_is c.requires c.self.invariant c.in-Ok.ensures.found refl refl refl c.drop_ended.ensures
+done g c = host_rows c.self.view_is c.requires c.self.invariant c.in-Ok.ensures.found refl refl refl {rows = c.handle-reply.new.tables.rows} {left = c.drop_ended.new.self} {r = c.handle-reply.result} c.drop_ended.ensures
     c.handle-reply.ensures.rows c.handle-reply.ensures.reply
 
 pub invariant_of-self : goal.invariant_of-self

@@ -1,4 +1,4 @@
-use Rattle.requests.proofs.Names.{◌<◌, ◌≤◌, length, refl, sym, subst, machine_of, Steps, Machine, installed_by}
+use Rattle.requests.proofs.Names.{◌<◌, ◌≤◌, length, refl, subst, machine_of, Steps, Machine, installed_by}
 use Rattle.requests.specs.declared.step.Step.TheVariants as op
 use Rattle.requests.proofs.Finished.{host_barred, host_full, host_installed, host_wants}
 use Rattle.requests.proofs.host.Host.install.Given.{Over}
@@ -19,8 +19,8 @@ done g c =
     let h : Machine = machine_of c.self.inside.settings c.self.inside.tables c.self.inside.handlers in
     let few : length (installed_by c.args.user h) < 64 = subst (λ n. n < 64) c.count.ensures c.if-count-ge-MOST_HANDLERS.false in
     elim c.match-install.branch [
-      | in-Ok-install w ↦ rw w.result-is (host_installed c.self.view_is c.requires c.self.invariant c.in-Ok.ensures.found c.args.handler few w.in-Ok-install.ensures.done)
-      | in-Err-install w ↦ rw w.result-is (host_wants c.self.view_is c.requires c.self.invariant c.in-Ok.ensures.found c.args.handler few w.in-Err-install.ensures.refused)
+      | in-Ok-install w ↦ rw w.result-is (host_installed c.self.view_is c.requires c.self.invariant c.in-Ok.ensures.found c.args.handler {xs = c.install.new.self} few w.in-Ok-install.ensures.done)
+      | in-Err-install w ↦ rw w.result-is (host_wants c.self.view_is c.requires c.self.invariant c.in-Ok.ensures.found c.args.handler {xs = c.install.new.self} few w.in-Err-install.ensures.refused)
     ]
 
 pub invariant_of-self : goal.invariant_of-self

@@ -13,7 +13,7 @@ ptrace-reply-requires g c = record { sound = rows_sound (machine_of c.self.insid
 
 done : (g : Over) (c : goal.After-drop_ended g) → Steps c.args.user (op.Ptrace c.args.caller c.args.request c.args.target c.args.data) (machine_of c.self.inside.settings c.self.inside.tables c.self.inside.handlers)
     (machine_of c.self.inside.settings c.ptrace-reply.new.tables c.drop_ended.new.self) c.ptrace-reply.result
-done g c = host_called c.self.view_is c.requires c.self.invariant c.in-Ok.ensures.found refl refl refl c.drop_ended.ensures
+done g c = host_called c.self.view_is c.requires c.self.invariant c.in-Ok.ensures.found refl refl refl {rows = c.ptrace-reply.new.tables.rows} {left = c.drop_ended.new.self} {r = c.ptrace-reply.result} c.drop_ended.ensures
     (record { machine = c.ptrace-reply.ensures.machine; memory = c.ptrace-reply.ensures.memory })
 
 pub invariant_of-self : goal.invariant_of-self

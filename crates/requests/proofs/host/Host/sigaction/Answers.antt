@@ -12,7 +12,7 @@ sigaction-reply-requires g c = record { caller = (host_caller c.self.view_is c.r
 
 done : (g : Over) (c : goal.After-drop_ended g) → Steps c.args.user (op.Sigaction c.args.caller c.args.sig c.args.disposition) (machine_of c.self.inside.settings c.self.inside.tables c.self.inside.handlers)
     (machine_of c.self.inside.settings c.sigaction-reply.new.tables c.drop_ended.new.self) c.sigaction-reply.result
-done g c = host_rows c.self.view_is c.requires c.self.invariant c.in-Ok.ensures.found refl refl refl c.drop_ended.ensures
+done g c = host_rows c.self.view_is c.requires c.self.invariant c.in-Ok.ensures.found refl refl refl {rows = c.sigaction-reply.new.tables.rows} {left = c.drop_ended.new.self} {r = c.sigaction-reply.result} c.drop_ended.ensures
     c.sigaction-reply.ensures.rows c.sigaction-reply.ensures.reply
 
 pub invariant_of-self : goal.invariant_of-self

@@ -12,7 +12,7 @@ done : (g : Over) (c : goal.After-drop_ended g) → Steps c.args.user (op.Turn c
     (machine_of c.self.inside.settings c.turn-reply.new.tables c.drop_ended.new.self) c.turn-reply.result
 done g c =
     let h = machine_of c.self.inside.settings c.self.inside.tables c.self.inside.handlers in
-    finished_with c.args.user (op.Turn c.args.tid c.args.act) h c.requires c.self.invariant c.exit_fits.ensures (turn h.settings c.args.user c.args.tid c.args.act h.rows) _ _ _ c.drop_ended.ensures refl
+    finished_with c.args.user (op.Turn c.args.tid c.args.act) h c.requires c.self.invariant c.exit_fits.ensures (turn h.settings c.args.user c.args.tid c.args.act h.rows) c.turn-reply.new.tables.rows c.drop_ended.new.self c.turn-reply.result c.drop_ended.ensures refl
     (record { machine = c.turn-reply.ensures.machine; memory = c.turn-reply.ensures.memory })
 
 pub invariant_of-self : goal.invariant_of-self

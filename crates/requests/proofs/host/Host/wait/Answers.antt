@@ -16,7 +16,7 @@ done : (g : Over) (c : goal.After-drop_ended g) → Steps c.args.user (op.Wait4 
 done g c =
     let h = machine_of c.self.inside.settings c.self.inside.tables c.self.inside.handlers in
     let back = to_z-of_z w64 c.args.which c.ranges.which in
-    host_rows c.self.view_is c.requires c.self.invariant c.in-Ok.ensures.found refl refl refl c.drop_ended.ensures
+    host_rows c.self.view_is c.requires c.self.invariant c.in-Ok.ensures.found refl refl refl {rows = c.wait-reply.new.tables.rows} {left = c.drop_ended.new.self} {r = c.wait-reply.result} c.drop_ended.ensures
     (c.wait-reply.ensures.rows ∙ ap (λ w. (wait c.in-Ok.caller w c.args.options h.rows).rows) back) (c.wait-reply.ensures.reply ∙ ap (λ w. (wait c.in-Ok.caller w c.args.options h.rows).reply) back)
 
 pub invariant_of-self : goal.invariant_of-self
