@@ -1,4 +1,4 @@
-use Rattle.requests.proofs.Names.{refl, ap, ◌∙◌, w64, to_z-of_z, machine_of, Steps, wait}
+use Rattle.requests.proofs.Names.{refl, w64, to_z-of_z, machine_of, Steps, wait, subst, ◌≡◌}
 use Rattle.requests.specs.declared.step.Step.TheVariants as op
 use Rattle.requests.proofs.After.{rows_sound}
 use Rattle.requests.proofs.Finished.{host_barred, host_rows}
@@ -17,7 +17,8 @@ done g c =
     let h = machine_of c.self.inside.settings c.self.inside.tables c.self.inside.handlers in
     let back = to_z-of_z w64 c.args.which c.ranges.which in
     host_rows c.self.view_is c.requires c.self.invariant c.in-Ok.ensures.found refl refl refl {rows = c.wait-reply.new.tables.rows} {left = c.drop_ended.new.self} {r = c.wait-reply.result} c.drop_ended.ensures
-    (c.wait-reply.ensures.rows ∙ ap (λ w. (wait c.in-Ok.caller w c.args.options h.rows).rows) back) (c.wait-reply.ensures.reply ∙ ap (λ w. (wait c.in-Ok.caller w c.args.options h.rows).reply) back)
+    (subst (λ w. c.wait-reply.new.tables.rows ≡ (wait c.in-Ok.caller w c.args.options h.rows).rows) back c.wait-reply.ensures.rows)
+    (subst (λ w. c.wait-reply.result ≡ (wait c.in-Ok.caller w c.args.options h.rows).reply) back c.wait-reply.ensures.reply)
 
 pub invariant_of-self : goal.invariant_of-self
 invariant_of-self g c = (done g c).sound
