@@ -13,7 +13,7 @@ pub use Rattle.std.proofs.lemmas.Int.{to_z-of_z}
 pub use Rattle.std.proofs.lemmas.List.{append_assoc, get_or-set_same, length-map, set-get_or, take_all}
 pub use Rattle.pid_blocks.specs.Blocks.{first_free, next_free, pid_block, pid_owner, rising, slot, tid_block, tid_owner, users}
 pub use Rattle.pid_blocks.specs.Users.{IsUser}
-pub use Rattle.pid_blocks.specs.declared.Errno.TheVariants.{EAGAIN, EBUSY, ECHILD, EINVAL, ESRCH}
+pub use Rattle.pid_blocks.specs.declared.Errno.TheVariants.{EAGAIN, EBUSY, ECHILD, EINVAL, EPERM, ESRCH}
 pub use Rattle.signals.specs.Laws.{IsLowest, IsSignal}
 pub use Rattle.signals.specs.Sets.{bit, has, lowest, set_of, without}
 pub use Rattle.signals.specs.Table.{SIGCHLD, SIGKILL, SIGSTOP, SIGTRAP, after_exec, default_action, disposition_of, is_signal, maskable, may_have, set_disposition, unmaskable_set}

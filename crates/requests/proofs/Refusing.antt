@@ -3,10 +3,10 @@ use Rattle.requests.proofs.Names.{◌≡◌, ℕ, ℤ, Bool, true, false, ◌==�
 use Rattle.requests.proofs.Names.{ESRCH, ECHILD, EBUSY, EINVAL, EAGAIN, Call, disposition_of, default_action, is_signal, Action, Disposition, LwpData, Mode, User, InCall, VforkWait, lwp_of, ProcData}
 use Rattle.requests.proofs.Names.{State, Run, Trace, Job, Zombie, process_of, is_live, is_run, Rows, seen_process, seen_lwp, Settings, Shown, LwpInfo, info, Rule, Options, StatusKind, Collected}
 use Rattle.requests.proofs.Names.{candidates, reportable, answer, without_report, Request, Act, PlainStep, Reply, Outcome, answers, refuses, stops_or, Numbers, room_for_process, room_for_lwp, in_mode}
-use Rattle.requests.proofs.Names.{exit_stop, with_child, exec_rows, forks, makes_lwp, exits_lwp, leaves, waits, due_stop, next_signal, takes_by_default, takes_untraced, takes, acts, signal_or_act}
-use Rattle.requests.proofs.Names.{due_or_more, turn_by, turn_seen, turn, trace_me, attach, shows_info, does, commands_stopped, commands, is_attach, about, target_of, is_trace_me, ptrace, is_which}
-use Rattle.requests.proofs.Names.{reach, reached, kill, spawn_with, spawn, list, is_refused, sigaction, collect_reply, wait, install, handles_stop, handles_status, handles, Machine, installed_by}
-use Rattle.requests.proofs.Names.{After, after, is_refusal, is_memory, sound, calls, checked, step, step_of, subst}
+use Rattle.requests.proofs.Names.{exit_stop, with_child, exec_rows, forks, makes_lwp, leaves, waits, due_stop, next_signal, takes_by_default, takes_untraced, takes, acts, signal_or_act, due_or_more}
+use Rattle.requests.proofs.Names.{turn_by, turn_seen, turn, trace_me, attach, shows_info, does, commands_stopped, commands, is_attach, about, target_of, is_trace_me, ptrace, is_which, reach, reached}
+use Rattle.requests.proofs.Names.{kill, spawn_with, spawn, list, is_refused, sigaction, collect_reply, wait, install, handles_stop, handles_status, handles, Machine, installed_by, After, after}
+use Rattle.requests.proofs.Names.{is_refusal, is_memory, sound, calls, checked, step, step_of, subst, add_lwp, born, due_at_birth, traces, told_stop, bad_argument, EPERM}
 use Rattle.event_masks.specs.declared.Call.TheVariants as call
 use Rattle.signals.specs.declared.Action.TheVariants as action
 use Rattle.signals.specs.declared.Disposition.TheVariants as disposition
@@ -45,25 +45,23 @@ stop_or : (rows now : Rows) (o : Option Shown) (r : Reply) (p : ProcData) (l : L
 stop_or rows now None r p l good plenty = done rows now r good plenty
 stop_or rows now (Some shown) r p l good plenty = done rows _ _ refl refl
 
+by_option : {X : Type 0} (o : Option X) (R : Option X → Type 0) → R None → ((x : X) → R (Some x)) → R o
+by_option None R none some = none
+by_option (Some x) R none some = some x
+
 -- The turn of an LWP
 
 forks_fair : (c : Call) (mode : ℕ → Mode) (p : ProcData) (l : LwpData) (rows : Rows) (o : Option Numbers) → Fair rows (forks c mode p l rows o)
 forks_fair c mode p l rows None = left rows (reply.Errno EAGAIN) refl
 forks_fair c mode p l rows (Some new) = stop_or rows (in_mode (mode new.pid) l.tid (with_child c p l new rows)) (exit_stop p c new.pid) (reply.New new.pid new.tid) p l refl refl
 
-makes_fair : (p : ProcData) (l : LwpData) (rows : Rows) (o : Option ℕ) → Fair rows (makes_lwp p l rows o)
-makes_fair p l rows None = left rows (reply.Errno EAGAIN) refl
-makes_fair p l rows (Some tid) = search (rules, stop_or)
-
-exits_fair : (settings : Settings) (p : ProcData) (l : LwpData) (rows : Rows) → Fair rows (exits_lwp settings p l rows)
-exits_fair settings p l rows = search (rules, choose, done, is_some)
-
 leaves_fair : (settings : Settings) (c : Call) (p : ProcData) (l : LwpData) (rows : Rows) → Fair rows (leaves settings c p l rows)
 leaves_fair settings call.Fork p l rows = forks_fair call.Fork (λ child. User) p l rows (room_for_process p.uid rows)
 leaves_fair settings call.Vfork p l rows = forks_fair call.Vfork (λ child. VforkWait child) p l rows (room_for_process p.uid rows)
 leaves_fair settings call.Exec p l rows = stop_or rows (exec_rows p l rows) (exit_stop p call.Exec 0) reply.Done p l refl refl
-leaves_fair settings call.ThrNew p l rows = makes_fair p l rows (room_for_lwp p.uid rows)
-leaves_fair settings call.ThrExit p l rows = exits_fair settings p l rows
+leaves_fair settings call.ThrNew p l rows = by_option (room_for_lwp p.uid rows) (λ o. Fair rows (makes_lwp p l rows o)) (left rows (reply.Errno EAGAIN) refl)
+    (λ tid. stop_or rows (in_mode User l.tid (add_lwp p.uid (born tid p.pid l.blocked (due_at_birth p)) rows)) (exit_stop p call.ThrNew 0) (reply.New p.pid tid) p l refl refl)
+leaves_fair settings call.ThrExit p l rows = search (rules, choose, done, is_some)
 leaves_fair settings (call.Exit status) p l rows = done rows _ _ refl refl
 leaves_fair settings (call.Other code) p l rows = stop_or rows (in_mode User l.tid rows) (exit_stop p (call.Other code) 0) reply.Done p l refl refl
 
@@ -101,24 +99,14 @@ acts_fair settings (act.Block set) (VforkWait n) p l rows = left rows (reply.Err
 acts_fair settings (act.Enter k) (VforkWait n) p l rows = left rows (reply.Errno EINVAL) refl
 acts_fair settings act.Leave (VforkWait n) p l rows = left rows (reply.Errno EINVAL) refl
 
-signal_fair : (settings : Settings) (a : Act) (p : ProcData) (l : LwpData) (rows : Rows) (o : Option ℕ) → Fair rows (signal_or_act settings a p l rows o)
-signal_fair settings a p l rows (Some s) = takes_fair settings s p l rows _
-signal_fair settings a p l rows None = acts_fair settings a l.mode p l rows
-
-due_fair : (settings : Settings) (a : Act) (p : ProcData) (l : LwpData) (rows : Rows) (o : Option Shown) → Fair rows (due_or_more settings a p l rows o)
-due_fair settings a p l rows (Some shown) = done rows _ _ refl refl
-due_fair settings a p l rows None = signal_fair settings a p l rows (next_signal p l)
-
-turn_by_fair : (settings : Settings) (a : Act) (l : LwpData) (rows : Rows) (o : Option ProcData) → Fair rows (turn_by settings a l rows o)
-turn_by_fair settings a l rows None = left rows (reply.Errno ESRCH) refl
-turn_by_fair settings a l rows (Some p) = choose (not (is_run p) || l.suspended || waits l.mode) _ _ (Fair rows) (left rows reply.Held refl) (due_fair settings a p l rows (due_stop l.due))
-
-turn_seen_fair : (settings : Settings) (a : Act) (rows : Rows) (o : Option LwpData) → Fair rows (turn_seen settings a rows o)
-turn_seen_fair settings a rows None = left rows (reply.Errno ESRCH) refl
-turn_seen_fair settings a rows (Some l) = turn_by_fair settings a l rows (process_of l.pid rows.processes)
-
 turn_fair : (settings : Settings) (u tid : ℕ) (a : Act) (rows : Rows) → Fair rows (turn settings u tid a rows)
-turn_fair settings u tid a rows = turn_seen_fair settings a rows (seen_lwp u tid rows)
+turn_fair settings u tid a rows =
+    by_option (seen_lwp u tid rows) (λ o. Fair rows (turn_seen settings a rows o)) (left rows (reply.Errno ESRCH) refl) (λ l.
+    by_option (process_of l.pid rows.processes) (λ o. Fair rows (turn_by settings a l rows o)) (left rows (reply.Errno ESRCH) refl) (λ p.
+    choose (not (is_run p) || l.suspended || waits l.mode) _ _ (Fair rows) (left rows reply.Held refl)
+    (by_option (due_stop l.due) (λ o. Fair rows (due_or_more settings a p l rows o))
+    (by_option (next_signal p l) (λ o. Fair rows (signal_or_act settings a p l rows o)) (acts_fair settings a l.mode p l rows) (λ s. takes_fair settings s p l rows _))
+    (λ shown. done rows _ _ refl refl))))
 
 -- The requests of a debugger
 
@@ -127,10 +115,6 @@ trace_me_fair p rows = search (rules, choose, is_some, left, done)
 
 attach_fair : (caller p : ProcData) (rows : Rows) → Fair rows (attach caller p rows)
 attach_fair caller p rows = search (rules, choose, left, is_some, done)
-
-info_fair : (o : Option LwpInfo) (rows : Rows) → Fair rows (shows_info o rows)
-info_fair None rows = left rows (reply.Errno ESRCH) refl
-info_fair (Some i) rows = left rows (reply.Info i) refl
 
 does_fair : (settings : Settings) (r : Request) («data» tid : ℕ) (p : ProcData) (rows : Rows) → Fair rows (does settings r «data» tid p rows)
 does_fair settings request.TraceMe «data» tid p rows = left rows (reply.Errno EINVAL) refl
@@ -143,7 +127,7 @@ does_fair settings request.Detach «data» tid p rows = done rows _ _ refl refl
 does_fair settings request.Kill «data» tid p rows = done rows _ _ refl refl
 does_fair settings request.SetEventMask «data» tid p rows = done rows _ _ refl refl
 does_fair settings request.GetEventMask «data» tid p rows = done rows _ _ refl refl
-does_fair settings request.LwpInfo «data» tid p rows = info_fair (info p tid rows) rows
+does_fair settings request.LwpInfo «data» tid p rows = by_option (info p tid rows) (λ o. Fair rows (shows_info o rows)) (left rows (reply.Errno ESRCH) refl) (λ i. left rows (reply.Info i) refl)
 does_fair settings request.GetNumLwps «data» tid p rows = done rows _ _ refl refl
 does_fair settings request.GetLwpList «data» tid p rows = left rows _ refl
 does_fair settings request.ToSce «data» tid p rows = done rows _ _ refl refl
@@ -152,29 +136,23 @@ does_fair settings request.Syscall «data» tid p rows = done rows _ _ refl refl
 does_fair settings request.FollowFork «data» tid p rows = done rows _ _ refl refl
 does_fair settings request.LwpEvents «data» tid p rows = done rows _ _ refl refl
 
-stopped_fair : (settings : Settings) (r : Request) (target «data» : ℕ) (p : ProcData) (rows : Rows) (o : Option ℕ) → Fair rows (commands_stopped settings r target «data» p rows o)
-stopped_fair settings r target «data» p rows None = left rows (reply.Errno EBUSY) refl
-stopped_fair settings r target «data» p rows (Some tid) = search (rules, choose, left, does_fair)
-
 commands_fair : (settings : Settings) (caller : ProcData) (r : Request) (target «data» : ℕ) (p : ProcData) (rows : Rows) → Fair rows (commands settings caller r target «data» p rows)
-commands_fair settings caller r target «data» p rows = search (rules, choose, is_some, left, stopped_fair)
-
-about_fair : (settings : Settings) (caller : ProcData) (r : Request) (target «data» : ℕ) (o : Option ProcData) (rows : Rows) → Fair rows (about settings caller r target «data» o rows)
-about_fair settings caller r target «data» None rows = left rows (reply.Errno ESRCH) refl
-about_fair settings caller r target «data» (Some p) rows = choose (not (is_live p)) _ _ (Fair rows) (left rows (reply.Errno ESRCH) refl)
-    (choose (is_attach r) _ _ (Fair rows) (attach_fair caller p rows) (commands_fair settings caller r target «data» p rows))
+commands_fair settings caller r target «data» p rows =
+    choose (not (is_some p.tracer)) _ _ (Fair rows) (left rows (reply.Errno EPERM) refl)
+    (choose (not (traces caller.pid p)) _ _ (Fair rows) (left rows (reply.Errno EBUSY) refl)
+    (by_option (told_stop p.state) (λ o. Fair rows (commands_stopped settings r target «data» p rows o)) (left rows (reply.Errno EBUSY) refl) (λ tid.
+    choose (bad_argument r «data») _ _ (Fair rows) (left rows (reply.Errno EINVAL) refl) (does_fair settings r «data» (if leb target 99999 then tid else target) p rows))))
 
 ptrace_fair : (settings : Settings) (u : ℕ) (caller : ProcData) (r : Request) (target «data» : ℕ) (rows : Rows) → Fair rows (ptrace settings u caller r target «data» rows)
-ptrace_fair settings u caller r target «data» rows = choose (is_trace_me r) _ _ (Fair rows) (trace_me_fair caller rows) (about_fair settings caller r target «data» (target_of u target rows) rows)
+ptrace_fair settings u caller r target «data» rows = choose (is_trace_me r) _ _ (Fair rows) (trace_me_fair caller rows)
+    (by_option (target_of u target rows) (λ o. Fair rows (about settings caller r target «data» o rows)) (left rows (reply.Errno ESRCH) refl) (λ p.
+    choose (not (is_live p)) _ _ (Fair rows) (left rows (reply.Errno ESRCH) refl) (choose (is_attach r) _ _ (Fair rows) (attach_fair caller p rows) (commands_fair settings caller r target «data» p rows))))
 
 -- The other calls
 
 spawn_fair : (u : ℕ) (rows : Rows) (o : Option Numbers) → Fair rows (spawn_with u rows o)
 spawn_fair u rows None = left rows (reply.Errno EAGAIN) refl
 spawn_fair u rows (Some new) = done rows _ _ refl refl
-
-sigaction_fair : (p : ProcData) (s : ℕ) (d : Disposition) (rows : Rows) → Fair rows (sigaction p s d rows)
-sigaction_fair p s d rows = choose (is_refused s d) _ _ (Fair rows) (left rows (reply.Errno EINVAL) refl) (done rows _ _ refl refl)
 
 reached_fair : (settings : Settings) (s : ℕ) (ps : List ProcData) (rows : Rows) → Fair rows (reached settings s ps rows)
 reached_fair settings s [] rows = left rows (reply.Errno ESRCH) refl
@@ -183,26 +161,20 @@ reached_fair settings s (p ∷ ps) rows = done rows _ _ refl refl
 kill_fair : (settings : Settings) (u caller : ℕ) (which : ℤ) (s : ℕ) (rows : Rows) → Fair rows (kill settings u caller which s rows)
 kill_fair settings u caller which s rows = choose (not (leb s 31) || not (is_which which)) _ _ (Fair rows) (left rows (reply.Errno EINVAL) refl) (reached_fair settings s (reach u caller which rows) rows)
 
-found_fair : (caller : ℕ) (p : ProcData) (ps : List ProcData) (rows : Rows) (o : Option ProcData) → Fair rows (answers (collect_reply (answer (p ∷ ps) o)) (without_report caller o rows))
-found_fair caller p ps rows None = left rows reply.Nothing refl
-found_fair caller p ps rows (Some q) = done rows _ _ refl refl
-
 -- who has no child gets ECHILD, and nothing is collected
 collect_fair : (caller : ℕ) (options : Options) (rows : Rows) (ps : List ProcData)
     → Fair rows (answers (collect_reply (answer ps (find (reportable options caller) ps))) (without_report caller (find (reportable options caller) ps) rows))
 collect_fair caller options rows [] = left rows (reply.Errno ECHILD) refl
-collect_fair caller options rows (p ∷ ps) = found_fair caller p ps rows (find (reportable options caller) (p ∷ ps))
+collect_fair caller options rows (p ∷ ps) = by_option (find (reportable options caller) (p ∷ ps)) (λ o. Fair rows (answers (collect_reply (answer (p ∷ ps) o)) (without_report caller o rows)))
+    (left rows reply.Nothing refl) (λ q. done rows _ _ refl refl)
 
 wait_fair : (p : ProcData) (which : ℤ) (options : Options) (rows : Rows) → Fair rows (wait p which options rows)
 wait_fair p which options rows = choose (not (is_which which)) _ _ (Fair rows) (left rows (reply.Errno EINVAL) refl) (collect_fair p.pid options rows (candidates p.pid which rows))
 
-handles_stop_fair : (settings : Settings) (policies : List (List Rule)) (p : ProcData) (tid sig : ℕ) (status : StatusKind) (rows now : Rows) (o : Option LwpData) → Fair rows (handles_stop settings policies p tid sig status now o)
-handles_stop_fair settings policies p tid sig status rows now None = done rows _ _ refl refl
-handles_stop_fair settings policies p tid sig status rows now (Some l) = done rows _ _ refl refl
-
 handles_status_fair : (settings : Settings) (policies : List (List Rule)) (status : StatusKind) (p : ProcData) (rows now : Rows) (state : State) → Fair rows (handles_status settings policies status p now state)
 handles_status_fair settings policies status p rows now Run = done rows _ _ refl refl
-handles_status_fair settings policies status p rows now (Trace tid sig told) = handles_stop_fair settings policies p tid sig status rows now (lwp_of tid now.lwps)
+handles_status_fair settings policies status p rows now (Trace tid sig told) = by_option (lwp_of tid now.lwps) (λ o. Fair rows (handles_stop settings policies p tid sig status now o))
+    (done rows _ _ refl refl) (λ l. done rows _ _ refl refl)
 handles_status_fair settings policies status p rows now (Job sig told) = done rows _ _ refl refl
 handles_status_fair settings policies status p rows now (Zombie word) = done rows _ _ refl refl
 
@@ -231,7 +203,7 @@ install_fair u p policy m = choose (leb 64 (length (installed_by u m))) _ _ (Fai
 calls_fair : (u : ℕ) (s : PlainStep) (p : ProcData) (m : Machine) → FairStep m (calls u s p m)
 calls_fair u op.Spawn p m = hosted m (spawn u m.rows) (spawn_fair u m.rows (room_for_process u m.rows))
 calls_fair u (op.List caller) p m = hosted m (list u m.rows) (left m.rows _ refl)
-calls_fair u (op.Sigaction caller s d) p m = hosted m (sigaction p s d m.rows) (sigaction_fair p s d m.rows)
+calls_fair u (op.Sigaction caller s d) p m = hosted m (sigaction p s d m.rows) (choose (is_refused s d) _ _ (Fair m.rows) (left m.rows (reply.Errno EINVAL) refl) (done m.rows _ _ refl refl))
 calls_fair u (op.Kill caller which s) p m = hosted m (kill m.settings u p.pid which s m.rows) (kill_fair m.settings u p.pid which s m.rows)
 calls_fair u (op.Wait4 caller which options) p m = hosted m (wait p which options m.rows) (wait_fair p which options m.rows)
 calls_fair u (op.Install caller policy) p m = install_fair u p policy m
