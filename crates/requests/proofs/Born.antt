@@ -1,10 +1,8 @@
 -- The empty host is sound, and spawning keeps a host sound.
 use Rattle.requests.proofs.Names.{nat_tests, ◌≡◌, ℕ, true, Option, Some, None, IfSome, refl, sym, arith, subst, IsUser, pid_block, tid_block, born, spawned, Rows, Settings, FitProcess, FitLwp}
-use Rattle.requests.proofs.Names.{IsSound, both, sound_rows-from, Numbers, room_for_process, spawn, spawn_with, Machine, empty, no_rows, sound, step}
+use Rattle.requests.proofs.Names.{IsSound, both, sound_rows-from, Numbers, room_for_process, spawn, spawn_with, Machine, empty, no_rows, sound, step, Due, Step}
 use Rattle.pid_blocks.specs.Blocks.{InBlock}
-use Rattle.lwp_table.specs.declared.Due.TheVariants as due
 use Rattle.trace_stop.proofs.Born.{born_sound}
-use Rattle.requests.specs.declared.step.Step.TheVariants as op
 use Rattle.requests.proofs.Room.{ProcessRoom, process_room}
 use Rattle.requests.proofs.After.{rows_sound, after_sound}
 use Rattle.requests.proofs.ViewLaws.{at_slot}
@@ -35,12 +33,12 @@ empty_sound settings = both _ _ (sound_rows-from no_rows no_rows_sound) refl
 spawned_fits : (pid u : ℕ) → FitProcess (spawned pid u)
 spawned_fits pid u = grind (arith, nat_tests)
 
-born_fits : (tid pid u : ℕ) → FitLwp (spawned pid u) (born tid pid 0 due.Nothing)
+born_fits : (tid pid u : ℕ) → FitLwp (spawned pid u) (born tid pid 0 Due.Nothing)
 born_fits tid pid u = grind (arith, nat_tests)
 
 spawned_sound : (u : ℕ) (rows : Rows) → IsUser u → IsSound rows → (o : Option Numbers) → IfSome o (ProcessRoom u rows) → IsSound (spawn_with u rows o).rows
 spawned_sound u rows user s None room = s
-spawned_sound u rows user s (Some new) room = born_sound rows (spawned new.pid u) (born new.tid new.pid 0 due.Nothing) s (record {
+spawned_sound u rows user s (Some new) room = born_sound rows (spawned new.pid u) (born new.tid new.pid 0 Due.Nothing) s (record {
   home = record { user = user; block = room.pid };
   free = room.free;
   tid = room.lwp.tid;
@@ -62,5 +60,5 @@ pub spawn_rows : (u : ℕ) (rows : Rows) → IsUser u → IsSound rows → IsSou
 spawn_rows u rows user s = spawned_sound u rows user s (room_for_process u rows) (process_room u rows (s.stands.pid_cursors u user) (s.stands.tid_cursors u user))
 
 -- a spawn keeps a host sound
-pub spawn_sound : (m : Machine) (u : ℕ) → IsUser u → sound m ≡ true → sound (step u op.Spawn m).machine ≡ true
+pub spawn_sound : (m : Machine) (u : ℕ) → IsUser u → sound m ≡ true → sound (step u Step.Spawn m).machine ≡ true
 spawn_sound m u user is = after_sound m (spawn u m.rows) is (spawn_rows u m.rows user (rows_sound m is))

@@ -1,10 +1,9 @@
 -- Which dispositions a process may have, and its row with others.
 use Rattle.requests.proofs.Names.{◌≡◌, ℕ, Some, None, is_some, Bool, true, false, ◌==◌, not, ◌||◌, if◌then◌else◌, [], ◌∷◌, refl, sym, ap, ◌∙◌, arith, inl, inr, rules, cases_Bool, le-leb, set_of, has}
 use Rattle.requests.proofs.Names.{unmaskable_set, may_have, set_disposition, IsSignal, Disposition, ProcData, process_of, Rows, Rise, IsRow, set_process, found_row, process-set, change_process-at}
-use Rattle.requests.proofs.Names.{settle, some_is, is_refused, sigaction}
+use Rattle.requests.proofs.Names.{settle, some_is, is_refused, sigaction, Reply}
 use Rattle.signals.proofs.Members.{members_after}
 use Rattle.signals.specs.Dispositions.{Actions}
-use Rattle.requests.specs.declared.Reply.TheVariants as reply
 
 unmaskable : (s : ℕ) → IsSignal s → has unmaskable_set s ≡ ((s == 9) || (s == 17))
 unmaskable s is =
@@ -29,7 +28,7 @@ module _ (rows rows1 : Rows) (p new : ProcData) (at : process_of p.pid rows.proc
   pub disposed_rows : (s : ℕ) (d : Disposition) (actions : Actions) (rows2 : Rows) → Rise rows.processes
       → Some actions ≡ (if is_refused s d then None else Some (set_disposition p.dispositions s d)) → new ≡ record p { dispositions = actions }
       → rows1 ≡ set_process new rows → rows2 ≡ settle p.pid rows1
-      → (rows2 ≡ (sigaction p s d rows).rows) × (reply.Done ≡ (sigaction p s d rows).reply)
+      → (rows2 ≡ (sigaction p s d rows).rows) × (Reply.Done ≡ (sigaction p s d rows).reply)
   disposed_rows s d actions rows2 rise taken its set settled = elim (cases_Bool (is_refused s d)) [
     | inl e ↦ absurd (let none : Some actions ≡ None = rw e at taken in cc)
     | inr e ↦

@@ -4,7 +4,6 @@ use Rattle.requests.proofs.Names.{ltb-true, EventMask, Call, PTRACE_EXEC, PTRACE
 use Rattle.requests.proofs.Names.{asks, shows, stop_where, event_or_exit, entry_flags, exit_flags, ProcData, Shown, is_end, FitProcess, or_left, choose, zero_apart, trap, exit_stop}
 use Rattle.std.proofs.Common.{option_map}
 use Rattle.event_masks.specs.declared.StopFlags.{StopFlags}
-use Rattle.event_masks.specs.declared.Call.TheVariants as call
 use Rattle.event_masks.specs.Exits.{both}
 use Rattle.requests.proofs.Acting.{traced_where, MayMake}
 
@@ -36,20 +35,20 @@ module _ (p : ProcData) (fit : FitProcess p) where
   exits_may : (c : Call) (child : ℕ) → IfSome (exit_flags p.mask c) (MayShow p) → IfSome (exit_stop p c child) (MayMake p)
   exits_may c child may = made_may (exit_flags p.mask c) (λ flags. trap flags (if shows flags PL_FLAG_FORKED then child else 0) c) (λ flags. refl) may
 
-  pub fork_may : (child : ℕ) → IfSome (exit_stop p call.Fork child) (MayMake p)
-  fork_may child = exits_may call.Fork child (either_may PTRACE_FORK PL_FLAG_FORKED refl refl)
+  pub fork_may : (child : ℕ) → IfSome (exit_stop p Call.Fork child) (MayMake p)
+  fork_may child = exits_may Call.Fork child (either_may PTRACE_FORK PL_FLAG_FORKED refl refl)
 
-  pub vfork_may : (child : ℕ) → IfSome (exit_stop p call.Vfork child) (MayMake p)
-  vfork_may child = exits_may call.Vfork child (either_may PTRACE_FORK (both PL_FLAG_FORKED PL_FLAG_VFORKED) refl refl)
+  pub vfork_may : (child : ℕ) → IfSome (exit_stop p Call.Vfork child) (MayMake p)
+  vfork_may child = exits_may Call.Vfork child (either_may PTRACE_FORK (both PL_FLAG_FORKED PL_FLAG_VFORKED) refl refl)
 
-  pub exec_may : IfSome (exit_stop p call.Exec 0) (MayMake p)
-  exec_may = exits_may call.Exec 0 (either_may PTRACE_EXEC PL_FLAG_EXEC refl refl)
+  pub exec_may : IfSome (exit_stop p Call.Exec 0) (MayMake p)
+  exec_may = exits_may Call.Exec 0 (either_may PTRACE_EXEC PL_FLAG_EXEC refl refl)
 
-  pub thr_new_may : IfSome (exit_stop p call.ThrNew 0) (MayMake p)
-  thr_new_may = exits_may call.ThrNew 0 (where_may PTRACE_SCX PL_FLAG_SCX refl refl)
+  pub thr_new_may : IfSome (exit_stop p Call.ThrNew 0) (MayMake p)
+  thr_new_may = exits_may Call.ThrNew 0 (where_may PTRACE_SCX PL_FLAG_SCX refl refl)
 
-  pub other_may : (code : ℕ) → IfSome (exit_stop p (call.Other code) 0) (MayMake p)
-  other_may code = exits_may (call.Other code) 0 (where_may PTRACE_SCX PL_FLAG_SCX refl refl)
+  pub other_may : (code : ℕ) → IfSome (exit_stop p (Call.Other code) 0) (MayMake p)
+  other_may code = exits_may (Call.Other code) 0 (where_may PTRACE_SCX PL_FLAG_SCX refl refl)
 
 -- the same of a row with the same tracer
 pub same_may : (p q : ProcData) → q.tracer ≡ p.tracer → (o : Option Shown) → IfSome o (MayMake p) → IfSome o (MayMake q)

@@ -1,10 +1,7 @@
 -- The clauses of a step, from what was done to the rows and what was answered.
 use Rattle.requests.proofs.Names.{◌≡◌, ◌≢◌, ℕ, Some, List, [], set, true, false, refl, sym, ap, ◌∙◌, subst, inl, inr, set-get_or, IsUser, slot, Rows, PlainStep, Reply, Outcome, answers, Installed}
 use Rattle.requests.proofs.Names.{Machine, after, takes_memory, is_refusal, may_want, step_fits, sound, Steps, ProcData, step, calls, caller_of, Rule, length, installed_by, le-leb, not, ◌<◌, ◌≤◌}
-use Rattle.requests.proofs.Names.{◌++◌, ◌∷◌}
-use Rattle.pid_blocks.specs.declared.Errno.TheVariants as errno
-use Rattle.requests.specs.declared.Reply.TheVariants as reply
-use Rattle.requests.specs.declared.step.Step.TheVariants as op
+use Rattle.requests.proofs.Names.{◌++◌, ◌∷◌, Errno, Step}
 use Rattle.requests.specs.Callers.{IsCaller, Calls, Barred}
 use Rattle.requests.proofs.After.{all_left, answers_same, rows_sound}
 use Rattle.requests.proofs.Called.{called, is_caller}
@@ -16,11 +13,11 @@ use Rattle.requests.proofs.StaysSound.{sound_kept}
 
 -- rows and reply of an outcome, or want of memory and the rows as they were
 pub record Did (u : ℕ) (s : PlainStep) (m : Machine) (o : Outcome) (rows : Rows) (r : Reply) : Type 0 where
-  pub machine : r ≢ reply.Errno errno.ENOMEM → (rows ≡ o.rows) × (r ≡ o.reply)
-  pub memory : r ≡ reply.Errno errno.ENOMEM → (rows ≡ m.rows) × (takes_memory u s m ≡ true) × (is_refusal o.reply ≡ false)
+  pub machine : r ≢ Reply.Errno Errno.ENOMEM → (rows ≡ o.rows) × (r ≡ o.reply)
+  pub memory : r ≡ Reply.Errno Errno.ENOMEM → (rows ≡ m.rows) × (takes_memory u s m ≡ true) × (is_refusal o.reply ≡ false)
 
 module _ (u : ℕ) (s : PlainStep) (m : Machine) (user : IsUser u) (is : sound m ≡ true) (fits : step_fits s ≡ true) where
-  pub from_machine : (n : Machine) (r : Reply) → (r ≢ reply.Errno errno.ENOMEM → (n ≡ (step u s m).machine) × (r ≡ (step u s m).reply)) → (r ≡ reply.Errno errno.ENOMEM → (n ≡ m) × (may_want u s m ≡ true)) → Steps u s m n r
+  pub from_machine : (n : Machine) (r : Reply) → (r ≢ Reply.Errno Errno.ENOMEM → (n ≡ (step u s m).machine) × (r ≡ (step u s m).reply)) → (r ≡ Reply.Errno Errno.ENOMEM → (n ≡ m) × (may_want u s m ≡ true)) → Steps u s m n r
   from_machine n r machine memory = record {
     machine = machine;
     memory = memory;
@@ -54,14 +51,14 @@ module _ (u : ℕ) (s : PlainStep) (m : Machine) (user : IsUser u) (is : sound m
   finished_rows o rows kept r keeps same changed answered = finished_with o rows kept r keeps same (record { machine = λ ok. (changed, answered); memory = λ e. absurd (never_memory u s m (ap (λ a. a.reply) same ∙ sym answered ∙ e)) })
 
   -- a refusal before anything was done
-  pub refuses_at : (r : Reply) → r ≢ reply.Errno errno.ENOMEM → step u s m ≡ after m (answers r m.rows) → Steps u s m m r
+  pub refuses_at : (r : Reply) → r ≢ Reply.Errno Errno.ENOMEM → step u s m ≡ after m (answers r m.rows) → Steps u s m m r
   refuses_at r plenty same = from_machine m r (λ ok. (sym (answers_same m r is) ∙ sym (ap (λ a. a.machine) same), sym (ap (λ a. a.reply) same))) (λ e. absurd (plenty e))
 
   pub barred : (n : ℕ) (r : Reply) → caller_of s ≡ Some n → Barred u n m r → Steps u s m m r
   barred n r by b = refuses_at r b.other (b.answer s by)
 
-  pub wants_at : may_want u s m ≡ true → Steps u s m m (reply.Errno errno.ENOMEM)
-  wants_at wants = from_machine m (reply.Errno errno.ENOMEM) (λ plenty. absurd (plenty refl)) (λ e. (refl, wants))
+  pub wants_at : may_want u s m ≡ true → Steps u s m m (Reply.Errno Errno.ENOMEM)
+  wants_at wants = from_machine m (Reply.Errno Errno.ENOMEM) (λ plenty. absurd (plenty refl)) (λ e. (refl, wants))
 
 -- what a caller's step does to the rows
 abbrev done_by : ℕ → PlainStep → ProcData → Machine → Outcome
@@ -84,19 +81,19 @@ module _ {u n : ℕ} {h m : Machine} (view : h ≡ m) (user : IsUser u) (kept : 
 
     -- an installation: there is no room for it, it is made, or memory is wanting
     module _ (policy : List Rule) where
-      pub host_full : 64 ≤ length (installed_by u m) → Steps u (op.Install n policy) m m (reply.Errno errno.EAGAIN)
-      host_full many = refuses_at u (op.Install n policy) m user (subst (λ x. sound x ≡ true) view kept) refl (reply.Errno errno.EAGAIN) (other (reply.Errno errno.EAGAIN) refl)
-          (called u n (op.Install n policy) m refl p found.seen found.live found.runs ∙ rw (le-leb 64 (length (installed_by u m)) many) refl)
+      pub host_full : 64 ≤ length (installed_by u m) → Steps u (Step.Install n policy) m m (Reply.Errno Errno.EAGAIN)
+      host_full many = refuses_at u (Step.Install n policy) m user (subst (λ x. sound x ≡ true) view kept) refl (Reply.Errno Errno.EAGAIN) (other (Reply.Errno Errno.EAGAIN) refl)
+          (called u n (Step.Install n policy) m refl p found.seen found.live found.runs ∙ rw (le-leb 64 (length (installed_by u m)) many) refl)
 
-      installs : length (installed_by u h) < 64 → step u (op.Install n policy) h ≡ installed_with u p.pid policy h
-      installs few = host_calls (op.Install n policy) refl ∙ rw (few_leb (length (installed_by u h)) few) refl
+      installs : length (installed_by u h) < 64 → step u (Step.Install n policy) h ≡ installed_with u p.pid policy h
+      installs few = host_calls (Step.Install n policy) refl ∙ rw (few_leb (length (installed_by u h)) few) refl
 
-      pub host_installed : {xs : List (List Installed)} → length (installed_by u h) < 64 → xs ≡ set h.installed (slot u) (installed_by u h ++ (record { debugger = p.pid; policy = policy } ∷ [])) → Steps u (op.Install n policy) h (record h { installed = xs }) reply.Done
-      host_installed {xs} few done = from_machine u (op.Install n policy) h user kept refl (record h { installed = xs }) reply.Done
-          (λ ok. (ap (λ ys. record h { installed = ys }) done ∙ sym (ap (λ a. a.machine) (installs few)), sym (ap (λ a. a.reply) (installs few)))) (λ e. absurd (other reply.Done refl e))
+      pub host_installed : {xs : List (List Installed)} → length (installed_by u h) < 64 → xs ≡ set h.installed (slot u) (installed_by u h ++ (record { debugger = p.pid; policy = policy } ∷ [])) → Steps u (Step.Install n policy) h (record h { installed = xs }) Reply.Done
+      host_installed {xs} few done = from_machine u (Step.Install n policy) h user kept refl (record h { installed = xs }) Reply.Done
+          (λ ok. (ap (λ ys. record h { installed = ys }) done ∙ sym (ap (λ a. a.machine) (installs few)), sym (ap (λ a. a.reply) (installs few)))) (λ e. absurd (other Reply.Done refl e))
 
-      pub host_wants : {xs : List (List Installed)} → length (installed_by u h) < 64 → xs ≡ h.installed → Steps u (op.Install n policy) h (record h { installed = xs }) (reply.Errno errno.ENOMEM)
-      host_wants few same = subst (λ xs. Steps u (op.Install n policy) h (record h { installed = xs }) (reply.Errno errno.ENOMEM)) (sym same) (wants_at u (op.Install n policy) h user kept refl (ap (λ a. not (is_refusal a.reply)) (installs few)))
+      pub host_wants : {xs : List (List Installed)} → length (installed_by u h) < 64 → xs ≡ h.installed → Steps u (Step.Install n policy) h (record h { installed = xs }) (Reply.Errno Errno.ENOMEM)
+      host_wants few same = subst (λ xs. Steps u (Step.Install n policy) h (record h { installed = xs }) (Reply.Errno Errno.ENOMEM)) (sym same) (wants_at u (Step.Install n policy) h user kept refl (ap (λ a. not (is_refusal a.reply)) (installs few)))
 
     module _ {s : PlainStep} (fits : step_fits s ≡ true) (by : caller_of s ≡ Some n) (same : calls u s p h ≡ after h (done_by u s p h)) {rows : Rows} {left : List (List Installed)} {r : Reply} (keeps : left ≡ set h.installed (slot u) (left_in rows u h)) where
       pub host_called : Did u s h (done_by u s p h) rows r → Steps u s h (record h { rows = rows; installed = left }) r

@@ -2,9 +2,8 @@
 use Rattle.requests.proofs.Names.{◌≡◌, ◌≢◌, ℕ, Bool, true, false, ◌==◌, ◌&&◌, if◌then◌else◌, List, [], ◌∷◌, ◌++◌, find, Some, None, IfSome, is_some, refl, sym, ap, ◌∙◌, true≢false, subst, eqb}
 use Rattle.requests.proofs.Names.{eqb-true, eq-eqb, rules, list_any, PTRACE_FORK, Call, asks, SIGCHLD, LwpData, born, lwp_of, ProcData, Trace, is_live, process_of, Rows, change_process, change_lwp}
 use Rattle.requests.proofs.Names.{add_process, add_lwp, unwanted, posted_process, posted_lwp, notified, tracer_of, tracers, stop, Shown, MayStop, IsLiveOf, IsLiveChild, FitProcess, IsSound, and_left}
-use Rattle.requests.proofs.Names.{by_bool, choose, find_edit, zero_apart, find_passes, sound_ready, stopped_sound, Numbers, forked, child_stop, with_child, changed_own}
+use Rattle.requests.proofs.Names.{by_bool, choose, find_edit, zero_apart, find_passes, sound_ready, stopped_sound, Numbers, forked, child_stop, with_child, changed_own, Due}
 use Rattle.std.specs.Option.{IsSomeAnd}
-use Rattle.lwp_table.specs.declared.Due.TheVariants as due
 use Rattle.trace_stop.proofs.Children.{child_test, child_passes}
 use Rattle.trace_stop.proofs.Placed.{process_of-other, process_of-placed}
 use Rattle.trace_stop.proofs.Born.{born_sound}
@@ -55,7 +54,7 @@ module _ (call : Call) (rows : Rows) (p : ProcData) (l : LwpData) (a : Acting ro
   child followed = forked followed p new.pid
 
   abbrev its_lwp : LwpData
-  its_lwp = born new.tid new.pid l.blocked due.Nothing
+  its_lwp = born new.tid new.pid l.blocked Due.Nothing
 
   abbrev made : Bool → Rows
   made followed = add_lwp p.uid its_lwp (add_process (child followed) rows)

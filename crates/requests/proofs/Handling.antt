@@ -2,8 +2,6 @@
 use Rattle.requests.proofs.Names.{◌≡◌, ℕ, negsuc, Bool, true, ◌==◌, List, Option, Some, None, is_some, refl, ap, subst, SIGKILL, LwpData, lwp_of, ProcData, State, Run, Trace, Job, Zombie, named_by}
 use Rattle.requests.proofs.Names.{process_of, Rows, Settings, resume, detach, FitProcess, IsSound, detach_sound, Rule, Decision, StatusKind, Collected, reported, rows_after, told, view_of, decided}
 use Rattle.requests.proofs.Names.{done, no_options, handles_stop, handles_status, handles, continues_with, every_found}
-use Rattle.stop_handlers.specs.declared.Decision.TheVariants as decision
-use Rattle.wait4.specs.declared.Collected.TheVariants as collected
 use Rattle.wait4.specs.Collect as wait
 use Rattle.requests.proofs.Handled.{row_left}
 use Rattle.requests.proofs.Masks.{Tracee, resumes_sound, continues_sound}
@@ -11,11 +9,11 @@ use Rattle.requests.proofs.Steps.{rows_after_sound, reported_row}
 
 -- what a decision does to a tracee
 decision_sound : (settings : Settings) (d : Decision) (p q : ProcData) (rows : Rows) → Tracee rows q → q.pid ≡ p.pid → IsSound (done settings d p rows)
-decision_sound settings decision.Decline p q rows t same = t.sound
-decision_sound settings decision.Leave p q rows t same = t.sound
-decision_sound settings (decision.Continue s) p q rows t same = subst (λ n. IsSound (continues_with settings (λ mask. mask) s (record p { pid = n }) rows).rows) same (continues_sound settings (λ mask. mask) s rows q t)
-decision_sound settings (decision.Detach s) p q rows t same = subst (λ n. IsSound (detach settings n s rows)) same (detach_sound settings rows q.pid q t.sound t.home t.live s)
-decision_sound settings decision.Kill p q rows t same = subst (λ n. IsSound (resume settings n SIGKILL rows)) same (resumes_sound rows q t settings SIGKILL)
+decision_sound settings Decision.Decline p q rows t same = t.sound
+decision_sound settings Decision.Leave p q rows t same = t.sound
+decision_sound settings (Decision.Continue s) p q rows t same = subst (λ n. IsSound (continues_with settings (λ mask. mask) s (record p { pid = n }) rows).rows) same (continues_sound settings (λ mask. mask) s rows q t)
+decision_sound settings (Decision.Detach s) p q rows t same = subst (λ n. IsSound (detach settings n s rows)) same (detach_sound settings rows q.pid q t.sound t.home t.live s)
+decision_sound settings Decision.Kill p q rows t same = subst (λ n. IsSound (resume settings n SIGKILL rows)) same (resumes_sound rows q t settings SIGKILL)
 
 module _ (settings : Settings) (caller : ℕ) (policies : List (List Rule)) (rows : Rows) (s : IsSound rows) where
   abbrev after : Rows
@@ -48,7 +46,7 @@ module _ (settings : Settings) (caller : ℕ) (policies : List (List Rule)) (row
   status_sound status p found (Zombie w) is = after_is_sound
 
   pub handles_sound : (o : Option ProcData) → reported caller (negsuc 0) no_options rows ≡ o → (c : Collected) → IsSound (handles settings policies rows after o c).rows
-  handles_sound o found collected.NoChild = s
-  handles_sound o found collected.Nothing = s
-  handles_sound None found (collected.Got pid status) = after_is_sound
-  handles_sound (Some p) found (collected.Got pid status) = status_sound status p found p.state refl
+  handles_sound o found Collected.NoChild = s
+  handles_sound o found Collected.Nothing = s
+  handles_sound None found (Collected.Got pid status) = after_is_sound
+  handles_sound (Some p) found (Collected.Got pid status) = status_sound status p found p.state refl

@@ -1,10 +1,8 @@
 -- Words that are written one after another, each behind what is to stand before it.
-use Rattle.requests.proofs.Names.{◌≡◌, ℕ, List, [], ◌∷◌, ◌++◌, map, codes, decimal, refl, sym, ap, ◌∙◌, append-nil, Option, join_with_byte, flat_map, append_assoc, Decision, StatusKind}
+use Rattle.requests.proofs.Names.{◌≡◌, ℕ, List, [], ◌∷◌, ◌++◌, map, codes, decimal, refl, sym, ap, ◌∙◌, append-nil, Option, join_with_byte, flat_map, append_assoc, Decision, StatusKind, Reply}
 use Rattle.requests.specs.Texts.{view_words}
 use Rattle.requests.specs.Words.{reply_words, decision_words, index_text, flags_word}
-use Rattle.requests.specs.declared.Reply.TheVariants as reply
 use Rattle.stop_handlers.specs.declared.StopView.{StopView}
-use Rattle.stop_handlers.specs.declared.Decision.TheVariants as decision
 use Rattle.wait4.specs.Status.{word}
 
 -- the numbers, each after a space
@@ -35,9 +33,9 @@ handled_list pid status view index d =
     (join_append 32 (decimal view.tid) ((codes "signal=" ++ decimal view.sig) ∷ flags_word view.flags ∷ (codes "child=" ++ decimal view.child) ∷ (codes "code=" ++ decimal view.code) ∷ []) (codes "by") (index_text index ∷ d))
 
 pub handled_words : (pid : ℕ) (status : StatusKind) (view : StopView) (index : Option ℕ) (d : Decision)
-    → handled_front pid status view index (join_with_byte 32 (decision_words d)) ≡ join_with_byte 32 (reply_words (reply.Handled pid status view index d))
-handled_words pid status view index decision.Decline = handled_list pid status view index (decision_words decision.Decline)
-handled_words pid status view index decision.Leave = handled_list pid status view index (decision_words decision.Leave)
-handled_words pid status view index (decision.Continue n) = handled_list pid status view index (decision_words (decision.Continue n))
-handled_words pid status view index (decision.Detach n) = handled_list pid status view index (decision_words (decision.Detach n))
-handled_words pid status view index decision.Kill = handled_list pid status view index (decision_words decision.Kill)
+    → handled_front pid status view index (join_with_byte 32 (decision_words d)) ≡ join_with_byte 32 (reply_words (Reply.Handled pid status view index d))
+handled_words pid status view index Decision.Decline = handled_list pid status view index (decision_words Decision.Decline)
+handled_words pid status view index Decision.Leave = handled_list pid status view index (decision_words Decision.Leave)
+handled_words pid status view index (Decision.Continue n) = handled_list pid status view index (decision_words (Decision.Continue n))
+handled_words pid status view index (Decision.Detach n) = handled_list pid status view index (decision_words (Decision.Detach n))
+handled_words pid status view index Decision.Kill = handled_list pid status view index (decision_words Decision.Kill)

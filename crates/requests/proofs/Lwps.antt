@@ -4,10 +4,8 @@ use Rattle.requests.proofs.Names.{subst, arith, eqb-true, eq-eqb, rules, leb-fal
 use Rattle.requests.proofs.Names.{owner, by_owner, each, change_lwp, remove_lwp, add_lwp, lwp_count, AtHome, Settings, Shown, unwanted, stop, is_due, mode_fits, IsLiveChild, FitProcess, waited_for}
 use Rattle.requests.proofs.Names.{FitLwp, IsSound, and_left, by_bool, find_some, choose, some_is, one_gone, Row, Beside, Same, Like, Stay, KeptRow, KeptLwp, nobody, holds_sound, sound_holds, row_is}
 use Rattle.requests.proofs.Names.{like_self, kept_row, kept_all, kept_lwp, none_gone, no_ring, stay_where, edit_holds, lwps_alone, own_lwps, zero_apart, Outcome, trap, due_stop, in_mode, due_at_birth}
-use Rattle.requests.proofs.Names.{exits_lwp}
-use Rattle.event_masks.specs.declared.Call.TheVariants as call
+use Rattle.requests.proofs.Names.{exits_lwp, Call}
 use Rattle.lwp_table.specs.declared.Due.{Due}
-use Rattle.lwp_table.specs.declared.Due.TheVariants as due
 use Rattle.trace_stop.proofs.Joining.{joined_sound}
 use Rattle.requests.proofs.Acting.{traced_where, Acting, its_live, its_quiet, lwp_fit, lwp_stands, acting_lwp, acting_stops}
 use Rattle.requests.proofs.Room.{LwpRoom}
@@ -35,8 +33,8 @@ module _ (rows : Rows) (p : ProcData) (l : LwpData) (a : Acting rows p l) where
     };
   })
 
-  pub due_acting : Acting (change_lwp l.tid (λ k. record k { due = due.Nothing }) rows) p (record l { due = due.Nothing })
-  due_acting = acting_lwp rows p l a (λ k. record k { due = due.Nothing }) (record {
+  pub due_acting : Acting (change_lwp l.tid (λ k. record k { due = Due.Nothing }) rows) p (record l { due = Due.Nothing })
+  due_acting = acting_lwp rows p l a (λ k. record k { due = Due.Nothing }) (record {
     same = λ k. (refl, refl, refl);
     waits = (lwp_stands rows p l a).waits;
     fit = λ fit. record {
@@ -48,15 +46,15 @@ module _ (rows : Rows) (p : ProcData) (l : LwpData) (a : Acting rows p l) where
   })
 
   due_shown : (d : Due) (shown : Shown) → due_stop d ≡ Some shown → (is_due d ≡ true) × (shows shown.flags PL_FLAG_EXITED ≡ false)
-  due_shown due.Nothing shown is = absurd (grind (arith, is))
-  due_shown due.Born shown is = (refl, subst (λ (x : Shown). shows x.flags PL_FLAG_EXITED ≡ false) (some_is _ shown is) refl)
-  due_shown due.Begun shown is = (refl, subst (λ (x : Shown). shows x.flags PL_FLAG_EXITED ≡ false) (some_is _ shown is) refl)
-  due_shown due.VforkDone shown is = (refl, subst (λ (x : Shown). shows x.flags PL_FLAG_EXITED ≡ false) (some_is _ shown is) refl)
+  due_shown Due.Nothing shown is = absurd (grind (arith, is))
+  due_shown Due.Born shown is = (refl, subst (λ (x : Shown). shows x.flags PL_FLAG_EXITED ≡ false) (some_is _ shown is) refl)
+  due_shown Due.Begun shown is = (refl, subst (λ (x : Shown). shows x.flags PL_FLAG_EXITED ≡ false) (some_is _ shown is) refl)
+  due_shown Due.VforkDone shown is = (refl, subst (λ (x : Shown). shows x.flags PL_FLAG_EXITED ≡ false) (some_is _ shown is) refl)
 
-  pub due_sound : (shown : Shown) → due_stop l.due ≡ Some shown → IsSound (stop p.pid l.tid shown (change_lwp l.tid (λ k. record k { due = due.Nothing }) rows))
+  pub due_sound : (shown : Shown) → due_stop l.due ≡ Some shown → IsSound (stop p.pid l.tid shown (change_lwp l.tid (λ k. record k { due = Due.Nothing }) rows))
   due_sound shown is =
       let d = due_shown l.due shown is in
-      acting_stops (change_lwp l.tid (λ k. record k { due = due.Nothing }) rows) p (record l { due = due.Nothing }) due_acting shown
+      acting_stops (change_lwp l.tid (λ k. record k { due = Due.Nothing }) rows) p (record l { due = Due.Nothing }) due_acting shown
       (traced_where p.tracer (λ none. true≢false (sym d.0 ∙ ((lwp_fit rows p l a).untraced none).due))) (λ on. absurd (true≢false (sym on ∙ d.1)))
 
   -- where LWPs of the process alone go, of which one stays, or its row is changed, and it reports nothing
@@ -119,12 +117,12 @@ module _ (rows : Rows) (p : ProcData) (l : LwpData) (a : Acting rows p l) where
       let one = leb-false (lwp_count p.pid rows) 1 more in
       let two : 2 ≤ lwp_count p.pid rows = omega (arith, one) in
       choose (is_some p.tracer && asks p.mask PTRACE_LWP) _ _ (λ (o : Outcome). IsSound o.rows)
-      (λ e. acting_stops rows p l a (trap PL_FLAG_EXITED 0 call.ThrExit) (and_left (is_some p.tracer) (asks p.mask PTRACE_LWP) e) (λ shown. two)) (λ e. removed_sound two))
+      (λ e. acting_stops rows p l a (trap PL_FLAG_EXITED 0 Call.ThrExit) (and_left (is_some p.tracer) (asks p.mask PTRACE_LWP) e) (λ shown. two)) (λ e. removed_sound two))
 
   -- a new LWP
 
   birth_due : p.tracer ≡ None → is_due (due_at_birth p) ≡ false
-  birth_due none = subst (λ (o : Option ℕ). is_due (if is_some o && asks p.mask PTRACE_LWP then due.Born else (if is_some o && asks p.mask PTRACE_SCX then due.Begun else due.Nothing)) ≡ false) (sym none) refl
+  birth_due none = subst (λ (o : Option ℕ). is_due (if is_some o && asks p.mask PTRACE_LWP then Due.Born else (if is_some o && asks p.mask PTRACE_SCX then Due.Begun else Due.Nothing)) ≡ false) (sym none) refl
 
   pub joined_acting : (tid : ℕ) → LwpRoom p.uid rows tid → Acting (add_lwp p.uid (born tid p.pid l.blocked (due_at_birth p)) rows) p l
   joined_acting tid room = record {

@@ -13,6 +13,7 @@ pub use Rattle.std.proofs.lemmas.Int.{to_z-of_z}
 pub use Rattle.std.proofs.lemmas.List.{append_assoc, get_or-set_same, length-map, set-get_or, take_all}
 pub use Rattle.pid_blocks.specs.Blocks.{first_free, next_free, pid_block, pid_owner, rising, slot, tid_block, tid_owner, users}
 pub use Rattle.pid_blocks.specs.Users.{IsUser}
+pub use Rattle.pid_blocks.specs.declared.Errno.{Errno}
 pub use Rattle.pid_blocks.specs.declared.Errno.TheVariants.{EAGAIN, EBUSY, ECHILD, EINVAL, EPERM, ESRCH}
 pub use Rattle.signals.specs.Laws.{IsLowest, IsSignal}
 pub use Rattle.signals.specs.Sets.{bit, has, lowest, set_of, without}
@@ -25,6 +26,7 @@ pub use Rattle.event_masks.specs.declared.EventMask.{EventMask}
 pub use Rattle.event_masks.specs.declared.TheConstants.EventMask.{PTRACE_EXEC, PTRACE_FORK, PTRACE_LWP, PTRACE_SCE, PTRACE_SCX}
 pub use Rattle.event_masks.specs.declared.TheConstants.StopFlags.{PL_FLAG_EXEC, PL_FLAG_EXITED, PL_FLAG_FORKED, PL_FLAG_SCE, PL_FLAG_SCX, PL_FLAG_VFORKED}
 pub use Rattle.lwp_table.specs.Lwps.{Differ, LacksLwp, born, first_lwp, has_lwp, lwp_of, next_lwp, without_lwp}
+pub use Rattle.lwp_table.specs.declared.Due.{Due}
 pub use Rattle.lwp_table.specs.declared.LwpData.{LwpData}
 pub use Rattle.lwp_table.specs.declared.Mode.{Mode}
 pub use Rattle.lwp_table.specs.declared.Mode.TheVariants.{InCall, User, VforkWait}
@@ -102,3 +104,4 @@ pub use Rattle.requests.specs.Turn.{turn_of, turn_seen, waits, without_signal}
 pub use Rattle.requests.specs.declared.Act.{Act}
 pub use Rattle.requests.specs.declared.Reply.{Reply}
 pub use Rattle.requests.specs.declared.Request.{Request}
+pub use Rattle.requests.specs.declared.step.Step.{Step}

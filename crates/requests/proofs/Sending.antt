@@ -2,10 +2,9 @@
 use Rattle.requests.proofs.Names.{nat_tests, ◌≡◌, ℕ, ◌-◌, ◌<◌, ◌≤◌, pos, negsuc, Bool, true, false, cond, ◌==◌, ltb, ◌&&◌, not, List, [], ◌∷◌, filter, filter_map, find, Option, Some, None, IfSome}
 use Rattle.requests.proofs.Names.{is_none, if◌then◌else◌, refl, sym, ap, ◌∙◌, arith, true≢false, eqb-true, ◌^◌, inl, inr, rules, option_map, int_lt, cases_lt, le-leb, AllByRecursion, list_any}
 use Rattle.requests.proofs.Names.{cons_option, ProcData, process_of, is_live, of_user, Rows, seen_process, AllAbove, Rise, AtHome, IsKept, process_of-pid, Settings, post, by_bool, All-imply, If_more}
-use Rattle.requests.proofs.Names.{some_is, reach, post_if_live, post_all, reached, kill, next_other, refuses, ESRCH, option_and_then, own_rows, process_edited}
+use Rattle.requests.proofs.Names.{some_is, reach, post_if_live, post_all, reached, kill, next_other, refuses, ESRCH, option_and_then, own_rows, process_edited, Reply}
 use Rattle.std.specs.Prelude.{ℤ}
 use Rattle.std.specs.Int.{FitsUnsignedBits}
-use Rattle.requests.specs.declared.Reply.TheVariants as reply
 use Rattle.requests.proofs.Living.{live_found, live_none}
 use Rattle.requests.proofs.Walk.{above, above_none, above_first, above_next, next_over}
 use Rattle.requests.proofs.Remaining.{Remain, SameNumber, remain_all, remain_post}
@@ -140,12 +139,12 @@ module _ (settings : Settings) (s u caller : ℕ) where
   reached_none rows kept none = search (rules, negsuc, reach_others, above_none)
 
   pub reached_some : (n : ℕ) (rows : Rows) → IsKept rows → next 0 rows.processes ≡ Some n
-      → (reached settings s (reach u caller (negsuc 0) rows) rows).reply ≡ reply.Done
+      → (reached settings s (reach u caller (negsuc 0) rows) rows).reply ≡ Reply.Done
       × ((reached settings s (reach u caller (negsuc 0) rows) rows).rows ≡ post_rest settings s u caller (Some n) rows)
   reached_some n rows kept some = by_next (next_other u caller 0 rows.processes) refl some
     where
       by_next : (o : Option ProcData) → next_other u caller 0 rows.processes ≡ o → option_map (λ p. p.pid) o ≡ Some n
-          → ((reached settings s (reach u caller (negsuc 0) rows) rows).reply ≡ reply.Done)
+          → ((reached settings s (reach u caller (negsuc 0) rows) rows).reply ≡ Reply.Done)
           × ((reached settings s (reach u caller (negsuc 0) rows) rows).rows ≡ post_rest settings s u caller (Some n) rows)
       by_next None at h = absurd (let bad : None ≡ Some n = h in cc)
       by_next (Some p) at h =
@@ -154,7 +153,7 @@ module _ (settings : Settings) (s u caller : ℕ) where
           (ap (λ ps. (reached settings s ps rows).reply) list, ap (λ ps. (reached settings s ps rows).rows) list ∙ ap (λ m. post_rest settings s u caller (Some m) rows) same)
 
   pub reached_others : (at : Option ℕ) (rows : Rows) → IsKept rows → at ≡ next 0 rows.processes → is_none at ≡ false
-      → ((reached settings s (reach u caller (negsuc 0) rows) rows).reply ≡ reply.Done)
+      → ((reached settings s (reach u caller (negsuc 0) rows) rows).reply ≡ Reply.Done)
       × ((reached settings s (reach u caller (negsuc 0) rows) rows).rows ≡ post_rest settings s u caller at rows)
   reached_others None rows kept is some = absurd (true≢false some)
   reached_others (Some n) rows kept is some = reached_some n rows kept (sym is)
@@ -196,7 +195,7 @@ module _ (settings : Settings) (s u n : ℕ) (rows : Rows) (rise : Rise rows.pro
   unseen_reached none = search (rules, only)
 
   pub seen_reached : (m : ℕ) → option_map (λ p. p.pid) (seen_process u n rows) ≡ Some m
-      → ((reached settings s one rows).reply ≡ reply.Done) × ((reached settings s one rows).rows ≡ post_if_live settings s (process_of m rows.processes) rows)
+      → ((reached settings s one rows).reply ≡ Reply.Done) × ((reached settings s one rows).rows ≡ post_if_live settings s (process_of m rows.processes) rows)
   seen_reached m some = search (rules, only, some_is)
 
 -- no process has so great a number

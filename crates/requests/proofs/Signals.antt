@@ -4,8 +4,6 @@ use Rattle.requests.proofs.Names.{has, bit, without, lowest, SIGTRAP, unmaskable
 use Rattle.requests.proofs.Names.{InCall, VforkWait, ProcData, Job, is_live, is_this, process_of, Rows, change_process, change_lwp, Settings, unwanted, notified, end, stop, is_end, Linked, FitProcess}
 use Rattle.requests.proofs.Names.{FitLwp, IsSound, both, by_bool, find_some, choose, not_some, If_more, changed_own, process_sound, pending_fits, end_at, post_sound, Outcome, in_user_mode}
 use Rattle.requests.proofs.Names.{next_signal, without_signal, plain, takes_by_default, takes_untraced, takes, computes, raises}
-use Rattle.signals.specs.declared.Action.TheVariants as action
-use Rattle.signals.specs.declared.Disposition.TheVariants as disposition
 use Rattle.signals.proofs.Members.{lowest-some}
 use Rattle.trace_stop.proofs.Bits.{without_apart, without_less}
 use Rattle.trace_stop.proofs.Stopping.{live_told, notified_sound}
@@ -106,12 +104,12 @@ pub next_is_signal : (p : ProcData) (l : LwpData) → IfSome (next_signal p l) I
 next_is_signal p l = taken_signal l.mode (without (bit_or l.pending p.pending) l.blocked)
 
 abbrev is_end_action : Action → Bool
-is_end_action action.End = true
-is_end_action action.Stop = false
-is_end_action action.Discard = false
+is_end_action Action.End = true
+is_end_action Action.Stop = false
+is_end_action Action.Discard = false
 
 -- the signals that end a process by default are words of ends
-ends_by_default : (s : ℕ) → IsSignal s → default_action s ≡ action.End → is_end s ≡ true
+ends_by_default : (s : ℕ) → IsSignal s → default_action s ≡ Action.End → is_end s ≡ true
 ends_by_default s sig is = search (rules, both, le-leb, by_bool, eqb-true)
 
 module _ (settings : Settings) (s : ℕ) (sig : IsSignal s) (rows : Rows) (p : ProcData) (l : LwpData) (k : Alike rows p l) where
@@ -119,14 +117,14 @@ module _ (settings : Settings) (s : ℕ) (sig : IsSignal s) (rows : Rows) (p : P
   q = k.process
 
   by_action : (x : Action) → default_action s ≡ x → p.tracer ≡ None → IsSound (takes_by_default settings s x p l rows).rows
-  by_action action.End e free = subst (λ n. IsSound (end settings n s rows)) k.pid (end_sound rows q k.lwp k.acting settings s (ends_by_default s sig e))
-  by_action action.Stop e free = search (rules, job_stop_sound)
-  by_action action.Discard e free = k.acting.sound
+  by_action Action.End e free = subst (λ n. IsSound (end settings n s rows)) k.pid (end_sound rows q k.lwp k.acting settings s (ends_by_default s sig e))
+  by_action Action.Stop e free = search (rules, job_stop_sound)
+  by_action Action.Discard e free = k.acting.sound
 
   by_disposition : (d : Disposition) → p.tracer ≡ None → IsSound (takes_untraced settings s d p l rows).rows
-  by_disposition disposition.Default free = by_action (default_action s) refl free
-  by_disposition disposition.Ignore free = k.acting.sound
-  by_disposition disposition.Catch free = k.acting.sound
+  by_disposition Disposition.Default free = by_action (default_action s) refl free
+  by_disposition Disposition.Ignore free = k.acting.sound
+  by_disposition Disposition.Catch free = k.acting.sound
 
   pub takes_sound : IsSound (takes settings s p l rows).rows
   takes_sound = choose (is_some p.tracer) _ (takes_untraced settings s (disposition_of p.dispositions s) p l rows) (λ (o : Outcome). IsSound o.rows)

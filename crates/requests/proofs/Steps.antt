@@ -3,7 +3,6 @@ use Rattle.requests.proofs.Names.{◌≡◌, ℕ, ℤ, Bool, true, false, ◌&&�
 use Rattle.requests.proofs.Names.{process_of, Rows, seen_process, IsSound, All-filter, find_some, disposed_sound, own_rows, Options, reportable, candidates, is_child, fits, reported, rows_after}
 use Rattle.requests.proofs.Names.{without_report, Reply, PlainStep, answers, refuses, sigaction, wait, is_which, Machine, after, sound, checked, calls, collect_sound, Rise, is_refused, IsLiveOf, ap}
 use Rattle.requests.proofs.Names.{run_quiet}
-use Rattle.requests.specs.declared.Reply.TheVariants as reply
 use Rattle.requests.proofs.After.{rows_sound, after_sound}
 use Rattle.requests.specs.Callers.{IsCaller}
 use Rattle.requests.proofs.Called.{is_caller}
@@ -23,12 +22,12 @@ checked_sound u s m n is done = by_caller (seen_process u n m.rows) refl
     stays r = after_sound m (answers r m.rows) is (rows_sound m is)
 
     at_run : (p : ProcData) → seen_process u n m.rows ≡ Some p → (live : Bool) → is_live p ≡ live → (run : Bool) → is_run p ≡ run → sound (checked u s (Some p) m).machine ≡ true
-    at_run p seen false e run r = rw e (stays (reply.Errno ESRCH))
-    at_run p seen true e false r = rw (e, r) (stays reply.Held)
+    at_run p seen false e run r = rw e (stays (Reply.Errno ESRCH))
+    at_run p seen true e false r = rw (e, r) (stays Reply.Held)
     at_run p seen true e true r = rw (e, r) (done p (is_caller u n m.rows p (rows_sound m is).stands.rising (record { seen = seen; live = e; runs = r })))
 
     by_caller : (o : Option ProcData) → seen_process u n m.rows ≡ o → sound (checked u s o m).machine ≡ true
-    by_caller None e = stays (reply.Errno ESRCH)
+    by_caller None e = stays (Reply.Errno ESRCH)
     by_caller (Some p) e = at_run p e (is_live p) refl (is_run p) refl
 
 pub choose : {X : Type 0} (b : Bool) (x y : X) (R : X → Type 0) → R x → R y → R (if b then x else y)

@@ -5,7 +5,6 @@ use Rattle.requests.proofs.Names.{seen_process, seen_lwp, find_seen, Settings, n
 use Rattle.requests.proofs.Names.{found_number, one_row, own_lwps, find_passes, detach_sound, LwpInfo, info, Request, Outcome, refuses, attach, told_stop, bad_argument, stepping, switched, shows_info}
 use Rattle.requests.proofs.Names.{does, commands_stopped, commands, is_attach, about, process_by, target_of, is_trace_me, ptrace}
 use Rattle.std.proofs.Common.{option_map}
-use Rattle.requests.specs.declared.Request.TheVariants as request
 use Rattle.requests.proofs.Asked.{told_reports}
 use Rattle.requests.proofs.Steps.{caller_live, live_caller}
 use Rattle.requests.proofs.Masks.{Tracee, OwnLwp, named_lwp, suspend_sound, set_mask_sound, resumes_sound, stepping_tracee, continues_sound}
@@ -55,24 +54,24 @@ info_sound None rows s = s
 info_sound (Some i) rows s = s
 
 pub does_sound : (settings : Settings) (r : Request) («data» tid : ℕ) (p : ProcData) (rows : Rows) → Tracee rows p → OwnLwp rows p tid → IsSound (does settings r «data» tid p rows).rows
-does_sound settings request.TraceMe «data» tid p rows t o = t.sound
-does_sound settings request.Attach «data» tid p rows t o = t.sound
-does_sound settings request.Continue «data» tid p rows t o = continues_sound settings (λ mask. mask) «data» rows p t
-does_sound settings request.Step «data» tid p rows t o = resumes_sound (stepping p.pid tid rows) p (stepping_tracee rows p tid t o) settings «data»
-does_sound settings request.Suspend «data» tid p rows t o = suspend_sound rows p t tid o true
-does_sound settings request.Resume «data» tid p rows t o = suspend_sound rows p t tid o false
-does_sound settings request.Detach «data» tid p rows t o = detach_sound settings rows p.pid p t.sound t.home t.live «data»
-does_sound settings request.Kill «data» tid p rows t o = resumes_sound rows p t settings SIGKILL
-does_sound settings request.SetEventMask «data» tid p rows t o = set_mask_sound rows p t (λ mask. record { 0 = «data» })
-does_sound settings request.GetEventMask «data» tid p rows t o = t.sound
-does_sound settings request.LwpInfo «data» tid p rows t o = info_sound (info p tid rows) rows t.sound
-does_sound settings request.GetNumLwps «data» tid p rows t o = t.sound
-does_sound settings request.GetLwpList «data» tid p rows t o = t.sound
-does_sound settings request.ToSce «data» tid p rows t o = continues_sound settings (λ mask. mask_with mask PTRACE_SCE) «data» rows p t
-does_sound settings request.ToScx «data» tid p rows t o = continues_sound settings (λ mask. mask_with mask PTRACE_SCX) «data» rows p t
-does_sound settings request.Syscall «data» tid p rows t o = continues_sound settings (λ mask. mask_with (mask_with mask PTRACE_SCE) PTRACE_SCX) «data» rows p t
-does_sound settings request.FollowFork «data» tid p rows t o = set_mask_sound rows p t (switched PTRACE_FORK «data»)
-does_sound settings request.LwpEvents «data» tid p rows t o = set_mask_sound rows p t (switched PTRACE_LWP «data»)
+does_sound settings Request.TraceMe «data» tid p rows t o = t.sound
+does_sound settings Request.Attach «data» tid p rows t o = t.sound
+does_sound settings Request.Continue «data» tid p rows t o = continues_sound settings (λ mask. mask) «data» rows p t
+does_sound settings Request.Step «data» tid p rows t o = resumes_sound (stepping p.pid tid rows) p (stepping_tracee rows p tid t o) settings «data»
+does_sound settings Request.Suspend «data» tid p rows t o = suspend_sound rows p t tid o true
+does_sound settings Request.Resume «data» tid p rows t o = suspend_sound rows p t tid o false
+does_sound settings Request.Detach «data» tid p rows t o = detach_sound settings rows p.pid p t.sound t.home t.live «data»
+does_sound settings Request.Kill «data» tid p rows t o = resumes_sound rows p t settings SIGKILL
+does_sound settings Request.SetEventMask «data» tid p rows t o = set_mask_sound rows p t (λ mask. record { 0 = «data» })
+does_sound settings Request.GetEventMask «data» tid p rows t o = t.sound
+does_sound settings Request.LwpInfo «data» tid p rows t o = info_sound (info p tid rows) rows t.sound
+does_sound settings Request.GetNumLwps «data» tid p rows t o = t.sound
+does_sound settings Request.GetLwpList «data» tid p rows t o = t.sound
+does_sound settings Request.ToSce «data» tid p rows t o = continues_sound settings (λ mask. mask_with mask PTRACE_SCE) «data» rows p t
+does_sound settings Request.ToScx «data» tid p rows t o = continues_sound settings (λ mask. mask_with mask PTRACE_SCX) «data» rows p t
+does_sound settings Request.Syscall «data» tid p rows t o = continues_sound settings (λ mask. mask_with (mask_with mask PTRACE_SCE) PTRACE_SCX) «data» rows p t
+does_sound settings Request.FollowFork «data» tid p rows t o = set_mask_sound rows p t (switched PTRACE_FORK «data»)
+does_sound settings Request.LwpEvents «data» tid p rows t o = set_mask_sound rows p t (switched PTRACE_LWP «data»)
 
 module _ (settings : Settings) (u : ℕ) (caller : ProcData) (r : Request) (target «data» : ℕ) (rows : Rows) (s : IsSound rows) (c : IsCaller u caller rows) where
   module _ (m : ℕ) (seen : find_seen u target rows ≡ Some m) (p : ProcData) (at : process_of m rows.processes ≡ Some p) (live : is_live p ≡ true) where

@@ -6,7 +6,6 @@ use Rattle.requests.proofs.Names.{some_and, change_process-at, change_lwp-at, ch
 use Rattle.requests.proofs.Names.{not_stepping, stepping, set_mask, continues_with, with_signal, choose}
 use Rattle.trace_stop.specs.Reports.{IsStopped}
 use Rattle.trace_stop.proofs.Stopped.{IsStopped-from}
-use Rattle.requests.specs.declared.Reply.TheVariants as reply
 use Rattle.requests.proofs.Masks.{Tracee, OwnLwp, not_stepping_tracee, not_stepping_lwp, set_mask_tracee, stepping_tracee}
 
 -- A process with a number is found with its change
@@ -105,11 +104,11 @@ signalled f «data» pass r rows rows1 rows2 to few same done = search (rules, n
 pub continue_as : (settings : Settings) (mask : EventMask → EventMask) (m : EventMask) («data» : ℕ) (p : ProcData) (rows : Rows) → Rise rows.processes → process_of p.pid rows.processes ≡ Some p → m ≡ mask p.mask
     → with_signal «data» (continues_with settings (λ old. m) «data» p rows) rows ≡ with_signal «data» (continues_with settings mask «data» p rows) rows
 continue_as settings mask m «data» p rows up at is =
-    ap (λ r. with_signal «data» (answers reply.Done (resume settings p.pid «data» (not_stepping p.pid r))) rows)
+    ap (λ r. with_signal «data» (answers Reply.Done (resume settings p.pid «data» (not_stepping p.pid r))) rows)
     (ap (λ x. set_mask (λ old. x) p.pid rows) is ∙ set_mask_as mask rows p up at)
 
-pub kill_as : (settings : Settings) (n pid : ℕ) (rows : Rows) → n ≡ SIGKILL → with_signal n (answers reply.Done (resume settings pid n rows)) rows ≡ answers reply.Done (resume settings pid SIGKILL rows)
-kill_as settings n pid rows is = ap (λ s. with_signal s (answers reply.Done (resume settings pid s rows)) rows) is
+pub kill_as : (settings : Settings) (n pid : ℕ) (rows : Rows) → n ≡ SIGKILL → with_signal n (answers Reply.Done (resume settings pid n rows)) rows ≡ answers Reply.Done (resume settings pid SIGKILL rows)
+kill_as settings n pid rows is = ap (λ s. with_signal s (answers Reply.Done (resume settings pid s rows)) rows) is
 
 pub same_outcome : (o o' : Outcome) (rows : Rows) (r : Reply) → o ≡ o' → rows ≡ o.rows → r ≡ o.reply → (rows ≡ o'.rows) × (r ≡ o'.reply)
 same_outcome o o' rows r same done said = (done ∙ ap (λ (x : Outcome). x.rows) same, said ∙ ap (λ (x : Outcome). x.reply) same)

@@ -1,5 +1,4 @@
-use Rattle.requests.proofs.Names.{stepping, rules, resume}
-use Rattle.requests.specs.declared.Reply.TheVariants as reply
+use Rattle.requests.proofs.Names.{stepping, rules, resume, Reply}
 use Rattle.requests.proofs.Tracees.{signalled, is_tracee, own_lwp, still_there, stepping_ready}
 use Rattle.requests.proofs.commands.step.Goals as goal
 
@@ -18,4 +17,4 @@ returns-clause-rows c =
     let rows = c.args.tables.now.rows in
     let p = c.args.process.now in
     let h = stepping_ready p c.args.lwp rows c.clear_stepping.new.tables.rows (is_tracee rows p c.requires.sound c.requires.at c.requires.stopped) (own_lwp rows p c.args.lwp c.requires.own) c.clear_stepping.ensures.rows c.set_stepping.new.tables.rows c.requires.stopped c.set_stepping.ensures.rows in
-    signalled (resume c.args.settings p.pid) c.args.data c.in-Ok.pass reply.Done rows c.set_stepping.new.tables.rows _ (stepping p.pid c.args.lwp rows) c.in-Ok.ensures h.same c.resume.ensures.rows
+    signalled (resume c.args.settings p.pid) c.args.data c.in-Ok.pass Reply.Done rows c.set_stepping.new.tables.rows _ (stepping p.pid c.args.lwp rows) c.in-Ok.ensures h.same c.resume.ensures.rows

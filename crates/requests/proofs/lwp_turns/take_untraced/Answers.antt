@@ -1,10 +1,8 @@
-use Rattle.requests.proofs.Names.{◌≡◌, ℕ, refl, sym, ap, ◌∙◌, disposition_of, default_action, LwpData, ProcData, Rows, Settings, end, takes_untraced}
-use Rattle.signals.specs.declared.Action.TheVariants as action
-use Rattle.signals.specs.declared.Disposition.TheVariants as disposition
+use Rattle.requests.proofs.Names.{◌≡◌, ℕ, refl, sym, ap, ◌∙◌, disposition_of, default_action, LwpData, ProcData, Rows, Settings, end, takes_untraced, Action, Disposition}
 use Rattle.trace_stop.proofs.Found.{listed}
 use Rattle.requests.proofs.lwp_turns.take_untraced.Goals as goal
 
-ended : (settings : Settings) (s : ℕ) (p : ProcData) (l : LwpData) (rows : Rows) → disposition_of p.dispositions s ≡ disposition.Default → default_action s ≡ action.End
+ended : (settings : Settings) (s : ℕ) (p : ProcData) (l : LwpData) (rows : Rows) → disposition_of p.dispositions s ≡ Disposition.Default → default_action s ≡ Action.End
     → (takes_untraced settings s (disposition_of p.dispositions s) p l rows).rows ≡ end settings p.pid s rows
 ended settings s p l rows d a = rw (d, a) refl
 

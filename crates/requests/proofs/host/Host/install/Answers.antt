@@ -1,5 +1,4 @@
-use Rattle.requests.proofs.Names.{◌<◌, ◌≤◌, length, refl, subst, machine_of, Steps, Machine, installed_by}
-use Rattle.requests.specs.declared.step.Step.TheVariants as op
+use Rattle.requests.proofs.Names.{◌<◌, ◌≤◌, length, refl, subst, machine_of, Steps, Machine, installed_by, Step}
 use Rattle.requests.proofs.Finished.{host_barred, host_full, host_installed, host_wants}
 use Rattle.requests.proofs.host.Host.install.Given.{Over}
 use Rattle.requests.proofs.host.Host.install.Goals.{in-Ok-install, in-Err-install}
@@ -13,7 +12,7 @@ returns-then-count-ge-MOST_HANDLERS g c =
     let many : 64 ≤ length (installed_by c.args.user c.args.self.now) = subst (λ (x : Machine). 64 ≤ length (installed_by c.args.user x)) c.self.view_is (subst (λ n. 64 ≤ n) c.count.ensures c.if-count-ge-MOST_HANDLERS.true) in
     host_full c.self.view_is c.requires c.self.invariant c.in-Ok.ensures.found c.args.handler many
 
-done : (g : Over) (c : goal.Joined-install g) → Steps c.args.user (op.Install c.args.caller c.args.handler) (machine_of c.self.inside.settings c.self.inside.tables c.self.inside.handlers)
+done : (g : Over) (c : goal.Joined-install g) → Steps c.args.user (Step.Install c.args.caller c.args.handler) (machine_of c.self.inside.settings c.self.inside.tables c.self.inside.handlers)
     (machine_of c.self.inside.settings c.self.inside.tables c.install.new.self) c.match-install.result
 done g c =
     let h : Machine = machine_of c.self.inside.settings c.self.inside.tables c.self.inside.handlers in

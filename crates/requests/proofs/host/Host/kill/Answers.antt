@@ -1,5 +1,4 @@
-use Rattle.requests.proofs.Names.{refl, w64, to_z-of_z, machine_of, Steps, kill, subst, ◌≡◌}
-use Rattle.requests.specs.declared.step.Step.TheVariants as op
+use Rattle.requests.proofs.Names.{refl, w64, to_z-of_z, machine_of, Steps, kill, subst, ◌≡◌, Step}
 use Rattle.requests.proofs.After.{rows_sound}
 use Rattle.requests.proofs.Finished.{host_barred, host_rows}
 use Rattle.requests.proofs.host.Host.kill.Given.{Over}
@@ -11,7 +10,7 @@ returns-in-Err g c = host_barred c.self.view_is c.requires c.self.invariant refl
 pub kill-reply-requires : goal.kill-reply-requires
 kill-reply-requires g c = record { sound = rows_sound (machine_of c.self.inside.settings c.self.inside.tables c.self.inside.handlers) c.self.invariant }
 
-done : (g : Over) (c : goal.After-drop_ended g) → Steps c.args.user (op.Kill c.args.caller c.args.which c.args.sig) (machine_of c.self.inside.settings c.self.inside.tables c.self.inside.handlers)
+done : (g : Over) (c : goal.After-drop_ended g) → Steps c.args.user (Step.Kill c.args.caller c.args.which c.args.sig) (machine_of c.self.inside.settings c.self.inside.tables c.self.inside.handlers)
     (machine_of c.self.inside.settings c.kill-reply.new.tables c.drop_ended.new.self) c.kill-reply.result
 done g c =
     let h = machine_of c.self.inside.settings c.self.inside.tables c.self.inside.handlers in

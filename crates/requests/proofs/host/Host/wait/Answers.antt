@@ -1,5 +1,4 @@
-use Rattle.requests.proofs.Names.{refl, w64, to_z-of_z, machine_of, Steps, wait, subst, ◌≡◌}
-use Rattle.requests.specs.declared.step.Step.TheVariants as op
+use Rattle.requests.proofs.Names.{refl, w64, to_z-of_z, machine_of, Steps, wait, subst, ◌≡◌, Step}
 use Rattle.requests.proofs.After.{rows_sound}
 use Rattle.requests.proofs.Finished.{host_barred, host_rows}
 use Rattle.requests.proofs.host.Host.wait.Given.{Over}
@@ -11,7 +10,7 @@ returns-in-Err g c = host_barred c.self.view_is c.requires c.self.invariant refl
 pub wait-reply-requires : goal.wait-reply-requires
 wait-reply-requires g c = record { sound = rows_sound (machine_of c.self.inside.settings c.self.inside.tables c.self.inside.handlers) c.self.invariant }
 
-done : (g : Over) (c : goal.After-drop_ended g) → Steps c.args.user (op.Wait4 c.args.caller c.args.which c.args.options) (machine_of c.self.inside.settings c.self.inside.tables c.self.inside.handlers)
+done : (g : Over) (c : goal.After-drop_ended g) → Steps c.args.user (Step.Wait4 c.args.caller c.args.which c.args.options) (machine_of c.self.inside.settings c.self.inside.tables c.self.inside.handlers)
     (machine_of c.self.inside.settings c.wait-reply.new.tables c.drop_ended.new.self) c.wait-reply.result
 done g c =
     let h = machine_of c.self.inside.settings c.self.inside.tables c.self.inside.handlers in
