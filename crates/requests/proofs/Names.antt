@@ -5,7 +5,8 @@ pub use Rattle.std.specs.Option.{option_and_then}
 pub use Rattle.std.specs.Prelude.{IsSomeAnd, count_by, int_lt, option_map}
 pub use Rattle.std.proofs.Common.{Bool, IfSome, List, None, Option, SFits, Some, [], add-zero, ap, append-nil, ap₂, arith, bit_and, bit_or, codes, cond, decimal, drop, eq-eqb, eqb, eqb-true, false}
 pub use Rattle.std.proofs.Common.{filter, filter_map, find, get_or, get_or-set_other, if◌then◌else◌, inl, inr, is_none, is_some, leb, length, length-append, length-set, lt-ltb, ltb, map, nat_eq}
-pub use Rattle.std.proofs.Common.{negsuc, not, pos, refl, rules, set, subst, suc, sym, take, true, true≢false, w64, zero, zip, ℕ, ℤ, ◌%◌, ◌&&◌, ◌*◌, ◌++◌, ◌+◌, ◌-◌, ◌<◌, ◌==◌, ◌^◌, ◌||◌, ◌∙◌, ◌∷◌}
+pub use Rattle.std.proofs.Common.{negsuc, not, pos, refl, rules, set, subst, suc, sym, take, true, true≢false, w64, zero, zip, ℕ, ℤ, ◌%◌, ◌&&◌, ◌*◌, ◌++◌, ◌+◌, ◌-◌, ◌<◌, ◌==◌, ◌^◌, ◌||◌, ◌∙◌}
+pub use Rattle.std.proofs.Common.{◌∷◌}
 pub use Rattle.std.proofs.Common.{◌≡◌, ◌≢◌, ◌≤◌, ◌⊎◌}
 pub use Rattle.std.proofs.lemmas.Bool.{cases_Bool, cases_lt, le-leb, le-ltb, leb-false, leb-true, ltb-true}
 pub use Rattle.std.proofs.lemmas.Bool.Decides.{nat_tests}
