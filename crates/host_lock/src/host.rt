@@ -130,7 +130,7 @@ impl<F: Decider + Send + Drop> SharedHost<F> {
             journal,
             start: _,
         } = take_state(table, seat);
-        Ok((host, journal))
+        Ok((Box::into_inner(host), journal))
     }
 
     /// Makes one step of the session's user, when its turn comes: it may wait for other sessions. The step takes effect at its place in
@@ -184,24 +184,28 @@ fn make_table<F: Decider + Send + Drop>(
         start: Snapshot::of(&host),
         sessions,
     };
+    let state = opening_state(alloc, host)?;
     let mut slots = Vec::with_capacity(alloc, 1)?;
-    slots.push_reserved(Slot::There(opening_state(alloc, host)));
+    slots.push_reserved(Slot::There(state));
     match Table::new(alloc, &[0, 0, 0], slots, &about) {
         Ok(made) => Ok(made),
         Err(_) => Err(AllocError),
     }
 }
 
-/// What lies in the slot at first.
-fn opening_state<F: Decider + Send + Drop>(alloc: Global, host: Host<F>) -> SharedState<F>
-    ensures { result ≡ history host [] }
+/// What lies in the slot at first. An error is want of memory.
+fn opening_state<F: Decider + Send + Drop>(
+    alloc: Global,
+    host: Host<F>,
+) -> Result<SharedState<F>, AllocError>
+    ensures { IfOk result (λ state. state ≡ history host []) }
 {
     let start = Snapshot::of(&host);
-    SharedState {
-        host,
+    Ok(SharedState {
+        host: Box::new(alloc, host)?,
         journal: Journal::empty(alloc),
         start,
-    }
+    })
 }
 
 /// A session that has made no call.
