@@ -96,6 +96,7 @@ fn add_replies(pairs: &mut Vec<(Uid, Reply)>, transcript: Transcript) -> Result<
     ensures err { IfErr result (λ e. e ≡ Memory) }
 {
     let Transcript { uid, replies } = transcript;
+    pairs.reserve(replies.len())?;
     for reply in replies {
         if reply.is_memory() {
             return Err(RunFault::Memory);
