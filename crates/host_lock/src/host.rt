@@ -93,13 +93,28 @@ impl<F: Decider + Send + Drop> SharedHost<F> {
         ensures accepts { OnOk result (IsOpenable users.now) }
         ensures refuses { IfErr result (RefusesFor host users.now) }
     {
+        SharedHost::open_for(alloc, host, users, 0)
+    }
+
+    /// Shares a host as `open` does, with room in the journal for so many calls.
+    pub fn open_for(
+        alloc: Global,
+        host: Host<F>,
+        users: &[Uid],
+        calls: usize,
+    ) -> Result<(SharedHost<F>, Vec<Session>), OpenRefusal<F>>
+        ensures host { IfOk result (λ r. (r.0.start ≡ host) × (r.0.sessions ≡ length users.now)) }
+        ensures sessions { IfOk result (λ r. r.1.items ≡ new_sessions 0 r.0.id host users.now) }
+        ensures accepts { OnOk result (IsOpenable users.now) }
+        ensures refuses { IfErr result (RefusesFor host users.now) }
+    {
         if users.is_empty() {
             return Err(OpenRefusal::NoSessions(host));
         }
         if users.len() > MOST_SESSIONS {
             return Err(OpenRefusal::TooMany(host));
         }
-        match share(alloc, host, users) {
+        match share(alloc, host, users, calls) {
             Ok(made) => Ok(made),
             Err(_) => Err(OpenRefusal::Memory),
         }
@@ -130,7 +145,7 @@ impl<F: Decider + Send + Drop> SharedHost<F> {
             journal,
             start: _,
         } = take_state(table, seat);
-        Ok((host, journal))
+        Ok((Box::into_inner(host), journal))
     }
 
     /// Makes one step of the session's user, when its turn comes: it may wait for other sessions. The step takes effect at its place in
@@ -175,6 +190,7 @@ fn make_table<F: Decider + Send + Drop>(
     alloc: Global,
     host: Host<F>,
     sessions: usize,
+    calls: usize,
 ) -> Result<(HostTable<F>, HostSeat<F>), AllocError>
     requires { (0 < sessions) × (sessions ≤ most_sessions) }
     ensures table { IfOk result (λ t. IsHostTable t.0.shared.table_id × (t.0.shared.key.start.value ≡ host) × (t.0.shared.key.sessions ≡ sessions)) }
@@ -184,24 +200,29 @@ fn make_table<F: Decider + Send + Drop>(
         start: Snapshot::of(&host),
         sessions,
     };
+    let state = opening_state(alloc, host, calls)?;
     let mut slots = Vec::with_capacity(alloc, 1)?;
-    slots.push_reserved(Slot::There(opening_state(alloc, host)));
+    slots.push_reserved(Slot::There(state));
     match Table::new(alloc, &[0, 0, 0], slots, &about) {
         Ok(made) => Ok(made),
         Err(_) => Err(AllocError),
     }
 }
 
-/// What lies in the slot at first.
-fn opening_state<F: Decider + Send + Drop>(alloc: Global, host: Host<F>) -> SharedState<F>
-    ensures { result ≡ history host [] }
+/// What lies in the slot at first, with room for so many calls. An error is want of memory.
+fn opening_state<F: Decider + Send + Drop>(
+    alloc: Global,
+    host: Host<F>,
+    calls: usize,
+) -> Result<SharedState<F>, AllocError>
+    ensures { IfOk result (λ state. state ≡ history host []) }
 {
     let start = Snapshot::of(&host);
-    SharedState {
-        host,
-        journal: Journal::empty(alloc),
+    Ok(SharedState {
+        host: Box::new(alloc, host)?,
+        journal: Journal::with_room(alloc, calls)?,
         start,
-    }
+    })
 }
 
 /// A session that has made no call.
@@ -241,12 +262,13 @@ fn share<F: Decider + Send + Drop>(
     alloc: Global,
     host: Host<F>,
     users: &[Uid],
+    calls: usize,
 ) -> Result<(SharedHost<F>, Vec<Session>), AllocError>
     requires { (0 < length users.now) × (length users.now ≤ most_sessions) }
     ensures host { IfOk result (λ r. (r.0.start ≡ host) × (r.0.sessions ≡ length users.now)) }
     ensures sessions { IfOk result (λ r. r.1.items ≡ new_sessions 0 r.0.id host users.now) }
 {
-    let (table, unsplit) = make_table(alloc, host, users.len())?;
+    let (table, unsplit) = make_table(alloc, host, users.len(), calls)?;
     let sessions = make_sessions(alloc, &table, unsplit, users)?;
     let host = SharedHost {
         table,

@@ -1,10 +1,10 @@
 //! The journal of a shared host.
 
-ghost use Rattle.std.specs.Prelude.{◌≡◌, [], length, slice_get, option_map, ◌==◌};
+ghost use Rattle.std.specs.Prelude.{◌≡◌, [], length, slice_get, option_map, ◌==◌, IfOk};
 
 use pid_blocks::Uid;
 use requests::{PlainStep, Reply};
-use std::alloc::Global;
+use std::alloc::{AllocError, Global};
 use std::marker::Model;
 
 /// An answered call of a session.
@@ -40,6 +40,15 @@ impl Journal {
         Journal {
             entries: Vec::new(alloc),
         }
+    }
+
+    /// A journal of no calls, with room for so many. An error is want of memory.
+    pub(crate) fn with_room(alloc: Global, calls: usize) -> Result<Journal, AllocError>
+        ensures { IfOk result (λ journal. journal ≡ []) }
+    {
+        Ok(Journal {
+            entries: Vec::with_capacity(alloc, calls)?,
+        })
     }
 
     /// How many calls it has.

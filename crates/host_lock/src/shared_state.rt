@@ -15,10 +15,10 @@ use std::snapshot::Snapshot;
 use stop_handlers::{Decider, Handler};
 
 /// The host, the journal, and the host at opening, which clauses alone see. The journal is legal from there, and the host is its
-/// replay.
+/// replay. The host is large and lies on the heap, since each call takes the state out of its slot and puts it back.
 #[derive(Drop)]
 pub struct SharedState<F: Decider + Send + Drop> {
-    pub(crate) host: Host<F>,
+    pub(crate) host: Box<Host<F>>,
     pub(crate) journal: Journal,
     pub(crate) start: Snapshot<Host<F>>,
 }
@@ -33,7 +33,7 @@ impl<F: Decider + Send + Drop> Model for SharedState<F> {
 
     ghost view = { λ h. record { start = h.start.value; log = h.journal } };
 
-    ghost invariant = { λ h. IsLegal h.start.value h.journal × (h.host ≡ replay h.start.value h.journal) × Users (asked h.journal) };
+    ghost invariant = { λ h. IsLegal h.start.value h.journal × (h.host.value ≡ replay h.start.value h.journal) × Users (asked h.journal) };
 }
 
 /// Makes a step on the host, and answers the reply with a copy of it. None where memory ran out: the host is as it was.
@@ -79,7 +79,7 @@ impl<F: Decider + Send + Drop> SharedState<F> {
             return Reply::Errno(Errno::ENOMEM);
         }
         let plain = step.plain();
-        let Some((reply, copy)) = answered(host, alloc, user, step) else {
+        let Some((reply, copy)) = answered(host.as_mut(), alloc, user, step) else {
             return Reply::Errno(Errno::ENOMEM);
         };
         journal.entries.push_reserved(Entry {

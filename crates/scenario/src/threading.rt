@@ -4,15 +4,15 @@ ghost use Rattle.std.specs.Prelude.{◌≡◌, ◌≢◌, ◌⊎◌, ◌↔◌, 
 ghost use Rattle.std.specs.List.{flat_map, AllByRecursion};
 ghost use Rattle.pid_blocks.specs.Blocks.{users};
 ghost use Rattle.requests.specs.Isolation.{Users};
-ghost use Rattle.scenario_text.specs.Plan.{asked, most_steps, policies_in};
+ghost use Rattle.scenario_text.specs.Plan.{most_steps, policies_in};
 ghost use Rattle.scenario.specs.Runs.{answered, answers_of, by_users, shown_grouped, Writes};
 ghost use Rattle.scenario.specs.Scripts.{has_steps, plain_script, scripts_in, told_by, IsMade};
 ghost use Rattle.scenario.specs.declared.running.RunFault.TheVariants.{Mismatch, Memory, Start};
 
-use crate::binding::bind;
+use crate::binding::{bound_step, obey};
 use crate::running::{RunFault, RunOptions, write_lines};
 use pid_blocks::Uid;
-use requests::{Host, Reply, Step};
+use requests::{Host, Reply};
 use scenario_text::{Scenario, USERS};
 use sessions::{Gate, RunRefusal, Script, Transcript, run_sessions};
 use std::alloc::{AllocError, Global};
@@ -20,7 +20,6 @@ use std::io::Write;
 use std::sync::Wait;
 use std::thread::Threads;
 use stop_handlers::{Decider, Handler};
-use trace_stop::Settings;
 
 /// A gate that does nothing.
 struct NoGate;
@@ -31,14 +30,27 @@ impl Gate for NoGate {
     fn after(&self, _user: Uid, _index: u32) {}
 }
 
-/// A script without steps for each of the 64 users, by rising number. An error is want of memory.
-fn empty_scripts<F: Decider + Send + Drop>(alloc: Global) -> Result<Vec<Script<F>>, AllocError>
+/// How many steps each user has, by the users' places.
+fn counts_of(scenario: &Scenario) -> [usize; USERS] {
+    let mut counts = [0usize; USERS];
+    for shape in scenario.shapes() {
+        let place = shape.0.slot();
+        counts[place] = counts[place].saturating_add(1);
+    }
+    counts
+}
+
+/// A script without steps for each of the 64 users, by rising number, with room for so many. An error is want of memory.
+fn empty_scripts<F: Decider + Send + Drop>(
+    alloc: Global,
+    counts: &[usize; USERS],
+) -> Result<Vec<Script<F>>, AllocError>
     ensures { IfOk result (λ scripts. map plain_script scripts.items ≡ map (λ u. (u, [])) users) }
 {
     let mut scripts = Vec::with_capacity(alloc, USERS)?;
     for number in 1001..1065 {
         if let Ok(uid) = Uid::new(number) {
-            let steps = Vec::new(alloc);
+            let steps = Vec::with_capacity(alloc, counts[uid.slot()])?;
             scripts.push(Script { uid, steps })?;
         }
     }
@@ -52,17 +64,26 @@ fn is_asked<F: Decider + Send + Drop>(script: &Script<F>) -> bool
     !script.steps.is_empty()
 }
 
-/// A script for each user who has steps, by rising number of the users. An error is want of memory.
+/// A script for each user who has steps, by rising number of the users, each install with the next handler. An error is
+/// want of memory.
 fn scripts_of<F: Decider + Send + Drop>(
     alloc: Global,
-    steps: Vec<(Uid, Step<Handler<F>>)>,
+    scenario: &Scenario,
+    handlers: Vec<Handler<F>>,
 ) -> Result<Vec<Script<F>>, AllocError>
-    ensures scripts { IfOk result (λ scripts. map plain_script scripts.items ≡ scripts_in (map asked steps.items)) }
-    ensures users { OnOk result (Users (map asked steps.items)) }
+    requires { handlers.items ≡ policies_in scenario.now.steps }
+    ensures scripts { IfOk result (λ scripts. map plain_script scripts.items ≡ scripts_in scenario.now.steps) }
+    ensures users { OnOk result (Users scenario.now.steps) }
+    ensures few { OnOk result (length scenario.now.steps ≤ most_steps) }
 {
-    let mut scripts = empty_scripts(alloc)?;
-    for (user, step) in steps {
-        scripts[user.slot()].steps.push(step)?;
+    let shapes = scenario.shapes();
+    let mut scripts = empty_scripts(alloc, &counts_of(scenario))?;
+    let mut rest = handlers.into_iter();
+    for shape in shapes {
+        let Some(step) = bound_step(&shape.1, &mut rest) else {
+            unreachable!()
+        };
+        scripts[shape.0.slot()].steps.push(step)?;
     }
     scripts.retain(|script| is_asked(script));
     Ok(scripts)
@@ -75,6 +96,7 @@ fn add_replies(pairs: &mut Vec<(Uid, Reply)>, transcript: Transcript) -> Result<
     ensures err { IfErr result (λ e. e ≡ Memory) }
 {
     let Transcript { uid, replies } = transcript;
+    pairs.reserve(replies.len())?;
     for reply in replies {
         if reply.is_memory() {
             return Err(RunFault::Memory);
@@ -97,21 +119,20 @@ fn replies_in(alloc: Global, transcripts: Vec<Transcript>) -> Result<Vec<(Uid, R
     Ok(pairs)
 }
 
-/// The transcripts of the steps, made on a new host by a session for each user who has some.
+/// The transcripts of the scenario's steps, made on a new host by a session for each user who has some.
 fn transcripts_of<F: Decider + Send + Drop, R: Threads + Wait + Sync>(
     rt: &R,
     alloc: Global,
-    settings: Settings,
-    steps: Vec<(Uid, Step<Handler<F>>)>,
+    scenario: &Scenario,
+    handlers: Vec<Handler<F>>,
 ) -> Result<Vec<Transcript>, RunFault>
-    requires { length steps.items ≤ most_steps }
-    ensures told { IfOk result (λ ts. AllByRecursion IsMade ts.items
-        → flat_map told_by ts.items ≡ by_users users (answers_of (record { settings = settings; steps = map asked steps.items }))) }
-    ensures users { OnOk result (Users (map asked steps.items)) }
+    requires { handlers.items ≡ policies_in scenario.now.steps }
+    ensures told { IfOk result (λ ts. AllByRecursion IsMade ts.items → flat_map told_by ts.items ≡ by_users users (answers_of scenario.now)) }
+    ensures users { OnOk result (Users scenario.now.steps) }
     ensures err { IfErr result (λ e. (e ≡ Memory) ⊎ (e ≡ Start)) }
 {
-    let scripts = scripts_of(alloc, steps)?;
-    let host = Host::new(alloc, settings)?;
+    let scripts = scripts_of(alloc, scenario, handlers)?;
+    let host = Host::new(alloc, scenario.settings())?;
     match run_sessions(rt, alloc, host, scripts, &NoGate) {
         Ok((_host, _journal, transcripts)) => Ok(transcripts),
         Err(RunRefusal::Memory) => Err(RunFault::Memory),
@@ -120,20 +141,19 @@ fn transcripts_of<F: Decider + Send + Drop, R: Threads + Wait + Sync>(
     }
 }
 
-/// The replies to the steps, made by a session for each user who has some: one user after another, by rising number.
+/// The replies to the scenario's steps, made by a session for each user who has some: one user after another, by rising number.
 fn replies_by_user<F: Decider + Send + Drop, R: Threads + Wait + Sync>(
     rt: &R,
     alloc: Global,
-    settings: Settings,
-    steps: Vec<(Uid, Step<Handler<F>>)>,
+    scenario: &Scenario,
+    handlers: Vec<Handler<F>>,
 ) -> Result<Vec<(Uid, Reply)>, RunFault>
-    requires { length steps.items ≤ most_steps }
-    ensures ok { IfOk result (λ v. map answered v.items
-        ≡ by_users users (answers_of (record { settings = settings; steps = map asked steps.items }))) }
-    ensures users { OnOk result (Users (map asked steps.items)) }
+    requires { handlers.items ≡ policies_in scenario.now.steps }
+    ensures ok { IfOk result (λ v. map answered v.items ≡ by_users users (answers_of scenario.now)) }
+    ensures users { OnOk result (Users scenario.now.steps) }
     ensures err { IfErr result (λ e. (e ≡ Memory) ⊎ (e ≡ Start)) }
 {
-    let transcripts = transcripts_of(rt, alloc, settings, steps)?;
+    let transcripts = transcripts_of(rt, alloc, scenario, handlers)?;
     replies_in(alloc, transcripts)
 }
 
@@ -155,7 +175,9 @@ pub fn run_threads<F: Decider + Send + Drop, W: Write, R: Threads + Wait + Sync>
         (shown_grouped options.style options.user (answers_of scenario.now)) }
     ensures mismatch { IsErrOf result Mismatch ↔ (handlers.items ≢ policies_in scenario.now.steps) }
 {
-    let steps = bind(alloc, scenario, handlers)?;
-    let replies = replies_by_user(rt, alloc, scenario.settings(), steps)?;
+    if !obey(handlers.as_slice(), scenario.policies()) {
+        return Err(RunFault::Mismatch);
+    }
+    let replies = replies_by_user(rt, alloc, scenario, handlers)?;
     write_lines(alloc, replies.as_slice(), options, writer)
 }

@@ -16,9 +16,10 @@ use requests::Host;
 use std::alloc::{AllocError, Global};
 use stop_handlers::Decider;
 
-/// Room for what the workers give back.
+/// The scripts' users, and room for what the workers give back.
 #[derive(Drop)]
 pub(crate) struct Room {
+    pub uids: Vec<Uid>,
     pub done: Vec<Done>,
     pub sessions: Vec<Session>,
     pub transcripts: Vec<Transcript>,
@@ -52,41 +53,57 @@ pub(crate) fn prepare<F: Decider + Send + Drop>(
     ensures sessions_room { IfOk result (λ r. HasRoomFor (vec_len scripts) r.room.sessions) }
     ensures transcripts_room { IfOk result (λ r. HasRoomFor (vec_len scripts) r.room.transcripts) }
 {
-    let room = room_for(alloc, scripts.len())?;
-    let opened = open_for(alloc, host, scripts.as_slice())?;
+    let room = room_for(alloc, scripts.as_slice())?;
+    let calls = calls_in(scripts.as_slice());
+    let opened = open_for(alloc, host, room.uids.as_slice(), calls)?;
     let Opened { host, sessions } = opened;
     let jobs = pair(alloc, sessions, scripts)?;
     Ok(Ready { host, jobs, room })
 }
 
 /// Room for so many scripts.
-fn room_for(alloc: Global, count: usize) -> Result<Room, AllocError>
-    ensures done { IfOk result (λ r. HasRoomFor count r.done) }
-    ensures sessions { IfOk result (λ r. HasRoomFor count r.sessions) }
-    ensures transcripts { IfOk result (λ r. HasRoomFor count r.transcripts) }
+fn room_for<F: Decider + Send + Drop>(
+    alloc: Global,
+    scripts: &[Script<F>],
+) -> Result<Room, AllocError>
+    ensures uids { IfOk result (λ r. r.uids.items ≡ map uid_of scripts.now) }
+    ensures done { IfOk result (λ r. HasRoomFor (length scripts.now) r.done) }
+    ensures sessions { IfOk result (λ r. HasRoomFor (length scripts.now) r.sessions) }
+    ensures transcripts { IfOk result (λ r. HasRoomFor (length scripts.now) r.transcripts) }
 {
-    let done = Vec::with_capacity(alloc, count)?;
-    let sessions = Vec::with_capacity(alloc, count)?;
-    let transcripts = Vec::with_capacity(alloc, count)?;
+    let uids = uids_of(alloc, scripts)?;
+    let done = Vec::with_capacity(alloc, scripts.len())?;
+    let sessions = Vec::with_capacity(alloc, scripts.len())?;
+    let transcripts = Vec::with_capacity(alloc, scripts.len())?;
     Ok(Room {
+        uids,
         done,
         sessions,
         transcripts,
     })
 }
 
-/// Opens the host for the scripts' users.
+/// How many calls the scripts make.
+fn calls_in<F: Decider + Send + Drop>(scripts: &[Script<F>]) -> usize {
+    let mut calls = 0usize;
+    for script in scripts {
+        calls = calls.saturating_add(script.steps.len());
+    }
+    calls
+}
+
+/// Opens the host for the users, with room in its journal for so many calls.
 fn open_for<F: Decider + Send + Drop>(
     alloc: Global,
     host: Host<F>,
-    scripts: &[Script<F>],
+    uids: &[Uid],
+    calls: usize,
 ) -> Result<Opened<F>, AllocError>
-    requires { IsOpenable (map uid_of scripts.now) }
-    ensures host { IfOk result (λ o. (o.host.start ≡ host) × (o.host.sessions ≡ length scripts.now)) }
-    ensures sessions { IfOk result (λ o. o.sessions.items ≡ new_sessions 0 o.host.id host (map uid_of scripts.now)) }
+    requires { IsOpenable uids.now }
+    ensures host { IfOk result (λ o. (o.host.start ≡ host) × (o.host.sessions ≡ length uids.now)) }
+    ensures sessions { IfOk result (λ o. o.sessions.items ≡ new_sessions 0 o.host.id host uids.now) }
 {
-    let uids = uids_of(alloc, scripts)?;
-    match SharedHost::open(alloc, host, uids.as_slice()) {
+    match SharedHost::open_for(alloc, host, uids, calls) {
         Ok((host, sessions)) => Ok(Opened { host, sessions }),
         Err(_) => Err(AllocError),
     }

@@ -77,6 +77,7 @@ fn play<F: Decider + Send + Drop, G: Gate, R: Threads + Wait + Sync>(
     };
     let Ready { host, jobs, room } = ready;
     let Room {
+        uids: _,
         done,
         sessions,
         transcripts,

@@ -31,8 +31,7 @@ pub(crate) fn work<F: Decider + Send + Drop, G: Gate, R: Wait>(
     ensures { Did session steps.items result.replies.items result.session }
 {
     let uid = session.uid();
-    let mut steps = reversed(steps);
-    while let Some(step) = steps.pop() {
+    for step in steps {
         let index = session.calls_made() + 1;
         gate.before(uid, index);
         let Answer::Reply(reply) = host.call(rt, alloc, &mut session, step) else {

@@ -24,8 +24,8 @@ pub(crate) fn idle() -> Rule
     ensures { result ≡ idle }
 {
     Rule {
-        signal: None,
         flags: StopFlags(0),
+        signal: None,
         decision: Decision::Decline,
     }
 }

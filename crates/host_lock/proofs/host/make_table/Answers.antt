@@ -17,7 +17,7 @@ new-requires g c =
 pub returns-in-Ok-clause-table : goal.returns-in-Ok-clause-table
 returns-in-Ok-clause-table g c =
     let e = c.in-Ok.ensures.ok in
-    let one = ap length c.push_reserved.ensures.items ∙ ap (λ (l : List (Slot g.row.F.Denot)). length (l ++ There c.opening_state.result ∷ [])) c.in_ok-slots.ensures.items in
+    let one = ap length c.push_reserved.ensures.items ∙ ap (λ (l : List (Slot g.row.F.Denot)). length (l ++ There c.in_ok-state.state ∷ [])) c.in_ok-slots.ensures.items in
     ((e.0, e.1 ∙ one), ap (λ k. k.start.value) e.5 ∙ c.of.ensures, ap (λ k. k.sessions) e.5)
 
 pub returns-in-Ok-clause-seat : goal.returns-in-Ok-clause-seat

@@ -1,8 +1,5 @@
-use Rattle.std.proofs.Common.{◌≡◌, map, List, ap, ap₂, subst, ◌∙◌}
+use Rattle.std.proofs.Common.{◌≡◌, map, ap, subst, ◌∙◌}
 use Rattle.pid_blocks.specs.Blocks.{users}
-use Rattle.trace_stop.specs.declared.Settings.{Settings}
-use Rattle.requests.specs.Isolation.{Users}
-use Rattle.requests.specs.Run.{Asked}
 use Rattle.scenario.specs.Runs.{answered, answers_of, by_users, shown, Writes}
 use Rattle.scenario.proofs.GroupLemmas.{shown_plan}
 use Rattle.scenario.proofs.threading.run_threads.Goals as goal
@@ -12,10 +9,6 @@ returns-clause-writes g c =
     let plan = c.args.scenario.now in
     let style = c.args.options.style in
     let user = c.args.options.user in
-    let steps = c.in_ok-steps.ensures.ok in
-    let all : Users plan.steps = subst Users steps c.in_ok-replies.ensures.users in
-    let answers : map answered c.as_slice.result.now ≡ by_users users (answers_of plan) =
-    ap (map answered) c.as_slice.ensures.value ∙ c.in_ok-replies.ensures.ok
-    ∙ ap₂ (λ (settings : Settings) (xs : List Asked). by_users users (answers_of (record { settings = settings; steps = xs }))) c.settings.ensures steps in
-    let text = ap (shown style user) answers ∙ shown_plan style user plan all in
+    let answers : map answered c.as_slice-2.result.now ≡ by_users users (answers_of plan) = ap (map answered) c.as_slice-2.ensures.value ∙ c.in_ok-replies.ensures.ok in
+    let text = ap (shown style user) answers ∙ shown_plan style user plan c.in_ok-replies.ensures.users in
     subst (Writes c.write_lines.result (g.W.Write.contents c.args.writer.now) (g.W.Write.contents c.write_lines.new.writer)) text c.write_lines.ensures.writes

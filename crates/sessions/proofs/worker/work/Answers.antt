@@ -1,31 +1,45 @@
-use Rattle.std.proofs.Common.{◌≡◌, ◌+◌, ◌++◌, [], ◌∷◌, List, sym, ap, ◌∙◌, arith, rules, length-append, vec_len, length, reverse, refl}
+use Rattle.std.proofs.Common.{◌≡◌, ◌+◌, ◌++◌, [], ◌∷◌, List, sym, subst, ap, ◌∙◌, arith, rules, append_assoc, append-nil, length-append, vec_len, length, refl}
+use Rattle.std.specs.Vec.Iter.{into_iter_items}
+use Rattle.std.proofs.lemmas.List.{nil_from_length}
 use Rattle.requests.specs.Plain.{PlainStep}
-use Rattle.sessions.proofs.Scripts.{did_more, next_step, reverse_twice}
+use Rattle.sessions.specs.Made.{Did}
+use Rattle.sessions.proofs.Scripts.{did_more}
 use Rattle.sessions.proofs.worker.work.Goals as goal
-
-pub loop-step-preserved : goal.loop-step-preserved
-loop-step-preserved g c =
-    let inv = c.loop-step.invariant in
-    let done : List PlainStep = inv.0 in
-    let s : PlainStep = c.in-Some.step in
-    let popped : c.loop-step.steps.items ≡ c.pop.new.self.items ++ s ∷ [] = search rules in
-    let less : vec_len c.pop.new.self + 1 ≡ vec_len c.loop-step.steps = search rules in
-    let pushed = c.push_reserved.ensures.len in
-    let room = c.push_reserved.ensures.capacity in
-    let more = length-append done (s ∷ []) in (
-      done ++ s ∷ [],
-      next_step c.args.steps.items done c.loop-step.steps.items c.pop.new.self.items s inv.1 popped,
-      did_more c.args.session c.loop-step.session c.call.new.session done s c.loop-step.replies.items c.push_reserved.new.self.items c.in-Reply.reply inv.2 c.in-Reply.ensures.call c.push_reserved.ensures.items,
-      omega arith,
-      omega arith,
-    )
 
 pub loop-step-init : goal.loop-step-init
 loop-step-init g c =
-    let none_yet : c.args.replies.items ≡ [] = c.requires.room.0 in (
-      [],
-      reverse_twice c.args.steps.items ∙ sym (ap reverse c.reversed-steps.ensures.items),
-      (ap length none_yet, refl, refl, refl, refl, c.requires.fresh.0, c.requires.fresh.1),
-      omega (arith, c.reversed-steps.ensures.len, c.requires.few),
-      omega (arith, c.reversed-steps.ensures.len, c.requires.room.1, c.requires.room.2),
-    )
+    let none_yet : c.args.replies.items ≡ [] = c.requires.room.0 in
+    let all : into_iter_items c.into_iter-step-iterator.result ≡ c.args.steps.items = search rules in
+    let left = ap length all in
+    let count = c.args.steps.ok.0 in
+    record {
+      split = all;
+      did = (ap length none_yet, refl, refl, refl, refl, c.requires.fresh.0, c.requires.fresh.1);
+      few = omega (arith, left, count, c.requires.few);
+      room = omega (arith, left, count, c.requires.room.1, c.requires.room.2);
+    }
+
+pub loop-step-preserved : goal.loop-step-preserved
+loop-step-preserved g c =
+    let at = c.loop-step in
+    let inv = at.invariant in
+    let s : PlainStep = c.in-Some.step in
+    let steps : into_iter_items at.step-iterator ≡ s ∷ into_iter_items c.next.new.self = c.in-Some.ensures.steps.0 in
+    let less = ap length steps in
+    let more = length-append at.yielded (s ∷ []) in
+    let pushed = c.push_reserved.ensures.len in
+    let capacity = c.push_reserved.ensures.capacity in
+    let few = inv.few in
+    let room = inv.room in
+    record {
+      split = append_assoc at.yielded (s ∷ []) _ ∙ rw (← steps) inv.split;
+      did = did_more c.args.session at.session c.call.new.session at.yielded s at.replies.items c.push_reserved.new.self.items c.in-Reply.reply inv.did c.in-Reply.ensures.call c.push_reserved.ensures.items;
+      few = omega arith;
+      room = omega arith;
+    }
+
+pub returns : goal.returns
+returns g c =
+    let none = nil_from_length _ (sym c.loop-step.step-iterator.rest.ok.0 ∙ c.in-None.ensures.steps.0) in
+    let all = sym (append-nil c.loop-step.yielded) ∙ ap (λ (xs : List PlainStep). c.loop-step.yielded ++ xs) (sym none) ∙ c.loop-step.invariant.split in
+    subst (λ (steps : List PlainStep). Did c.args.session steps c.loop-step.replies.items c.loop-step.session) all c.loop-step.invariant.did

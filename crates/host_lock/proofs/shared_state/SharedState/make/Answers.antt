@@ -10,11 +10,11 @@ invariant_of-self-2 g c =
     let did = c.in-Some.ensures.made in
     let e : Entry = entry c.args.user c.args.session c.args.step c.in-Some.copy in
     let longer : c.push_reserved.new.self.items ≡ c.self.inside.journal ++ e ∷ [] = search rules in
-    let now = made c.self.inside.start.value c.self.inside.host c.answered.new.host c.self.inside.journal c.push_reserved.new.self.items e c.self.invariant.0 c.self.invariant.1 (did.1 ∙ did.2) did.3 longer in
+    let now = made c.self.inside.start.value c.as_mut.result.now c.answered.new.host c.self.inside.journal c.push_reserved.new.self.items e c.self.invariant.0 (c.as_mut.ensures.value ∙ c.self.invariant.1) (did.1 ∙ did.2) did.3 longer in
     (now.0, now.1, subst (λ (l : List Entry). Users (asked l)) (sym longer) (users_more c.self.inside.journal e c.self.invariant.2 c.get-number.ensures.user))
 
 pub returns-clause-legal : goal.returns-clause-legal
 returns-clause-legal g c =
     let did = c.in-Some.ensures.made in
-    (made c.self.inside.start.value c.self.inside.host c.answered.new.host c.self.inside.journal c.push_reserved.new.self.items (entry c.args.user c.args.session c.args.step c.in-Some.copy)
-    c.self.invariant.0 c.self.invariant.1 (did.1 ∙ did.2) did.3 (search rules)).0
+    (made c.self.inside.start.value c.as_mut.result.now c.answered.new.host c.self.inside.journal c.push_reserved.new.self.items (entry c.args.user c.args.session c.args.step c.in-Some.copy)
+    c.self.invariant.0 (c.as_mut.ensures.value ∙ c.self.invariant.1) (did.1 ∙ did.2) did.3 (search rules)).0
