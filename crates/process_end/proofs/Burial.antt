@@ -1,17 +1,9 @@
 -- The end of a process that has no LWP, that no row names and for which nobody waits: its own row, and the one who collects it.
-use Rattle.std.proofs.Common.{◌≡◌, ℕ, List, [], ◌∷◌, filter_map, Bool, true, false, not, ◌&&◌, ◌||◌, ◌==◌, if◌then◌else◌, Option, Some, None, is_none, refl, sym, ap, ◌∙◌, eqb-true, rules}
+use Rattle.std.proofs.Common.{◌≡◌, ℕ, List, [], ◌∷◌, filter_map, Bool, true, false, not, ◌&&◌, ◌||◌, ◌==◌, if◌then◌else◌, Option, Some, None, is_none, refl, sym, ap, ◌∙◌, eqb-true, rules, option_map}
 use Rattle.std.proofs.Math.Bool.{or-false}
-use Rattle.std.specs.Prelude.{option_map}
-use Rattle.std.specs.List.{AllByRecursion, list_any}
+use Rattle.trace_stop.proofs.Words.{AllByRecursion, list_any, SIGKILL, LwpData, ProcData, process_of, is_live, is_this, traces, Rows, each, by_owner, Rise, set_process, drop_process, notified, unless}
+use Rattle.trace_stop.proofs.Words.{holds_of, orphaned, dead, uncollected, collector, waits_where, released}
 use Rattle.std.proofs.Math.Path.{fun_ext}
-use Rattle.signals.specs.Table.{SIGKILL}
-use Rattle.lwp_table.specs.declared.LwpData.{LwpData}
-use Rattle.proc_table.specs.declared.ProcData.{ProcData}
-use Rattle.proc_table.specs.Processes.{process_of, is_live, is_this, traces}
-use Rattle.proc_table.specs.Rows.{Rows, each, by_owner}
-use Rattle.proc_table.specs.Kept.{Rise, set_process, drop_process}
-use Rattle.trace_stop.specs.Post.{notified}
-use Rattle.trace_stop.specs.End.{unless, holds_of, orphaned, dead, uncollected, collector, waits_where, released}
 use Rattle.process_end.specs.Laws.{end_alone}
 use Rattle.process_end.specs.Leaving.{LeavingRow, LeavingLwp, IsLeaving}
 use Rattle.trace_stop.proofs.Every.{All-imply, All-both, find_some, none_of}

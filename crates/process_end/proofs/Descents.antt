@@ -1,34 +1,22 @@
 -- The way down the tracees of a process that ends, and one turn of its end.
-use Rattle.std.proofs.lemmas.Bool.Decides.{nat_tests}
-use Rattle.std.proofs.Common.{◌≡◌, ℕ, ◌-◌, ◌<◌, ◌≤◌, List, true, false, ◌&&◌, ◌||◌, ◌==◌, not, Option, Some, None, length, refl, sym, ap, ◌∙◌, arith, true≢false, eqb-true, eq-eqb, subst, inl, inr, unwrap_or, rules}
+use Rattle.trace_stop.proofs.Words.{nat_tests, AllByRecursion, SIGKILL, ProcData, process_of, is_live, is_this, traces, Rows, next_tracee, AtHome, IsKept, LeastOrNone, IsLeast, Stands, IsSound}
+use Rattle.trace_stop.proofs.Words.{is_live_at}
+use Rattle.std.proofs.Common.{◌≡◌, ℕ, ◌-◌, ◌<◌, ◌≤◌, List, true, false, ◌&&◌, ◌||◌, ◌==◌, not, Option, Some, None, length, refl, sym, ap, ◌∙◌, arith, true≢false, eqb-true, eq-eqb, subst, inl, inr, unwrap_or, rules, count_by, ltb, MatchOption}
 use Rattle.std.proofs.Math.Bool.{and-false}
-use Rattle.std.specs.Prelude.{count_by, ltb, MatchOption}
-use Rattle.std.specs.List.{AllByRecursion}
-use Rattle.signals.specs.Table.{SIGKILL}
-use Rattle.proc_table.specs.declared.ProcData.{ProcData}
-use Rattle.proc_table.specs.Processes.{process_of, is_live, is_this, traces}
-use Rattle.proc_table.specs.Rows.{Rows}
-use Rattle.proc_table.specs.Walks.{next_tracee}
-use Rattle.proc_table.specs.Kept.{AtHome, IsKept}
-use Rattle.proc_table.specs.Laws.{LeastOrNone, IsLeast}
 use Rattle.proc_table.proofs.Least.{next_tracee-least}
 use Rattle.proc_table.proofs.Finds.{below_or_not}
 use Rattle.proc_table.proofs.Rows.{process_of-pid}
 use Rattle.trace_stop.specs.End.{tracer_in, tracer_of, holds_of, meets, dooms, end}
-use Rattle.trace_stop.specs.Facts.{Stands, IsSound}
 use Rattle.trace_stop.specs.Laws.{chain}
 use Rattle.process_end.specs.Laws.{traces_live, end_alone}
-use Rattle.trace_stop.specs.Sound.{is_live_at}
 use Rattle.process_end.specs.Descent.{kills, traces_live_above, IsLiveTracee, EndsToo}
 use Rattle.trace_stop.proofs.Every.{or_true, and_left, and_right, both, by_bool, All-both, none_of, none_passes}
 use Rattle.trace_stop.proofs.Edited.{some_is}
 use Rattle.trace_stop.proofs.Passes.{passes, own_rows}
-use Rattle.trace_stop.proofs.Found.{any_by_number}
+use Rattle.trace_stop.proofs.Found.{any_by_number, listed}
 use Rattle.process_end.proofs.LeafLaw.{dooms_meets, q_traced, leaf_law, leaf_dooms}
-use Rattle.trace_stop.proofs.Chains.{meets-suc}
+use Rattle.trace_stop.proofs.Chains.{meets-suc, no_ring, chains_end, tracee_deeper}
 use Rattle.process_end.proofs.Leaves.{tracee_doomed}
-use Rattle.trace_stop.proofs.Chains.{no_ring, chains_end, tracee_deeper}
-use Rattle.trace_stop.proofs.Found.{listed}
 use Rattle.process_end.proofs.LeafLives.{leaf_lives, leaf_fewer}
 use Rattle.process_end.proofs.EndSound.{end_sound}
 use Rattle.process_end.proofs.Doomed.{leaf_end}

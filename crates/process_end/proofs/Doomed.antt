@@ -1,22 +1,11 @@
 -- Who ends with a process.
 use Rattle.std.proofs.Math.Bool.{and-false, and-true}
-use Rattle.std.proofs.lemmas.Bool.Decides.{nat_tests}
+use Rattle.trace_stop.proofs.Words.{nat_tests, AllByRecursion, list_any, SIGTRAP, bit, ProcData, LwpData, process_of, is_live, is_this, traces, reporting, Rows, each, Rise, notified, detached}
+use Rattle.trace_stop.proofs.Words.{untraced, is_live_of, IsLiveOf, Linked, Stands}
 use Rattle.std.proofs.Common.{◌≡◌, ℕ, zero, suc, List, [], ◌∷◌, filter_map, Bool, true, false, ◌&&◌, ◌||◌, ◌==◌, if◌then◌else◌, Option, Some, None, IfSome, is_some, refl, sym, ap, ◌∙◌, arith, rules}
 use Rattle.std.proofs.Math.Path.{fun_ext}
-use Rattle.std.specs.List.{AllByRecursion, list_any}
-use Rattle.signals.specs.Table.{SIGTRAP}
-use Rattle.signals.specs.Sets.{bit}
-use Rattle.proc_table.specs.declared.ProcData.{ProcData}
-use Rattle.lwp_table.specs.declared.LwpData.{LwpData}
-use Rattle.proc_table.specs.Processes.{process_of, is_live, is_this, traces, reporting}
-use Rattle.proc_table.specs.Rows.{Rows, each}
-use Rattle.proc_table.specs.Kept.{Rise}
 use Rattle.trace_stop.specs.declared.Settings.{Settings}
-use Rattle.trace_stop.specs.Post.{notified}
-use Rattle.trace_stop.specs.Detach.{detached, untraced}
 use Rattle.trace_stop.specs.End.{meets, is_doomed, dooms, process_after, lwp_after, notifies_of, left_alone, end_each, end_of}
-use Rattle.trace_stop.specs.Sound.{is_live_of}
-use Rattle.trace_stop.specs.Facts.{IsLiveOf, Linked, Stands}
 use Rattle.process_end.specs.Laws.{traces_live, end_alone, LeafEnd, DetachedEnd}
 use Rattle.trace_stop.proofs.Every.{All-imply, All-both, none_of, find_some}
 use Rattle.trace_stop.proofs.Named.{live_row}

@@ -1,20 +1,10 @@
 -- Who is doomed before a process that traces no live one has ended, and after.
-use Rattle.std.proofs.lemmas.Bool.Decides.{nat_tests}
-use Rattle.std.proofs.Common.{◌≡◌, ℕ, zero, suc, List, [], ◌∷◌, filter_map, Bool, true, false, not, ◌&&◌, ◌||◌, ◌==◌, if◌then◌else◌, Option, Some, None, IfSome, refl, sym, ap, ◌∙◌, eqb, true≢false, eqb-true, eq-eqb, subst, arith, rules}
+use Rattle.trace_stop.proofs.Words.{nat_tests, option_and_then, AllByRecursion, list_any, SIGKILL, SIGTRAP, bit, ProcData, process_of, is_live, is_this, traces, reporting, Rows, Rise, detached}
+use Rattle.trace_stop.proofs.Words.{IsLiveOf, Linked, Standing, Stands, WithOwner}
+use Rattle.std.proofs.Common.{◌≡◌, ℕ, zero, suc, List, [], ◌∷◌, filter_map, Bool, true, false, not, ◌&&◌, ◌||◌, ◌==◌, if◌then◌else◌, Option, Some, None, IfSome, refl, sym, ap, ◌∙◌, eqb, true≢false, eqb-true, eq-eqb, subst, arith, rules, is_some}
 use Rattle.std.proofs.Math.Path.{fun_ext}
-use Rattle.std.specs.Option.{option_and_then}
-use Rattle.std.specs.List.{AllByRecursion, list_any}
-use Rattle.signals.specs.Table.{SIGKILL, SIGTRAP}
-use Rattle.signals.specs.Sets.{bit}
-use Rattle.std.proofs.Common.{is_some}
-use Rattle.proc_table.specs.declared.ProcData.{ProcData}
-use Rattle.proc_table.specs.Processes.{process_of, is_live, is_this, traces, reporting}
-use Rattle.proc_table.specs.Rows.{Rows}
-use Rattle.proc_table.specs.Kept.{Rise}
 use Rattle.trace_stop.specs.declared.Settings.{Settings}
-use Rattle.trace_stop.specs.Detach.{detached}
 use Rattle.trace_stop.specs.End.{tracer_in, tracer_of, holds_of, meets, is_doomed, dooms, orphaned, dead, uncollected, end_each, end_of, end}
-use Rattle.trace_stop.specs.Facts.{IsLiveOf, Linked, Standing, Stands, WithOwner}
 use Rattle.process_end.specs.Laws.{traces_live, LeafLaw, LeafDooms}
 use Rattle.trace_stop.proofs.Every.{and_left, and_right, by_bool, All-imply, All-any, All-both, find_some}
 use Rattle.trace_stop.proofs.Passes.{passes, own_rows, process_edited}

@@ -1,17 +1,7 @@
 -- Who lives on after the end of a process that traces no live one.
-use Rattle.std.proofs.lemmas.Bool.Decides.{nat_tests}
-use Rattle.std.proofs.Common.{◌≡◌, ℕ, ◌+◌, ◌<◌, ◌≤◌, List, [], ◌∷◌, filter_map, Bool, true, false, not, ◌&&◌, ◌==◌, Option, Some, None, IfSome, refl, sym, ap, ◌∙◌, arith, true≢false, eqb-true, subst, rules}
-use Rattle.std.specs.Option.{option_and_then}
-use Rattle.std.specs.Prelude.{count_by}
-use Rattle.std.specs.List.{list_any}
-use Rattle.proc_table.specs.declared.ProcData.{ProcData}
-use Rattle.proc_table.specs.Processes.{process_of, is_live}
-use Rattle.proc_table.specs.Rows.{Rows}
+use Rattle.trace_stop.proofs.Words.{nat_tests, option_and_then, list_any, ProcData, process_of, is_live, Rows, end, Stands, Rise, is_live_at}
+use Rattle.std.proofs.Common.{◌≡◌, ℕ, ◌+◌, ◌<◌, ◌≤◌, List, [], ◌∷◌, filter_map, Bool, true, false, not, ◌&&◌, ◌==◌, Option, Some, None, IfSome, refl, sym, ap, ◌∙◌, arith, true≢false, eqb-true, subst, rules, count_by}
 use Rattle.trace_stop.specs.declared.Settings.{Settings}
-use Rattle.trace_stop.specs.End.{end}
-use Rattle.trace_stop.specs.Facts.{Stands}
-use Rattle.proc_table.specs.Kept.{Rise}
-use Rattle.trace_stop.specs.Sound.{is_live_at}
 use Rattle.process_end.specs.Laws.{traces_live, LeafLives, LeafFewer}
 use Rattle.trace_stop.proofs.Every.{any_more, All-imply, count-cons}
 use Rattle.trace_stop.proofs.Passes.{passes, own_rows, process_edited, rise_edited}

@@ -1,14 +1,7 @@
 -- A zombie taken from its tracer, which ends, and its parent told of it: the tracer's end is as it was.
-use Rattle.std.proofs.lemmas.Bool.Decides.{nat_tests}
+use Rattle.trace_stop.proofs.Words.{nat_tests, AllByRecursion, list_any, LwpData, ProcData, process_of, is_live, is_this, traces, Rows, each, Rise, unless, orphaned, uncollected, released}
 use Rattle.std.proofs.Common.{◌≡◌, ℕ, Bool, true, false, ◌&&◌, ◌||◌, ◌==◌, if◌then◌else◌, Option, Some, None, IfSome, refl, sym, ap, ◌∙◌, true≢false, eqb-true, eq-eqb, arith, rules}
 use Rattle.std.proofs.Math.Bool.{or-false, or_comm}
-use Rattle.std.specs.List.{AllByRecursion, list_any}
-use Rattle.lwp_table.specs.declared.LwpData.{LwpData}
-use Rattle.proc_table.specs.declared.ProcData.{ProcData}
-use Rattle.proc_table.specs.Processes.{process_of, is_live, is_this, traces}
-use Rattle.proc_table.specs.Rows.{Rows, each}
-use Rattle.proc_table.specs.Kept.{Rise}
-use Rattle.trace_stop.specs.End.{unless, orphaned, uncollected, released}
 use Rattle.process_end.specs.Laws.{end_alone}
 use Rattle.process_end.specs.Leaving.{LeavingRow, LeavingLwp, IsLeaving}
 use Rattle.trace_stop.proofs.Every.{choose, All-imply, All-both, find_some}

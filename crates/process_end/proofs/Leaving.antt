@@ -2,15 +2,8 @@
 use Rattle.std.proofs.Common.{◌≡◌, ℕ, List, filter, filter_map, Bool, true, false, not, ◌&&◌, ◌==◌, if◌then◌else◌, Option, Some, None, IfSome, refl, sym, ap, ◌∙◌, eqb-true, eq-eqb, subst, [], ◌∷◌, arith, rules}
 use Rattle.std.proofs.Math.Bool.{and-false}
 use Rattle.std.proofs.Math.Path.{fun_ext}
-use Rattle.std.specs.Option.{option_and_then}
-use Rattle.std.specs.List.{AllByRecursion, list_any}
-use Rattle.lwp_table.specs.declared.LwpData.{LwpData}
-use Rattle.proc_table.specs.declared.ProcData.{ProcData}
-use Rattle.proc_table.specs.Processes.{process_of, is_live}
-use Rattle.proc_table.specs.Rows.{Rows, each, by_owner}
-use Rattle.proc_table.specs.Kept.{Rise, set_process, drop_process}
+use Rattle.trace_stop.proofs.Words.{option_and_then, AllByRecursion, list_any, LwpData, ProcData, process_of, is_live, Rows, each, by_owner, Rise, set_process, drop_process, notified}
 use Rattle.proc_table.proofs.Changes.{map-id, filter_map-map, change_process-at}
-use Rattle.trace_stop.specs.Post.{notified}
 use Rattle.process_end.specs.Leaving.{LeavingRow, LeavingLwp, IsLeaving}
 use Rattle.process_end.specs.Laws.{end_alone}
 use Rattle.trace_stop.proofs.Every.{by_bool, and_left, and_right, All-imply, All-edit, any_holds, any_forward, find_some}

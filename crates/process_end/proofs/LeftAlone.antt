@@ -1,22 +1,9 @@
 -- Tracees detached one after another.
-use Rattle.std.proofs.lemmas.Bool.Decides.{nat_tests}
-use Rattle.std.proofs.Common.{◌≡◌, ℕ, ◌<◌, List, filter_map, Bool, true, false, ◌&&◌, ◌==◌, if◌then◌else◌, Option, Some, None, IfSome, refl, sym, ap, ◌∙◌, eqb-true, arith}
-use Rattle.std.specs.Prelude.{count_by, option_map}
-use Rattle.std.specs.Option.{option_and_then}
-use Rattle.std.specs.List.{AllByRecursion}
-use Rattle.event_masks.specs.Exits.{no_flags, shows}
-use Rattle.event_masks.specs.declared.TheConstants.StopFlags.{PL_FLAG_EXITED}
-use Rattle.lwp_table.specs.declared.LwpData.{LwpData}
-use Rattle.proc_table.specs.declared.ProcData.{ProcData}
-use Rattle.proc_table.specs.Processes.{process_of, is_live, is_this, traces, reporting}
-use Rattle.proc_table.specs.Rows.{Rows, by_owner, is_numbered}
-use Rattle.proc_table.specs.Kept.{Rise}
+use Rattle.trace_stop.proofs.Words.{nat_tests, option_and_then, AllByRecursion, no_flags, shows, PL_FLAG_EXITED, LwpData, ProcData, process_of, is_live, is_this, traces, reporting, Rows, by_owner}
+use Rattle.trace_stop.proofs.Words.{is_numbered, Rise, reported, untraced, untraced_lwp, detached, left_alone, lost_signals, Stands, is_live_at}
+use Rattle.std.proofs.Common.{◌≡◌, ℕ, ◌<◌, List, filter_map, Bool, true, false, ◌&&◌, ◌==◌, if◌then◌else◌, Option, Some, None, IfSome, refl, sym, ap, ◌∙◌, eqb-true, arith, count_by, option_map}
 use Rattle.proc_table.proofs.Changes.{map-id, filter_map-map}
-use Rattle.trace_stop.specs.Detach.{reported, untraced, untraced_lwp, detached}
-use Rattle.trace_stop.specs.End.{left_alone, lost_signals}
-use Rattle.trace_stop.specs.Facts.{Stands}
 use Rattle.process_end.specs.Laws.{traces_live}
-use Rattle.trace_stop.specs.Sound.{is_live_at}
 use Rattle.process_end.specs.Descent.{spares, IsLiveTracee}
 use Rattle.trace_stop.proofs.Every.{All-imply, All-any, any_forward, none_of}
 use Rattle.trace_stop.proofs.Passes.{passes, each_same, each_twice}

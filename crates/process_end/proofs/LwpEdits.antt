@@ -1,16 +1,7 @@
 -- A walk that takes out the LWPs of a process, and what the end of a vfork wait keeps of an LWP.
-use Rattle.std.proofs.lemmas.Bool.Decides.{nat_tests}
-use Rattle.std.proofs.Common.{◌≡◌, ℕ, ◌<◌, ◌≤◌, Bool, true, false, List, [], ◌∷◌, length, filter, refl, sym, ap, ◌∙◌, arith, inl, inr, eqb, Some, None, true≢false, subst, eq-eqb, eqb-true}
-use Rattle.std.specs.Prelude.{not, ◌==◌, IfSome}
-use Rattle.std.specs.List.{AllByRecursion}
-use Rattle.std.proofs.lemmas.Bool.{cases_Bool}
-use Rattle.lwp_table.specs.declared.LwpData.{LwpData}
-use Rattle.lwp_table.specs.Lwps.{LacksLwp, Differ, lwp_of, first_lwp, without_lwp}
-use Rattle.proc_table.specs.declared.ProcData.{ProcData}
-use Rattle.proc_table.specs.Rows.{Rows}
-use Rattle.proc_table.specs.Kept.{drop_lwp}
+use Rattle.trace_stop.proofs.Words.{nat_tests, AllByRecursion, cases_Bool, LwpData, LacksLwp, Differ, lwp_of, first_lwp, without_lwp, ProcData, Rows, drop_lwp, released}
+use Rattle.std.proofs.Common.{◌≡◌, ℕ, ◌<◌, ◌≤◌, Bool, true, false, List, [], ◌∷◌, length, filter, refl, sym, ap, ◌∙◌, arith, inl, inr, eqb, Some, None, true≢false, subst, eq-eqb, eqb-true, not, ◌==◌, IfSome}
 use Rattle.proc_table.proofs.LwpWalk.{IsLwp, first-found}
-use Rattle.trace_stop.specs.End.{released}
 use Rattle.process_end.specs.Leaving.{without_lwps}
 use Rattle.trace_stop.proofs.Every.{All-imply}
 

@@ -1,24 +1,12 @@
 -- The LWPs of a process that ends, and those that wait for it.
 use Rattle.std.proofs.Common.{◌≡◌, ℕ, List, [], ◌∷◌, map, filter, filter_map, Bool, true, false, not, ◌&&◌, ◌==◌, if◌then◌else◌, Option, Some, None, IfSome, is_none, is_some, refl, sym, ap, ◌∙◌, true≢false, eqb-true, eq-eqb, subst, arith}
-use Rattle.std.specs.Option.{option_and_then}
-use Rattle.std.specs.List.{AllByRecursion}
+use Rattle.trace_stop.proofs.Words.{option_and_then, AllByRecursion, LwpData, Mode, User, InCall, VforkWait, ProcData, State, Run, Trace, Job, Zombie, process_of, is_live, is_zombie_state, traces}
+use Rattle.trace_stop.proofs.Words.{Rows, each, by_owner, own_lwp, map_lwps, Housed, waits_where, released, lwp_after, IsLiveOf, IsLiveChild, Linked, IfEnded, FitProcess, Standing, WithOwner}
+use Rattle.trace_stop.proofs.Words.{waited_for, IsSound, is_live_at}
 use Rattle.std.proofs.Math.Path.{fun_ext}
-use Rattle.lwp_table.specs.declared.LwpData.{LwpData}
-use Rattle.lwp_table.specs.declared.Mode.{Mode}
-use Rattle.lwp_table.specs.declared.Mode.TheVariants.{User, InCall, VforkWait}
-use Rattle.proc_table.specs.declared.ProcData.{ProcData}
-use Rattle.proc_table.specs.declared.State.{State}
-use Rattle.proc_table.specs.declared.State.TheVariants.{Run, Trace, Job, Zombie}
-use Rattle.proc_table.specs.Processes.{process_of, is_live, is_zombie_state, traces}
-use Rattle.proc_table.specs.Rows.{Rows, each, by_owner}
-use Rattle.proc_table.specs.Edits.{own_lwp, map_lwps}
-use Rattle.proc_table.specs.Kept.{Housed}
 use Rattle.proc_table.proofs.Changes.{map-id}
 use Rattle.proc_table.proofs.Rows.{process_of-pid}
-use Rattle.trace_stop.specs.End.{waits_where, released, lwp_after}
-use Rattle.trace_stop.specs.Facts.{IsLiveOf, IsLiveChild, Linked, IfEnded, FitProcess, Standing, WithOwner, waited_for, IsSound}
 use Rattle.process_end.specs.Laws.{traces_live, end_alone}
-use Rattle.trace_stop.specs.Sound.{is_live_at}
 use Rattle.process_end.specs.Leaving.{without_lwps, lwps_ended, LeavingRow, LeavingLwp, IsLeaving}
 use Rattle.trace_stop.proofs.Every.{by_bool, choose, and_left, and_right, both, All-imply, All-both, All-edit, any_holds, any_more, none_of}
 use Rattle.trace_stop.proofs.Passes.{passes, own_rows, filter_map_same, filter_map_twice}

@@ -1,22 +1,12 @@
 -- A tracee or a child that is taken from a process that ends, over the tables' edits.
-use Rattle.std.proofs.lemmas.Bool.Decides.{nat_tests}
-use Rattle.std.proofs.Common.{◌≡◌, ℕ, ◌<◌, Bool, true, false, ◌&&◌, ◌||◌, ◌==◌, if◌then◌else◌, Option, Some, None, is_none, is_some, refl, sym, ap, ◌∙◌, arith, true≢false, eqb-true, subst, [], ◌∷◌, not}
-use Rattle.std.specs.Prelude.{count_by, option_map}
-use Rattle.std.specs.List.{list_any}
-use Rattle.proc_table.specs.declared.ProcData.{ProcData}
-use Rattle.lwp_table.specs.declared.LwpData.{LwpData}
+use Rattle.trace_stop.proofs.Words.{nat_tests, list_any, ProcData, LwpData, process_of, is_live, traces, Rows, each, next_tracee, next_child, AtHome, IsKept, IsRow, Named, set_process, drop_process}
+use Rattle.trace_stop.proofs.Words.{IsLeast, LeastOrNone, notified, orphaned, uncollected, collector}
+use Rattle.std.proofs.Common.{◌≡◌, ℕ, ◌<◌, Bool, true, false, ◌&&◌, ◌||◌, ◌==◌, if◌then◌else◌, Option, Some, None, is_none, is_some, refl, sym, ap, ◌∙◌, arith, true≢false, eqb-true, subst, [], ◌∷◌, not, count_by, option_map}
 use Rattle.trace_stop.proofs.Passes.{passes}
-use Rattle.proc_table.specs.Processes.{process_of, is_live, traces}
-use Rattle.proc_table.specs.Rows.{Rows, each}
-use Rattle.proc_table.specs.Walks.{next_tracee, next_child}
-use Rattle.proc_table.specs.Kept.{AtHome, IsKept, IsRow, Named, set_process, drop_process}
-use Rattle.proc_table.specs.Laws.{IsLeast, LeastOrNone}
 use Rattle.proc_table.proofs.Every.{every_found}
 use Rattle.proc_table.proofs.Least.{next_tracee-least, next_child-least}
 use Rattle.proc_table.proofs.Rows.{found_row}
 use Rattle.proc_table.proofs.Stays.{named-untraced}
-use Rattle.trace_stop.specs.Post.{notified}
-use Rattle.trace_stop.specs.End.{orphaned, uncollected, collector}
 use Rattle.process_end.specs.Laws.{end_alone}
 use Rattle.process_end.specs.Leaving.{LeavingRow, IsLeaving}
 use Rattle.trace_stop.proofs.Every.{by_bool, choose, and_left, any_holds, All-any, find_some}

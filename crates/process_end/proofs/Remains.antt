@@ -1,18 +1,9 @@
 -- What one row is, and its LWPs are, after a process that traces no live one has ended.
-use Rattle.std.proofs.lemmas.Bool.Decides.{nat_tests}
-use Rattle.std.proofs.Common.{◌≡◌, ℕ, List, [], ◌∷◌, filter_map, Bool, true, false, ◌==◌, Option, Some, None, IfSome, refl, sym, ap, ◌∙◌, arith, eq-eqb, rules}
-use Rattle.std.specs.Prelude.{count_by}
+use Rattle.trace_stop.proofs.Words.{nat_tests, AllByRecursion, without, ProcData, LwpData, process_of, is_live, Rows, each, by_owner, unwanted, orphaned, dead, uncollected, released, end_each, Linked}
+use Rattle.trace_stop.proofs.Words.{Stands}
+use Rattle.std.proofs.Common.{◌≡◌, ℕ, List, [], ◌∷◌, filter_map, Bool, true, false, ◌==◌, Option, Some, None, IfSome, refl, sym, ap, ◌∙◌, arith, eq-eqb, rules, count_by}
 use Rattle.std.specs.Int.RustNames.{bit_and}
-use Rattle.std.specs.List.{AllByRecursion}
 use Rattle.std.proofs.lemmas.Nat.Bits.{bit_at_and, bit_at_or, bit_at_xor, bit_at-zero, same_from_bits}
-use Rattle.signals.specs.Sets.{without}
-use Rattle.proc_table.specs.declared.ProcData.{ProcData}
-use Rattle.lwp_table.specs.declared.LwpData.{LwpData}
-use Rattle.proc_table.specs.Processes.{process_of, is_live}
-use Rattle.proc_table.specs.Rows.{Rows, each, by_owner}
-use Rattle.trace_stop.specs.Post.{unwanted}
-use Rattle.trace_stop.specs.End.{orphaned, dead, uncollected, released, end_each}
-use Rattle.trace_stop.specs.Facts.{Linked, Stands}
 use Rattle.process_end.specs.Laws.{traces_live, end_alone}
 use Rattle.trace_stop.proofs.Every.{choose, All-imply, any_holds, count-cons}
 use Rattle.trace_stop.proofs.Passes.{passes, own_rows}

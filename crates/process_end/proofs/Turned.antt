@@ -1,15 +1,8 @@
 -- What the end of a process makes of each row, with those who are told of it.
 use Rattle.std.proofs.Common.{◌≡◌, ℕ, Bool, true, false, ◌&&◌, ◌==◌, if◌then◌else◌, Option, Some, None, is_none, refl, ap, arith, bit_or, rules}
-use Rattle.std.specs.Option.{option_and_then}
+use Rattle.trace_stop.proofs.Words.{option_and_then, without, SIGKILL, SIGCHLD, ProcData, LwpData, is_live, by_owner, unwanted, posted_process, posted_lwp, orphaned, dead, uncollected, process_after}
+use Rattle.trace_stop.proofs.Words.{released, lwp_after}
 use Rattle.std.proofs.lemmas.Nat.Bits.{bit_at_or, bit_at_xor, same_from_bits}
-use Rattle.signals.specs.Sets.{without}
-use Rattle.signals.specs.Table.{SIGKILL, SIGCHLD}
-use Rattle.proc_table.specs.declared.ProcData.{ProcData}
-use Rattle.lwp_table.specs.declared.LwpData.{LwpData}
-use Rattle.proc_table.specs.Processes.{is_live}
-use Rattle.proc_table.specs.Rows.{by_owner}
-use Rattle.trace_stop.specs.Post.{unwanted, posted_process, posted_lwp}
-use Rattle.trace_stop.specs.End.{orphaned, dead, uncollected, process_after, released, lwp_after}
 
 -- SIGCHLD posted to a process, and to an LWP of it
 unfoldable pub heard : ProcData → ProcData

@@ -1,15 +1,7 @@
 -- A row that no row names may be taken out, and what each step on the way to a process's end leaves fewer of.
-use Rattle.std.proofs.Common.{◌≡◌, ℕ, ◌<◌, List, [], ◌∷◌, find, filter_map, Bool, true, false, not, ◌&&◌, ◌==◌, Option, Some, None, IfSome, refl, sym, ap, ◌∙◌, arith, true≢false, eqb-true, eq-eqb, rules}
+use Rattle.std.proofs.Common.{◌≡◌, ℕ, ◌<◌, List, [], ◌∷◌, find, filter_map, Bool, true, false, not, ◌&&◌, ◌==◌, Option, Some, None, IfSome, refl, sym, ap, ◌∙◌, arith, true≢false, eqb-true, eq-eqb, rules, count_by, ltb}
 use Rattle.std.proofs.Math.Bool.{and-false}
-use Rattle.std.proofs.lemmas.Bool.Decides.{nat_tests}
-use Rattle.std.specs.Prelude.{count_by, ltb}
-use Rattle.std.specs.List.{AllByRecursion, list_any}
-use Rattle.lwp_table.specs.Lwps.{first_lwp}
-use Rattle.proc_table.specs.declared.ProcData.{ProcData}
-use Rattle.proc_table.specs.Processes.{process_of, is_live, is_this, traces}
-use Rattle.proc_table.specs.Rows.{Rows}
-use Rattle.proc_table.specs.Walks.{next_tracee, next_child}
-use Rattle.proc_table.specs.Kept.{AtHome, IsKept}
+use Rattle.trace_stop.proofs.Words.{nat_tests, AllByRecursion, list_any, first_lwp, ProcData, process_of, is_live, is_this, traces, Rows, next_tracee, next_child, AtHome, IsKept}
 use Rattle.process_end.specs.Leaving.{LeavingRow, LeavingLwp, IsLeaving}
 use Rattle.trace_stop.proofs.Every.{by_bool, All-imply, any_more, find_some, none_of, none_passes}
 use Rattle.trace_stop.proofs.Passes.{passes, any_edited}

@@ -1,25 +1,11 @@
 -- A sound host with one more process and its first LWP, or with one more LWP, is sound.
-use Rattle.std.proofs.Common.{◌≡◌, ◌≢◌, ℕ, ◌+◌, ◌<◌, ◌≤◌, List, [], ◌∷◌, ◌++◌, find, Bool, true, false, cond, ◌==◌, ◌&&◌, Some, None, IfSome, refl, sym, ap, ◌∙◌, arith, eqb, true≢false, eqb-true, subst, eq-eqb, length-set, rules}
-use Rattle.std.specs.Prelude.{count_by}
-use Rattle.std.specs.List.{AllByRecursion, list_any}
+use Rattle.std.proofs.Common.{◌≡◌, ◌≢◌, ℕ, ◌+◌, ◌<◌, ◌≤◌, List, [], ◌∷◌, ◌++◌, find, Bool, true, false, cond, ◌==◌, ◌&&◌, Some, None, IfSome, refl, sym, ap, ◌∙◌, arith, eqb, true≢false, eqb-true, subst, eq-eqb, length-set, rules, count_by}
+use Rattle.trace_stop.proofs.Words.{AllByRecursion, list_any, IsUser, slot, pid_block, tid_block, InBlock, cursor_after, shows, PL_FLAG_EXITED, LwpData, Differ, ProcData, is_live, reporting}
+use Rattle.trace_stop.proofs.Words.{process_of, placed, Rows, owns, is_process, is_lwp, add_process, add_lwp, process_count, lwp_count_of, AtHome, Housed, tracer_in, tracer_of, names_own, IsLiveOf}
+use Rattle.trace_stop.proofs.Words.{IsLiveChild, Linked, FitProcess, waited_for, Standing, FitLwp, WithOwner, IsSound}
 use Rattle.std.proofs.lemmas.List.Folds.{list_any-append}
-use Rattle.pid_blocks.specs.Users.{IsUser}
-use Rattle.pid_blocks.specs.Blocks.{slot, pid_block, tid_block, InBlock, cursor_after}
-use Rattle.event_masks.specs.Exits.{shows}
-use Rattle.event_masks.specs.declared.TheConstants.StopFlags.{PL_FLAG_EXITED}
-use Rattle.lwp_table.specs.declared.LwpData.{LwpData}
-use Rattle.lwp_table.specs.Lwps.{Differ}
-use Rattle.proc_table.specs.declared.ProcData.{ProcData}
-use Rattle.proc_table.specs.Processes.{is_live, reporting, process_of, placed}
-use Rattle.proc_table.specs.Rows.{Rows}
-use Rattle.proc_table.specs.Seen.{owns}
-use Rattle.proc_table.specs.Fresh.{is_process, is_lwp, add_process, add_lwp, process_count, lwp_count_of}
 use Rattle.proc_table.proofs.Cursors.{InBlock-after, cursors-set}
 use Rattle.proc_table.proofs.Lwps.{LacksLwp-from_any, Differ-push}
-use Rattle.proc_table.specs.Kept.{AtHome, Housed}
-use Rattle.trace_stop.specs.End.{tracer_in, tracer_of}
-use Rattle.trace_stop.specs.Sound.{names_own}
-use Rattle.trace_stop.specs.Facts.{IsLiveOf, IsLiveChild, Linked, FitProcess, waited_for, Standing, FitLwp, WithOwner, IsSound}
 use Rattle.trace_stop.proofs.Every.{and_left, or_true, by_bool, All-imply, All-both, All-append, find_some, any_holds, none_of, any_more, count-cons, count-append, count_same}
 use Rattle.trace_stop.proofs.Children.{child_test}
 use Rattle.trace_stop.proofs.Edited.{If_more}

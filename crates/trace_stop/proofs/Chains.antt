@@ -1,16 +1,7 @@
 -- Chains of tracers end within as many links as a user has processes, less one.
-use Rattle.std.proofs.lemmas.Bool.{cases_Bool}
-use Rattle.std.proofs.lemmas.Bool.Decides.{nat_tests}
-use Rattle.std.proofs.Common.{◌≡◌, ℕ, zero, suc, ◌+◌, ◌-◌, ◌≤◌, List, [], ◌∷◌, length, filter, find, Bool, true, false, not, ◌&&◌, ◌||◌, ◌==◌, Option, Some, None, IfSome, is_some, refl, sym, ap, ◌∙◌, arith, true≢false, eqb-true, eq-eqb, subst, inl, inr, rules}
-use Rattle.std.specs.Prelude.{count_by}
-use Rattle.std.specs.List.{AllByRecursion, list_any}
-use Rattle.std.proofs.lemmas.Bool.{cases_lt}
-use Rattle.proc_table.specs.declared.ProcData.{ProcData}
-use Rattle.proc_table.specs.Processes.{process_of, is_live}
-use Rattle.proc_table.specs.Rows.{Rows}
-use Rattle.proc_table.specs.Kept.{AtHome}
+use Rattle.trace_stop.proofs.Words.{cases_Bool, cases_lt, nat_tests, AllByRecursion, list_any, ProcData, process_of, is_live, Rows, AtHome, IsLiveOf, Linked, Stands}
+use Rattle.std.proofs.Common.{◌≡◌, ℕ, zero, suc, ◌+◌, ◌-◌, ◌≤◌, List, [], ◌∷◌, length, filter, find, Bool, true, false, not, ◌&&◌, ◌||◌, ◌==◌, Option, Some, None, IfSome, is_some, refl, sym, ap, ◌∙◌, arith, true≢false, eqb-true, eq-eqb, subst, inl, inr, rules, count_by}
 use Rattle.trace_stop.specs.End.{tracer_in, tracer_of, holds_of, meets}
-use Rattle.trace_stop.specs.Facts.{IsLiveOf, Linked, Stands}
 use Rattle.trace_stop.specs.Laws.{onward, chain, ChainsEnd, ChainsMeet, TraceeDeeper}
 use Rattle.trace_stop.proofs.Every.{and_left, and_right, by_bool, All-imply, All-both, any_holds, any_more, find_some, count-cons}
 use Rattle.trace_stop.proofs.Passes.{own_rows}

@@ -1,23 +1,9 @@
 -- Rows after an edit are as rows must be, where each row keeps its part.
-use Rattle.std.proofs.lemmas.Bool.Decides.{nat_tests}
+use Rattle.trace_stop.proofs.Words.{nat_tests, option_and_then, AllByRecursion, list_any, IsUser, tid_block, InBlock, shows, PL_FLAG_EXITED, LwpData, lwp_of, ProcData, is_live, reporting, process_of}
+use Rattle.trace_stop.proofs.Words.{Rows, owner, by_owner, each, edit_processes, edit_lwps, owns, lwp_count, Rise, AtHome, Housed, names_own, IsLiveOf, IsLiveChild, Linked, FitProcess, waited_for}
+use Rattle.trace_stop.proofs.Words.{Standing, FitLwp, WithOwner, Stands, IsSound}
 use Rattle.std.proofs.Common.{◌≡◌, ◌≢◌, ◌⊎◌, inl, inr, ℕ, zero, suc, ◌≤◌, List, filter_map, Bool, true, false, ◌==◌, ◌&&◌, if◌then◌else◌, Option, Some, None, IfSome, refl, sym, ap, ◌∙◌, arith, true≢false, eqb-true, subst, rules}
-use Rattle.std.specs.Option.{option_and_then}
-use Rattle.std.specs.List.{AllByRecursion, list_any}
-use Rattle.pid_blocks.specs.Users.{IsUser}
-use Rattle.pid_blocks.specs.Blocks.{tid_block, InBlock}
-use Rattle.event_masks.specs.Exits.{shows}
-use Rattle.event_masks.specs.declared.TheConstants.StopFlags.{PL_FLAG_EXITED}
-use Rattle.lwp_table.specs.declared.LwpData.{LwpData}
-use Rattle.lwp_table.specs.Lwps.{lwp_of}
-use Rattle.proc_table.specs.declared.ProcData.{ProcData}
-use Rattle.proc_table.specs.Processes.{is_live, reporting, process_of}
-use Rattle.proc_table.specs.Rows.{Rows, owner, by_owner, each, edit_processes, edit_lwps}
-use Rattle.proc_table.specs.Seen.{owns}
-use Rattle.proc_table.specs.Fresh.{lwp_count}
-use Rattle.proc_table.specs.Kept.{Rise, AtHome, Housed}
 use Rattle.trace_stop.specs.End.{tracer_in, tracer_of, meets}
-use Rattle.trace_stop.specs.Sound.{names_own}
-use Rattle.trace_stop.specs.Facts.{IsLiveOf, IsLiveChild, Linked, FitProcess, waited_for, Standing, FitLwp, WithOwner, Stands, IsSound}
 use Rattle.trace_stop.proofs.Every.{and_left, and_right, both, by_bool, All-imply, All-both, All-edit, All-any, find_some, any_forward}
 use Rattle.trace_stop.proofs.Passes.{own_rows, rise_edited, process_edited, filter_map_same}
 use Rattle.trace_stop.proofs.Children.{child_after}

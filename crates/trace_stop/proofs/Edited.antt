@@ -1,12 +1,6 @@
 -- Lists whose elements are each changed, or taken out.
-use Rattle.std.proofs.lemmas.Bool.Decides.{nat_tests}
-use Rattle.std.proofs.Common.{◌≡◌, ℕ, ◌+◌, ◌≤◌, List, [], ◌∷◌, find, filter_map, Bool, true, false, ◌==◌, Option, Some, None, IfSome, refl, sym, ap, ◌∙◌, arith, subst, eqb-true, true≢false, rules}
-use Rattle.std.specs.Prelude.{count_by}
-use Rattle.std.specs.List.{AllByRecursion, list_any, cons_option}
-use Rattle.lwp_table.specs.declared.LwpData.{LwpData}
-use Rattle.lwp_table.specs.Lwps.{Differ, LacksLwp}
-use Rattle.proc_table.specs.declared.ProcData.{ProcData}
-use Rattle.proc_table.specs.Rows.{Rows}
+use Rattle.trace_stop.proofs.Words.{nat_tests, AllByRecursion, list_any, cons_option, LwpData, Differ, LacksLwp, ProcData, Rows}
+use Rattle.std.proofs.Common.{◌≡◌, ℕ, ◌+◌, ◌≤◌, List, [], ◌∷◌, find, filter_map, Bool, true, false, ◌==◌, Option, Some, None, IfSome, refl, sym, ap, ◌∙◌, arith, subst, eqb-true, true≢false, rules, count_by}
 use Rattle.trace_stop.proofs.Every.{by_bool, count-cons, All-imply, All-any, any_more, count_more}
 use Rattle.trace_stop.proofs.Passes.{passes, any_edited, count_edited}
 

@@ -1,9 +1,6 @@
 -- A fact of each element of a list, and tests and counts on lists.
-use Rattle.std.proofs.lemmas.Bool.Decides.{nat_tests}
-use Rattle.std.proofs.lemmas.Bool.{cases_Bool}
-use Rattle.std.proofs.Common.{◌≡◌, ◌+◌, List, [], ◌∷◌, ◌++◌, filter, find, filter_map, Bool, true, false, cond, not, ◌&&◌, ◌||◌, Option, Some, None, IfSome, refl, sym, ◌∙◌, arith, true≢false, subst, if◌then◌else◌, is_some, inl, inr, ℕ, ◌≤◌}
-use Rattle.std.specs.Prelude.{count_by}
-use Rattle.std.specs.List.{AllByRecursion, list_any, list_all}
+use Rattle.trace_stop.proofs.Words.{nat_tests, cases_Bool, AllByRecursion, list_any, list_all}
+use Rattle.std.proofs.Common.{◌≡◌, ◌+◌, List, [], ◌∷◌, ◌++◌, filter, find, filter_map, Bool, true, false, cond, not, ◌&&◌, ◌||◌, Option, Some, None, IfSome, refl, sym, ◌∙◌, arith, true≢false, subst, if◌then◌else◌, is_some, inl, inr, ℕ, ◌≤◌, count_by}
 use Rattle.std.proofs.lemmas.List.Sums.{sum_by-cons, sum_by-append}
 
 pub and_left : (a b : Bool) → (a && b) ≡ true → a ≡ true

@@ -1,15 +1,7 @@
 -- Rows that are found by their numbers.
-use Rattle.std.proofs.lemmas.Bool.Decides.{nat_tests}
-use Rattle.std.proofs.Common.{◌≡◌, ◌∙◌, ℕ, Bool, true, ◌==◌, true≢false, List, [], ◌∷◌, nat_eq, sym, ap, refl, Option, Some, None, IsSome, is_some, arith}
-use Rattle.std.specs.Prelude.{◌&&◌}
-use Rattle.std.specs.List.{list_any}
-use Rattle.proc_table.specs.declared.ProcData.{ProcData}
-use Rattle.proc_table.specs.Processes.{process_of, is_live}
-use Rattle.proc_table.specs.Rows.{Rows}
-use Rattle.proc_table.specs.Fresh.{is_process}
-use Rattle.proc_table.specs.Kept.{IsRow, Rise}
+use Rattle.trace_stop.proofs.Words.{nat_tests, list_any, ProcData, process_of, is_live, Rows, is_process, IsRow, Rise, is_live_at}
+use Rattle.std.proofs.Common.{◌≡◌, ◌∙◌, ℕ, Bool, true, ◌==◌, true≢false, List, [], ◌∷◌, nat_eq, sym, ap, refl, Option, Some, None, IsSome, is_some, arith, ◌&&◌}
 use Rattle.proc_table.proofs.Rows.{row_found, process_of-pid}
-use Rattle.trace_stop.specs.Sound.{is_live_at}
 use Rattle.trace_stop.proofs.Every.{and_left, any_more}
 use Rattle.trace_stop.proofs.Passes.{passes, above_none}
 

@@ -1,27 +1,13 @@
 -- The test of soundness, and soundness as facts: each gives the other.
-use Rattle.std.proofs.lemmas.Bool.Decides.{nat_tests}
+use Rattle.trace_stop.proofs.Words.{nat_tests, AllByRecursion, list_any, list_all, le-leb, leb-true, IsUser, pid_block, tid_block, in_block, InBlock, slot, users, rising, LwpData, Mode, User, InCall}
+use Rattle.trace_stop.proofs.Words.{VforkWait, Differ, LacksLwp, ProcData, State, Run, Trace, Job, Zombie, is_live, is_run, is_job, reporting, process_of, Rows, process_count, lwp_count_of, lwp_count}
+use Rattle.trace_stop.proofs.Words.{Rise, AllAbove, AtHome, Housed, unwanted, rises, differ, implies, holds, exists, of_owner, is_live_of, sound_numbers, sound_limits, sound_links, sound_owners}
+use Rattle.trace_stop.proofs.Words.{names_own, is_state, sound_states, waits_for, sound_lwp, sound_lwps, sound_rows, IsLiveChild, Linked, IfEnded, FitProcess, waited_for, Standing, FitLwp, WithOwner}
+use Rattle.trace_stop.proofs.Words.{Stands, IsSound}
 use Rattle.std.proofs.Common.{◌≡◌, ℕ, zero, suc, ◌+◌, ◌<◌, ◌≤◌, List, [], ◌∷◌, length, map, zip, Bool, true, false, ◌==◌, ◌&&◌, ◌||◌, not, leb, ltb, Option, Some, None, is_some, is_none, IfSome, refl, sym, ap, arith, eqb, true≢false, eqb-true, subst, eq-eqb, get_or, rules}
 use Rattle.std.specs.Int.RustNames.{bit_and}
-use Rattle.std.specs.List.{AllByRecursion, list_any, list_all}
-use Rattle.std.proofs.lemmas.Bool.{le-leb, leb-true}
-use Rattle.pid_blocks.specs.Users.{IsUser}
 use Rattle.pid_blocks.specs.declared.Block.{Block}
-use Rattle.pid_blocks.specs.Blocks.{pid_block, tid_block, in_block, InBlock, slot, users, rising}
-use Rattle.lwp_table.specs.declared.LwpData.{LwpData}
-use Rattle.lwp_table.specs.declared.Mode.{Mode}
-use Rattle.lwp_table.specs.declared.Mode.TheVariants.{User, InCall, VforkWait}
-use Rattle.lwp_table.specs.Lwps.{Differ, LacksLwp}
-use Rattle.proc_table.specs.declared.ProcData.{ProcData}
-use Rattle.proc_table.specs.declared.State.{State}
-use Rattle.proc_table.specs.declared.State.TheVariants.{Run, Trace, Job, Zombie}
-use Rattle.proc_table.specs.Processes.{is_live, is_run, is_job, reporting, process_of}
-use Rattle.proc_table.specs.Rows.{Rows}
-use Rattle.proc_table.specs.Fresh.{process_count, lwp_count_of, lwp_count}
-use Rattle.proc_table.specs.Kept.{Rise, AllAbove, AtHome, Housed}
-use Rattle.trace_stop.specs.Post.{unwanted}
 use Rattle.trace_stop.specs.End.{meets}
-use Rattle.trace_stop.specs.Sound.{rises, differ, implies, holds, exists, of_owner, is_live_of, sound_numbers, sound_limits, sound_links, sound_owners, names_own, is_state, sound_states, waits_for, sound_lwp, sound_lwps, sound_rows}
-use Rattle.trace_stop.specs.Facts.{IsLiveChild, Linked, IfEnded, FitProcess, waited_for, Standing, FitLwp, WithOwner, Stands, IsSound}
 use Rattle.trace_stop.proofs.Every.{and_left, and_right, both, implies_at, implies_from, not_true, by_bool, All-from_list_all, list_all-from_All, All-imply, All-both}
 
 -- users, and lists beside them

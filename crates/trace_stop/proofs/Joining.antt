@@ -1,19 +1,7 @@
 -- A process with one more LWP keeps rows sound.
-use Rattle.std.proofs.lemmas.Bool.Decides.{nat_tests}
+use Rattle.trace_stop.proofs.Words.{nat_tests, list_any, IsUser, slot, tid_block, InBlock, cursor_after, shows, PL_FLAG_EXITED, LwpData, ProcData, is_live, process_of, Rows, owns, is_lwp, add_lwp}
+use Rattle.trace_stop.proofs.Words.{lwp_count_of, AtHome, Housed, Linked, waited_for, Standing, FitLwp, WithOwner, IsSound}
 use Rattle.std.proofs.Common.{◌≡◌, ℕ, ◌+◌, ◌<◌, ◌≤◌, [], ◌∷◌, Bool, true, false, cond, ◌==◌, ◌&&◌, Some, None, refl, sym, ap, ◌∙◌, true≢false, subst, arith, eqb-true, length-set, rules}
-use Rattle.std.specs.List.{list_any}
-use Rattle.pid_blocks.specs.Users.{IsUser}
-use Rattle.pid_blocks.specs.Blocks.{slot, tid_block, InBlock, cursor_after}
-use Rattle.event_masks.specs.Exits.{shows}
-use Rattle.event_masks.specs.declared.TheConstants.StopFlags.{PL_FLAG_EXITED}
-use Rattle.lwp_table.specs.declared.LwpData.{LwpData}
-use Rattle.proc_table.specs.declared.ProcData.{ProcData}
-use Rattle.proc_table.specs.Processes.{is_live, process_of}
-use Rattle.proc_table.specs.Rows.{Rows}
-use Rattle.proc_table.specs.Seen.{owns}
-use Rattle.proc_table.specs.Fresh.{is_lwp, add_lwp, lwp_count_of}
-use Rattle.proc_table.specs.Kept.{AtHome, Housed}
-use Rattle.trace_stop.specs.Facts.{Linked, waited_for, Standing, FitLwp, WithOwner, IsSound}
 use Rattle.trace_stop.proofs.Every.{by_bool, All-imply, All-append, find_some}
 use Rattle.trace_stop.proofs.Edited.{some_is}
 use Rattle.proc_table.proofs.Cursors.{InBlock-after, cursors-set}

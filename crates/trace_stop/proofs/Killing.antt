@@ -1,13 +1,8 @@
 -- The end of a process keeps rows sound.
 use Rattle.std.proofs.Common.{◌≡◌, ℕ, suc, Bool, true, false, ◌==◌, ◌&&◌, ◌||◌, List, Option, Some, None, IfSome, refl, sym, ap, ◌∙◌, true≢false, subst, arith, eqb-true, eq-eqb, rules}
-use Rattle.std.specs.List.{AllByRecursion}
-use Rattle.proc_table.specs.declared.ProcData.{ProcData}
-use Rattle.proc_table.specs.Processes.{is_live, traces, is_this, process_of}
-use Rattle.proc_table.specs.Rows.{Rows}
+use Rattle.trace_stop.proofs.Words.{AllByRecursion, ProcData, is_live, traces, is_this, process_of, Rows, is_end, IsSound, FitProcess}
 use Rattle.trace_stop.specs.declared.Settings.{Settings}
 use Rattle.trace_stop.specs.End.{tracer_in, tracer_of, meets, is_doomed, dooms, end_of, left_alone, end}
-use Rattle.trace_stop.specs.Sound.{is_end}
-use Rattle.trace_stop.specs.Facts.{IsSound, FitProcess}
 use Rattle.trace_stop.proofs.Every.{and_left, and_right, both, by_bool, or_true, or_left, All-imply, All-both, any_holds}
 use Rattle.trace_stop.proofs.Stops.{find_passes}
 use Rattle.trace_stop.proofs.Ending.{Ends, end_each_sound}

@@ -28,3 +28,4 @@ pub mod Joining
 pub mod Found
 pub mod Shows
 pub mod Named
+pub mod Words

@@ -1,20 +1,13 @@
 -- A process gets a tracer: the new link closes no ring, and rows stay sound but for the process itself.
-use Rattle.std.proofs.lemmas.Bool.Decides.{nat_tests}
+use Rattle.trace_stop.proofs.Words.{nat_tests, LwpData, ProcData, reporting, process_of, Rows, each, change_process, names_own, IsLiveOf, FitProcess, FitLwp, IsSound}
 use Rattle.std.proofs.Common.{◌≡◌, ◌≢◌, ◌⊎◌, inl, inr, ℕ, zero, suc, ◌+◌, Bool, true, false, ◌==◌, ◌||◌, if◌then◌else◌, List, [], ◌∷◌, filter_map, Option, Some, None, refl, sym, ap, ◌∙◌, true≢false, subst, arith, eqb-true, eq-eqb}
 use Rattle.event_masks.specs.declared.EventMask.{EventMask}
-use Rattle.lwp_table.specs.declared.LwpData.{LwpData}
-use Rattle.proc_table.specs.declared.ProcData.{ProcData}
-use Rattle.proc_table.specs.Processes.{reporting, process_of}
-use Rattle.proc_table.specs.Rows.{Rows, each, change_process}
 use Rattle.trace_stop.specs.End.{holds_of, tracer_in, tracer_of, meets}
-use Rattle.trace_stop.specs.Sound.{names_own}
-use Rattle.trace_stop.specs.Facts.{IsLiveOf, FitProcess, FitLwp, IsSound}
 use Rattle.trace_stop.proofs.Every.{or_left, by_bool, choose}
 use Rattle.trace_stop.proofs.Edited.{If_more}
 use Rattle.trace_stop.proofs.Changed.{Holds, Row, Same, Stay, NoNewRing, KeptRow, nobody, holds_sound, row_is, like_self, peopled_on, kept_all, kept_lwp, none_gone, stay, edit_holds, processes_alone}
 use Rattle.trace_stop.proofs.Changes.{changed_own}
-use Rattle.trace_stop.proofs.Chains.{or_more, meets-more}
-use Rattle.trace_stop.proofs.Chains.{meets-up, chains_meet}
+use Rattle.trace_stop.proofs.Chains.{or_more, meets-more, meets-up, chains_meet}
 
 -- Chains
 

@@ -1,10 +1,6 @@
 -- The live process that a row names.
 use Rattle.std.proofs.Common.{◌≡◌, ℕ, true, ◌&&◌, ◌==◌, Some, sym, ap, ◌∙◌, eqb-true}
-use Rattle.proc_table.specs.declared.ProcData.{ProcData}
-use Rattle.proc_table.specs.Processes.{process_of, is_live}
-use Rattle.proc_table.specs.Rows.{Rows}
-use Rattle.proc_table.specs.Kept.{Rise}
-use Rattle.trace_stop.specs.Sound.{is_live_of}
+use Rattle.trace_stop.proofs.Words.{ProcData, process_of, is_live, Rows, Rise, is_live_of}
 use Rattle.trace_stop.proofs.Every.{and_left, and_right, any_holds}
 use Rattle.trace_stop.proofs.Passes.{own_rows}
 

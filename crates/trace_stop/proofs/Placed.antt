@@ -1,12 +1,6 @@
 -- A new process at its place among the others.
-use Rattle.std.proofs.lemmas.Bool.Decides.{nat_tests}
-use Rattle.std.proofs.Common.{◌≡◌, ◌≢◌, ℕ, zero, suc, ◌+◌, ◌<◌, List, [], ◌∷◌, ◌++◌, filter, find, Bool, true, false, cond, ◌==◌, ◌||◌, ltb, Option, Some, None, IfSome, refl, sym, ap, ◌∙◌, arith, eqb-true, eq-eqb, lt-ltb, inl, inr, rules}
-use Rattle.std.specs.Prelude.{count_by}
-use Rattle.std.specs.List.{AllByRecursion, list_any}
-use Rattle.std.proofs.lemmas.Bool.{cases_Bool}
-use Rattle.proc_table.specs.declared.ProcData.{ProcData}
-use Rattle.proc_table.specs.Processes.{process_of, placed}
-use Rattle.proc_table.specs.Kept.{Rise, AllAbove}
+use Rattle.trace_stop.proofs.Words.{nat_tests, AllByRecursion, list_any, cases_Bool, ProcData, process_of, placed, Rise, AllAbove}
+use Rattle.std.proofs.Common.{◌≡◌, ◌≢◌, ℕ, zero, suc, ◌+◌, ◌<◌, List, [], ◌∷◌, ◌++◌, filter, find, Bool, true, false, cond, ◌==◌, ◌||◌, ltb, Option, Some, None, IfSome, refl, sym, ap, ◌∙◌, arith, eqb-true, eq-eqb, lt-ltb, inl, inr, rules, count_by}
 use Rattle.trace_stop.specs.End.{tracer_of, meets}
 use Rattle.trace_stop.proofs.Every.{by_bool, All-append, All-filter, count-cons, count-append}
 

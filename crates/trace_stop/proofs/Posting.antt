@@ -1,14 +1,7 @@
 -- Settling and posting keep rows sound.
-use Rattle.std.proofs.lemmas.Bool.Decides.{nat_tests}
+use Rattle.trace_stop.proofs.Words.{nat_tests, LwpData, ProcData, State, Run, Trace, Job, Zombie, is_live, is_zombie_state, is_job_state, reporting, named_by, Rows, change, unwanted, continues}
+use Rattle.trace_stop.proofs.Words.{posted_set, posted_process, posted_lwp, IfEnded, FitProcess, FitLwp}
 use Rattle.std.proofs.Common.{◌≡◌, ◌⊎◌, inl, ℕ, Bool, true, false, if◌then◌else◌, Option, None, is_none, refl, sym, ◌∙◌, true≢false, bit_and, arith, rules}
-use Rattle.lwp_table.specs.declared.LwpData.{LwpData}
-use Rattle.proc_table.specs.declared.ProcData.{ProcData}
-use Rattle.proc_table.specs.declared.State.{State}
-use Rattle.proc_table.specs.declared.State.TheVariants.{Run, Trace, Job, Zombie}
-use Rattle.proc_table.specs.Processes.{is_live, is_zombie_state, is_job_state, reporting, named_by}
-use Rattle.proc_table.specs.Rows.{Rows, change}
-use Rattle.trace_stop.specs.Post.{unwanted, continues, posted_set, posted_process, posted_lwp}
-use Rattle.trace_stop.specs.Facts.{IfEnded, FitProcess, FitLwp}
 use Rattle.trace_stop.proofs.Every.{and_right}
 use Rattle.trace_stop.proofs.Bits.{without_apart}
 use Rattle.trace_stop.proofs.Changed.{Holds}

@@ -1,16 +1,9 @@
 -- Settling makes rows sound that are so but for the pending sets of one process.
-use Rattle.std.proofs.lemmas.Bool.Decides.{nat_tests}
+use Rattle.trace_stop.proofs.Words.{nat_tests, without, LwpData, ProcData, is_live, process_of, Rows, change, change_process, is_numbered, unwanted, settled_process, settled_lwp, settle, FitProcess}
+use Rattle.trace_stop.proofs.Words.{FitLwp, IsSound, FitButPending, FitLwpButPending, IsSoundButPending}
 use Rattle.std.proofs.Common.{◌≡◌, ◌≢◌, inl, ℕ, true, false, ◌==◌, Some, refl, sym, ◌∙◌, true≢false, subst, eqb-true, eq-eqb, bit_and, arith}
 use Rattle.std.proofs.lemmas.Nat.{and_le_l}
 use Rattle.signals.specs.Dispositions.{Actions}
-use Rattle.signals.specs.Sets.{without}
-use Rattle.lwp_table.specs.declared.LwpData.{LwpData}
-use Rattle.proc_table.specs.declared.ProcData.{ProcData}
-use Rattle.proc_table.specs.Processes.{is_live, process_of}
-use Rattle.proc_table.specs.Rows.{Rows, change, change_process, is_numbered}
-use Rattle.trace_stop.specs.Post.{unwanted, settled_process, settled_lwp, settle}
-use Rattle.trace_stop.specs.Facts.{FitProcess, FitLwp, IsSound}
-use Rattle.trace_stop.specs.Before.{FitButPending, FitLwpButPending, IsSoundButPending}
 use Rattle.trace_stop.proofs.Bits.{without_apart}
 use Rattle.trace_stop.proofs.Changed.{Holds, holds_sound, sound_holds, row_is}
 use Rattle.trace_stop.proofs.Changes.{changes_hold}

@@ -1,18 +1,9 @@
 -- A trace stop as edits of two rows.
 use Rattle.std.proofs.Common.{◌≡◌, ◌∙◌, ℕ, false, ap, Some}
-use Rattle.lwp_table.specs.declared.LwpData.{LwpData}
-use Rattle.lwp_table.specs.Lwps.{lwp_of}
-use Rattle.proc_table.specs.declared.ProcData.{ProcData}
-use Rattle.proc_table.specs.declared.State.TheVariants.{Trace}
-use Rattle.proc_table.specs.Processes.{process_of}
-use Rattle.proc_table.specs.Rows.{Rows, change_process, change_lwp}
-use Rattle.proc_table.specs.Kept.{IsKept, set_process, set_lwp}
+use Rattle.trace_stop.proofs.Words.{LwpData, lwp_of, ProcData, Trace, process_of, Rows, change_process, change_lwp, IsKept, set_process, set_lwp, notified, tracer_in, tracers, stop}
 use Rattle.proc_table.proofs.Rows.{process_of-pid, lwp_of-tid}
 use Rattle.proc_table.proofs.Changes.{change_process-at, change_lwp-at}
 use Rattle.trace_stop.specs.declared.Shown.{Shown}
-use Rattle.trace_stop.specs.Post.{notified}
-use Rattle.trace_stop.specs.End.{tracer_in}
-use Rattle.trace_stop.specs.Stop.{tracers, stop}
 
 abbrev pub stopped_by : ℕ → Shown → ProcData → ProcData
 stopped_by tid shown p = record p { state = Trace tid shown.sig false }

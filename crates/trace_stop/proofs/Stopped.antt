@@ -1,19 +1,8 @@
 -- A process in a trace stop is stopped by an LWP of its own.
-use Rattle.std.proofs.Common.{◌≡◌, ℕ, true, Option, List, [], ◌∷◌, Some, None, IsSome, is_some, refl, ap, arith, inl, inr, nat_eq, rules}
-use Rattle.std.specs.Prelude.{IfSome, ◌&&◌}
-use Rattle.std.specs.List.{list_any}
-use Rattle.std.proofs.lemmas.Bool.{cases_Bool}
-use Rattle.std.proofs.lemmas.Bool.Decides.{nat_tests}
-use Rattle.lwp_table.specs.declared.LwpData.{LwpData}
-use Rattle.lwp_table.specs.Lwps.{LacksLwp, Differ, lwp_of}
-use Rattle.proc_table.specs.declared.ProcData.{ProcData}
-use Rattle.proc_table.specs.Processes.{process_of, reporting, is_live}
-use Rattle.proc_table.specs.Rows.{Rows}
-use Rattle.proc_table.specs.Kept.{IsRow}
+use Rattle.std.proofs.Common.{◌≡◌, ℕ, true, Option, List, [], ◌∷◌, Some, None, IsSome, is_some, refl, ap, arith, inl, inr, nat_eq, rules, IfSome, ◌&&◌}
+use Rattle.trace_stop.proofs.Words.{list_any, cases_Bool, nat_tests, LwpData, LacksLwp, Differ, lwp_of, ProcData, process_of, reporting, is_live, Rows, IsRow, Stands, IsStopped}
 use Rattle.proc_table.proofs.Every.{every_found}
 use Rattle.proc_table.proofs.Rows.{other_number, process_of-pid, found_row}
-use Rattle.trace_stop.specs.Facts.{Stands}
-use Rattle.trace_stop.specs.Reports.{IsStopped}
 
 none_there : (n : ℕ) (ls : List LwpData) → LacksLwp n ls → lwp_of n ls ≡ None
 none_there n [] lacks = refl

@@ -1,28 +1,12 @@
 -- A trace stop keeps rows sound.
-use Rattle.std.proofs.lemmas.Bool.Decides.{nat_tests}
+use Rattle.trace_stop.proofs.Words.{nat_tests, AllByRecursion, list_any, IsSomeAnd, shows, PL_FLAG_EXITED, LwpData, lwp_of, ProcData, State, Run, Trace, Job, Zombie, is_run, is_run_state}
+use Rattle.trace_stop.proofs.Words.{is_zombie_state, named_by, process_of, Rows, each, lwp_count, tracer_in, tracer_of, tracers, stop, notified, names_own, IsLiveOf, IsLiveChild, FitProcess}
+use Rattle.trace_stop.proofs.Words.{waited_for, FitLwp, IsSound, MayTell, Ready, FitOrReady, MayStop}
 use Rattle.std.proofs.Common.{◌≡◌, ◌≢◌, inl, ℕ, ◌≤◌, Bool, true, false, ◌==◌, if◌then◌else◌, List, [], ◌∷◌, find, Option, Some, None, IfSome, is_some, refl, sym, ap, ◌∙◌, true≢false, subst, arith, eqb-true, eq-eqb, bit_and, rules}
-use Rattle.std.specs.List.{AllByRecursion, list_any}
-use Rattle.std.specs.Option.{IsSomeAnd}
-use Rattle.event_masks.specs.Exits.{shows}
-use Rattle.event_masks.specs.declared.TheConstants.StopFlags.{PL_FLAG_EXITED}
-use Rattle.lwp_table.specs.declared.LwpData.{LwpData}
-use Rattle.lwp_table.specs.Lwps.{lwp_of}
-use Rattle.proc_table.specs.declared.ProcData.{ProcData}
-use Rattle.proc_table.specs.declared.State.{State}
-use Rattle.proc_table.specs.declared.State.TheVariants.{Run, Trace, Job, Zombie}
-use Rattle.proc_table.specs.Processes.{is_run, is_run_state, is_zombie_state, named_by, process_of}
-use Rattle.proc_table.specs.Rows.{Rows, each}
-use Rattle.proc_table.specs.Fresh.{lwp_count}
-use Rattle.trace_stop.specs.End.{tracer_in, tracer_of}
-use Rattle.trace_stop.specs.Stop.{tracers, stop}
-use Rattle.trace_stop.specs.Post.{notified}
 use Rattle.trace_stop.specs.declared.Shown.{Shown}
-use Rattle.trace_stop.specs.Sound.{names_own}
-use Rattle.trace_stop.specs.Facts.{IsLiveOf, IsLiveChild, FitProcess, waited_for, FitLwp, IsSound}
 use Rattle.trace_stop.proofs.Every.{both, All-imply, All-both, All-any, find_some, choose}
 use Rattle.trace_stop.proofs.Edited.{If_more}
 use Rattle.trace_stop.proofs.Changed.{Holds, Row, Beside, Same, Stay, Edit, Leaves, KeptRow, nobody, sound_holds, found_number, lwp_is, row_at, like_self, peopled_on, kept_row, kept_all, none_gone, no_ring, stay, edit_holds, lives_after, each_alone}
-use Rattle.trace_stop.specs.Before.{MayTell, Ready, FitOrReady, MayStop}
 use Rattle.trace_stop.proofs.Numbers.{the_row}
 use Rattle.trace_stop.proofs.Stopping.{live_told, notified_sound}
 

@@ -1,15 +1,7 @@
 -- Who is told of a signal or a stop: one process, or none.
-use Rattle.std.proofs.Common.{◌≡◌, ℕ, [], ◌∷◌, refl, ap, ◌∙◌, arith, inl, inr, Option, Some, None}
-use Rattle.std.specs.Prelude.{filter_map}
-use Rattle.std.proofs.lemmas.Bool.{cases_Bool}
-use Rattle.std.proofs.lemmas.Bool.Decides.{nat_tests}
-use Rattle.signals.specs.Table.{SIGCHLD}
-use Rattle.lwp_table.specs.declared.LwpData.{LwpData}
-use Rattle.proc_table.specs.declared.ProcData.{ProcData}
-use Rattle.proc_table.specs.Processes.{process_of}
-use Rattle.proc_table.specs.Rows.{Rows, change, by_owner, is_numbered}
+use Rattle.std.proofs.Common.{◌≡◌, ℕ, [], ◌∷◌, refl, ap, ◌∙◌, arith, inl, inr, Option, Some, None, filter_map}
+use Rattle.trace_stop.proofs.Words.{cases_Bool, nat_tests, SIGCHLD, LwpData, ProcData, process_of, Rows, change, by_owner, is_numbered, notified, posted_process, posted_lwp, continues}
 use Rattle.proc_table.proofs.Changes.{map-id, filter_map-map, change-none}
-use Rattle.trace_stop.specs.Post.{notified, posted_process, posted_lwp, continues}
 
 pub notified-one : (n : ℕ) (rows : Rows) → notified (n ∷ []) rows ≡ change (is_numbered n) (posted_process SIGCHLD None) (posted_lwp SIGCHLD None) rows
 notified-one n rows = grind (arith, nat_tests)

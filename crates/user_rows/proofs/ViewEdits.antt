@@ -1,15 +1,9 @@
 -- The other primitives: one process, one LWP, new rows; and branches of rows.
 use Rattle.std.proofs.Common.{◌≡◌, ◌≢◌, ℕ, ◌<◌, List, [], ◌∷◌, ◌++◌, length, find, filter_map, Bool, true, false, ◌==◌, if◌then◌else◌, Option, Some, None, refl, sym, ap, ◌∙◌, arith, eqb, eqb-true, subst, append-nil, get_or, set, get_or-set_same, get_or-set_other, length-set, inl, rules}
-use Rattle.std.specs.List.{AllByRecursion, list_any}
-use Rattle.std.proofs.lemmas.Bool.Decides.{nat_tests}
+use Rattle.trace_stop.proofs.Words.{AllByRecursion, list_any, nat_tests, IsUser, ProcData, LwpData, is_live, placed, Rows, owner, by_owner, each, change, edit_processes, edit_lwps, change_process}
+use Rattle.trace_stop.proofs.Words.{change_lwp, remove_lwp, is_process, add_process, add_lwp}
 use Rattle.std.proofs.lemmas.List.Elements.{filter-append}
-use Rattle.pid_blocks.specs.Users.{IsUser}
 use Rattle.pid_blocks.specs.Blocks.{pid_owner, tid_owner, pid_block, tid_block, slot, cursor_after, InBlock}
-use Rattle.proc_table.specs.declared.ProcData.{ProcData}
-use Rattle.lwp_table.specs.declared.LwpData.{LwpData}
-use Rattle.proc_table.specs.Processes.{is_live, placed}
-use Rattle.proc_table.specs.Rows.{Rows, owner, by_owner, each, change, edit_processes, edit_lwps, change_process, change_lwp, remove_lwp}
-use Rattle.proc_table.specs.Fresh.{is_process, add_process, add_lwp}
 use Rattle.user_rows.specs.Closed.{GoodProc, GoodLwp, LiveRow, LiveOwner}
 use Rattle.trace_stop.proofs.Every.{All-imply, All-append, choose, choose_both}
 use Rattle.trace_stop.proofs.Edited.{edit_none}

@@ -1,24 +1,12 @@
 -- The end of a process; posting any signal, trace stops, and what resumes a process.
 use Rattle.std.proofs.Common.{◌≡◌, ◌≢◌, ℕ, zero, suc, List, filter_map, Bool, true, false, ◌==◌, ◌&&◌, ◌||◌, not, if◌then◌else◌, Option, Some, None, is_some, is_none, unwrap_or, option_map, IfSome, refl, sym, ap, ap₂, ◌∙◌, true≢false, eqb-true, subst, eq-eqb, rules}
 use Rattle.std.proofs.Math.Path.{fun_ext}
-use Rattle.std.specs.List.{AllByRecursion, list_any}
-use Rattle.pid_blocks.specs.Users.{IsUser}
+use Rattle.trace_stop.proofs.Words.{AllByRecursion, list_any, IsUser, SIGKILL, SIGTRAP, bit, ProcData, Trace, LwpData, Mode, User, InCall, VforkWait, is_live, is_this, traces, reporting, Rows, each}
+use Rattle.trace_stop.proofs.Words.{is_numbered, change_process, change_lwp, notified, post, tracers, stop, ends_process, resume, detach, waited_for}
 use Rattle.pid_blocks.specs.Blocks.{pid_owner, tid_owner}
-use Rattle.signals.specs.Table.{SIGKILL, SIGTRAP}
-use Rattle.signals.specs.Sets.{bit}
-use Rattle.proc_table.specs.declared.ProcData.{ProcData}
-use Rattle.proc_table.specs.declared.State.TheVariants.{Trace}
-use Rattle.lwp_table.specs.declared.LwpData.{LwpData}
-use Rattle.lwp_table.specs.declared.Mode.{Mode}
-use Rattle.lwp_table.specs.declared.Mode.TheVariants.{User, InCall, VforkWait}
-use Rattle.proc_table.specs.Processes.{is_live, is_this, traces, reporting}
-use Rattle.proc_table.specs.Rows.{Rows, each, is_numbered, change_process, change_lwp}
 use Rattle.trace_stop.specs.declared.Settings.{Settings}
-use Rattle.trace_stop.specs.Post.{notified}
-use Rattle.trace_stop.specs.Stop.{post, tracers, stop, ends_process, resume, detach}
 use Rattle.trace_stop.specs.declared.Shown.{Shown}
 use Rattle.trace_stop.specs.End.{tracer_in, tracer_of, holds_of, meets, is_doomed, dooms, unless, uncollected, process_after, waits_where, released, lwp_after, collector, notifies_of, end_each, end_of, end}
-use Rattle.trace_stop.specs.Facts.{waited_for}
 use Rattle.trace_stop.proofs.Every.{and_left, and_right, by_bool, choose, choose_both, none_passes, All-edit, All-filter}
 use Rattle.user_rows.specs.Closed.{Mine, GoodProc, GoodLwp}
 use Rattle.user_rows.proofs.ViewLists.{any_only, filter_map_only}

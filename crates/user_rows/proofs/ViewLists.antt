@@ -1,10 +1,7 @@
 -- Filters, and what is looked up in a filtered list.
 use Rattle.std.proofs.Common.{◌≡◌, ◌<◌, List, [], ◌∷◌, map, filter, find, filter_map, Bool, true, false, Option, Some, None, IfSome, refl, sym, ap, ◌∙◌, arith, ltb}
-use Rattle.std.specs.List.{AllByRecursion, cons_option, list_any}
+use Rattle.trace_stop.proofs.Words.{AllByRecursion, cons_option, list_any, ProcData, placed, AllAbove, Rise}
 use Rattle.std.proofs.lemmas.List.Elements.{filter-append}
-use Rattle.proc_table.specs.declared.ProcData.{ProcData}
-use Rattle.proc_table.specs.Processes.{placed}
-use Rattle.proc_table.specs.Kept.{AllAbove, Rise}
 use Rattle.proc_table.proofs.Every.{every_filter}
 use Rattle.trace_stop.proofs.Every.{All-both, All-edit}
 use Rattle.trace_stop.proofs.Placed.{IsFree, split}

@@ -1,23 +1,10 @@
 -- Sound rows keep users apart, and what a user sees of them: before a change, after it, and after the end of a process.
-use Rattle.std.proofs.lemmas.Bool.Decides.{nat_tests}
+use Rattle.trace_stop.proofs.Words.{nat_tests, AllByRecursion, IsUser, LwpData, ProcData, State, Run, Trace, Job, Zombie, is_live, Rows, owns, AtHome, names_own, IsLiveOf, IsLiveChild, Linked}
+use Rattle.trace_stop.proofs.Words.{IfEnded, FitProcess, waited_for, Standing, WithOwner, IsSound, only_of, left_alone, end}
 use Rattle.std.proofs.Common.{◌≡◌, ◌≢◌, ℕ, List, filter, Bool, true, false, ◌==◌, ◌&&◌, None, refl, sym, ap, ◌∙◌, arith, eqb-true, subst, eq-eqb, rules}
-use Rattle.std.specs.List.{AllByRecursion}
-use Rattle.pid_blocks.specs.Users.{IsUser}
 use Rattle.pid_blocks.specs.Blocks.{pid_owner, tid_owner, pid_block, tid_block, InBlock}
-use Rattle.lwp_table.specs.declared.LwpData.{LwpData}
-use Rattle.proc_table.specs.declared.ProcData.{ProcData}
-use Rattle.proc_table.specs.declared.State.{State}
-use Rattle.proc_table.specs.declared.State.TheVariants.{Run, Trace, Job, Zombie}
-use Rattle.proc_table.specs.Processes.{is_live}
-use Rattle.proc_table.specs.Rows.{Rows}
-use Rattle.proc_table.specs.Seen.{owns}
-use Rattle.proc_table.specs.Kept.{AtHome}
 use Rattle.proc_table.specs.Kept as kept
-use Rattle.trace_stop.specs.Sound.{names_own}
-use Rattle.trace_stop.specs.Facts.{IsLiveOf, IsLiveChild, Linked, IfEnded, FitProcess, waited_for, Standing, WithOwner, IsSound}
-use Rattle.proc_table.specs.Laws.{only_of}
 use Rattle.trace_stop.specs.declared.Settings.{Settings}
-use Rattle.trace_stop.specs.End.{left_alone, end}
 use Rattle.user_rows.specs.Closed.{GoodProc, GoodLwp, LiveRow, LiveOwner, Closed}
 use Rattle.trace_stop.proofs.Every.{and_left, and_right, choose, All-imply, All-both, any_holds, find_some}
 use Rattle.trace_stop.proofs.Edited.{If_more}

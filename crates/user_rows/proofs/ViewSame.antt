@@ -1,14 +1,8 @@
 -- One relation says all of isolation: what a step did to all rows, what the same step does to one
 -- user's rows, and that other users' rows are as they were.
 use Rattle.std.proofs.Common.{◌≡◌, ◌≢◌, ℕ, List, length, filter, find, filter_map, Bool, true, false, ◌==◌, Option, Some, None, IfSome, refl, sym, ap, ◌∙◌, arith, eqb, true≢false, eqb-true, subst, eq-eqb, get_or, inl, inr, ◌⊎◌, rules}
-use Rattle.std.specs.List.{AllByRecursion}
-use Rattle.std.proofs.lemmas.Bool.Decides.{nat_tests}
-use Rattle.pid_blocks.specs.Users.{IsUser}
+use Rattle.trace_stop.proofs.Words.{AllByRecursion, nat_tests, IsUser, ProcData, LwpData, is_live, process_of, of_user, Rows, by_owner, each}
 use Rattle.pid_blocks.specs.Blocks.{pid_owner, slot}
-use Rattle.proc_table.specs.declared.ProcData.{ProcData}
-use Rattle.lwp_table.specs.declared.LwpData.{LwpData}
-use Rattle.proc_table.specs.Processes.{is_live, process_of, of_user}
-use Rattle.proc_table.specs.Rows.{Rows, by_owner, each}
 use Rattle.user_rows.specs.Closed.{GoodProc, GoodLwp, LiveRow, LiveOwner, Closed}
 use Rattle.trace_stop.proofs.Every.{All-both, All-edit}
 use Rattle.trace_stop.proofs.Edited.{If_more}

@@ -1,15 +1,7 @@
 -- The child that is reported, and whether there is a child, by the lists of tracees and of children, and by number.
 use Rattle.std.proofs.Common.{◌≡◌, ℕ, ℤ, pos, negsuc, List, [], ◌∷◌, find, Bool, true, false, ◌==◌, ◌&&◌, ◌||◌, ltb, Some, is_some, refl, sym, ap, ◌∙◌, subst, nat_eq, rules}
-use Rattle.std.specs.List.{AllByRecursion, list_any}
+use Rattle.trace_stop.proofs.Words.{AllByRecursion, list_any, cases_Bool, nat_tests, ProcData, keep, process_of, traces, Rows, Rise, AtHome, LeastOrNone}
 use Rattle.std.proofs.Math.Path.{fun_ext}
-use Rattle.std.proofs.lemmas.Bool.{cases_Bool}
-use Rattle.std.proofs.lemmas.Bool.Decides.{nat_tests}
-use Rattle.proc_table.specs.declared.ProcData.{ProcData}
-use Rattle.proc_table.specs.Keep.{keep}
-use Rattle.proc_table.specs.Processes.{process_of, traces}
-use Rattle.proc_table.specs.Rows.{Rows}
-use Rattle.proc_table.specs.Kept.{Rise, AtHome}
-use Rattle.proc_table.specs.Laws.{LeastOrNone}
 use Rattle.proc_table.proofs.Seen.{any-found}
 use Rattle.proc_table.proofs.Least.{least_or_none}
 use Rattle.trace_stop.proofs.Every.{All-filter, find_some}

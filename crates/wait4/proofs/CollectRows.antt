@@ -1,12 +1,7 @@
 -- The rows after one process is collected, as an edit of its row.
 use Rattle.std.proofs.Common.{◌≡◌, ℕ, List, [], ◌∷◌, filter, filter_map, map, Bool, true, false, cond, ◌==◌, ◌&&◌, not, Option, Some, None, refl, ap, ◌∙◌, nat_eq, if◌then◌else◌, rules}
-use Rattle.std.specs.List.{AllByRecursion}
-use Rattle.proc_table.specs.declared.ProcData.{ProcData}
-use Rattle.proc_table.specs.Processes.{is_live, process_of}
-use Rattle.proc_table.specs.Rows.{Rows, owner, by_owner, each}
-use Rattle.proc_table.specs.Kept.{Rise, put_process, set_process, drop_process}
+use Rattle.trace_stop.proofs.Words.{AllByRecursion, ProcData, is_live, process_of, Rows, owner, by_owner, each, Rise, put_process, set_process, drop_process, notified}
 use Rattle.proc_table.proofs.Finds.{equal_or_not}
-use Rattle.trace_stop.specs.Post.{notified}
 use Rattle.trace_stop.proofs.Edited.{edit_none}
 use Rattle.trace_stop.proofs.Numbers.{the_row}
 use Rattle.trace_stop.proofs.Told.{notified-none}

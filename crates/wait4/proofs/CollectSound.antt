@@ -1,14 +1,6 @@
 -- Collecting a status keeps rows sound.
 use Rattle.std.proofs.Common.{◌≡◌, inl, ℕ, true, false, ◌==◌, ◌&&◌, not, if◌then◌else◌, [], ◌∷◌, Option, Some, None, IfSome, refl, sym, ◌∙◌, true≢false, eq-eqb, bit_and, rules}
-use Rattle.std.specs.List.{AllByRecursion}
-use Rattle.lwp_table.specs.declared.LwpData.{LwpData}
-use Rattle.proc_table.specs.declared.ProcData.{ProcData}
-use Rattle.proc_table.specs.declared.State.{State}
-use Rattle.proc_table.specs.declared.State.TheVariants.{Run, Trace, Job, Zombie}
-use Rattle.proc_table.specs.Processes.{is_live, reporting, process_of}
-use Rattle.proc_table.specs.Rows.{Rows, each}
-use Rattle.trace_stop.specs.Facts.{FitProcess, FitLwp, IsSound}
-use Rattle.trace_stop.specs.Before.{MayTell}
+use Rattle.trace_stop.proofs.Words.{AllByRecursion, LwpData, ProcData, State, Run, Trace, Job, Zombie, is_live, reporting, process_of, Rows, each, FitProcess, FitLwp, IsSound, MayTell}
 use Rattle.trace_stop.proofs.Every.{and_left, and_right, choose}
 use Rattle.trace_stop.proofs.Changed.{Row, Same, Edit, Like, Leaves, IfKept, KeptLwp, Stay, nobody, holds_sound, sound_holds, row_at, like_self, leaves, kept_all, kept_lwp, none_gone, no_ring, stay, lives_after, edit_holds}
 use Rattle.trace_stop.proofs.Posting.{beside_fits}

@@ -1,13 +1,7 @@
 -- No row names a zombie, and it has no LWP.
 use Rattle.std.proofs.Common.{◌≡◌, ◌≢◌, ℕ, List, [], ◌∷◌, find, Bool, true, false, ◌==◌, ◌&&◌, ltb, Option, Some, None, IfSome, refl, sym, ap, ◌∙◌, true≢false, eqb-true, subst, arith}
-use Rattle.std.specs.List.{AllByRecursion}
-use Rattle.lwp_table.specs.Lwps.{first_lwp}
-use Rattle.proc_table.specs.declared.ProcData.{ProcData}
-use Rattle.proc_table.specs.Processes.{is_live, is_this, traces, process_of}
-use Rattle.proc_table.specs.Rows.{Rows}
-use Rattle.proc_table.specs.Walks.{next_tracee, next_child}
-use Rattle.proc_table.specs.Kept.{AtHome, Housed}
-use Rattle.trace_stop.specs.Facts.{IsLiveOf, Linked, Standing, WithOwner, Stands}
+use Rattle.trace_stop.proofs.Words.{AllByRecursion, first_lwp, ProcData, is_live, is_this, traces, process_of, Rows, next_tracee, next_child, AtHome, Housed, IsLiveOf, Linked, Standing, WithOwner}
+use Rattle.trace_stop.proofs.Words.{Stands}
 use Rattle.trace_stop.proofs.Every.{by_bool, All-imply, All-both, find_some}
 use Rattle.trace_stop.proofs.Edited.{some_is}
 use Rattle.trace_stop.proofs.Named.{live_row}

@@ -1,5 +1,4 @@
-use Rattle.std.proofs.Common.{◌≡◌, ◌||◌, true, false, rules}
-use Rattle.std.specs.Prelude.{is_some}
+use Rattle.std.proofs.Common.{◌≡◌, ◌||◌, true, false, rules, is_some}
 use Rattle.proc_table.specs.Processes.{is_live}
 use Rattle.process_end.proofs.Orphans.{listed, child-ended, child_out-leaving, child_out-untraced, child_out-fewer, child_out-same, child-named, child_put-leaving, child_put-untraced, child_put-fewer, child_put-same}
 use Rattle.process_end.proofs.Unnamed.{zombie-tracees, zombie-children, zombie-lwps}

@@ -1,9 +1,5 @@
-use Rattle.std.proofs.Common.{◌≡◌, ◌∷◌, [], None, Some, rules, ap, sym, ◌∙◌}
-use Rattle.std.specs.Prelude.{option_map}
-use Rattle.proc_table.specs.Kept.{set_process}
-use Rattle.proc_table.specs.declared.ProcData.{ProcData}
-use Rattle.trace_stop.specs.End.{uncollected, collector}
-use Rattle.trace_stop.specs.Post.{notified}
+use Rattle.std.proofs.Common.{◌≡◌, ◌∷◌, [], None, Some, rules, ap, sym, ◌∙◌, option_map}
+use Rattle.trace_stop.proofs.Words.{set_process, ProcData, uncollected, collector, notified}
 use Rattle.process_end.proofs.Orphans.{orphan_of, listed, tracee-ended, tracee_out-leaving, tracee_out-fewer, tracee_out-same, tracee-named, tracee_told-leaving, tracee_told-fewer, tracee_told-same}
 use Rattle.process_end.proofs.Unnamed.{zombie-tracees, zombie-children, zombie-lwps}
 use Rattle.process_end.proofs.leaf.orphan_tracee.Goals as goal

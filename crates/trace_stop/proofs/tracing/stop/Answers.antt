@@ -1,12 +1,7 @@
 use Rattle.std.proofs.Common.{◌≡◌, Some, None, [], ◌∷◌, sym, ap, ◌∙◌, refl, rules, subst}
-use Rattle.lwp_table.specs.Lwps.{lwp_of}
-use Rattle.proc_table.specs.Processes.{process_of}
-use Rattle.proc_table.specs.Kept.{set_process, set_lwp}
+use Rattle.trace_stop.proofs.Words.{lwp_of, process_of, set_process, set_lwp, notified, IsSound, tracers, stop}
 use Rattle.proc_table.proofs.Rows.{lwp_of-tid}
 use Rattle.proc_table.proofs.Stays.{process_there, named-same, lwp_there}
-use Rattle.trace_stop.specs.Post.{notified}
-use Rattle.trace_stop.specs.Facts.{IsSound}
-use Rattle.trace_stop.specs.Stop.{tracers, stop}
 use Rattle.trace_stop.proofs.Found.{row_there, own_row}
 use Rattle.trace_stop.proofs.Told.{notified-none}
 use Rattle.trace_stop.proofs.Shows.{stopped_by, showing, stop-at}
