@@ -1,7 +1,7 @@
 -- The way down the tracees of a process that ends, and one turn of its end.
-use Rattle.trace_stop.proofs.Words.{nat_tests, AllByRecursion, SIGKILL, ProcData, process_of, is_live, is_this, traces, Rows, next_tracee, AtHome, IsKept, LeastOrNone, IsLeast, Stands, IsSound}
+use Rattle.trace_stop.proofs.Words.{nat_tests, AllByRecursion, SIGKILL, ProcData, process_of, is_live, traces, Rows, next_tracee, AtHome, IsKept, LeastOrNone, IsLeast, Stands, IsSound}
 use Rattle.trace_stop.proofs.Words.{is_live_at}
-use Rattle.std.proofs.Common.{◌≡◌, ℕ, ◌-◌, ◌<◌, ◌≤◌, List, true, false, ◌&&◌, ◌||◌, ◌==◌, not, Option, Some, None, length, refl, sym, ap, ◌∙◌, arith, true≢false, eqb-true, eq-eqb, subst, inl, inr, unwrap_or, rules, count_by, ltb, MatchOption}
+use Rattle.std.proofs.Common.{◌≡◌, ℕ, ◌-◌, ◌<◌, ◌≤◌, List, true, false, ◌&&◌, ◌||◌, ◌==◌, not, Option, Some, None, length, refl, sym, ap, ◌∙◌, arith, true≢false, eq-eqb, subst, inl, inr, unwrap_or, rules, count_by, ltb, MatchOption}
 use Rattle.std.proofs.Math.Bool.{and-false}
 use Rattle.proc_table.proofs.Least.{next_tracee-least}
 use Rattle.proc_table.proofs.Finds.{below_or_not}
@@ -16,7 +16,7 @@ use Rattle.trace_stop.proofs.Passes.{passes, own_rows}
 use Rattle.trace_stop.proofs.Found.{any_by_number, listed}
 use Rattle.process_end.proofs.LeafLaw.{dooms_meets, q_traced, leaf_law, leaf_dooms}
 use Rattle.trace_stop.proofs.Chains.{meets-suc, no_ring, chains_end, tracee_deeper}
-use Rattle.process_end.proofs.Leaves.{tracee_doomed}
+use Rattle.process_end.proofs.Leaves.{this_is, tracee_doomed}
 use Rattle.process_end.proofs.LeafLives.{leaf_lives, leaf_fewer}
 use Rattle.process_end.proofs.EndSound.{end_sound}
 use Rattle.process_end.proofs.Doomed.{leaf_end}
@@ -41,12 +41,8 @@ module _ (q after : ℕ) (rows : Rows) (kept : IsKept rows) where
   walk_found t at live =
       let l = least t at in record {
         live = any_by_number is_live t.pid ps kept.rising ∙ ap (passes is_live) l.row ∙ live;
-        link = ap tracer_in l.row ∙ this_is t.tracer l.passes;
+        link = ap tracer_in l.row ∙ this_is q t.tracer l.passes;
       }
-    where
-      this_is : (o : Option ℕ) → is_this q o ≡ true → o ≡ Some q
-      this_is None is = absurd (true≢false (sym is))
-      this_is (Some n) is = ap Some (eqb-true n q is)
 
   pub walk_over : (t : ProcData) → next_tracee q after ps ≡ Some t → after < t.pid
   walk_over t at = (least t at).above

@@ -1,6 +1,6 @@
 -- Who ends with a process.
-use Rattle.std.proofs.Math.Bool.{and-false, and-true}
-use Rattle.trace_stop.proofs.Words.{nat_tests, AllByRecursion, list_any, SIGTRAP, bit, ProcData, LwpData, process_of, is_live, is_this, traces, reporting, Rows, each, Rise, notified, detached}
+use Rattle.std.proofs.Math.Bool.{and-false, and-true, or-false}
+use Rattle.trace_stop.proofs.Words.{nat_tests, AllByRecursion, list_any, SIGTRAP, bit, ProcData, process_of, is_live, is_this, traces, reporting, Rows, each, Rise, notified, detached}
 use Rattle.trace_stop.proofs.Words.{untraced, is_live_of, IsLiveOf, Linked, Stands}
 use Rattle.std.proofs.Common.{◌≡◌, ℕ, zero, suc, List, [], ◌∷◌, filter_map, Bool, true, false, ◌&&◌, ◌||◌, ◌==◌, if◌then◌else◌, Option, Some, None, IfSome, is_some, refl, sym, ap, ◌∙◌, arith, rules}
 use Rattle.std.proofs.Math.Path.{fun_ext}
@@ -30,28 +30,15 @@ meets_none ps q all zero n safe = refl
 meets_none ps q all (suc k) n safe = search (rules, meets_none ps q all k, find_some)
 
 -- ends by tests that agree on the rows
-told_same : (ends ends' : ProcData → Bool) (over : ℕ → Bool) (p status : ℕ) (r : ProcData) → ends r ≡ ends' r → notifies_of ends over p status r ≡ notifies_of ends' over p status r
-told_same ends ends' over p status r same = rw same refl
-
-after_same : (ends ends' : ProcData → Bool) (over : ℕ → Bool) (p status : ℕ) (r : ProcData) → ends r ≡ ends' r → process_after ends over p status r ≡ process_after ends' over p status r
-after_same ends ends' over p status r same = rw same refl
-
-lwp_same : (ends ends' : ProcData → Bool) (over : ℕ → Bool) (r : ProcData) (l : LwpData) → ends r ≡ ends' r → lwp_after ends over r l ≡ lwp_after ends' over r l
-lwp_same ends ends' over r l same = rw same refl
-
 pub end_each_same : (ends ends' : ProcData → Bool) (over over' : ℕ → Bool) (p status : ℕ) (rows : Rows)
     → AllByRecursion (λ r. ends r ≡ ends' r) rows.processes → ((n : ℕ) → over n ≡ over' n) → end_each ends over p status rows ≡ end_each ends' over' p status rows
 end_each_same ends ends' over over' p status rows all same =
     ap (λ (ns : List ℕ). notified ns (each (process_after ends over p status) (lwp_after ends over) rows))
-    (filter_map_same (notifies_of ends over p status) (notifies_of ends' over p status) rows.processes (All-imply (λ r. ends r ≡ ends' r) _ (told_same ends ends' over p status) rows.processes all))
+    (filter_map_same (notifies_of ends over p status) (notifies_of ends' over p status) rows.processes (All-imply (λ r. ends r ≡ ends' r) _ (λ r e. rw e refl) rows.processes all))
     ∙ ap (notified (filter_map (notifies_of ends' over p status) rows.processes))
     (each_same (process_after ends over p status) (process_after ends' over p status) (lwp_after ends over) (lwp_after ends' over) rows
-    (All-imply (λ r. ends r ≡ ends' r) _ (λ r e. (after_same ends ends' over p status r e, λ l. lwp_same ends ends' over r l e)) rows.processes all))
+    (All-imply (λ r. ends r ≡ ends' r) _ (λ r e. (rw e refl, λ l. rw e refl)) rows.processes all))
     ∙ ap (λ (d : ℕ → Bool). end_each ends' d p status rows) (fun_ext same)
-
-or_false : (a b : Bool) → b ≡ false → (a || b) ≡ a
-or_false true b h = refl
-or_false false b h = h
 
 -- the numbers that end where q alone does
 one_number : (q n : ℕ) (ps : List ProcData) → list_any (λ r. r.pid == q) ps ≡ true → list_any (λ r. (r.pid == n) && (r.pid == q)) ps ≡ (n == q)
@@ -80,15 +67,11 @@ untracing rows s q leaf =
 -- of the rows q alone ends
 pub doomed_alone : (settings : Settings) (rows : Rows) (q : ℕ) → Stands rows → traces_live q rows ≡ false → AllByRecursion (λ r. is_doomed settings rows.processes q r ≡ (r.pid == q)) rows.processes
 doomed_alone settings rows q s leaf =
-    All-imply (λ r. process_of r.pid rows.processes ≡ Some r) _ (λ r own. or_false (r.pid == q) _ (at_live r own (is_live r) refl)) rows.processes (own_rows rows.processes s.rising)
+    All-imply (λ r. process_of r.pid rows.processes ≡ Some r) _ (λ r own. ap (λ b. (r.pid == q) || b) (at_live r own (is_live r) refl) ∙ or-false (r.pid == q)) rows.processes (own_rows rows.processes s.rising)
   where
-    and_false : (a : Bool) → (a && false) ≡ false
-    and_false true = refl
-    and_false false = refl
-
     at_live : (r : ProcData) → process_of r.pid rows.processes ≡ Some r → (b : Bool) → is_live r ≡ b → (settings.kill_on_debugger_exit && b && meets 250 rows.processes q r.pid) ≡ false
-    at_live r own true live = rw (meets_none rows.processes q (untracing rows s q leaf) 250 r.pid (rw own live)) (and_false (settings.kill_on_debugger_exit && true))
-    at_live r own false dead = ap (λ b. b && meets 250 rows.processes q r.pid) (and_false settings.kill_on_debugger_exit)
+    at_live r own true live = rw (meets_none rows.processes q (untracing rows s q leaf) 250 r.pid (rw own live)) (and-false (settings.kill_on_debugger_exit && true))
+    at_live r own false dead = ap (λ b. b && meets 250 rows.processes q r.pid) (and-false settings.kill_on_debugger_exit)
 
 pub leaf_end : LeafEnd
 leaf_end settings rows q status kills s found leaf =

@@ -1,5 +1,5 @@
 -- The rows, when a process that is doomed and traces no live one ends before the process that dooms it.
-use Rattle.trace_stop.proofs.Words.{nat_tests, AllByRecursion, list_any, SIGKILL, ProcData, LwpData, process_of, is_live, Rows, each, Rise, holds_of, process_after, released, lwp_after, notifies_of}
+use Rattle.trace_stop.proofs.Words.{nat_tests, AllByRecursion, list_any, SIGKILL, ProcData, LwpData, process_of, is_live, Rows, each, Rise, holds_of, process_after, lwp_after, notifies_of}
 use Rattle.trace_stop.proofs.Words.{end_each}
 use Rattle.std.proofs.Common.{◌≡◌, ℕ, List, filter_map, Bool, true, false, ◌||◌, ◌==◌, Some, sym, ap, ◌∙◌, subst, arith, rules}
 use Rattle.trace_stop.proofs.Every.{All-imply, All-both, any_holds}
@@ -18,10 +18,7 @@ pub turned_keeps : (over : ℕ → Bool) (p status : ℕ) (told : ℕ → Bool) 
 unfolding turned
 turned_keeps over p status told r = search (rules, fallen, after_keeps, notified_row, told-pid)
 
-released-pid : (over : ℕ → Bool) (r : ProcData) (l : LwpData) → (released over r l).pid ≡ l.pid
-released-pid over r l = grind arith
-
-notified_lwp-pid : (told : ℕ → Bool) (r : ProcData) (l : LwpData) → (notified_lwp told r l).pid ≡ l.pid
+pub notified_lwp-pid : (told : ℕ → Bool) (r : ProcData) (l : LwpData) → (notified_lwp told r l).pid ≡ l.pid
 unfolding notified_lwp heard_lwp
 notified_lwp-pid told r l = grind arith
 

@@ -10,7 +10,7 @@ use Rattle.trace_stop.proofs.Numbers.{the_row}
 use Rattle.process_end.proofs.Turned.{heard, heard_lwp, notified_row, notified_lwp, turned, turned_lwp, moved, told-miss, turned-dead, turned-safe, turned-fallen, turned_lwp-safe, turned_lwp-fallen}
 use Rattle.process_end.proofs.Twice.{alone, Told, told-live, told-pid, moved-pid, told_twice, notified_lwp-moved, notified_lwp-told, released-told, released_told, told_lwp_twice}
 use Rattle.process_end.proofs.Tells.{tells, told_by, parent_after}
-use Rattle.process_end.proofs.LeafFirst.{told, told-is}
+use Rattle.process_end.proofs.LeafFirst.{told, told-is, notified_lwp-pid}
 use Rattle.trace_stop.proofs.Found.{any_by_number}
 use Rattle.process_end.proofs.Leaving.{Fit, leaving_each, Ends, stepped, told_after, told_alive, Told-of, put_tell, put_tell_lwp, put_keeps}
 
@@ -28,10 +28,6 @@ module _ (t : ℕ → Bool) (r : ProcData) where
 pub told_lwp_fits : (t : ℕ → Bool) (alive : ℕ → Bool) (q : ℕ) (r : ProcData) (l : LwpData) → LeavingLwp alive q l → LeavingLwp alive q (notified_lwp t r l)
 unfolding notified_lwp heard_lwp
 told_lwp_fits t alive q r l h = choose (t r.pid) (heard_lwp r l) l (LeavingLwp alive q) (λ e. record { lives = h.lives; other = h.other; waits = h.waits }) (λ e. h)
-
-pub told_lwp_keeps : (t : ℕ → Bool) (r : ProcData) (l : LwpData) → (notified_lwp t r l).pid ≡ l.pid
-unfolding notified_lwp heard_lwp
-told_lwp_keeps t r l = grind arith
 
 first_false : (a b c : Bool) → a ≡ (b || c) → a ≡ false → b ≡ false
 first_false a b c is none = grind (arith, nat_tests)
@@ -109,7 +105,7 @@ module _ (q n : ℕ) (rows : Rows) (v : IsLeaving q rows) (rise : Rise rows.proc
   keeps r = told-pid (alone m) (if r.pid == n then untrace r else r) ∙ put_keeps n untrace (λ k. refl) r
 
   owners : (r : ProcData) (l : LwpData) → IfSome (untold_lwp r l) (λ k. k.pid ≡ l.pid)
-  owners r l = told_lwp_keeps (alone m) (if r.pid == n then untrace r else r) l
+  owners r l = notified_lwp-pid (alone m) (if r.pid == n then untrace r else r) l
 
   module _ (w : ℕ) where
     abbrev before : ℕ → Bool

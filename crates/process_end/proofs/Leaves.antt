@@ -10,7 +10,7 @@ use Rattle.trace_stop.proofs.Passes.{passes, own_rows}
 use Rattle.trace_stop.proofs.Chains.{meets-suc, no_ring, chains_end, chains_meet, tracee_deeper, meets-up}
 use Rattle.process_end.proofs.LeafLaw.{dooms_meets, dooms_chained}
 
-this_is : (x : ℕ) (o : Option ℕ) → is_this x o ≡ true → o ≡ Some x
+pub this_is : (x : ℕ) (o : Option ℕ) → is_this x o ≡ true → o ≡ Some x
 this_is x None is = absurd (true≢false (sym is))
 this_is x (Some t) is = grind (arith, nat_tests, is)
 

@@ -10,17 +10,15 @@ use Rattle.proc_table.proofs.Stays.{named-untraced}
 use Rattle.process_end.specs.Laws.{end_alone}
 use Rattle.process_end.specs.Leaving.{LeavingRow, IsLeaving}
 use Rattle.trace_stop.proofs.Every.{by_bool, choose, and_left, any_holds, All-any, find_some}
-use Rattle.process_end.proofs.Turned.{is_gone, gone-false}
+use Rattle.process_end.proofs.Turned.{is_gone}
 use Rattle.process_end.proofs.Twice.{alone}
 use Rattle.process_end.proofs.Leaving.{is_alone, same_lwp, put, out, put_tell, put_tell_lwp, set_each, drop_each, set_tell}
 use Rattle.process_end.proofs.LeafSteps.{orphan, out_leaving, out_same, put_leaving, put_same}
 use Rattle.process_end.proofs.LeafTells.{untrace, unless_this, untold_leaving, untold_same}
-use Rattle.process_end.proofs.Unnamed.{one_fewer, its_row, out_passes, orphan_passes, untold_passes, none_edited}
+use Rattle.process_end.proofs.LeafLives.{one_fewer}
+use Rattle.process_end.proofs.Unnamed.{its_row, out_passes, orphan_passes, untold_passes, none_edited}
 
 -- Who collects
-
-pub collected : (z : ProcData) → is_gone z ≡ false → option_map collector (uncollected z) ≡ Some (collector z)
-collected z left = ap (option_map collector) (gone-false z left)
 
 pub collector_none : (z : ProcData) → option_map collector (uncollected z) ≡ None → is_gone z ≡ true
 collector_none z none = grind (arith, nat_tests, none)

@@ -48,17 +48,9 @@ unfoldable pub turned_lwp : (ℕ → Bool) → ℕ → ℕ → (ℕ → Bool) �
 turned_lwp over p status told r l =
     option_and_then (λ k. by_owner (λ s j. Some (notified_lwp told s j)) k (process_after (fallen over) over p status r)) (lwp_after (fallen over) over r l)
 
-pub told-hit : (told : ℕ → Bool) (p : ProcData) → told p.pid ≡ true → notified_row told p ≡ heard p
-unfolding notified_row
-told-hit told p is = rw is refl
-
 pub told-miss : (told : ℕ → Bool) (p : ProcData) → told p.pid ≡ false → notified_row told p ≡ p
 unfolding notified_row
 told-miss told p is = rw is refl
-
-pub notified_lwp-hit : (told : ℕ → Bool) (p : ProcData) (l : LwpData) → told p.pid ≡ true → notified_lwp told p l ≡ heard_lwp p l
-unfolding notified_lwp
-notified_lwp-hit told p l is = rw is refl
 
 pub notified_lwp-miss : (told : ℕ → Bool) (p : ProcData) (l : LwpData) → told p.pid ≡ false → notified_lwp told p l ≡ l
 unfolding notified_lwp

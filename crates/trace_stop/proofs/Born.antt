@@ -1,15 +1,16 @@
 -- A sound host with one more process and its first LWP, or with one more LWP, is sound.
-use Rattle.std.proofs.Common.{◌≡◌, ◌≢◌, ℕ, ◌+◌, ◌<◌, ◌≤◌, List, [], ◌∷◌, ◌++◌, find, Bool, true, false, cond, ◌==◌, ◌&&◌, Some, None, IfSome, refl, sym, ap, ◌∙◌, arith, eqb, true≢false, eqb-true, subst, eq-eqb, length-set, rules, count_by}
+use Rattle.std.proofs.Common.{◌≡◌, ◌≢◌, ℕ, ◌+◌, ◌<◌, ◌≤◌, List, [], ◌∷◌, ◌++◌, Bool, true, false, cond, ◌==◌, ◌&&◌, Some, None, IfSome, refl, sym, ap, ◌∙◌, arith, eqb, true≢false, eqb-true, subst, eq-eqb, length-set, rules, count_by}
 use Rattle.trace_stop.proofs.Words.{AllByRecursion, list_any, IsUser, slot, pid_block, tid_block, InBlock, cursor_after, shows, PL_FLAG_EXITED, LwpData, Differ, ProcData, is_live, reporting}
 use Rattle.trace_stop.proofs.Words.{process_of, placed, Rows, owns, is_process, is_lwp, add_process, add_lwp, process_count, lwp_count_of, AtHome, Housed, tracer_in, tracer_of, names_own, IsLiveOf}
 use Rattle.trace_stop.proofs.Words.{IsLiveChild, Linked, FitProcess, waited_for, Standing, FitLwp, WithOwner, IsSound}
 use Rattle.std.proofs.lemmas.List.Folds.{list_any-append}
 use Rattle.proc_table.proofs.Cursors.{InBlock-after, cursors-set}
 use Rattle.proc_table.proofs.Lwps.{LacksLwp-from_any, Differ-push}
-use Rattle.trace_stop.proofs.Every.{and_left, or_true, by_bool, All-imply, All-both, All-append, find_some, any_holds, none_of, any_more, count-cons, count-append, count_same}
+use Rattle.trace_stop.proofs.Every.{not_same, and_left, or_true, by_bool, All-imply, All-both, All-append, find_some, find_passes, any_holds, none_of, any_more, count-cons, count-append, count_same}
 use Rattle.trace_stop.proofs.Children.{child_test}
 use Rattle.trace_stop.proofs.Edited.{If_more}
 use Rattle.trace_stop.proofs.Placed.{Rise-placed, any-placed, count-placed, process_of-other, process_of-placed, All-placed, TracesNone, meets_other, meets_new}
+use Rattle.proc_table.proofs.Rows.{process_of-pid}
 
 -- a new process with its first LWP, whose user has room for both
 pub record Born (rows : Rows) (p : ProcData) (l : LwpData) : Type 0 where
@@ -30,9 +31,6 @@ pub record Born (rows : Rows) (p : ProcData) (l : LwpData) : Type 0 where
   pub fit_lwp : FitLwp p l
 
 -- numbers
-
-pub not_same : (a b : ℕ) → eqb a b ≡ false → a ≢ b
-not_same a b is same = true≢false (sym (eq-eqb a b same) ∙ is)
 
 pub differ_new : (rows : Rows) (l : LwpData) → Differ rows.lwps → is_lwp rows l.tid ≡ false → Differ (rows.lwps ++ (l ∷ []))
 differ_new rows l all new = Differ-push rows.lwps l all (LacksLwp-from_any l.tid rows.lwps new)
@@ -58,15 +56,7 @@ traces_none : (rows : Rows) (n : ℕ) → is_process rows n ≡ false → AllByR
 traces_none rows n free all m t is = search (rules, named_other, find_some)
 
 home_other : (rows : Rows) (n : ℕ) → is_process rows n ≡ false → (l : LwpData) → Housed rows l → l.pid ≢ n
-home_other rows n free l home same = true≢false (sym (any_at (λ p. p.pid == n) (λ p. p.pid == l.pid) (λ p e. eq-eqb p.pid n (eqb-true p.pid l.pid e ∙ same)) rows.processes home.0 home.1) ∙ free)
-  where
-    any_at : (q t : ProcData → Bool) → ((p : ProcData) → t p ≡ true → q p ≡ true) → (ps : List ProcData) (p : ProcData) → find t ps ≡ Some p → list_any q ps ≡ true
-    any_at q t h [] p is = absurd (grind (arith, is))
-    any_at q t h (x ∷ ps) p is = grind (arith, h x, any_at q t h ps p, is)
-
-find_any : {X : Type 0} (q : X → Bool) (xs : List X) (x : X) → find q xs ≡ Some x → list_any q xs ≡ true
-find_any q [] x is = absurd (grind (arith, is))
-find_any q (y ∷ xs) x is = grind (arith, find_any q xs x, is)
+home_other rows n free l home same = true≢false (sym (find_passes (λ p. p.pid == l.pid) (λ p. p.pid == n) rows.processes home.0 home.1 (eq-eqb home.0.pid n (process_of-pid l.pid home.0 rows.processes home.1 ∙ same))) ∙ free)
 
 pub cond_at_most : (b : Bool) → cond b 1 0 ≤ 1
 cond_at_most b = grind arith

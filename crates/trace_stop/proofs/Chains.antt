@@ -1,10 +1,11 @@
 -- Chains of tracers end within as many links as a user has processes, less one.
-use Rattle.trace_stop.proofs.Words.{cases_Bool, cases_lt, nat_tests, AllByRecursion, list_any, ProcData, process_of, is_live, Rows, AtHome, IsLiveOf, Linked, Stands}
-use Rattle.std.proofs.Common.{◌≡◌, ℕ, zero, suc, ◌+◌, ◌-◌, ◌≤◌, List, [], ◌∷◌, length, filter, find, Bool, true, false, not, ◌&&◌, ◌||◌, ◌==◌, Option, Some, None, IfSome, is_some, refl, sym, ap, ◌∙◌, arith, true≢false, eqb-true, eq-eqb, subst, inl, inr, rules, count_by}
+use Rattle.trace_stop.proofs.Words.{cases_lt, nat_tests, AllByRecursion, list_any, ProcData, process_of, is_live, Rows, AtHome, IsLiveOf, Linked, Stands}
+use Rattle.std.proofs.Common.{◌≡◌, ℕ, zero, suc, ◌+◌, ◌-◌, ◌≤◌, List, [], ◌∷◌, length, filter, Bool, true, false, not, ◌&&◌, ◌||◌, ◌==◌, Option, Some, None, IfSome, refl, sym, ap, ◌∙◌, arith, true≢false, eqb-true, eq-eqb, subst, rules, count_by}
 use Rattle.trace_stop.specs.End.{tracer_in, tracer_of, holds_of, meets}
 use Rattle.trace_stop.specs.Laws.{onward, chain, ChainsEnd, ChainsMeet, TraceeDeeper}
-use Rattle.trace_stop.proofs.Every.{and_left, and_right, by_bool, All-imply, All-both, any_holds, any_more, find_some, count-cons}
+use Rattle.trace_stop.proofs.Every.{and_left, and_right, both, by_bool, find_passes, All-imply, All-both, any_holds, any_more, find_some, count-cons}
 use Rattle.trace_stop.proofs.Passes.{own_rows}
+use Rattle.proc_table.proofs.Rows.{process_of-pid}
 
 -- A chain link by link
 
@@ -78,13 +79,6 @@ no_more u (x ∷ xs) ps differ rows =
 
 -- What a chain passes is what its links meet
 
-any_found : {X : Type 0} (q t : X → Bool) (xs : List X) (x : X) → find q xs ≡ Some x → t x ≡ true → list_any (λ y. q y && t y) xs ≡ true
-any_found q t [] x is has = absurd (true≢false (sym (ap is_some is)))
-any_found q t (y ∷ xs) x is has = elim (cases_Bool (q y)) [
-  | inl e ↦ let same : y ≡ x = grind (arith, e, is) in rw (e, same, has) refl
-  | inr e ↦ rw e (any_found q t xs x (rw e at is) has)
-]
-
 pub chain-suc : (k : ℕ) (ps : List ProcData) (n : ℕ) → chain (suc k) ps n ≡ n ∷ onward (chain k ps) (tracer_of ps n)
 unfolding chain
 chain-suc k ps n = refl
@@ -135,7 +129,7 @@ module _ (rows : Rows) (s : Stands rows) where
   OfUser u x = list_any (is_row_of u x) ps ≡ true
 
   of_user-found : (u x : ℕ) (r : ProcData) → process_of x ps ≡ Some r → r.uid ≡ u → OfUser u x
-  of_user-found u x r is mine = any_found (λ p. p.pid == x) (of_user u) ps r is (eq-eqb r.uid u mine)
+  of_user-found u x r is mine = find_passes (λ p. p.pid == x) (is_row_of u x) ps r is (both (r.pid == x) (r.uid == u) (eq-eqb r.pid x (process_of-pid x r ps is)) (eq-eqb r.uid u mine))
 
   of_user-live : (u x : ℕ) → IsLiveOf rows u x → OfUser u x
   of_user-live u x is = any_more (λ p. (p.pid == x) && (p.uid == u) && is_live p) (is_row_of u x) (λ p h. and_left (is_row_of u x p) (is_live p) h) ps is

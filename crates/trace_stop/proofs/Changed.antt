@@ -7,8 +7,9 @@ use Rattle.trace_stop.specs.End.{tracer_in, tracer_of, meets}
 use Rattle.trace_stop.proofs.Every.{and_left, and_right, both, by_bool, All-imply, All-both, All-edit, All-any, find_some, any_forward}
 use Rattle.trace_stop.proofs.Passes.{own_rows, rise_edited, process_edited, filter_map_same}
 use Rattle.trace_stop.proofs.Children.{child_after}
-use Rattle.trace_stop.proofs.Edited.{If_more, some_is, if_at, any_edit, count_edit, count_kept, Differ-edit, edited, edit_none}
+use Rattle.trace_stop.proofs.Edited.{If_more, some_is, if_at, any_edit, count_edit, count_kept, Differ-edit, edited, edit_none, lwps_left}
 use Rattle.trace_stop.proofs.Numbers.{own_lwps}
+use Rattle.proc_table.proofs.Rows.{process_of-pid}
 
 -- rows that stand, with a fact of each process, and of each LWP beside its process
 pub record Holds (P : ProcData → Type 0) (Q : ProcData → LwpData → Type 0) (rows : Rows) : Type 0 where
@@ -37,7 +38,7 @@ pub record Beside (rows : Rows) (P : ProcData → Type 0) (Q : ProcData → LwpD
   pub fact : Q p l
 
 pub found_number : (n : ℕ) (ps : List ProcData) (p : ProcData) → process_of n ps ≡ Some p → p.pid ≡ n
-found_number n ps p is = eqb-true p.pid n (find_some (λ q. q.pid == n) (λ q. Unit {0}) ps (All-any (λ q. Unit {0}) (λ q. tt) ps) p is).1
+found_number n ps p is = process_of-pid n p ps is
 
 -- a number has one row
 pub row_is : {rows : Rows} {P : ProcData → Type 0} {n : ℕ} {p q : ProcData} → Row rows P q → process_of n rows.processes ≡ Some p → q.pid ≡ n → q ≡ p
@@ -322,12 +323,12 @@ module _ (rows : Rows) (over : ℕ → Bool) (f : ProcData → Option ProcData) 
   }
 
 -- Edits of processes alone, and of LWPs alone
+pub processes_alone : (f : ProcData → Option ProcData) (rows : Rows) → each f (λ p l. Some l) rows ≡ edit_processes f rows
+processes_alone f rows = ap (λ ls. record rows { processes = filter_map f rows.processes; lwps = ls }) (lwps_left rows)
+
 module _ (rows : Rows) (homes : AllByRecursion (Housed rows) rows.lwps) where
   pub each_alone : (f : ProcData → Option ProcData) (h : LwpData → Option LwpData) → each f (λ p l. h l) rows ≡ edited f h rows
   each_alone f h = ap (λ ls. record rows { processes = filter_map f rows.processes; lwps = ls }) (filter_map_same _ h rows.lwps (All-imply (Housed rows) _ (λ l home. ap (by_owner (λ p k. h k) l) home.1) rows.lwps homes))
-
-  pub processes_alone : (f : ProcData → Option ProcData) → each f (λ p l. Some l) rows ≡ edit_processes f rows
-  processes_alone f = each_alone f (λ l. Some l) ∙ ap (λ ls. record rows { processes = filter_map f rows.processes; lwps = ls }) (edit_none (λ l. Some l) (λ l. refl) rows.lwps)
 
   pub lwps_alone : (h : LwpData → Option LwpData) → each (λ p. Some p) (λ p l. h l) rows ≡ edit_lwps h rows
   lwps_alone h = each_alone (λ p. Some p) h ∙ ap (λ ps. record rows { processes = ps; lwps = filter_map h rows.lwps }) (edit_none (λ p. Some p) (λ p. refl) rows.processes)

@@ -6,7 +6,7 @@ use Rattle.std.proofs.Common.{◌≡◌, ◌≢◌, ℕ, Bool, true, false, ◌=
 use Rattle.event_masks.specs.declared.TheConstants.EventMask.{PTRACE_VFORK}
 use Rattle.lwp_table.specs.declared.Due.TheVariants.{VforkDone}
 use Rattle.trace_stop.proofs.Every.{All-both, All-edit, choose}
-use Rattle.trace_stop.proofs.Edited.{If_more, some_is}
+use Rattle.trace_stop.proofs.Edited.{If_more}
 use Rattle.trace_stop.proofs.Changed.{Holds, Row, Same, Stay, Edit, Leaves, LivesOn, IfKept, KeptLwp, sound_holds, peopled_on, all_rows, no_ring, stay, linked_at, edit_holds}
 use Rattle.trace_stop.proofs.Posting.{live_fits, live_state, beside_fits}
 use Rattle.trace_stop.proofs.Settling.{zero_apart}
@@ -95,10 +95,6 @@ module _ (rows : Rows) (ends : ProcData → Bool) (over : ℕ → Bool) (p statu
   stays q row e = stay rows to to_lwp same q row.at (λ l. (released over q l, left_lwp q l e))
 
   -- links after the end
-  unless_at : (o : Option ℕ) (t : ℕ) → unless over o ≡ Some t → (o ≡ Some t) × (over t ≡ false)
-  unless_at None t is = absurd (grind (arith, is))
-  unless_at (Some n) t is = search (rules, some_is)
-
   tracer_left : (u : ℕ) (o : Option ℕ) → IfSome o (IsLiveOf rows u) → IfSome (unless over o) (LivesOn rows over u)
   tracer_left u None live = tt
   tracer_left u (Some t) live = choose (over t) None (Some t) (λ o. IfSome o (LivesOn rows over u)) (λ e. tt) (λ e. (live, e))

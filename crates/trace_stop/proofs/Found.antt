@@ -1,8 +1,8 @@
 -- Rows that are found by their numbers.
 use Rattle.trace_stop.proofs.Words.{nat_tests, list_any, ProcData, process_of, is_live, Rows, is_process, IsRow, Rise, is_live_at}
-use Rattle.std.proofs.Common.{◌≡◌, ◌∙◌, ℕ, Bool, true, ◌==◌, true≢false, List, [], ◌∷◌, nat_eq, sym, ap, refl, Option, Some, None, IsSome, is_some, arith, ◌&&◌}
+use Rattle.std.proofs.Common.{◌≡◌, ◌∙◌, ℕ, Bool, true, ◌==◌, true≢false, List, [], ◌∷◌, nat_eq, sym, ap, refl, Option, Some, None, IsSome, is_some, arith, eq-eqb, ◌&&◌}
 use Rattle.proc_table.proofs.Rows.{row_found, process_of-pid}
-use Rattle.trace_stop.proofs.Every.{and_left, any_more}
+use Rattle.trace_stop.proofs.Every.{and_left, both, any_more, find_passes}
 use Rattle.trace_stop.proofs.Passes.{passes, above_none}
 
 -- a test of the row with a number
@@ -31,8 +31,4 @@ live_row rows n up is = by_row (process_of n rows.processes) refl (sym (any_by_n
     by_row (Some p) at live = (p, at, live)
 
 pub live_found : (rows : Rows) (n : ℕ) (p : ProcData) → process_of n rows.processes ≡ Some p → is_live p ≡ true → is_live_at n rows ≡ true
-live_found rows n p at live = by_rows rows.processes at
-  where
-    by_rows : (ps : List ProcData) → process_of n ps ≡ Some p → list_any (λ r. nat_eq r.pid n && is_live r) ps ≡ true
-    by_rows [] found = absurd (cc)
-    by_rows (q ∷ ps) found = grind (arith, nat_tests, found, live, by_rows ps)
+live_found rows n p at live = find_passes (λ r. nat_eq r.pid n) (λ r. nat_eq r.pid n && is_live r) rows.processes p at (both (nat_eq p.pid n) (is_live p) (eq-eqb p.pid n (process_of-pid n p rows.processes at)) live)

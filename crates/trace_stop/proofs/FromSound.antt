@@ -108,10 +108,6 @@ none_is (Some x) is = absurd (true≢false (sym is))
 pub none_test : {X : Type 0} (o : Option X) → o ≡ None → is_none o ≡ true
 none_test o is = ap is_none is
 
-if_holds : {X : Type 0} (test : X → Bool) (o : Option X) → holds test o ≡ true → IfSome o (λ x. test x ≡ true)
-if_holds test None is = tt
-if_holds test (Some x) is = is
-
 holds_if : {X : Type 0} (test : X → Bool) (o : Option X) → IfSome o (λ x. test x ≡ true) → holds test o ≡ true
 holds_if test None is = refl
 holds_if test (Some x) is = is
@@ -166,12 +162,6 @@ ended_from p Run is = tt
 ended_from p (Trace tid sig told) is = tt
 ended_from p (Job sig told) is = tt
 ended_from p (Zombie w) is = search (rules, and_left, eqb-true, and_right, is_some, eq-eqb)
-
-ended_test : (p : ProcData) (s : State) → IfEnded p s → is_state p s ≡ true
-ended_test p Run e = refl
-ended_test p (Trace tid sig told) e = refl
-ended_test p (Job sig told) e = refl
-ended_test p (Zombie w) e = grind (arith, nat_tests, e.word, e.mask, e.pending, e.collector)
 
 fit_from : (rows : Rows) (p : ProcData) → state_test rows p ≡ true → FitProcess p
 fit_from rows p is = record {

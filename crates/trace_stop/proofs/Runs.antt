@@ -11,10 +11,6 @@ use Rattle.trace_stop.proofs.Stopped.{own_reporter}
 abbrev pub dropped : Bool → LwpData → List LwpData → List LwpData
 dropped gone l ls = cond gone (without_lwp l.tid ls) (with_lwp (unreported l) ls)
 
-swapped : (m n : ℕ) (b : Bool) → nat_eq m n ≡ b → nat_eq n m ≡ b
-swapped m n true e = grind (arith, nat_tests)
-swapped m n false e = grind (arith, nat_tests)
-
 removed-none : (n : ℕ) (ls : List LwpData) → LacksLwp n ls → without_lwp n ls ≡ ls
 removed-none n [] a = refl
 removed-none n (l ∷ ls) a = rw (other_number l.tid n a.0, removed-none n ls a.1) refl

@@ -11,6 +11,7 @@ use Rattle.trace_stop.proofs.Passes.{filter_map_same}
 use Rattle.trace_stop.proofs.Placed.{Rise-placed, All-placed, process_of-other}
 use Rattle.user_rows.proofs.ViewLists.{All-where, placed-only, placed-other}
 use Rattle.user_rows.proofs.ViewSame.{Sim, Kin, KinLwp, own, own_lwp, is_own, not_own, named, process_same, each_same}
+use Rattle.trace_stop.proofs.Changed.{processes_alone}
 
 -- what a process of u becomes where it isn't gone: a live one stays live
 abbrev pub Stays : ProcData → ProcData → Type 0
@@ -40,13 +41,6 @@ change_same s chosen process lwp foreign mine mine_lwp = each_same s (λ p. Some
 })
 
 -- processes alone
-by_none : (l : LwpData) (o : Option ProcData) → by_owner (λ p k. Some k) l o ≡ Some l
-by_none l None = refl
-by_none l (Some p) = refl
-
-processes_alone : (f : ProcData → Option ProcData) (rows : Rows) → each f (λ p l. Some l) rows ≡ edit_processes f rows
-processes_alone f rows = ap (λ ls. record rows { processes = filter_map f rows.processes; lwps = ls }) (edit_none (λ l. by_owner (λ p k. Some k) l (owner rows l)) (λ l. by_none l (owner rows l)) rows.lwps)
-
 pub edit_same : {u : ℕ} {start c v : Rows} → Sim u start c v → (f : ProcData → Option ProcData)
     → ((p : ProcData) → GoodProc p → p.uid ≡ u → Kin p (f p))
     → ((p : ProcData) → GoodProc p → p.uid ≢ u → f p ≡ Some p)
