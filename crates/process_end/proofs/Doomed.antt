@@ -10,6 +10,7 @@ use Rattle.process_end.specs.Laws.{traces_live, end_alone, LeafEnd, DetachedEnd}
 use Rattle.trace_stop.proofs.Every.{All-imply, All-both, none_of, find_some}
 use Rattle.trace_stop.proofs.Named.{live_row}
 use Rattle.trace_stop.proofs.Passes.{filter_map_same, any_same, each_same, own_rows}
+use Rattle.trace_stop.proofs.Edited.{If_more}
 
 -- no row has this number, or a live one
 abbrev pub NoZombie : List ProcData → ℕ → Type 0
@@ -57,12 +58,8 @@ dooms_alone settings ps q found all n =
 pub untracing : (rows : Rows) → Stands rows → (q : ℕ) → traces_live q rows ≡ false → AllByRecursion (Untracing rows.processes q) rows.processes
 untracing rows s q leaf =
     All-imply (λ r. ((is_live r && traces q r) ≡ false) × Linked rows r) (Untracing rows.processes q)
-    (λ r h. record { free = λ live. sym (ap (λ b. b && traces q r) live) ∙ h.0; tracer = at_tracer r.uid r.tracer h.1.tracer })
+    (λ r h. record { free = λ live. sym (ap (λ b. b && traces q r) live) ∙ h.0; tracer = If_more (IsLiveOf rows r.uid) (NoZombie rows.processes) (no_zombie rows s.rising r.uid) r.tracer h.1.tracer })
     rows.processes (All-both _ (Linked rows) rows.processes (none_of _ rows.processes leaf) s.linked)
-  where
-    at_tracer : (u : ℕ) (o : Option ℕ) → IfSome o (IsLiveOf rows u) → IfSome o (NoZombie rows.processes)
-    at_tracer u None h = tt
-    at_tracer u (Some t) h = no_zombie rows s.rising u t h
 
 -- of the rows q alone ends
 pub doomed_alone : (settings : Settings) (rows : Rows) (q : ℕ) → Stands rows → traces_live q rows ≡ false → AllByRecursion (λ r. is_doomed settings rows.processes q r ≡ (r.pid == q)) rows.processes

@@ -59,13 +59,9 @@ meets_live ps p tracers (suc k) n is = search (rules, meets_live ps p tracers k,
 pub tracer_lives : (rows : Rows) → Stands rows → (n : ℕ) → IfSome (tracer_of rows.processes n) (IsLiveRow rows.processes)
 tracer_lives rows s n = at_row (process_of n rows.processes) refl
   where
-    at_tracer : (u : ℕ) (o : Option ℕ) → IfSome o (IsLiveOf rows u) → IfSome o (IsLiveRow rows.processes)
-    at_tracer u None h = tt
-    at_tracer u (Some t) h = let r = live_row rows s.rising u t h in ap (passes is_live) r.found ∙ r.live
-
     at_row : (o : Option ProcData) → process_of n rows.processes ≡ o → IfSome (tracer_in o) (IsLiveRow rows.processes)
     at_row None is = tt
-    at_row (Some r) is = at_tracer r.uid r.tracer (find_some (λ x. x.pid == n) (Linked rows) rows.processes s.linked r is).0.tracer
+    at_row (Some r) is = If_more (IsLiveOf rows r.uid) (IsLiveRow rows.processes) (λ t h. let k = live_row rows s.rising r.uid t h in ap (passes is_live) k.found ∙ k.live) r.tracer (find_some (λ x. x.pid == n) (Linked rows) rows.processes s.linked r is).0.tracer
 
 pub named : (rows : Rows) → Stands rows → (r : ProcData) → Linked rows r → (x : ℕ) → Names r x → NoZombie rows.processes x
 named rows s r l x h = search (rules, eqb-true, no_zombie, eq-eqb)

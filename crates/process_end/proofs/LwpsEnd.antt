@@ -12,7 +12,7 @@ use Rattle.trace_stop.proofs.Every.{by_bool, choose, and_left, and_right, both, 
 use Rattle.trace_stop.proofs.Passes.{passes, own_rows, filter_map_same, filter_map_twice}
 use Rattle.trace_stop.proofs.FromSound.{none_is}
 use Rattle.trace_stop.proofs.Children.{child_test, child_from}
-use Rattle.trace_stop.proofs.Edited.{some_is}
+use Rattle.trace_stop.proofs.Edited.{If_more, some_is}
 use Rattle.trace_stop.proofs.Numbers.{the_row}
 use Rattle.process_end.proofs.Turned.{turned, turned_lwp, notified_lwp, moved, turned_lwp-safe, turned_lwp-fallen}
 use Rattle.process_end.proofs.Twice.{alone}
@@ -112,16 +112,12 @@ module _ (rows : Rows) (s : IsSound rows) (q : ℕ) (p : ProcData) (at : process
     row_fits : (r : ProcData) → process_of r.pid ps ≡ Some r → Linked rows r → FitProcess r → (is_live r && traces q r) ≡ false → LeavingRow (λ n. is_live_at n rows) q r
     row_fits r own link fit free = record {
       lives = sym (any_by_number is_live r.pid ps s.stands.rising ∙ ap (passes is_live) own);
-      tracer = at_tracer r.tracer link.tracer;
+      tracer = If_more (IsLiveOf rows r.uid) (λ t. is_live_at t rows ≡ true) (of_user r.uid) r.tracer link.tracer;
       parent = λ other. of_user r.uid r.parent (link.parent other);
       free = λ alive. sym (ap (λ b. b && traces q r) alive) ∙ free;
       left = λ gone. at_state r.state fit.ended gone;
     }
       where
-        at_tracer : (o : Option ℕ) → IfSome o (IsLiveOf rows r.uid) → IfSome o (λ t. is_live_at t rows ≡ true)
-        at_tracer None h = tt
-        at_tracer (Some t) h = of_user r.uid t h
-
         at_state : (st : State) → IfEnded r st → not (is_zombie_state st) ≡ false → (is_none r.tracer && (r.parent == 1)) ≡ false
         at_state Run h gone = absurd (true≢false gone)
         at_state (Trace tid sig told) h gone = absurd (true≢false gone)

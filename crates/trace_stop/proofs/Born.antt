@@ -9,8 +9,10 @@ use Rattle.proc_table.proofs.Lwps.{LacksLwp-from_any, Differ-push}
 use Rattle.trace_stop.proofs.Every.{not_same, and_left, or_true, by_bool, All-imply, All-both, All-append, find_some, find_passes, any_holds, none_of, any_more, count-cons, count-append, count_same}
 use Rattle.trace_stop.proofs.Children.{child_test}
 use Rattle.trace_stop.proofs.Edited.{If_more}
-use Rattle.trace_stop.proofs.Placed.{Rise-placed, any-placed, count-placed, process_of-other, process_of-placed, All-placed, TracesNone, meets_other, meets_new}
+use Rattle.trace_stop.proofs.Placed.{any-placed, count-placed, process_of-other, process_of-placed, TracesNone, meets_other, meets_new}
 use Rattle.proc_table.proofs.Rows.{process_of-pid}
+use Rattle.proc_table.proofs.Placed.{Rise-placed, every_placed}
+use Rattle.proc_table.proofs.Rising.{Lacks-from_any}
 
 -- a new process with its first LWP, whose user has room for both
 pub record Born (rows : Rows) (p : ProcData) (l : LwpData) : Type 0 where
@@ -166,9 +168,9 @@ module _ (rows : Rows) (p : ProcData) (l : LwpData) (s : IsSound rows) (b : Born
   pub born_sound : IsSound made
   born_sound = record {
     stands = record {
-      rising = Rise-placed p ps s.stands.rising;
+      rising = Rise-placed p ps s.stands.rising (Lacks-from_any p.pid ps b.free);
       differ = differ_new rows l s.stands.differ b.new;
-      homes = All-placed AtHome p ps s.stands.homes b.home;
+      homes = every_placed AtHome p ps b.home s.stands.homes;
       housed = All-append (Housed made) rows.lwps (l ∷ []) (All-imply (λ k. (k.pid ≢ p.pid) × Housed rows k) (Housed made) housed_old rows.lwps (All-both _ (Housed rows) rows.lwps apart s.stands.housed)) ((p, owner_new, b.tid), tt);
       pid_slots = length-set rows.pid_cursors (slot p.uid) _ ∙ s.stands.pid_slots;
       tid_slots = length-set rows.tid_cursors (slot p.uid) _ ∙ s.stands.tid_slots;
@@ -176,9 +178,9 @@ module _ (rows : Rows) (p : ProcData) (l : LwpData) (s : IsSound rows) (b : Born
       tid_cursors = cursors-set tid_block rows.tid_cursors p.uid (cursor_after (tid_block p.uid) l.tid) b.home.user s.stands.tid_slots (InBlock-after (tid_block p.uid) l.tid b.tid (omega arith)) s.stands.tid_cursors;
       few_processes = few_processes;
       few_lwps = few_lwps;
-      linked = All-placed (Linked made) p ps (All-imply (λ q. (q.pid ≢ p.pid) × Linked rows q) (Linked made) linked_old ps (All-both _ (Linked rows) ps other s.stands.linked)) linked_new;
+      linked = every_placed (Linked made) p ps linked_new (All-imply (λ q. (q.pid ≢ p.pid) × Linked rows q) (Linked made) linked_old ps (All-both _ (Linked rows) ps other s.stands.linked));
       standing = All-append (WithOwner made (Standing made)) rows.lwps (l ∷ []) (All-imply (λ k. (k.pid ≢ p.pid) × WithOwner rows (Standing rows) k) _ standing_old rows.lwps (All-both _ (WithOwner rows (Standing rows)) rows.lwps apart s.stands.standing)) (standing_new, tt);
     };
-    processes = All-placed FitProcess p ps s.processes b.fits;
+    processes = every_placed FitProcess p ps b.fits s.processes;
     lwps = All-append (WithOwner made FitLwp) rows.lwps (l ∷ []) (All-imply (λ k. (k.pid ≢ p.pid) × WithOwner rows FitLwp k) (WithOwner made FitLwp) (λ k h q at. h.1 q (sym (owner_old k h.0) ∙ at)) rows.lwps (All-both _ (WithOwner rows FitLwp) rows.lwps apart s.lwps)) ((λ q at. subst (λ r. FitLwp r l) (the_owner q at) b.fit_lwp), tt);
   }

@@ -6,6 +6,7 @@ use Rattle.trace_stop.specs.Laws.{onward, chain, ChainsEnd, ChainsMeet, TraceeDe
 use Rattle.trace_stop.proofs.Every.{and_left, and_right, both, by_bool, find_passes, All-imply, All-both, any_holds, any_more, find_some, count-cons}
 use Rattle.trace_stop.proofs.Passes.{own_rows}
 use Rattle.proc_table.proofs.Rows.{process_of-pid}
+use Rattle.trace_stop.proofs.Edited.{If_more}
 
 -- A chain link by link
 
@@ -140,12 +141,8 @@ module _ (rows : Rows) (s : Stands rows) where
       (λ r h e.
       let same = eqb-true r.pid x (and_left (r.pid == x) (r.uid == u) e) in
       let mine = eqb-true r.uid u (and_right (r.pid == x) (r.uid == u) e) in
-      subst (λ o. IfSome (tracer_in o) (OfUser u)) (sym h.0 ∙ ap (λ m. process_of m ps) same) (subst (λ v. IfSome r.tracer (OfUser v)) mine (at_tracer r.uid r.tracer h.1.tracer)))
+      subst (λ o. IfSome (tracer_in o) (OfUser u)) (sym h.0 ∙ ap (λ m. process_of m ps) same) (subst (λ v. IfSome r.tracer (OfUser v)) mine (If_more (IsLiveOf rows r.uid) (OfUser r.uid) (of_user-live r.uid) r.tracer h.1.tracer)))
       ps (All-both _ (Linked rows) ps (own_rows ps s.rising) s.linked) is
-    where
-      at_tracer : (v : ℕ) (o : Option ℕ) → IfSome o (IsLiveOf rows v) → IfSome o (OfUser v)
-      at_tracer v None h = tt
-      at_tracer v (Some t) h = of_user-live v t h
 
   onward_rows : (u k : ℕ) → ((t : ℕ) → OfUser u t → AllByRecursion (OfUser u) (chain k ps t)) → (o : Option ℕ) → IfSome o (OfUser u) → AllByRecursion (OfUser u) (onward (chain k ps) o)
   onward_rows u k h None is = tt

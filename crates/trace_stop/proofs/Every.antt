@@ -121,7 +121,3 @@ count_more q t (x ∷ xs) all = let one = less (q x) (t x) all.0 in let some = c
 pub count_same : {X : Type 0} (q t : X → Bool) (xs : List X) → AllByRecursion (λ x. q x ≡ t x) xs → count_by q xs ≡ count_by t xs
 count_same q t [] all = refl
 count_same q t (x ∷ xs) all = count-cons q x xs ∙ (rw (all.0, count_same q t xs all.1) refl ∙ sym (count-cons t x xs))
-
-pub find_same : {X : Type 0} (q t : X → Bool) (xs : List X) → AllByRecursion (λ x. q x ≡ t x) xs → find q xs ≡ find t xs
-find_same q t [] all = refl
-find_same q t (x ∷ xs) all = grind (arith, all.0, find_same q t xs all.1)

@@ -164,13 +164,7 @@ ended_from p (Job sig told) is = tt
 ended_from p (Zombie w) is = search (rules, and_left, eqb-true, and_right, is_some, eq-eqb)
 
 fit_from : (rows : Rows) (p : ProcData) → state_test rows p ≡ true → FitProcess p
-fit_from rows p is = record {
-  stopped = λ reports. and_left (is_some p.tracer) _ (implies_at (is_some (reporting p)) _ (and_left _ _ (and_left _ _ (and_left _ _ (and_left _ _ is)))) reports);
-  job = λ stopped. none_is p.tracer (implies_at (is_job p) _ (and_right _ _ (and_left _ _ (and_left _ _ (and_left _ _ is)))) stopped);
-  continued = λ on. let h = implies_at p.continued _ (and_right _ _ (and_left _ _ (and_left _ _ is))) on in (none_is p.tracer (and_left _ _ h), and_right _ _ h);
-  untraced = λ none. let h = implies_at (is_none p.tracer) _ (and_right _ _ (and_left _ _ is)) (none_test p.tracer none) in record { mask = eqb-true p.mask.0 0 (and_left _ _ h); pending = eqb-true (bit_and p.pending (unwanted p)) 0 (and_right _ _ h) };
-  ended = ended_from p p.state (and_right _ _ is);
-}
+fit_from rows p is = search (rules, and_left, and_right, implies_at, none_is, none_test, eqb-true, ended_from)
 
 fit_test : (rows : Rows) (p : ProcData) → IfSome (reporting p) (λ tid. names_own rows p tid ≡ true) → FitProcess p → state_test rows p ≡ true
 fit_test rows p named f = grind (arith, nat_tests)

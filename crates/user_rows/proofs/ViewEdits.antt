@@ -8,10 +8,12 @@ use Rattle.user_rows.specs.Closed.{GoodProc, GoodLwp, LiveRow, LiveOwner}
 use Rattle.trace_stop.proofs.Every.{All-imply, All-append, choose, choose_both}
 use Rattle.trace_stop.proofs.Edited.{edit_none}
 use Rattle.trace_stop.proofs.Passes.{filter_map_same}
-use Rattle.trace_stop.proofs.Placed.{Rise-placed, All-placed, process_of-other}
+use Rattle.trace_stop.proofs.Placed.{process_of-other}
 use Rattle.user_rows.proofs.ViewLists.{All-where, placed-only, placed-other}
 use Rattle.user_rows.proofs.ViewSame.{Sim, Kin, KinLwp, own, own_lwp, is_own, not_own, named, process_same, each_same}
 use Rattle.trace_stop.proofs.Changed.{processes_alone}
+use Rattle.proc_table.proofs.Placed.{Rise-placed, every_placed}
+use Rattle.proc_table.proofs.Rising.{Lacks-from_any}
 
 -- what a process of u becomes where it isn't gone: a live one stays live
 abbrev pub Stays : ProcData → ProcData → Type 0
@@ -121,10 +123,10 @@ pub process_added_same : {u : ℕ} {start c v : Rows} → Sim u start c v → (p
 process_added_same {u} {start} {c} {v} s p mine good block free = subst (λ w. Sim u start (at w c) (at w v)) (sym mine) (record {
   kept = record {
     closed = record {
-      processes = All-placed GoodProc p c.processes s.kept.closed.processes good;
+      processes = every_placed GoodProc p c.processes good s.kept.closed.processes;
       lwps = s.kept.closed.lwps;
       housed = All-imply (LiveOwner c.processes) (LiveOwner (placed p c.processes)) housed c.lwps s.kept.closed.housed;
-      rising = Rise-placed p c.processes s.kept.closed.rising;
+      rising = Rise-placed p c.processes s.kept.closed.rising (Lacks-from_any p.pid c.processes free);
       user = user;
       pid_slots = length-set c.pid_cursors (slot u) _ ∙ s.kept.closed.pid_slots;
       tid_slots = s.kept.closed.tid_slots;

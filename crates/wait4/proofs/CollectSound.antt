@@ -27,30 +27,9 @@ module _ (caller : ℕ) (p : ProcData) where
   now s = record p { state = s }
 
   pub collected_kept : (s : State) → IfCollected (now s) (collected_in caller (now s) s)
-  collected_kept Run = record {
-    pid = refl;
-    uid = refl;
-    like = record { live = refl; tracer = inl refl; parent = refl };
-    reporting = refl;
-    fits = λ fit. record { stopped = fit.stopped; job = fit.job; continued = λ on. absurd (true≢false (sym on)); untraced = λ none. record { mask = (fit.untraced none).mask; pending = (fit.untraced none).pending }; ended = tt };
-    fit_lwp = λ live l. beside_fits (now Run) (record p { state = Run; continued = false }) l refl refl refl;
-  }
-  collected_kept (Trace tid sig told) = record {
-    pid = refl;
-    uid = refl;
-    like = record { live = refl; tracer = inl refl; parent = refl };
-    reporting = refl;
-    fits = λ fit. record { stopped = fit.stopped; job = fit.job; continued = fit.continued; untraced = λ none. record { mask = (fit.untraced none).mask; pending = (fit.untraced none).pending }; ended = tt };
-    fit_lwp = λ live l. beside_fits (now (Trace tid sig told)) (now (Trace tid sig true)) l refl refl refl;
-  }
-  collected_kept (Job sig told) = record {
-    pid = refl;
-    uid = refl;
-    like = record { live = refl; tracer = inl refl; parent = refl };
-    reporting = refl;
-    fits = λ fit. record { stopped = fit.stopped; job = fit.job; continued = fit.continued; untraced = λ none. record { mask = (fit.untraced none).mask; pending = (fit.untraced none).pending }; ended = tt };
-    fit_lwp = λ live l. beside_fits (now (Job sig told)) (now (Job sig true)) l refl refl refl;
-  }
+  collected_kept Run = search (rules, beside_fits)
+  collected_kept (Trace tid sig told) = search (rules, beside_fits)
+  collected_kept (Job sig told) = search (rules, beside_fits)
   collected_kept (Zombie w) = search (rules, choose, bit_and, zero_apart, and_right, and_left, stay, eq-eqb)
 
 -- the rows after a collect, each by what it keeps
