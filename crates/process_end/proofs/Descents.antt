@@ -8,17 +8,17 @@ use Rattle.proc_table.proofs.Finds.{below_or_not}
 use Rattle.proc_table.proofs.Rows.{process_of-pid}
 use Rattle.trace_stop.specs.End.{tracer_in, tracer_of, holds_of, meets, dooms, end}
 use Rattle.trace_stop.specs.Laws.{chain}
-use Rattle.process_end.specs.Laws.{traces_live, end_alone}
+use Rattle.process_end.specs.Laws.{traces_live, end_alone, EndSound}
 use Rattle.process_end.specs.Descent.{kills, traces_live_above, IsLiveTracee, EndsToo}
 use Rattle.trace_stop.proofs.Every.{or_true, and_left, and_right, both, by_bool, All-both, none_of, none_passes}
 use Rattle.trace_stop.proofs.Edited.{some_is}
 use Rattle.trace_stop.proofs.Passes.{passes, own_rows}
-use Rattle.trace_stop.proofs.Found.{any_by_number, listed}
+use Rattle.trace_stop.proofs.Found.{any_by_number, listed, live_row}
 use Rattle.process_end.proofs.LeafLaw.{dooms_meets, q_traced, leaf_law, leaf_dooms}
 use Rattle.trace_stop.proofs.Chains.{meets-suc, no_ring, chains_end, tracee_deeper}
 use Rattle.process_end.proofs.Leaves.{this_is, tracee_doomed}
 use Rattle.process_end.proofs.LeafLives.{leaf_lives, leaf_fewer}
-use Rattle.process_end.proofs.EndSound.{end_sound}
+use Rattle.trace_stop.proofs.Posts.{end_at}
 use Rattle.process_end.proofs.Doomed.{leaf_end}
 
 -- What a walk over tracees has found
@@ -91,6 +91,10 @@ module _ (rows : Rows) (s : Stands rows) where
 
   pub deeper : (x t : ℕ) → IsLiveTracee x rows t → 250 - length (chain 250 rows.processes t) < 250 - length (chain 250 rows.processes x)
   deeper x t is = search (rules, tracee_deeper, least, chains_end)
+
+-- sound rows are sound after the end of a live process
+pub end_sound : EndSound
+end_sound settings rows p status s word live = search (rules, live_row, end_at)
 
 turned_round : (m n : ℕ) → (m == n) ≡ false → (n == m) ≡ false
 turned_round m n e = grind (arith, nat_tests)

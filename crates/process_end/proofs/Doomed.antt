@@ -8,7 +8,7 @@ use Rattle.trace_stop.specs.declared.Settings.{Settings}
 use Rattle.trace_stop.specs.End.{meets, is_doomed, dooms, process_after, lwp_after, notifies_of, left_alone, end_each, end_of}
 use Rattle.process_end.specs.Laws.{traces_live, end_alone, LeafEnd, DetachedEnd}
 use Rattle.trace_stop.proofs.Every.{All-imply, All-both, none_of, find_some}
-use Rattle.trace_stop.proofs.Named.{live_row}
+use Rattle.trace_stop.proofs.Found.{live_named}
 use Rattle.trace_stop.proofs.Passes.{filter_map_same, any_same, each_same, own_rows}
 use Rattle.trace_stop.proofs.Edited.{If_more}
 
@@ -17,7 +17,7 @@ abbrev pub NoZombie : List ProcData → ℕ → Type 0
 NoZombie ps n = IfSome (process_of n ps) (λ p. is_live p ≡ true)
 
 pub no_zombie : (rows : Rows) → Rise rows.processes → (u n : ℕ) → is_live_of rows u n ≡ true → NoZombie rows.processes n
-no_zombie rows rise u n is = let r = live_row rows rise u n is in rw r.found r.live
+no_zombie rows rise u n is = let r = live_named rows rise u n is in rw r.found r.live
 
 -- where tracers are live, and q traces no live process
 pub record Untracing (ps : List ProcData) (q : ℕ) (p : ProcData) : Type 0 where

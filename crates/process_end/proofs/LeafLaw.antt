@@ -8,10 +8,9 @@ use Rattle.trace_stop.specs.End.{tracer_in, tracer_of, holds_of, meets, is_doome
 use Rattle.process_end.specs.Laws.{traces_live, LeafLaw, LeafDooms}
 use Rattle.trace_stop.proofs.Every.{and_left, and_right, by_bool, All-imply, All-both, find_some}
 use Rattle.trace_stop.proofs.Passes.{passes, own_rows, process_edited}
-use Rattle.trace_stop.proofs.Named.{live_row}
 use Rattle.proc_table.proofs.Rows.{process_of-pid}
 use Rattle.trace_stop.proofs.Edited.{If_more}
-use Rattle.trace_stop.proofs.Found.{any_by_number, listed, own_row}
+use Rattle.trace_stop.proofs.Found.{live_named, any_by_number, listed, own_row}
 use Rattle.trace_stop.proofs.Chains.{meets-suc, meets-zero, or_more, meets-more}
 use Rattle.process_end.proofs.Doomed.{NoZombie, no_zombie, Untracing, untracing, end_each_same, dooms_alone, doomed_alone}
 use Rattle.process_end.proofs.Turned.{heard, notified_row, moved, fallen, turned, turned-fallen, turned-safe, turned-dead}
@@ -61,7 +60,7 @@ tracer_lives rows s n = at_row (process_of n rows.processes) refl
   where
     at_row : (o : Option ProcData) → process_of n rows.processes ≡ o → IfSome (tracer_in o) (IsLiveRow rows.processes)
     at_row None is = tt
-    at_row (Some r) is = If_more (IsLiveOf rows r.uid) (IsLiveRow rows.processes) (λ t h. let k = live_row rows s.rising r.uid t h in ap (passes is_live) k.found ∙ k.live) r.tracer (find_some (λ x. x.pid == n) (Linked rows) rows.processes s.linked r is).0.tracer
+    at_row (Some r) is = If_more (IsLiveOf rows r.uid) (IsLiveRow rows.processes) (λ t h. let k = live_named rows s.rising r.uid t h in ap (passes is_live) k.found ∙ k.live) r.tracer (find_some (λ x. x.pid == n) (Linked rows) rows.processes s.linked r is).0.tracer
 
 pub named : (rows : Rows) → Stands rows → (r : ProcData) → Linked rows r → (x : ℕ) → Names r x → NoZombie rows.processes x
 named rows s r l x h = search (rules, eqb-true, no_zombie, eq-eqb)

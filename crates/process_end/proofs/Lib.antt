@@ -16,4 +16,3 @@ pub mod Orphans
 pub mod Burial
 pub mod LwpsEnd
 pub mod LeftAlone
-pub mod EndSound

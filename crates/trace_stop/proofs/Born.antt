@@ -60,8 +60,14 @@ traces_none rows n free all m t is = search (rules, named_other, find_some)
 home_other : (rows : Rows) (n : ℕ) → is_process rows n ≡ false → (l : LwpData) → Housed rows l → l.pid ≢ n
 home_other rows n free l home same = true≢false (sym (find_passes (λ p. p.pid == l.pid) (λ p. p.pid == n) rows.processes home.0 home.1 (eq-eqb home.0.pid n (process_of-pid l.pid home.0 rows.processes home.1 ∙ same))) ∙ free)
 
-pub cond_at_most : (b : Bool) → cond b 1 0 ≤ 1
-cond_at_most b = grind arith
+-- one more, which may be that of a user who has room for it, is none too many
+pub still_few : (count : ℕ → ℕ) (v u most all : ℕ) (mine : Bool) → all ≡ count u + cond mine 1 0 → ((v == u) ≡ false → mine ≡ false) → count v < most → count u ≤ most → all ≤ most
+still_few count v u most all false is other room few = omega (arith, is, few)
+still_few count v u most all true is other room few = by_user (v == u) refl
+  where
+    by_user : (b : Bool) → (v == u) ≡ b → all ≤ most
+    by_user true e = let more = subst (λ w. count w < most) (eqb-true v u e) room in omega (arith, is, more)
+    by_user false e = absurd (true≢false (other e))
 
 module _ (rows : Rows) (p : ProcData) (l : LwpData) (s : IsSound rows) (b : Born rows p l) where
   abbrev ps : List ProcData
@@ -143,24 +149,14 @@ module _ (rows : Rows) (p : ProcData) (l : LwpData) (s : IsSound rows) (b : Born
   owns_new u ne = search (rules, any-placed, by_bool, eqb-true, any_more, eq-eqb, and_left)
 
   few_processes : (u : ℕ) → IsUser u → process_count u made ≤ 250
-  few_processes u user = by_user (eqb p.uid u) refl
-    where
-      all : process_count u made ≡ cond (p.uid == u) 1 0 + process_count u rows
-      all = count-placed p ps s.stands.rising b.free (λ q. q.uid == u)
-
-      by_user : (c : Bool) → eqb p.uid u ≡ c → process_count u made ≤ 250
-      by_user true e = let room = b.processes in let same = eqb-true p.uid u e in let most : process_count u rows < 250 = subst (λ w. process_count w rows < 250) same room in let one = cond_at_most (p.uid == u) in omega (arith, all, most, one)
-      by_user false e = let most = s.stands.few_processes u user in let none : cond {A = ℕ} (p.uid == u) 1 0 ≡ 0 = rw e refl in omega (arith, all, most, none)
+  few_processes u user = let all = count-placed p ps s.stands.rising b.free (λ q. q.uid == u) in
+      still_few (λ w. process_count w rows) p.uid u 250 (process_count u made) (p.uid == u) (omega (arith, all)) (λ e. e) b.processes (s.stands.few_processes u user)
 
   few_lwps : (u : ℕ) → IsUser u → lwp_count_of u made ≤ 1000
-  few_lwps u user = by_user (eqb p.uid u) refl
+  few_lwps u user = still_few (λ w. lwp_count_of w rows) p.uid u 1000 (lwp_count_of u made) (owns u l.pid (placed p ps)) all (λ e. owns_new u (not_same p.uid u e)) b.lwps (s.stands.few_lwps u user)
     where
       all : lwp_count_of u made ≡ lwp_count_of u rows + cond (owns u l.pid (placed p ps)) 1 0
       all = count_last (λ k. owns u k.pid (placed p ps)) rows.lwps l ∙ ap (λ n. n + cond (owns u l.pid (placed p ps)) 1 0) (count_same (λ k. owns u k.pid (placed p ps)) (λ k. owns u k.pid ps) rows.lwps (All-imply (λ k. k.pid ≢ p.pid) (λ k. owns u k.pid (placed p ps) ≡ owns u k.pid ps) (λ k ne. owns_old u k.pid ne) rows.lwps apart))
-
-      by_user : (c : Bool) → eqb p.uid u ≡ c → lwp_count_of u made ≤ 1000
-      by_user true e = let same = eqb-true p.uid u e in let most : lwp_count_of u rows < 1000 = subst (λ w. lwp_count_of w rows < 1000) same b.lwps in let one = cond_at_most (owns u l.pid (placed p ps)) in omega (arith, all, most, one)
-      by_user false e = let most = s.stands.few_lwps u user in let none : cond {A = ℕ} (owns u l.pid (placed p ps)) 1 0 ≡ 0 = rw (owns_new u (not_same p.uid u e)) refl in omega (arith, all, most, none)
 
   housed_old : (k : LwpData) → (k.pid ≢ p.pid) × Housed rows k → Housed made k
   housed_old k h = (h.1.0, owner_old k h.0 ∙ h.1.1, h.1.2)

@@ -5,7 +5,7 @@ use Rattle.trace_stop.proofs.Words.{change_lwp, remove_lwp, is_process, add_proc
 use Rattle.std.proofs.lemmas.List.Elements.{filter-append}
 use Rattle.pid_blocks.specs.Blocks.{pid_owner, tid_owner, pid_block, tid_block, slot, cursor_after, InBlock}
 use Rattle.user_rows.specs.Closed.{GoodProc, GoodLwp, LiveRow, LiveOwner}
-use Rattle.trace_stop.proofs.Every.{All-imply, All-append, choose, choose_both}
+use Rattle.trace_stop.proofs.Every.{find_none, none_of, All-imply, All-append, choose, choose_both}
 use Rattle.trace_stop.proofs.Edited.{edit_none}
 use Rattle.trace_stop.proofs.Passes.{filter_map_same}
 use Rattle.trace_stop.proofs.Placed.{process_of-other}
@@ -14,6 +14,7 @@ use Rattle.user_rows.proofs.ViewSame.{Sim, Kin, KinLwp, own, own_lwp, is_own, no
 use Rattle.trace_stop.proofs.Changed.{processes_alone}
 use Rattle.proc_table.proofs.Placed.{Rise-placed, every_placed}
 use Rattle.proc_table.proofs.Rising.{Lacks-from_any}
+use Rattle.proc_table.proofs.Cursors.{InBlock-after}
 
 -- what a process of u becomes where it isn't gone: a live one stays live
 abbrev pub Stays : ProcData → ProcData → Type 0
@@ -111,13 +112,6 @@ slot_in u xs user is = omega arith
 pub put_at : {X : Type 0} (u : ℕ) (xs : List X) (x d : X) → IsUser u → length xs ≡ 64 → get_or (set xs (slot u) x) (slot u) d ≡ x
 put_at u xs x d user is = let lt = slot_in u xs user is in rw get_or-set_same refl
 
-cursor_in : (b : _) (n : ℕ) → InBlock b n → InBlock b (cursor_after b n)
-cursor_in b n i = grind (arith, nat_tests)
-
-find_free : {X : Type 0} (q : X → Bool) (xs : List X) → list_any q xs ≡ false → find q xs ≡ None
-find_free q [] is = refl
-find_free q (x ∷ xs) is = grind (arith, is, find_free q xs)
-
 -- a new process of u
 pub process_added_same : {u : ℕ} {start c v : Rows} → Sim u start c v → (p : ProcData) → p.uid ≡ u → GoodProc p → InBlock (pid_block u) p.pid → is_process c p.pid ≡ false → Sim u start (add_process p c) (add_process p v)
 process_added_same {u} {start} {c} {v} s p mine good block free = subst (λ w. Sim u start (at w c) (at w v)) (sym mine) (record {
@@ -130,7 +124,7 @@ process_added_same {u} {start} {c} {v} s p mine good block free = subst (λ w. S
       user = user;
       pid_slots = length-set c.pid_cursors (slot u) _ ∙ s.kept.closed.pid_slots;
       tid_slots = s.kept.closed.tid_slots;
-      pid_cursor = subst (InBlock (pid_block u)) (sym (put_at u c.pid_cursors _ 0 user s.kept.closed.pid_slots)) (cursor_in (pid_block u) p.pid block);
+      pid_cursor = subst (InBlock (pid_block u)) (sym (put_at u c.pid_cursors _ 0 user s.kept.closed.pid_slots)) (InBlock-after (pid_block u) p.pid block (omega arith));
       tid_cursor = s.kept.closed.tid_cursor;
     };
     processes = λ w ne. placed-other (own w) p c.processes (not_own w p.uid (λ e. ne (sym e ∙ mine))) s.kept.closed.rising free ∙ s.kept.processes w ne;
@@ -153,7 +147,7 @@ process_added_same {u} {start} {c} {v} s p mine good block free = subst (λ w. S
     at w rows = record rows { processes = placed p rows.processes; pid_cursors = set rows.pid_cursors (slot w) (cursor_after (pid_block w) p.pid) }
 
     housed : (l : LwpData) → LiveOwner c.processes l → LiveOwner (placed p c.processes) l
-    housed l house = subst LiveRow (sym (process_of-other p c.processes s.kept.closed.rising free l.pid (λ e. subst LiveRow (find_free (λ q. q.pid == l.pid) c.processes (ap (is_process c) e ∙ free)) house))) house
+    housed l house = subst LiveRow (sym (process_of-other p c.processes s.kept.closed.rising free l.pid (λ e. subst LiveRow (find_none (λ q. q.pid == l.pid) c.processes (none_of (λ q. q.pid == l.pid) c.processes (ap (is_process c) e ∙ free))) house))) house
 
 -- a new LWP of u
 pub lwp_added_same : {u : ℕ} {start c v : Rows} → Sim u start c v → (l : LwpData) → pid_owner l.pid ≡ u → GoodLwp l → LiveOwner c.processes l → InBlock (tid_block u) l.tid → Sim u start (add_lwp u l c) (add_lwp u l v)
@@ -168,7 +162,7 @@ lwp_added_same {u} {start} {c} {v} s l mine well house block = record {
       pid_slots = s.kept.closed.pid_slots;
       tid_slots = length-set c.tid_cursors (slot u) _ ∙ s.kept.closed.tid_slots;
       pid_cursor = s.kept.closed.pid_cursor;
-      tid_cursor = subst (InBlock (tid_block u)) (sym (put_at u c.tid_cursors _ 0 user s.kept.closed.tid_slots)) (cursor_in (tid_block u) l.tid block);
+      tid_cursor = subst (InBlock (tid_block u)) (sym (put_at u c.tid_cursors _ 0 user s.kept.closed.tid_slots)) (InBlock-after (tid_block u) l.tid block (omega arith));
     };
     processes = s.kept.processes;
     lwps = λ w ne. filter-append (own_lwp w) c.lwps (l ∷ []) ∙ (rw (not_own w (pid_owner l.pid) (λ e. ne (sym e ∙ mine)), append-nil) (s.kept.lwps w ne));

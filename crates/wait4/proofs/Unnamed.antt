@@ -5,11 +5,11 @@ use Rattle.trace_stop.proofs.Words.{Stands}
 use Rattle.std.proofs.lemmas.Bool.{and_right as false_right}
 use Rattle.trace_stop.proofs.Every.{by_bool, All-imply, All-both, find_some, find_none}
 use Rattle.trace_stop.proofs.Edited.{some_is}
-use Rattle.trace_stop.proofs.Named.{live_row}
+use Rattle.trace_stop.proofs.Found.{live_named}
 
 module _ (rows : Rows) (p : ProcData) (s : Stands rows) (at : process_of p.pid rows.processes ≡ Some p) (ended : is_live p ≡ false) where
   not_live : (u : ℕ) → IsLiveOf rows u p.pid → ⊥
-  not_live u is = let r = live_row rows s.rising u p.pid is in true≢false (sym r.live ∙ ap is_live (some_is r.row p (sym r.found ∙ at)) ∙ ended)
+  not_live u is = let r = live_named rows s.rising u p.pid is in true≢false (sym r.live ∙ ap is_live (some_is r.row p (sym r.found ∙ at)) ∙ ended)
 
   traced : (u : ℕ) (o : Option ℕ) → IfSome o (IsLiveOf rows u) → is_this p.pid o ≡ false
   traced u None live = refl
