@@ -1,8 +1,8 @@
 -- The end of a process that has no LWP, that no row names and for which nobody waits: its own row, and the one who collects it.
 use Rattle.std.proofs.Common.{◌≡◌, ℕ, List, [], ◌∷◌, Bool, true, false, not, ◌&&◌, ◌||◌, ◌==◌, if◌then◌else◌, Option, Some, None, is_none, refl, sym, ap, ◌∙◌, eqb-true, rules, option_map}
 use Rattle.std.proofs.Math.Bool.{or-false}
-use Rattle.trace_stop.proofs.Words.{AllByRecursion, list_any, SIGKILL, LwpData, ProcData, process_of, is_live, is_this, traces, Rows, Rise, set_process, drop_process, notified, unless}
-use Rattle.trace_stop.proofs.Words.{holds_of, orphaned, dead, uncollected, collector, waits_where, released}
+use Rattle.trace_stop.proofs.Words.{AllByRecursion, list_any, SIGKILL, LwpData, ProcData, process_of, is_live, is_this, traces, Rows, Rise, set_process, drop_process, notified, unless, holds_of}
+use Rattle.trace_stop.proofs.Words.{orphaned, dead, uncollected, collector, waits_where, released}
 use Rattle.std.proofs.Math.Path.{fun_ext}
 use Rattle.process_end.specs.Laws.{end_alone}
 use Rattle.process_end.specs.Leaving.{LeavingRow, LeavingLwp, IsLeaving}

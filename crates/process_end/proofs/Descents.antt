@@ -1,6 +1,5 @@
 -- The way down the tracees of a process that ends, and one turn of its end.
-use Rattle.trace_stop.proofs.Words.{nat_tests, AllByRecursion, SIGKILL, ProcData, process_of, is_live, traces, Rows, next_tracee, AtHome, IsKept, LeastOrNone, IsLeast, Stands, IsSound}
-use Rattle.trace_stop.proofs.Words.{is_live_at}
+use Rattle.trace_stop.proofs.Words.{nat_tests, AllByRecursion, SIGKILL, ProcData, process_of, is_live, traces, Rows, next_tracee, AtHome, IsKept, LeastOrNone, IsLeast, Stands, IsSound, is_live_at}
 use Rattle.std.proofs.Common.{◌≡◌, ℕ, ◌-◌, ◌<◌, ◌≤◌, List, true, false, ◌&&◌, ◌||◌, ◌==◌, not, Option, Some, None, length, refl, sym, ap, ◌∙◌, arith, true≢false, eq-eqb, subst, inl, inr, unwrap_or, rules, count_by, ltb, MatchOption}
 use Rattle.std.proofs.Math.Bool.{and-false}
 use Rattle.proc_table.proofs.Least.{next_tracee-least}

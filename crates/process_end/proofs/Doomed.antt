@@ -1,8 +1,8 @@
 -- Who ends with a process.
 use Rattle.std.proofs.Math.Bool.{and-false, and-true, or-false}
-use Rattle.trace_stop.proofs.Words.{nat_tests, AllByRecursion, list_any, SIGTRAP, bit, ProcData, process_of, is_live, is_this, traces, reporting, Rows, each, Rise, notified, detached}
-use Rattle.trace_stop.proofs.Words.{untraced, is_live_of, IsLiveOf, Linked, Stands}
-use Rattle.std.proofs.Common.{◌≡◌, ℕ, zero, suc, List, [], ◌∷◌, filter_map, Bool, true, false, ◌&&◌, ◌||◌, ◌==◌, if◌then◌else◌, Option, Some, None, IfSome, is_some, refl, sym, ap, ◌∙◌, arith, rules}
+use Rattle.trace_stop.proofs.Words.{nat_tests, AllByRecursion, list_any, SIGTRAP, bit, ProcData, process_of, is_live, is_this, traces, reporting, Rows, each, Rise, notified, detached, untraced}
+use Rattle.trace_stop.proofs.Words.{is_live_of, IsLiveOf, Linked, Stands}
+use Rattle.std.proofs.Common.{◌≡◌, ℕ, zero, suc, List, [], ◌∷◌, filter_map, Bool, true, false, ◌&&◌, ◌||◌, ◌==◌, if◌then◌else◌, Some, IfSome, is_some, refl, sym, ap, ◌∙◌, arith, rules}
 use Rattle.std.proofs.Math.Path.{fun_ext}
 use Rattle.trace_stop.specs.declared.Settings.{Settings}
 use Rattle.trace_stop.specs.End.{meets, is_doomed, dooms, process_after, lwp_after, notifies_of, left_alone, end_each, end_of}

@@ -1,6 +1,5 @@
 -- The rows, when a process that is doomed and traces no live one ends before the process that dooms it.
-use Rattle.trace_stop.proofs.Words.{nat_tests, AllByRecursion, list_any, SIGKILL, ProcData, LwpData, process_of, is_live, Rows, each, Rise, holds_of, process_after, lwp_after, notifies_of}
-use Rattle.trace_stop.proofs.Words.{end_each}
+use Rattle.trace_stop.proofs.Words.{nat_tests, AllByRecursion, list_any, SIGKILL, ProcData, LwpData, process_of, is_live, Rows, each, Rise, holds_of, process_after, lwp_after, notifies_of, end_each}
 use Rattle.std.proofs.Common.{◌≡◌, ℕ, List, filter_map, Bool, true, false, ◌||◌, ◌==◌, Some, sym, ap, ◌∙◌, subst, arith, rules}
 use Rattle.trace_stop.proofs.Every.{All-imply, All-both, any_holds}
 use Rattle.trace_stop.proofs.Passes.{passes, any_same, any_or, any_edited, KeepsNumbers, KeepsOwners, own_rows, rise_edited, each_twice, each_agree}

@@ -1,8 +1,7 @@
 -- Who lives on after the end of a process that traces no live one, and that they are fewer.
-use Rattle.trace_stop.proofs.Words.{nat_tests, option_and_then, AllByRecursion, list_any, ProcData, process_of, is_live, Rows, Stands, is_live_at, each}
+use Rattle.trace_stop.proofs.Words.{nat_tests, option_and_then, AllByRecursion, list_any, ProcData, process_of, is_live, Rows, each, Stands, is_live_at, end, process_after}
 use Rattle.std.proofs.Common.{◌≡◌, ℕ, ◌+◌, ◌<◌, ◌≤◌, List, [], ◌∷◌, filter_map, Bool, true, false, not, ◌&&◌, ◌==◌, Option, Some, None, refl, sym, ap, ◌∙◌, arith, true≢false, eqb-true, subst, count_by, rules}
 use Rattle.trace_stop.specs.declared.Settings.{Settings}
-use Rattle.trace_stop.specs.End.{end, process_after}
 use Rattle.process_end.specs.Laws.{traces_live, LeafLives, LeafFewer}
 use Rattle.proc_table.proofs.Rows.{process_of-pid}
 use Rattle.trace_stop.proofs.Every.{any_more, All-any, All-imply, count-cons}

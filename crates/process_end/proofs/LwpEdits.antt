@@ -1,5 +1,5 @@
 -- A walk that takes out the LWPs of a process, and what the end of a vfork wait keeps of an LWP.
-use Rattle.trace_stop.proofs.Words.{AllByRecursion, LwpData, Differ, lwp_of, first_lwp, ProcData, Rows, drop_lwp, released}
+use Rattle.trace_stop.proofs.Words.{AllByRecursion, LwpData, Differ, lwp_of, first_lwp, ProcData, Rows, drop_lwp, released, not-false}
 use Rattle.std.proofs.Common.{◌≡◌, ℕ, ◌<◌, Bool, true, false, List, [], ◌∷◌, length, filter, refl, ap, ◌∙◌, arith, Some, None, subst, eq-eqb, eqb-true, not, ◌==◌, IfSome}
 use Rattle.lwp_table.proofs.CountLemmas.{length-without}
 use Rattle.proc_table.proofs.Every.{every_untested}
@@ -7,7 +7,6 @@ use Rattle.proc_table.proofs.LwpWalk.{IsLwp, first-found}
 use Rattle.trace_stop.proofs.Numbers.{the_lwp}
 use Rattle.process_end.specs.Leaving.{without_lwps}
 use Rattle.trace_stop.proofs.Every.{All-imply}
-use Rattle.std.proofs.lemmas.Bool.{not-false}
 
 -- Lists
 

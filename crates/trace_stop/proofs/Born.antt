@@ -1,5 +1,5 @@
 -- A sound host with one more process and its first LWP, or with one more LWP, is sound.
-use Rattle.std.proofs.Common.{◌≡◌, ◌≢◌, ℕ, ◌+◌, ◌<◌, ◌≤◌, List, [], ◌∷◌, ◌++◌, Bool, true, false, cond, ◌==◌, ◌&&◌, Some, None, IfSome, refl, sym, ap, ◌∙◌, arith, eqb, true≢false, eqb-true, subst, eq-eqb, length-set, rules, count_by}
+use Rattle.std.proofs.Common.{◌≡◌, ◌≢◌, ℕ, ◌+◌, ◌<◌, ◌≤◌, List, [], ◌∷◌, ◌++◌, Bool, true, false, cond, ◌==◌, ◌&&◌, Some, None, IfSome, refl, sym, ap, ◌∙◌, arith, true≢false, eqb-true, subst, eq-eqb, length-set, rules, count_by}
 use Rattle.trace_stop.proofs.Words.{AllByRecursion, list_any, IsUser, slot, pid_block, tid_block, InBlock, cursor_after, shows, PL_FLAG_EXITED, LwpData, Differ, ProcData, is_live, reporting}
 use Rattle.trace_stop.proofs.Words.{process_of, placed, Rows, owns, is_process, is_lwp, add_process, add_lwp, process_count, lwp_count_of, AtHome, Housed, tracer_in, tracer_of, names_own, IsLiveOf}
 use Rattle.trace_stop.proofs.Words.{IsLiveChild, Linked, FitProcess, waited_for, Standing, FitLwp, WithOwner, IsSound}

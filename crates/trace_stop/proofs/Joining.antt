@@ -1,7 +1,7 @@
 -- A process with one more LWP keeps rows sound.
 use Rattle.trace_stop.proofs.Words.{nat_tests, list_any, IsUser, slot, tid_block, InBlock, cursor_after, shows, PL_FLAG_EXITED, LwpData, ProcData, is_live, process_of, Rows, owns, is_lwp, add_lwp}
 use Rattle.trace_stop.proofs.Words.{lwp_count_of, AtHome, Housed, Linked, waited_for, Standing, FitLwp, WithOwner, IsSound}
-use Rattle.std.proofs.Common.{◌≡◌, ℕ, ◌+◌, ◌<◌, ◌≤◌, [], ◌∷◌, Bool, true, false, cond, ◌==◌, ◌&&◌, Some, None, refl, sym, ap, ◌∙◌, true≢false, subst, arith, eqb-true, length-set, rules}
+use Rattle.std.proofs.Common.{◌≡◌, ℕ, ◌<◌, ◌≤◌, [], ◌∷◌, true, false, ◌==◌, ◌&&◌, Some, None, sym, ap, ◌∙◌, true≢false, subst, arith, length-set, rules}
 use Rattle.trace_stop.proofs.Every.{by_bool, All-imply, All-append, find_some}
 use Rattle.trace_stop.proofs.Edited.{some_is}
 use Rattle.proc_table.proofs.Cursors.{InBlock-after, cursors-set}

@@ -1,8 +1,8 @@
 -- A new process at its place among the others.
-use Rattle.trace_stop.proofs.Words.{nat_tests, AllByRecursion, list_any, cases_Bool, ProcData, process_of, placed, Rise, AllAbove}
-use Rattle.std.proofs.Common.{◌≡◌, ◌≢◌, ℕ, zero, suc, ◌+◌, ◌<◌, List, [], ◌∷◌, ◌++◌, filter, find, Bool, true, false, cond, ◌==◌, ◌||◌, ltb, Option, Some, None, IfSome, refl, sym, ap, ◌∙◌, arith, eqb-true, eq-eqb, lt-ltb, inl, inr, rules, count_by}
+use Rattle.trace_stop.proofs.Words.{nat_tests, list_any, cases_Bool, ProcData, process_of, placed, Rise, AllAbove}
+use Rattle.std.proofs.Common.{◌≡◌, ◌≢◌, ℕ, zero, suc, ◌+◌, ◌<◌, List, [], ◌∷◌, ◌++◌, filter, Bool, false, cond, ◌==◌, ◌||◌, ltb, Option, Some, None, IfSome, refl, ap, ◌∙◌, arith, eqb-true, lt-ltb, inl, inr, count_by}
 use Rattle.trace_stop.specs.End.{tracer_of, meets}
-use Rattle.trace_stop.proofs.Every.{by_bool, All-append, All-filter, count-cons, count-append}
+use Rattle.trace_stop.proofs.Every.{by_bool, count-cons, count-append}
 use Rattle.proc_table.proofs.Rising.{AllAbove-lower, Lacks-from_any}
 use Rattle.proc_table.proofs.Placed.{placed-found, process_of-placed as other_placed}
 pub use Rattle.proc_table.proofs.Rising.{Rise-filter}

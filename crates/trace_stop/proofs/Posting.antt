@@ -1,6 +1,6 @@
 -- Settling and posting keep rows sound.
-use Rattle.trace_stop.proofs.Words.{nat_tests, LwpData, ProcData, State, Run, Trace, Job, Zombie, is_live, is_zombie_state, reporting, Rows, change, unwanted, continues}
-use Rattle.trace_stop.proofs.Words.{posted_set, posted_process, posted_lwp, IfEnded, FitProcess, FitLwp}
+use Rattle.trace_stop.proofs.Words.{nat_tests, LwpData, ProcData, State, Run, Trace, Job, Zombie, is_live, is_zombie_state, reporting, Rows, change, unwanted, continues, posted_set, posted_process}
+use Rattle.trace_stop.proofs.Words.{posted_lwp, IfEnded, FitProcess, FitLwp}
 use Rattle.std.proofs.Common.{◌≡◌, ◌⊎◌, inl, ℕ, Bool, true, false, if◌then◌else◌, Option, None, is_none, refl, sym, ◌∙◌, true≢false, bit_and, arith, rules}
 use Rattle.trace_stop.proofs.Every.{and_right}
 use Rattle.trace_stop.proofs.Bits.{without_apart}

@@ -1,7 +1,7 @@
 -- A trace stop keeps rows sound.
-use Rattle.trace_stop.proofs.Words.{nat_tests, AllByRecursion, IsSomeAnd, shows, PL_FLAG_EXITED, LwpData, lwp_of, ProcData, State, Run, Trace, Job, Zombie, is_run, is_run_state}
-use Rattle.trace_stop.proofs.Words.{is_zombie_state, named_by, process_of, Rows, each, lwp_count, tracer_in, tracer_of, tracers, stop, notified, names_own, IsLiveOf, IsLiveChild, FitProcess}
-use Rattle.trace_stop.proofs.Words.{waited_for, FitLwp, IsSound, MayTell, Ready, FitOrReady, MayStop}
+use Rattle.trace_stop.proofs.Words.{nat_tests, AllByRecursion, IsSomeAnd, shows, PL_FLAG_EXITED, LwpData, lwp_of, ProcData, State, Run, Trace, Job, Zombie, is_run, is_run_state, is_zombie_state}
+use Rattle.trace_stop.proofs.Words.{named_by, process_of, Rows, each, lwp_count, tracer_in, tracer_of, tracers, stop, notified, names_own, IsLiveOf, IsLiveChild, FitProcess, waited_for, FitLwp}
+use Rattle.trace_stop.proofs.Words.{IsSound, MayTell, Ready, FitOrReady, MayStop}
 use Rattle.std.proofs.Common.{◌≡◌, inl, ℕ, ◌≤◌, Bool, true, false, ◌==◌, if◌then◌else◌, Option, Some, None, IfSome, is_some, refl, sym, ap, ◌∙◌, true≢false, subst, arith, eqb-true, eq-eqb, bit_and, rules}
 use Rattle.trace_stop.specs.declared.Shown.{Shown}
 use Rattle.trace_stop.proofs.Every.{not_same, both, All-imply, All-both, find_some, choose}

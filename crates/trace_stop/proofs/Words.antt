@@ -1,5 +1,5 @@
 -- The words of rows, and of what is sound, from one place.
-pub use Rattle.std.proofs.lemmas.Bool.{cases_Bool, cases_lt, le-leb, leb-false, leb-true}
+pub use Rattle.std.proofs.lemmas.Bool.{cases_Bool, cases_lt, le-leb, leb-false, leb-true, not-false}
 pub use Rattle.std.proofs.lemmas.Bool.Decides.{nat_tests}
 pub use Rattle.std.specs.List.{AllByRecursion, cons_option, list_all, list_any}
 pub use Rattle.std.specs.Option.{IsSomeAnd, option_and_then}

@@ -1,6 +1,6 @@
 -- The other primitives: one process, one LWP, new rows; and branches of rows.
-use Rattle.std.proofs.Common.{◌≡◌, ◌≢◌, ℕ, ◌<◌, List, [], ◌∷◌, ◌++◌, length, find, filter_map, Bool, true, false, ◌==◌, if◌then◌else◌, Option, Some, None, refl, sym, ap, ◌∙◌, arith, eqb, eqb-true, subst, append-nil, get_or, set, get_or-set_same, get_or-set_other, length-set, inl, rules}
-use Rattle.trace_stop.proofs.Words.{AllByRecursion, list_any, nat_tests, IsUser, ProcData, LwpData, is_live, placed, Rows, owner, by_owner, each, change, edit_processes, edit_lwps, change_process}
+use Rattle.std.proofs.Common.{◌≡◌, ◌≢◌, ℕ, ◌<◌, List, [], ◌∷◌, ◌++◌, length, filter_map, Bool, true, false, ◌==◌, if◌then◌else◌, Option, Some, None, refl, sym, ap, ◌∙◌, arith, eqb, eqb-true, subst, append-nil, get_or, set, get_or-set_same, get_or-set_other, length-set, inl, rules}
+use Rattle.trace_stop.proofs.Words.{AllByRecursion, IsUser, ProcData, LwpData, is_live, placed, Rows, owner, by_owner, each, change, edit_processes, edit_lwps, change_process}
 use Rattle.trace_stop.proofs.Words.{change_lwp, remove_lwp, is_process, add_process, add_lwp}
 use Rattle.std.proofs.lemmas.List.Elements.{filter-append}
 use Rattle.pid_blocks.specs.Blocks.{pid_owner, tid_owner, pid_block, tid_block, slot, cursor_after, InBlock}

@@ -1,5 +1,5 @@
 -- The child that is reported, and whether there is a child, by the lists of tracees and of children, and by number.
-use Rattle.std.proofs.Common.{◌≡◌, ℕ, ℤ, pos, negsuc, List, [], ◌∷◌, find, Bool, true, false, ◌==◌, ◌&&◌, ◌||◌, ltb, Some, is_some, refl, sym, ap, ◌∙◌, subst, nat_eq, rules, arith}
+use Rattle.std.proofs.Common.{◌≡◌, ℕ, ℤ, pos, negsuc, List, [], ◌∷◌, find, Bool, true, ◌==◌, ◌&&◌, ◌||◌, ltb, Some, is_some, refl, sym, ap, ◌∙◌, subst, nat_eq, rules, arith}
 use Rattle.trace_stop.proofs.Words.{AllByRecursion, list_any, cases_Bool, nat_tests, ProcData, keep, process_of, traces, Rows, Rise, AtHome, LeastOrNone}
 use Rattle.std.proofs.Math.Path.{fun_ext}
 use Rattle.proc_table.proofs.Seen.{any-found}

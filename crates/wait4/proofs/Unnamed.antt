@@ -1,7 +1,6 @@
 -- No row names a zombie, and it has no LWP.
 use Rattle.std.proofs.Common.{◌≡◌, ◌≢◌, ℕ, false, ◌==◌, ◌&&◌, ltb, Option, Some, None, IfSome, refl, sym, ap, ◌∙◌, true≢false, eqb-true, subst, arith}
-use Rattle.trace_stop.proofs.Words.{first_lwp, ProcData, is_live, is_this, traces, process_of, Rows, next_tracee, next_child, AtHome, Housed, IsLiveOf, Linked, Standing, WithOwner}
-use Rattle.trace_stop.proofs.Words.{Stands}
+use Rattle.trace_stop.proofs.Words.{first_lwp, ProcData, is_live, is_this, traces, process_of, Rows, next_tracee, next_child, AtHome, Housed, IsLiveOf, Linked, Standing, WithOwner, Stands}
 use Rattle.std.proofs.lemmas.Bool.{and_right as false_right}
 use Rattle.trace_stop.proofs.Every.{by_bool, All-imply, All-both, find_some, find_none}
 use Rattle.trace_stop.proofs.Edited.{some_is}

@@ -1,5 +1,5 @@
 use Rattle.std.proofs.Common.{◌≡◌, Some, None, [], ◌∷◌, sym, ap, ◌∙◌, refl, rules, subst, ℕ, false}
-use Rattle.trace_stop.proofs.Words.{lwp_of, process_of, set_process, set_lwp, notified, IsSound, tracers, stop, LwpData, ProcData, Trace, Rows, change_process, change_lwp, IsKept, tracer_in}
+use Rattle.trace_stop.proofs.Words.{lwp_of, process_of, set_process, set_lwp, IsKept, notified, IsSound, tracers, stop, LwpData, ProcData, Trace, Rows, change_process, change_lwp, tracer_in}
 use Rattle.proc_table.proofs.Rows.{lwp_of-tid, process_of-pid}
 use Rattle.proc_table.proofs.Stays.{process_there, named-same, lwp_there}
 use Rattle.trace_stop.proofs.Found.{row_there, own_row}

@@ -1,7 +1,6 @@
 use Rattle.std.proofs.Common.{ap, is_some, subst, ◌≡◌, ℕ, true, rules}
-use Rattle.trace_stop.specs.Facts.{IfEnded, Ended}
+use Rattle.trace_stop.proofs.Words.{IfEnded, Ended, cases_Bool, nat_tests, is_end}
 use Rattle.wait4.specs.Status.{ended, IsStatus, word}
-use Rattle.trace_stop.proofs.Words.{cases_Bool, nat_tests, is_end}
 use Rattle.wait4.proofs.collecting.status_of.Goals as goal
 
 -- the word of a process's end is that of a status
