@@ -13,6 +13,7 @@ use Rattle.process_end.proofs.Tells.{tells, told_by, parent_after}
 use Rattle.process_end.proofs.LeafFirst.{told, told-is, notified_lwp-pid}
 use Rattle.trace_stop.proofs.Found.{any_by_number}
 use Rattle.process_end.proofs.Leaving.{Fit, leaving_each, Ends, stepped, told_after, told_alive, Told-of, put_tell, put_tell_lwp, put_keeps}
+use Rattle.std.proofs.lemmas.Bool.{or_parts}
 
 -- What one who is told keeps
 
@@ -28,9 +29,6 @@ module _ (t : ℕ → Bool) (r : ProcData) where
 pub told_lwp_fits : (t : ℕ → Bool) (alive : ℕ → Bool) (q : ℕ) (r : ProcData) (l : LwpData) → LeavingLwp alive q l → LeavingLwp alive q (notified_lwp t r l)
 unfolding notified_lwp heard_lwp
 told_lwp_fits t alive q r l h = choose (t r.pid) (heard_lwp r l) l (LeavingLwp alive q) (λ e. record { lives = h.lives; other = h.other; waits = h.waits }) (λ e. h)
-
-first_false : (a b c : Bool) → a ≡ (b || c) → a ≡ false → b ≡ false
-first_false a b c is none = grind (arith, nat_tests)
 
 pub same_test : (a b : ℕ) → (a == b) ≡ (b == a)
 same_test a b = grind (arith, nat_tests)
@@ -145,7 +143,7 @@ module _ (q n : ℕ) (rows : Rows) (v : IsLeaving q rows) (rise : Rise rows.proc
     ends r h one = by_number (r.pid == n) refl
       where
         not_after : (k : ℕ) → before k ≡ false → after k ≡ false
-        not_after k none = first_false (before k) (after k) (alone m k) (both_tell k) none
+        not_after k none = (or_parts (after k) (alone m k) (sym (both_tell k) ∙ none)).0
 
         made : Bool → ProcData
         made b = notified_row (alone m) (if b then untrace r else r)

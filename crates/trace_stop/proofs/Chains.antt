@@ -3,7 +3,7 @@ use Rattle.trace_stop.proofs.Words.{cases_lt, nat_tests, AllByRecursion, list_an
 use Rattle.std.proofs.Common.{◌≡◌, ℕ, zero, suc, ◌+◌, ◌-◌, ◌≤◌, List, [], ◌∷◌, length, filter, Bool, true, false, not, ◌&&◌, ◌||◌, ◌==◌, Option, Some, None, IfSome, refl, sym, ap, ◌∙◌, arith, true≢false, eqb-true, eq-eqb, subst, rules, count_by}
 use Rattle.trace_stop.specs.End.{tracer_in, tracer_of, holds_of, meets}
 use Rattle.trace_stop.specs.Laws.{onward, chain, ChainsEnd, ChainsMeet, TraceeDeeper}
-use Rattle.trace_stop.proofs.Every.{and_left, and_right, both, by_bool, find_passes, All-imply, All-both, any_holds, any_more, find_some, count-cons}
+use Rattle.trace_stop.proofs.Every.{none_of, and_left, and_right, both, by_bool, find_passes, All-imply, All-both, any_holds, any_more, find_some, count-cons}
 use Rattle.trace_stop.proofs.Passes.{own_rows}
 use Rattle.proc_table.proofs.Rows.{process_of-pid}
 use Rattle.trace_stop.proofs.Edited.{If_more}
@@ -66,15 +66,11 @@ still_in : (u x y : ℕ) → (y == x) ≡ false → (ps : List ProcData) → lis
 still_in u x y other [] is = is
 still_in u x y other (p ∷ ps) is = grind (arith, nat_tests, other, is, still_in u x y other ps)
 
-others : (x : ℕ) (xs : List ℕ) → is_in xs x ≡ false → AllByRecursion (λ y. (y == x) ≡ false) xs
-others x [] is = tt
-others x (y ∷ ys) is = (grind (arith, is), others x ys (grind (arith, is)))
-
 no_more : (u : ℕ) (xs : List ℕ) (ps : List ProcData) → AllDiffer xs → AllByRecursion (λ x. list_any (is_row_of u x) ps ≡ true) xs → length xs ≤ count_by (of_user u) ps
 no_more u [] ps differ rows = omega arith
 no_more u (x ∷ xs) ps differ rows =
     let rest = no_more u xs (without_row x ps) differ.1
-    (All-imply (λ y. ((y == x) ≡ false) × (list_any (is_row_of u y) ps ≡ true)) _ (λ y h. still_in u x y h.0 ps h.1) xs (All-both _ _ xs (others x xs differ.0) rows.1)) in
+    (All-imply (λ y. ((y == x) ≡ false) × (list_any (is_row_of u y) ps ≡ true)) _ (λ y h. still_in u x y h.0 ps h.1) xs (All-both _ _ xs (none_of (λ y. y == x) xs differ.0) rows.1)) in
     let less = count-less u x ps rows.0 in
     omega (arith, rest, less)
 

@@ -8,11 +8,9 @@ use Rattle.trace_stop.proofs.Edited.{If_more}
 use Rattle.trace_stop.proofs.Changed.{Holds, Row, Same, Stay, NoNewRing, KeptRow, nobody, holds_sound, row_is, like_self, peopled_on, kept_all, kept_lwp, none_gone, stay, edit_holds, processes_alone}
 use Rattle.trace_stop.proofs.Changes.{changed_own}
 use Rattle.trace_stop.proofs.Chains.{or_more, meets-more, meets-up, chains_meet}
+use Rattle.std.proofs.lemmas.Bool.{or_parts}
 
 -- Chains
-
-or_none : (a b : Bool) → (a || b) ≡ false → b ≡ false
-or_none a b is = grind (arith, is)
 
 -- from a process to p, and from p on
 pub meets_joined : (ps : List ProcData) (j k x p n : ℕ) → meets k ps p n ≡ true → ((p == x) || meets j ps x p) ≡ true → meets (k + j) ps x n ≡ true
@@ -43,7 +41,7 @@ module _ (ps qs : List ProcData) (p n : ℕ) (here : tracer_of qs p ≡ Some n) 
       by_tracer None e rest = rw (same m other ∙ e, e) refl
       by_tracer (Some t) e rest = rw (same m other ∙ e, e) (ap (λ b. (t == x) || b) (rest t
           (λ it. true≢false (sym (or_left (t == p) (meets zero ps p t) (eq-eqb t p it)) ∙ next_never m t e never zero))
-          (λ j. or_none (t == p) (meets j ps p t) (next_never m t e never j))))
+          (λ j. (or_parts (t == p) (meets j ps p t) (next_never m t e never j)).1)))
 
   module _ (other : n ≢ p) (never : (j : ℕ) → meets j ps p n ≡ false) where
     -- what is met now was met before, or lies beyond the new link
