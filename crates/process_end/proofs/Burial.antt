@@ -1,21 +1,13 @@
 -- The end of a process that has no LWP, that no row names and for which nobody waits: its own row, and the one who collects it.
-use Rattle.std.proofs.Common.{◌≡◌, ℕ, List, [], ◌∷◌, filter_map, Bool, true, false, not, ◌&&◌, ◌||◌, ◌==◌, if◌then◌else◌, Option, Some, None, is_none, refl, sym, ap, ◌∙◌, eqb-true, rules}
+use Rattle.std.proofs.Common.{◌≡◌, ℕ, List, [], ◌∷◌, Bool, true, false, not, ◌&&◌, ◌||◌, ◌==◌, if◌then◌else◌, Option, Some, None, is_none, refl, sym, ap, ◌∙◌, eqb-true, rules, option_map}
 use Rattle.std.proofs.Math.Bool.{or-false}
-use Rattle.std.specs.Prelude.{option_map}
-use Rattle.std.specs.List.{AllByRecursion, list_any}
+use Rattle.trace_stop.proofs.Words.{AllByRecursion, list_any, SIGKILL, LwpData, ProcData, process_of, is_live, is_this, traces, Rows, Rise, set_process, drop_process, notified, unless, holds_of}
+use Rattle.trace_stop.proofs.Words.{orphaned, dead, uncollected, collector, waits_where, released}
 use Rattle.std.proofs.Math.Path.{fun_ext}
-use Rattle.signals.specs.Table.{SIGKILL}
-use Rattle.lwp_table.specs.declared.LwpData.{LwpData}
-use Rattle.proc_table.specs.declared.ProcData.{ProcData}
-use Rattle.proc_table.specs.Processes.{process_of, is_live, is_this, traces}
-use Rattle.proc_table.specs.Rows.{Rows, each, by_owner}
-use Rattle.proc_table.specs.Kept.{Rise, set_process, drop_process}
-use Rattle.trace_stop.specs.Post.{notified}
-use Rattle.trace_stop.specs.End.{unless, holds_of, orphaned, dead, uncollected, collector, waits_where, released}
 use Rattle.process_end.specs.Laws.{end_alone}
 use Rattle.process_end.specs.Leaving.{LeavingRow, LeavingLwp, IsLeaving}
 use Rattle.trace_stop.proofs.Every.{All-imply, All-both, find_some, none_of}
-use Rattle.trace_stop.proofs.Passes.{passes, any_same, filter_map_same}
+use Rattle.trace_stop.proofs.Passes.{passes, any_same, each_equal}
 use Rattle.trace_stop.proofs.Numbers.{the_row}
 use Rattle.process_end.proofs.Turned.{notified_row, notified_lwp, notified_lwp-miss, turned, turned_lwp, moved, is_gone, gone-true, gone-false, told-miss, turned-dead, turned-safe, turned-fallen, turned_lwp-safe}
 use Rattle.process_end.proofs.Twice.{alone, Told, notified_lwp-moved}
@@ -27,18 +19,6 @@ use Rattle.process_end.proofs.Leaving.{is_alone, end_alone_turned, live_q, told_
 use Rattle.process_end.proofs.LeafSteps.{untold_gone}
 use Rattle.process_end.proofs.LeafTells.{same_test}
 use Rattle.process_end.proofs.Orphans.{collector_none, collector_some}
-
--- edits that agree on the rows there are
-pub each_equal : (f g : ProcData → Option ProcData) (lwp lwp' : ProcData → LwpData → Option LwpData) (rows : Rows) → AllByRecursion (λ p. f p ≡ g p) rows.processes
-    → AllByRecursion (λ l. (p : ProcData) → process_of l.pid rows.processes ≡ Some p → lwp p l ≡ lwp' p l) rows.lwps → each f lwp rows ≡ each g lwp' rows
-each_equal f g lwp lwp' rows all every =
-    ap (λ (ps : List ProcData). record rows { processes = ps; lwps = filter_map (λ l. by_owner lwp l (process_of l.pid rows.processes)) rows.lwps }) (filter_map_same f g rows.processes all)
-    ∙ ap (λ (ls : List LwpData). record rows { processes = filter_map g rows.processes; lwps = ls })
-    (filter_map_same _ _ rows.lwps (All-imply (λ l. (p : ProcData) → process_of l.pid rows.processes ≡ Some p → lwp p l ≡ lwp' p l) _ (λ l h. at_owner l (process_of l.pid rows.processes) h) rows.lwps every))
-  where
-    at_owner : (l : LwpData) (o : Option ProcData) → ((p : ProcData) → o ≡ Some p → lwp p l ≡ lwp' p l) → by_owner lwp l o ≡ by_owner lwp' l o
-    at_owner l None h = refl
-    at_owner l (Some p) h = h p refl
 
 -- An LWP that doesn't wait
 pub released_none : (over : ℕ → Bool) (r : ProcData) (l : LwpData) → waits_where over l.mode ≡ false → released over r l ≡ l

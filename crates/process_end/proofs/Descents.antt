@@ -1,36 +1,23 @@
 -- The way down the tracees of a process that ends, and one turn of its end.
-use Rattle.std.proofs.lemmas.Bool.Decides.{nat_tests}
-use Rattle.std.proofs.Common.{◌≡◌, ℕ, ◌-◌, ◌<◌, ◌≤◌, List, true, false, ◌&&◌, ◌||◌, ◌==◌, not, Option, Some, None, length, refl, sym, ap, ◌∙◌, arith, true≢false, eqb-true, eq-eqb, subst, inl, inr, unwrap_or, rules}
+use Rattle.trace_stop.proofs.Words.{nat_tests, AllByRecursion, SIGKILL, ProcData, process_of, is_live, traces, Rows, next_tracee, AtHome, IsKept, LeastOrNone, IsLeast, Stands, IsSound, is_live_at}
+use Rattle.std.proofs.Common.{◌≡◌, ℕ, ◌-◌, ◌<◌, ◌≤◌, List, true, false, ◌&&◌, ◌||◌, ◌==◌, not, Option, Some, None, length, refl, sym, ap, ◌∙◌, arith, true≢false, eq-eqb, subst, inl, inr, unwrap_or, rules, count_by, ltb, MatchOption}
 use Rattle.std.proofs.Math.Bool.{and-false}
-use Rattle.std.specs.Prelude.{count_by, ltb, MatchOption}
-use Rattle.std.specs.List.{AllByRecursion}
-use Rattle.signals.specs.Table.{SIGKILL}
-use Rattle.proc_table.specs.declared.ProcData.{ProcData}
-use Rattle.proc_table.specs.Processes.{process_of, is_live, is_this, traces}
-use Rattle.proc_table.specs.Rows.{Rows}
-use Rattle.proc_table.specs.Walks.{next_tracee}
-use Rattle.proc_table.specs.Kept.{AtHome, IsKept}
-use Rattle.proc_table.specs.Laws.{LeastOrNone, IsLeast}
 use Rattle.proc_table.proofs.Least.{next_tracee-least}
 use Rattle.proc_table.proofs.Finds.{below_or_not}
 use Rattle.proc_table.proofs.Rows.{process_of-pid}
 use Rattle.trace_stop.specs.End.{tracer_in, tracer_of, holds_of, meets, dooms, end}
-use Rattle.trace_stop.specs.Facts.{Stands, IsSound}
 use Rattle.trace_stop.specs.Laws.{chain}
-use Rattle.process_end.specs.Laws.{traces_live, end_alone}
-use Rattle.trace_stop.specs.Sound.{is_live_at}
+use Rattle.process_end.specs.Laws.{traces_live, end_alone, EndSound}
 use Rattle.process_end.specs.Descent.{kills, traces_live_above, IsLiveTracee, EndsToo}
 use Rattle.trace_stop.proofs.Every.{or_true, and_left, and_right, both, by_bool, All-both, none_of, none_passes}
 use Rattle.trace_stop.proofs.Edited.{some_is}
 use Rattle.trace_stop.proofs.Passes.{passes, own_rows}
-use Rattle.trace_stop.proofs.Found.{any_by_number}
+use Rattle.trace_stop.proofs.Found.{any_by_number, listed, live_row}
 use Rattle.process_end.proofs.LeafLaw.{dooms_meets, q_traced, leaf_law, leaf_dooms}
-use Rattle.trace_stop.proofs.Chains.{meets-suc}
-use Rattle.process_end.proofs.Leaves.{tracee_doomed}
-use Rattle.trace_stop.proofs.Chains.{no_ring, chains_end, tracee_deeper}
-use Rattle.trace_stop.proofs.Found.{listed}
+use Rattle.trace_stop.proofs.Chains.{meets-suc, no_ring, chains_end, tracee_deeper}
+use Rattle.process_end.proofs.Leaves.{this_is, tracee_doomed}
 use Rattle.process_end.proofs.LeafLives.{leaf_lives, leaf_fewer}
-use Rattle.process_end.proofs.EndSound.{end_sound}
+use Rattle.trace_stop.proofs.Posts.{end_at}
 use Rattle.process_end.proofs.Doomed.{leaf_end}
 
 -- What a walk over tracees has found
@@ -53,12 +40,8 @@ module _ (q after : ℕ) (rows : Rows) (kept : IsKept rows) where
   walk_found t at live =
       let l = least t at in record {
         live = any_by_number is_live t.pid ps kept.rising ∙ ap (passes is_live) l.row ∙ live;
-        link = ap tracer_in l.row ∙ this_is t.tracer l.passes;
+        link = ap tracer_in l.row ∙ this_is q t.tracer l.passes;
       }
-    where
-      this_is : (o : Option ℕ) → is_this q o ≡ true → o ≡ Some q
-      this_is None is = absurd (true≢false (sym is))
-      this_is (Some n) is = ap Some (eqb-true n q is)
 
   pub walk_over : (t : ProcData) → next_tracee q after ps ≡ Some t → after < t.pid
   walk_over t at = (least t at).above
@@ -107,6 +90,10 @@ module _ (rows : Rows) (s : Stands rows) where
 
   pub deeper : (x t : ℕ) → IsLiveTracee x rows t → 250 - length (chain 250 rows.processes t) < 250 - length (chain 250 rows.processes x)
   deeper x t is = search (rules, tracee_deeper, least, chains_end)
+
+-- sound rows are sound after the end of a live process
+pub end_sound : EndSound
+end_sound settings rows p status s word live = search (rules, live_row, end_at)
 
 turned_round : (m n : ℕ) → (m == n) ≡ false → (n == m) ≡ false
 turned_round m n e = grind (arith, nat_tests)

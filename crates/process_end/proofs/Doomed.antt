@@ -1,33 +1,23 @@
 -- Who ends with a process.
-use Rattle.std.proofs.Math.Bool.{and-false, and-true}
-use Rattle.std.proofs.lemmas.Bool.Decides.{nat_tests}
-use Rattle.std.proofs.Common.{◌≡◌, ℕ, zero, suc, List, [], ◌∷◌, filter_map, Bool, true, false, ◌&&◌, ◌||◌, ◌==◌, if◌then◌else◌, Option, Some, None, IfSome, is_some, refl, sym, ap, ◌∙◌, arith, rules}
+use Rattle.std.proofs.Math.Bool.{and-false, and-true, or-false}
+use Rattle.trace_stop.proofs.Words.{nat_tests, AllByRecursion, list_any, SIGTRAP, bit, ProcData, process_of, is_live, is_this, traces, reporting, Rows, each, Rise, notified, detached, untraced}
+use Rattle.trace_stop.proofs.Words.{is_live_of, IsLiveOf, Linked, Stands}
+use Rattle.std.proofs.Common.{◌≡◌, ℕ, zero, suc, List, [], ◌∷◌, filter_map, Bool, true, false, ◌&&◌, ◌||◌, ◌==◌, if◌then◌else◌, Some, IfSome, is_some, refl, sym, ap, ◌∙◌, arith, rules}
 use Rattle.std.proofs.Math.Path.{fun_ext}
-use Rattle.std.specs.List.{AllByRecursion, list_any}
-use Rattle.signals.specs.Table.{SIGTRAP}
-use Rattle.signals.specs.Sets.{bit}
-use Rattle.proc_table.specs.declared.ProcData.{ProcData}
-use Rattle.lwp_table.specs.declared.LwpData.{LwpData}
-use Rattle.proc_table.specs.Processes.{process_of, is_live, is_this, traces, reporting}
-use Rattle.proc_table.specs.Rows.{Rows, each}
-use Rattle.proc_table.specs.Kept.{Rise}
 use Rattle.trace_stop.specs.declared.Settings.{Settings}
-use Rattle.trace_stop.specs.Post.{notified}
-use Rattle.trace_stop.specs.Detach.{detached, untraced}
 use Rattle.trace_stop.specs.End.{meets, is_doomed, dooms, process_after, lwp_after, notifies_of, left_alone, end_each, end_of}
-use Rattle.trace_stop.specs.Sound.{is_live_of}
-use Rattle.trace_stop.specs.Facts.{IsLiveOf, Linked, Stands}
 use Rattle.process_end.specs.Laws.{traces_live, end_alone, LeafEnd, DetachedEnd}
 use Rattle.trace_stop.proofs.Every.{All-imply, All-both, none_of, find_some}
-use Rattle.trace_stop.proofs.Named.{live_row}
+use Rattle.trace_stop.proofs.Found.{live_named}
 use Rattle.trace_stop.proofs.Passes.{filter_map_same, any_same, each_same, own_rows}
+use Rattle.trace_stop.proofs.Edited.{If_more}
 
 -- no row has this number, or a live one
 abbrev pub NoZombie : List ProcData → ℕ → Type 0
 NoZombie ps n = IfSome (process_of n ps) (λ p. is_live p ≡ true)
 
 pub no_zombie : (rows : Rows) → Rise rows.processes → (u n : ℕ) → is_live_of rows u n ≡ true → NoZombie rows.processes n
-no_zombie rows rise u n is = let r = live_row rows rise u n is in rw r.found r.live
+no_zombie rows rise u n is = let r = live_named rows rise u n is in rw r.found r.live
 
 -- where tracers are live, and q traces no live process
 pub record Untracing (ps : List ProcData) (q : ℕ) (p : ProcData) : Type 0 where
@@ -41,28 +31,15 @@ meets_none ps q all zero n safe = refl
 meets_none ps q all (suc k) n safe = search (rules, meets_none ps q all k, find_some)
 
 -- ends by tests that agree on the rows
-told_same : (ends ends' : ProcData → Bool) (over : ℕ → Bool) (p status : ℕ) (r : ProcData) → ends r ≡ ends' r → notifies_of ends over p status r ≡ notifies_of ends' over p status r
-told_same ends ends' over p status r same = rw same refl
-
-after_same : (ends ends' : ProcData → Bool) (over : ℕ → Bool) (p status : ℕ) (r : ProcData) → ends r ≡ ends' r → process_after ends over p status r ≡ process_after ends' over p status r
-after_same ends ends' over p status r same = rw same refl
-
-lwp_same : (ends ends' : ProcData → Bool) (over : ℕ → Bool) (r : ProcData) (l : LwpData) → ends r ≡ ends' r → lwp_after ends over r l ≡ lwp_after ends' over r l
-lwp_same ends ends' over r l same = rw same refl
-
 pub end_each_same : (ends ends' : ProcData → Bool) (over over' : ℕ → Bool) (p status : ℕ) (rows : Rows)
     → AllByRecursion (λ r. ends r ≡ ends' r) rows.processes → ((n : ℕ) → over n ≡ over' n) → end_each ends over p status rows ≡ end_each ends' over' p status rows
 end_each_same ends ends' over over' p status rows all same =
     ap (λ (ns : List ℕ). notified ns (each (process_after ends over p status) (lwp_after ends over) rows))
-    (filter_map_same (notifies_of ends over p status) (notifies_of ends' over p status) rows.processes (All-imply (λ r. ends r ≡ ends' r) _ (told_same ends ends' over p status) rows.processes all))
+    (filter_map_same (notifies_of ends over p status) (notifies_of ends' over p status) rows.processes (All-imply (λ r. ends r ≡ ends' r) _ (λ r e. rw e refl) rows.processes all))
     ∙ ap (notified (filter_map (notifies_of ends' over p status) rows.processes))
     (each_same (process_after ends over p status) (process_after ends' over p status) (lwp_after ends over) (lwp_after ends' over) rows
-    (All-imply (λ r. ends r ≡ ends' r) _ (λ r e. (after_same ends ends' over p status r e, λ l. lwp_same ends ends' over r l e)) rows.processes all))
+    (All-imply (λ r. ends r ≡ ends' r) _ (λ r e. (rw e refl, λ l. rw e refl)) rows.processes all))
     ∙ ap (λ (d : ℕ → Bool). end_each ends' d p status rows) (fun_ext same)
-
-or_false : (a b : Bool) → b ≡ false → (a || b) ≡ a
-or_false true b h = refl
-or_false false b h = h
 
 -- the numbers that end where q alone does
 one_number : (q n : ℕ) (ps : List ProcData) → list_any (λ r. r.pid == q) ps ≡ true → list_any (λ r. (r.pid == n) && (r.pid == q)) ps ≡ (n == q)
@@ -81,25 +58,17 @@ dooms_alone settings ps q found all n =
 pub untracing : (rows : Rows) → Stands rows → (q : ℕ) → traces_live q rows ≡ false → AllByRecursion (Untracing rows.processes q) rows.processes
 untracing rows s q leaf =
     All-imply (λ r. ((is_live r && traces q r) ≡ false) × Linked rows r) (Untracing rows.processes q)
-    (λ r h. record { free = λ live. sym (ap (λ b. b && traces q r) live) ∙ h.0; tracer = at_tracer r.uid r.tracer h.1.tracer })
+    (λ r h. record { free = λ live. sym (ap (λ b. b && traces q r) live) ∙ h.0; tracer = If_more (IsLiveOf rows r.uid) (NoZombie rows.processes) (no_zombie rows s.rising r.uid) r.tracer h.1.tracer })
     rows.processes (All-both _ (Linked rows) rows.processes (none_of _ rows.processes leaf) s.linked)
-  where
-    at_tracer : (u : ℕ) (o : Option ℕ) → IfSome o (IsLiveOf rows u) → IfSome o (NoZombie rows.processes)
-    at_tracer u None h = tt
-    at_tracer u (Some t) h = no_zombie rows s.rising u t h
 
 -- of the rows q alone ends
 pub doomed_alone : (settings : Settings) (rows : Rows) (q : ℕ) → Stands rows → traces_live q rows ≡ false → AllByRecursion (λ r. is_doomed settings rows.processes q r ≡ (r.pid == q)) rows.processes
 doomed_alone settings rows q s leaf =
-    All-imply (λ r. process_of r.pid rows.processes ≡ Some r) _ (λ r own. or_false (r.pid == q) _ (at_live r own (is_live r) refl)) rows.processes (own_rows rows.processes s.rising)
+    All-imply (λ r. process_of r.pid rows.processes ≡ Some r) _ (λ r own. ap (λ b. (r.pid == q) || b) (at_live r own (is_live r) refl) ∙ or-false (r.pid == q)) rows.processes (own_rows rows.processes s.rising)
   where
-    and_false : (a : Bool) → (a && false) ≡ false
-    and_false true = refl
-    and_false false = refl
-
     at_live : (r : ProcData) → process_of r.pid rows.processes ≡ Some r → (b : Bool) → is_live r ≡ b → (settings.kill_on_debugger_exit && b && meets 250 rows.processes q r.pid) ≡ false
-    at_live r own true live = rw (meets_none rows.processes q (untracing rows s q leaf) 250 r.pid (rw own live)) (and_false (settings.kill_on_debugger_exit && true))
-    at_live r own false dead = ap (λ b. b && meets 250 rows.processes q r.pid) (and_false settings.kill_on_debugger_exit)
+    at_live r own true live = rw (meets_none rows.processes q (untracing rows s q leaf) 250 r.pid (rw own live)) (and-false (settings.kill_on_debugger_exit && true))
+    at_live r own false dead = ap (λ b. b && meets 250 rows.processes q r.pid) (and-false settings.kill_on_debugger_exit)
 
 pub leaf_end : LeafEnd
 leaf_end settings rows q status kills s found leaf =

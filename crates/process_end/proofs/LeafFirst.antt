@@ -1,14 +1,6 @@
 -- The rows, when a process that is doomed and traces no live one ends before the process that dooms it.
-use Rattle.std.proofs.lemmas.Bool.Decides.{nat_tests}
+use Rattle.trace_stop.proofs.Words.{nat_tests, AllByRecursion, list_any, SIGKILL, ProcData, LwpData, process_of, is_live, Rows, each, Rise, holds_of, process_after, lwp_after, notifies_of, end_each}
 use Rattle.std.proofs.Common.{◌≡◌, ℕ, List, filter_map, Bool, true, false, ◌||◌, ◌==◌, Some, sym, ap, ◌∙◌, subst, arith, rules}
-use Rattle.std.specs.List.{AllByRecursion, list_any}
-use Rattle.signals.specs.Table.{SIGKILL}
-use Rattle.proc_table.specs.declared.ProcData.{ProcData}
-use Rattle.lwp_table.specs.declared.LwpData.{LwpData}
-use Rattle.proc_table.specs.Processes.{process_of, is_live}
-use Rattle.proc_table.specs.Rows.{Rows, each}
-use Rattle.proc_table.specs.Kept.{Rise}
-use Rattle.trace_stop.specs.End.{holds_of, process_after, released, lwp_after, notifies_of, end_each}
 use Rattle.trace_stop.proofs.Every.{All-imply, All-both, any_holds}
 use Rattle.trace_stop.proofs.Passes.{passes, any_same, any_or, any_edited, KeepsNumbers, KeepsOwners, own_rows, rise_edited, each_twice, each_agree}
 use Rattle.process_end.proofs.Doomed.{NoZombie}
@@ -25,10 +17,7 @@ pub turned_keeps : (over : ℕ → Bool) (p status : ℕ) (told : ℕ → Bool) 
 unfolding turned
 turned_keeps over p status told r = search (rules, fallen, after_keeps, notified_row, told-pid)
 
-released-pid : (over : ℕ → Bool) (r : ProcData) (l : LwpData) → (released over r l).pid ≡ l.pid
-released-pid over r l = grind arith
-
-notified_lwp-pid : (told : ℕ → Bool) (r : ProcData) (l : LwpData) → (notified_lwp told r l).pid ≡ l.pid
+pub notified_lwp-pid : (told : ℕ → Bool) (r : ProcData) (l : LwpData) → (notified_lwp told r l).pid ≡ l.pid
 unfolding notified_lwp heard_lwp
 notified_lwp-pid told r l = grind arith
 

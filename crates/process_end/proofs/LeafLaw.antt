@@ -1,25 +1,16 @@
 -- Who is doomed before a process that traces no live one has ended, and after.
-use Rattle.std.proofs.lemmas.Bool.Decides.{nat_tests}
-use Rattle.std.proofs.Common.{◌≡◌, ℕ, zero, suc, List, [], ◌∷◌, filter_map, Bool, true, false, not, ◌&&◌, ◌||◌, ◌==◌, if◌then◌else◌, Option, Some, None, IfSome, refl, sym, ap, ◌∙◌, eqb, true≢false, eqb-true, eq-eqb, subst, arith, rules}
+use Rattle.trace_stop.proofs.Words.{nat_tests, option_and_then, AllByRecursion, list_any, SIGKILL, SIGTRAP, bit, ProcData, process_of, is_live, is_this, traces, reporting, Rows, Rise, detached}
+use Rattle.trace_stop.proofs.Words.{IsLiveOf, Linked, Standing, Stands, WithOwner}
+use Rattle.std.proofs.Common.{◌≡◌, ℕ, zero, suc, List, filter_map, Bool, true, false, not, ◌&&◌, ◌||◌, ◌==◌, if◌then◌else◌, Option, Some, None, IfSome, refl, sym, ap, ◌∙◌, eqb, true≢false, eqb-true, eq-eqb, subst, arith, rules, is_some}
 use Rattle.std.proofs.Math.Path.{fun_ext}
-use Rattle.std.specs.Option.{option_and_then}
-use Rattle.std.specs.List.{AllByRecursion, list_any}
-use Rattle.signals.specs.Table.{SIGKILL, SIGTRAP}
-use Rattle.signals.specs.Sets.{bit}
-use Rattle.std.proofs.Common.{is_some}
-use Rattle.proc_table.specs.declared.ProcData.{ProcData}
-use Rattle.proc_table.specs.Processes.{process_of, is_live, is_this, traces, reporting}
-use Rattle.proc_table.specs.Rows.{Rows}
-use Rattle.proc_table.specs.Kept.{Rise}
 use Rattle.trace_stop.specs.declared.Settings.{Settings}
-use Rattle.trace_stop.specs.Detach.{detached}
 use Rattle.trace_stop.specs.End.{tracer_in, tracer_of, holds_of, meets, is_doomed, dooms, orphaned, dead, uncollected, end_each, end_of, end}
-use Rattle.trace_stop.specs.Facts.{IsLiveOf, Linked, Standing, Stands, WithOwner}
 use Rattle.process_end.specs.Laws.{traces_live, LeafLaw, LeafDooms}
-use Rattle.trace_stop.proofs.Every.{and_left, and_right, by_bool, All-imply, All-any, All-both, find_some}
+use Rattle.trace_stop.proofs.Every.{and_left, and_right, by_bool, All-imply, All-both, find_some}
 use Rattle.trace_stop.proofs.Passes.{passes, own_rows, process_edited}
-use Rattle.trace_stop.proofs.Named.{live_row}
-use Rattle.trace_stop.proofs.Found.{any_by_number}
+use Rattle.proc_table.proofs.Rows.{process_of-pid}
+use Rattle.trace_stop.proofs.Edited.{If_more}
+use Rattle.trace_stop.proofs.Found.{live_named, any_by_number, listed, own_row}
 use Rattle.trace_stop.proofs.Chains.{meets-suc, meets-zero, or_more, meets-more}
 use Rattle.process_end.proofs.Doomed.{NoZombie, no_zombie, Untracing, untracing, end_each_same, dooms_alone, doomed_alone}
 use Rattle.process_end.proofs.Turned.{heard, notified_row, moved, fallen, turned, turned-fallen, turned-safe, turned-dead}
@@ -29,9 +20,6 @@ use Rattle.process_end.proofs.LeafFirst.{turned_keeps, Ready, first, left, left-
 
 pub dooms-at : (settings : Settings) (ps : List ProcData) (p n : ℕ) → Rise ps → dooms settings ps p n ≡ passes (is_doomed settings ps p) (process_of n ps)
 dooms-at settings ps p n rise = any_by_number (is_doomed settings ps p) n ps rise
-
-or_false : (a b : Bool) → a ≡ false → b ≡ false → (a || b) ≡ false
-or_false a b h k = rw (h, k) refl
 
 -- a zombie isn't doomed by a live process
 abbrev pub IsLiveRow : List ProcData → ℕ → Type 0
@@ -56,10 +44,6 @@ end-fallen settings p status rows kills rise live =
 
 -- Chains
 
-or_true : (b : Bool) → (b || true) ≡ true
-or_true true = refl
-or_true false = refl
-
 holds_agree : (f g : ℕ → Bool) (o : Option ℕ) → IfSome o (λ t. f t ≡ g t) → holds_of f o ≡ holds_of g o
 holds_agree f g None h = refl
 holds_agree f g (Some t) h = h
@@ -74,13 +58,9 @@ meets_live ps p tracers (suc k) n is = search (rules, meets_live ps p tracers k,
 pub tracer_lives : (rows : Rows) → Stands rows → (n : ℕ) → IfSome (tracer_of rows.processes n) (IsLiveRow rows.processes)
 tracer_lives rows s n = at_row (process_of n rows.processes) refl
   where
-    at_tracer : (u : ℕ) (o : Option ℕ) → IfSome o (IsLiveOf rows u) → IfSome o (IsLiveRow rows.processes)
-    at_tracer u None h = tt
-    at_tracer u (Some t) h = let r = live_row rows s.rising u t h in ap (passes is_live) r.found ∙ r.live
-
     at_row : (o : Option ProcData) → process_of n rows.processes ≡ o → IfSome (tracer_in o) (IsLiveRow rows.processes)
     at_row None is = tt
-    at_row (Some r) is = at_tracer r.uid r.tracer (find_some (λ x. x.pid == n) (Linked rows) rows.processes s.linked r is).0.tracer
+    at_row (Some r) is = If_more (IsLiveOf rows r.uid) (IsLiveRow rows.processes) (λ t h. let k = live_named rows s.rising r.uid t h in ap (passes is_live) k.found ∙ k.live) r.tracer (find_some (λ x. x.pid == n) (Linked rows) rows.processes s.linked r is).0.tracer
 
 pub named : (rows : Rows) → Stands rows → (r : ProcData) → Linked rows r → (x : ℕ) → Names r x → NoZombie rows.processes x
 named rows s r l x h = search (rules, eqb-true, no_zombie, eq-eqb)
@@ -97,19 +77,8 @@ pub kept-tracer : (t o : ℕ → Bool) (r : ProcData) → (notified_row t (moved
 unfolding notified_row moved heard
 kept-tracer t o r = grind arith
 
-pub If-map : {X : Type 0} (P Q : X → Type 0) → ((x : X) → P x → Q x) → (o : Option X) → IfSome o P → IfSome o Q
-If-map P Q h None k = tt
-If-map P Q h (Some x) k = h x k
-
-pub number_found : (n : ℕ) (ps : List ProcData) (r : ProcData) → process_of n ps ≡ Some r → (r.pid == n) ≡ true
-number_found n ps r is = (find_some (λ x. x.pid == n) (λ x. Unit {0}) ps (All-any (λ x. Unit {0}) (λ x. tt) ps) r is).1
-
 uncollected_safe : (t : ProcData → Bool) (z : ProcData) → t z ≡ false → passes t (uncollected z) ≡ false
 uncollected_safe t z safe = grind arith
-
-number_listed : (n : ℕ) (ps : List ProcData) (r : ProcData) → process_of n ps ≡ Some r → list_any (λ x. x.pid == n) ps ≡ true
-number_listed n [] r is = grind (arith, is)
-number_listed n (p ∷ ps) r is = grind (arith, nat_tests, number_listed n ps r)
 
 pub alone-true : (q n : ℕ) → alone q n ≡ true → n ≡ q
 unfolding alone
@@ -129,7 +98,7 @@ module _ (settings : Settings) (rows : Rows) (p : ℕ) (s : Stands rows) where
     where
       at_row : (o : Option ProcData) → process_of n rows.processes ≡ o → passes (is_doomed settings rows.processes p) o ≡ true → IsLiveRow rows.processes n × (meets 250 rows.processes p n ≡ true)
       at_row None at h = absurd (true≢false (sym h))
-      at_row (Some r) at h = let k = doomed_chained r n (eqb-true r.pid n (number_found n rows.processes r at)) other h in (ap (passes is_live) at ∙ k.0, k.1)
+      at_row (Some r) at h = let k = doomed_chained r n (process_of-pid n r rows.processes at) other h in (ap (passes is_live) at ∙ k.0, k.1)
 
   -- a live process with a chain to p is doomed
   pub dooms_chained : settings.kill_on_debugger_exit ≡ true → (t : ℕ) → IsLiveRow rows.processes t → ((t == p) || meets 250 rows.processes p t) ≡ true → dooms settings rows.processes p t ≡ true
@@ -142,7 +111,7 @@ module _ (settings : Settings) (rows : Rows) (p : ℕ) (s : Stands rows) where
 
       at_row : (o : Option ProcData) → process_of t rows.processes ≡ o → passes is_live o ≡ true → passes (is_doomed settings rows.processes p) o ≡ true
       at_row None at h = absurd (true≢false (sym h))
-      at_row (Some r) at h = doomed r (eqb-true r.pid t (number_found t rows.processes r at)) h
+      at_row (Some r) at h = doomed r (process_of-pid t r rows.processes at) h
 
 module _ (settings : Settings) (rows : Rows) (p q status : ℕ) (kills : settings.kill_on_debugger_exit ≡ true) (s : Stands rows) (qp : (q == p) ≡ false)
     (dq : dooms settings rows.processes p q ≡ true) (leaf : traces_live q rows ≡ false) where
@@ -190,11 +159,8 @@ module _ (settings : Settings) (rows : Rows) (p q status : ℕ) (kills : setting
   edited : (n : ℕ) → process_of n qs ≡ option_and_then edit (process_of n ps)
   edited n = process_edited edit (turned_keeps (alone q) q SIGKILL t1) n ps s.rising
 
-  own_at : (n : ℕ) (r : ProcData) → process_of n ps ≡ Some r → process_of r.pid ps ≡ Some r
-  own_at n r is = ap (λ m. process_of m ps) (eqb-true r.pid n (number_found n ps r is)) ∙ is
-
   edit-safe : (n : ℕ) (r : ProcData) → process_of n ps ≡ Some r → is_live r ≡ true → alone q n ≡ false → edit r ≡ Some (notified_row t1 (moved (alone q) r))
-  edit-safe n r is live other = turned-safe (alone q) q SIGKILL t1 r live (ap (alone q) (eqb-true r.pid n (number_found n ps r is)) ∙ other)
+  edit-safe n r is live other = turned-safe (alone q) q SIGKILL t1 r live (ap (alone q) (process_of-pid n r ps is) ∙ other)
 
   tracer-after : (x : ℕ) → NoZombie ps x → alone q x ≡ false → tracer_of qs x ≡ tracer_of ps x
   tracer-after x safe other = search (rules, edited, edit-safe, kept-tracer, alone)
@@ -216,7 +182,7 @@ module _ (settings : Settings) (rows : Rows) (p q status : ℕ) (kills : setting
       meets-suc k qs p x
       ∙ ap (holds_of (λ t. (t == p) || meets k qs p t)) (tracer-after x safe other)
       ∙ holds_agree (λ t. (t == p) || meets k qs p t) (λ t. (t == p) || meets k ps p t) (tracer_of ps x)
-      (If-map (λ t. (alone q t ≡ false) × NoZombie ps t) _ (λ t h. ap (λ b. (t == p) || b) (meets-after k t h.1 h.0)) (tracer_of ps x) (tracer_free x safe))
+      (If_more (λ t. (alone q t ≡ false) × NoZombie ps t) _ (λ t h. ap (λ b. (t == p) || b) (meets-after k t h.1 h.0)) (tracer_of ps x) (tracer_free x safe))
       ∙ sym (meets-suc k ps p x)
 
   -- the same rows are doomed, but for q
@@ -227,21 +193,21 @@ module _ (settings : Settings) (rows : Rows) (p q status : ℕ) (kills : setting
       doom r is = dooms-at settings ps p n s.rising ∙ ap (passes (is_doomed settings ps p)) is
 
       told : (r : ProcData) → process_of n ps ≡ Some r → Told (alone q) t1 r
-      told r is = first_told rows d p q status dq qp s.rising ready r (own_at n r is)
+      told r is = first_told rows d p q status dq qp s.rising ready r (own_row n r ps is)
 
       same_chain : (r : ProcData) → process_of n ps ≡ Some r → is_live r ≡ true → alone q n ≡ false → is_doomed settings qs p (notified_row t1 (moved (alone q) r)) ≡ is_doomed settings ps p r
       same_chain r is live other =
           let m : ProcData = notified_row t1 (moved (alone q) r) in
           let pid : m.pid ≡ r.pid = told-pid t1 (moved (alone q) r) ∙ moved-pid (alone q) r in
           let alive : is_live m ≡ is_live r = told-live t1 (moved (alone q) r) ∙ moved-live (alone q) r in
-          let here : r.pid ≡ n = eqb-true r.pid n (number_found n ps r is) in
+          let here : r.pid ≡ n = process_of-pid n r ps is in
           ap (λ k. (k == p) || (settings.kill_on_debugger_exit && is_live m && meets 250 qs p k)) pid
           ∙ ap (λ b. (r.pid == p) || (settings.kill_on_debugger_exit && b && meets 250 qs p r.pid)) alive
-          ∙ ap (λ b. (r.pid == p) || (settings.kill_on_debugger_exit && is_live r && b)) (meets-after 250 r.pid (subst (λ o. IfSome o (λ y. is_live y ≡ true)) (sym (own_at n r is)) live) (ap (alone q) here ∙ other))
+          ∙ ap (λ b. (r.pid == p) || (settings.kill_on_debugger_exit && is_live r && b)) (meets-after 250 r.pid (subst (λ o. IfSome o (λ y. is_live y ≡ true)) (sym (own_row n r ps is)) live) (ap (alone q) here ∙ other))
 
       by_case : (r : ProcData) → process_of n ps ≡ Some r → (b : Bool) → is_live r ≡ b → (c : Bool) → alone q n ≡ c → passes (is_doomed settings qs p) (edit r) ≡ rest d q n
       by_case r is true live true same =
-          let here : alone q r.pid ≡ true = ap (alone q) (eqb-true r.pid n (number_found n ps r is)) ∙ same in
+          let here : alone q r.pid ≡ true = ap (alone q) (process_of-pid n r ps is) ∙ same in
           let word : ℕ = if r.pid == q then SIGKILL else SIGKILL in
           ap (passes (is_doomed settings qs p)) (turned-fallen (alone q) q SIGKILL t1 r live here ((told r is).falls here))
           ∙ uncollected_safe (is_doomed settings qs p) (dead word (orphaned (alone q) r)) (doomed-dead settings qs p (dead word (orphaned (alone q) r)) (ap (λ m. eqb m p) (alone-true q r.pid here) ∙ qp) refl)
@@ -249,7 +215,7 @@ module _ (settings : Settings) (rows : Rows) (p q status : ℕ) (kills : setting
       by_case r is true live false other =
           ap (passes (is_doomed settings qs p)) (edit-safe n r is live other) ∙ same_chain r is live other ∙ sym (rest-other d q n other ∙ doom r is)
       by_case r is false ended c e =
-          let apart = zombie_safe settings ps p p_live r (own_at n r is) ended in
+          let apart = zombie_safe settings ps p p_live r (own_row n r ps is) ended in
           ap (passes (is_doomed settings qs p)) (turned-dead (alone q) q SIGKILL t1 r ended ((told r is).dead ended))
           ∙ uncollected_safe (is_doomed settings qs p) (orphaned (alone q) r) (doomed-dead settings qs p (orphaned (alone q) r) apart ended)
           ∙ sym (rest-safe d q n (doom r is ∙ doomed-dead settings ps p r apart ended))
@@ -274,11 +240,7 @@ module _ (settings : Settings) (rows : Rows) (p q status : ℕ) (kills : setting
       ∙ ap (λ (over : ℕ → Bool). end_each (fallen over) over q SIGKILL rows) (fun_ext (dooms_alone settings ps q q_found (doomed_alone settings rows q s leaf)))
     where
       q_found : list_any (λ r. r.pid == q) ps ≡ true
-      q_found = at_row (process_of q ps) refl q_row.0
-        where
-          at_row : (o : Option ProcData) → process_of q ps ≡ o → passes is_live o ≡ true → list_any (λ r. r.pid == q) ps ≡ true
-          at_row None is h = absurd (true≢false (sym h))
-          at_row (Some r) is h = number_listed q ps r is
+      q_found = listed rows q (any_by_number is_live q ps s.rising ∙ q_row.0)
 
   abbrev first_left : Rows
   first_left = left rows d p q status dq qp s.rising ready

@@ -1,15 +1,7 @@
 -- Rows that name a process that ends, each taken from it: its end is as it was.
-use Rattle.std.proofs.lemmas.Bool.Decides.{nat_tests}
+use Rattle.trace_stop.proofs.Words.{nat_tests, option_and_then, AllByRecursion, LwpData, ProcData, process_of, is_live, Rows, each, by_owner, Rise, unless, orphaned}
 use Rattle.std.proofs.Common.{◌≡◌, ℕ, Bool, true, false, not, ◌&&◌, ◌==◌, Option, Some, None, IfSome, is_none, refl, sym, ap, ◌∙◌, true≢false, eqb-true, subst, arith, rules}
 use Rattle.std.proofs.Math.Bool.{and-false}
-use Rattle.std.specs.Option.{option_and_then}
-use Rattle.std.specs.List.{AllByRecursion}
-use Rattle.lwp_table.specs.declared.LwpData.{LwpData}
-use Rattle.proc_table.specs.declared.ProcData.{ProcData}
-use Rattle.proc_table.specs.Processes.{process_of, is_live}
-use Rattle.proc_table.specs.Rows.{Rows, each, by_owner}
-use Rattle.proc_table.specs.Kept.{Rise}
-use Rattle.trace_stop.specs.End.{unless, orphaned}
 use Rattle.process_end.specs.Laws.{end_alone}
 use Rattle.process_end.specs.Leaving.{LeavingRow, IsLeaving}
 use Rattle.trace_stop.proofs.Every.{choose, All-imply, All-both, find_some}

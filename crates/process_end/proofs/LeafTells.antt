@@ -1,14 +1,7 @@
 -- A zombie taken from its tracer, which ends, and its parent told of it: the tracer's end is as it was.
-use Rattle.std.proofs.lemmas.Bool.Decides.{nat_tests}
+use Rattle.trace_stop.proofs.Words.{nat_tests, AllByRecursion, list_any, LwpData, ProcData, process_of, is_live, is_this, traces, Rows, each, Rise, unless, orphaned, uncollected, released}
 use Rattle.std.proofs.Common.{◌≡◌, ℕ, Bool, true, false, ◌&&◌, ◌||◌, ◌==◌, if◌then◌else◌, Option, Some, None, IfSome, refl, sym, ap, ◌∙◌, true≢false, eqb-true, eq-eqb, arith, rules}
 use Rattle.std.proofs.Math.Bool.{or-false, or_comm}
-use Rattle.std.specs.List.{AllByRecursion, list_any}
-use Rattle.lwp_table.specs.declared.LwpData.{LwpData}
-use Rattle.proc_table.specs.declared.ProcData.{ProcData}
-use Rattle.proc_table.specs.Processes.{process_of, is_live, is_this, traces}
-use Rattle.proc_table.specs.Rows.{Rows, each}
-use Rattle.proc_table.specs.Kept.{Rise}
-use Rattle.trace_stop.specs.End.{unless, orphaned, uncollected, released}
 use Rattle.process_end.specs.Laws.{end_alone}
 use Rattle.process_end.specs.Leaving.{LeavingRow, LeavingLwp, IsLeaving}
 use Rattle.trace_stop.proofs.Every.{choose, All-imply, All-both, find_some}
@@ -17,9 +10,10 @@ use Rattle.trace_stop.proofs.Numbers.{the_row}
 use Rattle.process_end.proofs.Turned.{heard, heard_lwp, notified_row, notified_lwp, turned, turned_lwp, moved, told-miss, turned-dead, turned-safe, turned-fallen, turned_lwp-safe, turned_lwp-fallen}
 use Rattle.process_end.proofs.Twice.{alone, Told, told-live, told-pid, moved-pid, told_twice, notified_lwp-moved, notified_lwp-told, released-told, released_told, told_lwp_twice}
 use Rattle.process_end.proofs.Tells.{tells, told_by, parent_after}
-use Rattle.process_end.proofs.LeafFirst.{told, told-is}
+use Rattle.process_end.proofs.LeafFirst.{told, told-is, notified_lwp-pid}
 use Rattle.trace_stop.proofs.Found.{any_by_number}
 use Rattle.process_end.proofs.Leaving.{Fit, leaving_each, Ends, stepped, told_after, told_alive, Told-of, put_tell, put_tell_lwp, put_keeps}
+use Rattle.std.proofs.lemmas.Bool.{or_parts}
 
 -- What one who is told keeps
 
@@ -35,13 +29,6 @@ module _ (t : ℕ → Bool) (r : ProcData) where
 pub told_lwp_fits : (t : ℕ → Bool) (alive : ℕ → Bool) (q : ℕ) (r : ProcData) (l : LwpData) → LeavingLwp alive q l → LeavingLwp alive q (notified_lwp t r l)
 unfolding notified_lwp heard_lwp
 told_lwp_fits t alive q r l h = choose (t r.pid) (heard_lwp r l) l (LeavingLwp alive q) (λ e. record { lives = h.lives; other = h.other; waits = h.waits }) (λ e. h)
-
-pub told_lwp_keeps : (t : ℕ → Bool) (r : ProcData) (l : LwpData) → (notified_lwp t r l).pid ≡ l.pid
-unfolding notified_lwp heard_lwp
-told_lwp_keeps t r l = grind arith
-
-first_false : (a b c : Bool) → a ≡ (b || c) → a ≡ false → b ≡ false
-first_false a b c is none = grind (arith, nat_tests)
 
 pub same_test : (a b : ℕ) → (a == b) ≡ (b == a)
 same_test a b = grind (arith, nat_tests)
@@ -116,7 +103,7 @@ module _ (q n : ℕ) (rows : Rows) (v : IsLeaving q rows) (rise : Rise rows.proc
   keeps r = told-pid (alone m) (if r.pid == n then untrace r else r) ∙ put_keeps n untrace (λ k. refl) r
 
   owners : (r : ProcData) (l : LwpData) → IfSome (untold_lwp r l) (λ k. k.pid ≡ l.pid)
-  owners r l = told_lwp_keeps (alone m) (if r.pid == n then untrace r else r) l
+  owners r l = notified_lwp-pid (alone m) (if r.pid == n then untrace r else r) l
 
   module _ (w : ℕ) where
     abbrev before : ℕ → Bool
@@ -156,7 +143,7 @@ module _ (q n : ℕ) (rows : Rows) (v : IsLeaving q rows) (rise : Rise rows.proc
     ends r h one = by_number (r.pid == n) refl
       where
         not_after : (k : ℕ) → before k ≡ false → after k ≡ false
-        not_after k none = first_false (before k) (after k) (alone m k) (both_tell k) none
+        not_after k none = (or_parts (after k) (alone m k) (sym (both_tell k) ∙ none)).0
 
         made : Bool → ProcData
         made b = notified_row (alone m) (if b then untrace r else r)

@@ -1,21 +1,16 @@
 -- Down the tracees of a process that ends stands one that traces no live process.
-use Rattle.std.proofs.lemmas.Bool.Decides.{nat_tests}
+use Rattle.trace_stop.proofs.Words.{nat_tests, ProcData, process_of, is_live, is_this, traces, Rows, Stands}
 use Rattle.std.proofs.Common.{◌≡◌, ℕ, zero, suc, ◌+◌, ◌<◌, length, Bool, true, false, ◌&&◌, ◌||◌, ◌==◌, Option, Some, None, refl, sym, ap, ◌∙◌, arith, true≢false, eqb-true, subst, rules}
-use Rattle.proc_table.specs.declared.ProcData.{ProcData}
-use Rattle.proc_table.specs.Processes.{process_of, is_live, is_this, traces}
-use Rattle.proc_table.specs.Rows.{Rows}
 use Rattle.trace_stop.specs.declared.Settings.{Settings}
 use Rattle.trace_stop.specs.End.{tracer_in, tracer_of, meets, dooms}
-use Rattle.trace_stop.specs.Facts.{Stands}
 use Rattle.trace_stop.specs.Laws.{chain}
 use Rattle.process_end.specs.Laws.{traces_live, TraceeDoomed, LeafExists}
 use Rattle.trace_stop.proofs.Every.{and_left, and_right, by_bool, any_holds}
 use Rattle.trace_stop.proofs.Passes.{passes, own_rows}
-use Rattle.trace_stop.proofs.Chains.{meets-suc}
+use Rattle.trace_stop.proofs.Chains.{meets-suc, no_ring, chains_end, chains_meet, tracee_deeper, meets-up}
 use Rattle.process_end.proofs.LeafLaw.{dooms_meets, dooms_chained}
-use Rattle.trace_stop.proofs.Chains.{no_ring, chains_end, chains_meet, tracee_deeper, meets-up}
 
-this_is : (x : ℕ) (o : Option ℕ) → is_this x o ≡ true → o ≡ Some x
+pub this_is : (x : ℕ) (o : Option ℕ) → is_this x o ≡ true → o ≡ Some x
 this_is x None is = absurd (true≢false (sym is))
 this_is x (Some t) is = grind (arith, nat_tests, is)
 

@@ -2,15 +2,8 @@
 use Rattle.std.proofs.Common.{◌≡◌, ℕ, List, filter, filter_map, Bool, true, false, not, ◌&&◌, ◌==◌, if◌then◌else◌, Option, Some, None, IfSome, refl, sym, ap, ◌∙◌, eqb-true, eq-eqb, subst, [], ◌∷◌, arith, rules}
 use Rattle.std.proofs.Math.Bool.{and-false}
 use Rattle.std.proofs.Math.Path.{fun_ext}
-use Rattle.std.specs.Option.{option_and_then}
-use Rattle.std.specs.List.{AllByRecursion, list_any}
-use Rattle.lwp_table.specs.declared.LwpData.{LwpData}
-use Rattle.proc_table.specs.declared.ProcData.{ProcData}
-use Rattle.proc_table.specs.Processes.{process_of, is_live}
-use Rattle.proc_table.specs.Rows.{Rows, each, by_owner}
-use Rattle.proc_table.specs.Kept.{Rise, set_process, drop_process}
-use Rattle.proc_table.proofs.Changes.{map-id, filter_map-map, change_process-at}
-use Rattle.trace_stop.specs.Post.{notified}
+use Rattle.trace_stop.proofs.Words.{option_and_then, AllByRecursion, list_any, LwpData, ProcData, process_of, is_live, Rows, each, by_owner, Rise, set_process, drop_process, notified}
+use Rattle.proc_table.proofs.Changes.{change_process-at}
 use Rattle.process_end.specs.Leaving.{LeavingRow, LeavingLwp, IsLeaving}
 use Rattle.process_end.specs.Laws.{end_alone}
 use Rattle.trace_stop.proofs.Every.{by_bool, and_left, and_right, All-imply, All-edit, any_holds, any_forward, find_some}
@@ -21,6 +14,7 @@ use Rattle.process_end.proofs.Twice.{alone, Told}
 use Rattle.process_end.proofs.Tells.{tells, tells-names, Names}
 use Rattle.process_end.proofs.LeafFirst.{told, told-is, end_turned}
 use Rattle.trace_stop.proofs.Told.{notified-one}
+use Rattle.trace_stop.proofs.Edited.{lwps_left}
 
 -- The end of q alone, row by row
 
@@ -116,13 +110,6 @@ module _ (q w : ℕ) (rows : Rows) (v : IsLeaving q rows) (rise : Rise rows.proc
 
 -- The tables' edits as edits of each row
 
-pub lwps_same : (rows : Rows) → filter_map (λ l. by_owner (λ p k. Some k) l (process_of l.pid rows.processes)) rows.lwps ≡ rows.lwps
-lwps_same rows = filter_map-map (λ l. by_owner (λ p k. Some k) l (process_of l.pid rows.processes)) (λ l. l) (λ l. same l (process_of l.pid rows.processes)) rows.lwps ∙ map-id rows.lwps
-  where
-    same : (l : LwpData) (o : Option ProcData) → by_owner (λ p k. Some k) l o ≡ Some l
-    same l None = refl
-    same l (Some p) = refl
-
 -- a row changed by its number
 abbrev pub put : ℕ → (ProcData → ProcData) → ProcData → Option ProcData
 put n f r = Some (if r.pid == n then f r else r)
@@ -134,7 +121,7 @@ pub set_each : (n : ℕ) (f : ProcData → ProcData) (rows : Rows) (p : ProcData
     → set_process (f p) rows ≡ each (put n f) same_lwp rows
 set_each n f rows p rise at number =
     sym (change_process-at n f rows p rise at number)
-    ∙ ap (λ (ls : List LwpData). record rows { processes = filter_map (put n f) rows.processes; lwps = ls }) (sym (lwps_same rows))
+    ∙ ap (λ (ls : List LwpData). record rows { processes = filter_map (put n f) rows.processes; lwps = ls }) (sym (lwps_left rows))
 
 -- a row taken out by its number
 abbrev pub out : ℕ → ProcData → Option ProcData
@@ -143,7 +130,7 @@ out n r = if r.pid == n then None else Some r
 pub drop_each : (n : ℕ) (rows : Rows) → drop_process n rows ≡ each (out n) same_lwp rows
 drop_each n rows =
     ap (λ (ps : List ProcData). record rows { processes = ps }) (same rows.processes)
-    ∙ ap (λ (ls : List LwpData). record rows { processes = filter_map (out n) rows.processes; lwps = ls }) (sym (lwps_same rows))
+    ∙ ap (λ (ls : List LwpData). record rows { processes = filter_map (out n) rows.processes; lwps = ls }) (sym (lwps_left rows))
   where
     same : (ps : List ProcData) → filter (λ p. not (p.pid == n)) ps ≡ filter_map (out n) ps
     same [] = refl

@@ -1,29 +1,15 @@
 -- Tracees detached one after another.
-use Rattle.std.proofs.lemmas.Bool.Decides.{nat_tests}
-use Rattle.std.proofs.Common.{◌≡◌, ℕ, ◌<◌, List, filter_map, Bool, true, false, ◌&&◌, ◌==◌, if◌then◌else◌, Option, Some, None, IfSome, refl, sym, ap, ◌∙◌, eqb-true, arith}
-use Rattle.std.specs.Prelude.{count_by, option_map}
-use Rattle.std.specs.Option.{option_and_then}
-use Rattle.std.specs.List.{AllByRecursion}
-use Rattle.event_masks.specs.Exits.{no_flags, shows}
-use Rattle.event_masks.specs.declared.TheConstants.StopFlags.{PL_FLAG_EXITED}
-use Rattle.lwp_table.specs.declared.LwpData.{LwpData}
-use Rattle.proc_table.specs.declared.ProcData.{ProcData}
-use Rattle.proc_table.specs.Processes.{process_of, is_live, is_this, traces, reporting}
-use Rattle.proc_table.specs.Rows.{Rows, by_owner, is_numbered}
-use Rattle.proc_table.specs.Kept.{Rise}
-use Rattle.proc_table.proofs.Changes.{map-id, filter_map-map}
-use Rattle.trace_stop.specs.Detach.{reported, untraced, untraced_lwp, detached}
-use Rattle.trace_stop.specs.End.{left_alone, lost_signals}
-use Rattle.trace_stop.specs.Facts.{Stands}
+use Rattle.trace_stop.proofs.Words.{nat_tests, option_and_then, AllByRecursion, no_flags, shows, PL_FLAG_EXITED, LwpData, ProcData, process_of, is_live, is_this, traces, reporting, Rows, by_owner}
+use Rattle.trace_stop.proofs.Words.{is_numbered, Rise, reported, untraced, untraced_lwp, detached, left_alone, lost_signals, Stands, is_live_at}
+use Rattle.std.proofs.Common.{◌≡◌, ℕ, ◌<◌, List, filter_map, Bool, true, false, ◌&&◌, ◌==◌, if◌then◌else◌, Option, Some, None, IfSome, refl, sym, ap, ◌∙◌, eqb-true, arith, count_by, option_map}
 use Rattle.process_end.specs.Laws.{traces_live}
-use Rattle.trace_stop.specs.Sound.{is_live_at}
 use Rattle.process_end.specs.Descent.{spares, IsLiveTracee}
 use Rattle.trace_stop.proofs.Every.{All-imply, All-any, any_forward, none_of}
 use Rattle.trace_stop.proofs.Passes.{passes, each_same, each_twice}
 use Rattle.trace_stop.proofs.Numbers.{the_row}
-use Rattle.process_end.proofs.Leaving.{lwps_same}
+use Rattle.trace_stop.proofs.Edited.{edit_none, lwps_left}
 use Rattle.trace_stop.proofs.Found.{any_by_number}
-use Rattle.process_end.proofs.Unnamed.{one_fewer}
+use Rattle.process_end.proofs.LeafLives.{one_fewer}
 use Rattle.process_end.proofs.Descents.{TraceeRow, tracee_row}
 
 abbrev pub left_row : (ProcData → Bool) → (ProcData → ℕ) → ProcData → Option ProcData
@@ -105,5 +91,5 @@ left_none q rows none =
     each_same (left_row (is_tracee q) lost_signals) (λ r. Some r) (left_lwp (is_tracee q) lost_signals) (λ r l. Some l) rows
     (All-imply (λ r. is_tracee q r ≡ false) _ (λ r e. (ap (λ b. Some (if b then untraced (lost_signals r) r else r)) e, λ l. ap (λ b. if b then option_map (untraced_lwp (lost_signals r) r) (reported r l) else Some l) e)) rows.processes (none_of (is_tracee q) rows.processes none))
     ∙ ap (λ (ps : List ProcData). record rows { processes = ps; lwps = filter_map (λ l. by_owner (λ r k. Some k) l (process_of l.pid rows.processes)) rows.lwps })
-    (filter_map-map (λ r. Some r) (λ r. r) (λ r. refl) rows.processes ∙ map-id rows.processes)
-    ∙ ap (λ (ls : List LwpData). record rows { lwps = ls }) (lwps_same rows)
+    (edit_none (λ r. Some r) (λ r. refl) rows.processes)
+    ∙ ap (λ (ls : List LwpData). record rows { lwps = ls }) (lwps_left rows)

@@ -5,7 +5,6 @@ pub mod Tells
 pub mod LeafFirst
 pub mod LeafLaw
 pub mod Leaves
-pub mod Remains
 pub mod LeafLives
 pub mod Descents
 pub mod LwpEdits
@@ -17,4 +16,3 @@ pub mod Orphans
 pub mod Burial
 pub mod LwpsEnd
 pub mod LeftAlone
-pub mod EndSound

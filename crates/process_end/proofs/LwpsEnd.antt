@@ -1,30 +1,18 @@
 -- The LWPs of a process that ends, and those that wait for it.
 use Rattle.std.proofs.Common.{◌≡◌, ℕ, List, [], ◌∷◌, map, filter, filter_map, Bool, true, false, not, ◌&&◌, ◌==◌, if◌then◌else◌, Option, Some, None, IfSome, is_none, is_some, refl, sym, ap, ◌∙◌, true≢false, eqb-true, eq-eqb, subst, arith}
-use Rattle.std.specs.Option.{option_and_then}
-use Rattle.std.specs.List.{AllByRecursion}
+use Rattle.trace_stop.proofs.Words.{option_and_then, AllByRecursion, LwpData, Mode, User, InCall, VforkWait, ProcData, State, Run, Trace, Job, Zombie, process_of, is_live, is_zombie_state, traces}
+use Rattle.trace_stop.proofs.Words.{Rows, each, by_owner, own_lwp, map_lwps, Housed, waits_where, released, lwp_after, IsLiveOf, IsLiveChild, Linked, IfEnded, FitProcess, Standing, WithOwner}
+use Rattle.trace_stop.proofs.Words.{waited_for, IsSound, is_live_at}
 use Rattle.std.proofs.Math.Path.{fun_ext}
-use Rattle.lwp_table.specs.declared.LwpData.{LwpData}
-use Rattle.lwp_table.specs.declared.Mode.{Mode}
-use Rattle.lwp_table.specs.declared.Mode.TheVariants.{User, InCall, VforkWait}
-use Rattle.proc_table.specs.declared.ProcData.{ProcData}
-use Rattle.proc_table.specs.declared.State.{State}
-use Rattle.proc_table.specs.declared.State.TheVariants.{Run, Trace, Job, Zombie}
-use Rattle.proc_table.specs.Processes.{process_of, is_live, is_zombie_state, traces}
-use Rattle.proc_table.specs.Rows.{Rows, each, by_owner}
-use Rattle.proc_table.specs.Edits.{own_lwp, map_lwps}
-use Rattle.proc_table.specs.Kept.{Housed}
 use Rattle.proc_table.proofs.Changes.{map-id}
 use Rattle.proc_table.proofs.Rows.{process_of-pid}
-use Rattle.trace_stop.specs.End.{waits_where, released, lwp_after}
-use Rattle.trace_stop.specs.Facts.{IsLiveOf, IsLiveChild, Linked, IfEnded, FitProcess, Standing, WithOwner, waited_for, IsSound}
 use Rattle.process_end.specs.Laws.{traces_live, end_alone}
-use Rattle.trace_stop.specs.Sound.{is_live_at}
 use Rattle.process_end.specs.Leaving.{without_lwps, lwps_ended, LeavingRow, LeavingLwp, IsLeaving}
 use Rattle.trace_stop.proofs.Every.{by_bool, choose, and_left, and_right, both, All-imply, All-both, All-edit, any_holds, any_more, none_of}
 use Rattle.trace_stop.proofs.Passes.{passes, own_rows, filter_map_same, filter_map_twice}
 use Rattle.trace_stop.proofs.FromSound.{none_is}
 use Rattle.trace_stop.proofs.Children.{child_test, child_from}
-use Rattle.trace_stop.proofs.Edited.{some_is}
+use Rattle.trace_stop.proofs.Edited.{If_more, some_is}
 use Rattle.trace_stop.proofs.Numbers.{the_row}
 use Rattle.process_end.proofs.Turned.{turned, turned_lwp, notified_lwp, moved, turned_lwp-safe, turned_lwp-fallen}
 use Rattle.process_end.proofs.Twice.{alone}
@@ -124,16 +112,12 @@ module _ (rows : Rows) (s : IsSound rows) (q : ℕ) (p : ProcData) (at : process
     row_fits : (r : ProcData) → process_of r.pid ps ≡ Some r → Linked rows r → FitProcess r → (is_live r && traces q r) ≡ false → LeavingRow (λ n. is_live_at n rows) q r
     row_fits r own link fit free = record {
       lives = sym (any_by_number is_live r.pid ps s.stands.rising ∙ ap (passes is_live) own);
-      tracer = at_tracer r.tracer link.tracer;
+      tracer = If_more (IsLiveOf rows r.uid) (λ t. is_live_at t rows ≡ true) (of_user r.uid) r.tracer link.tracer;
       parent = λ other. of_user r.uid r.parent (link.parent other);
       free = λ alive. sym (ap (λ b. b && traces q r) alive) ∙ free;
       left = λ gone. at_state r.state fit.ended gone;
     }
       where
-        at_tracer : (o : Option ℕ) → IfSome o (IsLiveOf rows r.uid) → IfSome o (λ t. is_live_at t rows ≡ true)
-        at_tracer None h = tt
-        at_tracer (Some t) h = of_user r.uid t h
-
         at_state : (st : State) → IfEnded r st → not (is_zombie_state st) ≡ false → (is_none r.tracer && (r.parent == 1)) ≡ false
         at_state Run h gone = absurd (true≢false gone)
         at_state (Trace tid sig told) h gone = absurd (true≢false gone)

@@ -1,36 +1,24 @@
 -- A tracee or a child that is taken from a process that ends, over the tables' edits.
-use Rattle.std.proofs.lemmas.Bool.Decides.{nat_tests}
-use Rattle.std.proofs.Common.{◌≡◌, ℕ, ◌<◌, Bool, true, false, ◌&&◌, ◌||◌, ◌==◌, if◌then◌else◌, Option, Some, None, is_none, is_some, refl, sym, ap, ◌∙◌, arith, true≢false, eqb-true, subst, [], ◌∷◌, not}
-use Rattle.std.specs.Prelude.{count_by, option_map}
-use Rattle.std.specs.List.{list_any}
-use Rattle.proc_table.specs.declared.ProcData.{ProcData}
-use Rattle.lwp_table.specs.declared.LwpData.{LwpData}
+use Rattle.trace_stop.proofs.Words.{nat_tests, list_any, ProcData, LwpData, process_of, is_live, traces, Rows, each, next_tracee, next_child, AtHome, IsKept, IsRow, Named, set_process, drop_process}
+use Rattle.trace_stop.proofs.Words.{IsLeast, LeastOrNone, notified, orphaned, uncollected, collector}
+use Rattle.std.proofs.Common.{◌≡◌, ℕ, ◌<◌, Bool, true, false, ◌&&◌, ◌||◌, ◌==◌, if◌then◌else◌, Option, Some, None, is_none, is_some, refl, sym, ap, ◌∙◌, arith, true≢false, eqb-true, subst, [], ◌∷◌, not, count_by, option_map}
 use Rattle.trace_stop.proofs.Passes.{passes}
-use Rattle.proc_table.specs.Processes.{process_of, is_live, traces}
-use Rattle.proc_table.specs.Rows.{Rows, each}
-use Rattle.proc_table.specs.Walks.{next_tracee, next_child}
-use Rattle.proc_table.specs.Kept.{AtHome, IsKept, IsRow, Named, set_process, drop_process}
-use Rattle.proc_table.specs.Laws.{IsLeast, LeastOrNone}
 use Rattle.proc_table.proofs.Every.{every_found}
 use Rattle.proc_table.proofs.Least.{next_tracee-least, next_child-least}
 use Rattle.proc_table.proofs.Rows.{found_row}
 use Rattle.proc_table.proofs.Stays.{named-untraced}
-use Rattle.trace_stop.specs.Post.{notified}
-use Rattle.trace_stop.specs.End.{orphaned, uncollected, collector}
 use Rattle.process_end.specs.Laws.{end_alone}
 use Rattle.process_end.specs.Leaving.{LeavingRow, IsLeaving}
 use Rattle.trace_stop.proofs.Every.{by_bool, choose, and_left, any_holds, All-any, find_some}
-use Rattle.process_end.proofs.Turned.{is_gone, gone-false}
+use Rattle.process_end.proofs.Turned.{is_gone}
 use Rattle.process_end.proofs.Twice.{alone}
 use Rattle.process_end.proofs.Leaving.{is_alone, same_lwp, put, out, put_tell, put_tell_lwp, set_each, drop_each, set_tell}
 use Rattle.process_end.proofs.LeafSteps.{orphan, out_leaving, out_same, put_leaving, put_same}
 use Rattle.process_end.proofs.LeafTells.{untrace, unless_this, untold_leaving, untold_same}
-use Rattle.process_end.proofs.Unnamed.{one_fewer, its_row, out_passes, orphan_passes, untold_passes, none_edited}
+use Rattle.process_end.proofs.LeafLives.{one_fewer}
+use Rattle.process_end.proofs.Unnamed.{its_row, out_passes, orphan_passes, untold_passes, none_edited}
 
 -- Who collects
-
-pub collected : (z : ProcData) → is_gone z ≡ false → option_map collector (uncollected z) ≡ Some (collector z)
-collected z left = ap (option_map collector) (gone-false z left)
 
 pub collector_none : (z : ProcData) → option_map collector (uncollected z) ≡ None → is_gone z ≡ true
 collector_none z none = grind (arith, nat_tests, none)
@@ -55,6 +43,12 @@ orphan_is : (q : ℕ) (z : ProcData) → traces q z ≡ true → orphaned (alone
 unfolding alone
 orphan_is q z traced = ap (λ (o : Option ℕ). record z { tracer = o; parent = if z.parent == q then 1 else z.parent }) (unless_this q z.tracer traced)
 
+-- what a step on the way to q's end leaves, where it takes one of those that pass a test
+pub record Step (q : ℕ) (t : ProcData → Bool) (rows rows' : Rows) : Type 0 where
+  pub leaving : IsLeaving q rows'
+  pub fewer : count_by t rows'.processes < count_by t rows.processes
+  pub same : (w : ℕ) → end_alone q w rows' ≡ end_alone q w rows
+
 module _ (q : ℕ) (rows rows' : Rows) (kept : IsKept rows) (v : IsLeaving q rows) (z : ProcData) (at : process_of z.pid rows.processes ≡ Some z) where
   pub listed : IsRow rows z.pid
   listed = found_row z.pid z rows.processes at
@@ -62,10 +56,14 @@ module _ (q : ℕ) (rows rows' : Rows) (kept : IsKept rows) (v : IsLeaving q row
   z_fits : LeavingRow v.alive q z
   z_fits = (find_some (λ r. r.pid == z.pid) (LeavingRow v.alive q) rows.processes v.processes z at).0
 
-  fewer : (t : ProcData → Bool) (f : ProcData → Option ProcData) (h : ProcData → LwpData → Option LwpData) → rows' ≡ each f h rows
-      → ((r : ProcData) → passes t (f r) ≡ (t r && not (r.pid == z.pid))) → t z ≡ true → count_by t rows'.processes < count_by t rows.processes
-  fewer t f h made all is = subst (λ (rs : Rows). count_by t rs.processes < count_by t rows.processes) (sym made)
-      (one_fewer t f z.pid rows.processes (All-any _ all rows.processes) (its_row t rows z.pid z kept at is))
+  step : (t : ProcData → Bool) (f : ProcData → Option ProcData) (h : ProcData → LwpData → Option LwpData) → rows' ≡ each f h rows
+      → IsLeaving q (each f h rows) → ((w : ℕ) → end_alone q w (each f h rows) ≡ end_alone q w rows)
+      → ((r : ProcData) → passes t (f r) ≡ (t r && not (r.pid == z.pid))) → t z ≡ true → Step q t rows rows'
+  step t f h made leaving same all is = record {
+    leaving = subst (IsLeaving q) (sym made) leaving;
+    fewer = subst (λ (rs : Rows). count_by t rs.processes < count_by t rows.processes) (sym made) (one_fewer t f z.pid rows.processes (All-any _ all rows.processes) (its_row t rows z.pid z kept at is));
+    same = λ w. ap (end_alone q w) made ∙ same w;
+  }
 
   module _ (traced : traces q z ≡ true) where
     pub tracee-ended : is_live z ≡ false
@@ -75,17 +73,9 @@ module _ (q : ℕ) (rows rows' : Rows) (kept : IsKept rows) (v : IsLeaving q row
       tracee-gone : is_gone (orphaned (alone q) z) ≡ true
       tracee-gone = ap is_gone (orphan_is q z traced) ∙ collector_none (orphan_of q z) none
 
-      tracee-out : rows' ≡ each (out z.pid) same_lwp rows
-      tracee-out = made ∙ drop_each z.pid rows
-
-      pub tracee_out-leaving : IsLeaving q rows'
-      tracee_out-leaving = subst (IsLeaving q) (sym tracee-out) (out_leaving q z.pid rows v kept.rising z at tracee-ended tracee-gone)
-
-      pub tracee_out-fewer : count_by (traces q) rows'.processes < count_by (traces q) rows.processes
-      tracee_out-fewer = fewer (traces q) (out z.pid) same_lwp tracee-out (out_passes (traces q) z.pid) traced
-
-      pub tracee_out-same : (w : ℕ) → end_alone q w rows' ≡ end_alone q w rows
-      tracee_out-same w = ap (end_alone q w) tracee-out ∙ out_same q z.pid rows v kept.rising z at tracee-ended tracee-gone w
+      pub tracee_out : Step q (traces q) rows rows'
+      tracee_out = step (traces q) (out z.pid) same_lwp (made ∙ drop_each z.pid rows)
+          (out_leaving q z.pid rows v kept.rising z at tracee-ended tracee-gone) (out_same q z.pid rows v kept.rising z at tracee-ended tracee-gone) (out_passes (traces q) z.pid) traced
 
     module _ (m : ℕ) (some : option_map collector (uncollected (orphan_of q z)) ≡ Some m) where
       tracee-left : is_gone (orphan_of q z) ≡ false
@@ -117,14 +107,10 @@ module _ (q : ℕ) (rows rows' : Rows) (kept : IsKept rows) (v : IsLeaving q row
             ∙ ap (λ k. notified (z.parent ∷ []) (set_process k rows)) tracee-untraced
             ∙ set_tell z.pid untrace z.parent rows z (λ r. refl) kept.rising at refl
 
-        pub tracee_told-leaving : IsLeaving q rows'
-        tracee_told-leaving = subst (IsLeaving q) (sym tracee-told) (untold_leaving q z.pid rows v kept.rising z at tracee-ended traced tracee-not_one tracee-apart)
-
-        pub tracee_told-fewer : count_by (traces q) rows'.processes < count_by (traces q) rows.processes
-        tracee_told-fewer = fewer (traces q) (put_tell z.pid untrace z.parent) (put_tell_lwp z.pid untrace z.parent) tracee-told (untold_passes q z.pid z.parent) traced
-
-        pub tracee_told-same : (w : ℕ) → end_alone q w rows' ≡ end_alone q w rows
-        tracee_told-same w = ap (end_alone q w) tracee-told ∙ untold_same q z.pid rows v kept.rising z at tracee-ended traced tracee-not_one tracee-apart w
+        pub tracee_told : Step q (traces q) rows rows'
+        tracee_told = step (traces q) (put_tell z.pid untrace z.parent) (put_tell_lwp z.pid untrace z.parent) tracee-told
+            (untold_leaving q z.pid rows v kept.rising z at tracee-ended traced tracee-not_one tracee-apart) (untold_same q z.pid rows v kept.rising z at tracee-ended traced tracee-not_one tracee-apart)
+            (untold_passes q z.pid z.parent) traced
 
   -- A child
   module _ (untraced : list_any (traces q) rows.processes ≡ false) (child : (z.parent == q) ≡ true) where
@@ -143,18 +129,13 @@ module _ (q : ℕ) (rows rows' : Rows) (kept : IsKept rows) (v : IsLeaving q row
       child-out : rows' ≡ each (out z.pid) same_lwp rows
       child-out = made ∙ drop_each z.pid rows
 
-      pub child_out-leaving : IsLeaving q rows'
-      child_out-leaving = subst (IsLeaving q) (sym child-out) (out_leaving q z.pid rows v kept.rising z at (child-ended stays) child-gone)
-
       pub child_out-untraced : list_any (traces q) rows'.processes ≡ false
       child_out-untraced = ap (λ (rs : Rows). list_any (traces q) rs.processes) child-out
           ∙ none_edited (traces q) (out z.pid) rows.processes (λ r is. and_left (traces q r) _ (sym (out_passes (traces q) z.pid r) ∙ is)) untraced
 
-      pub child_out-fewer : count_by (λ r. r.parent == q) rows'.processes < count_by (λ r. r.parent == q) rows.processes
-      child_out-fewer = fewer (λ r. r.parent == q) (out z.pid) same_lwp child-out (out_passes (λ r. r.parent == q) z.pid) child
-
-      pub child_out-same : (w : ℕ) → end_alone q w rows' ≡ end_alone q w rows
-      child_out-same w = ap (end_alone q w) child-out ∙ out_same q z.pid rows v kept.rising z at (child-ended stays) child-gone w
+      pub child_out : Step q (λ r. r.parent == q) rows rows'
+      child_out = step (λ r. r.parent == q) (out z.pid) same_lwp child-out
+          (out_leaving q z.pid rows v kept.rising z at (child-ended stays) child-gone) (out_same q z.pid rows v kept.rising z at (child-ended stays) child-gone) (out_passes (λ r. r.parent == q) z.pid) child
 
     pub child-named : Named rows (orphan z)
     child-named =
@@ -168,15 +149,10 @@ module _ (q : ℕ) (rows rows' : Rows) (kept : IsKept rows) (v : IsLeaving q row
       child-put : rows' ≡ each (put z.pid orphan) same_lwp rows
       child-put = made ∙ set_each z.pid orphan rows z kept.rising at refl
 
-      pub child_put-leaving : IsLeaving q rows'
-      child_put-leaving = subst (IsLeaving q) (sym child-put) (put_leaving q z.pid rows v kept.rising z at (sym (is_alone q z.parent) ∙ child) child-some)
-
       pub child_put-untraced : list_any (traces q) rows'.processes ≡ false
       child_put-untraced = ap (λ (rs : Rows). list_any (traces q) rs.processes) child-put
           ∙ none_edited (traces q) (put z.pid orphan) rows.processes (λ r. choose (r.pid == z.pid) (orphan r) r (λ k. traces q k ≡ true → traces q r ≡ true) (λ e is. is) (λ e is. is)) untraced
 
-      pub child_put-fewer : count_by (λ r. r.parent == q) rows'.processes < count_by (λ r. r.parent == q) rows.processes
-      child_put-fewer = fewer (λ r. r.parent == q) (put z.pid orphan) same_lwp child-put (orphan_passes q z.pid q_row) child
-
-      pub child_put-same : (w : ℕ) → end_alone q w rows' ≡ end_alone q w rows
-      child_put-same w = ap (end_alone q w) child-put ∙ put_same q z.pid rows v kept.rising z at (sym (is_alone q z.parent) ∙ child) child-some w
+      pub child_put : Step q (λ r. r.parent == q) rows rows'
+      child_put = step (λ r. r.parent == q) (put z.pid orphan) same_lwp child-put
+          (put_leaving q z.pid rows v kept.rising z at (sym (is_alone q z.parent) ∙ child) child-some) (put_same q z.pid rows v kept.rising z at (sym (is_alone q z.parent) ∙ child) child-some) (orphan_passes q z.pid q_row) child

@@ -1,10 +1,6 @@
 -- Who is told of an end, when a process that is doomed and traces no live one ends before the process that dooms it.
 use Rattle.std.proofs.Common.{◌≡◌, ℕ, Bool, true, false, not, ◌&&◌, ◌||◌, ◌==◌, if◌then◌else◌, Option, Some, None, option_map, ap, ◌⊎◌, arith, rules}
-use Rattle.std.proofs.lemmas.Bool.Decides.{nat_tests}
-use Rattle.signals.specs.Table.{SIGKILL}
-use Rattle.proc_table.specs.declared.ProcData.{ProcData}
-use Rattle.proc_table.specs.Processes.{is_live, is_this}
-use Rattle.trace_stop.specs.End.{unless, holds_of, uncollected, collector, notifies_of}
+use Rattle.trace_stop.proofs.Words.{nat_tests, SIGKILL, ProcData, is_live, is_this, unless, holds_of, uncollected, collector, notifies_of}
 use Rattle.trace_stop.proofs.Every.{and_right}
 use Rattle.trace_stop.proofs.Passes.{passes}
 use Rattle.process_end.proofs.Turned.{heard, moved, fallen, notified_row, turned, turned-safe}

@@ -1,15 +1,8 @@
 -- What the end of a process makes of each row, with those who are told of it.
 use Rattle.std.proofs.Common.{◌≡◌, ℕ, Bool, true, false, ◌&&◌, ◌==◌, if◌then◌else◌, Option, Some, None, is_none, refl, ap, arith, bit_or, rules}
-use Rattle.std.specs.Option.{option_and_then}
+use Rattle.trace_stop.proofs.Words.{option_and_then, without, SIGKILL, SIGCHLD, ProcData, LwpData, is_live, by_owner, unwanted, posted_process, posted_lwp, orphaned, dead, uncollected, process_after}
+use Rattle.trace_stop.proofs.Words.{released, lwp_after}
 use Rattle.std.proofs.lemmas.Nat.Bits.{bit_at_or, bit_at_xor, same_from_bits}
-use Rattle.signals.specs.Sets.{without}
-use Rattle.signals.specs.Table.{SIGKILL, SIGCHLD}
-use Rattle.proc_table.specs.declared.ProcData.{ProcData}
-use Rattle.lwp_table.specs.declared.LwpData.{LwpData}
-use Rattle.proc_table.specs.Processes.{is_live}
-use Rattle.proc_table.specs.Rows.{by_owner}
-use Rattle.trace_stop.specs.Post.{unwanted, posted_process, posted_lwp}
-use Rattle.trace_stop.specs.End.{orphaned, dead, uncollected, process_after, released, lwp_after}
 
 -- SIGCHLD posted to a process, and to an LWP of it
 unfoldable pub heard : ProcData → ProcData
@@ -55,17 +48,9 @@ unfoldable pub turned_lwp : (ℕ → Bool) → ℕ → ℕ → (ℕ → Bool) �
 turned_lwp over p status told r l =
     option_and_then (λ k. by_owner (λ s j. Some (notified_lwp told s j)) k (process_after (fallen over) over p status r)) (lwp_after (fallen over) over r l)
 
-pub told-hit : (told : ℕ → Bool) (p : ProcData) → told p.pid ≡ true → notified_row told p ≡ heard p
-unfolding notified_row
-told-hit told p is = rw is refl
-
 pub told-miss : (told : ℕ → Bool) (p : ProcData) → told p.pid ≡ false → notified_row told p ≡ p
 unfolding notified_row
 told-miss told p is = rw is refl
-
-pub notified_lwp-hit : (told : ℕ → Bool) (p : ProcData) (l : LwpData) → told p.pid ≡ true → notified_lwp told p l ≡ heard_lwp p l
-unfolding notified_lwp
-notified_lwp-hit told p l is = rw is refl
 
 pub notified_lwp-miss : (told : ℕ → Bool) (p : ProcData) (l : LwpData) → told p.pid ≡ false → notified_lwp told p l ≡ l
 unfolding notified_lwp

@@ -1,13 +1,6 @@
 -- One row, when a process that is doomed and traces no live one ends before the process that dooms it.
-use Rattle.std.proofs.Common.{◌≡◌, ℕ, Bool, true, false, not, ◌&&◌, ◌||◌, ◌==◌, if◌then◌else◌, Option, Some, None, refl, sym, ap, ◌∙◌, eqb-true, arith, rules}
-use Rattle.std.specs.Option.{option_and_then}
-use Rattle.signals.specs.Table.{SIGKILL}
-use Rattle.proc_table.specs.Rows.{by_owner}
-use Rattle.proc_table.specs.declared.ProcData.{ProcData}
-use Rattle.lwp_table.specs.declared.LwpData.{LwpData}
-use Rattle.proc_table.specs.Processes.{is_live}
-use Rattle.trace_stop.specs.End.{unless, holds_of, orphaned, dead, uncollected, released}
-use Rattle.std.proofs.lemmas.Bool.Decides.{nat_tests}
+use Rattle.std.proofs.Common.{◌≡◌, ℕ, Bool, true, false, not, ◌&&◌, ◌||◌, ◌==◌, if◌then◌else◌, Option, Some, None, refl, sym, ap, ◌∙◌, arith, rules}
+use Rattle.trace_stop.proofs.Words.{option_and_then, SIGKILL, by_owner, ProcData, LwpData, is_live, unless, holds_of, orphaned, dead, uncollected, released, nat_tests}
 use Rattle.process_end.proofs.Turned.{heard, heard_lwp, heard_twice, heard_lwp_twice, moved, notified_row, notified_lwp, turned, turned_lwp, turned-fallen, turned-safe, turned_lwp-fallen, turned_lwp-safe}
 
 -- the doom of q alone, and a doom without q
@@ -16,10 +9,6 @@ alone q n = n == q
 
 unfoldable pub rest : (ℕ → Bool) → ℕ → ℕ → Bool
 rest d q n = d n && not (n == q)
-
-pub same_doom : (d : ℕ → Bool) (q n : ℕ) → d q ≡ true → alone q n ≡ true → d n ≡ true
-unfolding alone
-same_doom d q n dq e = ap d (eqb-true n q e) ∙ dq
 
 pub rest-same : (d : ℕ → Bool) (q n : ℕ) → alone q n ≡ true → rest d q n ≡ false
 unfolding rest alone

@@ -1,29 +1,15 @@
 -- A row that no row names may be taken out, and what each step on the way to a process's end leaves fewer of.
-use Rattle.std.proofs.Common.{◌≡◌, ℕ, ◌<◌, List, [], ◌∷◌, find, filter_map, Bool, true, false, not, ◌&&◌, ◌==◌, Option, Some, None, IfSome, refl, sym, ap, ◌∙◌, arith, true≢false, eqb-true, eq-eqb, rules}
+use Rattle.std.proofs.Common.{◌≡◌, ℕ, List, [], ◌∷◌, find, filter_map, Bool, true, false, not, ◌&&◌, ◌==◌, Option, Some, None, IfSome, refl, sym, ap, ◌∙◌, arith, true≢false, eqb-true, eq-eqb, rules, ltb}
 use Rattle.std.proofs.Math.Bool.{and-false}
-use Rattle.std.proofs.lemmas.Bool.Decides.{nat_tests}
-use Rattle.std.specs.Prelude.{count_by, ltb}
-use Rattle.std.specs.List.{AllByRecursion, list_any}
-use Rattle.lwp_table.specs.Lwps.{first_lwp}
-use Rattle.proc_table.specs.declared.ProcData.{ProcData}
-use Rattle.proc_table.specs.Processes.{process_of, is_live, is_this, traces}
-use Rattle.proc_table.specs.Rows.{Rows}
-use Rattle.proc_table.specs.Walks.{next_tracee, next_child}
-use Rattle.proc_table.specs.Kept.{AtHome, IsKept}
+use Rattle.trace_stop.proofs.Words.{nat_tests, AllByRecursion, list_any, first_lwp, ProcData, process_of, is_live, is_this, traces, Rows, next_tracee, next_child, AtHome, IsKept}
 use Rattle.process_end.specs.Leaving.{LeavingRow, LeavingLwp, IsLeaving}
-use Rattle.trace_stop.proofs.Every.{by_bool, All-imply, any_more, find_some, none_of, none_passes}
+use Rattle.trace_stop.proofs.Every.{by_bool, All-imply, find_some, find_none, none_of, none_passes}
 use Rattle.trace_stop.proofs.Passes.{passes, any_edited}
-use Rattle.process_end.proofs.Remains.{count_kept}
-use Rattle.process_end.proofs.LeafLives.{count_split, any_counts, and_swap}
 use Rattle.process_end.proofs.Turned.{heard, notified_row}
 use Rattle.trace_stop.proofs.Found.{any_by_number}
 use Rattle.process_end.proofs.Leaving.{put, out, put_tell}
 use Rattle.process_end.proofs.LeafSteps.{orphan}
 use Rattle.process_end.proofs.LeafTells.{untrace}
-
-pub find_none : {X : Type 0} (q : X → Bool) (xs : List X) → AllByRecursion (λ x. q x ≡ false) xs → find q xs ≡ None
-find_none q [] all = refl
-find_none q (x ∷ xs) all = rw (all.0, find_none q xs all.1) refl
 
 -- no row passes a test where none above zero does
 pub none_from : (t : ProcData → Bool) (ps : List ProcData) → AllByRecursion AtHome ps → find (λ p. ltb 0 p.pid && t p) ps ≡ None → list_any t ps ≡ false
@@ -66,15 +52,7 @@ unnamed t ps none = find_none _ ps (All-imply _ _ (λ r e. ap (λ b. ltb 0 r.pid
 pub left-lwps : (q : ℕ) (rows : Rows) → IsLeaving q rows → first_lwp q rows.lwps ≡ None
 left-lwps q rows v = find_none _ rows.lwps (All-imply (LeavingLwp v.alive q) _ (λ l h. h.other) rows.lwps v.lwps)
 
--- Fewer
-
-module _ (t : ProcData → Bool) (f : ProcData → Option ProcData) (n : ℕ) (ps : List ProcData) (all : AllByRecursion (λ r. passes t (f r) ≡ (t r && not (r.pid == n))) ps) where
-  pub one_fewer : list_any (λ r. (r.pid == n) && t r) ps ≡ true → count_by t (filter_map f ps) < count_by t ps
-  one_fewer is =
-      let kept = count_kept f (λ r. t r && not (r.pid == n)) t ps all in
-      let split = count_split t (λ r. r.pid == n) ps in
-      let one = any_counts (λ r. t r && (r.pid == n)) ps (any_more (λ r. (r.pid == n) && t r) (λ r. t r && (r.pid == n)) (λ r. and_swap (r.pid == n) (t r)) ps is) in
-      omega (arith, kept, split, one)
+-- Steps
 
 pub its_row : (t : ProcData → Bool) (rows : Rows) (n : ℕ) (z : ProcData) → IsKept rows → process_of n rows.processes ≡ Some z → t z ≡ true → list_any (λ r. (r.pid == n) && t r) rows.processes ≡ true
 its_row t rows n z kept at is = any_by_number t n rows.processes kept.rising ∙ ap (passes t) at ∙ is

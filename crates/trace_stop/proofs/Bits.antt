@@ -4,14 +4,8 @@ use Rattle.std.specs.Int.{bit_at}
 use Rattle.std.proofs.lemmas.Nat.Bits.{bit_at_and, bit_at_or, bit_at_xor, bit_at-lt, bit_at-zero, same_from_bits}
 use Rattle.signals.specs.Sets.{without}
 
-none_of_both : (x y : ℕ) → x < 2 → y < 2 → min ((max x y + y) % 2) y ≡ 0
-none_of_both x y a b = omega arith
-
 pub without_apart : (a b : ℕ) → bit_and (without a b) b ≡ 0
-without_apart a b = same_from_bits (bit_and (without a b) b) 0
-    (λ i. bit_at_and (without a b) b i
-    ∙ (ap (λ x. min x (bit_at b i)) (bit_at_xor (bit_or a b) b i ∙ ap (λ x. (x + bit_at b i) % 2) (bit_at_or a b i))
-    ∙ (none_of_both (bit_at a i) (bit_at b i) (bit_at-lt a i) (bit_at-lt b i) ∙ sym (bit_at-zero i))))
+without_apart a b = same_from_bits _ _ (λ i. simp (bit_at_and, bit_at_or, bit_at_xor, bit_at-zero) (omega arith))
 
 less_of_both : (x y z : ℕ) → x < 2 → y < 2 → z < 2 → min x y ≡ 0 → min ((max x z + z) % 2) y ≡ 0
 less_of_both x y z a b c none = omega (arith, none)

@@ -1,29 +1,18 @@
 -- A sound host with one more process and its first LWP, or with one more LWP, is sound.
-use Rattle.std.proofs.Common.{◌≡◌, ◌≢◌, ℕ, ◌+◌, ◌<◌, ◌≤◌, List, [], ◌∷◌, ◌++◌, find, Bool, true, false, cond, ◌==◌, ◌&&◌, Some, None, IfSome, refl, sym, ap, ◌∙◌, arith, eqb, true≢false, eqb-true, subst, eq-eqb, length-set, rules}
-use Rattle.std.specs.Prelude.{count_by}
-use Rattle.std.specs.List.{AllByRecursion, list_any}
+use Rattle.std.proofs.Common.{◌≡◌, ◌≢◌, ℕ, ◌+◌, ◌<◌, ◌≤◌, List, [], ◌∷◌, ◌++◌, Bool, true, false, cond, ◌==◌, ◌&&◌, Some, None, IfSome, refl, sym, ap, ◌∙◌, arith, true≢false, eqb-true, subst, eq-eqb, length-set, rules, count_by}
+use Rattle.trace_stop.proofs.Words.{AllByRecursion, list_any, IsUser, slot, pid_block, tid_block, InBlock, cursor_after, shows, PL_FLAG_EXITED, LwpData, Differ, ProcData, is_live, reporting}
+use Rattle.trace_stop.proofs.Words.{process_of, placed, Rows, owns, is_process, is_lwp, add_process, add_lwp, process_count, lwp_count_of, AtHome, Housed, tracer_in, tracer_of, names_own, IsLiveOf}
+use Rattle.trace_stop.proofs.Words.{IsLiveChild, Linked, FitProcess, waited_for, Standing, FitLwp, WithOwner, IsSound}
 use Rattle.std.proofs.lemmas.List.Folds.{list_any-append}
-use Rattle.pid_blocks.specs.Users.{IsUser}
-use Rattle.pid_blocks.specs.Blocks.{slot, pid_block, tid_block, InBlock, cursor_after}
-use Rattle.event_masks.specs.Exits.{shows}
-use Rattle.event_masks.specs.declared.TheConstants.StopFlags.{PL_FLAG_EXITED}
-use Rattle.lwp_table.specs.declared.LwpData.{LwpData}
-use Rattle.lwp_table.specs.Lwps.{Differ}
-use Rattle.proc_table.specs.declared.ProcData.{ProcData}
-use Rattle.proc_table.specs.Processes.{is_live, reporting, process_of, placed}
-use Rattle.proc_table.specs.Rows.{Rows}
-use Rattle.proc_table.specs.Seen.{owns}
-use Rattle.proc_table.specs.Fresh.{is_process, is_lwp, add_process, add_lwp, process_count, lwp_count_of}
 use Rattle.proc_table.proofs.Cursors.{InBlock-after, cursors-set}
 use Rattle.proc_table.proofs.Lwps.{LacksLwp-from_any, Differ-push}
-use Rattle.proc_table.specs.Kept.{AtHome, Housed}
-use Rattle.trace_stop.specs.End.{tracer_in, tracer_of}
-use Rattle.trace_stop.specs.Sound.{names_own}
-use Rattle.trace_stop.specs.Facts.{IsLiveOf, IsLiveChild, Linked, FitProcess, waited_for, Standing, FitLwp, WithOwner, IsSound}
-use Rattle.trace_stop.proofs.Every.{and_left, or_true, by_bool, All-imply, All-both, All-append, find_some, any_holds, none_of, any_more, count-cons, count-append, count_same}
+use Rattle.trace_stop.proofs.Every.{not_same, and_left, or_true, by_bool, All-imply, All-both, All-append, find_some, find_passes, any_holds, none_of, any_more, count-cons, count-append, count_same}
 use Rattle.trace_stop.proofs.Children.{child_test}
 use Rattle.trace_stop.proofs.Edited.{If_more}
-use Rattle.trace_stop.proofs.Placed.{Rise-placed, any-placed, count-placed, process_of-other, process_of-placed, All-placed, TracesNone, meets_other, meets_new}
+use Rattle.trace_stop.proofs.Placed.{any-placed, count-placed, process_of-other, process_of-placed, TracesNone, meets_other, meets_new}
+use Rattle.proc_table.proofs.Rows.{process_of-pid}
+use Rattle.proc_table.proofs.Placed.{Rise-placed, every_placed}
+use Rattle.proc_table.proofs.Rising.{Lacks-from_any}
 
 -- a new process with its first LWP, whose user has room for both
 pub record Born (rows : Rows) (p : ProcData) (l : LwpData) : Type 0 where
@@ -44,9 +33,6 @@ pub record Born (rows : Rows) (p : ProcData) (l : LwpData) : Type 0 where
   pub fit_lwp : FitLwp p l
 
 -- numbers
-
-pub not_same : (a b : ℕ) → eqb a b ≡ false → a ≢ b
-not_same a b is same = true≢false (sym (eq-eqb a b same) ∙ is)
 
 pub differ_new : (rows : Rows) (l : LwpData) → Differ rows.lwps → is_lwp rows l.tid ≡ false → Differ (rows.lwps ++ (l ∷ []))
 differ_new rows l all new = Differ-push rows.lwps l all (LacksLwp-from_any l.tid rows.lwps new)
@@ -72,18 +58,16 @@ traces_none : (rows : Rows) (n : ℕ) → is_process rows n ≡ false → AllByR
 traces_none rows n free all m t is = search (rules, named_other, find_some)
 
 home_other : (rows : Rows) (n : ℕ) → is_process rows n ≡ false → (l : LwpData) → Housed rows l → l.pid ≢ n
-home_other rows n free l home same = true≢false (sym (any_at (λ p. p.pid == n) (λ p. p.pid == l.pid) (λ p e. eq-eqb p.pid n (eqb-true p.pid l.pid e ∙ same)) rows.processes home.0 home.1) ∙ free)
+home_other rows n free l home same = true≢false (sym (find_passes (λ p. p.pid == l.pid) (λ p. p.pid == n) rows.processes home.0 home.1 (eq-eqb home.0.pid n (process_of-pid l.pid home.0 rows.processes home.1 ∙ same))) ∙ free)
+
+-- one more, which may be that of a user who has room for it, is none too many
+pub still_few : (count : ℕ → ℕ) (v u most all : ℕ) (mine : Bool) → all ≡ count u + cond mine 1 0 → ((v == u) ≡ false → mine ≡ false) → count v < most → count u ≤ most → all ≤ most
+still_few count v u most all false is other room few = omega (arith, is, few)
+still_few count v u most all true is other room few = by_user (v == u) refl
   where
-    any_at : (q t : ProcData → Bool) → ((p : ProcData) → t p ≡ true → q p ≡ true) → (ps : List ProcData) (p : ProcData) → find t ps ≡ Some p → list_any q ps ≡ true
-    any_at q t h [] p is = absurd (grind (arith, is))
-    any_at q t h (x ∷ ps) p is = grind (arith, h x, any_at q t h ps p, is)
-
-find_any : {X : Type 0} (q : X → Bool) (xs : List X) (x : X) → find q xs ≡ Some x → list_any q xs ≡ true
-find_any q [] x is = absurd (grind (arith, is))
-find_any q (y ∷ xs) x is = grind (arith, find_any q xs x, is)
-
-pub cond_at_most : (b : Bool) → cond b 1 0 ≤ 1
-cond_at_most b = grind arith
+    by_user : (b : Bool) → (v == u) ≡ b → all ≤ most
+    by_user true e = let more = subst (λ w. count w < most) (eqb-true v u e) room in omega (arith, is, more)
+    by_user false e = absurd (true≢false (other e))
 
 module _ (rows : Rows) (p : ProcData) (l : LwpData) (s : IsSound rows) (b : Born rows p l) where
   abbrev ps : List ProcData
@@ -165,24 +149,14 @@ module _ (rows : Rows) (p : ProcData) (l : LwpData) (s : IsSound rows) (b : Born
   owns_new u ne = search (rules, any-placed, by_bool, eqb-true, any_more, eq-eqb, and_left)
 
   few_processes : (u : ℕ) → IsUser u → process_count u made ≤ 250
-  few_processes u user = by_user (eqb p.uid u) refl
-    where
-      all : process_count u made ≡ cond (p.uid == u) 1 0 + process_count u rows
-      all = count-placed p ps s.stands.rising b.free (λ q. q.uid == u)
-
-      by_user : (c : Bool) → eqb p.uid u ≡ c → process_count u made ≤ 250
-      by_user true e = let room = b.processes in let same = eqb-true p.uid u e in let most : process_count u rows < 250 = subst (λ w. process_count w rows < 250) same room in let one = cond_at_most (p.uid == u) in omega (arith, all, most, one)
-      by_user false e = let most = s.stands.few_processes u user in let none : cond {A = ℕ} (p.uid == u) 1 0 ≡ 0 = rw e refl in omega (arith, all, most, none)
+  few_processes u user = let all = count-placed p ps s.stands.rising b.free (λ q. q.uid == u) in
+      still_few (λ w. process_count w rows) p.uid u 250 (process_count u made) (p.uid == u) (omega (arith, all)) (λ e. e) b.processes (s.stands.few_processes u user)
 
   few_lwps : (u : ℕ) → IsUser u → lwp_count_of u made ≤ 1000
-  few_lwps u user = by_user (eqb p.uid u) refl
+  few_lwps u user = still_few (λ w. lwp_count_of w rows) p.uid u 1000 (lwp_count_of u made) (owns u l.pid (placed p ps)) all (λ e. owns_new u (not_same p.uid u e)) b.lwps (s.stands.few_lwps u user)
     where
       all : lwp_count_of u made ≡ lwp_count_of u rows + cond (owns u l.pid (placed p ps)) 1 0
       all = count_last (λ k. owns u k.pid (placed p ps)) rows.lwps l ∙ ap (λ n. n + cond (owns u l.pid (placed p ps)) 1 0) (count_same (λ k. owns u k.pid (placed p ps)) (λ k. owns u k.pid ps) rows.lwps (All-imply (λ k. k.pid ≢ p.pid) (λ k. owns u k.pid (placed p ps) ≡ owns u k.pid ps) (λ k ne. owns_old u k.pid ne) rows.lwps apart))
-
-      by_user : (c : Bool) → eqb p.uid u ≡ c → lwp_count_of u made ≤ 1000
-      by_user true e = let same = eqb-true p.uid u e in let most : lwp_count_of u rows < 1000 = subst (λ w. lwp_count_of w rows < 1000) same b.lwps in let one = cond_at_most (owns u l.pid (placed p ps)) in omega (arith, all, most, one)
-      by_user false e = let most = s.stands.few_lwps u user in let none : cond {A = ℕ} (owns u l.pid (placed p ps)) 1 0 ≡ 0 = rw (owns_new u (not_same p.uid u e)) refl in omega (arith, all, most, none)
 
   housed_old : (k : LwpData) → (k.pid ≢ p.pid) × Housed rows k → Housed made k
   housed_old k h = (h.1.0, owner_old k h.0 ∙ h.1.1, h.1.2)
@@ -190,9 +164,9 @@ module _ (rows : Rows) (p : ProcData) (l : LwpData) (s : IsSound rows) (b : Born
   pub born_sound : IsSound made
   born_sound = record {
     stands = record {
-      rising = Rise-placed p ps s.stands.rising;
+      rising = Rise-placed p ps s.stands.rising (Lacks-from_any p.pid ps b.free);
       differ = differ_new rows l s.stands.differ b.new;
-      homes = All-placed AtHome p ps s.stands.homes b.home;
+      homes = every_placed AtHome p ps b.home s.stands.homes;
       housed = All-append (Housed made) rows.lwps (l ∷ []) (All-imply (λ k. (k.pid ≢ p.pid) × Housed rows k) (Housed made) housed_old rows.lwps (All-both _ (Housed rows) rows.lwps apart s.stands.housed)) ((p, owner_new, b.tid), tt);
       pid_slots = length-set rows.pid_cursors (slot p.uid) _ ∙ s.stands.pid_slots;
       tid_slots = length-set rows.tid_cursors (slot p.uid) _ ∙ s.stands.tid_slots;
@@ -200,9 +174,9 @@ module _ (rows : Rows) (p : ProcData) (l : LwpData) (s : IsSound rows) (b : Born
       tid_cursors = cursors-set tid_block rows.tid_cursors p.uid (cursor_after (tid_block p.uid) l.tid) b.home.user s.stands.tid_slots (InBlock-after (tid_block p.uid) l.tid b.tid (omega arith)) s.stands.tid_cursors;
       few_processes = few_processes;
       few_lwps = few_lwps;
-      linked = All-placed (Linked made) p ps (All-imply (λ q. (q.pid ≢ p.pid) × Linked rows q) (Linked made) linked_old ps (All-both _ (Linked rows) ps other s.stands.linked)) linked_new;
+      linked = every_placed (Linked made) p ps linked_new (All-imply (λ q. (q.pid ≢ p.pid) × Linked rows q) (Linked made) linked_old ps (All-both _ (Linked rows) ps other s.stands.linked));
       standing = All-append (WithOwner made (Standing made)) rows.lwps (l ∷ []) (All-imply (λ k. (k.pid ≢ p.pid) × WithOwner rows (Standing rows) k) _ standing_old rows.lwps (All-both _ (WithOwner rows (Standing rows)) rows.lwps apart s.stands.standing)) (standing_new, tt);
     };
-    processes = All-placed FitProcess p ps s.processes b.fits;
+    processes = every_placed FitProcess p ps b.fits s.processes;
     lwps = All-append (WithOwner made FitLwp) rows.lwps (l ∷ []) (All-imply (λ k. (k.pid ≢ p.pid) × WithOwner rows FitLwp k) (WithOwner made FitLwp) (λ k h q at. h.1 q (sym (owner_old k h.0) ∙ at)) rows.lwps (All-both _ (WithOwner rows FitLwp) rows.lwps apart s.lwps)) ((λ q at. subst (λ r. FitLwp r l) (the_owner q at) b.fit_lwp), tt);
   }

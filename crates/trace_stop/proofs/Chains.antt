@@ -1,19 +1,12 @@
 -- Chains of tracers end within as many links as a user has processes, less one.
-use Rattle.std.proofs.lemmas.Bool.{cases_Bool}
-use Rattle.std.proofs.lemmas.Bool.Decides.{nat_tests}
-use Rattle.std.proofs.Common.{◌≡◌, ℕ, zero, suc, ◌+◌, ◌-◌, ◌≤◌, List, [], ◌∷◌, length, filter, find, Bool, true, false, not, ◌&&◌, ◌||◌, ◌==◌, Option, Some, None, IfSome, is_some, refl, sym, ap, ◌∙◌, arith, true≢false, eqb-true, eq-eqb, subst, inl, inr, rules}
-use Rattle.std.specs.Prelude.{count_by}
-use Rattle.std.specs.List.{AllByRecursion, list_any}
-use Rattle.std.proofs.lemmas.Bool.{cases_lt}
-use Rattle.proc_table.specs.declared.ProcData.{ProcData}
-use Rattle.proc_table.specs.Processes.{process_of, is_live}
-use Rattle.proc_table.specs.Rows.{Rows}
-use Rattle.proc_table.specs.Kept.{AtHome}
+use Rattle.trace_stop.proofs.Words.{cases_lt, nat_tests, AllByRecursion, list_any, ProcData, process_of, is_live, Rows, AtHome, IsLiveOf, Linked, Stands}
+use Rattle.std.proofs.Common.{◌≡◌, ℕ, zero, suc, ◌+◌, ◌-◌, ◌≤◌, List, [], ◌∷◌, length, filter, Bool, true, false, not, ◌&&◌, ◌||◌, ◌==◌, Option, Some, None, IfSome, refl, sym, ap, ◌∙◌, arith, true≢false, eqb-true, eq-eqb, subst, rules, count_by}
 use Rattle.trace_stop.specs.End.{tracer_in, tracer_of, holds_of, meets}
-use Rattle.trace_stop.specs.Facts.{IsLiveOf, Linked, Stands}
 use Rattle.trace_stop.specs.Laws.{onward, chain, ChainsEnd, ChainsMeet, TraceeDeeper}
-use Rattle.trace_stop.proofs.Every.{and_left, and_right, by_bool, All-imply, All-both, any_holds, any_more, find_some, count-cons}
+use Rattle.trace_stop.proofs.Every.{none_of, and_left, and_right, both, by_bool, find_passes, All-imply, All-both, any_holds, any_more, find_some, count-cons}
 use Rattle.trace_stop.proofs.Passes.{own_rows}
+use Rattle.proc_table.proofs.Rows.{process_of-pid}
+use Rattle.trace_stop.proofs.Edited.{If_more}
 
 -- A chain link by link
 
@@ -73,26 +66,15 @@ still_in : (u x y : ℕ) → (y == x) ≡ false → (ps : List ProcData) → lis
 still_in u x y other [] is = is
 still_in u x y other (p ∷ ps) is = grind (arith, nat_tests, other, is, still_in u x y other ps)
 
-others : (x : ℕ) (xs : List ℕ) → is_in xs x ≡ false → AllByRecursion (λ y. (y == x) ≡ false) xs
-others x [] is = tt
-others x (y ∷ ys) is = (grind (arith, is), others x ys (grind (arith, is)))
-
 no_more : (u : ℕ) (xs : List ℕ) (ps : List ProcData) → AllDiffer xs → AllByRecursion (λ x. list_any (is_row_of u x) ps ≡ true) xs → length xs ≤ count_by (of_user u) ps
 no_more u [] ps differ rows = omega arith
 no_more u (x ∷ xs) ps differ rows =
     let rest = no_more u xs (without_row x ps) differ.1
-    (All-imply (λ y. ((y == x) ≡ false) × (list_any (is_row_of u y) ps ≡ true)) _ (λ y h. still_in u x y h.0 ps h.1) xs (All-both _ _ xs (others x xs differ.0) rows.1)) in
+    (All-imply (λ y. ((y == x) ≡ false) × (list_any (is_row_of u y) ps ≡ true)) _ (λ y h. still_in u x y h.0 ps h.1) xs (All-both _ _ xs (none_of (λ y. y == x) xs differ.0) rows.1)) in
     let less = count-less u x ps rows.0 in
     omega (arith, rest, less)
 
 -- What a chain passes is what its links meet
-
-any_found : {X : Type 0} (q t : X → Bool) (xs : List X) (x : X) → find q xs ≡ Some x → t x ≡ true → list_any (λ y. q y && t y) xs ≡ true
-any_found q t [] x is has = absurd (true≢false (sym (ap is_some is)))
-any_found q t (y ∷ xs) x is has = elim (cases_Bool (q y)) [
-  | inl e ↦ let same : y ≡ x = grind (arith, e, is) in rw (e, same, has) refl
-  | inr e ↦ rw e (any_found q t xs x (rw e at is) has)
-]
 
 pub chain-suc : (k : ℕ) (ps : List ProcData) (n : ℕ) → chain (suc k) ps n ≡ n ∷ onward (chain k ps) (tracer_of ps n)
 unfolding chain
@@ -144,7 +126,7 @@ module _ (rows : Rows) (s : Stands rows) where
   OfUser u x = list_any (is_row_of u x) ps ≡ true
 
   of_user-found : (u x : ℕ) (r : ProcData) → process_of x ps ≡ Some r → r.uid ≡ u → OfUser u x
-  of_user-found u x r is mine = any_found (λ p. p.pid == x) (of_user u) ps r is (eq-eqb r.uid u mine)
+  of_user-found u x r is mine = find_passes (λ p. p.pid == x) (is_row_of u x) ps r is (both (r.pid == x) (r.uid == u) (eq-eqb r.pid x (process_of-pid x r ps is)) (eq-eqb r.uid u mine))
 
   of_user-live : (u x : ℕ) → IsLiveOf rows u x → OfUser u x
   of_user-live u x is = any_more (λ p. (p.pid == x) && (p.uid == u) && is_live p) (is_row_of u x) (λ p h. and_left (is_row_of u x p) (is_live p) h) ps is
@@ -155,12 +137,8 @@ module _ (rows : Rows) (s : Stands rows) where
       (λ r h e.
       let same = eqb-true r.pid x (and_left (r.pid == x) (r.uid == u) e) in
       let mine = eqb-true r.uid u (and_right (r.pid == x) (r.uid == u) e) in
-      subst (λ o. IfSome (tracer_in o) (OfUser u)) (sym h.0 ∙ ap (λ m. process_of m ps) same) (subst (λ v. IfSome r.tracer (OfUser v)) mine (at_tracer r.uid r.tracer h.1.tracer)))
+      subst (λ o. IfSome (tracer_in o) (OfUser u)) (sym h.0 ∙ ap (λ m. process_of m ps) same) (subst (λ v. IfSome r.tracer (OfUser v)) mine (If_more (IsLiveOf rows r.uid) (OfUser r.uid) (of_user-live r.uid) r.tracer h.1.tracer)))
       ps (All-both _ (Linked rows) ps (own_rows ps s.rising) s.linked) is
-    where
-      at_tracer : (v : ℕ) (o : Option ℕ) → IfSome o (IsLiveOf rows v) → IfSome o (OfUser v)
-      at_tracer v None h = tt
-      at_tracer v (Some t) h = of_user-live v t h
 
   onward_rows : (u k : ℕ) → ((t : ℕ) → OfUser u t → AllByRecursion (OfUser u) (chain k ps t)) → (o : Option ℕ) → IfSome o (OfUser u) → AllByRecursion (OfUser u) (onward (chain k ps) o)
   onward_rows u k h None is = tt

@@ -1,28 +1,15 @@
 -- Rows after an edit are as rows must be, where each row keeps its part.
-use Rattle.std.proofs.lemmas.Bool.Decides.{nat_tests}
+use Rattle.trace_stop.proofs.Words.{nat_tests, option_and_then, AllByRecursion, list_any, IsUser, tid_block, InBlock, shows, PL_FLAG_EXITED, LwpData, lwp_of, ProcData, is_live, reporting, process_of}
+use Rattle.trace_stop.proofs.Words.{Rows, owner, by_owner, each, edit_processes, edit_lwps, owns, lwp_count, Rise, AtHome, Housed, names_own, IsLiveOf, IsLiveChild, Linked, FitProcess, waited_for}
+use Rattle.trace_stop.proofs.Words.{Standing, FitLwp, WithOwner, Stands, IsSound}
 use Rattle.std.proofs.Common.{◌≡◌, ◌≢◌, ◌⊎◌, inl, inr, ℕ, zero, suc, ◌≤◌, List, filter_map, Bool, true, false, ◌==◌, ◌&&◌, if◌then◌else◌, Option, Some, None, IfSome, refl, sym, ap, ◌∙◌, arith, true≢false, eqb-true, subst, rules}
-use Rattle.std.specs.Option.{option_and_then}
-use Rattle.std.specs.List.{AllByRecursion, list_any}
-use Rattle.pid_blocks.specs.Users.{IsUser}
-use Rattle.pid_blocks.specs.Blocks.{tid_block, InBlock}
-use Rattle.event_masks.specs.Exits.{shows}
-use Rattle.event_masks.specs.declared.TheConstants.StopFlags.{PL_FLAG_EXITED}
-use Rattle.lwp_table.specs.declared.LwpData.{LwpData}
-use Rattle.lwp_table.specs.Lwps.{lwp_of}
-use Rattle.proc_table.specs.declared.ProcData.{ProcData}
-use Rattle.proc_table.specs.Processes.{is_live, reporting, process_of}
-use Rattle.proc_table.specs.Rows.{Rows, owner, by_owner, each, edit_processes, edit_lwps}
-use Rattle.proc_table.specs.Seen.{owns}
-use Rattle.proc_table.specs.Fresh.{lwp_count}
-use Rattle.proc_table.specs.Kept.{Rise, AtHome, Housed}
 use Rattle.trace_stop.specs.End.{tracer_in, tracer_of, meets}
-use Rattle.trace_stop.specs.Sound.{names_own}
-use Rattle.trace_stop.specs.Facts.{IsLiveOf, IsLiveChild, Linked, FitProcess, waited_for, Standing, FitLwp, WithOwner, Stands, IsSound}
 use Rattle.trace_stop.proofs.Every.{and_left, and_right, both, by_bool, All-imply, All-both, All-edit, All-any, find_some, any_forward}
 use Rattle.trace_stop.proofs.Passes.{own_rows, rise_edited, process_edited, filter_map_same}
 use Rattle.trace_stop.proofs.Children.{child_after}
-use Rattle.trace_stop.proofs.Edited.{If_more, some_is, if_at, any_edit, count_edit, count_kept, Differ-edit, edited, edit_none}
+use Rattle.trace_stop.proofs.Edited.{If_more, some_is, if_at, any_edit, count_edit, count_kept, Differ-edit, edited, edit_none, lwps_left}
 use Rattle.trace_stop.proofs.Numbers.{own_lwps}
+use Rattle.proc_table.proofs.Rows.{process_of-pid}
 
 -- rows that stand, with a fact of each process, and of each LWP beside its process
 pub record Holds (P : ProcData → Type 0) (Q : ProcData → LwpData → Type 0) (rows : Rows) : Type 0 where
@@ -51,7 +38,7 @@ pub record Beside (rows : Rows) (P : ProcData → Type 0) (Q : ProcData → LwpD
   pub fact : Q p l
 
 pub found_number : (n : ℕ) (ps : List ProcData) (p : ProcData) → process_of n ps ≡ Some p → p.pid ≡ n
-found_number n ps p is = eqb-true p.pid n (find_some (λ q. q.pid == n) (λ q. Unit {0}) ps (All-any (λ q. Unit {0}) (λ q. tt) ps) p is).1
+found_number n ps p is = process_of-pid n p ps is
 
 -- a number has one row
 pub row_is : {rows : Rows} {P : ProcData → Type 0} {n : ℕ} {p q : ProcData} → Row rows P q → process_of n rows.processes ≡ Some p → q.pid ≡ n → q ≡ p
@@ -336,12 +323,12 @@ module _ (rows : Rows) (over : ℕ → Bool) (f : ProcData → Option ProcData) 
   }
 
 -- Edits of processes alone, and of LWPs alone
+pub processes_alone : (f : ProcData → Option ProcData) (rows : Rows) → each f (λ p l. Some l) rows ≡ edit_processes f rows
+processes_alone f rows = ap (λ ls. record rows { processes = filter_map f rows.processes; lwps = ls }) (lwps_left rows)
+
 module _ (rows : Rows) (homes : AllByRecursion (Housed rows) rows.lwps) where
   pub each_alone : (f : ProcData → Option ProcData) (h : LwpData → Option LwpData) → each f (λ p l. h l) rows ≡ edited f h rows
   each_alone f h = ap (λ ls. record rows { processes = filter_map f rows.processes; lwps = ls }) (filter_map_same _ h rows.lwps (All-imply (Housed rows) _ (λ l home. ap (by_owner (λ p k. h k) l) home.1) rows.lwps homes))
-
-  pub processes_alone : (f : ProcData → Option ProcData) → each f (λ p l. Some l) rows ≡ edit_processes f rows
-  processes_alone f = each_alone f (λ l. Some l) ∙ ap (λ ls. record rows { processes = filter_map f rows.processes; lwps = ls }) (edit_none (λ l. Some l) (λ l. refl) rows.lwps)
 
   pub lwps_alone : (h : LwpData → Option LwpData) → each (λ p. Some p) (λ p l. h l) rows ≡ edit_lwps h rows
   lwps_alone h = each_alone (λ p. Some p) h ∙ ap (λ ps. record rows { processes = ps; lwps = filter_map h rows.lwps }) (edit_none (λ p. Some p) (λ p. refl) rows.processes)

@@ -1,10 +1,6 @@
 -- A change of chosen processes and of their LWPs.
-use Rattle.std.proofs.lemmas.Bool.Decides.{nat_tests}
+use Rattle.trace_stop.proofs.Words.{nat_tests, LwpData, ProcData, is_live, reporting, process_of, Rows, change, each}
 use Rattle.std.proofs.Common.{◌≡◌, ◌⊎◌, inl, ℕ, ◌==◌, List, filter_map, Bool, true, false, if◌then◌else◌, Option, Some, None, refl, ap, subst, eq-eqb, arith}
-use Rattle.lwp_table.specs.declared.LwpData.{LwpData}
-use Rattle.proc_table.specs.declared.ProcData.{ProcData}
-use Rattle.proc_table.specs.Processes.{is_live, reporting, process_of}
-use Rattle.proc_table.specs.Rows.{Rows, change, each}
 use Rattle.trace_stop.proofs.Every.{choose, choose_both}
 use Rattle.trace_stop.proofs.Edited.{find_edit}
 use Rattle.trace_stop.proofs.Changed.{Holds, Row, Beside, Same, Leaves, KeptRow, KeptLwp, Stay, nobody, none_gone, like_self, leaves, kept_all, kept_lwp, no_ring, stay, edit_holds}

@@ -1,11 +1,6 @@
 -- The live children of a process, before and after a change.
-use Rattle.std.proofs.lemmas.Bool.Decides.{nat_tests}
+use Rattle.trace_stop.proofs.Words.{nat_tests, AllByRecursion, list_any, ProcData, is_live, Rows, IsLiveOf, IsLiveChild}
 use Rattle.std.proofs.Common.{◌≡◌, ℕ, List, filter_map, Bool, true, ◌==◌, ◌&&◌, Option, Some, eq-eqb, arith, rules}
-use Rattle.std.specs.List.{AllByRecursion, list_any}
-use Rattle.proc_table.specs.declared.ProcData.{ProcData}
-use Rattle.proc_table.specs.Processes.{is_live}
-use Rattle.proc_table.specs.Rows.{Rows}
-use Rattle.trace_stop.specs.Facts.{IsLiveOf, IsLiveChild}
 use Rattle.trace_stop.proofs.Every.{and_left, both, any_more, any_forward}
 
 abbrev pub child_test : ProcData → ℕ → ProcData → Bool

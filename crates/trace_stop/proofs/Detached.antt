@@ -1,18 +1,8 @@
 -- Resuming, detaching and ending keep rows sound.
-use Rattle.std.proofs.lemmas.Bool.Decides.{nat_tests}
+use Rattle.trace_stop.proofs.Words.{nat_tests, AllByRecursion, bit, SIGTRAP, LwpData, ProcData, is_live, traces, reporting, process_of, Rows, is_numbered, running, untraced, untraced_lwp, resumed}
+use Rattle.trace_stop.proofs.Words.{detached, left_alone, end_of, end, is_end, FitProcess, FitLwp, Silent, IsSound}
 use Rattle.std.proofs.Common.{◌≡◌, inl, inr, ℕ, Bool, true, false, ◌&&◌, if◌then◌else◌, Some, is_some, refl, sym, ◌∙◌, true≢false, subst, eqb-true, eq-eqb, arith, rules}
-use Rattle.std.specs.List.{AllByRecursion}
-use Rattle.signals.specs.Sets.{bit}
-use Rattle.signals.specs.Table.{SIGTRAP}
-use Rattle.lwp_table.specs.declared.LwpData.{LwpData}
-use Rattle.proc_table.specs.declared.ProcData.{ProcData}
-use Rattle.proc_table.specs.Processes.{is_live, traces, reporting, process_of}
-use Rattle.proc_table.specs.Rows.{Rows, is_numbered}
 use Rattle.trace_stop.specs.declared.Settings.{Settings}
-use Rattle.trace_stop.specs.Detach.{running, untraced, untraced_lwp, resumed, detached}
-use Rattle.trace_stop.specs.End.{left_alone, end_of, end}
-use Rattle.trace_stop.specs.Sound.{is_end}
-use Rattle.trace_stop.specs.Facts.{FitProcess, FitLwp, Silent, IsSound}
 use Rattle.trace_stop.proofs.Every.{and_left, both, by_bool, All-imply, All-edit, All-any, choose}
 use Rattle.trace_stop.proofs.Changed.{found_number}
 use Rattle.trace_stop.proofs.Changes.{changed_row}

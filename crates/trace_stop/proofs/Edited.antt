@@ -1,12 +1,6 @@
 -- Lists whose elements are each changed, or taken out.
-use Rattle.std.proofs.lemmas.Bool.Decides.{nat_tests}
-use Rattle.std.proofs.Common.{◌≡◌, ℕ, ◌+◌, ◌≤◌, List, [], ◌∷◌, find, filter_map, Bool, true, false, ◌==◌, Option, Some, None, IfSome, refl, sym, ap, ◌∙◌, arith, subst, eqb-true, true≢false, rules}
-use Rattle.std.specs.Prelude.{count_by}
-use Rattle.std.specs.List.{AllByRecursion, list_any, cons_option}
-use Rattle.lwp_table.specs.declared.LwpData.{LwpData}
-use Rattle.lwp_table.specs.Lwps.{Differ, LacksLwp}
-use Rattle.proc_table.specs.declared.ProcData.{ProcData}
-use Rattle.proc_table.specs.Rows.{Rows}
+use Rattle.trace_stop.proofs.Words.{nat_tests, AllByRecursion, list_any, cons_option, LwpData, Differ, LacksLwp, ProcData, Rows, by_owner, process_of}
+use Rattle.std.proofs.Common.{◌≡◌, ℕ, ◌+◌, ◌≤◌, List, [], ◌∷◌, find, filter_map, Bool, true, false, ◌==◌, Option, Some, None, IfSome, refl, sym, ap, ◌∙◌, arith, subst, eqb-true, true≢false, rules, count_by}
 use Rattle.trace_stop.proofs.Every.{by_bool, count-cons, All-imply, All-any, any_more, count_more}
 use Rattle.trace_stop.proofs.Passes.{passes, any_edited, count_edited}
 
@@ -26,6 +20,10 @@ if_at P o x is all = subst (λ p. IfSome p P) is all
 pub edit_none : {X : Type 0} (f : X → Option X) → ((x : X) → f x ≡ Some x) → (xs : List X) → filter_map f xs ≡ xs
 edit_none f h [] = refl
 edit_none f h (x ∷ xs) = rw (h x) (ap (λ ys. x ∷ ys) (edit_none f h xs))
+
+-- an edit of processes alone leaves the LWPs
+pub lwps_left : (rows : Rows) → filter_map (λ l. by_owner (λ p k. Some k) l (process_of l.pid rows.processes)) rows.lwps ≡ rows.lwps
+lwps_left rows = search (rules, edit_none)
 
 -- tests and counts of what is left
 

@@ -1,29 +1,15 @@
 -- Ends keep rows sound, where no live process is left whose tracer ends.
-use Rattle.std.proofs.lemmas.Bool.Decides.{nat_tests}
+use Rattle.trace_stop.proofs.Words.{nat_tests, AllByRecursion, shows, asks, PL_FLAG_EXITED, SIGKILL, LwpData, User, ProcData, State, Run, Trace, Job, Zombie, is_live, is_zombie_state, is_job_state}
+use Rattle.trace_stop.proofs.Words.{is_run_state, reporting, Rows, each, unwanted, holds_of, unless, orphaned, dead, uncollected, process_after, waits_where, released, lwp_after, collector}
+use Rattle.trace_stop.proofs.Words.{notifies_of, end_each, is_end, names_own, IsLiveOf, IsLiveChild, Linked, Ended, IfEnded, FitProcess, waited_for, FitLwp, IsSound, MayTell}
 use Rattle.std.proofs.Common.{◌≡◌, ◌≢◌, ℕ, Bool, true, false, ◌==◌, ◌&&◌, ◌||◌, not, if◌then◌else◌, filter_map, option_map, Option, Some, None, IfSome, is_some, unwrap_or, refl, sym, ap, ◌∙◌, true≢false, subst, arith, bit_and, rules}
-use Rattle.std.specs.List.{AllByRecursion}
-use Rattle.event_masks.specs.Exits.{shows, asks}
-use Rattle.event_masks.specs.declared.TheConstants.StopFlags.{PL_FLAG_EXITED}
 use Rattle.event_masks.specs.declared.TheConstants.EventMask.{PTRACE_VFORK}
-use Rattle.signals.specs.Table.{SIGKILL}
-use Rattle.lwp_table.specs.declared.LwpData.{LwpData}
-use Rattle.lwp_table.specs.declared.Mode.TheVariants.{User}
 use Rattle.lwp_table.specs.declared.Due.TheVariants.{VforkDone}
-use Rattle.proc_table.specs.declared.ProcData.{ProcData}
-use Rattle.proc_table.specs.declared.State.{State}
-use Rattle.proc_table.specs.declared.State.TheVariants.{Run, Trace, Job, Zombie}
-use Rattle.proc_table.specs.Processes.{is_live, is_zombie_state, is_job_state, is_run_state, reporting}
-use Rattle.proc_table.specs.Rows.{Rows, each}
-use Rattle.trace_stop.specs.Post.{unwanted}
-use Rattle.trace_stop.specs.End.{holds_of, unless, orphaned, dead, uncollected, process_after, waits_where, released, lwp_after, collector, notifies_of, end_each}
-use Rattle.trace_stop.specs.Sound.{is_end, names_own}
-use Rattle.trace_stop.specs.Facts.{IsLiveOf, IsLiveChild, Linked, Ended, IfEnded, FitProcess, waited_for, FitLwp, IsSound}
 use Rattle.trace_stop.proofs.Every.{All-both, All-edit, choose}
-use Rattle.trace_stop.proofs.Edited.{If_more, some_is}
+use Rattle.trace_stop.proofs.Edited.{If_more}
 use Rattle.trace_stop.proofs.Changed.{Holds, Row, Same, Stay, Edit, Leaves, LivesOn, IfKept, KeptLwp, sound_holds, peopled_on, all_rows, no_ring, stay, linked_at, edit_holds}
 use Rattle.trace_stop.proofs.Posting.{live_fits, live_state, beside_fits}
 use Rattle.trace_stop.proofs.Settling.{zero_apart}
-use Rattle.trace_stop.specs.Before.{MayTell}
 use Rattle.trace_stop.proofs.Stopping.{live_told, notified_sound}
 
 -- which rows end, as numbers and as rows; a process that lives on keeps its tracer
@@ -109,10 +95,6 @@ module _ (rows : Rows) (ends : ProcData → Bool) (over : ℕ → Bool) (p statu
   stays q row e = stay rows to to_lwp same q row.at (λ l. (released over q l, left_lwp q l e))
 
   -- links after the end
-  unless_at : (o : Option ℕ) (t : ℕ) → unless over o ≡ Some t → (o ≡ Some t) × (over t ≡ false)
-  unless_at None t is = absurd (grind (arith, is))
-  unless_at (Some n) t is = search (rules, some_is)
-
   tracer_left : (u : ℕ) (o : Option ℕ) → IfSome o (IsLiveOf rows u) → IfSome (unless over o) (LivesOn rows over u)
   tracer_left u None live = tt
   tracer_left u (Some t) live = choose (over t) None (Some t) (λ o. IfSome o (LivesOn rows over u)) (λ e. tt) (λ e. (live, e))

@@ -1,10 +1,10 @@
 -- A fact of each element of a list, and tests and counts on lists.
-use Rattle.std.proofs.lemmas.Bool.Decides.{nat_tests}
-use Rattle.std.proofs.lemmas.Bool.{cases_Bool}
-use Rattle.std.proofs.Common.{◌≡◌, ◌+◌, List, [], ◌∷◌, ◌++◌, filter, find, filter_map, Bool, true, false, cond, not, ◌&&◌, ◌||◌, Option, Some, None, IfSome, refl, sym, ◌∙◌, arith, true≢false, subst, if◌then◌else◌, is_some, inl, inr, ℕ, ◌≤◌}
-use Rattle.std.specs.Prelude.{count_by}
-use Rattle.std.specs.List.{AllByRecursion, list_any, list_all}
+use Rattle.trace_stop.proofs.Words.{nat_tests, cases_Bool, AllByRecursion, list_any, list_all}
+use Rattle.std.proofs.Common.{◌≡◌, ◌+◌, List, [], ◌∷◌, ◌++◌, filter, find, filter_map, Bool, true, false, cond, not, ◌&&◌, ◌||◌, Option, Some, None, IfSome, refl, sym, ◌∙◌, eq-eqb, ◌==◌, ◌≢◌, arith, true≢false, if◌then◌else◌, is_some, inl, inr, ℕ, ◌≤◌, count_by}
 use Rattle.std.proofs.lemmas.List.Sums.{sum_by-cons, sum_by-append}
+use Rattle.proc_table.proofs.Every.{every_found, every_filter, found_tested}
+pub use Rattle.proc_table.proofs.Every.{every_weaken as All-imply, every_both as All-both, every_append as All-append}
+pub use Rattle.std.proofs.lemmas.Bool.{and_from as both, or_left, or_right, false_from_ne_true as by_bool, not-true as not_true}
 
 pub and_left : (a b : Bool) → (a && b) ≡ true → a ≡ true
 and_left true b is = refl
@@ -14,10 +14,6 @@ pub and_right : (a b : Bool) → (a && b) ≡ true → b ≡ true
 and_right true b is = is
 and_right false b is = absurd (true≢false (sym is))
 
-pub both : (a b : Bool) → a ≡ true → b ≡ true → (a && b) ≡ true
-both true b is it = it
-both false b is it = is
-
 pub implies_at : (a b : Bool) → (not a || b) ≡ true → a ≡ true → b ≡ true
 implies_at true b is it = is
 implies_at false b is it = absurd (true≢false (sym it))
@@ -26,21 +22,9 @@ pub implies_from : (a b : Bool) → (a ≡ true → b ≡ true) → (not a || b)
 implies_from true b h = h refl
 implies_from false b h = refl
 
-pub not_true : (a : Bool) → not a ≡ true → a ≡ false
-not_true true is = absurd (true≢false (sym is))
-not_true false is = refl
-
 pub or_true : (b : Bool) → (b || true) ≡ true
 or_true true = refl
 or_true false = refl
-
-pub or_left : (a b : Bool) → a ≡ true → (a || b) ≡ true
-or_left true b is = refl
-or_left false b is = absurd (true≢false (sym is))
-
-pub by_bool : (b : Bool) → (b ≡ true → ⊥) → b ≡ false
-by_bool true h = absurd (h refl)
-by_bool false h = refl
 
 -- either way of a choice
 pub choose : {X : Type 0} (b : Bool) (x y : X) (R : X → Type 0) → (b ≡ true → R x) → (b ≡ false → R y) → R (if b then x else y)
@@ -50,6 +34,9 @@ choose false x y R h k = k refl
 pub choose_both : {X Y : Type 0} (R : X → Y → Type 0) (b : Bool) (x y : X) (v w : Y) → (b ≡ true → R x v) → (b ≡ false → R y w) → R (if b then x else y) (if b then v else w)
 choose_both R true x y v w h k = h refl
 choose_both R false x y v w h k = k refl
+
+pub not_same : (a b : ℕ) → (a == b) ≡ false → a ≢ b
+not_same a b is same = true≢false (sym (eq-eqb a b same) ∙ is)
 
 -- what isn't there
 pub not_some : {X : Type 0} (o : Option X) → is_some o ≡ false → o ≡ None
@@ -66,36 +53,19 @@ pub list_all-from_All : {X : Type 0} (q : X → Bool) (xs : List X) → AllByRec
 list_all-from_All q [] all = refl
 list_all-from_All q (x ∷ xs) all = both (q x) (list_all q xs) all.0 (list_all-from_All q xs all.1)
 
-pub All-imply : {X : Type 0} (P Q : X → Type 0) → ((x : X) → P x → Q x) → (xs : List X) → AllByRecursion P xs → AllByRecursion Q xs
-All-imply P Q h [] all = tt
-All-imply P Q h (x ∷ xs) all = (h x all.0, All-imply P Q h xs all.1)
-
 pub All-any : {X : Type 0} (P : X → Type 0) → ((x : X) → P x) → (xs : List X) → AllByRecursion P xs
 All-any P h [] = tt
 All-any P h (x ∷ xs) = (h x, All-any P h xs)
 
-pub All-both : {X : Type 0} (P Q : X → Type 0) (xs : List X) → AllByRecursion P xs → AllByRecursion Q xs → AllByRecursion (λ x. P x × Q x) xs
-All-both P Q [] all every = tt
-All-both P Q (x ∷ xs) all every = ((all.0, every.0), All-both P Q xs all.1 every.1)
-
-pub All-append : {X : Type 0} (P : X → Type 0) (xs ys : List X) → AllByRecursion P xs → AllByRecursion P ys → AllByRecursion P (xs ++ ys)
-All-append P [] ys all every = every
-All-append P (x ∷ xs) ys all every = (all.0, All-append P xs ys all.1 every)
-
 pub All-filter : {X : Type 0} (q : X → Bool) (P : X → Type 0) (xs : List X) → AllByRecursion P xs → AllByRecursion P (filter q xs)
-All-filter q P [] all = tt
-All-filter q P (x ∷ xs) all = grind (arith, nat_tests, All-filter q P xs all.1)
+All-filter q P = every_filter P P q (λ x e h. h)
 
 pub All-edit : {X Y : Type 0} (f : X → Option Y) (P : X → Type 0) (Q : Y → Type 0) → ((x : X) → P x → IfSome (f x) Q) → (xs : List X) → AllByRecursion P xs → AllByRecursion Q (filter_map f xs)
 All-edit f P Q h [] all = tt
 All-edit {X} {Y} f P Q h (x ∷ xs) all = grind (arith, nat_tests, All-edit f P Q h xs all.1)
 
 pub find_some : {X : Type 0} (q : X → Bool) (P : X → Type 0) (xs : List X) → AllByRecursion P xs → (x : X) → find q xs ≡ Some x → P x × (q x ≡ true)
-find_some q P [] all x is = grind (arith, is)
-find_some q P (y ∷ xs) all x is = elim (cases_Bool (q y)) [
-  | inl e ↦ let same : y ≡ x = grind (arith, e, is) in subst (λ z. P z × (q z ≡ true)) same (all.0, e)
-  | inr e ↦ find_some q P xs all.1 x (rw e at is)
-]
+find_some q P xs all x is = (every_found P q xs x all is, found_tested q xs x is)
 
 -- what holds of every element holds of one that passes
 pub any_holds : {X : Type 0} (q : X → Bool) (P : X → Type 0) (R : Type 0) → ((x : X) → P x → q x ≡ true → R) → (xs : List X) → AllByRecursion P xs → list_any q xs ≡ true → R
@@ -104,6 +74,15 @@ any_holds q P R h (x ∷ xs) all is = elim (cases_Bool (q x)) [
   | inl e ↦ h x all.0 e
   | inr e ↦ any_holds q P R h xs all.1 (rw e at is)
 ]
+
+-- one that is found passes another test, where that holds of it
+pub find_passes : {X : Type 0} (q t : X → Bool) (xs : List X) (x : X) → find q xs ≡ Some x → t x ≡ true → list_any t xs ≡ true
+find_passes q t [] x is pass = absurd (grind (arith, is))
+find_passes q t (y ∷ xs) x is pass = grind (arith, find_passes q t xs x, is, pass)
+
+pub find_none : {X : Type 0} (q : X → Bool) (xs : List X) → AllByRecursion (λ x. q x ≡ false) xs → find q xs ≡ None
+find_none q [] all = refl
+find_none q (x ∷ xs) all = rw (all.0, find_none q xs all.1) refl
 
 pub none_of : {X : Type 0} (q : X → Bool) (xs : List X) → list_any q xs ≡ false → AllByRecursion (λ x. q x ≡ false) xs
 none_of q [] is = tt
@@ -142,7 +121,3 @@ count_more q t (x ∷ xs) all = let one = less (q x) (t x) all.0 in let some = c
 pub count_same : {X : Type 0} (q t : X → Bool) (xs : List X) → AllByRecursion (λ x. q x ≡ t x) xs → count_by q xs ≡ count_by t xs
 count_same q t [] all = refl
 count_same q t (x ∷ xs) all = count-cons q x xs ∙ (rw (all.0, count_same q t xs all.1) refl ∙ sym (count-cons t x xs))
-
-pub find_same : {X : Type 0} (q t : X → Bool) (xs : List X) → AllByRecursion (λ x. q x ≡ t x) xs → find q xs ≡ find t xs
-find_same q t [] all = refl
-find_same q t (x ∷ xs) all = grind (arith, all.0, find_same q t xs all.1)

@@ -1,17 +1,9 @@
 -- Rows that are found by their numbers.
-use Rattle.std.proofs.lemmas.Bool.Decides.{nat_tests}
-use Rattle.std.proofs.Common.{◌≡◌, ◌∙◌, ℕ, Bool, true, ◌==◌, true≢false, List, [], ◌∷◌, nat_eq, sym, ap, refl, Option, Some, None, IsSome, is_some, arith}
-use Rattle.std.specs.Prelude.{◌&&◌}
-use Rattle.std.specs.List.{list_any}
-use Rattle.proc_table.specs.declared.ProcData.{ProcData}
-use Rattle.proc_table.specs.Processes.{process_of, is_live}
-use Rattle.proc_table.specs.Rows.{Rows}
-use Rattle.proc_table.specs.Fresh.{is_process}
-use Rattle.proc_table.specs.Kept.{IsRow, Rise}
+use Rattle.trace_stop.proofs.Words.{nat_tests, list_any, ProcData, process_of, is_live, Rows, is_process, IsRow, Rise, is_live_at, is_live_of}
+use Rattle.std.proofs.Common.{◌≡◌, ◌∙◌, ℕ, Bool, true, ◌==◌, true≢false, List, [], ◌∷◌, nat_eq, sym, ap, refl, Option, Some, None, IsSome, is_some, arith, eq-eqb, ◌&&◌, eqb-true}
 use Rattle.proc_table.proofs.Rows.{row_found, process_of-pid}
-use Rattle.trace_stop.specs.Sound.{is_live_at}
-use Rattle.trace_stop.proofs.Every.{and_left, any_more}
-use Rattle.trace_stop.proofs.Passes.{passes, above_none}
+use Rattle.trace_stop.proofs.Every.{and_left, both, any_more, find_passes, and_right, any_holds}
+use Rattle.trace_stop.proofs.Passes.{passes, above_none, own_rows}
 
 -- a test of the row with a number
 pub any_by_number : (t : ProcData → Bool) (n : ℕ) (ps : List ProcData) → Rise ps → list_any (λ r. (r.pid == n) && t r) ps ≡ passes t (process_of n ps)
@@ -39,8 +31,28 @@ live_row rows n up is = by_row (process_of n rows.processes) refl (sym (any_by_n
     by_row (Some p) at live = (p, at, live)
 
 pub live_found : (rows : Rows) (n : ℕ) (p : ProcData) → process_of n rows.processes ≡ Some p → is_live p ≡ true → is_live_at n rows ≡ true
-live_found rows n p at live = by_rows rows.processes at
-  where
-    by_rows : (ps : List ProcData) → process_of n ps ≡ Some p → list_any (λ r. nat_eq r.pid n && is_live r) ps ≡ true
-    by_rows [] found = absurd (cc)
-    by_rows (q ∷ ps) found = grind (arith, nat_tests, found, live, by_rows ps)
+live_found rows n p at live = find_passes (λ r. nat_eq r.pid n) (λ r. nat_eq r.pid n && is_live r) rows.processes p at (both (nat_eq p.pid n) (is_live p) (eq-eqb p.pid n (process_of-pid n p rows.processes at)) live)
+
+-- The live process that a row names
+
+pub record LiveRow (rows : Rows) (u n : ℕ) : Type 0 where
+  pub row : ProcData
+  pub found : process_of n rows.processes ≡ Some row
+  pub number : row.pid ≡ n
+  pub user : row.uid ≡ u
+  pub live : is_live row ≡ true
+
+pub live_named : (rows : Rows) → Rise rows.processes → (u n : ℕ) → is_live_of rows u n ≡ true → LiveRow rows u n
+live_named rows rise u n is =
+    any_holds (λ p. (p.pid == n) && (p.uid == u) && is_live p) (λ p. process_of p.pid rows.processes ≡ Some p) (LiveRow rows u n)
+    (λ p own h.
+    let two = and_left ((p.pid == n) && (p.uid == u)) (is_live p) h in
+    let same = eqb-true p.pid n (and_left (p.pid == n) (p.uid == u) two) in
+    record {
+      row = p;
+      found = ap (λ m. process_of m rows.processes) (sym same) ∙ own;
+      number = same;
+      user = eqb-true p.uid u (and_right (p.pid == n) (p.uid == u) two);
+      live = and_right ((p.pid == n) && (p.uid == u)) (is_live p) h;
+    })
+    rows.processes (own_rows rows.processes rise) is

@@ -1,27 +1,13 @@
 -- The test of soundness, and soundness as facts: each gives the other.
-use Rattle.std.proofs.lemmas.Bool.Decides.{nat_tests}
+use Rattle.trace_stop.proofs.Words.{nat_tests, AllByRecursion, list_any, list_all, le-leb, leb-true, IsUser, pid_block, tid_block, in_block, InBlock, slot, users, rising, LwpData, Mode, User, InCall}
+use Rattle.trace_stop.proofs.Words.{VforkWait, Differ, LacksLwp, ProcData, State, Run, Trace, Job, Zombie, is_live, is_run, is_job, reporting, process_of, Rows, process_count, lwp_count_of, lwp_count}
+use Rattle.trace_stop.proofs.Words.{Rise, AllAbove, AtHome, Housed, unwanted, rises, differ, implies, holds, exists, of_owner, is_live_of, sound_numbers, sound_limits, sound_links, sound_owners}
+use Rattle.trace_stop.proofs.Words.{names_own, is_state, sound_states, waits_for, sound_lwp, sound_lwps, sound_rows, IsLiveChild, Linked, IfEnded, FitProcess, waited_for, Standing, FitLwp, WithOwner}
+use Rattle.trace_stop.proofs.Words.{Stands, IsSound}
 use Rattle.std.proofs.Common.{◌≡◌, ℕ, zero, suc, ◌+◌, ◌<◌, ◌≤◌, List, [], ◌∷◌, length, map, zip, Bool, true, false, ◌==◌, ◌&&◌, ◌||◌, not, leb, ltb, Option, Some, None, is_some, is_none, IfSome, refl, sym, ap, arith, eqb, true≢false, eqb-true, subst, eq-eqb, get_or, rules}
 use Rattle.std.specs.Int.RustNames.{bit_and}
-use Rattle.std.specs.List.{AllByRecursion, list_any, list_all}
-use Rattle.std.proofs.lemmas.Bool.{le-leb, leb-true}
-use Rattle.pid_blocks.specs.Users.{IsUser}
 use Rattle.pid_blocks.specs.declared.Block.{Block}
-use Rattle.pid_blocks.specs.Blocks.{pid_block, tid_block, in_block, InBlock, slot, users, rising}
-use Rattle.lwp_table.specs.declared.LwpData.{LwpData}
-use Rattle.lwp_table.specs.declared.Mode.{Mode}
-use Rattle.lwp_table.specs.declared.Mode.TheVariants.{User, InCall, VforkWait}
-use Rattle.lwp_table.specs.Lwps.{Differ, LacksLwp}
-use Rattle.proc_table.specs.declared.ProcData.{ProcData}
-use Rattle.proc_table.specs.declared.State.{State}
-use Rattle.proc_table.specs.declared.State.TheVariants.{Run, Trace, Job, Zombie}
-use Rattle.proc_table.specs.Processes.{is_live, is_run, is_job, reporting, process_of}
-use Rattle.proc_table.specs.Rows.{Rows}
-use Rattle.proc_table.specs.Fresh.{process_count, lwp_count_of, lwp_count}
-use Rattle.proc_table.specs.Kept.{Rise, AllAbove, AtHome, Housed}
-use Rattle.trace_stop.specs.Post.{unwanted}
 use Rattle.trace_stop.specs.End.{meets}
-use Rattle.trace_stop.specs.Sound.{rises, differ, implies, holds, exists, of_owner, is_live_of, sound_numbers, sound_limits, sound_links, sound_owners, names_own, is_state, sound_states, waits_for, sound_lwp, sound_lwps, sound_rows}
-use Rattle.trace_stop.specs.Facts.{IsLiveChild, Linked, IfEnded, FitProcess, waited_for, Standing, FitLwp, WithOwner, Stands, IsSound}
 use Rattle.trace_stop.proofs.Every.{and_left, and_right, both, implies_at, implies_from, not_true, by_bool, All-from_list_all, list_all-from_All, All-imply, All-both}
 
 -- users, and lists beside them
@@ -122,10 +108,6 @@ none_is (Some x) is = absurd (true≢false (sym is))
 pub none_test : {X : Type 0} (o : Option X) → o ≡ None → is_none o ≡ true
 none_test o is = ap is_none is
 
-if_holds : {X : Type 0} (test : X → Bool) (o : Option X) → holds test o ≡ true → IfSome o (λ x. test x ≡ true)
-if_holds test None is = tt
-if_holds test (Some x) is = is
-
 holds_if : {X : Type 0} (test : X → Bool) (o : Option X) → IfSome o (λ x. test x ≡ true) → holds test o ≡ true
 holds_if test None is = refl
 holds_if test (Some x) is = is
@@ -181,20 +163,8 @@ ended_from p (Trace tid sig told) is = tt
 ended_from p (Job sig told) is = tt
 ended_from p (Zombie w) is = search (rules, and_left, eqb-true, and_right, is_some, eq-eqb)
 
-ended_test : (p : ProcData) (s : State) → IfEnded p s → is_state p s ≡ true
-ended_test p Run e = refl
-ended_test p (Trace tid sig told) e = refl
-ended_test p (Job sig told) e = refl
-ended_test p (Zombie w) e = grind (arith, nat_tests, e.word, e.mask, e.pending, e.collector)
-
 fit_from : (rows : Rows) (p : ProcData) → state_test rows p ≡ true → FitProcess p
-fit_from rows p is = record {
-  stopped = λ reports. and_left (is_some p.tracer) _ (implies_at (is_some (reporting p)) _ (and_left _ _ (and_left _ _ (and_left _ _ (and_left _ _ is)))) reports);
-  job = λ stopped. none_is p.tracer (implies_at (is_job p) _ (and_right _ _ (and_left _ _ (and_left _ _ (and_left _ _ is)))) stopped);
-  continued = λ on. let h = implies_at p.continued _ (and_right _ _ (and_left _ _ (and_left _ _ is))) on in (none_is p.tracer (and_left _ _ h), and_right _ _ h);
-  untraced = λ none. let h = implies_at (is_none p.tracer) _ (and_right _ _ (and_left _ _ is)) (none_test p.tracer none) in record { mask = eqb-true p.mask.0 0 (and_left _ _ h); pending = eqb-true (bit_and p.pending (unwanted p)) 0 (and_right _ _ h) };
-  ended = ended_from p p.state (and_right _ _ is);
-}
+fit_from rows p is = search (rules, and_left, and_right, implies_at, none_is, none_test, eqb-true, ended_from)
 
 fit_test : (rows : Rows) (p : ProcData) → IfSome (reporting p) (λ tid. names_own rows p tid ≡ true) → FitProcess p → state_test rows p ≡ true
 fit_test rows p named f = grind (arith, nat_tests)

@@ -1,23 +1,11 @@
 -- A process with one more LWP keeps rows sound.
-use Rattle.std.proofs.lemmas.Bool.Decides.{nat_tests}
-use Rattle.std.proofs.Common.{◌≡◌, ℕ, ◌+◌, ◌<◌, ◌≤◌, [], ◌∷◌, Bool, true, false, cond, ◌==◌, ◌&&◌, Some, None, refl, sym, ap, ◌∙◌, true≢false, subst, arith, eqb-true, length-set, rules}
-use Rattle.std.specs.List.{list_any}
-use Rattle.pid_blocks.specs.Users.{IsUser}
-use Rattle.pid_blocks.specs.Blocks.{slot, tid_block, InBlock, cursor_after}
-use Rattle.event_masks.specs.Exits.{shows}
-use Rattle.event_masks.specs.declared.TheConstants.StopFlags.{PL_FLAG_EXITED}
-use Rattle.lwp_table.specs.declared.LwpData.{LwpData}
-use Rattle.proc_table.specs.declared.ProcData.{ProcData}
-use Rattle.proc_table.specs.Processes.{is_live, process_of}
-use Rattle.proc_table.specs.Rows.{Rows}
-use Rattle.proc_table.specs.Seen.{owns}
-use Rattle.proc_table.specs.Fresh.{is_lwp, add_lwp, lwp_count_of}
-use Rattle.proc_table.specs.Kept.{AtHome, Housed}
-use Rattle.trace_stop.specs.Facts.{Linked, waited_for, Standing, FitLwp, WithOwner, IsSound}
+use Rattle.trace_stop.proofs.Words.{nat_tests, list_any, IsUser, slot, tid_block, InBlock, cursor_after, shows, PL_FLAG_EXITED, LwpData, ProcData, is_live, process_of, Rows, owns, is_lwp, add_lwp}
+use Rattle.trace_stop.proofs.Words.{lwp_count_of, AtHome, Housed, Linked, waited_for, Standing, FitLwp, WithOwner, IsSound}
+use Rattle.std.proofs.Common.{◌≡◌, ℕ, ◌<◌, ◌≤◌, [], ◌∷◌, true, false, ◌==◌, ◌&&◌, Some, None, sym, ap, ◌∙◌, true≢false, subst, arith, length-set, rules}
 use Rattle.trace_stop.proofs.Every.{by_bool, All-imply, All-append, find_some}
 use Rattle.trace_stop.proofs.Edited.{some_is}
 use Rattle.proc_table.proofs.Cursors.{InBlock-after, cursors-set}
-use Rattle.trace_stop.proofs.Born.{differ_new, count_last, count_more, any_last, cond_at_most}
+use Rattle.trace_stop.proofs.Born.{differ_new, count_last, count_more, any_last, still_few}
 use Rattle.trace_stop.proofs.Numbers.{one_row}
 
 -- a new LWP of a live process, whose user has room for it
@@ -56,19 +44,12 @@ module _ (rows : Rows) (p : ProcData) (l : LwpData) (s : IsSound rows) (j : Join
   standing_new q at = grind (arith, nat_tests)
 
   few_lwps : (u : ℕ) → IsUser u → lwp_count_of u made ≤ 1000
-  few_lwps u its = by_user (p.uid == u) refl
+  few_lwps u its = still_few (λ w. lwp_count_of w rows) p.uid u 1000 (lwp_count_of u made) (owns u l.pid rows.processes) (count_last (λ k. owns u k.pid rows.processes) rows.lwps l) not_own j.few (s.stands.few_lwps u its)
     where
-      all : lwp_count_of u made ≡ lwp_count_of u rows + cond (owns u l.pid rows.processes) 1 0
-      all = count_last (λ k. owns u k.pid rows.processes) rows.lwps l
-
       not_own : (p.uid == u) ≡ false → owns u l.pid rows.processes ≡ false
       not_own e = by_bool (owns u l.pid rows.processes) (λ is. true≢false (sym
           ((find_some (λ q. q.pid == p.pid) (λ q. list_any (λ r. (r.pid == q.pid) && (r.uid == u)) rows.processes ≡ true → (q.uid == u) ≡ true) rows.processes (one_row (λ r. r.uid == u) rows.processes s.stands.rising) p j.home).0
           (subst (λ n. owns u n rows.processes ≡ true) j.own is)) ∙ e))
-
-      by_user : (c : Bool) → (p.uid == u) ≡ c → lwp_count_of u made ≤ 1000
-      by_user true e = let most : lwp_count_of u rows < 1000 = subst (λ w. lwp_count_of w rows < 1000) (eqb-true p.uid u e) j.few in let one = cond_at_most (owns u l.pid rows.processes) in omega (arith, all, most, one)
-      by_user false e = let most = s.stands.few_lwps u its in let none : cond {A = ℕ} (owns u l.pid rows.processes) 1 0 ≡ 0 = rw (not_own e) refl in omega (arith, all, most, none)
 
   pub joined_sound : IsSound made
   joined_sound = record {

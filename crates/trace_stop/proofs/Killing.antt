@@ -1,15 +1,9 @@
 -- The end of a process keeps rows sound.
 use Rattle.std.proofs.Common.{◌≡◌, ℕ, suc, Bool, true, false, ◌==◌, ◌&&◌, ◌||◌, List, Option, Some, None, IfSome, refl, sym, ap, ◌∙◌, true≢false, subst, arith, eqb-true, eq-eqb, rules}
-use Rattle.std.specs.List.{AllByRecursion}
-use Rattle.proc_table.specs.declared.ProcData.{ProcData}
-use Rattle.proc_table.specs.Processes.{is_live, traces, is_this, process_of}
-use Rattle.proc_table.specs.Rows.{Rows}
+use Rattle.trace_stop.proofs.Words.{AllByRecursion, ProcData, is_live, traces, is_this, process_of, Rows, is_end, IsSound, FitProcess}
 use Rattle.trace_stop.specs.declared.Settings.{Settings}
 use Rattle.trace_stop.specs.End.{tracer_in, tracer_of, meets, is_doomed, dooms, end_of, left_alone, end}
-use Rattle.trace_stop.specs.Sound.{is_end}
-use Rattle.trace_stop.specs.Facts.{IsSound, FitProcess}
-use Rattle.trace_stop.proofs.Every.{and_left, and_right, both, by_bool, or_true, or_left, All-imply, All-both, any_holds}
-use Rattle.trace_stop.proofs.Stops.{find_passes}
+use Rattle.trace_stop.proofs.Every.{and_left, and_right, both, by_bool, or_true, or_left, or_right, All-imply, All-both, any_holds, find_passes}
 use Rattle.trace_stop.proofs.Ending.{Ends, end_each_sound}
 use Rattle.trace_stop.proofs.Chains.{meets-more, chains_meet}
 use Rattle.trace_stop.proofs.Changed.{Row, holds_sound, row_is, all_rows}
@@ -18,11 +12,8 @@ meets_step : (ps : List ProcData) (links p n t : ℕ) → tracer_of ps n ≡ Som
 unfolding meets
 meets_step ps links p n t is near = rw is near
 
-same_test : (a b : Bool) → (a ≡ true → b ≡ true) → (b ≡ true → a ≡ true) → a ≡ b
+pub same_test : (a b : Bool) → (a ≡ true → b ≡ true) → (b ≡ true → a ≡ true) → a ≡ b
 same_test a b h k = grind (arith, h, k)
-
-or_second : (a b : Bool) → b ≡ true → (a || b) ≡ true
-or_second a b is = grind (arith, is)
 
 or_cases : (a b : Bool) (R : Type 0) → (a || b) ≡ true → (a ≡ true → R) → (b ≡ true → R) → R
 or_cases true b R is h k = h refl
@@ -48,44 +39,41 @@ module _ (settings : Settings) (rows : Rows) (p : ProcData) (s : IsSound rows) (
   ends_live : (q : ProcData) → Known q → ends q ≡ true → is_live q ≡ true
   ends_live q k e = search (rules, or_cases, row_is, eqb-true, and_right, and_left)
 
+  -- a doomed number is p, or where debuggers kill it has a chain to p
+  doomed : (t : ℕ) (R : Type 0) → over t ≡ true → (t ≡ p.pid → R) → (settings.kill_on_debugger_exit ≡ true → meets 250 rows.processes p.pid t ≡ true → R) → R
+  doomed t R is self far = any_holds (λ r. (r.pid == t) && ends r) Known R (λ r k h.
+      let here : r.pid ≡ t = eqb-true r.pid t (and_left (r.pid == t) (ends r) h) in
+      or_cases (r.pid == p.pid) (settings.kill_on_debugger_exit && is_live r && meets 250 rows.processes p.pid r.pid) R (and_right (r.pid == t) (ends r) h)
+      (λ same. self (sym here ∙ eqb-true r.pid p.pid same))
+      (λ met. far (and_left settings.kill_on_debugger_exit (is_live r) (and_left (settings.kill_on_debugger_exit && is_live r) (meets 250 rows.processes p.pid r.pid) met))
+      (subst (λ n. meets 250 rows.processes p.pid n ≡ true) here (and_right (settings.kill_on_debugger_exit && is_live r) (meets 250 rows.processes p.pid r.pid) met)))) rows.processes known is
+
   -- where debuggers kill, a chain of tracers is doomed whole
-  killed : settings.kill_on_debugger_exit ≡ true → (q : ProcData) → Known q → is_live q ≡ true → ends q ≡ false → IfSome q.tracer (λ t. over t ≡ false)
-  killed kills q k alive stays = by_tracer q.tracer refl
+  killed : settings.kill_on_debugger_exit ≡ true → (q : ProcData) → Known q → is_live q ≡ true → ends q ≡ false → (o : Option ℕ) → q.tracer ≡ o → IfSome o (λ t. over t ≡ false)
+  killed kills q k alive stays None e = tt
+  killed kills q k alive stays (Some t) e = by_bool (over t) (λ is. doomed t ⊥ is
+      (λ same. far (meets_step rows.processes 249 p.pid q.pid t link (or_left (t == p.pid) (meets 249 rows.processes p.pid t) (eq-eqb t p.pid same))))
+      (λ kill met. far (meets-more 249 rows.processes p.pid q.pid (chains_meet rows 251 p.pid q.pid s.stands (meets_step rows.processes 250 p.pid q.pid t link (or_right (t == p.pid) (meets 250 rows.processes p.pid t) met))))))
     where
+      link : tracer_of rows.processes q.pid ≡ Some t
+      link = ap tracer_in k.at ∙ e
+
       far : meets 250 rows.processes p.pid q.pid ≡ true → ⊥
       far near = true≢false (sym (by_kill near) ∙ stays)
         where
           by_kill : meets 250 rows.processes p.pid q.pid ≡ true → ends q ≡ true
-          by_kill e = rw (kills, alive, e) (or_true (q.pid == p.pid))
-
-      by_tracer : (o : Option ℕ) → q.tracer ≡ o → IfSome o (λ t. over t ≡ false)
-      by_tracer None e = tt
-      by_tracer (Some t) e = by_bool (over t) (λ is. any_holds (λ r. (r.pid == t) && ends r) Known ⊥ (λ r k' h.
-          let here : r.pid ≡ t = eqb-true r.pid t (and_left (r.pid == t) (ends r) h) in
-          let link : tracer_of rows.processes q.pid ≡ Some t = ap tracer_in k.at ∙ e in
-          or_cases (r.pid == p.pid) (settings.kill_on_debugger_exit && is_live r && meets 250 rows.processes p.pid r.pid) ⊥ (and_right (r.pid == t) (ends r) h)
-          (λ same. far (meets_step rows.processes 249 p.pid q.pid t link (or_left (t == p.pid) (meets 249 rows.processes p.pid t) (eq-eqb t p.pid (sym here ∙ eqb-true r.pid p.pid same)))))
-          (λ doomed. far (meets-more 249 rows.processes p.pid q.pid (chains_meet rows 251 p.pid q.pid s.stands (meets_step rows.processes 250 p.pid q.pid t link (or_second (t == p.pid) (meets 250 rows.processes p.pid t) (subst (λ n. meets 250 rows.processes p.pid n ≡ true) here (and_right (settings.kill_on_debugger_exit && is_live r) (meets 250 rows.processes p.pid r.pid) doomed))))))))
-          rows.processes known is)
+          by_kill met = rw (kills, alive, met) (or_true (q.pid == p.pid))
 
   -- where they don't, and nobody live is traced by p, p ends alone
-  alone : settings.kill_on_debugger_exit ≡ false → AllByRecursion (λ q. is_live q ≡ true → traces p.pid q ≡ false) rows.processes → (q : ProcData) → Known q → (is_live q ≡ true → traces p.pid q ≡ false) → is_live q ≡ true → IfSome q.tracer (λ t. over t ≡ false)
-  alone spares none q k free alive = by_tracer q.tracer refl
-    where
-      by_tracer : (o : Option ℕ) → q.tracer ≡ o → IfSome o (λ t. over t ≡ false)
-      by_tracer None e = tt
-      by_tracer (Some t) e = by_bool (over t) (λ is. any_holds (λ r. (r.pid == t) && ends r) Known ⊥ (λ r k' h.
-          let here : r.pid ≡ t = eqb-true r.pid t (and_left (r.pid == t) (ends r) h) in
-          or_cases (r.pid == p.pid) (settings.kill_on_debugger_exit && is_live r && meets 250 rows.processes p.pid r.pid) ⊥ (and_right (r.pid == t) (ends r) h)
-          (λ same. true≢false (sym (eq-eqb t p.pid (sym here ∙ eqb-true r.pid p.pid same)) ∙ (sym (ap (is_this p.pid) e) ∙ free alive)))
-          (λ doomed. true≢false (sym (and_left settings.kill_on_debugger_exit (is_live r) (and_left (settings.kill_on_debugger_exit && is_live r) (meets 250 rows.processes p.pid r.pid) doomed)) ∙ spares)))
-          rows.processes known is)
+  alone : settings.kill_on_debugger_exit ≡ false → (q : ProcData) → traces p.pid q ≡ false → (o : Option ℕ) → q.tracer ≡ o → IfSome o (λ t. over t ≡ false)
+  alone spares q free None e = tt
+  alone spares q free (Some t) e = by_bool (over t) (λ is. doomed t ⊥ is (λ same. true≢false (sym (eq-eqb t p.pid same) ∙ (sym (ap (is_this p.pid) e) ∙ free))) (λ kill met. true≢false (sym kill ∙ spares)))
 
   pub end_of_killing : (status : ℕ) → is_end status ≡ true → settings.kill_on_debugger_exit ≡ true → IsSound (end_of settings p.pid status rows)
-  end_of_killing status word kills = end_each_sound rows ends over p.pid status s word (All-imply Known (Ends rows ends over) (λ q k. record { same = over_is q k; live = ends_live q k; kept = killed kills q k }) rows.processes known)
+  end_of_killing status word kills = end_each_sound rows ends over p.pid status s word (All-imply Known (Ends rows ends over) (λ q k. record { same = over_is q k; live = ends_live q k; kept = λ alive stays. killed kills q k alive stays q.tracer refl }) rows.processes known)
 
   pub end_of_sparing : (status : ℕ) → is_end status ≡ true → settings.kill_on_debugger_exit ≡ false → AllByRecursion (λ q. is_live q ≡ true → traces p.pid q ≡ false) rows.processes → IsSound (end_of settings p.pid status rows)
-  end_of_sparing status word spares none = end_each_sound rows ends over p.pid status s word (All-imply (λ q. Known q × (is_live q ≡ true → traces p.pid q ≡ false)) (Ends rows ends over) (λ q h. record { same = over_is q h.0; live = ends_live q h.0; kept = λ alive stays. alone spares none q h.0 h.1 alive }) rows.processes (All-both Known _ rows.processes known none))
+  end_of_sparing status word spares none = end_each_sound rows ends over p.pid status s word (All-imply (λ q. Known q × (is_live q ≡ true → traces p.pid q ≡ false)) (Ends rows ends over) (λ q h. record { same = over_is q h.0; live = ends_live q h.0; kept = λ alive stays. alone spares q (h.1 alive) q.tracer refl }) rows.processes (All-both Known _ rows.processes known none))
 
 -- where debuggers kill, the end of a live process keeps rows sound
 pub end_killing : (settings : Settings) (rows : Rows) (p : ProcData) (status : ℕ) → IsSound rows → process_of p.pid rows.processes ≡ Some p → is_live p ≡ true → is_end status ≡ true → settings.kill_on_debugger_exit ≡ true → IsSound (end settings p.pid status rows)

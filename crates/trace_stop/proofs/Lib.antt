@@ -26,5 +26,4 @@ pub mod Posts
 pub mod Linking
 pub mod Joining
 pub mod Found
-pub mod Shows
-pub mod Named
+pub mod Words

@@ -1,29 +1,16 @@
 -- A process gets a tracer: the new link closes no ring, and rows stay sound but for the process itself.
-use Rattle.std.proofs.lemmas.Bool.Decides.{nat_tests}
+use Rattle.trace_stop.proofs.Words.{nat_tests, LwpData, ProcData, reporting, process_of, Rows, each, change_process, names_own, IsLiveOf, FitProcess, FitLwp, IsSound}
 use Rattle.std.proofs.Common.{◌≡◌, ◌≢◌, ◌⊎◌, inl, inr, ℕ, zero, suc, ◌+◌, Bool, true, false, ◌==◌, ◌||◌, if◌then◌else◌, List, [], ◌∷◌, filter_map, Option, Some, None, refl, sym, ap, ◌∙◌, true≢false, subst, arith, eqb-true, eq-eqb}
 use Rattle.event_masks.specs.declared.EventMask.{EventMask}
-use Rattle.lwp_table.specs.declared.LwpData.{LwpData}
-use Rattle.proc_table.specs.declared.ProcData.{ProcData}
-use Rattle.proc_table.specs.Processes.{reporting, process_of}
-use Rattle.proc_table.specs.Rows.{Rows, each, change_process}
 use Rattle.trace_stop.specs.End.{holds_of, tracer_in, tracer_of, meets}
-use Rattle.trace_stop.specs.Sound.{names_own}
-use Rattle.trace_stop.specs.Facts.{IsLiveOf, FitProcess, FitLwp, IsSound}
-use Rattle.trace_stop.proofs.Every.{or_left, by_bool, choose}
+use Rattle.trace_stop.proofs.Every.{or_left, or_right, by_bool, choose}
 use Rattle.trace_stop.proofs.Edited.{If_more}
 use Rattle.trace_stop.proofs.Changed.{Holds, Row, Same, Stay, NoNewRing, KeptRow, nobody, holds_sound, row_is, like_self, peopled_on, kept_all, kept_lwp, none_gone, stay, edit_holds, processes_alone}
 use Rattle.trace_stop.proofs.Changes.{changed_own}
-use Rattle.trace_stop.proofs.Chains.{or_more, meets-more}
-use Rattle.trace_stop.proofs.Chains.{meets-up, chains_meet}
+use Rattle.trace_stop.proofs.Chains.{or_more, meets-more, meets-up, chains_meet}
+use Rattle.std.proofs.lemmas.Bool.{or_parts}
 
 -- Chains
-
-or_second : (a : Bool) {b : Bool} → b ≡ true → (a || b) ≡ true
-or_second true h = refl
-or_second false h = h
-
-or_none : (a b : Bool) → (a || b) ≡ false → b ≡ false
-or_none a b is = grind (arith, is)
 
 -- from a process to p, and from p on
 pub meets_joined : (ps : List ProcData) (j k x p n : ℕ) → meets k ps p n ≡ true → ((p == x) || meets j ps x p) ≡ true → meets (k + j) ps x n ≡ true
@@ -37,7 +24,7 @@ meets_joined ps j (suc k) x p n is on = let one : suc (k + j) ≡ suc k + j = om
       where
         at_tracer : (b : Bool) → (t == p) ≡ b → (b || meets k ps p t) ≡ true → ((t == x) || meets (k + j) ps x t) ≡ true
         at_tracer true same i = let it = eqb-true t p same in subst (λ m. ((m == x) || meets (k + j) ps x m) ≡ true) (sym it) (or_more (p == x) (meets j ps x p) (meets (k + j) ps x p) (meets-up k j ps x p) on)
-        at_tracer false same i = or_second (t == x) (rest t i on)
+        at_tracer false same i = or_right (t == x) _ (rest t i on)
 
 module _ (ps qs : List ProcData) (p n : ℕ) (here : tracer_of qs p ≡ Some n) (same : (m : ℕ) → m ≢ p → tracer_of qs m ≡ tracer_of ps m) where
   next_never : (m t : ℕ) → tracer_of ps m ≡ Some t → ((j : ℕ) → meets j ps p m ≡ false) → (j : ℕ) → ((t == p) || meets j ps p t) ≡ false
@@ -54,7 +41,7 @@ module _ (ps qs : List ProcData) (p n : ℕ) (here : tracer_of qs p ≡ Some n) 
       by_tracer None e rest = rw (same m other ∙ e, e) refl
       by_tracer (Some t) e rest = rw (same m other ∙ e, e) (ap (λ b. (t == x) || b) (rest t
           (λ it. true≢false (sym (or_left (t == p) (meets zero ps p t) (eq-eqb t p it)) ∙ next_never m t e never zero))
-          (λ j. or_none (t == p) (meets j ps p t) (next_never m t e never j))))
+          (λ j. (or_parts (t == p) (meets j ps p t) (next_never m t e never j)).1)))
 
   module _ (other : n ≢ p) (never : (j : ℕ) → meets j ps p n ≡ false) where
     -- what is met now was met before, or lies beyond the new link
@@ -74,8 +61,8 @@ module _ (ps qs : List ProcData) (p n : ℕ) (here : tracer_of qs p ≡ Some n) 
         at_tracer t e false it h rest = on (rest h)
           where
             on : Met links x t → Met (suc links) x m
-            on (inl k) = inl (rw e (or_second (t == x) k))
-            on (inr k) = inr (or_second (m == p) (rw e k.0), beyond m refl k.1)
+            on (inl k) = inl (rw e (or_right (t == x) _ k))
+            on (inr k) = inr (or_right (m == p) _ (rw e k.0), beyond m refl k.1)
 
         by_tracer : (o : Option ℕ) → tracer_of ps m ≡ o → holds_of (λ t. (t == x) || meets links qs x t) o ≡ true → ((t : ℕ) → meets links qs x t ≡ true → Met links x t) → Met (suc links) x m
         by_tracer None e h rest = absurd (true≢false (sym h))
@@ -156,7 +143,7 @@ module _ (rows : Rows) (p : ProcData) (n : ℕ) (mask : EventMask) (s : IsSound 
   lwp_fits q l fit = grind (arith, nat_tests)
 
   pub linked_holds : Holds Traced FitLwp (change_process p.pid linked rows)
-  linked_holds = subst (Holds Traced FitLwp) (processes_alone rows s.stands.housed to) (edit_holds rows nobody to (λ q l. Some l) FitProcess FitLwp Traced FitLwp (holds_sound rows s) (record {
+  linked_holds = subst (Holds Traced FitLwp) (processes_alone to rows) (edit_holds rows nobody to (λ q l. Some l) FitProcess FitLwp Traced FitLwp (holds_sound rows s) (record {
     same = same_rows;
     ring = ring;
     gone = none_gone rows FitProcess (λ q l. Some l);

@@ -1,15 +1,8 @@
 -- Lists edited twice, and what is found after an edit.
-use Rattle.std.proofs.Common.{◌≡◌, ℕ, ◌+◌, ◌<◌, List, [], ◌∷◌, filter_map, find, Bool, true, false, cond, ◌||◌, ◌==◌, Option, Some, None, IfSome, refl, sym, ap, ◌∙◌, arith, eqb, eqb-true, eq-eqb, rules}
-use Rattle.std.specs.Prelude.{count_by}
-use Rattle.std.specs.Option.{option_and_then}
-use Rattle.std.specs.List.{AllByRecursion, list_any, cons_option}
-use Rattle.std.proofs.lemmas.Bool.Decides.{nat_tests}
-use Rattle.proc_table.specs.declared.ProcData.{ProcData}
-use Rattle.lwp_table.specs.declared.LwpData.{LwpData}
-use Rattle.proc_table.specs.Processes.{process_of, is_live}
-use Rattle.proc_table.specs.Rows.{Rows, by_owner, each}
-use Rattle.proc_table.specs.Kept.{AllAbove, Rise}
-use Rattle.trace_stop.proofs.Every.{find_some, All-imply, All-both, count-cons}
+use Rattle.std.proofs.Common.{◌≡◌, ℕ, ◌+◌, ◌<◌, List, [], ◌∷◌, filter_map, find, Bool, true, false, cond, ◌||◌, ◌==◌, Option, Some, None, IfSome, refl, sym, ap, ◌∙◌, arith, eqb, eqb-true, eq-eqb, rules, count_by}
+use Rattle.trace_stop.proofs.Words.{option_and_then, AllByRecursion, list_any, cons_option, nat_tests, ProcData, LwpData, process_of, is_live, Rows, by_owner, each, AllAbove, Rise}
+use Rattle.trace_stop.proofs.Every.{find_some, All-imply, All-any, All-both, count-cons}
+use Rattle.proc_table.proofs.Every.{every_found}
 
 pub filter_map_same : {X Y : Type 0} (f g : X → Option Y) (xs : List X) → AllByRecursion (λ x. f x ≡ g x) xs → filter_map f xs ≡ filter_map g xs
 filter_map_same f g [] all = refl
@@ -81,21 +74,31 @@ own_rows (p ∷ ps) rise = (rw (eq-eqb p.pid p.pid refl) refl, All-imply (λ q. 
     later : (q : ProcData) → (p.pid < q.pid) × (process_of q.pid ps ≡ Some q) → process_of q.pid (p ∷ ps) ≡ Some q
     later q h = let lt = h.0 in let other : eqb p.pid q.pid ≡ false = grind (arith, nat_tests) in rw other h.1
 
--- edits that agree on the rows
+-- edits that agree on the rows there are
+pub each_equal : (f g : ProcData → Option ProcData) (lwp lwp' : ProcData → LwpData → Option LwpData) (rows : Rows) → AllByRecursion (λ p. f p ≡ g p) rows.processes
+    → AllByRecursion (λ l. (p : ProcData) → process_of l.pid rows.processes ≡ Some p → lwp p l ≡ lwp' p l) rows.lwps → each f lwp rows ≡ each g lwp' rows
+each_equal f g lwp lwp' rows all every =
+    ap (λ (ps : List ProcData). record rows { processes = ps; lwps = filter_map (λ l. by_owner lwp l (process_of l.pid rows.processes)) rows.lwps }) (filter_map_same f g rows.processes all)
+    ∙ ap (λ (ls : List LwpData). record rows { processes = filter_map g rows.processes; lwps = ls })
+    (filter_map_same _ _ rows.lwps (All-imply (λ l. (p : ProcData) → process_of l.pid rows.processes ≡ Some p → lwp p l ≡ lwp' p l) _ (λ l h. at_owner l (process_of l.pid rows.processes) h) rows.lwps every))
+  where
+    at_owner : (l : LwpData) (o : Option ProcData) → ((p : ProcData) → o ≡ Some p → lwp p l ≡ lwp' p l) → by_owner lwp l o ≡ by_owner lwp' l o
+    at_owner l None h = refl
+    at_owner l (Some p) h = h p refl
+
+-- edits that agree on the rows, and on the LWPs of live ones, which are all LWPs
+pub each_agree : (f g : ProcData → Option ProcData) (lwp lwp' : ProcData → LwpData → Option LwpData) (rows : Rows)
+    → AllByRecursion (λ p. (f p ≡ g p) × (is_live p ≡ true → (l : LwpData) → lwp p l ≡ lwp' p l)) rows.processes
+    → AllByRecursion (λ l. (p : ProcData) → process_of l.pid rows.processes ≡ Some p → is_live p ≡ true) rows.lwps → each f lwp rows ≡ each g lwp' rows
+each_agree f g lwp lwp' rows all owners = each_equal f g lwp lwp' rows (All-imply _ (λ p. f p ≡ g p) (λ p h. h.0) rows.processes all)
+    (All-imply (λ l. (p : ProcData) → process_of l.pid rows.processes ≡ Some p → is_live p ≡ true) _
+    (λ l live p at. (every_found (λ q. (f q ≡ g q) × (is_live q ≡ true → (k : LwpData) → lwp q k ≡ lwp' q k)) (λ q. q.pid == l.pid) rows.processes p all at).1 (live p at) l) rows.lwps owners)
+
+-- and so do edits that agree on the LWPs of each row
 pub each_same : (f g : ProcData → Option ProcData) (lwp lwp' : ProcData → LwpData → Option LwpData) (rows : Rows)
     → AllByRecursion (λ p. (f p ≡ g p) × ((l : LwpData) → lwp p l ≡ lwp' p l)) rows.processes → each f lwp rows ≡ each g lwp' rows
-each_same f g lwp lwp' rows all =
-    ap (λ (ps : List ProcData). record rows { processes = ps; lwps = filter_map (λ l. by_owner lwp l (process_of l.pid rows.processes)) rows.lwps })
-    (filter_map_same f g rows.processes (All-imply _ (λ p. f p ≡ g p) (λ p h. h.0) rows.processes all))
-    ∙ ap (λ (ls : List LwpData). record rows { processes = filter_map g rows.processes; lwps = ls }) (filter_map_same _ _ rows.lwps (every rows.lwps))
-  where
-    at_owner : (l : LwpData) (o : Option ProcData) → process_of l.pid rows.processes ≡ o → by_owner lwp l o ≡ by_owner lwp' l o
-    at_owner l None is = refl
-    at_owner l (Some p) is = (find_some (λ q. q.pid == l.pid) (λ q. (f q ≡ g q) × ((k : LwpData) → lwp q k ≡ lwp' q k)) rows.processes all p is).0.1 l
-
-    every : (ls : List LwpData) → AllByRecursion (λ l. by_owner lwp l (process_of l.pid rows.processes) ≡ by_owner lwp' l (process_of l.pid rows.processes)) ls
-    every [] = tt
-    every (l ∷ ls) = (at_owner l (process_of l.pid rows.processes) refl, every ls)
+each_same f g lwp lwp' rows all = each_equal f g lwp lwp' rows (All-imply _ (λ p. f p ≡ g p) (λ p h. h.0) rows.processes all)
+    (All-any _ (λ l p at. (every_found (λ q. (f q ≡ g q) × ((k : LwpData) → lwp q k ≡ lwp' q k)) (λ q. q.pid == l.pid) rows.processes p all at).1 l) rows.lwps)
 
 -- an edit of LWPs that keeps their processes
 abbrev pub KeepsOwners : (ProcData → LwpData → Option LwpData) → Type 0
@@ -105,18 +108,3 @@ KeepsOwners lwp = (p : ProcData) (l : LwpData) → IfSome (lwp p l) (λ k. k.pid
 pub each_twice : (f g : ProcData → Option ProcData) (lwp lwp' : ProcData → LwpData → Option LwpData) (rows : Rows) → Rise rows.processes → KeepsNumbers f → KeepsOwners lwp
     → each g lwp' (each f lwp rows) ≡ each (λ p. option_and_then g (f p)) (λ p l. option_and_then (λ k. by_owner lwp' k (f p)) (lwp p l)) rows
 each_twice f g lwp lwp' rows rise keeps owners = search (rules, filter_map_twice, filter_map_same, process_edited)
-
--- edits that agree on the rows, and on the LWPs of live ones, which are all LWPs
-pub each_agree : (f g : ProcData → Option ProcData) (lwp lwp' : ProcData → LwpData → Option LwpData) (rows : Rows)
-    → AllByRecursion (λ p. (f p ≡ g p) × (is_live p ≡ true → (l : LwpData) → lwp p l ≡ lwp' p l)) rows.processes
-    → AllByRecursion (λ l. (p : ProcData) → process_of l.pid rows.processes ≡ Some p → is_live p ≡ true) rows.lwps → each f lwp rows ≡ each g lwp' rows
-each_agree f g lwp lwp' rows all owners =
-    ap (λ (ps : List ProcData). record rows { processes = ps; lwps = filter_map (λ l. by_owner lwp l (process_of l.pid rows.processes)) rows.lwps })
-    (filter_map_same f g rows.processes (All-imply _ (λ p. f p ≡ g p) (λ p h. h.0) rows.processes all))
-    ∙ ap (λ (ls : List LwpData). record rows { processes = filter_map g rows.processes; lwps = ls })
-    (filter_map_same _ _ rows.lwps (All-imply (λ l. (p : ProcData) → process_of l.pid rows.processes ≡ Some p → is_live p ≡ true) _ (λ l live. at_owner l (process_of l.pid rows.processes) refl live) rows.lwps owners))
-  where
-    at_owner : (l : LwpData) (o : Option ProcData) → process_of l.pid rows.processes ≡ o → ((p : ProcData) → process_of l.pid rows.processes ≡ Some p → is_live p ≡ true) → by_owner lwp l o ≡ by_owner lwp' l o
-    at_owner l None is live = refl
-    at_owner l (Some p) is live =
-        (find_some (λ q. q.pid == l.pid) (λ q. (f q ≡ g q) × (is_live q ≡ true → (k : LwpData) → lwp q k ≡ lwp' q k)) rows.processes all p is).0.1 (live p is) l

@@ -1,14 +1,11 @@
 -- A new process at its place among the others.
-use Rattle.std.proofs.lemmas.Bool.Decides.{nat_tests}
-use Rattle.std.proofs.Common.{◌≡◌, ◌≢◌, ℕ, zero, suc, ◌+◌, ◌<◌, List, [], ◌∷◌, ◌++◌, filter, find, Bool, true, false, cond, ◌==◌, ◌||◌, ltb, Option, Some, None, IfSome, refl, sym, ap, ◌∙◌, arith, eqb-true, eq-eqb, lt-ltb, inl, inr, rules}
-use Rattle.std.specs.Prelude.{count_by}
-use Rattle.std.specs.List.{AllByRecursion, list_any}
-use Rattle.std.proofs.lemmas.Bool.{cases_Bool}
-use Rattle.proc_table.specs.declared.ProcData.{ProcData}
-use Rattle.proc_table.specs.Processes.{process_of, placed}
-use Rattle.proc_table.specs.Kept.{Rise, AllAbove}
+use Rattle.trace_stop.proofs.Words.{nat_tests, list_any, cases_Bool, ProcData, process_of, placed, Rise, AllAbove}
+use Rattle.std.proofs.Common.{◌≡◌, ◌≢◌, ℕ, zero, suc, ◌+◌, ◌<◌, List, [], ◌∷◌, ◌++◌, filter, Bool, false, cond, ◌==◌, ◌||◌, ltb, Option, Some, None, IfSome, refl, ap, ◌∙◌, arith, eqb-true, lt-ltb, inl, inr, count_by}
 use Rattle.trace_stop.specs.End.{tracer_of, meets}
-use Rattle.trace_stop.proofs.Every.{by_bool, All-append, All-filter, count-cons, count-append}
+use Rattle.trace_stop.proofs.Every.{by_bool, count-cons, count-append}
+use Rattle.proc_table.proofs.Rising.{AllAbove-lower, Lacks-from_any}
+use Rattle.proc_table.proofs.Placed.{placed-found, process_of-placed as other_placed}
+pub use Rattle.proc_table.proofs.Rising.{Rise-filter}
 
 -- one element more in the middle
 
@@ -19,51 +16,8 @@ any_mid q x (y ∷ xs) ys = grind (arith, any_mid q x xs ys)
 count_mid : {X : Type 0} (q : X → Bool) (x : X) (xs ys : List X) → count_by q (xs ++ (x ∷ ys)) ≡ cond (q x) 1 0 + count_by q (xs ++ ys)
 count_mid q x xs ys = let all = count-append q xs (x ∷ ys) in let some = count-append q xs ys in let head = count-cons q x ys in omega (arith, all, some, head)
 
-find_mid : {X : Type 0} (q : X → Bool) (x : X) (xs ys : List X) → q x ≡ false → find q (xs ++ (x ∷ ys)) ≡ find q (xs ++ ys)
-find_mid q x [] ys is = rw is refl
-find_mid q x (y ∷ xs) ys is = ap (λ o. cond (q y) (Some y) o) (find_mid q x xs ys is)
+-- rising rows, split by a number that no row has
 
-find_here : {X : Type 0} (q : X → Bool) (x : X) (xs ys : List X) → list_any q (xs ++ ys) ≡ false → q x ≡ true → find q (xs ++ (x ∷ ys)) ≡ Some x
-find_here q x [] ys none is = rw is refl
-find_here q x (y ∷ xs) ys none is = grind (arith, none, is, find_here q x xs ys)
-
-All_mid : {X : Type 0} (P : X → Type 0) (x : X) (xs ys : List X) → AllByRecursion P xs → P x → AllByRecursion P ys → AllByRecursion P (xs ++ (x ∷ ys))
-All_mid P x xs ys all here rest = All-append P xs (x ∷ ys) all (here, rest)
-
--- rising rows
-
-above_lower : (m n : ℕ) → m < n → (ps : List ProcData) → AllAbove n ps → AllAbove m ps
-above_lower m n lt [] all = tt
-above_lower m n lt (p ∷ ps) all = (omega (arith, all.0), above_lower m n lt ps all.1)
-
-above_filter : (q : ProcData → Bool) (n : ℕ) (ps : List ProcData) → AllAbove n ps → AllAbove n (filter q ps)
-above_filter q n [] all = tt
-above_filter q n (p ∷ ps) all = grind (arith, nat_tests, above_filter q n ps all.1)
-
-pub Rise-filter : (q : ProcData → Bool) (ps : List ProcData) → Rise ps → Rise (filter q ps)
-Rise-filter q [] rise = tt
-Rise-filter q (p ∷ ps) rise = search (rules, Rise-filter q ps rise.1, cases_Bool, above_filter)
-
-above_append : (n : ℕ) (xs ys : List ProcData) → AllAbove n xs → AllAbove n ys → AllAbove n (xs ++ ys)
-above_append n [] ys all rest = rest
-above_append n (x ∷ xs) ys all rest = (all.0, above_append n xs ys all.1 rest)
-
-above_beyond : (n : ℕ) (ps : List ProcData) → AllAbove n (filter (λ q. ltb n q.pid) ps)
-above_beyond n [] = tt
-above_beyond n (p ∷ ps) = grind (arith, nat_tests, above_beyond n ps)
-
-all_below : (n : ℕ) (ps : List ProcData) → AllByRecursion (λ q. q.pid < n) (filter (λ q. ltb q.pid n) ps)
-all_below n [] = tt
-all_below n (p ∷ ps) = grind (arith, nat_tests, all_below n ps)
-
-Rise_mid : (p : ProcData) (xs ys : List ProcData) → Rise xs → AllByRecursion (λ q. q.pid < p.pid) xs → Rise ys → AllAbove p.pid ys → Rise (xs ++ (p ∷ ys))
-Rise_mid p [] ys rise below rest above = (above, rest)
-Rise_mid p (x ∷ xs) ys rise below rest above = (above_append x.pid xs (p ∷ ys) rise.0 (below.0, above_lower x.pid p.pid below.0 ys above), Rise_mid p xs ys rise.1 below.1 rest above)
-
-pub Rise-placed : (p : ProcData) (ps : List ProcData) → Rise ps → Rise (placed p ps)
-Rise-placed p ps rise = Rise_mid p (filter (λ q. ltb q.pid p.pid) ps) (filter (λ q. ltb p.pid q.pid) ps) (Rise-filter (λ q. ltb q.pid p.pid) ps rise) (all_below p.pid ps) (Rise-filter (λ q. ltb p.pid q.pid) ps rise) (above_beyond p.pid ps)
-
--- a number that no row has
 abbrev pub IsFree : ℕ → List ProcData → Type 0
 IsFree n ps = list_any (λ q. q.pid == n) ps ≡ false
 
@@ -82,7 +36,7 @@ split n (p ∷ ps) rise free = elim (cases_Bool (ltb p.pid n)) [
   | inl e ↦ grind (arith, nat_tests, e, free, split n ps rise.1)
   | inr e ↦
       let lt : n < p.pid = grind (arith, nat_tests, e, free) in
-      let over = above_lower n p.pid lt ps rise.0 in
+      let over = AllAbove-lower n p.pid (omega (arith, lt)) ps rise.0 in
       rw (e, none_below n ps over, lt-ltb n p.pid lt, all_above n ps over) refl
 ]
 
@@ -100,13 +54,10 @@ module _ (p : ProcData) (ps : List ProcData) (rise : Rise ps) (free : IsFree p.p
   count-placed q = count_mid q p low high ∙ ap (λ xs. cond (q p) 1 0 + count_by q xs) (split p.pid ps rise free)
 
   pub process_of-other : (n : ℕ) → n ≢ p.pid → process_of n (placed p ps) ≡ process_of n ps
-  process_of-other n other = find_mid (λ q. q.pid == n) p low high (by_bool (p.pid == n) (λ e. other (sym (eqb-true p.pid n e)))) ∙ ap (find (λ q. q.pid == n)) (split p.pid ps rise free)
+  process_of-other n other = other_placed p n other ps rise (Lacks-from_any p.pid ps free)
 
   pub process_of-placed : process_of p.pid (placed p ps) ≡ Some p
-  process_of-placed = find_here (λ q. q.pid == p.pid) p low high (ap (list_any (λ q. q.pid == p.pid)) (split p.pid ps rise free) ∙ free) (eq-eqb p.pid p.pid refl)
-
-pub All-placed : (P : ProcData → Type 0) (p : ProcData) (ps : List ProcData) → AllByRecursion P ps → P p → AllByRecursion P (placed p ps)
-All-placed P p ps all here = All_mid P p (filter (λ q. ltb q.pid p.pid) ps) (filter (λ q. ltb p.pid q.pid) ps) (All-filter (λ q. ltb q.pid p.pid) P ps all) here (All-filter (λ q. ltb p.pid q.pid) P ps all)
+  process_of-placed = placed-found p ps rise (Lacks-from_any p.pid ps free)
 
 -- Chains of tracers
 

@@ -1,14 +1,7 @@
 -- Settling and posting keep rows sound.
-use Rattle.std.proofs.lemmas.Bool.Decides.{nat_tests}
+use Rattle.trace_stop.proofs.Words.{nat_tests, LwpData, ProcData, State, Run, Trace, Job, Zombie, is_live, is_zombie_state, reporting, Rows, change, unwanted, continues, posted_set, posted_process}
+use Rattle.trace_stop.proofs.Words.{posted_lwp, IfEnded, FitProcess, FitLwp}
 use Rattle.std.proofs.Common.{◌≡◌, ◌⊎◌, inl, ℕ, Bool, true, false, if◌then◌else◌, Option, None, is_none, refl, sym, ◌∙◌, true≢false, bit_and, arith, rules}
-use Rattle.lwp_table.specs.declared.LwpData.{LwpData}
-use Rattle.proc_table.specs.declared.ProcData.{ProcData}
-use Rattle.proc_table.specs.declared.State.{State}
-use Rattle.proc_table.specs.declared.State.TheVariants.{Run, Trace, Job, Zombie}
-use Rattle.proc_table.specs.Processes.{is_live, is_zombie_state, is_job_state, reporting, named_by}
-use Rattle.proc_table.specs.Rows.{Rows, change}
-use Rattle.trace_stop.specs.Post.{unwanted, continues, posted_set, posted_process, posted_lwp}
-use Rattle.trace_stop.specs.Facts.{IfEnded, FitProcess, FitLwp}
 use Rattle.trace_stop.proofs.Every.{and_right}
 use Rattle.trace_stop.proofs.Bits.{without_apart}
 use Rattle.trace_stop.proofs.Changed.{Holds}
@@ -36,12 +29,6 @@ pub beside_fits : (p q : ProcData) (l : LwpData) → q.tracer ≡ p.tracer → r
 beside_fits p q l tracer report wants fit = grind (arith, nat_tests)
 
 -- A process that a signal is posted to
-
-pub job_quiet : (s : State) → is_job_state s ≡ true → named_by s ≡ None
-job_quiet Run is = refl
-job_quiet (Trace tid sig told) is = absurd (true≢false (sym is))
-job_quiet (Job sig told) is = refl
-job_quiet (Zombie w) is = refl
 
 pub posted_fits : (s : ℕ) (to : Option ℕ) (p : ProcData) → FitProcess p → is_live p ≡ true → FitProcess (posted_process s to p)
 posted_fits s to p fit live = search (rules, is_none, pending_fits, without_apart, and_right)

@@ -1,23 +1,13 @@
 -- Posting any signal, and resuming or detaching with one, keep rows sound.
 use Rattle.std.proofs.Common.{◌≡◌, ℕ, Bool, true, false, ◌==◌, ◌||◌, not, if◌then◌else◌, [], ◌∷◌, Option, Some, refl, sym, true≢false, subst, eqb-true, eq-eqb, rules}
-use Rattle.std.specs.List.{AllByRecursion}
+use Rattle.trace_stop.proofs.Words.{AllByRecursion, SIGKILL, ends, ProcData, is_live, process_of, Rows, change, is_numbered, continues, posted_process, posted_lwp, notified, notifies, posted, running}
+use Rattle.trace_stop.proofs.Words.{resumed, detached, end, post, ends_process, resume, detach, is_end, Linked, FitProcess, IsSound, MayTell}
 use Rattle.signals.specs.Dispositions.{Actions}
-use Rattle.signals.specs.Table.{SIGKILL, ends}
-use Rattle.proc_table.specs.declared.ProcData.{ProcData}
-use Rattle.proc_table.specs.Processes.{is_live, process_of}
-use Rattle.proc_table.specs.Rows.{Rows, change, is_numbered}
 use Rattle.trace_stop.specs.declared.Settings.{Settings}
-use Rattle.trace_stop.specs.Post.{continues, posted_process, posted_lwp, notified, notifies, posted}
-use Rattle.trace_stop.specs.Detach.{running, resumed, detached}
-use Rattle.trace_stop.specs.End.{end}
-use Rattle.trace_stop.specs.Stop.{post, ends_process, resume, detach}
-use Rattle.trace_stop.specs.Sound.{is_end}
-use Rattle.trace_stop.specs.Facts.{Linked, FitProcess, IsSound}
 use Rattle.trace_stop.proofs.Every.{and_left, and_right, both, by_bool, not_true, All-imply, All-both, find_some, choose}
 use Rattle.trace_stop.proofs.Changed.{sound_holds, found_number}
 use Rattle.trace_stop.proofs.Changes.{changed_row}
 use Rattle.trace_stop.proofs.Posting.{LiveFit, post_chosen, posted_same}
-use Rattle.trace_stop.specs.Before.{MayTell}
 use Rattle.trace_stop.proofs.Numbers.{the_row}
 use Rattle.trace_stop.proofs.Stopping.{live_told, notified_sound}
 use Rattle.trace_stop.proofs.Detached.{resumed_sound, resumed_row, detached_sound, end_sound}

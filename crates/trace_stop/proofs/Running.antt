@@ -1,17 +1,7 @@
 -- Processes that run on keep rows sound: an LWP that has exited is gone, and it isn't the last one.
 use Rattle.std.proofs.Common.{◌≡◌, ◌⊎◌, inl, ℕ, ◌≤◌, Bool, true, false, ◌==◌, ◌&&◌, leb, if◌then◌else◌, option_map, unwrap_or, Option, Some, None, IfSome, refl, sym, ap, ◌∙◌, true≢false, subst, arith, eqb-true, eq-eqb, bit_and, rules}
-use Rattle.std.specs.List.{AllByRecursion}
-use Rattle.std.proofs.lemmas.Bool.{leb-true, leb-false}
-use Rattle.event_masks.specs.Exits.{shows, no_flags}
-use Rattle.event_masks.specs.declared.TheConstants.StopFlags.{PL_FLAG_EXITED}
-use Rattle.lwp_table.specs.declared.LwpData.{LwpData}
-use Rattle.proc_table.specs.declared.ProcData.{ProcData}
-use Rattle.proc_table.specs.Processes.{is_live, reporting, is_this, process_of}
-use Rattle.proc_table.specs.Rows.{Rows, owner, by_owner}
-use Rattle.proc_table.specs.Fresh.{lwp_count}
-use Rattle.trace_stop.specs.Detach.{reported, run_on}
-use Rattle.trace_stop.specs.Sound.{names_own}
-use Rattle.trace_stop.specs.Facts.{FitProcess, Standing, FitLwp, Silent, WithOwner, IsSound}
+use Rattle.trace_stop.proofs.Words.{AllByRecursion, leb-true, leb-false, shows, no_flags, PL_FLAG_EXITED, LwpData, ProcData, is_live, reporting, is_this, process_of, Rows, owner, by_owner, lwp_count}
+use Rattle.trace_stop.proofs.Words.{reported, run_on, names_own, FitProcess, Standing, FitLwp, Silent, WithOwner, IsSound}
 use Rattle.trace_stop.proofs.Every.{and_right, both, by_bool, All-both, choose}
 use Rattle.trace_stop.proofs.Edited.{count_kept, one_gone}
 use Rattle.trace_stop.proofs.Changed.{Row, Beside, Same, Stay, Leaves, KeptRow, KeptLwp, nobody, sound_holds, like_self, leaves, kept_row, kept_all, kept_lwp, none_gone, no_ring, one_left, stay, edit_holds}

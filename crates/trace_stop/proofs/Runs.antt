@@ -1,32 +1,15 @@
 -- A stopped process runs on: its reporting LWP, and its LWPs.
-use Rattle.std.proofs.Common.{◌≡◌, ℕ, Bool, true, false, List, [], ◌∷◌, map, refl, sym, ap, ◌∙◌, arith, inl, inr, cond, nat_eq, Option, Some, None, rules}
-use Rattle.std.specs.Prelude.{filter_map, option_map}
-use Rattle.std.proofs.lemmas.Bool.{cases_Bool}
-use Rattle.std.proofs.lemmas.Bool.Decides.{nat_tests}
-use Rattle.event_masks.specs.Exits.{shows}
-use Rattle.event_masks.specs.declared.TheConstants.StopFlags.{PL_FLAG_EXITED}
-use Rattle.lwp_table.specs.declared.LwpData.{LwpData}
-use Rattle.lwp_table.specs.Lwps.{LacksLwp, Differ, lwp_of, with_lwp, without_lwp}
-use Rattle.proc_table.specs.declared.ProcData.{ProcData}
-use Rattle.proc_table.specs.Processes.{process_of, reporting}
-use Rattle.proc_table.specs.Rows.{Rows, by_owner, is_numbered}
-use Rattle.proc_table.specs.Edits.{own_lwp, map_lwps}
-use Rattle.proc_table.specs.Kept.{IsKept, put_process, set_process}
+use Rattle.std.proofs.Common.{◌≡◌, ℕ, Bool, true, false, List, [], ◌∷◌, map, refl, sym, ap, ◌∙◌, arith, inl, inr, cond, nat_eq, Option, Some, None, rules, filter_map, option_map}
+use Rattle.trace_stop.proofs.Words.{cases_Bool, nat_tests, shows, PL_FLAG_EXITED, LwpData, LacksLwp, Differ, lwp_of, with_lwp, without_lwp, ProcData, process_of, reporting, Rows, by_owner}
+use Rattle.trace_stop.proofs.Words.{is_numbered, own_lwp, map_lwps, IsKept, put_process, set_process, run_on, reported, resumed, running, Stands, IsStopped, reporter, unreported, report_dropped}
 use Rattle.proc_table.proofs.Rows.{same_number, other_number, process_of-pid, lwp_of-tid}
 use Rattle.proc_table.proofs.LwpWalk.{unput}
 use Rattle.proc_table.proofs.Changes.{changed, changed-at, filter_map-map, map_lwps-none}
-use Rattle.trace_stop.specs.Detach.{run_on, reported, resumed, running}
-use Rattle.trace_stop.specs.Facts.{Stands}
-use Rattle.trace_stop.specs.Reports.{IsStopped, reporter, unreported, report_dropped}
 use Rattle.trace_stop.proofs.Stopped.{own_reporter}
 
 -- the LWPs without what one of them has reported, and without it where it has exited
 abbrev pub dropped : Bool → LwpData → List LwpData → List LwpData
 dropped gone l ls = cond gone (without_lwp l.tid ls) (with_lwp (unreported l) ls)
-
-swapped : (m n : ℕ) (b : Bool) → nat_eq m n ≡ b → nat_eq n m ≡ b
-swapped m n true e = grind (arith, nat_tests)
-swapped m n false e = grind (arith, nat_tests)
 
 removed-none : (n : ℕ) (ls : List LwpData) → LacksLwp n ls → without_lwp n ls ≡ ls
 removed-none n [] a = refl

@@ -1,24 +1,15 @@
 -- Settling makes rows sound that are so but for the pending sets of one process.
-use Rattle.std.proofs.lemmas.Bool.Decides.{nat_tests}
-use Rattle.std.proofs.Common.{◌≡◌, ◌≢◌, inl, ℕ, true, false, ◌==◌, Some, refl, sym, ◌∙◌, true≢false, subst, eqb-true, eq-eqb, bit_and, arith}
+use Rattle.trace_stop.proofs.Words.{nat_tests, without, LwpData, ProcData, is_live, process_of, Rows, change, change_process, is_numbered, unwanted, settled_process, settled_lwp, settle, FitProcess}
+use Rattle.trace_stop.proofs.Words.{FitLwp, IsSound, FitButPending, FitLwpButPending, IsSoundButPending}
+use Rattle.std.proofs.Common.{◌≡◌, ◌≢◌, inl, ℕ, true, ◌==◌, Some, refl, sym, subst, eqb-true, bit_and, arith}
 use Rattle.std.proofs.lemmas.Nat.{and_le_l}
 use Rattle.signals.specs.Dispositions.{Actions}
-use Rattle.signals.specs.Sets.{without}
-use Rattle.lwp_table.specs.declared.LwpData.{LwpData}
-use Rattle.proc_table.specs.declared.ProcData.{ProcData}
-use Rattle.proc_table.specs.Processes.{is_live, process_of}
-use Rattle.proc_table.specs.Rows.{Rows, change, change_process, is_numbered}
-use Rattle.trace_stop.specs.Post.{unwanted, settled_process, settled_lwp, settle}
-use Rattle.trace_stop.specs.Facts.{FitProcess, FitLwp, IsSound}
-use Rattle.trace_stop.specs.Before.{FitButPending, FitLwpButPending, IsSoundButPending}
 use Rattle.trace_stop.proofs.Bits.{without_apart}
 use Rattle.trace_stop.proofs.Changed.{Holds, holds_sound, sound_holds, row_is}
 use Rattle.trace_stop.proofs.Changes.{changes_hold}
 use Rattle.trace_stop.proofs.Posting.{pending_fits, lwp_pending_fits}
 use Rattle.trace_stop.proofs.Single.{process_alone}
-
-other : (a b : ℕ) → (a == b) ≡ false → a ≢ b
-other a b e same = true≢false (sym (eq-eqb a b same) ∙ e)
+use Rattle.trace_stop.proofs.Every.{not_same}
 
 settled_fits : (p : ProcData) → FitProcess (record p { pending = 0 }) × (is_live p ≡ true) → FitProcess (settled_process p)
 settled_fits p h = pending_fits (record p { pending = 0 }) (without p.pending (unwanted p)) h.0 h.1 (λ none. without_apart p.pending (unwanted p))
@@ -33,9 +24,9 @@ settle_sound rows pid s = sound_holds (settle pid rows) (changes_hold rows (is_n
   live = λ p row is. refl;
   named = λ p row is. inl refl;
   fits = λ p row is. settled_fits p (row.fact.1 (eqb-true p.pid pid is));
-  rest = λ p row is. row.fact.0 (other p.pid pid is);
+  rest = λ p row is. row.fact.0 (not_same p.pid pid is);
   fit_lwp = λ p l b is. settled_lwp_fits p l (b.fact.1 (eqb-true p.pid pid is));
-  rest_lwp = λ p l b is. b.fact.0 (other p.pid pid is);
+  rest_lwp = λ p l b is. b.fact.0 (not_same p.pid pid is);
 }))
 
 pub zero_apart : (n : ℕ) → bit_and 0 n ≡ 0
@@ -63,9 +54,9 @@ module _ (rows : Rows) (pid : ℕ) (p : ProcData) (dispose : ProcData → Action
     live = λ q row is. refl;
     named = λ q row is. inl refl;
     fits = λ q row is. (apart q (FitProcess (to q)) is, λ same. let alive = subst (λ r. is_live r ≡ true) (sym (row_is row at same)) live in (redisposed (dispose q) q row.fact alive, alive));
-    rest = λ q row is. (λ ne. row.fact, λ same. absurd (other q.pid pid is same));
+    rest = λ q row is. (λ ne. row.fact, λ same. absurd (not_same q.pid pid is same));
     fit_lwp = λ q l b is. (apart q (FitLwp (to q) l) is, λ same. redisposed_lwp (dispose q) q l b.fact);
-    rest_lwp = λ q l b is. (λ ne. b.fact, λ same. absurd (other q.pid pid is same));
+    rest_lwp = λ q l b is. (λ ne. b.fact, λ same. absurd (not_same q.pid pid is same));
   })
 
   pub disposed_but_pending : IsSoundButPending pid (change_process pid to rows)

@@ -1,12 +1,7 @@
 -- A change of one process, and of one LWP.
-use Rattle.std.proofs.lemmas.Bool.Decides.{nat_tests}
+use Rattle.trace_stop.proofs.Words.{nat_tests, LwpData, lwp_of, ProcData, is_live, reporting, process_of, Rows, each, change, change_process, change_lwp, is_numbered, IsLiveChild, FitProcess}
+use Rattle.trace_stop.proofs.Words.{waited_for, FitLwp, IsSound}
 use Rattle.std.proofs.Common.{◌≡◌, ◌⊎◌, inl, ℕ, true, ◌==◌, if◌then◌else◌, Some, None, IfSome, refl, sym, subst, eqb-true, arith, rules}
-use Rattle.lwp_table.specs.declared.LwpData.{LwpData}
-use Rattle.lwp_table.specs.Lwps.{lwp_of}
-use Rattle.proc_table.specs.declared.ProcData.{ProcData}
-use Rattle.proc_table.specs.Processes.{is_live, reporting, process_of}
-use Rattle.proc_table.specs.Rows.{Rows, each, change, change_process, change_lwp, is_numbered}
-use Rattle.trace_stop.specs.Facts.{IsLiveChild, FitProcess, waited_for, FitLwp, IsSound}
 use Rattle.trace_stop.proofs.Every.{choose}
 use Rattle.trace_stop.proofs.Edited.{edit_none}
 use Rattle.trace_stop.proofs.Changed.{Row, Beside, Same, Stay, KeptLwp, nobody, holds_sound, sound_holds, row_is, like_self, kept_all, kept_waiting, kept_lwp, none_gone, no_ring, stay, edit_holds, lwps_alone}

@@ -1,39 +1,17 @@
 -- A process in a trace stop is stopped by an LWP of its own.
-use Rattle.std.proofs.Common.{◌≡◌, ℕ, true, Option, List, [], ◌∷◌, Some, None, IsSome, is_some, refl, ap, arith, inl, inr, nat_eq, rules}
-use Rattle.std.specs.Prelude.{IfSome, ◌&&◌}
-use Rattle.std.specs.List.{list_any}
-use Rattle.std.proofs.lemmas.Bool.{cases_Bool}
-use Rattle.std.proofs.lemmas.Bool.Decides.{nat_tests}
-use Rattle.lwp_table.specs.declared.LwpData.{LwpData}
-use Rattle.lwp_table.specs.Lwps.{LacksLwp, Differ, lwp_of}
-use Rattle.proc_table.specs.declared.ProcData.{ProcData}
-use Rattle.proc_table.specs.Processes.{process_of, reporting, is_live}
-use Rattle.proc_table.specs.Rows.{Rows}
-use Rattle.proc_table.specs.Kept.{IsRow}
+use Rattle.std.proofs.Common.{◌≡◌, ℕ, true, Option, List, Some, None, IsSome, is_some, ap, arith, nat_eq, rules, IfSome, ◌&&◌, sym, eqb-true, ◌∙◌}
+use Rattle.trace_stop.proofs.Words.{list_any, nat_tests, LwpData, Differ, lwp_of, ProcData, process_of, reporting, is_live, Rows, IsRow, Stands, IsStopped}
 use Rattle.proc_table.proofs.Every.{every_found}
-use Rattle.proc_table.proofs.Rows.{other_number, process_of-pid, found_row}
-use Rattle.trace_stop.specs.Facts.{Stands}
-use Rattle.trace_stop.specs.Reports.{IsStopped}
-
-none_there : (n : ℕ) (ls : List LwpData) → LacksLwp n ls → lwp_of n ls ≡ None
-none_there n [] lacks = refl
-none_there n (l ∷ ls) lacks = rw (other_number l.tid n lacks.0) (none_there n ls lacks.1)
+use Rattle.proc_table.proofs.Rows.{process_of-pid, found_row}
+use Rattle.trace_stop.proofs.Every.{and_left, and_right, any_holds}
+use Rattle.trace_stop.proofs.Numbers.{own_lwps}
 
 -- the LWP with the number is the process's, where one of the process's has it
 pub own_found : (tid pid : ℕ) (ls : List LwpData) → Differ ls → list_any (λ l. nat_eq l.tid tid && nat_eq l.pid pid) ls ≡ true → (l : LwpData) × (lwp_of tid ls ≡ Some l) × (l.pid ≡ pid)
-own_found tid pid [] d any = absurd (cc)
-own_found tid pid (l ∷ ls) d any = elim (cases_Bool (nat_eq l.tid tid)) [
-  | inl e ↦ elim (cases_Bool (nat_eq l.pid pid)) [
-    | inl k ↦ (l, rw e refl, grind (arith, nat_tests))
-    | inr k ↦ absurd (
-        let number : l.tid ≡ tid = grind (arith, nat_tests) in
-        let rest = own_found tid pid ls d.1 (rw (e, k) at any) in
-        let none : lwp_of tid ls ≡ None = none_there tid ls (rw number at d.0) in
-        let some : lwp_of tid ls ≡ Some rest.0 = rest.1 in
-        cc)
-  ]
-  | inr e ↦ rw e (own_found tid pid ls d.1 (rw e at any))
-]
+own_found tid pid ls d any =
+    any_holds (λ l. nat_eq l.tid tid && nat_eq l.pid pid) (λ l. lwp_of l.tid ls ≡ Some l) ((l : LwpData) × (lwp_of tid ls ≡ Some l) × (l.pid ≡ pid))
+    (λ l own is. (l, ap (λ n. lwp_of n ls) (sym (eqb-true l.tid tid (and_left (nat_eq l.tid tid) (nat_eq l.pid pid) is))) ∙ own, eqb-true l.pid pid (and_right (nat_eq l.tid tid) (nat_eq l.pid pid) is)))
+    ls (own_lwps ls d) any
 
 pub own_reporter : (pid tid : ℕ) (rows : Rows) (p : ProcData) → Stands rows → process_of pid rows.processes ≡ Some p → reporting p ≡ Some tid → (l : LwpData) × (lwp_of tid rows.lwps ≡ Some l) × (l.pid ≡ pid)
 own_reporter pid tid rows p stands at reports = search (rules, every_found, own_found, process_of-pid)

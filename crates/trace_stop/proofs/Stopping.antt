@@ -1,14 +1,6 @@
 -- Notifying, trace stops and changes of one LWP keep rows sound.
 use Rattle.std.proofs.Common.{◌≡◌, ℕ, true, ◌==◌, ◌&&◌, List, [], ◌∷◌, None, sym, true≢false, eqb-true, rules}
-use Rattle.std.specs.List.{AllByRecursion, list_any}
-use Rattle.signals.specs.Table.{SIGCHLD}
-use Rattle.proc_table.specs.declared.ProcData.{ProcData}
-use Rattle.proc_table.specs.Processes.{is_live}
-use Rattle.proc_table.specs.Rows.{Rows}
-use Rattle.proc_table.specs.Kept.{AtHome}
-use Rattle.trace_stop.specs.Post.{notified}
-use Rattle.trace_stop.specs.Facts.{IsLiveOf, FitProcess, IsSound}
-use Rattle.trace_stop.specs.Before.{MayTell}
+use Rattle.trace_stop.proofs.Words.{AllByRecursion, list_any, SIGCHLD, ProcData, is_live, Rows, AtHome, notified, IsLiveOf, FitProcess, IsSound, MayTell}
 use Rattle.trace_stop.proofs.Every.{and_left, and_right, both, All-imply, All-both, any_more}
 use Rattle.trace_stop.proofs.Numbers.{one_row}
 use Rattle.trace_stop.proofs.Changed.{sound_holds}

@@ -1,30 +1,16 @@
 -- A trace stop keeps rows sound.
-use Rattle.std.proofs.lemmas.Bool.Decides.{nat_tests}
-use Rattle.std.proofs.Common.{◌≡◌, ◌≢◌, inl, ℕ, ◌≤◌, Bool, true, false, ◌==◌, if◌then◌else◌, List, [], ◌∷◌, find, Option, Some, None, IfSome, is_some, refl, sym, ap, ◌∙◌, true≢false, subst, arith, eqb-true, eq-eqb, bit_and, rules}
-use Rattle.std.specs.List.{AllByRecursion, list_any}
-use Rattle.std.specs.Option.{IsSomeAnd}
-use Rattle.event_masks.specs.Exits.{shows}
-use Rattle.event_masks.specs.declared.TheConstants.StopFlags.{PL_FLAG_EXITED}
-use Rattle.lwp_table.specs.declared.LwpData.{LwpData}
-use Rattle.lwp_table.specs.Lwps.{lwp_of}
-use Rattle.proc_table.specs.declared.ProcData.{ProcData}
-use Rattle.proc_table.specs.declared.State.{State}
-use Rattle.proc_table.specs.declared.State.TheVariants.{Run, Trace, Job, Zombie}
-use Rattle.proc_table.specs.Processes.{is_run, is_run_state, is_zombie_state, named_by, process_of}
-use Rattle.proc_table.specs.Rows.{Rows, each}
-use Rattle.proc_table.specs.Fresh.{lwp_count}
-use Rattle.trace_stop.specs.End.{tracer_in, tracer_of}
-use Rattle.trace_stop.specs.Stop.{tracers, stop}
-use Rattle.trace_stop.specs.Post.{notified}
+use Rattle.trace_stop.proofs.Words.{nat_tests, AllByRecursion, IsSomeAnd, shows, PL_FLAG_EXITED, LwpData, lwp_of, ProcData, State, Run, Trace, Job, Zombie, is_run, is_run_state, is_zombie_state}
+use Rattle.trace_stop.proofs.Words.{named_by, process_of, Rows, each, lwp_count, tracer_in, tracer_of, tracers, stop, notified, names_own, IsLiveOf, IsLiveChild, FitProcess, waited_for, FitLwp}
+use Rattle.trace_stop.proofs.Words.{IsSound, MayTell, Ready, FitOrReady, MayStop}
+use Rattle.std.proofs.Common.{◌≡◌, inl, ℕ, ◌≤◌, Bool, true, false, ◌==◌, if◌then◌else◌, Option, Some, None, IfSome, is_some, refl, sym, ap, ◌∙◌, true≢false, subst, arith, eqb-true, eq-eqb, bit_and, rules}
 use Rattle.trace_stop.specs.declared.Shown.{Shown}
-use Rattle.trace_stop.specs.Sound.{names_own}
-use Rattle.trace_stop.specs.Facts.{IsLiveOf, IsLiveChild, FitProcess, waited_for, FitLwp, IsSound}
-use Rattle.trace_stop.proofs.Every.{both, All-imply, All-both, All-any, find_some, choose}
+use Rattle.trace_stop.proofs.Every.{not_same, both, All-imply, All-both, find_some, choose}
 use Rattle.trace_stop.proofs.Edited.{If_more}
 use Rattle.trace_stop.proofs.Changed.{Holds, Row, Beside, Same, Stay, Edit, Leaves, KeptRow, nobody, sound_holds, found_number, lwp_is, row_at, like_self, peopled_on, kept_row, kept_all, none_gone, no_ring, stay, edit_holds, lives_after, each_alone}
-use Rattle.trace_stop.specs.Before.{MayTell, Ready, FitOrReady, MayStop}
 use Rattle.trace_stop.proofs.Numbers.{the_row}
 use Rattle.trace_stop.proofs.Stopping.{live_told, notified_sound}
+pub use Rattle.trace_stop.proofs.Every.{find_passes}
+use Rattle.proc_table.proofs.Rows.{lwp_of-tid}
 
 pub run_quiet : (s : State) → is_run_state s ≡ true → (named_by s ≡ None) × (is_zombie_state s ≡ false)
 run_quiet Run is = (refl, refl)
@@ -61,13 +47,6 @@ pub record Stops (rows : Rows) (pid tid : ℕ) (shown : Shown) (p : ProcData) (l
   pub own : l.pid ≡ pid
   pub exits : shows shown.flags PL_FLAG_EXITED ≡ true → 2 ≤ lwp_count pid rows
 
-pub find_passes : {X : Type 0} (q t : X → Bool) (xs : List X) (x : X) → find q xs ≡ Some x → t x ≡ true → list_any t xs ≡ true
-find_passes q t [] x is pass = absurd (grind (arith, is))
-find_passes q t (y ∷ xs) x is pass = grind (arith, find_passes q t xs x, is, pass)
-
-pub found_tid : (n : ℕ) (ls : List LwpData) (l : LwpData) → lwp_of n ls ≡ Some l → l.tid ≡ n
-found_tid n ls l is = eqb-true l.tid n (find_some (λ k. k.tid == n) (λ k. Unit {0}) ls (All-any (λ k. Unit {0}) (λ k. tt) ls) l is).1
-
 module _ (rows : Rows) (pid tid : ℕ) (shown : Shown) (p : ProcData) (l : LwpData) (s : Holds (FitOrReady pid) FitLwp rows) (c : Stops rows pid tid shown p l) where
   abbrev stopped : ProcData → ProcData
   stopped q = record q { state = Trace tid shown.sig false }
@@ -87,21 +66,18 @@ module _ (rows : Rows) (pid tid : ℕ) (shown : Shown) (p : ProcData) (l : LwpDa
   abbrev Known : ProcData → LwpData → Type 0
   Known q k = Beside rows (FitOrReady pid) FitLwp q k
 
-  other : (q : ProcData) → (q.pid == pid) ≡ false → q.pid ≢ pid
-  other q e same = true≢false (sym (eq-eqb q.pid pid same) ∙ e)
-
   -- the stopping LWP is the process's own
   its_own : (q : ProcData) (k : LwpData) → Known q k → (k.tid == tid) ≡ true → q.pid ≡ pid
   its_own q k b is = found_number k.pid rows.processes q b.at ∙ (ap (λ j. j.pid) (lwp_is b c.there (eqb-true k.tid tid is)) ∙ c.own)
 
   named : (q : ProcData) → (q.pid == pid) ≡ true → names_own rows q tid ≡ true
-  named q is = search (rules, find_passes, both, eq-eqb, found_tid, eqb-true)
+  named q is = search (rules, find_passes, both, eq-eqb, lwp_of-tid, eqb-true)
 
   fits : (q : ProcData) → Ready q → FitProcess (stopped q)
   fits q ready = grind (arith, nat_tests)
 
   fit_lwp : (q : ProcData) (k : LwpData) → Known q k → (b : Bool) → (q.pid == pid) ≡ b → (d : Bool) → (k.tid == tid) ≡ d → FitLwp (if b then stopped q else q) (if d then showing k else k)
-  fit_lwp q k known false e true d = absurd (other q e (its_own q k known d))
+  fit_lwp q k known false e true d = absurd (not_same q.pid pid e (its_own q k known d))
   fit_lwp q k known false e false d = known.fact
   fit_lwp q k known true e b d = search (rules, eqb-true, none_some, choose, bit_and, eq-eqb)
 
@@ -122,7 +98,7 @@ module _ (rows : Rows) (pid tid : ℕ) (shown : Shown) (p : ProcData) (l : LwpDa
     gone = none_gone rows (FitOrReady pid) (λ q k. Some (to_lwp k));
     process = λ q row. choose (q.pid == pid) (stopped q) q (KeptRow rows made nobody FitProcess q)
         (λ e. let ready = row.fact.1 (eqb-true q.pid pid e) in kept_row row (record { live = sym ready.live; tracer = inl refl; parent = refl }) ((stays q row).named tid (named q e)) (peopled_on row (stays q row)) (fits q ready))
-        (λ e. kept_all row (like_self q) (inl refl) (stays q row) (row.fact.0 (other q e)));
+        (λ e. kept_all row (like_self q) (inl refl) (stays q row) (row.fact.0 (not_same q.pid pid e)));
     lwp = λ q k b on. record {
       exited = λ shown_is. let two = exited q k b (k.tid == tid) refl shown_is in let more = (stays q b.row).count in omega (arith, two, more);
       waits = If_more (IsLiveChild rows q) _ (λ n live. (live, refl)) (waited_for (to_lwp k).mode) (choose (k.tid == tid) (showing k) k (λ j. IfSome (waited_for j.mode) (IsLiveChild rows q)) (λ e. b.stood.waits) (λ e. b.stood.waits));

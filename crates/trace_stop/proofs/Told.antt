@@ -1,15 +1,8 @@
 -- Who is told of a signal or a stop: one process, or none.
-use Rattle.std.proofs.Common.{◌≡◌, ℕ, [], ◌∷◌, refl, ap, ◌∙◌, arith, inl, inr, Option, Some, None}
-use Rattle.std.specs.Prelude.{filter_map}
-use Rattle.std.proofs.lemmas.Bool.{cases_Bool}
-use Rattle.std.proofs.lemmas.Bool.Decides.{nat_tests}
-use Rattle.signals.specs.Table.{SIGCHLD}
-use Rattle.lwp_table.specs.declared.LwpData.{LwpData}
-use Rattle.proc_table.specs.declared.ProcData.{ProcData}
-use Rattle.proc_table.specs.Processes.{process_of}
-use Rattle.proc_table.specs.Rows.{Rows, change, by_owner, is_numbered}
-use Rattle.proc_table.proofs.Changes.{map-id, filter_map-map, change-none}
-use Rattle.trace_stop.specs.Post.{notified, posted_process, posted_lwp, continues}
+use Rattle.std.proofs.Common.{◌≡◌, ℕ, [], ◌∷◌, refl, ap, ◌∙◌, arith, inl, inr, Option, Some, None, filter_map}
+use Rattle.trace_stop.proofs.Words.{cases_Bool, nat_tests, SIGCHLD, ProcData, process_of, Rows, change, by_owner, is_numbered, notified, posted_process, posted_lwp, continues}
+use Rattle.proc_table.proofs.Changes.{change-none}
+use Rattle.trace_stop.proofs.Edited.{edit_none, lwps_left}
 
 pub notified-one : (n : ℕ) (rows : Rows) → notified (n ∷ []) rows ≡ change (is_numbered n) (posted_process SIGCHLD None) (posted_lwp SIGCHLD None) rows
 notified-one n rows = grind (arith, nat_tests)
@@ -20,14 +13,8 @@ notified-absent n rows none = notified-one n rows ∙ change-none n (posted_proc
 
 pub notified-none : (rows : Rows) → notified [] rows ≡ rows
 notified-none rows =
-    ap (λ ps. record rows { processes = ps; lwps = filter_map (λ l. by_owner (λ p k. Some k) l (process_of l.pid rows.processes)) rows.lwps })
-    (filter_map-map (λ q. Some q) (λ q. q) (λ q. refl) rows.processes ∙ map-id rows.processes)
-    ∙ ap (λ ls. record rows { lwps = ls })
-    (filter_map-map (λ l. by_owner (λ p k. Some k) l (process_of l.pid rows.processes)) (λ l. l) (λ l. same l (process_of l.pid rows.processes)) rows.lwps ∙ map-id rows.lwps)
-  where
-    same : (l : LwpData) (o : Option ProcData) → by_owner (λ p k. Some k) l o ≡ Some l
-    same l None = refl
-    same l (Some p) = refl
+    ap (λ ps. record rows { processes = ps; lwps = filter_map (λ l. by_owner (λ p k. Some k) l (process_of l.pid rows.processes)) rows.lwps }) (edit_none (λ q. Some q) (λ q. refl) rows.processes)
+    ∙ ap (λ ls. record rows { lwps = ls }) (lwps_left rows)
 
 -- a process keeps its numbers, and whom it names
 pub posted_process-same : (s : ℕ) (to : Option ℕ) (p : ProcData)

@@ -1,22 +1,20 @@
 -- The other primitives: one process, one LWP, new rows; and branches of rows.
-use Rattle.std.proofs.Common.{◌≡◌, ◌≢◌, ℕ, ◌<◌, List, [], ◌∷◌, ◌++◌, length, find, filter_map, Bool, true, false, ◌==◌, if◌then◌else◌, Option, Some, None, refl, sym, ap, ◌∙◌, arith, eqb, eqb-true, subst, append-nil, get_or, set, get_or-set_same, get_or-set_other, length-set, inl, rules}
-use Rattle.std.specs.List.{AllByRecursion, list_any}
-use Rattle.std.proofs.lemmas.Bool.Decides.{nat_tests}
+use Rattle.std.proofs.Common.{◌≡◌, ◌≢◌, ℕ, ◌<◌, List, [], ◌∷◌, ◌++◌, length, filter_map, Bool, true, false, ◌==◌, if◌then◌else◌, Option, Some, None, refl, sym, ap, ◌∙◌, arith, eqb, eqb-true, subst, append-nil, get_or, set, get_or-set_same, get_or-set_other, length-set, inl, rules}
+use Rattle.trace_stop.proofs.Words.{AllByRecursion, IsUser, ProcData, LwpData, is_live, placed, Rows, owner, by_owner, each, change, edit_processes, edit_lwps, change_process}
+use Rattle.trace_stop.proofs.Words.{change_lwp, remove_lwp, is_process, add_process, add_lwp}
 use Rattle.std.proofs.lemmas.List.Elements.{filter-append}
-use Rattle.pid_blocks.specs.Users.{IsUser}
 use Rattle.pid_blocks.specs.Blocks.{pid_owner, tid_owner, pid_block, tid_block, slot, cursor_after, InBlock}
-use Rattle.proc_table.specs.declared.ProcData.{ProcData}
-use Rattle.lwp_table.specs.declared.LwpData.{LwpData}
-use Rattle.proc_table.specs.Processes.{is_live, placed}
-use Rattle.proc_table.specs.Rows.{Rows, owner, by_owner, each, change, edit_processes, edit_lwps, change_process, change_lwp, remove_lwp}
-use Rattle.proc_table.specs.Fresh.{is_process, add_process, add_lwp}
 use Rattle.user_rows.specs.Closed.{GoodProc, GoodLwp, LiveRow, LiveOwner}
-use Rattle.trace_stop.proofs.Every.{All-imply, All-append, choose, choose_both}
+use Rattle.trace_stop.proofs.Every.{find_none, none_of, All-imply, All-append, choose, choose_both}
 use Rattle.trace_stop.proofs.Edited.{edit_none}
 use Rattle.trace_stop.proofs.Passes.{filter_map_same}
-use Rattle.trace_stop.proofs.Placed.{Rise-placed, All-placed, process_of-other}
+use Rattle.trace_stop.proofs.Placed.{process_of-other}
 use Rattle.user_rows.proofs.ViewLists.{All-where, placed-only, placed-other}
 use Rattle.user_rows.proofs.ViewSame.{Sim, Kin, KinLwp, own, own_lwp, is_own, not_own, named, process_same, each_same}
+use Rattle.trace_stop.proofs.Changed.{processes_alone}
+use Rattle.proc_table.proofs.Placed.{Rise-placed, every_placed}
+use Rattle.proc_table.proofs.Rising.{Lacks-from_any}
+use Rattle.proc_table.proofs.Cursors.{InBlock-after}
 
 -- what a process of u becomes where it isn't gone: a live one stays live
 abbrev pub Stays : ProcData → ProcData → Type 0
@@ -46,13 +44,6 @@ change_same s chosen process lwp foreign mine mine_lwp = each_same s (λ p. Some
 })
 
 -- processes alone
-by_none : (l : LwpData) (o : Option ProcData) → by_owner (λ p k. Some k) l o ≡ Some l
-by_none l None = refl
-by_none l (Some p) = refl
-
-processes_alone : (f : ProcData → Option ProcData) (rows : Rows) → each f (λ p l. Some l) rows ≡ edit_processes f rows
-processes_alone f rows = ap (λ ls. record rows { processes = filter_map f rows.processes; lwps = ls }) (edit_none (λ l. by_owner (λ p k. Some k) l (owner rows l)) (λ l. by_none l (owner rows l)) rows.lwps)
-
 pub edit_same : {u : ℕ} {start c v : Rows} → Sim u start c v → (f : ProcData → Option ProcData)
     → ((p : ProcData) → GoodProc p → p.uid ≡ u → Kin p (f p))
     → ((p : ProcData) → GoodProc p → p.uid ≢ u → f p ≡ Some p)
@@ -121,26 +112,19 @@ slot_in u xs user is = omega arith
 pub put_at : {X : Type 0} (u : ℕ) (xs : List X) (x d : X) → IsUser u → length xs ≡ 64 → get_or (set xs (slot u) x) (slot u) d ≡ x
 put_at u xs x d user is = let lt = slot_in u xs user is in rw get_or-set_same refl
 
-cursor_in : (b : _) (n : ℕ) → InBlock b n → InBlock b (cursor_after b n)
-cursor_in b n i = grind (arith, nat_tests)
-
-find_free : {X : Type 0} (q : X → Bool) (xs : List X) → list_any q xs ≡ false → find q xs ≡ None
-find_free q [] is = refl
-find_free q (x ∷ xs) is = grind (arith, is, find_free q xs)
-
 -- a new process of u
 pub process_added_same : {u : ℕ} {start c v : Rows} → Sim u start c v → (p : ProcData) → p.uid ≡ u → GoodProc p → InBlock (pid_block u) p.pid → is_process c p.pid ≡ false → Sim u start (add_process p c) (add_process p v)
 process_added_same {u} {start} {c} {v} s p mine good block free = subst (λ w. Sim u start (at w c) (at w v)) (sym mine) (record {
   kept = record {
     closed = record {
-      processes = All-placed GoodProc p c.processes s.kept.closed.processes good;
+      processes = every_placed GoodProc p c.processes good s.kept.closed.processes;
       lwps = s.kept.closed.lwps;
       housed = All-imply (LiveOwner c.processes) (LiveOwner (placed p c.processes)) housed c.lwps s.kept.closed.housed;
-      rising = Rise-placed p c.processes s.kept.closed.rising;
+      rising = Rise-placed p c.processes s.kept.closed.rising (Lacks-from_any p.pid c.processes free);
       user = user;
       pid_slots = length-set c.pid_cursors (slot u) _ ∙ s.kept.closed.pid_slots;
       tid_slots = s.kept.closed.tid_slots;
-      pid_cursor = subst (InBlock (pid_block u)) (sym (put_at u c.pid_cursors _ 0 user s.kept.closed.pid_slots)) (cursor_in (pid_block u) p.pid block);
+      pid_cursor = subst (InBlock (pid_block u)) (sym (put_at u c.pid_cursors _ 0 user s.kept.closed.pid_slots)) (InBlock-after (pid_block u) p.pid block (omega arith));
       tid_cursor = s.kept.closed.tid_cursor;
     };
     processes = λ w ne. placed-other (own w) p c.processes (not_own w p.uid (λ e. ne (sym e ∙ mine))) s.kept.closed.rising free ∙ s.kept.processes w ne;
@@ -163,7 +147,7 @@ process_added_same {u} {start} {c} {v} s p mine good block free = subst (λ w. S
     at w rows = record rows { processes = placed p rows.processes; pid_cursors = set rows.pid_cursors (slot w) (cursor_after (pid_block w) p.pid) }
 
     housed : (l : LwpData) → LiveOwner c.processes l → LiveOwner (placed p c.processes) l
-    housed l house = subst LiveRow (sym (process_of-other p c.processes s.kept.closed.rising free l.pid (λ e. subst LiveRow (find_free (λ q. q.pid == l.pid) c.processes (ap (is_process c) e ∙ free)) house))) house
+    housed l house = subst LiveRow (sym (process_of-other p c.processes s.kept.closed.rising free l.pid (λ e. subst LiveRow (find_none (λ q. q.pid == l.pid) c.processes (none_of (λ q. q.pid == l.pid) c.processes (ap (is_process c) e ∙ free))) house))) house
 
 -- a new LWP of u
 pub lwp_added_same : {u : ℕ} {start c v : Rows} → Sim u start c v → (l : LwpData) → pid_owner l.pid ≡ u → GoodLwp l → LiveOwner c.processes l → InBlock (tid_block u) l.tid → Sim u start (add_lwp u l c) (add_lwp u l v)
@@ -178,7 +162,7 @@ lwp_added_same {u} {start} {c} {v} s l mine well house block = record {
       pid_slots = s.kept.closed.pid_slots;
       tid_slots = length-set c.tid_cursors (slot u) _ ∙ s.kept.closed.tid_slots;
       pid_cursor = s.kept.closed.pid_cursor;
-      tid_cursor = subst (InBlock (tid_block u)) (sym (put_at u c.tid_cursors _ 0 user s.kept.closed.tid_slots)) (cursor_in (tid_block u) l.tid block);
+      tid_cursor = subst (InBlock (tid_block u)) (sym (put_at u c.tid_cursors _ 0 user s.kept.closed.tid_slots)) (InBlock-after (tid_block u) l.tid block (omega arith));
     };
     processes = s.kept.processes;
     lwps = λ w ne. filter-append (own_lwp w) c.lwps (l ∷ []) ∙ (rw (not_own w (pid_owner l.pid) (λ e. ne (sym e ∙ mine)), append-nil) (s.kept.lwps w ne));

@@ -1,30 +1,20 @@
 -- The end of a process; posting any signal, trace stops, and what resumes a process.
 use Rattle.std.proofs.Common.{◌≡◌, ◌≢◌, ℕ, zero, suc, List, filter_map, Bool, true, false, ◌==◌, ◌&&◌, ◌||◌, not, if◌then◌else◌, Option, Some, None, is_some, is_none, unwrap_or, option_map, IfSome, refl, sym, ap, ap₂, ◌∙◌, true≢false, eqb-true, subst, eq-eqb, rules}
 use Rattle.std.proofs.Math.Path.{fun_ext}
-use Rattle.std.specs.List.{AllByRecursion, list_any}
-use Rattle.pid_blocks.specs.Users.{IsUser}
+use Rattle.trace_stop.proofs.Words.{AllByRecursion, list_any, IsUser, SIGKILL, SIGTRAP, bit, ProcData, Trace, LwpData, Mode, User, InCall, VforkWait, is_live, is_this, traces, reporting, Rows, each}
+use Rattle.trace_stop.proofs.Words.{is_numbered, change_process, change_lwp, notified, post, tracers, stop, ends_process, resume, detach, waited_for}
 use Rattle.pid_blocks.specs.Blocks.{pid_owner, tid_owner}
-use Rattle.signals.specs.Table.{SIGKILL, SIGTRAP}
-use Rattle.signals.specs.Sets.{bit}
-use Rattle.proc_table.specs.declared.ProcData.{ProcData}
-use Rattle.proc_table.specs.declared.State.TheVariants.{Trace}
-use Rattle.lwp_table.specs.declared.LwpData.{LwpData}
-use Rattle.lwp_table.specs.declared.Mode.{Mode}
-use Rattle.lwp_table.specs.declared.Mode.TheVariants.{User, InCall, VforkWait}
-use Rattle.proc_table.specs.Processes.{is_live, is_this, traces, reporting}
-use Rattle.proc_table.specs.Rows.{Rows, each, is_numbered, change_process, change_lwp}
 use Rattle.trace_stop.specs.declared.Settings.{Settings}
-use Rattle.trace_stop.specs.Post.{notified}
-use Rattle.trace_stop.specs.Stop.{post, tracers, stop, ends_process, resume, detach}
 use Rattle.trace_stop.specs.declared.Shown.{Shown}
 use Rattle.trace_stop.specs.End.{tracer_in, tracer_of, holds_of, meets, is_doomed, dooms, unless, uncollected, process_after, waits_where, released, lwp_after, collector, notifies_of, end_each, end_of, end}
-use Rattle.trace_stop.specs.Facts.{waited_for}
-use Rattle.trace_stop.proofs.Every.{and_left, and_right, by_bool, choose, choose_both, none_passes, All-edit, All-filter}
+use Rattle.trace_stop.proofs.Every.{not_same, and_left, and_right, by_bool, choose, choose_both, none_passes, All-edit, All-filter}
 use Rattle.user_rows.specs.Closed.{Mine, GoodProc, GoodLwp}
 use Rattle.user_rows.proofs.ViewLists.{any_only, filter_map_only}
-use Rattle.user_rows.proofs.ViewSame.{Sim, Kin, KinLwp, Keeps, own, is_own, not_own, not_equal, either, named, process_same, at_number, each_same}
+use Rattle.user_rows.proofs.ViewSame.{Sim, Kin, KinLwp, Keeps, own, is_own, not_own, either, named, process_same, at_number, each_same}
 use Rattle.user_rows.proofs.ViewEdits.{process_same_after, lwp_same_after, branch_rows}
 use Rattle.user_rows.proofs.ViewSignals.{Mines, owner_of_1, notified_same, posted_same, resumed_same, detached_same, is_numbered_foreign}
+use Rattle.trace_stop.proofs.FromSound.{none_is}
+use Rattle.std.proofs.Math.Bool.{and-false}
 
 -- Chains of tracers
 
@@ -80,14 +70,6 @@ module _ {u : ℕ} (over : ℕ → Bool) (over_foreign : (n : ℕ) → pid_owner
 pub released_kin : (over : ℕ → Bool) (p : ProcData) (l : LwpData) → GoodLwp l → KinLwp l (Some (released over p l))
 released_kin over p l well = choose (waits_where over l.mode) _ l (λ m. KinLwp l (Some m)) (λ e. (refl, record { block = well.block; waits = tt })) (λ e. (refl, well))
 
-is_absent : (o : Option ℕ) → is_none o ≡ true → o ≡ None
-is_absent None is = refl
-is_absent (Some t) is = absurd (cc)
-
-and_false : (b : Bool) → (b && false) ≡ false
-and_false true = refl
-and_false false = refl
-
 module _ (over : ℕ → Bool) (p : ProcData) (good : GoodProc p) where
   tracer_good : (o : Option ℕ) → IfSome o (λ t. pid_owner t ≡ p.uid) → IfSome (unless over o) (λ t. pid_owner t ≡ p.uid)
   tracer_good None g = tt
@@ -105,7 +87,7 @@ module _ {u : ℕ} (ends : ProcData → Bool) (over : ℕ → Bool) (ends_foreig
   after_kin p good = search (rules, choose, left_kin, parent_good)
 
   after_foreign : IsUser u → (p : ProcData) → GoodProc p → p.uid ≢ u → process_after ends over n w p ≡ Some p
-  after_foreign user p good ne = search (rules, parent_over, unless_same, choose, is_none, is_absent, and_left, eqb-true, and_right)
+  after_foreign user p good ne = search (rules, parent_over, unless_same, choose, is_none, none_is, and_left, eqb-true, and_right)
 
   end_keeps : IsUser u → Keeps u (process_after ends over n w) (lwp_after ends over)
   end_keeps user = search (rules, after_kin, after_foreign, choose, released_kin, released_foreign, choose_both)
@@ -115,21 +97,21 @@ module _ {u : ℕ} (ends : ProcData → Bool) (over : ℕ → Bool) (ends_foreig
   collector_mine p (Some z) mine k = search (rules, unwrap_or)
 
   notifies_foreign : (p : ProcData) → GoodProc p → p.uid ≢ u → notifies_of ends over n w p ≡ None
-  notifies_foreign p good ne = rw (ends_foreign p good ne, holds_none over over_foreign ne p.tracer good.tracer, and_false (not (is_live p))) refl
+  notifies_foreign p good ne = rw (ends_foreign p good ne, holds_none over over_foreign ne p.tracer good.tracer, and-false (not (is_live p))) refl
 
   notifies_mine : (p : ProcData) → GoodProc p → IfSome (notifies_of ends over n w p) (Mine u)
   notifies_mine p good = search (rules, either, choose, collector_mine, after_kin, notifies_foreign)
 
   end_each_same : {start c v : Rows} → Sim u start c v → Sim u start (end_each ends over n w c) (end_each ends over n w v)
   end_each_same {start} {c} {v} s = subst (λ ns. Sim u start (end_each ends over n w c) (notified ns (each (process_after ends over n w) (lwp_after ends over) v)))
-      (sym (filter_map_only (notifies_of ends over n w) (own u) GoodProc (λ p good is. notifies_foreign p good (not_equal p.uid u is)) c.processes s.kept.closed.processes) ∙ ap (filter_map (notifies_of ends over n w)) s.processes)
+      (sym (filter_map_only (notifies_of ends over n w) (own u) GoodProc (λ p good is. notifies_foreign p good (not_same p.uid u is)) c.processes s.kept.closed.processes) ∙ ap (filter_map (notifies_of ends over n w)) s.processes)
       (notified_same (each_same s (process_after ends over n w) (lwp_after ends over) (end_keeps s.kept.closed.user)) (filter_map (notifies_of ends over n w) c.processes)
       (All-edit (notifies_of ends over n w) GoodProc (Mine u) notifies_mine c.processes s.kept.closed.processes))
 
 -- the tests are the same on all rows and on a user's
 module _ {u : ℕ} (ps : List ProcData) (all : AllByRecursion GoodProc ps) (settings : Settings) (n : ℕ) (here : pid_owner n ≡ u) where
   doomed_foreign : (p : ProcData) → GoodProc p → p.uid ≢ u → is_doomed settings ps n p ≡ false
-  doomed_foreign p good ne = rw (not_own n p.pid (λ e. ne (named here p good e)), meets_foreign ps all 250 n p.pid (λ e. ne (sym good.block ∙ e ∙ here)), and_false (settings.kill_on_debugger_exit && is_live p)) refl
+  doomed_foreign p good ne = rw (not_own n p.pid (λ e. ne (named here p good e)), meets_foreign ps all 250 n p.pid (λ e. ne (sym good.block ∙ e ∙ here)), and-false (settings.kill_on_debugger_exit && is_live p)) refl
 
   doomed_own : (m : ℕ) (p : ProcData) → GoodProc p → ((p.pid == m) && is_doomed settings ps n p) ≡ true → p.uid ≡ u
   doomed_own m p good is = either p.uid u (λ e. e) (λ ne. absurd (true≢false (sym (and_right (p.pid == m) _ is) ∙ doomed_foreign p good ne)))
@@ -164,7 +146,7 @@ end_same {u} {start} {c} {v} s settings n w here = end_of_same (choose_both (Sim
     by_tracer p ne (Some t) g = not_own n t (λ e. ne (sym g ∙ ap pid_owner e ∙ here))
 
     foreign : (p : ProcData) → GoodProc p → p.uid ≢ u → (is_live p && traces n p) ≡ false
-    foreign p good ne = rw (by_tracer p ne p.tracer good.tracer, and_false (is_live p)) refl
+    foreign p good ne = rw (by_tracer p ne p.tracer good.tracer, and-false (is_live p)) refl
 
 -- Posting any signal, trace stops, and what resumes a process
 

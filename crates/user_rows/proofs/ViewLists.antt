@@ -1,12 +1,9 @@
 -- Filters, and what is looked up in a filtered list.
 use Rattle.std.proofs.Common.{◌≡◌, ◌<◌, List, [], ◌∷◌, map, filter, find, filter_map, Bool, true, false, Option, Some, None, IfSome, refl, sym, ap, ◌∙◌, arith, ltb}
-use Rattle.std.specs.List.{AllByRecursion, cons_option, list_any}
+use Rattle.trace_stop.proofs.Words.{AllByRecursion, cons_option, list_any, ProcData, placed, AllAbove, Rise}
 use Rattle.std.proofs.lemmas.List.Elements.{filter-append}
-use Rattle.proc_table.specs.declared.ProcData.{ProcData}
-use Rattle.proc_table.specs.Processes.{placed}
-use Rattle.proc_table.specs.Kept.{AllAbove, Rise}
 use Rattle.proc_table.proofs.Every.{every_filter}
-use Rattle.trace_stop.proofs.Every.{All-both, All-edit}
+use Rattle.trace_stop.proofs.Every.{All-any, All-both, All-edit}
 use Rattle.trace_stop.proofs.Placed.{IsFree, split}
 
 pub find_some : {X : Type 0} (q : X → Bool) (P : X → Type 0) → (xs : List X) → AllByRecursion P xs → IfSome (find q xs) (λ x. P x × (q x ≡ true))
@@ -72,8 +69,7 @@ All-map f P Q h [] e = tt
 All-map f P Q h (x ∷ xs) e = (h x e.0, All-map f P Q h xs e.1)
 
 pub every : {X : Type 0} (xs : List X) → AllByRecursion (λ x. Unit {0}) xs
-every [] = tt
-every (x ∷ xs) = (tt, every xs)
+every xs = All-any (λ x. Unit {0}) (λ x. tt) xs
 
 -- Rising order
 

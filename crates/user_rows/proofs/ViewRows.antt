@@ -1,23 +1,10 @@
 -- Sound rows keep users apart, and what a user sees of them: before a change, after it, and after the end of a process.
-use Rattle.std.proofs.lemmas.Bool.Decides.{nat_tests}
-use Rattle.std.proofs.Common.{◌≡◌, ◌≢◌, ℕ, List, filter, Bool, true, false, ◌==◌, ◌&&◌, None, refl, sym, ap, ◌∙◌, arith, eqb-true, subst, eq-eqb, rules}
-use Rattle.std.specs.List.{AllByRecursion}
-use Rattle.pid_blocks.specs.Users.{IsUser}
+use Rattle.trace_stop.proofs.Words.{nat_tests, AllByRecursion, IsUser, LwpData, ProcData, State, Run, Trace, Job, Zombie, is_live, Rows, owns, AtHome, names_own, IsLiveOf, IsLiveChild, Linked}
+use Rattle.trace_stop.proofs.Words.{IfEnded, FitProcess, waited_for, Standing, WithOwner, IsSound, only_of, left_alone, end}
+use Rattle.std.proofs.Common.{◌≡◌, ◌≢◌, ℕ, List, filter, true, false, ◌==◌, ◌&&◌, None, refl, sym, ap, ◌∙◌, arith, eqb-true, subst, eq-eqb, rules}
 use Rattle.pid_blocks.specs.Blocks.{pid_owner, tid_owner, pid_block, tid_block, InBlock}
-use Rattle.lwp_table.specs.declared.LwpData.{LwpData}
-use Rattle.proc_table.specs.declared.ProcData.{ProcData}
-use Rattle.proc_table.specs.declared.State.{State}
-use Rattle.proc_table.specs.declared.State.TheVariants.{Run, Trace, Job, Zombie}
-use Rattle.proc_table.specs.Processes.{is_live}
-use Rattle.proc_table.specs.Rows.{Rows}
-use Rattle.proc_table.specs.Seen.{owns}
-use Rattle.proc_table.specs.Kept.{AtHome}
 use Rattle.proc_table.specs.Kept as kept
-use Rattle.trace_stop.specs.Sound.{names_own}
-use Rattle.trace_stop.specs.Facts.{IsLiveOf, IsLiveChild, Linked, IfEnded, FitProcess, waited_for, Standing, WithOwner, IsSound}
-use Rattle.proc_table.specs.Laws.{only_of}
 use Rattle.trace_stop.specs.declared.Settings.{Settings}
-use Rattle.trace_stop.specs.End.{left_alone, end}
 use Rattle.user_rows.specs.Closed.{GoodProc, GoodLwp, LiveRow, LiveOwner, Closed}
 use Rattle.trace_stop.proofs.Every.{and_left, and_right, choose, All-imply, All-both, any_holds, find_some}
 use Rattle.trace_stop.proofs.Edited.{If_more}
@@ -26,6 +13,7 @@ use Rattle.trace_stop.proofs.Stops.{find_passes}
 use Rattle.user_rows.proofs.ViewLists.{filter_same}
 use Rattle.user_rows.proofs.ViewSame.{Sim, own_lwp, at_number}
 use Rattle.user_rows.proofs.ViewEnds.{end_same}
+use Rattle.trace_stop.proofs.Killing.{same_test}
 
 -- Owners of numbers
 
@@ -45,14 +33,9 @@ owns_owner u n ps all is = any_holds (λ p. (p.pid == n) && (p.uid == u)) GoodPr
 pub owns_user : (u n : ℕ) (ps : List ProcData) → AllByRecursion AtHome ps → owns u n ps ≡ true → IsUser u
 owns_user u n ps homes is = any_holds (λ p. (p.pid == n) && (p.uid == u)) AtHome (IsUser u) (λ p home e. subst IsUser (eqb-true p.uid u (and_right (p.pid == n) (p.uid == u) e)) home.user) ps homes is
 
-is_true : (a b : Bool) → (a ≡ true → b ≡ true) → (b ≡ true → a ≡ true) → a ≡ b
-is_true true b f g = sym (f refl)
-is_true false true f g = g refl
-is_true false false f g = refl
-
 -- an LWP's process is a row of u where its number is in u's block
 pub owns_block : (u : ℕ) (ps : List ProcData) → AllByRecursion GoodProc ps → (l : LwpData) → LiveOwner ps l → owns u l.pid ps ≡ own_lwp u l
-owns_block u ps all l house = is_true (owns u l.pid ps) (own_lwp u l) (λ e. eq-eqb (pid_owner l.pid) u (owns_owner u l.pid ps all e)) (λ e.
+owns_block u ps all l house = same_test (owns u l.pid ps) (own_lwp u l) (λ e. eq-eqb (pid_owner l.pid) u (owns_owner u l.pid ps all e)) (λ e.
     at_number ps all l.pid (λ o. LiveRow o → owns u l.pid ps ≡ true) (λ no_row. absurd no_row) (λ p is good here live. find_passes (λ q. q.pid == l.pid) (λ q. (q.pid == l.pid) && (q.uid == u)) ps p is
     (rw (eq-eqb p.pid l.pid here, eq-eqb p.uid u (sym good.block ∙ ap pid_owner here ∙ eqb-true (pid_owner l.pid) u e)) refl)) house)
 

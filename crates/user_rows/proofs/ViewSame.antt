@@ -1,16 +1,10 @@
 -- One relation says all of isolation: what a step did to all rows, what the same step does to one
 -- user's rows, and that other users' rows are as they were.
-use Rattle.std.proofs.Common.{◌≡◌, ◌≢◌, ℕ, List, length, filter, find, filter_map, Bool, true, false, ◌==◌, Option, Some, None, IfSome, refl, sym, ap, ◌∙◌, arith, eqb, true≢false, eqb-true, subst, eq-eqb, get_or, inl, inr, ◌⊎◌, rules}
-use Rattle.std.specs.List.{AllByRecursion}
-use Rattle.std.proofs.lemmas.Bool.Decides.{nat_tests}
-use Rattle.pid_blocks.specs.Users.{IsUser}
+use Rattle.std.proofs.Common.{◌≡◌, ◌≢◌, ℕ, List, length, filter, find, filter_map, Bool, true, false, ◌==◌, Option, Some, None, IfSome, refl, sym, ap, ◌∙◌, arith, eqb, eqb-true, subst, eq-eqb, get_or, inl, inr, ◌⊎◌, rules}
+use Rattle.trace_stop.proofs.Words.{AllByRecursion, nat_tests, IsUser, ProcData, LwpData, is_live, process_of, of_user, Rows, by_owner, each}
 use Rattle.pid_blocks.specs.Blocks.{pid_owner, slot}
-use Rattle.proc_table.specs.declared.ProcData.{ProcData}
-use Rattle.lwp_table.specs.declared.LwpData.{LwpData}
-use Rattle.proc_table.specs.Processes.{is_live, process_of, of_user}
-use Rattle.proc_table.specs.Rows.{Rows, by_owner, each}
 use Rattle.user_rows.specs.Closed.{GoodProc, GoodLwp, LiveRow, LiveOwner, Closed}
-use Rattle.trace_stop.proofs.Every.{All-both, All-edit}
+use Rattle.trace_stop.proofs.Every.{not_same, All-both, All-edit}
 use Rattle.trace_stop.proofs.Edited.{If_more}
 use Rattle.trace_stop.proofs.Passes.{filter_map_same}
 use Rattle.user_rows.proofs.ViewLists.{find_only, find_some, filter_only, filter_edit, filter_untouched, find_edit, All-where, Rise-edit}
@@ -45,11 +39,8 @@ is_own u n is = eq-eqb n u is
 pub not_own : (u n : ℕ) → n ≢ u → eqb n u ≡ false
 not_own u n ne = grind (arith, nat_tests)
 
-pub not_equal : (n m : ℕ) → eqb n m ≡ false → n ≢ m
-not_equal n m is e = true≢false (sym (eq-eqb n m e) ∙ is)
-
 pub either : (n m : ℕ) {R : Type 0} → (n ≡ m → R) → (n ≢ m → R) → R
-either n m {R} yes' no' = search (rules, eqb, eqb-true, not_equal)
+either n m {R} yes' no' = search (rules, eqb, eqb-true, not_same)
 
 -- Queries
 

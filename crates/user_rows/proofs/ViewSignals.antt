@@ -1,15 +1,8 @@
 -- Posting signals, and running on.
 use Rattle.std.proofs.Common.{◌≡◌, ◌≢◌, ℕ, List, [], ◌∷◌, Bool, false, ◌==◌, if◌then◌else◌, Option, Some, None, option_map, IfSome, refl, sym, ap, ◌∙◌, arith, subst, inl, rules}
-use Rattle.std.specs.List.{AllByRecursion, list_any}
-use Rattle.pid_blocks.specs.Users.{IsUser}
+use Rattle.trace_stop.proofs.Words.{AllByRecursion, list_any, IsUser, SIGCHLD, ProcData, LwpData, process_of, Rows, is_numbered, change, settled_process, settle, continues, posted_process, posted_lwp}
+use Rattle.trace_stop.proofs.Words.{notified, notifies, posted, reported, run_on, resumed, detached}
 use Rattle.pid_blocks.specs.Blocks.{pid_owner}
-use Rattle.signals.specs.Table.{SIGCHLD}
-use Rattle.proc_table.specs.declared.ProcData.{ProcData}
-use Rattle.lwp_table.specs.declared.LwpData.{LwpData}
-use Rattle.proc_table.specs.Processes.{process_of}
-use Rattle.proc_table.specs.Rows.{Rows, is_numbered, change}
-use Rattle.trace_stop.specs.Post.{settled_process, settle, continues, posted_process, posted_lwp, notified, notifies, posted}
-use Rattle.trace_stop.specs.Detach.{reported, run_on, resumed, detached}
 use Rattle.user_rows.specs.Closed.{Mine, GoodProc, GoodLwp}
 use Rattle.trace_stop.proofs.Every.{choose}
 use Rattle.user_rows.proofs.ViewSame.{Sim, KinLwp, not_own, named, process_same, at_number, each_same}

@@ -1,15 +1,7 @@
 -- The child that is reported, and whether there is a child, by the lists of tracees and of children, and by number.
-use Rattle.std.proofs.Common.{◌≡◌, ℕ, ℤ, pos, negsuc, List, [], ◌∷◌, find, Bool, true, false, ◌==◌, ◌&&◌, ◌||◌, ltb, Some, is_some, refl, sym, ap, ◌∙◌, subst, nat_eq, rules}
-use Rattle.std.specs.List.{AllByRecursion, list_any}
+use Rattle.std.proofs.Common.{◌≡◌, ℕ, ℤ, pos, negsuc, List, [], ◌∷◌, find, Bool, true, ◌==◌, ◌&&◌, ◌||◌, ltb, Some, is_some, refl, sym, ap, ◌∙◌, subst, nat_eq, rules, arith}
+use Rattle.trace_stop.proofs.Words.{AllByRecursion, list_any, cases_Bool, nat_tests, ProcData, keep, process_of, traces, Rows, Rise, AtHome, LeastOrNone}
 use Rattle.std.proofs.Math.Path.{fun_ext}
-use Rattle.std.proofs.lemmas.Bool.{cases_Bool}
-use Rattle.std.proofs.lemmas.Bool.Decides.{nat_tests}
-use Rattle.proc_table.specs.declared.ProcData.{ProcData}
-use Rattle.proc_table.specs.Keep.{keep}
-use Rattle.proc_table.specs.Processes.{process_of, traces}
-use Rattle.proc_table.specs.Rows.{Rows}
-use Rattle.proc_table.specs.Kept.{Rise, AtHome}
-use Rattle.proc_table.specs.Laws.{LeastOrNone}
 use Rattle.proc_table.proofs.Seen.{any-found}
 use Rattle.proc_table.proofs.Least.{least_or_none}
 use Rattle.trace_stop.proofs.Every.{All-filter, find_some}
@@ -32,13 +24,7 @@ module _ (caller : ℕ) (options : Options) (rows : Rows) (up : Rise rows.proces
       ∙ find-lesser (λ p. names_as Tracer caller p && reportable options caller p) (λ p. names_as Parent caller p && reportable options caller p) rows.processes up
     where
       either : (a b c : Bool) → (((a || b) && true) && c) ≡ ((a && c) || (b && c))
-      either true true true = refl
-      either true true false = refl
-      either true false true = refl
-      either true false false = refl
-      either false true true = refl
-      either false true false = refl
-      either false false c = refl
+      either a b c = grind (arith, nat_tests)
 
   -- for the one with a number
   pub reported-numbered : (n : ℕ) → reported caller (pos n) options rows ≡ keep (λ p. is_child caller p && reportable options caller p) (process_of n rows.processes)
@@ -48,10 +34,7 @@ module _ (caller : ℕ) (options : Options) (rows : Rows) (up : Rise rows.proces
       ∙ only_numbered (λ p. is_child caller p && reportable options caller p) n rows.processes up
     where
       moved : (a b c : Bool) → ((a && b) && c) ≡ (b && (a && c))
-      moved true true c = refl
-      moved true false c = refl
-      moved false true c = refl
-      moved false false c = refl
+      moved a b c = grind (arith, nat_tests)
 
 -- whether it is a child
 module _ (caller : ℕ) (rows : Rows) (up : Rise rows.processes) where
@@ -62,10 +45,7 @@ module _ (caller : ℕ) (rows : Rows) (up : Rise rows.processes) where
       ∙ ap is_some (only_numbered (is_child caller) n rows.processes up)
     where
       turned : (a b : Bool) → (a && b) ≡ (b && a)
-      turned true true = refl
-      turned true false = refl
-      turned false true = refl
-      turned false false = refl
+      turned a b = grind (arith, nat_tests)
 
 pub or_first : (a b c : Bool) → a ≡ c → (a || b) ≡ (c || b)
 or_first a b c is = ap (λ d. d || b) is

@@ -1,16 +1,12 @@
 -- The rows after one process is collected, as an edit of its row.
 use Rattle.std.proofs.Common.{◌≡◌, ℕ, List, [], ◌∷◌, filter, filter_map, map, Bool, true, false, cond, ◌==◌, ◌&&◌, not, Option, Some, None, refl, ap, ◌∙◌, nat_eq, if◌then◌else◌, rules}
-use Rattle.std.specs.List.{AllByRecursion}
-use Rattle.proc_table.specs.declared.ProcData.{ProcData}
-use Rattle.proc_table.specs.Processes.{is_live, process_of}
-use Rattle.proc_table.specs.Rows.{Rows, owner, by_owner, each}
-use Rattle.proc_table.specs.Kept.{Rise, put_process, set_process, drop_process}
+use Rattle.trace_stop.proofs.Words.{AllByRecursion, ProcData, is_live, process_of, Rows, each, Rise, put_process, set_process, drop_process, notified}
 use Rattle.proc_table.proofs.Finds.{equal_or_not}
-use Rattle.trace_stop.specs.Post.{notified}
-use Rattle.trace_stop.proofs.Edited.{edit_none}
+use Rattle.trace_stop.proofs.Edited.{lwps_left}
 use Rattle.trace_stop.proofs.Numbers.{the_row}
 use Rattle.trace_stop.proofs.Told.{notified-none}
 use Rattle.wait4.specs.Collect.{stays, collected, collect_one}
+use Rattle.std.proofs.Math.Bool.{and-false}
 
 -- an edit of the row with one number
 module _ (f : ProcData → Option ProcData) (n : ℕ) (p : ProcData) where
@@ -24,10 +20,6 @@ module _ (f : ProcData → Option ProcData) (n : ℕ) (p : ProcData) where
   pub edit-drop : f p ≡ None → (qs : List ProcData) → AllByRecursion (λ q. q.pid ≡ n → q ≡ p) qs → filter_map edit_at qs ≡ filter (λ q. not (q.pid == n)) qs
   edit-drop to [] all = refl
   edit-drop to (q ∷ qs) all = search (rules, edit-drop to qs all.1, equal_or_not)
-
--- an edit of processes alone leaves the LWPs
-pub lwps_left : (rows : Rows) → filter_map (λ l. by_owner (λ q k. Some k) l (owner rows l)) rows.lwps ≡ rows.lwps
-lwps_left rows = search (rules, edit_none)
 
 module _ (caller : ℕ) (p : ProcData) (rows : Rows) (up : Rise rows.processes) (at : process_of p.pid rows.processes ≡ Some p) where
   only : AllByRecursion (λ q. q.pid ≡ p.pid → q ≡ p) rows.processes
@@ -59,11 +51,7 @@ module _ (caller : ℕ) (p : ProcData) (rows : Rows) (up : Rise rows.processes) 
   pub collected-gone : collected caller p ≡ None → stays caller p ≡ false → collect_one caller p rows ≡ drop_process p.pid rows
   collected-gone to leaves =
       ap (λ (b : Bool). notified (if not (is_live p) && b then p.parent ∷ [] else []) made) leaves
-      ∙ ap (λ (b : Bool). notified (if b then p.parent ∷ [] else []) made) (and_false (not (is_live p)))
+      ∙ ap (λ (b : Bool). notified (if b then p.parent ∷ [] else []) made) (and-false (not (is_live p)))
       ∙ notified-none made
       ∙ ap (λ ls. record rows { processes = filter_map (edit_at (collected caller) p.pid p) rows.processes; lwps = ls }) (lwps_left rows)
       ∙ ap (λ ps. record rows { processes = ps }) (edit-drop (collected caller) p.pid p to rows.processes only)
-    where
-      and_false : (b : Bool) → (b && false) ≡ false
-      and_false true = refl
-      and_false false = refl

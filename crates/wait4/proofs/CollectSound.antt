@@ -1,14 +1,6 @@
 -- Collecting a status keeps rows sound.
 use Rattle.std.proofs.Common.{◌≡◌, inl, ℕ, true, false, ◌==◌, ◌&&◌, not, if◌then◌else◌, [], ◌∷◌, Option, Some, None, IfSome, refl, sym, ◌∙◌, true≢false, eq-eqb, bit_and, rules}
-use Rattle.std.specs.List.{AllByRecursion}
-use Rattle.lwp_table.specs.declared.LwpData.{LwpData}
-use Rattle.proc_table.specs.declared.ProcData.{ProcData}
-use Rattle.proc_table.specs.declared.State.{State}
-use Rattle.proc_table.specs.declared.State.TheVariants.{Run, Trace, Job, Zombie}
-use Rattle.proc_table.specs.Processes.{is_live, reporting, process_of}
-use Rattle.proc_table.specs.Rows.{Rows, each}
-use Rattle.trace_stop.specs.Facts.{FitProcess, FitLwp, IsSound}
-use Rattle.trace_stop.specs.Before.{MayTell}
+use Rattle.trace_stop.proofs.Words.{AllByRecursion, LwpData, ProcData, State, Run, Trace, Job, Zombie, is_live, reporting, process_of, Rows, each, FitProcess, FitLwp, IsSound, MayTell}
 use Rattle.trace_stop.proofs.Every.{and_left, and_right, choose}
 use Rattle.trace_stop.proofs.Changed.{Row, Same, Edit, Like, Leaves, IfKept, KeptLwp, Stay, nobody, holds_sound, sound_holds, row_at, like_self, leaves, kept_all, kept_lwp, none_gone, no_ring, stay, lives_after, edit_holds}
 use Rattle.trace_stop.proofs.Posting.{beside_fits}
@@ -35,30 +27,9 @@ module _ (caller : ℕ) (p : ProcData) where
   now s = record p { state = s }
 
   pub collected_kept : (s : State) → IfCollected (now s) (collected_in caller (now s) s)
-  collected_kept Run = record {
-    pid = refl;
-    uid = refl;
-    like = record { live = refl; tracer = inl refl; parent = refl };
-    reporting = refl;
-    fits = λ fit. record { stopped = fit.stopped; job = fit.job; continued = λ on. absurd (true≢false (sym on)); untraced = λ none. record { mask = (fit.untraced none).mask; pending = (fit.untraced none).pending }; ended = tt };
-    fit_lwp = λ live l. beside_fits (now Run) (record p { state = Run; continued = false }) l refl refl refl;
-  }
-  collected_kept (Trace tid sig told) = record {
-    pid = refl;
-    uid = refl;
-    like = record { live = refl; tracer = inl refl; parent = refl };
-    reporting = refl;
-    fits = λ fit. record { stopped = fit.stopped; job = fit.job; continued = fit.continued; untraced = λ none. record { mask = (fit.untraced none).mask; pending = (fit.untraced none).pending }; ended = tt };
-    fit_lwp = λ live l. beside_fits (now (Trace tid sig told)) (now (Trace tid sig true)) l refl refl refl;
-  }
-  collected_kept (Job sig told) = record {
-    pid = refl;
-    uid = refl;
-    like = record { live = refl; tracer = inl refl; parent = refl };
-    reporting = refl;
-    fits = λ fit. record { stopped = fit.stopped; job = fit.job; continued = fit.continued; untraced = λ none. record { mask = (fit.untraced none).mask; pending = (fit.untraced none).pending }; ended = tt };
-    fit_lwp = λ live l. beside_fits (now (Job sig told)) (now (Job sig true)) l refl refl refl;
-  }
+  collected_kept Run = search (rules, beside_fits)
+  collected_kept (Trace tid sig told) = search (rules, beside_fits)
+  collected_kept (Job sig told) = search (rules, beside_fits)
   collected_kept (Zombie w) = search (rules, choose, bit_and, zero_apart, and_right, and_left, stay, eq-eqb)
 
 -- the rows after a collect, each by what it keeps

@@ -1,11 +1,7 @@
 -- A wait among all rows, and among one user's own rows.
 use Rattle.std.proofs.Common.{◌≡◌, ◌≢◌, ℕ, ℤ, true, Option, Some, None, refl, sym, rules}
 use Rattle.pid_blocks.specs.Blocks.{pid_owner}
-use Rattle.proc_table.specs.declared.ProcData.{ProcData}
-use Rattle.proc_table.specs.Rows.{Rows}
-use Rattle.proc_table.specs.Seen.{owns}
-use Rattle.proc_table.specs.Laws.{only_of}
-use Rattle.trace_stop.specs.Facts.{IsSound}
+use Rattle.trace_stop.proofs.Words.{ProcData, Rows, owns, only_of, IsSound}
 use Rattle.user_rows.specs.Closed.{Closed}
 use Rattle.user_rows.proofs.ViewSame.{Sim}
 use Rattle.user_rows.proofs.ViewRows.{owns_owner, owns_user, sound_closed, own_start, own_after, others_after}

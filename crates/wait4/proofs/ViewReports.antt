@@ -1,12 +1,7 @@
 -- What is collected, among one user's rows.
 use Rattle.std.proofs.Common.{◌≡◌, ◌≢◌, ℕ, ℤ, [], ◌∷◌, find, true, ◌==◌, ◌&&◌, not, if◌then◌else◌, Option, Some, None, IfSome, refl, sym, ap, ◌∙◌, true≢false, eqb-true, subst, eq-eqb, inl, rules}
-use Rattle.pid_blocks.specs.Users.{IsUser}
+use Rattle.trace_stop.proofs.Words.{IsUser, ProcData, State, Run, Trace, Job, Zombie, is_live, is_zombie_state, named_by, Rows}
 use Rattle.pid_blocks.specs.Blocks.{pid_owner, tid_owner}
-use Rattle.proc_table.specs.declared.ProcData.{ProcData}
-use Rattle.proc_table.specs.declared.State.{State}
-use Rattle.proc_table.specs.declared.State.TheVariants.{Run, Trace, Job, Zombie}
-use Rattle.proc_table.specs.Processes.{is_live, is_zombie_state, named_by}
-use Rattle.proc_table.specs.Rows.{Rows}
 use Rattle.wait4.specs.declared.Options.{Options}
 use Rattle.wait4.specs.Collect.{answer, is_child, fits, reportable, collected_in, collected, stays, told, collect_one, candidates, reported, collect, without_report, rows_after}
 use Rattle.user_rows.specs.Closed.{GoodProc, LiveRow}

@@ -3,7 +3,7 @@ use Rattle.trace_stop.specs.End.{left_alone, end}
 use Rattle.process_end.specs.Laws.{end_alone}
 use Rattle.process_end.specs.Descent.{kills, spares}
 use Rattle.process_end.proofs.Doomed.{detached_end}
-use Rattle.process_end.proofs.EndSound.{end_sound}
+use Rattle.process_end.proofs.Descents.{end_sound}
 use Rattle.trace_stop.proofs.Found.{listed}
 use Rattle.process_end.proofs.ends.end.Goals as goal
 use Rattle.process_end.proofs.ends.end.Goals.{After-end_with_tracees, After-end_leaf}

@@ -1,5 +1,4 @@
-use Rattle.std.proofs.Common.{◌≡◌, ◌∙◌, ap, subst, sym, rules, eq-eqb, eqb-true, false}
-use Rattle.std.specs.Prelude.{◌==◌}
+use Rattle.std.proofs.Common.{◌≡◌, ◌∙◌, ap, subst, sym, rules, eq-eqb, eqb-true, false, ◌==◌}
 use Rattle.signals.specs.Table.{SIGKILL}
 use Rattle.process_end.specs.Laws.{end_alone}
 use Rattle.process_end.specs.Descent.{EndsToo}

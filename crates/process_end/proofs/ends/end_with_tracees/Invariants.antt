@@ -1,9 +1,5 @@
-use Rattle.std.proofs.Common.{◌≡◌, true}
-use Rattle.std.specs.Prelude.{count_by}
-use Rattle.proc_table.specs.Processes.{is_live}
-use Rattle.trace_stop.specs.End.{end}
-use Rattle.trace_stop.specs.Facts.{IsSound}
-use Rattle.trace_stop.specs.Sound.{is_live_at}
+use Rattle.std.proofs.Common.{◌≡◌, true, count_by}
+use Rattle.trace_stop.proofs.Words.{is_live, end, IsSound, is_live_at}
 use Rattle.process_end.specs.Descent.{kills, EndsToo}
 use Rattle.process_end.proofs.ends.end_with_tracees.Given as goal
 

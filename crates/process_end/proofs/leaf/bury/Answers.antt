@@ -1,7 +1,5 @@
 use Rattle.std.proofs.Common.{◌≡◌, ◌==◌, Some, rules, refl, false}
-use Rattle.proc_table.specs.declared.ProcData.{ProcData}
-use Rattle.proc_table.specs.declared.State.TheVariants.{Zombie}
-use Rattle.proc_table.specs.Processes.{process_of, traces}
+use Rattle.trace_stop.proofs.Words.{ProcData, Zombie, process_of, traces}
 use Rattle.proc_table.proofs.Rows.{found_row}
 use Rattle.proc_table.proofs.Stays.{named-same, process_there}
 use Rattle.trace_stop.proofs.Found.{own_row, live_row}

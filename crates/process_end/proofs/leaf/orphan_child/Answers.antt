@@ -1,7 +1,6 @@
-use Rattle.std.proofs.Common.{◌≡◌, ◌||◌, true, false, rules}
-use Rattle.std.specs.Prelude.{is_some}
+use Rattle.std.proofs.Common.{◌≡◌, ◌||◌, true, false, rules, is_some}
 use Rattle.proc_table.specs.Processes.{is_live}
-use Rattle.process_end.proofs.Orphans.{listed, child-ended, child_out-leaving, child_out-untraced, child_out-fewer, child_out-same, child-named, child_put-leaving, child_put-untraced, child_put-fewer, child_put-same}
+use Rattle.process_end.proofs.Orphans.{listed, child-ended, child_out, child_out-untraced, child-named, child_put, child_put-untraced}
 use Rattle.process_end.proofs.Unnamed.{zombie-tracees, zombie-children, zombie-lwps}
 use Rattle.process_end.proofs.leaf.orphan_child.Goals as goal
 
@@ -28,12 +27,8 @@ returns-then-stays c =
     let z = c.args.child.now in
     let q = c.args.pid in
     let stays : (is_live z || is_some z.tracer) ≡ true = search rules in
-    record {
-      leaving = child_put-leaving q rows rows' c.requires.kept c.requires.leaving z c.requires.there c.requires.untraced c.requires.child stays c.set_process.ensures.rows;
-      untraced = child_put-untraced q rows rows' c.requires.kept c.requires.leaving z c.requires.there c.requires.untraced c.requires.child stays c.set_process.ensures.rows;
-      fewer = child_put-fewer q rows rows' c.requires.kept c.requires.leaving z c.requires.there c.requires.untraced c.requires.child stays c.set_process.ensures.rows;
-      same = child_put-same q rows rows' c.requires.kept c.requires.leaving z c.requires.there c.requires.untraced c.requires.child stays c.set_process.ensures.rows;
-    }
+    let d = child_put q rows rows' c.requires.kept c.requires.leaving z c.requires.there c.requires.untraced c.requires.child stays c.set_process.ensures.rows in
+    record { leaving = d.leaving; untraced = child_put-untraced q rows rows' c.requires.kept c.requires.leaving z c.requires.there c.requires.untraced c.requires.child stays c.set_process.ensures.rows; fewer = d.fewer; same = d.same }
 
 pub returns-else-stays : goal.returns-else-stays
 returns-else-stays c =
@@ -42,9 +37,5 @@ returns-else-stays c =
     let z = c.args.child.now in
     let q = c.args.pid in
     let stays : (is_live z || is_some z.tracer) ≡ false = search rules in
-    record {
-      leaving = child_out-leaving q rows rows' c.requires.kept c.requires.leaving z c.requires.there c.requires.untraced c.requires.child stays c.remove_process.ensures.rows;
-      untraced = child_out-untraced q rows rows' c.requires.kept c.requires.leaving z c.requires.there c.requires.untraced c.requires.child stays c.remove_process.ensures.rows;
-      fewer = child_out-fewer q rows rows' c.requires.kept c.requires.leaving z c.requires.there c.requires.untraced c.requires.child stays c.remove_process.ensures.rows;
-      same = child_out-same q rows rows' c.requires.kept c.requires.leaving z c.requires.there c.requires.untraced c.requires.child stays c.remove_process.ensures.rows;
-    }
+    let d = child_out q rows rows' c.requires.kept c.requires.leaving z c.requires.there c.requires.untraced c.requires.child stays c.remove_process.ensures.rows in
+    record { leaving = d.leaving; untraced = child_out-untraced q rows rows' c.requires.kept c.requires.leaving z c.requires.there c.requires.untraced c.requires.child stays c.remove_process.ensures.rows; fewer = d.fewer; same = d.same }

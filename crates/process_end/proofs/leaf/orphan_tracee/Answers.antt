@@ -1,10 +1,6 @@
-use Rattle.std.proofs.Common.{◌≡◌, ◌∷◌, [], None, Some, rules, ap, sym, ◌∙◌}
-use Rattle.std.specs.Prelude.{option_map}
-use Rattle.proc_table.specs.Kept.{set_process}
-use Rattle.proc_table.specs.declared.ProcData.{ProcData}
-use Rattle.trace_stop.specs.End.{uncollected, collector}
-use Rattle.trace_stop.specs.Post.{notified}
-use Rattle.process_end.proofs.Orphans.{orphan_of, listed, tracee-ended, tracee_out-leaving, tracee_out-fewer, tracee_out-same, tracee-named, tracee_told-leaving, tracee_told-fewer, tracee_told-same}
+use Rattle.std.proofs.Common.{◌≡◌, ◌∷◌, [], None, Some, rules, ap, sym, ◌∙◌, option_map}
+use Rattle.trace_stop.proofs.Words.{set_process, ProcData, uncollected, collector, notified}
+use Rattle.process_end.proofs.Orphans.{orphan_of, listed, tracee-ended, tracee_out, tracee-named, tracee_told}
 use Rattle.process_end.proofs.Unnamed.{zombie-tracees, zombie-children, zombie-lwps}
 use Rattle.process_end.proofs.leaf.orphan_tracee.Goals as goal
 
@@ -28,11 +24,8 @@ returns-in_default c =
     let q = c.args.pid in
     let result : c.collector.result ≡ None = search rules in
     let none : option_map collector (uncollected (orphan_of q z)) ≡ None = ap (λ (k : ProcData). option_map collector (uncollected k)) (sym c.orphaned-orphan.ensures) ∙ sym c.collector.ensures ∙ result in
-    record {
-      leaving = tracee_out-leaving q rows rows' c.requires.kept c.requires.leaving z c.requires.there c.requires.traced none c.remove_process.ensures.rows;
-      fewer = tracee_out-fewer q rows rows' c.requires.kept c.requires.leaving z c.requires.there c.requires.traced none c.remove_process.ensures.rows;
-      same = tracee_out-same q rows rows' c.requires.kept c.requires.leaving z c.requires.there c.requires.traced none c.remove_process.ensures.rows;
-    }
+    let d = tracee_out q rows rows' c.requires.kept c.requires.leaving z c.requires.there c.requires.traced none c.remove_process.ensures.rows in
+    record { leaving = d.leaving; fewer = d.fewer; same = d.same }
 
 pub set_process-requires-clause-named : goal.set_process-requires-clause-named
 set_process-requires-clause-named c = search (rules, orphan_of, tracee-named)
@@ -47,8 +40,5 @@ returns c =
     let some : option_map collector (uncollected (orphan_of q z)) ≡ Some m = ap (λ (k : ProcData). option_map collector (uncollected k)) (sym c.orphaned-orphan.ensures) ∙ sym c.collector.ensures ∙ c.in-Some.is in
     let made : rows' ≡ notified (m ∷ []) (set_process (orphan_of q z) rows) =
     c.notify.ensures.rows ∙ ap (notified (m ∷ [])) (c.set_process.ensures.rows ∙ ap (λ (k : ProcData). set_process (record k { pid = z.pid }) rows) c.orphaned-orphan.ensures) in
-    record {
-      leaving = tracee_told-leaving q rows rows' c.requires.kept c.requires.leaving z c.requires.there c.requires.traced m some made;
-      fewer = tracee_told-fewer q rows rows' c.requires.kept c.requires.leaving z c.requires.there c.requires.traced m some made;
-      same = tracee_told-same q rows rows' c.requires.kept c.requires.leaving z c.requires.there c.requires.traced m some made;
-    }
+    let d = tracee_told q rows rows' c.requires.kept c.requires.leaving z c.requires.there c.requires.traced m some made in
+    record { leaving = d.leaving; fewer = d.fewer; same = d.same }

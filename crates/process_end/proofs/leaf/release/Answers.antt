@@ -1,9 +1,6 @@
-use Rattle.std.proofs.Common.{ap, ◌∙◌, rules, arith}
-use Rattle.std.proofs.lemmas.Bool.Decides.{nat_tests}
-use Rattle.std.specs.Prelude.{◌==◌}
-use Rattle.proc_table.specs.Kept.{set_lwp}
+use Rattle.std.proofs.Common.{ap, ◌∙◌, rules, arith, ◌==◌}
+use Rattle.trace_stop.proofs.Words.{nat_tests, set_lwp, released}
 use Rattle.proc_table.proofs.LwpWalk.{walking-first, walking-next, walking-less, walking-after}
-use Rattle.trace_stop.specs.End.{released}
 use Rattle.process_end.proofs.LwpEdits.{released-tid, released-pid}
 use Rattle.process_end.proofs.leaf.release.Goals as goal
 

@@ -1,4 +1,4 @@
-use Rattle.std.specs.Prelude.{◌==◌}
+use Rattle.std.proofs.Common.{◌==◌}
 use Rattle.proc_table.proofs.LwpWalk.{IsWalking, left_at}
 use Rattle.trace_stop.specs.End.{released}
 use Rattle.process_end.proofs.leaf.release.Given as goal

@@ -1,10 +1,6 @@
 use Rattle.std.proofs.Common.{◌≡◌, true, false, eqb, eqb-true, sym, ap, ◌∙◌, subst}
-use Rattle.signals.specs.Table.{SIGKILL}
-use Rattle.trace_stop.specs.Facts.{IsSound}
-use Rattle.trace_stop.specs.End.{end}
-use Rattle.trace_stop.specs.Stop.{post}
-use Rattle.trace_stop.proofs.Found.{live_row}
-use Rattle.trace_stop.proofs.Found.{listed}
+use Rattle.trace_stop.proofs.Words.{SIGKILL, IsSound, end, post}
+use Rattle.trace_stop.proofs.Found.{live_row, listed}
 use Rattle.trace_stop.proofs.Posts.{post_sound}
 use Rattle.process_end.proofs.posting.post_to.Goals as goal
 

@@ -1,9 +1,5 @@
 use Rattle.std.proofs.Common.{◌≡◌, true, false, sym, ap, ◌∙◌, refl, rules}
-use Rattle.proc_table.specs.Processes.{process_of}
-use Rattle.proc_table.specs.Rows.{is_numbered}
-use Rattle.trace_stop.specs.End.{end}
-use Rattle.trace_stop.specs.Detach.{running, resumed, detached}
-use Rattle.trace_stop.specs.Stop.{ends_process}
+use Rattle.trace_stop.proofs.Words.{process_of, is_numbered, end, running, resumed, detached, ends_process}
 use Rattle.trace_stop.proofs.Found.{live_found}
 use Rattle.trace_stop.proofs.Stopped.{stopped_row, stopped_live}
 use Rattle.trace_stop.proofs.Detached.{resumed_sound, resumed_row}

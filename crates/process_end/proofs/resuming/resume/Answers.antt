@@ -1,8 +1,5 @@
 use Rattle.std.proofs.Common.{◌≡◌, true, false, sym, ap, ◌∙◌, refl}
-use Rattle.proc_table.specs.Processes.{process_of}
-use Rattle.trace_stop.specs.End.{end}
-use Rattle.trace_stop.specs.Detach.{running, resumed}
-use Rattle.trace_stop.specs.Stop.{ends_process}
+use Rattle.trace_stop.proofs.Words.{process_of, end, running, resumed, ends_process}
 use Rattle.trace_stop.proofs.Found.{live_found}
 use Rattle.trace_stop.proofs.Stopped.{stopped_row, stopped_live}
 use Rattle.trace_stop.proofs.Detached.{resumed_sound, resumed_row}

@@ -1,10 +1,8 @@
 use Rattle.std.proofs.Common.{◌≡◌, ap, ◌∙◌, refl, rules}
-use Rattle.lwp_table.specs.declared.LwpData.{LwpData}
-use Rattle.proc_table.specs.Kept.{set_lwp}
+use Rattle.trace_stop.proofs.Words.{LwpData, set_lwp, edited}
 use Rattle.proc_table.proofs.LwpWalk.{walking-first, walking-next, walking-less, walking-after}
 use Rattle.trace_stop.specs.declared.edits.Edit.{Edit}
 use Rattle.trace_stop.specs.declared.edits.Edit.TheVariants.{Settle, Post, ClearStepping, Detach}
-use Rattle.trace_stop.specs.Edits.{edited}
 use Rattle.trace_stop.proofs.edits.edit_lwps.Goals as goal
 
 keeps : (e : Edit) (l : LwpData) → (edited e l).tid ≡ l.tid

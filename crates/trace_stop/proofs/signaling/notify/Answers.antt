@@ -1,8 +1,6 @@
 use Rattle.std.proofs.Common.{◌≡◌, Some, sym, ◌∙◌, rules, subst, [], ◌∷◌}
-use Rattle.proc_table.specs.Processes.{process_of}
+use Rattle.trace_stop.proofs.Words.{process_of, IsSound, notified}
 use Rattle.proc_table.proofs.Rows.{process_of-pid, found_row}
-use Rattle.trace_stop.specs.Facts.{IsSound}
-use Rattle.trace_stop.specs.Post.{notified}
 use Rattle.trace_stop.proofs.Found.{own_row}
 use Rattle.trace_stop.proofs.Told.{notified-one, notified-absent}
 use Rattle.trace_stop.proofs.Stopping.{notified_sound}

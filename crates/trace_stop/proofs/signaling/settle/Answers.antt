@@ -1,14 +1,9 @@
 use Rattle.std.proofs.Common.{◌≡◌, Some, sym, ap, ◌∙◌, refl, subst}
-use Rattle.signals.specs.Sets.{without}
-use Rattle.proc_table.specs.declared.ProcData.{ProcData}
-use Rattle.proc_table.specs.Processes.{process_of}
+use Rattle.trace_stop.proofs.Words.{without, ProcData, process_of, edited, IsSound, settled_process, settled_lwp, settle}
 use Rattle.proc_table.proofs.Rows.{process_of-pid}
 use Rattle.proc_table.proofs.Changes.{change-done}
 use Rattle.proc_table.proofs.Stays.{process_there, named-same}
-use Rattle.trace_stop.specs.Edits.{edited}
 use Rattle.trace_stop.specs.declared.edits.Edit.TheVariants as edit
-use Rattle.trace_stop.specs.Facts.{IsSound}
-use Rattle.trace_stop.specs.Post.{settled_process, settled_lwp, settle}
 use Rattle.trace_stop.proofs.Found.{row_there, own_row}
 use Rattle.trace_stop.proofs.Settling.{settle_sound}
 use Rattle.trace_stop.proofs.signaling.settle.Goals as goal

@@ -1,7 +1,6 @@
 use Rattle.std.proofs.Common.{◌≡◌, Some, sym, refl, rules}
-use Rattle.proc_table.specs.Processes.{process_of}
+use Rattle.trace_stop.proofs.Words.{process_of, running}
 use Rattle.proc_table.proofs.Stays.{process_there, named-same}
-use Rattle.trace_stop.specs.Detach.{running}
 use Rattle.trace_stop.proofs.Found.{row_there, own_row}
 use Rattle.trace_stop.proofs.Stopped.{reporter_there}
 use Rattle.trace_stop.proofs.Runs.{resumed-is}

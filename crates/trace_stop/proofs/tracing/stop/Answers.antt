@@ -1,17 +1,29 @@
-use Rattle.std.proofs.Common.{◌≡◌, Some, None, [], ◌∷◌, sym, ap, ◌∙◌, refl, rules, subst}
-use Rattle.lwp_table.specs.Lwps.{lwp_of}
-use Rattle.proc_table.specs.Processes.{process_of}
-use Rattle.proc_table.specs.Kept.{set_process, set_lwp}
-use Rattle.proc_table.proofs.Rows.{lwp_of-tid}
+use Rattle.std.proofs.Common.{◌≡◌, Some, None, [], ◌∷◌, sym, ap, ◌∙◌, refl, rules, subst, ℕ, false}
+use Rattle.trace_stop.proofs.Words.{lwp_of, process_of, set_process, set_lwp, IsKept, notified, IsSound, tracers, stop, LwpData, ProcData, Trace, Rows, change_process, change_lwp, tracer_in}
+use Rattle.proc_table.proofs.Rows.{lwp_of-tid, process_of-pid}
 use Rattle.proc_table.proofs.Stays.{process_there, named-same, lwp_there}
-use Rattle.trace_stop.specs.Post.{notified}
-use Rattle.trace_stop.specs.Facts.{IsSound}
-use Rattle.trace_stop.specs.Stop.{tracers, stop}
 use Rattle.trace_stop.proofs.Found.{row_there, own_row}
 use Rattle.trace_stop.proofs.Told.{notified-none}
-use Rattle.trace_stop.proofs.Shows.{stopped_by, showing, stop-at}
 use Rattle.trace_stop.proofs.Stops.{stopped_sound}
+use Rattle.proc_table.proofs.Changes.{change_process-at, change_lwp-at}
+use Rattle.trace_stop.specs.declared.Shown.{Shown}
 use Rattle.trace_stop.proofs.tracing.stop.Goals as goal
+
+-- A trace stop as edits of two rows
+
+abbrev stopped_by : ℕ → Shown → ProcData → ProcData
+stopped_by tid shown p = record p { state = Trace tid shown.sig false }
+
+abbrev showing : Shown → LwpData → LwpData
+showing shown l = record l { flags = shown.flags; child = shown.child; code = shown.code }
+
+stop-at : (pid tid : ℕ) (shown : Shown) (rows : Rows) (p : ProcData) (l : LwpData) → IsKept rows → process_of pid rows.processes ≡ Some p → lwp_of tid rows.lwps ≡ Some l
+    → stop pid tid shown rows ≡ notified (tracers p.tracer) (set_lwp (showing shown l) (set_process (stopped_by tid shown p) rows))
+stop-at pid tid shown rows p l k at there =
+    let shows = change_lwp-at tid (showing shown) rows l k.differ there (lwp_of-tid tid l rows.lwps there) in
+    let stops = change_process-at pid (stopped_by tid shown) (set_lwp (showing shown l) rows) p k.rising at (process_of-pid pid p rows.processes at) in
+    ap (λ o. notified (tracers (tracer_in o)) (change_process pid (stopped_by tid shown) (change_lwp tid (showing shown) rows))) at
+    ∙ ap (notified (tracers p.tracer)) (ap (change_process pid (stopped_by tid shown)) shows ∙ stops)
 
 pub unwrap-p-requires : goal.unwrap-p-requires
 unwrap-p-requires c = rw c.process.ensures.row (row_there c.args.tables.now.rows c.args.pid c.requires.process)

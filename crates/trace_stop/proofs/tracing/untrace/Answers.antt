@@ -1,20 +1,9 @@
 use Rattle.std.proofs.Common.{◌≡◌, Some, None, is_some, sym, ap, ◌∙◌, refl, subst, rules}
-use Rattle.signals.specs.Sets.{without}
-use Rattle.signals.specs.Table.{nothing}
-use Rattle.event_masks.specs.Exits.{no_events}
-use Rattle.proc_table.specs.declared.ProcData.{ProcData}
-use Rattle.proc_table.specs.declared.State.TheVariants.{Run}
-use Rattle.proc_table.specs.Processes.{process_of}
-use Rattle.proc_table.specs.Rows.{is_numbered}
-use Rattle.proc_table.specs.Edits.{map_lwps}
-use Rattle.proc_table.specs.Kept.{set_process}
+use Rattle.trace_stop.proofs.Words.{without, nothing, no_events, ProcData, Run, process_of, is_numbered, map_lwps, set_process, edited, IsSound, untraced, untraced_lwp, detached, reporter}
+use Rattle.trace_stop.proofs.Words.{report_dropped}
 use Rattle.proc_table.proofs.Rows.{process_of-pid}
 use Rattle.proc_table.proofs.Stays.{process_there, named-untraced}
-use Rattle.trace_stop.specs.Edits.{edited}
 use Rattle.trace_stop.specs.declared.edits.Edit.TheVariants as edit
-use Rattle.trace_stop.specs.Facts.{IsSound}
-use Rattle.trace_stop.specs.Detach.{untraced, untraced_lwp, detached}
-use Rattle.trace_stop.specs.Reports.{reporter, report_dropped}
 use Rattle.trace_stop.proofs.Found.{own_row, live_row}
 use Rattle.trace_stop.proofs.Stopped.{reporter_there}
 use Rattle.trace_stop.proofs.Runs.{run_on-is}

@@ -1,8 +1,6 @@
 use Rattle.std.proofs.Common.{◌≡◌, ℤ, ◌&&◌, Bool, Some, None, w64, sym, ap, ◌∙◌, subst, if◌then◌else◌}
-use Rattle.std.specs.List.{list_any}
+use Rattle.trace_stop.proofs.Words.{list_any, process_of, IsSound, FitProcess}
 use Rattle.std.proofs.lemmas.Int.{to_z-of_z}
-use Rattle.proc_table.specs.Processes.{process_of}
-use Rattle.trace_stop.specs.Facts.{IsSound, FitProcess}
 use Rattle.trace_stop.proofs.Passes.{own_rows}
 use Rattle.wait4.specs.declared.Collected.TheVariants.{Nothing, NoChild}
 use Rattle.wait4.specs.Collect.{is_child, fits, candidates, reported, answer}

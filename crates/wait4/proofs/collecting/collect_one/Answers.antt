@@ -1,10 +1,7 @@
 use Rattle.std.proofs.Common.{◌≡◌, [], ◌∷◌, Bool, true, false, not, Some, None, refl, sym, ap, ◌∙◌, if◌then◌else◌}
-use Rattle.proc_table.specs.declared.ProcData.{ProcData}
-use Rattle.proc_table.specs.declared.State.TheVariants.{Trace, Job}
-use Rattle.proc_table.specs.Processes.{is_zombie_state}
+use Rattle.trace_stop.proofs.Words.{ProcData, Trace, Job, is_zombie_state, notified}
 use Rattle.proc_table.proofs.Rows.{found_row}
 use Rattle.proc_table.proofs.Stays.{named-same, named-untraced}
-use Rattle.trace_stop.specs.Post.{notified}
 use Rattle.wait4.specs.Collect.{stays, collected, collected_in}
 use Rattle.wait4.proofs.CollectRows.{collected-seen, collected-passed, collected-gone}
 use Rattle.wait4.proofs.Unnamed.{no_tracee, no_child, no_lwp}

@@ -1,6 +1,5 @@
 use Rattle.std.proofs.Common.{ℤ, ◌&&◌, is_some, sym, ap, ◌∙◌}
-use Rattle.std.specs.List.{list_any}
-use Rattle.proc_table.specs.Keep.{keep}
+use Rattle.trace_stop.proofs.Words.{list_any, keep}
 use Rattle.wait4.specs.Collect.{is_child, fits}
 use Rattle.wait4.proofs.Whole.{is_negative, is_natural, read_back}
 use Rattle.wait4.proofs.Search.{is_kept}

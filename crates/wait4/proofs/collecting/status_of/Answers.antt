@@ -1,8 +1,11 @@
-use Rattle.std.proofs.Common.{ap, is_some, subst}
-use Rattle.trace_stop.specs.Facts.{IfEnded, Ended}
-use Rattle.wait4.specs.Status.{ended}
-use Rattle.wait4.proofs.Ended.{ended_status}
+use Rattle.std.proofs.Common.{ap, is_some, subst, ◌≡◌, ℕ, true, rules}
+use Rattle.trace_stop.proofs.Words.{IfEnded, Ended, cases_Bool, nat_tests, is_end}
+use Rattle.wait4.specs.Status.{ended, IsStatus, word}
 use Rattle.wait4.proofs.collecting.status_of.Goals as goal
+
+-- the word of a process's end is that of a status
+ended_status : (w : ℕ) → is_end w ≡ true → IsStatus (ended w) × (word (ended w) ≡ w)
+ended_status w is = search (rules, cases_Bool, nat_tests)
 
 pub unwrap-requires : goal.unwrap-requires
 unwrap-requires c =
