@@ -15,7 +15,7 @@ use Rattle.lwp_table.specs.Kept.{own_node, own_nodes, all_node, all_nodes, is_of
 use Rattle.lwp_table.proofs.WordLemmas.{test_same, test_apart}
 use Rattle.lwp_table.proofs.ChainLemmas.{IsChain-joined, IsChain-joined_other, IsChain-left, IsChain-left_other}
 use Rattle.lwp_table.proofs.Numbered.{count-without, count-put}
-use Rattle.lwp_table.proofs.WalkLemmas.{first-is_none}
+use Rattle.lwp_table.proofs.WalkLemmas.{first-row}
 use Rattle.lwp_table.proofs.CountLemmas.{one, count-end, count-below, count-none, length-end, length-without, length-listing, at_yes, at_no, users_set}
 use Rattle.lwp_table.proofs.IndexLemmas.{came, differ, face, lwp_of-slot, no_slot, IsIndexed-added, rows_of-added, IsIndexed-removed, rows_of-removed, IsIndexed-set, rows_of-set}
 
@@ -241,7 +241,7 @@ module _ (f : ℕ → Option Slot) (es : List (ℕ × ℕ)) (hs : List (ℕ × E
           let near = subst (IsNearest up (own_nodes g) old.row.pid anywhere) none chain_left.first_is in
           let last = no_last (own_nodes g) old.row.pid left.last chain_left.last_is near in
           let indexed = IsIndexed-removed f es births kept.indexed g es' q left_faces old had gone_g change in
-          let zero = count-none (is_of old.row.pid) (rows_of g es' births) (first-is_none g es' births indexed old.row.pid near) in
+          let zero = count-none (is_of old.row.pid) (rows_of g es' births) (first-row g es' births indexed old.row.pid None near) in
           let same = ap (count_by (is_of old.row.pid)) rows-removed in
           let count : left.count ≡ 0 = omega (arith, zero, same, left_count, kept.counted old.row.pid, count-without (λ (l : LwpData). l.tid) (is_of old.row.pid) old.row.tid old.row (rows_of f es births) (differ f es births kept.indexed) (row_old q old had), ap one (test_same old.row.pid)) in
           (λ i. record { first = none i; last = last i; count = count i })
