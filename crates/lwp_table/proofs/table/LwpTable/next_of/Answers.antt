@@ -1,9 +1,7 @@
-use Rattle.std.proofs.Common.{◌≡◌, Some, sym, ap, ◌∙◌, is_some, nat_eq, rules}
-use Rattle.std.specs.Map.{lookup}
+use Rattle.std.proofs.Common.{sym, ap, ◌∙◌, is_some, rules}
 use Rattle.std.specs.Option.{option_map}
 use Rattle.slab.specs.Slab.{get as slot_get}
 use Rattle.lwp_table.specs.declared.links.Slot.{Slot}
-use Rattle.lwp_table.specs.Lwps.{lwp_of}
 use Rattle.lwp_table.specs.Kept.{own_node}
 use Rattle.lwp_table.proofs.IndexLemmas.{some_and, came, slot_for}
 use Rattle.lwp_table.proofs.KeptLemmas.{differ-seen}
