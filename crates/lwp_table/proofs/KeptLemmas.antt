@@ -336,5 +336,5 @@ IsKept-none f es hs none no_es no_hs = record {
 }
 
 -- the rows that contracts see have numbers that differ
-pub differ-seen : {f : ℕ → Option Slot} {es : List (ℕ × ℕ)} {births : ℕ} {rows : List LwpData} → IsIndexed f es births → rows_of f es births ≡ rows → Differ rows
-differ-seen {f} {es} {births} {rows} indexed seen = subst Differ seen (differ f es births indexed)
+pub differ_seen : {f : ℕ → Option Slot} {es : List (ℕ × ℕ)} {births : ℕ} {rows : List LwpData} → IsIndexed f es births → rows_of f es births ≡ rows → Differ rows
+differ_seen {f} {es} {births} {rows} indexed seen = subst Differ seen (differ f es births indexed)

@@ -55,6 +55,7 @@ impl Model for LwpTable {
     ghost invariant = { λ t. IsKept (get t.rows) t.slots.entries t.heads.entries t.all t.births t.users };
 }
 
+#[tactic(auto, using(crate::proofs::KeptLemmas::differ_seen))]
 impl LwpTable {
     /// An empty table.
     pub fn new(alloc: Global) -> Result<LwpTable, AllocError>

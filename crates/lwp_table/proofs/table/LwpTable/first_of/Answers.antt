@@ -1,8 +1,7 @@
-use Rattle.std.proofs.Common.{sym, ap, ◌∙◌, rules}
+use Rattle.std.proofs.Common.{sym, ap, ◌∙◌}
 use Rattle.std.specs.Option.{option_map}
 use Rattle.slab.specs.Slab.{get as slot_get}
 use Rattle.lwp_table.specs.declared.links.Slot.{Slot}
-use Rattle.lwp_table.proofs.KeptLemmas.{differ-seen}
 use Rattle.lwp_table.proofs.WalkLemmas.{row_at, first-row}
 use Rattle.lwp_table.proofs.table.LwpTable.first_of.Goals as goal
 
@@ -17,9 +16,3 @@ returns-clause-row c =
     let f = slot_get c.self.inside.rows in
     rw (← c.self.view_is, ← c.get.ensures.number) (sym (ap (option_map (λ (x : Slot). x.row)) c.index.ensures) ∙ ap (row_at f) c.in_ok-slot.ensures
     ∙ sym (first-row f _ _ c.self.invariant.indexed c.get.result _ (c.self.invariant.own c.get.result).first_is))
-
-pub returns-in_err-slot-clause-differ : goal.returns-in_err-slot-clause-differ
-returns-in_err-slot-clause-differ c = search (rules, differ-seen)
-
-pub returns-clause-differ : goal.returns-clause-differ
-returns-clause-differ c = search (rules, differ-seen)

@@ -1,6 +1,5 @@
 use Rattle.std.proofs.Common.{rules}
 use Rattle.lwp_table.proofs.IndexLemmas.{lwp_of-absent, lwp_of-found}
-use Rattle.lwp_table.proofs.KeptLemmas.{differ-seen}
 use Rattle.lwp_table.proofs.table.LwpTable.get.Goals as goal
 
 pub returns-in_err-slot-clause-row : goal.returns-in_err-slot-clause-row
@@ -8,9 +7,3 @@ returns-in_err-slot-clause-row c = search (rules, lwp_of-absent)
 
 pub returns-clause-row : goal.returns-clause-row
 returns-clause-row c = search (rules, lwp_of-found)
-
-pub returns-in_err-slot-clause-differ : goal.returns-in_err-slot-clause-differ
-returns-in_err-slot-clause-differ c = search (rules, differ-seen)
-
-pub returns-clause-differ : goal.returns-clause-differ
-returns-clause-differ c = search (rules, differ-seen)

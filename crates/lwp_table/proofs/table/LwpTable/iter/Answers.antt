@@ -1,7 +1,6 @@
 use Rattle.std.proofs.Common.{rules}
 use Rattle.slab.specs.Slab.{get as slot_get}
 use Rattle.lwp_table.specs.Kept.{all_node}
-use Rattle.lwp_table.proofs.KeptLemmas.{differ-seen}
 use Rattle.lwp_table.proofs.WalkLemmas.{IsWalk-first, all-first}
 use Rattle.lwp_table.proofs.table.LwpTable.iter.Goals as goal
 
@@ -10,6 +9,3 @@ invariant_of-result c = IsWalk-first (slot_get c.self.inside.rows) c.self.inside
 
 pub returns-clause-rows : goal.returns-clause-rows
 returns-clause-rows c = search (rules, all-first)
-
-pub returns-clause-differ : goal.returns-clause-differ
-returns-clause-differ c = search (rules, differ-seen)

@@ -1,10 +1,9 @@
-use Rattle.std.proofs.Common.{sym, ap, ◌∙◌, is_some, rules}
+use Rattle.std.proofs.Common.{sym, ap, ◌∙◌, is_some}
 use Rattle.std.specs.Option.{option_map}
 use Rattle.slab.specs.Slab.{get as slot_get}
 use Rattle.lwp_table.specs.declared.links.Slot.{Slot}
 use Rattle.lwp_table.specs.Kept.{own_node}
 use Rattle.lwp_table.proofs.IndexLemmas.{some_and, came, slot_for}
-use Rattle.lwp_table.proofs.KeptLemmas.{differ-seen}
 use Rattle.lwp_table.proofs.WalkLemmas.{row_at, next-near}
 use Rattle.lwp_table.proofs.table.LwpTable.next_of.Goals as goal
 
@@ -34,9 +33,3 @@ returns-clause-row c =
     let near = next-near f _ _ c.self.invariant.indexed c.args.pid _ _ (c.self.invariant.own c.args.pid) c.args.after c.unwrap-at.result c.index.result.now (rw (← c.self.view_is) at c.requires)
     (rw c.get.ensures.number at (sym c.slot_of.ensures ∙ c.unwrap-at.ensures)) c.index.ensures in
     rw (← c.self.view_is) (sym (near.1 ∙ ap (row_at f) c.in_ok-slot.was ∙ ap (option_map (λ (x : Slot). x.row)) c.index-2.ensures))
-
-pub returns-in_err-slot-clause-differ : goal.returns-in_err-slot-clause-differ
-returns-in_err-slot-clause-differ c = search (rules, differ-seen)
-
-pub returns-clause-differ : goal.returns-clause-differ
-returns-clause-differ c = search (rules, differ-seen)

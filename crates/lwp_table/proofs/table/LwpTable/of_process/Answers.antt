@@ -2,7 +2,6 @@ use Rattle.std.proofs.Common.{sym, subst, rules}
 use Rattle.slab.specs.Slab.{get as slot_get}
 use Rattle.lwp_table.specs.declared.links.Ends.{Ends}
 use Rattle.lwp_table.specs.Kept.{own_node, IsWalk}
-use Rattle.lwp_table.proofs.KeptLemmas.{differ-seen}
 use Rattle.lwp_table.proofs.WalkLemmas.{IsWalk-first, left-first}
 use Rattle.lwp_table.proofs.table.LwpTable.of_process.Goals as goal
 
@@ -16,6 +15,3 @@ invariant_of-result c =
 
 pub returns-clause-rows : goal.returns-clause-rows
 returns-clause-rows c = search (rules, left-first)
-
-pub returns-clause-differ : goal.returns-clause-differ
-returns-clause-differ c = search (rules, differ-seen)

@@ -1,6 +1,5 @@
 use Rattle.std.proofs.Common.{rules}
 use Rattle.lwp_table.proofs.IndexLemmas.{lwp_of-absent, lwp_of-found}
-use Rattle.lwp_table.proofs.KeptLemmas.{differ-seen}
 use Rattle.lwp_table.proofs.table.LwpTable.process.Goals as goal
 
 pub returns-in_err-place-clause-process : goal.returns-in_err-place-clause-process
@@ -8,9 +7,3 @@ returns-in_err-place-clause-process c = search (rules, lwp_of-absent)
 
 pub returns-clause-process : goal.returns-clause-process
 returns-clause-process c = search (rules, lwp_of-found)
-
-pub returns-in_err-place-clause-differ : goal.returns-in_err-place-clause-differ
-returns-in_err-place-clause-differ c = search (rules, differ-seen)
-
-pub returns-clause-differ : goal.returns-clause-differ
-returns-clause-differ c = search (rules, differ-seen)
