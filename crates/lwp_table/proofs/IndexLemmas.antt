@@ -256,3 +256,6 @@ module _ (f : ℕ → Option Slot) (es : List (ℕ × ℕ)) (births : ℕ) (inde
                 ∙ sym (ap (option_map (put_lwp new.row)) (ap (born_row f es) same ∙ born_of q old had) ∙ ap (λ c. Some (cond c new.row old.row)) (ap (nat_eq old.row.tid) tids ∙ test_same old.row.tid))
             | inr off ↦ others_k k off ∙ sym (put_k k (born_row f es k) off refl)
           ]) 0 births
+
+-- what a number finds
+pub ruleset number_laws = (lwp_of-absent, lwp_of-found)

@@ -141,6 +141,7 @@ impl LwpTable {
     }
 
     /// The row with this number.
+    #[tactic(auto, using(crate::proofs::KeptLemmas::differ_seen, crate::proofs::IndexLemmas::number_laws))]
     pub fn get(&self, tid: Tid) -> Option<LwpData>
         ensures row { result ≡ lwp_of tid self.now.rows }
         ensures differ { Differ self.now.rows }
@@ -150,6 +151,7 @@ impl LwpTable {
     }
 
     /// The process of the row with this number.
+    #[tactic(auto, using(crate::proofs::KeptLemmas::differ_seen, crate::proofs::IndexLemmas::number_laws))]
     pub fn process(&self, tid: Tid) -> Option<Pid>
         ensures process { result ≡ option_map (λ l. l.pid) (lwp_of tid self.now.rows) }
         ensures differ { Differ self.now.rows }
