@@ -165,3 +165,6 @@ first-of_list f apart pid (Some t) last chain s slot there on begins =
       | inl h ↦ ap Some (apart t s at.0 slot at.1 there h.1)
       | inr h ↦ absurd (before t first.0 first.1 first.2 (omega (arith, key, least, h.1)))
     ]
+
+-- where walks begin
+pub ruleset first_laws = (left-first, all-first)

@@ -217,6 +217,7 @@ impl LwpTable {
     }
 
     /// The rows of this process, in order of birth.
+    #[tactic(auto, using(crate::proofs::KeptLemmas::differ_seen, crate::proofs::WalkLemmas::first_laws))]
     pub fn of_process(&self, pid: Pid) -> OfProcess<'_>
         ensures rows { result ≡ lwps_of pid self.now.rows }
         ensures differ { Differ self.now.rows }
@@ -232,6 +233,7 @@ impl LwpTable {
     }
 
     /// All rows, in order of birth.
+    #[tactic(auto, using(crate::proofs::KeptLemmas::differ_seen, crate::proofs::WalkLemmas::first_laws))]
     pub fn iter(&self) -> Iter<'_>
         ensures rows { result ≡ self.now.rows }
         ensures differ { Differ self.now.rows }
