@@ -133,6 +133,7 @@ impl LwpTable {
     }
 
     /// Whether a row has this number.
+    #[tactic(auto, using(crate::proofs::WordLemmas::has_lwp_found))]
     pub fn has(&self, tid: Tid) -> bool
         ensures has { result ≡ has_lwp tid self.now.rows }
         ensures differ { Differ self.now.rows }
