@@ -18,8 +18,8 @@ use Rattle.proc_table.proofs.Lwps.{Differ-with_lwp, Differ-filter, Differ-push, 
 use Rattle.proc_table.proofs.Cursors.{InBlock-after, cursors-set, cursors-first, length-rising}
 use Rattle.proc_table.proofs.KeepsProcesses.{Named-more}
 
-pub keeps-set_lwp : (new : LwpData) (rows : Rows) → IsKept rows → IsSomeAnd (lwp_of new.tid rows.lwps) (λ was. was.pid ≡ new.pid) → IsKept (set_lwp new rows)
-keeps-set_lwp new rows kept there = record {
+pub keeps_set_lwp : (new : LwpData) (rows : Rows) → IsKept rows → IsSomeAnd (lwp_of new.tid rows.lwps) (λ was. was.pid ≡ new.pid) → IsKept (set_lwp new rows)
+keeps_set_lwp new rows kept there = record {
   rising = kept.rising;
   differ = Differ-with_lwp new rows.lwps kept.differ;
   homes = kept.homes;

@@ -152,3 +152,6 @@ IsSlotted-none slots es none =
       },
       rows,
     )
+
+-- what a number finds
+pub ruleset find_laws = (find-all_rows, finds, look-slot)

@@ -19,7 +19,7 @@ use Rattle.proc_table.specs.Rows.{Rows}
 use Rattle.proc_table.specs.Kept.{AtHome, Named, IsRow, put_process}
 use Rattle.proc_table.specs.Slots.{all_rows, look}
 use Rattle.proc_table.specs.Links.{Node, keys, key_of, IsNext}
-use Rattle.proc_table.specs.Lanes.{pick, parent_named, chief, lane, lanes, rows_of, IsLaced, IsHead, IsTied, next_named, unlinked}
+use Rattle.proc_table.specs.Lanes.{pick, parent_named, chief, lane, lanes, rows_of, IsLaced, IsTied, next_named, unlinked}
 use Rattle.proc_table.proofs.Every.{some_of, some_and, every_found, every_untested}
 use Rattle.proc_table.proofs.Rows.{same_number, row_found, found_row}
 use Rattle.proc_table.proofs.Finds.{equal_or_not}
@@ -266,6 +266,6 @@ pub named-chiefs : (rows : Rows) (p : ProcData) → Named rows p → (k : Kin) (
 named-chiefs rows p named = search (rules, each_kin, equal_or_not)
 
 -- who has this parent names it, but for the number 1
-pub children-named : (n after : ℕ) → n ≢ 1 → (ps : List ProcData) → next_named Children n after ps ≡ next_child n after ps
-children-named n after apart [] = refl
-children-named n after apart (p ∷ ps) = search (rules, children-named n after apart ps, equal_or_not, nat_tests, cases_Bool)
+pub children_named : (n after : ℕ) → n ≢ 1 → (ps : List ProcData) → next_named Children n after ps ≡ next_child n after ps
+children_named n after apart [] = refl
+children_named n after apart (p ∷ ps) = search (rules, children_named n after apart ps, equal_or_not, nat_tests, cases_Bool)

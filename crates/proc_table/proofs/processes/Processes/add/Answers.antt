@@ -1,8 +1,6 @@
 use Rattle.std.proofs.Common.{Some, ap, ◌∙◌, arith, nat_eq}
 use Rattle.std.specs.List.{list_any}
 use Rattle.slab.specs.Slab.{get}
-use Rattle.proc_table.specs.Slots.{all_rows, look}
-use Rattle.proc_table.specs.Kept.{put_process}
 use Rattle.proc_table.specs.Lanes.{rows_of}
 use Rattle.proc_table.proofs.Slots.{tally-below}
 use Rattle.proc_table.proofs.Tied.{IsBorn, IsRehung, picked, head-row, added-laced, added-head, added}

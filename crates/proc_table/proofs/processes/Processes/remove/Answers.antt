@@ -1,10 +1,7 @@
 use Rattle.std.proofs.Common.{ap, ◌∙◌, is_some, arith}
 use Rattle.slab.specs.Slab.{get}
-use Rattle.pid_blocks.specs.Users.{IsUser}
-use Rattle.pid_blocks.specs.Blocks.{slot}
 use Rattle.proc_table.specs.Processes.{process_of}
-use Rattle.proc_table.specs.Slots.{all_rows, look}
-use Rattle.proc_table.specs.Lanes.{next_named, rows_of, IsTied}
+use Rattle.proc_table.specs.Lanes.{next_named, rows_of}
 use Rattle.proc_table.proofs.Slots.{slot_there}
 use Rattle.proc_table.proofs.Tied.{IsWithout, removed}
 use Rattle.proc_table.proofs.processes.Processes.remove.Goals.{After-slot}
