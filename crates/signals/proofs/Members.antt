@@ -80,3 +80,5 @@ none_of set None h = λ m is. h m is.0 (let high = is.1 in omega arith)
 
 pub lowest-none : (set : ℕ) → IfNone (lowest set) ((m : ℕ) → IsSignal m → has set m ≡ false)
 lowest-none set = none_of set (lowest set) (none_found (has set) 1 31)
+
+pub ruleset lowest_laws = (lowest-some, lowest-none)
