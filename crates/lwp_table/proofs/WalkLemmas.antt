@@ -147,10 +147,6 @@ module _ (f : ℕ → Option Slot) (es : List (ℕ × ℕ)) (births : ℕ) (node
   pub walk_on : (s : ℕ) (slot : Slot) → IsWalk f es births node list (Some s) → f s ≡ Some slot → (node slot).list ≡ list
   walk_on s slot walk there = search (rules, some_and, same_Some)
 
-  -- and it goes on
-  pub IsWalk-next : (s : ℕ) (slot : Slot) → IsWalk f es births node list (Some s) → f s ≡ Some slot → IsWalk f es births node list (node slot).next
-  IsWalk-next s slot walk there = search (rules, walk_there, walk_on)
-
 -- a row of a process that has none before it is the first
 pub first-of_list : (f : ℕ → Option Slot) → ((i j : ℕ) (a b : Slot) → f i ≡ Some a → f j ≡ Some b → a.born ≡ b.born → i ≡ j) → (pid : ℕ) (first last : Option ℕ) → IsChain (own_nodes f) pid first last
     → (s : ℕ) (slot : Slot) → f s ≡ Some slot → slot.row.pid ≡ pid → slot.own.prev ≡ None → first ≡ Some s
