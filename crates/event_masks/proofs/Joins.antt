@@ -1,9 +1,9 @@
 -- Words that are written one after another, each behind what is to stand before it.
-use Rattle.std.proofs.Common.{◌≡◌, ℕ, ◌+◌, ◌<◌, ◌≤◌, Bool, true, false, List, [], ◌∷◌, ◌++◌, length, drop, get_or, map, filter, refl, sym, ap, ◌∙◌}
+use Rattle.std.proofs.Common.{◌≡◌, ℕ, ◌+◌, ◌<◌, Bool, true, false, List, [], ◌∷◌, ◌++◌, length, drop, get_or, map, filter, refl, sym, ap, ◌∙◌}
 use Rattle.std.proofs.Common.{Bor, ◌==◌}
 use Rattle.std.specs.Int.RustNames.{bit_and}
 use Rattle.std.specs.List.{flat_map}
-use Rattle.std.proofs.lemmas.List.{append_assoc, at_drop_more, drop_all}
+use Rattle.std.proofs.lemmas.List.{append_assoc, at_drop_more}
 use Rattle.event_masks.specs.Names.{joined, named_bit}
 
 -- what is still to be written: before the first word `none` where none comes, and then the words with the text before each
@@ -48,13 +48,6 @@ one_written none between empty after test text xs last i d done all h passes bef
     ap (λ b. (done ++ (separator between empty ++ word)) ++ ending none between b rest) is
     ∙ append_assoc done (separator between empty ++ word) (ending none between false rest)
     ∙ ap (λ ys. done ++ ys) (append_assoc (separator between empty) word (ending none between false rest) ∙ sym here) ∙ before
-
--- past the end of the list the further words alone are left
-pub past_end : {X : Type 0} (none between : List ℕ) (empty : Bool) (test : X → Bool) (text : X → List ℕ) (xs : List X) (last : List (List ℕ)) (i : ℕ) (done all : List ℕ) → length xs ≤ i
-    → done ++ ending none between empty (chosen test text (drop i xs) ++ last) ≡ all
-    → done ++ ending none between empty last ≡ all
-past_end none between empty test text xs last i done all h before =
-    ap (λ ys. done ++ ending none between empty (chosen test text ys ++ last)) (sym (drop_all i xs h)) ∙ before
 
 flag_names_at : (bits : ℕ) (n : Bor (List ℕ) × ℕ) (ns : List (Bor (List ℕ) × ℕ)) (b : Bool) → (bit_and bits n.1 == n.1) ≡ b
     → chosen (λ n. bit_and bits n.1 == n.1) (λ n. n.0.now) ns ≡ map (λ n. n.0) (filter (λ n. bit_and bits n.1 == n.1) (map named_bit ns))

@@ -1,10 +1,10 @@
 -- From slots with birth numbers to the rows in order of birth, and what a change of one slot does.
-use Rattle.std.proofs.Common.{◌≡◌, ◌≢◌, ℕ, suc, ◌+◌, not, List, [], ◌∷◌, ◌++◌, Option, Some, None, IsSome, refl, sym, ap, ◌∙◌, arith, inl, inr, cond, nat_eq, rules}
+use Rattle.std.proofs.Common.{◌≡◌, ◌≢◌, ℕ, suc, ◌+◌, ◌<◌, ◌≤◌, not, List, [], ◌∷◌, ◌++◌, Option, Some, None, IsSome, refl, sym, ap, ◌∙◌, arith, inl, inr, cond, nat_eq, rules}
 use Rattle.std.specs.List.{cons_option}
 use Rattle.std.specs.Map.{lookup}
 use Rattle.std.specs.Option.{option_map, IsSomeAnd}
 use Rattle.std.proofs.lemmas.Bool.{cases_eq}
-use Rattle.std.proofs.lemmas.Bool.Decides.{nat_tests}
+use Rattle.std.proofs.lemmas.Bool.Decides.{nat_tests, eqb_tells}
 use Rattle.std.proofs.lemmas.Option.{same_Some, some_pair_parts}
 use Rattle.lwp_table.specs.declared.LwpData.{LwpData}
 use Rattle.lwp_table.specs.declared.links.Slot.{Slot}
@@ -113,86 +113,70 @@ module _ (f : ℕ → Option Slot) (es : List (ℕ × ℕ)) (births : ℕ) (inde
         let new = onward a.0 a.1 off a.2 in
         ap (born_row g es') (sym (new.2 ∙ a.3)) ∙ born_listed g indexed'.apart a.0 new.0 new.0.row.tid new.1 es' (indexed'.listed a.0 new.0 new.1) ∙ ap Some (new.3 ∙ a.4))
 
-    module _ (new : Slot) (vacant : f q ≡ None) (has : g q ≡ Some new) (last : new.born ≡ births)
-        (fresh : lookup (nat_eq new.row.tid) es ≡ None) (change : (p : ℕ) → lookup (nat_eq p) es' ≡ cond (nat_eq new.row.tid p) (Some q) (lookup (nat_eq p) es)) where
-      its_new : (s : ℕ) (slot : Slot) → s ≡ q → g s ≡ Some slot → new ≡ slot
-      its_new s slot same there = same_Some new slot (sym has ∙ ap g (sym same) ∙ there)
-
-      at_new : lookup (nat_eq new.row.tid) es' ≡ Some q
-      at_new = change new.row.tid ∙ ap (λ c. cond c (Some q) (lookup (nat_eq new.row.tid) es)) (test_same new.row.tid)
-
-      at_other : (p : ℕ) → new.row.tid ≢ p → lookup (nat_eq p) es' ≡ lookup (nat_eq p) es
-      at_other p off = change p ∙ ap (λ c. cond c (Some q) (lookup (nat_eq p) es)) (test_apart new.row.tid p off)
-
-      pub IsIndexed-added : IsIndexed g es' (births + 1)
-      IsIndexed-added = record {
+    -- one number has the slot q now or none, and any other what it had
+    module _ (births' n : ℕ) (now : Option ℕ) (change : (p : ℕ) → lookup (nat_eq p) es' ≡ cond (nat_eq n p) now (lookup (nat_eq p) es)) (more : births ≤ births')
+        (its : (slot : Slot) → g q ≡ Some slot → (slot.row.tid ≡ n) × (now ≡ Some q) × (slot.born < births') × ((s : ℕ) (was : Slot) → s ≢ q → f s ≡ Some was → was.born ≢ slot.born))
+        (gives : (s : ℕ) → now ≡ Some s → (slot : Slot) × (g s ≡ Some slot) × (slot.row.tid ≡ n))
+        (away : (s : ℕ) (was : Slot) → f s ≡ Some was → (s ≢ q → n ≢ was.row.tid) × (n ≢ was.row.tid → s ≢ q)) where
+      IsIndexed-changed : IsIndexed g es' births'
+      IsIndexed-changed = record {
         listed = λ s slot there. elim (cases_eq s q) [
-          | inl same ↦ let is = its_new s slot same there in ap (λ (x : Slot). lookup (nat_eq x.row.tid) es') (sym is) ∙ at_new ∙ ap Some (sym same)
+          | inl same ↦ let own = its slot (ap g (sym same) ∙ there) in rw (own.0, same) (change n ∙ ap (λ c. cond c now (lookup (nat_eq n) es)) (test_same n) ∙ own.1)
           | inr off ↦
               let was = backward s slot off there in
-              let tid : was.0.row.tid ≡ slot.row.tid = ap (λ (r : LwpData). r.tid) was.3 in
-              let old = indexed.listed s was.0 was.1 in
-              at_other slot.row.tid (λ same. cc (fresh, ap (λ n. lookup (nat_eq n) es) (same ∙ sym tid), old)) ∙ ap (λ n. lookup (nat_eq n) es) (sym tid) ∙ old
+              rw (← was.3) (change was.0.row.tid ∙ ap (λ c. cond c now (lookup (nat_eq was.0.row.tid) es)) (test_apart n was.0.row.tid ((away s was.0 was.1).0 off)) ∙ indexed.listed s was.0 was.1)
         ];
-        named = λ tid s at. elim (cases_eq new.row.tid tid) [
-          | inl same ↦ let slot : q ≡ s = same_Some q s (sym at_new ∙ ap (λ n. lookup (nat_eq n) es') same ∙ at) in (new, ap g (sym slot) ∙ has, same)
-          | inr off ↦
-              let was = indexed.named tid s (sym (at_other tid off) ∙ at) in
-              let kept = onward s was.0 (λ same. cc (was.1, ap f same, vacant)) was.1 in
+        named = λ tid s at. elim (eqb_tells n tid) [
+          | inl h ↦ let new = gives s (sym (rw h.0 at (change tid)) ∙ at) in (new.0, new.1, new.2 ∙ h.1)
+          | inr h ↦
+              let was = indexed.named tid s (sym (rw h.0 at (change tid)) ∙ at) in
+              let kept = onward s was.0 ((away s was.0 was.1).1 (λ e. h.1 (e ∙ was.2))) was.1 in
               (kept.0, kept.1, ap (λ (r : LwpData). r.tid) kept.3 ∙ was.2)
         ];
         earlier = λ s slot there. elim (cases_eq s q) [
-          | inl same ↦ let is = its_new s slot same there in omega (arith, last, ap (λ (x : Slot). x.born) is)
-          | inr off ↦ let was = backward s slot off there in omega (arith, indexed.earlier s was.0 was.1, was.2)
+          | inl same ↦ (its slot (ap g (sym same) ∙ there)).2
+          | inr off ↦ let was = backward s slot off there in omega (arith, more, indexed.earlier s was.0 was.1, was.2)
         ];
         apart = λ i j a b there_a there_b same. elim (cases_eq i q) [
-          | inl at_i ↦ elim (cases_eq j q) [
-            | inl at_j ↦ at_i ∙ sym at_j
-            | inr off ↦ let was = backward j b off there_b in absurd (omega (arith, indexed.earlier j was.0 was.1, was.2, same, last, ap (λ (x : Slot). x.born) (its_new i a at_i there_a)))
+          | inl here ↦ elim (cases_eq j q) [
+            | inl also ↦ here ∙ sym also
+            | inr off ↦ let was = backward j b off there_b in absurd ((its a (ap g (sym here) ∙ there_a)).3 j was.0 off was.1 (was.2 ∙ sym same))
           ]
           | inr off ↦ let one = backward i a off there_a in elim (cases_eq j q) [
-            | inl at_j ↦ absurd (omega (arith, indexed.earlier i one.0 one.1, one.2, same, last, ap (λ (x : Slot). x.born) (its_new j b at_j there_b)))
-            | inr away ↦ let two = backward j b away there_b in indexed.apart i j one.0 two.0 one.1 two.1 (one.2 ∙ same ∙ sym two.2)
+            | inl here ↦ absurd ((its b (ap g (sym here) ∙ there_b)).3 i one.0 off one.1 (one.2 ∙ same))
+            | inr far ↦ let two = backward j b far there_b in indexed.apart i j one.0 two.0 one.1 two.1 (one.2 ∙ same ∙ sym two.2)
           ]
         ];
       }
+
+    -- the number of the row in q is no other's
+    own_number : (old : Slot) → f q ≡ Some old → (s : ℕ) (was : Slot) → f s ≡ Some was → (s ≢ q → old.row.tid ≢ was.row.tid) × (old.row.tid ≢ was.row.tid → s ≢ q)
+    own_number old had s was there =
+        (λ off e. off (same_Some s q (sym (indexed.listed s was there) ∙ ap (λ n. lookup (nat_eq n) es) (sym e) ∙ indexed.listed q old had)), λ off same. off (ap (λ (x : Slot). x.row.tid) (same_Some old was (sym had ∙ ap f (sym same) ∙ there))))
+
+    module _ (new : Slot) (vacant : f q ≡ None) (has : g q ≡ Some new) (last : new.born ≡ births)
+        (fresh : lookup (nat_eq new.row.tid) es ≡ None) (change : (p : ℕ) → lookup (nat_eq p) es' ≡ cond (nat_eq new.row.tid p) (Some q) (lookup (nat_eq p) es)) where
+      pub IsIndexed-added : IsIndexed g es' (births + 1)
+      IsIndexed-added = IsIndexed-changed (births + 1) new.row.tid (Some q) change (omega arith)
+          (λ slot there. rw (← same_Some new slot (sym has ∙ there)) (refl, refl, omega (arith, last), λ s was off at same. omega (arith, indexed.earlier s was at, same, last)))
+          (λ s is. (new, ap g (sym (same_Some q s is)) ∙ has, refl))
+          (λ s was there. (λ off same. cc (fresh, indexed.listed s was there, ap (λ n. lookup (nat_eq n) es) same), λ off same. cc (there, ap f same, vacant)))
 
       pub rows_of-added : rows_of g es' (births + 1) ≡ rows_of f es births ++ new.row ∷ []
       rows_of-added =
           let after = IsIndexed-added in
           let more : births + 1 ≡ suc births = omega arith in
-          let here : born_row g es' births ≡ Some new.row = ap (born_row g es') (sym last) ∙ born_listed g after.apart q new new.row.tid has es' at_new in
+          let here : born_row g es' births ≡ Some new.row = ap (born_row g es') (sym last) ∙ born_listed g after.apart q new new.row.tid has es' (after.listed q new has) in
           let start : 0 + births ≡ births = omega arith in
           rw more (listing-end (born_row g es') 0 births ∙ ap (λ n. listing (born_row g es') 0 births ++ cons_option (born_row g es' n) []) start ∙ ap (λ o. listing (born_row g es') 0 births ++ cons_option o []) here
-          ∙ ap (λ xs. xs ++ new.row ∷ []) (listing-same (born_row g es') (born_row f es) 0 births (λ k least less. born_others (births + 1) after k (λ slot is. absurd (cc (is, vacant))) (λ slot is same. omega (arith, less, last, same, ap (λ (x : Slot). x.born) (its_new q slot refl is))))))
+          ∙ ap (λ xs. xs ++ new.row ∷ []) (listing-same (born_row g es') (born_row f es) 0 births (λ k least less. born_others (births + 1) after k (λ slot is. absurd (cc (is, vacant))) (λ slot is same. omega (arith, less, last, same, ap (λ (x : Slot). x.born) (same_Some new slot (sym has ∙ is)))))))
 
     module _ (old : Slot) (had : f q ≡ Some old) (gone : g q ≡ None) (change : (p : ℕ) → lookup (nat_eq p) es' ≡ cond (nat_eq old.row.tid p) None (lookup (nat_eq p) es)) where
-      left_other : (p : ℕ) → old.row.tid ≢ p → lookup (nat_eq p) es' ≡ lookup (nat_eq p) es
-      left_other p off = change p ∙ ap (λ c. cond c None (lookup (nat_eq p) es)) (test_apart old.row.tid p off)
-
       not_gone : (s : ℕ) (slot : Slot) → g s ≡ Some slot → s ≢ q
       not_gone s slot there same = cc (there, ap g same, gone)
 
       pub IsIndexed-removed : IsIndexed g es' births
-      IsIndexed-removed = record {
-        listed = λ s slot there.
-            let was = backward s slot (not_gone s slot there) there in
-            let tid : was.0.row.tid ≡ slot.row.tid = ap (λ (r : LwpData). r.tid) was.3 in
-            let at = indexed.listed s was.0 was.1 in
-            left_other slot.row.tid (λ same. not_gone s slot there (same_Some s q (sym at ∙ ap (λ n. lookup (nat_eq n) es) (tid ∙ sym same) ∙ indexed.listed q old had))) ∙ ap (λ n. lookup (nat_eq n) es) (sym tid) ∙ at;
-        named = λ tid s at. elim (cases_eq old.row.tid tid) [
-          | inl same ↦ absurd (cc (at, change tid ∙ ap (λ c. cond c None (lookup (nat_eq tid) es)) (ap (nat_eq old.row.tid) (sym same) ∙ test_same old.row.tid)))
-          | inr off ↦
-              let was = indexed.named tid s (sym (left_other tid off) ∙ at) in
-              let kept = onward s was.0 (λ same. off (ap (λ (x : Slot). x.row.tid) (same_Some old was.0 (sym had ∙ ap f (sym same) ∙ was.1)) ∙ was.2)) was.1 in
-              (kept.0, kept.1, ap (λ (r : LwpData). r.tid) kept.3 ∙ was.2)
-        ];
-        earlier = λ s slot there. let was = backward s slot (not_gone s slot there) there in omega (arith, indexed.earlier s was.0 was.1, was.2);
-        apart = λ i j a b there_a there_b same.
-            let one = backward i a (not_gone i a there_a) there_a in
-            let two = backward j b (not_gone j b there_b) there_b in
-            indexed.apart i j one.0 two.0 one.1 two.1 (one.2 ∙ same ∙ sym two.2);
-      }
+      IsIndexed-removed = IsIndexed-changed births old.row.tid None change (omega arith) (λ slot there. absurd (cc (there, gone))) (λ s is. absurd (cc (is))) (own_number old had)
 
       pub rows_of-removed : rows_of g es' births ≡ without_lwp old.row.tid (rows_of f es births)
       rows_of-removed =
@@ -214,28 +198,11 @@ module _ (f : ℕ → Option Slot) (es : List (ℕ × ℕ)) (births : ℕ) (inde
           ]) 0 births
 
     module _ (old new : Slot) (had : f q ≡ Some old) (has : g q ≡ Some new) (births_same : new.born ≡ old.born) (tids : new.row.tid ≡ old.row.tid) (same_es : es' ≡ es) where
-      its_set : (s : ℕ) (slot : Slot) → s ≡ q → g s ≡ Some slot → new ≡ slot
-      its_set s slot same there = same_Some new slot (sym has ∙ ap g (sym same) ∙ there)
-
-      -- what is told of a slot by birth number and number
-      was_set : (s : ℕ) (slot : Slot) → g s ≡ Some slot → (was : Slot) × (f s ≡ Some was) × (was.born ≡ slot.born) × (was.row.tid ≡ slot.row.tid)
-      was_set s slot there = elim (cases_eq s q) [
-        | inl same ↦ let is = its_set s slot same there in (old, ap f same ∙ had, sym births_same ∙ ap (λ (x : Slot). x.born) is, sym tids ∙ ap (λ (x : Slot). x.row.tid) is)
-        | inr off ↦ let was = backward s slot off there in (was.0, was.1, was.2, ap (λ (r : LwpData). r.tid) was.3)
-      ]
-
       pub IsIndexed-set : IsIndexed g es' births
-      IsIndexed-set = record {
-        listed = λ s slot there. let was = was_set s slot there in ap (lookup (nat_eq slot.row.tid)) same_es ∙ ap (λ n. lookup (nat_eq n) es) (sym was.3) ∙ indexed.listed s was.0 was.1;
-        named = λ tid s at.
-            let was = indexed.named tid s (sym (ap (lookup (nat_eq tid)) same_es) ∙ at) in
-            elim (cases_eq s q) [
-              | inl same ↦ let is = same_Some old was.0 (sym had ∙ ap f (sym same) ∙ was.1) in (new, ap g same ∙ has, tids ∙ ap (λ (x : Slot). x.row.tid) is ∙ was.2)
-              | inr off ↦ let kept = onward s was.0 off was.1 in (kept.0, kept.1, ap (λ (r : LwpData). r.tid) kept.3 ∙ was.2)
-            ];
-        earlier = λ s slot there. let was = was_set s slot there in omega (arith, indexed.earlier s was.0 was.1, was.2);
-        apart = λ i j a b there_a there_b same. let one = was_set i a there_a in let two = was_set j b there_b in indexed.apart i j one.0 two.0 one.1 two.1 (one.2 ∙ same ∙ sym two.2);
-      }
+      IsIndexed-set = IsIndexed-changed births old.row.tid (Some q)
+          (λ p. ap (lookup (nat_eq p)) same_es ∙ elim (eqb_tells old.row.tid p) [ inl h ↦ rw (h.0, ← h.1) (indexed.listed q old had) | inr h ↦ rw h.0 refl ]) (omega arith)
+          (λ slot there. rw (← same_Some new slot (sym has ∙ there)) (tids, refl, omega (arith, births_same, indexed.earlier q old had), λ s was off at same. off (indexed.apart s q was old at had (same ∙ births_same))))
+          (λ s is. (new, ap g (sym (same_Some q s is)) ∙ has, tids)) (own_number old had)
 
       -- a row of another number stays
       put_k : (k : ℕ) (o : Option LwpData) → k ≢ old.born → born_row f es k ≡ o → option_map (put_lwp new.row) o ≡ o
@@ -256,3 +223,6 @@ module _ (f : ℕ → Option Slot) (es : List (ℕ × ℕ)) (births : ℕ) (inde
                 ∙ sym (ap (option_map (put_lwp new.row)) (ap (born_row f es) same ∙ born_of q old had) ∙ ap (λ c. Some (cond c new.row old.row)) (ap (nat_eq old.row.tid) tids ∙ test_same old.row.tid))
             | inr off ↦ others_k k off ∙ sym (put_k k (born_row f es k) off refl)
           ]) 0 births
+
+-- what a number finds
+pub ruleset number_laws = (lwp_of-absent, lwp_of-found)

@@ -1,6 +1,7 @@
 -- Walks along the links, and the rows that they meet.
 use Rattle.std.proofs.Common.{◌≡◌, ℕ, ◌+◌, ◌-◌, ◌<◌, ◌≤◌, Bool, true, false, inl, inr, List, [], ◌∷◌, Option, Some, None, IfSome, refl, sym, ap, subst, ◌∙◌, arith, nat_eq, filter, rules}
 use Rattle.std.specs.Option.{option_map, IsSomeAnd}
+use Rattle.std.specs.Map.{lookup}
 use Rattle.std.proofs.lemmas.Bool.{cases_Bool}
 use Rattle.std.proofs.lemmas.Bool.Decides.{nat_tests, eqb_tells}
 use Rattle.std.proofs.lemmas.Option.{same_Some}
@@ -9,10 +10,10 @@ use Rattle.lwp_table.specs.declared.links.Slot.{Slot}
 use Rattle.lwp_table.specs.Chain.{Node, IsNearest, IsChain, up, down, anywhere, above, below}
 use Rattle.lwp_table.specs.Kept.{own_node, own_nodes, all_node, all_nodes, is_of, born_row, listing, rows_of, IsIndexed, from_slot, rows_from, IsWalk}
 use Rattle.std.specs.List.{find}
-use Rattle.lwp_table.specs.Lwps.{first_lwp, next_lwp}
+use Rattle.lwp_table.specs.Lwps.{lwp_of, first_lwp, next_lwp}
 use Rattle.lwp_table.proofs.WordLemmas.{test_same, next_lwp-after}
 use Rattle.lwp_table.proofs.ListLemmas.{rows_after-listing, filter-skip, filter-first}
-use Rattle.lwp_table.proofs.IndexLemmas.{some_and, came, numbered, born_in, born_of}
+use Rattle.lwp_table.proofs.IndexLemmas.{some_and, came, numbered, born_in, born_of, lwp_of-found}
 
 filter-true : (xs : List LwpData) → filter (λ x. true) xs ≡ xs
 filter-true [] = refl
@@ -72,6 +73,11 @@ module _ (f : ℕ → Option Slot) (es : List (ℕ × ℕ)) (births : ℕ) (inde
       → filter p (rows_from f es births (Some s)) ≡ slot.row ∷ filter p (rows_from f es births next)
   walk-step s slot next there on near = walk-here s slot there on ∙ ap (λ xs. slot.row ∷ xs) (walk-next s slot next there near)
 
+-- the row that a link leads to
+abbrev pub row_at : (ℕ → Option Slot) → Option ℕ → Option LwpData
+row_at f None = None
+row_at f (Some s) = option_map (λ slot. slot.row) (f s)
+
 -- over all rows, and over those of a process
 module _ (f : ℕ → Option Slot) (es : List (ℕ × ℕ)) (births : ℕ) (indexed : IsIndexed f es births) where
   pub all-first : (o : Option ℕ) → IsNearest up (all_nodes f) 0 anywhere o → rows_of f es births ≡ rows_from f es births o
@@ -95,35 +101,33 @@ module _ (f : ℕ → Option Slot) (es : List (ℕ × ℕ)) (births : ℕ) (inde
     pub left-step : (s : ℕ) (slot : Slot) → f s ≡ Some slot → slot.row.pid ≡ pid → IsNearest up (own_nodes f) pid (above slot.born) slot.own.next → filter (is_of pid) (rows_from f es births (Some s)) ≡ slot.row ∷ filter (is_of pid) (rows_from f es births slot.own.next)
     left-step s slot there on near = walk-step f es births indexed own_node pid (is_of pid) (λ slot. refl) of_own of_pid s slot slot.own.next there on near
 
-    -- the first row that a link leads to
-    found : (xs : List LwpData) (s : ℕ) (slot : Slot) (P : ℕ → Type 0) → f s ≡ Some slot → IsNearest up (own_nodes f) pid P (Some s) → filter (is_of pid) xs ≡ filter (is_of pid) (rows_from f es births (Some s))
-        → first_lwp pid xs ≡ Some slot.row
-    found xs s slot P there near same =
-        let on : slot.row.pid ≡ pid = sym (ap (λ n. n.list) (same_Some near.0 (own_node slot) (sym near.1 ∙ ap (option_map own_node) there))) ∙ near.2 in
-        find-head (is_of pid) xs ∙ ap head (same ∙ walk-here f es births indexed own_node pid (is_of pid) (λ slot. refl) of_own of_pid s slot there on)
+    -- the first row is the one that the nearest link leads to
+    found : (xs : List LwpData) (P : ℕ → Type 0) (o : Option ℕ) → IsNearest up (own_nodes f) pid P o → filter (is_of pid) xs ≡ filter (is_of pid) (rows_from f es births o) → first_lwp pid xs ≡ row_at f o
+    found xs P None near same = find-head (is_of pid) xs ∙ ap head same
+    found xs P (Some s) near same =
+        let slot = came own_node (f s) near.0 near.1 in
+        let on : slot.0.row.pid ≡ pid = ap (λ n. n.list) slot.2 ∙ near.2 in
+        find-head (is_of pid) xs ∙ ap head (same ∙ walk-here f es births indexed own_node pid (is_of pid) (λ slot. refl) of_own of_pid s slot.0 slot.1 on) ∙ sym (ap (option_map (λ (x : Slot). x.row)) slot.1)
 
-    pub first-is_none : IsNearest up (own_nodes f) pid anywhere None → first_lwp pid (rows_of f es births) ≡ None
-    first-is_none near = find-head (is_of pid) (rows_of f es births) ∙ ap head (left-first None near)
+    pub first-row : (o : Option ℕ) → IsNearest up (own_nodes f) pid anywhere o → first_lwp pid (rows_of f es births) ≡ row_at f o
+    first-row o near = found (rows_of f es births) anywhere o near (left-first o near)
 
-    pub first-is_some : (s : ℕ) (slot : Slot) → f s ≡ Some slot → IsNearest up (own_nodes f) pid anywhere (Some s) → first_lwp pid (rows_of f es births) ≡ Some slot.row
-    first-is_some s slot there near = found (rows_of f es births) s slot anywhere there near (left-first (Some s) near)
-
-    -- the rows after a slot's
-    after_slot : (at : ℕ) (was : Slot) → f at ≡ Some was → next_lwp pid was.row.tid (rows_of f es births) ≡ first_lwp pid (listing (born_row f es) (was.born + 1) (births - (was.born + 1)))
-    after_slot at was there =
+    -- the row after a slot's
+    pub next-row : (at : ℕ) (was : Slot) (next : Option ℕ) → f at ≡ Some was → IsNearest up (own_nodes f) pid (above was.born) next → next_lwp pid was.row.tid (rows_of f es births) ≡ row_at f next
+    next-row at was next there near =
         let all : 0 + births - (was.born + 1) ≡ births - (was.born + 1) = omega arith in
         next_lwp-after pid was.row.tid (rows_of f es births) ∙ ap (first_lwp pid) (rows_after-listing (born_row f es) (numbered f es births indexed) was.born was.row (born_of f es births indexed at was there) 0 births (omega arith) (omega (arith, indexed.earlier at was there))
-        ∙ ap (listing (born_row f es) (was.born + 1)) all)
+        ∙ ap (listing (born_row f es) (was.born + 1)) all) ∙ found _ (above was.born) next near (walk-next f es births indexed own_node pid (is_of pid) (λ slot. refl) of_own of_pid at was next there near)
 
-    later : (at : ℕ) (was : Slot) (next : Option ℕ) → f at ≡ Some was → IsNearest up (own_nodes f) pid (above was.born) next
-        → filter (is_of pid) (listing (born_row f es) (was.born + 1) (births - (was.born + 1))) ≡ filter (is_of pid) (rows_from f es births next)
-    later at was next there near = walk-next f es births indexed own_node pid (is_of pid) (λ slot. refl) of_own of_pid at was next there near
-
-    pub next-is_none : (at : ℕ) (was : Slot) → f at ≡ Some was → IsNearest up (own_nodes f) pid (above was.born) None → next_lwp pid was.row.tid (rows_of f es births) ≡ None
-    next-is_none at was there near = after_slot at was there ∙ find-head (is_of pid) _ ∙ ap head (later at was None there near)
-
-    pub next-is_some : (at s : ℕ) (was slot : Slot) → f at ≡ Some was → f s ≡ Some slot → IsNearest up (own_nodes f) pid (above was.born) (Some s) → next_lwp pid was.row.tid (rows_of f es births) ≡ Some slot.row
-    next-is_some at s was slot there_was there near = after_slot at was there_was ∙ found _ s slot (above was.born) there near (later at was (Some s) there_was near)
+    -- where a row of the process with this number stands, its link leads to the next one
+    pub next-near : (first last : Option ℕ) → IsChain (own_nodes f) pid first last → (tid at : ℕ) (was : Slot) → IsSomeAnd (lwp_of tid (rows_of f es births)) (λ row. row.pid ≡ pid) → lookup (nat_eq tid) es ≡ Some at → f at ≡ Some was
+        → IsNearest up (own_nodes f) pid (above was.born) was.own.next × (next_lwp pid tid (rows_of f es births) ≡ row_at f was.own.next)
+    next-near first last chain tid at was its listed there =
+        let row = some_and _ _ its in
+        let found = lwp_of-found f es births indexed tid at was listed there in
+        let on = ap (λ (r : LwpData). r.pid) (same_Some was.row row.0 (sym found.1 ∙ row.1)) ∙ row.2 in
+        let near = chain.next_is at (own_node was) (ap (option_map own_node) there) on in
+        (near, ap (λ n. next_lwp pid n (rows_of f es births)) (sym found.0) ∙ next-row at was was.own.next there near)
 
 -- a link leads to a slot of its list
 walk_there : (f : ℕ → Option Slot) (node : Slot → Node) (list : ℕ) (P : ℕ → Type 0) (o : Option ℕ) → IsNearest up (λ j. option_map node (f j)) list P o → IfSome o (λ s. IsSomeAnd (f s) (λ slot. (node slot).list ≡ list))
@@ -143,10 +147,6 @@ module _ (f : ℕ → Option Slot) (es : List (ℕ × ℕ)) (births : ℕ) (node
   pub walk_on : (s : ℕ) (slot : Slot) → IsWalk f es births node list (Some s) → f s ≡ Some slot → (node slot).list ≡ list
   walk_on s slot walk there = search (rules, some_and, same_Some)
 
-  -- and it goes on
-  pub IsWalk-next : (s : ℕ) (slot : Slot) → IsWalk f es births node list (Some s) → f s ≡ Some slot → IsWalk f es births node list (node slot).next
-  IsWalk-next s slot walk there = search (rules, walk_there, walk_on)
-
 -- a row of a process that has none before it is the first
 pub first-of_list : (f : ℕ → Option Slot) → ((i j : ℕ) (a b : Slot) → f i ≡ Some a → f j ≡ Some b → a.born ≡ b.born → i ≡ j) → (pid : ℕ) (first last : Option ℕ) → IsChain (own_nodes f) pid first last
     → (s : ℕ) (slot : Slot) → f s ≡ Some slot → slot.row.pid ≡ pid → slot.own.prev ≡ None → first ≡ Some s
@@ -161,3 +161,6 @@ first-of_list f apart pid (Some t) last chain s slot there on begins =
       | inl h ↦ ap Some (apart t s at.0 slot at.1 there h.1)
       | inr h ↦ absurd (before t first.0 first.1 first.2 (omega (arith, key, least, h.1)))
     ]
+
+-- where walks begin
+pub ruleset first_laws = (left-first, all-first)

@@ -23,5 +23,5 @@ next_lwp-after pid tid (x ∷ xs) = grind (arith, nat_tests, next_lwp-after pid 
 pub lwp_of-fresh : (tid : ℕ) (xs : List LwpData) → has_lwp tid xs ≡ false → lwp_of tid xs ≡ None
 lwp_of-fresh tid xs fresh = search (rules, any-found, is_some)
 
-pub has_lwp-found : (tid : ℕ) (xs : List LwpData) → is_some (lwp_of tid xs) ≡ has_lwp tid xs
-has_lwp-found tid xs = sym (any-found (λ l. nat_eq l.tid tid) xs)
+pub has_lwp_found : (tid : ℕ) (xs : List LwpData) → is_some (lwp_of tid xs) ≡ has_lwp tid xs
+has_lwp_found tid xs = sym (any-found (λ l. nat_eq l.tid tid) xs)

@@ -77,6 +77,7 @@ pub fn set_link(slots: &mut Slab<Slot>, link: Link, at: Option<usize>, to: Optio
 }
 
 /// Links the neighbours of a slot that has left both of its lists.
+#[tactic(auto, using(crate::proofs::KeptLemmas::onto))]
 pub fn close_up(slots: &mut Slab<Slot>, gone: &Slot)
     requires own_prev { IfSome gone.now.own.prev (λ s. ContainsKey slots.old s) }
     requires own_next { IfSome gone.now.own.next (λ s. ContainsKey slots.old s) }

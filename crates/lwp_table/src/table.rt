@@ -55,6 +55,7 @@ impl Model for LwpTable {
     ghost invariant = { λ t. IsKept (get t.rows) t.slots.entries t.heads.entries t.all t.births t.users };
 }
 
+#[tactic(auto, using(crate::proofs::KeptLemmas::differ_seen))]
 impl LwpTable {
     /// An empty table.
     pub fn new(alloc: Global) -> Result<LwpTable, AllocError>
@@ -132,6 +133,7 @@ impl LwpTable {
     }
 
     /// Whether a row has this number.
+    #[tactic(auto, using(crate::proofs::WordLemmas::has_lwp_found))]
     pub fn has(&self, tid: Tid) -> bool
         ensures has { result ≡ has_lwp tid self.now.rows }
         ensures differ { Differ self.now.rows }
@@ -140,6 +142,7 @@ impl LwpTable {
     }
 
     /// The row with this number.
+    #[tactic(auto, using(crate::proofs::KeptLemmas::differ_seen, crate::proofs::IndexLemmas::number_laws))]
     pub fn get(&self, tid: Tid) -> Option<LwpData>
         ensures row { result ≡ lwp_of tid self.now.rows }
         ensures differ { Differ self.now.rows }
@@ -149,6 +152,7 @@ impl LwpTable {
     }
 
     /// The process of the row with this number.
+    #[tactic(auto, using(crate::proofs::KeptLemmas::differ_seen, crate::proofs::IndexLemmas::number_laws))]
     pub fn process(&self, tid: Tid) -> Option<Pid>
         ensures process { result ≡ option_map (λ l. l.pid) (lwp_of tid self.now.rows) }
         ensures differ { Differ self.now.rows }
@@ -214,6 +218,7 @@ impl LwpTable {
     }
 
     /// The rows of this process, in order of birth.
+    #[tactic(auto, using(crate::proofs::KeptLemmas::differ_seen, crate::proofs::WalkLemmas::first_laws))]
     pub fn of_process(&self, pid: Pid) -> OfProcess<'_>
         ensures rows { result ≡ lwps_of pid self.now.rows }
         ensures differ { Differ self.now.rows }
@@ -229,6 +234,7 @@ impl LwpTable {
     }
 
     /// All rows, in order of birth.
+    #[tactic(auto, using(crate::proofs::KeptLemmas::differ_seen, crate::proofs::WalkLemmas::first_laws))]
     pub fn iter(&self) -> Iter<'_>
         ensures rows { result ≡ self.now.rows }
         ensures differ { Differ self.now.rows }

@@ -1,82 +1,55 @@
 -- A walk over the LWPs of a process by birth, and the front of the list that it has met.
-use Rattle.std.proofs.Common.{◌≡◌, ℕ, zero, suc, ◌+◌, ◌≤◌, Bool, true, false, List, [], ◌∷◌, ◌++◌, Some, None, slice_get, option_map, map, take, refl, sym, ap, subst, ◌∙◌, arith, cond, nat_eq, rules}
+use Rattle.std.proofs.Common.{◌≡◌, ℕ, zero, suc, ◌+◌, ◌≤◌, true, false, List, [], ◌∷◌, ◌++◌, Some, None, slice_get, option_map, map, take, refl, sym, ap, ◌∙◌, arith, inl, inr, nat_eq, rules}
 use Rattle.std.proofs.Math.Seq.{take-nil}
 use Rattle.std.proofs.lemmas.List.{take_more}
 use Rattle.std.proofs.lemmas.Option.{same_Some, slice_get_within, slice_get-map, get_or_from_slice_get}
+use Rattle.std.proofs.lemmas.Bool.{cases_Bool}
 use Rattle.std.proofs.lemmas.Bool.Decides.{nat_tests}
 use Rattle.lwp_table.specs.declared.LwpData.{LwpData}
-use Rattle.lwp_table.specs.Lwps.{lwp_of, lwps_of, first_lwp, next_lwp, LacksLwp, Differ}
-
-test_same : (a : ℕ) → nat_eq a a ≡ true
-test_same a = grind (arith, nat_tests)
-
-test_apart : (a b : ℕ) → (a ≡ b → ⊥) → nat_eq a b ≡ false
-test_apart a b off = grind (arith, nat_tests)
-
--- the LWP at this place of the process's list
-abbrev IsAt : ℕ → List LwpData → LwpData → ℕ → Type 0
-IsAt pid lwps l i = slice_get (lwps_of pid lwps) i ≡ Some l
-
--- an LWP among those born later has another number
-apart : (pid : ℕ) (m : LwpData) (lwps : List LwpData) (i : ℕ) (l : LwpData) → LacksLwp m.tid lwps → IsAt pid lwps l i → m.tid ≡ l.tid → ⊥
-apart pid m [] i l lacks e = absurd (cc (e))
-apart pid m (k ∷ ks) i l lacks e = by (λ j. apart pid m ks j l lacks.1) (nat_eq k.pid pid) i e
-  where
-    by : ((j : ℕ) → IsAt pid ks l j → m.tid ≡ l.tid → ⊥) → (c : Bool) (j : ℕ) → slice_get (cond c (k ∷ lwps_of pid ks) (lwps_of pid ks)) j ≡ Some l → m.tid ≡ l.tid → ⊥
-    by later true zero e = λ same. lacks.0 (ap (λ r. r.tid) (same_Some k l e) ∙ sym same)
-    by later true (suc j) e = later j e
-    by later false j e = later j e
+use Rattle.lwp_table.specs.Lwps.{lwp_of, lwps_of, first_lwp, next_lwp, Differ}
+use Rattle.lwp_table.proofs.WordLemmas.{test_same, test_apart}
+use Rattle.proc_table.proofs.Every.{every_found}
 
 pub first-at : (pid : ℕ) (lwps : List LwpData) → first_lwp pid lwps ≡ slice_get (lwps_of pid lwps) 0
 first-at pid [] = refl
 first-at pid (k ∷ ks) = search (rules, first-at pid ks, slice_get)
 
-next-after : (pid : ℕ) (lwps : List LwpData) (i : ℕ) (l : LwpData) → Differ lwps → IsAt pid lwps l i → next_lwp pid l.tid lwps ≡ slice_get (lwps_of pid lwps) (suc i)
-next-after pid [] i l differ e = absurd (cc (e))
-next-after pid (k ∷ ks) i l differ e = by (λ j. next-after pid ks j l differ.1) (nat_eq k.pid pid) i e
+-- an LWP at a place of its process's list: its number finds it, and the next one stands a place further
+pub record Stands (pid : ℕ) (lwps : List LwpData) (i : ℕ) (l : LwpData) : Type 0 where
+  pub named : lwp_of l.tid lwps ≡ Some l
+  pub own : l.pid ≡ pid
+  pub next : next_lwp pid l.tid lwps ≡ slice_get (lwps_of pid lwps) (suc i)
+
+pub stands : (pid : ℕ) (lwps : List LwpData) (i : ℕ) (l : LwpData) → Differ lwps → slice_get (lwps_of pid lwps) i ≡ Some l → Stands pid lwps i l
+stands pid [] i l differ e = absurd (cc (e))
+stands pid (k ∷ ks) i l differ e = elim (cases_Bool (nat_eq k.pid pid)) [
+  | inl c ↦ of_it i c (rw c at e) (λ j. stands pid ks j l differ.1)
+  | inr c ↦ let s = stands pid ks i l differ.1 (rw c at e) in let later = behind i s in record { named = later.0; own = s.own; next = rw c later.1 }
+]
   where
-    passed : (j : ℕ) → IsAt pid ks l j → next_lwp pid l.tid ks ≡ slice_get (lwps_of pid ks) (suc j) → next_lwp pid l.tid (k ∷ ks) ≡ slice_get (lwps_of pid ks) (suc j)
-    passed j e later = ap (λ c. cond c (first_lwp pid ks) (next_lwp pid l.tid ks)) (test_apart k.tid l.tid (apart pid k ks j l differ.0 e)) ∙ later
+    -- it has another number than the first LWP
+    behind : (j : ℕ) → Stands pid ks j l → (lwp_of l.tid (k ∷ ks) ≡ Some l) × (next_lwp pid l.tid (k ∷ ks) ≡ slice_get (lwps_of pid ks) (suc j))
+    behind j s =
+        let off : nat_eq k.tid l.tid ≡ false = test_apart k.tid l.tid (λ same. every_found (λ x. x.tid ≡ k.tid → ⊥) (λ x. nat_eq x.tid l.tid) ks l differ.0 s.named (sym same)) in
+        rw off (s.named, s.next)
 
-    here : k ≡ l → next_lwp pid l.tid (k ∷ ks) ≡ slice_get (lwps_of pid ks) 0
-    here is = ap (λ c. cond c (first_lwp pid ks) (next_lwp pid l.tid ks)) (subst (λ r. nat_eq k.tid r.tid ≡ true) is (test_same k.tid)) ∙ first-at pid ks
+    of_it : (j : ℕ) → nat_eq k.pid pid ≡ true → slice_get (k ∷ lwps_of pid ks) j ≡ Some l → ((j : ℕ) → slice_get (lwps_of pid ks) j ≡ Some l → Stands pid ks j l) → Stands pid (k ∷ ks) j l
+    of_it zero c e rest =
+        let same : k ≡ l = same_Some k l e in
+        rw (← same) record { named = rw (test_same k.tid) refl; own = grind (arith, nat_tests, c); next = rw (c, test_same k.tid) (first-at pid ks) }
+    of_it (suc j) c e rest =
+        let s = rest j e in
+        let later = behind j s in
+        record { named = later.0; own = s.own; next = rw c later.1 }
 
-    by : ((j : ℕ) → IsAt pid ks l j → next_lwp pid l.tid ks ≡ slice_get (lwps_of pid ks) (suc j)) → (c : Bool) (j : ℕ) → slice_get (cond c (k ∷ lwps_of pid ks) (lwps_of pid ks)) j ≡ Some l → next_lwp pid l.tid (k ∷ ks) ≡ slice_get (cond c (k ∷ lwps_of pid ks) (lwps_of pid ks)) (suc j)
-    by later true zero e = here (same_Some k l e)
-    by later true (suc j) e = passed j e (later j e)
-    by later false j e = passed j e (later j e)
+pub named-at : (pid : ℕ) (lwps : List LwpData) (i : ℕ) (l : LwpData) → Differ lwps → slice_get (lwps_of pid lwps) i ≡ Some l → lwp_of l.tid lwps ≡ Some l
+named-at pid lwps i l differ e = (stands pid lwps i l differ e).named
 
-pub next-at : (pid : ℕ) (lwps : List LwpData) (i : ℕ) (l : LwpData) → Differ lwps → IsAt pid lwps l i → next_lwp pid l.tid lwps ≡ slice_get (lwps_of pid lwps) (i + 1)
-next-at pid lwps i l differ e = next-after pid lwps i l differ e ∙ ap (slice_get (lwps_of pid lwps)) (omega arith)
+pub owned-at : (pid : ℕ) (lwps : List LwpData) (i : ℕ) (l : LwpData) → Differ lwps → slice_get (lwps_of pid lwps) i ≡ Some l → l.pid ≡ pid
+owned-at pid lwps i l differ e = (stands pid lwps i l differ e).own
 
--- an LWP of the process is found by its number
-pub named-at : (pid : ℕ) (lwps : List LwpData) (i : ℕ) (l : LwpData) → Differ lwps → IsAt pid lwps l i → lwp_of l.tid lwps ≡ Some l
-named-at pid [] i l differ e = absurd (cc (e))
-named-at pid (k ∷ ks) i l differ e = by (λ j. named-at pid ks j l differ.1) (nat_eq k.pid pid) i e
-  where
-    passed : (j : ℕ) → IsAt pid ks l j → lwp_of l.tid ks ≡ Some l → lwp_of l.tid (k ∷ ks) ≡ Some l
-    passed j e later = ap (λ c. cond c (Some k) (lwp_of l.tid ks)) (test_apart k.tid l.tid (apart pid k ks j l differ.0 e)) ∙ later
-
-    here : k ≡ l → lwp_of l.tid (k ∷ ks) ≡ Some l
-    here is = ap (λ c. cond c (Some k) (lwp_of l.tid ks)) (subst (λ r. nat_eq k.tid r.tid ≡ true) is (test_same k.tid)) ∙ ap (λ r. Some r) is
-
-    by : ((j : ℕ) → IsAt pid ks l j → lwp_of l.tid ks ≡ Some l) → (c : Bool) (j : ℕ) → slice_get (cond c (k ∷ lwps_of pid ks) (lwps_of pid ks)) j ≡ Some l → lwp_of l.tid (k ∷ ks) ≡ Some l
-    by later true zero e = here (same_Some k l e)
-    by later true (suc j) e = passed j e (later j e)
-    by later false j e = passed j e (later j e)
-
--- it is one of the process
-pub owned-at : (pid : ℕ) (lwps : List LwpData) (i : ℕ) (l : LwpData) → IsAt pid lwps l i → l.pid ≡ pid
-owned-at pid [] i l e = absurd (cc (e))
-owned-at pid (k ∷ ks) i l e = by (λ j. owned-at pid ks j l) (nat_eq k.pid pid) refl i e
-  where
-    of_it : nat_eq k.pid pid ≡ true → k.pid ≡ pid
-    of_it is = grind (arith, nat_tests, is)
-
-    by : ((j : ℕ) → IsAt pid ks l j → l.pid ≡ pid) → (c : Bool) → nat_eq k.pid pid ≡ c → (j : ℕ) → slice_get (cond c (k ∷ lwps_of pid ks) (lwps_of pid ks)) j ≡ Some l → l.pid ≡ pid
-    by later true is zero e = ap (λ r. r.pid) (sym (same_Some k l e)) ∙ of_it is
-    by later true is (suc j) e = later j e
-    by later false is j e = later j e
+pub next-at : (pid : ℕ) (lwps : List LwpData) (i : ℕ) (l : LwpData) → Differ lwps → slice_get (lwps_of pid lwps) i ≡ Some l → next_lwp pid l.tid lwps ≡ slice_get (lwps_of pid lwps) (i + 1)
+next-at pid lwps i l differ e = (stands pid lwps i l differ e).next ∙ ap (slice_get (lwps_of pid lwps)) (omega arith)
 
 -- one number more
 pub front_more : (lwps : List LwpData) (i : ℕ) (l : LwpData) → slice_get lwps i ≡ Some l → take i (map (λ k. k.tid) lwps) ++ l.tid ∷ [] ≡ take (i + 1) (map (λ k. k.tid) lwps)

@@ -1,10 +1,10 @@
 -- Words with one bit changed, and the places of bits.
-use Rattle.std.proofs.Common.{◌≡◌, ◌≢◌, ℕ, ◌<◌, ◌≤◌, ◌+◌, ◌-◌, ◌*◌, ◌/◌, ◌%◌, ◌^◌, ◌==◌, Bool, true, false, not, List, length, get_or, set, replicate, w64, ap, sym, ◌∙◌, inl, inr, subst, refl, arith, if◌then◌else◌}
+use Rattle.std.proofs.Common.{◌≡◌, ◌≢◌, ℕ, ◌<◌, ◌≤◌, ◌+◌, ◌-◌, ◌*◌, ◌/◌, ◌%◌, ◌^◌, ◌==◌, Bool, true, false, not, List, length, get_or, set, w64, ap, sym, ◌∙◌, inl, inr, refl, arith, if◌then◌else◌}
 use Rattle.std.specs.Int.{bit_at}
 use Rattle.std.proofs.lemmas.Bool.{cases_eq, cases_lt, true≢false}
-use Rattle.std.proofs.lemmas.List.{get_or-set_same, get_or-set_other, get_or-replicate, get_or_past, length-replicate}
+use Rattle.std.proofs.lemmas.List.{get_or-set_same, get_or-set_other}
 use Rattle.std.proofs.lemmas.Nat.{shr-shr}
-use Rattle.std.proofs.lemmas.Nat.Bits.{bit_at-lt, bit_at-zero, bit_at_not, bit_at_above}
+use Rattle.std.proofs.lemmas.Nat.Bits.{bit_at-lt, bit_at_not, bit_at_above}
 use Rattle.number_sets.specs.Members.{has_bit, member}
 
 -- a word in the place of the one that has n's bit: n's bit is the new word's, and the others stay where the word's do
@@ -30,16 +30,6 @@ has_bit-one word i e = ap (λ d. d == 1) e
 
 pub has_bit-none : (word i : ℕ) → bit_at word i ≡ 0 → has_bit word i ≡ false
 has_bit-none word i e = ap (λ d. d == 1) e
-
--- words without a 1 have no number
-get_or-same : (count i z : ℕ) → get_or (replicate count z) i z ≡ z
-get_or-same count i z = elim (cases_lt i count) [
-  | inl below ↦ get_or-replicate count i z z below
-  | inr above ↦ get_or_past (replicate count z) i z (subst (λ k. k ≤ i) (sym (length-replicate count z)) above)
-]
-
-pub none-at-all : (count n : ℕ) → member (replicate count 0) n ≡ false
-none-at-all count n = ap (λ x. has_bit x (n % 64)) (get_or-same count (n / 64) 0) ∙ has_bit-none 0 (n % 64) (bit_at-zero (n % 64))
 
 -- the places of a word's 1s are below 64
 pub has_bit-below : (word i : ℕ) → word < 2 ^ 64 → has_bit word i ≡ true → i < 64

@@ -1,8 +1,9 @@
 -- Lists of which each element is something.
-use Rattle.std.proofs.Common.{◌≡◌, Bool, true, false, List, [], ◌∷◌, ◌++◌, map, refl, inl, inr, Option, Some, None, rules}
-use Rattle.std.specs.Prelude.{filter, find, IsSome, IsSomeAnd}
+use Rattle.std.proofs.Common.{◌≡◌, Bool, true, false, List, [], ◌∷◌, ◌++◌, map, inl, inr, Some, None, rules}
+use Rattle.std.specs.Prelude.{filter, find}
 use Rattle.std.specs.List.{AllByRecursion}
 use Rattle.std.proofs.lemmas.Bool.{cases_Bool}
+pub use Rattle.lwp_table.proofs.IndexLemmas.{some_of, some_and}
 
 module _ {A : Type 0} (P Q : A → Type 0) where
   pub every_both : (xs : List A) → AllByRecursion P xs → AllByRecursion Q xs → AllByRecursion (λ a. P a × Q a) xs
@@ -47,11 +48,3 @@ module _ {A : Type 0} (test : A → Bool) where
     | inl e ↦ let its : Some b ≡ Some a = rw e at found in let same : b ≡ a = cc in rw (← same) e
     | inr e ↦ found_tested xs a (rw e at found)
   ]
-
-pub some_of : {A : Type 0} (o : Option A) → IsSome o → (a : A) × (o ≡ Some a)
-some_of None h = absurd (cc)
-some_of (Some a) h = (a, refl)
-
-pub some_and : {A : Type 0} (P : A → Type 0) (o : Option A) → IsSomeAnd o P → (a : A) × (o ≡ Some a) × P a
-some_and P None h = absurd (h)
-some_and P (Some a) h = (a, refl, h)

@@ -1,12 +1,13 @@
 -- What edits of an LWP's row keep, and the rows of a host that nobody has used.
 use Rattle.std.proofs.Common.{◌≡◌, ℕ, true, false, [], ◌∷◌, ◌∙◌, arith, inl, inr, nat_eq}
-use Rattle.std.specs.Prelude.{not, IsSomeAnd}
+use Rattle.std.specs.Prelude.{not, IsSomeAnd, List, ◌++◌, length, get_or}
+use Rattle.std.specs.List.{AllByRecursion}
 use Rattle.std.proofs.lemmas.List.{length-set}
 use Rattle.std.proofs.lemmas.Bool.{cases_Bool}
 use Rattle.pid_blocks.specs.Users.{IsUser}
 use Rattle.pid_blocks.specs.Blocks.{slot, pid_block, tid_block, InBlock}
 use Rattle.lwp_table.specs.declared.LwpData.{LwpData}
-use Rattle.lwp_table.specs.Lwps.{lwp_of, put_lwp}
+use Rattle.lwp_table.specs.Lwps.{lwp_of, put_lwp, with_lwp, without_lwp, Differ}
 use Rattle.proc_table.specs.Seen.{owns}
 use Rattle.proc_table.specs.Rows.{Rows}
 use Rattle.proc_table.specs.Fresh.{is_lwp, add_lwp, no_rows}
@@ -18,20 +19,26 @@ use Rattle.proc_table.proofs.Lwps.{Differ-with_lwp, Differ-filter, Differ-push, 
 use Rattle.proc_table.proofs.Cursors.{InBlock-after, cursors-set, cursors-first, length-rising}
 use Rattle.proc_table.proofs.KeepsProcesses.{Named-more}
 
-pub keeps-set_lwp : (new : LwpData) (rows : Rows) → IsKept rows → IsSomeAnd (lwp_of new.tid rows.lwps) (λ was. was.pid ≡ new.pid) → IsKept (set_lwp new rows)
-keeps-set_lwp new rows kept there = record {
+-- other LWPs, each of a process that is there, and other cursors
+kept-lwps : (rows : Rows) (ls : List LwpData) (cursors : List ℕ) → IsKept rows → Differ ls → AllByRecursion (Housed rows) ls → length cursors ≡ 64
+    → ((u : ℕ) → IsUser u → InBlock (tid_block u) (get_or cursors (slot u) 0)) → IsKept (record rows { lwps = ls; tid_cursors = cursors })
+kept-lwps rows ls cursors kept differ housed long home = record {
   rising = kept.rising;
-  differ = Differ-with_lwp new rows.lwps kept.differ;
+  differ = differ;
   homes = kept.homes;
-  named = every_weaken (Named rows) (Named (set_lwp new rows)) (Named-more rows (set_lwp new rows) (λ n h. h)) rows.processes kept.named;
-  housed = every_map (Housed rows) (Housed (set_lwp new rows)) (put_lwp new) housed rows.lwps kept.housed;
+  named = every_weaken (Named rows) (Named (record rows { lwps = ls; tid_cursors = cursors })) (Named-more rows (record rows { lwps = ls; tid_cursors = cursors }) (λ n h. h)) rows.processes kept.named;
+  housed = housed;
   pid_slots = kept.pid_slots;
-  tid_slots = kept.tid_slots;
+  tid_slots = long;
   pid_cursors = kept.pid_cursors;
-  tid_cursors = kept.tid_cursors;
+  tid_cursors = home;
 }
+
+pub keeps_set_lwp : (new : LwpData) (rows : Rows) → IsKept rows → IsSomeAnd (lwp_of new.tid rows.lwps) (λ was. was.pid ≡ new.pid) → IsKept (set_lwp new rows)
+keeps_set_lwp new rows kept there =
+    kept-lwps rows (with_lwp new rows.lwps) rows.tid_cursors kept (Differ-with_lwp new rows.lwps kept.differ) (every_map (Housed rows) (Housed rows) (put_lwp new) housed rows.lwps kept.housed) kept.tid_slots kept.tid_cursors
   where
-    housed : (l : LwpData) → Housed rows l → Housed (set_lwp new rows) (put_lwp new l)
+    housed : (l : LwpData) → Housed rows l → Housed rows (put_lwp new l)
     housed l h = elim (cases_Bool (nat_eq l.tid new.tid)) [
       | inl e ↦
           let was = some_and (λ k. k.pid ≡ new.pid) (lwp_of new.tid rows.lwps) there in
@@ -42,33 +49,16 @@ keeps-set_lwp new rows kept there = record {
     ]
 
 pub keeps-drop_lwp : (tid : ℕ) (rows : Rows) → IsKept rows → IsKept (drop_lwp tid rows)
-keeps-drop_lwp tid rows kept = record {
-  rising = kept.rising;
-  differ = Differ-filter (λ l. not (nat_eq l.tid tid)) rows.lwps kept.differ;
-  homes = kept.homes;
-  named = every_weaken (Named rows) (Named (drop_lwp tid rows)) (Named-more rows (drop_lwp tid rows) (λ n h. h)) rows.processes kept.named;
-  housed = every_filter (Housed rows) (Housed (drop_lwp tid rows)) (λ l. not (nat_eq l.tid tid)) (λ l e h. h) rows.lwps kept.housed;
-  pid_slots = kept.pid_slots;
-  tid_slots = kept.tid_slots;
-  pid_cursors = kept.pid_cursors;
-  tid_cursors = kept.tid_cursors;
-}
+keeps-drop_lwp tid rows kept =
+    kept-lwps rows (without_lwp tid rows.lwps) rows.tid_cursors kept (Differ-filter (λ l. not (nat_eq l.tid tid)) rows.lwps kept.differ)
+    (every_filter (Housed rows) (Housed rows) (λ l. not (nat_eq l.tid tid)) (λ l e h. h) rows.lwps kept.housed) kept.tid_slots kept.tid_cursors
 
 pub keeps-add_lwp : (u : ℕ) (new : LwpData) (rows : Rows) → IsUser u → IsKept rows → is_lwp rows new.tid ≡ false → InBlock (tid_block u) new.tid → owns u new.pid rows.processes ≡ true → IsKept (add_lwp u new rows)
 keeps-add_lwp u new rows user kept fresh home owner =
     let owned = owned_found u new.pid rows.processes kept.rising owner in
     let housed : Housed rows new = (owned.0, owned.1, rw owned.2 home) in
-    record {
-      rising = kept.rising;
-      differ = Differ-push rows.lwps new kept.differ (LacksLwp-from_any new.tid rows.lwps fresh);
-      homes = kept.homes;
-      named = every_weaken (Named rows) (Named (add_lwp u new rows)) (Named-more rows (add_lwp u new rows) (λ n h. h)) rows.processes kept.named;
-      housed = every_append (Housed rows) rows.lwps (new ∷ []) kept.housed (housed, tt);
-      pid_slots = kept.pid_slots;
-      tid_slots = length-set rows.tid_cursors (slot u) _ ∙ kept.tid_slots;
-      pid_cursors = kept.pid_cursors;
-      tid_cursors = cursors-set tid_block rows.tid_cursors u _ user kept.tid_slots (InBlock-after (tid_block u) new.tid home (omega arith)) kept.tid_cursors;
-    }
+    kept-lwps rows (rows.lwps ++ (new ∷ [])) _ kept (Differ-push rows.lwps new kept.differ (LacksLwp-from_any new.tid rows.lwps fresh)) (every_append (Housed rows) rows.lwps (new ∷ []) kept.housed (housed, tt))
+    (length-set rows.tid_cursors (slot u) _ ∙ kept.tid_slots) (cursors-set tid_block rows.tid_cursors u _ user kept.tid_slots (InBlock-after (tid_block u) new.tid home (omega arith)) kept.tid_cursors)
 
 pub keeps-none : IsKept no_rows
 keeps-none = record {

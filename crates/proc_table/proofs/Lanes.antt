@@ -91,3 +91,5 @@ module _ (kin : Kin) (f g z : ℕ → Option Slot) (linked : IsLinked (lanes kin
       (λ s apart. ap (option_map (lane kin)) (keeps s apart)) (gets mid.0 mid.1) (λ s apart. ap (option_map (lane kin)) (stays s apart))
       (λ s node on there. let slot = slot_at kin f s node there in rw (← slot.2) (last s slot.0 on slot.1)) (ap (λ (p : ProcData). p.pid) mid.2)
       (λ m there. ap (λ (n : Node). n.first) (same_Some (lane kin mid.0) m (sym (ap (option_map (lane kin)) mid.1) ∙ there))) its names pointed
+
+pub ruleset put_laws = (put-rows, put-others)

@@ -51,3 +51,5 @@ next_tracee-least pid after ps up = least_or_none (traces pid) after ps up
 
 pub next_child-least : NextChildLeast
 next_child-least pid after ps up = least_or_none (λ p. nat_eq p.parent pid) after ps up
+
+pub ruleset least_laws = (next_of-least, next_tracee-least, next_child-least)

@@ -1,5 +1,5 @@
 -- The list of all rows that numbers find.
-use Rattle.std.proofs.Common.{◌≡◌, ◌≢◌, ℕ, zero, suc, ◌+◌, ◌<◌, ◌≤◌, true, false, [], Option, Some, None, IsSome, is_some, refl, sym, ap, ◌∙◌, nat_eq, cond, arith, inl, inr, ◌⊎◌, map}
+use Rattle.std.proofs.Common.{◌≡◌, ◌≢◌, ℕ, zero, suc, ◌+◌, ◌<◌, ◌≤◌, true, false, List, [], Option, Some, None, IsSome, is_some, refl, sym, ap, ◌∙◌, nat_eq, cond, arith, inl, inr, ◌⊎◌, map}
 use Rattle.std.specs.Prelude.{filter, not}
 use Rattle.std.specs.List.{AllByRecursion, cons_option, list_any}
 use Rattle.std.proofs.lemmas.Bool.Decides.{nat_tests}
@@ -39,28 +39,25 @@ module _ (f : ℕ → Option ProcData) where
         by None is rest = rest
         by (Some row) is rest = (above-listing row.pid (first + 1) count (omega (arith, named first row is)), rest)
 
+    -- a number is looked for beyond another one's row
+    past : (pid first : ℕ) (x o : Option ProcData) (rows : List ProcData) → f first ≡ o → pid ≢ first → process_of pid rows ≡ x → process_of pid (cons_option o rows) ≡ x
+    past pid first x None rows is apart rest = rest
+    past pid first x (Some row) rows is apart rest = let other : nat_eq row.pid pid ≡ false = grind (arith, nat_tests, named first row is) in rw other rest
+
     pub find-listing : (pid first count : ℕ) → first ≤ pid → pid < first + count → process_of pid (listing f first count) ≡ f pid
     find-listing pid first zero from to = absurd (omega arith)
     find-listing pid first (suc count) from to = elim (equal_or_not pid first) [
       | inl here ↦ rw here.1 (by (f first) refl)
-      | inr apart ↦ past (f first) refl apart.1 (find-listing pid (first + 1) count (omega (arith, apart.1)) (omega arith))
+      | inr apart ↦ past pid first (f pid) (f first) (listing f (first + 1) count) refl apart.1 (find-listing pid (first + 1) count (omega (arith, apart.1)) (omega arith))
     ]
       where
         by : (o : Option ProcData) → f first ≡ o → process_of first (cons_option o (listing f (first + 1) count)) ≡ o
         by None is = none_above first first (omega arith) _ (above-listing first (first + 1) count (omega arith))
         by (Some row) is = let own : nat_eq row.pid first ≡ true = grind (arith, nat_tests, named first row is) in rw own refl
 
-        past : (o : Option ProcData) → f first ≡ o → pid ≢ first → process_of pid (listing f (first + 1) count) ≡ f pid → process_of pid (cons_option o (listing f (first + 1) count)) ≡ f pid
-        past None is apart rest = rest
-        past (Some row) is apart rest = let other : nat_eq row.pid pid ≡ false = grind (arith, nat_tests, named first row is) in rw other rest
-
     pub find-outside : (pid first count : ℕ) → (pid < first) ⊎ (first + count ≤ pid) → process_of pid (listing f first count) ≡ None
     find-outside pid first zero out = refl
-    find-outside pid first (suc count) out = past (f first) refl (omega (arith, out)) (find-outside pid (first + 1) count (elim out [ inl h ↦ inl (omega arith) | inr h ↦ inr (omega arith) ]))
-      where
-        past : (o : Option ProcData) → f first ≡ o → pid ≢ first → process_of pid (listing f (first + 1) count) ≡ None → process_of pid (cons_option o (listing f (first + 1) count)) ≡ None
-        past None is apart rest = rest
-        past (Some row) is apart rest = let other : nat_eq row.pid pid ≡ false = grind (arith, nat_tests, named first row is) in rw other rest
+    find-outside pid first (suc count) out = past pid first None (f first) (listing f (first + 1) count) refl (omega (arith, out)) (find-outside pid (first + 1) count (elim out [ inl h ↦ inl (omega arith) | inr h ↦ inr (omega arith) ]))
 
   module _ (found : IsFound f) where
     pub Rise-all_rows : Rise (all_rows f)

@@ -88,10 +88,11 @@ module _ (pid : ℕ) (f : LwpData → LwpData) (keeps : (l : LwpData) → (f l).
   walk-first [] d = refl
   walk-first (l ∷ ls) d = search (rules, walk-first ls d.1, cases_Bool, same_number, skipped, first-found)
 
-  pub walk-next : (k : LwpData) (ls : List LwpData) → Differ ls → IsLwp pid ls k
-      → edited_from mine k.tid ls ≡ edited_at mine (next_lwp pid k.tid (with_lwp (f k) ls)) (with_lwp (f k) ls)
-  walk-next k [] d its = refl
-  walk-next k (l ∷ ls) d its = elim (cases_Bool (nat_eq l.tid k.tid)) [
+  -- the LWP at which the walk is changed: the walk goes on from the next one, and fewer are left
+  walk-step : (k : LwpData) (ls : List LwpData) → Differ ls → IsLwp pid ls k → (edited_from mine k.tid ls ≡ edited_at mine (next_lwp pid k.tid (with_lwp (f k) ls)) (with_lwp (f k) ls))
+      × (left_at (next_lwp pid k.tid (with_lwp (f k) ls)) (with_lwp (f k) ls) < left_from k.tid ls)
+  walk-step k [] d its = absurd (let h : lwp_of k.tid [] ≡ Some k = its.at in cc)
+  walk-step k (l ∷ ls) d its = elim (cases_Bool (nat_eq l.tid k.tid)) [
     | inl e ↦
         let at : Some l ≡ Some k = rw e at its.at in
         let same : l ≡ k = cc in
@@ -102,37 +103,28 @@ module _ (pid : ℕ) (f : LwpData → LwpData) (keeps : (l : LwpData) → (f l).
         let back : nat_eq (f k).tid k.tid ≡ true = rw (keeps k) (same_number k.tid) in
         let next : next_lwp pid k.tid (with_lwp (f k) (l ∷ ls)) ≡ first_lwp pid ls = ap (next_lwp pid k.tid) put ∙ rw back refl in
         let turned : mine k ≡ f k = rw its_own refl in
-        rw (e, next, put)
-        (ap (λ x. x ∷ map mine ls) (ap mine same ∙ turned) ∙ sym (skipped mine pid (f k) ls (first_lwp pid ls) lacks (first-found pid ls d.1) ∙ ap (λ xs. f k ∷ xs) (walk-first ls d.1)))
+        let found = first-found pid ls d.1 in
+        let less = left-within (first_lwp pid ls) ls in
+        rw (e, next, put) (
+          ap (λ x. x ∷ map mine ls) (ap mine same ∙ turned) ∙ sym (skipped mine pid (f k) ls (first_lwp pid ls) lacks found ∙ ap (λ xs. f k ∷ xs) (walk-first ls d.1)),
+          rw (left-skipped pid (f k) ls (first_lwp pid ls) lacks found) (omega arith),
+        )
     | inr e ↦
-        let rest : IsLwp pid ls k = record { at = rw e at its.at; own = its.own } in
+        let rest = walk-step k ls d.1 (record { at = rw e at its.at; own = its.own }) in
         let there : nat_eq l.tid (f k).tid ≡ false = rw (keeps k) e in
         let lacks : LacksLwp l.tid (with_lwp (f k) ls) = LacksLwp-map (put_lwp (f k)) (put_lwp-tid (f k)) l.tid ls d.0 in
-        rw (there, e)
-        (ap (λ xs. l ∷ xs) (walk-next k ls d.1 rest) ∙ sym (skipped mine pid l (with_lwp (f k) ls) (next_lwp pid k.tid (with_lwp (f k) ls)) lacks (next-found pid k.tid (with_lwp (f k) ls) (Differ-with_lwp (f k) ls d.1))))
+        let found = next-found pid k.tid (with_lwp (f k) ls) (Differ-with_lwp (f k) ls d.1) in
+        rw (there, e) (
+          ap (λ xs. l ∷ xs) rest.0 ∙ sym (skipped mine pid l (with_lwp (f k) ls) (next_lwp pid k.tid (with_lwp (f k) ls)) lacks found),
+          rw (left-skipped pid l (with_lwp (f k) ls) (next_lwp pid k.tid (with_lwp (f k) ls)) lacks found) rest.1,
+        )
   ]
 
-  pub walk-less : (k : LwpData) (ls : List LwpData) → Differ ls → IsLwp pid ls k
-      → left_at (next_lwp pid k.tid (with_lwp (f k) ls)) (with_lwp (f k) ls) < left_from k.tid ls
-  walk-less k [] d its = absurd (let h : lwp_of k.tid [] ≡ Some k = its.at in cc)
-  walk-less k (l ∷ ls) d its = elim (cases_Bool (nat_eq l.tid k.tid)) [
-    | inl e ↦
-        let at : Some l ≡ Some k = rw e at its.at in
-        let same : l ≡ k = cc in
-        let lacks : LacksLwp (f k).tid ls = rw (keeps k, ← same) d.0 in
-        let here : nat_eq l.tid (f k).tid ≡ true = rw (keeps k) e in
-        let put : with_lwp (f k) (l ∷ ls) ≡ f k ∷ ls = rw (here, unput (f k) ls lacks) refl in
-        let back : nat_eq (f k).tid k.tid ≡ true = rw (keeps k) (same_number k.tid) in
-        let next : next_lwp pid k.tid (with_lwp (f k) (l ∷ ls)) ≡ first_lwp pid ls = ap (next_lwp pid k.tid) put ∙ rw back refl in
-        let less = left-within (first_lwp pid ls) ls in
-        rw (e, next, put, left-skipped pid (f k) ls (first_lwp pid ls) lacks (first-found pid ls d.1)) (omega arith)
-    | inr e ↦
-        let rest : IsLwp pid ls k = record { at = rw e at its.at; own = its.own } in
-        let there : nat_eq l.tid (f k).tid ≡ false = rw (keeps k) e in
-        let lacks : LacksLwp l.tid (with_lwp (f k) ls) = LacksLwp-map (put_lwp (f k)) (put_lwp-tid (f k)) l.tid ls d.0 in
-        let step = left-skipped pid l (with_lwp (f k) ls) (next_lwp pid k.tid (with_lwp (f k) ls)) lacks (next-found pid k.tid (with_lwp (f k) ls) (Differ-with_lwp (f k) ls d.1)) in
-        rw (there, e, step) (walk-less k ls d.1 rest)
-  ]
+  pub walk-next : (k : LwpData) (ls : List LwpData) → Differ ls → IsLwp pid ls k → edited_from mine k.tid ls ≡ edited_at mine (next_lwp pid k.tid (with_lwp (f k) ls)) (with_lwp (f k) ls)
+  walk-next k ls d its = (walk-step k ls d its).0
+
+  pub walk-less : (k : LwpData) (ls : List LwpData) → Differ ls → IsLwp pid ls k → left_at (next_lwp pid k.tid (with_lwp (f k) ls)) (with_lwp (f k) ls) < left_from k.tid ls
+  walk-less k ls d its = (walk-step k ls d its).1
 
 -- where a walk stands: the rows with the LWPs from `at` on changed too are the rows `was` with all changed
 pub record IsWalking (pid : ℕ) (f : LwpData → LwpData) (at : Option LwpData) (rows was : Rows) : Type 0 where

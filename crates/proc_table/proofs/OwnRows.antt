@@ -108,3 +108,5 @@ module _ (u : ℕ) (rows : Rows) (user : IsUser u) (kept : IsKept rows) where
 
 pub fresh_own : FreshSeesOwn
 fresh_own = (fresh_pid_own, fresh_tid_own)
+
+pub ruleset own_laws = (next_own, process_own, lwp_own, number_own, counts_own, fresh_own)

@@ -104,14 +104,6 @@ module _ (u : ℕ) where
   eq-kept None = refl
   eq-kept (Some p) = elim (cases_Bool (nat_eq p.uid u)) [ inl e ↦ rw e refl | inr e ↦ rw e refl ]
 
-  pub eq-own : (o : Option ProcData) → option_eq nat_eq (option_map (λ (p : ProcData). p.uid) o) (Some u) ≡ true → keep its_user o ≡ o
-  eq-own None h = refl
-  eq-own (Some p) h = rw h refl
-
-  pub eq-other : (o : Option ProcData) → option_eq nat_eq (option_map (λ (p : ProcData). p.uid) o) (Some u) ≡ false → keep its_user o ≡ None
-  eq-other None h = refl
-  eq-other (Some p) h = rw h refl
-
   -- the number of the row that is seen, where one is
   pub pid-seen : (n : ℕ) (ps : List ProcData) → Rise ps → option_map (λ (p : ProcData). p.pid) (find (λ p. nat_eq p.pid n && nat_eq p.uid u) ps) ≡ cond (owns u n ps) (Some n) None
   pid-seen n ps r = search (rules, seen_process-kept, owns-kept, is_some, cases_Bool, process_of-pid)
@@ -119,3 +111,10 @@ module _ (u : ℕ) where
 -- no process has a number outside all blocks
 pub pid-outside : (n : ℕ) (rows : Rows) → IsKept rows → (((1000 ≤ n) × (n < 65000)) → ⊥) → process_of n rows.processes ≡ None
 pid-outside n rows kept out = search (rules, every_found, process_of-pid)
+
+-- what a user sees, by what a number finds
+pub ruleset owner_laws = (owns-kept, eq-kept)
+
+pub ruleset home_laws = (seen_lwp-kept, home-none, home-own, home-other, home-outside)
+
+pub ruleset has_laws = (any-found, has_row)

@@ -1,10 +1,11 @@
 -- What a change of one slot does to what each number finds.
-use Rattle.std.proofs.Common.{◌≡◌, ◌≢◌, ℕ, ◌+◌, ◌-◌, ◌<◌, ◌≤◌, true, false, List, [], Option, Some, None, IsSome, is_some, refl, sym, ap, ◌∙◌, nat_eq, cond, arith, inl, inr, length, get_or, set, replicate, map, rules}
+use Rattle.std.proofs.Common.{◌≡◌, ◌≢◌, ℕ, ◌+◌, ◌-◌, ◌<◌, ◌≤◌, true, false, List, [], Option, Some, None, IsSome, is_some, refl, sym, ap, ◌∙◌, nat_eq, cond, arith, inl, inr, length, get_or, set, replicate, map, subst, rules}
 use Rattle.std.specs.Prelude.{filter, not, count_by}
 use Rattle.std.specs.List.{list_any}
 use Rattle.std.specs.Option.{option_and_then}
 use Rattle.std.specs.Map.{lookup}
 use Rattle.std.proofs.lemmas.Bool.Decides.{nat_tests}
+use Rattle.std.proofs.lemmas.Option.{same_Some}
 use Rattle.std.proofs.lemmas.List.{get_or-replicate}
 use Rattle.pid_blocks.specs.Users.{IsUser}
 use Rattle.pid_blocks.specs.Blocks.{slot}
@@ -35,87 +36,34 @@ module _ (slots : ℕ → Option ProcData) (es : List (ℕ × ℕ)) (owned : IsS
   pub slots_apart : (pid other slot at : ℕ) → lookup (nat_eq pid) es ≡ Some slot → lookup (nat_eq other) es ≡ Some at → other ≢ pid → at ≢ slot
   slots_apart pid other slot at one two apart same = grind (arith, nat_tests)
 
-  module _ (slots' : ℕ → Option ProcData) (es' : List (ℕ × ℕ)) (slot : ℕ) (others : (k : ℕ) → k ≢ slot → slots' k ≡ slots k) where
-    -- a number whose slot is another keeps its row
-    kept_apart : (pid at : ℕ) → lookup (nat_eq pid) es' ≡ lookup (nat_eq pid) es → lookup (nat_eq pid) es' ≡ Some at → ((k : ℕ) → lookup (nat_eq pid) es ≡ Some k → k ≢ slot) → (row : ProcData) × (slots' at ≡ Some row) × (row.pid ≡ pid)
-    kept_apart pid at same is apart =
-        let before = sym same ∙ is in
-        let its = owned.named pid at before in
-        (its.0, others at (apart at before) ∙ its.1, its.2)
-
-    look-apart : (pid : ℕ) → lookup (nat_eq pid) es' ≡ lookup (nat_eq pid) es → ((k : ℕ) → lookup (nat_eq pid) es ≡ Some k → k ≢ slot) → look slots' es' pid ≡ look slots es pid
-    look-apart pid same apart = ap (option_and_then slots') same ∙ by (lookup (nat_eq pid) es) refl
+  -- one number has another slot or none, or another row in its slot
+  module _ (slots' : ℕ → Option ProcData) (es' : List (ℕ × ℕ)) (slot : ℕ) (others : (k : ℕ) → k ≢ slot → slots' k ≡ slots k) (n : ℕ) (now : Option ℕ) (row : Option ProcData)
+      (change : (pid : ℕ) → lookup (nat_eq pid) es' ≡ cond (nat_eq n pid) now (lookup (nat_eq pid) es)) (gives : option_and_then slots' now ≡ row)
+      (apart : (pid k : ℕ) → pid ≢ n → lookup (nat_eq pid) es ≡ Some k → k ≢ slot) where
+    pub look-changed : (pid : ℕ) → look slots' es' pid ≡ cond (nat_eq pid n) row (look slots es pid)
+    look-changed pid = elim (equal_or_not pid n) [
+      | inl here ↦ let turned : nat_eq n pid ≡ true = grind (arith, nat_tests, here.1) in rw here.0 (ap (option_and_then slots') (rw turned at (change pid)) ∙ gives)
+      | inr off ↦ let turned : nat_eq n pid ≡ false = grind (arith, nat_tests, off.1) in rw off.0 (ap (option_and_then slots') (rw turned at (change pid)) ∙ by (lookup (nat_eq pid) es) refl off.1)
+    ]
       where
-        by : (o : Option ℕ) → lookup (nat_eq pid) es ≡ o → option_and_then slots' o ≡ option_and_then slots o
-        by None is = refl
-        by (Some at) is = others at (apart at is)
+        by : (o : Option ℕ) → lookup (nat_eq pid) es ≡ o → pid ≢ n → option_and_then slots' o ≡ option_and_then slots o
+        by None is off = refl
+        by (Some k) is off = others k (apart pid k off is)
 
-    -- a row more, in a slot that had none
-    module _ (new : ProcData) (vacant : slots slot ≡ None) (has : slots' slot ≡ Some new) (change : (pid : ℕ) → lookup (nat_eq pid) es' ≡ cond (nat_eq new.pid pid) (Some slot) (lookup (nat_eq pid) es)) where
-      elsewhere : (pid k : ℕ) → lookup (nat_eq pid) es ≡ Some k → k ≢ slot
-      elsewhere pid k is same = let its = owned.named pid k is in cc (its.1, ap slots same, vacant)
-
-      pub look-added : (pid : ℕ) → look slots' es' pid ≡ cond (nat_eq pid new.pid) (Some new) (look slots es pid)
-      look-added pid = elim (equal_or_not pid new.pid) [
-        | inl here ↦ let turned : nat_eq new.pid pid ≡ true = grind (arith, nat_tests, here.1) in rw here.0 (ap (option_and_then slots') (rw turned at (change pid)) ∙ has)
-        | inr apart ↦ let turned : nat_eq new.pid pid ≡ false = grind (arith, nat_tests, apart.1) in rw apart.0 (look-apart pid (rw turned at (change pid)) (elsewhere pid))
-      ]
-
-      pub IsStored-added : AtHome new → IsStored slots' es'
-      IsStored-added own = record {
-        named = λ pid at is. elim (equal_or_not new.pid pid) [
-          | inl here ↦ let its : Some slot ≡ Some at = sym (rw here.0 at (change pid)) ∙ is in let same : slot ≡ at = cc in (new, sym (ap slots' same) ∙ has, here.1)
-          | inr apart ↦ kept_apart pid at (rw apart.0 at (change pid)) is (elsewhere pid)
-        ];
-        home = λ pid row is. elim (equal_or_not pid new.pid) [
-          | inl here ↦ let its : Some new ≡ Some row = sym (rw here.0 at (look-added pid)) ∙ is in let same : new ≡ row = cc in rw (← same) own
-          | inr apart ↦ owned.home pid row (sym (rw apart.0 at (look-added pid)) ∙ is)
-        ];
-      }
-
-    -- the row in the number's slot is another
-    module _ (new : ProcData) (has : slots' slot ≡ Some new) (at : lookup (nat_eq new.pid) es ≡ Some slot) (same : es' ≡ es) where
-      pub look-set : (pid : ℕ) → look slots' es' pid ≡ cond (nat_eq pid new.pid) (Some new) (look slots es pid)
-      look-set pid = elim (equal_or_not pid new.pid) [
-        | inl here ↦ rw (here.0, here.1, same) (ap (option_and_then slots') at ∙ has)
-        | inr apart ↦ rw apart.0 (look-apart pid (ap (lookup (nat_eq pid)) same) (λ k is. slots_apart new.pid pid slot k at is apart.1))
-      ]
-
-      pub IsStored-set : AtHome new → IsStored slots' es'
-      IsStored-set own = record {
-        named = λ pid k is. elim (equal_or_not pid new.pid) [
-          | inl here ↦
-              let there : lookup (nat_eq pid) es ≡ Some slot = rw here.1 at in
-              let its : Some slot ≡ Some k = sym there ∙ sym (ap (lookup (nat_eq pid)) same) ∙ is in
-              let slots_same : slot ≡ k = cc in
-              (new, sym (ap slots' slots_same) ∙ has, sym here.1)
-          | inr apart ↦ kept_apart pid k (ap (lookup (nat_eq pid)) same) is (λ k is. slots_apart new.pid pid slot k at is apart.1)
-        ];
-        home = λ pid row is. elim (equal_or_not pid new.pid) [
-          | inl here ↦ let its : Some new ≡ Some row = sym (rw here.0 at (look-set pid)) ∙ is in let rows_same : new ≡ row = cc in rw (← rows_same) own
-          | inr apart ↦ owned.home pid row (sym (rw apart.0 at (look-set pid)) ∙ is)
-        ];
-      }
-
-    -- the number has no slot any more
-    module _ (gone : ℕ) (at : lookup (nat_eq gone) es ≡ Some slot) (change : (pid : ℕ) → lookup (nat_eq pid) es' ≡ cond (nat_eq gone pid) None (lookup (nat_eq pid) es)) where
-      pub look-removed : (pid : ℕ) → look slots' es' pid ≡ cond (nat_eq pid gone) None (look slots es pid)
-      look-removed pid = elim (equal_or_not pid gone) [
-        | inl here ↦ let turned : nat_eq gone pid ≡ true = grind (arith, nat_tests, here.1) in rw here.0 (ap (option_and_then slots') (rw turned at (change pid)))
-        | inr apart ↦ let turned : nat_eq gone pid ≡ false = grind (arith, nat_tests, apart.1) in rw apart.0 (look-apart pid (rw turned at (change pid)) (λ k is. slots_apart gone pid slot k at is apart.1))
-      ]
-
-      pub IsStored-removed : IsStored slots' es'
-      IsStored-removed = record {
-        named = λ pid k is. elim (equal_or_not gone pid) [
-          | inl here ↦ absurd (cc (rw here.0 at (change pid), is))
-          | inr apart ↦ kept_apart pid k (rw apart.0 at (change pid)) is (λ k is. slots_apart gone pid slot k at is (λ same. apart.1 (sym same)))
-        ];
-        home = λ pid row is. elim (equal_or_not pid gone) [
-          | inl here ↦ absurd (cc (rw here.0 at (look-removed pid), is))
-          | inr apart ↦ owned.home pid row (sym (rw apart.0 at (look-removed pid)) ∙ is)
-        ];
-      }
+    pub IsStored-changed : ((k : ℕ) → now ≡ Some k → (r : ProcData) × (row ≡ Some r) × (r.pid ≡ n)) → ((r : ProcData) → row ≡ Some r → AtHome r) → IsStored slots' es'
+    IsStored-changed its own = record {
+      named = λ pid k is. elim (equal_or_not n pid) [
+        | inl here ↦ let at = sym (rw here.0 at (change pid)) ∙ is in let new = its k at in (new.0, sym (ap (option_and_then slots') at) ∙ gives ∙ new.1, new.2 ∙ here.1)
+        | inr off ↦
+            let before = sym (rw off.0 at (change pid)) ∙ is in
+            let was = owned.named pid k before in
+            (was.0, others k (apart pid k (λ e. off.1 (sym e)) before) ∙ was.1, was.2)
+      ];
+      home = λ pid r is. elim (equal_or_not pid n) [
+        | inl here ↦ own r (sym (rw here.0 at (look-changed pid)) ∙ is)
+        | inr off ↦ owned.home pid r (sym (rw off.0 at (look-changed pid)) ∙ is)
+      ];
+    }
 
 -- what is kept after each change, and the rows that there are then
 module _ (slots : ℕ → Option ProcData) (es : List (ℕ × ℕ)) (counts : List ℕ) (kept : IsSlotted slots es counts) where
@@ -137,8 +85,9 @@ module _ (slots : ℕ → Option ProcData) (es : List (ℕ × ℕ)) (counts : Li
         → list_any (λ p. nat_eq p.pid new.pid) (all_rows (look slots es)) ≡ false → AtHome new → length counts ≡ 64
         → IsSlotted slots' es' (set counts (slot new.uid) (get_or counts (slot new.uid) 0 + 1)) × (all_rows (look slots' es') ≡ placed new (all_rows (look slots es)))
     IsSlotted-added new vacant has change fresh home long =
-        let stored = IsStored-added slots es kept.stored slots' es' at others new vacant has change home in
-        let what = look-added slots es kept.stored slots' es' at others new vacant has change in
+        let apart : (pid k : ℕ) → pid ≢ new.pid → lookup (nat_eq pid) es ≡ Some k → k ≢ at = λ pid k off is same. let its = kept.stored.named pid k is in cc (its.1, ap slots same, vacant) in
+        let stored = IsStored-changed slots es kept.stored slots' es' at others new.pid (Some at) (Some new) change has apart (λ k is. (new, refl, refl)) (λ r is. subst AtHome (same_Some new r is) home) in
+        let what = look-changed slots es kept.stored slots' es' at others new.pid (Some at) (Some new) change has apart in
         let rows = all_rows-added _ _ finds (found slots' es' stored) new fresh what in
         let count = λ (u : ℕ). count-placed u new _ rising (Lacks-from_any new.pid _ fresh) in (
           record {
@@ -159,16 +108,20 @@ module _ (slots : ℕ → Option ProcData) (es : List (ℕ × ℕ)) (counts : Li
         let home = kept.stored.home new.pid before its in
         let number : before.pid ≡ new.pid = finds.named new.pid before its in
         let at_home : AtHome new = record { user = rw uids at home.user; block = rw (uids, number) at home.block } in
-        let stored = IsStored-set slots es kept.stored slots' es' at others new has is same at_home in
-        let what = look-set slots es kept.stored slots' es' at others new has is same in
+        let change : (pid : ℕ) → lookup (nat_eq pid) es' ≡ cond (nat_eq new.pid pid) (Some at) (lookup (nat_eq pid) es) =
+        λ pid. ap (lookup (nat_eq pid)) same ∙ elim (equal_or_not new.pid pid) [ inl h ↦ rw (h.0, ← h.1) is | inr h ↦ rw h.0 refl ] in
+        let apart = λ (pid k : ℕ) (off : pid ≢ new.pid). λ (at_k : lookup (nat_eq pid) es ≡ Some k). slots_apart slots es kept.stored new.pid pid at k is at_k off in
+        let stored = IsStored-changed slots es kept.stored slots' es' at others new.pid (Some at) (Some new) change has apart (λ k is. (new, refl, refl)) (λ r is. subst AtHome (same_Some new r is) at_home) in
+        let what = look-changed slots es kept.stored slots' es' at others new.pid (Some at) (Some new) change has apart in
         let rows = all_rows-set _ _ finds (found slots' es' stored) new (ap is_some its) what in
         (record { stored = stored; tally = λ u user. rw rows (kept.tally u user ∙ sym (count-set u new before (all_rows (look slots es)) rising there uids)) }, rows)
 
     pub IsSlotted-removed : (gone : ℕ) (before : ProcData) → slots at ≡ Some before → lookup (nat_eq gone) es ≡ Some at → ((pid : ℕ) → lookup (nat_eq pid) es' ≡ cond (nat_eq gone pid) None (lookup (nat_eq pid) es)) → length counts ≡ 64
         → IsUser before.uid × (0 < get_or counts (slot before.uid) 0) × IsSlotted slots' es' (set counts (slot before.uid) (get_or counts (slot before.uid) 0 - 1)) × (all_rows (look slots' es') ≡ filter (λ p. not (nat_eq p.pid gone)) (all_rows (look slots es)))
     IsSlotted-removed gone before has is change long =
-        let stored = IsStored-removed slots es kept.stored slots' es' at others gone is change in
-        let what = look-removed slots es kept.stored slots' es' at others gone is change in
+        let apart = λ (pid k : ℕ) (off : pid ≢ gone). λ (at_k : lookup (nat_eq pid) es ≡ Some k). slots_apart slots es kept.stored gone pid at k is at_k off in
+        let stored = IsStored-changed slots es kept.stored slots' es' at others gone None None change refl apart (λ k is. absurd (cc (is))) (λ r is. absurd (cc (is))) in
+        let what = look-changed slots es kept.stored slots' es' at others gone None None change refl apart in
         let rows = all_rows-removed _ _ finds (found slots' es' stored) gone what in
         let its = look-slot slots es gone at is ∙ has in
         let user = (kept.stored.home gone before its).user in
@@ -199,3 +152,6 @@ IsSlotted-none slots es none =
       },
       rows,
     )
+
+-- what a number finds
+pub ruleset find_laws = (find-all_rows, finds, look-slot)

@@ -1,6 +1,6 @@
 -- What is kept of rows, lists and counts together.
 use Rattle.std.proofs.Common.{◌≡◌, ◌≢◌, ℕ, ◌+◌, ◌-◌, ◌<◌, true, false, List, [], Option, Some, None, is_some, refl, sym, ap, ◌∙◌, ◌∷◌, inl, inr, nat_eq, cond, arith, length, get_or, set, map, replicate, rules}
-use Rattle.std.specs.Prelude.{filter, not, ltb, ◌&&◌}
+use Rattle.std.specs.Prelude.{filter, not, ltb, ◌&&◌, IsSomeAnd}
 use Rattle.std.specs.List.{list_any}
 use Rattle.std.specs.Map.{lookup}
 use Rattle.std.specs.Option.{option_map}
@@ -19,7 +19,7 @@ use Rattle.proc_table.specs.Rows.{Rows}
 use Rattle.proc_table.specs.Kept.{AtHome, Named, IsRow, put_process}
 use Rattle.proc_table.specs.Slots.{all_rows, look}
 use Rattle.proc_table.specs.Links.{Node, keys, key_of, IsNext}
-use Rattle.proc_table.specs.Lanes.{pick, parent_named, chief, lane, lanes, rows_of, IsLaced, IsHead, IsTied, next_named, unlinked}
+use Rattle.proc_table.specs.Lanes.{pick, parent_named, chief, lane, lanes, rows_of, IsLaced, IsTied, next_named, unlinked}
 use Rattle.proc_table.proofs.Every.{some_of, some_and, every_found, every_untested}
 use Rattle.proc_table.proofs.Rows.{same_number, row_found, found_row}
 use Rattle.proc_table.proofs.Finds.{equal_or_not}
@@ -34,14 +34,40 @@ this-is : (n : ℕ) (o : Option ℕ) → is_this n o ≡ true → o ≡ Some n
 this-is n None h = absurd (cc)
 this-is n (Some m) h = let same : m ≡ n = grind (arith, nat_tests, h) in ap Some same
 
-module _ (f : ℕ → Option Slot) (es : List (ℕ × ℕ)) (counts : List ℕ) (tied : IsTied f es counts) where
-  -- a number's slot has its row
-  pub head-of : (t h : ℕ) → lookup (nat_eq t) es ≡ Some h → IsHead f h t
-  head-of t h at = search (rules, row_slot)
+-- what a row is and names, by kind
+abbrev named : Kin → ProcData → ℕ × Option ℕ
+named k p = (p.pid, chief k p)
 
+pub picked : (row : ProcData) (tracer parent : Option ℕ) → tracer ≡ row.tracer → parent ≡ parent_named row.parent → (k : Kin) → pick k tracer parent ≡ chief k row
+picked row tracer parent traced parted k = ap (λ u. pick k u parent) traced ∙ ap (pick k row.tracer) parted
+
+-- a row was put in a vacant slot, in no list, and its number finds it
+pub record IsBorn (f : ℕ → Option Slot) (es : List (ℕ × ℕ)) (new : ProcData) (at : ℕ) (f1 : ℕ → Option Slot) (es' : List (ℕ × ℕ)) : Type 0 where
+  pub vacant : f at ≡ None
+  pub has : f1 at ≡ Some (unlinked new)
+  pub others : (s : ℕ) → s ≢ at → f1 s ≡ f s
+  pub change : (pid : ℕ) → lookup (nat_eq pid) es' ≡ cond (nat_eq new.pid pid) (Some at) (lookup (nat_eq pid) es)
+  pub fresh : list_any (λ p. nat_eq p.pid new.pid) (all_rows (look (rows_of f) es)) ≡ false
+  pub home : AtHome new
+
+-- a slot's row was moved to the lists of these two
+pub record IsRehung (f g : ℕ → Option Slot) (es : List (ℕ × ℕ)) (at : ℕ) (tracer parent : Option ℕ) : Type 0 where
+  pub laced : IsLaced g es
+  pub rows : (s : ℕ) → rows_of g s ≡ rows_of f s
+  pub here : (k : Kin) → keys (lanes k g) at ≡ option_map (λ (was : Slot). (was.row.pid, pick k tracer parent)) (f at)
+  pub others : (k : Kin) (s : ℕ) → s ≢ at → keys (lanes k g) s ≡ keys (lanes k f) s
+
+-- what is kept once the row with the number, of this user, is gone
+pub record IsWithout (f : ℕ → Option Slot) (es : List (ℕ × ℕ)) (counts : List ℕ) (pid uid : ℕ) (g : ℕ → Option Slot) (es' : List (ℕ × ℕ)) : Type 0 where
+  pub user : IsUser uid
+  pub some : 0 < get_or counts (slot uid) 0
+  pub tied : IsTied g es' (set counts (slot uid) (get_or counts (slot uid) 0 - 1))
+  pub rows : all_rows (look (rows_of g) es') ≡ filter (λ p. not (nat_eq p.pid pid)) (all_rows (look (rows_of f) es))
+
+module _ {f : ℕ → Option Slot} {es : List (ℕ × ℕ)} {counts : List ℕ} (tied : IsTied f es counts) where
   -- a row's number has a slot
   pub head-row : (t : ℕ) → list_any (λ p. nat_eq p.pid t) (all_rows (look (rows_of f) es)) ≡ true → HasHead f es t
-  head-row t any = search (rules, row_found, some_of, slot_of, is_some, find-all_rows, finds, head-of)
+  head-row t any = search (rules, row_found, some_of, slot_of, is_some, find-all_rows, finds, row_slot)
 
   -- and a number that no row has has none
   pub no-slot : (t : ℕ) → list_any (λ p. nat_eq p.pid t) (all_rows (look (rows_of f) es)) ≡ false → lookup (nat_eq t) es ≡ None
@@ -70,12 +96,12 @@ module _ (f : ℕ → Option Slot) (es : List (ℕ × ℕ)) (counts : List ℕ) 
       let its = sym (find-all_rows _ (finds (rows_of f) es counts tied.slotted) r.pid) ∙ there in
       let at = some_of _ (slot_of (rows_of f) es r.pid (ap is_some its)) in
       let row = sym (look-slot (rows_of f) es r.pid at.0 at.1) ∙ its in
-      (at.0, tied.chiefs kin at.0 ∙ (ap (option_map (λ (p : ProcData). (p.pid, chief kin p))) row ∙ ap (λ u. Some (r.pid, u)) names))
+      (at.0, tied.chiefs kin at.0 ∙ (ap (option_map (named kin)) row ∙ ap (λ u. Some (r.pid, u)) names))
 
   chief-of : (kin : Kin) (s : ℕ) (slot : Slot) (t : ℕ) → f s ≡ Some slot → (lane kin slot).chief ≡ Some t → chief kin slot.row ≡ Some t
   chief-of kin s slot t is names =
       let key : ◌≡◌ {A = Option (ℕ × Option ℕ)} (Some (slot.row.pid, (lane kin slot).chief)) (Some (slot.row.pid, chief kin slot.row)) =
-      sym (ap (option_map key_of) (ap (option_map (lane kin)) is)) ∙ (tied.chiefs kin s ∙ ap (option_map (λ (p : ProcData). (p.pid, chief kin p))) (ap (option_map (λ (x : Slot). x.row)) is)) in
+      sym (ap (option_map key_of) (ap (option_map (lane kin)) is)) ∙ (tied.chiefs kin s ∙ ap (option_map (named kin)) (ap (option_map (λ (x : Slot). x.row)) is)) in
       sym (ap (λ (p : ℕ × Option ℕ). p.1) (same_Some _ _ key)) ∙ names
 
   -- what the links find is what the list of rows has
@@ -117,49 +143,46 @@ module _ (f : ℕ → Option Slot) (es : List (ℕ × ℕ)) (counts : List ℕ) 
   nobody-key kin t none s p there = search (rules, key_node, slot_at, nobody-names)
 
   -- a row more: its slot is taken, and then linked
-  module _ (f1 g : ℕ → Option Slot) (es' : List (ℕ × ℕ)) (at : ℕ) (new : ProcData) (vacant : f at ≡ None) (has : f1 at ≡ Some (unlinked new)) (others : (s : ℕ) → s ≢ at → f1 s ≡ f s)
-      (change : (pid : ℕ) → lookup (nat_eq pid) es' ≡ cond (nat_eq new.pid pid) (Some at) (lookup (nat_eq pid) es))
-      (fresh : list_any (λ p. nat_eq p.pid new.pid) (all_rows (look (rows_of f) es)) ≡ false) (home : AtHome new) where
+  module _ {f1 : ℕ → Option Slot} {es' : List (ℕ × ℕ)} {at : ℕ} {new : ProcData} (born : IsBorn f es new at f1 es') where
     pub added-laced : IsLaced f1 es'
-    added-laced = laced-born f f1 es es' at tied.laced others (unlinked new) vacant has (each_kin (λ k. (lane k (unlinked new)).chief ≡ None) Tracees refl refl) (each_kin (λ k. (lane k (unlinked new)).first ≡ None) Tracees refl refl)
-        (omega (arith, home.block.0)) (no-slot new.pid fresh) change
+    added-laced = laced-born f f1 es es' at tied.laced born.others (unlinked new) born.vacant born.has (each_kin (λ k. (lane k (unlinked new)).chief ≡ None) Tracees refl refl)
+        (each_kin (λ k. (lane k (unlinked new)).first ≡ None) Tracees refl refl) (omega (arith, born.home.block.0)) (no-slot new.pid born.fresh) born.change
 
     pub added-head : (t : ℕ) → HasHead f es t → HasHead f1 es' t
     added-head t head =
         let was = some_and (λ (slot : Slot). slot.row.pid ≡ t) (f head.0) head.2 in
-        let none = no-slot new.pid fresh in
+        let none = no-slot new.pid born.fresh in
         let kept : lookup (nat_eq t) es' ≡ Some head.0 = elim (equal_or_not new.pid t) [
           | inl same ↦ absurd (cc (none, head.1, ap (λ p. lookup (nat_eq p) es) same.1))
-          | inr apart ↦ rw apart.0 at (change t) ∙ head.1
+          | inr apart ↦ rw apart.0 at (born.change t) ∙ head.1
         ] in
-        (head.0, kept, head-apart f f1 es es' at tied.laced others head.0 t (λ here. cc (vacant, ap f here, was.1)) head.2)
+        (head.0, kept, head-apart f f1 es es' at tied.laced born.others head.0 t (λ here. cc (born.vacant, ap f here, was.1)) head.2)
 
-    pub added : (tracer parent : Option ℕ) → tracer ≡ new.tracer → parent ≡ parent_named new.parent → IsLaced g es' → ((s : ℕ) → rows_of g s ≡ rows_of f1 s)
-        → ((k : Kin) → keys (lanes k g) at ≡ option_map (λ (was : Slot). (was.row.pid, pick k tracer parent)) (f1 at)) → ((k : Kin) (s : ℕ) → s ≢ at → keys (lanes k g) s ≡ keys (lanes k f1) s) → length counts ≡ 64
+    pub added : {g : ℕ → Option Slot} {tracer parent : Option ℕ} → IsRehung f1 g es' at tracer parent → tracer ≡ new.tracer → parent ≡ parent_named new.parent → length counts ≡ 64
         → IsTied g es' (set counts (slot new.uid) (get_or counts (slot new.uid) 0 + 1)) × (all_rows (look (rows_of g) es') ≡ placed new (all_rows (look (rows_of f) es)))
-    added tracer parent traced parted laced rows here elsewhere long =
-        let row_at : rows_of g at ≡ Some new = rows at ∙ ap (option_map (λ (x : Slot). x.row)) has in
-        let row_off : (s : ℕ) → s ≢ at → rows_of g s ≡ rows_of f s = λ s apart. rows s ∙ ap (option_map (λ (x : Slot). x.row)) (others s apart) in
-        let all = IsSlotted-added (rows_of f) es counts tied.slotted (rows_of g) es' at row_off new (ap (option_map (λ (x : Slot). x.row)) vacant) row_at change fresh home long in (
+    added {g} {tracer} {parent} rehung traced parted long =
+        let row_at : rows_of g at ≡ Some new = rehung.rows at ∙ ap (option_map (λ (x : Slot). x.row)) born.has in
+        let row_off : (s : ℕ) → s ≢ at → rows_of g s ≡ rows_of f s = λ s apart. rehung.rows s ∙ ap (option_map (λ (x : Slot). x.row)) (born.others s apart) in
+        let all = IsSlotted-added (rows_of f) es counts tied.slotted (rows_of g) es' at row_off new (ap (option_map (λ (x : Slot). x.row)) born.vacant) row_at born.change born.fresh born.home long in (
           record {
             slotted = all.0;
-            laced = laced;
+            laced = rehung.laced;
             chiefs = λ k s. elim (cases_eq s at) [
-              | inl same ↦ rw same (here k ∙ (ap (option_map (λ (was : Slot). (was.row.pid, pick k tracer parent))) has ∙ (ap (λ u. Some (new.pid, pick k u parent)) traced ∙ ap (λ u. Some (new.pid, pick k new.tracer u)) parted))
-                  ∙ sym (ap (option_map (λ (p : ProcData). (p.pid, chief k p))) row_at))
-              | inr apart ↦ elsewhere k s apart ∙ (ap (option_map key_of) (ap (option_map (lane k)) (others s apart)) ∙ (tied.chiefs k s ∙ sym (ap (option_map (λ (p : ProcData). (p.pid, chief k p))) (row_off s apart))))
+              | inl same ↦
+                  rw same (rehung.here k ∙ ap (option_map (λ (was : Slot). (was.row.pid, pick k tracer parent))) born.has ∙ ap (λ u. Some (new.pid, u)) (picked new tracer parent traced parted k) ∙ sym (ap (option_map (named k)) row_at))
+              | inr apart ↦ rehung.others k s apart ∙ ap (λ o. option_map key_of (option_map (lane k) o)) (born.others s apart) ∙ tied.chiefs k s ∙ sym (ap (option_map (named k)) (row_off s apart))
             ];
           },
           all.1,
         )
 
   -- another row in a number's slot, which was linked anew
-  module _ (f1 g : ℕ → Option Slot) (at : ℕ) (new : ProcData) (mid : Slot) (has1 : f1 at ≡ Some mid) (has : g at ≡ Some (record mid { row = new })) (others : (s : ℕ) → s ≢ at → g s ≡ f1 s)
-      (number : lookup (nat_eq new.pid) es ≡ Some at) (rows : (s : ℕ) → rows_of f1 s ≡ rows_of f s) where
+  module _ {f1 g : ℕ → Option Slot} {at : ℕ} {new : ProcData} {mid : Slot} {tracer parent : Option ℕ} (rehung : IsRehung f f1 es at tracer parent) (traced : tracer ≡ new.tracer) (parted : parent ≡ parent_named new.parent)
+      (has1 : f1 at ≡ Some mid) (has : g at ≡ Some (record mid { row = new })) (others : (s : ℕ) → s ≢ at → g s ≡ f1 s) (number : lookup (nat_eq new.pid) es ≡ Some at) where
     same_pid : mid.row.pid ≡ new.pid
     same_pid =
-        let named = tied.slotted.stored.named new.pid at number in
-        ap (λ (p : ProcData). p.pid) (same_Some mid.row named.0 (sym (ap (option_map (λ (x : Slot). x.row)) has1) ∙ (rows at ∙ named.1))) ∙ named.2
+        let own = tied.slotted.stored.named new.pid at number in
+        ap (λ (p : ProcData). p.pid) (same_Some mid.row own.0 (sym (ap (option_map (λ (x : Slot). x.row)) has1) ∙ rehung.rows at ∙ own.1)) ∙ own.2
 
     set-lane : (k : Kin) → lane k (record mid { row = new }) ≡ lane k mid
     set-lane Tracees = λ i. record { pid = (sym same_pid) i; chief = mid.tracees.chief; first = mid.tracees.first; next = mid.tracees.next }
@@ -167,73 +190,64 @@ module _ (f : ℕ → Option Slot) (es : List (ℕ × ℕ)) (counts : List ℕ) 
 
     set-lanes : (k : Kin) (s : ℕ) → lanes k g s ≡ lanes k f1 s
     set-lanes k s = elim (cases_eq s at) [
-      | inl same ↦ rw same (ap (option_map (lane k)) has ∙ (ap Some (set-lane k) ∙ sym (ap (option_map (lane k)) has1)))
+      | inl same ↦ rw same (ap (option_map (lane k)) has ∙ ap Some (set-lane k) ∙ sym (ap (option_map (lane k)) has1))
       | inr apart ↦ ap (option_map (lane k)) (others s apart)
     ]
 
-    pub written : (tracer parent : Option ℕ) → tracer ≡ new.tracer → parent ≡ parent_named new.parent → IsLaced f1 es
-        → ((k : Kin) → keys (lanes k f1) at ≡ option_map (λ (was : Slot). (was.row.pid, pick k tracer parent)) (f at)) → ((k : Kin) (s : ℕ) → s ≢ at → keys (lanes k f1) s ≡ keys (lanes k f) s)
-        → (before : ProcData) → process_of new.pid (all_rows (look (rows_of f) es)) ≡ Some before → before.uid ≡ new.uid
-        → IsTied g es counts × (all_rows (look (rows_of g) es) ≡ map (put_process new) (all_rows (look (rows_of f) es)))
-    written tracer parent traced parted laced here elsewhere before there uids =
+    pub written : IsSomeAnd (process_of new.pid (all_rows (look (rows_of f) es))) (λ was. was.uid ≡ new.uid) → IsTied g es counts × (all_rows (look (rows_of g) es) ≡ map (put_process new) (all_rows (look (rows_of f) es)))
+    written there =
+        let before = some_and _ _ there in
         let row_at : rows_of g at ≡ Some new = ap (option_map (λ (x : Slot). x.row)) has in
-        let row_off : (s : ℕ) → s ≢ at → rows_of g s ≡ rows_of f s = λ s apart. ap (option_map (λ (x : Slot). x.row)) (others s apart) ∙ rows s in
-        let all = IsSlotted-set (rows_of f) es counts tied.slotted (rows_of g) es at row_off new row_at number refl before there uids in
-        let was = row_slot f at mid.row (sym (rows at) ∙ ap (option_map (λ (x : Slot). x.row)) has1) in
+        let row_off : (s : ℕ) → s ≢ at → rows_of g s ≡ rows_of f s = λ s apart. ap (option_map (λ (x : Slot). x.row)) (others s apart) ∙ rehung.rows s in
+        let all = IsSlotted-set (rows_of f) es counts tied.slotted (rows_of g) es at row_off new row_at number refl before.0 before.1 before.2 in
+        let was = row_slot f at mid.row (sym (rehung.rows at) ∙ ap (option_map (λ (x : Slot). x.row)) has1) in
         let pid : was.0.row.pid ≡ new.pid = ap (λ (p : ProcData). p.pid) was.2 ∙ same_pid in (
           record {
             slotted = all.0;
-            laced = laced-same f1 g es set-lanes laced;
+            laced = laced-same f1 g es set-lanes rehung.laced;
             chiefs = λ k s. ap (option_map key_of) (set-lanes k s) ∙ elim (cases_eq s at) [
-              | inl same ↦ rw same (here k ∙ (ap (option_map (λ (was : Slot). (was.row.pid, pick k tracer parent))) was.1
-                  ∙ (ap (λ n. Some (n, pick k tracer parent)) pid ∙ (ap (λ u. Some (new.pid, pick k u parent)) traced ∙ ap (λ u. Some (new.pid, pick k new.tracer u)) parted)))
-                  ∙ sym (ap (option_map (λ (p : ProcData). (p.pid, chief k p))) row_at))
-              | inr apart ↦ elsewhere k s apart ∙ (tied.chiefs k s ∙ sym (ap (option_map (λ (p : ProcData). (p.pid, chief k p))) (row_off s apart)))
+              | inl same ↦ rw same (rehung.here k ∙ ap (option_map (λ (was : Slot). (was.row.pid, pick k tracer parent))) was.1 ∙ ap (λ n. Some (n, pick k tracer parent)) pid ∙ ap (λ u. Some (new.pid, u)) (picked new tracer parent traced parted k)
+                  ∙ sym (ap (option_map (named k)) row_at))
+              | inr apart ↦ rehung.others k s apart ∙ tied.chiefs k s ∙ sym (ap (option_map (named k)) (row_off s apart))
             ];
           },
           all.1,
         )
 
   -- one row less, which was taken out of its lists and whose number no row names
-  module _ (f1 g : ℕ → Option Slot) (es' : List (ℕ × ℕ)) (at pid : ℕ) (mid : Slot) (has1 : f1 at ≡ Some mid) (gone : g at ≡ None) (others : (s : ℕ) → s ≢ at → g s ≡ f1 s)
-      (number : lookup (nat_eq pid) es ≡ Some at) (change : (n : ℕ) → lookup (nat_eq n) es' ≡ cond (nat_eq pid n) None (lookup (nat_eq n) es)) where
-    pub removed : IsLaced f1 es → ((s : ℕ) → rows_of f1 s ≡ rows_of f s) → ((k : Kin) → keys (lanes k f1) at ≡ option_map (λ (was : Slot). (was.row.pid, pick k None None)) (f at))
-        → ((k : Kin) (s : ℕ) → s ≢ at → keys (lanes k f1) s ≡ keys (lanes k f) s) → ((k : Kin) → next_named k pid 0 (all_rows (look (rows_of f) es)) ≡ None) → length counts ≡ 64
-        → IsUser mid.row.uid × (0 < get_or counts (slot mid.row.uid) 0) × IsTied g es' (set counts (slot mid.row.uid) (get_or counts (slot mid.row.uid) 0 - 1))
-        × (all_rows (look (rows_of g) es') ≡ filter (λ p. not (nat_eq p.pid pid)) (all_rows (look (rows_of f) es)))
-    removed laced rows here elsewhere unnamed long =
-        let row_off : (s : ℕ) → s ≢ at → rows_of g s ≡ rows_of f s = λ s apart. ap (option_map (λ (x : Slot). x.row)) (others s apart) ∙ rows s in
-        let row_was : rows_of f at ≡ Some mid.row = sym (rows at) ∙ ap (option_map (λ (x : Slot). x.row)) has1 in
-        let all = IsSlotted-removed (rows_of f) es counts tied.slotted (rows_of g) es' at row_off pid mid.row row_was number change long in
-        let was = row_slot f at mid.row row_was in
-        let named = tied.slotted.stored.named pid at number in
-        let its : mid.row.pid ≡ pid = ap (λ (p : ProcData). p.pid) (same_Some mid.row named.0 (sym row_was ∙ named.1)) ∙ named.2 in
-        let free : (k : Kin) → (lane k mid).chief ≡ None = λ k. (
-        let key : ◌≡◌ {A = Option (ℕ × Option ℕ)} (Some (mid.row.pid, (lane k mid).chief)) (Some (was.0.row.pid, pick k None None)) =
-        sym (ap (option_map key_of) (ap (option_map (lane k)) has1)) ∙ (here k ∙ ap (option_map (λ (x : Slot). (x.row.pid, pick k None None))) was.1) in
-        ap (λ (p : ℕ × Option ℕ). p.1) (same_Some _ _ key) ∙ each_kin (λ k. pick k None None ≡ None) Tracees refl refl k) in
-        let unnamed1 : (k : Kin) (s : ℕ) (x : Slot) → f1 s ≡ Some x → (lane k x).chief ≢ Some mid.row.pid = λ k s x is names. elim (cases_eq s at) [
-          | inl same ↦
-              let own = same_Some mid x (sym has1 ∙ ap f1 (sym same) ∙ is) in
-              let none = free k in
-              cc (none, ap (λ (y : Slot). (lane k y).chief) own ∙ names)
-          | inr apart ↦
-              let key : ◌≡◌ {A = Option (ℕ × Option ℕ)} (keys (lanes k f) s) (Some (x.row.pid, Some pid)) =
-              sym (elsewhere k s apart) ∙ (ap (option_map key_of) (ap (option_map (lane k)) is) ∙ ap (λ u. Some (x.row.pid, u)) (names ∙ ap Some its)) in
-              nobody-key k pid (unnamed k) s x.row.pid key
-        ] in (
-          all.0,
-          all.1,
-          record {
-            slotted = all.2;
-            laced = laced-gone f1 g es es' at laced others mid has1 gone free unnamed1 (λ n. rw its (change n));
-            chiefs = λ k s. elim (cases_eq s at) [
-              | inl same ↦ rw same (ap (option_map key_of) (ap (option_map (lane k)) gone) ∙ sym (ap (option_map (λ (p : ProcData). (p.pid, chief k p))) (ap (option_map (λ (x : Slot). x.row)) gone)))
-              | inr apart ↦ ap (option_map key_of) (ap (option_map (lane k)) (others s apart)) ∙ (elsewhere k s apart ∙ (tied.chiefs k s ∙ sym (ap (option_map (λ (p : ProcData). (p.pid, chief k p))) (row_off s apart))))
-            ];
-          },
-          all.3,
-        )
+  pub removed : {f1 g : ℕ → Option Slot} {es' : List (ℕ × ℕ)} {at : ℕ} {mid : Slot} (pid : ℕ) → IsRehung f f1 es at None None → f1 at ≡ Some mid → g at ≡ None → ((s : ℕ) → s ≢ at → g s ≡ f1 s) → lookup (nat_eq pid) es ≡ Some at
+      → ((n : ℕ) → lookup (nat_eq n) es' ≡ cond (nat_eq pid n) None (lookup (nat_eq n) es)) → ((k : Kin) → next_named k pid 0 (all_rows (look (rows_of f) es)) ≡ None) → length counts ≡ 64
+      → IsWithout f es counts pid mid.row.uid g es'
+  removed {f1} {g} {es'} {at} {mid} pid rehung has1 gone others number change unnamed long =
+      let row_off : (s : ℕ) → s ≢ at → rows_of g s ≡ rows_of f s = λ s apart. ap (option_map (λ (x : Slot). x.row)) (others s apart) ∙ rehung.rows s in
+      let row_was : rows_of f at ≡ Some mid.row = sym (rehung.rows at) ∙ ap (option_map (λ (x : Slot). x.row)) has1 in
+      let all = IsSlotted-removed (rows_of f) es counts tied.slotted (rows_of g) es' at row_off pid mid.row row_was number change long in
+      let was = row_slot f at mid.row row_was in
+      let own = tied.slotted.stored.named pid at number in
+      let its : mid.row.pid ≡ pid = ap (λ (p : ProcData). p.pid) (same_Some mid.row own.0 (sym row_was ∙ own.1)) ∙ own.2 in
+      let free : (k : Kin) → (lane k mid).chief ≡ None = λ k. (
+      let key : ◌≡◌ {A = Option (ℕ × Option ℕ)} (Some (mid.row.pid, (lane k mid).chief)) (Some (was.0.row.pid, pick k None None)) =
+      sym (ap (λ o. option_map key_of (option_map (lane k) o)) has1) ∙ rehung.here k ∙ ap (option_map (λ (x : Slot). (x.row.pid, pick k None None))) was.1 in
+      ap (λ (p : ℕ × Option ℕ). p.1) (same_Some _ _ key) ∙ each_kin (λ k. pick k None None ≡ None) Tracees refl refl k) in
+      let unnamed1 : (k : Kin) (s : ℕ) (x : Slot) → f1 s ≡ Some x → (lane k x).chief ≢ Some mid.row.pid = λ k s x is names. elim (cases_eq s at) [
+        | inl same ↦ let none = free k in cc (none, ap (λ (y : Slot). (lane k y).chief) (same_Some mid x (sym has1 ∙ ap f1 (sym same) ∙ is)) ∙ names)
+        | inr apart ↦
+            let key : ◌≡◌ {A = Option (ℕ × Option ℕ)} (keys (lanes k f) s) (Some (x.row.pid, Some pid)) =
+            sym (rehung.others k s apart) ∙ ap (λ o. option_map key_of (option_map (lane k) o)) is ∙ ap (λ u. Some (x.row.pid, u)) (names ∙ ap Some its) in
+            nobody-key k pid (unnamed k) s x.row.pid key
+      ] in record {
+        user = all.0;
+        some = all.1;
+        tied = record {
+          slotted = all.2;
+          laced = laced-gone f1 g es es' at rehung.laced others mid has1 gone free unnamed1 (λ n. rw its (change n));
+          chiefs = λ k s. elim (cases_eq s at) [
+            | inl same ↦ rw (same, gone) refl
+            | inr apart ↦ ap (λ o. option_map key_of (option_map (lane k) o)) (others s apart) ∙ rehung.others k s apart ∙ tied.chiefs k s ∙ sym (ap (option_map (named k)) (row_off s apart))
+          ];
+        };
+        rows = all.3;
+      }
 
 -- no slot
 pub tied-none : (f : ℕ → Option Slot) (es : List (ℕ × ℕ)) → ((s : ℕ) → f s ≡ None) → es ≡ [] → IsTied f es (replicate 64 0) × (all_rows (look (rows_of f) es) ≡ [])
@@ -242,7 +256,7 @@ tied-none f es vacant none =
       record {
         slotted = all.0;
         laced = laced-none f es vacant;
-        chiefs = λ k s. ap (option_map key_of) (ap (option_map (lane k)) (vacant s)) ∙ sym (ap (option_map (λ (p : ProcData). (p.pid, chief k p))) (ap (option_map (λ (x : Slot). x.row)) (vacant s)));
+        chiefs = λ k s. rw (vacant s) refl;
       },
       all.1,
     )
@@ -252,6 +266,6 @@ pub named-chiefs : (rows : Rows) (p : ProcData) → Named rows p → (k : Kin) (
 named-chiefs rows p named = search (rules, each_kin, equal_or_not)
 
 -- who has this parent names it, but for the number 1
-pub children-named : (n after : ℕ) → n ≢ 1 → (ps : List ProcData) → next_named Children n after ps ≡ next_child n after ps
-children-named n after apart [] = refl
-children-named n after apart (p ∷ ps) = search (rules, children-named n after apart ps, equal_or_not, nat_tests, cases_Bool)
+pub children_named : (n after : ℕ) → n ≢ 1 → (ps : List ProcData) → next_named Children n after ps ≡ next_child n after ps
+children_named n after apart [] = refl
+children_named n after apart (p ∷ ps) = search (rules, children_named n after apart ps, equal_or_not, nat_tests, cases_Bool)

@@ -4,6 +4,7 @@ ghost use Rattle.proc_table.specs.Laws.{NextOfLeast, NextTraceeLeast, NextChildL
 
 /// A walk over processes in rising order gives the one with the least number above the given one
 /// that passes the walk's test, and none where none passes.
+#[tactic(auto, using(crate::proofs::Least::least_laws))]
 pub fn walks_give_the_least()
     ensures users { NextOfLeast }
     ensures tracees { NextTraceeLeast }
@@ -11,6 +12,7 @@ pub fn walks_give_the_least()
 {}
 
 /// A user's walk, look-ups, counts and new numbers are the same where nobody else has rows.
+#[tactic(auto, using(crate::proofs::OwnRows::own_laws))]
 pub fn a_user_sees_own_rows()
     ensures walks { NextSeesOwn }
     ensures processes { ProcessSeesOwn }

@@ -88,6 +88,7 @@ fn with_links(kin: Kin, links: Links, slot: &Slot) -> Slot
 }
 
 /// Writes the links of one kind.
+#[tactic(auto, using(crate::proofs::Lanes::put_laws))]
 fn set_links(nodes: &mut Slab<Slot>, kin: Kin, at: usize, links: Links)
     requires { ContainsKey nodes.old at }
     ensures here { (slot : Slot) → get nodes.old at ≡ Some slot → get nodes.new at ≡ Some (put_links kin links slot) }

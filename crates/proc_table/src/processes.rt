@@ -110,6 +110,7 @@ impl Processes {
 
     /// The row with this number.
     #[inline(always)]
+    #[tactic(auto, using(crate::proofs::Slots::find_laws))]
     pub fn find(&self, number: u32) -> Option<&ProcData>
         ensures { option_copied result ≡ process_of number self.now.rows }
     {
@@ -132,6 +133,7 @@ impl Processes {
     }
 
     /// Whether a row has this number.
+    #[tactic(auto, using(crate::proofs::Seen::has_row))]
     pub fn has(&self, number: u32) -> bool
         ensures { result ≡ list_any (λ p. p.pid == number) self.now.rows }
     {
@@ -155,6 +157,7 @@ impl Processes {
     }
 
     /// The first row above a number whose parent is this process.
+    #[tactic(auto, using(crate::proofs::Tied::children_named))]
     pub fn next_child(&self, pid: Pid, after: u32) -> Option<ProcData>
         ensures { result ≡ next_child pid after self.now.rows }
     {

@@ -162,6 +162,7 @@ impl Tables {
     }
 
     /// Whether the user has the process.
+    #[tactic(auto, using(crate::proofs::Seen::owner_laws))]
     fn owns(&self, uid: Uid, pid: Pid) -> bool
         ensures { result ≡ owns uid pid self.now.rows.processes }
     {
@@ -169,6 +170,7 @@ impl Tables {
     }
 
     /// The LWP with this number, of a process of the user.
+    #[tactic(auto, using(crate::proofs::Seen::home_laws))]
     pub fn seen_lwp(&self, uid: Uid, number: u32) -> Option<LwpData>
         ensures row { result ≡ seen_lwp uid number self.now.rows }
         ensures kept { IsKept self.now.rows }
@@ -190,6 +192,7 @@ impl Tables {
     }
 
     /// The process of the user's LWP with this number.
+    #[tactic(auto, using(crate::proofs::Seen::home_laws))]
     fn seen_lwp_pid(&self, uid: Uid, number: u32) -> Option<Pid>
         ensures { result ≡ option_map (λ l. l.pid) (seen_lwp uid number self.now.rows) }
     {
@@ -280,6 +283,7 @@ impl Tables {
     }
 
     /// The process of the LWP with this number.
+    #[tactic(auto, using(crate::proofs::Seen::home_laws))]
     fn lwp_process(&self, number: u32) -> Option<Pid>
         ensures process { result ≡ option_map (λ l. l.pid) (lwp_of number self.now.rows.lwps) }
         ensures kept { IsKept self.now.rows }
@@ -297,6 +301,7 @@ impl Tables {
     }
 
     /// Whether an LWP has the number.
+    #[tactic(auto, using(crate::proofs::Seen::has_laws))]
     fn is_lwp(&self, number: u32) -> bool
         ensures { result ≡ is_lwp self.now.rows number }
     {
@@ -370,6 +375,7 @@ impl Tables {
     }
 
     /// Puts a row in the place of the one with its number, which is of the same process.
+    #[tactic(auto, using(crate::proofs::KeepsLwps::keeps_set_lwp))]
     pub fn set_lwp(&mut self, row: LwpData)
         requires { IsSomeAnd (lwp_of row.tid self.old.rows.lwps) (λ was. was.pid ≡ row.pid) }
         ensures rows { self.new.rows ≡ set_lwp row self.old.rows }

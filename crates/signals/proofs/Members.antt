@@ -1,5 +1,5 @@
 -- The members of sets of signals.
-use Rattle.std.proofs.Common.{◌≡◌, ℕ, zero, suc, ◌+◌, ◌-◌, ◌%◌, max, ◌<◌, ◌≤◌, Bool, true, false, arith, inl, inr, ◌⊎◌, bit_or, rules}
+use Rattle.std.proofs.Common.{◌≡◌, ℕ, zero, suc, ◌+◌, ◌-◌, ◌%◌, max, ◌<◌, ◌≤◌, Bool, true, false, arith, inl, inr, bit_or, rules}
 use Rattle.std.specs.Prelude.{◌==◌, not, ◌&&◌, ◌||◌, find, IfSome, IfNone, Option, Some, None}
 use Rattle.std.specs.Int.{bit_at}
 use Rattle.std.specs.List.{range_with_len}
@@ -38,45 +38,31 @@ pub record IsFound (p : ℕ → Bool) (from end n : ℕ) : Type 0 where
   pub passes : p n ≡ true
   pub least : (m : ℕ) → from ≤ m → m < end → p m ≡ true → n ≤ m
 
-found_wider : (p : ℕ → Bool) (from left : ℕ) (o : Option ℕ) → p from ≡ false → IfSome o (IsFound p (from + 1) (from + 1 + left)) → IfSome o (IsFound p from (from + suc left))
-found_wider p from left None e h = h
-found_wider p from left (Some n) e h = search (rules, cases_lt)
+-- or it finds nothing, and none passes
+abbrev pub IsOutcome : (ℕ → Bool) → ℕ → ℕ → Option ℕ → Type 0
+IsOutcome p from end None = (m : ℕ) → from ≤ m → m < end → p m ≡ false
+IsOutcome p from end (Some n) = IsFound p from end n
 
--- the cases of the first number
-found_by : (p : ℕ → Bool) (from left : ℕ) → IfSome (find p (range_with_len (from + 1) left)) (IsFound p (from + 1) (from + 1 + left))
-    → (p from ≡ true) ⊎ (p from ≡ false) → IfSome (find p (range_with_len from (suc left))) (IsFound p from (from + suc left))
-found_by p from left rest (inl e) = rw e record { above = omega arith; below = omega arith; passes = e; least = λ m low high pass. low }
-found_by p from left rest (inr e) = rw e (found_wider p from left (find p (range_with_len (from + 1) left)) e rest)
+wider : (p : ℕ → Bool) (from left : ℕ) (o : Option ℕ) → p from ≡ false → IsOutcome p (from + 1) (from + 1 + left) o → IsOutcome p from (from + suc left) o
+wider p from left None e h = search (rules, cases_lt)
+wider p from left (Some n) e h = search (rules, cases_lt)
 
-pub found : (p : ℕ → Bool) (from left : ℕ) → IfSome (find p (range_with_len from left)) (IsFound p from (from + left))
-found p from zero = tt
-found p from (suc left) = found_by p from left (found p (from + 1) left) (cases_Bool (p from))
-
--- where a search finds nothing no number passes
-none_wider : (p : ℕ → Bool) (from left : ℕ) (o : Option ℕ) → p from ≡ false → IfNone o ((m : ℕ) → from + 1 ≤ m → m < from + 1 + left → p m ≡ false) → IfNone o ((m : ℕ) → from ≤ m → m < from + suc left → p m ≡ false)
-none_wider p from left (Some n) e h = h
-none_wider p from left None e h = search (rules, cases_lt)
-
-none_by : (p : ℕ → Bool) (from left : ℕ) → IfNone (find p (range_with_len (from + 1) left)) ((m : ℕ) → from + 1 ≤ m → m < from + 1 + left → p m ≡ false)
-    → (p from ≡ true) ⊎ (p from ≡ false) → IfNone (find p (range_with_len from (suc left))) ((m : ℕ) → from ≤ m → m < from + suc left → p m ≡ false)
-none_by p from left rest (inl e) = rw e tt
-none_by p from left rest (inr e) = rw e (none_wider p from left (find p (range_with_len (from + 1) left)) e rest)
-
-pub none_found : (p : ℕ → Bool) (from left : ℕ) → IfNone (find p (range_with_len from left)) ((m : ℕ) → from ≤ m → m < from + left → p m ≡ false)
-none_found p from zero = λ m low high. absurd (omega arith)
-none_found p from (suc left) = none_by p from left (none_found p (from + 1) left) (cases_Bool (p from))
+pub outcome : (p : ℕ → Bool) (from left : ℕ) → IsOutcome p from (from + left) (find p (range_with_len from left))
+outcome p from zero = λ m low high. absurd (omega arith)
+outcome p from (suc left) = elim (cases_Bool (p from)) [
+  | inl e ↦ rw e record { above = omega arith; below = omega arith; passes = e; least = λ m low high pass. low }
+  | inr e ↦ rw e (wider p from left (find p (range_with_len (from + 1) left)) e (outcome p (from + 1) left))
+]
 
 -- the lowest signal of a set
-lowest_of : (set : ℕ) (o : Option ℕ) → IfSome o (IsFound (has set) 1 32) → IfSome o (IsLowest set)
-lowest_of set None h = h
-lowest_of set (Some n) h = record { signal = (h.above, (let below = h.below in omega arith)); member = h.passes; least = λ m is there. h.least m is.0 (let high = is.1 in omega arith) there }
+lowest_of : (set : ℕ) (o : Option ℕ) → IsOutcome (has set) 1 32 o → IfSome o (IsLowest set) × IfNone o ((m : ℕ) → IsSignal m → has set m ≡ false)
+lowest_of set None h = (tt, λ m is. h m is.0 (let high = is.1 in omega arith))
+lowest_of set (Some n) h = (record { signal = (h.above, (let below = h.below in omega arith)); member = h.passes; least = λ m is there. h.least m is.0 (let high = is.1 in omega arith) there }, tt)
 
 pub lowest-some : (set : ℕ) → IfSome (lowest set) (IsLowest set)
-lowest-some set = lowest_of set (lowest set) (found (has set) 1 31)
-
-none_of : (set : ℕ) (o : Option ℕ) → IfNone o ((m : ℕ) → 1 ≤ m → m < 32 → has set m ≡ false) → IfNone o ((m : ℕ) → IsSignal m → has set m ≡ false)
-none_of set (Some n) h = h
-none_of set None h = λ m is. h m is.0 (let high = is.1 in omega arith)
+lowest-some set = (lowest_of set (lowest set) (outcome (has set) 1 31)).0
 
 pub lowest-none : (set : ℕ) → IfNone (lowest set) ((m : ℕ) → IsSignal m → has set m ≡ false)
-lowest-none set = none_of set (lowest set) (none_found (has set) 1 31)
+lowest-none set = (lowest_of set (lowest set) (outcome (has set) 1 31)).1
+
+pub ruleset lowest_laws = (lowest-some, lowest-none)

@@ -42,3 +42,5 @@ members-first set n first = by_lowest (rw first at (lowest-some set))
 pub members-none : (set : ℕ) → lowest set ≡ None → members set ≡ []
 unfolding members
 members-none set none = let gone = rw none at (lowest-none set) in filter-none (has set) 1 31 (λ m low high. gone m (low, omega arith))
+
+pub ruleset members_laws = (members-first, members-none)

@@ -21,6 +21,7 @@ pub fn sets_are_of_signals()
 {}
 
 /// The lowest signal of a set is its least member; only an empty set has none.
+#[tactic(auto, using(crate::proofs::Members::lowest_laws))]
 pub fn lowest_is_least(set: SigSet)
     ensures some { IfSome (lowest set) (IsLowest set) }
     ensures none { IfNone (lowest set) ((n : ℕ) → IsSignal n → has set n ≡ false) }

@@ -24,6 +24,7 @@ impl Iterator for Signals {
 
     ghost remaining = { item_count (λ signals. signals) };
 
+    #[tactic(auto, using(crate::proofs::Rest::members_laws))]
     fn next(&mut self) -> Option<Signal> {
         let signal = self.rest.lowest()?;
         self.rest = self.rest.without(signal);

@@ -1,5 +1,5 @@
 use Rattle.std.proofs.Common.{◌∙◌, rules}
-use Rattle.lwpinfo.proofs.WalkLemmas.{first-at, next-at, named-at, owned-at, front_more, front_whole}
+use Rattle.lwpinfo.proofs.WalkLemmas.{first-at, named-at, owned-at, next-at, front_more, front_whole}
 use Rattle.lwpinfo.proofs.requests.lwp_list.Goals.{else-loop-place-test, then-loop-place-test+in_default}
 use Rattle.lwpinfo.proofs.requests.lwp_list.Goals as goal
 

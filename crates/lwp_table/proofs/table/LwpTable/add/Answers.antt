@@ -1,37 +1,37 @@
 use Rattle.std.proofs.Common.{ap, ◌∙◌, arith}
 use Rattle.slab.specs.Slab.{get as slot_get}
 use Rattle.lwp_table.specs.Lwps.{has_lwp}
-use Rattle.lwp_table.specs.Kept.{rows_of}
+use Rattle.lwp_table.specs.Kept.{ends_at}
 use Rattle.lwp_table.proofs.WordLemmas.{lwp_of-fresh}
-use Rattle.lwp_table.proofs.KeptLemmas.{own_count, all_count, added-kept, added-rows}
+use Rattle.lwp_table.proofs.KeptLemmas.{HasJoined, own_count, all_count, rows-added, IsKept-added}
+use Rattle.lwp_table.proofs.table.LwpTable.add.Goals.{After-unwrap}
 use Rattle.lwp_table.proofs.table.LwpTable.add.Goals as goal
 
 pub overflow_add-ends : goal.overflow_add-ends
-overflow_add-ends c =
-    let count = own_count (slot_get c.self.inside.rows) _ _ c.self.inside.all c.self.inside.births c.self.inside.users c.self.invariant c.get-pid.result in
-    omega (arith, count, ap (λ e. e.count) c.ends_of-own.ensures, c.requires.room, ap (λ v. v.spare) c.self.view_is)
+overflow_add-ends c = omega (arith, own_count c.self.invariant c.get-pid.result, ap (λ e. e.count) c.ends_of-own.ensures, c.requires.room, ap (λ v. v.spare) c.self.view_is)
 
 pub overflow_add-self : goal.overflow_add-self
-overflow_add-self c =
-    let count = all_count (slot_get c.self.inside.rows) _ _ c.self.inside.all c.self.inside.births c.self.inside.users c.self.invariant in
-    omega (arith, count, c.requires.room, ap (λ v. v.spare) c.self.view_is)
+overflow_add-self c = omega (arith, all_count c.self.invariant, c.requires.room, ap (λ v. v.spare) c.self.view_is)
+
+-- what the steps up to the index tell
+joins : (c : After-unwrap) → HasJoined (slot_get c.self.inside.rows) c.self.inside.slots.entries c.self.inside.heads.entries c.self.inside.all c.self.inside.births c.args.row c.insert_reserved-slot.result c.ends_of-own.result (slot_get c.set_link-2.new.slots) c.insert.new.self.entries
+joins c = record {
+  own_is = c.ends_of-own.ensures ∙ ap (ends_at c.self.inside.heads.entries) c.get-pid.ensures.number;
+  vacant = c.insert_reserved-slot.ensures.was_vacant;
+  taken = slot_get c.insert_reserved-slot.new.self;
+  put = c.insert_reserved-slot.ensures.updates.changed;
+  others = c.insert_reserved-slot.ensures.updates.others;
+  listed = slot_get c.set_link.new.slots;
+  links_own = c.set_link.ensures.linked;
+  links_all = c.set_link-2.ensures.linked;
+  change = rw c.get-tid.ensures.number at (rw c.unwrap.ensures at c.insert.ensures.updates).0;
+  fresh = lwp_of-fresh c.args.row.tid _ (ap (λ v. has_lwp c.args.row.tid v.rows) c.self.view_is ∙ c.requires.fresh);
+}
 
 pub invariant_of-self : goal.invariant_of-self
 invariant_of-self c =
-    let f = slot_get c.self.inside.rows in
-    let put = c.insert_reserved-slot.ensures in
-    let fresh = lwp_of-fresh c.args.row.tid (rows_of f c.self.inside.slots.entries c.self.inside.births) (ap (λ v. has_lwp c.args.row.tid v.rows) c.self.view_is ∙ c.requires.fresh) in
-    added-kept f _ _ c.self.inside.all c.self.inside.births c.self.inside.users c.self.invariant c.args.row c.insert_reserved-slot.result
-    (slot_get c.insert_reserved-slot.new.self) (slot_get c.set_link.new.slots) _ _ _ c.get-tid.result c.get-pid.result c.get-tid.ensures.number c.get-pid.ensures.number c.ends_of-own.result c.ends_of-own.ensures put.was_vacant put.updates.changed put.updates.others
-    c.set_link.ensures.linked c.set_link-2.ensures.linked (rw c.unwrap.ensures at c.insert.ensures.updates).0 c.or.result c.or.ensures (rw c.unwrap-2.ensures at c.insert-2.ensures.updates).0 fresh
-    c.user_place.result c.user_place.ensures.place c.user_place.ensures.below c.self.told c.or-2.result c.or-2.ensures
+    IsKept-added c.self.invariant c.args.row c.insert_reserved-slot.result c.ends_of-own.result _ _ (joins (goal.at.invariant_of-self c).After-unwrap) c.insert-2.new.self.entries c.or.result c.or-2.result c.or.ensures c.or-2.ensures
+    (rw c.get-pid.ensures.number at (rw c.unwrap-2.ensures at c.insert-2.ensures.updates).0) c.user_place.result c.user_place.ensures.place c.user_place.ensures.below c.self.told
 
 pub returns-clause-rows : goal.returns-clause-rows
-returns-clause-rows c =
-    let f = slot_get c.self.inside.rows in
-    let put = c.insert_reserved-slot.ensures in
-    let fresh = lwp_of-fresh c.args.row.tid (rows_of f c.self.inside.slots.entries c.self.inside.births) (ap (λ v. has_lwp c.args.row.tid v.rows) c.self.view_is ∙ c.requires.fresh) in
-    rw (← c.self.view_is) (added-rows f _ _ c.self.inside.all c.self.inside.births c.self.inside.users c.self.invariant c.args.row c.insert_reserved-slot.result
-    (slot_get c.insert_reserved-slot.new.self) (slot_get c.set_link.new.slots) (slot_get c.set_link-2.new.slots) c.insert.new.self.entries c.insert-2.new.self.entries c.get-tid.result c.get-pid.result c.get-tid.ensures.number c.get-pid.ensures.number c.ends_of-own.result c.ends_of-own.ensures put.was_vacant put.updates.changed put.updates.others
-    c.set_link.ensures.linked c.set_link-2.ensures.linked (rw c.unwrap.ensures at c.insert.ensures.updates).0 c.or.result c.or.ensures (rw c.unwrap-2.ensures at c.insert-2.ensures.updates).0 fresh
-    c.user_place.result c.user_place.ensures.place c.user_place.ensures.below c.self.told)
+returns-clause-rows c = rw (← c.self.view_is) (rows-added c.self.invariant c.args.row c.insert_reserved-slot.result c.ends_of-own.result _ _ (joins (goal.at.returns-clause-rows c).After-unwrap))

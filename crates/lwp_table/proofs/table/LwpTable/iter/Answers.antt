@@ -1,15 +1,7 @@
-use Rattle.std.proofs.Common.{rules}
 use Rattle.slab.specs.Slab.{get as slot_get}
 use Rattle.lwp_table.specs.Kept.{all_node}
-use Rattle.lwp_table.proofs.KeptLemmas.{differ-seen}
-use Rattle.lwp_table.proofs.WalkLemmas.{IsWalk-first, all-first}
+use Rattle.lwp_table.proofs.WalkLemmas.{IsWalk-first}
 use Rattle.lwp_table.proofs.table.LwpTable.iter.Goals as goal
 
 pub invariant_of-result : goal.invariant_of-result
 invariant_of-result c = IsWalk-first (slot_get c.self.inside.rows) c.self.inside.slots.entries c.self.inside.births all_node 0 c.self.inside.all.first c.self.inside.all.last c.self.invariant.indexed c.self.invariant.whole
-
-pub returns-clause-rows : goal.returns-clause-rows
-returns-clause-rows c = search (rules, all-first)
-
-pub returns-clause-differ : goal.returns-clause-differ
-returns-clause-differ c = search (rules, differ-seen)

@@ -1,12 +1,8 @@
 use Rattle.std.proofs.Common.{sym, ap, ◌∙◌, arith, length, refl}
-use Rattle.std.proofs.lemmas.Bool.Decides.{nat_tests}
 use Rattle.slab.specs.Slab.{get as slot_get}
 use Rattle.lwp_table.specs.Kept.{rows_from}
 use Rattle.lwp_table.proofs.WalkLemmas.{all-step}
 use Rattle.lwp_table.proofs.walks.IterIterator.next.Goals as goal
-
-pub invariant_of-self : goal.invariant_of-self
-invariant_of-self c = grind (arith, nat_tests)
 
 pub returns-clause-steps : goal.returns-clause-steps
 returns-clause-steps c =

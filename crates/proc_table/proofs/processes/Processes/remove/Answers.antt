@@ -1,10 +1,10 @@
-use Rattle.std.proofs.Common.{◌≡◌, Some, ap, ◌∙◌, is_some, arith, nat_eq}
-use Rattle.std.specs.Map.{lookup}
+use Rattle.std.proofs.Common.{ap, ◌∙◌, is_some, arith}
 use Rattle.slab.specs.Slab.{get}
 use Rattle.proc_table.specs.Processes.{process_of}
 use Rattle.proc_table.specs.Lanes.{next_named, rows_of}
 use Rattle.proc_table.proofs.Slots.{slot_there}
-use Rattle.proc_table.proofs.Tied.{removed}
+use Rattle.proc_table.proofs.Tied.{IsWithout, removed}
+use Rattle.proc_table.proofs.processes.Processes.remove.Goals.{After-slot}
 use Rattle.proc_table.proofs.processes.Processes.remove.Goals as goal
 
 pub index-slot-requires : goal.index-slot-requires
@@ -12,26 +12,17 @@ index-slot-requires c =
     let there = ap (λ v. is_some (process_of c.args.pid v.rows)) c.self.view_is ∙ c.requires.there in
     rw c.get.ensures.number (slot_there (rows_of (get c.self.inside.nodes)) c.self.inside.slots.entries c.self.inside.counts c.self.invariant.slotted c.args.pid there)
 
+-- what is then kept, and of which rows
+after : (c : After-slot) → IsWithout (get c.self.inside.nodes) c.self.inside.slots.entries c.self.inside.counts c.args.pid c.remove-gone.result.row.uid (get c.remove-gone.new.self) c.swap_remove.new.self.entries
+after c = removed c.self.invariant c.args.pid record { laced = c.relink_both.ensures.laced; rows = c.relink_both.ensures.rows; here = c.relink_both.ensures.here; others = c.relink_both.ensures.others }
+    c.remove-gone.ensures.value c.remove-gone.ensures.updates.changed c.remove-gone.ensures.updates.others (rw c.get.ensures.number at c.index-slot.ensures) (rw c.get-2.ensures.number at c.swap_remove.ensures.updates.0)
+    (λ k. ap (λ v. next_named k c.args.pid 0 v.rows) c.self.view_is ∙ c.requires.unnamed k) c.self.told
+
 pub overflow_sub-self : goal.overflow_sub-self
-overflow_sub-self c =
-    let number : lookup (nat_eq c.args.pid) c.self.inside.slots.entries ≡ Some c.index-slot.result.now = rw c.get.ensures.number at c.index-slot.ensures in
-    let all = removed (get c.self.inside.nodes) c.self.inside.slots.entries c.self.inside.counts c.self.invariant (get c.relink_both.new.nodes) (get c.remove-gone.new.self) c.swap_remove.new.self.entries c.index-slot.result.now c.args.pid c.remove-gone.result
-    c.remove-gone.ensures.value c.remove-gone.ensures.updates.changed c.remove-gone.ensures.updates.others number (λ n. let change = c.swap_remove.ensures.updates.0 n in rw c.get-2.ensures.number at change)
-    c.relink_both.ensures.laced c.relink_both.ensures.rows c.relink_both.ensures.here c.relink_both.ensures.others (λ k. ap (λ v. next_named k c.args.pid 0 v.rows) c.self.view_is ∙ c.requires.unnamed k) c.self.told in
-    rw c.slot.ensures.place (omega (arith, all.1))
+overflow_sub-self c = rw c.slot.ensures.place (omega (arith, (after (goal.at.overflow_sub-self c).After-slot).some))
 
 pub invariant_of-self : goal.invariant_of-self
-invariant_of-self c =
-    let number : lookup (nat_eq c.args.pid) c.self.inside.slots.entries ≡ Some c.index-slot.result.now = rw c.get.ensures.number at c.index-slot.ensures in
-    let all = removed (get c.self.inside.nodes) c.self.inside.slots.entries c.self.inside.counts c.self.invariant (get c.relink_both.new.nodes) (get c.remove-gone.new.self) c.swap_remove.new.self.entries c.index-slot.result.now c.args.pid c.remove-gone.result
-    c.remove-gone.ensures.value c.remove-gone.ensures.updates.changed c.remove-gone.ensures.updates.others number (λ n. let change = c.swap_remove.ensures.updates.0 n in rw c.get-2.ensures.number at change)
-    c.relink_both.ensures.laced c.relink_both.ensures.rows c.relink_both.ensures.here c.relink_both.ensures.others (λ k. ap (λ v. next_named k c.args.pid 0 v.rows) c.self.view_is ∙ c.requires.unnamed k) c.self.told in
-    rw c.slot.ensures.place all.2
+invariant_of-self c = rw c.slot.ensures.place (after (goal.at.invariant_of-self c).After-slot).tied
 
 pub returns-clause-rows : goal.returns-clause-rows
-returns-clause-rows c =
-    let number : lookup (nat_eq c.args.pid) c.self.inside.slots.entries ≡ Some c.index-slot.result.now = rw c.get.ensures.number at c.index-slot.ensures in
-    let all = removed (get c.self.inside.nodes) c.self.inside.slots.entries c.self.inside.counts c.self.invariant (get c.relink_both.new.nodes) (get c.remove-gone.new.self) c.swap_remove.new.self.entries c.index-slot.result.now c.args.pid c.remove-gone.result
-    c.remove-gone.ensures.value c.remove-gone.ensures.updates.changed c.remove-gone.ensures.updates.others number (λ n. let change = c.swap_remove.ensures.updates.0 n in rw c.get-2.ensures.number at change)
-    c.relink_both.ensures.laced c.relink_both.ensures.rows c.relink_both.ensures.here c.relink_both.ensures.others (λ k. ap (λ v. next_named k c.args.pid 0 v.rows) c.self.view_is ∙ c.requires.unnamed k) c.self.told in
-    rw (← c.self.view_is) all.3
+returns-clause-rows c = rw (← c.self.view_is) (after (goal.at.returns-clause-rows c).After-slot).rows

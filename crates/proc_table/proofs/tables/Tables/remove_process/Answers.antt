@@ -5,7 +5,7 @@ use Rattle.proc_table.specs.Lanes.{next_named}
 use Rattle.proc_table.specs.Walks.{next_tracee, next_child}
 use Rattle.proc_table.specs.Fresh.{is_process}
 use Rattle.proc_table.proofs.Laced.{each_kin}
-use Rattle.proc_table.proofs.Tied.{children-named}
+use Rattle.proc_table.proofs.Tied.{children_named}
 use Rattle.proc_table.proofs.Indexed.{numbers-without}
 use Rattle.proc_table.proofs.Seen.{has_row}
 use Rattle.proc_table.proofs.KeepsProcesses.{keeps-drop_process}
@@ -18,7 +18,7 @@ pub remove-requires-2-clause-unnamed : goal.remove-requires-2-clause-unnamed
 remove-requires-2-clause-unnamed c =
     let ps = c.self.inside.processes.rows in
     each_kin (λ kin. next_named kin c.args.pid 0 ps ≡ None) Tracees (ap (λ v. next_tracee c.args.pid 0 v.rows.processes) c.self.view_is ∙ c.requires.tracees)
-    (children-named c.args.pid 0 (omega (arith, c.get.ensures.least, c.get.ensures.number)) ps ∙ ap (λ v. next_child c.args.pid 0 v.rows.processes) c.self.view_is ∙ c.requires.children)
+    (children_named c.args.pid 0 (omega (arith, c.get.ensures.least, c.get.ensures.number)) ps ∙ ap (λ v. next_child c.args.pid 0 v.rows.processes) c.self.view_is ∙ c.requires.children)
 
 pub invariant_of-self : goal.invariant_of-self
 invariant_of-self c =

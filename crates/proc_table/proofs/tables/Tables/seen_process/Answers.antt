@@ -1,26 +1,19 @@
 use Rattle.std.proofs.Common.{◌≡◌, ap, ◌∙◌, sym, nat_eq, true, false}
 use Rattle.proc_table.specs.declared.ProcData.{ProcData}
 use Rattle.proc_table.specs.Keep.{keep}
-use Rattle.proc_table.specs.Seen.{seen_process}
 use Rattle.proc_table.proofs.Seen.{seen_process-kept}
 use Rattle.proc_table.proofs.tables.Tables.seen_process.Goals as goal
 
 pub returns-in_err-row-clause-row : goal.returns-in_err-row-clause-row
 returns-in_err-row-clause-row c =
-    let ps = c.self.inside.processes.rows in
-    c.from_residual.ensures ∙ ap (keep (λ (p : ProcData). nat_eq p.uid c.args.uid)) c.in_err-row.ensures ∙ sym (seen_process-kept c.args.uid c.args.number ps c.self.invariant.kept.rising)
-    ∙ ap (λ v. seen_process c.args.uid c.args.number v.rows) c.self.view_is
+    rw (← c.self.view_is) (c.from_residual.ensures ∙ ap (keep (λ (p : ProcData). nat_eq p.uid c.args.uid)) c.in_err-row.ensures ∙ sym (seen_process-kept c.args.uid c.args.number _ c.self.invariant.kept.rising))
 
 pub returns-then-eq-clause-row : goal.returns-then-eq-clause-row
 returns-then-eq-clause-row c =
-    let ps = c.self.inside.processes.rows in
     let own : nat_eq c.in_ok-row.row.now.uid c.args.uid ≡ true = sym c.eq.ensures ∙ c.if-eq.true in
-    rw own at (ap (keep (λ (p : ProcData). nat_eq p.uid c.args.uid)) c.in_ok-row.ensures) ∙ sym (seen_process-kept c.args.uid c.args.number ps c.self.invariant.kept.rising)
-    ∙ ap (λ v. seen_process c.args.uid c.args.number v.rows) c.self.view_is
+    rw (← c.self.view_is) (rw own at (ap (keep (λ (p : ProcData). nat_eq p.uid c.args.uid)) c.in_ok-row.ensures) ∙ sym (seen_process-kept c.args.uid c.args.number _ c.self.invariant.kept.rising))
 
 pub returns-else-eq-clause-row : goal.returns-else-eq-clause-row
 returns-else-eq-clause-row c =
-    let ps = c.self.inside.processes.rows in
     let other : nat_eq c.in_ok-row.row.now.uid c.args.uid ≡ false = sym c.eq.ensures ∙ c.if-eq.false in
-    rw other at (ap (keep (λ (p : ProcData). nat_eq p.uid c.args.uid)) c.in_ok-row.ensures) ∙ sym (seen_process-kept c.args.uid c.args.number ps c.self.invariant.kept.rising)
-    ∙ ap (λ v. seen_process c.args.uid c.args.number v.rows) c.self.view_is
+    rw (← c.self.view_is) (rw other at (ap (keep (λ (p : ProcData). nat_eq p.uid c.args.uid)) c.in_ok-row.ensures) ∙ sym (seen_process-kept c.args.uid c.args.number _ c.self.invariant.kept.rising))
