@@ -126,9 +126,13 @@ fn plan_of(alloc: Global, value: &Value<'_>) -> Result<Scenario, Fault>
     ensures yields { Yields (λ s. s) result (plan_of (view value.now)) }
     ensures no_read { IfErr result (λ e. e ≢ ReadFault) }
 {
-    let (items, settings) = head_of(value).map_err(|flaw| flaw.at(0))?;
-    let steps = bounded_steps(alloc, items)?;
-    Ok(Scenario::new(settings, steps))
+    match head_of(value) {
+        Ok((items, settings)) => {
+            let steps = bounded_steps(alloc, items)?;
+            Ok(Scenario::new(settings, steps))
+        }
+        Err(flaw) => Err(flaw.at(0)),
+    }
 }
 
 /// The scenario that a text's value is, or its first fault.

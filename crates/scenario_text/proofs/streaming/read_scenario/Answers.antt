@@ -1,4 +1,4 @@
-use Rattle.std.proofs.Common.{◌≡◌, ◌∷◌, Some, sym, ap, ◌∙◌, subst, rules}
+use Rattle.std.proofs.Common.{◌≡◌, ◌∷◌, Ok, Some, sym, ap, ◌∙◌, subst, rules}
 use Rattle.json.specs.Token.{Token}
 use Rattle.json.specs.Json.{value}
 use Rattle.json.specs.Reads.{token_of}
@@ -34,5 +34,5 @@ returns-in-End c =
     some_weaker c.scenario_of.result _ _
     (λ s is. subst (λ plan. IsScenario plan (converted of_json (value 127 c.args.reader.now)) c.next_key.new.reader) (sym is.2)
     (subst (λ ts. IsScenario (record { settings = is.0; steps = steps }) (converted of_json (value 127 ts)) c.next_key.new.reader) (sym first)
-    (all_found c.next.new.self l.reader c.next_key.new.reader steps l.kill is.0 found over (ap settings_of (sym l.kill-is) ∙ is.1))))
+    (all_found c.next.new.self l.reader c.next_key.new.reader steps l.kill is.0 found over (◌∙◌ {c = Ok is.0} (ap settings_of (sym l.kill-is)) is.1))))
     c.scenario_of.ensures
