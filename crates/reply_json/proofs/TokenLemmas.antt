@@ -1,6 +1,5 @@
 -- The tokens of objects and arrays by their members and values.
-use Rattle.std.proofs.Common.{◌≡◌, ℕ, ◌≤◌, ◌==◌, Bool, true, false, List, [], ◌∷◌, ◌++◌, map, Some, option_and_then, refl, sym, ap, ◌∙◌, append_assoc, append-nil}
-use Rattle.std.specs.Int.RustNames.{bit_and}
+use Rattle.std.proofs.Common.{◌≡◌, ℕ, ◌≤◌, List, [], ◌∷◌, ◌++◌, map, Some, option_and_then, refl, sym, ap, ◌∙◌, append_assoc, append-nil}
 use Rattle.event_masks.specs.Names.{names_of}
 use Rattle.std.specs.Prelude.{OnOk, Result, Ok, Err}
 use Rattle.json.specs.Json.{Json, array, document, string, if_last, max_depth, value}
@@ -37,21 +36,9 @@ document-back j shallow back =
 
 -- ---- values one after another
 
--- what was written and what is still to be are all, also after some more
-pub put_more : (old xs rest new all : List Token) → new ≡ old ++ xs → old ++ (xs ++ rest) ≡ all → new ++ rest ≡ all
-put_more old xs rest new all more whole = ap (λ ts. ts ++ rest) more ∙ append_assoc old xs rest ∙ whole
-
 -- the names of some flags, as strings
 abbrev pub name_tokens : ℕ → List (List ℕ × ℕ) → List Token
 name_tokens bits rows = value_tokens (map (λ text. string text) (names_of rows bits))
-
-first_name : (bits : ℕ) (r : List ℕ × ℕ) (rows : List (List ℕ × ℕ)) (b : Bool) → (bit_and bits r.1 == r.1) ≡ b
-    → name_tokens bits (r ∷ rows) ≡ name_tokens bits (r ∷ []) ++ name_tokens bits rows
-first_name bits r rows true is = rw is refl
-first_name bits r rows false is = rw is refl
-
-pub names_apart : (bits : ℕ) (r : List ℕ × ℕ) (rows : List (List ℕ × ℕ)) → name_tokens bits (r ∷ rows) ≡ name_tokens bits (r ∷ []) ++ name_tokens bits rows
-names_apart bits r rows = first_name bits r rows _ refl
 
 -- ---- brackets
 
