@@ -11,11 +11,6 @@ use Rattle.json.specs.Value.{items_of}
 use Rattle.json.proofs.Printed.Trees.{value-json_tokens}
 use Rattle.reply_json.specs.Objects.{Member, members_of, object_of, json_text, value_tokens, member_tokens}
 
--- the tokens of an array's values, and the bracket that closes it
-pub items-values : (js : List Json) → items_tokens (items_of js) ≡ value_tokens js ++ end_array ∷ []
-items-values [] = refl
-items-values (j ∷ js) = ap (λ ts. json_tokens j ++ ts) (items-values js) ∙ sym (append_assoc (json_tokens j) (value_tokens js) _)
-
 -- the tokens of an object's members, and the brace that closes it
 pub members-members : (ms : List Member) → members_tokens (members_of ms) ≡ member_tokens ms ++ end_object ∷ []
 members-members [] = refl
@@ -36,20 +31,11 @@ document-back j shallow back =
 
 -- ---- values one after another
 
--- the names of some flags, as strings
+-- the names of some flags, as strings, and the bracket behind them
 abbrev pub name_tokens : ℕ → List (List ℕ × ℕ) → List Token
-name_tokens bits rows = value_tokens (map (λ text. string text) (names_of rows bits))
+name_tokens bits rows = items_tokens (items_of (map (λ text. string text) (names_of rows bits)))
 
 -- ---- brackets
-
--- a member that is an array: its key, the bracket that opens it, its values, and the bracket that closes it
-pub array_put : {E : Type 0} (r : Result (Unit {0}) E) (name : List ℕ) (js : List Json) (old keyed opened filled new : List Token)
-    → keyed ≡ old ++ key name ∷ [] → opened ≡ keyed ++ begin_array ∷ [] → filled ≡ opened ++ value_tokens js → OnOk r (new ≡ filled ++ end_array ∷ [])
-    → OnOk r (new ≡ old ++ member_tokens ((name, array (items_of js)) ∷ []))
-array_put (Err e) name js old keyed opened filled new k o f n = tt
-array_put (Ok u) name js old keyed opened filled new k o f n =
-    let ends = items-values js in
-    rw (n, f, o, k, ends) (simp (append_assoc, append-nil))
 
 -- an object: the brace that opens it, its members, and the brace that closes it
 pub object_put : {E : Type 0} (r : Result (Unit {0}) E) (ms : List Member) (old opened filled new : List Token)
