@@ -108,7 +108,7 @@ fn head_of<'v, 'a>(value: &'v Value<'a>) -> Result<(&'v [Value<'a>], Settings), 
     head_with(object_of(value)?)
 }
 
-#[tactic(auto, using(crate::proofs::StepLemmas::many_steps, crate::proofs::StepLemmas::few_steps))]
+#[tactic(auto, using(crate::proofs::CountLemmas::many_steps, crate::proofs::CountLemmas::few_steps))]
 fn bounded_steps(alloc: Global, items: &[Value<'_>]) -> Result<StepList, Fault>
     ensures yields { Yields (λ xs. xs) result
         (bounded (items_view items.now) (steps_from 1 (items_view items.now))) }
@@ -172,6 +172,7 @@ pub fn parse(alloc: Global, bytes: &[u8]) -> Result<Scenario, Fault>
 }
 
 /// No bytes stand for two scenarios, nor for one and a fault, nor have two faults.
+#[tactic(auto, using(crate::proofs::Answering::one))]
 pub fn one_answer()
     ensures { (bytes : List ℕ) (r q : Result Plan Fault) → StandsFor bytes r → StandsFor bytes q → r ≡ q }
 {}

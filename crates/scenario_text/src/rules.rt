@@ -129,7 +129,7 @@ fn few_rules(items: &[Value<'_>]) -> Result<Policy, Flaw>
 }
 
 /// The policy of an array of rules. More than 16 rules are refused before any of them is read.
-#[tactic(auto, using(crate::proofs::RuleLemmas::many_rules, crate::proofs::RuleLemmas::few_rules))]
+#[tactic(auto, using(crate::proofs::CountLemmas::many_rules, crate::proofs::CountLemmas::few_rules))]
 pub(crate) fn rules_of(items: &[Value<'_>]) -> Result<Policy, Flaw>
     ensures { result ≡ rules_of (items_view items.now) }
 {
