@@ -1,5 +1,6 @@
 -- A look-up in a value finds what `serde_json` finds in its data.
-use Rattle.std.proofs.Common.{◌≡◌, ℕ, suc, List, length, [], ◌∷◌, ◌++◌, Bool, true, false, ◌&&◌, cond, bytes_eq, Option, Some, None, option_map, Vec, Bor, true≢false, refl, sym, ap, ◌∙◌}
+use Rattle.std.proofs.Common.{◌≡◌, ℕ, suc, ◌+◌, ◌-◌, ◌<◌, ◌≤◌, arith, get_or, take, List, length, [], ◌∷◌, ◌++◌, Bool, true, false, ◌&&◌, cond, bytes_eq, Option, Some, None, option_map, Vec, Bor, true≢false, refl, sym, ap, ◌∙◌}
+use Rattle.std.proofs.lemmas.List.{take_more}
 use Rattle.std.proofs.lemmas.Slice.Eq.{bytes_eq-Decides}
 use Rattle.std.specs.List.{list_any}
 use Rattle.json.specs.Json as json
@@ -50,6 +51,15 @@ get-data k (json.number s) = on_number k (number_of s)
 get-data k (json.string s) = refl
 get-data k (json.array js) = refl
 get-data k (json.object ms) = only_found (json_find.get_member k ms) ∙ sym (got k ms no_members)
+
+-- the last of the first members, or one before it
+pub get_member-next : {A : Type 0} (name : List ℕ) (xs : List (Bor (List ℕ) × Value A)) (n : ℕ) (m : Bor (List ℕ) × Value A) (b : Bool) → 0 < n → n ≤ length xs → m ≡ get_or xs (n - 1) m
+    → bytes_eq m.0.now name ≡ b → json_find.get_member name (json_members_view (take n xs)) ≡ cond b (Some (value_view m.1)) (json_find.get_member name (json_members_view (take (n - 1) xs)))
+get_member-next name xs n m b some few is same =
+    let next : n ≡ n - 1 + 1 = omega arith in
+    let front : take n xs ≡ take (n - 1) xs ++ m ∷ [] = ap (λ k. take k xs) next ∙ take_more xs (n - 1) m (omega arith) ∙ ap (λ y. take (n - 1) xs ++ y ∷ []) (sym is) in
+    ap (λ ys. json_find.get_member name (json_members_view ys)) front ∙ Trees.get_member-push name (take (n - 1) xs) m
+    ∙ ap (λ c. cond c (Some (value_view m.1)) (json_find.get_member name (json_members_view (take (n - 1) xs)))) same
 
 -- which keys a list of members has
 abbrev pub among : List (List ℕ) → json.Members → Bool

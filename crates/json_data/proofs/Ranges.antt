@@ -10,13 +10,9 @@ on_number : (o : Option Num) → option_map number o ≡ cond (is_some o) (Some 
 on_number None = refl
 on_number (Some n) = refl
 
-on_array : (b : Bool) (ds : Items) → option_map array (cond b (Some ds) None) ≡ cond b (Some (array ds)) None
-on_array true ds = refl
-on_array false ds = refl
-
-on_object : (b : Bool) (ms : Members) → option_map object (cond b (Some ms) None) ≡ cond b (Some (object ms)) None
-on_object true ms = refl
-on_object false ms = refl
+on_some : {A B : Type 0} (f : A → B) (b : Bool) (a : A) → option_map f (cond b (Some a) None) ≡ cond b (Some (f a)) None
+on_some f true a = refl
+on_some f false a = refl
 
 on_item : (a b : Bool) (d : Data) (ds : Items) → option_and_then (λ e. option_map (item e) (cond b (Some ds) None)) (cond a (Some d) None) ≡ cond (a && b) (Some (item d ds)) None
 on_item true true d ds = refl
@@ -33,8 +29,8 @@ mutual
   of_json-data (json.boolean b) = refl
   of_json-data (json.number s) = on_number (number_of s)
   of_json-data (json.string s) = refl
-  of_json-data (json.array js) = ap (option_map array) (of_items-data js) ∙ on_array (items_in_range js) (items_data js)
-  of_json-data (json.object ms) = ap (option_map object) (of_members-data ms no_members) ∙ on_object (members_in_range ms) (members_data ms no_members)
+  of_json-data (json.array js) = ap (option_map array) (of_items-data js) ∙ on_some array (items_in_range js) (items_data js)
+  of_json-data (json.object ms) = ap (option_map object) (of_members-data ms no_members) ∙ on_some object (members_in_range ms) (members_data ms no_members)
 
   of_items-data : (js : json.Items) → of_items js ≡ cond (items_in_range js) (Some (items_data js)) None
   of_items-data json.no_items = refl

@@ -74,14 +74,26 @@ pub(crate) fn integer_of(text: &str) -> Option<i64>
     }
 }
 
-fn any_integer(text: &str) -> Option<i64>
-    ensures { result ≡ option_and_then as_i64 (number_of text.now) }
+/// The numeral that a text is behind its minus, and whether it has one.
+fn scanned(text: &str) -> (bool, Numeral<'_>)
+    ensures { number_from result.0 result.1 ≡ number_of text.now }
 {
     let bytes = text.as_bytes();
     if has_minus(bytes) {
-        negative(&Numeral::scan(&bytes[1..]))
+        (true, Numeral::scan(&bytes[1..]))
     } else {
-        unsigned(&Numeral::scan(bytes))
+        (false, Numeral::scan(bytes))
+    }
+}
+
+fn any_integer(text: &str) -> Option<i64>
+    ensures { result ≡ option_and_then as_i64 (number_of text.now) }
+{
+    let (is_negative, numeral) = scanned(text);
+    if is_negative {
+        negative(&numeral)
+    } else {
+        unsigned(&numeral)
     }
 }
 
@@ -107,10 +119,10 @@ pub(crate) fn is_in_range(text: &str) -> bool
 fn any_is_in_range(text: &str) -> bool
     ensures { result ≡ is_some (number_of text.now) }
 {
-    let bytes = text.as_bytes();
-    if has_minus(bytes) {
-        negative_in_range(&Numeral::scan(&bytes[1..]))
+    let (is_negative, numeral) = scanned(text);
+    if is_negative {
+        negative_in_range(&numeral)
     } else {
-        unsigned_in_range(&Numeral::scan(bytes))
+        unsigned_in_range(&numeral)
     }
 }

@@ -23,10 +23,6 @@ pub told_fault : {X : Type 0} (view : X → Asked) (P : Result Asked Fault → T
 told_fault view P Memory some p = absurd (some refl)
 told_fault view P f some p = p
 
-pub keeps_same : (a : Option (List ℕ)) → Keeps a a
-keeps_same None = tt
-keeps_same (Some xs) = refl
-
 pub serves_by : (style : Style) (m : Machine) (r u h w : Option (List ℕ)) (result : Result ⊤ ServeFault) (e : ServeFault) → IsErrAnd result (λ x. x ≡ e) → Serves style (Err e) m r u h w → Serves style result m r u h w
 serves_by style m r u h w (Ok done) e is p = absurd is
 serves_by style m r u h w (Err x) e is p = subst (λ y. Serves style (Err y) m r u h w) (sym is) p

@@ -104,9 +104,8 @@ found_more l lines m n k r rs (refused f is) rest = record {
 
 found : (lines : List (List ℕ)) (m : Machine) (rs : List LineReply) (k : Machine) → AnswersLines lines m rs k → Found lines m rs k
 found [] m [] k answers = record { steps = []; are = no_step; users = tt; ran = answers }
-found [] m (r ∷ rs) k answers = absurd answers
-found (l ∷ lines) m [] k answers = absurd answers
 found (l ∷ lines) m (r ∷ rs) k answers = found_more l lines m answers.0 k r rs answers.1 (found lines answers.0 rs k answers.2)
+found lines m rs k answers = absurd answers
 
 pub sessions_are_private : SessionsArePrivate
 sessions_are_private settings lines rs k answers =

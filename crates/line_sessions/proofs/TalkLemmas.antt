@@ -26,9 +26,6 @@ use Rattle.line_sessions.specs.Turns.{kept, reply_text, made_after, Told}
 
 -- ---- a line that is longer than a step
 
-pub kept_some : (text : List ℕ) → 0 < length (kept text) → 0 < length text
-kept_some text some = let all = length-take (most_step_bytes + 1) text in omega arith
-
 step_of_kept : (text : List ℕ) (q : Result Asked Fault) → most_step_bytes < length text → IsStep (kept text) q → IsStep text q
 step_of_kept text q long (too_long h) = too_long long
 step_of_kept text q long (no_value short h) = let all = length-take (most_step_bytes + 1) text in absurd (omega arith)
@@ -48,9 +45,8 @@ answers_kept text m r k p = elim (cases_lt most_step_bytes (length text)) [
 
 answers_more : (ls : List (List ℕ)) (l : List ℕ) (m n k : Machine) (rs : List LineReply) (r : LineReply) → AnswersLines ls m rs n → AnswersLine l n r k → AnswersLines (ls ++ (l ∷ [])) m (rs ++ (r ∷ [])) k
 answers_more [] l m n k [] r p q = (k, subst (λ x. AnswersLine l x r k) p q, refl)
-answers_more [] l m n k (s ∷ rs) r p q = absurd p
-answers_more (x ∷ ls) l m n k [] r p q = absurd p
 answers_more (x ∷ ls) l m n k (s ∷ rs) r p q = (p.0, p.1, answers_more ls l p.0 n k rs r p.2 q)
+answers_more ls l m n k rs r p q = absurd p
 
 abbrev pub ToUser : LineReply → Type 0
 ToUser (Ok a) = IsUser a.uid
@@ -184,9 +180,7 @@ module _ (style : Style) (first : Machine) (r u h w : Option (List ℕ)) (m : Ma
         let front : text_of style at.replies ++ take told.2 one ≡ take n all =
         sym (take-append-add (text_of style at.replies) one told.2) ∙ ap (take n) (sym (text_answered told.0 (to_user told.1))) in
         (at.replies ++ (told.0 ∷ []), line_answered k told.0 some told.1, n, subst P front (appends_more h w x (text_of style at.replies) (take told.2 one) at.told told.3))
-    fails k after x Read some told = stops x (text ++ end_bytes end) (lines_one text end lost.0) lost.1 told
-    fails k after x Memory some told = stops x (text ++ end_bytes end) (lines_one text end lost.0) lost.1 told
-    fails k after x TooManyLines some told = stops x (text ++ end_bytes end) (lines_one text end lost.0) lost.1 told
+    fails k after x e some told = stops x (text ++ end_bytes end) (lines_one text end lost.0) lost.1 told
 
   -- the next line could not be read
   pub cannot_read : (e : ServeFault) → (e ≡ Read) ⊎ (e ≡ Memory) → (text : List ℕ) → Loses u v text [] → Serves style (Err e) first r v h w

@@ -11,7 +11,7 @@ use Rattle.signals.specs.Sets.{members}
 use Rattle.wait4.specs.Status.{ended}
 use Rattle.lwpinfo.specs.declared.LwpInfo.{LwpInfo}
 use Rattle.wait4.specs.declared.StatusKind.{StatusKind}
-use Rattle.wait4.specs.declared.StatusKind.TheVariants.{Exited, Signaled, Stopped, Continued}
+use Rattle.wait4.specs.declared.StatusKind.TheVariants.{Continued}
 use Rattle.stop_handlers.specs.declared.Decision.{Decision}
 use Rattle.stop_handlers.specs.declared.Decision.TheVariants as decision
 use Rattle.stop_handlers.specs.declared.StopView.{StopView}
@@ -37,10 +37,8 @@ level-append [] ns = omega arith
 level-append (m ∷ ms) ns = let rest = level-append ms ns in omega arith
 
 status_low : (s : StatusKind) → level (status_members s) ≤ 0
-status_low (Exited code) = omega arith
-status_low (Signaled s) = omega arith
-status_low (Stopped s) = omega arith
 status_low Continued = omega arith
+status_low s = omega arith
 
 index_low : (i : Option ℕ) → depth (index_of i) ≤ 0
 index_low None = omega arith
@@ -54,11 +52,9 @@ pass_low : (s : ℕ) → depth (pass_of s) ≤ 1
 pass_low s = null_or_object s (s == 0)
 
 decision_low : (d : Decision) → level (decision_members d) ≤ 1
-decision_low decision.Decline = omega arith
-decision_low decision.Leave = omega arith
 decision_low (decision.Continue s) = let pass = pass_low s in omega arith
 decision_low (decision.Detach s) = let pass = pass_low s in omega arith
-decision_low decision.Kill = omega arith
+decision_low d = omega arith
 
 flags_low : (f : StopFlags) → depth (flags_of f).1 ≤ 1
 flags_low f = strings_low (names_of stop_table f.0)
@@ -87,21 +83,15 @@ handled_low pid status view index decision =
     omega arith
 
 members_low : (r : Reply) → level (reply_members r) ≤ 2
-members_low reply.Done = omega arith
-members_low (reply.New pid tid) = omega arith
-members_low (reply.Number n) = omega arith
 members_low (reply.Status pid status) = let said = status_low status in omega arith
-members_low reply.Nothing = omega arith
 members_low (reply.Info i) = let told = info_low i in omega arith
 members_low (reply.Lwps tids) = let numbers = numbers_low tids in omega arith
 members_low (reply.Pids pids) = let numbers = numbers_low pids in omega arith
 members_low (reply.Mask mask) = let names = strings_low (names_of event_table mask.0) in omega arith
 members_low (reply.Handled pid status view index decision) = handled_low pid status view index decision
 members_low (reply.Stopped tid sig flags) = let names = flags_low flags in omega arith
-members_low (reply.Caught sig) = omega arith
 members_low (reply.Ended w) = let said = status_low (ended w) in omega arith
-members_low reply.Held = omega arith
-members_low (reply.Errno e) = omega arith
+members_low r = omega arith
 
 -- a reply's object nests an object at most, which has an array
 pub shallow : (user n : ℕ) (r : Reply) → depth (reply_value user n r) ≤ max_depth

@@ -1,6 +1,5 @@
 -- The tokens of objects and arrays by their members and values.
-use Rattle.std.proofs.Common.{◌≡◌, ℕ, ◌≤◌, ◌==◌, Bool, true, false, List, [], ◌∷◌, ◌++◌, map, Some, option_and_then, refl, sym, ap, ◌∙◌, append_assoc, append-nil}
-use Rattle.std.specs.Int.RustNames.{bit_and}
+use Rattle.std.proofs.Common.{◌≡◌, ℕ, ◌≤◌, List, [], ◌∷◌, ◌++◌, map, Some, option_and_then, refl, sym, ap, ◌∙◌, append_assoc, append-nil}
 use Rattle.event_masks.specs.Names.{names_of}
 use Rattle.std.specs.Prelude.{OnOk, Result, Ok, Err}
 use Rattle.json.specs.Json.{Json, array, document, string, if_last, max_depth, value}
@@ -11,11 +10,6 @@ use Rattle.json.specs.Tree.{json_tokens, items_tokens, members_tokens, depth}
 use Rattle.json.specs.Value.{items_of}
 use Rattle.json.proofs.Printed.Trees.{value-json_tokens}
 use Rattle.reply_json.specs.Objects.{Member, members_of, object_of, json_text, value_tokens, member_tokens}
-
--- the tokens of an array's values, and the bracket that closes it
-pub items-values : (js : List Json) → items_tokens (items_of js) ≡ value_tokens js ++ end_array ∷ []
-items-values [] = refl
-items-values (j ∷ js) = ap (λ ts. json_tokens j ++ ts) (items-values js) ∙ sym (append_assoc (json_tokens j) (value_tokens js) _)
 
 -- the tokens of an object's members, and the brace that closes it
 pub members-members : (ms : List Member) → members_tokens (members_of ms) ≡ member_tokens ms ++ end_object ∷ []
@@ -37,32 +31,11 @@ document-back j shallow back =
 
 -- ---- values one after another
 
--- what was written and what is still to be are all, also after some more
-pub put_more : (old xs rest new all : List Token) → new ≡ old ++ xs → old ++ (xs ++ rest) ≡ all → new ++ rest ≡ all
-put_more old xs rest new all more whole = ap (λ ts. ts ++ rest) more ∙ append_assoc old xs rest ∙ whole
-
--- the names of some flags, as strings
+-- the names of some flags, as strings, and the bracket behind them
 abbrev pub name_tokens : ℕ → List (List ℕ × ℕ) → List Token
-name_tokens bits rows = value_tokens (map (λ text. string text) (names_of rows bits))
-
-first_name : (bits : ℕ) (r : List ℕ × ℕ) (rows : List (List ℕ × ℕ)) (b : Bool) → (bit_and bits r.1 == r.1) ≡ b
-    → name_tokens bits (r ∷ rows) ≡ name_tokens bits (r ∷ []) ++ name_tokens bits rows
-first_name bits r rows true is = rw is refl
-first_name bits r rows false is = rw is refl
-
-pub names_apart : (bits : ℕ) (r : List ℕ × ℕ) (rows : List (List ℕ × ℕ)) → name_tokens bits (r ∷ rows) ≡ name_tokens bits (r ∷ []) ++ name_tokens bits rows
-names_apart bits r rows = first_name bits r rows _ refl
+name_tokens bits rows = items_tokens (items_of (map (λ text. string text) (names_of rows bits)))
 
 -- ---- brackets
-
--- a member that is an array: its key, the bracket that opens it, its values, and the bracket that closes it
-pub array_put : {E : Type 0} (r : Result (Unit {0}) E) (name : List ℕ) (js : List Json) (old keyed opened filled new : List Token)
-    → keyed ≡ old ++ key name ∷ [] → opened ≡ keyed ++ begin_array ∷ [] → filled ≡ opened ++ value_tokens js → OnOk r (new ≡ filled ++ end_array ∷ [])
-    → OnOk r (new ≡ old ++ member_tokens ((name, array (items_of js)) ∷ []))
-array_put (Err e) name js old keyed opened filled new k o f n = tt
-array_put (Ok u) name js old keyed opened filled new k o f n =
-    let ends = items-values js in
-    rw (n, f, o, k, ends) (simp (append_assoc, append-nil))
 
 -- an object: the brace that opens it, its members, and the brace that closes it
 pub object_put : {E : Type 0} (r : Result (Unit {0}) E) (ms : List Member) (old opened filled new : List Token)

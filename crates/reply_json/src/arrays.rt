@@ -1,6 +1,8 @@
 //! Members that are arrays.
 ghost use Rattle.std.specs.Prelude.{[], ◌∷◌, map};
 ghost use Rattle.json.specs.Json.{string};
+ghost use Rattle.json.specs.Tree.{items_tokens};
+ghost use Rattle.json.specs.Value.{items_of};
 ghost use Rattle.event_masks.specs.Names.{names_of};
 ghost use Rattle.signals.specs.Names.{signal_name};
 ghost use Rattle.signals.specs.Sets.{members};
@@ -12,14 +14,14 @@ use json::Writer;
 use signals::SigSet;
 use std::alloc::AllocError;
 
-/// Writes numbers one after another.
+/// Writes numbers one after another, and the bracket behind them.
 fn push_each_number(out: &mut Writer, numbers: &[u32]) -> Result<(), AllocError>
-    ensures { Puts result out.old out.new (value_tokens (map (λ n. natural n) numbers.now)) }
+    ensures { Puts result out.old out.new (items_tokens (items_of (map (λ n. natural n) numbers.now))) }
 {
     for number in numbers {
         out.u64(u64::from(*number))?;
     }
-    Ok(())
+    out.end_array()
 }
 
 /// Writes a member that is an array of numbers.
@@ -28,18 +30,17 @@ pub(crate) fn push_numbers(out: &mut Writer, name: &str, numbers: &[u32]) -> Res
 {
     out.key(name)?;
     out.begin_array()?;
-    push_each_number(out, numbers)?;
-    out.end_array()
+    push_each_number(out, numbers)
 }
 
-/// Writes the names of the signals of a set, by their numbers.
+/// Writes the names of the signals of a set, by their numbers, and the bracket behind them.
 fn push_each_signal(out: &mut Writer, set: SigSet) -> Result<(), AllocError>
-    ensures { Puts result out.old out.new (value_tokens (map (λ text. string text) (map (λ s. signal_name s) (members set)))) }
+    ensures { Puts result out.old out.new (items_tokens (items_of (map (λ text. string text) (map (λ s. signal_name s) (members set))))) }
 {
     for signal in set.signals() {
         out.string(signal.name())?;
     }
-    Ok(())
+    out.end_array()
 }
 
 /// Writes a member that is an array of a set's signals.
@@ -48,8 +49,7 @@ pub(crate) fn push_signals(out: &mut Writer, name: &str, set: SigSet) -> Result<
 {
     out.key(name)?;
     out.begin_array()?;
-    push_each_signal(out, set)?;
-    out.end_array()
+    push_each_signal(out, set)
 }
 
 /// Writes the flag's name where the set has the flag.
@@ -64,15 +64,15 @@ fn push_flag<F: Flags + Copy>(out: &mut Writer, set: F, flag: &Flag<F>) -> Resul
     Ok(())
 }
 
-/// Writes the names of the flags of a set, in the order of their table.
+/// Writes the names of the flags of a set, in the order of their table, and the bracket behind them.
 fn push_each_flag<F: Flags + Copy>(out: &mut Writer, set: F) -> Result<(), AllocError>
     requires { F.exact }
-    ensures { Puts result out.old out.new (value_tokens (map (λ text. string text) (names_of F.table (F.set_of set)))) }
+    ensures { Puts result out.old out.new (items_tokens (items_of (map (λ text. string text) (names_of F.table (F.set_of set))))) }
 {
     for flag in F::flags() {
         push_flag(out, set, flag)?;
     }
-    Ok(())
+    out.end_array()
 }
 
 /// Writes a member that is an array of a set's flags.
@@ -86,6 +86,5 @@ pub(crate) fn push_flags<F: Flags + Copy>(
 {
     out.key(name)?;
     out.begin_array()?;
-    push_each_flag(out, set)?;
-    out.end_array()
+    push_each_flag(out, set)
 }

@@ -14,19 +14,16 @@ use Rattle.scenario_text.specs.Scenarios.{plan_of, most_bytes, StandsFor, too_lo
 
 pub answers_of : (P : Result Plan Fault → Type 0) (plan r : Result Plan Fault) → Yields (λ s. s) r plan → P plan → Answers r P
 answers_of P plan (Err Memory) y p = tt
-answers_of P plan (Ok s) y p = subst P y p
-answers_of P plan (Err e) y p = subst P y p
+answers_of P plan r y p = subst P y p
 
 pub answers_by : {X Y : Type 0} (view : X → Y) (P : Result Y Fault → Type 0) (r : Result X Fault) (q : Result Y Fault) → Gives view r q → P q → AnswersBy view r P
 answers_by view P (Err Memory) q is p = tt
-answers_by view P (Ok x) q is p = subst P (sym is) p
-answers_by view P (Err e) q is p = subst P (sym is) p
+answers_by view P r q is p = subst P (sym is) p
 
 pub weaker_answers : (P Q : Result Plan Fault → Type 0) (r : Result Plan Fault) → ((q : Result Plan Fault) → P q → Q q) → Answers r P → Tells r Q
-weaker_answers P Q (Ok s) f a = f (Ok s) a
 weaker_answers P Q (Err Memory) f a = tt
 weaker_answers P Q (Err Read) f a = tt
-weaker_answers P Q (Err e) f a = f (Err e) a
+weaker_answers P Q r f a = f r a
 
 -- what a long front has, the whole has
 longer : (bytes rest input : List ℕ) (q : Result Plan Fault) → most_bytes < length bytes → input ≡ bytes ++ rest → StandsFor bytes q → StandsFor input q

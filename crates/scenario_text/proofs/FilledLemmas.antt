@@ -10,53 +10,25 @@ use Rattle.scenario_text.specs.Plan.{asked, filled, first_policy, policies_after
 
 -- a step with a handler
 pub handled : {A : Type 0} {B : Type 0} (b : B) (s : Step A) → with_handler (Some b) s ≡ Some (step_with b s)
-handled b op.Spawn = refl
-handled b (op.List caller) = refl
-handled b (op.Sigaction caller sig disposition) = refl
-handled b (op.Kill caller which sig) = refl
-handled b (op.Wait4 caller which options) = refl
-handled b (op.Handle caller) = refl
-handled b (op.Ptrace caller request target «data») = refl
-handled b (op.Turn tid act) = refl
 handled b (op.Install caller own) = refl
+handled b s = refl
 
 -- the policies that are left, by those before the step
 pub left_after : (s : Step ⊤) (ps others : List (List Rule)) → policy_before (step_with (first_policy ps) s) others ≡ ps → others ≡ policies_after s ps
-left_after op.Spawn ps others e = e
-left_after (op.List caller) ps others e = e
-left_after (op.Sigaction caller sig disposition) ps others e = e
-left_after (op.Kill caller which sig) ps others e = e
-left_after (op.Wait4 caller which options) ps others e = e
-left_after (op.Handle caller) ps others e = e
-left_after (op.Ptrace caller request target «data») ps others e = e
-left_after (op.Turn tid act) ps others e = e
 left_after (op.Install caller own) [] others e = absurd (cc)
 left_after (op.Install caller own) (p ∷ ps) others e = cc
+left_after s ps others e = e
 
 -- policies behind those that are there don't change a step
 pub step_stays : (s : Step ⊤) (ps others more : List (List Rule)) → policy_before (step_with (first_policy ps) s) others ≡ ps
     → (step_with (first_policy (ps ++ more)) s ≡ step_with (first_policy ps) s) × (policies_after s (ps ++ more) ≡ policies_after s ps ++ more)
-step_stays op.Spawn ps others more e = (refl, refl)
-step_stays (op.List caller) ps others more e = (refl, refl)
-step_stays (op.Sigaction caller sig disposition) ps others more e = (refl, refl)
-step_stays (op.Kill caller which sig) ps others more e = (refl, refl)
-step_stays (op.Wait4 caller which options) ps others more e = (refl, refl)
-step_stays (op.Handle caller) ps others more e = (refl, refl)
-step_stays (op.Ptrace caller request target «data») ps others more e = (refl, refl)
-step_stays (op.Turn tid act) ps others more e = (refl, refl)
 step_stays (op.Install caller own) [] others more e = absurd (cc)
 step_stays (op.Install caller own) (p ∷ ps) others more e = (refl, refl)
+step_stays s ps others more e = (refl, refl)
 
 one_filled : (u : ℕ) (s : PlainStep) → filled ((u, step_with tt s) ∷ []) (policy_before s []) ≡ asked (u, s) ∷ []
-one_filled u op.Spawn = refl
-one_filled u (op.List caller) = refl
-one_filled u (op.Sigaction caller sig disposition) = refl
-one_filled u (op.Kill caller which sig) = refl
-one_filled u (op.Wait4 caller which options) = refl
-one_filled u (op.Handle caller) = refl
-one_filled u (op.Ptrace caller request target «data») = refl
-one_filled u (op.Turn tid act) = refl
 one_filled u (op.Install caller policy) = refl
+one_filled u s = refl
 
 -- one more step
 pub filled_more : (ss : List (ℕ × Step ⊤)) (ps : List (List Rule)) (u : ℕ) (s : PlainStep) → policies_in (filled ss ps) ≡ ps
@@ -69,15 +41,8 @@ filled_more (t ∷ rest) ps u s e =
     ∙ ap (λ xs. asked (t.0, step_with (first_policy ps) t.1) ∷ xs) (filled_more rest (policies_after t.1 ps) u s (left_after t.1 ps others e))
 
 before_more : (s : PlainStep) (ps more : List (List Rule)) → policy_before s (ps ++ more) ≡ policy_before s ps ++ more
-before_more op.Spawn ps more = refl
-before_more (op.List caller) ps more = refl
-before_more (op.Sigaction caller sig disposition) ps more = refl
-before_more (op.Kill caller which sig) ps more = refl
-before_more (op.Wait4 caller which options) ps more = refl
-before_more (op.Handle caller) ps more = refl
-before_more (op.Ptrace caller request target «data») ps more = refl
-before_more (op.Turn tid act) ps more = refl
 before_more (op.Install caller policy) ps more = refl
+before_more s ps more = refl
 
 pub policies_more : (xs : List Asked) (x : Asked) → policies_in (xs ++ x ∷ []) ≡ policies_in xs ++ policy_before x.step []
 policies_more [] x = refl

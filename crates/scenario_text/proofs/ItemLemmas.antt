@@ -1,11 +1,10 @@
 -- Steps that are read one after another, beside the array that they are in.
-use Rattle.std.proofs.Common.{◌≡◌, ℕ, ◌+◌, ◌-◌, ◌<◌, ◌≤◌, List, [], ◌∷◌, ◌++◌, length, Option, Some, None, Result, Ok, Err, refl, sym, ap, ◌∙◌, subst, arith, rules}
+use Rattle.std.proofs.Common.{◌≡◌, ℕ, ◌+◌, ◌-◌, ◌≤◌, List, [], ◌∷◌, ◌++◌, length, Option, Some, None, Result, Ok, Err, refl, sym, ap, ◌∙◌, subst, arith}
 use Rattle.std.proofs.lemmas.List.{length-append, append_assoc, append-nil}
 use Rattle.json.specs.Token.{Token}
-use Rattle.json.specs.Json as json
 use Rattle.json.specs.Json.{items, value, parse_map, after_end_array}
 use Rattle.json.proofs.Grammar.{value-begin_array}
-use Rattle.serde_json.specs.Data.{Data, array, Items, no_items, item}
+use Rattle.serde_json.specs.Data.{array, Items, no_items, item}
 use Rattle.serde_json.specs.Events.{items_len}
 use Rattle.serde_json.specs.Read.{of_json, of_items, converted}
 use Rattle.json_data.proofs.Loops.{next_item, last_item, read_array, what_was_read}
@@ -14,7 +13,6 @@ use Rattle.scenario_text.specs.declared.fault.Fault.{Fault}
 use Rattle.scenario_text.specs.Fields.{◌>>=◌}
 use Rattle.scenario_text.specs.Plan.{most_steps}
 use Rattle.scenario_text.specs.Scenarios.{numbered, steps_from}
-use Rattle.scenario_text.specs.Steps.{step_of}
 use Rattle.scenario_text.specs.Streams.{IsArrayOfSteps, IsNextStep}
 
 -- the items before `left` are these steps

@@ -1,5 +1,4 @@
-pub mod RuleLemmas
-pub mod StepLemmas
+pub mod CountLemmas
 pub mod Answering
 pub mod RetryLemmas
 pub mod ItemLemmas

@@ -1,25 +1,24 @@
 -- The members of a scenario that are read one after another, beside the object that they are in.
-use Rattle.std.proofs.Common.{◌≡◌, ℕ, ℤ, pos, ◌-◌, ◌<◌, ◌≤◌, true, false, List, [], ◌∷◌, length, codes, Option, Some, None, option_map, IfSome, Ok, refl, sym, ap, ◌∙◌, arith, rules, true≢false, nat_lt}
+use Rattle.std.proofs.Common.{◌≡◌, ℕ, ℤ, pos, ◌<◌, ◌≤◌, true, false, List, [], ◌∷◌, length, codes, Option, Some, None, IfSome, Ok, refl, sym, ap, ◌∙◌, arith, true≢false, nat_lt}
 use Rattle.std.proofs.lemmas.Bool.Decides.{nat_tests}
 use Rattle.std.specs.Str.{bytes_eq}
 use Rattle.json.specs.Token.{Token}
-use Rattle.json.specs.Json.{members, value, read_key}
-use Rattle.json.proofs.Grammar.{value-begin_object, read_key-shorter}
+use Rattle.json.specs.Json.{value, read_key}
 use Rattle.serde_json.specs.Data.{Data, array, object, Items, Members, no_members, put}
 use Rattle.serde_json.specs.Events.{items_len}
 use Rattle.serde_json.specs.Find.{get_member}
-use Rattle.serde_json.specs.Read.{of_json, of_members, converted}
+use Rattle.serde_json.specs.Read.{of_json, converted}
 use Rattle.serde_json.proofs.Views.{get_member-put, get_member-put_other}
-use Rattle.json.specs.Json as json
 use Rattle.json_data.specs.Reading.{members_among}
 use Rattle.json_data.proofs.Keys.{members_among-put}
-use Rattle.json_data.proofs.Loops.{next_member, last_member, read_object, what_was_read}
+use Rattle.json_data.proofs.Loops.{what_was_read}
 use Rattle.trace_stop.specs.declared.Settings.{Settings}
 use Rattle.requests.specs.Run.{Asked}
 use Rattle.scenario_text.specs.Fields.{integer_of, optional}
 use Rattle.scenario_text.specs.Plan.{most_steps}
 use Rattle.scenario_text.specs.Scenarios.{steps_from, settings_of, plan_of, head_of}
 use Rattle.scenario_text.specs.Streams.{IsArrayOfSteps, IsInteger, IsScenario}
+use Rattle.scenario_text.proofs.ObjectLemmas.{HasMembers, begins, goes_on, ends}
 
 abbrev steps_key : List ℕ
 steps_key = codes "steps"
@@ -34,21 +33,15 @@ AreFound found steps = (ds : Items) × (get_member steps_key found ≡ Some (arr
 -- the members before `left` have these steps, if any, and this setting
 pub record HasFound (all left : List Token) (steps : Option (List Asked)) (kill : ℤ) : Type 0 where
   pub found : Members
-  pub turns : ℕ
-  pub enough : length left ≤ turns
-  pub shorter : length left ≤ length all
-  pub same : converted (λ ms. of_members ms no_members) (members (value 126) (length all) all) ≡ converted (λ ms. of_members ms found) (members (value 126) turns left)
+  pub read : HasMembers 127 all left found
   pub given : IfSome steps (AreFound found)
   pub setting : optional (pos 1) integer_of (get_member kill_key found) ≡ Ok kill
   pub only : members_among (steps_key ∷ kill_key ∷ []) found ≡ true
 
-pub begins : (ts : List Token) → HasFound ts ts None (pos 1)
-begins ts = record {
+pub none_found : (ts : List Token) → HasFound ts ts None (pos 1)
+none_found ts = record {
   found = no_members;
-  turns = length ts;
-  enough = omega arith;
-  shorter = omega arith;
-  same = refl;
+  read = begins 127 ts;
   given = tt;
   setting = refl;
   only = refl;
@@ -62,13 +55,9 @@ pub with_steps : (all left s r : List Token) (before : Option (List Asked)) (ste
 with_steps all left s r before steps kill h key is less =
     let d = array is.0 in
     let j = what_was_read (value 126 s) d r is.1 in
-    let named = read_key-shorter left (Some steps_key) s key in
     record {
       found = put steps_key d h.found;
-      turns = h.turns - 1;
-      enough = omega (arith, h.enough, named);
-      shorter = omega (arith, h.shorter, named);
-      same = h.same ∙ next_member (value 126) h.found h.turns steps_key left s r j.0 d (omega (arith, h.enough, named)) key j.1 j.2;
+      read = goes_on 127 all left h.found h.read s r steps_key j.0 d key j.1 j.2 less;
       given = (is.0, get_member-put steps_key d h.found, is.2, is.3, is.4);
       setting = ap (optional (pos 1) integer_of) (get_member-put_other kill_key steps_key d h.found (λ e. differ (sym e))) ∙ h.setting;
       only = members_among-put (steps_key ∷ kill_key ∷ []) steps_key d h.found ∙ h.only;
@@ -79,18 +68,13 @@ kept found d None given = tt
 kept found d (Some steps) given = (given.0, get_member-put_other steps_key kill_key d found differ ∙ given.1, given.2, given.3, given.4)
 
 pub with_kill : (all left s r : List Token) (steps : Option (List Asked)) (before kill : ℤ) → HasFound all left steps before → read_key left ≡ Some (Some kill_key, s) → IsInteger kill s r → HasFound all r steps kill
-with_kill all left s r steps before kill h key (j, d, one, is, number, less) =
-    let named = read_key-shorter left (Some kill_key) s key in
-    record {
-      found = put kill_key d h.found;
-      turns = h.turns - 1;
-      enough = omega (arith, h.enough, named);
-      shorter = omega (arith, h.shorter, named);
-      same = h.same ∙ next_member (value 126) h.found h.turns kill_key left s r j d (omega (arith, h.enough, named)) key one is;
-      given = kept h.found d steps h.given;
-      setting = ap (optional (pos 1) integer_of) (get_member-put kill_key d h.found) ∙ number;
-      only = members_among-put (steps_key ∷ kill_key ∷ []) kill_key d h.found ∙ h.only;
-    }
+with_kill all left s r steps before kill h key (j, d, one, is, number, less) = record {
+  found = put kill_key d h.found;
+  read = goes_on 127 all left h.found h.read s r kill_key j d key one is less;
+  given = kept h.found d steps h.given;
+  setting = ap (optional (pos 1) integer_of) (get_member-put kill_key d h.found) ∙ number;
+  only = members_among-put (steps_key ∷ kill_key ∷ []) kill_key d h.found ∙ h.only;
+}
 
 planned : (found : Members) (steps : List Asked) (kill : ℤ) (settings : Settings) → AreFound found steps → optional (pos 1) integer_of (get_member kill_key found) ≡ Ok kill
     → members_among (steps_key ∷ kill_key ∷ []) found ≡ true → settings_of kill ≡ Ok settings → plan_of (object found) ≡ Ok (record { settings = settings; steps = steps })
@@ -99,10 +83,6 @@ planned found steps kill settings given setting only set =
     let few : nat_lt most_steps (items_len given.0) ≡ false = grind (arith, nat_tests, given.3, given.4) in
     rw (given.1, setting, only, set, few, given.2) refl
 
-pub ends : (all left r : List Token) (steps : List Asked) (kill : ℤ) (settings : Settings) → HasFound all left (Some steps) kill → read_key left ≡ Some (None, r) → settings_of kill ≡ Ok settings
+pub all_found : (all left r : List Token) (steps : List Asked) (kill : ℤ) (settings : Settings) → HasFound all left (Some steps) kill → read_key left ≡ Some (None, r) → settings_of kill ≡ Ok settings
     → IsScenario (record { settings = settings; steps = steps }) (converted of_json (value 127 (Token.begin_object ∷ all))) r
-ends all left r steps kill settings h over set = (
-  object h.found,
-  ap (converted of_json) (value-begin_object 127 all (omega arith)) ∙ read_object (members (value 126) (length all) all) ∙ ap (json.parse_map object) (h.same ∙ last_member (value 126) h.found h.turns left r h.enough over),
-  planned h.found steps kill settings h.given h.setting h.only set,
-)
+all_found all left r steps kill settings h over set = (object h.found, ends 127 all left h.found h.read r (omega arith) over, planned h.found steps kill settings h.given h.setting h.only set)

@@ -92,7 +92,10 @@ pub(crate) fn signal_of(value: &Value<'_>) -> Result<Signal, Flaw>
     ensures { result ≡ signal_of (view value.now) }
 {
     let number = number_within(value, 1, 31)?;
-    Signal::new(number).map_err(|_| Flaw::Number)
+    match Signal::new(number) {
+        Ok(signal) => Ok(signal),
+        Err(_) => Err(Flaw::Number),
+    }
 }
 
 /// A set of signals.

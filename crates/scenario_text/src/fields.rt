@@ -7,7 +7,7 @@ use json::Value;
 use json_data::{Member, get, has_only, object};
 
 /// What is wrong with a step.
-#[derive(Clone, Copy, Debug, PartialEq, Eq)]
+#[derive(Clone, Copy)]
 pub(crate) enum Flaw {
     Shape,
     User,

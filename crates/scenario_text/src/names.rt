@@ -6,7 +6,7 @@ use requests::Request;
 use signals::Disposition;
 
 /// What a step does.
-#[derive(Clone, Copy, Debug, PartialEq, Eq)]
+#[derive(Clone, Copy)]
 pub(crate) enum Op {
     Spawn,
     Ptrace,
@@ -64,7 +64,7 @@ pub(crate) fn request_named(text: &str) -> Option<Request>
 }
 
 /// An option of wait4(2).
-#[derive(Clone, Copy, Debug, PartialEq, Eq)]
+#[derive(Clone, Copy)]
 pub(crate) enum WaitOption {
     Nohang,
     Untraced,
@@ -94,7 +94,7 @@ pub(crate) fn disposition_named(text: &str) -> Option<Disposition>
 }
 
 /// What an LWP does at its turn.
-#[derive(Clone, Copy, Debug, PartialEq, Eq)]
+#[derive(Clone, Copy)]
 pub(crate) enum ActKind {
     Compute,
     Leave,
@@ -117,7 +117,7 @@ pub(crate) fn act_named(text: &str) -> Option<ActKind>
 }
 
 /// The system call that an LWP enters.
-#[derive(Clone, Copy, Debug, PartialEq, Eq)]
+#[derive(Clone, Copy)]
 pub(crate) enum CallKind {
     Exit,
     Fork,
@@ -144,7 +144,7 @@ pub(crate) fn call_named(text: &str) -> Option<CallKind>
 }
 
 /// What a rule decides, without the signal that is passed on.
-#[derive(Clone, Copy, Debug, PartialEq, Eq)]
+#[derive(Clone, Copy)]
 pub(crate) enum DecisionKind {
     Decline,
     Leave,

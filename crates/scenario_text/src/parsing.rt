@@ -108,7 +108,7 @@ fn head_of<'v, 'a>(value: &'v Value<'a>) -> Result<(&'v [Value<'a>], Settings), 
     head_with(object_of(value)?)
 }
 
-#[tactic(auto, using(crate::proofs::StepLemmas::many_steps, crate::proofs::StepLemmas::few_steps))]
+#[tactic(auto, using(crate::proofs::CountLemmas::many_steps, crate::proofs::CountLemmas::few_steps))]
 fn bounded_steps(alloc: Global, items: &[Value<'_>]) -> Result<StepList, Fault>
     ensures yields { Yields (λ xs. xs) result
         (bounded (items_view items.now) (steps_from 1 (items_view items.now))) }
@@ -126,9 +126,13 @@ fn plan_of(alloc: Global, value: &Value<'_>) -> Result<Scenario, Fault>
     ensures yields { Yields (λ s. s) result (plan_of (view value.now)) }
     ensures no_read { IfErr result (λ e. e ≢ ReadFault) }
 {
-    let (items, settings) = head_of(value).map_err(|flaw| flaw.at(0))?;
-    let steps = bounded_steps(alloc, items)?;
-    Ok(Scenario::new(settings, steps))
+    match head_of(value) {
+        Ok((items, settings)) => {
+            let steps = bounded_steps(alloc, items)?;
+            Ok(Scenario::new(settings, steps))
+        }
+        Err(flaw) => Err(flaw.at(0)),
+    }
 }
 
 /// The scenario that a text's value is, or its first fault.
@@ -168,6 +172,7 @@ pub fn parse(alloc: Global, bytes: &[u8]) -> Result<Scenario, Fault>
 }
 
 /// No bytes stand for two scenarios, nor for one and a fault, nor have two faults.
+#[tactic(auto, using(crate::proofs::Answering::one))]
 pub fn one_answer()
     ensures { (bytes : List ℕ) (r q : Result Plan Fault) → StandsFor bytes r → StandsFor bytes q → r ≡ q }
 {}

@@ -21,7 +21,9 @@ fn front_of<R: Read>(alloc: Global, reader: &mut R) -> Result<Vec<u8>, Fault>
     'chunks: while bytes.len() <= MOST_BYTES {
         let room = chunk.len().min(MOST_BYTES + 1 - bytes.len());
         let part = &mut chunk[..room];
-        let n = read_some(reader, part).map_err(|_| Fault::Read)?;
+        let Ok(n) = read_some(reader, part) else {
+            return Err(Fault::Read);
+        };
         if n == 0 {
             return Ok(bytes);
         }

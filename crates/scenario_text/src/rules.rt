@@ -47,7 +47,10 @@ fn pass_number_at(rule: &[Member<'_>]) -> Result<u32, Flaw>
 fn pass_at(rule: &[Member<'_>]) -> Result<Pass, Flaw>
     ensures { result ≡ pass_at (object_view rule.now) }
 {
-    Pass::new(pass_number_at(rule)?).map_err(|_| Flaw::Number)
+    match Pass::new(pass_number_at(rule)?) {
+        Ok(pass) => Ok(pass),
+        Err(_) => Err(Flaw::Number),
+    }
 }
 
 fn kind_at(rule: &[Member<'_>]) -> Result<DecisionKind, Flaw>
@@ -119,11 +122,14 @@ fn few_rules(items: &[Value<'_>]) -> Result<Policy, Flaw>
     for (i, item) in items.iter().enumerate() {
         rules[i] = rule_of(item)?;
     }
-    Policy::new(&rules[..items.len()]).map_err(|_| Flaw::TooManyRules)
+    match Policy::new(&rules[..items.len()]) {
+        Ok(policy) => Ok(policy),
+        Err(_) => Err(Flaw::TooManyRules),
+    }
 }
 
 /// The policy of an array of rules. More than 16 rules are refused before any of them is read.
-#[tactic(auto, using(crate::proofs::RuleLemmas::many_rules, crate::proofs::RuleLemmas::few_rules))]
+#[tactic(auto, using(crate::proofs::CountLemmas::many_rules, crate::proofs::CountLemmas::few_rules))]
 pub(crate) fn rules_of(items: &[Value<'_>]) -> Result<Policy, Flaw>
     ensures { result ≡ rules_of (items_view items.now) }
 {

@@ -26,7 +26,10 @@ fn user_at(step: &[Member<'_>]) -> Result<Uid, Flaw>
 {
     let number = integer(step, "user")?;
     if 1001 <= number && number <= 1064 {
-        Uid::new(number as u32).map_err(|_| Flaw::User)
+        match Uid::new(number as u32) {
+            Ok(user) => Ok(user),
+            Err(_) => Err(Flaw::User),
+        }
     } else {
         Err(Flaw::User)
     }

@@ -145,20 +145,23 @@ fn with_scenario_options<'a>(
         .action(ArgAction::Set)
         .value_parser(clap::value_parser!(u32).range(1001..=1064))
         .help("Print the lines of this user alone, 1001 to 1064");
+    let command = command.arg(user)?;
     let threads = Arg::new(alloc, "threads")
         .long("threads")
         .action(ArgAction::SetTrue)
         .help("Make each user's steps in a thread of their own, and print the lines user by user");
+    let command = command.arg(threads)?;
     let expect = Arg::new(alloc, "expect")
         .long("expect")
         .value_name("FILE")
         .action(ArgAction::Set)
         .help("Print nothing, but the first line that differs from those of this file");
+    let command = command.arg(expect)?;
     let json = Arg::new(alloc, "json")
         .long("json")
         .action(ArgAction::SetTrue)
         .help("Print each line as a JSON object");
-    command.arg(user)?.arg(threads)?.arg(expect)?.arg(json)
+    command.arg(json)
 }
 
 /// The command with the options of a session line by line.
@@ -170,6 +173,7 @@ fn with_line_options<'a>(alloc: Global, command: Command<'a>) -> Result<Command<
         .conflicts_with("threads")?
         .conflicts_with("expect")?
         .help("Read a step a line, and answer each before the next is read");
+    let command = command.arg(lines)?;
     let kill = Arg::new(alloc, "0|1")
         .long("kill-on-debugger-exit")
         .action(ArgAction::Set)
@@ -178,7 +182,7 @@ fn with_line_options<'a>(alloc: Global, command: Command<'a>) -> Result<Command<
         .help(
             "With --lines: whether the end of a debugger kills the processes that it traces [default: 1]",
         );
-    command.arg(lines)?.arg(kill)
+    command.arg(kill)
 }
 
 /// The command line, by the options that the program has.
@@ -253,10 +257,10 @@ fn scenario_of<R: Files + Input + AllocGlobal>(
     file: Option<&str>,
 ) -> Result<Scenario, Fault> {
     match file {
-        Some(path) => {
-            let mut file = fs::open(rt, path).map_err(|_| Fault::Read)?;
-            read(rt.alloc(), &mut file)
-        }
+        Some(path) => match fs::open(rt, path) {
+            Ok(mut file) => read(rt.alloc(), &mut file),
+            Err(_) => Err(Fault::Read),
+        },
         None => read(rt.alloc(), &mut rt.reader()),
     }
 }

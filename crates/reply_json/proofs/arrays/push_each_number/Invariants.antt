@@ -1,10 +1,12 @@
 use Rattle.std.proofs.Common.{◌≡◌, ◌++◌, map, drop}
-use Rattle.reply_json.specs.Objects.{natural, value_tokens}
+use Rattle.json.specs.Tree.{items_tokens}
+use Rattle.json.specs.Value.{items_of}
+use Rattle.reply_json.specs.Objects.{natural}
 use Rattle.reply_json.proofs.arrays.push_each_number.Given as goal
 
 -- the tokens so far, and those of the numbers that are left
 abbrev pub invariant-loop-number : goal.invariant-loop-number
 invariant-loop-number l = record {
   before : l.out.before ≡ l.fn.out.before;
-  whole : l.out.tokens ++ value_tokens (map (λ n. natural n) (drop l.number-index l.numbers)) ≡ l.fn.out.tokens ++ value_tokens (map (λ n. natural n) l.numbers);
+  whole : l.out.tokens ++ items_tokens (items_of (map (λ n. natural n) (drop l.number-index l.numbers))) ≡ l.fn.out.tokens ++ items_tokens (items_of (map (λ n. natural n) l.numbers));
 }

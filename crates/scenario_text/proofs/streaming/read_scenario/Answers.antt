@@ -1,4 +1,4 @@
-use Rattle.std.proofs.Common.{◌≡◌, ◌∷◌, Some, sym, ap, ◌∙◌, subst, rules}
+use Rattle.std.proofs.Common.{◌≡◌, ◌∷◌, Ok, Some, sym, ap, ◌∙◌, subst, rules}
 use Rattle.json.specs.Token.{Token}
 use Rattle.json.specs.Json.{value}
 use Rattle.json.specs.Reads.{token_of}
@@ -6,11 +6,11 @@ use Rattle.serde_json.specs.Read.{of_json, converted}
 use Rattle.scenario_text.specs.Scenarios.{settings_of}
 use Rattle.scenario_text.specs.Streams.{IsScenario, text_of}
 use Rattle.scenario_text.proofs.Answering.{some_weaker}
-use Rattle.scenario_text.proofs.MemberLemmas.{HasFound, begins, with_steps, with_kill, ends}
+use Rattle.scenario_text.proofs.MemberLemmas.{HasFound, none_found, with_steps, with_kill, all_found}
 use Rattle.scenario_text.proofs.streaming.read_scenario.Goals as goal
 
 pub members-init : goal.members-init
-members-init c = begins c.next.new.self
+members-init c = none_found c.next.new.self
 
 pub members-preserved-in-Steps : goal.members-preserved-in-Steps
 members-preserved-in-Steps c =
@@ -34,5 +34,5 @@ returns-in-End c =
     some_weaker c.scenario_of.result _ _
     (λ s is. subst (λ plan. IsScenario plan (converted of_json (value 127 c.args.reader.now)) c.next_key.new.reader) (sym is.2)
     (subst (λ ts. IsScenario (record { settings = is.0; steps = steps }) (converted of_json (value 127 ts)) c.next_key.new.reader) (sym first)
-    (ends c.next.new.self l.reader c.next_key.new.reader steps l.kill is.0 found over (ap settings_of (sym l.kill-is) ∙ is.1))))
+    (all_found c.next.new.self l.reader c.next_key.new.reader steps l.kill is.0 found over (◌∙◌ {c = Ok is.0} (ap settings_of (sym l.kill-is)) is.1))))
     c.scenario_of.ensures

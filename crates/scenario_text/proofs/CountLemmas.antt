@@ -1,4 +1,4 @@
--- How many steps an array has.
+-- How many rules and steps an array has.
 use Rattle.std.proofs.Common.{◌≡◌, ◌<◌, ◌≤◌, List, length, Result, Err, arith}
 use Rattle.std.proofs.lemmas.Bool.Decides.{nat_tests}
 use Rattle.json_data.proofs.Lookups.{items_len-items_view}
@@ -6,8 +6,19 @@ use Rattle.json_data.specs.Reading.{items_view}
 use Rattle.json.specs.declared.value.Value.{Value}
 use Rattle.scenario_text.specs.declared.fault.Fault.{Fault}
 use Rattle.scenario_text.specs.declared.fault.Fault.TheVariants.{TooManySteps}
+use Rattle.scenario_text.specs.declared.fields.Flaw.TheVariants.{TooManyRules}
+use Rattle.scenario_text.specs.Fields.{each}
 use Rattle.scenario_text.specs.Plan.{most_steps}
+use Rattle.scenario_text.specs.Rules.{rule_of, rules_of}
 use Rattle.scenario_text.specs.Scenarios.{bounded}
+
+pub many_rules : {A : Type 0} (vs : List (Value A)) → 16 < length vs → rules_of (items_view vs) ≡ Err TooManyRules
+unfolding rules_of
+many_rules vs h = let n = items_len-items_view vs in grind (arith, nat_tests)
+
+pub few_rules : {A : Type 0} (vs : List (Value A)) → length vs ≤ 16 → rules_of (items_view vs) ≡ each rule_of (items_view vs)
+unfolding rules_of
+few_rules vs h = let n = items_len-items_view vs in grind (arith, nat_tests)
 
 pub many_steps : {X A : Type 0} (vs : List (Value A)) (r : Result X Fault) → most_steps < length vs → bounded (items_view vs) r ≡ Err TooManySteps
 many_steps vs r h = let n = items_len-items_view vs in grind (arith, nat_tests)
