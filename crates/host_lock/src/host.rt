@@ -193,11 +193,7 @@ impl<F: Decider + Send + Drop> SharedHost<F> {
 
 /// Waits until the door can be taken. One waiter alone stands at it, and the others in the lobby: a lock is left to those that lost it
 /// often, so many at the door would hand it from thread to thread with each call.
-fn wait_inside<'a, R: Wait>(
-    rt: &R,
-    lobby: &Mutex<()>,
-    door: &'a Mutex<()>,
-) -> MutexGuard<'a, ()> {
+fn wait_inside<'a, R: Wait>(rt: &R, lobby: &Mutex<()>, door: &'a Mutex<()>) -> MutexGuard<'a, ()> {
     let _first = lobby.lock(rt);
     door.lock(rt)
 }

@@ -1,5 +1,5 @@
 -- A script that is ready to run, and what it has done.
-use Rattle.std.specs.Prelude.{◌≡◌, ℕ, ◌≤◌, List, [], map, Vec, vec_len, vec_capacity}
+use Rattle.std.specs.Prelude.{◌≡◌, ℕ, ◌≤◌, List, [], Vec, vec_len, vec_capacity}
 use Rattle.host_lock.specs.Limits.{most_calls}
 use Rattle.host_lock.specs.Sessions.{SessionData, HostData, IsOf}
 use Rattle.requests.specs.Plain.{PlainStep}

@@ -1,4 +1,4 @@
-use Rattle.std.proofs.Common.{◌≡◌, ◌+◌, ◌∙◌, List, drop, refl, ap, sym, rules, arith}
+use Rattle.std.proofs.Common.{◌+◌, ◌∙◌, List, drop, refl, ap, sym, rules, arith}
 use Rattle.std.specs.Vec.Iter.{into_iter_items}
 use Rattle.requests.specs.Machine.{empty}
 use Rattle.requests.specs.Run.{Asked, replies}

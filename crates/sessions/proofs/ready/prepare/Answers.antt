@@ -1,4 +1,4 @@
-use Rattle.std.proofs.Common.{◌≡◌, List, length, map, ap, ◌∙◌, sym, subst, arith}
+use Rattle.std.proofs.Common.{length, map, ap, ◌∙◌, arith}
 use Rattle.host_lock.specs.Sessions.{new_sessions}
 use Rattle.sessions.proofs.Pairing.{new_sessions_length, length_map}
 use Rattle.sessions.specs.Runs.{uid_of}

@@ -1,4 +1,4 @@
-use Rattle.std.proofs.Common.{◌≡◌, ◌+◌, ◌++◌, [], ◌∷◌, List, sym, subst, ap, ◌∙◌, arith, rules, append_assoc, append-nil, length-append, vec_len, length, refl}
+use Rattle.std.proofs.Common.{◌≡◌, ◌++◌, [], ◌∷◌, List, sym, subst, ap, ◌∙◌, arith, rules, append_assoc, append-nil, length-append, length, refl}
 use Rattle.std.specs.Vec.Iter.{into_iter_items}
 use Rattle.std.proofs.lemmas.List.{nil_from_length}
 use Rattle.requests.specs.Plain.{PlainStep}

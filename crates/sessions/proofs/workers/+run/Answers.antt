@@ -1,4 +1,4 @@
-use Rattle.std.proofs.Common.{rules, ◌≡◌, ◌++◌, [], ◌∷◌, map, Vec, Global, sym, subst, ◌∙◌, arith}
+use Rattle.std.proofs.Common.{rules, ◌≡◌, ◌++◌, [], ◌∷◌, Vec, Global, sym, subst, ◌∙◌, arith}
 use denote.Param.{param}
 use denote.Param.Send.{IsSend, IsSync, param_send, sendable}
 use Rattle.std.proofs.Crossing.{crosses}
@@ -11,7 +11,7 @@ use Rattle.host_lock.proofs.Crossing.{reply_send, session_send, step_send, host_
 use Rattle.sessions.specs.declared.job.Job.{Job}
 use Rattle.sessions.specs.declared.job.Done.{Done}
 use Rattle.sessions.specs.declared.job.Plan.{Plan}
-use Rattle.sessions.specs.Made.{Did, Pairs}
+use Rattle.sessions.specs.Made.{Did}
 use Rattle.sessions.specs.Jobs.{AllDone}
 use Rattle.sessions.proofs.Scripts.{pairs_more}
 use Rattle.sessions.proofs.workers.+run.Lts-fn-beside-scope.{arg-0-2}
