@@ -24,7 +24,7 @@ use std::alloc::{AllocError, Global};
 use std::marker::Model;
 use std::mem;
 use std::snapshot::Snapshot;
-use std::sync::{Mutex, MutexGuard, Wait};
+use std::sync::{Mutex, Wait};
 use stop_handlers::{Decider, Handler};
 
 /// A host that sessions share, each in a thread of its own if it likes. Contracts see which host it is, what it was at opening, and how
@@ -34,8 +34,6 @@ pub struct SharedHost<F: Decider + Send + Drop> {
     table: HostTable<F>,
     /// Held during a call, and waited for before it draws its ticket. No contract rests on it: the ticket is waited for all the same.
     door: Mutex<()>,
-    /// Held while the door is waited for, so that one alone waits there.
-    lobby: Mutex<()>,
     sessions: usize,
 }
 
@@ -139,7 +137,6 @@ impl<F: Decider + Send + Drop> SharedHost<F> {
         let SharedHost {
             table,
             door: _,
-            lobby: _,
             sessions: _,
         } = self;
         let seat = join_seats(&table, sessions);
@@ -171,10 +168,7 @@ impl<F: Decider + Send + Drop> SharedHost<F> {
         }
         let badge = mem::replace(&mut session.badge, Badge::blank());
         let mut seat = badge.into_seat();
-        let inside = match self.door.try_lock() {
-            Some(inside) => inside,
-            None => wait_inside(rt, &self.lobby, &self.door),
-        };
+        let inside = self.door.lock(rt);
         let reply = turn(
             rt,
             alloc,
@@ -189,13 +183,6 @@ impl<F: Decider + Send + Drop> SharedHost<F> {
         session.calls_made += 1;
         Answer::Reply(reply)
     }
-}
-
-/// Waits until the door can be taken. One waiter alone stands at it, and the others in the lobby: a lock is left to those that lost it
-/// often, so many at the door would hand it from thread to thread with each call.
-fn wait_inside<'a, R: Wait>(rt: &R, lobby: &Mutex<()>, door: &'a Mutex<()>) -> MutexGuard<'a, ()> {
-    let _first = lobby.lock(rt);
-    door.lock(rt)
 }
 
 /// The table, with the host in its slot, and a seat that stands for all sessions.
@@ -286,7 +273,6 @@ fn share<F: Decider + Send + Drop>(
     let host = SharedHost {
         table,
         door: Mutex::new(()),
-        lobby: Mutex::new(()),
         sessions: users.len(),
     };
     Ok((host, sessions))
