@@ -126,7 +126,8 @@ class Builder:
             return False
         built = os.path.getmtime(stamp)
         whole = [name, *self.all_below(name)]
-        return all(newest_below(f"{TOP}/crates/{it}") < built for it in whole)
+        listed = os.path.getmtime(f"{TOP}/crates.txt")
+        return listed < built and all(newest_below(f"{TOP}/crates/{it}") < built for it in whole)
 
     def all_below(self, name):
         found = set()

@@ -18,23 +18,33 @@ use crate::shared_state::SharedState;
 use crate::turn::turn;
 use crate::view::Slot;
 use atomic_table::{Badge, Table};
+use crossbeam_utils::{Backoff, CachePadded};
 use pid_blocks::Uid;
 use requests::{Host, Reply, Step};
 use std::alloc::{AllocError, Global};
 use std::marker::Model;
 use std::mem;
 use std::snapshot::Snapshot;
-use std::sync::{Mutex, Wait};
+use std::sync::{Mutex, MutexGuard, Wait};
 use stop_handlers::{Decider, Handler};
 
 /// A host that sessions share, each in a thread of its own if it likes. Contracts see which host it is, what it was at opening, and how
 /// many sessions were opened.
-#[derive(Drop)]
 pub struct SharedHost<F: Decider + Send + Drop> {
     table: HostTable<F>,
     /// Held during a call, and waited for before it draws its ticket. No contract rests on it: the ticket is waited for all the same.
-    door: Mutex<()>,
+    door: CachePadded<Mutex<()>>,
     sessions: usize,
+}
+
+impl<F: Decider + Send + Drop> Drop for SharedHost<F> {
+    fn drop(self) {
+        let SharedHost {
+            table: _,
+            door: _,
+            sessions: _,
+        } = self;
+    }
 }
 
 impl<F: Decider + Send + Drop> Model for SharedHost<F> {
@@ -168,7 +178,7 @@ impl<F: Decider + Send + Drop> SharedHost<F> {
         }
         let badge = mem::replace(&mut session.badge, Badge::blank());
         let mut seat = badge.into_seat();
-        let inside = self.door.lock(rt);
+        let inside = enter(rt, &self.door);
         let reply = turn(
             rt,
             alloc,
@@ -183,6 +193,21 @@ impl<F: Decider + Send + Drop> SharedHost<F> {
         session.calls_made += 1;
         Answer::Reply(reply)
     }
+}
+
+/// How often a caller tries the door before it sleeps there: for some microseconds, at growing distances.
+const TRIES: usize = 32;
+
+/// Waits until no other call is being made. Most calls are over sooner than a sleeper wakes, so the caller tries for a while first.
+fn enter<'a, R: Wait>(rt: &R, door: &'a Mutex<()>) -> MutexGuard<'a, ()> {
+    let backoff = Backoff::new();
+    for _ in 0..TRIES {
+        if let Some(inside) = door.try_lock() {
+            return inside;
+        }
+        backoff.spin();
+    }
+    door.lock(rt)
 }
 
 /// The table, with the host in its slot, and a seat that stands for all sessions.
@@ -272,7 +297,7 @@ fn share<F: Decider + Send + Drop>(
     let sessions = make_sessions(alloc, &table, unsplit, users)?;
     let host = SharedHost {
         table,
-        door: Mutex::new(()),
+        door: CachePadded::new(Mutex::new(())),
         sessions: users.len(),
     };
     Ok((host, sessions))

@@ -40,11 +40,20 @@ fn exit_fits(act: &Act)
 }
 
 /// A host: its rows of processes and LWPs, what debuggers have installed, and its settings.
-#[derive(Drop)]
 pub struct Host<F: Decider + Send + Drop> {
     tables: Tables,
     handlers: HandlerTable<F>,
     settings: Settings,
+}
+
+impl<F: Decider + Send + Drop> Drop for Host<F> {
+    fn drop(self) {
+        let Host {
+            tables: _,
+            handlers: _,
+            settings: _,
+        } = self;
+    }
 }
 
 impl<F: Decider + Send + Drop> Model for Host<F> {
