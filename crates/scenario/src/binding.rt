@@ -1,6 +1,7 @@
 //! From the steps of a scenario to those that a host makes, with their handlers.
-ghost use Rattle.std.specs.Prelude.{◌≡◌, ◌≢◌, ◌≤◌, ◌↔◌, ◌⊎◌, length, map, IsTrue, IfOk, IfErr, IsErrOf};
+ghost use Rattle.std.specs.Prelude.{⊤, ◌≡◌, ◌≢◌, ◌≤◌, ◌↔◌, ◌⊎◌, length, map, IsTrue, IfOk, IfErr, IsErrOf};
 ghost use Rattle.std.specs.Vec.Iter.{into_iter_items};
+ghost use Rattle.stop_handlers.specs.Decide.{decide};
 ghost use Rattle.stop_handlers.specs.Handlers.{MakesObeying};
 ghost use Rattle.scenario_text.specs.Plan.{asked, most_steps, policies_in};
 ghost use Rattle.scenario.specs.Binding.{IsBound};
@@ -12,7 +13,7 @@ use requests::Step;
 use scenario_text::{Scenario, StepShape};
 use std::alloc::{AllocError, Global};
 use std::vec::IntoIter;
-use stop_handlers::{Decider, Handler, Policy};
+use stop_handlers::{Decider, Decision, Handler, Policy, StopView};
 
 /// The policies of the scenario's installs, in order. An error is want of memory.
 pub fn policies(alloc: Global, scenario: &Scenario) -> Result<Vec<Policy>, AllocError>
@@ -111,6 +112,35 @@ pub fn handlers_of<F: Decider + Send + Drop, M: Fn(Policy) -> F>(
     let mut handlers = Vec::with_capacity(alloc, policies.len())?;
     for policy in policies {
         handlers.push(Handler::new(*policy, make(*policy)))?;
+    }
+    Ok(handlers)
+}
+
+/// Answers as a policy decides that stands elsewhere, as in a scenario.
+#[derive(Drop)]
+pub struct ByPolicyRef<'a>(pub &'a Policy);
+
+impl Decider for ByPolicyRef<'_> {
+    ghost can_ask = { λ _. ⊤ };
+
+    ghost gives = { λ p view decision. decision ≡ decide p.0.now view };
+
+    fn answer(&self, view: &StopView) -> Decision {
+        self.0.decide(view)
+    }
+}
+
+/// A handler for each of the policies, in order, which answers by it. A step that installs it is less than half as large as one with
+/// a second copy of the policy. An error is want of memory.
+pub fn handlers_by<'a>(
+    alloc: Global,
+    policies: &'a [Policy],
+) -> Result<Vec<Handler<ByPolicyRef<'a>>>, AllocError>
+    ensures { IfOk result (λ handlers. handlers.items ≡ policies.now) }
+{
+    let mut handlers = Vec::with_capacity(alloc, policies.len())?;
+    for policy in policies {
+        handlers.push(Handler::new(*policy, ByPolicyRef(policy)))?;
     }
     Ok(handlers)
 }

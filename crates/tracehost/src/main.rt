@@ -11,8 +11,6 @@
 mod expecting;
 mod explaining;
 
-ghost use Rattle.stop_handlers.specs.Handlers.{MakesObeying};
-
 use crate::expecting::{none_differs, read_expected};
 use crate::explaining::{Explained, explained_scenario, unread};
 use clap::error::ErrorKind;
@@ -21,7 +19,7 @@ use expected_text::first_difference;
 use line_sessions::{ServeFault, serve};
 use pid_blocks::Uid;
 use scenario::{
-    Fault, RunFault, RunOptions, Scenario, Style, handlers_of, policies, read, run, run_threads,
+    Fault, RunFault, RunOptions, Scenario, Style, handlers_by, read, run, run_threads,
 };
 use std::alloc::{AllocError, Global};
 use std::io::{BufReader, Read, Write};
@@ -30,7 +28,7 @@ use std::rt::{Env, Files};
 use std::sync::Wait;
 use std::thread::Threads;
 use std::{env, fs, io};
-use stop_handlers::{ByClosure, Decider, Handler, Policy, StopView};
+use stop_handlers::{Decider, Handler};
 use trace_stop::Settings;
 
 /// Why the program ends with another status than 0.
@@ -363,23 +361,14 @@ fn scenario_told<R: Files + Input + Eprint + AllocGlobal>(
 }
 
 /// Runs the scenario with a handler for each of its policies.
-fn run_scenario<
-    R: Files + Print + AllocGlobal + Threads + Wait + Sync,
-    F: Decider + Send + Drop,
-    M: Fn(Policy) -> F,
->(
+fn run_scenario<R: Files + Print + AllocGlobal + Threads + Wait + Sync>(
     rt: &R,
-    make: M,
     scenario: &Scenario,
     shown: &Shown,
     expected: Option<&str>,
     explains: bool,
-) -> Result<(), Trouble>
-    requires callable { M.IsAlwaysCallable make }
-    requires obeys { MakesObeying F.can_ask F.gives (M.post make) }
-{
-    let policies = policies(rt.alloc(), scenario)?;
-    let handlers = handlers_of(rt.alloc(), policies.as_slice(), make)?;
+) -> Result<(), Trouble> {
+    let handlers = handlers_by(rt.alloc(), scenario.policies())?;
     match expected {
         Some(path) => {
             let wanted = read_expected(rt, path, explains)?;
@@ -395,14 +384,9 @@ fn run_scenario<
 }
 
 /// Reads the command line, and does what it asks for. The first trouble ends it.
-fn go<
-    R: Files + Input + Print + Eprint + Env + AllocGlobal + Threads + Wait + Sync,
-    F: Decider + Send + Drop,
-    M: Fn(Policy) -> F,
->(rt: &R, make: M) -> Result<(), Trouble>
-    requires callable { M.IsAlwaysCallable make }
-    requires obeys { MakesObeying F.can_ask F.gives (M.post make) }
-{
+fn go<R: Files + Input + Print + Eprint + Env + AllocGlobal + Threads + Wait + Sync>(
+    rt: &R,
+) -> Result<(), Trouble> {
     let words: Vec<String> = env::args(rt)?.collect(rt.alloc())?;
     let Asked {
         file,
@@ -412,7 +396,7 @@ fn go<
     match mode {
         Mode::Scenario { shown, expected } => {
             let scenario = scenario_told(rt, file, explains)?;
-            run_scenario(rt, make, &scenario, &shown, expected, explains)
+            run_scenario(rt, &scenario, &shown, expected, explains)
         }
         Mode::Lines { settings, style } => serve_lines(rt, settings, style, file, explains),
     }
@@ -465,10 +449,7 @@ fn told<R: Print + Eprint>(rt: &R, trouble: &Trouble) -> u8 {
 }
 
 fn main(rt: HostRuntime) -> ExitCode {
-    match go(
-        &rt,
-        |policy: Policy| ByClosure(move |view: &StopView| policy.decide(view)),
-    ) {
+    match go(&rt) {
         Ok(()) => ExitCode::SUCCESS,
         Err(trouble) => ExitCode::from(told(&rt, &trouble)),
     }
