@@ -18,10 +18,11 @@ use crate::shared_state::SharedState;
 use crate::turn::turn;
 use crate::view::Slot;
 use atomic_table::{Badge, Table};
-use crossbeam_utils::{Backoff, CachePadded};
+use crossbeam_utils::CachePadded;
 use pid_blocks::Uid;
 use requests::{Host, Reply, Step};
 use std::alloc::{AllocError, Global};
+use std::hint::spin_loop;
 use std::marker::Model;
 use std::mem;
 use std::snapshot::Snapshot;
@@ -195,17 +196,22 @@ impl<F: Decider + Send + Drop> SharedHost<F> {
     }
 }
 
-/// How often a caller tries the door before it sleeps there: for some microseconds, at growing distances.
-const TRIES: usize = 32;
+/// How often a caller tries the door before it sleeps there.
+const TRIES: u32 = 8;
 
-/// Waits until no other call is being made. Most calls are over sooner than a sleeper wakes, so the caller tries for a while first.
+/// How many hints to the processor a caller gives between two tries. All tries together take about as long as a sleep and a wake.
+const HINTS: u32 = 512;
+
+/// Waits until no other call is being made. Most calls are over sooner than a sleeper wakes, so the caller tries for a while first,
+/// and seldom, so that who is inside can make some calls in between.
 fn enter<'a, R: Wait>(rt: &R, door: &'a Mutex<()>) -> MutexGuard<'a, ()> {
-    let backoff = Backoff::new();
     for _ in 0..TRIES {
         if let Some(inside) = door.try_lock() {
             return inside;
         }
-        backoff.spin();
+        for _ in 0..HINTS {
+            spin_loop();
+        }
     }
     door.lock(rt)
 }
