@@ -197,10 +197,10 @@ impl<F: Decider + Send + Drop> SharedHost<F> {
 }
 
 /// How often a caller tries the door before it sleeps there.
-const TRIES: u32 = 8;
+const TRIES: u32 = 5;
 
 /// How many hints to the processor a caller gives between two tries. All tries together take about as long as a sleep and a wake.
-const HINTS: u32 = 512;
+const HINTS: u32 = 1024;
 
 /// Waits until no other call is being made. Most calls are over sooner than a sleeper wakes, so the caller tries for a while first,
 /// and seldom, so that who is inside can make some calls in between.
