@@ -18,9 +18,7 @@ use clap::{Arg, ArgAction, ArgMatches, Command};
 use expected_text::first_difference;
 use line_sessions::{ServeFault, serve};
 use pid_blocks::Uid;
-use scenario::{
-    Fault, RunFault, RunOptions, Scenario, Style, handlers_by, read, run, run_threads,
-};
+use scenario::{Fault, RunFault, RunOptions, Scenario, Style, handlers_by, read, run, run_threads};
 use std::alloc::{AllocError, Global};
 use std::io::{BufReader, Read, Write};
 use std::process::ExitCode;
