@@ -179,6 +179,7 @@ impl<F: Decider + Send + Drop> SharedHost<F> {
         }
         let badge = mem::replace(&mut session.badge, Badge::blank());
         let mut seat = badge.into_seat();
+        let plain = step.plain();
         let inside = enter(rt, &self.door);
         let reply = turn(
             rt,
@@ -188,6 +189,7 @@ impl<F: Decider + Send + Drop> SharedHost<F> {
             session.uid,
             session.number,
             step,
+            &plain,
         );
         drop(inside);
         session.badge = seat.into_badge();

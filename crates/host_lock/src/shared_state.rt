@@ -8,7 +8,7 @@ ghost use Rattle.host_lock.specs.History.{history};
 
 use crate::journal::{Entry, Journal};
 use pid_blocks::{Errno, Uid};
-use requests::{Host, Reply, Step};
+use requests::{Host, PlainStep, Reply, Step};
 use std::alloc::Global;
 use std::marker::Model;
 use std::snapshot::Snapshot;
@@ -59,14 +59,16 @@ fn answered<F: Decider + Send + Drop>(
 }
 
 impl<F: Decider + Send + Drop> SharedState<F> {
-    /// Makes a step, and adds it to the journal. Where memory runs out all is as before.
+    /// Makes a step, and adds it to the journal as `plain`, the same step. Where memory runs out all is as before.
     pub(crate) fn make(
         &mut self,
         alloc: Global,
         user: Uid,
         session: usize,
         step: Step<Handler<F>>,
+        plain: &PlainStep,
     ) -> Reply
+        requires plain { plain.now ≡ step }
         ensures made { is_memory result ≡ false →
             (result ≡ reply_of user step (replay self.old.start self.old.log))
             × (self.new ≡ history self.old.start (self.old.log ++ entry user session step result ∷ [])) }
@@ -78,14 +80,13 @@ impl<F: Decider + Send + Drop> SharedState<F> {
         if journal.entries.reserve(1).is_err() {
             return Reply::Errno(Errno::ENOMEM);
         }
-        let plain = step.plain();
         let Some((reply, copy)) = answered(host.as_mut(), alloc, user, step) else {
             return Reply::Errno(Errno::ENOMEM);
         };
         journal.entries.push_reserved(Entry {
             uid: user,
             session,
-            step: plain,
+            step: *plain,
             reply: copy,
         });
         reply

@@ -82,7 +82,7 @@ pub(crate) fn give_back<F: Decider + Send + Drop>(
     }
 }
 
-/// Draws a ticket, waits for its turn, makes the step, and lets the next one in.
+/// Draws a ticket, waits for its turn, makes the step, which is also handed in as `plain`, and lets the next one in.
 pub(crate) fn turn<F: Decider + Send + Drop, R: Wait>(
     rt: &R,
     alloc: Global,
@@ -91,25 +91,26 @@ pub(crate) fn turn<F: Decider + Send + Drop, R: Wait>(
     user: Uid,
     number: usize,
     step: Step<Handler<F>>,
+    plain: &PlainStep,
 ) -> Reply
     requires table { IsHostTable table.now.table_id × (seat.old.table_id ≡ table.now.table_id) }
     requires rests { seat.old.me ≡ (session_view (start_of seat.old.me.0) Idle seat.old.me.0.budget (seen_of seat.old.me.0) number (mine_of seat.old.me.0), []) }
     requires room { 0 < seat.old.me.0.budget }
+    requires plain { plain.now ≡ step }
     ensures table { seat.new.table_id ≡ seat.old.table_id }
     ensures turned { HasTurned seat.old.me.0 user number step result seat.new.me }
 {
-    let plain = step.plain();
     let ticket = table.fetch_add::<Draw>(seat, 1, 1);
     take_turn(rt, table, seat, number, ticket);
-    let Slot::There(mut state) = table.exchange(seat, 0, Slot::Away(user, plain)) else {
+    let Slot::There(mut state) = table.exchange(seat, 0, Slot::Away(user, *plain)) else {
         unreachable!()
     };
-    let reply = state.make(alloc, user, number, step);
+    let reply = state.make(alloc, user, number, step, plain);
     if reply.is_memory() {
         give_back(table, seat, number, state);
         return reply;
     }
-    count_up(table, seat, user, number, &plain, ticket);
+    count_up(table, seat, user, number, plain, ticket);
     give_back(table, seat, number, state);
     reply
 }

@@ -106,13 +106,22 @@ fn add_replies(pairs: &mut Vec<(Uid, Reply)>, transcript: Transcript) -> Result<
     Ok(())
 }
 
+/// How many replies the transcripts have.
+fn count_replies(transcripts: &[Transcript]) -> usize {
+    let mut count = 0usize;
+    for transcript in transcripts {
+        count = count.saturating_add(transcript.replies.len());
+    }
+    count
+}
+
 /// The replies of the transcripts, each with its user, one transcript after another. A step that found no memory made none.
 fn replies_in(alloc: Global, transcripts: Vec<Transcript>) -> Result<Vec<(Uid, Reply)>, RunFault>
     ensures told { IfOk result (λ pairs. map answered pairs.items ≡ flat_map told_by transcripts.items) }
     ensures made { OnOk result (AllByRecursion IsMade transcripts.items) }
     ensures err { IfErr result (λ e. e ≡ Memory) }
 {
-    let mut pairs = Vec::new(alloc);
+    let mut pairs = Vec::with_capacity(alloc, count_replies(transcripts.as_slice()))?;
     for transcript in transcripts {
         add_replies(&mut pairs, transcript)?;
     }

@@ -32,43 +32,43 @@ exchange-requires g c =
 pub give_back-requires-clause-out : goal.give_back-requires-clause-out
 give_back-requires-clause-out g c =
     let told : is_memory c.make-reply.result ≡ true = sym c.is_memory.ensures ∙ c.if-is_memory.true in
-    let f = finds c.args.seat.now.me c.fetch_add-ticket.new.seat.me c.take_turn.new.seat.me c.exchange.new.seat.me c.args.user c.args.number c.fetch_add-ticket.result c.plain-plain.result c.in-There.state c.exchange.result c.requires.rests c.fetch_add-ticket.ensures.2
+    let f = finds c.args.seat.now.me c.fetch_add-ticket.new.seat.me c.take_turn.new.seat.me c.exchange.new.seat.me c.args.user c.args.number c.fetch_add-ticket.result c.args.plain.now c.in-There.state c.exchange.result c.requires.rests c.fetch_add-ticket.ensures.2
     c.take_turn.ensures.taken c.exchange.ensures.2 c.in-There.is c.exchange.ensures.3 in
-    λ κs lives. is_out c.args.number c.exchange.new.seat.me c.in-There.state c.make-reply.new.self (Holding c.fetch_add-ticket.result) (Away c.args.user c.plain-plain.result) _ (mine_of c.args.seat.now.me.0) refl f.3 (c.make-reply.ensures.memory told)
+    λ κs lives. is_out c.args.number c.exchange.new.seat.me c.in-There.state c.make-reply.new.self (Holding c.fetch_add-ticket.result) (Away c.args.user c.args.plain.now) _ (mine_of c.args.seat.now.me.0) refl f.3 (c.make-reply.ensures.memory told)
 
 pub give_back-requires-2-clause-out : goal.give_back-requires-2-clause-out
 give_back-requires-2-clause-out g c =
     let told : is_memory c.make-reply.result ≡ false = sym c.is_memory.ensures ∙ c.if-is_memory.false in
-    let f = finds c.args.seat.now.me c.fetch_add-ticket.new.seat.me c.take_turn.new.seat.me c.exchange.new.seat.me c.args.user c.args.number c.fetch_add-ticket.result c.plain-plain.result c.in-There.state c.exchange.result c.requires.rests c.fetch_add-ticket.ensures.2
+    let f = finds c.args.seat.now.me c.fetch_add-ticket.new.seat.me c.take_turn.new.seat.me c.exchange.new.seat.me c.args.user c.args.number c.fetch_add-ticket.result c.args.plain.now c.in-There.state c.exchange.result c.requires.rests c.fetch_add-ticket.ensures.2
     c.take_turn.ensures.taken c.exchange.ensures.2 c.in-There.is c.exchange.ensures.3 in
     let state = c.in-There.state in
     let r = c.make-reply.result in
     let P : PlainStep → Type 0 = λ s. (r ≡ reply_of c.args.user s (replay state.start state.log)) × (c.make-reply.new.self ≡ history state.start (state.log ++ entry c.args.user c.args.number s r ∷ [])) in
-    let made = subst P (sym c.plain-plain.ensures) (c.make-reply.ensures.made told) in
-    let now = counts_out c.args.seat.now.me c.exchange.new.seat.me c.count_up.new.seat.me c.args.user c.args.number c.fetch_add-ticket.result c.plain-plain.result c.in-There.state c.make-reply.new.self c.make-reply.result f c.count_up.ensures.counted made.0 made.1 in
-    λ κs lives. is_out c.args.number c.count_up.new.seat.me c.make-reply.new.self c.make-reply.new.self (Counted c.fetch_add-ticket.result) (Away c.args.user c.plain-plain.result) _ _ refl now refl
+    let made = subst P (sym c.requires.plain) (c.make-reply.ensures.made told) in
+    let now = counts_out c.args.seat.now.me c.exchange.new.seat.me c.count_up.new.seat.me c.args.user c.args.number c.fetch_add-ticket.result c.args.plain.now c.in-There.state c.make-reply.new.self c.make-reply.result f c.count_up.ensures.counted made.0 made.1 in
+    λ κs lives. is_out c.args.number c.count_up.new.seat.me c.make-reply.new.self c.make-reply.new.self (Counted c.fetch_add-ticket.result) (Away c.args.user c.args.plain.now) _ _ refl now refl
 
 pub returns-then-is_memory-clause-turned : goal.returns-then-is_memory-clause-turned
 returns-then-is_memory-clause-turned g c =
     let told : is_memory c.make-reply.result ≡ true = sym c.is_memory.ensures ∙ c.if-is_memory.true in
-    let f = finds c.args.seat.now.me c.fetch_add-ticket.new.seat.me c.take_turn.new.seat.me c.exchange.new.seat.me c.args.user c.args.number c.fetch_add-ticket.result c.plain-plain.result c.in-There.state c.exchange.result c.requires.rests c.fetch_add-ticket.ensures.2
+    let f = finds c.args.seat.now.me c.fetch_add-ticket.new.seat.me c.take_turn.new.seat.me c.exchange.new.seat.me c.args.user c.args.number c.fetch_add-ticket.result c.args.plain.now c.in-There.state c.exchange.result c.requires.rests c.fetch_add-ticket.ensures.2
     c.take_turn.ensures.taken c.exchange.ensures.2 c.in-There.is c.exchange.ensures.3 in
     let P : PlainStep → Type 0 = λ s. HasTurned c.args.seat.now.me.0 c.args.user c.args.number s c.make-reply.result c.give_back.new.seat.me in
-    subst P c.plain-plain.ensures
-    (turned_none c.args.seat.now.me c.exchange.new.seat.me c.give_back.new.seat.me c.args.user c.args.number c.fetch_add-ticket.result c.plain-plain.result c.in-There.state c.make-reply.new.self c.make-reply.result f told
+    subst P c.requires.plain
+    (turned_none c.args.seat.now.me c.exchange.new.seat.me c.give_back.new.seat.me c.args.user c.args.number c.fetch_add-ticket.result c.args.plain.now c.in-There.state c.make-reply.new.self c.make-reply.result f told
     c.make-reply.ensures.legal (c.make-reply.ensures.memory told) c.give_back.ensures.released)
 
 pub returns-clause-turned : goal.returns-clause-turned
 returns-clause-turned g c =
     let told : is_memory c.make-reply.result ≡ false = sym c.is_memory.ensures ∙ c.if-is_memory.false in
-    let f = finds c.args.seat.now.me c.fetch_add-ticket.new.seat.me c.take_turn.new.seat.me c.exchange.new.seat.me c.args.user c.args.number c.fetch_add-ticket.result c.plain-plain.result c.in-There.state c.exchange.result c.requires.rests c.fetch_add-ticket.ensures.2
+    let f = finds c.args.seat.now.me c.fetch_add-ticket.new.seat.me c.take_turn.new.seat.me c.exchange.new.seat.me c.args.user c.args.number c.fetch_add-ticket.result c.args.plain.now c.in-There.state c.exchange.result c.requires.rests c.fetch_add-ticket.ensures.2
     c.take_turn.ensures.taken c.exchange.ensures.2 c.in-There.is c.exchange.ensures.3 in
     let state = c.in-There.state in
     let r = c.make-reply.result in
     let M : PlainStep → Type 0 = λ s. (r ≡ reply_of c.args.user s (replay state.start state.log)) × (c.make-reply.new.self ≡ history state.start (state.log ++ entry c.args.user c.args.number s r ∷ [])) in
-    let made = subst M (sym c.plain-plain.ensures) (c.make-reply.ensures.made told) in
-    let now = counts_out c.args.seat.now.me c.exchange.new.seat.me c.count_up.new.seat.me c.args.user c.args.number c.fetch_add-ticket.result c.plain-plain.result state c.make-reply.new.self r f c.count_up.ensures.counted made.0 made.1 in
+    let made = subst M (sym c.requires.plain) (c.make-reply.ensures.made told) in
+    let now = counts_out c.args.seat.now.me c.exchange.new.seat.me c.count_up.new.seat.me c.args.user c.args.number c.fetch_add-ticket.result c.args.plain.now state c.make-reply.new.self r f c.count_up.ensures.counted made.0 made.1 in
     let P : PlainStep → Type 0 = λ s. HasTurned c.args.seat.now.me.0 c.args.user c.args.number s r c.give_back-2.new.seat.me in
-    subst P c.plain-plain.ensures
-    (turned_one c.args.seat.now.me c.exchange.new.seat.me c.count_up.new.seat.me c.give_back-2.new.seat.me c.args.user c.args.number c.fetch_add-ticket.result c.plain-plain.result state c.make-reply.new.self r f told
+    subst P c.requires.plain
+    (turned_one c.args.seat.now.me c.exchange.new.seat.me c.count_up.new.seat.me c.give_back-2.new.seat.me c.args.user c.args.number c.fetch_add-ticket.result c.args.plain.now state c.make-reply.new.self r f told
     c.make-reply.ensures.legal made.1 now c.give_back-2.ensures.released)
