@@ -1,11 +1,14 @@
 #!/usr/bin/env bash
 # Sessions that wait sleep until they are woken: by strace, no thread of a run with --threads yields the processor, no sleep ends by a
-# timeout, each wake is of one thread, and there are fewer sleeps than steps. Two, nine and 64 users, ten runs each.
+# timeout, each wake is of one thread, and there are fewer sleeps than steps. Two, nine and 64 users, ten runs each. First, that nobody
+# sleeps for good beside an open door: by tests/door.py, which goes through all orders of a few callers' steps.
 #
 #   bash tests/waiting.sh PROGRAM
 set -euo pipefail
 cd "$(dirname "$(readlink -f "${BASH_SOURCE[0]}")")/.."
 program=${1:-$PWD/crates/tracehost/out/tracehost}
+
+python3 tests/door.py
 
 if ! strace -o /dev/null true 2>/dev/null; then
   echo "strace is missing or can't trace: how sessions wait was not looked at"

@@ -10,6 +10,7 @@ ghost use Rattle.host_lock.specs.Limits.{most_sessions, most_calls};
 ghost use Rattle.host_lock.specs.Sessions.{IsOf, IsTrue, Stands, new_session, new_sessions, IsOpenable, IsAt, IsBelow, SessionData, gathered, IsSame};
 ghost use Rattle.host_lock.specs.Views.{Idle};
 
+use crate::door::Door;
 use crate::journal::Journal;
 use crate::limits::MOST_SESSIONS;
 use crate::rule::{HostSeat, HostTable, JoinTwo, Origin, SplitOne};
@@ -18,15 +19,13 @@ use crate::shared_state::SharedState;
 use crate::turn::turn;
 use crate::view::Slot;
 use atomic_table::{Badge, Table};
-use crossbeam_utils::CachePadded;
 use pid_blocks::Uid;
 use requests::{Host, Reply, Step};
 use std::alloc::{AllocError, Global};
-use std::hint::spin_loop;
 use std::marker::Model;
 use std::mem;
 use std::snapshot::Snapshot;
-use std::sync::{Mutex, MutexGuard, Wait};
+use std::sync::Wait;
 use stop_handlers::{Decider, Handler};
 
 /// A host that sessions share, each in a thread of its own if it likes. Contracts see which host it is, what it was at opening, and how
@@ -34,7 +33,7 @@ use stop_handlers::{Decider, Handler};
 pub struct SharedHost<F: Decider + Send + Drop> {
     table: HostTable<F>,
     /// Held during a call, and waited for before it draws its ticket. No contract rests on it: the ticket is waited for all the same.
-    door: CachePadded<Mutex<()>>,
+    door: Door,
     sessions: usize,
 }
 
@@ -180,7 +179,7 @@ impl<F: Decider + Send + Drop> SharedHost<F> {
         let badge = mem::replace(&mut session.badge, Badge::blank());
         let mut seat = badge.into_seat();
         let plain = step.plain();
-        let inside = enter(rt, &self.door);
+        let inside = self.door.enter(rt);
         let reply = turn(
             rt,
             alloc,
@@ -191,31 +190,11 @@ impl<F: Decider + Send + Drop> SharedHost<F> {
             step,
             &plain,
         );
-        drop(inside);
+        inside.leave();
         session.badge = seat.into_badge();
         session.calls_made += 1;
         Answer::Reply(reply)
     }
-}
-
-/// How often a caller tries the door before it sleeps there.
-const TRIES: u32 = 5;
-
-/// How many hints to the processor a caller gives between two tries. All tries together take about as long as a sleep and a wake.
-const HINTS: u32 = 1024;
-
-/// Waits until no other call is being made. Most calls are over sooner than a sleeper wakes, so the caller tries for a while first,
-/// and seldom, so that who is inside can make some calls in between.
-fn enter<'a, R: Wait>(rt: &R, door: &'a Mutex<()>) -> MutexGuard<'a, ()> {
-    for _ in 0..TRIES {
-        if let Some(inside) = door.try_lock() {
-            return inside;
-        }
-        for _ in 0..HINTS {
-            spin_loop();
-        }
-    }
-    door.lock(rt)
 }
 
 /// The table, with the host in its slot, and a seat that stands for all sessions.
@@ -305,7 +284,7 @@ fn share<F: Decider + Send + Drop>(
     let sessions = make_sessions(alloc, &table, unsplit, users)?;
     let host = SharedHost {
         table,
-        door: CachePadded::new(Mutex::new(())),
+        door: Door::new(),
         sessions: users.len(),
     };
     Ok((host, sessions))
