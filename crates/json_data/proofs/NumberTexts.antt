@@ -1,7 +1,5 @@
 -- A number by its text, with or without a minus.
-use Rattle.std.proofs.Common.{◌≡◌, ℕ, ◌^◌, ◌<◌, ◌≤◌, ◌==◌, List, [], ◌∷◌, length, drop, get_or, true, false, Some, is_some, refl, sym, ap, ◌∙◌, arith, append-nil, lt-ltb, ne_eqb}
-use Rattle.std.proofs.Math.Nat.{pow-le-pow_right}
-use Rattle.std.proofs.lemmas.Int.Digits.{digits_value-lt}
+use Rattle.std.proofs.Common.{◌≡◌, ℕ, ◌^◌, ◌<◌, ◌==◌, List, [], ◌∷◌, length, drop, get_or, true, false, Some, refl, sym, ap, ◌∙◌, arith, append-nil, lt-ltb, ne_eqb}
 use Rattle.std.specs.Char.{digit_value}
 use Rattle.std.specs.Str.Parse.{AllDigits, digits_value}
 use Rattle.serde_json.specs.Data.{unsigned}
@@ -33,15 +31,8 @@ no_minus : (s : List ℕ) → AllDigits 10 s → 0 < length s → get_or s 0 0 �
 no_minus [] h some e = omega arith
 no_minus (d ∷ ds) h some e = let digit : digit_value d < 10 = h.0 in let is : d ≡ 45 = e in grind arith
 
--- digits alone write a whole number, and so do few digits
+-- digits alone write a whole number
 pub number_of-digits : (s : List ℕ) → AllDigits 10 s → 0 < length s → digits_value 10 s < 2 ^ 64 → number_of s ≡ Some (unsigned (digits_value 10 s))
 unfolding number_of
 number_of-digits s h some small =
     rw (ne_eqb (get_or s 0 0) 45 (no_minus s h some)) (ap (number_from false) (scan-digits s h) ∙ rw (append-nil s, lt-ltb 0 (length s) some, lt-ltb (digits_value 10 s) (2 ^ 64) small) refl)
-
-pub number_of-few_digits : (s : List ℕ) → AllDigits 10 s → 0 < length s → length s ≤ 18 → is_some (number_of s) ≡ true
-number_of-few_digits s h some few =
-    let less = digits_value-lt 10 s h in
-    let most : 10 ^ length s ≤ 10 ^ 18 = pow-le-pow_right (omega arith) few in
-    let small : digits_value 10 s < 2 ^ 64 = omega (arith, less, most) in
-    ap is_some (number_of-digits s h some small)

@@ -49,21 +49,6 @@ fn few_digits(bytes: &[u8]) -> Option<u64>
     Some(number)
 }
 
-/// Whether these are digits, and so few that they are a whole number.
-fn are_few_digits(bytes: &[u8]) -> bool
-    ensures { IsTrue result → is_some (number_of bytes.now) ≡ true }
-{
-    if bytes.is_empty() || bytes.len() > 18 {
-        return false;
-    }
-    for byte in bytes {
-        if !byte.is_ascii_digit() {
-            return false;
-        }
-    }
-    true
-}
-
 /// The whole number that a text is, where it fits 64 bits with a sign.
 pub(crate) fn integer_of(text: &str) -> Option<i64>
     ensures { result ≡ option_and_then as_i64 (number_of text.now) }
@@ -113,7 +98,7 @@ fn negative_in_range(numeral: &Numeral<'_>) -> bool
 pub(crate) fn is_in_range(text: &str) -> bool
     ensures { result ≡ is_some (number_of text.now) }
 {
-    are_few_digits(text.as_bytes()) || any_is_in_range(text)
+    few_digits(text.as_bytes()).is_some() || any_is_in_range(text)
 }
 
 fn any_is_in_range(text: &str) -> bool

@@ -47,7 +47,7 @@ fn push(steps: &mut StepList, user: Uid, step: PlainStep) -> Result<(), Fault>
 }
 
 /// Adds the step that a value is, or names its first flaw as the fault of the step with this number.
-pub(crate) fn push_step(steps: &mut StepList, value: &Value<'_>, number: u32) -> Result<(), Fault>
+fn push_step(steps: &mut StepList, value: &Value<'_>, number: u32) -> Result<(), Fault>
     ensures pushes { Pushes (λ xs. xs) steps.old steps.new result
         (numbered number (step_of (view value.now))) }
     ensures no_read { IfErr result (λ e. e ≢ ReadFault) }
