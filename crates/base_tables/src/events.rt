@@ -4,7 +4,7 @@ use bitflags::Flags;
 use event_masks::{Call, EventMask, StopFlags, call_code, default_mask, entry_flags, exit_flags};
 use std::io;
 
-/// The events and the flags with these names, as bits. Nothing has the last name of each.
+/// Prints the bits of the events and the flags with these names. No event or flag has the last name of each.
 pub fn names(rt: &impl Print) -> io::Result<()> {
     for name in [
         "PTRACE_EXEC",
@@ -37,17 +37,17 @@ pub fn names(rt: &impl Print) -> io::Result<()> {
     Ok(())
 }
 
-/// The bits of the stop's flags, or 0 for no stop.
+/// Returns the bits of the stop's flags, or 0 for no stop.
 fn bits(flags: Option<StopFlags>) -> u32 {
     flags.map_or(0, |flags| flags.bits())
 }
 
-/// The mask of all events.
+/// Returns the mask of all events.
 fn every() -> EventMask {
     EventMask::known(63).unwrap_or(EventMask::none())
 }
 
-/// Each call's code, and the flags of its exit stop under every event, under PTRACE_SCX alone and under no event.
+/// Prints each call's code, and the flags of its exit stop with all events, only with PTRACE_SCX and with no event.
 pub fn calls(rt: &impl Print) -> io::Result<()> {
     for call in [
         Call::Exit(3),
@@ -69,7 +69,7 @@ pub fn calls(rt: &impl Print) -> io::Result<()> {
     println!(rt; "entry {entry}, without PTRACE_SCE {without}")
 }
 
-/// Masks and flags print as their names.
+/// Prints masks and flags by their names.
 pub fn printed(rt: &impl Print) -> io::Result<()> {
     for bits in [63, 64, 6, 0] {
         match EventMask::known(bits) {
@@ -85,7 +85,7 @@ pub fn printed(rt: &impl Print) -> io::Result<()> {
     println!(rt; "tracing begins with {first}; a vfork shows {vfork}, a plain stop {none}")
 }
 
-/// Programmers are shown masks and flags by their names, and last what is no flag's.
+/// Prints the debug form of masks and flags: their names, and last the bits of no flag.
 pub fn shown(rt: &impl Print) -> io::Result<()> {
     for bits in [63, 6, 0, 65, 192] {
         let mask = EventMask(bits);

@@ -13,7 +13,7 @@ use stop_handlers::{
     ByClosure, ByPolicy, Decider, Decision, Handler, Policy, Rule, StopView, TooManyRules,
 };
 
-/// A stop of the process 1001 with this signal, or with SIGKILL where the number isn't a signal's.
+/// Returns a stop of the process 1001 with this signal, or with SIGKILL where the number isn't a signal's.
 fn stop(signal: u32, flags: StopFlags) -> Option<StopView> {
     Some(StopView {
         pid: Pid::new(1001)?,
@@ -25,7 +25,7 @@ fn stop(signal: u32, flags: StopFlags) -> Option<StopView> {
     })
 }
 
-/// A rule for a signal that stops with at least these flags.
+/// Returns a rule for stops with a signal and with at least these flags.
 fn rule(signal: u32, flags: StopFlags, decision: Decision) -> Rule {
     Rule {
         signal: Signal::new(signal).ok(),
@@ -34,12 +34,12 @@ fn rule(signal: u32, flags: StopFlags, decision: Decision) -> Rule {
     }
 }
 
-/// No signal.
+/// Returns a pass of no signal.
 fn nothing() -> Option<Pass> {
     Pass::new(0).ok()
 }
 
-/// A trap with FORKED is continued, SIGUSR1 detaches, any other trap kills.
+/// Returns rules that continue at a trap with FORKED, detach at SIGUSR1, and kill at any other trap.
 fn fork_rules(pass: Pass) -> [Rule; 3] {
     [
         rule(5, StopFlags::PL_FLAG_FORKED, Decision::Continue(pass)),
@@ -48,7 +48,7 @@ fn fork_rules(pass: Pass) -> [Rule; 3] {
     ]
 }
 
-/// What the policy decides of a stop, and whether its first rule fits it. None where the stop can't be.
+/// Returns the policy's decision about a stop, and whether its first rule fits it. `None` where there is no such stop.
 fn decided(policy: &Policy, signal: u32, flags: u32) -> Option<(Decision, bool)> {
     let view = stop(signal, StopFlags(flags))?;
     let fits = policy
@@ -58,7 +58,7 @@ fn decided(policy: &Policy, signal: u32, flags: u32) -> Option<(Decision, bool)>
     Some((policy.decide(&view), fits))
 }
 
-/// The first fitting rule decides; a policy without a rule declines.
+/// Prints decisions: the first fitting rule decides, and a policy without a rule declines.
 pub fn policies(rt: &impl Print) -> io::Result<()> {
     let Some(pass) = nothing() else {
         return println!(rt; "no pass");
@@ -75,7 +75,7 @@ pub fn policies(rt: &impl Print) -> io::Result<()> {
     println!(rt; "rules are kept: {rules}")
 }
 
-/// A policy has at most sixteen rules.
+/// Prints that a policy has at most sixteen rules.
 pub fn limits(rt: &impl Print) -> io::Result<()> {
     let rule = rule(5, StopFlags(0), Decision::Kill);
     let (Ok(full), Ok(fewer)) = (Policy::new(&[rule; 16]), Policy::new(&[rule; 15])) else {
@@ -88,7 +88,7 @@ pub fn limits(rt: &impl Print) -> io::Result<()> {
     println!(rt; "{count} rules, 17 are refused: {more}, same: {same} {differs}")
 }
 
-/// What a handler of the decider answers.
+/// Returns the answer of a handler with this decider.
 fn asked<F: Decider + Send + Drop>(policy: Policy, decider: F, view: &StopView) -> Decision
     requires askable { F.can_ask decider }
     requires obeys { Obeys (F.gives decider) policy }
@@ -97,7 +97,7 @@ fn asked<F: Decider + Send + Drop>(policy: Policy, decider: F, view: &StopView) 
     Handler::new(policy, decider).ask(view)
 }
 
-/// What the handlers of two policies answer about two stops, and whether the second keeps its policy.
+/// Returns the answers of the handlers of two policies about two stops, and whether the second keeps its policy.
 fn both<F: Decider + Send + Drop, M: Fn(Policy) -> F>(
     first: Policy,
     last: Policy,
@@ -121,7 +121,7 @@ fn both<F: Decider + Send + Drop, M: Fn(Policy) -> F>(
     )
 }
 
-/// A closure that decides by cases, and calls no policy.
+/// Prints the answers of a closure that decides by cases and calls no policy.
 pub fn cases(rt: &impl Print) -> io::Result<()> {
     let (Some(none), Some(exec)) = (nothing(), stop(5, StopFlags(6))) else {
         return println!(rt; "no stop");
@@ -152,7 +152,7 @@ pub fn cases(rt: &impl Print) -> io::Result<()> {
     println!(rt; "by cases: {answer:?}")
 }
 
-/// A closure for each policy.
+/// Prints the answers of a closure for each policy.
 pub fn closures(rt: &impl Print) -> io::Result<()> {
     let (Some(none), Some(fork), Some(exec)) = (
         nothing(),

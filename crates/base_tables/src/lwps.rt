@@ -1,4 +1,4 @@
-//! What is told of LWPs, and lists of numbers.
+//! Information about LWPs, and lists of numbers.
 
 use event_masks::StopFlags;
 use lwp_table::{Due, LwpData};
@@ -9,7 +9,7 @@ use signals::SigSet;
 use std::alloc::{AllocError, Global};
 use std::io;
 
-/// Lists are copied, and equal where they have the same numbers in the same order.
+/// Prints a copy of a list. Lists are equal if they have the same numbers in the same order.
 pub fn lists(rt: &impl Print, alloc: Global) -> io::Result<()> {
     let list = NumList::of(vec![in alloc; 1001, 1002, 1004]?);
     let turned = NumList::of(vec![in alloc; 1001, 1004, 1002]?);
@@ -26,7 +26,7 @@ pub fn lists(rt: &impl Print, alloc: Global) -> io::Result<()> {
     )
 }
 
-/// The line of what is told of an LWP.
+/// Prints the information about an LWP.
 fn line(rt: &impl Print, told: LwpInfo) -> io::Result<()> {
     let tid = told.tid.get();
     let event = told.event;
@@ -36,7 +36,7 @@ fn line(rt: &impl Print, told: LwpInfo) -> io::Result<()> {
     println!(rt; "info {tid} {event} {flags} {child} {code}")
 }
 
-/// What is told of an LWP that reports a stop, and of one that doesn't.
+/// Prints the information about an LWP that reports a stop, and about one that doesn't.
 pub fn told(rt: &impl Print) -> io::Result<()> {
     let (Some(tid), Some(pid)) = (Tid::new(100001), Pid::new(1001)) else {
         return println!(rt; "no numbers");
@@ -51,7 +51,8 @@ pub fn told(rt: &impl Print) -> io::Result<()> {
     line(rt, lwp_info(false, &row))
 }
 
-/// What is told of a process that isn't there: whether anything is, how many LWPs it has, and how many are listed.
+/// Returns the information about an unused process number: whether there is any, the count of LWPs, and the length of
+/// their list.
 fn of_nobody(alloc: Global, pid: Pid, tid: Tid) -> Result<(bool, usize, usize), AllocError> {
     let tables = Tables::new(alloc)?;
     let is_told = info(&tables, pid, tid).is_some();
@@ -59,7 +60,7 @@ fn of_nobody(alloc: Global, pid: Pid, tid: Tid) -> Result<(bool, usize, usize), 
     Ok((is_told, lwp_count(&tables, pid), listed.len()))
 }
 
-/// Nothing is told of a process that isn't there.
+/// Prints that there is no information about an unused process number.
 pub fn nobody(rt: &impl Print, alloc: Global) -> io::Result<()> {
     let (Some(tid), Some(pid)) = (Tid::new(100000), Pid::new(1000)) else {
         return println!(rt; "no numbers");

@@ -1,6 +1,7 @@
-//! Prints the tables of the crates at the bottom: numbers and errors, signals, events and calls, handlers, and what is told of LWPs.
+//! Prints the tables of the base crates: numbers and errors, signals, events and calls, handlers, and the information
+//! about LWPs.
 //!
-//! The file stdout says what it must print. It was written after the manual pages, and not by this program.
+//! The file stdout contains the expected output. It was written from the manual pages, and not by this program.
 #![tactic(auto)]
 
 mod events;

@@ -6,7 +6,7 @@ use pid_blocks::{
 };
 use std::io;
 
-/// Each error with its number in errno(2).
+/// Prints each error with its number in errno(2).
 pub fn errors(rt: &impl Print) -> io::Result<()> {
     for error in [
         Errno::EPERM,
@@ -24,7 +24,7 @@ pub fn errors(rt: &impl Print) -> io::Result<()> {
     Ok(())
 }
 
-/// The first and the last users, with their blocks, and the numbers about them, which are nobody's.
+/// Prints the first and the last users with their blocks, and the numbers next to theirs, which are of no user.
 pub fn users(rt: &impl Print) -> io::Result<()> {
     for number in [1000, 1001, 1002, 1063, 1064, 1065] {
         match Uid::new(number) {
@@ -41,12 +41,13 @@ pub fn users(rt: &impl Print) -> io::Result<()> {
     Ok(())
 }
 
-/// The user's number, or 0 for nobody.
+/// Returns the user's number, or 0 for no user.
 fn uid_of(owner: Option<Uid>) -> u32 {
     owner.map_or(0, |user| user.get())
 }
 
-/// Whose numbers the borders of the blocks are, as processes and as LWPs, and whether they are numbers of these at all.
+/// Prints the owners of the borders of the blocks, as numbers of processes and of LWPs, and whether they are such
+/// numbers at all.
 pub fn owners(rt: &impl Print) -> io::Result<()> {
     for number in [
         0, 999, 1000, 1999, 2000, 2999, 63000, 63999, 64000, 64999, 65000, 99999, 100000, 103999,
@@ -61,7 +62,7 @@ pub fn owners(rt: &impl Print) -> io::Result<()> {
     Ok(())
 }
 
-/// The free number of the block 10 to 13 that is found from 12 on, and where the next search begins.
+/// Prints the free number that a search from 12 on finds in the block 10 to 13, and where the next search begins.
 pub fn free_numbers(rt: &impl Print) -> io::Result<()> {
     let block = Block { first: 10, size: 4 };
     let none: [u32; 4] = [0, 0, 0, 0];

@@ -1,9 +1,9 @@
-//! Signals, sets of them, and what processes do with them.
+//! Signals, sets of them, and dispositions.
 
 use signals::{Action, Disposition, Dispositions, Pass, SigSet, Signal, default_action};
 use std::io;
 
-/// The word for what a signal does by default.
+/// Returns the word for a signal's default action.
 fn word(action: Action) -> &'static str {
     match action {
         Action::End => "ends",
@@ -12,12 +12,12 @@ fn word(action: Action) -> &'static str {
     }
 }
 
-/// The number of the signal with this name, or 0.
+/// Returns the number of the signal with this name, or 0.
 fn named(name: &str) -> u32 {
     Signal::by_name(name).map_or(0, |signal| signal.number())
 }
 
-/// Each signal's name, the number that the name finds, and what it does by default, as in signal(3).
+/// Prints each signal's name, the number that the name finds, and its default action, as in signal(3).
 pub fn table(rt: &impl Print) -> io::Result<()> {
     for number in 0..33 {
         match Signal::new(number) {
@@ -35,12 +35,12 @@ pub fn table(rt: &impl Print) -> io::Result<()> {
     println!(rt; "no signal's name: {shorter} {empty}")
 }
 
-/// The signal with this number, or SIGKILL.
+/// Returns the signal with this number, or SIGKILL.
 fn signal(number: u32) -> Signal {
     Signal::new(number).unwrap_or(Signal::kill())
 }
 
-/// Sets have bit n - 1 for signal n, and print as the numbers of their signals.
+/// Prints sets as the numbers of their signals. A set has bit n - 1 for signal n.
 pub fn sets(rt: &impl Print) -> io::Result<()> {
     let set = SigSet::empty()
         .with(signal(31))
@@ -60,7 +60,7 @@ pub fn sets(rt: &impl Print) -> io::Result<()> {
     Ok(())
 }
 
-/// What is done with the signals, before an exec and after it.
+/// Prints the dispositions of the signals, before an exec and after it.
 fn told(rt: &impl Print, dispositions: &Dispositions) -> io::Result<()> {
     let after = dispositions.after_exec();
     for number in [9, 15, 17, 30] {
@@ -72,7 +72,7 @@ fn told(rt: &impl Print, dispositions: &Dispositions) -> io::Result<()> {
     Ok(())
 }
 
-/// SIGKILL and SIGSTOP keep their default.
+/// Prints that SIGKILL and SIGSTOP keep their default.
 pub fn dispositions(rt: &impl Print) -> io::Result<()> {
     let mut dispositions = Dispositions::standard();
     for (number, disposition) in [
@@ -93,7 +93,7 @@ pub fn dispositions(rt: &impl Print) -> io::Result<()> {
     told(rt, &dispositions)
 }
 
-/// Programmers are shown signals by their names.
+/// Prints the debug form of signals: their names.
 pub fn shown(rt: &impl Print) -> io::Result<()> {
     for number in [0, 1, 11, 31, 32] {
         let signal = Signal::new(number);

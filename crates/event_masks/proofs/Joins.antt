@@ -1,4 +1,4 @@
--- Words that are written one after another, each behind what is to stand before it.
+-- Words written one after another, each after its separator.
 use Rattle.std.proofs.Common.{◌≡◌, ℕ, ◌+◌, ◌<◌, Bool, true, false, List, [], ◌∷◌, ◌++◌, length, drop, get_or, map, filter, refl, sym, ap, ◌∙◌}
 use Rattle.std.proofs.Common.{Bor, ◌==◌}
 use Rattle.std.specs.Int.RustNames.{bit_and}
@@ -6,7 +6,7 @@ use Rattle.std.specs.List.{flat_map}
 use Rattle.std.proofs.lemmas.List.{append_assoc, at_drop_more}
 use Rattle.event_masks.specs.Names.{joined, named_bit}
 
--- what is still to be written: before the first word `none` where none comes, and then the words with the text before each
+-- the text that is left to write: before the first word, `none` if there is none; else the words, each after `between`
 abbrev pub ending : List ℕ → List ℕ → Bool → List (List ℕ) → List ℕ
 ending none between true ws = joined none between ws
 ending none between false ws = flat_map (λ w. between ++ w) ws
@@ -15,7 +15,7 @@ ending none between false ws = flat_map (λ w. between ++ w) ws
 abbrev pub chosen : {X : Type 0} → (X → Bool) → (X → List ℕ) → List X → List (List ℕ)
 chosen test text xs = map text (filter test xs)
 
--- what stands before a word
+-- the text before a word
 abbrev pub separator : List ℕ → Bool → List ℕ
 separator between true = []
 separator between false = between

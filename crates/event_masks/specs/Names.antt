@@ -1,4 +1,4 @@
--- The names of flags, with their bits, in the order of printing.
+-- The names of flags with their bits, in the order in which they are printed.
 use Rattle.std.specs.Prelude.{ℕ, false, ◌==◌, ◌-◌, ◌^◌, List, [], ◌∷◌, ◌++◌, map, filter, codes, if◌then◌else◌}
 use Rattle.std.specs.Borrow.{Bor}
 use Rattle.std.specs.Fmt.{digits}
@@ -32,31 +32,31 @@ stop_table =
 abbrev pub names_of : List (List ℕ × ℕ) → ℕ → List (List ℕ)
 names_of table bits = map (λ row. row.0) (filter (λ row. bit_and bits row.1 == row.1) table)
 
--- words with a text between each two, and another text for no word
+-- words with a text between each two, or another text if there is no word
 abbrev pub joined : List ℕ → List ℕ → List (List ℕ) → List ℕ
 joined none between [] = none
 joined none between (w ∷ ws) = join_by (λ v. v) between (w ∷ ws)
 
--- the text of a set of flags: its names with `+` between them
+-- the text of a set of flags: its names, separated by `+`
 abbrev pub flag_text : List (List ℕ × ℕ) → ℕ → List ℕ
 flag_text table bits = joined (codes "none") (codes "+") (names_of table bits)
 
--- bits as a word in hexadecimal; no word where none is set
+-- bits as one word in hexadecimal, or no word if none is set
 abbrev pub hex_words : ℕ → List (List ℕ)
 hex_words bits = if bits == 0 then [] else (codes "0x" ++ digits 16 false bits) ∷ []
 
--- the bits of a set that are none of the known ones
+-- the bits of a set that are not among the known ones
 abbrev pub unknown : ℕ → ℕ → ℕ
 unknown known bits = bit_and bits (2 ^ 32 - 1 - known)
 
--- a set as programmers are shown it, in the way of Rust's crate `bitflags`: the names, and last the bits that are no flag's
+-- a set as programmers see it, as Rust's crate `bitflags` prints it: the names, and last the bits that are no flag's
 abbrev pub shown_flags : List (List ℕ × ℕ) → ℕ → ℕ → List ℕ
 shown_flags table known bits = joined (codes "0x0") (codes " | ") (names_of table bits ++ hex_words (unknown known bits))
 
--- PTRACE_SYSCALL stands for the two events of a system call
+-- PTRACE_SYSCALL means both events of a system call
 abbrev pub syscall_name : List ℕ
 syscall_name = codes "PTRACE_SYSCALL"
 
--- a name with its bit, as the program has them in a table
+-- a name with its bit, as in the program's table
 abbrev pub named_bit : Bor (List ℕ) × ℕ → List ℕ × ℕ
 named_bit row = (row.0.now, row.1)

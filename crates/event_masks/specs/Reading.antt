@@ -1,4 +1,4 @@
--- Masks and flags that are read: from bits, and by name.
+-- How masks and flags are read: from bits, and by name.
 use Rattle.std.specs.Prelude.{ℕ, ◌==◌, nat_eq, List, Option, Some, None, option_map, if◌then◌else◌}
 use Rattle.std.specs.Int.RustNames.{bit_or}
 use Rattle.std.specs.Cmp.Lexicographic.{pointwise}
@@ -15,7 +15,7 @@ mask bits = record { 0 = bits }
 abbrev pub flags : ℕ → StopFlags
 flags bits = record { 0 = bits }
 
--- the mask with these bits, where all are events'
+-- the mask with these bits, if each is an event's
 abbrev pub mask_of_bits : ℕ → Option EventMask
 mask_of_bits bits = if bit_or bits all_events == all_events then Some (mask bits) else None
 

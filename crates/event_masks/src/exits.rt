@@ -5,22 +5,22 @@ ghost use Rattle.event_masks.specs.Exits.{default_mask, entry_flags, stop_where,
 
 use crate::{Call, EventMask, StopFlags};
 
-/// The mask that tracing begins with.
+/// Returns the mask that tracing begins with.
 pub fn default_mask() -> EventMask
     ensures { result ≡ default_mask }
 {
     EventMask::PTRACE_EXEC
 }
 
-/// The flags of the stop at a call's entry; `None` where the mask asks for none.
+/// Returns the flags of the stop at a call's entry, or `None` if the mask asks for no such stop.
 pub fn entry_flags(mask: EventMask) -> Option<StopFlags>
     ensures { result ≡ entry_flags mask }
 {
     stop_where(mask, EventMask::PTRACE_SCE, StopFlags::PL_FLAG_SCE)
 }
 
-/// The flags of the stop at a call's exit; `None` where the mask asks for none. For a thread's exit
-/// this knows nothing of other LWPs: who asks leaves the stop out for a process's last LWP.
+/// Returns the flags of the stop at a call's exit, or `None` if the mask asks for no such stop. This function
+/// doesn't know a process's other LWPs: its caller leaves the stop out at the exit of a process's last LWP.
 pub fn exit_flags(mask: EventMask, call: Call) -> Option<StopFlags>
     ensures { result ≡ exit_flags mask call }
 {
@@ -40,14 +40,14 @@ pub fn exit_flags(mask: EventMask, call: Call) -> Option<StopFlags>
     }
 }
 
-/// A stop with these flags, where the mask asks for the event.
+/// Returns a stop with these flags if the mask asks for the event.
 fn stop_where(mask: EventMask, event: EventMask, flags: StopFlags) -> Option<StopFlags>
     ensures { result ≡ stop_where mask event flags }
 {
     if mask.asks(event) { Some(flags) } else { None }
 }
 
-/// The stop of a call with an event of its own, or else of any call's exit.
+/// Returns the stop for a call's own event, or else the stop at the exit of any call.
 fn event_or_exit(mask: EventMask, event: EventMask, flags: StopFlags) -> Option<StopFlags>
     ensures { result ≡ event_or_exit mask event flags }
 {
@@ -58,7 +58,7 @@ fn event_or_exit(mask: EventMask, event: EventMask, flags: StopFlags) -> Option<
     }
 }
 
-/// The number of the system call.
+/// Returns the number of the system call.
 pub fn call_code(call: Call) -> u32
     ensures { result ≡ call_code call }
 {

@@ -1,4 +1,4 @@
-//! The text of masks and flags.
+//! How masks and flags are printed.
 
 ghost use Rattle.std.specs.Prelude.{◌≡◌, ◌++◌, Some, map, codes};
 ghost use Rattle.event_masks.specs.Exits.{all_events, all_flags};
@@ -7,7 +7,7 @@ ghost use Rattle.event_masks.specs.Names.{event_table, stop_table, joined, names
 use crate::{EventMask, StopFlags};
 use std::fmt;
 
-/// The events in the order of printing, with their bits.
+/// The events with their bits, in the order in which they are printed.
 const EVENTS: [(&str, u32); 6] = [
     ("PTRACE_EXEC", 1),
     ("PTRACE_SCE", 2),
@@ -17,7 +17,7 @@ const EVENTS: [(&str, u32); 6] = [
     ("PTRACE_VFORK", 32),
 ];
 
-/// The flags of a stop in the order of printing, with their bits.
+/// The flags of a stop with their bits, in the order in which they are printed.
 const STOP_FLAGS: [(&str, u32); 9] = [
     ("PL_FLAG_SCE", 1),
     ("PL_FLAG_SCX", 2),
@@ -30,7 +30,7 @@ const STOP_FLAGS: [(&str, u32); 9] = [
     ("PL_FLAG_VFORK_DONE", 256),
 ];
 
-/// A set of flags as text: their names, and then further bits, with a text between each two; or another text for none.
+/// A set of flags as text: their names and then the remaining bits, separated by a text, or another text for none.
 #[derive(Clone, Copy, Drop)]
 struct Flags<'a> {
     names: &'a [(&'a str, u32)],
@@ -68,7 +68,7 @@ impl fmt::Display for Flags<'_> {
     }
 }
 
-/// The events of a mask.
+/// Returns the events of a mask.
 fn events<'a>(mask: EventMask) -> Flags<'a>
     ensures { joined result.none.now result.between.now (names_of (map named_bit result.names.now) result.bits ++ hex_words result.further)
         ≡ flag_text event_table mask.0 }
@@ -82,7 +82,7 @@ fn events<'a>(mask: EventMask) -> Flags<'a>
     }
 }
 
-/// The events of a mask for programmers, and last the bits that are no event's.
+/// Returns the events of a mask for programmers, and last the bits that are no event's.
 fn shown_events<'a>(mask: EventMask) -> Flags<'a>
     ensures { joined result.none.now result.between.now (names_of (map named_bit result.names.now) result.bits ++ hex_words result.further)
         ≡ shown_flags event_table all_events mask.0 }
@@ -96,7 +96,7 @@ fn shown_events<'a>(mask: EventMask) -> Flags<'a>
     }
 }
 
-/// The flags of a stop.
+/// Returns the flags of a stop.
 fn stop_flags<'a>(flags: StopFlags) -> Flags<'a>
     ensures { joined result.none.now result.between.now (names_of (map named_bit result.names.now) result.bits ++ hex_words result.further)
         ≡ flag_text stop_table flags.0 }
@@ -110,7 +110,7 @@ fn stop_flags<'a>(flags: StopFlags) -> Flags<'a>
     }
 }
 
-/// The flags of a stop for programmers, and last the bits that are no flag's.
+/// Returns the flags of a stop for programmers, and last the bits that are no flag's.
 fn shown_stop_flags<'a>(flags: StopFlags) -> Flags<'a>
     ensures { joined result.none.now result.between.now (names_of (map named_bit result.names.now) result.bits ++ hex_words result.further)
         ≡ shown_flags stop_table all_flags flags.0 }
@@ -124,7 +124,7 @@ fn shown_stop_flags<'a>(flags: StopFlags) -> Flags<'a>
     }
 }
 
-/// Prints the events' names in order, with `+` between them, or `none`.
+/// Prints the events' names in order, separated by `+`, or `none`.
 impl fmt::Display for EventMask {
     ghost output = { λ m. Some (flag_text event_table m.0) };
 
@@ -134,7 +134,8 @@ impl fmt::Display for EventMask {
     }
 }
 
-/// Prints the type and the events' names, as Rust's crate `bitflags`: `EventMask(PTRACE_SCE | PTRACE_SCX)`, `EventMask(0x0)`.
+/// Prints the type and the events' names as Rust's crate `bitflags` does:
+/// `EventMask(PTRACE_SCE | PTRACE_SCX)`, `EventMask(0x0)`.
 impl fmt::Debug for EventMask {
     ghost debug_output = { λ m. Some (codes "EventMask(" ++ (shown_flags event_table all_events m.0 ++ codes ")")) };
 
@@ -144,7 +145,7 @@ impl fmt::Debug for EventMask {
     }
 }
 
-/// Prints the flags' names in order, with `+` between them, or `none`.
+/// Prints the flags' names in order, separated by `+`, or `none`.
 impl fmt::Display for StopFlags {
     ghost output = { λ m. Some (flag_text stop_table m.0) };
 
@@ -154,7 +155,8 @@ impl fmt::Display for StopFlags {
     }
 }
 
-/// Prints the type and the flags' names, as Rust's crate `bitflags`: `StopFlags(PL_FLAG_SCE | PL_FLAG_BORN)`, `StopFlags(0x0)`.
+/// Prints the type and the flags' names as Rust's crate `bitflags` does:
+/// `StopFlags(PL_FLAG_SCE | PL_FLAG_BORN)`, `StopFlags(0x0)`.
 impl fmt::Debug for StopFlags {
     ghost debug_output = { λ m. Some (codes "StopFlags(" ++ (shown_flags stop_table all_flags m.0 ++ codes ")")) };
 

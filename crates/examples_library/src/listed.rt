@@ -1,4 +1,4 @@
-//! A list of two users' steps, and what each of them sees.
+//! A list of two users' steps, and each user's view.
 
 use crate::trouble::Trouble;
 use pid_blocks::Uid;

@@ -1,6 +1,8 @@
-//! The library in use: a host stepped by hand, a list of two users' steps, and one host shared by two sessions in threads.
+//! Examples of the library: a host stepped by hand, a list of two users' steps, and one host shared by two sessions in
+//! threads.
 //!
-//! docs/LIBRARY.md shows this code and tells it. The file stdout says what it must print; it was written after docs/FORMAT.md.
+//! docs/LIBRARY.md shows and explains this code. The file stdout contains the expected output. It was written from
+//! docs/FORMAT.md.
 #![tactic(auto)]
 
 mod listed;

@@ -1,4 +1,4 @@
-//! One host, shared by two sessions: each is used by a thread of its own.
+//! One host, shared by two sessions. Each is in a thread of its own.
 
 ghost use Rattle.std.specs.Prelude.{◌≡◌, [], ◌∷◌, IfSome};
 ghost use Rattle.host_lock.specs.Sessions.{IsOf};
@@ -147,7 +147,7 @@ fn by_policy(
     Ok(steps)
 }
 
-/// The steps of the first session and of the second one. None where memory ran out.
+/// Returns the steps of the first session and of the second one. `None` where memory ran out.
 fn steps(alloc: Global) -> Option<(Vec<Step<Handler<ByPolicy>>>, Vec<Step<Handler<ByPolicy>>>)> {
     let first = by_policy(alloc, &attach()).ok()?;
     let second = by_policy(alloc, &fork()).ok()?;

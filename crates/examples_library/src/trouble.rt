@@ -1,4 +1,4 @@
-//! What ends the program early.
+//! The errors that end the program.
 
 use pid_blocks::BadUser;
 use signals::BadSignal;
@@ -6,14 +6,14 @@ use std::alloc::{AllocError, AllocFailed};
 use std::io;
 use stop_handlers::TooManyRules;
 
-/// Why the program ends with status 1.
+/// The reason why the program ends with status 1.
 #[derive(Debug, Drop)]
 pub enum Trouble {
     /// Memory ran out.
     Memory,
-    /// Nothing can be printed.
+    /// Printing failed.
     Print,
-    /// A user, a signal or a policy can't be.
+    /// A user, a signal or a policy is not valid.
     Number,
     /// A session is missing, or has made all its calls.
     Session,

@@ -1,4 +1,4 @@
--- The first line of a text, and the lines behind it.
+-- The first line of a text, and the lines after it.
 use Rattle.std.proofs.Common.{◌≡◌, ◌≤◌, ◌==◌, ℕ, ◌+◌, Bool, true, false, not, suc, List, [], ◌∷◌, length, take, drop, min, Some, None, cond, refl, add-one, ◌∙◌, ◌-◌, arith, length-drop}
 use Rattle.std.specs.Prelude.{slice_get, position}
 use Rattle.std.specs.List.{position_or_len}
@@ -21,7 +21,7 @@ line_length-min (byte ∷ text) =
 pub line_length-le : (text : List ℕ) → line_length text ≤ length text
 line_length-le text = omega (arith, line_length-min text)
 
--- what is left behind the first line
+-- the rest of a text after the first line
 pub rest_shorter : (text : List ℕ) → length (drop (line_length text) text) ≤ length text - 1
 rest_shorter text = omega (arith, line_length-min text, length-drop (line_length text) text)
 

@@ -1,4 +1,4 @@
--- Two texts, of whose lines a number are the same.
+-- Two texts that begin with some equal lines.
 use Rattle.std.proofs.Common.{◌≡◌, ◌≢◌, ◌≤◌, ℕ, ◌+◌, ◌-◌, Bool, true, false, not, suc, zero, List, [], ◌∷◌, ◌++◌, length, take, drop, refl, ap, sym, ◌∙◌, arith}
 use Rattle.std.specs.Prelude.{slice_get, option_map}
 use Rattle.std.proofs.Math.Seq.{take-add}
@@ -9,7 +9,7 @@ use Rattle.expected_text.specs.Lines.{lines_in, line_there}
 use Rattle.expected_text.specs.Differences.{IsFirstDifference}
 use Rattle.expected_text.specs.declared.comparing.Difference.{Difference}
 
--- so many lines are the same; behind them the texts go on with these
+-- the lines before are the same, and then the texts continue with these
 pub record Agrees (expected got expected_rest got_rest : List ℕ) (line : ℕ) : Type 0 where
   pub before : ℕ
   pub number : line ≡ before + 1

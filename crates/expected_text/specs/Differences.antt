@@ -2,7 +2,7 @@
 use Rattle.std.specs.Prelude.{ℕ, ◌≡◌, ◌≢◌, ◌+◌, List, take, option_map, slice_get}
 use Rattle.expected_text.specs.declared.comparing.Difference.{Difference}
 
--- so many lines are the same, and behind them stand those of the difference, or one list has ended; they aren't the same
+-- the lines before are the same, and the next ones are those of d; they differ, or one of the lists has ended there
 pub record IsFirstDifference (expected got : List (List ℕ)) (d : Difference) : Type 0 where
   pub before : ℕ
   pub number : d.line ≡ before + 1

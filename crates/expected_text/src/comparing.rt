@@ -1,28 +1,28 @@
-//! Two texts, line by line.
+//! Compares two texts line by line.
 ghost use Rattle.std.specs.Prelude.{◌≡◌, ◌==◌, ◌≤◌, ◌-◌, ◌↔◌, ◌++◌, None, length, option_map, position, slice_get, drop, IfSome};
 ghost use Rattle.expected_text.specs.Lines.{line_length, lines_in, line_there};
 ghost use Rattle.expected_text.specs.Differences.{IsFirstDifference};
 
-/// The first line at which a text differs from the expected one. A line has the line feed that ends it; only a text's last line may lack
-/// its own.
+/// The first line at which a text differs from the expected one. A line includes its line feed. Only a text's last line
+/// may lack one.
 #[derive(Clone, Copy, Debug, PartialEq, Eq)]
 pub struct Difference<'a> {
     /// The number of the line, from 1.
     pub line: usize,
-    /// The expected line; none behind the last one.
+    /// The expected line; `None` after the last one.
     pub expected: Option<&'a [u8]>,
-    /// The line in its place; none behind the last one.
+    /// The line in its place; `None` after the last one.
     pub got: Option<&'a [u8]>,
 }
 
-/// Where the first line feed of the text stands.
+/// Returns the index of the first line feed of the text.
 fn feed_at(text: &[u8]) -> Option<usize>
     ensures { result ≡ position (λ byte. byte == 10) text.now }
 {
     text.iter().position(|byte| *byte == b'\n')
 }
 
-/// How long the first line of the text is.
+/// Returns the length of the first line of the text.
 fn line_length(text: &[u8]) -> usize
     ensures { result ≡ line_length text.now }
 {
@@ -32,7 +32,7 @@ fn line_length(text: &[u8]) -> usize
     }
 }
 
-/// The first line of the text, and what follows it. Both are empty where the text is.
+/// Returns the first line of the text, and the rest of the text. Both are empty where the text is.
 fn split_line(text: &[u8]) -> (&[u8], &[u8])
     ensures text { result.0.now ++ result.1.now ≡ text.now }
     ensures line { slice_get (lines_in text.now) 0 ≡ line_there result.0.now }
@@ -42,14 +42,14 @@ fn split_line(text: &[u8]) -> (&[u8], &[u8])
     text.split_at(line_length(text))
 }
 
-/// A line that was split off; none where the text had ended.
+/// Returns a line that was split off; `None` where the text had ended.
 fn line_there(line: &[u8]) -> Option<&[u8]>
     ensures { option_map (λ l. l.now) result ≡ line_there line.now }
 {
     if line.is_empty() { None } else { Some(line) }
 }
 
-/// The first line at which what was got differs from what is expected; none where the texts are equal.
+/// Returns the first line at which `got` differs from `expected`; `None` where the texts are equal.
 pub fn first_difference<'a>(expected: &'a [u8], got: &'a [u8]) -> Option<Difference<'a>>
     ensures same { (result ≡ None) ↔ (expected.now ≡ got.now) }
     ensures first { IfSome result (λ d. IsFirstDifference (lines_in expected.now) (lines_in got.now) d) }

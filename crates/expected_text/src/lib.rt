@@ -1,4 +1,4 @@
-//! The first line at which a text differs from the text that is expected.
+//! Finds the first line at which a text differs from the expected text.
 #![tactic(auto)]
 
 mod comparing;

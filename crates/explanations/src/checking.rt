@@ -1,14 +1,19 @@
-//! The first mistake of a scenario or a step, in the order in which they are checked. Each check answers whether all is
-//! well, and else has told what is wrong.
+//! The first mistakes of a scenario or a step, in the order in which they are checked. Each check returns whether all is
+//! well, and has reported what is wrong where it isn't.
 use crate::format::{
     Case, Key, Kind, LEVELS, MOST_RULES, MOST_STEPS, RULE, Range, SCENARIO, SETTING, SETTING_KEY,
     STEP,
 };
-use crate::told::Told;
+use crate::report::Report;
 use crate::wording::{
-    tell_kind, tell_missing, tell_name, tell_no_object, tell_number, tell_too_many, tell_unknown,
+    report_kind, report_missing, report_name, report_no_object, report_number, report_too_many,
+    report_unknown,
 };
+use crate::wrong_inputs::{is_output, report_is_output};
 use json::Value;
+
+/// The most steps with mistakes that are reported.
+const MOST_REPORTED: usize = 10;
 
 /// A key of an object, and its value.
 pub(crate) type Member<'a> = (&'a str, Value<'a>);
@@ -39,7 +44,7 @@ fn is_in(text: &str, range: Range) -> bool {
 
 /// A number or a name, which is the value of a key or an item of it.
 fn check_one(
-    told: &mut Told,
+    report: &mut Report,
     value: &Value<'_>,
     key: &str,
     item: Option<usize>,
@@ -51,75 +56,75 @@ fn check_one(
             if is_in(text, range) {
                 return true;
             }
-            told.begin(key, item);
-            tell_number(told, text, range);
+            report.begin(key, item);
+            report_number(report, text, range);
         }
         (Kind::Choice(table) | Kind::Name(table), Value::String(name)) => {
             if table.find(name).is_some() {
                 return true;
             }
-            told.begin(key, item);
-            tell_name(told, name, table);
+            report.begin(key, item);
+            report_name(report, name, table);
         }
         _ => {
-            told.begin(key, item);
-            tell_kind(told, kind, value);
+            report.begin(key, item);
+            report_kind(report, kind, value);
         }
     }
     false
 }
 
-fn check_items(told: &mut Told, items: &[Value<'_>], key: &str, kind: Kind) -> bool {
+fn check_items(report: &mut Report, items: &[Value<'_>], key: &str, kind: Kind) -> bool {
     for index in 0..items.len() {
-        if !check_one(told, &items[index], key, Some(index), kind) {
+        if !check_one(report, &items[index], key, Some(index), kind) {
             return false;
         }
     }
     true
 }
 
-/// At most so many rules. What the rules are is checked behind the other keys.
-fn check_few_rules(told: &mut Told, count: usize, key: &str) -> bool {
+/// At most so many rules. The rules themselves are checked after the other keys.
+fn check_few_rules(report: &mut Report, count: usize, key: &str) -> bool {
     if count <= MOST_RULES {
         return true;
     }
-    told.begin(key, None);
-    tell_too_many(told, count, " rules; a policy has at most ", MOST_RULES);
+    report.begin(key, None);
+    report_too_many(report, count, " rules; a policy has at most ", MOST_RULES);
     false
 }
 
 /// The value of a key.
-fn check_value(told: &mut Told, value: &Value<'_>, key: &str, kind: Kind) -> bool {
+fn check_value(report: &mut Report, value: &Value<'_>, key: &str, kind: Kind) -> bool {
     match (kind, value) {
         (Kind::Names(table), Value::Array(items)) => {
-            check_items(told, items.as_slice(), key, Kind::Name(table))
+            check_items(report, items.as_slice(), key, Kind::Name(table))
         }
         (Kind::Numbers(range), Value::Array(items)) => {
-            check_items(told, items.as_slice(), key, Kind::Number(range))
+            check_items(report, items.as_slice(), key, Kind::Number(range))
         }
-        (Kind::Rules, Value::Array(items)) => check_few_rules(told, items.len(), key),
+        (Kind::Rules, Value::Array(items)) => check_few_rules(report, items.len(), key),
         (Kind::Steps, Value::Array(_)) => true,
-        _ => check_one(told, value, key, None, kind),
+        _ => check_one(report, value, key, None, kind),
     }
 }
 
 /// The keys of one level, one by one.
-fn check_keys(told: &mut Told, members: &[Member<'_>], keys: &[Key]) -> bool {
+fn check_keys(report: &mut Report, members: &[Member<'_>], keys: &[Key]) -> bool {
     for key in keys {
         let name = key.name();
         if let Some(value) = value_of(members, name) {
-            if !check_value(told, value, name, key.kind()) {
+            if !check_value(report, value, name, key.kind()) {
                 return false;
             }
         } else if key.is_needed() {
-            tell_missing(told, members, name);
+            report_missing(report, members, name);
             return false;
         }
     }
     true
 }
 
-/// The entry of the name by which it goes on behind the keys of one level.
+/// The entry of the name that decides which keys come after those of one level.
 pub(crate) fn chosen(members: &[Member<'_>], keys: &[Key]) -> Option<&'static Case> {
     for key in keys {
         if let Kind::Choice(table) = key.kind() {
@@ -168,11 +173,15 @@ fn count_known(members: &[Member<'_>], keys: &[Key]) -> usize {
 }
 
 /// The keys that belong to an object, level by level; how many members have one of them, if all is well.
-fn check_levels(told: &mut Told, members: &[Member<'_>], first: &'static [Key]) -> Option<usize> {
+fn check_levels(
+    report: &mut Report,
+    members: &[Member<'_>],
+    first: &'static [Key],
+) -> Option<usize> {
     let mut keys = first;
     let mut count = 0usize;
     for _ in 0..LEVELS {
-        if !check_keys(told, members, keys) {
+        if !check_keys(report, members, keys) {
             return None;
         }
         count = count.saturating_add(count_known(members, keys));
@@ -184,88 +193,117 @@ fn check_levels(told: &mut Told, members: &[Member<'_>], first: &'static [Key]) 
     Some(count)
 }
 
-fn check_rule(told: &mut Told, rule: &Value<'_>) -> bool {
+fn check_rule(report: &mut Report, rule: &Value<'_>) -> bool {
     let Value::Object(members) = rule else {
-        return tell_no_object(told, rule);
+        return report_no_object(report, rule);
     };
     let members = members.as_slice();
-    match check_levels(told, members, &RULE) {
-        Some(known) => known == members.len() || tell_unknown(told, members, "a rule", &RULE),
+    match check_levels(report, members, &RULE) {
+        Some(known) => known == members.len() || report_unknown(report, members, "a rule", &RULE),
         None => false,
     }
 }
 
-fn check_rules(told: &mut Told, members: &[Member<'_>]) -> bool {
+fn check_rules(report: &mut Report, members: &[Member<'_>]) -> bool {
     if let Some(Value::Array(rules)) = value_of(members, "rules") {
         let rules = rules.as_slice();
         for index in 0..rules.len() {
-            told.rule = Some(index);
-            if !check_rule(told, &rules[index]) {
+            report.rule = Some(index);
+            if !check_rule(report, &rules[index]) {
                 return false;
             }
         }
-        told.rule = None;
+        report.rule = None;
     }
     true
 }
 
-pub(crate) fn check_step(told: &mut Told, step: &Value<'_>) -> bool {
+/// A step of a scenario, or of a line.
+fn check_step(report: &mut Report, step: &Value<'_>) -> bool {
     let Value::Object(members) = step else {
-        return tell_no_object(told, step);
+        return report_no_object(report, step);
     };
     let members = members.as_slice();
-    let Some(known) = check_levels(told, members, &STEP) else {
+    let Some(known) = check_levels(report, members, &STEP) else {
         return false;
     };
-    if has_key(keys_at(members, &STEP, 1), "rules") && !check_rules(told, members) {
+    if has_key(keys_at(members, &STEP, 1), "rules") && !check_rules(report, members) {
         return false;
     }
-    known == members.len() || tell_unknown(told, members, "a step", &STEP)
+    known == members.len() || report_unknown(report, members, "a step", &STEP)
 }
 
 /// The setting is 0 or 1, where it is there.
-fn check_setting(told: &mut Told, members: &[Member<'_>]) -> bool {
+fn check_setting(report: &mut Report, members: &[Member<'_>]) -> bool {
     match value_of(members, SETTING_KEY) {
-        Some(value) => check_one(told, value, SETTING_KEY, None, Kind::Number(SETTING)),
+        Some(value) => check_one(report, value, SETTING_KEY, None, Kind::Number(SETTING)),
         None => true,
     }
 }
 
 /// The steps, in order.
-fn check_steps(told: &mut Told, members: &[Member<'_>]) -> bool {
+fn check_steps(report: &mut Report, members: &[Member<'_>]) -> bool {
     let Some(Value::Array(steps)) = value_of(members, "steps") else {
         return true;
     };
     let steps = steps.as_slice();
     if steps.len() > MOST_STEPS {
-        told.begin("steps", None);
-        tell_too_many(
-            told,
+        report.begin("steps", None);
+        report_too_many(
+            report,
             steps.len(),
             " steps; a scenario has at most ",
             MOST_STEPS,
         );
         return false;
     }
+    check_each(report, steps)
+}
+
+/// Each step. Several mistakes are reported, one a step.
+fn check_each(report: &mut Report, steps: &[Value<'_>]) -> bool {
+    let mut wrong = 0usize;
     for index in 0..steps.len() {
-        told.step = Some(index);
-        if !check_step(told, &steps[index]) {
+        report.step = Some(index);
+        report.rule = None;
+        if wrong < MOST_REPORTED && !check_step(report, &steps[index]) {
+            wrong = wrong.saturating_add(1);
+        }
+    }
+    wrong == 0
+}
+
+/// A step that is a line of its own.
+pub(crate) fn check_line(report: &mut Report, step: &Value<'_>) -> bool {
+    if let Value::Object(members) = step {
+        let members = members.as_slice();
+        if is_output(members) {
+            report_is_output(report);
+            return false;
+        }
+        if value_of(members, "steps").is_some() {
+            report.begin("", None);
+            report.push("this is a scenario; leave out --lines");
             return false;
         }
     }
-    true
+    check_step(report, step)
 }
 
-pub(crate) fn check_scenario(told: &mut Told, scenario: &Value<'_>) -> bool {
+pub(crate) fn check_scenario(report: &mut Report, scenario: &Value<'_>) -> bool {
     let Value::Object(members) = scenario else {
-        return tell_no_object(told, scenario);
+        return report_no_object(report, scenario);
     };
     let members = members.as_slice();
-    let Some(known) = check_levels(told, members, &SCENARIO) else {
+    if is_output(members) {
+        report_is_output(report);
+        return false;
+    }
+    let Some(known) = check_levels(report, members, &SCENARIO) else {
         return false;
     };
     if known < members.len() {
-        return tell_unknown(told, members, "it", &SCENARIO);
+        return report_unknown(report, members, "it", &SCENARIO);
     }
-    check_setting(told, members) && check_steps(told, members)
+    check_setting(report, members) && check_steps(report, members)
 }

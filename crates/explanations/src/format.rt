@@ -1,5 +1,5 @@
 //! The format of scenarios as a table: the keys of an object in the order in which they are checked, and what their
-//! values may be. No key stands in two levels of one object.
+//! values may be. No key belongs to two levels of one object.
 
 /// Whole numbers from one to another.
 #[derive(Clone, Copy)]
@@ -28,14 +28,14 @@ pub(crate) enum Kind {
     Number(Range),
     /// A whole number of 64 bits.
     Whole,
-    /// A name, by which it goes on: more keys may belong to it.
+    /// A name to which more keys may belong.
     Choice(Table),
     Name(Table),
     Names(Table),
     Numbers(Range),
     Rules,
     Steps,
-    /// The setting of the host, whose range is checked behind the keys.
+    /// The setting of the host. Its range is checked after the keys.
     Setting,
 }
 
@@ -72,7 +72,7 @@ pub(crate) const MOST_STEPS: usize = 100000;
 /// The most rules of a policy.
 pub(crate) const MOST_RULES: usize = 16;
 
-/// How often it may go on by a name: a step's op, its act, and the call that the act enters.
+/// How many levels of keys there are: those of every step, of its op, of its act or request, and of the call.
 pub(crate) const LEVELS: usize = 4;
 
 const USER: Range = Range {
@@ -142,7 +142,7 @@ pub(crate) const SCENARIO: [Key; 2] = [
     Key::Optional("kill_on_debugger_exit", Kind::Setting),
 ];
 
-/// The keys of scenarios, steps and rules, whatever belongs to them.
+/// All keys of scenarios, steps and rules.
 pub(crate) const KEYS: &[&str] = &[
     "steps",
     "kill_on_debugger_exit",

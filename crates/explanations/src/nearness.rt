@@ -1,12 +1,13 @@
 //! Names that are spelt much like another.
-use crate::told::Told;
+use crate::characters::is_invisible;
+use crate::report::Report;
 use std::alloc::{AllocError, Global};
 use strsim::generic_levenshtein;
 
 /// The most bytes of a name that is compared.
 const MOST_BYTES: usize = 64;
 
-/// The bytes of the name with its letters as small ones.
+/// The bytes of the name in lower case.
 fn lowered(alloc: Global, name: &str) -> Result<Vec<u8>, AllocError> {
     let mut bytes = Vec::from_slice(alloc, name.as_bytes())?;
     bytes.make_ascii_lowercase();
@@ -22,18 +23,43 @@ fn most_edits(length: usize) -> usize {
     }
 }
 
-/// How many letters lead from one name to the other, whether great or small.
+/// How many letters to change from one name to the other, without regard to case.
 fn edits(alloc: Global, written: &str, name: &str) -> Result<usize, AllocError> {
     let written = lowered(alloc, written)?;
     let name = lowered(alloc, name)?;
     generic_levenshtein(alloc, written.as_slice(), name.as_slice())
 }
 
-impl Told {
-    /// How many letters lead from what was written to the name; none where they are too many.
+/// Whether what was written is the name, but for characters that can't be seen.
+fn is_seen_as(written: &str, name: &str) -> bool {
+    let mut letters = name.chars();
+    for character in written.chars() {
+        if is_invisible(character) {
+            continue;
+        }
+        match letters.next() {
+            Some(letter) if letter == character => {}
+            _ => return false,
+        }
+    }
+    letters.next().is_none()
+}
+
+impl Report {
+    /// The name that was likely meant.
+    pub(crate) fn push_meant(&mut self, name: &str) {
+        self.push("; did you mean \"");
+        self.push(name);
+        self.push("\"?");
+    }
+
+    /// How many letters to change from what was written to the name; none where they are too many.
     pub(crate) fn few_edits(&mut self, written: &str, name: &str) -> Option<usize> {
         if written.len() > MOST_BYTES || written.is_empty() {
             return None;
+        }
+        if is_seen_as(written, name) {
+            return Some(0);
         }
         let most = most_edits(written.len().max(name.len()));
         match edits(self.alloc, written, name) {
@@ -63,9 +89,9 @@ impl Nearest {
         second: "",
     };
 
-    /// Notes a name, if it is as near as those before.
-    pub(crate) fn add(&mut self, told: &mut Told, written: &str, name: &'static str) {
-        let Some(edits) = told.few_edits(written, name) else {
+    /// Adds a name, if it is as near as those before.
+    pub(crate) fn add(&mut self, report: &mut Report, written: &str, name: &'static str) {
+        let Some(edits) = report.few_edits(written, name) else {
             return;
         };
         if edits < self.edits {
@@ -77,18 +103,20 @@ impl Nearest {
         }
     }
 
-    /// Tells what was likely meant, and answers whether there is anything.
-    pub(crate) fn tell(&self, told: &mut Told) -> bool {
+    /// Reports what was likely meant, and returns whether there is anything.
+    pub(crate) fn suggest(&self, report: &mut Report) -> bool {
         if self.first.is_empty() {
             return false;
         }
-        told.push("; did you mean \"");
-        told.push(self.first);
-        if !self.second.is_empty() {
-            told.push("\" or \"");
-            told.push(self.second);
+        if self.second.is_empty() {
+            report.push_meant(self.first);
+            return true;
         }
-        told.push("\"?");
+        report.push("; did you mean \"");
+        report.push(self.first);
+        report.push("\" or \"");
+        report.push(self.second);
+        report.push("\"?");
         true
     }
 }

@@ -4,12 +4,12 @@ use std::str::from_utf8;
 /// What may come next.
 #[derive(Clone, Copy)]
 pub(crate) enum Wants {
-    /// A value: at the front, or behind a colon.
+    /// A value: at the start, or after a colon.
     Value,
-    /// A value behind a comma.
+    /// A value after a comma.
     Item,
     ItemOrEnd,
-    /// A key behind a comma.
+    /// A key after a comma.
     Key,
     KeyOrEnd,
     Colon,
@@ -22,26 +22,40 @@ pub(crate) enum Wants {
 /// What is wrong.
 #[derive(Clone, Copy)]
 pub(crate) enum Wrong {
-    /// It isn't what may come.
+    /// Another character than what may come.
     Other(Wants),
-    /// A word that is no value; where it ends.
+    /// A word that isn't a value; where it ends.
     Word(usize),
-    /// A text has no quotes at its end, or a control character in it.
+    /// A string without its closing quotes, or with a control character in it.
     Control,
-    /// A backslash in a text, and what can't stand behind it.
+    /// A backslash in a string, and a character that can't follow it.
     Escape,
     TooDeep,
     /// A number beyond what a double holds; where it ends.
     TooLarge(usize),
 }
 
-/// A mistake and its place: how many bytes stand before it.
+/// A mistake and its place: how many bytes come before it.
 #[derive(Clone, Copy)]
 pub(crate) struct JsonMistake {
     pub(crate) at: usize,
     pub(crate) wrong: Wrong,
-    /// Where the array or object, or the text, begins that isn't closed.
+    /// Where the innermost array or object, or the string, begins that isn't closed.
     pub(crate) opened: Option<usize>,
+    /// Whether an object is around that array or object; none where nothing is.
+    pub(crate) is_in_object: Option<bool>,
+}
+
+impl JsonMistake {
+    /// A mistake for which it doesn't matter what is open.
+    fn at(at: usize, wrong: Wrong) -> JsonMistake {
+        JsonMistake {
+            at,
+            wrong,
+            opened: None,
+            is_in_object: None,
+        }
+    }
 }
 
 /// How deep arrays and objects may nest.
@@ -76,7 +90,12 @@ impl Open {
         self.begins.get(self.depth.checked_sub(1)?).copied()
     }
 
-    /// What may come behind a value.
+    /// Whether an object is around the innermost.
+    fn is_in_object(&self) -> Option<bool> {
+        self.is_object.get(self.depth.checked_sub(2)?).copied()
+    }
+
+    /// What may come after a value.
     fn after_value(&self) -> Wants {
         let Some(last) = self.depth.checked_sub(1) else {
             return Wants::End;
@@ -97,7 +116,7 @@ struct Walk {
     next: usize,
 }
 
-/// Where the text that begins behind `from` ends, or what is wrong with it.
+/// Where the string ends whose first character is at `from`, or what is wrong with it.
 fn text_end(text: &[u8], from: usize) -> Result<usize, (usize, Wrong)> {
     let mut is_escaped = false;
     let mut digits = 0u8;
@@ -173,6 +192,7 @@ impl Walk {
             at,
             wrong: Wrong::Other(self.wants),
             opened: self.open.begin(),
+            is_in_object: self.open.is_in_object(),
         }
     }
 
@@ -181,11 +201,7 @@ impl Walk {
             return Err(self.other(at));
         }
         if !self.open.push(at, is_object) {
-            return Err(JsonMistake {
-                at,
-                wrong: Wrong::TooDeep,
-                opened: None,
-            });
+            return Err(JsonMistake::at(at, Wrong::TooDeep));
         }
         self.wants = if is_object {
             Wants::KeyOrEnd
@@ -221,7 +237,7 @@ impl Walk {
         Ok(())
     }
 
-    /// A text, which is a value or a key.
+    /// A string, which is a value or a key.
     fn quoted(&mut self, text: &[u8], at: usize) -> Result<(), JsonMistake> {
         let is_key = matches!(self.wants, Wants::Key | Wants::KeyOrEnd);
         if !is_key && !self.wants_value() {
@@ -234,6 +250,7 @@ impl Walk {
                     at: place,
                     wrong,
                     opened: Some(at),
+                    is_in_object: None,
                 });
             }
         }
@@ -253,18 +270,10 @@ impl Walk {
         let end = word_end(text, at);
         let word = word_at(text, at, end);
         if !is_value(word) {
-            return Err(JsonMistake {
-                at,
-                wrong: Wrong::Word(end),
-                opened: None,
-            });
+            return Err(JsonMistake::at(at, Wrong::Word(end)));
         }
         if is_too_large(word) {
-            return Err(JsonMistake {
-                at,
-                wrong: Wrong::TooLarge(end),
-                opened: None,
-            });
+            return Err(JsonMistake::at(at, Wrong::TooLarge(end)));
         }
         self.next = end;
         self.wants = self.open.after_value();

@@ -1,8 +1,8 @@
-//! What is told of a whole text.
-use crate::checking::{check_scenario, check_step};
-use crate::json_mistakes::tell_no_json;
-use crate::repeated::tell_repeated;
-use crate::told::Told;
+//! The explanation of a whole text.
+use crate::checking::{check_line, check_scenario};
+use crate::json_mistakes::report_no_json;
+use crate::repeated::report_repeated;
+use crate::report::Report;
 use json::{Scratch, Value};
 use std::alloc::{AllocError, Global};
 
@@ -11,18 +11,18 @@ const MOST_BYTES: usize = 4194304;
 
 const MOST_STEP_BYTES: usize = 65536;
 
-/// What a text is to be.
+/// What a text should be.
 #[derive(Clone, Copy, Debug)]
 pub enum Source {
     /// A scenario.
     Scenario,
-    /// A step that stands alone, in the line with this number.
+    /// A single step, in the line with this number.
     Line(usize),
 }
 
-/// Whether the text has more bytes than it may have; then that is told.
-fn is_too_long(told: &mut Told, text: &[u8]) -> bool {
-    let most = if told.line.is_some() {
+/// Whether the text has more bytes than it may have; then that is reported.
+fn is_too_long(report: &mut Report, text: &[u8]) -> bool {
+    let most = if report.line.is_some() {
         MOST_STEP_BYTES
     } else {
         MOST_BYTES
@@ -30,57 +30,55 @@ fn is_too_long(told: &mut Told, text: &[u8]) -> bool {
     if text.len() <= most {
         return false;
     }
-    told.push("  ");
-    if let Some(number) = told.line {
-        told.push("line ");
-        told.push_number(number);
+    report.push("  ");
+    if let Some(number) = report.line {
+        report.push("line ");
+        report.push_number(number);
     } else {
-        told.push("the scenario");
+        report.push("the scenario");
     }
-    told.push(" has more than ");
-    told.push_number(most);
-    told.push(" bytes\n");
+    report.push(" has more than ");
+    report.push_number(most);
+    report.push(" bytes\n");
     true
 }
 
-/// Tells the first mistake of a text's value, if it has one, and the keys that stand more than once.
-fn tell_value(told: &mut Told, value: &Value<'_>) {
-    let is_well = if told.line.is_some() {
-        check_step(told, value)
+/// Reports the first mistakes of a text's value, and the keys that it has more than once.
+fn report_value(report: &mut Report, value: &Value<'_>) {
+    if report.line.is_some() {
+        check_line(report, value);
     } else {
-        check_scenario(told, value)
-    };
-    if !is_well {
-        told.push("\n");
+        check_scenario(report, value);
     }
-    tell_repeated(told, value);
+    report.end_line();
+    report_repeated(report, value);
 }
 
-/// Tells of a text that is JSON.
-fn tell_json(told: &mut Told, text: &[u8]) {
-    let mut scratch = Scratch::new(told.alloc);
-    match Value::from_slice(told.alloc, text, &mut scratch) {
-        Ok(value) => tell_value(told, &value),
-        Err(json::Error::OutOfMemory) => told.is_cut = true,
+/// Reports the mistakes of a text that is JSON.
+fn report_json(report: &mut Report, text: &[u8]) {
+    let mut scratch = Scratch::new(report.alloc);
+    match Value::from_slice(report.alloc, text, &mut scratch) {
+        Ok(value) => report_value(report, &value),
+        Err(json::Error::OutOfMemory) => report.is_cut = true,
         Err(_) => {}
     }
 }
 
-fn tell_text(told: &mut Told, text: &[u8]) {
-    match serde_json::Value::from_slice(told.alloc, text).err() {
-        None => tell_json(told, text),
-        Some(error) if error.is_memory() => told.is_cut = true,
-        Some(error) => tell_no_json(told, text, &error),
+fn report_text(report: &mut Report, text: &[u8]) {
+    match serde_json::Value::from_slice(report.alloc, text).err() {
+        None => report_json(report, text),
+        Some(error) if error.is_memory() => report.is_cut = true,
+        Some(error) => report_no_json(report, text, &error),
     }
 }
 
-/// What is to be told of a text that is meant to be a scenario or a step, in lines of their own: why it is refused, by
-/// the first check that fails, and which keys stand more than once. Nothing of a text that is well. An error is want of
-/// memory.
+/// Explains a text that should be a scenario or a step, in lines of their own: why it is refused, by the first check that
+/// fails, for up to ten steps of a scenario, and which keys it has more than once. The explanation of a text without
+/// mistakes is empty. An error means that no memory is left.
 pub fn explain(alloc: Global, source: Source, text: &[u8]) -> Result<String, AllocError> {
-    let mut told = Told::nothing(alloc, source);
-    if !is_too_long(&mut told, text) {
-        tell_text(&mut told, text);
+    let mut report = Report::nothing(alloc, source);
+    if !is_too_long(&mut report, text) {
+        report_text(&mut report, text);
     }
-    told.end()
+    report.end()
 }

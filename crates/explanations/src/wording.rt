@@ -1,147 +1,153 @@
-//! Mistakes in words, each behind its place.
-use crate::checking::{Member, chosen, has_key, keys_at};
+//! Mistakes in words, each after its place.
+use crate::checking::{Member, chosen, has_key, keys_at, value_of};
+use crate::confusions::{advise, advise_prefix};
 use crate::format::{KEYS, Key, Kind, LEVELS, Range, SIGNALS, Table};
 use crate::nearness::Nearest;
-use crate::told::Told;
+use crate::report::Report;
 use json::Value;
 
-fn push_range(told: &mut Told, range: Range) {
-    told.push(" from ");
-    told.push_number(range.least as usize);
-    told.push(" to ");
-    told.push_number(range.most as usize);
+fn push_range(report: &mut Report, range: Range) {
+    report.push(" from ");
+    report.push_number(range.least as usize);
+    report.push(" to ");
+    report.push_number(range.most as usize);
 }
 
-fn push_kind(told: &mut Told, kind: Kind) {
+fn push_kind(report: &mut Report, kind: Kind) {
     match kind {
         Kind::Number(range) => {
-            told.push("a whole number");
-            push_range(told, range);
+            report.push("a whole number");
+            push_range(report, range);
         }
-        Kind::Whole => told.push("a whole number of 64 bits"),
+        Kind::Whole => report.push("a whole number of 64 bits"),
         Kind::Numbers(range) => {
-            told.push("an array with whole numbers");
-            push_range(told, range);
+            report.push("an array with whole numbers");
+            push_range(report, range);
         }
         Kind::Choice(table) | Kind::Name(table) => {
-            told.push("the name of one of the ");
-            told.push(table.word());
-            told.push("s");
+            report.push("the name of one of the ");
+            report.push(table.word());
+            report.push("s");
         }
         Kind::Names(table) => {
-            told.push("an array with names of ");
-            told.push(table.word());
-            told.push("s");
+            report.push("an array with names of ");
+            report.push(table.word());
+            report.push("s");
         }
-        Kind::Rules => told.push("an array of rules"),
-        Kind::Steps => told.push("an array of steps"),
-        Kind::Setting => told.push("0 or 1"),
+        Kind::Rules => report.push("an array of rules"),
+        Kind::Steps => report.push("an array of steps"),
+        Kind::Setting => report.push("0 or 1"),
     }
 }
 
 /// What a value is.
-fn push_value(told: &mut Told, value: &Value<'_>) {
+fn push_value(report: &mut Report, value: &Value<'_>) {
     match value {
-        Value::Null => told.push("null"),
-        Value::Bool(is_true) => told.push(if *is_true { "true" } else { "false" }),
-        Value::Number(text) => told.push_shown(text),
+        Value::Null => report.push("null"),
+        Value::Bool(is_true) => report.push(if *is_true { "true" } else { "false" }),
+        Value::Number(text) => report.push_shown(text),
         Value::String(text) => {
-            told.push("\"");
-            told.push_shown(text);
-            told.push("\"");
+            report.push("\"");
+            report.push_shown(text);
+            report.push("\"");
         }
-        Value::Array(_) => told.push("an array"),
-        Value::Object(_) => told.push("an object"),
+        Value::Array(_) => report.push("an array"),
+        Value::Object(_) => report.push("an object"),
     }
 }
 
-/// The number of the signal with this name.
+/// The number of the signal with this name, in any case, with or without `SIG`.
 fn signal_number(name: &str) -> Option<usize> {
     for index in 0..SIGNALS.len() {
-        if SIGNALS[index] == name {
+        let signal = SIGNALS[index];
+        let bare = signal.strip_prefix("SIG").unwrap_or(signal);
+        if signal.eq_ignore_ascii_case(name) || bare.eq_ignore_ascii_case(name) {
             return Some(index + 1);
         }
     }
     None
 }
 
-/// What helps where a text stands in place of a number.
-fn push_number_hint(told: &mut Told, text: &str) {
+/// What helps where a string is given for a number.
+fn push_number_hint(report: &mut Report, text: &str) {
     if let Some(number) = signal_number(text) {
-        told.push("; write ");
-        told.push_number(number);
-        told.push(" for ");
-        told.push(text);
+        report.push("; write ");
+        report.push_number(number);
+        report.push(" for ");
+        report.push(text);
     } else if text.parse::<i64>().is_ok() {
-        told.push("; numbers have no quotes");
+        report.push("; numbers have no quotes");
     }
 }
 
 /// A value of another kind.
-pub(crate) fn tell_kind(told: &mut Told, kind: Kind, value: &Value<'_>) {
-    told.push("expected ");
-    push_kind(told, kind);
-    told.push(", got ");
-    push_value(told, value);
+pub(crate) fn report_kind(report: &mut Report, kind: Kind, value: &Value<'_>) {
+    report.push("expected ");
+    push_kind(report, kind);
+    report.push(", got ");
+    push_value(report, value);
     if let (Kind::Number(_) | Kind::Whole, Value::String(text)) = (kind, value) {
-        push_number_hint(told, text);
+        push_number_hint(report, text);
     }
 }
 
-/// A value in place of an object; all isn't well then.
-pub(crate) fn tell_no_object(told: &mut Told, value: &Value<'_>) -> bool {
-    told.begin("", None);
-    told.push("expected an object, got ");
-    push_value(told, value);
+/// Another value than an object; returns false.
+pub(crate) fn report_no_object(report: &mut Report, value: &Value<'_>) -> bool {
+    report.begin("", None);
+    report.push("expected an object, got ");
+    push_value(report, value);
     false
 }
 
 /// A number out of its range.
-pub(crate) fn tell_number(told: &mut Told, number: &str, range: Range) {
-    told.push(number);
-    told.push(" is out of range; expected a whole number");
-    push_range(told, range);
+pub(crate) fn report_number(report: &mut Report, number: &str, range: Range) {
+    report.push(number);
+    report.push(" is out of range; expected a whole number");
+    push_range(report, range);
 }
 
-pub(crate) fn tell_too_many(told: &mut Told, count: usize, words: &str, most: usize) {
-    told.push_number(count);
-    told.push(words);
-    told.push_number(most);
+pub(crate) fn report_too_many(report: &mut Report, count: usize, words: &str, most: usize) {
+    report.push_number(count);
+    report.push(words);
+    report.push_number(most);
 }
 
 /// `first`, `second` and `last` in quotes.
-fn push_item(told: &mut Told, index: usize, count: usize, name: &str) {
+fn push_item(report: &mut Report, index: usize, count: usize, name: &str) {
     if index > 0 {
-        told.push(if index.saturating_add(1) == count {
+        report.push(if index.saturating_add(1) == count {
             " and "
         } else {
             ", "
         });
     }
-    told.push("\"");
-    told.push(name);
-    told.push("\"");
+    report.push("\"");
+    report.push(name);
+    report.push("\"");
 }
 
 /// A name that isn't one of the table, and the names that are near, or all of them.
-pub(crate) fn tell_name(told: &mut Told, name: &str, table: Table) {
-    told.push("\"");
-    told.push_shown(name);
-    told.push("\" is no ");
-    told.push(table.word());
+pub(crate) fn report_name(report: &mut Report, name: &str, table: Table) {
+    report.push("\"");
+    report.push_shown(name);
+    report.push("\" is no ");
+    report.push(table.word());
+    if advise(report, name, table) {
+        return;
+    }
     let cases = table.cases();
     let mut nearest = Nearest::NONE;
     for case in cases {
-        nearest.add(told, name, case.name());
+        nearest.add(report, name, case.name());
     }
-    if nearest.tell(told) {
+    if nearest.suggest(report) || advise_prefix(report, name, table) {
         return;
     }
-    told.push("; the ");
-    told.push(table.word());
-    told.push("s are ");
+    report.push("; the ");
+    report.push(table.word());
+    report.push("s are ");
     for index in 0..cases.len() {
-        push_item(told, index, cases.len(), cases[index].name());
+        push_item(report, index, cases.len(), cases[index].name());
     }
 }
 
@@ -167,37 +173,37 @@ fn unknown_key<'a>(members: &[Member<'a>], levels: &Levels) -> &'a str {
     ""
 }
 
-/// Notes those of the keys that are near.
-fn add_keys(told: &mut Told, nearest: &mut Nearest, name: &str, keys: &[Key]) {
+/// Adds those of the keys that are near.
+fn add_keys(report: &mut Report, nearest: &mut Nearest, name: &str, keys: &[Key]) {
     for key in keys {
-        nearest.add(told, name, key.name());
+        nearest.add(report, name, key.name());
     }
 }
 
-/// The keys of one level, before which there are `index` of `count`; how many there are then.
-fn push_level(told: &mut Told, keys: &[Key], index: usize, count: usize) -> usize {
+/// The keys of one level, after `index` of `count`; returns the number of keys so far.
+fn push_level(report: &mut Report, keys: &[Key], index: usize, count: usize) -> usize {
     let mut index = index;
     for key in keys {
-        push_item(told, index, count, key.name());
+        push_item(report, index, count, key.name());
         index = index.saturating_add(1);
     }
     index
 }
 
 /// All keys that are known.
-fn push_keys(told: &mut Told, levels: &Levels) {
+fn push_keys(report: &mut Report, levels: &Levels) {
     let mut count = 0usize;
     for keys in levels {
         count = count.saturating_add(keys.len());
     }
-    told.push("; its keys are ");
+    report.push("; its keys are ");
     let mut index = 0usize;
     for keys in levels {
-        index = push_level(told, keys, index, count);
+        index = push_level(report, keys, index, count);
     }
 }
 
-/// What the keys of the last level belong to.
+/// The op, act, request or call that the keys of the last level belong to.
 fn owner_of(members: &[Member<'_>], whole: &'static str, first: &'static [Key]) -> &'static str {
     let mut owner = whole;
     for level in 0..LEVELS {
@@ -208,9 +214,9 @@ fn owner_of(members: &[Member<'_>], whole: &'static str, first: &'static [Key]) 
     owner
 }
 
-/// A key that isn't known, and the known ones that are near, or all; all isn't well then.
-pub(crate) fn tell_unknown(
-    told: &mut Told,
+/// A key that isn't known, and the known ones that are near, or all; returns false.
+pub(crate) fn report_unknown(
+    report: &mut Report,
     members: &[Member<'_>],
     whole: &'static str,
     first: &'static [Key],
@@ -222,17 +228,17 @@ pub(crate) fn tell_unknown(
         keys_at(members, first, 3),
     ];
     let name = unknown_key(members, &levels);
-    told.begin("", None);
-    told.push(owner_of(members, whole, first));
-    told.push(" has no key \"");
-    told.push_shown(name);
-    told.push("\"");
+    report.begin("", None);
+    report.push(owner_of(members, whole, first));
+    report.push(" has no key \"");
+    report.push_shown(name);
+    report.push("\"");
     let mut nearest = Nearest::NONE;
     for keys in &levels {
-        add_keys(told, &mut nearest, name, keys);
+        add_keys(report, &mut nearest, name, keys);
     }
-    if !nearest.tell(told) {
-        push_keys(told, &levels);
+    if !nearest.suggest(report) {
+        push_keys(report, &levels);
     }
     false
 }
@@ -247,20 +253,23 @@ fn strange_key<'a>(members: &[Member<'a>]) -> Option<&'a str> {
     None
 }
 
-/// A key that isn't there, and what may have been meant for it.
-pub(crate) fn tell_missing(told: &mut Told, members: &[Member<'_>], key: &str) {
-    told.begin("", None);
-    told.push("the key \"");
-    told.push(key);
-    told.push("\" is missing");
+/// A key that is missing, and the key that may have been meant for it.
+pub(crate) fn report_missing(report: &mut Report, members: &[Member<'_>], key: &str) {
+    report.begin("", None);
+    report.push("the key \"");
+    report.push(key);
+    report.push("\" is missing");
+    if key == "steps" && value_of(members, "op").is_some() {
+        return report.push("; this is a step: put it into {\"steps\":[..]}, or use --lines");
+    }
     if let Some(other) = strange_key(members) {
-        let is_near = told.few_edits(other, key).is_some();
-        told.push(if is_near {
+        let is_near = report.few_edits(other, key).is_some();
+        report.push(if is_near {
             "; did you mean it by \""
         } else {
             "; there is no key \""
         });
-        told.push_shown(other);
-        told.push(if is_near { "\"?" } else { "\"" });
+        report.push_shown(other);
+        report.push(if is_near { "\"?" } else { "\"" });
     }
 }

@@ -40,7 +40,7 @@ memory_is (reply.Caught sig) is = absurd (true≢false (sym is))
 memory_is (reply.Ended status) is = absurd (true≢false (sym is))
 memory_is reply.Held is = absurd (true≢false (sym is))
 
--- want of memory changed nothing
+-- a call that ran out of memory changed nothing
 pub wanted : (m after : Machine) (r : Reply) → is_memory r ≡ true → (r ≡ reply.Errno errno.ENOMEM → after ≡ m) → after ≡ m
 wanted m after r wants same = same (memory_is r wants)
 

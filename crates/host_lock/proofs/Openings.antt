@@ -23,7 +23,7 @@ one_more us i z h xs ys lt all is =
 split_left_is : (h : Machine) (i k : ℕ) → split_left (fresh_view h i (suc k)) ≡ fresh_view h (i + 1) k
 split_left_is h i k = let e : suc k * most_calls - most_calls ≡ k * most_calls = omega arith in ap (λ (b : ℕ). record (fresh_view h (i + 1) k) { budget = b }) e
 
--- a seat that stands for k sessions from i on gives one away
+-- a seat that owns k sessions from i on gives one away
 pub splits_one : (F : Type 0) (h r : Machine) (n id i k : ℕ) (v : View) → 0 < k → v ≡ fresh_view r i k → Splits (IsKept {F = F} h n) id v (split_left v) (split_right v)
 splits_one F h r n id i zero v some e = absurd (omega arith)
 splits_one F h r n id i (suc k) v some e =

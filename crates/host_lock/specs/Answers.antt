@@ -1,4 +1,4 @@
--- What open, call and close answer.
+-- The answers of open, call and close.
 use Rattle.std.specs.Prelude.{◌≡◌, ℕ, ◌<◌, List, length}
 use Rattle.requests.specs.Machine.{Machine}
 use Rattle.requests.specs.Plain.{PlainStep}
@@ -11,12 +11,12 @@ use Rattle.host_lock.specs.declared.host.Answer.TheVariants.{Reply, Spent}
 use Rattle.host_lock.specs.Limits.{most_sessions, most_calls}
 use Rattle.host_lock.specs.Sessions.{SessionData, HostData, Replies, IsOpenable}
 
--- what a call of a session answers, and what it leaves of the session
+-- the answer to a call of a session, and the session after it
 abbrev pub Calls : SessionData → PlainStep → Answer → SessionData → Type 0
 Calls v s (Reply r) w = (v.calls < most_calls) × Replies v s r w
 Calls v s Spent w = (v.calls ≡ most_calls) × (w ≡ v)
 
--- why no session was opened, and the host that comes back
+-- the reason for a refused opening, and the host that is given back
 abbrev pub RefusesFor : {F : Type 0} → Machine → List ℕ → OpenRefusal F → Type 0
 RefusesFor host us (NoSessions h) = (h ≡ host) × (length us ≡ 0)
 RefusesFor host us (TooMany h) = (h ≡ host) × (most_sessions < length us)

@@ -1,4 +1,4 @@
--- What lies in the slot, as plain data: the rows at opening, and the journal. The host's rows are its replay.
+-- The state in the slot as plain data: the host at opening, and the journal. The present host is its replay.
 use Rattle.std.specs.Prelude.{List}
 use Rattle.requests.specs.Machine.{Machine}
 use Rattle.host_lock.specs.declared.journal.Entry.{Entry}

@@ -1,4 +1,4 @@
--- How many sessions may share a host, and how many calls each may make.
+-- The most sessions of a host, and the most calls of a session.
 use Rattle.std.specs.Prelude.{ℕ}
 
 abbrev pub most_sessions : ℕ

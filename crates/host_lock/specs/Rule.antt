@@ -1,4 +1,4 @@
--- The rule of the table, and what each step tells.
+-- The rule of the table, and the knowledge that each step gives.
 use Rattle.std.specs.Prelude.{◌≡◌, ◌⊎◌, ℕ, zero, suc, ◌+◌, ◌-◌, ◌*◌, ◌<◌, ◌≤◌, ◌==◌, List, [], ◌∷◌, ◌++◌, length, take, drop, Option, Some, None, IfSome, MatchBool, true, if◌then◌else◌}
 use mathlib.Core.Option.{none, some}
 use mathlib.Core.Option as maybe
@@ -53,7 +53,7 @@ owes (Counted n) = 0
 abbrev pub account : ℕ → List Entry → Account
 account n mine = record { number = n; mine = mine }
 
--- how often the number stands here
+-- how many of the accounts have the number
 abbrev pub times : ℕ → List Account → ℕ
 times n [] = 0
 times n (x ∷ xs) = once x.number n + times n xs
@@ -62,7 +62,7 @@ times n (x ∷ xs) = once x.number n + times n xs
 abbrev pub Matches : ℕ → List Entry → Account → Type 0
 Matches sessions log x = (entries_of x.number log ≡ x.mine) × (x.number < sessions)
 
--- who has the slot has the ticket that is served, and has seen the whole log
+-- a seat with the slot has the ticket that is served, and has seen the whole log
 abbrev pub AtTurn : ℕ → List Entry → Stage → List (List Entry) → Type 0
 AtTurn serving log Idle seen = Unit {0}
 AtTurn serving log (Waiting t) seen = Unit {0}
@@ -74,7 +74,7 @@ pub record Fits (start : Machine) (sessions serving : ℕ) (log : List Entry) (v
   pub seen_is : Each (StartsWith log) v.seen
   pub owns_is : Each (Matches sessions log) v.owns
   pub turn_is : AtTurn serving log v.stage v.seen
-  -- a seat that stands for no session has no slot
+  -- a seat that owns no session has no slot
   pub works : has_slot v.stage ≤ length v.owns
 
 abbrev pub ticket_of : ℕ → View → ℕ
@@ -153,7 +153,7 @@ both v w = record v { budget = v.budget + w.budget; seen = v.seen ++ w.seen; own
 abbrev pub session_view : Machine → Stage → ℕ → List Entry → ℕ → List Entry → View
 session_view h g b seen n mine = record { start = Some h; stage = g; budget = b; seen = seen ∷ []; owns = account n mine ∷ [] }
 
--- a host that nobody has used
+-- an unused host
 abbrev pub nobody : Machine
 nobody = empty (record { kill_on_debugger_exit = true })
 
@@ -179,7 +179,7 @@ abbrev pub view_in : List View → View
 view_in [] = spent
 view_in (v ∷ vs) = v
 
--- three words and a slot
+-- the table has three words and one slot
 abbrev pub IsHostTable : TableId → Type 0
 IsHostTable z = (z.words ≡ 3) × (z.slots ≡ 1)
 
@@ -201,13 +201,13 @@ module _ {F : Type 0} where
     -- the longest list
     pub log : List Entry
     pub words : s.words ≡ serving ∷ ticket ∷ length log ∷ []
-    -- each seat's lists are beginnings of it, and it has what the seat's sessions did
+    -- each seat's lists are beginnings of it, and it contains the entries of the seat's sessions
     pub seats : (id : ℕ) (v : View) → get_elem? s.views id ≡ some v → Fits start sessions serving log v
     pub slot : InSlot start log s.views s.homes
     -- the sessions' numbers differ, and there are as many as sessions
     pub numbers : (n : ℕ) → total (number_of n) s.views ≤ 1
     pub parts : total parts_of s.views ≡ sessions
-    -- a number that no session has has no entry
+    -- each entry has the number of a session
     pub given : Each (λ (e : Entry). e.session < sessions) log
     -- tickets out are ticket less serving
     pub in_order : serving ≤ ticket
@@ -244,7 +244,7 @@ module _ {F : Type 0} where
   abbrev pub released : At F → M F → ℕ → M F → Type 0
   released st m n m' = m' ≡ (staged m.0 Idle, [])
 
-  -- what is known at the end of a seat that has taken in all others
+  -- the knowledge at the end about a seat that was joined with all others
   abbrev pub Closes : Machine → ℕ → View → List (Slot F) → Type 0
   Closes h n v xs =
       (log : List Entry) × (get_elem? xs 0 ≡ some (There (history h log))) × IfSome v.start (λ z. z ≡ h) × Each (StartsWith log) v.seen × Each (Matches n log) v.owns × Each (λ (e : Entry). e.session < n) log
@@ -268,6 +268,6 @@ module _ {F : Type 0} where
       (let e = entry u number s r in
       IsLegal (start_of v) (log ++ e ∷ []) × (m' ≡ (session_view (start_of v) Idle (v.budget - 1) (log ++ e ∷ []) number (mine_of v ++ e ∷ []), [])))
 
-  -- the slot is out with the seat, whose last list is k's
+  -- the slot is out with the seat, and the seat's last list is that of k
   abbrev pub IsOut : ℕ → History → M F → Type 0
   IsOut number k m = (g : Stage) × (x : (Slot F)) × (has_slot g ≡ 1) × (m ≡ (session_view k.start g m.0.budget k.log number (mine_of m.0), (0, x) ∷ []))

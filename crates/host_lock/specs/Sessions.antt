@@ -1,4 +1,4 @@
--- What contracts see of a session and of the shared host.
+-- A session and the shared host, as contracts see them.
 use Rattle.std.specs.Prelude.{◌≡◌, ℕ, ◌+◌, ◌<◌, ◌≤◌, length, map, Some, List, [], ◌∷◌, ◌++◌, MatchBool}
 use Rattle.atomic_table.specs.Seated.{TableId}
 use Rattle.requests.specs.Machine.{Machine}
@@ -29,7 +29,7 @@ pub record HostData : Type 0 where
 abbrev pub IsOf : HostData → SessionData → Type 0
 IsOf h s = (s.host ≡ h.id) × (s.start ≡ h.start)
 
--- what is seen is legal, and has of this session just its own entries
+-- the seen part of the journal is legal, and its entries of this session are the session's own
 abbrev pub IsTrue : SessionData → Type 0
 IsTrue s = IsLegal s.start s.seen × (entries_of s.number s.seen ≡ s.mine)
 
@@ -37,16 +37,16 @@ IsTrue s = IsLegal s.start s.seen × (entries_of s.number s.seen ≡ s.mine)
 abbrev pub Goes : SessionData → SessionData → Type 0
 Goes v w = (w.uid ≡ v.uid) × (w.number ≡ v.number) × (w.calls ≡ v.calls + 1) × (w.host ≡ v.host) × (w.start ≡ v.start)
 
--- what is seen begins with what was seen, and ends with the call, which is one more of the session's
+-- the seen part of the journal begins with the part seen before, and ends with the call, a new one of the session
 abbrev pub Makes : SessionData → PlainStep → Reply → SessionData → Type 0
 Makes v s r w =
     (log : List Entry) × StartsWith log v.seen × (w.seen ≡ log ++ entry v.uid v.number s r ∷ []) × (w.mine ≡ v.mine ++ entry v.uid v.number s r ∷ [])
 
--- a call was answered
+-- the effect of an answered call
 abbrev pub Replies : SessionData → PlainStep → Reply → SessionData → Type 0
 Replies v s r w = Goes v w × MatchBool (is_memory r) (StartsWith w.seen v.seen × (w.mine ≡ v.mine)) (Makes v s r w)
 
--- at the end: the journal has what the session saw, and of it just what it did
+-- at the end: the journal begins with the part that the session saw, and its entries of the session are its own
 abbrev pub Stands : List Entry → SessionData → Type 0
 Stands log s = StartsWith log s.seen × (entries_of s.number log ≡ s.mine)
 
@@ -74,7 +74,7 @@ account_of s = account s.number s.mine
 abbrev pub seen_by : SessionData → List Entry
 seen_by s = s.seen
 
--- a seat that stands for all these sessions
+-- a seat that owns all these sessions
 abbrev pub gathered : Machine → List SessionData → ℕ → View
 gathered h order b = record { start = Some h; stage = Idle; budget = b; seen = map seen_by order; owns = map account_of order }
 

@@ -1,9 +1,9 @@
--- What a seat at the table knows.
+-- The knowledge of a seat at the table.
 use Rattle.std.specs.Prelude.{ℕ, List, [], Option, None}
 use Rattle.requests.specs.Machine.{Machine}
 use Rattle.host_lock.specs.declared.journal.Entry.{Entry}
 
--- how far a call is; the number is its ticket
+-- the stage of a call; the number is its ticket
 pub data Stage : Type 0 where
   -- between two calls
   Idle : Stage
@@ -19,16 +19,16 @@ pub record Account : Type 0 where
   pub mine : List Entry
 
 pub record View : Type 0 where
-  -- the host at opening; a seat that was joined has none
+  -- the host at opening; a seat that was joined into another has none
   pub start : Option Machine
   pub stage : Stage
   -- how many calls it may still make
   pub budget : ℕ
-  -- beginnings of the journal; a seat that took others in has theirs too
+  -- beginnings of the journal; a seat that was joined with others has theirs too
   pub seen : List (List Entry)
-  -- the sessions that it stands for
+  -- the sessions that it owns
   pub owns : List Account
 
--- a seat that was joined
+-- a seat that was joined into another
 abbrev pub spent : View
 spent = record { start = None; stage = Idle; budget = 0; seen = []; owns = [] }

@@ -1,4 +1,4 @@
-//! The door of a shared host, behind which one caller at a time makes its call.
+//! The door of a shared host: it admits one caller at a time.
 
 use crossbeam_utils::CachePadded;
 use crossbeam_utils::sync::EventCount;
@@ -7,23 +7,24 @@ use std::sync::atomic::Ordering::SeqCst;
 use std::sync::atomic::{AtomicBool, AtomicU64};
 use std::sync::{Mutex, MutexGuard, Wait};
 
-/// How often a caller tries the lock before it sleeps.
+/// The number of times that a caller tries the lock before it sleeps.
 const TRIES: u32 = 5;
 
-/// How many hints to the processor a caller gives between two tries. All tries together take about as long as a sleep and a wake.
+/// The number of spin hints between two tries. All tries together take about as long as a sleep and a wake.
 const HINTS: u32 = 1024;
 
-/// A lock that is tried, and never slept on: who finds it taken for too long sleeps until it is called. Who leaves calls
-/// one sleeper, and only where nobody is awake to come in, so that most calls are left without a wake.
+/// A lock that callers only try. A caller that fails for too long sleeps until it is called. A leaving caller calls one
+/// sleeper, and only if no caller is awake and trying, so that most calls end without a wake.
 ///
-/// No caller sleeps for good beside an open door. One that is about to sleep says so (`prepare_wait`, `is_called`,
-/// `trying`) before it looks at the lock for the last time. Who leaves opens the lock before it looks for somebody who
-/// tries: whom it finds will look at the lock later, and else it calls, where nobody was called who has not come yet.
+/// No caller sleeps forever while the door is open. A caller that is about to sleep announces it (`prepare_wait`,
+/// `is_called`, `trying`) before it tries the lock a last time. A leaving caller opens the lock first, and then looks
+/// for a caller that is trying. If there is one, it will try the lock again later. Otherwise the leaving caller calls
+/// one sleeper, unless a called one is already on its way.
 pub(crate) struct Door {
     lock: CachePadded<Mutex<()>>,
-    /// How many callers are awake and try the lock.
+    /// The number of callers that are awake and try the lock.
     trying: CachePadded<AtomicU64>,
-    /// Whether a caller was called from its sleep, and does not try yet.
+    /// Whether a caller was called from its sleep and is not trying yet.
     is_called: CachePadded<AtomicBool>,
     sleepers: CachePadded<EventCount>,
 }
@@ -39,14 +40,14 @@ impl Drop for Door {
     }
 }
 
-/// What a caller has while it is inside.
+/// The guard of a caller that is inside.
 pub(crate) struct Inside<'a> {
     door: &'a Door,
     lock: MutexGuard<'a, ()>,
 }
 
 impl Door {
-    /// A door with nobody inside.
+    /// Creates a door with no caller inside.
     pub(crate) fn new() -> Door {
         Door {
             lock: CachePadded::new(Mutex::new(())),
@@ -56,8 +57,8 @@ impl Door {
         }
     }
 
-    /// Waits until nobody else is inside. Most calls are over sooner than a sleeper wakes, so the caller tries for a while
-    /// first, and seldom, so that who is inside can make some calls in between.
+    /// Waits until no other caller is inside. Most calls end sooner than a sleeper wakes, so the caller first tries for
+    /// a while. It tries seldom, so that the caller inside can make some calls in between.
     pub(crate) fn enter<R: Wait>(&self, rt: &R) -> Inside<'_> {
         match self.lock.try_lock() {
             Some(lock) => Inside { door: self, lock },
@@ -65,7 +66,7 @@ impl Door {
         }
     }
 
-    /// Tries, and sleeps, in turn.
+    /// Tries for a while and then sleeps, until it gets in.
     fn wait<R: Wait>(&self, rt: &R) -> Inside<'_> {
         self.trying.fetch_add(1, SeqCst);
         for _ in rt.forever() {
@@ -100,7 +101,7 @@ impl Door {
 }
 
 impl Inside<'_> {
-    /// Opens the door to the next caller.
+    /// Opens the door for the next caller.
     pub(crate) fn leave(self) {
         let Inside { door, lock } = self;
         drop(lock);

@@ -28,11 +28,12 @@ use std::snapshot::Snapshot;
 use std::sync::Wait;
 use stop_handlers::{Decider, Handler};
 
-/// A host that sessions share, each in a thread of its own if it likes. Contracts see which host it is, what it was at opening, and how
-/// many sessions were opened.
+/// A host that sessions share. Each may be in a thread of its own. Contracts see which shared host it is, the host at
+/// opening, and the number of sessions that were opened.
 pub struct SharedHost<F: Decider + Send + Drop> {
     table: HostTable<F>,
-    /// Held during a call, and waited for before it draws its ticket. No contract rests on it: the ticket is waited for all the same.
+    /// A call enters it before it draws its ticket, and leaves it at its end. No contract depends on it, since a call
+    /// also waits for its ticket.
     door: Door,
     sessions: usize,
 }
@@ -63,20 +64,20 @@ impl<F: Decider + Send + Drop> Model for SharedHost<F> {
     ghost invariant = { λ h. IsHostTable h.table.shared.table_id × (h.sessions ≡ h.table.shared.key.sessions) × (0 < h.sessions) };
 }
 
-/// What a call answers.
+/// The answer to a call.
 #[derive(Debug, Drop)]
 pub enum Answer {
     Reply(Reply),
-    /// The session has made all the calls that it may, `MOST_CALLS`.
+    /// The session has already made `MOST_CALLS` calls.
     Spent,
 }
 
 /// Why no session was opened.
 #[derive(Drop)]
 pub enum OpenRefusal<F: Decider + Send + Drop> {
-    /// No user was named. The host comes back.
+    /// No user was named. The host is given back.
     NoSessions(Host<F>),
-    /// More than `MOST_SESSIONS` were named. The host comes back.
+    /// More than `MOST_SESSIONS` users were named. The host is given back.
     TooMany(Host<F>),
     /// Memory ran out. The host is dropped.
     Memory,
@@ -85,14 +86,18 @@ pub enum OpenRefusal<F: Decider + Send + Drop> {
 /// Why a shared host was not closed.
 #[derive(Drop)]
 pub enum CloseRefusal<F: Decider + Send + Drop> {
-    /// Fewer sessions were handed in than were opened. All is given back.
+    /// Fewer sessions were handed in than were opened. The shared host and these sessions are given back.
     Missing(SharedHost<F>, Vec<Session>),
 }
 
 impl<F: Decider + Send + Drop> SharedHost<F> {
-    /// Shares a host among sessions: one for each user that is named, in their order, numbered from 0. A user may be named more than
-    /// once. Refused where no user or more than `MOST_SESSIONS` are named, with the host handed back; where memory runs out, the host
-    /// is dropped.
+    /// Shares a host among sessions: one for each named user, in order, numbered from 0. A user may be named more than
+    /// once.
+    ///
+    /// # Errors
+    ///
+    /// `NoSessions` where no user is named and `TooMany` where more than `MOST_SESSIONS` are: the host is given back.
+    /// `Memory` where memory runs out: the host is dropped.
     pub fn open(
         alloc: Global,
         host: Host<F>,
@@ -106,7 +111,7 @@ impl<F: Decider + Send + Drop> SharedHost<F> {
         SharedHost::open_for(alloc, host, users, 0)
     }
 
-    /// Shares a host as `open` does, with room in the journal for so many calls.
+    /// Shares a host as `open` does, with room in the journal for `calls` calls.
     pub fn open_for(
         alloc: Global,
         host: Host<F>,
@@ -130,7 +135,8 @@ impl<F: Decider + Send + Drop> SharedHost<F> {
         }
     }
 
-    /// Gives the host and the journal back, where all sessions are handed in, and takes no memory. Else all is given back.
+    /// Returns the host and the journal, if all sessions are handed in. It allocates no memory. Otherwise the error
+    /// `Missing` gives the shared host and the sessions back.
     pub fn close(self, sessions: Vec<Session>) -> Result<(Host<F>, Journal), CloseRefusal<F>>
         requires { All (IsOf self) sessions.items }
         ensures legal { IfOk result (λ r. IsLegal self.start r.1) }
@@ -158,9 +164,9 @@ impl<F: Decider + Send + Drop> SharedHost<F> {
         Ok((Box::into_inner(host), journal))
     }
 
-    /// Makes one step of the session's user, when its turn comes: it may wait for other sessions. The step takes effect at its place in
-    /// the journal. Spent where the session has made all the calls that it may; nothing changes then. A call answered ENOMEM has no
-    /// place in the journal, and changes nothing but the count of calls.
+    /// Makes one step of the session's user. It may wait for the calls of other sessions. The step takes effect at its
+    /// place in the journal. Where the session has already made `MOST_CALLS` calls, the answer is `Spent`, and nothing
+    /// changes. A call with the reply ENOMEM has no place in the journal, and changes only the count of calls.
     pub fn call<R: Wait>(
         &self,
         rt: &R,
@@ -197,7 +203,7 @@ impl<F: Decider + Send + Drop> SharedHost<F> {
     }
 }
 
-/// The table, with the host in its slot, and a seat that stands for all sessions.
+/// Creates the table with the host in its slot, and a seat that owns all sessions. An error means out of memory.
 fn make_table<F: Decider + Send + Drop>(
     alloc: Global,
     host: Host<F>,
@@ -221,7 +227,7 @@ fn make_table<F: Decider + Send + Drop>(
     }
 }
 
-/// What lies in the slot at first, with room for so many calls. An error is want of memory.
+/// Creates the first state of the slot, with room for `calls` calls. An error means out of memory.
 fn opening_state<F: Decider + Send + Drop>(
     alloc: Global,
     host: Host<F>,
@@ -237,7 +243,7 @@ fn opening_state<F: Decider + Send + Drop>(
     })
 }
 
-/// A session that has made no call.
+/// Creates a session that has made no call.
 fn make_session<F: Decider + Send + Drop>(uid: Uid, number: usize, seat: HostSeat<F>) -> Session
     requires { seat.me ≡ (session_view (start_of seat.me.0) Idle most_calls [] number [], []) }
     ensures { result ≡ new_session uid number seat.table_id (start_of seat.me.0) }
@@ -250,7 +256,7 @@ fn make_session<F: Decider + Send + Drop>(uid: Uid, number: usize, seat: HostSea
     }
 }
 
-/// A session for each user, whose seat is split from the one that stands for all.
+/// Creates a session for each user. Its seat is split from the seat that owns all sessions.
 fn make_sessions<F: Decider + Send + Drop>(
     alloc: Global,
     table: &HostTable<F>,
@@ -269,7 +275,7 @@ fn make_sessions<F: Decider + Send + Drop>(
     Ok(sessions)
 }
 
-/// Shares the host among the users, of whom there are neither none nor too many.
+/// Shares the host among the users. There are 1 to `MOST_SESSIONS` of them.
 fn share<F: Decider + Send + Drop>(
     alloc: Global,
     host: Host<F>,
@@ -290,7 +296,7 @@ fn share<F: Decider + Send + Drop>(
     Ok((host, sessions))
 }
 
-/// Joins the seats of all sessions into one, which stands for them all.
+/// Joins the seats of all sessions into one that owns all sessions.
 fn join_seats<F: Decider + Send + Drop>(
     table: &HostTable<F>,
     mut sessions: Vec<Session>,
@@ -313,7 +319,7 @@ fn join_seats<F: Decider + Send + Drop>(
     seat
 }
 
-/// What lies in the slot at the end.
+/// Takes the last state out of the slot.
 fn take_state<F: Decider + Send + Drop>(table: HostTable<F>, seat: HostSeat<F>) -> SharedState<F>
     requires table { IsHostTable table.shared.table_id × (seat.table_id ≡ table.shared.table_id) }
     requires all { (seat.me.0.stage ≡ Idle) × (table.shared.key.sessions ≤ length seat.me.0.owns) }

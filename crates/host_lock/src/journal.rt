@@ -33,7 +33,7 @@ impl Model for Journal {
 }
 
 impl Journal {
-    /// A journal of no calls. It takes no memory.
+    /// Creates an empty journal. It allocates no memory.
     pub fn empty(alloc: Global) -> Journal
         ensures { result ≡ [] }
     {
@@ -42,7 +42,7 @@ impl Journal {
         }
     }
 
-    /// A journal of no calls, with room for so many. An error is want of memory.
+    /// Creates an empty journal with room for `calls` entries. An error means out of memory.
     pub(crate) fn with_room(alloc: Global, calls: usize) -> Result<Journal, AllocError>
         ensures { IfOk result (λ journal. journal ≡ []) }
     {
@@ -51,21 +51,21 @@ impl Journal {
         })
     }
 
-    /// How many calls it has.
+    /// Returns the number of calls.
     pub fn len(&self) -> usize
         ensures { result ≡ length self.now }
     {
         self.entries.len()
     }
 
-    /// Whether it has no call.
+    /// Returns whether there are no calls.
     pub fn is_empty(&self) -> bool
         ensures { result ≡ (length self.now == 0) }
     {
         self.entries.is_empty()
     }
 
-    /// The call at this place, counted from 0.
+    /// Returns the call at this index, from 0.
     pub fn get(&self, place: usize) -> Option<&Entry>
         ensures { option_map (λ e. e.now) result ≡ slice_get self.now place }
     {

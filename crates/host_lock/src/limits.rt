@@ -1,7 +1,7 @@
 //! Limits.
 
-/// So many sessions may share a host.
+/// The most sessions that may share a host.
 pub const MOST_SESSIONS: usize = 64;
 
-/// So many calls a session may make.
+/// The most calls that a session may make.
 pub const MOST_CALLS: u32 = 4294967295;

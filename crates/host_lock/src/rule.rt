@@ -1,4 +1,4 @@
-//! The rule of the table, and what each step on it tells. Word 0 is serving, word 1 ticket, word 2 count.
+//! The rule of the table, and the knowledge that each step on it gives. Word 0 is serving, word 1 ticket, word 2 count.
 
 ghost use Rattle.host_lock.specs.Rule.{drew, turned, counted, released};
 
@@ -9,7 +9,7 @@ use std::alloc::Global;
 use std::snapshot::Snapshot;
 use stop_handlers::Decider;
 
-/// What the table is told when it is made: the host at opening, which clauses alone see, and how many sessions there are.
+/// The key of a table: the host at opening, which only contracts see, and the number of sessions.
 #[derive(Drop)]
 pub struct Origin<F: Decider + Send + Drop> {
     pub start: Snapshot<Host<F>>,
@@ -39,7 +39,7 @@ impl<F: Decider + Send + Drop> Play<Slot<F>, View> for Draw {
     ghost then = { drew };
 }
 
-/// Load of serving. Where it is the seat's ticket, the slot is out with the seat.
+/// Load of serving. If it is the seat's ticket, the slot is then out with the seat.
 pub(crate) struct Turn;
 
 impl<F: Decider + Send + Drop> Play<Slot<F>, View> for Turn {
@@ -60,7 +60,7 @@ impl<F: Decider + Send + Drop> Play<Slot<F>, View> for Release {
     ghost then = { released };
 }
 
-/// A new seat takes the first session of a seat that stands for several.
+/// Splits a seat that owns several sessions: a new seat takes the first one.
 pub(crate) struct SplitOne;
 
 impl Split<View> for SplitOne {
@@ -71,7 +71,7 @@ impl Split<View> for SplitOne {
     ghost right = { split_right };
 }
 
-/// The kept seat stands for both.
+/// Joins two seats: the kept one owns the sessions of both.
 pub(crate) struct JoinTwo;
 
 impl Join<View> for JoinTwo {

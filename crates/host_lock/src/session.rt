@@ -1,4 +1,4 @@
-//! A session: what one thread makes its calls with.
+//! A session, with which one thread makes its calls.
 
 ghost use Rattle.std.specs.Prelude.{◌≡◌, ℕ, ◌<◌, ◌-◌, [], ◌↔◌, IsTrue};
 ghost use Rattle.host_lock.specs.Rule.{session_view};
@@ -13,8 +13,8 @@ use pid_blocks::Uid;
 use std::marker::Model;
 use stop_handlers::Decider;
 
-/// A session of one user on a shared host. Contracts see, beside what its readers answer, the journal as far as the session has seen
-/// it, and the session's own entries.
+/// A session of one user on a shared host. Besides the values of its methods, contracts see the part of the journal
+/// that the session has seen, and the session's own entries.
 #[derive(Drop)]
 pub struct Session {
     pub(crate) uid: Uid,
@@ -61,21 +61,21 @@ impl Session {
         badge.into_seat()
     }
 
-    /// Whose session it is.
+    /// Returns the session's user.
     pub fn uid(&self) -> Uid
         ensures { result ≡ self.now.uid }
     {
         self.uid
     }
 
-    /// Its place among the sessions that were opened, counted from 0.
+    /// Returns the session's index, from 0, among the sessions that were opened.
     pub fn number(&self) -> usize
         ensures { result ≡ self.now.number }
     {
         self.number
     }
 
-    /// How many calls it has made.
+    /// Returns how many calls the session has made.
     pub fn calls_made(&self) -> u32
         ensures { result ≡ self.now.calls }
     {
@@ -83,7 +83,7 @@ impl Session {
     }
 }
 
-/// Whether a session that has made so many calls may make one more.
+/// Returns whether a session that has made `calls_made` calls may make one more.
 pub fn budget_left(calls_made: u32) -> bool
     ensures { IsTrue result ↔ (calls_made < most_calls) }
 {

@@ -1,4 +1,4 @@
-//! What lies in the slot.
+//! The state in the slot.
 
 ghost use Rattle.std.specs.Prelude.{◌≡◌, ℕ, [], ◌∷◌, ◌++◌, List, true, false, IfSome, IfNone};
 ghost use Rattle.requests.specs.Isolation.{reply_of, host_after};
@@ -14,8 +14,9 @@ use std::marker::Model;
 use std::snapshot::Snapshot;
 use stop_handlers::{Decider, Handler};
 
-/// The host, the journal, and the host at opening, which clauses alone see. The journal is legal from there, and the host is its
-/// replay. The host is large and lies on the heap, since each call takes the state out of its slot and puts it back.
+/// The host, the journal, and the host at opening, which only contracts see. The journal is legal from that host, and
+/// the present host is its replay. The host is large, so it is on the heap: each call takes the state out of its slot
+/// and puts it back.
 #[derive(Drop)]
 pub struct SharedState<F: Decider + Send + Drop> {
     pub(crate) host: Box<Host<F>>,
@@ -36,7 +37,7 @@ impl<F: Decider + Send + Drop> Model for SharedState<F> {
     ghost invariant = { λ h. IsLegal h.start.value h.journal × (h.host.value ≡ replay h.start.value h.journal) × Users (asked h.journal) };
 }
 
-/// Makes a step on the host, and answers the reply with a copy of it. None where memory ran out: the host is as it was.
+/// Makes a step on the host, and returns the reply with a copy. `None` where memory ran out.
 fn answered<F: Decider + Send + Drop>(
     host: &mut Host<F>,
     alloc: Global,
@@ -59,7 +60,7 @@ fn answered<F: Decider + Send + Drop>(
 }
 
 impl<F: Decider + Send + Drop> SharedState<F> {
-    /// Makes a step, and adds it to the journal as `plain`, the same step. Where memory runs out all is as before.
+    /// Makes a step, and adds it to the journal as `plain`, the same step. Changes nothing where memory runs out.
     pub(crate) fn make(
         &mut self,
         alloc: Global,

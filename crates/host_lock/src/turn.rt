@@ -1,4 +1,4 @@
-//! One call, as steps on the table.
+//! The steps of one call on the table.
 ghost use Rattle.std.specs.Prelude.{◌≡◌, ℕ, ◌+◌, ◌-◌, ◌*◌, ◌%◌, ◌^◌, ◌<◌, ◌≤◌, [], ◌∷◌, ◌++◌, true, false, MatchBool};
 ghost use Rattle.host_lock.specs.Views.{Idle, Waiting, Holding, Counted};
 ghost use Rattle.host_lock.specs.declared.view.Slot.TheVariants.{There, Away};
@@ -15,15 +15,16 @@ use std::alloc::Global;
 use std::sync::Wait;
 use stop_handlers::{Decider, Handler};
 
-/// What a sleep on a word looks at of its number: the low 32 bits.
+/// Returns the low 32 bits of a word's number, which a sleep on the word compares.
 fn low_half(number: u64) -> u32
     ensures { result ≡ number % 2 ^ 32 }
 {
     (number % 4294967296) as u32
 }
 
-/// Waits until the ticket is served. The lock that is held during a call mostly sees to it that it is at the first look. Where it isn't,
-/// the thread sleeps while serving is what was found, so that a wake after the look is not lost.
+/// Waits until the ticket is served. A call that is inside the door finds its ticket served at the first look, since
+/// the call before served it before it left. Contracts don't see the door, so the loop would also wait without it: the
+/// thread sleeps while serving is the number that it found, so that a wake after the look is not lost.
 pub(crate) fn take_turn<F: Decider + Send + Drop, R: Wait>(
     rt: &R,
     table: &SharedTable<F>,
@@ -63,7 +64,7 @@ pub(crate) fn count_up<F: Decider + Send + Drop>(
     table.fetch_add::<Count>(seat, 2, 1);
 }
 
-/// Puts the host back, and serves the next ticket. Wakes who waits, if a further ticket was drawn.
+/// Puts the host back, and serves the next ticket. Wakes the waiting threads, if a further ticket was drawn.
 pub(crate) fn give_back<F: Decider + Send + Drop>(
     table: &SharedTable<F>,
     seat: &mut HostSeat<F>,
@@ -82,7 +83,7 @@ pub(crate) fn give_back<F: Decider + Send + Drop>(
     }
 }
 
-/// Draws a ticket, waits for its turn, makes the step, which is also handed in as `plain`, and lets the next one in.
+/// Draws a ticket, waits until it is served, makes the step, and serves the next ticket. `plain` is the same step.
 pub(crate) fn turn<F: Decider + Send + Drop, R: Wait>(
     rt: &R,
     alloc: Global,

@@ -1,4 +1,4 @@
-//! What a seat at the table knows, and what the slot holds.
+//! The knowledge of a seat at the table, and the content of the slot.
 
 use crate::shared_state::SharedState;
 use pid_blocks::Uid;
@@ -6,7 +6,7 @@ use requests::PlainStep;
 use std::marker::Model;
 use stop_handlers::Decider;
 
-/// What a seat knows, for contracts alone: no value of it is made.
+/// The knowledge of a seat. Only contracts use it: the program makes no value of it.
 pub struct View;
 
 impl Model for View {
@@ -17,7 +17,7 @@ impl Model for View {
     ghost view = { λ _. spent };
 }
 
-/// What slot 0 holds: the host, or the step that is being made.
+/// The content of slot 0: the host, or the step that is being made.
 #[derive(Drop)]
 pub enum Slot<F: Decider + Send + Drop> {
     There(SharedState<F>),

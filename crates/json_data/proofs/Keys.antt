@@ -37,7 +37,7 @@ or_true : (a : Bool) → (a || true) ≡ true
 or_true true = refl
 or_true false = refl
 
--- a key that one of these is
+-- a key that equals one of these
 pub list_any-at : (k : List ℕ) (keys : List (Bor (List ℕ))) (i : ℕ) (d : Bor (List ℕ)) → i < length keys → bytes_eq k (get_or keys i d).now ≡ true → list_any (bytes_eq k) (map (λ b. b.now) keys) ≡ true
 list_any-at k [] i d h e = absurd (omega (arith, h))
 list_any-at k (b ∷ bs) zero d h e = ap (λ a. a || list_any (bytes_eq k) (map (λ c. c.now) bs)) e

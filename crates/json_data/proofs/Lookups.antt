@@ -96,7 +96,7 @@ view-Array v = ap data_of (Trees.view-Array v) ∙ ap array (items_data-of v.ite
 pub view-Object : {A : Type 0} (v : Vec (Bor (List ℕ) × Value A) A) → view (Object v) ≡ object (members_data (json_members_view v.items) no_members)
 view-Object v = ap data_of (Trees.view-Object v)
 
--- a member behind the others is put in
+-- a member is put in after the others
 pushed : {A : Type 0} (ms : List (Bor (List ℕ) × Value A)) (m : Bor (List ℕ) × Value A) (found : Members) → members_data (json_members_view (ms ++ m ∷ [])) found ≡ put m.0.now (view m.1) (members_data (json_members_view ms) found)
 pushed [] m found = refl
 pushed (l ∷ ms) m found = pushed ms m (put l.0.now (view l.1) found)

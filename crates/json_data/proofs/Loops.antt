@@ -29,7 +29,7 @@ behind_member : (k : List ℕ) (j : json.Json) (d : Data) (found : Members) (o :
 behind_member k j d found None is = refl
 behind_member k j d found (Some p) is = rw is
 
--- the value behind the data that was read
+-- the value that follows the data read so far
 as_read : (o : Option Data) (d : Data) (r left : List Token) → option_map {U = Data × List Token} (λ e. (e, left)) o ≡ Some (d, r) → (left ≡ r) × (o ≡ Some d)
 as_read None d r left e = absurd (cc)
 as_read (Some c) d r left e = (search (rules, e), search (rules, e))

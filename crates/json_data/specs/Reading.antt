@@ -1,4 +1,4 @@
--- The data that `serde_json` reads from a JSON value, where all of its numbers are in range.
+-- The data that `serde_json` reads from a JSON value whose numbers are all in range.
 use Rattle.std.specs.Prelude.{ℕ, ◌&&◌, List, Bool, true, false, Option, Some, None, is_some, map}
 use Rattle.std.specs.Borrow.{Bor}
 use Rattle.std.specs.List.{list_any}
@@ -18,7 +18,7 @@ abbrev pub number_data : Option Num → Data
 number_data None = null
 number_data (Some n) = number n
 
--- as RFC 8259's grammar has it, and of a key that comes twice the last value
+-- as in the grammar of RFC 8259; of a duplicate key, the last value counts
 abbrev mutual
   pub data_of : json.Json → Data
   data_of json.null = null
@@ -54,7 +54,7 @@ abbrev mutual
   members_in_range json.no_members = true
   members_in_range (json.member k j ms) = in_range j && members_in_range ms
 
--- the data of a value, of the values of an array, and of an object's members as a text has them
+-- the data of a value, of the values of an array, and of an object's members in the order of the text
 abbrev pub view : {A : Type 0} → Value A → Data
 view v = data_of (value_view v)
 
@@ -71,7 +71,7 @@ abbrev pub members_among : List (List ℕ) → Members → Bool
 members_among keys no_members = true
 members_among keys (member k d ms) = list_any (bytes_eq k) keys && members_among keys ms
 
--- an object with no other key than these
+-- an object that has only these keys
 abbrev pub has_only : List (List ℕ) → Data → Bool
 has_only keys null = false
 has_only keys (boolean b) = false
@@ -80,7 +80,7 @@ has_only keys (string s) = false
 has_only keys (array ds) = false
 has_only keys (object ms) = members_among keys ms
 
--- a text of a value is never too long, nor is a key that comes twice refused
+-- reading a value never reports a text that is too long, nor a duplicate key
 abbrev pub refusal : Error → Refusal
 refusal error.Invalid = Invalid
 refusal error.OutOfMemory = Memory

@@ -1,4 +1,4 @@
-//! Looking into a value.
+//! Look-ups in a value.
 ghost use Rattle.std.specs.Prelude.{◌≡◌, map, option_map, option_and_then};
 ghost use Rattle.std.specs.List.{list_any};
 ghost use Rattle.std.specs.Str.{bytes_eq};
@@ -8,10 +8,10 @@ ghost use Rattle.json_data.specs.Reading.{view, items_view, members_of, object_v
 use crate::numbers::integer_of;
 use json::Value;
 
-/// A member of an object: its key and its value. Where a key comes twice, its last member counts.
+/// A member of an object: its key and its value. Of a duplicate key, the last member counts.
 pub type Member<'a> = (&'a str, Value<'a>);
 
-/// The members of an object.
+/// Returns the members of an object, or `None` for any other value.
 pub fn object<'v, 'a>(value: &'v Value<'a>) -> Option<&'v [Member<'a>]>
     ensures { option_map (λ members. members_of members.now) result ≡ as_object (view value.now) }
 {
@@ -22,7 +22,7 @@ pub fn object<'v, 'a>(value: &'v Value<'a>) -> Option<&'v [Member<'a>]>
     }
 }
 
-/// The value of a key of an object.
+/// Returns the value of a key of an object, or `None` if the object doesn't have the key.
 pub fn get<'v, 'a>(object: &'v [Member<'a>], key: &str) -> Option<&'v Value<'a>>
     ensures { option_map (λ v. view v.now) result ≡ get key.now (object_view object.now) }
 {
@@ -37,21 +37,21 @@ pub fn get<'v, 'a>(object: &'v [Member<'a>], key: &str) -> Option<&'v Value<'a>>
     None
 }
 
-/// The text of a string.
+/// Returns the text of a string, or `None` for any other value.
 pub fn text<'a>(value: &Value<'a>) -> Option<&'a str>
     ensures { option_map (λ s. s.now) result ≡ as_str (view value.now) }
 {
     value.as_str()
 }
 
-/// The whole number, where it fits 64 bits with a sign.
+/// Returns the whole number, or `None` for any other value and for a number that doesn't fit in `i64`.
 pub fn integer(value: &Value<'_>) -> Option<i64>
     ensures { result ≡ option_and_then as_i64 (as_number (view value.now)) }
 {
     integer_of(value.as_number()?)
 }
 
-/// The items of an array.
+/// Returns the items of an array, or `None` for any other value.
 pub fn array<'v, 'a>(value: &'v Value<'a>) -> Option<&'v [Value<'a>]>
     ensures { option_map (λ items. items_view items.now) result ≡ as_array (view value.now) }
 {
@@ -62,8 +62,8 @@ pub fn array<'v, 'a>(value: &'v Value<'a>) -> Option<&'v [Value<'a>]>
     }
 }
 
-/// Whether the key is one of these. It is looked for at the index first, since members mostly stand in the order of the
-/// keys.
+/// Tests whether the key is one of these. The key at the index is compared first, since members are mostly in
+/// the order of the keys.
 fn is_among(key: &str, keys: &[&str], index: usize) -> bool
     ensures { result ≡ list_any (bytes_eq key.now) (map (λ k. k.now) keys.now) }
 {
@@ -78,7 +78,7 @@ fn is_among(key: &str, keys: &[&str], index: usize) -> bool
     false
 }
 
-/// Whether an object has no other key than these.
+/// Tests whether an object has only these keys.
 pub fn has_only(object: &[Member<'_>], keys: &[&str]) -> bool
     ensures { result ≡ has_only (map (λ k. k.now) keys.now) (object_view object.now) }
 {

@@ -1,4 +1,4 @@
-//! JSON values that borrow their text, with the data that `serde_json` reads from it.
+//! JSON values that borrow their text, and the data that `serde_json` reads from that text.
 #![tactic(auto)]
 
 mod finding;

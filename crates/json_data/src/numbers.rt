@@ -1,4 +1,4 @@
-//! Numbers by their texts.
+//! Numbers read from their texts.
 ghost use Rattle.std.specs.Prelude.{◌≡◌, ◌<◌, ◌^◌, ◌==◌, true, false, Some, IfSome, IsTrue, is_some, option_and_then, slice_index};
 ghost use Rattle.serde_json.specs.Data.{unsigned as unsigned_number};
 ghost use Rattle.serde_json.specs.Find.{as_i64};
@@ -24,7 +24,7 @@ fn unsigned(numeral: &Numeral<'_>) -> Option<i64>
     numeral.to_i64(false)
 }
 
-/// The whole number below 0. `-0` is no whole number.
+/// Returns a whole number below 0. `-0` is not a whole number.
 fn negative(numeral: &Numeral<'_>) -> Option<i64>
     ensures { result ≡ option_and_then as_i64 (number_from true numeral.now) }
 {
@@ -32,7 +32,7 @@ fn negative(numeral: &Numeral<'_>) -> Option<i64>
     if number < 0 { Some(number) } else { None }
 }
 
-/// The whole number of a few digits, as nearly all numbers are. `None` says nothing.
+/// Reads a whole number of a few digits, as nearly all numbers are. `None` leaves the number open.
 fn few_digits(bytes: &[u8]) -> Option<u64>
     ensures { IfSome result (λ n. (n < 10 ^ 18) × (number_of bytes.now ≡ Some (unsigned_number n))) }
 {
@@ -49,7 +49,7 @@ fn few_digits(bytes: &[u8]) -> Option<u64>
     Some(number)
 }
 
-/// The whole number that a text is, where it fits 64 bits with a sign.
+/// Returns the whole number of a text, or `None` if it has none that fits in `i64`.
 pub(crate) fn integer_of(text: &str) -> Option<i64>
     ensures { result ≡ option_and_then as_i64 (number_of text.now) }
 {
@@ -59,7 +59,7 @@ pub(crate) fn integer_of(text: &str) -> Option<i64>
     }
 }
 
-/// The numeral that a text is behind its minus, and whether it has one.
+/// Returns whether a text begins with a minus, and the numeral after it.
 fn scanned(text: &str) -> (bool, Numeral<'_>)
     ensures { number_from result.0 result.1 ≡ number_of text.now }
 {
@@ -94,7 +94,7 @@ fn negative_in_range(numeral: &Numeral<'_>) -> bool
     negative(numeral).is_some() || is_finite(true, numeral)
 }
 
-/// Whether the number that a text is has a value: a float isn't too large.
+/// Tests whether the number of a text has a value: a float must not be too large.
 pub(crate) fn is_in_range(text: &str) -> bool
     ensures { result ≡ is_some (number_of text.now) }
 {

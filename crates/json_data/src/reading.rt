@@ -15,9 +15,9 @@ use std::alloc::Global;
 /// Why no value was read.
 #[derive(Clone, Copy, Debug, PartialEq, Eq, Drop)]
 pub enum Refusal {
-    /// There is no value of JSON, or a number in it is too large.
+    /// The text is not valid JSON, or a number in it is too large.
     Invalid,
-    /// No memory was left.
+    /// Out of memory.
     Memory,
 }
 
@@ -47,7 +47,7 @@ fn numbers_in_range(value: &Value<'_>) -> bool
     }
 }
 
-/// The same, with no call for most values.
+/// Returns the same as `numbers_in_range`, without a call for most values.
 fn is_in_range_at_once(value: &Value<'_>) -> bool
     ensures { result ≡ in_range (value_view value.now) }
 {
@@ -82,8 +82,8 @@ fn members_in_range<'a>(members: &Vec<(&'a str, Value<'a>)>) -> bool
     true
 }
 
-/// The next value of the reader, as `serde_json` reads it. Arrays and objects may nest `depth` deep. Only such a one needs
-/// memory. After a refusal the reader stands somewhere behind where it stood, or has no more tokens.
+/// Reads the reader's next value as `serde_json` does. Arrays and objects may nest `depth` deep, and only they
+/// need memory. After an error the reader is at some later token, or has no more tokens.
 pub fn next_value<'a>(
     alloc: Global,
     reader: &mut Reader<'a>,
@@ -102,10 +102,10 @@ pub fn next_value<'a>(
     }
 }
 
-/// Arrays and objects of a text nest as deep as `serde_json` allows.
+/// How deep arrays and objects of a text may nest, which is as deep as `serde_json` allows.
 const MAX_DEPTH: usize = 127;
 
-/// The value of a text, as `serde_json` reads it.
+/// Reads the value of a text as `serde_json` does.
 pub fn from_str<'a>(
     alloc: Global,
     text: &'a str,
@@ -125,7 +125,7 @@ pub fn from_str<'a>(
     Ok(value)
 }
 
-/// The value of the bytes of a text, as `serde_json` reads it.
+/// Reads the value of a text, given as bytes, as `serde_json` does.
 pub fn from_slice<'a>(
     alloc: Global,
     bytes: &'a [u8],

@@ -1,4 +1,4 @@
-//! Lines of a reader, of which a bounded part is kept, and bytes to a writer.
+//! Reads lines, of which it keeps a bounded part, and writes bytes.
 #![tactic(auto)]
 
 mod reading;

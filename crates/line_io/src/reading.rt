@@ -1,4 +1,4 @@
-//! Lines of a reader.
+//! Reads lines.
 ghost use Rattle.std.specs.Prelude.{◌≡◌, ◌≤◌, ◌≢◌, ◌++◌, [], List, ℕ, Ok, Some, None, length, take, IfOk, IfErr, IfSome, OnOk, OnErr};
 ghost use Rattle.std.specs.Io.KnownBytes.{Consumes, IsAtEnd};
 ghost use Rattle.line_io.specs.declared.reading.LineEnd.TheVariants.{Input};
@@ -8,7 +8,7 @@ use memchr::memchr;
 use std::io;
 use std::io::{BufRead, ErrorKind};
 
-/// What a line ends with.
+/// The end of a line.
 #[derive(Clone, Copy, Debug, PartialEq, Eq)]
 pub enum LineEnd {
     /// Its line feed.
@@ -17,7 +17,8 @@ pub enum LineEnd {
     Input,
 }
 
-/// How many of the bytes stand before the end of a line, how many through it, and which end it is; none where the line goes on.
+/// Returns the number of bytes before the end of a line, the number of bytes including it, and the end. The end is
+/// `None` where the line continues after these bytes.
 fn part_of(shown: &[u8]) -> (usize, usize, Option<LineEnd>)
     ensures before { NoFeed (take result.0 shown.now) }
     ensures few { result.0 ≤ length shown.now }
@@ -32,7 +33,8 @@ fn part_of(shown: &[u8]) -> (usize, usize, Option<LineEnd>)
     }
 }
 
-/// Takes what the reader shows of a line, and keeps of it what there is room for. None where the line goes on.
+/// Takes the buffered bytes of a line from the reader, and keeps those up to `most` bytes of the line. Returns `None`
+/// where the line continues.
 fn take_part<R: BufRead>(
     reader: &mut R,
     most: usize,
@@ -56,12 +58,13 @@ fn take_part<R: BufRead>(
     Ok(end)
 }
 
-/// Takes a line from the reader, through its line feed or to the end of the input, and answers which. Of the line, without its line feed,
-/// the first `most` bytes are kept, in place of what stood in `line`; the rest takes no memory.
+/// Takes a line from the reader, up to its line feed or the end of the input, and returns which. `line` gets the first
+/// `most` bytes of the line, without its line feed. The rest takes no memory.
 ///
 /// # Errors
 ///
-/// The reader's, but for `Interrupted`: then it is asked again; or want of memory. What was taken before is a part of the line.
+/// Those of the reader, except `Interrupted`, after which it retries; or out of memory. The bytes taken until then are
+/// a part of the line.
 pub fn read_line<R: BufRead>(reader: &mut R, most: usize, line: &mut Vec<u8>) -> io::Result<LineEnd>
     ensures line { IfOk result (λ end. (text : List ℕ) × Loses (R.Read.remaining reader.old) (R.Read.remaining reader.new) text (end_bytes end)
         × (line.new.items ≡ take most text)) }

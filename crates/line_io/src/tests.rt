@@ -6,7 +6,8 @@ use std::io::BufReader;
 use std::process::Abort;
 use std::test::Fail;
 
-/// Gives or takes some bytes, one at a time and each after an interrupted call, and then fails, or neither gives nor takes any.
+/// A reader and writer of some bytes, one at a time and each after an interrupted call. After them it fails, or neither
+/// gives nor takes any.
 #[derive(Drop)]
 struct Wire<'a> {
     left: &'a [u8],
@@ -27,7 +28,7 @@ impl<'a> Wire<'a> {
         }
     }
 
-    /// What a call that moves no byte answers.
+    /// Returns the result of a call that moves no byte.
     fn ended(&self) -> io::Result<usize>
         ensures { IfOk result (λ n. n ≡ 0) }
     {
@@ -111,7 +112,7 @@ fn readers_that_fail(rt: HostRuntime) -> Result<(), Fail> {
     Ok(())
 }
 
-/// A writer with so much room takes a front of the bytes.
+/// Checks that a writer with room for `room` bytes takes that front of the bytes.
 fn check<R: Abort + AllocGlobal>(rt: &R, room: usize, fails: bool) -> Result<(), Fail> {
     let bytes = b"1001 1 ok\n";
     let mut wire = Wire::new(rt.alloc(), b"", room, fails);

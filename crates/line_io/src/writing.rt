@@ -1,11 +1,11 @@
-//! Bytes to a writer.
+//! Writes bytes.
 ghost use Rattle.std.specs.Prelude.{◌≡◌, ◌≤◌, [], List, ℕ, length, take, IfOk, OnOk, OnErr};
 ghost use Rattle.std.specs.Io.KnownBytes.{Appends, Keeps};
 
 use std::io;
 use std::io::{ErrorKind, Write};
 
-/// Writes some of the bytes, and answers how many: none where a signal interrupted the write.
+/// Writes some of the bytes, and returns how many: 0 where a signal interrupted the write.
 fn write_part<W: Write>(writer: &mut W, bytes: &[u8]) -> io::Result<usize>
     ensures bound { IfOk result (λ n. n ≤ length bytes.now) }
     ensures part { IfOk result (λ n. Appends (W.contents writer.old) (W.contents writer.new) (take n bytes.now)) }
@@ -23,8 +23,8 @@ fn write_part<W: Write>(writer: &mut W, bytes: &[u8]) -> io::Result<usize>
 ///
 /// # Errors
 ///
-/// The writer's, but for `Interrupted`: then the write is made again; or `WriteZero` where it took no byte. The writer has a front of the
-/// bytes then.
+/// Those of the writer, except `Interrupted`, after which it retries; or `WriteZero` where the writer took no byte. The
+/// writer then has a front of the bytes.
 pub fn write_flushed<W: Write>(writer: &mut W, bytes: &[u8]) -> io::Result<()>
     ensures ok { OnOk result (Appends (W.contents writer.old) (W.contents writer.new) bytes.now) }
     ensures err { OnErr result ((n : ℕ) × Appends (W.contents writer.old) (W.contents writer.new) (take n bytes.now)) }

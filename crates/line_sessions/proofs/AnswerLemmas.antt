@@ -1,27 +1,28 @@
 -- The answer to one line.
-use Rattle.std.proofs.Common.{◌≡◌, ◌≢◌, ℕ, List, Option, None, Some, refl, sym, ap, subst, ◌∙◌, is_some, Bool, true, false, true≢false}
-use Rattle.std.specs.Prelude.{⊤, Result, Ok, Err, OnOk, IfSome}
+use Rattle.std.proofs.Common.{◌≡◌, ◌≢◌, ℕ, List, take, Option, None, Some, sym, ap, subst, ◌∙◌, is_some, Bool, true, false, true≢false}
+use Rattle.std.specs.Prelude.{⊤, Result, Ok, Err, IfSome}
 use Rattle.std.specs.Result.{IsErrAnd}
-use Rattle.std.specs.Io.KnownBytes.{Keeps}
+use Rattle.std.specs.Io.KnownBytes.{Appends}
 use Rattle.line_io.specs.declared.reading.LineEnd.{LineEnd}
 use Rattle.line_io.specs.declared.reading.LineEnd.TheVariants.{Feed, Input}
-use Rattle.requests.specs.Run.{Asked}
 use Rattle.requests.specs.Machine.{Machine}
-use Rattle.scenario_text.specs.declared.fault.Fault.{Fault}
 use Rattle.scenario.specs.declared.style.Style.{Style}
-use Rattle.scenario_text.specs.declared.fault.Fault.TheVariants.{Memory}
-use Rattle.scenario_text.specs.OneStep.{AnswersBy}
+use Rattle.open_sessions.specs.Open.{OpenSession}
+use Rattle.open_sessions.specs.Calls.{Answers, last_text}
 use Rattle.line_sessions.specs.declared.fault.ServeFault.{ServeFault}
+use Rattle.line_sessions.specs.declared.fault.ServeFault.TheVariants.{Read, Write, Memory, TooManyLines}
 use Rattle.line_sessions.specs.Sessions.{Serves}
+use Rattle.line_sessions.specs.Turns.{Writes, Told}
 
-pub on_ok_so : {X E : Type 0} (r : Result X E) (P Q : Type 0) → (P → Q) → OnOk r P → OnOk r Q
-on_ok_so (Ok x) P Q f p = f p
-on_ok_so (Err e) P Q f p = tt
-
--- a fault that isn't want of memory
-pub told_fault : {X : Type 0} (view : X → Asked) (P : Result Asked Fault → Type 0) (f : Fault) → f ≢ Memory → AnswersBy view (Err f) P → P (Err f)
-told_fault view P Memory some p = absurd (some refl)
-told_fault view P f some p = p
+-- a line was answered, and its answer written
+pub told_by : (style : Style) (result : Result ⊤ ServeFault) (line : List ℕ) (s t : OpenSession) (had has : Option (List ℕ)) → Answers line s t → Writes result (last_text style t) had has
+    → Told style result line s.host t.host s.made t.made had has
+told_by style (Ok done) line s t had has p w = (p.reply, p.answers, p.counts, subst (Appends had has) (p.text style) w)
+told_by style (Err Write) line s t had has p w =
+    let P : List ℕ → Type 0 = λ x. Appends had has (take w.0 x) in (p.reply, p.answers, w.0, subst P (p.text style) w.1)
+told_by style (Err Read) line s t had has p w = w
+told_by style (Err Memory) line s t had has p w = w
+told_by style (Err TooManyLines) line s t had has p w = w
 
 pub serves_by : (style : Style) (m : Machine) (r u h w : Option (List ℕ)) (result : Result ⊤ ServeFault) (e : ServeFault) → IsErrAnd result (λ x. x ≡ e) → Serves style (Err e) m r u h w → Serves style result m r u h w
 serves_by style m r u h w (Ok done) e is p = absurd is

@@ -1,4 +1,4 @@
--- Sessions beside scenarios.
+-- Sessions compared with scenarios.
 use Rattle.std.proofs.Common.{◌≡◌, ℕ, Bool, true, false, true≢false, ◌+◌, ◌==◌, count_by, List, [], ◌∷◌, ◌++◌, map, Option, Some, None, refl, ap, subst, ◌∙◌, arith}
 use Rattle.std.specs.Prelude.{Result, Ok, Err, if◌then◌else◌}
 use Rattle.std.specs.List.{AllByRecursion}
@@ -17,7 +17,8 @@ use Rattle.scenario_text.specs.OneStep.{IsStep, too_long, no_value, value}
 use Rattle.scenario.specs.Runs.{paired}
 use Rattle.scenario_text.specs.Scenarios.{numbered}
 use Rattle.scenario_text.specs.Steps.{step_of}
-use Rattle.line_sessions.specs.Sessions.{LineReply, AnswersLine, step, refused, AnswersLines, text_after}
+use Rattle.open_sessions.specs.Answers.{LineReply, AnswersLine, step, refused}
+use Rattle.line_sessions.specs.Sessions.{AnswersLines, text_after}
 use Rattle.line_sessions.specs.Laws.{AreSteps, IsMade, AsScenario, StepsIn, replies_in, SessionsArePrivate}
 use Rattle.line_sessions.specs.Laws.{none as no_step, step as a_step, refused as no_step_here}
 

@@ -1,5 +1,5 @@
 -- A session, line after line.
-use Rattle.std.proofs.Common.{◌≡◌, ◌≤◌, ◌<◌, ◌+◌, ℕ, List, [], ◌∷◌, ◌++◌, length, take, get_or, Option, Some, None, refl, sym, ap, subst, ◌∙◌, inl, inr, arith, take_all, ◌⊎◌}
+use Rattle.std.proofs.Common.{◌≡◌, ◌≤◌, ◌<◌, ◌+◌, ℕ, List, [], ◌∷◌, ◌++◌, length, take, Option, Some, None, refl, sym, ap, subst, ◌∙◌, inl, inr, arith, take_all, ◌⊎◌}
 use Rattle.std.specs.Prelude.{⊤, Result, Ok, Err, IfSome}
 use Rattle.std.specs.Io.KnownBytes.{Appends, Consumes, Keeps, IsAtEnd}
 use Rattle.std.proofs.Math.Seq.{take-append-add}
@@ -12,7 +12,7 @@ use Rattle.line_io.proofs.LineLemmas.{Whole, whole_start, whole_line, whole_more
 use Rattle.line_io.proofs.ReadLemmas.{consumes_more}
 use Rattle.pid_blocks.specs.Users.{IsUser}
 use Rattle.requests.specs.Machine.{Machine}
-use Rattle.scenario.proofs.LineLemmas.{Counted, counted_more, counted_few, counted_number}
+use Rattle.scenario.proofs.LineLemmas.{Counted, counted_more, counted_number}
 use Rattle.scenario.proofs.WriteLemmas.{appends_more, appends_kept}
 use Rattle.scenario_text.specs.declared.fault.Fault.{Fault}
 use Rattle.scenario.specs.declared.style.Style.{Style}
@@ -21,8 +21,9 @@ use Rattle.scenario_text.specs.OneStep.{IsStep, too_long, no_value, value, most_
 use Rattle.requests.specs.Run.{Asked}
 use Rattle.line_sessions.specs.declared.fault.ServeFault.{ServeFault}
 use Rattle.line_sessions.specs.declared.fault.ServeFault.TheVariants.{Read, Write, Memory, TooManyLines}
-use Rattle.line_sessions.specs.Sessions.{LineReply, AnswersLine, step, refused, AnswersLines, text_after, text_of, Talk, Serves}
-use Rattle.line_sessions.specs.Turns.{kept, reply_text, made_after, Told}
+use Rattle.open_sessions.specs.Answers.{LineReply, AnswersLine, step, refused, reply_text, made_after}
+use Rattle.line_sessions.specs.Sessions.{AnswersLines, text_after, text_of, Talk, Serves}
+use Rattle.line_sessions.specs.Turns.{kept, Told}
 
 -- ---- a line that is longer than a step
 
@@ -61,7 +62,7 @@ abbrev pub users_after : List ℕ → LineReply → List ℕ
 users_after before (Ok a) = a.uid ∷ before
 users_after before (Err f) = before
 
--- the line of an answer behind others, and what follows it
+-- the line of an answer after others, and the text that follows it
 text_more : (style : Style) (made before : List ℕ) (r : LineReply) (rs : List LineReply) → Counted made before → ToUser r → text_after style before (r ∷ rs) ≡ reply_text style made r ++ text_after style (users_after before r) rs
 text_more style made before (Ok a) rs counted user =
     ap (λ n. (line style (n + 1) a).text ++ text_after style (a.uid ∷ before) rs) (sym (counted_number made before a.uid user.0 user.1 counted))
@@ -71,13 +72,9 @@ counted_after : (made before : List ℕ) (r : LineReply) → Counted made before
 counted_after made before (Ok a) counted user = counted_more made before a.uid user.0 user.1 counted
 counted_after made before (Err f) counted user = counted
 
-few_after : (before : List ℕ) (r : LineReply) (n : ℕ) → length before ≤ n → length (users_after before r) ≤ n + 1
-few_after before (Ok a) n few = omega arith
-few_after before (Err f) n few = omega arith
-
 -- ---- what holds between lines: all lines that were taken have ended, and are answered
 
-pub record Talking (style : Style) (first : Machine) (read unread had has : Option (List ℕ)) (m : Machine) (made : List ℕ) (count : ℕ) : Type 0 where
+pub record Talking (style : Style) (first : Machine) (read unread had has : Option (List ℕ)) (m : Machine) (made : List ℕ) : Type 0 where
   pub bytes : List ℕ
   pub replies : List LineReply
   pub before : List ℕ
@@ -87,7 +84,6 @@ pub record Talking (style : Style) (first : Machine) (read unread had has : Opti
   pub told : Appends had has (text_of style replies)
   pub next : (rs : List LineReply) → text_of style (replies ++ rs) ≡ text_of style replies ++ text_after style before rs
   pub counted : Counted made before
-  pub few : length before ≤ count
 
 consumes_none : (a : Option (List ℕ)) → Consumes a a []
 consumes_none None = tt
@@ -107,7 +103,7 @@ appends_none : (a : Option (List ℕ)) → Appends a a []
 appends_none None = tt
 appends_none (Some xs) = sym (append-nil xs)
 
-pub start : (style : Style) (first : Machine) (r w : Option (List ℕ)) (m : Machine) (made : List ℕ) → m ≡ first → Counted made [] → Talking style first r r w w m made 0
+pub start : (style : Style) (first : Machine) (r w : Option (List ℕ)) (m : Machine) (made : List ℕ) → m ≡ first → Counted made [] → Talking style first r r w w m made
 start style first r w m made is counted = record {
   bytes = [];
   replies = [];
@@ -118,7 +114,6 @@ start style first r w m made is counted = record {
   told = appends_none w;
   next = λ rs. refl;
   counted = counted;
-  few = omega arith;
 }
 
 -- the lines, with one that was taken now
@@ -132,7 +127,7 @@ lines_with bytes text Feed whole no_feed some = whole_line bytes text whole no_f
 lines_with bytes text Input whole no_feed some =
     whole (text ++ []) ∙ ap (λ ls. lines_in bytes ++ ls) (ap lines_in (append-nil text) ∙ only_line text no_feed (some refl))
 
-module _ (style : Style) (first : Machine) (r u h w : Option (List ℕ)) (m : Machine) (made : List ℕ) (count : ℕ) (at : Talking style first r u h w m made count) (v : Option (List ℕ)) where
+module _ (style : Style) (first : Machine) (r u h w : Option (List ℕ)) (m : Machine) (made : List ℕ) (at : Talking style first r u h w m made) (v : Option (List ℕ)) where
   -- a line or a part of one was taken, and nothing was written
   stops : (x : Option (List ℕ)) (rest : List ℕ) → length (lines_in rest) ≤ 1 → Consumes u v rest → Keeps w x
       → (rs : List LineReply) × (rest : List ℕ) × (length (lines_in rest) ≤ 1) × Talk first r v rest rs × Appends h x (text_of style rs)
@@ -203,7 +198,7 @@ module _ (style : Style) (first : Machine) (r u h w : Option (List ℕ)) (m : Ma
 
   -- the line was answered, and there may be more
   pub goes_on : (text : List ℕ) → Loses u v text (end_bytes Feed) → (k : Machine) (after : List ℕ) (x : Option (List ℕ)) → Told style (Ok tt) (kept text) m k made after w x
-      → Talking style first r v h x k after (count + 1)
+      → Talking style first r v h x k after
   goes_on text lost k after x told =
       let reply = told.0 in
       let P : List ℕ → Type 0 = λ t. Appends h x t in
@@ -226,7 +221,6 @@ module _ (style : Style) (first : Machine) (r u h w : Option (List ℕ)) (m : Ma
             ∙ sym (append_assoc (text_of style at.replies) (reply_text style made reply) (text_after style (users_after at.before reply) rs))
             ∙ ap (λ t. t ++ text_after style (users_after at.before reply) rs) (sym text_is);
         counted = subst R (sym told.2) (counted_after made at.before reply at.counted user);
-        few = few_after at.before reply count at.few;
       }
 
   -- no more lines are answered
@@ -239,10 +233,7 @@ module _ (style : Style) (first : Machine) (r u h w : Option (List ℕ)) (m : Ma
     at.told,
   )
 
-  pub room : (k : ℕ) → get_or made k 0 ≤ count
-  room k = let few = at.few in let each = counted_few made at.before at.counted k in omega arith
-
--- what is told of the bytes that are kept of a line
+-- the answer to the kept bytes of a line
 pub told_kept : (style : Style) (result : Result ⊤ ServeFault) (line items text : List ℕ) (m k : Machine) (made after : List ℕ) (had has : Option (List ℕ)) → line ≡ items → items ≡ kept text
     → Told style result line m k made after had has → Told style result (kept text) m k made after had has
 told_kept style result line items text m k made after had has p q told = subst (λ t. Told style result t m k made after had has) (p ∙ q) told

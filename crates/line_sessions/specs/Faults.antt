@@ -3,7 +3,7 @@ use Rattle.std.specs.Prelude.{ℕ}
 use Rattle.line_sessions.specs.declared.fault.ServeFault.{ServeFault}
 use Rattle.line_sessions.specs.declared.fault.ServeFault.TheVariants as serve_fault
 
--- 3 where the host failed the program, 1 where the input is refused
+-- 3 where reading, writing or memory failed, 1 where the input is refused
 abbrev pub serve_fault_status : ServeFault → ℕ
 serve_fault_status serve_fault.Read = 3
 serve_fault_status serve_fault.Write = 3

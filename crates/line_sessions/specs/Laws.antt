@@ -1,4 +1,4 @@
--- What the answers of a session are, beside those of scenarios and of hosts that users share.
+-- The answers of a session, compared with those of scenarios and of hosts that users share.
 use Rattle.std.specs.Prelude.{⊤, ◌≡◌, false, List, [], ◌∷◌, ℕ, map, Ok, Err}
 use Rattle.std.specs.List.{AllByRecursion}
 use Rattle.requests.specs.declared.Reply.{Reply}
@@ -13,7 +13,8 @@ use Rattle.scenario.specs.declared.style.Style.{Style}
 use Rattle.scenario.specs.Lines.{text}
 use Rattle.scenario_text.specs.OneStep.{IsStep}
 use Rattle.scenario.specs.Runs.{answers_of}
-use Rattle.line_sessions.specs.Sessions.{LineReply, AnswersLines, text_of}
+use Rattle.open_sessions.specs.Answers.{LineReply}
+use Rattle.line_sessions.specs.Sessions.{AnswersLines, text_of}
 
 -- each line is the step in its place
 abbrev pub AreSteps : List (List ℕ) → List Asked → Type 0
@@ -22,12 +23,12 @@ AreSteps [] (a ∷ steps) = ⊥
 AreSteps (line ∷ lines) [] = ⊥
 AreSteps (line ∷ lines) (a ∷ steps) = IsStep line (Ok a) × AreSteps lines steps
 
--- a step that was made, and not answered ENOMEM
+-- an answer that isn't the reply ENOMEM
 abbrev pub IsMade : LineReply → Type 0
 IsMade (Ok a) = is_memory a.reply ≡ false
 IsMade (Err f) = ⊤
 
--- where every line is a step, and memory was left, the text is that of the scenario with these steps
+-- if every line is a step and memory didn't run out, the text is that of the scenario with these steps
 abbrev pub AsScenario : Type 0
 AsScenario = (style : Style) (settings : Settings) (lines : List (List ℕ)) (steps : List Asked) (rs : List LineReply) (k : Machine)
     → AreSteps lines steps → AnswersLines lines (empty settings) rs k → AllByRecursion IsMade rs
@@ -45,7 +46,7 @@ replies_in [] = []
 replies_in (Ok a ∷ rs) = a.reply ∷ replies_in rs
 replies_in (Err f ∷ rs) = replies_in rs
 
--- each user's replies, and what the user sees at the end, are what the user's own steps get where nobody else is
+-- each user's replies, and the user's view at the end, are those of the user's own steps without any other user
 abbrev pub SessionsArePrivate : Type 0
 SessionsArePrivate = (settings : Settings) (lines : List (List ℕ)) (rs : List LineReply) (k : Machine) → AnswersLines lines (empty settings) rs k
     → (steps : List Asked) × StepsIn lines steps × Private steps (map (λ r. told r) (replies_in rs)) (empty settings) k

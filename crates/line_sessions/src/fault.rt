@@ -5,7 +5,7 @@ ghost use Rattle.line_sessions.specs.Faults.{serve_fault_status};
 use std::alloc::{AllocError, AllocFailed};
 use thiserror::Error;
 
-/// Why a session ended before the end of its input.
+/// The reason why a session ended before the end of its input.
 #[derive(Clone, Copy, Debug, PartialEq, Eq, Error)]
 pub enum ServeFault {
     /// The reader failed.
@@ -14,16 +14,16 @@ pub enum ServeFault {
     /// The writer failed, or took no byte.
     #[error("tracehost: cannot write")]
     Write,
-    /// No memory was left to read a line, or for the text of its reply.
+    /// Memory ran out for a line or for the text of its reply.
     #[error("tracehost: out of memory")]
     Memory,
-    /// As many lines were answered as a session may have.
+    /// The session has answered the most lines that it may.
     #[error("tracehost: refused: TooManyLines")]
     TooManyLines,
 }
 
 impl ServeFault {
-    /// The exit status of a program that ends by the fault.
+    /// Returns the exit status of a program that ends with the fault.
     pub fn status(&self) -> u8
         ensures { result ≡ serve_fault_status self.now }
     {

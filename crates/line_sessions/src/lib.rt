@@ -1,4 +1,4 @@
-//! Sessions line by line: each line is a step, whose answer is written before the next line is read.
+//! Sessions line by line. Each line is a step, and its answer is written before the next line is read.
 #![tactic(auto)]
 
 mod answering;

@@ -8,16 +8,17 @@ ghost use Rattle.line_sessions.specs.declared.fault.ServeFault.TheVariants.{Read
 ghost use Rattle.line_sessions.specs.Sessions.{Serves};
 ghost use Rattle.line_sessions.specs.Turns.{kept};
 
-use crate::answering::{Session, answer_line};
+use crate::answering::answer_line;
 use crate::fault::ServeFault;
 use line_io::{LineEnd, read_line};
+use open_sessions::Session;
 use scenario::{MOST_STEP_BYTES, Style};
 use std::alloc::Global;
 use std::io::{BufRead, ErrorKind, Write};
 use trace_stop::Settings;
 
-/// Reads the next line, and answers how it ends; none at the end of the input. Of a longer line than a step may have, enough is kept to
-/// tell.
+/// Reads the next line, and returns its end, or `None` at the end of the input. Of a line that is too long for a step
+/// it keeps one byte too many, so that the line is refused.
 fn next_line<R: BufRead>(reader: &mut R, line: &mut Vec<u8>) -> Result<Option<LineEnd>, ServeFault>
     ensures line { IfOk result (λ found. IfSome found (λ end. (text : List ℕ)
         × Loses (R.Read.remaining reader.old) (R.Read.remaining reader.new) text (end_bytes end)
@@ -36,7 +37,8 @@ fn next_line<R: BufRead>(reader: &mut R, line: &mut Vec<u8>) -> Result<Option<Li
     }
 }
 
-/// Answers each line of the reader by a line to the writer, to the reader's end, with `line` and `text` for a line's bytes and its answer.
+/// Answers each line of the reader by a line to the writer, until the reader's end. `line` and `text` are buffers for a
+/// line's bytes and its answer.
 fn answer_all<R: BufRead, W: Write>(
     alloc: Global,
     style: Style,
@@ -61,15 +63,15 @@ fn answer_all<R: BufRead, W: Write>(
     Err(ServeFault::TooManyLines)
 }
 
-/// Answers each line of the reader by a line to the writer, to the reader's end: the steps are made by a host with these settings that
-/// nobody has used, and handlers answer by the policies that the lines install. A line's answer is written in the style, and flushed before
-/// the next line is read, and the memory that a line took is free by then.
+/// Answers each line of the reader by a line to the writer, until the reader's end. A new host with these settings
+/// makes the steps, and handlers answer by the policies that the lines install. An answer is written in the style. It
+/// is flushed, and the memory of its line is free, before the next line is read.
 ///
 /// # Errors
 ///
-/// `Read` where the reader failed, `Memory` where none was left to read a line or for an answer's text: all lines before were answered.
-/// `Write` where the writer failed, or took no byte: it has a front of the answers. `TooManyLines` after 2^64 - 1 lines. A step that is
-/// answered ENOMEM is no error of the session.
+/// `Read` where the reader failed. `Memory` where memory ran out for a line or for an answer's text. In both cases all
+/// lines before were answered. `Write` where the writer failed, or took no byte: it has a front of the answers.
+/// `TooManyLines` after 2^64 - 1 lines. A reply ENOMEM to a step is not an error of the session.
 pub fn serve<R: BufRead, W: Write>(
     alloc: Global,
     settings: Settings,

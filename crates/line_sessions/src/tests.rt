@@ -23,7 +23,7 @@ refused BadUser
 1001 3 pids 1000
 ";
 
-/// Gives some bytes, and then fails.
+/// A reader that gives some bytes and then fails.
 #[derive(Drop)]
 struct Broken<'a>(&'a [u8]);
 
@@ -36,7 +36,7 @@ impl io::Read for Broken<'_> {
     }
 }
 
-/// Has room for some bytes, and then fails.
+/// A writer that has room for some bytes and then fails.
 #[derive(Drop)]
 struct Full {
     taken: Vec<u8>,
@@ -73,7 +73,7 @@ fn lines_and_answers(rt: HostRuntime) -> Result<(), Fail> {
     Ok(())
 }
 
-/// A line of so many bytes that begins with a step.
+/// Checks the answer to a line of `length` bytes that begins with a step.
 fn check_length<R: Abort + AllocGlobal>(rt: &R, length: usize, want: &str) -> Result<(), Fail> {
     let mut line = Vec::new(rt.alloc());
     line.extend_from_slice(b"{\"user\":1001,\"op\":\"spawn\"}")?;
@@ -117,7 +117,7 @@ fn readers_that_fail(rt: HostRuntime) -> Result<(), Fail> {
     Ok(())
 }
 
-/// A writer with so much room takes the front of the answers that it has room for.
+/// Checks that a writer with room for `room` bytes takes that front of the answers.
 fn check_room<R: Abort + AllocGlobal>(rt: &R, room: usize) -> Result<(), Fail> {
     let mut reader = LINES.as_bytes();
     let mut writer = Full {

@@ -165,7 +165,7 @@ module _ (f g : ℕ → Option Node) (apart : AreApart f) (t : ℕ) (first last 
   found le P None s was is there near = absurd (cc)
   found le P (Some a) s was is there near = search (rules, same_Some)
 
-  -- who is nearest before the node is the only place that leads to it
+  -- the nearest node before the node is the only place that leads to it
   no_link_up : (P : ℕ → Type 0) (o b : Option ℕ) → IsNearest up f t P o → IsNearest down f t (below old.key) b → ((s : ℕ) (was : Node) → b ≡ Some s → f s ≡ Some was → was.list ≡ t → P was.key) → b ≢ None → o ≢ Some q
   no_link_up P o None near prev after some is = some refl
   no_link_up P o (Some p) near prev after some is =

@@ -50,7 +50,7 @@ at_yes owner row is = ap (nat_eq (place_of row.tid)) is ∙ test_same (place_of 
 pub at_no : (owner place : ℕ) (row : LwpData) → owner ≡ place_of row.tid → place ≢ owner → is_at place row ≡ false
 at_no owner place row is off = test_apart (place_of row.tid) place (λ same. off (sym same ∙ sym is))
 
--- the users' places stand for the users
+-- counting by a user's place counts the user's rows
 pub count-owner : (uid place : ℕ) (xs : List LwpData) → uid ≡ place + 1001 → count_by (is_at place) xs ≡ count_by (λ l. tid_owner l.tid == uid) xs
 unfolding tid_owner
 count-owner uid place xs is = search (rules, count_by, nat_tests)

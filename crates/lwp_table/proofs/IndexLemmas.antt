@@ -45,7 +45,7 @@ option_same None None to from = refl
 option_same None (Some y) to from = from y refl
 option_same (Some x) p to from = sym (to x refl)
 
--- a row that a birth number finds stands in a slot
+-- a row that a birth number finds is in a slot
 pub born_in : (f : ℕ → Option Slot) (es : List (ℕ × ℕ)) (birth : ℕ) (row : LwpData) → born_row f es birth ≡ Some row → (s : ℕ) × (slot : Slot) × (f s ≡ Some slot) × (slot.born ≡ birth) × (slot.row ≡ row)
 born_in f [] birth row is = absurd (cc)
 born_in f (e ∷ es) birth row is = search (rules, born_in f es birth row, nat_tests, same_Some)

@@ -39,7 +39,7 @@ no_lead : (le : ℕ → ℕ → Type 0) (f : ℕ → Option Node) (t q : ℕ) (P
 no_lead le f t q P None vacant near = refl
 no_lead le f t q P (Some a) vacant near = test_apart a q (λ same. cc (near.1, ap f same, vacant))
 
--- what a list sees of slots: births tell them apart, and all are before the next one
+-- what a list sees of slots: their births differ, and all are below the next one
 module _ (f : ℕ → Option Slot) (node : Slot → Node) (keys : (slot : Slot) → (node slot).key ≡ slot.born) where
   pub nodes_apart : ((i j : ℕ) (a b : Slot) → f i ≡ Some a → f j ≡ Some b → a.born ≡ b.born → i ≡ j) → AreApart (λ s. option_map node (f s))
   nodes_apart apart i j a b there_a there_b same = search (rules, came, keys)
@@ -47,7 +47,7 @@ module _ (f : ℕ → Option Slot) (node : Slot → Node) (keys : (slot : Slot) 
   pub nodes_earlier : (births : ℕ) → ((s : ℕ) (slot : Slot) → f s ≡ Some slot → slot.born < births) → (s : ℕ) (was : Node) → option_map node (f s) ≡ Some was → was.key < births
   nodes_earlier births earlier s was there = let x = came node (f s) was there in omega (arith, earlier s x.0 x.1, ap (λ n. n.key) x.2, keys x.0)
 
--- one slot is taken or left, and then each is changed by itself: what is seen of the others
+-- one slot is taken or vacated, and then each slot is changed on its own: what is seen of the others
 module _ (f mid g : ℕ → Option Slot) (q : ℕ) (others : (s : ℕ) → s ≢ q → mid s ≡ f s) (l : ℕ → Slot → Slot) (links : (s : ℕ) → g s ≡ option_map (l s) (mid s)) where
   pub seen : {X : Type 0} (h : Slot → X) (k : ℕ → X → X) → ((s : ℕ) (slot : Slot) → h (l s slot) ≡ k s (h slot)) → (s : ℕ) → s ≢ q → option_map h (g s) ≡ option_map (k s) (option_map h (f s))
   seen h k same s off = ap (option_map h) (links s ∙ ap (option_map (l s)) (others s off)) ∙ shown h (k s) (l s) (same s) (f s)
@@ -77,7 +77,8 @@ pub record HasJoined (f : ℕ → Option Slot) (es : List (ℕ × ℕ)) (hs : Li
   pub change : (p : ℕ) → lookup (nat_eq p) es' ≡ cond (nat_eq row.tid p) (Some q) (lookup (nat_eq p) es)
   pub fresh : lwp_of row.tid (rows_of f es births) ≡ None
 
--- a row less: the one with the number has left its slot, its neighbours are linked, and these are the ends of its process's list
+-- a row less: the one with the number has left its slot, its neighbours are linked, and these are the ends of its
+-- process's list
 pub record HasLeft (f : ℕ → Option Slot) (es : List (ℕ × ℕ)) (hs : List (ℕ × Ends)) (tid q : ℕ) (old : Slot) (g : ℕ → Option Slot) (es' : List (ℕ × ℕ)) (left : Ends) : Type 0 where
   pub at : lookup (nat_eq tid) es ≡ Some q
   pub had : f q ≡ Some old

@@ -6,3 +6,4 @@ pub mod CountLemmas
 pub mod IndexLemmas
 pub mod KeptLemmas
 pub mod WalkLemmas
+pub mod CloneLemmas

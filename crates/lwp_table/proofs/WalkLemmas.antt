@@ -30,7 +30,7 @@ find-head p (x ∷ xs) = elim (cases_Bool (p x)) [ inl e ↦ rw e refl | inr e �
 -- a walk along a list, whose rows are those that pass a test
 module _ (f : ℕ → Option Slot) (es : List (ℕ × ℕ)) (births : ℕ) (indexed : IsIndexed f es births) (node : Slot → Node) (list : ℕ) (p : LwpData → Bool)
     (keys : (slot : Slot) → (node slot).key ≡ slot.born) (passes : (slot : Slot) → (node slot).list ≡ list → p slot.row ≡ true) (listed : (slot : Slot) → p slot.row ≡ true → (node slot).list ≡ list) where
-  -- a row that stands in no slot of the list fails the test
+  -- a row that is in no slot of the list fails the test
   fails : (j : ℕ) (x : LwpData) → born_row f es j ≡ Some x → ((s : ℕ) (slot : Slot) → f s ≡ Some slot → (node slot).list ≡ list → (node slot).key ≡ j → ⊥) → p x ≡ false
   fails j x is none = search (rules, cases_Bool, born_in)
 
@@ -58,7 +58,7 @@ module _ (f : ℕ → Option Slot) (es : List (ℕ × ℕ)) (births : ℕ) (inde
       let all : births ≡ births - 0 = omega arith in
       ap (λ n. filter p (listing (born_row f es) 0 n)) all ∙ nearest anywhere 0 (λ k least. tt) (λ k p. omega arith) o near (omega arith)
 
-  -- the row at which the walk stands
+  -- the row at which the walk is
   walk-here : (s : ℕ) (slot : Slot) → f s ≡ Some slot → (node slot).list ≡ list → filter p (rows_from f es births (Some s)) ≡ slot.row ∷ filter p (listing (born_row f es) (slot.born + 1) (births - (slot.born + 1)))
   walk-here s slot there on =
       ap (λ o. filter p (from_slot f es births o)) there
@@ -119,7 +119,7 @@ module _ (f : ℕ → Option Slot) (es : List (ℕ × ℕ)) (births : ℕ) (inde
         next_lwp-after pid was.row.tid (rows_of f es births) ∙ ap (first_lwp pid) (rows_after-listing (born_row f es) (numbered f es births indexed) was.born was.row (born_of f es births indexed at was there) 0 births (omega arith) (omega (arith, indexed.earlier at was there))
         ∙ ap (listing (born_row f es) (was.born + 1)) all) ∙ found _ (above was.born) next near (walk-next f es births indexed own_node pid (is_of pid) (λ slot. refl) of_own of_pid at was next there near)
 
-    -- where a row of the process with this number stands, its link leads to the next one
+    -- the link in the slot of the process's row with this number leads to the process's next row
     pub next-near : (first last : Option ℕ) → IsChain (own_nodes f) pid first last → (tid at : ℕ) (was : Slot) → IsSomeAnd (lwp_of tid (rows_of f es births)) (λ row. row.pid ≡ pid) → lookup (nat_eq tid) es ≡ Some at → f at ≡ Some was
         → IsNearest up (own_nodes f) pid (above was.born) was.own.next × (next_lwp pid tid (rows_of f es births) ≡ row_at f was.own.next)
     next-near first last chain tid at was its listed there =
@@ -143,7 +143,7 @@ module _ (f : ℕ → Option Slot) (es : List (ℕ × ℕ)) (births : ℕ) (node
     there = walk_there f node list anywhere first chain.first_is;
   }
 
-  -- the slot that a walk stands at is of its list
+  -- the slot at which a walk is belongs to its list
   pub walk_on : (s : ℕ) (slot : Slot) → IsWalk f es births node list (Some s) → f s ≡ Some slot → (node slot).list ≡ list
   walk_on s slot walk there = search (rules, some_and, same_Some)
 

@@ -1,4 +1,4 @@
--- Words on rows that proofs use beside those of Lwps, and how they agree where the LWPs' numbers differ.
+-- Words on rows that proofs use in addition to those of Lwps, and how they agree where the LWPs' numbers differ.
 use Rattle.std.proofs.Common.{◌≡◌, ◌≢◌, ℕ, true, false, List, [], ◌∷◌, None, refl, sym, arith, cond, nat_eq, is_some, rules}
 use Rattle.std.proofs.lemmas.Bool.Decides.{nat_tests}
 use Rattle.lwp_table.specs.declared.LwpData.{LwpData}

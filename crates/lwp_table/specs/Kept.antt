@@ -1,4 +1,4 @@
--- How a table keeps its rows: in slots, with a birth number each, and with links in order of birth.
+-- How a table stores its rows: in slots, each with a birth number, and with links in order of birth.
 use Rattle.std.specs.Prelude.{◌≡◌, ℕ, zero, suc, ◌+◌, ◌-◌, ◌<◌, Bool, ◌==◌, List, [], ◌∷◌, Option, Some, None, nat_eq, count_by, length, if◌then◌else◌, unwrap_or, slice_index, IfSome, IsSomeAnd}
 use Rattle.std.specs.List.{cons_option}
 use Rattle.std.specs.Option.{option_map}
@@ -12,15 +12,15 @@ use Rattle.lwp_table.specs.declared.links.Link.{Link}
 use Rattle.lwp_table.specs.declared.links.Link.TheVariants.{NextOwn, PrevOwn, NextAll, PrevAll}
 use Rattle.lwp_table.specs.Chain.{Node, IsChain, IsNearest, up, above, leads_to}
 
--- whether a row is of this process
+-- whether a row is an LWP of this process
 abbrev pub is_of : ℕ → LwpData → Bool
 is_of pid row = row.pid == pid
 
--- the place among the 64 users of the one in whose block this number lies
+-- the index, among the 64 users, of the user whose block contains this number
 abbrev pub place_of : ℕ → ℕ
 place_of tid = slot (tid_owner tid)
 
--- whether a row's number is of the user at this place
+-- whether a row's number belongs to the user with this index
 abbrev pub is_at : ℕ → LwpData → Bool
 is_at place row = place_of row.tid == place
 
@@ -38,22 +38,22 @@ all_node slot = record { key = slot.born; list = 0; prev = slot.all.prev; next =
 abbrev pub all_nodes : (ℕ → Option Slot) → ℕ → Option Node
 all_nodes f s = option_map all_node (f s)
 
--- a link of the slot s, once that of the slot `at` was changed
+-- a link of the slot s, after that of the slot `at` was changed
 abbrev pub turned : Option ℕ → Option ℕ → ℕ → Option ℕ → Option ℕ
 turned at to s link = if leads_to at s then to else link
 
--- the slot s, once the link of the slot `at` was changed
+-- the slot s, after the link of the slot `at` was changed
 abbrev pub linked : Link → Option ℕ → Option ℕ → ℕ → Slot → Slot
 linked NextOwn at to s slot = record slot { own = record slot.own { next = turned at to s slot.own.next } }
 linked PrevOwn at to s slot = record slot { own = record slot.own { prev = turned at to s slot.own.prev } }
 linked NextAll at to s slot = record slot { all = record slot.all { next = turned at to s slot.all.next } }
 linked PrevAll at to s slot = record slot { all = record slot.all { prev = turned at to s slot.all.prev } }
 
--- the links of the slot s in a list, once the slot between these two has left it
+-- the links of the slot s in a list, after the slot between these two has left it
 abbrev pub passed_by : Links → ℕ → Links → Links
 passed_by gone s links = record { prev = turned gone.next gone.prev s links.prev; next = turned gone.prev gone.next s links.next }
 
--- the slot s, once its neighbour has left both lists
+-- the slot s, after its neighbour has left both lists
 abbrev pub closed_up : Slot → ℕ → Slot → Slot
 closed_up gone s slot = record slot { own = passed_by gone.own s slot.own; all = passed_by gone.all s slot.all }
 
@@ -75,7 +75,7 @@ abbrev pub born_row : (ℕ → Option Slot) → List (ℕ × ℕ) → ℕ → Op
 born_row f [] birth = None
 born_row f (e ∷ es) birth = if_born birth (born_row f es birth) (f e.1)
 
--- the rows that so many birth numbers find, from `from` on
+-- the rows that this many birth numbers find, starting at `from`
 abbrev pub listing : (ℕ → Option LwpData) → ℕ → ℕ → List LwpData
 listing b from zero = []
 listing b from (suc count) = cons_option (b from) (listing b (from + 1) count)
@@ -84,14 +84,14 @@ listing b from (suc count) = cons_option (b from) (listing b (from + 1) count)
 abbrev pub rows_of : (ℕ → Option Slot) → List (ℕ × ℕ) → ℕ → List LwpData
 rows_of f es births = listing (born_row f es) 0 births
 
--- each number has its slot, each row a number, and each a birth number of its own
+-- each number has a slot, each row has a number, and each row has its own birth number
 pub record IsIndexed (f : ℕ → Option Slot) (es : List (ℕ × ℕ)) (births : ℕ) : Type 0 where
   pub listed : (s : ℕ) (slot : Slot) → f s ≡ Some slot → lookup (nat_eq slot.row.tid) es ≡ Some s
   pub named : (tid s : ℕ) → lookup (nat_eq tid) es ≡ Some s → (slot : Slot) × (f s ≡ Some slot) × (slot.row.tid ≡ tid)
   pub earlier : (s : ℕ) (slot : Slot) → f s ≡ Some slot → slot.born < births
   pub apart : (i j : ℕ) (a b : Slot) → f i ≡ Some a → f j ≡ Some b → a.born ≡ b.born → i ≡ j
 
--- what a table keeps
+-- what a table maintains
 pub record IsKept (f : ℕ → Option Slot) (es : List (ℕ × ℕ)) (hs : List (ℕ × Ends)) (all : Ends) (births : ℕ) (users : List ℕ) : Type 0 where
   pub indexed : IsIndexed f es births
   pub own : (pid : ℕ) → IsChain (own_nodes f) pid (ends_at hs pid).first (ends_at hs pid).last
@@ -100,7 +100,7 @@ pub record IsKept (f : ℕ → Option Slot) (es : List (ℕ × ℕ)) (hs : List 
   pub total : all.count ≡ length (rows_of f es births)
   pub homes : (place : ℕ) → place < 64 → slice_index users place ≡ count_by (is_at place) (rows_of f es births)
 
--- the rows from a slot's on
+-- the rows from a slot's row on
 abbrev pub from_slot : (ℕ → Option Slot) → List (ℕ × ℕ) → ℕ → Option Slot → List LwpData
 from_slot f es births None = []
 from_slot f es births (Some slot) = listing (born_row f es) slot.born (births - slot.born)
@@ -110,7 +110,7 @@ abbrev pub rows_from : (ℕ → Option Slot) → List (ℕ × ℕ) → ℕ → O
 rows_from f es births None = []
 rows_from f es births (Some s) = from_slot f es births (f s)
 
--- what a walk along a list of slots keeps, where `node` is the slot as this list sees it
+-- what a walk along a list of slots maintains, where `node` is the slot as this list sees it
 pub record IsWalk (f : ℕ → Option Slot) (es : List (ℕ × ℕ)) (births : ℕ) (node : Slot → Node) (list : ℕ) (link : Option ℕ) : Type 0 where
   pub indexed : IsIndexed f es births
   pub next_is : (s : ℕ) (slot : Slot) → f s ≡ Some slot → (node slot).list ≡ list → IsNearest up (λ j. option_map node (f j)) list (above (node slot).key) (node slot).next

@@ -1,4 +1,4 @@
-//! The slots that numbers lead to. Numbers have hints, so that most slots are found with no use of the indexes.
+//! The slots that numbers lead to. Hints find most slots without the indexes.
 
 ghost use Rattle.std.specs.Prelude.{◌≡◌, ℕ, Some, nat_eq};
 ghost use Rattle.std.specs.Map.{lookup};
@@ -11,25 +11,25 @@ use indexmap::IndexMap;
 use slab::Slab;
 use std::alloc::{AllocError, Global};
 
-/// How many hints there are, so that all numbers of processes have one each.
+/// The number of hints. It gives each process number a hint of its own.
 const HINTS: usize = 65536;
 
-/// For the numbers of each remainder, the slot that was noted last. Any slot may stand here: what it has is looked at
-/// before a hint is believed.
-#[derive(Drop)]
+/// For each remainder, the slot that was last noted for a number with this remainder. A hint may be any slot:
+/// it is only used after a check of the slot's row.
+#[derive(Clone, Drop)]
 pub struct Hints {
     slots: Vec<u16>,
 }
 
 impl Hints {
-    /// No slot was noted.
+    /// Returns hints for which no slot was noted. Fails when out of memory.
     pub fn new(alloc: Global) -> Result<Hints, AllocError> {
         Ok(Hints {
             slots: vec![in alloc; 0; HINTS]?,
         })
     }
 
-    /// The slot that was noted for the number, or another one.
+    /// Returns the slot that was noted for the number, or some other slot.
     #[inline(always)]
     pub fn slot(&self, number: u32) -> usize {
         match self.slots.get(number as usize % HINTS) {
@@ -46,7 +46,7 @@ impl Hints {
     }
 }
 
-/// The slot of the row with this number.
+/// Returns the slot of the row with this number, if any.
 #[inline(always)]
 pub fn slot_of(
     rows: &Slab<Slot>,
@@ -64,7 +64,7 @@ pub fn slot_of(
     }
 }
 
-/// The slot that the index has for this number.
+/// Returns the slot of this number in the index, if any.
 #[inline(never)]
 fn indexed(slots: &IndexMap<u32, usize>, number: u32) -> Option<usize>
     ensures { result ≡ lookup (nat_eq number) slots.now.entries }
@@ -72,7 +72,7 @@ fn indexed(slots: &IndexMap<u32, usize>, number: u32) -> Option<usize>
     slots.get(&number).copied()
 }
 
-/// The slot of the first row of a process: the one of its rows that has none before it.
+/// Returns the slot of the first row of a process: of its rows, the one with none before it.
 #[inline(always)]
 pub fn first_slot(
     rows: &Slab<Slot>,
@@ -91,7 +91,7 @@ pub fn first_slot(
     }
 }
 
-/// The first slot that the ends of a process's list name.
+/// Returns the first slot of a process's list, as its ends name it.
 #[inline(never)]
 fn first_end(heads: &IndexMap<u32, Ends>, pid: u32) -> Option<usize>
     ensures { result ≡ (ends_at heads.now.entries pid).first }

@@ -1,4 +1,4 @@
-//! The slots that rows stand in, and the lists that links make of them.
+//! The slots that contain rows, and the lists that links form.
 
 ghost use Rattle.std.specs.Prelude.{◌≡◌, ℕ, ◌+◌, ◌<◌, ◌≤◌, None, IsSome, IfSome, is_none, if◌then◌else◌, nat_eq};
 ghost use Rattle.std.specs.Option.{option_map};
@@ -11,14 +11,14 @@ use indexmap::IndexMap;
 use pid_blocks::{Tid, owner_of_tid};
 use slab::Slab;
 
-/// The slots before and after one in a list.
+/// The slots before and after a slot in a list.
 #[derive(Clone, Copy, Debug)]
 pub struct Links {
     pub prev: Option<usize>,
     pub next: Option<usize>,
 }
 
-/// The first and the last slot of a list, and how many it has.
+/// The first and the last slot of a list, and the number of its slots.
 #[derive(Clone, Copy, Debug)]
 pub struct Ends {
     pub first: Option<usize>,
@@ -27,7 +27,7 @@ pub struct Ends {
 }
 
 impl Ends {
-    /// The ends of a list with no slot.
+    /// Returns the ends of an empty list.
     pub fn empty() -> Ends
         ensures { result ≡ no_ends }
     {
@@ -39,7 +39,7 @@ impl Ends {
     }
 }
 
-/// A row with its birth number, and its links in its process's list and in that of all rows.
+/// A row with its birth number, and its links in its process's list and in the list of all rows.
 #[derive(Clone, Copy, Debug)]
 pub struct Slot {
     pub row: LwpData,
@@ -57,7 +57,7 @@ pub enum Link {
     PrevAll,
 }
 
-/// Changes a link of the slot `at`, if there is one.
+/// Changes a link of the slot `at`, if any.
 pub fn set_link(slots: &mut Slab<Slot>, link: Link, at: Option<usize>, to: Option<usize>)
     requires { IfSome at (λ s. ContainsKey slots.old s) }
     ensures linked { (s : ℕ) → get slots.new s ≡ option_map (linked link at to s) (get slots.old s) }
@@ -76,7 +76,7 @@ pub fn set_link(slots: &mut Slab<Slot>, link: Link, at: Option<usize>, to: Optio
     }
 }
 
-/// Links the neighbours of a slot that has left both of its lists.
+/// Links the neighbours of a slot that has left both of its lists to each other.
 #[tactic(auto, using(crate::proofs::KeptLemmas::onto))]
 pub fn close_up(slots: &mut Slab<Slot>, gone: &Slot)
     requires own_prev { IfSome gone.now.own.prev (λ s. ContainsKey slots.old s) }
@@ -93,7 +93,7 @@ pub fn close_up(slots: &mut Slab<Slot>, gone: &Slot)
     set_link(slots, Link::PrevAll, gone.all.next, gone.all.prev);
 }
 
-/// The ends of the list of a process.
+/// Returns the ends of the list of a process.
 pub fn ends_of(heads: &IndexMap<u32, Ends>, pid: u32) -> Ends
     ensures { result ≡ ends_at heads.now.entries pid }
 {
@@ -103,8 +103,7 @@ pub fn ends_of(heads: &IndexMap<u32, Ends>, pid: u32) -> Ends
     }
 }
 
-/// Changes the ends of the list of a process that has some. Where the list is now empty, its entry
-/// goes.
+/// Changes the ends of the list of a process that has some. Removes the entry if the list is now empty.
 pub fn put_ends(heads: &mut IndexMap<u32, Ends>, pid: u32, ends: Ends)
     requires there { IsSome (index_get nat_eq heads.old pid) }
     requires empty { ends.first ≡ None → ends ≡ no_ends }
@@ -118,7 +117,7 @@ pub fn put_ends(heads: &mut IndexMap<u32, Ends>, pid: u32, ends: Ends)
     }
 }
 
-/// The ends of a list that a slot with these links has left.
+/// Returns the ends of a list after a slot with these links has left it.
 pub fn without(ends: Ends, gone: Links) -> Ends
     requires { 0 < ends.count }
     ensures first { result.first ≡ (if is_none gone.prev then gone.next else ends.first) }
@@ -140,7 +139,7 @@ pub fn without(ends: Ends, gone: Links) -> Ends
     }
 }
 
-/// The place among the users of the one in whose block the number lies.
+/// Returns the index, among the users, of the user whose block contains the number.
 pub fn user_place(tid: Tid) -> usize
     ensures place { result ≡ place_of tid }
     ensures below { result < 64 }

@@ -1,11 +1,10 @@
 //! The table of all LWPs of a host.
 //!
-//! Order of birth is kept by links and birth numbers, and not by the order of the index's entries:
-//! an index that closes up at a removal moves each entry behind the one that goes, so that a
-//! removal costs as much as the table is long. Here a removal changes at most four links and swaps
-//! one entry of the index, and a walk over a process meets the rows of that process alone.
-//! The birth numbers only rise, so a row that is added comes last in both lists. No walk reads
-//! them: they say which order the links must have.
+//! Links and birth numbers keep the order of birth, and not the order of the index's entries. An index that
+//! keeps its order moves all later entries at a removal, so a removal takes as long as the table is long.
+//! Here a removal changes at most four links and swaps one entry of the index. A walk over a process visits
+//! only the rows of that process. Birth numbers only rise, so a new row comes last in both lists. No walk
+//! reads them: they specify the order of the links.
 
 ghost use Rattle.std.specs.Prelude.{◌≡◌, ◌==◌, ◌+◌, ◌<◌, ◌≤◌, ◌++◌, [], ◌∷◌, false, IsSome, IsSomeAnd, OnOk, IfOk, count_by, length, option_map, slice_get};
 ghost use Rattle.pid_blocks.specs.Blocks.{tid_owner};
@@ -23,9 +22,9 @@ use slab::Slab;
 use std::alloc::{AllocError, Global};
 use std::marker::Model;
 
-/// LWP rows in order of birth, each found by its number.
+/// The rows of LWPs in order of birth, each found by its number.
 ///
-/// All but `at` take the same time in a table of any length.
+/// Every operation but `at` takes the same time in a table of any length.
 #[derive(Drop)]
 pub struct LwpTable {
     rows: Slab<Slot>,
@@ -55,9 +54,28 @@ impl Model for LwpTable {
     ghost invariant = { λ t. IsKept (get t.rows) t.slots.entries t.heads.entries t.all t.births t.users };
 }
 
+impl Clone for LwpTable {
+    ghost is_clone = { λ table copy. copy.rows ≡ table.rows };
+
+    /// Returns a table of the same rows, in the time of the most rows that there were. Its room may be another.
+    /// Fails when out of memory.
+    fn clone(&self) -> Result<LwpTable, AllocError> {
+        Ok(LwpTable {
+            rows: self.rows.clone()?,
+            slots: self.slots.clone()?,
+            heads: self.heads.clone()?,
+            hints: self.hints.clone()?,
+            first_hints: self.first_hints.clone()?,
+            all: self.all,
+            births: self.births,
+            users: self.users,
+        })
+    }
+}
+
 #[tactic(auto, using(crate::proofs::KeptLemmas::differ_seen))]
 impl LwpTable {
-    /// An empty table.
+    /// Returns an empty table. Fails when out of memory.
     pub fn new(alloc: Global) -> Result<LwpTable, AllocError>
         ensures { IfOk result (λ table. table.rows ≡ []) }
     {
@@ -74,8 +92,7 @@ impl LwpTable {
         })
     }
 
-    /// Makes room for `count` more rows. It is refused where memory is wanting, and leaves the rows
-    /// as they were.
+    /// Makes room for `count` more rows. Fails when out of memory, and then leaves the rows unchanged.
     pub fn reserve(&mut self, count: usize) -> Result<(), AllocError>
         ensures room { OnOk result (count ≤ self.new.spare) }
         ensures rows { self.new.rows ≡ self.old.rows }
@@ -89,7 +106,7 @@ impl LwpTable {
         self.heads.reserve(count)
     }
 
-    /// Adds a row at the end. Takes no memory.
+    /// Adds a row at the end. Allocates nothing.
     pub fn add(&mut self, row: LwpData)
         requires room { 0 < self.old.spare }
         requires fresh { has_lwp row.tid self.old.rows ≡ false }
@@ -132,7 +149,7 @@ impl LwpTable {
         self.users[user_place(row.tid)] += 1;
     }
 
-    /// Whether a row has this number.
+    /// Tests whether a row has this number.
     #[tactic(auto, using(crate::proofs::WordLemmas::has_lwp_found))]
     pub fn has(&self, tid: Tid) -> bool
         ensures has { result ≡ has_lwp tid self.now.rows }
@@ -141,7 +158,7 @@ impl LwpTable {
         self.get(tid).is_some()
     }
 
-    /// The row with this number.
+    /// Returns the row with this number, if any.
     #[tactic(auto, using(crate::proofs::KeptLemmas::differ_seen, crate::proofs::IndexLemmas::number_laws))]
     pub fn get(&self, tid: Tid) -> Option<LwpData>
         ensures row { result ≡ lwp_of tid self.now.rows }
@@ -151,7 +168,7 @@ impl LwpTable {
         Some(self.rows[slot].row)
     }
 
-    /// The process of the row with this number.
+    /// Returns the process of the row with this number, if any.
     #[tactic(auto, using(crate::proofs::KeptLemmas::differ_seen, crate::proofs::IndexLemmas::number_laws))]
     pub fn process(&self, tid: Tid) -> Option<Pid>
         ensures process { result ≡ option_map (λ l. l.pid) (lwp_of tid self.now.rows) }
@@ -161,7 +178,7 @@ impl LwpTable {
         Some(self.rows[place].row.pid)
     }
 
-    /// Puts a row in the place of the one with its number, which stays in that process.
+    /// Replaces the row with the same number, which is of the same process.
     pub fn set(&mut self, row: LwpData)
         requires { IsSomeAnd (lwp_of row.tid self.old.rows) (λ was. was.pid ≡ row.pid) }
         ensures rows { self.new.rows ≡ with_lwp row self.old.rows }
@@ -173,7 +190,7 @@ impl LwpTable {
         self.rows[slot] = place;
     }
 
-    /// Takes the row with this number out. The others keep their order.
+    /// Removes the row with this number. The others keep their order.
     pub fn remove(&mut self, tid: Tid)
         requires { IsSome (lwp_of tid self.old.rows) }
         ensures rows { self.new.rows ≡ without_lwp tid self.old.rows }
@@ -189,7 +206,7 @@ impl LwpTable {
         self.users[user_place(tid)] -= 1;
     }
 
-    /// The row at this place by birth, by a walk from the first.
+    /// Returns the row at this place in order of birth, by a walk from the first.
     pub fn at(&self, place: usize) -> Option<LwpData>
         ensures row { result ≡ slice_get self.now.rows place }
         ensures differ { Differ self.now.rows }
@@ -197,7 +214,7 @@ impl LwpTable {
         self.iter().nth(place)
     }
 
-    /// The first row of this process.
+    /// Returns the first row of this process, if any.
     pub fn first_of(&self, pid: Pid) -> Option<LwpData>
         ensures row { result ≡ first_lwp pid self.now.rows }
         ensures differ { Differ self.now.rows }
@@ -206,7 +223,7 @@ impl LwpTable {
         Some(self.rows[slot].row)
     }
 
-    /// The row of this process that was born next after this one.
+    /// Returns the next row of this process by birth after this one, if any.
     pub fn next_of(&self, pid: Pid, after: Tid) -> Option<LwpData>
         requires { IsSomeAnd (lwp_of after self.now.rows) (λ row. row.pid ≡ pid) }
         ensures row { result ≡ next_lwp pid after self.now.rows }
@@ -217,7 +234,7 @@ impl LwpTable {
         Some(self.rows[slot].row)
     }
 
-    /// The rows of this process, in order of birth.
+    /// Returns an iterator over the rows of this process, in order of birth.
     #[tactic(auto, using(crate::proofs::KeptLemmas::differ_seen, crate::proofs::WalkLemmas::first_laws))]
     pub fn of_process(&self, pid: Pid) -> OfProcess<'_>
         ensures rows { result ≡ lwps_of pid self.now.rows }
@@ -233,7 +250,7 @@ impl LwpTable {
         }
     }
 
-    /// All rows, in order of birth.
+    /// Returns an iterator over all rows, in order of birth.
     #[tactic(auto, using(crate::proofs::KeptLemmas::differ_seen, crate::proofs::WalkLemmas::first_laws))]
     pub fn iter(&self) -> Iter<'_>
         ensures rows { result ≡ self.now.rows }
@@ -247,7 +264,7 @@ impl LwpTable {
         }
     }
 
-    /// How many rows are of this process.
+    /// Returns the number of rows of this process.
     pub fn count(&self, pid: Pid) -> usize
         ensures count { result ≡ count_by (λ l. l.pid == pid) self.now.rows }
         ensures differ { Differ self.now.rows }
@@ -255,7 +272,7 @@ impl LwpTable {
         ends_of(&self.heads, pid.get()).count
     }
 
-    /// How many rows have numbers of this user.
+    /// Returns the number of rows whose numbers are this user's.
     pub fn user_count(&self, uid: Uid) -> usize
         ensures count { result ≡ count_by (λ l. tid_owner l.tid == uid) self.now.rows }
         ensures differ { Differ self.now.rows }
@@ -263,7 +280,7 @@ impl LwpTable {
         self.users[uid.slot()]
     }
 
-    /// How many rows there are.
+    /// Returns the number of rows.
     pub fn len(&self) -> usize
         ensures len { result ≡ length self.now.rows }
         ensures differ { Differ self.now.rows }

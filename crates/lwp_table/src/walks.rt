@@ -6,7 +6,7 @@ use indexmap::IndexMap;
 use slab::Slab;
 use std::marker::Model;
 
-/// The rows of one process in order of birth, seen as the list of those that are left.
+/// An iterator over the rows of one process in order of birth. Contracts see the list of rows that are left.
 #[derive(Drop)]
 pub struct OfProcess<'a> {
     pub(crate) rows: &'a Slab<Slot>,
@@ -45,7 +45,7 @@ impl<'a> Iterator for OfProcess<'a> {
     }
 }
 
-/// All rows of a table in order of birth, seen as the list of those that are left.
+/// An iterator over all rows of a table in order of birth. Contracts see the list of rows that are left.
 #[derive(Drop)]
 pub struct Iter<'a> {
     pub(crate) rows: &'a Slab<Slot>,

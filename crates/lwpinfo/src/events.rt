@@ -7,7 +7,7 @@ use lwp_table::LwpData;
 use std::fmt;
 
 impl Event {
-    /// The event's name, NONE or SIGNAL.
+    /// Returns the event's name, NONE or SIGNAL.
     pub fn name(&self) -> &'static str
         ensures { result.now ≡ event_name self.now }
     {
@@ -29,7 +29,7 @@ impl fmt::Display for Event {
     }
 }
 
-/// What PT_LWPINFO of ptrace(2) tells of an LWP, which reports its process's stop or doesn't.
+/// Returns what PT_LWPINFO of ptrace(2) shows of an LWP, which reports its process's stop or doesn't.
 pub fn lwp_info(reports: bool, lwp: &LwpData) -> LwpInfo
     ensures { result ≡ lwp_info reports lwp.now }
 {

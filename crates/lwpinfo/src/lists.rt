@@ -7,42 +7,42 @@ use crate::NumList;
 use std::alloc::{AllocError, Global};
 
 impl NumList {
-    /// The numbers of a vector.
+    /// Returns the list of a vector's numbers.
     pub fn of(numbers: Vec<u32>) -> NumList
         ensures { result ≡ numbers.items }
     {
         NumList { numbers }
     }
 
-    /// How many numbers it has.
+    /// Returns the list's length.
     pub fn len(&self) -> usize
         ensures { result ≡ length self.now }
     {
         self.numbers.len()
     }
 
-    /// Whether it has none.
+    /// Tests whether the list is empty.
     pub fn is_empty(&self) -> bool
         ensures { result ≡ (length self.now == 0) }
     {
         self.numbers.is_empty()
     }
 
-    /// The number at a place, where the list goes so far.
+    /// Returns the number at a place, or `None` past the end of the list.
     pub fn get(&self, place: usize) -> Option<u32>
         ensures { result ≡ slice_get self.now place }
     {
         self.numbers.get(place).copied()
     }
 
-    /// The numbers, in their order.
+    /// Returns the numbers, in their order.
     pub fn as_slice(&self) -> &[u32]
         ensures { result.now ≡ self.now }
     {
         self.numbers.as_slice()
     }
 
-    /// Another list of the same numbers. Refused where memory runs out.
+    /// Returns another list of the same numbers. Fails when out of memory.
     pub fn copy(&self, alloc: Global) -> Result<NumList, AllocError>
         ensures { IfOk result (λ list. list ≡ self.now) }
     {
@@ -51,7 +51,7 @@ impl NumList {
     }
 }
 
-/// Two lists are equal where they have the same numbers in the same order.
+/// Lists are equal if they have the same numbers in the same order.
 impl PartialEq for NumList {
     ghost eq = { pointwise nat_eq };
 

@@ -10,8 +10,8 @@ use pid_blocks::{Pid, Tid};
 use proc_table::{ProcData, State, Tables};
 use std::alloc::{AllocError, Global};
 
-/// What PT_LWPINFO of ptrace(2) tells of an LWP of the process. None where no process or no LWP has the number. It asks
-/// that the LWP, if there is one, is not another process's.
+/// Returns what PT_LWPINFO of ptrace(2) shows of an LWP of the process, or `None` if no process or no LWP has the
+/// number. The LWP, if there is one, must not be another process's.
 pub fn info(tables: &Tables, pid: Pid, tid: Tid) -> Option<LwpInfo>
     requires own { IfSome (lwp_of tid tables.now.rows.lwps) (λ l. l.pid ≡ pid) }
     ensures { result ≡ info_of pid tid tables.now.rows }
@@ -22,7 +22,7 @@ pub fn info(tables: &Tables, pid: Pid, tid: Tid) -> Option<LwpInfo>
     }
 }
 
-/// Whether the LWP reports the stop that the process is in.
+/// Tests whether the LWP reports the process's stop.
 fn reports(process: &ProcData, tid: Tid) -> bool
     ensures { result ≡ is_this tid (reporting process.now) }
 {
@@ -32,7 +32,7 @@ fn reports(process: &ProcData, tid: Tid) -> bool
     }
 }
 
-/// What is told of an LWP, if there is one.
+/// Returns what is shown of an LWP, if there is one.
 fn told(reports: bool, lwp: Option<LwpData>) -> Option<LwpInfo>
     ensures { result ≡ option_map (lwp_info reports) lwp }
 {
@@ -42,14 +42,15 @@ fn told(reports: bool, lwp: Option<LwpData>) -> Option<LwpInfo>
     }
 }
 
-/// How many LWPs the process has, as PT_GETNUMLWPS of ptrace(2) tells.
+/// Returns the number of the process's LWPs, as PT_GETNUMLWPS of ptrace(2) does.
 pub fn lwp_count(tables: &Tables, pid: Pid) -> usize
     ensures { result ≡ lwp_count pid tables.now.rows }
 {
     tables.lwp_count(pid)
 }
 
-/// The numbers of the process's first `count` LWPs by birth, as PT_GETLWPLIST of ptrace(2) tells. Refused where memory for the list runs out.
+/// Returns the numbers of the process's first `count` LWPs by birth, as PT_GETLWPLIST of ptrace(2) does. Fails when
+/// out of memory.
 pub fn lwp_list(alloc: Global, tables: &Tables, pid: Pid, count: u32) -> Result<NumList, AllocError>
     ensures { IfOk result (λ list. list ≡ lwp_list pid count tables.now.rows) }
 {

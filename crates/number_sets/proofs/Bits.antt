@@ -7,7 +7,7 @@ use Rattle.std.proofs.lemmas.Nat.{shr-shr}
 use Rattle.std.proofs.lemmas.Nat.Bits.{bit_at-lt, bit_at_not, bit_at_above}
 use Rattle.number_sets.specs.Members.{has_bit, member}
 
--- a word in the place of the one that has n's bit: n's bit is the new word's, and the others stay where the word's do
+-- a word replaces the one with n's bit: n's bit is the new word's, and the others stay if the word's do
 pub member-here : (words : List ℕ) (n v : ℕ) → n / 64 < length words → member (set words (n / 64) v) n ≡ has_bit v (n % 64)
 member-here words n v within = ap (λ x. has_bit x (n % 64)) (get_or-set_same words (n / 64) v 0 within)
 
@@ -21,7 +21,7 @@ member-others words n v within stays m apart = elim (cases_eq (m / 64) (n / 64))
   | inr other ↦ ap (λ x. has_bit x (m % 64)) (get_or-set_other words (n / 64) (m / 64) v 0 other)
 ]
 
--- the bits of a word shifted to the right stand that much higher in the word
+-- the bits of a word shifted to the right are that much higher in the word
 pub has_bit-shifted : (word from i : ℕ) → has_bit (word / 2 ^ from) i ≡ has_bit word (from + i)
 has_bit-shifted word from i = ap (λ x. x % 2 == 1) (shr-shr word from i)
 

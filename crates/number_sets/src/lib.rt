@@ -1,4 +1,4 @@
-//! Sets of numbers below a bound, a bit for each, in which the next number is found by whole words.
+//! Sets of numbers below a bound, with a bit for each number. The search for the next number goes by whole words.
 #![tactic(auto)]
 
 ghost use Rattle.std.specs.Prelude.{◌≡◌, ◌≢◌, ℕ, ◌<◌, ◌≤◌, ◌*◌, true, false, not, get_or, ◌/◌, IfSome, IfNone, IfOk, if◌then◌else◌};
@@ -7,10 +7,10 @@ ghost use Rattle.number_sets.specs.Members.{has_bit, member, room};
 use std::alloc::{AllocError, Global};
 use std::marker::Model;
 
-/// How many numbers a word has.
+/// The number of bits in a word.
 const WIDTH: u32 = 64;
 
-/// A set of numbers below the bound that it was made for.
+/// A set of numbers below the bound that it was created with.
 #[derive(Drop)]
 pub struct NumberSet {
     words: Vec<u64>,
@@ -24,14 +24,25 @@ impl Model for NumberSet {
     ghost view = { λ s. s.words.items };
 }
 
-/// The word, or its complement where `wanted` is false: its bits are 1 at the places wanted.
+/// Copies all words. Fails when out of memory.
+impl Clone for NumberSet {
+    ghost is_clone = { λ set copy. copy ≡ set };
+
+    fn clone(&self) -> Result<NumberSet, AllocError> {
+        Ok(NumberSet {
+            words: self.words.clone()?,
+        })
+    }
+}
+
+/// Returns the word, or its complement if `wanted` is false: a bit is 1 where the word's bit is as wanted.
 fn marks(word: u64, wanted: bool) -> u64
     ensures { (i : ℕ) → i < 64 → has_bit result i ≡ (if wanted then has_bit word i else not (has_bit word i)) }
 {
     if wanted { word } else { !word }
 }
 
-/// The first place from `from` on at which the word has a 1.
+/// Returns the first place, from `from` on, at which the word has a 1.
 fn first_one(word: u64, from: u32) -> Option<u32>
     requires { from < 64 }
     ensures some { IfSome result (λ r. (from ≤ r) × (r < 64) × (has_bit word r ≡ true)
@@ -47,7 +58,7 @@ fn first_one(word: u64, from: u32) -> Option<u32>
 }
 
 impl NumberSet {
-    /// The set of no number, which has room for those below 64 times `words`. An error is want of memory.
+    /// Returns an empty set with room for the numbers below 64 times `words`. Fails when out of memory.
     pub fn new(alloc: Global, words: usize) -> Result<NumberSet, AllocError>
         ensures none { IfOk result (λ s. (n : ℕ) → member s n ≡ false) }
         ensures room { IfOk result (λ s. room s ≡ 64 * words) }
@@ -59,7 +70,7 @@ impl NumberSet {
         Ok(set)
     }
 
-    /// The word that has the number's bit.
+    /// Returns the word that contains the number's bit.
     fn word(&self, number: u32) -> u64
         requires { number < room self.now }
         ensures { result ≡ get_or self.now (number / 64) 0 }
@@ -67,7 +78,7 @@ impl NumberSet {
         self.words[(number / WIDTH) as usize]
     }
 
-    /// Puts the number into the set.
+    /// Adds the number to the set.
     pub fn insert(&mut self, number: u32)
         requires { number < room self.old }
         ensures there { member self.new number ≡ true }
@@ -78,7 +89,7 @@ impl NumberSet {
         self.words[(number / WIDTH) as usize] = word;
     }
 
-    /// Takes the number out of the set.
+    /// Removes the number from the set.
     pub fn remove(&mut self, number: u32)
         requires { number < room self.old }
         ensures gone { member self.new number ≡ false }
@@ -89,7 +100,7 @@ impl NumberSet {
         self.words[(number / WIDTH) as usize] = word;
     }
 
-    /// The first number from `from` to below `end` that is in the set, or isn't: as `wanted` says.
+    /// Returns the first number from `from` to below `end` that is in the set, or, if `wanted` is false, that isn't.
     pub fn next(&self, wanted: bool, from: u32, end: u32) -> Option<u32>
         requires { end ≤ room self.now }
         ensures some { IfSome result (λ r. (from ≤ r) × (r < end) × (member self.now r ≡ wanted)

@@ -1,14 +1,14 @@
--- No number belongs to two.
+-- Every number belongs to at most one user.
 use Rattle.std.specs.Prelude.{ℕ, ◌≡◌}
 use Rattle.pid_blocks.specs.declared.Block.{Block}
 use Rattle.pid_blocks.specs.Users.{IsUser}
 use Rattle.pid_blocks.specs.Blocks.{InBlock}
 
--- the blocks of different users share no number
+-- the blocks of different users have no number in common
 abbrev pub IsApart : (ℕ → Block) → Type 0
 IsApart block = (u v n : ℕ) → IsUser u → IsUser v → InBlock (block u) n → InBlock (block v) n → u ≡ v
 
--- no user's block of the one kind shares a number with any user's block of the other
+-- no user's block of one kind has a number in common with any user's block of the other kind
 abbrev pub NeverMeet : (ℕ → Block) → (ℕ → Block) → Type 0
 NeverMeet block other = (u v n : ℕ) → IsUser u → IsUser v → InBlock (block u) n → ¬ InBlock (other v) n
 

@@ -7,7 +7,7 @@ ghost use Rattle.pid_blocks.specs.Search.{Decides};
 
 use crate::{Block, FIRST_PID, FIRST_TID, FIRST_USER, PIDS, TIDS, Uid};
 
-/// The process numbers of a user.
+/// Returns the block of a user's process numbers.
 pub fn pid_block(user: Uid) -> Block
     ensures block { result ≡ pid_block user }
     ensures user { IsUser user }
@@ -18,7 +18,7 @@ pub fn pid_block(user: Uid) -> Block
     }
 }
 
-/// The LWP numbers of a user.
+/// Returns the block of a user's LWP numbers.
 pub fn tid_block(user: Uid) -> Block
     ensures block { result ≡ tid_block user }
     ensures user { IsUser user }
@@ -29,7 +29,7 @@ pub fn tid_block(user: Uid) -> Block
     }
 }
 
-/// The user in whose block the process number lies; `None` where it lies in no user's block.
+/// Returns the user whose block contains the process number, or `None` if no user's block does.
 #[tactic(auto, unfolding(crate::specs::Blocks::pid_owner))]
 pub fn owner_of_pid(number: u32) -> Option<Uid>
     ensures owner { SomeIff result ((1000 ≤ number) × (number < 65000)) (pid_owner number) }
@@ -40,7 +40,7 @@ pub fn owner_of_pid(number: u32) -> Option<Uid>
     Uid::new(offset / PIDS + FIRST_USER).ok()
 }
 
-/// The user in whose block the LWP number lies; `None` where it lies in no user's block.
+/// Returns the user whose block contains the LWP number, or `None` if no user's block does.
 #[tactic(auto, unfolding(crate::specs::Blocks::tid_owner))]
 pub fn owner_of_tid(number: u32) -> Option<Uid>
     ensures owner { SomeIff result ((100000 ≤ number) × (number < 356000)) (tid_owner number) }
@@ -51,13 +51,13 @@ pub fn owner_of_tid(number: u32) -> Option<Uid>
     Uid::new(offset / TIDS + FIRST_USER).ok()
 }
 
-/// The first number that isn't taken, from the cursor to the block's end and then from the block's
-/// first number up to the cursor; `None` where all numbers of the block are taken.
+/// Returns the first number that isn't taken: from the cursor to the block's end, and then from the block's
+/// first number up to the cursor. Returns `None` if all numbers of the block are taken.
 pub fn next_free<F: Fn(u32) -> bool>(block: Block, cursor: u32, taken: F) -> Option<u32>
     requires fits { block.first + block.size < 2 ^ 32 }
     requires within { InBlock block cursor }
     requires callable { F.IsAlwaysCallable taken }
-    // the answer of the definition, for whatever test the closure decides on the block
+    // the result of the definition, for any test that the closure decides on the block
     ensures exact { (test : ℕ → Bool) → Decides (F.post taken) block.first (block.first + block.size) test → result ≡ next_free block cursor test }
     ensures home { IfSome result (InBlock block) }
     ensures free { IfSome result (λ n. F.post taken n false) }
@@ -69,7 +69,7 @@ pub fn next_free<F: Fn(u32) -> bool>(block: Block, cursor: u32, taken: F) -> Opt
     }
 }
 
-/// The first number from `from` to below `end` that isn't taken.
+/// Returns the first number from `from` to below `end` that isn't taken.
 fn first_free<F: Fn(u32) -> bool>(from: u32, end: u32, taken: &F) -> Option<u32>
     requires callable { F.IsAlwaysCallable taken.now }
     ensures exact { (test : ℕ → Bool) → Decides (F.post taken.now) from end test → result ≡ first_free test (end - from) from }
@@ -85,8 +85,8 @@ fn first_free<F: Fn(u32) -> bool>(from: u32, end: u32, taken: &F) -> Option<u32>
     None
 }
 
-/// Where the search for a free number begins after `number` was given: at the number after it, or
-/// at the block's first number after its last.
+/// Returns where the search for a free number begins after `number` was given out: at the next number, or
+/// at the block's first number after its last one.
 pub fn cursor_after(block: Block, number: u32) -> u32
     requires fits { block.first + block.size < 2 ^ 32 }
     ensures { result ≡ cursor_after block number }

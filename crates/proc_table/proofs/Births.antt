@@ -5,7 +5,7 @@ use Rattle.std.proofs.lemmas.Option.{same_Some}
 use Rattle.proc_table.specs.Links.{Node, IsLinked}
 use Rattle.proc_table.proofs.Linked.{key_node}
 
--- lists are told by what they see of each slot
+-- what lists see of each slot determines them
 pub IsLinked-same : (f g : ℕ → Option Node) → ((s : ℕ) → f s ≡ g s) → IsLinked f → IsLinked g
 IsLinked-same f g same linked = subst IsLinked (λ i s. same s i) linked
 

@@ -10,7 +10,7 @@ use Rattle.proc_table.proofs.Rows.{same_number, process_of-pid, process_of-map, 
 use Rattle.proc_table.proofs.Rising.{Lacks, none_above, AllAbove-lower}
 use Rattle.proc_table.proofs.Placed.{process_of-placed, placed-found}
 
--- a test of two numbers, with what it tells
+-- a test of two numbers, with what its result means
 pub equal_or_not : (a b : ℕ) → ((nat_eq a b ≡ true) × (a ≡ b)) ⊎ ((nat_eq a b ≡ false) × (a ≢ b))
 equal_or_not a b = eqb_tells a b
 
@@ -36,7 +36,7 @@ find-without pid ps n = elim (equal_or_not n pid) [
 pub find-placed : (new : ProcData) (ps : List ProcData) → Rise ps → Lacks new.pid ps → (n : ℕ) → process_of n (placed new ps) ≡ cond (nat_eq n new.pid) (Some new) (process_of n ps)
 find-placed new ps r lacks n = search (rules, equal_or_not, placed-found, process_of-placed)
 
--- rows in rising order are told by what each number finds
+-- what each number finds determines rows in rising order
 pub rising_same : (xs ys : List ProcData) → Rise xs → Rise ys → ((n : ℕ) → process_of n xs ≡ process_of n ys) → xs ≡ ys
 rising_same [] [] up vp same = refl
 rising_same [] (y ∷ ys) up vp same = absurd (cc (rw (same_number y.pid) at (same y.pid)))

@@ -1,4 +1,4 @@
--- What edits of an LWP's row keep, and the rows of a host that nobody has used.
+-- What edits of an LWP's row keep, and the rows of an unused host.
 use Rattle.std.proofs.Common.{◌≡◌, ℕ, true, false, [], ◌∷◌, ◌∙◌, arith, inl, inr, nat_eq}
 use Rattle.std.specs.Prelude.{not, IsSomeAnd, List, ◌++◌, length, get_or}
 use Rattle.std.specs.List.{AllByRecursion}

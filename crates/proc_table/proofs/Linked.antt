@@ -6,7 +6,7 @@ use Rattle.std.specs.Option.{option_map}
 use Rattle.proc_table.specs.Links.{Node, key_of, keys, IsNext, IsLinked, with_link, StandsAt, IsPlace}
 use Rattle.proc_table.proofs.Next.{IsHolder, added-elsewhere, added-here, added-own, added-other, removed-elsewhere, removed-here, removed-other}
 
--- a place finds the least member above the number that it stands at
+-- a place finds the least member above its number
 pub next_at : (f : ℕ → Option Node) → IsLinked f → (s t passed : ℕ) (at link : Option ℕ) (node : Node) → f s ≡ Some node → StandsAt at node t passed link → IsNext (keys f) t passed link
 next_at f linked s t passed None link node there stands = rw (← stands.0, stands.1, stands.2) (linked.heads s node there)
 next_at f linked s t passed (Some p) link node there stands = rw (stands.1, stands.2) (linked.links s node t there stands.0)
@@ -32,7 +32,8 @@ module _ (f z : ℕ → Option Node) (linked : IsLinked f) (t w q passed : ℕ) 
   pub before : (s : ℕ) (node : Node) → z s ≡ Some node → (old : Node) × (f s ≡ Some old) × (old.pid ≡ node.pid)
   before s node is = search (rules, cases_eq, same_Some, gets_w, key_with_link)
 
-  -- the lists' new facts: `elsewhere` at the lists of others, `other` at the other places of the list of t, and `here` at the place itself
+  -- the lists' new facts: `elsewhere` at the lists of others, `other` at the other places of the list of t, and `here`
+  -- at the place itself
   module _ (elsewhere : (u a : ℕ) (o : Option ℕ) → u ≢ t → IsNext (keys f) u a o → IsNext (keys z) u a o)
       (other : (b : ℕ) (o : Option ℕ) → IsHolder (keys f) t b → b ≢ passed → IsNext (keys f) t b o → IsNext (keys z) t b o)
       (here_is : IsNext (keys z) t passed fresh)
@@ -64,7 +65,7 @@ module _ (f z : ℕ → Option Node) (linked : IsLinked f) (t w q passed : ℕ) 
     next_here u None stands tracer = next_link w u nw has_w tracer (λ same. omega (arith, linked.above_zero w nw has_w, stands.1, same))
     next_here u (Some p) stands tracer = let same = same_Some u t (sym tracer ∙ stands.0) in rw (same, ← stands.1) here_is
 
-    -- a node with the pid that the place stands at is the place
+    -- the place is the only node with the pid at the place
     at_place : (s : ℕ) (old : Node) (o : Option ℕ) → StandsAt o nw t passed link → f s ≡ Some old → s ≢ w → old.pid ≢ passed
     at_place s old None stands there apart same = omega (arith, linked.above_zero s old there, stands.1, same)
     at_place s old (Some p) stands there apart same = apart (linked.apart s w old nw there has_w (same ∙ stands.1))

@@ -126,7 +126,7 @@ module _ (pid : ℕ) (f : LwpData → LwpData) (keeps : (l : LwpData) → (f l).
   pub walk-less : (k : LwpData) (ls : List LwpData) → Differ ls → IsLwp pid ls k → left_at (next_lwp pid k.tid (with_lwp (f k) ls)) (with_lwp (f k) ls) < left_from k.tid ls
   walk-less k ls d its = (walk-step k ls d its).1
 
--- where a walk stands: the rows with the LWPs from `at` on changed too are the rows `was` with all changed
+-- where a walk is: the rows with the LWPs from `at` on changed too are the rows `was` with all changed
 pub record IsWalking (pid : ℕ) (f : LwpData → LwpData) (at : Option LwpData) (rows was : Rows) : Type 0 where
   pub differ : Differ rows.lwps
   pub found : IfSome at (IsLwp pid rows.lwps)

@@ -6,7 +6,7 @@ use Rattle.proc_table.specs.Links.{IsNext}
 
 -- the members of lists: a slot has a pid and the number of its list
 module _ (m : ℕ → Option (ℕ × Option ℕ)) where
-  -- a number that a list's links stand at: its head's, or a member's pid
+  -- a number at a place of a list: its head's, or a member's pid
   abbrev pub IsHolder : ℕ → ℕ → Type 0
   IsHolder t a = (a ≡ 0) ⊎ ((j : ℕ) × (m j ≡ Some (a, Some t)))
 

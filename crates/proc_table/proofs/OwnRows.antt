@@ -1,4 +1,4 @@
--- A user's questions, where nobody else has rows.
+-- A user's queries, where no other user has rows.
 use Rattle.std.proofs.Common.{◌≡◌, ℕ, zero, suc, ◌+◌, ◌<◌, ◌≤◌, List, [], ◌∷◌, filter, find, Bool, true, false, cond, ◌&&◌, leb, ltb, if◌then◌else◌, Option, Some, None, refl, ap, ap₂, ◌∙◌, arith, nat_eq, rules}
 use Rattle.std.specs.Prelude.{count_by, get_or, option_map}
 use Rattle.std.specs.List.{AllByRecursion, list_any}
@@ -91,7 +91,7 @@ pub next_free-same : (b : Block) (cursor : ℕ) (taken other : ℕ → Bool) →
 next_free-same b cursor taken other i h = search (rules, ap₂, first_free-same)
 
 module _ (u : ℕ) (rows : Rows) (user : IsUser u) (kept : IsKept rows) where
-  -- who has a number of the user's block is the user's
+  -- a process with a number of the user's block is the user's
   at_home : (n : ℕ) → InBlock (pid_block u) n → (p : ProcData) → AtHome p → nat_eq p.pid n ≡ true → own u p ≡ true
   at_home n its p home is = search (rules, equal_or_not)
 

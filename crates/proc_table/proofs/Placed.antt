@@ -1,4 +1,4 @@
--- Where a new process stands among rising numbers.
+-- The place of a new process among rising numbers.
 use Rattle.std.proofs.Common.{◌≡◌, ℕ, ◌<◌, ◌≤◌, Bool, true, false, List, [], ◌∷◌, arith, refl, sym, ap, rules, inl, inr, nat_eq, Some, ◌⊎◌}
 use Rattle.std.specs.Prelude.{◌≢◌, filter, ltb}
 use Rattle.std.specs.List.{list_any, AllByRecursion}
@@ -37,7 +37,7 @@ placed-later p q qs less = rw (ltb-yes q.pid p.pid less, ltb-no p.pid q.pid (ome
 placed-first : (p : ProcData) (qs : List ProcData) → AllAbove p.pid qs → placed p qs ≡ p ∷ qs
 placed-first p qs all = search (rules, none_below, all_above)
 
--- a row either stands before the new one, or after it with all that follow
+-- a row comes before the new one, or after it with all that follow
 pub record Stands (p q : ProcData) (qs : List ProcData) : Type 0 where
   pub greater : p.pid < q.pid
   pub first : placed p (q ∷ qs) ≡ p ∷ (q ∷ qs)

@@ -47,7 +47,7 @@ pub none_above : (n m : ℕ) → m ≤ n → (ps : List ProcData) → AllAbove n
 none_above n m h [] a = refl
 none_above n m h (p ∷ ps) a = let no : nat_eq p.pid m ≡ false = other_number p.pid m (λ e. omega (arith, a.0, e)) in rw no (none_above n m h ps a.1)
 
--- who owns a process has the row with its number
+-- if a user owns a process, the row with its number is found and is the user's
 pub owned_found : (u n : ℕ) (ps : List ProcData) → Rise ps → list_any (λ p. nat_eq p.pid n && nat_eq p.uid u) ps ≡ true → (p : ProcData) × (process_of n ps ≡ Some p) × (p.uid ≡ u)
 owned_found u n [] r any = absurd (cc)
 owned_found u n (p ∷ ps) r any = elim (cases_Bool (nat_eq p.pid n)) [

@@ -261,11 +261,11 @@ tied-none f es vacant none =
       all.1,
     )
 
--- who a row names is a row
+-- each process that a row names is a row
 pub named-chiefs : (rows : Rows) (p : ProcData) → Named rows p → (k : Kin) (t : ℕ) → chief k p ≡ Some t → IsRow rows t
 named-chiefs rows p named = search (rules, each_kin, equal_or_not)
 
--- who has this parent names it, but for the number 1
+-- a row with this parent names it, unless the number is 1
 pub children_named : (n after : ℕ) → n ≢ 1 → (ps : List ProcData) → next_named Children n after ps ≡ next_child n after ps
 children_named n after apart [] = refl
 children_named n after apart (p ∷ ps) = search (rules, children_named n after apart ps, equal_or_not, nat_tests, cases_Bool)

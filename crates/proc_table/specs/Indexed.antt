@@ -5,7 +5,7 @@ use Rattle.proc_table.specs.Processes.{process_of}
 use Rattle.proc_table.specs.Rows.{Rows}
 use Rattle.proc_table.specs.Kept.{IsKept}
 
--- what the tables keep of their rows, and the numbers of processes, from 1000 on
+-- what the tables maintain of their rows and of the set of process numbers, counted from 1000
 pub record IsIndexed (pids : List ℕ) (rows : Rows) : Type 0 where
   pub kept : IsKept rows
   pub room : room pids ≡ 64000

@@ -1,4 +1,4 @@
--- What contracts see of the tables, the edits of rows, and what the tables always keep of them.
+-- What contracts see of the tables, the edits of rows, and what the tables always maintain.
 use Rattle.std.specs.Prelude.{◌≡◌, ◌≢◌, ℕ, ◌<◌, ◌==◌, true, not, List, [], ◌∷◌, Some, IfSome, filter, map, length, get_or, if◌then◌else◌}
 use Rattle.std.specs.List.{AllByRecursion}
 use Rattle.pid_blocks.specs.Users.{IsUser}
@@ -10,7 +10,7 @@ use Rattle.proc_table.specs.Processes.{process_of}
 use Rattle.proc_table.specs.Rows.{Rows}
 use Rattle.proc_table.specs.Fresh.{is_process}
 
--- what contracts see of the tables: the rows, and how many more fit with no memory
+-- what contracts see of the tables: the rows, and how many more fit without allocation
 pub record Table : Type 0 where
   pub rows : Rows
   pub spare_processes : ℕ
@@ -25,11 +25,11 @@ abbrev pub Rise : List ProcData → Type 0
 Rise [] = Unit {0}
 Rise (q ∷ qs) = AllAbove q.pid qs × Rise qs
 
--- the number is that of a row
+-- a row has the number
 abbrev pub IsRow : Rows → ℕ → Type 0
 IsRow rows n = is_process rows n ≡ true
 
--- a process of a user, with a number of the user's block
+-- a process of a user, with a number in the user's block
 pub record AtHome (p : ProcData) : Type 0 where
   pub user : IsUser p.uid
   pub block : InBlock (pid_block p.uid) p.pid
@@ -39,11 +39,11 @@ pub record Named (rows : Rows) (p : ProcData) : Type 0 where
   pub tracer : IfSome p.tracer (IsRow rows)
   pub parent : p.parent ≢ 1 → IsRow rows p.parent
 
--- the LWP's process is a row, and its number is of the block of that process's user
+-- the LWP's process is a row, and the LWP's number is in the block of that process's user
 abbrev pub Housed : Rows → LwpData → Type 0
 Housed rows l = (p : ProcData) × (process_of l.pid rows.processes ≡ Some p) × InBlock (tid_block p.uid) l.tid
 
--- what the tables keep of their rows
+-- what the tables maintain of their rows
 pub record IsKept (rows : Rows) : Type 0 where
   pub rising : Rise rows.processes
   pub differ : Differ rows.lwps
@@ -55,11 +55,11 @@ pub record IsKept (rows : Rows) : Type 0 where
   pub pid_cursors : (u : ℕ) → IsUser u → InBlock (pid_block u) (get_or rows.pid_cursors (slot u) 0)
   pub tid_cursors : (u : ℕ) → IsUser u → InBlock (tid_block u) (get_or rows.tid_cursors (slot u) 0)
 
--- a row, or the new one in the place of the one with its number
+-- the new row if it has the number of the old one, and else the old row
 abbrev pub put_process : ProcData → ProcData → ProcData
 put_process new p = if p.pid == new.pid then new else p
 
--- the rows with a new row in the place of the one with its number, and without the one with a number
+-- the rows with a new row in place of the one with its number, and the rows without the one with a number
 abbrev pub set_process : ProcData → Rows → Rows
 set_process new rows = record rows { processes = map (put_process new) rows.processes }
 

@@ -23,7 +23,7 @@ abbrev pub other : Kin → Kin
 other Tracees = Children
 other Children = Tracees
 
--- one for each kind
+-- one value for each kind
 abbrev pub pick : Kin → Option ℕ → Option ℕ → Option ℕ
 pick Tracees tracer parent = tracer
 pick Children tracer parent = parent
@@ -54,7 +54,7 @@ pub record IsLaced (nodes : ℕ → Option Slot) (es : List (ℕ × ℕ)) : Type
   pub linked : (kin : Kin) → IsLinked (lanes kin nodes)
   pub headed : (kin : Kin) (s : ℕ) (slot : Slot) (t : ℕ) → nodes s ≡ Some slot → (lane kin slot).chief ≡ Some t → (h : ℕ) × (lookup (nat_eq t) es ≡ Some h) × IsHead nodes h t
 
--- what is kept of the slots: rows, lists, and in whose lists the rows are
+-- what is maintained of the slots: the rows, the lists, and in whose lists the rows are
 pub record IsTied (nodes : ℕ → Option Slot) (es : List (ℕ × ℕ)) (counts : List ℕ) : Type 0 where
   pub slotted : IsSlotted (rows_of nodes) es counts
   pub laced : IsLaced nodes es
@@ -64,7 +64,7 @@ pub record IsTied (nodes : ℕ → Option Slot) (es : List (ℕ × ℕ)) (counts
 abbrev pub next_named : Kin → ℕ → ℕ → List ProcData → Option ProcData
 next_named kin n after processes = find (λ p. ltb after p.pid && is_this n (chief kin p)) processes
 
--- a row in no list, with none of its own
+-- a row in no list, whose own list is empty
 abbrev pub no_links : Links
 no_links = record { chief = None; first = None; next = None }
 

@@ -1,4 +1,4 @@
--- What the walks over processes give, and what a user's questions see of the rows.
+-- What the walks over processes return, and what a user's queries see of the rows.
 use Rattle.std.specs.Prelude.{◌≡◌, ℕ, ◌≤◌, ◌<◌, ◌==◌, Bool, true, false, List, Option, Some, None, filter}
 use Rattle.pid_blocks.specs.Users.{IsUser}
 use Rattle.proc_table.specs.declared.ProcData.{ProcData}
@@ -9,7 +9,7 @@ use Rattle.proc_table.specs.Walks.{next_of, next_tracee, next_child}
 use Rattle.proc_table.specs.Fresh.{process_count, lwp_count_of, fresh_pid, fresh_tid}
 use Rattle.proc_table.specs.Kept.{Rise, IsKept}
 
--- of the rows above a number that pass a test, the one with the least number
+-- p has the least number of the rows above a number that pass a test
 pub record IsLeast (test : ProcData → Bool) (after : ℕ) (processes : List ProcData) (p : ProcData) : Type 0 where
   pub row : process_of p.pid processes ≡ Some p
   pub above : after < p.pid
@@ -20,12 +20,12 @@ pub record IsLeast (test : ProcData → Bool) (after : ℕ) (processes : List Pr
 abbrev pub NonePasses : (ProcData → Bool) → ℕ → List ProcData → Type 0
 NonePasses test after processes = (q : ProcData) → process_of q.pid processes ≡ Some q → after < q.pid → test q ≡ false
 
--- an answer is that row, or none where no row passes
+-- the result is that row, or none if no row passes
 abbrev pub LeastOrNone : (ProcData → Bool) → ℕ → List ProcData → Option ProcData → Type 0
 LeastOrNone test after processes None = NonePasses test after processes
 LeastOrNone test after processes (Some p) = IsLeast test after processes p
 
--- so a walk answers, where the numbers rise
+-- a walk returns this result if the numbers rise
 abbrev pub GivesLeast : (ProcData → Bool) → (ℕ → List ProcData → Option ProcData) → Type 0
 GivesLeast test walk = (after : ℕ) (processes : List ProcData) → Rise processes → LeastOrNone test after processes (walk after processes)
 
@@ -38,18 +38,18 @@ NextTraceeLeast = (pid : ℕ) → GivesLeast (traces pid) (next_tracee pid)
 abbrev pub NextChildLeast : Type 0
 NextChildLeast = (pid : ℕ) → GivesLeast (λ p. p.parent == pid) (next_child pid)
 
--- the rows with a user's processes and their LWPs alone
+-- the rows of a user's processes and of their LWPs alone
 abbrev pub only_of : ℕ → Rows → Rows
 only_of u rows = record rows {
   processes = of_user u rows.processes;
   lwps = filter (λ l. owns u l.pid rows.processes) rows.lwps;
 }
 
--- a user's question has the same answer where nobody else has rows
+-- a user's query has the same result if no other user has rows
 abbrev pub SeesOwn : {A : Type 0} → (ℕ → Rows → A) → Type 0
 SeesOwn ask = (u : ℕ) (rows : Rows) → ask u (only_of u rows) ≡ ask u rows
 
--- and so it has for rows that the tables keep
+-- and so it does for rows that the tables maintain
 abbrev pub KeptSeesOwn : {A : Type 0} → (ℕ → Rows → A) → Type 0
 KeptSeesOwn ask = (u : ℕ) (rows : Rows) → IsUser u → IsKept rows → ask u (only_of u rows) ≡ ask u rows
 
@@ -68,6 +68,6 @@ NumberSeesOwn = (n : ℕ) → SeesOwn (λ u rows. find_seen u n rows)
 abbrev pub CountsSeeOwn : Type 0
 CountsSeeOwn = SeesOwn process_count × SeesOwn lwp_count_of
 
--- no number of a user's block is another user's
+-- no number of a user's block belongs to another user
 abbrev pub FreshSeesOwn : Type 0
 FreshSeesOwn = KeptSeesOwn fresh_pid × KeptSeesOwn fresh_tid

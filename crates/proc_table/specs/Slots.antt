@@ -1,4 +1,4 @@
--- How the rows of processes stand in slots: a slot for each number, and a row in each slot.
+-- How slots contain the rows of processes: a slot for each number, and a row in each slot.
 use Rattle.std.specs.Prelude.{◌≡◌, ℕ, zero, suc, ◌+◌, List, [], ◌==◌, Option, Some, nat_eq, count_by, get_or, refl}
 use Rattle.std.specs.List.{cons_option}
 use Rattle.std.specs.Option.{option_and_then}
@@ -8,17 +8,17 @@ use Rattle.pid_blocks.specs.Blocks.{slot}
 use Rattle.proc_table.specs.declared.ProcData.{ProcData}
 use Rattle.proc_table.specs.Kept.{AtHome}
 
--- what contracts see of the processes alone: the rows by rising number, and how many more fit with no memory
+-- what contracts see of the processes alone: the rows by rising number, and how many more fit without allocation
 pub record ProcRows : Type 0 where
   pub rows : List ProcData
   pub spare : ℕ
 
--- the rows that so many numbers find, from `first` on
+-- the rows that this many numbers find, starting at `first`
 abbrev pub listing : (ℕ → Option ProcData) → ℕ → ℕ → List ProcData
 listing f first zero = []
 listing f first (suc count) = cons_option (f first) (listing f (first + 1) count)
 
--- how many numbers all blocks have together. It does not unfold, so that no list of all numbers is ever computed
+-- how many numbers all blocks have together. It does not unfold, so no list of all numbers is ever computed
 pub pid_count : ℕ
 pid_count = 64000
 
@@ -34,16 +34,16 @@ all_rows f = listing f 1000 pid_count
 abbrev pub look : (ℕ → Option ProcData) → List (ℕ × ℕ) → ℕ → Option ProcData
 look slots es pid = option_and_then slots (lookup (nat_eq pid) es)
 
--- each number's slot has a row with the number, which is at home
+-- each number's slot contains the row with the number, which is at home
 pub record IsStored (slots : ℕ → Option ProcData) (es : List (ℕ × ℕ)) : Type 0 where
   pub named : (pid slot : ℕ) → lookup (nat_eq pid) es ≡ Some slot → (row : ProcData) × (slots slot ≡ Some row) × (row.pid ≡ pid)
   pub home : (pid : ℕ) (row : ProcData) → look slots es pid ≡ Some row → AtHome row
 
--- the count of each user's rows
+-- the number of each user's rows
 abbrev pub IsTally : List ℕ → List ProcData → Type 0
 IsTally counts rows = (u : ℕ) → IsUser u → get_or counts (slot u) 0 ≡ count_by (λ p. p.uid == u) rows
 
--- what is kept of the slots
+-- what is maintained of the slots
 pub record IsSlotted (slots : ℕ → Option ProcData) (es : List (ℕ × ℕ)) (counts : List ℕ) : Type 0 where
   pub stored : IsStored slots es
   pub tally : IsTally counts (all_rows (look slots es))

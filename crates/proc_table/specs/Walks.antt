@@ -1,9 +1,9 @@
--- Walks over processes: each gives the least greater number.
+-- Walks over processes: each step returns the least greater number.
 use Rattle.std.specs.Prelude.{ℕ, ◌==◌, ◌&&◌, ltb, List, Option, find}
 use Rattle.proc_table.specs.declared.ProcData.{ProcData}
 use Rattle.proc_table.specs.Processes.{traces}
 
--- the first process above a number: of a user, traced by a process, the child of one
+-- the first process above a number: of a user, traced by a process, or a child of one
 abbrev pub next_of : ℕ → ℕ → List ProcData → Option ProcData
 next_of u after processes = find (λ p. ltb after p.pid && (p.uid == u)) processes
 

@@ -1,4 +1,4 @@
-//! The slot of the row with a number. Numbers have hints, so that most are found with no use of the index.
+//! The slot of the row with a number. Hints find most slots without the index.
 
 ghost use Rattle.std.specs.Prelude.{◌≡◌, nat_eq};
 ghost use Rattle.std.specs.Map.{lookup};
@@ -10,7 +10,7 @@ use indexmap::IndexMap;
 use lwp_table::Hints;
 use slab::Slab;
 
-/// The slot of the row with this number.
+/// Returns the slot of the row with this number, if any.
 #[inline(always)]
 pub fn slot_of(
     nodes: &Slab<Slot>,
@@ -28,7 +28,7 @@ pub fn slot_of(
     }
 }
 
-/// The slot that the index has for this number.
+/// Returns the slot of this number in the index, if any.
 #[inline(never)]
 fn indexed(slots: &IndexMap<u32, usize>, number: u32) -> Option<usize>
     ensures { result ≡ lookup (nat_eq number) slots.now.entries }

@@ -2,8 +2,8 @@
 
 ghost use Rattle.proc_table.specs.Laws.{NextOfLeast, NextTraceeLeast, NextChildLeast, NextSeesOwn, ProcessSeesOwn, LwpSeesOwn, NumberSeesOwn, CountsSeeOwn, FreshSeesOwn};
 
-/// A walk over processes in rising order gives the one with the least number above the given one
-/// that passes the walk's test, and none where none passes.
+/// A walk over processes in rising order returns the row with the least number above the given one among
+/// those that pass the walk's test, and none if no row passes.
 #[tactic(auto, using(crate::proofs::Least::least_laws))]
 pub fn walks_give_the_least()
     ensures users { NextOfLeast }
@@ -11,7 +11,7 @@ pub fn walks_give_the_least()
     ensures children { NextChildLeast }
 {}
 
-/// A user's walk, look-ups, counts and new numbers are the same where nobody else has rows.
+/// A user's walk, look-ups, counts and new numbers are the same if no other user has rows.
 #[tactic(auto, using(crate::proofs::OwnRows::own_laws))]
 pub fn a_user_sees_own_rows()
     ensures walks { NextSeesOwn }

@@ -1,5 +1,5 @@
-//! The lists of each process's tracees and children. They run through the slots of the rows, in
-//! rising order of pid, so that a walk meets the rows of one list alone and a change takes no memory.
+//! The lists of each process's tracees and children. They run through the slots of the rows, in rising
+//! order of pid. A walk visits only the rows of one list, and a change allocates nothing.
 
 ghost use Rattle.std.specs.Prelude.{◌≡◌, ◌≢◌, ℕ, ◌<◌, ◌≤◌, Some, None, IsSomeAnd, unwrap_or, nat_eq};
 ghost use Rattle.std.specs.Option.{option_map};
@@ -12,21 +12,21 @@ use crate::ProcData;
 use indexmap::IndexMap;
 use slab::Slab;
 
-/// Rows that name a process: as their tracer, or as their parent.
+/// How rows name a process: as their tracer, or as their parent.
 #[derive(Clone, Copy, Debug, PartialEq, Eq, Drop)]
 pub enum Kin {
     Tracees,
     Children,
 }
 
-/// What a row's slot has of the lists of one kind.
+/// The links of a row's slot in the lists of one kind.
 #[derive(Clone, Copy, Debug, PartialEq, Eq, Drop)]
 pub struct Links {
-    /// The process whose list the row is in.
+    /// The process whose list contains the row.
     pub chief: Option<u32>,
     /// The slot of the first row of the process's own list.
     pub first: Option<usize>,
-    /// The slot of the row after it in the list that it is in.
+    /// The slot of the next row in the list that contains this one.
     pub next: Option<usize>,
 }
 
@@ -38,7 +38,7 @@ pub struct Slot {
     pub children: Links,
 }
 
-/// A place in a list: the head, or the row in the slot `at`, with the pid that it stands at and its link.
+/// A place in a list: the head, or the row in the slot `at`; with the pid at this place and its link.
 #[derive(Clone, Copy, Debug, PartialEq, Eq, Drop)]
 pub struct Place {
     pub at: Option<usize>,
@@ -47,7 +47,7 @@ pub struct Place {
 }
 
 impl Links {
-    /// In no list, with none of its own.
+    /// Returns the links of a row in no list, whose own list is empty.
     pub fn none() -> Links
         ensures { result ≡ record { chief = None; first = None; next = None } }
     {
@@ -59,7 +59,7 @@ impl Links {
     }
 }
 
-/// The links of one kind.
+/// Returns the links of one kind.
 pub fn links_of(kin: Kin, slot: &Slot) -> Links
     ensures { result ≡ links_in kin slot.now }
 {
@@ -69,7 +69,7 @@ pub fn links_of(kin: Kin, slot: &Slot) -> Links
     }
 }
 
-/// The slot with other links of one kind.
+/// Returns the slot with other links of one kind.
 fn with_links(kin: Kin, links: Links, slot: &Slot) -> Slot
     ensures { result ≡ put_links kin links slot.now }
 {
@@ -101,7 +101,7 @@ fn set_links(nodes: &mut Slab<Slot>, kin: Kin, at: usize, links: Links)
     nodes[at] = with_links(kin, links, &nodes[at]);
 }
 
-/// The last place before `pid` in the list of `chief`, whose head is in this slot.
+/// Returns the last place before `pid` in the list of `chief`, whose head is in this slot.
 pub fn place_before(nodes: &Slab<Slot>, kin: Kin, head: usize, chief: u32, pid: u32) -> Place
     requires linked { IsLinked (lanes kin (get nodes.now)) }
     requires there { IsHead (get nodes.now) head chief }
@@ -149,7 +149,7 @@ fn set_link(nodes: &mut Slab<Slot>, kin: Kin, head: usize, at: Option<usize>, li
     }
 }
 
-/// Writes in whose list a row is, and its link there.
+/// Writes whose list contains a row, and the row's link there.
 fn set_chief(nodes: &mut Slab<Slot>, kin: Kin, slot: usize, chief: Option<u32>, next: Option<usize>)
     requires { ContainsKey nodes.old slot }
     ensures here { (was : Slot) → get nodes.old slot ≡ Some was → lanes kin (get nodes.new) slot ≡ Some (record { pid = was.row.pid; chief = chief; first = (lane kin was).first; next = next }) }
@@ -165,7 +165,7 @@ fn set_chief(nodes: &mut Slab<Slot>, kin: Kin, slot: usize, chief: Option<u32>, 
     set_links(nodes, kin, slot, links);
 }
 
-/// Puts the row in `slot`, which is in no list, into the list of `chief`.
+/// Adds the row in `slot`, which is in no list, to the list of `chief`.
 fn link(nodes: &mut Slab<Slot>, kin: Kin, head: usize, chief: u32, slot: usize)
     requires linked { IsLinked (lanes kin (get nodes.old)) }
     requires there { IsHead (get nodes.old) head chief }
@@ -184,7 +184,7 @@ fn link(nodes: &mut Slab<Slot>, kin: Kin, head: usize, chief: u32, slot: usize)
     set_chief(nodes, kin, slot, Some(chief), place.link);
 }
 
-/// Takes the row in `slot` out of the list of `chief`.
+/// Removes the row in `slot` from the list of `chief`.
 fn unlink(nodes: &mut Slab<Slot>, kin: Kin, head: usize, chief: u32, slot: usize)
     requires linked { IsLinked (lanes kin (get nodes.old)) }
     requires there { IsHead (get nodes.old) head chief }
@@ -204,7 +204,7 @@ fn unlink(nodes: &mut Slab<Slot>, kin: Kin, head: usize, chief: u32, slot: usize
     set_chief(nodes, kin, slot, None, None);
 }
 
-/// Takes the row in `slot` out of the list that it is in, if any.
+/// Removes the row in `slot` from the list that contains it, if any.
 fn leave(nodes: &mut Slab<Slot>, slots: &IndexMap<u32, usize>, kin: Kin, slot: usize)
     requires laced { IsLaced (get nodes.old) slots.now.entries }
     requires there { ContainsKey nodes.old slot }
@@ -222,7 +222,7 @@ fn leave(nodes: &mut Slab<Slot>, slots: &IndexMap<u32, usize>, kin: Kin, slot: u
     }
 }
 
-/// Puts the row in `slot`, which is in no list, into the list of `chief`, if any.
+/// Adds the row in `slot`, which is in no list, to the list of `chief`, if any.
 fn join(
     nodes: &mut Slab<Slot>,
     slots: &IndexMap<u32, usize>,
@@ -247,7 +247,7 @@ fn join(
     }
 }
 
-/// Moves the row in `slot` out of the list that it is in, if any, into the list of `chief`, or into none.
+/// Moves the row in `slot` from the list that contains it, if any, to the list of `chief`, or to none.
 #[inline(never)]
 fn rehang(
     nodes: &mut Slab<Slot>,
@@ -271,7 +271,7 @@ fn rehang(
     join(nodes, slots, kin, slot, chief);
 }
 
-/// Moves the row in `slot` into the list of `chief`, or into none, if it isn't there. Takes no memory.
+/// Moves the row in `slot` to the list of `chief`, or to none, if it isn't there yet. Allocates nothing.
 #[inline(always)]
 pub fn relink(
     nodes: &mut Slab<Slot>,
@@ -296,7 +296,7 @@ pub fn relink(
     }
 }
 
-/// Moves the row in `slot` into the lists of its tracer and of its parent, or into none.
+/// Moves the row in `slot` to the lists of its tracer and of its parent, or to none.
 pub fn relink_both(
     nodes: &mut Slab<Slot>,
     slots: &IndexMap<u32, usize>,
@@ -318,7 +318,7 @@ pub fn relink_both(
     relink(nodes, slots, Kin::Children, slot, parent);
 }
 
-/// The slot of the first row above `after` in the list of `chief`: by the link of `after` where it is
+/// Returns the slot of the first row above `after` in the list of `chief`: by the link of `after` if that is
 /// in the list, and else by a walk of the list.
 pub fn next_slot(
     nodes: &Slab<Slot>,

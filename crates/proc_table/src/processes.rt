@@ -1,4 +1,4 @@
-//! The rows of processes, each found by its number, with the lists of each one's tracees and children.
+//! The rows of processes, each found by its number, with the lists of each process's tracees and children.
 
 ghost use Rattle.std.specs.Prelude.{◌≡◌, ℕ, ◌+◌, ◌<◌, ◌≤◌, ◌==◌, [], true, false, not, filter, map, count_by, option_map, option_copied, Some, None, IsSome, IsSomeAnd, OnOk};
 ghost use Rattle.std.specs.List.{list_any};
@@ -17,14 +17,14 @@ use slab::Slab;
 use std::alloc::{AllocError, Global};
 use std::marker::Model;
 
-/// The process whose list of tracees the row is in.
+/// Returns the process whose list of tracees contains the row.
 fn tracer_of(row: &ProcData) -> Option<u32>
     ensures { result ≡ row.now.tracer }
 {
     row.tracer.map(|tracer| tracer.get())
 }
 
-/// The process whose list of children the row is in. No row has the number 1.
+/// Returns the process whose list of children contains the row. No row has the number 1.
 fn parent_of(row: &ProcData) -> Option<u32>
     ensures { result ≡ parent_named row.now.parent }
 {
@@ -35,7 +35,7 @@ fn parent_of(row: &ProcData) -> Option<u32>
     }
 }
 
-/// The slot of a row that is in no list yet.
+/// Returns the slot of a row that is in no list yet.
 fn unlinked(row: ProcData) -> Slot
     ensures { result ≡ unlinked row }
 {
@@ -46,7 +46,7 @@ fn unlinked(row: ProcData) -> Slot
     }
 }
 
-/// The slot with another row.
+/// Returns the slot with another row.
 fn with_row(slot: &Slot, row: ProcData) -> Slot
     ensures { result ≡ record slot.now { row = row } }
 {
@@ -57,7 +57,7 @@ fn with_row(slot: &Slot, row: ProcData) -> Slot
     }
 }
 
-/// Process rows by rising number. Each stands in a slot, which its number finds.
+/// The rows of processes by rising number. Each is in a slot, which its number finds.
 #[derive(Drop)]
 pub struct Processes {
     nodes: Slab<Slot>,
@@ -83,8 +83,22 @@ impl Model for Processes {
     ghost invariant = { λ t. IsTied (get t.nodes) t.slots.entries t.counts };
 }
 
+impl Clone for Processes {
+    ghost is_clone = { λ processes copy. copy.rows ≡ processes.rows };
+
+    /// Returns a collection of the same rows. Its room may be another. Fails when out of memory.
+    fn clone(&self) -> Result<Processes, AllocError> {
+        Ok(Processes {
+            nodes: self.nodes.clone()?,
+            slots: self.slots.clone()?,
+            hints: self.hints.clone()?,
+            counts: self.counts,
+        })
+    }
+}
+
 impl Processes {
-    /// No process.
+    /// Returns an empty collection.
     pub fn new(alloc: Global, hints: Hints) -> Processes
         ensures { result.rows ≡ [] }
     {
@@ -97,8 +111,7 @@ impl Processes {
         }
     }
 
-    /// Makes room for `count` more rows. It is refused where memory is wanting, and leaves the rows
-    /// as they were.
+    /// Makes room for `count` more rows. Fails when out of memory, and then leaves the rows unchanged.
     pub fn reserve(&mut self, count: usize) -> Result<(), AllocError>
         ensures room { OnOk result (count ≤ self.new.spare) }
         ensures rows { self.new.rows ≡ self.old.rows }
@@ -108,7 +121,7 @@ impl Processes {
         self.slots.reserve(count)
     }
 
-    /// The row with this number.
+    /// Returns a reference to the row with this number, if any.
     #[inline(always)]
     #[tactic(auto, using(crate::proofs::Slots::find_laws))]
     pub fn find(&self, number: u32) -> Option<&ProcData>
@@ -118,21 +131,21 @@ impl Processes {
         Some(&self.nodes[slot].row)
     }
 
-    /// The row with this number.
+    /// Returns the row with this number, if any.
     pub fn get(&self, number: u32) -> Option<ProcData>
         ensures { result ≡ process_of number self.now.rows }
     {
         self.find(number).copied()
     }
 
-    /// The user of the row with this number.
+    /// Returns the user of the row with this number, if any.
     pub fn owner(&self, number: u32) -> Option<Uid>
         ensures { result ≡ option_map (λ p. p.uid) (process_of number self.now.rows) }
     {
         Some(self.find(number)?.uid)
     }
 
-    /// Whether a row has this number.
+    /// Tests whether a row has this number.
     #[tactic(auto, using(crate::proofs::Seen::has_row))]
     pub fn has(&self, number: u32) -> bool
         ensures { result ≡ list_any (λ p. p.pid == number) self.now.rows }
@@ -140,7 +153,7 @@ impl Processes {
         self.get(number).is_some()
     }
 
-    /// The first row above a number that names this process.
+    /// Returns the first row above a number that names this process.
     fn next_named(&self, kin: Kin, pid: Pid, after: u32) -> Option<ProcData>
         ensures { result ≡ next_named kin pid after self.now.rows }
     {
@@ -149,14 +162,14 @@ impl Processes {
         Some(self.nodes[slot].row)
     }
 
-    /// The first row above a number that this process traces.
+    /// Returns the first row above a number that this process traces.
     pub fn next_tracee(&self, pid: Pid, after: u32) -> Option<ProcData>
         ensures { result ≡ next_tracee pid after self.now.rows }
     {
         self.next_named(Kin::Tracees, pid, after)
     }
 
-    /// The first row above a number whose parent is this process.
+    /// Returns the first row above a number whose parent is this process.
     #[tactic(auto, using(crate::proofs::Tied::children_named))]
     pub fn next_child(&self, pid: Pid, after: u32) -> Option<ProcData>
         ensures { result ≡ next_child pid after self.now.rows }
@@ -165,14 +178,14 @@ impl Processes {
         self.next_named(Kin::Children, pid, after)
     }
 
-    /// How many rows the user has.
+    /// Returns the number of the user's rows.
     pub fn count(&self, uid: Uid) -> usize
         ensures { result ≡ count_by (λ p. p.uid == uid) self.now.rows }
     {
         self.counts[uid.slot()]
     }
 
-    /// Adds a row. Takes no memory.
+    /// Adds a row. Allocates nothing.
     pub fn add(&mut self, row: ProcData)
         requires room { 0 < self.old.spare }
         requires fresh { list_any (λ p. p.pid == row.pid) self.old.rows ≡ false }
@@ -190,8 +203,8 @@ impl Processes {
         self.counts[row.uid.slot()] += 1;
     }
 
-    /// Puts a row in the place of the one with its number, which is of the same user. It moves to
-    /// the lists of its tracer and parent. Takes no memory.
+    /// Replaces the row with the same number, which is of the same user. The new row moves to the lists of its
+    /// tracer and parent. Allocates nothing.
     pub fn set(&mut self, row: ProcData)
         requires there { IsSomeAnd (process_of row.pid self.old.rows) (λ was. was.uid ≡ row.uid) }
         requires named { (kin : Kin) (t : ℕ) → chief kin row ≡ Some t → list_any (λ p. p.pid == t) self.old.rows ≡ true }
@@ -209,7 +222,7 @@ impl Processes {
         self.nodes[slot] = with_row(&self.nodes[slot], row);
     }
 
-    /// Takes out the row with this number, which no row names.
+    /// Removes the row with this number, which no row names.
     pub fn remove(&mut self, pid: Pid)
         requires there { IsSome (process_of pid self.old.rows) }
         requires unnamed { (kin : Kin) → next_named kin pid 0 self.old.rows ≡ None }

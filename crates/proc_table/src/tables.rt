@@ -1,4 +1,4 @@
-//! The tables of a host: its processes and LWPs, and where the search for each user's next number begins.
+//! The tables of a host: its processes, its LWPs, and where the search for each user's next number begins.
 
 ghost use Rattle.std.specs.Prelude.{◌≡◌, ℕ, ◌+◌, ◌-◌, ◌*◌, ◌<◌, ◌≤◌, ◌^◌, ◌==◌, true, false, None, IsSome, IsSomeAnd, OnOk, IfOk, IfSome, count_by, ltb, length, get_or, map, option_map, slice_get};
 ghost use Rattle.pid_blocks.specs.Users.{IsUser};
@@ -20,14 +20,14 @@ use pid_blocks::{
 use std::alloc::{AllocError, Global};
 use std::marker::Model;
 
-/// How many words have a bit for each process number of all users.
+/// The number of words that have a bit for each process number of all users.
 const PID_WORDS: usize = 1000;
 
 /// The rows of processes and LWPs, and the users' cursors.
 #[derive(Drop)]
 pub struct Tables {
     processes: Processes,
-    /// The numbers that processes have, counted from the first one of all users.
+    /// The numbers of the processes, counted from the first one of all users.
     pids: NumberSet,
     lwps: LwpTable,
     pid_cursors: [u32; 64],
@@ -49,7 +49,23 @@ impl Model for Tables {
     ghost invariant = { λ t. IsIndexed t.pids (record { processes = t.processes.rows; lwps = t.lwps.rows; pid_cursors = t.pid_cursors; tid_cursors = t.tid_cursors }) };
 }
 
-/// Numbers that rise from the first one by steps, one for each user.
+impl Clone for Tables {
+    ghost is_clone = { λ tables copy. copy.rows ≡ tables.rows };
+
+    /// Returns tables of the same rows and cursors, which take as much memory. It takes the time of the most rows that
+    /// there were. The copy's room may be another. Fails when out of memory.
+    fn clone(&self) -> Result<Tables, AllocError> {
+        Ok(Tables {
+            processes: self.processes.clone()?,
+            pids: self.pids.clone()?,
+            lwps: self.lwps.clone()?,
+            pid_cursors: self.pid_cursors,
+            tid_cursors: self.tid_cursors,
+        })
+    }
+}
+
+/// Returns 64 numbers that rise from the first one by steps, one for each user.
 fn cursors(first: u32, step: u32) -> [u32; 64]
     requires { first + step * 64 < 2 ^ 32 }
     ensures { result ≡ map (λ u. first + step * slot u) users }
@@ -62,7 +78,7 @@ fn cursors(first: u32, step: u32) -> [u32; 64]
 }
 
 impl Tables {
-    /// The tables of a host that nobody has used.
+    /// Returns the tables of an unused host. Fails when out of memory.
     pub fn new(alloc: Global) -> Result<Tables, AllocError>
         ensures { IfOk result (λ tables. tables.rows ≡ no_rows) }
     {
@@ -76,7 +92,7 @@ impl Tables {
         })
     }
 
-    /// Makes room for more processes.
+    /// Makes room for `count` more processes. Fails when out of memory. The rows stay unchanged.
     pub fn reserve_process(&mut self, count: usize) -> Result<(), AllocError>
         ensures room { OnOk result (count ≤ self.new.spare_processes) }
         ensures rows { self.new.rows ≡ self.old.rows }
@@ -86,7 +102,7 @@ impl Tables {
         self.processes.reserve(count)
     }
 
-    /// Makes room for more LWPs.
+    /// Makes room for `count` more LWPs. Fails when out of memory. The rows stay unchanged.
     pub fn reserve_lwp(&mut self, count: usize) -> Result<(), AllocError>
         ensures room { OnOk result (count ≤ self.new.spare_lwps) }
         ensures rows { self.new.rows ≡ self.old.rows }
@@ -96,14 +112,14 @@ impl Tables {
         self.lwps.reserve(count)
     }
 
-    /// What the tables keep; for proofs.
+    /// States what the tables maintain, for proofs.
     pub fn kept(&self)
         ensures { IsKept self.now.rows }
     {
         let _ = &self.processes;
     }
 
-    /// The process with this number.
+    /// Returns the process with this number, if any.
     pub fn process(&self, pid: Pid) -> Option<ProcData>
         ensures row { result ≡ process_of pid self.now.rows.processes }
         ensures kept { IsKept self.now.rows }
@@ -111,7 +127,7 @@ impl Tables {
         self.numbered(pid.get())
     }
 
-    /// The process with this number, if it is one's.
+    /// Returns the process with this number, if any.
     pub fn numbered(&self, number: u32) -> Option<ProcData>
         ensures row { result ≡ process_of number self.now.rows.processes }
         ensures kept { IsKept self.now.rows }
@@ -119,7 +135,7 @@ impl Tables {
         self.processes.get(number)
     }
 
-    /// The LWP with this number.
+    /// Returns the LWP with this number, if any.
     pub fn lwp(&self, tid: Tid) -> Option<LwpData>
         ensures row { result ≡ lwp_of tid self.now.rows.lwps }
         ensures kept { IsKept self.now.rows }
@@ -127,7 +143,7 @@ impl Tables {
         self.lwps.get(tid)
     }
 
-    /// The oldest LWP of a process.
+    /// Returns the oldest LWP of a process, if any.
     pub fn first_lwp(&self, pid: Pid) -> Option<LwpData>
         ensures row { result ≡ first_lwp pid self.now.rows.lwps }
         ensures kept { IsKept self.now.rows }
@@ -135,7 +151,7 @@ impl Tables {
         self.lwps.first_of(pid)
     }
 
-    /// The LWP of a process that was born next after this one.
+    /// Returns the next LWP of a process by birth after this one, if any.
     pub fn next_lwp(&self, pid: Pid, after: Tid) -> Option<LwpData>
         requires { IsSomeAnd (lwp_of after self.now.rows.lwps) (λ l. l.pid ≡ pid) }
         ensures row { result ≡ next_lwp pid after self.now.rows.lwps }
@@ -144,7 +160,7 @@ impl Tables {
         self.lwps.next_of(pid, after)
     }
 
-    /// The LWP at this place by birth.
+    /// Returns the LWP at this place in order of birth, if any.
     pub fn lwp_at(&self, place: usize) -> Option<LwpData>
         ensures row { result ≡ slice_get self.now.rows.lwps place }
         ensures kept { IsKept self.now.rows }
@@ -152,7 +168,7 @@ impl Tables {
         self.lwps.at(place)
     }
 
-    /// The user's process with this number.
+    /// Returns the user's process with this number, if any.
     pub fn seen_process(&self, uid: Uid, number: u32) -> Option<ProcData>
         ensures row { result ≡ seen_process uid number self.now.rows }
         ensures kept { IsKept self.now.rows }
@@ -161,7 +177,7 @@ impl Tables {
         if row.uid == uid { Some(*row) } else { None }
     }
 
-    /// Whether the user has the process.
+    /// Tests whether the process is the user's.
     #[tactic(auto, using(crate::proofs::Seen::owner_laws))]
     fn owns(&self, uid: Uid, pid: Pid) -> bool
         ensures { result ≡ owns uid pid self.now.rows.processes }
@@ -169,7 +185,7 @@ impl Tables {
         self.processes.owner(pid.get()) == Some(uid)
     }
 
-    /// The LWP with this number, of a process of the user.
+    /// Returns the LWP with this number if its process is the user's.
     #[tactic(auto, using(crate::proofs::Seen::home_laws))]
     pub fn seen_lwp(&self, uid: Uid, number: u32) -> Option<LwpData>
         ensures row { result ≡ seen_lwp uid number self.now.rows }
@@ -182,7 +198,7 @@ impl Tables {
         self.lwps.get(Tid::new(number)?)
     }
 
-    /// The number, where it is that of one of the user's processes.
+    /// Returns the number if it is that of one of the user's processes.
     fn seen_pid(&self, uid: Uid, number: u32) -> Option<Pid>
         ensures { result ≡ option_map (λ p. p.pid) (seen_process uid number self.now.rows) }
     {
@@ -191,7 +207,7 @@ impl Tables {
         if self.owns(uid, pid) { Some(pid) } else { None }
     }
 
-    /// The process of the user's LWP with this number.
+    /// Returns the process of the user's LWP with this number, if any.
     #[tactic(auto, using(crate::proofs::Seen::home_laws))]
     fn seen_lwp_pid(&self, uid: Uid, number: u32) -> Option<Pid>
         ensures { result ≡ option_map (λ l. l.pid) (seen_lwp uid number self.now.rows) }
@@ -200,7 +216,8 @@ impl Tables {
         if self.owns(uid, pid) { Some(pid) } else { None }
     }
 
-    /// The process that a number names for the user: up to 99999 its own number, above that of one of its LWPs.
+    /// Returns the user's process that a number names: up to 99999 by its own number, and above that by one of its
+    /// LWPs' numbers.
     pub fn find_seen(&self, uid: Uid, number: u32) -> Option<Pid>
         ensures seen { result ≡ find_seen uid number self.now.rows }
         ensures kept { IsKept self.now.rows }
@@ -213,7 +230,7 @@ impl Tables {
         }
     }
 
-    /// The user's first process above a number.
+    /// Returns the user's first process above a number, if any.
     pub fn next_of(&self, uid: Uid, after: u32) -> Option<ProcData>
         ensures row { result ≡ next_of uid after self.now.rows.processes }
         ensures kept { IsKept self.now.rows }
@@ -226,7 +243,7 @@ impl Tables {
         self.processes.get(FIRST_PID + place)
     }
 
-    /// The first process above a number that this one traces.
+    /// Returns the first process above a number that this process traces, if any.
     pub fn next_tracee(&self, pid: Pid, after: u32) -> Option<ProcData>
         ensures row { result ≡ next_tracee pid after self.now.rows.processes }
         ensures kept { IsKept self.now.rows }
@@ -234,7 +251,7 @@ impl Tables {
         self.processes.next_tracee(pid, after)
     }
 
-    /// The first process above a number whose parent is this one.
+    /// Returns the first process above a number whose parent is this process, if any.
     pub fn next_child(&self, pid: Pid, after: u32) -> Option<ProcData>
         ensures row { result ≡ next_child pid after self.now.rows.processes }
         ensures kept { IsKept self.now.rows }
@@ -242,7 +259,7 @@ impl Tables {
         self.processes.next_child(pid, after)
     }
 
-    /// How many processes the user has.
+    /// Returns the number of the user's processes.
     pub fn process_count(&self, uid: Uid) -> usize
         ensures count { result ≡ process_count uid self.now.rows }
         ensures kept { IsKept self.now.rows }
@@ -250,7 +267,7 @@ impl Tables {
         self.processes.count(uid)
     }
 
-    /// How many LWPs the user has.
+    /// Returns the number of the user's LWPs.
     pub fn lwp_count_of(&self, uid: Uid) -> usize
         ensures count { result ≡ lwp_count_of uid self.now.rows }
         ensures kept { IsKept self.now.rows }
@@ -258,7 +275,7 @@ impl Tables {
         self.lwps.user_count(uid)
     }
 
-    /// How many LWPs a process has.
+    /// Returns the number of a process's LWPs.
     pub fn lwp_count(&self, pid: Pid) -> usize
         ensures count { result ≡ lwp_count pid self.now.rows }
         ensures kept { IsKept self.now.rows }
@@ -266,7 +283,7 @@ impl Tables {
         self.lwps.count(pid)
     }
 
-    /// Where the search for the user's next process number begins.
+    /// Returns where the search for the user's next process number begins.
     pub fn pid_cursor(&self, uid: Uid) -> u32
         ensures cursor { result ≡ get_or self.now.rows.pid_cursors (slot uid) 0 }
         ensures kept { IsKept self.now.rows }
@@ -274,7 +291,7 @@ impl Tables {
         self.pid_cursors[uid.slot()]
     }
 
-    /// Where the search for the user's next LWP number begins.
+    /// Returns where the search for the user's next LWP number begins.
     pub fn tid_cursor(&self, uid: Uid) -> u32
         ensures cursor { result ≡ get_or self.now.rows.tid_cursors (slot uid) 0 }
         ensures kept { IsKept self.now.rows }
@@ -282,7 +299,7 @@ impl Tables {
         self.tid_cursors[uid.slot()]
     }
 
-    /// The process of the LWP with this number.
+    /// Returns the process of the LWP with this number, if any.
     #[tactic(auto, using(crate::proofs::Seen::home_laws))]
     fn lwp_process(&self, number: u32) -> Option<Pid>
         ensures process { result ≡ option_map (λ l. l.pid) (lwp_of number self.now.rows.lwps) }
@@ -293,14 +310,14 @@ impl Tables {
         self.lwps.process(tid)
     }
 
-    /// Whether a process has the number.
+    /// Tests whether a process has the number.
     fn is_process(&self, number: u32) -> bool
         ensures { result ≡ is_process self.now.rows number }
     {
         self.processes.has(number)
     }
 
-    /// Whether an LWP has the number.
+    /// Tests whether an LWP has the number.
     #[tactic(auto, using(crate::proofs::Seen::has_laws))]
     fn is_lwp(&self, number: u32) -> bool
         ensures { result ≡ is_lwp self.now.rows number }
@@ -308,7 +325,7 @@ impl Tables {
         self.lwp_process(number).is_some()
     }
 
-    /// The number of the user's next row.
+    /// Returns the number for the user's next process, or `None` if all of the user's process numbers are taken.
     pub fn fresh_pid(&self, uid: Uid) -> Option<Pid>
         ensures free { result ≡ fresh_pid uid self.now.rows }
         ensures home { IfSome result (λ n. InBlock (pid_block uid) n) }
@@ -320,7 +337,7 @@ impl Tables {
         Pid::new(number)
     }
 
-    /// The number of the user's next row.
+    /// Returns the number for the user's next LWP, or `None` if all of the user's LWP numbers are taken.
     pub fn fresh_tid(&self, uid: Uid) -> Option<Tid>
         ensures free { result ≡ fresh_tid uid self.now.rows }
         ensures home { IfSome result (λ n. InBlock (tid_block uid) n) }
@@ -332,7 +349,7 @@ impl Tables {
         Tid::new(number)
     }
 
-    /// Adds a process. Takes no memory.
+    /// Adds a process. Allocates nothing.
     pub fn add_process(&mut self, row: ProcData)
         requires room { 0 < self.old.spare_processes }
         requires fresh { is_process self.old.rows row.pid ≡ false }
@@ -348,7 +365,7 @@ impl Tables {
         self.processes.add(row);
     }
 
-    /// Adds an LWP of a process of the user. Takes no memory.
+    /// Adds an LWP of a process of the user. Allocates nothing.
     pub fn add_lwp(&mut self, uid: Uid, row: LwpData)
         requires room { 0 < self.old.spare_lwps }
         requires fresh { is_lwp self.old.rows row.tid ≡ false }
@@ -363,7 +380,7 @@ impl Tables {
         self.lwps.add(row);
     }
 
-    /// Puts a row in the place of the one with its number, which is of the same user.
+    /// Replaces the row with the same number, which is of the same user.
     pub fn set_process(&mut self, row: ProcData)
         requires there { IsSomeAnd (process_of row.pid self.old.rows.processes) (λ was. was.uid ≡ row.uid) }
         requires named { Named self.old.rows row }
@@ -374,7 +391,7 @@ impl Tables {
         self.processes.set(row);
     }
 
-    /// Puts a row in the place of the one with its number, which is of the same process.
+    /// Replaces the row with the same number, which is of the same process.
     #[tactic(auto, using(crate::proofs::KeepsLwps::keeps_set_lwp))]
     pub fn set_lwp(&mut self, row: LwpData)
         requires { IsSomeAnd (lwp_of row.tid self.old.rows.lwps) (λ was. was.pid ≡ row.pid) }
@@ -385,7 +402,7 @@ impl Tables {
         self.lwps.set(row);
     }
 
-    /// Takes out a process that no row names.
+    /// Removes a process that no row names.
     pub fn remove_process(&mut self, pid: Pid)
         requires there { IsRow self.old.rows pid }
         requires tracees { next_tracee pid 0 self.old.rows.processes ≡ None }
@@ -399,7 +416,7 @@ impl Tables {
         self.processes.remove(pid);
     }
 
-    /// Takes an LWP out.
+    /// Removes an LWP.
     pub fn remove_lwp(&mut self, tid: Tid)
         requires { IsSome (lwp_of tid self.old.rows.lwps) }
         ensures rows { self.new.rows ≡ drop_lwp tid self.old.rows }

@@ -1,4 +1,4 @@
--- The end of a process that has no LWP, that no row names and for which nobody waits: its own row, and the one who collects it.
+-- The end of a process without LWPs that no row names and no LWP waits for: its own row, and its collector's.
 use Rattle.std.proofs.Common.{◌≡◌, ℕ, List, [], ◌∷◌, Bool, true, false, not, ◌&&◌, ◌||◌, ◌==◌, if◌then◌else◌, Option, Some, None, is_none, refl, sym, ap, ◌∙◌, eqb-true, rules, option_map}
 use Rattle.std.proofs.Math.Bool.{or-false}
 use Rattle.trace_stop.proofs.Words.{AllByRecursion, list_any, SIGKILL, LwpData, ProcData, process_of, is_live, is_this, traces, Rows, Rise, set_process, drop_process, notified, unless, holds_of}
@@ -79,7 +79,7 @@ module _ (q w : ℕ) (rows : Rows) (rise : Rise rows.processes) (v : IsLeaving q
   abbrev t : ℕ → Bool
   t = told (alone q) q w rows
 
-  -- who is told
+  -- the notified process
   told_them : (x : ℕ) → t x ≡ told_by p.tracer p.parent x
   told_them x =
       told-is (alone q) q w rows x
@@ -128,7 +128,7 @@ module _ (q w : ℕ) (rows : Rows) (rise : Rise rows.processes) (v : IsLeaving q
       ∙ ap (λ k. Some (notified_lwp t (moved (alone q) r) k)) (released_none (alone q) r l (sym (waits_alone q l) ∙ h.waits))
       ∙ ap Some (notified_lwp-moved (alone q) t r l)
 
-  -- nobody collects it
+  -- no process collects it
   pub buried_out : option_map collector (uncollected p) ≡ None → drop_process q rows ≡ end_alone q w rows
   buried_out none =
       drop_each q rows
@@ -147,7 +147,7 @@ module _ (q w : ℕ) (rows : Rows) (rise : Rise rows.processes) (v : IsLeaving q
       row r h true same = sym (ap ended (h.one (eqb-true r.pid q same)) ∙ of_own ∙ gone-true (dead w p) (collector_none p none))
       row r h false other = sym (of_other r h other ∙ ap Some (told-miss t r (nobody r.pid)))
 
-  -- somebody does
+  -- some process collects it
   pub buried_told : (m : ℕ) → option_map collector (uncollected p) ≡ Some m → notified (m ∷ []) (set_process (dead w p) rows) ≡ end_alone q w rows
   buried_told m some =
       set_tell q (dead w) m rows p (λ r. refl) rise at (eqb-true p.pid q p_row.1)

@@ -1,4 +1,4 @@
--- Who ends with a process.
+-- The processes that end with a process.
 use Rattle.std.proofs.Math.Bool.{and-false, and-true, or-false}
 use Rattle.trace_stop.proofs.Words.{nat_tests, AllByRecursion, list_any, SIGTRAP, bit, ProcData, process_of, is_live, is_this, traces, reporting, Rows, each, Rise, notified, detached, untraced}
 use Rattle.trace_stop.proofs.Words.{is_live_of, IsLiveOf, Linked, Stands}

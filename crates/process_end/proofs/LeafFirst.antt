@@ -30,7 +30,7 @@ turned_lwp_keeps over p status told r l = search (rules, fallen, lwp_keeps, noti
 
 -- The end as one edit
 
--- whether x is told
+-- whether x is notified
 unfoldable pub told : (ℕ → Bool) → ℕ → ℕ → Rows → ℕ → Bool
 told over p status rows x = list_any (λ n. n == x) (filter_map (notifies_of (fallen over) over p status) rows.processes)
 
@@ -53,7 +53,7 @@ pub Told-from : (ps : List ProcData) (over t : ℕ → Bool) → ((x : ℕ) → 
 Told-from ps over t h r own = grind (arith, nat_tests)
 
 module _ (rows : Rows) (d : ℕ → Bool) (p q status : ℕ) (dq : d q ≡ true) (qp : (q == p) ≡ false) (rise : Rise rows.processes) (ready : AllByRecursion (Ready rows.processes d q) rows.processes) where
-  -- who is told at q's end, at both at once, and at the end of p after that of q
+  -- the processes notified at q's end, at both ends at once, and at the end of p after that of q
   abbrev pub first : ℕ → Bool
   first = told (alone q) q SIGKILL rows
 

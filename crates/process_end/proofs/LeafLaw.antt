@@ -1,4 +1,4 @@
--- Who is doomed before a process that traces no live one has ended, and after.
+-- The processes that are doomed before and after the end of a process without live tracees.
 use Rattle.trace_stop.proofs.Words.{nat_tests, option_and_then, AllByRecursion, list_any, SIGKILL, SIGTRAP, bit, ProcData, process_of, is_live, is_this, traces, reporting, Rows, Rise, detached}
 use Rattle.trace_stop.proofs.Words.{IsLiveOf, Linked, Standing, Stands, WithOwner}
 use Rattle.std.proofs.Common.{◌≡◌, ℕ, zero, suc, List, filter_map, Bool, true, false, not, ◌&&◌, ◌||◌, ◌==◌, if◌then◌else◌, Option, Some, None, IfSome, refl, sym, ap, ◌∙◌, eqb, true≢false, eqb-true, eq-eqb, subst, arith, rules, is_some}
@@ -89,7 +89,7 @@ unfolding alone
 alone-false q n e = e
 
 module _ (settings : Settings) (rows : Rows) (p : ℕ) (s : Stands rows) where
-  -- who is doomed and isn't p is live and has a chain to p
+  -- a doomed process other than p is live and has a chain to p
   pub doomed_chained : (r : ProcData) (n : ℕ) → r.pid ≡ n → (n == p) ≡ false → is_doomed settings rows.processes p r ≡ true → (is_live r ≡ true) × (meets 250 rows.processes p n ≡ true)
   doomed_chained r n same other is = search (rules, eqb, and_right, and_left)
 

@@ -1,4 +1,4 @@
--- Who lives on after the end of a process that traces no live one, and that they are fewer.
+-- The processes that live on after the end of a process without live tracees: there are fewer than before.
 use Rattle.trace_stop.proofs.Words.{nat_tests, option_and_then, AllByRecursion, list_any, ProcData, process_of, is_live, Rows, each, Stands, is_live_at, end, process_after}
 use Rattle.std.proofs.Common.{◌≡◌, ℕ, ◌+◌, ◌<◌, ◌≤◌, List, [], ◌∷◌, filter_map, Bool, true, false, not, ◌&&◌, ◌==◌, Option, Some, None, refl, sym, ap, ◌∙◌, arith, true≢false, eqb-true, subst, count_by, rules}
 use Rattle.trace_stop.specs.declared.Settings.{Settings}
@@ -35,7 +35,7 @@ any_counts t (r ∷ ps) is = let all = count-cons t r ps in grind (arith, nat_te
 and_swap : (a b : Bool) → (a && b) ≡ true → (b && a) ≡ true
 and_swap a b h = grind (arith, nat_tests)
 
--- where only the row with a number passes no more
+-- if only the row with this number no longer passes
 pub one_fewer : (t : ProcData → Bool) (f : ProcData → Option ProcData) (n : ℕ) (ps : List ProcData) → AllByRecursion (λ r. passes t (f r) ≡ (t r && not (r.pid == n))) ps
     → list_any (λ r. (r.pid == n) && t r) ps ≡ true → count_by t (filter_map f ps) < count_by t ps
 one_fewer t f n ps all is =
@@ -44,7 +44,7 @@ one_fewer t f n ps all is =
     let one = any_counts (λ r. t r && (r.pid == n)) ps (any_more (λ r. (r.pid == n) && t r) (λ r. t r && (r.pid == n)) (λ r. and_swap (r.pid == n) (t r)) ps is) in
     omega (arith, kept, split, one)
 
--- who ends lives no more, and each other row is as live as it was
+-- a process that ends is no longer live, and each other row is as live as it was
 told_alive : (t : ℕ → Bool) (o : Option ProcData) → passes is_live (option_and_then (λ s. Some (notified_row t s)) o) ≡ passes is_live o
 told_alive t None = refl
 told_alive t (Some r) = told-live t r

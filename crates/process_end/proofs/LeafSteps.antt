@@ -46,7 +46,7 @@ module _ (q n : ℕ) (rows : Rows) (v : IsLeaving q rows) (rise : Rise rows.proc
         (each_row EndsAs (λ r h same. (ap (option_and_then (turned (alone q) q w t)) same, λ live l. ap (by_owner (turned_lwp (alone q) q w t) l) same))
         (λ h. ends (subst (λ k. Told (alone q) k z) (sym is) (Told-of q rows v (told (alone q) q w rows) (told_alive q rows v w) z h)))))
 
--- A zombie whom nobody would collect, taken out
+-- A zombie that no process would collect, removed
 
 module _ (q n : ℕ) (rows : Rows) (v : IsLeaving q rows) (rise : Rise rows.processes) (z : ProcData) (at : process_of n rows.processes ≡ Some z)
     (ended : is_live z ≡ false) (gone : is_gone (orphaned (alone q) z) ≡ true) where

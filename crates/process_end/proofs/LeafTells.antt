@@ -1,4 +1,4 @@
--- A zombie taken from its tracer, which ends, and its parent told of it: the tracer's end is as it was.
+-- A zombie is taken from its tracer, which ends, and its parent is notified: the tracer's end is as it was.
 use Rattle.trace_stop.proofs.Words.{nat_tests, AllByRecursion, list_any, LwpData, ProcData, process_of, is_live, is_this, traces, Rows, each, Rise, unless, orphaned, uncollected, released}
 use Rattle.std.proofs.Common.{◌≡◌, ℕ, Bool, true, false, ◌&&◌, ◌||◌, ◌==◌, if◌then◌else◌, Option, Some, None, IfSome, refl, sym, ap, ◌∙◌, true≢false, eqb-true, eq-eqb, arith, rules}
 use Rattle.std.proofs.Math.Bool.{or-false, or_comm}
@@ -15,7 +15,7 @@ use Rattle.trace_stop.proofs.Found.{any_by_number}
 use Rattle.process_end.proofs.Leaving.{Fit, leaving_each, Ends, stepped, told_after, told_alive, Told-of, put_tell, put_tell_lwp, put_keeps}
 use Rattle.std.proofs.lemmas.Bool.{or_parts}
 
--- What one who is told keeps
+-- What a notified process keeps
 
 module _ (t : ℕ → Bool) (r : ProcData) where
   pub told_fits : (alive : ℕ → Bool) (q : ℕ) → LeavingRow alive q r → LeavingRow alive q (notified_row t r)
@@ -38,7 +38,7 @@ unfolding alone
 unless_this q None is = refl
 unless_this q (Some t) is = ap (λ b. if b then None else Some t) is
 
--- An LWP of a process that lives on, which may be told first
+-- An LWP of a process that lives on, which may be notified first
 lwp_later : (over : ℕ → Bool) (t1 t3 t2 : ℕ → Bool) (r : ProcData) (l : LwpData) → t2 r.pid ≡ (t1 r.pid || t3 r.pid)
     → notified_lwp t3 (moved over (notified_row t1 r)) (released over (notified_row t1 r) (notified_lwp t1 r l)) ≡ notified_lwp t2 (moved over r) (released over r l)
 lwp_later over t1 t3 t2 r l told = search (rules, told, released-told, notified_lwp, released_told, notified_lwp-moved, notified_row, notified_lwp-told, told_lwp_twice)
@@ -112,7 +112,7 @@ module _ (q n : ℕ) (rows : Rows) (v : IsLeaving q rows) (rise : Rise rows.proc
     abbrev after : ℕ → Bool
     after = told (alone q) q w (each untold untold_lwp rows)
 
-    -- the parent is told first, and no more later for this zombie
+    -- the parent is notified first, and not again for this zombie
     z_tells : (x : ℕ) → tells (alone q) x z ≡ alone m x
     unfolding tells told_by alone
     z_tells x = grind (arith, nat_tests, ended, traced, parent, other)

@@ -1,4 +1,4 @@
--- Down the tracees of a process that ends stands one that traces no live process.
+-- Among the tracees below a process that ends, there is one without live tracees.
 use Rattle.trace_stop.proofs.Words.{nat_tests, ProcData, process_of, is_live, is_this, traces, Rows, Stands}
 use Rattle.std.proofs.Common.{◌≡◌, ℕ, zero, suc, ◌+◌, ◌<◌, length, Bool, true, false, ◌&&◌, ◌||◌, ◌==◌, Option, Some, None, refl, sym, ap, ◌∙◌, arith, true≢false, eqb-true, subst, rules}
 use Rattle.trace_stop.specs.declared.Settings.{Settings}

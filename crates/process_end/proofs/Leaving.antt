@@ -49,7 +49,7 @@ module _ (q : ℕ) (rows : Rows) (v : IsLeaving q rows) where
       (λ l h r at. let own = find_some (λ x. x.pid == l.pid) (LeavingRow v.alive q) rows.processes v.processes r at in own.0.lives ∙ ap v.alive (eqb-true r.pid l.pid own.1) ∙ h.lives)
       rows.lwps v.lwps
 
-  -- who is told lives, and is another
+  -- a notified process lives, and isn't q
   pub named_alive : (r : ProcData) (x : ℕ) → LeavingRow v.alive q r → Names r x → v.alive x ≡ true
   named_alive r x h names = search (rules, eqb-true, eq-eqb)
 
@@ -58,7 +58,7 @@ module _ (q : ℕ) (rows : Rows) (v : IsLeaving q rows) where
       any_holds (tells (alone q) x) (LeavingRow v.alive q) ((alone q x ≡ false) × (v.alive x ≡ true))
       (λ r h e. let k = tells-names (alone q) x r e in (k.0, named_alive r x h k.1)) rows.processes v.processes (sym (told-is (alone q) q w rows x) ∙ is)
 
-  -- so a row that is told lives, and isn't q's
+  -- so a notified row lives, and isn't q's
   pub Told-of : (t : ℕ → Bool) → ((x : ℕ) → t x ≡ true → (alone q x ≡ false) × (v.alive x ≡ true)) → (r : ProcData) → LeavingRow v.alive q r → Told (alone q) t r
   Told-of t h r own = search (rules, by_bool)
 
@@ -84,7 +84,7 @@ leaving_each q rows v f h lwp fits = record {
 
 module _ (q w : ℕ) (rows : Rows) (v : IsLeaving q rows) (rise : Rise rows.processes) (f : ProcData → Option ProcData) (h : ProcData → LwpData → Option LwpData)
     (keeps : KeepsNumbers f) (owners : KeepsOwners h) (v' : IsLeaving q (each f h rows)) where
-  -- a row and its LWPs end as before, by these who are told after and before the edit
+  -- a row and its LWPs end as before, with the processes notified after and before the edit
   abbrev pub Ends : (ℕ → Bool) → (ℕ → Bool) → ProcData → Type 0
   Ends after before r =
       (option_and_then (turned (alone q) q w after) (f r) ≡ turned (alone q) q w before r)
@@ -100,7 +100,7 @@ module _ (q w : ℕ) (rows : Rows) (v : IsLeaving q rows) (rise : Rise rows.proc
       ∙ each_agree _ (turned (alone q) q w (told (alone q) q w rows)) _ (turned_lwp (alone q) q w (told (alone q) q w rows)) rows all (live_owners q rows v)
       ∙ sym (end_alone_turned q w rows rise (live_q q rows v))
 
-  -- where the same are told
+  -- if the same processes are notified
   pub stepped_same : ((x : ℕ) → AllByRecursion (λ r. passes (tells (alone q) x) (f r) ≡ tells (alone q) x r) rows.processes)
       → AllByRecursion (Ends (told (alone q) q w rows) (told (alone q) q w rows)) rows.processes → end_alone q w (each f h rows) ≡ end_alone q w rows
   stepped_same same all = stepped (subst (λ t. AllByRecursion (Ends t (told (alone q) q w rows)) rows.processes) (sym alike) all)

@@ -18,7 +18,7 @@ left_row chosen lost r = Some (if chosen r then untraced (lost r) r else r)
 abbrev pub left_lwp : (ProcData → Bool) → (ProcData → ℕ) → ProcData → LwpData → Option LwpData
 left_lwp chosen lost r l = if chosen r then option_map (untraced_lwp (lost r) r) (reported r l) else Some l
 
--- one process's set may be given by itself
+-- one process's set may be given separately
 pub left_by : (rows : Rows) (n c : ℕ) (lost : ProcData → ℕ) (p : ProcData) → Rise rows.processes → process_of n rows.processes ≡ Some p → c ≡ lost p
     → detached (is_numbered n) (λ r. c) rows ≡ detached (is_numbered n) lost rows
 left_by rows n c lost p rise at is =

@@ -18,7 +18,7 @@ use Rattle.process_end.proofs.LeafTells.{untrace, unless_this, untold_leaving, u
 use Rattle.process_end.proofs.LeafLives.{one_fewer}
 use Rattle.process_end.proofs.Unnamed.{its_row, out_passes, orphan_passes, untold_passes, none_edited}
 
--- Who collects
+-- The collector
 
 pub collector_none : (z : ProcData) → option_map collector (uncollected z) ≡ None → is_gone z ≡ true
 collector_none z none = grind (arith, nat_tests, none)

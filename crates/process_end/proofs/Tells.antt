@@ -1,4 +1,4 @@
--- Who is told of an end, when a process that is doomed and traces no live one ends before the process that dooms it.
+-- The notified processes, when a doomed process without live tracees ends before the process that dooms it.
 use Rattle.std.proofs.Common.{◌≡◌, ℕ, Bool, true, false, not, ◌&&◌, ◌||◌, ◌==◌, if◌then◌else◌, Option, Some, None, option_map, ap, ◌⊎◌, arith, rules}
 use Rattle.trace_stop.proofs.Words.{nat_tests, SIGKILL, ProcData, is_live, is_this, unless, holds_of, uncollected, collector, notifies_of}
 use Rattle.trace_stop.proofs.Every.{and_right}
@@ -6,12 +6,12 @@ use Rattle.trace_stop.proofs.Passes.{passes}
 use Rattle.process_end.proofs.Turned.{heard, moved, fallen, notified_row, turned, turned-safe}
 use Rattle.process_end.proofs.Twice.{alone, rest, Told, parent_twice, tracer_once}
 
--- whether a zombie with this tracer and parent tells x
+-- whether x is notified of a zombie with this tracer and parent
 unfoldable pub told_by : Option ℕ → ℕ → ℕ → Bool
 told_by None parent x = not (parent == 1) && (parent == x)
 told_by (Some t) parent x = t == x
 
--- whether the row tells somebody: one that ends, and a zombie whose tracer ends
+-- whether a process is notified of the row: of one that ends, and of a zombie whose tracer ends
 abbrev pub tells_any : (ℕ → Bool) → ProcData → Bool
 tells_any over r = fallen over r || (not (is_live r) && holds_of over r.tracer)
 
@@ -19,7 +19,7 @@ tells_any over r = fallen over r || (not (is_live r) && holds_of over r.tracer)
 abbrev pub parent_after : (ℕ → Bool) → ℕ → ℕ
 parent_after over n = if over n then 1 else n
 
--- whether the row tells x
+-- whether x is notified of the row
 unfoldable pub tells : (ℕ → Bool) → ℕ → ProcData → Bool
 tells over x r = tells_any over r && told_by (unless over r.tracer) (parent_after over r.parent) x
 
@@ -27,7 +27,7 @@ collected : (z : ProcData) (x : ℕ) → passes (λ n. n == x) (option_map colle
 unfolding told_by
 collected z x = grind (arith, nat_tests)
 
--- the definition of who is told, by this test
+-- the definition of the notified processes, by this test
 pub tells-is : (over : ℕ → Bool) (p status x : ℕ) (r : ProcData) → passes (λ n. n == x) (notifies_of (fallen over) over p status r) ≡ tells over x r
 unfolding tells
 tells-is over p status x r = search (rules, passes, fallen, collected)
@@ -36,7 +36,7 @@ pub tells-value : (over : ℕ → Bool) (x : ℕ) (r : ProcData) (b : Bool) → 
 unfolding tells
 tells-value over x r b e = ap (λ c. c && told_by (unless over r.tracer) (parent_after over r.parent) x) e
 
--- who is told doesn't end, and the row names it
+-- a notified process doesn't end, and the row names it
 pub record Names (r : ProcData) (x : ℕ) : Type 0 where
   pub names : (is_this x r.tracer ≡ true) ⊎ (((r.parent == x) ≡ true) × ((r.parent == 1) ≡ false))
 
@@ -49,11 +49,11 @@ unfolding tells
 tells-names over x r is = told_by-names over x r (and_right (tells_any over r) _ is)
 
 module _ (d : ℕ → Bool) (q : ℕ) (dq : d q ≡ true) (x : ℕ) (r : ProcData) (free : is_live r ≡ true → holds_of (alone q) r.tracer ≡ false) (t1 : ℕ → Bool) (k1 : Told (alone q) t1 r) where
-  -- what r tells at the end of p, once q has ended
+  -- whether x is notified of r at the end of p, after q has ended
   abbrev third : Bool
   third = passes (tells (rest d q) x) (turned (alone q) q SIGKILL t1 r)
 
-  -- whom r tells once all of d have ended
+  -- whether x is notified of r after all of d have ended
   abbrev whom : Bool
   whom = told_by (unless d r.tracer) (parent_after d r.parent) x
 
@@ -69,7 +69,7 @@ module _ (d : ℕ → Bool) (q : ℕ) (dq : d q ≡ true) (x : ℕ) (r : ProcDat
   unfolding turned notified_row moved alone rest heard tells told_by
   third-zombie ended = grind (arith, nat_tests, k1.dead, dq)
 
-  -- whom p's end tells then, it would have told at once
+  -- if p's end notifies x then, it would have notified x at once
   pub third-whom : third ≡ true → whom ≡ true
   third-whom is = search (rules, alone, and_right, third-same, third-moved, third-zombie)
 
@@ -85,6 +85,6 @@ module _ (d : ℕ → Bool) (q : ℕ) (dq : d q ≡ true) (x : ℕ) (r : ProcDat
   unfolding turned notified_row moved alone rest heard tells told_by
   twice-zombie safe ended = grind (arith, nat_tests, k1.dead, dq)
 
-  -- who lives on is told by r at q's end or at p's, if at all
+  -- a process that lives on is notified of r at q's end or at p's, if at all
   pub tells_twice : d x ≡ false → (is_live r ≡ true → alone q r.pid ≡ true → holds_of d r.tracer ≡ true) → tells d x r ≡ (tells (alone q) x r || third)
   tells_twice safe traced = search (rules, alone, twice-same, twice-moved, twice-zombie)

@@ -1,4 +1,4 @@
--- What the end of a process makes of each row, with those who are told of it.
+-- What the end of a process makes of each row, including the rows that are notified of it.
 use Rattle.std.proofs.Common.{◌≡◌, ℕ, Bool, true, false, ◌&&◌, ◌==◌, if◌then◌else◌, Option, Some, None, is_none, refl, ap, arith, bit_or, rules}
 use Rattle.trace_stop.proofs.Words.{option_and_then, without, SIGKILL, SIGCHLD, ProcData, LwpData, is_live, by_owner, unwanted, posted_process, posted_lwp, orphaned, dead, uncollected, process_after}
 use Rattle.trace_stop.proofs.Words.{released, lwp_after}
@@ -33,14 +33,14 @@ moved over p = record p { parent = if over p.parent then 1 else p.parent }
 abbrev pub fallen : (ℕ → Bool) → ProcData → Bool
 fallen over p = is_live p && over p.pid
 
--- a row told of it, where it is
+-- a row that is notified of the end, if it is among those
 unfoldable pub notified_row : (ℕ → Bool) → ProcData → ProcData
 notified_row told p = if told p.pid then heard p else p
 
 unfoldable pub notified_lwp : (ℕ → Bool) → ProcData → LwpData → LwpData
 notified_lwp told p l = if told p.pid then heard_lwp p l else l
 
--- a row after the end, and after those who are told were told; and an LWP of it
+-- a row after the end and the notifications; and an LWP of it
 unfoldable pub turned : (ℕ → Bool) → ℕ → ℕ → (ℕ → Bool) → ProcData → Option ProcData
 turned over p status told r = option_and_then (λ s. Some (notified_row told s)) (process_after (fallen over) over p status r)
 
@@ -56,7 +56,7 @@ pub notified_lwp-miss : (told : ℕ → Bool) (p : ProcData) (l : LwpData) → t
 unfolding notified_lwp
 notified_lwp-miss told p l is = rw is refl
 
--- a zombie that nobody collects
+-- a zombie that no process collects
 abbrev pub is_gone : ProcData → Bool
 is_gone z = is_none z.tracer && (z.parent == 1)
 

@@ -69,12 +69,12 @@ pub moved_twice : (d : ℕ → Bool) (q : ℕ) → d q ≡ true → (r : ProcDat
 unfolding moved
 moved_twice d q dq r = ap (λ n. record r { parent = n }) (parent_twice d q dq r.parent)
 
--- told by one end and by the next
+-- notified by one end and by the next
 pub told_twice : (over : ℕ → Bool) (t1 t3 t2 : ℕ → Bool) (m m' : ProcData) → moved over m ≡ m' → t2 m'.pid ≡ (t1 m.pid || t3 m.pid) → notified_row t3 (moved over (notified_row t1 m)) ≡ notified_row t2 m'
 unfolding notified_row
 told_twice over t1 t3 t2 m m' same told = grind (arith, nat_tests, moved_heard, heard-pid, heard_twice, moved-pid)
 
--- the facts on one row: q traces no live process, and who is told is a live process that doesn't end
+-- the facts on one row: a notified process is live and doesn't end
 pub record Told (d : ℕ → Bool) (told : ℕ → Bool) (r : ProcData) : Type 0 where
   pub dead : is_live r ≡ false → told r.pid ≡ false
   pub falls : d r.pid ≡ true → told r.pid ≡ false
@@ -106,7 +106,7 @@ module _ (d : ℕ → Bool) (p q status : ℕ) (r : ProcData) (dq : d q ≡ true
   unfolding notified_row moved heard
   fallen_left live w v same = let once = tracer_once d q dq r.tracer (free live) in let parent = parent_twice d q dq r.parent in grind (arith, same, once, parent)
 
-  -- q's end told it or not, it ends with p
+  -- whether or not q's end notified it, it ends with p
   twice-other : is_live r ≡ true → alone q r.pid ≡ false → d r.pid ≡ true → Goal
   twice-other live other doomed = rw (turned-safe (alone q) q SIGKILL t1 r live other, turned-fallen d p status t2 r live doomed (k2.falls doomed))
       (turned-fallen (rest d q) p status t3 left (left-live ∙ live) (ap (rest d q) left-pid ∙ rest-other d q r.pid other ∙ doomed) (ap t3 left-pid ∙ k3.falls doomed)

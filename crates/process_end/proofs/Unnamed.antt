@@ -44,7 +44,7 @@ module _ (q : ℕ) (rows : Rows) (kept : IsKept rows) (v : IsLeaving q rows) (z 
   pub zombie-lwps : first_lwp z.pid rows.lwps ≡ None
   zombie-lwps = find_none _ rows.lwps (All-imply (LeavingLwp v.alive q) _ (λ l h. by_bool (l.pid == z.pid) (λ is. true≢false (sym h.lives ∙ ap v.alive (eqb-true l.pid z.pid is) ∙ dead))) rows.lwps v.lwps)
 
--- The process that ends, once nobody names it
+-- The process that ends, once no row names it
 
 pub unnamed : (t : ProcData → Bool) (ps : List ProcData) → list_any t ps ≡ false → find (λ p. ltb 0 p.pid && t p) ps ≡ None
 unnamed t ps none = find_none _ ps (All-imply _ _ (λ r e. ap (λ b. ltb 0 r.pid && b) e ∙ and-false (ltb 0 r.pid)) ps (none_of t ps none))

@@ -1,4 +1,4 @@
--- The way down the tracees of a process that ends, where a debugger's end kills, and where it spares them.
+-- From a process that ends down to its tracees, where a debugger's end kills and where it detaches.
 use Rattle.std.specs.Prelude.{◌≡◌, ℕ, Bool, true, false, ltb, ◌==◌, ◌&&◌, ◌||◌, Option, Some, None}
 use Rattle.std.specs.List.{list_any}
 use Rattle.proc_table.specs.declared.ProcData.{ProcData}
@@ -14,20 +14,20 @@ kills = record { kill_on_debugger_exit = true }
 abbrev pub spares : Settings
 spares = record { kill_on_debugger_exit = false }
 
--- the signals that the tracee whose row a number finds loses when its debugger ends
+-- the signals that a tracee loses when its debugger ends, by the tracee's row
 abbrev pub lost_at : Option ProcData → ℕ
 lost_at None = 0
 lost_at (Some p) = lost_signals p
 
--- whether the process numbered n traces a live one above a number
+-- whether the process numbered n traces a live process with a number above this one
 abbrev pub traces_live_above : ℕ → ℕ → Rows → Bool
 traces_live_above number n rows = list_any (λ r. ltb number r.pid && (is_live r && traces n r)) rows.processes
 
--- the process numbered t lives, and the one numbered n traces it
+-- the process numbered t is live, and the one numbered n traces it
 pub record IsLiveTracee (n : ℕ) (rows : Rows) (t : ℕ) : Type 0 where
   pub live : is_live_at t rows ≡ true
   pub link : tracer_of rows.processes t ≡ Some n
 
--- n is p, or ends with p
+-- n is p, or the process n ends with p
 abbrev pub EndsToo : ℕ → Rows → ℕ → Type 0
 EndsToo p rows n = ((n == p) || dooms kills rows.processes p n) ≡ true

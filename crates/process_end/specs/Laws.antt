@@ -1,4 +1,4 @@
--- The end of a process, taken apart into ends of processes that trace no live one.
+-- The end of a process as a sequence of ends of processes without live tracees.
 use Rattle.std.specs.Prelude.{◌≡◌, ◌<◌, ℕ, Bool, true, false, ◌==◌, ◌&&◌, ◌||◌, Some, not, count_by}
 use Rattle.std.specs.List.{list_any}
 use Rattle.signals.specs.Table.{SIGKILL}
@@ -19,50 +19,50 @@ traces_live q rows = list_any (λ r. is_live r && traces q r) rows.processes
 abbrev pub end_alone : ℕ → ℕ → Rows → Rows
 end_alone q status rows = end_each (λ r. r.pid == q) (λ n. n == q) q status rows
 
--- a process that traces no live one ends alone
+-- a process without live tracees ends alone
 abbrev pub LeafEnd : Type 0
 LeafEnd = (settings : Settings) (rows : Rows) (q status : ℕ) → settings.kill_on_debugger_exit ≡ true → Stands rows
     → is_process rows q ≡ true → traces_live q rows ≡ false → end settings q status rows ≡ end_alone q status rows
 
--- and so does one whose tracees are detached
+-- and so does a process whose tracees are detached
 abbrev pub DetachedEnd : Type 0
 DetachedEnd = (settings : Settings) (rows : Rows) (q status : ℕ) → settings.kill_on_debugger_exit ≡ false
     → is_process rows q ≡ true → end settings q status rows ≡ end_alone q status (left_alone settings q rows)
 
--- where a debugger's end kills, the processes that end with p may end before it, each once it traces no live one
+-- where a debugger's end kills, a process that ends with p can end before p, once it has no live tracee
 abbrev pub LeafLaw : Type 0
 LeafLaw = (settings : Settings) (rows : Rows) (p q status : ℕ) → settings.kill_on_debugger_exit ≡ true → Stands rows
     → (q == p) ≡ false → dooms settings rows.processes p q ≡ true → traces_live q rows ≡ false
     → end settings p status rows ≡ end settings p status (end settings q SIGKILL rows)
 
--- a live tracee of p, or of one that ends with p, is another and ends with p
+-- a live tracee of p, or of a process that ends with p, is not p, and ends with p
 abbrev pub TraceeDoomed : Type 0
 TraceeDoomed = (settings : Settings) (rows : Rows) (p x : ℕ) (y : ProcData) → settings.kill_on_debugger_exit ≡ true → Stands rows
     → ((x == p) || dooms settings rows.processes p x) ≡ true
     → process_of y.pid rows.processes ≡ Some y → (is_live y && traces x y) ≡ true
     → ((y.pid == p) ≡ false) × (dooms settings rows.processes p y.pid ≡ true)
 
--- of the others that end with p, one traces no live process
+-- if other processes end with p, one of them traces no live process
 abbrev pub LeafExists : Type 0
 LeafExists = (settings : Settings) (rows : Rows) (p x : ℕ) → settings.kill_on_debugger_exit ≡ true → Stands rows
     → (x == p) ≡ false → dooms settings rows.processes p x ≡ true
     → (q : ℕ) × ((q == p) ≡ false) × (dooms settings rows.processes p q ≡ true) × (traces_live q rows ≡ false)
 
--- After the end of a live process q that traces no live one, where a debugger's end kills
+-- After the end of a live process q without live tracees, where a debugger's end kills
 
--- all who lived but q live
+-- all processes that were live are live, except q
 abbrev pub LeafLives : Type 0
 LeafLives = (settings : Settings) (rows : Rows) (q status n : ℕ) → settings.kill_on_debugger_exit ≡ true → Stands rows
     → is_live_at q rows ≡ true → traces_live q rows ≡ false
     → is_live_at n (end settings q status rows) ≡ (is_live_at n rows && not (n == q))
 
--- so there are fewer
+-- so fewer processes are live
 abbrev pub LeafFewer : Type 0
 LeafFewer = (settings : Settings) (rows : Rows) (q status : ℕ) → settings.kill_on_debugger_exit ≡ true → Stands rows
     → is_live_at q rows ≡ true → traces_live q rows ≡ false
     → count_by is_live (end settings q status rows).processes < count_by is_live rows.processes
 
--- and all who were to end with p but q are still to end with it
+-- and all processes that were to end with p, except q, are still to end with it
 abbrev pub LeafDooms : Type 0
 LeafDooms = (settings : Settings) (rows : Rows) (p q n : ℕ) → settings.kill_on_debugger_exit ≡ true → Stands rows
     → (q == p) ≡ false → dooms settings rows.processes p q ≡ true → traces_live q rows ≡ false

@@ -1,4 +1,4 @@
--- The rows while a process that traces no live one ends, once its LWPs are gone and nobody waits for it.
+-- The rows during the end of a process without live tracees, after its LWPs are gone and no LWP waits for it.
 use Rattle.std.specs.Prelude.{◌≡◌, ◌≢◌, ℕ, Bool, true, false, ◌==◌, ◌&&◌, not, IfSome, filter, is_none}
 use Rattle.std.specs.List.{AllByRecursion}
 use Rattle.lwp_table.specs.declared.LwpData.{LwpData}
@@ -12,11 +12,11 @@ use Rattle.trace_stop.specs.Sound.{is_live_at}
 abbrev pub without_lwps : ℕ → Rows → Rows
 without_lwps pid rows = record rows { lwps = filter (λ l. not (l.pid == pid)) rows.lwps }
 
--- the rows with the LWPs of q gone, and the waits for q over
+-- the rows after the LWPs of q are gone and the waits for q are over
 abbrev pub lwps_ended : ℕ → Rows → Rows
 lwps_ended q rows = edit_lwps (λ l. by_owner (lwp_after (λ r. r.pid == q) (λ n. n == q)) l (owner rows l)) rows
 
--- a row names live processes, is no live tracee of q, and somebody collects it
+-- a row names live processes, is no live tracee of q, and has a tracer or a parent that collects it
 pub record LeavingRow (alive : ℕ → Bool) (q : ℕ) (r : ProcData) : Type 0 where
   pub lives : is_live r ≡ alive r.pid
   pub tracer : IfSome r.tracer (λ t. alive t ≡ true)
@@ -24,13 +24,13 @@ pub record LeavingRow (alive : ℕ → Bool) (q : ℕ) (r : ProcData) : Type 0 w
   pub free : is_live r ≡ true → traces q r ≡ false
   pub left : is_live r ≡ false → (is_none r.tracer && (r.parent == 1)) ≡ false
 
--- an LWP is another live process's, and doesn't wait for q
+-- an LWP belongs to another live process, and doesn't wait for q
 pub record LeavingLwp (alive : ℕ → Bool) (q : ℕ) (l : LwpData) : Type 0 where
   pub lives : alive l.pid ≡ true
   pub other : (l.pid == q) ≡ false
   pub waits : waits_where (λ n. n == q) l.mode ≡ false
 
--- q is to end; `alive` tells the numbers of live processes
+-- q is about to end; `alive` tests for the numbers of live processes
 pub record IsLeaving (q : ℕ) (rows : Rows) : Type 0 where
   pub alive : ℕ → Bool
   pub here : is_live_at q rows ≡ true

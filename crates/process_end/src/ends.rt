@@ -1,4 +1,4 @@
-//! The end of a process, and of those that end with it.
+//! The end of a process, and of the processes that end with it.
 
 ghost use Rattle.std.specs.Prelude.{◌≡◌, ℕ, ◌==◌, ◌||◌, true, false, MatchOption};
 ghost use Rattle.proc_table.specs.Processes.{process_of};
@@ -17,7 +17,7 @@ use proc_table::{State, Tables};
 use signals::{SigSet, Signal};
 use trace_stop::{Settings, untrace};
 
-/// A live process above a number that this one traces.
+/// Returns a live process above a number that this process traces, if any.
 fn live_tracee_above(tables: &Tables, pid: Pid, number: u32) -> Option<Pid>
     ensures { MatchOption result (traces_live_above number pid tables.now.rows ≡ false) (IsLiveTracee pid tables.now.rows) }
 {
@@ -31,7 +31,7 @@ fn live_tracee_above(tables: &Tables, pid: Pid, number: u32) -> Option<Pid>
     None
 }
 
-/// A live process that this one traces, one above the number `passed` where there is one.
+/// Returns a live process that this one traces, if any: one above the number `passed` if there is one.
 fn live_tracee(tables: &Tables, pid: Pid, passed: u32) -> Option<Pid>
     requires { IsSound tables.now.rows }
     ensures { MatchOption result (traces_live pid tables.now.rows ≡ false) (IsLiveTracee pid tables.now.rows) }
@@ -42,8 +42,8 @@ fn live_tracee(tables: &Tables, pid: Pid, passed: u32) -> Option<Pid>
     }
 }
 
-/// The process itself or one down its tracees, which traces no live process. Its own tracees up to
-/// the number `passed` are looked at last.
+/// Returns the process itself or a process further down its tracees: one without live tracees. Of its own
+/// tracees, those up to the number `passed` come last.
 fn leaf_below(tables: &Tables, from: Pid, passed: u32) -> Pid
     requires { IsSound tables.now.rows }
     ensures leaf { traces_live result tables.now.rows ≡ false }
@@ -58,8 +58,8 @@ fn leaf_below(tables: &Tables, from: Pid, passed: u32) -> Pid
     at
 }
 
-/// The tracer of a process.
-fn tracer_of(tables: &Tables, pid: Pid) -> Option<Pid>
+/// Returns the tracer of the process with this number, if there is such a process and it has one.
+pub fn tracer_of(tables: &Tables, pid: Pid) -> Option<Pid>
     ensures { result ≡ tracer_of tables.now.rows.processes pid }
 {
     match tables.process(pid) {
@@ -68,7 +68,7 @@ fn tracer_of(tables: &Tables, pid: Pid) -> Option<Pid>
     }
 }
 
-/// Ends a process and its live tracees, theirs and so on, each before its tracer. Takes no memory.
+/// Ends a process, its live tracees, their live tracees and so on, each before its tracer. Allocates nothing.
 fn end_with_tracees(tables: &mut Tables, pid: Pid, status: u32)
     requires sound { IsSound tables.old.rows }
     requires live { is_live_at pid tables.old.rows ≡ true }
@@ -91,7 +91,7 @@ fn end_with_tracees(tables: &mut Tables, pid: Pid, status: u32)
     }
 }
 
-/// The signals that a tracee loses when its debugger ends: SIGTRAP, where it is in a trace stop.
+/// Returns the signals that a tracee loses when its debugger ends: SIGTRAP if the tracee is in a trace stop.
 fn lost_signals(tables: &Tables, tracee: Pid) -> SigSet
     ensures { result ≡ lost_at (process_of tracee tables.now.rows.processes) }
 {
@@ -126,9 +126,9 @@ fn leave_tracees(tables: &mut Tables, pid: Pid)
     }
 }
 
-/// Ends a process with the word of a wait status, as _exit(2) and a signal's default action do. Its
-/// live tracees end with it by SIGKILL, theirs too and so on, where the settings say so, and else
-/// they are detached. Takes no memory.
+/// Ends a process with the word of a wait status, as _exit(2) and a signal's default action do. If the settings
+/// kill on a debugger's end, SIGKILL ends its live tracees, their live tracees and so on. If not, its live
+/// tracees are detached. Allocates nothing.
 pub fn end(tables: &mut Tables, settings: Settings, pid: Pid, status: u32)
     requires sound { IsSound tables.old.rows }
     requires live { is_live_at pid tables.old.rows ≡ true }

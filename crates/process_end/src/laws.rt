@@ -2,7 +2,7 @@
 
 ghost use Rattle.process_end.specs.Laws.{LeafEnd, DetachedEnd, LeafLaw, TraceeDoomed, LeafExists, LeafLives, LeafFewer, LeafDooms, EndSound};
 
-/// A process that traces no live one ends alone.
+/// A process without live tracees ends alone.
 pub fn leaf_end()
     ensures { LeafEnd }
 {}
@@ -12,32 +12,35 @@ pub fn detached_end()
     ensures { DetachedEnd }
 {}
 
-/// Where a debugger's end kills, the end of a process is that of a tracee of its, one that traces no live process, and then its own.
+/// Where a debugger's end kills, a process without live tracees that ends with another can end first: the result is
+/// the same.
 pub fn leaf_law()
     ensures { LeafLaw }
 {}
 
-/// A live tracee of a process that ends, or of one that ends with it, ends with it too.
+/// Where a debugger's end kills, a live tracee of a process that ends, or of a process that ends with it, ends with it
+/// too.
 pub fn tracee_doomed()
     ensures { TraceeDoomed }
 {}
 
-/// Where others end with a process, one of them traces no live process.
+/// If other processes end with a process, one of them has no live tracee.
 pub fn leaf_exists()
     ensures { LeafExists }
 {}
 
-/// Who lived before the end of a process that traces no live one lives after it, but for that process.
+/// Where a debugger's end kills, the end of a process without live tracees ends no other process.
 pub fn leaf_lives()
     ensures { LeafLives }
 {}
 
-/// After the end of a process that traces no live one, fewer processes live.
+/// Where a debugger's end kills, fewer processes are live after the end of a process without live tracees.
 pub fn leaf_fewer()
     ensures { LeafFewer }
 {}
 
-/// Who was to end with a process before a tracee of its ended is still to end with it, but for the tracee.
+/// If a process without live tracees ends before the one that it is to end with, all others that were to end with
+/// that one still are.
 pub fn leaf_dooms()
     ensures { LeafDooms }
 {}

@@ -1,4 +1,4 @@
-//! The end of a process that traces no live one.
+//! The end of a process without live tracees.
 
 ghost use Rattle.std.specs.Prelude.{◌≡◌, ℕ, ◌<◌, ◌==◌, ◌||◌, true, false, None, Some, count_by, is_some, option_map, if◌then◌else◌};
 ghost use Rattle.std.specs.List.{list_any};
@@ -21,7 +21,7 @@ use proc_table::{ProcData, State, Tables};
 use signals::SigSet;
 use trace_stop::notify;
 
-/// Takes out the LWPs of a process.
+/// Removes the LWPs of a process.
 fn remove_lwps(tables: &mut Tables, pid: Pid)
     ensures { tables.new.rows ≡ without_lwps pid tables.old.rows }
 {
@@ -30,7 +30,7 @@ fn remove_lwps(tables: &mut Tables, pid: Pid)
     }
 }
 
-/// Whether an LWP in this mode waits for the process.
+/// Tests whether an LWP in this mode waits for the process.
 fn waits_for(mode: Mode, pid: Pid) -> bool
     ensures { result ≡ waits_where (λ n. n == pid) mode }
 {
@@ -40,7 +40,7 @@ fn waits_for(mode: Mode, pid: Pid) -> bool
     }
 }
 
-/// An LWP of this process, whose wait for `child` is over.
+/// Returns an LWP of this process, whose wait for `child` is over if it had one.
 fn released(lwp: &LwpData, process: &ProcData, child: Pid) -> LwpData
     ensures { result ≡ released (λ n. n == child) process.now lwp.now }
 {
@@ -59,8 +59,8 @@ fn released(lwp: &LwpData, process: &ProcData, child: Pid) -> LwpData
     }
 }
 
-/// Ends the waits of a process's LWPs for a child of its, as when that ends or makes an exec: each is in user mode again,
-/// and stops at its next turn where its tracer asks for it. Takes no memory.
+/// Ends the waits of a process's LWPs for its child, as when the child ends or makes an exec. Each of these LWPs is
+/// in user mode again, and stops at its next turn if its tracer asks for it. Allocates nothing.
 pub fn release(tables: &mut Tables, process: &ProcData, child: Pid)
     ensures { tables.new.rows ≡ map_lwps process.now.pid (released (λ n. n == child) process.now) tables.old.rows }
 {
@@ -72,7 +72,7 @@ pub fn release(tables: &mut Tables, process: &ProcData, child: Pid)
     }
 }
 
-/// The parent of a process, if it is one.
+/// Returns the parent of a process, if the parent is a process.
 fn parent_of(tables: &Tables, pid: Pid) -> Option<ProcData>
     ensures { result ≡ option_and_then (λ p. process_of p.parent tables.now.rows.processes) (process_of pid tables.now.rows.processes) }
 {
@@ -82,7 +82,7 @@ fn parent_of(tables: &Tables, pid: Pid) -> Option<ProcData>
     }
 }
 
-/// Takes out the LWPs of a process, and ends the waits for it, which are its parent's.
+/// Removes the LWPs of a process, and ends the waits of its parent's LWPs for it.
 fn end_lwps(tables: &mut Tables, pid: Pid)
     requires sound { IsSound tables.old.rows }
     requires live { is_live_at pid tables.old.rows ≡ true }
@@ -94,7 +94,7 @@ fn end_lwps(tables: &mut Tables, pid: Pid)
     }
 }
 
-/// Who collects a zombie: its tracer, and else its parent, unless that is 1.
+/// Returns the process that collects a zombie: its tracer, or else its parent unless that is 1.
 fn collector(zombie: &ProcData) -> Option<u32>
     ensures { result ≡ option_map collector (uncollected zombie.now) }
 {
@@ -105,7 +105,7 @@ fn collector(zombie: &ProcData) -> Option<u32>
     }
 }
 
-/// A zombie without its tracer, and without its parent where that ends.
+/// Returns a zombie without its tracer, and without its parent if that is the process that ends.
 fn orphaned(zombie: &ProcData, ended: Pid) -> ProcData
     ensures { result ≡ record zombie.now { tracer = None; parent = if zombie.now.parent == ended then 1 else zombie.now.parent } }
 {
@@ -121,7 +121,8 @@ fn orphaned(zombie: &ProcData, ended: Pid) -> ProcData
     }
 }
 
-/// Takes a zombie that the process traces from it, and tells its parent, or takes it out where nobody is left to collect it.
+/// Ends the tracing of a zombie by the process, and notifies the zombie's parent. Removes the zombie if it has no
+/// parent left to collect it.
 fn orphan_tracee(tables: &mut Tables, zombie: &ProcData, pid: Pid)
     requires kept { IsKept tables.old.rows }
     requires leaving { IsLeaving pid tables.old.rows }
@@ -143,7 +144,7 @@ fn orphan_tracee(tables: &mut Tables, zombie: &ProcData, pid: Pid)
     notify(tables, parent);
 }
 
-/// Takes the process's tracees, which are zombies, from it.
+/// Ends the tracing of the process's tracees, which are zombies.
 fn orphan_tracees(tables: &mut Tables, pid: Pid)
     requires leaving { IsLeaving pid tables.old.rows }
     ensures leaving { IsLeaving pid tables.new.rows }
@@ -155,14 +156,14 @@ fn orphan_tracees(tables: &mut Tables, pid: Pid)
     }
 }
 
-/// Whether a process whose parent ends stays: a live one, and a zombie that another process traces.
+/// Tests whether a process stays when its parent ends: a live process, or a zombie with a tracer.
 fn stays(child: &ProcData) -> bool
     ensures { result ≡ (is_live child.now || is_some child.now.tracer) }
 {
     child.is_live() || child.tracer.is_some()
 }
 
-/// Makes 1 the parent of a child of the process, or takes it out where nobody is left to collect it.
+/// Makes 1 the parent of a child of the process, or removes the child if it is a zombie that no process collects.
 fn orphan_child(tables: &mut Tables, child: &ProcData, pid: Pid)
     requires kept { IsKept tables.old.rows }
     requires leaving { IsLeaving pid tables.old.rows }
@@ -184,7 +185,7 @@ fn orphan_child(tables: &mut Tables, child: &ProcData, pid: Pid)
     }
 }
 
-/// Takes the process's children from it.
+/// Makes 1 the parent of each child of the process, or removes the child if it is a zombie that no process collects.
 fn orphan_children(tables: &mut Tables, pid: Pid)
     requires leaving { IsLeaving pid tables.old.rows }
     requires untraced { list_any (traces pid) tables.old.rows.processes ≡ false }
@@ -198,8 +199,8 @@ fn orphan_children(tables: &mut Tables, pid: Pid)
     }
 }
 
-/// Makes a zombie of a process whose LWPs are gone and whom nobody names, and tells who collects it;
-/// it is gone where nobody does.
+/// Makes a zombie of a process that has no LWP and that no process names, and notifies the process that collects
+/// it. Removes the row if there is no such process.
 fn bury(tables: &mut Tables, pid: Pid, status: u32)
     requires leaving { IsLeaving pid tables.old.rows }
     requires untraced { list_any (traces pid) tables.old.rows.processes ≡ false }
@@ -223,7 +224,7 @@ fn bury(tables: &mut Tables, pid: Pid, status: u32)
     notify(tables, told);
 }
 
-/// Ends a process that traces no live one. Takes no memory.
+/// Ends a process without live tracees. Allocates nothing.
 pub fn end_leaf(tables: &mut Tables, pid: Pid, status: u32)
     requires sound { IsSound tables.old.rows }
     requires live { is_live_at pid tables.old.rows ≡ true }

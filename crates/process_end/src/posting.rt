@@ -1,4 +1,4 @@
-//! Any signal posted to a live process or to an LWP of it, as kill(2) and thr_kill(2) post it.
+//! Posting any signal to a live process or to an LWP of it, as kill(2) and thr_kill(2) do.
 
 ghost use Rattle.std.specs.Prelude.{◌≡◌, None, Some, true};
 ghost use Rattle.trace_stop.specs.Facts.{IsSound};
@@ -25,7 +25,7 @@ fn post_to(tables: &mut Tables, settings: Settings, pid: Pid, signal: Signal, to
     }
 }
 
-/// Posts a signal to a live process; SIGKILL ends it. Takes no memory.
+/// Posts a signal to a live process; SIGKILL ends it. Allocates nothing.
 pub fn post(tables: &mut Tables, settings: Settings, pid: Pid, signal: Signal)
     requires sound { IsSound tables.old.rows }
     requires live { is_live_at pid tables.old.rows ≡ true }
@@ -35,7 +35,7 @@ pub fn post(tables: &mut Tables, settings: Settings, pid: Pid, signal: Signal)
     post_to(tables, settings, pid, signal, &None);
 }
 
-/// Posts a signal to an LWP of a live process; SIGKILL ends the process. Takes no memory.
+/// Posts a signal to an LWP of a live process; SIGKILL ends the process. Allocates nothing.
 pub fn post_lwp(tables: &mut Tables, settings: Settings, pid: Pid, tid: Tid, signal: Signal)
     requires sound { IsSound tables.old.rows }
     requires live { is_live_at pid tables.old.rows ≡ true }

@@ -1,4 +1,4 @@
-//! Processes resumed and detached with a signal, which may end them.
+//! Resuming and detaching processes with a signal, which may end them.
 
 ghost use Rattle.std.specs.Prelude.{◌≡◌};
 ghost use Rattle.proc_table.specs.Processes.{process_of};
@@ -13,7 +13,7 @@ use proc_table::Tables;
 use signals::{Pass, SigSet};
 use trace_stop::{Settings, run_on, untrace};
 
-/// Whether a process ends when it is resumed with the signal.
+/// Tests whether a process ends when it is resumed with the signal.
 fn ends(tables: &Tables, pid: Pid, pass: Pass) -> bool
     requires { IsRow tables.now.rows pid }
     ensures { result ≡ ends_process pass (process_of pid tables.now.rows.processes) }
@@ -25,8 +25,8 @@ fn ends(tables: &Tables, pid: Pid, pass: Pass) -> bool
     }
 }
 
-/// Resumes a process from a trace stop with a signal, or with none; the signal may end it. Takes no
-/// memory.
+/// Resumes a process from a trace stop with a signal, or with none; the signal may end it. Allocates
+/// nothing.
 pub fn resume(tables: &mut Tables, settings: Settings, pid: Pid, pass: Pass)
     requires sound { IsSound tables.old.rows }
     requires stopped { IsStopped pid tables.old.rows }
@@ -40,8 +40,8 @@ pub fn resume(tables: &mut Tables, settings: Settings, pid: Pid, pass: Pass)
     }
 }
 
-/// Detaches a process from its tracer, with a signal or with none; the signal may end it. Takes no
-/// memory.
+/// Detaches a process from its tracer, with a signal or with none, as PT_DETACH of ptrace(2) does. The signal may
+/// end the process. Allocates nothing.
 pub fn detach(tables: &mut Tables, settings: Settings, pid: Pid, pass: Pass)
     requires sound { IsSound tables.old.rows }
     requires stopped { IsStopped pid tables.old.rows }

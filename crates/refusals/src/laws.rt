@@ -1,4 +1,4 @@
-//! The laws of isolation, on hosts.
+//! The laws of isolation, on hosts. A step or a list is refused where memory runs out.
 
 ghost use Rattle.std.specs.Prelude.{◌≡◌};
 ghost use Rattle.requests.specs.Machine.{empty};
@@ -22,7 +22,7 @@ enum Law {
 }
 
 impl Law {
-    /// The replies to a step in both hosts.
+    /// Makes a step in both hosts, and returns the replies.
     fn replies(
         self,
         alloc: Global,
@@ -41,7 +41,7 @@ impl Law {
     }
 }
 
-/// The host is as before, if it refused.
+/// Checks that the host is as before, if it refused a step.
 fn check_refused(
     alloc: Global,
     users: &Users,
@@ -55,7 +55,7 @@ fn check_refused(
     before.is_still(alloc, users, host, "a refused step changed a host")
 }
 
-/// Whether both hosts have answered; then they have answered the same.
+/// Returns whether neither host refused, and checks that their replies are then the same.
 fn is_answered(reply: &Reply, other: &Reply) -> Result<bool, Trouble> {
     if reply.is_memory() || other.is_memory() {
         return Ok(false);
@@ -67,7 +67,7 @@ fn is_answered(reply: &Reply, other: &Reply) -> Result<bool, Trouble> {
     }
 }
 
-/// Whether two hosts that are the same answer a step; one that refuses is as before.
+/// Returns whether two equal hosts make a step, and checks that a host that refuses is as before.
 fn is_made_in_both(
     alloc: Global,
     users: &Users,
@@ -84,7 +84,7 @@ fn is_made_in_both(
     is_answered(&reply, &other)
 }
 
-/// Whether a host that nobody has used and another such host answer a step; one that refuses is as before.
+/// Returns whether this unused host and another one make a step, and checks that a host that refuses is as before.
 fn is_made_in(
     alloc: Global,
     users: &Users,
@@ -99,7 +99,7 @@ fn is_made_in(
     is_made_in_both(alloc, users, before, law, first, &mut second)
 }
 
-/// Whether two hosts that nobody has used answer a step; one that refuses is as before.
+/// Returns whether two unused hosts make a step, and checks that a host that refuses is as before.
 fn is_made(
     alloc: Global,
     users: &Users,
@@ -111,7 +111,7 @@ fn is_made(
     is_made_in(alloc, users, before, settings, law, &mut first)
 }
 
-/// Two hosts answer a step, which is made again while one refuses it.
+/// Checks a law of one step, and retries while a host refuses it.
 fn check_law(
     alloc: Global,
     users: &Users,
@@ -127,7 +127,7 @@ fn check_law(
     Err(Trouble::Memory)
 }
 
-/// Whether the host answers a step of the second user; where it refuses, it is as before.
+/// Returns whether the host makes a step of the second user, and checks that it is as before if it refuses.
 fn is_made_beside(
     alloc: Global,
     users: &Users,
@@ -142,7 +142,7 @@ fn is_made_beside(
     Ok(!reply.is_memory())
 }
 
-/// The host answers a step of the second user, which is made again while it is refused.
+/// Checks a step of the second user, and retries while it is refused.
 fn check_other_step(
     alloc: Global,
     users: &Users,
@@ -157,7 +157,7 @@ fn check_other_step(
     Err(Trouble::Memory)
 }
 
-/// Whether all steps were answered.
+/// Returns whether no step was refused.
 fn are_made(replies: &[Reply]) -> bool {
     for reply in replies {
         if reply.is_memory() {
@@ -167,7 +167,7 @@ fn are_made(replies: &[Reply]) -> bool {
     true
 }
 
-/// Whether all steps of both lists were answered; then they have the same replies.
+/// Returns whether no step of both lists was refused, and checks that their replies are then the same.
 fn agree(replies: &[Reply], others: &[Reply]) -> Result<bool, Trouble> {
     if !are_made(replies) || !are_made(others) {
         return Ok(false);
@@ -179,7 +179,7 @@ fn agree(replies: &[Reply], others: &[Reply]) -> Result<bool, Trouble> {
     }
 }
 
-/// The replies to the scenario's steps in two hosts, or none where the lists are refused.
+/// Makes the scenario's steps in two hosts, and returns the replies, or `None` where the lists are refused.
 fn ran(
     alloc: Global,
     first: &mut Host<ByPolicy>,
@@ -194,7 +194,7 @@ fn ran(
     Ok(two_lists(alloc, first, second, user, steps, others).ok())
 }
 
-/// Whether both hosts answer all of the scenario's steps; refused lists leave both.
+/// Returns whether both hosts make all of the scenario's steps, and checks that refused lists change neither.
 fn are_lists_made(
     alloc: Global,
     users: &Users,
@@ -218,7 +218,7 @@ fn are_lists_made(
     Ok(false)
 }
 
-/// Whether a host that nobody has used and another such host answer all of the scenario's steps.
+/// Returns whether this unused host and another one make all of the scenario's steps.
 fn are_lists_made_in(
     alloc: Global,
     users: &Users,
@@ -232,7 +232,7 @@ fn are_lists_made_in(
     are_lists_made(alloc, users, before, scenario, first, &mut second)
 }
 
-/// Whether two hosts that nobody has used answer all of the scenario's steps.
+/// Returns whether two unused hosts make all of the scenario's steps.
 fn are_two_lists_made(
     alloc: Global,
     users: &Users,
@@ -243,7 +243,7 @@ fn are_two_lists_made(
     are_lists_made_in(alloc, users, before, scenario, &mut first)
 }
 
-/// Two hosts answer the scenario's steps, which are made again while they are refused.
+/// Checks the scenario's steps on two hosts, and retries while they are refused.
 fn check_two_lists(
     alloc: Global,
     users: &Users,
@@ -258,7 +258,7 @@ fn check_two_lists(
     Err(Trouble::Memory)
 }
 
-/// What is refused leaves the hosts, and else two hosts answer the same.
+/// Checks that refusals don't change the hosts, and that else two hosts give the same replies.
 fn check_from(
     alloc: Global,
     users: &Users,
@@ -273,7 +273,7 @@ fn check_from(
     check_two_lists(alloc, users, before, scenario)
 }
 
-/// The same, from what is seen of a host that nobody has used.
+/// Does the same, with the views of this unused host as those before.
 fn check_on(
     alloc: Global,
     users: &Users,
@@ -284,7 +284,7 @@ fn check_on(
     check_from(alloc, users, scenario, &before, host)
 }
 
-/// The same on a new host.
+/// Does the same on a new host.
 pub fn check(alloc: Global, users: &Users, scenario: &Scenario) -> Result<(), Trouble> {
     let mut host = new_host(alloc, scenario.settings())?;
     check_on(alloc, users, scenario, &mut host)

@@ -1,4 +1,4 @@
-//! Lists of steps.
+//! Lists of steps. A list or a step is refused where memory runs out.
 
 use crate::steps::{Seen, Users, answer, new_host};
 use crate::trouble::{TRIES, Trouble};
@@ -9,7 +9,7 @@ use std::alloc::Global;
 use stop_handlers::{ByPolicy, Handler, Policy};
 use visibility::run_list;
 
-/// The policies of the scenario.
+/// Returns the policies of the scenario.
 fn policies_of(alloc: Global, scenario: &Scenario) -> Result<Vec<Policy>, Trouble> {
     for _ in 0..TRIES {
         if let Ok(policies) = policies(alloc, scenario) {
@@ -19,7 +19,7 @@ fn policies_of(alloc: Global, scenario: &Scenario) -> Result<Vec<Policy>, Troubl
     Err(Trouble::Memory)
 }
 
-/// A handler for each of the policies.
+/// Returns a handler for each of the policies.
 fn handlers_by(alloc: Global, policies: &[Policy]) -> Result<Vec<Handler<ByPolicy>>, Trouble> {
     for _ in 0..TRIES {
         if let Ok(handlers) = handlers_of(alloc, policies, |policy: Policy| ByPolicy(policy)) {
@@ -29,13 +29,13 @@ fn handlers_by(alloc: Global, policies: &[Policy]) -> Result<Vec<Handler<ByPolic
     Err(Trouble::Memory)
 }
 
-/// A handler for each policy of the scenario.
+/// Returns a handler for each policy of the scenario.
 pub fn handlers(alloc: Global, scenario: &Scenario) -> Result<Vec<Handler<ByPolicy>>, Trouble> {
     let policies = policies_of(alloc, scenario)?;
     handlers_by(alloc, policies.as_slice())
 }
 
-/// The steps of the scenario, with their handlers.
+/// Returns the steps of the scenario, with their handlers.
 pub fn bound(
     alloc: Global,
     scenario: &Scenario,
@@ -51,7 +51,7 @@ pub fn bound(
     Err(Trouble::Memory)
 }
 
-/// The step has this reply, unless it was refused.
+/// Checks that the step has this reply, unless the list refused it.
 fn check_reply(
     alloc: Global,
     host: &mut Host<ByPolicy>,
@@ -70,7 +70,7 @@ fn check_reply(
     }
 }
 
-/// The answered steps, made one after another, have the same replies.
+/// Checks that the steps that weren't refused have the same replies when they are made one after another.
 fn check_replies(
     alloc: Global,
     host: &mut Host<ByPolicy>,
@@ -86,7 +86,7 @@ fn check_replies(
     Ok(())
 }
 
-/// Users see the same of both hosts.
+/// Checks that users see the same of both hosts.
 fn check_hosts(
     alloc: Global,
     users: &Users,
@@ -97,7 +97,8 @@ fn check_hosts(
     seen.is_still(alloc, users, other, "a list leaves another host")
 }
 
-/// The answered steps, made one after another on another host, have the same replies, and users see the same in the end.
+/// Makes the steps that weren't refused one after another on another host. Checks that they have the same replies, and
+/// that users see the same at the end.
 fn check_answered_on(
     alloc: Global,
     users: &Users,
@@ -110,7 +111,7 @@ fn check_answered_on(
     check_hosts(alloc, users, host, other)
 }
 
-/// The same on a new host.
+/// Does the same on a new host.
 fn check_answered(
     alloc: Global,
     users: &Users,
@@ -122,7 +123,7 @@ fn check_answered(
     check_answered_on(alloc, users, scenario, host, replies, &mut other)
 }
 
-/// The replies to the scenario's steps as a list, or none where it is refused.
+/// Makes the scenario's steps as a list, and returns the replies, or `None` where the list is refused.
 fn ran(
     alloc: Global,
     scenario: &Scenario,
@@ -132,7 +133,7 @@ fn ran(
     Ok(run_list(alloc, host, steps).ok())
 }
 
-/// A refused list leaves the host; else the answered steps are answered as one by one.
+/// Checks that a refused list doesn't change the host, and that else the replies are those of steps made one by one.
 fn check_list(
     alloc: Global,
     users: &Users,
@@ -149,7 +150,7 @@ fn check_list(
     Err(Trouble::Memory)
 }
 
-/// The same on a host that nobody has used.
+/// Does the same on this unused host.
 fn check_on(
     alloc: Global,
     users: &Users,
@@ -160,7 +161,7 @@ fn check_on(
     check_list(alloc, users, scenario, &before, host)
 }
 
-/// The same on a new host.
+/// Does the same on a new host.
 pub fn check(alloc: Global, users: &Users, scenario: &Scenario) -> Result<(), Trouble> {
     let mut host = new_host(alloc, scenario.settings())?;
     check_on(alloc, users, scenario, &mut host)

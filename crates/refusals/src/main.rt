@@ -1,7 +1,7 @@
-//! Makes every kind of step, lists of them, the laws of isolation on hosts, calls of a shared host, sessions in threads,
-//! and runs of whole scenarios, with threads and without. Whatever is refused for want of memory is made again, and first
-//! all has to be as before. So a run in which allocations are refused prints what a run with ample memory does, or ends
-//! with status 3 where it is refused again and again; tests/failures.sh makes such runs.
+//! Makes every kind of step, lists of them, the laws of isolation on hosts, calls of a shared host, sessions in
+//! threads, and runs of whole scenarios, with threads and without. After a refusal for lack of memory it checks that
+//! nothing changed, and tries again. So a run in which allocations are refused prints what a run with ample memory
+//! does, or ends with status 3 where it is refused again and again. tests/failures.sh makes such runs.
 #![tactic(auto)]
 
 mod laws;
@@ -23,7 +23,7 @@ use std::thread::Threads;
 use steps::{Made, Users};
 use trouble::{TRIES, Trouble};
 
-/// The scenario that the text stands for.
+/// Returns the scenario of the text.
 fn parsed(alloc: Global, text: &str) -> Result<Scenario, Trouble> {
     for _ in 0..TRIES {
         match parse(alloc, text.as_bytes()) {
@@ -42,13 +42,13 @@ fn print_replies<R: Print>(rt: &R, alloc: Global, made: &Made) -> Result<(), Tro
     Ok(())
 }
 
-/// Prints that what was made in this way was the same.
+/// Prints that this way gave the same.
 fn say<R: Print>(rt: &R, way: &str) -> Result<(), Trouble> {
     println!(rt; "{way}: the same")?;
     Ok(())
 }
 
-/// Makes the steps again in every way, and prints the replies to them.
+/// Prints the replies to the steps, and makes the steps again in every other way.
 fn check_made<R: Print + Threads + Wait + Sync>(
     rt: &R,
     alloc: Global,
@@ -69,7 +69,7 @@ fn check_made<R: Print + Threads + Wait + Sync>(
     say(rt, "runs of the scenario")
 }
 
-/// Makes the steps of the scenario one after another, and then in every way.
+/// Makes the steps of the scenario one after another, and then in every other way.
 fn check_scenario<R: Print + Threads + Wait + Sync>(
     rt: &R,
     alloc: Global,
@@ -83,7 +83,7 @@ fn check_scenario<R: Print + Threads + Wait + Sync>(
     check_made(rt, alloc, &users, scenario, &made)
 }
 
-/// The same for a text.
+/// Does the same for a text.
 fn check<R: Print + AllocGlobal + Threads + Wait + Sync>(
     rt: &R,
     text: &str,

@@ -1,4 +1,4 @@
-//! The scenarios whose steps are made.
+//! The scenarios.
 
 /// Every op, request, act and call, by two users.
 pub const EVERY_STEP: &str = "{\"steps\":[
@@ -81,7 +81,7 @@ pub const EVERY_STEP: &str = "{\"steps\":[
 {\"user\":1001,\"op\":\"list\",\"caller\":1004}
 ]}";
 
-/// The end of a debugger leaves its tracees.
+/// A debugger whose end doesn't kill its tracees.
 pub const LEAVING: &str = "{\"kill_on_debugger_exit\":0,\"steps\":[
 {\"user\":1001,\"op\":\"spawn\"},
 {\"user\":1001,\"op\":\"spawn\"},

@@ -1,4 +1,4 @@
-//! Calls of a shared host.
+//! Calls of a shared host. A call is refused where memory runs out.
 
 ghost use Rattle.std.specs.Prelude.{All, IfOk};
 ghost use Rattle.host_lock.specs.Sessions.{IsOf, IsSame};
@@ -14,7 +14,7 @@ use std::sync::Wait;
 use stop_handlers::ByPolicy;
 use trace_stop::Settings;
 
-/// A host that nobody has used, shared by a session of each of the users. It is opened again while that is refused.
+/// Shares an unused host among a session of each of the users, and retries while that is refused.
 fn open(
     alloc: Global,
     users: &Users,
@@ -31,7 +31,7 @@ fn open(
     Err(Trouble::Memory)
 }
 
-/// The reply to a call, or none where it is refused. Either counts as one.
+/// Makes a call, and returns its reply, or `None` where it is refused. Checks that it counts as one call in both cases.
 fn replied<R: Wait>(
     rt: &R,
     alloc: Global,
@@ -52,7 +52,7 @@ fn replied<R: Wait>(
     Ok(if reply.is_memory() { None } else { Some(reply) })
 }
 
-/// The reply to a call, which is made again while it is refused.
+/// Makes a call, retries while it is refused, and returns its reply.
 fn call<R: Wait>(
     rt: &R,
     alloc: Global,
@@ -71,12 +71,12 @@ fn call<R: Wait>(
     Err(Trouble::Memory)
 }
 
-/// The place of the user's session.
+/// Returns the index of the user's session.
 fn place_of(users: &Users, user: Uid) -> usize {
     if user == users.first { 0 } else { 1 }
 }
 
-/// The session at this place is answered as the step was by itself.
+/// Makes a call of the session at this index, and checks that it has the reply of the step on its own.
 fn check_call<R: Wait>(
     rt: &R,
     alloc: Global,
@@ -120,12 +120,12 @@ fn call_all<R: Wait>(
     Ok(())
 }
 
-/// Whether the entry is this step of the session at this place, with this reply.
+/// Returns whether the entry is this step of the session at this index, with this reply.
 fn is_of(entry: &Entry, place: usize, step: &(Uid, PlainStep), reply: &Reply) -> bool {
     entry.session == place && entry.uid == step.0 && entry.step == step.1 && entry.reply == *reply
 }
 
-/// The journal has the scenario's steps with their replies, and nothing else.
+/// Checks that the journal has only the scenario's steps with their replies.
 fn check_journal(
     users: &Users,
     scenario: &Scenario,
@@ -146,7 +146,7 @@ fn check_journal(
     Ok(())
 }
 
-/// Users see the same of the host as of the one on which the steps were made by themselves.
+/// Checks that users see the same of the host as of the one on which the steps were made without sessions.
 fn check_host(
     alloc: Global,
     users: &Users,
@@ -157,7 +157,7 @@ fn check_host(
     seen.is_still(alloc, users, &made.host, "calls leave another host")
 }
 
-/// The host and the journal, once all sessions are handed in.
+/// Closes the shared host with all sessions, and returns the host and the journal.
 fn close(
     host: SharedHost<ByPolicy>,
     sessions: Vec<Session>,
@@ -168,7 +168,7 @@ fn close(
     closed.ok_or(Trouble::Wrong("a session is missing"))
 }
 
-/// The host and the journal after the scenario's steps.
+/// Returns the host and the journal after the scenario's steps.
 fn called<R: Wait>(
     rt: &R,
     alloc: Global,
@@ -181,7 +181,7 @@ fn called<R: Wait>(
     close(host, sessions)
 }
 
-/// The host and the journal are those of the steps by themselves.
+/// Checks that the host and the journal are those of the steps without sessions.
 fn check_left(
     alloc: Global,
     users: &Users,
@@ -194,7 +194,7 @@ fn check_left(
     check_host(alloc, users, made, host)
 }
 
-/// Each call has the reply of the step by itself, and a refused call has no entry in the journal.
+/// Checks that each call has the reply of the step without sessions, and that a refused call has no journal entry.
 pub fn check<R: Wait>(
     rt: &R,
     alloc: Global,

@@ -1,4 +1,4 @@
-//! Steps made one after another.
+//! Steps made one after another. A step is refused where memory runs out.
 
 ghost use Rattle.std.specs.Prelude.{◌≡◌, IfOk};
 ghost use Rattle.requests.specs.Machine.{empty};
@@ -19,7 +19,7 @@ pub struct Users {
     pub second: Uid,
 }
 
-/// What both users see of a host.
+/// Both users' views of a host.
 #[derive(Drop)]
 pub struct Seen {
     first: View,
@@ -27,7 +27,7 @@ pub struct Seen {
 }
 
 impl Seen {
-    /// Nothing, or the trouble with this name where the host shows something else.
+    /// Checks that the users still see the same of the host. The error has this name.
     pub fn is_still(
         &self,
         alloc: Global,
@@ -44,7 +44,7 @@ impl Seen {
     }
 }
 
-/// What the user sees of the host.
+/// Returns the user's view of the host.
 fn view_of(alloc: Global, host: &Host<ByPolicy>, user: Uid) -> Result<View, Trouble> {
     for _ in 0..TRIES {
         if let Ok(view) = user_view(alloc, host, user) {
@@ -55,7 +55,7 @@ fn view_of(alloc: Global, host: &Host<ByPolicy>, user: Uid) -> Result<View, Trou
 }
 
 impl Users {
-    /// What they see of the host.
+    /// Returns both users' views of the host.
     pub fn see(&self, alloc: Global, host: &Host<ByPolicy>) -> Result<Seen, Trouble> {
         let first = view_of(alloc, host, self.first)?;
         let second = view_of(alloc, host, self.second)?;
@@ -63,7 +63,7 @@ impl Users {
     }
 }
 
-/// A host that nobody has used.
+/// Creates an unused host.
 pub fn new_host(alloc: Global, settings: Settings) -> Result<Host<ByPolicy>, Trouble>
     ensures { IfOk result (λ host. host ≡ empty settings) }
 {
@@ -75,13 +75,13 @@ pub fn new_host(alloc: Global, settings: Settings) -> Result<Host<ByPolicy>, Tro
     Err(Trouble::Memory)
 }
 
-/// The reply to a step, or none where it is refused.
+/// Makes a step, and returns the reply, or `None` where it is refused.
 fn replied(alloc: Global, host: &mut Host<ByPolicy>, user: Uid, step: &PlainStep) -> Option<Reply> {
     let reply = host.step(alloc, user, step.by_policy());
     if reply.is_memory() { None } else { Some(reply) }
 }
 
-/// The reply to a step, which is made again while it is refused.
+/// Makes a step, retries while it is refused, and returns the reply.
 pub fn answer(
     alloc: Global,
     host: &mut Host<ByPolicy>,
@@ -96,7 +96,7 @@ pub fn answer(
     Err(Trouble::Memory)
 }
 
-/// Whether the step may take memory.
+/// Returns whether the step may take memory.
 fn takes_memory(step: &PlainStep) -> bool {
     matches!(
         step,
@@ -114,7 +114,7 @@ fn takes_memory(step: &PlainStep) -> bool {
     )
 }
 
-/// The same, and each time all is as before.
+/// Does the same, and checks after each refusal that the step may take memory and that users see the same as before.
 fn answer_from(
     alloc: Global,
     users: &Users,
@@ -135,7 +135,7 @@ fn answer_from(
     Err(Trouble::Memory)
 }
 
-/// The same from what is seen now.
+/// Does the same, with the users' present views as those before.
 fn answer_kept(
     alloc: Global,
     users: &Users,
@@ -154,7 +154,7 @@ pub struct Made {
     pub replies: Vec<(Uid, Reply)>,
 }
 
-/// Room for so many replies.
+/// Allocates room for `length` replies.
 fn room(alloc: Global, length: usize) -> Result<Vec<(Uid, Reply)>, Trouble> {
     for _ in 0..TRIES {
         if let Ok(room) = Vec::with_capacity(alloc, length) {
@@ -164,7 +164,7 @@ fn room(alloc: Global, length: usize) -> Result<Vec<(Uid, Reply)>, Trouble> {
     Err(Trouble::Memory)
 }
 
-/// A new host, and room for the replies to the scenario's steps.
+/// Creates a host, and allocates room for the replies to the scenario's steps.
 fn new_made(alloc: Global, scenario: &Scenario) -> Result<Made, Trouble> {
     let replies = room(alloc, scenario.shapes().len())?;
     let host = new_host(alloc, scenario.settings())?;

@@ -4,16 +4,17 @@ use crate::lists::handlers;
 use crate::steps::{Made, Users};
 use crate::trouble::{TRIES, Trouble};
 use pid_blocks::Uid;
-use scenario::{RunFault, RunOptions, Scenario, Style, render, run, run_threads};
+use scenario::{RunFault, RunOptions, Scenario, Style, render, run};
 use std::alloc::Global;
 use std::sync::Wait;
 use std::thread::Threads;
 use stop_handlers::{ByPolicy, Handler};
+use threaded_runs::run_threads;
 
-/// More bytes than a text has.
+/// Room for every text, in bytes.
 const ROOM: usize = 16384;
 
-/// Whether a run went to its end, with the whole text; a refused one has written nothing.
+/// Returns whether a run succeeded. Checks that it then wrote the whole text, and that a refused run wrote nothing.
 fn is_done(ended: Result<(), RunFault>, written: &[u8], text: &[u8]) -> Result<bool, Trouble> {
     match ended {
         Ok(()) if written == text => Ok(true),
@@ -24,7 +25,7 @@ fn is_done(ended: Result<(), RunFault>, written: &[u8], text: &[u8]) -> Result<b
     }
 }
 
-/// The lines of the user, or of all, in words.
+/// Returns the options for the lines of the user, or of all users, in words.
 fn shown(user: &Option<Uid>) -> RunOptions {
     RunOptions {
         user: *user,
@@ -50,7 +51,7 @@ fn run_into<R: Threads + Wait + Sync>(
     }
 }
 
-/// Room for a text.
+/// Allocates room for a text.
 fn room(alloc: Global) -> Result<Vec<u8>, Trouble> {
     for _ in 0..TRIES {
         if let Ok(room) = Vec::with_capacity(alloc, ROOM) {
@@ -60,7 +61,7 @@ fn room(alloc: Global) -> Result<Vec<u8>, Trouble> {
     Err(Trouble::Memory)
 }
 
-/// Whether a run with threads or without went to its end; then it wrote the text.
+/// Returns whether a run with or without threads succeeded, and checks that it then wrote the text.
 fn is_run<R: Threads + Wait + Sync>(
     rt: &R,
     alloc: Global,
@@ -75,7 +76,7 @@ fn is_run<R: Threads + Wait + Sync>(
     is_done(ended, writer.as_slice(), text)
 }
 
-/// A run with threads or without writes the text.
+/// Checks that a run with or without threads writes the text, and retries while it is refused.
 fn check_text<R: Threads + Wait + Sync>(
     rt: &R,
     alloc: Global,
@@ -92,7 +93,7 @@ fn check_text<R: Threads + Wait + Sync>(
     Err(Trouble::Memory)
 }
 
-/// The lines of the replies to the user, or of all.
+/// Returns the lines of the replies to the user, or to all users.
 pub fn lines(alloc: Global, made: &Made, user: &Option<Uid>) -> Result<String, Trouble> {
     for _ in 0..TRIES {
         if let Ok(lines) = render(alloc, made.replies.as_slice(), shown(user)) {
@@ -102,7 +103,7 @@ pub fn lines(alloc: Global, made: &Made, user: &Option<Uid>) -> Result<String, T
     Err(Trouble::Memory)
 }
 
-/// A run with threads or without writes the lines of the replies to the user, or of all.
+/// Checks that a run with or without threads writes the lines of the replies to the user, or to all users.
 fn check_user<R: Threads + Wait + Sync>(
     rt: &R,
     alloc: Global,
@@ -115,7 +116,7 @@ fn check_user<R: Threads + Wait + Sync>(
     check_text(rt, alloc, scenario, text.as_bytes(), user, threads)
 }
 
-/// A run writes the lines of the replies, and a refused run nothing.
+/// Checks that runs write the lines of the replies, and that refused runs write nothing.
 pub fn check<R: Threads + Wait + Sync>(
     rt: &R,
     alloc: Global,

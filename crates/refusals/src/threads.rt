@@ -1,4 +1,4 @@
-//! Sessions in threads of their own.
+//! Sessions in threads of their own. A run is refused where memory runs out or a thread can't be started.
 
 ghost use Rattle.std.specs.Prelude.{All, IfOk};
 ghost use Rattle.sessions.specs.Runs.{IsShort};
@@ -19,7 +19,7 @@ use stop_handlers::ByPolicy;
 /// The most steps of a script.
 const MOST_STEPS: usize = 1000;
 
-/// How many calls were begun, and how many were answered.
+/// The number of calls that were begun, and of those that were answered.
 #[derive(Drop)]
 struct Counts {
     begun: AtomicUsize,
@@ -34,7 +34,7 @@ impl Counts {
         }
     }
 
-    /// How many calls there were, where each that was begun was answered.
+    /// Returns the number of calls, and checks that each that was begun was answered.
     fn calls(&self) -> Result<usize, Trouble> {
         let begun = self.begun.load(Ordering::SeqCst);
         if begun == self.answered.load(Ordering::SeqCst) {
@@ -55,7 +55,7 @@ impl Gate for Counts {
     }
 }
 
-/// The user's steps.
+/// Returns the script of the user's steps.
 fn script(alloc: Global, scenario: &Scenario, uid: Uid) -> Result<Script<ByPolicy>, AllocError>
     ensures { IfOk result IsShort }
 {
@@ -69,7 +69,7 @@ fn script(alloc: Global, scenario: &Scenario, uid: Uid) -> Result<Script<ByPolic
     Ok(Script { uid, steps })
 }
 
-/// A script for each user.
+/// Returns a script for each user.
 fn scripts(
     alloc: Global,
     users: &Users,
@@ -83,7 +83,7 @@ fn scripts(
     Ok(scripts)
 }
 
-/// The same, made again while they are refused.
+/// Does the same, and retries while memory runs out.
 fn scripts_of(
     alloc: Global,
     users: &Users,
@@ -99,7 +99,7 @@ fn scripts_of(
     Err(Trouble::Memory)
 }
 
-/// What the sessions leave.
+/// The results of the sessions.
 #[derive(Drop)]
 struct Left {
     host: Host<ByPolicy>,
@@ -107,7 +107,7 @@ struct Left {
     transcripts: Vec<Transcript>,
 }
 
-/// Runs the scripts on the host. None where that is refused: who was started is at the end then.
+/// Runs the scripts on the host. `None` where that is refused; workers that were started have ended by then.
 fn ran_on<R: Threads + Wait + Sync>(
     rt: &R,
     alloc: Global,
@@ -128,7 +128,7 @@ fn ran_on<R: Threads + Wait + Sync>(
     }
 }
 
-/// The same on a host that nobody has used.
+/// Does the same on an unused host.
 fn ran<R: Threads + Wait + Sync>(
     rt: &R,
     alloc: Global,
@@ -140,7 +140,7 @@ fn ran<R: Threads + Wait + Sync>(
     ran_on(rt, alloc, users, scenario, gate, host)
 }
 
-/// How many steps were answered.
+/// Returns how many steps were not answered by ENOMEM.
 fn answered(transcript: &Transcript) -> usize {
     let mut count: usize = 0;
     for reply in transcript.replies.iter() {
@@ -151,7 +151,7 @@ fn answered(transcript: &Transcript) -> usize {
     count
 }
 
-/// How many steps of all scripts were answered.
+/// Returns how many steps of all scripts were not answered by ENOMEM.
 fn all_answered(transcripts: &[Transcript]) -> usize {
     let mut count: usize = 0;
     for transcript in transcripts {
@@ -160,7 +160,7 @@ fn all_answered(transcripts: &[Transcript]) -> usize {
     count
 }
 
-/// The place of the session's next entry, from a place on.
+/// Returns the index of the session's next entry, from an index on.
 fn next_entry(journal: &Journal, session: usize, from: usize) -> Option<usize> {
     for place in from..journal.len() {
         if journal.get(place)?.session == session {
@@ -170,7 +170,7 @@ fn next_entry(journal: &Journal, session: usize, from: usize) -> Option<usize> {
     None
 }
 
-/// Whether the entry at this place has this reply.
+/// Returns whether the entry at this index has this reply.
 fn has_reply(journal: &Journal, place: usize, reply: &Reply) -> bool {
     match journal.get(place) {
         Some(entry) => entry.reply == *reply,
@@ -178,7 +178,7 @@ fn has_reply(journal: &Journal, place: usize, reply: &Reply) -> bool {
     }
 }
 
-/// Whether the session's entries have the answered replies of the transcript, in order.
+/// Returns whether the session's entries have the replies of the transcript other than ENOMEM, in order.
 fn is_told(journal: &Journal, session: usize, transcript: &Transcript) -> bool {
     let mut from: usize = 0;
     for reply in transcript.replies.iter() {
@@ -195,7 +195,7 @@ fn is_told(journal: &Journal, session: usize, transcript: &Transcript) -> bool {
     true
 }
 
-/// The journal has the answered calls of all scripts and no others.
+/// Checks that the journal has only the calls of all scripts that were not answered by ENOMEM.
 fn check_transcripts(journal: &Journal, transcripts: &[Transcript]) -> Result<(), Trouble> {
     if all_answered(transcripts) != journal.len() {
         return Err(Trouble::Wrong("a refused call has an entry"));
@@ -208,7 +208,7 @@ fn check_transcripts(journal: &Journal, transcripts: &[Transcript]) -> Result<()
     Ok(())
 }
 
-/// The entry's step has its reply.
+/// Checks that the entry's step has its reply on the host.
 fn check_entry(alloc: Global, host: &mut Host<ByPolicy>, entry: &Entry) -> Result<(), Trouble> {
     let reply = answer(alloc, host, entry.uid, &entry.step)?;
     if reply == entry.reply {
@@ -218,7 +218,7 @@ fn check_entry(alloc: Global, host: &mut Host<ByPolicy>, entry: &Entry) -> Resul
     }
 }
 
-/// The entries' steps, made one after another, have their replies.
+/// Checks that the entries' steps have their replies when they are made one after another.
 fn check_entries(
     alloc: Global,
     host: &mut Host<ByPolicy>,
@@ -232,7 +232,7 @@ fn check_entries(
     Ok(())
 }
 
-/// Users see the same of both hosts.
+/// Checks that users see the same of both hosts.
 fn check_hosts(
     alloc: Global,
     users: &Users,
@@ -243,7 +243,8 @@ fn check_hosts(
     seen.is_still(alloc, users, other, "the journal leaves another host")
 }
 
-/// The journal's steps, made one after another on another host, have the same replies and leave the same host.
+/// Makes the journal's steps one after another on another host. Checks that the replies and the users' views are the
+/// same.
 fn check_replay_on(
     alloc: Global,
     users: &Users,
@@ -254,7 +255,7 @@ fn check_replay_on(
     check_hosts(alloc, users, &left.host, other)
 }
 
-/// The same on a new host.
+/// Does the same on a new host.
 fn check_replay(
     alloc: Global,
     users: &Users,
@@ -265,7 +266,7 @@ fn check_replay(
     check_replay_on(alloc, users, left, &mut other)
 }
 
-/// What was left fits together, and each of the scenario's steps was a call.
+/// Checks that the results are consistent, and that each of the scenario's steps was a call.
 fn check_left(
     alloc: Global,
     users: &Users,
@@ -280,7 +281,7 @@ fn check_left(
     check_replay(alloc, users, scenario, left)
 }
 
-/// Whether something was left; then it fits together.
+/// Returns whether there are results, and checks them.
 fn is_left(
     alloc: Global,
     users: &Users,
@@ -296,7 +297,7 @@ fn is_left(
     Ok(true)
 }
 
-/// Whether the sessions ran; then what they leave fits together.
+/// Returns whether the sessions ran, and checks their results.
 fn is_run<R: Threads + Wait + Sync>(
     rt: &R,
     alloc: Global,
@@ -308,7 +309,7 @@ fn is_run<R: Threads + Wait + Sync>(
     is_left(alloc, users, scenario, &gate, &ran)
 }
 
-/// The sessions run, and are started again while that is refused.
+/// Checks that the sessions run, and retries while that is refused.
 pub fn check<R: Threads + Wait + Sync>(
     rt: &R,
     alloc: Global,

@@ -1,4 +1,4 @@
-//! What ends the program early.
+//! The errors that end the program.
 
 use pid_blocks::BadUser;
 use scenario::RunFault;
@@ -6,25 +6,25 @@ use std::alloc::{AllocError, AllocFailed};
 use std::io;
 use thiserror::Error;
 
-/// How often a call is made again while it is refused.
+/// The number of tries of a call while it is refused.
 pub const TRIES: u32 = 30;
 
-/// Why the program doesn't go on.
+/// The reason why the program ends early.
 #[derive(Clone, Copy, Debug, PartialEq, Eq, Error)]
 pub enum Trouble {
     /// A call was refused again and again.
     #[error("out of memory")]
     Memory,
-    /// Nothing can be printed.
+    /// Printing failed.
     #[error("cannot write")]
     Write,
-    /// Something is not as it has to be.
+    /// A check failed.
     #[error("{0}")]
     Wrong(&'static str),
 }
 
 impl Trouble {
-    /// The exit status.
+    /// Returns the exit status.
     pub fn status(self) -> u8 {
         match self {
             Trouble::Memory | Trouble::Write => 3,

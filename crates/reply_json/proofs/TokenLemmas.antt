@@ -17,7 +17,7 @@ members-members [] = refl
 members-members (m ∷ ms) =
     ap (λ ts. key m.0 ∷ (json_tokens m.1 ++ ts)) (members-members ms) ∙ ap (λ ts. key m.0 ∷ ts) (sym (append_assoc (json_tokens m.1) (member_tokens ms) _))
 
--- members behind members
+-- members after members
 pub member_tokens-append : (ms ns : List Member) → member_tokens (ms ++ ns) ≡ member_tokens ms ++ member_tokens ns
 member_tokens-append [] ns = refl
 member_tokens-append (m ∷ ms) ns =
@@ -31,7 +31,7 @@ document-back j shallow back =
 
 -- ---- values one after another
 
--- the names of some flags, as strings, and the bracket behind them
+-- the names of some flags, as strings, and the bracket after them
 abbrev pub name_tokens : ℕ → List (List ℕ × ℕ) → List Token
 name_tokens bits rows = items_tokens (items_of (map (λ text. string text) (names_of rows bits)))
 
@@ -46,7 +46,7 @@ object_put (Ok u) ms old opened filled new o f n =
     let ends = members-members ms in
     rw (n, f, o, ends) (simp append_assoc)
 
--- ---- tokens behind tokens
+-- ---- tokens after tokens
 
 pub tokens_put : {E : Type 0} (r : Result (Unit {0}) E) (ts us old mid new : List Token)
     → mid ≡ old ++ ts → OnOk r (new ≡ mid ++ us) → OnOk r (new ≡ old ++ (ts ++ us))

@@ -1,3 +1,2 @@
 pub mod Objects
 pub mod Replies
-pub mod Example

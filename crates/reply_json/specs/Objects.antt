@@ -1,4 +1,4 @@
--- JSON objects by the lists of their members, and the text of a value.
+-- JSON objects as lists of their members, and the text of a value.
 use Rattle.std.specs.Prelude.{◌≡◌, ℕ, List, [], ◌∷◌, ◌++◌, map, decimal, OnOk, Result}
 use Rattle.json.specs.Json.{Json, number, string, array, object, Members, no_members, member}
 use Rattle.json.specs.Print.{print}
@@ -31,7 +31,7 @@ strings_of texts = array (items_of (map (λ text. string text) texts))
 abbrev pub json_text : Json → List ℕ
 json_text j = print (json_tokens j)
 
--- ---- what a writer gets
+-- ---- the tokens of a writer
 
 -- the tokens of values, and of members, one after another
 abbrev pub value_tokens : List Json → List Token
@@ -42,6 +42,6 @@ abbrev pub member_tokens : List Member → List Token
 member_tokens [] = []
 member_tokens (m ∷ ms) = key m.0 ∷ (json_tokens m.1 ++ member_tokens ms)
 
--- the writer has got these tokens behind those that it had
+-- the writer has got these tokens after those that it had
 abbrev pub Puts : {E : Type 0} → Result (Unit {0}) E → Written → Written → List Token → Type 0
 Puts r old new ts = (new.before ≡ old.before) × OnOk r (new.tokens ≡ old.tokens ++ ts)

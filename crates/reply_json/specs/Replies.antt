@@ -20,21 +20,21 @@ use Rattle.requests.specs.declared.Reply.{Reply}
 use Rattle.requests.specs.declared.Reply.TheVariants as reply
 use Rattle.reply_json.specs.Objects.{Member, object_of, natural, numbers_of, strings_of, json_text}
 
--- a signal by its name, under the member's name, and by its number
+-- a signal: its name as a member with the given name, and its number
 abbrev pub named_signal : List ℕ → ℕ → List Member
 named_signal name s = (name, string (signal_name s)) ∷ (codes "number", natural s) ∷ []
 
 abbrev pub signal_members : ℕ → List Member
 signal_members s = named_signal (codes "signal") s
 
--- what a wait status says
+-- the members of a kind of wait status
 abbrev pub status_members : StatusKind → List Member
 status_members (Exited code) = (codes "exited", natural code) ∷ []
 status_members (Signaled s) = named_signal (codes "signaled") s
 status_members (Stopped s) = named_signal (codes "stopped") s
 status_members Continued = (codes "continued", boolean true) ∷ []
 
--- a status behind its word, the number that wait(2) writes
+-- a status after its word, the number that wait(2) writes
 abbrev pub word_members : ℕ → StatusKind → List Member
 word_members w status = (codes "word", natural w) ∷ status_members status
 
@@ -45,7 +45,7 @@ flags_of f = (codes "flags", strings_of (names_of stop_table f.0))
 abbrev pub signals_of : ℕ → Json
 signals_of set = strings_of (map (λ s. signal_name s) (members set))
 
--- the child that a stop tells of, and the code of the call
+-- the child that a stop reports, and the code of the call
 abbrev pub call_members : ℕ → ℕ → List Member
 call_members child code = (codes "child", natural child) ∷ (codes "code", natural code) ∷ []
 
@@ -69,7 +69,7 @@ index_of (Some i) = natural i
 abbrev pub pass_of : ℕ → Json
 pass_of s = if s == 0 then null else object_of (signal_members s)
 
--- what is decided, and what is passed on where the process is resumed
+-- the decision, and the signal that is passed on where the process is resumed
 abbrev pub decision_members : Decision → List Member
 decision_members decision.Decline = (codes "decision", string (codes "decline")) ∷ []
 decision_members decision.Leave = (codes "decision", string (codes "leave")) ∷ []
@@ -94,7 +94,7 @@ reply_word (reply.Ended w) = codes "ended"
 reply_word reply.Held = codes "held"
 reply_word (reply.Errno e) = codes "error"
 
--- what stands behind the word
+-- the members after the reply's word
 abbrev pub reply_members : Reply → List Member
 reply_members reply.Done = []
 reply_members (reply.New pid tid) = (codes "pid", natural pid) ∷ (codes "lwp", natural tid) ∷ []
@@ -129,6 +129,6 @@ reply_tokens user n r = json_tokens (reply_value user n r)
 abbrev pub reply_json : ℕ → ℕ → Reply → List ℕ
 reply_json user n r = json_text (reply_value user n r)
 
--- what says by a name why a line is no step
+-- the object with the name of the fault for which a line is not a step
 abbrev pub refusal_value : List ℕ → Json
 refusal_value name = object_of ((codes "refused", string name) ∷ [])

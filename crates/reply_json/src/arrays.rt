@@ -14,7 +14,7 @@ use json::Writer;
 use signals::SigSet;
 use std::alloc::AllocError;
 
-/// Writes numbers one after another, and the bracket behind them.
+/// Writes numbers, and the closing bracket after them.
 fn push_each_number(out: &mut Writer, numbers: &[u32]) -> Result<(), AllocError>
     ensures { Puts result out.old out.new (items_tokens (items_of (map (λ n. natural n) numbers.now))) }
 {
@@ -33,7 +33,7 @@ pub(crate) fn push_numbers(out: &mut Writer, name: &str, numbers: &[u32]) -> Res
     push_each_number(out, numbers)
 }
 
-/// Writes the names of the signals of a set, by their numbers, and the bracket behind them.
+/// Writes the names of a set's signals in the order of their numbers, and the closing bracket after them.
 fn push_each_signal(out: &mut Writer, set: SigSet) -> Result<(), AllocError>
     ensures { Puts result out.old out.new (items_tokens (items_of (map (λ text. string text) (map (λ s. signal_name s) (members set))))) }
 {
@@ -43,7 +43,7 @@ fn push_each_signal(out: &mut Writer, set: SigSet) -> Result<(), AllocError>
     out.end_array()
 }
 
-/// Writes a member that is an array of a set's signals.
+/// Writes a member that is an array of the names of a set's signals.
 pub(crate) fn push_signals(out: &mut Writer, name: &str, set: SigSet) -> Result<(), AllocError>
     ensures { Puts result out.old out.new (member_tokens ((name.now, signals_of set) ∷ [])) }
 {
@@ -52,7 +52,7 @@ pub(crate) fn push_signals(out: &mut Writer, name: &str, set: SigSet) -> Result<
     push_each_signal(out, set)
 }
 
-/// Writes the flag's name where the set has the flag.
+/// Writes the flag's name if the set has the flag.
 fn push_flag<F: Flags + Copy>(out: &mut Writer, set: F, flag: &Flag<F>) -> Result<(), AllocError>
     requires { F.exact }
     ensures { Puts result out.old out.new
@@ -64,7 +64,7 @@ fn push_flag<F: Flags + Copy>(out: &mut Writer, set: F, flag: &Flag<F>) -> Resul
     Ok(())
 }
 
-/// Writes the names of the flags of a set, in the order of their table, and the bracket behind them.
+/// Writes the names of a set's flags in the order of their table, and the closing bracket after them.
 fn push_each_flag<F: Flags + Copy>(out: &mut Writer, set: F) -> Result<(), AllocError>
     requires { F.exact }
     ensures { Puts result out.old out.new (items_tokens (items_of (map (λ text. string text) (names_of F.table (F.set_of set))))) }
@@ -75,7 +75,7 @@ fn push_each_flag<F: Flags + Copy>(out: &mut Writer, set: F) -> Result<(), Alloc
     out.end_array()
 }
 
-/// Writes a member that is an array of a set's flags.
+/// Writes a member that is an array of the names of a set's flags.
 pub(crate) fn push_flags<F: Flags + Copy>(
     out: &mut Writer,
     name: &str,

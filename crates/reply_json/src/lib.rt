@@ -1,4 +1,4 @@
-//! Replies as JSON objects, whose members docs/JSON.md tells.
+//! Replies as JSON objects. docs/JSON.md lists their members.
 #![tactic(auto)]
 
 mod arrays;

@@ -1,4 +1,4 @@
-//! Members of one value.
+//! Members with a single value.
 ghost use Rattle.std.specs.Prelude.{[], ◌∷◌};
 ghost use Rattle.json.specs.Json.{string};
 ghost use Rattle.reply_json.specs.Objects.{natural, member_tokens, Puts};

@@ -1,4 +1,4 @@
-//! The object of a reply.
+//! The JSON object of a reply.
 ghost use Rattle.std.specs.Prelude.{◌≡◌, ◌∷◌, ◌++◌, [], codes, Some, IfOk, OnOk, string_bytes};
 ghost use Rattle.json.specs.Json.{document};
 ghost use Rattle.json.specs.Lex.{tokens};
@@ -20,10 +20,10 @@ use std::alloc::{AllocError, Global};
 use stop_handlers::{Decision, StopView};
 use wait4::Status;
 
-/// Room for most lines, in bytes.
+/// The initial capacity for a reply's text, in bytes: enough for most replies.
 const ROOM: usize = 256;
 
-/// The reply's word.
+/// Returns the reply's word.
 fn word_of(reply: &Reply) -> &'static str
     ensures { result.now ≡ reply_word reply.now }
 {
@@ -46,7 +46,7 @@ fn word_of(reply: &Reply) -> &'static str
     }
 }
 
-/// Writes the numbers of a new process.
+/// Writes the numbers of a new process or LWP.
 fn push_new(out: &mut Writer, pid: Pid, tid: Tid) -> Result<(), AllocError>
     ensures { Puts result out.old out.new (member_tokens (reply_members (reply.New pid tid))) }
 {
@@ -62,7 +62,7 @@ fn push_waited(out: &mut Writer, pid: Pid, status: &Status) -> Result<(), AllocE
     push_status(out, status)
 }
 
-/// Writes the stop that an LWP made.
+/// Writes the stop of an LWP.
 fn push_stopped(out: &mut Writer, tid: Tid, sig: Signal, flags: StopFlags) -> Result<(), AllocError>
     ensures { Puts result out.old out.new (member_tokens (reply_members (reply.Stopped tid sig flags))) }
 {
@@ -71,7 +71,7 @@ fn push_stopped(out: &mut Writer, tid: Tid, sig: Signal, flags: StopFlags) -> Re
     push_stop_flags(out, flags)
 }
 
-/// Writes the stop that handlers were asked about, which of them decided, and what.
+/// Writes the stop that handlers were asked about, the index of the deciding one, and its decision.
 fn push_handling(
     out: &mut Writer,
     view: &StopView,
@@ -86,7 +86,7 @@ fn push_handling(
     push_decision(out, decision)
 }
 
-/// Writes what a wait reported, and how handlers dealt with it.
+/// Writes what a wait reported, and what handlers decided about it.
 fn push_handled(
     out: &mut Writer,
     pid: Pid,
@@ -101,7 +101,7 @@ fn push_handled(
     push_handling(out, view, index, decision)
 }
 
-/// Writes an error by its name and its number.
+/// Writes an error's name and number.
 fn push_errno(out: &mut Writer, errno: Errno) -> Result<(), AllocError>
     ensures { Puts result out.old out.new (member_tokens (reply_members (reply.Errno errno))) }
 {
@@ -109,7 +109,7 @@ fn push_errno(out: &mut Writer, errno: Errno) -> Result<(), AllocError>
     push_number(out, "number", u64::from(errno.number()))
 }
 
-/// Writes the members behind the reply's word.
+/// Writes the members after the reply's word.
 fn push_members(out: &mut Writer, reply: &Reply) -> Result<(), AllocError>
     ensures { Puts result out.old out.new (member_tokens (reply_members reply.now)) }
 {
@@ -160,7 +160,7 @@ fn push_all(out: &mut Writer, uid: Uid, number: u64, reply: &Reply) -> Result<()
     push_members(out, reply)
 }
 
-/// Writes the object of the reply.
+/// Writes the reply's object.
 fn push_object(out: &mut Writer, uid: Uid, number: u64, reply: &Reply) -> Result<(), AllocError>
     ensures { Puts result out.old out.new (reply_tokens uid number reply.now) }
 {
@@ -169,7 +169,7 @@ fn push_object(out: &mut Writer, uid: Uid, number: u64, reply: &Reply) -> Result
     out.end_object()
 }
 
-/// The text of the tokens that a writer got.
+/// Returns the text of a writer's tokens.
 fn text_of(out: Writer) -> String
     requires { out.before ≡ [] }
     ensures text { string_bytes result ≡ print out.tokens }
@@ -178,8 +178,8 @@ fn text_of(out: Writer) -> String
     String::from_utf8(out.into_inner()).unwrap()
 }
 
-/// The reply to a user's step with this number as one JSON object, without a space or a line feed. Refused where no
-/// memory is left.
+/// Returns the reply to a user's step with this number as one JSON object, without a space or a line feed. An error
+/// means out of memory.
 pub fn reply_json(alloc: Global, uid: Uid, number: u64, reply: &Reply) -> Result<String, AllocError>
     ensures text { IfOk result (λ text. string_bytes text ≡ reply_json uid number reply.now) }
     ensures reads_back { OnOk result (document (reply_json uid number reply.now) ≡ Some (reply_value uid number reply.now)) }
@@ -189,7 +189,7 @@ pub fn reply_json(alloc: Global, uid: Uid, number: u64, reply: &Reply) -> Result
     Ok(text_of(out))
 }
 
-/// An object that says by a name why a line is no step. Refused where no memory is left.
+/// Returns an object with the name of the fault for which a line is not a step. An error means out of memory.
 pub fn refusal_json(alloc: Global, name: &str) -> Result<String, AllocError>
     ensures text { IfOk result (λ text. string_bytes text ≡ json_text (refusal_value name.now)) }
     ensures reads_back { OnOk result (document (json_text (refusal_value name.now)) ≡ Some (refusal_value name.now)) }

@@ -12,7 +12,7 @@ use signals::Signal;
 use std::alloc::AllocError;
 use wait4::{Status, StatusKind};
 
-/// Writes a signal by its name, under the member's name, and by its number.
+/// Writes a signal: its name as the member `name`, and its number.
 pub(crate) fn push_signal(out: &mut Writer, name: &str, signal: Signal) -> Result<(), AllocError>
     ensures { Puts result out.old out.new (member_tokens (named_signal name.now signal)) }
 {
@@ -20,7 +20,7 @@ pub(crate) fn push_signal(out: &mut Writer, name: &str, signal: Signal) -> Resul
     push_number(out, "number", u64::from(signal.number()))
 }
 
-/// Writes that a process goes on.
+/// Writes that a process continued.
 fn push_continued(out: &mut Writer) -> Result<(), AllocError>
     ensures { Puts result out.old out.new (member_tokens (status_members Continued)) }
 {
@@ -28,7 +28,7 @@ fn push_continued(out: &mut Writer) -> Result<(), AllocError>
     out.boolean(true)
 }
 
-/// Writes what a status says.
+/// Writes the members of a kind of status.
 fn push_kind(out: &mut Writer, kind: StatusKind) -> Result<(), AllocError>
     ensures { Puts result out.old out.new (member_tokens (status_members kind)) }
 {
@@ -40,7 +40,7 @@ fn push_kind(out: &mut Writer, kind: StatusKind) -> Result<(), AllocError>
     }
 }
 
-/// Writes a status: its word, and what it says.
+/// Writes a status: its word, and the members of its kind.
 pub(crate) fn push_status(out: &mut Writer, status: &Status) -> Result<(), AllocError>
     ensures { Puts result out.old out.new (member_tokens (word_members (word status.now) status.now)) }
 {
@@ -48,7 +48,7 @@ pub(crate) fn push_status(out: &mut Writer, status: &Status) -> Result<(), Alloc
     push_kind(out, status.kind())
 }
 
-/// The name of the signal with this number; empty where no signal has it.
+/// Returns the name of the signal with this number, or an empty text where no signal has it.
 #[tactic(auto, using(crate::proofs::SignalLemmas::no_name))]
 fn name_of(number: u32) -> &'static str
     ensures { result.now ≡ signal_name number }
@@ -59,7 +59,7 @@ fn name_of(number: u32) -> &'static str
     }
 }
 
-/// Writes how a process ended, by its word.
+/// Writes the end of a process, from its status word.
 pub(crate) fn push_end(out: &mut Writer, word: u32) -> Result<(), AllocError>
     ensures { Puts result out.old out.new (member_tokens (word_members word (ended word))) }
 {

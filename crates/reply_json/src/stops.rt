@@ -1,4 +1,4 @@
-//! Stops, and what handlers decide.
+//! Stops and the decisions of handlers.
 ghost use Rattle.std.specs.Prelude.{[], ◌∷◌, codes};
 ghost use Rattle.json.specs.Json.{string};
 ghost use Rattle.reply_json.specs.Objects.{object_of, member_tokens, Puts};
@@ -21,7 +21,7 @@ pub(crate) fn push_stop_flags(out: &mut Writer, flags: StopFlags) -> Result<(), 
     push_flags(out, "flags", flags)
 }
 
-/// Writes the child that a stop tells of, and the code of the call.
+/// Writes the child that a stop reports, and the code of the call.
 fn push_call(out: &mut Writer, child: u32, code: u32) -> Result<(), AllocError>
     ensures { Puts result out.old out.new (member_tokens (call_members child code)) }
 {
@@ -29,7 +29,7 @@ fn push_call(out: &mut Writer, child: u32, code: u32) -> Result<(), AllocError>
     push_number(out, "code", u64::from(code))
 }
 
-/// Writes what PT_LWPINFO told of signals and of the call.
+/// Writes the signals, the child and the call that PT_LWPINFO reported.
 fn push_rest(out: &mut Writer, info: &LwpInfo) -> Result<(), AllocError>
     ensures { Puts result out.old out.new (member_tokens ((codes "mask", signals_of info.now.sigmask)
         ∷ (codes "pending", signals_of info.now.siglist) ∷ call_members info.now.child info.now.code)) }
@@ -39,7 +39,7 @@ fn push_rest(out: &mut Writer, info: &LwpInfo) -> Result<(), AllocError>
     push_call(out, info.child, info.code)
 }
 
-/// Writes what PT_LWPINFO told.
+/// Writes what PT_LWPINFO reported.
 pub(crate) fn push_info(out: &mut Writer, info: &LwpInfo) -> Result<(), AllocError>
     ensures { Puts result out.old out.new (member_tokens (info_members info.now)) }
 {
@@ -69,7 +69,7 @@ pub(crate) fn push_at(out: &mut Writer, view: &StopView) -> Result<(), AllocErro
     out.end_object()
 }
 
-/// Writes which handler decided.
+/// Writes the index of the deciding handler.
 pub(crate) fn push_index(out: &mut Writer, index: Option<u32>) -> Result<(), AllocError>
     ensures { Puts result out.old out.new (member_tokens ((codes "by", index_of index) ∷ [])) }
 {
@@ -103,7 +103,7 @@ fn push_resumed(out: &mut Writer, name: &str, pass: Pass) -> Result<(), AllocErr
     push_pass(out, pass)
 }
 
-/// Writes what is decided.
+/// Writes the decision.
 pub(crate) fn push_decision(out: &mut Writer, decision: Decision) -> Result<(), AllocError>
     ensures { Puts result out.old out.new (member_tokens (decision_members decision)) }
 {

@@ -14,7 +14,8 @@ use std::test::Fail;
 use stop_handlers::ByPolicy;
 use trace_stop::Settings;
 
-/// 1000 and 1001, the second of which has the children 1002, 1003 and 1004; 1003 traces 1004, 1002 traces 1003, and 1000 traces 1002.
+/// Makes the processes 1000 and 1001, and of 1001 the children 1002, 1003 and 1004. 1003 traces 1004, 1002 traces 1003,
+/// and 1000 traces 1002.
 fn make_chain<R: Abort>(rt: &R, alloc: Global, host: &mut Host<ByPolicy>, user: Uid) {
     let made = [
         (PlainStep::Spawn, Answer::New(1000, 100000)),
@@ -174,7 +175,7 @@ fn an_exit_code_is_shifted_and_the_last_lwp_exits_with_0(rt: HostRuntime) -> Res
     alone(&rt, rt.alloc(), &script[..])
 }
 
-/// 1000 traces 1001, which has made 1002 by vfork and waits for it; both run.
+/// Makes the last steps where 1000 traces 1001, which has made 1002 by vfork and waits for it. 1001 and 1002 run.
 fn make_vfork<R: Abort>(rt: &R, alloc: Global, last: &[(PlainStep, Answer)]) -> Result<(), Fail> {
     let mut host = Host::<ByPolicy>::new(alloc, Settings::standard())?;
     let user = trace(rt, alloc, &mut host)?;
@@ -205,7 +206,7 @@ fn a_childs_exec_releases_its_vfork(rt: HostRuntime) -> Result<(), Fail> {
     make_vfork(&rt, rt.alloc(), &last[..])
 }
 
-/// The child's end is told to its tracer, which then leaves it to the parent, whose tracer sees SIGCHLD.
+/// A child's tracer collects its end, which is then left to the parent. The parent's tracer sees SIGCHLD.
 #[test]
 fn a_childs_end_releases_its_vfork(rt: HostRuntime) -> Result<(), Fail> {
     let last = [
@@ -293,7 +294,7 @@ fn an_orphan_is_collected_at_once(rt: HostRuntime) -> Result<(), Fail> {
     alone(&rt, rt.alloc(), &script[..])
 }
 
-/// 250 processes, each of which traces the next: the end of the first ends all.
+/// The end of the first of 250 processes ends all, where each traces the next.
 #[test]
 fn a_long_chain_of_debuggers_ends(rt: HostRuntime) -> Result<(), Fail> {
     let alloc = rt.alloc();

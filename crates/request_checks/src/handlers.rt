@@ -17,7 +17,7 @@ use std::test::Fail;
 use stop_handlers::{ByClosure, ByPolicy, Decider, Decision, Handler, Policy, Rule, StopView};
 use trace_stop::Settings;
 
-/// Installs a handler, which is to be done.
+/// Installs a handler, and checks that the reply is `Done`.
 fn install<R: Abort, F: Decider + Send + Drop>(
     rt: &R,
     alloc: Global,
@@ -41,26 +41,26 @@ fn detaches(none: &Pass) -> Decision {
     Decision::Detach(*none)
 }
 
-/// The answer about the stop of 1001 at its fork.
+/// Returns the answer about the stop of 1001 at its fork.
 fn handled_fork(none: &Pass) -> Answer {
     let fork = reporting(100001, AT_FORK, 1002, 2);
     Answer::Handled(1001, 1407, 5, fork, Some(0), goes_on(none))
 }
 
-/// The answer about the stop of the child.
+/// Returns the answer about the stop of the child.
 fn handled_child() -> Answer {
     let child = reporting(100002, AS_CHILD, 0, 2);
     Answer::Handled(1002, 4479, 17, child, None, Decision::Decline)
 }
 
-/// The answer about the stop of 1001 with SIGUSR1.
+/// Returns the answer about the stop of 1001 with SIGUSR1.
 fn handled_signal(none: &Pass) -> Answer {
     let shows = reporting(100001, NONE, 0, 0);
     Answer::Handled(1001, 7807, 30, shows, Some(0), detaches(none))
 }
 
-/// What 1000 is answered about a fork of its tracee, whose child it traces too, and about a signal:
-/// its one handler goes on at a fork, detaches at SIGUSR1 and kills at another SIGTRAP.
+/// Checks the answers to 1000 about a fork of its tracee, whose child it traces too, and about a signal. Its only
+/// handler continues at a fork, detaches at SIGUSR1 and kills at another SIGTRAP.
 fn handle_stops<R: Abort, F: Decider + Send + Drop>(
     rt: &R,
     alloc: Global,
@@ -85,7 +85,7 @@ fn handle_stops<R: Abort, F: Decider + Send + Drop>(
     follow(rt, alloc, host, user, &script[..]);
 }
 
-/// A host of its own for the handler, whose stops are handled.
+/// Checks how the handler handles these stops, on a host of its own.
 fn follow_fork<R: Abort, F: Decider + Send + Drop>(
     rt: &R,
     alloc: Global,
@@ -99,7 +99,7 @@ fn follow_fork<R: Abort, F: Decider + Send + Drop>(
     Ok(())
 }
 
-/// What a decider that obeys the policy answers in a host of its own.
+/// Checks a decider that obeys the policy, on a host of its own.
 fn decide_by<R: Abort, F: Decider + Send + Drop>(
     rt: &R,
     alloc: Global,
@@ -146,7 +146,7 @@ fn a_closure_decides_by_cases(rt: HostRuntime) -> Result<(), Fail> {
     decide_by(&rt, rt.alloc(), policy, ByClosure(by_cases))
 }
 
-/// A rule for a signal, whatever the flags.
+/// Returns a rule for a signal with any flags.
 fn rule(signal: Signal, decision: Decision) -> Rule {
     Rule {
         signal: Some(signal),
@@ -155,21 +155,21 @@ fn rule(signal: Signal, decision: Decision) -> Rule {
     }
 }
 
-/// The policy of one rule for a signal.
+/// Returns the policy of one rule for a signal.
 fn one_rule(signal: u32, decision: Decision) -> Result<Policy, Fail> {
     let signal = Signal::new(signal)?;
     let policy = Policy::new(&[rule(signal, decision)])?;
     Ok(policy)
 }
 
-/// The handler that answers by the policy itself.
+/// Returns a handler that answers by the policy.
 fn by_policy(policy: Policy) -> Handler<ByPolicy>
     ensures { result ≡ policy }
 {
     Handler::new(policy, ByPolicy(policy))
 }
 
-/// The rules that the handler of `follow_fork` goes by.
+/// Returns the rules of the handler of `follow_fork`.
 fn fork_policy(none: Pass) -> Result<Policy, Fail> {
     let trap = Signal::new(5)?;
     let usr = Signal::new(30)?;
@@ -194,7 +194,7 @@ fn a_policy_decides_about_stops(rt: HostRuntime) -> Result<(), Fail> {
     follow_fork(&rt, rt.alloc(), by_policy(policy))
 }
 
-/// The second handler leaves a stop with SIGSTOP, of which the first says nothing.
+/// Checks that the second handler leaves a stop with SIGSTOP, for which the first has no rule.
 fn leave_stop<R: Abort>(rt: &R, alloc: Global, host: &mut Host<ByPolicy>, user: Uid) {
     let shows = reporting(100001, NONE, 0, 0);
     let left = Answer::Handled(1001, 4479, 17, shows, Some(1), Decision::Leave);
@@ -208,7 +208,7 @@ fn leave_stop<R: Abort>(rt: &R, alloc: Global, host: &mut Host<ByPolicy>, user: 
     follow(rt, alloc, host, user, &script[..]);
 }
 
-/// What stands at the second place was installed by 1000 and has the policy.
+/// Checks that the second handler was installed by 1000 and has the policy.
 fn stands_second<R: Abort>(rt: &R, host: &Host<ByPolicy>, user: Uid, wanted: &Policy) {
     match host.policy(user, 1) {
         Some((debugger, policy)) => {
@@ -233,7 +233,7 @@ fn handlers_are_asked_in_their_order(rt: HostRuntime) -> Result<(), Fail> {
     Ok(())
 }
 
-/// The user's first process.
+/// Makes the user's first process.
 fn spawn_first<R: Abort>(rt: &R, alloc: Global, host: &mut Host<ByPolicy>, user: Uid) {
     let script = [(PlainStep::Spawn, Answer::New(1000, 100000))];
     follow(rt, alloc, host, user, &script[..]);
@@ -251,7 +251,7 @@ fn install_64<R: Abort>(
     }
 }
 
-/// The answer to one more install.
+/// Installs one more handler, and returns the answer.
 fn install_more(alloc: Global, host: &mut Host<ByPolicy>, user: Uid, policy: Policy) -> Answer {
     let step = Step::Install {
         caller: 1000,
@@ -276,7 +276,7 @@ fn a_user_has_up_to_64_handlers(rt: HostRuntime) -> Result<(), Fail> {
     Ok(())
 }
 
-/// The process with the number 1000 + n ends, and the next comes, after 1999 the one with 1000.
+/// Returns the steps that end the process 1000 + n and make the next one, which after 1999 is 1000.
 fn round(n: u32) -> [(PlainStep, Answer); 3]
     requires { n < 1000 }
 {
@@ -288,7 +288,7 @@ fn round(n: u32) -> [(PlainStep, Answer); 3]
     ]
 }
 
-/// The user's numbers are given out once around.
+/// Uses each of the user's numbers once, so that the next one is the first again.
 fn go_around<R: Abort>(rt: &R, alloc: Global, host: &mut Host<ByPolicy>, user: Uid) {
     for n in 0u32..1000 {
         let script = round(n);
@@ -296,7 +296,7 @@ fn go_around<R: Abort>(rt: &R, alloc: Global, host: &mut Host<ByPolicy>, user: U
     }
 }
 
-/// A new process 1000 traces another, and no handler knows of the stop.
+/// Checks that a new process 1000, which traces another, has no handler for the stop.
 fn decline_stop<R: Abort>(rt: &R, alloc: Global, host: &mut Host<ByPolicy>, user: Uid) {
     let shows = reporting(101001, NONE, 0, 0);
     let declined = Answer::Handled(1001, 4479, 17, shows, None, Decision::Decline);
@@ -308,7 +308,7 @@ fn decline_stop<R: Abort>(rt: &R, alloc: Global, host: &mut Host<ByPolicy>, user
     follow(rt, alloc, host, user, &script[..]);
 }
 
-/// A debugger's handlers go with it, and do nothing for a new process with its number.
+/// A debugger's handlers end with it, and do nothing for a new process with its number.
 #[test]
 fn a_handler_does_not_outlive_its_debugger(rt: HostRuntime) -> Result<(), Fail> {
     let alloc = rt.alloc();

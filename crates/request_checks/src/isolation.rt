@@ -1,4 +1,4 @@
-//! Numbers that the user doesn't see, and numbers that nobody has.
+//! Numbers that the user doesn't see, and unused numbers.
 
 use crate::script::{
     Answer, ask, attach, compute, follow, go_on, kill, list, spawn_three, wait_for, with_two,

@@ -1,4 +1,4 @@
-//! Tests of a host's steps and of what its users see, in a crate of their own, so that those that they test are proved once.
+//! Tests of a host's steps and of its users' views, in a crate of their own, so that the tested crates are proved once.
 #![tactic(auto)]
 
 #[cfg(test)]

@@ -1,4 +1,4 @@
-//! Scripts: steps of a user, and what each is to answer.
+//! Scripts: steps of a user with their expected answers.
 
 use event_masks::Call;
 use lwpinfo::{Event, LwpInfo, NumList};
@@ -33,7 +33,7 @@ pub const AS_BORN: u32 = 34;
 /// PL_FLAG_SCX, PL_FLAG_FORKED and PL_FLAG_VFORKED.
 pub const AT_VFORK: u32 = 138;
 
-/// What a step is to answer, in plain numbers: statuses by their words, flags and sets by their bits.
+/// The expected answer to a step in plain numbers: statuses as words, flags and sets as bits.
 #[derive(Clone, Copy, Debug, PartialEq, Eq, Drop)]
 pub enum Answer {
     Done,
@@ -45,7 +45,7 @@ pub enum Answer {
     /// The first five numbers of a list, and zeros where it is shorter.
     Numbers([u32; 5]),
     Mask(u32),
-    /// The process, its status, the stop's signal and what the LWP shows, and the place of the handler with its decision.
+    /// The process, its status, the stop's signal, what the LWP shows, the index of the handler and its decision.
     Handled(u32, u32, u32, Shown, Option<u32>, Decision),
     Stopped(u32, u32, u32),
     Caught(u32),
@@ -54,7 +54,7 @@ pub enum Answer {
     Refused(Errno),
 }
 
-/// What an LWP shows in a stop. A handler's view tells of no sets.
+/// What an LWP shows in a stop. A handler's view contains no sets of signals.
 #[derive(Clone, Copy, Debug, PartialEq, Eq, Drop)]
 pub struct Shown {
     pub tid: u32,
@@ -82,7 +82,7 @@ fn shown_view(view: &StopView) -> Shown {
     reporting(view.tid.get(), view.flags.0, view.child, view.code)
 }
 
-/// What the reporting LWP shows, with no signals blocked or pending.
+/// Returns what the reporting LWP shows, with no signals blocked or pending.
 pub fn reporting(tid: u32, flags: u32, child: u32, code: u32) -> Shown {
     Shown {
         tid,
@@ -95,7 +95,7 @@ pub fn reporting(tid: u32, flags: u32, child: u32, code: u32) -> Shown {
     }
 }
 
-/// The number at a place of a list, or 0.
+/// Returns the number at an index of a list, or 0.
 fn at(list: &NumList, place: usize) -> u32 {
     match list.get(place) {
         Some(number) => number,
@@ -113,7 +113,7 @@ fn numbers(list: &NumList) -> Answer {
     ])
 }
 
-/// A reply in plain numbers.
+/// Returns a reply in plain numbers.
 pub fn answered(reply: &Reply) -> Answer {
     match reply {
         Reply::Done => Answer::Done,
@@ -147,7 +147,7 @@ pub fn answered(reply: &Reply) -> Answer {
     }
 }
 
-/// Makes the steps of a user, none of them an install, each of which is to answer what stands beside it.
+/// Makes the steps of a user, and checks that each has the answer next to it. No step is an install.
 pub fn follow<R: Abort, F: Decider + Send + Drop>(
     rt: &R,
     alloc: Global,
@@ -165,7 +165,7 @@ pub fn follow<R: Abort, F: Decider + Send + Drop>(
     }
 }
 
-/// Two users: the first has the processes 1000 and 1001, the second 2000.
+/// Makes the processes 1000 and 1001 of the first user, and 2000 of the second.
 pub fn spawn_three<R: Abort, F: Decider + Send + Drop>(
     rt: &R,
     alloc: Global,
@@ -181,14 +181,14 @@ pub fn spawn_three<R: Abort, F: Decider + Send + Drop>(
     Ok(first)
 }
 
-/// Steps of the first user alone.
+/// Follows a script of the first user, without another user.
 pub fn alone<R: Abort>(rt: &R, alloc: Global, script: &[(PlainStep, Answer)]) -> Result<(), Fail> {
     let mut host = Host::<ByPolicy>::new(alloc, Settings::standard())?;
     follow(rt, alloc, &mut host, Uid::new(1001)?, script);
     Ok(())
 }
 
-/// Steps of the first user, which has the processes 1000 and 1001.
+/// Follows a script of the first user, which has the processes 1000 and 1001.
 pub fn with_two<R: Abort>(
     rt: &R,
     alloc: Global,
@@ -201,7 +201,7 @@ pub fn with_two<R: Abort>(
     Ok(())
 }
 
-/// The first user's process 1000 attaches 1001 and is told of its stop.
+/// The first user's process 1000 attaches to 1001 and collects its stop.
 pub fn trace<R: Abort, F: Decider + Send + Drop>(
     rt: &R,
     alloc: Global,
@@ -216,7 +216,7 @@ pub fn trace<R: Abort, F: Decider + Send + Drop>(
     Ok(user)
 }
 
-/// Steps of the first user, whose process 1000 traces 1001 and was told of its stop.
+/// Follows a script of the first user, whose process 1000 traces 1001 and has collected its stop.
 pub fn with_tracee<R: Abort>(
     rt: &R,
     alloc: Global,
@@ -237,7 +237,7 @@ pub fn kill(caller: u32, which: i64, sig: u32) -> PlainStep {
     Step::kill(caller, which, sig)
 }
 
-/// A wait without options.
+/// Returns a wait without options.
 pub fn wait_for(caller: u32, which: i64) -> PlainStep {
     let options = Options {
         untraced: false,
@@ -246,7 +246,7 @@ pub fn wait_for(caller: u32, which: i64) -> PlainStep {
     Step::wait4(caller, which, options)
 }
 
-/// A wait for any child, without options.
+/// Returns a wait for any child, without options.
 pub fn wait(caller: u32) -> PlainStep {
     wait_for(caller, -1)
 }
@@ -283,7 +283,7 @@ pub fn sigaction(caller: u32, sig: u32, disposition: Disposition) -> PlainStep {
     Step::sigaction(caller, sig, disposition)
 }
 
-/// A wait for any child, also for one that has stopped or been continued.
+/// Returns a wait for any child, also for a stopped or a continued one.
 pub fn wait_for_jobs(caller: u32, untraced: bool, continued: bool) -> PlainStep {
     let options = Options {
         untraced,

@@ -5,7 +5,7 @@ use std::alloc::Global;
 use std::test::Fail;
 use wait4::{Status, StatusKind};
 
-/// What each word of 16 bits tells, by the words of all statuses.
+/// Returns the status of each word of 16 bits, from the words of all statuses.
 fn statuses_by_word(alloc: Global) -> Result<Vec<Option<StatusKind>>, Fail> {
     let mut kinds = vec![in alloc; None; 65_536]?;
     for code in 0..=255u8 {
@@ -30,7 +30,7 @@ fn write(kinds: &mut Vec<Option<StatusKind>>, place: usize, kind: StatusKind) {
     }
 }
 
-/// What the status with this word tells, if its word is this.
+/// Returns the kind of the status of this word, if its word is this one.
 fn kind_of(word: u32) -> Option<StatusKind> {
     let status = Status::of_word(word)?;
     (status.word() == word).then_some(status.kind())

@@ -17,7 +17,7 @@ pub record Acting (rows : Rows) (p : ProcData) (l : LwpData) : Type 0 where
   pub own : l.pid ≡ p.pid
   pub run : is_run p ≡ true
 
--- the LWP that a user sees by its number, beside its process
+-- the LWP that a user sees by its number, with its process
 pub seen_acting : (u tid : ℕ) (rows : Rows) (l : LwpData) (p : ProcData) → IsSound rows → seen_lwp u tid rows ≡ Some l → process_of l.pid rows.processes ≡ Some p → is_run p ≡ true → Acting rows p l
 seen_acting u tid rows l p s seen at run = search (rules, find_some, own_lwps, found_number)
 

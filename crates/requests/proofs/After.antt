@@ -1,4 +1,4 @@
--- A host whose rows are sound after a step is sound, once the pairs of those who ended are gone.
+-- A host whose rows are sound after a step is sound, once the pairs of ended debuggers are gone.
 use Rattle.requests.proofs.Names.{nat_tests, ◌≡◌, ℕ, ◌+◌, ◌≤◌, List, [], ◌∷◌, length, map, filter, zip, Bool, true, ◌==◌, ◌&&◌, leb, refl, ap, ◌∙◌, arith, eqb-true, subst, eq-eqb, get_or, rules}
 use Rattle.requests.proofs.Names.{length-map, AllByRecursion, list_any, list_all, le-leb, leb-true, IsUser, slot, pid_block, users, ProcData, is_live, Rows, AtHome, is_live_of, sound_rows, IsLiveOf}
 use Rattle.requests.proofs.Names.{Stands, IsSound, and_left, and_right, both, All-from_list_all, list_all-from_All, All-imply, any_holds, any_more, IsSound-from, sound_rows-from, user_at, zip_users}

@@ -41,7 +41,7 @@ reporting_own rows p tid s at told =
     let number : stop.tid ≡ tid = some_is stop.tid tid (sym stop.reports ∙ (ap reporting row ∙ reports)) in
     subst (λ n. IsSomeAnd (lwp_of n rows.lwps) (λ l. l.pid ≡ p.pid)) number (rw stop.named stop.own)
 
--- a request about a tracee of the caller, in a stop that it was told of
+-- a request about a tracee of the caller, in a stop that was reported to it
 pub asks_tracee : (settings : Settings) (u : ℕ) (caller : ProcData) (r : Request) (target «data» : ℕ) (rows : Rows) (p : ProcData) (tid : ℕ)
     → is_trace_me r ≡ false → target_of u target rows ≡ Some p → is_live p ≡ true → is_attach r ≡ false → is_some p.tracer ≡ true → traces caller.pid p ≡ true → told_stop p.state ≡ Some tid
     → ptrace settings u caller r target «data» rows ≡ command settings r «data» (if leb target 99999 then tid else target) p rows

@@ -12,7 +12,7 @@ use Rattle.std.proofs.Math.ListN.{get_or-map}
 abbrev pub left_in : Rows → ℕ → Machine → List Installed
 left_in rows u m = filter (λ i. is_live_number rows i.debugger) (installed_by u m)
 
--- the host with other rows, and the user's pairs of live debuggers alone
+-- the host with other rows, and only the user's pairs of live debuggers
 abbrev pub kept_by : ℕ → Rows → Machine → Machine
 kept_by u rows m = record m { rows = rows; installed = set m.installed (slot u) (left_in rows u m) }
 

@@ -48,7 +48,7 @@ module _ (rows : Rows) (p : ProcData) (l : LwpData) (a : Acting rows p l) where
   user_fits : (q : ProcData) (k : LwpData) → FitLwp q k → FitLwp q (record k { mode = User })
   user_fits q k fit = grind (arith, nat_tests)
 
-  -- the rows but for what is pending
+  -- the rows, except for pending signals
   pub exec_but_pending : IsSoundButPending p.pid made
   exec_but_pending = record { stands = held.stands; processes = held.processes; lwps = held.lwps }
     where

@@ -13,7 +13,7 @@ pub record MayShow (p : ProcData) (flags : StopFlags) : Type 0 where
   pub stays : shows flags PL_FLAG_EXITED ≡ false
 
 module _ (p : ProcData) (fit : FitProcess p) where
-  -- who isn't traced asks for nothing
+  -- a process that isn't traced asks for nothing
   asks_traced : (event : EventMask) → (0 == event.0) ≡ false → asks p.mask event ≡ true → is_some p.tracer ≡ true
   asks_traced event some is = traced_where p.tracer (λ none. true≢false (sym is ∙ subst (λ n. (bit_and n event.0 == event.0) ≡ false) (sym (fit.untraced none).mask) (subst (λ n. (n == event.0) ≡ false) (sym (zero_apart event.0)) some)))
 

@@ -1,7 +1,7 @@
 -- The clauses of a step, from what was done to the rows and what was answered.
-use Rattle.requests.proofs.Names.{◌≡◌, ◌≢◌, ℕ, Some, List, [], set, true, false, refl, sym, ap, ◌∙◌, subst, inl, inr, set-get_or, IsUser, slot, Rows, PlainStep, Reply, Outcome, answers, Installed}
+use Rattle.requests.proofs.Names.{◌≡◌, ◌≢◌, ℕ, Some, None, List, [], set, true, false, refl, sym, ap, ◌∙◌, subst, inl, inr, set-get_or, IsUser, slot, Rows, PlainStep, Reply, Outcome, answers, Installed}
 use Rattle.requests.proofs.Names.{Machine, after, takes_memory, is_refusal, may_want, step_fits, sound, Steps, ProcData, step, calls, caller_of, Rule, length, installed_by, le-leb, not, ◌<◌, ◌≤◌}
-use Rattle.requests.proofs.Names.{◌++◌, ◌∷◌, Errno, Step}
+use Rattle.requests.proofs.Names.{◌++◌, ◌∷◌, Errno, Step, Attempts, Result, Ok, Err, uncalled, installs, outcome_of, Tries, step_of}
 use Rattle.requests.specs.Callers.{IsCaller, Calls, Barred}
 use Rattle.requests.proofs.After.{all_left, answers_same, rows_sound}
 use Rattle.requests.proofs.Called.{called, is_caller}
@@ -10,11 +10,6 @@ use Rattle.requests.proofs.Installing.{installed_with, few_leb}
 use Rattle.requests.proofs.Replies.{cases_memory, other}
 use Rattle.requests.proofs.Refusing.{never_memory, refused_same}
 use Rattle.requests.proofs.StaysSound.{sound_kept}
-
--- rows and reply of an outcome, or want of memory and the rows as they were
-pub record Did (u : ℕ) (s : PlainStep) (m : Machine) (o : Outcome) (rows : Rows) (r : Reply) : Type 0 where
-  pub machine : r ≢ Reply.Errno Errno.ENOMEM → (rows ≡ o.rows) × (r ≡ o.reply)
-  pub memory : r ≡ Reply.Errno Errno.ENOMEM → (rows ≡ m.rows) × (takes_memory u s m ≡ true) × (is_refusal o.reply ≡ false)
 
 module _ (u : ℕ) (s : PlainStep) (m : Machine) (user : IsUser u) (is : sound m ≡ true) (fits : step_fits s ≡ true) where
   pub from_machine : (n : Machine) (r : Reply) → (r ≢ Reply.Errno Errno.ENOMEM → (n ≡ (step u s m).machine) × (r ≡ (step u s m).reply)) → (r ≡ Reply.Errno Errno.ENOMEM → (n ≡ m) × (may_want u s m ≡ true)) → Steps u s m n r
@@ -32,72 +27,105 @@ module _ (u : ℕ) (s : PlainStep) (m : Machine) (user : IsUser u) (is : sound m
   }
 
   -- once the pairs of the user's ended debuggers are gone
-  pub finished : (o : Outcome) (rows : Rows) (r : Reply) → step u s m ≡ after m o → Did u s m o rows r → Steps u s m (kept_by u rows m) r
-  finished o rows r same did = from_machine (kept_by u rows m) r
-      (λ ok. (ap (λ x. kept_by u x m) (did.machine ok).0 ∙ sym (drops m u user is s o same) ∙ sym (ap (λ a. a.machine) same), (did.machine ok).1 ∙ sym (ap (λ a. a.reply) same)))
+  pub finished : {E : Type 0} (o : Outcome) (rows : Rows) (r : Result Reply E) → step u s m ≡ after m o → Attempts (takes_memory u s m) o m.rows rows r → Tries u s m (kept_by u rows m) r
+  finished o rows (Ok r) same did = from_machine (kept_by u rows m) r
+      (λ ok. (ap (λ x. kept_by u x m) did.gives.rows ∙ sym (drops m u user is s o same) ∙ sym (ap (λ a. a.machine) same), did.gives.reply ∙ sym (ap (λ a. a.reply) same)))
+      (λ e. absurd (never_memory u s m (ap (λ a. a.reply) same ∙ sym did.gives.reply ∙ e)))
+  finished o rows (Err e) same did = from_machine (kept_by u rows m) (Reply.Errno Errno.ENOMEM) (λ plenty. absurd (plenty refl))
       (λ e. (
-        ap (λ x. kept_by u x m) (did.memory e).0 ∙ ap (λ x. record m { installed = x }) (ap (set_at m.installed) (all_left m is u user) ∙ set-get_or m.installed (slot u) []),
-        rw ((did.memory e).1, ap (λ a. is_refusal a.reply) same ∙ (did.memory e).2) refl,
+        ap (λ x. kept_by u x m) did.same ∙ ap (λ x. record m { installed = x }) (ap (set_at m.installed) (all_left m is u user) ∙ set-get_or m.installed (slot u) []),
+        rw (did.takes, ap (λ a. is_refusal a.reply) same ∙ did.unrefused) refl,
       ))
     where
       set_at : List (List Installed) → List Installed → List (List Installed)
       set_at xs ys = set xs (slot u) ys
 
-  pub finished_with : (o : Outcome) (rows : Rows) (kept : List (List Installed)) (r : Reply) → kept ≡ set m.installed (slot u) (left_in rows u m) → step u s m ≡ after m o → Did u s m o rows r → Steps u s m (record m { rows = rows; installed = kept }) r
-  finished_with o rows kept r keeps same did = subst (λ x. Steps u s m (record m { rows = rows; installed = x }) r) (sym keeps) (finished o rows r same did)
-
-  -- a step that takes no memory
-  pub finished_rows : (o : Outcome) (rows : Rows) (kept : List (List Installed)) (r : Reply) → kept ≡ set m.installed (slot u) (left_in rows u m) → step u s m ≡ after m o → rows ≡ o.rows → r ≡ o.reply → Steps u s m (record m { rows = rows; installed = kept }) r
-  finished_rows o rows kept r keeps same changed answered = finished_with o rows kept r keeps same (record { machine = λ ok. (changed, answered); memory = λ e. absurd (never_memory u s m (ap (λ a. a.reply) same ∙ sym answered ∙ e)) })
-
   -- a refusal before anything was done
   pub refuses_at : (r : Reply) → r ≢ Reply.Errno Errno.ENOMEM → step u s m ≡ after m (answers r m.rows) → Steps u s m m r
   refuses_at r plenty same = from_machine m r (λ ok. (sym (answers_same m r is) ∙ sym (ap (λ a. a.machine) same), sym (ap (λ a. a.reply) same))) (λ e. absurd (plenty e))
 
-  pub barred : (n : ℕ) (r : Reply) → caller_of s ≡ Some n → Barred u n m r → Steps u s m m r
-  barred n r by b = refuses_at r b.other (b.answer s by)
-
   pub wants_at : may_want u s m ≡ true → Steps u s m m (Reply.Errno Errno.ENOMEM)
   wants_at wants = from_machine m (Reply.Errno Errno.ENOMEM) (λ plenty. absurd (plenty refl)) (λ e. (refl, wants))
 
--- what a caller's step does to the rows
-abbrev done_by : ℕ → PlainStep → ProcData → Machine → Outcome
-done_by u s p m = record { rows = (calls u s p m).machine.rows; reply = (calls u s p m).reply }
+pub tries_sound : {E : Type 0} (u : ℕ) (s : PlainStep) (m n : Machine) (r : Result Reply E) → Tries u s m n r → sound n ≡ true
+tries_sound u s m n (Ok r) steps = steps.sound
+tries_sound u s m n (Err e) steps = steps.sound
+
+-- a step changes the installed policies only by an install, and else as processes end
+uncalled_after : (u : ℕ) (s : PlainStep) (m : Machine) → uncalled u s m ≡ after m (outcome_of (uncalled u s m))
+uncalled_after u Step.Spawn m = refl
+uncalled_after u (Step.List n) m = refl
+uncalled_after u (Step.Sigaction n s d) m = refl
+uncalled_after u (Step.Kill n which s) m = refl
+uncalled_after u (Step.Wait4 n which options) m = refl
+uncalled_after u (Step.Install n policy) m = refl
+uncalled_after u (Step.Handle n) m = refl
+uncalled_after u (Step.Ptrace n r target «data») m = refl
+uncalled_after u (Step.Turn tid a) m = refl
+
+-- a step that isn't an install
+pub other_kind : (s : PlainStep) → ((n : ℕ) (policy : List Rule) → s ≡ Step.Install n policy → ⊥) → installs s ≡ false
+other_kind Step.Spawn none = refl
+other_kind (Step.List n) none = refl
+other_kind (Step.Sigaction n s d) none = refl
+other_kind (Step.Kill n which s) none = refl
+other_kind (Step.Wait4 n which options) none = refl
+other_kind (Step.Install n policy) none = absurd (none n policy refl)
+other_kind (Step.Handle n) none = refl
+other_kind (Step.Ptrace n r target «data») none = refl
+other_kind (Step.Turn tid a) none = refl
+
+calls_after : (u : ℕ) (s : PlainStep) (p : ProcData) (m : Machine) → installs s ≡ false → calls u s p m ≡ after m (outcome_of (calls u s p m))
+calls_after u Step.Spawn p m other = refl
+calls_after u (Step.List n) p m other = refl
+calls_after u (Step.Sigaction n s d) p m other = refl
+calls_after u (Step.Kill n which s) p m other = refl
+calls_after u (Step.Wait4 n which options) p m other = refl
+calls_after u (Step.Install n policy) p m other = absurd (cc)
+calls_after u (Step.Handle n) p m other = refl
+calls_after u (Step.Ptrace n r target «data») p m other = refl
+calls_after u (Step.Turn tid a) p m other = refl
 
 -- The same of a host's value h, which its user sees as m
-module _ {u n : ℕ} {h m : Machine} (view : h ≡ m) (user : IsUser u) (kept : sound h ≡ true) where
-  pub host_barred : {s : PlainStep} {r : Reply} → step_fits s ≡ true → caller_of s ≡ Some n → Barred u n m r → Steps u s m m r
-  host_barred {s} {r} fits by b = barred u s m user (subst (λ x. sound x ≡ true) view kept) fits n r by b
+module _ {u : ℕ} {h m : Machine} (view : h ≡ m) (user : IsUser u) (kept : sound h ≡ true) where
+  seen_kept : sound m ≡ true
+  seen_kept = subst (λ x. sound x ≡ true) view kept
 
-  module _ {p : ProcData} (found : Calls u n m.rows p) where
+  pub host_barred : {n : ℕ} {s : PlainStep} {r : Reply} → step_fits s ≡ true → caller_of s ≡ Some n → Barred u n m r → Steps u s m m r
+  host_barred {s = s} {r = r} fits by b = refuses_at u s m user seen_kept fits r b.other (b.answer s by)
+
+  -- a step once what ended debuggers had installed is gone
+  module _ {E : Type 0} (s : PlainStep) (fits : step_fits s ≡ true) {rows : Rows} {left : List (List Installed)} {r : Result Reply E} (keeps : left ≡ set h.installed (slot u) (left_in rows u h)) where
+    host_done : (o : Outcome) → step u s h ≡ after h o → Attempts (takes_memory u s h) o h.rows rows r → Tries u s h (record h { rows = rows; installed = left }) r
+    host_done o same did = subst (λ x. Tries u s h (record h { rows = rows; installed = x }) r) (sym keeps) (finished u s h user kept fits o rows r same did)
+
+    pub host_uncalled : caller_of s ≡ None → Attempts (takes_memory u s h) (outcome_of (uncalled u s h)) h.rows rows r → Tries u s h (record h { rows = rows; installed = left }) r
+    host_uncalled none did = host_done (outcome_of (uncalled u s h)) (ap (step_of u s h) none ∙ uncalled_after u s h) did
+
+    pub host_called : {n : ℕ} {p : ProcData} → Calls u n m.rows p → caller_of s ≡ Some n → installs s ≡ false → Attempts (takes_memory u s h) (outcome_of (calls u s p h)) h.rows rows r → Tries u s h (record h { rows = rows; installed = left }) r
+    host_called {n} {p} found by kind did =
+        let f : Calls u n h.rows p = subst (λ x. Calls u n x.rows p) (sym view) found in
+        host_done (outcome_of (calls u s p h)) (called u n s h by p f.seen f.live f.runs ∙ calls_after u s p h kind) did
+
+  module _ {n : ℕ} {p : ProcData} (found : Calls u n m.rows p) where
     by_host : Calls u n h.rows p
     by_host = subst (λ x. Calls u n x.rows p) (sym view) found
 
     pub host_caller : IsCaller u p h.rows
     host_caller = is_caller u n h.rows p (rows_sound h kept).stands.rising by_host
 
-    pub host_calls : (s : PlainStep) → caller_of s ≡ Some n → step u s h ≡ calls u s p h
-    host_calls s by = called u n s h by p by_host.seen by_host.live by_host.runs
-
-    -- an installation: there is no room for it, it is made, or memory is wanting
+    -- an installation: there is no room for it, it is made, or memory runs out
     module _ (policy : List Rule) where
       pub host_full : 64 ≤ length (installed_by u m) → Steps u (Step.Install n policy) m m (Reply.Errno Errno.EAGAIN)
-      host_full many = refuses_at u (Step.Install n policy) m user (subst (λ x. sound x ≡ true) view kept) refl (Reply.Errno Errno.EAGAIN) (other (Reply.Errno Errno.EAGAIN) refl)
+      host_full many = refuses_at u (Step.Install n policy) m user seen_kept refl (Reply.Errno Errno.EAGAIN) (other (Reply.Errno Errno.EAGAIN) refl)
           (called u n (Step.Install n policy) m refl p found.seen found.live found.runs ∙ rw (le-leb 64 (length (installed_by u m)) many) refl)
 
-      installs : length (installed_by u h) < 64 → step u (Step.Install n policy) h ≡ installed_with u p.pid policy h
-      installs few = host_calls (Step.Install n policy) refl ∙ rw (few_leb (length (installed_by u h)) few) refl
+      made : length (installed_by u h) < 64 → step u (Step.Install n policy) h ≡ installed_with u p.pid policy h
+      made few = called u n (Step.Install n policy) h refl p by_host.seen by_host.live by_host.runs ∙ rw (few_leb (length (installed_by u h)) few) refl
 
       pub host_installed : {xs : List (List Installed)} → length (installed_by u h) < 64 → xs ≡ set h.installed (slot u) (installed_by u h ++ (record { debugger = p.pid; policy = policy } ∷ [])) → Steps u (Step.Install n policy) h (record h { installed = xs }) Reply.Done
       host_installed {xs} few done = from_machine u (Step.Install n policy) h user kept refl (record h { installed = xs }) Reply.Done
-          (λ ok. (ap (λ ys. record h { installed = ys }) done ∙ sym (ap (λ a. a.machine) (installs few)), sym (ap (λ a. a.reply) (installs few)))) (λ e. absurd (other Reply.Done refl e))
+          (λ ok. (ap (λ ys. record h { installed = ys }) done ∙ sym (ap (λ a. a.machine) (made few)), sym (ap (λ a. a.reply) (made few)))) (λ e. absurd (other Reply.Done refl e))
 
       pub host_wants : {xs : List (List Installed)} → length (installed_by u h) < 64 → xs ≡ h.installed → Steps u (Step.Install n policy) h (record h { installed = xs }) (Reply.Errno Errno.ENOMEM)
-      host_wants few same = subst (λ xs. Steps u (Step.Install n policy) h (record h { installed = xs }) (Reply.Errno Errno.ENOMEM)) (sym same) (wants_at u (Step.Install n policy) h user kept refl (ap (λ a. not (is_refusal a.reply)) (installs few)))
-
-    module _ {s : PlainStep} (fits : step_fits s ≡ true) (by : caller_of s ≡ Some n) (same : calls u s p h ≡ after h (done_by u s p h)) {rows : Rows} {left : List (List Installed)} {r : Reply} (keeps : left ≡ set h.installed (slot u) (left_in rows u h)) where
-      pub host_called : Did u s h (done_by u s p h) rows r → Steps u s h (record h { rows = rows; installed = left }) r
-      host_called did = finished_with u s h user kept fits (done_by u s p h) rows left r keeps (host_calls s by ∙ same) did
-
-      pub host_rows : rows ≡ (done_by u s p h).rows → r ≡ (done_by u s p h).reply → Steps u s h (record h { rows = rows; installed = left }) r
-      host_rows changed answered = finished_rows u s h user kept fits (done_by u s p h) rows left r keeps (host_calls s by ∙ same) changed answered
+      host_wants few same = subst (λ xs. Steps u (Step.Install n policy) h (record h { installed = xs }) (Reply.Errno Errno.ENOMEM)) (sym same) (wants_at u (Step.Install n policy) h user kept refl (ap (λ a. not (is_refusal a.reply)) (made few)))

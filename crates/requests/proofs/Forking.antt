@@ -35,7 +35,7 @@ heard_lwp rows pids n l p there home = by_told (is_told p) (changed_lwp n is_tol
     by_told true is = (_, is)
     by_told false is = (l.pending, is)
 
--- Rows beside the one that stops
+-- Rows other than the one that stops
 
 other_process : (n pid : ℕ) (f : ProcData → ProcData) (rows : Rows) (p : ProcData) → ((q : ProcData) → (f q).pid ≡ q.pid) → process_of n rows.processes ≡ Some p → (p.pid == pid) ≡ false → process_of n (change_process pid f rows).processes ≡ Some p
 other_process n pid f rows p same at other = find_edit (λ q. q.pid == n) (λ q. Some (if q.pid == pid then f q else q)) (λ q. choose (q.pid == pid) (f q) q (λ r. (r.pid == n) ≡ (q.pid == n)) (λ e. ap (λ m. eqb m n) (same q)) (λ e. refl)) rows.processes p p at (rw other refl)
@@ -93,7 +93,7 @@ module _ (call : Call) (rows : Rows) (p : ProcData) (l : LwpData) (a : Acting ro
     };
   })
 
-  -- numbers that nobody had
+  -- unused numbers
   other_pid : p.pid ≢ new.pid
   other_pid same = true≢false (sym (find_passes (λ q. q.pid == p.pid) (λ q. q.pid == new.pid) rows.processes p a.home (eq-eqb p.pid new.pid same)) ∙ room.free)
 

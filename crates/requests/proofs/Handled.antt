@@ -1,13 +1,13 @@
 -- What is decided about a trace stop, and what a handle asks.
-use Rattle.requests.proofs.Names.{option_map, ◌≡◌, ℕ, ◌≤◌, ◌%◌, [], ◌∷◌, negsuc, Bool, true, false, ◌==◌, if◌then◌else◌, List, Option, Some, None, IfSome, refl, sym, ap, ◌∙◌, subst, eq-eqb}
-use Rattle.requests.proofs.Names.{true≢false, rules, le-leb, LwpData, lwp_of, ProcData, State, Run, Trace, Job, Zombie, Rise, process_of, Rows, each, Settings, detach, IsSound, find_edit, Rule}
-use Rattle.requests.proofs.Names.{Decision, StatusKind, Collected, candidates, collect, answer, reported, rows_after, told, status_of, status_of_state, Outcome, answers, with_signal, view_of, done}
-use Rattle.requests.proofs.Names.{no_options, handles_stop, handles_status, handles, handled_by, continues_with, choose, by_kept, Reply}
+use Rattle.requests.proofs.Names.{◌≡◌, ℕ, ◌≤◌, [], ◌∷◌, negsuc, Bool, true, false, ◌==◌, if◌then◌else◌, List, Option, Some, None, IfSome, refl, sym, ap, ◌∙◌, subst, eq-eqb}
+use Rattle.requests.proofs.Names.{true≢false, le-leb, LwpData, lwp_of, ProcData, State, Run, Trace, Job, Zombie, Rise, process_of, Rows, each, Settings, detach, IsSound, find_edit, Rule}
+use Rattle.requests.proofs.Names.{Decision, StatusKind, Collected, candidates, collect, answer, reported, rows_after, told, status_of, Outcome, answers, with_signal, done}
+use Rattle.requests.proofs.Names.{SIGCHLD, decided, cases_Bool, inl, inr, list_any, option_and_then, notified, posted_process, no_options, handles_stop, handles_status, handles, handled_by, continues_with, choose, by_kept, Reply}
 use Rattle.stop_handlers.specs.declared.StopView.{StopView}
 use Rattle.wait4.specs.declared.StatusKind.TheVariants.{Continued}
-use Rattle.wait4.specs.Status.{ended}
 use Rattle.wait4.specs.Collect as wait
-use Rattle.requests.specs.Asking.{is_stop, viewed_in, asks_view, asks_row, asks}
+use Rattle.requests.specs.declared.handlers.Decided.{Decided}
+use Rattle.trace_stop.proofs.Passes.{process_edited, rise_edited}
 use Rattle.requests.proofs.Forking.{heard}
 use Rattle.requests.proofs.Tracees.{continue_as}
 use Rattle.requests.proofs.Steps.{reported_row}
@@ -25,7 +25,7 @@ pub detached : (settings : Settings) (p : ProcData) (rows after : Rows) (s n : �
     → after ≡ (with_signal n (answers Reply.Done (detach settings p.pid n rows)) rows).rows → after ≡ done settings (Decision.Detach s) p rows
 detached settings p rows after s n same small done = done ∙ ap (λ o. o.rows) (within n (answers Reply.Done (detach settings p.pid n rows)) rows small) ∙ ap (λ m. detach settings p.pid m rows) same
 
--- What is done to a stop follows from the process's number alone
+-- The handling of a stop depends only on the process's number
 done_pid : (settings : Settings) (d : Decision) (p q : ProcData) (rows : Rows) → q.pid ≡ p.pid → done settings d q rows ≡ done settings d p rows
 done_pid settings Decision.Decline p q rows same = refl
 done_pid settings Decision.Leave p q rows same = refl
@@ -33,15 +33,23 @@ done_pid settings (Decision.Continue s) p q rows same = ap (λ n. (continues_wit
 done_pid settings (Decision.Detach s) p q rows same = ap (λ n. detach settings n s rows) same
 done_pid settings Decision.Kill p q rows same = ap (λ n. done settings Decision.Kill (record p { pid = n }) rows) same
 
-asks_pid : (settings : Settings) (policies : List (List Rule)) (status : StatusKind) (p q : ProcData) (rows : Rows) (o : Option StopView) → q.pid ≡ p.pid → asks_view settings policies status q rows o ≡ asks_view settings policies status p rows o
-asks_pid settings policies status p q rows None same = ap (λ n. answers (Reply.Status n status) rows) same
-asks_pid settings policies status p q rows (Some view) same = search (rules, done_pid)
+-- The handling of a status depends only on the process's number
+abbrev seen : ℕ → ℕ → ℕ → LwpData → StopView
+seen n tid sig l = record { pid = n; tid = tid; sig = sig; flags = l.flags; child = l.child; code = l.code }
 
-viewed_pid : (rows : Rows) (p q : ProcData) (s : State) → q.pid ≡ p.pid → viewed_in rows q s ≡ viewed_in rows p s
-viewed_pid rows p q s same = ap (λ n. viewed_in rows (record p { pid = n }) s) same
+stop_pid : (settings : Settings) (policies : List (List Rule)) (status : StatusKind) (p q : ProcData) (tid sig : ℕ) (rows : Rows) (o : Option LwpData) → q.pid ≡ p.pid
+    → handles_stop settings policies q tid sig status rows o ≡ handles_stop settings policies p tid sig status rows o
+stop_pid settings policies status p q tid sig rows None same = ap (λ n. answers (Reply.Status n status) rows) same
+stop_pid settings policies status p q tid sig rows (Some l) same =
+    let at : ℕ → Decided = λ n. decided policies 0 (seen n tid sig l) in
+    ap (λ r. answers (Reply.Handled q.pid status (seen q.pid tid sig l) (at q.pid).index (at q.pid).decision) r) (done_pid settings (at q.pid).decision p q rows same)
+    ∙ ap (λ n. answers (Reply.Handled n status (seen n tid sig l) (at n).index (at n).decision) (done settings (at n).decision p rows)) same
 
-ended_quiet : (w : ℕ) → is_stop (ended w) ≡ false
-ended_quiet w = choose (w % 256 == 0) _ _ (λ s. is_stop s ≡ false) (λ e. refl) (λ e. refl)
+state_pid : (settings : Settings) (policies : List (List Rule)) (status : StatusKind) (p q : ProcData) (rows : Rows) (x : State) → q.pid ≡ p.pid → handles_status settings policies status q rows x ≡ handles_status settings policies status p rows x
+state_pid settings policies status p q rows Run same = ap (λ n. answers (Reply.Status n status) rows) same
+state_pid settings policies status p q rows (Trace tid sig told) same = stop_pid settings policies status p q tid sig rows (lwp_of tid rows.lwps) same
+state_pid settings policies status p q rows (Job sig told) same = ap (λ n. answers (Reply.Status n status) rows) same
+state_pid settings policies status p q rows (Zombie w) same = ap (λ n. answers (Reply.Status n status) rows) same
 
 -- what was collected
 abbrev pub is_got : Collected → Bool
@@ -75,35 +83,59 @@ module _ (settings : Settings) (caller : ℕ) (policies : List (List Rule)) (row
     row_left z is = subst (λ (r : Rows). (m : ℕ) × (process_of p.pid r.processes ≡ Some (record z { pending = m }))) (ap (λ o. wait.without_report caller o rows) (sym found))
         (heard (each to (λ q l. Some l) rows) (told caller p) p.pid z (find_edit (λ q. q.pid == p.pid) to same_pid rows.processes p z (reported_row rows caller (negsuc 0) no_options p s.stands.rising found) (rw (eq-eqb p.pid p.pid refl) is)))
 
-    row_asked : (status : StatusKind) (z : ProcData) → wait.collected caller p ≡ Some z → z.pid ≡ p.pid → asks_row settings policies p.pid status after (process_of p.pid after.processes) ≡ asks_view settings policies status p after (viewed_in after p z.state)
-    row_asked status z is own =
+    -- it is gone where it is not left
+    row_gone : wait.collected caller p ≡ None → process_of p.pid after.processes ≡ None
+    row_gone gone =
+        let here = reported_row rows caller (negsuc 0) no_options p s.stands.rising found in
+        let one : process_of p.pid (each to (λ q l. Some l) rows).processes ≡ None = process_edited to keeps p.pid rows.processes s.stands.rising ∙ (ap (option_and_then to) here ∙ rw (eq-eqb p.pid p.pid refl) gone) in
+        let two : process_of p.pid (notified (told caller p) (each to (λ q l. Some l) rows)).processes ≡ None
+        = process_edited hears (λ q. choose (list_any (λ n. n == q.pid) (told caller p)) _ _ (λ (r : ProcData). r.pid ≡ q.pid) (λ e. refl) (λ e. refl)) p.pid (each to (λ q l. Some l) rows).processes (rise_edited to keeps rows.processes s.stands.rising) ∙ ap (option_and_then hears) one in
+        subst (λ (r : Rows). process_of p.pid r.processes ≡ None) (ap (λ o. wait.without_report caller o rows) (sym found)) two
+      where
+        keeps : (q : ProcData) → IfSome (to q) (λ r. r.pid ≡ q.pid)
+        keeps q = by_kept caller p q (λ o. IfSome o (λ r. r.pid ≡ q.pid)) (λ no. tt) (λ r k. k.pid)
+
+        hears : ProcData → Option ProcData
+        hears q = Some (if list_any (λ n. n == q.pid) (told caller p) then posted_process SIGCHLD None q else q)
+
+    -- a handle of the row after the collection
+    abbrev handled_after : StatusKind → Outcome
+    handled_after status = handles settings policies rows after (process_of p.pid after.processes) (Collected.Got p.pid status)
+
+    by_row : (status : StatusKind) (z : ProcData) → wait.collected caller p ≡ Some z → z.pid ≡ p.pid → handles_status settings policies status p after z.state ≡ handled_after status
+    by_row status z is own =
         let h = row_left z is in
         let row : ProcData = record z { pending = h.0 } in
-        ap (asks_row settings policies p.pid status after) h.1 ∙ asks_pid settings policies status p row after (viewed_in after row z.state) own ∙ ap (asks_view settings policies status p after) (viewed_pid after p row z.state own)
+        sym (ap (λ o. handles settings policies rows after o (Collected.Got p.pid status)) h.1 ∙ state_pid settings policies status p row after z.state own)
 
-    by_lwp : (status : StatusKind) (tid sig : ℕ) (o : Option LwpData) → handles_stop settings policies p tid sig status after o ≡ asks_view settings policies status p after (option_map (view_of p tid sig) o)
-    by_lwp status tid sig None = refl
-    by_lwp status tid sig (Some l) = refl
+    by_state : (status : StatusKind) (x : State) → p.state ≡ x → handles_status settings policies status p after x ≡ handled_after status
+    by_state status Run is = by_row status (record p { continued = false; state = Run }) (ap (wait.collected_in caller p) is ∙ ap (λ x. Some (record p { continued = false; state = x })) is) refl
+    by_state status (Trace tid sig told) is = by_row status (record p { state = Trace tid sig true }) (ap (wait.collected_in caller p) is) refl
+    by_state status (Job sig told) is = by_row status (record p { state = Job sig true }) (ap (wait.collected_in caller p) is) refl
+    by_state status (Zombie w) is = elim (cases_Bool (wait.stays caller p)) [
+      | inl e ↦ by_row status (record p { tracer = None; state = Zombie w }) (ap (wait.collected_in caller p) is ∙ (rw e refl ∙ ap (λ x. Some (record p { tracer = None; state = x })) is)) refl
+      | inr e ↦ sym (ap (λ o. handles settings policies rows after o (Collected.Got p.pid status)) (row_gone (ap (wait.collected_in caller p) is ∙ rw e refl)))
+    ]
 
-    quiet : (status : StatusKind) → is_stop status ≡ false → answers (Reply.Status p.pid status) after ≡ asks settings policies p.pid status after
-    quiet status is = rw is refl
+    pub asked_row : (status : StatusKind) → handles settings policies rows after (Some p) (Collected.Got p.pid status) ≡ handled_after status
+    asked_row status = by_state status p.state refl
 
-    by_state : (x : State) → p.state ≡ x → handles_status settings policies (status_of_state x) p after x ≡ asks settings policies p.pid (status_of_state x) after
-    by_state Run is = refl
-    by_state (Trace tid sig told) is = by_lwp (status_of_state (Trace tid sig told)) tid sig (lwp_of tid after.lwps)
-        ∙ sym (row_asked (status_of_state (Trace tid sig told)) (record p { state = Trace tid sig true }) (ap (wait.collected_in caller p) is) refl)
-    by_state (Job sig told) is = sym (row_asked (status_of_state (Job sig told)) (record p { state = Job sig true }) (ap (wait.collected_in caller p) is) refl)
-    by_state (Zombie w) is = quiet (ended w) (ended_quiet w)
-
-    pub asked_row : handles settings policies rows after (Some p) (Collected.Got p.pid (status_of p)) ≡ asks settings policies p.pid (status_of p) after
-    asked_row = subst (λ x. handles_status settings policies (status_of_state x) p after x ≡ asks settings policies p.pid (status_of_state x) after) refl (by_state p.state refl)
-
-  -- a handle asks about what it collected
-  pub asked : (pid : ℕ) (status : StatusKind) → collect caller (negsuc 0) no_options rows ≡ Collected.Got pid status → handled_by settings policies caller rows ≡ asks settings policies pid status after
+  -- a handle asks about the row of what it collected, as it is after the collection
+  pub asked : (pid : ℕ) (status : StatusKind) → collect caller (negsuc 0) no_options rows ≡ Collected.Got pid status
+      → handled_by settings policies caller rows ≡ handles settings policies rows after (process_of pid after.processes) (Collected.Got pid status)
   asked pid status is = by_list (candidates caller (negsuc 0) rows) (reported caller (negsuc 0) no_options rows) refl is
     where
       by_list : (cs : List ProcData) (o : Option ProcData) → reported caller (negsuc 0) no_options rows ≡ o → answer cs o ≡ Collected.Got pid status
-          → handles settings policies rows after o (answer cs o) ≡ asks settings policies pid status after
+          → handles settings policies rows after o (answer cs o) ≡ handles settings policies rows after (process_of pid after.processes) (Collected.Got pid status)
       by_list [] o found e = absurd (true≢false (sym (ap is_got e)))
       by_list (c ∷ cs) None found e = absurd (true≢false (sym (ap is_got e)))
-      by_list (c ∷ cs) (Some p) found e = asked_row p found ∙ ap (λ n. asks settings policies n (status_of p) after) (ap got_pid e) ∙ ap (λ x. asks settings policies pid x after) (ap got_status e)
+      by_list (c ∷ cs) (Some p) found e =
+          asked_row p found (status_of p)
+          ∙ ap (λ n. handles settings policies rows after (process_of n after.processes) (Collected.Got n (status_of p))) (ap got_pid e)
+          ∙ ap (λ x. handles settings policies rows after (process_of pid after.processes) (Collected.Got pid x)) (ap got_status e)
+
+  pub asked_at : (rows1 : Rows) → rows1 ≡ after → (pid : ℕ) (status : StatusKind) → collect caller (negsuc 0) no_options rows ≡ Collected.Got pid status → (o : Option ProcData) → o ≡ process_of pid rows1.processes
+      → handles settings policies rows rows1 o (Collected.Got pid status) ≡ handled_by settings policies caller rows
+  asked_at rows1 left pid status is o at =
+      ap (λ x. handles settings policies rows rows1 x (Collected.Got pid status)) at
+      ∙ (ap (λ (r : Rows). handles settings policies rows r (process_of pid r.processes) (Collected.Got pid status)) left ∙ sym (asked pid status is))

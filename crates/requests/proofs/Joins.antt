@@ -1,4 +1,4 @@
--- Words that are written one after another, each behind what is to stand before it.
+-- Words that are written one after another, each after what precedes it.
 use Rattle.requests.proofs.Names.{◌≡◌, ℕ, List, [], ◌∷◌, ◌++◌, map, codes, decimal, refl, sym, ap, ◌∙◌, append-nil, Option, join_with_byte, flat_map, append_assoc, Decision, StatusKind, Reply}
 use Rattle.requests.specs.Texts.{view_words}
 use Rattle.requests.specs.Words.{reply_words, decision_words, index_text, flags_word}

@@ -40,4 +40,3 @@ pub mod Handling
 pub mod StaysSound
 pub mod Handled
 pub mod Joins
-pub mod Making

@@ -2,6 +2,7 @@
 pub use Rattle.std.specs.Fmt.{HasWritten, IsPlainFormatter}
 pub use Rattle.std.specs.List.{AllByRecursion, cons_option, flat_map, join_with_byte, list_all, list_any}
 pub use Rattle.std.specs.Option.{option_and_then}
+pub use Rattle.std.specs.Prelude.{Err, IfErr, IfOk, MatchResult, Ok, OnErr, Result}
 pub use Rattle.std.specs.Prelude.{IsSomeAnd, count_by, int_lt, option_map}
 pub use Rattle.std.proofs.Common.{Bool, IfSome, List, None, Option, SFits, Some, [], add-zero, ap, append-nil, ap₂, arith, bit_and, bit_or, codes, cond, decimal, drop, eq-eqb, eqb, eqb-true, false}
 pub use Rattle.std.proofs.Common.{filter, filter_map, find, get_or, get_or-set_other, if◌then◌else◌, inl, inr, is_none, is_some, leb, length, length-append, length-set, lt-ltb, ltb, map, nat_eq}
@@ -85,21 +86,21 @@ pub use Rattle.requests.specs.Actors.{HasLwp, IsActing}
 pub use Rattle.requests.specs.Calls.{collect_reply, is_default, is_refused, list, sigaction, spawn, spawn_with, wait}
 pub use Rattle.requests.specs.Commands.{command, with_signal}
 pub use Rattle.requests.specs.Handle.{decided, done, handled_by, handles, handles_status, handles_stop, install, no_options, policies_in, policies_of, view_of}
-pub use Rattle.requests.specs.Hosts.{Steps, machine_of}
+pub use Rattle.requests.specs.Hosts.{Steps, Tries, machine_of}
 pub use Rattle.requests.specs.Isolation.{Alone, Apart, Closed, Debugger, GoodLwp, GoodProc, InBlock, KeepsApart, LiveOwner, LiveRow, OneStep, OtherStep, OwnRun, SoundApart, TwoLists, Users}
 pub use Rattle.requests.specs.Isolation.{host_after, own_replies, own_view, replies_to, reply_of}
 pub use Rattle.requests.specs.Laws.{SoundKept, SoundRuns, act_fits, step_fits}
 pub use Rattle.requests.specs.Leave.{Numbers, child_stop, due_at_birth, exec_rows, exit_stop, exits_lwp, forked, forks, in_mode, leaves, makes_lwp, room_for_lwp, room_for_process, with_child}
 pub use Rattle.requests.specs.Leave.{with_tid}
-pub use Rattle.requests.specs.Machine.{After, Installed, Machine, after, empty, installed_by, is_live_number}
-pub use Rattle.requests.specs.Memory.{is_memory, is_refusal, may_want, takes_memory}
-pub use Rattle.requests.specs.Outcome.{Outcome, answers, ends_with, refuses, stops_or, stops_with, trap}
+pub use Rattle.requests.specs.Machine.{After, Installed, Machine, after, empty, installed_by, is_live_number, outcome_of}
+pub use Rattle.requests.specs.Memory.{Attempts, is_memory, is_refusal, may_want, takes_memory}
+pub use Rattle.requests.specs.Outcome.{Gives, Outcome, answers, ends_with, refuses, stops_or, stops_with, trap}
 pub use Rattle.requests.specs.Plain.{PlainStep, with_handler}
 pub use Rattle.requests.specs.Ptrace.{about, attach, bad_argument, closes_chain, commands, commands_stopped, continues_with, does, is_attach, is_trace_me, not_stepping, process_by, ptrace, set_mask}
 pub use Rattle.requests.specs.Ptrace.{shows_info, stepping, stop_first, suspend, switched, target_of, told_stop, trace_me, traced_by}
 pub use Rattle.requests.specs.Reach.{is_which, kill, next_other, post_all, post_if_live, reach, reached}
 pub use Rattle.requests.specs.Sound.{sound, sound_installed}
-pub use Rattle.requests.specs.Step.{caller_of, calls, checked, step, step_of}
+pub use Rattle.requests.specs.Step.{caller_of, calls, checked, installs, step, step_of, uncalled}
 pub use Rattle.requests.specs.Turn.{acts, computes, due_or_more, due_stop, in_user_mode, job_stops, next_signal, plain, raises, signal_or_act, takes, takes_by_default, takes_untraced, turn, turn_by}
 pub use Rattle.requests.specs.Turn.{turn_of, turn_seen, waits, without_signal}
 pub use Rattle.requests.specs.declared.Act.{Act}

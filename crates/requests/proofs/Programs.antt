@@ -112,7 +112,7 @@ freed_rows : (o : Option ProcData) (child : ℕ) (rows : Rows) → parent_freed 
 freed_rows None child rows = ap (λ ls. record rows { lwps = ls }) (sym (map-id rows.lwps))
 freed_rows (Some parent) child rows = refl
 
--- who doesn't wait stays as it is
+-- an LWP that doesn't wait stays as it is
 freed_idle : (o : Option ProcData) (child : ℕ) (l : LwpData) → waits_where (λ n. n == child) l.mode ≡ false → freed_lwp o child l ≡ l
 freed_idle None child l idle = refl
 freed_idle (Some parent) child l idle = search (rules, cases_Bool)
@@ -123,7 +123,7 @@ awaited (InCall call) child is = absurd (true≢false (sym is))
 awaited (VforkWait c) child is = ap (λ n. Some n) (eqb-true c child is)
 
 module _ (p : ProcData) (l : LwpData) (rows : Rows) (s : IsSound rows) (a : IsActing p l rows) where
-  -- who waits for the process is its parent's
+  -- an LWP that waits for the process is its parent's
   its_child : (q : ProcData) → IsLiveChild rows q p.pid → p.parent ≡ q.pid
   its_child q live = any_holds (child_test q p.pid) (λ r. r.pid ≡ p.pid → r ≡ p) (p.parent ≡ q.pid)
       (λ r one is. let c = child_from q p.pid r is in ap (λ x. x.parent) (sym (one c.pid)) ∙ c.parent) rows.processes (the_row p.pid rows.processes p s.stands.rising a.process) live

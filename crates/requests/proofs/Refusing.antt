@@ -20,7 +20,7 @@ is_nothing r = false
 abbrev keeps : Reply → Bool
 keeps r = is_refusal r || (is_listing r || is_nothing r)
 
--- such an answer leaves the rows, and none is want of memory
+-- such an answer leaves the rows, and none is ENOMEM
 record Fair (rows : Rows) (o : Outcome) : Type 0 where
   pub same : keeps o.reply ≡ true → o.rows ≡ rows
   pub plenty : is_memory o.reply ≡ false
@@ -153,7 +153,7 @@ reached_fair settings s (p ∷ ps) rows = done rows _ _ refl refl
 kill_fair : (settings : Settings) (u caller : ℕ) (which : ℤ) (s : ℕ) (rows : Rows) → Fair rows (kill settings u caller which s rows)
 kill_fair settings u caller which s rows = choose (not (leb s 31) || not (is_which which)) _ _ (Fair rows) (left rows (Reply.Errno EINVAL) refl) (reached_fair settings s (reach u caller which rows) rows)
 
--- who has no child gets ECHILD, and nothing is collected
+-- a caller without children gets ECHILD, and nothing is collected
 collect_fair : (caller : ℕ) (options : Options) (rows : Rows) (ps : List ProcData)
     → Fair rows (answers (collect_reply (answer ps (find (reportable options caller) ps))) (without_report caller (find (reportable options caller) ps) rows))
 collect_fair caller options rows [] = left rows (Reply.Errno ECHILD) refl

@@ -7,7 +7,7 @@ use Rattle.requests.proofs.Steps.{choose}
 abbrev pub SameNumber : ProcData → ProcData → Type 0
 SameNumber p q = (q.pid ≡ p.pid) × (q.uid ≡ p.uid)
 
--- rows that are made from earlier ones, each by itself, or gone
+-- rows that are made from earlier ones, each from one, or gone
 pub record Remain (ps qs : List ProcData) : Type 0 where
   pub to : ProcData → Option ProcData
   pub made : qs ≡ filter_map to ps

@@ -1,4 +1,4 @@
--- A reply is want of memory, or it isn't.
+-- A reply is ENOMEM, or it isn't.
 use Rattle.requests.proofs.Names.{◌≡◌, ◌≢◌, false, refl, sym, ap, ◌∙◌, true≢false, ◌⊎◌, inl, inr, Reply, is_memory, Errno}
 
 pub other : (r : Reply) → is_memory r ≡ false → r ≢ Reply.Errno Errno.ENOMEM

@@ -38,7 +38,7 @@ remain_posted : (settings : Settings) (s : ℕ) (o : Option ProcData) (rows : Ro
 remain_posted settings s None rows = remain_all rows.processes
 remain_posted settings s (Some p) rows = search (rules, remain_post, remain_all)
 
--- a number that nobody has stays free
+-- an unused number stays free
 gone : (ps qs : List ProcData) (n : ℕ) → Remain ps qs → process_of n ps ≡ None → process_of n qs ≡ None
 gone ps qs n r none = rw r.made (lacking ps none)
   where

@@ -74,7 +74,7 @@ module _ (rows : Rows) (p : ProcData) (l : LwpData) (a : Acting rows p l) where
     };
   })
 
-  -- its parent is told
+  -- its parent is notified
   pub job_stop_sound : (s : ℕ) → p.tracer ≡ None → IsSound (notified (p.parent ∷ []) (change_process p.pid (job_stopped s) rows))
   job_stop_sound s free = notified_sound made (p.parent ∷ []) made_sound ((λ ne. live_told made p.uid p.parent ((find_some (λ q. q.pid == p.pid) (Linked made) made.processes made_sound.stands.linked (job_stopped s p) found).0.parent ne) ne), tt)
     where
@@ -132,7 +132,7 @@ module _ (settings : Settings) (s : ℕ) (sig : IsSignal s) (rows : Rows) (p : P
       (acting_stops rows q k.lwp k.acting (plain s) (ap is_some k.tracer ∙ e) (λ is. absurd (true≢false (sym is))))))
       (λ e. by_disposition (disposition_of p.dispositions s) (not_some p.tracer e))
 
--- Acts in user mode, but for calls
+-- Acts in user mode, except calls
 
 module _ (rows : Rows) (p : ProcData) (l : LwpData) (a : Acting rows p l) where
   pub raise_sound : (settings : Settings) (s : ℕ) → IsSound (raises settings s p l rows).rows

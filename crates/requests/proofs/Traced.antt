@@ -11,7 +11,7 @@ use Rattle.requests.proofs.Masks.{Tracee, OwnLwp, named_lwp, suspend_sound, set_
 use Rattle.requests.proofs.Attaching.{trace_me_sound, attach_sound}
 use Rattle.requests.specs.Callers.{IsCaller}
 
--- whom a target names
+-- the process that a target names
 
 has_pid : (o : Option ProcData) (m : ℕ) → option_map (λ p. p.pid) o ≡ Some m → (p : ProcData) × (o ≡ Some p) × (p.pid ≡ m)
 has_pid None m is = absurd (grind (arith, is))

@@ -1,5 +1,5 @@
 -- A stopped tracee in sound rows, and changes of its row and of its LWPs.
-use Rattle.requests.proofs.Names.{◌≡◌, ℕ, ◌≤◌, ◌==◌, arith, eqb-true, true, false, if◌then◌else◌, Option, Some, None, is_some, refl, sym, ap, ◌∙◌, true≢false, subst, eq-eqb, rules, IsSomeAnd}
+use Rattle.requests.proofs.Names.{Gives, Attempts, Ok, Bool, ◌≡◌, ℕ, ◌≤◌, ◌==◌, arith, eqb-true, true, false, if◌then◌else◌, Option, Some, None, is_some, refl, sym, ap, ◌∙◌, true≢false, subst, eq-eqb, rules, IsSomeAnd}
 use Rattle.requests.proofs.Names.{nat_tests, EventMask, SIGKILL, LwpData, lwp_of, Differ, ProcData, State, Run, Trace, Job, Zombie, process_of, named_by, reporting, is_zombie_state, Rows}
 use Rattle.requests.proofs.Names.{change_process, change_lwp, is_numbered, map_lwps, lwp_count, lwp_count_of, owns, Rise, IsRow, AtHome, set_lwp, owns-kept, found_row, lwp_of-tid, every_found}
 use Rattle.requests.proofs.Names.{some_and, change_process-at, change_lwp-at, change-at, lwp_there, Settings, resume, IsSound, count_edit, changed_row, edit_none, Reply, Outcome, answers}
@@ -110,8 +110,11 @@ continue_as settings mask m «data» p rows up at is =
 pub kill_as : (settings : Settings) (n pid : ℕ) (rows : Rows) → n ≡ SIGKILL → with_signal n (answers Reply.Done (resume settings pid n rows)) rows ≡ answers Reply.Done (resume settings pid SIGKILL rows)
 kill_as settings n pid rows is = ap (λ s. with_signal s (answers Reply.Done (resume settings pid s rows)) rows) is
 
-pub same_outcome : (o o' : Outcome) (rows : Rows) (r : Reply) → o ≡ o' → rows ≡ o.rows → r ≡ o.reply → (rows ≡ o'.rows) × (r ≡ o'.reply)
-same_outcome o o' rows r same done said = (done ∙ ap (λ (x : Outcome). x.rows) same, said ∙ ap (λ (x : Outcome). x.reply) same)
+pub gives_as : {o o' : Outcome} {rows : Rows} {r : Reply} → o ≡ o' → Gives o rows r → Gives o' rows r
+gives_as {rows = rows} {r = r} same g = subst (λ x. Gives x rows r) same g
+
+pub given : {E : Type 0} {takes : Bool} {o : Outcome} {before rows : Rows} {r : Reply} → Gives o rows r → Attempts {E = E} takes o before rows (Ok r)
+given g = record { gives = g; takes = tt; unrefused = tt; same = tt }
 
 -- A process has no more LWPs than its user
 

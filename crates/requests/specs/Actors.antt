@@ -1,4 +1,4 @@
--- Whose turn it is, and what it does after a fork.
+-- The LWP of a turn, its process, and its mode after a fork.
 use Rattle.std.specs.Prelude.{◌≡◌, ℕ, Some, IsSomeAnd}
 use Rattle.event_masks.specs.declared.Call.{Call}
 use Rattle.event_masks.specs.declared.Call.TheVariants as call
@@ -22,7 +22,7 @@ pub record HasLwp (pid tid : ℕ) (rows : Rows) : Type 0 where
   pub process : IsRow rows pid
   pub lwp : IsSomeAnd (lwp_of tid rows.lwps) (λ l. l.pid ≡ pid)
 
--- what an LWP does after a fork: after a vfork it waits for the child
+-- the mode of an LWP after a fork: after a vfork it waits for the child
 abbrev pub mode_after : Call → ℕ → Mode
 mode_after call.Vfork child = VforkWait child
 mode_after call.Fork child = User

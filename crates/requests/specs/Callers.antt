@@ -1,4 +1,4 @@
--- Who makes a step.
+-- The caller of a step.
 use Rattle.std.specs.Prelude.{◌≡◌, ◌≢◌, ℕ, true, Some}
 use Rattle.pid_blocks.specs.declared.Errno.TheVariants as errno
 use Rattle.proc_table.specs.declared.ProcData.{ProcData}
@@ -18,13 +18,13 @@ pub record IsCaller (user : ℕ) (p : ProcData) (rows : Rows) : Type 0 where
   pub own : p.uid ≡ user
   pub runs : is_run p ≡ true
 
--- the process that a user's number names, where it may make steps
+-- the process that a user's number names, if it may make steps
 pub record Calls (user n : ℕ) (rows : Rows) (p : ProcData) : Type 0 where
   pub seen : seen_process user n rows ≡ Some p
   pub live : is_live p ≡ true
   pub runs : is_run p ≡ true
 
--- every step with that number as its caller is answered so, and nothing else happens
+-- every step with that number as its caller gets this reply and changes nothing
 pub record Barred (user n : ℕ) (m : Machine) (r : Reply) : Type 0 where
   pub answer : (s : PlainStep) → caller_of s ≡ Some n → step user s m ≡ after m (answers r m.rows)
   pub other : r ≢ reply.Errno errno.ENOMEM

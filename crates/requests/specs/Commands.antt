@@ -8,7 +8,7 @@ use Rattle.requests.specs.declared.Request.{Request}
 use Rattle.requests.specs.Outcome.{Outcome, refuses}
 use Rattle.requests.specs.Ptrace.{bad_argument, does}
 
--- what such a request does, where its argument isn't refused
+-- the outcome of such a request, unless its argument is refused
 abbrev pub command : Settings → Request → ℕ → ℕ → ProcData → Rows → Outcome
 command settings r «data» tid p rows = if bad_argument r «data» then refuses EINVAL rows else does settings r «data» tid p rows
 

@@ -1,5 +1,5 @@
--- A host, as the machine sees it, and what it does with a step.
-use Rattle.std.specs.Prelude.{◌≡◌, ◌≢◌, ℕ, true, List}
+-- A host, as the machine sees it, and its step.
+use Rattle.std.specs.Prelude.{◌≡◌, ◌≢◌, ℕ, true, List, Result, MatchResult}
 use Rattle.pid_blocks.specs.declared.Errno.TheVariants.{ENOMEM}
 use Rattle.proc_table.specs.Kept.{Table}
 use Rattle.trace_stop.specs.declared.Settings.{Settings}
@@ -14,10 +14,14 @@ use Rattle.requests.specs.Step.{step}
 abbrev pub machine_of : Settings → Table → List (List Installed) → Machine
 machine_of settings t installed = record { rows = t.rows; installed = installed; settings = settings }
 
--- what a step of a user makes of a host, and its answer: the machine's; or, where the step takes memory and the machine wouldn't refuse
--- it, want of memory and the host as it was
+-- the host after a step of a user, and the reply: those of the machine; or, where the step takes memory and the machine
+-- wouldn't refuse it, ENOMEM and the host as it was
 pub record Steps (u : ℕ) (s : PlainStep) (m n : Machine) (r : Reply) : Type 0 where
   pub machine : r ≢ reply.Errno ENOMEM → (n ≡ (step u s m).machine) × (r ≡ (step u s m).reply)
   pub memory : r ≡ reply.Errno ENOMEM → (n ≡ m) × (may_want u s m ≡ true)
   pub refused : is_refusal r ≡ true → n ≡ m
   pub sound : sound n ≡ true
+
+-- the same before the reply is written: an error means out of memory
+abbrev pub Tries : {E : Type 0} → ℕ → PlainStep → Machine → Machine → Result Reply E → Type 0
+Tries u s m n r = MatchResult r (λ answer. Steps u s m n answer) (λ e. Steps u s m n (reply.Errno ENOMEM))

@@ -1,4 +1,4 @@
--- What every step keeps.
+-- The invariant that every step keeps.
 use Rattle.std.specs.Prelude.{◌≡◌, ℕ, Bool, true, List}
 use Rattle.std.specs.List.{AllByRecursion}
 use Rattle.pid_blocks.specs.Users.{IsUser}
@@ -13,7 +13,7 @@ use Rattle.requests.specs.Run.{Asked, last}
 use Rattle.requests.specs.Sound.{sound}
 use Rattle.requests.specs.Step.{step}
 
--- whether a step's numbers are those of its type: the status of an exit that is entered is a byte
+-- whether a step's numbers fit their types: the status of an exit that is entered is a byte
 abbrev pub act_fits : Act → Bool
 act_fits act.Compute = true
 act_fits (act.Raise s) = true
@@ -37,6 +37,6 @@ IsStep a = IsUser a.uid × (step_fits a.step ≡ true)
 abbrev pub SoundRuns : Type 0
 SoundRuns = (list : List Asked) (m : Machine) → AllByRecursion IsStep list → sound m ≡ true → sound (last list m) ≡ true
 
--- a host that nobody has used is sound
+-- an unused host is sound
 abbrev pub SoundAtFirst : Type 0
 SoundAtFirst = (settings : Settings) → sound (empty settings) ≡ true

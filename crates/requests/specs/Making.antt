@@ -5,7 +5,7 @@ use Rattle.requests.specs.Hosts.{Steps}
 use Rattle.requests.specs.Machine.{Machine}
 use Rattle.requests.specs.Plain.{PlainStep}
 
--- what a user's step makes of a host, and its answer; a step that needs a handler is not made
+-- the host after a user's step, and the reply; a step that needs a handler is not made
 abbrev pub Makes : ℕ → Option PlainStep → Machine → Machine → Option Reply → Type 0
 Makes u None m n r = (r ≡ None) × (n ≡ m)
 Makes u (Some s) m n None = ⊥

@@ -1,4 +1,4 @@
--- What an exec does, one change after another.
+-- The changes of an exec, in order.
 use Rattle.std.specs.Prelude.{ℕ, Bool, ◌==◌, ◌&&◌, not, filter, Option, Some, None}
 use Rattle.lwp_table.specs.declared.LwpData.{LwpData}
 use Rattle.proc_table.specs.declared.ProcData.{ProcData}
@@ -10,7 +10,7 @@ use Rattle.trace_stop.specs.End.{released}
 abbrev pub is_other : ℕ → ℕ → LwpData → Bool
 is_other pid tid l = (l.pid == pid) && not (l.tid == tid)
 
--- the rows in which the process has this LWP alone
+-- the rows in which the process has only this LWP
 abbrev pub only_lwp : ℕ → ℕ → Rows → Rows
 only_lwp pid tid rows = record rows { lwps = filter (λ l. not (is_other pid tid l)) rows.lwps }
 

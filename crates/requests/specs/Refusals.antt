@@ -1,4 +1,4 @@
--- What a refused step does, and what the machine never answers.
+-- The effect of a refused step, and an answer that the machine never gives.
 use Rattle.std.specs.Prelude.{◌≡◌, ◌≢◌, ℕ, Bool, true, false}
 use Rattle.pid_blocks.specs.Users.{IsUser}
 use Rattle.pid_blocks.specs.declared.Errno.TheVariants.{ENOMEM}
@@ -18,7 +18,7 @@ RefusedSame = (u : ℕ) (s : PlainStep) (m : Machine) → IsUser u → sound m �
 abbrev pub NothingSame : Type 0
 NothingSame = (u : ℕ) (s : PlainStep) (m : Machine) → sound m ≡ true → (step u s m).reply ≡ reply.Nothing → (step u s m).machine ≡ m
 
--- the machine wants no memory: a host alone answers ENOMEM
+-- the machine never runs out of memory: only a host answers ENOMEM
 abbrev pub NeverMemory : Type 0
 NeverMemory = (u : ℕ) (s : PlainStep) (m : Machine) → (step u s m).reply ≢ reply.Errno ENOMEM
 

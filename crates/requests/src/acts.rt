@@ -1,14 +1,13 @@
-//! What an LWP in user mode does at its turn.
+//! The acts of an LWP in user mode.
 
-ghost use Rattle.std.specs.Prelude.{◌≡◌, ◌≢◌, Some, true, false};
-ghost use Rattle.pid_blocks.specs.declared.Errno.TheVariants as errno;
+ghost use Rattle.std.specs.Prelude.{◌≡◌, Some, true, false};
 ghost use Rattle.lwp_table.specs.declared.Mode.TheVariants as mode;
 ghost use Rattle.lwp_table.specs.Lwps.{lwp_of};
 ghost use Rattle.proc_table.specs.Processes.{is_run};
 ghost use Rattle.proc_table.specs.Rows.{change_lwp};
 ghost use Rattle.signals.specs.Table.{maskable};
 ghost use Rattle.trace_stop.specs.Facts.{IsSound};
-ghost use Rattle.requests.specs.declared.Reply.TheVariants as reply;
+ghost use Rattle.requests.specs.Outcome.{Gives};
 ghost use Rattle.requests.specs.Actors.{IsActing};
 ghost use Rattle.requests.specs.Turn.{computes, raises, enters, acts};
 
@@ -22,7 +21,7 @@ use process_end::post_lwp;
 use signals::{SigSet, Signal};
 use trace_stop::Settings;
 
-/// The LWP steps no more.
+/// Clears the LWP's stepping flag.
 fn stop_stepping(tables: &mut Tables, l: &LwpData)
     requires { lwp_of l.now.tid tables.old.rows.lwps ≡ Some l.now }
     ensures rows { tables.new.rows ≡ change_lwp l.now.tid (λ k. record k { stepping = false }) tables.old.rows }
@@ -34,12 +33,10 @@ fn stop_stepping(tables: &mut Tables, l: &LwpData)
     });
 }
 
-/// Compute: an LWP that steps stops with SIGTRAP, and steps no more.
+/// Compute: a stepping LWP stops with SIGTRAP, and its stepping ends. For another LWP nothing changes.
 fn compute(tables: &mut Tables, p: &ProcData, l: &LwpData) -> Reply
     requires { IsActing p.now l.now tables.old.rows }
-    ensures rows { tables.new.rows ≡ (computes p.now l.now tables.old.rows).rows }
-    ensures reply { result ≡ (computes p.now l.now tables.old.rows).reply }
-    ensures given { result ≢ reply.Errno errno.ENOMEM }
+    ensures { Gives (computes p.now l.now tables.old.rows) tables.new.rows result }
 {
     if !l.stepping {
         return Reply::Done;
@@ -48,27 +45,25 @@ fn compute(tables: &mut Tables, p: &ProcData, l: &LwpData) -> Reply
     stop_with(tables, p, l, &plain(Signal::trap()))
 }
 
-/// Raise: posts a signal to the LWP itself. Refused with EINVAL for what is no signal.
+/// Raise: posts a signal to the LWP itself. Refused with EINVAL where the number is not a signal's.
 fn raise(tables: &mut Tables, settings: Settings, number: u32, p: &ProcData, l: &LwpData) -> Reply
     requires sound { IsSound tables.old.rows }
     requires acting { IsActing p.now l.now tables.old.rows }
     requires runs { is_run p.now ≡ true }
-    ensures rows { tables.new.rows ≡ (raises settings number p.now l.now tables.old.rows).rows }
-    ensures reply { result ≡ (raises settings number p.now l.now tables.old.rows).reply }
-    ensures given { result ≢ reply.Errno errno.ENOMEM }
+    ensures { Gives (raises settings number p.now l.now tables.old.rows) tables.new.rows result }
 {
     let Ok(signal) = Signal::new(number) else {
         return Reply::Errno(Errno::EINVAL);
     };
     post_lwp(tables, settings, p.pid, l.tid, signal);
     if signal == Signal::kill() {
-        Reply::Ended(9)
+        Reply::Ended(signal.number())
     } else {
         Reply::Done
     }
 }
 
-/// Block: the signals of the set are blocked, as far as they may be.
+/// Block: sets the LWP's blocked signals to those of the set that can be blocked.
 fn block(tables: &mut Tables, set: SigSet, l: &LwpData)
     requires { lwp_of l.now.tid tables.old.rows.lwps ≡ Some l.now }
     ensures rows { tables.new.rows ≡ change_lwp l.now.tid (λ k. record k { blocked = maskable set }) tables.old.rows }
@@ -80,12 +75,10 @@ fn block(tables: &mut Tables, set: SigSet, l: &LwpData)
     });
 }
 
-/// Enter: the LWP is in a call, and stops where its tracer asks for entries.
+/// Enter: the LWP enters a call, and stops if its tracer asks for entries.
 fn enter(tables: &mut Tables, call: Call, p: &ProcData, l: &LwpData) -> Reply
     requires { IsActing p.now l.now tables.old.rows }
-    ensures rows { tables.new.rows ≡ (enters call p.now l.now tables.old.rows).rows }
-    ensures reply { result ≡ (enters call p.now l.now tables.old.rows).reply }
-    ensures given { result ≢ reply.Errno errno.ENOMEM }
+    ensures { Gives (enters call p.now l.now tables.old.rows) tables.new.rows result }
 {
     set_mode(tables, p.pid, l.tid, Mode::InCall(call));
     match entry_flags(p.mask) {
@@ -94,7 +87,7 @@ fn enter(tables: &mut Tables, call: Call, p: &ProcData, l: &LwpData) -> Reply
     }
 }
 
-/// What an LWP in user mode does.
+/// Performs the act of an LWP in user mode. Leave is refused with EINVAL.
 pub fn act_in_user_mode(
     tables: &mut Tables,
     settings: Settings,
@@ -105,9 +98,7 @@ pub fn act_in_user_mode(
     requires sound { IsSound tables.old.rows }
     requires acting { IsActing p.now l.now tables.old.rows }
     requires runs { is_run p.now ≡ true }
-    ensures rows { tables.new.rows ≡ (acts settings act mode.User p.now l.now tables.old.rows).rows }
-    ensures reply { result ≡ (acts settings act mode.User p.now l.now tables.old.rows).reply }
-    ensures given { result ≢ reply.Errno errno.ENOMEM }
+    ensures { Gives (acts settings act mode.User p.now l.now tables.old.rows) tables.new.rows result }
 {
     match act {
         Act::Compute => compute(tables, p, l),

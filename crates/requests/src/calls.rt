@@ -5,6 +5,7 @@ ghost use Rattle.signals.specs.Table.{set_disposition};
 ghost use Rattle.proc_table.specs.Processes.{process_of};
 ghost use Rattle.trace_stop.specs.Facts.{IsSound};
 ghost use Rattle.wait4.specs.declared.Collected.{Collected};
+ghost use Rattle.requests.specs.Outcome.{Gives};
 ghost use Rattle.requests.specs.Calls.{is_refused, sigaction, wait, collect_reply};
 
 use crate::Reply;
@@ -14,7 +15,7 @@ use signals::{Disposition, Dispositions, Signal};
 use trace_stop::settle;
 use wait4::{Collected, Options, collect};
 
-/// The dispositions with another one of the signal; `None` where sigaction(2) refuses that.
+/// Returns the dispositions with a new one for the signal; `None` where sigaction(2) refuses that.
 fn with_disposition(
     dispositions: &Dispositions,
     sig: u32,
@@ -32,15 +33,15 @@ fn with_disposition(
     }
 }
 
-/// A process with other dispositions.
+/// Returns the row of the process with other dispositions.
 fn disposed(p: &ProcData, dispositions: Dispositions) -> ProcData
     ensures { result ≡ record p.now { dispositions = dispositions } }
 {
     ProcData { dispositions, ..*p }
 }
 
-/// Sets what the caller, a process that runs, does with a signal, as in sigaction(2). Refused with EINVAL where the
-/// number is no signal's, and for SIGKILL and SIGSTOP unless the disposition is the default one.
+/// Sets the disposition of a signal for the caller, a process that runs, as sigaction(2) does. Refused with EINVAL
+/// where the number is not a signal's, and for SIGKILL and SIGSTOP unless the disposition is the default one.
 pub fn sigaction(
     tables: &mut Tables,
     caller: &ProcData,
@@ -48,8 +49,7 @@ pub fn sigaction(
     disposition: Disposition,
 ) -> Reply
     requires caller { process_of caller.now.pid tables.old.rows.processes ≡ Some caller.now }
-    ensures rows { tables.new.rows ≡ (sigaction caller.now sig disposition tables.old.rows).rows }
-    ensures reply { result ≡ (sigaction caller.now sig disposition tables.old.rows).reply }
+    ensures { Gives (sigaction caller.now sig disposition tables.old.rows) tables.new.rows result }
 {
     let Some(dispositions) = with_disposition(&caller.dispositions, sig, disposition) else {
         return Reply::Errno(Errno::EINVAL);
@@ -60,7 +60,7 @@ pub fn sigaction(
     Reply::Done
 }
 
-/// What is answered of what a wait collected.
+/// Returns the reply for the result of a wait.
 fn collect_reply(collected: Collected) -> Reply
     ensures { result ≡ collect_reply collected }
 {
@@ -71,12 +71,11 @@ fn collect_reply(collected: Collected) -> Reply
     }
 }
 
-/// Answers the caller, a process that runs, about its children, as wait4(2) with WNOHANG does. Refused with EINVAL
-/// where `which` is 0 or below -1, and with ECHILD where no child fits.
+/// Waits for a child of the caller, a process that runs, as wait4(2) with WNOHANG does. Refused with EINVAL where
+/// `which` is 0 or below -1, and with ECHILD where no child fits.
 pub fn wait(tables: &mut Tables, caller: &ProcData, which: i64, options: Options) -> Reply
     requires sound { IsSound tables.old.rows }
-    ensures rows { tables.new.rows ≡ (wait caller.now which options tables.old.rows).rows }
-    ensures reply { result ≡ (wait caller.now which options tables.old.rows).reply }
+    ensures { Gives (wait caller.now which options tables.old.rows) tables.new.rows result }
 {
     if which < -1 || which == 0 {
         return Reply::Errno(Errno::EINVAL);

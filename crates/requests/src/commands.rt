@@ -1,6 +1,6 @@
-//! What a tracer asks of a stopped tracee by ptrace(2).
+//! Requests of ptrace(2).
 
-ghost use Rattle.std.specs.Prelude.{◌≡◌, ◌≢◌, ◌==◌, ◌<◌, Some, IfSome, IsSome, IsSomeAnd, true, false, is_some, leb, not, if◌then◌else◌};
+ghost use Rattle.std.specs.Prelude.{◌≡◌, ◌==◌, ◌<◌, Some, IfSome, IsSome, IsSomeAnd, true, false, is_some, leb, not, if◌then◌else◌};
 ghost use Rattle.std.specs.Int.RustNames.{bit_or};
 ghost use Rattle.pid_blocks.specs.declared.Errno.TheVariants as errno;
 ghost use Rattle.event_masks.specs.Exits.{all_events};
@@ -12,11 +12,11 @@ ghost use Rattle.trace_stop.specs.Stop.{resume, detach};
 ghost use Rattle.trace_stop.specs.Facts.{IsSound};
 ghost use Rattle.lwpinfo.specs.Info.{info, lwp_list};
 ghost use Rattle.requests.specs.declared.Reply.TheVariants as reply;
-ghost use Rattle.requests.specs.Outcome.{answers};
+ghost use Rattle.requests.specs.Outcome.{Gives, answers, refuses};
 ghost use Rattle.requests.specs.Ptrace.{ptrace, is_trace_me, is_attach, target_of, told_stop, stepping, suspend, set_mask, continues_with, switched, shows_info};
 ghost use Rattle.requests.specs.Callers.{IsCaller};
 ghost use Rattle.requests.specs.Commands.{command, with_signal};
-ghost use Rattle.requests.specs.Memory.{lists, is_refusal};
+ghost use Rattle.requests.specs.Memory.{Attempts, lists};
 
 use crate::tracers::{attach, trace_me};
 use crate::{Reply, Request};
@@ -27,12 +27,12 @@ use pid_blocks::{Errno, Pid, Tid, Uid};
 use proc_table::{ProcData, State, Tables};
 use process_end::{detach, resume};
 use signals::{Pass, Signal};
-use std::alloc::Global;
+use std::alloc::{AllocError, Global};
 use trace_stop::{Settings, clear_stepping};
 
-/// A request of ptrace(2) by a process that runs. A target up to 99999 names a process, and its LWP that reports
-/// a stop; a greater one names an LWP, and its process. Refused as the manual page says, and PT_GETLWPLIST
-/// with ENOMEM where memory runs out; a request that is refused changes nothing.
+/// Makes a request of ptrace(2) by a process that runs. A target up to 99999 names a process, and its LWP that reports
+/// a stop. A greater one names an LWP, and its process. Refused as the manual page says. An error means out of memory
+/// for the list of PT_GETLWPLIST. A refused request changes nothing, and nor does an error.
 pub fn ptrace(
     tables: &mut Tables,
     alloc: Global,
@@ -42,35 +42,32 @@ pub fn ptrace(
     request: Request,
     target: u32,
     data: u32,
-) -> Reply
+) -> Result<Reply, AllocError>
     requires sound { IsSound tables.old.rows }
     requires caller { IsCaller user caller.now tables.old.rows }
-    ensures machine { result ≢ reply.Errno errno.ENOMEM →
-        (tables.new.rows ≡ (ptrace settings user caller.now request target «data» tables.old.rows).rows)
-        × (result ≡ (ptrace settings user caller.now request target «data» tables.old.rows).reply) }
-    ensures memory { result ≡ reply.Errno errno.ENOMEM → (tables.new.rows ≡ tables.old.rows) × (lists request ≡ true)
-        × (is_refusal (ptrace settings user caller.now request target «data» tables.old.rows).reply ≡ false) }
+    ensures { let outcome = ptrace settings user caller.now request target «data» tables.old.rows in
+        Attempts (lists request) outcome tables.old.rows tables.new.rows result }
 {
     if is_trace_me(request) {
-        return trace_me(tables, caller);
+        return Ok(trace_me(tables, caller));
     }
     let Some(process) = target_of(tables, user, target) else {
-        return Reply::Errno(Errno::ESRCH);
+        return Ok(Reply::Errno(Errno::ESRCH));
     };
     if !process.is_live() {
-        return Reply::Errno(Errno::ESRCH);
+        return Ok(Reply::Errno(Errno::ESRCH));
     }
     if is_attach(request) {
-        return attach(tables, caller, &process);
+        return Ok(attach(tables, caller, &process));
     }
     if process.tracer.is_none() {
-        return Reply::Errno(Errno::EPERM);
+        return Ok(Reply::Errno(Errno::EPERM));
     }
     if !traces(caller.pid, &process) {
-        return Reply::Errno(Errno::EBUSY);
+        return Ok(Reply::Errno(Errno::EBUSY));
     }
     let Some(reporting) = told_stop(&process) else {
-        return Reply::Errno(Errno::EBUSY);
+        return Ok(Reply::Errno(Errno::EBUSY));
     };
     let lwp = named_lwp(target, reporting);
     command(tables, alloc, settings, request, data, lwp, &process)
@@ -88,7 +85,7 @@ fn is_attach(request: Request) -> bool
     matches!(request, Request::Attach)
 }
 
-/// The user's process that the target names.
+/// Returns the user's process that the target names.
 fn target_of(tables: &Tables, user: Uid, target: u32) -> Option<ProcData>
     ensures process { result ≡ target_of user target tables.now.rows }
     ensures row { IfSome result (λ p. process_of p.pid tables.now.rows.processes ≡ Some p) }
@@ -101,7 +98,7 @@ fn target_of(tables: &Tables, user: Uid, target: u32) -> Option<ProcData>
     }
 }
 
-/// Whether the process with this number traces the other one.
+/// Returns whether the process with this number traces `process`.
 fn traces(pid: Pid, process: &ProcData) -> bool
     ensures { result ≡ traces pid process.now }
 {
@@ -111,7 +108,7 @@ fn traces(pid: Pid, process: &ProcData) -> bool
     }
 }
 
-/// The LWP of a trace stop that the tracer was told of.
+/// Returns the LWP of a trace stop that was reported to the tracer.
 fn told_stop(process: &ProcData) -> Option<Tid>
     ensures { result ≡ told_stop process.now.state }
 {
@@ -121,7 +118,7 @@ fn told_stop(process: &ProcData) -> Option<Tid>
     }
 }
 
-/// The LWP that the target names: that with its number, or for the number of a process the LWP that reports its stop.
+/// Returns the LWP that the target names: the one with this number, or for a process the LWP that reports its stop.
 fn named_lwp(target: u32, reporting: Tid) -> Tid
     requires lwp { leb target 99999 ≡ false → target < 356000 }
     ensures { result ≡ (if leb target 99999 then reporting else target) }
@@ -132,8 +129,8 @@ fn named_lwp(target: u32, reporting: Tid) -> Tid
     }
 }
 
-/// Does what the tracer asks of its stopped tracee, by an LWP of it. Refused with EINVAL where the argument is
-/// wrong, and with ENOMEM where memory for a list of LWPs runs out.
+/// Makes a request of the tracer about an LWP of its stopped tracee. Refused with EINVAL where `data` is wrong. An
+/// error means out of memory for a list of LWPs.
 fn command(
     tables: &mut Tables,
     alloc: Global,
@@ -142,51 +139,45 @@ fn command(
     data: u32,
     lwp: Tid,
     process: &ProcData,
-) -> Reply
+) -> Result<Reply, AllocError>
     requires sound { IsSound tables.old.rows }
     requires at { process_of process.now.pid tables.old.rows.processes ≡ Some process.now }
     requires stopped { is_some (reporting process.now) ≡ true }
     requires own { IsSomeAnd (lwp_of lwp tables.old.rows.lwps) (λ l. l.pid ≡ process.now.pid) }
-    ensures machine { result ≢ reply.Errno errno.ENOMEM →
-        (tables.new.rows ≡ (command settings request «data» lwp process.now tables.old.rows).rows)
-        × (result ≡ (command settings request «data» lwp process.now tables.old.rows).reply) }
-    ensures memory { result ≡ reply.Errno errno.ENOMEM → (tables.new.rows ≡ tables.old.rows) × (lists request ≡ true)
-        × (is_refusal (command settings request «data» lwp process.now tables.old.rows).reply ≡ false) }
+    ensures { let outcome = command settings request «data» lwp process.now tables.old.rows in
+        Attempts (lists request) outcome tables.old.rows tables.new.rows result }
 {
     let pid = process.pid;
     let mask = process.mask;
     let entry = EventMask::PTRACE_SCE;
     let exit = EventMask::PTRACE_SCX;
     match request {
-        Request::TraceMe => Reply::Errno(Errno::EINVAL),
-        Request::Attach => Reply::Errno(Errno::EBUSY),
-        Request::Continue => continue_with(tables, settings, process, mask, data),
-        Request::ToSce => continue_with(tables, settings, process, mask.with(entry), data),
-        Request::ToScx => continue_with(tables, settings, process, mask.with(exit), data),
-        Request::Syscall => continue_with(
-            tables,
-            settings,
-            process,
-            mask.with(entry).with(exit),
-            data,
-        ),
-        Request::Step => step(tables, settings, process, lwp, data),
-        Request::Suspend => suspend(tables, lwp, true),
-        Request::Resume => suspend(tables, lwp, false),
-        Request::Detach => detach_with(tables, settings, process, data),
-        Request::Kill => resume_with(tables, settings, process, Signal::kill().number()),
-        Request::SetEventMask => set_events(tables, process, data),
-        Request::FollowFork => switch(tables, process, EventMask::PTRACE_FORK, data),
-        Request::LwpEvents => switch(tables, process, EventMask::PTRACE_LWP, data),
-        Request::GetEventMask => Reply::Mask(mask),
-        Request::LwpInfo => show_lwp(tables, process, lwp),
-        Request::GetNumLwps => Reply::Number(lwp_count(tables, pid) as u32),
+        Request::TraceMe => Ok(Reply::Errno(Errno::EINVAL)),
+        Request::Attach => Ok(Reply::Errno(Errno::EBUSY)),
+        Request::Continue => Ok(continue_with(tables, settings, process, mask, data)),
+        Request::ToSce => Ok(continue_with(tables, settings, process, mask.with(entry), data)),
+        Request::ToScx => Ok(continue_with(tables, settings, process, mask.with(exit), data)),
+        Request::Syscall => {
+            let both = mask.with(entry).with(exit);
+            Ok(continue_with(tables, settings, process, both, data))
+        }
+        Request::Step => Ok(step(tables, settings, process, lwp, data)),
+        Request::Suspend => Ok(suspend(tables, lwp, true)),
+        Request::Resume => Ok(suspend(tables, lwp, false)),
+        Request::Detach => Ok(detach_with(tables, settings, process, data)),
+        Request::Kill => Ok(resume_with(tables, settings, process, Signal::kill().number())),
+        Request::SetEventMask => Ok(set_events(tables, process, data)),
+        Request::FollowFork => Ok(switch(tables, process, EventMask::PTRACE_FORK, data)),
+        Request::LwpEvents => Ok(switch(tables, process, EventMask::PTRACE_LWP, data)),
+        Request::GetEventMask => Ok(Reply::Mask(mask)),
+        Request::LwpInfo => Ok(show_lwp(tables, process, lwp)),
+        Request::GetNumLwps => Ok(Reply::Number(lwp_count(tables, pid) as u32)),
         Request::GetLwpList => list_lwps(tables, alloc, pid, data),
     }
 }
 
-/// PT_CONTINUE, PT_TO_SCE, PT_TO_SCX and PT_SYSCALL: the process runs on with a signal or with 0, stopped from
-/// now on at the events of the mask, and none of its LWPs steps. Refused with EINVAL where the argument is above 31.
+/// PT_CONTINUE, PT_TO_SCE, PT_TO_SCX and PT_SYSCALL: resumes the process with a signal or with 0. The mask becomes its
+/// event mask, and none of its LWPs steps. Refused with EINVAL where `data` is above 31.
 pub fn continue_with(
     tables: &mut Tables,
     settings: Settings,
@@ -197,10 +188,8 @@ pub fn continue_with(
     requires sound { IsSound tables.old.rows }
     requires at { process_of process.now.pid tables.old.rows.processes ≡ Some process.now }
     requires stopped { is_some (reporting process.now) ≡ true }
-    ensures rows { tables.new.rows
-        ≡ (with_signal «data» (continues_with settings (λ old. mask) «data» process.now tables.old.rows) tables.old.rows).rows }
-    ensures reply { result
-        ≡ (with_signal «data» (continues_with settings (λ old. mask) «data» process.now tables.old.rows) tables.old.rows).reply }
+    ensures { Gives (with_signal «data» (continues_with settings
+        (λ old. mask) «data» process.now tables.old.rows) tables.old.rows) tables.new.rows result }
 {
     let Ok(pass) = Pass::new(data) else {
         return Reply::Errno(Errno::EINVAL);
@@ -211,17 +200,15 @@ pub fn continue_with(
     Reply::Done
 }
 
-/// PT_STEP: the process runs on with a signal or with 0, and of its LWPs this one alone steps. Refused with EINVAL
-/// where the argument is above 31.
+/// PT_STEP: resumes the process with a signal or with 0. Of its LWPs only this one steps. Refused with EINVAL where
+/// `data` is above 31.
 fn step(tables: &mut Tables, settings: Settings, process: &ProcData, lwp: Tid, data: u32) -> Reply
     requires sound { IsSound tables.old.rows }
     requires at { process_of process.now.pid tables.old.rows.processes ≡ Some process.now }
     requires stopped { is_some (reporting process.now) ≡ true }
     requires own { IsSomeAnd (lwp_of lwp tables.old.rows.lwps) (λ l. l.pid ≡ process.now.pid) }
-    ensures rows { tables.new.rows ≡ (with_signal «data»
-        (answers reply.Done (resume settings process.now.pid «data» (stepping process.now.pid lwp tables.old.rows))) tables.old.rows).rows }
-    ensures reply { result ≡ (with_signal «data»
-        (answers reply.Done (resume settings process.now.pid «data» (stepping process.now.pid lwp tables.old.rows))) tables.old.rows).reply }
+    ensures { Gives (with_signal «data» (answers reply.Done (resume settings process.now.pid «data»
+        (stepping process.now.pid lwp tables.old.rows))) tables.old.rows) tables.new.rows result }
 {
     let Ok(pass) = Pass::new(data) else {
         return Reply::Errno(Errno::EINVAL);
@@ -232,7 +219,7 @@ fn step(tables: &mut Tables, settings: Settings, process: &ProcData, lwp: Tid, d
     Reply::Done
 }
 
-/// The LWP steps from now on.
+/// Sets the LWP's stepping flag.
 fn set_stepping(tables: &mut Tables, lwp: Tid)
     requires there { IsSome (lwp_of lwp tables.old.rows.lwps) }
     ensures rows { tables.new.rows ≡ change_lwp lwp (λ l. record l { stepping = true }) tables.old.rows }
@@ -245,11 +232,10 @@ fn set_stepping(tables: &mut Tables, lwp: Tid)
     }
 }
 
-/// PT_SUSPEND and PT_RESUME: the LWP is suspended from now on, or isn't.
+/// PT_SUSPEND and PT_RESUME: sets whether the LWP is suspended.
 fn suspend(tables: &mut Tables, lwp: Tid, suspended: bool) -> Reply
     requires there { IsSome (lwp_of lwp tables.old.rows.lwps) }
-    ensures rows { tables.new.rows ≡ suspend suspended lwp tables.old.rows }
-    ensures reply { result ≡ reply.Done }
+    ensures { Gives (answers reply.Done (suspend suspended lwp tables.old.rows)) tables.new.rows result }
 {
     let Some(row) = tables.lwp(lwp) else {
         return Reply::Done;
@@ -258,16 +244,14 @@ fn suspend(tables: &mut Tables, lwp: Tid, suspended: bool) -> Reply
     Reply::Done
 }
 
-/// PT_DETACH: nobody traces the process from now on, and it runs on with a signal or with 0. Refused with EINVAL
-/// where the argument is above 31.
+/// PT_DETACH: ends the tracing of the process, and resumes it with a signal or with 0. Refused with EINVAL where
+/// `data` is above 31.
 pub fn detach_with(tables: &mut Tables, settings: Settings, process: &ProcData, data: u32) -> Reply
     requires sound { IsSound tables.old.rows }
     requires at { process_of process.now.pid tables.old.rows.processes ≡ Some process.now }
     requires stopped { is_some (reporting process.now) ≡ true }
-    ensures rows { tables.new.rows
-        ≡ (with_signal «data» (answers reply.Done (detach settings process.now.pid «data» tables.old.rows)) tables.old.rows).rows }
-    ensures reply { result
-        ≡ (with_signal «data» (answers reply.Done (detach settings process.now.pid «data» tables.old.rows)) tables.old.rows).reply }
+    ensures { Gives (with_signal «data» (answers reply.Done
+        (detach settings process.now.pid «data» tables.old.rows)) tables.old.rows) tables.new.rows result }
 {
     let Ok(pass) = Pass::new(data) else {
         return Reply::Errno(Errno::EINVAL);
@@ -276,7 +260,7 @@ pub fn detach_with(tables: &mut Tables, settings: Settings, process: &ProcData, 
     Reply::Done
 }
 
-/// The process runs on with a signal or with 0. Refused with EINVAL where the number is above 31.
+/// Resumes the process with a signal or with 0. Refused with EINVAL where the number is above 31.
 pub fn resume_with(
     tables: &mut Tables,
     settings: Settings,
@@ -286,10 +270,8 @@ pub fn resume_with(
     requires sound { IsSound tables.old.rows }
     requires at { process_of process.now.pid tables.old.rows.processes ≡ Some process.now }
     requires stopped { is_some (reporting process.now) ≡ true }
-    ensures rows { tables.new.rows
-        ≡ (with_signal number (answers reply.Done (resume settings process.now.pid number tables.old.rows)) tables.old.rows).rows }
-    ensures reply { result
-        ≡ (with_signal number (answers reply.Done (resume settings process.now.pid number tables.old.rows)) tables.old.rows).reply }
+    ensures { Gives (with_signal number (answers reply.Done
+        (resume settings process.now.pid number tables.old.rows)) tables.old.rows) tables.new.rows result }
 {
     let Ok(pass) = Pass::new(number) else {
         return Reply::Errno(Errno::EINVAL);
@@ -298,12 +280,13 @@ pub fn resume_with(
     Reply::Done
 }
 
-/// PT_SET_EVENT_MASK: the process is stopped from now on at these events. Refused with EINVAL where a bit is no event's.
+/// PT_SET_EVENT_MASK: sets the event mask of the process. Refused with EINVAL where a bit is not an event's.
 fn set_events(tables: &mut Tables, process: &ProcData, bits: u32) -> Reply
     requires at { process_of process.now.pid tables.old.rows.processes ≡ Some process.now }
-    ensures rows { tables.new.rows ≡ (if not (bit_or bits all_events == all_events)
-        then tables.old.rows else set_mask (λ mask. record { 0 = bits }) process.now.pid tables.old.rows) }
-    ensures reply { result ≡ (if not (bit_or bits all_events == all_events) then reply.Errno errno.EINVAL else reply.Done) }
+    ensures { let known = set_mask (λ mask. record { 0 = bits }) process.now.pid tables.old.rows in
+        Gives (if not (bit_or bits all_events == all_events)
+        then refuses errno.EINVAL tables.old.rows else answers reply.Done known)
+        tables.new.rows result }
 {
     let Some(mask) = EventMask::known(bits) else {
         return Reply::Errno(Errno::EINVAL);
@@ -312,18 +295,18 @@ fn set_events(tables: &mut Tables, process: &ProcData, bits: u32) -> Reply
     Reply::Done
 }
 
-/// PT_FOLLOW_FORK and PT_LWP_EVENTS: the process is stopped from now on at the event, or with 0 isn't.
+/// PT_FOLLOW_FORK and PT_LWP_EVENTS: sets the event in the mask of the process, or for 0 clears it.
 fn switch(tables: &mut Tables, process: &ProcData, event: EventMask, on: u32) -> Reply
     requires sound { IsSound tables.old.rows }
     requires at { process_of process.now.pid tables.old.rows.processes ≡ Some process.now }
-    ensures rows { tables.new.rows ≡ set_mask (switched event on) process.now.pid tables.old.rows }
-    ensures reply { result ≡ reply.Done }
+    ensures { Gives (answers reply.Done (set_mask (switched event on) process.now.pid tables.old.rows))
+        tables.new.rows result }
 {
     set_mask(tables, process, switched(process.mask, event, on));
     Reply::Done
 }
 
-/// The mask with the event, or for 0 without it.
+/// Returns the mask with the event, or for 0 without it.
 fn switched(mask: EventMask, event: EventMask, on: u32) -> EventMask
     ensures { result ≡ switched event on mask }
 {
@@ -334,7 +317,7 @@ fn switched(mask: EventMask, event: EventMask, on: u32) -> EventMask
     }
 }
 
-/// Sets the events that the process is stopped at.
+/// Sets the event mask of the process.
 fn set_mask(tables: &mut Tables, process: &ProcData, mask: EventMask)
     requires at { process_of process.now.pid tables.old.rows.processes ≡ Some process.now }
     ensures rows { tables.new.rows ≡ set_mask (λ old. mask) process.now.pid tables.old.rows }
@@ -347,7 +330,7 @@ fn set_mask(tables: &mut Tables, process: &ProcData, mask: EventMask)
 fn show_lwp(tables: &Tables, process: &ProcData, lwp: Tid) -> Reply
     requires at { process_of process.now.pid tables.now.rows.processes ≡ Some process.now }
     requires own { IsSomeAnd (lwp_of lwp tables.now.rows.lwps) (λ l. l.pid ≡ process.now.pid) }
-    ensures reply { result ≡ (shows_info (info process.now lwp tables.now.rows) tables.now.rows).reply }
+    ensures { result ≡ (shows_info (info process.now lwp tables.now.rows) tables.now.rows).reply }
 {
     match info(tables, process.pid, lwp) {
         Some(shown) => Reply::Info(shown),
@@ -355,17 +338,15 @@ fn show_lwp(tables: &Tables, process: &ProcData, lwp: Tid) -> Reply
     }
 }
 
-/// PT_GETLWPLIST. Refused with EINVAL where the count is 0, and with ENOMEM where memory runs out.
-fn list_lwps(tables: &Tables, alloc: Global, pid: Pid, count: u32) -> Reply
-    ensures machine { result ≢ reply.Errno errno.ENOMEM →
-        result ≡ (if count == 0 then reply.Errno errno.EINVAL else reply.Lwps (lwp_list pid count tables.now.rows)) }
-    ensures memory { result ≡ reply.Errno errno.ENOMEM → (count == 0) ≡ false }
+/// PT_GETLWPLIST. Refused with EINVAL where the count is 0. An error means out of memory.
+fn list_lwps(tables: &Tables, alloc: Global, pid: Pid, count: u32) -> Result<Reply, AllocError>
+    ensures { let rows = tables.now.rows in
+        Attempts true (if count == 0
+        then refuses errno.EINVAL rows else answers (reply.Lwps (lwp_list pid count rows)) rows)
+        rows rows result }
 {
     if count == 0 {
-        return Reply::Errno(Errno::EINVAL);
+        return Ok(Reply::Errno(Errno::EINVAL));
     }
-    match lwp_list(alloc, tables, pid, count) {
-        Ok(tids) => Reply::Lwps(tids),
-        Err(_) => Reply::Errno(Errno::ENOMEM),
-    }
+    Ok(Reply::Lwps(lwp_list(alloc, tables, pid, count)?))
 }

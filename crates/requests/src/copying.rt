@@ -1,4 +1,4 @@
-//! Replies, as values.
+//! Copies of replies.
 
 ghost use Rattle.std.specs.Prelude.{◌≡◌, true, IfOk, OnErr};
 ghost use Rattle.requests.specs.Memory.{is_memory};
@@ -9,14 +9,14 @@ use pid_blocks::Errno;
 use std::alloc::{AllocError, Global};
 
 impl Reply {
-    /// Whether the step found no memory.
+    /// Returns whether the step ran out of memory.
     pub fn is_memory(&self) -> bool
         ensures { result ≡ is_memory self.now }
     {
         matches!(self, Reply::Errno(Errno::ENOMEM))
     }
 
-    /// Another reply that says the same. Refused where memory runs out, which a list alone takes.
+    /// Returns an equal reply. Refused where memory runs out: only a list takes memory.
     pub fn copy(&self, alloc: Global) -> Result<Reply, AllocError>
         ensures copied { IfOk result (λ r. r ≡ self.now) }
         ensures refused { OnErr result (is_listing self.now ≡ true) }

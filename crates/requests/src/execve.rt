@@ -1,7 +1,6 @@
 //! execve.
 
-ghost use Rattle.std.specs.Prelude.{◌≡◌, ◌≢◌, ◌==◌, true, find};
-ghost use Rattle.pid_blocks.specs.declared.Errno.TheVariants as errno;
+ghost use Rattle.std.specs.Prelude.{◌≡◌, ◌==◌, true, find};
 ghost use Rattle.event_masks.specs.declared.Call.TheVariants as call;
 ghost use Rattle.signals.specs.Table.{after_exec};
 ghost use Rattle.proc_table.specs.Kept.{IsKept, IsRow};
@@ -11,7 +10,7 @@ ghost use Rattle.trace_stop.specs.Facts.{IsSound};
 ghost use Rattle.requests.specs.declared.Reply.TheVariants as reply;
 ghost use Rattle.requests.specs.Actors.{IsActing, HasLwp};
 ghost use Rattle.requests.specs.Programs.{is_other, only_lwp, parent_freed};
-ghost use Rattle.requests.specs.Outcome.{stops_or};
+ghost use Rattle.requests.specs.Outcome.{Gives, stops_or};
 ghost use Rattle.requests.specs.Leave.{exit_stop, exec_rows};
 
 use crate::Reply;
@@ -23,7 +22,7 @@ use proc_table::{ProcData, Tables};
 use process_end::release;
 use trace_stop::settle;
 
-/// The oldest LWP of the process with another number.
+/// Returns the oldest LWP of the process whose number differs from `tid`.
 fn other_lwp(tables: &Tables, pid: Pid, tid: Tid) -> Option<LwpData>
     requires { HasLwp pid tid tables.now.rows }
     ensures other { result ≡ find (is_other pid tid) tables.now.rows.lwps }
@@ -39,7 +38,7 @@ fn other_lwp(tables: &Tables, pid: Pid, tid: Tid) -> Option<LwpData>
     }
 }
 
-/// Takes out the other LWPs of a process.
+/// Removes the other LWPs of a process.
 fn keep_lwp(tables: &mut Tables, pid: Pid, tid: Tid)
     requires { HasLwp pid tid tables.old.rows }
     ensures rows { tables.new.rows ≡ only_lwp pid tid tables.old.rows }
@@ -50,7 +49,7 @@ fn keep_lwp(tables: &mut Tables, pid: Pid, tid: Tid)
     }
 }
 
-/// Ends a vfork wait for the process, which only its parent's LWPs can have.
+/// Ends the vfork wait for the process. Only LWPs of its parent can be in one.
 fn release_parent(tables: &mut Tables, p: &ProcData)
     ensures { tables.new.rows ≡ parent_freed (process_of p.now.parent tables.old.rows.processes) p.now.pid tables.old.rows }
 {
@@ -59,7 +58,7 @@ fn release_parent(tables: &mut Tables, p: &ProcData)
     }
 }
 
-/// The process catches no signal any more.
+/// Makes the process catch no signal any more.
 fn drop_handlers(tables: &mut Tables, pid: Pid)
     requires { IsRow tables.old.rows pid }
     ensures { tables.new.rows
@@ -72,7 +71,7 @@ fn drop_handlers(tables: &mut Tables, pid: Pid)
     });
 }
 
-/// The process runs another program, by this LWP alone.
+/// Lets the process run another program with this LWP only.
 fn run_program(tables: &mut Tables, p: &ProcData, l: &LwpData)
     requires sound { IsSound tables.old.rows }
     requires acting { IsActing p.now l.now tables.old.rows }
@@ -86,15 +85,12 @@ fn run_program(tables: &mut Tables, p: &ProcData, l: &LwpData)
     settle(tables, p.pid);
 }
 
-/// execve: the process has this LWP alone, catches no signal, and who waits for it by vfork is released.
+/// execve: the process keeps only this LWP and catches no signal. An LWP that waits for it by vfork is released.
 pub fn exec(tables: &mut Tables, p: &ProcData, l: &LwpData) -> Reply
     requires sound { IsSound tables.old.rows }
     requires acting { IsActing p.now l.now tables.old.rows }
-    ensures rows { let replaced = exec_rows p.now l.now tables.old.rows in
-        tables.new.rows ≡ (stops_or (exit_stop p.now call.Exec 0) reply.Done p.now l.now replaced).rows }
-    ensures reply { let replaced = exec_rows p.now l.now tables.old.rows in
-        result ≡ (stops_or (exit_stop p.now call.Exec 0) reply.Done p.now l.now replaced).reply }
-    ensures given { result ≢ reply.Errno errno.ENOMEM }
+    ensures { let replaced = exec_rows p.now l.now tables.old.rows in
+        Gives (stops_or (exit_stop p.now call.Exec 0) reply.Done p.now l.now replaced) tables.new.rows result }
 {
     run_program(tables, p, l);
     stop_or(tables, &exit_stop(p, Call::Exec, 0), Reply::Done, p, l)

@@ -1,13 +1,11 @@
 //! fork and vfork.
 
-ghost use Rattle.std.specs.Prelude.{◌≡◌, ◌≢◌, ◌<◌, false};
-ghost use Rattle.pid_blocks.specs.declared.Errno.TheVariants as errno;
+ghost use Rattle.std.specs.Prelude.{◌≡◌, ◌<◌, true, false};
 ghost use Rattle.pid_blocks.specs.Blocks.{pid_block, tid_block, InBlock};
 ghost use Rattle.proc_table.specs.Fresh.{is_process, is_lwp};
-ghost use Rattle.requests.specs.declared.Reply.TheVariants as reply;
 ghost use Rattle.requests.specs.Actors.{IsActing, HasLwp, mode_after};
 ghost use Rattle.requests.specs.Leave.{room_for_process, forked, child_stop, with_child, forks};
-ghost use Rattle.requests.specs.Memory.{is_refusal};
+ghost use Rattle.requests.specs.Memory.{Attempts};
 
 use crate::Reply;
 use crate::spawns::{new_reply, room_for_lwp, room_for_pid};
@@ -17,9 +15,10 @@ use lwp_table::{Due, LwpData, Mode};
 use pid_blocks::{Errno, Pid, Tid};
 use proc_table::{ProcData, State, Tables};
 use signals::{SigSet, Signal};
+use std::alloc::AllocError;
 use trace_stop::{Shown, stop};
 
-/// The child of a fork, which the parent's tracer follows or doesn't.
+/// Returns the row of a fork's child. If `followed`, the parent's tracer traces it.
 fn forked(followed: bool, p: &ProcData, pid: Pid) -> ProcData
     ensures { result ≡ forked followed p.now pid }
 {
@@ -40,7 +39,7 @@ fn forked(followed: bool, p: &ProcData, pid: Pid) -> ProcData
     }
 }
 
-/// The stop of a followed child before its first turn.
+/// Returns the stop of a followed child before its first turn.
 fn child_stop(call: Call) -> Shown
     ensures { result ≡ child_stop call }
 {
@@ -52,7 +51,7 @@ fn child_stop(call: Call) -> Shown
     }
 }
 
-/// What the LWP does after its fork: after a vfork it waits for the child.
+/// Returns the mode of the LWP after its fork: after a vfork it waits for the child.
 fn mode_after(call: Call, child: Pid) -> Mode
     ensures { result ≡ mode_after call child }
 {
@@ -62,7 +61,7 @@ fn mode_after(call: Call, child: Pid) -> Mode
     }
 }
 
-/// Adds the child of a fork, for which there is room.
+/// Adds the child of a fork. The tables have room for it.
 fn add_child(tables: &mut Tables, call: Call, p: &ProcData, l: &LwpData, pid: Pid, tid: Tid)
     requires acting { IsActing p.now l.now tables.old.rows }
     requires processes { 0 < tables.old.spare_processes }
@@ -83,36 +82,29 @@ fn add_child(tables: &mut Tables, call: Call, p: &ProcData, l: &LwpData, pid: Pi
     }
 }
 
-/// Makes a child of the process, with one LWP. Refused with EAGAIN where the user has 250 processes or 1000 LWPs, and
-/// with ENOMEM where memory runs out.
-pub fn fork(tables: &mut Tables, call: Call, p: &ProcData, l: &LwpData) -> Reply
+/// Makes a child of the process, with one LWP. Refused with EAGAIN where the user has 250 processes or 1000 LWPs. An
+/// error means out of memory, and changes nothing.
+pub fn fork(tables: &mut Tables, call: Call, p: &ProcData, l: &LwpData) -> Result<Reply, AllocError>
     requires { IsActing p.now l.now tables.old.rows }
-    ensures machine { let room = room_for_process p.now.uid tables.old.rows in
-        let after = forks call (mode_after call) p.now l.now tables.old.rows room in
-        result ≢ reply.Errno errno.ENOMEM → (tables.new.rows ≡ after.rows) × (result ≡ after.reply) }
-    ensures memory { let room = room_for_process p.now.uid tables.old.rows in
-        let after = forks call (mode_after call) p.now l.now tables.old.rows room in
-        result ≡ reply.Errno errno.ENOMEM → (tables.new.rows ≡ tables.old.rows) × (is_refusal after.reply ≡ false) }
+    ensures { let room = room_for_process p.now.uid tables.old.rows in
+        Attempts true (forks call (mode_after call) p.now l.now tables.old.rows room) tables.old.rows
+        tables.new.rows result }
 {
     let Some(pid) = room_for_pid(tables, p.uid) else {
-        return Reply::Errno(Errno::EAGAIN);
+        return Ok(Reply::Errno(Errno::EAGAIN));
     };
     let Some(tid) = room_for_lwp(tables, p.uid) else {
-        return Reply::Errno(Errno::EAGAIN);
+        return Ok(Reply::Errno(Errno::EAGAIN));
     };
-    if tables.reserve_process(1).is_err() {
-        return Reply::Errno(Errno::ENOMEM);
-    }
-    if tables.reserve_lwp(1).is_err() {
-        return Reply::Errno(Errno::ENOMEM);
-    }
+    tables.reserve_process(1)?;
+    tables.reserve_lwp(1)?;
     add_child(tables, call, p, l, pid, tid);
-    finish(
+    Ok(finish(
         tables,
         mode_after(call, pid),
         &exit_stop(p, call, pid.get()),
         new_reply(pid, tid),
         p,
         l,
-    )
+    ))
 }

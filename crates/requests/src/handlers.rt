@@ -1,4 +1,4 @@
-//! What the debuggers of each user have installed.
+//! The installed handlers of each user's debuggers.
 
 ghost use Rattle.std.specs.Prelude.{◌≡◌, ℕ, ◌≤◌, ◌<◌, ◌++◌, ◌∷◌, [], Some, None, map, filter, length, set, get_or, option_map, slice_get, OnOk, OnErr, IfOk};
 ghost use Rattle.pid_blocks.specs.Blocks.{slot, users};
@@ -9,12 +9,12 @@ use pid_blocks::{Pid, Uid};
 use proc_table::Tables;
 use std::alloc::{AllocError, Global};
 use std::marker::Model;
-use stop_handlers::{Decider, Decision, Handler, Policy, StopView};
+use stop_handlers::{ByPolicy, Decider, Decision, Handler, Policy, StopView};
 
 /// The answer of a debugger's handlers about a stop.
 #[derive(Clone, Copy, Debug, PartialEq, Eq, Drop)]
 pub struct Decided {
-    /// The place of the handler that decided among the debugger's, counted from 0; none where all decline.
+    /// The index, from 0, of the deciding handler among the debugger's; `None` where all decline.
     pub index: Option<u32>,
     pub decision: Decision,
 }
@@ -46,9 +46,20 @@ impl<F: Decider + Send + Drop> Installed<F> {
     {
         self.handler.policy()
     }
+
+    /// Returns a handler of the same debugger that answers by this one's policy.
+    fn by_policy(&self) -> Installed<ByPolicy>
+        ensures { result ≡ self.now }
+    {
+        let policy = self.policy();
+        Installed {
+            debugger: self.debugger,
+            handler: Handler::new(policy, ByPolicy(policy)),
+        }
+    }
 }
 
-/// What the debuggers of one user have installed, in order.
+/// The installed handlers of one user's debuggers, in order.
 #[derive(Drop)]
 struct HandlerList<F: Decider + Send + Drop> {
     installed: Vec<Installed<F>>,
@@ -78,7 +89,7 @@ impl<F: Decider + Send + Drop> HandlerList<F> {
         self.installed.len()
     }
 
-    /// Adds what a debugger installs. An error is want of memory, and changes nothing.
+    /// Adds a handler of the debugger. An error means out of memory, and changes nothing.
     fn push(&mut self, debugger: Pid, handler: Handler<F>) -> Result<(), AllocError>
         ensures done { OnOk result (self.new ≡ self.old ++ (record { debugger = debugger; policy = handler } ∷ [])) }
         ensures refused { OnErr result (self.new ≡ self.old) }
@@ -87,7 +98,7 @@ impl<F: Decider + Send + Drop> HandlerList<F> {
         Ok(())
     }
 
-    /// What was installed at this place.
+    /// Returns the debugger and the policy of the handler at this index.
     fn at(&self, index: usize) -> Option<(Pid, Policy)>
         ensures { result ≡ option_map (λ i. (i.debugger, i.policy)) (slice_get self.now index) }
     {
@@ -95,7 +106,7 @@ impl<F: Decider + Send + Drop> HandlerList<F> {
         Some((installed.debugger(), installed.policy()))
     }
 
-    /// What the debugger's handlers answer about a stop.
+    /// Returns what the debugger's handlers decide about a stop.
     fn decided(&self, debugger: Pid, view: &StopView) -> Decided
         requires { length self.now ≤ 64 }
         ensures { result ≡ decided (policies_in debugger self.now) 0 view.now }
@@ -119,7 +130,18 @@ impl<F: Decider + Send + Drop> HandlerList<F> {
         }
     }
 
-    /// Drops what processes installed that have ended.
+    /// Returns a list of handlers that answer by these policies. An error means out of memory.
+    fn copy(&self, alloc: Global) -> Result<HandlerList<ByPolicy>, AllocError>
+        ensures { IfOk result (λ l. l ≡ self.now) }
+    {
+        let mut copies = Vec::with_capacity(alloc, self.len())?;
+        for installed in &self.installed {
+            copies.push(installed.by_policy())?;
+        }
+        Ok(HandlerList { installed: copies })
+    }
+
+    /// Drops the handlers of processes that have ended.
     fn drop_ended(&mut self, tables: &Tables)
         ensures { self.new ≡ filter (λ i. is_live_number tables.now.rows i.debugger) self.old }
     {
@@ -128,7 +150,7 @@ impl<F: Decider + Send + Drop> HandlerList<F> {
     }
 }
 
-/// Whether a live process has the number.
+/// Returns whether a live process has the number.
 pub fn is_live(tables: &Tables, pid: Pid) -> bool
     ensures { result ≡ is_live_number tables.now.rows pid }
 {
@@ -138,7 +160,7 @@ pub fn is_live(tables: &Tables, pid: Pid) -> bool
     }
 }
 
-/// What the debuggers of all users have installed.
+/// The installed handlers of all users' debuggers.
 #[derive(Drop)]
 pub struct HandlerTable<F: Decider + Send + Drop> {
     users: Vec<HandlerList<F>>,
@@ -156,7 +178,7 @@ impl<F: Decider + Send + Drop> Model for HandlerTable<F> {
 }
 
 impl<F: Decider + Send + Drop> HandlerTable<F> {
-    /// Nothing is installed. An error is want of memory.
+    /// Creates a table without handlers. An error means out of memory.
     pub fn new(alloc: Global) -> Result<HandlerTable<F>, AllocError>
         ensures { IfOk result (λ t. t ≡ map (λ u. []) users) }
     {
@@ -167,21 +189,32 @@ impl<F: Decider + Send + Drop> HandlerTable<F> {
         Ok(HandlerTable { users: lists })
     }
 
-    /// How many handlers the user's debuggers have installed.
+    /// Returns a table of handlers that answer by these policies. An error means out of memory.
+    pub fn copy(&self, alloc: Global) -> Result<HandlerTable<ByPolicy>, AllocError>
+        ensures { IfOk result (λ t. t ≡ self.now) }
+    {
+        let mut lists = Vec::with_capacity(alloc, 64)?;
+        for list in &self.users {
+            lists.push(list.copy(alloc)?)?;
+        }
+        Ok(HandlerTable { users: lists })
+    }
+
+    /// Returns how many handlers the user's debuggers have installed.
     pub fn count(&self, user: Uid) -> usize
         ensures { result ≡ length (get_or self.now (slot user) []) }
     {
         self.users[user.slot()].len()
     }
 
-    /// What the user's debuggers have installed at this place.
+    /// Returns the debugger and the policy of the user's handler at this index.
     pub fn at(&self, user: Uid, index: usize) -> Option<(Pid, Policy)>
         ensures { result ≡ option_map (λ i. (i.debugger, i.policy)) (slice_get (get_or self.now (slot user) []) index) }
     {
         self.users[user.slot()].at(index)
     }
 
-    /// Adds what a debugger of the user installs. An error is want of memory, and changes nothing.
+    /// Adds a handler of a debugger of the user. An error means out of memory, and changes nothing.
     pub fn install(
         &mut self,
         user: Uid,
@@ -194,7 +227,7 @@ impl<F: Decider + Send + Drop> HandlerTable<F> {
         self.users[user.slot()].push(debugger, handler)
     }
 
-    /// What the handlers of a debugger of the user answer about a stop.
+    /// Returns what the handlers of the user's debugger decide about a stop.
     pub fn decided(&self, user: Uid, debugger: Pid, view: &StopView) -> Decided
         requires { length (get_or self.now (slot user) []) ≤ 64 }
         ensures { result ≡ decided (policies_in debugger (get_or self.now (slot user) [])) 0 view.now }
@@ -202,7 +235,7 @@ impl<F: Decider + Send + Drop> HandlerTable<F> {
         self.users[user.slot()].decided(debugger, view)
     }
 
-    /// Drops what processes of the user installed that have ended.
+    /// Drops the handlers of the user's processes that have ended.
     pub fn drop_ended(&mut self, user: Uid, tables: &Tables)
         ensures { self.new ≡ set self.old (slot user) (filter (λ i. is_live_number tables.now.rows i.debugger) (get_or self.old (slot user) [])) }
     {

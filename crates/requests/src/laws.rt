@@ -11,7 +11,7 @@ pub fn stays_sound()
     ensures { SoundKept }
 {}
 
-/// A host that nobody has used is sound, and so is a sound host after any list of steps.
+/// An unused host is sound, and so is a sound host after any list of steps.
 pub fn runs_stay_sound()
     ensures first { SoundAtFirst }
     ensures runs { SoundRuns }
@@ -32,7 +32,7 @@ pub fn nothing_same()
     ensures { NothingSame }
 {}
 
-/// No step of the machine wants memory: the host alone answers ENOMEM.
+/// No step of the machine runs out of memory: only the host answers ENOMEM.
 pub fn never_memory()
     ensures { NeverMemory }
 {}

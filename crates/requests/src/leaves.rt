@@ -1,15 +1,13 @@
 //! The work of a system call, done when its LWP leaves the call.
 
-ghost use Rattle.std.specs.Prelude.{◌≡◌, ◌≢◌, ◌*◌, true, false};
-ghost use Rattle.pid_blocks.specs.declared.Errno.TheVariants as errno;
+ghost use Rattle.std.specs.Prelude.{◌≡◌, ◌*◌, true};
 ghost use Rattle.proc_table.specs.Processes.{is_run};
 ghost use Rattle.trace_stop.specs.Facts.{IsSound};
 ghost use Rattle.trace_stop.specs.Sound.{is_live_at};
-ghost use Rattle.requests.specs.declared.Reply.TheVariants as reply;
 ghost use Rattle.requests.specs.Actors.{IsActing};
-ghost use Rattle.requests.specs.Outcome.{ends_with};
+ghost use Rattle.requests.specs.Outcome.{Gives, ends_with};
 ghost use Rattle.requests.specs.Leave.{exits_lwp, due_at_birth, room_for_lwp, makes_lwp, leaves};
-ghost use Rattle.requests.specs.Memory.{makes, is_refusal};
+ghost use Rattle.requests.specs.Memory.{makes, Attempts};
 
 use crate::Reply;
 use crate::execve::exec;
@@ -21,29 +19,26 @@ use lwp_table::{Due, LwpData, Mode};
 use pid_blocks::Errno;
 use proc_table::{ProcData, Tables};
 use process_end::end;
+use std::alloc::AllocError;
 use trace_stop::Settings;
 
-/// Exit: the process ends with the status that wait4(2) shows.
+/// Exit: ends the process with the status that wait4(2) shows.
 fn exit(tables: &mut Tables, settings: Settings, status: u8, p: &ProcData) -> Reply
     requires sound { IsSound tables.old.rows }
     requires live { is_live_at p.now.pid tables.old.rows ≡ true }
-    ensures rows { tables.new.rows ≡ (ends_with settings (status * 256) p.now tables.old.rows).rows }
-    ensures reply { result ≡ (ends_with settings (status * 256) p.now tables.old.rows).reply }
-    ensures given { result ≢ reply.Errno errno.ENOMEM }
+    ensures { Gives (ends_with settings (status * 256) p.now tables.old.rows) tables.new.rows result }
 {
     let word = status as u32 * 256;
     end(tables, settings, p.pid, word);
     Reply::Ended(word)
 }
 
-/// thr_exit: the LWP is gone, or stops a last time for its tracer; the last one's exit ends the process.
+/// thr_exit: removes the LWP, or stops it a last time for its tracer. The exit of the last LWP ends the process.
 fn exit_lwp(tables: &mut Tables, settings: Settings, p: &ProcData, l: &LwpData) -> Reply
     requires sound { IsSound tables.old.rows }
     requires acting { IsActing p.now l.now tables.old.rows }
     requires live { is_live_at p.now.pid tables.old.rows ≡ true }
-    ensures rows { tables.new.rows ≡ (exits_lwp settings p.now l.now tables.old.rows).rows }
-    ensures reply { result ≡ (exits_lwp settings p.now l.now tables.old.rows).reply }
-    ensures given { result ≢ reply.Errno errno.ENOMEM }
+    ensures { Gives (exits_lwp settings p.now l.now tables.old.rows) tables.new.rows result }
 {
     if tables.lwp_count(p.pid) <= 1 {
         exit(tables, settings, 0, p)
@@ -56,7 +51,7 @@ fn exit_lwp(tables: &mut Tables, settings: Settings, p: &ProcData, l: &LwpData) 
     }
 }
 
-/// The stop that awaits a new LWP's first turn.
+/// Returns the stop that a new LWP makes at its first turn.
 fn due_at_birth(p: &ProcData) -> Due
     ensures { result ≡ due_at_birth p.now }
 {
@@ -69,61 +64,53 @@ fn due_at_birth(p: &ProcData) -> Due
     }
 }
 
-/// thr_new: one more LWP of the process. Refused with EAGAIN where the user has 1000, and with ENOMEM where memory runs
-/// out.
-fn make_lwp(tables: &mut Tables, p: &ProcData, l: &LwpData) -> Reply
+/// thr_new: adds an LWP to the process. Refused with EAGAIN where the user has 1000. An error means out of memory, and
+/// changes nothing.
+fn make_lwp(tables: &mut Tables, p: &ProcData, l: &LwpData) -> Result<Reply, AllocError>
     requires { IsActing p.now l.now tables.old.rows }
-    ensures machine { let after = makes_lwp p.now l.now tables.old.rows (room_for_lwp p.now.uid tables.old.rows) in
-        result ≢ reply.Errno errno.ENOMEM → (tables.new.rows ≡ after.rows) × (result ≡ after.reply) }
-    ensures memory { let after = makes_lwp p.now l.now tables.old.rows (room_for_lwp p.now.uid tables.old.rows) in
-        result ≡ reply.Errno errno.ENOMEM → (tables.new.rows ≡ tables.old.rows) × (is_refusal after.reply ≡ false) }
+    ensures { let room = room_for_lwp p.now.uid tables.old.rows in
+        Attempts true (makes_lwp p.now l.now tables.old.rows room) tables.old.rows tables.new.rows result }
 {
     let Some(tid) = room_for_lwp(tables, p.uid) else {
-        return Reply::Errno(Errno::EAGAIN);
+        return Ok(Reply::Errno(Errno::EAGAIN));
     };
-    if tables.reserve_lwp(1).is_err() {
-        return Reply::Errno(Errno::ENOMEM);
-    }
+    tables.reserve_lwp(1)?;
     tables.add_lwp(p.uid, LwpData::born(tid, p.pid, l.blocked, due_at_birth(p)));
-    finish(
+    Ok(finish(
         tables,
         Mode::User,
         &exit_stop(p, Call::ThrNew, 0),
         new_reply(p.pid, tid),
         p,
         l,
-    )
+    ))
 }
 
-/// What is done when an LWP leaves a call. Refused with EAGAIN where a limit leaves no room for what the call makes, and
-/// with ENOMEM where memory runs out for it.
+/// Does the work of a call when its LWP leaves it. Refused with EAGAIN where a limit leaves no room for the process or
+/// LWP that the call makes. An error means out of memory, and changes nothing.
 pub fn leave(
     tables: &mut Tables,
     settings: Settings,
     call: Call,
     p: &ProcData,
     l: &LwpData,
-) -> Reply
+) -> Result<Reply, AllocError>
     requires sound { IsSound tables.old.rows }
     requires acting { IsActing p.now l.now tables.old.rows }
     requires runs { is_run p.now ≡ true }
-    ensures machine { result ≢ reply.Errno errno.ENOMEM →
-        (tables.new.rows ≡ (leaves settings call p.now l.now tables.old.rows).rows)
-        × (result ≡ (leaves settings call p.now l.now tables.old.rows).reply) }
-    ensures memory { result ≡ reply.Errno errno.ENOMEM → (tables.new.rows ≡ tables.old.rows)
-        × (makes call ≡ true)
-        × (is_refusal (leaves settings call p.now l.now tables.old.rows).reply ≡ false) }
+    ensures { Attempts (makes call) (leaves settings call p.now l.now tables.old.rows) tables.old.rows
+        tables.new.rows result }
 {
     match call {
         Call::Fork => fork(tables, Call::Fork, p, l),
         Call::Vfork => fork(tables, Call::Vfork, p, l),
-        Call::Exec => exec(tables, p, l),
+        Call::Exec => Ok(exec(tables, p, l)),
         Call::ThrNew => make_lwp(tables, p, l),
-        Call::ThrExit => exit_lwp(tables, settings, p, l),
-        Call::Exit(status) => exit(tables, settings, status, p),
+        Call::ThrExit => Ok(exit_lwp(tables, settings, p, l)),
+        Call::Exit(status) => Ok(exit(tables, settings, status, p)),
         Call::Other(code) => {
             let shown = exit_stop(p, Call::Other(code), 0);
-            finish(tables, Mode::User, &shown, Reply::Done, p, l)
+            Ok(finish(tables, Mode::User, &shown, Reply::Done, p, l))
         }
     }
 }

@@ -1,15 +1,18 @@
 //! Lists of a user's processes.
 
-ghost use Rattle.std.specs.Prelude.{◌≡◌, ◌≢◌, IfOk, map};
+ghost use Rattle.std.specs.Prelude.{◌≡◌, ◌≢◌, IfOk, map, true};
 ghost use Rattle.proc_table.specs.Processes.{of_user};
+ghost use Rattle.requests.specs.Calls.{list};
+ghost use Rattle.requests.specs.Memory.{Attempts};
 
+use crate::Reply;
 use lwpinfo::NumList;
 use pid_blocks::Uid;
 use proc_table::Tables;
 use std::alloc::{AllocError, Global};
 
-/// The numbers of the user's processes, rising. An error is want of memory.
-pub fn pids_of(tables: &Tables, alloc: Global, user: Uid) -> Result<NumList, AllocError>
+/// Returns the numbers of the user's processes in rising order. An error means out of memory.
+fn pids_of(tables: &Tables, alloc: Global, user: Uid) -> Result<NumList, AllocError>
     ensures { IfOk result (λ list. list ≡ map (λ p. p.pid) (of_user user tables.now.rows.processes)) }
 {
     let mut pids = Vec::with_capacity(alloc, tables.process_count(user))?;
@@ -19,4 +22,11 @@ pub fn pids_of(tables: &Tables, alloc: Global, user: Uid) -> Result<NumList, All
         pids.push(after)?;
     }
     Ok(NumList::of(pids))
+}
+
+/// Lists the user's processes. An error means out of memory.
+pub fn list(tables: &Tables, alloc: Global, user: Uid) -> Result<Reply, AllocError>
+    ensures { Attempts true (list user tables.now.rows) tables.now.rows tables.now.rows result }
+{
+    Ok(Reply::Pids(pids_of(tables, alloc, user)?))
 }

@@ -1,7 +1,6 @@
 //! The turn of an LWP: a due stop, a signal, or its act.
 
-ghost use Rattle.std.specs.Prelude.{◌≡◌, ◌≢◌, true, false, Some};
-ghost use Rattle.pid_blocks.specs.declared.Errno.TheVariants as errno;
+ghost use Rattle.std.specs.Prelude.{◌≡◌, true, false, Some};
 ghost use Rattle.signals.specs.Table.{disposition_of};
 ghost use Rattle.lwp_table.specs.declared.Due.TheVariants as due;
 ghost use Rattle.trace_stop.specs.Sound.{is_live_at};
@@ -13,9 +12,9 @@ ghost use Rattle.trace_stop.specs.Facts.{IsSound};
 ghost use Rattle.requests.specs.declared.Reply.TheVariants as reply;
 ghost use Rattle.requests.specs.Actors.{IsActing, HasLwp};
 ghost use Rattle.requests.specs.Turn.{without_signal, job_stops, takes, takes_untraced, next_signal, due_stop, waits, acts, turn_of, turn};
-ghost use Rattle.requests.specs.Memory.{leaves_making, turn_makes, is_refusal};
+ghost use Rattle.requests.specs.Outcome.{Gives, stops_with};
+ghost use Rattle.requests.specs.Memory.{leaves_making, turn_makes, Attempts};
 ghost use Rattle.proc_table.specs.Seen.{seen_lwp};
-ghost use Rattle.trace_stop.specs.Stop.{stop};
 
 use crate::acts::act_in_user_mode;
 use crate::leaves::leave;
@@ -27,16 +26,17 @@ use pid_blocks::{Errno, Tid, Uid};
 use proc_table::{ProcData, State, Tables};
 use process_end::end;
 use signals::{Action, Disposition, Signal, default_action};
+use std::alloc::AllocError;
 use trace_stop::{Settings, Shown, notify};
 
-/// Whether an LWP waits for the process that its vfork made.
+/// Returns whether an LWP waits for the child of its vfork.
 fn waits(mode: Mode) -> bool
     ensures { result ≡ waits mode }
 {
     matches!(mode, Mode::VforkWait(_))
 }
 
-/// The stop that is due.
+/// Returns what the due stop shows, if one is due.
 fn due_stop(due: Due) -> Option<Shown>
     ensures { result ≡ due_stop due }
 {
@@ -52,7 +52,7 @@ fn due_stop(due: Due) -> Option<Shown>
     }
 }
 
-/// The lowest signal that isn't blocked, which an LWP in user mode takes at its turn.
+/// Returns the lowest pending signal that isn't blocked. An LWP in user mode takes it at its turn.
 fn next_signal(p: &ProcData, l: &LwpData) -> Option<Signal>
     ensures { result ≡ next_signal p.now l.now }
 {
@@ -62,7 +62,7 @@ fn next_signal(p: &ProcData, l: &LwpData) -> Option<Signal>
     }
 }
 
-/// A pending signal leaves the set that an LWP takes it from: its own, or else its process's.
+/// Removes a pending signal from the LWP's own set, or else from its process's.
 fn drop_signal(tables: &mut Tables, signal: Signal, p: &ProcData, l: &LwpData)
     requires { IsActing p.now l.now tables.old.rows }
     ensures { tables.new.rows ≡ without_signal signal p.now l.now tables.old.rows }
@@ -91,12 +91,10 @@ fn job_stopped(tid: Tid, signal: Signal) -> Reply
     }
 }
 
-/// A process stops for job control, and its parent is told.
+/// Stops a process for job control, and notifies its parent.
 fn job_stop(tables: &mut Tables, signal: Signal, p: &ProcData, l: &LwpData) -> Reply
     requires { IsRow tables.old.rows p.now.pid }
-    ensures rows { tables.new.rows ≡ (job_stops signal p.now l.now tables.old.rows).rows }
-    ensures reply { result ≡ (job_stops signal p.now l.now tables.old.rows).reply }
-    ensures given { result ≢ reply.Errno errno.ENOMEM }
+    ensures { Gives (job_stops signal p.now l.now tables.old.rows) tables.new.rows result }
 {
     let row = tables.process(p.pid).unwrap();
     tables.set_process(ProcData {
@@ -111,7 +109,7 @@ fn job_stop(tables: &mut Tables, signal: Signal, p: &ProcData, l: &LwpData) -> R
     job_stopped(l.tid, signal)
 }
 
-/// What an untraced process does with a signal that it takes.
+/// Acts on a signal that an untraced process takes, by the signal's disposition.
 fn take_untraced(
     tables: &mut Tables,
     settings: Settings,
@@ -121,11 +119,8 @@ fn take_untraced(
 ) -> Reply
     requires sound { IsSound tables.old.rows }
     requires live { is_live_at p.now.pid tables.old.rows ≡ true }
-    ensures rows { tables.new.rows
-        ≡ (takes_untraced settings signal (disposition_of p.now.dispositions signal) p.now l.now tables.old.rows).rows }
-    ensures reply { result
-        ≡ (takes_untraced settings signal (disposition_of p.now.dispositions signal) p.now l.now tables.old.rows).reply }
-    ensures given { result ≢ reply.Errno errno.ENOMEM }
+    ensures { Gives (takes_untraced settings signal
+        (disposition_of p.now.dispositions signal) p.now l.now tables.old.rows) tables.new.rows result }
 {
     match p.dispositions.get(signal) {
         Disposition::Ignore => Reply::Done,
@@ -141,7 +136,7 @@ fn take_untraced(
     }
 }
 
-/// An LWP takes a pending signal: a traced process stops, another one acts by its disposition.
+/// Takes a pending signal of an LWP. A traced process stops; an untraced one acts by the signal's disposition.
 fn take_signal(
     tables: &mut Tables,
     settings: Settings,
@@ -152,11 +147,8 @@ fn take_signal(
     requires sound { IsSound tables.old.rows }
     requires acting { IsActing p.now l.now tables.old.rows }
     requires runs { is_run p.now ≡ true }
-    ensures rows { tables.new.rows
-        ≡ (takes settings signal p.now l.now (without_signal signal p.now l.now tables.old.rows)).rows }
-    ensures reply { result
-        ≡ (takes settings signal p.now l.now (without_signal signal p.now l.now tables.old.rows)).reply }
-    ensures given { result ≢ reply.Errno errno.ENOMEM }
+    ensures { Gives (takes settings signal p.now l.now (without_signal signal p.now l.now tables.old.rows))
+        tables.new.rows result }
 {
     drop_signal(tables, signal, p, l);
     if p.tracer.is_some() {
@@ -166,13 +158,11 @@ fn take_signal(
     }
 }
 
-/// The due stop of an LWP, which is due no more.
+/// Stops the LWP with its due stop, and clears it.
 fn take_due(tables: &mut Tables, p: &ProcData, l: &LwpData, shown: &Shown) -> Reply
     requires { IsActing p.now l.now tables.old.rows }
-    ensures rows { tables.new.rows
-        ≡ stop p.now.pid l.now.tid shown.now (change_lwp l.now.tid (λ k. record k { due = due.Nothing }) tables.old.rows) }
-    ensures reply { result ≡ reply.Stopped l.now.tid shown.now.sig shown.now.flags }
-    ensures given { result ≢ reply.Errno errno.ENOMEM }
+    ensures { let cleared = change_lwp l.now.tid (λ k. record k { due = due.Nothing }) tables.old.rows in
+        Gives (stops_with shown.now p.now l.now cleared) tables.new.rows result }
 {
     tables.kept();
     tables.set_lwp(LwpData {
@@ -182,74 +172,77 @@ fn take_due(tables: &mut Tables, p: &ProcData, l: &LwpData, shown: &Shown) -> Re
     stop_with(tables, p, l, shown)
 }
 
-/// What an LWP does in the mode that it is in.
+/// Performs the act of an LWP, by its mode. Refused with EINVAL where the mode doesn't allow the act. An error means
+/// out of memory, and changes nothing.
 fn act_in_mode(
     tables: &mut Tables,
     settings: Settings,
     act: Act,
     p: &ProcData,
     l: &LwpData,
-) -> Reply
+) -> Result<Reply, AllocError>
     requires sound { IsSound tables.old.rows }
     requires acting { IsActing p.now l.now tables.old.rows }
     requires runs { is_run p.now ≡ true }
-    ensures machine { result ≢ reply.Errno errno.ENOMEM →
-        (tables.new.rows ≡ (acts settings act l.now.mode p.now l.now tables.old.rows).rows)
-        × (result ≡ (acts settings act l.now.mode p.now l.now tables.old.rows).reply) }
-    ensures memory { result ≡ reply.Errno errno.ENOMEM → (tables.new.rows ≡ tables.old.rows)
-        × (leaves_making act l.now.mode ≡ true)
-        × (is_refusal (acts settings act l.now.mode p.now l.now tables.old.rows).reply ≡ false) }
+    ensures { let outcome = acts settings act l.now.mode p.now l.now tables.old.rows in
+        Attempts (leaves_making act l.now.mode) outcome tables.old.rows tables.new.rows result }
 {
     match l.mode {
-        Mode::User => act_in_user_mode(tables, settings, act, p, l),
+        Mode::User => Ok(act_in_user_mode(tables, settings, act, p, l)),
         Mode::InCall(call) => match act {
             Act::Leave => leave(tables, settings, call, p, l),
             Act::Compute | Act::Raise(_) | Act::Block(_) | Act::Enter(_) => {
-                Reply::Errno(Errno::EINVAL)
+                Ok(Reply::Errno(Errno::EINVAL))
             }
         },
-        Mode::VforkWait(_) => Reply::Errno(Errno::EINVAL),
+        Mode::VforkWait(_) => Ok(Reply::Errno(Errno::EINVAL)),
     }
 }
 
-/// The turn of an LWP of a process.
-fn turn_of(tables: &mut Tables, settings: Settings, act: Act, p: &ProcData, l: &LwpData) -> Reply
+/// Makes the turn of an LWP of a process. `Held` where the process doesn't run, or the LWP is suspended or waits. An
+/// error means out of memory, and changes nothing.
+fn turn_of(
+    tables: &mut Tables,
+    settings: Settings,
+    act: Act,
+    p: &ProcData,
+    l: &LwpData,
+) -> Result<Reply, AllocError>
     requires sound { IsSound tables.old.rows }
     requires acting { IsActing p.now l.now tables.old.rows }
-    ensures machine { result ≢ reply.Errno errno.ENOMEM →
-        (tables.new.rows ≡ (turn_of settings act p.now l.now tables.old.rows).rows)
-        × (result ≡ (turn_of settings act p.now l.now tables.old.rows).reply) }
-    ensures memory { result ≡ reply.Errno errno.ENOMEM → (tables.new.rows ≡ tables.old.rows)
-        × (turn_makes act (Some l.now) ≡ true)
-        × (is_refusal (turn_of settings act p.now l.now tables.old.rows).reply ≡ false) }
+    ensures { let outcome = turn_of settings act p.now l.now tables.old.rows in
+        Attempts (turn_makes act (Some l.now)) outcome tables.old.rows tables.new.rows result }
 {
     if !p.is_run() || l.suspended || waits(l.mode) {
-        return Reply::Held;
+        return Ok(Reply::Held);
     }
     match due_stop(l.due) {
-        Some(shown) => take_due(tables, p, l, &shown),
+        Some(shown) => Ok(take_due(tables, p, l, &shown)),
         None => match next_signal(p, l) {
-            Some(signal) => take_signal(tables, settings, signal, p, l),
+            Some(signal) => Ok(take_signal(tables, settings, signal, p, l)),
             None => act_in_mode(tables, settings, act, p, l),
         },
     }
 }
 
-/// The turn of an LWP: a due stop, a signal, or its act.
-pub fn turn(tables: &mut Tables, settings: Settings, user: Uid, tid: u32, act: Act) -> Reply
+/// Makes the turn of the user's LWP with this number: a due stop, a signal, or its act. Refused with ESRCH where the
+/// user has no such LWP. An error means out of memory, and changes nothing.
+pub fn turn(
+    tables: &mut Tables,
+    settings: Settings,
+    user: Uid,
+    tid: u32,
+    act: Act,
+) -> Result<Reply, AllocError>
     requires sound { IsSound tables.old.rows }
-    ensures machine { result ≢ reply.Errno errno.ENOMEM →
-        (tables.new.rows ≡ (turn settings user tid act tables.old.rows).rows)
-        × (result ≡ (turn settings user tid act tables.old.rows).reply) }
-    ensures memory { result ≡ reply.Errno errno.ENOMEM → (tables.new.rows ≡ tables.old.rows)
-        × (turn_makes act (seen_lwp user tid tables.old.rows) ≡ true)
-        × (is_refusal (turn settings user tid act tables.old.rows).reply ≡ false) }
+    ensures { let outcome = turn settings user tid act tables.old.rows in
+        Attempts (turn_makes act (seen_lwp user tid tables.old.rows)) outcome tables.old.rows tables.new.rows result }
 {
     let Some(l) = tables.seen_lwp(user, tid) else {
-        return Reply::Errno(Errno::ESRCH);
+        return Ok(Reply::Errno(Errno::ESRCH));
     };
     let Some(p) = tables.process(l.pid) else {
-        return Reply::Errno(Errno::ESRCH);
+        return Ok(Reply::Errno(Errno::ESRCH));
     };
     turn_of(tables, settings, act, &p, &l)
 }

@@ -10,7 +10,7 @@ use lwpinfo::{LwpInfo, NumList};
 use std::fmt;
 use stop_handlers::{Decision, StopView};
 
-/// A word and numbers, with a space between each two.
+/// A word and numbers, separated by spaces.
 #[derive(Clone, Copy, Drop)]
 struct Listed<'a> {
     word: &'a str,
@@ -46,7 +46,7 @@ impl fmt::Display for Index {
     }
 }
 
-/// What a debugger does, with the signal that it passes on.
+/// A decision, with the signal that it passes on.
 #[derive(Clone, Copy, Drop)]
 struct Doing(Decision);
 
@@ -90,7 +90,7 @@ impl fmt::Display for Seen<'_> {
     }
 }
 
-/// What PT_LWPINFO told of an LWP's signals, its child and its call.
+/// The signals, the child and the call that PT_LWPINFO reported of an LWP.
 #[derive(Clone, Copy, Drop)]
 struct Rest<'a>(&'a LwpInfo);
 

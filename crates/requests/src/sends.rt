@@ -6,6 +6,7 @@ ghost use Rattle.proc_table.specs.Seen.{seen_process};
 ghost use Rattle.proc_table.specs.Walks.{next_of};
 ghost use Rattle.proc_table.specs.Kept.{IsKept};
 ghost use Rattle.trace_stop.specs.Facts.{IsSound};
+ghost use Rattle.requests.specs.Outcome.{Gives};
 ghost use Rattle.requests.specs.Reach.{reach, post_if_live, reached, kill, next_other};
 
 use crate::Reply;
@@ -16,7 +17,7 @@ use process_end::post;
 use signals::Pass;
 use trace_stop::Settings;
 
-/// Posts the signal to the process with this number, if it is there and live; 0 is posted to none.
+/// Posts the signal to the process with this number, if it exists and is live. Signal 0 is not posted.
 fn post_if_live(tables: &mut Tables, settings: Settings, pid: Pid, pass: Pass)
     requires sound { IsSound tables.old.rows }
     ensures rows { tables.new.rows ≡ post_if_live settings pass (process_of pid tables.old.rows.processes) tables.old.rows }
@@ -30,7 +31,7 @@ fn post_if_live(tables: &mut Tables, settings: Settings, pid: Pid, pass: Pass)
     }
 }
 
-/// The number of the user's next process above a number.
+/// Returns the number of the user's next process above `after`.
 fn next_pid(tables: &Tables, user: Uid, after: u32) -> Option<Pid>
     ensures next { result ≡ option_map (λ p. p.pid) (next_of user after tables.now.rows.processes) }
     ensures kept { IsKept tables.now.rows }
@@ -41,7 +42,7 @@ fn next_pid(tables: &Tables, user: Uid, after: u32) -> Option<Pid>
     }
 }
 
-/// The number of the user's next process above a number, without the caller.
+/// Returns the number of the user's next process above `after` other than the caller.
 fn next_other(tables: &Tables, user: Uid, caller: Pid, after: u32) -> Option<Pid>
     ensures next { result ≡ option_map (λ p. p.pid) (next_other user caller after tables.now.rows.processes) }
     ensures kept { IsKept tables.now.rows }
@@ -55,11 +56,12 @@ fn next_other(tables: &Tables, user: Uid, caller: Pid, after: u32) -> Option<Pid
     Some(pid)
 }
 
-/// Sends the signal to the user's processes but the caller, by rising number. Refused with ESRCH where there is none.
+/// Sends the signal to all of the user's processes except the caller, by rising number. Refused with ESRCH where there
+/// is none.
 fn kill_others(tables: &mut Tables, settings: Settings, user: Uid, caller: Pid, pass: Pass) -> Reply
     requires sound { IsSound tables.old.rows }
-    ensures rows { tables.new.rows ≡ (reached settings pass (reach user caller (negsuc 0) tables.old.rows) tables.old.rows).rows }
-    ensures reply { result ≡ (reached settings pass (reach user caller (negsuc 0) tables.old.rows) tables.old.rows).reply }
+    ensures { Gives (reached settings pass (reach user caller (negsuc 0) tables.old.rows) tables.old.rows)
+        tables.new.rows result }
 {
     let mut at = next_other(tables, user, caller, 0);
     if at.is_none() {
@@ -72,7 +74,7 @@ fn kill_others(tables: &mut Tables, settings: Settings, user: Uid, caller: Pid, 
     Reply::Done
 }
 
-/// The number of a process of the user, if there is one with it.
+/// Returns the number as a process number, if a process of the user has it.
 fn seen_pid(tables: &Tables, user: Uid, number: u32) -> Option<Pid>
     ensures seen { result ≡ option_map (λ p. p.pid) (seen_process user number tables.now.rows) }
     ensures kept { IsKept tables.now.rows }
@@ -83,11 +85,11 @@ fn seen_pid(tables: &Tables, user: Uid, number: u32) -> Option<Pid>
     }
 }
 
-/// Sends the signal to a process of the user. Refused with ESRCH where the user has none with the number.
+/// Sends the signal to the user's process with this number. Refused with ESRCH where there is none.
 fn kill_one(tables: &mut Tables, settings: Settings, user: Uid, number: u32, pass: Pass) -> Reply
     requires sound { IsSound tables.old.rows }
-    ensures rows { tables.new.rows ≡ (reached settings pass (filter (λ p. p.pid == number) (of_user user tables.old.rows.processes)) tables.old.rows).rows }
-    ensures reply { result ≡ (reached settings pass (filter (λ p. p.pid == number) (of_user user tables.old.rows.processes)) tables.old.rows).reply }
+    ensures { Gives (reached settings pass (filter (λ p. p.pid == number)
+        (of_user user tables.old.rows.processes)) tables.old.rows) tables.new.rows result }
 {
     let Some(pid) = seen_pid(tables, user, number) else {
         return Reply::Errno(Errno::ESRCH);
@@ -96,9 +98,9 @@ fn kill_one(tables: &mut Tables, settings: Settings, user: Uid, number: u32, pas
     Reply::Done
 }
 
-/// Sends a signal for a process of the user that runs, as in kill(2): to the user's process with the number `which`,
-/// or for -1 to all others of the user by rising number. Signal 0 is sent to none. Refused with EINVAL for a signal
-/// above 31, and where `which` is 0 or below -1; with ESRCH where there is no such process.
+/// Sends a signal as kill(2) does, for a caller that runs: to the user's process with the number `which`, or for -1 to
+/// all other processes of the user by rising number. Signal 0 is not sent. Refused with EINVAL for a signal above 31,
+/// and where `which` is 0 or below -1; with ESRCH where there is no such process.
 pub fn kill(
     tables: &mut Tables,
     settings: Settings,
@@ -108,8 +110,7 @@ pub fn kill(
     sig: u32,
 ) -> Reply
     requires sound { IsSound tables.old.rows }
-    ensures rows { tables.new.rows ≡ (kill settings user caller which sig tables.old.rows).rows }
-    ensures reply { result ≡ (kill settings user caller which sig tables.old.rows).reply }
+    ensures { Gives (kill settings user caller which sig tables.old.rows) tables.new.rows result }
 {
     let Ok(pass) = Pass::new(sig) else {
         return Reply::Errno(Errno::EINVAL);

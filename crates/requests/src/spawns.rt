@@ -1,7 +1,6 @@
 //! New processes.
 
 ghost use Rattle.std.specs.Prelude.{◌≡◌, ◌≢◌, ◌<◌, Some, None, IfSome, true, false, leb, if◌then◌else◌};
-ghost use Rattle.pid_blocks.specs.declared.Errno.TheVariants as errno;
 ghost use Rattle.pid_blocks.specs.Blocks.{pid_block, tid_block, InBlock};
 ghost use Rattle.lwp_table.specs.declared.Due.TheVariants as due;
 ghost use Rattle.proc_table.specs.Processes.{spawned};
@@ -9,7 +8,7 @@ ghost use Rattle.proc_table.specs.Fresh.{fresh_pid, is_process, is_lwp, process_
 ghost use Rattle.requests.specs.declared.Reply.TheVariants as reply;
 ghost use Rattle.requests.specs.Leave.{most_processes, room_for_lwp};
 ghost use Rattle.requests.specs.Calls.{spawn};
-ghost use Rattle.requests.specs.Memory.{is_refusal};
+ghost use Rattle.requests.specs.Memory.{Attempts};
 
 use crate::{MOST_LWPS, MOST_PROCESSES, Reply};
 use event_masks::EventMask;
@@ -17,8 +16,9 @@ use lwp_table::{Due, LwpData};
 use pid_blocks::{Errno, Pid, Tid, Uid};
 use proc_table::{ProcData, State, Tables};
 use signals::{Dispositions, SigSet};
+use std::alloc::AllocError;
 
-/// The number of the user's next LWP, where its limit leaves room.
+/// Returns the number of the user's next LWP, or `None` where the user has 1000.
 pub fn room_for_lwp(tables: &Tables, user: Uid) -> Option<Tid>
     ensures room { result ≡ room_for_lwp user tables.now.rows }
     ensures home { IfSome result (λ n. InBlock (tid_block user) n) }
@@ -30,7 +30,7 @@ pub fn room_for_lwp(tables: &Tables, user: Uid) -> Option<Tid>
     tables.fresh_tid(user)
 }
 
-/// The number of the user's next process, where its limit leaves room.
+/// Returns the number of the user's next process, or `None` where the user has 250.
 pub fn room_for_pid(tables: &Tables, user: Uid) -> Option<Pid>
     ensures room { result ≡ (if leb most_processes (process_count user tables.now.rows) then None else fresh_pid user tables.now.rows) }
     ensures home { IfSome result (λ n. InBlock (pid_block user) n) }
@@ -42,7 +42,7 @@ pub fn room_for_pid(tables: &Tables, user: Uid) -> Option<Pid>
     tables.fresh_pid(user)
 }
 
-/// A process that was just made.
+/// Returns the row of a new process.
 fn spawned(pid: Pid, uid: Uid) -> ProcData
     ensures { result ≡ spawned pid uid }
 {
@@ -65,27 +65,20 @@ pub fn new_reply(pid: Pid, tid: Tid) -> Reply
     Reply::New { pid, tid }
 }
 
-/// Makes a process of the user with one LWP. Refused with EAGAIN where the user has 250 processes or 1000 LWPs,
-/// and with ENOMEM where memory runs out.
-pub fn spawn(tables: &mut Tables, user: Uid) -> Reply
-    ensures machine { result ≢ reply.Errno errno.ENOMEM →
-        (tables.new.rows ≡ (spawn user tables.old.rows).rows) × (result ≡ (spawn user tables.old.rows).reply) }
-    ensures memory { result ≡ reply.Errno errno.ENOMEM →
-        (tables.new.rows ≡ tables.old.rows) × (is_refusal (spawn user tables.old.rows).reply ≡ false) }
+/// Makes a process of the user with one LWP. Refused with EAGAIN where the user has 250 processes or 1000 LWPs. An
+/// error means out of memory, and changes nothing.
+pub fn spawn(tables: &mut Tables, user: Uid) -> Result<Reply, AllocError>
+    ensures { Attempts true (spawn user tables.old.rows) tables.old.rows tables.new.rows result }
 {
     let Some(pid) = room_for_pid(tables, user) else {
-        return Reply::Errno(Errno::EAGAIN);
+        return Ok(Reply::Errno(Errno::EAGAIN));
     };
     let Some(tid) = room_for_lwp(tables, user) else {
-        return Reply::Errno(Errno::EAGAIN);
+        return Ok(Reply::Errno(Errno::EAGAIN));
     };
-    if tables.reserve_process(1).is_err() {
-        return Reply::Errno(Errno::ENOMEM);
-    }
-    if tables.reserve_lwp(1).is_err() {
-        return Reply::Errno(Errno::ENOMEM);
-    }
+    tables.reserve_process(1)?;
+    tables.reserve_lwp(1)?;
     tables.add_process(spawned(pid, user));
     tables.add_lwp(user, LwpData::born(tid, pid, SigSet::empty(), Due::Nothing));
-    new_reply(pid, tid)
+    Ok(new_reply(pid, tid))
 }

@@ -2,18 +2,19 @@
 
 ghost use Rattle.std.specs.Prelude.{◌≡◌};
 ghost use Rattle.requests.specs.Plain.{with_handler};
+ghost use Rattle.requests.specs.Step.{caller_of};
 
 use crate::{Act, Request};
 use signals::Disposition;
 use stop_handlers::{ByPolicy, Decider, Handler, Policy};
 use wait4::Options;
 
-/// A step that a host makes for a user. A debugger installs what stands for `H`: a stop handler, or its policy alone.
+/// A step that a host makes for a user. `H` is what a debugger installs: a stop handler, or only its policy.
 #[derive(Clone, Copy, Debug, PartialEq, Eq, Drop)]
 pub enum Step<H> {
     /// A new process of the user, with one LWP.
     Spawn,
-    /// The user's processes, asked by one of them.
+    /// A list of the user's processes. The caller is one of them.
     List {
         caller: u32,
     },
@@ -35,12 +36,12 @@ pub enum Step<H> {
         which: i64,
         options: Options,
     },
-    /// A stop handler of a debugger, asked after those that it installed before.
+    /// Installs a stop handler of a debugger. It is asked after those that the debugger installed before.
     Install {
         caller: u32,
         handler: H,
     },
-    /// A wait for any child, whose trace stop goes to the debugger's handlers.
+    /// Waits for any child. A trace stop goes to the debugger's handlers.
     Handle {
         caller: u32,
     },
@@ -62,7 +63,8 @@ pub enum Step<H> {
 pub type PlainStep = Step<Policy>;
 
 impl<H> Step<H> {
-    /// The step with another handler in place of its own, if it installs one; none where it needs a handler and none is given.
+    /// Returns the step, with `handler` in place of its own if it installs one. `None` where it installs one and no
+    /// handler is given.
     pub fn with_handler<G: Drop>(&self, handler: Option<G>) -> Option<Step<G>>
         ensures { result ≡ with_handler handler self.now }
     {
@@ -110,7 +112,23 @@ impl<H> Step<H> {
 }
 
 impl<F: Decider + Send + Drop> Step<Handler<F>> {
-    /// The same step, with its handler's policy in place of the handler.
+    /// Returns the number of the process that makes the step. Spawns and turns have none.
+    pub(crate) fn caller(&self) -> Option<u32>
+        ensures { result ≡ caller_of self.now }
+    {
+        match *self {
+            Step::Spawn | Step::Turn { .. } => None,
+            Step::List { caller }
+            | Step::Sigaction { caller, .. }
+            | Step::Kill { caller, .. }
+            | Step::Wait4 { caller, .. }
+            | Step::Install { caller, .. }
+            | Step::Handle { caller }
+            | Step::Ptrace { caller, .. } => Some(caller),
+        }
+    }
+
+    /// Returns the step with its handler's policy in place of the handler.
     pub fn plain(&self) -> PlainStep
         ensures { result ≡ self.now }
     {
@@ -123,7 +141,7 @@ impl<F: Decider + Send + Drop> Step<Handler<F>> {
 }
 
 impl Step<Policy> {
-    /// The same step, with a handler that answers by its policy.
+    /// Returns the step with a handler that answers by its policy.
     pub fn by_policy(&self) -> Step<Handler<ByPolicy>>
         ensures { result ≡ self.now }
     {

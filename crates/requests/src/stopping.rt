@@ -1,11 +1,10 @@
-//! How a turn stops a process, and how an LWP comes out of a call.
+//! Stops of a process at a turn, and the end of a call.
 
-ghost use Rattle.std.specs.Prelude.{◌≡◌, ◌≢◌, ◌&&◌, is_some};
-ghost use Rattle.pid_blocks.specs.declared.Errno.TheVariants as errno;
+ghost use Rattle.std.specs.Prelude.{◌≡◌, ◌&&◌, is_some};
 ghost use Rattle.event_masks.specs.Exits.{asks};
 ghost use Rattle.requests.specs.declared.Reply.TheVariants as reply;
 ghost use Rattle.requests.specs.Actors.{HasLwp};
-ghost use Rattle.requests.specs.Outcome.{stops_with, stops_or, trap};
+ghost use Rattle.requests.specs.Outcome.{Gives, stops_with, stops_or, trap};
 ghost use Rattle.requests.specs.Leave.{in_mode, exit_stop};
 ghost use Rattle.requests.specs.Turn.{plain};
 
@@ -17,7 +16,7 @@ use proc_table::{ProcData, Tables};
 use signals::Signal;
 use trace_stop::{Shown, stop};
 
-/// A stop with no more than a signal.
+/// Returns a stop that shows only a signal.
 pub fn plain(signal: Signal) -> Shown
     ensures { result ≡ plain signal }
 {
@@ -29,7 +28,7 @@ pub fn plain(signal: Signal) -> Shown
     }
 }
 
-/// A SIGTRAP stop in a call; it shows the call's code at the call's entry and exit.
+/// Returns a SIGTRAP stop in a call. It shows the call's code at the call's entry and exit.
 pub fn trap(flags: StopFlags, child: u32, call: Call) -> Shown
     ensures { result ≡ trap flags child call }
 {
@@ -52,18 +51,16 @@ fn stopped(tid: Tid, shown: &Shown) -> Reply
     }
 }
 
-/// A trace stop of the LWP, with its reply.
+/// Stops the process by a trace stop of the LWP, and returns the reply.
 pub fn stop_with(tables: &mut Tables, p: &ProcData, l: &LwpData, shown: &Shown) -> Reply
     requires { HasLwp p.now.pid l.now.tid tables.old.rows }
-    ensures rows { tables.new.rows ≡ (stops_with shown.now p.now l.now tables.old.rows).rows }
-    ensures reply { result ≡ (stops_with shown.now p.now l.now tables.old.rows).reply }
-    ensures given { result ≢ reply.Errno errno.ENOMEM }
+    ensures { Gives (stops_with shown.now p.now l.now tables.old.rows) tables.new.rows result }
 {
     stop(tables, p.pid, l.tid, shown);
     stopped(l.tid, shown)
 }
 
-/// The LWP is in this mode from now on.
+/// Sets the mode of the LWP.
 pub fn set_mode(tables: &mut Tables, pid: Pid, tid: Tid, mode: Mode)
     requires { HasLwp pid tid tables.old.rows }
     ensures rows { tables.new.rows ≡ in_mode mode tid tables.old.rows }
@@ -74,14 +71,14 @@ pub fn set_mode(tables: &mut Tables, pid: Pid, tid: Tid, mode: Mode)
     let _unused = pid;
 }
 
-/// Whether a tracer asks for the event.
+/// Returns whether the process has a tracer that asks for the event.
 pub fn is_asked(p: &ProcData, event: EventMask) -> bool
     ensures { result ≡ (is_some p.now.tracer && asks p.now.mask event) }
 {
     p.tracer.is_some() && p.mask.asks(event)
 }
 
-/// The stop at the exit of a call, which names the child where it tells of a fork.
+/// Returns the stop at the exit of a call, if the event mask asks for one. It names the child where it reports a fork.
 pub fn exit_stop(p: &ProcData, call: Call, child: u32) -> Option<Shown>
     ensures { result ≡ exit_stop p.now call child }
 {
@@ -94,7 +91,7 @@ pub fn exit_stop(p: &ProcData, call: Call, child: u32) -> Option<Shown>
     }
 }
 
-/// A trace stop of the LWP where there is a stop; else the answer.
+/// Stops the process by the LWP if there is a stop, and returns its reply. Else returns `answer`.
 pub fn stop_or(
     tables: &mut Tables,
     shown: &Option<Shown>,
@@ -102,11 +99,8 @@ pub fn stop_or(
     p: &ProcData,
     l: &LwpData,
 ) -> Reply
-    requires there { HasLwp p.now.pid l.now.tid tables.old.rows }
-    requires given { answer ≢ reply.Errno errno.ENOMEM }
-    ensures rows { tables.new.rows ≡ (stops_or shown.now answer p.now l.now tables.old.rows).rows }
-    ensures reply { result ≡ (stops_or shown.now answer p.now l.now tables.old.rows).reply }
-    ensures given { result ≢ reply.Errno errno.ENOMEM }
+    requires { HasLwp p.now.pid l.now.tid tables.old.rows }
+    ensures { Gives (stops_or shown.now answer p.now l.now tables.old.rows) tables.new.rows result }
 {
     match shown {
         Some(shown) => stop_with(tables, p, l, shown),
@@ -114,7 +108,7 @@ pub fn stop_or(
     }
 }
 
-/// A call is over: its LWP is in another mode, and stops where there is a stop; else the call has its answer.
+/// Ends a call: sets the mode of its LWP, and stops it if there is a stop. Else returns the call's answer.
 pub fn finish(
     tables: &mut Tables,
     mode: Mode,
@@ -123,11 +117,9 @@ pub fn finish(
     p: &ProcData,
     l: &LwpData,
 ) -> Reply
-    requires there { HasLwp p.now.pid l.now.tid tables.old.rows }
-    requires given { answer ≢ reply.Errno errno.ENOMEM }
-    ensures rows { tables.new.rows ≡ (stops_or shown.now answer p.now l.now (in_mode mode l.now.tid tables.old.rows)).rows }
-    ensures reply { result ≡ (stops_or shown.now answer p.now l.now (in_mode mode l.now.tid tables.old.rows)).reply }
-    ensures given { result ≢ reply.Errno errno.ENOMEM }
+    requires { HasLwp p.now.pid l.now.tid tables.old.rows }
+    ensures { Gives (stops_or shown.now answer p.now l.now (in_mode mode l.now.tid tables.old.rows))
+        tables.new.rows result }
 {
     set_mode(tables, p.pid, l.tid, mode);
     stop_or(tables, shown, answer, p, l)

@@ -1,30 +1,27 @@
-//! How a process comes to be traced, as by PT_TRACE_ME and PT_ATTACH of ptrace(2).
+//! PT_TRACE_ME and PT_ATTACH of ptrace(2), which begin the tracing of a process.
 
-ghost use Rattle.std.specs.Prelude.{◌≡◌, ◌≢◌, ◌==◌, Some, None, IfSome, if◌then◌else◌};
-ghost use Rattle.pid_blocks.specs.declared.Errno.TheVariants as errno;
+ghost use Rattle.std.specs.Prelude.{◌≡◌, ◌==◌, Some, None, IfSome, if◌then◌else◌};
 ghost use Rattle.lwp_table.specs.Lwps.{first_lwp};
 ghost use Rattle.proc_table.specs.Kept.{IsRow};
 ghost use Rattle.proc_table.specs.Processes.{process_of};
 ghost use Rattle.proc_table.specs.Rows.{change_process};
-ghost use Rattle.trace_stop.specs.End.{tracer_of};
-ghost use Rattle.requests.specs.declared.Reply.TheVariants as reply;
+ghost use Rattle.requests.specs.Outcome.{Gives};
 ghost use Rattle.requests.specs.Ptrace.{closes_chain, traced_by, trace_me, stop_first, attach};
-ghost use Rattle.requests.specs.Turn.{plain};
 
-use crate::Reply;
-use event_masks::{StopFlags, default_mask};
+use crate::stopping::plain;
+use crate::{MOST_PROCESSES, Reply};
+use event_masks::default_mask;
 use pid_blocks::{Errno, Pid};
 use proc_table::{ProcData, Tables};
+use process_end::tracer_of;
 use signals::Signal;
-use trace_stop::{Shown, stop};
+use trace_stop::stop;
 
-/// PT_TRACE_ME: the caller's parent traces it from now on. Refused with EBUSY where the caller is traced,
-/// with EPERM where no process is its parent, and with EINVAL where it would trace itself by a chain of tracers.
+/// PT_TRACE_ME: the caller's parent becomes its tracer. Refused with EBUSY where the caller is traced, with EPERM where
+/// no process is its parent, and with EINVAL where it would trace itself by a chain of tracers.
 pub fn trace_me(tables: &mut Tables, caller: &ProcData) -> Reply
     requires at { process_of caller.now.pid tables.old.rows.processes ≡ Some caller.now }
-    ensures rows { tables.new.rows ≡ (trace_me caller.now tables.old.rows).rows }
-    ensures reply { result ≡ (trace_me caller.now tables.old.rows).reply }
-    ensures memory { result ≢ reply.Errno errno.ENOMEM }
+    ensures { Gives (trace_me caller.now tables.old.rows) tables.new.rows result }
 {
     if caller.tracer.is_some() {
         return Reply::Errno(Errno::EBUSY);
@@ -39,15 +36,13 @@ pub fn trace_me(tables: &mut Tables, caller: &ProcData) -> Reply
     Reply::Done
 }
 
-/// PT_ATTACH: the caller traces the process from now on, which its first LWP stops with SIGSTOP. Refused with
-/// EINVAL for the caller itself, with EBUSY where the process is traced, and with EINVAL where the caller
-/// would trace itself by a chain of tracers.
+/// PT_ATTACH: the caller becomes the tracer of the process, whose first LWP stops with SIGSTOP. Refused with EINVAL for
+/// the caller itself, with EBUSY where the process is traced, and with EINVAL where the caller would trace itself by a
+/// chain of tracers.
 pub fn attach(tables: &mut Tables, caller: &ProcData, process: &ProcData) -> Reply
     requires caller { process_of caller.now.pid tables.old.rows.processes ≡ Some caller.now }
     requires at { process_of process.now.pid tables.old.rows.processes ≡ Some process.now }
-    ensures rows { tables.new.rows ≡ (attach caller.now process.now tables.old.rows).rows }
-    ensures reply { result ≡ (attach caller.now process.now tables.old.rows).reply }
-    ensures memory { result ≢ reply.Errno errno.ENOMEM }
+    ensures { Gives (attach caller.now process.now tables.old.rows) tables.new.rows result }
 {
     if process.pid == caller.pid {
         return Reply::Errno(Errno::EINVAL);
@@ -63,7 +58,7 @@ pub fn attach(tables: &mut Tables, caller: &ProcData, process: &ProcData) -> Rep
     Reply::Done
 }
 
-/// The parent of a process, where it is another process.
+/// Returns the parent of a process, if it is another process.
 fn parent_of(tables: &Tables, process: &ProcData) -> Option<Pid>
     requires at { process_of process.now.pid tables.now.rows.processes ≡ Some process.now }
     ensures parent { result ≡ (if process.now.parent == 1 then None else Some process.now.parent) }
@@ -78,13 +73,13 @@ fn parent_of(tables: &Tables, process: &ProcData) -> Option<Pid>
     }
 }
 
-/// Whether following tracers from the process `from` comes to `pid`. No chain of tracers has 250 links, since a
-/// user has at most 250 processes.
+/// Returns whether the chain of tracers from the process `from` leads to `pid`. A chain has fewer links than a user has
+/// processes at most.
 fn closes_chain(tables: &Tables, pid: Pid, from: Pid) -> bool
     ensures { result ≡ closes_chain pid from tables.now.rows }
 {
     let mut at = from;
-    for links in 0u32..250 {
+    for links in 0..MOST_PROCESSES {
         let Some(tracer) = tracer_of(tables, at) else {
             return false;
         };
@@ -96,23 +91,7 @@ fn closes_chain(tables: &Tables, pid: Pid, from: Pid) -> bool
     false
 }
 
-/// The tracer of the process with this number.
-fn tracer_of(tables: &Tables, pid: Pid) -> Option<Pid>
-    ensures { result ≡ tracer_of tables.now.rows.processes pid }
-{
-    match tables.process(pid) {
-        Some(process) => tracer(&process),
-        None => None,
-    }
-}
-
-fn tracer(process: &ProcData) -> Option<Pid>
-    ensures { result ≡ process.now.tracer }
-{
-    process.tracer
-}
-
-/// A process is traced from now on, with the mask that tracing begins with.
+/// Sets the tracer of a process, with the default event mask.
 fn trace(tables: &mut Tables, process: &ProcData, tracer: Pid)
     requires at { process_of process.now.pid tables.old.rows.processes ≡ Some process.now }
     requires tracer { IsRow tables.old.rows tracer }
@@ -122,7 +101,7 @@ fn trace(tables: &mut Tables, process: &ProcData, tracer: Pid)
     tables.set_process(traced_by(process, tracer));
 }
 
-/// The row of a process that is traced from now on.
+/// Returns the row of the process with this tracer.
 fn traced_by(process: &ProcData, tracer: Pid) -> ProcData
     ensures { result ≡ traced_by tracer process.now }
 {
@@ -134,24 +113,12 @@ fn traced_by(process: &ProcData, tracer: Pid) -> ProcData
     }
 }
 
-/// The process stops with SIGSTOP by its first LWP.
+/// Stops the process with SIGSTOP by its first LWP.
 fn stop_first(tables: &mut Tables, pid: Pid)
     requires there { IsRow tables.old.rows pid }
     ensures rows { tables.new.rows ≡ stop_first pid (first_lwp pid tables.old.rows.lwps) tables.old.rows }
 {
     if let Some(lwp) = tables.first_lwp(pid) {
         stop(tables, pid, lwp.tid, &plain(Signal::stop()));
-    }
-}
-
-/// What a stop with a signal alone shows.
-fn plain(signal: Signal) -> Shown
-    ensures { result ≡ plain signal }
-{
-    Shown {
-        sig: signal,
-        flags: StopFlags::none(),
-        child: 0,
-        code: 0,
     }
 }

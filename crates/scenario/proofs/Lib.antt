@@ -1,10 +1,5 @@
 pub mod BindLemmas
 pub mod WriteLemmas
 pub mod LineLemmas
-pub mod GroupLemmas
-pub mod ScriptLemmas
-pub mod SessionLemmas
-pub mod ThreadLemmas
-pub mod TranscriptLemmas
 pub mod RunLemmas
 pub mod RetryLemmas

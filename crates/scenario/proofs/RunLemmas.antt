@@ -17,7 +17,7 @@ use Rattle.scenario.specs.Lines.{Answered}
 use Rattle.scenario_text.specs.Plan.{asked, filled}
 use Rattle.scenario.specs.Runs.{answered, paired}
 
--- a reply that is no want of memory is told
+-- a reply other than ENOMEM is an answer
 told_made : (r : Reply) → is_memory r ≡ false → told r ≡ Some r
 told_made r made = ap (λ b. if b then None else Some r) made
 

@@ -8,13 +8,13 @@ use Rattle.requests.specs.Machine.{Machine}
 use Rattle.requests.specs.Plain.{PlainStep}
 use Rattle.scenario_text.specs.Plan.{first_policy, policies_after, policy_before, step_with}
 
--- where the step has the first of the handlers if it installs one, it is made with that one, and the others are left
+-- unless the step is an install without a handler: r is the step with its handler, and new are the handlers left
 abbrev pub IsBound : Step ⊤ → List (List Rule) → List (List Rule) → Option PlainStep → Type 0
 IsBound shape old new r =
     (others : List (List Rule)) → policy_before (step_with (first_policy old) shape) others ≡ old
     → (new ≡ policies_after shape old) × (r ≡ Some (step_with (first_policy old) shape))
 
--- such a step is made of a host by a user, and this is the reply
+-- in this case the host makes the step of the user, with this reply
 abbrev pub IsAnswered : ℕ → Step ⊤ → List (List Rule) → List (List Rule) → Machine → Machine → Option Reply → Type 0
 IsAnswered u shape old new m n r =
     (others : List (List Rule)) → policy_before (step_with (first_policy old) shape) others ≡ old

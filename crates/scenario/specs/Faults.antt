@@ -1,4 +1,4 @@
--- The exit statuses of runs that came to no end.
+-- The exit statuses of failed runs.
 use Rattle.std.specs.Prelude.{ℕ}
 use Rattle.scenario.specs.declared.running.RunFault.{RunFault}
 use Rattle.scenario.specs.declared.running.RunFault.TheVariants as run_fault

@@ -1,13 +1,12 @@
--- What a run writes.
-use Rattle.std.specs.Prelude.{⊤, ℕ, ◌==◌, List, take, map, filter, zip, Option, Some, None, Result, Ok, Err}
-use Rattle.std.specs.List.{flat_map}
+-- The output of a run.
+use Rattle.std.specs.Prelude.{⊤, ℕ, List, take, map, zip, Option, Some, None, Result, Ok, Err}
 use Rattle.std.specs.Io.KnownBytes.{Appends, Keeps}
 use Rattle.requests.specs.declared.Reply.{Reply}
 use Rattle.requests.specs.Machine.{empty}
 use Rattle.requests.specs.Run.{Asked, replies}
 use Rattle.scenario.specs.declared.running.RunFault.{RunFault}
 use Rattle.scenario.specs.declared.running.RunFault.TheVariants.{Mismatch, Memory, Start, Write}
-use Rattle.scenario.specs.Lines.{Answered, text, text_of, grouped, lines, lines_of}
+use Rattle.scenario.specs.Lines.{Answered, text, text_of, lines, lines_of}
 use Rattle.scenario_text.specs.Plan.{Plan}
 use Rattle.scenario.specs.declared.style.Style.{Style}
 
@@ -20,27 +19,15 @@ abbrev pub shown : Style → Option ℕ → List Answered → List ℕ
 shown style None answers = text style answers
 shown style (Some user) answers = text_of (lines_of user (lines style answers))
 
--- the same, grouped by rising user
-abbrev pub shown_grouped : Style → Option ℕ → List Answered → List ℕ
-shown_grouped style None answers = grouped style answers
-shown_grouped style (Some user) answers = shown style (Some user) answers
-
--- a user's answers, in order, and those of some users, one user after another
-abbrev pub answers_by : ℕ → List Answered → List Answered
-answers_by u answers = filter (λ a. a.uid == u) answers
-
-abbrev pub by_users : List ℕ → List Answered → List Answered
-by_users us answers = flat_map (λ u. answers_by u answers) us
-
 -- the steps' users with the replies
 abbrev pub paired : List Asked → List Reply → List Answered
 paired steps list = map (λ p. record { uid = p.0.uid; reply = p.1 }) (zip steps list)
 
--- the answers of the machine, from a host that nobody has used
+-- the answers of the machine, from an unused host
 abbrev pub answers_of : Plan → List Answered
 answers_of plan = paired plan.steps (replies plan.steps (empty plan.settings))
 
--- the writer has got the text, a front of it where a write failed, and else nothing
+-- the writer has got the text, or a front of it where a write failed, and else nothing
 abbrev pub Writes : Result ⊤ RunFault → Option (List ℕ) → Option (List ℕ) → List ℕ → Type 0
 Writes (Ok done) old new text = Appends old new text
 Writes (Err Write) old new text = (n : ℕ) × Appends old new (take n text)

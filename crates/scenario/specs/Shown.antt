@@ -1,8 +1,8 @@
--- Lines that are shown.
+-- The lines of the users that the options show.
 use Rattle.std.specs.Prelude.{ℕ, ◌==◌, Bool, true, List, [], Option, Some, None, if◌then◌else◌}
 use Rattle.scenario.specs.Lines.{Line}
 
--- whether a user's lines are shown where all are, or one user's
+-- whether a user's lines are shown, if all users' or only one user's are
 abbrev pub shows : Option ℕ → ℕ → Bool
 shows None uid = true
 shows (Some user) uid = uid == user

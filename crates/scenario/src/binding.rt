@@ -1,4 +1,4 @@
-//! From the steps of a scenario to those that a host makes, with their handlers.
+//! From the steps of a scenario to a host's steps with handlers.
 ghost use Rattle.std.specs.Prelude.{⊤, ◌≡◌, ◌≢◌, ◌≤◌, ◌↔◌, ◌⊎◌, length, map, IsTrue, IfOk, IfErr, IsErrOf};
 ghost use Rattle.std.specs.Vec.Iter.{into_iter_items};
 ghost use Rattle.stop_handlers.specs.Decide.{decide};
@@ -15,7 +15,7 @@ use std::alloc::{AllocError, Global};
 use std::vec::IntoIter;
 use stop_handlers::{Decider, Decision, Handler, Policy, StopView};
 
-/// The policies of the scenario's installs, in order. An error is want of memory.
+/// Returns the policies of the scenario's installs, in order. An error means out of memory.
 pub fn policies(alloc: Global, scenario: &Scenario) -> Result<Vec<Policy>, AllocError>
     ensures { IfOk result (λ v. v.items ≡ policies_in scenario.now.steps) }
 {
@@ -27,8 +27,8 @@ pub fn policies(alloc: Global, scenario: &Scenario) -> Result<Vec<Policy>, Alloc
     Ok(policies)
 }
 
-/// Whether the handlers answer by the policies, one for one and in order.
-pub(crate) fn obey<F: Decider + Send + Drop>(handlers: &[Handler<F>], policies: &[Policy]) -> bool
+/// Returns whether the handlers answer by the policies, one for each and in order.
+pub fn obey<F: Decider + Send + Drop>(handlers: &[Handler<F>], policies: &[Policy]) -> bool
     ensures { IsTrue result ↔ (handlers.now ≡ policies.now) }
 {
     if handlers.len() != policies.len() {
@@ -42,8 +42,8 @@ pub(crate) fn obey<F: Decider + Send + Drop>(handlers: &[Handler<F>], policies: 
     true
 }
 
-/// The step as a host makes it, with the next handler where it is an install.
-pub(crate) fn bound_step<F: Decider + Send + Drop>(
+/// Returns the step as a host makes it. An install gets the next handler.
+pub fn bound_step<F: Decider + Send + Drop>(
     shape: &StepShape,
     handlers: &mut IntoIter<Handler<F>>,
 ) -> Option<Step<Handler<F>>>
@@ -55,7 +55,7 @@ pub(crate) fn bound_step<F: Decider + Send + Drop>(
     }
 }
 
-/// The scenario's steps, each install with the next handler.
+/// Returns the scenario's steps. Each install gets the next handler.
 fn bound<F: Decider + Send + Drop>(
     alloc: Global,
     scenario: &Scenario,
@@ -78,11 +78,12 @@ fn bound<F: Decider + Send + Drop>(
     Ok(steps)
 }
 
-/// The scenario's steps as a host makes them, with the handlers for its installs, one for each and in order.
+/// Returns the scenario's steps as a host makes them. Its installs get the handlers, one for each and in order.
 ///
 /// # Errors
 ///
-/// `Mismatch` where the handlers don't answer by the policies of the installs, `Memory` where they do and no memory was left.
+/// `Mismatch` where the handlers don't answer by the policies of the installs. `Memory` where they do and memory runs
+/// out.
 pub fn bind<F: Decider + Send + Drop>(
     alloc: Global,
     scenario: &Scenario,
@@ -99,7 +100,8 @@ pub fn bind<F: Decider + Send + Drop>(
     bound(alloc, scenario, handlers)
 }
 
-/// A handler for each of the policies, in order, each with what is made for its policy. An error is want of memory.
+/// Returns a handler for each policy, in order, with the decider that `make` gives for the policy. An error means out
+/// of memory.
 pub fn handlers_of<F: Decider + Send + Drop, M: Fn(Policy) -> F>(
     alloc: Global,
     policies: &[Policy],
@@ -116,7 +118,7 @@ pub fn handlers_of<F: Decider + Send + Drop, M: Fn(Policy) -> F>(
     Ok(handlers)
 }
 
-/// Answers as a policy decides that stands elsewhere, as in a scenario.
+/// A decider that answers by a policy elsewhere, for example in a scenario.
 #[derive(Drop)]
 pub struct ByPolicyRef<'a>(pub &'a Policy);
 
@@ -130,8 +132,8 @@ impl Decider for ByPolicyRef<'_> {
     }
 }
 
-/// A handler for each of the policies, in order, which answers by it. A step that installs it is less than half as large as one with
-/// a second copy of the policy. An error is want of memory.
+/// Returns a handler for each policy, in order, which answers by it. A step that installs it is less than half as large
+/// as a step with a second copy of the policy. An error means out of memory.
 pub fn handlers_by<'a>(
     alloc: Global,
     policies: &'a [Policy],

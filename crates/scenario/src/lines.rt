@@ -15,7 +15,7 @@ use requests::Reply;
 use scenario_text::USERS;
 use std::alloc::{AllocError, Global};
 
-/// Adds the line of a reply in words.
+/// Adds the line of a reply, in words.
 fn push_words(text: &mut String, uid: Uid, number: u64, reply: &Reply) -> Result<(), AllocError>
     ensures { OnOk result (string_bytes text.new
         ≡ string_bytes text.old ++ (line style.Words number (answered (uid, reply.now))).text) }
@@ -44,7 +44,7 @@ fn push_object(
     Ok(())
 }
 
-/// Adds the line of a reply that is its user's with this number.
+/// Adds the line of the user's reply with this number.
 pub fn push_line(
     alloc: Global,
     style: Style,
@@ -62,7 +62,7 @@ pub fn push_line(
     }
 }
 
-/// Adds the line of a reply, where it is to be shown.
+/// Adds the line of a reply, if the options show it.
 fn push_shown(
     alloc: Global,
     options: &RunOptions,
@@ -84,7 +84,7 @@ fn push_shown(
     Ok(())
 }
 
-/// Counts one more reply of the user, and answers how many that makes.
+/// Counts one more reply of the user, and returns the new count.
 pub fn count_reply(made: &mut [u64; USERS], uid: Uid) -> u64
     requires { (k : ℕ) → slice_index made.old k + 1 < 2 ^ 64 }
     ensures range { (1001 ≤ uid) × (uid ≤ 1064) }
@@ -97,8 +97,8 @@ pub fn count_reply(made: &mut [u64; USERS], uid: Uid) -> u64
     made[slot]
 }
 
-/// The text of the replies in order, a line for each with its user and the user's own step number, or of one user's lines
-/// alone where a user is given. Refused where no memory is left.
+/// Returns the text of the replies in order. Each has a line with its user and the user's own step number. If the
+/// options name a user, the text has only that user's lines. An error means out of memory.
 pub fn render(
     alloc: Global,
     replies: &[(Uid, Reply)],

@@ -1,4 +1,4 @@
-//! Writes that are made again where a signal interrupts them.
+//! Writes that are retried after a signal interrupts them.
 
 ghost use Rattle.std.specs.Prelude.{◌≢◌, IfErr};
 ghost use Rattle.std.specs.Io.{WritesAtMost};
@@ -8,7 +8,7 @@ ghost use Rattle.std.specs.declared.io.ErrorKind.TheVariants.{Interrupted};
 
 use std::io::{Error, ErrorKind, Result, Write};
 
-/// One write, made again while a signal interrupts it.
+/// Makes one write, and retries it while a signal interrupts it.
 #[tactic(auto, using(crate::proofs::RetryLemmas::writes_behind))]
 pub(crate) fn write_some<W: Write>(writer: &mut W, buf: &[u8]) -> Result<usize>
     ensures bound { WritesAtMost result buf.now }

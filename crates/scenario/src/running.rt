@@ -1,4 +1,4 @@
-//! Runs a scenario, and writes its lines.
+//! Runs a scenario and writes its lines.
 ghost use Rattle.std.specs.Prelude.{◌≡◌, ◌≢◌, ◌⊎◌, ◌↔◌, IsErrOf, map, IfOk, IfErr};
 ghost use Rattle.std.specs.Vec.Iter.{into_iter_items};
 ghost use Rattle.scenario_text.specs.Plan.{policies_in};
@@ -20,16 +20,16 @@ use std::vec::IntoIter;
 use stop_handlers::{Decider, Handler};
 use thiserror::Error;
 
-/// Why a run came to no end.
+/// The reason why a run failed.
 #[derive(Clone, Copy, Debug, PartialEq, Eq, Error)]
 pub enum RunFault {
-    /// No memory was left. Nothing was written.
+    /// Memory ran out. Nothing was written.
     #[error("tracehost: out of memory")]
     Memory,
     /// A thread could not be started. Nothing was written.
     #[error("tracehost: cannot start a worker")]
     Start,
-    /// The writer failed, or took no byte. What it took before is a front of the text.
+    /// The writer failed, or took no byte. Before that it took a front of the text.
     #[error("tracehost: cannot write")]
     Write,
     /// The handlers are not those of the scenario's policies, one for each in order. Nothing was written.
@@ -38,7 +38,7 @@ pub enum RunFault {
 }
 
 impl RunFault {
-    /// The exit status of a program that ends by the fault.
+    /// Returns the exit status of a program that ends with the fault.
     pub fn status(&self) -> u8
         ensures { result ≡ run_fault_status self.now }
     {
@@ -64,7 +64,7 @@ impl<T: Drop> From<AllocFailed<T>> for RunFault {
     }
 }
 
-/// The host's reply to the step, which is made with the next handler where it is an install.
+/// Makes the step on the host, an install with the next handler, and returns the reply.
 #[tactic(auto, using(crate::proofs::BindLemmas::needs_none))]
 fn reply_of<F: Decider + Send + Drop>(
     alloc: Global,
@@ -82,7 +82,7 @@ fn reply_of<F: Decider + Send + Drop>(
     Some(host.step(alloc, user, step))
 }
 
-/// The replies to the scenario's steps, made one after another by a new host. A step that is answered ENOMEM ends the run.
+/// Makes the scenario's steps in order on a new host, and returns the replies. A reply ENOMEM ends the run.
 fn replies_of<F: Decider + Send + Drop>(
     alloc: Global,
     scenario: &Scenario,
@@ -108,7 +108,7 @@ fn replies_of<F: Decider + Send + Drop>(
     Ok(pairs)
 }
 
-/// Writes all the bytes, or a front of them.
+/// Writes all the bytes, or a front of them where the writer fails.
 fn write_whole<W: Write>(writer: &mut W, bytes: &[u8]) -> Result<(), RunFault>
     ensures writes { Writes result (W.contents writer.old) (W.contents writer.new) bytes.now }
     ensures kind { IfErr result (λ e. e ≡ WriteFault) }
@@ -124,8 +124,8 @@ fn write_whole<W: Write>(writer: &mut W, bytes: &[u8]) -> Result<(), RunFault>
     Ok(())
 }
 
-/// Writes the lines of the replies, or those of one user alone.
-pub(crate) fn write_lines<W: Write>(
+/// Writes the lines of the replies, or only those of one user.
+pub fn write_lines<W: Write>(
     alloc: Global,
     replies: &[(Uid, Reply)],
     options: RunOptions,
@@ -138,22 +138,23 @@ pub(crate) fn write_lines<W: Write>(
     write_whole(writer, text.as_bytes())
 }
 
-/// What is shown of a run.
+/// The options of a run's output.
 #[derive(Clone, Copy, Debug, PartialEq, Eq, Drop)]
 pub struct RunOptions {
-    /// The user whose lines alone are shown. The numbers of the lines stay.
+    /// Show only this user's lines. Their numbers stay the same.
     pub user: Option<Uid>,
-    /// How the lines are written.
+    /// The style of the lines.
     pub style: Style,
 }
 
-/// Makes the steps of the scenario one after another on a new host, with a handler for each policy that is installed, and then
-/// writes the lines of the replies.
+/// Makes the steps of the scenario in order on a new host, with a handler for each installed policy. Then it writes the
+/// lines of the replies.
 ///
 /// # Errors
 ///
-/// `Mismatch` where the handlers' policies aren't those of the scenario in their order; `Memory` where no memory was left, for
-/// a step too: then nothing was written. `Write` where the writer failed or took no byte: then it has a front of the text.
+/// `Mismatch` where the handlers' policies aren't those of the scenario in their order. `Memory` where memory ran out,
+/// also for a step. In both cases nothing was written. `Write` where the writer failed or took no byte: then it has a
+/// front of the text.
 pub fn run<F: Decider + Send + Drop, W: Write>(
     alloc: Global,
     scenario: &Scenario,

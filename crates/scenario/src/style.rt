@@ -1,8 +1,8 @@
-/// How a reply is written.
+/// The style of a reply's line.
 #[derive(Clone, Copy, Debug, PartialEq, Eq, Drop)]
 pub enum Style {
-    /// As words, with a space between each two.
+    /// Words, separated by spaces.
     Words,
-    /// As a JSON object.
+    /// A JSON object.
     Json,
 }

@@ -27,7 +27,7 @@ const ITS_LINES: &str =
 const ITS_LINES_BY_USER: &str =
     "1001 1 new 1000 100000\n1001 2 new 1001 100001\n1001 3 pids 1000 1001\n1002 1 new 2000 104000\n";
 
-/// Two users, one of whom traces a process through a system call by a policy.
+/// A session of two users. One traces a process through a system call by a policy.
 const SESSION: &str = "{\"steps\":[
 {\"user\":1001,\"op\":\"spawn\"},
 {\"user\":1001,\"op\":\"spawn\"},
@@ -43,7 +43,7 @@ const SESSION: &str = "{\"steps\":[
 {\"user\":1001,\"op\":\"turn\",\"lwp\":100001,\"act\":\"leave\"}
 ]}";
 
-/// A handler for each of the scenario's policies, which answers by it.
+/// Returns a handler for each of the scenario's policies, which answers by it.
 fn handlers_by_policy(alloc: Global, scenario: &Scenario) -> Result<Vec<Handler<ByPolicy>>, Fail> {
     let policies = policies(alloc, scenario)?;
     Ok(handlers_of(
@@ -53,7 +53,7 @@ fn handlers_by_policy(alloc: Global, scenario: &Scenario) -> Result<Vec<Handler<
     )?)
 }
 
-/// The fault of a scenario whose second step is user 1001's and has this op with what follows it.
+/// Returns the fault of a scenario whose second step is of user 1001 and has this op and the keys after it.
 fn fault_of(alloc: Global, op: &str) -> Result<Option<Fault>, Fail> {
     let mut text = String::from_str(
         alloc,
@@ -64,7 +64,7 @@ fn fault_of(alloc: Global, op: &str) -> Result<Option<Fault>, Fail> {
     Ok(parse(alloc, text.as_bytes()).err())
 }
 
-/// Each op with what follows it has the fault beside it, or is accepted.
+/// Checks that each op, with the keys after it, has the fault next to it or is accepted.
 fn check<R: Abort + AllocGlobal>(rt: &R, rows: &[(&str, Option<Fault>)]) -> Result<(), Fail> {
     for (op, want) in rows {
         let found = fault_of(rt.alloc(), op)?;

@@ -1,4 +1,4 @@
--- From the plan that a value is to what the bytes stand for.
+-- From the plan of a value to the scenario of the bytes.
 use Rattle.std.proofs.Common.{◌≡◌, List, ℕ, Result, Ok, Err, Option, Some, None, IfSome, ◌<◌, ◌≤◌, ◌+◌, ◌++◌, [], length, ◌∙◌, inl, inr, refl, ap, sym, subst, arith}
 use Rattle.std.proofs.lemmas.List.{length-append, append_assoc}
 use Rattle.std.specs.Io.KnownBytes.{Consumes}

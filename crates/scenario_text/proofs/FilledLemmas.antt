@@ -1,4 +1,4 @@
--- Steps whose policies stand apart.
+-- Steps with separate policies.
 use Rattle.std.specs.Prelude.{⊤}
 use Rattle.std.proofs.Common.{◌≡◌, ℕ, List, [], ◌∷◌, ◌++◌, length, map, Some, refl, sym, ap, ap₂, subst, ◌∙◌, arith}
 use Rattle.stop_handlers.specs.declared.Rule.{Rule}
@@ -19,7 +19,7 @@ left_after (op.Install caller own) [] others e = absurd (cc)
 left_after (op.Install caller own) (p ∷ ps) others e = cc
 left_after s ps others e = e
 
--- policies behind those that are there don't change a step
+-- further policies at the end don't change a step
 pub step_stays : (s : Step ⊤) (ps others more : List (List Rule)) → policy_before (step_with (first_policy ps) s) others ≡ ps
     → (step_with (first_policy (ps ++ more)) s ≡ step_with (first_policy ps) s) × (policies_after s (ps ++ more) ≡ policies_after s ps ++ more)
 step_stays (op.Install caller own) [] others more e = absurd (cc)

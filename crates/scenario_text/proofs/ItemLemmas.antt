@@ -1,4 +1,4 @@
--- Steps that are read one after another, beside the array that they are in.
+-- Steps that are read one after another, compared with their array.
 use Rattle.std.proofs.Common.{◌≡◌, ℕ, ◌+◌, ◌-◌, ◌≤◌, List, [], ◌∷◌, ◌++◌, length, Option, Some, None, Result, Ok, Err, refl, sym, ap, ◌∙◌, subst, arith}
 use Rattle.std.proofs.lemmas.List.{length-append, append_assoc, append-nil}
 use Rattle.json.specs.Token.{Token}

@@ -1,4 +1,4 @@
--- The members of a scenario that are read one after another, beside the object that they are in.
+-- The members of a scenario that are read one after another, compared with their object.
 use Rattle.std.proofs.Common.{◌≡◌, ℕ, ℤ, pos, ◌<◌, ◌≤◌, true, false, List, [], ◌∷◌, length, codes, Option, Some, None, IfSome, Ok, refl, sym, ap, ◌∙◌, arith, true≢false, nat_lt}
 use Rattle.std.proofs.lemmas.Bool.Decides.{nat_tests}
 use Rattle.std.specs.Str.{bytes_eq}

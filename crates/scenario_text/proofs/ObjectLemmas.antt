@@ -1,4 +1,4 @@
--- Members that are read one after another, beside the object that they are in.
+-- Members that are read one after another, compared with their object.
 use Rattle.std.proofs.Common.{◌≡◌, ℕ, ◌-◌, ◌<◌, ◌≤◌, List, ◌∷◌, length, Some, None, refl, ap, ◌∙◌, arith}
 use Rattle.json.specs.Token.{Token}
 use Rattle.json.specs.Json as json

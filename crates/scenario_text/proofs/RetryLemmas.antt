@@ -1,4 +1,4 @@
--- A read behind interrupted ones, which moved nothing.
+-- A read after interrupted ones, which moved nothing.
 use Rattle.std.proofs.Common.{ℕ, List, Option, Some, None, Result, Ok, Err, subst}
 use Rattle.std.specs.Io.KnownBytes.{Keeps, ReadConsumes}
 

@@ -1,4 +1,4 @@
--- What an LWP does at its turn, over the JSON value of the step.
+-- The act of an LWP at its turn, from the JSON value of the step.
 use Rattle.std.specs.Prelude.{ℕ, List, [], ◌∷◌, ◌++◌, Result, Ok, codes}
 use Rattle.serde_json.specs.Data.{Data}
 use Rattle.event_masks.specs.declared.Call.{Call}
@@ -14,11 +14,11 @@ use Rattle.scenario_text.specs.Fields.{◌>>=◌, member_at, number_within, word
 use Rattle.scenario_text.specs.Names.{act_named, call_named}
 use Rattle.scenario_text.specs.Arrays.{set_of}
 
--- the keys of a turn, whatever its act is
+-- the keys that every turn has
 abbrev pub turn_keys : List (List ℕ)
 turn_keys = codes "user" ∷ codes "op" ∷ codes "lwp" ∷ codes "act" ∷ []
 
--- an exit's code is what its parent is told, another call's code is its number
+-- the code of an exit is its exit status, the code of another call is its number
 abbrev pub call_of : CallKind → Data → Result Call Flaw
 call_of calls.Exit d = member_at (codes "code") d >>= number_within 0 255 >>= (λ code. Ok (call.Exit code))
 call_of calls.Fork d = Ok call.Fork
@@ -28,7 +28,7 @@ call_of calls.ThrExit d = Ok call.ThrExit
 call_of calls.ThrNew d = Ok call.ThrNew
 call_of calls.Other d = word_at (codes "code") d >>= (λ code. Ok (call.Other code))
 
--- the keys that a call has beside those of its turn
+-- the keys that a call has in addition to those of its turn
 abbrev pub call_keys : CallKind → List (List ℕ)
 call_keys calls.Exit = codes "call" ∷ codes "code" ∷ []
 call_keys calls.Fork = codes "call" ∷ []

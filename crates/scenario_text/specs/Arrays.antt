@@ -1,4 +1,4 @@
--- Arrays of names and of numbers: an item that is repeated counts once.
+-- Arrays of names and of numbers. A repeated item counts once.
 use Rattle.std.specs.Prelude.{ℕ, true, Result, Ok, fold}
 use Rattle.serde_json.specs.Data.{Data}
 use Rattle.signals.specs.Sets.{with}

@@ -3,7 +3,7 @@ use Rattle.std.specs.Prelude.{ℕ, List, codes}
 use Rattle.scenario_text.specs.declared.fault.Fault.{Fault}
 use Rattle.scenario_text.specs.declared.fault.Fault.TheVariants as fault
 
--- 3 where the host failed the program, 1 where the input is refused
+-- 3 where reading or memory failed, 1 where the input is refused
 abbrev pub fault_status : Fault → ℕ
 fault_status fault.Read = 3
 fault_status fault.Memory = 3

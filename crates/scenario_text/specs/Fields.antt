@@ -1,4 +1,4 @@
--- The keys of a JSON object, one by one, and what is wrong with each.
+-- The keys of a JSON object, and the flaw of each.
 use Rattle.std.specs.Prelude.{⊤, ◌≡◌, ℕ, ℤ, pos, negsuc, List, [], ◌∷◌, Option, Some, None, is_some, Result, Ok, Err, option_and_then, nat_lt, if◌then◌else◌}
 use Rattle.std.specs.Option.{ok_or}
 use Rattle.json_data.specs.Reading.{has_only}
@@ -12,7 +12,7 @@ abbrev pub ◌>>=◌ : {E A B : Type 0} → Result A E → (A → Result B E) �
 (Ok x) >>= f = f x
 (Err e) >>= f = Err e
 
--- a result, seen by view
+-- a result, mapped by view
 abbrev pub seen : {E X Y : Type 0} → (X → Y) → Result X E → Result Y E
 seen view (Ok x) = Ok (view x)
 seen view (Err e) = Err e
@@ -23,7 +23,7 @@ Gives view result reading = seen view result ≡ reading
 abbrev pub member_at : List ℕ → Data → Result Data Flaw
 member_at key d = ok_or (get key d) Shape
 
--- a whole number that fits 64 bits with a sign
+-- a whole number that fits a signed 64-bit integer
 abbrev pub integer_of : Data → Result ℤ Flaw
 integer_of d = ok_or (option_and_then as_i64 (as_number d)) Shape
 

@@ -1,4 +1,4 @@
--- What each name of a scenario stands for.
+-- The meaning of each name of a scenario.
 use Rattle.std.specs.Prelude.{ℕ, List, [], ◌∷◌, Option, Some, None, codes, if◌then◌else◌}
 use Rattle.std.specs.Str.{bytes_eq}
 use Rattle.signals.specs.declared.Disposition.{Disposition}
@@ -16,7 +16,7 @@ use Rattle.scenario_text.specs.declared.names.CallKind.TheVariants as calls
 use Rattle.scenario_text.specs.declared.names.DecisionKind.{DecisionKind}
 use Rattle.scenario_text.specs.declared.names.DecisionKind.TheVariants as decisions
 
--- the value beside the text in a table
+-- the value of the text in a table
 abbrev pub named : {X : Type 0} → List (List ℕ × X) → List ℕ → Option X
 named [] text = None
 named (row ∷ rows) text = if bytes_eq text row.0 then Some row.1 else named rows text

@@ -16,7 +16,7 @@ pub data IsStep (bytes : List ℕ) : Result Asked Fault → Type 0 where
   no_value : length bytes ≤ most_step_bytes → HasNoValue bytes → IsStep bytes (Err BadJson)
   value : (d : Data) → length bytes ≤ most_step_bytes → HasValue bytes d → IsStep bytes (numbered 1 (step_of d))
 
--- what was returned, seen by view, stands in the relation, unless memory ran out
+-- the returned result, mapped by view, satisfies the relation, unless memory ran out
 abbrev pub AnswersBy : {X Y : Type 0} → (X → Y) → Result X Fault → (Result Y Fault → Type 0) → Type 0
 AnswersBy view (Ok x) P = P (Ok (view x))
 AnswersBy view (Err Memory) P = ⊤

@@ -1,4 +1,4 @@
--- What a scenario is.
+-- A scenario.
 use Rattle.std.specs.Prelude.{⊤, ℕ, List, [], ◌∷◌, Option, Some, None}
 use Rattle.stop_handlers.specs.declared.Rule.{Rule}
 use Rattle.trace_stop.specs.declared.Settings.{Settings}
@@ -28,9 +28,9 @@ abbrev pub policies_in : List Asked → List (List Rule)
 policies_in [] = []
 policies_in (a ∷ rest) = policy_before a.step (policies_in rest)
 
--- ---- steps whose policies stand apart
+-- ---- steps with separate policies
 
--- the step with this in place of its handler, if it installs one
+-- the step with b in place of its handler, if it installs one
 abbrev pub step_with : {A : Type 0} {B : Type 0} → B → Step A → Step B
 step_with b Spawn = Spawn
 step_with b (op.List caller) = op.List caller
@@ -50,7 +50,7 @@ abbrev pub other_policies : List (List Rule) → List (List Rule)
 other_policies [] = []
 other_policies (policy ∷ others) = others
 
--- the policies that are left after a step
+-- the policies that remain after a step
 abbrev pub policies_after : Step ⊤ → List (List Rule) → List (List Rule)
 policies_after (Install caller own) policies = other_policies policies
 policies_after s policies = policies
@@ -64,6 +64,6 @@ abbrev pub first : List (List Rule) → Option (List Rule)
 first [] = None
 first (policy ∷ others) = Some policy
 
--- a step beside its user
+-- a step with its user
 abbrev pub user_and_step : Asked → ℕ × PlainStep
 user_and_step a = (a.uid, a.step)

@@ -1,4 +1,4 @@
--- The rules of a policy, over their JSON values.
+-- The rules of a policy, from their JSON values.
 use Rattle.std.specs.Prelude.{ℕ, List, [], ◌∷◌, Option, Some, None, Result, Ok, Err, codes, nat_lt, if◌then◌else◌}
 use Rattle.serde_json.specs.Data.{Data, Items}
 use Rattle.serde_json.specs.Events.{items_len}
@@ -19,7 +19,7 @@ some_signal_of d = do
   signal ← signal_of d
   Ok (Some signal)
 
--- the signal that a process is let go on with, 0 for none
+-- the signal with which a process is resumed, 0 for none
 abbrev pub pass_at : Data → Result ℕ Flaw
 pass_at d = optional_at (codes "pass") 0 (number_within 0 31) d
 

@@ -1,4 +1,4 @@
--- Which scenario bytes stand for, or which fault they have.
+-- The scenario or the fault of some bytes.
 use Rattle.std.specs.Prelude.{⊤, ◌≡◌, ◌⊎◌, ℕ, ◌+◌, ◌<◌, ◌≤◌, true, false, nat_lt, ◌==◌, ℤ, pos, negsuc, List, [], ◌∷◌, ◌++◌, length, Option, Some, None, Result, Ok, Err, codes, if◌then◌else◌, IsUtf8}
 use Rattle.std.specs.Io.KnownBytes.{Consumes}
 use Rattle.serde_json.specs.Data.{Data, Items, no_items, item}
@@ -72,32 +72,33 @@ HasValue bytes d = IsUtf8 bytes × (read bytes ≡ Some d)
 abbrev pub HasNoValue : List ℕ → Type 0
 HasNoValue bytes = IsUtf8 bytes → read bytes ≡ None
 
--- the bytes stand for the scenario, or have the fault
+-- the bytes have this scenario or this fault
 pub data StandsFor (bytes : List ℕ) : Result Plan Fault → Type 0 where
   too_long : most_bytes < length bytes → StandsFor bytes (Err TooLong)
   no_value : length bytes ≤ most_bytes → HasNoValue bytes → StandsFor bytes (Err BadJson)
   value : (d : Data) → length bytes ≤ most_bytes → HasValue bytes d → StandsFor bytes (plan_of d)
 
--- ---- what a function returned, seen by view
+-- ---- a returned result, mapped by view
 
--- it is this, unless memory ran out
+-- the result is this, unless memory ran out
 abbrev pub Yields : {X Y : Type 0} → (X → Y) → Result X Fault → Result Y Fault → Type 0
 Yields view (Ok x) r = r ≡ Ok (view x)
 Yields view (Err Memory) r = ⊤
 Yields view (Err e) r = r ≡ Err e
 
--- what was read stands behind the items, unless memory ran out
+-- the item that was read follows the others, unless memory ran out
 abbrev pub Pushes : {V X : Type 0} → (V → List X) → V → V → Result ⊤ Fault → Result X Fault → Type 0
 Pushes items old new (Ok done) r = r >>= (λ x. Ok (items old ++ (x ∷ []))) ≡ Ok (items new)
 Pushes items old new (Err Memory) r = ⊤
 Pushes items old new (Err e) r = r ≡ Err e
 
--- it is the scenario of the value that was read, or its fault, and `BadJson` where none was read, unless memory ran out
+-- the result is the scenario or the fault of the value that was read, and `BadJson` where none was read, unless memory
+-- ran out
 abbrev pub IsPlanOf : Result Plan Fault → Option Data → Type 0
 IsPlanOf r (Some d) = Yields (λ s. s) r (plan_of d)
 IsPlanOf r None = Yields (λ s. s) r (Err BadJson)
 
--- it stands in the relation, unless memory ran out
+-- the result satisfies the relation, unless memory ran out
 abbrev pub Answers : Result Plan Fault → (Result Plan Fault → Type 0) → Type 0
 Answers (Ok s) P = P (Ok s)
 Answers (Err Memory) P = ⊤
@@ -113,7 +114,7 @@ IsFront bytes input = (input ≡ bytes) ⊎ ((most_bytes < length bytes) × (res
 abbrev pub Takes : Option (List ℕ) → Option (List ℕ) → ℕ → Type 0
 Takes old new most = (bytes : List ℕ) × (length bytes ≤ most) × Consumes old new bytes
 
--- it stands in the relation, unless memory ran out or the reader failed
+-- the result satisfies the relation, unless memory ran out or the reader failed
 abbrev pub Tells : Result Plan Fault → (Result Plan Fault → Type 0) → Type 0
 Tells (Ok s) P = P (Ok s)
 Tells (Err Memory) P = ⊤

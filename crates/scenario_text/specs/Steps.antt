@@ -1,4 +1,4 @@
--- A step of a scenario, over its JSON value: its keys are checked one by one, and the first that fails is the flaw.
+-- A step of a scenario, from its JSON value. Its keys are checked one by one, and the first failure is the flaw.
 use Rattle.std.specs.Prelude.{ℕ, [], ◌∷◌, Result, Ok, codes}
 use Rattle.serde_json.specs.Data.{Data}
 use Rattle.requests.specs.Plain.{PlainStep}

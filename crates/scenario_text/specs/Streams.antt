@@ -16,7 +16,7 @@ use Rattle.scenario_text.specs.Plan.{Plan, most_steps}
 use Rattle.scenario_text.specs.Scenarios.{plan_of, steps_from}
 use Rattle.scenario_text.specs.Steps.{step_of}
 
--- what was read is an array of these steps, none of which has a fault; what follows it is left
+-- the value that was read is an array of these steps without a fault; the reader has the bytes after it left
 abbrev pub IsArrayOfSteps : List Asked → Option (Data × List Token) → List Token → Type 0
 IsArrayOfSteps steps r left = (ds : Items) × (r ≡ Some (array ds, left)) × (steps_from 1 ds ≡ Ok steps) × (items_len ds ≡ length steps) × (length steps ≤ most_steps)
 
@@ -24,7 +24,7 @@ IsArrayOfSteps steps r left = (ds : Items) × (r ≡ Some (array ds, left)) × (
 abbrev pub AreMembers : {A : Type 0} → List (Bor (List ℕ) × Value A) → List Token → List Token → Type 0
 AreMembers ms ts left = (converted of_json (value 125 ts) ≡ Some (object_view ms, left)) × (length left < length ts)
 
--- the value that was read is the step behind these
+-- the value that was read is the step that follows these
 abbrev pub IsNextStep : List Asked → List Asked → List Token → List Token → Type 0
 IsNextStep before after ts left =
     (d : Data) × (x : Asked) × (converted of_json (value 125 ts) ≡ Some (d, left)) × (step_of d ≡ Ok x) × (after ≡ before ++ x ∷ [])
@@ -34,7 +34,7 @@ IsNextStep before after ts left =
 abbrev pub IsInteger : ℤ → List Token → List Token → Type 0
 IsInteger z ts left = (j : Json) × (d : Data) × (value 126 ts ≡ Some (j, left)) × (of_json j ≡ Some d) × (integer_of d ≡ Ok z) × (length left < length ts)
 
--- what was read is this scenario
+-- the value that was read is this scenario
 abbrev pub IsScenario : Plan → Option (Data × List Token) → List Token → Type 0
 IsScenario plan r left = (d : Data) × (r ≡ Some (d, left)) × (plan_of d ≡ Ok plan)
 

@@ -1,4 +1,4 @@
--- What a debugger asks, over the JSON value of the step.
+-- The request of a debugger, from the JSON value of the step.
 use Rattle.std.specs.Prelude.{ℕ, List, [], ◌∷◌, ◌++◌, Result, Ok, codes}
 use Rattle.serde_json.specs.Data.{Data}
 use Rattle.requests.specs.Plain.{PlainStep}
@@ -10,7 +10,7 @@ use Rattle.scenario_text.specs.Fields.{◌>>=◌, member_at, word_of, word_at, n
 use Rattle.scenario_text.specs.Names.{request_named}
 use Rattle.scenario_text.specs.Arrays.{mask_of}
 
--- the keys of a ptrace, whatever it requests
+-- the keys that every ptrace step has
 abbrev pub ptrace_keys : List (List ℕ)
 ptrace_keys = codes "user" ∷ codes "op" ∷ codes "caller" ∷ codes "request" ∷ []
 

@@ -1,4 +1,4 @@
-//! What an LWP does at its turn.
+//! The acts of an LWP at its turn.
 ghost use Rattle.std.specs.Prelude.{◌≡◌, ◌++◌, codes};
 ghost use Rattle.json_data.specs.Reading.{object_view};
 ghost use Rattle.scenario_text.specs.Acts.{call_of, call_keys, turn_keys, raise_of, block_of, enter_of, act_of, act_at};
@@ -18,7 +18,7 @@ fn call_kind_at(step: &[Member<'_>]) -> Result<CallKind, Flaw>
     call_named(text(step, "call")?).ok_or(Flaw::Name)
 }
 
-/// The call, with the exit code of an exit and the number of another call.
+/// Returns the call, with the exit code of an exit and the number of another call.
 fn call_of(step: &[Member<'_>], kind: CallKind) -> Result<Call, Flaw>
     ensures { result ≡ call_of kind (object_view step.now) }
 {
@@ -36,7 +36,7 @@ fn call_of(step: &[Member<'_>], kind: CallKind) -> Result<Call, Flaw>
     }
 }
 
-/// The step has no other keys than those of a turn that enters such a call.
+/// Checks that the step has no other keys than those of a turn that enters such a call.
 fn only_call_keys(step: &[Member<'_>], kind: CallKind) -> Result<(), Flaw>
     ensures { result ≡ only (turn_keys ++ call_keys kind) (object_view step.now) }
 {
@@ -95,7 +95,7 @@ fn act_of(step: &[Member<'_>], kind: ActKind) -> Result<Act, Flaw>
     }
 }
 
-/// The act of a turn, with its keys.
+/// Returns the act of a turn, from its keys.
 pub(crate) fn act_at(step: &[Member<'_>]) -> Result<Act, Flaw>
     ensures { result ≡ act_at (object_view step.now) }
 {

@@ -1,4 +1,4 @@
-//! Arrays of names and of signals. An item that is repeated counts once.
+//! Arrays of names and of signals. A repeated item counts once.
 ghost use Rattle.std.specs.Prelude.{◌≡◌};
 ghost use Rattle.json_data.specs.Reading.{view};
 ghost use Rattle.event_masks.specs.Reading.{events_named, flag_named};
@@ -13,7 +13,7 @@ use json::Value;
 use signals::{SigSet, Signal};
 use wait4::Options;
 
-/// The options with one more. `WNOHANG` adds nothing: no wait blocks.
+/// Returns the options with one more. `WNOHANG` adds nothing: no wait blocks.
 fn with_option(options: Options, option: WaitOption) -> Options
     ensures { result ≡ with_option options option }
 {
@@ -36,7 +36,7 @@ fn option_of(value: &Value<'_>) -> Result<WaitOption, Flaw>
     option_named(text_of(value)?).ok_or(Flaw::Name)
 }
 
-/// The options of a wait4.
+/// Returns the options of a wait4.
 pub(crate) fn options_of(value: &Value<'_>) -> Result<Options, Flaw>
     ensures { result ≡ options_of (view value.now) }
 {
@@ -57,7 +57,7 @@ fn events_of(value: &Value<'_>) -> Result<EventMask, Flaw>
     EventMask::by_name(text_of(value)?).ok_or(Flaw::Name)
 }
 
-/// The events of an event mask. `PTRACE_SYSCALL` is two of them.
+/// Returns the events of an event mask. `PTRACE_SYSCALL` is two of them.
 pub(crate) fn mask_of(value: &Value<'_>) -> Result<EventMask, Flaw>
     ensures { result ≡ mask_of (view value.now) }
 {
@@ -75,7 +75,7 @@ fn flag_of(value: &Value<'_>) -> Result<StopFlags, Flaw>
     StopFlags::by_name(text_of(value)?).ok_or(Flaw::Name)
 }
 
-/// The flags of a stop.
+/// Returns the flags of a stop.
 pub(crate) fn flags_of(value: &Value<'_>) -> Result<StopFlags, Flaw>
     ensures { result ≡ flags_of (view value.now) }
 {
@@ -87,7 +87,7 @@ pub(crate) fn flags_of(value: &Value<'_>) -> Result<StopFlags, Flaw>
     Ok(flags)
 }
 
-/// A signal by its number.
+/// Returns the signal with this number.
 pub(crate) fn signal_of(value: &Value<'_>) -> Result<Signal, Flaw>
     ensures { result ≡ signal_of (view value.now) }
 {
@@ -98,7 +98,7 @@ pub(crate) fn signal_of(value: &Value<'_>) -> Result<Signal, Flaw>
     }
 }
 
-/// A set of signals.
+/// Returns a set of signals.
 pub(crate) fn set_of(value: &Value<'_>) -> Result<SigSet, Flaw>
     ensures { result ≡ set_of (view value.now) }
 {

@@ -5,19 +5,20 @@ ghost use Rattle.scenario_text.specs.Faults.{fault_status, fault_name};
 use std::alloc::{AllocError, AllocFailed};
 use thiserror::Error;
 
-/// Why there is no scenario: the first check that failed, with the number of its step, from 1; 0 is the whole scenario.
+/// The reason why a text has no scenario: the first check that failed, with the number of its step, from 1. The number
+/// 0 means the whole scenario.
 #[derive(Clone, Copy, Debug, PartialEq, Eq, Error)]
 pub enum Fault {
     /// The input could not be read.
     #[error("tracehost: cannot read")]
     Read,
-    /// More bytes than a scenario may have.
+    /// The text has more bytes than a scenario may have.
     #[error("tracehost: refused: TooLong")]
     TooLong,
-    /// No JSON text.
+    /// The text is not JSON.
     #[error("tracehost: refused: BadJson")]
     BadJson,
-    /// More steps than a scenario may have.
+    /// There are more steps than a scenario may have.
     #[error("tracehost: refused: TooManySteps")]
     TooManySteps,
     /// A key is missing or unknown, or has a value of the wrong kind.
@@ -26,23 +27,23 @@ pub enum Fault {
     /// No user has the number.
     #[error("tracehost: refused: BadUser at step {0}")]
     BadUser(u32),
-    /// An unknown name.
+    /// A name is unknown.
     #[error("tracehost: refused: BadName at step {0}")]
     BadName(u32),
-    /// A number out of its range.
+    /// A number is out of its range.
     #[error("tracehost: refused: BadNumber at step {0}")]
     BadNumber(u32),
-    /// More than 16 rules.
+    /// There are more than 16 rules.
     #[error("tracehost: refused: TooManyRules at step {0}")]
     TooManyRules(u32),
-    /// No memory was left.
+    /// Memory ran out.
     #[error("tracehost: out of memory")]
     Memory,
 }
 
 impl Fault {
-    /// The exit status of a program that ends by the fault: 3 where it could not read or had no memory, 1 where it
-    /// refused its input.
+    /// Returns the exit status of a program that ends with the fault: 3 where it could not read or ran out of memory, 1
+    /// where it refused its input.
     pub fn status(&self) -> u8
         ensures { result ≡ fault_status self.now }
     {
@@ -52,7 +53,7 @@ impl Fault {
         }
     }
 
-    /// The name of the fault.
+    /// Returns the name of the fault.
     pub fn name(&self) -> &'static str
         ensures { result.now ≡ fault_name self.now }
     {

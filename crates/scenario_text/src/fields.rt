@@ -1,4 +1,4 @@
-//! One key of a JSON object, and what is wrong with it.
+//! One key of a JSON object, and its flaw.
 ghost use Rattle.std.specs.Prelude.{◌≡◌, map, IfOk};
 ghost use Rattle.json_data.specs.Reading.{view, items_view, object_view};
 ghost use Rattle.scenario_text.specs.Fields.{member_at, integer_of, integer_at, number_within, word_of, word_at, text_of, text_at, items_of, only, object_of, seen, Gives};
@@ -6,7 +6,7 @@ ghost use Rattle.scenario_text.specs.Fields.{member_at, integer_of, integer_at, 
 use json::Value;
 use json_data::{Member, get, has_only, object};
 
-/// What is wrong with a step.
+/// The flaw of a step.
 #[derive(Clone, Copy)]
 pub(crate) enum Flaw {
     Shape,
@@ -22,7 +22,7 @@ pub(crate) fn member<'v, 'a>(object: &'v [Member<'a>], key: &str) -> Result<&'v 
     get(object, key).ok_or(Flaw::Shape)
 }
 
-/// A whole number that fits i64.
+/// Returns a whole number that fits i64.
 pub(crate) fn integer_of(value: &Value<'_>) -> Result<i64, Flaw>
     ensures { result ≡ integer_of (view value.now) }
 {
@@ -35,7 +35,7 @@ pub(crate) fn integer(object: &[Member<'_>], key: &str) -> Result<i64, Flaw>
     integer_of(member(object, key)?)
 }
 
-/// A whole number from the least to the greatest.
+/// Returns a whole number from `least` to `greatest`.
 pub(crate) fn number_within(value: &Value<'_>, least: u32, greatest: u32) -> Result<u32, Flaw>
     ensures { result ≡ number_within least greatest (view value.now) }
 {
@@ -47,7 +47,7 @@ pub(crate) fn number_within(value: &Value<'_>, least: u32, greatest: u32) -> Res
     }
 }
 
-/// A whole number of 32 bits.
+/// Returns a whole number of 32 bits.
 pub(crate) fn word_of(value: &Value<'_>) -> Result<u32, Flaw>
     ensures { result ≡ word_of (view value.now) }
 {
@@ -60,28 +60,28 @@ pub(crate) fn word(object: &[Member<'_>], key: &str) -> Result<u32, Flaw>
     word_of(member(object, key)?)
 }
 
-/// The text at a key.
+/// Returns the text at a key.
 pub(crate) fn text<'a>(object: &[Member<'a>], key: &str) -> Result<&'a str, Flaw>
     ensures { Gives (λ t. t.now) result (text_at key.now (object_view object.now)) }
 {
     text_of(member(object, key)?)
 }
 
-/// The items of an array.
+/// Returns the items of an array.
 pub(crate) fn items_of<'v, 'a>(value: &'v Value<'a>) -> Result<&'v [Value<'a>], Flaw>
     ensures { Gives (λ items. items_view items.now) result (items_of (view value.now)) }
 {
     json_data::array(value).ok_or(Flaw::Shape)
 }
 
-/// The value is a text.
+/// Returns the text that the value is.
 pub(crate) fn text_of<'a>(value: &Value<'a>) -> Result<&'a str, Flaw>
     ensures { Gives (λ t. t.now) result (text_of (view value.now)) }
 {
     json_data::text(value).ok_or(Flaw::Shape)
 }
 
-/// There is no other key than these.
+/// Checks that the object has no other key than these.
 pub(crate) fn only(object: &[Member<'_>], keys: &[&str]) -> Result<(), Flaw>
     ensures { result ≡ only (map (λ k. k.now) keys.now) (object_view object.now) }
 {
@@ -92,7 +92,7 @@ pub(crate) fn only(object: &[Member<'_>], keys: &[&str]) -> Result<(), Flaw>
     }
 }
 
-/// The members of an object.
+/// Returns the members of an object.
 pub(crate) fn object_of<'v, 'a>(value: &'v Value<'a>) -> Result<&'v [Member<'a>], Flaw>
     ensures shape { seen (λ _. tt) result ≡ object_of (view value.now) }
     ensures members { IfOk result (λ members. object_view members.now ≡ view value.now) }

@@ -1,4 +1,4 @@
-//! Scenarios as text: from JSON bytes to the steps of users.
+//! Reads scenarios: from JSON bytes to the steps of users.
 #![tactic(auto)]
 
 mod acts;
@@ -19,7 +19,7 @@ mod streaming;
 mod tracing;
 
 pub use fault::Fault;
-pub use one_step::{MOST_STEP_BYTES, parse_step};
+pub use one_step::{MOST_STEP_BYTES, StepReader, parse_step};
 pub use parsing::{one_answer, parse};
 pub use plan::{Scenario, USERS};
 pub use reading::read;

@@ -7,8 +7,8 @@ use json::{Reader, Token};
 use json_data::{Member, next_value};
 use std::alloc::Global;
 
-/// Reads the members of the object that comes next, in place of those that are there, whose room is used again. `None`
-/// says nothing.
+/// Reads the members of the next object into `members`, in place of those that are there. Their memory is used again.
+/// `None` decides nothing.
 pub(crate) fn read_members<'a>(
     alloc: Global,
     reader: &mut Reader<'a>,

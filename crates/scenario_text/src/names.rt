@@ -5,7 +5,7 @@ ghost use Rattle.scenario_text.specs.Names.{op_named, request_named, option_name
 use requests::Request;
 use signals::Disposition;
 
-/// What a step does.
+/// The op of a step.
 #[derive(Clone, Copy)]
 pub(crate) enum Op {
     Spawn,
@@ -36,7 +36,7 @@ pub(crate) fn op_named(text: &str) -> Option<Op>
     }
 }
 
-/// A request, by its name in ptrace(2).
+/// Returns the request with this name in ptrace(2).
 pub(crate) fn request_named(text: &str) -> Option<Request>
     ensures { result ≡ request_named text.now }
 {
@@ -93,7 +93,7 @@ pub(crate) fn disposition_named(text: &str) -> Option<Disposition>
     }
 }
 
-/// What an LWP does at its turn.
+/// The act of an LWP at its turn.
 #[derive(Clone, Copy)]
 pub(crate) enum ActKind {
     Compute,
@@ -143,7 +143,7 @@ pub(crate) fn call_named(text: &str) -> Option<CallKind>
     }
 }
 
-/// What a rule decides, without the signal that is passed on.
+/// The decision of a rule, without the signal that is passed on.
 #[derive(Clone, Copy)]
 pub(crate) enum DecisionKind {
     Decline,

@@ -1,4 +1,4 @@
-//! A text that is one step.
+//! Reads a text that is one step.
 ghost use Rattle.std.specs.Prelude.{◌≢◌, IfErr};
 ghost use Rattle.json_data.specs.Reading.{view};
 ghost use Rattle.scenario_text.specs.Fields.{Gives};
@@ -19,7 +19,7 @@ use std::alloc::Global;
 /// The most bytes of a step's text.
 pub const MOST_STEP_BYTES: usize = 65536;
 
-/// The step that a JSON value is, or its first flaw, as the fault of the step with number 1.
+/// Returns the step that a JSON value is. The error is its first flaw, as the fault of the step with number 1.
 fn step_at(value: &Value<'_>) -> Result<(Uid, PlainStep), Fault>
     ensures step { Gives asked result (numbered 1 (step_of (view value.now))) }
     ensures no_read { IfErr result (λ e. e ≢ ReadFault) }
@@ -30,23 +30,46 @@ fn step_at(value: &Value<'_>) -> Result<(Uid, PlainStep), Fault>
     }
 }
 
-/// The step that the bytes of a JSON text are, as an item of a scenario's steps.
-///
-/// # Errors
-///
-/// The first check that fails: more than `MOST_STEP_BYTES` bytes, no JSON text, and then the step's keys as `parse` checks them; the
-/// step has the number 1. `Memory` where no memory was left. Never `Read`.
+/// Reads steps one after another, and uses the memory of one again for the next. It keeps room for the longest text.
+#[derive(Drop)]
+pub struct StepReader {
+    scratch: Scratch,
+}
+
+impl StepReader {
+    /// Creates a reader, which takes memory only once it reads.
+    pub fn new(alloc: Global) -> StepReader {
+        StepReader {
+            scratch: Scratch::new(alloc),
+        }
+    }
+
+    /// Returns the step that the bytes of a JSON text are, in the form of an item of a scenario's steps.
+    ///
+    /// # Errors
+    ///
+    /// The first check that fails: at most `MOST_STEP_BYTES` bytes, a JSON text, and then the step's keys as `parse`
+    /// checks them. The step has the number 1. `Memory` where memory runs out. Never `Read`. After an error the reader
+    /// reads on as before.
+    pub fn parse_step(&mut self, alloc: Global, bytes: &[u8]) -> Result<(Uid, PlainStep), Fault>
+        ensures step { AnswersBy asked result (IsStep bytes.now) }
+        ensures no_read { IfErr result (λ e. e ≢ ReadFault) }
+    {
+        if bytes.len() > MOST_STEP_BYTES {
+            return Err(Fault::TooLong);
+        }
+        match from_slice(alloc, bytes, &mut self.scratch) {
+            Ok(value) => step_at(&value),
+            Err(Refusal::Memory) => Err(Fault::Memory),
+            Err(Refusal::Invalid) => Err(Fault::BadJson),
+        }
+    }
+}
+
+/// Returns the step that the bytes of a JSON text are, as `StepReader::parse_step` does, by a reader of its own.
 pub fn parse_step(alloc: Global, bytes: &[u8]) -> Result<(Uid, PlainStep), Fault>
     ensures step { AnswersBy asked result (IsStep bytes.now) }
     ensures no_read { IfErr result (λ e. e ≢ ReadFault) }
 {
-    if bytes.len() > MOST_STEP_BYTES {
-        return Err(Fault::TooLong);
-    }
-    let mut scratch = Scratch::new(alloc);
-    match from_slice(alloc, bytes, &mut scratch) {
-        Ok(value) => step_at(&value),
-        Err(Refusal::Memory) => Err(Fault::Memory),
-        Err(Refusal::Invalid) => Err(Fault::BadJson),
-    }
+    StepReader::new(alloc).parse_step(alloc, bytes)
 }

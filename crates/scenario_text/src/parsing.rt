@@ -1,4 +1,4 @@
-//! Bytes to a scenario.
+//! From bytes to a scenario.
 ghost use Rattle.std.specs.Prelude.{List, ℕ, Result, Ok, ◌≡◌, ◌≢◌, ◌≤◌, length, IfOk, IfErr, codes, pos};
 ghost use Rattle.json_data.specs.Reading.{view, items_view, object_view};
 ghost use Rattle.scenario_text.specs.Fields.{Gives, integer_of, optional_at};
@@ -46,7 +46,7 @@ fn push(steps: &mut StepList, user: Uid, step: PlainStep) -> Result<(), Fault>
     Ok(())
 }
 
-/// Adds the step that a value is, or names its first flaw as the fault of the step with this number.
+/// Adds the step that a value is. The error is its first flaw, as the fault of the step with this number, or `Memory`.
 fn push_step(steps: &mut StepList, value: &Value<'_>, number: u32) -> Result<(), Fault>
     ensures pushes { Pushes (λ xs. xs) steps.old steps.new result
         (numbered number (step_of (view value.now))) }
@@ -135,7 +135,7 @@ fn plan_of(alloc: Global, value: &Value<'_>) -> Result<Scenario, Fault>
     }
 }
 
-/// The scenario that a text's value is, or its first fault.
+/// Returns the scenario that a text's value is. The error is its first fault.
 fn parse_whole(alloc: Global, text: &str) -> Result<Scenario, Fault>
     ensures yields { IsPlanOf result (read text.now) }
     ensures no_read { IfErr result (λ e. e ≢ ReadFault) }
@@ -148,13 +148,13 @@ fn parse_whole(alloc: Global, text: &str) -> Result<Scenario, Fault>
     }
 }
 
-/// The scenario that the bytes of a JSON text stand for.
+/// Returns the scenario of the bytes of a JSON text.
 ///
 /// # Errors
 ///
-/// The first check that fails: more than `MOST_BYTES` bytes, no JSON text, the shape of the whole, more than `MOST_STEPS` steps,
-/// and then each step in order, with its keys in the order of its op, and last a key that its op doesn't have. `Memory` where no
-/// memory was left. Never `Read`.
+/// The first check that fails: at most `MOST_BYTES` bytes, a JSON text, the shape of the whole, at most `MOST_STEPS`
+/// steps, and then each step in order. Of a step, the keys are checked in the order of its op, and then that it has no
+/// other keys. `Memory` where memory runs out. Never `Read`.
 pub fn parse(alloc: Global, bytes: &[u8]) -> Result<Scenario, Fault>
     ensures stands { Answers result (StandsFor bytes.now) }
     ensures no_read { IfErr result (λ e. e ≢ ReadFault) }
@@ -171,7 +171,7 @@ pub fn parse(alloc: Global, bytes: &[u8]) -> Result<Scenario, Fault>
     }
 }
 
-/// No bytes stand for two scenarios, nor for one and a fault, nor have two faults.
+/// All bytes have at most one scenario or fault: not two scenarios, not two faults, and not one of each.
 #[tactic(auto, using(crate::proofs::Answering::one))]
 pub fn one_answer()
     ensures { (bytes : List ℕ) (r q : Result Plan Fault) → StandsFor bytes r → StandsFor bytes q → r ≡ q }

@@ -4,13 +4,13 @@ use std::marker::Model;
 use stop_handlers::Policy;
 use trace_stop::Settings;
 
-/// How many users there are.
+/// The number of users.
 pub const USERS: usize = 64;
 
 /// The most steps of a scenario.
 pub(crate) const MOST_STEPS: usize = 100000;
 
-/// At most `MOST_STEPS` steps of users, in order, and the settings of the host that they are made on.
+/// At most `MOST_STEPS` steps of users in order, and the settings of the host for them.
 #[derive(Drop)]
 pub struct Scenario {
     settings: Settings,
@@ -32,7 +32,7 @@ impl Scenario {
     ghost use Rattle.std.specs.Prelude.{◌≡◌, ◌≤◌, length, map};
     ghost use Rattle.scenario_text.specs.Plan.{Plan, asked, filled, most_steps, policies_in};
 
-    /// The scenario of these steps, of which there are at most `MOST_STEPS`.
+    /// Creates the scenario of these steps. There are at most `MOST_STEPS` of them.
     pub fn new(settings: Settings, steps: StepList) -> Scenario
         requires { length steps ≤ most_steps }
         ensures { result ≡ record { settings = settings; steps = steps } }
@@ -40,14 +40,14 @@ impl Scenario {
         Scenario { settings, steps }
     }
 
-    /// The settings of the host.
+    /// Returns the settings of the host.
     pub fn settings(&self) -> Settings
         ensures { result ≡ self.now.settings }
     {
         self.settings
     }
 
-    /// The steps in order without the policies that they install, each with its user.
+    /// Returns the steps in order, each with its user and without the policy that it installs.
     pub fn shapes(&self) -> &[(Uid, StepShape)]
         ensures steps { filled result.now (policies_in self.now.steps) ≡ self.now.steps }
         ensures bound { length result.now ≤ most_steps }
@@ -55,14 +55,14 @@ impl Scenario {
         self.steps.shapes()
     }
 
-    /// The steps in order, each with its user.
+    /// Returns the steps in order, each with its user.
     pub fn steps(&self) -> Steps<'_>
         ensures { map asked result ≡ self.now.steps }
     {
         self.steps.steps()
     }
 
-    /// The policies of the installs, in order.
+    /// Returns the policies of the installs, in order.
     pub fn policies(&self) -> &[Policy]
         ensures { result.now ≡ policies_in self.now.steps }
     {

@@ -1,4 +1,4 @@
-//! A reader's bytes to a scenario.
+//! From a reader's bytes to a scenario.
 ghost use Rattle.std.specs.Prelude.{◌≡◌, ◌+◌, ◌⊎◌, IfOk, IfErr, IfSome};
 ghost use Rattle.scenario_text.specs.declared.fault.Fault.TheVariants.{Memory, Read as ReadFault};
 ghost use Rattle.scenario_text.specs.Scenarios.{IsFront, StandsFor, Tells, Takes, most_bytes};
@@ -10,7 +10,7 @@ use crate::retrying::read_some;
 use std::alloc::Global;
 use std::io::Read;
 
-/// The bytes of a reader to their end, or to the first that is too many.
+/// Reads the bytes of a reader to their end, but no more than one byte beyond `MOST_BYTES`.
 fn front_of<R: Read>(alloc: Global, reader: &mut R) -> Result<Vec<u8>, Fault>
     ensures front { IfOk result (λ v. IfSome (R.remaining reader.old) (IsFront v.items)) }
     ensures takes { Takes (R.remaining reader.old) (R.remaining reader.new) (most_bytes + 1) }
@@ -32,11 +32,11 @@ fn front_of<R: Read>(alloc: Global, reader: &mut R) -> Result<Vec<u8>, Fault>
     Ok(bytes)
 }
 
-/// The scenario that a reader's bytes stand for. No more than one byte beyond `MOST_BYTES` is taken from the reader.
+/// Returns the scenario of a reader's bytes. It takes no more than one byte beyond `MOST_BYTES` from the reader.
 ///
 /// # Errors
 ///
-/// `Read` where the reader failed, else as `parse`.
+/// `Read` where the reader failed, else those of `parse`.
 pub fn read<R: Read>(alloc: Global, reader: &mut R) -> Result<Scenario, Fault>
     ensures stands { IfSome (R.remaining reader.old) (λ input. Tells result (StandsFor input)) }
     ensures takes { Takes (R.remaining reader.old) (R.remaining reader.new) (most_bytes + 1) }

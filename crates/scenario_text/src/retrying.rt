@@ -1,4 +1,4 @@
-//! Reads that are made again where a signal interrupts them.
+//! Reads that are retried after a signal interrupts them.
 
 ghost use Rattle.std.specs.Prelude.{◌≢◌, IfErr};
 ghost use Rattle.std.specs.Io.{ReadsAtMost};
@@ -8,7 +8,7 @@ ghost use Rattle.std.specs.declared.io.ErrorKind.TheVariants.{Interrupted};
 
 use std::io::{Error, ErrorKind, Read, Result};
 
-/// One read, made again while a signal interrupts it.
+/// Makes one read, and retries it while a signal interrupts it.
 #[tactic(auto, using(crate::proofs::RetryLemmas::reads_behind))]
 pub(crate) fn read_some<R: Read>(reader: &mut R, buf: &mut [u8]) -> Result<usize>
     ensures bound { ReadsAtMost result buf.new }

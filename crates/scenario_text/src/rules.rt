@@ -43,7 +43,7 @@ fn pass_number_at(rule: &[Member<'_>]) -> Result<u32, Flaw>
     }
 }
 
-/// The signal that a process is let go on with.
+/// Returns the signal with which a process is resumed.
 fn pass_at(rule: &[Member<'_>]) -> Result<Pass, Flaw>
     ensures { result ≡ pass_at (object_view rule.now) }
 {
@@ -71,7 +71,7 @@ fn decision_of(rule: &[Member<'_>], kind: DecisionKind) -> Result<Decision, Flaw
     }
 }
 
-/// The rule has no other keys than those with such a decision.
+/// Checks that the rule has no other keys than those of such a decision.
 fn only_rule_keys(rule: &[Member<'_>], kind: DecisionKind) -> Result<(), Flaw>
     ensures { result ≡ only (rule_keys kind) (object_view rule.now) }
 {
@@ -108,7 +108,7 @@ fn rule_of(value: &Value<'_>) -> Result<Rule, Flaw>
     rule_with(object_of(value)?)
 }
 
-/// The policy of an array of at most 16 rules.
+/// Returns the policy of an array of at most 16 rules.
 fn few_rules(items: &[Value<'_>]) -> Result<Policy, Flaw>
     requires { length items.now ≤ 16 }
     ensures { result ≡ each rule_of (items_view items.now) }
@@ -128,7 +128,7 @@ fn few_rules(items: &[Value<'_>]) -> Result<Policy, Flaw>
     }
 }
 
-/// The policy of an array of rules. More than 16 rules are refused before any of them is read.
+/// Returns the policy of an array of rules. More than 16 rules are refused before any of them is read.
 #[tactic(auto, using(crate::proofs::CountLemmas::many_rules, crate::proofs::CountLemmas::few_rules))]
 pub(crate) fn rules_of(items: &[Value<'_>]) -> Result<Policy, Flaw>
     ensures { result ≡ rules_of (items_view items.now) }

@@ -1,4 +1,4 @@
-//! Steps of users, with the policies that they install apart.
+//! Lists of users' steps. They keep the installed policies separate.
 ghost use Rattle.std.specs.Prelude.{◌≡◌, ◌++◌, [], OnOk, OnErr};
 ghost use Rattle.requests.specs.Plain.{with_handler};
 ghost use Rattle.scenario_text.specs.Plan.{first, policies_after, policy_before, step_with};
@@ -12,8 +12,8 @@ use stop_handlers::Policy;
 /// A step without the policy that it installs, if it installs one.
 pub type StepShape = Step<()>;
 
-/// Steps of users in order. Few steps install a policy and a policy is large, so that the policies stand apart: one for
-/// each install, in order.
+/// Steps of users in order. Few steps install a policy, and a policy is large, so the list keeps the policies separate:
+/// one for each install, in order.
 #[derive(Drop)]
 pub struct StepList {
     shapes: Vec<(Uid, StepShape)>,
@@ -32,7 +32,7 @@ impl Model for StepList {
     ghost invariant = { λ l. policies_in (filled l.shapes.items l.policies.items) ≡ l.policies.items };
 }
 
-/// The steps that are left of a list, each with its policy.
+/// The remaining steps of a list, each with its policy.
 #[derive(Drop)]
 pub struct Steps<'a> {
     shapes: &'a [(Uid, StepShape)],
@@ -71,7 +71,7 @@ impl<'a> Iterator for Steps<'a> {
     }
 }
 
-/// The step with the first of the policies, if it installs one; `None` where it does and there is none.
+/// Returns the step with the first of the policies, if it installs one. `None` where it does and there is no policy.
 fn filled_step(shape: &StepShape, policies: &[Policy]) -> Option<PlainStep>
     ensures { result ≡ with_handler (first policies.now) shape.now }
 {
@@ -81,7 +81,7 @@ fn filled_step(shape: &StepShape, policies: &[Policy]) -> Option<PlainStep>
     }
 }
 
-/// The policies that are left after the step.
+/// Returns the policies that remain after the step.
 fn policies_after<'a>(shape: &StepShape, policies: &'a [Policy]) -> &'a [Policy]
     ensures { result.now ≡ policies_after shape.now policies.now }
 {
@@ -91,7 +91,7 @@ fn policies_after<'a>(shape: &StepShape, policies: &'a [Policy]) -> &'a [Policy]
     }
 }
 
-/// The step without its policy.
+/// Returns the step without its policy.
 #[tactic(auto, using(crate::proofs::FilledLemmas::handled))]
 fn shape(step: &PlainStep) -> StepShape
     ensures { result ≡ step_with tt step.now }
@@ -102,7 +102,7 @@ fn shape(step: &PlainStep) -> StepShape
     shape
 }
 
-/// Adds the policy of the step, if it installs one. An error is want of memory, and changes nothing.
+/// Adds the policy of the step, if it installs one. An error means out of memory, and changes nothing.
 fn push_policy(policies: &mut Vec<Policy>, step: &PlainStep) -> Result<(), AllocError>
     ensures ok { OnOk result (policies.new.items ≡ policies.old.items ++ policy_before step.now []) }
     ensures err { OnErr result (policies.new.items ≡ policies.old.items) }
@@ -121,7 +121,7 @@ impl StepList {
     ghost use Rattle.std.specs.Prelude.{◌≡◌, ◌++◌, [], ◌∷◌, length, map, OnOk, OnErr};
     ghost use Rattle.scenario_text.specs.Plan.{asked, filled, policies_in};
 
-    /// No step.
+    /// Creates an empty list.
     pub fn new(alloc: Global) -> StepList
         ensures { result ≡ [] }
     {
@@ -131,7 +131,7 @@ impl StepList {
         }
     }
 
-    /// Adds a step of a user. An error is want of memory, and changes nothing.
+    /// Adds a step of a user. An error means out of memory, and changes nothing.
     pub fn push(&mut self, user: Uid, step: PlainStep) -> Result<(), AllocError>
         ensures ok { OnOk result (self.new ≡ self.old ++ asked (user, step) ∷ []) }
         ensures err { OnErr result (self.new ≡ self.old) }
@@ -142,7 +142,7 @@ impl StepList {
         Ok(())
     }
 
-    /// How many steps there are.
+    /// Returns the number of steps.
     #[tactic(auto, using(crate::proofs::FilledLemmas::length_filled))]
     pub fn len(&self) -> usize
         ensures { result ≡ length self.now }
@@ -150,7 +150,7 @@ impl StepList {
         self.shapes.len()
     }
 
-    /// The steps in order without their policies, each with its user.
+    /// Returns the steps in order, each with its user and without its policy.
     #[tactic(auto, using(crate::proofs::FilledLemmas::length_filled))]
     pub fn shapes(&self) -> &[(Uid, StepShape)]
         ensures steps { filled result.now (policies_in self.now) ≡ self.now }
@@ -159,7 +159,7 @@ impl StepList {
         self.shapes.as_slice()
     }
 
-    /// The steps in order, each with its user.
+    /// Returns the steps in order, each with its user.
     #[tactic(auto, using(crate::proofs::FilledLemmas::asked_again))]
     pub fn steps(&self) -> Steps<'_>
         ensures { map asked result ≡ self.now }
@@ -170,7 +170,7 @@ impl StepList {
         }
     }
 
-    /// The policies of the installs, in order.
+    /// Returns the policies of the installs, in order.
     pub fn policies(&self) -> &[Policy]
         ensures { result.now ≡ policies_in self.now }
     {

@@ -149,7 +149,7 @@ fn turn_of(step: &[Member<'_>]) -> Result<PlainStep, Flaw>
     Ok(PlainStep::Turn { tid, act })
 }
 
-/// What the step does, with the keys of its op.
+/// Returns the step with this op, from the keys of the op.
 fn rest_of(step: &[Member<'_>], op: Op) -> Result<PlainStep, Flaw>
     ensures { result ≡ rest_of op (object_view step.now) }
 {
@@ -166,7 +166,7 @@ fn rest_of(step: &[Member<'_>], op: Op) -> Result<PlainStep, Flaw>
     }
 }
 
-/// The step with these keys, or its first flaw.
+/// Returns the step with these keys. The error is its first flaw.
 #[tactic(auto, unfolding(crate::specs::Steps::step_of))]
 pub(crate) fn step_with(step: &[Member<'_>]) -> Result<(Uid, PlainStep), Flaw>
     ensures { Gives asked result (step_of (object_view step.now)) }
@@ -177,7 +177,7 @@ pub(crate) fn step_with(step: &[Member<'_>]) -> Result<(Uid, PlainStep), Flaw>
     Ok((user, rest))
 }
 
-/// The step that a JSON value is, or its first flaw.
+/// Returns the step that a JSON value is. The error is its first flaw.
 #[tactic(auto, unfolding(crate::specs::Steps::step_of))]
 pub(crate) fn step_of(value: &Value<'_>) -> Result<(Uid, PlainStep), Flaw>
     ensures { Gives asked result (step_of (view value.now)) }

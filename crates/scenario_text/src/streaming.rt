@@ -1,7 +1,7 @@
-//! A scenario read step by step: no more than the values of one step stand in memory.
+//! Reads a scenario step by step, with only the values of one step in memory.
 //!
-//! Only a scenario without a fault is read so. Where anything is wrong, nothing is said here: the text is read as a
-//! whole then, and its first fault is found in the order of the checks.
+//! This way reads only scenarios without a fault. If anything is wrong, it decides nothing: the text is then read as a
+//! whole, which finds its first fault in the order of the checks.
 ghost use Rattle.std.specs.Prelude.{◌≡◌, ◌+◌, ◌<◌, ◌≤◌, Ok, Some, IfSome, OnSome, length};
 ghost use Rattle.json.specs.Json.{value, read_key};
 ghost use Rattle.serde_json.specs.Data.{Data};
@@ -20,10 +20,10 @@ use json::{Reader, Scratch, Token};
 use json_data::{Member, integer, next_value};
 use std::alloc::Global;
 
-/// How deep arrays and objects nest in a text.
+/// The greatest depth of nested arrays and objects in a text.
 pub(crate) const MAX_DEPTH: usize = 127;
 
-/// Adds the step of the item that comes next, where it is one without a fault. Its members stand in `members` meanwhile.
+/// Adds the step of the next item, if it is one without a fault. `members` holds its members meanwhile.
 fn read_step<'a>(
     alloc: Global,
     reader: &mut Reader<'a>,
@@ -43,7 +43,7 @@ fn read_step<'a>(
     }
 }
 
-/// The whole number that comes next, where it is one.
+/// Reads the next value, if it is a whole number.
 fn read_integer<'a>(alloc: Global, reader: &mut Reader<'a>) -> Option<i64>
     ensures { IfSome result (λ z. IsInteger z reader.old reader.new) }
 {
@@ -53,7 +53,7 @@ fn read_integer<'a>(alloc: Global, reader: &mut Reader<'a>) -> Option<i64>
     }
 }
 
-/// The steps of the array that comes next, where it is one of at most `MOST_STEPS` steps without a fault.
+/// Reads the steps of the next array, if it has at most `MOST_STEPS` steps without a fault.
 fn read_steps<'a>(alloc: Global, reader: &mut Reader<'a>) -> Option<StepList>
     ensures steps { IfSome result (λ steps. IsArrayOfSteps steps (converted of_json (value 126 reader.old)) reader.new) }
     ensures shorter { IfSome result (λ v. length reader.new < length reader.old) }
@@ -72,7 +72,7 @@ fn read_steps<'a>(alloc: Global, reader: &mut Reader<'a>) -> Option<StepList>
     Some(steps)
 }
 
-/// What stands next in the object of a scenario.
+/// The next key in the object of a scenario, or its end.
 #[derive(Clone, Copy, Drop)]
 enum Key {
     Steps,
@@ -80,7 +80,7 @@ enum Key {
     End,
 }
 
-/// The next key, where it is one of a scenario, or the end of the object.
+/// Reads the next key, if it is one of a scenario, or the end of the object.
 fn next_key<'a>(reader: &mut Reader<'a>) -> Option<Key>
     ensures { IfSome result (λ key. read_key reader.old ≡ Some (text_of key, reader.new)) }
 {
@@ -109,7 +109,7 @@ fn scenario_of(kill: i64, steps: StepList) -> Option<Scenario>
     }
 }
 
-/// The scenario of the object that comes next, where it is one without a fault.
+/// Reads the scenario of the next object, if it is one without a fault.
 fn read_scenario<'a>(alloc: Global, reader: &mut Reader<'a>) -> Option<Scenario>
     ensures { IfSome result (λ s. IsScenario s (converted of_json (value 127 reader.old)) reader.new) }
 {
@@ -127,7 +127,7 @@ fn read_scenario<'a>(alloc: Global, reader: &mut Reader<'a>) -> Option<Scenario>
     }
 }
 
-/// The scenario of a text without a fault. `None` says nothing.
+/// Returns the scenario of a text without a fault. `None` decides nothing.
 pub(crate) fn stream(alloc: Global, text: &str) -> Option<Scenario>
     ensures { IfSome result (λ s. (d : Data) × (read text.now ≡ Some d) × (plan_of d ≡ Ok s)) }
 {

@@ -1,4 +1,4 @@
-//! What a debugger asks by ptrace(2).
+//! The requests of ptrace(2).
 ghost use Rattle.std.specs.Prelude.{◌≡◌, codes};
 ghost use Rattle.json_data.specs.Reading.{object_view};
 ghost use Rattle.scenario_text.specs.Fields.{name_at, optional_at, word_of as word_in};
@@ -54,7 +54,7 @@ fn set_event_mask_of(step: &[Member<'_>], caller: u32) -> Result<PlainStep, Flaw
     })
 }
 
-/// A request with a target and data.
+/// Returns a request with a target and data.
 #[tactic(auto, unfolding(crate::specs::Tracing::request_of))]
 fn request_of(step: &[Member<'_>], caller: u32, request: Request) -> Result<PlainStep, Flaw>
     ensures { result ≡ request_of caller request (object_view step.now) }
@@ -80,7 +80,7 @@ fn asked_of(step: &[Member<'_>], caller: u32, request: Request) -> Result<PlainS
     }
 }
 
-/// A ptrace, with the keys of its request.
+/// Returns a ptrace step, from the keys of its request.
 #[tactic(auto, unfolding(crate::specs::Tracing::ptrace_of))]
 pub(crate) fn ptrace_of(step: &[Member<'_>]) -> Result<PlainStep, Flaw>
     ensures { result ≡ ptrace_of (object_view step.now) }

@@ -1,11 +1,11 @@
-//! What tests do with a host.
+//! Helpers of tests for a host.
 
 use pid_blocks::Uid;
 use requests::{Host, Reply, Step};
 use std::alloc::Global;
 use stop_handlers::ByPolicy;
 
-/// The reply to a spawn by the user, with which the host goes.
+/// Returns the reply to a spawn by the user, and drops the host.
 pub fn last_spawn(alloc: Global, mut host: Host<ByPolicy>, user: Uid) -> Reply {
     host.step(alloc, user, Step::Spawn)
 }

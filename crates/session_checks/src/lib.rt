@@ -1,4 +1,4 @@
-//! Tests of sessions on a shared host, in a crate of their own, so that those that they test are proved once.
+//! Tests of sessions on a shared host, in a crate of their own, so that the tested crates are proved once.
 #![tactic(auto)]
 
 #[cfg(test)]

@@ -1,4 +1,4 @@
-//! Scripts of users, run at the same time on one host.
+//! Runs of users' scripts at the same time on one host.
 
 mod gates;
 mod order;

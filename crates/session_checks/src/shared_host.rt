@@ -1,4 +1,4 @@
-//! Sessions on one host, whose replies were worked out by hand from the manual pages.
+//! Sessions on one host. The expected replies were worked out by hand from the manual pages.
 
 mod opening;
 mod pairs;

@@ -1,4 +1,4 @@
-//! What the threads made of the scripts, beside what one thread makes of them.
+//! Compares the threads' run of the scripts with a replay by one thread.
 
 ghost use Rattle.std.specs.Prelude.{◌≡◌, ◌↔◌, IsTrue, IfOk};
 ghost use Rattle.requests.specs.View.{view};
@@ -13,7 +13,7 @@ use std::alloc::{AllocError, Global};
 use stop_handlers::ByPolicy;
 use visibility::user_view;
 
-/// Whether a user sees the same of two hosts.
+/// Returns whether a user sees the same of two hosts.
 fn sees_same(
     alloc: Global,
     left: &Host<ByPolicy>,
@@ -25,7 +25,7 @@ fn sees_same(
     Ok(user_view(alloc, left, user)? == user_view(alloc, right, user)?)
 }
 
-/// Whether an entry is the session's step at this place, with the reply that the session was given.
+/// Returns whether an entry is the session's step at this index, with the reply that the session got.
 fn is_at(entry: &Entry, script: &Script<ByPolicy>, transcript: &Transcript, place: usize) -> bool {
     let (Some(step), Some(reply)) = (script.steps.get(place), transcript.replies.get(place)) else {
         return false;
@@ -36,7 +36,7 @@ fn is_at(entry: &Entry, script: &Script<ByPolicy>, transcript: &Transcript, plac
         && entry.reply == *reply
 }
 
-/// How many entries of the journal aren't their session's next step with its reply.
+/// Returns how many entries of the journal aren't their session's next step with its reply.
 fn misplaced(
     alloc: Global,
     seed: u32,
@@ -69,7 +69,7 @@ fn misplaced(
     Ok(count)
 }
 
-/// 1 where the user sees something else of the two hosts.
+/// Returns 1 where the user's views of the two hosts differ, else 0.
 fn seen_otherwise(
     alloc: Global,
     left: &Host<ByPolicy>,
@@ -83,7 +83,7 @@ fn seen_otherwise(
     })
 }
 
-/// The differences from a replay, in its replies and in what the user sees in the end.
+/// Returns the number of differences from a replay, in its replies and in the user's view at the end.
 fn differences_from(
     alloc: Global,
     host: &Host<ByPolicy>,
@@ -94,7 +94,7 @@ fn differences_from(
     Ok(replayed.differ.wrapping_add(seen))
 }
 
-/// The differences from the user's entries where nobody else does anything.
+/// Returns the number of differences from a replay of only the user's entries.
 fn differences_alone(
     alloc: Global,
     host: &Host<ByPolicy>,
@@ -105,7 +105,7 @@ fn differences_alone(
     differences_from(alloc, host, &own, user)
 }
 
-/// The differences from the replay of all entries, and for each user from the replay of its own.
+/// Returns the number of differences from the replay of all entries, and for each user from the replay of its own.
 fn differences_in(
     alloc: Global,
     host: &Host<ByPolicy>,
@@ -122,7 +122,7 @@ fn differences_in(
     Ok(count)
 }
 
-/// The same, once all entries are replayed in order.
+/// Replays all entries in order, and returns the same number.
 fn differences_replayed(
     alloc: Global,
     host: &Host<ByPolicy>,
@@ -133,9 +133,9 @@ fn differences_replayed(
     differences_in(alloc, host, &all, journal, users)
 }
 
-/// How often the threads' run differs from what one thread makes of the journal: in the sessions' steps and replies, in
-/// the replies to all entries in order, in those to each user's entries where nobody else does anything, and in what
-/// users see in the end.
+/// Returns how often the threads' run differs from a replay of the journal by one thread: in the sessions' steps and
+/// replies, in the replies to all entries in order, in those to only one user's entries, and in the users' views at the
+/// end.
 pub fn differences(
     alloc: Global,
     seed: u32,

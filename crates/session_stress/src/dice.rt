@@ -1,4 +1,4 @@
-//! Numbers by a fixed rule.
+//! Pseudo-random numbers, by a fixed rule.
 
 ghost use Rattle.std.specs.Prelude.{◌<◌, length};
 
@@ -13,7 +13,7 @@ impl Dice {
         Dice { seed }
     }
 
-    /// The next number.
+    /// Returns the next number.
     fn roll(&mut self) -> u32 {
         self.seed = self
             .seed
@@ -22,7 +22,7 @@ impl Dice {
         (self.seed >> 33) as u32
     }
 
-    /// The next number, below a bound.
+    /// Returns the next number, below a bound.
     pub fn below(&mut self, bound: u32) -> u32
         requires { 0 < bound }
         ensures { result < bound }
@@ -30,7 +30,7 @@ impl Dice {
         self.roll() % bound
     }
 
-    /// One of the items.
+    /// Returns one of the items.
     pub fn pick<T: Copy>(&mut self, items: &[T]) -> T
         requires { 0 < length items.now }
     {

@@ -1,5 +1,6 @@
-//! Runs mixed scripts of many users in threads on one host, again and again, and compares each run with what one thread makes of its
-//! journal. It prints how much was compared, which is the same in each run, and ends with status 1 where anything differs.
+//! Runs mixed scripts of many users in threads on one host, again and again, and compares each run with a replay of its
+//! journal by one thread. It prints how much was compared, which is the same in each run, and ends with status 1 where
+//! anything differs.
 #![tactic(auto)]
 
 mod compare;
@@ -31,7 +32,7 @@ impl Gate for Open {
     fn after(&self, _user: Uid, _index: u32) {}
 }
 
-/// Why the program ends with status 1.
+/// The reason why the program ends with status 1.
 #[derive(Debug, Drop)]
 enum Trouble {
     /// Something differs.
@@ -40,7 +41,7 @@ enum Trouble {
     Refused(RunRefusal),
     /// Memory ran out.
     Memory,
-    /// Nothing could be printed.
+    /// Printing failed.
     Print,
 }
 
@@ -62,7 +63,7 @@ impl From<io::Error> for Trouble {
     }
 }
 
-/// How much was compared in runs, and how often something differs.
+/// How much was compared in runs, and the number of differences.
 #[derive(Clone, Copy, Default, Drop)]
 struct Tally {
     /// How many sessions each run has.
@@ -73,7 +74,7 @@ struct Tally {
 }
 
 impl Tally {
-    /// That of a further run put to it.
+    /// Returns the tally with that of a further run added.
     fn with(self, run: Tally) -> Tally {
         Tally {
             sessions: run.sessions,
@@ -84,7 +85,7 @@ impl Tally {
     }
 }
 
-/// How many steps all sessions made.
+/// Returns how many steps all sessions made.
 fn steps_of(transcripts: &[Transcript]) -> usize {
     let mut steps: usize = 0;
     for transcript in transcripts {
@@ -93,7 +94,7 @@ fn steps_of(transcripts: &[Transcript]) -> usize {
     steps
 }
 
-/// What a run left, compared.
+/// Compares the results of a run.
 fn tally_of(
     alloc: Global,
     seed: u32,
@@ -110,7 +111,7 @@ fn tally_of(
     })
 }
 
-/// What a run leaves: the host, the journal of its calls and what each session was answered.
+/// The results of a run: the host, the journal of its calls, and the replies to each session.
 type Left = (Host<ByPolicy>, Journal, Vec<Transcript>);
 
 /// Runs the scripts in threads on the host.
@@ -124,13 +125,13 @@ fn run_on<R: Threads + Wait + Sync>(
     Ok(run_sessions(rt, alloc, host, scripts, &Open)?)
 }
 
-/// The same on a host that nobody has used.
+/// Does the same on an unused host.
 fn run<R: Threads + Wait + Sync>(rt: &R, alloc: Global, seed: u32) -> Result<Left, Trouble> {
     let host = Host::new(alloc, settings(seed))?;
     run_on(rt, alloc, host, seed)
 }
 
-/// A run, compared with what one thread makes of its journal.
+/// Makes a run, and compares it with a replay of its journal by one thread.
 fn compared<R: Threads + Wait + Sync>(rt: &R, alloc: Global, seed: u32) -> Result<Tally, Trouble> {
     let (host, journal, transcripts) = run(rt, alloc, seed)?;
     tally_of(alloc, seed, &host, &journal, transcripts.as_slice())

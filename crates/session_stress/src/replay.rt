@@ -1,4 +1,4 @@
-//! The steps of a journal, made again by one thread.
+//! Replays the steps of a journal in one thread.
 
 use host_lock::Journal;
 use pid_blocks::Uid;
@@ -7,14 +7,14 @@ use std::alloc::{AllocError, Global};
 use stop_handlers::ByPolicy;
 use trace_stop::Settings;
 
-/// A host on which steps were made again, and how many of them were answered otherwise.
+/// A host after a replay, and the number of steps with another reply than before.
 #[derive(Drop)]
 pub struct Replayed {
     pub host: Host<ByPolicy>,
     pub differ: usize,
 }
 
-/// Makes the journal's steps of these users, in order, on a host that nobody has used.
+/// Makes the journal's steps of these users, in order, on an unused host.
 pub fn replay(
     alloc: Global,
     settings: Settings,

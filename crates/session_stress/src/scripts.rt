@@ -12,13 +12,13 @@ use std::alloc::{AllocError, Global};
 use stop_handlers::ByPolicy;
 use trace_stop::Settings;
 
-/// How many users a run has.
+/// The number of users of a run.
 const USERS: u32 = 40;
 
-/// How many steps a session has.
+/// The number of steps of a session.
 const STEPS: usize = 100;
 
-/// What a debugger's end does to its tracees in a run.
+/// Returns the settings of a run: whether a debugger's end kills its tracees.
 pub fn settings(seed: u32) -> Settings {
     if seed % 2 == 0 {
         Settings::standard()
@@ -27,7 +27,7 @@ pub fn settings(seed: u32) -> Settings {
     }
 }
 
-/// The user at this place among those of a run. In ten runs each of the 64 users has its turn.
+/// Returns the user at this index of a run. In ten runs each of the 64 users has its turn.
 fn user_at(seed: u32, place: u32) -> Uid {
     let slot = (place % 64 + 8 * (seed % 64)) % 64;
     match Uid::new(1001 + slot) {
@@ -36,12 +36,12 @@ fn user_at(seed: u32, place: u32) -> Uid {
     }
 }
 
-/// The users of a run.
+/// Returns the users of a run.
 pub fn users(alloc: Global, seed: u32) -> Result<Vec<Uid>, AllocError> {
     (0..USERS).map(|place| user_at(seed, place)).collect(alloc)
 }
 
-/// How many sessions the user at this place has. Ten users in a row have 16.
+/// Returns how many sessions the user at this index has. Ten users in a row have 16.
 fn sessions_at(place: u32) -> usize
     ensures least { 0 < result }
     ensures most { result ≤ 3 }
@@ -53,7 +53,7 @@ fn sessions_at(place: u32) -> usize
     }
 }
 
-/// So many steps of a user.
+/// Returns `count` steps of a user.
 fn steps_of(
     alloc: Global,
     seed: u32,
@@ -65,7 +65,7 @@ fn steps_of(
     writer.steps(alloc, count)
 }
 
-/// The script of one of a user's sessions, which have the steps in turn.
+/// Returns the script of one of a user's sessions, which take the steps in turn.
 fn script_of(
     alloc: Global,
     uid: Uid,
@@ -86,7 +86,7 @@ fn script_of(
     Ok(Script { uid, steps: own })
 }
 
-/// The scripts of a run, which are the same whenever they are made. Some users have several.
+/// Returns the scripts of a run, always the same ones for a seed. Some users have several.
 pub fn scripts(alloc: Global, seed: u32) -> Result<Vec<Script<ByPolicy>>, AllocError>
     ensures { IfOk result (λ scripts. All IsShort scripts.items) }
 {

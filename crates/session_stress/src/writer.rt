@@ -12,7 +12,7 @@ use stop_handlers::{ByPolicy, Decision, Policy, Rule};
 use trace_stop::Settings;
 use wait4::Options;
 
-/// Signals that end, stop, continue and leave a process, one that nobody has, and none.
+/// Signals that end, stop, continue and don't affect a process, a number that is not a signal's, and 0.
 const SIGNALS: [u32; 16] = [0, 2, 5, 9, 15, 16, 17, 18, 19, 19, 20, 23, 28, 30, 31, 32];
 
 const REQUESTS: [Request; 20] = [
@@ -59,7 +59,7 @@ const DISPOSITIONS: [Disposition; 3] = [
     Disposition::Catch,
 ];
 
-/// Makes up the steps of a user, and makes each on a host of the user's own, so that the next one fits.
+/// Generates the steps of a user, and makes each on a host of the user's own, so that the next one fits.
 #[derive(Drop)]
 pub struct Writer {
     dice: Dice,
@@ -78,12 +78,12 @@ impl Writer {
         Ok(Writer { dice, user, host })
     }
 
-    /// The next steps, so many.
+    /// Returns the next `count` steps.
     pub fn steps(&mut self, alloc: Global, count: usize) -> Result<Vec<PlainStep>, AllocError> {
         (0..count).map(|_| self.next(alloc)).collect(alloc)
     }
 
-    /// The next step.
+    /// Returns the next step.
     fn next(&mut self, alloc: Global) -> PlainStep {
         let step = self.made_up();
         let (user, asked) = (self.user, step.by_policy());
@@ -91,7 +91,7 @@ impl Writer {
         step
     }
 
-    /// Mostly a step that fits what a process is at, and now and then one with another user's number.
+    /// Returns a step: most often one that fits the state of a process, sometimes one with another user's number.
     fn made_up(&mut self) -> PlainStep {
         let Some(process) = self.process() else {
             return PlainStep::Spawn;
@@ -105,7 +105,7 @@ impl Writer {
         }
     }
 
-    /// One of the user's processes.
+    /// Returns one of the user's processes.
     fn process(&mut self) -> Option<ProcData> {
         let tables = self.host.tables();
         let mut process = tables.next_of(self.user, 0)?;
@@ -117,7 +117,7 @@ impl Writer {
         Some(process)
     }
 
-    /// The number of one of the user's processes; 0 where there is none.
+    /// Returns the number of one of the user's processes; 0 where there is none.
     fn number(&mut self) -> u32 {
         match self.process() {
             Some(process) => process.pid.get(),
@@ -125,7 +125,7 @@ impl Writer {
         }
     }
 
-    /// A step with a number that is another user's or nobody's.
+    /// Returns a step with a number that is another user's or unused.
     fn stray(&mut self, own: u32) -> PlainStep {
         let other = Uid::new(1001 + self.dice.below(64)).unwrap_or(self.user);
         let far = pid_block(other).first.wrapping_add(self.dice.below(5));
@@ -143,7 +143,7 @@ impl Writer {
         }
     }
 
-    /// A step that fits what the process is at.
+    /// Returns a step that fits the state of the process.
     fn fitting(&mut self, process: ProcData) -> PlainStep {
         let own = process.pid.get();
         let above = process.tracer.map_or(process.parent, |tracer| tracer.get());
@@ -164,7 +164,7 @@ impl Writer {
         }
     }
 
-    /// A step by or about a process that runs.
+    /// Returns a step by or about a process that runs.
     fn running(&mut self, process: ProcData) -> PlainStep {
         let own = process.pid.get();
         let other = self.number();
@@ -187,7 +187,7 @@ impl Writer {
         }
     }
 
-    /// The first LWP of the process, or any other of the user's.
+    /// Returns the first LWP of the process, or any other of the user's.
     fn lwp(&mut self, pid: Pid) -> Option<LwpData> {
         let is_own = self.dice.below(2) == 0;
         let place = self.dice.below(16) as usize;
@@ -199,7 +199,7 @@ impl Writer {
         }
     }
 
-    /// The turn of the LWP, or else a new process.
+    /// Returns a turn of the LWP, or else a spawn.
     fn turn(&mut self, lwp: Option<LwpData>) -> PlainStep {
         let Some(lwp) = lwp else {
             return PlainStep::Spawn;
@@ -215,7 +215,7 @@ impl Writer {
         }
     }
 
-    /// What an LWP in user mode does.
+    /// Returns an act of an LWP in user mode.
     fn act(&mut self) -> Act {
         let signal = self.signal();
         match self.dice.below(12) {
@@ -226,7 +226,7 @@ impl Writer {
         }
     }
 
-    /// What a debugger does about a stop that it wasn't told of yet.
+    /// Returns a step of a debugger about a stop that it has not collected yet.
     fn stopped(&mut self, debugger: u32) -> PlainStep {
         match self.dice.below(8) {
             0 | 1 => PlainStep::Install {
@@ -238,7 +238,7 @@ impl Writer {
         }
     }
 
-    /// What a debugger asks of a stopped process.
+    /// Returns a request of a debugger about a stopped process.
     fn request(&mut self, debugger: u32, process: u32) -> PlainStep {
         let request = self.dice.pick(&REQUESTS);
         self.ask(debugger, request, process)
@@ -281,7 +281,7 @@ impl Writer {
         self.dice.pick(&SIGNALS)
     }
 
-    /// Mostly no signal.
+    /// Returns a signal to pass on, most often 0.
     fn passed(&mut self) -> u32 {
         match self.dice.below(4) {
             0 => self.signal(),
@@ -289,7 +289,7 @@ impl Writer {
         }
     }
 
-    /// Two rules by the dice.
+    /// Returns a policy of two random rules.
     fn policy(&mut self) -> Policy {
         let rules = [self.rule(), self.rule()];
         match Policy::new(&rules) {

@@ -1,4 +1,4 @@
--- A script that is ready to run, and what it has done.
+-- A script that is ready to run, and its result.
 use Rattle.std.specs.Prelude.{◌≡◌, ℕ, ◌≤◌, List, [], Vec, vec_len, vec_capacity}
 use Rattle.host_lock.specs.Limits.{most_calls}
 use Rattle.host_lock.specs.Sessions.{SessionData, HostData, IsOf}
@@ -9,11 +9,11 @@ use Rattle.sessions.specs.declared.job.Done.{Done}
 use Rattle.sessions.specs.declared.script.Transcript.{Transcript}
 use Rattle.sessions.specs.Made.{Did, Pairs}
 
--- the list is empty, and has room for so many
+-- the list is empty, and has room for n items
 abbrev pub HasRoomFor : {A : Type 0} → ℕ → Vec A Global → Type 0
 HasRoomFor n v = (v.items ≡ []) × (vec_len v ≡ 0) × (n ≤ vec_capacity v)
 
--- the replies have room
+-- there is room for the replies
 abbrev pub HasRoom : {F : Type 0} → Job F → Type 0
 HasRoom j = HasRoomFor (vec_len j.steps) j.replies
 

@@ -1,4 +1,4 @@
--- What a script's answered steps are in the journal.
+-- The journal entries of a script's answered steps.
 use Rattle.std.specs.Prelude.{◌≡◌, ℕ, List, [], ◌∷◌, length, if◌then◌else◌}
 use Rattle.requests.specs.Plain.{PlainStep}
 use Rattle.requests.specs.declared.Reply.{Reply}
@@ -7,7 +7,7 @@ use Rattle.host_lock.specs.declared.journal.Entry.{Entry}
 use Rattle.host_lock.specs.Journal.{entry}
 use Rattle.host_lock.specs.Sessions.{SessionData}
 
--- the entries of these steps with these replies, but for those answered ENOMEM
+-- the entries of these steps with these replies, except those with the reply ENOMEM
 abbrev pub made : ℕ → ℕ → List PlainStep → List Reply → List Entry
 made u n [] rs = []
 made u n (s ∷ ss) [] = []
@@ -17,7 +17,7 @@ made u n (s ∷ ss) (r ∷ rs) = if is_memory r then made u n ss rs else entry u
 abbrev pub Did : SessionData → List PlainStep → List Reply → SessionData → Type 0
 Did v ss rs w = (length rs ≡ length ss) × (w.uid ≡ v.uid) × (w.number ≡ v.number) × (w.host ≡ v.host) × (w.start ≡ v.start) × (w.calls ≡ length ss) × (w.mine ≡ made v.uid v.number ss rs)
 
--- R holds of the lists' elements, place by place, and they are as long
+-- the lists have the same length, and R holds of their elements in each place
 abbrev pub Pairs : {A B : Type 0} → (A → B → Type 0) → List A → List B → Type 0
 Pairs R [] [] = Unit {0}
 Pairs R [] (y ∷ ys) = ⊥

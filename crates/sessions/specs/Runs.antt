@@ -1,4 +1,4 @@
--- What a run of scripts answers.
+-- The result of a run of scripts.
 use Rattle.std.specs.Prelude.{◌≡◌, ℕ, ◌<◌, ◌≤◌, ◌==◌, List, map, filter, length, Vec, vec_len, slice_index_or}
 use Rattle.host_lock.specs.declared.journal.Entry.{Entry}
 use Rattle.pid_blocks.specs.Users.{IsUser}
@@ -15,12 +15,12 @@ use Rattle.requests.specs.Plain.{PlainStep}
 use Rattle.std.specs.Global.{Global}
 use Rattle.sessions.specs.Made.{made}
 
--- the steps can all be made by one session
+-- one session can make all the steps
 abbrev pub IsShort : {F : Type 0} → Script F → Type 0
 IsShort s = vec_len s.steps ≤ most_calls
 
--- the transcript has one reply for each step, in order; the steps not answered ENOMEM, with their replies, are the journal's entries of
--- this number
+-- the transcript has one reply for each step, in order; the journal's entries of this number are the steps with their
+-- replies, except those with the reply ENOMEM
 abbrev pub Plays : {F : Type 0} → List Entry → ℕ → Script F → Transcript → Type 0
 Plays log k s t = (t.uid ≡ s.uid) × (length t.replies.items ≡ length s.steps.items) × (entries_of k log ≡ made s.uid k s.steps.items t.replies.items)
 
@@ -32,14 +32,14 @@ AllPlay {F} log ss ts = (length ts ≡ length ss) × ((k : ℕ) (s : Script F) (
 abbrev pub entries_by : ℕ → List Entry → List Entry
 entries_by u log = filter (λ e. e.uid == u) log
 
--- every user's entries have the replies that the machine gives to the user's own steps where nobody else has done anything, and the user
--- sees the same at the end
+-- every user's entries have the replies that the machine gives to the user's own steps where no other user has made a
+-- step, and the user's view at the end is the same
 abbrev pub OwnEntries : Machine → List Entry → Type 0
 OwnEntries m log = (u : ℕ) → IsUser u
     → (map (λ e. e.reply) (entries_by u log) ≡ replies (asked (entries_by u log)) (alone u m))
     × (view u (replay m log) ≡ view u (last (asked (entries_by u log)) (alone u m)))
 
--- why so many scripts are not run
+-- the refusals of a run of n scripts
 abbrev pub RefusesFor : ℕ → RunRefusal → Type 0
 RefusesFor n TooMany = most_sessions < n
 RefusesFor n Memory = (0 < n) × (n ≤ most_sessions)

@@ -1,4 +1,4 @@
-//! A worker's job, and what it promises.
+//! A worker's job and its promise.
 
 ghost use Rattle.std.specs.Prelude.{◌≡◌, map};
 ghost use Rattle.sessions.specs.Made.{Did};
@@ -24,7 +24,7 @@ pub struct Done {
     pub replies: Vec<Reply>,
 }
 
-/// What a worker promises: to make these steps by this session.
+/// A worker's promise: to make these steps by this session.
 #[derive(Drop)]
 pub struct Plan<F: Decider + Send + Drop> {
     pub(crate) session: Snapshot<Session>,

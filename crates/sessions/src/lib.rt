@@ -1,4 +1,4 @@
-//! Scripts of many users, run at the same time on one shared host.
+//! Runs scripts of many users at the same time on one shared host.
 #![tactic(auto)]
 
 mod job;

@@ -1,4 +1,4 @@
-//! What a run takes before its first worker starts.
+//! The preparation of a run: all memory that it needs before its first worker starts.
 
 ghost use Rattle.std.specs.Prelude.{◌≡◌, ◌<◌, ◌≤◌, length, map, vec_len, All, IfOk};
 ghost use Rattle.host_lock.specs.Limits.{most_sessions};
@@ -16,7 +16,7 @@ use requests::Host;
 use std::alloc::{AllocError, Global};
 use stop_handlers::Decider;
 
-/// The scripts' users, and room for what the workers give back.
+/// The scripts' users, and room for the workers' results.
 #[derive(Drop)]
 pub(crate) struct Room {
     pub uids: Vec<Uid>,
@@ -31,14 +31,14 @@ struct Opened<F: Decider + Send + Drop> {
     sessions: Vec<Session>,
 }
 
-/// An open host, a job for each script, and room for what comes of them.
+/// An open host, a job for each script, and room for the results.
 pub(crate) struct Ready<F: Decider + Send + Drop> {
     pub host: SharedHost<F>,
     pub jobs: Vec<Job<F>>,
     pub room: Room,
 }
 
-/// Opens the host and takes all memory that the run itself takes.
+/// Opens the host, and allocates all memory that the run itself needs. An error means out of memory.
 pub(crate) fn prepare<F: Decider + Send + Drop>(
     alloc: Global,
     host: Host<F>,
@@ -61,7 +61,7 @@ pub(crate) fn prepare<F: Decider + Send + Drop>(
     Ok(Ready { host, jobs, room })
 }
 
-/// Room for so many scripts.
+/// Allocates room for the results of the scripts. An error means out of memory.
 fn room_for<F: Decider + Send + Drop>(
     alloc: Global,
     scripts: &[Script<F>],
@@ -83,7 +83,7 @@ fn room_for<F: Decider + Send + Drop>(
     })
 }
 
-/// How many calls the scripts make.
+/// Returns how many calls the scripts make.
 fn calls_in<F: Decider + Send + Drop>(scripts: &[Script<F>]) -> usize {
     let mut calls = 0usize;
     for script in scripts {
@@ -92,7 +92,7 @@ fn calls_in<F: Decider + Send + Drop>(scripts: &[Script<F>]) -> usize {
     calls
 }
 
-/// Opens the host for the users, with room in its journal for so many calls.
+/// Opens the host for the users, with room in its journal for `calls` calls.
 fn open_for<F: Decider + Send + Drop>(
     alloc: Global,
     host: Host<F>,
@@ -122,7 +122,7 @@ fn uids_of<F: Decider + Send + Drop>(
     Ok(uids)
 }
 
-/// Each session with its script, and room for the replies.
+/// Pairs each session with its script and with room for the replies.
 fn pair<F: Decider + Send + Drop>(
     alloc: Global,
     sessions: Vec<Session>,

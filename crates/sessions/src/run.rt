@@ -1,4 +1,4 @@
-//! Scripts of many users, run at the same time on one host.
+//! Runs scripts of many users at the same time on one host.
 ghost use Rattle.std.specs.Prelude.{◌≡◌, ◌≤◌, [], map, vec_len, All, IfOk, IfErr, OnOk};
 ghost use Rattle.requests.specs.Isolation.{Users};
 ghost use Rattle.host_lock.specs.Journal.{asked, IsLegal, replay};
@@ -19,14 +19,16 @@ use std::sync::Wait;
 use std::thread::Threads;
 use stop_handlers::Decider;
 
-/// Runs each script by a session in a thread of its own, all at the same time, and waits for their end. A user may have several scripts.
+/// Runs each script by a session in a thread of its own, all at the same time, and waits for their end. A user may have
+/// several scripts.
 ///
-/// The answer has the host, the journal, where a script's place is its session's number, and a transcript for each script.
+/// Returns the host, the journal, and a transcript for each script. In the journal, a script's index is the number of
+/// its session.
 ///
 /// # Errors
 ///
-/// `TooMany` where there are more scripts than a host may have sessions, `Memory` where memory ran out before the first worker began,
-/// `Start` where a thread could not be started. The host is dropped.
+/// `TooMany` where there are more scripts than a host may have sessions, `Memory` where memory ran out before the first
+/// worker began, `Start` where a thread could not be started. The host is dropped.
 pub fn run_sessions<F: Decider + Send + Drop, G: Gate, R: Threads + Wait + Sync>(
     rt: &R,
     alloc: Global,
@@ -92,7 +94,7 @@ fn play<F: Decider + Send + Drop, G: Gate, R: Threads + Wait + Sync>(
     }
 }
 
-/// The sessions apart from the transcripts.
+/// Splits the results into sessions and transcripts.
 fn part(
     done: Vec<Done>,
     mut sessions: Vec<Session>,

@@ -1,4 +1,4 @@
-//! What is run, and what comes of it.
+//! Scripts and their transcripts.
 
 use pid_blocks::Uid;
 use requests::{Reply, Step};
@@ -18,7 +18,7 @@ pub struct Transcript {
     pub replies: Vec<Reply>,
 }
 
-/// Why scripts were not run, or not to their end. The host is dropped.
+/// The reason why scripts did not run, or not to their end. The host is dropped.
 #[derive(Clone, Copy, Debug, PartialEq, Eq)]
 pub enum RunRefusal {
     /// There are more scripts than a host may have sessions.
@@ -29,7 +29,7 @@ pub enum RunRefusal {
     Start,
 }
 
-/// Told of each call, in the thread that makes it. `index` counts the script's calls from 1.
+/// Observes each call, in the thread that makes it. `index` counts the script's calls from 1.
 pub trait Gate: Sync {
     /// The call is about to be made.
     fn before(&self, user: Uid, index: u32);

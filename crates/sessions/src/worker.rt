@@ -14,7 +14,7 @@ use std::alloc::Global;
 use std::sync::Wait;
 use stop_handlers::{Decider, Handler};
 
-/// Makes the steps of a script, in order. The replies have room.
+/// Makes the steps of a script in order. `replies` has room for their replies.
 pub(crate) fn work<F: Decider + Send + Drop, G: Gate, R: Wait>(
     rt: &R,
     alloc: Global,
@@ -43,7 +43,7 @@ pub(crate) fn work<F: Decider + Send + Drop, G: Gate, R: Wait>(
     Done { session, replies }
 }
 
-/// The same, from the last on.
+/// Returns the items in reverse order.
 pub(crate) fn reversed<T>(mut items: Vec<T>) -> Vec<T>
     ensures items { result.items ≡ reverse items.items }
     ensures len { vec_len result ≡ vec_len items }

@@ -17,7 +17,7 @@ use std::thread;
 use std::thread::Threads;
 use stop_handlers::Decider;
 
-/// Runs each job in a thread of its own, all at the same time. None where a thread could not be started.
+/// Runs each job in a thread of its own, all at the same time. Returns `None` where a thread could not be started.
 #[cycle(run)]
 pub(crate) fn run_all<F: Decider + Send + Drop, G: Gate, R: Threads + Wait + Sync>(
     rt: &R,
@@ -38,7 +38,8 @@ pub(crate) fn run_all<F: Decider + Send + Drop, G: Gate, R: Threads + Wait + Syn
     beside(rt, alloc, host, job, jobs, done, gate)
 }
 
-/// One job in a thread of its own, and the others at the same time.
+/// Runs one job in a thread of its own, and the others at the same time. Returns `None` where a thread could not be
+/// started.
 #[cycle(run)]
 fn beside<F: Decider + Send + Drop, G: Gate, R: Threads + Wait + Sync>(
     rt: &R,

@@ -1,4 +1,4 @@
--- What the tables and the sets of signals say, by signal.
+-- What the tables and the sets of signals state for each signal.
 use Rattle.std.specs.Prelude.{ℕ, ◌≡◌, ◌≤◌, true, not, ◌&&◌, ◌||◌, ◌==◌, List, [], ◌∷◌}
 use Rattle.std.specs.Int.RustNames.{bit_or}
 use Rattle.signals.specs.Sets.{has, bit, with, without}

@@ -59,11 +59,11 @@ signal_name n = option_map_or (λ r. r.name) (find (λ r. r.number == n) table) 
 abbrev pub by_name : List ℕ → Option ℕ
 by_name text = find (λ n. pointwise nat_eq (signal_name n) text) numbers
 
--- what a process is resumed with, for programmers
+-- the name, for programmers, of what a process is resumed with
 abbrev pub pass_name : ℕ → List ℕ
 pass_name n = if n == 0 then codes "0" else signal_name n
 
--- the names of signals with ` | ` between them, in the way of Rust's crate `bitflags`
+-- the names of signals with ` | ` between them, as Rust's crate `bitflags` prints them
 abbrev pub named : List ℕ → List ℕ
 named [] = codes "0x0"
 named (n ∷ ns) = join_by (λ m. signal_name m) (codes " | ") (n ∷ ns)

@@ -6,7 +6,7 @@ ghost use Rattle.signals.specs.Table.{all_default, disposition_of, set_dispositi
 use crate::{BadDisposition, Disposition, Dispositions, SigSet, Signal};
 
 impl Dispositions {
-    /// Each signal has its default disposition.
+    /// Returns the dispositions in which each signal has its default one.
     pub fn standard() -> Dispositions
         ensures { result ≡ all_default }
     {
@@ -17,7 +17,7 @@ impl Dispositions {
         }
     }
 
-    /// What the process does with the signal.
+    /// Returns what the process does with the signal.
     pub fn get(&self, signal: Signal) -> Disposition
         ensures { result ≡ disposition_of self.now signal }
     {
@@ -30,8 +30,8 @@ impl Dispositions {
         }
     }
 
-    /// Sets what the process does with the signal. To ignore or catch SIGKILL or SIGSTOP is refused,
-    /// and leaves the dispositions as they were.
+    /// Sets what the process does with the signal. Fails where SIGKILL or SIGSTOP is to be ignored or caught,
+    /// and then leaves the dispositions unchanged.
     pub fn set(&mut self, signal: Signal, disposition: Disposition) -> Result<(), BadDisposition>
         ensures allowed { IsOk result ↔ IsTrue (may_have signal disposition) }
         ensures set { OnOk result (self.new ≡ set_disposition self.old signal disposition) }
@@ -51,7 +51,7 @@ impl Dispositions {
         Ok(())
     }
 
-    /// The dispositions after exec, when no signal is caught.
+    /// Returns the dispositions after exec, which resets each caught signal to its default.
     pub fn after_exec(&self) -> Dispositions
         ensures { result ≡ after_exec self.now }
     {
@@ -61,7 +61,7 @@ impl Dispositions {
         }
     }
 
-    /// The signals whose action is nothing: those ignored, and those that are discarded by default
+    /// Returns the signals whose action is nothing: ignored signals, and those that are discarded by default
     /// and aren't caught.
     pub fn nothing(&self) -> SigSet
         ensures { result ≡ nothing self.now }
@@ -70,7 +70,7 @@ impl Dispositions {
             .union(SigSet::discarded().difference(self.caught))
     }
 
-    /// Whether the signal ends the process.
+    /// Tests whether the signal ends the process.
     pub fn ends(&self, signal: Signal) -> bool
         ensures { result ≡ ends self.now signal }
     {

@@ -1,4 +1,4 @@
-//! The signals by name, as in signal(3).
+//! The names of signals, as in signal(3).
 
 ghost use Rattle.std.specs.Prelude.{◌≡◌};
 ghost use Rattle.signals.specs.Names.{signal_name, by_name};
@@ -6,7 +6,7 @@ ghost use Rattle.signals.specs.Names.{signal_name, by_name};
 use crate::Signal;
 
 impl Signal {
-    /// The signal's name, such as `SIGHUP`.
+    /// Returns the signal's name, such as `SIGHUP`.
     #[tactic(auto, unfolding(crate::specs::Names::table))]
     pub fn name(&self) -> &'static str
         ensures { result.now ≡ signal_name self.now }
@@ -46,7 +46,7 @@ impl Signal {
         }
     }
 
-    /// The signal with this name; `None` where no signal has it.
+    /// Returns the signal with this name, or `None` if no signal has it.
     pub fn by_name(name: &str) -> Option<Signal>
         ensures { result ≡ by_name name.now }
     {

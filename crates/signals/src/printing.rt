@@ -1,4 +1,4 @@
-//! The signals of a set in order, and the text of signals and of sets.
+//! The signals of a set in order, and how signals and sets are printed.
 
 ghost use Rattle.std.specs.Prelude.{◌≡◌, ◌++◌, Some, codes};
 ghost use Rattle.std.specs.Iterator.{YieldsFirst, item_count};
@@ -9,7 +9,7 @@ use crate::{Pass, SigSet, Signal, Signals};
 use std::fmt;
 
 impl SigSet {
-    /// The signals of the set, by rising number.
+    /// Returns the signals of the set, by rising number.
     pub fn signals(&self) -> Signals
         ensures { result ≡ members self.now }
     {
@@ -32,7 +32,7 @@ impl Iterator for Signals {
     }
 }
 
-/// Prints the signals' numbers, rising, with `,` between them, or `none`.
+/// Prints the signals' numbers in rising order, separated by `,`, or `none`.
 impl fmt::Display for SigSet {
     ghost output = { λ set. Some (set_text set) };
 
@@ -73,7 +73,8 @@ impl fmt::Debug for Pass {
     }
 }
 
-/// Prints the type and the signals' names, rising, with ` | ` between them: `SigSet(SIGHUP | SIGKILL)`, `SigSet(0x0)`.
+/// Prints the type and the signals' names in rising order, separated by ` | `:
+/// `SigSet(SIGHUP | SIGKILL)`, `SigSet(0x0)`.
 impl fmt::Debug for SigSet {
     ghost debug_output = { λ set. Some (codes "SigSet(" ++ (named (members set) ++ codes ")")) };
 

@@ -8,14 +8,14 @@ ghost use Rattle.signals.specs.Table.{stop_set, unmaskable_set, discard_set, mas
 use crate::{SigSet, Signal};
 
 impl SigSet {
-    /// The set without a signal.
+    /// Returns the empty set.
     pub fn empty() -> SigSet
         ensures { result ≡ 0 }
     {
         SigSet { bits: 0 }
     }
 
-    /// The set of the one signal.
+    /// Returns the set of this signal alone.
     pub fn of(signal: Signal) -> SigSet
         ensures { result ≡ bit signal }
     {
@@ -24,7 +24,7 @@ impl SigSet {
         }
     }
 
-    /// The signals that stop a process by default.
+    /// Returns the signals that stop a process by default.
     pub fn stops() -> SigSet
         ensures { result ≡ stop_set }
     {
@@ -34,7 +34,7 @@ impl SigSet {
             .with(Signal { number: 22 })
     }
 
-    /// The signals that are discarded by default.
+    /// Returns the signals that are discarded by default.
     pub fn discarded() -> SigSet
         ensures { result ≡ discard_set }
     {
@@ -46,15 +46,15 @@ impl SigSet {
             .with(Signal { number: 29 })
     }
 
-    /// SIGKILL and SIGSTOP, which can't be blocked, ignored or caught.
+    /// Returns SIGKILL and SIGSTOP, which can't be blocked, ignored or caught.
     pub fn unmaskable() -> SigSet
         ensures { result ≡ unmaskable_set }
     {
         SigSet::of(Signal::kill()).with(Signal::stop())
     }
 
-    /// The pending signals that posting the signal takes away: SIGCONT takes away those that stop a
-    /// process, and each of these takes away SIGCONT.
+    /// Returns the pending signals that the posting of this signal removes. SIGCONT removes the signals that
+    /// stop a process, and each of these removes SIGCONT.
     pub fn opposed(signal: Signal) -> SigSet
         ensures { result ≡ opposed signal }
     {
@@ -67,35 +67,35 @@ impl SigSet {
         }
     }
 
-    /// Whether the signal is in the set.
+    /// Tests whether the set contains the signal.
     pub fn contains(&self, signal: Signal) -> bool
         ensures { result ≡ has self.now signal }
     {
         self.bits & SigSet::of(signal).bits != 0
     }
 
-    /// Whether no signal is in the set.
+    /// Tests whether the set is empty.
     pub fn is_empty(&self) -> bool
         ensures { result ≡ (self.now == 0) }
     {
         self.bits == 0
     }
 
-    /// The set with the signal.
+    /// Returns the set with the signal added.
     pub fn with(&self, signal: Signal) -> SigSet
         ensures { result ≡ with self.now signal }
     {
         self.union(SigSet::of(signal))
     }
 
-    /// The set without the signal.
+    /// Returns the set with the signal removed.
     pub fn without(&self, signal: Signal) -> SigSet
         ensures { result ≡ without self.now (bit signal) }
     {
         self.difference(SigSet::of(signal))
     }
 
-    /// The signals of both sets.
+    /// Returns the signals of either set.
     pub fn union(&self, other: SigSet) -> SigSet
         ensures { result ≡ bit_or self.now other }
     {
@@ -104,7 +104,7 @@ impl SigSet {
         }
     }
 
-    /// The signals of the set that aren't in the other.
+    /// Returns the signals of this set that are not in the other.
     pub fn difference(&self, other: SigSet) -> SigSet
         ensures { result ≡ without self.now other }
     {
@@ -113,21 +113,21 @@ impl SigSet {
         }
     }
 
-    /// The signals of the set that may be blocked.
+    /// Returns the signals of the set that can be blocked.
     pub fn maskable(&self) -> SigSet
         ensures { result ≡ maskable self.now }
     {
         self.difference(SigSet::unmaskable())
     }
 
-    /// The signal of the least number in the set; `None` where the set is empty.
+    /// Returns the signal with the least number in the set, or `None` if the set is empty.
     pub fn lowest(&self) -> Option<Signal>
         ensures { result ≡ lowest self.now }
     {
         Signal::new(self.bits.trailing_zeros() + 1).ok()
     }
 
-    /// The set as a number, in which signal n has bit n - 1.
+    /// Returns the set as a number: bit n - 1 is signal n.
     pub fn bits(&self) -> u32
         ensures bits { result ≡ self.now }
         ensures below { result < 2 ^ 31 }

@@ -1,12 +1,14 @@
 //! Handlers of trace stops.
 //!
-//! A handler keeps what answers about stops, mostly a closure, beside a policy, and the fact that it may be asked about
-//! every stop and then answers as the policy decides. Who makes a handler proves this fact.
+//! A handler keeps a policy and a decider, mostly a closure, which answers about stops. It also keeps the fact
+//! that the decider may be asked about every stop and then answers as the policy decides. The code that makes
+//! a handler proves this fact.
 //!
-//! A closure `|view: &StopView| ..` can be made into a handler where it may be called on every stop, its answer follows from the stop alone, and
-//! this answer is the policy's. It can call `Policy::decide` of a copy of the policy, or decide by cases of its own. It is handed in as
-//! `ByClosure(closure)`. A closure that answers anything else for some stop, or whose answer follows something that others change, as
-//! a counter, makes no handler: what `Handler::new` requires can't be shown of it.
+//! A closure `|view: &StopView| ..` can become a handler if it may be called on every stop, its answer depends on
+//! the stop alone, and this answer is the policy's. It can call `Policy::decide` on a copy of the policy, or decide
+//! by cases of its own. It is passed as `ByClosure(closure)`. Some closures can't become a handler: those that
+//! answer anything else for some stop, and those whose answer depends on something that others change, such as a
+//! counter. For them, what `Handler::new` requires can't be proved.
 ghost use Rattle.std.specs.Prelude.{⊤, ◌≡◌};
 ghost use Rattle.std.specs.Fn.{FnReturnsAt};
 ghost use Rattle.stop_handlers.specs.Decide.{decide};
@@ -25,7 +27,7 @@ pub trait Decider {
     /// It may give this answer about the stop.
     ghost gives: { Self → StopView → Decision → Type 0 };
 
-    /// The answer about a stop.
+    /// Returns the answer about a stop.
     fn answer(&self, view: &StopView) -> Decision
         requires { can_ask self.now }
         ensures { gives self.now view.now result };
@@ -59,7 +61,7 @@ impl Decider for ByPolicy {
     }
 }
 
-/// A decider beside the policy that it answers by. Contracts see a handler as its policy's rules.
+/// A policy with a decider that answers as it decides. Contracts see a handler as its policy's rules.
 #[derive(Drop)]
 pub struct Handler<F: Decider + Send + Drop> {
     policy: Policy,
@@ -79,7 +81,7 @@ impl<F: Decider + Send + Drop> Model for Handler<F> {
 }
 
 impl<F: Decider + Send + Drop> Handler<F> {
-    /// The handler of a decider that may be asked about every stop, and each of whose answers is the policy's.
+    /// Returns the handler of a decider that may be asked about every stop, and whose answers are all the policy's.
     pub fn new(policy: Policy, decider: F) -> Handler<F>
         requires askable { F.can_ask decider }
         requires obeys { Obeys (F.gives decider) policy }
@@ -88,14 +90,14 @@ impl<F: Decider + Send + Drop> Handler<F> {
         Handler { policy, decider }
     }
 
-    /// The policy that the handler answers by.
+    /// Returns the policy that the handler follows.
     pub fn policy(&self) -> Policy
         ensures { result ≡ self.now }
     {
         self.policy
     }
 
-    /// The decider's answer about the stop, which is what the policy decides.
+    /// Returns the decider's answer about the stop, which is what the policy decides.
     pub fn ask(&self, view: &StopView) -> Decision
         ensures { result ≡ decide self.now view.now }
     {

@@ -5,7 +5,7 @@ use crate::rules::{are_same, idle};
 use crate::{Decision, Policy, Rule, StopView, TooManyRules};
 
 impl Policy {
-    /// The policy of these rules, in their order. More than 16 are refused.
+    /// Returns the policy of these rules, in their order. Fails for more than 16 rules.
     pub fn new(rules: &[Rule]) -> Result<Policy, TooManyRules>
         ensures { OkIff result (length rules.now ≤ 16) rules.now }
     {
@@ -20,21 +20,21 @@ impl Policy {
         })
     }
 
-    /// The rules, in their order.
+    /// Returns the rules, in their order.
     pub fn rules(&self) -> &[Rule]
         ensures { result.now ≡ self.now }
     {
         &self.rules[..self.count]
     }
 
-    /// Whether both policies have the same rules in the same order.
+    /// Tests whether both policies have the same rules in the same order.
     pub fn is_same(&self, other: &Policy) -> bool
         ensures { IsTrue result ↔ (self.now ≡ other.now) }
     {
         are_same(self.rules(), other.rules())
     }
 
-    /// The decision of the first rule that fits the stop, or else to decline.
+    /// Returns the decision of the first rule that fits the stop, or `Decline` if none fits.
     pub fn decide(&self, view: &StopView) -> Decision
         ensures { result ≡ decide self.now view.now }
     {

@@ -7,7 +7,7 @@ use bitflags::Flags;
 use event_masks::StopFlags;
 
 impl Rule {
-    /// Whether the rule decides the stop: it names the stop's signal or none, and the stop shows all of its flags.
+    /// Tests whether the rule decides the stop: it names the stop's signal or none, and the stop shows all its flags.
     pub fn fits(&self, view: &StopView) -> bool
         ensures { result ≡ fits view.now self.now }
     {
@@ -19,7 +19,7 @@ impl Rule {
     }
 }
 
-/// What fills up a policy's array.
+/// Returns the rule that fills up a policy's array.
 pub(crate) fn idle() -> Rule
     ensures { result ≡ idle }
 {
@@ -30,7 +30,7 @@ pub(crate) fn idle() -> Rule
     }
 }
 
-/// Whether two lists of rules are one and the same.
+/// Tests whether two lists of rules are the same.
 pub(crate) fn are_same(left: &[Rule], right: &[Rule]) -> bool
     ensures { IsTrue result ↔ (left.now ≡ right.now) }
 {

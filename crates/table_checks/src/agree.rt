@@ -1,4 +1,4 @@
-//! What each reader of the tables answers, against the lists.
+//! Compares the answers of each reader of the tables with those of the lists.
 
 use crate::edits::{next_born, next_sibling};
 use crate::plain::{Plain, first_tid};
@@ -7,13 +7,13 @@ use lwp_table::{LwpData, LwpTable};
 use pid_blocks::{Pid, Tid, Uid};
 use proc_table::Tables;
 
-/// Numbers about the borders of what processes, LWPs and users have.
+/// Numbers at the borders of the numbers of processes, LWPs and users.
 const BORDERS: [u32; 16] = [
     0, 1, 999, 1000, 1999, 2000, 3999, 4000, 64999, 65000, 99999, 100000, 104000, 355999, 356000,
     4294967295,
 ];
 
-/// Every reader, at every row and about it.
+/// Compares every reader, at every row and next to it.
 pub fn all(tally: &mut Tally, tables: &Tables, plain: &Plain, users: &[Uid]) {
     lwps(tally, tables, plain);
     for row in &plain.processes {
@@ -29,7 +29,7 @@ pub fn all(tally: &mut Tally, tables: &Tables, plain: &Plain, users: &[Uid]) {
     }
 }
 
-/// The readers at each LWP, by its place and by its number.
+/// Compares the readers at each LWP, by its place and by its number.
 fn lwps(tally: &mut Tally, tables: &Tables, plain: &Plain) {
     for (place, row) in plain.lwps.iter().enumerate() {
         let same = tables.lwp_at(place) == Some(*row);
@@ -40,7 +40,7 @@ fn lwps(tally: &mut Tally, tables: &Tables, plain: &Plain) {
     tally.see("lwp_at past the last", past, 0, 0);
 }
 
-/// The readers at an LWP's number.
+/// Compares the readers at an LWP's number.
 pub fn lwp(tally: &mut Tally, tables: &Tables, plain: &Plain, tid: Tid) {
     let number = tid.get();
     let same = tables.lwp(tid) == plain.lwp(number);
@@ -49,7 +49,7 @@ pub fn lwp(tally: &mut Tally, tables: &Tables, plain: &Plain, tid: Tid) {
     tally.see("next_lwp", same, 0, number);
 }
 
-/// The readers at a process's number.
+/// Compares the readers at a process's number.
 pub fn process(tally: &mut Tally, tables: &Tables, plain: &Plain, pid: Pid) {
     let number = pid.get();
     let same = tables.process(pid) == plain.process(number);
@@ -65,7 +65,7 @@ pub fn process(tally: &mut Tally, tables: &Tables, plain: &Plain, pid: Pid) {
     }
 }
 
-/// The tracees and the children of a process, above a number.
+/// Compares the tracees and the children of a process, above a number.
 fn links(tally: &mut Tally, tables: &Tables, plain: &Plain, pid: Pid, after: u32) {
     let same = tables.next_tracee(pid, after) == plain.next_tracee(pid, after);
     tally.see("next_tracee", same, pid.get(), after);
@@ -73,7 +73,7 @@ fn links(tally: &mut Tally, tables: &Tables, plain: &Plain, pid: Pid, after: u32
     tally.see("next_child", same, pid.get(), after);
 }
 
-/// The readers at a user, and what the user sees of each row.
+/// Compares the readers at a user, and the rows that the user sees.
 pub fn user(tally: &mut Tally, tables: &Tables, plain: &Plain, uid: Uid) {
     counts(tally, tables, plain, uid);
     fresh(tally, tables, plain, uid);
@@ -89,7 +89,7 @@ pub fn user(tally: &mut Tally, tables: &Tables, plain: &Plain, uid: Uid) {
     }
 }
 
-/// How many rows a user has.
+/// Compares how many rows a user has.
 fn counts(tally: &mut Tally, tables: &Tables, plain: &Plain, uid: Uid) {
     let same = tables.process_count(uid) == plain.process_count(uid);
     tally.see("process_count", same, uid.get(), 0);
@@ -97,7 +97,7 @@ fn counts(tally: &mut Tally, tables: &Tables, plain: &Plain, uid: Uid) {
     tally.see("lwp_count_of", same, uid.get(), 0);
 }
 
-/// A user's next numbers, and where the search for them begins.
+/// Compares a user's next numbers, and where the search for them begins.
 fn fresh(tally: &mut Tally, tables: &Tables, plain: &Plain, uid: Uid) {
     let same = tables.pid_cursor(uid) == plain.pid_cursor(uid);
     tally.see("pid_cursor", same, uid.get(), 0);
@@ -109,7 +109,7 @@ fn fresh(tally: &mut Tally, tables: &Tables, plain: &Plain, uid: Uid) {
     tally.see("fresh_tid", same, uid.get(), 0);
 }
 
-/// What a user sees at a number, which may be nobody's.
+/// Compares what a user sees at a number, which may be unused.
 fn sight(tally: &mut Tally, tables: &Tables, plain: &Plain, uid: Uid, number: u32) {
     let same = tables.find_seen(uid, number) == plain.find_seen(uid, number);
     tally.see("find_seen", same, uid.get(), number);
@@ -121,7 +121,7 @@ fn sight(tally: &mut Tally, tables: &Tables, plain: &Plain, uid: Uid, number: u3
     tally.see("next_of", same, uid.get(), number);
 }
 
-/// The readers of a table of LWPs alone, against a list.
+/// Compares the readers of a separate table of LWPs with a list.
 pub fn lwp_table(tally: &mut Tally, table: &LwpTable, rows: &[LwpData], users: &[Uid]) {
     let same = table.iter().eq(rows.iter().copied());
     tally.see("iter", same, 0, 0);
@@ -141,13 +141,13 @@ pub fn lwp_table(tally: &mut Tally, table: &LwpTable, rows: &[LwpData], users: &
     }
 }
 
-/// The next row of the process after this place.
+/// Returns the next row of the process after this place.
 fn later(rows: &[LwpData], place: usize, pid: Pid) -> Option<LwpData> {
     let mut later = rows.iter().copied().skip(place.saturating_add(1));
     later.find(|row| row.pid == pid)
 }
 
-/// How many rows have a number of the user's.
+/// Returns how many rows have a number of the user.
 fn own_count(rows: &[LwpData], uid: Uid) -> usize {
     let first = first_tid(uid);
     let own = first..first + 4000;
@@ -156,7 +156,7 @@ fn own_count(rows: &[LwpData], uid: Uid) -> usize {
         .count()
 }
 
-/// The readers at a process of a table of LWPs alone.
+/// Compares the readers of a separate table of LWPs at a process.
 fn of_process(tally: &mut Tally, table: &LwpTable, rows: &[LwpData], pid: Pid) {
     let number = pid.get();
     let own = rows.iter().copied().filter(|row| row.pid == pid);

@@ -1,4 +1,4 @@
-//! Edits made to the tables and to the lists, which must answer alike.
+//! Makes edits to the tables and to the lists, which must give the same answers.
 
 use crate::dice::Dice;
 use crate::plain::Plain;
@@ -11,12 +11,12 @@ use proc_table::{ProcData, State, Tables};
 use signals::{Dispositions, SigSet, Signal};
 use std::alloc::{AllocError, Global};
 
-/// How many processes and LWPs a user may have here.
+/// The most processes and LWPs of a user here.
 const PROCESSES: usize = 12;
 
 const LWPS: usize = 30;
 
-/// The tables, the lists and what comes next.
+/// The tables, the lists, the comparisons so far and the dice.
 #[derive(Drop)]
 pub struct Both {
     tables: Tables,
@@ -55,22 +55,22 @@ impl Both {
         self.plain.tid_cursor(uid)
     }
 
-    /// What must hold, beside the readers.
+    /// Counts a further comparison besides the readers: `holds` must be true.
     pub fn see(&mut self, of: &'static str, holds: bool, number: u32) {
         self.tally.see(of, holds, 0, number);
     }
 
-    /// Every reader, at every row and about it, and at the users.
+    /// Compares every reader, at every row and next to it, and at the users.
     pub fn compare(&mut self, users: &[Uid]) {
         agree::all(&mut self.tally, &self.tables, &self.plain, users);
     }
 
-    /// The readers at a user.
+    /// Compares the readers at a user.
     pub fn compare_user(&mut self, uid: Uid) {
         agree::user(&mut self.tally, &self.tables, &self.plain, uid);
     }
 
-    /// A number of a process of the user, or of anyone, or of nobody.
+    /// Returns a process number: of the user, of any user, or unused.
     fn someone(&mut self, uid: Uid) -> Option<Pid> {
         match self.dice.roll() % 8 {
             0 => Pid::new(1000 * (uid.get() - 1000) + self.dice.roll() % 1000),
@@ -83,7 +83,7 @@ impl Both {
         }
     }
 
-    /// A row for the process, with a tracer and a parent that may be nobody's.
+    /// Returns a row for the process. The numbers of its tracer and its parent may be unused.
     fn row(&mut self, pid: Pid, uid: Uid) -> ProcData {
         let roll = self.dice.roll();
         let tracer = if roll % 3 == 0 {
@@ -116,7 +116,7 @@ impl Both {
         }
     }
 
-    /// A new process, also where the user has one too many or the names are refused.
+    /// Adds a process, also where the user has one too many or the row is refused.
     pub fn spawn(&mut self, uid: Uid) -> Result<(), AllocError> {
         let Some(pid) = self.plain.fresh_pid(uid) else {
             return Ok(());
@@ -133,7 +133,7 @@ impl Both {
         Ok(())
     }
 
-    /// A process's row changed, its tracer and its parent moved.
+    /// Changes a process's row, with its tracer and its parent.
     pub fn turn(&mut self) {
         if let Some(was) = self.dice.pick(self.plain.processes.as_slice()) {
             let row = self.row(was.pid, was.uid);
@@ -144,7 +144,7 @@ impl Both {
         }
     }
 
-    /// A process out, if no row names it.
+    /// Removes a process, if no row names it.
     pub fn forget(&mut self, pid: Pid) {
         let made = self.plain.forget(pid);
         let same = edits::forget(&mut self.tables, pid) == made;
@@ -152,14 +152,14 @@ impl Both {
         agree::process(&mut self.tally, &self.tables, &self.plain, pid);
     }
 
-    /// A row in the place of the one with its number.
+    /// Replaces the row with this number.
     fn put(&mut self, row: ProcData) {
         let made = self.plain.turn(row);
         let same = made && edits::turn(&mut self.tables, row);
         self.tally.see("turn", same, 0, row.pid.get());
     }
 
-    /// A process's first LWP out, and its first tracee and its first child let go.
+    /// Removes a process's first LWP, and releases its first tracee and its first child.
     fn release(&mut self, pid: Pid) {
         let lwp = self.plain.first_lwp(pid);
         if let Some(row) = lwp {
@@ -178,7 +178,7 @@ impl Both {
         }
     }
 
-    /// Some process out, once no row names it.
+    /// Removes some process, once no row names it.
     pub fn clear(&mut self) {
         let picked = self.dice.pick(self.plain.processes.as_slice());
         if let Some(row) = picked {
@@ -191,7 +191,7 @@ impl Both {
         }
     }
 
-    /// A new LWP of a process, which may be another user's.
+    /// Adds an LWP to a process, which may be another user's.
     pub fn start(&mut self, uid: Uid) -> Result<(), AllocError> {
         let (Some(tid), Some(pid)) = (self.plain.fresh_tid(uid), self.someone(uid)) else {
             return Ok(());
@@ -207,7 +207,7 @@ impl Both {
         Ok(())
     }
 
-    /// An LWP's row changed.
+    /// Changes an LWP's row.
     pub fn change(&mut self) {
         if let Some(was) = self.dice.pick(self.plain.lwps.as_slice()) {
             let roll = self.dice.roll();
@@ -224,7 +224,7 @@ impl Both {
         }
     }
 
-    /// An LWP out.
+    /// Removes an LWP.
     pub fn stop(&mut self, row: LwpData) {
         let made = self.plain.stop(row.tid);
         let same = edits::stop(&mut self.tables, row.tid) == made;
@@ -232,7 +232,7 @@ impl Both {
         agree::lwp(&mut self.tally, &self.tables, &self.plain, row.tid);
     }
 
-    /// The oldest LWP out.
+    /// Removes the oldest LWP.
     pub fn stop_oldest(&mut self) {
         let oldest = self.plain.lwps.first().copied();
         if let Some(row) = oldest {
@@ -240,7 +240,7 @@ impl Both {
         }
     }
 
-    /// An edit of some kind.
+    /// Makes an edit of some kind.
     pub fn edit(&mut self, users: &[Uid]) -> Result<(), AllocError> {
         let Some(uid) = self.dice.pick(users) else {
             return Ok(());

@@ -1,4 +1,4 @@
-//! Numbers by a fixed rule.
+//! Pseudo-random numbers, by a fixed rule.
 
 /// A sequence of numbers that look random, the same in each run.
 #[derive(Drop)]
@@ -11,7 +11,7 @@ impl Dice {
         Dice { seed }
     }
 
-    /// The next number.
+    /// Returns the next number.
     pub fn roll(&mut self) -> u32 {
         self.seed = self
             .seed
@@ -20,7 +20,7 @@ impl Dice {
         (self.seed >> 33) as u32
     }
 
-    /// One of the items; `None` where there is none.
+    /// Returns one of the items; `None` where there is none.
     pub fn pick<T: Copy>(&mut self, items: &[T]) -> Option<T> {
         let at = self.roll() as usize;
         if items.is_empty() {

@@ -1,4 +1,4 @@
-//! Edits of tables that first ask the tables whether they may be made, and answer whether they were.
+//! Edits of tables. Each first checks whether it may be made, and returns whether it was.
 
 ghost use Rattle.std.specs.Prelude.{◌≡◌, IsTrue, IfSome};
 ghost use Rattle.proc_table.specs.Fresh.{is_process};
@@ -10,21 +10,21 @@ use pid_blocks::{Pid, Tid, Uid};
 use proc_table::{ProcData, Tables};
 use std::alloc::AllocError;
 
-/// Whether a process has the number.
+/// Returns whether a process has the number.
 fn has(tables: &Tables, number: u32) -> bool
     ensures { result ≡ is_process tables.now.rows number }
 {
     tables.numbered(number).is_some()
 }
 
-/// Whether the user has the process.
+/// Returns whether the user has the process.
 fn owns_process(tables: &Tables, uid: Uid, pid: Pid) -> bool
     ensures { result ≡ owns uid pid tables.now.rows.processes }
 {
     tables.seen_process(uid, pid.get()).is_some()
 }
 
-/// Whether the tracer, if there is one, is a process.
+/// Returns whether the tracer, if there is one, is a process.
 fn has_tracer(tables: &Tables, tracer: Option<Pid>) -> bool
     ensures { IsTrue result → IfSome tracer (IsRow tables.now.rows) }
 {
@@ -34,7 +34,7 @@ fn has_tracer(tables: &Tables, tracer: Option<Pid>) -> bool
     }
 }
 
-/// Whether the row's tracer and parent are processes of the tables.
+/// Returns whether the row's tracer and parent are processes of the tables.
 fn names_rows(tables: &Tables, row: ProcData) -> bool
     ensures { IsTrue result → Named tables.now.rows row }
 {
@@ -56,8 +56,8 @@ pub fn spawn(tables: &mut Tables, row: ProcData) -> Result<bool, AllocError> {
     Ok(true)
 }
 
-/// Puts a row in the place of the one with its number, if there is one, of the same user, and its
-/// tracer and parent are processes.
+/// Replaces the row with this number, if there is one, it is of the same user, and the new row's tracer and parent are
+/// processes.
 pub fn turn(tables: &mut Tables, row: ProcData) -> bool {
     let Some(was) = tables.process(row.pid) else {
         return false;
@@ -69,7 +69,7 @@ pub fn turn(tables: &mut Tables, row: ProcData) -> bool {
     true
 }
 
-/// Takes a process out, if there is one with the number and no row names it.
+/// Removes the process with this number, if there is one and no row names it.
 pub fn forget(tables: &mut Tables, pid: Pid) -> bool {
     if tables.next_tracee(pid, 0).is_some()
         || tables.next_child(pid, 0).is_some()
@@ -82,7 +82,7 @@ pub fn forget(tables: &mut Tables, pid: Pid) -> bool {
     true
 }
 
-/// Adds an LWP, if its number is the next of the user, who has its process.
+/// Adds an LWP, if its number is the next of the user and its process is the user's.
 pub fn start(tables: &mut Tables, uid: Uid, row: LwpData) -> Result<bool, AllocError> {
     tables.reserve_lwp(1)?;
     let Some(tid) = tables.fresh_tid(uid) else {
@@ -95,7 +95,7 @@ pub fn start(tables: &mut Tables, uid: Uid, row: LwpData) -> Result<bool, AllocE
     Ok(true)
 }
 
-/// Puts a row in the place of the one with its number, if there is one, of the same process.
+/// Replaces the row with this number, if there is one and it is of the same process.
 pub fn change(tables: &mut Tables, row: LwpData) -> bool {
     let Some(was) = tables.lwp(row.tid) else {
         return false;
@@ -107,7 +107,7 @@ pub fn change(tables: &mut Tables, row: LwpData) -> bool {
     true
 }
 
-/// Takes an LWP out, if there is one with the number.
+/// Removes the LWP with this number, if there is one.
 pub fn stop(tables: &mut Tables, tid: Tid) -> bool {
     if tables.lwp(tid).is_none() {
         return false;
@@ -116,7 +116,7 @@ pub fn stop(tables: &mut Tables, tid: Tid) -> bool {
     true
 }
 
-/// The LWP of the same process that was born next after this one.
+/// Returns the LWP of the same process that was born next after this one.
 pub fn next_sibling(tables: &Tables, tid: Tid) -> Option<LwpData> {
     match tables.lwp(tid) {
         Some(row) => tables.next_lwp(row.pid, tid),
@@ -124,7 +124,7 @@ pub fn next_sibling(tables: &Tables, tid: Tid) -> Option<LwpData> {
     }
 }
 
-/// Adds an LWP to a table of LWPs alone, if its number is free.
+/// Adds an LWP to a separate table of LWPs, if its number is free.
 pub fn admit(table: &mut LwpTable, row: LwpData) -> Result<bool, AllocError> {
     table.reserve(1)?;
     if table.has(row.tid) {
@@ -134,7 +134,7 @@ pub fn admit(table: &mut LwpTable, row: LwpData) -> Result<bool, AllocError> {
     Ok(true)
 }
 
-/// Puts a row in the place of the one with its number, if there is one, of the same process.
+/// Replaces the row with this number, if there is one and it is of the same process.
 pub fn replace(table: &mut LwpTable, row: LwpData) -> bool {
     let Some(was) = table.get(row.tid) else {
         return false;
@@ -146,7 +146,7 @@ pub fn replace(table: &mut LwpTable, row: LwpData) -> bool {
     true
 }
 
-/// Takes an LWP out of a table of LWPs alone, if there is one with the number.
+/// Removes the LWP with this number from a separate table of LWPs, if there is one.
 pub fn dismiss(table: &mut LwpTable, tid: Tid) -> bool {
     if table.get(tid).is_none() {
         return false;
@@ -155,7 +155,7 @@ pub fn dismiss(table: &mut LwpTable, tid: Tid) -> bool {
     true
 }
 
-/// The LWP of the same process that was born next after this one.
+/// Returns the LWP of the same process that was born next after this one.
 pub fn next_born(table: &LwpTable, tid: Tid) -> Option<LwpData> {
     match table.get(tid) {
         Some(row) => table.next_of(row.pid, tid),

@@ -1,4 +1,4 @@
-//! Edits made to a table of LWPs alone and to a list, which must answer alike.
+//! Makes edits to a separate table of LWPs and to a list, which must give the same answers.
 
 use crate::dice::Dice;
 use crate::edits;
@@ -8,7 +8,7 @@ use pid_blocks::{Pid, Tid};
 use signals::SigSet;
 use std::alloc::AllocError;
 
-/// A row of one of three users, at one of 24 numbers of LWPs and of five of processes.
+/// Returns a row of one of three users, at one of 24 LWP numbers and one of five process numbers.
 fn row(roll: u32) -> Option<LwpData> {
     let user = roll % 3;
     let tid = Tid::new(100000 + 4000 * user + roll / 3 % 24)?;
@@ -16,7 +16,7 @@ fn row(roll: u32) -> Option<LwpData> {
     Some(LwpData::born(tid, pid, SigSet::empty(), Due::Begun))
 }
 
-/// A birth, if the number is free.
+/// Adds an LWP, if the number is free.
 fn admit(
     tally: &mut Tally,
     table: &mut LwpTable,
@@ -32,7 +32,7 @@ fn admit(
     Ok(())
 }
 
-/// The row stepping, in the place of the one of the same process with its number.
+/// Replaces the row of the same process with this number by the row, stepping.
 fn replace(tally: &mut Tally, table: &mut LwpTable, rows: &mut [LwpData], row: LwpData) {
     let mut made = false;
     for other in rows.iter_mut() {
@@ -49,7 +49,7 @@ fn replace(tally: &mut Tally, table: &mut LwpTable, rows: &mut [LwpData], row: L
     tally.see("set", same, 0, row.tid.get());
 }
 
-/// An end.
+/// Removes an LWP.
 fn dismiss(tally: &mut Tally, table: &mut LwpTable, rows: &mut Vec<LwpData>, tid: Tid) {
     let before = rows.len();
     rows.retain(|other| other.tid != tid);
@@ -57,7 +57,7 @@ fn dismiss(tally: &mut Tally, table: &mut LwpTable, rows: &mut Vec<LwpData>, tid
     tally.see("remove", same, 0, tid.get());
 }
 
-/// A birth, a change or an end.
+/// Adds, changes or removes an LWP.
 pub fn edit_lwps(
     tally: &mut Tally,
     table: &mut LwpTable,

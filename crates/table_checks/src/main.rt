@@ -1,8 +1,8 @@
 //! Compares the tables of processes and LWPs with plain lists.
 //!
-//! A fixed rule makes some sixteen thousand edits, each made to the tables and to lists that are gone through by loops. What each reader
-//! answers must then be the same. The program prints how much it compared, which is the same in each run, and ends with status 1 where
-//! anything differs.
+//! A fixed rule makes some sixteen thousand edits, each to the tables and to lists that loops search. Then each reader
+//! must give the same answers. The program prints how much it compared, which is the same in each run, and ends with
+//! status 1 where anything differs.
 #![tactic(auto)]
 
 mod agree;
@@ -20,24 +20,24 @@ use std::alloc::AllocError;
 use std::io;
 use tally::{Difference, Tally};
 
-/// How many rounds of edits there are, of the tables and of a table of LWPs alone.
+/// The number of rounds of edits, of the tables and of a separate table of LWPs.
 const ROUNDS: usize = 1000;
 
-/// How many processes and LWPs one user bears, more than a block has numbers.
+/// The number of processes and LWPs that one user creates: more than a block has numbers.
 const PROCESSES: usize = 2500;
 
 const LWPS: usize = 5500;
 
-/// Why the program ends with status 1.
+/// The reason why the program ends with status 1.
 #[derive(Debug, Drop)]
 enum Trouble {
-    /// Something differs, first this.
+    /// Something differs. This is the first difference.
     Differs(Difference),
-    /// A number is no user's.
+    /// No user has the number.
     User,
     /// Memory ran out.
     Memory,
-    /// Nothing could be printed.
+    /// Printing failed.
     Print,
 }
 
@@ -59,7 +59,7 @@ impl From<io::Error> for Trouble {
     }
 }
 
-/// The first difference, as the program's end.
+/// Returns the first difference as an error.
 fn judge(tally: &Tally) -> Result<(), Trouble> {
     match tally.first() {
         Some(difference) => Err(Trouble::Differs(difference)),

@@ -1,4 +1,4 @@
-//! The rows of a host in two plain lists, gone through by loops.
+//! The rows of a host in two plain lists, which loops search.
 
 ghost use Rattle.std.specs.Prelude.{◌≤◌};
 
@@ -17,14 +17,14 @@ pub struct Plain {
     tid_cursors: [u32; 64],
 }
 
-/// The user's first process number.
+/// Returns the user's first process number.
 fn first_pid(uid: Uid) -> u32
     ensures { result ≤ 64000 }
 {
     1000 * (uid.get() - 1000)
 }
 
-/// The user's first LWP number.
+/// Returns the user's first LWP number.
 pub fn first_tid(uid: Uid) -> u32
     ensures { result ≤ 352000 }
 {
@@ -74,7 +74,7 @@ impl Plain {
         None
     }
 
-    /// The LWP of the same process that was born next after this one.
+    /// Returns the LWP of the same process that was born next after this one.
     pub fn next_sibling(&self, tid: Tid) -> Option<LwpData> {
         let row = self.lwp(tid.get())?;
         let mut passed = false;
@@ -128,7 +128,7 @@ impl Plain {
         }
     }
 
-    /// The user's process that a number names: up to 99999 its own number, above that an LWP's.
+    /// Returns the user's process that a number names. A number up to 99999 is a process's, a greater one an LWP's.
     pub fn find_seen(&self, uid: Uid, number: u32) -> Option<Pid> {
         if number < 100000 {
             match self.seen_process(uid, number) {
@@ -151,7 +151,7 @@ impl Plain {
         self.lwps.iter().filter(|l| l.pid == pid).count()
     }
 
-    /// How many LWPs the user's processes have.
+    /// Returns how many LWPs the user's processes have.
     pub fn lwp_count_of(&self, uid: Uid) -> usize {
         self.lwps
             .iter()
@@ -167,7 +167,7 @@ impl Plain {
         self.tid_cursors[uid.slot()]
     }
 
-    /// The first number of the user's block that no process has, from the cursor on and round.
+    /// Returns the first number of the user's block that no process has, from the cursor on and then from the start.
     pub fn fresh_pid(&self, uid: Uid) -> Option<Pid> {
         let first = first_pid(uid);
         let from = self.pid_cursor(uid).wrapping_sub(first);
@@ -180,7 +180,7 @@ impl Plain {
         None
     }
 
-    /// The first number of the user's block that no LWP has, from the cursor on and round.
+    /// Returns the first number of the user's block that no LWP has, from the cursor on and then from the start.
     pub fn fresh_tid(&self, uid: Uid) -> Option<Tid> {
         let first = first_tid(uid);
         let from = self.tid_cursor(uid).wrapping_sub(first);
@@ -193,7 +193,7 @@ impl Plain {
         None
     }
 
-    /// Whether the row's tracer and parent are processes.
+    /// Returns whether the row's tracer and parent are processes.
     fn names_rows(&self, row: ProcData) -> bool {
         if let Some(tracer) = row.tracer {
             if self.process(tracer.get()).is_none() {
@@ -219,8 +219,8 @@ impl Plain {
         Ok(true)
     }
 
-    /// Puts a row in the place of the one with its number, if there is one, of the same user, and
-    /// its tracer and parent are processes.
+    /// Replaces the row with this number, if there is one, it is of the same user, and the new row's tracer and parent
+    /// are processes.
     pub fn turn(&mut self, row: ProcData) -> bool {
         if self.seen_process(row.uid, row.pid.get()).is_none() || !self.names_rows(row) {
             return false;
@@ -233,7 +233,7 @@ impl Plain {
         true
     }
 
-    /// Takes a process out, if there is one with the number and no row names it.
+    /// Removes the process with this number, if there is one and no row names it.
     pub fn forget(&mut self, pid: Pid) -> bool {
         let mut found = false;
         for p in &self.processes {
@@ -249,7 +249,7 @@ impl Plain {
         true
     }
 
-    /// Adds an LWP, if its number is the next of the user, who has its process.
+    /// Adds an LWP, if its number is the next of the user and its process is the user's.
     pub fn start(&mut self, uid: Uid, row: LwpData) -> Result<bool, AllocError> {
         if self.fresh_tid(uid) != Some(row.tid) || self.seen_process(uid, row.pid.get()).is_none() {
             return Ok(false);
@@ -261,7 +261,7 @@ impl Plain {
         Ok(true)
     }
 
-    /// Puts a row in the place of the one with its number, if there is one, of the same process.
+    /// Replaces the row with this number, if there is one and it is of the same process.
     pub fn change(&mut self, row: LwpData) -> bool {
         let mut made = false;
         for l in self.lwps.iter_mut() {
@@ -273,7 +273,7 @@ impl Plain {
         made
     }
 
-    /// Takes an LWP out, if there is one with the number.
+    /// Removes the LWP with this number, if there is one.
     pub fn stop(&mut self, tid: Tid) -> bool {
         let before = self.lwps.len();
         self.lwps.retain(|l| l.tid != tid);

@@ -1,4 +1,4 @@
-//! Rounds of edits, and what every reader answers between them.
+//! Rounds of edits, with a comparison of every reader after each.
 
 use crate::agree;
 use crate::both::Both;
@@ -9,10 +9,10 @@ use lwp_table::{LwpData, LwpTable};
 use pid_blocks::Uid;
 use std::alloc::{AllocError, Global};
 
-/// After so many edits every reader is asked.
+/// The number of edits in a round.
 pub const ROUND: usize = 4;
 
-/// A round of mixed edits of the users.
+/// Makes a round of mixed edits of the users.
 fn edits(both: &mut Both, users: &[Uid]) -> Result<(), AllocError> {
     for _ in 0..ROUND {
         both.edit(users)?;
@@ -20,8 +20,8 @@ fn edits(both: &mut Both, users: &[Uid]) -> Result<(), AllocError> {
     Ok(())
 }
 
-/// Mixed edits of the users, with the readers after each round, also at a user who has nothing. There must be more than 24 processes
-/// and more than 24 LWPs at some time.
+/// Makes mixed edits of the users, and compares the readers after each round, also at a user without rows. At some time
+/// there must be more than 24 processes and more than 24 LWPs.
 pub fn mixed_edits(
     alloc: Global,
     rounds: usize,
@@ -43,7 +43,7 @@ pub fn mixed_edits(
     Ok(both.tally())
 }
 
-/// Births of processes of a user, whose numbers must go round their block.
+/// Adds processes of a user. Their numbers must wrap around their block.
 fn processes_go_round(both: &mut Both, uid: Uid, births: usize) -> Result<(), AllocError> {
     let mut round = false;
     for _ in 0..births {
@@ -55,7 +55,7 @@ fn processes_go_round(both: &mut Both, uid: Uid, births: usize) -> Result<(), Al
     Ok(())
 }
 
-/// An LWP of the user more, and the oldest out, but for some turns in a row.
+/// Adds an LWP of the user, and removes the oldest one except for some turns in a row.
 fn start_and_stop(both: &mut Both, uid: Uid, turn: usize) -> Result<(), AllocError> {
     both.start(uid)?;
     if turn % 500 > 20 {
@@ -64,7 +64,7 @@ fn start_and_stop(both: &mut Both, uid: Uid, turn: usize) -> Result<(), AllocErr
     Ok(())
 }
 
-/// Births and ends of LWPs of a user, whose numbers must go round their block.
+/// Adds and removes LWPs of a user. Their numbers must wrap around their block.
 fn lwps_go_round(both: &mut Both, uid: Uid, births: usize) -> Result<(), AllocError> {
     let mut round = false;
     for turn in 0..births {
@@ -76,7 +76,7 @@ fn lwps_go_round(both: &mut Both, uid: Uid, births: usize) -> Result<(), AllocEr
     Ok(())
 }
 
-/// So many births of processes and then of LWPs of one user, and the readers at the end.
+/// Adds processes and then LWPs of one user, and compares the readers at the end.
 pub fn numbers(
     alloc: Global,
     uid: Uid,
@@ -90,7 +90,8 @@ pub fn numbers(
     Ok(both.tally())
 }
 
-/// Edits of a table of LWPs alone, with the readers after each round. There must be more than 16 LWPs in the end.
+/// Makes edits of a separate table of LWPs, and compares the readers after each round. At the end there must be more
+/// than 16 LWPs.
 pub fn lwps_alone(alloc: Global, rounds: usize, users: &[Uid]) -> Result<Tally, AllocError> {
     let mut table = LwpTable::new(alloc)?;
     let mut rows: Vec<LwpData> = Vec::new(alloc);

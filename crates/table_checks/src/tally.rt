@@ -1,6 +1,7 @@
-//! What was compared, and what differed.
+//! A tally of differences.
 
-/// An answer of the tables that isn't the lists': which reader's or edit's, of whose row, and at which number. 0 stands for none.
+/// An answer of the tables that differs from the lists': the reader or edit, the owner of the row, and the number. 0
+/// means none.
 #[derive(Clone, Copy, Debug, Drop)]
 pub struct Difference {
     of: &'static str,
@@ -8,7 +9,7 @@ pub struct Difference {
     number: u32,
 }
 
-/// How many comparisons differed, and the first of them.
+/// The number of comparisons that differed, and the first of them.
 #[derive(Clone, Copy, Drop)]
 pub struct Tally {
     differ: usize,
@@ -23,17 +24,17 @@ impl Tally {
         }
     }
 
-    /// How many comparisons differed.
+    /// Returns how many comparisons differed.
     pub fn differ(&self) -> usize {
         self.differ
     }
 
-    /// The first comparison that differed.
+    /// Returns the first comparison that differed.
     pub fn first(&self) -> Option<Difference> {
         self.first
     }
 
-    /// A comparison, and whether it found the same.
+    /// Counts a comparison. `same` is whether both answers were the same.
     pub fn see(&mut self, of: &'static str, same: bool, whose: u32, number: u32) {
         if !same {
             self.differ = self.differ.saturating_add(1);

@@ -1,4 +1,4 @@
--- A walk over the LWPs of a process stands at rows of it.
+-- A walk over the LWPs of a process is always at rows of it.
 use Rattle.std.proofs.Common.{◌≡◌, ℕ, Bool, List, [], ◌∷◌, Option, Some, None, IfSome, arith, refl, nat_eq}
 use Rattle.std.specs.Prelude.{find}
 use Rattle.lwp_table.specs.declared.LwpData.{LwpData}
@@ -27,7 +27,7 @@ some-own : (P : LwpData → Type 0) (o : Option LwpData) → ((row : LwpData) �
 some-own P None each = tt
 some-own P (Some row) each = each row refl
 
--- the walk begins and goes on at rows of the process
+-- the walk begins and continues at rows of the process
 pub walk-first : (pid : ℕ) (ls : List LwpData) → Differ ls → IfSome (first_lwp pid ls) (Own pid ls)
 walk-first pid ls differ = some-own (Own pid ls) (first_lwp pid ls) (λ row is. first-own pid ls row differ is)
 

@@ -1,4 +1,4 @@
-//! Edits of tables that first ask the tables whether they may be made.
+//! Edits of tables. Each first checks whether it may be made.
 
 ghost use Rattle.std.specs.Prelude.{◌≡◌};
 ghost use Rattle.proc_table.specs.Fresh.{is_process};
@@ -11,14 +11,14 @@ use proc_table::{ProcData, State, Tables};
 use signals::{Dispositions, SigSet};
 use std::alloc::AllocError;
 
-/// Whether a process has the number.
+/// Returns whether a process has the number.
 fn has(tables: &Tables, pid: Pid) -> bool
     ensures { result ≡ is_process tables.now.rows pid }
 {
     tables.process(pid).is_some()
 }
 
-/// Whether the user has the process.
+/// Returns whether the user has the process.
 fn owns_process(tables: &Tables, uid: Uid, pid: Pid) -> bool
     ensures { result ≡ owns uid pid tables.now.rows.processes }
 {
@@ -59,14 +59,14 @@ pub fn start(tables: &mut Tables, uid: Uid, pid: Pid) -> Result<Option<Tid>, All
     Ok(Some(tid))
 }
 
-/// Takes the LWP out, if there is one.
+/// Removes the LWP, if there is one.
 pub fn stop(tables: &mut Tables, tid: Tid) {
     if tables.lwp(tid).is_some() {
         tables.remove_lwp(tid);
     }
 }
 
-/// Suspends the LWP, or lets it go on, if there is one.
+/// Suspends or resumes the LWP, if there is one.
 pub fn suspend(tables: &mut Tables, tid: Tid, suspended: bool) -> bool {
     let Some(was) = tables.lwp(tid) else {
         return false;
@@ -79,7 +79,7 @@ pub fn suspend(tables: &mut Tables, tid: Tid, suspended: bool) -> bool {
     true
 }
 
-/// Gives a process another tracer, if there are both.
+/// Gives a process another tracer, if both exist.
 pub fn trace(tables: &mut Tables, pid: Pid, tracer: Pid) -> bool {
     let Some(was) = tables.process(pid) else {
         return false;
@@ -96,7 +96,7 @@ pub fn trace(tables: &mut Tables, pid: Pid, tracer: Pid) -> bool {
     true
 }
 
-/// How many LWPs a walk over the process meets.
+/// Returns how many LWPs a walk over the process meets.
 pub fn walk(tables: &Tables, pid: Pid) -> usize {
     let mut met: usize = 0;
     let mut next = tables.first_lwp(pid);

@@ -1,4 +1,4 @@
-//! A host of 64 users, and timed operations on rows of it that a fixed rule chooses.
+//! A host of 64 users, and timed operations on its rows. A fixed rule chooses the rows.
 
 ghost use Rattle.std.specs.Prelude.{◌≤◌};
 
@@ -7,7 +7,7 @@ use pid_blocks::{Pid, Tid, Uid};
 use proc_table::Tables;
 use std::alloc::{AllocError, Global};
 
-/// How many LWPs a process has.
+/// The number of LWPs of a process.
 const LWPS: usize = 8;
 
 /// A process and its user.
@@ -30,7 +30,7 @@ pub enum Kind {
     Trace,
 }
 
-/// The tables, with what rows there are.
+/// The tables, with the processes and LWPs that they contain.
 #[derive(Drop)]
 pub struct Host {
     tables: Tables,
@@ -40,7 +40,7 @@ pub struct Host {
     answers: usize,
 }
 
-/// The user's first process number.
+/// Returns the user's first process number.
 fn first_pid(uid: Uid) -> u32
     ensures { result ≤ 64000 }
 {
@@ -48,7 +48,7 @@ fn first_pid(uid: Uid) -> u32
 }
 
 impl Host {
-    /// A host with no rows.
+    /// Creates a host without rows.
     fn empty(alloc: Global) -> Result<Host, AllocError> {
         Ok(Host {
             tables: Tables::new(alloc)?,
@@ -71,7 +71,7 @@ impl Host {
         Ok(())
     }
 
-    /// Adds processes with so many LWPs.
+    /// Adds processes with `lwps` LWPs.
     fn fill(&mut self, lwps: usize) -> Result<(), AllocError> {
         self.spawn(lwps.div_ceil(LWPS))?;
         self.trace(2000);
@@ -80,7 +80,7 @@ impl Host {
         Ok(())
     }
 
-    /// A host with so many LWPs.
+    /// Creates a host with `lwps` LWPs.
     pub fn filled(alloc: Global, lwps: usize) -> Result<Host, AllocError> {
         let mut host = Host::empty(alloc)?;
         host.fill(lwps)?;
@@ -95,12 +95,12 @@ impl Host {
         self.tids.len()
     }
 
-    /// How many rows the readers answered.
+    /// Returns how many rows the readers found.
     pub fn answers(&self) -> usize {
         self.answers
     }
 
-    /// The next number.
+    /// Returns the next pseudo-random number.
     fn roll(&mut self) -> usize {
         self.seed = self
             .seed
@@ -129,7 +129,7 @@ impl Host {
         self.answers = self.answers.wrapping_add(rows);
     }
 
-    /// So many operations of a kind.
+    /// Makes `count` operations of a kind.
     pub fn operate(&mut self, kind: Kind, count: usize) -> Result<(), AllocError> {
         match kind {
             Kind::Add => self.add(count)?,
@@ -156,7 +156,7 @@ impl Host {
         Ok(())
     }
 
-    /// Takes LWPs out.
+    /// Removes LWPs.
     fn remove(&mut self, count: usize) {
         for _ in 0..count {
             let at = self.roll();
@@ -221,7 +221,7 @@ impl Host {
         }
     }
 
-    /// A process of the user, at one of the lowest numbers.
+    /// Returns a process of the user, at one of the lowest numbers.
     fn tracer(&self, uid: Uid, after: usize) -> Option<Pid> {
         let above = first_pid(uid) + (after % 60) as u32;
         match self.tables.next_of(uid, above) {

@@ -1,7 +1,7 @@
 //! Times the tables of processes and LWPs at three sizes.
 //!
-//! The times differ from run to run, so they go to standard error. What was done is the same in
-//! each run, and goes to standard output.
+//! The times differ from run to run, so the program prints them to standard error. The counts of operations are the
+//! same in each run, and it prints them to standard output.
 #![tactic(auto)]
 
 mod edits;
@@ -13,15 +13,15 @@ use std::io;
 use std::rt::Clock;
 use std::time::Instant;
 
-/// How often each operation is timed at each size, in rounds of so many.
+/// The number of rounds in which each operation is timed at each size.
 const ROUNDS: usize = 40;
 
 const ROUND: usize = 50;
 
-/// How often each is timed in all.
+/// The number of times that each operation is timed.
 const OPERATIONS: u64 = (ROUNDS * ROUND) as u64;
 
-/// The kinds of operation, in the order of a round. The rows are as many after it as before it.
+/// The kinds of operation, in the order of a round. After a round there are as many rows as before it.
 const KINDS: [Kind; 8] = [
     Kind::Add,
     Kind::Get,
@@ -33,20 +33,20 @@ const KINDS: [Kind; 8] = [
     Kind::Trace,
 ];
 
-/// The nanoseconds since then.
+/// Returns the nanoseconds since `start`.
 fn took(rt: &impl Clock, start: Instant) -> io::Result<u64> {
     let took = start.elapsed(rt)?.as_nanos();
     Ok(u64::try_from(took).unwrap_or(u64::MAX))
 }
 
-/// The nanoseconds of a round's operations of one kind.
+/// Returns the nanoseconds of a round's operations of one kind.
 fn time(rt: &impl Clock, host: &mut Host, kind: Kind) -> io::Result<u64> {
     let start = Instant::now(rt)?;
     host.operate(kind, ROUND)?;
     took(rt, start)
 }
 
-/// The nanoseconds that each kind of operation took, over all rounds.
+/// Returns the nanoseconds that each kind of operation took, over all rounds.
 fn measure(rt: &impl Clock, host: &mut Host) -> io::Result<[u64; 8]> {
     let mut times = [0u64; 8];
     for _ in 0..ROUNDS {
@@ -58,7 +58,7 @@ fn measure(rt: &impl Clock, host: &mut Host) -> io::Result<[u64; 8]> {
     Ok(times)
 }
 
-/// Prints the nanoseconds of an operation of each kind, and what was done.
+/// Prints the nanoseconds of an operation of each kind, and the counts.
 fn tell(rt: &(impl Print + Eprint + Clock), host: &mut Host, size: usize) -> io::Result<()> {
     let times = measure(rt, host)?;
     let [add, get, set, walk, remove, next_of, next_tracee, trace] = times.map(|sum| sum
@@ -72,7 +72,7 @@ fn tell(rt: &(impl Print + Eprint + Clock), host: &mut Host, size: usize) -> io:
     println!(rt; "{processes} processes and {lwps} LWPs: {answers} rows answered")
 }
 
-/// The same for a new host with so many LWPs.
+/// Does the same for a new host with `size` LWPs.
 fn tell_of(rt: &(impl Print + Eprint + Clock), alloc: Global, size: usize) -> io::Result<()> {
     let mut host = Host::filled(alloc, size)?;
     tell(rt, &mut host, size)

@@ -48,7 +48,7 @@ count_more q xs x = let all = count_last q xs x in omega (arith, all)
 pub any_last : {X : Type 0} (q : X → Bool) (xs : List X) (x : X) → list_any q xs ≡ true → list_any q (xs ++ (x ∷ [])) ≡ true
 any_last q xs x is = list_any-append q xs (x ∷ []) ∙ rw is refl
 
--- Who is named, in rows where no process is p
+-- The processes that rows name, in rows where no process is p
 
 pub named_other : (rows : Rows) (n : ℕ) → is_process rows n ≡ false → (u m : ℕ) → IsLiveOf rows u m → m ≢ n
 named_other rows n free u m live = any_holds (λ p. (p.pid == m) && (p.uid == u) && is_live p) (λ p. (p.pid == n) ≡ false) (m ≢ n)
@@ -60,7 +60,7 @@ traces_none rows n free all m t is = search (rules, named_other, find_some)
 home_other : (rows : Rows) (n : ℕ) → is_process rows n ≡ false → (l : LwpData) → Housed rows l → l.pid ≢ n
 home_other rows n free l home same = true≢false (sym (find_passes (λ p. p.pid == l.pid) (λ p. p.pid == n) rows.processes home.0 home.1 (eq-eqb home.0.pid n (process_of-pid l.pid home.0 rows.processes home.1 ∙ same))) ∙ free)
 
--- one more, which may be that of a user who has room for it, is none too many
+-- with one more, perhaps of a user who has room for it, there are not too many
 pub still_few : (count : ℕ → ℕ) (v u most all : ℕ) (mine : Bool) → all ≡ count u + cond mine 1 0 → ((v == u) ≡ false → mine ≡ false) → count v < most → count u ≤ most → all ≤ most
 still_few count v u most all false is other room few = omega (arith, is, few)
 still_few count v u most all true is other room few = by_user (v == u) refl

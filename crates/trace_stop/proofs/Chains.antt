@@ -131,7 +131,7 @@ module _ (rows : Rows) (s : Stands rows) where
   of_user-live : (u x : ℕ) → IsLiveOf rows u x → OfUser u x
   of_user-live u x is = any_more (λ p. (p.pid == x) && (p.uid == u) && is_live p) (is_row_of u x) (λ p h. and_left (is_row_of u x p) (is_live p) h) ps is
 
-  -- the row of a user, or nobody: its tracer is of the same user
+  -- the tracer of a user's row, if any, is of the same user
   tracer_of_user : (u x : ℕ) → OfUser u x → IfSome (tracer_of ps x) (OfUser u)
   tracer_of_user u x is = any_holds (is_row_of u x) (λ r. (process_of r.pid ps ≡ Some r) × Linked rows r) (IfSome (tracer_of ps x) (OfUser u))
       (λ r h e.

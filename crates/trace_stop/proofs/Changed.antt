@@ -11,7 +11,7 @@ use Rattle.trace_stop.proofs.Edited.{If_more, some_is, if_at, any_edit, count_ed
 use Rattle.trace_stop.proofs.Numbers.{own_lwps}
 use Rattle.proc_table.proofs.Rows.{process_of-pid}
 
--- rows that stand, with a fact of each process, and of each LWP beside its process
+-- rows with sound numbers, limits and links, with a fact of each process, and of each LWP and its process
 pub record Holds (P : ProcData → Type 0) (Q : ProcData → LwpData → Type 0) (rows : Rows) : Type 0 where
   pub stands : Stands rows
   pub processes : AllByRecursion P rows.processes
@@ -23,7 +23,7 @@ holds_sound rows s = record { stands = s.stands; processes = s.processes; lwps =
 pub sound_holds : (rows : Rows) → Holds FitProcess FitLwp rows → IsSound rows
 sound_holds rows s = record { stands = s.stands; processes = s.processes; lwps = s.lwps }
 
--- what is known of a process's row, and of an LWP beside it
+-- what is known of a process's row, and of one of its LWPs
 pub record Row (rows : Rows) (P : ProcData → Type 0) (p : ProcData) : Type 0 where
   pub at : process_of p.pid rows.processes ≡ Some p
   pub home : AtHome p
@@ -66,11 +66,11 @@ unfolding meets
 meets_less ps qs h zero q n is = is
 meets_less ps qs h (suc links) q n is = grind (arith, nat_tests, meets_less ps qs h links q)
 
--- no ring of tracers is closed by the change of the one list into the other
+-- the change of the one list into the other closes no ring of tracers
 abbrev pub NoNewRing : List ProcData → List ProcData → Type 0
 NoNewRing ps qs = (n : ℕ) → meets 250 ps n n ≡ false → meets 250 qs n n ≡ false
 
--- nobody gets a tracer
+-- no process gets a new tracer
 abbrev pub Leaves : ProcData → ProcData → Type 0
 Leaves p q = (t : ℕ) → q.tracer ≡ Some t → p.tracer ≡ Some t
 
@@ -90,7 +90,7 @@ no_ring f ps rise same leaves n none = by_bool (meets 250 (filter_map f ps) n n)
 
 -- What an edit asks of each row
 
--- a live process of the user, whose number isn't over
+-- a live process of the user, which doesn't end
 abbrev pub LivesOn : Rows → (ℕ → Bool) → ℕ → ℕ → Type 0
 LivesOn rows over u n = IsLiveOf rows u n × (over n ≡ false)
 
@@ -107,7 +107,7 @@ pub record KeptRow (rows after : Rows) (over : ℕ → Bool) (P' : ProcData → 
   pub peopled : is_live q ≡ true → 1 ≤ lwp_count p.pid after
   pub fits : P' q
 
--- and what a row is that goes
+-- and when a row may be removed
 abbrev pub IfKept : Rows → Rows → (ℕ → Bool) → (ProcData → Type 0) → ProcData → Option ProcData → Type 0
 IfKept rows after over P' p None = is_live p ≡ true → over p.pid ≡ true
 IfKept rows after over P' p (Some q) = KeptRow rows after over P' p q
@@ -123,7 +123,7 @@ pub record Same (f : ProcData → Option ProcData) (g : ProcData → LwpData →
   pub process : (p : ProcData) → IfSome (f p) (λ q. (q.pid ≡ p.pid) × (q.uid ≡ p.uid))
   pub lwp : (p : ProcData) (l : LwpData) → IfSome (g p l) (λ k. (k.tid ≡ l.tid) × (k.pid ≡ l.pid))
 
--- what an edit asks: `over` tells the numbers of the processes that end, of which no LWP is left
+-- what an edit requires: `over` tests for the numbers of the processes that end, of which no LWP is left
 pub record Edit (rows : Rows) (over : ℕ → Bool) (f : ProcData → Option ProcData) (g : ProcData → LwpData → Option LwpData) (P : ProcData → Type 0) (Q : ProcData → LwpData → Type 0) (P' : ProcData → Type 0) (Q' : ProcData → LwpData → Type 0) : Type 0 where
   pub same : Same f g
   pub ring : NoNewRing rows.processes (filter_map f rows.processes)
@@ -173,7 +173,7 @@ module _ {rows after : Rows} {P : ProcData → Type 0} {Q Q' : ProcData → LwpD
   pub kept_lwp : Stay rows after p → k.flags ≡ l.flags → k.mode ≡ l.mode → Q' q k → KeptLwp rows after nobody Q' p q k
   kept_lwp stay flags mode = kept_waiting stay flags (subst (λ m. IfSome (waited_for m) (IsLiveChild rows p)) (sym mode) b.stood.waits)
 
--- where nobody ends
+-- if no process ends
 pub none_gone : (rows : Rows) (P : ProcData → Type 0) (g : ProcData → LwpData → Option LwpData) (p : ProcData) (l : LwpData) → Row rows P p → nobody p.pid ≡ true → g p l ≡ None
 none_gone rows P g p l row is = absurd (true≢false (sym is))
 
@@ -257,7 +257,7 @@ module _ (rows : Rows) (over : ℕ → Bool) (f : ProcData → Option ProcData) 
       by_row p row None same kept = tt
       by_row p row (Some q) same kept = to p q row same kept
 
-  -- an LWP that is left, beside its process
+  -- an LWP that is left, with its process
   record Left (q : ProcData) (k : LwpData) : Type 0 where
     home : InBlock (tid_block q.uid) k.tid
     stood : Standing made q k

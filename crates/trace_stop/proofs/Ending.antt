@@ -1,4 +1,4 @@
--- Ends keep rows sound, where no live process is left whose tracer ends.
+-- Ends keep rows sound, if each live process whose tracer ends also ends.
 use Rattle.trace_stop.proofs.Words.{nat_tests, AllByRecursion, shows, asks, PL_FLAG_EXITED, SIGKILL, LwpData, User, ProcData, State, Run, Trace, Job, Zombie, is_live, is_zombie_state, is_job_state}
 use Rattle.trace_stop.proofs.Words.{is_run_state, reporting, Rows, each, unwanted, holds_of, unless, orphaned, dead, uncollected, process_after, waits_where, released, lwp_after, collector}
 use Rattle.trace_stop.proofs.Words.{notifies_of, end_each, is_end, names_own, IsLiveOf, IsLiveChild, Linked, Ended, IfEnded, FitProcess, waited_for, FitLwp, IsSound, MayTell}
@@ -83,7 +83,7 @@ module _ (rows : Rows) (ends : ProcData → Bool) (over : ℕ → Bool) (p statu
   same : Same to to_lwp
   same = record { process = same_row; lwp = same_lwp }
 
-  -- who lives on
+  -- a process that lives on
   lives_on : (q : ProcData) → ends q ≡ false → is_live q ≡ true → to q ≡ Some (heir q)
   lives_on q e live = rw (e, live) refl
 
@@ -105,7 +105,7 @@ module _ (rows : Rows) (ends : ProcData → Bool) (over : ℕ → Bool) (p statu
   zombie_quiet : (q : ProcData) → is_live q ≡ false → reporting q ≡ None
   zombie_quiet q no_longer = grind (arith, nat_tests)
 
-  -- rows by themselves after the end
+  -- rows on their own after the end
   last_word : (q : ProcData) → is_end (last q) ≡ true
   last_word q = grind (arith, nat_tests)
 
@@ -186,7 +186,7 @@ module _ (rows : Rows) (ends : ProcData → Bool) (over : ℕ → Bool) (p statu
   each_sound : IsSound after
   each_sound = sound_holds after (edit_holds rows over to to_lwp (Fact rows ends over) FitLwp FitProcess FitLwp held the_edit)
 
-  -- who is told
+  -- the processes that are notified
   may_tell : (z : ProcData) → Linked after z → MayTell after (collector z)
   may_tell z link = by_tracer z.tracer link.tracer
     where

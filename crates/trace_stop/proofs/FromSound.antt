@@ -10,7 +10,7 @@ use Rattle.pid_blocks.specs.declared.Block.{Block}
 use Rattle.trace_stop.specs.End.{meets}
 use Rattle.trace_stop.proofs.Every.{and_left, and_right, both, implies_at, implies_from, not_true, by_bool, All-from_list_all, list_all-from_All, All-imply, All-both}
 
--- users, and lists beside them
+-- users, and lists of one element for each user
 
 rising_any : (count n k : ℕ) → list_any (λ m. m == k) (rising count n) ≡ true → (n ≤ k) × (k < n + count)
 rising_any zero n k is = absurd (true≢false (sym is))

@@ -48,7 +48,7 @@ module _ (settings : Settings) (rows : Rows) (p : ProcData) (s : IsSound rows) (
       (λ met. far (and_left settings.kill_on_debugger_exit (is_live r) (and_left (settings.kill_on_debugger_exit && is_live r) (meets 250 rows.processes p.pid r.pid) met))
       (subst (λ n. meets 250 rows.processes p.pid n ≡ true) here (and_right (settings.kill_on_debugger_exit && is_live r) (meets 250 rows.processes p.pid r.pid) met)))) rows.processes known is
 
-  -- where debuggers kill, a chain of tracers is doomed whole
+  -- where debuggers kill, a live process that doesn't end has no tracer that ends
   killed : settings.kill_on_debugger_exit ≡ true → (q : ProcData) → Known q → is_live q ≡ true → ends q ≡ false → (o : Option ℕ) → q.tracer ≡ o → IfSome o (λ t. over t ≡ false)
   killed kills q k alive stays None e = tt
   killed kills q k alive stays (Some t) e = by_bool (over t) (λ is. doomed t ⊥ is
@@ -64,7 +64,7 @@ module _ (settings : Settings) (rows : Rows) (p : ProcData) (s : IsSound rows) (
           by_kill : meets 250 rows.processes p.pid q.pid ≡ true → ends q ≡ true
           by_kill met = rw (kills, alive, met) (or_true (q.pid == p.pid))
 
-  -- where they don't, and nobody live is traced by p, p ends alone
+  -- where they don't, and p traces no live process, p ends alone
   alone : settings.kill_on_debugger_exit ≡ false → (q : ProcData) → traces p.pid q ≡ false → (o : Option ℕ) → q.tracer ≡ o → IfSome o (λ t. over t ≡ false)
   alone spares q free None e = tt
   alone spares q free (Some t) e = by_bool (over t) (λ is. doomed t ⊥ is (λ same. true≢false (sym (eq-eqb t p.pid same) ∙ (sym (ap (is_this p.pid) e) ∙ free))) (λ kill met. true≢false (sym kill ∙ spares)))

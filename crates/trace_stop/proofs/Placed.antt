@@ -61,7 +61,7 @@ module _ (p : ProcData) (ps : List ProcData) (rise : Rise ps) (free : IsFree p.p
 
 -- Chains of tracers
 
--- nobody's tracer is p
+-- no process has p as its tracer
 abbrev pub TracesNone : List ProcData → ℕ → Type 0
 TracesNone ps p = (n t : ℕ) → tracer_of ps n ≡ Some t → t ≢ p
 

@@ -1,4 +1,4 @@
--- What rows must be before a change that makes them sound.
+-- What rows must satisfy before a change that makes them sound.
 use Rattle.std.specs.Prelude.{◌≡◌, ◌≢◌, ◌≤◌, ℕ, true, false, None, is_some}
 use Rattle.std.specs.List.{AllByRecursion}
 use Rattle.std.specs.Option.{IsSomeAnd}
@@ -18,32 +18,32 @@ use Rattle.trace_stop.specs.Sound.{is_live_at}
 abbrev pub MayTell : Rows → ℕ → Type 0
 MayTell rows n = n ≢ 1 → is_live_at n rows ≡ true
 
--- fit, where the process pid is live and fit but for what is pending
+-- a fit process; if it is the process pid, live and fit except for its pending signals
 abbrev pub FitButPending : ℕ → ProcData → Type 0
 FitButPending pid p = (p.pid ≢ pid → FitProcess p) × (p.pid ≡ pid → FitProcess (record p { pending = 0 }) × (is_live p ≡ true))
 
--- and so are its LWPs
+-- a fit LWP, with the same exception if its process is pid
 abbrev pub FitLwpButPending : ℕ → ProcData → LwpData → Type 0
 FitLwpButPending pid p l = (p.pid ≢ pid → FitLwp p l) × (p.pid ≡ pid → FitLwp p (record l { pending = 0 }))
 
--- rows that are sound once the pending sets of a live process are settled
+-- rows that become sound when the pending sets of a live process are settled
 pub record IsSoundButPending (pid : ℕ) (rows : Rows) : Type 0 where
   pub stands : Stands rows
   pub processes : AllByRecursion (FitButPending pid) rows.processes
   pub lwps : AllByRecursion (WithOwner rows (FitLwpButPending pid)) rows.lwps
 
--- a traced process that may stop. It may still be stopped by job control, as one that is being attached is
+-- a traced process that can stop. It may still be stopped by job control, as while it is being attached
 pub record Ready (p : ProcData) : Type 0 where
   pub live : is_live p ≡ true
   pub traced : is_some p.tracer ≡ true
   pub quiet : reporting p ≡ None
   pub calm : p.continued ≡ false
 
--- fit, where the process pid is ready to stop
+-- a fit process, or if it is the process pid, one that is ready to stop
 abbrev pub FitOrReady : ℕ → ProcData → Type 0
 FitOrReady pid p = (p.pid ≢ pid → FitProcess p) × (p.pid ≡ pid → Ready p)
 
--- rows that are sound once the LWP tid stops the process pid. One that shows that it exits isn't the last LWP
+-- rows that become sound when the LWP tid stops the process pid. An LWP that shows its exit isn't the last one
 pub record MayStop (pid tid : ℕ) (shown : Shown) (rows : Rows) : Type 0 where
   pub stands : Stands rows
   pub processes : AllByRecursion (FitOrReady pid) rows.processes

@@ -10,11 +10,11 @@ use Rattle.proc_table.specs.Edits.{map_lwps}
 use Rattle.trace_stop.specs.declared.edits.Edit.{Edit}
 use Rattle.trace_stop.specs.declared.edits.Edit.TheVariants.{Settle, Post, ClearStepping, Detach}
 
--- a set of pending signals when s is posted, to this set or to another one of its process
+-- a set of pending signals after s is posted, to this set or to another set of the process
 abbrev pub signal_put : ℕ → Bool → ℕ → ℕ
 signal_put s here pending = let left = without pending (opposed s) in if here then with left s else left
 
--- an LWP that doesn't step
+-- an LWP that no longer steps
 abbrev pub step_cleared : LwpData → LwpData
 step_cleared l = record l { stepping = false }
 
@@ -26,6 +26,6 @@ edited ClearStepping l = step_cleared l
 edited (Detach lost unwanted) l =
     record l { stepping = false; suspended = false; due = Nothing; pending = without (without l.pending lost) unwanted }
 
--- the rows with no LWP of a process stepping
+-- the rows in which no LWP of a process steps
 abbrev pub steps_cleared : ℕ → Rows → Rows
 steps_cleared pid rows = map_lwps pid step_cleared rows

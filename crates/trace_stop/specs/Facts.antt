@@ -1,4 +1,4 @@
--- What the rows of a host always keep, as a fact of each row.
+-- What the rows of a host always satisfy, as a fact of each row.
 use Rattle.std.specs.Prelude.{◌≡◌, ◌≢◌, ◌≤◌, ℕ, true, false, Option, Some, None, IfSome, is_some, length, get_or}
 use Rattle.std.specs.Int.RustNames.{bit_and}
 use Rattle.std.specs.List.{AllByRecursion}
@@ -22,15 +22,16 @@ use Rattle.trace_stop.specs.Post.{unwanted}
 use Rattle.trace_stop.specs.End.{meets}
 use Rattle.trace_stop.specs.Sound.{is_live_of, is_live_child, is_end, names_own, is_due, mode_fits}
 
--- the number is that of a live process of the user
+-- a live process of the user has the number
 abbrev pub IsLiveOf : Rows → ℕ → ℕ → Type 0
 IsLiveOf rows u n = is_live_of rows u n ≡ true
 
--- the number is that of a live child of p
+-- a live child of p has the number
 abbrev pub IsLiveChild : Rows → ProcData → ℕ → Type 0
 IsLiveChild rows p n = is_live_child rows p n ≡ true
 
--- what a process names: live processes of its user, another one as its parent, in no ring of tracers, and an LWP of its own; a live one has an LWP
+-- a process names live processes of its user, another process as its parent, and an LWP of its own. It is in no ring
+-- of tracers. A live process has an LWP
 pub record Linked (rows : Rows) (p : ProcData) : Type 0 where
   pub tracer : IfSome p.tracer (IsLiveOf rows p.uid)
   pub parent : p.parent ≢ 1 → IsLiveOf rows p.uid p.parent
@@ -39,7 +40,7 @@ pub record Linked (rows : Rows) (p : ProcData) : Type 0 where
   pub named : IfSome (reporting p) (λ tid. names_own rows p tid ≡ true)
   pub peopled : is_live p ≡ true → 1 ≤ lwp_count p.pid rows
 
--- a zombie has ended, asks for no events, has nothing pending, and somebody collects it
+-- a zombie has ended, asks for no events, has no pending signals, and has a tracer or a parent that collects it
 pub record Ended (p : ProcData) (w : ℕ) : Type 0 where
   pub word : is_end w ≡ true
   pub mask : p.mask.0 ≡ 0
@@ -52,12 +53,12 @@ IfEnded p (Trace tid sig told) = Unit {0}
 IfEnded p (Job sig told) = Unit {0}
 IfEnded p (Zombie w) = Ended p w
 
--- nothing that only a tracer gives, and no signal pending whose action is nothing
+-- an untraced process has nothing that only a tracer gives, and no pending signal whose action is nothing
 pub record Untraced (p : ProcData) : Type 0 where
   pub mask : p.mask.0 ≡ 0
   pub pending : bit_and p.pending (unwanted p) ≡ 0
 
--- a process by itself
+-- the facts of a process on its own
 pub record FitProcess (p : ProcData) : Type 0 where
   pub stopped : is_some (reporting p) ≡ true → is_some p.tracer ≡ true
   pub job : is_job p ≡ true → p.tracer ≡ None
@@ -71,7 +72,8 @@ waited_for User = None
 waited_for (InCall call) = None
 waited_for (VforkWait c) = Some c
 
--- an LWP of a live process p; one that has exited isn't the last one, and one that waits does so for a live child of p
+-- an LWP of a live process p; an LWP that has exited isn't the last one, and one that waits for a process waits for a
+-- live child of p
 pub record Standing (rows : Rows) (p : ProcData) (l : LwpData) : Type 0 where
   pub live : is_live p ≡ true
   pub exited : shows l.flags PL_FLAG_EXITED ≡ true → 2 ≤ lwp_count p.pid rows
@@ -83,20 +85,20 @@ pub record UntracedLwp (p : ProcData) (l : LwpData) : Type 0 where
   pub suspended : l.suspended ≡ false
   pub pending : bit_and l.pending (unwanted p) ≡ 0
 
--- an LWP shows nothing where it doesn't report its process's stop
+-- an LWP that doesn't report its process's stop shows nothing
 pub record Silent (l : LwpData) : Type 0 where
   pub flags : l.flags.0 ≡ 0
   pub child : l.child ≡ 0
   pub code : l.code ≡ 0
 
--- an LWP beside its process
+-- the facts of an LWP and its process
 pub record FitLwp (p : ProcData) (l : LwpData) : Type 0 where
   pub untraced : p.tracer ≡ None → UntracedLwp p l
   pub silent : is_this l.tid (reporting p) ≡ false → Silent l
   pub blocked : bit_and l.blocked unmaskable_set ≡ 0
   pub mode : mode_fits l.mode ≡ true
 
--- a fact of an LWP and the process that it belongs to
+-- a fact of an LWP and its process
 abbrev pub WithOwner : Rows → (ProcData → LwpData → Type 0) → LwpData → Type 0
 WithOwner rows P l = (p : ProcData) → process_of l.pid rows.processes ≡ Some p → P p l
 
@@ -115,7 +117,7 @@ pub record Stands (rows : Rows) : Type 0 where
   pub linked : AllByRecursion (Linked rows) rows.processes
   pub standing : AllByRecursion (WithOwner rows (Standing rows)) rows.lwps
 
--- the same with each row as it must be
+-- these facts, and those of each process and each LWP
 pub record IsSound (rows : Rows) : Type 0 where
   pub stands : Stands rows
   pub processes : AllByRecursion FitProcess rows.processes

@@ -1,4 +1,4 @@
--- Chains of tracers, and rows after processes are detached.
+-- Chains of tracers, and rows after processes were detached.
 use Rattle.std.specs.Prelude.{◌≡◌, ◌≤◌, ℕ, zero, suc, Bool, true, List, [], ◌∷◌, Option, Some, None, length}
 use Rattle.proc_table.specs.declared.ProcData.{ProcData}
 use Rattle.proc_table.specs.Processes.{process_of, is_live}
@@ -12,7 +12,7 @@ abbrev pub onward : (ℕ → List ℕ) → Option ℕ → List ℕ
 onward chain None = []
 onward chain (Some t) = chain t
 
--- the numbers of a process, of its tracer, of that one's tracer and so on, by at most so many links
+-- the numbers of a process, its tracer, that process's tracer and so on, over at most this many links
 unfoldable pub chain : ℕ → List ProcData → ℕ → List ℕ
 chain zero processes n = n ∷ []
 chain (suc links) processes n = n ∷ onward (chain links processes) (tracer_of processes n)
@@ -21,16 +21,16 @@ chain (suc links) processes n = n ∷ onward (chain links processes) (tracer_of 
 abbrev pub ChainsEnd : Type 0
 ChainsEnd = (rows : Rows) (n : ℕ) → Stands rows → length (chain 250 rows.processes n) ≤ 250
 
--- so what any number of links meets, 249 meet
+-- so 249 links of a chain reach all that any number of links reaches
 abbrev pub ChainsMeet : Type 0
 ChainsMeet = (rows : Rows) (links p n : ℕ) → Stands rows → meets links rows.processes p n ≡ true → meets 249 rows.processes p n ≡ true
 
--- from a tracee one link more leads on than from its tracer
+-- a tracee's chain of tracers is one longer than its tracer's
 abbrev pub TraceeDeeper : Type 0
 TraceeDeeper = (rows : Rows) (tracee tracer : ℕ) → Stands rows → tracer_of rows.processes tracee ≡ Some tracer
     → length (chain 250 rows.processes tracee) ≡ suc (length (chain 250 rows.processes tracer))
 
--- sound rows are sound once live processes are detached from their tracers
+-- sound rows are still sound after live processes were detached from their tracers
 abbrev pub DetachedSound : Type 0
 DetachedSound = (rows : Rows) (chosen : ProcData → Bool) (lost : ProcData → ℕ) → IsSound rows
     → ((r : ProcData) → process_of r.pid rows.processes ≡ Some r → chosen r ≡ true → is_live r ≡ true)

@@ -9,7 +9,7 @@ use Rattle.proc_table.specs.Processes.{process_of, reporting}
 use Rattle.proc_table.specs.Rows.{Rows}
 use Rattle.proc_table.specs.Kept.{set_lwp, drop_lwp}
 
--- the process is in a trace stop of an LWP of its own
+-- an LWP of the process has stopped it for its tracer
 pub record IsStopped (pid : ℕ) (rows : Rows) : Type 0 where
   pub p : ProcData
   pub at : process_of pid rows.processes ≡ Some p
@@ -19,7 +19,7 @@ pub record IsStopped (pid : ℕ) (rows : Rows) : Type 0 where
   pub named : lwp_of tid rows.lwps ≡ Some l
   pub own : l.pid ≡ pid
 
--- the LWP with the number, where there is a number
+-- the LWP with the number, if there is a number
 abbrev pub reporter : Option ℕ → List LwpData → Option LwpData
 reporter None lwps = None
 reporter (Some tid) lwps = lwp_of tid lwps
@@ -27,7 +27,7 @@ reporter (Some tid) lwps = lwp_of tid lwps
 abbrev pub unreported : LwpData → LwpData
 unreported l = record l { flags = no_flags; child = 0; code = 0 }
 
--- the rows without what an LWP has reported, and without the LWP where it has exited
+-- the rows without what an LWP has reported, and without the LWP if it has exited
 abbrev pub report_dropped : Option LwpData → Rows → Rows
 report_dropped None rows = rows
 report_dropped (Some l) rows = if shows l.flags PL_FLAG_EXITED then drop_lwp l.tid rows else set_lwp (unreported l) rows

@@ -9,8 +9,8 @@ use pid_blocks::{Pid, Tid};
 use proc_table::Tables;
 use signals::{SigSet, Signal};
 
-/// A set of pending signals when a signal is posted, to this set where `here`, or to another one of
-/// its process.
+/// Returns a set of pending signals after a signal is posted: to this set if `here`, and else to another set
+/// of the process.
 pub fn put_signal(pending: SigSet, signal: Signal, here: bool) -> SigSet
     ensures { result ≡ signal_put signal here pending }
 {
@@ -21,18 +21,18 @@ pub fn put_signal(pending: SigSet, signal: Signal, here: bool) -> SigSet
 /// A change of an LWP.
 #[derive(Clone, Copy, Debug, PartialEq, Eq, Drop)]
 pub enum Edit {
-    /// The set leaves its pending set.
+    /// The signals of this set leave the LWP's pending set.
     Settle(SigSet),
-    /// A signal is posted to the LWP `to`, or to its process; the set `lost` then leaves its
-    /// pending set.
+    /// A signal is posted to the LWP `to`, or to its process; then the signals of the set `lost` leave the
+    /// LWP's pending set.
     Post {
         signal: Signal,
         to: Option<Tid>,
         lost: SigSet,
     },
-    /// It steps no more.
+    /// The LWP no longer steps.
     ClearStepping,
-    /// It isn't traced any more; both sets leave its pending set.
+    /// The LWP is no longer traced; the signals of both sets leave its pending set.
     Detach {
         lost: SigSet,
         unwanted: SigSet,
@@ -40,7 +40,7 @@ pub enum Edit {
 }
 
 impl Edit {
-    /// The LWP after the change.
+    /// Returns the LWP after the change.
     fn of(&self, l: &LwpData) -> LwpData
         ensures { result ≡ edited self.now l.now }
     {

@@ -1,4 +1,4 @@
-//! Laws of chains of tracers, and of detaching.
+//! Laws of chains of tracers and of detaching.
 
 ghost use Rattle.trace_stop.specs.Laws.{ChainsEnd, ChainsMeet, TraceeDeeper, DetachedSound};
 
@@ -7,17 +7,17 @@ pub fn chains_end()
     ensures { ChainsEnd }
 {}
 
-/// What any number of links meets, 249 links meet.
+/// 249 links of a chain of tracers reach all that any number of links reaches.
 pub fn chains_meet()
     ensures { ChainsMeet }
 {}
 
-/// From a tracee one link more leads on than from its tracer.
+/// A tracee's chain of tracers is one longer than its tracer's.
 pub fn tracee_deeper()
     ensures { TraceeDeeper }
 {}
 
-/// Sound rows are sound once live processes are detached from their tracers.
+/// Sound rows are still sound after live processes were detached from their tracers.
 pub fn detached_sound()
     ensures { DetachedSound }
 {}

@@ -15,7 +15,7 @@ use pid_blocks::{Pid, Tid};
 use proc_table::{ProcData, State, Tables};
 use signals::{SigSet, Signal};
 
-/// The signals that leave an untraced process's pending sets by themselves.
+/// Returns the signals that an untraced process's pending sets lose, since their action is nothing.
 pub fn unwanted(p: &ProcData) -> SigSet
     ensures { result ≡ unwanted p.now }
 {
@@ -26,7 +26,7 @@ pub fn unwanted(p: &ProcData) -> SigSet
     }
 }
 
-/// Takes the signals whose action is nothing out of an untraced process's pending sets.
+/// Removes the signals whose action is nothing from an untraced process's pending sets.
 pub fn settle(tables: &mut Tables, pid: Pid)
     requires there { IsRow tables.old.rows pid }
     ensures rows { tables.new.rows ≡ settle pid tables.old.rows }
@@ -41,14 +41,14 @@ pub fn settle(tables: &mut Tables, pid: Pid)
     edit_lwps(tables, pid, &Edit::Settle(lost));
 }
 
-/// Whether the signal continues the process, which is stopped by job control.
+/// Tests whether the signal continues the process, which job control has stopped.
 fn continues(signal: Signal, p: &ProcData) -> bool
     ensures { result ≡ continues signal p.now }
 {
     signal == Signal::cont() && matches!(p.state, State::Job { .. })
 }
 
-/// A process when the signal is posted to it, or to an LWP of it.
+/// Returns a process after the signal is posted to it, or to an LWP of it.
 fn posted_process(p: &ProcData, signal: Signal, to: &Option<Tid>) -> ProcData
     ensures { result ≡ posted_process signal to.now p.now }
 {
@@ -65,7 +65,7 @@ fn posted_process(p: &ProcData, signal: Signal, to: &Option<Tid>) -> ProcData
     }
 }
 
-/// What becomes of the LWPs of the process then.
+/// Returns what the post of the signal changes in the LWPs of the process.
 fn posted_lwps(p: &ProcData, signal: Signal, to: &Option<Tid>) -> Edit
     ensures { result ≡ edit.Post signal to.now (unwanted p.now) }
 {
@@ -76,7 +76,7 @@ fn posted_lwps(p: &ProcData, signal: Signal, to: &Option<Tid>) -> Edit
     }
 }
 
-/// The parent of a process that the signal continues.
+/// Returns the parent of a process that the signal continues, or `None` if the signal doesn't continue it.
 fn parent_to_tell(p: &ProcData, signal: Signal) -> Option<u32>
     ensures { tracers result ≡ notifies signal (Some p.now) }
 {
@@ -87,8 +87,8 @@ fn parent_to_tell(p: &ProcData, signal: Signal) -> Option<u32>
     }
 }
 
-/// Puts a signal into the pending set of a process or of an LWP of it. SIGCONT continues a process
-/// that is stopped by job control, and the answer is then its parent, which is to be notified.
+/// Puts a signal into the pending set of a process or of an LWP of it. SIGCONT continues a process that job
+/// control has stopped. Then the result is the process's parent, which the caller notifies.
 fn put(tables: &mut Tables, pid: Pid, signal: Signal, to: &Option<Tid>) -> Option<u32>
     requires there { IsRow tables.old.rows pid }
     ensures rows { tables.new.rows ≡ change (is_numbered pid) (posted_process signal to.now) (posted_lwp signal to.now) tables.old.rows }
@@ -105,7 +105,7 @@ fn put(tables: &mut Tables, pid: Pid, signal: Signal, to: &Option<Tid>) -> Optio
     parent
 }
 
-/// Posts SIGCHLD to the process with this number, if there is one.
+/// Posts SIGCHLD to the process with this number, if any.
 pub fn notify(tables: &mut Tables, number: u32)
     ensures rows { tables.new.rows ≡ notified (number ∷ []) tables.old.rows }
     ensures sound { IsSound tables.old.rows → MayTell tables.old.rows number → IsSound tables.new.rows }
@@ -115,7 +115,7 @@ pub fn notify(tables: &mut Tables, number: u32)
     }
 }
 
-/// Posts a signal other than SIGKILL to a process, or to an LWP of it. Takes no memory.
+/// Posts a signal other than SIGKILL to a process, or to an LWP of it. Allocates nothing.
 pub fn post_other(tables: &mut Tables, pid: Pid, signal: Signal, to: &Option<Tid>)
     requires { IsRow tables.old.rows pid }
     ensures { tables.new.rows ≡ posted signal to.now pid tables.old.rows }

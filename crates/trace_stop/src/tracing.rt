@@ -1,4 +1,4 @@
-//! Trace stops, and processes that run on from them, with their tracers or without.
+//! Trace stops, and how processes run on from them, with their tracers or without.
 
 ghost use Rattle.std.specs.Prelude.{◌≡◌, IfSome, IsSome, true};
 ghost use Rattle.std.specs.Option.{IsSomeAnd};
@@ -23,7 +23,7 @@ use pid_blocks::{Pid, Tid};
 use proc_table::{ProcData, State, Tables};
 use signals::SigSet;
 
-/// The LWP that stopped a process for its tracer.
+/// Returns the LWP that stopped a process for its tracer, if any.
 fn reporting(p: &ProcData) -> Option<Tid>
     ensures { result ≡ reporting p.now }
 {
@@ -33,7 +33,7 @@ fn reporting(p: &ProcData) -> Option<Tid>
     }
 }
 
-/// An LWP that reports nothing.
+/// Returns an LWP that reports nothing.
 fn unreported(l: &LwpData) -> LwpData
     ensures { result ≡ unreported l.now }
 {
@@ -45,7 +45,7 @@ fn unreported(l: &LwpData) -> LwpData
     }
 }
 
-/// Drops what an LWP has reported, and the LWP where it has exited.
+/// Drops what an LWP has reported, and removes the LWP if it has exited.
 fn drop_report(tables: &mut Tables, tid: Tid)
     requires { IsSome (lwp_of tid tables.old.rows.lwps) }
     ensures { tables.new.rows ≡ report_dropped (lwp_of tid tables.old.rows.lwps) tables.old.rows }
@@ -58,7 +58,7 @@ fn drop_report(tables: &mut Tables, tid: Tid)
     }
 }
 
-/// Drops what a process's reporting LWP has reported, if one does.
+/// Drops what a process's reporting LWP has reported, if there is one.
 fn drop_stop(tables: &mut Tables, reporting: &Option<Tid>)
     requires { IfSome reporting.now (λ tid. IsSome (lwp_of tid tables.old.rows.lwps)) }
     ensures { tables.new.rows ≡ report_dropped (reporter reporting.now tables.old.rows.lwps) tables.old.rows }
@@ -68,8 +68,8 @@ fn drop_stop(tables: &mut Tables, reporting: &Option<Tid>)
     }
 }
 
-/// A live process isn't traced any more; the signals of the set `lost` leave its pending sets. Takes no
-/// memory.
+/// Ends the tracing of a live process. The signals of the set `lost` leave its pending sets. Allocates
+/// nothing.
 pub fn untrace(tables: &mut Tables, pid: Pid, lost: SigSet)
     requires sound { IsSound tables.old.rows }
     requires live { is_live_at pid tables.old.rows ≡ true }
@@ -89,7 +89,7 @@ pub fn untrace(tables: &mut Tables, pid: Pid, lost: SigSet)
     edit_lwps(tables, pid, &Edit::Detach { lost, unwanted });
 }
 
-/// A process runs on from a trace stop. Takes no memory.
+/// Lets a process run on from a trace stop. Allocates nothing.
 pub fn run_on(tables: &mut Tables, pid: Pid)
     requires stands { Stands tables.old.rows }
     requires there { IsRow tables.old.rows pid }
@@ -103,7 +103,7 @@ pub fn run_on(tables: &mut Tables, pid: Pid)
     drop_stop(tables, &reporting(&p));
 }
 
-/// A trace stop of a process by an LWP of it, of which its tracer is told.
+/// Stops a process for its tracer by an LWP of it, and notifies the tracer.
 pub fn stop(tables: &mut Tables, pid: Pid, tid: Tid, shown: &Shown)
     requires process { IsRow tables.old.rows pid }
     requires lwp { IsSomeAnd (lwp_of tid tables.old.rows.lwps) (λ l. l.pid ≡ pid) }
@@ -131,7 +131,7 @@ pub fn stop(tables: &mut Tables, pid: Pid, tid: Tid, shown: &Shown)
     }
 }
 
-/// No LWP of the process steps any more.
+/// Clears the stepping of each LWP of the process.
 pub fn clear_stepping(tables: &mut Tables, pid: Pid)
     ensures rows { tables.new.rows ≡ steps_cleared pid tables.old.rows }
 {

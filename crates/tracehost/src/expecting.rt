@@ -1,6 +1,7 @@
-//! A run's lines against those of a file.
+//! The comparison of a run's lines with those of a file.
+use crate::Trouble;
 use crate::explaining::unread;
-use crate::{Shown, Trouble};
+use command_line::Shown;
 use expected_text::Difference;
 use pid_blocks::Uid;
 use scenario::{Fault, Scenario, StepShape};
@@ -23,7 +24,7 @@ pub(crate) fn read_expected<R: Files + AllocGlobal>(
     }
 }
 
-/// The trouble of a difference, which tells it.
+/// A difference as a trouble.
 pub(crate) fn none_differs(
     alloc: Global,
     scenario: &Scenario,
@@ -33,15 +34,15 @@ pub(crate) fn none_differs(
 ) -> Result<(), Trouble> {
     match difference {
         Some(difference) => {
-            let told = difference_told(alloc, scenario, shown, path, difference)?;
-            Err(Trouble::Different(told))
+            let line = line_of_difference(alloc, scenario, shown, path, difference)?;
+            Err(Trouble::Different(line))
         }
         None => Ok(()),
     }
 }
 
-/// What is told of a difference.
-fn difference_told(
+/// The line about a difference, and one about the step that the differing line answers.
+fn line_of_difference(
     alloc: Global,
     scenario: &Scenario,
     shown: &Shown,
@@ -53,37 +54,36 @@ fn difference_told(
         expected,
         got,
     } = difference;
-    let wanted = Told {
+    let wanted = Quoted {
         line: expected,
         other: got,
         end: "the end of the file",
     };
-    let had = Told {
+    let had = Quoted {
         line: got,
         other: expected,
         end: "no more lines",
     };
-    let mut told = format!(in alloc; "{path}:{line}: expected {wanted}, got {had}")?;
+    let mut text = format!(in alloc; "{path}:{line}: expected {wanted}, got {had}")?;
     if let Some(step) = step_of_line(scenario.shapes(), shown, line) {
-        write!(told, "\n  it answers {step}")?;
+        write!(text, "\n  it answers {step}")?;
     }
-    Ok(told)
+    Ok(text)
 }
 
-/// A line as it is told beside another one: in quotes, or the words for a text's end. Its line feed is told only where the other lacks
-/// its own.
+/// A line in quotes, or the words for a text's end. Its line feed is printed only where the other line has none.
 #[derive(Clone, Copy, Drop)]
-struct Told<'a> {
+struct Quoted<'a> {
     line: Option<&'a [u8]>,
     other: Option<&'a [u8]>,
     end: &'static str,
 }
 
-impl fmt::Display for Told<'_> {
+impl fmt::Display for Quoted<'_> {
     fn fmt<W: fmt::Write>(&self, f: &mut fmt::Formatter<W>) -> fmt::Result {
         match self.line {
             Some(line) => {
-                let bytes = beside(line, self.other).escape_ascii();
+                let bytes = without_line_feed(line, self.other).escape_ascii();
                 write!(f, "\"{bytes}\"")
             }
             None => f.write_str(self.end),
@@ -91,8 +91,8 @@ impl fmt::Display for Told<'_> {
     }
 }
 
-/// The line without its line feed, unless the other line lacks its own.
-fn beside<'a>(line: &'a [u8], other: Option<&[u8]>) -> &'a [u8] {
+/// The line without its line feed, unless the other line has none.
+fn without_line_feed<'a>(line: &'a [u8], other: Option<&[u8]>) -> &'a [u8] {
     let is_cut = match other {
         Some(other) => !other.ends_with(b"\n"),
         None => false,
@@ -122,9 +122,9 @@ impl fmt::Display for StepPlace {
     }
 }
 
-/// The step that the run's line with this number answers; none behind the last line.
+/// The step that the run's line with this number answers; none after the last line.
 fn step_of_line(steps: &[(Uid, StepShape)], shown: &Shown, line: usize) -> Option<StepPlace> {
-    match shown.options.user {
+    match shown.user {
         Some(user) => step_of_user(steps, user, line),
         None if shown.threads => step_by_users(steps, line),
         None => step_at(steps, line),
@@ -150,11 +150,11 @@ fn step_of_user(steps: &[(Uid, StepShape)], user: Uid, number: usize) -> Option<
 }
 
 /// How many steps the user has.
-fn count_of(steps: &[(Uid, StepShape)], user: Uid) -> usize {
+pub(crate) fn count_of(steps: &[(Uid, StepShape)], user: Uid) -> usize {
     steps.iter().filter(|step| step.0 == user).count()
 }
 
-/// The step with this number where the steps of each user stand together, by rising users.
+/// The step with this number where the steps are sorted by user.
 fn step_by_users(steps: &[(Uid, StepShape)], line: usize) -> Option<StepPlace> {
     let mut left = line;
     for number in 1001..1065 {

@@ -1,5 +1,7 @@
-//! Why an input is refused, for `--explain`: where the first mistake is, and what was likely meant.
+//! Explanations of refused input: where the first mistakes are, and what was likely meant.
 use crate::Trouble;
+use crate::expecting::count_of;
+use command_line::{Mode, Shown};
 use explanations::{Source, explain};
 use scenario::{Fault, MOST_STEP_BYTES, Scenario, parse};
 use std::alloc::{AllocError, Global};
@@ -10,6 +12,12 @@ use std::{fs, io};
 /// How many bytes of a scenario are read: one more than it may have.
 const MOST_READ: u64 = 4194305;
 
+const SCENARIO_PROMPT: &str =
+    "tracehost: type a scenario as JSON, for example {\"steps\":[{\"user\":1001,\"op\":\"spawn\"}]}, and end it with Ctrl-D";
+
+const LINES_PROMPT: &str =
+    "tracehost: type one step a line as JSON, for example {\"user\":1001,\"op\":\"spawn\"}, and end with Ctrl-D";
+
 /// The words of an error of the operating system, without its number.
 fn words_of(alloc: Global, error: &io::Error) -> Result<String, AllocError> {
     let text = format!(in alloc; "{error}")?;
@@ -19,18 +27,19 @@ fn words_of(alloc: Global, error: &io::Error) -> Result<String, AllocError> {
     }
 }
 
-/// The trouble of an input that can't be read: the fault alone, where no memory is left to tell more.
+/// The trouble of an input that can't be read: the fault alone where no memory is left for more.
 pub(crate) fn unread(alloc: Global, name: &str, error: &io::Error) -> Trouble {
     if error.kind() == io::ErrorKind::OutOfMemory {
         return Trouble::Fault(Fault::Memory);
     }
-    match unread_told(alloc, name, error) {
-        Ok(told) => Trouble::Explained(Fault::Read, told),
+    match reason_of(alloc, name, error) {
+        Ok(reason) => Trouble::Explained(Fault::Read, reason),
         Err(_) => Trouble::Fault(Fault::Read),
     }
 }
 
-fn unread_told(alloc: Global, name: &str, error: &io::Error) -> Result<String, AllocError> {
+/// The name of an input that can't be read, and the system's reason.
+fn reason_of(alloc: Global, name: &str, error: &io::Error) -> Result<String, AllocError> {
     let words = words_of(alloc, error)?;
     format!(in alloc; "  {name}: {words}\n")
 }
@@ -50,24 +59,24 @@ fn bytes_of<R: Files + Input + AllocGlobal>(rt: &R, file: Option<&str>) -> io::R
     }
 }
 
-/// The scenario of the bytes. What there is to tell is told where it is one, and else goes with the fault.
+/// The scenario of the bytes. Its explanation is printed where it is one, and else goes with the fault.
 fn parse_explained<R: Eprint + AllocGlobal>(rt: &R, bytes: &[u8]) -> Result<Scenario, Trouble> {
-    let told = match explain(rt.alloc(), Source::Scenario, bytes) {
-        Ok(told) => told,
-        // no memory is left to tell more than the fault
+    let explanation = match explain(rt.alloc(), Source::Scenario, bytes) {
+        Ok(explanation) => explanation,
+        // no memory is left for more than the fault
         Err(_) => String::new(rt.alloc()),
     };
     match parse(rt.alloc(), bytes) {
         Ok(scenario) => {
-            let _ = eprint!(rt; "{told}");
+            let _ = eprint!(rt; "{explanation}");
             Ok(scenario)
         }
         Err(Fault::Memory) => Err(Trouble::Fault(Fault::Memory)),
-        Err(fault) => Err(Trouble::Explained(fault, told)),
+        Err(fault) => Err(Trouble::Explained(fault, explanation)),
     }
 }
 
-/// The scenario of the file, or of standard input, with what there is to tell of it.
+/// The scenario of the file, or of standard input, with its explanation.
 pub(crate) fn explained_scenario<R: Files + Input + Eprint + AllocGlobal>(
     rt: &R,
     file: Option<&str>,
@@ -78,12 +87,32 @@ pub(crate) fn explained_scenario<R: Files + Input + Eprint + AllocGlobal>(
     }
 }
 
-/// A reader of lines, each of which is explained where it is no step, before its answer is written.
+/// Says on the terminal what is read from it.
+pub(crate) fn prompt<R: Eprint>(rt: &R, mode: &Mode<'_>) {
+    let expected = match mode {
+        Mode::Scenario { .. } => SCENARIO_PROMPT,
+        Mode::Lines { .. } => LINES_PROMPT,
+    };
+    let _ = eprintln!(rt; "{expected}");
+}
+
+/// Says that the run prints nothing, where the scenario has no step of the user whose lines are asked for.
+pub(crate) fn explain_empty_run<R: Eprint>(rt: &R, scenario: &Scenario, shown: &Shown) {
+    let Some(user) = shown.user else {
+        return;
+    };
+    if count_of(scenario.shapes(), user) == 0 {
+        let user = user.get();
+        let _ = eprintln!(rt; "  --user {user}: the scenario has no step of this user");
+    }
+}
+
+/// A reader that explains each line that isn't a step, before its answer is written.
 #[derive(Drop)]
 pub(crate) struct Explained<'a, R, I> {
     rt: &'a R,
     input: I,
-    /// What there is of the line, as far as a step may be long.
+    /// The bytes of the line so far, at most one more than a step may have.
     line: Vec<u8>,
     /// How many lines have ended.
     ended: usize,
@@ -99,15 +128,15 @@ impl<'a, R: Eprint + AllocGlobal, I: Read> Explained<'a, R, I> {
         }
     }
 
-    /// Tells what there is to tell of the line, and begins the next one.
+    /// Prints the explanation of the line, and begins the next one.
     fn end_line(&mut self) {
         self.ended = self.ended.saturating_add(1);
-        if let Ok(told) = explain(
+        if let Ok(explanation) = explain(
             self.rt.alloc(),
             Source::Line(self.ended),
             self.line.as_slice(),
         ) {
-            let _ = eprint!(self.rt; "{told}");
+            let _ = eprint!(self.rt; "{explanation}");
         }
         self.line.clear();
     }

@@ -1,61 +1,58 @@
-//! `tracehost [FILE] [--user UID] [--threads]`: runs the scenario of a file or of standard input, and writes its lines, or those of one
-//! user alone, to standard output; with `--threads` each user's steps are made by a thread of their own, and the lines come user by user.
-//! With `--expect FILE` the lines are compared with the file's, and the first that differs is told; with `--explain` it is told where and
-//! why an input is refused.
+//! `tracehost [FILE] [--user UID] [--threads]` runs a scenario, and prints its lines, or only those of one user. With `--threads` each
+//! user's steps are made by a thread of their own, and the lines come user by user. With `--expect FILE` the lines are compared with the
+//! file's, and only the first difference is printed.
 //!
-//! `tracehost --lines [FILE] [--kill-on-debugger-exit 0|1]`: makes the step of each line, and writes its line before it reads the next.
+//! `tracehost --lines [FILE] [--kill-on-debugger-exit 0|1]` makes the step of each line, and prints its reply before it reads the next
+//! one.
 //!
-//! With `--json` each line is a JSON object.
+//! Both read standard input where FILE is missing or `-`. With `--json` each line is a JSON object, and with
+//! `--json=trace` it has the step that it answers, too. `--explain` explains on standard error where and why input is refused; on a terminal
+//! it does so without being asked.
 #![tactic(auto)]
 
 mod expecting;
 mod explaining;
 
 use crate::expecting::{none_differs, read_expected};
-use crate::explaining::{Explained, explained_scenario, unread};
-use clap::error::ErrorKind;
-use clap::{Arg, ArgAction, ArgMatches, Command};
+use crate::explaining::{Explained, explain_empty_run, explained_scenario, prompt, unread};
+use command_line::{Asked, Message, Mode, Refusal, Shown, Terminals, asked_of};
 use expected_text::first_difference;
+use json_trace::TraceWriter;
 use line_sessions::{ServeFault, serve};
-use pid_blocks::Uid;
-use scenario::{Fault, RunFault, RunOptions, Scenario, Style, handlers_by, read, run, run_threads};
-use std::alloc::{AllocError, Global};
-use std::io::{BufReader, Read, Write};
+use scenario::{Fault, RunFault, RunOptions, Scenario, Style, handlers_by, read, run};
+use std::alloc::AllocError;
+use std::io::{BufReader, IsTerminal, Read, Write};
 use std::process::ExitCode;
 use std::rt::{Env, Files};
 use std::sync::Wait;
 use std::thread::Threads;
 use std::{env, fs, io};
 use stop_handlers::{Decider, Handler};
+use threaded_runs::run_threads;
 use trace_stop::Settings;
+
+/// The version of the program and of all that comes with it.
+const VERSION: &str = "0.2.0";
 
 /// Why the program ends with another status than 0.
 #[derive(Drop)]
 enum Trouble {
-    /// The command line is refused, or asks for help.
-    Command(clap::Error),
-    /// An argument is no text.
+    /// The command line is refused, or asks for help or the version.
+    Command(Message),
+    /// An argument isn't UTF-8.
     Words,
-    /// There is no scenario.
+    /// The user of `--user` isn't one.
+    User,
+    /// The input is refused.
     Fault(Fault),
-    /// There is no scenario, and lines that tell where and why.
+    /// The input is refused; and lines that explain it.
     Explained(Fault, String),
-    /// The run came to no end.
+    /// The run failed.
     Run(RunFault),
     /// The session ended before its input.
     Serve(ServeFault),
-    /// The run's lines aren't the expected ones: what is told of the first that differs.
+    /// The run's lines aren't the expected ones; and a line about the first difference.
     Different(String),
-}
-
-impl From<clap::Error> for Trouble {
-    fn from(error: clap::Error) -> Trouble {
-        if error.kind() == ErrorKind::OutOfMemory {
-            Trouble::Fault(Fault::Memory)
-        } else {
-            Trouble::Command(error)
-        }
-    }
 }
 
 impl From<io::Error> for Trouble {
@@ -71,6 +68,16 @@ impl From<io::Error> for Trouble {
 impl From<AllocError> for Trouble {
     fn from(_refused: AllocError) -> Trouble {
         Trouble::Fault(Fault::Memory)
+    }
+}
+
+impl From<Refusal> for Trouble {
+    fn from(refusal: Refusal) -> Trouble {
+        match refusal {
+            Refusal::Command(message) => Trouble::Command(message),
+            Refusal::User => Trouble::User,
+            Refusal::Memory => Trouble::Fault(Fault::Memory),
+        }
     }
 }
 
@@ -92,146 +99,29 @@ impl From<ServeFault> for Trouble {
     }
 }
 
-/// Which lines of a run are shown, and in which order.
-#[derive(Clone, Copy, Drop)]
-struct Shown {
-    options: RunOptions,
-    /// Each user's steps are made by a thread of their own, and the lines come user by user.
-    threads: bool,
+/// The style of the lines.
+fn style_of(style: command_line::Style) -> Style {
+    match style {
+        command_line::Style::Words => Style::Words,
+        command_line::Style::Json => Style::Json,
+    }
 }
 
-/// What is done with the input.
-#[derive(Clone, Copy, Drop)]
-enum Mode<'a> {
-    /// A scenario is run, and lines are shown, or compared with those of the expected file.
-    Scenario {
-        shown: Shown,
-        expected: Option<&'a str>,
-    },
-    /// Lines are answered one by one, by a host with these settings.
-    Lines {
-        settings: Settings,
-        style: Style,
-    },
-}
-
-/// What the command line asks for.
-#[derive(Drop)]
-struct Asked<'a> {
-    /// The file of the input; none for standard input.
-    file: Option<&'a str>,
-    /// It is told where and why the input is refused.
-    explains: bool,
-    mode: Mode<'a>,
-}
-
-/// The examples at the end of the help.
-const EXAMPLES: &str = "Examples:
-  tracehost examples/two_users.json --user 1002
-  tracehost examples/first.json --expect examples/first.out
-  echo '{\"user\":1001,\"op\":\"spawn\"}' | tracehost --lines";
-
-/// The command with the options of a scenario.
-fn with_scenario_options<'a>(
-    alloc: Global,
-    command: Command<'a>,
-) -> Result<Command<'a>, AllocError> {
-    let user = Arg::new(alloc, "UID")
-        .long("user")
-        .action(ArgAction::Set)
-        .value_parser(clap::value_parser!(u32).range(1001..=1064))
-        .help("Print the lines of this user alone, 1001 to 1064");
-    let command = command.arg(user)?;
-    let threads = Arg::new(alloc, "threads")
-        .long("threads")
-        .action(ArgAction::SetTrue)
-        .help("Make each user's steps in a thread of their own, and print the lines user by user");
-    let command = command.arg(threads)?;
-    let expect = Arg::new(alloc, "expect")
-        .long("expect")
-        .value_name("FILE")
-        .action(ArgAction::Set)
-        .help("Print nothing, but the first line that differs from those of this file");
-    let command = command.arg(expect)?;
-    let json = Arg::new(alloc, "json")
-        .long("json")
-        .action(ArgAction::SetTrue)
-        .help("Print each line as a JSON object");
-    command.arg(json)
-}
-
-/// The command with the options of a session line by line.
-fn with_line_options<'a>(alloc: Global, command: Command<'a>) -> Result<Command<'a>, AllocError> {
-    let lines = Arg::new(alloc, "lines")
-        .long("lines")
-        .action(ArgAction::SetTrue)
-        .conflicts_with("UID")?
-        .conflicts_with("threads")?
-        .conflicts_with("expect")?
-        .help("Read a step a line, and answer each before the next is read");
-    let command = command.arg(lines)?;
-    let kill = Arg::new(alloc, "0|1")
-        .long("kill-on-debugger-exit")
-        .action(ArgAction::Set)
-        .value_parser(clap::value_parser!(u32).range(0..=1))
-        .requires_arg("lines")?
-        .help(
-            "With --lines: whether the end of a debugger kills the processes that it traces [default: 1]",
-        );
-    command.arg(kill)
-}
-
-/// The command line, by the options that the program has.
-fn matches_of(alloc: Global, words: &[String]) -> Result<ArgMatches<'_>, Trouble> {
-    let file = Arg::new(alloc, "FILE").help(
-        "The scenario, or with --lines the steps; standard input where none is given",
-    );
-    let command = Command::new(alloc, "tracehost")
-        .version("0.1.0")
-        .about("A model of FreeBSD's process tracing on a host that debuggers of many users share")
-        .after_help(EXAMPLES)
-        .arg(file)?;
-    let explain = Arg::new(alloc, "explain")
-        .long("explain")
-        .action(ArgAction::SetTrue)
-        .help("Tell on standard error where and why the scenario, or a line, is refused");
-    let command = with_scenario_options(alloc, command.arg(explain)?)?;
-    let command = with_line_options(alloc, command)?;
-    Ok(command.try_get_matches_from(words)?)
-}
-
-/// What the command line asks for.
-fn asked_of(alloc: Global, words: &[String]) -> Result<Asked<'_>, Trouble> {
-    let matches = matches_of(alloc, words)?;
-    let style = if matches.get_flag("json") {
-        Style::Json
+/// The settings of a host whose debuggers' ends kill or detach what they trace.
+fn settings_of(kills_on_exit: bool) -> Settings {
+    if kills_on_exit {
+        Settings::standard()
     } else {
-        Style::Words
-    };
-    let mode = if matches.get_flag("lines") {
-        let settings = match matches.get_one::<u32>("0|1") {
-            Some(0) => Settings::detach_on_exit(),
-            _ => Settings::standard(),
-        };
-        Mode::Lines { settings, style }
-    } else {
-        let user = match matches.get_one::<u32>("UID") {
-            Some(number) => Uid::new(number).ok(),
-            None => None,
-        };
-        Mode::Scenario {
-            shown: Shown {
-                options: RunOptions { user, style },
-                threads: matches.get_flag("threads"),
-            },
-            expected: matches.get_str("expect"),
-        }
-    };
-    Ok(Asked {
-        file: matches.get_str("FILE"),
-        explains: matches.get_flag("explain"),
-        mode,
-    })
+        Settings::detach_on_exit()
+    }
+}
+
+/// The options of a run by what is shown of it.
+fn options_of(shown: &Shown) -> RunOptions {
+    RunOptions {
+        user: shown.user,
+        style: style_of(shown.style),
+    }
 }
 
 /// Opens the file of the input.
@@ -279,7 +169,7 @@ fn serve_reader<R: Print + AllocGlobal, I: Read + Drop>(
     Ok(())
 }
 
-/// Answers the lines of the reader, with what there is to tell of them.
+/// Answers the lines of the reader, and explains those that are refused if that is asked for.
 fn serve_input<R: Print + Eprint + AllocGlobal, I: Read + Drop>(
     rt: &R,
     settings: Settings,
@@ -314,7 +204,41 @@ fn serve_lines<R: Files + Input + Print + Eprint + AllocGlobal>(
     }
 }
 
-/// Makes the steps of the scenario, and writes the lines that are to be shown.
+/// Makes the steps of the scenario, and writes the lines of their replies.
+fn write_replies<R: AllocGlobal + Threads + Wait + Sync, F: Decider + Send + Drop, W: Write>(
+    rt: &R,
+    scenario: &Scenario,
+    handlers: Vec<Handler<F>>,
+    shown: &Shown,
+    writer: &mut W,
+) -> Result<(), RunFault> {
+    let options = options_of(shown);
+    if shown.threads {
+        run_threads(rt, rt.alloc(), scenario, handlers, options, writer)
+    } else {
+        run(rt.alloc(), scenario, handlers, options, writer)
+    }
+}
+
+/// Makes the steps of the scenario, and writes the lines of their replies with the steps.
+fn write_trace<R: AllocGlobal + Threads + Wait + Sync, F: Decider + Send + Drop, W: Write>(
+    rt: &R,
+    scenario: &Scenario,
+    handlers: Vec<Handler<F>>,
+    shown: &Shown,
+    writer: &mut W,
+) -> Result<(), RunFault> {
+    let Ok(mut trace) = TraceWriter::new(rt.alloc(), scenario, writer) else {
+        return Err(RunFault::Memory);
+    };
+    write_replies(rt, scenario, handlers, shown, &mut trace)?;
+    match trace.flush() {
+        Ok(()) => Ok(()),
+        Err(_) => Err(RunFault::Write),
+    }
+}
+
+/// Makes the steps of the scenario, and writes the lines that are asked for.
 fn write_run<R: AllocGlobal + Threads + Wait + Sync, F: Decider + Send + Drop, W: Write>(
     rt: &R,
     scenario: &Scenario,
@@ -322,14 +246,14 @@ fn write_run<R: AllocGlobal + Threads + Wait + Sync, F: Decider + Send + Drop, W
     shown: &Shown,
     writer: &mut W,
 ) -> Result<(), RunFault> {
-    if shown.threads {
-        run_threads(rt, rt.alloc(), scenario, handlers, shown.options, writer)
+    if shown.trace {
+        write_trace(rt, scenario, handlers, shown, writer)
     } else {
-        run(rt.alloc(), scenario, handlers, shown.options, writer)
+        write_replies(rt, scenario, handlers, shown, writer)
     }
 }
 
-/// Makes the steps of the scenario, and answers the lines that are to be shown.
+/// Makes the steps of the scenario, and returns the lines that are asked for.
 fn text_of_run<R: AllocGlobal + Threads + Wait + Sync, F: Decider + Send + Drop>(
     rt: &R,
     scenario: &Scenario,
@@ -339,22 +263,9 @@ fn text_of_run<R: AllocGlobal + Threads + Wait + Sync, F: Decider + Send + Drop>
     let mut text = Vec::new(rt.alloc());
     match write_run(rt, scenario, handlers, shown, &mut text) {
         Ok(()) => Ok(text),
-        // a write into memory fails only for want of it
+        // a write into memory fails only where none is left
         Err(RunFault::Write) => Err(RunFault::Memory),
         Err(fault) => Err(fault),
-    }
-}
-
-/// The scenario of the file, or of standard input, and what there is to tell of it.
-fn scenario_told<R: Files + Input + Eprint + AllocGlobal>(
-    rt: &R,
-    file: Option<&str>,
-    explains: bool,
-) -> Result<Scenario, Trouble> {
-    if explains {
-        explained_scenario(rt, file)
-    } else {
-        Ok(scenario_of(rt, file)?)
     }
 }
 
@@ -381,32 +292,59 @@ fn run_scenario<R: Files + Print + AllocGlobal + Threads + Wait + Sync>(
     }
 }
 
+/// Reads the scenario, and runs it.
+fn read_and_run<R: Files + Input + Print + Eprint + AllocGlobal + Threads + Wait + Sync>(
+    rt: &R,
+    file: Option<&str>,
+    explains: bool,
+    shown: &Shown,
+    expected: Option<&str>,
+) -> Result<(), Trouble> {
+    if !explains {
+        let scenario = scenario_of(rt, file)?;
+        return run_scenario(rt, &scenario, shown, expected, false);
+    }
+    let scenario = explained_scenario(rt, file)?;
+    explain_empty_run(rt, &scenario, shown);
+    run_scenario(rt, &scenario, shown, expected, true)
+}
+
 /// Reads the command line, and does what it asks for. The first trouble ends it.
 fn go<R: Files + Input + Print + Eprint + Env + AllocGlobal + Threads + Wait + Sync>(
     rt: &R,
+    terminals: Terminals,
 ) -> Result<(), Trouble> {
     let words: Vec<String> = env::args(rt)?.collect(rt.alloc())?;
     let Asked {
         file,
         explains,
         mode,
-    } = asked_of(rt.alloc(), words.as_slice())?;
+    } = asked_of(rt.alloc(), VERSION, words.as_slice(), terminals)?;
+    if explains && terminals.input && file.is_none() {
+        prompt(rt, &mode);
+    }
     match mode {
-        Mode::Scenario { shown, expected } => {
-            let scenario = scenario_told(rt, file, explains)?;
-            run_scenario(rt, &scenario, &shown, expected, explains)
-        }
-        Mode::Lines { settings, style } => serve_lines(rt, settings, style, file, explains),
+        Mode::Scenario { shown, expected } => read_and_run(rt, file, explains, &shown, expected),
+        Mode::Lines {
+            kills_on_exit,
+            style,
+        } => serve_lines(
+            rt,
+            settings_of(kills_on_exit),
+            style_of(style),
+            file,
+            explains,
+        ),
     }
 }
 
-/// Tells what the command line led to, and answers its status: the version on standard output, and all else on standard error.
-fn command_told<R: Print + Eprint>(rt: &R, error: &clap::Error) -> u8 {
-    if error.kind() != ErrorKind::DisplayVersion {
-        let _ = eprint!(rt; "{error}");
+/// Prints the message, and returns its status: the version on standard output, and all else on standard error.
+fn report_command<R: Print + Eprint>(rt: &R, message: &Message) -> u8 {
+    if !message.is_version() {
+        let _ = eprint!(rt; "{message}");
         return 2;
     }
-    match print!(rt; "{error}") {
+    match print!(rt; "{message}") {
         Ok(()) => 0,
         Err(_) => {
             let _ = eprintln!(rt; "{}", RunFault::Write);
@@ -415,20 +353,24 @@ fn command_told<R: Print + Eprint>(rt: &R, error: &clap::Error) -> u8 {
     }
 }
 
-/// Tells the trouble, and answers its status.
-fn told<R: Print + Eprint>(rt: &R, trouble: &Trouble) -> u8 {
+/// Prints the trouble on standard error, and returns its status.
+fn report<R: Print + Eprint>(rt: &R, trouble: &Trouble) -> u8 {
     match trouble {
-        Trouble::Command(error) => command_told(rt, error),
+        Trouble::Command(message) => report_command(rt, message),
         Trouble::Words => {
             let _ = eprintln!(rt; "error: an argument is no text");
+            2
+        }
+        Trouble::User => {
+            let _ = eprintln!(rt; "error: a user is a number from 1001 to 1064");
             2
         }
         Trouble::Fault(fault) => {
             let _ = eprintln!(rt; "{fault}");
             fault.status()
         }
-        Trouble::Explained(fault, told) => {
-            let _ = eprint!(rt; "{fault}\n{told}");
+        Trouble::Explained(fault, explanation) => {
+            let _ = eprint!(rt; "{fault}\n{explanation}");
             fault.status()
         }
         Trouble::Run(fault) => {
@@ -439,16 +381,20 @@ fn told<R: Print + Eprint>(rt: &R, trouble: &Trouble) -> u8 {
             let _ = eprintln!(rt; "{fault}");
             fault.status()
         }
-        Trouble::Different(told) => {
-            let _ = eprintln!(rt; "{told}");
+        Trouble::Different(line) => {
+            let _ = eprintln!(rt; "{line}");
             4
         }
     }
 }
 
 fn main(rt: HostRuntime) -> ExitCode {
-    match go(&rt) {
+    let terminals = Terminals {
+        input: rt.stdin().is_terminal(),
+        error: rt.stderr().is_terminal(),
+    };
+    match go(&rt, terminals) {
         Ok(()) => ExitCode::SUCCESS,
-        Err(trouble) => ExitCode::from(told(&rt, &trouble)),
+        Err(trouble) => ExitCode::from(report(&rt, &trouble)),
     }
 }

@@ -45,7 +45,7 @@ pub meets_same : {u : ℕ} {start c v : Rows} → Sim u start c v → (k p n : �
 meets_same {u} {start} {c} {v} s k p n here = either (pid_owner n) u (meets_own_same s k p n) (λ ne.
     meets_foreign c.processes s.kept.closed.processes k p n (λ e. ne (e ∙ here)) ∙ sym (meets_foreign v.processes (subst (AllByRecursion GoodProc) s.processes (All-filter (own u) GoodProc c.processes s.kept.closed.processes)) k p n (λ e. ne (e ∙ here))))
 
--- Who ends: no row of another user, and no number of one
+-- The rows that end: no row of another user, and no number of one
 
 module _ {u : ℕ} (over : ℕ → Bool) (over_foreign : (n : ℕ) → pid_owner n ≢ u → over n ≡ false) where
   holds_none : {w : ℕ} → w ≢ u → (o : Option ℕ) → IfSome o (λ t. pid_owner t ≡ w) → holds_of over o ≡ false
@@ -78,7 +78,7 @@ module _ (over : ℕ → Bool) (p : ProcData) (good : GoodProc p) where
   parent_good : Mine p.uid (if over p.parent then 1 else p.parent)
   parent_good = choose (over p.parent) 1 p.parent (Mine p.uid) (λ e ne. absurd (ne refl)) (λ e. good.parent)
 
-  -- a zombie that has lost whom it names
+  -- a zombie without the tracer and the parent that end
   left_kin : (z : ProcData) → z.pid ≡ p.pid → z.uid ≡ p.uid → z.tracer ≡ unless over p.tracer → z.parent ≡ (if over p.parent then 1 else p.parent) → IfSome (reporting z) (λ t. tid_owner t ≡ p.uid) → Kin p (uncollected z)
   left_kin z pid uid tracer parent reports = search (rules, choose, is_none, tracer_good, parent_good, ap₂, eq-eqb)
 

@@ -29,7 +29,7 @@ pub owns_owner : (u n : ℕ) (ps : List ProcData) → AllByRecursion GoodProc ps
 owns_owner u n ps all is = any_holds (λ p. (p.pid == n) && (p.uid == u)) GoodProc (pid_owner n ≡ u)
     (λ p good e. ap pid_owner (sym (eqb-true p.pid n (and_left (p.pid == n) (p.uid == u) e))) ∙ good.block ∙ eqb-true p.uid u (and_right (p.pid == n) (p.uid == u) e)) ps all is
 
--- who has a process is a user
+-- the owner of a process is a user
 pub owns_user : (u n : ℕ) (ps : List ProcData) → AllByRecursion AtHome ps → owns u n ps ≡ true → IsUser u
 owns_user u n ps homes is = any_holds (λ p. (p.pid == n) && (p.uid == u)) AtHome (IsUser u) (λ p home e. subst IsUser (eqb-true p.uid u (and_right (p.pid == n) (p.uid == u) e)) home.user) ps homes is
 

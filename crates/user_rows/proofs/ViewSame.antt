@@ -59,7 +59,7 @@ module _ {u : ℕ} {start c v : Rows} (s : Sim u start c v) where
     pub lwps_query : filter q c.lwps ≡ filter q v.lwps
     lwps_query = sym (filter_only q (own_lwp u) GoodLwp (λ l well is. is_own u (pid_owner l.pid) (mine l well is)) c.lwps s.kept.closed.lwps) ∙ ap (filter q) s.lwps
 
--- who has a number of u is a row of u
+-- a process with a number of u is a row of u
 pub named : {u n : ℕ} → pid_owner n ≡ u → (p : ProcData) → GoodProc p → p.pid ≡ n → p.uid ≡ u
 named mine p good e = sym good.block ∙ ap pid_owner e ∙ mine
 
@@ -74,7 +74,7 @@ at_number ps all n R none some = by_row (process_of n ps) refl (find_some (λ p.
     by_row None is g = none
     by_row (Some p) is g = some p is g.0 (eqb-true p.pid n g.1)
 
--- Each row by itself
+-- Each row on its own
 
 abbrev pub Kin : ProcData → Option ProcData → Type 0
 Kin p o = IfSome o (λ q. (q.pid ≡ p.pid) × (q.uid ≡ p.uid) × GoodProc q)

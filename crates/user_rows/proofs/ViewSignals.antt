@@ -21,7 +21,7 @@ not_one p good e = let here = sym good.block ∙ ap pid_owner e ∙ owner_of_1 i
 pub user_not_one : (u n : ℕ) → IsUser u → pid_owner n ≡ u → n ≢ 1
 user_not_one u n user mine e = let here = sym mine ∙ ap pid_owner e ∙ owner_of_1 in let least = user.0 in absurd (omega arith)
 
--- nobody else's number is in a list of u's numbers
+-- no other user's number is in a list of u's numbers
 pub not_among : {u : ℕ} (n : ℕ) (ns : List ℕ) → Mines u ns → n ≢ 1 → pid_owner n ≢ u → list_any (λ m. m == n) ns ≡ false
 not_among n [] all one ne = refl
 not_among {u} n (m ∷ ms) all one ne = rw (not_own n m (λ e. ne (ap pid_owner (sym e) ∙ all.0 (λ i. one (sym e ∙ i)))), not_among n ms all.1 one ne) refl

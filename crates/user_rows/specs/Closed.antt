@@ -1,4 +1,4 @@
--- Rows that keep users apart: what they name is of one user.
+-- Rows that keep users apart: each row names only numbers of one user.
 use Rattle.std.specs.Prelude.{◌≡◌, ◌≢◌, ℕ, false, true, List, Option, Some, None, IfSome, length, get_or}
 use Rattle.std.specs.List.{AllByRecursion}
 use Rattle.pid_blocks.specs.Users.{IsUser}
@@ -10,11 +10,11 @@ use Rattle.proc_table.specs.Rows.{Rows}
 use Rattle.proc_table.specs.Kept.{Rise}
 use Rattle.trace_stop.specs.Facts.{waited_for}
 
--- the number of process 1, or one in the user's block
+-- the number 1, or a number of a process in the user's block
 abbrev pub Mine : ℕ → ℕ → Type 0
 Mine u n = n ≢ 1 → pid_owner n ≡ u
 
--- a process names numbers of its own user alone, and a zombie has somebody who collects it
+-- a process names only numbers of its own user, and a zombie has a tracer or a parent that collects it
 pub record GoodProc (p : ProcData) : Type 0 where
   pub user : IsUser p.uid
   pub block : pid_owner p.pid ≡ p.uid
@@ -23,7 +23,7 @@ pub record GoodProc (p : ProcData) : Type 0 where
   pub reporting : IfSome (reporting p) (λ t. tid_owner t ≡ p.uid)
   pub collector : is_live p ≡ false → p.tracer ≡ None → p.parent ≢ 1
 
--- so does an LWP
+-- an LWP names only numbers of its own user
 pub record GoodLwp (l : LwpData) : Type 0 where
   pub block : tid_owner l.tid ≡ pid_owner l.pid
   pub waits : IfSome (waited_for l.mode) (λ c. pid_owner c ≡ pid_owner l.pid)
@@ -32,11 +32,11 @@ abbrev pub LiveRow : Option ProcData → Type 0
 LiveRow None = ⊥
 LiveRow (Some p) = is_live p ≡ true
 
--- the process of an LWP is a live row
+-- the process of an LWP is live
 abbrev pub LiveOwner : List ProcData → LwpData → Type 0
 LiveOwner ps l = LiveRow (process_of l.pid ps)
 
--- what rows keep at every moment of a step of u
+-- what rows satisfy at every moment of a step of u
 pub record Closed (u : ℕ) (rows : Rows) : Type 0 where
   pub processes : AllByRecursion GoodProc rows.processes
   pub lwps : AllByRecursion GoodLwp rows.lwps

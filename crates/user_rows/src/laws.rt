@@ -2,8 +2,8 @@
 
 ghost use Rattle.user_rows.specs.Laws.{EndOwn, EndOthers};
 
-/// The end of a process is, among its user's rows, its end where nobody else has rows, and leaves every
-/// other user's rows as they were.
+/// Among its user's rows, the end of a process has the same result as where no other user has rows. It leaves
+/// every other user's rows unchanged.
 pub fn ends_are_apart()
     ensures own { EndOwn }
     ensures others { EndOthers }

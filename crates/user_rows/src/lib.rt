@@ -1,4 +1,4 @@
-//! One user's rows among all: what signals, stops and the ends of processes do to them.
+//! One user's rows among all: how signals, stops and the ends of processes change them.
 #![tactic(auto)]
 
 pub mod laws;

@@ -1,4 +1,4 @@
--- Two views are one and the same exactly where they are equal.
+-- The equality of views decides whether they are identical.
 use Rattle.std.specs.Prelude.{◌≡◌, Bool, true, false, ◌&&◌, ◌==◌, nat_eq, List, Option}
 use Rattle.std.specs.Option.{option_eq}
 use Rattle.std.specs.Cmp.{IsEquivalence, decided}

@@ -12,30 +12,30 @@ use Rattle.requests.specs.Isolation.{reply_of, host_after, replies_to, answered,
 abbrev pub asked : ℕ × PlainStep → Asked
 asked s = record { uid = s.0; step = s.1 }
 
--- an answer, where memory didn't run out
+-- a reply, or None where memory ran out
 abbrev pub told : Reply → Option Reply
 told r = if is_memory r then None else Some r
 
--- what a step did to a host: the machine's answer and the machine's host; or, where the step takes memory and the machine wouldn't
--- refuse it, want of memory and the host as it was
+-- the effect of a step on a host: the machine's reply and the machine's host; or, where the step takes memory and the
+-- machine wouldn't refuse it, out of memory and the host as it was
 abbrev pub Did : Option Reply → ℕ → PlainStep → Machine → Machine → Type 0
 Did None u s m k = (k ≡ m) × (may_want u s m ≡ true)
 Did (Some r) u s m k = (r ≡ reply_of u s m) × (k ≡ host_after u s m)
 
--- in a run from m, only steps that take memory and aren't refused want memory
+-- in a run from m, only steps that take memory and aren't refused run out of memory
 abbrev pub Wanting : List Asked → List (Option Reply) → Machine → Type 0
 Wanting [] rs m = Unit {0}
 Wanting (x ∷ xs) [] m = Unit {0}
 Wanting (x ∷ xs) (None ∷ rs) m = (may_want x.uid x.step m ≡ true) × Wanting xs rs m
 Wanting (x ∷ xs) (Some r ∷ rs) m = Wanting xs rs (host_after x.uid x.step m)
 
--- where both steps were answered: the answers, and something more
+-- P of the replies, if neither step ran out of memory
 abbrev pub BothTold : Option Reply → Option Reply → (Reply → Reply → Type 0) → Type 0
 BothTold None s P = Unit {0}
 BothTold (Some r) None P = Unit {0}
 BothTold (Some r) (Some q) P = P r q
 
--- where the answered steps of a user are the same in two runs, so are the user's replies, and what the user sees afterwards
+-- if the answered steps of a user are the same in two runs, so are the user's replies, and the user's views afterwards
 abbrev pub Agree : ℕ → List Asked → List Asked → List (Option Reply) → List (Option Reply) → Machine → Machine → Type 0
 Agree u xs ys rs ss m k =
     asked_by u (answered xs rs) ≡ asked_by u (answered ys ss)

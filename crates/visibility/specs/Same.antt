@@ -1,4 +1,4 @@
--- Whether two views are one and the same.
+-- The equality of views.
 use Rattle.std.specs.Prelude.{Bool, ◌&&◌, ◌==◌}
 use Rattle.std.specs.Cmp.Lexicographic.{pointwise}
 use Rattle.lwp_table.specs.declared.LwpData.{LwpData}

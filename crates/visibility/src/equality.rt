@@ -1,4 +1,4 @@
-//! Views that show the same.
+//! Equality of views.
 
 ghost use Rattle.std.specs.Prelude.{◌≡◌, ◌↔◌, IsTrue};
 ghost use Rattle.std.specs.Cmp.{partial_equiv_from_equiv};
@@ -10,7 +10,7 @@ use crate::View;
 use pid_blocks::Pid;
 use stop_handlers::Policy;
 
-/// Two views are equal where they show the same.
+/// Views are equal if all their parts are equal.
 impl PartialEq for View {
     ghost eq = { same_view };
 
@@ -33,7 +33,7 @@ impl Eq for View {
     ghost laws = { views_equiv };
 }
 
-/// Whether two lists of debuggers and policies are one and the same.
+/// Returns whether two lists of debuggers and policies are equal.
 fn same_pairs(mine: &[(Pid, Policy)], others: &[(Pid, Policy)]) -> bool
     ensures { IsTrue result ↔ (mine.now ≡ others.now) }
 {
@@ -48,7 +48,7 @@ fn same_pairs(mine: &[(Pid, Policy)], others: &[(Pid, Policy)]) -> bool
     true
 }
 
-/// Whether the same policies were installed by the same debuggers, in the same order.
+/// Returns whether the same debuggers have installed the same policies in the same order.
 fn same_handlers(mine: &View, other: &View) -> bool
     ensures { result ≡ pointwise same_installed mine.now.installed other.now.installed }
 {

@@ -1,4 +1,4 @@
-//! The laws of isolation, made on hosts.
+//! The laws of isolation, as functions on hosts.
 
 ghost use Rattle.std.specs.Prelude.{◌≡◌, ◌≢◌, map, IfOk, OnErr};
 ghost use Rattle.requests.specs.View.{view};
@@ -11,8 +11,8 @@ use requests::{Host, Reply, Step};
 use std::alloc::{AllocError, Global};
 use stop_handlers::{Decider, Handler};
 
-/// One step of a user in two hosts of which the user sees the same: where both are answered, the replies are equal, and the user
-/// sees the same of both hosts afterwards.
+/// Makes one step of a user in two hosts of which the user sees the same. If neither runs out of memory, the replies
+/// are equal, and the user sees the same of both hosts afterwards.
 pub fn one_step<F: Decider + Send + Drop>(
     alloc: Global,
     first: &mut Host<F>,
@@ -35,7 +35,7 @@ pub fn one_step<F: Decider + Send + Drop>(
     (reply, other)
 }
 
-/// A step of another user leaves what a user sees, whatever it answers.
+/// Makes a step of another user. It doesn't change what the user sees, whatever the reply.
 pub fn other_step<F: Decider + Send + Drop>(
     alloc: Global,
     host: &mut Host<F>,
@@ -52,8 +52,8 @@ pub fn other_step<F: Decider + Send + Drop>(
     host.step(alloc, other, step)
 }
 
-/// Two steps that differ in numbers alone that the user doesn't see, in two equal hosts: where both are answered, the replies are
-/// equal, and so are the hosts afterwards.
+/// Makes two steps in two equal hosts, which differ only in numbers that the user doesn't see. If neither runs out of
+/// memory, the replies are equal, and so are the hosts afterwards.
 pub fn foreign_number<F: Decider + Send + Drop>(
     alloc: Global,
     first: &mut Host<F>,
@@ -75,9 +75,9 @@ pub fn foreign_number<F: Decider + Send + Drop>(
     (reply, answer)
 }
 
-/// Two lists of steps of all users in two hosts of which a user sees the same: where the answered steps of that user are the same in
-/// both, so are the user's replies, and what the user sees of both hosts afterwards. Room is taken before either host changes: an
-/// error is want of memory, and changes nothing.
+/// Makes two lists of steps of all users in two hosts of which a user sees the same. If the answered steps of that user
+/// are the same in both, so are the user's replies, and what the user sees of both hosts afterwards. All room for
+/// replies is allocated before either host changes: an error means out of memory, and changes nothing.
 pub fn two_lists<F: Decider + Send + Drop>(
     alloc: Global,
     first: &mut Host<F>,

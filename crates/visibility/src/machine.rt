@@ -1,74 +1,82 @@
-//! Laws of the tracing machine alone: what keeps users apart, over rows and lists of steps, with no host and no memory.
+//! Laws of the tracing machine without a host and without limits of memory: the isolation of users over rows and lists
+//! of steps.
 
 ghost use Rattle.visibility.specs.WorkedRuns.{ForkIsFollowed};
 ghost use Rattle.requests.specs.Isolation.{Alone, OneStep, OtherStep, OwnRun, TwoLists, KeepsApart, ForeignNumber, AloneApart, EmptyApart, OwnList, SoundApart, RunsArePrivate, TwoRuns};
 
-/// A worked run, by computation: a debugger follows a fork.
+/// A run checked by computation: a debugger follows a fork.
 pub fn a_followed_fork()
     ensures { ForkIsFollowed }
 {}
 
-/// A step gives its user the reply and the view that it gives in a host where nobody else has done anything.
+/// A step gives its user the reply and the view that it gives in a host where no other user has made a step.
 pub fn alone()
     ensures { Alone }
 {}
 
-/// One step in two hosts where its user sees the same: the same reply, and the same is seen afterwards.
+/// One step in two hosts of which its user sees the same: the reply is the same, and so is the view afterwards.
 pub fn one_step()
     ensures { OneStep }
 {}
 
-/// A step of another user leaves what a user sees, whatever it answers.
+/// A step of another user doesn't change what a user sees, whatever its reply.
 pub fn other_step()
     ensures { OtherStep }
 {}
 
-/// A list of all users' steps gives each user the replies and the view that the machine gives on that user's view alone.
+/// A list of all users' steps gives each user the replies and the view that the machine gives on only that user's view
+/// and steps.
 pub fn own_run()
     ensures { OwnRun }
 {}
 
-/// Two lists in which a user asks the same, from hosts where the user sees the same, give that user the same.
+/// Two lists with the same steps of a user, from hosts of which the user sees the same, give that user the same replies
+/// and the same view.
 pub fn two_lists()
     ensures { TwoLists }
 {}
 
-/// In a list of all users' steps each user gets what the user's own steps get in a host where nobody else has done anything.
+/// In a list of all users' steps each user's replies and view are those of the user's own steps in a host where no
+/// other user has made a step.
 pub fn own_list()
     ensures { OwnList }
 {}
 
-/// Numbers that a user doesn't see stand for each other, as caller, target, `which` or LWP: the same reply, and the same host.
+/// Numbers that a user doesn't see are interchangeable as caller, target, `which` or LWP: the reply and the host are
+/// the same.
 pub fn foreign_number()
     ensures { ForeignNumber }
 {}
 
-/// Each step keeps users apart.
+/// Each step keeps users separate.
 pub fn keeps_apart()
     ensures { KeepsApart }
 {}
 
-/// In a sound host users are apart.
+/// In a sound host users are separate.
 pub fn sound_apart()
     ensures { SoundApart }
 {}
 
-/// The host with one user's view, in which nobody else has done anything, keeps users apart and shows that user the same.
+/// In the host with one user's view, in which no other user has made a step, users are separate and that user sees the
+/// same.
 pub fn alone_apart()
     ensures { AloneApart }
 {}
 
-/// In a host that nobody has used, users are apart.
+/// In an unused host users are separate.
 pub fn empty_apart()
     ensures { EmptyApart }
 {}
 
-/// Steps that wanted memory aside, each user gets what the user's own steps get in a host where nobody else has done anything.
+/// Apart from steps that ran out of memory, each user's replies and view are those of the user's own steps in a host
+/// where no other user has made a step.
 pub fn runs_are_private()
     ensures { RunsArePrivate }
 {}
 
-/// Two runs whose answered steps agree on a user give that user the same.
+/// Two runs with the same answered steps of a user, from hosts of which the user sees the same, give that user the same
+/// replies and the same view.
 pub fn two_runs()
     ensures { TwoRuns }
 {}

@@ -9,7 +9,7 @@ use requests::{Host, Reply, Step};
 use std::alloc::{AllocError, Global};
 use stop_handlers::{Decider, Handler};
 
-/// Makes the steps in turn. There is room for the replies.
+/// Makes the steps in turn. `replies` has room for their replies.
 pub(crate) fn run_into<F: Decider + Send + Drop>(
     alloc: Global,
     host: &mut Host<F>,
@@ -30,9 +30,9 @@ pub(crate) fn run_into<F: Decider + Send + Drop>(
     replies
 }
 
-/// Makes the steps of all users in turn on the host, and answers the replies in order. ENOMEM is answered only for a step that takes
-/// memory and that the machine wouldn't refuse, and such a step changes nothing. Room for the replies is taken first: an error is
-/// want of memory, and changes nothing.
+/// Makes the steps of all users in turn on the host, and returns the replies in order. The reply is ENOMEM only for a
+/// step that takes memory and that the machine wouldn't refuse; such a step changes nothing. Room for the replies is
+/// allocated first: an error means out of memory, and changes nothing.
 pub fn run_list<F: Decider + Send + Drop>(
     alloc: Global,
     host: &mut Host<F>,

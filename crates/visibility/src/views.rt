@@ -1,4 +1,4 @@
-//! What a user sees of a host, as values.
+//! A user's view of a host.
 
 ghost use Rattle.std.specs.Prelude.{◌≡◌, IfOk, map, filter};
 ghost use Rattle.proc_table.specs.Processes.{of_user};
@@ -15,8 +15,9 @@ use std::marker::Model;
 use stop_handlers::{Decider, Policy};
 use trace_stop::Settings;
 
-/// What a user sees of a host: the user's processes by rising number, the LWPs of these in order of birth, where the search for the
-/// user's next numbers begins, what the user's debuggers have installed in order, and the settings.
+/// A user's view of a host: the user's processes by rising number, their LWPs in order of birth, the numbers from which
+/// the search for the user's next numbers begins, the policies that the user's debuggers have installed in order, and
+/// the settings.
 #[derive(Debug, Drop)]
 pub struct View {
     processes: Vec<ProcData>,
@@ -44,42 +45,42 @@ impl Model for View {
 }
 
 impl View {
-    /// The user's processes, by rising number.
+    /// Returns the user's processes, by rising number.
     pub fn processes(&self) -> &[ProcData]
         ensures { result.now ≡ self.now.processes }
     {
         self.processes.as_slice()
     }
 
-    /// The LWPs of the user's processes, in order of birth.
+    /// Returns the LWPs of the user's processes, in order of birth.
     pub fn lwps(&self) -> &[LwpData]
         ensures { result.now ≡ self.now.lwps }
     {
         self.lwps.as_slice()
     }
 
-    /// Where the search for the user's next process number begins.
+    /// Returns the number from which the search for the user's next process number begins.
     pub fn pid_cursor(&self) -> u32
         ensures { result ≡ self.now.pid_cursor }
     {
         self.pid_cursor
     }
 
-    /// Where the search for the user's next LWP number begins.
+    /// Returns the number from which the search for the user's next LWP number begins.
     pub fn tid_cursor(&self) -> u32
         ensures { result ≡ self.now.tid_cursor }
     {
         self.tid_cursor
     }
 
-    /// What the user's debuggers have installed, in order: each debugger and its policy.
+    /// Returns the installed policies of the user in order, each with its debugger.
     pub fn handlers(&self) -> &[(Pid, Policy)]
         ensures { map (λ i. record { debugger = i.0; policy = i.1 }) result.now ≡ self.now.installed }
     {
         self.handlers.as_slice()
     }
 
-    /// What a debugger's end does to its tracees.
+    /// Returns the settings: whether a debugger's end kills its tracees.
     pub fn settings(&self) -> Settings
         ensures { result ≡ self.now.settings }
     {
@@ -87,7 +88,7 @@ impl View {
     }
 }
 
-/// The user's processes, by rising number. An error is want of memory.
+/// Returns the user's processes, by rising number. An error means out of memory.
 fn processes_of(tables: &Tables, alloc: Global, user: Uid) -> Result<Vec<ProcData>, AllocError>
     ensures { IfOk result (λ rows. rows.items ≡ of_user user tables.now.rows.processes) }
 {
@@ -100,7 +101,7 @@ fn processes_of(tables: &Tables, alloc: Global, user: Uid) -> Result<Vec<ProcDat
     Ok(rows)
 }
 
-/// The LWPs of the user's processes, in order of birth. An error is want of memory.
+/// Returns the LWPs of the user's processes, in order of birth. An error means out of memory.
 fn lwps_of(tables: &Tables, alloc: Global, user: Uid) -> Result<Vec<LwpData>, AllocError>
     ensures { IfOk result (λ rows. rows.items ≡ filter (λ l. owns user l.pid tables.now.rows.processes) tables.now.rows.lwps) }
 {
@@ -115,7 +116,7 @@ fn lwps_of(tables: &Tables, alloc: Global, user: Uid) -> Result<Vec<LwpData>, Al
     Ok(rows)
 }
 
-/// What the user's debuggers have installed, in order. An error is want of memory.
+/// Returns the installed policies of the user in order, each with its debugger. An error means out of memory.
 fn handlers_of<F: Decider + Send + Drop>(
     host: &Host<F>,
     alloc: Global,
@@ -130,7 +131,7 @@ fn handlers_of<F: Decider + Send + Drop>(
     Ok(pairs)
 }
 
-/// What a user sees of a host. An error is want of memory.
+/// Returns a user's view of a host. An error means out of memory.
 pub fn user_view<F: Decider + Send + Drop>(
     alloc: Global,
     host: &Host<F>,

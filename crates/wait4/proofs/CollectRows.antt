@@ -33,21 +33,21 @@ module _ (caller : ℕ) (p : ProcData) (rows : Rows) (up : Rise rows.processes) 
       ap (λ ls. record rows { processes = filter_map (edit_at (collected caller) p.pid p) rows.processes; lwps = ls }) (lwps_left rows)
       ∙ ap (λ ps. record rows { processes = ps }) (edit-put (collected caller) p.pid p new its to rows.processes only)
 
-  -- nobody is told of a stop, or of a process that goes on
+  -- no process is notified of a stop, or of a process that continues
   pub collected-seen : (new : ProcData) → new.pid ≡ p.pid → collected caller p ≡ Some new → is_live p ≡ true → collect_one caller p rows ≡ set_process new rows
   collected-seen new its to live =
       ap (λ (b : Bool). notified (if not b && stays caller p then p.parent ∷ [] else []) made) live
       ∙ notified-none made
       ∙ put new its to
 
-  -- the parent is told of a zombie that stays
+  -- the parent is notified of a zombie that stays
   pub collected-passed : (new : ProcData) → new.pid ≡ p.pid → collected caller p ≡ Some new → is_live p ≡ false → stays caller p ≡ true → collect_one caller p rows ≡ notified (p.parent ∷ []) (set_process new rows)
   collected-passed new its to ended stay =
       ap (λ (b : Bool). notified (if not b && stays caller p then p.parent ∷ [] else []) made) ended
       ∙ ap (λ (b : Bool). notified (if b then p.parent ∷ [] else []) made) stay
       ∙ ap (notified (p.parent ∷ [])) (put new its to)
 
-  -- and nobody of one that is gone
+  -- and no process of a zombie that is gone
   pub collected-gone : collected caller p ≡ None → stays caller p ≡ false → collect_one caller p rows ≡ drop_process p.pid rows
   collected-gone to leaves =
       ap (λ (b : Bool). notified (if not (is_live p) && b then p.parent ∷ [] else []) made) leaves

@@ -1,5 +1,5 @@
-//! What wait4(2) answers about the caller's children, and what is left of the rows then. A child of
-//! the caller is a process that it traces or is the parent of.
+//! What wait4(2) answers about the caller's children, and the rows after it. A child of the caller is a
+//! process that it traces or is the parent of.
 
 ghost use Rattle.std.specs.Prelude.{◌≡◌, ℕ, ◌&&◌, ◌==◌, ltb, true, pos, [], ◌∷◌, Some, IfSome, find, is_some};
 ghost use Rattle.std.specs.List.{list_any};
@@ -20,21 +20,21 @@ pub enum Kin {
     Parent,
 }
 
-/// Whether the process is a child of the caller.
+/// Tests whether the process is a child of the caller.
 fn is_child(caller: Pid, p: &ProcData) -> bool
     ensures { result ≡ is_child caller p.now }
 {
     p.tracer == Some(caller) || p.parent == caller.get()
 }
 
-/// Whether it is an untraced one.
+/// Tests whether the process is an untraced child of the caller.
 fn is_own(caller: Pid, p: &ProcData) -> bool
     ensures { result ≡ is_own caller p.now }
 {
     p.tracer.is_none() && p.parent == caller.get()
 }
 
-/// Whether the process has something to report to the caller.
+/// Tests whether the process has something to report to the caller.
 fn reportable(options: Options, caller: Pid, p: &ProcData) -> bool
     ensures { result ≡ reportable options caller p.now }
 {
@@ -46,7 +46,7 @@ fn reportable(options: Options, caller: Pid, p: &ProcData) -> bool
     }
 }
 
-/// The status that is reported of a process.
+/// Returns the status that a wait reports of a process.
 fn status_of(p: &ProcData) -> Status
     requires ended { IfEnded p.now p.now.state }
     ensures { result ≡ status_of p.now }
@@ -58,7 +58,7 @@ fn status_of(p: &ProcData) -> Status
     }
 }
 
-/// The first process above a number that names the caller so.
+/// Returns the first process above a number that names the caller in this way: as its tracer, or as its parent.
 fn next_of_kin(tables: &Tables, kin: Kin, caller: Pid, after: u32) -> Option<ProcData>
     ensures row { result ≡ find (λ p. ltb after p.pid && names_as kin caller p) tables.now.rows.processes }
     ensures kept { IsKept tables.now.rows }
@@ -69,7 +69,7 @@ fn next_of_kin(tables: &Tables, kin: Kin, caller: Pid, after: u32) -> Option<Pro
     }
 }
 
-/// The first of those with something to report.
+/// Returns the first process that names the caller in this way and has something to report.
 fn first_report(tables: &Tables, kin: Kin, caller: Pid, options: Options) -> Option<ProcData>
     ensures row { result ≡ find (λ p. names_as kin caller p && reportable options caller p) tables.now.rows.processes }
     ensures kept { IsKept tables.now.rows }
@@ -85,7 +85,7 @@ fn first_report(tables: &Tables, kin: Kin, caller: Pid, options: Options) -> Opt
     None
 }
 
-/// The process with the lesser number, where there are two.
+/// Returns the process with the lesser number if there are two, and else the one that there is, if any.
 fn lesser(a: Option<ProcData>, b: Option<ProcData>) -> Option<ProcData>
     ensures { result ≡ lesser a b }
 {
@@ -96,7 +96,7 @@ fn lesser(a: Option<ProcData>, b: Option<ProcData>) -> Option<ProcData>
     }
 }
 
-/// The process with a number that isn't negative.
+/// Returns the process with this number, which isn't negative, if there is one.
 fn numbered(tables: &Tables, which: i64) -> Option<ProcData>
     ensures row { (n : ℕ) → which ≡ pos n → result ≡ process_of n tables.now.rows.processes }
     ensures kept { IsKept tables.now.rows }
@@ -108,7 +108,8 @@ fn numbered(tables: &Tables, which: i64) -> Option<ProcData>
     }
 }
 
-/// The child that is reported: the one with this number, or for -1 the first with something to report.
+/// Returns the child that is reported: the child with the number `which` if it has something to report, or, if
+/// `which` is negative, the first child that has.
 fn reported(tables: &Tables, caller: Pid, which: i64, options: Options) -> Option<ProcData>
     ensures row { result ≡ reported caller which options tables.now.rows }
     ensures kept { IsKept tables.now.rows }
@@ -126,7 +127,7 @@ fn reported(tables: &Tables, caller: Pid, which: i64, options: Options) -> Optio
     }
 }
 
-/// Whether the caller has a child that fits.
+/// Tests whether the caller has a child that the wait is for.
 fn has_child(tables: &Tables, caller: Pid, which: i64) -> bool
     ensures { result ≡ list_any (λ p. is_child caller p && fits which p) tables.now.rows.processes }
 {
@@ -140,15 +141,15 @@ fn has_child(tables: &Tables, caller: Pid, which: i64) -> bool
     }
 }
 
-/// Whether a zombie stays for its parent once the caller has collected it.
+/// Tests whether a zombie stays for its parent after the caller has collected it.
 fn stays(caller: Pid, p: &ProcData) -> bool
     ensures { result ≡ stays caller p.now }
 {
     p.tracer == Some(caller) && p.parent != 1 && p.parent != caller.get()
 }
 
-/// Collects what a process reports to the caller: a stop is told, a process is no longer marked as
-/// continued, a zombie is gone, or passes from its tracer to its parent, which is told by SIGCHLD.
+/// Collects what a process reports to the caller. A stop is marked as reported, and a process is no longer
+/// marked as continued. A zombie is removed, or passes from its tracer to its parent, which SIGCHLD notifies.
 fn collect_one(tables: &mut Tables, caller: Pid, p: &ProcData)
     requires sound { IsSound tables.old.rows }
     requires there { process_of p.now.pid tables.old.rows.processes ≡ Some p.now }
@@ -180,9 +181,9 @@ fn collect_one(tables: &mut Tables, caller: Pid, p: &ProcData)
     }
 }
 
-/// What wait4(2) answers a process that asks about its children: about the one with the number
-/// `which`, or where it is negative about all, of whom the least number with something to report
-/// is taken. It waits for nothing, as under WNOHANG. What is reported is collected.
+/// Answers a process's wait4(2) for its child with the number `which`, or, if `which` is negative, for any of
+/// its children. Of several children with something to report, the one with the least number is reported.
+/// What is reported is collected. The call never blocks, as under WNOHANG.
 pub fn collect(tables: &mut Tables, caller: Pid, which: i64, options: Options) -> Collected
     requires sound { IsSound tables.old.rows }
     ensures collected { result ≡ collect caller which options tables.old.rows }

@@ -3,19 +3,19 @@
 ghost use Rattle.wait4.specs.Status.{WordsDiffer};
 ghost use Rattle.wait4.specs.Laws.{ReportedLeast, ReportedOwn, CollectOwn, AfterOwn, AfterOthers};
 
-/// No two statuses have one word.
+/// No two statuses have the same word.
 pub fn words_differ()
     ensures { WordsDiffer }
 {}
 
-/// A wait reports the child with the least number of those that fit and have something to report, and
-/// none where there is none.
+/// A wait reports the child with the least number of those that it is for and that have something to report,
+/// and none if there is no such child.
 pub fn the_least_is_reported()
     ensures { ReportedLeast }
 {}
 
-/// A wait reports, answers and leaves, among its user's rows, what it does where nobody else has rows, and
-/// leaves every other user's rows as they were.
+/// Among its user's rows, a wait reports, answers and leaves the same as where no other user has rows. It
+/// leaves every other user's rows unchanged.
 pub fn waits_are_apart()
     ensures reported { ReportedOwn }
     ensures collected { CollectOwn }

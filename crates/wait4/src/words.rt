@@ -8,7 +8,7 @@ use crate::{Status, StatusKind};
 use signals::Signal;
 
 impl Status {
-    /// The process exited by itself.
+    /// Returns the status of a process that exited on its own, with this code.
     pub fn exited(code: u8) -> Status
         ensures { result ≡ Exited code }
     {
@@ -17,7 +17,7 @@ impl Status {
         }
     }
 
-    /// The signal ended the process. None for SIGCONT, which ends no process.
+    /// Returns the status of a process that the signal ended, or `None` for SIGCONT, which ends no process.
     pub fn signaled(signal: Signal) -> Option<Status>
         ensures { SomeIff result (signal ≢ SIGCONT) (Signaled signal) }
     {
@@ -30,7 +30,7 @@ impl Status {
         }
     }
 
-    /// The signal stopped the process.
+    /// Returns the status of a process that the signal stopped.
     pub fn stopped(signal: Signal) -> Status
         ensures { result ≡ Stopped signal }
     {
@@ -39,7 +39,7 @@ impl Status {
         }
     }
 
-    /// The process goes on after a stop.
+    /// Returns the status of a process that continues after a stop.
     pub fn continued() -> Status
         ensures { result ≡ Continued }
     {
@@ -48,14 +48,14 @@ impl Status {
         }
     }
 
-    /// What the status tells.
+    /// Returns what the status reports.
     pub fn kind(&self) -> StatusKind
         ensures { result ≡ self.now }
     {
         self.kind
     }
 
-    /// The status as the word that wait(2) gives.
+    /// Returns the status as the word that wait(2) gives.
     pub fn word(&self) -> u32
         ensures { result ≡ word self.now }
     {
@@ -67,7 +67,7 @@ impl Status {
         }
     }
 
-    /// The status with this word. None where no status has it.
+    /// Returns the status with this word, or `None` if no status has it.
     pub fn of_word(number: u32) -> Option<Status>
         ensures exact { (s : StatusKind) → IsStatus s → ((result ≡ Some s) ↔ (word s ≡ number)) }
         ensures found { IfSome result (λ s. word s ≡ number) }

@@ -1,4 +1,4 @@
-//! The laws, made on hosts.
+//! The laws of isolation, on hosts.
 
 ghost use Rattle.std.specs.Prelude.{◌≡◌, [], ◌∷◌, IfOk, OnOk};
 ghost use Rattle.requests.specs.Isolation.{host_after};
@@ -18,14 +18,14 @@ use stop_handlers::{ByPolicy, Handler};
 use trace_stop::Settings;
 use visibility::laws::{foreign_number, one_step, other_step, two_lists};
 
-/// A host that nobody has used.
+/// Creates an unused host.
 fn unused(alloc: Global) -> Result<Host<ByPolicy>, AllocError>
     ensures { IfOk result (λ host. host ≡ kills) }
 {
     Host::new(alloc, Settings::standard())
 }
 
-/// A new process of the user. An error is want of memory.
+/// Makes a process of the user. An error means out of memory.
 fn spawn(alloc: Global, host: &mut Host<ByPolicy>, user: Uid) -> Result<(), AllocError>
     ensures { OnOk result (host.new ≡ host_after user op.Spawn host.old) }
 {
@@ -36,7 +36,7 @@ fn spawn(alloc: Global, host: &mut Host<ByPolicy>, user: Uid) -> Result<(), Allo
     Ok(())
 }
 
-/// A host on which the first user has the processes 1000 and 1001, and the second 2000.
+/// Creates a host on which the first user has the processes 1000 and 1001, and the second 2000.
 fn with_three(alloc: Global) -> Result<Host<ByPolicy>, Fail>
     ensures { IfOk result (λ host. host ≡ last (by 1001 op.Spawn ∷ by 1002 op.Spawn ∷ by 1001 op.Spawn ∷ []) kills) }
 {
@@ -48,7 +48,8 @@ fn with_three(alloc: Global) -> Result<Host<ByPolicy>, Fail>
     Ok(host)
 }
 
-/// The reply to a step of the second user, and those to a step of the first one beside it and where nobody else is.
+/// Returns the reply to a step of the second user, and the replies to a step of the first one: after it, and on a host
+/// without the second user.
 fn beside_another(alloc: Global) -> Result<(Reply, (Reply, Reply)), Fail> {
     let (user, other) = (Uid::new(1001)?, Uid::new(1002)?);
     let mut shared = unused(alloc)?;
@@ -67,7 +68,7 @@ fn one_step_beside_a_step_of_another(rt: HostRuntime) -> Result<(), Fail> {
     Ok(())
 }
 
-/// An attach by process 1000.
+/// Returns an attach by process 1000.
 fn attach_to(target: u32) -> Step<Handler<ByPolicy>>
     ensures { result ≡ op.Ptrace 1000 request.Attach target 0 }
 {
@@ -79,7 +80,7 @@ fn attach_to(target: u32) -> Step<Handler<ByPolicy>>
     }
 }
 
-/// The replies to an attach to another user's process, and to one that nobody has.
+/// Returns the replies to an attach to another user's process, and to an unused number.
 fn foreign_attaches(alloc: Global) -> Result<(Reply, Reply), Fail> {
     let user = Uid::new(1001)?;
     let mut one = with_three(alloc)?;
@@ -96,7 +97,7 @@ fn a_foreign_number_is_as_good_as_nobodys(rt: HostRuntime) -> Result<(), Fail> {
     Ok(())
 }
 
-/// The replies to the first user's steps on one host, and to all steps on another.
+/// Returns the replies to the first user's steps on one host, and to all steps on another.
 fn both_lists(
     alloc: Global,
     one: &mut Host<ByPolicy>,
@@ -111,7 +112,7 @@ fn both_lists(
     Ok(two_lists(alloc, one, other, user, steps, all)?)
 }
 
-/// The same, on hosts that nobody has used.
+/// Does the same on unused hosts.
 fn both_lists_from_nothing(
     alloc: Global,
     lines: &[Line],

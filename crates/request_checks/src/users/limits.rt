@@ -1,4 +1,4 @@
-//! The limits of one user, which another doesn't meet.
+//! The limits of one user, which don't affect another.
 
 use super::lines::{Line, first, second, together_and_alone};
 use crate::script::{Answer, compute, enter, leave};
@@ -10,7 +10,7 @@ use stop_handlers::Policy;
 
 const TOO_MANY: Answer = Answer::Refused(Errno::EAGAIN);
 
-/// 250 processes of the first user, and one more.
+/// Returns the spawns of 250 processes of the first user, and of one more.
 fn many_processes() -> [Line; 252] {
     let mut lines = [first(PlainStep::Spawn, TOO_MANY); 252];
     for place in 0u32..250 {
@@ -26,7 +26,7 @@ fn a_user_has_250_processes(rt: HostRuntime) -> Result<(), Fail> {
     together_and_alone(&rt, rt.alloc(), &many_processes()[..])
 }
 
-/// 1000 LWPs of one process of the first user, and more.
+/// Returns the steps that make 1000 LWPs of one process of the first user, and more.
 fn many_lwps() -> [Line; 2004] {
     let mut lines = [first(enter(100000, Call::ThrNew), Answer::Done); 2004];
     lines[0] = first(PlainStep::Spawn, Answer::New(1000, 100000));

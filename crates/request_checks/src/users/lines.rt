@@ -1,4 +1,4 @@
-//! Sessions of two users, as lines: a step, its user, and what it is to answer.
+//! Sessions of two users, as lines: a step, its user, and the expected answer.
 
 use crate::script::{Answer, answered};
 use pid_blocks::Uid;
@@ -10,7 +10,7 @@ use stop_handlers::{ByPolicy, Handler};
 use trace_stop::Settings;
 use visibility::{run_list, user_view};
 
-/// A step of a user, and what it is to answer.
+/// A step of a user, and its expected answer.
 #[derive(Clone, Copy, Debug, Drop)]
 pub struct Line {
     pub user: u32,
@@ -18,7 +18,7 @@ pub struct Line {
     pub answer: Answer,
 }
 
-/// A line of user 1001.
+/// Returns a line of user 1001.
 pub fn first(step: PlainStep, answer: Answer) -> Line {
     Line {
         user: 1001,
@@ -27,7 +27,7 @@ pub fn first(step: PlainStep, answer: Answer) -> Line {
     }
 }
 
-/// A line of user 1002.
+/// Returns a line of user 1002.
 pub fn second(step: PlainStep, answer: Answer) -> Line {
     Line {
         user: 1002,
@@ -36,12 +36,12 @@ pub fn second(step: PlainStep, answer: Answer) -> Line {
     }
 }
 
-/// Whether a line is of this user, where one is named.
+/// Returns whether a line is of this user; true where no user is named.
 fn is_of(line: &Line, only: Option<u32>) -> bool {
     only.is_none_or(|user| user == line.user)
 }
 
-/// The steps of the lines, or of those of one user alone.
+/// Returns the steps of the lines, or of only one user's lines.
 pub fn steps_of(
     alloc: Global,
     lines: &[Line],
@@ -57,7 +57,7 @@ pub fn steps_of(
     Ok(steps)
 }
 
-/// The replies are those that the lines say, or the lines of one user alone.
+/// Checks that the replies are those of the lines, or of only one user's lines.
 pub fn compare<R: Abort>(rt: &R, replies: &[Reply], lines: &[Line], only: Option<u32>) {
     let mut rest = replies;
     for (place, line) in lines.iter().enumerate() {
@@ -72,7 +72,7 @@ pub fn compare<R: Abort>(rt: &R, replies: &[Reply], lines: &[Line], only: Option
     assert!(rt; rest.is_empty());
 }
 
-/// A host on which the lines' steps were made, or those of one user alone, each of which answered what its line says.
+/// Returns a host after the steps of the lines, or of only one user's lines, and checks each answer.
 pub fn host_after<R: Abort>(
     rt: &R,
     alloc: Global,
@@ -86,7 +86,7 @@ pub fn host_after<R: Abort>(
     Ok(host)
 }
 
-/// Whether a user sees the same of both hosts.
+/// Returns whether a user sees the same of both hosts.
 fn sees_the_same(
     alloc: Global,
     one: &Host<ByPolicy>,
@@ -98,7 +98,7 @@ fn sees_the_same(
     Ok(seen == also)
 }
 
-/// Whether a user sees the same of a host as of one on which the lines' steps of that user alone were made.
+/// Returns whether a user sees the same of a host as of one on which only that user's steps were made.
 fn sees_its_own<R: Abort>(
     rt: &R,
     alloc: Global,
@@ -111,8 +111,8 @@ fn sees_its_own<R: Abort>(
     Ok(sees_the_same(alloc, shared, &own, uid)?)
 }
 
-/// Makes the lines' steps on one host, and each user's alone on another: there each line answers the same, and the user sees the same in
-/// the end.
+/// Makes the lines' steps on one host, and each user's own steps on another. Checks that each line has the same answer
+/// there, and that the user sees the same at the end.
 pub fn together_and_alone<R: Abort>(rt: &R, alloc: Global, lines: &[Line]) -> Result<(), Fail> {
     let shared = host_after(rt, alloc, lines, None)?;
     let first = sees_its_own(rt, alloc, &shared, lines, 1001)?;

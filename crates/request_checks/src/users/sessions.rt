@@ -1,4 +1,4 @@
-//! Sessions of two users on one host, and of each alone.
+//! Sessions of two users on one host, and of each user on its own.
 
 use super::lines::{first, second, together_and_alone};
 use crate::script::{
@@ -30,7 +30,7 @@ fn another_users_numbers_are_unknown(rt: HostRuntime) -> Result<(), Fail> {
     together_and_alone(&rt, rt.alloc(), &lines[..])
 }
 
-/// A debugger of the first user follows a fork; between each two of its steps the second user makes one.
+/// A debugger of the first user follows a fork. After each of its steps the second user makes one.
 #[test]
 fn a_followed_fork_amid_another_users_steps(rt: HostRuntime) -> Result<(), Fail> {
     let forked = reporting(100001, AT_FORK, 1002, 2);
@@ -74,7 +74,7 @@ fn a_followed_fork_amid_another_users_steps(rt: HostRuntime) -> Result<(), Fail>
     together_and_alone(&rt, rt.alloc(), &lines[..])
 }
 
-/// In both users' hosts a process traces the next one; in one of them the first debugger exits.
+/// Each user has a chain of processes that trace the next one. The first debugger of one user exits.
 #[test]
 fn the_end_of_a_debugger_ends_its_users_tracees_alone(rt: HostRuntime) -> Result<(), Fail> {
     let childless = Answer::Refused(Errno::ECHILD);

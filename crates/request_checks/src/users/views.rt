@@ -1,4 +1,4 @@
-//! What users see, by parts.
+//! The parts of users' views.
 
 use super::lines::{Line, first, host_after, second};
 use crate::script::Answer;
@@ -11,7 +11,7 @@ use stop_handlers::Policy;
 use trace_stop::Settings;
 use visibility::{View, user_view};
 
-/// Two processes of the first user, which installs a policy, and one of the second.
+/// Returns the lines of two processes of the first user, which installs a policy, and of one of the second.
 fn three_and_a_policy(policy: Policy) -> [Line; 4] {
     let install = PlainStep::Install {
         caller: 1000,
@@ -25,7 +25,7 @@ fn three_and_a_policy(policy: Policy) -> [Line; 4] {
     ]
 }
 
-/// What a user sees once these steps were made.
+/// Returns a user's view after these steps.
 fn view_after<R: Abort>(rt: &R, alloc: Global, lines: &[Line], user: u32) -> Result<View, Fail> {
     let uid = Uid::new(user)?;
     let host = host_after(rt, alloc, lines, None)?;
@@ -61,7 +61,7 @@ fn another_user_sees_others(rt: HostRuntime) -> Result<(), Fail> {
     Ok(())
 }
 
-/// Views of one session, each with one step more than the one before.
+/// Compares views of one session, each with one step more than the one before.
 #[test]
 fn views_differ_in_what_they_show(rt: HostRuntime) -> Result<(), Fail> {
     let lines = three_and_a_policy(Policy::new(&[])?);

@@ -4,7 +4,7 @@ use std::io;
 use std::test::Fail;
 use stop_handlers::{ByPolicy, Handler};
 
-/// Gives some bytes, one at a time, and then none, or fails. Before each byte it is interrupted.
+/// A reader of some bytes, one at a time. Then it ends, or fails. Before each byte it is interrupted.
 #[derive(Drop)]
 struct Slow<'a> {
     left: &'a [u8],

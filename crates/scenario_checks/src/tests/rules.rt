@@ -246,7 +246,7 @@ fn names_of_flags(rt: HostRuntime) -> Result<(), Fail> {
     )
 }
 
-/// An install of as many rules, each with this text.
+/// Returns an install of `count` rules, each with this text.
 fn install_of(alloc: Global, count: usize, rule: &str) -> Result<String, Fail> {
     let mut text = String::from_str(alloc, "\"install\",\"caller\":1000,\"rules\":[")?;
     text.push_str(rule)?;

@@ -1,13 +1,14 @@
 use super::{ITS_LINES, ITS_LINES_BY_USER, SPAWN_AND_LIST};
-use scenario::{RunFault, RunOptions, Style, parse, run, run_threads};
+use scenario::{RunFault, RunOptions, Style, parse, run};
 use std::io;
 use std::process::Abort;
 use std::sync::Wait;
 use std::test::Fail;
 use std::thread::Threads;
 use stop_handlers::{ByPolicy, Handler};
+use threaded_runs::run_threads;
 
-/// Takes some bytes, one at a time, and then none, or fails. Before each byte it is interrupted.
+/// A writer that takes some bytes, one at a time. Then it takes none, or fails. Before each byte it is interrupted.
 #[derive(Drop)]
 struct Full {
     taken: Vec<u8>,
@@ -41,8 +42,8 @@ impl io::Write for Full {
     }
 }
 
-/// A writer with so much room takes the front of the lines that it has room for, and the run, with a thread for each user or without,
-/// ends so.
+/// Checks that a writer with this room takes that front of the lines, and that the run ends with this fault. The run
+/// has a thread for each user or none.
 fn check<R: Abort + Threads + Wait + Sync + AllocGlobal>(
     rt: &R,
     (room, fails): (usize, bool),

@@ -2,7 +2,7 @@ use scenario::{Fault, parse, read};
 use std::alloc::Global;
 use std::test::Fail;
 
-/// A scenario whose steps are so many zeros.
+/// Returns a scenario whose steps are `count` zeros.
 fn zeros(alloc: Global, count: usize) -> Result<String, Fail> {
     let mut text = String::from_str(alloc, "{\"steps\":[0")?;
     for _ in 1..count {

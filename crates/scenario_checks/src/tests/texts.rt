@@ -3,7 +3,7 @@ use scenario::{Fault, parse};
 use std::process::Abort;
 use std::test::Fail;
 
-/// Each text has the fault beside it, or is accepted.
+/// Checks that each text has the fault next to it or is accepted.
 fn check<R: Abort + AllocGlobal>(rt: &R, rows: &[(&str, Option<Fault>)]) -> Result<(), Fail> {
     for (text, want) in rows {
         let found = parse(rt.alloc(), text.as_bytes()).err();

@@ -1,13 +1,14 @@
 use super::{ITS_LINES_BY_USER, SESSION, SPAWN_AND_LIST, handlers_by_policy};
 use pid_blocks::Uid;
-use scenario::{RunFault, RunOptions, Style, parse, run, run_threads};
+use scenario::{RunFault, RunOptions, Style, parse, run};
 use std::alloc::Global;
 use std::sync::Wait;
 use std::test::Fail;
 use std::thread::Threads;
 use stop_handlers::{ByPolicy, Handler};
+use threaded_runs::run_threads;
 
-/// What the scenario writes, with a thread for each user or without.
+/// Returns the output of the scenario, with a thread for each user or without.
 fn text_of<R: Threads + Wait + Sync + AllocGlobal>(
     rt: &R,
     text: &str,

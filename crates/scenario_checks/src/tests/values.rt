@@ -29,7 +29,7 @@ fn wait4(caller: u32, which: i64, untraced: bool, continued: bool) -> PlainStep 
     }
 }
 
-/// Continues a trap with the flag PL_FLAG_SCE, with no signal.
+/// Returns a policy that continues a trap with the flag PL_FLAG_SCE, with no signal.
 fn at_entry() -> Result<Policy, Fail> {
     let rule = Rule {
         signal: Some(Signal::new(5)?),
@@ -91,7 +91,7 @@ fn a_session(rt: HostRuntime) -> Result<(), Fail> {
     Ok(())
 }
 
-/// The session is bound to a handler of its policy, and to no fewer handlers.
+/// The session binds to a handler with its policy, and doesn't bind to fewer handlers.
 #[test]
 fn a_session_with_its_handler(rt: HostRuntime) -> Result<(), Fail> {
     let scenario = parse(rt.alloc(), SESSION.as_bytes())?;
@@ -105,7 +105,7 @@ fn a_session_with_its_handler(rt: HostRuntime) -> Result<(), Fail> {
     Ok(())
 }
 
-/// The step of user 1001 with this op and what follows it.
+/// Returns the step of user 1001 with this op and the keys after it.
 fn step_of(alloc: Global, op: &str) -> Result<PlainStep, Fail> {
     let mut text = String::from_str(alloc, "{\"steps\":[{\"user\":1001,\"op\":")?;
     text.push_str(op)?;
@@ -115,7 +115,7 @@ fn step_of(alloc: Global, op: &str) -> Result<PlainStep, Fail> {
     Ok(first.1)
 }
 
-/// Each op with what follows it stands for the step beside it.
+/// Checks that each op, with the keys after it, is the step next to it.
 fn check<R: Abort + AllocGlobal>(rt: &R, rows: &[(&str, PlainStep)]) -> Result<(), Fail> {
     for (op, want) in rows {
         let found = step_of(rt.alloc(), op)?;

@@ -1,4 +1,4 @@
-//! Gates: one that lets everybody through, and one at which two scripts meet.
+//! Gates: one that does nothing, and one at which two scripts meet.
 
 use pid_blocks::Uid;
 use sessions::Gate;
@@ -15,7 +15,7 @@ impl Gate for Open {
     fn after(&self, _user: Uid, _index: u32) {}
 }
 
-/// How often each index, from 0 to 10, was met.
+/// The number of times that each index, from 0 to 10, was counted.
 #[derive(Drop)]
 struct Counts {
     words: [AtomicU64; 11],
@@ -48,7 +48,7 @@ impl Counts {
         self.words.as_slice().get(index as usize)
     }
 
-    /// Index 0 was never met, each other one twice.
+    /// Checks that index 0 was never counted, and each other one twice.
     fn are_two<R: Abort>(&self, rt: &R) {
         for (index, count) in self.words.iter().enumerate() {
             let wanted = if index == 0 { 0 } else { 2 };
@@ -80,7 +80,7 @@ impl Meet {
         }
     }
 
-    /// Both scripts met at each of their ten calls, of which so many are the first user's.
+    /// Checks that both scripts met at each of their ten calls, and how many calls each user began.
     pub fn all_met<R: Abort>(&self, rt: &R, first: u64, others: u64) {
         assert_eq!(rt; self.failed.load(Ordering::SeqCst), 0);
         self.entered.are_two(rt);

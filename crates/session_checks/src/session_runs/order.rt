@@ -1,5 +1,5 @@
-//! A gate is told before and after each call. The steps install for a process that isn't there: the call refuses and lets the
-//! handler go, which is counted.
+//! A gate is called before and after each call of the host. The steps install a handler for an unused process number.
+//! The host refuses the call and drops the handler, and the test counts the drops.
 
 ghost use Rattle.std.specs.Prelude.{⊤, ◌≡◌, IfSome, All};
 ghost use Rattle.stop_handlers.specs.Decide.{decide};
@@ -18,7 +18,7 @@ use std::thread::Threads;
 use stop_handlers::{Decider, Decision, Handler, Policy, StopView};
 use trace_stop::Settings;
 
-/// Answers as a policy decides. That it is let go is counted.
+/// A decider that answers by a policy, and counts its drop.
 struct Counted<'a> {
     policy: Policy,
     gone: &'a AtomicU64,
@@ -41,14 +41,14 @@ impl Decider for Counted<'_> {
     }
 }
 
-/// What is seen of the calls of a script.
+/// Counts for the calls of a script.
 #[derive(Drop)]
 struct Calls {
-    /// How many were made.
+    /// How many calls were made.
     made: AtomicU64,
-    /// How often the gate was told of them.
+    /// How often the gate was called.
     told: AtomicU64,
-    /// Whether it was told out of order.
+    /// Whether the gate was called out of order.
     failed: AtomicU64,
 }
 
@@ -61,7 +61,7 @@ impl Calls {
         }
     }
 
-    /// The gate is told for the time `telling`, when so many calls were made.
+    /// Records a call of the gate. It must be number `telling`, from 0, when `made` calls were made.
     fn tell(&self, telling: u64, made: u64) {
         let told = self.told.fetch_add(1, Ordering::SeqCst);
         if told != telling || self.made.load(Ordering::SeqCst) != made {
@@ -69,7 +69,7 @@ impl Calls {
         }
     }
 
-    /// Each of so many calls was made once the gate had been told, and the gate was told again then.
+    /// Checks that the gate was called before and after each of `count` calls.
     fn are_in_order<R: Abort>(&self, rt: &R, count: u32) {
         let count = u64::from(count);
         assert_eq!(rt; self.failed.load(Ordering::SeqCst), 0);
@@ -107,7 +107,7 @@ impl Gate for Order {
     }
 }
 
-/// So many steps of the user, each of which installs a handler for a process that isn't there.
+/// Returns a script of steps of the user. Each installs a handler for an unused process number.
 fn install_often<'a>(
     alloc: Global,
     uid: Uid,
@@ -129,7 +129,7 @@ fn install_often<'a>(
     Some(Script { uid, steps })
 }
 
-/// Such a script of each of the two users.
+/// Returns such a script for each of the two users.
 fn install_each<'a>(
     alloc: Global,
     users: [Uid; 2],
@@ -145,7 +145,7 @@ fn install_each<'a>(
     Some(scripts)
 }
 
-/// Whether the scripts run to their end on a host that nobody has used.
+/// Returns whether the scripts run to their end on an unused host.
 fn is_run<'a, R: Threads + Wait + Sync>(
     rt: &R,
     alloc: Global,

@@ -1,4 +1,4 @@
-//! Runs of scripts, whose replies were worked out by hand from the manual pages.
+//! Runs of scripts. The expected replies were worked out by hand from the manual pages.
 
 use super::gates::{Meet, Open};
 use super::scripts::{are_own, new_host, new_process, spawn_at, spawn_each};
@@ -14,14 +14,14 @@ use std::test::Fail;
 use std::thread::Threads;
 use stop_handlers::ByPolicy;
 
-/// What a run answers beside the host.
+/// The results of a run, without the host.
 #[derive(Drop)]
 struct Ran {
     journal: Journal,
     transcripts: Vec<Transcript>,
 }
 
-/// A run on the host, with a script of so many spawns for each of the users.
+/// Runs a script of spawns for each of the users on the host.
 fn run_on<G: Gate, R: Threads + Wait + Sync>(
     rt: &R,
     alloc: Global,
@@ -40,7 +40,7 @@ fn run_on<G: Gate, R: Threads + Wait + Sync>(
     Ok((host, ran))
 }
 
-/// The same on a host that nobody has used.
+/// Does the same on an unused host.
 fn run<G: Gate, R: Threads + Wait + Sync>(
     rt: &R,
     alloc: Global,
@@ -54,7 +54,8 @@ fn run<G: Gate, R: Threads + Wait + Sync>(
     Ok(ran)
 }
 
-/// Two scripts of ten calls each, which meet at each call. So many calls are user 1001's, so many another's.
+/// Runs two scripts of ten calls each, which meet at each call, and checks how many calls are of user 1001 and how many
+/// of another.
 fn meet<R: Abort + Threads + Wait + Sync>(
     rt: &R,
     alloc: Global,
@@ -77,7 +78,7 @@ fn two_users_run_at_the_same_time(rt: HostRuntime) -> Result<(), Fail> {
     Ok(())
 }
 
-/// The user's two scripts of ten calls each got the user's first twenty numbers.
+/// Checks that the user's two scripts of ten calls each got the user's first twenty numbers.
 fn share_twenty<R: Abort>(rt: &R, ran: &Ran, user: Uid) {
     for transcript in ran.transcripts.iter() {
         assert_eq!(rt; (transcript.uid, transcript.replies.len()), (user, 10));
@@ -103,7 +104,7 @@ fn two_scripts_of_a_user_run_at_the_same_time(rt: HostRuntime) -> Result<(), Fai
     Ok(())
 }
 
-/// A transcript's only reply.
+/// Returns a transcript's only reply.
 fn only_reply(transcripts: &[Transcript], script: usize, user: Uid) -> Option<&Reply> {
     let transcript = transcripts.get(script)?;
     if transcript.replies.len() != 1 || transcript.uid != user {
@@ -112,7 +113,7 @@ fn only_reply(transcripts: &[Transcript], script: usize, user: Uid) -> Option<&R
     transcript.replies.get(0)
 }
 
-/// The user's two scripts of one call each: whichever comes first gets the first numbers.
+/// Checks the user's two scripts of one call each: the first call gets the first numbers.
 fn share_two<R: Abort>(rt: &R, ran: &Ran, user: Uid, one: &Reply, other: &Reply) {
     assert_eq!(rt; (ran.journal.len(), ran.transcripts.len()), (2, 2));
     let replies = ran.transcripts.as_slice();
@@ -151,7 +152,7 @@ fn sixty_five_scripts_are_too_many(rt: HostRuntime) -> Result<(), Fail> {
     Ok(())
 }
 
-/// The host after a run of no scripts, which has nothing to answer.
+/// Returns the host after a run of no scripts, and checks that the run has no results.
 fn run_none<R: Abort + Threads + Wait + Sync>(
     rt: &R,
     alloc: Global,
@@ -163,7 +164,7 @@ fn run_none<R: Abort + Threads + Wait + Sync>(
     Some(host)
 }
 
-/// The replies to a spawn before a run of no scripts and to one after it.
+/// Returns the replies to a spawn before a run of no scripts and to one after it.
 fn spawns_around<R: Abort + Threads + Wait + Sync>(
     rt: &R,
     alloc: Global,
@@ -176,7 +177,7 @@ fn spawns_around<R: Abort + Threads + Wait + Sync>(
     Some((first, second))
 }
 
-/// With no scripts the host comes back as it was: it has one process.
+/// A run of no scripts returns the host as it was, with one process.
 #[test]
 fn no_script_does_nothing(rt: HostRuntime) -> Result<(), Fail> {
     let user = Uid::new(1001)?;
@@ -186,7 +187,7 @@ fn no_script_does_nothing(rt: HostRuntime) -> Result<(), Fail> {
     Ok(())
 }
 
-/// All 64 users.
+/// Returns all 64 users.
 fn all_users(alloc: Global) -> Option<Vec<Uid>> {
     let mut users = Vec::new(alloc);
     for slot in 0u32..64 {

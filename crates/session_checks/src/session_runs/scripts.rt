@@ -1,4 +1,4 @@
-//! Scripts of spawns, and what they are answered.
+//! Scripts of spawns, and their replies.
 
 ghost use Rattle.std.specs.Prelude.{◌<◌, ◌≤◌, IfSome, All};
 ghost use Rattle.sessions.specs.Runs.{IsShort};
@@ -12,12 +12,12 @@ use std::process::Abort;
 use stop_handlers::ByPolicy;
 use trace_stop::Settings;
 
-/// A host that nobody has used. None where memory ran out.
+/// Creates an unused host. `None` where memory ran out.
 pub fn new_host(alloc: Global) -> Option<Host<ByPolicy>> {
     Host::<ByPolicy>::new(alloc, Settings::standard()).ok()
 }
 
-/// So many spawns of the user.
+/// Returns a script of `count` spawns of the user.
 fn spawn_often(alloc: Global, uid: Uid, count: u32) -> Option<Script<ByPolicy>>
     ensures { IfSome result (λ s. IsShort s) }
 {
@@ -31,7 +31,7 @@ fn spawn_often(alloc: Global, uid: Uid, count: u32) -> Option<Script<ByPolicy>>
     Some(Script { uid, steps })
 }
 
-/// A script of so many spawns for each of the users.
+/// Returns a script of `count` spawns for each of the users.
 pub fn spawn_each(alloc: Global, users: &[Uid], count: u32) -> Option<Vec<Script<ByPolicy>>>
     ensures { IfSome result (λ v. All IsShort v.items) }
 {
@@ -42,14 +42,15 @@ pub fn spawn_each(alloc: Global, users: &[Uid], count: u32) -> Option<Vec<Script
     Some(scripts)
 }
 
-/// The reply to a spawn. None where no user has such numbers.
+/// Returns the reply to a spawn. `None` where no user has such numbers.
 pub fn new_process(pid: u32, tid: u32) -> Option<Reply> {
     let pid = Pid::new(pid)?;
     let tid = Tid::new(tid)?;
     Some(Reply::New { pid, tid })
 }
 
-/// The transcript is of the user at this place from 1001 on, with so many spawns of the user's first numbers.
+/// Checks that the transcript is of the user at this index from 1001 on, with `count` spawns of the user's first
+/// numbers.
 fn are_spawns<R: Abort>(rt: &R, transcript: &Transcript, slot: u32, count: u32)
     requires { (slot < 64) × (count < 65000) }
 {
@@ -65,7 +66,7 @@ fn are_spawns<R: Abort>(rt: &R, transcript: &Transcript, slot: u32, count: u32)
     }
 }
 
-/// The transcripts are of so many users from 1001 on, each with so many spawns of the user's first numbers.
+/// Checks that the transcripts are of `users` users from 1001 on, each with `count` spawns of the user's first numbers.
 pub fn are_own<R: Abort>(rt: &R, transcripts: &[Transcript], users: u32, count: u32)
     requires { (users ≤ 64) × (count < 65000) }
 {
@@ -78,7 +79,7 @@ pub fn are_own<R: Abort>(rt: &R, transcripts: &[Transcript], users: u32, count: 
     }
 }
 
-/// The entry at the place is a spawn: its user, its session and the reply.
+/// Returns the user, the session and the reply of the entry at this index, if it is a spawn.
 pub fn spawn_at(journal: &Journal, place: usize) -> Option<(Uid, usize, &Reply)> {
     let entry = journal.get(place)?;
     if entry.step != PlainStep::Spawn {

@@ -1,4 +1,4 @@
-//! Opening, closing, and what stands in the journal between.
+//! Opening, closing, and the journal between them.
 
 ghost use Rattle.std.specs.Prelude.{IfSome};
 ghost use Rattle.host_lock.specs.Sessions.{IsOf, IsSame};
@@ -21,7 +21,7 @@ fn a_session_makes_4294967295_calls(rt: HostRuntime) {
     assert!(rt; budget_left(4294967294) && !budget_left(4294967295));
 }
 
-/// The host that comes back, and whether too many sessions were named.
+/// Returns the host of a refused opening, and whether too many sessions were named.
 fn came_back(
     opened: Result<(SharedHost<ByPolicy>, Vec<Session>), OpenRefusal<ByPolicy>>,
 ) -> Option<(Host<ByPolicy>, bool)> {
@@ -32,7 +32,8 @@ fn came_back(
     }
 }
 
-/// The replies to a spawn before a refused opening and to one after it, and whether too many sessions were named.
+/// Returns the replies to a spawn before a refused opening and to one after it, and whether too many sessions were
+/// named.
 fn spawns_around(alloc: Global, user: Uid, users: &[Uid]) -> Option<(Reply, Reply, bool)> {
     let mut host = new_host(alloc)?;
     let first = host.step(alloc, user, Step::Spawn);
@@ -41,7 +42,7 @@ fn spawns_around(alloc: Global, user: Uid, users: &[Uid]) -> Option<(Reply, Repl
     Some((first, second, too_many))
 }
 
-/// The host that comes back has the process that it was given.
+/// A refused opening gives back the host with its process.
 #[test]
 fn neither_none_nor_sixty_five_open_a_host(rt: HostRuntime) -> Result<(), Fail> {
     let user = Uid::new(1001)?;
@@ -55,7 +56,7 @@ fn neither_none_nor_sixty_five_open_a_host(rt: HostRuntime) -> Result<(), Fail> 
     Ok(())
 }
 
-/// A call: the session's number, who asks for a list (nobody where it is a spawn), and the reply.
+/// A call: the session's number, the caller of a list (none for a spawn), and the reply.
 #[derive(Drop)]
 struct Called {
     session: usize,
@@ -100,7 +101,7 @@ fn call_in_turn<R: Abort + Wait>(
     }
 }
 
-/// The journal has these calls and no others.
+/// Checks that the journal has these calls and no others.
 fn are_calls<R: Abort>(rt: &R, journal: &Journal, users: &[Uid], calls: &[Called]) {
     assert_eq!(rt;
         (journal.len(), journal.is_empty()),
@@ -128,7 +129,7 @@ fn shown(session: &Session) -> (u32, usize, u32) {
     (session.uid().get(), session.number(), session.calls_made())
 }
 
-/// The sessions are the users', and have made so many calls.
+/// Checks the users of the sessions, and how many calls they have made.
 fn are_shown<R: Abort>(
     rt: &R,
     first: &Session,
@@ -140,7 +141,7 @@ fn are_shown<R: Abort>(
     assert_eq!(rt; shown(second), (users.1.get(), 1, made.1));
 }
 
-/// The host isn't closed by one of the two sessions alone, and is by both.
+/// Checks that only one of the two sessions doesn't close the host, and both do.
 fn close_in_turn<R: Abort>(
     rt: &R,
     alloc: Global,
@@ -158,7 +159,7 @@ fn close_in_turn<R: Abort>(
     close_two(alloc, host, first, second)
 }
 
-/// A new host, shared by a session of each of the users.
+/// Shares a new host among a session of each of the users.
 fn open_new(alloc: Global, users: (Uid, Uid)) -> Option<(SharedHost<ByPolicy>, Session, Session)>
     ensures first { IfSome result (λ r. IsOf r.0 r.1) }
     ensures second { IfSome result (λ r. IsOf r.0 r.2) }
@@ -167,7 +168,7 @@ fn open_new(alloc: Global, users: (Uid, Uid)) -> Option<(SharedHost<ByPolicy>, S
     open_two(alloc, host, users.0, users.1)
 }
 
-/// The host and the journal, after these calls of two sessions.
+/// Returns the host and the journal after these calls of two sessions.
 fn called_in_turn<R: Abort + Wait>(
     rt: &R,
     alloc: Global,
@@ -189,7 +190,7 @@ fn called_in_turn<R: Abort + Wait>(
     )
 }
 
-/// Two sessions make these calls. The host is closed once both are handed in.
+/// Makes these calls by two sessions. Both sessions close the host.
 fn work_in_turn<R: Abort + Wait>(
     rt: &R,
     alloc: Global,
@@ -202,12 +203,12 @@ fn work_in_turn<R: Abort + Wait>(
     Some(host)
 }
 
-/// A call of each session.
+/// Returns a call of each session.
 fn two_calls() -> Option<[Called; 2]> {
     Some([spawned(0, 1000, 100000)?, spawned(1, 1001, 100001)?])
 }
 
-/// A host after these calls by two sessions of a user.
+/// Returns a host after these calls by two sessions of a user.
 fn after_two_calls<R: Abort + Wait>(rt: &R, alloc: Global, user: Uid) -> Option<Host<ByPolicy>> {
     let calls = two_calls()?;
     work_in_turn(rt, alloc, (user, user), (1, 1), &calls[..])
@@ -220,7 +221,7 @@ fn a_user_may_have_two_sessions(rt: HostRuntime) -> Result<(), Fail> {
     Ok(())
 }
 
-/// Three calls of the first session, one of the second between them.
+/// Returns three calls of the first session, with one of the second between them.
 fn four_calls(alloc: Global) -> Option<[Called; 4]> {
     let pids = vec![in alloc; 1000, 1001].ok()?;
     Some([
@@ -235,7 +236,7 @@ fn four_calls(alloc: Global) -> Option<[Called; 4]> {
     ])
 }
 
-/// A host after these calls.
+/// Returns a host after these calls.
 fn after_four_calls<R: Abort + Wait>(
     rt: &R,
     alloc: Global,
@@ -245,7 +246,7 @@ fn after_four_calls<R: Abort + Wait>(
     work_in_turn(rt, alloc, users, (3, 1), &calls[..])
 }
 
-/// The next spawn of the user has these numbers.
+/// Checks that the next spawn of the user has these numbers.
 fn spawns_next<R: Abort>(
     rt: &R,
     alloc: Global,

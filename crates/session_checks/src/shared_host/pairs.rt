@@ -12,19 +12,19 @@ use std::thread::{Threads, join};
 use stop_handlers::{ByPolicy, Handler};
 use trace_stop::Settings;
 
-/// The reply to a spawn. None where no user has such numbers.
+/// Returns the reply to a spawn. `None` where no user has such numbers.
 pub fn new_process(pid: u32, tid: u32) -> Option<Reply> {
     let pid = Pid::new(pid)?;
     let tid = Tid::new(tid)?;
     Some(Reply::New { pid, tid })
 }
 
-/// A host that nobody has used. None where memory ran out.
+/// Creates an unused host. `None` where memory ran out.
 pub fn new_host(alloc: Global) -> Option<Host<ByPolicy>> {
     Host::<ByPolicy>::new(alloc, Settings::standard()).ok()
 }
 
-/// One call of the session. None where it has made all its calls.
+/// Makes one call of the session. `None` where it has made all its calls.
 pub fn ask<R: Wait>(
     rt: &R,
     alloc: Global,
@@ -41,7 +41,7 @@ pub fn ask<R: Wait>(
     }
 }
 
-/// The host, shared by a session of each of the users.
+/// Shares the host among a session of each of the users.
 pub fn open_two(
     alloc: Global,
     host: Host<ByPolicy>,
@@ -68,7 +68,7 @@ fn both(alloc: Global, first: Session, second: Session) -> Option<Vec<Session>>
     Some(sessions)
 }
 
-/// The host and the journal, once both are handed in.
+/// Returns the host and the journal for both sessions.
 pub fn close_two(
     alloc: Global,
     host: SharedHost<ByPolicy>,
@@ -90,7 +90,7 @@ fn alone(alloc: Global, session: Session) -> Option<Vec<Session>>
     Some(sessions)
 }
 
-/// The host, and one of its two sessions, once this session is handed in alone.
+/// Tries to close the host with only one of its two sessions, and returns the host and this session.
 pub fn close_one(
     alloc: Global,
     host: SharedHost<ByPolicy>,
@@ -116,7 +116,7 @@ struct Worked {
     replies: Vec<Reply>,
 }
 
-/// Makes the steps. None where memory or the calls ran out.
+/// Makes the steps. `None` where memory or the calls ran out.
 fn work<R: Wait>(
     rt: &R,
     alloc: Global,
@@ -169,7 +169,7 @@ pub struct Left {
     pub second: Vec<Reply>,
 }
 
-/// What both sessions leave, once they are handed in.
+/// Closes the host with both sessions, and returns the journal and the replies.
 fn hand_in(alloc: Global, host: SharedHost<ByPolicy>, first: Worked, second: Worked) -> Option<Left>
     requires first { IsOf host first.session }
     requires second { IsOf host second.session }
@@ -182,7 +182,7 @@ fn hand_in(alloc: Global, host: SharedHost<ByPolicy>, first: Worked, second: Wor
     })
 }
 
-/// What both sessions leave, after their steps in threads of their own.
+/// Makes the steps of both sessions in threads of their own, and closes the host.
 fn work_and_close<R: Threads + Wait + Sync>(
     rt: &R,
     alloc: Global,
@@ -209,7 +209,7 @@ pub fn run_beside<R: Threads + Wait + Sync>(
     work_and_close(rt, alloc, host, (first, mine), (second, theirs))
 }
 
-/// The steps, with handlers that answer by their policies.
+/// Returns the steps, with handlers that answer by their policies.
 pub fn by_policy(alloc: Global, steps: &[PlainStep]) -> Option<Vec<Step<Handler<ByPolicy>>>> {
     let mut own = Vec::new(alloc);
     for step in steps {

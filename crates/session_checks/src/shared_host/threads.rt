@@ -16,7 +16,7 @@ use std::thread::Threads;
 use stop_handlers::{ByPolicy, Decision, Policy, Rule, StopView};
 use wait4::{Options, Status};
 
-/// The replies are to a hundred spawns, with the numbers from these on.
+/// Checks that the replies are to a hundred spawns, with the numbers from these on.
 fn are_hundred<R: Abort>(rt: &R, replies: &[Reply], pid: u32, tid: u32)
     requires { (pid < 65000) × (tid < 356000) }
 {
@@ -27,7 +27,7 @@ fn are_hundred<R: Abort>(rt: &R, replies: &[Reply], pid: u32, tid: u32)
     }
 }
 
-/// The session's entries are the user's, and a hundred spawns, with the numbers from these on.
+/// Checks that the session's entries are a hundred spawns of the user, with the numbers from these on.
 fn are_entries<R: Abort>(rt: &R, journal: &Journal, session: usize, user: Uid, first: (u32, u32)) {
     let mut count = 0u32;
     for place in 0..journal.len() {
@@ -50,7 +50,7 @@ fn are_entries<R: Abort>(rt: &R, journal: &Journal, session: usize, user: Uid, f
     assert_eq!(rt; count, 100);
 }
 
-/// What a hundred spawns of each of the users leave.
+/// Returns the results of a hundred spawns of each of the users.
 fn hundred_each<R: Threads + Wait + Sync>(
     rt: &R,
     alloc: Global,
@@ -76,7 +76,7 @@ fn two_threads_spawn(rt: HostRuntime) -> Result<(), Fail> {
     Ok(())
 }
 
-/// A rule for a signal, and stops with at least these flags.
+/// Returns a rule for a signal, and stops with at least these flags.
 fn rule(signal: Signal, flags: StopFlags, decision: Decision) -> Rule {
     Rule {
         signal: Some(signal),
@@ -85,7 +85,7 @@ fn rule(signal: Signal, flags: StopFlags, decision: Decision) -> Rule {
     }
 }
 
-/// Goes on at a fork, detaches at SIGUSR1 and kills at another SIGTRAP.
+/// Returns a policy that continues at a fork, detaches at SIGUSR1 and kills at another SIGTRAP.
 fn fork_policy(none: Pass) -> Result<Policy, Fail> {
     let (trap, usr) = (Signal::new(5)?, Signal::new(30)?);
     Ok(Policy::new(&[
@@ -107,7 +107,7 @@ fn handle() -> PlainStep {
     Step::handle(1000)
 }
 
-/// The debugger's steps: its tracee forks and gets a signal, and its handler is asked about each stop.
+/// Returns the debugger's steps: its tracee forks and gets a signal, and its handler is asked about each stop.
 fn debug(policy: Policy) -> [PlainStep; 15] {
     let options = Options {
         untraced: false,
@@ -136,8 +136,8 @@ fn debug(policy: Policy) -> [PlainStep; 15] {
     ]
 }
 
-/// A stop that a handler was asked about: the process and its status word, then the LWP, the signal, the flags, the child and the code
-/// that the handler is shown.
+/// Returns the reply about a stop that a handler was asked about: the process and its status word, then the LWP, the
+/// signal, the flags, the child and the code that the handler sees.
 fn handled(
     (pid, word): (u32, u32),
     view: [u32; 5],
@@ -162,7 +162,7 @@ fn handled(
     })
 }
 
-/// The LWP of the tracee stopped.
+/// Returns the reply that the tracee's LWP stopped.
 fn stopped(sig: u32, flags: u32) -> Option<Reply> {
     Some(Reply::Stopped {
         tid: Tid::new(100001)?,
@@ -178,7 +178,8 @@ fn reported(pid: u32, word: u32) -> Option<Reply> {
     })
 }
 
-/// What the debugger is answered. The stop flags are PL_FLAG_SCX and PL_FLAG_FORKED, then PL_FLAG_SCX and PL_FLAG_CHILD.
+/// Returns the replies to the debugger. The stop flags are PL_FLAG_SCX and PL_FLAG_FORKED, then PL_FLAG_SCX and
+/// PL_FLAG_CHILD.
 fn debugged(none: Pass) -> [Option<Reply>; 15] {
     let forked = [100001, 5, 10, 1002, 2];
     let born = [100002, 17, 18, 0, 2];
@@ -202,7 +203,7 @@ fn debugged(none: Pass) -> [Option<Reply>; 15] {
     ]
 }
 
-/// A host on which the first user has two processes, the second one between them.
+/// Creates a host on which the first user has two processes. The second user's process is made between them.
 fn spawn_three<R: Abort>(
     rt: &R,
     alloc: Global,
@@ -220,7 +221,7 @@ fn spawn_three<R: Abort>(
     Some(host)
 }
 
-/// What the debugger's steps leave, beside a hundred spawns of another user.
+/// Returns the results of the debugger's steps, made at the same time as a hundred spawns of another user.
 fn debug_beside<R: Abort + Threads + Wait + Sync>(
     rt: &R,
     alloc: Global,
@@ -233,7 +234,7 @@ fn debug_beside<R: Abort + Threads + Wait + Sync>(
     run_beside(rt, alloc, host, (one, other), (mine, theirs))
 }
 
-/// The replies are those that the debugger is to be answered.
+/// Checks the replies to the debugger.
 fn are_debugged<R: Abort>(rt: &R, replies: &[Reply], none: Pass) {
     let wanted = debugged(none);
     assert_eq!(rt; replies.len(), wanted.len());

@@ -1,3 +1,4 @@
+use Rattle.std.proofs.Common.{ap}
 use Rattle.line_sessions.specs.declared.fault.ServeFault.TheVariants.{Memory}
 use Rattle.line_sessions.proofs.AnswerLemmas.{serves_by, serves_from}
 use Rattle.line_sessions.proofs.TalkLemmas.{begins_not}
@@ -7,4 +8,7 @@ pub returns-in_err-session : goal.returns-in_err-session
 returns-in_err-session g c = serves_by _ _ _ _ _ _ _ Memory c.from_residual.ensures.1 (begins_not _ _ _ _)
 
 pub returns : goal.returns
-returns g c = serves_from _ _ _ _ _ _ _ _ c.in_ok-session.ensures.host c.answer_all.ensures
+returns g c = serves_from _ _ _ _ _ _ _ _ (ap (λ s. s.host) c.in_ok-session.ensures) c.answer_all.ensures
+
+pub answer_all-requires : goal.answer_all-requires
+answer_all-requires g c = ap (λ s. s.made) c.in_ok-session.ensures

@@ -2,7 +2,7 @@ use Rattle.std.proofs.Common.{◌-◌, ◌≡◌, ℕ, ◌<◌, ◌≤◌, not}
 use Rattle.number_sets.specs.Members.{member}
 use Rattle.number_sets.proofs.NumberSet.next.Given as goal
 
--- all from the first on is otherwise than wanted
+-- no number from `from` to below `at` is as wanted
 abbrev pub invariant-loop-at : goal.invariant-loop-at
 invariant-loop-at l = record {
   reached : l.from ≤ l.at;

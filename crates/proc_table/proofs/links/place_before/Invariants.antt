@@ -4,7 +4,7 @@ use Rattle.proc_table.specs.Links.{IsPlace}
 use Rattle.proc_table.specs.Lanes.{lanes}
 use Rattle.proc_table.proofs.links.place_before.Given as goal
 
--- the walk stands at a place before `pid`
+-- the walk is at a place before `pid`
 abbrev pub invariant-loop-link : goal.invariant-loop-link
 invariant-loop-link l = record {
   place : IsPlace (lanes l.kin (get l.nodes)) l.head l.chief l.at l.passed l.link;

@@ -1,4 +1,4 @@
-use Rattle.requests.proofs.Names.{◌≡◌, ℕ, ◌≤◌, Some, refl, sym, ap, ◌∙◌, le-leb, LwpData, ProcData, Rows, Settings, post, raises}
+use Rattle.requests.proofs.Names.{rules, ◌≡◌, ℕ, ◌≤◌, Some, refl, sym, ap, ◌∙◌, le-leb, LwpData, ProcData, Rows, Settings, post, raises}
 use Rattle.requests.proofs.Actors.{runs_live}
 use Rattle.requests.proofs.acts.raise.Goals as goal
 
@@ -8,9 +8,9 @@ posts settings s p l rows least greatest = rw (le-leb 1 s least, le-leb s 31 gre
 pub post_lwp-requires-clause-live : goal.post_lwp-requires-clause-live
 post_lwp-requires-clause-live c = runs_live c.args.p.now c.args.tables.now.rows c.requires.acting.process c.requires.runs
 
-pub returns-else-eq-clause-rows : goal.returns-else-eq-clause-rows
-returns-else-eq-clause-rows c =
+pub returns-else-eq : goal.returns-else-eq
+returns-else-eq c =
     let p = c.args.p.now in
     let l = c.args.l.now in
     let number = c.in-Ok.ensures.1 in
-    c.post_lwp.ensures.rows ∙ (ap (λ n. post c.args.settings n (Some l.tid) p.pid c.args.tables.now.rows) number ∙ sym (posts c.args.settings c.args.number p l c.args.tables.now.rows c.in-Ok.ensures.0.0 c.in-Ok.ensures.0.1))
+    record { rows = c.post_lwp.ensures.rows ∙ (ap (λ n. post c.args.settings n (Some l.tid) p.pid c.args.tables.now.rows) number ∙ sym (posts c.args.settings c.args.number p l c.args.tables.now.rows c.in-Ok.ensures.0.0 c.in-Ok.ensures.0.1)); reply = search rules }

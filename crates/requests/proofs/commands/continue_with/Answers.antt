@@ -1,4 +1,4 @@
-use Rattle.requests.proofs.Names.{not_stepping, set_mask, resume, Reply}
+use Rattle.requests.proofs.Names.{rules, not_stepping, set_mask, resume, Reply}
 use Rattle.requests.proofs.Tracees.{signalled, is_tracee, masked_ready}
 use Rattle.requests.proofs.commands.continue_with.Goals as goal
 
@@ -9,9 +9,9 @@ resume-requires c =
     let h = masked_ready p c.args.mask rows c.set_mask.new.tables.rows c.clear_stepping.new.tables.rows (is_tracee rows p c.requires.sound c.requires.at c.requires.stopped) c.requires.stopped c.set_mask.ensures.rows c.clear_stepping.ensures.rows in
     record { sound = h.sound; stopped = h.stopped }
 
-pub returns-clause-rows : goal.returns-clause-rows
-returns-clause-rows c =
+pub returns : goal.returns
+returns c =
     let rows = c.args.tables.now.rows in
     let p = c.args.process.now in
     let h = masked_ready p c.args.mask rows c.set_mask.new.tables.rows c.clear_stepping.new.tables.rows (is_tracee rows p c.requires.sound c.requires.at c.requires.stopped) c.requires.stopped c.set_mask.ensures.rows c.clear_stepping.ensures.rows in
-    signalled (resume c.args.settings p.pid) c.args.data c.in-Ok.pass Reply.Done rows c.clear_stepping.new.tables.rows _ (not_stepping p.pid (set_mask (λ old. c.args.mask) p.pid rows)) c.in-Ok.ensures h.same c.resume.ensures.rows
+    record { rows = signalled (resume c.args.settings p.pid) c.args.data c.in-Ok.pass Reply.Done rows c.clear_stepping.new.tables.rows _ (not_stepping p.pid (set_mask (λ old. c.args.mask) p.pid rows)) c.in-Ok.ensures h.same c.resume.ensures.rows; reply = search rules }

@@ -12,9 +12,9 @@ resume-requires c =
     let h = stepping_ready p c.args.lwp rows c.clear_stepping.new.tables.rows (is_tracee rows p c.requires.sound c.requires.at c.requires.stopped) (own_lwp rows p c.args.lwp c.requires.own) c.clear_stepping.ensures.rows c.set_stepping.new.tables.rows c.requires.stopped c.set_stepping.ensures.rows in
     record { sound = h.sound; stopped = h.stopped }
 
-pub returns-clause-rows : goal.returns-clause-rows
-returns-clause-rows c =
+pub returns : goal.returns
+returns c =
     let rows = c.args.tables.now.rows in
     let p = c.args.process.now in
     let h = stepping_ready p c.args.lwp rows c.clear_stepping.new.tables.rows (is_tracee rows p c.requires.sound c.requires.at c.requires.stopped) (own_lwp rows p c.args.lwp c.requires.own) c.clear_stepping.ensures.rows c.set_stepping.new.tables.rows c.requires.stopped c.set_stepping.ensures.rows in
-    signalled (resume c.args.settings p.pid) c.args.data c.in-Ok.pass Reply.Done rows c.set_stepping.new.tables.rows _ (stepping p.pid c.args.lwp rows) c.in-Ok.ensures h.same c.resume.ensures.rows
+    record { rows = signalled (resume c.args.settings p.pid) c.args.data c.in-Ok.pass Reply.Done rows c.set_stepping.new.tables.rows _ (stepping p.pid c.args.lwp rows) c.in-Ok.ensures h.same c.resume.ensures.rows; reply = search rules }

@@ -1,9 +1,9 @@
-use Rattle.requests.proofs.Names.{ap, ◌∙◌, set_mask, switched}
+use Rattle.requests.proofs.Names.{rules, ap, ◌∙◌, set_mask, switched}
 use Rattle.requests.proofs.Tracees.{set_mask_as}
 use Rattle.requests.proofs.commands.switch.Goals as goal
 
-pub returns-clause-rows : goal.returns-clause-rows
-returns-clause-rows c =
+pub returns : goal.returns
+returns c =
     let rows = c.args.tables.now.rows in
     let p = c.args.process.now in
-    c.set_mask.ensures.rows ∙ (ap (λ mask. set_mask (λ old. mask) p.pid rows) c.switched.ensures ∙ set_mask_as (switched c.args.event c.args.on) rows p c.requires.sound.stands.rising c.requires.at)
+    record { rows = c.set_mask.ensures.rows ∙ (ap (λ mask. set_mask (λ old. mask) p.pid rows) c.switched.ensures ∙ set_mask_as (switched c.args.event c.args.on) rows p c.requires.sound.stands.rising c.requires.at); reply = search rules }

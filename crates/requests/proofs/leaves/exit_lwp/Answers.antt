@@ -9,5 +9,5 @@ gone settings p l rows more quiet = rw (more, quiet) refl
 pub stop_with-requires : goal.stop_with-requires
 stop_with-requires c = acting_has c.args.p.now c.args.l.now c.args.tables.now.rows c.requires.acting
 
-pub returns-else-is_asked-clause-rows : goal.returns-else-is_asked-clause-rows
-returns-else-is_asked-clause-rows c = search (rules, nat_tests, remove_lwp-is, gone)
+pub returns-else-is_asked : goal.returns-else-is_asked
+returns-else-is_asked c = record { rows = search (rules, nat_tests, remove_lwp-is, gone); reply = search rules }

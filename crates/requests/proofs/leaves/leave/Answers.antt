@@ -7,5 +7,5 @@ exit_lwp-requires-clause-live c = runs_live c.args.p.now c.args.tables.now.rows 
 pub exit-requires-clause-live : goal.exit-requires-clause-live
 exit-requires-clause-live c = runs_live c.args.p.now c.args.tables.now.rows c.requires.acting.process c.requires.runs
 
-pub finish-requires-clause-there : goal.finish-requires-clause-there
-finish-requires-clause-there c = acting_has c.args.p.now c.args.l.now c.args.tables.now.rows c.requires.acting
+pub finish-requires : goal.finish-requires
+finish-requires c = acting_has c.args.p.now c.args.l.now c.args.tables.now.rows c.requires.acting

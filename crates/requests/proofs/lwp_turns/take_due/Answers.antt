@@ -16,5 +16,5 @@ stop_with-requires c =
     let rows = c.args.tables.now.rows in
     subst (HasLwp p.pid l.tid) (sym (gone p l rows c.set_lwp.new.self.rows c.kept.ensures c.requires c.set_lwp.ensures.rows)) (has-lwp_changed l.tid (λ k. record k { due = Due.Nothing }) (λ k. refl) (λ k. refl) p.pid l.tid rows (acting_has p l rows c.requires))
 
-pub returns-clause-rows : goal.returns-clause-rows
-returns-clause-rows c = search (rules, gone)
+pub returns : goal.returns
+returns c = record { rows = search (rules, gone); reply = search rules }

@@ -1,4 +1,4 @@
-use Rattle.requests.proofs.Names.{◌≡◌, ℕ, refl, sym, ap, ◌∙◌, disposition_of, default_action, LwpData, ProcData, Rows, Settings, end, takes_untraced, Action, Disposition}
+use Rattle.requests.proofs.Names.{rules, ◌≡◌, ℕ, refl, sym, ap, ◌∙◌, disposition_of, default_action, LwpData, ProcData, Rows, Settings, end, takes_untraced, Action, Disposition}
 use Rattle.trace_stop.proofs.Found.{listed}
 use Rattle.requests.proofs.lwp_turns.take_untraced.Goals as goal
 
@@ -9,10 +9,13 @@ ended settings s p l rows d a = rw (d, a) refl
 pub job_stop-requires : goal.job_stop-requires
 job_stop-requires c = listed c.args.tables.now.rows c.args.p.now.pid c.requires.live
 
-pub returns-in-End-clause-rows : goal.returns-in-End-clause-rows
-returns-in-End-clause-rows c =
+pub returns-in-End : goal.returns-in-End
+returns-in-End c =
     let p = c.args.p.now in
     let s = c.args.signal in
     let rows = c.args.tables.now.rows in
-    c.end.ensures.rows ∙ (ap (λ n. end c.args.settings p.pid n rows) c.number.ensures.number
-    ∙ sym (ended c.args.settings s p c.args.l.now rows (sym c.get.ensures ∙ c.in-Default.is) (sym c.default_action.ensures ∙ c.in-End.is)))
+    record {
+      rows = c.end.ensures.rows ∙ (ap (λ n. end c.args.settings p.pid n rows) c.number.ensures.number
+          ∙ sym (ended c.args.settings s p c.args.l.now rows (sym c.get.ensures ∙ c.in-Default.is) (sym c.default_action.ensures ∙ c.in-End.is)));
+      reply = search rules;
+    }

@@ -2,11 +2,8 @@ use Rattle.requests.proofs.Names.{ap, ◌∙◌, not, rules}
 use Rattle.requests.proofs.Sending.{no_number, reached_none, reached_others, rest_next, post_rest, left, next_smaller}
 use Rattle.requests.proofs.sends.kill_others.Goals as goal
 
-pub returns-then-is_none-clause-rows : goal.returns-then-is_none-clause-rows
-returns-then-is_none-clause-rows c = search (rules, no_number, reached_none)
-
-pub returns-then-is_none-clause-reply : goal.returns-then-is_none-clause-reply
-returns-then-is_none-clause-reply c = search (rules, no_number, reached_none)
+pub returns-then-is_none : goal.returns-then-is_none
+returns-then-is_none c = record { rows = search (rules, no_number, reached_none); reply = search (rules, no_number, reached_none) }
 
 pub loop-at-init : goal.loop-at-init
 loop-at-init c =

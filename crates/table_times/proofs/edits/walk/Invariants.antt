@@ -2,6 +2,6 @@ use Rattle.std.proofs.Common.{IfSome}
 use Rattle.table_times.proofs.Walks.{Own}
 use Rattle.table_times.proofs.edits.walk.Given as goal
 
--- the walk stands at a row of the process, or past its last
+-- the walk is at a row of the process, or past its last
 abbrev pub invariant-loop : goal.invariant-loop
 invariant-loop l = IfSome l.next (Own l.pid l.tables.rows.lwps)

@@ -13,7 +13,7 @@ overflow_add-ends c = omega (arith, own_count c.self.invariant c.get-pid.result,
 pub overflow_add-self : goal.overflow_add-self
 overflow_add-self c = omega (arith, all_count c.self.invariant, c.requires.room, ap (λ v. v.spare) c.self.view_is)
 
--- what the steps up to the index tell
+-- what the steps up to the index establish
 joins : (c : After-unwrap) → HasJoined (slot_get c.self.inside.rows) c.self.inside.slots.entries c.self.inside.heads.entries c.self.inside.all c.self.inside.births c.args.row c.insert_reserved-slot.result c.ends_of-own.result (slot_get c.set_link-2.new.slots) c.insert.new.self.entries
 joins c = record {
   own_is = c.ends_of-own.ensures ∙ ap (ends_at c.self.inside.heads.entries) c.get-pid.ensures.number;

@@ -28,7 +28,7 @@ overflow_sub-self c =
     let tid = (lwp_of-found (slot_get c.self.inside.rows) _ _ c.self.invariant.indexed c.get.result c.unwrap-slot.result gone (sym c.swap_remove.ensures.value ∙ c.unwrap-slot.ensures) c.remove-gone.ensures.value).0 in
     omega (arith, user_positive c.self.invariant c.unwrap-slot.result gone c.remove-gone.ensures.value c.user_place.result (c.user_place.ensures.place ∙ ap place_of (sym (tid ∙ c.get.ensures.number))) c.user_place.ensures.below)
 
--- what the steps up to the new ends tell
+-- what the steps up to the new ends establish
 leaves : (c : After-without) → HasLeft (slot_get c.self.inside.rows) c.self.inside.slots.entries c.self.inside.heads.entries c.args.tid c.unwrap-slot.result c.remove-gone.result (slot_get c.close_up.new.slots) c.swap_remove.new.self.entries c.without.result
 leaves c =
     let gone = c.remove-gone.result in

@@ -7,7 +7,7 @@ use Rattle.proc_table.proofs.Tied.{IsBorn, IsRehung, picked, head-row, added-lac
 use Rattle.proc_table.proofs.processes.Processes.add.Goals.{After-get-2, After-slot}
 use Rattle.proc_table.proofs.processes.Processes.add.Goals as goal
 
--- what the steps up to the index tell
+-- what the steps up to the index establish
 born : (c : After-get-2) → IsBorn (get c.self.inside.nodes) c.self.inside.slots.entries c.args.row c.insert_reserved-slot.result (get c.insert_reserved-slot.new.self) c.insert.new.self.entries
 born c = record {
   vacant = c.insert_reserved-slot.ensures.was_vacant;

@@ -1,0 +1,31 @@
+use Rattle.std.proofs.Common.{◌≡◌, ◌≢◌, ◌<◌, ◌^◌, ℕ, ◌+◌, ◌-◌, ◌*◌, ◌/◌, ◌%◌, bit_or, arith, ap, sym, ◌∙◌}
+use Rattle.std.proofs.lemmas.Nat.{mod-pow-add, or_comm, or_shifted, pow_pos}
+use Rattle.flat_forms.proofs.acts.set_with.Goals as goal
+use Rattle.flat_forms.proofs.acts.set_with.Goals.{then-bits-place-eq1, else-bits-place-eq1}
+
+-- the low bits with one more
+more : (bits place : ℕ) → bits % 2 ^ (place + 1) ≡ (bits / 2 ^ place % 2) * 2 ^ place + bits % 2 ^ place
+more bits place = let e : place + 1 ≡ 1 + place = omega arith in ap (λ k. bits % 2 ^ k) e ∙ mod-pow-add bits 1 place
+
+-- where that bit is 1, it is added
+added : (bits set place n new : ℕ) → set ≡ bits % 2 ^ place → bits / 2 ^ place % 2 ≡ 1 → n ≡ place + 1 → new ≡ bit_or set (2 ^ (n - 1)) → new ≡ bits % 2 ^ (place + 1)
+added bits set place n new is one at e =
+    let low : n - 1 ≡ place = omega arith in
+    let some : 0 < 2 ^ place = pow_pos place in
+    let below : set < 2 ^ place = omega arith in
+    let once : 1 * 2 ^ place ≡ 2 ^ place = omega arith in
+    e ∙ (ap (λ k. bit_or set (2 ^ k)) low ∙ (ap (bit_or set) (sym once) ∙ (or_comm set (1 * 2 ^ place) ∙ (or_shifted 1 place set below
+    ∙ (ap (λ s. 1 * 2 ^ place + s) is ∙ sym (more bits place ∙ ap (λ d. d * 2 ^ place + bits % 2 ^ place) one))))))
+
+-- where it is 0, nothing is
+same : (bits set place new : ℕ) → set ≡ bits % 2 ^ place → bits / 2 ^ place % 2 ≢ 1 → new ≡ set → new ≡ bits % 2 ^ (place + 1)
+same bits set place new is other e =
+    let none : bits / 2 ^ place % 2 ≡ 0 = omega arith in
+    let left : 0 * 2 ^ place + bits % 2 ^ place ≡ bits % 2 ^ place = omega arith in
+    e ∙ (is ∙ sym (more bits place ∙ (ap (λ d. d * 2 ^ place + bits % 2 ^ place) none ∙ left)))
+
+pub loop-place-preserved : goal.loop-place-preserved
+loop-place-preserved c = elim c.if-bits-place-eq1.branch [
+  | then-bits-place-eq1 w ↦ added c.args.bits c.loop-place.set c.loop-place.place w.signal_at.result _ c.loop-place.invariant w.if-bits-place-eq1.true w.signal_at.ensures (w.set-is ∙ w.with-set.ensures)
+  | else-bits-place-eq1 w ↦ same c.args.bits c.loop-place.set c.loop-place.place _ c.loop-place.invariant w.if-bits-place-eq1.false w.set-is
+]

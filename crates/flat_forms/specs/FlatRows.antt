@@ -1,0 +1,84 @@
+-- Rows of processes and LWPs as numbers.
+use Rattle.std.specs.Prelude.{ℕ, Bool, true, false, Option, Some, None}
+use Rattle.event_masks.specs.declared.Call.{Call}
+use Rattle.event_masks.specs.declared.Call.TheVariants as call
+use Rattle.lwp_table.specs.declared.Due.{Due}
+use Rattle.lwp_table.specs.declared.Due.TheVariants as due
+use Rattle.lwp_table.specs.declared.LwpData.{LwpData}
+use Rattle.lwp_table.specs.declared.Mode.{Mode}
+use Rattle.lwp_table.specs.declared.Mode.TheVariants as mode
+use Rattle.proc_table.specs.declared.ProcData.{ProcData}
+use Rattle.proc_table.specs.declared.State.{State}
+use Rattle.proc_table.specs.declared.State.TheVariants as state
+use Rattle.flat_forms.specs.declared.rows.FlatProcess.{FlatProcess}
+use Rattle.flat_forms.specs.declared.rows.FlatLwp.{FlatLwp}
+use Rattle.flat_forms.specs.declared.rows.FlatState.{FlatState}
+use Rattle.flat_forms.specs.declared.rows.FlatMode.{FlatMode}
+
+abbrev pub flag : Bool → ℕ
+flag true = 1
+flag false = 0
+
+abbrev pub tracer_number : Option ℕ → ℕ
+tracer_number None = 0
+tracer_number (Some pid) = pid
+
+abbrev pub flat_state : State → FlatState
+flat_state state.Run = record { state = 0; lwp = 0; signal = 0; told = 0; status = 0 }
+flat_state (state.Trace tid sig told) = record { state = 1; lwp = tid; signal = sig; told = flag told; status = 0 }
+flat_state (state.Job sig told) = record { state = 2; lwp = 0; signal = sig; told = flag told; status = 0 }
+flat_state (state.Zombie status) = record { state = 3; lwp = 0; signal = 0; told = 0; status = status }
+
+abbrev pub flat_process : ProcData → FlatProcess
+flat_process p = let s = flat_state p.state in record {
+  pid = p.pid;
+  parent = p.parent;
+  tracer = tracer_number p.tracer;
+  state = s.state;
+  lwp = s.lwp;
+  signal = s.signal;
+  told = s.told;
+  status = s.status;
+  continued = flag p.continued;
+  events = p.mask.0;
+  pending = p.pending;
+}
+
+-- the number of a system call, and its argument
+abbrev pub flat_call : Call → ℕ × ℕ
+flat_call call.Fork = (0, 0)
+flat_call call.Vfork = (1, 0)
+flat_call call.Exec = (2, 0)
+flat_call call.ThrNew = (3, 0)
+flat_call call.ThrExit = (4, 0)
+flat_call (call.Exit status) = (5, status)
+flat_call (call.Other number) = (6, number)
+
+abbrev pub flat_mode : Mode → FlatMode
+flat_mode mode.User = record { mode = 0; call = 0; argument = 0; child = 0 }
+flat_mode (mode.InCall c) = record { mode = 1; call = (flat_call c).0; argument = (flat_call c).1; child = 0 }
+flat_mode (mode.VforkWait child) = record { mode = 2; call = 0; argument = 0; child = child }
+
+abbrev pub due_number : Due → ℕ
+due_number due.Nothing = 0
+due_number due.Born = 1
+due_number due.Begun = 2
+due_number due.VforkDone = 3
+
+abbrev pub flat_lwp : LwpData → FlatLwp
+flat_lwp l = let m = flat_mode l.mode in record {
+  lwp = l.tid;
+  pid = l.pid;
+  mode = m.mode;
+  call = m.call;
+  argument = m.argument;
+  vfork_child = m.child;
+  suspended = flag l.suspended;
+  stepping = flag l.stepping;
+  blocked = l.blocked;
+  pending = l.pending;
+  due = due_number l.due;
+  flags = l.flags.0;
+  child = l.child;
+  code = l.code;
+}

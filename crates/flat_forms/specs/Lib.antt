@@ -1,0 +1,4 @@
+pub mod Replies
+pub mod Numbers
+pub mod Rules
+pub mod FlatRows

@@ -1,0 +1,106 @@
+-- A reply as numbers.
+use Rattle.std.specs.Prelude.{ℕ, ◌%◌, ◌^◌, length, Option, Some, None}
+use Rattle.pid_blocks.specs.Blocks.{errno_number}
+use Rattle.wait4.specs.Status.{word}
+use Rattle.wait4.specs.declared.StatusKind.{StatusKind}
+use Rattle.lwpinfo.specs.declared.Event.{Event}
+use Rattle.lwpinfo.specs.declared.Event.TheVariants as event
+use Rattle.lwpinfo.specs.declared.LwpInfo.{LwpInfo}
+use Rattle.stop_handlers.specs.declared.Decision.{Decision}
+use Rattle.stop_handlers.specs.declared.Decision.TheVariants as decision
+use Rattle.stop_handlers.specs.declared.StopView.{StopView}
+use Rattle.requests.specs.declared.Reply.{Reply}
+use Rattle.requests.specs.declared.Reply.TheVariants as reply
+use Rattle.flat_forms.specs.declared.replies.FlatReply.{FlatReply}
+
+-- a reply of this kind with all its numbers 0
+abbrev pub blank : ℕ → FlatReply
+blank kind = record {
+  kind = kind;
+  pid = 0;
+  lwp = 0;
+  number = 0;
+  status = 0;
+  signal = 0;
+  event = 0;
+  flags = 0;
+  mask = 0;
+  pending = 0;
+  child = 0;
+  code = 0;
+  has_handler = 0;
+  handler = 0;
+  decision = 0;
+  pass = 0;
+  error = 0;
+  count = 0;
+}
+
+abbrev pub event_number : Event → ℕ
+event_number event.Nothing = 0
+event_number event.Signal = 1
+
+abbrev pub flat_info : LwpInfo → FlatReply
+flat_info i = record (blank 5) {
+  lwp = i.tid;
+  event = event_number i.event;
+  flags = i.flags.0;
+  mask = i.sigmask;
+  pending = i.siglist;
+  child = i.child;
+  code = i.code;
+}
+
+abbrev pub decision_number : Decision → ℕ
+decision_number decision.Decline = 0
+decision_number decision.Leave = 1
+decision_number (decision.Continue s) = 2
+decision_number (decision.Detach s) = 3
+decision_number decision.Kill = 4
+
+-- the signal that a decision passes on, or 0
+abbrev pub passed : Decision → ℕ
+passed (decision.Continue s) = s
+passed (decision.Detach s) = s
+passed d = 0
+
+-- whether there is an index, as 1 or 0, and which
+abbrev pub has_index : Option ℕ → ℕ
+has_index None = 0
+has_index (Some i) = 1
+
+abbrev pub index_number : Option ℕ → ℕ
+index_number None = 0
+index_number (Some i) = i
+
+abbrev pub flat_handled : ℕ → StatusKind → StopView → Option ℕ → Decision → FlatReply
+flat_handled pid status view index d = record (blank 9) {
+  pid = pid;
+  lwp = view.tid;
+  status = word status;
+  signal = view.sig;
+  flags = view.flags.0;
+  child = view.child;
+  code = view.code;
+  has_handler = has_index index;
+  handler = index_number index;
+  decision = decision_number d;
+  pass = passed d;
+}
+
+abbrev pub flat : Reply → FlatReply
+flat reply.Done = blank 0
+flat (reply.New pid tid) = record (blank 1) { pid = pid; lwp = tid }
+flat (reply.Number n) = record (blank 2) { number = n }
+flat (reply.Status pid status) = record (blank 3) { pid = pid; status = word status }
+flat reply.Nothing = blank 4
+flat (reply.Info i) = flat_info i
+flat (reply.Lwps tids) = record (blank 6) { count = length tids % 2 ^ 32 }
+flat (reply.Pids pids) = record (blank 7) { count = length pids % 2 ^ 32 }
+flat (reply.Mask mask) = record (blank 8) { mask = mask.0 }
+flat (reply.Handled pid status view index d) = flat_handled pid status view index d
+flat (reply.Stopped tid sig flags) = record (blank 10) { lwp = tid; signal = sig; flags = flags.0 }
+flat (reply.Caught sig) = record (blank 11) { signal = sig }
+flat (reply.Ended w) = record (blank 12) { status = w }
+flat reply.Held = blank 13
+flat (reply.Errno e) = record (blank 14) { error = errno_number e }

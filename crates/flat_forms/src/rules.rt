@@ -1,0 +1,91 @@
+//! Rules of stop handlers as numbers.
+ghost use Rattle.std.specs.Prelude.{◌≡◌};
+ghost use Rattle.flat_forms.specs.Rules.{rule_numbered, decision_numbered, pass_numbered, signal_numbered, policy_numbered};
+
+use event_masks::StopFlags;
+use signals::{Pass, Signal};
+use stop_handlers::{Decision, Policy, Rule};
+
+/// A rule of a stop handler.
+#[repr(C)]
+#[derive(Clone, Copy, Debug, PartialEq, Eq, Drop)]
+pub struct FlatRule {
+    /// The bits of the flags that a stop has to have.
+    pub flags: u32,
+    /// The signal that a stop has to have, or 0 for any.
+    pub signal: u32,
+    /// The place of the decision in `Decision`.
+    pub decision: u32,
+    /// The signal that a continuation or a detachment passes on, or 0.
+    pub pass: u32,
+}
+
+fn pass_of(number: u32) -> Option<Pass>
+    ensures { result ≡ pass_numbered number }
+{
+    Pass::new(number).ok()
+}
+
+fn decision_of(number: u32, pass: u32) -> Option<Decision>
+    ensures { result ≡ decision_numbered number pass }
+{
+    match number {
+        0 => Some(Decision::Decline),
+        1 => Some(Decision::Leave),
+        2 => Some(Decision::Continue(pass_of(pass)?)),
+        3 => Some(Decision::Detach(pass_of(pass)?)),
+        4 => Some(Decision::Kill),
+        _ => None,
+    }
+}
+
+/// Returns the signal that a rule names, where 0 is none. `None` above 31.
+fn signal_of(number: u32) -> Option<Option<Signal>>
+    ensures { result ≡ signal_numbered number }
+{
+    if number == 0 {
+        return Some(None);
+    }
+    match Signal::new(number) {
+        Ok(signal) => Some(Some(signal)),
+        Err(_) => None,
+    }
+}
+
+impl FlatRule {
+    /// Returns the rule with these numbers. `None` where a flag, the signal, the decision or the signal that it passes
+    /// on doesn't exist.
+    pub fn rule(&self) -> Option<Rule>
+        ensures { result ≡ rule_numbered self.now }
+    {
+        if self.flags >= 512 {
+            return None;
+        }
+        let signal = signal_of(self.signal)?;
+        let decision = decision_of(self.decision, self.pass)?;
+        Some(Rule {
+            flags: StopFlags(self.flags),
+            signal,
+            decision,
+        })
+    }
+}
+
+/// Returns the policy of these rules, in their order. `None` for more than 16 rules, or where one of them doesn't exist.
+pub fn policy_of(rules: &[FlatRule]) -> Option<Policy>
+    ensures { result ≡ policy_numbered rules.now }
+{
+    if rules.len() > 16 {
+        return None;
+    }
+    let idle = Rule {
+        flags: StopFlags(0),
+        signal: None,
+        decision: Decision::Decline,
+    };
+    let mut kept = [idle; 16];
+    for place in 0..rules.len() {
+        kept[place] = rules[place].rule()?;
+    }
+    Policy::new(&kept[..rules.len()]).ok()
+}

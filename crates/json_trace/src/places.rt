@@ -1,0 +1,90 @@
+//! The steps of each user.
+use pid_blocks::Uid;
+use requests::Step;
+use scenario::{Scenario, StepShape, USERS};
+use std::alloc::{AllocError, Global};
+use stop_handlers::Policy;
+
+/// The index of no step. A scenario has fewer steps.
+const NO_STEP: u32 = u32::MAX;
+
+/// The steps of a scenario, which are taken user by user.
+#[derive(Drop)]
+pub(crate) struct Places<'a> {
+    scenario: &'a Scenario,
+    /// The index of each user's next step.
+    next: [u32; USERS],
+    /// For each step the index of the same user's step after it.
+    after: Vec<u32>,
+    /// The indices of the installs, rising. Each has the policy in its place.
+    installs: Vec<u32>,
+}
+
+/// A step with its place.
+#[derive(Clone, Copy, Drop)]
+pub(crate) struct Place<'a> {
+    /// Its number among all users' steps, from 1.
+    pub(crate) index: u32,
+    pub(crate) step: &'a StepShape,
+    /// The policy that it installs.
+    pub(crate) policy: Option<&'a Policy>,
+}
+
+/// Returns the index of each user's first step, and for each step the index of the same user's step after it.
+fn links_of(
+    alloc: Global,
+    steps: &[(Uid, StepShape)],
+) -> Result<([u32; USERS], Vec<u32>), AllocError> {
+    let mut next = [NO_STEP; USERS];
+    let mut after = Vec::from_elem(alloc, NO_STEP, steps.len())?;
+    for (index, step) in steps.iter().enumerate().rev() {
+        let slot = step.0.slot();
+        if let Some(link) = after.get_mut(index) {
+            *link = next[slot];
+        }
+        next[slot] = u32::try_from(index).unwrap_or(NO_STEP);
+    }
+    Ok((next, after))
+}
+
+/// Returns the indices of the installs.
+fn installs_of(alloc: Global, steps: &[(Uid, StepShape)]) -> Result<Vec<u32>, AllocError> {
+    let mut installs = Vec::new(alloc);
+    for (index, step) in steps.iter().enumerate() {
+        if let Step::Install { .. } = step.1 {
+            installs.push(u32::try_from(index).unwrap_or(NO_STEP))?;
+        }
+    }
+    Ok(installs)
+}
+
+impl<'a> Places<'a> {
+    /// The steps of the scenario. An error means out of memory.
+    pub(crate) fn new(alloc: Global, scenario: &'a Scenario) -> Result<Places<'a>, AllocError> {
+        let (next, after) = links_of(alloc, scenario.shapes())?;
+        Ok(Places {
+            scenario,
+            next,
+            after,
+            installs: installs_of(alloc, scenario.shapes())?,
+        })
+    }
+
+    /// Takes the user's next step; none after the last one.
+    pub(crate) fn take(&mut self, user: Uid) -> Option<Place<'a>> {
+        let scenario = self.scenario;
+        let slot = user.slot();
+        let index = self.next[slot];
+        let step = scenario.shapes().get(index as usize)?;
+        self.next[slot] = *self.after.get(index as usize)?;
+        let policy = match self.installs.binary_search(&index) {
+            Ok(place) => scenario.policies().get(place),
+            Err(_) => None,
+        };
+        Some(Place {
+            index: index.saturating_add(1),
+            step: &step.1,
+            policy,
+        })
+    }
+}

@@ -1,0 +1,173 @@
+//! A step as a JSON object: the keys of docs/FORMAT.md in its order, but for the user. A key whose value is that of a
+//! missing key is left out.
+use crate::members::{push_flags, push_name, push_nonzero, push_number, push_signals};
+use crate::names::{act_name, action_name, call_name, decision_name, op_of, request_name};
+use event_masks::{Call, EventMask};
+use json::Writer;
+use requests::{Act, Request, Step};
+use scenario::StepShape;
+use signals::Disposition;
+use std::alloc::AllocError;
+use stop_handlers::{Decision, Policy, Rule};
+use wait4::Options;
+
+fn push_ptrace(
+    out: &mut Writer,
+    request: Request,
+    target: u32,
+    data: u32,
+) -> Result<(), AllocError> {
+    push_name(out, "request", request_name(request))?;
+    if request == Request::TraceMe {
+        return Ok(());
+    }
+    push_number(out, "target", target)?;
+    if request == Request::SetEventMask {
+        return push_flags(out, "mask", EventMask(data));
+    }
+    push_nonzero(out, "data", data)
+}
+
+fn push_which(out: &mut Writer, which: i64) -> Result<(), AllocError> {
+    out.key("which")?;
+    out.i64(which)
+}
+
+/// Writes the options that change what a wait reports.
+fn push_options(out: &mut Writer, options: Options) -> Result<(), AllocError> {
+    if !options.untraced && !options.continued {
+        return Ok(());
+    }
+    out.key("options")?;
+    out.begin_array()?;
+    if options.untraced {
+        out.string("WUNTRACED")?;
+    }
+    if options.continued {
+        out.string("WCONTINUED")?;
+    }
+    out.end_array()
+}
+
+fn push_wait4(out: &mut Writer, which: i64, options: Options) -> Result<(), AllocError> {
+    push_which(out, which)?;
+    push_options(out, options)
+}
+
+fn push_kill(out: &mut Writer, which: i64, signal: u32) -> Result<(), AllocError> {
+    push_which(out, which)?;
+    push_number(out, "signal", signal)
+}
+
+fn push_sigaction(out: &mut Writer, signal: u32, action: Disposition) -> Result<(), AllocError> {
+    push_number(out, "signal", signal)?;
+    push_name(out, "action", action_name(action))
+}
+
+fn push_decision(out: &mut Writer, decision: &Decision) -> Result<(), AllocError> {
+    push_name(out, "decision", decision_name(decision))?;
+    match decision {
+        Decision::Continue(pass) | Decision::Detach(pass) => {
+            push_nonzero(out, "pass", pass.number())
+        }
+        Decision::Decline | Decision::Leave | Decision::Kill => Ok(()),
+    }
+}
+
+fn push_rule(out: &mut Writer, rule: &Rule) -> Result<(), AllocError> {
+    out.begin_object()?;
+    if let Some(signal) = rule.signal {
+        push_number(out, "signal", signal.number())?;
+    }
+    if rule.flags.0 != 0 {
+        push_flags(out, "flags", rule.flags)?;
+    }
+    push_decision(out, &rule.decision)?;
+    out.end_object()
+}
+
+/// Writes the rules of a policy.
+fn push_rules(out: &mut Writer, policy: &Policy) -> Result<(), AllocError> {
+    out.key("rules")?;
+    out.begin_array()?;
+    for rule in policy.rules() {
+        push_rule(out, rule)?;
+    }
+    out.end_array()
+}
+
+fn push_call(out: &mut Writer, call: &Call) -> Result<(), AllocError> {
+    push_name(out, "call", call_name(call))?;
+    match call {
+        Call::Exit(code) => push_number(out, "code", u32::from(*code)),
+        Call::Other(code) => push_number(out, "code", *code),
+        Call::Fork | Call::Vfork | Call::Exec | Call::ThrNew | Call::ThrExit => Ok(()),
+    }
+}
+
+fn push_turn(out: &mut Writer, lwp: u32, act: &Act) -> Result<(), AllocError> {
+    push_number(out, "lwp", lwp)?;
+    push_name(out, "act", act_name(act))?;
+    match act {
+        Act::Raise(signal) => push_number(out, "signal", *signal),
+        Act::Block(set) => push_signals(out, "set", *set),
+        Act::Enter(call) => push_call(out, call),
+        Act::Compute | Act::Leave => Ok(()),
+    }
+}
+
+/// Writes the number of the process that makes the call. A turn and a spawn have none.
+fn push_caller(out: &mut Writer, step: &StepShape) -> Result<(), AllocError> {
+    match step {
+        Step::List { caller }
+        | Step::Sigaction { caller, .. }
+        | Step::Kill { caller, .. }
+        | Step::Wait4 { caller, .. }
+        | Step::Install { caller, .. }
+        | Step::Handle { caller }
+        | Step::Ptrace { caller, .. } => push_number(out, "caller", *caller),
+        Step::Spawn | Step::Turn { .. } => Ok(()),
+    }
+}
+
+/// Writes the keys of the step's op after its caller.
+fn push_keys(
+    out: &mut Writer,
+    step: &StepShape,
+    policy: Option<&Policy>,
+) -> Result<(), AllocError> {
+    match step {
+        Step::Spawn | Step::List { .. } | Step::Handle { .. } => Ok(()),
+        Step::Sigaction {
+            sig,
+            disposition,
+            ..
+        } => push_sigaction(out, *sig, *disposition),
+        Step::Kill { which, sig, .. } => push_kill(out, *which, *sig),
+        Step::Wait4 { which, options, .. } => push_wait4(out, *which, *options),
+        Step::Install { .. } => match policy {
+            Some(policy) => push_rules(out, policy),
+            None => Ok(()),
+        },
+        Step::Ptrace {
+            request,
+            target,
+            data,
+            ..
+        } => push_ptrace(out, *request, *target, *data),
+        Step::Turn { tid, act } => push_turn(out, *tid, act),
+    }
+}
+
+/// Writes the step as an object, with the policy that it installs.
+pub(crate) fn push_step(
+    out: &mut Writer,
+    step: &StepShape,
+    policy: Option<&Policy>,
+) -> Result<(), AllocError> {
+    out.begin_object()?;
+    push_name(out, "op", op_of(step))?;
+    push_caller(out, step)?;
+    push_keys(out, step, policy)?;
+    out.end_object()
+}

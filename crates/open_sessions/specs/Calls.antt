@@ -1,0 +1,40 @@
+-- What the calls of a session do.
+use Rattle.std.specs.Prelude.{◌≡◌, ◌≤◌, ℕ, ◌-◌, ◌+◌, ◌^◌, List, Some, Ok, slice_index}
+use Rattle.pid_blocks.specs.Users.{IsUser}
+use Rattle.requests.specs.Hosts.{Steps as HostSteps}
+use Rattle.requests.specs.declared.Reply.{Reply}
+use Rattle.requests.specs.Plain.{PlainStep}
+use Rattle.requests.specs.Run.{Asked}
+use Rattle.scenario.specs.declared.style.Style.{Style}
+use Rattle.scenario_text.specs.OneStep.{IsStep}
+use Rattle.open_sessions.specs.Answers.{LineReply, AnswersLine, answer_text, reply_text, made_after}
+use Rattle.open_sessions.specs.Open.{OpenSession}
+
+abbrev pub last_text : Style → OpenSession → List ℕ
+last_text style s = answer_text style s.made s.last
+
+-- a step of a user was made: the reply and the host are the machine's; or, where the step takes memory and the machine
+-- wouldn't refuse it, ENOMEM and the host as it was. The reply is counted, and is the last answer.
+pub record Steps (u : ℕ) (step : PlainStep) (s t : OpenSession) : Type 0 where
+  pub reply : Reply
+  pub user : IsUser u
+  pub made : HostSteps u step s.host t.host reply
+  pub counts : t.made ≡ made_after s.made (Ok (record { uid = u; reply = reply }))
+  pub number : slice_index t.made (u - 1001) ≡ slice_index s.made (u - 1001) + 1
+  pub last : t.last ≡ Some (Ok (record { uid = u; reply = reply }))
+
+-- a line was answered: a reply is counted, and the answer is the last one
+pub record Answers (line : List ℕ) (s t : OpenSession) : Type 0 where
+  pub reply : LineReply
+  pub answers : AnswersLine line s.host reply t.host
+  pub counts : t.made ≡ made_after s.made reply
+  pub last : t.last ≡ Some reply
+  pub text : (style : Style) → last_text style t ≡ reply_text style s.made reply
+
+-- a user has had the most answers that are counted
+abbrev pub IsFull : ℕ → OpenSession → Type 0
+IsFull u s = slice_index s.made (u - 1001) + 1 ≡ 2 ^ 64
+
+-- the line is a step of a user who has had the most answers that are counted
+abbrev pub FullFor : List ℕ → OpenSession → Type 0
+FullFor line s = (a : Asked) × IsStep line (Ok a) × IsFull a.uid s

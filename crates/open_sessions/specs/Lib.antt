@@ -1,0 +1,4 @@
+pub mod Answers
+pub mod Open
+pub mod Lasting
+pub mod Calls

@@ -1,0 +1,186 @@
+//! The open session.
+
+ghost use Rattle.std.specs.Prelude.{◌≡◌, ◌≢◌, ◌++◌, Err, None, Some, replicate, length, IfOk, IfErr, OnOk, OnErr, string_bytes, option_map};
+ghost use Rattle.requests.specs.Machine.{empty};
+ghost use Rattle.requests.specs.View.{view};
+ghost use Rattle.open_sessions.specs.Answers.{last_numbers, last_reply, shown};
+ghost use Rattle.open_sessions.specs.Calls.{last_text, Steps, Answers, IsFull, FullFor};
+ghost use Rattle.open_sessions.specs.declared.fault.SessionFault.TheVariants as session_fault;
+ghost use Rattle.scenario_text.specs.declared.fault.Fault.TheVariants.{Memory as NoMemory};
+
+use crate::answers::{Answer, copy_of, numbers_of, reply_of};
+use crate::fault::SessionFault;
+use crate::texts::push_last;
+use pid_blocks::Uid;
+use requests::{Host, PlainStep, Reply};
+use scenario::{Fault, StepReader, Style, USERS};
+use std::alloc::{AllocError, Global};
+use std::marker::Model;
+use stop_handlers::ByPolicy;
+use trace_stop::Settings;
+use visibility::{View, user_view};
+
+/// A host, the number of answers that each user has had, and the last answer. The reader of the lines' steps and the
+/// text of an answer are kept for their memory.
+#[derive(Drop)]
+pub struct Session {
+    host: Host<ByPolicy>,
+    made: [u64; USERS],
+    last: Option<Answer>,
+    steps: StepReader,
+    text: String,
+}
+
+impl Model for Session {
+    ghost use Rattle.std.specs.Prelude.{option_map};
+    ghost use Rattle.open_sessions.specs.Open.{OpenSession};
+    ghost use Rattle.open_sessions.specs.Lasting.{line_reply};
+
+    ghost Value = { OpenSession };
+
+    ghost view = { λ s. record { host = s.host; made = s.made; last = option_map line_reply s.last } };
+}
+
+impl Session {
+    /// Opens a session with an unused host. An error means out of memory.
+    pub fn new(alloc: Global, settings: Settings) -> Result<Session, AllocError>
+        ensures { IfOk result (λ s. s ≡ record { host = empty settings; made = replicate 64 0; last = None }) }
+    {
+        let host = Host::new(alloc, settings)?;
+        Ok(Session {
+            host,
+            made: [0; USERS],
+            last: None,
+            steps: StepReader::new(alloc),
+            text: String::new(alloc),
+        })
+    }
+
+    /// Returns another session with an equal host, the same numbers of answers and the same last answer. From then on
+    /// both go their own ways. An error means out of memory.
+    pub fn copy(&self, alloc: Global) -> Result<Session, AllocError>
+        ensures { IfOk result (λ s. s ≡ self.now) }
+    {
+        let host = self.host.copy(alloc)?;
+        let last = copy_of(alloc, &self.last)?;
+        Ok(Session {
+            host,
+            made: self.made,
+            last,
+            text: String::new(alloc),
+            steps: StepReader::new(alloc),
+        })
+    }
+
+    /// Makes a step of the user. The reply is the last answer, and counts as the user's next one.
+    ///
+    /// # Errors
+    ///
+    /// `TooManyAnswers`. A reply ENOMEM is not an error of the session.
+    pub fn step(&mut self, alloc: Global, user: Uid, step: PlainStep) -> Result<(), SessionFault>
+        ensures stepped { OnOk result (Steps user step self.old self.new) }
+        ensures unchanged { OnErr result (self.new ≡ self.old) }
+        ensures full { IfErr result (λ e. (e ≡ session_fault.TooManyAnswers) × IsFull user self.old) }
+    {
+        let slot = user.slot();
+        let count = self.made[slot];
+        if count == u64::MAX {
+            return Err(SessionFault::TooManyAnswers);
+        }
+        let reply = self.host.step(alloc, user, step.by_policy());
+        self.made[slot] = count + 1;
+        self.last = Some(Ok((user, reply)));
+        Ok(())
+    }
+
+    /// Answers a line: makes the step that it is, or refuses it. The reply or the refusal is the last answer.
+    ///
+    /// # Errors
+    ///
+    /// `Memory` where memory ran out for the line, and `TooManyAnswers`. A reply ENOMEM is not an error of the session.
+    pub fn answer(&mut self, alloc: Global, line: &[u8]) -> Result<(), SessionFault>
+        ensures answered { OnOk result (Answers line.now self.old self.new) }
+        ensures unchanged { OnErr result (self.new ≡ self.old) }
+        ensures full { result ≡ Err session_fault.TooManyAnswers → FullFor line.now self.old }
+    {
+        match self.steps.parse_step(alloc, line) {
+            Ok(asked) => self.step(alloc, asked.0, asked.1),
+            Err(fault) => self.refuse(fault),
+        }
+    }
+
+    /// Keeps the fault for which a line is not a step as the last answer.
+    fn refuse(&mut self, fault: Fault) -> Result<(), SessionFault>
+        ensures refused { OnOk result ((fault ≢ NoMemory) × (self.new ≡ record self.old { last = Some (Err fault) })) }
+        ensures unchanged { OnErr result (self.new ≡ self.old) }
+        ensures memory { IfErr result (λ e. e ≡ session_fault.Memory) }
+    {
+        match fault {
+            Fault::Memory => Err(SessionFault::Memory),
+            _ => {
+                self.last = Some(Err(fault));
+                Ok(())
+            }
+        }
+    }
+
+    /// Returns the last answer, if it is a reply.
+    pub fn reply(&self) -> Option<&Reply>
+        ensures { option_map (λ r. r.now) result ≡ last_reply self.now.last }
+    {
+        reply_of(&self.last)
+    }
+
+    /// Returns the numbers of the last answer, if it is a list, or else none.
+    pub fn numbers(&self) -> &[u32]
+        ensures { result.now ≡ last_numbers self.now.last }
+    {
+        numbers_of(&self.last)
+    }
+
+    /// Adds the line of the last answer to the text. Before any answer it is empty. An error means out of memory.
+    pub fn push_line(
+        &self,
+        alloc: Global,
+        style: Style,
+        text: &mut String,
+    ) -> Result<(), AllocError>
+        ensures { OnOk result (string_bytes text.new ≡ string_bytes text.old ++ last_text style self.now) }
+    {
+        push_last(alloc, style, &self.last, &self.made, text)
+    }
+
+    /// Writes the line of the last answer over the front of the bytes, as far as they have room, and returns its whole
+    /// length. Before any answer it is empty.
+    ///
+    /// # Errors
+    ///
+    /// Out of memory. The bytes are as they were, and the line can be asked for again.
+    pub fn show(&mut self, alloc: Global, style: Style, out: &mut [u8]) -> Result<usize, AllocError>
+        ensures session { self.new ≡ self.old }
+        ensures length { IfOk result (λ n. n ≡ length (last_text style self.old)) }
+        ensures shown { OnOk result (out.new ≡ shown (last_text style self.old) out.old) }
+        ensures unchanged { OnErr result (out.new ≡ out.old) }
+    {
+        self.text.clear();
+        push_last(alloc, style, &self.last, &self.made, &mut self.text)?;
+        Ok(copy_front(self.text.as_bytes(), out))
+    }
+
+    /// Returns what the user sees of the host. An error means out of memory.
+    pub fn view(&self, alloc: Global, user: Uid) -> Result<View, AllocError>
+        ensures { IfOk result (λ v. v ≡ view user self.now.host) }
+    {
+        user_view(alloc, &self.host, user)
+    }
+}
+
+/// Writes the text over the front of the bytes, as far as they have room, and returns its length.
+fn copy_front(text: &[u8], out: &mut [u8]) -> usize
+    ensures length { result ≡ length text.now }
+    ensures shown { out.new ≡ shown text.now out.old }
+{
+    let n = text.len().min(out.len());
+    out[..n].copy_from_slice(&text[..n]);
+    text.len()
+}

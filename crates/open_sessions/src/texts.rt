@@ -1,0 +1,63 @@
+//! The text of an answer.
+ghost use Rattle.std.specs.Prelude.{◌≡◌, ◌++◌, OnOk, string_bytes, option_map};
+ghost use Rattle.scenario.specs.declared.style.Style.TheVariants as style;
+ghost use Rattle.open_sessions.specs.Answers.{answer_text, refusal};
+ghost use Rattle.open_sessions.specs.Lasting.{line_reply};
+
+use crate::answers::Answer;
+use reply_json::refusal_json;
+use scenario::{Fault, Style, USERS, push_line};
+use std::alloc::{AllocError, Global};
+
+/// Adds a refusal in words: the line that names the fault for which a line is not a step.
+fn push_words(fault: Fault, text: &mut String) -> Result<(), AllocError>
+    ensures { OnOk result (string_bytes text.new ≡ string_bytes text.old ++ refusal style.Words fault) }
+{
+    let name = fault.name();
+    writeln!(text, "refused {name}")?;
+    Ok(())
+}
+
+/// Adds a refusal as a JSON object.
+fn push_object(alloc: Global, fault: Fault, text: &mut String) -> Result<(), AllocError>
+    ensures { OnOk result (string_bytes text.new ≡ string_bytes text.old ++ refusal style.Json fault) }
+{
+    let object = refusal_json(alloc, fault.name())?;
+    writeln!(text, "{object}")?;
+    Ok(())
+}
+
+/// Adds a refusal in the style.
+fn push_refusal(
+    alloc: Global,
+    style: Style,
+    fault: Fault,
+    text: &mut String,
+) -> Result<(), AllocError>
+    ensures { OnOk result (string_bytes text.new ≡ string_bytes text.old ++ refusal style fault) }
+{
+    match style {
+        Style::Words => push_words(fault, text),
+        Style::Json => push_object(alloc, fault, text),
+    }
+}
+
+/// Adds the line of the last answer, by the number of answers that each user has had.
+pub(crate) fn push_last(
+    alloc: Global,
+    style: Style,
+    last: &Option<Answer>,
+    made: &[u64; USERS],
+    text: &mut String,
+) -> Result<(), AllocError>
+    ensures { OnOk result (string_bytes text.new ≡ string_bytes text.old ++ answer_text style made.now (option_map line_reply last.now)) }
+{
+    match last {
+        None => Ok(()),
+        Some(Ok(answer)) => {
+            let user = answer.0;
+            push_line(alloc, style, text, user, made[user.slot()], &answer.1)
+        }
+        Some(Err(fault)) => push_refusal(alloc, style, *fault, text),
+    }
+}

@@ -1,0 +1,86 @@
+//! The work of a step, by its kind.
+
+ghost use Rattle.std.specs.Prelude.{◌≡◌, ◌≤◌, [], None, false, length, get_or};
+ghost use Rattle.pid_blocks.specs.Blocks.{slot};
+ghost use Rattle.trace_stop.specs.Facts.{IsSound};
+ghost use Rattle.requests.specs.Callers.{IsCaller};
+ghost use Rattle.requests.specs.Hosts.{machine_of};
+ghost use Rattle.requests.specs.Machine.{outcome_of};
+ghost use Rattle.requests.specs.Memory.{Attempts, takes_memory};
+ghost use Rattle.requests.specs.Step.{calls, caller_of, installs, uncalled};
+
+use crate::calls::{sigaction, wait};
+use crate::commands::ptrace;
+use crate::deciding::handle;
+use crate::handlers::HandlerTable;
+use crate::lists::list;
+use crate::lwp_turns::turn;
+use crate::sends::kill;
+use crate::spawns::spawn;
+use crate::{Reply, Step};
+use pid_blocks::Uid;
+use proc_table::{ProcData, Tables};
+use std::alloc::{AllocError, Global};
+use stop_handlers::{Decider, Handler};
+use trace_stop::Settings;
+
+/// Makes a step without a caller. An error means out of memory, and changes nothing.
+pub fn uncalled<F: Decider + Send + Drop>(
+    tables: &mut Tables,
+    handlers: &HandlerTable<F>,
+    settings: Settings,
+    user: Uid,
+    asked: &Step<Handler<F>>,
+) -> Result<Reply, AllocError>
+    requires sound { IsSound tables.old.rows }
+    requires none { caller_of asked.now ≡ None }
+    ensures { let m = machine_of settings tables.old handlers.now in
+        Attempts (takes_memory user asked.now m) (outcome_of (uncalled user asked.now m)) tables.old.rows
+        tables.new.rows result }
+{
+    match *asked {
+        Step::Turn { tid, act } => turn(tables, settings, user, tid, act),
+        _ => spawn(tables, user),
+    }
+}
+
+/// Makes a step of a caller, a process that runs, unless it installs a handler. An error means out of memory, and
+/// changes nothing.
+pub fn called<F: Decider + Send + Drop>(
+    tables: &mut Tables,
+    handlers: &HandlerTable<F>,
+    settings: Settings,
+    alloc: Global,
+    user: Uid,
+    caller: &ProcData,
+    asked: &Step<Handler<F>>,
+) -> Result<Reply, AllocError>
+    requires sound { IsSound tables.old.rows }
+    requires few { length (get_or handlers.now (slot user) []) ≤ 64 }
+    requires caller { IsCaller user caller.now tables.old.rows }
+    requires other { installs asked.now ≡ false }
+    ensures { let m = machine_of settings tables.old handlers.now in
+        Attempts (takes_memory user asked.now m) (outcome_of (calls user asked.now caller.now m)) tables.old.rows
+        tables.new.rows result }
+{
+    match *asked {
+        Step::Spawn => spawn(tables, user),
+        Step::List { .. } => list(tables, alloc, user),
+        Step::Sigaction {
+            sig,
+            disposition,
+            ..
+        } => Ok(sigaction(tables, caller, sig, disposition)),
+        Step::Kill { which, sig, .. } => Ok(kill(tables, settings, user, caller.pid, which, sig)),
+        Step::Wait4 { which, options, .. } => Ok(wait(tables, caller, which, options)),
+        Step::Install { .. } => unreachable!(),
+        Step::Handle { .. } => Ok(handle(tables, handlers, settings, user, caller)),
+        Step::Ptrace {
+            request,
+            target,
+            data,
+            ..
+        } => ptrace(tables, alloc, settings, user, caller, request, target, data),
+        Step::Turn { tid, act } => turn(tables, settings, user, tid, act),
+    }
+}

@@ -1,0 +1,5 @@
+pub mod GroupLemmas
+pub mod ScriptLemmas
+pub mod SessionLemmas
+pub mod ThreadLemmas
+pub mod TranscriptLemmas

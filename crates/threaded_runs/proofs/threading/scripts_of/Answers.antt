@@ -1,0 +1,89 @@
+use Rattle.std.proofs.Common.{◌≡◌, ℕ, ◌+◌, [], ◌∷◌, ◌++◌, List, map, length, filter, get_or, drop, Some, None, refl, ap, sym, subst, ◌∙◌, arith, rules}
+use Rattle.std.specs.Vec.Iter.{into_iter_items}
+use Rattle.std.proofs.lemmas.List.{length-map}
+use Rattle.std.proofs.lemmas.Fn.{filter_same}
+use Rattle.std.proofs.Math.ListN.{set}
+use Rattle.pid_blocks.specs.Blocks.{slot, users}
+use Rattle.sessions.specs.declared.script.Script.{Script}
+use Rattle.requests.specs.Plain.{PlainStep}
+use Rattle.requests.specs.Isolation.{Users}
+use Rattle.visibility.proofs.Answered.{map-push, Users-push}
+use Rattle.scenario_text.specs.Plan.{asked, filled, first_policy, policies_in, step_with}
+use Rattle.scenario_text.proofs.FilledLemmas.{length_filled}
+use Rattle.threaded_runs.specs.Scripts.{has_steps, plain_script}
+use Rattle.scenario.proofs.BindLemmas.{all_bound, each_next, filled_next, first_before, one_bound}
+use Rattle.threaded_runs.proofs.ScriptLemmas.{script_of}
+use Rattle.threaded_runs.proofs.ThreadLemmas.{step_added, kept_scripts}
+use Rattle.threaded_runs.proofs.threading.scripts_of.Goals as goal
+
+pub loop-shape-init : goal.loop-shape-init
+loop-shape-init g c =
+    let handlers = c.into_iter-rest.ensures.rest ∙ c.requires in
+    let steps = ap (filled c.shapes-shapes.result.now) handlers ∙ c.shapes-shapes.ensures.steps in
+    ([], steps, ap policies_in steps ∙ sym handlers, tt, c.in_ok-scripts.ensures)
+
+pub index_mut-requires : goal.index_mut-requires
+index_mut-requires g c =
+    let long : length c.loop-shape.scripts.items ≡ 64 = sym (length-map c.loop-shape.scripts.items plain_script) ∙ ap length c.loop-shape.invariant.4 in
+    let same = c.loop-shape.scripts.ok.0 in
+    let below = c.slot.ensures.below in
+    omega (arith, long, same, below)
+
+pub unreachable-requires : goal.unreachable-requires
+unreachable-requires g c =
+    let at = c.loop-shape in
+    let had = into_iter_items at.rest in
+    let x = c.shape-item.result in
+    let bound = c.bound_step.ensures _ (first_before c.shapes-shapes.result.now at.shape-index x had had c.loop-shape-test.true (sym c.shape-item.is) at.invariant.2) in
+    let none : None ≡ Some (step_with (first_policy had) x.1) = sym c.in_default.is ∙ bound.1 in
+    absurd (cc)
+
+pub loop-shape-preserved : goal.loop-shape-preserved
+loop-shape-preserved g c =
+    let at = c.loop-shape in
+    let inv = at.invariant in
+    let done : List (ℕ × PlainStep) = inv.0 in
+    let ss = c.shapes-shapes.result.now in
+    let x = c.shape-item.result in
+    let had = into_iter_items at.rest in
+    let left = into_iter_items c.bound_step.new.handlers in
+    let more = c.loop-shape-test.true in
+    let here = sym c.shape-item.is in
+    let bound = c.bound_step.ensures _ (first_before ss at.shape-index x had left more here inv.2) in
+    let step = step_with (first_policy had) x.1 in
+    let same : Some c.in-Some.step ≡ Some step = sym c.in-Some.is ∙ bound.1 in
+    let entry : ℕ × PlainStep = (x.0, c.in-Some.step) in
+    let old = c.index_mut.result.now in
+    let new : Script g.row.F.Denot = record { uid = old.uid; steps = c.push.new.self } in
+    let was : old ≡ get_or at.scripts.items (slot x.0) old = c.index_mut.ensures.value ∙ ap (λ k. get_or at.scripts.items k old) c.slot.ensures.place in (
+      done ++ entry ∷ [],
+      one_bound done (done ++ entry ∷ []) x.0 c.in-Some.step step (filled (drop at.shape-index ss) had) (filled (drop (at.shape-index + 1) ss) left) c.args.scenario.now.steps
+          (cc) refl (filled_next ss at.shape-index x had left more here bound.0) inv.1,
+      each_next ss at.shape-index x had left more here inv.2 bound.0,
+      subst Users (sym (map-push asked done entry)) (Users-push (map asked done) (asked entry) inv.3 c.slot.ensures.user),
+      ap (λ k. map plain_script (set at.scripts.items k new)) c.slot.ensures.place
+          ∙ step_added at.scripts.items new old (map asked done) x.0 c.in-Some.step c.slot.ensures.user inv.4
+          (ap (λ (s : Script g.row.F.Denot). s.uid) was)
+          (c.in_ok-push.ensures.items ∙ ap (λ (s : Script g.row.F.Denot). s.steps.items ++ c.in-Some.step ∷ []) was)
+          ∙ ap (λ xs. map (script_of xs) users) (sym (map-push asked done entry)),
+    )
+
+pub returns-clause-users : goal.returns-clause-users
+returns-clause-users g c =
+    let inv = c.loop-shape.invariant in
+    let past = c.loop-shape-test.false in
+    subst Users (all_bound inv.0 c.shapes-shapes.result.now c.loop-shape.shape-index (into_iter_items c.loop-shape.rest) c.args.scenario.now.steps (omega (arith, past)) inv.1) inv.3
+
+pub returns-clause-few : goal.returns-clause-few
+returns-clause-few g c =
+    let few = c.shapes-shapes.ensures.bound in
+    let count = sym (ap length c.shapes-shapes.ensures.steps) ∙ length_filled c.shapes-shapes.result.now (policies_in c.args.scenario.now.steps) in
+    omega (arith, few, count)
+
+pub returns-clause-scripts : goal.returns-clause-scripts
+returns-clause-scripts g c =
+    let inv = c.loop-shape.invariant in
+    let past = c.loop-shape-test.false in
+    let all = all_bound inv.0 c.shapes-shapes.result.now c.loop-shape.shape-index (into_iter_items c.loop-shape.rest) c.args.scenario.now.steps (omega (arith, past)) inv.1 in
+    let kept = filter_same _ (λ (s : Script g.row.F.Denot). has_steps (plain_script s)) _ (λ x b f' k. search rules) _ _ c.retain.ensures.filtered in
+    ap (map plain_script) kept ∙ kept_scripts c.loop-shape.scripts.items ∙ ap (filter has_steps) (inv.4 ∙ ap (λ xs. map (script_of xs) users) all)

@@ -1,0 +1,16 @@
+use Rattle.std.proofs.Common.{◌≡◌, ℕ, ◌++◌, List, map, drop}
+use Rattle.std.specs.Vec.Iter.{into_iter_items}
+use Rattle.pid_blocks.specs.Blocks.{users}
+use Rattle.requests.specs.Isolation.{Users}
+use Rattle.requests.specs.Plain.{PlainStep}
+use Rattle.scenario_text.specs.Plan.{filled, policies_in, asked as as_asked}
+use Rattle.threaded_runs.specs.Scripts.{plain_script}
+use Rattle.threaded_runs.proofs.ScriptLemmas.{script_of}
+use Rattle.threaded_runs.proofs.threading.scripts_of.Given as goal
+
+-- the steps that were given out, and those that are left
+abbrev pub invariant-loop-shape : goal.invariant-loop-shape
+invariant-loop-shape g l =
+    let left = filled (drop l.shape-index l.shapes) (into_iter_items l.rest) in
+    (done : List (ℕ × PlainStep)) × (map as_asked done ++ left ≡ l.scenario.steps) × (policies_in left ≡ into_iter_items l.rest)
+    × Users (map as_asked done) × (map plain_script l.scripts.items ≡ map (script_of (map as_asked done)) users)

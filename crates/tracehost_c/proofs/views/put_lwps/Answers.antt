@@ -1,0 +1,11 @@
+use Rattle.std.proofs.Common.{arith, ap, sym, ◌∙◌}
+use Rattle.std.proofs.lemmas.List.{length-map}
+use Rattle.flat_forms.specs.FlatRows.{flat_lwp}
+use Rattle.tracehost_c.proofs.RowLemmas.{more, all}
+use Rattle.tracehost_c.proofs.views.put_lwps.Goals as goal
+
+pub loop-place-preserved : goal.loop-place-preserved
+loop-place-preserved c = more flat_lwp c.args.rows.now c.args.out.now c.loop-place.out c.loop-place.place c.index-rows-place.result c.of.result (omega arith) (omega arith) c.loop-place.invariant (c.of.ensures ∙ ap flat_lwp c.index-rows-place.is)
+
+pub returns : goal.returns
+returns c = (all flat_lwp c.args.rows.now c.args.out.now c.loop-place.out c.loop-place.place (omega arith) c.loop-place.invariant, sym (length-map c.args.rows.now flat_lwp))

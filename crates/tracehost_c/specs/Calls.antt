@@ -1,0 +1,63 @@
+-- What the calls from C do, by the code that they return.
+use Rattle.std.specs.Prelude.{◌≡◌, ℕ, Bool, true, false, List, Option, Some, None, IsSome, length, map}
+use Rattle.pid_blocks.specs.Users.{IsUser}
+use Rattle.requests.specs.Plain.{PlainStep}
+use Rattle.scenario.specs.declared.style.Style.{Style}
+use Rattle.scenario.specs.declared.style.Style.TheVariants.{Words, Json}
+use Rattle.flat_forms.specs.declared.replies.FlatReply.{FlatReply}
+use Rattle.requests.specs.View.{view}
+use Rattle.flat_forms.specs.Replies.{flat}
+use Rattle.flat_forms.specs.declared.rows.FlatProcess.{FlatProcess}
+use Rattle.flat_forms.specs.declared.rows.FlatLwp.{FlatLwp}
+use Rattle.flat_forms.specs.FlatRows.{flat_process, flat_lwp}
+use Rattle.open_sessions.specs.Answers.{last_numbers, shown}
+use Rattle.open_sessions.specs.Open.{OpenSession}
+use Rattle.open_sessions.specs.Calls.{last_text, Steps, Answers, IsFull}
+
+abbrev pub style_of : Bool → Style
+style_of true = Json
+style_of false = Words
+
+-- ---- lines
+
+-- the room has the front of the text, or of the rows, that fits, and n is the whole length
+abbrev pub Shows : {X : Type 0} → (text room filled : List X) → ℕ → Type 0
+Shows text room filled n = (filled ≡ shown text room) × (n ≡ length text)
+
+-- a line was answered in an open session
+abbrev pub LineAnswered : List ℕ → Option OpenSession → Option OpenSession → Type 0
+LineAnswered line (Some s) (Some t) = Answers line s t
+LineAnswered line (Some s) None = ⊥
+LineAnswered line None t = ⊥
+
+-- the line of the last answer of an open session
+abbrev pub ShowsLast : Style → Option OpenSession → (room filled : List ℕ) → ℕ → Type 0
+ShowsLast style (Some s) room filled n = Shows (last_text style s) room filled n
+ShowsLast style None room filled n = ⊥
+
+-- the numbers of the last answer of an open session
+abbrev pub ShowsNumbers : Option OpenSession → (room filled : List ℕ) → ℕ → Type 0
+ShowsNumbers (Some s) room filled n = Shows (last_numbers s.last) room filled n
+ShowsNumbers None room filled n = ⊥
+
+-- ---- views
+
+-- a user's view of an open session: the rows of processes and of LWPs
+abbrev pub ShowsView : ℕ → Option OpenSession → (processes filled : List FlatProcess) → ℕ → (lwps filled_lwps : List FlatLwp) → ℕ → Type 0
+ShowsView u (Some s) processes filled n lwps filled_lwps m = IsUser u
+    × Shows (map flat_process (view u s.host).processes) processes filled n
+    × Shows (map flat_lwp (view u s.host).lwps) lwps filled_lwps m
+ShowsView u None processes filled n lwps filled_lwps m = ⊥
+
+-- ---- steps
+
+pub data StepOf (user : ℕ) (step : PlainStep) (s t : OpenSession) (before after : FlatReply) (code : ℕ) : Type 0 where
+  answered : code ≡ 0 → (made : Steps user step s t) → after ≡ flat made.reply → StepOf user step s t before after code
+  full : code ≡ 5 → IsFull user s → t ≡ s → after ≡ before → StepOf user step s t before after code
+
+-- a call of a user that is this step, if its numbers are those of a step; the handle has a session if it is open
+pub data TypedCall (user : ℕ) (step : Option PlainStep) (old new : Option OpenSession) (before after : FlatReply) (code : ℕ) : Type 0 where
+  not_open : code ≡ 1 → old ≡ None → new ≡ old → after ≡ before → TypedCall user step old new before after code
+  no_step : code ≡ 3 → IsSome old → (IsUser user → step ≡ None) → new ≡ old → after ≡ before → TypedCall user step old new before after code
+  in_session : (s t : OpenSession) (made : PlainStep) → IsUser user → step ≡ Some made → old ≡ Some s → new ≡ Some t
+      → StepOf user made s t before after code → TypedCall user step old new before after code

@@ -1,0 +1,146 @@
+//! What the calls have in common.
+ghost use Rattle.std.specs.Prelude.{◌≡◌, ◌≢◌, ◌≤◌};
+ghost use Rattle.open_sessions.specs.Answers.{last_numbers};
+ghost use Rattle.open_sessions.specs.Calls.{Answers, last_text};
+ghost use Rattle.tracehost_c.specs.Calls.{style_of, Shows, StepOf, TypedCall};
+
+use crate::handle::Tracehost;
+use flat_forms::FlatReply;
+use open_sessions::{Session, SessionFault};
+use pid_blocks::Uid;
+use requests::PlainStep;
+use scenario::Style;
+use std::alloc::Global;
+
+/// The call was answered.
+pub(crate) const ANSWERED: u32 = 0;
+
+/// The handle isn't open, or is open where it is to be opened.
+pub(crate) const NOT_OPEN: u32 = 1;
+
+/// Memory ran out. Nothing has changed.
+pub(crate) const NO_MEMORY: u32 = 2;
+
+/// A number is not one of those that exist.
+pub(crate) const INVALID: u32 = 3;
+
+/// The step was made, and memory ran out for its text.
+const NO_TEXT: u32 = 4;
+
+/// The user has had the most answers that are counted.
+const TOO_MANY: u32 = 5;
+
+fn style_of(json: bool) -> Style
+    ensures { result ≡ style_of json }
+{
+    if json { Style::Json } else { Style::Words }
+}
+
+/// Writes the line of the last answer.
+pub(crate) fn put_text(
+    alloc: Global,
+    session: &mut Session,
+    json: bool,
+    out: &mut [u8],
+    whole: &mut usize,
+) -> u32
+    ensures session { session.new ≡ session.old }
+    ensures shown { result ≡ 0 → Shows (last_text (style_of json) session.old) out.old out.new whole.new }
+    ensures refused { result ≢ 0 → (result ≡ 2) × (out.new ≡ out.old) × (whole.new ≡ whole.old) }
+{
+    match session.show(alloc, style_of(json), out) {
+        Ok(length) => {
+            *whole = length;
+            ANSWERED
+        }
+        Err(_) => NO_MEMORY,
+    }
+}
+
+/// Answers a line, and writes the line of its answer.
+pub(crate) fn put_line(
+    alloc: Global,
+    session: &mut Session,
+    json: bool,
+    line: &[u8],
+    out: &mut [u8],
+    whole: &mut usize,
+) -> u32
+    ensures answered { result ≡ 0 → Answers line.now session.old session.new }
+    ensures shown { result ≡ 0 → Shows (last_text (style_of json) session.new) out.old out.new whole.new }
+    ensures no_text { result ≡ 4 → Answers line.now session.old session.new }
+    ensures kept { result ≢ 0 → (out.new ≡ out.old) × (whole.new ≡ whole.old) }
+    ensures refused { result ≡ 2 → session.new ≡ session.old }
+    ensures full { result ≡ 5 → session.new ≡ session.old }
+    ensures not_closed { result ≢ 1 }
+    ensures code { result ≤ 5 }
+{
+    match session.answer(alloc, line) {
+        Ok(()) => match session.show(alloc, style_of(json), out) {
+            Ok(length) => {
+                *whole = length;
+                ANSWERED
+            }
+            Err(_) => NO_TEXT,
+        },
+        Err(SessionFault::Memory) => NO_MEMORY,
+        Err(SessionFault::TooManyAnswers) => TOO_MANY,
+    }
+}
+
+/// Writes the numbers of the last answer.
+pub(crate) fn put_numbers(session: &Session, out: &mut [u32], whole: &mut usize)
+    ensures { Shows (last_numbers session.now.last) out.old out.new whole.new }
+{
+    let numbers = session.numbers();
+    let n = numbers.len().min(out.len());
+    out[..n].copy_from_slice(&numbers[..n]);
+    *whole = numbers.len();
+}
+
+/// Makes a step of a user in a session.
+fn make_step(
+    alloc: Global,
+    session: &mut Session,
+    user: Uid,
+    step: PlainStep,
+    reply: &mut FlatReply,
+) -> u32
+    ensures { StepOf user step session.old session.new reply.old reply.new result }
+{
+    match session.step(alloc, user, step) {
+        Ok(()) => {
+            if let Some(answer) = session.reply() {
+                *reply = FlatReply::of(answer);
+            }
+            ANSWERED
+        }
+        Err(_) => TOO_MANY,
+    }
+}
+
+/// Makes a step of the user with this number, if there is such a step.
+pub(crate) fn make(
+    alloc: Global,
+    handle: &mut Tracehost,
+    user: u32,
+    step: Option<PlainStep>,
+    reply: &mut FlatReply,
+) -> u32
+    ensures { TypedCall user step handle.old.held.session handle.new.held.session reply.old reply.new result }
+{
+    if !handle.is_open() {
+        return NOT_OPEN;
+    }
+    let Ok(user) = Uid::new(user) else {
+        return INVALID;
+    };
+    let Some(step) = step else {
+        return INVALID;
+    };
+    let taken = std::mem::replace(handle, Tracehost::closed(alloc));
+    let mut session = taken.session();
+    let code = make_step(alloc, &mut session, user, step, reply);
+    *handle = Tracehost::of(session);
+    code
+}

@@ -1,0 +1,405 @@
+//! Sessions for callers in C. `include/tracehost.h` has the calls as C sees them.
+#![tactic(auto)]
+
+ghost use Rattle.std.specs.Prelude.{◌≡◌, ◌≢◌, ◌≤◌, ◌↔◌, None, Some, IsSome, IsNone, replicate, option_map};
+ghost use Rattle.pid_blocks.specs.Users.{IsUser};
+ghost use Rattle.requests.specs.Machine.{empty};
+ghost use Rattle.requests.specs.declared.step.Step.TheVariants as op;
+ghost use Rattle.flat_forms.specs.Numbers.{act_numbered, request_numbered, disposition_numbered, options_numbered};
+ghost use Rattle.flat_forms.specs.Rules.{policy_numbered};
+ghost use Rattle.tracehost_c.specs.Calls.{style_of, LineAnswered, ShowsLast, ShowsNumbers, ShowsView, TypedCall};
+
+mod calls;
+pub mod handle;
+mod views;
+
+use calls::{ANSWERED, INVALID, NO_MEMORY, NOT_OPEN, make, put_line, put_numbers, put_text};
+use flat_forms::{
+    FlatLwp, FlatProcess, FlatReply, FlatRule, act_of, disposition_of, options_of, policy_of,
+    request_of,
+};
+use handle::Tracehost;
+use open_sessions::Session;
+use pid_blocks::Uid;
+use requests::Step;
+use std::alloc::Global;
+use trace_stop::Settings;
+use views::put_view;
+
+/// Opens a session with an unused host. `out` is a closed handle.
+#[unsafe(no_mangle)]
+pub extern "C" fn tracehost_open(
+    alloc: Global,
+    kill_on_debugger_exit: bool,
+    out: &mut Tracehost,
+) -> u32
+    ensures busy { (result ≡ 1) ↔ IsSome out.old.held.session }
+    ensures opened { result ≡ 0 → out.new.held.session ≡ Some (record {
+      host = empty (record { kill_on_debugger_exit = kill_on_debugger_exit });
+      made = replicate 64 0;
+      last = None;
+    }) }
+    ensures unchanged { result ≢ 0 → out.new ≡ out.old }
+    ensures code { result ≤ 2 }
+{
+    if out.is_open() {
+        return NOT_OPEN;
+    }
+    let settings = Settings {
+        kill_on_debugger_exit,
+    };
+    let Ok(session) = Session::new(alloc, settings) else {
+        return NO_MEMORY;
+    };
+    let Ok(session) = Box::new(alloc, session) else {
+        return NO_MEMORY;
+    };
+    *out = Tracehost::of(session);
+    ANSWERED
+}
+
+/// Closes a session, and frees its memory.
+#[unsafe(no_mangle)]
+pub extern "C" fn tracehost_close(alloc: Global, handle: &mut Tracehost) -> u32
+    ensures closed { handle.new.held.session ≡ None }
+    ensures open { (result ≡ 0) ↔ IsSome handle.old.held.session }
+    ensures code { result ≤ 1 }
+{
+    if !handle.is_open() {
+        return NOT_OPEN;
+    }
+    let taken = std::mem::replace(handle, Tracehost::closed(alloc));
+    let _session = taken.session();
+    ANSWERED
+}
+
+/// Copies an open session into a closed handle. From then on both go their own ways.
+#[unsafe(no_mangle)]
+pub extern "C" fn tracehost_copy(alloc: Global, from: &mut Tracehost, to: &mut Tracehost) -> u32
+    ensures source { from.new.held.session ≡ from.old.held.session }
+    ensures copied { result ≡ 0 → to.new.held.session ≡ from.old.held.session }
+    ensures unchanged { result ≢ 0 → to.new ≡ to.old }
+    ensures closed { IsNone from.old.held.session → result ≡ 1 }
+    ensures busy { IsSome to.old.held.session → result ≡ 1 }
+    ensures not_open { result ≡ 1 → IsSome from.old.held.session → IsSome to.old.held.session }
+    ensures code { result ≤ 2 }
+{
+    if !from.is_open() {
+        return NOT_OPEN;
+    }
+    if to.is_open() {
+        return NOT_OPEN;
+    }
+    let taken = std::mem::replace(from, Tracehost::closed(alloc));
+    let session = taken.session();
+    let copy = session.copy(alloc);
+    *from = Tracehost::of(session);
+    let Ok(copy) = copy else {
+        return NO_MEMORY;
+    };
+    let Ok(copy) = Box::new(alloc, copy) else {
+        return NO_MEMORY;
+    };
+    *to = Tracehost::of(copy);
+    ANSWERED
+}
+
+/// Answers a line, and writes the line of its answer over the front of `out`, as far as it has room, and the line's
+/// whole length.
+#[unsafe(no_mangle)]
+pub extern "C" fn tracehost_line(
+    alloc: Global,
+    handle: &mut Tracehost,
+    json: bool,
+    line: &[u8],
+    out: &mut [u8],
+    whole: &mut usize,
+) -> u32
+    ensures answered { result ≡ 0 → LineAnswered line.now handle.old.held.session handle.new.held.session }
+    ensures shown { result ≡ 0 → ShowsLast (style_of json) handle.new.held.session out.old out.new whole.new }
+    ensures no_text { result ≡ 4 → LineAnswered line.now handle.old.held.session handle.new.held.session }
+    ensures kept { result ≢ 0 → (out.new ≡ out.old) × (whole.new ≡ whole.old) }
+    ensures closed { (result ≡ 1) ↔ IsNone handle.old.held.session }
+    ensures code { result ≤ 5 }
+    ensures not_open { result ≡ 1 → handle.new.held.session ≡ handle.old.held.session }
+    ensures refused { result ≡ 2 → handle.new.held.session ≡ handle.old.held.session }
+    ensures full { result ≡ 5 → handle.new.held.session ≡ handle.old.held.session }
+{
+    if !handle.is_open() {
+        return NOT_OPEN;
+    }
+    let taken = std::mem::replace(handle, Tracehost::closed(alloc));
+    let mut session = taken.session();
+    let code = put_line(alloc, &mut session, json, line, out, whole);
+    *handle = Tracehost::of(session);
+    code
+}
+
+/// Writes the line of the last answer as `tracehost_line` does.
+#[unsafe(no_mangle)]
+pub extern "C" fn tracehost_last_line(
+    alloc: Global,
+    handle: &mut Tracehost,
+    json: bool,
+    out: &mut [u8],
+    whole: &mut usize,
+) -> u32
+    ensures session { handle.new.held.session ≡ handle.old.held.session }
+    ensures closed { (result ≡ 1) ↔ IsNone handle.old.held.session }
+    ensures code { result ≤ 2 }
+    ensures shown { result ≡ 0 → ShowsLast (style_of json) handle.old.held.session out.old out.new whole.new }
+    ensures refused { result ≢ 0 → (out.new ≡ out.old) × (whole.new ≡ whole.old) }
+{
+    if !handle.is_open() {
+        return NOT_OPEN;
+    }
+    let taken = std::mem::replace(handle, Tracehost::closed(alloc));
+    let mut session = taken.session();
+    let code = put_text(alloc, &mut session, json, out, whole);
+    *handle = Tracehost::of(session);
+    code
+}
+
+/// Writes the numbers of the last answer, if it is a list, over the front of `out`, as far as it has room, and how many
+/// there are.
+#[unsafe(no_mangle)]
+pub extern "C" fn tracehost_numbers(
+    alloc: Global,
+    handle: &mut Tracehost,
+    out: &mut [u32],
+    whole: &mut usize,
+) -> u32
+    ensures session { handle.new.held.session ≡ handle.old.held.session }
+    ensures closed { (result ≡ 1) ↔ IsNone handle.old.held.session }
+    ensures code { result ≤ 1 }
+    ensures shown { result ≡ 0 → ShowsNumbers handle.old.held.session out.old out.new whole.new }
+    ensures refused { result ≢ 0 → (out.new ≡ out.old) × (whole.new ≡ whole.old) }
+{
+    if !handle.is_open() {
+        return NOT_OPEN;
+    }
+    let taken = std::mem::replace(handle, Tracehost::closed(alloc));
+    let session = taken.session();
+    put_numbers(&session, out, whole);
+    *handle = Tracehost::of(session);
+    ANSWERED
+}
+
+/// Makes a process of the user.
+#[unsafe(no_mangle)]
+pub extern "C" fn tracehost_spawn(
+    alloc: Global,
+    handle: &mut Tracehost,
+    user: u32,
+    reply: &mut FlatReply,
+) -> u32
+    ensures { TypedCall user (Some op.Spawn) handle.old.held.session handle.new.held.session reply.old reply.new result }
+{
+    make(alloc, handle, user, Some(Step::Spawn), reply)
+}
+
+/// Lists the user's processes for the process `caller`.
+#[unsafe(no_mangle)]
+pub extern "C" fn tracehost_list(
+    alloc: Global,
+    handle: &mut Tracehost,
+    user: u32,
+    caller: u32,
+    reply: &mut FlatReply,
+) -> u32
+    ensures { TypedCall user (Some (op.List caller)) handle.old.held.session handle.new.held.session reply.old reply.new result }
+{
+    make(alloc, handle, user, Some(Step::list(caller)), reply)
+}
+
+/// sigaction(2) by the process `caller`.
+#[unsafe(no_mangle)]
+pub extern "C" fn tracehost_sigaction(
+    alloc: Global,
+    handle: &mut Tracehost,
+    user: u32,
+    caller: u32,
+    signal: u32,
+    disposition: u32,
+    reply: &mut FlatReply,
+) -> u32
+    ensures { TypedCall user (option_map (λ d. op.Sigaction caller signal d) (disposition_numbered disposition))
+        handle.old.held.session handle.new.held.session reply.old reply.new result }
+{
+    let step = match disposition_of(disposition) {
+        Some(disposition) => Some(Step::sigaction(caller, signal, disposition)),
+        None => None,
+    };
+    make(alloc, handle, user, step, reply)
+}
+
+/// kill(2) by the process `caller`.
+#[unsafe(no_mangle)]
+pub extern "C" fn tracehost_kill(
+    alloc: Global,
+    handle: &mut Tracehost,
+    user: u32,
+    caller: u32,
+    which: i64,
+    signal: u32,
+    reply: &mut FlatReply,
+) -> u32
+    ensures { TypedCall user (Some (op.Kill caller which signal)) handle.old.held.session handle.new.held.session reply.old reply.new result }
+{
+    make(
+        alloc,
+        handle,
+        user,
+        Some(Step::Kill {
+            caller,
+            which,
+            sig: signal,
+        }),
+        reply,
+    )
+}
+
+/// wait4(2) by the process `caller`, as with WNOHANG.
+#[unsafe(no_mangle)]
+pub extern "C" fn tracehost_wait4(
+    alloc: Global,
+    handle: &mut Tracehost,
+    user: u32,
+    caller: u32,
+    which: i64,
+    options: u32,
+    reply: &mut FlatReply,
+) -> u32
+    ensures { TypedCall user (option_map (λ o. op.Wait4 caller which o) (options_numbered options))
+        handle.old.held.session handle.new.held.session reply.old reply.new result }
+{
+    let step = match options_of(options) {
+        Some(options) => Some(Step::Wait4 {
+            caller,
+            which,
+            options,
+        }),
+        None => None,
+    };
+    make(alloc, handle, user, step, reply)
+}
+
+/// Installs a stop handler of the process `caller` that decides by these rules, at most 16.
+#[unsafe(no_mangle)]
+pub extern "C" fn tracehost_install(
+    alloc: Global,
+    handle: &mut Tracehost,
+    user: u32,
+    caller: u32,
+    rules: &[FlatRule],
+    reply: &mut FlatReply,
+) -> u32
+    ensures { TypedCall user (option_map (λ p. op.Install caller p) (policy_numbered rules.now))
+        handle.old.held.session handle.new.held.session reply.old reply.new result }
+{
+    let step = match policy_of(rules) {
+        Some(policy) => Some(Step::install(caller, policy)),
+        None => None,
+    };
+    make(alloc, handle, user, step, reply)
+}
+
+/// Waits for any child of the process `caller`. A trace stop goes to its handlers.
+#[unsafe(no_mangle)]
+pub extern "C" fn tracehost_handle(
+    alloc: Global,
+    handle: &mut Tracehost,
+    user: u32,
+    caller: u32,
+    reply: &mut FlatReply,
+) -> u32
+    ensures { TypedCall user (Some (op.Handle caller)) handle.old.held.session handle.new.held.session reply.old reply.new result }
+{
+    make(alloc, handle, user, Some(Step::handle(caller)), reply)
+}
+
+/// ptrace(2) by the process `caller`.
+#[unsafe(no_mangle)]
+pub extern "C" fn tracehost_ptrace(
+    alloc: Global,
+    handle: &mut Tracehost,
+    user: u32,
+    caller: u32,
+    request: u32,
+    target: u32,
+    data: u32,
+    reply: &mut FlatReply,
+) -> u32
+    ensures { TypedCall user (option_map (λ r. op.Ptrace caller r target «data») (request_numbered request))
+        handle.old.held.session handle.new.held.session reply.old reply.new result }
+{
+    let step = match request_of(request) {
+        Some(request) => Some(Step::ptrace(caller, request, target, data)),
+        None => None,
+    };
+    make(alloc, handle, user, step, reply)
+}
+
+/// The turn of an LWP: its act by its number, and the system call and the argument of the act.
+#[unsafe(no_mangle)]
+pub extern "C" fn tracehost_turn(
+    alloc: Global,
+    handle: &mut Tracehost,
+    user: u32,
+    lwp: u32,
+    act: u32,
+    call: u32,
+    argument: u32,
+    reply: &mut FlatReply,
+) -> u32
+    ensures { TypedCall user (option_map (λ a. op.Turn lwp a) (act_numbered act call argument))
+        handle.old.held.session handle.new.held.session reply.old reply.new result }
+{
+    let step = match act_of(act, call, argument) {
+        Some(act) => Some(Step::turn(lwp, act)),
+        None => None,
+    };
+    make(alloc, handle, user, step, reply)
+}
+
+/// Writes what the user sees: the rows of the processes over the front of `processes`, and those of their LWPs over the
+/// front of `lwps`, as far as they have room, and how many rows there are.
+#[unsafe(no_mangle)]
+pub extern "C" fn tracehost_view(
+    alloc: Global,
+    handle: &mut Tracehost,
+    user: u32,
+    processes: &mut [FlatProcess],
+    lwps: &mut [FlatLwp],
+    process_count: &mut usize,
+    lwp_count: &mut usize,
+) -> u32
+    ensures session { handle.new.held.session ≡ handle.old.held.session }
+    ensures closed { (result ≡ 1) ↔ IsNone handle.old.held.session }
+    ensures code { result ≤ 3 }
+    ensures shown { result ≡ 0 → ShowsView user handle.old.held.session
+        processes.old processes.new process_count.new lwps.old lwps.new lwp_count.new }
+    ensures no_user { result ≡ 3 → IsUser user → ⊥ }
+    ensures processes_kept { result ≢ 0 → (processes.new ≡ processes.old) × (process_count.new ≡ process_count.old) }
+    ensures lwps_kept { result ≢ 0 → (lwps.new ≡ lwps.old) × (lwp_count.new ≡ lwp_count.old) }
+{
+    if !handle.is_open() {
+        return NOT_OPEN;
+    }
+    let Ok(user) = Uid::new(user) else {
+        return INVALID;
+    };
+    let taken = std::mem::replace(handle, Tracehost::closed(alloc));
+    let session = taken.session();
+    let code = put_view(
+        alloc,
+        &session,
+        user,
+        processes,
+        lwps,
+        process_count,
+        lwp_count,
+    );
+    *handle = Tracehost::of(session);
+    code
+}
