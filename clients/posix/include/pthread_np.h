@@ -1,0 +1,2 @@
+/* FreeBSD declares pthread_getthreadid_np(3) here. */
+#include <tracehost/posix.h>

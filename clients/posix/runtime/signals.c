@@ -1,0 +1,132 @@
+/* Signals: dispositions, masks, and waiting for them. */
+#define _GNU_SOURCE
+#include <string.h>
+#include "freebsd.h"
+#include "runtime.h"
+
+struct sigaction tracehost_actions[32];
+
+unsigned tracehost_bits(const sigset_t *set)
+{
+	unsigned bits = 0;
+	for (int n = 1; n <= BSD_SIGNALS; n++)
+		bits |= (unsigned)(sigismember(set, n) == 1) << n;
+	return bits;
+}
+
+void tracehost_set(sigset_t *set, unsigned long bits)
+{
+	sigemptyset(set);
+	for (int n = 1; n <= BSD_SIGNALS; n++)
+		if (bits >> n & 1)
+			sigaddset(set, n);
+}
+
+static int act(const void *where, int number, const struct sigaction *new, struct sigaction *old)
+{
+	struct sigaction before;
+	if (number < 1 || number > BSD_SIGNALS) {
+		tracehost_ask(where, "call %d", SYSCALL_SIGACTION);
+		errno = EINVAL;
+		return -1;
+	}
+	before = tracehost_actions[number];
+	if (new == NULL)
+		tracehost_ask(where, "call %d", SYSCALL_SIGACTION);
+	else {
+		int flags = new->sa_flags;
+		int how = flags & BSD_SA_SIGINFO ? 2 : new->sa_handler == SIG_DFL ? 0 : new->sa_handler == SIG_IGN ? 1 : 2;
+		tracehost_actions[number] = *new;
+		if (tracehost_ask(where, "action %d %d %d %d %u", number, how, !!(flags & BSD_SA_RESTART),
+			(flags & BSD_SA_NODEFER ? 1 : 0) | (flags & BSD_SA_RESETHAND ? 2 : 0), tracehost_bits(&new->sa_mask)) != 0) {
+			tracehost_actions[number] = before;
+			return -1;
+		}
+	}
+	if (old != NULL)
+		*old = before;
+	return 0;
+}
+
+int tracehost_sigaction(int number, const struct sigaction *new, struct sigaction *old) { return act(HERE, number, new, old); }
+
+void (*tracehost_signal(int number, void (*handler)(int)))(int)
+{
+	struct sigaction action = {.sa_handler = handler, .sa_flags = BSD_SA_RESTART}, old;
+	return act(HERE, number, &action, &old) == 0 ? old.sa_handler : SIG_ERR;
+}
+
+static int mask(const void *where, int how, const sigset_t *new, sigset_t *old)
+{
+	if (new != NULL && (how < BSD_SIG_BLOCK || how > BSD_SIG_SETMASK)) {
+		errno = EINVAL;
+		return -1;
+	}
+	if (tracehost_ask(where, "mask %d %u", new == NULL ? 0 : how, new == NULL ? 0 : tracehost_bits(new)) != 0)
+		return -1;
+	if (old != NULL)
+		tracehost_set(old, tracehost_number());
+	return 0;
+}
+
+int tracehost_sigprocmask(int how, const sigset_t *new, sigset_t *old) { return mask(HERE, how, new, old); }
+int tracehost_pthread_sigmask(int how, const sigset_t *new, sigset_t *old) { return mask(HERE, how, new, old) != 0 ? errno : 0; }
+
+int tracehost_sigpending(sigset_t *set)
+{
+	if (ask("pending") != 0)
+		return -1;
+	tracehost_set(set, tracehost_number());
+	return 0;
+}
+
+int tracehost_sigsuspend(const sigset_t *set) { return ask("suspend %u", tracehost_bits(set)); }
+int tracehost_pause(void) { return ask("pause"); }
+
+static int await_signal(const void *where, const sigset_t *set, const struct timespec *limit, siginfo_t *info)
+{
+	long long ns = limit == NULL ? -1 : limit->tv_sec * 1000000000LL + limit->tv_nsec;
+	if (tracehost_ask(where, "sigwait %u %lld", tracehost_bits(set), ns) != 0)
+		return -1;
+	int number = tracehost_number();
+	if (info != NULL) {
+		memset(info, 0, sizeof *info);
+		info->si_signo = number;
+	}
+	return number;
+}
+
+int tracehost_sigwait(const sigset_t *set, int *number)
+{
+	int got = await_signal(HERE, set, NULL, NULL);
+	return got < 0 ? errno : (*number = got, 0);
+}
+
+int tracehost_sigwaitinfo(const sigset_t *set, siginfo_t *info) { return await_signal(HERE, set, NULL, info); }
+
+int tracehost_sigtimedwait(const sigset_t *set, siginfo_t *info, const struct timespec *limit)
+{
+	return await_signal(HERE, set, limit, info);
+}
+
+int tracehost_kill(pid_t pid, int number) { return ask("kill %d %d", pid, number); }
+int tracehost_raise(int number) { return ask("thr_kill %d %d", own.tid, number); }
+
+int tracehost_pthread_kill(pthread_t thread, int number)
+{
+	int tid = tracehost_tid_of(thread, 0);
+	return tid == 0 ? ESRCH : ask("thr_kill %d %d", tid, number) != 0 ? errno : 0;
+}
+
+int tracehost_thr_kill(long tid, int number) { return ask("thr_kill %ld %d", tid, number); }
+
+char *tracehost_strsignal(int number)
+{
+	static char *names[] = {"Signal 0", "Hangup", "Interrupt", "Quit", "Illegal instruction", "Trace/BPT trap", "Abort trap",
+		"EMT trap", "Floating point exception", "Killed", "Bus error", "Segmentation fault", "Bad system call", "Broken pipe",
+		"Alarm clock", "Terminated", "Urgent I/O condition", "Suspended (signal)", "Suspended", "Continued", "Child exited",
+		"Stopped (tty input)", "Stopped (tty output)", "I/O possible", "Cputime limit exceeded", "Filesize limit exceeded",
+		"Virtual timer expired", "Profiling timer expired", "Window size changes", "Information request",
+		"User defined signal 1", "User defined signal 2"};
+	return number >= 0 && number <= BSD_SIGNALS ? names[number] : "Unknown signal";
+}

@@ -1,0 +1,19 @@
+"""Runs C programs that `tracehost-cc` made on the model of FreeBSD's process tracing, under schedules of its own.
+
+Each module has one thought:
+
+- `model`: the pipe to ``tracehost --lines``, of which each run has a user;
+- `table`: the processes and LWPs of a run, and who waits for what;
+- `turns`: how an LWP makes a step, and waits where it can't;
+- `answers`: a reply of the model, for the runtime;
+- `process_calls`, `signal_calls`, `trace_calls`, `waiting_calls`: what a call means in steps;
+- `program`: the program's server, its processes and their sockets;
+- `run`: who may go on, until the run ends;
+- `schedules`: the choices;
+- `describe`: who waits in which call, and for whom;
+- `runner`, `pool`: runs one after the other, and on several processors;
+- `search`: many schedules, and the shortest that fails;
+- `record`: a run as a scenario, and as a schedule to run again;
+- `report`: a failing run, with its places in the program;
+- `command`: the command line.
+"""

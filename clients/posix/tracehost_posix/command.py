@@ -1,0 +1,344 @@
+"""The command line of tracehost-run."""
+
+from __future__ import annotations
+
+import argparse
+import ctypes
+import os
+import resource
+import shlex
+import shutil
+import subprocess
+import sys
+import time
+from collections.abc import Callable, Sequence
+from typing import Any, NoReturn
+
+from . import record, report, search
+from .model import ModelFailed
+from .pool import Pool, WorkerEnded
+from .program import NotRunnable, check
+from .report import say
+from .run import Options, Run
+from .runner import Result, Runner, Setting, Task, verify
+from .schedules import Switch
+
+FAILED, USAGE, BROKEN, ANOTHER_WAY = 1, 2, 3, 4
+VERSION = "0.2.0"
+_ADDR_NO_RANDOMIZE = 0x0040000
+
+
+class Parser(argparse.ArgumentParser):
+    """A mistake is one line, with status 2."""
+
+    def error(self, message: str) -> NoReturn:
+        say(message)
+        sys.exit(USAGE)
+
+
+def _count(text: str) -> int:
+    number = int(text)
+    if number < 1:
+        raise ValueError
+    return number
+
+
+def _natural(text: str) -> int:
+    number = int(text)
+    if number < 0:
+        raise ValueError
+    return number
+
+
+def _seconds(text: str) -> float:
+    number = float(text)
+    if not 0 < number < 1e6:
+        raise ValueError
+    return number
+
+
+_seconds.__name__ = "number of seconds"
+_count.__name__ = "number from 1"
+_natural.__name__ = "number from 0"
+
+
+def parser() -> Parser:
+    """The options."""
+    made = Parser(prog="tracehost-run", description="Runs a program of tracehost-cc on the model of FreeBSD's process tracing.", allow_abbrev=False)
+    add = made.add_argument
+    which = made.add_argument_group("which schedules").add_argument
+    which("--seed", type=_count, metavar="N", help="this schedule; else the plain one: a thread goes on until it waits")
+    which("--schedules", type=_count, metavar="N", help="the plain one and those of the seeds 1 to N, until one fails")
+    which("--preemptions", type=_natural, metavar="K", help="all with at most K preemptions, until one fails (--schedules limits them)")
+    which("--switches", metavar="LIST", help="the plain one but for these choices: LWP.POINT:LWP,.. as a failing run prints them")
+    which("--replay", metavar="FILE", help="the one that --record FILE has kept; prints where it goes another way")
+    which("--strategy", choices=["random", "pct"], default="random", help="how a seed chooses: random switches, or priorities (PCT)")
+    which("--depth", type=_count, default=3, metavar="D", help="of a bug, for pct: D - 1 changes of priority (3)")
+    which("--length", type=_count, metavar="K", help="choices of a run, for pct; else those of the plain schedule")
+    which("--sleeps", choices=["any", "last"], default="any", help="under a seed a sleep ends at any time, or when nobody else can go on")
+    which("--calls", action="store_true", help="others go on between calls alone, not inside of them")
+    add("--jobs", type=_count, default=1, metavar="N", help="so many runs at a time (1)")
+    add("--record", metavar="FILE", help="the run, or the one that fails: FILE (scenario), FILE.lines, FILE.schedule, FILE.html")
+    add("--gdb", action="store_true", help="starts gdb on the process that fails, before it ends")
+    add("--with", dest="tool", metavar="COMMAND", help="starts COMMAND with that process's number")
+    add("--strict", action="store_true", help="no handler runs for a signal that a debugger passes on, as in the model")
+    add("--kill-on-debugger-exit", choices=["0", "1"], help="the sysctl of this name (1)")
+    add("--limit", type=_count, default=20000, metavar="N", help="a run of more questions has no end (20000)")
+    add("--patience", type=_seconds, default=20.0, metavar="S", help="a thread that makes no call for so many seconds hangs (20)")
+    add("--digest", action="store_true", help="prints a digest of each run: its steps, answers and output")
+    add("--verify", action="store_true", help="has each run's record replayed by tracehost --expect")
+    add("--figures", action="store_true", help="prints what the runs took")
+    add("--model", metavar="PROGRAM", help="the program tracehost; else $TRACEHOST, else tracehost on the path")
+    made.add_argument("--version", action="version", version=f"tracehost-run {VERSION}")
+    add("program", nargs="?", metavar="PROGRAM")
+    add("arguments", nargs=argparse.REMAINDER, metavar="ARGUMENT")
+    return made
+
+
+def _one_of(given: argparse.Namespace, made: Parser) -> None:
+    chosen = [name for name in ("seed", "schedules", "switches", "replay") if getattr(given, name) is not None]
+    if given.preemptions is not None and "schedules" in chosen:
+        chosen.remove("schedules")
+    if given.preemptions is not None:
+        chosen.append("preemptions")
+    if len(chosen) > 1:
+        made.error(f"--{chosen[0]} and --{chosen[1]} don't go together")
+    if given.gdb and given.tool is not None:
+        made.error("--gdb and --with don't go together")
+    if given.gdb and shutil.which("gdb") is None:
+        made.error("--gdb: gdb isn't on the path")
+    if given.switches is not None:
+        try:
+            record.switches_of(given.switches)
+        except ValueError:
+            made.error(f"--switches: {given.switches!r} is no list of LWP.POINT:LWP")
+
+
+def _model(given: argparse.Namespace, made: Parser) -> str:
+    named = given.model or os.environ.get("TRACEHOST") or "tracehost"
+    found = shutil.which(named)
+    if found is None:
+        made.error(f"{named}: there is no such program (--model, or the environment's TRACEHOST, names tracehost)")
+    return found
+
+
+class Command:
+    """What was asked for."""
+
+    def __init__(self, given: argparse.Namespace, setting: Setting) -> None:
+        self.given, self.setting = given, setting
+        self.began = time.monotonic()
+        self.runs = self.questions = self.steps = self.passed = 0
+
+    def heard(self, task: Task, result: Result) -> None:
+        """A run has ended."""
+        self.runs += 1
+        self.questions += result.questions
+        self.steps += result.steps
+        self.passed += result.passed
+        if self.given.digest:
+            print(f"{'plain' if task.seed is None else task.seed} {result.digest}")
+
+    # ---- one run
+
+    def one(self, task: Task, quiet: bool) -> tuple[Run, str | None, int]:
+        """A run with its report."""
+        runner = Runner(self.setting, quiet)
+        try:
+            run, why = runner.run(task, self._tool(), places=True)
+            output = runner.output
+        finally:
+            runner.close()
+        if quiet:
+            sys.stdout.buffer.write(output)
+            sys.stdout.buffer.flush()
+        if self.setting.verify:
+            why = why or verify(run, self.setting)
+        self.runs, self.questions, self.steps, self.passed = self.runs + 1, self.questions + run.questions, self.steps + run.turns.steps, run.turns.passed
+        if self.given.digest and self.given.schedules is None:
+            print(record.digest(run.turns.kept, output))
+        return run, why, len(output)
+
+    def _tool(self) -> Callable[[int], None] | None:
+        words = ["gdb", "-q", "-p"] if self.given.gdb else shlex.split(self.given.tool or "")
+        if not words:
+            return None
+
+        def start(real: int) -> None:
+            try:
+                subprocess.run([*words, str(real)])
+            except OSError as why:
+                say(f"{words[0]}: {why.strerror}")
+
+        return start
+
+    def plain(self, task: Task) -> int:
+        """The plain schedule, that of a seed, or one with switches."""
+        run, why, _ = self.one(task, quiet=self.given.digest)
+        self._record(run, why)
+        if why is not None and run.switches:
+            self._switches(run)
+        return self._end(why)
+
+    def replay(self) -> int:
+        """A recorded schedule."""
+        path = self.given.replay
+        switches = record.switches_of(self.given.switches)
+        task = Task(switches=tuple(Switch(tid, point, to) for (tid, point), to in switches.items()))
+        run, why, _ = self.one(task, quiet=False)
+        differs = record.difference(path, run)
+        if why is not None:
+            say(why)
+        if differs is not None:
+            say(f"goes another way than {path}: {differs}")
+            return ANOTHER_WAY
+        say(f"goes as recorded: {len(run.turns.kept)} steps")
+        return FAILED if why is not None else 0
+
+    # ---- many
+
+    def _task(self) -> Task:
+        if self.given.strategy != "pct":
+            return Task()
+        length = self.given.length
+        if length is None:
+            runner = Runner(self.setting)
+            length = runner.result(Task()).choices
+            runner.close()
+        return Task(depth=self.given.depth, length=length)
+
+    def seeded(self) -> int:
+        """One schedule by its seed."""
+        return self.plain(self._task()._replace(seed=self.given.seed))
+
+    def many(self) -> int:
+        """--schedules and --preemptions."""
+        given = self.given
+        task = self._task() if given.preemptions is None else Task()
+        pool = Pool(self.setting, given.jobs, given.digest)
+        found = None
+        ended = ""
+        try:
+            if given.preemptions is None:
+                found = search.seeds(pool, given.schedules, task, self.heard)
+                ended = f"{self.runs} schedules passed"
+            else:
+                found = search.preemptions(pool, given.preemptions, given.schedules or 100000, self.heard)
+        except search.Exhausted as end:
+            bound = f"with at most {given.preemptions} preemptions"
+            ended = f"all {self.runs} schedules {bound} passed" if end.complete else f"{self.runs} schedules {bound} passed, and there are more"
+        finally:
+            pool.close()
+        if found is None:
+            say(ended)
+            return self._end(None)
+        return self._failing(*found)
+
+    def _failing(self, task: Task, result: Result) -> int:
+        how = f"a schedule with {len(result.switches)} switches" if task.switches is not None else task.name()
+        say(f"fails under {how}, after {self.runs - 1} schedules that passed: {result.why}")
+        if result.why is not None and result.why.startswith("the record is"):
+            return FAILED
+        switches = result.switches
+        if switches:
+            runner = Runner(self.setting)
+            try:
+                switches = search.shrink(runner, result)
+            finally:
+                runner.close()
+        run, why, _ = self.one(Task(switches=switches), quiet=True)
+        if switches:
+            say(f"of its {len(result.switches)} switches {len(run.switches)} are enough: --switches {record.text_of(run.switches)}")
+        self._switches(run)
+        self._record(run, why)
+        return self._end(why or result.why)
+
+    # ---- what is printed at the end
+
+    def _switches(self, run: Run) -> None:
+        for line in report.places(run.places or ()):
+            print(f"  {line}", file=sys.stderr)
+
+    def _record(self, run: Run, why: str | None) -> None:
+        path = self.given.record
+        if path is None:
+            return
+        setting = self.setting
+        options = {"calls": setting.options.calls, "strict": setting.options.strict, "limit": setting.options.limit, "failed": why}
+        record.write(path, run, setting.command, setting.kill_on_debugger_exit, {**options, "kill_on_debugger_exit": setting.kill_on_debugger_exit})
+        trouble = report.page(setting.model, path, f"{os.path.basename(setting.command[0])}: {why or 'passed'}")
+        if trouble:
+            say(f"{path}.html isn't written: {trouble}")
+
+    def _end(self, why: str | None) -> int:
+        if self.passed:
+            say(f"handlers ran {self.passed} times for signals that a debugger passed on, which the model doesn't have (--strict: none)")
+        if self.given.figures:
+            took = time.monotonic() - self.began
+            times = os.times()
+            used = times.user + times.system + times.children_user + times.children_system
+            say(
+                f"{self.runs} runs, {self.questions} questions, {self.steps} steps in {took:.2f} s: "
+                f"{used / self.runs * 1e3:.2f} ms of processor time a run, {self.runs / took:.0f} runs a second"
+            )
+        if why is not None:
+            say(why)
+            return FAILED
+        return 0
+
+
+def _replayed(given: argparse.Namespace, made: Parser) -> dict[str, Any]:
+    """The options of a recorded schedule."""
+    try:
+        schedule = record.read_schedule(given.replay)
+    except (OSError, ValueError) as why:
+        made.error(f"--replay: {given.replay}.schedule: {getattr(why, 'strerror', None) or why}")
+    given.switches = schedule["switches"]
+    given.calls, given.strict, given.limit = bool(schedule.get("calls")), bool(schedule.get("strict")), int(schedule.get("limit", given.limit))
+    kill = schedule.get("kill_on_debugger_exit")
+    given.kill_on_debugger_exit = None if kill is None else str(int(kill))
+    if given.program is None:
+        given.program, *given.arguments = schedule["program"]
+    return schedule
+
+
+def main(words: Sequence[str] | None = None) -> int:
+    """The command: its status."""
+    made = parser()
+    given = made.parse_args(words)
+    _one_of(given, made)
+    if given.replay is not None:
+        _replayed(given, made)
+    if given.program is None:
+        made.error("no PROGRAM is given; --help lists the options")
+    model = _model(given, made)
+    soft, hard = resource.getrlimit(resource.RLIMIT_NOFILE)
+    resource.setrlimit(resource.RLIMIT_NOFILE, (max(soft, min(hard, 4096)), hard))  # a socket for each thread
+    ctypes.CDLL(None).personality(_ADDR_NO_RANDOMIZE)  # addresses are the same in each run
+    kill = None if given.kill_on_debugger_exit is None else given.kill_on_debugger_exit == "1"
+    options = Options(given.calls, given.strict, given.limit, given.patience)
+    try:
+        command = [check(given.program), *given.arguments]
+        setting = Setting(command, model, options, kill, given.sleeps == "any", given.verify)
+        return _run(Command(given, setting))
+    except NotRunnable as why:
+        if str(why):  # else the program has said it
+            say(str(why))
+        return USAGE
+    except (ModelFailed, WorkerEnded, OSError) as why:
+        say(f"{why}")
+        return BROKEN
+    except KeyboardInterrupt:
+        return 130
+
+
+def _run(command: Command) -> int:
+    given = command.given
+    if given.replay is not None:
+        return command.replay()
+    if given.schedules is not None or given.preemptions is not None:
+        return command.many()
+    if given.switches is not None:
+        switches = record.switches_of(given.switches)
+        return command.plain(Task(switches=tuple(Switch(tid, point, to) for (tid, point), to in switches.items())))
+    return command.seeded() if given.seed is not None else command.plain(Task())

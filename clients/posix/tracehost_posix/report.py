@@ -1,0 +1,76 @@
+"""A failing run, for people: each switch with its place in the program, and the files of the record."""
+
+from __future__ import annotations
+
+import os
+import re
+import subprocess
+import sys
+import tempfile
+from collections.abc import Iterable
+
+from .describe import CODES, Place, call_name
+
+TOP = os.path.realpath(os.path.join(os.path.dirname(__file__), "..", "..", ".."))
+
+
+def say(text: str) -> None:
+    """A line on standard error."""
+    print(f"tracehost-run: {text}", file=sys.stderr)
+
+
+def places(found: Iterable[Place]) -> list[str]:
+    """A line for each switch: the running LWP, its call with file and line, and the LWP that goes on."""
+    known = list(found)
+    lines = _source_lines({(place.program, place.where) for place in known if place.where and place.program})
+    texts = []
+    for place in known:
+        if place.pid == 0:
+            texts.append(f"a process has ended; {place.other} goes on")
+            continue
+        at = lines.get((place.program, place.where), "")
+        at = f" at {at}" if at else ""
+        own = place.switch.to == place.switch.tid
+        then = "its sleep is over" if own else f"{place.other} goes on"
+        texts.append(f"{place.pid}/{place.switch.tid} in {call_name(place.asked)}{at}; {then}")
+    return texts
+
+
+def _source_lines(addresses: set[tuple[str, int]]) -> dict[tuple[str, int], str]:
+    """`FILE:LINE` of each address, by addr2line; nothing where it isn't there, or the program has no debug information."""
+    found: dict[tuple[str, int], str] = {}
+    for program in sorted({program for program, _ in addresses}):
+        wheres = sorted(where for of, where in addresses if of == program)
+        try:  # an address is behind its call
+            done = subprocess.run(["addr2line", "-e", program, *(hex(where - 1) for where in wheres)], capture_output=True, text=True)
+        except OSError:
+            return found
+        for where, line in zip(wheres, done.stdout.splitlines()):
+            line = re.sub(r" \(discriminator \d+\)$", "", line)
+            if not line.startswith("??") and not line.endswith(":?"):
+                found[program, where] = os.path.relpath(line) if line.startswith(os.getcwd() + "/") else line
+    return found
+
+
+def page(model: str, path: str, title: str) -> str | None:
+    """The viewer's page of a record, as PATH.html, with the program's calls by name; a text where it can't be made."""
+    make = os.path.join(TOP, "viewer", "make")
+    if not os.path.exists(make):
+        return "the viewer isn't there"
+    lines = subprocess.run([model, "--json", path], capture_output=True)
+    if lines.returncode != 0:
+        return lines.stderr.decode("utf-8", "replace").strip()
+    with open(path) as file:
+        scenario = re.sub(r'"call":"other","code":(\d+)', _named_call, file.read())
+    with tempfile.TemporaryDirectory(prefix="tracehost-") as folder, open(path + ".html", "wb") as to:
+        labelled = os.path.join(folder, os.path.basename(path))
+        with open(labelled, "w") as file:
+            file.write(scenario)
+        words = [sys.executable, make, "-t", title, "-", labelled]
+        done = subprocess.run(words, input=lines.stdout, stdout=to, stderr=subprocess.PIPE)
+    return None if done.returncode == 0 else done.stderr.decode("utf-8", "replace").strip()
+
+
+def _named_call(found: re.Match[str]) -> str:
+    name = CODES.get(int(found[1]))
+    return found[0] if name is None else f'"call":"{name}"'
