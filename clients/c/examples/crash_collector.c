@@ -1,12 +1,13 @@
 /*
  * A crash collector: traces workers, leaves each at the signal that crashes it, writes a report of its LWPs, and lets it end.
  *
- *     cc -std=c11 -o crash_collector crash_collector.c ../tracehost.c
+ *     cc -o crash_collector crash_collector.c $(pkg-config --cflags tracehost-client) \
+ *       $(pkg-config --variable=source tracehost-client)
  *     ./crash_collector /path/to/tracehost
  *
- * What the workers do stands in `main`. clients/python/examples/crash_collector.py is the same in Python, and prints the same.
+ * `main` has what the workers do. clients/python/examples/crash_collector.py is the same in Python, and prints the same.
  */
-#include "../tracehost.h"
+#include "tracehost_client.h"
 
 #include <stdio.h>
 #include <stdlib.h>
@@ -22,7 +23,7 @@ struct collector {
 
 static void fail(const char *what)
 {
-    perror(what);
+    fprintf(stderr, "%s: %s\n", what, th_strerror(errno));
     exit(1);
 }
 

@@ -2,13 +2,14 @@
  * A small debugger: attaches to a shell, follows its forks, prints system calls and signals, and detaches when a child of the
  * shell has ended.
  *
- *     cc -std=c11 -o debugger debugger.c ../tracehost.c
+ *     cc -o debugger debugger.c $(pkg-config --cflags tracehost-client) \
+ *       $(pkg-config --variable=source tracehost-client)
  *     ./debugger /path/to/tracehost
  *
- * What the traced processes do stands in `main`. clients/python/examples/debugger.py is the same in Python, and prints the
+ * `main` has what the traced processes do. clients/python/examples/debugger.py is the same in Python, and prints the
  * same.
  */
-#include "../tracehost.h"
+#include "tracehost_client.h"
 
 #include <stdio.h>
 #include <stdlib.h>
@@ -32,7 +33,7 @@ struct act {
 
 static void fail(const char *what)
 {
-    perror(what);
+    fprintf(stderr, "%s: %s\n", what, th_strerror(errno));
     exit(1);
 }
 
@@ -130,7 +131,7 @@ static void ended(struct debugger *d, th_pid pid, int status)
             fail("kill");
 }
 
-/* Takes all that wait4(2) has to tell. */
+/* Takes all that wait4(2) has to report. */
 static void collect(struct debugger *d)
 {
     while (d->count > 0) {

@@ -8,7 +8,7 @@
  */
 #define _POSIX_C_SOURCE 200809L
 
-#include "../tracehost.h"
+#include "session.h"
 
 #include <stdio.h>
 #include <stdlib.h>
@@ -27,16 +27,9 @@ static int number(char **rest)
 
 static void print_flags(const char *key, int flags)
 {
-    static const char *const names[] = {"SCE", "SCX", "EXEC", NULL, "FORKED", "CHILD", "BORN", "EXITED", "VFORKED", "VFORK_DONE"};
-    const char *between = "";
-    printf(" %s=", key);
-    for (int i = 0; i < 10; i++)
-        if (flags & 4 << i) {
-            printf("%sPL_FLAG_%s", between, names[i]);
-            between = "+";
-        }
-    if (flags == 0)
-        printf("none");
+    char names[160];
+    th_flagnames(flags, names, sizeof names);
+    printf(" %s=%s", key, names);
 }
 
 static void print_signals(const char *key, th_sigset set)
@@ -54,15 +47,9 @@ static void print_signals(const char *key, th_sigset set)
 
 static void print_mask(int mask)
 {
-    static const char *const names[] = {"EXEC", "SCE", "SCX", "FORK", "LWP", "VFORK"};
-    const char *between = "";
-    printf("mask ");
-    for (int i = 0; i < 6; i++)
-        if (mask & 1 << i) {
-            printf("%sPTRACE_%s", between, names[i]);
-            between = "+";
-        }
-    printf(mask == 0 ? "none\n" : "\n");
+    char names[160];
+    th_eventnames(mask, names, sizeof names);
+    printf("mask %s\n", names);
 }
 
 static void print_numbers(const char *kind, const int32_t *numbers, long count)
@@ -83,7 +70,7 @@ static void print_refusal(void)
     else if (error != 0)
         printf("error %s %d\n", names[error], error);
     else
-        printf("errno %d: %s\n", errno, strerror(errno));
+        printf("errno %d: %s\n", errno, th_strerror(errno));
 }
 
 static void done(int result)
@@ -268,7 +255,7 @@ static int text_step(th_host *h, const char *line)
     static char answer[65536];
     unsigned user;
     if (th_step_text(h, line, answer, sizeof answer) < 0) {
-        perror("replay");
+        fprintf(stderr, "replay: %s\n", th_strerror(errno));
         return -1;
     }
     if (sscanf(answer, "%u", &user) == 1 && user >= 1001 && user - 1001 < USERS)
@@ -284,7 +271,7 @@ int main(int argc, char **argv)
         return 2;
     }
     struct th_settings settings = {atoi(argv[2])};
-    th_host *h = th_start(argv[1], &settings);
+    th_host *h = start_session(argv[1], &settings);
     if (h == NULL) {
         perror(argv[1]);
         return 1;

@@ -2,13 +2,16 @@
  * What the replay of scenarios doesn't reach: sizes and addresses, refused steps, status macros, signals that interrupt a call,
  * and programs that end or answer what is no reply.
  *
- *     test PROGRAM FAKE
+ *     test PROGRAM FAKE FOLDER MILLISECONDS [emulated]
  *
- * FAKE is a program that answers each line as the environment's FAKE says: with that line, or by ending where it is empty.
+ * FAKE is a program that answers each line as the environment's FAKE says: with that line, or by ending where it is empty. The
+ * folder is for files. Signals interrupt calls each so many milliseconds. With `emulated` nothing is expected of a
+ * program that isn't there: in valgrind posix_spawn(3) starts it all the same. Compiled with -DTRACEHOST_IN_PROCESS, the
+ * sessions with PROGRAM are in the process (session.h).
  */
 #define _POSIX_C_SOURCE 200809L
 
-#include "../tracehost.h"
+#include "session.h"
 
 #include <signal.h>
 #include <stdio.h>
@@ -39,7 +42,7 @@ static const th_caller self = {1001, 1000};
 
 static th_host *begin(const char *program)
 {
-    th_host *h = th_start(program, NULL);
+    th_host *h = start_session(program, NULL);
     th_pid pid = 0;
     th_lwpid lwp = 0;
     CHECK(th_spawn(h, 1001, &pid, &lwp) == 0 && pid == 1000 && lwp == 100000);
@@ -130,20 +133,128 @@ static void signals(void)
     CHECK(th_signame(0) == NULL && th_signame(32) == NULL);
 }
 
+/* errno(2) of FreeBSD, and the client's own */
+static void words(void)
+{
+    CHECK(strcmp(th_strerror(EPERM), "Operation not permitted") == 0);
+    CHECK(strcmp(th_strerror(ESRCH), "No such process") == 0);
+    CHECK(strcmp(th_strerror(ECHILD), "No child processes") == 0);
+    CHECK(strcmp(th_strerror(ENOMEM), "Cannot allocate memory") == 0);
+    CHECK(strcmp(th_strerror(EBUSY), "Device busy") == 0);
+    CHECK(strcmp(th_strerror(EINVAL), "Invalid argument") == 0);
+    CHECK(strcmp(th_strerror(EAGAIN), "Resource temporarily unavailable") == 0);
+    CHECK(strcmp(th_strerror(TH_EHELD), "The caller or the LWP doesn't run, and the step isn't made") == 0);
+    CHECK(strcmp(th_strerror(TH_EREFUSED), "Refused: what was sent is no step") == 0);
+    CHECK(strcmp(th_strerror(EPIPE), "The program has ended") == 0);
+    CHECK(strcmp(th_strerror(ENOENT), strerror(ENOENT)) == 0);
+}
+
+/* names as the replay of scenarios doesn't have them: too long, without room, unknown bits */
+static void flags(void)
+{
+    char text[24];
+    CHECK(th_flagnames(TH_PL_FLAG_SCE | TH_PL_FLAG_EXEC, text, sizeof text) == 24 && strcmp(text, "PL_FLAG_SCE+PL_FLAG_EXE") == 0);
+    CHECK(th_flagnames(TH_PL_FLAG_SCE, text, 12) == 11 && strcmp(text, "PL_FLAG_SCE") == 0);
+    CHECK(th_flagnames(TH_PL_FLAG_SCE, text, 11) == 11 && strcmp(text, "PL_FLAG_SC") == 0);
+    CHECK(th_flagnames(TH_PL_FLAG_SCE, NULL, 0) == 11 && th_flagnames(0, text, 1) == 4 && text[0] == '\0');
+    CHECK(th_flagnames(0x8000 | TH_PL_FLAG_SCX, text, sizeof text) == 18 && strcmp(text, "PL_FLAG_SCX+0x8000") == 0);
+    CHECK(th_flagnames(1, text, sizeof text) == 3 && strcmp(text, "0x1") == 0);
+    CHECK(th_eventnames(TH_PTRACE_EXEC | TH_PTRACE_LWP, text, sizeof text) == 22 && strcmp(text, "PTRACE_EXEC+PTRACE_LWP") == 0);
+    CHECK(th_eventnames(0, text, sizeof text) == 4 && strcmp(text, "none") == 0);
+}
+
+static void has(const char *path, const char *wanted)
+{
+    char got[1024];
+    FILE *file = fopen(path, "r");
+    size_t length = file == NULL ? 0 : fread(got, 1, sizeof got - 1, file);
+    got[length] = '\0';
+    CHECK(file != NULL && strcmp(got, wanted) == 0);
+    if (file != NULL)
+        fclose(file);
+}
+
+/* a record is whole after each step, has no refused step, and replays; it begins before the first step */
+static void recorded(const char *program, const char *folder)
+{
+    char scenario[1024], lines[1024], command[4096];
+    snprintf(scenario, sizeof scenario, "%s/record.json", folder);
+    snprintf(lines, sizeof lines, "%s/record.out", folder);
+    snprintf(command, sizeof command, "'%s' '%s' --expect '%s'", program, scenario, lines);
+    for (int kills = 0; kills <= 1; kills++) {
+        struct th_settings asked = {kills};
+        th_host *h = start_session(program, &asked);
+        REFUSED(ENOENT, th_record(h, "/nowhere/record.json", lines));
+        REFUSED(ENOENT, th_record(h, scenario, "/nowhere/record.out"));
+        CHECK(th_record(h, scenario, lines) == 0);
+        REFUSED(EBUSY, th_record(h, scenario, lines));
+        has(scenario, kills ? "{\"kill_on_debugger_exit\":1,\"steps\":[\n]}\n" : "{\"kill_on_debugger_exit\":0,\"steps\":[\n]}\n");
+        CHECK(th_spawn(h, 1001, NULL, NULL) == 0 && th_spawn(h, 1002, NULL, NULL) == 0);
+        REFUSED(TH_EREFUSED, th_spawn(h, 1065, NULL, NULL));
+        REFUSED(ESRCH, th_kill(h, self, 77, 0));
+        has(lines, "1001 1 new 1000 100000\n1002 1 new 2000 104000\n1001 2 error ESRCH 3\n");
+        CHECK(system(command) == 0);
+        CHECK(th_close(h) == 0);
+        CHECK(system(command) == 0);
+    }
+    th_host *h = begin(program);
+    REFUSED(EBUSY, th_record(h, scenario, lines));
+    CHECK(th_close(h) == 0);
+    h = start_session(program, NULL);
+    CHECK(th_record(h, "/dev/full", NULL) == -1 && errno != 0 && th_spawn(h, 1001, NULL, NULL) == 0);
+    CHECK(th_close(h) == 0);
+}
+
+/* what the program writes on standard error, th_close writes there too */
+static void standard_error(const char *fake, const char *folder)
+{
+    char path[1024];
+    snprintf(path, sizeof path, "%s/errors", folder);
+    setenv("FAKE", "1001 1 new 1000 100000", 1);
+    setenv("FAKE_ERROR", "tracehost: cannot write", 1);
+    th_host *h = th_start(fake, NULL);
+    unsetenv("FAKE_ERROR");
+    CHECK(th_spawn(h, 1001, NULL, NULL) == 0);
+    int kept = dup(STDERR_FILENO);
+    CHECK(freopen(path, "w", stderr) != NULL);
+    CHECK(th_close(h) == 0);
+    fflush(stderr);
+    dup2(kept, STDERR_FILENO);
+    close(kept);
+    has(path, "tracehost: cannot write\n");
+
+    /* a reason that is too long is cut, and isn't part of the next one */
+    char reason[3001];
+    memset(reason, 'r', 3000);
+    reason[3000] = '\0';
+    setenv("FAKE", "refused BadName", 1);
+    setenv("FAKE_ERROR", reason, 1);
+    h = th_start(fake, NULL);
+    unsetenv("FAKE_ERROR");
+    REFUSED(TH_EREFUSED, th_spawn(h, 1001, NULL, NULL));
+    CHECK(strlen(th_reason(h)) == 1023 && strncmp(th_reason(h), reason, 1023) == 0);
+    REFUSED(TH_EREFUSED, th_spawn(h, 1001, NULL, NULL));
+    CHECK(strcmp(th_fault(h), "BadName") == 0 && th_reason(h)[0] == '\0');
+    CHECK(th_close(h) == 0);
+}
+
 /* what is no step: its fault, and the session goes on */
 static void refused_steps(const char *program)
 {
     th_host *h = begin(program);
     struct th_rule rules[17] = {{0}};
     char answer[64];
+    CHECK(th_fault(h)[0] == '\0' && th_reason(h)[0] == '\0');
     REFUSED(TH_EREFUSED, th_spawn(h, 1065, NULL, NULL));
     CHECK(strcmp(th_fault(h), "BadUser") == 0);
+    const char *reason = "line 3, user: 1065 is out of range; expected a whole number from 1001 to 1064";
+    CHECK(strcmp(th_reason(h), IN_PROCESS ? "" : reason) == 0);
     REFUSED(TH_EREFUSED, th_install(h, self, rules, 17));
     CHECK(strcmp(th_fault(h), "TooManyRules") == 0);
     rules[0].signal = 32;
     REFUSED(TH_EREFUSED, th_install(h, self, rules, 1));
     CHECK(strcmp(th_fault(h), "BadNumber") == 0);
-    CHECK(th_install(h, self, rules + 1, 16) == 0 && th_fault(h)[0] == '\0');
+    CHECK(th_install(h, self, rules + 1, 16) == 0 && th_fault(h)[0] == '\0' && th_reason(h)[0] == '\0');
     CHECK(th_step_text(h, "", answer, sizeof answer) == 15 && strcmp(answer, "refused BadJson") == 0);
     CHECK(th_step_text(h, "{}", answer, 8) == 16 && strcmp(answer, "refused") == 0);
     REFUSED(EINVAL, th_step_text(h, "{}\n{}", answer, sizeof answer));
@@ -159,7 +270,7 @@ static void settings(const char *program)
         th_pid pids[4];
         struct th_settings asked = {kills};
         struct th_turned turned;
-        th_host *h = th_start(program, &asked);
+        th_host *h = start_session(program, &asked);
         for (int i = 0; i < 3; i++)
             CHECK(th_spawn(h, 1001, NULL, NULL) == 0);
         CHECK(th_ptrace(h, self, TH_PT_ATTACH, 1001, NULL, 0) == 0);
@@ -177,11 +288,11 @@ static void alarmed(int sig)
     alarms++;
 }
 
-/* a signal at each millisecond, without SA_RESTART: every call still answers, and a line of 8 MB is sent whole */
-static void interrupted(const char *program)
+/* a signal at each of these times, without SA_RESTART: every call still answers, and a line of 8 MB is sent whole */
+static void interrupted(const char *program, int milliseconds)
 {
     struct sigaction action = {0};
-    struct itimerval each = {{0, 1000}, {0, 1000}}, none = {{0, 0}, {0, 0}};
+    struct itimerval each = {{0, milliseconds * 1000}, {0, milliseconds * 1000}}, none = {{0, 0}, {0, 0}};
     th_host *h = begin(program);
     action.sa_handler = alarmed;
     sigaction(SIGALRM, &action, NULL);
@@ -253,20 +364,25 @@ static void broken(const char *fake)
     struct th_lwpinfo info;
     REFUSED(EPROTO, th_ptrace(h, self, TH_PT_LWPINFO, 1001, &info, (int)sizeof info));
     th_close(h);
-    CHECK(th_start("/nowhere/tracehost", NULL) == NULL && errno == ENOENT);
 }
 
 int main(int argc, char **argv)
 {
-    if (argc != 3)
+    if (argc < 5)
         return 2;
     arguments(argv[1]);
     statuses();
     signals();
+    words();
+    flags();
     refused_steps(argv[1]);
+    recorded(argv[1], argv[3]);
+    standard_error(argv[2], argv[3]);
     settings(argv[1]);
-    interrupted(argv[1]);
+    interrupted(argv[1], atoi(argv[4]));
     broken(argv[2]);
+    if (argc == 5)
+        CHECK(th_start("/nowhere/tracehost", NULL) == NULL && errno == ENOENT);
     if (!failed)
         printf("the tests of the client in C passed\n");
     return failed;

@@ -1,9 +1,9 @@
 #!/usr/bin/env python3
-"""A crash collector: traces workers, leaves each at the signal that crashes it, writes a report of its LWPs, and lets it end.
+"""A crash collector: traces workers, leaves each at the signal that crashes it, reports its LWPs, and lets it end.
 
     TRACEHOST=/path/to/tracehost python3 crash_collector.py
 
-What the workers do stands in `main`. clients/c/examples/crash_collector.c is the same in C, and prints the same.
+`main` has what the workers do. clients/c/examples/crash_collector.c is the same in C, and prints the same.
 """
 
 from __future__ import annotations
@@ -40,7 +40,7 @@ REQUESTS_TO_END = [Signal.SIGHUP, Signal.SIGINT, Signal.SIGTERM]
 
 
 class Collector:
-    """A process that traces workers, with a stop handler that leaves a crash to it and passes on what asks for an end."""
+    """A process that traces workers. Its stop handler leaves crashes to it, and passes on requests to end."""
 
     def __init__(self, process: Process) -> None:
         self.process = process

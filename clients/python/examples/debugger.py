@@ -1,10 +1,10 @@
 #!/usr/bin/env python3
-"""A small debugger: attaches to a shell, follows its forks, prints system calls and signals, and detaches when a child of the
-shell has ended.
+"""A small debugger: attaches to a shell, follows its forks, prints system calls and signals, and detaches when a child
+of the shell has ended.
 
     TRACEHOST=/path/to/tracehost python3 debugger.py
 
-What the traced processes do stands in `main`. clients/c/examples/debugger.c is the same in C, and prints the same.
+`main` has what the traced processes do. clients/c/examples/debugger.c is the same in C, and prints the same.
 """
 
 from __future__ import annotations
@@ -14,7 +14,9 @@ import pathlib
 import sys
 
 sys.path.insert(0, str(pathlib.Path(__file__).resolve().parents[1]))
-from tracehost import Act, Call, Compute, Enter, EventMask, Host, Leave, Process, Raise, Request, Signal, StopFlag, Stopped, User
+from tracehost import (
+    Act, Call, Compute, Enter, EventMask, Host, Leave, Process, Raise, Request, Signal, StopFlag, Stopped, User,
+)  # fmt: skip
 
 CALLS = {1: "exit", 2: "fork", 3: "read", 4: "write", 59: "execve", 66: "vfork"}
 READ, WRITE = 3, 4
@@ -42,7 +44,7 @@ class Debugger:
         self.process.ptrace(Request.PT_CONTINUE, pid)
 
     def collect(self) -> None:
-        """Takes all that wait4(2) has to tell."""
+        """Takes all that wait4(2) has to report."""
         while self.tracees:
             pid, status = self.process.wait4()
             if pid == 0:
@@ -91,7 +93,7 @@ class Debugger:
 
 
 def run(user: User, debugger: Debugger, lwp: int, acts: list[Act]) -> None:
-    """The LWP does these acts, and the debugger takes what they bring. An act that a stop came before is done after it."""
+    """The LWP does these acts, and the debugger takes what they bring. An act that a stop preceded is done after it."""
     at_a_call = StopFlag.PL_FLAG_SCE | StopFlag.PL_FLAG_SCX
     for act in acts:
         done = False

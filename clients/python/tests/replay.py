@@ -1,10 +1,10 @@
 #!/usr/bin/env python3
 """Replays scenarios step by step, and compares the lines with those beside them (NAME.json, NAME.out).
 
-    python3 replay.py PROGRAM NAME.json ..
+    python3 replay.py library|pipe NAME.json ..
 
-Each scenario is replayed twice: step by step as it stands (`Host.step`), and by the typed calls, whose results are written
-as lines again.
+Each scenario is replayed twice: step by step as it stands (`Host.step`), and by the typed calls, whose results are
+written as lines again.
 """
 
 from __future__ import annotations
@@ -13,8 +13,8 @@ import errno
 import json
 import pathlib
 import sys
-from collections.abc import Iterable
-from typing import Any
+from collections.abc import Callable, Iterable
+from typing import Any, Literal
 
 sys.path.insert(0, str(pathlib.Path(__file__).resolve().parents[1]))
 import tracehost as th
@@ -124,7 +124,12 @@ def call(host: th.Host, step: dict[str, Any]) -> str:
     return "ok"
 
 
-def typed(host: th.Host, steps: list[dict[str, Any]]) -> list[str]:
+def by_step(host: th.Host, step: dict[str, Any]) -> str:
+    """Makes the step as it stands, and returns its reply."""
+    return host.step(step).split(" ", 2)[2]
+
+
+def replayed(host: th.Host, steps: list[dict[str, Any]], call: Callable[[th.Host, dict[str, Any]], str]) -> list[str]:
     lines: list[str] = []
     counts: dict[int, int] = {}
     for step in steps:
@@ -141,7 +146,7 @@ def typed(host: th.Host, steps: list[dict[str, Any]]) -> list[str]:
     return lines
 
 
-def main(program: str, files: list[str]) -> int:
+def main(transport: Literal["library", "pipe"], files: list[str]) -> int:
     made = wrong = 0
     for name in files:
         path = pathlib.Path(name)
@@ -149,9 +154,9 @@ def main(program: str, files: list[str]) -> int:
         wanted = path.with_suffix(".out").read_text().splitlines()
         setting = scenario.get("kill_on_debugger_exit")
         for way in ("step", "calls"):
-            with th.Host(program, kill_on_debugger_exit=None if setting is None else bool(setting)) as host:
+            with th.Host(transport=transport, kill_on_debugger_exit=None if setting is None else bool(setting)) as host:
                 steps = scenario["steps"]
-                lines = [host.step(step) for step in steps] if way == "step" else typed(host, steps)
+                lines = replayed(host, steps, by_step if way == "step" else call)
                 status = host.close()
             made += len(steps)
             if lines != wanted or status != 0:
@@ -159,9 +164,9 @@ def main(program: str, files: list[str]) -> int:
                 first = next((n for n, (a, b) in enumerate(zip(lines, wanted)) if a != b), min(len(lines), len(wanted)))
                 print(f"FAILED: {name} by {way}: status {status}, line {first + 1}:")
                 print(f"  wanted {wanted[first:first + 1]}, got {lines[first:first + 1]}")
-    print(f"{len(files)} scenarios, {made} steps from Python, {wrong} differ")
+    print(f"{len(files)} scenarios, {made} steps from Python by {transport}, {wrong} differ")
     return 1 if wrong or not files else 0
 
 
 if __name__ == "__main__":
-    sys.exit(main(sys.argv[1], sys.argv[2:]))
+    sys.exit(main("library" if sys.argv[1] == "library" else "pipe", sys.argv[2:]))

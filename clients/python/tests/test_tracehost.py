@@ -1,4 +1,4 @@
-"""Each call and each kind of reply, through the program that the environment's TRACEHOST names.
+"""Each call and each kind of reply, through the library or the program that the environment names (`Host`).
 
 What is expected comes from the manual pages, named beside each test, and from the rules in docs/FORMAT.md.
 """
@@ -48,6 +48,7 @@ from tracehost import (
     Waited,
     WaitOption,
 )
+from tracehost.pipe import Pipe
 
 R = Request
 
@@ -450,18 +451,23 @@ class Programs(unittest.TestCase):
                 with self.assertRaises(ProgramEnded):
                     host.user(1001).spawn()
 
+    def process_of(self, host: Host) -> int:
+        assert isinstance(host._made, Pipe)
+        return host._made.process.pid
+
     def test_a_program_that_was_killed(self) -> None:
-        with Host() as host:
+        with Host(transport="pipe") as host:
             host.user(1001).spawn()
-            os.kill(host._process.pid, signal.SIGKILL)
+            os.kill(self.process_of(host), signal.SIGKILL)
             with self.assertRaises(ProgramEnded) as caught:
                 host.user(1001).spawn()
             self.assertEqual(caught.exception.status, -signal.SIGKILL)
 
     def test_a_program_that_stops_a_while(self) -> None:
-        with Host() as host:
-            os.kill(host._process.pid, signal.SIGSTOP)
-            threading.Timer(0.2, os.kill, (host._process.pid, signal.SIGCONT)).start()
+        with Host(transport="pipe") as host:
+            process = self.process_of(host)
+            os.kill(process, signal.SIGSTOP)
+            threading.Timer(0.2, os.kill, (process, signal.SIGCONT)).start()
             self.assertEqual(host.user(1001).spawn(), New(1000, 100000))
 
     def test_lines_that_are_no_reply(self) -> None:
@@ -483,6 +489,8 @@ class Programs(unittest.TestCase):
                 host.user(1001).spawn()
             self.assertEqual((caught.exception.fault, caught.exception.reason), ("BadName", "op: no such op"))
 
+
+class Sharing(unittest.TestCase):
     def test_closing(self) -> None:
         host = Host()
         host.user(1001).spawn()

@@ -1,5 +1,6 @@
 /*
- * A client of `tracehost --lines`: FreeBSD's ptrace(2), wait(2), sigaction(2) and kill(2), answered by a model.
+ * A client of the model of FreeBSD's ptrace(2), wait(2), sigaction(2) and kill(2). `tracehost --lines` answers its calls, or
+ * the library libtracehost in the process (th_open).
  *
  *     th_host *h = th_start("./tracehost", NULL);
  *     th_pid debugger, target;
@@ -14,19 +15,26 @@
  * A call has the signature of its manual page, with the session and the caller before it. It returns -1 and sets errno where
  * it is refused:
  *
- *   - ESRCH, EPERM, ECHILD, EBUSY, EINVAL, EAGAIN, ENOMEM: as the model answers. These are the host system's numbers, so that
- *     perror(3) tells them; th_freebsd_errno gives FreeBSD's.
+ *   - ESRCH, EPERM, ECHILD, EBUSY, EINVAL, EAGAIN, ENOMEM: as the model answers. These are the host system's numbers;
+ *     th_freebsd_errno gives FreeBSD's.
  *   - TH_EHELD: the caller, or the LWP at its turn, doesn't run, and the call isn't made.
- *   - TH_EREFUSED: what was sent is no step (a user outside 1001 to 1064, a 17th rule); th_fault names the fault.
+ *   - TH_EREFUSED: what was sent is no step (a user outside 1001 to 1064, a 17th rule). th_fault names the fault, th_reason
+ *     has its reason.
  *   - EPIPE: the program has ended, or broke off its answer. No SIGPIPE is raised: the program's standard input and output
  *     are a socket, which is written by send(2) with MSG_NOSIGNAL.
- *   - EPROTO: a line of the program's isn't one that docs/LINES.md tells; the next call answers EPIPE.
+ *   - EPROTO: the program's line isn't one that docs/LINES.md describes; the next call answers EPIPE.
+ *   - ETIMEDOUT: a wait was blocked for longer than its timeout.
  *
- * A call that a signal interrupts goes on (EINTR is never returned). A session isn't to be used by two threads at a time; each
- * thread may have a session of its own. Numbers are FreeBSD's, whatever the host's headers say; the protocol goes by names.
+ * th_strerror has words for all of these; perror(3) and strerror(3) have wrong ones for TH_EHELD and TH_EREFUSED.
+ *
+ * A call that a signal interrupts goes on (EINTR is never returned). Numbers are FreeBSD's, whatever the host's headers say;
+ * the protocol goes by names.
+ *
+ * Several threads may use a session: every call may be made while other threads are in calls, but th_close, which is the
+ * last one. Steps are made one after another, each under the session's lock. Compile with -pthread.
  */
-#ifndef TRACEHOST_H
-#define TRACEHOST_H
+#ifndef TRACEHOST_CLIENT_H
+#define TRACEHOST_CLIENT_H
 
 #include <errno.h>
 #include <stddef.h>
@@ -95,7 +103,7 @@ struct th_lwpinfo {
     unsigned pl_syscall_code;
 };
 
-/* wait(2): options, and what a status tells */
+/* wait(2): options, and what a status contains */
 #define TH_WNOHANG 1
 #define TH_WUNTRACED 2
 #define TH_WCONTINUED 4
@@ -144,6 +152,14 @@ struct th_lwpinfo {
 /* the name of a signal, as "SIGHUP"; NULL where there is none */
 const char *th_signame(int sig);
 
+/*
+ * The names of a stop's flags (PL_FLAG_SCE+PL_FLAG_EXEC), or of an event mask (PTRACE_EXEC+PTRACE_FORK), as the program prints
+ * them: `none` for 0, other bits in hexadecimal. As snprintf(3), they store at most size - 1 bytes and a NUL, and return
+ * the length of the whole text.
+ */
+int th_flagnames(int flags, char *text, size_t size);
+int th_eventnames(int mask, char *text, size_t size);
+
 /* FreeBSD's errno numbers */
 #define TH_EPERM 1
 #define TH_ESRCH 3
@@ -160,6 +176,9 @@ int th_freebsd_errno(int error);
 #define TH_EHELD EINPROGRESS
 #define TH_EREFUSED EBADMSG
 
+/* The words for an errno that a call has set: FreeBSD's for the model's, strerror(3)'s for one that is none of the client's. */
+const char *th_strerror(int error);
+
 /* ---- a session */
 
 typedef struct th_host th_host;
@@ -169,19 +188,39 @@ struct th_settings {
 };
 
 /*
- * Starts the program, looked up on PATH where its name has no slash, with a host that nobody has used. `settings` may be NULL:
+ * Starts the program, looked up on PATH where its name has no slash, with a new host. `settings` may be NULL:
  * then the end of a debugger kills the processes that it traces. NULL and errno where it can't be started.
  */
 th_host *th_start(const char *program, const struct th_settings *settings);
 
-/* Ends the session, frees it, and returns the program's status as waitpid(2) of the host system gives it. NULL is left alone. */
-int th_close(th_host *h);
-
-/* The fault of the last refused step, as docs/FORMAT.md names it, "BadUser" as an example; "" for none. */
-const char *th_fault(const th_host *h);
+/*
+ * The same without a program: the library answers. It makes no process, and has no standard error, so that th_reason is "".
+ * NULL and ENOMEM where memory runs out. Compile with -DTRACEHOST_IN_PROCESS, and link with -ltracehost.
+ */
+th_host *th_open(const struct th_settings *settings);
 
 /*
- * Sends a line as it is (a step as docs/FORMAT.md tells it, without a line feed), and stores the line of its answer, without
+ * Ends the session, frees it, and returns the program's status as waitpid(2) of the host system gives it. NULL is left alone.
+ * What the program has written on standard error by then, but for reasons, is written there. 0 after th_open.
+ */
+int th_close(th_host *h);
+
+/*
+ * Why the calling thread's last step was refused: the fault as docs/FORMAT.md names it, "BadUser" as an example, and the line
+ * of --explain, "line 3, user: 1065 is out of range; ..". Both are "" where it wasn't, and stay until the thread's next call.
+ */
+const char *th_fault(const th_host *h);
+const char *th_reason(const th_host *h);
+
+/*
+ * Records the session from its beginning: all steps that were answered as a scenario, and their lines in a second file, unless
+ * `lines` is NULL. Both are whole after each step, also where the test ends by abort(3). `tracehost SCENARIO --expect LINES`
+ * then makes the session again. EBUSY after the first step; a step that can't be written ends the session with its errno.
+ */
+int th_record(th_host *h, const char *scenario, const char *lines);
+
+/*
+ * Sends a line as it is (a step as in docs/FORMAT.md, without a line feed), and stores the line of its answer, without
  * its line feed, of at most size - 1 bytes. Returns the length of the whole answer.
  */
 ssize_t th_step_text(th_host *h, const char *line, char *answer, size_t size);
@@ -207,8 +246,22 @@ typedef struct th_caller {
  */
 int th_ptrace(th_host *h, th_caller caller, int request, th_pid pid, void *addr, int data);
 
-/* wait4(2) without its rusage. No wait blocks: 0 where there is nothing to collect, with every option. `status` may be NULL. */
+/* wait4(2) without its rusage. It doesn't block: 0 where there is nothing to collect, with every option. `status` may be NULL. */
 th_pid th_wait4(th_host *h, th_caller caller, th_pid wpid, int *status, int options);
+
+/*
+ * wait4(2) that blocks, for a session of several threads. Where there is nothing to collect, and without TH_WNOHANG, it sleeps
+ * until a step of another thread was answered, and is then asked again before any other step is made. A step that is refused,
+ * held, or answered by an errno or by nothing doesn't count: it changes nothing. Blocked waits are asked in the order in
+ * which they began to block. After `timeout` milliseconds it returns -1 with ETIMEDOUT; -1 is no timeout.
+ */
+th_pid th_wait4_block(th_host *h, th_caller caller, th_pid wpid, int *status, int options, int timeout);
+
+/*
+ * Sleeps until `count` waits are blocked: all debuggers have done what they could, and the next step is the caller's. Returns 0;
+ * -1 with ETIMEDOUT after `timeout` milliseconds (-1: none), or with EPIPE where the program has ended.
+ */
+int th_until_blocked(th_host *h, size_t count, int timeout);
 
 /* kill(2); -1 names all other processes of the user */
 int th_kill(th_host *h, th_caller caller, th_pid pid, int sig);
@@ -232,7 +285,7 @@ struct th_rule {
     int pass;
 };
 
-/* Adds a stop handler with these rules, at most 16, behind the caller's others. */
+/* Adds a stop handler with these rules, at most 16, after the caller's others. */
 int th_install(th_host *h, th_caller caller, const struct th_rule *rules, size_t count);
 
 /* What a trace stop shows, and what the caller's handlers decided. */
@@ -251,6 +304,9 @@ struct th_handled {
 
 /* Waits for any child, and gives a trace stop to the caller's handlers. Returns the process, or 0 for nothing. */
 th_pid th_handle(th_host *h, th_caller caller, struct th_handled *handled);
+
+/* the same, blocking as th_wait4_block */
+th_pid th_handle_block(th_host *h, th_caller caller, struct th_handled *handled, int timeout);
 
 /* ---- steps without a caller */
 

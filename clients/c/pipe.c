@@ -1,0 +1,210 @@
+/* A session with a program, over a socket: tracehost_client.h describes each call. */
+#define _POSIX_C_SOURCE 200809L
+
+#include "internal.h"
+
+#include <fcntl.h>
+#include <spawn.h>
+#include <string.h>
+#include <sys/socket.h>
+#include <sys/wait.h>
+#include <unistd.h>
+
+extern char **environ;
+
+/* ---------------------------------------------------------------- start and end */
+
+/* a socket each for the client and the program, which no other program inherits */
+static int socket_pair(int pair[2])
+{
+#ifdef SOCK_CLOEXEC
+    return socketpair(AF_UNIX, SOCK_STREAM | SOCK_CLOEXEC, 0, pair);
+#else
+    if (socketpair(AF_UNIX, SOCK_STREAM, 0, pair) != 0)
+        return -1;
+    fcntl(pair[0], F_SETFD, FD_CLOEXEC);
+    fcntl(pair[1], F_SETFD, FD_CLOEXEC);
+    return 0;
+#endif
+}
+
+static void close_pair(const int pair[2])
+{
+    close(pair[0]);
+    close(pair[1]);
+}
+
+/* Starts the program with one socket as its standard input and output, and one as standard error; an errno, or 0. */
+static int spawn_program(th_host *h, const char *program, int socket, int errors)
+{
+    char name[] = "tracehost", lines[] = "--lines", explain[] = "--explain=always";
+    char setting[] = "--kill-on-debugger-exit", zero[] = "0", one[] = "1";
+    char *arguments[] = {name, lines, explain, setting, h->kills ? one : zero, NULL};
+    posix_spawn_file_actions_t actions;
+    int error = posix_spawn_file_actions_init(&actions);
+    if (error != 0)
+        return error;
+    error = posix_spawn_file_actions_adddup2(&actions, socket, STDIN_FILENO);
+    if (error == 0)
+        error = posix_spawn_file_actions_adddup2(&actions, socket, STDOUT_FILENO);
+    if (error == 0)
+        error = posix_spawn_file_actions_adddup2(&actions, errors, STDERR_FILENO);
+    if (error == 0)
+        error = posix_spawnp(&h->program, program, &actions, NULL, arguments, environ);
+    posix_spawn_file_actions_destroy(&actions);
+    return error;
+}
+
+/* Opens the sockets and starts the program; an errno, or 0. */
+static int open_session(th_host *h, const char *program)
+{
+    int lines[2], errors[2];
+    if (socket_pair(lines) != 0)
+        return errno;
+    if (socket_pair(errors) != 0) {
+        int error = errno;
+        close_pair(lines);
+        return error;
+    }
+    int error = spawn_program(h, program, lines[1], errors[1]);
+    if (error != 0) {
+        close_pair(lines);
+        close_pair(errors);
+        return error;
+    }
+    close(lines[1]);
+    close(errors[1]);
+    fcntl(errors[0], F_SETFL, O_NONBLOCK);
+    h->socket = lines[0];
+    h->reasons = errors[0];
+    return 0;
+}
+
+static void pipe_stop(th_host *h)
+{
+    close(h->socket);
+    h->socket = -1;
+}
+
+/* What the program has written to standard error, and no refused step has read, goes to the caller's. */
+static void pass_errors_on(th_host *h)
+{
+    char bytes[1024];
+    ssize_t got;
+    do {
+        got = read(h->reasons, bytes, sizeof bytes);
+        for (ssize_t at = 0, written; at < got; at += written) {
+            written = write(STDERR_FILENO, bytes + at, (size_t)(got - at));
+            if (written < 0 && errno != EINTR)
+                return;
+            if (written < 0)
+                written = 0;
+        }
+    } while (got > 0 || (got < 0 && errno == EINTR));
+}
+
+static int pipe_end(th_host *h)
+{
+    if (h->socket >= 0) {
+        /* the program has written its last answer when its input is at its end and its output is closed */
+        char rest[4096];
+        ssize_t got;
+        shutdown(h->socket, SHUT_WR);
+        do
+            got = recv(h->socket, rest, sizeof rest, 0);
+        while (got > 0 || (got < 0 && errno == EINTR));
+        pipe_stop(h);
+    }
+    int status = -1;
+    pid_t ended;
+    do
+        ended = waitpid(h->program, &status, 0);
+    while (ended < 0 && errno == EINTR);
+    pass_errors_on(h);
+    close(h->reasons);
+    return ended < 0 ? -1 : status;
+}
+
+/* ---------------------------------------------------------------- a line and its answer */
+
+static int send_all(th_host *h, const char *bytes, size_t length)
+{
+    while (length > 0) {
+        ssize_t sent = send(h->socket, bytes, length, MSG_NOSIGNAL);
+        if (sent < 0) {
+            if (errno == EINTR)
+                continue;
+            thp_break_off(h);
+            errno = EPIPE;
+            return -1;
+        }
+        bytes += sent;
+        length -= (size_t)sent;
+    }
+    return 0;
+}
+
+/* Receives to the end of a line, after which nothing may come: the program answers a line by one line. */
+static int receive_line(th_host *h)
+{
+    struct thp_text *answer = &h->answer;
+    answer->length = 0;
+    for (;;) {
+        char *feed = answer->length > 0 ? memchr(answer->bytes, '\n', answer->length) : NULL;
+        if (feed != NULL) {
+            *feed = '\0';
+            return feed + 1 == answer->bytes + answer->length ? 0 : thp_no_reply(h);
+        }
+        if (thp_room_for(answer, 4096) != 0) {
+            thp_break_off(h);
+            errno = ENOMEM;
+            return -1;
+        }
+        ssize_t got = recv(h->socket, answer->bytes + answer->length, answer->size - answer->length, 0);
+        if (got < 0 && errno == EINTR)
+            continue;
+        if (got <= 0) {
+            thp_break_off(h);
+            errno = EPIPE;
+            return -1;
+        }
+        answer->length += (size_t)got;
+    }
+}
+
+static int pipe_exchange(th_host *h)
+{
+    return send_all(h, h->step.bytes, h->step.length) == 0 ? receive_line(h) : -1;
+}
+
+/* The program has written the reason before its answer. */
+static void pipe_reason(th_host *h, char *reason, size_t size)
+{
+    char more[256];
+    size_t length = 0;
+    for (;;) {
+        size_t room = size - 1 - length;
+        ssize_t got = room > 0 ? read(h->reasons, reason + length, room) : read(h->reasons, more, sizeof more);
+        if (got < 0 && errno == EINTR)
+            continue;
+        if (got <= 0)
+            break;
+        if (room > 0)
+            length += (size_t)got;
+    }
+    reason[length] = '\0';
+}
+
+th_host *th_start(const char *program, const struct th_settings *settings)
+{
+    static const struct thp_transport over_pipe = {pipe_exchange, pipe_reason, pipe_stop, pipe_end};
+    th_host *h = thp_new(&over_pipe, settings);
+    if (h == NULL)
+        return NULL;
+    int error = open_session(h, program);
+    if (error == 0)
+        return h;
+    thp_free(h);
+    errno = error;
+    return NULL;
+}

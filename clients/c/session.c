@@ -1,0 +1,209 @@
+/* A session: tracehost_client.h describes each call. */
+#define _POSIX_C_SOURCE 200809L
+
+#include "internal.h"
+
+#include <stdlib.h>
+#include <string.h>
+
+/* why the calling thread's last step was refused, in the session of this number; as errno, it is the thread's own */
+#if __STDC_VERSION__ >= 201112L
+static _Thread_local
+#else
+static __thread
+#endif
+struct {
+    unsigned long session;
+    char fault[32], reason[1024];
+} refusal;
+
+const char *th_fault(const th_host *h)
+{
+    return refusal.session == h->session ? refusal.fault : "";
+}
+
+const char *th_reason(const th_host *h)
+{
+    return refusal.session == h->session ? refusal.reason : "";
+}
+
+/* ---------------------------------------------------------------- bytes that grow */
+
+int thp_room_for(struct thp_text *text, size_t more)
+{
+    if (text->size - text->length >= more)
+        return 0;
+    size_t size = text->size < 256 ? 256 : text->size;
+    while (size - text->length < more)
+        size *= 2;
+    char *bytes = realloc(text->bytes, size);
+    if (bytes == NULL) {
+        text->failed = 1;
+        return -1;
+    }
+    text->bytes = bytes;
+    text->size = size;
+    return 0;
+}
+
+void thp_add_bytes(struct thp_text *text, const char *bytes, size_t length)
+{
+    if (length > 0 && thp_room_for(text, length) == 0) {
+        memcpy(text->bytes + text->length, bytes, length);
+        text->length += length;
+    }
+}
+
+/* ---------------------------------------------------------------- start and end */
+
+static unsigned long next_session(void)
+{
+    static pthread_mutex_t lock = PTHREAD_MUTEX_INITIALIZER;
+    static unsigned long sessions;
+    pthread_mutex_lock(&lock);
+    unsigned long session = ++sessions;
+    pthread_mutex_unlock(&lock);
+    return session;
+}
+
+th_host *thp_new(const struct thp_transport *transport, const struct th_settings *settings)
+{
+    th_host *h = calloc(1, sizeof *h);
+    if (h == NULL)
+        return NULL;
+    h->transport = transport;
+    h->kills = settings == NULL || settings->kill_on_debugger_exit != 0;
+    h->scenario = h->lines = -1;
+    h->session = next_session();
+    int error = thp_init_threads(h);
+    if (error == 0)
+        return h;
+    free(h);
+    errno = error;
+    return NULL;
+}
+
+void thp_free(th_host *h)
+{
+    thp_close_record(h);
+    thp_end_threads(h);
+    free(h->step.bytes);
+    free(h->answer.bytes);
+    free(h->entry.bytes);
+    free(h);
+}
+
+void thp_break_off(th_host *h)
+{
+    if (!h->broken)
+        h->transport->stop(h);
+    h->broken = 1;
+    thp_wake(h);
+}
+
+int th_close(th_host *h)
+{
+    if (h == NULL)
+        return 0;
+    int status = h->transport->end(h);
+    thp_free(h);
+    return status;
+}
+
+/* ---------------------------------------------------------------- a line and its answer */
+
+int thp_no_reply(th_host *h)
+{
+    thp_break_off(h);
+    errno = EPROTO;
+    return -1;
+}
+
+/* The reason is kept without its indentation and its line feed, and cut. */
+static void note_reason(th_host *h)
+{
+    char bytes[sizeof refusal.reason];
+    h->transport->read_reason(h, bytes, sizeof bytes);
+    size_t length = strlen(bytes);
+    while (length > 0 && bytes[length - 1] == '\n')
+        length--;
+    bytes[length] = '\0';
+    strcpy(refusal.reason, bytes + strspn(bytes, " "));
+}
+
+int thp_refused(const th_host *h)
+{
+    return strncmp(h->answer.bytes, "refused ", 8) == 0;
+}
+
+static void note_refusal(th_host *h)
+{
+    refusal.session = h->session;
+    refusal.fault[0] = refusal.reason[0] = '\0';
+    if (!thp_refused(h))
+        return;
+    size_t length = strcspn(h->answer.bytes + 8, " ");
+    if (length >= sizeof refusal.fault)
+        length = sizeof refusal.fault - 1;
+    memcpy(refusal.fault, h->answer.bytes + 8, length);
+    refusal.fault[length] = '\0';
+    note_reason(h);
+}
+
+/* what is refused, an errno, `held` and `nothing` leave all processes as they were, so that no wait can end by it */
+static int changes_nothing(const th_host *h)
+{
+    const char *at = h->answer.bytes, *word;
+    if (thp_refused(h))
+        return 1;
+    thp_word_length(&at, &word);
+    thp_word_length(&at, &word);
+    return strcmp(at, "nothing") == 0 || strcmp(at, "held") == 0 || strncmp(at, "error ", 6) == 0;
+}
+
+int thp_exchange(th_host *h)
+{
+    thp_add_bytes(&h->step, "\n", 1);
+    if (h->step.failed) {
+        errno = ENOMEM;
+        return -1;
+    }
+    if (h->broken) {
+        errno = EPIPE;
+        return -1;
+    }
+    if (h->transport->exchange(h) != 0)
+        return -1;
+    h->answered = 1;
+    note_refusal(h);
+    if (!changes_nothing(h))
+        thp_wake(h);
+    return thp_record(h);
+}
+
+/* the answer's first size - 1 bytes; its whole length */
+static ssize_t copy_answer(const th_host *h, char *answer, size_t size)
+{
+    size_t length = h->answer.length - 1;
+    if (size > 0) {
+        size_t kept = length < size ? length : size - 1;
+        memcpy(answer, h->answer.bytes, kept);
+        answer[kept] = '\0';
+    }
+    return (ssize_t)length;
+}
+
+ssize_t th_step_text(th_host *h, const char *line, char *answer, size_t size)
+{
+    if (strchr(line, '\n') != NULL) {
+        errno = EINVAL;
+        return -1;
+    }
+    thp_enter(h);
+    h->step.length = 0;
+    h->step.failed = 0;
+    thp_add_bytes(&h->step, line, strlen(line));
+    ssize_t length = thp_exchange(h) == 0 ? copy_answer(h, answer, size) : -1;
+    thp_leave(h);
+    return length;
+}

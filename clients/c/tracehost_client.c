@@ -1,0 +1,11 @@
+/* The client in C, all of it: the one file that a program is compiled with. */
+#include "names.c"
+#include "threads.c"
+#include "steps.c"
+#include "record.c"
+#include "session.c"
+#include "pipe.c"
+#ifdef TRACEHOST_IN_PROCESS
+#include "in_process.c"
+#endif
+#include "calls.c"

@@ -1,0 +1,152 @@
+// tracehost.hpp: lifetimes, copies, errors, threads. C++11 and later.
+#include <tracehost.hpp>
+
+#include <cstdio>
+#include <string>
+#include <thread>
+#include <type_traits>
+#include <utility>
+#include <vector>
+
+static_assert(!std::is_copy_constructible<tracehost_session>::value, "a session is not copied by accident");
+static_assert(!std::is_copy_assignable<tracehost_session>::value, "a session is not copied by accident");
+static_assert(std::is_nothrow_move_constructible<tracehost_session>::value, "a session moves");
+static_assert(std::is_nothrow_move_assignable<tracehost_session>::value, "a session moves");
+static_assert(!std::is_convertible<bool, tracehost_session>::value, "a session is opened by name");
+
+static int failed;
+
+#define CHECK(truth) \
+    do { \
+        if (!(truth)) { \
+            std::printf("FAILED: line %d: %s\n", __LINE__, #truth); \
+            failed = 1; \
+        } \
+    } while (0)
+
+// the call throws std::system_error with this condition
+#define THROWS(condition, call) \
+    do { \
+        bool thrown = false; \
+        try { \
+            call; \
+        } catch (const std::system_error &error) { \
+            thrown = error.code() == (condition); \
+        } \
+        CHECK(thrown && #call); \
+    } while (0)
+
+static std::string line(tracehost_session &session, const std::string &step)
+{
+    uint8_t out[256];
+    size_t length = 0;
+    const uint8_t *bytes = reinterpret_cast<const uint8_t *>(step.data());
+    tracehost_session::check(tracehost_line(session.get(), false, bytes, step.size(), out, sizeof out, &length));
+    return std::string(out, out + length);
+}
+
+static std::vector<uint32_t> pids(tracehost_session &session)
+{
+    std::vector<uint32_t> list(session.call(tracehost_list, 1001, 1000).count);
+    size_t length = 0;
+    tracehost_session::check(tracehost_numbers(session.get(), list.data(), list.size(), &length));
+    CHECK(length == list.size());
+    return list;
+}
+
+// a session whose process 1000 has attached to process 1001
+static tracehost_session attached()
+{
+    tracehost_session session;
+    const tracehost_reply debugger = session.call(tracehost_spawn, 1001), target = session.call(tracehost_spawn, 1001);
+    CHECK(debugger.kind == TRACEHOST_NEW && debugger.pid == 1000 && debugger.lwp == 100000 && target.pid == 1001);
+    const auto reply = session.call(tracehost_ptrace, 1001, debugger.pid, TRACEHOST_PT_ATTACH, target.pid, 0);
+    CHECK(reply.kind == TRACEHOST_OK);
+    return session;
+}
+
+static bool reports_stop(tracehost_session &session)
+{
+    const auto reply = session.call(tracehost_wait4, 1001, 1000, -1, 0);
+    return reply.kind == TRACEHOST_STATUS && reply.pid == 1001 && reply.status == 17 * 256 + 127;
+}
+
+static void replies()
+{
+    tracehost_session session = attached();
+    CHECK(reports_stop(session));
+    const auto refused = session.call(tracehost_ptrace, 1001, 1000, TRACEHOST_PT_ATTACH, 99, 0);
+    CHECK(refused.kind == TRACEHOST_ERROR && refused.error == 3);
+    CHECK((pids(session) == std::vector<uint32_t>{1000, 1001}));
+    CHECK(line(session, "{\"user\":1001,\"op\":\"spawn\"}") == "1001 7 new 1002 100002\n");
+    CHECK(line(session, "{}") == "refused BadShape\n");
+    const tracehost_rule leave[17] = {{0, 0, TRACEHOST_LEAVE, 0}};
+    CHECK(session.call(tracehost_install, 1001, 1000, leave, 1).kind == TRACEHOST_OK);
+    THROWS(std::errc::invalid_argument, session.call(tracehost_install, 1001, 1000, leave, 17));
+    THROWS(std::errc::invalid_argument, session.call(tracehost_spawn, 1065));
+    CHECK(line(session, "{\"user\":1001,\"op\":\"spawn\"}") == "1001 9 new 1003 100003\n");
+}
+
+static void settings()
+{
+    for (bool kills : {false, true}) {
+        tracehost_session session(kills);
+        for (int i = 0; i < 3; i++)
+            session.call(tracehost_spawn, 1001);
+        session.call(tracehost_ptrace, 1001, 1000, TRACEHOST_PT_ATTACH, 1001, 0);
+        CHECK(session.call(tracehost_turn, 1001, 100000, TRACEHOST_RAISE, 0, 9).kind == TRACEHOST_ENDED);
+        CHECK(session.call(tracehost_list, 1001, 1002).count == (kills ? 1u : 2u));
+    }
+}
+
+static void copies()
+{
+    tracehost_session session = attached(), copy = session.copy();
+    CHECK(reports_stop(copy) && reports_stop(session));
+    copy.call(tracehost_spawn, 1001);
+    CHECK((pids(copy) == std::vector<uint32_t>{1000, 1001, 1002}));
+    CHECK((pids(session) == std::vector<uint32_t>{1000, 1001}));
+}
+
+static void moves()
+{
+    tracehost_session session = attached(), other;
+    tracehost_session moved(std::move(session));
+    THROWS(std::errc::bad_file_descriptor, session.call(tracehost_spawn, 1001));
+    THROWS(std::errc::bad_file_descriptor, session.copy());
+    other = std::move(moved);
+    THROWS(std::errc::bad_file_descriptor, moved.call(tracehost_spawn, 1001));
+    CHECK(reports_stop(other));
+    tracehost_session &self = other;
+    other = std::move(self);
+    CHECK((pids(other) == std::vector<uint32_t>{1000, 1001}));
+    std::vector<tracehost_session> sessions;
+    for (int i = 0; i < 20; i++)
+        sessions.push_back(attached());
+    for (auto &each : sessions)
+        CHECK(reports_stop(each));
+}
+
+static void threads()
+{
+    tracehost_session session = attached();
+    bool reported = false;
+    std::thread([&session, &reported] {
+        tracehost_session here(std::move(session));
+        reported = reports_stop(here);
+        session = std::move(here);
+    }).join();
+    CHECK(reported && (pids(session) == std::vector<uint32_t>{1000, 1001}));
+}
+
+int main()
+{
+    replies();
+    settings();
+    copies();
+    moves();
+    threads();
+    if (!failed)
+        std::printf("the tests of tracehost.hpp passed\n");
+    return failed;
+}

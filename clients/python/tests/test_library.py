@@ -1,0 +1,264 @@
+"""How `Host` chooses between the library and the program, and what the library has to do. TRACEHOST_LIBRARY names the
+library, TRACEHOST the program."""
+
+from __future__ import annotations
+
+import os
+import pathlib
+import sys
+import unittest
+from typing import Any
+from unittest import mock
+
+sys.path.insert(0, str(pathlib.Path(__file__).resolve().parents[1]))
+from tracehost import (
+    Block,
+    Call,
+    Decision,
+    DueStop,
+    Enter,
+    EventMask,
+    Host,
+    Leave,
+    LwpMode,
+    LwpRow,
+    New,
+    ProcessRow,
+    ProcessState,
+    ProgramEnded,
+    Raise,
+    RefusedStep,
+    Request,
+    Rule,
+    Signal,
+    StopFlag,
+    View,
+)
+
+NONE: frozenset[Signal] = frozenset()
+
+
+class Views(unittest.TestCase):
+    """`User.view`: the rows as the rules of docs/MACHINE.md make them."""
+
+    def setUp(self) -> None:
+        self.host = Host(transport="library")
+        self.addCleanup(self.host.close)
+        self.user = self.host.user(1001)
+
+    def test_not_over_a_pipe(self) -> None:
+        with Host(transport="pipe") as host:
+            with self.assertRaisesRegex(NotImplementedError, "view: .*transport='library'"):
+                host.user(1001).view()
+
+    def test_no_rows(self) -> None:
+        self.assertEqual(self.user.view(), View((), ()))
+        for uid in (1000, 1065, -1, (1 << 32) + 1001):
+            with self.assertRaises(ValueError):
+                self.host.user(uid).view()
+
+    def process(self, pid: int, **fields: Any) -> ProcessRow:
+        """A new process, but for these fields."""
+        row = ProcessRow(
+            pid, 1, None, ProcessState.RUNS, None, None, False, None, False, EventMask.PTRACE_EXEC, NONE
+        )
+        return row._replace(**fields)
+
+    def lwp(self, lwp: int, pid: int, **fields: Any) -> LwpRow:
+        row = LwpRow(lwp, pid, LwpMode.RUNS, None, 0, None, False, False, NONE, NONE, None, StopFlag(0), 0, 0)
+        return row._replace(**fields)
+
+    def test_a_stop_and_signals(self) -> None:
+        debugger, target = self.user.process(self.user.spawn()), self.user.spawn()
+        self.host.user(1002).spawn()
+        self.user.turn(target.tid, Block([Signal.SIGTERM]))
+        debugger.ptrace(Request.PT_ATTACH, target.pid)
+        debugger.kill(target.pid, Signal.SIGTERM)
+        stopped = self.process(
+            1001,
+            tracer=1000,
+            state=ProcessState.TRACE_STOP,
+            stop_lwp=100001,
+            stop_signal=Signal.SIGSTOP,
+            pending=frozenset({Signal.SIGTERM}),
+        )
+        lwps = (self.lwp(100000, 1000), self.lwp(100001, 1001, blocked=frozenset({Signal.SIGTERM})))
+        processes = self.user.view().processes
+        self.assertEqual(processes[0].pid, 1000)
+        self.assertEqual(processes[1]._replace(events=EventMask.PTRACE_EXEC), stopped)
+        self.assertEqual(tuple(row._replace(flags=StopFlag(0)) for row in self.user.view().lwps), lwps)
+        debugger.wait4()
+        self.assertTrue(self.user.view().processes[1].reported)
+
+    def test_calls_and_a_zombie(self) -> None:
+        parent = self.user.spawn()
+        self.user.turn(parent.tid, Enter(Call.VFORK))
+        self.assertEqual((self.user.view().lwps[0].mode, self.user.view().lwps[0].call), (LwpMode.IN_CALL, Call.VFORK))
+        child = self.user.turn(parent.tid, Leave())
+        self.assertEqual(child, New(1001, 100001))
+        first = self.user.view().lwps[0]
+        self.assertEqual((first.mode, first.vfork_child), (LwpMode.WAITS_FOR_VFORK, 1001))
+        self.user.turn(100001, Enter(Call.EXIT, 3))
+        in_exit = self.user.view().lwps[1]
+        self.assertEqual((in_exit.call, in_exit.argument), (Call.EXIT, 3))
+        self.user.turn(100001, Leave())
+        zombie = self.user.view().processes[1]
+        self.assertEqual((zombie.parent, zombie.state, zombie.status), (1000, ProcessState.ZOMBIE, 3 * 256))
+
+    def test_a_new_lwp(self) -> None:
+        """The first stop of a traced process's new LWP is due at its first turn."""
+        debugger, target = self.user.process(self.user.spawn()), self.user.spawn()
+        debugger.ptrace(Request.PT_ATTACH, target.pid)
+        debugger.wait4()
+        debugger.ptrace(Request.PT_LWP_EVENTS, target.pid, 1)
+        debugger.ptrace(Request.PT_CONTINUE, target.pid)
+        self.user.turn(target.tid, Enter(Call.THR_NEW))
+        self.user.turn(target.tid, Leave())
+        self.assertEqual(self.user.view().lwps[2].due, DueStop.BORN)
+
+    def test_many_rows(self) -> None:
+        """More rows than any buffer that the client begins with, and as many numbers in a list."""
+        for _ in range(250):
+            self.user.spawn()
+        view = self.user.view()
+        self.assertEqual(view.processes[249].pid, 1249)
+        self.assertEqual(view.lwps[249], self.lwp(100249, 1249))
+        self.assertEqual(self.user.process(1000).list(), tuple(range(1000, 1250)))
+
+
+class Choices(unittest.TestCase):
+    """Which of both a `Host` takes."""
+
+    def transport_of(self, names_library: bool, names_program: bool, **arguments: Any) -> str:
+        environment = {
+            name: os.environ[name]
+            for name, is_given in (("TRACEHOST_LIBRARY", names_library), ("TRACEHOST", names_program))
+            if is_given
+        }
+        rest = {name: value for name, value in os.environ.items() if not name.startswith("TRACEHOST")}
+        with mock.patch.dict(os.environ, {**rest, **environment}, clear=True):
+            with Host(**arguments) as host:
+                host.user(1001).spawn()
+                return host.transport
+
+    def test_what_is_taken(self) -> None:
+        self.assertEqual(self.transport_of(True, False), "library")
+        self.assertEqual(self.transport_of(True, True), "library")
+        self.assertEqual(self.transport_of(False, True), "pipe")
+        self.assertEqual(self.transport_of(True, True, transport="pipe"), "pipe")
+        self.assertEqual(self.transport_of(True, True, program=os.environ["TRACEHOST"]), "pipe")
+        self.assertEqual(self.transport_of(True, False, transport="library"), "library")
+
+    def test_what_is_not_there(self) -> None:
+        with mock.patch.dict(os.environ, {"TRACEHOST_LIBRARY": "/nowhere/libtracehost.so"}):
+            for transport in (None, "library"):
+                with self.assertRaisesRegex(OSError, "/nowhere/libtracehost.so"):
+                    Host(transport=transport)  # type: ignore[arg-type]
+        with mock.patch.dict(os.environ, {"TRACEHOST_LIBRARY": "libc.so.6"}):
+            with self.assertRaisesRegex(OSError, "libc.so.6: no library of tracehost"):
+                Host()
+        with self.assertRaises(ValueError):
+            Host(transport="socket")  # type: ignore[arg-type]
+        with self.assertRaises(ValueError):
+            Host("tracehost", transport="library")
+
+
+class Mixed(unittest.TestCase):
+    """Typed calls and steps as text, in one session."""
+
+    def test_long_lists(self) -> None:
+        """As many numbers as a user may have, which no room has that the client begins with."""
+        with Host(transport="library") as host:
+            user = host.user(1001)
+            self.assertEqual([user.spawn() for _ in range(250)][249], New(1249, 100249))
+            self.assertEqual(user.process(1000).list(), tuple(range(1000, 1250)))
+            line = host.step({"user": 1001, "op": "list", "caller": 1000})
+            self.assertEqual(line, "1001 252 pids " + " ".join(map(str, range(1000, 1250))))
+
+    def test_two_sessions(self) -> None:
+        """Each `Host` has a session of its own; the end of one is not the other's."""
+        with Host(transport="library") as one, Host(transport="library") as other:
+            one.user(1001).spawn()
+            self.assertEqual(other.user(1001).spawn(), New(1000, 100000))
+            one.close()
+            with self.assertRaises(ProgramEnded):
+                one.user(1001).spawn()
+            self.assertEqual(other.user(1001).spawn(), New(1001, 100001))
+
+    def test_handlers_and_blocked_signals(self) -> None:
+        """What the typed call refuses is refused as its line is."""
+        with Host(transport="library") as host:
+            user = host.user(1001)
+            new = user.spawn()
+            user.process(new).install([Rule(Decision.LEAVE)])
+            self.assertIsNone(user.turn(new.tid, Block([1, 31])))
+            for signals in ([0], [32]):
+                with self.assertRaises(RefusedStep) as caught:
+                    user.turn(new.tid, Block(signals))
+                self.assertEqual(caught.exception.fault, "BadNumber")
+            self.assertEqual(host.step({"user": 1001, "op": "spawn"}), "1001 4 new 1001 100001")
+
+    def test_they_count_together(self) -> None:
+        with Host(transport="library") as host:
+            user = host.user(1001)
+            user.spawn()
+            self.assertEqual(host.step({"user": 1001, "op": "spawn"}), "1001 2 new 1001 100001")
+            user.process(1000).list()
+            with self.assertRaises(RefusedStep):  # no step, and not counted
+                user.process(1000).kill(1000, 1 << 32)
+            self.assertEqual(host.line('{"user":1001,"op":"list","caller":1000}'), "1001 4 pids 1000 1001")
+
+
+class Copies(unittest.TestCase):
+    """`Host.copy`: the same rows, settings and numbers of steps; afterwards each goes its own way."""
+
+    def setUp(self) -> None:
+        self.host = Host(transport="library", kill_on_debugger_exit=False)
+        self.addCleanup(self.host.close)
+        self.user = self.host.user(1001)
+        self.debugger, self.target = self.user.process(self.user.spawn()), self.user.spawn()
+        self.debugger.ptrace(Request.PT_ATTACH, self.target.pid)
+
+    def test_a_copy_goes_its_own_way(self) -> None:
+        with self.host.copy() as copy:
+            self.assertEqual(copy.transport, "library")
+            user = copy.user(1001)
+            self.assertEqual(user.view(), self.user.view())
+            self.assertEqual(user.process(1000).wait4().pid, 1001)
+            user.process(1000).ptrace(Request.PT_KILL, 1001)
+            self.assertEqual(user.spawn(), New(1002, 100002))
+            # the debugger of the first session still has its first wait
+            self.assertEqual(self.debugger.wait4().word, 17 * 256 + 127)
+            self.assertEqual(self.debugger.list(), (1000, 1001))
+            self.assertEqual(user.process(1000).list(), (1000, 1001, 1002))
+
+    def test_the_number_of_the_next_step(self) -> None:
+        with self.host.copy() as copy:
+            for host in (self.host, copy):
+                self.assertEqual(host.step({"user": 1001, "op": "spawn"}), "1001 4 new 1002 100002")
+
+    def test_the_setting(self) -> None:
+        """kern.kill_on_debugger_exit is 0 in the copy too: the tracee of an ended debugger lives."""
+        with self.host.copy() as copy:
+            user = copy.user(1001)
+            user.turn(100000, Raise(Signal.SIGKILL))
+            self.assertEqual(user.process(user.spawn()).list(), (1001, 1002))
+
+    def test_a_copy_outlives_the_first(self) -> None:
+        copy = self.host.copy()
+        self.host.close()
+        with copy:
+            self.assertEqual(copy.user(1001).process(1000).list(), (1000, 1001))
+        with self.assertRaises(ProgramEnded):
+            self.host.copy()
+
+    def test_not_over_a_pipe(self) -> None:
+        with Host(transport="pipe") as host:
+            with self.assertRaisesRegex(NotImplementedError, "copy: .*transport='library'"):
+                host.copy()
+            with self.assertRaisesRegex(NotImplementedError, "view: .*transport='library'"):
+                host.user(1001).view()
+
+
+if __name__ == "__main__":
+    unittest.main()

@@ -1,0 +1,157 @@
+"""The prompt: by lines on a pipe, and by keys on a terminal. The program is the one that TRACEHOST names."""
+
+from __future__ import annotations
+
+import io
+import json
+import os
+import pathlib
+import pty
+import select
+import subprocess
+import sys
+import tempfile
+import time
+import unittest
+
+CLIENT = pathlib.Path(__file__).resolve().parents[1]
+sys.path.insert(0, str(CLIENT))
+from tracehost.completion import complete_words
+from tracehost.manual import explain, topics
+from tracehost.names import Call, Request, Signal
+from tracehost.shell import Shell
+from tracehost.shell_words import ACTS, CALLER_OPS, Unclear, step_of
+
+
+class Words(unittest.TestCase):
+    def test_steps(self) -> None:
+        """Each kind of step, against its keys in docs/FORMAT.md."""
+        steps = {
+            "spawn": '{"op":"spawn"}',
+            "1000 list": '{"op":"list","caller":1000}',
+            "1000 handle": '{"op":"handle","caller":1000}',
+            "1000 wait4": '{"op":"wait4","caller":1000,"which":-1}',
+            "1000 wait4 1001 WNOHANG": '{"op":"wait4","caller":1000,"which":1001,"options":["WNOHANG"]}',
+            "1000 kill -1 SIGTERM": '{"op":"kill","caller":1000,"which":-1,"signal":15}',
+            "1000 sigaction 20 catch": '{"op":"sigaction","caller":1000,"signal":20,"action":"catch"}',
+            "1000 ptrace PT_ATTACH 1001": '{"op":"ptrace","caller":1000,"request":"PT_ATTACH","target":1001}',
+            "1000 PT_STEP 1001 SIGUSR1": '{"op":"ptrace","caller":1000,"request":"PT_STEP","target":1001,"data":30}',
+            "1000 PT_TRACE_ME": '{"op":"ptrace","caller":1000,"request":"PT_TRACE_ME"}',
+            "1000 PT_SET_EVENT_MASK 1001 PTRACE_FORK PTRACE_SYSCALL": (
+                '{"op":"ptrace","caller":1000,"request":"PT_SET_EVENT_MASK","target":1001,'
+                '"mask":["PTRACE_FORK","PTRACE_SYSCALL"]}'
+            ),
+            "1000 install continue SIGTRAP PL_FLAG_SCE, detach SIGUSR1 pass 15": (
+                '{"op":"install","caller":1000,"rules":[{"decision":"continue","flags":["PL_FLAG_SCE"],"signal":5},'
+                '{"decision":"detach","pass":15,"signal":30}]}'
+            ),
+            "turn 100001 compute": '{"op":"turn","lwp":100001,"act":"compute"}',
+            "100001 enter exit 3": '{"op":"turn","lwp":100001,"act":"enter","call":"exit","code":3}',
+            "100001 raise SIGSEGV": '{"op":"turn","lwp":100001,"act":"raise","signal":11}',
+            "100001 block SIGINT 15": '{"op":"turn","lwp":100001,"act":"block","set":[2,15]}',
+        }
+        for words, wanted in steps.items():
+            self.assertEqual(step_of(words.split(), 1001), {"user": 1001, **json.loads(wanted)}, words)
+
+    def test_what_is_no_step(self) -> None:
+        for words in ("", "fly", "1000", "1000 fly", "1000 PT_FOO 1001", "turn", "100001", "100001 fly", "1000 kill 1"):
+            with self.assertRaises(Unclear, msg=words):
+                step_of(words.split(), 1001)
+
+    def test_completion(self) -> None:
+        answers = ["1001 1 new 1000 100000", "1001 2 new 1001 100001", "1001 3 pids 1000 1001 1002"]
+        self.assertEqual(complete_words([], "10", answers), ["1000", "100000", "100001", "1001", "1002"])
+        self.assertEqual(complete_words(["1000"], "PT_CO", answers), ["PT_CONTINUE"])
+        self.assertEqual(complete_words(["1000", "wait4"], "W", answers), ["WCONTINUED", "WNOHANG", "WUNTRACED"])
+        self.assertEqual(complete_words(["1000", "PT_ATTACH"], "100", answers)[-1], "1002")
+        self.assertEqual(complete_words(["1000", "PT_CONTINUE", "1001"], "SIGUS", answers), ["SIGUSR1", "SIGUSR2"])
+        self.assertEqual(complete_words(["turn"], "", answers), ["100000", "100001"])
+        self.assertEqual(complete_words(["100001"], "e", answers), ["enter"])
+        self.assertEqual(complete_words(["100001", "enter"], "v", answers), ["vfork"])
+        self.assertEqual(complete_words(["help"], "PT_D", answers), ["PT_DETACH"])
+
+    def test_help_for_every_name(self) -> None:
+        calls = {call.value for call in Call}
+        names = {"spawn", "turn", *CALLER_OPS, *ACTS, *calls, *Request.__members__, *Signal.__members__}
+        self.assertEqual(names - set(topics()), {"list"})  # the prompt's own command has its help
+        for name in topics():
+            self.assertNotIn("No help", explain(name))
+
+
+class Sessions(unittest.TestCase):
+    def setUp(self) -> None:
+        room = tempfile.TemporaryDirectory()
+        self.addCleanup(room.cleanup)
+        self.room = pathlib.Path(room.name)
+
+    def output(self, *lines: str) -> str:
+        """What the prompt prints for these lines."""
+        text = io.StringIO()
+        shell = Shell(stdout=text)
+        self.addCleanup(shell.close)
+        for line in lines:
+            shell.onecmd(line)
+        return text.getvalue()
+
+    def test_undo_runs_the_session_again(self) -> None:
+        text = self.output("spawn", "spawn", "1000 PT_ATTACH 1001", "1000 wait4", "undo 2", "1000 wait4", "1000 list")
+        self.assertIn("status 1001 4479   (stopped SIGSTOP)", text)
+        self.assertIn("2 undone, 2 left\n1001 3 error ECHILD 10\n1001 4 pids 1000 1001\n", text)
+
+    def test_save_and_view(self) -> None:
+        scenario, page = self.room / "s.json", self.room / "s.html"
+        text = self.output("spawn", "user 1002", "spawn", f"save {scenario}", f"view {page}", "list", "save /nowhere/s")
+        self.assertEqual([step["user"] for step in json.loads(scenario.read_text())["steps"]], [1001, 1002])
+        self.assertIn(page.as_uri(), text)
+        self.assertIn(r"\"pid\":2000,\"lwp\":104000", page.read_text())
+        self.assertIn('   2 {"user":1002,"op":"spawn"}\n     1002 1 new 2000 104000\n', text)
+        self.assertIn("/nowhere/s: No such file or directory", text)
+
+    def test_what_is_no_step(self) -> None:
+        text = self.output('{"user":1001,"op":"fly"}', "fly", "", "user 7", "help PT_CONTINUE", "help undo")
+        self.assertRegex(text, 'refused BadName: op: "fly"')
+        self.assertIn("no step: fly", text)
+        self.assertIn("Resumes the target", text)
+        self.assertIn("takes back the last step", text)
+
+    def test_lines_on_a_pipe(self) -> None:
+        command = [sys.executable, "-m", "tracehost.shell"]
+        environment = {**os.environ, "PYTHONPATH": str(CLIENT)}
+        done = subprocess.run(command, input="spawn\n1000 list\n", stdout=subprocess.PIPE, text=True, env=environment)
+        self.assertEqual((done.stdout, done.returncode), ("1001 1 new 1000 100000\n1001 2 pids 1000\n\n", 0))
+
+    def test_keys_on_a_terminal(self) -> None:
+        """`python -m tracehost` without words: completion by Tab, the last line by the arrow, Control-D ends it."""
+        environment = {**os.environ, "PYTHONPATH": str(CLIENT), "TERM": "dumb"}
+        environment["TRACEHOST_HISTORY"] = str(self.room / "h")
+        mine, its = pty.openpty()
+        command = [sys.executable, "-m", "tracehost"]
+        child = subprocess.Popen(command, stdin=its, stdout=its, stderr=its, env=environment)
+        os.close(its)
+        self.addCleanup(os.close, mine)
+        self.addCleanup(child.wait)
+        self.addCleanup(child.kill)
+        self.until(mine, "tracehost> ")
+        for keys, wanted in (
+            ("spa\t\r", "1001 1 new 1000 100000"),
+            ("\x1b[A\r", "1001 2 new 1001 100001"),
+            ("1000 PT_AT\t 1001\r", "1001 3 ok"),
+        ):
+            os.write(mine, keys.encode())
+            self.until(mine, wanted)
+            self.until(mine, "tracehost> ")
+        os.write(mine, b"\x04")
+        self.assertEqual(child.wait(60), 0)
+        self.assertIn("1000 PT_ATTACH", (self.room / "h").read_text())
+
+    def until(self, terminal: int, wanted: str) -> None:
+        """Reads until the terminal shows this."""
+        shown, end = "", time.monotonic() + 60
+        while wanted not in shown:
+            ready, _, _ = select.select([terminal], [], [], max(0, end - time.monotonic()))
+            self.assertTrue(ready, f"{wanted!r} isn't shown: {shown!r}")
+            shown += os.read(terminal, 1).decode()
+
+
+if __name__ == "__main__":
+    unittest.main()

@@ -1,0 +1,48 @@
+"""A client of tracehost: FreeBSD's ptrace(2), wait(2), sigaction(2) and kill(2), answered by a model.
+
+    from tracehost import Host, Request
+
+    with Host(record="session.json") as host:
+        user = host.user(1001)
+        debugger = user.process(user.spawn())
+        target = user.spawn()
+        debugger.ptrace(Request.PT_ATTACH, target.pid)
+        print(debugger.wait4())                                     # Waited(pid=1001, status=4479)
+        print(debugger.ptrace(Request.PT_LWPINFO, target.pid))      # LwpInfo(pl_lwpid=100001, ..)
+
+A `Host` is a session: in this process, where the library libtracehost.so is found, else in a program at the end of a
+pipe. A `User` makes the steps that have no caller: a new process, the turn of an LWP. A `Process` is a caller, and has
+the calls of the manual pages. A call returns what the manual page says, or raises:
+
+- `OSError` with the host's number of the errno that the model answers by name, so that ESRCH is `ProcessLookupError`,
+  EPERM `PermissionError`, ECHILD `ChildProcessError` and EAGAIN `BlockingIOError`;
+- `Held` where the caller, or the LWP at its turn, doesn't run;
+- `RefusedStep` where the program takes what was sent for no step (a user outside 1001 to 1064, a 17th rule), with the
+  reason and the line;
+- `ProgramEnded` where the program has ended, `ProtocolError` where a line can't be understood.
+
+``tracehost session.json`` prints the lines of the recorded session again, and `view` makes a page that shows it.
+``block=True`` lets `wait4`, `handle` and `turn` sleep until another thread's step has brought news; `Host.run` runs
+functions by turns, so that the steps are the same in every run. Over the library `User.view` shows a
+user's rows. The module `tracehost.pytest_plugin` has a fixture for
+pytest, `tracehost.strategies` and `tracehost.stateful` are for Hypothesis. ``python -m tracehost.shell`` is a prompt.
+
+Signals and the codes of system calls have FreeBSD's numbers, whatever the machine. Names are those of <sys/ptrace.h>,
+<sys/signal.h> and <sys/wait.h>. docs/LINES.md describes the protocol, docs/FORMAT.md the meaning of each call.
+"""
+
+from .errors import Held, ProgramEnded, ProtocolError, RefusedStep
+from .host import Host, Process, User
+from .names import Action, Call, Decision, EventMask, LwpEvent, Request, Signal, StopFlag, WaitOption
+from .naming import describe
+from .replies import Caught, Ended, Handled, LwpInfo, New, Stopped, Turned, Waited
+from .rows import DueStop, LwpMode, LwpRow, ProcessRow, ProcessState, View
+from .steps import Act, Block, Compute, Enter, Leave, Raise, Rule
+from .viewing import view
+
+__all__ = [
+    "Act", "Action", "Block", "Call", "Caught", "Compute", "Decision", "DueStop", "Ended", "Enter", "EventMask",
+    "Handled", "Held", "Host", "Leave", "LwpEvent", "LwpInfo", "LwpMode", "LwpRow", "New", "Process", "ProcessRow",
+    "ProcessState", "ProgramEnded", "ProtocolError", "Raise", "RefusedStep", "Request", "Rule", "Signal", "StopFlag",
+    "Stopped", "Turned", "User", "View", "WaitOption", "Waited", "describe", "view",
+]  # fmt: skip

@@ -1,0 +1,80 @@
+"""What can come next at the prompt: ops, requests, names, and the numbers in sight."""
+
+from __future__ import annotations
+
+from collections.abc import Iterable, Sequence
+
+from .manual import topics
+from .names import OPTIONS, STOP_FLAGS, Action, Call, Decision, Request, Signal
+from .shell_words import ACTS, CALLER_OPS, FIRST_LWP, MASKS
+
+_SIGNALS = list(Signal.__members__)
+
+
+def complete_words(before: Sequence[str], text: str, answers: Iterable[str]) -> list[str]:
+    """The words that begin with `text` and can follow these."""
+    pids, lwps = numbers_in_sight(answers)
+    return sorted({word for word in _next(list(before), pids, lwps) if word.startswith(text)})
+
+
+def numbers_in_sight(answers: Iterable[str]) -> tuple[list[str], list[str]]:
+    """The processes and the LWPs that the lines of the answers name."""
+    pids: set[str] = set()
+    lwps: set[str] = set()
+    for answer in answers:
+        words = answer.split()[2:]
+        if words[0] == "new":
+            pids.add(words[1])
+            lwps.add(words[2])
+        elif words[0] == "pids":
+            pids.update(words[1:])
+        elif words[0] == "lwps":
+            lwps.update(words[1:])
+        elif words[0] in ("stopped", "info"):
+            lwps.add(words[1])
+        pids.update(word[6:] for word in words if word.startswith("child=") and word != "child=0")
+    return sorted(pids), sorted(lwps)
+
+
+def _next(before: list[str], pids: list[str], lwps: list[str]) -> list[str]:
+    if not before:
+        return ["spawn", "turn", *pids, *lwps]
+    if before[0] == "help":
+        return topics()
+    if before[0] == "turn" or (before[0].isdecimal() and int(before[0]) >= FIRST_LWP):
+        return _next_of_turn(before[1:] if before[0] == "turn" else before, lwps)
+    if not before[0].isdecimal():
+        return []
+    rest = before[1:]
+    if not rest:
+        return [*CALLER_OPS, *Request.__members__]
+    return _next_of_call(rest, pids, lwps)
+
+
+def _next_of_turn(words: list[str], lwps: list[str]) -> list[str]:
+    if len(words) < 2:
+        return [list(lwps), list(ACTS)][len(words)]
+    if words[1] == "enter" and len(words) == 2:
+        return [call.value for call in Call]
+    return _SIGNALS if words[1] == "block" or (words[1] == "raise" and len(words) == 2) else []
+
+
+def _next_of_call(words: list[str], pids: list[str], lwps: list[str]) -> list[str]:
+    if words[0] in Request.__members__:
+        words = ["ptrace", *words]
+    op, count = words[0], len(words)
+    if op == "ptrace":
+        if count == 1:
+            return list(Request.__members__)
+        if count == 2:
+            return [*pids, *lwps]
+        return list(MASKS) if words[1] == "PT_SET_EVENT_MASK" else _SIGNALS
+    if op == "wait4":
+        return [*pids, "-1", *OPTIONS]
+    if op == "kill":
+        return [*pids, "-1"] if count == 1 else _SIGNALS
+    if op == "sigaction":
+        return _SIGNALS if count == 1 else [action.value for action in Action]
+    if op == "install":
+        return [*(decision.value for decision in Decision), *_SIGNALS, *STOP_FLAGS, "pass"]
+    return []

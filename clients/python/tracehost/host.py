@@ -1,0 +1,375 @@
+"""A session: the host, its users, and the processes that make calls."""
+
+from __future__ import annotations
+
+import errno
+import json
+import os
+import threading
+import time
+from collections.abc import Callable, Iterable, Mapping
+from types import TracebackType
+from typing import Any, Literal, Optional, Union, overload
+
+from .blocking import Progress
+from .checks import number_of_process, of_kind, whole, word
+from .errors import Held
+from .library import Session, find
+from .names import ALL_EVENTS, OPTIONS, Action, EventMask, Request, WaitOption, names_of
+from .pipe import Pipe
+from .program import default
+from .recording import Recording
+from .replies import NOTHING, Handled, LwpInfo, New, Turned, Waited
+from .rows import View, lwp_row, process_row
+from .steps import Act, Rule, check_act
+from .text import Sent, TextCalls, words_of
+from .typed import NotTyped, TypedCalls
+
+_ENCODE = json.JSONEncoder(separators=(",", ":")).encode
+
+
+class Host:
+    """A session with a new host. Threads may share it: calls wait for each other."""
+
+    transport: Literal["library", "pipe"]
+    """Whether the session is in this process, or in a running ``tracehost --lines``."""
+
+    def __init__(
+        self,
+        program: str | os.PathLike[str] | None = None,
+        *,
+        transport: Literal["library", "pipe"] | None = None,
+        kill_on_debugger_exit: bool | None = None,
+        record: str | os.PathLike[str] | None = None,
+        record_lines: str | os.PathLike[str] | None = None,
+        explain: bool = True,
+    ) -> None:
+        """Opens a session of the library, or starts a program.
+
+        `program` is what a pipe leads to. Without it: what the environment's ``TRACEHOST`` names, else the program that
+        was installed with this package, else ``tracehost`` on the path. The library is what ``TRACEHOST_LIBRARY``
+        names, else the package's own. Without `transport` the session is in the library if ``TRACEHOST_LIBRARY`` is
+        set, or if there is one and neither `program` nor ``TRACEHOST`` names a program.
+
+        `kill_on_debugger_exit` is the sysctl kern.kill_on_debugger_exit: whether the end of a debugger kills the
+        processes that it traces. `record` is a file that becomes a scenario with the steps of the session, and is one
+        after each step; `record_lines` gets the lines that were answered, for ``--expect``. With `explain` the program
+        says why it refuses a step, which is `RefusedStep.reason`; without it the program's standard error is this
+        process's. The library gives no reasons. Raises OSError where the program can't be started, the library can't be
+        loaded, or a file can't be made.
+        """
+        if record is None and record_lines is not None:
+            raise ValueError("record_lines goes with record")
+        if transport not in (None, "library", "pipe"):
+            raise ValueError(f"transport: expected 'library' or 'pipe', got {transport!r}")
+        if transport == "library" and program is not None:
+            raise ValueError("program: it goes with a pipe")
+        wants_library = transport == "library"
+        library = None
+        if wants_library or (transport is None and program is None and _may_be_library()):
+            library = find(needed=wants_library)
+        recording = None if record is None else Recording(record, kill_on_debugger_exit, record_lines)
+        made: Union[Session, Pipe]
+        try:
+            if library is not None:
+                made = Session(library, kill_on_debugger_exit is not False)
+            else:
+                made = Pipe(_command(program, kill_on_debugger_exit, explain), keep_errors=explain)
+        except BaseException:
+            if recording is not None:
+                recording.close()
+            raise
+        self._begin(made, recording)
+
+    def _begin(self, made: Union[Session, Pipe], recording: Optional[Recording]) -> None:
+        self._made = made
+        self._recording = recording
+        self._progress = Progress()
+        self._lock = threading.Lock()
+        self._text = TextCalls(made, self._progress, recording)
+        self._typed = TypedCalls(made, self._progress) if isinstance(made, Session) and recording is None else None
+        self.transport = "library" if isinstance(made, Session) else "pipe"
+
+    def __enter__(self) -> Host:
+        return self
+
+    def __exit__(
+        self, kind: type[BaseException] | None, error: BaseException | None, trace: TracebackType | None
+    ) -> None:
+        self.close()
+
+    def close(self) -> int:
+        """Ends the session, waits for the program, and returns its exit status. Closing again does nothing more.
+
+        A call of another thread that sleeps raises ProgramEnded.
+        """
+        with self._lock:
+            status = self._made.close()
+        if self._recording is not None:
+            self._recording.close()
+        self._progress.close()
+        return status
+
+    def copy(self) -> Host:
+        """A host at the present state of this one: the same machine, with no recording. Both then go their own ways.
+
+        Raises NotImplementedError over a pipe, ProgramEnded and MemoryError.
+        """
+        with self._lock:
+            if not isinstance(self._made, Session):
+                raise NotImplementedError("copy: it needs transport='library'")
+            made = self._made.copy()
+        host = Host.__new__(Host)
+        host._begin(made, None)
+        return host
+
+    def line(self, text: str) -> str:
+        """Sends a line as it is, and returns the line of its answer, without their line feeds.
+
+        It raises nothing for `refused`, `held` and `error`. Raises ValueError where `text` has a line feed of its own,
+        and ProgramEnded.
+        """
+        if "\n" in text:
+            raise ValueError("a line feed ends the line")
+        return self._send(text).line
+
+    def step(self, step: Mapping[str, Any]) -> str:
+        """Sends a step as docs/FORMAT.md describes it, and returns the line of its answer.
+
+        It raises what the other calls raise: RefusedStep, Held and OSError.
+        """
+        text = _ENCODE(step)
+        sent = self._send(text)
+        words_of(text, sent, str(step.get("user")))
+        return sent.line
+
+    def run(self, *functions: Callable[[], Any]) -> list[Any]:
+        """Runs the functions, each in a thread of its own, and returns their results.
+
+        One runs at a time: until it returns, or a call with ``block=True`` would sleep. Then the next one goes on that
+        can. So the session has the same steps in every run. Where none can go on, the call that would sleep raises
+        TimeoutError at once. The first exception that a function raises is raised once all have ended.
+        """
+        return self._progress.run(functions)
+
+    def user(self, uid: int) -> User:
+        """The user with this number, 1001 to 1064."""
+        return User(self, uid)
+
+    def _send(self, text: str) -> Sent:
+        with self._lock:
+            return self._text.send(text)
+
+    def _call(self, name: str, *arguments: Any) -> Any:
+        """Makes the call of this name (`TextCalls`, `TypedCalls`)."""
+        with self._lock:
+            return self._call_alone(name, arguments)
+
+    def _call_alone(self, name: str, arguments: tuple[Any, ...]) -> Any:
+        if self._typed is not None:
+            try:
+                return getattr(self._typed, name)(*arguments)
+            except NotTyped:
+                pass
+        return getattr(self._text, name)(*arguments)
+
+    def _news(self, quiet: object, timeout: float | None, what: str, name: str, *arguments: Any) -> Any:
+        """The first result but `quiet`, which may be Held: the call is made again after each step that may have
+        brought news to its user, the first of its arguments."""
+        deadline = None if timeout is None else time.monotonic() + timeout
+        uid = arguments[0]
+        while True:
+            with self._lock:
+                try:
+                    result = self._call_alone(name, arguments)
+                except Held:
+                    if quiet is not Held:
+                        raise
+                    result = Held
+                seen = self._progress.seen(uid)
+            if result != quiet:
+                return result
+            self._progress.sleep(uid, seen, deadline, what)
+
+    def _session(self, call: str) -> Session:
+        if isinstance(self._made, Session):
+            return self._made
+        raise NotImplementedError(f"{call}: the session is in a program; Host(transport='library') has it")
+
+
+def _may_be_library() -> bool:
+    """Whether the environment asks for no program."""
+    return bool(os.environ.get("TRACEHOST_LIBRARY")) or not os.environ.get("TRACEHOST")
+
+
+def _command(program: str | os.PathLike[str] | None, kill_on_debugger_exit: bool | None, explain: bool) -> list[str]:
+    command = [os.fspath(program or default()), "--lines", f"--explain={'always' if explain else 'never'}"]
+    if kill_on_debugger_exit is not None:
+        command += ["--kill-on-debugger-exit", str(int(kill_on_debugger_exit))]
+    return command
+
+
+def _check_timeout(block: bool, timeout: float | None) -> None:
+    if timeout is None:
+        return
+    if not block:
+        raise ValueError("timeout: it goes with block=True")
+    if not isinstance(timeout, (int, float)):
+        raise TypeError(f"timeout: expected seconds, got {timeout!r}")
+
+
+class User:
+    """What a user does without a caller: new processes, and the turns of LWPs."""
+
+    def __init__(self, host: Host, uid: int) -> None:
+        self.host = host
+        self.uid = whole("uid", uid)
+
+    def __repr__(self) -> str:
+        return f"User({self.uid})"
+
+    def spawn(self) -> New:
+        """A new process with one LWP and parent 1. EAGAIN where the user has 250 processes or 1000 LWPs."""
+        new: New = self.host._call("spawn", self.uid)
+        return new
+
+    def process(self, pid: int | New) -> Process:
+        """The process with this number, or that `spawn` has just made, as a caller.
+
+        Whether the user has such a process is seen at each call.
+        """
+        return Process(self, number_of_process("pid", pid))
+
+    def turn(self, lwp: int, act: Act, *, block: bool = False, timeout: float | None = None) -> Turned:
+        """The turn of an LWP: None where its act was done, or what came of it or in its place.
+
+        ESRCH where the user has no such LWP; EINVAL for an act that doesn't go with what the LWP is in; EAGAIN at a
+        limit. Where it doesn't run, raises Held. With `block` the call sleeps instead until another thread lets the LWP
+        go on, and raises TimeoutError after `timeout` seconds.
+        """
+        _check_timeout(block, timeout)
+        call = ("turn", self.uid, word("lwp", lwp), check_act(act))
+        turned: Turned
+        turned = self.host._news(Held, timeout, f"turn of {lwp}", *call) if block else self.host._call(*call)
+        return turned
+
+    def view(self) -> View:
+        """The user's rows: processes by rising number, LWPs in order of birth. No step is made.
+
+        Raises ValueError where this is no user, and NotImplementedError over a pipe.
+        """
+        if not 0 <= self.uid < 1 << 32:
+            raise ValueError(f"{self.uid} is no user")
+        with self.host._lock:
+            processes, lwps = self.host._session("view").rows(self.uid)
+        return View(tuple(map(process_row, processes)), tuple(map(lwp_row, lwps)))
+
+
+class Process:
+    """A process that makes calls. Each call answers ESRCH where it isn't a live process of the user."""
+
+    def __init__(self, user: User, pid: int) -> None:
+        self.user = user
+        self.pid = pid
+
+    def __repr__(self) -> str:
+        return f"Process({self.pid} of {self.user.uid})"
+
+    @overload
+    def ptrace(self, request: Literal[Request.PT_LWPINFO], target: int, data: int = 0) -> LwpInfo: ...
+
+    @overload
+    def ptrace(self, request: Literal[Request.PT_GET_EVENT_MASK], target: int, data: int = 0) -> EventMask: ...
+
+    @overload
+    def ptrace(self, request: Literal[Request.PT_GETNUMLWPS], target: int, data: int = 0) -> int: ...
+
+    @overload
+    def ptrace(self, request: Literal[Request.PT_GETLWPLIST], target: int, data: int) -> tuple[int, ...]: ...
+
+    @overload
+    def ptrace(self, request: Request, target: int = 0, data: int = 0) -> Any: ...
+
+    def ptrace(self, request: Request, target: int = 0, data: int = 0) -> Any:
+        """ptrace(2). `target` is a process or an LWP. What `data` is depends on the request:
+
+        - a signal or 0 for the requests that let the target go on;
+        - the `EventMask` of PT_SET_EVENT_MASK;
+        - whether PT_FOLLOW_FORK or PT_LWP_EVENTS sets (not 0) or clears (0);
+        - the number of LWPs that PT_GETLWPLIST asks for.
+
+        PT_LWPINFO returns an `LwpInfo`, PT_GET_EVENT_MASK an `EventMask`, PT_GETNUMLWPS a number, PT_GETLWPLIST the
+        numbers of LWPs in order of birth, and every other request None. EPERM where the target isn't traced. EBUSY
+        where another process traces it, or wait4 hasn't reported its stop yet. ESRCH where the user has no such
+        process or LWP. EINVAL for a bad `data`, or where tracers would make a cycle.
+        """
+        of_kind("request", Request, request)
+        if request == Request.PT_TRACE_ME:
+            return self._call("ptrace", request, 0, 0)
+        if request == Request.PT_SET_EVENT_MASK and whole("data", data) & ~ALL_EVENTS:
+            # bits without a name: the model is asked for what it refuses first, and EINVAL comes last
+            self.ptrace(Request.PT_GET_EVENT_MASK, target)
+            raise OSError(errno.EINVAL, os.strerror(errno.EINVAL))
+        return self._call("ptrace", request, word("target", target), word("data", data))
+
+    def wait4(
+        self,
+        which: int = -1,
+        options: WaitOption = WaitOption(0),
+        *,
+        block: bool = False,
+        timeout: float | None = None,
+    ) -> Waited:
+        """wait4(2): the status of a child or tracee, `which` by number or -1 for any; ``Waited(0, 0)`` for nothing.
+
+        With `block` the call sleeps until another thread's step brings something to collect, but with
+        `WaitOption.WNOHANG`. It raises TimeoutError after `timeout` seconds. ECHILD where the caller has none that
+        `which` names; EINVAL where `which` is 0 or below -1.
+        """
+        asked = int(whole("options", options))
+        if asked:
+            names_of(asked, OPTIONS)  # ValueError where a bit has no name
+        sleeps = block and not asked & WaitOption.WNOHANG
+        waited: Waited = self._wait(NOTHING, block, sleeps, timeout, "wait4", whole("which", which), asked)
+        return waited
+
+    def kill(self, which: int, signal: int) -> None:
+        """kill(2): posts a signal (0 for none) to a process, or with -1 to all others of the user."""
+        self._call("kill", whole("which", which), word("signal", signal))
+
+    def sigaction(self, signal: int, action: Action) -> None:
+        """sigaction(2): what the caller does with a signal. EINVAL for no signal, and for SIGKILL and SIGSTOP."""
+        self._call("sigaction", word("signal", signal), of_kind("action", Action, action))
+
+    def list(self) -> tuple[int, ...]:
+        """The user's processes, zombies too, by rising number."""
+        pids: tuple[int, ...] = self._call("list")
+        return pids
+
+    def install(self, rules: Iterable[Rule]) -> None:
+        """Adds a stop handler with these rules after the caller's others. EAGAIN where the user has 64."""
+        self._call("install", [of_kind("rules", Rule, rule) for rule in rules])
+
+    @overload
+    def handle(self, *, block: Literal[True], timeout: float | None = None) -> Waited | Handled: ...
+
+    @overload
+    def handle(self, *, block: bool = False, timeout: float | None = None) -> None | Waited | Handled: ...
+
+    def handle(self, *, block: bool = False, timeout: float | None = None) -> None | Waited | Handled:
+        """Waits for any child, and gives a trace stop to the caller's handlers; None for nothing. ECHILD as wait4.
+
+        `block` and `timeout` are as for `wait4`.
+        """
+        handled: None | Waited | Handled = self._wait(None, block, block, timeout, "handle")
+        return handled
+
+    def _call(self, name: str, *arguments: Any) -> Any:
+        return self.user.host._call(name, self.user.uid, word("pid", self.pid), *arguments)
+
+    def _wait(self, quiet: object, asked: bool, block: bool, timeout: float | None, name: str, *arguments: int) -> Any:
+        _check_timeout(asked, timeout)
+        if not block:
+            return self._call(name, *arguments)
+        uid, pid = self.user.uid, word("pid", self.pid)
+        return self.user.host._news(quiet, timeout, f"{name} of {self.pid}", name, uid, pid, *arguments)

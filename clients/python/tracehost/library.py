@@ -1,0 +1,258 @@
+"""The library in C, include/tracehost.h: where it is, and a session of it in this process."""
+
+from __future__ import annotations
+
+import ctypes
+import functools
+import os
+import platform
+from collections.abc import Callable, Iterator
+from ctypes import POINTER, byref, c_bool, c_char_p, c_size_t, c_uint32
+from pathlib import Path
+from typing import Any, Optional
+
+from .errors import ProgramEnded
+
+# what a call returns
+ANSWERED, NOT_OPEN, NO_MEMORY, INVALID, NO_TEXT, TOO_MANY = range(6)
+
+_NAME = "libtracehost.so"
+_ROOM = 1 << 16
+
+
+
+class Handle(ctypes.Structure):
+    """``struct tracehost``."""
+
+    _fields_ = [("session", ctypes.c_void_p), ("is_open", c_bool)]
+
+
+class Words(ctypes.Structure):
+    """A struct of C with fields of 32 bits."""
+
+    @classmethod
+    def fields(cls, names: str) -> list[tuple[str, type[c_uint32]]]:
+        return [(name, c_uint32) for name in names.split()]
+
+
+class Reply(Words):
+    """``struct tracehost_reply``."""
+
+    kind: int
+    pid: int
+    lwp: int
+    number: int
+    status: int
+    signal: int
+    event: int
+    flags: int
+    mask: int
+    pending: int
+    child: int
+    code: int
+    has_handler: int
+    handler: int
+    decision: int
+    passed: int
+    error: int
+    count: int
+    _fields_ = Words.fields(
+        "kind pid lwp number status signal event flags mask pending child code has_handler handler decision passed"
+        " error count"
+    )
+
+
+class CRule(Words):
+    """``struct tracehost_rule``."""
+
+    _fields_ = Words.fields("flags signal decision passed")
+
+
+class CProcess(Words):
+    """``struct tracehost_process``."""
+
+    pid: int
+    parent: int
+    tracer: int
+    state: int
+    lwp: int
+    signal: int
+    told: int
+    status: int
+    continued: int
+    events: int
+    pending: int
+    _fields_ = Words.fields("pid parent tracer state lwp signal told status continued events pending")
+
+
+class CLwp(Words):
+    """``struct tracehost_lwp``."""
+
+    lwp: int
+    pid: int
+    mode: int
+    call: int
+    argument: int
+    vfork_child: int
+    suspended: int
+    stepping: int
+    blocked: int
+    pending: int
+    due: int
+    flags: int
+    child: int
+    code: int
+    _fields_ = Words.fields(
+        "lwp pid mode call argument vfork_child suspended stepping blocked pending due flags child code"
+    )
+
+
+_HANDLE, _LENGTH = POINTER(Handle), POINTER(c_size_t)
+_TYPES: dict[str, list[Any]] = {
+    "open": [c_bool, _HANDLE],
+    "close": [_HANDLE],
+    "copy": [_HANDLE, _HANDLE],
+    "line": [_HANDLE, c_bool, c_char_p, c_size_t, c_char_p, c_size_t, _LENGTH],
+    "last_line": [_HANDLE, c_bool, c_char_p, c_size_t, _LENGTH],
+    "numbers": [_HANDLE, POINTER(c_uint32), c_size_t, _LENGTH],
+    "view": [_HANDLE, c_uint32, POINTER(CProcess), c_size_t, POINTER(CLwp), c_size_t, _LENGTH, _LENGTH],
+}
+# The steps take words, which ctypes passes as they are. To check declared types would take three times as long as such
+# a call, so `TypedCalls` checks that its numbers fit, and passes a c_int64 or c_size_t where the header has one.
+_STEPS = ("spawn", "list", "sigaction", "kill", "wait4", "install", "handle", "ptrace", "turn")
+
+
+class Library:
+    """The functions of a libtracehost.so, by their names without ``tracehost_``. Each returns a code.
+
+    A call keeps the interpreter's lock: most calls take less time than giving it away.
+    """
+
+    def __init__(self, path: str) -> None:
+        """Raises OSError where there is no such library, or it can't be loaded here."""
+        self.path = path
+        loaded = ctypes.PyDLL(path)
+        try:
+            self._functions = {name: loaded[f"tracehost_{name}"] for name in (*_TYPES, *_STEPS)}
+        except AttributeError as error:
+            raise OSError(f"{path}: no library of tracehost: {error}") from None
+        for name, function in self._functions.items():
+            function.restype = c_uint32
+            if name in _TYPES:
+                function.argtypes = _TYPES[name]
+
+    def __getitem__(self, name: str) -> Callable[..., int]:
+        return self._functions[name]
+
+
+@functools.lru_cache(maxsize=None)
+def load(path: str) -> Library:
+    return Library(path)
+
+
+def _places() -> Iterator[Path]:
+    """Where a library is that nobody names: in this package, and in the release of a checkout that it is run from."""
+    package = Path(__file__).resolve().parent
+    yield package / "lib" / _NAME
+    if len(package.parents) > 2 and (package.parents[2] / "crates.txt").exists():
+        yield package.parents[2] / "release" / f"{platform.machine()}-linux" / _NAME
+
+
+def find(needed: bool = False) -> Optional[Library]:
+    """What the environment's ``TRACEHOST_LIBRARY`` names, else the package's own library, else the checkout's.
+
+    None where there is none, or it doesn't run here. Where it is `needed`, or the environment names one, raises OSError.
+    """
+    named = os.environ.get("TRACEHOST_LIBRARY")
+    if named:
+        return load(named)
+    for place in _places():
+        if place.exists():
+            try:
+                return load(str(place))
+            except OSError:
+                if needed:
+                    raise
+    if needed:
+        raise FileNotFoundError("no libtracehost.so: TRACEHOST_LIBRARY names none, and this package has none")
+    return None
+
+
+class Session:
+    """A session of the library: a `Transport` of lines, and a handle for the other calls."""
+
+    def __init__(self, library: Library, kill_on_debugger_exit: bool = True) -> None:
+        """Opens a session. Raises MemoryError."""
+        self.library = library
+        self._handle = Handle()
+        self.handle = byref(self._handle)
+        self._room = ctypes.create_string_buffer(_ROOM)
+        self._length = c_size_t()
+        self.check(library["open"](kill_on_debugger_exit, self.handle))
+
+    def __del__(self) -> None:
+        if hasattr(self, "handle"):
+            self.close()
+
+    def copy(self) -> Session:
+        """A session at the present state of this one. Raises MemoryError."""
+        made = Session.__new__(Session)
+        made.library = self.library
+        made._handle = Handle()
+        made.handle = byref(made._handle)
+        made._room = ctypes.create_string_buffer(_ROOM)
+        made._length = c_size_t()
+        self.check(self.library["copy"](self.handle, made.handle))
+        return made
+
+    def exchange(self, line: str) -> str:
+        text = line.encode("utf-8", "surrogateescape")
+        length = byref(self._length)
+        code = self.library["line"](self.handle, False, text, len(text), self._room, len(self._room), length)
+        if code == NO_TEXT or self._length.value > len(self._room):
+            self._room = ctypes.create_string_buffer(max(_ROOM, self._length.value))
+            code = self.library["last_line"](self.handle, False, self._room, len(self._room), length)
+        self.check(code)
+        return ctypes.string_at(self._room, self._length.value - 1).decode("utf-8", "replace")
+
+    def new_errors(self) -> str:
+        return ""
+
+    def close(self) -> int:
+        self.library["close"](self.handle)  # closed already: it returns NOT_OPEN
+        return 0
+
+    def numbers(self) -> tuple[int, ...]:
+        """The list of the last answer."""
+        array = (c_uint32 * 0)()
+        while True:
+            self.check(self.library["numbers"](self.handle, array, len(array), byref(self._length)))
+            if self._length.value <= len(array):
+                return tuple(array[: self._length.value])
+            array = (c_uint32 * self._length.value)()
+
+    def rows(self, uid: int) -> tuple[list[CProcess], list[CLwp]]:
+        """The user's processes and LWPs. Raises ValueError where this is no user."""
+        processes, lwps = (CProcess * 0)(), (CLwp * 0)()
+        counts = (c_size_t(), c_size_t())
+        while True:
+            code = self.library["view"](
+                self.handle, uid, processes, len(processes), lwps, len(lwps), byref(counts[0]), byref(counts[1])
+            )
+            if code == INVALID:
+                raise ValueError(f"{uid} is no user")
+            self.check(code)
+            if counts[0].value <= len(processes) and counts[1].value <= len(lwps):
+                return processes[: counts[0].value], lwps[: counts[1].value]
+            processes, lwps = (CProcess * counts[0].value)(), (CLwp * counts[1].value)()
+
+    def check(self, code: int) -> None:
+        """Raises what a code stands for."""
+        if code == NOT_OPEN:
+            raise ProgramEnded(0)
+        if code in (NO_MEMORY, NO_TEXT):
+            raise MemoryError
+        if code == TOO_MANY:
+            raise OverflowError("the user has had 2^64 - 1 answers")
+        if code:
+            raise ValueError(f"the library returned {code}")

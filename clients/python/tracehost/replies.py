@@ -1,0 +1,252 @@
+"""What is answered: the values of replies, and how their words are read."""
+
+from __future__ import annotations
+
+import errno
+import os
+from collections.abc import Callable, Sequence
+from typing import Any, NamedTuple, NoReturn, TypeVar, Union
+
+from .errors import ProtocolError
+from .names import EVENTS, STOP_FLAGS, Decision, EventMask, LwpEvent, Request, Signal, StopFlag
+
+# the word of a process that was continued, and the status in which this system's os.WIFCONTINUED sees it
+_CONTINUED_WORD = 0x13
+_CONTINUED_STATUS = next((s for s in (_CONTINUED_WORD, 0xFFFF) if os.WIFCONTINUED(s)), _CONTINUED_WORD)
+
+
+class New(NamedTuple):
+    """A process was made, or an LWP of one."""
+
+    pid: int
+    tid: int
+
+
+class Waited(NamedTuple):
+    """What wait4(2) reports; `pid` and `status` are 0 where there was nothing to collect, as in `os.waitpid`.
+
+    `os.WIFSTOPPED` and similar functions read `status`. The signals in it have FreeBSD's numbers:
+    `Signal(os.WSTOPSIG(status))`.
+    """
+
+    pid: int
+    status: int
+
+    @property
+    def word(self) -> int:
+        """The status word as FreeBSD has it. It differs from `status` where a process was continued, if at all."""
+        return _CONTINUED_WORD if self.status == _CONTINUED_STATUS else self.status
+
+
+class LwpInfo(NamedTuple):
+    """The fields of FreeBSD's ``struct ptrace_lwpinfo`` that the model has."""
+
+    pl_lwpid: int
+    pl_event: LwpEvent
+    pl_flags: StopFlag
+    pl_sigmask: frozenset[Signal]
+    pl_siglist: frozenset[Signal]
+    pl_child_pid: int
+    pl_syscall_code: int
+
+
+class Handled(NamedTuple):
+    """A trace stop that the caller's handlers were asked about, and what was done."""
+
+    pid: int
+    status: int
+    tid: int
+    signal: Signal
+    flags: StopFlag
+    child: int
+    code: int
+    handler: int | None
+    """Which of the caller's handlers decided, from 0; None where all declined."""
+    decision: Decision
+    pass_signal: int | None
+    """The signal that the process goes on with, 0 for none; None but for `Decision.CONTINUE` and `Decision.DETACH`."""
+
+
+class Stopped(NamedTuple):
+    """The LWP has stopped, in place of its act or at its act's end."""
+
+    tid: int
+    signal: Signal
+    flags: StopFlag
+
+
+class Caught(NamedTuple):
+    """A handler of the process's own took this signal, in place of the act."""
+
+    signal: Signal
+
+
+class Ended(NamedTuple):
+    """The process has ended, with this status of wait(2)."""
+
+    status: int
+
+
+Turned = Union[None, New, Stopped, Caught, Ended]
+
+
+NOTHING = Waited(0, 0)
+# FreeBSD's numbers in errno(2)
+_ERRNOS = {1: errno.EPERM, 3: errno.ESRCH, 10: errno.ECHILD, 12: errno.ENOMEM, 16: errno.EBUSY, 22: errno.EINVAL, 35: errno.EAGAIN}
+
+
+def raise_number(freebsd: int) -> NoReturn:
+    """Raises OSError with this system's number for FreeBSD's."""
+    number = _ERRNOS[freebsd]
+    raise OSError(number, os.strerror(number))
+
+
+def raise_errno(words: Sequence[str]) -> NoReturn:
+    number = getattr(errno, words[3], None) if len(words) == 5 else None
+    if not isinstance(number, int):
+        raise ProtocolError(f"no errno of this system: {' '.join(words)!r}")
+    raise OSError(number, os.strerror(number))
+
+
+_Reply = TypeVar("_Reply")
+
+
+def answer(words: Sequence[str], kind: str, reader: Callable[[Sequence[str]], _Reply]) -> _Reply:
+    if words[0] != kind:
+        raise ProtocolError(f"{' '.join(words)!r} where a reply `{kind}` is due")
+    return read(words, reader)
+
+
+def read(words: Sequence[str], reader: Callable[[Sequence[str]], _Reply]) -> _Reply:
+    try:
+        return reader(words)
+    except (ValueError, KeyError, IndexError) as error:
+        raise ProtocolError(f"no reply: {' '.join(words)!r}") from error
+
+
+def _length(words: Sequence[str], count: int) -> None:
+    if len(words) != count:
+        raise ValueError("too many words, or too few")
+
+
+def done(words: Sequence[str]) -> None:
+    _length(words, 1)
+
+
+def _field(words: Sequence[str], index: int, name: str) -> str:
+    key, _, value = words[index].partition("=")
+    if key != name:
+        raise ValueError(f"{key} in place of {name}")
+    return value
+
+
+def status_of(word: int) -> int:
+    """FreeBSD's status word, as this system's os.WIFCONTINUED and similar functions read it."""
+    return _CONTINUED_STATUS if word == _CONTINUED_WORD else word
+
+
+def _status(word: str) -> int:
+    return status_of(int(word))
+
+
+def _flags(text: str) -> StopFlag:
+    flags = StopFlag(0)
+    if text != "none":
+        for name in text.split("+"):
+            flags |= STOP_FLAGS[name]
+    return flags
+
+
+def _signals(text: str) -> frozenset[Signal]:
+    return frozenset() if text == "none" else frozenset(Signal(int(n)) for n in text.split(","))
+
+
+def new(words: Sequence[str]) -> New:
+    _length(words, 3)
+    return New(int(words[1]), int(words[2]))
+
+
+def number(words: Sequence[str]) -> int:
+    _length(words, 2)
+    return int(words[1])
+
+
+def numbers(words: Sequence[str]) -> tuple[int, ...]:
+    return tuple(int(word) for word in words[1:])
+
+
+def _mask(words: Sequence[str]) -> EventMask:
+    _length(words, 2)
+    mask = EventMask(0)
+    if words[1] != "none":
+        for name in words[1].split("+"):
+            mask |= EVENTS[name]
+    return mask
+
+
+def waited(words: Sequence[str]) -> Waited:
+    _length(words, 3)
+    return Waited(int(words[1]), _status(words[2]))
+
+
+def _info(words: Sequence[str]) -> LwpInfo:
+    _length(words, 8)
+    return LwpInfo(
+        int(words[1]),
+        LwpEvent["PL_EVENT_" + words[2]],
+        _flags(_field(words, 3, "flags")),
+        _signals(_field(words, 4, "mask")),
+        _signals(_field(words, 5, "pending")),
+        int(_field(words, 6, "child")),
+        int(_field(words, 7, "code")),
+    )
+
+
+def handled(words: Sequence[str]) -> Handled:
+    decision = Decision(words[11])
+    passes = decision in (Decision.CONTINUE, Decision.DETACH)
+    _length(words, 13 if passes else 12)
+    if words[3] != "at" or words[9] != "by":
+        raise ValueError("other words")
+    return Handled(
+        int(words[1]),
+        _status(words[2]),
+        int(words[4]),
+        Signal(int(_field(words, 5, "signal"))),
+        _flags(_field(words, 6, "flags")),
+        int(_field(words, 7, "child")),
+        int(_field(words, 8, "code")),
+        None if words[10] == "none" else int(words[10]),
+        decision,
+        int(words[12]) if passes else None,
+    )
+
+
+def _stopped(words: Sequence[str]) -> Stopped:
+    _length(words, 4)
+    return Stopped(int(words[1]), Signal(int(words[2])), _flags(_field(words, 3, "flags")))
+
+
+def _caught(words: Sequence[str]) -> Caught:
+    return Caught(Signal(number(words)))
+
+
+def _ended(words: Sequence[str]) -> Ended:
+    _length(words, 2)
+    return Ended(_status(words[1]))
+
+
+PTRACE: dict[Request, tuple[str, Callable[[Sequence[str]], Any]]] = {
+    Request.PT_LWPINFO: ("info", _info),
+    Request.PT_GET_EVENT_MASK: ("mask", _mask),
+    Request.PT_GETNUMLWPS: ("number", number),
+    Request.PT_GETLWPLIST: ("lwps", numbers),
+}
+
+TURNED: dict[str, Callable[[Sequence[str]], Turned]] = {
+    "ok": done,
+    "new": new,
+    "stopped": _stopped,
+    "caught": _caught,
+    "ended": _ended,
+}

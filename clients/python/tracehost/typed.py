@@ -1,0 +1,257 @@
+"""The calls as calls of the library: numbers in, a struct with the reply out."""
+
+from __future__ import annotations
+
+import functools
+from collections.abc import Callable, Iterable, Sequence
+from ctypes import byref, c_int64, c_size_t
+from typing import Any, NoReturn
+
+from .blocking import Progress
+from .checks import of_kind, whole, word
+from .errors import Held
+from .library import INVALID, CRule, Reply, Session
+from .names import Action, Call, Decision, EventMask, LwpEvent, Request, Signal, StopFlag
+from .replies import (
+    NOTHING,
+    Caught,
+    Ended,
+    Handled,
+    LwpInfo,
+    New,
+    Stopped,
+    Turned,
+    Waited,
+    raise_number,
+    status_of,
+)
+from .steps import Act, Block, Compute, Enter, Raise, Rule
+
+# the library's numbers of acts, calls, actions, decisions, and its bits of flags
+_COMPUTE, _RAISE, _BLOCK, _ENTER, _LEAVE = range(5)
+CALLS = (Call.FORK, Call.VFORK, Call.EXEC, Call.THR_NEW, Call.THR_EXIT, Call.EXIT, Call.OTHER)
+_NUMBER_OF_CALL = {call: number for number, call in enumerate(CALLS)}
+_NUMBER_OF_ACTION = {Action.SIG_DFL: 0, Action.SIG_IGN: 1, Action.CATCH: 2}
+_DECISIONS = (Decision.DECLINE, Decision.LEAVE, Decision.CONTINUE, Decision.DETACH, Decision.KILL)
+_PASSING = (Decision.CONTINUE, Decision.DETACH)
+_FLAGS = (
+    StopFlag.PL_FLAG_SCE,
+    StopFlag.PL_FLAG_SCX,
+    StopFlag.PL_FLAG_EXEC,
+    StopFlag.PL_FLAG_FORKED,
+    StopFlag.PL_FLAG_CHILD,
+    StopFlag.PL_FLAG_BORN,
+    StopFlag.PL_FLAG_EXITED,
+    StopFlag.PL_FLAG_VFORKED,
+    StopFlag.PL_FLAG_VFORK_DONE,
+)
+
+
+class NotTyped(Exception):
+    """The step can't be made by a typed call, and wasn't made: its line says why it is refused."""
+
+
+@functools.lru_cache(maxsize=512)
+def flags_of(bits: int) -> StopFlag:
+    flags = StopFlag(0)
+    for number, flag in enumerate(_FLAGS):
+        if bits >> number & 1:
+            flags |= flag
+    return flags
+
+
+@functools.lru_cache(maxsize=512)
+def signals_of(bits: int) -> frozenset[Signal]:
+    return frozenset(signal for signal in Signal if bits >> (signal - 1) & 1)
+
+
+@functools.lru_cache(maxsize=64)
+def events_of(bits: int) -> EventMask:
+    return EventMask(bits)
+
+
+def _act_numbers(act: Act) -> tuple[int, int, int]:
+    """The act, the call and the argument of ``tracehost_turn``. Raises NotTyped."""
+    if isinstance(act, Compute):
+        return _COMPUTE, 0, 0
+    if isinstance(act, Raise):
+        return _RAISE, 0, word("signal", act.signal)
+    if isinstance(act, Block):
+        return _BLOCK, 0, _set_of([whole("signals", signal) for signal in act.signals])
+    if isinstance(act, Enter):
+        return _ENTER, _NUMBER_OF_CALL[of_kind("call", Call, act.call)], _code_of(act)
+    return _LEAVE, 0, 0
+
+
+def _set_of(signals: Sequence[int]) -> int:
+    bits = 0
+    for signal in signals:
+        if not 1 <= signal <= 31:
+            raise NotTyped
+        bits |= 1 << (signal - 1)
+    return bits
+
+
+def _code_of(enter: Enter) -> int:
+    if (enter.code is not None) != (enter.call in (Call.EXIT, Call.OTHER)):
+        raise NotTyped
+    return 0 if enter.code is None else whole("code", enter.code)
+
+
+def _c_rule(rule: Rule) -> CRule:
+    """Raises NotTyped where the rule has a number that is refused or that the library reads in another way."""
+    signal = 0 if rule.signal is None else whole("signal", rule.signal)
+    passed = 0 if rule.pass_signal is None else whole("pass_signal", rule.pass_signal)
+    flags = whole("flags", rule.flags)
+    bits = sum(1 << number for number, flag in enumerate(_FLAGS) if flag & flags)
+    if (rule.signal is not None and not 1 <= signal <= 31) or not 0 <= passed <= 31 or flags_of(bits) != flags:
+        raise NotTyped
+    if rule.pass_signal is not None and rule.decision not in _PASSING:
+        raise NotTyped
+    return CRule(bits, signal, _DECISIONS.index(of_kind("decision", Decision, rule.decision)), passed)
+
+
+class TypedCalls:
+    """The calls of a session of the library. One thread at a time uses it.
+
+    A call raises NotTyped where a number is refused, or doesn't fit the call's type: nothing was done then.
+    """
+
+    def __init__(self, session: Session, progress: Progress) -> None:
+        self._session = session
+        self._progress = progress
+        self._reply = Reply()
+        library, self._handle, self._into = session.library, session.handle, byref(self._reply)
+        self._spawn, self._turn, self._ptrace = library["spawn"], library["turn"], library["ptrace"]
+        self._wait4, self._kill, self._sigaction = library["wait4"], library["kill"], library["sigaction"]
+        self._list, self._install, self._handles = library["list"], library["install"], library["handle"]
+        self._readers = self._table()
+
+    def spawn(self, uid: int) -> New:
+        _check_words(uid)
+        new: New = self._made(self._spawn(self._handle, uid, self._into), uid)
+        return new
+
+    def turn(self, uid: int, lwp: int, act: Act) -> Turned:
+        number, call, argument = _act_numbers(act)
+        _check_words(uid | lwp | argument)
+        turned: Turned = self._made(self._turn(self._handle, uid, lwp, number, call, argument, self._into), uid)
+        return turned
+
+    def ptrace(self, uid: int, pid: int, request: Request, target: int, data: int) -> Any:
+        _check_words(uid | pid | target | data)
+        return self._made(self._ptrace(self._handle, uid, pid, request, target, data, self._into), uid)
+
+    def wait4(self, uid: int, pid: int, which: int, options: int) -> Waited:
+        _check_words(uid | pid | options)
+        code = self._wait4(self._handle, uid, pid, _number(which), options, self._into)
+        waited: Waited | None = self._made(code, uid)
+        return NOTHING if waited is None else waited
+
+    def kill(self, uid: int, pid: int, which: int, signal: int) -> None:
+        _check_words(uid | pid | signal)
+        self._made(self._kill(self._handle, uid, pid, _number(which), signal, self._into), uid)
+
+    def sigaction(self, uid: int, pid: int, signal: int, action: Action) -> None:
+        _check_words(uid | pid | signal)
+        self._made(self._sigaction(self._handle, uid, pid, signal, _NUMBER_OF_ACTION[action], self._into), uid)
+
+    def list(self, uid: int, pid: int) -> tuple[int, ...]:
+        _check_words(uid | pid)
+        pids: tuple[int, ...] = self._made(self._list(self._handle, uid, pid, self._into), uid)
+        return pids
+
+    def install(self, uid: int, pid: int, rules: Iterable[Rule]) -> None:
+        _check_words(uid | pid)
+        made = [_c_rule(rule) for rule in rules]
+        array = (CRule * len(made))(*made)
+        self._made(self._install(self._handle, uid, pid, array, c_size_t(len(made)), self._into), uid)
+
+    def handle(self, uid: int, pid: int) -> None | Waited | Handled:
+        _check_words(uid | pid)
+        handled: None | Waited | Handled = self._made(self._handles(self._handle, uid, pid, self._into), uid)
+        return handled
+
+    def _made(self, code: int, uid: int) -> Any:
+        """What the reply stands for. Raises Held and OSError where it is one of these."""
+        if code == INVALID:
+            raise NotTyped
+        if code:
+            self._session.check(code)
+        changes, reader = self._readers[self._reply.kind]
+        if changes:
+            self._progress.note(uid)
+        return reader(self._reply)
+
+    def _table(self) -> tuple[tuple[bool, Callable[[Reply], Any]], ...]:
+        """For each kind of reply, whether its step may have changed something, and what it stands for."""
+
+        def numbers(reply: Reply) -> tuple[int, ...]:
+            return self._session.numbers()
+
+        return (
+            (True, _nothing),
+            (True, lambda reply: New(reply.pid, reply.lwp)),
+            (False, lambda reply: reply.number),
+            (True, lambda reply: Waited(reply.pid, status_of(reply.status))),
+            (False, _nothing),
+            (False, _info),
+            (False, numbers),
+            (False, numbers),
+            (False, lambda reply: events_of(reply.mask)),
+            (True, _handled),
+            (True, lambda reply: Stopped(reply.lwp, Signal(reply.signal), flags_of(reply.flags))),
+            (True, lambda reply: Caught(Signal(reply.signal))),
+            (True, lambda reply: Ended(status_of(reply.status))),
+            (False, _held),
+            (False, lambda reply: raise_number(reply.error)),
+        )
+
+
+def _check_words(either: int) -> None:
+    """Raises NotTyped where a number, of several joined by `|`, isn't a word of 32 bits."""
+    if either >> 32:
+        raise NotTyped
+
+
+def _number(which: int) -> c_int64:
+    """Raises NotTyped where the number doesn't fit 64 bits with a sign."""
+    if not -(1 << 63) <= which < 1 << 63:
+        raise NotTyped
+    return c_int64(which)
+
+
+def _nothing(reply: Reply) -> None:
+    return None
+
+
+def _held(reply: Reply) -> NoReturn:
+    raise Held
+
+
+def _info(reply: Reply) -> LwpInfo:
+    return LwpInfo(
+        reply.lwp,
+        LwpEvent(reply.event),
+        flags_of(reply.flags),
+        signals_of(reply.mask),
+        signals_of(reply.pending),
+        reply.child,
+        reply.code,
+    )
+
+
+def _handled(reply: Reply) -> Handled:
+    decision = _DECISIONS[reply.decision]
+    return Handled(
+        reply.pid,
+        status_of(reply.status),
+        reply.lwp,
+        Signal(reply.signal),
+        flags_of(reply.flags),
+        reply.child,
+        reply.code,
+        reply.handler if reply.has_handler else None,
+        decision,
+        reply.passed if decision in _PASSING else None,
+    )

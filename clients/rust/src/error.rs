@@ -1,0 +1,56 @@
+//! Why a call has no reply.
+
+use crate::{sys, Errno};
+use std::fmt;
+
+/// Why a call has no reply. Only after [`Error::NoText`] a step was made.
+#[derive(Clone, Copy, Debug, PartialEq, Eq, Hash)]
+#[non_exhaustive]
+pub enum Error {
+    /// The model answers this errno, and nothing changes: it is also counted as an answer.
+    Errno(Errno),
+    /// The caller, or the LWP at its turn, doesn't run, and nothing changes: it is also counted as an answer.
+    Held,
+    /// A user is not one of 1001 to 1064, or there are more than 16 rules.
+    Invalid,
+    /// Memory ran out before a step was made.
+    NoMemory,
+    /// Memory ran out for the text of an answer: [`Session::last_line`](crate::Session::last_line) has it.
+    NoText,
+    /// The user has had 2^64 - 1 answers.
+    TooMany,
+}
+
+impl Error {
+    /// The error for a code of the library, which isn't ANSWERED.
+    pub(crate) fn of_code(code: u32) -> Error {
+        match code {
+            sys::NO_MEMORY => Error::NoMemory,
+            sys::INVALID => Error::Invalid,
+            sys::NO_TEXT => Error::NoText,
+            sys::TOO_MANY => Error::TooMany,
+            _ => unreachable!("the library answers code {code}, and a session is open"),
+        }
+    }
+}
+
+impl fmt::Display for Error {
+    fn fmt(&self, f: &mut fmt::Formatter<'_>) -> fmt::Result {
+        match self {
+            Error::Errno(errno) => errno.fmt(f),
+            Error::Held => f.pad("The caller or the LWP doesn't run, and the step isn't made"),
+            Error::Invalid => f.pad("A user is not 1001 to 1064, or there are more than 16 rules"),
+            Error::NoMemory => f.pad("Out of memory, and no step is made"),
+            Error::NoText => f.pad("Out of memory for the text of an answer"),
+            Error::TooMany => f.pad("The user has had all its answers"),
+        }
+    }
+}
+
+impl std::error::Error for Error {}
+
+impl From<Errno> for Error {
+    fn from(errno: Errno) -> Error {
+        Error::Errno(errno)
+    }
+}

@@ -1,0 +1,260 @@
+//! A session, and its calls.
+
+use crate::replies::{checked, new, reply};
+use crate::view::{Lwp, Process, View};
+use crate::{sys, Act, Caller, Disposition, Error, New, Reply, Request, Rule, Signal, WaitOptions, Which};
+
+/// The settings of a session.
+#[derive(Clone, Copy, Debug, PartialEq, Eq, Hash)]
+pub struct Settings {
+    /// The sysctl kern.kill_on_debugger_exit: whether the end of a debugger kills the processes that it traces.
+    pub kill_on_debugger_exit: bool,
+}
+
+impl Default for Settings {
+    fn default() -> Settings {
+        Settings {
+            kill_on_debugger_exit: true,
+        }
+    }
+}
+
+/// A host of its own, which the users 1001 to 1064 share.
+///
+/// Each call makes one step of its user, and no call blocks. A session may move to another thread; calls are made one
+/// at a time, so that it can't be shared:
+///
+/// ```compile_fail,E0277
+/// let mut session = tracehost::Session::new().unwrap();
+/// std::thread::scope(|scope| {
+///     let shared = &session;
+///     scope.spawn(move || shared.last_line());
+/// });
+/// ```
+#[derive(Debug)]
+pub struct Session {
+    handle: sys::Handle,
+}
+
+impl Session {
+    /// Opens a session. The end of a debugger kills the processes that it traces.
+    pub fn new() -> Result<Session, Error> {
+        Session::with_settings(Settings::default())
+    }
+
+    /// Opens a session with these settings. [`Error::NoMemory`] where memory runs out.
+    pub fn with_settings(settings: Settings) -> Result<Session, Error> {
+        match sys::Handle::open(settings.kill_on_debugger_exit) {
+            Ok(handle) => Ok(Session { handle }),
+            Err(code) => Err(Error::of_code(code)),
+        }
+    }
+
+    /// Copies the session at its present state. Both then go their own ways.
+    ///
+    /// ```
+    /// # fn main() -> Result<(), tracehost::Error> {
+    /// use tracehost::{Caller, Session};
+    ///
+    /// let mut session = Session::new()?;
+    /// let first = session.spawn(1001)?;
+    /// let mut copy = session.try_clone()?;
+    /// copy.spawn(1001)?;
+    /// let caller = Caller { user: 1001, pid: first.pid };
+    /// assert_eq!(session.list(caller)?, [1000]);
+    /// assert_eq!(copy.list(caller)?, [1000, 1001]);
+    /// # Ok(())
+    /// # }
+    /// ```
+    pub fn try_clone(&self) -> Result<Session, Error> {
+        match self.handle.copy() {
+            Ok(handle) => Ok(Session { handle }),
+            Err(code) => Err(Error::of_code(code)),
+        }
+    }
+
+    /// Makes a process of the user with one LWP. Its parent is process 1.
+    pub fn spawn(&mut self, user: u32) -> Result<New, Error> {
+        let (code, raw) = self.handle.spawn(user);
+        Ok(new(&checked(code, raw)?))
+    }
+
+    /// Lists the user's processes, zombies too, by rising number.
+    pub fn list(&mut self, caller: Caller) -> Result<Vec<u32>, Error> {
+        let (code, raw) = self.handle.list(caller.user, caller.pid);
+        let raw = checked(code, raw)?;
+        Ok(self.numbers(&raw))
+    }
+
+    /// sigaction(2): sets what the caller does with a signal.
+    pub fn sigaction(&mut self, caller: Caller, signal: Signal, disposition: Disposition) -> Result<(), Error> {
+        let (signal, disposition) = (signal.number(), disposition.number());
+        let (code, raw) = self.handle.sigaction(caller.user, caller.pid, signal, disposition);
+        checked(code, raw).map(drop)
+    }
+
+    /// kill(2): posts a signal, or only looks for the processes.
+    pub fn kill(&mut self, caller: Caller, which: Which, signal: Option<Signal>) -> Result<(), Error> {
+        let signal = signal.map_or(0, Signal::number);
+        let (code, raw) = self.handle.kill(caller.user, caller.pid, which.number(), signal);
+        checked(code, raw).map(drop)
+    }
+
+    /// wait4(2), as with WNOHANG: [`Reply::Status`], or [`Reply::Nothing`].
+    pub fn wait4(&mut self, caller: Caller, which: Which, options: WaitOptions) -> Result<Reply, Error> {
+        let (code, raw) = self.handle.wait4(caller.user, caller.pid, which.number(), options.0);
+        self.reply(code, raw)
+    }
+
+    /// Adds a stop handler with these rules, at most 16, after the caller's others.
+    pub fn install(&mut self, caller: Caller, rules: &[Rule]) -> Result<(), Error> {
+        let mut raws = [sys::Rule::default(); 16];
+        let raws = raws.get_mut(..rules.len()).ok_or(Error::Invalid)?;
+        for (raw, rule) in raws.iter_mut().zip(rules) {
+            *raw = rule.raw();
+        }
+        let (code, raw) = self.handle.install(caller.user, caller.pid, raws);
+        checked(code, raw).map(drop)
+    }
+
+    /// Waits for any child, and gives a trace stop to the caller's handlers: [`Reply::Handled`], [`Reply::Status`], or
+    /// [`Reply::Nothing`].
+    pub fn handle(&mut self, caller: Caller) -> Result<Reply, Error> {
+        let (code, raw) = self.handle.handle(caller.user, caller.pid);
+        self.reply(code, raw)
+    }
+
+    /// ptrace(2). A target up to 99999 is a process, a greater one an LWP. [`Reply::Done`], or what [`Request`] names.
+    pub fn ptrace(&mut self, caller: Caller, request: Request, target: u32) -> Result<Reply, Error> {
+        let (request, data) = request.numbers();
+        let (code, raw) = self.handle.ptrace(caller.user, caller.pid, request, target, data);
+        self.reply(code, raw)
+    }
+
+    /// Gives an LWP its turn: [`Reply::Done`], [`Reply::New`], [`Reply::Stopped`], [`Reply::Caught`] or
+    /// [`Reply::Ended`].
+    pub fn turn(&mut self, user: u32, lwp: u32, act: Act) -> Result<Reply, Error> {
+        let (act, call, argument) = act.numbers();
+        let (code, raw) = self.handle.turn(user, lwp, act, call, argument);
+        self.reply(code, raw)
+    }
+
+    /// Makes the step that the line is (docs/LINES.md), and returns the line of its answer in words. A line that is no
+    /// step is answered by `refused FAULT`.
+    ///
+    /// ```
+    /// # fn main() -> Result<(), tracehost::Error> {
+    /// let mut session = tracehost::Session::new()?;
+    /// assert_eq!(session.line(r#"{"user":1001,"op":"spawn"}"#)?, "1001 1 new 1000 100000");
+    /// assert_eq!(session.line("spawn")?, "refused BadJson");
+    /// # Ok(())
+    /// # }
+    /// ```
+    pub fn line(&mut self, step: &str) -> Result<String, Error> {
+        self.answer(step, false)
+    }
+
+    /// The same, with the answer as a JSON object (docs/JSON.md).
+    ///
+    /// ```
+    /// # fn main() -> Result<(), tracehost::Error> {
+    /// let mut session = tracehost::Session::new()?;
+    /// let answer = session.json_line(r#"{"user":1001,"op":"spawn"}"#)?;
+    /// assert_eq!(answer, r#"{"user":1001,"step":1,"reply":"new","pid":1000,"lwp":100000}"#);
+    /// # Ok(())
+    /// # }
+    /// ```
+    pub fn json_line(&mut self, step: &str) -> Result<String, Error> {
+        self.answer(step, true)
+    }
+
+    /// The line of the last answer in words, also after a typed call. It makes no step. Empty before any answer.
+    pub fn last_line(&self) -> Result<String, Error> {
+        self.last_answer(false, 0)
+    }
+
+    /// The same as a JSON object.
+    pub fn last_json_line(&self) -> Result<String, Error> {
+        self.last_answer(true, 0)
+    }
+
+    /// The user's processes and LWPs at this moment. It makes no step.
+    ///
+    /// ```no_run
+    /// # fn main() -> Result<(), tracehost::Error> {
+    /// use tracehost::{Session, State};
+    ///
+    /// let mut session = Session::new()?;
+    /// let new = session.spawn(1001)?;
+    /// let view = session.view(1001)?;
+    /// assert_eq!(view.process(new.pid).map(|process| process.state), Some(State::Running));
+    /// assert_eq!(view.lwps.len(), 1);
+    /// # Ok(())
+    /// # }
+    /// ```
+    pub fn view(&self, user: u32) -> Result<View, Error> {
+        let (mut processes, mut lwps) = (Vec::new(), Vec::new());
+        loop {
+            let (code, [processes_length, lwps_length]) = self.handle.view(user, &mut processes, &mut lwps);
+            if code != sys::ANSWERED {
+                return Err(Error::of_code(code));
+            }
+            if processes.len() == processes_length && lwps.len() == lwps_length {
+                return Ok(View {
+                    processes: processes.iter().map(Process::from).collect(),
+                    lwps: lwps.iter().map(Lwp::from).collect(),
+                });
+            }
+            processes.resize(processes_length, sys::Process::default());
+            lwps.resize(lwps_length, sys::Lwp::default());
+        }
+    }
+
+    fn reply(&self, code: u32, raw: sys::Reply) -> Result<Reply, Error> {
+        let raw = checked(code, raw)?;
+        Ok(reply(&raw, || self.numbers(&raw)))
+    }
+
+    /// The numbers of the last answer.
+    fn numbers(&self, raw: &sys::Reply) -> Vec<u32> {
+        let mut numbers = vec![0; raw.count as usize];
+        let (code, length) = self.handle.numbers(&mut numbers);
+        assert!(
+            code == sys::ANSWERED && length == numbers.len(),
+            "the numbers of the last answer"
+        );
+        numbers
+    }
+
+    fn answer(&mut self, step: &str, json: bool) -> Result<String, Error> {
+        let mut room = vec![0; 128];
+        let (code, length) = self.handle.line(json, step.as_bytes(), &mut room);
+        match code {
+            sys::ANSWERED if length <= room.len() => Ok(text(room, length)),
+            sys::ANSWERED => self.last_answer(json, length),
+            _ => Err(Error::of_code(code)),
+        }
+    }
+
+    /// The last answer, with room for so many bytes at first.
+    fn last_answer(&self, json: bool, size: usize) -> Result<String, Error> {
+        let mut room = vec![0; size];
+        loop {
+            let (code, length) = self.handle.last_line(json, &mut room);
+            match code {
+                sys::ANSWERED if length <= room.len() => return Ok(text(room, length)),
+                sys::ANSWERED => room.resize(length, 0),
+                _ => return Err(Error::of_code(code)),
+            }
+        }
+    }
+}
+
+/// The line of an answer, without its line feed.
+fn text(mut room: Vec<u8>, length: usize) -> String {
+    room.truncate(length);
+    if room.last() == Some(&b'\n') {
+        room.pop();
+    }
+    String::from_utf8(room).expect("an answer is ASCII")
+}

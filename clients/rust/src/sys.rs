@@ -1,0 +1,302 @@
+//! The calls of `tracehost.h`, and the only unsafe code of this crate: a [`Handle`] is open from [`Handle::open`] until
+//! it is dropped, and is used by one thread at a time.
+#![allow(unsafe_code)]
+
+use std::cell::UnsafeCell;
+use std::ffi::c_void;
+
+/// The code of a call that was answered.
+pub const ANSWERED: u32 = 0;
+pub const NO_MEMORY: u32 = 2;
+pub const INVALID: u32 = 3;
+pub const NO_TEXT: u32 = 4;
+pub const TOO_MANY: u32 = 5;
+
+/// `tracehost`
+#[repr(C)]
+struct Raw {
+    session: *mut c_void,
+    is_open: bool,
+}
+
+impl Raw {
+    const CLOSED: Raw = Raw {
+        session: std::ptr::null_mut(),
+        is_open: false,
+    };
+}
+
+/// Declares a struct of the header, all of whose fields are `uint32_t`.
+macro_rules! record {
+    ($(#[$meta:meta])* $name:ident { $($field:ident,)+ }) => {
+        $(#[$meta])*
+        #[repr(C)]
+        #[derive(Clone, Copy, Debug, Default)]
+        pub struct $name {
+            $(pub $field: u32,)+
+        }
+
+        #[cfg(test)]
+        impl $name {
+            const FIELDS: &'static [&'static str] = &[$(stringify!($field),)+];
+        }
+    };
+}
+
+record! {
+    /// `tracehost_reply`
+    Reply {
+        kind,
+        pid,
+        lwp,
+        number,
+        status,
+        signal,
+        event,
+        flags,
+        mask,
+        pending,
+        child,
+        code,
+        has_handler,
+        handler,
+        decision,
+        pass,
+        error,
+        count,
+    }
+}
+
+record! {
+    /// `tracehost_rule`
+    Rule {
+        flags,
+        signal,
+        decision,
+        pass,
+    }
+}
+
+record! {
+    /// `tracehost_process`
+    Process {
+        pid,
+        parent,
+        tracer,
+        state,
+        lwp,
+        signal,
+        told,
+        status,
+        continued,
+        events,
+        pending,
+    }
+}
+
+record! {
+    /// `tracehost_lwp`
+    Lwp {
+        lwp,
+        pid,
+        mode,
+        call,
+        argument,
+        vfork_child,
+        suspended,
+        stepping,
+        blocked,
+        pending,
+        due,
+        flags,
+        child,
+        code,
+    }
+}
+
+extern "C" {
+    fn tracehost_open(kill_on_debugger_exit: bool, out: *mut Raw) -> u32;
+    fn tracehost_close(h: *mut Raw) -> u32;
+    fn tracehost_copy(from: *mut Raw, to: *mut Raw) -> u32;
+    fn tracehost_line(
+        h: *mut Raw,
+        json: bool,
+        line: *const u8,
+        line_length: usize,
+        out: *mut u8,
+        out_size: usize,
+        length: *mut usize,
+    ) -> u32;
+    fn tracehost_last_line(h: *mut Raw, json: bool, out: *mut u8, out_size: usize, length: *mut usize) -> u32;
+    fn tracehost_install(
+        h: *mut Raw,
+        user: u32,
+        caller: u32,
+        rules: *const Rule,
+        count: usize,
+        reply: *mut Reply,
+    ) -> u32;
+    fn tracehost_numbers(h: *mut Raw, out: *mut u32, size: usize, length: *mut usize) -> u32;
+    fn tracehost_view(
+        h: *mut Raw,
+        user: u32,
+        processes: *mut Process,
+        processes_size: usize,
+        lwps: *mut Lwp,
+        lwps_size: usize,
+        processes_length: *mut usize,
+        lwps_length: *mut usize,
+    ) -> u32;
+}
+
+/// An open handle. It isn't `Sync`: `UnsafeCell` keeps calls by `&self` on one thread, one after another.
+#[derive(Debug)]
+pub struct Handle(UnsafeCell<Raw>);
+
+// SAFETY: the library lets a handle be used by any thread, one call at a time. A session has no pointer to the handle,
+// nothing of a thread's own, and its memory is malloc's.
+unsafe impl Send for Handle {}
+
+impl Handle {
+    /// Opens a session; else the code.
+    pub fn open(kill_on_debugger_exit: bool) -> Result<Handle, u32> {
+        let mut raw = Raw::CLOSED;
+        // SAFETY: `raw` is a closed handle that nothing else uses.
+        match unsafe { tracehost_open(kill_on_debugger_exit, &mut raw) } {
+            ANSWERED => Ok(Handle(UnsafeCell::new(raw))),
+            code => Err(code),
+        }
+    }
+
+    /// Copies the session; else the code.
+    pub fn copy(&self) -> Result<Handle, u32> {
+        let mut raw = Raw::CLOSED;
+        // SAFETY: this handle is open, `raw` is a closed one that nothing else uses, and no other call is being made.
+        match unsafe { tracehost_copy(self.0.get(), &mut raw) } {
+            ANSWERED => Ok(Handle(UnsafeCell::new(raw))),
+            code => Err(code),
+        }
+    }
+
+    /// Makes the step that the line is. The code, and the length of the answer, whose front `out` has.
+    pub fn line(&mut self, json: bool, line: &[u8], out: &mut [u8]) -> (u32, usize) {
+        let mut length = 0;
+        let (room, size) = (out.as_mut_ptr(), out.len());
+        // SAFETY: the handle is open, no other call is being made, and both slices and `length` are disjoint.
+        let code = unsafe { tracehost_line(self.0.get(), json, line.as_ptr(), line.len(), room, size, &mut length) };
+        (code, length)
+    }
+
+    /// The last answer's line, as [`Handle::line`] returns it.
+    pub fn last_line(&self, json: bool, out: &mut [u8]) -> (u32, usize) {
+        let mut length = 0;
+        let (room, size) = (out.as_mut_ptr(), out.len());
+        // SAFETY: the handle is open, no other call is being made, and the slice and `length` are disjoint.
+        let code = unsafe { tracehost_last_line(self.0.get(), json, room, size, &mut length) };
+        (code, length)
+    }
+
+    /// Installs a stop handler. The code, and the reply.
+    pub fn install(&mut self, user: u32, caller: u32, rules: &[Rule]) -> (u32, Reply) {
+        let mut reply = Reply::default();
+        let (first, count) = (rules.as_ptr(), rules.len());
+        // SAFETY: the handle is open, no other call is being made, and the slice and `reply` are disjoint.
+        let code = unsafe { tracehost_install(self.0.get(), user, caller, first, count, &mut reply) };
+        (code, reply)
+    }
+
+    /// The numbers of the last answer. The code, and how many there are; `out` has the first of them.
+    pub fn numbers(&self, out: &mut [u32]) -> (u32, usize) {
+        let mut length = 0;
+        let (room, size) = (out.as_mut_ptr(), out.len());
+        // SAFETY: the handle is open, no other call is being made, and the slice and `length` are disjoint.
+        let code = unsafe { tracehost_numbers(self.0.get(), room, size, &mut length) };
+        (code, length)
+    }
+
+    /// A user's rows. The code, and how many processes and LWPs there are; the slices have the first of them.
+    pub fn view(&self, user: u32, processes: &mut [Process], lwps: &mut [Lwp]) -> (u32, [usize; 2]) {
+        let (mut processes_length, mut lwps_length) = (0, 0);
+        // SAFETY: the handle is open, no other call is being made, and the slices and lengths are disjoint.
+        let code = unsafe {
+            tracehost_view(
+                self.0.get(),
+                user,
+                processes.as_mut_ptr(),
+                processes.len(),
+                lwps.as_mut_ptr(),
+                lwps.len(),
+                &mut processes_length,
+                &mut lwps_length,
+            )
+        };
+        (code, [processes_length, lwps_length])
+    }
+}
+
+impl Drop for Handle {
+    fn drop(&mut self) {
+        // SAFETY: the handle is open, and this is its last call.
+        unsafe { tracehost_close(self.0.get()) };
+    }
+}
+
+/// Declares calls that take a user and numbers, and store a reply: they return the code, and the reply.
+macro_rules! steps {
+    ($($name:ident = $symbol:ident($($argument:ident: $kind:ty),*);)+) => {
+        extern "C" {
+            $(fn $symbol(h: *mut Raw, user: u32, $($argument: $kind,)* reply: *mut Reply) -> u32;)+
+        }
+
+        impl Handle {
+            $(pub fn $name(&mut self, user: u32, $($argument: $kind),*) -> (u32, Reply) {
+                let mut reply = Reply::default();
+                // SAFETY: the handle is open, no other call is being made, and `reply` is nobody else's.
+                let code = unsafe { $symbol(self.0.get(), user, $($argument,)* &mut reply) };
+                (code, reply)
+            })+
+        }
+    };
+}
+
+steps! {
+    spawn = tracehost_spawn();
+    list = tracehost_list(caller: u32);
+    sigaction = tracehost_sigaction(caller: u32, signal: u32, disposition: u32);
+    kill = tracehost_kill(caller: u32, which: i64, signal: u32);
+    wait4 = tracehost_wait4(caller: u32, which: i64, options: u32);
+    handle = tracehost_handle(caller: u32);
+    ptrace = tracehost_ptrace(caller: u32, request: u32, target: u32, data: u32);
+    turn = tracehost_turn(lwp: u32, act: u32, call: u32, argument: u32);
+}
+
+#[cfg(test)]
+mod tests {
+    use super::*;
+
+    const HEADER: &str = concat!(env!("CARGO_MANIFEST_DIR"), "/../../include/tracehost.h");
+
+    /// The fields of a struct of the header, in their order, without its comments.
+    fn fields(header: &str, name: &str) -> Vec<String> {
+        let (_, rest) = header.split_once(&format!("typedef struct {name} {{")).expect(name);
+        let (body, _) = rest.split_once('}').expect("its end");
+        let code = body
+            .lines()
+            .map(|line| line.split("/*").next().unwrap_or(""))
+            .collect::<String>();
+        let declarations = code.split(';').map(str::trim).filter(|part| !part.is_empty());
+        declarations
+            .flat_map(|part| part.strip_prefix("uint32_t").expect("a uint32_t").split(','))
+            .map(|field| field.trim().to_string())
+            .collect()
+    }
+
+    #[test]
+    fn records_have_the_fields_of_the_header() {
+        let header = std::fs::read_to_string(HEADER).expect("include/tracehost.h");
+        assert_eq!(fields(&header, "tracehost_reply"), Reply::FIELDS);
+        assert_eq!(fields(&header, "tracehost_rule"), Rule::FIELDS);
+        assert_eq!(fields(&header, "tracehost_process"), Process::FIELDS);
+        assert_eq!(fields(&header, "tracehost_lwp"), Lwp::FIELDS);
+    }
+}
