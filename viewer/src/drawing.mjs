@@ -1,0 +1,253 @@
+/** The shapes of a part of a plan. */
+
+import { barPaths, densityText } from "./density.mjs";
+import { LETTER, shape, tip } from "./dom.mjs";
+import { sentence } from "./sentences.mjs";
+import { colourOf, SIGNS } from "./signs.mjs";
+import { firstFrom } from "./sorted.mjs";
+
+/** The marks that are drawn in density too. */
+const ENDS = new Set(["end", "gone"]);
+
+/**
+ * A part of a plan, in pixels of the picture.
+ *
+ * @typedef {{left: number, right: number, top: number, bottom: number}} Part
+ */
+
+/** The columns that are at least partly between two places. */
+export function columnsBetween({ step, columns }, { left, right }) {
+  return [Math.max(0, Math.floor(left / step)), Math.min(columns, Math.ceil(right / step)) - 1];
+}
+
+/** Makes the shapes of a part of a plan. */
+export class Drawing {
+  /**
+   * @param {import("./plan.mjs").Plan} plan
+   * @param {Part} part
+   */
+  constructor(plan, part) {
+    Object.assign(this, { plan, part });
+    const [first, last] = columnsBetween(plan, part);
+    [this.first, this.last] = [Math.max(0, first - 1), Math.min(plan.columns - 1, last + 1)];
+    this.lanes = plan.lanesBetween(part.top, part.bottom);
+    this.elements = new Map(); // of each mark
+  }
+
+  shapes() {
+    return [
+      shape("g", {}, ...this.ground()),
+      shape("g", {}, ...(this.plan.isDense ? [] : this.links())),
+      ...this.lanes.map((lane) => this.lane(lane)),
+    ];
+  }
+
+  // ---- the frame
+
+  /** Every how many columns a number has room. */
+  every() {
+    const { plan } = this;
+    const least = (String(plan.all.length).length * LETTER + 10) / plan.step;
+    const ten = 10 ** Math.floor(Math.log10(Math.max(1, least)));
+    return [1, 2, 5, 10].map((part) => part * ten).find((count) => count >= least);
+  }
+
+  /** The columns with a number that is a multiple of so many, or the first one of the plan. */
+  *columnsEvery(every, withFirst) {
+    const start = Math.max(0, Math.ceil((this.first + 1) / every) * every - 1);
+    if (withFirst && this.first === 0 && start > 0) yield 0;
+    for (let column = start; column <= this.last; column += every) yield column;
+  }
+
+  ticks() {
+    const { plan } = this;
+    return [...this.columnsEvery(this.every(), true)].map((column) => {
+      const number = String(plan.numberOf[plan.entries[column].index]);
+      const text = shape("text", { x: Math.max(plan.x(column), number.length * LETTER / 2 + 2), y: 16 });
+      text.textContent = number;
+      return text;
+    });
+  }
+
+  ground() {
+    const { plan, part, lanes } = this;
+    const shapes = [];
+    const [x1, x2] = [part.left, part.right];
+    for (const { kind, top, height } of lanes) {
+      const y = top + height - 0.5;
+      if (kind === "user") shapes.push(shape("rect", { class: "user-row", x: x1, y: top, width: x2 - x1, height }));
+      shapes.push(shape("line", { class: "separator", x1, x2, y1: y, y2: y }));
+    }
+    const every = Math.max(this.every(), plan.step < 20 ? 10 : 5);
+    for (const column of this.columnsEvery(every, false)) {
+      const x = plan.x(column);
+      shapes.push(shape("line", { class: "gridline", x1: x, x2: x, y1: part.top, y2: part.bottom }));
+    }
+    shapes.push(shape("rect", { class: "column", id: "column", x: 0, y: 0, width: 0, height: plan.height }));
+    return shapes;
+  }
+
+  // ---- lanes
+
+  lane(lane) {
+    const { plan, part } = this;
+    const data = { "data-lane": lane.kind, "data-number": lane.number, "data-user": lane.user };
+    const group = shape("g", { class: `lane ${lane.kind}`, ...data });
+    group.style.setProperty("--user", colourOf(lane.user));
+    if (lane.kind === "process" || lane.kind === "lwp") group.append(...this.life(lane));
+    if (plan.isDense) group.append(...this.denseBands(lane));
+    else for (const band of lane.bands) group.append(...this.band(band, lane));
+    for (const span of lane.spans) group.append(...this.span(span, lane));
+    group.append(...(plan.isDense ? this.dense(lane) : this.marks(lane)));
+    for (const label of plan.labels(lane)) {
+      if (label.end >= part.left && label.x <= part.right) group.append(this.label(label, lane));
+    }
+    return group;
+  }
+
+  marks({ seen }) {
+    const begin = firstFrom(seen, (mark) => mark.column, this.first);
+    const end = firstFrom(seen, (mark) => mark.column, this.last + 1);
+    return seen.slice(begin, end).map((mark) => this.mark(mark));
+  }
+
+  /** A lane's marks as bars, with words for all of them; its end is drawn as a mark. */
+  dense(lane) {
+    const { first, last, plan: { step } } = this;
+    if (lane.seen.length === 0) return [];
+    const [all, own, stops] = barPaths(lane.seen, { step, first, last });
+    const paths = [["pale", all], ["own", own], ["stop", stops]].filter(([, path]) => path)
+      .map(([name, d]) => shape("path", { class: `bars ${name}`, d }));
+    const bars = shape("g", { class: "density", role: "img", "aria-label": densityText(lane),
+      transform: `translate(0 ${lane.base})` }, ...paths);
+    return [bars, ...this.marks({ seen: lane.seen.filter(({ kind }) => ENDS.has(kind)) })];
+  }
+
+  /** The part of a stretch between two entries that is drawn, or null. */
+  stretch(from, to) {
+    const { plan, part } = this;
+    const [begin, end] = [plan.at(from), plan.at(to)];
+    if (end < part.left || begin > part.right) return null;
+    return { begin: Math.max(begin, part.left - 20), end: Math.min(end, part.right + 20) };
+  }
+
+  life(lane) {
+    const line = (name, from, to) => {
+      const stretch = this.stretch(from, to);
+      if (!stretch) return [];
+      const place = { x1: stretch.begin, x2: stretch.end, y1: lane.base, y2: lane.base };
+      return [shape("line", { class: name, "data-from": this.number(from), "data-to": this.number(to), ...place })];
+    };
+    const isZombie = lane.to !== null && lane.seenTo > lane.to;
+    return [...line("life", lane.from, lane.to), ...(isZombie ? line("zombie", lane.to, lane.seenTo) : [])];
+  }
+
+  /** The pieces of a band, each with its class: a stop has one before a wait reports it, and one after. */
+  pieces({ kind, from, to, reported }) {
+    if (kind !== "stopped" || reported === null) return [[kind, from, to]];
+    return [["stopped", from, reported], ["reported", reported, to]];
+  }
+
+  band(band, lane) {
+    const half = band.kind === "stopped" ? 6 : 4;
+    return this.pieces(band).flatMap(([name, from, to]) => {
+      const stretch = this.stretch(from, to);
+      if (!stretch) return [];
+      const made = shape("rect", { class: `band ${name}`, "data-band": name, x: stretch.begin, y: lane.base - half,
+        width: Math.max(1, stretch.end - stretch.begin), height: 2 * half, rx: 2 });
+      made.append(tip(this.bandText(band)));
+      return [made];
+    });
+  }
+
+  /** The bands of a lane as one path for each class. */
+  denseBands(lane) {
+    const paths = new Map();
+    for (const band of lane.bands) {
+      const half = band.kind === "stopped" ? 6 : 4;
+      for (const [name, from, to] of this.pieces(band)) {
+        const stretch = this.stretch(from, to);
+        if (!stretch || stretch.end - stretch.begin < 1) continue;
+        const width = (stretch.end - stretch.begin).toFixed(1);
+        const path = `M${stretch.begin.toFixed(1)} ${lane.base - half}h${width}v${2 * half}h${-width}z`;
+        paths.set(name, (paths.get(name) ?? "") + path);
+      }
+    }
+    return [...paths].map(([name, d]) => shape("path", { class: `band ${name}`, d }));
+  }
+
+  /** The number of an entry among those that are shown, as the top row has it. */
+  number(index) {
+    return index === null ? "" : this.plan.numberOf[index];
+  }
+
+  bandText({ kind, from, to, reported, label, name, child }) {
+    const waiting = `waits for the child of its vfork${child ? `, ${child.number}` : ""}`;
+    const what = { call: `in ${name}`, stopped: `stopped: ${label}`, waiting }[kind] ?? kind;
+    const until = to === null ? "on" : `to ${this.number(to)}`;
+    const then = reported ? `, reported at ${this.number(reported)}` : "";
+    return `${what}, from step ${this.number(from)} ${until}${then}`;
+  }
+
+  /** The bracket under a process while it is traced. */
+  span({ tracer, tracee, from, to }, lane) {
+    const stretch = this.stretch(from, to);
+    if (!stretch) return [];
+    const [low, high] = [lane.base + 10, lane.base + 6];
+    const data = { "data-trace": `${tracer?.number ?? "parent"} ${tracee.number}`, "data-from": this.number(from),
+      "data-to": this.number(to) };
+    const path = `M${stretch.begin} ${high}V${low}H${stretch.end}${to === null ? "" : `V${high}`}`;
+    return [shape("path", { class: "span", ...data, d: path })];
+  }
+
+  mark(mark) {
+    const { path, classes } = SIGNS.get(mark.kind);
+    const { plan } = this;
+    const { entry, lane } = mark;
+    const data = { "aria-label": sentence(mark), "data-mark": mark.kind, "data-line": entry.index + 1 };
+    if (!mark.primary) data["data-more"] = "";
+    if (entry.reply.user) Object.assign(data, { "data-user": entry.reply.user, "data-step": entry.reply.step });
+    const width = Math.max(8, Math.min(plan.step, 26));
+    const tall = Math.min(lane.height - 4, 20);
+    const made = shape("g", { class: "mark", role: "img", ...data, transform: `translate(${mark.x} ${lane.base})` },
+      shape("rect", { class: "hit", x: -width / 2, y: -tall / 2, width, height: tall, rx: 3 }),
+      shape("path", { class: `shape ${classes}`, d: path, "fill-rule": "evenodd",
+        ...(plan.scale < 1 ? { transform: `scale(${plan.scale})` } : {}) }));
+    made.mark = mark;
+    this.elements.set(mark, made);
+    return made;
+  }
+
+  label(label, lane) {
+    const name = label.rank === 0 ? "label span-name" : label.pale ? "label pale" : "label";
+    const made = shape("text", { class: name, x: label.x, y: label.row === 0 ? lane.base - 10 : lane.base + 22 });
+    made.textContent = label.text;
+    return made;
+  }
+
+  // ---- links between lanes
+
+  links() {
+    const shapes = [];
+    for (let column = this.first; column <= this.last; column++) {
+      for (const link of this.plan.linksAt.get(column) ?? []) shapes.push(...this.link(link, column));
+    }
+    return shapes;
+  }
+
+  /** A line from the lane of who acts to that of who is meant, with a head there. */
+  link({ kind, from, to }, column) {
+    const { part } = this;
+    if (!from.isShown || !to.isShown) return [];
+    const x = this.plan.x(column);
+    const down = to.base > from.base;
+    const [begin, end] = [from.base, to.base + (down ? -6 : 6)];
+    if (Math.max(begin, end) < part.top || Math.min(begin, end) > part.bottom) return [];
+    const back = down ? -7 : 7;
+    const place = { x1: x, x2: x, y1: begin, y2: end + back / 2 };
+    const line = shape("line", { class: `link ${kind}`, "data-link": kind, ...place });
+    const head = shape("path", { class: "head", d: `M${x} ${end}l-3.5 ${back}h7Z` });
+    for (const made of [line, head]) made.style.setProperty("--user", colourOf(to.user));
+    return [line, head];
+  }
+}

@@ -1,0 +1,295 @@
+/** The page: what is shown of a session, and what its address says. */
+
+import { Card } from "./card.mjs";
+import { element, LETTER, tag } from "./dom.mjs";
+import { isError, isStop, matcher, nextMark } from "./find.mjs";
+import { StepList } from "./list.mjs";
+import { Picture } from "./picture.mjs";
+import { Plan, RIGHT_ROOM } from "./plan.mjs";
+import { pair, readFile } from "./read.mjs";
+import { Session } from "./session.mjs";
+import { colourOf } from "./signs.mjs";
+
+const WIDEST = 160;
+const NARROWEST = 0.01;
+const FIRST_WIDTH = [26, 110];
+const MANY_LANES = 40; // more are shown only where they have something in the window
+const MOST_FAULTS = 50;
+/** The parts of the window that the picture has at most where the list is shown. */
+const MOST_OF_WINDOW = 0.62;
+const ADDRESS_DELAY = 300; // milliseconds
+
+/** @typedef {import("./lanes.mjs").Mark} Mark */
+
+const many = (number, word, words) => `${number} ${number === 1 ? word : words}`;
+const between = (least, value, most) => Math.min(most, Math.max(least, value));
+
+export class Page {
+  constructor() {
+    const drawsAll = this.address().get("draw") === "all";
+    const onMark = (mark) => this.go(mark);
+    this.picture = new Picture({ drawsAll, onUser: (user) => this.choose("user", user), onMark });
+    this.list = new StepList({ onMark });
+    this.card = new Card(this.picture);
+    this.files = { replies: null, scenario: null };
+    /** @type {Session | null} */
+    this.session = null;
+    this.step = 0; // the width of a step, 0 where none is chosen yet
+    this.fits = false; // whether the whole session fits the window
+    this.query = "";
+  }
+
+  // ---- files
+
+  /** Takes texts, each with its name, in place of the older ones of the same form. */
+  take(texts) {
+    const read = texts.map(readFile);
+    const faults = read.flatMap((file) => file.faults);
+    const replies = read.findLast((file) => file.replies);
+    const scenario = read.findLast((file) => file.steps);
+    const { files } = this;
+    if (replies) Object.assign(files, { replies, scenario: scenario ?? null });
+    else if (scenario) files.scenario = scenario;
+    if (files.replies) this.open(faults);
+    else if (scenario) faults.push(`${scenario.name} is a scenario; open the lines of tracehost --json too`);
+    this.showFaults(faults);
+  }
+
+  open(faults) {
+    const { replies, scenario } = this.files;
+    this.session = new Session(pair(replies.replies, scenario, faults), scenario?.killsTracees ?? true);
+    Object.assign(this, { step: 0, fits: false });
+    this.picture.current = null;
+    this.list.current = null;
+    document.body.classList.add("open");
+    this.show();
+    this.goToAddress();
+  }
+
+  showFaults(faults) {
+    const shown = faults.slice(0, MOST_FAULTS).map((fault) => tag("li", { textContent: fault }));
+    if (faults.length > MOST_FAULTS) shown.push(tag("li", { textContent: `and ${faults.length - MOST_FAULTS} more` }));
+    element("faults").replaceChildren(...shown);
+    document.body.dataset.faults = faults.length;
+  }
+
+  // ---- the address
+
+  address() {
+    return new URLSearchParams(location.hash.slice(1));
+  }
+
+  /** The user that is shown alone, or null. */
+  get user() {
+    const user = Number(this.address().get("user"));
+    return this.session?.users.has(user) ? user : null;
+  }
+
+  /** The replies whose steps are left out. */
+  get hidden() {
+    return new Set((this.address().get("hide") ?? "").split(",").filter((word) => word === "held" || word === "error"));
+  }
+
+  /** Puts a choice into the address, and so shows it; the current step stays the same one. */
+  choose(name, value) {
+    const wanted = this.address();
+    if (value === null || value === "") wanted.delete(name);
+    else wanted.set(name, value);
+    wanted.delete("step");
+    location.hash = wanted.toString().replaceAll("%2C", ",");
+  }
+
+  /** Goes to the step that the address names. */
+  goToAddress() {
+    const number = this.address().get("step");
+    if (number !== null) this.goToStep(number);
+  }
+
+  /** The address gets the current step once no other one has been chosen for a moment. */
+  remember(mark) {
+    clearTimeout(this.remembering);
+    this.remembering = setTimeout(() => {
+      const wanted = this.address();
+      wanted.set("step", this.picture.plan.numberOf[mark.entry.index]);
+      history.replaceState(null, "", `#${wanted.toString().replaceAll("%2C", ",")}`);
+    }, ADDRESS_DELAY);
+  }
+
+  // ---- what is shown
+
+  show() {
+    const { picture, session, user, hidden } = this;
+    if (this.step === 0) {
+      picture.hidesOthers = session.lanes.length > MANY_LANES;
+      const width = this.address().get("width");
+      this.fits = width === "fit";
+      this.step = Number(width) || between(FIRST_WIDTH[0], this.fitting(), FIRST_WIDTH[1]);
+    }
+    if (this.fits) this.step = this.fitting();
+    this.step = between(NARROWEST, this.step, Math.max(WIDEST, this.step));
+    const plan = new Plan(session, { user, step: this.step, hidden, room: picture.room, letter: LETTER });
+    this.divide(plan);
+    picture.show(plan);
+    this.list.show(plan);
+    this.find(this.query);
+    this.showUsers(user);
+    this.showChoices(hidden);
+    this.showCounts();
+    this.card.again(plan);
+  }
+
+  /** Divides the window between the picture and the list. */
+  divide(plan) {
+    const { scroller } = this.picture;
+    const room = innerHeight - element("header").offsetHeight - element("faults").offsetHeight;
+    const wanted = plan.height + 60;
+    const isListed = !this.list.element.hidden;
+    scroller.style.flex = isListed ? `0 0 ${Math.min(wanted, room * MOST_OF_WINDOW)}px` : "1";
+  }
+
+  /** The width of a step with which the whole session fits the window. */
+  fitting() {
+    const { user, hidden } = this;
+    const isShown = ({ reply }) => (user === null || reply.user === user) && !hidden.has(reply.reply);
+    const columns = this.session.entries.filter(isShown).length;
+    return (this.picture.room - RIGHT_ROOM) / Math.max(1, columns);
+  }
+
+  fit() {
+    if (!this.session) return;
+    this.fits = true;
+    this.show();
+  }
+
+  /** Another width of a step; what is at the place stays there. */
+  zoom(width, place = this.picture.room / 2) {
+    if (!this.session) return;
+    const { scroller } = this.picture;
+    const column = (scroller.scrollLeft + place) / this.step;
+    this.fits = false;
+    this.step = between(Math.min(this.fitting(), WIDEST), width, Math.max(this.fitting(), WIDEST));
+    this.show();
+    scroller.scrollLeft = column * this.step - place;
+    this.picture.refresh();
+  }
+
+  toggleOthers() {
+    this.picture.hidesOthers = !this.picture.hidesOthers;
+    if (this.session) this.show();
+  }
+
+  toggleList() {
+    this.list.element.hidden = !this.list.element.hidden;
+    if (!this.session) return;
+    this.show();
+    this.list.select(this.list.current);
+  }
+
+  /** Shows the steps with these replies, or leaves them out. */
+  toggleHidden(reply) {
+    const { hidden } = this;
+    if (!hidden.delete(reply)) hidden.add(reply);
+    this.choose("hide", [...hidden].join(","));
+  }
+
+  // ---- going to steps
+
+  /** Makes a mark the current one, in the picture and in the list, and keeps its card. */
+  go(mark) {
+    this.picture.go(mark);
+    this.list.select(mark);
+    this.card.keep(mark);
+    this.remember(mark);
+  }
+
+  goToStep(text) {
+    const { plan } = this.picture;
+    const number = Number(text);
+    const mark = plan.stepOf(number);
+    if (mark) return this.go(mark);
+    const entry = plan.all[number - 1];
+    return this.say(entry ? `step ${number} is left out: ${entry.reply.reply}` : `there is no step ${text}`);
+  }
+
+  /** The index of the current entry, else of the first or last one in the window. */
+  place(way) {
+    const { picture } = this;
+    if (picture.current) return picture.current.at;
+    return way > 0 ? -1 : picture.plan.entries.length && picture.plan.entries.at(-1).index + 1;
+  }
+
+  /** Goes to the next stop or error. */
+  goToNext(name, way) {
+    const mark = nextMark(this.picture.plan.steps, this.place(way), way, { stop: isStop, error: isError }[name]);
+    if (mark) this.go(mark);
+    this.say(mark ? "" : `no ${way > 0 ? "later" : "earlier"} ${name}`);
+  }
+
+  /** Finds the steps with these words. */
+  find(query) {
+    this.query = query;
+    const { plan } = this.picture;
+    this.found = query.trim() ? plan.steps.filter(matcher(query)) : [];
+    this.list.found = new Set(this.found);
+    this.list.again();
+    this.showFound();
+  }
+
+  /** Goes to the next step that was found, after the last one to the first one. */
+  goToFound(way) {
+    const { found } = this;
+    const mark = nextMark(found, this.place(way), way, () => true) ?? found.at(way > 0 ? 0 : -1);
+    if (mark) this.go(mark);
+    this.showFound();
+  }
+
+  showFound() {
+    const place = this.found.findIndex(({ entry }) => entry === this.picture.current?.entry) + 1;
+    const count = this.found.length;
+    element("found").textContent = !this.query.trim() ? "" : !count ? "not found" : place ? `${place} of ${count}`
+      : many(count, "step", "steps");
+  }
+
+  say(text) {
+    element("said").textContent = text;
+  }
+
+  // ---- the header
+
+  showUsers(alone) {
+    const choice = (user, words) => {
+      const button = tag("button", { type: "button", textContent: words });
+      button.setAttribute("aria-pressed", user === alone);
+      if (user !== null) {
+        button.style.setProperty("--user", colourOf(user));
+        button.prepend(tag("span", { className: "dot" }));
+      }
+      button.addEventListener("click", () => this.choose("user", user));
+      return button;
+    };
+    const users = this.session.userNumbers().map((user) => choice(user, String(user)));
+    element("users").replaceChildren(...(users.length > 1 ? [choice(null, "all users"), ...users] : users));
+  }
+
+  showChoices(hidden) {
+    const counts = new Map();
+    for (const { reply } of this.picture.plan.all) counts.set(reply.reply, (counts.get(reply.reply) ?? 0) + 1);
+    for (const [id, reply, words] of [["held", "held", "held"], ["errors", "error", "errors"]]) {
+      element(id).textContent = `${words} ${counts.get(reply) ?? 0}`;
+      element(id).setAttribute("aria-pressed", !hidden.has(reply));
+    }
+    element("others").setAttribute("aria-pressed", this.picture.hidesOthers);
+    element("fit").setAttribute("aria-pressed", this.fits);
+    element("listed").setAttribute("aria-pressed", !this.list.element.hidden);
+  }
+
+  showCounts() {
+    const { plan } = this.picture;
+    const count = (kind) => plan.order.filter((lane) => lane.kind === kind).length;
+    const isAsked = plan.all.some(({ asked }) => asked);
+    const counts = { steps: plan.columns, processes: count("process"), lwps: count("lwp") };
+    element("about").textContent = [many(counts.steps, "step", "steps"), many(counts.processes, "process", "processes"),
+      many(counts.lwps, "LWP", "LWPs"), ...(isAsked ? [] : ["no scenario: who asked isn't known"])].join(" · ");
+    Object.assign(document.body.dataset, counts);
+  }
+}
