@@ -1,15 +1,18 @@
 #!/usr/bin/env bash
-# Each allocation, read, write and start of a thread fails in turn: tests/failures.py runs the programs tracehost, with
-# scenarios and line by line, and refusals so, with tests/shim.c loaded before them, and says which run ended otherwise
+# Each allocation, read, write and start of a thread fails in turn: test_failures.py runs the programs tracehost, with
+# scenarios and line by line, and refusals so, with shim.c loaded before them, and reports which run ended otherwise
 # than docs/FORMAT.md, section 8, and docs/LINES.md have it.
 #
-#   bash tests/failures.sh [TRACEHOST [REFUSALS]]
-set -euo pipefail
-cd "$(dirname "$(readlink -f "${BASH_SOURCE[0]}")")/.."
-program=${1:-$PWD/crates/tracehost/out/tracehost}
-refusals=${2:-$PWD/crates/refusals/out/refusals}
-room=$(mktemp -d)
-trap 'rm -rf "$room"' EXIT
+#   bash tests/failures.sh [PROGRAM [REFUSALS]]
+source "$(dirname "${BASH_SOURCE[0]}")/lib.sh"
+refusals=$(realpath -m "${2:-crates/refusals/out/refusals}")
 
-cc -std=c11 -O2 -Wall -Wextra -Werror -shared -fPIC -o "$room/shim.so" tests/shim.c
-PYTHONDONTWRITEBYTECODE=1 python3 tests/failures.py "$program" "$refusals" "$room/shim.so"
+need python3 cc || exit
+check "cc shim.c" cc -std=c11 -O2 -Wall -Wextra -Werror -shared -fPIC -o "$room/shim.so" tests/python/shim.c
+programs=("$program")
+if [ -x "$refusals" ]; then
+  programs+=("$refusals")
+else
+  skip "the program refusals isn't built, so refused allocations inside the library aren't tried"
+fi
+count "failures" python3 tests/python/test_failures.py "$room/shim.so" "${programs[@]}"

@@ -1,21 +1,18 @@
 #!/usr/bin/env bash
-# What a first ./tracehost says while it proves and builds, with a stand-in for rt that proves nothing: each crate once,
-# after all below it, and beside others that share a lower crate; where one fails; and that an interrupted run goes on
-# from where it was.
-set -uo pipefail
-top=$(cd "$(dirname "$(readlink -f "${BASH_SOURCE[0]}")")/.." && pwd)
-room=$(mktemp -d)
-trap 'rm -rf "$room"' EXIT
-failed=0
-wrong() {
-  echo "FAILED: $1"
-  failed=1
-}
+# What a first ./tracehost prints while it proves and builds, with a stand-in for rt that proves nothing: each crate
+# once, after all that it stands on, and at the same time as others that share a lower crate; where one fails; and
+# that an interrupted run goes on from where it was.
+#
+#   bash tests/first_run.sh
+# shellcheck disable=SC2034 # for lib.sh
+program=none
+source "$(dirname "${BASH_SOURCE[0]}")/lib.sh"
+need python3 git flock || exit
 
 # a copy without what was built, and the stand-in: it notes its calls, locks the folders of the crate and of those below
 # it as rt does, needs their libraries, and fails in the crate that FAILS names
 mkdir "$room/copy" "$room/bin"
-(cd "$top" && git ls-files -z | xargs -0 cp --parents -t "$room/copy")
+git ls-files -z | xargs -0 cp --parents -t "$room/copy"
 cat >"$room/bin/rt" <<'STAND_IN'
 #!/usr/bin/env bash
 crate=$(basename "$PWD")
@@ -49,30 +46,30 @@ export PATH=$room/bin:$PATH CALLS=$room/calls
 cd "$room/copy" || exit 1
 
 # a crate that fails: its log's end, and the status
-FAILS=wait4 ./tracehost some.json >"$room/out" 2>"$room/err"
-[ $? -eq 1 ] || wrong "a failed proof doesn't end with status 1"
-grep -q '^error: not proved$' "$room/err" || wrong "the failed proof isn't told"
-grep -q 'wait4 is not proved' "$room/err" || wrong "the failed crate isn't named"
+FAILS=wait4 ./tracehost --prove some.json >"$room/out" 2>"$room/err"
+check "a failed proof ends with status 1" test $? -eq 1
+check "the failed proof's log is printed" grep -q '^error: not proved$' "$room/err"
+check "the failed crate is named" grep -q 'wait4 is not proved' "$room/err"
 
-# the next call goes on: what was proved is checked no more, and every crate is told once
+# the next call goes on: what was proved is checked no more, and every crate is reported once
 sed -n 's/^built //p' "$CALLS" | sort >"$room/first"
 : >"$CALLS"
-./tracehost some.json --user 1001 >"$room/out" 2>"$room/err"
-[ $? -eq 0 ] || wrong "the run after a failed one doesn't end with status 0"
-[ "$(cat "$room/out")" = "ran some.json --user 1001" ] || wrong "the program isn't run with the arguments"
+./tracehost --prove some.json --user 1001 >"$room/out" 2>"$room/err"
+check "the run after a failed one ends with status 0" test $? -eq 0
+same <(echo "ran some.json --user 1001") "$room/out" "the program is run with the arguments"
 sed -n 's/^lib //p' "$CALLS" | sort >"$room/again"
-comm -12 "$room/first" "$room/again" | grep . && wrong "these are proved twice"
+same /dev/null <(comm -12 "$room/first" "$room/again") "no crate is proved twice"
 crates=$(grep -c ' is proved (' "$room/err")
-grep -q "$crates of $crates crates, 100% of the work" "$room/err" || wrong "the last line isn't that of the whole work"
+check "the last line is that of the whole work" grep -q "$crates of $crates crates, 100% of the work" "$room/err"
 sed -n 's/.*tracehost: \([a-z_0-9]*\) is proved.*/\1/p' "$room/err" >"$room/order"
-[ -z "$(sort "$room/order" | uniq -d)" ] || wrong "a crate is told twice"
+same /dev/null <(sort "$room/order" | uniq -d) "no crate is reported twice"
 
 # each crate comes after all that it stands on
 while IFS=: read -r name uses; do
   at=$(grep -nx "${name%% *}" "$room/order" | cut -d: -f1)
   for use in $uses; do
     below=$(grep -nx "$use" "$room/order" | cut -d: -f1)
-    [ -z "$at" ] || [ -z "$below" ] || [ "$below" -lt "$at" ] || wrong "$name is told before $use"
+    [ -z "$at" ] || [ -z "$below" ] || check "$use is reported before $name" test "$below" -lt "$at"
   done
 done < <(grep -v '^#' crates.txt)
 
@@ -83,40 +80,47 @@ below() {
 rm -rf crates/*/out
 : >"$CALLS"
 PAUSE=0.2 python3 tools/first_run.py 2>"$room/err"
-[ $? -eq 0 ] || wrong "a run from nothing doesn't end with status 0"
+check "a run from nothing ends with status 0" test $? -eq 0
 running=()
-beside=0
+together=0
 while read -r what name; do
   case $what in
     begin)
       for other in ${running[@]+"${running[@]}"}; do
-        [ -z "$(comm -12 <(below "$name") <(below "$other"))" ] || beside=$((beside + 1))
+        [ -z "$(comm -12 <(below "$name") <(below "$other"))" ] || together=$((together + 1))
       done
       running+=("$name") ;;
     built)
       mapfile -t running < <(printf '%s\n' "${running[@]}" | grep -vx "$name") ;;
   esac
 done <"$CALLS"
-grep -q 'on 1 processors' "$room/err" || [ "$beside" -gt 0 ] || wrong "crates that share one are proved one by one"
-find crates -path '*/out/lane' | grep . && wrong "these lanes are left"
+if grep -q 'on 1 processors' "$room/err"; then
+  skip "with one processor no crates are proved at the same time"
+else
+  check "crates that share one are proved at the same time" test "$together" -gt 0
+fi
+lanes() { find crates -path '*/out/lane'; }
+same /dev/null <(lanes) "no lane is left"
 
 # a source that changes is noticed, and a library that is moved keeps its place
 built=$(find crates -path 'crates/*/out/rlib/stamp' | wc -l)
-[ "$built" -eq $((crates - 1)) ] || wrong "not every library is in its crate's folder"
+check "every library is in its crate's folder" test "$built" -eq $((crates - 1))
 : >"$CALLS"
 echo >>crates/scenario/src/lib.rt
 python3 tools/first_run.py 2>"$room/err"
-again=$(sed -n 's/^lib //p' "$CALLS" | sort | tr '\n' ' ')
-[ "$again" = "line_sessions scenario " ] || wrong "a changed source has these proved again: $again"
+same <(printf '%s\n' json_trace line_sessions open_sessions scenario threaded_runs) <(sed -n 's/^lib //p' "$CALLS" | sort) "a changed source is proved again"
 
-# an interrupt
+# an interrupt, once the proof of pid_blocks has begun
 rm -rf crates/*/out
-PAUSE=9 timeout --signal INT 3 python3 tools/first_run.py 2>"$room/err"
-grep -q 'interrupted; the next call goes on from here' "$room/err" || wrong "an interrupt isn't told"
-find crates -path '*/out/lane' | grep . && wrong "these lanes are left after an interrupt"
-[ -d crates/pid_blocks/out/incremental ] || wrong "what an interrupted proof had made is lost"
-
-if [ "$failed" -eq 0 ]; then
-  echo "runs of $crates crates, one failed, one interrupted; $beside pairs side by side above one crate: as wanted"
-fi
-exit "$failed"
+: >"$CALLS"
+PAUSE=60 python3 tools/first_run.py 2>"$room/err" &
+for _ in {1..300}; do
+  grep -qx 'begin pid_blocks' "$CALLS" && break
+  sleep 0.1
+done
+kill -INT $!
+wait $!
+check "an interrupt ends the run with status 130" test $? -eq 130
+check "an interrupt is reported" grep -q 'interrupted; the next call goes on from here' "$room/err"
+same /dev/null <(lanes) "no lane is left after an interrupt"
+check "what an interrupted proof made is kept" test -d crates/pid_blocks/out/incremental

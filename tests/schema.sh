@@ -1,109 +1,13 @@
 #!/usr/bin/env bash
-# schema/scenario.schema.json accepts what the program accepts: all row files and examples, and every kind of step in them with one
-# key taken away, added, or given another value.
+# schema/scenario.schema.json accepts what the program accepts: all row files and examples, and every kind of step in
+# them with one key taken away, added, or given another value.
 #
-#   bash tests/schema.sh PROGRAM
-set -euo pipefail
-cd "$(dirname "$(readlink -f "${BASH_SOURCE[0]}")")/.."
-program=${1:-$PWD/crates/tracehost/out/tracehost}
+#   bash tests/schema.sh [PROGRAM]
+source "$(dirname "${BASH_SOURCE[0]}")/lib.sh"
 
-if ! python3 -c 'from jsonschema import Draft202012Validator' 2>/dev/null; then
-  echo "skipped: python3 with its module jsonschema isn't here, and the schema isn't compared with the program"
-  exit 0
+need python3 || exit
+if python3 -c 'from jsonschema import Draft202012Validator' 2>/dev/null; then
+  count "the schema" python3 tests/python/test_schema.py "$program" tests/rows/*/*.json examples/*.json
+else
+  skip "the module jsonschema of Python isn't installed, so the schema isn't compared with the program"
 fi
-
-python3 - "$program" tests/rows/*.json examples/*.json <<'CODE'
-import collections
-import concurrent.futures
-import copy
-import json
-import subprocess
-import sys
-
-import jsonschema
-
-program, files = sys.argv[1], sys.argv[2:]
-with open('schema/scenario.schema.json') as it:
-    schema = json.load(it)
-jsonschema.Draft202012Validator.check_schema(schema)
-validator = jsonschema.Draft202012Validator(schema)
-
-# values that a key may be given; none is 1.0 or -0, which are whole numbers for a schema and not for the program
-OTHERS = [None, -1, 0, 31, 32, 256, 1065, 4294967296, 2**63, 1.5, 'fork', '', [32], ['PL_FLAG_SCE'], {}]
-
-
-def shape(step):
-    """What kind of step it is: its names and its keys. Each kind is changed once."""
-    if not isinstance(step, dict):
-        return type(step).__name__
-    return tuple((key, step[key] if key in ('op', 'act', 'call', 'request') else '') for key in sorted(step))
-
-
-def in_short(scenario):
-    """The scenario with at most 20 steps of each kind, since the schema's reader takes milliseconds for each."""
-    if not isinstance(scenario, dict) or not isinstance(scenario.get('steps'), list):
-        return scenario
-    counts, kept = collections.Counter(), []
-    for step in scenario['steps']:
-        counts[repr(shape(step))] += 1
-        if counts[repr(shape(step))] <= 20:
-            kept.append(step)
-    return {**scenario, 'steps': kept}
-
-
-def changes(value):
-    """The value with one change, somewhere in it."""
-    if isinstance(value, dict):
-        for key in value:
-            yield {k: v for k, v in value.items() if k != key}
-            for other in OTHERS:
-                yield {**value, key: other}
-            for changed in changes(value[key]):
-                yield {**value, key: changed}
-        yield {**value, 'fly': 1}
-        for key in ('data', 'pass', 'code'):
-            yield {**value, key: 1}
-    elif isinstance(value, list):
-        yield value * 17
-        for place, item in enumerate(value):
-            for other in OTHERS:
-                yield value[:place] + [other] + value[place + 1:]
-            for changed in changes(item):
-                yield value[:place] + [changed] + value[place + 1:]
-
-
-def accepted(text):
-    return subprocess.run([program], input=text, capture_output=True).returncode == 0
-
-
-cases, shapes = [], {}
-for file in files:
-    with open(file, 'rb') as it:
-        data = it.read()
-    try:
-        scenario = json.loads(data)
-    except (ValueError, RecursionError):
-        continue  # no JSON: nothing for a schema to say
-    cases.append((file, data))
-    if isinstance(scenario, dict) and isinstance(scenario.get('steps'), list):
-        for step in scenario['steps']:
-            shapes.setdefault(repr(shape(step)), step)
-for step in shapes.values():
-    for changed in changes(step):
-        cases.append((json.dumps(changed), json.dumps({'steps': [changed]}).encode()))
-for changed in changes({'steps': [], 'kill_on_debugger_exit': 0}):
-    cases.append((json.dumps(changed), json.dumps(changed).encode()))
-cases = list(dict((data, name) for name, data in cases).items())
-
-with concurrent.futures.ThreadPoolExecutor(8) as pool:
-    answers = list(pool.map(lambda case: accepted(case[0]), cases))
-differing = good = 0
-for (data, name), answer in zip(cases, answers):
-    good += answer
-    if validator.is_valid(in_short(json.loads(data))) != answer:
-        differing += 1
-        if differing <= 10:
-            print(f'FAILED: the program {"accepts" if answer else "refuses"}, and the schema does not: {name[:150]}')
-print(f'{len(cases)} scenarios, of which the program accepts {good}; of {differing} the schema says otherwise')
-sys.exit(1 if differing or not good else 0)
-CODE

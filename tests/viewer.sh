@@ -1,26 +1,28 @@
 #!/usr/bin/env bash
-# viewer/make, and the pages of all examples in Chromium, their marks counted against the program's lines. Where there
-# is no Chromium it is installed from Debian; where that can't be done the pages aren't opened, and a line says so.
+# viewer/make, the parts of the viewer's script by node, and pages in Chromium: their marks counted against the
+# program's lines, and what is done by hand.
 #
-#   bash tests/viewer.sh PROGRAM
-set -uo pipefail
-cd "$(dirname "$(readlink -f "${BASH_SOURCE[0]}")")/.." || exit 1
-program=$(readlink -f "${1:-$PWD/crates/tracehost/out/tracehost}")
-export PYTHONDONTWRITEBYTECODE=1
+#   bash tests/viewer.sh [PROGRAM]
+source "$(dirname "${BASH_SOURCE[0]}")/lib.sh"
 
-browser() { command -v chromium || command -v chromium-browser || command -v google-chrome; }
-
-install_browser() {
-  command -v apt-get >/dev/null 2>&1 && [ "$(id -u)" -eq 0 ] || return 1
-  echo "installing Debian's package chromium"
-  export DEBIAN_FRONTEND=noninteractive
-  timeout 120 apt-get update >/dev/null 2>&1 || return 1
-  timeout 600 apt-get install -y --no-install-recommends chromium fonts-dejavu-core >/dev/null 2>&1
+# runs the tests in tests/node/, and prints their counts
+test_parts() {
+  local status=0
+  python3 tests/python/viewer_runs.py "$room"
+  PROGRAM=$program RUNS=$room node --test --test-reporter=tap tests/node/*.test.mjs >"$room/tap" || status=$?
+  grep -A 30 '^not ok' "$room/tap"
+  awk '$1 == "#" && NF == 3 { n[$2] = $3 }
+    END { printf "%d passed, %d failed, %d skipped\n", n["pass"], n["fail"] + n["cancelled"], n["skipped"] }' \
+    "$room/tap"
+  return "$status"
 }
 
-found=$(browser) || { install_browser && found=$(browser); } || found=
-if [ -z "$found" ]; then
-  echo "skipped: Chromium isn't here and can't be installed, and the pages aren't opened"
-  exec python3 tests/viewer.py "$program"
+need python3 || exit
+if need node; then
+  check "the joined script is one that node can read" bash -c "viewer/make | sed -n '/^<script>\$/,/^<\/script>\$/p' |
+    sed '1d;\$d' >'$room/script.js' && node --check '$room/script.js'"
+  count "the parts of the script" test_parts
 fi
-exec python3 tests/viewer.py "$program" "$found"
+browser=$(command -v chromium || command -v chromium-browser || command -v google-chrome)
+count "pages" python3 tests/python/test_viewer.py "$program" ${browser:+"$browser"}
+count "pages by hand" python3 tests/python/test_viewer_by_hand.py "$program" ${browser:+"$browser"}

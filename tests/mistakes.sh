@@ -1,0 +1,16 @@
+#!/usr/bin/env bash
+# Each mistake in tests/mistakes.tsv is refused with one line where standard error is captured, and with --explain its
+# place and remedy follow.  Then that this happens unasked on a terminal, and only there.
+#
+# The columns of the table are the mistake; the words of the command line, where `input` is a file with the input, which
+# is on standard input too; the input, in which \n, \0, \xHH (a byte) and \uHHHH (a character) are escapes; the answer;
+# and with --explain the place and the remedy.  The answer is the line on standard error without `tracehost: `, the
+# first line of clap's message, or with --lines a line of standard output.  Where clap's message has the remedy there is
+# no place.
+#
+#   bash tests/mistakes.sh [PROGRAM]
+source "$(dirname "${BASH_SOURCE[0]}")/lib.sh"
+need python3 || exit
+
+count "mistakes" python3 tests/python/test_mistakes.py "$program" tests/mistakes.tsv "$room"
+count "on a terminal" python3 tests/python/test_terminal.py "$program"

@@ -1,0 +1,450 @@
+"""Runs tracehost and refusals with each allocation, read, write and start of a thread failing in turn.
+
+    python3 tests/python/test_failures.py SHIM TRACEHOST [REFUSALS]
+
+SHIM is tests/python/shim.c as a shared library. Each run has to end in one of a few ways, which are known beforehand:
+with the whole text, or with one line on standard error, its status, and a part of the text only where a write failed or
+where lines are answered one by one. Prints how many failures of each kind there were, and the first runs that ended
+otherwise.
+"""
+
+import collections
+import concurrent.futures
+import dataclasses
+import errno
+import itertools
+import json
+import os
+import signal
+import subprocess
+import sys
+import tempfile
+import time
+from collections.abc import Iterable, Iterator
+
+from counting import Counts
+from json_of_lines import as_json
+from shim import SECONDS, Command, End, Ends, Run, Shim
+
+
+@dataclasses.dataclass(frozen=True)
+class GivesUp:
+    """The ends of refusals where a call was refused again and again: a front of its text, and the word."""
+
+    text: bytes
+
+    def __eq__(self, end: object) -> bool:
+        if not isinstance(end, End):
+            return NotImplemented
+        said = (end.status, end.err) == (3, b'refusals: out of memory\n')
+        return said and end.out != self.text and self.text.startswith(end.out)
+
+
+def fault(line: str, out: bytes = b'', status: int = 3) -> End:
+    return End(status, out, line.encode() + b'\n')
+
+
+MEMORY = fault('tracehost: out of memory')
+START = fault('tracehost: cannot start a worker')
+CANNOT_READ = fault('tracehost: cannot read')
+
+
+def cannot_write(front: bytes) -> End:
+    return fault('tracehost: cannot write', front)
+
+
+def whole(text: bytes) -> End:
+    return End(0, text, b'')
+
+
+# ---- the runs
+
+
+def row(name: str) -> tuple[str, bytes]:
+    """The file of a scenario in tests/rows/sessions, and its text."""
+    path = f'tests/rows/sessions/{name}'
+    with open(f'{path}.out', 'rb') as text:
+        return f'{path}.json', text.read()
+
+
+def lines_of(text: bytes, user: int) -> bytes:
+    return b''.join(line for line in text.splitlines(keepends=True) if line.startswith(b'%d ' % user))
+
+
+def by_users(text: bytes) -> bytes:
+    """The lines user by user, each user's in their order."""
+    def user(line: bytes) -> int:
+        return int(line.split(b' ', 1)[0])
+
+    lines = sorted(text.splitlines(keepends=True), key=user)
+    return b''.join(lines)
+
+
+def ways(program: str, file: str, text: bytes) -> Iterator[tuple[Command, bytes, Ends]]:
+    """The program with its options on the file, its text, and the faults that want of memory may have."""
+    yield (program, file), text, (MEMORY,)
+    yield (program, '--user', '1001', file), lines_of(text, 1001), (MEMORY,)
+    yield (program, '--threads', file), by_users(text), (MEMORY, START)
+    yield (program, '--json', file), as_json(text.decode()).encode(), (MEMORY,)
+    yield (program, '--expect', file.replace('.json', '.out'), file), b'', (MEMORY,)
+
+
+def refused_allocations(
+    shim: Shim, command: Command, given: bytes, ends: Ends, chances: tuple[int, ...], seeds: int
+) -> Iterator[Run]:
+    """Each allocation refused, then each and all after it, then some by chance. No worker can be blamed before the
+    first one is to start."""
+    counts = shim.counts_of(Run(command, given, {}, ends))
+    for n in range(1, counts.allocations + 1):
+        possible = tuple(end for end in ends if end != START) if n < counts.before_threads else ends
+        yield Run(command, given, {'ALLOCATION': n}, possible)
+        yield Run(command, given, {'ALLOCATION': f'{n}-'}, possible)
+    for chance in chances:
+        for seed in range(seeds):
+            yield Run(command, given, {'CHANCE': chance, 'SEED': seed}, ends)
+
+
+def refused_explanations(shim: Shim, program: str) -> Iterator[Run]:
+    """Each allocation refused while a fault is explained: the fault is printed, with or without its place."""
+    row = 'tests/rows/explain/request_in_small_letters'
+    with open(f'{row}.err', 'rb') as lines:
+        fault, told = lines.read().splitlines(keepends=True)
+    ends = (End(1, b'', fault + told), End(1, b'', fault), MEMORY)
+    command = (program, '--explain', f'{row}.json')
+    return refused_allocations(shim, command, b'', ends, (), 0)
+
+
+READ_ERRORS = (errno.EIO, errno.EAGAIN)
+WRITE_ERRORS = (errno.EIO, errno.ENOSPC, errno.EPIPE, errno.EAGAIN)
+
+
+def failing_reads(shim: Shim, program: str, file: str, text: bytes) -> Iterator[Run]:
+    """Each read of a file, of a pipe, and with threads, fails, is interrupted, or moves one byte."""
+    with open(file, 'rb') as scenario:
+        given = scenario.read()
+    done = whole(text)
+    for command, data, end in (
+        ((program, file), b'', done),
+        ((program,), given, done),
+        ((program, '--threads', file), b'', whole(by_users(text))),
+    ):
+        most = {'MOST': 256}
+        counts = shim.counts_of(Run(command, data, most, (end,)))
+        for n in range(1, counts.reads + 1):
+            for error in READ_ERRORS:
+                yield Run(command, data, {**most, 'READ': n, 'ERROR': error}, (CANNOT_READ,))
+            yield Run(command, data, {**most, 'READ': n, 'ERROR': errno.EINTR}, (end,))
+            yield Run(command, data, {**most, 'READ': n}, (end,))
+        yield Run(command, data, {'READ': '1-1000', 'ERROR': errno.EINTR}, (end,))
+        yield Run(command, data, {'READ': '1-'}, (end,))
+
+
+def failing_writes(program: str, file: str, text: bytes) -> Iterator[Run]:
+    """Each write fails, is interrupted, or moves one byte: a front of the text is left where one failed."""
+    for command, text in (((program, file), text), ((program, '--threads', file), by_users(text))):
+        most = 16
+        for n in range(1, len(text) // most + 1):
+            few = {'MOST': most, 'WRITE': n}
+            front = text[: most * (n - 1)]
+            for error in WRITE_ERRORS:
+                yield Run(command, b'', {**few, 'ERROR': error}, (cannot_write(front),))
+            yield Run(command, b'', {**few, 'ERROR': errno.EINTR}, (whole(text),))
+            yield Run(command, b'', few, (whole(text),))
+        yield Run(command, b'', {'WRITE': '1-1000', 'ERROR': errno.EINTR}, (whole(text),))
+        yield Run(command, b'', {'WRITE': '1-'}, (whole(text),))
+        # neither the text nor the fault can be written
+        yield Run(command, b'', {'WRITE': '1-', 'ERROR': errno.EIO}, (End(3, b'', b''),))
+
+
+def faults_told_in_pieces(program: str) -> Iterator[Run]:
+    """The line of a fault is whole where its writes are interrupted or move one byte; its status stays where no write
+    succeeds."""
+    for options, given, line in (
+        ((), b'', b'tracehost: refused: BadJson\n'),
+        ((), b'{"steps":[{"user":1001,"op":"fly"}]}', b'tracehost: refused: BadName at step 1\n'),
+    ):
+        for shim in ({'WRITE': 1, 'ERROR': errno.EINTR}, {'WRITE': 1}, {'MOST': 1}):
+            yield Run((program, *options), given, shim, (End(1, b'', line),))
+        yield Run((program, *options), given, {'WRITE': '1-', 'ERROR': errno.EIO}, (End(1, b'', b''),))
+
+
+def refused_threads(program: str, file: str) -> Iterator[Run]:
+    """Of 64 workers each can't be started, alone and with all after it."""
+    users = range(1001, 1065)
+    steps = [{'user': user, 'op': 'spawn'} for user in users for _ in range(2)]
+    with open(file, 'w') as scenario:
+        json.dump({'steps': steps}, scenario)
+    text = ''.join(
+        f'{user} {n + 1} new {1000 * (user - 1000) + n} {100000 + 4000 * (user - 1001) + n}\n'
+        for user in users
+        for n in range(2)
+    ).encode()
+    command = (program, '--threads', file)
+    for n in range(1, 65):
+        yield Run(command, b'', {'THREAD': n}, (START,))
+        yield Run(command, b'', {'THREAD': f'{n}-'}, (START,))
+    yield Run(command, b'', {'THREAD': '65-'}, (whole(text),))
+
+
+# ---- lines, each answered before the next is read
+
+
+@dataclasses.dataclass(frozen=True)
+class Session:
+    """A session by --lines: its command, its lines, a blank one behind each tenth step, and the answer to each line."""
+
+    command: Command
+    lines: tuple[bytes, ...]
+    answers: tuple[bytes, ...]
+
+    @property
+    def given(self) -> bytes:
+        return b''.join(self.lines)
+
+    @property
+    def text(self) -> bytes:
+        return b''.join(self.answers)
+
+    def answers_to(self, taken: int) -> bytes:
+        """The answers to those lines that are whole where so many bytes were taken."""
+        ends = itertools.accumulate(map(len, self.lines))
+        return b''.join(answer for end, answer in zip(ends, self.answers) if end <= taken)
+
+
+def session_of(program: str, file: str, text: bytes) -> Session:
+    with open(file, 'rb') as data:
+        scenario = json.load(data)
+    pairs = []
+    for place, (step, answer) in enumerate(zip(scenario['steps'], text.splitlines(keepends=True))):
+        pairs.append((json.dumps(step).encode() + b'\n', answer))
+        if place % 10 == 9:
+            pairs.append((b'\n', b'refused BadJson\n'))
+    setting = str(scenario.get('kill_on_debugger_exit', 1))
+    lines, answers = zip(*pairs)
+    return Session((program, '--lines', '--kill-on-debugger-exit', setting), lines, answers)
+
+
+def failing_reads_of_lines(shim: Shim, session: Session) -> Iterator[Run]:
+    """Each read fails, is interrupted, or moves one byte: the lines that were taken before a failure are answered."""
+    size = 256
+    most = {'MOST': size}
+    done = whole(session.text)
+    counts = shim.counts_of(Run(session.command, session.given, most, (done,)))
+    for n in range(1, counts.reads + 1):
+        answered = session.answers_to(size * (n - 1))
+        for error in READ_ERRORS:
+            end = fault('tracehost: cannot read', answered)
+            yield Run(session.command, session.given, {**most, 'READ': n, 'ERROR': error}, (end,))
+        yield Run(session.command, session.given, {**most, 'READ': n, 'ERROR': errno.EINTR}, (done,))
+        yield Run(session.command, session.given, {**most, 'READ': n}, (done,))
+    yield Run(session.command, session.given, {'READ': '1-1000', 'ERROR': errno.EINTR}, (done,))
+    yield Run(session.command, session.given, {'READ': '1-'}, (done,))
+
+
+def failing_writes_of_lines(session: Session) -> Iterator[Run]:
+    """Each write fails, is interrupted, or moves one byte: what was written before one failed stands."""
+    most = 16
+    done = whole(session.text)
+    pieces = [answer[at : at + most] for answer in session.answers for at in range(0, len(answer), most)]
+    for n in range(1, len(pieces) + 1):
+        few = {'MOST': most, 'WRITE': n}
+        front = b''.join(pieces[: n - 1])
+        for error in WRITE_ERRORS:
+            yield Run(session.command, session.given, {**few, 'ERROR': error}, (cannot_write(front),))
+        yield Run(session.command, session.given, {**few, 'ERROR': errno.EINTR}, (done,))
+        yield Run(session.command, session.given, few, (done,))
+    yield Run(session.command, session.given, {'WRITE': '1-1000', 'ERROR': errno.EINTR}, (done,))
+    yield Run(session.command, session.given, {'WRITE': '1-'}, (done,))
+    yield Run(session.command, session.given, {'WRITE': '1-', 'ERROR': errno.EIO}, (End(3, b'', b''),))
+
+
+class Answered:
+    """The ends of a session in which memory was refused: each line has its answer, or ENOMEM where it is a step that
+    takes memory, and the other answers are those of a session without the steps that were refused; or the word, and the
+    answers before."""
+
+    def __init__(self, session: Session) -> None:
+        self.session = session
+        self.known: dict[frozenset[int], list[bytes]] = {frozenset(): [reply_of(answer) for answer in session.answers]}
+
+    def answers_without(self, refused: frozenset[int]) -> list[bytes]:
+        """The replies of a session without these lines."""
+        if refused not in self.known:
+            left = [line for place, line in enumerate(self.session.lines) if place not in refused]
+            ran = subprocess.run(self.session.command, input=b''.join(left), capture_output=True, timeout=SECONDS)
+            self.known[refused] = [reply_of(answer) for answer in ran.stdout.splitlines(keepends=True)]
+        return self.known[refused]
+
+    def __eq__(self, end: object) -> bool:
+        if not isinstance(end, End):
+            return NotImplemented
+        answers = end.out.splitlines(keepends=True)
+        is_whole = (end.status, end.err, len(answers)) == (0, b'', len(self.session.lines))
+        if not is_whole and (end.status, end.err) != (3, MEMORY.err):
+            return False
+        refused = frozenset(place for place, answer in enumerate(answers) if reply_of(answer) == b'error ENOMEM 12\n')
+        replies = [reply_of(answer) for place, answer in enumerate(answers) if place not in refused]
+        return (
+            all(takes_memory(self.session.lines[place]) for place in refused)
+            and numbers_rise(answers)
+            and replies == self.answers_without(refused)[: len(replies)]
+        )
+
+
+def reply_of(answer: bytes) -> bytes:
+    """An answer without the user and the number."""
+    return answer if answer.startswith(b'refused') else answer.split(b' ', 2)[2]
+
+
+def takes_memory(line: bytes) -> bool:
+    """Whether a line is a step that may take memory."""
+    step = json.loads(line) if line.strip() else {}
+    kind = step.get('request') or step.get('act') or step.get('op')
+    return kind in ('spawn', 'list', 'install', 'PT_GETLWPLIST', 'leave')
+
+
+def numbers_rise(answers: list[bytes]) -> bool:
+    """Whether each user's answers are numbered from 1 on."""
+    counts: collections.Counter[bytes] = collections.Counter()
+    for answer in answers:
+        if not answer.startswith(b'refused'):
+            user, number, _ = answer.split(b' ', 2)
+            counts[user] += 1
+            if int(number) != counts[user]:
+                return False
+    return True
+
+
+# ---- the same without the shim
+
+
+def slow_pipe(program: str, file: str, text: bytes) -> bool:
+    """A pipe that gives a byte at a time to a program that is stopped and continued in between."""
+    with open(file, 'rb') as data:
+        given = data.read()
+    pipe = subprocess.PIPE
+    with subprocess.Popen([program], stdin=pipe, stdout=pipe, stderr=pipe, bufsize=0) as ran:
+        assert ran.stdin
+        for place in range(len(given)):
+            ran.stdin.write(given[place : place + 1])
+            if place % 100 == 50:
+                ran.send_signal(signal.SIGSTOP)
+                time.sleep(0.001)
+                ran.send_signal(signal.SIGCONT)
+        out, err = ran.communicate(timeout=SECONDS)
+    return End(ran.returncode, out, err) == whole(text)
+
+
+def full_device(program: str, file: str) -> bool:
+    """A device with no room."""
+    with open('/dev/full', 'wb') as full:
+        ran = subprocess.run([program, file], stdout=full, stderr=subprocess.PIPE, timeout=SECONDS)
+    return End(ran.returncode, b'', ran.stderr) == cannot_write(b'')
+
+
+def closed_pipe(program: str, file: str) -> bool:
+    """A pipe that nobody reads, for a program that ignores SIGPIPE."""
+    reader, writer = os.pipe()
+    os.close(reader)
+    try:
+        ran = subprocess.run(
+            [program, file], stdout=writer, stderr=subprocess.PIPE, timeout=SECONDS, restore_signals=False
+        )
+    finally:
+        os.close(writer)
+    return End(ran.returncode, b'', ran.stderr) == cannot_write(b'')
+
+
+def runs_without(program: str) -> dict[str, bool]:
+    """The runs without the shim, and whether each ended as it should."""
+    file, text = row('every_kind_of_step')
+    return {
+        'a pipe that gives a byte at a time': slow_pipe(program, file, text),
+        'a device with no room': full_device(program, file),
+        'a pipe that nobody reads': closed_pipe(program, file),
+    }
+
+
+# ---- refusals
+
+
+def retried_refusals(shim: Shim, program: str) -> Iterator[tuple[str, Run]]:
+    """A call that is refused is made again: the text is whole, unless all from one on are refused, or too many."""
+    with open('crates/refusals/stdout', 'rb') as stored:
+        text = stored.read()
+    command, done = (program,), whole(text)
+    counts = shim.counts_of(Run(command, b'', {}, (done,)))
+    for n in range(1, counts.allocations + 1):
+        yield 'allocations', Run(command, b'', {'ALLOCATION': n}, (done,))
+        yield 'allocations', Run(command, b'', {'ALLOCATION': f'{n}-'}, (GivesUp(text), done))
+    for chance in (1, 2, 3):
+        for seed in range(200):
+            yield 'allocations', Run(command, b'', {'CHANCE': chance, 'SEED': seed}, (done, GivesUp(text)))
+    for n in range(1, counts.threads + 1):
+        yield 'threads', Run(command, b'', {'THREAD': n}, (done,))
+        yield 'threads', Run(command, b'', {'THREAD': f'{n}-'}, (GivesUp(text),))
+
+
+def runs_of_tracehost(shim: Shim, program: str, room: str) -> Iterator[tuple[str, Run]]:
+    file, text = row('every_kind_of_step')
+    rows = ((file, text, 60), (*row('a_debugger_ends_without_killing'), 20), (*row('a_fork_in_full_tables'), 20))
+    for name, its_text, seeds in rows:
+        for command, shown, faults in ways(program, name, its_text):
+            ends = (whole(shown), *faults)
+            for run in refused_allocations(shim, command, b'', ends, (1, 5, 20), seeds):
+                yield 'allocations', run
+        session = session_of(program, name, its_text)
+        ends = (Answered(session),)
+        for run in refused_allocations(shim, session.command, session.given, ends, (1, 5, 20), seeds):
+            yield 'allocations', run
+        yield from (('reads', run) for run in failing_reads_of_lines(shim, session))
+        yield from (('writes', run) for run in failing_writes_of_lines(session))
+    yield from (('reads', run) for run in failing_reads(shim, program, file, text))
+    yield from (('allocations', run) for run in refused_explanations(shim, program))
+    yield from (('writes', run) for run in failing_writes(program, file, text))
+    yield from (('writes', run) for run in faults_told_in_pieces(program))
+    yield from (('threads', run) for run in refused_threads(program, f'{room}/users.json'))
+
+
+def judged(shim: Shim, kind: str, run: Run) -> tuple[str, int, str]:
+    """The kind of the run's failures, how many there were, and what is wrong with the run."""
+    try:
+        end, counts = shim.end_of(run)
+    except subprocess.TimeoutExpired:
+        return kind, 0, f'{run}: not ended after {SECONDS} s'
+    told = f'{run}: status {end.status}, {end.err!r}, {len(end.out)} bytes, the last {end.out[-60:]!r}'
+    return kind, counts.failures if counts else 0, '' if end in run.ends else told
+
+
+def check_all(counts: Counts, shim: Shim, runs: Iterable[tuple[str, Run]]) -> int:
+    """Makes the runs side by side, checks each, and that there were failures of each kind."""
+    made: collections.Counter[str] = collections.Counter()
+    failures: collections.Counter[str] = collections.Counter()
+    with concurrent.futures.ThreadPoolExecutor(os.cpu_count()) as pool:
+        waiting = [pool.submit(judged, shim, kind, run) for kind, run in runs]
+        for ended in waiting:
+            kind, failed, complaint = ended.result()
+            made[kind] += 1
+            failures[kind] += failed
+            counts.check(not complaint, complaint)
+    for kind in made:
+        print(f'{kind}: {made[kind]} runs, {failures[kind]} failed')
+        counts.check(failures[kind] > 0, f'no failure of {kind}')
+    return made.total()
+
+
+def main() -> None:
+    library, program, *refusals = sys.argv[1:]
+    shim, counts = Shim(library), Counts()
+    with tempfile.TemporaryDirectory() as room:
+        made = check_all(counts, shim, runs_of_tracehost(shim, program, room))
+    counts.check(made >= 3000, f'only {made} runs of tracehost')
+    for name, is_right in runs_without(program).items():
+        counts.check(is_right, name)
+    for name in refusals:
+        check_all(counts, shim, retried_refusals(shim, name))
+    counts.end()
+
+
+if __name__ == '__main__':
+    main()

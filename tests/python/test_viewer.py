@@ -1,0 +1,354 @@
+#!/usr/bin/env python3
+"""Tests of the viewer's pages: test_viewer.py PROGRAM [CHROMIUM]. Without a browser only viewer/make is tested.
+
+What a page shows is read from the document that the browser has made of it, and compared with the program's lines.
+"""
+import collections
+import html.parser
+import json
+import unittest
+
+import viewer_runs as runs
+from viewer_browser import Tab
+from viewer_pages import BROWSER, EXAMPLES, HAS_BROWSER, NO_BROWSER, TOP, Pages, lines_of, run, run_make
+
+ALARM = "document.body.dataset.executed = 1"
+
+
+class Make(unittest.TestCase):
+    """viewer/make, without a browser."""
+
+    def setUp(self):
+        self.pages = Pages()
+        self.addCleanup(self.pages.folder.cleanup)
+
+    def embedded(self, page):
+        """What a page has in it, as a browser's reader of HTML finds it, and how many scripts."""
+        found = []
+
+        class Reader(html.parser.HTMLParser):
+            def handle_starttag(self, tag, attributes):
+                if tag == "script":
+                    found.append([dict(attributes), ""])
+
+            def handle_data(self, data):
+                if found and self.cdata_elem == "script":
+                    found[-1][1] += data
+
+        Reader().feed(page.decode())
+        data = [json.loads(text) for attributes, text in found if attributes.get("id") == "embedded"]
+        self.assertEqual(len(data), 1)
+        return data[0], len(found)
+
+    def test_files_come_back_as_they_were(self):
+        hostile = '</script><script>alert(1)</script>\n<!-- <script>\n]]>\u2028\u2029"\\ &lt; \u00e9 \U0001f600\n'
+        lines = self.pages.file("a.lines", hostile.encode())
+        scenario = self.pages.file("b.json", b'{"steps":["</script>"]}')
+        made = run_make(lines, scenario, check=True).stdout
+        data, scripts = self.embedded(made)
+        self.assertEqual(data, {"title": "b.json", "files": [{"name": "a.lines", "text": hostile},
+                                                             {"name": "b.json", "text": '{"steps":["</script>"]}'}]})
+        self.assertEqual(scripts, 2)
+
+    def test_only_the_data_differs_from_the_empty_page(self):
+        lines = self.pages.file("a.lines", b'{"refused":"BadJson"}\n')
+        made, empty = run_make(lines, check=True).stdout.decode(), run_make(check=True).stdout.decode()
+        before, after = empty.split('id="embedded">null<')
+        self.assertTrue(made.startswith(before + 'id="embedded">{') and made.endswith("}<" + after))
+
+    def test_output_title_and_standard_input(self):
+        lines = self.pages.file("a.lines", b'{"refused":"BadJson"}\n')
+        page = self.pages.room / "page.html"
+        done = run_make("-", "-t", "A <b> title", "-o", page, input=lines.read_bytes())
+        self.assertEqual((done.returncode, done.stdout, done.stderr), (0, b"", b""))
+        data, _ = self.embedded(page.read_bytes())
+        self.assertEqual(data["title"], "A <b> title")
+        self.assertEqual(data["files"], [{"name": "standard input", "text": '{"refused":"BadJson"}\n'}])
+
+    def test_bytes_that_are_no_text_are_replaced(self):
+        data, _ = self.embedded(run_make(self.pages.file("a.lines", b'{"a":"\xff\xfe"}\n'), check=True).stdout)
+        self.assertEqual(data["files"][0]["text"], '{"a":"\ufffd\ufffd"}\n')
+
+    def test_a_missing_file(self):
+        page = self.pages.room / "page.html"
+        done = run_make(self.pages.room / "none.lines", "-o", page)
+        self.assertEqual((done.returncode, done.stdout), (1, b""))
+        self.assertRegex(done.stderr.decode(), r"\Aviewer/make: .*none.lines: No such file or directory\n\Z")
+        self.assertFalse(page.exists())
+
+    def test_the_page_needs_nothing_else(self):
+        text = run_make(check=True).stdout.decode()
+        self.assertEqual(text.count("http"), text.count("http://www.w3.org/2000/svg") + text.count("http-equiv"))
+        for word in ("src=", "href=", "@import", "url(", "fetch(", "XMLHttpRequest", "innerHTML", "eval("):
+            self.assertNotIn(word, text)
+
+
+@unittest.skipUnless(HAS_BROWSER, NO_BROWSER)
+class Examples(unittest.TestCase):
+    """Each example's page, its marks counted against its lines."""
+
+    @classmethod
+    def setUpClass(cls):
+        cls.pages = Pages()
+        cls.addClassCleanup(cls.pages.folder.cleanup)
+        cls.lines = {path.stem: lines_of(path) for path in EXAMPLES}
+        page, opened = cls.pages.page, cls.pages.open
+        pages = {path.stem: page(path.stem, cls.lines[path.stem], path) for path in EXAMPLES}
+        two = TOP / "examples" / "two_users.json"
+        alone = {user: opened(pages["two_users"], f"draw=all&user={user}") for user in (1001, 1002)}
+        pages |= {f"only {user}": page(f"only{user}", lines_of(two, "--user", user), two) for user in alone}
+        pages["threads"] = page("threads", lines_of(two, "--threads"), two)
+        pages["alone"] = page("alone", cls.lines["follow_a_fork"])
+        pages["trace"] = page("trace", lines_of("--json=trace", two))
+        pages["trace by user"] = page("trace_by_user", lines_of("--json=trace", "--threads", two))
+        pages |= cls.more_pages()
+        cls.documents = alone | {name: opened(path) for name, path in pages.items()}
+
+    @classmethod
+    def more_pages(cls):
+        """A debugger's end with nothing behind it, under both settings; a run by lines, which tells none; others."""
+        pages, steps = {}, json.loads((TOP / "examples" / "death_of_a_debugger_leaves.json").read_text())["steps"]
+        for setting in (0, 1):
+            scenario = {"kill_on_debugger_exit": setting, "steps": steps[:10]}
+            file = cls.pages.file(f"end{setting}.json", json.dumps(scenario).encode())
+            pages[f"end {setting}"] = cls.pages.page(f"end{setting}", lines_of(file), file)
+        file = cls.pages.file("each_step", "".join(json.dumps(step) + "\n" for step in steps).encode())
+        lines = lines_of("--lines", file, "--kill-on-debugger-exit", 0)
+        pages["steps"] = cls.pages.page("steps", lines, file)
+        pages["by_list"] = cls.pages.page("by_list", b"""{"user":1001,"step":1,"reply":"new","pid":1000,"lwp":100000}
+            {"user":1001,"step":2,"reply":"new","pid":1001,"lwp":100001}
+            {"user":1001,"step":3,"reply":"ended","word":0,"exited":0}
+            {"user":1001,"step":4,"reply":"pids","pids":[1000]}""")
+        scenarios = {"threads_of_one": runs.thread_steps(), "two_forks": runs.fork_steps(),
+                     "by_turn": runs.untold_end()}
+        for name, scenario in scenarios.items():
+            file = cls.pages.file(f"{name}.json", json.dumps(scenario).encode())
+            pages[name] = cls.pages.page(name, lines_of(file), file)
+        return pages
+
+    def examples(self):
+        for path in EXAMPLES:
+            steps = json.loads(path.read_text())["steps"]
+            replies = [json.loads(line) for line in self.lines[path.stem].splitlines()]
+            self.assertEqual(len(steps), len(replies))
+            yield path.stem, steps, replies, self.documents[path.stem]
+
+    def test_each_step_has_its_mark_on_its_lane(self):
+        for name, steps, replies, document in self.examples():
+            with self.subTest(name):
+                found = [(mark["data-mark"], mark["lane"]) for mark in document.primary()]
+                self.assertEqual(found, runs.expected_marks(steps, replies))
+                names = [(mark["data-user"], mark["data-step"]) for mark in document.primary()]
+                self.assertEqual(names, [(str(reply["user"]), str(reply["step"])) for reply in replies])
+                self.assertEqual(document.faults, [])
+                self.assertIn("data-milliseconds", document.body)
+
+    def test_marks_are_as_many_as_replies(self):
+        for name, steps, replies, document in self.examples():
+            with self.subTest(name):
+                kinds = collections.Counter(mark["data-mark"] for mark in document.primary())
+                words = collections.Counter(reply["reply"] for reply in replies)
+                self.assertEqual(kinds["birth"] + kinds["lwp-birth"], words["new"])
+                self.assertEqual(kinds["birth"], len({reply["pid"] for reply in replies if reply["reply"] == "new"}))
+                for kind, word in (("stop", "stopped"), ("wait", "status"), ("handled", "handled"), ("end", "ended"),
+                                   ("error", "error"), ("held", "held"), ("nothing", "nothing"), ("caught", "caught")):
+                    self.assertEqual(kinds[kind], words[word], kind)
+                asked = [step for step, reply in zip(steps, replies) if reply["reply"] == "ok" and step.get("signal")]
+                self.assertEqual(kinds["post"], sum(step["op"] in ("kill", "turn") for step in asked))
+
+    def test_lanes(self):
+        for name, steps, replies, document in self.examples():
+            with self.subTest(name):
+                self.assertEqual(sorted(document.lanes), sorted(runs.expected_lanes(steps, replies)))
+
+    def test_who_traces_whom(self):
+        self.assertEqual(set(runs.TRACES), {path.stem for path in EXAMPLES})
+        for name, _, _, document in self.examples():
+            with self.subTest(name):
+                self.assertEqual(sorted(document.traces, key=str), sorted(runs.TRACES[name], key=str))
+
+    def test_what_follows_from_steps(self):
+        for name, _, _, document in self.examples():
+            with self.subTest(name):
+                self.assertEqual(document.steps("gone"), runs.ENDS.get(name, []))
+                self.assertEqual(document.steps("followed"), runs.FOLLOWED.get(name, []))
+                self.assertEqual(document.steps("seen"), [])
+
+    def test_the_end_of_a_debugger(self):
+        self.assertEqual(self.documents["end 0"].steps("gone"), [])
+        self.assertEqual(self.documents["end 1"].steps("gone"), [(1001, 10), (1002, 10)])
+        for name in ("end 0", "end 1"):
+            self.assertEqual(sorted(self.documents[name].traces), [("1000 1001", 4, 10), ("1000 1002", 6, 10)])
+
+    def test_steps_as_lines_and_a_process_that_lives_on(self):
+        document = self.documents["steps"]
+        self.assertEqual((len(document.primary()), document.faults, document.steps("gone")), (14, [], []))
+
+    def test_stops_calls_and_suspensions_along_the_lanes(self):
+        document = self.documents["threads_of_one"]
+        self.assertEqual({tip for tip in document.tips if ", from step " in tip}, runs.THREAD_STRETCHES)
+        self.assertEqual((document.traces, document.faults), ([("1000 1001", 4, 27)], []))
+        self.assertEqual(document.lives, runs.THREAD_LIVES)
+        kinds = collections.Counter(mark["data-mark"] for mark in document.primary())
+        expected = {"birth": 2, "lwp-birth": 1, "stop": 4, "held": 1, "error": 1, "post": 2, "wait": 5}
+        self.assertEqual({kind: kinds[kind] for kind in expected}, expected)
+
+    def test_ends_that_nothing_tells(self):
+        for name, end in (("by_turn", 5), ("by_list", 4)):
+            self.assertEqual(self.documents[name].steps("gone"), [(1001, end)], name)
+            self.assertEqual(self.documents[name].lives["lwp", 100001], (2, end), name)
+
+    def test_the_children_of_two_followed_forks(self):
+        document = self.documents["two_forks"]
+        self.assertEqual(document.steps("followed"), [(1003, 14), (1004, 15)])
+        self.assertEqual(document.traces, [("1000 1001", 4, None), ("1000 1002", 5, None), ("1000 1003", 14, None),
+                                           ("1000 1004", 15, None)])
+
+    def test_a_mark_tells_its_step_and_its_reply(self):
+        stop = self.documents["follow_a_fork"].primary()[7]
+        for words in ("user 1001, step 8", "LWP 100001: leave", "5 is SIGTRAP",
+                      "stopped 100001 5 flags=PL_FLAG_SCX+PL_FLAG_FORKED"):
+            self.assertIn(words, stop["aria-label"])
+        self.assertIn("SIGTRAP SCX FORKED", self.documents["follow_a_fork"].texts)
+
+    def test_labels_do_not_overlap(self):
+        overlapping = """(() => {
+            const labels = [...document.querySelectorAll(".label")];
+            const boxes = labels.map((label) => ({ text: label.textContent, box: label.getBoundingClientRect() }));
+            const meet = (one, other) => one.left < other.right && other.left < one.right
+              && one.top + 2 < other.bottom && other.top + 2 < one.bottom;
+            const pairs = boxes.flatMap((one, place) => boxes.slice(place + 1).map((other) => [one, other]));
+            const found = pairs.filter(([one, other]) => meet(one.box, other.box));
+            return found.map(([one, other]) => [one.text, other.text]).concat(boxes.length ? [] : "no label");
+        })()"""
+        for name in ("crash_collector", "sandbox", "two_users"):
+            for width in (8, 26, 60, 110):
+                with self.subTest(name, width=width):
+                    tab = Tab(BROWSER, self.pages.room / f"{name}.html", f"draw=all&width={width}")
+                    self.assertEqual(tab.value(overlapping), [])
+                    tab.close()
+
+    def test_one_user_alone(self):
+        for user in (1001, 1002):
+            document = self.documents[user]
+            lines = [line for line in map(json.loads, self.lines["two_users"].splitlines()) if line["user"] == user]
+            self.assertEqual(len(document.primary()), len(lines))
+            self.assertEqual({mark["owner"] for mark in document.marks}, {str(user)})
+            numbers = range(1000 * (user - 1000), 1000 * (user - 999))
+            self.assertEqual({number in numbers for kind, number in document.lanes if kind == "process"}, {True})
+
+    def test_one_users_lines_give_the_same_picture(self):
+        for user in (1001, 1002):
+            alone, only = self.documents[user], self.documents[f"only {user}"]
+            shown = [[(mark["data-mark"], mark["lane"], mark["data-step"]) for mark in one.primary()]
+                     for one in (alone, only)]
+            self.assertEqual(*shown)
+            self.assertEqual(alone.traces, only.traces)
+
+    def test_lines_of_threads_stand_in_the_scenarios_order(self):
+        shown = [[(mark["data-mark"], mark["data-user"], mark["data-step"]) for mark in self.documents[name].primary()]
+                 for name in ("threads", "two_users")]
+        self.assertEqual(*shown)
+
+    def test_a_trace_needs_no_scenario(self):
+        wanted = self.documents["two_users"]
+        shown = [[(mark["data-mark"], mark["lane"], mark["data-user"], mark["data-step"]) for mark in one.primary()]
+                 for one in (wanted, self.documents["trace"], self.documents["trace by user"])]
+        self.assertEqual(shown, [shown[0]] * 3)
+        for name in ("trace", "trace by user"):
+            self.assertEqual((self.documents[name].faults, self.documents[name].traces), ([], wanted.traces))
+
+    def test_lines_alone(self):
+        document = self.documents["alone"]
+        self.assertEqual((document.faults, document.traces), ([], []))
+        self.assertEqual(len(document.primary()), 18)
+        found = {("birth", ("process", 1000)), ("stop", ("lwp", 100001)), ("wait", ("process", 1002))}
+        self.assertLessEqual(found, {(mark["data-mark"], mark["lane"]) for mark in document.primary()})
+
+
+@unittest.skipUnless(HAS_BROWSER, NO_BROWSER)
+class Page(unittest.TestCase):
+    """What is hostile, long, or done by hand."""
+
+    @classmethod
+    def setUpClass(cls):
+        cls.pages = Pages()
+        cls.addClassCleanup(cls.pages.folder.cleanup)
+        cls.example = TOP / "examples" / "two_users.json"
+        cls.lines = lines_of(cls.example)
+        cls.documents = {name: cls.pages.open(page) for name, page in cls.hostile().items()}
+
+    @classmethod
+    def hostile(cls):
+        good = b'{"user":1001,"step":1,"reply":"new","pid":1000,"lwp":100000}\n'
+        bad = [
+            f'</script><script>{ALARM}</script>',
+            f'{{"user":1001,"step":2,"reply":"<img src=x onerror=\'{ALARM}\'>"}}',
+            '{"user":1001,"step":2,"reply":"stopped","lwp":100000,"signal":"<b onclick=x>","number":5,"flags":[]}',
+            '{"user":1001,"step":2,"reply":"error","errno":"<i>","number":3}',
+            '{"user":1001,"step":2,"reply":"new","pid":"1000","lwp":100000}',
+            '{"user":1001,"step":2,"reply":"status","pid":1000,"word":0}',
+            '{"user":"__proto__","step":2,"reply":"ok"}',
+            '{"user":1001,"step":2,"reply":"constructor"}',
+            '{"refused":"<script>"}', "[]", "null", "1001 2 ok",
+        ]
+        cls.bad = bad
+        steps = [{"op": "spawn"}, {"op": "ptrace", "caller": 1000, "request": f"<img onerror='{ALARM}'>"}]
+        scenario = {"steps": [{"user": 1001, **step} for step in steps]}
+        scenario = cls.pages.file("hostile.json", json.dumps(scenario).encode())
+        truncated = cls.lines[:-20]
+        page = cls.pages.page
+        return {
+            "bad": page("bad", good + "\n".join(bad).encode() + b"\n"),
+            "bad scenario": page("scenario", good + b'{"user":1001,"step":2,"reply":"ok"}\n', scenario),
+            "truncated": page("truncated", truncated, cls.example),
+            "other scenario": page("other", cls.lines, TOP / "examples" / "sandbox.json"),
+            "plain": page("plain", (TOP / "examples" / "first.out").read_bytes()),
+            "refused": page("refused", good + b'{"refused":"BadName"}\n{"user":1001,"step":2,"reply":"ok"}\n'),
+            "empty": cls.pages.empty(),
+        }
+
+    def test_bad_lines_are_shown_and_not_executed(self):
+        document = self.documents["bad"]
+        self.assertEqual(len(document.faults), len(self.bad))
+        for number, (fault, line) in enumerate(zip(document.faults, self.bad), 2):
+            self.assertIn(f"bad.lines, line {number}: ", fault)
+            self.assertIn(line[:150], fault)
+        self.assertEqual(len(document.primary()), 1)
+        self.is_harmless(document)
+
+    def test_a_bad_scenario_is_told(self):
+        document = self.documents["bad scenario"]
+        self.assertIn("<img onerror=", document.faults[0])
+        self.assertEqual(len(document.primary()), 2)
+        self.is_harmless(document)
+
+    def is_harmless(self, document):
+        self.assertNotIn("data-executed", document.body)
+        self.assertEqual([tag for tag, _ in document.elements if tag in ("img", "b", "i")], [])
+        self.assertEqual(sum(tag == "script" for tag, _ in document.elements), 2)
+
+    def test_a_truncated_file(self):
+        document = self.documents["truncated"]
+        self.assertEqual(len(document.faults), 1)
+        self.assertIn("line 16: no JSON: ", document.faults[0])
+        self.assertEqual(len(document.primary()), 15)
+
+    def test_another_scenario_is_told_and_left_out(self):
+        document = self.documents["other scenario"]
+        self.assertIn("isn't the scenario of these lines", document.faults[0])
+        self.assertEqual((len(document.primary()), document.traces), (16, []))
+
+    def test_plain_text_is_told(self):
+        self.assertIn("run tracehost with --json", self.documents["plain"].faults[0])
+
+    def test_refused_lines_have_a_lane(self):
+        found = [(mark["data-mark"], mark["lane"][0]) for mark in self.documents["refused"].primary()]
+        self.assertEqual(found, [("birth", "process"), ("refused", "input"), ("ok", "user")])
+
+    def test_the_empty_page(self):
+        self.assertEqual((self.documents["empty"].marks, self.documents["empty"].faults), ([], []))
+
+
+if __name__ == "__main__":
+    run()

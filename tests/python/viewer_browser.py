@@ -1,0 +1,191 @@
+"""A Chromium that tests drive, and what they read of its pages."""
+import html.parser
+import json
+import os
+import subprocess
+import tempfile
+import threading
+
+MOST_SECONDS = 600
+
+
+class Document(html.parser.HTMLParser):
+    """The elements of a document with their attributes, and of a mark the lane that it stands on."""
+
+    VOID = {"meta", "input", "br", "link", "img"}
+
+    def __init__(self, text):
+        super().__init__()
+        self.stack, self.elements, self.marks, self.lanes, self.traces, self.lives = [], [], [], [], [], {}
+        self.faults, self.texts, self.tips, self.body = [], [], [], {}
+        self.feed(text)
+
+    def handle_starttag(self, tag, attributes):
+        found = dict(attributes)
+        self.elements.append((tag, found))
+        if tag not in self.VOID:
+            self.stack.append((tag, found))
+        if tag == "body":
+            self.body = found
+        if "data-lane" in found:
+            self.lanes.append((found["data-lane"], int(found["data-number"])))
+        if "data-from" in found:
+            stretch = int(found["data-from"]), int(found["data-to"]) if found["data-to"] else None
+            if "data-trace" in found:
+                self.traces.append((found["data-trace"], *stretch))
+            elif found["class"] == "life":
+                self.lives[self.lane()[0]] = stretch
+        if "data-mark" in found:
+            found["lane"], found["owner"] = self.lane()
+            self.marks.append(found)
+        if tag == "li":
+            self.faults.append("")
+
+    def lane(self):
+        """The lane that is being read, as its kind and number, and its user."""
+        lane = next(one for _, one in reversed(self.stack) if "data-lane" in one)
+        return (lane["data-lane"], int(lane["data-number"])), lane["data-user"]
+
+    def handle_endtag(self, tag):
+        while self.stack and self.stack.pop()[0] != tag:
+            pass
+
+    def handle_data(self, data):
+        if self.stack and self.stack[-1][0] == "li":
+            self.faults[-1] += data
+        if self.stack and self.stack[-1][0] in ("text", "title"):
+            (self.texts if self.stack[-1][0] == "text" else self.tips).append(data)
+
+    def primary(self):
+        """The marks of steps, a step each, in their order."""
+        return sorted((mark for mark in self.marks if "data-more" not in mark), key=lambda mark: int(mark["data-line"]))
+
+    def steps(self, kind):
+        """The processes and steps of the marks of a kind that stand beside those of steps."""
+        return sorted((mark["lane"][1], int(mark["data-line"])) for mark in self.marks if mark["data-mark"] == kind)
+
+
+class Browser:
+    """A Chromium without a window, driven by its debugging pipe: messages of JSON, each with a NUL byte behind it.
+
+    It is killed after MOST_SECONDS, and whoever waits for it then fails.
+    """
+
+    def __init__(self, program):
+        self.profile = tempfile.TemporaryDirectory(ignore_cleanup_errors=True)
+        words = ["--headless", "--no-sandbox", "--disable-gpu", "--disable-dev-shm-usage", "--no-first-run",
+                 "--disable-extensions", "--disable-component-update", f"--user-data-dir={self.profile.name}"]
+        (heard, self.to), (self.from_, said) = os.pipe(), os.pipe()
+        script = f'exec "$@" --remote-debugging-pipe 3<&{heard} 4>&{said}'
+        self.process = subprocess.Popen(["bash", "-c", script, "bash", program, *words], pass_fds=(heard, said),
+                                        stdout=subprocess.DEVNULL, stderr=subprocess.DEVNULL)
+        os.close(heard)
+        os.close(said)
+        self.timer = threading.Timer(MOST_SECONDS, self.process.kill)
+        self.timer.start()
+        self.count, self.rest, self.events = 0, b"", []
+
+    def close(self):
+        self.process.terminate()
+        self.process.wait()
+        self.timer.cancel()
+        self.profile.cleanup()
+
+    def message(self):
+        """The next message of the browser."""
+        while b"\0" not in self.rest:
+            data = os.read(self.from_, 1 << 20)
+            if not data:
+                raise EOFError("the browser has ended")
+            self.rest += data
+        first, self.rest = self.rest.split(b"\0", 1)
+        return json.loads(first)
+
+    def ask(self, method, session=None, **parameters):
+        self.count += 1
+        message = {"id": self.count, "method": method, "params": parameters}
+        if session:
+            message["sessionId"] = session
+        data = json.dumps(message).encode() + b"\0"
+        while data:
+            data = data[os.write(self.to, data):]
+        while (answer := self.message()).get("id") != self.count:
+            self.events.append((answer.get("sessionId"), answer.get("method")))
+        if "error" in answer:
+            raise ValueError(f"{method}: {answer['error']}")
+        return answer["result"]
+
+    def wait(self, *event):
+        while event not in self.events:
+            answer = self.message()
+            self.events.append((answer.get("sessionId"), answer.get("method")))
+        self.events.remove(event)
+
+
+class Tab:
+    """A page that is open in a browser."""
+
+    def __init__(self, browser, path, address, width=1400, height=800):
+        self.browser = browser
+        self.target = browser.ask("Target.createTarget", url="about:blank")["targetId"]
+        self.session = browser.ask("Target.attachToTarget", targetId=self.target, flatten=True)["sessionId"]
+        self.ask("Page.enable")
+        self.ask("Emulation.setDeviceMetricsOverride", width=width, height=height, deviceScaleFactor=1,
+                 mobile=False)
+        self.ask("Page.navigate", url=f"{path.as_uri()}#{address}")
+        browser.wait(self.session, "Page.loadEventFired")
+
+    def ask(self, method, **parameters):
+        return self.browser.ask(method, self.session, **parameters)
+
+    def value(self, expression):
+        """What an expression of JavaScript, or its promise, comes to in the page."""
+        answer = self.ask("Runtime.evaluate", expression=expression, awaitPromise=True, returnByValue=True)
+        if "exceptionDetails" in answer:
+            raise ValueError(answer["exceptionDetails"])
+        return answer["result"].get("value")
+
+    def press(self, key, code=0):
+        for kind in ("rawKeyDown", "keyUp"):
+            self.ask("Input.dispatchKeyEvent", type=kind, key=key, windowsVirtualKeyCode=code)
+
+    def middle(self, selector):
+        """The middle of an element in the window."""
+        return self.value(f"(box => [box.x + box.width / 2, box.y + box.height / 2])"
+                          f"(document.querySelector({json.dumps(selector)}).getBoundingClientRect())")
+
+    def mouse(self, kind, x, y, buttons=0):
+        button = "left" if buttons or kind == "mouseReleased" else "none"
+        self.ask("Input.dispatchMouseEvent", type=kind, x=x, y=y, button=button, buttons=buttons,
+                 clickCount=int(kind != "mouseMoved"))
+
+    def point(self, selector, click=False):
+        """Moves the pointer to the middle of an element, and clicks there."""
+        x, y = self.middle(selector)
+        self.mouse("mouseMoved", x, y)
+        if click:
+            self.mouse("mousePressed", x, y, 1)
+            self.mouse("mouseReleased", x, y)
+
+    def drag(self, x, y, right, down):
+        """Drags from a place."""
+        self.mouse("mouseMoved", x, y)
+        self.mouse("mousePressed", x, y, 1)
+        for part in (0.25, 0.5, 1):
+            self.mouse("mouseMoved", x + part * right, y + part * down, 1)
+        self.mouse("mouseReleased", x + right, y + down)
+
+    def write(self, text):
+        """Types a text into the field that has the focus."""
+        self.ask("Input.insertText", text=text)
+
+    def settle(self, seconds=0.05):
+        """Waits so long, and until the page has then drawn two frames."""
+        self.value(f"new Promise(done => setTimeout(() => requestAnimationFrame(() => requestAnimationFrame(done)),"
+                   f"{1000 * seconds}))")
+
+    def document(self):
+        return Document(self.value("document.documentElement.outerHTML"))
+
+    def close(self):
+        self.browser.ask("Target.closeTarget", targetId=self.target)
