@@ -17,15 +17,15 @@ import re
 import subprocess
 import tempfile
 
-import steps
+import scenarios
 
 LOADS = {
-    'churn of processes': steps.of_one(steps.forks_and_exits),
-    'attach, wait, detach': steps.of_one(steps.attach_cycles),
-    'chains of debuggers that end': steps.of_one(steps.chains_that_end),
-    'threads': steps.of_one(steps.threads),
-    'lists of 64 users': steps.spawns_and_lists,
-    'parsing alone': steps.refusals,
+    'churn of processes': scenarios.of_one(scenarios.forks_and_exits),
+    'attach, wait, detach': scenarios.of_one(scenarios.attach_cycles),
+    'chains of debuggers that end': scenarios.of_one(scenarios.chains_that_end),
+    'threads': scenarios.of_one(scenarios.threads),
+    'lists of 64 users': scenarios.spawns_and_lists,
+    'parsing alone': scenarios.refusals,
 }
 
 # The functions of each part, as regular expressions of their whole names. Where the first one isn't there, since it was
@@ -104,7 +104,7 @@ def print_row(cells):
 def print_load(load, programs, options, room):
     """A row for each program. Answers the functions of each by their own cost."""
     scenario = os.path.join(room, 'scenario.json')
-    steps.write(LOADS[load](options.steps), scenario)
+    scenarios.write(LOADS[load](options.steps), scenario)
     alone = []
     for number, program in enumerate(programs, 1):
         file = os.path.join(room, 'callgrind.out')

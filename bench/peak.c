@@ -1,5 +1,5 @@
-/* Runs the program that its arguments name, and tells on standard error the most kilobytes that it had in memory. It is small, since
-   a process starts with the peak of the one that starts it. Its status is the program's. */
+/* Runs the program that its arguments name, and prints on standard error the most kilobytes that it had in memory. It
+   is small, since a process starts with the peak of the one that starts it. Its status is the program's. */
 #include <stdio.h>
 #include <sys/resource.h>
 #include <sys/wait.h>

@@ -1,13 +1,22 @@
 #!/usr/bin/env python3
-"""Times the program with a thread for each user beside its plain run, on a machine that has nothing else to do and on one that is busy.
+"""Times the program with a thread for each user against its plain run, on an idle machine and on a busy one.
 
     python3 bench/threads.py [PROGRAM] [--runs N] [--steps N] [--busy N]
 
-PROGRAM is the built program (default: crates/tracehost/out/tracehost, which ./tracehost builds). Scenarios of 2, 6, 9, 16, 33 and 64 users have as many steps in all (default 20,000), in three shapes: `even`, the users in turn; `half`, where one user makes half of the steps; `random`, where each step is a user's by chance, some users' more often than others', lists among them. Each is made by a fixed rule.
+PROGRAM is the built program (default: crates/tracehost/out/tracehost, which ./tracehost builds). Scenarios of 2, 6, 9,
+16, 33 and 64 users have the same number of steps in all (default 20,000), made by a fixed rule, in three shapes:
 
-Each scenario is run N times (default 20) plain and with --threads, one right after the other: first as the machine is, then beside busy loops (default: twice as many as there are processors). Printed are wall times in seconds and how many times the middle plain run's time the middle and the longest run with --threads took.
+- `even`: the users in turn;
+- `half`: one user makes half of the steps;
+- `random`: users by chance, some more often than others, lists among the steps.
 
-Before anything is timed, each scenario's lines with --threads are compared with the plain run's, grouped by rising user. Status 1 where they differ, or where a bound is passed: beside the busy loops 3 for the middle run and 10 for the longest; else 2 for the middle run of 64 users.
+Each scenario is run N times (default 20) plain and with --threads, one right after the other: first as the machine is,
+then with busy loops (default: twice as many as there are processors). The rows have wall times in seconds, and the
+median and the longest run with --threads in times the median plain run.
+
+Before anything is timed, each scenario's lines with --threads are compared with the plain run's, grouped by rising
+user. The status is 1 if they differ, or if a bound is passed: with the busy loops 3 for the median run and 10 for the
+longest, else 2 for the median run of 64 users.
 """
 
 import argparse
@@ -20,10 +29,10 @@ import sys
 import tempfile
 import time
 
-import steps
+import scenarios
 
 COUNTS = (2, 6, 9, 16, 33, 64)
-MAKES = (steps.attach_cycles, steps.forks_and_exits, steps.threads, steps.chains_that_end)
+MAKES = (scenarios.attach_cycles, scenarios.forks_and_exits, scenarios.threads, scenarios.chains_that_end)
 
 
 def sources_of(users):
@@ -50,7 +59,9 @@ def chance(users, length):
     weights = [dice.random() for _ in users]
     turns = dice.choices(range(len(users)), weights, k=length)
     return [
-        {'user': users[n], 'op': 'list', 'caller': steps.first_pid(users[n])} if dice.random() < 0.1 else next(sources[n])
+        {'user': users[n], 'op': 'list', 'caller': scenarios.first_pid(users[n])}
+        if dice.random() < 0.1
+        else next(sources[n])
         for n in turns
     ]
 
@@ -67,9 +78,8 @@ def lines(program, *words):
     """What the program prints. Ends all where the program refuses the run."""
     run = subprocess.run([program, *words], capture_output=True)
     if run.returncode != 0:
-        told = run.stderr.decode(errors='replace').strip()
-        refused = 'the program has no --threads' if run.returncode == 2 and '--threads' in words else 'the program refuses the run'
-        sys.exit(f'bench/threads.py: {refused}: {program} {" ".join(words)} ended with status {run.returncode}: {told}')
+        error = run.stderr.decode(errors='replace').strip()
+        sys.exit(f'bench/threads.py: {program} {" ".join(words)} ended with status {run.returncode}: {error}')
     return run.stdout
 
 
@@ -92,23 +102,27 @@ def busy(loops):
             loop.wait()
 
 
+# of the columns after the shape and the users
+WIDTHS = (13, 8, 15, 8, 13, 8)
+
+
 def measure(program, made, runs, loops):
     """A line for each scenario. Answers how many passed a bound."""
     passed = 0
-    print(f'\nbeside {loops} busy loops' if loops else '\nas the machine is')
-    print(f'{"shape":8} {"users":>5} {"plain: middle":>13} {"longest":>8} {"threads: middle":>15} {"longest":>8} {"times: middle":>13} {"longest":>8}')
+    print(f'\nwith {loops} busy loops' if loops else '\nas the machine is')
+    heads = ('plain: median', 'longest', 'threads: median', 'longest', 'times: median', 'longest')
+    print(f'{"shape":8} {"users":>5} ' + ' '.join(f'{head:>{width}}' for head, width in zip(heads, WIDTHS)))
     for shape, users, file in made:
         pairs = [(timed(program, file), timed(program, '--threads', file)) for _ in range(runs)]
         plain, threads = zip(*pairs)
-        middle = statistics.median(plain)
-        usual, longest = statistics.median(threads) / middle, max(threads) / middle
+        median = statistics.median(plain)
+        usual, longest = statistics.median(threads) / median, max(threads) / median
         beyond = usual > 3 or longest > 10 if loops else users == 64 and usual > 2
         passed += beyond
-        print(
-            f'{shape:8} {users:5} {middle:13.3f} {max(plain):8.3f} {statistics.median(threads):15.3f} {max(threads):8.3f} {usual:13.2f} {longest:8.2f}'
-            + ('  FAILED' if beyond else ''),
-            flush=True,
-        )
+        seconds = (median, max(plain), statistics.median(threads), max(threads))
+        texts = [f'{it:.3f}' for it in seconds] + [f'{usual:.2f}', f'{longest:.2f}']
+        row = f'{shape:8} {users:5} ' + ' '.join(f'{text:>{width}}' for text, width in zip(texts, WIDTHS))
+        print(row + ('  FAILED' if beyond else ''), flush=True)
     return passed
 
 
@@ -126,13 +140,14 @@ def main():
         for shape, make in SHAPES.items():
             for count in COUNTS:
                 file = os.path.join(room, f'{shape}-{count}.json')
-                steps.write(make(steps.USERS[:count], options.steps), file)
+                scenarios.write(make(scenarios.USERS[:count], options.steps), file)
                 made.append((shape, count, file))
         for shape, count, file in made:
             if lines(options.program, '--threads', file) != grouped(lines(options.program, file)):
                 failed += 1
                 print(f'FAILED: {shape}, {count} users: the lines with --threads are others')
-        print(f'{len(made)} scenarios of {options.steps} steps with --threads compared with the plain run, {failed} differ')
+        compared = f'{len(made)} scenarios of {options.steps} steps'
+        print(f'{compared} with --threads compared with the plain run, {failed} differ')
         failed += measure(options.program, made, options.runs, 0)
         with busy(options.busy):
             failed += measure(options.program, made, options.runs, options.busy)

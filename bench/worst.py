@@ -16,15 +16,16 @@ import os
 import tempfile
 
 import instructions
-import steps
+import scenarios
+from steps import best
 
 USER = 1001
-DEBUGGER = steps.first_pid(USER)
+DEBUGGER = scenarios.first_pid(USER)
 MOST_PROCESSES = 250
 
 
 def spawns(count):
-    return [steps.spawn(USER) for _ in range(count)]
+    return [scenarios.spawn(USER) for _ in range(count)]
 
 
 def kill_all(signal):
@@ -33,7 +34,7 @@ def kill_all(signal):
 
 def attach(tracee):
     """The attach, and the wait that is told of the stop."""
-    yield steps.ptrace(USER, DEBUGGER, 'PT_ATTACH', tracee)
+    yield scenarios.ptrace(USER, DEBUGGER, 'PT_ATTACH', tracee)
     yield {'user': USER, 'op': 'wait4', 'caller': DEBUGGER, 'which': tracee}
 
 
@@ -45,13 +46,13 @@ def attached(tracees):
 
 def waits(tracees):
     """The debugger waits, and no tracee has anything to tell."""
-    return attached(tracees), itertools.repeat(steps.wait(USER, DEBUGGER))
+    return attached(tracees), itertools.repeat(scenarios.wait(USER, DEBUGGER))
 
 
 def attaches(tracees):
     """The debugger detaches from the tracee that was attached last, and attaches to it again."""
     last = DEBUGGER + tracees
-    round_of_steps = [steps.ptrace(USER, DEBUGGER, 'PT_DETACH', last), *attach(last)]
+    round_of_steps = [scenarios.ptrace(USER, DEBUGGER, 'PT_DETACH', last), *attach(last)]
     return attached(tracees), itertools.cycle(round_of_steps)
 
 
@@ -71,15 +72,15 @@ def discarded_signals(processes):
 
 def spawns_and_exits(processes):
     """A process more, which exits at once, beside so many others."""
-    numbers = steps.Numbers(USER)
+    numbers = scenarios.Numbers(USER)
     for _ in range(processes):
         numbers.process()
 
     def rounds():
         while True:
             pid, tid = numbers.process()
-            yield steps.spawn(USER)
-            yield from steps.call(USER, tid, 'exit', code=0)
+            yield scenarios.spawn(USER)
+            yield from scenarios.call(USER, tid, 'exit', code=0)
             numbers.gone(pid, tid)
 
     return spawns(processes), rounds()
@@ -99,7 +100,7 @@ CASES = (
 def measured(program, made, runs, room):
     """Seconds of a run, its instructions, and those of the host's steps."""
     scenario = os.path.join(room, 'scenario.json')
-    if steps.write(made, scenario) < len(made):
+    if scenarios.write(made, scenario) < len(made):
         raise SystemExit('bench/worst.py: the program reads no scenario of so many steps')
     file = os.path.join(room, 'callgrind.out')
     instructions.profile(program, scenario, file)
@@ -107,7 +108,7 @@ def measured(program, made, runs, room):
     hosts = instructions.part(functions, instructions.PARTS['steps'])
     if hosts is None:
         raise SystemExit('bench/worst.py: no function of the program is the part steps of bench/instructions.py')
-    return steps.best(program, scenario, runs), whole, hosts
+    return best(program, scenario, runs), whole, hosts
 
 
 def cost_of_a_step(make, size, options, room):

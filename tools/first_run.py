@@ -3,10 +3,11 @@
 
 Each crate is proved once all below it are, as many side by side as there are processors and memory for, each in a lane
 of its own (lane.py). On a terminal one line is rewritten; else a line is printed for each crate. The share of the work
-that is done comes from the processor seconds of each crate in docs/TIMES.md. What is proved stays in the crates' out/
+that is done comes from the processor seconds in bench/proof_seconds.tsv. What is proved stays in the crates' out/
 folders, so that after an interrupt the next call goes on from there.
 """
 
+import csv
 import os
 import re
 import shutil
@@ -22,8 +23,8 @@ TOP = os.path.dirname(os.path.dirname(os.path.realpath(__file__)))
 PROGRAM = "tracehost"
 # what one check is likely to take at most, in bytes
 MEMORY_OF_A_CHECK = 3_500_000_000
-# from so many processor seconds on, a crate that nothing else can be proved beside gets a second process
-LARGE = 90
+# by how many processes a crate is proved: each more reads all that the crate stands on once more
+JOBS = ["--jobs", "1"]
 
 
 def crates_below(program):
@@ -47,13 +48,10 @@ def crates_below(program):
 
 
 def weights(names):
-    """Returns the processor seconds of each crate by the table in docs/TIMES.md, and for one that it lacks the mean."""
-    found = {}
-    with open(f"{TOP}/docs/TIMES.md", encoding="utf-8") as table:
-        for line in table:
-            row = re.match(r"\| `(\w+)` \| [\d.-]+ \| ([\d.]+) \|", line)
-            if row:
-                found[row[1]] = float(row[2])
+    """Returns the processor seconds of each crate in bench/proof_seconds.tsv, and for one that it lacks the mean."""
+    with open(f"{TOP}/bench/proof_seconds.tsv", encoding="utf-8", newline="") as table:
+        rows = csv.DictReader((line for line in table if not line.startswith("#")), delimiter="\t")
+        found = {row["crate"]: float(row["seconds"]) for row in rows}
     known = [found[name] for name in names if name in found]
     mean = sum(known) / len(known) if known else 1.0
     return {name: found.get(name, mean) for name in names}
@@ -66,8 +64,14 @@ def newest_below(folder):
         for part in ("src", "specs", "proofs")
         for at, _, names in os.walk(f"{folder}/{part}")
         for name in names
+        if name.endswith((".rt", ".antt")) and not name.startswith(".")
     ]
     return max(times, default=0.0)
+
+
+def digest_of_sources():
+    """Returns the digest of all that the program is built from."""
+    return subprocess.run([f"{TOP}/tools/sources"], stdout=subprocess.PIPE, text=True, check=True).stdout.strip()
 
 
 def lanes():
@@ -85,14 +89,24 @@ class Builder:
         self.began = time.monotonic()
         self.lock = threading.Condition()
         self.running, self.done, self.failed = {}, [], None
+        # when each crate began, and the seconds of each that was proved now
+        self.started, self.took = {}, {}
+        self.shown = 0.0
         self.children, self.threads = set(), []
         self.is_terminal = sys.stderr.isatty()
 
     def share(self):
-        """Returns how much of the work is done, from 0 to 1."""
+        """Returns how much of the work is done, from 0 to 1.
+
+        What runs is judged by its time, since one process counts the functions of a crate only at its end.
+        """
+        pace = sum(self.took.values()) / sum(self.weight[name] for name in self.took) if self.took else 1.0
         part = sum(self.weight[name] for name in self.done)
-        part += sum(self.weight[name] * of / max(1, total) for name, (of, total) in self.running.items())
-        return part / sum(self.weight.values())
+        for name in self.running:
+            spent = (time.monotonic() - self.started[name]) / pace
+            part += min(spent, 0.9 * self.weight[name])
+        self.shown = max(self.shown, part / sum(self.weight.values()))
+        return self.shown
 
     def elapsed(self):
         seconds = int(time.monotonic() - self.began)
@@ -111,8 +125,8 @@ class Builder:
             return
         place = list(self.below)
         parts = [
-            f"{name} ({place.index(name) + 1} of {len(place)}): {of} of {total or '?'} functions"
-            for name, (of, total) in self.running.items()
+            f"{name} ({place.index(name) + 1} of {len(place)}, {functions or '?'} functions)"
+            for name, functions in self.running.items()
         ]
         text = f"tracehost: {self.elapsed()}, {self.share():.0%} done; proving {', '.join(parts)}"
         width = shutil.get_terminal_size((80, 24)).columns - 1
@@ -149,37 +163,39 @@ class Builder:
             child.stdin.close()
             for line in child.stdout:
                 log.write(line)
-                count = re.match(rb"so far: (\d+) of (\d+)", line) or re.match(rb"logic=proved functions=((\d+))", line)
+                count = re.match(rb"so far: \d+ of (\d+)|logic=proved functions=(\d+)", line)
                 if count:
                     with self.lock:
-                        self.running[name] = (int(count[1]), int(count[2]))
+                        self.running[name] = int(count[1] or count[2])
                         self.show()
             status = child.wait()
             with self.lock:
                 self.children.discard(child)
         return status == 0
 
-    def prove_library(self, name, jobs):
+    def prove_library(self, name):
         """Builds a library, which rt does only where it is proved."""
         if self.is_proved(name):
             return True
         with Lane(TOP, name, self.all_below(name)) as lane:
-            well = self.call(name, lane.folder, ["lib", "--jobs", str(jobs)])
+            well = self.call(name, lane.folder, ["lib", *JOBS])
             if well:
                 lane.date()
         return well
 
-    def prove(self, name, jobs):
+    def prove(self, name):
         log = f"{TOP}/crates/{name}/out/build.log"
         if os.path.exists(log):
             os.remove(log)
         if name == PROGRAM:
             # a scenario of no steps prints nothing, so that this run proves and builds, and does no more
-            well = self.call(name, f"{TOP}/crates/{name}", ["run", "--jobs", str(jobs)], b'{"steps":[]}')
+            well = self.call(name, f"{TOP}/crates/{name}", ["run", *JOBS], b'{"steps":[]}')
         else:
-            well = self.prove_library(name, jobs)
+            well = self.prove_library(name)
         with self.lock:
-            functions = self.running.pop(name)[1]
+            functions = self.running.pop(name)
+            if functions:
+                self.took[name] = time.monotonic() - self.started[name]
             if well:
                 self.done.append(name)
                 self.tell(name, functions)
@@ -206,21 +222,13 @@ class Builder:
         above = [it for it, uses in self.below.items() if name in uses]
         return self.weight[name] + max((self.chain(it) for it in above), default=0)
 
-    def jobs(self, name, at_once):
-        """Returns by how many processes a crate is proved.
-
-        Each reads all that the crate stands on, so a second pays for large ones alone.
-        """
-        return 2 if at_once == 1 and self.lanes > 1 and self.weight[name] >= LARGE else 1
-
     def run(self):
         with self.lock:
             while len(self.done) < len(self.below) and not self.failed:
                 ready = sorted(self.ready(), key=self.chain, reverse=True)
                 for name in ready[: self.lanes - len(self.running)]:
-                    jobs = self.jobs(name, len(self.running) + len(ready))
-                    self.running[name] = (0, 0)
-                    thread = threading.Thread(target=self.prove, args=(name, jobs), daemon=True)
+                    self.running[name], self.started[name] = 0, time.monotonic()
+                    thread = threading.Thread(target=self.prove, args=(name,), daemon=True)
                     self.threads.append(thread)
                     thread.start()
                 self.show()
@@ -249,6 +257,7 @@ def main():
     # also where the caller ignores interrupts, as a shell does for what it runs in the background
     for number in (signal.SIGINT, signal.SIGTERM):
         signal.signal(number, interrupt)
+    digest = digest_of_sources()
     builder = Builder()
     builder.say(
         f"proving and building {len(builder.below)} crates, once, on {builder.lanes} processors; "
@@ -267,6 +276,7 @@ def main():
             sys.stderr.write("".join(text.readlines()[-20:]))
         builder.say(f"{failed} is not proved: the whole log is {log}")
         return 1
+    subprocess.run([f"{TOP}/tools/program", "--built", digest], check=True)
     builder.say(f"built in {builder.elapsed()}")
     return 0
 

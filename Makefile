@@ -1,0 +1,107 @@
+# make install [PREFIX=/usr/local] [DESTDIR=]   installs the program and the library that are here; nothing is built
+# make install-strip                            the same, without the program's symbols
+# make uninstall                                removes them, with the same variables
+# make deb, make wheel                          make a Debian package and a Python wheel in out/
+# make check                                    runs ./test
+#
+# The other variables are GNU's directory variables.
+
+PREFIX ?= /usr/local
+prefix = $(PREFIX)
+exec_prefix = $(prefix)
+bindir = $(exec_prefix)/bin
+includedir = $(prefix)/include
+libdir = $(exec_prefix)/lib
+datarootdir = $(prefix)/share
+datadir = $(datarootdir)
+mandir = $(datarootdir)/man
+man1dir = $(mandir)/man1
+docdir = $(datarootdir)/doc/tracehost
+pkgdatadir = $(datadir)/tracehost
+pkgconfigdir = $(datadir)/pkgconfig
+libpkgconfigdir = $(libdir)/pkgconfig
+bashcompletiondir = $(datadir)/bash-completion/completions
+zshcompletiondir = $(datadir)/zsh/site-functions
+
+INSTALL = install
+INSTALL_PROGRAM = $(INSTALL)
+INSTALL_DATA = $(INSTALL) -m 644
+PYTHON = python3
+OUT = out
+SONAME = libtracehost.so.0
+
+PAGES = tracehost.1 tracehost-view.1 tracehost-perfetto.1
+DATA = schema/scenario.schema.json viewer/src/*
+DOCUMENTS = LICENSE README.md CHANGELOG.md docs/* examples/*
+# the client in C: tracehost_client.c includes the others
+CLIENT = tracehost_client.c internal.h calls.c in_process.c names.c pipe.c record.c session.c steps.c threads.c
+
+all:
+	@tools/program
+
+install:
+	@tools/program >/dev/null
+	for folder in "$(bindir)" "$(includedir)" "$(man1dir)" "$(docdir)/docs" "$(docdir)/examples" "$(pkgdatadir)/schema" \
+	  "$(pkgdatadir)/viewer/src" "$(pkgconfigdir)" "$(bashcompletiondir)" "$(zshcompletiondir)"; do \
+	  $(INSTALL) -d "$(DESTDIR)$$folder" || exit; done
+	$(INSTALL_PROGRAM) "$$(tools/program)" "$(DESTDIR)$(bindir)/tracehost"
+	for page in $(PAGES); do $(INSTALL_DATA) man/$$page "$(DESTDIR)$(man1dir)" || exit; done
+	for file in $(DATA); do $(INSTALL_DATA) $$file "$(DESTDIR)$(pkgdatadir)/$$file" || exit; done
+	for file in $(DOCUMENTS); do $(INSTALL_DATA) $$file "$(DESTDIR)$(docdir)/$$file" || exit; done
+	$(INSTALL) viewer/make "$(DESTDIR)$(pkgdatadir)/viewer/make"
+	ln -sfr "$(DESTDIR)$(pkgdatadir)/viewer/make" "$(DESTDIR)$(bindir)/tracehost-view"
+	$(INSTALL) viewer/perfetto "$(DESTDIR)$(pkgdatadir)/viewer/perfetto"
+	ln -sfr "$(DESTDIR)$(pkgdatadir)/viewer/perfetto" "$(DESTDIR)$(bindir)/tracehost-perfetto"
+	$(INSTALL_DATA) clients/c/tracehost_client.h "$(DESTDIR)$(includedir)"
+	$(INSTALL) -d "$(DESTDIR)$(pkgdatadir)/c"
+	for file in $(CLIENT); do $(INSTALL_DATA) clients/c/$$file "$(DESTDIR)$(pkgdatadir)/c" || exit; done
+	sed -e 's|@prefix@|$(prefix)|; s|@bindir@|$(bindir)|; s|@includedir@|$(includedir)|; s|@pkgdatadir@|$(pkgdatadir)|' \
+	  -e 's|=$(prefix)/|=$${prefix}/|' -e "s|@version@|$$(tools/version)|" clients/c/tracehost-client.pc.in \
+	  >"$(DESTDIR)$(pkgconfigdir)/tracehost-client.pc"
+	chmod 644 "$(DESTDIR)$(pkgconfigdir)/tracehost-client.pc"
+	if library=$$(tools/library); then $(MAKE) --no-print-directory install-library library="$$library"; fi
+	$(INSTALL_DATA) completions/tracehost.bash "$(DESTDIR)$(bashcompletiondir)/tracehost"
+	$(INSTALL_DATA) completions/_tracehost "$(DESTDIR)$(zshcompletiondir)"
+
+# the library of the present sources, from the folder that tools/library prints
+install-library:
+	$(INSTALL) -d "$(DESTDIR)$(includedir)" "$(DESTDIR)$(libpkgconfigdir)"
+	$(INSTALL_DATA) include/tracehost.h include/tracehost.hpp "$(DESTDIR)$(includedir)"
+	$(INSTALL_DATA) "$(library)/libtracehost.a" "$(DESTDIR)$(libdir)"
+	$(INSTALL_DATA) "$(library)/libtracehost.so" "$(DESTDIR)$(libdir)/$(SONAME)"
+	ln -sf $(SONAME) "$(DESTDIR)$(libdir)/libtracehost.so"
+	sed -e 's|@prefix@|$(prefix)|; s|@libdir@|$(libdir)|; s|@includedir@|$(includedir)|' \
+	  -e 's|=$(prefix)/|=$${prefix}/|' -e "s|@version@|$$(tools/version)|" include/tracehost.pc.in \
+	  >"$(DESTDIR)$(libpkgconfigdir)/tracehost.pc"
+	chmod 644 "$(DESTDIR)$(libpkgconfigdir)/tracehost.pc"
+
+install-strip:
+	$(MAKE) INSTALL_PROGRAM='$(INSTALL_PROGRAM) -s' install
+
+# folders that other programs may share stay
+uninstall:
+	for file in "$(bindir)/tracehost" "$(bindir)/tracehost-view" "$(bindir)/tracehost-perfetto" \
+	  "$(includedir)/tracehost_client.h" "$(includedir)/tracehost.h" "$(includedir)/tracehost.hpp" \
+	  "$(libdir)/libtracehost.a" "$(libdir)/libtracehost.so" "$(libdir)/$(SONAME)" \
+	  "$(libpkgconfigdir)/tracehost.pc" "$(pkgconfigdir)/tracehost-client.pc" \
+	  "$(pkgdatadir)/viewer/make" "$(pkgdatadir)/viewer/perfetto" "$(bashcompletiondir)/tracehost" \
+	  "$(zshcompletiondir)/_tracehost"; do rm -f "$(DESTDIR)$$file"; done
+	for page in $(PAGES); do rm -f "$(DESTDIR)$(man1dir)/$$page"; done
+	for file in $(CLIENT); do rm -f "$(DESTDIR)$(pkgdatadir)/c/$$file"; done
+	test ! -d "$(DESTDIR)$(pkgdatadir)/c" || rmdir "$(DESTDIR)$(pkgdatadir)/c"
+	for file in $(DATA); do rm -f "$(DESTDIR)$(pkgdatadir)/$$file"; done
+	for file in $(DOCUMENTS); do rm -f "$(DESTDIR)$(docdir)/$$file"; done
+	for folder in "$(docdir)/docs" "$(docdir)/examples" "$(docdir)" \
+	  "$(pkgdatadir)/schema" "$(pkgdatadir)/viewer/src" "$(pkgdatadir)/viewer" "$(pkgdatadir)"; do \
+	  test ! -d "$(DESTDIR)$$folder" || rmdir "$(DESTDIR)$$folder"; done
+
+deb:
+	tools/deb "$(OUT)"
+
+wheel:
+	$(PYTHON) -m pip wheel --quiet --no-deps $(PIPFLAGS) --wheel-dir "$(OUT)" ./clients/python
+
+check:
+	./test
+
+.PHONY: all install install-library install-strip uninstall deb wheel check

@@ -1,0 +1,117 @@
+#!/usr/bin/env python3
+"""Times a step by the library and by a pipe, side by side in one run, and counts its instructions.
+
+    python3 bench/in_process.py [PROGRAM] [--library FOLDER] [--steps N] [--runs N]
+
+PROGRAM is the built program, FOLDER that of libtracehost.a (default: the release's, or $TRACEHOST_LIB_DIR). A debugger
+attaches to a process, waits for it and detaches, again and again. Printed is for each way the best of N runs (default
+9), in nanoseconds a step; the runs of the ways take turns. Instructions are counted by valgrind's callgrind, as the
+difference of two runs; `-` where there is no valgrind, for Python, and for a pipe, whose other end is another process.
+The client in C calls the library by text, that in Python by typed calls. Without cargo or c++ their rows are left out.
+"""
+
+from __future__ import annotations
+
+import argparse
+import json
+import os
+import pathlib
+import platform
+import re
+import shutil
+import subprocess
+import tempfile
+
+TOP = pathlib.Path(__file__).resolve().parent.parent
+COUNTED = re.compile(r"Collected : (\d+)")
+
+
+def compile_c(room: pathlib.Path, library: pathlib.Path) -> pathlib.Path:
+    to = room / "steps_c"
+    sources = [TOP / "bench/in_process/steps.c", TOP / "clients/c/tracehost_client.c"]
+    folders: list[str | pathlib.Path] = ["-I", TOP / "include", "-I", TOP / "clients/c"]
+    words = ["cc", "-O2", "-pthread", "-DTRACEHOST_IN_PROCESS", *folders, "-o", to, *sources, library]
+    subprocess.run(words, check=True)
+    return to
+
+
+def compile_cpp(room: pathlib.Path, library: pathlib.Path) -> pathlib.Path:
+    to = room / "steps_cpp"
+    source = TOP / "bench/in_process/steps.cpp"
+    subprocess.run(["c++", "-O2", "-std=c++17", "-I", TOP / "include", "-o", to, source, library], check=True)
+    return to
+
+
+def compile_rust(room: pathlib.Path, library: pathlib.Path) -> pathlib.Path:
+    words = ["cargo", "build", "--offline", "--quiet", "--profile", "bench", "--bench", "steps"]
+    environment = {**os.environ, "TRACEHOST_LIB_DIR": str(library.parent), "CARGO_TARGET_DIR": str(room / "target")}
+    words.append("--message-format=json")
+    ran = subprocess.run(words, cwd=TOP / "clients/rust", env=environment, check=True, capture_output=True, text=True)
+    made = [json.loads(line).get("executable") for line in ran.stdout.splitlines()]
+    return pathlib.Path(next(file for file in made if file))
+
+
+def ways(room: pathlib.Path, library: pathlib.Path, program: str) -> dict[str, list[str]]:
+    """The command of each way, which takes the number of steps after its second word."""
+    c = compile_c(room, library)
+    table = {"C, typed": [str(c), "typed"]}
+    if shutil.which("c++"):
+        table["C++, typed"] = [str(compile_cpp(room, library)), "typed"]
+    if shutil.which("cargo"):
+        table["Rust, typed"] = [str(compile_rust(room, library)), "typed"]
+    table["C, text in words"] = [str(c), "text"]
+    table["C, text in JSON"] = [str(c), "json"]
+    table["C, client in the process"] = [str(c), "client"]
+    table["C, client by pipe"] = [str(c), "pipe", program]
+    python = str(TOP / "bench/in_process/steps.py")
+    table["Python, client in the process"] = [python, "library"]
+    table["Python, client by pipe"] = [python, "pipe", program]
+    return table
+
+
+def command(way: list[str], steps: int) -> list[str]:
+    return [*way[:2], str(steps), *way[2:]]
+
+
+def nanoseconds(way: list[str], steps: int) -> float:
+    return float(subprocess.run(command(way, steps), check=True, capture_output=True, text=True).stdout)
+
+
+def instructions(way: list[str], steps: int) -> int:
+    words = ["valgrind", "--tool=callgrind", "--callgrind-out-file=/dev/null", *command(way, steps)]
+    ran = subprocess.run(words, check=True, capture_output=True, text=True)
+    counted = COUNTED.search(ran.stderr)
+    if counted is None:
+        raise RuntimeError(ran.stderr)
+    return int(counted[1])
+
+
+def instructions_a_step(way: list[str]) -> str:
+    if way[1] in ("pipe", "library") or not shutil.which("valgrind"):
+        return "-"
+    return f"{(instructions(way, 60000) - instructions(way, 30000)) / 30000:,.0f}"
+
+
+def main() -> None:
+    release = TOP / f"release/{platform.machine()}-linux"
+    parser = argparse.ArgumentParser()
+    parser.add_argument("program", nargs="?", default=str(release / "tracehost"))
+    parser.add_argument("--library", default=os.environ.get("TRACEHOST_LIB_DIR", str(release)))
+    parser.add_argument("--steps", type=int, default=300000)
+    parser.add_argument("--runs", type=int, default=9)
+    options = parser.parse_args()
+    with tempfile.TemporaryDirectory() as room:
+        library = pathlib.Path(options.library).resolve() / "libtracehost.a"
+        table = ways(pathlib.Path(room), library, options.program)
+        os.environ["TRACEHOST_LIBRARY"] = str(library.with_suffix(".so"))
+        best = {name: float("inf") for name in table}
+        for _ in range(options.runs):
+            for name, way in table.items():
+                best[name] = min(best[name], nanoseconds(way, options.steps))
+        print(f'{"way":30} {"ns a step":>10} {"instructions":>13}')
+        for name, way in table.items():
+            print(f"{name:30} {best[name]:10,.0f} {instructions_a_step(way):>13}")
+
+
+if __name__ == "__main__":
+    main()

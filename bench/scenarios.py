@@ -1,0 +1,201 @@
+"""Scenarios by fixed rules, for the benchmarks and for the scripts in tests/.
+
+A load is a function from a length to that many steps. A source is a function from a user to that user's steps, which
+never end; `of_one`, `side_by_side` and `mixed` make loads of sources.
+"""
+
+import json
+from collections.abc import Callable, Iterable, Iterator
+
+Step = dict[str, object]
+Load = Callable[[int], list[Step]]
+Source = Callable[[int], Iterator[Step]]
+
+USERS = range(1001, 1065)
+
+
+def first_pid(user: int) -> int:
+    return 1000 * (user - 1000)
+
+
+def spawns_and_lists(length: int) -> list[Step]:
+    """All 64 users in turn: spawns (refused beyond 250), a list by the first process, one by another user's process."""
+    steps: list[Step] = []
+    turn = 0
+    while len(steps) < length:
+        for user in USERS:
+            kind = turn % 8
+            if kind == 6:
+                steps.append({'user': user, 'op': 'list', 'caller': first_pid(user)})
+            elif kind == 7:
+                steps.append({'user': user, 'op': 'list', 'caller': first_pid(1001 + (user - 1000) % 64)})
+            else:
+                steps.append({'user': user, 'op': 'spawn'})
+        turn += 1
+    return steps[:length]
+
+
+def refusals(length: int) -> list[Step]:
+    """One process for each user, and then lists by unused numbers."""
+    steps = [spawn(user) for user in USERS]
+    while len(steps) < length:
+        user = 1001 + len(steps) % 64
+        steps.append({'user': user, 'op': 'list', 'caller': first_pid(user) + 500})
+    return steps[:length]
+
+
+class Block:
+    """A block of numbers, of which the first free one after the last is taken, round the block."""
+
+    def __init__(self, first: int, size: int) -> None:
+        self.first, self.size, self.cursor = first, size, 0
+        self.taken: set[int] = set()
+
+    def take(self) -> int:
+        while self.first + self.cursor in self.taken:
+            self.cursor = (self.cursor + 1) % self.size
+        number = self.first + self.cursor
+        self.taken.add(number)
+        self.cursor = (self.cursor + 1) % self.size
+        return number
+
+
+class Numbers:
+    """The numbers of one user's new processes and LWPs."""
+
+    def __init__(self, user: int) -> None:
+        self.pids = Block(first_pid(user), 1000)
+        self.tids = Block(100000 + 4000 * (user - 1001), 4000)
+
+    def process(self) -> tuple[int, int]:
+        return self.pids.take(), self.tids.take()
+
+    def lwp(self) -> int:
+        return self.tids.take()
+
+    def gone(self, pid: int, tid: int) -> None:
+        self.pids.taken.discard(pid)
+        self.lwp_gone(tid)
+
+    def lwp_gone(self, tid: int) -> None:
+        self.tids.taken.discard(tid)
+
+
+def spawn(user: int) -> Step:
+    return {'user': user, 'op': 'spawn'}
+
+
+def ptrace(user: int, caller: int, request: str, target: int) -> Step:
+    return {'user': user, 'op': 'ptrace', 'caller': caller, 'request': request, 'target': target}
+
+
+def wait(user: int, caller: int) -> Step:
+    return {'user': user, 'op': 'wait4', 'caller': caller, 'which': -1}
+
+
+def call(user: int, lwp: int, name: str, **more: object) -> Iterator[Step]:
+    """The two turns of a system call."""
+    yield {'user': user, 'op': 'turn', 'lwp': lwp, 'act': 'enter', 'call': name, **more}
+    yield {'user': user, 'op': 'turn', 'lwp': lwp, 'act': 'leave'}
+
+
+def attach_cycles(user: int) -> Iterator[Step]:
+    numbers = Numbers(user)
+    debugger, _ = numbers.process()
+    tracee, _ = numbers.process()
+    yield spawn(user)
+    yield spawn(user)
+    while True:
+        yield ptrace(user, debugger, 'PT_ATTACH', tracee)
+        yield wait(user, debugger)
+        yield ptrace(user, debugger, 'PT_DETACH', tracee)
+
+
+def forks_and_exits(user: int) -> Iterator[Step]:
+    numbers = Numbers(user)
+    parent, lwp = numbers.process()
+    yield spawn(user)
+    while True:
+        pid, tid = numbers.process()
+        yield from call(user, lwp, 'fork')
+        yield from call(user, tid, 'exit', code=0)
+        # SIGCHLD is discarded, so that the parent's next turn meets no signal
+        yield wait(user, parent)
+        numbers.gone(pid, tid)
+
+
+def threads(user: int) -> Iterator[Step]:
+    numbers = Numbers(user)
+    _, lwp = numbers.process()
+    yield spawn(user)
+    while True:
+        tid = numbers.lwp()
+        yield from call(user, lwp, 'thr_new')
+        yield from call(user, tid, 'thr_exit')
+        numbers.lwp_gone(tid)
+
+
+def chains_that_end(user: int, links: int = 10) -> Iterator[Step]:
+    """A chain of debuggers, each of which traces the next; the first one's end kills them all."""
+    numbers = Numbers(user)
+    while True:
+        made = [numbers.process() for _ in range(links)]
+        for _ in made:
+            yield spawn(user)
+        for (debugger, _), (tracee, _) in zip(made, made[1:]):
+            yield ptrace(user, debugger, 'PT_ATTACH', tracee)
+            yield wait(user, debugger)
+            yield ptrace(user, debugger, 'PT_CONTINUE', tracee)
+        yield from call(user, made[0][1], 'exit', code=0)
+        for pid, tid in made:
+            numbers.gone(pid, tid)
+
+
+def of_one(make: Source) -> Load:
+    def steps(length: int) -> list[Step]:
+        source = make(1001)
+        return [next(source) for _ in range(length)]
+
+    return steps
+
+
+def side_by_side(make: Source) -> Load:
+    def steps(length: int) -> list[Step]:
+        sources = [make(user) for user in USERS]
+        return [next(sources[n % len(sources)]) for n in range(length)]
+
+    return steps
+
+
+def mixed(length: int) -> list[Step]:
+    makes: list[Source] = [attach_cycles, forks_and_exits, threads, chains_that_end]
+    sources = [makes[user % 4](user) for user in USERS]
+    return [next(sources[n % len(sources)]) for n in range(length)]
+
+
+SOURCES: dict[str, Source] = {
+    'attach, wait and detach': attach_cycles,
+    'fork, exit and wait': forks_and_exits,
+    'new and ended threads': threads,
+    'chains of ten debuggers that end': chains_that_end,
+}
+KINDS: dict[str, Load] = {'spawns, lists and refusals of 64 users': spawns_and_lists, 'refusals alone': refusals}
+for name, make in SOURCES.items():
+    KINDS[name] = of_one(make)
+    KINDS[name + ', 64 users'] = side_by_side(make)
+KINDS['all of these, 64 users'] = mixed
+
+
+def write(steps: Iterable[Step], file: str) -> int:
+    """Writes a scenario of as many of the steps as the program reads at most, and returns how many these are."""
+    room = 4194304 - len('{"steps":[]}')
+    texts: list[str] = []
+    for step in steps:
+        texts.append(json.dumps(step, separators=(',', ':')))
+        room -= len(texts[-1]) + 1
+        if room < 0:
+            texts.pop()
+            break
+    with open(file, 'w') as out:
+        out.write('{"steps":[' + ','.join(texts) + ']}')
+    return len(texts)

@@ -1,0 +1,132 @@
+#!/usr/bin/env python3
+"""Makes the library for C of the proved crate tracehost_c: libtracehost.a and libtracehost.so.
+
+    tools/build_library.py                 proves tracehost_c over the libraries that `rt ci` has left, and makes both in
+                                           its folder out/, where tools/library finds them
+    tools/build_library.py ARCHIVE FOLDER  makes both in FOLDER of an archive that `rt lib` built in crates/tracehost_c
+
+`rt ci` proves a static library and builds none. What it left of the crates below has their statements alone, and `rt lib`
+would prove these crates anew. So this gives `rattle build` the words that rt itself makes for the crate: that checks the
+whole crate from nothing, as the gate did, and then compiles what it has just proved.
+
+Both files contain the kit's functions for memory, which call malloc, realloc and free. They define the names
+tracehost_* and no others. All is done by the kit's own tools, and no time, path or build number gets into a file, so
+that the same sources give the same bits.
+"""
+
+from __future__ import annotations
+
+import importlib.machinery
+import importlib.util
+import os
+import shutil
+import subprocess
+import sys
+import tempfile
+import types
+
+TOP = os.path.dirname(os.path.dirname(os.path.realpath(__file__)))
+CRATE = "tracehost_c"
+OUT = f"{TOP}/crates/{CRATE}/out"
+NAMES = ("libtracehost.a", "libtracehost.so")
+SONAME = "libtracehost.so.0"  # its number changes with a call of include/tracehost.h that older programs can't make
+EXPORTED = "{ global: tracehost_*; local: *; };\n"
+
+
+def refuse(why: str) -> None:
+    sys.exit(f"build_library: {why}")
+
+
+def load_rt() -> types.ModuleType:
+    """Returns the kit's command rt as a module."""
+    path = shutil.which("rt")
+    if path is None:
+        sys.exit("build_library: the command rt of the Rattle kit is missing")
+    sys.dont_write_bytecode = True
+    loader = importlib.machinery.SourceFileLoader("rt", os.path.realpath(path))
+    spec = importlib.util.spec_from_loader("rt", loader)
+    assert spec is not None
+    module = importlib.util.module_from_spec(spec)
+    loader.exec_module(module)
+    return module
+
+
+def digest_of_sources() -> str:
+    """Returns the digest of all that the library is built from."""
+    command = [f"{TOP}/tools/sources", CRATE]
+    return subprocess.run(command, stdout=subprocess.PIPE, text=True, check=True).stdout.strip()
+
+
+def build_archive(kit: types.ModuleType) -> str:
+    """Proves the crate and builds its archive. Returns the archive's path."""
+    archive = f"out/lib{CRATE}.a"
+    kit.Crate.allowed = kit.handles_of(TOP)
+    kit.rtlib.guarded()
+    crate = kit.Crate(f"{TOP}/crates/{CRATE}", TOP, {})
+    held = kit.rtlib.lock([*crate.below(), crate])
+    missing = [below.name for below in crate.below() if not os.path.isdir(below.rlib)]
+    if missing:
+        refuse(f"run `rt ci` first: there is no library of {', '.join(missing)}")
+    os.makedirs(OUT, exist_ok=True)
+    words = [*crate.words(["--jobs", "1"], keeps=False), "--toolchain", f"{kit.KIT}/toolchain", "--backend", "llvm"]
+    with open(f"{OUT}/build.log", "w+", encoding="utf-8") as crate.out:
+        status = crate.prove(["build", *words, "-o", archive])
+        crate.out.seek(0)
+        lines = crate.out.read().splitlines()
+    del held
+    if status:
+        print(*lines[-20:], sep="\n", file=sys.stderr)
+        refuse(f"{CRATE} is not proved: the whole log is {OUT}/build.log")
+    print(*(line for line in lines if line.startswith(("logic=proved", "axioms"))), sep="\n")
+    return f"{TOP}/crates/{CRATE}/{archive}"
+
+
+def link(kit: types.ModuleType, archive: str, folder: str) -> None:
+    """Makes libtracehost.a and libtracehost.so of the archive and the kit's functions for memory."""
+    tools = f"{kit.KIT}/toolchain"
+    archive, folder = os.path.abspath(archive), os.path.abspath(folder)
+
+    def run(tool: str, *words: str) -> str:
+        command = subprocess.run(
+            [tool, *words], executable=f"{tools}/bin/clang", cwd=room, stdout=subprocess.PIPE, text=True
+        )
+        if command.returncode:
+            refuse(f"{tool} failed with status {command.returncode}")
+        return command.stdout
+
+    with tempfile.TemporaryDirectory() as room:
+        members = run("llvm-ar", "t", archive).split()
+        run("llvm-ar", "x", archive)
+        run("llvm-ar", "x", f"{kit.KIT}/c/liblibc_c.a", "heap.pic.o")
+        run("ld.lld", "-m", "elf_x86_64", "-r", "--threads=1", "-o", "tracehost.o", *members, "heap.pic.o")
+        run("llvm-objcopy", "--wildcard", "--keep-global-symbol=tracehost_*", "tracehost.o")
+        run("llvm-ar", "rcsD", NAMES[0], "tracehost.o")
+        with open(f"{room}/exported", "w", encoding="ascii") as script:
+            script.write(EXPORTED)
+        words = f"-m elf_x86_64 -shared -soname {SONAME} --version-script exported --build-id=none --hash-style=gnu"
+        words += " -z relro -z now -z noexecstack -z defs --gc-sections --eh-frame-hdr --strip-all --threads=1"
+        run("ld.lld", *words.split(), "-o", NAMES[1], "tracehost.o", f"{tools}/lib/libc.so.6")
+        os.chmod(f"{room}/{NAMES[1]}", 0o755)
+        os.makedirs(folder, exist_ok=True)
+        for name in NAMES:
+            shutil.copy(f"{room}/{name}", f"{folder}/{name}.new")
+            os.replace(f"{folder}/{name}.new", f"{folder}/{name}")
+
+
+def prove() -> None:
+    digest, kit = digest_of_sources(), load_rt()
+    link(kit, build_archive(kit), OUT)
+    subprocess.run([f"{TOP}/tools/library", "--built", digest], check=True)
+
+
+def main(words: list[str]) -> None:
+    if not words:
+        prove()
+    elif len(words) == 2:
+        link(load_rt(), *words)
+    else:
+        refuse("usage: tools/build_library.py [ARCHIVE FOLDER]")
+
+
+if __name__ == "__main__":
+    main(sys.argv[1:])
