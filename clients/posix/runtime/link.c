@@ -16,7 +16,8 @@
 #include "runtime.h"
 
 const char tracehost_marker[] = "tracehost posix runtime, protocol 1";
-__thread struct own own = {.fd = -1, .passed = -1};
+static char no_answer[1];
+__thread struct own own = {.fd = -1, .passed = -1, .at = no_answer};
 int own_pid;
 int own_fds[THREADS];
 

@@ -33,33 +33,47 @@ static const void *place_of(void *context)
 	return (const void *)(((ucontext_t *)context)->uc_mcontext.gregs[REG_RIP] + 1);
 }
 
+/* A question at any place of the program, in the midst of a call of the runtime too: what that has not read yet of its
+ * own answer is kept. */
+static void ask_between(const void *where, const char *question)
+{
+	int saved = errno, passed = own.passed;
+	char *at = own.at;
+	size_t size = strlen(at) + 1;
+	char rest[size];
+	memcpy(rest, at, size);
+	tracehost_ask(where, "%s", question);
+	memcpy(at, rest, size);
+	own.at = at, own.passed = passed;
+	errno = saved;
+}
+
 static void on_poke(int number, siginfo_t *info, void *context)
 {
-	int saved = errno;
 	(void)number;
 	if (own.busy || own.fd < 0)
 		return;
 	if (info->si_code == SI_TIMER && own.seen != own.questions)
 		own.seen = own.questions; /* it has asked since the last tick */
 	else
-		tracehost_ask(place_of(context), "poke");
-	errno = saved;
+		ask_between(place_of(context), "poke");
 }
 
 static void on_fault(int number, siginfo_t *info, void *context)
 {
 	static const struct { int host, bsd; } table[] = {{SIGSEGV, BSD_SIGSEGV}, {SIGBUS, BSD_SIGBUS}, {SIGFPE, BSD_SIGFPE},
 		{SIGILL, BSD_SIGILL}, {SIGTRAP, BSD_SIGTRAP}, {SIGABRT, BSD_SIGABRT}, {SIGSYS, BSD_SIGSYS}};
-	int saved = errno;
 	(void)info;
 	if (own.busy || own.fd < 0) { /* the runtime's own fault */
 		signal(number, SIG_DFL);
 		return;
 	}
 	for (size_t i = 0; i < sizeof table / sizeof table[0]; i++)
-		if (table[i].host == number)
-			tracehost_ask(place_of(context) - (number == SIGTRAP), "fault %d", table[i].bsd);
-	errno = saved;
+		if (table[i].host == number) {
+			char question[16];
+			snprintf(question, sizeof question, "fault %d", table[i].bsd);
+			ask_between(place_of(context) - (number == SIGTRAP), question);
+		}
 }
 
 void tracehost_host_signals(void)

@@ -1,4 +1,5 @@
 /* What a debugger sees of fork and vfork. */
+#include <time.h>
 #include "cases.h"
 
 static pid_t (*make)(void);
@@ -187,6 +188,36 @@ ATF_TC_BODY(vfork_done_and_followed, tc)
 	exited(parent, 1);
 }
 
+/* pthread_atfork(3): its handlers compute for long in the midst of a fork. */
+static int before, in_parent, in_child;
+
+static void
+compute(void)
+{
+	struct timespec used;
+
+	before++;
+	do {
+		ATF_REQUIRE_EQ(clock_gettime(CLOCK_THREAD_CPUTIME_ID, &used), 0);
+	} while (used.tv_sec == 0 && used.tv_nsec < 200000000);
+}
+
+static void forked(void) { in_parent++; }
+static void born(void) { in_child++; }
+
+ATF_TC_WITHOUT_HEAD(atfork_handlers);
+ATF_TC_BODY(atfork_handlers, tc)
+{
+	pid_t pid;
+
+	ATF_REQUIRE_EQ(pthread_atfork(compute, forked, born), 0);
+	ATF_REQUIRE((pid = fork()) != -1);
+	if (pid == 0)
+		_exit(before == 1 && in_parent == 0 && in_child == 1 ? 0 : 1);
+	exited(pid, 0);
+	ATF_REQUIRE(before == 1 && in_parent == 1 && in_child == 0);
+}
+
 ATF_TP_ADD_TCS(tp)
 {
 
@@ -204,5 +235,6 @@ ATF_TP_ADD_TCS(tp)
 	ATF_TP_ADD_TC(tp, event_mask_is_not_inherited);
 	ATF_TP_ADD_TC(tp, vfork_done);
 	ATF_TP_ADD_TC(tp, vfork_done_and_followed);
+	ATF_TP_ADD_TC(tp, atfork_handlers);
 	return (atf_no_error());
 }

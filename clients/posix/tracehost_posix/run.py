@@ -6,7 +6,6 @@ that the schedule makes, and of nothing else.
 
 from __future__ import annotations
 
-import ctypes
 import os
 import socket
 import time
@@ -20,14 +19,12 @@ from .program import Program, pair
 from .schedules import Schedule, Switch, plain_choice
 from .table import IO, SYNC, Ended, Failed, Handle, Leg, Lwp, Process, Table
 from .turns import Turns
+from .watch import Watch
 
+BETWEEN_POKES = 0.1
+"""A thread that computes asks `poke` after so many seconds of its processor's time."""
 ENDING = 20.0
 """So many seconds a process may take to end, once the model has ended it."""
-LOOKS = 3
-"""A thread that is asleep in the host's kernel at so many looks is poked."""
-_LIBC = ctypes.CDLL(None)
-_POKE: int = _LIBC.__libc_current_sigrtmin() + 3
-
 _CALLS: dict[str, Callable[..., Leg]] = {
     "hello": process_calls.hello,
     "fork": process_calls.fork,
@@ -295,7 +292,7 @@ class Run:
         if lwp.born:  # its exec: the image that comes says hello
             self._meet(lwp)
             return
-        self._hear(lwp)
+        self._hear(lwp, amid=born is not None or lwp.entered is not None)
         if born is not None:
             self._meet(born)
 
@@ -313,9 +310,9 @@ class Run:
         except OSError as why:
             raise Failed(f"process {lwp.process.pid} has ended, or closed its socket, outside of the model") from why
 
-    def _hear(self, lwp: Lwp) -> None:
-        """The thread runs until it asks again."""
-        line = self._line(lwp)
+    def _hear(self, lwp: Lwp, amid: bool = False) -> None:
+        """The thread runs until it asks again; `amid` a call, in the runtime."""
+        line = self._line(lwp, amid)
         self.questions += 1
         if self.questions > self.options.limit:
             self._stand_by(lwp.process)
@@ -323,11 +320,8 @@ class Run:
         where, name, *words = line.split()
         if name == "handled":
             return
-        if name != "poke":
-            lwp.poked = 0.0
-        elif lwp.poked == 0.0:
-            lwp.poked = time.monotonic()
-        elif time.monotonic() - lwp.poked > self.options.patience:
+        lwp.pokes = lwp.pokes + 1 if name == "poke" else 0
+        if lwp.pokes * BETWEEN_POKES > self.options.patience:
             self._hangs(lwp)
         lwp.where, lwp.asked = int(where, 16), line[len(where) + 1 :]
         if self.choice_points is not None:
@@ -344,43 +338,33 @@ class Run:
         if name == "fault":  # a trap and its signal are one
             self._advance(lwp)
 
-    def _line(self, lwp: Lwp) -> str:
-        """What it asks. One that sleeps in the host's kernel is poked: it asks `poke` then."""
+    def _line(self, lwp: Lwp, amid: bool = False) -> str:
+        """What it asks. One that sleeps in the host's kernel is poked: it asks `poke` then. `amid` a call that is answered
+        at once: the thread isn't in user mode, and the call has an end of its own."""
         assert lwp.socket is not None
-        began, asleep = 0.0, 0
+        watch = Watch(lwp, self.options.patience)
         while True:
             try:
-                line = lwp.socket.recv(4096)
+                line = lwp.socket.recv(4096).decode()
             except BlockingIOError:
-                began = began or time.monotonic()
-                asleep = asleep + 1 if self._state(lwp) == "S" else 0
-                if not lwp.foreign and asleep == LOOKS:
-                    asleep = 0
-                    _LIBC.syscall(234, lwp.process.real, lwp.real, _POKE)  # tgkill
-                if time.monotonic() - began > self.options.patience:
+                if watch.look():
                     self._hangs(lwp)
                 continue
             except OSError as why:
                 raise Failed(f"process {lwp.process.pid}: {why.strerror}") from why
             if not line:
                 raise Failed(f"process {lwp.process.pid} has ended, or closed its socket, outside of the model")
-            return line.decode()
+            if not amid or line.split()[1] != "poke":
+                return line
+            self._say(lwp, "ok")
 
     def _hangs(self, lwp: Lwp) -> NoReturn:
         self._stand_by(lwp.process)
         raise Failed(f"hang: {lwp.process.pid}/{lwp.tid} has made no call for {self.options.patience:g} s")
 
-    @staticmethod
-    def _state(lwp: Lwp) -> str:
-        try:
-            with open(f"/proc/{lwp.process.real}/task/{lwp.real}/stat") as file:
-                return file.read().rpartition(")")[2].split()[0]
-        except OSError:
-            return "Z"
-
     def _meet(self, lwp: Lwp) -> None:
         """A new thread, or image, says hello."""
-        line = self._line(lwp).split()
+        line = self._line(lwp, amid=True).split()
         lwp.asked, lwp.where = line[1], 0
         if lwp.born and line[1] == "foreign":
             lwp.stack.append(process_calls.foreign(self.turns, lwp))

@@ -110,8 +110,8 @@ class Lwp:
         """Its question, and the program's address."""
         self.born = False
         """Its next message is the hello of a new image."""
-        self.poked = 0.0
-        """Since when it has only been poked."""
+        self.pokes = 0
+        """How often it was poked since its last other question."""
         self.clean = False
         """No signal was pending for it at its last turn, and none has come since."""
         process.lwps.append(self)
