@@ -76,7 +76,7 @@ run_all() {
 }
 
 compile "$room/plain" -O2
-run_all "$room/plain" 100000 30 2000
+run_all "$room/plain" 1000000 200 2000
 sanitizers=("-fsanitize=address,undefined" -fno-sanitize-recover=all)
 echo 'int main(void) { return 0; }' >"$room/empty.c"
 if cc "${sanitizers[@]}" -o "$room/empty" "$room/empty.c" 2>/dev/null && "$room/empty"; then

@@ -1,6 +1,6 @@
 /*
- * Calls by chance, made twice: as typed calls on one session, where there is one, and as lines on another. The reply in
- * the struct, written in words, has to be the line's, and so has tracehost_last_line.
+ * Calls by chance, made twice: as typed calls on one session, and as lines on another. The reply in the struct, written in
+ * words, has to be the line's, and so has tracehost_last_line.
  *
  *     agree CALLS [SEED]
  */
@@ -37,16 +37,11 @@ int main(int argc, char **argv)
         CHECK(tracehost_line(&text, false, (const uint8_t *)line.bytes, line.length, (uint8_t *)wanted.bytes, ROOM,
                              &wanted.length) == TRACEHOST_ANSWERED);
         counts[call.user - FIRST_USER]++;
-        if (is_typed(&call)) {
-            CHECK(make(&typed, &call, &reply) == TRACEHOST_ANSWERED);
-            kinds[reply.kind]++;
-            ADD(&made, "%" PRIu32 " %lu ", call.user, counts[call.user - FIRST_USER]);
-            add_reply(&made, &typed, &reply);
-            ADD(&made, "\n");
-        } else {
-            CHECK(tracehost_line(&typed, false, (const uint8_t *)line.bytes, line.length, (uint8_t *)made.bytes, ROOM,
-                                 &made.length) == TRACEHOST_ANSWERED);
-        }
+        CHECK(make(&typed, &call, &reply) == TRACEHOST_ANSWERED);
+        kinds[reply.kind]++;
+        ADD(&made, "%" PRIu32 " %lu ", call.user, counts[call.user - FIRST_USER]);
+        add_reply(&made, &typed, &reply);
+        ADD(&made, "\n");
         if (made.length != wanted.length || memcmp(made.bytes, wanted.bytes, made.length) != 0) {
             printf("%s\n  by text: %.*s  typed:   %s", line.bytes, (int)wanted.length, wanted.bytes, made.bytes);
             return 1;
