@@ -4,17 +4,7 @@
  *     copies [RUNS [SEED]]
  */
 #include "sequences.h"
-#include "views.h"
-
-/* All that calls show of a session's state. */
-static void add_state(tracehost *h, struct text *to)
-{
-    size_t length;
-    to->length = 0;
-    CHECK(tracehost_last_line(h, true, (uint8_t *)to->bytes, ROOM, &length) == 0);
-    to->length = length;
-    add_views(h, to);
-}
+#include "state.h"
 
 static void a_copy(bool original_is_closed_first)
 {
@@ -27,11 +17,11 @@ static void a_copy(bool original_is_closed_first)
     CHECK(tracehost_open(roll(2), &h) == 0);
     steps(&h, before, &lines);
     CHECK(tracehost_copy(&h, &copy) == 0 && tracehost_copy(&h, &again) == 0);
-    add_state(&h, &state);
-    add_state(&copy, &later);
+    get_state(&h, &state);
+    get_state(&copy, &later);
     CHECK(same(&state, &later));
     steps(&copy, other, &lines);  /* the copy goes its own way .. */
-    add_state(&h, &later);
+    get_state(&h, &later);
     CHECK(same(&state, &later));  /* .. and the original stays where it is */
     steps(&h, mine, &wanted);
     if (original_is_closed_first)
@@ -49,7 +39,7 @@ static void replay(bool kills, const struct call *before, const struct call *aft
     CHECK(tracehost_open(kills, &h) == 0);
     steps(&h, before, lines);
     steps(&h, after, lines);
-    add_state(&h, state);
+    get_state(&h, state);
     CHECK(tracehost_close(&h) == 0);
 }
 
@@ -73,7 +63,7 @@ static void own_ways(void)
             step(&h[s], &after[s][i], &lines[s]);
     for (int s = 0; s < 2; s++) {
         replay(kills, before, after[s], &wanted, &wanted_state);
-        add_state(&h[s], &state);
+        get_state(&h[s], &state);
         CHECK(same(&wanted, &lines[s]) && same(&wanted_state, &state));
         CHECK(tracehost_close(&h[s]) == 0);
     }

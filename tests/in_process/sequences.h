@@ -6,11 +6,6 @@
 
 enum { CALLS = 300, FIRST_SPAWNS = 8 };
 
-static inline bool same(const struct text *one, const struct text *other)
-{
-    return one->length == other->length && memcmp(one->bytes, other->bytes, one->length) == 0;
-}
-
 /* A sequence for a new session begins with processes for both users. */
 static inline void choose_calls(struct call *calls, bool is_first)
 {
