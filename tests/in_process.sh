@@ -1,7 +1,7 @@
 #!/usr/bin/env bash
 # The library in the caller's process, include/tracehost.h: its lines are those of `tracehost --lines`, its typed calls
-# are its lines, codes, rooms, copies, sessions next to each other, each allocation refused in turn, the names that it exports, and the header in C and
-# C++. Programs are run as they are, with the compiler's sanitizers, and in valgrind.
+# are its lines; codes, rooms, copies, sessions next to each other, each allocation refused in turn; the names that it
+# exports, and the header in C and C++. Programs are run as they are, with the compiler's sanitizers, and in valgrind.
 #
 #   bash tests/in_process.sh [PROGRAM]
 #
@@ -59,9 +59,14 @@ compile() {
     check "cc $* $name.c" cc -std=c11 "${warnings[@]}" -g "${own[@]}" "$@" -o "$folder/$name" "tests/in_process/$name.c" \
       "$library/libtracehost.a"
   done
-  check "cc $* refusals.c" cc -std=c11 "${warnings[@]}" -g "${own[@]}" "$@" -Wl,--wrap=malloc,--wrap=realloc \
-    -o "$folder/refusals" tests/in_process/refusals.c "$library/libtracehost.a"
+  check "cc $* refusals.c" cc -std=c11 "${warnings[@]}" -g "${own[@]}" "$@" \
+    -Wl,--wrap=malloc,--wrap=realloc,--wrap=free -o "$folder/refusals" tests/in_process/refusals.c \
+    "$library/libtracehost.a"
 }
+
+# the lines of all row files, and the answers of `lines` to them
+python3 tests/python/test_in_process.py --rows >"$room/rows"
+answer_rows() { "$@" <"$room/rows" >"$room/answers"; }
 
 # agree CALLS, copies and sessions RUNS and refusals CALLS take as many as are given
 run_all() {
@@ -73,6 +78,9 @@ run_all() {
   check "sessions $*" "$@" "$folder/sessions" "$runs"
   check "rooms $*" "$@" "$folder/rooms"
   check "refusals $*" "$@" "$folder/refusals" "$refusals"
+  check "lines $*" answer_rows "$@" "$folder/lines"
+  [ -e "$room/wanted" ] || cp "$room/answers" "$room/wanted" # of the first run, which the lines below are compared with
+  same "$room/wanted" "$room/answers" "the lines $*"
 }
 
 compile "$room/plain" -O2

@@ -14,7 +14,7 @@ static inline void add_view(tracehost *h, uint32_t user, struct text *to)
     CHECK(tracehost_view(h, user, processes, PROCESSES, lwps, LWPS, &process_count, &lwp_count) == TRACEHOST_ANSWERED);
     CHECK(process_count <= PROCESSES && lwp_count <= LWPS);
     size_t process_bytes = process_count * sizeof *processes, lwp_bytes = lwp_count * sizeof *lwps;
-    CHECK(to->length + process_bytes + lwp_bytes <= ROOM);
+    CHECK(to->length <= ROOM && process_bytes + lwp_bytes <= ROOM - to->length);
     memcpy(to->bytes + to->length, processes, process_bytes);
     memcpy(to->bytes + to->length + process_bytes, lwps, lwp_bytes);
     to->length += process_bytes + lwp_bytes;

@@ -2,6 +2,8 @@
 
 LINES is tests/in_process/lines.c, compiled with the library. Also the Python client's typed calls on the library, against
 the same steps as lines of the program. The row files say what the program's lines are.
+
+With --rows as the only word it prints the lines of the row files, as LINES reads them.
 """
 
 import collections
@@ -11,7 +13,7 @@ import random
 import subprocess
 import sys
 import unittest
-from collections.abc import Iterator
+from collections.abc import Iterable, Iterator
 from typing import Any, ClassVar, NamedTuple
 
 TOP = pathlib.Path(__file__).resolve().parents[2]
@@ -89,10 +91,9 @@ def of_program(session: Session, style: list[str]) -> list[bytes]:
     return answers([PROGRAM, "--lines", "--explain=never", *style, *setting], session.lines).splitlines(keepends=True)
 
 
-def of_library(sessions: list[Session], style: list[str]) -> list[bytes]:
-    """The lines of the sessions, which are made one after the other by one process."""
-    given = b"".join(b"\f%d\n" % session.kill + session.lines for session in sessions)
-    return answers([LINES, *style], given).splitlines(keepends=True)
+def for_library(sessions: Iterable[Session]) -> bytes:
+    """The lines of sessions, which one process of LINES makes one after the other."""
+    return b"".join(b"\f%d\n" % session.kill + session.lines for session in sessions)
 
 
 class InProcess(unittest.TestCase):
@@ -101,7 +102,7 @@ class InProcess(unittest.TestCase):
     def compare(self, sessions: list[Session], first: int = 0) -> None:
         """Compares the bytes of each session, in words and as objects. `first` is the number of the first one."""
         for style in STYLES:
-            made = of_library(sessions, style)
+            made = answers([LINES, *style], for_library(sessions)).splitlines(keepends=True)
             for number, session in enumerate(sessions, first):
                 wanted = of_program(session, style)
                 with self.subTest(number=number, style=style):
@@ -146,5 +147,8 @@ def kind_of(line: bytes) -> str:
 
 
 if __name__ == "__main__":
-    PROGRAM, LINES = sys.argv[1:]
-    run_unit_tests()
+    if sys.argv[1:] == ["--rows"]:
+        sys.stdout.buffer.write(for_library(rows()))
+    else:
+        PROGRAM, LINES = sys.argv[1:]
+        run_unit_tests()
