@@ -1,7 +1,8 @@
 #!/usr/bin/env bash
 # The library in the caller's process, include/tracehost.h: its lines are those of `tracehost --lines`, its typed calls
-# are its lines; codes, rooms, copies, sessions next to each other, each allocation refused in turn; the names that it
-# exports, and the header in C and C++. Programs are run as they are, with the compiler's sanitizers, and in valgrind.
+# are its lines; codes, rooms, views, copies, sessions next to each other and in threads, each allocation refused in turn;
+# the names that it exports, and the header in C and C++. Programs are run as they are, with the compiler's sanitizers, and
+# in valgrind.
 #
 #   bash tests/in_process.sh [PROGRAM]
 #
@@ -50,13 +51,13 @@ if need objdump; then
 fi
 
 # ---- the programs: compiled into a folder with some flags, and run behind some words
-tests=(agree codes copies lines rooms sessions)
+tests=(agree codes copies lines rooms sessions threads views)
 compile() {
   local folder=$1 name
   shift
   mkdir "$folder"
   for name in "${tests[@]}"; do
-    check "cc $* $name.c" cc -std=c11 "${warnings[@]}" -g "${own[@]}" "$@" -o "$folder/$name" "tests/in_process/$name.c" \
+    check "cc $* $name.c" cc -std=c11 "${warnings[@]}" -g -pthread "${own[@]}" "$@" -o "$folder/$name" "tests/in_process/$name.c" \
       "$library/libtracehost.a"
   done
   check "cc $* refusals.c" cc -std=c11 "${warnings[@]}" -g "${own[@]}" "$@" \
@@ -77,6 +78,8 @@ run_all() {
   check "copies $*" "$@" "$folder/copies" "$runs"
   check "sessions $*" "$@" "$folder/sessions" "$runs"
   check "rooms $*" "$@" "$folder/rooms"
+  check "threads $*" "$@" "$folder/threads" "$refusals"
+  check "views $*" "$@" "$folder/views"
   check "refusals $*" "$@" "$folder/refusals" "$refusals"
   check "lines $*" answer_rows "$@" "$folder/lines"
   [ -e "$room/wanted" ] || cp "$room/answers" "$room/wanted" # of the first run, which the lines below are compared with
@@ -93,7 +96,10 @@ if cc "${sanitizers[@]}" -o "$room/empty" "$room/empty.c" 2>/dev/null && "$room/
 else
   skip "cc has no sanitizers"
 fi
-need valgrind && run_all "$room/plain" 5000 2 100 valgrind -q --error-exitcode=1 --leak-check=full --show-leak-kinds=all
+if need valgrind; then
+  run_all "$room/plain" 5000 2 100 valgrind -q --error-exitcode=1 --leak-check=full --show-leak-kinds=all
+  check "threads, for races" valgrind -q --tool=helgrind --error-exitcode=1 "$room/plain/threads" 100
+fi
 
 # ---- the shared object
 shared() {

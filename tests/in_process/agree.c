@@ -8,6 +8,34 @@
 
 enum { CALLS_OF_A_SESSION = 150, FIRST_SPAWNS = 8 };
 
+/* The fields that a kind of reply has, as the header lists them; all others have to be 0. */
+static bool has_only_its_fields(tracehost_reply r)
+{
+    const uint32_t kind = r.kind;
+    const bool handled = kind == TRACEHOST_HANDLED, info = kind == TRACEHOST_INFO, is_new = kind == TRACEHOST_NEW;
+    const bool status = kind == TRACEHOST_STATUS, stopped = kind == TRACEHOST_STOPPED;
+    r.kind = 0;
+    r.pid = is_new || status || handled ? 0 : r.pid;
+    r.lwp = is_new || info || handled || stopped ? 0 : r.lwp;
+    r.number = kind == TRACEHOST_NUMBER ? 0 : r.number;
+    r.status = status || handled || kind == TRACEHOST_ENDED ? 0 : r.status;
+    r.signal = handled || stopped || kind == TRACEHOST_CAUGHT ? 0 : r.signal;
+    r.event = info ? 0 : r.event;
+    r.flags = info || handled || stopped ? 0 : r.flags;
+    r.mask = info || kind == TRACEHOST_MASK ? 0 : r.mask;
+    r.pending = info ? 0 : r.pending;
+    r.child = info || handled ? 0 : r.child;
+    r.code = info || handled ? 0 : r.code;
+    r.handler = handled && r.has_handler == 1 ? 0 : r.handler; /* 0 if all handlers declined */
+    r.pass = handled && (r.decision == TRACEHOST_CONTINUE || r.decision == TRACEHOST_DETACH) ? 0 : r.pass;
+    r.has_handler = handled && r.has_handler == 1 ? 0 : r.has_handler;
+    r.decision = handled ? 0 : r.decision;
+    r.error = kind == TRACEHOST_ERROR ? 0 : r.error;
+    r.count = kind == TRACEHOST_LWPS || kind == TRACEHOST_PIDS ? 0 : r.count;
+    static const tracehost_reply zeros;
+    return memcmp(&r, &zeros, sizeof r) == 0;
+}
+
 static struct call a_spawn(uint32_t user)
 {
     struct call spawn = {.op = SPAWN, .user = FIRST_USER + user};
@@ -38,6 +66,7 @@ int main(int argc, char **argv)
                              &wanted.length) == TRACEHOST_ANSWERED);
         counts[call.user - FIRST_USER]++;
         CHECK(make(&typed, &call, &reply) == TRACEHOST_ANSWERED);
+        CHECK(reply.kind <= TRACEHOST_ERROR && has_only_its_fields(reply));
         kinds[reply.kind]++;
         ADD(&made, "%" PRIu32 " %lu ", call.user, counts[call.user - FIRST_USER]);
         add_reply(&made, &typed, &reply);

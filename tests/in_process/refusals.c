@@ -104,6 +104,40 @@ static unsigned long in_turn(tracehost *h, tracehost *twin, const struct call *c
     }
 }
 
+/*
+ * The first line of a session: the step wasn't made, and is made by the next call; or it was made, was answered ENOMEM, or
+ * has no text, and the text can be had.
+ */
+static void first_lines(void)
+{
+    static const char spawn[] = "{\"user\":1001,\"op\":\"spawn\"}", wanted[] = "1001 1 new 1000 100000\n";
+    unsigned long codes[TRACEHOST_NO_TEXT + 1] = {0};
+    bool was_refused = true;
+    for (long number = 1; was_refused; number++) {
+        tracehost h = TRACEHOST_CLOSED;
+        char out[64] = "?";
+        size_t length = 7;
+        long held = blocks;
+        uint32_t code;
+        CHECK(tracehost_open(true, &h) == TRACEHOST_ANSWERED);
+        was_refused = REFUSED(number, code, tracehost_line(&h, false, (const uint8_t *)spawn, strlen(spawn),
+                                                           (uint8_t *)out, sizeof out, &length));
+        CHECK(code <= TRACEHOST_NO_TEXT);
+        codes[code]++;
+        if (code != TRACEHOST_ANSWERED)
+            CHECK(strcmp(out, "?") == 0 && length == 7);
+        if (code == TRACEHOST_NO_MEMORY)
+            CHECK(tracehost_line(&h, false, (const uint8_t *)spawn, strlen(spawn), (uint8_t *)out, sizeof out, &length) == 0);
+        if (code == TRACEHOST_NO_TEXT)
+            CHECK(tracehost_last_line(&h, false, (uint8_t *)out, sizeof out, &length) == TRACEHOST_ANSWERED);
+        out[length] = 0;
+        CHECK(strcmp(out, wanted) == 0 || strcmp(out, "1001 1 error ENOMEM 12\n") == 0);
+        CHECK(tracehost_close(&h) == TRACEHOST_ANSWERED && blocks == held);
+    }
+    CHECK(codes[TRACEHOST_ANSWERED] > 1 && codes[TRACEHOST_NO_MEMORY] > 0 && codes[TRACEHOST_NO_TEXT] > 0);
+    CHECK(codes[TRACEHOST_NOT_OPEN] == 0 && codes[TRACEHOST_INVALID] == 0);
+}
+
 /* The last line, which is the same once there is memory. */
 static unsigned long last_lines(tracehost *h, tracehost *twin)
 {
@@ -229,6 +263,7 @@ int main(int argc, char **argv)
         }
     }
     CHECK(tracehost_close(&h) == TRACEHOST_ANSWERED && tracehost_close(&twin) == TRACEHOST_ANSWERED && blocks == held);
+    first_lines();
     handlers();
     printf("allocations refused:");
     for (size_t i = 0; i < KINDS; i++)
