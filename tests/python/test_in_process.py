@@ -140,6 +140,22 @@ class InProcess(unittest.TestCase):
                 self.assertEqual(replayed(host, steps, call), b"".join(of_program(session, [])).decode().splitlines())
 
 
+    def test_views_over_a_pipe(self) -> None:
+        """A user's rows over a pipe are those over the library after the same steps, wherever they are asked for."""
+        for seed in range(SCENARIOS + TYPED, SCENARIOS + 2 * TYPED):
+            made = scenario(random.Random(seed))
+            kill = bool(made["kill_on_debugger_exit"])
+            library = Host(transport="library", kill_on_debugger_exit=kill)
+            pipe = Host(PROGRAM, transport="pipe", kill_on_debugger_exit=kill)
+            with self.subTest(seed=seed), library, pipe:
+                for number, step in enumerate(made["steps"]):
+                    text = json.dumps(step)
+                    self.assertEqual(library.line(text), pipe.line(text))
+                    if number % 25 == seed % 25:
+                        for uid in (1001, 1002, 1064):
+                            self.assertEqual(library.user(uid).view(), pipe.user(uid).view())
+
+
 def kind_of(line: bytes) -> str:
     """The word that begins the reply of a line in words."""
     words = line.decode().split()
