@@ -265,7 +265,7 @@ class User:
 
         Over a pipe the library makes the steps of the session again, and has the rows. Raises ValueError where this is
         no user, ProgramEnded and MemoryError. Over a pipe raises NotImplementedError where there is no library, or the
-        session had 10,000 steps before its first view, and ProtocolError where the library isn't the program's.
+        session had over 10,000 steps before its first view, and ProtocolError where the library isn't the program's.
         """
         if not 0 <= self.uid < 1 << 32:
             raise ValueError(f"{self.uid} is no user")
