@@ -37,12 +37,14 @@ def report_on(crate: str) -> str:
         raise Unavailable(f'these crates have no built library: {", ".join(missing)}')
     held = kit.rtlib.lock([*made.below(), made])
     words = made.words(['--jobs', '1'], keeps=False)
+    earlier = ['--incremental', 'out/incremental'] if Path(made.folder, 'out/incremental').is_dir() else []
     with tempfile.TemporaryFile('w+', encoding='utf-8') as made.out:
-        status = made.prove(['check', *words, '--list-axioms'])
+        made.prove(['check', *words, *earlier, '--list-axioms'])
         made.out.seek(0)
         report: str = made.out.read()
     del held
-    if status:
+    # its status is no use here: it also refuses a verdict that rests on what earlier checks left
+    if not re.search(r'^logic=proved ', report, re.MULTILINE):
         raise SystemExit(f'trust: {crate} is not proved:\n{report[-2000:]}')
     return report
 
@@ -56,13 +58,15 @@ def reached_in(report: str) -> list[str]:
     return reached
 
 
-def axioms_of(crate: str) -> list[str]:
-    """The list of the present sources, kept in the crate's folder out/ from an earlier call."""
+def axioms_of(crate: str, may_prove: bool) -> list[str]:
+    """The list of the present sources: kept in the crate's folder out/ from an earlier call, or made by a proof."""
     digest, kept = digest_of_sources(crate), TOP / 'crates' / crate / 'out' / 'axioms'
     if kept.is_file():
         known, *names = kept.read_text(encoding='utf-8').splitlines()
         if known == digest:
             return names
+    if not may_prove:
+        raise Unavailable(f'no list of {crate} is kept of the present sources: `tools/trust axioms` makes it by a proof')
     reached = reached_in(report_on(crate))
     kept.parent.mkdir(exist_ok=True)
     kept.write_text('\n'.join([digest, *reached]) + '\n', encoding='utf-8')
