@@ -17,7 +17,7 @@ EVENT_COUNT = 'rattle/crossbeam_utils/src/sync/event_count.rt'
 ATOMIC = 'try_lock|fetch_add|fetch_sub|load|store|swap|park|wake_one|wake_all|exchange|peek'
 CALLED = 'try_for_a_while|prepare_wait|wait|notify_one|enter|leave|turn|take_turn|count_up|give_back|drop|make'
 TOKEN = re.compile(
-    r'\b(?:for|if|else|match|while|loop|return|break|continue|Some|None)\b|&&|\|\||!=|==|[!{}<>]'
+    r'\b(?:for|if|else|match|while|loop|return|break|continue|Some|None)\b|&&|\|\||[!=<>]=|[!{}<>]'
     rf'|\b(?:\w+\.)*(?:{ATOMIC}|{CALLED})(?:::<\w+>)?\((?:[^()]|\([^()]*\))*\)'
 )
 FUNCTION = re.compile(r'^( *)(?:pub(?:\(crate\))? )?fn (\w+)\b[^\n]*(.*?)^\1\}$', re.DOTALL | re.MULTILINE)
