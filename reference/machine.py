@@ -177,7 +177,7 @@ def handle(view: View, asked: Handle) -> tuple[View, Reply]:
     reply = Handled(found.number, word(found), lwp.number, stop, index, decision, passed)
     match decision:
         case "continue":
-            view = rules.resume(view, found.number, passed)
+            view = rules.carry_on(view, found.number, passed)
         case "detach":
             view = rules.detach(view, found.number, passed)
         case "kill":

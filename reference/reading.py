@@ -83,20 +83,23 @@ def parse(data: bytes) -> Json:
     """The value of a JSON text; the last value of a repeated key counts."""
     try:
         text = data.decode("utf-8")
-        check_depth(text)
+        check(text)
         value: Json = json.loads(text, parse_int=whole, parse_float=other, parse_constant=no_json)
     except (ValueError, RecursionError):
         raise Fault("BadJson") from None
     return value
 
 
-def check_depth(text: str) -> None:
+def check(text: str) -> None:
+    """Refuses nesting that is too deep, and halves of surrogate pairs."""
     depth = 0
     for mark in re.findall(r'"(?:[^"\\]|\\.)*"|[\[\]{}]', text, re.DOTALL):
         if mark in "[{":
             depth += 1
         elif mark in "]}":
             depth -= 1
+        elif "\\u" in mark:
+            json.loads(mark).encode("utf-8")
         if depth > DEEPEST:
             raise ValueError("too deep")
 

@@ -70,11 +70,9 @@ def attach(view: View, caller: Process, target: Process) -> View:
 def pass_on(view: View, target: Process, lwp: Lwp, asked: Ptrace) -> View:
     if asked.request == "PT_DETACH":
         return rules.detach(view, target.number, asked.data)
-    if asked.request == "PT_STEP":
-        view = put_lwp(view, lwp._replace(stepping=True))
     if asked.request in FROM_NOW_ON:
         view = put_process(view, target._replace(mask=target.mask | FROM_NOW_ON[asked.request]))
-    return rules.resume(view, target.number, asked.data)
+    return rules.carry_on(view, target.number, asked.data, lwp.number if asked.request == "PT_STEP" else None)
 
 
 def described(view: View, target: Process, lwp: Lwp, asked: Ptrace) -> Reply:

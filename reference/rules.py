@@ -143,6 +143,12 @@ def resume(view: View, number: int, signal: int) -> View:
     return view
 
 
+def carry_on(view: View, number: int, signal: int, stepping: int | None = None) -> View:
+    """Resumes a process, in which at most this LWP then steps."""
+    lwps = [row._replace(stepping=row.number == stepping) if row.process == number else row for row in view.lwps]
+    return resume(view._replace(lwps=tuple(lwps)), number, signal)
+
+
 def detach(view: View, number: int, signal: int) -> View:
     """Resumes a process, which is then traced no longer unless the signal has ended it."""
     view = resume(view, number, signal)
