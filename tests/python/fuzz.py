@@ -24,6 +24,8 @@ from reference.runs import Host, run_lines, run_scenario
 
 Step = dict[str, Any]
 USERS = range(1001, 1065)
+# kinds of worlds, each with its users and the numbers of steps that a user may have
+SIZES = {'small': (USERS, (60, 150, 150, 300)), 'crowd': (USERS[:6], (1200,)), 'churn': (USERS[:1], (9500,))}
 TEXTS, LINES = 20, 200
 MOST_FILES = 20
 
@@ -106,11 +108,11 @@ class Fuzz:
 
     def worlds(self, chance: random.Random, kills: int) -> tuple[list[Step], list[tuple[int, str]]]:
         """Steps of all users in some order, and the lines that the second model prints for them."""
-        crowd = chance.random() < 0.02
-        length = 1200 if crowd else chance.choice((60, 150, 150, 300))
-        users = USERS[:6] if crowd else USERS
+        kind = chance.choices(list(SIZES), [96, 2, 2])[0]
+        users, lengths = SIZES[kind]
+        length = chance.choice(lengths)
         host = Host(kills == 1)
-        makers = {user: World(chance, crowd) for user in users}
+        makers = {user: World(chance, kind) for user in users}
         order = [user for user in users for _ in range(length)]
         chance.shuffle(order)
         steps, lines = [], []
