@@ -34,6 +34,7 @@ blank kind = record {
   pass = 0;
   error = 0;
   count = 0;
+  stop_pid = 0;
 }
 
 abbrev pub event_number : Event → ℕ
@@ -86,6 +87,7 @@ flat_handled pid status view index d = record (blank 9) {
   handler = index_number index;
   decision = decision_number d;
   pass = passed d;
+  stop_pid = view.pid;
 }
 
 abbrev pub flat : Reply → FlatReply
