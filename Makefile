@@ -1,4 +1,5 @@
-# make install [PREFIX=/usr/local] [DESTDIR=]   installs the program and the library that are here; nothing is built
+# make install [PREFIX=/usr/local] [DESTDIR=]   installs the program and the library that are here, and with a compiler
+#                                               for C tracehost-cc and tracehost-run, whose runtime it builds
 # make install-strip                            the same, without the program's symbols
 # make uninstall                                removes them, with the same variables
 # make deb, make wheel                          make a Debian package and a Python wheel in out/
@@ -35,6 +36,9 @@ DATA = schema/scenario.schema.json viewer/src/*
 DOCUMENTS = LICENSE README.md CHANGELOG.md docs/* examples/*
 # the client in C: tracehost_client.c includes the others
 CLIENT = tracehost_client.c internal.h calls.c in_process.c names.c pipe.c record.c session.c steps.c threads.c
+# C programs on the model: its Makefile, and where it installs
+POSIX = -f clients/posix/Makefile --no-print-directory bindir='$(bindir)' libdir='$(libdir)' man1dir='$(man1dir)' \
+  libpkgconfigdir='$(libpkgconfigdir)'
 
 all:
 	@tools/program
@@ -62,6 +66,8 @@ install:
 	if library=$$(tools/library); then $(MAKE) --no-print-directory install-library library="$$library"; fi
 	$(INSTALL_DATA) completions/tracehost.bash "$(DESTDIR)$(bashcompletiondir)/tracehost"
 	$(INSTALL_DATA) completions/_tracehost "$(DESTDIR)$(zshcompletiondir)"
+	if command -v $(CC) >/dev/null; then $(MAKE) $(POSIX) install; \
+	  else echo "there is no $(CC): tracehost-cc and tracehost-run are not installed" >&2; fi
 
 # the library of the present sources, from the folder that tools/library prints
 install-library:
@@ -86,6 +92,7 @@ uninstall:
 	  "$(libpkgconfigdir)/tracehost.pc" "$(pkgconfigdir)/tracehost-client.pc" \
 	  "$(pkgdatadir)/viewer/make" "$(pkgdatadir)/viewer/perfetto" "$(bashcompletiondir)/tracehost" \
 	  "$(zshcompletiondir)/_tracehost"; do rm -f "$(DESTDIR)$$file"; done
+	$(MAKE) $(POSIX) uninstall
 	for page in $(PAGES); do rm -f "$(DESTDIR)$(man1dir)/$$page"; done
 	for file in $(CLIENT); do rm -f "$(DESTDIR)$(pkgdatadir)/c/$$file"; done
 	test ! -d "$(DESTDIR)$(pkgdatadir)/c" || rmdir "$(DESTDIR)$(pkgdatadir)/c"

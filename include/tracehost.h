@@ -1,5 +1,5 @@
 /*
- * The model of FreeBSD's ptrace(2), wait(2), sigaction(2) and kill(2) in the caller's process: libtracehost_c.a.
+ * The model of FreeBSD's ptrace(2), wait(2), sigaction(2) and kill(2) in the caller's process: libtracehost.
  *
  *     tracehost h = TRACEHOST_CLOSED;
  *     tracehost_reply debugger, target, reply;

@@ -1,7 +1,7 @@
 #!/usr/bin/env bash
 # What a first ./tracehost prints while it proves and builds, with a stand-in for rt that proves nothing: each crate
-# once, after all that it stands on, and at the same time as others that share a lower crate; where one fails; and
-# that an interrupted run goes on from where it was.
+# once, after all that it stands on, and at the same time as others that share a lower crate; where one fails, or its
+# thread meets an error; and that an interrupted run leaves nothing but what it has proved.
 #
 #   bash tests/first_run.sh
 # shellcheck disable=SC2034 # for lib.sh
@@ -110,17 +110,30 @@ echo >>crates/scenario/src/lib.rt
 python3 tools/first_run.py 2>"$room/err"
 same <(printf '%s\n' json_trace line_sessions open_sessions scenario threaded_runs) <(sed -n 's/^lib //p' "$CALLS" | sort) "a changed source is proved again"
 
+# waits until the run with this process id has begun the proof of a crate; false where it has ended before
+has_begun() {
+  until grep -qx "begin $2" "$CALLS"; do
+    kill -0 "$1" 2>/dev/null || return
+    sleep 0.1
+  done
+}
+
 # an interrupt, once the proof of pid_blocks has begun
 rm -rf crates/*/out
 : >"$CALLS"
-PAUSE=60 python3 tools/first_run.py 2>"$room/err" &
-for _ in {1..300}; do
-  grep -qx 'begin pid_blocks' "$CALLS" && break
-  sleep 0.1
-done
+PAUSE=600 python3 tools/first_run.py 2>"$room/err" &
+check "the proof of pid_blocks begins" has_begun $! pid_blocks
 kill -INT $!
 wait $!
 check "an interrupt ends the run with status 130" test $? -eq 130
 check "an interrupt is reported" grep -q 'interrupted; the next call goes on from here' "$room/err"
 same /dev/null <(lanes) "no lane is left after an interrupt"
 check "what an interrupted proof made is kept" test -d crates/pid_blocks/out/incremental
+
+# an error in the thread of a crate: a file stands where its folder has to be
+rm -rf crates/*/out
+touch crates/pid_blocks/out
+timeout 600 python3 tools/first_run.py 2>"$room/err"
+check "an error in a thread ends the run with status 1" test $? -eq 1
+check "the error is shown" grep -q '^FileExistsError: .*crates/pid_blocks/out' "$room/err"
+check "its crate is named" grep -q 'pid_blocks is not proved' "$room/err"

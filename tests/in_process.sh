@@ -1,7 +1,8 @@
 #!/usr/bin/env bash
 # The library in the caller's process, include/tracehost.h: its lines are those of `tracehost --lines`, its typed calls
-# are its lines, codes, rooms, copies, sessions next to each other, each allocation refused in turn, the names that it exports, and the header in C and
-# C++. Programs are run as they are, with the compiler's sanitizers, and in valgrind.
+# are its lines; codes, rooms, views, copies, sessions next to each other and in threads, each allocation refused in turn;
+# the names that it exports, and the header in C and C++. Programs are run as they are, with the compiler's sanitizers, and
+# in valgrind.
 #
 #   bash tests/in_process.sh [PROGRAM]
 #
@@ -50,18 +51,23 @@ if need objdump; then
 fi
 
 # ---- the programs: compiled into a folder with some flags, and run behind some words
-tests=(agree codes copies lines rooms sessions)
+tests=(agree codes copies lines rooms sessions threads views)
 compile() {
   local folder=$1 name
   shift
   mkdir "$folder"
   for name in "${tests[@]}"; do
-    check "cc $* $name.c" cc -std=c11 "${warnings[@]}" -g "${own[@]}" "$@" -o "$folder/$name" "tests/in_process/$name.c" \
+    check "cc $* $name.c" cc -std=c11 "${warnings[@]}" -g -pthread "${own[@]}" "$@" -o "$folder/$name" "tests/in_process/$name.c" \
       "$library/libtracehost.a"
   done
-  check "cc $* refusals.c" cc -std=c11 "${warnings[@]}" -g "${own[@]}" "$@" -Wl,--wrap=malloc,--wrap=realloc \
-    -o "$folder/refusals" tests/in_process/refusals.c "$library/libtracehost.a"
+  check "cc $* refusals.c" cc -std=c11 "${warnings[@]}" -g "${own[@]}" "$@" \
+    -Wl,--wrap=malloc,--wrap=realloc,--wrap=free -o "$folder/refusals" tests/in_process/refusals.c \
+    "$library/libtracehost.a"
 }
+
+# the lines of all row files, and the answers of `lines` to them
+python3 tests/python/test_in_process.py --rows >"$room/rows"
+answer_rows() { "$@" <"$room/rows" >"$room/answers"; }
 
 # agree CALLS, copies and sessions RUNS and refusals CALLS take as many as are given
 run_all() {
@@ -72,11 +78,16 @@ run_all() {
   check "copies $*" "$@" "$folder/copies" "$runs"
   check "sessions $*" "$@" "$folder/sessions" "$runs"
   check "rooms $*" "$@" "$folder/rooms"
+  check "threads $*" "$@" "$folder/threads" "$refusals"
+  check "views $*" "$@" "$folder/views"
   check "refusals $*" "$@" "$folder/refusals" "$refusals"
+  check "lines $*" answer_rows "$@" "$folder/lines"
+  [ -e "$room/wanted" ] || cp "$room/answers" "$room/wanted" # of the first run, which the lines below are compared with
+  same "$room/wanted" "$room/answers" "the lines $*"
 }
 
 compile "$room/plain" -O2
-run_all "$room/plain" 100000 30 2000
+run_all "$room/plain" 1000000 200 2000
 sanitizers=("-fsanitize=address,undefined" -fno-sanitize-recover=all)
 echo 'int main(void) { return 0; }' >"$room/empty.c"
 if cc "${sanitizers[@]}" -o "$room/empty" "$room/empty.c" 2>/dev/null && "$room/empty"; then
@@ -85,7 +96,10 @@ if cc "${sanitizers[@]}" -o "$room/empty" "$room/empty.c" 2>/dev/null && "$room/
 else
   skip "cc has no sanitizers"
 fi
-need valgrind && run_all "$room/plain" 5000 2 100 valgrind -q --error-exitcode=1 --leak-check=full --show-leak-kinds=all
+if need valgrind; then
+  run_all "$room/plain" 5000 2 100 valgrind -q --error-exitcode=1 --leak-check=full --show-leak-kinds=all
+  check "threads, for races" valgrind -q --tool=helgrind --error-exitcode=1 "$room/plain/threads" 100
+fi
 
 # ---- the shared object
 shared() {

@@ -1,7 +1,7 @@
 #!/usr/bin/env bash
 # `make install` and the Debian package, each in a fresh folder: the program, the manual pages, the completions, the
-# viewer, the client in C and the library are found and run there. `make uninstall` removes all. Nothing is installed
-# elsewhere.
+# viewer, the client in C, the library, and C programs on the model are found and run there. `make uninstall` removes all.
+# Nothing is installed elsewhere.
 #
 #   bash tests/install.sh
 program=none
@@ -41,7 +41,7 @@ installed() {
   same schema/scenario.schema.json "$prefix/share/tracehost/schema/scenario.schema.json" "$prefix: the schema"
   need python3 && check "$prefix: the viewer" same_page && check "$prefix: files for Perfetto" same_file
   need man && check "$prefix: man finds the pages" env MANPATH="$prefix/share/man" man -w tracehost tracehost-view \
-    tracehost-perfetto
+    tracehost-perfetto tracehost-cc tracehost-run
   need pkg-config cc || return
   local -x PKG_CONFIG_PATH=$prefix/share/pkgconfig PKG_CONFIG_SYSROOT_DIR=$root
   check "$prefix: pkg-config's version" test "$(pkg-config --modversion tracehost-client)" = "$version"
@@ -51,6 +51,30 @@ installed() {
     $(pkg-config --cflags tracehost-client) $(pkg-config --variable=source tracehost-client)
   check "$prefix: a program in C" test "$("$room/prog" 2>/dev/null)" = "1001 stopped: SIGSTOP"
   installed_library "$prefix" "$3"
+  installed_posix "$prefix" "$3"
+}
+
+# a C program on the model, compiled by tracehost-cc, and by the flags of pkg-config
+installed_posix() {
+  local prefix=$1 folder=$1/$2
+  need cc python3 || return
+  check "$prefix: tracehost-cc" tracehost-cc -o "$room/traced" clients/posix/examples/traced.c
+  check "$prefix: tracehost-run" tracehost-run "$room/traced"
+  local -x PKG_CONFIG_PATH=$folder/pkgconfig
+  # shellcheck disable=SC2046 # the line that docs/POSIX.md shows
+  check "$prefix: cc for tracehost-run" cc $(pkg-config --cflags tracehost-posix) -o "$room/traced" \
+    clients/posix/examples/traced.c $(pkg-config --libs tracehost-posix)
+  check "$prefix: tracehost-run of this program" tracehost-run "$room/traced"
+}
+
+# without a compiler all else is installed
+without_a_compiler() {
+  make install CC=no-such-compiler PREFIX="$room/plain" >"$room/out" 2>&1
+  check "make install CC=none" test $? -eq 0
+  check "it says what is missing" grep -q '^there is no no-such-compiler: tracehost-cc and tracehost-run' "$room/out"
+  check "$room/plain: the program" run_first "$room/plain/bin/tracehost"
+  check "no tracehost-run" test ! -e "$room/plain/bin/tracehost-run"
+  check "make uninstall CC=none" make uninstall CC=no-such-compiler PREFIX="$room/plain"
 }
 
 # the library, for the program in C of docs/IN_PROCESS.md: as shared object, and as archive
@@ -80,7 +104,8 @@ make_installs() {
   installed "" "$room/prefix" lib
   check "make uninstall PREFIX=" make uninstall PREFIX="$room/prefix"
   check "make uninstall DESTDIR=" make uninstall DESTDIR="$room/stage" PREFIX=/usr
-  find "$room/stage" "$room/prefix" \( ! -type d -o -name '*tracehost*' \) >"$room/left"
+  without_a_compiler
+  find "$room/stage" "$room/prefix" "$room/plain" \( ! -type d -o -name '*tracehost*' \) >"$room/left"
   same /dev/null "$room/left" "what make uninstall leaves"
   if need groff; then
     check "groff renders tracehost-view.1" groff -mdoc -ww -Tutf8 man/tracehost-view.1

@@ -16,6 +16,7 @@ import subprocess
 import sys
 import threading
 import time
+import traceback
 
 from lane import Lane
 
@@ -23,6 +24,8 @@ TOP = os.path.dirname(os.path.dirname(os.path.realpath(__file__)))
 PROGRAM = "tracehost"
 # what one check is likely to take at most, in bytes
 MEMORY_OF_A_CHECK = 3_500_000_000
+# how long an interrupted run waits for its lanes to go, in seconds
+LANES_GO_WITHIN = 60
 # by how many processes a crate is proved: each more reads all that the crate stands on once more
 JOBS = ["--jobs", "1"]
 
@@ -89,10 +92,14 @@ class Builder:
         self.began = time.monotonic()
         self.lock = threading.Condition()
         self.running, self.done, self.failed = {}, [], None
+        # the traceback of what ended the failed crate's thread, if its proof didn't
+        self.fault = ""
+        self.is_interrupted = self.is_stopping = False
         # when each crate began, and the seconds of each that was proved now
         self.started, self.took = {}, {}
         self.shown = 0.0
-        self.children, self.threads = set(), []
+        # the processes that prove crates, and the lanes of those crates
+        self.children, self.lane_of = set(), {}
         self.is_terminal = sys.stderr.isatty()
 
     def share(self):
@@ -153,11 +160,13 @@ class Builder:
         """Runs rt in the folder, notes the functions of the crate that it counts, and returns whether all went well."""
         os.makedirs(f"{TOP}/crates/{name}/out", exist_ok=True)
         with open(f"{TOP}/crates/{name}/out/build.log", "ab") as log:
-            child = subprocess.Popen(
-                ["rt", *words], cwd=folder, stdin=subprocess.PIPE, stdout=subprocess.PIPE,
-                stderr=subprocess.STDOUT, start_new_session=True,
-            )
             with self.lock:
+                if self.is_stopping:
+                    return False
+                child = subprocess.Popen(
+                    ["rt", *words], cwd=folder, stdin=subprocess.PIPE, stdout=subprocess.PIPE,
+                    stderr=subprocess.STDOUT, start_new_session=True,
+                )
                 self.children.add(child)
             child.stdin.write(given)
             child.stdin.close()
@@ -177,21 +186,31 @@ class Builder:
         """Builds a library, which rt does only where it is proved."""
         if self.is_proved(name):
             return True
-        with Lane(TOP, name, self.all_below(name)) as lane:
+        self.lane_of[name] = Lane(TOP, name, self.all_below(name))
+        with self.lane_of[name] as lane:
             well = self.call(name, lane.folder, ["lib", *JOBS])
             if well:
                 lane.date()
         return well
 
-    def prove(self, name):
+    def prove_crate(self, name):
+        """Proves the crate, and returns whether all went well."""
         log = f"{TOP}/crates/{name}/out/build.log"
         if os.path.exists(log):
             os.remove(log)
         if name == PROGRAM:
             # a scenario of no steps prints nothing, so that this run proves and builds, and does no more
-            well = self.call(name, f"{TOP}/crates/{name}", ["run", *JOBS], b'{"steps":[]}')
-        else:
-            well = self.prove_library(name)
+            return self.call(name, f"{TOP}/crates/{name}", ["run", *JOBS], b'{"steps":[]}')
+        return self.prove_library(name)
+
+    def prove(self, name):
+        """Proves the crate in a thread of its own, and notes how it went."""
+        well, fault = False, ""
+        try:
+            well = self.prove_crate(name)
+        except Exception:
+            # no one else sees it, and the run would wait for this crate for ever
+            fault = traceback.format_exc()
         with self.lock:
             functions = self.running.pop(name)
             if functions:
@@ -199,8 +218,8 @@ class Builder:
             if well:
                 self.done.append(name)
                 self.tell(name, functions)
-            else:
-                self.failed = self.failed or name
+            elif not self.failed:
+                self.failed, self.fault = name, fault
             self.lock.notify_all()
 
     def tell(self, name, functions):
@@ -224,57 +243,64 @@ class Builder:
 
     def run(self):
         with self.lock:
-            while len(self.done) < len(self.below) and not self.failed:
+            while len(self.done) < len(self.below) and not self.failed and not self.is_interrupted:
                 ready = sorted(self.ready(), key=self.chain, reverse=True)
                 for name in ready[: self.lanes - len(self.running)]:
                     self.running[name], self.started[name] = 0, time.monotonic()
-                    thread = threading.Thread(target=self.prove, args=(name,), daemon=True)
-                    self.threads.append(thread)
-                    thread.start()
+                    threading.Thread(target=self.prove, args=(name,), daemon=True).start()
                 self.show()
                 self.lock.wait(1.0)
         return self.failed
 
+    def interrupt(self, *_):
+        """Ends the run at a signal, within a second. Those that come while it ends change nothing."""
+        self.is_interrupted = True
+
+    def has_lanes(self):
+        """Whether there are lanes. A thread that still waits for its crate's lock has none."""
+        return any(name in self.lane_of and self.lane_of[name].held is not None for name in self.running)
+
     def stop(self):
-        """Ends what runs, and waits a while until the lanes are gone."""
-        for child in list(self.children):
-            try:
-                os.killpg(child.pid, signal.SIGTERM)
-            except ProcessLookupError:
-                pass
-        for thread in self.threads:
-            thread.join(5)
+        """Ends what runs, and waits until the lanes are gone."""
+        with self.lock:
+            self.is_stopping = True
+            for child in self.children:
+                try:
+                    os.killpg(child.pid, signal.SIGTERM)
+                except ProcessLookupError:
+                    pass
+            self.lock.wait_for(lambda: not self.has_lanes(), LANES_GO_WITHIN)
 
-
-def interrupt(*_):
-    """Ends the run at the first signal, and ignores those that come while it ends."""
-    for number in (signal.SIGINT, signal.SIGTERM):
-        signal.signal(number, signal.SIG_IGN)
-    raise KeyboardInterrupt
+    def report_failure(self):
+        """Shows why the failed crate is not proved."""
+        if self.fault:
+            sys.stderr.write(self.fault)
+            self.say(f"{self.failed} is not proved: the error above")
+            return
+        log = f"{TOP}/crates/{self.failed}/out/build.log"
+        with open(log, encoding="utf-8", errors="replace") as text:
+            sys.stderr.write("".join(text.readlines()[-20:]))
+        self.say(f"{self.failed} is not proved: the whole log is {log}")
 
 
 def main():
+    builder = Builder()
     # also where the caller ignores interrupts, as a shell does for what it runs in the background
     for number in (signal.SIGINT, signal.SIGTERM):
-        signal.signal(number, interrupt)
+        signal.signal(number, builder.interrupt)
     digest = digest_of_sources()
-    builder = Builder()
     builder.say(
         f"proving and building {len(builder.below)} crates, once, on {builder.lanes} processors; "
         "what is proved is kept, so an interrupt loses little"
     )
-    try:
-        failed = builder.run()
-    except KeyboardInterrupt:
+    failed = builder.run()
+    if builder.is_interrupted:
         builder.stop()
         builder.say("interrupted; the next call goes on from here")
         return 130
     if failed:
         builder.stop()
-        log = f"{TOP}/crates/{failed}/out/build.log"
-        with open(log, encoding="utf-8", errors="replace") as text:
-            sys.stderr.write("".join(text.readlines()[-20:]))
-        builder.say(f"{failed} is not proved: the whole log is {log}")
+        builder.report_failure()
         return 1
     subprocess.run([f"{TOP}/tools/program", "--built", digest], check=True)
     builder.say(f"built in {builder.elapsed()}")

@@ -60,10 +60,11 @@ class Lane:
 
     def lock(self):
         """Waits until no other call and no rt works in the crate's own folder, and keeps them out, as rt does."""
-        self.held = os.open(self.crate, os.O_RDONLY)
+        folder = os.open(self.crate, os.O_RDONLY)
         with contextlib.suppress(OSError):
             # some file systems have no locks
-            fcntl.flock(self.held, fcntl.LOCK_EX)
+            fcntl.flock(folder, fcntl.LOCK_EX)
+        self.held = folder
 
     def leave(self):
         self.take_back()

@@ -1,12 +1,40 @@
 /*
- * Calls by chance, made twice: as typed calls on one session, where there is one, and as lines on another. The reply in
- * the struct, written in words, has to be the line's, and so has tracehost_last_line.
+ * Calls by chance, made twice: as typed calls on one session, and as lines on another. The reply in the struct, written in
+ * words, has to be the line's, and so has tracehost_last_line.
  *
  *     agree CALLS [SEED]
  */
 #include "calls.h"
 
 enum { CALLS_OF_A_SESSION = 150, FIRST_SPAWNS = 8 };
+
+/* The fields that a kind of reply has, as the header lists them; all others have to be 0. */
+static bool has_only_its_fields(tracehost_reply r)
+{
+    const uint32_t kind = r.kind;
+    const bool handled = kind == TRACEHOST_HANDLED, info = kind == TRACEHOST_INFO, is_new = kind == TRACEHOST_NEW;
+    const bool status = kind == TRACEHOST_STATUS, stopped = kind == TRACEHOST_STOPPED;
+    r.kind = 0;
+    r.pid = is_new || status || handled ? 0 : r.pid;
+    r.lwp = is_new || info || handled || stopped ? 0 : r.lwp;
+    r.number = kind == TRACEHOST_NUMBER ? 0 : r.number;
+    r.status = status || handled || kind == TRACEHOST_ENDED ? 0 : r.status;
+    r.signal = handled || stopped || kind == TRACEHOST_CAUGHT ? 0 : r.signal;
+    r.event = info ? 0 : r.event;
+    r.flags = info || handled || stopped ? 0 : r.flags;
+    r.mask = info || kind == TRACEHOST_MASK ? 0 : r.mask;
+    r.pending = info ? 0 : r.pending;
+    r.child = info || handled ? 0 : r.child;
+    r.code = info || handled ? 0 : r.code;
+    r.handler = handled && r.has_handler == 1 ? 0 : r.handler; /* 0 if all handlers declined */
+    r.pass = handled && (r.decision == TRACEHOST_CONTINUE || r.decision == TRACEHOST_DETACH) ? 0 : r.pass;
+    r.has_handler = handled && r.has_handler == 1 ? 0 : r.has_handler;
+    r.decision = handled ? 0 : r.decision;
+    r.error = kind == TRACEHOST_ERROR ? 0 : r.error;
+    r.count = kind == TRACEHOST_LWPS || kind == TRACEHOST_PIDS ? 0 : r.count;
+    static const tracehost_reply zeros;
+    return memcmp(&r, &zeros, sizeof r) == 0;
+}
 
 static struct call a_spawn(uint32_t user)
 {
@@ -37,16 +65,12 @@ int main(int argc, char **argv)
         CHECK(tracehost_line(&text, false, (const uint8_t *)line.bytes, line.length, (uint8_t *)wanted.bytes, ROOM,
                              &wanted.length) == TRACEHOST_ANSWERED);
         counts[call.user - FIRST_USER]++;
-        if (is_typed(&call)) {
-            CHECK(make(&typed, &call, &reply) == TRACEHOST_ANSWERED);
-            kinds[reply.kind]++;
-            ADD(&made, "%" PRIu32 " %lu ", call.user, counts[call.user - FIRST_USER]);
-            add_reply(&made, &typed, &reply);
-            ADD(&made, "\n");
-        } else {
-            CHECK(tracehost_line(&typed, false, (const uint8_t *)line.bytes, line.length, (uint8_t *)made.bytes, ROOM,
-                                 &made.length) == TRACEHOST_ANSWERED);
-        }
+        CHECK(make(&typed, &call, &reply) == TRACEHOST_ANSWERED);
+        CHECK(reply.kind <= TRACEHOST_ERROR && has_only_its_fields(reply));
+        kinds[reply.kind]++;
+        ADD(&made, "%" PRIu32 " %lu ", call.user, counts[call.user - FIRST_USER]);
+        add_reply(&made, &typed, &reply);
+        ADD(&made, "\n");
         if (made.length != wanted.length || memcmp(made.bytes, wanted.bytes, made.length) != 0) {
             printf("%s\n  by text: %.*s  typed:   %s", line.bytes, (int)wanted.length, wanted.bytes, made.bytes);
             return 1;

@@ -12,7 +12,7 @@ struct call {
     uint32_t user, caller;
     int64_t which;
     uint32_t numbers[4];
-    struct { uint32_t flags, signal, decision, pass; } rules[4];
+    tracehost_rule rules[4];
     size_t count;
 };
 
@@ -120,12 +120,6 @@ static inline struct call choose(void)
     return c;
 }
 
-/* Whether there is a typed call for it: handlers are installed, and signals blocked, by lines. */
-static inline bool is_typed(const struct call *c)
-{
-    return c->op != INSTALL && !(c->op == TURN && c->numbers[1] == 2);
-}
-
 /* Makes the typed call, and returns its code. */
 static inline uint32_t make(tracehost *h, const struct call *c, tracehost_reply *r)
 {
@@ -137,7 +131,7 @@ static inline uint32_t make(tracehost *h, const struct call *c, tracehost_reply 
     case KILL: return tracehost_kill(h, c->user, c->caller, c->which, n[0], r);
     case SIGACTION: return tracehost_sigaction(h, c->user, c->caller, n[0], n[1], r);
     case LIST: return tracehost_list(h, c->user, c->caller, r);
-    case INSTALL: break;
+    case INSTALL: return tracehost_install(h, c->user, c->caller, c->rules, c->count, r);
     case HANDLE: return tracehost_handle(h, c->user, c->caller, r);
     case TURN: return tracehost_turn(h, c->user, n[0], n[1], n[2], n[3], r);
     }

@@ -12,6 +12,11 @@ struct text {
 
 #define ADD(to, ...) ((to)->length += (size_t)snprintf((to)->bytes + (to)->length, ROOM - (to)->length, __VA_ARGS__))
 
+static inline bool same(const struct text *one, const struct text *other)
+{
+    return one->length == other->length && memcmp(one->bytes, other->bytes, one->length) == 0;
+}
+
 static inline void add_names(struct text *to, uint32_t bits, const char *const *names, size_t count)
 {
     const char *between = "";

@@ -7,7 +7,8 @@ import os
 import pathlib
 import sys
 import unittest
-from typing import Any
+from collections.abc import Iterable
+from typing import Any, Literal
 from unittest import mock
 
 sys.path.insert(0, str(pathlib.Path(__file__).resolve().parents[1]))
@@ -26,6 +27,7 @@ from tracehost import (
     ProcessRow,
     ProcessState,
     ProgramEnded,
+    ProtocolError,
     Raise,
     RefusedStep,
     Request,
@@ -34,6 +36,8 @@ from tracehost import (
     StopFlag,
     View,
 )
+from tracehost.library import Session
+from tracehost.replica import Replica
 
 NONE: frozenset[Signal] = frozenset()
 
@@ -41,15 +45,12 @@ NONE: frozenset[Signal] = frozenset()
 class Views(unittest.TestCase):
     """`User.view`: the rows as the rules of docs/MACHINE.md make them."""
 
+    transport: Literal["library", "pipe"] = "library"
+
     def setUp(self) -> None:
-        self.host = Host(transport="library")
+        self.host = Host(transport=self.transport)
         self.addCleanup(self.host.close)
         self.user = self.host.user(1001)
-
-    def test_not_over_a_pipe(self) -> None:
-        with Host(transport="pipe") as host:
-            with self.assertRaisesRegex(NotImplementedError, "view: .*transport='library'"):
-                host.user(1001).view()
 
     def test_no_rows(self) -> None:
         self.assertEqual(self.user.view(), View((), ()))
@@ -124,6 +125,111 @@ class Views(unittest.TestCase):
         self.assertEqual(view.processes[249].pid, 1249)
         self.assertEqual(view.lwps[249], self.lwp(100249, 1249))
         self.assertEqual(self.user.process(1000).list(), tuple(range(1000, 1250)))
+
+
+    def test_of_a_closed_session(self) -> None:
+        self.user.spawn()
+        self.user.view()
+        self.host.close()
+        with self.assertRaises(ProgramEnded):
+            self.user.view()
+
+
+class ViewsOverAPipe(Views):
+    """The same rows, which a session of the library has beside the program."""
+
+    transport = "pipe"
+
+    def test_refused_lines_and_the_numbers_of_steps(self) -> None:
+        """A view is no step, and a refused line none either."""
+        self.user.spawn()
+        self.assertEqual(self.host.line('{"user":1001,"op":"fly"}'), "refused BadName")
+        self.assertEqual(self.user.view(), View((self.process(1000, events=EventMask(0)),), (self.lwp(100000, 1000),)))
+        self.assertEqual(self.host.step({"user": 1001, "op": "spawn"}), "1001 2 new 1001 100001")
+        self.assertEqual([row.pid for row in self.user.view().processes], [1000, 1001])
+
+    def test_the_setting(self) -> None:
+        """kern.kill_on_debugger_exit is that of the session: with 0 the tracee of an ended debugger lives."""
+        for kills, rows in ((True, 0), (False, 1)):
+            with Host(transport="pipe", kill_on_debugger_exit=kills) as host:
+                user = host.user(1001)
+                debugger, target = user.process(user.spawn()), user.spawn()
+                debugger.ptrace(Request.PT_ATTACH, target.pid)
+                user.turn(100000, Raise(Signal.SIGKILL))
+                self.assertEqual(len(user.view().processes), rows)
+
+    def test_a_program_that_ends(self) -> None:
+        self.user.spawn()
+        self.host._made.close()
+        with self.assertRaises(ProgramEnded):
+            self.user.spawn()
+        with self.assertRaises(ProgramEnded):
+            self.user.view()
+
+    def test_without_a_library(self) -> None:
+        """The session goes on, without views."""
+        self.user.spawn()
+        with mock.patch.dict(os.environ, {"TRACEHOST_LIBRARY": "/nowhere/libtracehost.so"}):
+            with self.assertRaisesRegex(NotImplementedError, "view: .*/nowhere/libtracehost.so"):
+                self.user.view()
+        self.assertEqual(self.user.spawn(), New(1001, 100001))
+        with self.assertRaises(NotImplementedError):  # steps are no longer kept
+            self.user.view()
+
+
+class Replicas(unittest.TestCase):
+    """What `Replica` does with steps and their answers."""
+
+    SPAWN = '{"user":1001,"op":"spawn"}'
+
+    def test_no_memory(self) -> None:
+        """A step that was answered ENOMEM has changed nothing. Those after it have other numbers, and the same replies."""
+        replica = Replica(True)
+        replica.add(self.SPAWN, "1001 1 error ENOMEM 12")
+        self.assertEqual(replica.rows(1001), ([], []))
+        replica.add(self.SPAWN, "1001 2 new 1000 100000")
+        self.assertEqual(len(replica.rows(1001)[0]), 1)
+
+    def spawns(self, replica: Replica, numbers: Iterable[int]) -> None:
+        for number in numbers:
+            replica.add(self.SPAWN, f"1001 {number + 1} new {1000 + number} {100000 + number}")
+            self.assertLessEqual(len(replica._waiting), 10)
+
+    @mock.patch("tracehost.replica.MOST_WAITING", 10)
+    def test_many_steps(self) -> None:
+        """The first view comes within a bound. After it there may be any number of steps, and no more wait than these."""
+        replica = Replica(True)
+        self.spawns(replica, range(10))
+        self.assertEqual(len(replica.rows(1001)[0]), 10)
+        self.spawns(replica, range(10, 45))
+        self.assertEqual(len(replica.rows(1001)[0]), 45)
+        replica = Replica(True)
+        self.spawns(replica, range(11))
+        with self.assertRaisesRegex(NotImplementedError, "view: .* first 10 steps"):
+            replica.rows(1001)
+
+    def test_another_program(self) -> None:
+        """A program whose answers aren't the library's has no rows there, and its steps are no longer kept."""
+        replica = Replica(True)
+        replica.add(self.SPAWN, "1001 1 new 1001 100001")
+        for _ in range(2):
+            with self.assertRaisesRegex(ProtocolError, "new 1001 100001.*new 1000 100000"):
+                replica.rows(1001)
+            replica.add(self.SPAWN, "1001 2 new 1002 100002")
+            self.assertEqual(len(replica._waiting), 0)
+
+    def test_no_memory_in_the_library(self) -> None:
+        replica = Replica(True)
+        replica.add(self.SPAWN, "1001 1 new 1000 100000")
+        with mock.patch.object(Session, "exchange", return_value="1001 1 error ENOMEM 12"):
+            with self.assertRaises(MemoryError):
+                replica.rows(1001)
+        with self.assertRaises(MemoryError):
+            replica.rows(1001)
+        replica = Replica(True)
+        with mock.patch("tracehost.replica.Session", side_effect=MemoryError):
+            with self.assertRaises(MemoryError):
+                replica.rows(1001)
 
 
 class Choices(unittest.TestCase):
@@ -256,8 +362,6 @@ class Copies(unittest.TestCase):
         with Host(transport="pipe") as host:
             with self.assertRaisesRegex(NotImplementedError, "copy: .*transport='library'"):
                 host.copy()
-            with self.assertRaisesRegex(NotImplementedError, "view: .*transport='library'"):
-                host.user(1001).view()
 
 
 if __name__ == "__main__":

@@ -23,9 +23,9 @@ the calls of the manual pages. A call returns what the manual page says, or rais
 
 ``tracehost session.json`` prints the lines of the recorded session again, and `view` makes a page that shows it.
 ``block=True`` lets `wait4`, `handle` and `turn` sleep until another thread's step has brought news; `Host.run` runs
-functions by turns, so that the steps are the same in every run. Over the library `User.view` shows a
-user's rows. The module `tracehost.pytest_plugin` has a fixture for
-pytest, `tracehost.strategies` and `tracehost.stateful` are for Hypothesis. ``python -m tracehost.shell`` is a prompt.
+functions by turns, so that the steps are the same in every run. `User.view` shows a user's rows. The module
+`tracehost.pytest_plugin` has a fixture for pytest, `tracehost.strategies` and `tracehost.stateful` are for Hypothesis.
+``python -m tracehost.shell`` is a prompt.
 
 Signals and the codes of system calls have FreeBSD's numbers, whatever the machine. Names are those of <sys/ptrace.h>,
 <sys/signal.h> and <sys/wait.h>. docs/LINES.md describes the protocol, docs/FORMAT.md the meaning of each call.

@@ -13,12 +13,13 @@ from typing import Any, Literal, Optional, Union, overload
 
 from .blocking import Progress
 from .checks import number_of_process, of_kind, whole, word
-from .errors import Held
-from .library import Session, find
+from .errors import Held, ProgramEnded
+from .library import CLwp, CProcess, Session, find
 from .names import ALL_EVENTS, OPTIONS, Action, EventMask, Request, WaitOption, names_of
 from .pipe import Pipe
 from .program import default
 from .recording import Recording
+from .replica import Replica
 from .replies import NOTHING, Handled, LwpInfo, New, Turned, Waited
 from .rows import View, lwp_row, process_row
 from .steps import Act, Rule, check_act
@@ -79,14 +80,17 @@ class Host:
             if recording is not None:
                 recording.close()
             raise
-        self._begin(made, recording)
+        self._begin(made, recording, kill_on_debugger_exit is not False)
 
-    def _begin(self, made: Union[Session, Pipe], recording: Optional[Recording]) -> None:
+    def _begin(
+        self, made: Union[Session, Pipe], recording: Optional[Recording], kill_on_debugger_exit: bool = True
+    ) -> None:
         self._made = made
+        self._replica = None if isinstance(made, Session) else Replica(kill_on_debugger_exit)
         self._recording = recording
         self._progress = Progress()
         self._lock = threading.Lock()
-        self._text = TextCalls(made, self._progress, recording)
+        self._text = TextCalls(made, self._progress, recording, self._replica)
         self._typed = TypedCalls(made, self._progress) if isinstance(made, Session) and recording is None else None
         self.transport = "library" if isinstance(made, Session) else "pipe"
 
@@ -105,6 +109,8 @@ class Host:
         """
         with self._lock:
             status = self._made.close()
+            if self._replica is not None:
+                self._replica.end(ProgramEnded(status))
         if self._recording is not None:
             self._recording.close()
         self._progress.close()
@@ -191,10 +197,11 @@ class Host:
                 return result
             self._progress.sleep(uid, seen, deadline, what)
 
-    def _session(self, call: str) -> Session:
+    def _rows(self, uid: int) -> tuple[list[CProcess], list[CLwp]]:
         if isinstance(self._made, Session):
-            return self._made
-        raise NotImplementedError(f"{call}: the session is in a program; Host(transport='library') has it")
+            return self._made.rows(uid)
+        assert self._replica is not None
+        return self._replica.rows(uid)
 
 
 def _may_be_library() -> bool:
@@ -256,12 +263,14 @@ class User:
     def view(self) -> View:
         """The user's rows: processes by rising number, LWPs in order of birth. No step is made.
 
-        Raises ValueError where this is no user, and NotImplementedError over a pipe.
+        Over a pipe the library makes the steps of the session again, and has the rows. Raises ValueError where this is
+        no user, ProgramEnded and MemoryError. Over a pipe raises NotImplementedError where there is no library, or the
+        session had 10,000 steps before its first view, and ProtocolError where the library isn't the program's.
         """
         if not 0 <= self.uid < 1 << 32:
             raise ValueError(f"{self.uid} is no user")
         with self.host._lock:
-            processes, lwps = self.host._session("view").rows(self.uid)
+            processes, lwps = self.host._rows(self.uid)
         return View(tuple(map(process_row, processes)), tuple(map(lwp_row, lwps)))
 
 

@@ -8,9 +8,10 @@ from typing import Any, NamedTuple, Optional, Protocol
 
 from . import replies
 from .blocking import Progress
-from .errors import Held, ProtocolError, RefusedStep
+from .errors import Held, ProgramEnded, ProtocolError, RefusedStep
 from .names import EVENTS, OPTIONS, Action, Request, names_of
 from .recording import Recording
+from .replica import Replica
 from .replies import Handled, New, Turned, Waited, answer
 from .steps import Act, Rule
 
@@ -42,18 +43,32 @@ class Sent(NamedTuple):
 class TextCalls:
     """The calls over a transport. One thread at a time uses it."""
 
-    def __init__(self, transport: Transport, progress: Progress, recording: Optional[Recording]) -> None:
+    def __init__(
+        self,
+        transport: Transport,
+        progress: Progress,
+        recording: Optional[Recording],
+        replica: Optional[Replica] = None,
+    ) -> None:
         self._transport = transport
         self._progress = progress
         self._recording = recording
+        self._replica = replica
 
     def send(self, text: str) -> Sent:
         """Sends a line, records it, and counts what may have changed something."""
-        line = self._transport.exchange(text)
+        try:
+            line = self._transport.exchange(text)
+        except ProgramEnded as error:
+            if self._replica is not None:
+                self._replica.end(error)
+            raise
         if line.startswith("refused"):
             return Sent(line, _NUMBER_OF_LINE.sub("", self._transport.new_errors()).strip())
         if self._recording is not None:
             self._recording.add(text, line)
+        if self._replica is not None:
+            self._replica.add(text, line)
         words = line.split(" ", 3)
         if len(words) > 2 and words[2] in _CHANGES and words[0].isdecimal():
             self._progress.note(int(words[0]))
