@@ -9,11 +9,16 @@ MOST_SHOWN = 10
 
 
 class Counts:
-    """How many checks passed and failed. The first failures are printed."""
+    """How many checks passed, failed and were skipped. The first failures are printed."""
 
     def __init__(self) -> None:
         self.passed = 0
         self.failed = 0
+        self.skipped = 0
+
+    def skip(self, text: str) -> None:
+        self.skipped += 1
+        print(f'skipped: {text}')
 
     def check(self, holds: bool, text: str) -> None:
         if holds:
@@ -25,7 +30,8 @@ class Counts:
 
     def end(self) -> NoReturn:
         """Prints the counts, and ends the program."""
-        print(f'{self.passed} passed, {self.failed} failed')
+        skipped = f', {self.skipped} skipped' if self.skipped else ''
+        print(f'{self.passed} passed, {self.failed} failed{skipped}')
         sys.exit(1 if self.failed else 0)
 
 

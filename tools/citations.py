@@ -1,0 +1,181 @@
+"""Follows the names that contracts and definitions cite, from the contracts of some functions on.
+
+A *definition* is a paragraph of a file of a crate's `specs/`: a declaration with the comment before it. A *type* is an
+enum or a struct of a crate's `src/`. Names of the kit's own libraries are not followed.
+
+Names are looked up by spelling. A variable with the spelling of an imported name counts as a citation, so what is found
+may be too much, and is not too little.
+"""
+
+from __future__ import annotations
+
+import re
+from collections.abc import Iterator
+from dataclasses import dataclass, field
+from functools import cache
+from pathlib import Path
+
+TOP = Path(__file__).resolve().parent.parent
+CRATES = TOP / 'crates'
+
+IMPORT = re.compile(r'^ *(?:pub |ghost )?use (Rattle\.[\w.]+)(?:\.\{(.*)\}| as (\w+));?$', re.MULTILINE)
+OTHER = re.compile(r'^ *((pub )?(use|mod) .*|--.*)$', re.MULTILINE)
+DECLARED = re.compile(r'\s*(?:abbrev |unfoldable )?(?:pub )?(record |data )?(\S+)')
+CONSTRUCTOR = re.compile(r'^  (?:pub )?(\S+) :', re.MULTILINE)
+FUNCTION = re.compile(r'^( *)pub (?:extern "C" )?fn (\w+)\b(.*?)^\1\{\}?$', re.DOTALL | re.MULTILINE)
+CITED = re.compile(r"(?<![\w'])(?<!\w\.)([A-Za-z_][\w'-]*)")
+# what leads from a type to its parts, in the path of a name
+PARTS = ('TheVariants', 'TheInside', 'TheConstants')
+
+
+@dataclass(frozen=True)
+class Definition:
+    """A piece of a file, which begins at the line `first`."""
+
+    path: Path
+    name: str
+    first: int
+    text: str = field(compare=False, repr=False)
+
+    @property
+    def lines(self) -> int:
+        return len(self.text.splitlines())
+
+    def cited(self) -> Iterator[str]:
+        yield from CITED.findall(re.sub(r'(--|//)[^\n]*', '', self.text))
+
+
+@dataclass
+class Source:
+    """A file: its definitions by their names, and the modules that its imports are from."""
+
+    definitions: dict[str, Definition] = field(default_factory=dict)
+    names: dict[str, str] = field(default_factory=dict)
+    aliases: dict[str, str] = field(default_factory=dict)
+
+    def add_imports(self, text: str) -> None:
+        for module, names, alias in IMPORT.findall(text):
+            if alias:
+                self.aliases[alias] = module
+            else:
+                self.names.update((name.strip(), module) for name in names.split(','))
+
+
+@cache
+def read_specs(path: Path) -> Source:
+    source, at = Source(), 1
+    text = path.read_text(encoding='utf-8')
+    source.add_imports(text)
+    for paragraph in re.split(r'(\n\n+)', text):
+        declared = DECLARED.match(OTHER.sub('', paragraph).strip('\n'))
+        if declared:
+            made = Definition(path, declared[2], at, paragraph.strip('\n'))
+            constructors = CONSTRUCTOR.findall(paragraph) if declared[1] == 'data ' else []
+            source.definitions.update((name, made) for name in (declared[2], *constructors))
+        at += paragraph.count('\n')
+    return source
+
+
+@cache
+def read_contracts(path: Path) -> Source:
+    """The public functions of a file of src/, each with its header: the types of its parameters, and its clauses."""
+    source, text = Source(), path.read_text(encoding='utf-8')
+    source.add_imports(text)
+    for found in FUNCTION.finditer(text):
+        first = text.count('\n', 0, found.start()) + 1
+        source.definitions[found[2]] = Definition(path, found[2], first, found[3])
+    return source
+
+
+@cache
+def used_by(crate: str) -> tuple[str, ...]:
+    """The crate itself, and those of this repository that its line in crates.txt names."""
+    for line in (TOP / 'crates.txt').read_text(encoding='utf-8').splitlines():
+        name, colon, uses = line.partition('#')[0].partition(':')
+        if colon and name.split()[0] == crate:
+            return (crate, *(use for use in uses.split() if (CRATES / use).is_dir()))
+    raise LookupError(f'crates.txt has no line of {crate}')
+
+
+@cache
+def read_types(crate: str) -> dict[str, tuple[Definition, ...]]:
+    """The public types of a crate, each with its constants, and with the value by which contracts see it."""
+    found: dict[str, tuple[Definition, ...]] = {}
+    for path in sorted((CRATES / crate / 'src').rglob('*.rt')):
+        text = path.read_text(encoding='utf-8')
+        for head in re.finditer(r'^(?:(?:///|#\[).*\n)*pub (?:enum|struct) (\w+)', text, re.MULTILINE):
+            name = head[1]
+            further = rf'^bitflag_items! \{{\n    impl {name}:|^impl.* Model for {name}\b'
+            starts = [head.start(), *(it.start() for it in re.finditer(further, text, re.MULTILINE))]
+            found[name] = tuple(Definition(path, name, text.count('\n', 0, at) + 1, item_at(text, at)) for at in starts)
+    return found
+
+
+def item_at(text: str, at: int) -> str:
+    """The item that begins there: to its closing brace, or to the semicolon of its one line."""
+    end = re.compile(r'^\}|^pub struct [^\n{]*;$', re.MULTILINE).search(text, at)
+    return text[at : end.end() if end else len(text)]
+
+
+class Walk:
+    """All that is cited from some contracts on. `take` returns what a further contract adds."""
+
+    def __init__(self) -> None:
+        self.found: dict[Definition, None] = {}
+        self.types: dict[Definition, None] = {}
+
+    def take(self, path: Path, function: str) -> None:
+        source = read_contracts(path)
+        self.follow(source.definitions[function], source, path)
+
+    def follow(self, definition: Definition, source: Source, path: Path) -> None:
+        crate = path.relative_to(CRATES).parts[0]
+        for name in definition.cited():
+            if name in source.aliases:
+                self.cite(source.aliases[name], name)
+            elif name in source.names:
+                self.cite(source.names[name], name)
+            elif name in source.definitions and path.suffix == '.antt':
+                self.add(source.definitions[name], source, path)
+            elif path.suffix == '.rt':
+                self.add_type(crate, name)
+
+    def add(self, definition: Definition, source: Source, path: Path) -> None:
+        if definition not in self.found:
+            self.found[definition] = None
+            self.follow(definition, source, path)
+
+    def cite(self, module: str, name: str) -> None:
+        _, crate, *below = module.split('.')
+        if not (CRATES / crate).is_dir():
+            return  # the kit's
+        if below[1] == 'declared':
+            types = [word for word in below[2:] if word[0].isupper() and word not in PARTS]
+            self.add_type(crate, (types or [name])[-1])
+        elif below[1] != 'contracts':
+            path = CRATES / crate / 'specs' / f'{"/".join(below[1:])}.antt'
+            source = read_specs(path)
+            if name in source.definitions:
+                self.add(source.definitions[name], source, path)
+            else:
+                self.cite(source.names[name], name)
+
+    def add_type(self, crate: str, name: str) -> None:
+        """Adds a type and the types of its fields. A type with a model is seen by its value alone."""
+        for place in used_by(crate):
+            parts = read_types(place).get(name, ())
+            if parts and parts[0] not in self.types:
+                self.types.update(dict.fromkeys(parts))
+                models = [part for part in parts if ' Model for ' in part.text]
+                for part in models or parts[:1]:
+                    self.add_value(part, place, is_model=bool(models))
+            if parts:
+                return
+
+    def add_value(self, part: Definition, crate: str, is_model: bool) -> None:
+        source, text = Source(), part.text
+        source.add_imports(text)
+        if is_model:
+            values = re.findall(r'ghost Value = \{(.*)\};', text)
+            text = ' '.join(values)
+        self.follow(Definition(part.path, part.name, part.first, text), source, part.path)
