@@ -59,8 +59,8 @@ def reached_in(report: str) -> list[str]:
 
 
 def axioms_of(crate: str, may_prove: bool) -> list[str]:
-    """The list of the present sources: kept in the crate's folder out/ from an earlier call, or made by a proof."""
-    digest, kept = digest_of_sources(crate), TOP / 'crates' / crate / 'out' / 'axioms'
+    """The list of the present sources: kept in the folder out/ from an earlier call, or made by a proof."""
+    digest, kept = digest_of_sources(crate), TOP / 'out' / f'axioms_of_{crate}'
     if kept.is_file():
         known, *names = kept.read_text(encoding='utf-8').splitlines()
         if known == digest:
