@@ -106,8 +106,8 @@ def name_of(function: str, argument: str, matched: str, entries: tuple[Entry, ..
     arms = "".join(
         f'        {kind}::{entry.variant}{shape if entry.has_data else ""} => "{entry.name}",\n' for entry in entries
     )
-    typed = "&StepShape" if matched == "&Step" else matched
-    return f"pub(crate) fn {function}({argument}: {typed}) -> &'static str {{\n    match {argument} {{\n{arms}    }}\n}}\n"
+    head = f"pub(crate) fn {function}({argument}: {matched}) -> &'static str {{\n"
+    return f"{head}    match {argument} {{\n{arms}    }}\n}}\n"
 
 
 def trace_names(form: Format) -> str:
