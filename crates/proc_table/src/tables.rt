@@ -1,12 +1,13 @@
 //! The tables of a host: its processes, its LWPs, and where the search for each user's next number begins.
 
-ghost use Rattle.std.specs.Prelude.{◌≡◌, ℕ, ◌+◌, ◌-◌, ◌*◌, ◌<◌, ◌≤◌, ◌^◌, ◌==◌, true, false, None, IsSome, IsSomeAnd, OnOk, IfOk, IfSome, count_by, ltb, length, get_or, map, option_map, slice_get};
+ghost use Rattle.std.specs.Prelude.{◌≡◌, ℕ, ◌+◌, ◌-◌, ◌*◌, ◌<◌, ◌≤◌, ◌^◌, ◌==◌, Bool, true, false, None, IsSome, IsSomeAnd, OnOk, IfOk, IfSome, count_by, ltb, length, get_or, map, option_map, slice_get};
 ghost use Rattle.pid_blocks.specs.Users.{IsUser};
 ghost use Rattle.pid_blocks.specs.Blocks.{slot, users, pid_block, tid_block, first_free, next_free, InBlock};
 ghost use Rattle.lwp_table.specs.Lwps.{first_lwp, lwp_of, next_lwp, put_lwp};
 ghost use Rattle.proc_table.specs.Processes.{process_of};
 ghost use Rattle.proc_table.specs.Seen.{seen_process, seen_lwp, find_seen, owns};
-ghost use Rattle.proc_table.specs.Walks.{next_of, next_tracee, next_child};
+ghost use Rattle.std.specs.Fn.{FnReturnsAt};
+ghost use Rattle.proc_table.specs.Walks.{next_of, next_tracee, next_child, find_tracee, find_child, DecidesRows};
 ghost use Rattle.proc_table.specs.Fresh.{no_rows, fresh_pid, fresh_tid, add_process, add_lwp, process_count, lwp_count_of, lwp_count, is_process, is_lwp};
 ghost use Rattle.proc_table.specs.Kept.{IsKept, IsRow, AtHome, Named, put_process, set_process, set_lwp, drop_process, drop_lwp};
 
@@ -257,6 +258,28 @@ impl Tables {
         ensures kept { IsKept self.now.rows }
     {
         self.processes.next_child(pid, after)
+    }
+
+    /// Returns the first process, by rising number, that this process traces and that passes the test, if any. It
+    /// takes one look at each tracee up to that one.
+    pub fn find_tracee<F: Fn(&ProcData) -> bool>(&self, pid: Pid, test: F) -> Option<ProcData>
+        requires callable { F.IsAlwaysCallable test }
+        // the result of the definition, for any test that the closure decides on the rows
+        ensures row { (t : ProcData → Bool) → DecidesRows (FnReturnsAt F.Fn test) self.now.rows.processes t → result ≡ find_tracee pid t self.now.rows.processes }
+        ensures kept { IsKept self.now.rows }
+    {
+        self.processes.find_tracee(pid, test)
+    }
+
+    /// Returns the first process, by rising number, whose parent is this process and that passes the test, if any. It
+    /// takes one look at each child up to that one.
+    pub fn find_child<F: Fn(&ProcData) -> bool>(&self, pid: Pid, test: F) -> Option<ProcData>
+        requires callable { F.IsAlwaysCallable test }
+        // the result of the definition, for any test that the closure decides on the rows
+        ensures row { (t : ProcData → Bool) → DecidesRows (FnReturnsAt F.Fn test) self.now.rows.processes t → result ≡ find_child pid t self.now.rows.processes }
+        ensures kept { IsKept self.now.rows }
+    {
+        self.processes.find_child(pid, test)
     }
 
     /// Returns the number of the user's processes.
