@@ -62,6 +62,7 @@ typedef struct tracehost_reply {
     uint32_t decision, pass;    /* TRACEHOST_CONTINUE .., and the signal that is passed on; or 0 */
     uint32_t error;             /* FreeBSD's number in errno(2) */
     uint32_t count;             /* how many numbers the list has, for tracehost_numbers */
+    uint32_t stop_pid;          /* the process of the stop that a handler was shown */
 } tracehost_reply;
 
 enum { /* kinds of replies, each with its fields; docs/FORMAT.md has their meaning */
@@ -74,7 +75,7 @@ enum { /* kinds of replies, each with its fields; docs/FORMAT.md has their meani
     TRACEHOST_LWPS = 6,     /* count */
     TRACEHOST_PIDS = 7,     /* count */
     TRACEHOST_MASK = 8,     /* mask */
-    TRACEHOST_HANDLED = 9,  /* pid status lwp signal flags child code has_handler handler decision pass */
+    TRACEHOST_HANDLED = 9,  /* pid status stop_pid lwp signal flags child code has_handler handler decision pass */
     TRACEHOST_STOPPED = 10, /* lwp signal flags */
     TRACEHOST_CAUGHT = 11,  /* signal */
     TRACEHOST_ENDED = 12,   /* status */

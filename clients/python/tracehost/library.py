@@ -56,9 +56,10 @@ class Reply(Words):
     passed: int
     error: int
     count: int
+    stop_pid: int
     _fields_ = Words.fields(
         "kind pid lwp number status signal event flags mask pending child code has_handler handler decision passed"
-        " error count"
+        " error count stop_pid"
     )
 
 

@@ -64,6 +64,7 @@ record! {
         pass,
         error,
         count,
+        stop_pid,
     }
 }
 

@@ -1,5 +1,5 @@
 -- A reply as numbers.
-use Rattle.std.specs.Prelude.{ℕ, ◌%◌, ◌^◌, length, Option, Some, None}
+use Rattle.std.specs.Prelude.{◌≡◌, ℕ, ◌%◌, ◌^◌, List, length, Option, Some, None}
 use Rattle.pid_blocks.specs.Blocks.{errno_number}
 use Rattle.wait4.specs.Status.{word}
 use Rattle.wait4.specs.declared.StatusKind.{StatusKind}
@@ -34,6 +34,7 @@ blank kind = record {
   pass = 0;
   error = 0;
   count = 0;
+  stop_pid = 0;
 }
 
 abbrev pub event_number : Event → ℕ
@@ -86,6 +87,7 @@ flat_handled pid status view index d = record (blank 9) {
   handler = index_number index;
   decision = decision_number d;
   pass = passed d;
+  stop_pid = view.pid;
 }
 
 abbrev pub flat : Reply → FlatReply
@@ -104,3 +106,18 @@ flat (reply.Caught sig) = record (blank 11) { signal = sig }
 flat (reply.Ended w) = record (blank 12) { status = w }
 flat reply.Held = blank 13
 flat (reply.Errno e) = record (blank 14) { error = errno_number e }
+
+-- ---- what a flat reply tells
+
+-- two replies are the same, but that a list counts by its length, in 32 bits, and a status by its word
+pub data Alike : Reply → Reply → Type 0 where
+  same : (r : Reply) → Alike r r
+  lwps : (xs ys : List ℕ) → length xs % 2 ^ 32 ≡ length ys % 2 ^ 32 → Alike (reply.Lwps xs) (reply.Lwps ys)
+  pids : (xs ys : List ℕ) → length xs % 2 ^ 32 ≡ length ys % 2 ^ 32 → Alike (reply.Pids xs) (reply.Pids ys)
+  status : (pid : ℕ) (s t : StatusKind) → word s ≡ word t → Alike (reply.Status pid s) (reply.Status pid t)
+  handled : (pid : ℕ) (s t : StatusKind) (view : StopView) (index : Option ℕ) (d : Decision) → word s ≡ word t
+      → Alike (reply.Handled pid s view index d) (reply.Handled pid t view index d)
+
+-- two replies with the same flat form are alike
+abbrev pub FlatFormsDiffer : Type 0
+FlatFormsDiffer = (q r : Reply) → flat q ≡ flat r → Alike q r

@@ -2,6 +2,7 @@
 #![tactic(auto)]
 
 mod acts;
+pub mod laws;
 mod replies;
 mod requests_by_number;
 mod rows;

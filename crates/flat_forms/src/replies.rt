@@ -41,6 +41,8 @@ pub struct FlatReply {
     pub error: u32,
     /// The length of a list.
     pub count: u32,
+    /// The process of the stop that a handler was shown.
+    pub stop_pid: u32,
 }
 
 fn event_number(event: Event) -> u32
@@ -124,6 +126,7 @@ impl FlatReply {
             pass: 0,
             error: 0,
             count: 0,
+            stop_pid: 0,
         }
     }
 
@@ -163,6 +166,7 @@ impl FlatReply {
             handler: index_number(index),
             decision: decision_number(decision),
             pass: passed(decision),
+            stop_pid: view.pid.get(),
             ..FlatReply::blank(9)
         }
     }

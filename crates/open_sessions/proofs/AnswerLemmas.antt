@@ -1,6 +1,6 @@
 -- The answers of a session, from its steps.
-use Rattle.std.proofs.Common.{◌≡◌, ◌≢◌, ◌<◌, ℕ, ◌-◌, ◌+◌, List, Option, Some, None, refl, sym, ap, subst, ◌∙◌, length, slice_set, slice_index}
-use Rattle.std.specs.Prelude.{⊤, Result, Ok, Err, OnOk}
+use Rattle.std.proofs.Common.{◌≡◌, ◌≢◌, ◌<◌, ℕ, ◌-◌, ◌+◌, List, Option, Some, refl, sym, ap, subst, ◌∙◌, length, slice_set, slice_index}
+use Rattle.std.specs.Prelude.{Result, Ok, Err, OnOk}
 use Rattle.std.proofs.lemmas.List.{get_or-set_same}
 use Rattle.pid_blocks.specs.Users.{IsUser}
 use Rattle.requests.specs.Hosts.{Steps as HostSteps}
@@ -14,9 +14,9 @@ use Rattle.scenario_text.specs.declared.fault.Fault.TheVariants.{Memory}
 use Rattle.scenario_text.specs.OneStep.{IsStep, AnswersBy}
 use Rattle.scenario.specs.declared.style.Style.{Style}
 use Rattle.scenario.specs.Lines.{Answered, line}
-use Rattle.open_sessions.specs.Answers.{LineReply, step, refused, answer_text, reply_text}
+use Rattle.open_sessions.specs.Answers.{LineReply, step, refused, answer_text}
 use Rattle.open_sessions.specs.Open.{OpenSession}
-use Rattle.open_sessions.specs.Calls.{Steps, Answers, last_text}
+use Rattle.open_sessions.specs.Calls.{Steps, Answers}
 
 -- a step of the host, with the count at the user's place raised and the reply kept
 pub steps : (u : ℕ) (p q : PlainStep) (s : OpenSession) (k : Machine) (r : Reply) (place : ℕ) → IsUser u → q ≡ p → HostSteps u q s.host k r → place ≡ u - 1001 → place < length s.made

@@ -1,5 +1,5 @@
 -- What the calls of a session do.
-use Rattle.std.specs.Prelude.{◌≡◌, ◌≤◌, ℕ, ◌-◌, ◌+◌, ◌^◌, List, Some, Ok, slice_index}
+use Rattle.std.specs.Prelude.{◌≡◌, ℕ, ◌-◌, ◌+◌, ◌^◌, List, Some, Ok, slice_index}
 use Rattle.pid_blocks.specs.Users.{IsUser}
 use Rattle.requests.specs.Hosts.{Steps as HostSteps}
 use Rattle.requests.specs.declared.Reply.{Reply}

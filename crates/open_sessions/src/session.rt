@@ -79,6 +79,7 @@ impl Session {
     /// `TooManyAnswers`. A reply ENOMEM is not an error of the session.
     pub fn step(&mut self, alloc: Global, user: Uid, step: PlainStep) -> Result<(), SessionFault>
         ensures stepped { OnOk result (Steps user step self.old self.new) }
+        ensures room { OnOk result (¬ IsFull user self.old) }
         ensures unchanged { OnErr result (self.new ≡ self.old) }
         ensures full { IfErr result (λ e. (e ≡ session_fault.TooManyAnswers) × IsFull user self.old) }
     {
@@ -100,6 +101,7 @@ impl Session {
     /// `Memory` where memory ran out for the line, and `TooManyAnswers`. A reply ENOMEM is not an error of the session.
     pub fn answer(&mut self, alloc: Global, line: &[u8]) -> Result<(), SessionFault>
         ensures answered { OnOk result (Answers line.now self.old self.new) }
+        ensures room { OnOk result (¬ FullFor line.now self.old) }
         ensures unchanged { OnErr result (self.new ≡ self.old) }
         ensures full { result ≡ Err session_fault.TooManyAnswers → FullFor line.now self.old }
     {

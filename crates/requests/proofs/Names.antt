@@ -93,9 +93,9 @@ pub use Rattle.requests.specs.Laws.{SoundKept, SoundRuns, act_fits, step_fits}
 pub use Rattle.requests.specs.Leave.{Numbers, child_stop, due_at_birth, exec_rows, exit_stop, exits_lwp, forked, forks, in_mode, leaves, makes_lwp, room_for_lwp, room_for_process, with_child}
 pub use Rattle.requests.specs.Leave.{with_tid}
 pub use Rattle.requests.specs.Machine.{After, Installed, Machine, after, empty, installed_by, is_live_number, outcome_of}
-pub use Rattle.requests.specs.Memory.{Attempts, is_memory, is_refusal, may_want, takes_memory}
+pub use Rattle.requests.specs.Memory.{Attempts, attempted_reply, is_memory, is_refusal, may_want, takes_memory}
 pub use Rattle.requests.specs.Outcome.{Gives, Outcome, answers, ends_with, refuses, stops_or, stops_with, trap}
-pub use Rattle.requests.specs.Plain.{PlainStep, with_handler}
+pub use Rattle.requests.specs.Plain.{PlainStep, bare, with_handler}
 pub use Rattle.requests.specs.Ptrace.{about, attach, bad_argument, closes_chain, commands, commands_stopped, continues_with, does, is_attach, is_trace_me, not_stepping, process_by, ptrace, set_mask}
 pub use Rattle.requests.specs.Ptrace.{shows_info, stepping, stop_first, suspend, switched, target_of, told_stop, trace_me, traced_by}
 pub use Rattle.requests.specs.Reach.{is_which, kill, next_other, post_all, post_if_live, reach, reached}

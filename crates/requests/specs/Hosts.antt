@@ -1,12 +1,12 @@
 -- A host, as the machine sees it, and its step.
-use Rattle.std.specs.Prelude.{◌≡◌, ◌≢◌, ℕ, true, List, Result, MatchResult}
+use Rattle.std.specs.Prelude.{◌≡◌, ◌≢◌, ℕ, true, List, Result}
 use Rattle.pid_blocks.specs.declared.Errno.TheVariants.{ENOMEM}
 use Rattle.proc_table.specs.Kept.{Table}
 use Rattle.trace_stop.specs.declared.Settings.{Settings}
 use Rattle.requests.specs.declared.Reply.{Reply}
 use Rattle.requests.specs.declared.Reply.TheVariants as reply
 use Rattle.requests.specs.Machine.{Machine, Installed}
-use Rattle.requests.specs.Memory.{is_refusal, may_want}
+use Rattle.requests.specs.Memory.{is_refusal, may_want, attempted_reply}
 use Rattle.requests.specs.Plain.{PlainStep}
 use Rattle.requests.specs.Sound.{sound}
 use Rattle.requests.specs.Step.{step}
@@ -24,4 +24,4 @@ pub record Steps (u : ℕ) (s : PlainStep) (m n : Machine) (r : Reply) : Type 0 
 
 -- the same before the reply is written: an error means out of memory
 abbrev pub Tries : {E : Type 0} → ℕ → PlainStep → Machine → Machine → Result Reply E → Type 0
-Tries u s m n r = MatchResult r (λ answer. Steps u s m n answer) (λ e. Steps u s m n (reply.Errno ENOMEM))
+Tries u s m n r = Steps u s m n (attempted_reply r)

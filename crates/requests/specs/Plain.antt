@@ -1,5 +1,5 @@
 -- A step with its handler's policy.
-use Rattle.std.specs.Prelude.{List, Option, Some, option_map}
+use Rattle.std.specs.Prelude.{List, [], Option, Some, option_map}
 use Rattle.stop_handlers.specs.declared.Rule.{Rule}
 use Rattle.requests.specs.declared.step.Step.{Step}
 use Rattle.requests.specs.declared.step.Step.TheVariants as op
@@ -18,3 +18,15 @@ with_handler handler (op.Install caller own) = option_map (op.Install caller) ha
 with_handler handler (op.Handle caller) = Some (op.Handle caller)
 with_handler handler (op.Ptrace caller request target «data») = Some (op.Ptrace caller request target «data»)
 with_handler handler (op.Turn tid act) = Some (op.Turn tid act)
+
+-- the step without what it installs
+abbrev pub bare : {A : Type 0} → Step A → PlainStep
+bare op.Spawn = op.Spawn
+bare (op.List caller) = op.List caller
+bare (op.Sigaction caller sig disposition) = op.Sigaction caller sig disposition
+bare (op.Kill caller which sig) = op.Kill caller which sig
+bare (op.Wait4 caller which options) = op.Wait4 caller which options
+bare (op.Install caller own) = op.Install caller []
+bare (op.Handle caller) = op.Handle caller
+bare (op.Ptrace caller request target «data») = op.Ptrace caller request target «data»
+bare (op.Turn tid act) = op.Turn tid act

@@ -7,6 +7,7 @@ ghost use Rattle.requests.specs.Callers.{IsCaller};
 ghost use Rattle.requests.specs.Hosts.{machine_of};
 ghost use Rattle.requests.specs.Machine.{outcome_of};
 ghost use Rattle.requests.specs.Memory.{Attempts, takes_memory};
+ghost use Rattle.requests.specs.Plain.{bare};
 ghost use Rattle.requests.specs.Step.{calls, caller_of, installs, uncalled};
 
 use crate::calls::{sigaction, wait};
@@ -21,21 +22,21 @@ use crate::{Reply, Step};
 use pid_blocks::Uid;
 use proc_table::{ProcData, Tables};
 use std::alloc::{AllocError, Global};
-use stop_handlers::{Decider, Handler};
+use stop_handlers::Decider;
 use trace_stop::Settings;
 
 /// Makes a step without a caller. An error means out of memory, and changes nothing.
-pub fn uncalled<F: Decider + Send + Drop>(
+pub fn uncalled<F: Decider + Send + Drop, H>(
     tables: &mut Tables,
     handlers: &HandlerTable<F>,
     settings: Settings,
     user: Uid,
-    asked: &Step<Handler<F>>,
+    asked: &Step<H>,
 ) -> Result<Reply, AllocError>
     requires sound { IsSound tables.old.rows }
-    requires none { caller_of asked.now ≡ None }
+    requires none { caller_of (bare asked.now) ≡ None }
     ensures { let m = machine_of settings tables.old handlers.now in
-        Attempts (takes_memory user asked.now m) (outcome_of (uncalled user asked.now m)) tables.old.rows
+        Attempts (takes_memory user (bare asked.now) m) (outcome_of (uncalled user (bare asked.now) m)) tables.old.rows
         tables.new.rows result }
 {
     match *asked {
@@ -46,21 +47,21 @@ pub fn uncalled<F: Decider + Send + Drop>(
 
 /// Makes a step of a caller, a process that runs, unless it installs a handler. An error means out of memory, and
 /// changes nothing.
-pub fn called<F: Decider + Send + Drop>(
+pub fn called<F: Decider + Send + Drop, H>(
     tables: &mut Tables,
     handlers: &HandlerTable<F>,
     settings: Settings,
     alloc: Global,
     user: Uid,
     caller: &ProcData,
-    asked: &Step<Handler<F>>,
+    asked: &Step<H>,
 ) -> Result<Reply, AllocError>
     requires sound { IsSound tables.old.rows }
     requires few { length (get_or handlers.now (slot user) []) ≤ 64 }
     requires caller { IsCaller user caller.now tables.old.rows }
-    requires other { installs asked.now ≡ false }
+    requires other { installs (bare asked.now) ≡ false }
     ensures { let m = machine_of settings tables.old handlers.now in
-        Attempts (takes_memory user asked.now m) (outcome_of (calls user asked.now caller.now m)) tables.old.rows
+        Attempts (takes_memory user (bare asked.now) m) (outcome_of (calls user (bare asked.now) caller.now m)) tables.old.rows
         tables.new.rows result }
 {
     match *asked {

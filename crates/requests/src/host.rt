@@ -1,12 +1,14 @@
 //! A host and its steps.
 
-ghost use Rattle.std.specs.Prelude.{◌≡◌, ℕ, None, true, IfOk, IfErr, option_map, slice_get};
+ghost use Rattle.std.specs.Prelude.{◌≡◌, None, true, false, IfOk, IfErr, option_map, slice_get};
 ghost use Rattle.pid_blocks.specs.Users.{IsUser};
 ghost use Rattle.requests.specs.declared.step.Step.TheVariants as op;
 ghost use Rattle.requests.specs.Callers.{Calls, Barred};
 ghost use Rattle.requests.specs.Hosts.{Steps, Tries};
+ghost use Rattle.requests.specs.Memory.{attempted_reply};
+ghost use Rattle.requests.specs.Step.{installs};
 ghost use Rattle.requests.specs.Making.{Makes};
-ghost use Rattle.requests.specs.Plain.{with_handler};
+ghost use Rattle.requests.specs.Plain.{bare, with_handler};
 ghost use Rattle.requests.specs.Laws.{step_fits};
 ghost use Rattle.requests.specs.Machine.{empty, installed_by};
 ghost use Rattle.requests.specs.Sound.{sound};
@@ -23,8 +25,8 @@ use stop_handlers::{ByPolicy, Decider, Handler, Policy};
 use trace_stop::Settings;
 
 /// For proofs: the code of an exit is a byte.
-fn fits<F: Decider + Send + Drop>(asked: &Step<Handler<F>>)
-    ensures { step_fits asked.now ≡ true }
+fn fits<H>(asked: &Step<H>)
+    ensures { step_fits (bare asked.now) ≡ true }
 {
     if let Step::Turn {
         act: Act::Enter(Call::Exit(code)),
@@ -32,6 +34,16 @@ fn fits<F: Decider + Send + Drop>(asked: &Step<Handler<F>>)
     } = asked
     {
         let _byte = *code;
+    }
+}
+
+/// Returns the reply of an attempt: ENOMEM where memory ran out.
+fn attempted_reply(attempted: Result<Reply, AllocError>) -> Reply
+    ensures { result ≡ attempted_reply attempted }
+{
+    match attempted {
+        Ok(reply) => reply,
+        Err(_) => Reply::Errno(Errno::ENOMEM),
     }
 }
 
@@ -145,17 +157,14 @@ impl<F: Decider + Send + Drop> Host<F> {
 
     /// Installs a handler of the caller. Refused with EAGAIN where the user's debuggers have 64. An error means out of
     /// memory, and changes nothing.
-    fn install(
-        &mut self,
-        user: Uid,
-        caller: &ProcData,
-        handler: Handler<F>,
-    ) -> Result<Reply, AllocError>
-        requires user { IsUser user }
-        requires found { (n : ℕ) × Calls user n self.old.rows caller.now }
-        ensures { (n : ℕ) → Calls user n self.old.rows caller.now →
-            Tries user (op.Install n handler) self.old self.new result }
+    fn install(&mut self, user: Uid, number: u32, handler: Handler<F>) -> Result<Reply, AllocError>
+        requires { IsUser user }
+        ensures { Tries user (op.Install number handler) self.old self.new result }
     {
+        let caller = match self.caller(user, number) {
+            Ok(caller) => caller,
+            Err(refusal) => return Ok(refusal),
+        };
         if self.handlers.count(user) >= MOST_HANDLERS {
             return Ok(Reply::Errno(Errno::EAGAIN));
         }
@@ -165,26 +174,16 @@ impl<F: Decider + Send + Drop> Host<F> {
         }
     }
 
-    /// Makes a step of the user. An error means out of memory, and changes nothing.
-    fn attempt(
-        &mut self,
-        alloc: Global,
-        user: Uid,
-        asked: Step<Handler<F>>,
-    ) -> Result<Reply, AllocError>
-        requires { IsUser user }
-        ensures { Tries user asked self.old self.new result }
+    /// Makes a step of the user that installs no handler. An error means out of memory, and changes nothing.
+    fn attempt<H>(&mut self, alloc: Global, user: Uid, asked: &Step<H>) -> Result<Reply, AllocError>
+        requires user { IsUser user }
+        requires other { installs (bare asked.now) ≡ false }
+        ensures { Tries user (bare asked.now) self.old self.new result }
     {
-        fits(&asked);
+        fits(asked);
         match asked.caller() {
             None => {
-                let done = uncalled(
-                    &mut self.tables,
-                    &self.handlers,
-                    self.settings,
-                    user,
-                    &asked,
-                );
+                let done = uncalled(&mut self.tables, &self.handlers, self.settings, user, asked);
                 self.handlers.drop_ended(user, &self.tables);
                 done
             }
@@ -193,9 +192,6 @@ impl<F: Decider + Send + Drop> Host<F> {
                     Ok(caller) => caller,
                     Err(refusal) => return Ok(refusal),
                 };
-                if let Step::Install { handler, .. } = asked {
-                    return self.install(user, &caller, handler);
-                }
                 let done = called(
                     &mut self.tables,
                     &self.handlers,
@@ -203,7 +199,7 @@ impl<F: Decider + Send + Drop> Host<F> {
                     alloc,
                     user,
                     &caller,
-                    &asked,
+                    asked,
                 );
                 self.handlers.drop_ended(user, &self.tables);
                 done
@@ -217,10 +213,13 @@ impl<F: Decider + Send + Drop> Host<F> {
         ensures { Steps user asked self.old self.new result }
     {
         let _user = user.get();
-        match self.attempt(alloc, user, asked) {
-            Ok(reply) => reply,
-            Err(_) => Reply::Errno(Errno::ENOMEM),
+        if let Some(reply) = self.make(alloc, user, &asked) {
+            return reply;
         }
+        let Step::Install { caller, handler } = asked else {
+            unreachable!()
+        };
+        attempted_reply(self.install(user, caller, handler))
     }
 
     /// Makes a step of the user as `step` does, if it needs no handler. For an install it returns `None` and changes
@@ -228,7 +227,10 @@ impl<F: Decider + Send + Drop> Host<F> {
     pub fn make<H>(&mut self, alloc: Global, user: Uid, asked: &Step<H>) -> Option<Reply>
         ensures { Makes user (with_handler None asked.now) self.old self.new result }
     {
-        let asked = asked.with_handler(None)?;
-        Some(self.step(alloc, user, asked))
+        let _user = user.get();
+        if let Step::Install { .. } = asked {
+            return None;
+        }
+        Some(attempted_reply(self.attempt(alloc, user, asked)))
     }
 }

@@ -1,7 +1,7 @@
 //! The steps of a host.
 
 ghost use Rattle.std.specs.Prelude.{◌≡◌};
-ghost use Rattle.requests.specs.Plain.{with_handler};
+ghost use Rattle.requests.specs.Plain.{bare, with_handler};
 ghost use Rattle.requests.specs.Step.{caller_of};
 
 use crate::{Act, Request};
@@ -63,6 +63,22 @@ pub enum Step<H> {
 pub type PlainStep = Step<Policy>;
 
 impl<H> Step<H> {
+    /// Returns the number of the process that makes the step. Spawns and turns have none.
+    pub(crate) fn caller(&self) -> Option<u32>
+        ensures { result ≡ caller_of (bare self.now) }
+    {
+        match *self {
+            Step::Spawn | Step::Turn { .. } => None,
+            Step::List { caller }
+            | Step::Sigaction { caller, .. }
+            | Step::Kill { caller, .. }
+            | Step::Wait4 { caller, .. }
+            | Step::Install { caller, .. }
+            | Step::Handle { caller }
+            | Step::Ptrace { caller, .. } => Some(caller),
+        }
+    }
+
     /// Returns the step, with `handler` in place of its own if it installs one. `None` where it installs one and no
     /// handler is given.
     pub fn with_handler<G: Drop>(&self, handler: Option<G>) -> Option<Step<G>>
@@ -112,22 +128,6 @@ impl<H> Step<H> {
 }
 
 impl<F: Decider + Send + Drop> Step<Handler<F>> {
-    /// Returns the number of the process that makes the step. Spawns and turns have none.
-    pub(crate) fn caller(&self) -> Option<u32>
-        ensures { result ≡ caller_of self.now }
-    {
-        match *self {
-            Step::Spawn | Step::Turn { .. } => None,
-            Step::List { caller }
-            | Step::Sigaction { caller, .. }
-            | Step::Kill { caller, .. }
-            | Step::Wait4 { caller, .. }
-            | Step::Install { caller, .. }
-            | Step::Handle { caller }
-            | Step::Ptrace { caller, .. } => Some(caller),
-        }
-    }
-
     /// Returns the step with its handler's policy in place of the handler.
     pub fn plain(&self) -> PlainStep
         ensures { result ≡ self.now }

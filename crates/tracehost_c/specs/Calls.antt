@@ -12,7 +12,7 @@ use Rattle.flat_forms.specs.declared.rows.FlatLwp.{FlatLwp}
 use Rattle.flat_forms.specs.FlatRows.{flat_process, flat_lwp}
 use Rattle.open_sessions.specs.Answers.{last_numbers, shown}
 use Rattle.open_sessions.specs.Open.{OpenSession}
-use Rattle.open_sessions.specs.Calls.{last_text, Steps, Answers, IsFull}
+use Rattle.open_sessions.specs.Calls.{last_text, Steps, Answers, IsFull, FullFor}
 
 abbrev pub style_of : Bool → Style
 style_of true = Json
@@ -24,11 +24,16 @@ style_of false = Words
 abbrev pub Shows : {X : Type 0} → (text room filled : List X) → ℕ → Type 0
 Shows text room filled n = (filled ≡ shown text room) × (n ≡ length text)
 
--- a line was answered in an open session
+-- a line was answered in an open session, and is no step of a user who has had the most answers that are counted
 abbrev pub LineAnswered : List ℕ → Option OpenSession → Option OpenSession → Type 0
-LineAnswered line (Some s) (Some t) = Answers line s t
+LineAnswered line (Some s) (Some t) = Answers line s t × ¬ FullFor line s
 LineAnswered line (Some s) None = ⊥
 LineAnswered line None t = ⊥
+
+-- a line is a step of a user of an open session who has had the most answers that are counted
+abbrev pub LineFull : List ℕ → Option OpenSession → Type 0
+LineFull line (Some s) = FullFor line s
+LineFull line None = ⊥
 
 -- the line of the last answer of an open session
 abbrev pub ShowsLast : Style → Option OpenSession → (room filled : List ℕ) → ℕ → Type 0
@@ -52,7 +57,7 @@ ShowsView u None processes filled n lwps filled_lwps m = ⊥
 -- ---- steps
 
 pub data StepOf (user : ℕ) (step : PlainStep) (s t : OpenSession) (before after : FlatReply) (code : ℕ) : Type 0 where
-  answered : code ≡ 0 → (made : Steps user step s t) → after ≡ flat made.reply → StepOf user step s t before after code
+  answered : code ≡ 0 → ¬ IsFull user s → (made : Steps user step s t) → after ≡ flat made.reply → StepOf user step s t before after code
   full : code ≡ 5 → IsFull user s → t ≡ s → after ≡ before → StepOf user step s t before after code
 
 -- a call of a user that is this step, if its numbers are those of a step; the handle has a session if it is open

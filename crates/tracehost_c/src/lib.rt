@@ -7,7 +7,7 @@ ghost use Rattle.requests.specs.Machine.{empty};
 ghost use Rattle.requests.specs.declared.step.Step.TheVariants as op;
 ghost use Rattle.flat_forms.specs.Numbers.{act_numbered, request_numbered, disposition_numbered, options_numbered};
 ghost use Rattle.flat_forms.specs.Rules.{policy_numbered};
-ghost use Rattle.tracehost_c.specs.Calls.{style_of, LineAnswered, ShowsLast, ShowsNumbers, ShowsView, TypedCall};
+ghost use Rattle.tracehost_c.specs.Calls.{style_of, LineAnswered, LineFull, ShowsLast, ShowsNumbers, ShowsView, TypedCall};
 
 mod calls;
 pub mod handle;
@@ -121,9 +121,11 @@ pub extern "C" fn tracehost_line(
     ensures kept { result ≢ 0 → (out.new ≡ out.old) × (whole.new ≡ whole.old) }
     ensures closed { (result ≡ 1) ↔ IsNone handle.old.held.session }
     ensures code { result ≤ 5 }
+    ensures not_invalid { result ≢ 3 }
     ensures not_open { result ≡ 1 → handle.new.held.session ≡ handle.old.held.session }
     ensures refused { result ≡ 2 → handle.new.held.session ≡ handle.old.held.session }
-    ensures full { result ≡ 5 → handle.new.held.session ≡ handle.old.held.session }
+    ensures too_many { result ≡ 5 → handle.new.held.session ≡ handle.old.held.session }
+    ensures full { result ≡ 5 → LineFull line.now handle.old.held.session }
 {
     if !handle.is_open() {
         return NOT_OPEN;
@@ -379,7 +381,8 @@ pub extern "C" fn tracehost_view(
     ensures code { result ≤ 3 }
     ensures shown { result ≡ 0 → ShowsView user handle.old.held.session
         processes.old processes.new process_count.new lwps.old lwps.new lwp_count.new }
-    ensures no_user { result ≡ 3 → IsUser user → ⊥ }
+    ensures no_user { result ≡ 3 → ¬ IsUser user }
+    ensures refused { result ≡ 2 → IsUser user }
     ensures processes_kept { result ≢ 0 → (processes.new ≡ processes.old) × (process_count.new ≡ process_count.old) }
     ensures lwps_kept { result ≢ 0 → (lwps.new ≡ lwps.old) × (lwp_count.new ≡ lwp_count.old) }
 {
