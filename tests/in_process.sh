@@ -46,7 +46,7 @@ names() {
 }
 need nm && names
 if need objdump; then
-  check "its soname" grep -q 'SONAME *libtracehost.so.0$' <(objdump -p "$library/libtracehost.so")
+  check "its soname" grep -q 'SONAME *libtracehost.so.1$' <(objdump -p "$library/libtracehost.so")
   check "no path of this machine in it" test -z "$(strings -a "$library/libtracehost.so" "$library/libtracehost.a" | grep -F "$top")"
 fi
 
@@ -105,7 +105,7 @@ fi
 shared() {
   check "cc with libtracehost.so" cc -std=c11 "${own[@]}" -o "$room/shared" tests/in_process/agree.c \
     "$library/libtracehost.so"
-  ln -s "$library/libtracehost.so" "$room/libtracehost.so.0"
+  ln -s "$library/libtracehost.so" "$room/libtracehost.so.1"
   check "agree over libtracehost.so" env LD_LIBRARY_PATH="$room" "$room/shared" 20000
 }
 shared
