@@ -6,7 +6,8 @@
 #
 #   bash tests/in_process.sh [PROGRAM]
 #
-# The library is that of $TRACEHOST_LIB_DIR, else the one built here, else the release's.
+# The library is that of $TRACEHOST_LIB_DIR, else the one built here, else the release's. $CALLS random typed calls are
+# compared with their lines, a million if it isn't set.
 source "$(dirname "${BASH_SOURCE[0]}")/lib.sh"
 need cc python3 || exit
 if ! library=$(find_library); then
@@ -87,7 +88,7 @@ run_all() {
 }
 
 compile "$room/plain" -O2
-run_all "$room/plain" 1000000 200 2000
+run_all "$room/plain" "${CALLS:-1000000}" 200 2000
 sanitizers=("-fsanitize=address,undefined" -fno-sanitize-recover=all)
 echo 'int main(void) { return 0; }' >"$room/empty.c"
 if cc "${sanitizers[@]}" -o "$room/empty" "$room/empty.c" 2>/dev/null && "$room/empty"; then
