@@ -105,15 +105,15 @@ fn make_step(
     alloc: Global,
     session: &mut Session,
     user: Uid,
-    step: PlainStep,
+    step: &PlainStep,
     reply: &mut FlatReply,
 ) -> u32
-    ensures { StepOf user step session.old session.new reply.old reply.new result }
+    ensures { StepOf user step.now session.old session.new reply.old reply.new result }
 {
     match session.step(alloc, user, step) {
         Ok(()) => {
             if let Some(answer) = session.reply() {
-                *reply = FlatReply::of(answer);
+                reply.set(answer);
             }
             ANSWERED
         }
@@ -137,7 +137,7 @@ pub(crate) fn make(
     let Ok(user) = Uid::new(user) else {
         return INVALID;
     };
-    let Some(step) = step else {
+    let Some(step) = &step else {
         return INVALID;
     };
     let taken = std::mem::replace(handle, Tracehost::closed(alloc));
