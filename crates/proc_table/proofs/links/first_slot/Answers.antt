@@ -1,8 +1,7 @@
-use Rattle.std.proofs.Common.{◌≡◌, ap, sym, ◌∙◌, is_some, arith, refl}
+use Rattle.std.proofs.Common.{ap, is_some, arith}
 use Rattle.std.specs.Fn.{FnReturnsAt}
 use Rattle.std.proofs.lemmas.Fn.{says_at}
 use Rattle.slab.specs.Slab.{get}
-use Rattle.proc_table.specs.Lanes.{lane}
 use Rattle.proc_table.proofs.Firsts.{member_slot, passing-first, passing-none, passing-above, passing-found, passing-on}
 use Rattle.proc_table.proofs.links.first_slot.Goals as goal
 

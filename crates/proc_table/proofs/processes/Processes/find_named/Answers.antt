@@ -1,4 +1,4 @@
-use Rattle.std.proofs.Common.{◌≡◌, List, Some, None, sym, ap, ◌∙◌, subst}
+use Rattle.std.proofs.Common.{List, Some, None, sym, ap, ◌∙◌, subst}
 use Rattle.std.specs.Fn.{FnReturnsAt}
 use Rattle.slab.specs.Slab.{get}
 use Rattle.proc_table.specs.declared.ProcData.{ProcData}
