@@ -9,14 +9,14 @@ ghost use Rattle.requests.specs.declared.Request.TheVariants as request;
 ghost use Rattle.visibility.specs.WorkedRuns.{kills, by};
 
 use super::lines::{Line, compare, first, second, steps_of};
-use crate::script::{Answer, answered, attach, list};
+use crate::script::{Answer, answered, attach, compute, kill, list, wait_for};
 use pid_blocks::{Errno, Uid};
 use requests::{Host, PlainStep, Reply, Request, Step};
 use std::alloc::{AllocError, Global};
 use std::test::Fail;
 use stop_handlers::{ByPolicy, Handler};
 use trace_stop::Settings;
-use visibility::laws::{foreign_number, one_step, other_step, two_lists};
+use visibility::laws::{foreign_number, foreign_numbers, one_step, other_step, two_lists};
 
 /// Creates an unused host.
 fn unused(alloc: Global) -> Result<Host<ByPolicy>, AllocError>
@@ -133,5 +133,62 @@ fn two_lists_in_which_a_user_asks_the_same(rt: HostRuntime) -> Result<(), Fail> 
     let (own, all) = both_lists_from_nothing(rt.alloc(), &lines[..])?;
     compare(&rt, own.as_slice(), &lines[..], Some(1001));
     compare(&rt, all.as_slice(), &lines[..], None);
+    Ok(())
+}
+
+/// Returns the replies to two lists of steps of both users, each on a host of its own.
+fn alike_lists(
+    alloc: Global,
+    one: &mut Host<ByPolicy>,
+    other: &mut Host<ByPolicy>,
+    lines: &[Line],
+    others: &[Line],
+) -> Result<(Vec<Reply>, Vec<Reply>), Fail>
+    requires { other.old ≡ one.old }
+{
+    let user = Uid::new(1001)?;
+    let steps = steps_of(alloc, lines, None)?;
+    let alike = steps_of(alloc, others, None)?;
+    Ok(foreign_numbers(alloc, one, other, user, steps, alike)?)
+}
+
+/// Does the same on unused hosts.
+fn alike_lists_from_nothing(
+    alloc: Global,
+    lines: &[Line],
+    others: &[Line],
+) -> Result<(Vec<Reply>, Vec<Reply>), Fail> {
+    let mut one = unused(alloc)?;
+    let mut other = unused(alloc)?;
+    alike_lists(alloc, &mut one, &mut other, lines, others)
+}
+
+/// In the first list the first user names the second one's process and LWP, in the second list unused numbers.
+#[test]
+fn two_lists_that_differ_in_foreign_numbers(rt: HostRuntime) -> Result<(), Fail> {
+    let foreign = [
+        first(PlainStep::Spawn, Answer::New(1000, 100000)),
+        second(PlainStep::Spawn, Answer::New(2000, 104000)),
+        first(attach(1000, 2000), Answer::Refused(Errno::ESRCH)),
+        first(compute(104000), Answer::Refused(Errno::ESRCH)),
+        first(wait_for(1000, 2000), Answer::Refused(Errno::ECHILD)),
+        first(kill(1000, 2000, 9), Answer::Refused(Errno::ESRCH)),
+        second(list(2000), Answer::Numbers([2000, 0, 0, 0, 0])),
+        first(list(2000), Answer::Refused(Errno::ESRCH)),
+        first(list(1000), Answer::Numbers([1000, 0, 0, 0, 0])),
+    ];
+    let unused = [
+        first(PlainStep::Spawn, Answer::New(1000, 100000)),
+        first(attach(1000, 1500), Answer::Refused(Errno::ESRCH)),
+        first(compute(100007), Answer::Refused(Errno::ESRCH)),
+        first(wait_for(1000, 1500), Answer::Refused(Errno::ECHILD)),
+        second(attach(2000, 1000), Answer::Refused(Errno::ESRCH)),
+        first(kill(1000, 1500, 9), Answer::Refused(Errno::ESRCH)),
+        first(list(1500), Answer::Refused(Errno::ESRCH)),
+        first(list(1000), Answer::Numbers([1000, 0, 0, 0, 0])),
+    ];
+    let (named, unnamed) = alike_lists_from_nothing(rt.alloc(), &foreign[..], &unused[..])?;
+    compare(&rt, named.as_slice(), &foreign[..], None);
+    compare(&rt, unnamed.as_slice(), &unused[..], None);
     Ok(())
 }
