@@ -291,8 +291,7 @@ class Structs(unittest.TestCase):
 
     def test_a_reply(self) -> None:
         """A stop that goes to a handler, with all its fields: the last one of the struct is among them."""
-        library = find(needed=True)
-        assert library is not None
+        library = find(needed=True) or self.fail("there is no library")
         session, reply = Session(library), Reply()
 
         def make(step: str, *numbers: Any) -> None:
