@@ -1,9 +1,11 @@
 -- Searches for the child that is reported.
-use Rattle.std.proofs.Common.{◌≡◌, ℕ, ◌≤◌, List, [], ◌∷◌, filter, find, Bool, true, false, ◌&&◌, ◌||◌, leb, Option, Some, None, is_some, refl, arith, inl, inr, nat_eq, if◌then◌else◌, rules}
-use Rattle.trace_stop.proofs.Words.{AllByRecursion, list_any, cases_Bool, nat_tests, ProcData, keep, process_of, AllAbove, Rise, AtHome}
+use Rattle.std.proofs.Common.{◌≡◌, ℕ, ◌<◌, ◌≤◌, List, [], ◌∷◌, filter, find, Bool, true, false, ◌&&◌, ◌||◌, ltb, leb, Option, Some, None, is_some, refl, sym, ap, ◌∙◌, arith, inl, inr, nat_eq, subst, true≢false, if◌then◌else◌, rules}
+use Rattle.trace_stop.proofs.Words.{AllByRecursion, list_any, cases_Bool, nat_tests, ProcData, keep, process_of, AllAbove, Rise, AtHome, IsLeast, LeastOrNone}
 use Rattle.proc_table.proofs.Rising.{none_above}
 use Rattle.proc_table.proofs.Finds.{equal_or_not}
 use Rattle.trace_stop.proofs.Passes.{found_above}
+use Rattle.trace_stop.proofs.Every.{and_left, and_right, both, by_bool}
+use Rattle.proc_table.proofs.Least.{least_or_none}
 use Rattle.wait4.specs.declared.Collected.TheVariants.{Nothing, NoChild}
 use Rattle.wait4.specs.Collect.{lesser, answer}
 
