@@ -176,7 +176,8 @@ def spans(lengths: list[int]) -> str:
 def around_powers(most: int) -> list[int]:
     """The lengths at which a list that doubles its room grows, and those before and behind."""
     powers = [2**k for k in range(most.bit_length())]
-    return sorted({length for power in powers for length in (power - 1, power, power + 1) if 1 <= length <= most} | {most})
+    near = {length for power in powers for length in (power - 1, power, power + 1)}
+    return sorted(length for length in near | {most} if 1 <= length <= most)
 
 
 def in_tables() -> tuple[Step, ...]:
