@@ -29,7 +29,7 @@ INSTALL_PROGRAM = $(INSTALL)
 INSTALL_DATA = $(INSTALL) -m 644
 PYTHON = python3
 OUT = out
-SONAME = libtracehost.so.0
+SONAME = libtracehost.so.1
 
 PAGES = tracehost.1 tracehost-view.1 tracehost-perfetto.1
 DATA = schema/scenario.schema.json viewer/src/*

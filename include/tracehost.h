@@ -83,6 +83,7 @@ enum { /* kinds of replies, each with its fields; docs/FORMAT.md has their meani
     TRACEHOST_ERROR = 14    /* error */
 };
 
+/* tools/format names */
 enum { /* requests of ptrace(2), by their numbers in <sys/ptrace.h> */
     TRACEHOST_PT_TRACE_ME = 0, TRACEHOST_PT_CONTINUE = 7, TRACEHOST_PT_KILL = 8, TRACEHOST_PT_STEP = 9,
     TRACEHOST_PT_ATTACH = 10, TRACEHOST_PT_DETACH = 11, TRACEHOST_PT_LWPINFO = 13, TRACEHOST_PT_GETNUMLWPS = 14,
@@ -99,6 +100,7 @@ enum { /* flags of a stop: the model's own bits, and not those of pl_flags */
     TRACEHOST_PL_FLAG_CHILD = 16, TRACEHOST_PL_FLAG_BORN = 32, TRACEHOST_PL_FLAG_EXITED = 64,
     TRACEHOST_PL_FLAG_VFORKED = 128, TRACEHOST_PL_FLAG_VFORK_DONE = 256
 };
+/* end */
 enum { TRACEHOST_DEFAULT = 0, TRACEHOST_IGNORE = 1, TRACEHOST_CATCH = 2 };             /* dispositions */
 enum { TRACEHOST_WNOHANG = 1, TRACEHOST_WUNTRACED = 2, TRACEHOST_WCONTINUED = 4 };     /* options; no wait blocks */
 enum { TRACEHOST_DECLINE = 0, TRACEHOST_LEAVE = 1, TRACEHOST_CONTINUE = 2, TRACEHOST_DETACH = 3, TRACEHOST_KILL = 4 };

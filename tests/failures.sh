@@ -1,7 +1,8 @@
 #!/usr/bin/env bash
 # Each allocation, read, write and start of a thread fails in turn: test_failures.py runs the programs tracehost, with
 # scenarios and line by line, and refusals so, with shim.c loaded before them, and reports which run ended otherwise
-# than docs/FORMAT.md, section 8, and docs/LINES.md have it.
+# than docs/FORMAT.md, section 8, and docs/LINES.md have it. test_sizes.py does so with each allocation of sessions that
+# make lists and tables of all sizes, and prints the sizes.
 #
 #   bash tests/failures.sh [PROGRAM [REFUSALS]]
 source "$(dirname "${BASH_SOURCE[0]}")/lib.sh"
@@ -15,4 +16,5 @@ if [ -x "$refusals" ]; then
 else
   skip "the program refusals isn't built, so refused allocations inside the library aren't tried"
 fi
+count "sizes" python3 tests/python/test_sizes.py "$room/shim.so" "$program"
 count "failures" python3 tests/python/test_failures.py "$room/shim.so" "${programs[@]}"

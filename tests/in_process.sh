@@ -6,7 +6,8 @@
 #
 #   bash tests/in_process.sh [PROGRAM]
 #
-# The library is that of $TRACEHOST_LIB_DIR, else the one built here, else the release's.
+# The library is that of $TRACEHOST_LIB_DIR, else the one built here, else the release's. $CALLS random typed calls are
+# compared with their lines, a million if it isn't set.
 source "$(dirname "${BASH_SOURCE[0]}")/lib.sh"
 need cc python3 || exit
 if ! library=$(find_library); then
@@ -46,7 +47,7 @@ names() {
 }
 need nm && names
 if need objdump; then
-  check "its soname" grep -q 'SONAME *libtracehost.so.0$' <(objdump -p "$library/libtracehost.so")
+  check "its soname" grep -q 'SONAME *libtracehost.so.1$' <(objdump -p "$library/libtracehost.so")
   check "no path of this machine in it" test -z "$(strings -a "$library/libtracehost.so" "$library/libtracehost.a" | grep -F "$top")"
 fi
 
@@ -87,7 +88,7 @@ run_all() {
 }
 
 compile "$room/plain" -O2
-run_all "$room/plain" 1000000 200 2000
+run_all "$room/plain" "${CALLS:-1000000}" 200 2000
 sanitizers=("-fsanitize=address,undefined" -fno-sanitize-recover=all)
 echo 'int main(void) { return 0; }' >"$room/empty.c"
 if cc "${sanitizers[@]}" -o "$room/empty" "$room/empty.c" 2>/dev/null && "$room/empty"; then
@@ -105,7 +106,7 @@ fi
 shared() {
   check "cc with libtracehost.so" cc -std=c11 "${own[@]}" -o "$room/shared" tests/in_process/agree.c \
     "$library/libtracehost.so"
-  ln -s "$library/libtracehost.so" "$room/libtracehost.so.0"
+  ln -s "$library/libtracehost.so" "$room/libtracehost.so.1"
   check "agree over libtracehost.so" env LD_LIBRARY_PATH="$room" "$room/shared" 20000
 }
 shared

@@ -29,7 +29,7 @@ TOP = os.path.dirname(os.path.dirname(os.path.realpath(__file__)))
 CRATE = "tracehost_c"
 OUT = f"{TOP}/crates/{CRATE}/out"
 NAMES = ("libtracehost.a", "libtracehost.so")
-SONAME = "libtracehost.so.0"  # its number changes with a call of include/tracehost.h that older programs can't make
+SONAME = "libtracehost.so.1"  # its number changes with a call or struct of include/tracehost.h that older programs don't fit
 EXPORTED = "{ global: tracehost_*; local: *; };\n"
 
 

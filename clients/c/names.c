@@ -8,6 +8,7 @@
 
 #define COUNT(array) (sizeof(array) / sizeof((array)[0]))
 
+/* tools/format names */
 static const struct thp_name REQUESTS[] = {
     {"PT_TRACE_ME", TH_PT_TRACE_ME},
     {"PT_CONTINUE", TH_PT_CONTINUE},
@@ -30,8 +31,12 @@ static const struct thp_name REQUESTS[] = {
 };
 
 static const struct thp_name EVENTS[] = {
-    {"PTRACE_EXEC", TH_PTRACE_EXEC}, {"PTRACE_SCE", TH_PTRACE_SCE}, {"PTRACE_SCX", TH_PTRACE_SCX},
-    {"PTRACE_FORK", TH_PTRACE_FORK}, {"PTRACE_LWP", TH_PTRACE_LWP}, {"PTRACE_VFORK", TH_PTRACE_VFORK},
+    {"PTRACE_EXEC", TH_PTRACE_EXEC},
+    {"PTRACE_SCE", TH_PTRACE_SCE},
+    {"PTRACE_SCX", TH_PTRACE_SCX},
+    {"PTRACE_FORK", TH_PTRACE_FORK},
+    {"PTRACE_LWP", TH_PTRACE_LWP},
+    {"PTRACE_VFORK", TH_PTRACE_VFORK},
 };
 
 static const struct thp_name STOP_FLAGS[] = {
@@ -52,16 +57,30 @@ static const struct thp_name OPTIONS[] = {
     {"WCONTINUED", TH_WCONTINUED},
 };
 
-static const struct thp_name ACTIONS[] = {{"default", TH_SIG_DFL}, {"ignore", TH_SIG_IGN}, {"catch", TH_SIG_CATCH}};
+static const struct thp_name ACTIONS[] = {
+    {"default", TH_SIG_DFL},
+    {"ignore", TH_SIG_IGN},
+    {"catch", TH_SIG_CATCH},
+};
 
 static const struct thp_name DECISIONS[] = {
-    {"decline", TH_DECLINE}, {"leave", TH_LEAVE}, {"continue", TH_CONTINUE}, {"detach", TH_DETACH}, {"kill", TH_KILL},
+    {"decline", TH_DECLINE},
+    {"leave", TH_LEAVE},
+    {"continue", TH_CONTINUE},
+    {"detach", TH_DETACH},
+    {"kill", TH_KILL},
 };
 
 static const struct thp_name CALLS[] = {
-    {"exit", TH_CALL_EXIT},       {"fork", TH_CALL_FORK},         {"vfork", TH_CALL_VFORK}, {"exec", TH_CALL_EXEC},
-    {"thr_new", TH_CALL_THR_NEW}, {"thr_exit", TH_CALL_THR_EXIT}, {"other", TH_CALL_OTHER},
+    {"exit", TH_CALL_EXIT},
+    {"fork", TH_CALL_FORK},
+    {"vfork", TH_CALL_VFORK},
+    {"exec", TH_CALL_EXEC},
+    {"thr_new", TH_CALL_THR_NEW},
+    {"thr_exit", TH_CALL_THR_EXIT},
+    {"other", TH_CALL_OTHER},
 };
+/* end */
 
 const struct thp_table thp_requests = {REQUESTS, COUNT(REQUESTS)};
 const struct thp_table thp_events = {EVENTS, COUNT(EVENTS)};

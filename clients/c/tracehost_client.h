@@ -51,6 +51,7 @@ typedef uint32_t th_sigset; /* signal n has bit n - 1 */
 #define TH_SIGMASK(sig) ((th_sigset)1 << ((sig) - 1))
 
 /* requests of ptrace(2) */
+/* tools/format requests */
 #define TH_PT_TRACE_ME 0
 #define TH_PT_CONTINUE 7
 #define TH_PT_KILL 8
@@ -69,19 +70,23 @@ typedef uint32_t th_sigset; /* signal n has bit n - 1 */
 #define TH_PT_LWP_EVENTS 24
 #define TH_PT_GET_EVENT_MASK 25
 #define TH_PT_SET_EVENT_MASK 26
+/* end */
 
 /* events, for PT_SET_EVENT_MASK */
+/* tools/format events */
 #define TH_PTRACE_EXEC 0x0001
 #define TH_PTRACE_SCE 0x0002
 #define TH_PTRACE_SCX 0x0004
-#define TH_PTRACE_SYSCALL (TH_PTRACE_SCE | TH_PTRACE_SCX)
 #define TH_PTRACE_FORK 0x0008
 #define TH_PTRACE_LWP 0x0010
 #define TH_PTRACE_VFORK 0x0020
+#define TH_PTRACE_SYSCALL (TH_PTRACE_SCE | TH_PTRACE_SCX)
+/* end */
 
 /* pl_event and pl_flags */
 #define TH_PL_EVENT_NONE 0
 #define TH_PL_EVENT_SIGNAL 1
+/* tools/format stop flags */
 #define TH_PL_FLAG_SCE 0x0004
 #define TH_PL_FLAG_SCX 0x0008
 #define TH_PL_FLAG_EXEC 0x0010
@@ -91,6 +96,7 @@ typedef uint32_t th_sigset; /* signal n has bit n - 1 */
 #define TH_PL_FLAG_EXITED 0x0200
 #define TH_PL_FLAG_VFORKED 0x0400
 #define TH_PL_FLAG_VFORK_DONE 0x0800
+/* end */
 
 /* the fields of FreeBSD's struct ptrace_lwpinfo that the model has */
 struct th_lwpinfo {

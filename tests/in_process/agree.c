@@ -8,13 +8,17 @@
 
 enum { CALLS_OF_A_SESSION = 150, FIRST_SPAWNS = 8 };
 
-/* The fields that a kind of reply has, as the header lists them; all others have to be 0. */
+/*
+ * The fields that a kind of reply has, as the header lists them; all others have to be 0. The stop that a handler was
+ * shown is of the process that the wait is for, and no line has its number again.
+ */
 static bool has_only_its_fields(tracehost_reply r)
 {
     const uint32_t kind = r.kind;
     const bool handled = kind == TRACEHOST_HANDLED, info = kind == TRACEHOST_INFO, is_new = kind == TRACEHOST_NEW;
     const bool status = kind == TRACEHOST_STATUS, stopped = kind == TRACEHOST_STOPPED;
     r.kind = 0;
+    r.stop_pid = handled && r.stop_pid == r.pid ? 0 : r.stop_pid;
     r.pid = is_new || status || handled ? 0 : r.pid;
     r.lwp = is_new || info || handled || stopped ? 0 : r.lwp;
     r.number = kind == TRACEHOST_NUMBER ? 0 : r.number;

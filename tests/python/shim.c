@@ -3,6 +3,7 @@
  * as these words of the environment say:
  *
  *   SHIM_ALLOCATION=CALLS    these allocations are refused
+ *   SHIM_LEAST=BYTES         smaller allocations aren't counted, and never refused
  *   SHIM_READ=CALLS          these reads fail
  *   SHIM_WRITE=CALLS         these writes to standard output or standard error fail
  *   SHIM_THREAD=CALLS        these threads can't be started
@@ -45,7 +46,7 @@ static struct {
 
 static atomic_long failures, before_threads;
 static int error;
-static size_t most = SIZE_MAX;
+static size_t most = SIZE_MAX, least;
 static long chance, seed;
 
 static long number_of(const char *name, long otherwise) {
@@ -57,6 +58,7 @@ __attribute__((constructor)) static void begin(void) {
   static const char *const names[KINDS] = {"SHIM_ALLOCATION", "SHIM_READ", "SHIM_WRITE", "SHIM_THREAD"};
   error = (int)number_of("SHIM_ERROR", 0);
   most = (size_t)number_of("SHIM_MOST", LONG_MAX);
+  least = (size_t)number_of("SHIM_LEAST", 0);
   chance = number_of("SHIM_CHANCE", 0);
   seed = number_of("SHIM_SEED", 0);
   for (int kind = 0; kind < KINDS; kind++) {
@@ -101,20 +103,20 @@ static bool fails(enum kind kind) {
   return true;
 }
 
-static bool is_refused(void) {
-  if (!fails(ALLOCATION))
+static bool is_refused(size_t size) {
+  if (size < least || !fails(ALLOCATION))
     return false;
   errno = ENOMEM;
   return true;
 }
 
-void *malloc(size_t size) { return is_refused() ? NULL : __libc_malloc(size); }
+void *malloc(size_t size) { return is_refused(size) ? NULL : __libc_malloc(size); }
 
-void *calloc(size_t count, size_t size) { return is_refused() ? NULL : __libc_calloc(count, size); }
+void *calloc(size_t count, size_t size) { return is_refused(count * size) ? NULL : __libc_calloc(count, size); }
 
-void *realloc(void *old, size_t size) { return is_refused() ? NULL : __libc_realloc(old, size); }
+void *realloc(void *old, size_t size) { return is_refused(size) ? NULL : __libc_realloc(old, size); }
 
-void *memalign(size_t alignment, size_t size) { return is_refused() ? NULL : __libc_memalign(alignment, size); }
+void *memalign(size_t alignment, size_t size) { return is_refused(size) ? NULL : __libc_memalign(alignment, size); }
 
 void *aligned_alloc(size_t alignment, size_t size) { return memalign(alignment, size); }
 

@@ -1,9 +1,14 @@
 """Runs of programs with shim.c loaded before them, which lets their calls fail."""
 
+import collections
+import concurrent.futures
 import dataclasses
+import os
 import subprocess
 import tempfile
-from collections.abc import Mapping
+from collections.abc import Iterable, Mapping
+
+from counting import Counts
 
 SECONDS = 30
 
@@ -18,6 +23,18 @@ class End:
     status: int
     out: bytes
     err: bytes
+
+
+def fault(line: str, out: bytes = b'', status: int = 3) -> End:
+    return End(status, out, line.encode() + b'\n')
+
+
+def whole(text: bytes) -> End:
+    return End(0, text, b'')
+
+
+MEMORY = fault('tracehost: out of memory')
+REFUSED_STEP = b'error ENOMEM 12\n'
 
 
 @dataclasses.dataclass(frozen=True)
@@ -67,3 +84,33 @@ class Shim:
         _, counts = self.end_of(run)
         assert counts, f'{run} did not come to its end'
         return counts
+
+
+def judged(shim: Shim, kind: str, run: Run) -> tuple[str, int, str]:
+    """The kind of the run's failures, how many there were, and what is wrong with the run: an end that it may not come
+    to, or more refused steps than failures."""
+    try:
+        end, counts = shim.end_of(run)
+    except subprocess.TimeoutExpired:
+        return kind, 0, f'{run}: not ended after {SECONDS} s'
+    told = f'{run}: status {end.status}, {end.err!r}, {len(end.out)} bytes, the last {end.out[-60:]!r}'
+    failures = counts.failures if counts else 0
+    is_right = end in run.ends and end.out.count(REFUSED_STEP) <= failures
+    return kind, failures, '' if is_right else told
+
+
+def check_all(counts: Counts, shim: Shim, runs: Iterable[tuple[str, Run]]) -> int:
+    """Makes the runs side by side, checks each, and that there were failures of each kind."""
+    made: collections.Counter[str] = collections.Counter()
+    failures: collections.Counter[str] = collections.Counter()
+    with concurrent.futures.ThreadPoolExecutor(os.cpu_count()) as pool:
+        waiting = [pool.submit(judged, shim, kind, run) for kind, run in runs]
+        for ended in waiting:
+            kind, failed, complaint = ended.result()
+            made[kind] += 1
+            failures[kind] += failed
+            counts.check(not complaint, complaint)
+    for kind in made:
+        print(f'{kind}: {made[kind]} runs, {failures[kind]} failed')
+        counts.check(failures[kind] > 0, f'no failure of {kind}')
+    return made.total()

@@ -9,7 +9,6 @@ otherwise.
 """
 
 import collections
-import concurrent.futures
 import dataclasses
 import errno
 import itertools
@@ -20,11 +19,11 @@ import subprocess
 import sys
 import tempfile
 import time
-from collections.abc import Iterable, Iterator
+from collections.abc import Iterator
 
 from counting import Counts
 from json_of_lines import as_json
-from shim import SECONDS, Command, End, Ends, Run, Shim
+from shim import MEMORY, SECONDS, Command, End, Ends, Run, Shim, check_all, fault, whole
 
 
 @dataclasses.dataclass(frozen=True)
@@ -40,21 +39,12 @@ class GivesUp:
         return said and end.out != self.text and self.text.startswith(end.out)
 
 
-def fault(line: str, out: bytes = b'', status: int = 3) -> End:
-    return End(status, out, line.encode() + b'\n')
-
-
-MEMORY = fault('tracehost: out of memory')
 START = fault('tracehost: cannot start a worker')
 CANNOT_READ = fault('tracehost: cannot read')
 
 
 def cannot_write(front: bytes) -> End:
     return fault('tracehost: cannot write', front)
-
-
-def whole(text: bytes) -> End:
-    return End(0, text, b'')
 
 
 # ---- the runs
@@ -404,33 +394,6 @@ def runs_of_tracehost(shim: Shim, program: str, room: str) -> Iterator[tuple[str
     yield from (('writes', run) for run in failing_writes(program, file, text))
     yield from (('writes', run) for run in faults_told_in_pieces(program))
     yield from (('threads', run) for run in refused_threads(program, f'{room}/users.json'))
-
-
-def judged(shim: Shim, kind: str, run: Run) -> tuple[str, int, str]:
-    """The kind of the run's failures, how many there were, and what is wrong with the run."""
-    try:
-        end, counts = shim.end_of(run)
-    except subprocess.TimeoutExpired:
-        return kind, 0, f'{run}: not ended after {SECONDS} s'
-    told = f'{run}: status {end.status}, {end.err!r}, {len(end.out)} bytes, the last {end.out[-60:]!r}'
-    return kind, counts.failures if counts else 0, '' if end in run.ends else told
-
-
-def check_all(counts: Counts, shim: Shim, runs: Iterable[tuple[str, Run]]) -> int:
-    """Makes the runs side by side, checks each, and that there were failures of each kind."""
-    made: collections.Counter[str] = collections.Counter()
-    failures: collections.Counter[str] = collections.Counter()
-    with concurrent.futures.ThreadPoolExecutor(os.cpu_count()) as pool:
-        waiting = [pool.submit(judged, shim, kind, run) for kind, run in runs]
-        for ended in waiting:
-            kind, failed, complaint = ended.result()
-            made[kind] += 1
-            failures[kind] += failed
-            counts.check(not complaint, complaint)
-    for kind in made:
-        print(f'{kind}: {made[kind]} runs, {failures[kind]} failed')
-        counts.check(failures[kind] > 0, f'no failure of {kind}')
-    return made.total()
 
 
 def main() -> None:

@@ -59,7 +59,8 @@ static void rules(void) {
     assert(tracehost_install(&h, 1001, 1000, rules, 2, &reply) == 0);
     assert(tracehost_ptrace(&h, 1001, 1000, TRACEHOST_PT_ATTACH, 1001, 0, &reply) == 0);
     assert(tracehost_handle(&h, 1001, 1000, &reply) == 0 && reply.kind == TRACEHOST_HANDLED);
-    assert(reply.pid == 1001 && reply.signal == 17 && reply.has_handler == 1 && reply.handler == 0);
+    assert(reply.pid == 1001 && reply.stop_pid == 1001 && reply.lwp == 100001 && reply.signal == 17);
+    assert(reply.has_handler == 1 && reply.handler == 0);
     assert(reply.decision == TRACEHOST_CONTINUE && reply.pass == 0);
     assert(tracehost_close(&h) == 0);
 }
@@ -107,7 +108,7 @@ int main(void) {
     assert(tracehost_ptrace(&h, 1001, 1000, TRACEHOST_PT_ATTACH, 1001, 0, &reply) == 0 && reply.kind == TRACEHOST_OK);
     assert(tracehost_wait4(&h, 1001, 1000, -1, 8, &reply) == TRACEHOST_INVALID);
     assert(tracehost_wait4(&h, 1001, 1000, -1, 0, &reply) == 0 && reply.kind == TRACEHOST_STATUS
-           && reply.pid == 1001 && reply.status == 17 * 256 + 127);
+           && reply.pid == 1001 && reply.status == 17 * 256 + 127 && reply.stop_pid == 0);
     assert(tracehost_last_line(&h, false, out, sizeof out, &length) == 0);
     same(out, length, "1001 4 status 1001 4479\n");
     const char *line = "{\"user\":1001,\"op\":\"list\",\"caller\":1000}";

@@ -87,6 +87,18 @@ static void replies()
     CHECK(line(session, "{\"user\":1001,\"op\":\"spawn\"}") == "1001 9 new 1003 100003\n");
 }
 
+static void handlers()
+{
+    tracehost_session session = attached();
+    const tracehost_rule rules[2] = {{0, 5, TRACEHOST_KILL, 0}, {0, 17, TRACEHOST_CONTINUE, 0}};
+    CHECK(session.call(tracehost_install, 1001, 1000, rules, 2).kind == TRACEHOST_OK);
+    const auto reply = session.call(tracehost_handle, 1001, 1000);
+    CHECK(reply.kind == TRACEHOST_HANDLED && reply.pid == 1001 && reply.status == 17 * 256 + 127);
+    CHECK(reply.stop_pid == 1001 && reply.lwp == 100001 && reply.signal == 17);
+    CHECK(reply.has_handler == 1 && reply.handler == 0 && reply.decision == TRACEHOST_CONTINUE && reply.pass == 0);
+    CHECK(session.call(tracehost_handle, 1001, 1000).kind == TRACEHOST_NOTHING);
+}
+
 static void settings()
 {
     for (bool kills : {false, true}) {
@@ -142,6 +154,7 @@ static void threads()
 int main()
 {
     replies();
+    handlers();
     settings();
     copies();
     moves();

@@ -5,9 +5,11 @@ from __future__ import annotations
 
 import os
 import pathlib
+import re
 import sys
 import unittest
 from collections.abc import Iterable
+from ctypes import byref, c_size_t
 from typing import Any, Literal
 from unittest import mock
 
@@ -36,7 +38,7 @@ from tracehost import (
     StopFlag,
     View,
 )
-from tracehost.library import Session
+from tracehost.library import ANSWERED, CLwp, CProcess, CRule, Reply, Session, Words, find
 from tracehost.replica import Replica
 
 NONE: frozenset[Signal] = frozenset()
@@ -267,6 +269,44 @@ class Choices(unittest.TestCase):
             Host(transport="socket")  # type: ignore[arg-type]
         with self.assertRaises(ValueError):
             Host("tracehost", transport="library")
+
+
+class Structs(unittest.TestCase):
+    """The structs of include/tracehost.h."""
+
+    def names(self, struct: str) -> list[str]:
+        """The fields of a struct in the header, each a uint32_t, in their order."""
+        header = pathlib.Path(__file__).resolve().parents[3] / "include/tracehost.h"
+        body = header.read_text().split(f"typedef struct {struct} {{")[1].split("}")[0]
+        declarations = re.sub(r"/\*.*?\*/", "", body, flags=re.DOTALL).split(";")
+        fields = [part.strip().removeprefix("uint32_t ") for part in declarations if part.strip()]
+        return [name.strip() for part in fields for name in part.split(",")]
+
+    def test_fields(self) -> None:
+        """`passed` is the header's `pass`, which is a keyword in Python."""
+        structs: dict[str, type[Words]] = {"reply": Reply, "rule": CRule, "process": CProcess, "lwp": CLwp}
+        for name, struct in structs.items():
+            wanted = ["passed" if field == "pass" else field for field in self.names(f"tracehost_{name}")]
+            self.assertEqual([field for field, *_ in struct._fields_], wanted)
+
+    def test_a_reply(self) -> None:
+        """A stop that goes to a handler, with all its fields: the last one of the struct is among them."""
+        library = find(needed=True) or self.fail("there is no library")
+        session, reply = Session(library), Reply()
+
+        def make(step: str, *numbers: Any) -> None:
+            self.assertEqual(library[step](session.handle, 1001, *numbers, byref(reply)), ANSWERED)
+
+        make("spawn")
+        make("spawn")
+        make("ptrace", 1000, Request.PT_ATTACH.value, 1001, 0)
+        make("install", 1000, (CRule * 2)(CRule(0, 5, 4, 0), CRule(0, 17, 2, 0)), c_size_t(2))
+        make("handle", 1000)
+        handled = {"kind": 9, "pid": 1001, "stop_pid": 1001, "lwp": 100001, "status": 17 * 256 + 127, "signal": 17}
+        handled |= {"has_handler": 1, "decision": 2}
+        self.assertEqual({name: getattr(reply, name) for name, *_ in Reply._fields_ if getattr(reply, name)}, handled)
+        make("handle", 1000)
+        self.assertEqual((reply.kind, reply.stop_pid), (4, 0))
 
 
 class Mixed(unittest.TestCase):

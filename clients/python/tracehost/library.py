@@ -20,7 +20,6 @@ _NAME = "libtracehost.so"
 _ROOM = 1 << 16
 
 
-
 class Handle(ctypes.Structure):
     """``struct tracehost``."""
 

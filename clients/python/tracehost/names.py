@@ -6,6 +6,7 @@ import enum
 from collections.abc import Mapping
 
 
+# tools/format requests
 class Request(enum.IntEnum):
     """The requests of ptrace(2), with the numbers of <sys/ptrace.h>."""
 
@@ -27,18 +28,20 @@ class Request(enum.IntEnum):
     PT_LWP_EVENTS = 24
     PT_GET_EVENT_MASK = 25
     PT_SET_EVENT_MASK = 26
+# end
 
 
+# tools/format flags
 class EventMask(enum.IntFlag):
     """The events that a traced process stops for, with the bits of <sys/ptrace.h>."""
 
     PTRACE_EXEC = 0x0001
     PTRACE_SCE = 0x0002
     PTRACE_SCX = 0x0004
-    PTRACE_SYSCALL = PTRACE_SCE | PTRACE_SCX
     PTRACE_FORK = 0x0008
     PTRACE_LWP = 0x0010
     PTRACE_VFORK = 0x0020
+    PTRACE_SYSCALL = PTRACE_SCE | PTRACE_SCX
 
 
 class StopFlag(enum.IntFlag):
@@ -53,6 +56,7 @@ class StopFlag(enum.IntFlag):
     PL_FLAG_EXITED = 0x0200
     PL_FLAG_VFORKED = 0x0400
     PL_FLAG_VFORK_DONE = 0x0800
+# end
 
 
 class LwpEvent(enum.IntEnum):
@@ -106,6 +110,7 @@ class Signal(enum.IntEnum):
     SIGUSR2 = 31
 
 
+# tools/format names
 class Action(enum.Enum):
     """What a process does with a signal, as ``sa_handler`` of sigaction(2) says it."""
 
@@ -134,6 +139,7 @@ class Decision(enum.Enum):
     CONTINUE = "continue"
     DETACH = "detach"
     KILL = "kill"
+# end
 
 
 # the printed names, one bit each

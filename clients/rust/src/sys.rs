@@ -300,4 +300,33 @@ mod tests {
         assert_eq!(fields(&header, "tracehost_process"), Process::FIELDS);
         assert_eq!(fields(&header, "tracehost_lwp"), Lwp::FIELDS);
     }
+
+    /// A stop that goes to a handler, with all its fields, the last one of the struct among them.
+    #[test]
+    fn a_reply_is_stored_in_its_fields() {
+        let (user, sigstop, kill, pass_on) = (1001, 17, 4, 2);
+        let mut session = Handle::open(true).expect("memory");
+        let debugger = session.spawn(user).1.pid;
+        let target = session.spawn(user).1;
+        assert_eq!(session.ptrace(user, debugger, 10, target.pid, 0).0, ANSWERED);
+        let rule = |signal, decision| Rule {
+            signal,
+            decision,
+            ..Rule::default()
+        };
+        let rules = [rule(5, kill), rule(sigstop, pass_on)];
+        assert_eq!(session.install(user, debugger, &rules).0, ANSWERED);
+        let (code, reply) = session.handle(user, debugger);
+        assert_eq!((code, reply.kind), (ANSWERED, 9));
+        assert_eq!(
+            (reply.pid, reply.stop_pid, reply.lwp),
+            (target.pid, target.pid, target.lwp)
+        );
+        assert_eq!((reply.status, reply.signal), (sigstop * 256 + 127, sigstop));
+        assert_eq!(
+            (reply.has_handler, reply.handler, reply.decision, reply.pass),
+            (1, 0, pass_on, 0)
+        );
+        assert_eq!(session.handle(user, debugger).1.stop_pid, 0);
+    }
 }

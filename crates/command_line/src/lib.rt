@@ -1,65 +1,18 @@
 //! The command line: its options, what it asks for, and what helps where it is refused.
 #![tactic(auto)]
 
+ghost use Rattle.std.specs.Prelude.{IfOk, codes};
+ghost use Rattle.clap.specs.Matches.{found_of, one_text};
+ghost use Rattle.command_line.specs.Found.{IsIn, IsNumber};
+
+mod asking;
+
+pub use asking::{Arguments, Asked, Mode, Shown, Style, Terminals, asked_for};
+use asking::{explains, has_value};
 use clap::error::ErrorKind;
 use clap::{Arg, ArgAction, ArgMatches, Command};
-use pid_blocks::Uid;
 use std::alloc::{AllocError, Global};
 use std::fmt;
-
-/// The style of a line.
-#[derive(Clone, Copy, Drop)]
-pub enum Style {
-    /// Words, separated by spaces.
-    Words,
-    /// A JSON object.
-    Json,
-}
-
-/// Which lines of a run are printed, and in which order.
-#[derive(Clone, Copy, Drop)]
-pub struct Shown {
-    /// The user whose lines alone are printed; none for all.
-    pub user: Option<Uid>,
-    pub style: Style,
-    /// Each user's steps are made by a thread of their own, and the lines come user by user.
-    pub threads: bool,
-    /// Each line has the step that it answers, too.
-    pub trace: bool,
-}
-
-/// How the input is read.
-#[derive(Clone, Copy, Drop)]
-pub enum Mode<'a> {
-    /// As a scenario, which is run. The lines are printed, or compared with those of the expected file.
-    Scenario {
-        shown: Shown,
-        expected: Option<&'a str>,
-    },
-    /// As lines with a step each, which a host answers one by one.
-    Lines {
-        /// A debugger's end kills the processes that it traces.
-        kills_on_exit: bool,
-        style: Style,
-    },
-}
-
-/// What the command line asks for.
-#[derive(Clone, Copy, Drop)]
-pub struct Asked<'a> {
-    /// The file of the input; none for standard input.
-    pub file: Option<&'a str>,
-    /// Refused input is explained on standard error.
-    pub explains: bool,
-    pub mode: Mode<'a>,
-}
-
-/// Which of the standard streams are terminals.
-#[derive(Clone, Copy, Drop)]
-pub struct Terminals {
-    pub input: bool,
-    pub error: bool,
-}
 
 /// Why a command line asks for nothing that can be done.
 #[derive(Drop)]
@@ -217,19 +170,10 @@ fn matches_of<'a>(
 
 /// Whether the lines have the steps that they answer.
 fn asks_trace(matches: &ArgMatches<'_>) -> bool {
-    matches.get_str("json") == Some("trace")
+    has_value(matches.get_str("json"), "trace")
 }
 
-/// Whether refused input is explained, by the value of `--explain`.
-fn explains(when: Option<&str>, terminals: Terminals) -> bool {
-    match when {
-        Some("always") => true,
-        Some("never") => false,
-        _ => terminals.error,
-    }
-}
-
-/// The same by the words of a command line that is refused.
+/// Whether refused input is explained, by the words of a command line that is refused.
 fn explains_in(words: &[String], terminals: Terminals) -> bool {
     let mut when = None;
     for word in words {
@@ -301,40 +245,29 @@ fn refused(alloc: Global, error: clap::Error, words: &[String], terminals: Termi
     })
 }
 
-/// The user whose lines are printed; none for all.
-fn user_of(matches: &ArgMatches<'_>) -> Result<Option<Uid>, Refusal> {
-    match matches.get_one::<u32>("UID") {
-        Some(number) => match Uid::new(number) {
-            Ok(user) => Ok(Some(user)),
-            Err(_) => Err(Refusal::User),
-        },
-        None => Ok(None),
+/// The number of `--user`; none without the option.
+fn user_number(matches: &ArgMatches<'_>) -> Result<Option<u32>, Refusal>
+    ensures { IfOk result (λ number. IsNumber (one_text (found_of matches.now) (codes "UID")) number) }
+{
+    match matches.try_get_one("UID") {
+        Ok(number) => Ok(number),
+        Err(_) => Err(Refusal::User),
     }
 }
 
-/// How the input is read.
-fn mode_of<'a>(matches: &ArgMatches<'a>) -> Result<Mode<'a>, Refusal> {
-    let style = if matches.contains_id("json") {
-        Style::Json
-    } else {
-        Style::Words
-    };
-    if matches.get_flag("lines") {
-        let kills_on_exit = matches.get_one::<u32>("0|1") != Some(0);
-        return Ok(Mode::Lines {
-            kills_on_exit,
-            style,
-        });
-    }
-    let user = user_of(matches)?;
-    Ok(Mode::Scenario {
-        shown: Shown {
-            user,
-            style,
-            threads: matches.get_flag("threads"),
-            trace: asks_trace(matches),
-        },
-        expected: matches.get_str("expect"),
+/// The options and the operand that were found.
+fn arguments_of<'a>(matches: &ArgMatches<'a>) -> Result<Arguments<'a>, Refusal>
+    ensures { IfOk result (λ arguments. IsIn (found_of matches.now) arguments) }
+{
+    Ok(Arguments {
+        file: matches.get_str("FILE"),
+        explain: matches.get_str("WHEN"),
+        user: user_number(matches)?,
+        threads: matches.get_flag("threads"),
+        expect: matches.get_str("expect"),
+        json: matches.get_str("json"),
+        lines: matches.get_flag("lines"),
+        kill_on_debugger_exit: matches.get_one("0|1"),
     })
 }
 
@@ -354,13 +287,9 @@ pub fn asked_of<'a>(
         Ok(matches) => matches,
         Err(error) => return Err(refused(alloc, error, words, terminals)),
     };
-    let file = match matches.get_str("FILE") {
-        Some("-") => None,
-        file => file,
-    };
-    Ok(Asked {
-        file,
-        explains: explains(matches.get_str("WHEN"), terminals),
-        mode: mode_of(&matches)?,
-    })
+    let arguments = arguments_of(&matches)?;
+    match asked_for(arguments, terminals) {
+        Ok(asked) => Ok(asked),
+        Err(_) => Err(Refusal::User),
+    }
 }

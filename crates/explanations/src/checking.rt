@@ -1,10 +1,10 @@
 //! The first mistakes of a scenario or a step, in the order in which they are checked. Each check returns whether all is
 //! well, and has reported what is wrong where it isn't.
 use crate::format::{
-    Case, Key, Kind, LEVELS, MOST_RULES, MOST_STEPS, RULE, Range, SCENARIO, SETTING, SETTING_KEY,
-    STEP,
+    Case, Key, Kind, LEVELS, MOST_RULES, MOST_STEPS, Range, SCENARIO, SETTING, SETTING_KEY,
 };
 use crate::report::Report;
+use crate::tables::{RULE, STEP};
 use crate::wording::{
     report_kind, report_missing, report_name, report_no_object, report_number, report_too_many,
     report_unknown,

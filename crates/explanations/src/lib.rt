@@ -11,6 +11,7 @@ mod nearness;
 mod repeated;
 mod report;
 mod scanning;
+mod tables;
 mod texts;
 mod wording;
 mod wrong_inputs;

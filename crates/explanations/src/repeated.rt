@@ -1,7 +1,7 @@
 //! Keys that an object has more than once. The last one counts.
 use crate::checking::{Member, value_of};
-use crate::format::KEYS;
 use crate::report::Report;
+use crate::tables::KEYS;
 use json::Value;
 
 /// The most keys that are reported.

@@ -1,9 +1,10 @@
 //! Mistakes in words, each after its place.
 use crate::checking::{Member, chosen, has_key, keys_at, value_of};
 use crate::confusions::{advise, advise_prefix};
-use crate::format::{KEYS, Key, Kind, LEVELS, Range, SIGNALS, Table};
+use crate::format::{Key, Kind, LEVELS, Range, SIGNALS, Table};
 use crate::nearness::Nearest;
 use crate::report::Report;
+use crate::tables::KEYS;
 use json::Value;
 
 fn push_range(report: &mut Report, range: Range) {

@@ -1,10 +1,10 @@
 -- A reply from its flat form, but for the numbers of a list and the kind of a status.
 use Rattle.std.proofs.Common.{◌≡◌, ◌%◌, ◌^◌, ℕ, [], ◌∷◌, Option, Some, None, length, refl, sym, ap, subst, ◌∙◌}
-use Rattle.std.specs.Prelude.{◌==◌, if◌then◌else◌}
+use Rattle.std.specs.Prelude.{false, ◌==◌, if◌then◌else◌}
 use Rattle.pid_blocks.specs.Blocks.{errno_number}
 use Rattle.pid_blocks.specs.declared.Errno.{Errno}
 use Rattle.pid_blocks.specs.declared.Errno.TheVariants as errno
-use Rattle.wait4.specs.Status.{word}
+use Rattle.wait4.specs.Status.{word, WordsDiffer}
 use Rattle.wait4.specs.declared.StatusKind.{StatusKind}
 use Rattle.wait4.specs.declared.StatusKind.TheVariants.{Exited}
 use Rattle.lwpinfo.specs.declared.Event.{Event}
@@ -15,8 +15,9 @@ use Rattle.stop_handlers.specs.declared.Decision.TheVariants as decision
 use Rattle.stop_handlers.specs.declared.StopView.{StopView}
 use Rattle.requests.specs.declared.Reply.{Reply}
 use Rattle.requests.specs.declared.Reply.TheVariants as reply
+use Rattle.requests.specs.Refusals.{is_listing}
 use Rattle.flat_forms.specs.declared.replies.FlatReply.{FlatReply}
-use Rattle.flat_forms.specs.Replies.{flat, flat_handled, Alike, same, lwps, pids, status, handled, FlatFormsDiffer, event_number, decision_number, passed, has_index, index_number}
+use Rattle.flat_forms.specs.Replies.{flat, flat_handled, Alike, same, lwps, pids, status, handled, FlatFormsDiffer, HasStatus, OneReply, event_number, decision_number, passed, has_index, index_number}
 
 -- ---- parts from their numbers
 
@@ -160,3 +161,15 @@ alike q r e = absurd (cc)
 
 pub same_flat : FlatFormsDiffer
 same_flat q r flats = alike q r (sym (unflat-flat q) ∙ (ap unflat flats ∙ unflat-flat r))
+
+-- ---- replies with statuses that exist
+
+of_alike : WordsDiffer → (q r : Reply) → Alike q r → HasStatus q → HasStatus r → is_listing q ≡ false → q ≡ r
+of_alike differ q r (same x) has_q has_r no_list = refl
+of_alike differ q r (lwps xs ys e) has_q has_r no_list = absurd (cc)
+of_alike differ q r (pids xs ys e) has_q has_r no_list = absurd (cc)
+of_alike differ q r (status pid s t e) has_q has_r no_list = ap (reply.Status pid) (differ s t has_q has_r e)
+of_alike differ q r (handled pid s t view index d e) has_q has_r no_list = ap (λ x. reply.Handled pid x view index d) (differ s t has_q has_r e)
+
+pub one_reply : WordsDiffer → OneReply
+one_reply differ q r has_q has_r no_list flats = of_alike differ q r (same_flat q r flats) has_q has_r no_list

@@ -16,6 +16,7 @@ numbered [] n = None
 numbered (row ∷ rows) n = if n == row.0 then Some row.1 else numbered rows n
 
 -- the requests of ptrace(2), by their numbers in <sys/ptrace.h> of FreeBSD
+-- tools/format requests
 abbrev pub request_numbered : ℕ → Option Request
 request_numbered = numbered
     ((0, requests.TraceMe) ∷ (7, requests.Continue) ∷ (8, requests.Kill) ∷ (9, requests.Step) ∷ (10, requests.Attach)
@@ -23,6 +24,7 @@ request_numbered = numbered
     ∷ (18, requests.Suspend) ∷ (19, requests.Resume) ∷ (20, requests.ToSce) ∷ (21, requests.ToScx)
     ∷ (22, requests.Syscall) ∷ (23, requests.FollowFork) ∷ (24, requests.LwpEvents) ∷ (25, requests.GetEventMask)
     ∷ (26, requests.SetEventMask) ∷ [])
+-- end
 
 abbrev pub disposition_numbered : ℕ → Option Disposition
 disposition_numbered = numbered ((0, dispositions.Default) ∷ (1, dispositions.Ignore) ∷ (2, dispositions.Catch) ∷ [])

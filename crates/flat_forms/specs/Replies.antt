@@ -1,7 +1,7 @@
 -- A reply as numbers.
-use Rattle.std.specs.Prelude.{◌≡◌, ℕ, ◌%◌, ◌^◌, List, length, Option, Some, None}
+use Rattle.std.specs.Prelude.{⊤, ◌≡◌, ℕ, false, ◌%◌, ◌^◌, List, length, Option, Some, None}
 use Rattle.pid_blocks.specs.Blocks.{errno_number}
-use Rattle.wait4.specs.Status.{word}
+use Rattle.wait4.specs.Status.{IsStatus, word}
 use Rattle.wait4.specs.declared.StatusKind.{StatusKind}
 use Rattle.lwpinfo.specs.declared.Event.{Event}
 use Rattle.lwpinfo.specs.declared.Event.TheVariants as event
@@ -11,6 +11,7 @@ use Rattle.stop_handlers.specs.declared.Decision.TheVariants as decision
 use Rattle.stop_handlers.specs.declared.StopView.{StopView}
 use Rattle.requests.specs.declared.Reply.{Reply}
 use Rattle.requests.specs.declared.Reply.TheVariants as reply
+use Rattle.requests.specs.Refusals.{is_listing}
 use Rattle.flat_forms.specs.declared.replies.FlatReply.{FlatReply}
 
 -- a reply of this kind with all its numbers 0
@@ -121,3 +122,13 @@ pub data Alike : Reply → Reply → Type 0 where
 -- two replies with the same flat form are alike
 abbrev pub FlatFormsDiffer : Type 0
 FlatFormsDiffer = (q r : Reply) → flat q ≡ flat r → Alike q r
+
+-- the status of a reply, if it has one, exists
+abbrev pub HasStatus : Reply → Type 0
+HasStatus (reply.Status pid s) = IsStatus s
+HasStatus (reply.Handled pid s view index d) = IsStatus s
+HasStatus r = ⊤
+
+-- two replies whose statuses exist are the same reply if their flat forms are the same and they are no lists
+abbrev pub OneReply : Type 0
+OneReply = (q r : Reply) → HasStatus q → HasStatus r → is_listing q ≡ false → flat q ≡ flat r → q ≡ r

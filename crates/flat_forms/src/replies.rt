@@ -171,66 +171,66 @@ impl FlatReply {
         }
     }
 
-    /// Returns the reply as numbers. A list is its length.
-    pub fn of(reply: &Reply) -> FlatReply
-        ensures { result ≡ flat reply.now }
+    /// Stores the reply as numbers, in place of the numbers that are here. A list is its length.
+    pub fn set(&mut self, reply: &Reply)
+        ensures { self.new ≡ flat reply.now }
     {
         match reply {
-            Reply::Done => FlatReply::blank(0),
-            Reply::New { pid, tid } => FlatReply {
-                pid: pid.get(),
-                lwp: tid.get(),
-                ..FlatReply::blank(1)
-            },
-            Reply::Number(number) => FlatReply {
-                number: *number,
-                ..FlatReply::blank(2)
-            },
-            Reply::Status { pid, status } => FlatReply {
-                pid: pid.get(),
-                status: status.word(),
-                ..FlatReply::blank(3)
-            },
-            Reply::Nothing => FlatReply::blank(4),
-            Reply::Info(info) => FlatReply::info(info),
-            Reply::Lwps(tids) => FlatReply {
-                count: count_of(tids),
-                ..FlatReply::blank(6)
-            },
-            Reply::Pids(pids) => FlatReply {
-                count: count_of(pids),
-                ..FlatReply::blank(7)
-            },
-            Reply::Mask(mask) => FlatReply {
-                mask: mask.0,
-                ..FlatReply::blank(8)
-            },
+            Reply::Done => *self = FlatReply::blank(0),
+            Reply::New { pid, tid } => {
+                *self = FlatReply::blank(1);
+                self.pid = pid.get();
+                self.lwp = tid.get();
+            }
+            Reply::Number(number) => {
+                *self = FlatReply::blank(2);
+                self.number = *number;
+            }
+            Reply::Status { pid, status } => {
+                *self = FlatReply::blank(3);
+                self.pid = pid.get();
+                self.status = status.word();
+            }
+            Reply::Nothing => *self = FlatReply::blank(4),
+            Reply::Info(info) => *self = FlatReply::info(info),
+            Reply::Lwps(tids) => {
+                *self = FlatReply::blank(6);
+                self.count = count_of(tids);
+            }
+            Reply::Pids(pids) => {
+                *self = FlatReply::blank(7);
+                self.count = count_of(pids);
+            }
+            Reply::Mask(mask) => {
+                *self = FlatReply::blank(8);
+                self.mask = mask.0;
+            }
             Reply::Handled {
                 pid,
                 status,
                 view,
                 index,
                 decision,
-            } => FlatReply::handled(*pid, status, view, *index, decision),
-            Reply::Stopped { tid, sig, flags } => FlatReply {
-                lwp: tid.get(),
-                signal: sig.number(),
-                flags: flags.0,
-                ..FlatReply::blank(10)
-            },
-            Reply::Caught(sig) => FlatReply {
-                signal: sig.number(),
-                ..FlatReply::blank(11)
-            },
-            Reply::Ended(status) => FlatReply {
-                status: *status,
-                ..FlatReply::blank(12)
-            },
-            Reply::Held => FlatReply::blank(13),
-            Reply::Errno(errno) => FlatReply {
-                error: errno.number(),
-                ..FlatReply::blank(14)
-            },
+            } => *self = FlatReply::handled(*pid, status, view, *index, decision),
+            Reply::Stopped { tid, sig, flags } => {
+                *self = FlatReply::blank(10);
+                self.lwp = tid.get();
+                self.signal = sig.number();
+                self.flags = flags.0;
+            }
+            Reply::Caught(sig) => {
+                *self = FlatReply::blank(11);
+                self.signal = sig.number();
+            }
+            Reply::Ended(status) => {
+                *self = FlatReply::blank(12);
+                self.status = *status;
+            }
+            Reply::Held => *self = FlatReply::blank(13),
+            Reply::Errno(errno) => {
+                *self = FlatReply::blank(14);
+                self.error = errno.number();
+            }
         }
     }
 }

@@ -6,6 +6,7 @@ use requests::Request;
 use signals::Disposition;
 use wait4::Options;
 
+// tools/format requests
 /// Returns the request of ptrace(2) with this number in <sys/ptrace.h> of FreeBSD.
 pub fn request_of(number: u32) -> Option<Request>
     ensures { result ≡ request_numbered number }
@@ -32,6 +33,7 @@ pub fn request_of(number: u32) -> Option<Request>
         _ => None,
     }
 }
+// end
 
 /// Returns the disposition with this number: 0 for the default one, 1 to ignore, 2 to catch.
 pub fn disposition_of(number: u32) -> Option<Disposition>

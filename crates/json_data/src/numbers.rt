@@ -1,6 +1,6 @@
 //! Numbers read from their texts.
-ghost use Rattle.std.specs.Prelude.{◌≡◌, ◌<◌, ◌^◌, ◌==◌, true, false, Some, IfSome, IsTrue, is_some, option_and_then, slice_index};
-ghost use Rattle.serde_json.specs.Data.{unsigned as unsigned_number};
+ghost use Rattle.std.specs.Prelude.{◌≡◌, ◌<◌, ◌^◌, ◌==◌, true, false, Some, IfSome, IsTrue, is_some, option_and_then, slice_index, length};
+ghost use Rattle.std.specs.Str.Parse.{AllDigits, digits_value};
 ghost use Rattle.serde_json.specs.Find.{as_i64};
 ghost use Rattle.serde_json.specs.Read.{number_of, number_from, float_of};
 
@@ -32,9 +32,9 @@ fn negative(numeral: &Numeral<'_>) -> Option<i64>
     if number < 0 { Some(number) } else { None }
 }
 
-/// Reads a whole number of a few digits, as nearly all numbers are. `None` leaves the number open.
+/// Returns the number that digits write, if there are few of them and nothing else. `None` leaves it open.
 fn few_digits(bytes: &[u8]) -> Option<u64>
-    ensures { IfSome result (λ n. (n < 10 ^ 18) × (number_of bytes.now ≡ Some (unsigned_number n))) }
+    ensures { IfSome result (λ n. (n < 10 ^ 18) × (0 < length bytes.now) × AllDigits 10 bytes.now × (digits_value 10 bytes.now ≡ n)) }
 {
     if bytes.is_empty() {
         return None;
@@ -49,12 +49,27 @@ fn few_digits(bytes: &[u8]) -> Option<u64>
     Some(number)
 }
 
+/// Reads a whole number of a few digits, as nearly all numbers are, or one below 0. `None` leaves the number open.
+fn short_integer(bytes: &[u8]) -> Option<i64>
+    ensures { IfSome result (λ z. option_and_then as_i64 (number_of bytes.now) ≡ Some z) }
+{
+    if !has_minus(bytes) {
+        let number = few_digits(bytes)?;
+        return Some(number as i64);
+    }
+    let number = few_digits(&bytes[1..])?;
+    if number == 0 {
+        return None;
+    }
+    Some(-(number as i64))
+}
+
 /// Returns the whole number of a text, or `None` if it has none that fits in `i64`.
 pub(crate) fn integer_of(text: &str) -> Option<i64>
     ensures { result ≡ option_and_then as_i64 (number_of text.now) }
 {
-    match few_digits(text.as_bytes()) {
-        Some(number) => Some(number as i64),
+    match short_integer(text.as_bytes()) {
+        Some(number) => Some(number),
         None => any_integer(text),
     }
 }
@@ -95,10 +110,11 @@ fn negative_in_range(numeral: &Numeral<'_>) -> bool
 }
 
 /// Tests whether the number of a text has a value: a float must not be too large.
+#[tactic(auto, using(crate::proofs::NumberTexts::integer_is_number))]
 pub(crate) fn is_in_range(text: &str) -> bool
     ensures { result ≡ is_some (number_of text.now) }
 {
-    few_digits(text.as_bytes()).is_some() || any_is_in_range(text)
+    short_integer(text.as_bytes()).is_some() || any_is_in_range(text)
 }
 
 fn any_is_in_range(text: &str) -> bool

@@ -1,4 +1,4 @@
-//! The names of a scenario, as docs/FORMAT.md has them.
+//! The names of a scenario, as docs/FORMAT.md has them. Written by `tools/format` from format/scenario.toml.
 use event_masks::Call;
 use requests::{Act, Request, Step};
 use scenario::StepShape;
@@ -8,13 +8,13 @@ use stop_handlers::Decision;
 pub(crate) fn op_of(step: &StepShape) -> &'static str {
     match step {
         Step::Spawn => "spawn",
-        Step::List { .. } => "list",
-        Step::Sigaction { .. } => "sigaction",
-        Step::Kill { .. } => "kill",
+        Step::Ptrace { .. } => "ptrace",
         Step::Wait4 { .. } => "wait4",
+        Step::Kill { .. } => "kill",
+        Step::Sigaction { .. } => "sigaction",
+        Step::List { .. } => "list",
         Step::Install { .. } => "install",
         Step::Handle { .. } => "handle",
-        Step::Ptrace { .. } => "ptrace",
         Step::Turn { .. } => "turn",
     }
 }
@@ -25,20 +25,20 @@ pub(crate) fn request_name(request: Request) -> &'static str {
         Request::Attach => "PT_ATTACH",
         Request::Continue => "PT_CONTINUE",
         Request::Step => "PT_STEP",
-        Request::Suspend => "PT_SUSPEND",
-        Request::Resume => "PT_RESUME",
-        Request::Detach => "PT_DETACH",
-        Request::Kill => "PT_KILL",
-        Request::SetEventMask => "PT_SET_EVENT_MASK",
-        Request::GetEventMask => "PT_GET_EVENT_MASK",
-        Request::LwpInfo => "PT_LWPINFO",
-        Request::GetNumLwps => "PT_GETNUMLWPS",
-        Request::GetLwpList => "PT_GETLWPLIST",
         Request::ToSce => "PT_TO_SCE",
         Request::ToScx => "PT_TO_SCX",
         Request::Syscall => "PT_SYSCALL",
+        Request::Detach => "PT_DETACH",
+        Request::Kill => "PT_KILL",
+        Request::Suspend => "PT_SUSPEND",
+        Request::Resume => "PT_RESUME",
+        Request::SetEventMask => "PT_SET_EVENT_MASK",
+        Request::GetEventMask => "PT_GET_EVENT_MASK",
         Request::FollowFork => "PT_FOLLOW_FORK",
         Request::LwpEvents => "PT_LWP_EVENTS",
+        Request::LwpInfo => "PT_LWPINFO",
+        Request::GetNumLwps => "PT_GETNUMLWPS",
+        Request::GetLwpList => "PT_GETLWPLIST",
     }
 }
 
@@ -54,12 +54,12 @@ pub(crate) fn act_name(act: &Act) -> &'static str {
 
 pub(crate) fn call_name(call: &Call) -> &'static str {
     match call {
+        Call::Exit(_) => "exit",
         Call::Fork => "fork",
         Call::Vfork => "vfork",
         Call::Exec => "exec",
         Call::ThrNew => "thr_new",
         Call::ThrExit => "thr_exit",
-        Call::Exit(_) => "exit",
         Call::Other(_) => "other",
     }
 }

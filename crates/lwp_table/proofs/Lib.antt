@@ -5,5 +5,6 @@ pub mod ListLemmas
 pub mod CountLemmas
 pub mod IndexLemmas
 pub mod KeptLemmas
+pub mod EditLemmas
 pub mod WalkLemmas
 pub mod CloneLemmas

@@ -6,9 +6,10 @@
 //! only the rows of that process. Birth numbers only rise, so a new row comes last in both lists. No walk
 //! reads them: they specify the order of the links.
 
-ghost use Rattle.std.specs.Prelude.{◌≡◌, ◌==◌, ◌+◌, ◌<◌, ◌≤◌, ◌++◌, [], ◌∷◌, false, IsSome, IsSomeAnd, OnOk, IfOk, count_by, length, option_map, slice_get};
+ghost use Rattle.std.specs.Prelude.{◌≡◌, ◌==◌, ◌+◌, ◌<◌, ◌≤◌, ◌++◌, [], ◌∷◌, false, IsSome, IsSomeAnd, OnOk, IfOk, count_by, length, map, option_map, slice_get};
 ghost use Rattle.pid_blocks.specs.Blocks.{tid_owner};
-ghost use Rattle.lwp_table.specs.Lwps.{lwp_of, lwps_of, first_lwp, next_lwp, has_lwp, with_lwp, without_lwp, Differ};
+ghost use Rattle.std.specs.Fn.{FnReturnsAt};
+ghost use Rattle.lwp_table.specs.Lwps.{lwp_of, lwps_of, first_lwp, next_lwp, has_lwp, with_lwp, without_lwp, own_lwp, KeepsNumbers, ComputesRows, Differ};
 
 use crate::LwpData;
 use crate::finding::{Hints, first_slot, slot_of};
@@ -188,6 +189,22 @@ impl LwpTable {
         let mut place = self.rows[slot];
         place.row = row;
         self.rows[slot] = place;
+    }
+
+    /// Changes each row of this process in its place. A row keeps its number and its process.
+    pub fn edit_of<F: Fn(&LwpData) -> LwpData>(&mut self, pid: Pid, edit: F)
+        requires callable { F.IsAlwaysCallable edit }
+        requires keeps { KeepsNumbers (FnReturnsAt F.Fn edit) self.old.rows }
+        // the rows by the definition, for any change that the closure computes on the rows
+        ensures rows { (change : LwpData → LwpData) → ComputesRows (FnReturnsAt F.Fn edit) self.old.rows change → self.new.rows ≡ map (own_lwp pid change) self.old.rows }
+        ensures spare { self.new.spare ≡ self.old.spare }
+    {
+        let mut link = first_slot(&self.rows, &self.heads, &self.first_hints, pid.get());
+        while let Some(at) = link {
+            let slot = &mut self.rows[at];
+            slot.row = edit(&slot.row);
+            link = slot.own.next;
+        }
     }
 
     /// Removes the row with this number. The others keep their order.

@@ -19,28 +19,27 @@ use Rattle.open_sessions.specs.Open.{OpenSession}
 use Rattle.open_sessions.specs.Calls.{Steps, Answers}
 
 -- a step of the host, with the count at the user's place raised and the reply kept
-pub steps : (u : ℕ) (p q : PlainStep) (s : OpenSession) (k : Machine) (r : Reply) (place : ℕ) → IsUser u → q ≡ p → HostSteps u q s.host k r → place ≡ u - 1001 → place < length s.made
+pub steps : (u : ℕ) (p : PlainStep) (s : OpenSession) (k : Machine) (r : Reply) (place : ℕ) → IsUser u → HostSteps u p s.host k r → place ≡ u - 1001 → place < length s.made
     → Steps u p s (record { host = k; made = slice_set s.made place (slice_index s.made place + 1); last = Some (Ok (record { uid = u; reply = r })) })
-steps u p q s k r place user same made at below =
+steps u p s k r place user made at below =
     let raised : ℕ → List ℕ = λ i. slice_set s.made i (slice_index s.made i + 1) in
     let P : ℕ → Type 0 = λ i. slice_index (raised i) (u - 1001) ≡ slice_index s.made (u - 1001) + 1 in
     let Q : ℕ → Type 0 = λ i. i < length s.made in
     record {
       reply = r;
       user = user;
-      made = subst (λ x. HostSteps u x s.host k r) same made;
+      made = made;
       counts = ap raised at;
       number = subst P (sym at) (get_or-set_same s.made (u - 1001) (slice_index s.made (u - 1001) + 1) 0 (subst Q at below));
       last = refl;
     }
 
 -- the same from an equal session
-pub steps_at : (u : ℕ) (p q : PlainStep) (s same : OpenSession) (k : Machine) (r : Reply) (place : ℕ) → s ≡ same → IsUser u → q ≡ p → HostSteps u q s.host k r → place ≡ u - 1001
-    → place < length s.made
+pub steps_at : (u : ℕ) (p : PlainStep) (s same : OpenSession) (k : Machine) (r : Reply) (place : ℕ) → s ≡ same → IsUser u → HostSteps u p s.host k r → place ≡ u - 1001 → place < length s.made
     → Steps u p same (record { host = k; made = slice_set s.made place (slice_index s.made place + 1); last = Some (Ok (record { uid = u; reply = r })) })
-steps_at u p q s same k r place is user asked made at below =
+steps_at u p s same k r place is user made at below =
     let P : OpenSession → Type 0 = λ x. Steps u p x (record { host = k; made = slice_set s.made place (slice_index s.made place + 1); last = Some (Ok (record { uid = u; reply = r })) }) in
-    subst P is (steps u p q s k r place user asked made at below)
+    subst P is (steps u p s k r place user made at below)
 
 text_with : (style : Style) (made : List ℕ) (a : Answered) (last : Option LineReply) (n : ℕ) → last ≡ Some (Ok a) → slice_index made (a.uid - 1001) ≡ n → answer_text style made last ≡ (line style n a).text
 text_with style made a last n is number = ap (answer_text style made) is ∙ ap (λ x. (line style x a).text) number

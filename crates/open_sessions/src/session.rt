@@ -1,6 +1,7 @@
 //! The open session.
 
 ghost use Rattle.std.specs.Prelude.{◌≡◌, ◌≢◌, ◌++◌, Err, None, Some, replicate, length, IfOk, IfErr, OnOk, OnErr, string_bytes, option_map};
+ghost use Rattle.requests.specs.Hosts.{Steps as HostSteps};
 ghost use Rattle.requests.specs.Machine.{empty};
 ghost use Rattle.requests.specs.View.{view};
 ghost use Rattle.open_sessions.specs.Answers.{last_numbers, last_reply, shown};
@@ -77,8 +78,8 @@ impl Session {
     /// # Errors
     ///
     /// `TooManyAnswers`. A reply ENOMEM is not an error of the session.
-    pub fn step(&mut self, alloc: Global, user: Uid, step: PlainStep) -> Result<(), SessionFault>
-        ensures stepped { OnOk result (Steps user step self.old self.new) }
+    pub fn step(&mut self, alloc: Global, user: Uid, step: &PlainStep) -> Result<(), SessionFault>
+        ensures stepped { OnOk result (Steps user step.now self.old self.new) }
         ensures room { OnOk result (¬ IsFull user self.old) }
         ensures unchanged { OnErr result (self.new ≡ self.old) }
         ensures full { IfErr result (λ e. (e ≡ session_fault.TooManyAnswers) × IsFull user self.old) }
@@ -88,7 +89,7 @@ impl Session {
         if count == u64::MAX {
             return Err(SessionFault::TooManyAnswers);
         }
-        let reply = self.host.step(alloc, user, step.by_policy());
+        let reply = make_step(alloc, &mut self.host, user, step);
         self.made[slot] = count + 1;
         self.last = Some(Ok((user, reply)));
         Ok(())
@@ -106,7 +107,7 @@ impl Session {
         ensures full { result ≡ Err session_fault.TooManyAnswers → FullFor line.now self.old }
     {
         match self.steps.parse_step(alloc, line) {
-            Ok(asked) => self.step(alloc, asked.0, asked.1),
+            Ok(asked) => self.step(alloc, asked.0, &asked.1),
             Err(fault) => self.refuse(fault),
         }
     }
@@ -174,6 +175,16 @@ impl Session {
         ensures { IfOk result (λ v. v ≡ view user self.now.host) }
     {
         user_view(alloc, &self.host, user)
+    }
+}
+
+/// Makes a step of the user on the host. A handler that it installs answers by its policy.
+fn make_step(alloc: Global, host: &mut Host<ByPolicy>, user: Uid, step: &PlainStep) -> Reply
+    ensures { HostSteps user step.now host.old host.new result }
+{
+    match host.make(alloc, user, step) {
+        Some(reply) => reply,
+        None => host.step(alloc, user, step.by_policy()),
     }
 }
 

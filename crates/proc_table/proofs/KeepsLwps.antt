@@ -1,5 +1,5 @@
 -- What edits of an LWP's row keep, and the rows of an unused host.
-use Rattle.std.proofs.Common.{◌≡◌, ℕ, true, false, [], ◌∷◌, ◌∙◌, arith, inl, inr, nat_eq}
+use Rattle.std.proofs.Common.{◌≡◌, ℕ, true, false, [], ◌∷◌, map, refl, sym, ap, subst, ◌∙◌, arith, inl, inr, nat_eq}
 use Rattle.std.specs.Prelude.{not, IsSomeAnd, List, ◌++◌, length, get_or}
 use Rattle.std.specs.List.{AllByRecursion}
 use Rattle.std.proofs.lemmas.List.{length-set}
@@ -10,12 +10,14 @@ use Rattle.lwp_table.specs.declared.LwpData.{LwpData}
 use Rattle.lwp_table.specs.Lwps.{lwp_of, put_lwp, with_lwp, without_lwp, Differ}
 use Rattle.proc_table.specs.Seen.{owns}
 use Rattle.proc_table.specs.Rows.{Rows}
+use Rattle.proc_table.specs.Processes.{process_of}
+use Rattle.proc_table.specs.Edits.{own_lwp, map_lwps}
 use Rattle.proc_table.specs.Fresh.{is_lwp, add_lwp, no_rows}
 use Rattle.proc_table.specs.Kept.{Named, Housed, IsKept, set_lwp, drop_lwp}
 use Rattle.proc_table.proofs.Every.{every_weaken, every_map, every_filter, every_found, every_append, some_and}
 use Rattle.proc_table.proofs.Rows.{lwp_of-tid}
 use Rattle.proc_table.proofs.Rising.{owned_found}
-use Rattle.proc_table.proofs.Lwps.{Differ-with_lwp, Differ-filter, Differ-push, LacksLwp-from_any}
+use Rattle.proc_table.proofs.Lwps.{Differ-map, Differ-with_lwp, Differ-filter, Differ-push, LacksLwp-from_any}
 use Rattle.proc_table.proofs.Cursors.{InBlock-after, cursors-set, cursors-first, length-rising}
 use Rattle.proc_table.proofs.KeepsProcesses.{Named-more}
 
@@ -47,6 +49,19 @@ keeps_set_lwp new rows kept there =
           rw e (its.0, rw was.2 at its.1, rw number at its.2)
       | inr e ↦ rw e h
     ]
+
+-- a change of each LWP of a process
+module _ (pid : ℕ) (f : LwpData → LwpData) (number : (l : LwpData) → (f l).tid ≡ l.tid) (process : (l : LwpData) → (f l).pid ≡ l.pid) where
+  own-tid : (l : LwpData) → (own_lwp pid f l).tid ≡ l.tid
+  own-tid l = elim (cases_Bool (nat_eq l.pid pid)) [ inl e ↦ rw e (number l) | inr e ↦ rw e refl ]
+
+  own-pid : (l : LwpData) → (own_lwp pid f l).pid ≡ l.pid
+  own-pid l = elim (cases_Bool (nat_eq l.pid pid)) [ inl e ↦ rw e (process l) | inr e ↦ rw e refl ]
+
+  pub keeps-map_lwps : (rows : Rows) → IsKept rows → IsKept (map_lwps pid f rows)
+  keeps-map_lwps rows kept =
+      kept-lwps rows (map (own_lwp pid f) rows.lwps) rows.tid_cursors kept (Differ-map (own_lwp pid f) own-tid rows.lwps kept.differ)
+      (every_map (Housed rows) (Housed rows) (own_lwp pid f) (λ l h. (h.0, ap (λ n. process_of n rows.processes) (own-pid l) ∙ h.1, subst (InBlock (tid_block h.0.uid)) (sym (own-tid l)) h.2)) rows.lwps kept.housed) kept.tid_slots kept.tid_cursors
 
 pub keeps-drop_lwp : (tid : ℕ) (rows : Rows) → IsKept rows → IsKept (drop_lwp tid rows)
 keeps-drop_lwp tid rows kept =

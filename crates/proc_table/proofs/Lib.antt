@@ -20,6 +20,7 @@ pub mod Lanes
 pub mod Laced
 pub mod Tied
 pub mod Least
+pub mod Firsts
 pub mod OwnRows
 pub mod LwpWalk
 pub mod Changes

@@ -30,7 +30,7 @@ use Rattle.proc_table.proofs.Linked.{key_node}
 use Rattle.proc_table.proofs.Lanes.{slot_at, row_slot}
 use Rattle.proc_table.proofs.Laced.{HasHead, each_kin, head-apart, laced-same, laced-born, laced-gone, laced-none}
 
-this-is : (n : ℕ) (o : Option ℕ) → is_this n o ≡ true → o ≡ Some n
+pub this-is : (n : ℕ) (o : Option ℕ) → is_this n o ≡ true → o ≡ Some n
 this-is n None h = absurd (cc)
 this-is n (Some m) h = let same : m ≡ n = grind (arith, nat_tests, h) in ap Some same
 
@@ -91,14 +91,14 @@ module _ {f : ℕ → Option Slot} {es : List (ℕ × ℕ)} {counts : List ℕ} 
   below s slot is = let home = home-of s slot is in omega (arith, home.block.1, home.user.0, home.user.1)
 
   -- a row that names t is a member of its list
-  key-of-row : (kin : Kin) (t : ℕ) (r : ProcData) → process_of r.pid (all_rows (look (rows_of f) es)) ≡ Some r → chief kin r ≡ Some t → (s : ℕ) × (keys (lanes kin f) s ≡ Some (r.pid, Some t))
+  pub key-of-row : (kin : Kin) (t : ℕ) (r : ProcData) → process_of r.pid (all_rows (look (rows_of f) es)) ≡ Some r → chief kin r ≡ Some t → (s : ℕ) × (keys (lanes kin f) s ≡ Some (r.pid, Some t))
   key-of-row kin t r there names =
       let its = sym (find-all_rows _ (finds (rows_of f) es counts tied.slotted) r.pid) ∙ there in
       let at = some_of _ (slot_of (rows_of f) es r.pid (ap is_some its)) in
       let row = sym (look-slot (rows_of f) es r.pid at.0 at.1) ∙ its in
       (at.0, tied.chiefs kin at.0 ∙ (ap (option_map (named kin)) row ∙ ap (λ u. Some (r.pid, u)) names))
 
-  chief-of : (kin : Kin) (s : ℕ) (slot : Slot) (t : ℕ) → f s ≡ Some slot → (lane kin slot).chief ≡ Some t → chief kin slot.row ≡ Some t
+  pub chief-of : (kin : Kin) (s : ℕ) (slot : Slot) (t : ℕ) → f s ≡ Some slot → (lane kin slot).chief ≡ Some t → chief kin slot.row ≡ Some t
   chief-of kin s slot t is names =
       let key : ◌≡◌ {A = Option (ℕ × Option ℕ)} (Some (slot.row.pid, (lane kin slot).chief)) (Some (slot.row.pid, chief kin slot.row)) =
       sym (ap (option_map key_of) (ap (option_map (lane kin)) is)) ∙ (tied.chiefs kin s ∙ ap (option_map (named kin)) (ap (option_map (λ (x : Slot). x.row)) is)) in

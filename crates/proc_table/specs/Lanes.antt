@@ -1,5 +1,5 @@
 -- What the lists of each kind see of a slot, and what the table's rows see of it.
-use Rattle.std.specs.Prelude.{◌≡◌, ℕ, List, Option, Some, None, nat_eq, ◌==◌, ltb, ◌&&◌, find, if◌then◌else◌}
+use Rattle.std.specs.Prelude.{◌≡◌, ℕ, ◌<◌, Bool, true, false, List, Option, Some, None, nat_eq, ◌==◌, ltb, ◌&&◌, find, if◌then◌else◌}
 use Rattle.std.specs.Map.{lookup}
 use Rattle.std.specs.Option.{option_map, IsSomeAnd}
 use Rattle.proc_table.specs.declared.ProcData.{ProcData}
@@ -63,6 +63,15 @@ pub record IsTied (nodes : ℕ → Option Slot) (es : List (ℕ × ℕ)) (counts
 -- the first row above a number that names this one
 abbrev pub next_named : Kin → ℕ → ℕ → List ProcData → Option ProcData
 next_named kin n after processes = find (λ p. ltb after p.pid && is_this n (chief kin p)) processes
+
+-- the first row that names this one and passes a test
+abbrev pub find_named : Kin → ℕ → (ProcData → Bool) → List ProcData → Option ProcData
+find_named kin n test processes = find (λ p. is_this n (chief kin p) && test p) processes
+
+-- the slot `o` has the first row in the list of t at which a call returns true, or there is none
+abbrev pub IsFirst : (ℕ → Option Slot) → Kin → ℕ → (ProcData → Bool → Type 0) → Option ℕ → Type 0
+IsFirst nodes kin t returns None = (j : ℕ) (other : Slot) → nodes j ≡ Some other → (lane kin other).chief ≡ Some t → returns other.row false
+IsFirst nodes kin t returns (Some s) = (slot : Slot) × (nodes s ≡ Some slot) × ((lane kin slot).chief ≡ Some t) × returns slot.row true × ((j : ℕ) (other : Slot) → nodes j ≡ Some other → (lane kin other).chief ≡ Some t → other.row.pid < slot.row.pid → returns other.row false)
 
 -- a row in no list, whose own list is empty
 abbrev pub no_links : Links

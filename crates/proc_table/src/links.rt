@@ -6,7 +6,8 @@ ghost use Rattle.std.specs.Option.{option_map};
 ghost use Rattle.std.specs.Map.{lookup};
 ghost use Rattle.slab.specs.Slab.{get, slab_len, ContainsKey};
 ghost use Rattle.proc_table.specs.Links.{keys, key_of, IsNext, IsLinked, IsPlace, with_link};
-ghost use Rattle.proc_table.specs.Lanes.{links_in, put_links, other, pick, lane, lanes, rows_of, IsLaced, IsHead};
+ghost use Rattle.std.specs.Fn.{FnReturnsAt};
+ghost use Rattle.proc_table.specs.Lanes.{links_in, put_links, other, pick, lane, lanes, rows_of, IsLaced, IsHead, IsFirst};
 
 use crate::ProcData;
 use indexmap::IndexMap;
@@ -344,4 +345,31 @@ pub fn next_slot(
         }
     }
     place_before(nodes, kin, head, chief, after.saturating_add(1)).link
+}
+
+/// Returns the slot of the first row in the list of `chief` that passes the test, if any. No row is copied.
+#[inline(always)]
+pub fn first_slot<F: Fn(&ProcData) -> bool>(
+    nodes: &Slab<Slot>,
+    kin: Kin,
+    head: usize,
+    chief: u32,
+    test: F,
+) -> Option<usize>
+    requires linked { IsLinked (lanes kin (get nodes.now)) }
+    requires there { IsHead (get nodes.now) head chief }
+    requires callable { F.IsAlwaysCallable test }
+    ensures { IsFirst (get nodes.now) kin chief (FnReturnsAt F.Fn test) result }
+{
+    let mut passed = 0;
+    let mut link = links_of(kin, &nodes[head]).first;
+    while let Some(at) = link {
+        let slot = &nodes[at];
+        if test(&slot.row) {
+            return Some(at);
+        }
+        passed = slot.row.pid.get();
+        link = links_of(kin, slot).next;
+    }
+    None
 }

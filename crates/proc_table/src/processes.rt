@@ -1,15 +1,16 @@
 //! The rows of processes, each found by its number, with the lists of each process's tracees and children.
 
-ghost use Rattle.std.specs.Prelude.{◌≡◌, ℕ, ◌+◌, ◌<◌, ◌≤◌, ◌==◌, [], true, false, not, filter, map, count_by, option_map, option_copied, Some, None, IsSome, IsSomeAnd, OnOk};
+ghost use Rattle.std.specs.Prelude.{◌≡◌, ℕ, ◌+◌, ◌<◌, ◌≤◌, ◌==◌, [], Bool, true, false, not, filter, map, count_by, option_map, option_copied, Some, None, IsSome, IsSomeAnd, OnOk};
 ghost use Rattle.std.specs.List.{list_any};
 ghost use Rattle.proc_table.specs.Processes.{process_of, placed};
-ghost use Rattle.proc_table.specs.Lanes.{chief, parent_named, unlinked, next_named};
-ghost use Rattle.proc_table.specs.Walks.{next_tracee, next_child};
+ghost use Rattle.std.specs.Fn.{FnReturnsAt};
+ghost use Rattle.proc_table.specs.Lanes.{chief, parent_named, unlinked, next_named, find_named};
+ghost use Rattle.proc_table.specs.Walks.{next_tracee, next_child, find_tracee, find_child, DecidesRows};
 ghost use Rattle.proc_table.specs.Kept.{AtHome, put_process};
 
 use crate::ProcData;
 use crate::finding::slot_of;
-use crate::links::{Kin, Links, Slot, next_slot, relink_both};
+use crate::links::{Kin, Links, Slot, first_slot, next_slot, relink_both};
 use indexmap::IndexMap;
 use lwp_table::Hints;
 use pid_blocks::{Pid, Uid};
@@ -176,6 +177,34 @@ impl Processes {
     {
         let _number = pid.get();
         self.next_named(Kin::Children, pid, after)
+    }
+
+    /// Returns the first row that names this process and passes the test.
+    #[inline(always)]
+    fn find_named<F: Fn(&ProcData) -> bool>(&self, kin: Kin, pid: Pid, test: F) -> Option<ProcData>
+        requires callable { F.IsAlwaysCallable test }
+        ensures { (t : ProcData → Bool) → DecidesRows (FnReturnsAt F.Fn test) self.now.rows t → result ≡ find_named kin pid t self.now.rows }
+    {
+        let head = slot_of(&self.nodes, &self.slots, &self.hints, pid.get())?;
+        let slot = first_slot(&self.nodes, kin, head, pid.get(), test)?;
+        Some(self.nodes[slot].row)
+    }
+
+    /// Returns the first row that this process traces and that passes the test.
+    pub fn find_tracee<F: Fn(&ProcData) -> bool>(&self, pid: Pid, test: F) -> Option<ProcData>
+        requires callable { F.IsAlwaysCallable test }
+        ensures { (t : ProcData → Bool) → DecidesRows (FnReturnsAt F.Fn test) self.now.rows t → result ≡ find_tracee pid t self.now.rows }
+    {
+        self.find_named(Kin::Tracees, pid, test)
+    }
+
+    /// Returns the first row whose parent is this process and that passes the test.
+    pub fn find_child<F: Fn(&ProcData) -> bool>(&self, pid: Pid, test: F) -> Option<ProcData>
+        requires callable { F.IsAlwaysCallable test }
+        ensures { (t : ProcData → Bool) → DecidesRows (FnReturnsAt F.Fn test) self.now.rows t → result ≡ find_child pid t self.now.rows }
+    {
+        let _number = pid.get();
+        self.find_named(Kin::Children, pid, test)
     }
 
     /// Returns the number of the user's rows.

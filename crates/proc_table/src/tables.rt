@@ -1,13 +1,15 @@
 //! The tables of a host: its processes, its LWPs, and where the search for each user's next number begins.
 
-ghost use Rattle.std.specs.Prelude.{◌≡◌, ℕ, ◌+◌, ◌-◌, ◌*◌, ◌<◌, ◌≤◌, ◌^◌, ◌==◌, true, false, None, IsSome, IsSomeAnd, OnOk, IfOk, IfSome, count_by, ltb, length, get_or, map, option_map, slice_get};
+ghost use Rattle.std.specs.Prelude.{◌≡◌, ℕ, ◌+◌, ◌-◌, ◌*◌, ◌<◌, ◌≤◌, ◌^◌, ◌==◌, Bool, true, false, None, IsSome, IsSomeAnd, OnOk, IfOk, IfSome, count_by, ltb, length, get_or, map, option_map, slice_get};
 ghost use Rattle.pid_blocks.specs.Users.{IsUser};
 ghost use Rattle.pid_blocks.specs.Blocks.{slot, users, pid_block, tid_block, first_free, next_free, InBlock};
-ghost use Rattle.lwp_table.specs.Lwps.{first_lwp, lwp_of, next_lwp, put_lwp};
+ghost use Rattle.lwp_table.specs.Lwps.{first_lwp, lwp_of, next_lwp, put_lwp, ComputesRows};
 ghost use Rattle.proc_table.specs.Processes.{process_of};
 ghost use Rattle.proc_table.specs.Seen.{seen_process, seen_lwp, find_seen, owns};
-ghost use Rattle.proc_table.specs.Walks.{next_of, next_tracee, next_child};
+ghost use Rattle.std.specs.Fn.{FnReturnsAt};
+ghost use Rattle.proc_table.specs.Walks.{next_of, next_tracee, next_child, find_tracee, find_child, DecidesRows};
 ghost use Rattle.proc_table.specs.Fresh.{no_rows, fresh_pid, fresh_tid, add_process, add_lwp, process_count, lwp_count_of, lwp_count, is_process, is_lwp};
+ghost use Rattle.proc_table.specs.Edits.{map_lwps, IsLwpChange};
 ghost use Rattle.proc_table.specs.Kept.{IsKept, IsRow, AtHome, Named, put_process, set_process, set_lwp, drop_process, drop_lwp};
 
 use crate::ProcData;
@@ -259,6 +261,28 @@ impl Tables {
         self.processes.next_child(pid, after)
     }
 
+    /// Returns the first process, by rising number, that this process traces and that passes the test, if any. It
+    /// takes one look at each tracee up to that one.
+    pub fn find_tracee<F: Fn(&ProcData) -> bool>(&self, pid: Pid, test: F) -> Option<ProcData>
+        requires callable { F.IsAlwaysCallable test }
+        // the result of the definition, for any test that the closure decides on the rows
+        ensures row { (t : ProcData → Bool) → DecidesRows (FnReturnsAt F.Fn test) self.now.rows.processes t → result ≡ find_tracee pid t self.now.rows.processes }
+        ensures kept { IsKept self.now.rows }
+    {
+        self.processes.find_tracee(pid, test)
+    }
+
+    /// Returns the first process, by rising number, whose parent is this process and that passes the test, if any. It
+    /// takes one look at each child up to that one.
+    pub fn find_child<F: Fn(&ProcData) -> bool>(&self, pid: Pid, test: F) -> Option<ProcData>
+        requires callable { F.IsAlwaysCallable test }
+        // the result of the definition, for any test that the closure decides on the rows
+        ensures row { (t : ProcData → Bool) → DecidesRows (FnReturnsAt F.Fn test) self.now.rows.processes t → result ≡ find_child pid t self.now.rows.processes }
+        ensures kept { IsKept self.now.rows }
+    {
+        self.processes.find_child(pid, test)
+    }
+
     /// Returns the number of the user's processes.
     pub fn process_count(&self, uid: Uid) -> usize
         ensures count { result ≡ process_count uid self.now.rows }
@@ -400,6 +424,18 @@ impl Tables {
         ensures others { self.new.spare_processes ≡ self.old.spare_processes }
     {
         self.lwps.set(row);
+    }
+
+    /// Changes each LWP of a process in its place. An LWP keeps its number and its process. It takes one look at each.
+    pub fn edit_lwps<F: Fn(&LwpData) -> LwpData>(&mut self, pid: Pid, edit: F)
+        requires callable { F.IsAlwaysCallable edit }
+        requires change { (change : LwpData → LwpData) × IsLwpChange (FnReturnsAt F.Fn edit) self.old.rows.lwps change }
+        // the rows by the definition, for any change that the closure computes on the rows
+        ensures rows { (change : LwpData → LwpData) → ComputesRows (FnReturnsAt F.Fn edit) self.old.rows.lwps change → self.new.rows ≡ map_lwps pid change self.old.rows }
+        ensures spare { self.new.spare_lwps ≡ self.old.spare_lwps }
+        ensures others { self.new.spare_processes ≡ self.old.spare_processes }
+    {
+        self.lwps.edit_of(pid, edit);
     }
 
     /// Removes a process that no row names.

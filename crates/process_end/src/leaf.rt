@@ -64,12 +64,7 @@ fn released(lwp: &LwpData, process: &ProcData, child: Pid) -> LwpData
 pub fn release(tables: &mut Tables, process: &ProcData, child: Pid)
     ensures { tables.new.rows ≡ map_lwps process.now.pid (released (λ n. n == child) process.now) tables.old.rows }
 {
-    let pid = process.pid;
-    let mut at = tables.first_lwp(pid);
-    while let Some(lwp) = at {
-        tables.set_lwp(released(&lwp, process, child));
-        at = tables.next_lwp(pid, lwp.tid);
-    }
+    tables.edit_lwps(process.pid, |lwp| released(lwp, process, child));
 }
 
 /// Returns the parent of a process, if the parent is a process.

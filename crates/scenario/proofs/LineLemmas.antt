@@ -76,6 +76,10 @@ pub shown_whole : (style : Style) (user : Option ℕ) (answers : List Answered) 
 shown_whole style None answers = refl
 shown_whole style (Some user) answers = refl
 
+pub shown_none : (style : Style) (user : Option ℕ) (before : List ℕ) → shown_after style user before [] ≡ []
+shown_none style None before = refl
+shown_none style (Some user) before = refl
+
 first_of_one : (user : ℕ) (l : Line) (list : List Line) (b : Bool) → (l.uid == user) ≡ b → shown_lines (Some user) (l ∷ list) ≡ shown_line (Some user) l ++ shown_lines (Some user) list
 first_of_one user l list true is = rw is refl
 first_of_one user l list false is = rw is refl
@@ -85,15 +89,23 @@ first_line None l list = refl
 first_line (Some user) l list = first_of_one user l list _ refl
 
 -- after one more line, the text so far and the lines to come are still the whole text
+pub text_next : (style : Style) (user : Option ℕ) (a : Answered) (rest : List Answered) (before : List ℕ) (number : ℕ) (old new all : List ℕ)
+    → number ≡ replies_to a.uid before + 1 → new ≡ old ++ shown_line user (line style number a)
+    → old ++ shown_after style user before (a ∷ rest) ≡ all → new ++ shown_after style user (a.uid ∷ before) rest ≡ all
+text_next style user a rest before number old new all number_is new_is whole =
+    let later = lines_after style (a.uid ∷ before) rest in
+    ap (λ xs. xs ++ shown_lines user later) new_is ∙ append_assoc old (shown_line user (line style number a)) (shown_lines user later)
+    ∙ ap (λ n. old ++ (shown_line user (line style n a) ++ shown_lines user later)) number_is
+    ∙ ap (λ xs. old ++ xs) (sym (first_line user (line style (replies_to a.uid before + 1) a) later)) ∙ whole
+
+-- the same of the reply at a place in a list
 pub text_more : (style : Style) (user : Option ℕ) (es : List (ℕ × Reply)) (i : ℕ) (e : ℕ × Reply) (before : List ℕ) (number : ℕ) (old new all : List ℕ) → i < length es → get_or es i e ≡ e
     → number ≡ replies_to e.0 before + 1 → new ≡ old ++ shown_line user (line style number (answered e))
     → old ++ shown_after style user before (map answered (drop i es)) ≡ all
     → new ++ shown_after style user (e.0 ∷ before) (map answered (drop (i + 1) es)) ≡ all
 text_more style user es i e before number old new all h here number_is new_is whole =
-    let rest = lines_after style (e.0 ∷ before) (map answered (drop (i + 1) es)) in
-    let next : shown_after style user before (map answered (drop i es)) ≡ shown_line user (line style (replies_to e.0 before + 1) (answered e)) ++ shown_lines user rest =
+    let rest = map answered (drop (i + 1) es) in
+    let next : shown_after style user before (map answered (drop i es)) ≡ shown_after style user before (answered e ∷ rest) =
     at_drop_more (λ xs. shown_after style user before (map answered xs)) es i e h
-    ∙ ap (λ (x : ℕ × Reply). shown_after style user before (answered x ∷ map answered (drop (i + 1) es))) here
-    ∙ first_line user (line style (replies_to e.0 before + 1) (answered e)) rest in
-    ap (λ xs. xs ++ shown_lines user rest) new_is ∙ append_assoc old (shown_line user (line style number (answered e))) (shown_lines user rest)
-    ∙ ap (λ n. old ++ (shown_line user (line style n (answered e)) ++ shown_lines user rest)) number_is ∙ ap (λ xs. old ++ xs) (sym next) ∙ whole
+    ∙ ap (λ (x : ℕ × Reply). shown_after style user before (answered x ∷ rest)) here in
+    text_next style user (answered e) rest before number old new all number_is new_is (ap (λ xs. old ++ xs) (sym next) ∙ whole)

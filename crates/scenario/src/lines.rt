@@ -63,7 +63,7 @@ pub fn push_line(
 }
 
 /// Adds the line of a reply, if the options show it.
-fn push_shown(
+pub fn push_shown(
     alloc: Global,
     options: &RunOptions,
     text: &mut String,

@@ -1,5 +1,5 @@
 //! Runs a scenario and writes its lines.
-ghost use Rattle.std.specs.Prelude.{◌≡◌, ◌≢◌, ◌⊎◌, ◌↔◌, IsErrOf, map, IfOk, IfErr};
+ghost use Rattle.std.specs.Prelude.{◌≡◌, ◌≢◌, ◌⊎◌, ◌↔◌, IsErrOf, map, string_bytes, IfOk, IfErr};
 ghost use Rattle.std.specs.Vec.Iter.{into_iter_items};
 ghost use Rattle.scenario_text.specs.Plan.{policies_in};
 ghost use Rattle.scenario.specs.Binding.{IsAnswered};
@@ -8,12 +8,12 @@ ghost use Rattle.scenario.specs.Faults.{run_fault_status};
 ghost use Rattle.scenario.specs.declared.running.RunFault.TheVariants.{Mismatch, Memory, Start, Write as WriteFault};
 
 use crate::binding::{bound_step, obey};
-use crate::lines::render;
+use crate::lines::{count_reply, push_shown, render};
 use crate::retrying::write_some;
 use crate::style::Style;
 use pid_blocks::Uid;
 use requests::{Host, Reply};
-use scenario_text::{Scenario, StepShape};
+use scenario_text::{Scenario, StepShape, USERS};
 use std::alloc::{AllocError, AllocFailed, Global};
 use std::io::Write;
 use std::vec::IntoIter;
@@ -82,20 +82,23 @@ fn reply_of<F: Decider + Send + Drop>(
     Some(host.step(alloc, user, step))
 }
 
-/// Makes the scenario's steps in order on a new host, and returns the replies. A reply ENOMEM ends the run.
-fn replies_of<F: Decider + Send + Drop>(
+/// Makes the scenario's steps in order on a new host, and returns the lines of the replies that the options show. A
+/// reply ENOMEM ends the run.
+fn text_of<F: Decider + Send + Drop>(
     alloc: Global,
     scenario: &Scenario,
     handlers: Vec<Handler<F>>,
-) -> Result<Vec<(Uid, Reply)>, RunFault>
+    options: &RunOptions,
+) -> Result<String, RunFault>
     requires { handlers.items ≡ policies_in scenario.now.steps }
-    ensures ok { IfOk result (λ v. map answered v.items ≡ answers_of scenario.now) }
+    ensures ok { IfOk result (λ s. string_bytes s ≡ shown options.now.style options.now.user (answers_of scenario.now)) }
     ensures err { IfErr result (λ e. e ≡ Memory) }
 {
     let shapes = scenario.shapes();
-    let mut pairs = Vec::with_capacity(alloc, shapes.len())?;
     let mut host = Host::new(alloc, scenario.settings())?;
     let mut rest = handlers.into_iter();
+    let mut text = String::new(alloc);
+    let mut made = [0u64; USERS];
     for shape in shapes {
         let Some(reply) = reply_of(alloc, &mut host, shape.0, &shape.1, &mut rest) else {
             unreachable!()
@@ -103,9 +106,10 @@ fn replies_of<F: Decider + Send + Drop>(
         if reply.is_memory() {
             return Err(RunFault::Memory);
         }
-        pairs.push_reserved((shape.0, reply));
+        let number = count_reply(&mut made, shape.0);
+        push_shown(alloc, options, &mut text, shape.0, number, &reply)?;
     }
-    Ok(pairs)
+    Ok(text)
 }
 
 /// Writes all the bytes, or a front of them where the writer fails.
@@ -170,6 +174,6 @@ pub fn run<F: Decider + Send + Drop, W: Write>(
     if !obey(handlers.as_slice(), scenario.policies()) {
         return Err(RunFault::Mismatch);
     }
-    let replies = replies_of(alloc, scenario, handlers)?;
-    write_lines(alloc, replies.as_slice(), options, writer)
+    let lines = text_of(alloc, scenario, handlers, &options)?;
+    write_whole(writer, lines.as_bytes())
 }

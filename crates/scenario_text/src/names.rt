@@ -1,4 +1,4 @@
-//! The names of a scenario.
+//! The names of a scenario. Written by `tools/format` from format/scenario.toml.
 ghost use Rattle.std.specs.Prelude.{◌≡◌};
 ghost use Rattle.scenario_text.specs.Names.{op_named, request_named, option_named, disposition_named, act_named, call_named, decision_named};
 
@@ -45,20 +45,20 @@ pub(crate) fn request_named(text: &str) -> Option<Request>
         "PT_ATTACH" => Some(Request::Attach),
         "PT_CONTINUE" => Some(Request::Continue),
         "PT_STEP" => Some(Request::Step),
-        "PT_SUSPEND" => Some(Request::Suspend),
-        "PT_RESUME" => Some(Request::Resume),
-        "PT_DETACH" => Some(Request::Detach),
-        "PT_KILL" => Some(Request::Kill),
-        "PT_SET_EVENT_MASK" => Some(Request::SetEventMask),
-        "PT_GET_EVENT_MASK" => Some(Request::GetEventMask),
-        "PT_LWPINFO" => Some(Request::LwpInfo),
-        "PT_GETNUMLWPS" => Some(Request::GetNumLwps),
-        "PT_GETLWPLIST" => Some(Request::GetLwpList),
         "PT_TO_SCE" => Some(Request::ToSce),
         "PT_TO_SCX" => Some(Request::ToScx),
         "PT_SYSCALL" => Some(Request::Syscall),
+        "PT_DETACH" => Some(Request::Detach),
+        "PT_KILL" => Some(Request::Kill),
+        "PT_SUSPEND" => Some(Request::Suspend),
+        "PT_RESUME" => Some(Request::Resume),
+        "PT_SET_EVENT_MASK" => Some(Request::SetEventMask),
+        "PT_GET_EVENT_MASK" => Some(Request::GetEventMask),
         "PT_FOLLOW_FORK" => Some(Request::FollowFork),
         "PT_LWP_EVENTS" => Some(Request::LwpEvents),
+        "PT_LWPINFO" => Some(Request::LwpInfo),
+        "PT_GETNUMLWPS" => Some(Request::GetNumLwps),
+        "PT_GETLWPLIST" => Some(Request::GetLwpList),
         _ => None,
     }
 }
@@ -97,10 +97,10 @@ pub(crate) fn disposition_named(text: &str) -> Option<Disposition>
 #[derive(Clone, Copy)]
 pub(crate) enum ActKind {
     Compute,
-    Leave,
     Raise,
     Block,
     Enter,
+    Leave,
 }
 
 pub(crate) fn act_named(text: &str) -> Option<ActKind>
@@ -108,10 +108,10 @@ pub(crate) fn act_named(text: &str) -> Option<ActKind>
 {
     match text {
         "compute" => Some(ActKind::Compute),
-        "leave" => Some(ActKind::Leave),
         "raise" => Some(ActKind::Raise),
         "block" => Some(ActKind::Block),
         "enter" => Some(ActKind::Enter),
+        "leave" => Some(ActKind::Leave),
         _ => None,
     }
 }
@@ -121,10 +121,10 @@ pub(crate) fn act_named(text: &str) -> Option<ActKind>
 pub(crate) enum CallKind {
     Exit,
     Fork,
-    Exec,
     Vfork,
-    ThrExit,
+    Exec,
     ThrNew,
+    ThrExit,
     Other,
 }
 
@@ -134,10 +134,10 @@ pub(crate) fn call_named(text: &str) -> Option<CallKind>
     match text {
         "exit" => Some(CallKind::Exit),
         "fork" => Some(CallKind::Fork),
-        "exec" => Some(CallKind::Exec),
         "vfork" => Some(CallKind::Vfork),
-        "thr_exit" => Some(CallKind::ThrExit),
+        "exec" => Some(CallKind::Exec),
         "thr_new" => Some(CallKind::ThrNew),
+        "thr_exit" => Some(CallKind::ThrExit),
         "other" => Some(CallKind::Other),
         _ => None,
     }

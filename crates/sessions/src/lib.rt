@@ -2,6 +2,7 @@
 #![tactic(auto)]
 
 mod job;
+pub mod laws;
 mod ready;
 mod run;
 mod script;

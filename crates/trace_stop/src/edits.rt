@@ -75,9 +75,5 @@ impl Edit {
 pub fn edit_lwps(tables: &mut Tables, pid: Pid, edit: &Edit)
     ensures { tables.new.rows ≡ map_lwps pid (edited edit.now) tables.old.rows }
 {
-    let mut at = tables.first_lwp(pid);
-    while let Some(l) = at {
-        tables.set_lwp(edit.of(&l));
-        at = tables.next_lwp(pid, l.tid);
-    }
+    tables.edit_lwps(pid, |l| edit.of(l));
 }

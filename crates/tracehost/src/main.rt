@@ -10,6 +10,9 @@
 //! it does so without being asked.
 #![tactic(auto)]
 
+ghost use Rattle.std.specs.Prelude.{◌≡◌};
+ghost use Rattle.tracehost.specs.Options.{line_style, run_options};
+
 mod expecting;
 mod explaining;
 
@@ -32,7 +35,7 @@ use threaded_runs::run_threads;
 use trace_stop::Settings;
 
 /// The version of the program and of all that comes with it.
-const VERSION: &str = "0.2.0";
+const VERSION: &str = "0.3.0";
 
 /// Why the program ends with another status than 0.
 #[derive(Drop)]
@@ -100,7 +103,9 @@ impl From<ServeFault> for Trouble {
 }
 
 /// The style of the lines.
-fn style_of(style: command_line::Style) -> Style {
+fn style_of(style: command_line::Style) -> Style
+    ensures { result ≡ line_style style }
+{
     match style {
         command_line::Style::Words => Style::Words,
         command_line::Style::Json => Style::Json,
@@ -108,7 +113,9 @@ fn style_of(style: command_line::Style) -> Style {
 }
 
 /// The settings of a host whose debuggers' ends kill or detach what they trace.
-fn settings_of(kills_on_exit: bool) -> Settings {
+fn settings_of(kills_on_exit: bool) -> Settings
+    ensures { result ≡ record { kill_on_debugger_exit = kills_on_exit } }
+{
     if kills_on_exit {
         Settings::standard()
     } else {
@@ -117,7 +124,9 @@ fn settings_of(kills_on_exit: bool) -> Settings {
 }
 
 /// The options of a run by what is shown of it.
-fn options_of(shown: &Shown) -> RunOptions {
+fn options_of(shown: &Shown) -> RunOptions
+    ensures { result ≡ run_options shown.now }
+{
     RunOptions {
         user: shown.user,
         style: style_of(shown.style),

@@ -1,7 +1,8 @@
 //! What the calls have in common.
-ghost use Rattle.std.specs.Prelude.{◌≡◌, ◌≢◌, ◌≤◌};
+ghost use Rattle.std.specs.Prelude.{ℕ, ◌≡◌, ◌≢◌, ◌≤◌, None, Some};
 ghost use Rattle.open_sessions.specs.Answers.{last_numbers};
 ghost use Rattle.open_sessions.specs.Calls.{Answers, FullFor, last_text};
+ghost use Rattle.flat_forms.specs.declared.replies.FlatReply.{FlatReply as Flat};
 ghost use Rattle.tracehost_c.specs.Calls.{style_of, Shows, StepOf, TypedCall};
 
 use crate::handle::Tracehost;
@@ -105,15 +106,15 @@ fn make_step(
     alloc: Global,
     session: &mut Session,
     user: Uid,
-    step: PlainStep,
+    step: &PlainStep,
     reply: &mut FlatReply,
 ) -> u32
-    ensures { StepOf user step session.old session.new reply.old reply.new result }
+    ensures { StepOf user step.now session.old session.new reply.old reply.new result }
 {
     match session.step(alloc, user, step) {
         Ok(()) => {
             if let Some(answer) = session.reply() {
-                *reply = FlatReply::of(answer);
+                reply.set(answer);
             }
             ANSWERED
         }
@@ -121,23 +122,27 @@ fn make_step(
     }
 }
 
-/// Makes a step of the user with this number, if there is such a step.
+/// Returns the code of a call whose numbers are those of no step.
+pub(crate) fn refused(handle: &Tracehost) -> u32
+    ensures { (user : ℕ) (reply : Flat) → TypedCall user None handle.now.held.session handle.now.held.session reply reply result }
+{
+    if handle.is_open() { INVALID } else { NOT_OPEN }
+}
+
+/// Makes a step of the user with this number, if there is such a user.
 pub(crate) fn make(
     alloc: Global,
     handle: &mut Tracehost,
     user: u32,
-    step: Option<PlainStep>,
+    step: &PlainStep,
     reply: &mut FlatReply,
 ) -> u32
-    ensures { TypedCall user step handle.old.held.session handle.new.held.session reply.old reply.new result }
+    ensures { TypedCall user (Some step.now) handle.old.held.session handle.new.held.session reply.old reply.new result }
 {
     if !handle.is_open() {
         return NOT_OPEN;
     }
     let Ok(user) = Uid::new(user) else {
-        return INVALID;
-    };
-    let Some(step) = step else {
         return INVALID;
     };
     let taken = std::mem::replace(handle, Tracehost::closed(alloc));

@@ -13,7 +13,9 @@ mod calls;
 pub mod handle;
 mod views;
 
-use calls::{ANSWERED, INVALID, NO_MEMORY, NOT_OPEN, make, put_line, put_numbers, put_text};
+use calls::{
+    ANSWERED, INVALID, NO_MEMORY, NOT_OPEN, make, put_line, put_numbers, put_text, refused,
+};
 use flat_forms::{
     FlatLwp, FlatProcess, FlatReply, FlatRule, act_of, disposition_of, options_of, policy_of,
     request_of,
@@ -197,7 +199,7 @@ pub extern "C" fn tracehost_spawn(
 ) -> u32
     ensures { TypedCall user (Some op.Spawn) handle.old.held.session handle.new.held.session reply.old reply.new result }
 {
-    make(alloc, handle, user, Some(Step::Spawn), reply)
+    make(alloc, handle, user, &Step::Spawn, reply)
 }
 
 /// Lists the user's processes for the process `caller`.
@@ -211,7 +213,7 @@ pub extern "C" fn tracehost_list(
 ) -> u32
     ensures { TypedCall user (Some (op.List caller)) handle.old.held.session handle.new.held.session reply.old reply.new result }
 {
-    make(alloc, handle, user, Some(Step::list(caller)), reply)
+    make(alloc, handle, user, &Step::list(caller), reply)
 }
 
 /// sigaction(2) by the process `caller`.
@@ -228,11 +230,16 @@ pub extern "C" fn tracehost_sigaction(
     ensures { TypedCall user (option_map (λ d. op.Sigaction caller signal d) (disposition_numbered disposition))
         handle.old.held.session handle.new.held.session reply.old reply.new result }
 {
-    let step = match disposition_of(disposition) {
-        Some(disposition) => Some(Step::sigaction(caller, signal, disposition)),
-        None => None,
-    };
-    make(alloc, handle, user, step, reply)
+    match disposition_of(disposition) {
+        Some(disposition) => make(
+            alloc,
+            handle,
+            user,
+            &Step::sigaction(caller, signal, disposition),
+            reply,
+        ),
+        None => refused(handle),
+    }
 }
 
 /// kill(2) by the process `caller`.
@@ -248,17 +255,12 @@ pub extern "C" fn tracehost_kill(
 ) -> u32
     ensures { TypedCall user (Some (op.Kill caller which signal)) handle.old.held.session handle.new.held.session reply.old reply.new result }
 {
-    make(
-        alloc,
-        handle,
-        user,
-        Some(Step::Kill {
-            caller,
-            which,
-            sig: signal,
-        }),
-        reply,
-    )
+    let step = Step::Kill {
+        caller,
+        which,
+        sig: signal,
+    };
+    make(alloc, handle, user, &step, reply)
 }
 
 /// wait4(2) by the process `caller`, as with WNOHANG.
@@ -275,15 +277,17 @@ pub extern "C" fn tracehost_wait4(
     ensures { TypedCall user (option_map (λ o. op.Wait4 caller which o) (options_numbered options))
         handle.old.held.session handle.new.held.session reply.old reply.new result }
 {
-    let step = match options_of(options) {
-        Some(options) => Some(Step::Wait4 {
-            caller,
-            which,
-            options,
-        }),
-        None => None,
-    };
-    make(alloc, handle, user, step, reply)
+    match options_of(options) {
+        Some(options) => {
+            let step = Step::Wait4 {
+                caller,
+                which,
+                options,
+            };
+            make(alloc, handle, user, &step, reply)
+        }
+        None => refused(handle),
+    }
 }
 
 /// Installs a stop handler of the process `caller` that decides by these rules, at most 16.
@@ -299,11 +303,10 @@ pub extern "C" fn tracehost_install(
     ensures { TypedCall user (option_map (λ p. op.Install caller p) (policy_numbered rules.now))
         handle.old.held.session handle.new.held.session reply.old reply.new result }
 {
-    let step = match policy_of(rules) {
-        Some(policy) => Some(Step::install(caller, policy)),
-        None => None,
-    };
-    make(alloc, handle, user, step, reply)
+    match policy_of(rules) {
+        Some(policy) => make(alloc, handle, user, &Step::install(caller, policy), reply),
+        None => refused(handle),
+    }
 }
 
 /// Waits for any child of the process `caller`. A trace stop goes to its handlers.
@@ -317,7 +320,7 @@ pub extern "C" fn tracehost_handle(
 ) -> u32
     ensures { TypedCall user (Some (op.Handle caller)) handle.old.held.session handle.new.held.session reply.old reply.new result }
 {
-    make(alloc, handle, user, Some(Step::handle(caller)), reply)
+    make(alloc, handle, user, &Step::handle(caller), reply)
 }
 
 /// ptrace(2) by the process `caller`.
@@ -335,11 +338,16 @@ pub extern "C" fn tracehost_ptrace(
     ensures { TypedCall user (option_map (λ r. op.Ptrace caller r target «data») (request_numbered request))
         handle.old.held.session handle.new.held.session reply.old reply.new result }
 {
-    let step = match request_of(request) {
-        Some(request) => Some(Step::ptrace(caller, request, target, data)),
-        None => None,
-    };
-    make(alloc, handle, user, step, reply)
+    match request_of(request) {
+        Some(request) => make(
+            alloc,
+            handle,
+            user,
+            &Step::ptrace(caller, request, target, data),
+            reply,
+        ),
+        None => refused(handle),
+    }
 }
 
 /// The turn of an LWP: its act by its number, and the system call and the argument of the act.
@@ -357,11 +365,10 @@ pub extern "C" fn tracehost_turn(
     ensures { TypedCall user (option_map (λ a. op.Turn lwp a) (act_numbered act call argument))
         handle.old.held.session handle.new.held.session reply.old reply.new result }
 {
-    let step = match act_of(act, call, argument) {
-        Some(act) => Some(Step::turn(lwp, act)),
-        None => None,
-    };
-    make(alloc, handle, user, step, reply)
+    match act_of(act, call, argument) {
+        Some(act) => make(alloc, handle, user, &Step::turn(lwp, act), reply),
+        None => refused(handle),
+    }
 }
 
 /// Writes what the user sees: the rows of the processes over the front of `processes`, and those of their LWPs over the

@@ -2,8 +2,9 @@
 
 ghost use Rattle.std.specs.Prelude.{◌≡◌, ◌≢◌, map, IfOk, OnErr};
 ghost use Rattle.requests.specs.View.{view};
-ghost use Rattle.requests.specs.Isolation.{Ran, AlikeSteps};
+ghost use Rattle.requests.specs.Isolation.{Ran, Users, AlikeSteps};
 ghost use Rattle.visibility.specs.Runs.{asked, told, Did, BothTold, Wanting, Agree};
+ghost use Rattle.visibility.specs.ForeignLists.{AgreeAlike};
 
 use crate::runs::run_into;
 use pid_blocks::Uid;
@@ -75,6 +76,30 @@ pub fn foreign_number<F: Decider + Send + Drop>(
     (reply, answer)
 }
 
+/// Makes two lists of steps of all users in two hosts. All room for replies is allocated before either host changes: an
+/// error means out of memory, and changes nothing.
+fn both_lists<F: Decider + Send + Drop>(
+    alloc: Global,
+    first: &mut Host<F>,
+    second: &mut Host<F>,
+    steps: Vec<(Uid, Step<Handler<F>>)>,
+    others: Vec<(Uid, Step<Handler<F>>)>,
+) -> Result<(Vec<Reply>, Vec<Reply>), AllocError>
+    ensures first { IfOk result (λ r. Ran (map asked steps.items) (map told r.0.items) first.old first.new) }
+    ensures second { IfOk result (λ r. Ran (map asked others.items) (map told r.1.items) second.old second.new) }
+    ensures first_wanting { IfOk result (λ r. Wanting (map asked steps.items) (map told r.0.items) first.old) }
+    ensures second_wanting { IfOk result (λ r. Wanting (map asked others.items) (map told r.1.items) second.old) }
+    ensures users { IfOk result (λ r. Users (map asked steps.items) × Users (map asked others.items)) }
+    ensures first_refused { OnErr result (first.new ≡ first.old) }
+    ensures second_refused { OnErr result (second.new ≡ second.old) }
+{
+    let replies = Vec::with_capacity(alloc, steps.len())?;
+    let answers = Vec::with_capacity(alloc, others.len())?;
+    let told = run_into(alloc, first, steps, replies);
+    let said = run_into(alloc, second, others, answers);
+    Ok((told, said))
+}
+
 /// Makes two lists of steps of all users in two hosts of which a user sees the same. If the answered steps of that user
 /// are the same in both, so are the user's replies, and what the user sees of both hosts afterwards. All room for
 /// replies is allocated before either host changes: an error means out of memory, and changes nothing.
@@ -98,9 +123,33 @@ pub fn two_lists<F: Decider + Send + Drop>(
     let _number = user.get();
     first.kept();
     second.kept();
-    let replies = Vec::with_capacity(alloc, steps.len())?;
-    let answers = Vec::with_capacity(alloc, others.len())?;
-    let told = run_into(alloc, first, steps, replies);
-    let said = run_into(alloc, second, others, answers);
+    let (told, said) = both_lists(alloc, first, second, steps, others)?;
+    Ok((told, said))
+}
+
+/// Makes two lists of steps of all users in two hosts of which a user sees the same. If the answered steps of that user
+/// differ only in numbers that the user doesn't see where they are used, the user's replies are the same, and so is what
+/// the user sees of both hosts afterwards. An error means out of memory, and changes nothing.
+pub fn foreign_numbers<F: Decider + Send + Drop>(
+    alloc: Global,
+    first: &mut Host<F>,
+    second: &mut Host<F>,
+    user: Uid,
+    steps: Vec<(Uid, Step<Handler<F>>)>,
+    others: Vec<(Uid, Step<Handler<F>>)>,
+) -> Result<(Vec<Reply>, Vec<Reply>), AllocError>
+    requires seen { view user first.old ≡ view user second.old }
+    ensures first { IfOk result (λ r. Ran (map asked steps.items) (map told r.0.items) first.old first.new) }
+    ensures second { IfOk result (λ r. Ran (map asked others.items) (map told r.1.items) second.old second.new) }
+    ensures first_wanting { IfOk result (λ r. Wanting (map asked steps.items) (map told r.0.items) first.old) }
+    ensures second_wanting { IfOk result (λ r. Wanting (map asked others.items) (map told r.1.items) second.old) }
+    ensures equal { IfOk result (λ r. AgreeAlike user first.old (map asked steps.items) (map asked others.items) (map told r.0.items) (map told r.1.items) first.new second.new) }
+    ensures first_refused { OnErr result (first.new ≡ first.old) }
+    ensures second_refused { OnErr result (second.new ≡ second.old) }
+{
+    let _number = user.get();
+    first.kept();
+    second.kept();
+    let (told, said) = both_lists(alloc, first, second, steps, others)?;
     Ok((told, said))
 }

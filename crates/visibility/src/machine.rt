@@ -2,6 +2,7 @@
 //! of steps.
 
 ghost use Rattle.visibility.specs.WorkedRuns.{ForkIsFollowed};
+ghost use Rattle.visibility.specs.ForeignLists.{ForeignNumbers, SameIsAlike, SeenByView};
 ghost use Rattle.requests.specs.Isolation.{Alone, OneStep, OtherStep, OwnRun, TwoLists, KeepsApart, ForeignNumber, AloneApart, EmptyApart, OwnList, SoundApart, RunsArePrivate, TwoRuns};
 
 /// A run checked by computation: a debugger follows a fork.
@@ -46,6 +47,21 @@ pub fn own_list()
 /// the same.
 pub fn foreign_number()
     ensures { ForeignNumber }
+{}
+
+/// Two lists of all users' steps, from hosts of which a user sees the same. The user's own steps differ only in numbers
+/// that the user doesn't see at the places where they are used. Then the user's replies are the same, and so is the
+/// user's view afterwards.
+/// Equal lists of steps differ in no number, so this contains `two_lists`.
+pub fn foreign_numbers()
+    ensures numbers { ForeignNumbers }
+    ensures same { SameIsAlike }
+{}
+
+/// Which processes and LWPs a number names for a user depends only on what the user sees: a number that the user doesn't
+/// see in a host is one that the user doesn't see in the host without the others.
+pub fn seen_by_view()
+    ensures { SeenByView }
 {}
 
 /// Each step keeps users separate.

@@ -9,7 +9,8 @@ use Rattle.wait4.specs.declared.Options.{Options}
 use Rattle.wait4.specs.declared.collecting.Kin.TheVariants.{Tracer, Parent}
 use Rattle.wait4.specs.Collect.{is_child, fits, names_as, reportable, lesser, candidates, reported}
 use Rattle.wait4.specs.Laws.{ReportedLeast}
-use Rattle.wait4.proofs.Search.{to_come-first, find-filter, find-lesser, only_numbered}
+use Rattle.proc_table.proofs.Firsts.{find-above_zero}
+use Rattle.wait4.proofs.Search.{find-filter, find-lesser, only_numbered}
 
 same_find : (s t : ProcData → Bool) → ((p : ProcData) → s p ≡ t p) → (ps : List ProcData) → find s ps ≡ find t ps
 same_find s t h ps = ap (λ f. find f ps) (fun_ext h)
@@ -64,5 +65,5 @@ reported-has P caller which options rows p all is = (find_some (reportable optio
 pub reported-least : ReportedLeast
 reported-least rows caller which options s =
     subst (LeastOrNone (λ p. (is_child caller p && fits which p) && reportable options caller p) 0 rows.processes)
-    (to_come-first (λ p. is_child caller p && fits which p) (reportable options caller) rows.processes s.stands.homes ∙ sym (find-filter (λ p. is_child caller p && fits which p) (reportable options caller) rows.processes))
+    (find-above_zero (λ p. (is_child caller p && fits which p) && reportable options caller p) rows.processes s.stands.homes ∙ sym (find-filter (λ p. is_child caller p && fits which p) (reportable options caller) rows.processes))
     (least_or_none (λ p. (is_child caller p && fits which p) && reportable options caller p) 0 rows.processes s.stands.rising)

@@ -58,14 +58,14 @@ fn status_of(p: &ProcData) -> Status
     }
 }
 
-/// Returns the first process above a number that names the caller in this way: as its tracer, or as its parent.
-fn next_of_kin(tables: &Tables, kin: Kin, caller: Pid, after: u32) -> Option<ProcData>
-    ensures row { result ≡ find (λ p. ltb after p.pid && names_as kin caller p) tables.now.rows.processes }
+/// Returns the first process that names the caller in this way, as its tracer or as its parent, if any.
+fn first_of_kin(tables: &Tables, kin: Kin, caller: Pid) -> Option<ProcData>
+    ensures row { result ≡ find (λ p. ltb 0 p.pid && names_as kin caller p) tables.now.rows.processes }
     ensures kept { IsKept tables.now.rows }
 {
     match kin {
-        Kin::Tracer => tables.next_tracee(caller, after),
-        Kin::Parent => tables.next_child(caller, after),
+        Kin::Tracer => tables.next_tracee(caller, 0),
+        Kin::Parent => tables.next_child(caller, 0),
     }
 }
 
@@ -74,15 +74,10 @@ fn first_report(tables: &Tables, kin: Kin, caller: Pid, options: Options) -> Opt
     ensures row { result ≡ find (λ p. names_as kin caller p && reportable options caller p) tables.now.rows.processes }
     ensures kept { IsKept tables.now.rows }
 {
-    tables.kept();
-    let mut after = 0;
-    while let Some(p) = next_of_kin(tables, kin, caller, after) {
-        if reportable(options, caller, &p) {
-            return Some(p);
-        }
-        after = p.pid.get();
+    match kin {
+        Kin::Tracer => tables.find_tracee(caller, |p| reportable(options, caller, p)),
+        Kin::Parent => tables.find_child(caller, |p| reportable(options, caller, p)),
     }
-    None
 }
 
 /// Returns the process with the lesser number if there are two, and else the one that there is, if any.
@@ -132,8 +127,8 @@ fn has_child(tables: &Tables, caller: Pid, which: i64) -> bool
     ensures { result ≡ list_any (λ p. is_child caller p && fits which p) tables.now.rows.processes }
 {
     if which < 0 {
-        return next_of_kin(tables, Kin::Tracer, caller, 0).is_some()
-            || next_of_kin(tables, Kin::Parent, caller, 0).is_some();
+        return first_of_kin(tables, Kin::Tracer, caller).is_some()
+            || first_of_kin(tables, Kin::Parent, caller).is_some();
     }
     match numbered(tables, which) {
         Some(p) => is_child(caller, &p),

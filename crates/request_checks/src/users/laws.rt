@@ -15,7 +15,7 @@ use std::test::Fail;
 use stop_handlers::{ByPolicy, Handler};
 use test_kit::{Row, Trouble, check_replies, lines_of, rows_of, steps_in};
 use trace_stop::Settings;
-use visibility::laws::{foreign_number, one_step, other_step, two_lists};
+use visibility::laws::{foreign_number, foreign_numbers, one_step, other_step, two_lists};
 
 /// Creates an unused host.
 fn unused(alloc: Global) -> Result<Host<ByPolicy>, AllocError>
@@ -140,5 +140,68 @@ fn two_lists_in_which_a_user_asks_the_same(rt: HostRuntime) -> Result<(), Fail> 
     let (first, both) = both_lists_from_nothing(alloc, own.as_slice(), all.as_slice())?;
     check_replies(alloc, own.as_slice(), first.as_slice())?;
     check_replies(alloc, all.as_slice(), both.as_slice())?;
+    Ok(())
+}
+
+/// Returns the replies to two lists of steps of both users, each on a host of its own.
+fn alike_lists(
+    alloc: Global,
+    one: &mut Host<ByPolicy>,
+    other: &mut Host<ByPolicy>,
+    foreign: &[Row<'_>],
+    unused: &[Row<'_>],
+) -> Result<(Vec<Reply>, Vec<Reply>), Trouble>
+    requires { other.old ≡ one.old }
+{
+    let user = Uid::new(1001)?;
+    let steps = steps_in(alloc, foreign, None)?;
+    let alike = steps_in(alloc, unused, None)?;
+    Ok(foreign_numbers(alloc, one, other, user, steps, alike)?)
+}
+
+/// Does the same on unused hosts.
+fn alike_lists_from_nothing(
+    alloc: Global,
+    foreign: &[Row<'_>],
+    others: &[Row<'_>],
+) -> Result<(Vec<Reply>, Vec<Reply>), Trouble> {
+    let mut one = unused(alloc)?;
+    let mut other = unused(alloc)?;
+    alike_lists(alloc, &mut one, &mut other, foreign, others)
+}
+
+/// The first user names the second one's process and LWP.
+const FOREIGN: &str = "
+spawn -> new 1000 100000
+1002 spawn -> new 2000 104000
+ptrace 1000 PT_ATTACH 2000 -> error ESRCH 3
+turn 104000 compute -> error ESRCH 3
+wait4 1000 2000 -> error ECHILD 10
+kill 1000 2000 9 -> error ESRCH 3
+1002 list 2000 -> pids 2000
+list 2000 -> error ESRCH 3
+list 1000 -> pids 1000
+";
+
+/// The first user names unused numbers in their place.
+const UNUSED: &str = "
+spawn -> new 1000 100000
+ptrace 1000 PT_ATTACH 1500 -> error ESRCH 3
+turn 100007 compute -> error ESRCH 3
+wait4 1000 1500 -> error ECHILD 10
+1002 ptrace 2000 PT_ATTACH 1000 -> error ESRCH 3
+kill 1000 1500 9 -> error ESRCH 3
+list 1500 -> error ESRCH 3
+list 1000 -> pids 1000
+";
+
+#[test]
+fn two_lists_that_differ_in_foreign_numbers(rt: HostRuntime) -> Result<(), Fail> {
+    let alloc = rt.alloc();
+    let foreign = rows_of(alloc, FOREIGN)?;
+    let unused = rows_of(alloc, UNUSED)?;
+    let (named, unnamed) = alike_lists_from_nothing(alloc, foreign.as_slice(), unused.as_slice())?;
+    check_replies(alloc, foreign.as_slice(), named.as_slice())?;
+    check_replies(alloc, unused.as_slice(), unnamed.as_slice())?;
     Ok(())
 }

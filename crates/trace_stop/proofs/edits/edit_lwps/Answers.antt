@@ -1,6 +1,5 @@
-use Rattle.std.proofs.Common.{◌≡◌, ap, ◌∙◌, refl, rules}
-use Rattle.trace_stop.proofs.Words.{LwpData, set_lwp, edited}
-use Rattle.proc_table.proofs.LwpWalk.{walking-first, walking-next, walking-less, walking-after}
+use Rattle.std.proofs.Common.{◌≡◌, refl, rules}
+use Rattle.trace_stop.proofs.Words.{LwpData, edited}
 use Rattle.trace_stop.specs.declared.edits.Edit.{Edit}
 use Rattle.trace_stop.specs.declared.edits.Edit.TheVariants.{Settle, Post, ClearStepping, Detach}
 use Rattle.trace_stop.proofs.edits.edit_lwps.Goals as goal
@@ -17,23 +16,15 @@ owns (Post s to lost) l = refl
 owns ClearStepping l = refl
 owns (Detach lost unwanted) l = refl
 
-pub loop-at-init : goal.loop-at-init
-loop-at-init c = search (rules, walking-first, keeps)
+pub edit_lwps-requires-clause-change : goal.edit_lwps-requires-clause-change
+edit_lwps-requires-clause-change c = (
+  edited c.args.edit.now,
+  record {
+    computes = λ l k there returned. search rules;
+    number = keeps c.args.edit.now;
+    process = owns c.args.edit.now;
+  },
+)
 
-pub next_lwp-at-requires : goal.next_lwp-at-requires
-next_lwp-at-requires c =
-    let e = c.args.edit.now in
-    walking-after c.args.pid (edited e) (keeps e) (owns e) c.args.tables.now.rows _ c.in-Some.l c.loop-at.tables.rows c.set_lwp.new.self.rows c.loop-at.invariant c.in-Some.is
-    (c.set_lwp.ensures.rows ∙ ap (λ x. set_lwp x c.loop-at.tables.rows) c.of.ensures)
-
-pub loop-at-smaller : goal.loop-at-smaller
-loop-at-smaller c =
-    let e = c.args.edit.now in
-    walking-less c.args.pid (edited e) (keeps e) c.args.tables.now.rows c.loop-at.at c.in-Some.l c.loop-at.tables.rows c.set_lwp.new.self.rows _ c.loop-at.invariant c.in-Some.is
-    (c.set_lwp.ensures.rows ∙ ap (λ x. set_lwp x c.loop-at.tables.rows) c.of.ensures) c.next_lwp-at.ensures.row
-
-pub loop-at-preserved : goal.loop-at-preserved
-loop-at-preserved c =
-    let e = c.args.edit.now in
-    walking-next c.args.pid (edited e) (keeps e) c.args.tables.now.rows _ c.in-Some.l c.loop-at.tables.rows c.set_lwp.new.self.rows _ c.loop-at.invariant c.in-Some.is
-    (c.set_lwp.ensures.rows ∙ ap (λ x. set_lwp x c.loop-at.tables.rows) c.of.ensures) c.next_lwp-at.ensures.kept c.next_lwp-at.ensures.row
+pub returns : goal.returns
+returns c = c.edit_lwps.ensures.rows (edited c.args.edit.now) (λ l k there returned. search rules)

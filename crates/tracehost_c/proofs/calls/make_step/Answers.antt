@@ -5,4 +5,4 @@ use Rattle.tracehost_c.proofs.CallLemmas.{told_reply}
 use Rattle.tracehost_c.proofs.calls.make_step.Goals as goal
 
 pub returns-in-Some : goal.returns-in-Some
-returns-in-Some c = let made = c.in-Ok.ensures.stepped in answered refl c.in-Ok.ensures.room made (c.of.ensures ∙ ap flat (told_reply _ _ _ _ c.in-Some.ensures made.last))
+returns-in-Some c = let made = c.in-Ok.ensures.stepped in answered refl c.in-Ok.ensures.room made (c.set.ensures ∙ ap flat (told_reply _ _ _ _ c.in-Some.ensures made.last))

@@ -5,6 +5,8 @@ use Rattle.visibility.proofs.Answered.{two_runs}
 use Rattle.visibility.proofs.laws.two_lists.Goals as goal
 
 pub returns-clause-equal : goal.returns-clause-equal
-returns-clause-equal g c = λ asks. two_runs (map asked c.args.steps.items) (map asked c.args.others.items) (map told c.run_into-told.result.items) (map told c.run_into-said.result.items)
-    c.args.first.now c.args.second.now c.run_into-told.new.host c.run_into-said.new.host c.args.user c.get-number.ensures.user c.run_into-told.ensures.users c.run_into-said.ensures.users
-    (sound_apart c.args.first.now c.kept.ensures) (sound_apart c.args.second.now c.kept-2.ensures) c.run_into-told.ensures.ran c.run_into-said.ensures.ran c.requires.seen asks
+returns-clause-equal g c =
+    let done = c.in_ok-told.ensures in
+    λ asks. two_runs (map asked c.args.steps.items) (map asked c.args.others.items) (map told c.in_ok-told.told.items) (map told c.in_ok-told.said.items)
+    c.args.first.now c.args.second.now c.both_lists.new.first c.both_lists.new.second c.args.user c.get-number.ensures.user done.users.0 done.users.1
+    (sound_apart c.args.first.now c.kept.ensures) (sound_apart c.args.second.now c.kept-2.ensures) done.first done.second c.requires.seen asks

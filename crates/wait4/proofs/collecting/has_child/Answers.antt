@@ -10,16 +10,16 @@ pub returns-then-is_some : goal.returns-then-is_some
 returns-then-is_some c =
     let k = is_negative c.args.which c.ranges.which c.if-which-lt0.true in
     let ps = c.args.tables.now.rows.processes in
-    let first = sym (ap is_some c.next_of_kin.ensures.row) ∙ sym c.is_some.ensures ∙ c.if-is_some.true in
-    c.if-is_some.true ∙ sym (ap (λ (z : ℤ). list_any (λ p. is_child c.args.caller p && fits z p) ps) k.1 ∙ child-any c.args.caller k.0 ps c.next_of_kin.ensures.kept.homes ∙ or_first _ _ _ first)
+    let first = sym (ap is_some c.first_of_kin.ensures.row) ∙ sym c.is_some.ensures ∙ c.if-is_some.true in
+    c.if-is_some.true ∙ sym (ap (λ (z : ℤ). list_any (λ p. is_child c.args.caller p && fits z p) ps) k.1 ∙ child-any c.args.caller k.0 ps c.first_of_kin.ensures.kept.homes ∙ or_first _ _ _ first)
 
 pub returns-else-is_some : goal.returns-else-is_some
 returns-else-is_some c =
     let k = is_negative c.args.which c.ranges.which c.if-which-lt0.true in
     let ps = c.args.tables.now.rows.processes in
-    let first = sym (ap is_some c.next_of_kin.ensures.row) ∙ sym c.is_some.ensures ∙ c.if-is_some.false in
-    c.is_some-else-is_some.ensures ∙ ap is_some c.next_of_kin-else-is_some.ensures.row
-    ∙ sym (ap (λ (z : ℤ). list_any (λ p. is_child c.args.caller p && fits z p) ps) k.1 ∙ child-any c.args.caller k.0 ps c.next_of_kin.ensures.kept.homes ∙ or_first _ _ _ first)
+    let first = sym (ap is_some c.first_of_kin.ensures.row) ∙ sym c.is_some.ensures ∙ c.if-is_some.false in
+    c.is_some-else-is_some.ensures ∙ ap is_some c.first_of_kin-else-is_some.ensures.row
+    ∙ sym (ap (λ (z : ℤ). list_any (λ p. is_child c.args.caller p && fits z p) ps) k.1 ∙ child-any c.args.caller k.0 ps c.first_of_kin.ensures.kept.homes ∙ or_first _ _ _ first)
 
 pub returns-in-Some : goal.returns-in-Some
 returns-in-Some c =

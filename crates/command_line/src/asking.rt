@@ -1,0 +1,171 @@
+//! What the options and the operand of a command line ask for.
+ghost use Rattle.std.specs.Prelude.{◌≡◌};
+ghost use Rattle.std.specs.Result.{OkIff};
+ghost use Rattle.command_line.specs.Asking as spec;
+ghost use Rattle.command_line.specs.Asking.{IsUserOrNone, asked_by, explains_by, input_by, mode_by, style_by};
+
+use pid_blocks::{BadUser, Uid};
+
+/// The options of a command line, and its operand, as they are written.
+#[derive(Clone, Copy, Drop)]
+pub struct Arguments<'a> {
+    /// The operand.
+    pub file: Option<&'a str>,
+    /// The word of `--explain`: `auto`, `always` or `never`.
+    pub explain: Option<&'a str>,
+    /// The number of `--user`.
+    pub user: Option<u32>,
+    /// Whether `--threads` is there.
+    pub threads: bool,
+    /// The file of `--expect`.
+    pub expect: Option<&'a str>,
+    /// The word of `--json`: `replies` or `trace`.
+    pub json: Option<&'a str>,
+    /// Whether `--lines` is there.
+    pub lines: bool,
+    /// The number of `--kill-on-debugger-exit`.
+    pub kill_on_debugger_exit: Option<u32>,
+}
+
+/// The style of a line.
+#[derive(Clone, Copy, Drop)]
+pub enum Style {
+    /// Words, separated by spaces.
+    Words,
+    /// A JSON object.
+    Json,
+}
+
+/// Which lines of a run are printed, and in which order.
+#[derive(Clone, Copy, Drop)]
+pub struct Shown {
+    /// The user whose lines alone are printed; none for all.
+    pub user: Option<Uid>,
+    pub style: Style,
+    /// Each user's steps are made by a thread of their own, and the lines come user by user.
+    pub threads: bool,
+    /// Each line has the step that it answers, too.
+    pub trace: bool,
+}
+
+/// How the input is read.
+#[derive(Clone, Copy, Drop)]
+pub enum Mode<'a> {
+    /// As a scenario, which is run. The lines are printed, or compared with those of the expected file.
+    Scenario {
+        shown: Shown,
+        expected: Option<&'a str>,
+    },
+    /// As lines with a step each, which a host answers one by one.
+    Lines {
+        /// A debugger's end kills the processes that it traces.
+        kills_on_exit: bool,
+        style: Style,
+    },
+}
+
+/// What the command line asks for.
+#[derive(Clone, Copy, Drop)]
+pub struct Asked<'a> {
+    /// The file of the input; none for standard input.
+    pub file: Option<&'a str>,
+    /// Refused input is explained on standard error.
+    pub explains: bool,
+    pub mode: Mode<'a>,
+}
+
+/// Which of the standard streams are terminals.
+#[derive(Clone, Copy, Drop)]
+pub struct Terminals {
+    pub input: bool,
+    pub error: bool,
+}
+
+/// Returns whether an option has this value.
+pub(crate) fn has_value(option: Option<&str>, value: &str) -> bool
+    ensures { result ≡ spec.has_value option.entry value.now }
+{
+    match option {
+        Some(given) => given == value,
+        None => false,
+    }
+}
+
+/// Returns whether refused input is explained, by the word of `--explain`.
+pub(crate) fn explains(explain: Option<&str>, terminals: Terminals) -> bool
+    ensures { result ≡ explains_by explain.entry terminals.error }
+{
+    if has_value(explain, "always") {
+        true
+    } else if has_value(explain, "never") {
+        false
+    } else {
+        terminals.error
+    }
+}
+
+/// Returns the file of the input; none for standard input.
+fn input_of<'a>(file: Option<&'a str>) -> Option<&'a str>
+    ensures { result ≡ input_by file.entry }
+{
+    if has_value(file, "-") { None } else { file }
+}
+
+/// Returns the style of the lines, by the word of `--json`.
+fn style_of(json: Option<&str>) -> Style
+    ensures { result ≡ style_by json.entry }
+{
+    if json.is_some() {
+        Style::Json
+    } else {
+        Style::Words
+    }
+}
+
+/// Returns the user whose lines alone are printed; none for all.
+fn shown_user(number: Option<u32>) -> Result<Option<Uid>, BadUser>
+    ensures { OkIff result (IsUserOrNone number) number }
+{
+    match number {
+        Some(number) => Ok(Some(Uid::new(number)?)),
+        None => Ok(None),
+    }
+}
+
+/// Returns how the input is read, where lines of this user are printed.
+fn mode_of<'a>(arguments: Arguments<'a>, user: Option<Uid>) -> Mode<'a>
+    ensures { result ≡ mode_by arguments.entry user }
+{
+    let style = style_of(arguments.json);
+    if arguments.lines {
+        return Mode::Lines {
+            kills_on_exit: arguments.kill_on_debugger_exit != Some(0),
+            style,
+        };
+    }
+    Mode::Scenario {
+        shown: Shown {
+            user,
+            style,
+            threads: arguments.threads,
+            trace: has_value(arguments.json, "trace"),
+        },
+        expected: arguments.expect,
+    }
+}
+
+/// Returns what the arguments ask for.
+///
+/// # Errors
+///
+/// Fails where the number of `--user` isn't from 1001 to 1064.
+pub fn asked_for<'a>(arguments: Arguments<'a>, terminals: Terminals) -> Result<Asked<'a>, BadUser>
+    ensures { OkIff result (IsUserOrNone arguments.entry.user) (asked_by arguments.entry terminals) }
+{
+    let user = shown_user(arguments.user)?;
+    Ok(Asked {
+        file: input_of(arguments.file),
+        explains: explains(arguments.explain, terminals),
+        mode: mode_of(arguments, user),
+    })
+}

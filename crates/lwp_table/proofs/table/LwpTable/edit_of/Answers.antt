@@ -1,0 +1,96 @@
+use Rattle.std.proofs.Common.{◌+◌, ◌<◌, refl, sym, ap, subst, ◌∙◌, is_some}
+use Rattle.std.specs.Fn.{FnReturnsAt}
+use Rattle.std.proofs.lemmas.Fn.{says_at}
+use Rattle.std.specs.Option.{option_map}
+use Rattle.slab.specs.Slab.{get as slot_get, with_value}
+use Rattle.slab.proofs.SlabLemmas.{Updates-with_value}
+use Rattle.lwp_table.specs.Kept.{own_node, IsIndexed}
+use Rattle.lwp_table.proofs.EditLemmas.{left_at, left_in, editing-first, editing-there, here, old_row, editing-on, IsKept-edited, editing-less, len-same, rows_of-edited}
+use Rattle.lwp_table.proofs.table.LwpTable.edit_of.Goals as goal
+
+pub loop-link-init : goal.loop-link-init
+loop-link-init g c = record {
+  kept = c.self.invariant;
+  walk = (
+    0,
+    editing-first (slot_get c.self.inside.rows) (FnReturnsAt g.F.Fn c.args.edit) c.args.pid c.first_slot-link.result
+        (rw (c.first_slot-link.ensures, c.get.ensures.number) ((c.self.invariant.own c.args.pid).first_is)),
+  );
+  slots = refl;
+  heads = refl;
+  births = refl;
+  capacity = refl;
+  len = refl;
+}
+
+pub index_mut-slot-requires : goal.index_mut-slot-requires
+index_mut-slot-requires g c =
+    let walk = rw c.in-Some.is at c.loop-link.invariant.walk.1 in
+    let there = editing-there (slot_get c.self.inside.rows) (slot_get c.loop-link.self-inside.rows) (FnReturnsAt g.F.Fn c.args.edit) c.args.pid c.loop-link.invariant.walk.0 c.in-Some.at walk in
+    ap is_some there.1
+
+pub loop-link-smaller : goal.loop-link-smaller
+loop-link-smaller g c =
+    let f = slot_get c.loop-link.self-inside.rows in
+    let old = c.index_mut-slot.result.now in
+    let new = c.edit-slot.result in
+    let kept = c.loop-link.invariant.kept in
+    let walk = rw c.in-Some.is at c.loop-link.invariant.walk.1 in
+    let gave : FnReturnsAt g.F.Fn c.args.edit old.row new = says_at g.F.Fn c.edit-slot.ensures refl in
+    let there = old_row (slot_get c.self.inside.rows) f (FnReturnsAt g.F.Fn c.args.edit) c.args.pid c.loop-link.invariant.walk.0 c.in-Some.at walk old c.index_mut-slot.ensures.value
+    c.self.inside.slots.entries c.self.inside.births c.args.self.now.rows c.self.invariant.indexed (ap (λ v. v.rows) c.self.view_is) in
+    let its = c.requires.keeps old.row new there gave in
+    let updates = Updates-with_value c.loop-link.self-inside.rows c.in-Some.at (record old { row = new }) (ap is_some c.index_mut-slot.ensures.value) in
+    let on = here (slot_get c.self.inside.rows) f (FnReturnsAt g.F.Fn c.args.edit) c.args.pid c.loop-link.invariant.walk.0 c.in-Some.at walk old c.index_mut-slot.ensures.value in
+    let further = editing-on (slot_get c.self.inside.rows) f (FnReturnsAt g.F.Fn c.args.edit) c.args.pid c.loop-link.invariant.walk.0 c.in-Some.at walk old c.index_mut-slot.ensures.value new _ its.1 gave updates.changed updates.others
+    kept.indexed.apart ((kept.own c.args.pid).next_is c.in-Some.at (own_node old) (ap (option_map own_node) c.index_mut-slot.ensures.value) on.0) in
+    let births = c.loop-link.self-inside.births in
+    let left = ap (left_at f births) c.in-Some.is ∙ ap (left_in births) c.index_mut-slot.ensures.value in
+    let less = editing-less (slot_get c.self.inside.rows) _ (FnReturnsAt g.F.Fn c.args.edit) c.args.pid births old.born old.own.next further (kept.indexed.earlier c.in-Some.at old c.index_mut-slot.ensures.value) in
+    subst (λ n. left_at (slot_get (with_value c.loop-link.self-inside.rows c.in-Some.at (record old { row = new }))) births old.own.next < n) (sym left) less
+
+pub loop-link-preserved : goal.loop-link-preserved
+loop-link-preserved g c =
+    let f = slot_get c.loop-link.self-inside.rows in
+    let old = c.index_mut-slot.result.now in
+    let new = c.edit-slot.result in
+    let kept = c.loop-link.invariant.kept in
+    let walk = rw c.in-Some.is at c.loop-link.invariant.walk.1 in
+    let gave : FnReturnsAt g.F.Fn c.args.edit old.row new = says_at g.F.Fn c.edit-slot.ensures refl in
+    let there = old_row (slot_get c.self.inside.rows) f (FnReturnsAt g.F.Fn c.args.edit) c.args.pid c.loop-link.invariant.walk.0 c.in-Some.at walk old c.index_mut-slot.ensures.value
+    c.self.inside.slots.entries c.self.inside.births c.args.self.now.rows c.self.invariant.indexed (ap (λ v. v.rows) c.self.view_is) in
+    let its = c.requires.keeps old.row new there gave in
+    let updates = Updates-with_value c.loop-link.self-inside.rows c.in-Some.at (record old { row = new }) (ap is_some c.index_mut-slot.ensures.value) in
+    let on = here (slot_get c.self.inside.rows) f (FnReturnsAt g.F.Fn c.args.edit) c.args.pid c.loop-link.invariant.walk.0 c.in-Some.at walk old c.index_mut-slot.ensures.value in
+    let same = len-same c.loop-link.self-inside.rows c.in-Some.at old (record old { row = new }) c.index_mut-slot.ensures.value in
+    record {
+      kept = IsKept-edited kept c.in-Some.at old new _ c.index_mut-slot.ensures.value its updates.changed updates.others;
+      walk = (
+        old.born + 1,
+        editing-on (slot_get c.self.inside.rows) f (FnReturnsAt g.F.Fn c.args.edit) c.args.pid c.loop-link.invariant.walk.0 c.in-Some.at walk old c.index_mut-slot.ensures.value new _ its.1 gave updates.changed updates.others
+            kept.indexed.apart ((kept.own c.args.pid).next_is c.in-Some.at (own_node old) (ap (option_map own_node) c.index_mut-slot.ensures.value) on.0),
+      );
+      slots = c.loop-link.invariant.slots;
+      heads = c.loop-link.invariant.heads;
+      births = c.loop-link.invariant.births;
+      capacity = c.loop-link.invariant.capacity;
+      len = same ∙ c.loop-link.invariant.len;
+    }
+
+pub invariant_of-self : goal.invariant_of-self
+invariant_of-self g c = c.loop-link.invariant.kept
+
+pub returns-clause-rows : goal.returns-clause-rows
+returns-clause-rows g c = λ change computes.
+    let seen = ap (λ v. v.rows) c.self.view_is in
+    let es = c.self.inside.slots.entries in
+    let births = c.self.inside.births in
+    let f = slot_get c.loop-link.self-inside.rows in
+    let walk = rw c.in_default.is at c.loop-link.invariant.walk.1 in
+    let same = ap (λ t. t.entries) c.loop-link.invariant.slots in
+    let after : IsIndexed f es births = rw (same, c.loop-link.invariant.births) at c.loop-link.invariant.kept.indexed in
+    rw (same, c.loop-link.invariant.births, ← seen)
+    (rows_of-edited (slot_get c.self.inside.rows) f es births c.self.invariant.indexed after (FnReturnsAt g.F.Fn c.args.edit) c.args.pid c.loop-link.invariant.walk.0 walk change (rw (← seen) at computes))
+
+pub returns-clause-spare : goal.returns-clause-spare
+returns-clause-spare g c = rw (c.loop-link.invariant.capacity, c.loop-link.invariant.len, c.loop-link.invariant.slots, c.loop-link.invariant.heads, c.loop-link.invariant.births) (ap (λ v. v.spare) c.self.view_is)

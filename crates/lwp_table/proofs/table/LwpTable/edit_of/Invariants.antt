@@ -1,0 +1,21 @@
+use Rattle.std.proofs.Common.{◌≡◌, ℕ}
+use Rattle.std.specs.Fn.{FnReturnsAt}
+use Rattle.slab.specs.Slab.{get, slab_len}
+use Rattle.lwp_table.specs.Kept.{IsKept}
+use Rattle.lwp_table.proofs.EditLemmas.{IsEditing, left_at}
+use Rattle.lwp_table.proofs.table.LwpTable.edit_of.Given as goal
+
+-- the table is kept at each turn, and all but the rows is as it was
+abbrev pub invariant-loop-link : goal.invariant-loop-link
+invariant-loop-link g l = record {
+  kept : IsKept (get l.self-inside.rows) l.self-inside.slots.entries l.self-inside.heads.entries l.self-inside.all l.self-inside.births l.self-inside.users;
+  walk : (upto : ℕ) × IsEditing (get l.initial.self-inside.rows) (get l.self-inside.rows) (FnReturnsAt g.F.Fn l.edit) l.fn.pid upto l.link;
+  slots : l.self-inside.slots ≡ l.initial.self-inside.slots;
+  heads : l.self-inside.heads ≡ l.initial.self-inside.heads;
+  births : l.self-inside.births ≡ l.initial.self-inside.births;
+  capacity : l.self-inside.rows.capacity ≡ l.initial.self-inside.rows.capacity;
+  len : slab_len l.self-inside.rows ≡ slab_len l.initial.self-inside.rows;
+}
+
+abbrev pub decreases-loop-link : goal.decreases-loop-link
+decreases-loop-link g l = left_at (get l.self-inside.rows) l.self-inside.births l.link

@@ -1,0 +1,11 @@
+use Rattle.std.proofs.Common.{◌-◌}
+use Rattle.std.specs.Fn.{FnReturnsAt}
+use Rattle.slab.specs.Slab.{get}
+use Rattle.proc_table.proofs.Firsts.{IsPassing}
+use Rattle.proc_table.proofs.links.first_slot.Given as goal
+
+abbrev pub invariant-loop-link : goal.invariant-loop-link
+invariant-loop-link g l = IsPassing (get l.nodes) l.kin l.chief (FnReturnsAt g.F.Fn l.test) l.passed l.link
+
+abbrev pub decreases-loop-link : goal.decreases-loop-link
+decreases-loop-link g l = 65000 - l.passed

@@ -1,0 +1,77 @@
+use Rattle.std.proofs.Common.{◌+◌, ◌++◌, ◌∷◌, ◌∙◌, List, [], drop, refl, ap, sym, string_bytes, append-nil, arith}
+use Rattle.std.specs.Vec.Iter.{into_iter_items}
+use Rattle.requests.specs.Machine.{empty}
+use Rattle.requests.specs.Run.{Asked, replies}
+use Rattle.scenario_text.specs.Plan.{filled, policies_in, first_policy, step_with}
+use Rattle.scenario.specs.Runs.{answered, answers_of, paired}
+use Rattle.scenario.proofs.BindLemmas.{each_next, filled_next, first_before}
+use Rattle.scenario.proofs.LineLemmas.{counted_start, counted_more, counted_few, counted_number, shown_after, shown_none, shown_whole, text_next}
+use Rattle.scenario.proofs.RunLemmas.{answers_next, none_left}
+use Rattle.scenario.proofs.running.text_of.Goals as goal
+
+pub loop-shape-init : goal.loop-shape-init
+loop-shape-init g c =
+    let plan = c.args.scenario.now in
+    let options = c.args.options.now in
+    let handlers = c.into_iter-rest.ensures.rest ∙ c.requires in
+    let steps = ap (filled c.shapes-shapes.result.now) handlers ∙ c.shapes-shapes.ensures.steps in
+    let host = c.in_ok-host.ensures ∙ ap empty c.settings.ensures in
+    record {
+      before = [];
+      few = refl;
+      counted = counted_start;
+      text = rw (host, c.new-text.ensures.bytes) (ap (λ (xs : List Asked). shown_after options.style options.user [] (paired xs (replies xs (empty plan.settings)))) steps
+          ∙ shown_whole options.style options.user (answers_of plan));
+      each = ap policies_in steps ∙ sym handlers;
+    }
+
+pub count_reply-number-requires : goal.count_reply-number-requires
+count_reply-number-requires g c = λ k.
+    let few = counted_few c.loop-shape.made c.loop-shape.invariant.before c.loop-shape.invariant.counted k in
+    let place = c.loop-shape.invariant.few in omega arith
+
+pub loop-shape-preserved : goal.loop-shape-preserved
+loop-shape-preserved g c =
+    let at = c.loop-shape in
+    let options = c.args.options.now in
+    let ss = c.shapes-shapes.result.now in
+    let x = c.shape-item.result in
+    let had = into_iter_items at.rest in
+    let left = into_iter_items c.reply_of.new.handlers in
+    let more = c.loop-shape-test.true in
+    let here = sym c.shape-item.is in
+    let step = step_with (first_policy had) x.1 in
+    let made = c.in-Some.ensures _ (first_before ss at.shape-index x had left more here at.invariant.each) in
+    let range = c.count_reply-number.ensures.range in
+    let before = at.invariant.before in
+    let rest = filled (drop (at.shape-index + 1) ss) left in
+    let next = answers_next x.0 step c.in-Some.reply (filled (drop at.shape-index ss) had) rest at.host c.reply_of.new.host (filled_next ss at.shape-index x had left more here made.0)
+    (sym c.is_memory.ensures ∙ c.if-is_memory.false) made.1 in
+    record {
+      before = x.0 ∷ before;
+      few = let few = at.invariant.few in omega arith;
+      counted = rw (c.count_reply-number.ensures.after, c.count_reply-number.ensures.number) (counted_more at.made before x.0 range.0 range.1 at.invariant.counted);
+      text = text_next options.style options.user (answered (x.0, c.in-Some.reply)) (paired rest (replies rest c.reply_of.new.host)) before c.count_reply-number.result _ _ _
+          (c.count_reply-number.ensures.number ∙ ap (λ n. n + 1) (counted_number at.made before x.0 range.0 range.1 at.invariant.counted))
+          c.in_ok-push_shown.ensures
+          (ap (λ xs. string_bytes at.text ++ shown_after options.style options.user before xs) (sym next) ∙ at.invariant.text);
+      each = each_next ss at.shape-index x had left more here at.invariant.each made.0;
+    }
+
+pub unreachable-requires : goal.unreachable-requires
+unreachable-requires g c =
+    let at = c.loop-shape in
+    let had = into_iter_items at.rest in
+    let x = c.shape-item.result in
+    let before = first_before c.shapes-shapes.result.now at.shape-index x had had c.loop-shape-test.true (sym c.shape-item.is) at.invariant.each in
+    (c.in_default.ensures _ before).1
+
+pub returns-clause-ok : goal.returns-clause-ok
+returns-clause-ok g c =
+    let at = c.loop-shape in
+    let options = c.args.options.now in
+    let none = none_left c.shapes-shapes.result.now at.shape-index (into_iter_items at.rest) at.host (let done = c.loop-shape-test.false in omega (arith, done)) in
+    let text = string_bytes at.text in
+    let nothing = shown_none options.style options.user at.invariant.before in
+    sym (append-nil text) ∙ ap (λ xs. text ++ xs) (sym nothing)
+    ∙ ap (λ xs. text ++ shown_after options.style options.user at.invariant.before xs) (sym none) ∙ at.invariant.text

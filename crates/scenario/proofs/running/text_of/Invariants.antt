@@ -1,0 +1,17 @@
+use Rattle.std.proofs.Common.{◌≡◌, ◌++◌, ℕ, List, length, drop, string_bytes}
+use Rattle.std.specs.Vec.Iter.{into_iter_items}
+use Rattle.requests.specs.Run.{replies}
+use Rattle.scenario_text.specs.Plan.{filled, policies_in}
+use Rattle.scenario.specs.Runs.{answers_of, paired, shown}
+use Rattle.scenario.proofs.LineLemmas.{Counted, shown_after}
+use Rattle.scenario.proofs.running.text_of.Given as goal
+
+-- `before` are the users of the replies so far
+abbrev pub invariant-loop-shape : goal.invariant-loop-shape
+invariant-loop-shape g l = let left = filled (drop l.shape-index l.shapes) (into_iter_items l.rest) in record {
+  before : List ℕ;
+  few : length before ≡ l.shape-index;
+  counted : Counted l.made before;
+  text : string_bytes l.text ++ shown_after l.options.style l.options.user before (paired left (replies left l.host)) ≡ shown l.options.style l.options.user (answers_of l.scenario);
+  each : policies_in left ≡ into_iter_items l.rest;
+}

@@ -1,0 +1,33 @@
+#!/usr/bin/env bash
+# The table tests/edit_goals.tsv names edits that are there, and tools/edit_goals finds in a log which of them were
+# refused at another goal. The logs here are made up; ./test compares the table with what the gate prints.
+#
+#   bash tests/edit_goals.sh
+# shellcheck disable=SC2034 # lib.sh reads it
+program=none
+source "$(dirname "${BASH_SOURCE[0]}")/lib.sh"
+
+need python3 || exit
+check "each edit of the table is there" tools/edit_goals
+
+# the complaints about one edit of the table, where a log has this line about it
+complaints() { tools/edit_goals --log <(printf '%s\n' "$1") | grep -F 'pid_blocks/free_number_without_the_cursor'; }
+edit='rt: must-fail pid_blocks/free_number_without_the_cursor.edit: refused, as it must be'
+line=$(grep -n 'pub fn next_free' crates/pid_blocks/src/blocks.rt | cut -d: -f1)
+said='it is not proved that what the function ensures holds when it returns'
+at="note: src/blocks.rt:$line:1: $said"
+
+accepts() { [ -z "$(complaints "$1")" ]; }
+refuses() { [ -n "$(complaints "$1")" ]; }
+check "the goal is named" accepts "$edit: $at (\`returns-in-Some-clause-exact\`)"
+check "its name is cut" accepts "$edit: $at (\`returns-in-So"
+check "little is left of its name" refuses "$edit: $at (\`ret"
+check "another goal of the function" refuses "$edit: $at (\`returns-in-Some-clause-free\`)"
+check "the same goal of another function" refuses "$edit: note: src/blocks.rt:11:1: $said (\`returns-in-Some-clause-exact\`)"
+check "a proof file names what is gone" refuses \
+  "$edit (only because a proof file names what the edit took away): ./proofs/blocks/next_free/Answers.antt:9:1: error: no \`x\`"
+check "the edit isn't refused" refuses "${edit/refused*/NOT REFUSED}"
+
+if need mypy; then
+  check "the types of tools/edit_goals" mypy --strict --cache-dir "$room/mypy" tools/edit_goals
+fi

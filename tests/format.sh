@@ -1,0 +1,52 @@
+#!/usr/bin/env bash
+# The tables of names and keys are those of format/scenario.toml: `tools/format check` finds no file that is older.
+#
+# tools/format itself: in a copy of the sources, each of its files is older once the tables that it has are changed, and
+# none is after `tools/format write`.
+#
+#   bash tests/format.sh
+# shellcheck disable=SC2034 # lib.sh reads it
+program=none
+source "$(dirname "${BASH_SOURCE[0]}")/lib.sh"
+
+need python3 || exit
+check "tools/format check" tools/format check
+
+# the files that are older after a change of the tables, which is a script for sed, without those that are not in $1
+older_after() {
+  sed -i "$1" "$room/copy/format/scenario.toml"
+  "$room/copy/tools/format" check | sed -n 's/^format: \(.*\) is older than.*/\1/p'
+  cp format/scenario.toml "$room/copy/format/scenario.toml"
+}
+
+# a change of the tables makes exactly these files older
+change() {
+  local text=$1 script=$2
+  shift 2
+  printf '%s\n' "$@" | sort >"$room/wanted"
+  older_after "$script" | sort >"$room/got"
+  same "$room/wanted" "$room/got" "$text: the files that are older"
+}
+
+mkdir "$room/copy"
+git ls-files -z format tools crates schema include clients/c clients/python docs/FORMAT.md man | xargs -0 cp --parents -t "$room/copy"
+clients=(clients/c/names.c clients/c/tracehost_client.h clients/python/tracehost/names.py include/tracehost.h)
+parsers=(crates/scenario_text/src/names.rt crates/scenario_text/specs/Names.antt crates/explanations/src/tables.rt)
+change "another name of a request" 's/PT_ATTACH/PT_SEIZE/' "${parsers[@]}" crates/json_trace/src/names.rt \
+  schema/scenario.schema.json "${clients[@]}" docs/FORMAT.md man/tracehost.1
+change "another number of a request" 's/^number = 10$/number = 12/' crates/flat_forms/src/requests_by_number.rt \
+  crates/flat_forms/specs/Numbers.antt "${clients[@]}"
+change "another name of a call" 's/"vfork"/"rfork"/' "${parsers[@]}" crates/json_trace/src/names.rt \
+  schema/scenario.schema.json clients/c/names.c clients/python/tracehost/names.py docs/FORMAT.md
+change "another range" 's/^user = .*/user = [1001, 1065]/' crates/explanations/src/tables.rt schema/scenario.schema.json
+change "a key that may be missing" 's/"caller", "which", "signal"/"caller", "which", "[signal]"/' \
+  crates/explanations/src/tables.rt schema/scenario.schema.json
+change "another effect" 's/^effect = "lists the user.s processes.*/effect = "lists them"/' docs/FORMAT.md
+
+sed -i 's/PT_ATTACH/PT_SEIZE/' "$room/copy/format/scenario.toml"
+check "tools/format write" "$room/copy/tools/format" write
+check "nothing is older once it is written" "$room/copy/tools/format" check
+
+if need mypy; then
+  check "the types of tools/format" mypy --strict --follow-imports=silent tools/format tools/scenario_format
+fi
