@@ -42,10 +42,14 @@ PARTS = {
     'steps': (
         r'requests::host::Host::(step|make)\b.*',
         r'visibility::runs::run_list\b.*',
-        # the steps and what is around them, where they are inlined
-        r'scenario::running::replies_of\b.*',
+        # the steps and what is around them, where they are inlined: in `text_of` the text too
+        r'scenario::running::(text_of|replies_of)\b.*',
     ),
-    'text': (r'scenario::lines::render\b.*', r'scenario::running::write_lines\b.*'),
+    'text': (
+        r'scenario::lines::push_(shown|line|words)\b.*',
+        r'scenario::lines::render\b.*',
+        r'scenario::running::write_lines\b.*',
+    ),
 }
 
 # A line of callgrind_annotate: the cost, its share, and the function as FILE:NAME [OBJECT]

@@ -1,6 +1,6 @@
 #!/usr/bin/env bash
 # The table tests/edit_goals.tsv names edits that are there, and tools/edit_goals finds in a log which of them were
-# refused at another goal. The logs here are made up; ./test compares the table with what the gate prints.
+# refused at another goal. The logs here are made up; after the gate ./test prints where the table differs.
 #
 #   bash tests/edit_goals.sh
 # shellcheck disable=SC2034 # lib.sh reads it

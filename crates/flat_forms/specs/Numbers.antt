@@ -24,6 +24,7 @@ request_numbered = numbered
     ∷ (18, requests.Suspend) ∷ (19, requests.Resume) ∷ (20, requests.ToSce) ∷ (21, requests.ToScx)
     ∷ (22, requests.Syscall) ∷ (23, requests.FollowFork) ∷ (24, requests.LwpEvents) ∷ (25, requests.GetEventMask)
     ∷ (26, requests.SetEventMask) ∷ [])
+
 -- end
 
 abbrev pub disposition_numbered : ℕ → Option Disposition
