@@ -1,326 +1,222 @@
 //! Ends of processes and of debuggers.
 
-use crate::script::{
-    AT_EXEC, AT_VFORK, Answer, VFORK_DONE, alone, ask, attach, compute, enter, follow, go_on, kill,
-    leave, list, sigaction, trace, wait, with_tracee, with_two,
-};
-use event_masks::Call;
-use pid_blocks::{Errno, Uid};
-use requests::{Host, PlainStep, Request};
-use signals::Disposition;
+ghost use Rattle.std.specs.Prelude.{◌<◌};
+
+use crate::script::check_sessions;
+use requests::Host;
 use std::alloc::Global;
-use std::process::Abort;
 use std::test::Fail;
 use stop_handlers::ByPolicy;
+use test_kit::{Trouble, follow};
 use trace_stop::Settings;
 
-/// Makes the processes 1000 and 1001, and of 1001 the children 1002, 1003 and 1004. 1003 traces 1004, 1002 traces 1003,
-/// and 1000 traces 1002.
-fn make_chain<R: Abort>(rt: &R, alloc: Global, host: &mut Host<ByPolicy>, user: Uid) {
-    let made = [
-        (PlainStep::Spawn, Answer::New(1000, 100000)),
-        (PlainStep::Spawn, Answer::New(1001, 100001)),
-        (enter(100001, Call::Fork), Answer::Done),
-        (leave(100001), Answer::New(1002, 100002)),
-        (enter(100001, Call::Fork), Answer::Done),
-        (leave(100001), Answer::New(1003, 100003)),
-        (enter(100001, Call::Fork), Answer::Done),
-        (leave(100001), Answer::New(1004, 100004)),
-        (attach(1003, 1004), Answer::Done),
-        (attach(1002, 1003), Answer::Done),
-        (attach(1000, 1002), Answer::Done),
-        (wait(1001), Answer::Nothing),
-        (list(1003), Answer::Held),
-    ];
-    follow(rt, alloc, host, user, &made[..]);
-}
+const SESSIONS: &str = "
+[a chain] a debugger's end kills its tracees and theirs
+turn 100000 enter exit 0 -> ok
+turn 100000 leave -> ended 0
+list 1001 -> pids 1001 1002 1003 1004
+list 1002 -> error ESRCH 3
+wait4 1001 -1 -> status 1002 9
+wait4 1001 -1 -> status 1003 9
+wait4 1001 -1 -> status 1004 9
+wait4 1001 -1 -> error ECHILD 10
+
+[a chain, detached on exit] a debugger's end detaches its tracees
+turn 100000 enter exit 0 -> ok
+turn 100000 leave -> ended 0
+list 1001 -> pids 1001 1002 1003 1004
+list 1002 -> pids 1001 1002 1003 1004
+list 1003 -> held
+wait4 1001 -1 -> nothing
+wait4 1002 -1 -> status 1003 4479
+
+[a tracee, detached on exit] a detached tracee keeps its signals
+ptrace 1000 PT_CONTINUE 1001 -> ok
+kill 1000 1001 5 -> ok
+kill 1000 1001 30 -> ok
+turn 100000 enter exit 0 -> ok
+turn 100000 leave -> ended 0
+turn 100001 compute -> ended 5
+turn 100001 compute -> error ESRCH 3
+
+[a tracee, detached on exit] a tracee that stands in a stop is detached without sigtrap
+kill 1000 1001 5 -> ok
+kill 1000 1001 30 -> ok
+turn 100000 enter exit 0 -> ok
+turn 100000 leave -> ended 0
+turn 100001 compute -> ended 30
+
+[a tracee] a tracee with signals ends with its debugger
+ptrace 1000 PT_CONTINUE 1001 -> ok
+kill 1000 1001 5 -> ok
+turn 100000 enter exit 0 -> ok
+turn 100000 leave -> ended 0
+turn 100001 compute -> error ESRCH 3
+
+[nothing] a zombie passes from its tracer to its parent
+spawn -> new 1000 100000
+turn 100000 enter fork -> ok
+turn 100000 leave -> new 1001 100001
+spawn -> new 1002 100002
+ptrace 1002 PT_ATTACH 1001 -> ok
+wait4 1000 -1 -> nothing
+kill 1000 1001 9 -> ok
+wait4 1000 -1 -> nothing
+wait4 1002 -1 -> status 1001 9
+wait4 1002 -1 -> error ECHILD 10
+wait4 1000 -1 -> status 1001 9
+wait4 1000 -1 -> error ECHILD 10
+
+[two processes] tracees report by rising number
+spawn -> new 1002 100002
+spawn -> new 1003 100003
+spawn -> new 1004 100004
+ptrace 1000 PT_ATTACH 1004 -> ok
+ptrace 1000 PT_ATTACH 1002 -> ok
+ptrace 1000 PT_ATTACH 1003 -> ok
+wait4 1000 -1 -> status 1002 4479
+wait4 1000 -1 -> status 1003 4479
+wait4 1000 -1 -> status 1004 4479
+wait4 1000 -1 -> nothing
+ptrace 1000 PT_DETACH 1003 -> ok
+turn 100000 enter exit 0 -> ok
+turn 100000 leave -> ended 0
+list 1001 -> pids 1001 1003
+
+[nothing] an exit code is shifted and the last lwp exits with 0
+spawn -> new 1000 100000
+turn 100000 enter fork -> ok
+turn 100000 leave -> new 1001 100001
+turn 100001 enter exit 255 -> ok
+turn 100001 leave -> ended 65280
+list 1000 -> pids 1000 1001
+wait4 1000 -1 -> status 1001 65280
+list 1000 -> pids 1000
+turn 100000 enter thr_new -> ok
+turn 100000 leave -> new 1000 100002
+turn 100000 enter thr_exit -> ok
+turn 100000 leave -> ok
+turn 100000 compute -> error ESRCH 3
+turn 100002 enter thr_exit -> ok
+turn 100002 leave -> ended 0
+list 1000 -> error ESRCH 3
+
+[a vfork] a child's exec releases its vfork
+turn 100002 enter exec -> ok
+turn 100002 leave -> stopped 100002 5 flags=PL_FLAG_SCX+PL_FLAG_EXEC
+turn 100001 compute -> stopped 100001 5 flags=PL_FLAG_VFORK_DONE
+wait4 1000 -1 -> status 1001 1407
+
+[a vfork] a child's end releases its vfork, and its parent's tracer sees SIGCHLD
+turn 100002 enter exit 3 -> ok
+turn 100002 leave -> ended 768
+turn 100001 compute -> stopped 100001 5 flags=PL_FLAG_VFORK_DONE
+wait4 1000 -1 -> status 1001 1407
+wait4 1000 -1 -> status 1002 768
+ptrace 1000 PT_CONTINUE 1001 -> ok
+turn 100001 compute -> stopped 100001 20 flags=none
+wait4 1000 -1 -> status 1001 5247
+ptrace 1000 PT_CONTINUE 1001 -> ok
+wait4 1001 -1 -> status 1002 768
+wait4 1001 -1 -> error ECHILD 10
+
+[nothing] an untraced vfork waits for its child's end
+spawn -> new 1000 100000
+turn 100000 enter vfork -> ok
+turn 100000 leave -> new 1001 100001
+turn 100000 compute -> held
+turn 100001 enter exit 0 -> ok
+turn 100001 leave -> ended 0
+turn 100000 compute -> ok
+wait4 1000 -1 -> status 1001 0
+
+[a tracee, detached on exit] a detached process has no stop at the end of its vfork
+ptrace 1000 PT_SET_EVENT_MASK 1001 32 -> ok
+ptrace 1000 PT_CONTINUE 1001 -> ok
+turn 100001 enter vfork -> ok
+turn 100001 leave -> new 1002 100002
+turn 100000 enter exit 0 -> ok
+turn 100000 leave -> ended 0
+turn 100001 compute -> held
+turn 100002 enter exit 1 -> ok
+turn 100002 leave -> ended 256
+turn 100001 compute -> ok
+wait4 1001 -1 -> status 1002 256
+
+[nothing] a zombie passes to its parent when its tracer ends
+spawn -> new 1000 100000
+turn 100000 enter fork -> ok
+turn 100000 leave -> new 1001 100001
+spawn -> new 1002 100002
+sigaction 1000 20 catch -> ok
+ptrace 1002 PT_ATTACH 1001 -> ok
+kill 1000 1001 9 -> ok
+turn 100000 compute -> ok
+wait4 1000 -1 -> nothing
+turn 100002 enter exit 0 -> ok
+turn 100002 leave -> ended 0
+turn 100000 compute -> caught 20
+wait4 1000 -1 -> status 1001 9
+list 1000 -> pids 1000
+
+[nothing] an orphan is collected at once
+spawn -> new 1000 100000
+turn 100000 enter fork -> ok
+turn 100000 leave -> new 1001 100001
+spawn -> new 1002 100002
+kill 1002 1000 9 -> ok
+list 1002 -> pids 1001 1002
+kill 1002 1001 9 -> ok
+list 1002 -> pids 1002
+";
 
 #[test]
-fn a_debuggers_end_kills_its_tracees_and_theirs(rt: HostRuntime) -> Result<(), Fail> {
-    let alloc = rt.alloc();
-    let user = Uid::new(1001)?;
-    let mut host = Host::<ByPolicy>::new(alloc, Settings::standard())?;
-    make_chain(&rt, alloc, &mut host, user);
-    let ended = [
-        (enter(100000, Call::Exit(0)), Answer::Done),
-        (leave(100000), Answer::Ended(0)),
-        (list(1001), Answer::Numbers([1001, 1002, 1003, 1004, 0])),
-        (list(1002), Answer::Refused(Errno::ESRCH)),
-        (wait(1001), Answer::Status(1002, 9)),
-        (wait(1001), Answer::Status(1003, 9)),
-        (wait(1001), Answer::Status(1004, 9)),
-        (wait(1001), Answer::Refused(Errno::ECHILD)),
-    ];
-    follow(&rt, alloc, &mut host, user, &ended[..]);
-    Ok(())
+fn sessions(rt: HostRuntime) -> Result<(), Trouble> {
+    check_sessions(rt.alloc(), SESSIONS)
 }
 
-#[test]
-fn a_debuggers_end_detaches_its_tracees(rt: HostRuntime) -> Result<(), Fail> {
-    let alloc = rt.alloc();
-    let user = Uid::new(1001)?;
-    let mut host = Host::<ByPolicy>::new(alloc, Settings::detach_on_exit())?;
-    make_chain(&rt, alloc, &mut host, user);
-    let ended = [
-        (enter(100000, Call::Exit(0)), Answer::Done),
-        (leave(100000), Answer::Ended(0)),
-        (list(1001), Answer::Numbers([1001, 1002, 1003, 1004, 0])),
-        (list(1002), Answer::Numbers([1001, 1002, 1003, 1004, 0])),
-        (list(1003), Answer::Held),
-        (wait(1001), Answer::Nothing),
-        (wait(1002), Answer::Status(1003, 4479)),
-    ];
-    follow(&rt, alloc, &mut host, user, &ended[..]);
-    Ok(())
+/// Makes the process with this number, and its first LWP, which have the place `n` among the user's.
+fn spawn_at(alloc: Global, host: &mut Host<ByPolicy>, n: u32) -> Result<(), Trouble>
+    requires { n < 1000 }
+{
+    let (pid, tid) = (1000 + n, 100000 + n);
+    let text = format!(in alloc; "spawn -> new {pid} {tid}")?;
+    follow(alloc, host, text.as_str())
 }
 
-#[test]
-fn a_detached_tracee_keeps_its_signals(rt: HostRuntime) -> Result<(), Fail> {
-    let script = [
-        (go_on(1000, 1001, 0), Answer::Done),
-        (kill(1000, 1001, 5), Answer::Done),
-        (kill(1000, 1001, 30), Answer::Done),
-        (enter(100000, Call::Exit(0)), Answer::Done),
-        (leave(100000), Answer::Ended(0)),
-        (compute(100001), Answer::Ended(5)),
-        (compute(100001), Answer::Refused(Errno::ESRCH)),
-    ];
-    with_tracee(&rt, rt.alloc(), Settings::detach_on_exit(), &script[..])
+/// The process with this number traces the next one, which runs.
+fn trace_next(alloc: Global, host: &mut Host<ByPolicy>, debugger: u32) -> Result<(), Trouble>
+    requires { debugger < 2000 }
+{
+    let tracee = debugger + 1;
+    let text = format!(in alloc;
+        "ptrace {debugger} PT_ATTACH {tracee} -> ok
+        wait4 {debugger} -1 -> status {tracee} 4479
+        ptrace {debugger} PT_CONTINUE {tracee} -> ok"
+    )?;
+    follow(alloc, host, text.as_str())
 }
 
-#[test]
-fn a_tracee_that_stands_in_a_stop_is_detached_without_sigtrap(rt: HostRuntime) -> Result<(), Fail> {
-    let script = [
-        (kill(1000, 1001, 5), Answer::Done),
-        (kill(1000, 1001, 30), Answer::Done),
-        (enter(100000, Call::Exit(0)), Answer::Done),
-        (leave(100000), Answer::Ended(0)),
-        (compute(100001), Answer::Ended(30)),
-    ];
-    with_tracee(&rt, rt.alloc(), Settings::detach_on_exit(), &script[..])
-}
-
-#[test]
-fn a_tracee_with_signals_ends_with_its_debugger(rt: HostRuntime) -> Result<(), Fail> {
-    let script = [
-        (go_on(1000, 1001, 0), Answer::Done),
-        (kill(1000, 1001, 5), Answer::Done),
-        (enter(100000, Call::Exit(0)), Answer::Done),
-        (leave(100000), Answer::Ended(0)),
-        (compute(100001), Answer::Refused(Errno::ESRCH)),
-    ];
-    with_tracee(&rt, rt.alloc(), Settings::standard(), &script[..])
-}
-
-#[test]
-fn a_zombie_passes_from_its_tracer_to_its_parent(rt: HostRuntime) -> Result<(), Fail> {
-    let script = [
-        (PlainStep::Spawn, Answer::New(1000, 100000)),
-        (enter(100000, Call::Fork), Answer::Done),
-        (leave(100000), Answer::New(1001, 100001)),
-        (PlainStep::Spawn, Answer::New(1002, 100002)),
-        (attach(1002, 1001), Answer::Done),
-        (wait(1000), Answer::Nothing),
-        (kill(1000, 1001, 9), Answer::Done),
-        (wait(1000), Answer::Nothing),
-        (wait(1002), Answer::Status(1001, 9)),
-        (wait(1002), Answer::Refused(Errno::ECHILD)),
-        (wait(1000), Answer::Status(1001, 9)),
-        (wait(1000), Answer::Refused(Errno::ECHILD)),
-    ];
-    alone(&rt, rt.alloc(), &script[..])
-}
-
-#[test]
-fn tracees_report_by_rising_number(rt: HostRuntime) -> Result<(), Fail> {
-    let script = [
-        (PlainStep::Spawn, Answer::New(1002, 100002)),
-        (PlainStep::Spawn, Answer::New(1003, 100003)),
-        (PlainStep::Spawn, Answer::New(1004, 100004)),
-        (attach(1000, 1004), Answer::Done),
-        (attach(1000, 1002), Answer::Done),
-        (attach(1000, 1003), Answer::Done),
-        (wait(1000), Answer::Status(1002, 4479)),
-        (wait(1000), Answer::Status(1003, 4479)),
-        (wait(1000), Answer::Status(1004, 4479)),
-        (wait(1000), Answer::Nothing),
-        (ask(1000, Request::Detach, 1003, 0), Answer::Done),
-        (enter(100000, Call::Exit(0)), Answer::Done),
-        (leave(100000), Answer::Ended(0)),
-        (list(1001), Answer::Numbers([1001, 1003, 0, 0, 0])),
-    ];
-    with_two(&rt, rt.alloc(), Settings::standard(), &script[..])
-}
-
-#[test]
-fn an_exit_code_is_shifted_and_the_last_lwp_exits_with_0(rt: HostRuntime) -> Result<(), Fail> {
-    let script = [
-        (PlainStep::Spawn, Answer::New(1000, 100000)),
-        (enter(100000, Call::Fork), Answer::Done),
-        (leave(100000), Answer::New(1001, 100001)),
-        (enter(100001, Call::Exit(255)), Answer::Done),
-        (leave(100001), Answer::Ended(65280)),
-        (list(1000), Answer::Numbers([1000, 1001, 0, 0, 0])),
-        (wait(1000), Answer::Status(1001, 65280)),
-        (list(1000), Answer::Numbers([1000, 0, 0, 0, 0])),
-        (enter(100000, Call::ThrNew), Answer::Done),
-        (leave(100000), Answer::New(1000, 100002)),
-        (enter(100000, Call::ThrExit), Answer::Done),
-        (leave(100000), Answer::Done),
-        (compute(100000), Answer::Refused(Errno::ESRCH)),
-        (enter(100002, Call::ThrExit), Answer::Done),
-        (leave(100002), Answer::Ended(0)),
-        (list(1000), Answer::Refused(Errno::ESRCH)),
-    ];
-    alone(&rt, rt.alloc(), &script[..])
-}
-
-/// Makes the last steps where 1000 traces 1001, which has made 1002 by vfork and waits for it. 1001 and 1002 run.
-fn make_vfork<R: Abort>(rt: &R, alloc: Global, last: &[(PlainStep, Answer)]) -> Result<(), Fail> {
-    let mut host = Host::<ByPolicy>::new(alloc, Settings::standard())?;
-    let user = trace(rt, alloc, &mut host)?;
-    let made = [
-        (ask(1000, Request::SetEventMask, 1001, 40), Answer::Done),
-        (go_on(1000, 1001, 0), Answer::Done),
-        (enter(100001, Call::Vfork), Answer::Done),
-        (leave(100001), Answer::Stopped(100001, 5, AT_VFORK)),
-        (wait(1000), Answer::Status(1001, 1407)),
-        (wait(1000), Answer::Status(1002, 4479)),
-        (go_on(1000, 1001, 0), Answer::Done),
-        (compute(100001), Answer::Held),
-        (go_on(1000, 1002, 0), Answer::Done),
-    ];
-    follow(rt, alloc, &mut host, user, &made[..]);
-    follow(rt, alloc, &mut host, user, last);
-    Ok(())
-}
-
-#[test]
-fn a_childs_exec_releases_its_vfork(rt: HostRuntime) -> Result<(), Fail> {
-    let last = [
-        (enter(100002, Call::Exec), Answer::Done),
-        (leave(100002), Answer::Stopped(100002, 5, AT_EXEC)),
-        (compute(100001), Answer::Stopped(100001, 5, VFORK_DONE)),
-        (wait(1000), Answer::Status(1001, 1407)),
-    ];
-    make_vfork(&rt, rt.alloc(), &last[..])
-}
-
-/// A child's tracer collects its end, which is then left to the parent. The parent's tracer sees SIGCHLD.
-#[test]
-fn a_childs_end_releases_its_vfork(rt: HostRuntime) -> Result<(), Fail> {
-    let last = [
-        (enter(100002, Call::Exit(3)), Answer::Done),
-        (leave(100002), Answer::Ended(768)),
-        (compute(100001), Answer::Stopped(100001, 5, VFORK_DONE)),
-        (wait(1000), Answer::Status(1001, 1407)),
-        (wait(1000), Answer::Status(1002, 768)),
-        (go_on(1000, 1001, 0), Answer::Done),
-        (compute(100001), Answer::Stopped(100001, 20, 0)),
-        (wait(1000), Answer::Status(1001, 5247)),
-        (go_on(1000, 1001, 0), Answer::Done),
-        (wait(1001), Answer::Status(1002, 768)),
-        (wait(1001), Answer::Refused(Errno::ECHILD)),
-    ];
-    make_vfork(&rt, rt.alloc(), &last[..])
-}
-
-#[test]
-fn an_untraced_vfork_waits_for_its_childs_end(rt: HostRuntime) -> Result<(), Fail> {
-    let script = [
-        (PlainStep::Spawn, Answer::New(1000, 100000)),
-        (enter(100000, Call::Vfork), Answer::Done),
-        (leave(100000), Answer::New(1001, 100001)),
-        (compute(100000), Answer::Held),
-        (enter(100001, Call::Exit(0)), Answer::Done),
-        (leave(100001), Answer::Ended(0)),
-        (compute(100000), Answer::Done),
-        (wait(1000), Answer::Status(1001, 0)),
-    ];
-    alone(&rt, rt.alloc(), &script[..])
-}
-
-#[test]
-fn a_detached_process_has_no_stop_at_the_end_of_its_vfork(rt: HostRuntime) -> Result<(), Fail> {
-    let script = [
-        (ask(1000, Request::SetEventMask, 1001, 32), Answer::Done),
-        (go_on(1000, 1001, 0), Answer::Done),
-        (enter(100001, Call::Vfork), Answer::Done),
-        (leave(100001), Answer::New(1002, 100002)),
-        (enter(100000, Call::Exit(0)), Answer::Done),
-        (leave(100000), Answer::Ended(0)),
-        (compute(100001), Answer::Held),
-        (enter(100002, Call::Exit(1)), Answer::Done),
-        (leave(100002), Answer::Ended(256)),
-        (compute(100001), Answer::Done),
-        (wait(1001), Answer::Status(1002, 256)),
-    ];
-    with_tracee(&rt, rt.alloc(), Settings::detach_on_exit(), &script[..])
-}
-
-#[test]
-fn a_zombie_passes_to_its_parent_when_its_tracer_ends(rt: HostRuntime) -> Result<(), Fail> {
-    let script = [
-        (PlainStep::Spawn, Answer::New(1000, 100000)),
-        (enter(100000, Call::Fork), Answer::Done),
-        (leave(100000), Answer::New(1001, 100001)),
-        (PlainStep::Spawn, Answer::New(1002, 100002)),
-        (sigaction(1000, 20, Disposition::Catch), Answer::Done),
-        (attach(1002, 1001), Answer::Done),
-        (kill(1000, 1001, 9), Answer::Done),
-        (compute(100000), Answer::Done),
-        (wait(1000), Answer::Nothing),
-        (enter(100002, Call::Exit(0)), Answer::Done),
-        (leave(100002), Answer::Ended(0)),
-        (compute(100000), Answer::Caught(20)),
-        (wait(1000), Answer::Status(1001, 9)),
-        (list(1000), Answer::Numbers([1000, 0, 0, 0, 0])),
-    ];
-    alone(&rt, rt.alloc(), &script[..])
-}
-
-#[test]
-fn an_orphan_is_collected_at_once(rt: HostRuntime) -> Result<(), Fail> {
-    let script = [
-        (PlainStep::Spawn, Answer::New(1000, 100000)),
-        (enter(100000, Call::Fork), Answer::Done),
-        (leave(100000), Answer::New(1001, 100001)),
-        (PlainStep::Spawn, Answer::New(1002, 100002)),
-        (kill(1002, 1000, 9), Answer::Done),
-        (list(1002), Answer::Numbers([1001, 1002, 0, 0, 0])),
-        (kill(1002, 1001, 9), Answer::Done),
-        (list(1002), Answer::Numbers([1002, 0, 0, 0, 0])),
-    ];
-    alone(&rt, rt.alloc(), &script[..])
-}
+const END_OF_ALL: &str = "
+ptrace 1249 PT_ATTACH 1000 -> error EINVAL 22
+turn 100000 enter exit 0 -> ok
+turn 100000 leave -> ended 0
+turn 100249 compute -> error ESRCH 3
+spawn -> new 1250 100250
+list 1250 -> pids 1250
+";
 
 /// The end of the first of 250 processes ends all, where each traces the next.
 #[test]
 fn a_long_chain_of_debuggers_ends(rt: HostRuntime) -> Result<(), Fail> {
     let alloc = rt.alloc();
-    let user = Uid::new(1001)?;
     let mut host = Host::<ByPolicy>::new(alloc, Settings::standard())?;
     for n in 0u32..250 {
-        let made = [(PlainStep::Spawn, Answer::New(1000 + n, 100000 + n))];
-        follow(&rt, alloc, &mut host, user, &made[..]);
+        spawn_at(alloc, &mut host, n)?;
     }
-    for n in 1u32..250 {
-        let (debugger, tracee) = (999 + n, 1000 + n);
-        let traced = [
-            (attach(debugger, tracee), Answer::Done),
-            (wait(debugger), Answer::Status(tracee, 4479)),
-            (go_on(debugger, tracee, 0), Answer::Done),
-        ];
-        follow(&rt, alloc, &mut host, user, &traced[..]);
+    for debugger in 1000u32..1249 {
+        trace_next(alloc, &mut host, debugger)?;
     }
-    let last = [
-        (attach(1249, 1000), Answer::Refused(Errno::EINVAL)),
-        (enter(100000, Call::Exit(0)), Answer::Done),
-        (leave(100000), Answer::Ended(0)),
-        (compute(100249), Answer::Refused(Errno::ESRCH)),
-        (PlainStep::Spawn, Answer::New(1250, 100250)),
-        (list(1250), Answer::Numbers([1250, 0, 0, 0, 0])),
-    ];
-    follow(&rt, alloc, &mut host, user, &last[..]);
+    follow(alloc, &mut host, END_OF_ALL)?;
     Ok(())
 }

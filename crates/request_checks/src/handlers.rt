@@ -3,113 +3,92 @@
 ghost use Rattle.std.specs.Prelude.{◌≡◌, ◌<◌};
 ghost use Rattle.stop_handlers.specs.Handlers.{Obeys};
 
-use crate::script::{
-    AS_CHILD, AT_FORK, Answer, NONE, answered, ask, attach, compute, enter, follow, go_on, kill,
-    leave, reporting, trace,
-};
-use event_masks::{Call, StopFlags};
+use crate::script::trace;
+use event_masks::StopFlags;
 use pid_blocks::{Errno, Uid};
-use requests::{Host, PlainStep, Request, Step};
+use requests::{Host, Reply, Step};
 use signals::{Pass, Signal};
 use std::alloc::Global;
 use std::process::Abort;
 use std::test::Fail;
 use stop_handlers::{ByClosure, ByPolicy, Decider, Decision, Handler, Policy, Rule, StopView};
+use test_kit::{Trouble, follow};
 use trace_stop::Settings;
 
-/// Installs a handler, and checks that the reply is `Done`.
-fn install<R: Abort, F: Decider + Send + Drop>(
-    rt: &R,
+/// A fork of the tracee of 1000, whose child 1000 traces too, and a signal. The only handler of 1000 continues at a fork,
+/// detaches at SIGUSR1 and kills at another SIGTRAP.
+const STOPS: &str = "
+ptrace 1000 PT_SET_EVENT_MASK 1001 8 -> ok
+ptrace 1000 PT_CONTINUE 1001 -> ok
+turn 100001 enter fork -> ok
+turn 100001 leave -> stopped 100001 5 flags=PL_FLAG_SCX+PL_FLAG_FORKED
+handle 1000 -> handled 1001 1407 at 100001 signal=5 flags=PL_FLAG_SCX+PL_FLAG_FORKED child=1002 code=2 by 0 continue 0
+handle 1000 -> handled 1002 4479 at 100002 signal=17 flags=PL_FLAG_SCX+PL_FLAG_CHILD child=0 code=2 by none decline
+kill 1000 1001 30 -> ok
+turn 100001 compute -> stopped 100001 30 flags=none
+handle 1000 -> handled 1001 7807 at 100001 signal=30 flags=none child=0 code=0 by 0 detach 0
+ptrace 1000 PT_CONTINUE 1001 -> error EPERM 1
+ptrace 1000 PT_CONTINUE 1002 -> ok
+handle 1000 -> nothing
+";
+
+/// A stop with SIGSTOP, for which the first handler has no rule. The second leaves it.
+const LEFT: &str = "
+ptrace 1000 PT_CONTINUE 1001 -> ok
+kill 1000 1001 17 -> ok
+turn 100001 compute -> stopped 100001 17 flags=none
+handle 1000 -> handled 1001 4479 at 100001 signal=17 flags=none child=0 code=0 by 1 leave
+handle 1000 -> nothing
+";
+
+/// A new process 1000, which traces another, has no handler for the stop.
+const DECLINED: &str = "
+spawn -> new 1001 101001
+ptrace 1000 PT_ATTACH 1001 -> ok
+handle 1000 -> handled 1001 4479 at 101001 signal=17 flags=none child=0 code=0 by none decline
+";
+
+/// Installs a handler of the first user's process 1000.
+fn install<F: Decider + Send + Drop>(
     alloc: Global,
     host: &mut Host<F>,
-    user: Uid,
     handler: Handler<F>,
-) {
-    let reply = host.step(alloc, user, Step::install(1000, handler));
-    assert_eq!(rt; answered(&reply), Answer::Done);
+) -> Result<(), Trouble> {
+    let reply = host.step(alloc, Uid::new(1001)?, Step::install(1000, handler));
+    if reply == Reply::Done {
+        Ok(())
+    } else {
+        Err(Trouble::Wrong("an install is refused"))
+    }
 }
 
-fn handle() -> PlainStep {
-    PlainStep::Handle { caller: 1000 }
-}
-
-fn goes_on(none: &Pass) -> Decision {
-    Decision::Continue(*none)
-}
-
-fn detaches(none: &Pass) -> Decision {
-    Decision::Detach(*none)
-}
-
-/// Returns the answer about the stop of 1001 at its fork.
-fn handled_fork(none: &Pass) -> Answer {
-    let fork = reporting(100001, AT_FORK, 1002, 2);
-    Answer::Handled(1001, 1407, 5, fork, Some(0), goes_on(none))
-}
-
-/// Returns the answer about the stop of the child.
-fn handled_child() -> Answer {
-    let child = reporting(100002, AS_CHILD, 0, 2);
-    Answer::Handled(1002, 4479, 17, child, None, Decision::Decline)
-}
-
-/// Returns the answer about the stop of 1001 with SIGUSR1.
-fn handled_signal(none: &Pass) -> Answer {
-    let shows = reporting(100001, NONE, 0, 0);
-    Answer::Handled(1001, 7807, 30, shows, Some(0), detaches(none))
-}
-
-/// Checks the answers to 1000 about a fork of its tracee, whose child it traces too, and about a signal. Its only
-/// handler continues at a fork, detaches at SIGUSR1 and kills at another SIGTRAP.
-fn handle_stops<R: Abort, F: Decider + Send + Drop>(
-    rt: &R,
-    alloc: Global,
-    host: &mut Host<F>,
-    user: Uid,
-    none: &Pass,
-) {
-    let script = [
-        (ask(1000, Request::SetEventMask, 1001, 8), Answer::Done),
-        (go_on(1000, 1001, 0), Answer::Done),
-        (enter(100001, Call::Fork), Answer::Done),
-        (leave(100001), Answer::Stopped(100001, 5, AT_FORK)),
-        (handle(), handled_fork(none)),
-        (handle(), handled_child()),
-        (kill(1000, 1001, 30), Answer::Done),
-        (compute(100001), Answer::Stopped(100001, 30, NONE)),
-        (handle(), handled_signal(none)),
-        (go_on(1000, 1001, 0), Answer::Refused(Errno::EPERM)),
-        (go_on(1000, 1002, 0), Answer::Done),
-        (handle(), Answer::Nothing),
-    ];
-    follow(rt, alloc, host, user, &script[..]);
-}
-
-/// Checks how the handler handles these stops, on a host of its own.
-fn follow_fork<R: Abort, F: Decider + Send + Drop>(
-    rt: &R,
-    alloc: Global,
-    handler: Handler<F>,
-) -> Result<(), Fail> {
-    let none = Pass::new(0)?;
+/// Returns a host on which the first user's process 1000 traces 1001, and has collected its stop.
+fn with_tracee<F: Decider + Send + Drop>(alloc: Global) -> Result<Host<F>, Trouble> {
     let mut host = Host::<F>::new(alloc, Settings::standard())?;
-    let user = trace(rt, alloc, &mut host)?;
-    install(rt, alloc, &mut host, user, handler);
-    handle_stops(rt, alloc, &mut host, user, &none);
-    Ok(())
+    trace(alloc, &mut host)?;
+    Ok(host)
+}
+
+/// Checks how the handler handles the stops, on a host of its own.
+fn follow_fork<F: Decider + Send + Drop>(
+    alloc: Global,
+    handler: Handler<F>,
+) -> Result<(), Trouble> {
+    let mut host = with_tracee(alloc)?;
+    install(alloc, &mut host, handler)?;
+    follow(alloc, &mut host, STOPS)
 }
 
 /// Checks a decider that obeys the policy, on a host of its own.
-fn decide_by<R: Abort, F: Decider + Send + Drop>(
-    rt: &R,
+fn decide_by<F: Decider + Send + Drop>(
     alloc: Global,
     policy: Policy,
     decider: F,
-) -> Result<(), Fail>
+) -> Result<(), Trouble>
     requires askable { F.can_ask decider }
     requires obeys { Obeys (F.gives decider) policy }
 {
-    follow_fork(rt, alloc, Handler::new(policy, decider))
+    follow_fork(alloc, Handler::new(policy, decider))
 }
 
 /// A closure that decides by cases and calls no policy.
@@ -143,7 +122,8 @@ fn a_closure_decides_by_cases(rt: HostRuntime) -> Result<(), Fail> {
             Decision::Kill
         }
     };
-    decide_by(&rt, rt.alloc(), policy, ByClosure(by_cases))
+    decide_by(rt.alloc(), policy, ByClosure(by_cases))?;
+    Ok(())
 }
 
 /// Returns a rule for a signal with any flags.
@@ -191,21 +171,8 @@ fn fork_policy(none: Pass) -> Result<Policy, Fail> {
 fn a_policy_decides_about_stops(rt: HostRuntime) -> Result<(), Fail> {
     let none = Pass::new(0)?;
     let policy = fork_policy(none)?;
-    follow_fork(&rt, rt.alloc(), by_policy(policy))
-}
-
-/// Checks that the second handler leaves a stop with SIGSTOP, for which the first has no rule.
-fn leave_stop<R: Abort>(rt: &R, alloc: Global, host: &mut Host<ByPolicy>, user: Uid) {
-    let shows = reporting(100001, NONE, 0, 0);
-    let left = Answer::Handled(1001, 4479, 17, shows, Some(1), Decision::Leave);
-    let script = [
-        (go_on(1000, 1001, 0), Answer::Done),
-        (kill(1000, 1001, 17), Answer::Done),
-        (compute(100001), Answer::Stopped(100001, 17, NONE)),
-        (handle(), left),
-        (handle(), Answer::Nothing),
-    ];
-    follow(rt, alloc, host, user, &script[..]);
+    follow_fork(rt.alloc(), by_policy(policy))?;
+    Ok(())
 }
 
 /// Checks that the second handler was installed by 1000 and has the policy.
@@ -222,103 +189,63 @@ fn stands_second<R: Abort>(rt: &R, host: &Host<ByPolicy>, user: Uid, wanted: &Po
 #[test]
 fn handlers_are_asked_in_their_order(rt: HostRuntime) -> Result<(), Fail> {
     let alloc = rt.alloc();
-    let traps = one_rule(5, Decision::Kill)?;
     let stops = one_rule(17, Decision::Leave)?;
-    let mut host = Host::<ByPolicy>::new(alloc, Settings::standard())?;
-    let user = trace(&rt, alloc, &mut host)?;
-    install(&rt, alloc, &mut host, user, by_policy(traps));
-    install(&rt, alloc, &mut host, user, by_policy(stops));
-    leave_stop(&rt, alloc, &mut host, user);
-    stands_second(&rt, &host, user, &stops);
+    let mut host = with_tracee::<ByPolicy>(alloc)?;
+    install(alloc, &mut host, by_policy(one_rule(5, Decision::Kill)?))?;
+    install(alloc, &mut host, by_policy(stops))?;
+    follow(alloc, &mut host, LEFT)?;
+    stands_second(&rt, &host, Uid::new(1001)?, &stops);
     Ok(())
 }
 
-/// Makes the user's first process.
-fn spawn_first<R: Abort>(rt: &R, alloc: Global, host: &mut Host<ByPolicy>, user: Uid) {
-    let script = [(PlainStep::Spawn, Answer::New(1000, 100000))];
-    follow(rt, alloc, host, user, &script[..]);
-}
-
-fn install_64<R: Abort>(
-    rt: &R,
-    alloc: Global,
-    host: &mut Host<ByPolicy>,
-    user: Uid,
-    policy: Policy,
-) {
-    for _ in 0u32..64 {
-        install(rt, alloc, host, user, by_policy(policy));
+/// Returns a host with the user's first process, which has this many handlers.
+fn with_handlers(alloc: Global, policy: Policy, count: u32) -> Result<Host<ByPolicy>, Trouble> {
+    let mut host = Host::<ByPolicy>::new(alloc, Settings::standard())?;
+    follow(alloc, &mut host, "spawn -> new 1000 100000")?;
+    for _ in 0..count {
+        install(alloc, &mut host, by_policy(policy))?;
     }
-}
-
-/// Installs one more handler, and returns the answer.
-fn install_more(alloc: Global, host: &mut Host<ByPolicy>, user: Uid, policy: Policy) -> Answer {
-    let step = Step::Install {
-        caller: 1000,
-        handler: by_policy(policy),
-    };
-    let reply = host.step(alloc, user, step);
-    answered(&reply)
+    Ok(host)
 }
 
 #[test]
 fn a_user_has_up_to_64_handlers(rt: HostRuntime) -> Result<(), Fail> {
-    let alloc = rt.alloc();
-    let user = Uid::new(1001)?;
+    let (alloc, user) = (rt.alloc(), Uid::new(1001)?);
     let policy = Policy::new(&[])?;
-    let mut host = Host::<ByPolicy>::new(alloc, Settings::standard())?;
-    spawn_first(&rt, alloc, &mut host, user);
-    install_64(&rt, alloc, &mut host, user, policy);
-    let answer = install_more(alloc, &mut host, user, policy);
-    assert_eq!(rt; answer, Answer::Refused(Errno::EAGAIN));
+    let mut host = with_handlers(alloc, policy, 64)?;
+    let reply = host.step(alloc, user, Step::install(1000, by_policy(policy)));
+    assert_eq!(rt; reply, Reply::Errno(Errno::EAGAIN));
     assert!(rt; host.policy(user, 63).is_some());
     assert!(rt; host.policy(user, 64).is_none());
     Ok(())
 }
 
-/// Returns the steps that end the process 1000 + n and make the next one, which after 1999 is 1000.
-fn round(n: u32) -> [(PlainStep, Answer); 3]
+/// The process 1000 + n ends, and the next one is made, which after 1999 is 1000.
+fn end_and_spawn(alloc: Global, host: &mut Host<ByPolicy>, n: u32) -> Result<(), Trouble>
     requires { n < 1000 }
 {
-    let next = 1000 + (n + 1) % 1000;
-    [
-        (enter(100000 + n, Call::Exit(0)), Answer::Done),
-        (leave(100000 + n), Answer::Ended(0)),
-        (PlainStep::Spawn, Answer::New(next, 100001 + n)),
-    ]
+    let (tid, next, born) = (100000 + n, 1000 + (n + 1) % 1000, 100001 + n);
+    let text = format!(in alloc;
+        "turn {tid} enter exit 0 -> ok\nturn {tid} leave -> ended 0\nspawn -> new {next} {born}"
+    )?;
+    follow(alloc, host, text.as_str())
 }
 
 /// Uses each of the user's numbers once, so that the next one is the first again.
-fn go_around<R: Abort>(rt: &R, alloc: Global, host: &mut Host<ByPolicy>, user: Uid) {
+fn go_around(alloc: Global, host: &mut Host<ByPolicy>) -> Result<(), Trouble> {
     for n in 0u32..1000 {
-        let script = round(n);
-        follow(rt, alloc, host, user, &script[..]);
+        end_and_spawn(alloc, host, n)?;
     }
-}
-
-/// Checks that a new process 1000, which traces another, has no handler for the stop.
-fn decline_stop<R: Abort>(rt: &R, alloc: Global, host: &mut Host<ByPolicy>, user: Uid) {
-    let shows = reporting(101001, NONE, 0, 0);
-    let declined = Answer::Handled(1001, 4479, 17, shows, None, Decision::Decline);
-    let script = [
-        (PlainStep::Spawn, Answer::New(1001, 101001)),
-        (attach(1000, 1001), Answer::Done),
-        (handle(), declined),
-    ];
-    follow(rt, alloc, host, user, &script[..]);
+    Ok(())
 }
 
 /// A debugger's handlers end with it, and do nothing for a new process with its number.
 #[test]
 fn a_handler_does_not_outlive_its_debugger(rt: HostRuntime) -> Result<(), Fail> {
     let alloc = rt.alloc();
-    let user = Uid::new(1001)?;
-    let stops = one_rule(17, Decision::Kill)?;
-    let mut host = Host::<ByPolicy>::new(alloc, Settings::standard())?;
-    spawn_first(&rt, alloc, &mut host, user);
-    install(&rt, alloc, &mut host, user, by_policy(stops));
-    go_around(&rt, alloc, &mut host, user);
-    assert!(rt; host.policy(user, 0).is_none());
-    decline_stop(&rt, alloc, &mut host, user);
+    let mut host = with_handlers(alloc, one_rule(17, Decision::Kill)?, 1)?;
+    go_around(alloc, &mut host)?;
+    assert!(rt; host.policy(Uid::new(1001)?, 0).is_none());
+    follow(alloc, &mut host, DECLINED)?;
     Ok(())
 }

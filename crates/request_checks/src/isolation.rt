@@ -1,64 +1,48 @@
 //! Numbers that the user doesn't see, and unused numbers.
 
-use crate::script::{
-    Answer, ask, attach, compute, follow, go_on, kill, list, spawn_three, wait_for, with_two,
-};
-use pid_blocks::{Errno, Uid};
-use requests::{Host, PlainStep, Request, Step};
+use crate::script::check_sessions;
+use requests::{PlainStep, Step};
 use std::test::Fail;
 use stop_handlers::{ByPolicy, Handler, Policy};
-use trace_stop::Settings;
+use test_kit::Trouble;
+
+const SESSIONS: &str = "
+[two processes] another user's numbers are unknown
+1002 ptrace 2000 PT_ATTACH 1000 -> error ESRCH 3
+1002 ptrace 2000 PT_ATTACH 1500 -> error ESRCH 3
+1002 ptrace 2000 PT_ATTACH 100000 -> error ESRCH 3
+1002 ptrace 2000 PT_CONTINUE 1001 -> error ESRCH 3
+1002 kill 2000 1000 0 -> error ESRCH 3
+1002 turn 100000 compute -> error ESRCH 3
+1002 wait4 2000 1000 -> error ECHILD 10
+1002 list 2000 -> pids 2000
+
+[two processes] numbers out of every range are refused
+wait4 1000 -9223372036854775808 -> error EINVAL 22
+wait4 1000 0 -> error EINVAL 22
+wait4 1000 9223372036854775807 -> error ECHILD 10
+kill 1000 9223372036854775807 0 -> error ESRCH 3
+kill 1000 100001 0 -> error ESRCH 3
+kill 1000 -2 0 -> error EINVAL 22
+kill 1000 1001 4294967295 -> error EINVAL 22
+ptrace 1000 PT_ATTACH 0 -> error ESRCH 3
+ptrace 1000 PT_ATTACH 4294967295 -> error ESRCH 3
+list 0 -> error ESRCH 3
+ptrace 1000 PT_ATTACH 100001 -> ok
+wait4 1000 1001 -> status 1001 4479
+ptrace 1000 PT_DETACH 100001 -> ok
+";
 
 #[test]
-fn another_users_numbers_are_unknown(rt: HostRuntime) -> Result<(), Fail> {
-    let alloc = rt.alloc();
-    let mut host = Host::<ByPolicy>::new(alloc, Settings::standard())?;
-    let _first = spawn_three(&rt, alloc, &mut host)?;
-    let script = [
-        (attach(2000, 1000), Answer::Refused(Errno::ESRCH)),
-        (attach(2000, 1500), Answer::Refused(Errno::ESRCH)),
-        (attach(2000, 100000), Answer::Refused(Errno::ESRCH)),
-        (go_on(2000, 1001, 0), Answer::Refused(Errno::ESRCH)),
-        (kill(2000, 1000, 0), Answer::Refused(Errno::ESRCH)),
-        (compute(100000), Answer::Refused(Errno::ESRCH)),
-        (wait_for(2000, 1000), Answer::Refused(Errno::ECHILD)),
-        (list(2000), Answer::Numbers([2000, 0, 0, 0, 0])),
-    ];
-    follow(&rt, alloc, &mut host, Uid::new(1002)?, &script[..]);
-    Ok(())
-}
-
-#[test]
-fn numbers_out_of_every_range_are_refused(rt: HostRuntime) -> Result<(), Fail> {
-    let script = [
-        (wait_for(1000, i64::MIN), Answer::Refused(Errno::EINVAL)),
-        (wait_for(1000, 0), Answer::Refused(Errno::EINVAL)),
-        (wait_for(1000, i64::MAX), Answer::Refused(Errno::ECHILD)),
-        (kill(1000, i64::MAX, 0), Answer::Refused(Errno::ESRCH)),
-        (kill(1000, 100001, 0), Answer::Refused(Errno::ESRCH)),
-        (kill(1000, -2, 0), Answer::Refused(Errno::EINVAL)),
-        (kill(1000, 1001, u32::MAX), Answer::Refused(Errno::EINVAL)),
-        (attach(1000, 0), Answer::Refused(Errno::ESRCH)),
-        (attach(1000, u32::MAX), Answer::Refused(Errno::ESRCH)),
-        (list(0), Answer::Refused(Errno::ESRCH)),
-        (attach(1000, 100001), Answer::Done),
-        (wait_for(1000, 1001), Answer::Status(1001, 4479)),
-        (ask(1000, Request::Detach, 100001, 0), Answer::Done),
-    ];
-    with_two(&rt, rt.alloc(), Settings::standard(), &script[..])
+fn sessions(rt: HostRuntime) -> Result<(), Trouble> {
+    check_sessions(rt.alloc(), SESSIONS)
 }
 
 #[test]
 fn a_plain_install_has_the_handlers_policy(rt: HostRuntime) -> Result<(), Fail> {
     let policy = Policy::new(&[])?;
-    let step = Step::Install {
-        caller: 1000,
-        handler: Handler::new(policy, ByPolicy(policy)),
-    };
-    let plain = PlainStep::Install {
-        caller: 1000,
-        handler: policy,
-    };
+    let step = Step::install(1000, Handler::new(policy, ByPolicy(policy)));
+    let plain = PlainStep::install(1000, policy);
     assert_eq!(rt; step.plain(), plain);
     assert_eq!(rt; plain.by_policy().plain(), plain);
     Ok(())

@@ -2,6 +2,5 @@
 
 mod laws;
 mod limits;
-mod lines;
 mod sessions;
 mod views;

@@ -8,13 +8,12 @@ ghost use Rattle.requests.specs.declared.step.Step.TheVariants as op;
 ghost use Rattle.requests.specs.declared.Request.TheVariants as request;
 ghost use Rattle.visibility.specs.WorkedRuns.{kills, by};
 
-use super::lines::{Line, compare, first, second, steps_of};
-use crate::script::{Answer, answered, attach, compute, kill, list, wait_for};
-use pid_blocks::{Errno, Uid};
-use requests::{Host, PlainStep, Reply, Request, Step};
+use pid_blocks::Uid;
+use requests::{Host, Reply, Request, Step};
 use std::alloc::{AllocError, Global};
 use std::test::Fail;
 use stop_handlers::{ByPolicy, Handler};
+use test_kit::{Row, Trouble, check_replies, lines_of, rows_of, steps_in};
 use trace_stop::Settings;
 use visibility::laws::{foreign_number, foreign_numbers, one_step, other_step, two_lists};
 
@@ -61,10 +60,12 @@ fn beside_another(alloc: Global) -> Result<(Reply, (Reply, Reply)), Fail> {
 
 #[test]
 fn one_step_beside_a_step_of_another(rt: HostRuntime) -> Result<(), Fail> {
-    let (reply, replies) = beside_another(rt.alloc())?;
-    assert_eq!(rt; answered(&reply), Answer::New(2000, 104000));
-    assert_eq!(rt; answered(&replies.0), Answer::New(1000, 100000));
-    assert_eq!(rt; answered(&replies.1), Answer::New(1000, 100000));
+    let (reply, (shared, own)) = beside_another(rt.alloc())?;
+    let found = format!(in rt.alloc(); "{reply}, {shared}, {own}")?;
+    assert_eq!(rt;
+        found.as_str(),
+        "new 2000 104000, new 1000 100000, new 1000 100000"
+    );
     Ok(())
 }
 
@@ -91,48 +92,54 @@ fn foreign_attaches(alloc: Global) -> Result<(Reply, Reply), Fail> {
 
 #[test]
 fn a_foreign_number_is_as_good_as_nobodys(rt: HostRuntime) -> Result<(), Fail> {
-    let replies = foreign_attaches(rt.alloc())?;
-    assert_eq!(rt; answered(&replies.0), Answer::Refused(Errno::ESRCH));
-    assert_eq!(rt; answered(&replies.1), Answer::Refused(Errno::ESRCH));
+    let (foreign, unused) = foreign_attaches(rt.alloc())?;
+    let found = format!(in rt.alloc(); "{foreign}, {unused}")?;
+    assert_eq!(rt; found.as_str(), "error ESRCH 3, error ESRCH 3");
     Ok(())
 }
 
-/// Returns the replies to the first user's steps on one host, and to all steps on another.
+/// Returns the replies to the first user's lines on one host, and to all lines on another.
 fn both_lists(
     alloc: Global,
     one: &mut Host<ByPolicy>,
     other: &mut Host<ByPolicy>,
-    lines: &[Line],
-) -> Result<(Vec<Reply>, Vec<Reply>), Fail>
+    own: &[Row<'_>],
+    all: &[Row<'_>],
+) -> Result<(Vec<Reply>, Vec<Reply>), Trouble>
     requires { other.old ≡ one.old }
 {
     let user = Uid::new(1001)?;
-    let steps = steps_of(alloc, lines, Some(1001))?;
-    let all = steps_of(alloc, lines, None)?;
-    Ok(two_lists(alloc, one, other, user, steps, all)?)
+    let steps = steps_in(alloc, own, None)?;
+    let others = steps_in(alloc, all, None)?;
+    Ok(two_lists(alloc, one, other, user, steps, others)?)
 }
 
 /// Does the same on unused hosts.
 fn both_lists_from_nothing(
     alloc: Global,
-    lines: &[Line],
-) -> Result<(Vec<Reply>, Vec<Reply>), Fail> {
+    own: &[Row<'_>],
+    all: &[Row<'_>],
+) -> Result<(Vec<Reply>, Vec<Reply>), Trouble> {
     let mut one = unused(alloc)?;
     let mut other = unused(alloc)?;
-    both_lists(alloc, &mut one, &mut other, lines)
+    both_lists(alloc, &mut one, &mut other, own, all)
 }
+
+const LISTS: &str = "
+spawn -> new 1000 100000
+1002 spawn -> new 2000 104000
+1002 ptrace 2000 PT_ATTACH 1000 -> error ESRCH 3
+list 1000 -> pids 1000
+";
 
 #[test]
 fn two_lists_in_which_a_user_asks_the_same(rt: HostRuntime) -> Result<(), Fail> {
-    let lines = [
-        first(PlainStep::Spawn, Answer::New(1000, 100000)),
-        second(PlainStep::Spawn, Answer::New(2000, 104000)),
-        second(attach(2000, 1000), Answer::Refused(Errno::ESRCH)),
-        first(list(1000), Answer::Numbers([1000, 0, 0, 0, 0])),
-    ];
-    let (own, all) = both_lists_from_nothing(rt.alloc(), &lines[..])?;
-    compare(&rt, own.as_slice(), &lines[..], Some(1001));
-    compare(&rt, all.as_slice(), &lines[..], None);
+    let alloc = rt.alloc();
+    let all = rows_of(alloc, LISTS)?;
+    let own = lines_of(alloc, all.as_slice(), Uid::new(1001)?, None)?;
+    let (first, both) = both_lists_from_nothing(alloc, own.as_slice(), all.as_slice())?;
+    check_replies(alloc, own.as_slice(), first.as_slice())?;
+    check_replies(alloc, all.as_slice(), both.as_slice())?;
     Ok(())
 }
 
@@ -141,54 +148,60 @@ fn alike_lists(
     alloc: Global,
     one: &mut Host<ByPolicy>,
     other: &mut Host<ByPolicy>,
-    lines: &[Line],
-    others: &[Line],
-) -> Result<(Vec<Reply>, Vec<Reply>), Fail>
+    foreign: &[Row<'_>],
+    unused: &[Row<'_>],
+) -> Result<(Vec<Reply>, Vec<Reply>), Trouble>
     requires { other.old ≡ one.old }
 {
     let user = Uid::new(1001)?;
-    let steps = steps_of(alloc, lines, None)?;
-    let alike = steps_of(alloc, others, None)?;
+    let steps = steps_in(alloc, foreign, None)?;
+    let alike = steps_in(alloc, unused, None)?;
     Ok(foreign_numbers(alloc, one, other, user, steps, alike)?)
 }
 
 /// Does the same on unused hosts.
 fn alike_lists_from_nothing(
     alloc: Global,
-    lines: &[Line],
-    others: &[Line],
-) -> Result<(Vec<Reply>, Vec<Reply>), Fail> {
+    foreign: &[Row<'_>],
+    others: &[Row<'_>],
+) -> Result<(Vec<Reply>, Vec<Reply>), Trouble> {
     let mut one = unused(alloc)?;
     let mut other = unused(alloc)?;
-    alike_lists(alloc, &mut one, &mut other, lines, others)
+    alike_lists(alloc, &mut one, &mut other, foreign, others)
 }
 
-/// In the first list the first user names the second one's process and LWP, in the second list unused numbers.
+/// The first user names the second one's process and LWP.
+const FOREIGN: &str = "
+spawn -> new 1000 100000
+1002 spawn -> new 2000 104000
+ptrace 1000 PT_ATTACH 2000 -> error ESRCH 3
+turn 104000 compute -> error ESRCH 3
+wait4 1000 2000 -> error ECHILD 10
+kill 1000 2000 9 -> error ESRCH 3
+1002 list 2000 -> pids 2000
+list 2000 -> error ESRCH 3
+list 1000 -> pids 1000
+";
+
+/// The first user names unused numbers in their place.
+const UNUSED: &str = "
+spawn -> new 1000 100000
+ptrace 1000 PT_ATTACH 1500 -> error ESRCH 3
+turn 100007 compute -> error ESRCH 3
+wait4 1000 1500 -> error ECHILD 10
+1002 ptrace 2000 PT_ATTACH 1000 -> error ESRCH 3
+kill 1000 1500 9 -> error ESRCH 3
+list 1500 -> error ESRCH 3
+list 1000 -> pids 1000
+";
+
 #[test]
 fn two_lists_that_differ_in_foreign_numbers(rt: HostRuntime) -> Result<(), Fail> {
-    let foreign = [
-        first(PlainStep::Spawn, Answer::New(1000, 100000)),
-        second(PlainStep::Spawn, Answer::New(2000, 104000)),
-        first(attach(1000, 2000), Answer::Refused(Errno::ESRCH)),
-        first(compute(104000), Answer::Refused(Errno::ESRCH)),
-        first(wait_for(1000, 2000), Answer::Refused(Errno::ECHILD)),
-        first(kill(1000, 2000, 9), Answer::Refused(Errno::ESRCH)),
-        second(list(2000), Answer::Numbers([2000, 0, 0, 0, 0])),
-        first(list(2000), Answer::Refused(Errno::ESRCH)),
-        first(list(1000), Answer::Numbers([1000, 0, 0, 0, 0])),
-    ];
-    let unused = [
-        first(PlainStep::Spawn, Answer::New(1000, 100000)),
-        first(attach(1000, 1500), Answer::Refused(Errno::ESRCH)),
-        first(compute(100007), Answer::Refused(Errno::ESRCH)),
-        first(wait_for(1000, 1500), Answer::Refused(Errno::ECHILD)),
-        second(attach(2000, 1000), Answer::Refused(Errno::ESRCH)),
-        first(kill(1000, 1500, 9), Answer::Refused(Errno::ESRCH)),
-        first(list(1500), Answer::Refused(Errno::ESRCH)),
-        first(list(1000), Answer::Numbers([1000, 0, 0, 0, 0])),
-    ];
-    let (named, unnamed) = alike_lists_from_nothing(rt.alloc(), &foreign[..], &unused[..])?;
-    compare(&rt, named.as_slice(), &foreign[..], None);
-    compare(&rt, unnamed.as_slice(), &unused[..], None);
+    let alloc = rt.alloc();
+    let foreign = rows_of(alloc, FOREIGN)?;
+    let unused = rows_of(alloc, UNUSED)?;
+    let (named, unnamed) = alike_lists_from_nothing(alloc, foreign.as_slice(), unused.as_slice())?;
+    check_replies(alloc, foreign.as_slice(), named.as_slice())?;
+    check_replies(alloc, unused.as_slice(), unnamed.as_slice())?;
     Ok(())
 }

@@ -1,65 +1,71 @@
 //! The limits of one user, which don't affect another.
 
-use super::lines::{Line, first, second, together_and_alone};
-use crate::script::{Answer, compute, enter, leave};
-use event_masks::Call;
-use pid_blocks::Errno;
-use requests::PlainStep;
-use std::test::Fail;
+use std::alloc::{AllocError, Global};
 use stop_handlers::Policy;
+use test_kit::{Trouble, together_and_alone};
 
-const TOO_MANY: Answer = Answer::Refused(Errno::EAGAIN);
-
-/// Returns the spawns of 250 processes of the first user, and of one more.
-fn many_processes() -> [Line; 252] {
-    let mut lines = [first(PlainStep::Spawn, TOO_MANY); 252];
+/// Returns the spawns of 250 processes of the first user, of one more, and of one of the second.
+fn many_processes(alloc: Global) -> Result<String, AllocError> {
+    let mut text = String::new(alloc);
     for place in 0u32..250 {
-        let made = Answer::New(1000 + place, 100000 + place);
-        lines[place as usize] = first(PlainStep::Spawn, made);
+        let (pid, tid) = (1000 + place, 100000 + place);
+        writeln!(text, "spawn -> new {pid} {tid}")?;
     }
-    lines[251] = second(PlainStep::Spawn, Answer::New(2000, 104000));
-    lines
-}
-
-#[test]
-fn a_user_has_250_processes(rt: HostRuntime) -> Result<(), Fail> {
-    together_and_alone(&rt, rt.alloc(), &many_processes()[..])
+    text.push_str(
+        "spawn -> error EAGAIN 35
+        1002 spawn -> new 2000 104000",
+    )?;
+    Ok(text)
 }
 
 /// Returns the steps that make 1000 LWPs of one process of the first user, and more.
-fn many_lwps() -> [Line; 2004] {
-    let mut lines = [first(enter(100000, Call::ThrNew), Answer::Done); 2004];
-    lines[0] = first(PlainStep::Spawn, Answer::New(1000, 100000));
-    for place in 1u32..1000 {
-        let made = Answer::New(1000, 100000 + place);
-        lines[2 * place as usize] = first(leave(100000), made);
+fn many_lwps(alloc: Global) -> Result<String, AllocError> {
+    let mut text = String::from_str(alloc, "spawn -> new 1000 100000\n")?;
+    for tid in 100001u32..101000 {
+        writeln!(
+            text,
+            "turn 100000 enter thr_new -> ok\nturn 100000 leave -> new 1000 {tid}"
+        )?;
     }
-    lines[2000] = first(leave(100000), TOO_MANY);
-    lines[2001] = first(PlainStep::Spawn, TOO_MANY);
-    lines[2002] = second(PlainStep::Spawn, Answer::New(2000, 104000));
-    lines[2003] = second(compute(104000), Answer::Done);
-    lines
+    text.push_str(
+        "turn 100000 enter thr_new -> ok
+        turn 100000 leave -> error EAGAIN 35
+        spawn -> error EAGAIN 35
+        1002 spawn -> new 2000 104000
+        1002 turn 104000 compute -> ok",
+    )?;
+    Ok(text)
+}
+
+/// Returns 64 installs of one process of the first user, and more.
+fn many_handlers(alloc: Global) -> Result<String, AllocError> {
+    let mut text = String::from_str(alloc, "spawn -> new 1000 100000\n")?;
+    for _ in 0..64 {
+        text.push_str("install 1000 -> ok\n")?;
+    }
+    text.push_str(
+        "install 1000 -> error EAGAIN 35
+        1002 spawn -> new 2000 104000
+        1002 install 2000 -> ok",
+    )?;
+    Ok(text)
 }
 
 #[test]
-fn a_user_has_1000_lwps(rt: HostRuntime) -> Result<(), Fail> {
-    together_and_alone(&rt, rt.alloc(), &many_lwps()[..])
-}
-
-fn install(caller: u32, policy: Policy) -> PlainStep {
-    PlainStep::Install {
-        caller,
-        handler: policy,
-    }
+fn a_user_has_250_processes(rt: HostRuntime) -> Result<(), Trouble> {
+    let text = many_processes(rt.alloc())?;
+    together_and_alone(rt.alloc(), text.as_str(), None)
 }
 
 #[test]
-fn a_user_has_64_stop_handlers(rt: HostRuntime) -> Result<(), Fail> {
+fn a_user_has_1000_lwps(rt: HostRuntime) -> Result<(), Trouble> {
+    let text = many_lwps(rt.alloc())?;
+    together_and_alone(rt.alloc(), text.as_str(), None)
+}
+
+#[test]
+fn a_user_has_64_stop_handlers(rt: HostRuntime) -> Result<(), Trouble> {
+    let text = many_handlers(rt.alloc())?;
     let policy = Policy::new(&[])?;
-    let mut lines = [first(install(1000, policy), Answer::Done); 68];
-    lines[0] = first(PlainStep::Spawn, Answer::New(1000, 100000));
-    lines[65] = first(install(1000, policy), TOO_MANY);
-    lines[66] = second(PlainStep::Spawn, Answer::New(2000, 104000));
-    lines[67] = second(install(2000, policy), Answer::Done);
-    together_and_alone(&rt, rt.alloc(), &lines[..])
+    together_and_alone(rt.alloc(), text.as_str(), Some(&policy))
 }

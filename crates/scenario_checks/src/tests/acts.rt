@@ -1,255 +1,73 @@
+//! Turns.
+
 use super::check;
-use scenario::Fault;
-use std::test::Fail;
+use test_kit::Trouble;
+
+const STEPS: &str = r#"
+# turns
+"turn" -> BadShape at step 2
+"turn","act":"fly" -> BadShape at step 2
+"turn","lwp":-1,"act":"fly" -> BadNumber at step 2
+"turn","lwp":100001 -> BadShape at step 2
+"turn","lwp":100001,"act":"fly" -> BadName at step 2
+"turn","lwp":100001,"act":{} -> BadShape at step 2
+"turn","caller":1000,"lwp":100001,"act":"compute" -> BadShape at step 2
+"turn","lwp":4294967295,"act":"compute" -> accepted
+
+# acts
+"turn","lwp":100001,"act":"compute" -> accepted
+"turn","lwp":100001,"act":"compute","signal":1 -> BadShape at step 2
+"turn","lwp":100001,"act":"leave" -> accepted
+"turn","lwp":100001,"act":"leave","code":1 -> BadShape at step 2
+"turn","lwp":100001,"act":"raise","signal":0 -> accepted
+"turn","lwp":100001,"act":"raise","signal":4294967296 -> BadNumber at step 2
+"turn","lwp":100001,"act":"raise" -> BadShape at step 2
+"turn","lwp":100001,"act":"raise","signal":1.0 -> BadShape at step 2
+"turn","lwp":100001,"act":"raise","signal":-1,"set":[] -> BadNumber at step 2
+"turn","lwp":100001,"act":"raise","signal":1,"set":[] -> BadShape at step 2
+
+# blocks
+"turn","lwp":100001,"act":"block","set":[] -> accepted
+"turn","lwp":100001,"act":"block","set":[1,31,9,17,1] -> accepted
+"turn","lwp":100001,"act":"block" -> BadShape at step 2
+"turn","lwp":100001,"act":"block","set":1 -> BadShape at step 2
+"turn","lwp":100001,"act":"block","set":[0] -> BadNumber at step 2
+"turn","lwp":100001,"act":"block","set":[32] -> BadNumber at step 2
+"turn","lwp":100001,"act":"block","set":[32,"a"] -> BadNumber at step 2
+"turn","lwp":100001,"act":"block","set":["a",32] -> BadShape at step 2
+"turn","lwp":100001,"act":"block","set":[32],"signal":1 -> BadNumber at step 2
+"turn","lwp":100001,"act":"block","set":[1],"signal":1 -> BadShape at step 2
+
+# calls
+"turn","lwp":100001,"act":"enter" -> BadShape at step 2
+"turn","lwp":100001,"act":"enter","code":-1 -> BadShape at step 2
+"turn","lwp":100001,"act":"enter","call":"fly" -> BadName at step 2
+"turn","lwp":100001,"act":"enter","call":2 -> BadShape at step 2
+"turn","lwp":100001,"act":"enter","call":"fork" -> accepted
+"turn","lwp":100001,"act":"enter","call":"vfork" -> accepted
+"turn","lwp":100001,"act":"enter","call":"exec" -> accepted
+"turn","lwp":100001,"act":"enter","call":"thr_new" -> accepted
+"turn","lwp":100001,"act":"enter","call":"thr_exit" -> accepted
+"turn","lwp":100001,"act":"enter","call":"fork","code":2 -> BadShape at step 2
+"turn","lwp":100001,"act":"enter","call":"thr_exit","signal":0 -> BadShape at step 2
+"turn","lwp":100001,"act":"enter","call":"fly","x":0 -> BadName at step 2
+
+# calls with a code
+"turn","lwp":100001,"act":"enter","call":"exit","code":0 -> accepted
+"turn","lwp":100001,"act":"enter","call":"exit","code":255 -> accepted
+"turn","lwp":100001,"act":"enter","call":"exit","code":256 -> BadNumber at step 2
+"turn","lwp":100001,"act":"enter","call":"exit","code":-1 -> BadNumber at step 2
+"turn","lwp":100001,"act":"enter","call":"exit" -> BadShape at step 2
+"turn","lwp":100001,"act":"enter","call":"exit","code":256,"x":0 -> BadNumber at step 2
+"turn","lwp":100001,"act":"enter","call":"exit","code":1,"x":0 -> BadShape at step 2
+"turn","lwp":100001,"act":"enter","call":"other","code":4294967295 -> accepted
+"turn","lwp":100001,"act":"enter","call":"other","code":4294967296 -> BadNumber at step 2
+"turn","lwp":100001,"act":"enter","call":"other" -> BadShape at step 2
+"turn","lwp":100001,"act":"enter","call":"other","code":"20" -> BadShape at step 2
+"turn","lwp":100001,"act":"enter","call":"other","code":20,"set":[] -> BadShape at step 2
+"#;
 
 #[test]
-fn turns(rt: HostRuntime) -> Result<(), Fail> {
-    check(
-        &rt,
-        &[
-            ("\"turn\"", Some(Fault::BadShape(2))),
-            ("\"turn\",\"act\":\"fly\"", Some(Fault::BadShape(2))),
-            (
-                "\"turn\",\"lwp\":-1,\"act\":\"fly\"",
-                Some(Fault::BadNumber(2)),
-            ),
-            ("\"turn\",\"lwp\":100001", Some(Fault::BadShape(2))),
-            (
-                "\"turn\",\"lwp\":100001,\"act\":\"fly\"",
-                Some(Fault::BadName(2)),
-            ),
-            (
-                "\"turn\",\"lwp\":100001,\"act\":{}",
-                Some(Fault::BadShape(2)),
-            ),
-            (
-                "\"turn\",\"caller\":1000,\"lwp\":100001,\"act\":\"compute\"",
-                Some(Fault::BadShape(2)),
-            ),
-            ("\"turn\",\"lwp\":4294967295,\"act\":\"compute\"", None),
-        ],
-    )
-}
-
-#[test]
-fn acts(rt: HostRuntime) -> Result<(), Fail> {
-    check(
-        &rt,
-        &[
-            ("\"turn\",\"lwp\":100001,\"act\":\"compute\"", None),
-            (
-                "\"turn\",\"lwp\":100001,\"act\":\"compute\",\"signal\":1",
-                Some(Fault::BadShape(2)),
-            ),
-            ("\"turn\",\"lwp\":100001,\"act\":\"leave\"", None),
-            (
-                "\"turn\",\"lwp\":100001,\"act\":\"leave\",\"code\":1",
-                Some(Fault::BadShape(2)),
-            ),
-            (
-                "\"turn\",\"lwp\":100001,\"act\":\"raise\",\"signal\":0",
-                None,
-            ),
-        ],
-    )?;
-    check(
-        &rt,
-        &[
-            (
-                "\"turn\",\"lwp\":100001,\"act\":\"raise\",\"signal\":4294967296",
-                Some(Fault::BadNumber(2)),
-            ),
-            (
-                "\"turn\",\"lwp\":100001,\"act\":\"raise\"",
-                Some(Fault::BadShape(2)),
-            ),
-            (
-                "\"turn\",\"lwp\":100001,\"act\":\"raise\",\"signal\":1.0",
-                Some(Fault::BadShape(2)),
-            ),
-            (
-                "\"turn\",\"lwp\":100001,\"act\":\"raise\",\"signal\":-1,\"set\":[]",
-                Some(Fault::BadNumber(2)),
-            ),
-            (
-                "\"turn\",\"lwp\":100001,\"act\":\"raise\",\"signal\":1,\"set\":[]",
-                Some(Fault::BadShape(2)),
-            ),
-        ],
-    )
-}
-
-#[test]
-fn blocks(rt: HostRuntime) -> Result<(), Fail> {
-    check(
-        &rt,
-        &[
-            ("\"turn\",\"lwp\":100001,\"act\":\"block\",\"set\":[]", None),
-            (
-                "\"turn\",\"lwp\":100001,\"act\":\"block\",\"set\":[1,31,9,17,1]",
-                None,
-            ),
-            (
-                "\"turn\",\"lwp\":100001,\"act\":\"block\"",
-                Some(Fault::BadShape(2)),
-            ),
-            (
-                "\"turn\",\"lwp\":100001,\"act\":\"block\",\"set\":1",
-                Some(Fault::BadShape(2)),
-            ),
-            (
-                "\"turn\",\"lwp\":100001,\"act\":\"block\",\"set\":[0]",
-                Some(Fault::BadNumber(2)),
-            ),
-        ],
-    )?;
-    check(
-        &rt,
-        &[
-            (
-                "\"turn\",\"lwp\":100001,\"act\":\"block\",\"set\":[32]",
-                Some(Fault::BadNumber(2)),
-            ),
-            (
-                "\"turn\",\"lwp\":100001,\"act\":\"block\",\"set\":[32,\"a\"]",
-                Some(Fault::BadNumber(2)),
-            ),
-            (
-                "\"turn\",\"lwp\":100001,\"act\":\"block\",\"set\":[\"a\",32]",
-                Some(Fault::BadShape(2)),
-            ),
-            (
-                "\"turn\",\"lwp\":100001,\"act\":\"block\",\"set\":[32],\"signal\":1",
-                Some(Fault::BadNumber(2)),
-            ),
-            (
-                "\"turn\",\"lwp\":100001,\"act\":\"block\",\"set\":[1],\"signal\":1",
-                Some(Fault::BadShape(2)),
-            ),
-        ],
-    )
-}
-
-#[test]
-fn calls(rt: HostRuntime) -> Result<(), Fail> {
-    check(
-        &rt,
-        &[
-            (
-                "\"turn\",\"lwp\":100001,\"act\":\"enter\"",
-                Some(Fault::BadShape(2)),
-            ),
-            (
-                "\"turn\",\"lwp\":100001,\"act\":\"enter\",\"code\":-1",
-                Some(Fault::BadShape(2)),
-            ),
-            (
-                "\"turn\",\"lwp\":100001,\"act\":\"enter\",\"call\":\"fly\"",
-                Some(Fault::BadName(2)),
-            ),
-            (
-                "\"turn\",\"lwp\":100001,\"act\":\"enter\",\"call\":2",
-                Some(Fault::BadShape(2)),
-            ),
-            (
-                "\"turn\",\"lwp\":100001,\"act\":\"enter\",\"call\":\"fork\"",
-                None,
-            ),
-            (
-                "\"turn\",\"lwp\":100001,\"act\":\"enter\",\"call\":\"vfork\"",
-                None,
-            ),
-        ],
-    )?;
-    check(
-        &rt,
-        &[
-            (
-                "\"turn\",\"lwp\":100001,\"act\":\"enter\",\"call\":\"exec\"",
-                None,
-            ),
-            (
-                "\"turn\",\"lwp\":100001,\"act\":\"enter\",\"call\":\"thr_new\"",
-                None,
-            ),
-            (
-                "\"turn\",\"lwp\":100001,\"act\":\"enter\",\"call\":\"thr_exit\"",
-                None,
-            ),
-            (
-                "\"turn\",\"lwp\":100001,\"act\":\"enter\",\"call\":\"fork\",\"code\":2",
-                Some(Fault::BadShape(2)),
-            ),
-            (
-                "\"turn\",\"lwp\":100001,\"act\":\"enter\",\"call\":\"thr_exit\",\"signal\":0",
-                Some(Fault::BadShape(2)),
-            ),
-            (
-                "\"turn\",\"lwp\":100001,\"act\":\"enter\",\"call\":\"fly\",\"x\":0",
-                Some(Fault::BadName(2)),
-            ),
-        ],
-    )
-}
-
-#[test]
-fn calls_with_a_code(rt: HostRuntime) -> Result<(), Fail> {
-    check(
-        &rt,
-        &[
-            (
-                "\"turn\",\"lwp\":100001,\"act\":\"enter\",\"call\":\"exit\",\"code\":0",
-                None,
-            ),
-            (
-                "\"turn\",\"lwp\":100001,\"act\":\"enter\",\"call\":\"exit\",\"code\":255",
-                None,
-            ),
-            (
-                "\"turn\",\"lwp\":100001,\"act\":\"enter\",\"call\":\"exit\",\"code\":256",
-                Some(Fault::BadNumber(2)),
-            ),
-            (
-                "\"turn\",\"lwp\":100001,\"act\":\"enter\",\"call\":\"exit\",\"code\":-1",
-                Some(Fault::BadNumber(2)),
-            ),
-            (
-                "\"turn\",\"lwp\":100001,\"act\":\"enter\",\"call\":\"exit\"",
-                Some(Fault::BadShape(2)),
-            ),
-            (
-                "\"turn\",\"lwp\":100001,\"act\":\"enter\",\"call\":\"exit\",\"code\":256,\"x\":0",
-                Some(Fault::BadNumber(2)),
-            ),
-        ],
-    )?;
-    check(
-        &rt,
-        &[
-            (
-                "\"turn\",\"lwp\":100001,\"act\":\"enter\",\"call\":\"exit\",\"code\":1,\"x\":0",
-                Some(Fault::BadShape(2)),
-            ),
-            (
-                "\"turn\",\"lwp\":100001,\"act\":\"enter\",\"call\":\"other\",\"code\":4294967295",
-                None,
-            ),
-            (
-                "\"turn\",\"lwp\":100001,\"act\":\"enter\",\"call\":\"other\",\"code\":4294967296",
-                Some(Fault::BadNumber(2)),
-            ),
-            (
-                "\"turn\",\"lwp\":100001,\"act\":\"enter\",\"call\":\"other\"",
-                Some(Fault::BadShape(2)),
-            ),
-            (
-                "\"turn\",\"lwp\":100001,\"act\":\"enter\",\"call\":\"other\",\"code\":\"20\"",
-                Some(Fault::BadShape(2)),
-            ),
-            (
-                "\"turn\",\"lwp\":100001,\"act\":\"enter\",\"call\":\"other\",\"code\":20,\"set\":[]",
-                Some(Fault::BadShape(2)),
-            ),
-        ],
-    )
+fn faults(rt: HostRuntime) -> Result<(), Trouble> {
+    check(rt.alloc(), STEPS)
 }

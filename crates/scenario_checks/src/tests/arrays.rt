@@ -1,53 +1,22 @@
+//! Options of waits.
+
 use super::check;
-use scenario::Fault;
-use std::test::Fail;
+use test_kit::Trouble;
+
+const STEPS: &str = r#"
+# options
+"wait4","caller":1000,"which":-1,"options":["WNOHANG"] -> accepted
+"wait4","caller":1000,"which":-1,"options":["WUNTRACED","WCONTINUED","WNOHANG","WUNTRACED"] -> accepted
+"wait4","caller":1000,"which":-1,"options":["WEXITED"] -> BadName at step 2
+"wait4","caller":1000,"which":-1,"options":["wnohang"] -> BadName at step 2
+"wait4","caller":1000,"which":-1,"options":"WNOHANG" -> BadShape at step 2
+"wait4","caller":1000,"which":-1,"options":[null] -> BadShape at step 2
+"wait4","caller":1000,"which":-1,"options":["WFLY",null] -> BadName at step 2
+"wait4","caller":1000,"which":-1,"options":[null,"WFLY"] -> BadShape at step 2
+"wait4","caller":1000,"which":-1,"options":null -> BadShape at step 2
+"#;
 
 #[test]
-fn options(rt: HostRuntime) -> Result<(), Fail> {
-    check(
-        &rt,
-        &[
-            (
-                "\"wait4\",\"caller\":1000,\"which\":-1,\"options\":[\"WNOHANG\"]",
-                None,
-            ),
-            (
-                "\"wait4\",\"caller\":1000,\"which\":-1,\"options\":[\"WUNTRACED\",\"WCONTINUED\",\"WNOHANG\",\"WUNTRACED\"]",
-                None,
-            ),
-            (
-                "\"wait4\",\"caller\":1000,\"which\":-1,\"options\":[\"WEXITED\"]",
-                Some(Fault::BadName(2)),
-            ),
-            (
-                "\"wait4\",\"caller\":1000,\"which\":-1,\"options\":[\"wnohang\"]",
-                Some(Fault::BadName(2)),
-            ),
-            (
-                "\"wait4\",\"caller\":1000,\"which\":-1,\"options\":\"WNOHANG\"",
-                Some(Fault::BadShape(2)),
-            ),
-        ],
-    )?;
-    check(
-        &rt,
-        &[
-            (
-                "\"wait4\",\"caller\":1000,\"which\":-1,\"options\":[null]",
-                Some(Fault::BadShape(2)),
-            ),
-            (
-                "\"wait4\",\"caller\":1000,\"which\":-1,\"options\":[\"WFLY\",null]",
-                Some(Fault::BadName(2)),
-            ),
-            (
-                "\"wait4\",\"caller\":1000,\"which\":-1,\"options\":[null,\"WFLY\"]",
-                Some(Fault::BadShape(2)),
-            ),
-            (
-                "\"wait4\",\"caller\":1000,\"which\":-1,\"options\":null",
-                Some(Fault::BadShape(2)),
-            ),
-        ],
-    )
+fn faults(rt: HostRuntime) -> Result<(), Trouble> {
+    check(rt.alloc(), STEPS)
 }

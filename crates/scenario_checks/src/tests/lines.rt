@@ -1,3 +1,4 @@
+use super::words_of;
 use event_masks::{EventMask, StopFlags};
 use lwpinfo::{Event, LwpInfo, NumList};
 use pid_blocks::{Errno, Pid, Tid, Uid};
@@ -13,10 +14,7 @@ use wait4::Status;
 fn check<R: Abort + AllocGlobal>(rt: &R, reply: Reply, want: &str) -> Result<(), Fail> {
     let mut replies = Vec::new(rt.alloc());
     replies.push((Uid::new(1001)?, reply))?;
-    let options = RunOptions {
-        user: None,
-        style: Style::Words,
-    };
+    let options = words_of(None);
     let found = render(rt.alloc(), replies.as_slice(), options)?;
     assert!(rt; found.as_str() == want, "{found}");
     Ok(())
@@ -71,11 +69,7 @@ fn lines_of_one_user(rt: HostRuntime) -> Result<(), Fail> {
         (Some(second), "1002 1 new 2000 104000\n"),
         (Some(Uid::new(1064)?), ""),
     ] {
-        let options = RunOptions {
-            user,
-            style: Style::Words,
-        };
-        let found = render(alloc, replies.as_slice(), options)?;
+        let found = render(alloc, replies.as_slice(), words_of(user))?;
         assert!(rt; found.as_str() == want, "{found}");
     }
     Ok(())

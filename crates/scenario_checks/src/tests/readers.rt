@@ -1,5 +1,5 @@
-use super::{ITS_LINES, SPAWN_AND_LIST};
-use scenario::{Fault, RunOptions, Style, read, run};
+use super::{ITS_LINES, SPAWN_AND_LIST, words_of};
+use scenario::{Fault, read, run};
 use std::io;
 use std::test::Fail;
 use stop_handlers::{ByPolicy, Handler};
@@ -63,16 +63,7 @@ fn a_reader_that_is_interrupted(rt: HostRuntime) -> Result<(), Fail> {
     let scenario = read(alloc, &mut Slow::new(SPAWN_AND_LIST.as_bytes(), false))?;
     let handlers: Vec<Handler<ByPolicy>> = Vec::new(alloc);
     let mut lines = Vec::new(alloc);
-    run(
-        alloc,
-        &scenario,
-        handlers,
-        RunOptions {
-            user: None,
-            style: Style::Words,
-        },
-        &mut lines,
-    )?;
+    run(alloc, &scenario, handlers, words_of(None), &mut lines)?;
     assert!(rt; lines.as_slice() == ITS_LINES.as_bytes());
     Ok(())
 }

@@ -1,5 +1,5 @@
-use super::{ITS_LINES, ITS_LINES_BY_USER, SPAWN_AND_LIST};
-use scenario::{RunFault, RunOptions, Style, parse, run};
+use super::{ITS_LINES, ITS_LINES_BY_USER, SPAWN_AND_LIST, words_of};
+use scenario::{RunFault, parse, run};
 use std::io;
 use std::process::Abort;
 use std::sync::Wait;
@@ -59,10 +59,7 @@ fn check<R: Abort + Threads + Wait + Sync + AllocGlobal>(
     };
     let scenario = parse(alloc, SPAWN_AND_LIST.as_bytes())?;
     let handlers: Vec<Handler<ByPolicy>> = Vec::new(alloc);
-    let options = RunOptions {
-        user: None,
-        style: Style::Words,
-    };
+    let options = words_of(None);
     let (ended, lines) = if threads {
         let ended = run_threads(rt, alloc, &scenario, handlers, options, &mut writer);
         (ended, ITS_LINES_BY_USER)

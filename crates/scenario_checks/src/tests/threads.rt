@@ -1,6 +1,6 @@
-use super::{ITS_LINES_BY_USER, SESSION, SPAWN_AND_LIST, handlers_by_policy};
+use super::{ITS_LINES_BY_USER, SESSION, SPAWN_AND_LIST, handlers_by_policy, words_of};
 use pid_blocks::Uid;
-use scenario::{RunFault, RunOptions, Style, parse, run};
+use scenario::{RunFault, parse, run};
 use std::alloc::Global;
 use std::sync::Wait;
 use std::test::Fail;
@@ -18,10 +18,7 @@ fn text_of<R: Threads + Wait + Sync + AllocGlobal>(
     let alloc = rt.alloc();
     let scenario = parse(alloc, text.as_bytes())?;
     let handlers = handlers_by_policy(alloc, &scenario)?;
-    let options = RunOptions {
-        user,
-        style: Style::Words,
-    };
+    let options = words_of(user);
     let mut writer = Vec::new(alloc);
     if threads {
         run_threads(rt, alloc, &scenario, handlers, options, &mut writer)?;
@@ -71,10 +68,7 @@ fn handlers_of_others(rt: HostRuntime) -> Result<(), Fail> {
     let scenario = parse(alloc, SESSION.as_bytes())?;
     let none: Vec<Handler<ByPolicy>> = Vec::new(alloc);
     let mut writer = Vec::new(alloc);
-    let options = RunOptions {
-        user: None,
-        style: Style::Words,
-    };
+    let options = words_of(None);
     let ended = run_threads(&rt, alloc, &scenario, none, options, &mut writer).err();
     assert_eq!(rt; ended, Some(RunFault::Mismatch));
     assert!(rt; writer.is_empty());

@@ -1,0 +1,18 @@
+//! What the test crates share: sessions written as lines of text, users' views of two hosts compared, pseudo-random
+//! numbers, and one error type.
+#![tactic(auto)]
+
+mod dice;
+mod lines;
+mod rows;
+mod sessions;
+mod steps;
+mod trouble;
+mod views;
+
+pub use dice::Dice;
+pub use lines::{lines_of, step_in, steps_in};
+pub use rows::{Row, Section, rows_of, sections_of};
+pub use sessions::{check_replies, follow, host_after, together_and_alone};
+pub use trouble::Trouble;
+pub use views::{check_hosts, sees_same};

@@ -1,0 +1,73 @@
+//! Tables of text: in each row what is given, an arrow, and what is expected. Sections part a longer text.
+
+use crate::Trouble;
+use std::alloc::Global;
+use std::fmt::Display;
+
+/// A row of a table.
+#[derive(Clone, Copy, Drop)]
+pub struct Row<'a> {
+    pub given: &'a str,
+    pub wanted: &'a str,
+}
+
+impl Row<'_> {
+    /// Checks that what was found reads as the row says. The error names the row.
+    pub fn check<D: Display>(&self, alloc: Global, found: &D) -> Result<(), Trouble> {
+        let found = format!(in alloc; "{found}")?;
+        if found.as_str() == self.wanted {
+            return Ok(());
+        }
+        let given = self.given;
+        let wanted = self.wanted;
+        let said = format!(in alloc; "`{given}` gives `{found}`, and not `{wanted}`")?;
+        Err(Trouble::Line(said))
+    }
+}
+
+/// Returns the rows of a table: `GIVEN -> WANTED`, one a line. Empty lines and headings, `# NAME`, are left out, and blanks at the
+/// ends of both parts.
+pub fn rows_of(alloc: Global, table: &str) -> Result<Vec<Row<'_>>, Trouble> {
+    let mut rows = Vec::new(alloc);
+    for line in table.lines() {
+        let line = line.trim_ascii();
+        if !line.is_empty() && !line.starts_with("# ") {
+            let Some((given, wanted)) = line.split_once("->") else {
+                return Err(Trouble::Line(format!(in alloc; "`{line}` has no arrow")?));
+            };
+            rows.push(Row {
+                given: given.trim_ascii(),
+                wanted: wanted.trim_ascii(),
+            })?;
+        }
+    }
+    Ok(rows)
+}
+
+/// A section of a text: its heading, and the lines after it.
+#[derive(Clone, Copy, Drop)]
+pub struct Section<'a> {
+    /// The words in brackets.
+    pub start: &'a str,
+    pub name: &'a str,
+    pub text: &'a str,
+}
+
+/// Returns a section, or `None` where it has no heading.
+fn section_of(text: &str) -> Option<Section<'_>> {
+    let (heading, text) = text.trim_ascii().split_once('\n')?;
+    let (start, name) = heading.strip_prefix("[")?.split_once("] ")?;
+    Some(Section { start, name, text })
+}
+
+/// Returns the sections of a text, which empty lines part. A section begins with a heading `[START] NAME`.
+pub fn sections_of(alloc: Global, text: &str) -> Result<Vec<Section<'_>>, Trouble> {
+    let mut sections = Vec::new(alloc);
+    for part in text.split("\n\n") {
+        let Some(section) = section_of(part) else {
+            return Err(Trouble::Line(format!(in alloc; "`{part}` has no heading")?));
+        };
+        sections.push(section)?;
+    }
+    Ok(sections)
+}
