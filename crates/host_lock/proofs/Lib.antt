@@ -6,3 +6,4 @@ pub mod Journey
 pub mod Openings
 pub mod Closings
 pub mod Crossing
+pub mod Meeting

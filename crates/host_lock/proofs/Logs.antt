@@ -1,5 +1,5 @@
 -- A journal that is one entry longer.
-use Rattle.std.proofs.Common.{◌≡◌, ℕ, true, false, eqb, List, [], ◌∷◌, ◌++◌, sym, refl, ap, ◌∙◌, subst, append_assoc, append-nil}
+use Rattle.std.proofs.Common.{◌≡◌, ℕ, Bool, true, false, eqb, leb, length, if◌then◌else◌, List, [], ◌∷◌, ◌++◌, sym, refl, ap, ◌∙◌, subst, append_assoc, append-nil}
 use Rattle.std.proofs.lemmas.List.Elements.{filter-append}
 use Rattle.std.proofs.lemmas.List.{map-append}
 use Rattle.requests.specs.Machine.{Machine}
@@ -9,6 +9,7 @@ use Rattle.pid_blocks.specs.Users.{IsUser}
 use Rattle.requests.specs.Isolation.{host_after, reply_of, Users}
 use Rattle.host_lock.specs.declared.journal.Entry.{Entry}
 use Rattle.host_lock.specs.Journal.{asked, replay, IsLegal, entries_of, StartsWith}
+use Rattle.host_lock.specs.Rule.{longer}
 
 last_more : (m : Machine) (xs : List Asked) (x : Asked) → last (xs ++ x ∷ []) m ≡ host_after x.uid x.step (last xs m)
 last_more m [] x = refl
@@ -65,3 +66,11 @@ made m now after log longer e legal is reply then more =
 pub users_more : (log : List Entry) (e : Entry) → Users (asked log) → IsUser e.uid → Users (asked (log ++ e ∷ []))
 users_more [] e all user = (user, tt)
 users_more (x ∷ xs) e all user = (all.0, users_more xs e all.1 user)
+
+-- the longer of two lists is one of them
+pub longer_is : (P : List Entry → Type 0) (x y : List Entry) → P x → P y → P (longer (x ∷ y ∷ []))
+longer_is P x y p q = by_test (leb (length y) (length x))
+  where
+    by_test : (b : Bool) → P (if b then x else y)
+    by_test true = p
+    by_test false = q

@@ -11,14 +11,14 @@ use Rattle.atomic_table.specs.Table.{State, step, Act, keeps, takes, gives, home
 use Rattle.requests.specs.Machine.{Machine}
 use Rattle.requests.specs.Plain.{PlainStep}
 use Rattle.host_lock.specs.declared.journal.Entry.{Entry}
-use Rattle.host_lock.specs.Views.{Stage, Idle, Waiting, Holding, Counted, Account, View, spent}
+use Rattle.host_lock.specs.Views.{Stage, Idle, Waiting, Holding, Counted, Paired, Account, View, spent}
 use Rattle.host_lock.specs.declared.view.Slot.{Slot}
 use Rattle.host_lock.specs.declared.view.Slot.TheVariants.{There, Away}
 use Rattle.host_lock.specs.History.{History, history}
 use Rattle.host_lock.specs.Journal.{StartsWith, next_entry}
-use Rattle.host_lock.specs.Rule.{M, total, Each, once, has_ticket, has_slot, owes, times, Matches, AtTurn, Fits, ticket_of, slot_of, number_of, parts_of, budget_of, calls_of, InSlot, IsKept, drawn, taken, drew, Takes, turned, first_seen, ticket_in, counted, released, fresh, fresh_view, opening_view, both, session_view, Closes, Tells, start_of, seen_of, mine_of, TakesSlot}
+use Rattle.host_lock.specs.Rule.{M, total, Each, once, has_ticket, has_slot, owes, times, Matches, AtTurn, Fits, ticket_of, slot_of, number_of, parts_of, budget_of, calls_of, InSlot, IsKept, drawn, taken, drew, Takes, turned, first_seen, staged, met, pair, longer, ticket_in, counted, released, fresh, fresh_view, opening_view, both, session_view, Closes, Tells, start_of, seen_of, mine_of, TakesSlot}
 use Rattle.host_lock.specs.Limits.{most_sessions, most_calls}
-use Rattle.host_lock.proofs.Logs.{entries_mine, entries_other, starts_longer}
+use Rattle.host_lock.proofs.Logs.{entries_mine, entries_other, starts_longer, longer_is}
 use Rattle.host_lock.proofs.Totals.{once_same, once_else, total_set, total_snoc, total_one, total_two, total_find, seats_set, seats_snoc, each_map, each_append}
 
 total_same : (f : View → ℕ) (l : List View) (i : ℕ) (v w : View) → get_elem? l i ≡ some v → f w ≡ f v → total f (set l i w) ≡ total f l
@@ -33,18 +33,21 @@ holder_ticket serving log Idle seen out turn t = absurd (omega arith)
 holder_ticket serving log (Waiting q) seen out turn t = absurd (omega arith)
 holder_ticket serving log (Holding q) seen out turn t = ap (λ (x : ℕ). once x t) turn.0
 holder_ticket serving log (Counted q) seen out turn t = ap (λ (x : ℕ). once x t) turn.0
+holder_ticket serving log (Paired b) seen out turn t = absurd (omega arith)
 
 holder_seen : (serving : ℕ) (log : List Entry) (g : Stage) (seen : List (List Entry)) → has_slot g ≡ 1 → AtTurn serving log g seen → seen ≡ log ∷ []
 holder_seen serving log Idle seen out turn = absurd (omega arith)
 holder_seen serving log (Waiting q) seen out turn = absurd (omega arith)
 holder_seen serving log (Holding q) seen out turn = turn.1
 holder_seen serving log (Counted q) seen out turn = turn.1
+holder_seen serving log (Paired b) seen out turn = absurd (omega arith)
 
 not_holder : (serving : ℕ) (log : List Entry) (g : Stage) (seen : List (List Entry)) → has_slot g ≡ 0 → AtTurn serving log g seen
 not_holder serving log Idle seen none_out = tt
 not_holder serving log (Waiting q) seen none_out = tt
 not_holder serving log (Holding q) seen none_out = absurd (omega arith)
 not_holder serving log (Counted q) seen none_out = absurd (omega arith)
+not_holder serving log (Paired b) seen none_out = tt
 
 module _ (h : Machine) (n : ℕ) where
   -- the accounts of another seat, whose numbers differ, match the longer log
@@ -351,9 +354,10 @@ module _ {F : Type 0} where
           calls_left = let e = sum calls_of (omega arith) in let z = r.calls_left in omega arith;
         }
 
-    pub joins : (id other : ℕ) (v w : View) → v.stage ≡ Idle → w.stage ≡ Idle → Joins Rule id v other w (both v w) spent
-    joins id other v w idle_v idle_w s r at apart at_w' =
-        let b : View = both v w in
+    -- two seats between two calls are joined to one, whose stage is g
+    joins_as : (g : Stage) → has_slot g ≡ 0 → owes g ≡ 0 → ((t : ℕ) → has_ticket t g ≡ 0) → (id other : ℕ) (v w : View) → v.stage ≡ Idle → w.stage ≡ Idle → Joins Rule id v other w (staged (both v w) g) spent
+    joins_as g no_slot no_debt no_ticket id other v w idle_v idle_w s r at apart at_w' =
+        let b : View = staged (both v w) g in
         let at_w : get_elem? s.views other ≡ some w = sym (set_else s.views id other b apart) ∙ at_w' in
         let f = r.seats id v at in
         let fw = r.seats other w at_w in
@@ -364,7 +368,7 @@ module _ {F : Type 0} where
         let sum : (g : View → ℕ) → g b ≡ g v + g w → g spent ≡ 0 → total g (set (set s.views id b) other spent) ≡ total g s.views =
         λ g is nothing. let x = total_set g s.views id v b at in let y = total_set g (set s.views id b) other w spent at_w' in omega arith in
         let tickets : (q : ℕ) → total (ticket_of q) (set (set s.views id b) other spent) ≡ total (ticket_of q) s.views =
-        λ q. let x : has_ticket q w.stage ≡ 0 = ap (has_ticket q) idle_w in sum (ticket_of q) (omega arith) refl in record {
+        λ q. let x : has_ticket q w.stage ≡ 0 = ap (has_ticket q) idle_w in let y : has_ticket q v.stage ≡ 0 = ap (has_ticket q) idle_v in let z = no_ticket q in sum (ticket_of q) (omega arith) refl in record {
           serving = r.serving;
           ticket = r.ticket;
           log = r.log;
@@ -375,7 +379,7 @@ module _ {F : Type 0} where
                 start_is = f.start_is;
                 seen_is = each_append (StartsWith r.log) v.seen w.seen f.seen_is fw.seen_is;
                 owns_is = each_append (Matches n r.log) v.owns w.owns f.owns_is fw.owns_is;
-                turn_is = not_holder r.serving r.log v.stage (v.seen ++ w.seen) none_v;
+                turn_is = not_holder r.serving r.log g (v.seen ++ w.seen) no_slot;
                 works = omega arith;
               })
               (λ j d _ _ q. q) r.seats);
@@ -390,6 +394,58 @@ module _ {F : Type 0} where
           later = λ q hi. tickets q ∙ r.later q hi;
           tickets_left = let e = sum budget_of refl refl in let z = r.tickets_left in omega arith;
           calls_left = let e = sum calls_of (omega arith) refl in let z = r.calls_left in omega arith;
+        }
+
+    pub joins : (id other : ℕ) (v w : View) → v.stage ≡ Idle → w.stage ≡ Idle → Joins Rule id v other w (both v w) spent
+    joins id other v w idle_v idle_w = joins_as v.stage (ap has_slot idle_v) (ap owes idle_v) (λ t. ap (has_ticket t) idle_v) id other v w idle_v idle_w
+
+    pub pairs : (id other : ℕ) (v w : View) → v.stage ≡ Idle → w.stage ≡ Idle → Joins Rule id v other w (pair v w) spent
+    pairs id other v w idle_v idle_w = joins_as (Paired w.budget) refl refl (λ t. refl) id other v w idle_v idle_w
+
+    -- a look that changes nothing
+    pub meets : (slots id : ℕ) (m : M F) → Allows Rule slots id m 0 (λ x. x) (met (step slots 0 0 0 none) m)
+    meets slots id m s r _ at _ =
+        let v : View = m.0 in
+        let f = r.seats id v at in
+        let P : List ℕ → Type 0 = λ ws. (w : View) × (a : Act (Slot F)) × Valid s.homes m.1 a × Rule record { words = set ws 0 (get_or ws 0 0); homes = homes_after s.homes m.1 a; views = set s.views id w }
+        × met (step slots 0 0 0 none) m (get_or ws 0 0) (w, carried_after m.1 a) in
+        subst P (sym r.words) (
+          v,
+          keeps,
+          tt,
+          subst (λ (z : List ℕ × List View). Rule record { words = z.0; homes = s.homes; views = z.1 }) (λ i. (r.words i, sym (set_again s.views id v at) i)) r,
+          (refl, (r.log, f.seen_is, each_map (Matches n r.log) (Tells r.log) v.owns (λ x k. k.0) f.owns_is)),
+        )
+
+    -- a pair is split again
+    pub parts : (r₀ : Machine) (id b c i k : ℕ) (x y mine theirs : List Entry)
+        → Splits Rule id (pair (session_view r₀ Idle b x i mine) (session_view r₀ Idle c y k theirs)) (session_view r₀ Idle b x i mine) (session_view r₀ Idle c (longer (x ∷ y ∷ [])) k theirs)
+    parts r₀ id b c i k x y mine theirs s r at =
+        let left : View = session_view r₀ Idle b x i mine in
+        let v : View = pair left (session_view r₀ Idle c y k theirs) in
+        let right : View = session_view r₀ Idle c (longer (x ∷ y ∷ [])) k theirs in
+        let f = r.seats id v at in
+        let sum : (g : View → ℕ) → g left + g right ≡ g v → total g (set s.views id left ++ right ∷ []) ≡ total g s.views =
+        λ g is. let a = total_set g s.views id v left at in let b = total_snoc g (set s.views id left) right in omega arith in record {
+          serving = r.serving;
+          ticket = r.ticket;
+          log = r.log;
+          words = r.words;
+          seats = seats_snoc (Fits h n r.serving r.log) (set s.views id left) right
+              (record { start_is = f.start_is; seen_is = (longer_is (StartsWith r.log) x y f.seen_is.0 f.seen_is.1.0, tt); owns_is = f.owns_is.1; turn_is = tt; works = omega arith })
+              (seats_set (Fits h n r.serving r.log) (Fits h n r.serving r.log) s.views id left
+              (record { start_is = f.start_is; seen_is = (f.seen_is.0, tt); owns_is = (f.owns_is.0, tt); turn_is = tt; works = omega arith }) (λ j d _ _ q. q) r.seats);
+          slot = (let same = sum slot_of (omega arith) in
+              ⊎_elim (λ (t : (total slot_of s.views ≡ 0) × (s.homes ≡ some (There (history h r.log)) ∷ [])). inl (same ∙ t.0, t.1)) (λ (t : (total slot_of s.views ≡ 1) × (s.homes ≡ none ∷ [])). inr (same ∙ t.0, t.1)) r.slot);
+          numbers = λ q. let e = sum (number_of q) (omega arith) in let o = r.numbers q in omega arith;
+          parts = sum parts_of (omega arith) ∙ r.parts;
+          given = r.given;
+          in_order = r.in_order;
+          out = λ q lo hi. sum (ticket_of q) (omega arith) ∙ r.out q lo hi;
+          past = λ q lo. sum (ticket_of q) (omega arith) ∙ r.past q lo;
+          later = λ q hi. sum (ticket_of q) (omega arith) ∙ r.later q hi;
+          tickets_left = let e = sum budget_of (omega arith) in let z = r.tickets_left in omega arith;
+          calls_left = let e = sum calls_of (omega arith) in let z = r.calls_left in omega arith;
         }
 
     pub opens : n ≤ most_sessions → Rule (opening (0 ∷ 0 ∷ 0 ∷ []) (There (history h []) ∷ []) (opening_view h n))

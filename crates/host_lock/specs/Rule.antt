@@ -1,5 +1,5 @@
 -- The rule of the table, and the knowledge that each step gives.
-use Rattle.std.specs.Prelude.{◌≡◌, ◌⊎◌, ℕ, zero, suc, ◌+◌, ◌-◌, ◌*◌, ◌<◌, ◌≤◌, ◌==◌, List, [], ◌∷◌, ◌++◌, length, take, drop, Option, Some, None, IfSome, MatchBool, true, if◌then◌else◌}
+use Rattle.std.specs.Prelude.{◌≡◌, ◌⊎◌, ℕ, zero, suc, ◌+◌, ◌-◌, ◌*◌, ◌<◌, ◌≤◌, ◌==◌, List, [], ◌∷◌, ◌++◌, length, take, drop, leb, Option, Some, None, IfSome, MatchBool, true, if◌then◌else◌}
 use mathlib.Core.Option.{none, some}
 use mathlib.Core.Option as maybe
 use lib.ListN.{get_elem?}
@@ -11,7 +11,7 @@ use Rattle.requests.specs.Plain.{PlainStep}
 use Rattle.requests.specs.declared.Reply.{Reply}
 use Rattle.requests.specs.Memory.{is_memory}
 use Rattle.host_lock.specs.declared.journal.Entry.{Entry}
-use Rattle.host_lock.specs.Views.{Stage, Idle, Waiting, Holding, Counted, Account, View, spent}
+use Rattle.host_lock.specs.Views.{Stage, Idle, Waiting, Holding, Counted, Paired, Account, View, spent}
 use Rattle.host_lock.specs.declared.view.Slot.{Slot}
 use Rattle.host_lock.specs.declared.view.Slot.TheVariants.{There, Away}
 use Rattle.host_lock.specs.History.{History, history}
@@ -35,6 +35,7 @@ has_ticket t Idle = 0
 has_ticket t (Waiting n) = once n t
 has_ticket t (Holding n) = once n t
 has_ticket t (Counted n) = once n t
+has_ticket t (Paired b) = 0
 
 -- whether the slot is out with this stage
 abbrev pub has_slot : Stage → ℕ
@@ -42,6 +43,7 @@ has_slot Idle = 0
 has_slot (Waiting n) = 0
 has_slot (Holding n) = 1
 has_slot (Counted n) = 1
+has_slot (Paired b) = 0
 
 -- whether a call is still to be counted
 abbrev pub owes : Stage → ℕ
@@ -49,6 +51,7 @@ owes Idle = 0
 owes (Waiting n) = 1
 owes (Holding n) = 1
 owes (Counted n) = 0
+owes (Paired b) = 0
 
 abbrev pub account : ℕ → List Entry → Account
 account n mine = record { number = n; mine = mine }
@@ -68,6 +71,7 @@ AtTurn serving log Idle seen = Unit {0}
 AtTurn serving log (Waiting t) seen = Unit {0}
 AtTurn serving log (Holding t) seen = (t ≡ serving) × (seen ≡ log ∷ [])
 AtTurn serving log (Counted t) seen = (t ≡ serving) × (seen ≡ log ∷ [])
+AtTurn serving log (Paired b) seen = Unit {0}
 
 pub record Fits (start : Machine) (sessions serving : ℕ) (log : List Entry) (v : View) : Type 0 where
   pub start_is : IfSome v.start (λ h. h ≡ start)
@@ -120,6 +124,7 @@ ticket_in Idle = 0
 ticket_in (Waiting n) = n
 ticket_in (Holding n) = n
 ticket_in (Counted n) = n
+ticket_in (Paired b) = 0
 
 abbrev pub with_entry : Entry → View → View
 with_entry e v =
@@ -149,6 +154,30 @@ split_right v = record v { budget = most_calls; owns = take 1 v.owns }
 abbrev pub both : View → View → View
 both v w = record v { budget = v.budget + w.budget; seen = v.seen ++ w.seen; owns = v.owns ++ w.owns }
 
+-- two joined seats, to be split again
+abbrev pub pair : View → View → View
+pair v w = staged (both v w) (Paired w.budget)
+
+abbrev pub paired_budget : Stage → ℕ
+paired_budget Idle = 0
+paired_budget (Waiting n) = 0
+paired_budget (Holding n) = 0
+paired_budget (Counted n) = 0
+paired_budget (Paired b) = b
+
+-- the longer one of the first two lists
+abbrev pub longer : List (List Entry) → List Entry
+longer [] = []
+longer (x ∷ []) = x
+longer (x ∷ y ∷ xs) = if leb (length y) (length x) then x else y
+
+-- the first seat of a pair is as it was, and the second one has seen what either had seen
+abbrev pub first_part : View → View
+first_part v = record v { stage = Idle; budget = v.budget - paired_budget v.stage; seen = first_seen v.seen ∷ []; owns = take 1 v.owns }
+
+abbrev pub second_part : View → View
+second_part v = record v { stage = Idle; budget = paired_budget v.stage; seen = longer v.seen ∷ []; owns = drop 1 v.owns }
+
 -- the view of the seat of one session
 abbrev pub session_view : Machine → Stage → ℕ → List Entry → ℕ → List Entry → View
 session_view h g b seen n mine = record { start = Some h; stage = g; budget = b; seen = seen ∷ []; owns = account n mine ∷ [] }
@@ -169,6 +198,9 @@ seen_of v = first_seen v.seen
 
 abbrev pub mine_of : View → List Entry
 mine_of v = (first_owned v.owns).mine
+
+abbrev pub number_in : View → ℕ
+number_in v = (first_owned v.owns).number
 
 -- the view of a session between two calls
 abbrev pub IsAtRest : ℕ → ℕ → View → Type 0
@@ -218,6 +250,10 @@ module _ {F : Type 0} where
     pub tickets_left : total budget_of s.views + ticket ≤ most_sessions * most_calls
     pub calls_left : total calls_of s.views + length log ≤ most_sessions * most_calls
 
+  -- the seat of one session between two calls
+  abbrev pub IsResting : M F → Type 0
+  IsResting m = m ≡ (session_view (start_of m.0) Idle m.0.budget (seen_of m.0) (number_in m.0) (mine_of m.0), [])
+
   abbrev pub drew : At F → M F → ℕ → M F → Type 0
   drew st m n m' = m' ≡ (drawn m.0 n, m.1)
 
@@ -243,6 +279,10 @@ module _ {F : Type 0} where
 
   abbrev pub released : At F → M F → ℕ → M F → Type 0
   released st m n m' = m' ≡ (staged m.0 Idle, [])
+
+  -- some list begins with all that the seat has seen, and has the entries of its sessions
+  abbrev pub met : At F → M F → ℕ → M F → Type 0
+  met st m n m' = (m' ≡ m) × ((log : List Entry) × Each (StartsWith log) m.0.seen × Each (Tells log) m.0.owns)
 
   -- the knowledge at the end about a seat that was joined with all others
   abbrev pub Closes : Machine → ℕ → View → List (Slot F) → Type 0

@@ -46,6 +46,12 @@ Makes v s r w =
 abbrev pub Replies : SessionData → PlainStep → Reply → SessionData → Type 0
 Replies v s r w = Goes v w × MatchBool (is_memory r) (StartsWith w.seen v.seen × (w.mine ≡ v.mine)) (Makes v s r w)
 
+-- the session is as it was, but has now also seen all that v has seen
+abbrev pub Learns : SessionData → SessionData → SessionData → Type 0
+Learns v w w' =
+    (w'.uid ≡ w.uid) × (w'.number ≡ w.number) × (w'.calls ≡ w.calls) × (w'.mine ≡ w.mine) × (w'.host ≡ w.host) × (w'.start ≡ w.start)
+    × StartsWith w'.seen w.seen × StartsWith w'.seen v.seen
+
 -- at the end: the journal begins with the part that the session saw, and its entries of the session are its own
 abbrev pub Stands : List Entry → SessionData → Type 0
 Stands log s = StartsWith log s.seen × (entries_of s.number log ≡ s.mine)

@@ -12,6 +12,8 @@ pub data Stage : Type 0 where
   Holding : ℕ → Stage
   -- the same, and the call is counted
   Counted : ℕ → Stage
+  -- two seats between two calls are joined, to be split again; the second one may make this number of calls
+  Paired : ℕ → Stage
 
 -- the entries of one session
 pub record Account : Type 0 where

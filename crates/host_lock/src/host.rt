@@ -2,17 +2,18 @@
 
 ghost use Rattle.std.specs.Prelude.{◌≡◌, ℕ, ◌+◌, ◌<◌, ◌≤◌, [], ◌∷◌, ◌++◌, List, length, true, false, IfOk, IfErr, OnOk, All, vec_len, reverse, MatchResult, IsErr, ◌↔◌};
 ghost use Rattle.requests.specs.Isolation.{Users};
-ghost use Rattle.host_lock.specs.Answers.{Calls, RefusesFor, GivesBack};
+ghost use Rattle.host_lock.specs.Answers.{Calls, CallsBehind, RefusesFor, GivesBack};
 ghost use Rattle.host_lock.specs.Journal.{asked, IsLegal, replay, StartsWith};
 ghost use Rattle.host_lock.specs.History.{history};
 ghost use Rattle.host_lock.specs.Rule.{Each, IsHostTable, fresh_view, opening_view, session_view, start_of, Matches};
 ghost use Rattle.host_lock.specs.Limits.{most_sessions, most_calls};
-ghost use Rattle.host_lock.specs.Sessions.{IsOf, IsTrue, Stands, new_session, new_sessions, IsOpenable, IsAt, IsBelow, SessionData, gathered, IsSame};
+ghost use Rattle.host_lock.specs.Sessions.{IsOf, IsTrue, Learns, Stands, new_session, new_sessions, IsOpenable, IsAt, IsBelow, SessionData, gathered, IsSame};
 ghost use Rattle.host_lock.specs.Views.{Idle};
 
 use crate::door::Door;
 use crate::journal::Journal;
 use crate::limits::MOST_SESSIONS;
+use crate::meeting::meet;
 use crate::rule::{HostSeat, HostTable, JoinTwo, Origin, SplitOne};
 use crate::session::{Session, budget_left};
 use crate::shared_state::SharedState;
@@ -200,6 +201,46 @@ impl<F: Decider + Send + Drop> SharedHost<F> {
         session.badge = seat.into_badge();
         session.calls_made += 1;
         Answer::Reply(reply)
+    }
+
+    /// Passes on what a session has seen to another one. From then on, each call of `to` stands in the journal behind all
+    /// that `from` has seen, so behind all calls of `from` that were answered. It doesn't wait, and makes no step.
+    pub fn pass_on(&self, from: &mut Session, to: &mut Session)
+        requires from { IsOf self.now from.old }
+        requires to { IsOf self.now to.old }
+        ensures from { from.new ≡ from.old }
+        ensures to { Learns from.old to.old to.new }
+        ensures told { IsTrue to.new }
+    {
+        let badge = mem::replace(&mut from.badge, Badge::blank());
+        let mut seat = badge.into_seat();
+        let badge = mem::replace(&mut to.badge, Badge::blank());
+        let other = meet(&self.table.shared, &mut seat, badge.into_seat());
+        from.badge = seat.into_badge();
+        to.badge = other.into_badge();
+    }
+
+    /// Makes a call of one session, and then a call of another one, which stands in the journal behind all that the first
+    /// session has then seen, its call included.
+    pub fn call_in_order<R: Wait>(
+        &self,
+        rt: &R,
+        alloc: Global,
+        first: &mut Session,
+        step: Step<Handler<F>>,
+        second: &mut Session,
+        next: Step<Handler<F>>,
+    ) -> (Answer, Answer)
+        requires first { IsOf self.now first.old }
+        requires second { IsOf self.now second.old }
+        ensures first { Calls first.old step result.0 first.new }
+        ensures second { CallsBehind first.new second.old next result.1 second.new }
+        ensures told { IsTrue first.new × IsTrue second.new }
+    {
+        let answer = self.call(rt, alloc, first, step);
+        self.pass_on(first, second);
+        let last = self.call(rt, alloc, second, next);
+        (answer, last)
     }
 }
 

@@ -1,6 +1,6 @@
 //! The rule of the table, and the knowledge that each step on it gives. Word 0 is serving, word 1 ticket, word 2 count.
 
-ghost use Rattle.host_lock.specs.Rule.{drew, turned, counted, released};
+ghost use Rattle.host_lock.specs.Rule.{drew, turned, counted, released, met};
 
 use crate::view::{Slot, View};
 use atomic_table::{Join, Play, Seat, Shared, Split, Table, TableRule};
@@ -81,4 +81,34 @@ impl Join<View> for JoinTwo {
     ghost both = { both };
 
     ghost spent = { spent };
+}
+
+/// Joins the seats of two sessions, to be split again.
+pub(crate) struct Pair;
+
+impl Join<View> for Pair {
+    ghost use Rattle.host_lock.specs.Rule.{pair};
+    ghost use Rattle.host_lock.specs.Views.{spent};
+
+    ghost both = { pair };
+
+    ghost spent = { spent };
+}
+
+/// Load of serving: what both sessions of a pair have seen are beginnings of one list.
+pub(crate) struct Meet;
+
+impl<F: Decider + Send + Drop> Play<Slot<F>, View> for Meet {
+    ghost then = { met };
+}
+
+/// Splits a pair: the second seat has then seen what either had seen.
+pub(crate) struct Part;
+
+impl Split<View> for Part {
+    ghost use Rattle.host_lock.specs.Rule.{first_part, second_part};
+
+    ghost left = { first_part };
+
+    ghost right = { second_part };
 }
