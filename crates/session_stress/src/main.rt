@@ -4,7 +4,6 @@
 #![tactic(auto)]
 
 mod compare;
-mod dice;
 mod replay;
 mod scripts;
 mod writer;
@@ -14,12 +13,12 @@ use host_lock::Journal;
 use pid_blocks::Uid;
 use requests::Host;
 use scripts::{scripts, settings};
-use sessions::{Gate, RunRefusal, Transcript, run_sessions};
-use std::alloc::{AllocError, Global};
-use std::io;
+use sessions::{Gate, Transcript, run_sessions};
+use std::alloc::Global;
 use std::sync::Wait;
 use std::thread::Threads;
 use stop_handlers::ByPolicy;
+use test_kit::Trouble;
 
 const RUNS: u32 = 10;
 
@@ -30,37 +29,6 @@ impl Gate for Open {
     fn before(&self, _user: Uid, _index: u32) {}
 
     fn after(&self, _user: Uid, _index: u32) {}
-}
-
-/// The reason why the program ends with status 1.
-#[derive(Debug, Drop)]
-enum Trouble {
-    /// Something differs.
-    Differs,
-    /// A run was refused.
-    Refused(RunRefusal),
-    /// Memory ran out.
-    Memory,
-    /// Printing failed.
-    Print,
-}
-
-impl From<AllocError> for Trouble {
-    fn from(_error: AllocError) -> Trouble {
-        Trouble::Memory
-    }
-}
-
-impl From<RunRefusal> for Trouble {
-    fn from(refusal: RunRefusal) -> Trouble {
-        Trouble::Refused(refusal)
-    }
-}
-
-impl From<io::Error> for Trouble {
-    fn from(_error: io::Error) -> Trouble {
-        Trouble::Print
-    }
 }
 
 /// How much was compared in runs, and the number of differences.
@@ -122,7 +90,10 @@ fn run_on<R: Threads + Wait + Sync>(
     seed: u32,
 ) -> Result<Left, Trouble> {
     let scripts = scripts(alloc, seed)?;
-    Ok(run_sessions(rt, alloc, host, scripts, &Open)?)
+    match run_sessions(rt, alloc, host, scripts, &Open) {
+        Ok(left) => Ok(left),
+        Err(_) => Err(Trouble::Wrong("a run is refused")),
+    }
 }
 
 /// Does the same on an unused host.
@@ -155,6 +126,6 @@ fn main(rt: HostRuntime) -> Result<(), Trouble> {
     if differ == 0 {
         Ok(())
     } else {
-        Err(Trouble::Differs)
+        Err(Trouble::Wrong("a run differs from a replay of its journal"))
     }
 }

@@ -1,8 +1,8 @@
 //! Runs of scripts. The expected replies were worked out by hand from the manual pages.
 
 use super::gates::{Meet, Open};
-use super::scripts::{are_own, new_host, new_process, spawn_at, spawn_each};
-use crate::hosts::last_spawn;
+use super::scripts::{are_own, spawn_at, spawn_each};
+use crate::hosts::{last_spawn, new_host, new_process};
 use host_lock::Journal;
 use pid_blocks::Uid;
 use requests::{Host, Reply, Step};

@@ -3,19 +3,14 @@
 ghost use Rattle.std.specs.Prelude.{◌<◌, ◌≤◌, IfSome, All};
 ghost use Rattle.sessions.specs.Runs.{IsShort};
 
+use crate::hosts::new_process;
 use host_lock::{Journal, MOST_CALLS};
-use pid_blocks::{Pid, Tid, Uid};
-use requests::{Host, PlainStep, Reply, Step};
+use pid_blocks::Uid;
+use requests::{PlainStep, Reply, Step};
 use sessions::{Script, Transcript};
 use std::alloc::Global;
 use std::process::Abort;
 use stop_handlers::ByPolicy;
-use trace_stop::Settings;
-
-/// Creates an unused host. `None` where memory ran out.
-pub fn new_host(alloc: Global) -> Option<Host<ByPolicy>> {
-    Host::<ByPolicy>::new(alloc, Settings::standard()).ok()
-}
 
 /// Returns a script of `count` spawns of the user.
 fn spawn_often(alloc: Global, uid: Uid, count: u32) -> Option<Script<ByPolicy>>
@@ -40,13 +35,6 @@ pub fn spawn_each(alloc: Global, users: &[Uid], count: u32) -> Option<Vec<Script
         scripts.push(spawn_often(alloc, *uid, count)?).ok()?;
     }
     Some(scripts)
-}
-
-/// Returns the reply to a spawn. `None` where no user has such numbers.
-pub fn new_process(pid: u32, tid: u32) -> Option<Reply> {
-    let pid = Pid::new(pid)?;
-    let tid = Tid::new(tid)?;
-    Some(Reply::New { pid, tid })
 }
 
 /// Checks that the transcript is of the user at this index from 1001 on, with `count` spawns of the user's first
