@@ -2,45 +2,12 @@
 
 from . import names, requests, rules, turns
 from .rows import (
-    Handler,
-    JobStop,
-    Lwp,
-    Process,
-    Rule,
-    Run,
-    Stop,
-    TraceStop,
-    View,
-    Zombie,
-    add_process,
-    find_process,
-    put_process,
-    the_lwp,
-    the_process,
+    Handler, JobStop, Lwp, Process, Rule, Run, Stop, TraceStop, View, Zombie, add_process, find_process,
+    put_process, the_lwp, the_process
 )
 from .steps import (
-    Called,
-    Error,
-    Handle,
-    Handled,
-    Held,
-    Install,
-    Kill,
-    List,
-    New,
-    Nothing,
-    Ok,
-    Processes,
-    Ptrace,
-    Refusal,
-    Reply,
-    Sigaction,
-    Spawn,
-    Status,
-    Step,
-    Turn,
-    Wait,
-    refuse_if,
+    Called, Error, Handle, Handled, Held, Install, Kill, List, New, Nothing, Ok, Processes, Ptrace, Refusal, Reply,
+    Sigaction, Spawn, Status, Step, Turn, Wait, refuse_if
 )
 
 CONTINUED_WORD = 19

@@ -5,23 +5,8 @@ from enum import Enum
 
 from . import names
 from .rows import (
-    NO_NAMES,
-    JobStop,
-    Lwp,
-    Process,
-    Run,
-    Signals,
-    Stop,
-    TraceStop,
-    User,
-    View,
-    VforkWait,
-    Zombie,
-    find_process,
-    put_lwp,
-    put_process,
-    the_lwp,
-    the_process,
+    NO_NAMES, JobStop, Lwp, Process, Run, Signals, Stop, TraceStop, User, View, VforkWait, Zombie, find_process,
+    put_lwp, put_process, the_lwp, the_process
 )
 
 

@@ -2,24 +2,8 @@
 
 from . import names, rules
 from .rows import (
-    NO_NAMES,
-    InCall,
-    Lwp,
-    Names,
-    Process,
-    Run,
-    Stop,
-    User,
-    VforkWait,
-    View,
-    add_lwp,
-    add_process,
-    find_lwp,
-    lwps_of,
-    put_lwp,
-    put_process,
-    the_lwp,
-    the_process,
+    NO_NAMES, InCall, Lwp, Names, Process, Run, Stop, User, VforkWait, View, add_lwp, add_process, find_lwp,
+    lwps_of, put_lwp, put_process, the_lwp, the_process
 )
 from .steps import Caught, Ended, Error, Held, New, Ok, Refusal, Reply, Stopped, Turn, refuse_if
 
