@@ -4,7 +4,7 @@
     python3 bench/instructions.py [PROGRAM ..] [--steps N] [--peak] [--top N]
 
 PROGRAM is a built program (default: crates/tracehost/out/tracehost, which ./tracehost builds); several are compared,
-numbered from 1. Each runs six loads of N steps (default 40,000; as many as fit, where these are longer than the program
+numbered from 1. Each runs ten loads of N steps (default 40,000; as many as fit, where these are longer than the program
 reads). Printed is a row for each load and program: millions of instructions of the whole run, of reading the scenario,
 of binding handlers to its steps, of the host's steps, and of the text; `-` where a part has no function of its own in
 that program. With --peak also the resident memory at most, in times the scenario's bytes. With --top the N functions
@@ -22,9 +22,13 @@ import scenarios
 LOADS = {
     'churn of processes': scenarios.of_one(scenarios.forks_and_exits),
     'attach, wait, detach': scenarios.of_one(scenarios.attach_cycles),
+    'the same beside 248 tracees': scenarios.of_one(scenarios.attach_among_tracees),
     'chains of debuggers that end': scenarios.of_one(scenarios.chains_that_end),
+    'forks that are followed': scenarios.of_one(scenarios.fork_events),
     'threads': scenarios.of_one(scenarios.threads),
+    'all kinds, 64 users': scenarios.mixed,
     'lists of 64 users': scenarios.spawns_and_lists,
+    'rules and sets': scenarios.of_one(scenarios.installs),
     'parsing alone': scenarios.refusals,
 }
 

@@ -151,6 +151,64 @@ def chains_that_end(user: int, links: int = 10) -> Iterator[Step]:
             numbers.gone(pid, tid)
 
 
+def attach_among_tracees(user: int, tracees: int = 248) -> Iterator[Step]:
+    """A debugger with many idle tracees attaches to one more process, waits for it and detaches."""
+    numbers = Numbers(user)
+    debugger, _ = numbers.process()
+    others = [numbers.process()[0] for _ in range(tracees)]
+    tracee, _ = numbers.process()
+    for _ in range(tracees + 2):
+        yield spawn(user)
+    for other in others:
+        yield ptrace(user, debugger, 'PT_ATTACH', other)
+        yield wait(user, debugger)
+        yield ptrace(user, debugger, 'PT_CONTINUE', other)
+    while True:
+        yield ptrace(user, debugger, 'PT_ATTACH', tracee)
+        yield wait(user, debugger)
+        yield ptrace(user, debugger, 'PT_DETACH', tracee)
+
+
+def fork_events(user: int) -> Iterator[Step]:
+    """A debugger follows forks: it asks about each stop, and lets the child go, which exits."""
+    numbers = Numbers(user)
+    debugger, _ = numbers.process()
+    tracee, lwp = numbers.process()
+    yield spawn(user)
+    yield spawn(user)
+    yield ptrace(user, debugger, 'PT_ATTACH', tracee)
+    yield wait(user, debugger)
+    mask = {'mask': ['PTRACE_FORK', 'PTRACE_SCX']}
+    yield {**ptrace(user, debugger, 'PT_SET_EVENT_MASK', tracee), **mask}
+    yield ptrace(user, debugger, 'PT_CONTINUE', tracee)
+    while True:
+        child, tid = numbers.process()
+        yield from call(user, lwp, 'fork')
+        for stopped in (tracee, child):
+            yield wait(user, debugger)
+            yield ptrace(user, debugger, 'PT_LWPINFO', stopped)
+        yield ptrace(user, debugger, 'PT_DETACH', child)
+        yield from call(user, tid, 'exit', code=3)
+        yield ptrace(user, debugger, 'PT_CONTINUE', tracee)
+        yield wait(user, tracee)
+        numbers.gone(child, tid)
+        # SIGCHLD stops the tracee
+        yield {'user': user, 'op': 'turn', 'lwp': lwp, 'act': 'compute'}
+        yield wait(user, debugger)
+        yield ptrace(user, debugger, 'PT_CONTINUE', tracee)
+
+
+def installs(user: int) -> Iterator[Step]:
+    """Handlers with sixteen rules of signals and flags each, more than a user may have, and sets of blocked signals."""
+    numbers = Numbers(user)
+    debugger, lwp = numbers.process()
+    yield spawn(user)
+    rule = {'signal': 5, 'flags': ['PL_FLAG_SCX', 'PL_FLAG_FORKED'], 'decision': 'continue', 'pass': 0}
+    while True:
+        yield {'user': user, 'op': 'install', 'caller': debugger, 'rules': [rule] * 16}
+        yield {'user': user, 'op': 'turn', 'lwp': lwp, 'act': 'block', 'set': [30, 31]}
+
+
 def of_one(make: Source) -> Load:
     def steps(length: int) -> list[Step]:
         source = make(1001)
