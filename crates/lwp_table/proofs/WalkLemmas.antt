@@ -3,11 +3,11 @@ use Rattle.std.proofs.Common.{◌≡◌, ℕ, ◌+◌, ◌-◌, ◌<◌, ◌≤�
 use Rattle.std.specs.Option.{option_map, IsSomeAnd}
 use Rattle.std.specs.Map.{lookup}
 use Rattle.std.proofs.lemmas.Bool.{cases_Bool}
-use Rattle.std.proofs.lemmas.Bool.Decides.{nat_tests, eqb_tells}
+use Rattle.std.proofs.lemmas.Bool.Decides.{nat_tests}
 use Rattle.std.proofs.lemmas.Option.{same_Some}
 use Rattle.lwp_table.specs.declared.LwpData.{LwpData}
 use Rattle.lwp_table.specs.declared.links.Slot.{Slot}
-use Rattle.lwp_table.specs.Chain.{Node, IsNearest, IsChain, up, down, anywhere, above, below}
+use Rattle.lwp_table.specs.Chain.{Node, IsNearest, IsChain, up, anywhere, above}
 use Rattle.lwp_table.specs.Kept.{own_node, own_nodes, all_node, all_nodes, is_of, born_row, listing, rows_of, IsIndexed, from_slot, rows_from, IsWalk}
 use Rattle.std.specs.List.{find}
 use Rattle.lwp_table.specs.Lwps.{lwp_of, first_lwp, next_lwp}
@@ -146,21 +146,6 @@ module _ (f : ℕ → Option Slot) (es : List (ℕ × ℕ)) (births : ℕ) (node
   -- the slot at which a walk is belongs to its list
   pub walk_on : (s : ℕ) (slot : Slot) → IsWalk f es births node list (Some s) → f s ≡ Some slot → (node slot).list ≡ list
   walk_on s slot walk there = search (rules, some_and, same_Some)
-
--- a row of a process that has none before it is the first
-pub first-of_list : (f : ℕ → Option Slot) → ((i j : ℕ) (a b : Slot) → f i ≡ Some a → f j ≡ Some b → a.born ≡ b.born → i ≡ j) → (pid : ℕ) (first last : Option ℕ) → IsChain (own_nodes f) pid first last
-    → (s : ℕ) (slot : Slot) → f s ≡ Some slot → slot.row.pid ≡ pid → slot.own.prev ≡ None → first ≡ Some s
-first-of_list f apart pid None last chain s slot there on begins = absurd (chain.first_is s (own_node slot) (ap (option_map own_node) there) on tt)
-first-of_list f apart pid (Some t) last chain s slot there on begins =
-    let first = chain.first_is in
-    let at = came own_node (f t) first.0 first.1 in
-    let key : first.0.key ≡ at.0.born = ap (λ n. n.key) (sym at.2) in
-    let least = first.4 s (own_node slot) (ap (option_map own_node) there) on tt in
-    let before = subst (IsNearest down (own_nodes f) pid (below slot.born)) begins (chain.prev_is s (own_node slot) (ap (option_map own_node) there) on) in
-    elim (eqb_tells at.0.born slot.born) [
-      | inl h ↦ ap Some (apart t s at.0 slot at.1 there h.1)
-      | inr h ↦ absurd (before t first.0 first.1 first.2 (omega (arith, key, least, h.1)))
-    ]
 
 -- where walks begin
 pub ruleset first_laws = (left-first, all-first)

@@ -3,11 +3,11 @@
 ghost use Rattle.std.specs.Prelude.{◌≡◌, ℕ, ◌+◌, ◌<◌, ◌≤◌, None, IsSome, IfSome, is_none, if◌then◌else◌, nat_eq};
 ghost use Rattle.std.specs.Option.{option_map};
 ghost use Rattle.slab.specs.Slab.{get, slab_len, ContainsKey};
-ghost use Rattle.indexmap.specs.IndexMap.{get as index_get, spare};
+ghost use Rattle.std.specs.Map.{lookup};
 ghost use Rattle.lwp_table.specs.Kept.{linked, closed_up, ends_at, no_ends, place_of};
 
 use crate::LwpData;
-use indexmap::IndexMap;
+use number_map::NumberMap;
 use pid_blocks::{Tid, owner_of_tid};
 use slab::Slab;
 
@@ -94,26 +94,33 @@ pub fn close_up(slots: &mut Slab<Slot>, gone: &Slot)
 }
 
 /// Returns the ends of the list of a process.
-pub fn ends_of(heads: &IndexMap<u32, Ends>, pid: u32) -> Ends
+pub fn ends_of(heads: &NumberMap<Ends>, pid: u32) -> Ends
     ensures { result ≡ ends_at heads.now.entries pid }
 {
-    match heads.get(&pid) {
-        Some(ends) => *ends,
+    match heads.get(pid) {
+        Some(ends) => ends,
         None => Ends::empty(),
     }
 }
 
+/// Returns the slot of the first row of a process.
+pub fn first_slot(heads: &NumberMap<Ends>, pid: u32) -> Option<usize>
+    ensures { result ≡ (ends_at heads.now.entries pid).first }
+{
+    ends_of(heads, pid).first
+}
+
 /// Changes the ends of the list of a process that has some. Removes the entry if the list is now empty.
-pub fn put_ends(heads: &mut IndexMap<u32, Ends>, pid: u32, ends: Ends)
-    requires there { IsSome (index_get nat_eq heads.old pid) }
+pub fn put_ends(heads: &mut NumberMap<Ends>, pid: u32, ends: Ends)
+    requires there { IsSome (lookup (nat_eq pid) heads.old.entries) }
     requires empty { ends.first ≡ None → ends ≡ no_ends }
     ensures ends { (q : ℕ) → ends_at heads.new.entries q ≡ (if nat_eq pid q then ends else ends_at heads.old.entries q) }
-    ensures spare { spare heads.old ≤ spare heads.new }
+    ensures spare { heads.new.spare ≡ heads.old.spare }
 {
     if ends.first.is_none() {
-        heads.swap_remove(&pid);
-    } else if let Some(place) = heads.get_mut(&pid) {
-        *place = ends;
+        heads.remove(pid);
+    } else {
+        heads.set(pid, ends);
     }
 }
 

@@ -1,9 +1,7 @@
 //! The table of all LWPs of a host.
 //!
-//! Links and birth numbers keep the order of birth, and not the order of the index's entries. An index that
-//! keeps its order moves all later entries at a removal, so a removal takes as long as the table is long.
-//! Here a removal changes at most four links and swaps one entry of the index. A walk over a process visits
-//! only the rows of that process. Birth numbers only rise, so a new row comes last in both lists. No walk
+//! Links and birth numbers keep the order of birth. A removal changes at most four links. A walk over a process
+//! visits only the rows of that process. Birth numbers only rise, so a new row comes last in both lists. No walk
 //! reads them: they specify the order of the links.
 
 ghost use Rattle.std.specs.Prelude.{◌≡◌, ◌==◌, ◌+◌, ◌<◌, ◌≤◌, ◌++◌, [], ◌∷◌, false, IsSome, IsSomeAnd, OnOk, IfOk, count_by, length, map, option_map, slice_get};
@@ -12,12 +10,11 @@ ghost use Rattle.std.specs.Fn.{FnReturnsAt};
 ghost use Rattle.lwp_table.specs.Lwps.{lwp_of, lwps_of, first_lwp, next_lwp, has_lwp, with_lwp, without_lwp, own_lwp, KeepsNumbers, ComputesRows, Differ};
 
 use crate::LwpData;
-use crate::finding::{Hints, first_slot, slot_of};
 use crate::links::{
-    Ends, Link, Links, Slot, close_up, ends_of, put_ends, set_link, user_place, without,
+    Ends, Link, Links, Slot, close_up, ends_of, first_slot, put_ends, set_link, user_place, without,
 };
 use crate::walks::{Iter, OfProcess};
-use indexmap::IndexMap;
+use number_map::NumberMap;
 use pid_blocks::{Pid, Tid, Uid};
 use slab::Slab;
 use std::alloc::{AllocError, Global};
@@ -29,10 +26,8 @@ use std::marker::Model;
 #[derive(Drop)]
 pub struct LwpTable {
     rows: Slab<Slot>,
-    slots: IndexMap<u32, usize>,
-    heads: IndexMap<u32, Ends>,
-    hints: Hints,
-    first_hints: Hints,
+    slots: NumberMap<usize>,
+    heads: NumberMap<Ends>,
     all: Ends,
     births: usize,
     users: [usize; 64],
@@ -41,7 +36,6 @@ pub struct LwpTable {
 impl Model for LwpTable {
     ghost use Rattle.std.specs.Prelude.{◌-◌, min};
     ghost use Rattle.slab.specs.Slab.{slab_len, get};
-    ghost use Rattle.indexmap.specs.IndexMap.{spare};
     ghost use Rattle.lwp_table.specs.Lwps.{Lwps};
     ghost use Rattle.lwp_table.specs.Kept.{rows_of, IsKept};
 
@@ -49,7 +43,7 @@ impl Model for LwpTable {
 
     ghost view = { λ t. record {
       rows = rows_of (get t.rows) t.slots.entries t.births;
-      spare = min (min (t.rows.capacity - slab_len t.rows) (spare t.slots)) (min (spare t.heads) (18446744073709551615 - t.births));
+      spare = min (min (t.rows.capacity - slab_len t.rows) t.slots.spare) (min t.heads.spare (18446744073709551615 - t.births));
     } };
 
     ghost invariant = { λ t. IsKept (get t.rows) t.slots.entries t.heads.entries t.all t.births t.users };
@@ -65,8 +59,6 @@ impl Clone for LwpTable {
             rows: self.rows.clone()?,
             slots: self.slots.clone()?,
             heads: self.heads.clone()?,
-            hints: self.hints.clone()?,
-            first_hints: self.first_hints.clone()?,
             all: self.all,
             births: self.births,
             users: self.users,
@@ -83,10 +75,8 @@ impl LwpTable {
         let users = [0; 64];
         Ok(LwpTable {
             rows: Slab::new(alloc),
-            slots: IndexMap::new(alloc),
-            heads: IndexMap::new(alloc),
-            hints: Hints::new(alloc)?,
-            first_hints: Hints::new(alloc)?,
+            slots: NumberMap::new(alloc)?,
+            heads: NumberMap::new(alloc)?,
             all: Ends::empty(),
             births: 0,
             users,
@@ -132,15 +122,13 @@ impl LwpTable {
         });
         set_link(&mut self.rows, Link::NextOwn, own.last, Some(slot));
         set_link(&mut self.rows, Link::NextAll, all.last, Some(slot));
-        self.slots.insert(tid, slot).unwrap();
+        self.slots.insert(tid, slot);
         let ends = Ends {
             first: own.first.or(Some(slot)),
             last: Some(slot),
             count: own.count + 1,
         };
-        self.heads.insert(pid, ends).unwrap();
-        self.hints.note(tid, slot);
-        self.first_hints.note(pid, own.first.unwrap_or(slot));
+        self.heads.insert(pid, ends);
         self.all = Ends {
             first: all.first.or(Some(slot)),
             last: Some(slot),
@@ -165,7 +153,7 @@ impl LwpTable {
         ensures row { result ≡ lwp_of tid self.now.rows }
         ensures differ { Differ self.now.rows }
     {
-        let slot = slot_of(&self.rows, &self.slots, &self.hints, tid.get())?;
+        let slot = self.slots.get(tid.get())?;
         Some(self.rows[slot].row)
     }
 
@@ -175,7 +163,7 @@ impl LwpTable {
         ensures process { result ≡ option_map (λ l. l.pid) (lwp_of tid self.now.rows) }
         ensures differ { Differ self.now.rows }
     {
-        let place = slot_of(&self.rows, &self.slots, &self.hints, tid.get())?;
+        let place = self.slots.get(tid.get())?;
         Some(self.rows[place].row.pid)
     }
 
@@ -185,7 +173,8 @@ impl LwpTable {
         ensures rows { self.new.rows ≡ with_lwp row self.old.rows }
         ensures spare { self.new.spare ≡ self.old.spare }
     {
-        let slot = slot_of(&self.rows, &self.slots, &self.hints, row.tid.get()).unwrap();
+        let number = row.tid.get();
+        let slot = self.slots.get(number).unwrap();
         let mut place = self.rows[slot];
         place.row = row;
         self.rows[slot] = place;
@@ -199,7 +188,7 @@ impl LwpTable {
         ensures rows { (change : LwpData → LwpData) → ComputesRows (FnReturnsAt F.Fn edit) self.old.rows change → self.new.rows ≡ map (own_lwp pid change) self.old.rows }
         ensures spare { self.new.spare ≡ self.old.spare }
     {
-        let mut link = first_slot(&self.rows, &self.heads, &self.first_hints, pid.get());
+        let mut link = first_slot(&self.heads, pid.get());
         while let Some(at) = link {
             let slot = &mut self.rows[at];
             slot.row = edit(&slot.row);
@@ -213,7 +202,9 @@ impl LwpTable {
         ensures rows { self.new.rows ≡ without_lwp tid self.old.rows }
         ensures spare { self.old.spare ≤ self.new.spare }
     {
-        let slot = self.slots.swap_remove(&tid.get()).unwrap();
+        let number = tid.get();
+        let slot = self.slots.get(number).unwrap();
+        self.slots.remove(number);
         let gone = self.rows.remove(slot);
         close_up(&mut self.rows, &gone);
         let pid = gone.row.pid.get();
@@ -236,7 +227,7 @@ impl LwpTable {
         ensures row { result ≡ first_lwp pid self.now.rows }
         ensures differ { Differ self.now.rows }
     {
-        let slot = first_slot(&self.rows, &self.heads, &self.first_hints, pid.get())?;
+        let slot = first_slot(&self.heads, pid.get())?;
         Some(self.rows[slot].row)
     }
 
@@ -246,7 +237,8 @@ impl LwpTable {
         ensures row { result ≡ next_lwp pid after self.now.rows }
         ensures differ { Differ self.now.rows }
     {
-        let at = slot_of(&self.rows, &self.slots, &self.hints, after.get()).unwrap();
+        let number = after.get();
+        let at = self.slots.get(number).unwrap();
         let slot = self.rows[at].own.next?;
         Some(self.rows[slot].row)
     }

@@ -2,7 +2,7 @@
 
 use crate::LwpData;
 use crate::links::Slot;
-use indexmap::IndexMap;
+use number_map::NumberMap;
 use slab::Slab;
 use std::marker::Model;
 
@@ -10,7 +10,7 @@ use std::marker::Model;
 #[derive(Drop)]
 pub struct OfProcess<'a> {
     pub(crate) rows: &'a Slab<Slot>,
-    pub(crate) slots: &'a IndexMap<u32, usize>,
+    pub(crate) slots: &'a NumberMap<usize>,
     pub(crate) births: usize,
     pub(crate) pid: u32,
     pub(crate) link: Option<usize>,
@@ -49,7 +49,7 @@ impl<'a> Iterator for OfProcess<'a> {
 #[derive(Drop)]
 pub struct Iter<'a> {
     pub(crate) rows: &'a Slab<Slot>,
-    pub(crate) slots: &'a IndexMap<u32, usize>,
+    pub(crate) slots: &'a NumberMap<usize>,
     pub(crate) births: usize,
     pub(crate) link: Option<usize>,
 }

@@ -10,7 +10,7 @@ ghost use Rattle.std.specs.Fn.{FnReturnsAt};
 ghost use Rattle.proc_table.specs.Lanes.{links_in, put_links, other, pick, lane, lanes, rows_of, IsLaced, IsHead, IsFirst};
 
 use crate::ProcData;
-use indexmap::IndexMap;
+use number_map::NumberMap;
 use slab::Slab;
 
 /// How rows name a process: as their tracer, or as their parent.
@@ -206,7 +206,7 @@ fn unlink(nodes: &mut Slab<Slot>, kin: Kin, head: usize, chief: u32, slot: usize
 }
 
 /// Removes the row in `slot` from the list that contains it, if any.
-fn leave(nodes: &mut Slab<Slot>, slots: &IndexMap<u32, usize>, kin: Kin, slot: usize)
+fn leave(nodes: &mut Slab<Slot>, slots: &NumberMap<usize>, kin: Kin, slot: usize)
     requires laced { IsLaced (get nodes.old) slots.now.entries }
     requires there { ContainsKey nodes.old slot }
     ensures laced { IsLaced (get nodes.new) slots.now.entries }
@@ -218,19 +218,13 @@ fn leave(nodes: &mut Slab<Slot>, slots: &IndexMap<u32, usize>, kin: Kin, slot: u
     ensures capacity { nodes.new.capacity ≡ nodes.old.capacity }
 {
     if let Some(chief) = links_of(kin, &nodes[slot]).chief {
-        let head = slots[&chief];
+        let head = slots.get(chief).unwrap();
         unlink(nodes, kin, head, chief, slot);
     }
 }
 
 /// Adds the row in `slot`, which is in no list, to the list of `chief`, if any.
-fn join(
-    nodes: &mut Slab<Slot>,
-    slots: &IndexMap<u32, usize>,
-    kin: Kin,
-    slot: usize,
-    chief: Option<u32>,
-)
+fn join(nodes: &mut Slab<Slot>, slots: &NumberMap<usize>, kin: Kin, slot: usize, chief: Option<u32>)
     requires laced { IsLaced (get nodes.old) slots.now.entries }
     requires free { IsSomeAnd (get nodes.old slot) (λ was. (lane kin was).chief ≡ None) }
     requires chief { (t : ℕ) → chief ≡ Some t → (h : ℕ) × (lookup (nat_eq t) slots.now.entries ≡ Some h) × IsHead (get nodes.old) h t }
@@ -243,7 +237,7 @@ fn join(
     ensures capacity { nodes.new.capacity ≡ nodes.old.capacity }
 {
     if let Some(chief) = chief {
-        let head = slots[&chief];
+        let head = slots.get(chief).unwrap();
         link(nodes, kin, head, chief, slot);
     }
 }
@@ -252,7 +246,7 @@ fn join(
 #[inline(never)]
 fn rehang(
     nodes: &mut Slab<Slot>,
-    slots: &IndexMap<u32, usize>,
+    slots: &NumberMap<usize>,
     kin: Kin,
     slot: usize,
     chief: Option<u32>,
@@ -276,7 +270,7 @@ fn rehang(
 #[inline(always)]
 pub fn relink(
     nodes: &mut Slab<Slot>,
-    slots: &IndexMap<u32, usize>,
+    slots: &NumberMap<usize>,
     kin: Kin,
     slot: usize,
     chief: Option<u32>,
@@ -300,7 +294,7 @@ pub fn relink(
 /// Moves the row in `slot` to the lists of its tracer and of its parent, or to none.
 pub fn relink_both(
     nodes: &mut Slab<Slot>,
-    slots: &IndexMap<u32, usize>,
+    slots: &NumberMap<usize>,
     slot: usize,
     tracer: Option<u32>,
     parent: Option<u32>,
@@ -323,7 +317,7 @@ pub fn relink_both(
 /// in the list, and else by a walk of the list.
 pub fn next_slot(
     nodes: &Slab<Slot>,
-    slots: &IndexMap<u32, usize>,
+    slots: &NumberMap<usize>,
     kin: Kin,
     head: usize,
     chief: u32,
@@ -338,8 +332,8 @@ pub fn next_slot(
     if after == 0 {
         return links_of(kin, &nodes[head]).first;
     }
-    if let Some(at) = slots.get(&after) {
-        let links = links_of(kin, &nodes[*at]);
+    if let Some(at) = slots.get(after) {
+        let links = links_of(kin, &nodes[at]);
         if links.chief == Some(chief) {
             return links.next;
         }

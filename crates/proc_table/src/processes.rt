@@ -1,6 +1,6 @@
 //! The rows of processes, each found by its number, with the lists of each process's tracees and children.
 
-ghost use Rattle.std.specs.Prelude.{◌≡◌, ℕ, ◌+◌, ◌<◌, ◌≤◌, ◌==◌, [], Bool, true, false, not, filter, map, count_by, option_map, option_copied, Some, None, IsSome, IsSomeAnd, OnOk};
+ghost use Rattle.std.specs.Prelude.{◌≡◌, ℕ, ◌+◌, ◌<◌, ◌≤◌, ◌==◌, [], Bool, true, false, not, filter, map, count_by, option_map, option_copied, Some, None, IsSome, IsSomeAnd, IfOk, OnOk};
 ghost use Rattle.std.specs.List.{list_any};
 ghost use Rattle.proc_table.specs.Processes.{process_of, placed};
 ghost use Rattle.std.specs.Fn.{FnReturnsAt};
@@ -9,10 +9,8 @@ ghost use Rattle.proc_table.specs.Walks.{next_tracee, next_child, find_tracee, f
 ghost use Rattle.proc_table.specs.Kept.{AtHome, put_process};
 
 use crate::ProcData;
-use crate::finding::slot_of;
 use crate::links::{Kin, Links, Slot, first_slot, next_slot, relink_both};
-use indexmap::IndexMap;
-use lwp_table::Hints;
+use number_map::NumberMap;
 use pid_blocks::{Pid, Uid};
 use slab::Slab;
 use std::alloc::{AllocError, Global};
@@ -62,15 +60,13 @@ fn with_row(slot: &Slot, row: ProcData) -> Slot
 #[derive(Drop)]
 pub struct Processes {
     nodes: Slab<Slot>,
-    slots: IndexMap<u32, usize>,
-    hints: Hints,
+    slots: NumberMap<usize>,
     counts: [usize; 64],
 }
 
 impl Model for Processes {
     ghost use Rattle.std.specs.Prelude.{◌-◌, min};
     ghost use Rattle.slab.specs.Slab.{slab_len, get};
-    ghost use Rattle.indexmap.specs.IndexMap.{spare};
     ghost use Rattle.proc_table.specs.Slots.{ProcRows, all_rows, look};
     ghost use Rattle.proc_table.specs.Lanes.{rows_of, IsTied};
 
@@ -78,7 +74,7 @@ impl Model for Processes {
 
     ghost view = { λ t. record {
       rows = all_rows (look (rows_of (get t.nodes)) t.slots.entries);
-      spare = min (t.nodes.capacity - slab_len t.nodes) (spare t.slots);
+      spare = min (t.nodes.capacity - slab_len t.nodes) t.slots.spare;
     } };
 
     ghost invariant = { λ t. IsTied (get t.nodes) t.slots.entries t.counts };
@@ -92,24 +88,22 @@ impl Clone for Processes {
         Ok(Processes {
             nodes: self.nodes.clone()?,
             slots: self.slots.clone()?,
-            hints: self.hints.clone()?,
             counts: self.counts,
         })
     }
 }
 
 impl Processes {
-    /// Returns an empty collection.
-    pub fn new(alloc: Global, hints: Hints) -> Processes
-        ensures { result.rows ≡ [] }
+    /// Returns an empty collection. Fails when out of memory.
+    pub fn new(alloc: Global) -> Result<Processes, AllocError>
+        ensures { IfOk result (λ processes. processes.rows ≡ []) }
     {
         let counts = [0; 64];
-        Processes {
+        Ok(Processes {
             nodes: Slab::new(alloc),
-            slots: IndexMap::new(alloc),
-            hints,
+            slots: NumberMap::new(alloc)?,
             counts,
-        }
+        })
     }
 
     /// Makes room for `count` more rows. Fails when out of memory, and then leaves the rows unchanged.
@@ -128,7 +122,7 @@ impl Processes {
     pub fn find(&self, number: u32) -> Option<&ProcData>
         ensures { option_copied result ≡ process_of number self.now.rows }
     {
-        let slot = slot_of(&self.nodes, &self.slots, &self.hints, number)?;
+        let slot = self.slots.get(number)?;
         Some(&self.nodes[slot].row)
     }
 
@@ -158,8 +152,9 @@ impl Processes {
     fn next_named(&self, kin: Kin, pid: Pid, after: u32) -> Option<ProcData>
         ensures { result ≡ next_named kin pid after self.now.rows }
     {
-        let head = slot_of(&self.nodes, &self.slots, &self.hints, pid.get())?;
-        let slot = next_slot(&self.nodes, &self.slots, kin, head, pid.get(), after)?;
+        let number = pid.get();
+        let head = self.slots.get(number)?;
+        let slot = next_slot(&self.nodes, &self.slots, kin, head, number, after)?;
         Some(self.nodes[slot].row)
     }
 
@@ -185,8 +180,9 @@ impl Processes {
         requires callable { F.IsAlwaysCallable test }
         ensures { (t : ProcData → Bool) → DecidesRows (FnReturnsAt F.Fn test) self.now.rows t → result ≡ find_named kin pid t self.now.rows }
     {
-        let head = slot_of(&self.nodes, &self.slots, &self.hints, pid.get())?;
-        let slot = first_slot(&self.nodes, kin, head, pid.get(), test)?;
+        let number = pid.get();
+        let head = self.slots.get(number)?;
+        let slot = first_slot(&self.nodes, kin, head, number, test)?;
         Some(self.nodes[slot].row)
     }
 
@@ -226,8 +222,7 @@ impl Processes {
         let tracer = tracer_of(&row);
         let parent = parent_of(&row);
         let slot = self.nodes.insert_reserved(unlinked(row));
-        self.slots.insert(row.pid.get(), slot).unwrap();
-        self.hints.note(row.pid.get(), slot);
+        self.slots.insert(row.pid.get(), slot);
         relink_both(&mut self.nodes, &self.slots, slot, tracer, parent);
         self.counts[row.uid.slot()] += 1;
     }
@@ -240,7 +235,8 @@ impl Processes {
         ensures rows { self.new.rows ≡ map (put_process row) self.old.rows }
         ensures spare { self.new.spare ≡ self.old.spare }
     {
-        let slot = slot_of(&self.nodes, &self.slots, &self.hints, row.pid.get()).unwrap();
+        let number = row.pid.get();
+        let slot = self.slots.get(number).unwrap();
         relink_both(
             &mut self.nodes,
             &self.slots,
@@ -258,9 +254,10 @@ impl Processes {
         ensures rows { self.new.rows ≡ filter (λ p. not (p.pid == pid)) self.old.rows }
         ensures spare { self.old.spare ≤ self.new.spare }
     {
-        let slot = self.slots[&pid.get()];
+        let number = pid.get();
+        let slot = self.slots.get(number).unwrap();
         relink_both(&mut self.nodes, &self.slots, slot, None, None);
-        self.slots.swap_remove(&pid.get());
+        self.slots.remove(number);
         let gone = self.nodes.remove(slot);
         self.counts[gone.row.uid.slot()] -= 1;
     }

@@ -14,7 +14,7 @@ ghost use Rattle.proc_table.specs.Kept.{IsKept, IsRow, AtHome, Named, put_proces
 
 use crate::ProcData;
 use crate::processes::Processes;
-use lwp_table::{Hints, LwpData, LwpTable};
+use lwp_table::{LwpData, LwpTable};
 use number_sets::NumberSet;
 use pid_blocks::{
     FIRST_PID, FIRST_TID, PIDS, Pid, TIDS, Tid, Uid, cursor_after, next_free, pid_block, tid_block,
@@ -84,9 +84,8 @@ impl Tables {
     pub fn new(alloc: Global) -> Result<Tables, AllocError>
         ensures { IfOk result (λ tables. tables.rows ≡ no_rows) }
     {
-        let hints = Hints::new(alloc)?;
         Ok(Tables {
-            processes: Processes::new(alloc, hints),
+            processes: Processes::new(alloc)?,
             pids: NumberSet::new(alloc, PID_WORDS)?,
             lwps: LwpTable::new(alloc)?,
             pid_cursors: cursors(FIRST_PID, PIDS),

@@ -5,15 +5,15 @@ use Rattle.proc_table.specs.Lanes.{IsHead}
 use Rattle.proc_table.proofs.Laced.{laced-moved}
 use Rattle.proc_table.proofs.links.leave.Goals as goal
 
-pub index-head-requires : goal.index-head-requires
-index-head-requires c =
+pub unwrap-head-requires : goal.unwrap-head-requires
+unwrap-head-requires c =
     let head = c.requires.laced.headed c.args.kin c.args.slot c.index.result.now c.in-Some.chief c.index.ensures (ap (λ l. l.chief) (sym c.links_of.ensures) ∙ c.in-Some.is) in
-    ap is_some head.1
+    ap is_some (c.get.ensures ∙ head.1)
 
 pub unlink-requires-clause-there : goal.unlink-requires-clause-there
 unlink-requires-clause-there c =
     let head = c.requires.laced.headed c.args.kin c.args.slot c.index.result.now c.in-Some.chief c.index.ensures (ap (λ l. l.chief) (sym c.links_of.ensures) ∙ c.in-Some.is) in
-    subst (λ h. IsHead (get c.args.nodes.now) h c.in-Some.chief) (same_Some head.0 c.index-head.result.now (sym head.1 ∙ c.index-head.ensures)) head.2
+    subst (λ h. IsHead (get c.args.nodes.now) h c.in-Some.chief) (same_Some head.0 c.unwrap-head.result (sym head.1 ∙ sym c.get.ensures ∙ c.unwrap-head.ensures)) head.2
 
 pub returns-in-Some-clause-laced : goal.returns-in-Some-clause-laced
 returns-in-Some-clause-laced c =

@@ -26,17 +26,17 @@ returns-then-after-eq0 c =
 
 pub index-requires-in-Some : goal.index-requires-in-Some
 index-requires-in-Some c =
-    let there = some_and (λ (slot : Slot). slot.row.pid ≡ c.args.after) _ (c.requires.at c.args.after c.in-Some.at.now (sym c.in-Some.ensures.value)) in
+    let there = some_and (λ (slot : Slot). slot.row.pid ≡ c.args.after) _ (c.requires.at c.args.after c.in-Some.at (sym c.in-Some.ensures)) in
     ap is_some there.1
 
 pub returns-then-eq : goal.returns-then-eq
 returns-then-eq c =
     let kin = c.args.kin in
-    let there = some_and (λ (slot : Slot). slot.row.pid ≡ c.args.after) _ (c.requires.at c.args.after c.in-Some.at.now (sym c.in-Some.ensures.value)) in
+    let there = some_and (λ (slot : Slot). slot.row.pid ≡ c.args.after) _ (c.requires.at c.args.after c.in-Some.at (sym c.in-Some.ensures)) in
     let same = same_Some c.index-in-Some.result.now there.0 (sym c.index-in-Some.ensures ∙ there.1) in
     let number : c.index-in-Some.result.now.row.pid ≡ c.args.after = ap (λ (x : Slot). x.row.pid) same ∙ there.2 in
     let chief : (lane kin c.index-in-Some.result.now).chief ≡ Some c.args.chief = ap (λ l. l.chief) (sym c.links_of-links.ensures) ∙ equal c.links_of-links.result.chief c.args.chief (sym c.eq.ensures ∙ c.if-eq.true) in
-    rw (← number, ap (λ l. l.next) c.links_of-links.ensures) ((c.requires.laced.linked kin).links c.in-Some.at.now (lane kin c.index-in-Some.result.now) c.args.chief (ap (option_map (lane kin)) c.index-in-Some.ensures) chief)
+    rw (← number, ap (λ l. l.next) c.links_of-links.ensures) ((c.requires.laced.linked kin).links c.in-Some.at (lane kin c.index-in-Some.result.now) c.args.chief (ap (option_map (lane kin)) c.index-in-Some.ensures) chief)
 
 pub returns : goal.returns
 returns c =

@@ -4,7 +4,7 @@ use Rattle.lwp_table.specs.Lwps.{has_lwp}
 use Rattle.lwp_table.specs.Kept.{ends_at}
 use Rattle.lwp_table.proofs.WordLemmas.{lwp_of-fresh}
 use Rattle.lwp_table.proofs.KeptLemmas.{HasJoined, own_count, all_count, rows-added, IsKept-added}
-use Rattle.lwp_table.proofs.table.LwpTable.add.Goals.{After-unwrap}
+use Rattle.lwp_table.proofs.table.LwpTable.add.Goals.{After-insert}
 use Rattle.lwp_table.proofs.table.LwpTable.add.Goals as goal
 
 pub overflow_add-ends : goal.overflow_add-ends
@@ -14,7 +14,7 @@ pub overflow_add-self : goal.overflow_add-self
 overflow_add-self c = omega (arith, all_count c.self.invariant, c.requires.room, ap (λ v. v.spare) c.self.view_is)
 
 -- what the steps up to the index establish
-joins : (c : After-unwrap) → HasJoined (slot_get c.self.inside.rows) c.self.inside.slots.entries c.self.inside.heads.entries c.self.inside.all c.self.inside.births c.args.row c.insert_reserved-slot.result c.ends_of-own.result (slot_get c.set_link-2.new.slots) c.insert.new.self.entries
+joins : (c : After-insert) → HasJoined (slot_get c.self.inside.rows) c.self.inside.slots.entries c.self.inside.heads.entries c.self.inside.all c.self.inside.births c.args.row c.insert_reserved-slot.result c.ends_of-own.result (slot_get c.set_link-2.new.slots) c.insert.new.self.entries
 joins c = record {
   own_is = c.ends_of-own.ensures ∙ ap (ends_at c.self.inside.heads.entries) c.get-pid.ensures.number;
   vacant = c.insert_reserved-slot.ensures.was_vacant;
@@ -24,14 +24,14 @@ joins c = record {
   listed = slot_get c.set_link.new.slots;
   links_own = c.set_link.ensures.linked;
   links_all = c.set_link-2.ensures.linked;
-  change = rw c.get-tid.ensures.number at (rw c.unwrap.ensures at c.insert.ensures.updates).0;
+  change = rw c.get-tid.ensures.number at c.insert.ensures.updates;
   fresh = lwp_of-fresh c.args.row.tid _ (ap (λ v. has_lwp c.args.row.tid v.rows) c.self.view_is ∙ c.requires.fresh);
 }
 
 pub invariant_of-self : goal.invariant_of-self
 invariant_of-self c =
-    IsKept-added c.self.invariant c.args.row c.insert_reserved-slot.result c.ends_of-own.result _ _ (joins (goal.at.invariant_of-self c).After-unwrap) c.insert-2.new.self.entries c.or.result c.or-2.result c.or.ensures c.or-2.ensures
-    (rw c.get-pid.ensures.number at (rw c.unwrap-2.ensures at c.insert-2.ensures.updates).0) c.user_place.result c.user_place.ensures.place c.user_place.ensures.below c.self.told
+    IsKept-added c.self.invariant c.args.row c.insert_reserved-slot.result c.ends_of-own.result _ _ (joins (goal.at.invariant_of-self c).After-insert) c.insert-2.new.self.entries c.or.result c.or-2.result c.or.ensures c.or-2.ensures
+    (rw c.get-pid.ensures.number at c.insert-2.ensures.updates) c.user_place.result c.user_place.ensures.place c.user_place.ensures.below c.self.told
 
 pub returns-clause-rows : goal.returns-clause-rows
-returns-clause-rows c = rw (← c.self.view_is) (rows-added c.self.invariant c.args.row c.insert_reserved-slot.result c.ends_of-own.result _ _ (joins (goal.at.returns-clause-rows c).After-unwrap))
+returns-clause-rows c = rw (← c.self.view_is) (rows-added c.self.invariant c.args.row c.insert_reserved-slot.result c.ends_of-own.result _ _ (joins (goal.at.returns-clause-rows c).After-insert))

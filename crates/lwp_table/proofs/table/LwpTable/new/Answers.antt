@@ -4,4 +4,4 @@ use Rattle.lwp_table.proofs.KeptLemmas.{IsKept-none}
 use Rattle.lwp_table.proofs.table.LwpTable.new.Goals as goal
 
 pub invariant_of-result : goal.invariant_of-result
-invariant_of-result c = rw c.empty.ensures (IsKept-none (slot_get c.new.result) c.new-2.result.entries c.new-3.result.entries (λ s. ap (λ xs. slice_index_or xs s None) c.new.ensures.empty) c.new-2.ensures.empty c.new-3.ensures.empty)
+invariant_of-result c = rw c.empty.ensures (IsKept-none (slot_get c.new.result) c.in_ok-new.field-0.entries c.in_ok-new-2.field-0.entries (λ s. ap (λ xs. slice_index_or xs s None) c.new.ensures.empty) c.in_ok-new.ensures.empty c.in_ok-new-2.ensures.empty)

@@ -9,8 +9,8 @@ use Rattle.lwp_table.proofs.table.LwpTable.remove.Goals as goal
 
 pub unwrap-slot-requires : goal.unwrap-slot-requires
 unwrap-slot-requires c =
-    let row = some_of _ (rw (← c.self.view_is, ← c.get.ensures.number) at c.requires) in
-    ap is_some (c.swap_remove.ensures.value ∙ (slot_for (slot_get c.self.inside.rows) _ _ c.self.invariant.indexed c.get.result row.0 row.1).2)
+    let row = some_of _ (rw (← c.self.view_is, ← c.get-number.ensures.number) at c.requires) in
+    ap is_some (c.get.ensures ∙ (slot_for (slot_get c.self.inside.rows) _ _ c.self.invariant.indexed c.get-number.result row.0 row.1).2)
 
 pub close_up-requires : goal.close_up-requires
 close_up-requires c =
@@ -25,22 +25,22 @@ without-requires c =
 pub overflow_sub-self : goal.overflow_sub-self
 overflow_sub-self c =
     let gone = c.remove-gone.result in
-    let tid = (lwp_of-found (slot_get c.self.inside.rows) _ _ c.self.invariant.indexed c.get.result c.unwrap-slot.result gone (sym c.swap_remove.ensures.value ∙ c.unwrap-slot.ensures) c.remove-gone.ensures.value).0 in
-    omega (arith, user_positive c.self.invariant c.unwrap-slot.result gone c.remove-gone.ensures.value c.user_place.result (c.user_place.ensures.place ∙ ap place_of (sym (tid ∙ c.get.ensures.number))) c.user_place.ensures.below)
+    let tid = (lwp_of-found (slot_get c.self.inside.rows) _ _ c.self.invariant.indexed c.get-number.result c.unwrap-slot.result gone (sym c.get.ensures ∙ c.unwrap-slot.ensures) c.remove-gone.ensures.value).0 in
+    omega (arith, user_positive c.self.invariant c.unwrap-slot.result gone c.remove-gone.ensures.value c.user_place.result (c.user_place.ensures.place ∙ ap place_of (sym (tid ∙ c.get-number.ensures.number))) c.user_place.ensures.below)
 
 -- what the steps up to the new ends establish
-leaves : (c : After-without) → HasLeft (slot_get c.self.inside.rows) c.self.inside.slots.entries c.self.inside.heads.entries c.args.tid c.unwrap-slot.result c.remove-gone.result (slot_get c.close_up.new.slots) c.swap_remove.new.self.entries c.without.result
+leaves : (c : After-without) → HasLeft (slot_get c.self.inside.rows) c.self.inside.slots.entries c.self.inside.heads.entries c.args.tid c.unwrap-slot.result c.remove-gone.result (slot_get c.close_up.new.slots) c.remove.new.self.entries c.without.result
 leaves c =
     let gone = c.remove-gone.result in
     let own = c.ends_of-own.ensures ∙ ap (ends_at c.self.inside.heads.entries) c.get-pid.ensures.number in
     record {
-      at = rw c.get.ensures.number at (sym c.swap_remove.ensures.value ∙ c.unwrap-slot.ensures);
+      at = rw c.get-number.ensures.number at (sym c.get.ensures ∙ c.unwrap-slot.ensures);
       had = c.remove-gone.ensures.value;
       rest = slot_get c.remove-gone.new.self;
       gone = c.remove-gone.ensures.updates.changed;
       others = c.remove-gone.ensures.updates.others;
       closed = c.close_up.ensures.closed;
-      change = rw c.get.ensures.number at c.swap_remove.ensures.updates.0;
+      change = rw c.get-number.ensures.number at c.remove.ensures.updates;
       first = c.without.ensures.first ∙ ap (λ (e : Ends). cond (is_none gone.own.prev) gone.own.next e.first) own;
       last = c.without.ensures.last ∙ ap (λ (e : Ends). cond (is_none gone.own.next) gone.own.prev e.last) own;
       count = c.without.ensures.count ∙ ap (λ (e : Ends). e.count) own;

@@ -7,17 +7,17 @@ use Rattle.lwp_table.proofs.table.LwpTable.set.Goals as goal
 
 pub unwrap-slot-requires : goal.unwrap-slot-requires
 unwrap-slot-requires c =
-    let row = some_and _ _ (rw (← c.self.view_is, ← c.get.ensures.number) at c.requires) in
-    ap is_some (c.slot_of.ensures ∙ (slot_for (slot_get c.self.inside.rows) _ _ c.self.invariant.indexed c.get.result row.0 row.1).2)
+    let row = some_and _ _ (rw (← c.self.view_is, ← c.get-number.ensures.number) at c.requires) in
+    ap is_some (c.get.ensures ∙ (slot_for (slot_get c.self.inside.rows) _ _ c.self.invariant.indexed c.get-number.result row.0 row.1).2)
 
 pub invariant_of-self : goal.invariant_of-self
 invariant_of-self c =
     let updates = Updates-with_value c.self.inside.rows c.unwrap-slot.result (record (c.index-place.result.now) { row = c.args.row }) (ap is_some c.index_mut.ensures.value) in
     IsKept-set c.self.invariant c.args.row c.unwrap-slot.result c.index-place.result.now _ (rw (← c.self.view_is) at c.requires)
-    (rw c.get.ensures.number at (sym c.slot_of.ensures ∙ c.unwrap-slot.ensures)) c.index-place.ensures updates.changed updates.others
+    (rw c.get-number.ensures.number at (sym c.get.ensures ∙ c.unwrap-slot.ensures)) c.index-place.ensures updates.changed updates.others
 
 pub returns-clause-rows : goal.returns-clause-rows
 returns-clause-rows c =
     let updates = Updates-with_value c.self.inside.rows c.unwrap-slot.result (record (c.index-place.result.now) { row = c.args.row }) (ap is_some c.index_mut.ensures.value) in
     rw (← c.self.view_is) (rows-set c.self.invariant c.args.row c.unwrap-slot.result c.index-place.result.now _ (rw (← c.self.view_is) at c.requires)
-    (rw c.get.ensures.number at (sym c.slot_of.ensures ∙ c.unwrap-slot.ensures)) c.index-place.ensures updates.changed updates.others)
+    (rw c.get-number.ensures.number at (sym c.get.ensures ∙ c.unwrap-slot.ensures)) c.index-place.ensures updates.changed updates.others)

@@ -4,27 +4,27 @@ use Rattle.slab.specs.Slab.{get}
 use Rattle.proc_table.specs.Lanes.{rows_of}
 use Rattle.proc_table.proofs.Slots.{tally-below}
 use Rattle.proc_table.proofs.Tied.{IsBorn, IsRehung, picked, head-row, added-laced, added-head, added}
-use Rattle.proc_table.proofs.processes.Processes.add.Goals.{After-get-2, After-slot}
+use Rattle.proc_table.proofs.processes.Processes.add.Goals.{After-insert, After-slot}
 use Rattle.proc_table.proofs.processes.Processes.add.Goals as goal
 
 -- what the steps up to the index establish
-born : (c : After-get-2) → IsBorn (get c.self.inside.nodes) c.self.inside.slots.entries c.args.row c.insert_reserved-slot.result (get c.insert_reserved-slot.new.self) c.insert.new.self.entries
+born : (c : After-insert) → IsBorn (get c.self.inside.nodes) c.self.inside.slots.entries c.args.row c.insert_reserved-slot.result (get c.insert_reserved-slot.new.self) c.insert.new.self.entries
 born c = record {
   vacant = c.insert_reserved-slot.ensures.was_vacant;
   has = c.insert_reserved-slot.ensures.updates.changed ∙ ap Some c.unlinked.ensures;
   others = c.insert_reserved-slot.ensures.updates.others;
-  change = rw c.get.ensures.number at (rw c.unwrap.ensures at c.insert.ensures.updates).0;
+  change = rw c.get.ensures.number at c.insert.ensures.updates;
   fresh = ap (λ v. list_any (λ p. nat_eq p.pid c.args.row.pid) v.rows) c.self.view_is ∙ c.requires.fresh;
   home = c.requires.home;
 }
 
 pub relink_both-requires-clause-laced : goal.relink_both-requires-clause-laced
-relink_both-requires-clause-laced c = added-laced c.self.invariant (born (goal.at.relink_both-requires-clause-laced c).After-get-2)
+relink_both-requires-clause-laced c = added-laced c.self.invariant (born (goal.at.relink_both-requires-clause-laced c).After-insert)
 
 pub relink_both-requires-clause-chiefs : goal.relink_both-requires-clause-chiefs
 relink_both-requires-clause-chiefs c = λ k t is.
     let named = c.requires.named k t (rw (picked c.args.row _ _ c.tracer_of-tracer.ensures c.parent_of-parent.ensures k) at is) in
-    added-head c.self.invariant (born (goal.at.relink_both-requires-clause-chiefs c).After-get-2) t (head-row c.self.invariant t (rw (← c.self.view_is) at named))
+    added-head c.self.invariant (born (goal.at.relink_both-requires-clause-chiefs c).After-insert) t (head-row c.self.invariant t (rw (← c.self.view_is) at named))
 
 pub overflow_add-self : goal.overflow_add-self
 overflow_add-self c = rw c.slot.ensures.place (omega (arith, tally-below (rows_of (get c.self.inside.nodes)) c.self.inside.slots.entries c.self.inside.counts c.self.invariant.slotted c.args.row.uid c.requires.home.user))
@@ -34,8 +34,8 @@ rehung c = record { laced = c.relink_both.ensures.laced; rows = c.relink_both.en
 
 pub invariant_of-self : goal.invariant_of-self
 invariant_of-self c =
-    rw c.slot.ensures.place (added c.self.invariant (born (goal.at.invariant_of-self c).After-get-2) (rehung (goal.at.invariant_of-self c).After-slot) c.tracer_of-tracer.ensures c.parent_of-parent.ensures c.self.told).0
+    rw c.slot.ensures.place (added c.self.invariant (born (goal.at.invariant_of-self c).After-insert) (rehung (goal.at.invariant_of-self c).After-slot) c.tracer_of-tracer.ensures c.parent_of-parent.ensures c.self.told).0
 
 pub returns-clause-rows : goal.returns-clause-rows
 returns-clause-rows c =
-    rw (← c.self.view_is) (added c.self.invariant (born (goal.at.returns-clause-rows c).After-get-2) (rehung (goal.at.returns-clause-rows c).After-slot) c.tracer_of-tracer.ensures c.parent_of-parent.ensures c.self.told).1
+    rw (← c.self.view_is) (added c.self.invariant (born (goal.at.returns-clause-rows c).After-insert) (rehung (goal.at.returns-clause-rows c).After-slot) c.tracer_of-tracer.ensures c.parent_of-parent.ensures c.self.told).1

@@ -7,7 +7,7 @@ use Rattle.proc_table.proofs.processes.Processes.next_named.Goals as goal
 
 pub returns-in_err-head : goal.returns-in_err-head
 returns-in_err-head c =
-    let none = sym (rw c.get.ensures.number at c.in_err-head.ensures) in
+    let none = sym (rw c.get-number.ensures.number at c.in_err-head.ensures) in
     c.from_residual.ensures ∙ sym (unnamed-slot c.self.invariant c.args.kin c.args.pid c.args.after none)
     ∙ ap (λ v. next_named c.args.kin c.args.pid c.args.after v.rows) c.self.view_is
 
@@ -16,12 +16,12 @@ next_slot-requires-clause-below c = below c.self.invariant
 
 pub returns-in_err-slot : goal.returns-in_err-slot
 returns-in_err-slot c =
-    let next : IsNext (keys (lanes c.args.kin (get c.self.inside.nodes))) c.args.pid c.args.after None = rw c.get-2.ensures.number at c.in_err-slot.ensures in
+    let next : IsNext (keys (lanes c.args.kin (get c.self.inside.nodes))) c.args.pid c.args.after None = rw c.get-number.ensures.number at c.in_err-slot.ensures in
     c.from_residual-in_err-slot.ensures ∙ sym (walk-none c.self.invariant c.args.kin c.args.pid c.args.after next)
     ∙ ap (λ v. next_named c.args.kin c.args.pid c.args.after v.rows) c.self.view_is
 
 pub returns : goal.returns
 returns c =
-    let next : IsNext (keys (lanes c.args.kin (get c.self.inside.nodes))) c.args.pid c.args.after (Some c.in_ok-slot.slot) = rw c.get-2.ensures.number at c.in_ok-slot.ensures in
+    let next : IsNext (keys (lanes c.args.kin (get c.self.inside.nodes))) c.args.pid c.args.after (Some c.in_ok-slot.slot) = rw c.get-number.ensures.number at c.in_ok-slot.ensures in
     sym (walk-some c.self.invariant c.args.kin c.args.pid c.args.after c.in_ok-slot.slot c.index.result.now c.index.ensures next)
     ∙ ap (λ v. next_named c.args.kin c.args.pid c.args.after v.rows) c.self.view_is

@@ -1,4 +1,4 @@
-use Rattle.std.proofs.Common.{ap, ◌∙◌, is_some, arith}
+use Rattle.std.proofs.Common.{ap, sym, ◌∙◌, is_some, arith}
 use Rattle.slab.specs.Slab.{get}
 use Rattle.proc_table.specs.Processes.{process_of}
 use Rattle.proc_table.specs.Lanes.{next_named, rows_of}
@@ -7,15 +7,15 @@ use Rattle.proc_table.proofs.Tied.{IsWithout, removed}
 use Rattle.proc_table.proofs.processes.Processes.remove.Goals.{After-slot}
 use Rattle.proc_table.proofs.processes.Processes.remove.Goals as goal
 
-pub index-slot-requires : goal.index-slot-requires
-index-slot-requires c =
+pub unwrap-slot-requires : goal.unwrap-slot-requires
+unwrap-slot-requires c =
     let there = ap (λ v. is_some (process_of c.args.pid v.rows)) c.self.view_is ∙ c.requires.there in
-    rw c.get.ensures.number (slot_there (rows_of (get c.self.inside.nodes)) c.self.inside.slots.entries c.self.inside.counts c.self.invariant.slotted c.args.pid there)
+    rw (c.get.ensures, c.get-number.ensures.number) (slot_there (rows_of (get c.self.inside.nodes)) c.self.inside.slots.entries c.self.inside.counts c.self.invariant.slotted c.args.pid there)
 
 -- what is then kept, and of which rows
-after : (c : After-slot) → IsWithout (get c.self.inside.nodes) c.self.inside.slots.entries c.self.inside.counts c.args.pid c.remove-gone.result.row.uid (get c.remove-gone.new.self) c.swap_remove.new.self.entries
+after : (c : After-slot) → IsWithout (get c.self.inside.nodes) c.self.inside.slots.entries c.self.inside.counts c.args.pid c.remove-gone.result.row.uid (get c.remove-gone.new.self) c.remove.new.self.entries
 after c = removed c.self.invariant c.args.pid record { laced = c.relink_both.ensures.laced; rows = c.relink_both.ensures.rows; here = c.relink_both.ensures.here; others = c.relink_both.ensures.others }
-    c.remove-gone.ensures.value c.remove-gone.ensures.updates.changed c.remove-gone.ensures.updates.others (rw c.get.ensures.number at c.index-slot.ensures) (rw c.get-2.ensures.number at c.swap_remove.ensures.updates.0)
+    c.remove-gone.ensures.value c.remove-gone.ensures.updates.changed c.remove-gone.ensures.updates.others (rw c.get-number.ensures.number at (sym c.get.ensures ∙ c.unwrap-slot.ensures)) (rw c.get-number.ensures.number at c.remove.ensures.updates)
     (λ k. ap (λ v. next_named k c.args.pid 0 v.rows) c.self.view_is ∙ c.requires.unnamed k) c.self.told
 
 pub overflow_sub-self : goal.overflow_sub-self

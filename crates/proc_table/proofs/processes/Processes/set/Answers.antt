@@ -11,7 +11,7 @@ use Rattle.proc_table.proofs.processes.Processes.set.Goals as goal
 pub unwrap-slot-requires : goal.unwrap-slot-requires
 unwrap-slot-requires c =
     let was = some_and _ _ (rw (← c.self.view_is) at c.requires.there) in
-    rw (c.slot_of.ensures, c.get.ensures.number) (slot_there (rows_of (get c.self.inside.nodes)) c.self.inside.slots.entries c.self.inside.counts c.self.invariant.slotted c.args.row.pid (ap is_some was.1))
+    rw (c.get.ensures, c.get-number.ensures.number) (slot_there (rows_of (get c.self.inside.nodes)) c.self.inside.slots.entries c.self.inside.counts c.self.invariant.slotted c.args.row.pid (ap is_some was.1))
 
 pub relink_both-requires-clause-chiefs : goal.relink_both-requires-clause-chiefs
 relink_both-requires-clause-chiefs c = λ k t is.
@@ -25,10 +25,10 @@ pub invariant_of-self : goal.invariant_of-self
 invariant_of-self c =
     let updates = Updates-with_value c.relink_both.new.nodes c.unwrap-slot.result c.with_row.result (ap is_some c.index_mut.ensures.value) in
     (written c.self.invariant {g = get (with_value c.relink_both.new.nodes c.unwrap-slot.result c.with_row.result)} (rehung (goal.at.invariant_of-self c).After-index) c.tracer_of.ensures c.parent_of.ensures c.index.ensures
-    (updates.changed ∙ ap Some c.with_row.ensures) updates.others (rw c.get.ensures.number at (sym c.slot_of.ensures ∙ c.unwrap-slot.ensures)) (rw (← c.self.view_is) at c.requires.there)).0
+    (updates.changed ∙ ap Some c.with_row.ensures) updates.others (rw c.get-number.ensures.number at (sym c.get.ensures ∙ c.unwrap-slot.ensures)) (rw (← c.self.view_is) at c.requires.there)).0
 
 pub returns-clause-rows : goal.returns-clause-rows
 returns-clause-rows c =
     let updates = Updates-with_value c.relink_both.new.nodes c.unwrap-slot.result c.with_row.result (ap is_some c.index_mut.ensures.value) in
     rw (← c.self.view_is) (written c.self.invariant {g = get (with_value c.relink_both.new.nodes c.unwrap-slot.result c.with_row.result)} (rehung (goal.at.returns-clause-rows c).After-index) c.tracer_of.ensures c.parent_of.ensures c.index.ensures
-    (updates.changed ∙ ap Some c.with_row.ensures) updates.others (rw c.get.ensures.number at (sym c.slot_of.ensures ∙ c.unwrap-slot.ensures)) (rw (← c.self.view_is) at c.requires.there)).1
+    (updates.changed ∙ ap Some c.with_row.ensures) updates.others (rw c.get-number.ensures.number at (sym c.get.ensures ∙ c.unwrap-slot.ensures)) (rw (← c.self.view_is) at c.requires.there)).1

@@ -1,0 +1,50 @@
+-- What a number finds among entries.
+use Rattle.std.proofs.Common.{◌≡◌, ◌≢◌, ℕ, zero, suc, ◌+◌, ◌<◌, ◌≤◌, true, false, List, [], Option, Some, None, refl, ap, ◌∙◌, inl, inr, arith, nat_eq}
+use Rattle.std.specs.List.{cons_option}
+use Rattle.std.specs.Map.{lookup}
+use Rattle.std.specs.Option.{option_map}
+use Rattle.std.proofs.lemmas.Bool.{cases_eq}
+use Rattle.std.proofs.lemmas.Bool.Decides.{nat_tests}
+use Rattle.number_map.specs.Pages.{entries_from}
+
+pub test_same : (a : ℕ) → nat_eq a a ≡ true
+test_same a = grind (arith, nat_tests)
+
+pub test_apart : (a b : ℕ) → a ≢ b → nat_eq a b ≡ false
+test_apart a b off = grind (arith, nat_tests)
+
+module _ {V : Type 0} where
+  -- another number's entry is passed by
+  pass : (n from : ℕ) (o : Option V) (rest : List (ℕ × V)) → n ≢ from → lookup (nat_eq n) (cons_option (option_map (λ v. (from, v)) o) rest) ≡ lookup (nat_eq n) rest
+  pass n from None rest off = refl
+  pass n from (Some v) rest off = rw (test_apart n from off) refl
+
+  -- the number's own entry
+  meet : (n : ℕ) (o : Option V) (rest : List (ℕ × V)) → lookup (nat_eq n) rest ≡ None → lookup (nat_eq n) (cons_option (option_map (λ v. (n, v)) o) rest) ≡ o
+  meet n None rest none = none
+  meet n (Some v) rest none = rw (test_same n) refl
+
+  module _ (f : ℕ → Option V) where
+    lookup-before : (n from count : ℕ) → n < from → lookup (nat_eq n) (entries_from f from count) ≡ None
+    lookup-before n from zero less = refl
+    lookup-before n from (suc count) less = pass n from (f from) (entries_from f (from + 1) count) (omega (arith, less)) ∙ lookup-before n (from + 1) count (omega (arith, less))
+
+    pub lookup-past : (n from count : ℕ) → from + count ≤ n → lookup (nat_eq n) (entries_from f from count) ≡ None
+    lookup-past n from zero past = refl
+    lookup-past n from (suc count) past = pass n from (f from) (entries_from f (from + 1) count) (omega (arith, past)) ∙ lookup-past n (from + 1) count (omega (arith, past))
+
+    pub lookup-within : (n from count : ℕ) → from ≤ n → n < from + count → lookup (nat_eq n) (entries_from f from count) ≡ f n
+    lookup-within n from zero least less = absurd (omega (arith, least, less))
+    lookup-within n from (suc count) least less = elim (cases_eq n from) [
+      | inl same ↦ rw same (meet from (f from) (entries_from f (from + 1) count) (lookup-before from (from + 1) count (omega arith)))
+      | inr off ↦ pass n from (f from) (entries_from f (from + 1) count) off ∙ lookup-within n (from + 1) count (omega (arith, least, off)) (omega (arith, less))
+    ]
+
+    pub entries-none : ((n : ℕ) → f n ≡ None) → (from count : ℕ) → entries_from f from count ≡ []
+    entries-none none from zero = refl
+    entries-none none from (suc count) = rw (none from) (entries-none none (from + 1) count)
+
+  -- functions with the same values have the same entries
+  pub entries-same : (f g : ℕ → Option V) → ((n : ℕ) → f n ≡ g n) → (from count : ℕ) → entries_from f from count ≡ entries_from g from count
+  entries-same f g same from zero = refl
+  entries-same f g same from (suc count) = rw (same from) (ap (cons_option (option_map (λ v. (from, v)) (g from))) (entries-same f g same (from + 1) count))

@@ -1,0 +1,12 @@
+use Rattle.std.proofs.Common.{None, IsSome, sym, ap, subst, ◌∙◌, cond, nat_eq}
+use Rattle.std.specs.Map.{lookup}
+use Rattle.number_map.proofs.Paged.{found, found-own}
+use Rattle.number_map.proofs.NumberMap.remove.Goals as goal
+
+pub write-requires-clause-within : goal.write-requires-clause-within
+write-requires-clause-within g c = (found-own _ _ c.self.invariant c.args.number (subst (λ m. IsSome (lookup (nat_eq c.args.number) m.entries)) (sym c.self.view_is) c.requires)).0
+
+pub returns-clause-updates : goal.returns-clause-updates
+returns-clause-updates g c n =
+    let was = sym (found _ _ c.self.invariant n) ∙ ap (λ m. lookup (nat_eq n) m.entries) c.self.view_is in
+    found _ _ c.write.ensures.paged n ∙ c.write.ensures.updates n ∙ ap (cond (nat_eq c.args.number n) None) was
