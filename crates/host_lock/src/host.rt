@@ -228,14 +228,10 @@ impl<F: Decider + Send + Drop> SharedHost<F> {
         ensures learns { Learns moment.seen session.old session.new }
         ensures told { IsTrue session.new }
     {
+        let shown = moment.into_seat();
         let badge = mem::replace(&mut session.badge, Badge::blank());
         let mut seat = badge.into_seat();
-        learn(
-            &self.table.shared,
-            &mut seat,
-            session.number,
-            moment.into_seat(),
-        );
+        learn(&self.table.shared, &mut seat, session.number, shown);
         session.badge = seat.into_badge();
     }
 

@@ -11,8 +11,8 @@ use atomic_table::Badge;
 use std::marker::Model;
 use stop_handlers::Decider;
 
-/// What a session had seen of the journal: its own answered calls, and all calls before them. Any thread may be given it.
-/// Contracts see these entries.
+/// What a session had seen of the journal: its own answered calls, and all calls before them. Any thread may be given
+/// it. Contracts see these entries.
 #[derive(Drop)]
 pub struct Moment {
     pub(crate) badge: Badge<View>,
