@@ -6,17 +6,14 @@ use Rattle.std.proofs.lemmas.List.Elements.{filter-append}
 use mathlib.Core.Option.{none}
 use Rattle.atomic_table.specs.Table.{step}
 use Rattle.requests.specs.Machine.{Machine}
-use Rattle.requests.specs.Plain.{PlainStep}
 use Rattle.requests.specs.Memory.{is_memory}
 use Rattle.host_lock.specs.declared.journal.Entry.{Entry}
-use Rattle.host_lock.specs.declared.host.Answer.{Answer}
-use Rattle.host_lock.specs.declared.host.Answer.TheVariants.{Reply, Spent}
-use Rattle.host_lock.specs.Answers.{Calls, CallsInOrder, Follows}
+use Rattle.host_lock.specs.Answers.{CallsInOrder}
 use Rattle.host_lock.specs.Journal.{entries_of, StartsWith, IsLegal, entry}
 use Rattle.host_lock.specs.Limits.{most_calls}
 use Rattle.host_lock.specs.Views.{Idle, View}
 use Rattle.host_lock.specs.Rule.{M, both, HasLearned, learned, longer, moment_view, session_view, start_of, seen_of, mine_of, view_in}
-use Rattle.host_lock.specs.Sessions.{EndsBehind, Learns, Makes, SessionData}
+use Rattle.host_lock.specs.Sessions.{Makes}
 use Rattle.host_lock.proofs.Journey.{IsSettled, settled}
 
 -- of two beginnings of one list the longer one begins with the other
@@ -107,40 +104,23 @@ module _ {F : Type 0} where
       let R : List View → List View → Type 0 = λ old new. (new ≡ view_in new ∷ []) × IsSettled number calls (view_in new) × SeesMore front (view_in old) (view_in new) in
       subst (λ (z : List View × List View). R z.0 z.1) (λ i. (sym was i, sym is i)) (refl, at.0, at.1)
 
--- a call after a moment, told by the session before it learned of the moment
-pub calls_on : (front : List Entry) (v b w : SessionData) (s : PlainStep) (a : Answer) → v.calls < most_calls → Learns front v b → Calls b s a w → Calls v s a w × Follows front v s a w
-calls_on front v b w s Spent room l c = let e = l.1 in let d = c.0 in absurd (omega arith)
-calls_on front v b w s (Reply r) room l c =
-    let g = c.1.0 in
-    let both_ways = by_memory (is_memory r) c.1.1 in
-    ((room, ((g.0 ∙ l.0.0, g.1 ∙ l.0.1, g.2 ∙ ap (λ (n : ℕ). n + 1) l.1, g.3 ∙ l.0.2, g.4 ∙ l.0.3), both_ways.0)), both_ways.1)
-  where
-    by_memory : (m : Bool) → MatchBool m (StartsWith w.seen b.seen × (w.mine ≡ b.mine)) (Makes b s r w)
-        → MatchBool m (StartsWith w.seen v.seen × (w.mine ≡ v.mine)) (Makes v s r w) × MatchBool m (Unit {0}) (EndsBehind front (entry v.uid v.number s r) w.seen)
-    by_memory true t = ((starts_through w.seen b.seen v.seen t.0 l.3, t.1 ∙ l.2), tt)
-    by_memory false t =
-        let e : entry b.uid b.number s r ≡ entry v.uid v.number s r = λ i. entry (l.0.0 i) (l.0.1 i) s r in
-        let f : StartsWith t.0 front = starts_through t.0 b.seen front t.1 l.4 in
-        let ends : w.seen ≡ t.0 ++ entry v.uid v.number s r ∷ [] = t.2 ∙ ap (λ (z : Entry). t.0 ++ z ∷ []) e in (
-          (t.0, starts_through t.0 b.seen v.seen t.1 l.3, ends, t.3 ∙ (λ i. l.2 i ++ e i ∷ [])),
-          (f.0, ends ∙ ap (λ (z : List Entry). z ++ entry v.uid v.number s r ∷ []) f.1),
-        )
-
 pub calls_in_order : CallsInOrder
-calls_in_order v v' w w' s t r q journal first made second told stands =
+calls_in_order v v' w w' s t r q journal first made seen second told stands =
     let e : Entry = entry v.uid v.number s r in
     let f : Entry = entry w.uid w.number t q in
-    let makes : Makes v s r v' = subst (λ (b : Bool). MatchBool b (StartsWith v'.seen v.seen × (v'.mine ≡ v.mine)) (Makes v s r v')) made first.1.1 in
-    let behind : EndsBehind v'.seen f w'.seen = subst (λ (b : Bool). MatchBool b (Unit {0}) (EndsBehind v'.seen f w'.seen)) told second in
-    let log : List Entry = makes.0 in
+    let earlier : Makes v s r v' = subst (λ (b : Bool). MatchBool b (StartsWith v'.seen v.seen × (v'.mine ≡ v.mine)) (Makes v s r v')) made first.1.1 in
+    let later : Makes w t q w' = subst (λ (b : Bool). MatchBool b (StartsWith w'.seen w.seen × (w'.mine ≡ w.mine)) (Makes w t q w')) told second.1.1 in
+    let log : List Entry = earlier.0 in
+    let behind : StartsWith later.0 v'.seen = starts_through later.0 w.seen v'.seen later.1 seen in
     let mid : List Entry = behind.0 in
     let rest : List Entry = stands.0.0 in (
       log,
       mid,
       rest,
       stands.0.1
-          ∙ ap (λ (z : List Entry). z ++ rest) behind.1
-          ∙ append_assoc (v'.seen ++ mid) (f ∷ []) rest
-          ∙ ap (λ (z : List Entry). z ++ mid ++ f ∷ rest) makes.2
+          ∙ ap (λ (z : List Entry). z ++ rest) later.2
+          ∙ append_assoc later.0 (f ∷ []) rest
+          ∙ ap (λ (z : List Entry). z ++ f ∷ rest) behind.1
+          ∙ ap (λ (z : List Entry). z ++ mid ++ f ∷ rest) earlier.2
           ∙ ap (λ (z : List Entry). z ++ f ∷ rest) (append_assoc log (e ∷ []) mid),
     )

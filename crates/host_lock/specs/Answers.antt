@@ -1,5 +1,5 @@
 -- The answers of open, call and close.
-use Rattle.std.specs.Prelude.{◌≡◌, ℕ, ◌<◌, List, ◌∷◌, ◌++◌, length, MatchBool, false}
+use Rattle.std.specs.Prelude.{◌≡◌, ℕ, ◌<◌, List, ◌∷◌, ◌++◌, length, false}
 use Rattle.requests.specs.Machine.{Machine}
 use Rattle.requests.specs.Plain.{PlainStep}
 use Rattle.host_lock.specs.declared.host.OpenRefusal.{OpenRefusal}
@@ -12,25 +12,21 @@ use Rattle.host_lock.specs.Limits.{most_sessions, most_calls}
 use Rattle.requests.specs.declared.Reply.{Reply as AnyReply}
 use Rattle.requests.specs.Memory.{is_memory}
 use Rattle.host_lock.specs.declared.journal.Entry.{Entry}
-use Rattle.host_lock.specs.Journal.{entry}
-use Rattle.host_lock.specs.Sessions.{SessionData, HostData, Replies, IsOpenable, EndsBehind, Stands}
+use Rattle.host_lock.specs.Journal.{StartsWith, entry}
+use Rattle.host_lock.specs.Sessions.{SessionData, HostData, Replies, IsOpenable, Stands}
 
 -- the answer to a call of a session, and the session after it
 abbrev pub Calls : SessionData → PlainStep → Answer → SessionData → Type 0
 Calls v s (Reply r) w = (v.calls < most_calls) × Replies v s r w
 Calls v s Spent w = (v.calls ≡ most_calls) × (w ≡ v)
 
--- a call with an entry stands behind these entries
-abbrev pub Follows : List Entry → SessionData → PlainStep → Answer → SessionData → Type 0
-Follows front v s (Reply r) w = MatchBool (is_memory r) (Unit {0}) (EndsBehind front (entry v.uid v.number s r) w.seen)
-Follows front v s Spent w = Unit {0}
-
--- A session makes a call, and another session a call after that moment. Then, in the journal at the end, the entry of
--- the first call stands before that of the second.
+-- A session makes a call, and later a session makes one that has seen what the first had then seen. In the journal at
+-- the end, the entry of the first call comes before that of the second.
 abbrev pub CallsInOrder : Type 0
 CallsInOrder =
     (v v' w w' : SessionData) (s t : PlainStep) (r q : AnyReply) (journal : List Entry)
-    → Calls v s (Reply r) v' → is_memory r ≡ false → Follows v'.seen w t (Reply q) w' → is_memory q ≡ false → Stands journal w'
+    → Calls v s (Reply r) v' → is_memory r ≡ false → StartsWith w.seen v'.seen
+    → Calls w t (Reply q) w' → is_memory q ≡ false → Stands journal w'
     → (front : List Entry) × (between : List Entry) × (rest : List Entry) × (journal ≡ front ++ entry v.uid v.number s r ∷ between ++ entry w.uid w.number t q ∷ rest)
 
 -- the reason for a refused opening, and the host that is given back

@@ -62,10 +62,6 @@ IsSame v w = (w.uid ≡ v.uid) × (w.number ≡ v.number) × (w.host ≡ v.host)
 abbrev pub Learns : List Entry → SessionData → SessionData → Type 0
 Learns front v w = IsSame v w × (w.calls ≡ v.calls) × (w.mine ≡ v.mine) × StartsWith w.seen v.seen × StartsWith w.seen front
 
--- after these entries, and perhaps others, this one stands last
-abbrev pub EndsBehind : List Entry → Entry → List Entry → Type 0
-EndsBehind front e seen = (between : List Entry) × (seen ≡ front ++ between ++ e ∷ [])
-
 -- at the end: the journal begins with the part that the session saw, and its entries of the session are its own
 abbrev pub Stands : List Entry → SessionData → Type 0
 Stands log s = StartsWith log s.seen × (entries_of s.number log ≡ s.mine)

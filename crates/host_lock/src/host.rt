@@ -2,7 +2,7 @@
 
 ghost use Rattle.std.specs.Prelude.{◌≡◌, ℕ, ◌+◌, ◌<◌, ◌≤◌, [], ◌∷◌, ◌++◌, List, length, true, false, IfOk, IfErr, OnOk, All, vec_len, reverse, MatchResult, IsErr, ◌↔◌};
 ghost use Rattle.requests.specs.Isolation.{Users};
-ghost use Rattle.host_lock.specs.Answers.{Calls, Follows, RefusesFor, GivesBack};
+ghost use Rattle.host_lock.specs.Answers.{Calls, RefusesFor, GivesBack};
 ghost use Rattle.host_lock.specs.Journal.{asked, IsLegal, replay, StartsWith};
 ghost use Rattle.host_lock.specs.History.{history};
 ghost use Rattle.host_lock.specs.Rule.{Each, IsHostTable, fresh_view, opening_view, session_view, start_of, Matches};
@@ -203,9 +203,8 @@ impl<F: Decider + Send + Drop> SharedHost<F> {
         Answer::Reply(reply)
     }
 
-    /// Returns what the session has seen of the journal, its own calls included. A call that is made after this moment,
-    /// by `call_after` or after `learn`, stands behind it. It makes no step of the machine, does not wait and takes no
-    /// memory.
+    /// Returns what the session has seen of the journal, its own calls included, for another session to learn. It makes
+    /// no step of the machine, does not wait and takes no memory.
     pub fn moment(&self, session: &mut Session) -> Moment
         requires { IsOf self.now session.old }
         ensures session { session.new ≡ session.old }
@@ -220,8 +219,8 @@ impl<F: Decider + Send + Drop> SharedHost<F> {
         }
     }
 
-    /// Lets a session see what another one had seen at the moment. From then on, each call of the session stands in the
-    /// journal behind all of that. It makes no step of the machine, does not wait and takes no memory.
+    /// Lets the session see what another one had seen at the moment. From then on, each call of the session stands in
+    /// the journal behind all of that. It makes no step of the machine, does not wait and takes no memory.
     pub fn learn(&self, session: &mut Session, moment: Moment)
         requires session { IsOf self.now session.old }
         requires moment { IsMomentOf self.now moment }
@@ -233,29 +232,6 @@ impl<F: Decider + Send + Drop> SharedHost<F> {
         let mut seat = badge.into_seat();
         learn(&self.table.shared, &mut seat, session.number, shown);
         session.badge = seat.into_badge();
-    }
-
-    /// Makes a call, as `call` does, whose entry stands in the journal behind all that was seen at the moment.
-    pub fn call_after<R: Wait>(
-        &self,
-        rt: &R,
-        alloc: Global,
-        session: &mut Session,
-        step: Step<Handler<F>>,
-        moment: Moment,
-    ) -> Answer
-        requires session { IsOf self.now session.old }
-        requires moment { IsMomentOf self.now moment }
-        ensures call { Calls session.old step result session.new }
-        ensures same { IsSame session.old session.new }
-        ensures told { IsTrue session.new }
-        ensures order { Follows moment.seen session.old step result session.new }
-    {
-        if !budget_left(session.calls_made) {
-            return Answer::Spent;
-        }
-        self.learn(session, moment);
-        self.call(rt, alloc, session, step)
     }
 }
 
