@@ -40,11 +40,9 @@ SHAPES: dict[str, dict[str, str]] = {
     'turn.rt': {
         'turn': """fetch_add::<Draw>(seat,1,1)@draw take_turn exchange(seat,0,Slot::Away(user,*plain)) else { }
             state.make if { give_back return } count_up give_back""",
-        'take_turn': """for { load::<Turn>(seat,0)@look-at-serving if == { return }
-            park(rt,0,low_half(serving)) }""",
+        'take_turn': 'for { load::<Turn>(seat,0)@look-at-serving if == { return } }',
         'count_up': 'fetch_add::<Count>(seat,2,1)',
-        'give_back': """exchange(seat,0,Slot::There(state)) fetch_add::<Release>(seat,0,1)@serve-next
-            if peek(1)@see-who-drew > { wake_all(0) }""",
+        'give_back': 'exchange(seat,0,Slot::There(state)) fetch_add::<Release>(seat,0,1)@serve-next',
     },
     'event_count.rt': {
         'prepare_wait': 'waiters.fetch_add(1,SeqCst)@count-as-waiter { epoch.load(SeqCst)@look-at-epoch }',

@@ -1,4 +1,4 @@
--- Rows, steps, replies, journals and hosts may cross threads.
+-- Rows, steps, replies, journals, sessions, moments and hosts may cross threads.
 use denote.RattleType.{RattleType}
 use denote.Param.Send.{IsSend, IsSync, sendable}
 use Rattle.std.proofs.Crossing.{crosses}
@@ -14,6 +14,7 @@ use Rattle.stop_handlers.specs.contracts.Policy as Policy
 use Rattle.requests.specs.contracts.Reply as Reply
 use Rattle.requests.specs.contracts.step.Step as Step
 use Rattle.host_lock.specs.contracts.journal.Journal as Journal
+use Rattle.host_lock.specs.contracts.moment.Moment as Moment
 use Rattle.host_lock.specs.contracts.session.Session as Session
 use Rattle.host_lock.specs.contracts.shared_state.SharedState as SharedState
 use Rattle.host_lock.specs.contracts.view.Slot as Slot
@@ -36,6 +37,9 @@ reply_send = search (crosses, sendable) depth 60 fits 50000
 
 journal_send : IsSend Journal.the_row
 journal_send = search (plain_step_send, reply_send, crosses, sendable) depth 60 fits 50000
+
+pub moment_send : IsSend Moment.the_row
+moment_send = search (badge.the_send, crosses, sendable) depth 80 fits 100000
 
 pub session_send : IsSend Session.the_row
 session_send = search (badge.the_send, crosses, sendable) depth 80 fits 100000

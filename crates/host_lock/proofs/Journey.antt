@@ -90,7 +90,7 @@ module _ {F : Type 0} where
 abbrev pub IsSettled : ℕ → ℕ → View → Type 0
 IsSettled number calls v = IsAtRest number calls v × IsLegal (start_of v) (seen_of v) × (entries_of number (seen_of v) ≡ mine_of v)
 
-settled : (h : Machine) (b number calls : ℕ) (log mine : List Entry) (v : View) → b ≡ most_calls - calls → IsLegal h log → entries_of number log ≡ mine → v ≡ session_view h Idle b log number mine → IsSettled number calls v
+pub settled : (h : Machine) (b number calls : ℕ) (log mine : List Entry) (v : View) → b ≡ most_calls - calls → IsLegal h log → entries_of number log ≡ mine → v ≡ session_view h Idle b log number mine → IsSettled number calls v
 settled h b number calls log mine v is legal same e = subst (IsSettled number calls) (sym e) (ap (λ (z : ℕ). session_view h Idle z log number mine) is, legal, same)
 
 module _ {F : Type 0} where

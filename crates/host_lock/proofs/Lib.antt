@@ -3,6 +3,7 @@ pub mod Memories
 pub mod Totals
 pub mod Turns
 pub mod Journey
+pub mod Moments
 pub mod Openings
 pub mod Closings
 pub mod Crossing

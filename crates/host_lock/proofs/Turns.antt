@@ -16,9 +16,10 @@ use Rattle.host_lock.specs.declared.view.Slot.{Slot}
 use Rattle.host_lock.specs.declared.view.Slot.TheVariants.{There, Away}
 use Rattle.host_lock.specs.History.{History, history}
 use Rattle.host_lock.specs.Journal.{StartsWith, next_entry}
-use Rattle.host_lock.specs.Rule.{M, total, Each, once, has_ticket, has_slot, owes, times, Matches, AtTurn, Fits, ticket_of, slot_of, number_of, parts_of, budget_of, calls_of, InSlot, IsKept, drawn, taken, drew, Takes, turned, first_seen, ticket_in, counted, released, fresh, fresh_view, opening_view, both, session_view, Closes, Tells, start_of, seen_of, mine_of, TakesSlot}
+use Rattle.host_lock.specs.Rule.{M, total, Each, once, has_ticket, has_slot, owes, times, Matches, AtTurn, Fits, ticket_of, slot_of, number_of, parts_of, budget_of, calls_of, InSlot, IsKept, drawn, taken, drew, Takes, turned, learned, longer, shown, first_seen, ticket_in, counted, released, fresh, fresh_view, opening_view, both, session_view, Closes, Tells, start_of, seen_of, mine_of, TakesSlot}
 use Rattle.host_lock.specs.Limits.{most_sessions, most_calls}
 use Rattle.host_lock.proofs.Logs.{entries_mine, entries_other, starts_longer}
+use Rattle.host_lock.proofs.Moments.{longer_is}
 use Rattle.host_lock.proofs.Totals.{once_same, once_else, total_set, total_snoc, total_one, total_two, total_find, seats_set, seats_snoc, each_map, each_append}
 
 total_same : (f : View → ℕ) (l : List View) (i : ℕ) (v w : View) → get_elem? l i ≡ some v → f w ≡ f v → total f (set l i w) ≡ total f l
@@ -391,6 +392,73 @@ module _ {F : Type 0} where
           tickets_left = let e = sum budget_of refl refl in let z = r.tickets_left in omega arith;
           calls_left = let e = sum calls_of (omega arith) refl in let z = r.calls_left in omega arith;
         }
+
+    -- a seat that owns nothing is added
+    pub shows : (id : ℕ) (v : View) → v.stage ≡ Idle → Splits Rule id v v (shown v)
+    shows id v idle s r at =
+        let w : View = shown v in
+        let f = r.seats id v at in
+        let none_v : has_slot v.stage ≡ 0 = ap has_slot idle in
+        let owe_v : owes v.stage ≡ 0 = ap owes idle in
+        let sum : (g : View → ℕ) → g w ≡ 0 → total g (set s.views id v ++ w ∷ []) ≡ total g s.views =
+        λ g nothing. let a = total_same g s.views id v v at refl in let b = total_snoc g (set s.views id v) w in omega arith in
+        let tickets : (q : ℕ) → total (ticket_of q) (set s.views id v ++ w ∷ []) ≡ total (ticket_of q) s.views = λ q. sum (ticket_of q) (ap (has_ticket q) idle) in record {
+          serving = r.serving;
+          ticket = r.ticket;
+          log = r.log;
+          words = r.words;
+          seats = seats_snoc (Fits h n r.serving r.log) (set s.views id v) w (record { start_is = f.start_is; seen_is = f.seen_is; owns_is = tt; turn_is = not_holder r.serving r.log v.stage v.seen none_v; works = omega arith })
+              (seats_set (Fits h n r.serving r.log) (Fits h n r.serving r.log) s.views id v f (λ j d _ _ q. q) r.seats);
+          slot = (let same = sum slot_of none_v in
+              ⊎_elim (λ (t : (total slot_of s.views ≡ 0) × (s.homes ≡ some (There (history h r.log)) ∷ [])). inl (same ∙ t.0, t.1)) (λ (t : (total slot_of s.views ≡ 1) × (s.homes ≡ none ∷ [])). inr (same ∙ t.0, t.1)) r.slot);
+          numbers = λ q. let e = sum (number_of q) refl in let o = r.numbers q in omega arith;
+          parts = sum parts_of refl ∙ r.parts;
+          given = r.given;
+          in_order = r.in_order;
+          out = λ q lo hi. tickets q ∙ r.out q lo hi;
+          past = λ q lo. tickets q ∙ r.past q lo;
+          later = λ q hi. tickets q ∙ r.later q hi;
+          tickets_left = let e = sum budget_of refl in let z = r.tickets_left in omega arith;
+          calls_left = let e = sum calls_of (omega arith) in let z = r.calls_left in omega arith;
+        }
+
+    -- a seat that has seen two beginnings keeps the longer one
+    pub learns : (slots id : ℕ) (m : (M F)) (x y : List Entry) → m.0.stage ≡ Idle → m.0.seen ≡ x ∷ y ∷ [] → Allows Rule slots id m 0 (λ x. x) (learned (step slots 0 0 0 none) m)
+    learns slots id m x y idle two s r _ at _ =
+        let v : View = m.0 in
+        let l : List Entry = longer v.seen in
+        let w : View = record v { seen = l ∷ [] } in
+        let f = r.seats id v at in
+        let none_v : has_slot v.stage ≡ 0 = ap has_slot idle in
+        let starts = subst (Each (StartsWith r.log)) two f.seen_is in
+        let start : StartsWith r.log l = subst (λ (ls : List (List Entry)). StartsWith r.log (longer ls)) (sym two) (longer_is (StartsWith r.log) x y starts.0 starts.1.0) in
+        let P : List ℕ → Type 0 = λ ws. (w : View) × (a : Act (Slot F)) × Valid s.homes m.1 a × Rule record { words = set ws 0 (get_or ws 0 0); homes = homes_after s.homes m.1 a; views = set s.views id w }
+        × learned (step slots 0 0 0 none) m (get_or ws 0 0) (w, carried_after m.1 a) in
+        let tickets : (q : ℕ) → total (ticket_of q) (set s.views id w) ≡ total (ticket_of q) s.views = λ q. total_same (ticket_of q) s.views id v w at refl in
+        subst P (sym r.words) (
+          w,
+          keeps,
+          tt,
+          record {
+            serving = r.serving;
+            ticket = r.ticket;
+            log = r.log;
+            words = refl;
+            seats = seats_set (Fits h n r.serving r.log) (Fits h n r.serving r.log) s.views id w
+                (record { start_is = f.start_is; seen_is = (start, tt); owns_is = f.owns_is; turn_is = not_holder r.serving r.log v.stage (l ∷ []) none_v; works = f.works }) (λ j d _ _ k. k) r.seats;
+            slot = slot_same r.log s.views s.homes id v w at refl r.slot;
+            numbers = λ k. let e = total_same (number_of k) s.views id v w at refl in let o = r.numbers k in omega arith;
+            parts = total_same parts_of s.views id v w at refl ∙ r.parts;
+            given = r.given;
+            in_order = r.in_order;
+            out = λ q lo hi. tickets q ∙ r.out q lo hi;
+            past = λ q lo. tickets q ∙ r.past q lo;
+            later = λ q hi. tickets q ∙ r.later q hi;
+            tickets_left = let e = total_same budget_of s.views id v w at refl in let k = r.tickets_left in omega arith;
+            calls_left = let e = total_same calls_of s.views id v w at refl in let k = r.calls_left in omega arith;
+          },
+          (refl, (r.log, f.seen_is, each_map (Matches n r.log) (Tells r.log) v.owns (λ x k. k.0) f.owns_is)),
+        )
 
     pub opens : n ≤ most_sessions → Rule (opening (0 ∷ 0 ∷ 0 ∷ []) (There (history h []) ∷ []) (opening_view h n))
     opens few = let v : View = opening_view h n in record {

@@ -1,5 +1,5 @@
 -- The answers of open, call and close.
-use Rattle.std.specs.Prelude.{◌≡◌, ℕ, ◌<◌, List, length}
+use Rattle.std.specs.Prelude.{◌≡◌, ℕ, ◌<◌, List, ◌∷◌, ◌++◌, length, false}
 use Rattle.requests.specs.Machine.{Machine}
 use Rattle.requests.specs.Plain.{PlainStep}
 use Rattle.host_lock.specs.declared.host.OpenRefusal.{OpenRefusal}
@@ -9,12 +9,25 @@ use Rattle.host_lock.specs.declared.host.CloseRefusal.TheVariants.{Missing}
 use Rattle.host_lock.specs.declared.host.Answer.{Answer}
 use Rattle.host_lock.specs.declared.host.Answer.TheVariants.{Reply, Spent}
 use Rattle.host_lock.specs.Limits.{most_sessions, most_calls}
-use Rattle.host_lock.specs.Sessions.{SessionData, HostData, Replies, IsOpenable}
+use Rattle.requests.specs.declared.Reply.{Reply as AnyReply}
+use Rattle.requests.specs.Memory.{is_memory}
+use Rattle.host_lock.specs.declared.journal.Entry.{Entry}
+use Rattle.host_lock.specs.Journal.{StartsWith, entry}
+use Rattle.host_lock.specs.Sessions.{SessionData, HostData, Replies, IsOpenable, Stands}
 
 -- the answer to a call of a session, and the session after it
 abbrev pub Calls : SessionData → PlainStep → Answer → SessionData → Type 0
 Calls v s (Reply r) w = (v.calls < most_calls) × Replies v s r w
 Calls v s Spent w = (v.calls ≡ most_calls) × (w ≡ v)
+
+-- A session makes a call, and later a session makes one that has seen what the first had then seen. In the journal at
+-- the end, the entry of the first call comes before that of the second.
+abbrev pub CallsInOrder : Type 0
+CallsInOrder =
+    (v v' w w' : SessionData) (s t : PlainStep) (r q : AnyReply) (journal : List Entry)
+    → Calls v s (Reply r) v' → is_memory r ≡ false → StartsWith w.seen v'.seen
+    → Calls w t (Reply q) w' → is_memory q ≡ false → Stands journal w'
+    → (front : List Entry) × (between : List Entry) × (rest : List Entry) × (journal ≡ front ++ entry v.uid v.number s r ∷ between ++ entry w.uid w.number t q ∷ rest)
 
 -- the reason for a refused opening, and the host that is given back
 abbrev pub RefusesFor : {F : Type 0} → Machine → List ℕ → OpenRefusal F → Type 0

@@ -1,5 +1,5 @@
 -- The rule of the table, and the knowledge that each step gives.
-use Rattle.std.specs.Prelude.{◌≡◌, ◌⊎◌, ℕ, zero, suc, ◌+◌, ◌-◌, ◌*◌, ◌<◌, ◌≤◌, ◌==◌, List, [], ◌∷◌, ◌++◌, length, take, drop, Option, Some, None, IfSome, MatchBool, true, if◌then◌else◌}
+use Rattle.std.specs.Prelude.{◌≡◌, ◌⊎◌, ℕ, zero, suc, ◌+◌, ◌-◌, ◌*◌, ◌<◌, ◌≤◌, ◌==◌, List, [], ◌∷◌, ◌++◌, length, take, drop, leb, Option, Some, None, IfSome, MatchBool, true, if◌then◌else◌}
 use mathlib.Core.Option.{none, some}
 use mathlib.Core.Option as maybe
 use lib.ListN.{get_elem?}
@@ -149,6 +149,19 @@ split_right v = record v { budget = most_calls; owns = take 1 v.owns }
 abbrev pub both : View → View → View
 both v w = record v { budget = v.budget + w.budget; seen = v.seen ++ w.seen; owns = v.owns ++ w.owns }
 
+-- the view of a seat that owns no session, and has seen what this one has
+abbrev pub shown : View → View
+shown v = record v { budget = 0; owns = [] }
+
+abbrev pub moment_view : Machine → List Entry → View
+moment_view h seen = record { start = Some h; stage = Idle; budget = 0; seen = seen ∷ []; owns = [] }
+
+-- the longer one of the first two lists
+abbrev pub longer : List (List Entry) → List Entry
+longer [] = []
+longer (x ∷ []) = x
+longer (x ∷ y ∷ zs) = if leb (length y) (length x) then x else y
+
 -- the view of the seat of one session
 abbrev pub session_view : Machine → Stage → ℕ → List Entry → ℕ → List Entry → View
 session_view h g b seen n mine = record { start = Some h; stage = g; budget = b; seen = seen ∷ []; owns = account n mine ∷ [] }
@@ -244,6 +257,11 @@ module _ {F : Type 0} where
   abbrev pub released : At F → M F → ℕ → M F → Type 0
   released st m n m' = m' ≡ (staged m.0 Idle, [])
 
+  -- the seat keeps the longer one of its two lists: both are beginnings of one list
+  abbrev pub learned : At F → M F → ℕ → M F → Type 0
+  learned st m n m' =
+      (m' ≡ (record m.0 { seen = longer m.0.seen ∷ [] }, m.1)) × ((log : List Entry) × Each (StartsWith log) m.0.seen × Each (Tells log) m.0.owns)
+
   -- the knowledge at the end about a seat that was joined with all others
   abbrev pub Closes : Machine → ℕ → View → List (Slot F) → Type 0
   Closes h n v xs =
@@ -267,6 +285,11 @@ module _ {F : Type 0} where
       × MatchBool (is_memory r) (IsLegal (start_of v) log × (m' ≡ (session_view (start_of v) Idle (v.budget - 1) log number (mine_of v), [])))
       (let e = entry u number s r in
       IsLegal (start_of v) (log ++ e ∷ []) × (m' ≡ (session_view (start_of v) Idle (v.budget - 1) (log ++ e ∷ []) number (mine_of v ++ e ∷ []), [])))
+
+  -- the seat has now also seen these entries
+  abbrev pub HasLearned : View → ℕ → List Entry → M F → Type 0
+  HasLearned v number front m' =
+      (seen : List Entry) × (m' ≡ (session_view (start_of v) Idle v.budget seen number (mine_of v), [])) × StartsWith seen (seen_of v) × StartsWith seen front × IsLegal (start_of v) seen × (entries_of number seen ≡ mine_of v)
 
   -- the slot is out with the seat, and the seat's last list is that of k
   abbrev pub IsOut : ℕ → History → M F → Type 0

@@ -20,6 +20,11 @@ pub record SessionData : Type 0 where
   pub host : TableId
   pub start : Machine
 
+pub record MomentData : Type 0 where
+  pub seen : List Entry
+  pub host : TableId
+  pub start : Machine
+
 pub record HostData : Type 0 where
   pub id : TableId
   pub start : Machine
@@ -28,6 +33,10 @@ pub record HostData : Type 0 where
 -- the session is of this host
 abbrev pub IsOf : HostData → SessionData → Type 0
 IsOf h s = (s.host ≡ h.id) × (s.start ≡ h.start)
+
+-- the moment is of a session of this host
+abbrev pub IsMomentOf : HostData → MomentData → Type 0
+IsMomentOf h m = (m.host ≡ h.id) × (m.start ≡ h.start)
 
 -- the seen part of the journal is legal, and its entries of this session are the session's own
 abbrev pub IsTrue : SessionData → Type 0
@@ -45,6 +54,13 @@ Makes v s r w =
 -- the effect of an answered call
 abbrev pub Replies : SessionData → PlainStep → Reply → SessionData → Type 0
 Replies v s r w = Goes v w × MatchBool (is_memory r) (StartsWith w.seen v.seen × (w.mine ≡ v.mine)) (Makes v s r w)
+
+abbrev pub IsSame : SessionData → SessionData → Type 0
+IsSame v w = (w.uid ≡ v.uid) × (w.number ≡ v.number) × (w.host ≡ v.host) × (w.start ≡ v.start)
+
+-- the session is as it was, but has now also seen these entries
+abbrev pub Learns : List Entry → SessionData → SessionData → Type 0
+Learns front v w = IsSame v w × (w.calls ≡ v.calls) × (w.mine ≡ v.mine) × StartsWith w.seen v.seen × StartsWith w.seen front
 
 -- at the end: the journal begins with the part that the session saw, and its entries of the session are its own
 abbrev pub Stands : List Entry → SessionData → Type 0
@@ -77,6 +93,3 @@ seen_by s = s.seen
 -- a seat that owns all these sessions
 abbrev pub gathered : Machine → List SessionData → ℕ → View
 gathered h order b = record { start = Some h; stage = Idle; budget = b; seen = map seen_by order; owns = map account_of order }
-
-abbrev pub IsSame : SessionData → SessionData → Type 0
-IsSame v w = (w.uid ≡ v.uid) × (w.number ≡ v.number) × (w.host ≡ v.host) × (w.start ≡ v.start)

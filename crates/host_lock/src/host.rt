@@ -7,12 +7,13 @@ ghost use Rattle.host_lock.specs.Journal.{asked, IsLegal, replay, StartsWith};
 ghost use Rattle.host_lock.specs.History.{history};
 ghost use Rattle.host_lock.specs.Rule.{Each, IsHostTable, fresh_view, opening_view, session_view, start_of, Matches};
 ghost use Rattle.host_lock.specs.Limits.{most_sessions, most_calls};
-ghost use Rattle.host_lock.specs.Sessions.{IsOf, IsTrue, Stands, new_session, new_sessions, IsOpenable, IsAt, IsBelow, SessionData, gathered, IsSame};
+ghost use Rattle.host_lock.specs.Sessions.{IsOf, IsMomentOf, IsTrue, Learns, Stands, new_session, new_sessions, IsOpenable, IsAt, IsBelow, SessionData, gathered, IsSame};
 ghost use Rattle.host_lock.specs.Views.{Idle};
 
 use crate::door::Door;
 use crate::journal::Journal;
 use crate::limits::MOST_SESSIONS;
+use crate::moment::{Moment, learn, show};
 use crate::rule::{HostSeat, HostTable, JoinTwo, Origin, SplitOne};
 use crate::session::{Session, budget_left};
 use crate::shared_state::SharedState;
@@ -200,6 +201,37 @@ impl<F: Decider + Send + Drop> SharedHost<F> {
         session.badge = seat.into_badge();
         session.calls_made += 1;
         Answer::Reply(reply)
+    }
+
+    /// Returns what the session has seen of the journal, its own calls included, for another session to learn. It makes
+    /// no step of the machine, does not wait and takes no memory.
+    pub fn moment(&self, session: &mut Session) -> Moment
+        requires { IsOf self.now session.old }
+        ensures session { session.new ≡ session.old }
+        ensures moment { (result.seen ≡ session.old.seen) × IsMomentOf self.now result }
+    {
+        let badge = mem::replace(&mut session.badge, Badge::blank());
+        let mut seat = badge.into_seat();
+        let shown = show(&self.table.shared, &mut seat);
+        session.badge = seat.into_badge();
+        Moment {
+            badge: shown.into_badge(),
+        }
+    }
+
+    /// Lets the session see what another one had seen at the moment. From then on, each call of the session stands in
+    /// the journal behind all of that. It makes no step of the machine, does not wait and takes no memory.
+    pub fn learn(&self, session: &mut Session, moment: Moment)
+        requires session { IsOf self.now session.old }
+        requires moment { IsMomentOf self.now moment }
+        ensures learns { Learns moment.seen session.old session.new }
+        ensures told { IsTrue session.new }
+    {
+        let shown = moment.into_seat();
+        let badge = mem::replace(&mut session.badge, Badge::blank());
+        let mut seat = badge.into_seat();
+        learn(&self.table.shared, &mut seat, session.number, shown);
+        session.badge = seat.into_badge();
     }
 }
 

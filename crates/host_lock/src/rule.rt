@@ -1,6 +1,6 @@
 //! The rule of the table, and the knowledge that each step on it gives. Word 0 is serving, word 1 ticket, word 2 count.
 
-ghost use Rattle.host_lock.specs.Rule.{drew, turned, counted, released};
+ghost use Rattle.host_lock.specs.Rule.{drew, turned, counted, released, learned};
 
 use crate::view::{Slot, View};
 use atomic_table::{Join, Play, Seat, Shared, Split, Table, TableRule};
@@ -58,6 +58,24 @@ pub(crate) struct Release;
 
 impl<F: Decider + Send + Drop> Play<Slot<F>, View> for Release {
     ghost then = { released };
+}
+
+/// Load of serving, by a seat that has seen two beginnings of the journal: it keeps the longer one.
+pub(crate) struct Learn;
+
+impl<F: Decider + Send + Drop> Play<Slot<F>, View> for Learn {
+    ghost then = { learned };
+}
+
+/// Splits a seat off, which owns no session and has seen the same.
+pub(crate) struct Show;
+
+impl Split<View> for Show {
+    ghost use Rattle.host_lock.specs.Rule.{shown};
+
+    ghost left = { λ v. v };
+
+    ghost right = { shown };
 }
 
 /// Splits a seat that owns several sessions: a new seat takes the first one.

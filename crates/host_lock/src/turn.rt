@@ -1,5 +1,5 @@
 //! The steps of one call on the table.
-ghost use Rattle.std.specs.Prelude.{◌≡◌, ℕ, ◌+◌, ◌-◌, ◌*◌, ◌%◌, ◌^◌, ◌<◌, ◌≤◌, [], ◌∷◌, ◌++◌, true, false, MatchBool};
+ghost use Rattle.std.specs.Prelude.{◌≡◌, ℕ, ◌+◌, ◌-◌, ◌*◌, ◌<◌, ◌≤◌, [], ◌∷◌, ◌++◌, true, false, MatchBool};
 ghost use Rattle.host_lock.specs.Views.{Idle, Waiting, Holding, Counted};
 ghost use Rattle.host_lock.specs.declared.view.Slot.TheVariants.{There, Away};
 ghost use Rattle.host_lock.specs.History.{history};
@@ -12,19 +12,12 @@ use crate::view::Slot;
 use pid_blocks::Uid;
 use requests::{PlainStep, Reply, Step};
 use std::alloc::Global;
+use std::hint::spin_loop;
 use std::sync::Wait;
 use stop_handlers::{Decider, Handler};
 
-/// Returns the low 32 bits of a word's number, which a sleep on the word compares.
-fn low_half(number: u64) -> u32
-    ensures { result ≡ number % 2 ^ 32 }
-{
-    (number % 4294967296) as u32
-}
-
 /// Waits until the ticket is served. A call that is inside the door finds its ticket served at the first look, since
-/// the call before served it before it left. Contracts don't see the door, so the loop would also wait without it: the
-/// thread sleeps while serving is the number that it found, so that a wake after the look is not lost.
+/// the call before served it before it left. Contracts don't see the door, so the loop would also wait without it.
 pub(crate) fn take_turn<F: Decider + Send + Drop, R: Wait>(
     rt: &R,
     table: &SharedTable<F>,
@@ -42,7 +35,7 @@ pub(crate) fn take_turn<F: Decider + Send + Drop, R: Wait>(
         if serving == ticket {
             return;
         }
-        table.park(rt, 0, low_half(serving));
+        spin_loop();
     }
     unreachable!()
 }
@@ -64,7 +57,7 @@ pub(crate) fn count_up<F: Decider + Send + Drop>(
     table.fetch_add::<Count>(seat, 2, 1);
 }
 
-/// Puts the host back, and serves the next ticket. Wakes the waiting threads, if a further ticket was drawn.
+/// Puts the host back, and serves the next ticket.
 pub(crate) fn give_back<F: Decider + Send + Drop>(
     table: &SharedTable<F>,
     seat: &mut HostSeat<F>,
@@ -77,10 +70,7 @@ pub(crate) fn give_back<F: Decider + Send + Drop>(
     ensures released { seat.new.me ≡ (session_view state.start Idle seat.old.me.0.budget state.log number (mine_of seat.old.me.0), []) }
 {
     let _away = table.exchange(seat, 0, Slot::There(state));
-    let served = table.fetch_add::<Release>(seat, 0, 1);
-    if table.peek(1) > served.wrapping_add(1) {
-        table.wake_all(0);
-    }
+    table.fetch_add::<Release>(seat, 0, 1);
 }
 
 /// Draws a ticket, waits until it is served, makes the step, and serves the next ticket. `plain` is the same step.

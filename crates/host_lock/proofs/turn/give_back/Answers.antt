@@ -13,8 +13,8 @@ exchange-away-requires g c =
     let held = ap (λ (m : Me (Slot g.row.F.Denot) View). m.1) out.3 in
     (c.requires.table.1, (out.1, held ∙ ap (λ (l : List (ℕ × Slot g.row.F.Denot)). (0, out.1) ∷ rest l) (sym held)))
 
-pub fetch_add-served-requires : goal.fetch_add-served-requires
-fetch_add-served-requires g c =
+pub fetch_add-requires : goal.fetch_add-requires
+fetch_add-requires g c =
     let table = c.args.table.now in
     let out = c.requires.out in
     let v = c.args.seat.now.me.0 in
@@ -28,4 +28,4 @@ fetch_add-served-requires g c =
 pub returns-clause-released : goal.returns-clause-released
 returns-clause-released g c =
     let out = c.requires.out in
-    c.fetch_add-served.ensures.2 ∙ ap (λ (m : Me (Slot g.row.F.Denot) View). (staged m.0 Idle, [])) c.exchange-away.ensures.3 ∙ ap (λ (m : Me (Slot g.row.F.Denot) View). (staged m.0 Idle, [])) out.3
+    c.fetch_add.ensures.2 ∙ ap (λ (m : Me (Slot g.row.F.Denot) View). (staged m.0 Idle, [])) c.exchange-away.ensures.3 ∙ ap (λ (m : Me (Slot g.row.F.Denot) View). (staged m.0 Idle, [])) out.3
