@@ -1,7 +1,8 @@
 #!/usr/bin/env bash
 # A run takes little memory: on the scenarios of bench/scenarios.py, of nearly 4 MiB, the program has at most 4 times
 # the scenario's bytes at any time.  Where the lines are longer than their scenario, as with lists of many processes,
-# the lines count with it, since none is written before all are known.
+# the lines count with it, since none is written before all are known.  The same bound holds for texts of one long number,
+# text or key, whether they are refused or not.
 #
 #   bash tests/memory.sh [PROGRAM]
 source "$(dirname "${BASH_SOURCE[0]}")/lib.sh"

@@ -1,5 +1,5 @@
 //! Numbers read from their texts.
-ghost use Rattle.std.specs.Prelude.{◌≡◌, ◌<◌, ◌^◌, ◌==◌, true, false, Some, IfSome, IsTrue, is_some, option_and_then, slice_index, length};
+ghost use Rattle.std.specs.Prelude.{◌≡◌, ◌<◌, ◌≤◌, ◌^◌, ◌==◌, true, false, Some, IfSome, IsTrue, is_some, option_and_then, slice_index, length};
 ghost use Rattle.std.specs.Str.Parse.{AllDigits, digits_value};
 ghost use Rattle.serde_json.specs.Find.{as_i64};
 ghost use Rattle.serde_json.specs.Read.{number_of, number_from, float_of};
@@ -109,12 +109,32 @@ fn negative_in_range(numeral: &Numeral<'_>) -> bool
     negative(numeral).is_some() || is_finite(true, numeral)
 }
 
+/// Tests whether a text is a few digits, as nearly all numbers are. `false` decides nothing.
+#[inline(always)]
+fn are_few_digits(bytes: &[u8]) -> bool
+    ensures { result ≡ true → (0 < length bytes.now) × (length bytes.now ≤ 18) × AllDigits 10 bytes.now }
+{
+    if bytes.is_empty() || bytes.len() > 18 {
+        return false;
+    }
+    for byte in bytes {
+        if !byte.is_ascii_digit() {
+            return false;
+        }
+    }
+    true
+}
+
 /// Tests whether the number of a text has a value: a float must not be too large.
 #[tactic(auto, using(crate::proofs::NumberTexts::integer_is_number))]
 pub(crate) fn is_in_range(text: &str) -> bool
     ensures { result ≡ is_some (number_of text.now) }
 {
-    short_integer(text.as_bytes()).is_some() || any_is_in_range(text)
+    let bytes = text.as_bytes();
+    if are_few_digits(bytes) {
+        return true;
+    }
+    short_integer(bytes).is_some() || any_is_in_range(text)
 }
 
 fn any_is_in_range(text: &str) -> bool

@@ -39,8 +39,8 @@ impl Flaw {
     }
 }
 
-fn push(steps: &mut StepList, user: Uid, step: PlainStep) -> Result<(), Fault>
-    ensures { Pushes (λ xs. xs) steps.old steps.new result (Ok (asked (user, step))) }
+fn push(steps: &mut StepList, user: Uid, step: &PlainStep) -> Result<(), Fault>
+    ensures { Pushes (λ xs. xs) steps.old steps.new result (Ok (asked (user, step.now))) }
 {
     steps.push(user, step)?;
     Ok(())
@@ -53,7 +53,7 @@ fn push_step(steps: &mut StepList, value: &Value<'_>, number: u32) -> Result<(),
     ensures no_read { IfErr result (λ e. e ≢ ReadFault) }
 {
     match step_of(value) {
-        Ok((user, step)) => push(steps, user, step),
+        Ok((user, step)) => push(steps, user, &step),
         Err(flaw) => Err(flaw.at(number)),
     }
 }

@@ -132,13 +132,13 @@ impl StepList {
     }
 
     /// Adds a step of a user. An error means out of memory, and changes nothing.
-    pub fn push(&mut self, user: Uid, step: PlainStep) -> Result<(), AllocError>
-        ensures ok { OnOk result (self.new ≡ self.old ++ asked (user, step) ∷ []) }
+    pub fn push(&mut self, user: Uid, step: &PlainStep) -> Result<(), AllocError>
+        ensures ok { OnOk result (self.new ≡ self.old ++ asked (user, step.now) ∷ []) }
         ensures err { OnErr result (self.new ≡ self.old) }
     {
         self.shapes.reserve(1)?;
-        push_policy(&mut self.policies, &step)?;
-        self.shapes.push_reserved((user, shape(&step)));
+        push_policy(&mut self.policies, step)?;
+        self.shapes.push_reserved((user, shape(step)));
         Ok(())
     }
 

@@ -37,7 +37,7 @@ fn read_step<'a>(
     let Ok((user, step)) = step_with(members.as_slice()) else {
         return None;
     };
-    match steps.push(user, step) {
+    match steps.push(user, &step) {
         Ok(()) => Some(()),
         Err(_) => None,
     }
