@@ -73,9 +73,12 @@ after_sound m o is s = both (sound_rows o.rows) (sound_installed (after m o).mac
 live_number : (rows : Rows) (u n : ℕ) → IsLiveOf rows u n → is_live_number rows n ≡ true
 live_number rows u n is = search (rules, any_more, both, and_left, and_right)
 
--- no pair of a user goes where the rows are as they were
+-- no pair of a user goes where each live process stays live
+pub left_live : (m : Machine) → sound m ≡ true → (rows : Rows) → ((n : ℕ) → is_live_number m.rows n ≡ true → is_live_number rows n ≡ true) → (u : ℕ) → IsUser u → filter (λ i. is_live_number rows i.debugger) (installed_by u m) ≡ installed_by u m
+left_live m is rows stays u user = filter_each (λ i. is_live_number rows i.debugger) (installed_by u m) (All-imply (λ i. is_live_of m.rows u i.debugger ≡ true) (λ i. is_live_number rows i.debugger ≡ true) (λ i was. stays i.debugger (live_number m.rows u i.debugger was)) (installed_by u m) (live_pairs m is u user))
+
 pub all_left : (m : Machine) → sound m ≡ true → (u : ℕ) → IsUser u → filter (λ i. is_live_number m.rows i.debugger) (installed_by u m) ≡ installed_by u m
-all_left m is u user = filter_each (λ i. is_live_number m.rows i.debugger) (installed_by u m) (All-imply (λ i. is_live_of m.rows u i.debugger ≡ true) (λ i. is_live_number m.rows i.debugger ≡ true) (λ i was. live_number m.rows u i.debugger was) (installed_by u m) (live_pairs m is u user))
+all_left m is u user = left_live m is m.rows (λ n live. live) u user
 
 -- an answer that changes no row leaves the host
 pub answers_same : (m : Machine) (r : Reply) → sound m ≡ true → (after m (answers r m.rows)).machine ≡ m

@@ -1,10 +1,12 @@
 -- The clauses of a step, from what was done to the rows and what was answered.
 use Rattle.requests.proofs.Names.{◌≡◌, ◌≢◌, ℕ, Some, None, List, [], set, true, false, refl, sym, ap, ◌∙◌, subst, inl, inr, set-get_or, IsUser, slot, Rows, PlainStep, Reply, Outcome, answers, Installed}
 use Rattle.requests.proofs.Names.{Machine, after, takes_memory, is_refusal, may_want, step_fits, sound, Steps, ProcData, step, calls, caller_of, Rule, length, installed_by, le-leb, not, ◌<◌, ◌≤◌}
-use Rattle.requests.proofs.Names.{◌++◌, ◌∷◌, Errno, Step, Attempts, bare, with_handler, Result, Ok, Err, uncalled, installs, outcome_of, Tries, step_of}
+use Rattle.requests.proofs.Names.{◌++◌, ◌∷◌, if◌then◌else◌, cases_Bool, attempted_reply, Errno, Step, Attempts, bare, with_handler, Result, Ok, Err, uncalled, installs, outcome_of, Tries, step_of}
 use Rattle.requests.specs.Callers.{IsCaller, Calls, Barred}
 use Rattle.requests.specs.Making.{Makes}
-use Rattle.requests.proofs.After.{all_left, answers_same, rows_sound}
+use Rattle.requests.specs.Ending.{may_end}
+use Rattle.requests.proofs.After.{all_left, left_live, answers_same, rows_sound}
+use Rattle.requests.proofs.Enduring.{Lives, step_enduring}
 use Rattle.requests.proofs.Called.{called, is_caller}
 use Rattle.requests.proofs.Drops.{left_in, kept_by, drops}
 use Rattle.requests.proofs.Installing.{installed_with, few_leb}
@@ -40,6 +42,13 @@ module _ (u : ℕ) (s : PlainStep) (m : Machine) (user : IsUser u) (is : sound m
     where
       set_at : List (List Installed) → List Installed → List (List Installed)
       set_at xs ys = set xs (slot u) ys
+
+  -- which are none where the step ends no process
+  pub none_ended : {E : Type 0} (o : Outcome) (rows : Rows) (r : Result Reply E) → step u s m ≡ after m o → Attempts (takes_memory u s m) o m.rows rows r → may_end s (attempted_reply r) ≡ false → set m.installed (slot u) (left_in rows u m) ≡ m.installed
+  none_ended o rows (Ok r) same did none =
+      let lives : Lives m.rows.processes o.rows.processes = subst (λ a. Lives m.rows.processes a.machine.rows.processes) same (step_enduring u s m (subst (λ x. may_end s x ≡ false) (did.gives.reply ∙ sym (ap (λ a. a.reply) same)) none)) in
+      ap (λ x. (kept_by u x m).installed) did.gives.rows ∙ ap (λ ys. set m.installed (slot u) ys) (left_live m is o.rows lives.at u user) ∙ set-get_or m.installed (slot u) []
+  none_ended o rows (Err e) same did none = ap (λ x. (kept_by u x m).installed) did.same ∙ ap (λ ys. set m.installed (slot u) ys) (all_left m is u user) ∙ set-get_or m.installed (slot u) []
 
   -- a refusal before anything was done
   pub refuses_at : (r : Reply) → r ≢ Reply.Errno Errno.ENOMEM → step u s m ≡ after m (answers r m.rows) → Steps u s m m r
@@ -115,9 +124,15 @@ module _ {u : ℕ} {h m : Machine} (view : h ≡ m) (user : IsUser u) (kept : so
   host_barred {s = s} {r = r} fits by b = refuses_at u s m user seen_kept fits r b.other (b.answer s by)
 
   -- a step once what ended debuggers had installed is gone
-  module _ {E : Type 0} (s : PlainStep) (fits : step_fits s ≡ true) {rows : Rows} {left : List (List Installed)} {r : Result Reply E} (keeps : left ≡ set h.installed (slot u) (left_in rows u h)) where
+  module _ {E : Type 0} (s : PlainStep) (fits : step_fits s ≡ true) {rows : Rows} {left : List (List Installed)} {r : Result Reply E} (keeps : left ≡ (if may_end s (attempted_reply r) then set h.installed (slot u) (left_in rows u h) else h.installed)) where
+    only_left : (o : Outcome) → step u s h ≡ after h o → Attempts (takes_memory u s h) o h.rows rows r → left ≡ set h.installed (slot u) (left_in rows u h)
+    only_left o same did = elim (cases_Bool (may_end s (attempted_reply r))) [
+      | inl e ↦ rw e at keeps
+      | inr e ↦ let all : left ≡ h.installed = rw e at keeps in all ∙ sym (none_ended u s h user kept fits o rows r same did e)
+    ]
+
     host_done : (o : Outcome) → step u s h ≡ after h o → Attempts (takes_memory u s h) o h.rows rows r → Tries u s h (record h { rows = rows; installed = left }) r
-    host_done o same did = subst (λ x. Tries u s h (record h { rows = rows; installed = x }) r) (sym keeps) (finished u s h user kept fits o rows r same did)
+    host_done o same did = subst (λ x. Tries u s h (record h { rows = rows; installed = x }) r) (sym (only_left o same did)) (finished u s h user kept fits o rows r same did)
 
     pub host_uncalled : caller_of s ≡ None → Attempts (takes_memory u s h) (outcome_of (uncalled u s h)) h.rows rows r → Tries u s h (record h { rows = rows; installed = left }) r
     host_uncalled none did = host_done (outcome_of (uncalled u s h)) (ap (step_of u s h) none ∙ uncalled_after u s h) did

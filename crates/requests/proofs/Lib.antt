@@ -38,5 +38,6 @@ pub mod Forking
 pub mod Turns
 pub mod Handling
 pub mod StaysSound
+pub mod Enduring
 pub mod Handled
 pub mod Joins

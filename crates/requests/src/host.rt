@@ -14,6 +14,7 @@ ghost use Rattle.requests.specs.Machine.{empty, installed_by};
 ghost use Rattle.requests.specs.Sound.{sound};
 
 use crate::dispatch::{called, uncalled};
+use crate::ending::drop_ended;
 use crate::handlers::HandlerTable;
 use crate::{Act, MOST_HANDLERS, Reply, Step};
 use event_masks::Call;
@@ -184,7 +185,7 @@ impl<F: Decider + Send + Drop> Host<F> {
         match asked.caller() {
             None => {
                 let done = uncalled(&mut self.tables, &self.handlers, self.settings, user, asked);
-                self.handlers.drop_ended(user, &self.tables);
+                drop_ended(&mut self.handlers, &self.tables, user, asked, &done);
                 done
             }
             Some(number) => {
@@ -201,7 +202,7 @@ impl<F: Decider + Send + Drop> Host<F> {
                     &caller,
                     asked,
                 );
-                self.handlers.drop_ended(user, &self.tables);
+                drop_ended(&mut self.handlers, &self.tables, user, asked, &done);
                 done
             }
         }

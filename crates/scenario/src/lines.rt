@@ -7,7 +7,9 @@ ghost use Rattle.scenario.specs.Runs.{answered, shown};
 ghost use Rattle.scenario.specs.Shown.{shown_line};
 
 use crate::running::RunOptions;
+use crate::short_lines::{ROOM, push_short};
 use crate::style::Style;
+use arrayvec::ArrayString;
 use itoa::Buffer;
 use pid_blocks::Uid;
 use reply_json::reply_json;
@@ -21,9 +23,14 @@ fn push_words(text: &mut String, uid: Uid, number: u64, reply: &Reply) -> Result
         ≡ string_bytes text.old ++ (line style.Words number (answered (uid, reply.now))).text) }
 {
     let mut digits = Buffer::new();
-    text.push_str(digits.format(uid.get()))?;
-    text.push_str(" ")?;
-    text.push_str(digits.format(number))?;
+    let mut line = ArrayString::<ROOM>::new();
+    line.push_str(digits.format(uid.get()));
+    line.push_str(" ");
+    line.push_str(digits.format(number));
+    if push_short(&mut line, reply) {
+        return text.push_str(line.as_str());
+    }
+    text.push_str(line.as_str())?;
     writeln!(text, " {reply}")?;
     Ok(())
 }

@@ -1,0 +1,50 @@
+//! What the ends of processes leave of the installed handlers.
+
+ghost use Rattle.std.specs.Prelude.{◌≡◌, [], set, get_or, filter, if◌then◌else◌};
+ghost use Rattle.pid_blocks.specs.Blocks.{slot};
+ghost use Rattle.requests.specs.Ending.{may_end};
+ghost use Rattle.requests.specs.Machine.{is_live_number};
+ghost use Rattle.requests.specs.Memory.{attempted_reply};
+ghost use Rattle.requests.specs.Plain.{bare};
+
+use crate::handlers::HandlerTable;
+use crate::{Reply, Step};
+use pid_blocks::Uid;
+use proc_table::Tables;
+use signals::Signal;
+use std::alloc::AllocError;
+use stop_handlers::Decider;
+
+/// Returns whether a step with this result may have ended a process.
+fn may_end<H>(asked: &Step<H>, done: &Result<Reply, AllocError>) -> bool
+    ensures { result ≡ may_end (bare asked.now) (attempted_reply done.now) }
+{
+    match *asked {
+        Step::Kill { sig, .. } => sig == Signal::kill().number(),
+        Step::Handle { .. } => matches!(done, Ok(Reply::Handled { .. })),
+        Step::Ptrace { .. } => matches!(done, Ok(Reply::Done)),
+        Step::Turn { .. } => matches!(done, Ok(Reply::Ended(_))),
+        Step::Spawn
+        | Step::List { .. }
+        | Step::Sigaction { .. }
+        | Step::Wait4 { .. }
+        | Step::Install { .. } => false,
+    }
+}
+
+/// Drops the handlers of the user's processes that the step with this result has ended.
+pub fn drop_ended<F: Decider + Send + Drop, H>(
+    handlers: &mut HandlerTable<F>,
+    tables: &Tables,
+    user: Uid,
+    asked: &Step<H>,
+    done: &Result<Reply, AllocError>,
+)
+    ensures { handlers.new ≡ (if may_end (bare asked.now) (attempted_reply done.now)
+        then set handlers.old (slot user) (filter (λ i. is_live_number tables.now.rows i.debugger) (get_or handlers.old (slot user) []))
+        else handlers.old) }
+{
+    if may_end(asked, done) {
+        handlers.drop_ended(user, tables);
+    }
+}
