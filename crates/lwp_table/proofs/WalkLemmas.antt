@@ -3,11 +3,11 @@ use Rattle.std.proofs.Common.{◌≡◌, ℕ, ◌+◌, ◌-◌, ◌<◌, ◌≤�
 use Rattle.std.specs.Option.{option_map, IsSomeAnd}
 use Rattle.std.specs.Map.{lookup}
 use Rattle.std.proofs.lemmas.Bool.{cases_Bool}
-use Rattle.std.proofs.lemmas.Bool.Decides.{nat_tests, eqb_tells}
+use Rattle.std.proofs.lemmas.Bool.Decides.{nat_tests}
 use Rattle.std.proofs.lemmas.Option.{same_Some}
 use Rattle.lwp_table.specs.declared.LwpData.{LwpData}
 use Rattle.lwp_table.specs.declared.links.Slot.{Slot}
-use Rattle.lwp_table.specs.Chain.{Node, IsNearest, IsChain, up, down, anywhere, above, below}
+use Rattle.lwp_table.specs.Chain.{Node, IsNearest, IsChain, up, anywhere, above}
 use Rattle.lwp_table.specs.Kept.{own_node, own_nodes, all_node, all_nodes, is_of, born_row, listing, rows_of, IsIndexed, from_slot, rows_from, IsWalk}
 use Rattle.std.specs.List.{find}
 use Rattle.lwp_table.specs.Lwps.{lwp_of, first_lwp, next_lwp}
