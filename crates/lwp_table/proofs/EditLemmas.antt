@@ -1,18 +1,19 @@
 -- A walk along a process's list that changes each row.
-use Rattle.std.proofs.Common.{◌≡◌, ◌≢◌, ℕ, zero, suc, ◌+◌, ◌-◌, ◌<◌, ◌≤◌, inl, inr, ◌⊎◌, List, [], ◌∷◌, Option, Some, None, is_some, count_by, slice_index_or, slice_set, map, refl, sym, ap, subst, ◌∙◌, arith, cond, nat_eq}
+use Rattle.std.proofs.Common.{◌≡◌, ◌≢◌, ℕ, zero, suc, ◌+◌, ◌-◌, ◌<◌, ◌≤◌, inl, inr, ◌⊎◌, Bool, true, false, rules, List, [], ◌∷◌, Option, Some, None, is_some, count_by, slice_index_or, slice_set, map, refl, sym, ap, subst, ◌∙◌, arith, cond, nat_eq}
 use Rattle.std.specs.Map.{lookup}
 use Rattle.std.specs.Option.{option_map, IsSomeAnd}
-use Rattle.std.proofs.lemmas.Bool.{cases_eq}
+use Rattle.std.proofs.lemmas.Bool.{cases_eq, cases_lt, cases_Bool}
 use Rattle.std.proofs.lemmas.Bool.Decides.{eqb_tells}
 use Rattle.std.proofs.lemmas.Option.{same_Some}
 use Rattle.std.proofs.lemmas.List.Sums.{sum_by-cons}
 use Rattle.slab.specs.Slab.{Slab, get, slab_len, with_value}
 use Rattle.lwp_table.specs.declared.LwpData.{LwpData}
 use Rattle.lwp_table.specs.declared.links.Slot.{Slot}
-use Rattle.lwp_table.specs.Lwps.{lwp_of, own_lwp, ComputesRows}
+use Rattle.lwp_table.specs.Lwps.{lwp_of, own_lwp, ComputesRows, LeavesQuiet}
 use Rattle.lwp_table.specs.Chain.{Node, IsNearest, up, anywhere, above}
 use Rattle.lwp_table.specs.declared.links.Ends.{Ends}
 use Rattle.lwp_table.specs.Kept.{own_node, own_nodes, born_row, rows_of, IsIndexed, IsKept}
+use Rattle.lwp_table.proofs.WordLemmas.{test_same}
 use Rattle.lwp_table.proofs.KeptLemmas.{IsKept-set}
 use Rattle.lwp_table.proofs.IndexLemmas.{came, born_in, born_of, lwp_of-slot}
 use Rattle.lwp_table.proofs.ListLemmas.{listing-mapped}
@@ -43,6 +44,17 @@ editing-first f returns pid link near = record {
   forth = λ s a there. (a, there, record { born = refl; own = refl; row = inr (λ on. omega arith, refl) });
   back = λ s b there. (b, there);
 }
+
+-- the process's rows that were born before `upto` have no pending signals, unless `may` says so
+abbrev pub IsSeen : (ℕ → Option Slot) → ℕ → ℕ → Bool → Type 0
+IsSeen now pid upto may = may ≡ false → (s : ℕ) (slot : Slot) → now s ≡ Some slot → slot.row.pid ≡ pid → slot.born < upto → slot.row.pending ≡ 0
+
+-- nothing is said of the process that is walked
+pub unsaid : (pid : ℕ) (may : ℕ → Bool) (p : ℕ) → cond (nat_eq pid p) true (may p) ≡ false → may p ≡ false
+unsaid pid may p none = search (rules, cases_Bool)
+
+pub unsaid-own : (pid p : ℕ) (may : ℕ → Bool) → p ≡ pid → cond (nat_eq pid p) true (may p) ≡ true
+unsaid-own pid p may is = rw (is, test_same pid) refl
 
 -- how many births are left from a link on
 abbrev pub left_in : ℕ → Option Slot → ℕ
@@ -136,6 +148,21 @@ module _ (was now : ℕ → Option Slot) (returns : LwpData → LwpData → Type
         ];
       }
 
+      pub seen-on : (may more : Bool) → IsSeen now pid upto may → (more ≡ false → (may ≡ false) × (new.pending ≡ 0)) → IsSeen g pid (b.born + 1) more
+      seen-on may more seen lower none j slot there on less = elim (cases_eq j s) [
+        | inl at ↦ ap (λ (x : Slot). x.row.pending) (same_Some slot (record b { row = new }) (sym there ∙ ap g at ∙ has)) ∙ (lower none).1
+        | inr off ↦
+            let is : now j ≡ Some slot = sym (others j off) ∙ there in
+            elim (cases_lt slot.born upto) [
+              | inl before ↦ seen (lower none).0 j slot is on before
+              | inr later ↦
+                  let key = walk.near.4 j (own_node slot) (ap (option_map own_node) is) on later in
+                  let at = came own_node (now s) walk.near.0 walk.near.1 in
+                  let first : walk.near.0.key ≡ b.born = ap (λ n. n.key) (sym at.2) ∙ ap (λ (x : Slot). x.born) (same_Some at.0 b (sym at.1 ∙ had)) in
+                  absurd (off (apart j s slot b is had (omega (arith, key, first, less))))
+            ]
+      ]
+
     -- it is a row of the table from which the walk began
     pub old_row : (es : List (ℕ × ℕ)) (births : ℕ) (rows : List LwpData) → IsIndexed was es births → rows_of was es births ≡ rows → lwp_of b.row.tid rows ≡ Some b.row
     old_row es births rows indexed seen =
@@ -144,12 +171,12 @@ module _ (was now : ℕ → Option Slot) (returns : LwpData → LwpData → Type
         subst (λ (r : LwpData). lwp_of r.tid rows ≡ Some r) (sym (untouched a.0 a.1)) found
 
 -- a table with another row in a slot, of the same number and process
-module _ {f : ℕ → Option Slot} {es : List (ℕ × ℕ)} {hs : List (ℕ × Ends)} {all : Ends} {births : ℕ} {users : List ℕ} (kept : IsKept f es hs all births users) where
-  pub IsKept-edited : (s : ℕ) (b : Slot) (new : LwpData) (g : ℕ → Option Slot) → f s ≡ Some b → (new.tid ≡ b.row.tid) × (new.pid ≡ b.row.pid) → g s ≡ Some (record b { row = new }) → ((j : ℕ) → j ≢ s → g j ≡ f j) → IsKept g es hs all births users
-  IsKept-edited s b new g had its has others =
+module _ {f : ℕ → Option Slot} {es : List (ℕ × ℕ)} {hs : List (ℕ × Ends)} {all : Ends} {births : ℕ} {users : List ℕ} {may : ℕ → Bool} (kept : IsKept f es hs all births users may) where
+  pub IsKept-edited : (s : ℕ) (b : Slot) (new : LwpData) (g : ℕ → Option Slot) → (may new.pid ≡ false → new.pending ≡ 0) → f s ≡ Some b → (new.tid ≡ b.row.tid) × (new.pid ≡ b.row.pid) → g s ≡ Some (record b { row = new }) → ((j : ℕ) → j ≢ s → g j ≡ f j) → IsKept g es hs all births users may
+  IsKept-edited s b new g calm had its has others =
       let there : IsSomeAnd (lwp_of b.row.tid (rows_of f es births)) (λ was. was.pid ≡ new.pid) = rw (lwp_of-slot f es births kept.indexed s b had) (sym its.1) in
       IsKept-set kept new s b g (subst (λ n. IsSomeAnd (lwp_of n (rows_of f es births)) (λ was. was.pid ≡ new.pid)) (sym its.0) there)
-      (ap (λ n. lookup (nat_eq n) es) its.0 ∙ kept.indexed.listed s b had) had has others
+      (ap (λ n. lookup (nat_eq n) es) its.0 ∙ kept.indexed.listed s b had) had has others calm
 
 -- a write in place leaves as many values
 len-set : (xs : List (Option Slot)) (key : ℕ) (old new : Slot) → slice_index_or xs key None ≡ Some old → count_by is_some (slice_set xs key (Some new)) ≡ count_by is_some xs
@@ -171,6 +198,28 @@ editing-less was g returns pid births born (Some s) walk less =
     let key : walk.near.0.key ≡ slot.0.born = ap (λ n. n.key) (sym slot.2) in
     let left : left_in births (g s) ≡ births - slot.0.born = ap (left_in births) slot.1 in
     omega (arith, less, later, key, left)
+
+-- at the end of the list, each row of the process was seen
+pub seen-all : (was now : ℕ → Option Slot) (returns : LwpData → LwpData → Type 0) (pid upto : ℕ) (may : Bool) → IsEditing was now returns pid upto None → IsSeen now pid upto may
+    → may ≡ false → (s : ℕ) (slot : Slot) → now s ≡ Some slot → slot.row.pid ≡ pid → slot.row.pending ≡ 0
+seen-all was now returns pid upto may walk seen none s slot there on = elim (cases_lt slot.born upto) [
+  | inl before ↦ seen none s slot there on before
+  | inr later ↦ absurd (walk.near s (own_node slot) (ap (option_map own_node) there) on later)
+]
+
+-- where no row of the process has pending signals, a change leaves the rows if it leaves such rows
+module _ (f : ℕ → Option Slot) (es : List (ℕ × ℕ)) (births pid : ℕ) (quiet : (s : ℕ) (slot : Slot) → f s ≡ Some slot → slot.row.pid ≡ pid → slot.row.pending ≡ 0) (change : LwpData → LwpData) (leaves : LeavesQuiet change) where
+  left_alone : (k : ℕ) (o : Option LwpData) → born_row f es k ≡ o → born_row f es k ≡ option_map (own_lwp pid change) o
+  left_alone k None is = is
+  left_alone k (Some row) is = is ∙ ap Some (elim (eqb_tells row.pid pid) [
+    | inl own ↦
+        let slot = born_in f es k row is in
+        rw own.0 (sym (leaves row (ap (λ (r : LwpData). r.pending) (sym slot.4) ∙ quiet slot.0 slot.1 slot.2 (ap (λ (r : LwpData). r.pid) slot.4 ∙ own.1))))
+    | inr other ↦ rw other.0 refl
+  ])
+
+  pub rows-quiet : rows_of f es births ≡ map (own_lwp pid change) (rows_of f es births)
+  rows-quiet = listing-mapped (own_lwp pid change) (born_row f es) (born_row f es) (λ k. left_alone k (born_row f es k) refl) 0 births
 
 -- at the end of the list, the rows are those by the definition
 module _ (was now : ℕ → Option Slot) (es : List (ℕ × ℕ)) (births : ℕ) (before : IsIndexed was es births) (after : IsIndexed now es births) (returns : LwpData → LwpData → Type 0) (pid upto : ℕ)

@@ -1,5 +1,5 @@
 -- What a table keeps after each change, and the rows that it then has.
-use Rattle.std.proofs.Common.{◌≡◌, ◌≢◌, ℕ, ◌+◌, ◌-◌, ◌<◌, ◌≤◌, Bool, false, List, [], ◌∷◌, ◌++◌, Option, Some, None, IsSome, IfSome, is_some, refl, sym, ap, subst, ◌∙◌, arith, inl, inr, cond, nat_eq, is_none, length, count_by, get_or, set, unwrap_or, replicate, rules}
+use Rattle.std.proofs.Common.{◌≡◌, ◌≢◌, ℕ, ◌+◌, ◌-◌, ◌<◌, ◌≤◌, Bool, true, false, ◌&&◌, ◌||◌, not, List, [], ◌∷◌, ◌++◌, Option, Some, None, IsSome, IfSome, is_some, refl, sym, ap, subst, ◌∙◌, arith, inl, inr, cond, nat_eq, is_none, length, count_by, get_or, set, unwrap_or, replicate, rules}
 use Rattle.std.specs.Map.{lookup}
 use Rattle.std.specs.Option.{option_map, option_or, IsSomeAnd}
 use Rattle.std.proofs.lemmas.Bool.{cases_eq}
@@ -12,13 +12,13 @@ use Rattle.lwp_table.specs.declared.links.Ends.{Ends}
 use Rattle.lwp_table.specs.declared.links.Link.TheVariants.{NextOwn, NextAll}
 use Rattle.lwp_table.specs.Lwps.{lwp_of, put_lwp, with_lwp, without_lwp, Differ}
 use Rattle.lwp_table.specs.Chain.{Node, IsNearest, IsChain, AreApart, up, down, anywhere, above, below, leads_to, joined, bridged}
-use Rattle.lwp_table.specs.Kept.{own_node, own_nodes, all_node, all_nodes, is_of, is_at, place_of, linked, closed_up, ends_at, no_ends, born_row, rows_of, IsIndexed, IsKept}
-use Rattle.lwp_table.proofs.WordLemmas.{test_same, test_apart}
+use Rattle.lwp_table.specs.Kept.{own_node, own_nodes, all_node, all_nodes, is_of, is_at, place_of, linked, closed_up, ends_at, may_pend, marked, no_ends, born_row, rows_of, IsIndexed, IsKept}
+use Rattle.lwp_table.proofs.WordLemmas.{both_calm, test_same, test_apart}
 use Rattle.lwp_table.proofs.ChainLemmas.{IsChain-joined, IsChain-joined_other, IsChain-left, IsChain-left_other}
 use Rattle.lwp_table.proofs.Numbered.{count-without, count-put}
 use Rattle.lwp_table.proofs.WalkLemmas.{first-row}
 use Rattle.lwp_table.proofs.CountLemmas.{one, count-end, count-below, count-none, length-end, length-without, length-listing, at_yes, at_no, users_set}
-use Rattle.lwp_table.proofs.IndexLemmas.{some_and, came, differ, face, lwp_of-slot, lwp_of-found, no_slot, IsIndexed-added, rows_of-added, IsIndexed-removed, rows_of-removed, IsIndexed-set, rows_of-set}
+use Rattle.lwp_table.proofs.IndexLemmas.{some_and, came, carried, differ, face, lwp_of-slot, lwp_of-found, no_slot, IsIndexed-added, rows_of-added, IsIndexed-removed, rows_of-removed, IsIndexed-set, rows_of-set}
 
 -- a change of slots as their faces or nodes show it
 shown : {X : Type 0} (h : Slot → X) (k : X → X) (l : Slot → Slot) → ((slot : Slot) → h (l slot) ≡ k (h slot)) → (o : Option Slot) → option_map h (option_map l o) ≡ option_map k (option_map h o)
@@ -60,6 +60,24 @@ no_last : (f : ℕ → Option Node) (t : ℕ) (o : Option ℕ) → IsNearest dow
 no_last f t None last first = refl
 no_last f t (Some l) last first = absurd (first l last.0 last.1 last.2 tt)
 
+-- a list with a slot has a first one
+pub first_there : (f : ℕ → Option Slot) (p : ℕ) (o : Option ℕ) → IsNearest up (own_nodes f) p anywhere o → (s : ℕ) (slot : Slot) → f s ≡ Some slot → slot.row.pid ≡ p → is_some o ≡ true
+first_there f p None near s slot there on = absurd (near s (own_node slot) (ap (option_map own_node) there) on tt)
+first_there f p (Some a) near s slot there on = refl
+
+-- where processes are said to have no pending signals, one slot changes, and no more of them are said to
+pub quiet_kept : (f g : ℕ → Option Slot) (may more : ℕ → Bool) (q : ℕ) → ((s : ℕ) → s ≢ q → option_map face (g s) ≡ option_map face (f s))
+    → ((s : ℕ) (slot : Slot) → f s ≡ Some slot → may slot.row.pid ≡ false → slot.row.pending ≡ 0)
+    → ((s : ℕ) (slot : Slot) → g s ≡ Some slot → more slot.row.pid ≡ false → may slot.row.pid ≡ false)
+    → ((slot : Slot) → g q ≡ Some slot → more slot.row.pid ≡ false → slot.row.pending ≡ 0)
+    → (s : ℕ) (slot : Slot) → g s ≡ Some slot → more slot.row.pid ≡ false → slot.row.pending ≡ 0
+quiet_kept f g may more q faces quiet lower own s slot there none = elim (cases_eq s q) [
+  | inl here ↦ own slot (ap g (sym here) ∙ there) none
+  | inr off ↦
+      let was = carried g f s slot (sym (faces s off)) there in
+      ap (λ (r : LwpData). r.pending) (sym was.3) ∙ quiet s was.0 was.1 (ap (λ (r : LwpData). may r.pid) was.3 ∙ lower s slot there none)
+]
+
 -- nodes that are the same make the same lists
 IsChain-same : (f g : ℕ → Option Node) (t : ℕ) (first last : Option ℕ) → ((s : ℕ) → f s ≡ g s) → IsChain f t first last → IsChain g t first last
 IsChain-same f g t first last same chain = subst (λ h. IsChain h t first last) (λ i s. same s i) chain
@@ -90,8 +108,9 @@ pub record HasLeft (f : ℕ → Option Slot) (es : List (ℕ × ℕ)) (hs : List
   pub first : left.first ≡ cond (is_none old.own.prev) old.own.next (ends_at hs old.row.pid).first
   pub last : left.last ≡ cond (is_none old.own.next) old.own.prev (ends_at hs old.row.pid).last
   pub count : left.count + 1 ≡ (ends_at hs old.row.pid).count
+  pub pends : left.may_pend ≡ (is_some left.first && (ends_at hs old.row.pid).may_pend)
 
-module _ {f : ℕ → Option Slot} {es : List (ℕ × ℕ)} {hs : List (ℕ × Ends)} {all : Ends} {births : ℕ} {users : List ℕ} (kept : IsKept f es hs all births users) where
+module _ {f : ℕ → Option Slot} {es : List (ℕ × ℕ)} {hs : List (ℕ × Ends)} {all : Ends} {births : ℕ} {users : List ℕ} {may : ℕ → Bool} (kept : IsKept f es hs all births users may) where
   -- no count is greater than the number of births
   pub own_count : (pid : ℕ) → (ends_at hs pid).count ≤ births
   own_count pid = omega (arith, kept.counted pid, count-below (is_of pid) (born_row f es) 0 births)
@@ -139,13 +158,24 @@ module _ {f : ℕ → Option Slot} {es : List (ℕ × ℕ)} {hs : List (ℕ × E
     pub rows-added : rows_of g es' (births + 1) ≡ rows_of f es births ++ row ∷ []
     rows-added = rows_of-added f es births kept.indexed g es' q faces new joins.vacant has refl vacant_es joins.change
 
-    module _ (hs' : List (ℕ × Ends)) (first first_all : Option ℕ) (first_is : first ≡ option_or own.first (Some q)) (all_is : first_all ≡ option_or all.first (Some q))
-        (heads : (p : ℕ) → lookup (nat_eq p) hs' ≡ cond (nat_eq row.pid p) (Some (record { first = first; last = Some q; count = own.count + 1 })) (lookup (nat_eq p) hs))
-        (owner : ℕ) (owner_is : owner ≡ place_of row.tid) (within : owner < 64) (long : length users ≡ 64) where
-      ends : (p : ℕ) → ends_at hs' p ≡ cond (nat_eq row.pid p) (record { first = first; last = Some q; count = own.count + 1 }) (ends_at hs p)
+    module _ (hs' : List (ℕ × Ends)) (first first_all : Option ℕ) (pend : Bool) (first_is : first ≡ option_or own.first (Some q)) (all_is : first_all ≡ option_or all.first (Some q))
+        (heads : (p : ℕ) → lookup (nat_eq p) hs' ≡ cond (nat_eq row.pid p) (Some (record { first = first; last = Some q; count = own.count + 1; may_pend = pend })) (lookup (nat_eq p) hs))
+        (owner : ℕ) (owner_is : owner ≡ place_of row.tid) (within : owner < 64) (long : length users ≡ 64)
+        (told : (p : ℕ) → may_pend hs p ≡ false → may p ≡ false) (calm : pend ≡ false → (own.may_pend ≡ false) × (row.pending ≡ 0)) where
+      ends : (p : ℕ) → ends_at hs' p ≡ cond (nat_eq row.pid p) (record { first = first; last = Some q; count = own.count + 1; may_pend = pend }) (ends_at hs p)
       ends p = search (rules, unwrap_or, heads)
 
-      pub IsKept-added : IsKept g es' hs' (record { first = first_all; last = Some q; count = all.count + 1 }) (births + 1) (set users owner (get_or users owner 0 + 1))
+      -- the new row's process may have pending signals if it might before, or the row has some
+      pend_is : (p : ℕ) → row.pid ≡ p → may_pend hs' p ≡ pend
+      pend_is p is = ap (λ (e : Ends). e.may_pend) (ends p ∙ ap (λ b. cond b (record { first = first; last = Some q; count = own.count + 1; may_pend = pend }) (ends_at hs p)) (ap (nat_eq row.pid) (sym is) ∙ test_same row.pid))
+
+      lower : (s : ℕ) (slot : Slot) → g s ≡ Some slot → may_pend hs' slot.row.pid ≡ false → may slot.row.pid ≡ false
+      lower s slot there none = elim (eqb_tells row.pid slot.row.pid) [
+        | inl h ↦ told slot.row.pid (ap (may_pend hs) (sym h.1) ∙ ap (λ (e : Ends). e.may_pend) (sym joins.own_is) ∙ (calm (sym (pend_is slot.row.pid h.1) ∙ none)).0)
+        | inr h ↦ told slot.row.pid (ap (λ (e : Ends). e.may_pend) (sym (ends slot.row.pid ∙ ap (λ b. cond b (record { first = first; last = Some q; count = own.count + 1; may_pend = pend }) (ends_at hs slot.row.pid)) h.0)) ∙ none)
+      ]
+
+      pub IsKept-added : IsKept g es' hs' (record { first = first_all; last = Some q; count = all.count + 1; may_pend = false }) (births + 1) (set users owner (get_or users owner 0 + 1)) (may_pend hs')
       IsKept-added = record {
         indexed = IsIndexed-added f es births kept.indexed g es' q faces new joins.vacant has refl vacant_es joins.change;
         own = λ p. elim (eqb_tells row.pid p) [
@@ -169,6 +199,9 @@ module _ {f : ℕ → Option Slot} {es : List (ℕ × ℕ)} {hs : List (ℕ × E
             (rw (rows-added, count-end (is_at owner) (rows_of f es births) row) (omega (arith, kept.homes owner within, ap one (at_yes owner row owner_is))))
             (λ place off. rw (rows-added, count-end (is_at place) (rows_of f es births) row) (omega (arith, ap one (at_no owner place row owner_is off))))
             kept.homes;
+        quiet = quiet_kept f g may (may_pend hs') q faces kept.quiet lower
+            (λ slot there none. let same = same_Some slot new (sym there ∙ has) in
+            ap (λ (x : Slot). x.row.pending) same ∙ (calm (sym (pend_is slot.row.pid (ap (λ (x : Slot). x.row.pid) (sym same))) ∙ none)).1);
       }
 
   -- the row of a number's slot is replaced by one of the same LWP
@@ -177,7 +210,7 @@ module _ {f : ℕ → Option Slot} {es : List (ℕ × ℕ)} {hs : List (ℕ × E
     found : (old.row.tid ≡ row.tid) × (lwp_of row.tid (rows_of f es births) ≡ Some old.row)
     found = lwp_of-found f es births kept.indexed row.tid q old at had
 
-    pids : old.row.pid ≡ row.pid
+    pub pids : old.row.pid ≡ row.pid
     pids = let was = some_and _ _ its in ap (λ (r : LwpData). r.pid) (same_Some old.row was.0 (sym found.1 ∙ was.1)) ∙ was.2
 
     set_faces : (s : ℕ) → s ≢ q → option_map face (g s) ≡ option_map face (f s)
@@ -197,15 +230,64 @@ module _ {f : ℕ → Option Slot} {es : List (ℕ × ℕ)} {hs : List (ℕ × E
     counts : (p : LwpData → Bool) → p old.row ≡ p row → count_by p (rows_of f es births) ≡ count_by p (rows_of g es births)
     counts p same = sym (ap (count_by p) rows-set ∙ count-put (λ (l : LwpData). l.tid) p row old.row (rows_of f es births) (differ f es births kept.indexed) found.1 same)
 
-    pub IsKept-set : IsKept g es hs all births users
-    IsKept-set = record {
+    pub IsKept-set : (may row.pid ≡ false → row.pending ≡ 0) → IsKept g es hs all births users may
+    IsKept-set calm = record {
       indexed = IsIndexed-set f es births kept.indexed g es q set_faces old (record old { row = row }) had has refl (sym found.0) refl;
       own = λ p. IsChain-same (own_nodes f) (own_nodes g) p _ _ (set_nodes own_node (λ i. record { key = old.born; list = pids i; prev = old.own.prev; next = old.own.next })) (kept.own p);
       whole = IsChain-same (all_nodes f) (all_nodes g) 0 _ _ (set_nodes all_node refl) kept.whole;
       counted = λ p. kept.counted p ∙ counts (is_of p) (ap (λ n. nat_eq n p) pids);
       total = kept.total ∙ sym (ap length rows-set ∙ length-map (rows_of f es births) (put_lwp row));
       homes = λ place within. kept.homes place within ∙ counts (is_at place) (ap (λ n. nat_eq (place_of n) place) found.0);
+      quiet = quiet_kept f g may may q set_faces kept.quiet (λ s slot there none. none)
+          (λ slot there none. let same = same_Some slot (record old { row = row }) (sym there ∙ has) in
+          ap (λ (x : Slot). x.row.pending) same ∙ calm (ap (λ (x : Slot). may x.row.pid) (sym same) ∙ none));
     }
+
+  -- less is said of pending signals
+  pub IsKept-may : (more : ℕ → Bool) → ((p : ℕ) → more p ≡ false → may p ≡ false) → IsKept f es hs all births users more
+  IsKept-may more told = record {
+    indexed = kept.indexed;
+    own = kept.own;
+    whole = kept.whole;
+    counted = kept.counted;
+    total = kept.total;
+    homes = kept.homes;
+    quiet = λ s slot there none. kept.quiet s slot there (told slot.row.pid none);
+  }
+
+  -- it is noted of one process whether its rows may have pending signals
+  pub IsKept-marked : (pid : ℕ) (b : Bool) (hs' : List (ℕ × Ends)) → ((p : ℕ) → ends_at hs' p ≡ cond (nat_eq pid p) (marked b (ends_at hs p)) (ends_at hs p))
+      → (b ≡ false → (s : ℕ) (slot : Slot) → f s ≡ Some slot → slot.row.pid ≡ pid → slot.row.pending ≡ 0)
+      → ((p : ℕ) → nat_eq pid p ≡ false → may_pend hs p ≡ false → may p ≡ false) → IsKept f es hs' all births users (may_pend hs')
+  IsKept-marked pid b hs' marks calm told = record {
+    indexed = kept.indexed;
+    own = λ p. subst (λ (e : Ends). IsChain (own_nodes f) p e.first e.last) (sym (marks p)) (elim (eqb_tells pid p) [ inl h ↦ rw h.0 (kept.own p) | inr h ↦ rw h.0 (kept.own p) ]);
+    whole = kept.whole;
+    counted = λ p. ap (λ (e : Ends). e.count) (marks p) ∙ elim (eqb_tells pid p) [ inl h ↦ rw h.0 (kept.counted p) | inr h ↦ rw h.0 (kept.counted p) ];
+    total = kept.total;
+    homes = kept.homes;
+    quiet = λ s slot there none. elim (eqb_tells pid slot.row.pid) [
+      | inl h ↦
+          let first = first_there f slot.row.pid (ends_at hs slot.row.pid).first (kept.own slot.row.pid).first_is s slot there refl in
+          let is : may_pend hs' slot.row.pid ≡ b = ap (λ (e : Ends). e.may_pend) (marks slot.row.pid ∙ ap (λ t. cond t (marked b (ends_at hs slot.row.pid)) (ends_at hs slot.row.pid)) h.0) ∙ ap (λ t. cond t b (ends_at hs slot.row.pid).may_pend) first in
+          calm (sym is ∙ none) s slot there (sym h.1)
+      | inr h ↦ kept.quiet s slot there (told slot.row.pid h.0 (ap (λ (e : Ends). e.may_pend) (sym (marks slot.row.pid ∙ ap (λ t. cond t (marked b (ends_at hs slot.row.pid)) (ends_at hs slot.row.pid)) h.0)) ∙ none))
+    ];
+  }
+
+  -- it is noted that a row's process may have pending signals, if it may already or the row has some
+  module _ (row : LwpData) (hs' : List (ℕ × Ends)) (told : (p : ℕ) → may_pend hs p ≡ false → may p ≡ false)
+      (marks : (p : ℕ) → ends_at hs' p ≡ cond (nat_eq row.pid p) (marked (may_pend hs row.pid || not (nat_eq row.pending 0)) (ends_at hs p)) (ends_at hs p)) where
+    pub IsKept-noted : IsKept f es hs' all births users (may_pend hs')
+    IsKept-noted = IsKept-marked row.pid (may_pend hs row.pid || not (nat_eq row.pending 0)) hs' marks
+        (λ none s slot there on. kept.quiet s slot there (told slot.row.pid (ap (may_pend hs) on ∙ (both_calm (may_pend hs row.pid) row.pending none).0))) (λ p off none. told p none)
+
+    pub noted : (s : ℕ) (slot : Slot) → f s ≡ Some slot → slot.row.pid ≡ row.pid → may_pend hs' row.pid ≡ false → row.pending ≡ 0
+    noted s slot there on none =
+        let first = first_there f row.pid (ends_at hs row.pid).first (kept.own row.pid).first_is s slot there on in
+        let b = may_pend hs row.pid || not (nat_eq row.pending 0) in
+        let is : may_pend hs' row.pid ≡ b = ap (λ (e : Ends). e.may_pend) (marks row.pid ∙ ap (λ t. cond t (marked b (ends_at hs row.pid)) (ends_at hs row.pid)) (test_same row.pid)) ∙ ap (λ t. cond t b (may_pend hs row.pid)) first in
+        (both_calm (may_pend hs row.pid) row.pending (sym is ∙ none)).1
 
   -- what is known of a row that goes
   module _ (q : ℕ) (old : Slot) (had : f q ≡ Some old) where
@@ -281,15 +363,26 @@ module _ {f : ℕ → Option Slot} {es : List (ℕ × ℕ)} {hs : List (ℕ × E
         let last = no_last (own_nodes g) old.row.pid left.last chain_left.last_is near in
         let zero = count-none (is_of old.row.pid) (rows_of g es' births) (first-row g es' births indexed old.row.pid None near) in
         let count : left.count ≡ 0 = omega (arith, zero, fewer (is_of old.row.pid), leaves.count, kept.counted old.row.pid, ap one (test_same old.row.pid)) in
-        (λ i. record { first = none i; last = last i; count = count i })
+        let pends : left.may_pend ≡ false = leaves.pends ∙ ap (λ o. is_some o && (ends_at hs old.row.pid).may_pend) none in
+        (λ i. record { first = none i; last = last i; count = count i; may_pend = pends i })
 
     module _ (hs' : List (ℕ × Ends)) (all' : Ends) (ends : (p : ℕ) → ends_at hs' p ≡ cond (nat_eq old.row.pid p) left (ends_at hs p))
         (all_first : all'.first ≡ cond (is_none old.all.prev) old.all.next all.first) (all_last : all'.last ≡ cond (is_none old.all.next) old.all.prev all.last) (all_fewer : all'.count + 1 ≡ all.count)
-        (owner : ℕ) (owner_is : owner ≡ place_of tid) (within : owner < 64) (long : length users ≡ 64) where
+        (owner : ℕ) (owner_is : owner ≡ place_of tid) (within : owner < 64) (long : length users ≡ 64) (told : (p : ℕ) → may_pend hs p ≡ false → may p ≡ false) where
       its_owner : owner ≡ place_of old.row.tid
       its_owner = owner_is ∙ ap place_of (sym tid_is)
 
-      pub IsKept-removed : IsKept g es' hs' all' births (set users owner (get_or users owner 0 - 1))
+      -- a row is left in the list, so the ends tell of pending signals as before
+      lower_left : (s : ℕ) (slot : Slot) → g s ≡ Some slot → may_pend hs' slot.row.pid ≡ false → may slot.row.pid ≡ false
+      lower_left s slot there none = elim (eqb_tells old.row.pid slot.row.pid) [
+        | inl h ↦
+            let first = first_there g slot.row.pid left.first (subst (λ p. IsNearest up (own_nodes g) p anywhere left.first) h.1 chain_left.first_is) s slot there refl in
+            let is : may_pend hs' slot.row.pid ≡ may_pend hs old.row.pid = ap (λ (e : Ends). e.may_pend) (ends slot.row.pid ∙ ap (λ b. cond b left (ends_at hs slot.row.pid)) h.0) ∙ leaves.pends ∙ ap (λ b. b && may_pend hs old.row.pid) first in
+            told slot.row.pid (ap (may_pend hs) (sym h.1) ∙ sym is ∙ none)
+        | inr h ↦ told slot.row.pid (ap (λ (e : Ends). e.may_pend) (sym (ends slot.row.pid ∙ ap (λ b. cond b left (ends_at hs slot.row.pid)) h.0)) ∙ none)
+      ]
+
+      pub IsKept-removed : IsKept g es' hs' all' births (set users owner (get_or users owner 0 - 1)) (may_pend hs')
       IsKept-removed = record {
         indexed = indexed;
         own = λ p. elim (eqb_tells old.row.pid p) [
@@ -310,6 +403,7 @@ module _ {f : ℕ → Option Slot} {es : List (ℕ × ℕ)} {hs : List (ℕ × E
             (omega (arith, kept.homes owner within, fewer (is_at owner), ap one (at_yes owner old.row its_owner)))
             (λ place off. omega (arith, fewer (is_at place), ap one (at_no owner place old.row its_owner off)))
             kept.homes;
+        quiet = quiet_kept f g may (may_pend hs') q left_faces kept.quiet lower_left (λ slot there none. absurd (cc (there, gone_g)));
       }
 
 -- an empty list, and an empty table
@@ -321,7 +415,7 @@ IsChain-none f t none = record {
   prev_is = λ j node there on. absurd (cc (there, none j));
 }
 
-pub IsKept-none : (f : ℕ → Option Slot) (es : List (ℕ × ℕ)) (hs : List (ℕ × Ends)) → ((s : ℕ) → f s ≡ None) → es ≡ [] → hs ≡ [] → IsKept f es hs no_ends 0 (replicate 64 0)
+pub IsKept-none : (f : ℕ → Option Slot) (es : List (ℕ × ℕ)) (hs : List (ℕ × Ends)) → ((s : ℕ) → f s ≡ None) → es ≡ [] → hs ≡ [] → IsKept f es hs no_ends 0 (replicate 64 0) (may_pend hs)
 IsKept-none f es hs none no_es no_hs = record {
   indexed = record {
     listed = λ s slot there. absurd (cc (there, none s));
@@ -334,6 +428,7 @@ IsKept-none f es hs none no_es no_hs = record {
   counted = λ p. rw no_hs refl;
   total = refl;
   homes = λ place within. get_or-replicate 64 place 0 0 (omega (arith, within));
+  quiet = λ s slot there is. absurd (cc (there, none s));
 }
 
 -- the rows that contracts see have numbers that differ

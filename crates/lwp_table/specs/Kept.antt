@@ -1,5 +1,5 @@
 -- How a table stores its rows: in slots, each with a birth number, and with links in order of birth.
-use Rattle.std.specs.Prelude.{◌≡◌, ℕ, zero, suc, ◌+◌, ◌-◌, ◌<◌, Bool, ◌==◌, List, [], ◌∷◌, Option, Some, None, nat_eq, count_by, length, if◌then◌else◌, unwrap_or, slice_index, IfSome, IsSomeAnd}
+use Rattle.std.specs.Prelude.{◌≡◌, ℕ, zero, suc, ◌+◌, ◌-◌, ◌<◌, Bool, false, ◌==◌, List, [], ◌∷◌, Option, Some, None, nat_eq, count_by, length, is_some, if◌then◌else◌, unwrap_or, slice_index, IfSome, IsSomeAnd}
 use Rattle.std.specs.List.{cons_option}
 use Rattle.std.specs.Option.{option_map}
 use Rattle.std.specs.Map.{lookup}
@@ -59,11 +59,19 @@ closed_up gone s slot = record slot { own = passed_by gone.own s slot.own; all =
 
 -- the ends of an empty list
 abbrev pub no_ends : Ends
-no_ends = record { first = None; last = None; count = 0 }
+no_ends = record { first = None; last = None; count = 0; may_pend = false }
 
 -- the ends of the list of a process
 abbrev pub ends_at : List (ℕ × Ends) → ℕ → Ends
 ends_at hs pid = unwrap_or (lookup (nat_eq pid) hs) no_ends
+
+-- whether rows of this process may have pending signals
+abbrev pub may_pend : List (ℕ × Ends) → ℕ → Bool
+may_pend hs pid = (ends_at hs pid).may_pend
+
+-- the ends of a list, after it was noted whether its rows may have pending signals; the empty list has no such row
+abbrev pub marked : Bool → Ends → Ends
+marked may ends = record ends { may_pend = if is_some ends.first then may else ends.may_pend }
 
 -- the row of this slot, if it has this birth number
 abbrev pub if_born : ℕ → Option LwpData → Option Slot → Option LwpData
@@ -91,14 +99,15 @@ pub record IsIndexed (f : ℕ → Option Slot) (es : List (ℕ × ℕ)) (births 
   pub earlier : (s : ℕ) (slot : Slot) → f s ≡ Some slot → slot.born < births
   pub apart : (i j : ℕ) (a b : Slot) → f i ≡ Some a → f j ≡ Some b → a.born ≡ b.born → i ≡ j
 
--- what a table maintains
-pub record IsKept (f : ℕ → Option Slot) (es : List (ℕ × ℕ)) (hs : List (ℕ × Ends)) (all : Ends) (births : ℕ) (users : List ℕ) : Type 0 where
+-- what a table maintains, where `may` tells of each process whether its rows may have pending signals
+pub record IsKept (f : ℕ → Option Slot) (es : List (ℕ × ℕ)) (hs : List (ℕ × Ends)) (all : Ends) (births : ℕ) (users : List ℕ) (may : ℕ → Bool) : Type 0 where
   pub indexed : IsIndexed f es births
   pub own : (pid : ℕ) → IsChain (own_nodes f) pid (ends_at hs pid).first (ends_at hs pid).last
   pub whole : IsChain (all_nodes f) 0 all.first all.last
   pub counted : (pid : ℕ) → (ends_at hs pid).count ≡ count_by (is_of pid) (rows_of f es births)
   pub total : all.count ≡ length (rows_of f es births)
   pub homes : (place : ℕ) → place < 64 → slice_index users place ≡ count_by (is_at place) (rows_of f es births)
+  pub quiet : (s : ℕ) (slot : Slot) → f s ≡ Some slot → may slot.row.pid ≡ false → slot.row.pending ≡ 0
 
 -- the rows from a slot's row on
 abbrev pub from_slot : (ℕ → Option Slot) → List (ℕ × ℕ) → ℕ → Option Slot → List LwpData

@@ -1,10 +1,10 @@
 //! The slots that contain rows, and the lists that links form.
 
-ghost use Rattle.std.specs.Prelude.{◌≡◌, ℕ, ◌+◌, ◌<◌, ◌≤◌, None, IsSome, IfSome, is_none, if◌then◌else◌, nat_eq};
+ghost use Rattle.std.specs.Prelude.{◌≡◌, ℕ, ◌+◌, ◌<◌, ◌≤◌, ◌==◌, not, None, ◌&&◌, ◌||◌, true, IsSome, IfSome, is_none, is_some, if◌then◌else◌, nat_eq};
 ghost use Rattle.std.specs.Option.{option_map};
 ghost use Rattle.slab.specs.Slab.{get, slab_len, ContainsKey};
 ghost use Rattle.std.specs.Map.{lookup};
-ghost use Rattle.lwp_table.specs.Kept.{linked, closed_up, ends_at, no_ends, place_of};
+ghost use Rattle.lwp_table.specs.Kept.{linked, closed_up, ends_at, marked, no_ends, place_of};
 
 use crate::LwpData;
 use number_map::NumberMap;
@@ -24,6 +24,8 @@ pub struct Ends {
     pub first: Option<usize>,
     pub last: Option<usize>,
     pub count: usize,
+    /// Whether a row of a process's list may have pending signals. The list of all rows doesn't use it.
+    pub may_pend: bool,
 }
 
 impl Ends {
@@ -35,6 +37,7 @@ impl Ends {
             first: None,
             last: None,
             count: 0,
+            may_pend: false,
         }
     }
 }
@@ -124,25 +127,56 @@ pub fn put_ends(heads: &mut NumberMap<Ends>, pid: u32, ends: Ends)
     }
 }
 
+/// Tests whether a row of a list may have pending signals, where one before this row may have some or not.
+pub fn may_pend_with(before: bool, row: &LwpData) -> bool
+    ensures { result ≡ (before || not (row.now.pending == 0)) }
+{
+    before || !row.pending.is_empty()
+}
+
+/// Notes whether a row of a process may have pending signals. Changes nothing if the process has no rows.
+pub fn mark(heads: &mut NumberMap<Ends>, pid: u32, may_pend: bool)
+    ensures ends { (q : ℕ) → ends_at heads.new.entries q ≡ (if nat_eq pid q then marked may_pend (ends_at heads.old.entries q) else ends_at heads.old.entries q) }
+    ensures spare { heads.new.spare ≡ heads.old.spare }
+{
+    let ends = ends_of(heads, pid);
+    if ends.first.is_some() && ends.may_pend != may_pend {
+        heads.set(pid, Ends { may_pend, ..ends });
+    }
+}
+
+/// Notes that a row of its process may have pending signals, if this one has some.
+pub fn note(heads: &mut NumberMap<Ends>, row: &LwpData)
+    ensures ends { (q : ℕ) → ends_at heads.new.entries q ≡ (if nat_eq row.now.pid q then marked ((ends_at heads.old.entries row.now.pid).may_pend || not (row.now.pending == 0)) (ends_at heads.old.entries q) else ends_at heads.old.entries q) }
+    ensures spare { heads.new.spare ≡ heads.old.spare }
+{
+    if !row.pending.is_empty() {
+        mark(heads, row.pid.get(), true);
+    }
+}
+
 /// Returns the ends of a list after a slot with these links has left it.
 pub fn without(ends: Ends, gone: Links) -> Ends
     requires { 0 < ends.count }
     ensures first { result.first ≡ (if is_none gone.prev then gone.next else ends.first) }
     ensures last { result.last ≡ (if is_none gone.next then gone.prev else ends.last) }
     ensures count { result.count + 1 ≡ ends.count }
+    ensures may_pend { result.may_pend ≡ (is_some result.first && ends.may_pend) }
 {
+    let first = if gone.prev.is_none() {
+        gone.next
+    } else {
+        ends.first
+    };
     Ends {
-        first: if gone.prev.is_none() {
-            gone.next
-        } else {
-            ends.first
-        },
+        first,
         last: if gone.next.is_none() {
             gone.prev
         } else {
             ends.last
         },
         count: ends.count - 1,
+        may_pend: first.is_some() && ends.may_pend,
     }
 }
 

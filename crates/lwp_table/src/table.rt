@@ -7,11 +7,12 @@
 ghost use Rattle.std.specs.Prelude.{◌≡◌, ◌==◌, ◌+◌, ◌<◌, ◌≤◌, ◌++◌, [], ◌∷◌, false, IsSome, IsSomeAnd, OnOk, IfOk, count_by, length, map, option_map, slice_get};
 ghost use Rattle.pid_blocks.specs.Blocks.{tid_owner};
 ghost use Rattle.std.specs.Fn.{FnReturnsAt};
-ghost use Rattle.lwp_table.specs.Lwps.{lwp_of, lwps_of, first_lwp, next_lwp, has_lwp, with_lwp, without_lwp, own_lwp, KeepsNumbers, ComputesRows, Differ};
+ghost use Rattle.lwp_table.specs.Lwps.{lwp_of, lwps_of, first_lwp, next_lwp, has_lwp, with_lwp, without_lwp, own_lwp, KeepsNumbers, ComputesRows, LeavesQuiet, Differ};
 
 use crate::LwpData;
 use crate::links::{
-    Ends, Link, Links, Slot, close_up, ends_of, first_slot, put_ends, set_link, user_place, without,
+    Ends, Link, Links, Slot, close_up, ends_of, first_slot, mark, may_pend_with, note, put_ends,
+    set_link, user_place, without,
 };
 use crate::walks::{Iter, OfProcess};
 use number_map::NumberMap;
@@ -37,7 +38,7 @@ impl Model for LwpTable {
     ghost use Rattle.std.specs.Prelude.{◌-◌, min};
     ghost use Rattle.slab.specs.Slab.{slab_len, get};
     ghost use Rattle.lwp_table.specs.Lwps.{Lwps};
-    ghost use Rattle.lwp_table.specs.Kept.{rows_of, IsKept};
+    ghost use Rattle.lwp_table.specs.Kept.{rows_of, may_pend, IsKept};
 
     ghost Value = { Lwps };
 
@@ -46,7 +47,7 @@ impl Model for LwpTable {
       spare = min (min (t.rows.capacity - slab_len t.rows) t.slots.spare) (min t.heads.spare (18446744073709551615 - t.births));
     } };
 
-    ghost invariant = { λ t. IsKept (get t.rows) t.slots.entries t.heads.entries t.all t.births t.users };
+    ghost invariant = { λ t. IsKept (get t.rows) t.slots.entries t.heads.entries t.all t.births t.users (may_pend t.heads.entries) };
 }
 
 impl Clone for LwpTable {
@@ -127,12 +128,14 @@ impl LwpTable {
             first: own.first.or(Some(slot)),
             last: Some(slot),
             count: own.count + 1,
+            may_pend: may_pend_with(own.may_pend, &row),
         };
         self.heads.insert(pid, ends);
         self.all = Ends {
             first: all.first.or(Some(slot)),
             last: Some(slot),
             count: all.count + 1,
+            may_pend: false,
         };
         self.births += 1;
         self.users[user_place(row.tid)] += 1;
@@ -173,6 +176,7 @@ impl LwpTable {
         ensures rows { self.new.rows ≡ with_lwp row self.old.rows }
         ensures spare { self.new.spare ≡ self.old.spare }
     {
+        note(&mut self.heads, &row);
         let number = row.tid.get();
         let slot = self.slots.get(number).unwrap();
         let mut place = self.rows[slot];
@@ -188,11 +192,28 @@ impl LwpTable {
         ensures rows { (change : LwpData → LwpData) → ComputesRows (FnReturnsAt F.Fn edit) self.old.rows change → self.new.rows ≡ map (own_lwp pid change) self.old.rows }
         ensures spare { self.new.spare ≡ self.old.spare }
     {
+        let mut may_pend = false;
         let mut link = first_slot(&self.heads, pid.get());
         while let Some(at) = link {
             let slot = &mut self.rows[at];
             slot.row = edit(&slot.row);
+            may_pend = may_pend_with(may_pend, &slot.row);
             link = slot.own.next;
+        }
+        mark(&mut self.heads, pid.get(), may_pend);
+    }
+
+    /// Changes each row of this process in its place, by a change that leaves rows without pending signals as they are.
+    /// A row keeps its number and its process. Looks at no row if none has had pending signals since the last change.
+    pub fn edit_pending_of<F: Fn(&LwpData) -> LwpData>(&mut self, pid: Pid, edit: F)
+        requires callable { F.IsAlwaysCallable edit }
+        requires keeps { KeepsNumbers (FnReturnsAt F.Fn edit) self.old.rows }
+        // the rows by the definition, for any such change that the closure computes on the rows
+        ensures rows { (change : LwpData → LwpData) → ComputesRows (FnReturnsAt F.Fn edit) self.old.rows change → LeavesQuiet change → self.new.rows ≡ map (own_lwp pid change) self.old.rows }
+        ensures spare { self.new.spare ≡ self.old.spare }
+    {
+        if ends_of(&self.heads, pid.get()).may_pend {
+            self.edit_of(pid, edit);
         }
     }
 

@@ -3,7 +3,7 @@
 ghost use Rattle.std.specs.Prelude.{◌≡◌, ℕ, ◌+◌, ◌-◌, ◌*◌, ◌<◌, ◌≤◌, ◌^◌, ◌==◌, Bool, true, false, None, IsSome, IsSomeAnd, OnOk, IfOk, IfSome, count_by, ltb, length, get_or, map, option_map, slice_get};
 ghost use Rattle.pid_blocks.specs.Users.{IsUser};
 ghost use Rattle.pid_blocks.specs.Blocks.{slot, users, pid_block, tid_block, first_free, next_free, InBlock};
-ghost use Rattle.lwp_table.specs.Lwps.{first_lwp, lwp_of, next_lwp, put_lwp, ComputesRows};
+ghost use Rattle.lwp_table.specs.Lwps.{first_lwp, lwp_of, next_lwp, put_lwp, ComputesRows, LeavesQuiet};
 ghost use Rattle.proc_table.specs.Processes.{process_of};
 ghost use Rattle.proc_table.specs.Seen.{seen_process, seen_lwp, find_seen, owns};
 ghost use Rattle.std.specs.Fn.{FnReturnsAt};
@@ -435,6 +435,19 @@ impl Tables {
         ensures others { self.new.spare_processes ≡ self.old.spare_processes }
     {
         self.lwps.edit_of(pid, edit);
+    }
+
+    /// Changes each LWP of a process in its place, by a change that leaves LWPs without pending signals as they are. An
+    /// LWP keeps its number and its process. It looks at no LWP if none has had pending signals since the last change.
+    pub fn edit_pending_lwps<F: Fn(&LwpData) -> LwpData>(&mut self, pid: Pid, edit: F)
+        requires callable { F.IsAlwaysCallable edit }
+        requires change { (change : LwpData → LwpData) × IsLwpChange (FnReturnsAt F.Fn edit) self.old.rows.lwps change × LeavesQuiet change }
+        // the rows by the definition, for any such change that the closure computes on the rows
+        ensures rows { (change : LwpData → LwpData) → ComputesRows (FnReturnsAt F.Fn edit) self.old.rows.lwps change → LeavesQuiet change → self.new.rows ≡ map_lwps pid change self.old.rows }
+        ensures spare { self.new.spare_lwps ≡ self.old.spare_lwps }
+        ensures others { self.new.spare_processes ≡ self.old.spare_processes }
+    {
+        self.lwps.edit_pending_of(pid, edit);
     }
 
     /// Removes a process that no row names.

@@ -1,20 +1,23 @@
-use Rattle.std.proofs.Common.{◌+◌, ◌<◌, refl, sym, ap, subst, ◌∙◌, is_some}
+use Rattle.std.proofs.Common.{◌+◌, ◌<◌, refl, sym, ap, subst, ◌∙◌, is_some, true≢false, arith}
 use Rattle.std.specs.Fn.{FnReturnsAt}
 use Rattle.std.proofs.lemmas.Fn.{says_at}
 use Rattle.std.specs.Option.{option_map}
 use Rattle.slab.specs.Slab.{get as slot_get, with_value}
 use Rattle.slab.proofs.SlabLemmas.{Updates-with_value}
-use Rattle.lwp_table.specs.Kept.{own_node, IsIndexed}
-use Rattle.lwp_table.proofs.EditLemmas.{left_at, left_in, editing-first, editing-there, here, old_row, editing-on, IsKept-edited, editing-less, len-same, rows_of-edited}
+use Rattle.lwp_table.specs.Kept.{own_node, may_pend, IsIndexed}
+use Rattle.lwp_table.proofs.WordLemmas.{both_calm}
+use Rattle.lwp_table.proofs.KeptLemmas.{IsKept-may, IsKept-marked}
+use Rattle.lwp_table.proofs.EditLemmas.{left_at, left_in, unsaid, unsaid-own, editing-first, editing-there, here, old_row, editing-on, seen-on, seen-all, IsKept-edited, editing-less, len-same, rows_of-edited}
 use Rattle.lwp_table.proofs.table.LwpTable.edit_of.Goals as goal
 
 pub loop-link-init : goal.loop-link-init
 loop-link-init g c = record {
-  kept = c.self.invariant;
+  kept = IsKept-may c.self.invariant _ (unsaid c.args.pid (may_pend c.self.inside.heads.entries));
   walk = (
     0,
     editing-first (slot_get c.self.inside.rows) (FnReturnsAt g.F.Fn c.args.edit) c.args.pid c.first_slot-link.result
         (rw (c.first_slot-link.ensures, c.get.ensures.number) ((c.self.invariant.own c.args.pid).first_is)),
+    λ none s slot there on less. absurd (omega (arith, less)),
   );
   slots = refl;
   heads = refl;
@@ -62,13 +65,16 @@ loop-link-preserved g c =
     let its = c.requires.keeps old.row new there gave in
     let updates = Updates-with_value c.loop-link.self-inside.rows c.in-Some.at (record old { row = new }) (ap is_some c.index_mut-slot.ensures.value) in
     let on = here (slot_get c.self.inside.rows) f (FnReturnsAt g.F.Fn c.args.edit) c.args.pid c.loop-link.invariant.walk.0 c.in-Some.at walk old c.index_mut-slot.ensures.value in
+    let next = (kept.own c.args.pid).next_is c.in-Some.at (own_node old) (ap (option_map own_node) c.index_mut-slot.ensures.value) on.0 in
     let same = len-same c.loop-link.self-inside.rows c.in-Some.at old (record old { row = new }) c.index_mut-slot.ensures.value in
     record {
-      kept = IsKept-edited kept c.in-Some.at old new _ c.index_mut-slot.ensures.value its updates.changed updates.others;
+      kept = IsKept-edited kept c.in-Some.at old new _ (λ none. absurd (true≢false (sym (unsaid-own c.args.pid new.pid (may_pend c.loop-link.self-inside.heads.entries) (its.1 ∙ on.0)) ∙ none))) c.index_mut-slot.ensures.value its updates.changed updates.others;
       walk = (
         old.born + 1,
         editing-on (slot_get c.self.inside.rows) f (FnReturnsAt g.F.Fn c.args.edit) c.args.pid c.loop-link.invariant.walk.0 c.in-Some.at walk old c.index_mut-slot.ensures.value new _ its.1 gave updates.changed updates.others
-            kept.indexed.apart ((kept.own c.args.pid).next_is c.in-Some.at (own_node old) (ap (option_map own_node) c.index_mut-slot.ensures.value) on.0),
+            kept.indexed.apart next,
+        seen-on (slot_get c.self.inside.rows) f (FnReturnsAt g.F.Fn c.args.edit) c.args.pid c.loop-link.invariant.walk.0 c.in-Some.at walk old c.index_mut-slot.ensures.value new _ its.1 gave updates.changed updates.others
+            kept.indexed.apart next c.loop-link.may_pend _ c.loop-link.invariant.walk.2 (λ none. both_calm c.loop-link.may_pend new.pending (sym c.may_pend_with-may_pend.ensures ∙ none)),
       );
       slots = c.loop-link.invariant.slots;
       heads = c.loop-link.invariant.heads;
@@ -78,7 +84,11 @@ loop-link-preserved g c =
     }
 
 pub invariant_of-self : goal.invariant_of-self
-invariant_of-self g c = c.loop-link.invariant.kept
+invariant_of-self g c =
+    let walk = rw c.in_default.is at c.loop-link.invariant.walk.1 in
+    IsKept-marked c.loop-link.invariant.kept c.args.pid c.loop-link.may_pend _ (rw c.get-2.ensures.number at c.mark.ensures.ends)
+    (seen-all (slot_get c.self.inside.rows) (slot_get c.loop-link.self-inside.rows) (FnReturnsAt g.F.Fn c.args.edit) c.args.pid c.loop-link.invariant.walk.0 c.loop-link.may_pend walk c.loop-link.invariant.walk.2)
+    (λ p off none. rw off none)
 
 pub returns-clause-rows : goal.returns-clause-rows
 returns-clause-rows g c = λ change computes.
@@ -93,4 +103,4 @@ returns-clause-rows g c = λ change computes.
     (rows_of-edited (slot_get c.self.inside.rows) f es births c.self.invariant.indexed after (FnReturnsAt g.F.Fn c.args.edit) c.args.pid c.loop-link.invariant.walk.0 walk change (rw (← seen) at computes))
 
 pub returns-clause-spare : goal.returns-clause-spare
-returns-clause-spare g c = rw (c.loop-link.invariant.capacity, c.loop-link.invariant.len, c.loop-link.invariant.slots, c.loop-link.invariant.heads, c.loop-link.invariant.births) (ap (λ v. v.spare) c.self.view_is)
+returns-clause-spare g c = rw (c.loop-link.invariant.capacity, c.loop-link.invariant.len, c.loop-link.invariant.slots, c.mark.ensures.spare, c.loop-link.invariant.heads, c.loop-link.invariant.births) (ap (λ v. v.spare) c.self.view_is)

@@ -1,4 +1,4 @@
-use Rattle.std.proofs.Common.{ap, sym, ◌∙◌, is_some, is_none, arith, cond, nat_eq}
+use Rattle.std.proofs.Common.{ap, sym, ◌∙◌, ◌&&◌, is_some, is_none, arith, cond, nat_eq}
 use Rattle.slab.specs.Slab.{get as slot_get}
 use Rattle.lwp_table.specs.declared.links.Ends.{Ends}
 use Rattle.lwp_table.specs.Kept.{place_of, ends_at}
@@ -44,13 +44,14 @@ leaves c =
       first = c.without.ensures.first ∙ ap (λ (e : Ends). cond (is_none gone.own.prev) gone.own.next e.first) own;
       last = c.without.ensures.last ∙ ap (λ (e : Ends). cond (is_none gone.own.next) gone.own.prev e.last) own;
       count = c.without.ensures.count ∙ ap (λ (e : Ends). e.count) own;
+      pends = c.without.ensures.may_pend ∙ ap (λ (e : Ends). is_some c.without.result.first && e.may_pend) own;
     }
 
 pub invariant_of-self : goal.invariant_of-self
 invariant_of-self c =
     IsKept-removed c.self.invariant c.args.tid c.unwrap-slot.result c.remove-gone.result _ _ _ (leaves (goal.at.invariant_of-self c).After-without) c.put_ends.new.heads.entries c.without-self-inside.result
     (λ p. c.put_ends.ensures.ends p ∙ ap (λ n. cond (nat_eq n p) c.without.result (ends_at c.self.inside.heads.entries p)) c.get-pid.ensures.number)
-    c.without-self-inside.ensures.first c.without-self-inside.ensures.last c.without-self-inside.ensures.count c.user_place.result c.user_place.ensures.place c.user_place.ensures.below c.self.told
+    c.without-self-inside.ensures.first c.without-self-inside.ensures.last c.without-self-inside.ensures.count c.user_place.result c.user_place.ensures.place c.user_place.ensures.below c.self.told (λ p none. none)
 
 pub returns-clause-rows : goal.returns-clause-rows
 returns-clause-rows c = rw (← c.self.view_is) (rows-removed c.self.invariant c.args.tid c.unwrap-slot.result c.remove-gone.result _ _ _ (leaves (goal.at.returns-clause-rows c).After-without))
