@@ -1,10 +1,11 @@
 //! Gates: one that does nothing, and one at which two scripts meet.
 
+use crate::hosts::expect;
 use pid_blocks::Uid;
 use sessions::Gate;
-use std::process::Abort;
 use std::sync::atomic::{AtomicU64, Ordering};
 use std::thread;
+use test_kit::Trouble;
 
 #[derive(Drop)]
 pub struct Open;
@@ -48,12 +49,14 @@ impl Counts {
         self.words.as_slice().get(index as usize)
     }
 
-    /// Checks that index 0 was never counted, and each other one twice.
-    fn are_two<R: Abort>(&self, rt: &R) {
+    /// Returns whether index 0 was never counted, and each other one twice.
+    fn are_two(&self) -> bool {
         for (index, count) in self.words.iter().enumerate() {
-            let wanted = if index == 0 { 0 } else { 2 };
-            assert_eq!(rt; count.load(Ordering::SeqCst), wanted, "at {index}");
+            if count.load(Ordering::SeqCst) != if index == 0 { 0 } else { 2 } {
+                return false;
+            }
         }
+        true
     }
 }
 
@@ -81,12 +84,20 @@ impl Meet {
     }
 
     /// Checks that both scripts met at each of their ten calls, and how many calls each user began.
-    pub fn all_met<R: Abort>(&self, rt: &R, first: u64, others: u64) {
-        assert_eq!(rt; self.failed.load(Ordering::SeqCst), 0);
-        self.entered.are_two(rt);
-        self.left.are_two(rt);
-        assert_eq!(rt; self.first.load(Ordering::SeqCst), first);
-        assert_eq!(rt; self.others.load(Ordering::SeqCst), others);
+    pub fn check(&self, first: u64, others: u64) -> Result<(), Trouble> {
+        expect(
+            self.failed.load(Ordering::SeqCst) == 0,
+            "two scripts don't meet",
+        )?;
+        expect(
+            self.entered.are_two() && self.left.are_two(),
+            "a gate isn't called once before and after each call",
+        )?;
+        expect(
+            self.first.load(Ordering::SeqCst) == first
+                && self.others.load(Ordering::SeqCst) == others,
+            "a user has more or fewer calls",
+        )
     }
 }
 

@@ -5,17 +5,17 @@ ghost use Rattle.std.specs.Prelude.{⊤, ◌≡◌, IfSome, All};
 ghost use Rattle.stop_handlers.specs.Decide.{decide};
 ghost use Rattle.sessions.specs.Runs.{IsShort};
 
+use crate::hosts::expect;
 use host_lock::MOST_CALLS;
 use pid_blocks::Uid;
 use requests::{Host, Step};
 use sessions::{Gate, Script, run_sessions};
 use std::alloc::Global;
-use std::process::Abort;
 use std::sync::Wait;
 use std::sync::atomic::{AtomicU64, Ordering};
-use std::test::Fail;
 use std::thread::Threads;
 use stop_handlers::{Decider, Decision, Handler, Policy, StopView};
+use test_kit::Trouble;
 use trace_stop::Settings;
 
 /// A decider that answers by a policy, and counts its drop.
@@ -69,12 +69,11 @@ impl Calls {
         }
     }
 
-    /// Checks that the gate was called before and after each of `count` calls.
-    fn are_in_order<R: Abort>(&self, rt: &R, count: u32) {
-        let count = u64::from(count);
-        assert_eq!(rt; self.failed.load(Ordering::SeqCst), 0);
-        assert_eq!(rt; self.made.load(Ordering::SeqCst), count);
-        assert_eq!(rt; self.told.load(Ordering::SeqCst), 2 * count);
+    /// Returns whether the gate was called before and after each of ten calls.
+    fn are_in_order(&self) -> bool {
+        self.failed.load(Ordering::SeqCst) == 0
+            && self.made.load(Ordering::SeqCst) == 10
+            && self.told.load(Ordering::SeqCst) == 20
     }
 }
 
@@ -160,17 +159,19 @@ fn is_run<'a, R: Threads + Wait + Sync>(
     run_sessions(rt, alloc, host, scripts, order).is_ok()
 }
 
-#[test]
-fn a_gate_is_told_before_and_after_each_call(rt: HostRuntime) -> Result<(), Fail> {
-    let alloc: Global = rt.alloc();
+pub fn a_gate_is_told_before_and_after_each_call<R: Threads + Wait + Sync>(
+    rt: &R,
+    alloc: Global,
+) -> Result<(), Trouble> {
     let users = [Uid::new(1001)?, Uid::new(1002)?];
     let order = Order {
         first: Calls::new(),
         other: Calls::new(),
     };
-    let scripts = install_each(alloc, users, &order).ok_or("scripts")?;
-    assert!(rt; is_run(&rt, alloc, &order, scripts));
-    order.first.are_in_order(&rt, 10);
-    order.other.are_in_order(&rt, 10);
-    Ok(())
+    let scripts = install_each(alloc, users, &order).ok_or(Trouble::Memory)?;
+    expect(is_run(rt, alloc, &order, scripts), "a run is refused")?;
+    expect(
+        order.first.are_in_order() && order.other.are_in_order(),
+        "a gate is called out of order",
+    )
 }

@@ -3,19 +3,14 @@
 ghost use Rattle.std.specs.Prelude.{◌<◌, ◌≤◌, IfSome, All};
 ghost use Rattle.sessions.specs.Runs.{IsShort};
 
+use crate::hosts::{check_entry, check_entry_replies, expect, spawns};
 use host_lock::{Journal, MOST_CALLS};
-use pid_blocks::{Pid, Tid, Uid};
-use requests::{Host, PlainStep, Reply, Step};
+use pid_blocks::Uid;
+use requests::Step;
 use sessions::{Script, Transcript};
 use std::alloc::Global;
-use std::process::Abort;
 use stop_handlers::ByPolicy;
-use trace_stop::Settings;
-
-/// Creates an unused host. `None` where memory ran out.
-pub fn new_host(alloc: Global) -> Option<Host<ByPolicy>> {
-    Host::<ByPolicy>::new(alloc, Settings::standard()).ok()
-}
+use test_kit::{Trouble, check_replies, rows_of};
 
 /// Returns a script of `count` spawns of the user.
 fn spawn_often(alloc: Global, uid: Uid, count: u32) -> Option<Script<ByPolicy>>
@@ -42,48 +37,57 @@ pub fn spawn_each(alloc: Global, users: &[Uid], count: u32) -> Option<Vec<Script
     Some(scripts)
 }
 
-/// Returns the reply to a spawn. `None` where no user has such numbers.
-pub fn new_process(pid: u32, tid: u32) -> Option<Reply> {
-    let pid = Pid::new(pid)?;
-    let tid = Tid::new(tid)?;
-    Some(Reply::New { pid, tid })
-}
-
-/// Checks that the transcript is of the user at this index from 1001 on, with `count` spawns of the user's first
-/// numbers.
-fn are_spawns<R: Abort>(rt: &R, transcript: &Transcript, slot: u32, count: u32)
-    requires { (slot < 64) × (count < 65000) }
-{
-    assert_eq!(rt; transcript.uid.get(), 1001 + slot);
-    assert_eq!(rt; transcript.replies.len(), count as usize);
-    for i in 0..count {
-        let wanted = new_process(1000 + 1000 * slot + i, 100000 + 4000 * slot + i);
-        assert_eq!(rt;
-            transcript.replies.get(i as usize),
-            wanted.as_ref(),
-            "at {i}"
-        );
-    }
-}
-
 /// Checks that the transcripts are of `users` users from 1001 on, each with `count` spawns of the user's first numbers.
-pub fn are_own<R: Abort>(rt: &R, transcripts: &[Transcript], users: u32, count: u32)
+pub fn check_own(
+    alloc: Global,
+    transcripts: &[Transcript],
+    users: u32,
+    count: u32,
+) -> Result<(), Trouble>
     requires { (users ≤ 64) × (count < 65000) }
 {
-    assert_eq!(rt; transcripts.len(), users as usize);
+    expect(
+        transcripts.len() == users as usize,
+        "there are more or fewer transcripts than users",
+    )?;
     for slot in 0..users {
         let Some(transcript) = transcripts.get(slot as usize) else {
-            panic!(rt; "no transcript at {slot}");
+            return Err(Trouble::Wrong("a transcript is missing"));
         };
-        are_spawns(rt, transcript, slot, count);
+        let user = Uid::new(1001 + slot)?;
+        expect(transcript.uid == user, "a transcript is of another user")?;
+        let text = spawns(alloc, user, 1000 + 1000 * slot, 100000 + 4000 * slot, count)?;
+        let lines = rows_of(alloc, text.as_str())?;
+        check_replies(alloc, lines.as_slice(), transcript.replies.as_slice())?;
     }
+    Ok(())
 }
 
-/// Returns the user, the session and the reply of the entry at this index, if it is a spawn.
-pub fn spawn_at(journal: &Journal, place: usize) -> Option<(Uid, usize, &Reply)> {
-    let entry = journal.get(place)?;
-    if entry.step != PlainStep::Spawn {
-        return None;
+/// Checks that the user's two scripts made `each` spawns each, which got the user's first numbers in the journal's order.
+pub fn check_shared(
+    alloc: Global,
+    journal: &Journal,
+    transcripts: &[Transcript],
+    user: Uid,
+    each: u32,
+) -> Result<(), Trouble>
+    requires { each < 1000 }
+{
+    let text = spawns(alloc, user, 1000, 100000, 2 * each)?;
+    let lines = rows_of(alloc, text.as_str())?;
+    let is_whole = journal.len() == lines.len() && transcripts.len() == 2;
+    expect(is_whole, "there are more or fewer entries than calls")?;
+    for (place, line) in lines.iter().enumerate() {
+        let Some(entry) = journal.get(place) else {
+            return Err(Trouble::Wrong("an entry is missing"));
+        };
+        check_entry(alloc, entry, line, None)?;
     }
-    Some((entry.uid, entry.session, &entry.reply))
+    for (session, transcript) in transcripts.iter().enumerate() {
+        let replies = transcript.replies.as_slice();
+        let is_own = transcript.uid == user && replies.len() == each as usize;
+        expect(is_own, "a transcript is of another script")?;
+        check_entry_replies(alloc, journal, session, replies)?;
+    }
+    Ok(())
 }

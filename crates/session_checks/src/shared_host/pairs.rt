@@ -4,25 +4,12 @@ ghost use Rattle.std.specs.Prelude.{◌≡◌, [], ◌∷◌, IfSome};
 ghost use Rattle.host_lock.specs.Sessions.{IsOf, IsSame};
 
 use host_lock::{Answer, CloseRefusal, Journal, Session, SharedHost};
-use pid_blocks::{Pid, Tid, Uid};
-use requests::{Host, PlainStep, Reply, Step};
+use pid_blocks::Uid;
+use requests::{Host, Reply, Step};
 use std::alloc::Global;
 use std::sync::Wait;
 use std::thread::{Threads, join};
 use stop_handlers::{ByPolicy, Handler};
-use trace_stop::Settings;
-
-/// Returns the reply to a spawn. `None` where no user has such numbers.
-pub fn new_process(pid: u32, tid: u32) -> Option<Reply> {
-    let pid = Pid::new(pid)?;
-    let tid = Tid::new(tid)?;
-    Some(Reply::New { pid, tid })
-}
-
-/// Creates an unused host. `None` where memory ran out.
-pub fn new_host(alloc: Global) -> Option<Host<ByPolicy>> {
-    Host::<ByPolicy>::new(alloc, Settings::standard()).ok()
-}
 
 /// Makes one call of the session. `None` where it has made all its calls.
 pub fn ask<R: Wait>(
@@ -207,13 +194,4 @@ pub fn run_beside<R: Threads + Wait + Sync>(
 ) -> Option<Left> {
     let (host, first, second) = open_two(alloc, host, users.0, users.1)?;
     work_and_close(rt, alloc, host, (first, mine), (second, theirs))
-}
-
-/// Returns the steps, with handlers that answer by their policies.
-pub fn by_policy(alloc: Global, steps: &[PlainStep]) -> Option<Vec<Step<Handler<ByPolicy>>>> {
-    let mut own = Vec::new(alloc);
-    for step in steps {
-        own.push(step.by_policy()).ok()?;
-    }
-    Some(own)
 }

@@ -1,14 +1,14 @@
 //! The steps of one user, by a fixed rule.
 
-use crate::dice::Dice;
 use event_masks::{Call, StopFlags};
 use lwp_table::{LwpData, Mode};
 use pid_blocks::{Pid, Uid, pid_block, tid_block};
 use proc_table::{ProcData, State};
-use requests::{Act, Host, PlainStep, Request};
+use requests::{Act, Host, PlainStep, Request, Step};
 use signals::{Disposition, Pass, SigSet, Signal};
 use std::alloc::{AllocError, Global};
 use stop_handlers::{ByPolicy, Decision, Policy, Rule};
+use test_kit::Dice;
 use trace_stop::Settings;
 use wait4::Options;
 
@@ -135,11 +135,8 @@ impl Writer {
             1 => self.ask(far, Request::Attach, own),
             2 => self.kill(own, i64::from(far)),
             3 => self.wait(own, i64::from(far)),
-            4 => PlainStep::List { caller: far },
-            _ => PlainStep::Turn {
-                tid,
-                act: Act::Compute,
-            },
+            4 => Step::list(far),
+            _ => Step::turn(tid, Act::Compute),
         }
     }
 
@@ -173,12 +170,8 @@ impl Writer {
             4 if process.parent != 1 => self.ask(own, Request::TraceMe, 0),
             5 => self.kill(other, i64::from(own)),
             6 => self.kill(own, -1),
-            7 => PlainStep::Sigaction {
-                caller: own,
-                sig: self.signal(),
-                disposition: self.dice.pick(&DISPOSITIONS),
-            },
-            8 => PlainStep::List { caller: own },
+            7 => Step::sigaction(own, self.signal(), self.dice.pick(&DISPOSITIONS)),
+            8 => Step::list(own),
             9 => self.wait(own, -1),
             _ => {
                 let lwp = self.lwp(process.pid);
@@ -209,10 +202,7 @@ impl Writer {
             Mode::InCall(_) => Act::Leave,
             Mode::VforkWait(_) => Act::Compute,
         };
-        PlainStep::Turn {
-            tid: lwp.tid.get(),
-            act,
-        }
+        Step::turn(lwp.tid.get(), act)
     }
 
     /// Returns an act of an LWP in user mode.
@@ -229,11 +219,8 @@ impl Writer {
     /// Returns a step of a debugger about a stop that it has not collected yet.
     fn stopped(&mut self, debugger: u32) -> PlainStep {
         match self.dice.below(8) {
-            0 | 1 => PlainStep::Install {
-                caller: debugger,
-                handler: self.policy(),
-            },
-            2..=4 => PlainStep::Handle { caller: debugger },
+            0 | 1 => Step::install(debugger, self.policy()),
+            2..=4 => Step::handle(debugger),
             _ => self.wait(debugger, -1),
         }
     }
@@ -250,31 +237,19 @@ impl Writer {
             Request::FollowFork | Request::LwpEvents => self.dice.below(3),
             _ => self.passed(),
         };
-        PlainStep::Ptrace {
-            caller,
-            request,
-            target,
-            data,
-        }
+        Step::ptrace(caller, request, target, data)
     }
 
     fn wait(&mut self, caller: u32, which: i64) -> PlainStep {
-        PlainStep::Wait4 {
-            caller,
-            which,
-            options: Options {
-                untraced: self.dice.below(2) == 0,
-                continued: self.dice.below(2) == 0,
-            },
-        }
+        let options = Options {
+            untraced: self.dice.below(2) == 0,
+            continued: self.dice.below(2) == 0,
+        };
+        Step::wait4(caller, which, options)
     }
 
     fn kill(&mut self, caller: u32, which: i64) -> PlainStep {
-        PlainStep::Kill {
-            caller,
-            which,
-            sig: self.signal(),
-        }
+        Step::kill(caller, which, self.signal())
     }
 
     fn signal(&mut self) -> u32 {

@@ -3,13 +3,13 @@
 ghost use Rattle.std.specs.Prelude.{◌≡◌, ◌<◌, ◌≤◌, All, IfOk, vec_len};
 ghost use Rattle.sessions.specs.Runs.{IsShort};
 
-use crate::dice::Dice;
-use crate::writer::Writer;
+use super::writer::Writer;
 use pid_blocks::Uid;
 use requests::PlainStep;
 use sessions::Script;
 use std::alloc::{AllocError, Global};
 use stop_handlers::ByPolicy;
+use test_kit::Dice;
 use trace_stop::Settings;
 
 /// The number of users of a run.

@@ -1,29 +1,14 @@
 //! Compares the threads' run of the scripts with a replay by one thread.
 
-ghost use Rattle.std.specs.Prelude.{◌≡◌, ◌↔◌, IsTrue, IfOk};
-ghost use Rattle.requests.specs.View.{view};
-
-use crate::replay::{Replayed, replay};
-use crate::scripts::{scripts, users};
+use super::replay::{Replayed, replay};
+use super::scripts::{scripts, users};
 use host_lock::{Entry, Journal};
 use pid_blocks::Uid;
 use requests::Host;
 use sessions::{Script, Transcript};
 use std::alloc::{AllocError, Global};
 use stop_handlers::ByPolicy;
-use visibility::user_view;
-
-/// Returns whether a user sees the same of two hosts.
-fn sees_same(
-    alloc: Global,
-    left: &Host<ByPolicy>,
-    right: &Host<ByPolicy>,
-    user: Uid,
-) -> Result<bool, AllocError>
-    ensures { IfOk result (λ same. IsTrue same ↔ (view user left.now ≡ view user right.now)) }
-{
-    Ok(user_view(alloc, left, user)? == user_view(alloc, right, user)?)
-}
+use test_kit::sees_same;
 
 /// Returns whether an entry is the session's step at this index, with the reply that the session got.
 fn is_at(entry: &Entry, script: &Script<ByPolicy>, transcript: &Transcript, place: usize) -> bool {

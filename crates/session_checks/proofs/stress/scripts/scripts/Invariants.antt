@@ -1,6 +1,6 @@
 use Rattle.std.proofs.Common.{All}
 use Rattle.sessions.specs.Runs.{IsShort}
-use Rattle.session_stress.proofs.scripts.scripts.Given as goal
+use Rattle.session_checks.proofs.stress.scripts.scripts.Given as goal
 
 abbrev pub invariant-loop-place : goal.invariant-loop-place
 invariant-loop-place l = All IsShort l.scripts.items

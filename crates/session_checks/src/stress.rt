@@ -1,67 +1,25 @@
 //! Runs mixed scripts of many users in threads on one host, again and again, and compares each run with a replay of its
-//! journal by one thread. It prints how much was compared, which is the same in each run, and ends with status 1 where
-//! anything differs.
-#![tactic(auto)]
+//! journal by one thread.
 
 mod compare;
-mod dice;
 mod replay;
 mod scripts;
 mod writer;
 
+use crate::hosts::expect;
+use crate::session_runs::Open;
 use compare::differences;
 use host_lock::Journal;
-use pid_blocks::Uid;
 use requests::Host;
 use scripts::{scripts, settings};
-use sessions::{Gate, RunRefusal, Transcript, run_sessions};
-use std::alloc::{AllocError, Global};
-use std::io;
+use sessions::{Transcript, run_sessions};
+use std::alloc::Global;
 use std::sync::Wait;
 use std::thread::Threads;
 use stop_handlers::ByPolicy;
+use test_kit::Trouble;
 
 const RUNS: u32 = 10;
-
-/// A gate that does nothing.
-struct Open;
-
-impl Gate for Open {
-    fn before(&self, _user: Uid, _index: u32) {}
-
-    fn after(&self, _user: Uid, _index: u32) {}
-}
-
-/// The reason why the program ends with status 1.
-#[derive(Debug, Drop)]
-enum Trouble {
-    /// Something differs.
-    Differs,
-    /// A run was refused.
-    Refused(RunRefusal),
-    /// Memory ran out.
-    Memory,
-    /// Printing failed.
-    Print,
-}
-
-impl From<AllocError> for Trouble {
-    fn from(_error: AllocError) -> Trouble {
-        Trouble::Memory
-    }
-}
-
-impl From<RunRefusal> for Trouble {
-    fn from(refusal: RunRefusal) -> Trouble {
-        Trouble::Refused(refusal)
-    }
-}
-
-impl From<io::Error> for Trouble {
-    fn from(_error: io::Error) -> Trouble {
-        Trouble::Print
-    }
-}
 
 /// How much was compared in runs, and the number of differences.
 #[derive(Clone, Copy, Default, Drop)]
@@ -122,7 +80,10 @@ fn run_on<R: Threads + Wait + Sync>(
     seed: u32,
 ) -> Result<Left, Trouble> {
     let scripts = scripts(alloc, seed)?;
-    Ok(run_sessions(rt, alloc, host, scripts, &Open)?)
+    match run_sessions(rt, alloc, host, scripts, &Open) {
+        Ok(left) => Ok(left),
+        Err(_) => Err(Trouble::Wrong("a run is refused")),
+    }
 }
 
 /// Does the same on an unused host.
@@ -137,11 +98,11 @@ fn compared<R: Threads + Wait + Sync>(rt: &R, alloc: Global, seed: u32) -> Resul
     tally_of(alloc, seed, &host, &journal, transcripts.as_slice())
 }
 
-fn main(rt: HostRuntime) -> Result<(), Trouble> {
-    let alloc = rt.alloc();
+/// Makes the runs, and prints how much was compared, which is the same in each run of the program.
+pub fn check<R: Print + Threads + Wait + Sync>(rt: &R, alloc: Global) -> Result<(), Trouble> {
     let mut all = Tally::default();
     for seed in 0..RUNS {
-        all = all.with(compared(&rt, alloc, seed)?);
+        all = all.with(compared(rt, alloc, seed)?);
     }
     let Tally {
         sessions,
@@ -152,9 +113,5 @@ fn main(rt: HostRuntime) -> Result<(), Trouble> {
     println!(rt;
         "{RUNS} runs, {sessions} sessions, {steps} steps, {answered} answered, {differ} differ"
     )?;
-    if differ == 0 {
-        Ok(())
-    } else {
-        Err(Trouble::Differs)
-    }
+    expect(differ == 0, "a run differs from a replay of its journal")
 }
