@@ -46,7 +46,7 @@ pub fn neither_none_nor_sixty_five_open_a_host(alloc: Global) -> Result<(), Trou
 }
 
 /// Makes the calls in this order, each by its session, and checks the replies.
-fn call_in_turn<R: Wait>(
+pub fn call_in_turn<R: Wait>(
     rt: &R,
     alloc: Global,
     host: &SharedHost<ByPolicy>,
@@ -76,7 +76,7 @@ fn call_in_turn<R: Wait>(
 }
 
 /// Checks that the journal has these calls and no others.
-fn check_journal(
+pub fn check_journal(
     alloc: Global,
     journal: &Journal,
     lines: &[Row<'_>],
@@ -126,7 +126,7 @@ fn close_in_turn(
 }
 
 /// Shares a new host among a session of each of the users.
-fn open_new(alloc: Global, users: (Uid, Uid)) -> Option<(SharedHost<ByPolicy>, Session, Session)>
+pub fn open_new(alloc: Global, users: (Uid, Uid)) -> Option<(SharedHost<ByPolicy>, Session, Session)>
     ensures first { IfSome result (λ r. IsOf r.0 r.1) }
     ensures second { IfSome result (λ r. IsOf r.0 r.2) }
 {
