@@ -1,5 +1,5 @@
 #!/usr/bin/env python3
-"""What steps cost at worst: with as many processes as a user may have, and on a host that is as good as empty.
+"""What steps cost at worst: with as many processes or LWPs as a user may have, and on a host that is as good as empty.
 
     python3 bench/worst.py [PROGRAM] [--steps N] [--runs N]
 
@@ -22,6 +22,8 @@ from steps import best
 USER = 1001
 DEBUGGER = scenarios.first_pid(USER)
 MOST_PROCESSES = 250
+MOST_LWPS = 1000
+SIGURG, SIGTSTP, SIGCONT = 16, 18, 19
 
 
 def spawns(count):
@@ -30,6 +32,14 @@ def spawns(count):
 
 def kill_all(signal):
     return {'user': USER, 'op': 'kill', 'caller': DEBUGGER, 'which': -1, 'signal': signal}
+
+
+def threaded(processes, lwps):
+    """Processes of so many LWPs each."""
+    numbers = scenarios.Numbers(USER)
+    oldest = [numbers.process()[1] for _ in range(processes)]
+    births = (scenarios.call(USER, lwp, 'thr_new') for lwp in oldest for _ in range(lwps - 1))
+    return spawns(processes) + list(itertools.chain.from_iterable(births))
 
 
 def attach(tracee):
@@ -67,7 +77,23 @@ def checks(processes):
 
 def discarded_signals(processes):
     """SIGURG for all others, which each of them discards."""
-    return spawns(processes), itertools.repeat(kill_all(16))
+    return spawns(processes), itertools.repeat(kill_all(SIGURG))
+
+
+def discarded_beside_lwps(processes):
+    """SIGURG for all others, of four LWPs each."""
+    return threaded(processes, 4), itertools.repeat(kill_all(SIGURG))
+
+
+def stops_and_continues(processes):
+    """SIGTSTP and SIGCONT for all others, of four LWPs each: each takes the other out of what is pending."""
+    return threaded(processes, 4), itertools.cycle([kill_all(SIGTSTP), kill_all(SIGCONT)])
+
+
+def dispositions(lwps):
+    """A process of so many LWPs ignores SIGURG, and then catches it."""
+    step = {'user': USER, 'op': 'sigaction', 'caller': DEBUGGER, 'signal': SIGURG}
+    return threaded(1, lwps), itertools.cycle([{**step, 'action': 'ignore'}, {**step, 'action': 'catch'}])
 
 
 def spawns_and_exits(processes):
@@ -86,13 +112,16 @@ def spawns_and_exits(processes):
     return spawns(processes), rounds()
 
 
-# The case, what makes it, and how many tracees or processes there are at most and at least
+# The case, what makes it, and how many tracees, processes or LWPs there are at most and at least
 CASES = (
     ('wait, nothing to report', waits, MOST_PROCESSES - 2, 1),
     ('detach, attach, wait for the last tracee', attaches, MOST_PROCESSES - 2, 1),
     ('list', lists, MOST_PROCESSES, 1),
     ('kill -1 with signal 0', checks, MOST_PROCESSES, 2),
     ('kill -1 with SIGURG', discarded_signals, MOST_PROCESSES, 2),
+    ('kill -1 with SIGURG, four LWPs each', discarded_beside_lwps, MOST_PROCESSES, 2),
+    ('kill -1 with SIGTSTP, SIGCONT, four LWPs each', stops_and_continues, MOST_PROCESSES, 2),
+    ('sigaction', dispositions, MOST_LWPS, 1),
     ('spawn and exit', spawns_and_exits, MOST_PROCESSES - 1, 1),
 )
 
@@ -127,7 +156,7 @@ def main():
     parser.add_argument('--steps', type=int, default=20000)
     parser.add_argument('--runs', type=int, default=5)
     options = parser.parse_args()
-    heads = ['steps', 'tracees or processes', 'nanoseconds', 'instructions', "instructions of the host's steps"]
+    heads = ['steps', 'tracees, processes or LWPs', 'nanoseconds', 'instructions', "instructions of the host's steps"]
     instructions.print_row(heads)
     print('|' + '---|' * len(heads))
     with tempfile.TemporaryDirectory() as room:

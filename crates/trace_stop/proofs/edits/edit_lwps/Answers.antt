@@ -26,5 +26,13 @@ edit_lwps-requires-clause-change c = (
   },
 )
 
-pub returns : goal.returns
-returns c = c.edit_lwps.ensures.rows (edited c.args.edit.now) (λ l k there returned. search rules)
+pub edit_pending_lwps-requires-clause-change : goal.edit_pending_lwps-requires-clause-change
+edit_pending_lwps-requires-clause-change c = (
+  edited c.args.edit.now,
+  record {
+    computes = λ l k there returned. search rules;
+    number = keeps c.args.edit.now;
+    process = owns c.args.edit.now;
+  },
+  c.if-leaves_quiet.ensures,
+)
