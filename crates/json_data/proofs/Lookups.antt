@@ -1,6 +1,6 @@
 -- A look-up in a value finds what `serde_json` finds in its data.
-use Rattle.std.proofs.Common.{◌≡◌, ℕ, suc, ◌+◌, ◌-◌, ◌<◌, ◌≤◌, arith, get_or, take, drop, List, length, [], ◌∷◌, ◌++◌, Bool, true, false, ◌&&◌, cond, bytes_eq, Option, Some, None, option_map, Vec, Bor, true≢false, refl, sym, ap, ◌∙◌}
-use Rattle.std.proofs.lemmas.List.{take_more, at_drop_more}
+use Rattle.std.proofs.Common.{◌≡◌, ℕ, suc, ◌+◌, ◌-◌, ◌<◌, ◌≤◌, arith, get_or, take, List, length, [], ◌∷◌, ◌++◌, Bool, true, false, ◌&&◌, cond, bytes_eq, Option, Some, None, option_map, Vec, Bor, true≢false, refl, sym, ap, ◌∙◌}
+use Rattle.std.proofs.lemmas.List.{take_more}
 use Rattle.std.proofs.lemmas.Slice.Eq.{bytes_eq-Decides}
 use Rattle.std.specs.List.{list_any}
 use Rattle.json.specs.Json as json
@@ -83,13 +83,6 @@ and_true false = refl
 
 pub among-data : (keys : List (List ℕ)) (ms : json.Members) → among keys ms ≡ members_among keys (members_data ms no_members)
 among-data keys ms = sym (members_among-data keys ms no_members ∙ and_true (among keys ms))
-
--- a key that is among these may be passed
-pub among-drop : {A : Type 0} (keys : List (List ℕ)) (xs : List (Bor (List ℕ) × Value A)) (i : ℕ) (m : Bor (List ℕ) × Value A) → i + 1 ≤ length xs → m ≡ get_or xs i m → list_any (bytes_eq m.0.now) keys ≡ true
-    → among keys (json_members_view (drop (i + 1) xs)) ≡ among keys (json_members_view (drop i xs))
-among-drop keys xs i m some is known =
-    let left = among keys (json_members_view (drop (i + 1) xs)) in
-    sym (at_drop_more (λ ms. among keys (json_members_view ms)) xs i m (omega arith) ∙ ap (λ n. list_any (bytes_eq n.0.now) keys && left) (sym is) ∙ ap (λ b. b && left) known)
 
 -- ---- arrays and objects
 

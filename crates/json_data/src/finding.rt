@@ -1,5 +1,5 @@
 //! Look-ups in a value.
-ghost use Rattle.std.specs.Prelude.{◌≡◌, true, map, option_map, option_and_then};
+ghost use Rattle.std.specs.Prelude.{◌≡◌, map, option_map, option_and_then};
 ghost use Rattle.std.specs.List.{list_any};
 ghost use Rattle.std.specs.Str.{bytes_eq};
 ghost use Rattle.serde_json.specs.Find.{get, as_number, as_i64, as_str, as_array, as_object};
@@ -62,10 +62,14 @@ pub fn array<'v, 'a>(value: &'v Value<'a>) -> Option<&'v [Value<'a>]>
     }
 }
 
-/// Tests whether the key is one of these.
-fn is_among(key: &str, keys: &[&str]) -> bool
+/// Tests whether the key is one of these. The key at the index is compared first, since members are mostly in
+/// the order of the keys.
+fn is_among(key: &str, keys: &[&str], index: usize) -> bool
     ensures { result ≡ list_any (bytes_eq key.now) (map (λ k. k.now) keys.now) }
 {
+    if index < keys.len() && key == keys[index] {
+        return true;
+    }
     for other in keys {
         if key == *other {
             return true;
@@ -74,47 +78,14 @@ fn is_among(key: &str, keys: &[&str]) -> bool
     false
 }
 
-/// Tests whether the key is the one at the index. `false` decides nothing.
-#[inline(always)]
-fn is_at(key: &str, keys: &[&str], index: usize) -> bool
-    ensures { result ≡ true → list_any (bytes_eq key.now) (map (λ k. k.now) keys.now) ≡ true }
-{
-    index < keys.len() && key == keys[index]
-}
-
-/// Tests whether an object has these keys, or the first of them, in this order. Most objects do, and of them each key
-/// is compared once. `false` decides nothing.
-#[inline(always)]
-fn are_in_order(object: &[Member<'_>], keys: &[&str]) -> bool
-    ensures { result ≡ true → has_only (map (λ k. k.now) keys.now) (object_view object.now) ≡ true }
-{
-    for i in 0..keys.len() {
-        if i == object.len() {
-            return true;
-        }
-        if !is_at(object[i].0, keys, i) {
-            return false;
-        }
-    }
-    object.len() == keys.len()
-}
-
-/// Tests whether each key of an object is one of these.
-fn are_among(object: &[Member<'_>], keys: &[&str]) -> bool
+/// Tests whether an object has only these keys.
+pub fn has_only(object: &[Member<'_>], keys: &[&str]) -> bool
     ensures { result ≡ has_only (map (λ k. k.now) keys.now) (object_view object.now) }
 {
     for i in 0..object.len() {
-        if !is_among(object[i].0, keys) {
+        if !is_among(object[i].0, keys, i) {
             return false;
         }
     }
     true
-}
-
-/// Tests whether an object has only these keys. It is fastest where the keys stand in the order of the object's.
-#[inline(always)]
-pub fn has_only(object: &[Member<'_>], keys: &[&str]) -> bool
-    ensures { result ≡ has_only (map (λ k. k.now) keys.now) (object_view object.now) }
-{
-    are_in_order(object, keys) || are_among(object, keys)
 }

@@ -82,7 +82,6 @@ pub(crate) fn text_of<'a>(value: &Value<'a>) -> Result<&'a str, Flaw>
 }
 
 /// Checks that the object has no other key than these.
-#[inline(always)]
 pub(crate) fn only(object: &[Member<'_>], keys: &[&str]) -> Result<(), Flaw>
     ensures { result ≡ only (map (λ k. k.now) keys.now) (object_view object.now) }
 {
