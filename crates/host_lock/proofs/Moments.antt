@@ -6,7 +6,6 @@ use Rattle.std.proofs.lemmas.List.Elements.{filter-append}
 use mathlib.Core.Option.{none}
 use Rattle.atomic_table.specs.Table.{step}
 use Rattle.requests.specs.Machine.{Machine}
-use Rattle.requests.specs.Memory.{is_memory}
 use Rattle.host_lock.specs.declared.journal.Entry.{Entry}
 use Rattle.host_lock.specs.Answers.{CallsInOrder}
 use Rattle.host_lock.specs.Journal.{entries_of, StartsWith, IsLegal, entry}
