@@ -1,12 +1,12 @@
 //! Lists of steps. A list or a step is refused where memory runs out.
 
-use crate::steps::{Seen, Users, answer, new_host};
-use crate::trouble::{TRIES, Trouble};
+use crate::steps::{Case, Seen, TRIES, answer, new_host};
 use pid_blocks::Uid;
 use requests::{Host, PlainStep, Reply, Step};
 use scenario::{RunFault, Scenario, bind, handlers_of, policies};
 use std::alloc::Global;
 use stop_handlers::{ByPolicy, Handler, Policy};
+use test_kit::Trouble;
 use visibility::run_list;
 
 /// Returns the policies of the scenario.
@@ -30,22 +30,19 @@ fn handlers_by(alloc: Global, policies: &[Policy]) -> Result<Vec<Handler<ByPolic
 }
 
 /// Returns a handler for each policy of the scenario.
-pub fn handlers(alloc: Global, scenario: &Scenario) -> Result<Vec<Handler<ByPolicy>>, Trouble> {
-    let policies = policies_of(alloc, scenario)?;
-    handlers_by(alloc, policies.as_slice())
+pub fn handlers(case: &Case<'_>) -> Result<Vec<Handler<ByPolicy>>, Trouble> {
+    let policies = policies_of(case.alloc, case.scenario)?;
+    handlers_by(case.alloc, policies.as_slice())
 }
 
 /// Returns the steps of the scenario, with their handlers.
-pub fn bound(
-    alloc: Global,
-    scenario: &Scenario,
-) -> Result<Vec<(Uid, Step<Handler<ByPolicy>>)>, Trouble> {
+pub fn bound(case: &Case<'_>) -> Result<Vec<(Uid, Step<Handler<ByPolicy>>)>, Trouble> {
     for _ in 0..TRIES {
-        let handlers = handlers(alloc, scenario)?;
-        match bind(alloc, scenario, handlers) {
+        let handlers = handlers(case)?;
+        match bind(case.alloc, case.scenario, handlers) {
             Ok(steps) => return Ok(steps),
             Err(RunFault::Memory) => {}
-            Err(fault) => return Err(Trouble::from(fault)),
+            Err(_) => return Err(Trouble::Wrong("the handlers are others")),
         }
     }
     Err(Trouble::Memory)
@@ -72,97 +69,51 @@ fn check_reply(
 
 /// Checks that the steps that weren't refused have the same replies when they are made one after another.
 fn check_replies(
-    alloc: Global,
+    case: &Case<'_>,
     host: &mut Host<ByPolicy>,
-    scenario: &Scenario,
     replies: &[Reply],
 ) -> Result<(), Trouble> {
-    if replies.len() != scenario.shapes().len() {
+    if replies.len() != case.scenario.shapes().len() {
         return Err(Trouble::Wrong("a list has not a reply for each step"));
     }
-    for (step, reply) in scenario.steps().zip(replies.iter()) {
-        check_reply(alloc, host, step.0, &step.1, reply)?;
+    for (step, reply) in case.scenario.steps().zip(replies.iter()) {
+        check_reply(case.alloc, host, step.0, &step.1, reply)?;
     }
     Ok(())
 }
 
-/// Checks that users see the same of both hosts.
-fn check_hosts(
-    alloc: Global,
-    users: &Users,
-    host: &Host<ByPolicy>,
-    other: &Host<ByPolicy>,
-) -> Result<(), Trouble> {
-    let seen = users.see(alloc, host)?;
-    seen.is_still(alloc, users, other, "a list leaves another host")
-}
-
-/// Makes the steps that weren't refused one after another on another host. Checks that they have the same replies, and
-/// that users see the same at the end.
-fn check_answered_on(
-    alloc: Global,
-    users: &Users,
-    scenario: &Scenario,
-    host: &Host<ByPolicy>,
-    replies: &[Reply],
-    other: &mut Host<ByPolicy>,
-) -> Result<(), Trouble> {
-    check_replies(alloc, other, scenario, replies)?;
-    check_hosts(alloc, users, host, other)
-}
-
-/// Does the same on a new host.
+/// Makes the steps that weren't refused one after another on a new host. Checks that they have the same replies, and that
+/// users see the same at the end.
 fn check_answered(
-    alloc: Global,
-    users: &Users,
-    scenario: &Scenario,
+    case: &Case<'_>,
     host: &Host<ByPolicy>,
     replies: &[Reply],
 ) -> Result<(), Trouble> {
-    let mut other = new_host(alloc, scenario.settings())?;
-    check_answered_on(alloc, users, scenario, host, replies, &mut other)
+    let mut other = new_host(case.alloc, case.scenario.settings())?;
+    check_replies(case, &mut other, replies)?;
+    case.check_hosts(host, &other, "a list leaves another host")
 }
 
 /// Makes the scenario's steps as a list, and returns the replies, or `None` where the list is refused.
-fn ran(
-    alloc: Global,
-    scenario: &Scenario,
-    host: &mut Host<ByPolicy>,
-) -> Result<Option<Vec<Reply>>, Trouble> {
-    let steps = bound(alloc, scenario)?;
-    Ok(run_list(alloc, host, steps).ok())
+fn ran(case: &Case<'_>, host: &mut Host<ByPolicy>) -> Result<Option<Vec<Reply>>, Trouble> {
+    let steps = bound(case)?;
+    Ok(run_list(case.alloc, host, steps).ok())
 }
 
 /// Checks that a refused list doesn't change the host, and that else the replies are those of steps made one by one.
-fn check_list(
-    alloc: Global,
-    users: &Users,
-    scenario: &Scenario,
-    before: &Seen,
-    host: &mut Host<ByPolicy>,
-) -> Result<(), Trouble> {
+fn check_list(case: &Case<'_>, before: &Seen, host: &mut Host<ByPolicy>) -> Result<(), Trouble> {
     for _ in 0..TRIES {
-        if let Some(replies) = ran(alloc, scenario, host)? {
-            return check_answered(alloc, users, scenario, host, replies.as_slice());
+        if let Some(replies) = ran(case, host)? {
+            return check_answered(case, host, replies.as_slice());
         }
-        before.is_still(alloc, users, host, "a refused list changed the host")?;
+        before.is_still(case, host, "a refused list changed the host")?;
     }
     Err(Trouble::Memory)
 }
 
-/// Does the same on this unused host.
-fn check_on(
-    alloc: Global,
-    users: &Users,
-    scenario: &Scenario,
-    host: &mut Host<ByPolicy>,
-) -> Result<(), Trouble> {
-    let before = users.see(alloc, host)?;
-    check_list(alloc, users, scenario, &before, host)
-}
-
 /// Does the same on a new host.
-pub fn check(alloc: Global, users: &Users, scenario: &Scenario) -> Result<(), Trouble> {
-    let mut host = new_host(alloc, scenario.settings())?;
-    check_on(alloc, users, scenario, &mut host)
+pub fn check(case: &Case<'_>) -> Result<(), Trouble> {
+    let mut host = new_host(case.alloc, case.scenario.settings())?;
+    let before = case.see(&host)?;
+    check_list(case, &before, &mut host)
 }

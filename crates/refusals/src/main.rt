@@ -11,7 +11,6 @@ mod shared;
 mod steps;
 mod texts;
 mod threads;
-mod trouble;
 
 use pid_blocks::Uid;
 use scenario::{Fault, Scenario, parse};
@@ -20,8 +19,8 @@ use std::alloc::Global;
 use std::process::ExitCode;
 use std::sync::Wait;
 use std::thread::Threads;
-use steps::{Made, Users};
-use trouble::{TRIES, Trouble};
+use steps::{Case, Made, TRIES};
+use test_kit::Trouble;
 
 /// Returns the scenario of the text.
 fn parsed(alloc: Global, text: &str) -> Result<Scenario, Trouble> {
@@ -51,46 +50,38 @@ fn say<R: Print>(rt: &R, way: &str) -> Result<(), Trouble> {
 /// Prints the replies to the steps, and makes the steps again in every other way.
 fn check_made<R: Print + Threads + Wait + Sync>(
     rt: &R,
-    alloc: Global,
-    users: &Users,
-    scenario: &Scenario,
+    case: &Case<'_>,
     made: &Made,
 ) -> Result<(), Trouble> {
-    print_replies(rt, alloc, made)?;
-    lists::check(alloc, users, scenario)?;
+    print_replies(rt, case.alloc, made)?;
+    lists::check(case)?;
     say(rt, "a list of steps")?;
-    laws::check(alloc, users, scenario)?;
+    laws::check(case)?;
     say(rt, "two hosts")?;
-    shared::check(rt, alloc, users, scenario, made)?;
+    shared::check(rt, case, made)?;
     say(rt, "a shared host")?;
-    threads::check(rt, alloc, users, scenario)?;
+    threads::check(rt, case)?;
     say(rt, "sessions in threads")?;
-    texts::check(rt, alloc, users, scenario, made)?;
+    texts::check(rt, case, made)?;
     say(rt, "runs of the scenario")
 }
 
 /// Makes the steps of the scenario one after another, and then in every other way.
-fn check_scenario<R: Print + Threads + Wait + Sync>(
-    rt: &R,
-    alloc: Global,
-    scenario: &Scenario,
-) -> Result<(), Trouble> {
-    let users = Users {
-        first: Uid::new(1001)?,
-        second: Uid::new(1002)?,
-    };
-    let made = steps::make_all(alloc, &users, scenario)?;
-    check_made(rt, alloc, &users, scenario, &made)
-}
-
-/// Does the same for a text.
 fn check<R: Print + AllocGlobal + Threads + Wait + Sync>(
     rt: &R,
     text: &str,
 ) -> Result<(), Trouble> {
     let alloc = rt.alloc();
+    let (first, second) = (Uid::new(1001)?, Uid::new(1002)?);
     let scenario = parsed(alloc, text)?;
-    check_scenario(rt, alloc, &scenario)
+    let case = Case {
+        alloc,
+        scenario: &scenario,
+        first,
+        second,
+    };
+    let made = steps::make_all(&case)?;
+    check_made(rt, &case, &made)
 }
 
 fn main(rt: HostRuntime) -> ExitCode {

@@ -3,28 +3,22 @@
 ghost use Rattle.std.specs.Prelude.{All, IfOk};
 ghost use Rattle.host_lock.specs.Sessions.{IsOf, IsSame};
 
-use crate::steps::{Made, Users, new_host};
-use crate::trouble::{TRIES, Trouble};
+use crate::steps::{Case, Made, TRIES, new_host};
 use host_lock::{Answer, Entry, Journal, Session, SharedHost};
 use pid_blocks::Uid;
 use requests::{Host, PlainStep, Reply};
-use scenario::Scenario;
 use std::alloc::Global;
 use std::sync::Wait;
 use stop_handlers::ByPolicy;
-use trace_stop::Settings;
+use test_kit::Trouble;
 
 /// Shares an unused host among a session of each of the users, and retries while that is refused.
-fn open(
-    alloc: Global,
-    users: &Users,
-    settings: Settings,
-) -> Result<(SharedHost<ByPolicy>, Vec<Session>), Trouble>
+fn open(case: &Case<'_>) -> Result<(SharedHost<ByPolicy>, Vec<Session>), Trouble>
     ensures { IfOk result (λ r. All (IsOf r.0) r.1.items) }
 {
     for _ in 0..TRIES {
-        let host = new_host(alloc, settings)?;
-        if let Ok(opened) = SharedHost::open(alloc, host, &[users.first, users.second]) {
+        let host = new_host(case.alloc, case.scenario.settings())?;
+        if let Ok(opened) = SharedHost::open(case.alloc, host, &[case.first, case.second]) {
             return Ok(opened);
         }
     }
@@ -72,8 +66,8 @@ fn call<R: Wait>(
 }
 
 /// Returns the index of the user's session.
-fn place_of(users: &Users, user: Uid) -> usize {
-    if user == users.first { 0 } else { 1 }
+fn place_of(case: &Case<'_>, user: Uid) -> usize {
+    if user == case.first { 0 } else { 1 }
 }
 
 /// Makes a call of the session at this index, and checks that it has the reply of the step on its own.
@@ -103,19 +97,17 @@ fn check_call<R: Wait>(
 /// Makes the scenario's steps in turn, each as a call of its user's session.
 fn call_all<R: Wait>(
     rt: &R,
-    alloc: Global,
+    case: &Case<'_>,
     host: &SharedHost<ByPolicy>,
     sessions: &mut Vec<Session>,
-    users: &Users,
-    scenario: &Scenario,
     made: &Made,
 ) -> Result<(), Trouble>
     requires { All (IsOf host.now) sessions.old.items }
     ensures { All (IsOf host.now) sessions.new.items }
 {
-    for (step, answer) in scenario.steps().zip(made.replies.iter()) {
-        let place = place_of(users, step.0);
-        check_call(rt, alloc, host, sessions, place, &step.1, &answer.1)?;
+    for (step, answer) in case.scenario.steps().zip(made.replies.iter()) {
+        let place = place_of(case, step.0);
+        check_call(rt, case.alloc, host, sessions, place, &step.1, &answer.1)?;
     }
     Ok(())
 }
@@ -126,35 +118,19 @@ fn is_of(entry: &Entry, place: usize, step: &(Uid, PlainStep), reply: &Reply) ->
 }
 
 /// Checks that the journal has only the scenario's steps with their replies.
-fn check_journal(
-    users: &Users,
-    scenario: &Scenario,
-    made: &Made,
-    journal: &Journal,
-) -> Result<(), Trouble> {
+fn check_journal(case: &Case<'_>, made: &Made, journal: &Journal) -> Result<(), Trouble> {
     if journal.len() != made.replies.len() {
         return Err(Trouble::Wrong("a refused call has an entry"));
     }
-    for (place, step) in (0..made.replies.len()).zip(scenario.steps()) {
+    for (place, step) in (0..made.replies.len()).zip(case.scenario.steps()) {
         let (Some(entry), Some(answer)) = (journal.get(place), made.replies.get(place)) else {
             return Err(Trouble::Wrong("an entry is missing"));
         };
-        if !is_of(entry, place_of(users, step.0), &step, &answer.1) {
+        if !is_of(entry, place_of(case, step.0), &step, &answer.1) {
             return Err(Trouble::Wrong("the journal has another entry"));
         }
     }
     Ok(())
-}
-
-/// Checks that users see the same of the host as of the one on which the steps were made without sessions.
-fn check_host(
-    alloc: Global,
-    users: &Users,
-    made: &Made,
-    host: &Host<ByPolicy>,
-) -> Result<(), Trouble> {
-    let seen = users.see(alloc, host)?;
-    seen.is_still(alloc, users, &made.host, "calls leave another host")
 }
 
 /// Closes the shared host with all sessions, and returns the host and the journal.
@@ -171,37 +147,18 @@ fn close(
 /// Returns the host and the journal after the scenario's steps.
 fn called<R: Wait>(
     rt: &R,
-    alloc: Global,
-    users: &Users,
-    scenario: &Scenario,
+    case: &Case<'_>,
     made: &Made,
 ) -> Result<(Host<ByPolicy>, Journal), Trouble> {
-    let (host, mut sessions) = open(alloc, users, scenario.settings())?;
-    call_all(rt, alloc, &host, &mut sessions, users, scenario, made)?;
+    let (host, mut sessions) = open(case)?;
+    call_all(rt, case, &host, &mut sessions, made)?;
     close(host, sessions)
 }
 
-/// Checks that the host and the journal are those of the steps without sessions.
-fn check_left(
-    alloc: Global,
-    users: &Users,
-    scenario: &Scenario,
-    made: &Made,
-    host: &Host<ByPolicy>,
-    journal: &Journal,
-) -> Result<(), Trouble> {
-    check_journal(users, scenario, made, journal)?;
-    check_host(alloc, users, made, host)
-}
-
-/// Checks that each call has the reply of the step without sessions, and that a refused call has no journal entry.
-pub fn check<R: Wait>(
-    rt: &R,
-    alloc: Global,
-    users: &Users,
-    scenario: &Scenario,
-    made: &Made,
-) -> Result<(), Trouble> {
-    let (host, journal) = called(rt, alloc, users, scenario, made)?;
-    check_left(alloc, users, scenario, made, &host, &journal)
+/// Checks that each call has the reply of the step without sessions, that a refused call has no journal entry, and that
+/// users see the same of the host as of the one on which the steps were made without sessions.
+pub fn check<R: Wait>(rt: &R, case: &Case<'_>, made: &Made) -> Result<(), Trouble> {
+    let (host, journal) = called(rt, case, made)?;
+    check_journal(case, made, &journal)?;
+    case.check_hosts(&host, &made.host, "calls leave another host")
 }

@@ -3,18 +3,23 @@
 ghost use Rattle.std.specs.Prelude.{◌≡◌, IfOk};
 ghost use Rattle.requests.specs.Machine.{empty};
 
-use crate::trouble::{TRIES, Trouble};
 use pid_blocks::Uid;
 use requests::{Act, Host, PlainStep, Reply, Request};
 use scenario::Scenario;
 use std::alloc::Global;
 use stop_handlers::ByPolicy;
+use test_kit::Trouble;
 use trace_stop::Settings;
 use visibility::{View, user_view};
 
-/// The users of the scenarios.
-#[derive(Drop)]
-pub struct Users {
+/// The number of tries of a call while it is refused.
+pub const TRIES: u32 = 30;
+
+/// A scenario, and its two users.
+#[derive(Clone, Copy, Drop)]
+pub struct Case<'a> {
+    pub alloc: Global,
+    pub scenario: &'a Scenario,
     pub first: Uid,
     pub second: Uid,
 }
@@ -30,12 +35,11 @@ impl Seen {
     /// Checks that the users still see the same of the host. The error has this name.
     pub fn is_still(
         &self,
-        alloc: Global,
-        users: &Users,
+        case: &Case<'_>,
         host: &Host<ByPolicy>,
         name: &'static str,
     ) -> Result<(), Trouble> {
-        let now = users.see(alloc, host)?;
+        let now = case.see(host)?;
         if self.first == now.first && self.second == now.second {
             Ok(())
         } else {
@@ -54,12 +58,23 @@ fn view_of(alloc: Global, host: &Host<ByPolicy>, user: Uid) -> Result<View, Trou
     Err(Trouble::Memory)
 }
 
-impl Users {
+impl Case<'_> {
     /// Returns both users' views of the host.
-    pub fn see(&self, alloc: Global, host: &Host<ByPolicy>) -> Result<Seen, Trouble> {
-        let first = view_of(alloc, host, self.first)?;
-        let second = view_of(alloc, host, self.second)?;
+    pub fn see(&self, host: &Host<ByPolicy>) -> Result<Seen, Trouble> {
+        let first = view_of(self.alloc, host, self.first)?;
+        let second = view_of(self.alloc, host, self.second)?;
         Ok(Seen { first, second })
+    }
+
+    /// Checks that the users see the same of both hosts. The error has this name.
+    pub fn check_hosts(
+        &self,
+        host: &Host<ByPolicy>,
+        other: &Host<ByPolicy>,
+        name: &'static str,
+    ) -> Result<(), Trouble> {
+        let seen = self.see(host)?;
+        seen.is_still(self, other, name)
     }
 }
 
@@ -116,35 +131,33 @@ fn takes_memory(step: &PlainStep) -> bool {
 
 /// Does the same, and checks after each refusal that the step may take memory and that users see the same as before.
 fn answer_from(
-    alloc: Global,
-    users: &Users,
+    case: &Case<'_>,
     before: &Seen,
     host: &mut Host<ByPolicy>,
     user: Uid,
     step: &PlainStep,
 ) -> Result<Reply, Trouble> {
     for _ in 0..TRIES {
-        if let Some(reply) = replied(alloc, host, user, step) {
+        if let Some(reply) = replied(case.alloc, host, user, step) {
             return Ok(reply);
         }
         if !takes_memory(step) {
             return Err(Trouble::Wrong("a step that takes no memory is refused"));
         }
-        before.is_still(alloc, users, host, "a refused step changed the host")?;
+        before.is_still(case, host, "a refused step changed the host")?;
     }
     Err(Trouble::Memory)
 }
 
 /// Does the same, with the users' present views as those before.
 fn answer_kept(
-    alloc: Global,
-    users: &Users,
+    case: &Case<'_>,
     host: &mut Host<ByPolicy>,
     user: Uid,
     step: &PlainStep,
 ) -> Result<Reply, Trouble> {
-    let before = users.see(alloc, host)?;
-    answer_from(alloc, users, &before, host, user, step)
+    let before = case.see(host)?;
+    answer_from(case, &before, host, user, step)
 }
 
 /// A host after steps, and the replies to them.
@@ -165,29 +178,24 @@ fn room(alloc: Global, length: usize) -> Result<Vec<(Uid, Reply)>, Trouble> {
 }
 
 /// Creates a host, and allocates room for the replies to the scenario's steps.
-fn new_made(alloc: Global, scenario: &Scenario) -> Result<Made, Trouble> {
-    let replies = room(alloc, scenario.shapes().len())?;
-    let host = new_host(alloc, scenario.settings())?;
+fn new_made(case: &Case<'_>) -> Result<Made, Trouble> {
+    let replies = room(case.alloc, case.scenario.shapes().len())?;
+    let host = new_host(case.alloc, case.scenario.settings())?;
     Ok(Made { host, replies })
 }
 
 /// Makes the steps of the scenario.
-fn make_each(
-    alloc: Global,
-    users: &Users,
-    scenario: &Scenario,
-    made: &mut Made,
-) -> Result<(), Trouble> {
-    for step in scenario.steps() {
-        let reply = answer_kept(alloc, users, &mut made.host, step.0, &step.1)?;
+fn make_each(case: &Case<'_>, made: &mut Made) -> Result<(), Trouble> {
+    for step in case.scenario.steps() {
+        let reply = answer_kept(case, &mut made.host, step.0, &step.1)?;
         made.replies.push((step.0, reply))?;
     }
     Ok(())
 }
 
 /// Makes the steps of the scenario on a new host.
-pub fn make_all(alloc: Global, users: &Users, scenario: &Scenario) -> Result<Made, Trouble> {
-    let mut made = new_made(alloc, scenario)?;
-    make_each(alloc, users, scenario, &mut made)?;
+pub fn make_all(case: &Case<'_>) -> Result<Made, Trouble> {
+    let mut made = new_made(case)?;
+    make_each(case, &mut made)?;
     Ok(made)
 }

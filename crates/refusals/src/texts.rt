@@ -1,14 +1,14 @@
 //! Runs of a whole scenario.
 
 use crate::lists::handlers;
-use crate::steps::{Made, Users};
-use crate::trouble::{TRIES, Trouble};
+use crate::steps::{Case, Made, TRIES};
 use pid_blocks::Uid;
-use scenario::{RunFault, RunOptions, Scenario, Style, render, run};
+use scenario::{RunFault, RunOptions, Style, render, run};
 use std::alloc::Global;
 use std::sync::Wait;
 use std::thread::Threads;
 use stop_handlers::{ByPolicy, Handler};
+use test_kit::Trouble;
 use threaded_runs::run_threads;
 
 /// Room for every text, in bytes.
@@ -21,7 +21,8 @@ fn is_done(ended: Result<(), RunFault>, written: &[u8], text: &[u8]) -> Result<b
         Ok(()) => Err(Trouble::Wrong("a run has another text")),
         Err(RunFault::Memory | RunFault::Start) if written.is_empty() => Ok(false),
         Err(RunFault::Memory | RunFault::Start) => Err(Trouble::Wrong("a refused run has written")),
-        Err(fault) => Err(Trouble::from(fault)),
+        Err(RunFault::Write) => Err(Trouble::Wrong("a writer has no room")),
+        Err(RunFault::Mismatch) => Err(Trouble::Wrong("the handlers are others")),
     }
 }
 
@@ -33,21 +34,26 @@ fn shown(user: &Option<Uid>) -> RunOptions {
     }
 }
 
+/// The lines of one run: those of this user or of all users, with threads or without.
+#[derive(Drop)]
+struct Asked {
+    user: Option<Uid>,
+    threads: bool,
+}
+
 /// Runs the scenario with threads or without.
 fn run_into<R: Threads + Wait + Sync>(
     rt: &R,
-    alloc: Global,
-    scenario: &Scenario,
+    case: &Case<'_>,
     handlers: Vec<Handler<ByPolicy>>,
-    user: &Option<Uid>,
-    threads: bool,
+    asked: &Asked,
     writer: &mut Vec<u8>,
 ) -> Result<(), RunFault> {
-    let options = shown(user);
-    if threads {
-        run_threads(rt, alloc, scenario, handlers, options, writer)
+    let options = shown(&asked.user);
+    if asked.threads {
+        run_threads(rt, case.alloc, case.scenario, handlers, options, writer)
     } else {
-        run(alloc, scenario, handlers, options, writer)
+        run(case.alloc, case.scenario, handlers, options, writer)
     }
 }
 
@@ -61,32 +67,28 @@ fn room(alloc: Global) -> Result<Vec<u8>, Trouble> {
     Err(Trouble::Memory)
 }
 
-/// Returns whether a run with or without threads succeeded, and checks that it then wrote the text.
+/// Returns whether a run succeeded, and checks that it then wrote the text.
 fn is_run<R: Threads + Wait + Sync>(
     rt: &R,
-    alloc: Global,
-    scenario: &Scenario,
+    case: &Case<'_>,
     text: &[u8],
-    user: &Option<Uid>,
-    threads: bool,
+    asked: &Asked,
 ) -> Result<bool, Trouble> {
-    let mut writer = room(alloc)?;
-    let handlers = handlers(alloc, scenario)?;
-    let ended = run_into(rt, alloc, scenario, handlers, user, threads, &mut writer);
+    let mut writer = room(case.alloc)?;
+    let handlers = handlers(case)?;
+    let ended = run_into(rt, case, handlers, asked, &mut writer);
     is_done(ended, writer.as_slice(), text)
 }
 
-/// Checks that a run with or without threads writes the text, and retries while it is refused.
+/// Checks that a run writes the text, and retries while it is refused.
 fn check_text<R: Threads + Wait + Sync>(
     rt: &R,
-    alloc: Global,
-    scenario: &Scenario,
+    case: &Case<'_>,
     text: &[u8],
-    user: &Option<Uid>,
-    threads: bool,
+    asked: &Asked,
 ) -> Result<(), Trouble> {
     for _ in 0..TRIES {
-        if is_run(rt, alloc, scenario, text, user, threads)? {
+        if is_run(rt, case, text, asked)? {
             return Ok(());
         }
     }
@@ -106,25 +108,23 @@ pub fn lines(alloc: Global, made: &Made, user: &Option<Uid>) -> Result<String, T
 /// Checks that a run with or without threads writes the lines of the replies to the user, or to all users.
 fn check_user<R: Threads + Wait + Sync>(
     rt: &R,
-    alloc: Global,
-    scenario: &Scenario,
+    case: &Case<'_>,
     made: &Made,
-    user: &Option<Uid>,
+    user: Option<Uid>,
     threads: bool,
 ) -> Result<(), Trouble> {
-    let text = lines(alloc, made, user)?;
-    check_text(rt, alloc, scenario, text.as_bytes(), user, threads)
+    let text = lines(case.alloc, made, &user)?;
+    let asked = Asked { user, threads };
+    check_text(rt, case, text.as_bytes(), &asked)
 }
 
 /// Checks that runs write the lines of the replies, and that refused runs write nothing.
 pub fn check<R: Threads + Wait + Sync>(
     rt: &R,
-    alloc: Global,
-    users: &Users,
-    scenario: &Scenario,
+    case: &Case<'_>,
     made: &Made,
 ) -> Result<(), Trouble> {
-    check_user(rt, alloc, scenario, made, &None, false)?;
-    check_user(rt, alloc, scenario, made, &Some(users.first), true)?;
-    check_user(rt, alloc, scenario, made, &Some(users.second), true)
+    check_user(rt, case, made, None, false)?;
+    check_user(rt, case, made, Some(case.first), true)?;
+    check_user(rt, case, made, Some(case.second), true)
 }

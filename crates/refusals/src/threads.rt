@@ -3,8 +3,7 @@
 ghost use Rattle.std.specs.Prelude.{All, IfOk};
 ghost use Rattle.sessions.specs.Runs.{IsShort};
 
-use crate::steps::{Users, answer, new_host};
-use crate::trouble::{TRIES, Trouble};
+use crate::steps::{Case, TRIES, answer, new_host};
 use host_lock::{Entry, Journal};
 use pid_blocks::Uid;
 use requests::{Host, Reply};
@@ -15,6 +14,7 @@ use std::sync::Wait;
 use std::sync::atomic::{AtomicUsize, Ordering};
 use std::thread::Threads;
 use stop_handlers::ByPolicy;
+use test_kit::Trouble;
 
 /// The most steps of a script.
 const MOST_STEPS: usize = 1000;
@@ -70,29 +70,21 @@ fn script(alloc: Global, scenario: &Scenario, uid: Uid) -> Result<Script<ByPolic
 }
 
 /// Returns a script for each user.
-fn scripts(
-    alloc: Global,
-    users: &Users,
-    scenario: &Scenario,
-) -> Result<Vec<Script<ByPolicy>>, AllocError>
+fn scripts(case: &Case<'_>) -> Result<Vec<Script<ByPolicy>>, AllocError>
     ensures { IfOk result (λ scripts. All IsShort scripts.items) }
 {
-    let mut scripts = Vec::with_capacity(alloc, 2)?;
-    scripts.push(script(alloc, scenario, users.first)?)?;
-    scripts.push(script(alloc, scenario, users.second)?)?;
+    let mut scripts = Vec::with_capacity(case.alloc, 2)?;
+    scripts.push(script(case.alloc, case.scenario, case.first)?)?;
+    scripts.push(script(case.alloc, case.scenario, case.second)?)?;
     Ok(scripts)
 }
 
 /// Does the same, and retries while memory runs out.
-fn scripts_of(
-    alloc: Global,
-    users: &Users,
-    scenario: &Scenario,
-) -> Result<Vec<Script<ByPolicy>>, Trouble>
+fn scripts_of(case: &Case<'_>) -> Result<Vec<Script<ByPolicy>>, Trouble>
     ensures { IfOk result (λ scripts. All IsShort scripts.items) }
 {
     for _ in 0..TRIES {
-        if let Ok(scripts) = scripts(alloc, users, scenario) {
+        if let Ok(scripts) = scripts(case) {
             return Ok(scripts);
         }
     }
@@ -107,17 +99,15 @@ struct Left {
     transcripts: Vec<Transcript>,
 }
 
-/// Runs the scripts on the host. `None` where that is refused; workers that were started have ended by then.
-fn ran_on<R: Threads + Wait + Sync>(
+/// Runs the scripts on an unused host. `None` where that is refused; workers that were started have ended by then.
+fn ran<R: Threads + Wait + Sync>(
     rt: &R,
-    alloc: Global,
-    users: &Users,
-    scenario: &Scenario,
+    case: &Case<'_>,
     gate: &Counts,
-    host: Host<ByPolicy>,
 ) -> Result<Option<Left>, Trouble> {
-    let scripts = scripts_of(alloc, users, scenario)?;
-    match run_sessions(rt, alloc, host, scripts, gate) {
+    let scripts = scripts_of(case)?;
+    let host = new_host(case.alloc, case.scenario.settings())?;
+    match run_sessions(rt, case.alloc, host, scripts, gate) {
         Ok((host, journal, transcripts)) => Ok(Some(Left {
             host,
             journal,
@@ -126,18 +116,6 @@ fn ran_on<R: Threads + Wait + Sync>(
         Err(RunRefusal::TooMany) => Err(Trouble::Wrong("two scripts are too many")),
         Err(RunRefusal::Memory | RunRefusal::Start) => Ok(None),
     }
-}
-
-/// Does the same on an unused host.
-fn ran<R: Threads + Wait + Sync>(
-    rt: &R,
-    alloc: Global,
-    users: &Users,
-    scenario: &Scenario,
-    gate: &Counts,
-) -> Result<Option<Left>, Trouble> {
-    let host = new_host(alloc, scenario.settings())?;
-    ran_on(rt, alloc, users, scenario, gate, host)
 }
 
 /// Returns how many steps were not answered by ENOMEM.
@@ -232,92 +210,43 @@ fn check_entries(
     Ok(())
 }
 
-/// Checks that users see the same of both hosts.
-fn check_hosts(
-    alloc: Global,
-    users: &Users,
-    host: &Host<ByPolicy>,
-    other: &Host<ByPolicy>,
-) -> Result<(), Trouble> {
-    let seen = users.see(alloc, host)?;
-    seen.is_still(alloc, users, other, "the journal leaves another host")
-}
-
-/// Makes the journal's steps one after another on another host. Checks that the replies and the users' views are the
-/// same.
-fn check_replay_on(
-    alloc: Global,
-    users: &Users,
-    left: &Left,
-    other: &mut Host<ByPolicy>,
-) -> Result<(), Trouble> {
-    check_entries(alloc, other, &left.journal)?;
-    check_hosts(alloc, users, &left.host, other)
-}
-
-/// Does the same on a new host.
-fn check_replay(
-    alloc: Global,
-    users: &Users,
-    scenario: &Scenario,
-    left: &Left,
-) -> Result<(), Trouble> {
-    let mut other = new_host(alloc, scenario.settings())?;
-    check_replay_on(alloc, users, left, &mut other)
+/// Makes the journal's steps one after another on a new host. Checks that the replies and the users' views are the same.
+fn check_replay(case: &Case<'_>, left: &Left) -> Result<(), Trouble> {
+    let mut other = new_host(case.alloc, case.scenario.settings())?;
+    check_entries(case.alloc, &mut other, &left.journal)?;
+    case.check_hosts(&left.host, &other, "the journal leaves another host")
 }
 
 /// Checks that the results are consistent, and that each of the scenario's steps was a call.
-fn check_left(
-    alloc: Global,
-    users: &Users,
-    scenario: &Scenario,
-    calls: usize,
-    left: &Left,
-) -> Result<(), Trouble> {
-    if calls != scenario.shapes().len() {
+fn check_left(case: &Case<'_>, calls: usize, left: &Left) -> Result<(), Trouble> {
+    if calls != case.scenario.shapes().len() {
         return Err(Trouble::Wrong("a step isn't made"));
     }
     check_transcripts(&left.journal, left.transcripts.as_slice())?;
-    check_replay(alloc, users, scenario, left)
+    check_replay(case, left)
 }
 
 /// Returns whether there are results, and checks them.
-fn is_left(
-    alloc: Global,
-    users: &Users,
-    scenario: &Scenario,
-    gate: &Counts,
-    ran: &Option<Left>,
-) -> Result<bool, Trouble> {
+fn is_left(case: &Case<'_>, gate: &Counts, ran: &Option<Left>) -> Result<bool, Trouble> {
     let calls = gate.calls()?;
     let Some(left) = ran else {
         return Ok(false);
     };
-    check_left(alloc, users, scenario, calls, left)?;
+    check_left(case, calls, left)?;
     Ok(true)
 }
 
 /// Returns whether the sessions ran, and checks their results.
-fn is_run<R: Threads + Wait + Sync>(
-    rt: &R,
-    alloc: Global,
-    users: &Users,
-    scenario: &Scenario,
-) -> Result<bool, Trouble> {
+fn is_run<R: Threads + Wait + Sync>(rt: &R, case: &Case<'_>) -> Result<bool, Trouble> {
     let gate = Counts::new();
-    let ran = ran(rt, alloc, users, scenario, &gate)?;
-    is_left(alloc, users, scenario, &gate, &ran)
+    let ran = ran(rt, case, &gate)?;
+    is_left(case, &gate, &ran)
 }
 
 /// Checks that the sessions run, and retries while that is refused.
-pub fn check<R: Threads + Wait + Sync>(
-    rt: &R,
-    alloc: Global,
-    users: &Users,
-    scenario: &Scenario,
-) -> Result<(), Trouble> {
+pub fn check<R: Threads + Wait + Sync>(rt: &R, case: &Case<'_>) -> Result<(), Trouble> {
     for _ in 0..TRIES {
-        if is_run(rt, alloc, users, scenario)? {
+        if is_run(rt, case)? {
             return Ok(());
         }
     }
