@@ -44,6 +44,8 @@ class Rows:
             return numbers('pids', self.first_pid, self.processes)
         if kind == 'PT_GETLWPLIST':  # of the second process, which has all LWPs but the first
             return numbers('lwps', self.first_tid + 1, min(step['data'], self.lwps - 1))
+        if self.processes == 1:  # the second process, which the other steps name, was refused
+            return 'error ECHILD 10' if kind == 'wait4' else 'error ESRCH 3'
         return str(step['answer'])
 
     def spawned(self) -> str:
