@@ -126,7 +126,10 @@ fn close_in_turn(
 }
 
 /// Shares a new host among a session of each of the users.
-pub fn open_new(alloc: Global, users: (Uid, Uid)) -> Option<(SharedHost<ByPolicy>, Session, Session)>
+pub fn open_new(
+    alloc: Global,
+    users: (Uid, Uid),
+) -> Option<(SharedHost<ByPolicy>, Session, Session)>
     ensures first { IfSome result (λ r. IsOf r.0 r.1) }
     ensures second { IfSome result (λ r. IsOf r.0 r.2) }
 {
