@@ -105,6 +105,11 @@ def attach_cycles(user: int) -> Iterator[Step]:
     tracee, _ = numbers.process()
     yield spawn(user)
     yield spawn(user)
+    yield from attaches(user, debugger, tracee)
+
+
+def attaches(user: int, debugger: int, tracee: int) -> Iterator[Step]:
+    """The debugger attaches to the tracee, waits for it and detaches, again and again."""
     while True:
         yield ptrace(user, debugger, 'PT_ATTACH', tracee)
         yield wait(user, debugger)
@@ -163,10 +168,7 @@ def attach_among_tracees(user: int, tracees: int = 248) -> Iterator[Step]:
         yield ptrace(user, debugger, 'PT_ATTACH', other)
         yield wait(user, debugger)
         yield ptrace(user, debugger, 'PT_CONTINUE', other)
-    while True:
-        yield ptrace(user, debugger, 'PT_ATTACH', tracee)
-        yield wait(user, debugger)
-        yield ptrace(user, debugger, 'PT_DETACH', tracee)
+    yield from attaches(user, debugger, tracee)
 
 
 def fork_events(user: int) -> Iterator[Step]:
