@@ -6,7 +6,7 @@
 #
 #   bash tests/failures.sh [PROGRAM [REFUSALS]]
 source "$(dirname "${BASH_SOURCE[0]}")/lib.sh"
-refusals=$(realpath -m "${2:-crates/refusals/out/refusals}")
+refusals=$(realpath -m "${2:-crates/test_no_memory/out/refusals}")
 
 need python3 cc || exit
 check "cc shim.c" cc -std=c11 -O2 -Wall -Wextra -Werror -shared -fPIC -o "$room/shim.so" tests/python/shim.c

@@ -31,16 +31,16 @@ change() {
 mkdir "$room/copy"
 git ls-files -z format tools crates schema include clients/c clients/python docs/FORMAT.md man | xargs -0 cp --parents -t "$room/copy"
 clients=(clients/c/names.c clients/c/tracehost_client.h clients/python/tracehost/names.py include/tracehost.h)
-parsers=(crates/scenario_text/src/names.rt crates/scenario_text/specs/Names.antt crates/explanations/src/tables.rt)
+parsers=(crates/scenario_text/src/names.rt crates/scenario_text/specs/Names.antt crates/diagnostics/src/tables.rt)
 change "another name of a request" 's/PT_ATTACH/PT_SEIZE/' "${parsers[@]}" crates/json_trace/src/names.rt \
   schema/scenario.schema.json "${clients[@]}" docs/FORMAT.md man/tracehost.1
 change "another number of a request" 's/^number = 10$/number = 12/' crates/flat_forms/src/requests_by_number.rt \
   crates/flat_forms/specs/Numbers.antt "${clients[@]}"
 change "another name of a call" 's/"vfork"/"rfork"/' "${parsers[@]}" crates/json_trace/src/names.rt \
   schema/scenario.schema.json clients/c/names.c clients/python/tracehost/names.py docs/FORMAT.md
-change "another range" 's/^user = .*/user = [1001, 1065]/' crates/explanations/src/tables.rt schema/scenario.schema.json
+change "another range" 's/^user = .*/user = [1001, 1065]/' crates/diagnostics/src/tables.rt schema/scenario.schema.json
 change "a key that may be missing" 's/"caller", "which", "signal"/"caller", "which", "[signal]"/' \
-  crates/explanations/src/tables.rt schema/scenario.schema.json
+  crates/diagnostics/src/tables.rt schema/scenario.schema.json
 change "another effect" 's/^effect = "lists the user.s processes.*/effect = "lists them"/' docs/FORMAT.md
 
 sed -i 's/PT_ATTACH/PT_SEIZE/' "$room/copy/format/scenario.toml"

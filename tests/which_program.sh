@@ -76,9 +76,9 @@ echo "-- more" >crates/requests/specs/More.antt
 prints "a source more" "$other"
 rm crates/requests/specs/More.antt
 prints "without it" "released some.json --user 1001"
-mkdir -p crates/expected_text/proofs/more && echo "-- more" >crates/expected_text/proofs/more/More.antt
+mkdir -p crates/line_diff/proofs/more && echo "-- more" >crates/line_diff/proofs/more/More.antt
 prints "a folder more" "$other"
-rm -r crates/expected_text/proofs/more
+rm -r crates/line_diff/proofs/more
 mv crates/requests/specs/Lib.antt "$room/Lib.antt"
 prints "a source less" "$other"
 mv "$room/Lib.antt" crates/requests/specs/Lib.antt

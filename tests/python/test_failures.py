@@ -360,7 +360,7 @@ def runs_without(program: str) -> dict[str, bool]:
 
 def retried_refusals(shim: Shim, program: str) -> Iterator[tuple[str, Run]]:
     """A call that is refused is made again: the text is whole, unless all from one on are refused, or too many."""
-    with open('crates/refusals/stdout', 'rb') as stored:
+    with open('crates/test_no_memory/stdout', 'rb') as stored:
         text = stored.read()
     command, done = (program,), whole(text)
     counts = shim.counts_of(Run(command, b'', {}, (done,)))

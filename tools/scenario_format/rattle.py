@@ -225,7 +225,7 @@ def all_keys(form: Format) -> list[str]:
 
 
 def explained_tables(form: Format) -> str:
-    """crates/explanations/src/tables.rt"""
+    """crates/diagnostics/src/tables.rt"""
     ranges = "\n".join(span(name.upper(), ends) for name, ends in form.ranges.items())
     asked = (
         '\nconst CALLER: Key = Key::Needed("caller", Kind::Number(WORD));\n\n'

@@ -1,6 +1,6 @@
 //! A list of two users' steps, and each user's view.
 
-use crate::trouble::Trouble;
+use crate::trouble::ExampleError;
 use pid_blocks::Uid;
 use requests::{Host, PlainStep, Request, Step};
 use std::alloc::{AllocError, Global};
@@ -21,7 +21,12 @@ fn by_policy(
 }
 
 /// Prints the processes that the user sees.
-fn see(rt: &impl Print, alloc: Global, host: &Host<ByPolicy>, user: Uid) -> Result<(), Trouble> {
+fn see(
+    rt: &impl Print,
+    alloc: Global,
+    host: &Host<ByPolicy>,
+    user: Uid,
+) -> Result<(), ExampleError> {
     let view = user_view(alloc, host, user)?;
     let number = user.get();
     for process in view.processes() {
@@ -37,7 +42,7 @@ fn run(
     alloc: Global,
     host: &mut Host<ByPolicy>,
     plain: &[(Uid, PlainStep)],
-) -> Result<(), Trouble> {
+) -> Result<(), ExampleError> {
     let replies = run_list(alloc, host, by_policy(alloc, plain)?)?;
     for reply in replies.iter() {
         println!(rt; "{reply}")?;
@@ -46,7 +51,7 @@ fn run(
 }
 
 /// Makes steps of two users on the host, and prints the replies and what each user sees then.
-fn make(rt: &impl Print, alloc: Global, host: &mut Host<ByPolicy>) -> Result<(), Trouble> {
+fn make(rt: &impl Print, alloc: Global, host: &mut Host<ByPolicy>) -> Result<(), ExampleError> {
     let (one, other) = (Uid::new(1001)?, Uid::new(1002)?);
     let steps = [
         (one, Step::Spawn),
@@ -62,7 +67,7 @@ fn make(rt: &impl Print, alloc: Global, host: &mut Host<ByPolicy>) -> Result<(),
 }
 
 /// The same on a new host.
-pub fn two_users(rt: &impl Print, alloc: Global) -> Result<(), Trouble> {
+pub fn two_users(rt: &impl Print, alloc: Global) -> Result<(), ExampleError> {
     let mut host = Host::new(alloc, Settings::standard())?;
     make(rt, alloc, &mut host)
 }

@@ -10,9 +10,9 @@ mod shared;
 mod stepped;
 mod trouble;
 
-use trouble::Trouble;
+use trouble::ExampleError;
 
-fn main(rt: HostRuntime) -> Result<(), Trouble> {
+fn main(rt: HostRuntime) -> Result<(), ExampleError> {
     stepped::sandbox(&rt, rt.alloc())?;
     listed::two_users(&rt, rt.alloc())?;
     shared::two_threads(&rt, rt.alloc())

@@ -3,7 +3,7 @@
 ghost use Rattle.std.specs.Prelude.{◌≡◌, [], ◌∷◌, IfSome};
 ghost use Rattle.host_lock.specs.Sessions.{IsOf};
 
-use crate::trouble::Trouble;
+use crate::trouble::ExampleError;
 use event_masks::Call;
 use host_lock::{Answer, Journal, Session, SharedHost};
 use pid_blocks::Uid;
@@ -187,12 +187,12 @@ fn entries(
     host: SharedHost<ByPolicy>,
     first: Session,
     second: Session,
-) -> Result<usize, Trouble>
+) -> Result<usize, ExampleError>
     requires first { IsOf host first }
     requires second { IsOf host second }
 {
     let closed = close_two(alloc, host, first, second);
-    let (_host, journal) = closed.ok_or(Trouble::Memory)?;
+    let (_host, journal) = closed.ok_or(ExampleError::Memory)?;
     Ok(journal.len())
 }
 
@@ -203,7 +203,7 @@ fn finish(
     host: SharedHost<ByPolicy>,
     first: Worked,
     second: Worked,
-) -> Result<(), Trouble>
+) -> Result<(), ExampleError>
     requires first { IsOf host first.session }
     requires second { IsOf host second.session }
 {
@@ -222,20 +222,23 @@ fn run_and_finish<R: Print + Threads + Wait + Sync>(
     host: SharedHost<ByPolicy>,
     first: Session,
     second: Session,
-) -> Result<(), Trouble>
+) -> Result<(), ExampleError>
     requires first { IsOf host first }
     requires second { IsOf host second }
 {
     let ran = run_both(rt, alloc, &host, first, second);
-    let (first, second) = ran.ok_or(Trouble::Session)?;
+    let (first, second) = ran.ok_or(ExampleError::Session)?;
     finish(rt, alloc, host, first, second)
 }
 
 /// Shares a host among a session of each of two users, which make their steps at the same time.
-pub fn two_threads<R: Print + Threads + Wait + Sync>(rt: &R, alloc: Global) -> Result<(), Trouble> {
+pub fn two_threads<R: Print + Threads + Wait + Sync>(
+    rt: &R,
+    alloc: Global,
+) -> Result<(), ExampleError> {
     let (one, other) = (Uid::new(1001)?, Uid::new(1002)?);
     let host = Host::new(alloc, Settings::standard())?;
     let opened = open_two(alloc, host, one, other);
-    let (host, first, second) = opened.ok_or(Trouble::Memory)?;
+    let (host, first, second) = opened.ok_or(ExampleError::Memory)?;
     run_and_finish(rt, alloc, host, first, second)
 }

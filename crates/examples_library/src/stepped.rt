@@ -2,7 +2,7 @@
 
 ghost use Rattle.stop_handlers.specs.Handlers.{Obeys};
 
-use crate::trouble::Trouble;
+use crate::trouble::ExampleError;
 use event_masks::{Call, StopFlags};
 use pid_blocks::Uid;
 use requests::{Act, Host, Reply, Request, Step};
@@ -86,7 +86,7 @@ fn debug<F: Decider + Send + Drop>(
     alloc: Global,
     host: &mut Host<F>,
     handler: Handler<F>,
-) -> Result<(), Trouble> {
+) -> Result<(), ExampleError> {
     let user = Uid::new(1001)?;
     attach(rt, alloc, host, user, handler)?;
     execute(rt, alloc, host, user)?;
@@ -99,7 +99,7 @@ fn drive<F: Decider + Send + Drop>(
     alloc: Global,
     policy: Policy,
     decider: F,
-) -> Result<(), Trouble>
+) -> Result<(), ExampleError>
     requires askable { F.can_ask decider }
     requires obeys { Obeys (F.gives decider) policy }
 {
@@ -108,7 +108,7 @@ fn drive<F: Decider + Send + Drop>(
 }
 
 /// Kills a process that executes another program; each other stop is left to the debugger.
-pub fn sandbox(rt: &impl Print, alloc: Global) -> Result<(), Trouble> {
+pub fn sandbox(rt: &impl Print, alloc: Global) -> Result<(), ExampleError> {
     let policy = Policy::new(&[Rule {
         signal: None,
         flags: StopFlags::PL_FLAG_EXEC,

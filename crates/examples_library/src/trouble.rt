@@ -8,7 +8,7 @@ use stop_handlers::TooManyRules;
 
 /// The reason why the program ends with status 1.
 #[derive(Debug, Drop)]
-pub enum Trouble {
+pub enum ExampleError {
     /// Memory ran out.
     Memory,
     /// Printing failed.
@@ -19,38 +19,38 @@ pub enum Trouble {
     Session,
 }
 
-impl From<AllocError> for Trouble {
-    fn from(_refused: AllocError) -> Trouble {
-        Trouble::Memory
+impl From<AllocError> for ExampleError {
+    fn from(_refused: AllocError) -> ExampleError {
+        ExampleError::Memory
     }
 }
 
-impl<T: Drop> From<AllocFailed<T>> for Trouble {
-    fn from(_refused: AllocFailed<T>) -> Trouble {
-        Trouble::Memory
+impl<T: Drop> From<AllocFailed<T>> for ExampleError {
+    fn from(_refused: AllocFailed<T>) -> ExampleError {
+        ExampleError::Memory
     }
 }
 
-impl From<io::Error> for Trouble {
-    fn from(_error: io::Error) -> Trouble {
-        Trouble::Print
+impl From<io::Error> for ExampleError {
+    fn from(_error: io::Error) -> ExampleError {
+        ExampleError::Print
     }
 }
 
-impl From<BadUser> for Trouble {
-    fn from(_error: BadUser) -> Trouble {
-        Trouble::Number
+impl From<BadUser> for ExampleError {
+    fn from(_error: BadUser) -> ExampleError {
+        ExampleError::Number
     }
 }
 
-impl From<BadSignal> for Trouble {
-    fn from(_error: BadSignal) -> Trouble {
-        Trouble::Number
+impl From<BadSignal> for ExampleError {
+    fn from(_error: BadSignal) -> ExampleError {
+        ExampleError::Number
     }
 }
 
-impl From<TooManyRules> for Trouble {
-    fn from(_error: TooManyRules) -> Trouble {
-        Trouble::Number
+impl From<TooManyRules> for ExampleError {
+    fn from(_error: TooManyRules) -> ExampleError {
+        ExampleError::Number
     }
 }

@@ -24,10 +24,10 @@ tracer_number None = 0
 tracer_number (Some pid) = pid
 
 abbrev pub flat_state : State → FlatState
-flat_state state.Run = record { state = 0; lwp = 0; signal = 0; told = 0; status = 0 }
-flat_state (state.Trace tid sig told) = record { state = 1; lwp = tid; signal = sig; told = flag told; status = 0 }
-flat_state (state.Job sig told) = record { state = 2; lwp = 0; signal = sig; told = flag told; status = 0 }
-flat_state (state.Zombie status) = record { state = 3; lwp = 0; signal = 0; told = 0; status = status }
+flat_state state.Run = record { state = 0; lwp = 0; signal = 0; reported = 0; status = 0 }
+flat_state (state.Trace tid sig reported) = record { state = 1; lwp = tid; signal = sig; reported = flag reported; status = 0 }
+flat_state (state.Job sig reported) = record { state = 2; lwp = 0; signal = sig; reported = flag reported; status = 0 }
+flat_state (state.Zombie status) = record { state = 3; lwp = 0; signal = 0; reported = 0; status = status }
 
 abbrev pub flat_process : ProcData → FlatProcess
 flat_process p = let s = flat_state p.state in record {
@@ -37,7 +37,7 @@ flat_process p = let s = flat_state p.state in record {
   state = s.state;
   lwp = s.lwp;
   signal = s.signal;
-  told = s.told;
+  reported = s.reported;
   status = s.status;
   continued = flag p.continued;
   events = p.mask.0;

@@ -22,7 +22,7 @@ pub struct FlatProcess {
     /// The signal of a stop.
     pub signal: u32,
     /// 1 once a stop was reported.
-    pub told: u32,
+    pub reported: u32,
     /// A zombie's word of its wait status.
     pub status: u32,
     pub continued: u32,
@@ -59,7 +59,7 @@ struct FlatState {
     state: u32,
     lwp: u32,
     signal: u32,
-    told: u32,
+    reported: u32,
     status: u32,
 }
 
@@ -95,28 +95,28 @@ fn state_of(state: &State) -> FlatState
             state: 0,
             lwp: 0,
             signal: 0,
-            told: 0,
+            reported: 0,
             status: 0,
         },
-        State::Trace { tid, sig, told } => FlatState {
+        State::Trace { tid, sig, reported } => FlatState {
             state: 1,
             lwp: tid.get(),
             signal: sig.number(),
-            told: flag(*told),
+            reported: flag(*reported),
             status: 0,
         },
-        State::Job { sig, told } => FlatState {
+        State::Job { sig, reported } => FlatState {
             state: 2,
             lwp: 0,
             signal: sig.number(),
-            told: flag(*told),
+            reported: flag(*reported),
             status: 0,
         },
         State::Zombie { status } => FlatState {
             state: 3,
             lwp: 0,
             signal: 0,
-            told: 0,
+            reported: 0,
             status: *status,
         },
     }
@@ -189,7 +189,7 @@ impl FlatProcess {
             state: state.state,
             lwp: state.lwp,
             signal: state.signal,
-            told: state.told,
+            reported: state.reported,
             status: state.status,
             continued: flag(row.continued),
             events: row.mask.0,

@@ -13,7 +13,7 @@ use Rattle.host_lock.specs.declared.view.Slot.TheVariants.{There, Away}
 use Rattle.host_lock.specs.History.{History, history}
 use Rattle.host_lock.specs.Journal.{StartsWith}
 use Rattle.host_lock.specs.Rule.{Each, Matches, Closes, session_view, both}
-use Rattle.host_lock.specs.Sessions.{SessionData, IsBelow, gathered, seen_by, account_of, Stands}
+use Rattle.host_lock.specs.Sessions.{SessionData, IsBelow, gathered, seen_by, account_of, InJournal}
 use Rattle.host_lock.proofs.Totals.{each_append, each_right}
 
 abbrev history_or : {F : Type 0} → History → Slot F → History
@@ -49,7 +49,7 @@ joined h order s b c =
     }
 
 -- the facts of the gathered seat, session by session
-pub stand : (n : ℕ) (log : List Entry) (order : List SessionData) → Each (StartsWith log) (map seen_by order) → Each (Matches n log) (map account_of order) → Each (Stands log) order
+pub stand : (n : ℕ) (log : List Entry) (order : List SessionData) → Each (StartsWith log) (map seen_by order) → Each (Matches n log) (map account_of order) → Each (InJournal log) order
 stand n log [] a b = tt
 stand n log (s ∷ ss) a b = ((a.0, b.0.0), stand n log ss a.1 b.1)
 

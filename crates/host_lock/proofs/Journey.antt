@@ -13,7 +13,7 @@ use Rattle.host_lock.specs.declared.view.Slot.TheVariants.{There, Away}
 use Rattle.host_lock.specs.History.{History, history}
 use Rattle.host_lock.specs.Journal.{replay, IsLegal, entries_of, StartsWith, entry}
 use Rattle.host_lock.specs.Rule.{M, nobody, has_slot, session_view, drawn, start_of, seen_of, mine_of, TakesSlot, HasCounted, HasTurned, IsOut, IsAtRest, view_in}
-use Rattle.host_lock.specs.Limits.{most_calls}
+use Rattle.host_lock.specs.Limits.{max_calls}
 use Rattle.host_lock.proofs.Logs.{entries_mine}
 
 module _ {F : Type 0} where
@@ -90,11 +90,11 @@ module _ {F : Type 0} where
 abbrev pub IsSettled : ℕ → ℕ → View → Type 0
 IsSettled number calls v = IsAtRest number calls v × IsLegal (start_of v) (seen_of v) × (entries_of number (seen_of v) ≡ mine_of v)
 
-pub settled : (h : Machine) (b number calls : ℕ) (log mine : List Entry) (v : View) → b ≡ most_calls - calls → IsLegal h log → entries_of number log ≡ mine → v ≡ session_view h Idle b log number mine → IsSettled number calls v
+pub settled : (h : Machine) (b number calls : ℕ) (log mine : List Entry) (v : View) → b ≡ max_calls - calls → IsLegal h log → entries_of number log ≡ mine → v ≡ session_view h Idle b log number mine → IsSettled number calls v
 settled h b number calls log mine v is legal same e = subst (IsSettled number calls) (sym e) (ap (λ (z : ℕ). session_view h Idle z log number mine) is, legal, same)
 
 module _ {F : Type 0} where
-  settles_by : (h : Machine) (b number calls u : ℕ) (s : PlainStep) (r : Reply) (log mine : List Entry) (m : M F) → b ≡ most_calls - calls → entries_of number log ≡ mine → (c : Bool)
+  settles_by : (h : Machine) (b number calls u : ℕ) (s : PlainStep) (r : Reply) (log mine : List Entry) (m : M F) → b ≡ max_calls - calls → entries_of number log ≡ mine → (c : Bool)
       → MatchBool c (IsLegal h log × (m ≡ (session_view h Idle b log number mine, [])))
       (IsLegal h (log ++ entry u number s r ∷ []) × (m ≡ (session_view h Idle b (log ++ entry u number s r ∷ []) number (mine ++ entry u number s r ∷ []), [])))
       → IsSettled number calls m.0
@@ -105,7 +105,7 @@ module _ {F : Type 0} where
 
   pub settles : (number calls u : ℕ) (s : PlainStep) (r : Reply) (v : View) (m₅ : M F) → IsAtRest number calls v → HasTurned v u number s r m₅ → IsSettled number (calls + 1) m₅.0
   settles number calls u s r v m₅ rested t =
-      let is : v.budget ≡ most_calls - calls = ap (λ (z : View). z.budget) rested in
+      let is : v.budget ≡ max_calls - calls = ap (λ (z : View). z.budget) rested in
       settles_by (start_of v) (v.budget - 1) number (calls + 1) u s r t.0 (mine_of v) m₅ (omega arith) t.2 (is_memory r) t.3
 
   -- the same of a session, which keeps a badge between two calls

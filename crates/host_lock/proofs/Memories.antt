@@ -9,7 +9,7 @@ use Rattle.requests.specs.Machine.{Machine}
 use Rattle.requests.specs.Memory.{is_memory}
 use Rattle.requests.specs.Refusals.{is_listing}
 use Rattle.requests.specs.Sound.{sound}
-use Rattle.requests.proofs.Refusing.{listing_same}
+use Rattle.requests.proofs.RefusalsChangeNothing.{listing_same}
 use Rattle.requests.proofs.Replies.{other}
 
 -- what a step that found memory did

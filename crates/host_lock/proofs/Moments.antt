@@ -9,7 +9,7 @@ use Rattle.requests.specs.Machine.{Machine}
 use Rattle.host_lock.specs.declared.journal.Entry.{Entry}
 use Rattle.host_lock.specs.Answers.{CallsInOrder}
 use Rattle.host_lock.specs.Journal.{entries_of, StartsWith, IsLegal, entry}
-use Rattle.host_lock.specs.Limits.{most_calls}
+use Rattle.host_lock.specs.Limits.{max_calls}
 use Rattle.host_lock.specs.Views.{Idle, View}
 use Rattle.host_lock.specs.Rule.{M, both, HasLearned, learned, longer, moment_view, session_view, start_of, seen_of, mine_of, view_in}
 use Rattle.host_lock.specs.Sessions.{Makes}
@@ -95,7 +95,7 @@ module _ {F : Type 0} where
       → (views' ≡ view_in views' ∷ []) × IsSettled number calls (view_in views') × SeesMore front (view_in views) (view_in views')
   badge_learns number calls front views views' m m' rested was t is =
       let s = subst (λ (vs : List View). IsSettled number calls (view_in vs)) was rested in
-      let budget : m.0.budget ≡ most_calls - calls = ap (λ (z : View). z.budget) s.0 in
+      let budget : m.0.budget ≡ max_calls - calls = ap (λ (z : View). z.budget) s.0 in
       let v : View = session_view (start_of m.0) Idle m.0.budget t.0 number (mine_of m.0) in
       let Q : View → Type 0 = λ z. IsSettled number calls z × SeesMore front m.0 z in
       let q : Q v = (settled (start_of m.0) m.0.budget number calls t.0 (mine_of m.0) v budget t.4 t.5 refl, (t.2, t.3, refl, refl)) in

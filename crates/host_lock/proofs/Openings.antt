@@ -4,8 +4,8 @@ use Rattle.atomic_table.specs.Table.{Splits}
 use Rattle.atomic_table.specs.Seated.{TableId}
 use Rattle.requests.specs.Machine.{Machine}
 use Rattle.host_lock.specs.Views.{Idle, View}
-use Rattle.host_lock.specs.Rule.{IsKept, fresh_view, session_view, split_left, split_right}
-use Rattle.host_lock.specs.Limits.{most_calls}
+use Rattle.host_lock.specs.Rule.{SharedInvariant, fresh_view, session_view, split_left, split_right}
+use Rattle.host_lock.specs.Limits.{max_calls}
 use Rattle.host_lock.specs.Sessions.{SessionData, new_session, new_sessions}
 use Rattle.host_lock.proofs.Turns.{splits}
 
@@ -21,19 +21,19 @@ one_more us i z h xs ys lt all is =
     ∙ ap (λ (l : List SessionData). xs ++ l) (sym (new_sessions_at us i z h lt)) ∙ all
 
 split_left_is : (h : Machine) (i k : ℕ) → split_left (fresh_view h i (suc k)) ≡ fresh_view h (i + 1) k
-split_left_is h i k = let e : suc k * most_calls - most_calls ≡ k * most_calls = omega arith in ap (λ (b : ℕ). record (fresh_view h (i + 1) k) { budget = b }) e
+split_left_is h i k = let e : suc k * max_calls - max_calls ≡ k * max_calls = omega arith in ap (λ (b : ℕ). record (fresh_view h (i + 1) k) { budget = b }) e
 
 -- a seat that owns k sessions from i on gives one away
-pub splits_one : (F : Type 0) (h r : Machine) (n id i k : ℕ) (v : View) → 0 < k → v ≡ fresh_view r i k → Splits (IsKept {F = F} h n) id v (split_left v) (split_right v)
+pub splits_one : (F : Type 0) (h r : Machine) (n id i k : ℕ) (v : View) → 0 < k → v ≡ fresh_view r i k → Splits (SharedInvariant {F = F} h n) id v (split_left v) (split_right v)
 splits_one F h r n id i zero v some e = absurd (omega arith)
 splits_one F h r n id i (suc k) v some e =
-    let P : View → Type 0 = λ z. Splits (IsKept {F = F} h n) id z (split_left z) (split_right z) in
-    subst P (sym e) (subst (λ (z : View). Splits (IsKept {F = F} h n) id (fresh_view r i (suc k)) z (session_view r Idle most_calls [] i [])) (sym (split_left_is r i k)) (splits h n r id i k))
+    let P : View → Type 0 = λ z. Splits (SharedInvariant {F = F} h n) id z (split_left z) (split_right z) in
+    subst P (sym e) (subst (λ (z : View). Splits (SharedInvariant {F = F} h n) id (fresh_view r i (suc k)) z (session_view r Idle max_calls [] i [])) (sym (split_left_is r i k)) (splits h n r id i k))
 
 pub left_is : (r : Machine) (i k : ℕ) (v w : View) → 0 < k → v ≡ fresh_view r i k → w ≡ split_left v → w ≡ fresh_view r (i + 1) (k - 1)
 left_is r i zero v w some e is = absurd (omega arith)
 left_is r i (suc k) v w some e is = let z : suc k - 1 ≡ k = omega arith in is ∙ ap split_left e ∙ split_left_is r i k ∙ ap (fresh_view r (i + 1)) (sym z)
 
-pub right_is : (r : Machine) (i k : ℕ) (v w : View) → 0 < k → v ≡ fresh_view r i k → w ≡ split_right v → w ≡ session_view r Idle most_calls [] i []
+pub right_is : (r : Machine) (i k : ℕ) (v w : View) → 0 < k → v ≡ fresh_view r i k → w ≡ split_right v → w ≡ session_view r Idle max_calls [] i []
 right_is r i zero v w some e is = absurd (omega arith)
 right_is r i (suc k) v w some e is = is ∙ ap split_right e

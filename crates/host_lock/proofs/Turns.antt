@@ -16,8 +16,8 @@ use Rattle.host_lock.specs.declared.view.Slot.{Slot}
 use Rattle.host_lock.specs.declared.view.Slot.TheVariants.{There, Away}
 use Rattle.host_lock.specs.History.{History, history}
 use Rattle.host_lock.specs.Journal.{StartsWith, next_entry}
-use Rattle.host_lock.specs.Rule.{M, total, Each, once, has_ticket, has_slot, owes, times, Matches, AtTurn, Fits, ticket_of, slot_of, number_of, parts_of, budget_of, calls_of, InSlot, IsKept, drawn, taken, drew, Takes, turned, learned, longer, shown, first_seen, ticket_in, counted, released, fresh, fresh_view, opening_view, both, session_view, Closes, Tells, start_of, seen_of, mine_of, TakesSlot}
-use Rattle.host_lock.specs.Limits.{most_sessions, most_calls}
+use Rattle.host_lock.specs.Rule.{M, total, Each, once, has_ticket, has_slot, owes, times, Matches, AtTurn, Fits, ticket_of, slot_of, number_of, parts_of, budget_of, calls_of, InSlot, SharedInvariant, drawn, taken, drew, Takes, turned, learned, longer, shown, first_seen, ticket_in, counted, released, fresh, fresh_view, opening_view, both, session_view, Closes, Tells, start_of, seen_of, mine_of, TakesSlot}
+use Rattle.host_lock.specs.Limits.{max_sessions, max_calls}
 use Rattle.host_lock.proofs.Logs.{entries_mine, entries_other, starts_longer}
 use Rattle.host_lock.proofs.Moments.{longer_is}
 use Rattle.host_lock.proofs.Totals.{once_same, once_else, total_set, total_snoc, total_one, total_two, total_find, seats_set, seats_snoc, each_map, each_append}
@@ -26,7 +26,7 @@ total_same : (f : View → ℕ) (l : List View) (i : ℕ) (v w : View) → get_e
 total_same f l i v w e is = let s = total_set f l i v w e in omega arith
 
 -- the next number of a word, which does not wrap
-no_wrap : (x : ℕ) → x < most_sessions * most_calls → (x + 1) % 18446744073709551616 ≡ x + 1
+no_wrap : (x : ℕ) → x < max_sessions * max_calls → (x + 1) % 18446744073709551616 ≡ x + 1
 no_wrap x small = let lt : x + 1 < 18446744073709551616 = omega arith in mod-eq_of_lt lt
 
 holder_ticket : (serving : ℕ) (log : List Entry) (g : Stage) (seen : List (List Entry)) → has_slot g ≡ 1 → AtTurn serving log g seen → (t : ℕ) → has_ticket t g ≡ once serving t
@@ -84,7 +84,7 @@ module _ (h : Machine) (n : ℕ) where
 module _ {F : Type 0} where
   module _ (h : Machine) (n : ℕ) where
     abbrev Rule : State (Slot F) View → Type 0
-    Rule = IsKept h n
+    Rule = SharedInvariant h n
 
     slot_same : (log : List Entry) (views : List View) (homes : List (maybe.Option (Slot F))) (id : ℕ) (v w : View) → get_elem? views id ≡ some v → slot_of w ≡ slot_of v → InSlot h log views homes
         → InSlot h log (set views id w) homes
@@ -323,15 +323,15 @@ module _ {F : Type 0} where
           refl,
         )
 
-    pub splits : (r₀ : Machine) (id i k : ℕ) → Splits Rule id (fresh_view r₀ i (suc k)) (fresh_view r₀ (i + 1) k) (session_view r₀ Idle most_calls [] i [])
+    pub splits : (r₀ : Machine) (id i k : ℕ) → Splits Rule id (fresh_view r₀ i (suc k)) (fresh_view r₀ (i + 1) k) (session_view r₀ Idle max_calls [] i [])
     splits r₀ id i k s r at =
         let v : View = fresh_view r₀ i (suc k) in
         let left : View = fresh_view r₀ (i + 1) k in
-        let right : View = session_view r₀ Idle most_calls [] i [] in
+        let right : View = session_view r₀ Idle max_calls [] i [] in
         let f = r.seats id v at in
         let sum : (g : View → ℕ) → g left + g right ≡ g v → total g (set s.views id left ++ right ∷ []) ≡ total g s.views =
         λ g is. let a = total_set g s.views id v left at in let b = total_snoc g (set s.views id left) right in omega arith in
-        let budgets : k * most_calls + most_calls ≡ suc k * most_calls = omega arith in record {
+        let budgets : k * max_calls + max_calls ≡ suc k * max_calls = omega arith in record {
           serving = r.serving;
           ticket = r.ticket;
           log = r.log;
@@ -460,7 +460,7 @@ module _ {F : Type 0} where
           (refl, (r.log, f.seen_is, each_map (Matches n r.log) (Tells r.log) v.owns (λ x k. k.0) f.owns_is)),
         )
 
-    pub opens : n ≤ most_sessions → Rule (opening (0 ∷ 0 ∷ 0 ∷ []) (There (history h []) ∷ []) (opening_view h n))
+    pub opens : n ≤ max_sessions → Rule (opening (0 ∷ 0 ∷ 0 ∷ []) (There (history h []) ∷ []) (opening_view h n))
     opens few = let v : View = opening_view h n in record {
       serving = 0;
       ticket = 0;
@@ -511,7 +511,7 @@ module _ {F : Type 0} where
   abbrev pub IsWaiting : ℕ → ℕ → (M F) → Type 0
   IsWaiting number ticket m = m ≡ (session_view (start_of m.0) (Waiting ticket) m.0.budget (seen_of m.0) number (mine_of m.0), [])
 
-  pub looks : (h : Machine) (n slots id number ticket : ℕ) (m : (M F)) → IsWaiting number ticket m → Allows (IsKept h n) slots id m 0 (λ x. x) (turned (step slots 0 0 0 none) m)
+  pub looks : (h : Machine) (n slots id number ticket : ℕ) (m : (M F)) → IsWaiting number ticket m → Allows (SharedInvariant h n) slots id m 0 (λ x. x) (turned (step slots 0 0 0 none) m)
   looks h n slots id number ticket m e = let one : length m.0.owns ≡ 1 = ap (λ (z : (M F)). length z.0.owns) e in turns h n slots id m ticket (ap (λ (z : (M F)). z.0.stage) e) (omega arith)
 
   takes₀ : (h : Machine) (b k ticket : ℕ) (x mine : List Entry) (m' : (M F)) → Takes (session_view h (Waiting ticket) b x k mine, []) ticket m' → TakesSlot (session_view h (Waiting ticket) b x k mine) k ticket m'
@@ -528,7 +528,7 @@ module _ {F : Type 0} where
   waits_on slots number ticket found m m' e t is = told slots number ticket found m m' e t false (ne_eqb found ticket is)
 
   pub leaves : (h : Machine) (n slots id number : ℕ) (k : History) (g : Stage) (x : (Slot F)) (v : View) (m : (M F)) → has_slot g ≡ 1 → v ≡ session_view k.start g v.budget k.log number (mine_of v) → m ≡ (v, (0, There k) ∷ [])
-      → Allows (IsKept h n) slots id m 0 (λ x. (x + 1) % 2 ^ 64) (released (step slots 0 1 0 none) m)
+      → Allows (SharedInvariant h n) slots id m 0 (λ x. (x + 1) % 2 ^ 64) (released (step slots 0 1 0 none) m)
   leaves h n slots id number k g x v m out is now =
-      let P : (M F) → Type 0 = λ m. Allows (IsKept h n) slots id m 0 (λ x. (x + 1) % 2 ^ 64) (released (step slots 0 1 0 none) m) in
+      let P : (M F) → Type 0 = λ m. Allows (SharedInvariant h n) slots id m 0 (λ x. (x + 1) % 2 ^ 64) (released (step slots 0 1 0 none) m) in
       subst P (sym (now ∙ ap (λ (z : View). (z, (0, There k) ∷ [])) is)) (releases h n slots id v.budget number k.start k.log (mine_of v) g out)

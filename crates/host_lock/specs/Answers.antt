@@ -8,17 +8,17 @@ use Rattle.host_lock.specs.declared.host.CloseRefusal.{CloseRefusal}
 use Rattle.host_lock.specs.declared.host.CloseRefusal.TheVariants.{Missing}
 use Rattle.host_lock.specs.declared.host.Answer.{Answer}
 use Rattle.host_lock.specs.declared.host.Answer.TheVariants.{Reply, Spent}
-use Rattle.host_lock.specs.Limits.{most_sessions, most_calls}
+use Rattle.host_lock.specs.Limits.{max_sessions, max_calls}
 use Rattle.requests.specs.declared.Reply.{Reply as AnyReply}
 use Rattle.requests.specs.Memory.{is_memory}
 use Rattle.host_lock.specs.declared.journal.Entry.{Entry}
 use Rattle.host_lock.specs.Journal.{StartsWith, entry}
-use Rattle.host_lock.specs.Sessions.{SessionData, HostData, Replies, IsOpenable, Stands}
+use Rattle.host_lock.specs.Sessions.{SessionData, HostData, Replies, IsOpenable, InJournal}
 
 -- the answer to a call of a session, and the session after it
 abbrev pub Calls : SessionData → PlainStep → Answer → SessionData → Type 0
-Calls v s (Reply r) w = (v.calls < most_calls) × Replies v s r w
-Calls v s Spent w = (v.calls ≡ most_calls) × (w ≡ v)
+Calls v s (Reply r) w = (v.calls < max_calls) × Replies v s r w
+Calls v s Spent w = (v.calls ≡ max_calls) × (w ≡ v)
 
 -- A session makes a call, and later a session makes one that has seen what the first had then seen. In the journal at
 -- the end, the entry of the first call comes before that of the second.
@@ -26,13 +26,13 @@ abbrev pub CallsInOrder : Type 0
 CallsInOrder =
     (v v' w w' : SessionData) (s t : PlainStep) (r q : AnyReply) (journal : List Entry)
     → Calls v s (Reply r) v' → is_memory r ≡ false → StartsWith w.seen v'.seen
-    → Calls w t (Reply q) w' → is_memory q ≡ false → Stands journal w'
+    → Calls w t (Reply q) w' → is_memory q ≡ false → InJournal journal w'
     → (front : List Entry) × (between : List Entry) × (rest : List Entry) × (journal ≡ front ++ entry v.uid v.number s r ∷ between ++ entry w.uid w.number t q ∷ rest)
 
 -- the reason for a refused opening, and the host that is given back
 abbrev pub RefusesFor : {F : Type 0} → Machine → List ℕ → OpenRefusal F → Type 0
 RefusesFor host us (NoSessions h) = (h ≡ host) × (length us ≡ 0)
-RefusesFor host us (TooMany h) = (h ≡ host) × (most_sessions < length us)
+RefusesFor host us (TooMany h) = (h ≡ host) × (max_sessions < length us)
 RefusesFor host us Memory = IsOpenable us
 
 -- fewer sessions were handed in than were opened, and all is given back

@@ -1,8 +1,8 @@
 -- The most sessions of a host, and the most calls of a session.
 use Rattle.std.specs.Prelude.{ℕ}
 
-abbrev pub most_sessions : ℕ
-most_sessions = 64
+abbrev pub max_sessions : ℕ
+max_sessions = 64
 
-abbrev pub most_calls : ℕ
-most_calls = 4294967295
+abbrev pub max_calls : ℕ
+max_calls = 4294967295

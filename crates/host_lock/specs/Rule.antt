@@ -15,7 +15,7 @@ use Rattle.host_lock.specs.Views.{Stage, Idle, Waiting, Holding, Counted, Accoun
 use Rattle.host_lock.specs.declared.view.Slot.{Slot}
 use Rattle.host_lock.specs.declared.view.Slot.TheVariants.{There, Away}
 use Rattle.host_lock.specs.History.{History, history}
-use Rattle.host_lock.specs.Limits.{most_sessions, most_calls}
+use Rattle.host_lock.specs.Limits.{max_sessions, max_calls}
 use Rattle.host_lock.specs.Journal.{IsLegal, entries_of, StartsWith, entry, next_entry}
 
 abbrev pub total : {V : Type 0} → (V → ℕ) → List V → ℕ
@@ -135,16 +135,16 @@ fresh n zero = []
 fresh n (suc k) = account n [] ∷ fresh (n + 1) k
 
 abbrev pub fresh_view : Machine → ℕ → ℕ → View
-fresh_view h n k = record { start = Some h; stage = Idle; budget = k * most_calls; seen = [] ∷ []; owns = fresh n k }
+fresh_view h n k = record { start = Some h; stage = Idle; budget = k * max_calls; seen = [] ∷ []; owns = fresh n k }
 
 abbrev pub opening_view : Machine → ℕ → View
 opening_view h sessions = fresh_view h 0 sessions
 
 abbrev pub split_left : View → View
-split_left v = record v { budget = v.budget - most_calls; owns = drop 1 v.owns }
+split_left v = record v { budget = v.budget - max_calls; owns = drop 1 v.owns }
 
 abbrev pub split_right : View → View
-split_right v = record v { budget = most_calls; owns = take 1 v.owns }
+split_right v = record v { budget = max_calls; owns = take 1 v.owns }
 
 abbrev pub both : View → View → View
 both v w = record v { budget = v.budget + w.budget; seen = v.seen ++ w.seen; owns = v.owns ++ w.owns }
@@ -185,7 +185,7 @@ mine_of v = (first_owned v.owns).mine
 
 -- the view of a session between two calls
 abbrev pub IsAtRest : ℕ → ℕ → View → Type 0
-IsAtRest number calls v = v ≡ session_view (start_of v) Idle (most_calls - calls) (seen_of v) number (mine_of v)
+IsAtRest number calls v = v ≡ session_view (start_of v) Idle (max_calls - calls) (seen_of v) number (mine_of v)
 
 -- the view of a badge
 abbrev pub view_in : List View → View
@@ -208,7 +208,7 @@ module _ {F : Type 0} where
   InSlot start log views homes =
       ((total slot_of views ≡ 0) × (homes ≡ some (There (history start log)) ∷ [])) ⊎ ((total slot_of views ≡ 1) × (homes ≡ none ∷ []))
 
-  pub record IsKept (start : Machine) (sessions : ℕ) (s : State (Slot F) View) : Type 0 where
+  pub record SharedInvariant (start : Machine) (sessions : ℕ) (s : State (Slot F) View) : Type 0 where
     pub serving : ℕ
     pub ticket : ℕ
     -- the longest list
@@ -228,8 +228,8 @@ module _ {F : Type 0} where
     pub past : (t : ℕ) → t < serving → total (ticket_of t) s.views ≡ 0
     pub later : (t : ℕ) → ticket ≤ t → total (ticket_of t) s.views ≡ 0
     -- so that no word wraps
-    pub tickets_left : total budget_of s.views + ticket ≤ most_sessions * most_calls
-    pub calls_left : total calls_of s.views + length log ≤ most_sessions * most_calls
+    pub tickets_left : total budget_of s.views + ticket ≤ max_sessions * max_calls
+    pub calls_left : total calls_of s.views + length log ≤ max_sessions * max_calls
 
   abbrev pub drew : At F → M F → ℕ → M F → Type 0
   drew st m n m' = m' ≡ (drawn m.0 n, m.1)

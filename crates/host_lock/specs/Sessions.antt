@@ -7,7 +7,7 @@ use Rattle.requests.specs.declared.Reply.{Reply}
 use Rattle.requests.specs.Memory.{is_memory}
 use Rattle.host_lock.specs.declared.journal.Entry.{Entry}
 use Rattle.host_lock.specs.Journal.{IsLegal, StartsWith, entries_of, entry}
-use Rattle.host_lock.specs.Limits.{most_sessions}
+use Rattle.host_lock.specs.Limits.{max_sessions}
 use Rattle.host_lock.specs.Rule.{account}
 use Rattle.host_lock.specs.Views.{Idle, Account, View}
 
@@ -63,8 +63,8 @@ abbrev pub Learns : List Entry → SessionData → SessionData → Type 0
 Learns front v w = IsSame v w × (w.calls ≡ v.calls) × (w.mine ≡ v.mine) × StartsWith w.seen v.seen × StartsWith w.seen front
 
 -- at the end: the journal begins with the part that the session saw, and its entries of the session are its own
-abbrev pub Stands : List Entry → SessionData → Type 0
-Stands log s = StartsWith log s.seen × (entries_of s.number log ≡ s.mine)
+abbrev pub InJournal : List Entry → SessionData → Type 0
+InJournal log s = StartsWith log s.seen × (entries_of s.number log ≡ s.mine)
 
 -- a session that has made no call
 abbrev pub new_session : ℕ → ℕ → TableId → Machine → SessionData
@@ -76,7 +76,7 @@ new_sessions n z h [] = []
 new_sessions n z h (u ∷ us) = new_session u n z h ∷ new_sessions (n + 1) z h us
 
 abbrev pub IsOpenable : List ℕ → Type 0
-IsOpenable us = (0 < length us) × (length us ≤ most_sessions)
+IsOpenable us = (0 < length us) × (length us ≤ max_sessions)
 
 abbrev pub IsAt : TableId → Machine → SessionData → Type 0
 IsAt z h s = (s.host ≡ z) × (s.start ≡ h)

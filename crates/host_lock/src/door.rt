@@ -20,7 +20,7 @@ const HINTS: u32 = 1024;
 /// `is_called`, `trying`) before it tries the lock a last time. A leaving caller opens the lock first, and then looks
 /// for a caller that is trying. If there is one, it will try the lock again later. Otherwise the leaving caller calls
 /// one sleeper, unless a called one is already on its way.
-pub(crate) struct Door {
+pub(crate) struct FairLock {
     lock: CachePadded<Mutex<()>>,
     /// The number of callers that are awake and try the lock.
     trying: CachePadded<AtomicU64>,
@@ -29,9 +29,9 @@ pub(crate) struct Door {
     sleepers: CachePadded<EventCount>,
 }
 
-impl Drop for Door {
+impl Drop for FairLock {
     fn drop(self) {
-        let Door {
+        let FairLock {
             lock: _,
             trying: _,
             is_called: _,
@@ -41,15 +41,15 @@ impl Drop for Door {
 }
 
 /// The guard of a caller that is inside.
-pub(crate) struct Inside<'a> {
-    door: &'a Door,
+pub(crate) struct LockGuard<'a> {
+    door: &'a FairLock,
     lock: MutexGuard<'a, ()>,
 }
 
-impl Door {
+impl FairLock {
     /// Creates a door with no caller inside.
-    pub(crate) fn new() -> Door {
-        Door {
+    pub(crate) fn new() -> FairLock {
+        FairLock {
             lock: CachePadded::new(Mutex::new(())),
             trying: CachePadded::new(AtomicU64::new(0)),
             is_called: CachePadded::new(AtomicBool::new(false)),
@@ -59,26 +59,26 @@ impl Door {
 
     /// Waits until no other caller is inside. Most calls end sooner than a sleeper wakes, so the caller first tries for
     /// a while. It tries seldom, so that the caller inside can make some calls in between.
-    pub(crate) fn enter<R: Wait>(&self, rt: &R) -> Inside<'_> {
+    pub(crate) fn enter<R: Wait>(&self, rt: &R) -> LockGuard<'_> {
         match self.lock.try_lock() {
-            Some(lock) => Inside { door: self, lock },
+            Some(lock) => LockGuard { door: self, lock },
             None => self.wait(rt),
         }
     }
 
     /// Tries for a while and then sleeps, until it gets in.
-    fn wait<R: Wait>(&self, rt: &R) -> Inside<'_> {
+    fn wait<R: Wait>(&self, rt: &R) -> LockGuard<'_> {
         self.trying.fetch_add(1, SeqCst);
         for _ in rt.forever() {
             if let Some(lock) = self.try_for_a_while() {
                 self.trying.fetch_sub(1, SeqCst);
-                return Inside { door: self, lock };
+                return LockGuard { door: self, lock };
             }
             let call = self.sleepers.prepare_wait();
             self.is_called.store(false, SeqCst);
             self.trying.fetch_sub(1, SeqCst);
             if let Some(lock) = self.lock.try_lock() {
-                return Inside { door: self, lock };
+                return LockGuard { door: self, lock };
             }
             call.wait(rt);
             self.trying.fetch_add(1, SeqCst);
@@ -100,10 +100,10 @@ impl Door {
     }
 }
 
-impl Inside<'_> {
+impl LockGuard<'_> {
     /// Opens the door for the next caller.
     pub(crate) fn leave(self) {
-        let Inside { door, lock } = self;
+        let LockGuard { door, lock } = self;
         drop(lock);
         let nobody_tries = door.trying.load(SeqCst) == 0;
         if nobody_tries && !door.is_called.load(SeqCst) && !door.is_called.swap(true, SeqCst) {

@@ -6,15 +6,15 @@ ghost use Rattle.host_lock.specs.Answers.{Calls, RefusesFor, GivesBack};
 ghost use Rattle.host_lock.specs.Journal.{asked, IsLegal, replay, StartsWith};
 ghost use Rattle.host_lock.specs.History.{history};
 ghost use Rattle.host_lock.specs.Rule.{Each, IsHostTable, fresh_view, opening_view, session_view, start_of, Matches};
-ghost use Rattle.host_lock.specs.Limits.{most_sessions, most_calls};
-ghost use Rattle.host_lock.specs.Sessions.{IsOf, IsMomentOf, IsTrue, Learns, Stands, new_session, new_sessions, IsOpenable, IsAt, IsBelow, SessionData, gathered, IsSame};
+ghost use Rattle.host_lock.specs.Limits.{max_sessions, max_calls};
+ghost use Rattle.host_lock.specs.Sessions.{IsOf, IsMomentOf, IsTrue, Learns, InJournal, new_session, new_sessions, IsOpenable, IsAt, IsBelow, SessionData, gathered, IsSame};
 ghost use Rattle.host_lock.specs.Views.{Idle};
 
-use crate::door::Door;
+use crate::door::FairLock;
 use crate::journal::Journal;
-use crate::limits::MOST_SESSIONS;
+use crate::limits::MAX_SESSIONS;
 use crate::moment::{Moment, learn, show};
-use crate::rule::{HostSeat, HostTable, JoinTwo, Origin, SplitOne};
+use crate::rule::{HostSeat, HostTable, JoinTwo, SplitOne, TableKey};
 use crate::session::{Session, budget_left};
 use crate::shared_state::SharedState;
 use crate::turn::turn;
@@ -35,7 +35,7 @@ pub struct SharedHost<F: Decider + Send + Drop> {
     table: HostTable<F>,
     /// A call enters it before it draws its ticket, and leaves it at its end. No contract depends on it, since a call
     /// also waits for its ticket.
-    door: Door,
+    door: FairLock,
     sessions: usize,
 }
 
@@ -69,7 +69,7 @@ impl<F: Decider + Send + Drop> Model for SharedHost<F> {
 #[derive(Debug, Drop)]
 pub enum Answer {
     Reply(Reply),
-    /// The session has already made `MOST_CALLS` calls.
+    /// The session has already made `MAX_CALLS` calls.
     Spent,
 }
 
@@ -78,7 +78,7 @@ pub enum Answer {
 pub enum OpenRefusal<F: Decider + Send + Drop> {
     /// No user was named. The host is given back.
     NoSessions(Host<F>),
-    /// More than `MOST_SESSIONS` users were named. The host is given back.
+    /// More than `MAX_SESSIONS` users were named. The host is given back.
     TooMany(Host<F>),
     /// Memory ran out. The host is dropped.
     Memory,
@@ -97,7 +97,7 @@ impl<F: Decider + Send + Drop> SharedHost<F> {
     ///
     /// # Errors
     ///
-    /// `NoSessions` where no user is named and `TooMany` where more than `MOST_SESSIONS` are: the host is given back.
+    /// `NoSessions` where no user is named and `TooMany` where more than `MAX_SESSIONS` are: the host is given back.
     /// `Memory` where memory runs out: the host is dropped.
     pub fn open(
         alloc: Global,
@@ -127,7 +127,7 @@ impl<F: Decider + Send + Drop> SharedHost<F> {
         if users.is_empty() {
             return Err(OpenRefusal::NoSessions(host));
         }
-        if users.len() > MOST_SESSIONS {
+        if users.len() > MAX_SESSIONS {
             return Err(OpenRefusal::TooMany(host));
         }
         match share(alloc, host, users, calls) {
@@ -143,7 +143,7 @@ impl<F: Decider + Send + Drop> SharedHost<F> {
         ensures legal { IfOk result (λ r. IsLegal self.start r.1) }
         ensures host { IfOk result (λ r. r.0 ≡ replay self.start r.1) }
         ensures users { IfOk result (λ r. Users (asked r.1)) }
-        ensures sessions { IfOk result (λ r. All (Stands r.1) sessions.items) }
+        ensures sessions { IfOk result (λ r. All (InJournal r.1) sessions.items) }
         ensures entries { IfOk result (λ r. All (IsBelow self.sessions) r.1) }
         ensures all { OnOk result (self.sessions ≤ length sessions.items) }
         ensures missing { IfErr result (GivesBack self sessions.items) }
@@ -166,7 +166,7 @@ impl<F: Decider + Send + Drop> SharedHost<F> {
     }
 
     /// Makes one step of the session's user. It may wait for the calls of other sessions. The step takes effect at its
-    /// place in the journal. Where the session has already made `MOST_CALLS` calls, the answer is `Spent`, and nothing
+    /// place in the journal. Where the session has already made `MAX_CALLS` calls, the answer is `Spent`, and nothing
     /// changes. A call with the reply ENOMEM has no place in the journal, and changes only the count of calls.
     pub fn call<R: Wait>(
         &self,
@@ -242,11 +242,11 @@ fn make_table<F: Decider + Send + Drop>(
     sessions: usize,
     calls: usize,
 ) -> Result<(HostTable<F>, HostSeat<F>), AllocError>
-    requires { (0 < sessions) × (sessions ≤ most_sessions) }
+    requires { (0 < sessions) × (sessions ≤ max_sessions) }
     ensures table { IfOk result (λ t. IsHostTable t.0.shared.table_id × (t.0.shared.key.start.value ≡ host) × (t.0.shared.key.sessions ≡ sessions)) }
     ensures seat { IfOk result (λ t. (t.1.table_id ≡ t.0.shared.table_id) × (t.1.me ≡ (fresh_view host 0 sessions, []))) }
 {
-    let about = Origin {
+    let about = TableKey {
         start: Snapshot::of(&host),
         sessions,
     };
@@ -277,7 +277,7 @@ fn opening_state<F: Decider + Send + Drop>(
 
 /// Creates a session that has made no call.
 fn make_session<F: Decider + Send + Drop>(uid: Uid, number: usize, seat: HostSeat<F>) -> Session
-    requires { seat.me ≡ (session_view (start_of seat.me.0) Idle most_calls [] number [], []) }
+    requires { seat.me ≡ (session_view (start_of seat.me.0) Idle max_calls [] number [], []) }
     ensures { result ≡ new_session uid number seat.table_id (start_of seat.me.0) }
 {
     Session {
@@ -307,14 +307,14 @@ fn make_sessions<F: Decider + Send + Drop>(
     Ok(sessions)
 }
 
-/// Shares the host among the users. There are 1 to `MOST_SESSIONS` of them.
+/// Shares the host among the users. There are 1 to `MAX_SESSIONS` of them.
 fn share<F: Decider + Send + Drop>(
     alloc: Global,
     host: Host<F>,
     users: &[Uid],
     calls: usize,
 ) -> Result<(SharedHost<F>, Vec<Session>), AllocError>
-    requires { (0 < length users.now) × (length users.now ≤ most_sessions) }
+    requires { (0 < length users.now) × (length users.now ≤ max_sessions) }
     ensures host { IfOk result (λ r. (r.0.start ≡ host) × (r.0.sessions ≡ length users.now)) }
     ensures sessions { IfOk result (λ r. r.1.items ≡ new_sessions 0 r.0.id host users.now) }
 {
@@ -322,7 +322,7 @@ fn share<F: Decider + Send + Drop>(
     let sessions = make_sessions(alloc, &table, unsplit, users)?;
     let host = SharedHost {
         table,
-        door: Door::new(),
+        door: FairLock::new(),
         sessions: users.len(),
     };
     Ok((host, sessions))

@@ -11,24 +11,24 @@ use stop_handlers::Decider;
 
 /// The key of a table: the host at opening, which only contracts see, and the number of sessions.
 #[derive(Drop)]
-pub struct Origin<F: Decider + Send + Drop> {
+pub struct TableKey<F: Decider + Send + Drop> {
     pub start: Snapshot<Host<F>>,
     pub sessions: usize,
 }
 
-pub struct Law;
+pub struct HostRule;
 
-impl<F: Decider + Send + Drop> TableRule<Slot<F>, View, Origin<F>> for Law {
-    ghost use Rattle.host_lock.specs.Rule.{IsKept, opening_view};
+impl<F: Decider + Send + Drop> TableRule<Slot<F>, View, TableKey<F>> for HostRule {
+    ghost use Rattle.host_lock.specs.Rule.{SharedInvariant, opening_view};
 
-    ghost holds = { λ o s. IsKept o.start.value o.sessions s };
+    ghost holds = { λ o s. SharedInvariant o.start.value o.sessions s };
 
     ghost first = { λ o. opening_view o.start.value o.sessions };
 }
 
-pub type HostTable<F> = Table<Slot<F>, View, Origin<F>, Law, Global>;
+pub type HostTable<F> = Table<Slot<F>, View, TableKey<F>, HostRule, Global>;
 
-pub type SharedTable<F> = Shared<Slot<F>, View, Origin<F>, Law>;
+pub type SharedTable<F> = Shared<Slot<F>, View, TableKey<F>, HostRule>;
 
 pub type HostSeat<F> = Seat<Slot<F>, View>;
 

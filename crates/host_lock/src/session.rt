@@ -2,10 +2,10 @@
 
 ghost use Rattle.std.specs.Prelude.{◌≡◌, ℕ, ◌<◌, ◌-◌, [], ◌↔◌, IsTrue};
 ghost use Rattle.host_lock.specs.Rule.{session_view};
-ghost use Rattle.host_lock.specs.Limits.{most_calls};
+ghost use Rattle.host_lock.specs.Limits.{max_calls};
 ghost use Rattle.host_lock.specs.Views.{Idle};
 
-use crate::limits::MOST_CALLS;
+use crate::limits::MAX_CALLS;
 use crate::rule::HostSeat;
 use crate::view::View;
 use atomic_table::Badge;
@@ -50,7 +50,7 @@ impl Model for Session {
 
 impl Session {
     pub(crate) fn into_seat<F: Decider + Send + Drop>(self) -> HostSeat<F>
-        ensures { (result.table_id ≡ self.host) × (result.me ≡ (session_view self.start Idle (most_calls - self.calls) self.seen self.number self.mine, [])) }
+        ensures { (result.table_id ≡ self.host) × (result.me ≡ (session_view self.start Idle (max_calls - self.calls) self.seen self.number self.mine, [])) }
     {
         let Session {
             uid: _,
@@ -85,7 +85,7 @@ impl Session {
 
 /// Returns whether a session that has made `calls_made` calls may make one more.
 pub fn budget_left(calls_made: u32) -> bool
-    ensures { IsTrue result ↔ (calls_made < most_calls) }
+    ensures { IsTrue result ↔ (calls_made < max_calls) }
 {
-    calls_made < MOST_CALLS
+    calls_made < MAX_CALLS
 }

@@ -3,19 +3,19 @@ use Rattle.std.proofs.Common.{◌≡◌, ◌≢◌, ℕ, List, take, Option, Non
 use Rattle.std.specs.Prelude.{⊤, Result, Ok, Err, IfSome}
 use Rattle.std.specs.Result.{IsErrAnd}
 use Rattle.std.specs.Io.KnownBytes.{Appends}
-use Rattle.line_io.specs.declared.reading.LineEnd.{LineEnd}
-use Rattle.line_io.specs.declared.reading.LineEnd.TheVariants.{Feed, Input}
+use Rattle.byte_io.specs.declared.reading.LineEnd.{LineEnd}
+use Rattle.byte_io.specs.declared.reading.LineEnd.TheVariants.{Feed, Input}
 use Rattle.requests.specs.Machine.{Machine}
 use Rattle.scenario.specs.declared.style.Style.{Style}
 use Rattle.open_sessions.specs.Open.{OpenSession}
 use Rattle.open_sessions.specs.Calls.{Answers, last_text}
-use Rattle.line_sessions.specs.declared.fault.ServeFault.{ServeFault}
-use Rattle.line_sessions.specs.declared.fault.ServeFault.TheVariants.{Read, Write, Memory, TooManyLines}
+use Rattle.line_sessions.specs.declared.fault.ServeError.{ServeError}
+use Rattle.line_sessions.specs.declared.fault.ServeError.TheVariants.{Read, Write, Memory, TooManyLines}
 use Rattle.line_sessions.specs.Sessions.{Serves}
 use Rattle.line_sessions.specs.Turns.{Writes, Told}
 
 -- a line was answered, and its answer written
-pub told_by : (style : Style) (result : Result ⊤ ServeFault) (line : List ℕ) (s t : OpenSession) (had has : Option (List ℕ)) → Answers line s t → Writes result (last_text style t) had has
+pub told_by : (style : Style) (result : Result ⊤ ServeError) (line : List ℕ) (s t : OpenSession) (had has : Option (List ℕ)) → Answers line s t → Writes result (last_text style t) had has
     → Told style result line s.host t.host s.made t.made had has
 told_by style (Ok done) line s t had has p w = (p.reply, p.answers, p.counts, subst (Appends had has) (p.text style) w)
 told_by style (Err Write) line s t had has p w =
@@ -24,7 +24,7 @@ told_by style (Err Read) line s t had has p w = w
 told_by style (Err Memory) line s t had has p w = w
 told_by style (Err TooManyLines) line s t had has p w = w
 
-pub serves_by : (style : Style) (m : Machine) (r u h w : Option (List ℕ)) (result : Result ⊤ ServeFault) (e : ServeFault) → IsErrAnd result (λ x. x ≡ e) → Serves style (Err e) m r u h w → Serves style result m r u h w
+pub serves_by : (style : Style) (m : Machine) (r u h w : Option (List ℕ)) (result : Result ⊤ ServeError) (e : ServeError) → IsErrAnd result (λ x. x ≡ e) → Serves style (Err e) m r u h w → Serves style result m r u h w
 serves_by style m r u h w (Ok done) e is p = absurd is
 serves_by style m r u h w (Err x) e is p = subst (λ y. Serves style (Err y) m r u h w) (sym is) p
 
@@ -42,5 +42,5 @@ input_feed x end some is feed = true≢false (ap is_input (sym (some ∙ ap Some
 pub some_so : {X : Type 0} (x : Option X) (P : X → Type 0) (a : X) → x ≡ Some a → IfSome x P → P a
 some_so x P a is p = subst (λ y. IfSome y P) is p
 
-pub serves_from : (style : Style) (result : Result ⊤ ServeFault) (m n : Machine) (r u h w : Option (List ℕ)) → m ≡ n → Serves style result m r u h w → Serves style result n r u h w
+pub serves_from : (style : Style) (result : Result ⊤ ServeError) (m n : Machine) (r u h w : Option (List ℕ)) → m ≡ n → Serves style result m r u h w → Serves style result n r u h w
 serves_from style result m n r u h w is p = subst (λ x. Serves style result x r u h w) is p

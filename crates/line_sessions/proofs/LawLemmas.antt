@@ -9,7 +9,7 @@ use Rattle.requests.specs.Memory.{is_memory}
 use Rattle.requests.specs.Run.{Asked, replies}
 use Rattle.visibility.specs.Runs.{told, Did}
 use Rattle.visibility.proofs.Answered.{runs_are_private}
-use Rattle.visibility.proofs.Apart.{empty_apart}
+use Rattle.visibility.proofs.Apart.{users_are_apart_at_first}
 use Rattle.scenario_text.specs.declared.fault.Fault.{Fault}
 use Rattle.scenario.specs.declared.style.Style.{Style}
 use Rattle.scenario.specs.Lines.{Answered, line, lines_after, text_of}
@@ -111,4 +111,4 @@ found lines m rs k answers = absurd answers
 pub sessions_are_private : SessionsArePrivate
 sessions_are_private settings lines rs k answers =
     let at = found lines (empty settings) rs k answers in
-    (at.steps, at.are, runs_are_private at.steps (map (λ r. told r) (replies_in rs)) (empty settings) k at.users (empty_apart settings) at.ran)
+    (at.steps, at.are, runs_are_private at.steps (map (λ r. told r) (replies_in rs)) (empty settings) k at.users (users_are_apart_at_first settings) at.ran)

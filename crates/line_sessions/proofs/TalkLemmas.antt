@@ -5,11 +5,11 @@ use Rattle.std.specs.Io.KnownBytes.{Appends, Consumes, Keeps, IsAtEnd}
 use Rattle.std.proofs.Math.Seq.{take-append-add}
 use Rattle.std.proofs.lemmas.Bool.{cases_lt}
 use Rattle.std.proofs.lemmas.List.{append_assoc, append-nil, length-take}
-use Rattle.line_io.specs.declared.reading.LineEnd.{LineEnd}
-use Rattle.line_io.specs.declared.reading.LineEnd.TheVariants.{Feed, Input}
-use Rattle.line_io.specs.Lines.{lines_in, NoFeed, Loses, end_bytes}
-use Rattle.line_io.proofs.LineLemmas.{Whole, whole_start, whole_line, whole_more, lines_last, lines_one}
-use Rattle.line_io.proofs.ReadLemmas.{consumes_more}
+use Rattle.byte_io.specs.declared.reading.LineEnd.{LineEnd}
+use Rattle.byte_io.specs.declared.reading.LineEnd.TheVariants.{Feed, Input}
+use Rattle.byte_io.specs.Lines.{lines_in, NoFeed, Loses, end_bytes}
+use Rattle.byte_io.proofs.LineLemmas.{Whole, whole_start, whole_line, whole_more, lines_last, lines_one}
+use Rattle.byte_io.proofs.ReadLemmas.{consumes_more}
 use Rattle.pid_blocks.specs.Users.{IsUser}
 use Rattle.requests.specs.Machine.{Machine}
 use Rattle.scenario.proofs.LineLemmas.{Counted, counted_more, counted_number}
@@ -17,29 +17,29 @@ use Rattle.scenario.proofs.WriteLemmas.{appends_more, appends_kept}
 use Rattle.scenario_text.specs.declared.fault.Fault.{Fault}
 use Rattle.scenario.specs.declared.style.Style.{Style}
 use Rattle.scenario.specs.Lines.{line}
-use Rattle.scenario_text.specs.OneStep.{IsStep, too_long, no_value, value, most_step_bytes}
+use Rattle.scenario_text.specs.OneStep.{IsStep, too_long, no_value, value, max_step_bytes}
 use Rattle.requests.specs.Run.{Asked}
-use Rattle.line_sessions.specs.declared.fault.ServeFault.{ServeFault}
-use Rattle.line_sessions.specs.declared.fault.ServeFault.TheVariants.{Read, Write, Memory, TooManyLines}
+use Rattle.line_sessions.specs.declared.fault.ServeError.{ServeError}
+use Rattle.line_sessions.specs.declared.fault.ServeError.TheVariants.{Read, Write, Memory, TooManyLines}
 use Rattle.open_sessions.specs.Answers.{LineReply, AnswersLine, step, refused, reply_text, made_after}
 use Rattle.line_sessions.specs.Sessions.{AnswersLines, text_after, text_of, Talk, Serves}
 use Rattle.line_sessions.specs.Turns.{kept, Told}
 
 -- ---- a line that is longer than a step
 
-step_of_kept : (text : List ℕ) (q : Result Asked Fault) → most_step_bytes < length text → IsStep (kept text) q → IsStep text q
+step_of_kept : (text : List ℕ) (q : Result Asked Fault) → max_step_bytes < length text → IsStep (kept text) q → IsStep text q
 step_of_kept text q long (too_long h) = too_long long
-step_of_kept text q long (no_value short h) = let all = length-take (most_step_bytes + 1) text in absurd (omega arith)
-step_of_kept text q long (value d short h) = let all = length-take (most_step_bytes + 1) text in absurd (omega arith)
+step_of_kept text q long (no_value short h) = let all = length-take (max_step_bytes + 1) text in absurd (omega arith)
+step_of_kept text q long (value d short h) = let all = length-take (max_step_bytes + 1) text in absurd (omega arith)
 
-answers_long : (text : List ℕ) (m : Machine) (r : LineReply) (k : Machine) → most_step_bytes < length text → AnswersLine (kept text) m r k → AnswersLine text m r k
+answers_long : (text : List ℕ) (m : Machine) (r : LineReply) (k : Machine) → max_step_bytes < length text → AnswersLine (kept text) m r k → AnswersLine text m r k
 answers_long text m r k long (step a reply after is user did) = step a reply after (step_of_kept text (Ok a) long is) user did
 answers_long text m r k long (refused f is) = refused f (step_of_kept text (Err f) long is)
 
 pub answers_kept : (text : List ℕ) (m : Machine) (r : LineReply) (k : Machine) → AnswersLine (kept text) m r k → AnswersLine text m r k
-answers_kept text m r k p = elim (cases_lt most_step_bytes (length text)) [
+answers_kept text m r k p = elim (cases_lt max_step_bytes (length text)) [
   | inl long ↦ answers_long text m r k long p
-  | inr short ↦ subst (λ t. AnswersLine t m r k) (take_all (most_step_bytes + 1) text (omega arith)) p
+  | inr short ↦ subst (λ t. AnswersLine t m r k) (take_all (max_step_bytes + 1) text (omega arith)) p
 ]
 
 -- ---- one more answer
@@ -166,7 +166,7 @@ module _ (style : Style) (first : Machine) (r u h w : Option (List ℕ)) (m : Ma
         (at.replies ++ (told.0 ∷ []), line_answered k told.0 some told.1, subst P (sym (text_answered told.0 (to_user told.1))) (appends_more h w x (text_of style at.replies) (reply_text style made told.0) at.told told.3), at_end r u v at.bytes at.taken over)
 
     -- a line was taken, and its answer was not written
-    pub fails : (k : Machine) (after : List ℕ) (x : Option (List ℕ)) (e : ServeFault) → (end ≡ Input → 0 < length text) → Told style (Err e) (kept text) m k made after w x → Serves style (Err e) first r v h x
+    pub fails : (k : Machine) (after : List ℕ) (x : Option (List ℕ)) (e : ServeError) → (end ≡ Input → 0 < length text) → Told style (Err e) (kept text) m k made after w x → Serves style (Err e) first r v h x
     fails k after x Write some told =
         let P : List ℕ → Type 0 = λ t. Appends h x t in
         let one = reply_text style made told.0 in
@@ -178,7 +178,7 @@ module _ (style : Style) (first : Machine) (r u h w : Option (List ℕ)) (m : Ma
     fails k after x e some told = stops x (text ++ end_bytes end) (lines_one text end lost.0) lost.1 told
 
   -- the next line could not be read
-  pub cannot_read : (e : ServeFault) → (e ≡ Read) ⊎ (e ≡ Memory) → (text : List ℕ) → Loses u v text [] → Serves style (Err e) first r v h w
+  pub cannot_read : (e : ServeError) → (e ≡ Read) ⊎ (e ≡ Memory) → (text : List ℕ) → Loses u v text [] → Serves style (Err e) first r v h w
   cannot_read e kind text lost =
       let few = lines_one text Input lost.0 in
       let left = stops w (text ++ []) few lost.1 (keeps_same w) in
@@ -234,7 +234,7 @@ module _ (style : Style) (first : Machine) (r u h w : Option (List ℕ)) (m : Ma
   )
 
 -- the answer to the kept bytes of a line
-pub told_kept : (style : Style) (result : Result ⊤ ServeFault) (line items text : List ℕ) (m k : Machine) (made after : List ℕ) (had has : Option (List ℕ)) → line ≡ items → items ≡ kept text
+pub told_kept : (style : Style) (result : Result ⊤ ServeError) (line items text : List ℕ) (m k : Machine) (made after : List ℕ) (had has : Option (List ℕ)) → line ≡ items → items ≡ kept text
     → Told style result line m k made after had has → Told style result (kept text) m k made after had has
 told_kept style result line items text m k made after had has p q told = subst (λ t. Told style result t m k made after had has) (p ∙ q) told
 

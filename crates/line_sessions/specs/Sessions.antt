@@ -5,9 +5,9 @@ use Rattle.requests.specs.Machine.{Machine}
 use Rattle.scenario.specs.declared.style.Style.{Style}
 use Rattle.scenario.specs.Lines.{line}
 use Rattle.open_sessions.specs.Answers.{LineReply, AnswersLine, refusal}
-use Rattle.line_sessions.specs.declared.fault.ServeFault.{ServeFault}
-use Rattle.line_sessions.specs.declared.fault.ServeFault.TheVariants.{Write}
-use Rattle.line_io.specs.Lines.{lines_in}
+use Rattle.line_sessions.specs.declared.fault.ServeError.{ServeError}
+use Rattle.line_sessions.specs.declared.fault.ServeError.TheVariants.{Write}
+use Rattle.byte_io.specs.Lines.{lines_in}
 
 -- the answers to lines in order, on a host that is m before and k after them
 abbrev pub AnswersLines : List (List ℕ) → Machine → List LineReply → Machine → Type 0
@@ -40,7 +40,7 @@ pub record Talk (m : Machine) (read unread : Option (List ℕ)) (rest : List ℕ
 -- A session from the host m on. At the end of the input all lines were answered, and the writer has got the text of the
 -- answers. Where a write failed, it has got a front of that text. Else it has got the text of the answers to all lines
 -- except a last one, of which nothing, a part or all was taken.
-abbrev pub Serves : Style → Result ⊤ ServeFault → Machine → (read unread had has : Option (List ℕ)) → Type 0
+abbrev pub Serves : Style → Result ⊤ ServeError → Machine → (read unread had has : Option (List ℕ)) → Type 0
 Serves style (Ok done) m read unread had has =
     (rs : List LineReply) × Talk m read unread [] rs × Appends had has (text_of style rs) × IfSome read (λ _. IsAtEnd unread)
 Serves style (Err Write) m read unread had has =

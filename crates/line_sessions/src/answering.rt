@@ -2,8 +2,8 @@
 ghost use Rattle.open_sessions.specs.Calls.{last_text};
 ghost use Rattle.line_sessions.specs.Turns.{Told, Writes};
 
-use crate::fault::ServeFault;
-use line_io::write_flushed;
+use crate::fault::ServeError;
+use byte_io::write_flushed;
 use open_sessions::{Session, SessionFault};
 use scenario::Style;
 use std::alloc::Global;
@@ -16,16 +16,16 @@ fn write_last<W: Write>(
     session: &Session,
     text: &mut String,
     writer: &mut W,
-) -> Result<(), ServeFault>
+) -> Result<(), ServeError>
     ensures { Writes result (last_text style session.now) (W.contents writer.old) (W.contents writer.new) }
 {
     text.clear();
     match session.push_line(alloc, style, text) {
         Ok(()) => match write_flushed(writer, text.as_bytes()) {
             Ok(()) => Ok(()),
-            Err(_) => Err(ServeFault::Write),
+            Err(_) => Err(ServeError::Write),
         },
-        Err(_) => Err(ServeFault::Memory),
+        Err(_) => Err(ServeError::Memory),
     }
 }
 
@@ -37,12 +37,12 @@ pub(crate) fn answer_line<W: Write>(
     line: &[u8],
     text: &mut String,
     writer: &mut W,
-) -> Result<(), ServeFault>
+) -> Result<(), ServeError>
     ensures { Told style result line.now session.old.host session.new.host session.old.made session.new.made (W.contents writer.old) (W.contents writer.new) }
 {
     match session.answer(alloc, line) {
         Ok(()) => write_last(alloc, style, session, text, writer),
-        Err(SessionFault::Memory) => Err(ServeFault::Memory),
-        Err(SessionFault::TooManyAnswers) => Err(ServeFault::TooManyLines),
+        Err(SessionFault::Memory) => Err(ServeError::Memory),
+        Err(SessionFault::TooManyAnswers) => Err(ServeError::TooManyLines),
     }
 }

@@ -1,5 +1,5 @@
 ghost use Rattle.std.specs.Prelude.{◌≡◌};
-ghost use Rattle.line_sessions.specs.declared.fault.ServeFault.TheVariants.{Memory};
+ghost use Rattle.line_sessions.specs.declared.fault.ServeError.TheVariants.{Memory};
 ghost use Rattle.line_sessions.specs.Faults.{serve_fault_status};
 
 use std::alloc::{AllocError, AllocFailed};
@@ -7,7 +7,7 @@ use thiserror::Error;
 
 /// The reason why a session ended before the end of its input.
 #[derive(Clone, Copy, Debug, PartialEq, Eq, Error)]
-pub enum ServeFault {
+pub enum ServeError {
     /// The reader failed.
     #[error("tracehost: cannot read")]
     Read,
@@ -22,30 +22,30 @@ pub enum ServeFault {
     TooManyLines,
 }
 
-impl ServeFault {
+impl ServeError {
     /// Returns the exit status of a program that ends with the fault.
     pub fn status(&self) -> u8
         ensures { result ≡ serve_fault_status self.now }
     {
         match self {
-            ServeFault::Read | ServeFault::Write | ServeFault::Memory => 3,
-            ServeFault::TooManyLines => 1,
+            ServeError::Read | ServeError::Write | ServeError::Memory => 3,
+            ServeError::TooManyLines => 1,
         }
     }
 }
 
-impl From<AllocError> for ServeFault {
+impl From<AllocError> for ServeError {
     ghost from_gives = { λ _ e. e ≡ Memory };
 
-    fn from(_refused: AllocError) -> ServeFault {
-        ServeFault::Memory
+    fn from(_refused: AllocError) -> ServeError {
+        ServeError::Memory
     }
 }
 
-impl<T: Drop> From<AllocFailed<T>> for ServeFault {
+impl<T: Drop> From<AllocFailed<T>> for ServeError {
     ghost from_gives = { λ _ e. e ≡ Memory };
 
-    fn from(_refused: AllocFailed<T>) -> ServeFault {
-        ServeFault::Memory
+    fn from(_refused: AllocFailed<T>) -> ServeError {
+        ServeError::Memory
     }
 }

@@ -6,7 +6,7 @@ mod fault;
 pub mod laws;
 mod serving;
 
-pub use fault::ServeFault;
+pub use fault::ServeError;
 pub use serving::serve;
 
 #[cfg(test)]

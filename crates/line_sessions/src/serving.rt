@@ -1,25 +1,25 @@
 //! A session from its first line to its last.
 ghost use Rattle.std.specs.Prelude.{◌≡◌, ◌≢◌, ◌<◌, ◌⊎◌, ℕ, List, [], Ok, None, Some, length, replicate, IfOk, IfErr, IfSome, OnErr};
 ghost use Rattle.std.specs.Io.KnownBytes.{Consumes, IsAtEnd};
-ghost use Rattle.line_io.specs.declared.reading.LineEnd.TheVariants.{Feed, Input};
-ghost use Rattle.line_io.specs.Lines.{Loses, end_bytes};
+ghost use Rattle.byte_io.specs.declared.reading.LineEnd.TheVariants.{Feed, Input};
+ghost use Rattle.byte_io.specs.Lines.{Loses, end_bytes};
 ghost use Rattle.requests.specs.Machine.{empty};
-ghost use Rattle.line_sessions.specs.declared.fault.ServeFault.TheVariants.{Read as ReadFault, Memory};
+ghost use Rattle.line_sessions.specs.declared.fault.ServeError.TheVariants.{Read as ReadFault, Memory};
 ghost use Rattle.line_sessions.specs.Sessions.{Serves};
 ghost use Rattle.line_sessions.specs.Turns.{kept};
 
 use crate::answering::answer_line;
-use crate::fault::ServeFault;
-use line_io::{LineEnd, read_line};
+use crate::fault::ServeError;
+use byte_io::{LineEnd, read_line};
 use open_sessions::Session;
-use scenario::{MOST_STEP_BYTES, Style};
+use scenario::{MAX_STEP_BYTES, Style};
 use std::alloc::Global;
 use std::io::{BufRead, ErrorKind, Write};
 use trace_stop::Settings;
 
 /// Reads the next line, and returns its end, or `None` at the end of the input. Of a line that is too long for a step
 /// it keeps one byte too many, so that the line is refused.
-fn next_line<R: BufRead>(reader: &mut R, line: &mut Vec<u8>) -> Result<Option<LineEnd>, ServeFault>
+fn next_line<R: BufRead>(reader: &mut R, line: &mut Vec<u8>) -> Result<Option<LineEnd>, ServeError>
     ensures line { IfOk result (λ found. IfSome found (λ end. (text : List ℕ)
         × Loses (R.Read.remaining reader.old) (R.Read.remaining reader.new) text (end_bytes end)
         × (line.new.items ≡ kept text) × (end ≡ Input → 0 < length text))) }
@@ -28,12 +28,12 @@ fn next_line<R: BufRead>(reader: &mut R, line: &mut Vec<u8>) -> Result<Option<Li
     ensures err { OnErr result ((text : List ℕ) × Loses (R.Read.remaining reader.old) (R.Read.remaining reader.new) text []) }
     ensures kind { IfErr result (λ e. (e ≡ ReadFault) ⊎ (e ≡ Memory)) }
 {
-    match read_line(reader, MOST_STEP_BYTES + 1, line) {
+    match read_line(reader, MAX_STEP_BYTES + 1, line) {
         Ok(LineEnd::Feed) => Ok(Some(LineEnd::Feed)),
         Ok(LineEnd::Input) if line.is_empty() => Ok(None),
         Ok(LineEnd::Input) => Ok(Some(LineEnd::Input)),
-        Err(error) if error.kind() == ErrorKind::OutOfMemory => Err(ServeFault::Memory),
-        Err(_) => Err(ServeFault::Read),
+        Err(error) if error.kind() == ErrorKind::OutOfMemory => Err(ServeError::Memory),
+        Err(_) => Err(ServeError::Read),
     }
 }
 
@@ -47,7 +47,7 @@ fn answer_all<R: BufRead, W: Write>(
     text: &mut String,
     reader: &mut R,
     writer: &mut W,
-) -> Result<(), ServeFault>
+) -> Result<(), ServeError>
     requires { session.old.made ≡ replicate 64 0 }
     ensures { Serves style result session.old.host (R.Read.remaining reader.old) (R.Read.remaining reader.new) (W.contents writer.old) (W.contents writer.new) }
 {
@@ -60,7 +60,7 @@ fn answer_all<R: BufRead, W: Write>(
             return Ok(());
         }
     }
-    Err(ServeFault::TooManyLines)
+    Err(ServeError::TooManyLines)
 }
 
 /// Answers each line of the reader by a line to the writer, until the reader's end. A new host with these settings
@@ -78,7 +78,7 @@ pub fn serve<R: BufRead, W: Write>(
     style: Style,
     reader: &mut R,
     writer: &mut W,
-) -> Result<(), ServeFault>
+) -> Result<(), ServeError>
     ensures { Serves style result (empty settings) (R.Read.remaining reader.old) (R.Read.remaining reader.new) (W.contents writer.old) (W.contents writer.new) }
 {
     let mut session = Session::new(alloc, settings)?;

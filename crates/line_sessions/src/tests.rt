@@ -1,4 +1,4 @@
-use crate::{ServeFault, serve};
+use crate::{ServeError, serve};
 use scenario::Style;
 use std::io;
 use std::io::BufReader;
@@ -111,7 +111,7 @@ fn readers_that_fail(rt: HostRuntime) -> Result<(), Fail> {
         &mut writer,
     )
     .err();
-    assert_eq!(rt; ended, Some(ServeFault::Read));
+    assert_eq!(rt; ended, Some(ServeError::Read));
     let before = ANSWERS.len() - "1001 3 pids 1000\n".len();
     assert_eq!(rt; Some(writer.as_slice()), ANSWERS.as_bytes().get(..before));
     Ok(())
@@ -133,7 +133,7 @@ fn check_room<R: Abort + AllocGlobal>(rt: &R, room: usize) -> Result<(), Fail> {
     )
     .err();
     let want = if room < ANSWERS.len() {
-        Some(ServeFault::Write)
+        Some(ServeError::Write)
     } else {
         None
     };

@@ -12,9 +12,9 @@ use Rattle.lwp_table.specs.declared.links.Slot.{Slot}
 use Rattle.lwp_table.specs.Lwps.{lwp_of, own_lwp, ComputesRows, LeavesQuiet}
 use Rattle.lwp_table.specs.Chain.{Node, IsNearest, up, anywhere, above}
 use Rattle.lwp_table.specs.declared.links.Ends.{Ends}
-use Rattle.lwp_table.specs.Kept.{own_node, own_nodes, born_row, rows_of, IsIndexed, IsKept}
+use Rattle.lwp_table.specs.Kept.{own_node, own_nodes, born_row, rows_of, IsIndexed, LwpTableInvariant}
 use Rattle.lwp_table.proofs.WordLemmas.{test_same}
-use Rattle.lwp_table.proofs.KeptLemmas.{IsKept-set}
+use Rattle.lwp_table.proofs.KeptLemmas.{LwpTableInvariant-set}
 use Rattle.lwp_table.proofs.IndexLemmas.{came, born_in, born_of, lwp_of-slot}
 use Rattle.lwp_table.proofs.ListLemmas.{listing-mapped}
 
@@ -171,11 +171,11 @@ module _ (was now : ℕ → Option Slot) (returns : LwpData → LwpData → Type
         subst (λ (r : LwpData). lwp_of r.tid rows ≡ Some r) (sym (untouched a.0 a.1)) found
 
 -- a table with another row in a slot, of the same number and process
-module _ {f : ℕ → Option Slot} {es : List (ℕ × ℕ)} {hs : List (ℕ × Ends)} {all : Ends} {births : ℕ} {users : List ℕ} {may : ℕ → Bool} (kept : IsKept f es hs all births users may) where
-  pub IsKept-edited : (s : ℕ) (b : Slot) (new : LwpData) (g : ℕ → Option Slot) → (may new.pid ≡ false → new.pending ≡ 0) → f s ≡ Some b → (new.tid ≡ b.row.tid) × (new.pid ≡ b.row.pid) → g s ≡ Some (record b { row = new }) → ((j : ℕ) → j ≢ s → g j ≡ f j) → IsKept g es hs all births users may
-  IsKept-edited s b new g calm had its has others =
+module _ {f : ℕ → Option Slot} {es : List (ℕ × ℕ)} {hs : List (ℕ × Ends)} {all : Ends} {births : ℕ} {users : List ℕ} {may : ℕ → Bool} (kept : LwpTableInvariant f es hs all births users may) where
+  pub LwpTableInvariant-edited : (s : ℕ) (b : Slot) (new : LwpData) (g : ℕ → Option Slot) → (may new.pid ≡ false → new.pending ≡ 0) → f s ≡ Some b → (new.tid ≡ b.row.tid) × (new.pid ≡ b.row.pid) → g s ≡ Some (record b { row = new }) → ((j : ℕ) → j ≢ s → g j ≡ f j) → LwpTableInvariant g es hs all births users may
+  LwpTableInvariant-edited s b new g calm had its has others =
       let there : IsSomeAnd (lwp_of b.row.tid (rows_of f es births)) (λ was. was.pid ≡ new.pid) = rw (lwp_of-slot f es births kept.indexed s b had) (sym its.1) in
-      IsKept-set kept new s b g (subst (λ n. IsSomeAnd (lwp_of n (rows_of f es births)) (λ was. was.pid ≡ new.pid)) (sym its.0) there)
+      LwpTableInvariant-set kept new s b g (subst (λ n. IsSomeAnd (lwp_of n (rows_of f es births)) (λ was. was.pid ≡ new.pid)) (sym its.0) there)
       (ap (λ n. lookup (nat_eq n) es) its.0 ∙ kept.indexed.listed s b had) had has others calm
 
 -- a write in place leaves as many values

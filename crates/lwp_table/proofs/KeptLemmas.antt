@@ -12,7 +12,7 @@ use Rattle.lwp_table.specs.declared.links.Ends.{Ends}
 use Rattle.lwp_table.specs.declared.links.Link.TheVariants.{NextOwn, NextAll}
 use Rattle.lwp_table.specs.Lwps.{lwp_of, put_lwp, with_lwp, without_lwp, Differ}
 use Rattle.lwp_table.specs.Chain.{Node, IsNearest, IsChain, AreApart, up, down, anywhere, above, below, leads_to, joined, bridged}
-use Rattle.lwp_table.specs.Kept.{own_node, own_nodes, all_node, all_nodes, is_of, is_at, place_of, linked, closed_up, ends_at, may_pend, marked, no_ends, born_row, rows_of, IsIndexed, IsKept}
+use Rattle.lwp_table.specs.Kept.{own_node, own_nodes, all_node, all_nodes, is_of, is_at, place_of, linked, closed_up, ends_at, may_pend, marked, no_ends, born_row, rows_of, IsIndexed, LwpTableInvariant}
 use Rattle.lwp_table.proofs.WordLemmas.{both_calm, test_same, test_apart}
 use Rattle.lwp_table.proofs.ChainLemmas.{IsChain-joined, IsChain-joined_other, IsChain-left, IsChain-left_other}
 use Rattle.lwp_table.proofs.Numbered.{count-without, count-put}
@@ -110,7 +110,7 @@ pub record HasLeft (f : ℕ → Option Slot) (es : List (ℕ × ℕ)) (hs : List
   pub count : left.count + 1 ≡ (ends_at hs old.row.pid).count
   pub pends : left.may_pend ≡ (is_some left.first && (ends_at hs old.row.pid).may_pend)
 
-module _ {f : ℕ → Option Slot} {es : List (ℕ × ℕ)} {hs : List (ℕ × Ends)} {all : Ends} {births : ℕ} {users : List ℕ} {may : ℕ → Bool} (kept : IsKept f es hs all births users may) where
+module _ {f : ℕ → Option Slot} {es : List (ℕ × ℕ)} {hs : List (ℕ × Ends)} {all : Ends} {births : ℕ} {users : List ℕ} {may : ℕ → Bool} (kept : LwpTableInvariant f es hs all births users may) where
   -- no count is greater than the number of births
   pub own_count : (pid : ℕ) → (ends_at hs pid).count ≤ births
   own_count pid = omega (arith, kept.counted pid, count-below (is_of pid) (born_row f es) 0 births)
@@ -175,8 +175,8 @@ module _ {f : ℕ → Option Slot} {es : List (ℕ × ℕ)} {hs : List (ℕ × E
         | inr h ↦ told slot.row.pid (ap (λ (e : Ends). e.may_pend) (sym (ends slot.row.pid ∙ ap (λ b. cond b (record { first = first; last = Some q; count = own.count + 1; may_pend = pend }) (ends_at hs slot.row.pid)) h.0)) ∙ none)
       ]
 
-      pub IsKept-added : IsKept g es' hs' (record { first = first_all; last = Some q; count = all.count + 1; may_pend = false }) (births + 1) (set users owner (get_or users owner 0 + 1)) (may_pend hs')
-      IsKept-added = record {
+      pub LwpTableInvariant-added : LwpTableInvariant g es' hs' (record { first = first_all; last = Some q; count = all.count + 1; may_pend = false }) (births + 1) (set users owner (get_or users owner 0 + 1)) (may_pend hs')
+      LwpTableInvariant-added = record {
         indexed = IsIndexed-added f es births kept.indexed g es' q faces new joins.vacant has refl vacant_es joins.change;
         own = λ p. elim (eqb_tells row.pid p) [
           | inl h ↦
@@ -230,8 +230,8 @@ module _ {f : ℕ → Option Slot} {es : List (ℕ × ℕ)} {hs : List (ℕ × E
     counts : (p : LwpData → Bool) → p old.row ≡ p row → count_by p (rows_of f es births) ≡ count_by p (rows_of g es births)
     counts p same = sym (ap (count_by p) rows-set ∙ count-put (λ (l : LwpData). l.tid) p row old.row (rows_of f es births) (differ f es births kept.indexed) found.1 same)
 
-    pub IsKept-set : (may row.pid ≡ false → row.pending ≡ 0) → IsKept g es hs all births users may
-    IsKept-set calm = record {
+    pub LwpTableInvariant-set : (may row.pid ≡ false → row.pending ≡ 0) → LwpTableInvariant g es hs all births users may
+    LwpTableInvariant-set calm = record {
       indexed = IsIndexed-set f es births kept.indexed g es q set_faces old (record old { row = row }) had has refl (sym found.0) refl;
       own = λ p. IsChain-same (own_nodes f) (own_nodes g) p _ _ (set_nodes own_node (λ i. record { key = old.born; list = pids i; prev = old.own.prev; next = old.own.next })) (kept.own p);
       whole = IsChain-same (all_nodes f) (all_nodes g) 0 _ _ (set_nodes all_node refl) kept.whole;
@@ -244,8 +244,8 @@ module _ {f : ℕ → Option Slot} {es : List (ℕ × ℕ)} {hs : List (ℕ × E
     }
 
   -- less is said of pending signals
-  pub IsKept-may : (more : ℕ → Bool) → ((p : ℕ) → more p ≡ false → may p ≡ false) → IsKept f es hs all births users more
-  IsKept-may more told = record {
+  pub LwpTableInvariant-may : (more : ℕ → Bool) → ((p : ℕ) → more p ≡ false → may p ≡ false) → LwpTableInvariant f es hs all births users more
+  LwpTableInvariant-may more told = record {
     indexed = kept.indexed;
     own = kept.own;
     whole = kept.whole;
@@ -256,10 +256,10 @@ module _ {f : ℕ → Option Slot} {es : List (ℕ × ℕ)} {hs : List (ℕ × E
   }
 
   -- it is noted of one process whether its rows may have pending signals
-  pub IsKept-marked : (pid : ℕ) (b : Bool) (hs' : List (ℕ × Ends)) → ((p : ℕ) → ends_at hs' p ≡ cond (nat_eq pid p) (marked b (ends_at hs p)) (ends_at hs p))
+  pub LwpTableInvariant-marked : (pid : ℕ) (b : Bool) (hs' : List (ℕ × Ends)) → ((p : ℕ) → ends_at hs' p ≡ cond (nat_eq pid p) (marked b (ends_at hs p)) (ends_at hs p))
       → (b ≡ false → (s : ℕ) (slot : Slot) → f s ≡ Some slot → slot.row.pid ≡ pid → slot.row.pending ≡ 0)
-      → ((p : ℕ) → nat_eq pid p ≡ false → may_pend hs p ≡ false → may p ≡ false) → IsKept f es hs' all births users (may_pend hs')
-  IsKept-marked pid b hs' marks calm told = record {
+      → ((p : ℕ) → nat_eq pid p ≡ false → may_pend hs p ≡ false → may p ≡ false) → LwpTableInvariant f es hs' all births users (may_pend hs')
+  LwpTableInvariant-marked pid b hs' marks calm told = record {
     indexed = kept.indexed;
     own = λ p. subst (λ (e : Ends). IsChain (own_nodes f) p e.first e.last) (sym (marks p)) (elim (eqb_tells pid p) [ inl h ↦ rw h.0 (kept.own p) | inr h ↦ rw h.0 (kept.own p) ]);
     whole = kept.whole;
@@ -278,8 +278,8 @@ module _ {f : ℕ → Option Slot} {es : List (ℕ × ℕ)} {hs : List (ℕ × E
   -- it is noted that a row's process may have pending signals, if it may already or the row has some
   module _ (row : LwpData) (hs' : List (ℕ × Ends)) (told : (p : ℕ) → may_pend hs p ≡ false → may p ≡ false)
       (marks : (p : ℕ) → ends_at hs' p ≡ cond (nat_eq row.pid p) (marked (may_pend hs row.pid || not (nat_eq row.pending 0)) (ends_at hs p)) (ends_at hs p)) where
-    pub IsKept-noted : IsKept f es hs' all births users (may_pend hs')
-    IsKept-noted = IsKept-marked row.pid (may_pend hs row.pid || not (nat_eq row.pending 0)) hs' marks
+    pub LwpTableInvariant-noted : LwpTableInvariant f es hs' all births users (may_pend hs')
+    LwpTableInvariant-noted = LwpTableInvariant-marked row.pid (may_pend hs row.pid || not (nat_eq row.pending 0)) hs' marks
         (λ none s slot there on. kept.quiet s slot there (told slot.row.pid (ap (may_pend hs) on ∙ (both_calm (may_pend hs row.pid) row.pending none).0))) (λ p off none. told p none)
 
     pub noted : (s : ℕ) (slot : Slot) → f s ≡ Some slot → slot.row.pid ≡ row.pid → may_pend hs' row.pid ≡ false → row.pending ≡ 0
@@ -382,8 +382,8 @@ module _ {f : ℕ → Option Slot} {es : List (ℕ × ℕ)} {hs : List (ℕ × E
         | inr h ↦ told slot.row.pid (ap (λ (e : Ends). e.may_pend) (sym (ends slot.row.pid ∙ ap (λ b. cond b left (ends_at hs slot.row.pid)) h.0)) ∙ none)
       ]
 
-      pub IsKept-removed : IsKept g es' hs' all' births (set users owner (get_or users owner 0 - 1)) (may_pend hs')
-      IsKept-removed = record {
+      pub LwpTableInvariant-removed : LwpTableInvariant g es' hs' all' births (set users owner (get_or users owner 0 - 1)) (may_pend hs')
+      LwpTableInvariant-removed = record {
         indexed = indexed;
         own = λ p. elim (eqb_tells old.row.pid p) [
           | inl h ↦ rw (ends p, h.0, ← h.1) chain_left
@@ -415,8 +415,8 @@ IsChain-none f t none = record {
   prev_is = λ j node there on. absurd (cc (there, none j));
 }
 
-pub IsKept-none : (f : ℕ → Option Slot) (es : List (ℕ × ℕ)) (hs : List (ℕ × Ends)) → ((s : ℕ) → f s ≡ None) → es ≡ [] → hs ≡ [] → IsKept f es hs no_ends 0 (replicate 64 0) (may_pend hs)
-IsKept-none f es hs none no_es no_hs = record {
+pub LwpTableInvariant-none : (f : ℕ → Option Slot) (es : List (ℕ × ℕ)) (hs : List (ℕ × Ends)) → ((s : ℕ) → f s ≡ None) → es ≡ [] → hs ≡ [] → LwpTableInvariant f es hs no_ends 0 (replicate 64 0) (may_pend hs)
+LwpTableInvariant-none f es hs none no_es no_hs = record {
   indexed = record {
     listed = λ s slot there. absurd (cc (there, none s));
     named = λ tid s at. absurd (cc (rw no_es at at));

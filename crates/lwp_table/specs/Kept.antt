@@ -100,7 +100,7 @@ pub record IsIndexed (f : ℕ → Option Slot) (es : List (ℕ × ℕ)) (births 
   pub apart : (i j : ℕ) (a b : Slot) → f i ≡ Some a → f j ≡ Some b → a.born ≡ b.born → i ≡ j
 
 -- what a table maintains, where `may` tells of each process whether its rows may have pending signals
-pub record IsKept (f : ℕ → Option Slot) (es : List (ℕ × ℕ)) (hs : List (ℕ × Ends)) (all : Ends) (births : ℕ) (users : List ℕ) (may : ℕ → Bool) : Type 0 where
+pub record LwpTableInvariant (f : ℕ → Option Slot) (es : List (ℕ × ℕ)) (hs : List (ℕ × Ends)) (all : Ends) (births : ℕ) (users : List ℕ) (may : ℕ → Bool) : Type 0 where
   pub indexed : IsIndexed f es births
   pub own : (pid : ℕ) → IsChain (own_nodes f) pid (ends_at hs pid).first (ends_at hs pid).last
   pub whole : IsChain (all_nodes f) 0 all.first all.last

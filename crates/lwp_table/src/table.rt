@@ -38,7 +38,7 @@ impl Model for LwpTable {
     ghost use Rattle.std.specs.Prelude.{◌-◌, min};
     ghost use Rattle.slab.specs.Slab.{slab_len, get};
     ghost use Rattle.lwp_table.specs.Lwps.{Lwps};
-    ghost use Rattle.lwp_table.specs.Kept.{rows_of, may_pend, IsKept};
+    ghost use Rattle.lwp_table.specs.Kept.{rows_of, may_pend, LwpTableInvariant};
 
     ghost Value = { Lwps };
 
@@ -47,7 +47,7 @@ impl Model for LwpTable {
       spare = min (min (t.rows.capacity - slab_len t.rows) t.slots.spare) (min t.heads.spare (18446744073709551615 - t.births));
     } };
 
-    ghost invariant = { λ t. IsKept (get t.rows) t.slots.entries t.heads.entries t.all t.births t.users (may_pend t.heads.entries) };
+    ghost invariant = { λ t. LwpTableInvariant (get t.rows) t.slots.entries t.heads.entries t.all t.births t.users (may_pend t.heads.entries) };
 }
 
 impl Clone for LwpTable {

@@ -15,12 +15,12 @@ first-at pid [] = refl
 first-at pid (k ∷ ks) = search (rules, first-at pid ks, slice_get)
 
 -- an LWP at a place of its process's list: its number finds it, and the next one stands a place further
-pub record Stands (pid : ℕ) (lwps : List LwpData) (i : ℕ) (l : LwpData) : Type 0 where
+pub record IsFoundAt (pid : ℕ) (lwps : List LwpData) (i : ℕ) (l : LwpData) : Type 0 where
   pub named : lwp_of l.tid lwps ≡ Some l
   pub own : l.pid ≡ pid
   pub next : next_lwp pid l.tid lwps ≡ slice_get (lwps_of pid lwps) (suc i)
 
-pub stands : (pid : ℕ) (lwps : List LwpData) (i : ℕ) (l : LwpData) → Differ lwps → slice_get (lwps_of pid lwps) i ≡ Some l → Stands pid lwps i l
+pub stands : (pid : ℕ) (lwps : List LwpData) (i : ℕ) (l : LwpData) → Differ lwps → slice_get (lwps_of pid lwps) i ≡ Some l → IsFoundAt pid lwps i l
 stands pid [] i l differ e = absurd (cc (e))
 stands pid (k ∷ ks) i l differ e = elim (cases_Bool (nat_eq k.pid pid)) [
   | inl c ↦ of_it i c (rw c at e) (λ j. stands pid ks j l differ.1)
@@ -28,12 +28,12 @@ stands pid (k ∷ ks) i l differ e = elim (cases_Bool (nat_eq k.pid pid)) [
 ]
   where
     -- it has another number than the first LWP
-    behind : (j : ℕ) → Stands pid ks j l → (lwp_of l.tid (k ∷ ks) ≡ Some l) × (next_lwp pid l.tid (k ∷ ks) ≡ slice_get (lwps_of pid ks) (suc j))
+    behind : (j : ℕ) → IsFoundAt pid ks j l → (lwp_of l.tid (k ∷ ks) ≡ Some l) × (next_lwp pid l.tid (k ∷ ks) ≡ slice_get (lwps_of pid ks) (suc j))
     behind j s =
         let off : nat_eq k.tid l.tid ≡ false = test_apart k.tid l.tid (λ same. every_found (λ x. x.tid ≡ k.tid → ⊥) (λ x. nat_eq x.tid l.tid) ks l differ.0 s.named (sym same)) in
         rw off (s.named, s.next)
 
-    of_it : (j : ℕ) → nat_eq k.pid pid ≡ true → slice_get (k ∷ lwps_of pid ks) j ≡ Some l → ((j : ℕ) → slice_get (lwps_of pid ks) j ≡ Some l → Stands pid ks j l) → Stands pid (k ∷ ks) j l
+    of_it : (j : ℕ) → nat_eq k.pid pid ≡ true → slice_get (k ∷ lwps_of pid ks) j ≡ Some l → ((j : ℕ) → slice_get (lwps_of pid ks) j ≡ Some l → IsFoundAt pid ks j l) → IsFoundAt pid (k ∷ ks) j l
     of_it zero c e rest =
         let same : k ≡ l = same_Some k l e in
         rw (← same) record { named = rw (test_same k.tid) refl; own = grind (arith, nat_tests, c); next = rw (c, test_same k.tid) (first-at pid ks) }

@@ -11,10 +11,10 @@ IsLinked-same f g same linked = subst IsLinked (λ i s. same s i) linked
 
 module _ (f g : ℕ → Option Node) (q : ℕ) (others : (s : ℕ) → s ≢ q → g s ≡ f s) where
   -- a node in no list, in a slot that had none
-  pub IsLinked-born : (new : Node) → IsLinked f → f q ≡ None → g q ≡ Some new → new.chief ≡ None → new.first ≡ None → 0 < new.pid
-      → ((s : ℕ) (node : Node) → f s ≡ Some node → node.pid ≢ new.pid) → ((s : ℕ) (node : Node) → f s ≡ Some node → node.chief ≢ Some new.pid) → IsLinked g
+  pub IsLinked-born : (new : Node) → IsLinked f → f q ≡ None → g q ≡ Some new → new.list_owner ≡ None → new.first ≡ None → 0 < new.pid
+      → ((s : ℕ) (node : Node) → f s ≡ Some node → node.pid ≢ new.pid) → ((s : ℕ) (node : Node) → f s ≡ Some node → node.list_owner ≢ Some new.pid) → IsLinked g
   IsLinked-born new linked vacant has free empty positive fresh untraced = search (rules, cases_eq, key_node, same_Some)
 
   -- a node in no list goes
-  pub IsLinked-gone : (old : Node) → IsLinked f → f q ≡ Some old → old.chief ≡ None → g q ≡ None → IsLinked g
+  pub IsLinked-gone : (old : Node) → IsLinked f → f q ≡ Some old → old.list_owner ≡ None → g q ≡ None → IsLinked g
   IsLinked-gone old linked was free vacant = search (rules, key_node, same_Some)

@@ -8,7 +8,7 @@ use Rattle.pid_blocks.specs.Users.{IsUser}
 use Rattle.pid_blocks.specs.Blocks.{slot, pid_block, InBlock}
 use Rattle.proc_table.specs.declared.ProcData.{ProcData}
 use Rattle.proc_table.specs.Processes.{process_of, placed}
-use Rattle.proc_table.specs.Kept.{AllAbove, Rise, AtHome, put_process}
+use Rattle.proc_table.specs.Kept.{AllAbove, Rise, InOwnBlock, put_process}
 use Rattle.proc_table.specs.Slots.{IsTally}
 use Rattle.lwp_table.proofs.Numbered.{count-put, count-without as fewer}
 use Rattle.proc_table.proofs.Rising.{Lacks, once}
@@ -43,23 +43,23 @@ module _ (u : ℕ) where
   count-without gone was ps r found = fewer (λ (p : ProcData). p.pid) (of u) gone was ps (once ps r) found
 
   -- a user has no more rows than numbers from `low` on
-  pub count-le : (low : ℕ) (ps : List ProcData) → IsUser u → Rise ps → AllByRecursion AtHome ps → AllAbove low ps → (pid_block u).first ≤ low + 1 → count_by (of u) ps ≤ (pid_block u).first + 999 - low
-  count-le low [] user r homes above from = omega arith
-  count-le low (p ∷ ps) user r homes above from =
-      let rest = count-le p.pid ps user r.1 homes.1 r.0 (omega (arith, above.0)) in
+  pub count-le : (low : ℕ) (ps : List ProcData) → IsUser u → Rise ps → AllByRecursion InOwnBlock ps → AllAbove low ps → (pid_block u).first ≤ low + 1 → count_by (of u) ps ≤ (pid_block u).first + 999 - low
+  count-le low [] user r in_own_blocks above from = omega arith
+  count-le low (p ∷ ps) user r in_own_blocks above from =
+      let rest = count-le p.pid ps user r.1 in_own_blocks.1 r.0 (omega (arith, above.0)) in
       elim (equal_or_not p.uid u) [
-        | inl its ↦ let own : InBlock (pid_block u) p.pid = rw its.1 at homes.0.block in let step = count-yes u p ps its.0 in omega (arith, rest, step, own.0, own.1, above.0)
+        | inl its ↦ let own : InBlock (pid_block u) p.pid = rw its.1 at in_own_blocks.0.block in let step = count-yes u p ps its.0 in omega (arith, rest, step, own.0, own.1, above.0)
         | inr other ↦ let step = count-no u p ps other.0 in omega (arith, rest, step, above.0)
       ]
 
-  pub count-below : (ps : List ProcData) → IsUser u → Rise ps → AllByRecursion AtHome ps → count_by (of u) ps ≤ 1000
-  count-below [] user r homes = omega arith
-  count-below (p ∷ ps) user r homes = elim (equal_or_not p.uid u) [
+  pub count-below : (ps : List ProcData) → IsUser u → Rise ps → AllByRecursion InOwnBlock ps → count_by (of u) ps ≤ 1000
+  count-below [] user r in_own_blocks = omega arith
+  count-below (p ∷ ps) user r in_own_blocks = elim (equal_or_not p.uid u) [
     | inl its ↦
-        let own : InBlock (pid_block u) p.pid = rw its.1 at homes.0.block in
+        let own : InBlock (pid_block u) p.pid = rw its.1 at in_own_blocks.0.block in
         let step = count-yes u p ps its.0 in
-        omega (arith, count-le p.pid ps user r.1 homes.1 r.0 (omega (arith, own.0)), step, own.0, own.1)
-    | inr other ↦ let step = count-no u p ps other.0 in omega (arith, count-below ps user r.1 homes.1, step)
+        omega (arith, count-le p.pid ps user r.1 in_own_blocks.1 r.0 (omega (arith, own.0)), step, own.0, own.1)
+    | inr other ↦ let step = count-no u p ps other.0 in omega (arith, count-below ps user r.1 in_own_blocks.1, step)
   ]
 
 -- the counts after a change of one user's

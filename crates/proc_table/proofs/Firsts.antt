@@ -8,60 +8,60 @@ use Rattle.std.proofs.lemmas.Bool.{cases_Bool, cases_lt, cases_eq}
 use Rattle.std.proofs.lemmas.Bool.Decides.{nat_tests}
 use Rattle.std.proofs.lemmas.Option.{same_Some}
 use Rattle.proc_table.specs.declared.ProcData.{ProcData}
-use Rattle.proc_table.specs.declared.links.Kin.{Kin}
-use Rattle.proc_table.specs.declared.links.Kin.TheVariants.{Children}
+use Rattle.proc_table.specs.declared.links.ListKind.{ListKind}
+use Rattle.proc_table.specs.declared.links.ListKind.TheVariants.{Children}
 use Rattle.proc_table.specs.declared.links.Slot.{Slot}
 use Rattle.proc_table.specs.Links.{Node, keys, key_of, IsNext, IsLinked}
 use Rattle.proc_table.specs.Processes.{process_of, is_this}
 use Rattle.proc_table.specs.Walks.{DecidesRows, find_child}
-use Rattle.proc_table.specs.Lanes.{chief, lane, lanes, rows_of, find_named, IsTied, IsFirst}
+use Rattle.proc_table.specs.ListNodes.{list_owner, node_of, nodes_of, rows_of, find_named, IsTied, IsFirst}
 use Rattle.proc_table.specs.Slots.{all_rows, look}
-use Rattle.proc_table.specs.Kept.{AtHome, Rise}
+use Rattle.proc_table.specs.Kept.{InOwnBlock, Rise}
 use Rattle.proc_table.proofs.Rows.{same_number}
 use Rattle.proc_table.proofs.Finds.{equal_or_not}
-use Rattle.proc_table.proofs.Tied.{key-of-row, chief-of, this-is, row-of, home-of}
-use Rattle.proc_table.proofs.Listing.{Rise-all_rows, homes-all_rows}
+use Rattle.proc_table.proofs.Tied.{key-of-row, list_owner-of, this-is, row-of, home-of}
+use Rattle.proc_table.proofs.Listing.{Rise-all_rows, in_own_blocks-all_rows}
 use Rattle.proc_table.proofs.Slots.{finds}
 use Rattle.proc_table.proofs.NextOf.{next-found, next-none}
 use Rattle.proc_table.proofs.Linked.{key_node}
-use Rattle.proc_table.proofs.Lanes.{slot_at}
+use Rattle.proc_table.proofs.ListNodes.{slot_at}
 
 -- the walk has passed the rows of the list up to this number, each of which fails, and is at the link to the next one
-pub record IsPassing (f : ℕ → Option Slot) (kin : Kin) (t : ℕ) (returns : ProcData → Bool → Type 0) (passed : ℕ) (link : Option ℕ) : Type 0 where
-  pub next : IsNext (keys (lanes kin f)) t passed link
-  pub past : (j : ℕ) (other : Slot) → f j ≡ Some other → (lane kin other).chief ≡ Some t → other.row.pid ≤ passed → returns other.row false
+pub record IsPassing (f : ℕ → Option Slot) (kin : ListKind) (t : ℕ) (returns : ProcData → Bool → Type 0) (passed : ℕ) (link : Option ℕ) : Type 0 where
+  pub next : IsNext (keys (nodes_of kin f)) t passed link
+  pub past : (j : ℕ) (other : Slot) → f j ≡ Some other → (node_of kin other).list_owner ≡ Some t → other.row.pid ≤ passed → returns other.row false
 
 -- the slot of a member
-pub member_slot : (f : ℕ → Option Slot) (kin : Kin) (t s p : ℕ) → keys (lanes kin f) s ≡ Some (p, Some t) → (slot : Slot) × (f s ≡ Some slot) × (slot.row.pid ≡ p) × ((lane kin slot).chief ≡ Some t)
+pub member_slot : (f : ℕ → Option Slot) (kin : ListKind) (t s p : ℕ) → keys (nodes_of kin f) s ≡ Some (p, Some t) → (slot : Slot) × (f s ≡ Some slot) × (slot.row.pid ≡ p) × ((node_of kin slot).list_owner ≡ Some t)
 member_slot f kin t s p there =
-    let node = key_node (lanes kin f) s p (Some t) there in
+    let node = key_node (nodes_of kin f) s p (Some t) there in
     let its = slot_at kin f s node.0 node.1 in
-    (its.0, its.1, ap (λ (n : Node). n.pid) its.2 ∙ node.2, ap (λ (n : Node). n.chief) its.2 ∙ node.3)
+    (its.0, its.1, ap (λ (n : Node). n.pid) its.2 ∙ node.2, ap (λ (n : Node). n.list_owner) its.2 ∙ node.3)
 
-module _ (f : ℕ → Option Slot) (kin : Kin) (t : ℕ) (returns : ProcData → Bool → Type 0) (linked : IsLinked (lanes kin f)) where
-  member_key : (j : ℕ) (other : Slot) → f j ≡ Some other → (lane kin other).chief ≡ Some t → keys (lanes kin f) j ≡ Some (other.row.pid, Some t)
-  member_key j other is names = ap (λ o. option_map key_of (option_map (lane kin) o)) is ∙ ap (λ u. Some (other.row.pid, u)) names
+module _ (f : ℕ → Option Slot) (kin : ListKind) (t : ℕ) (returns : ProcData → Bool → Type 0) (linked : IsLinked (nodes_of kin f)) where
+  member_key : (j : ℕ) (other : Slot) → f j ≡ Some other → (node_of kin other).list_owner ≡ Some t → keys (nodes_of kin f) j ≡ Some (other.row.pid, Some t)
+  member_key j other is names = ap (λ o. option_map key_of (option_map (node_of kin) o)) is ∙ ap (λ u. Some (other.row.pid, u)) names
 
-  pub passing-first : (head : ℕ) (slot : Slot) → f head ≡ Some slot → slot.row.pid ≡ t → IsPassing f kin t returns 0 (lane kin slot).first
+  pub passing-first : (head : ℕ) (slot : Slot) → f head ≡ Some slot → slot.row.pid ≡ t → IsPassing f kin t returns 0 (node_of kin slot).first
   passing-first head slot is number = record {
-    next = subst (λ n. IsNext (keys (lanes kin f)) n 0 (lane kin slot).first) number (linked.heads head (lane kin slot) (ap (option_map (lane kin)) is));
-    past = λ j other there names none. absurd (omega (arith, none, linked.above_zero j (lane kin other) (ap (option_map (lane kin)) there)));
+    next = subst (λ n. IsNext (keys (nodes_of kin f)) n 0 (node_of kin slot).first) number (linked.heads head (node_of kin slot) (ap (option_map (node_of kin)) is));
+    past = λ j other there names none. absurd (omega (arith, none, linked.above_zero j (node_of kin other) (ap (option_map (node_of kin)) there)));
   }
 
   pub passing-none : (passed : ℕ) → IsPassing f kin t returns passed None → IsFirst f kin t returns None
   passing-none passed walk = λ j other there names. walk.past j other there names (walk.next j other.row.pid (member_key j other there names))
 
   module _ (passed s : ℕ) (slot : Slot) (is : f s ≡ Some slot) (walk : IsPassing f kin t returns passed (Some s)) where
-    its : (slot.row.pid ≡ walk.next.0) × ((lane kin slot).chief ≡ Some t)
+    its : (slot.row.pid ≡ walk.next.0) × ((node_of kin slot).list_owner ≡ Some t)
     its =
         let found = member_slot f kin t s walk.next.0 walk.next.1 in
         let same : slot ≡ found.0 = same_Some slot found.0 (sym is ∙ found.1) in
-        (ap (λ (x : Slot). x.row.pid) same ∙ found.2, ap (λ (x : Slot). (lane kin x).chief) same ∙ found.3)
+        (ap (λ (x : Slot). x.row.pid) same ∙ found.2, ap (λ (x : Slot). (node_of kin x).list_owner) same ∙ found.3)
 
     pub passing-above : passed < slot.row.pid
     passing-above = let above = walk.next.2 in let number = its.0 in omega (arith, above, number)
 
-    before : (j : ℕ) (other : Slot) → f j ≡ Some other → (lane kin other).chief ≡ Some t → other.row.pid < slot.row.pid → returns other.row false
+    before : (j : ℕ) (other : Slot) → f j ≡ Some other → (node_of kin other).list_owner ≡ Some t → other.row.pid < slot.row.pid → returns other.row false
     before j other there names less = elim (cases_lt passed other.row.pid) [
       | inl more ↦ absurd (let least = walk.next.3 j other.row.pid (member_key j other there names) more in let number = its.0 in omega (arith, least, number, less))
       | inr past ↦ walk.past j other there names past
@@ -70,12 +70,12 @@ module _ (f : ℕ → Option Slot) (kin : Kin) (t : ℕ) (returns : ProcData →
     pub passing-found : returns slot.row true → IsFirst f kin t returns (Some s)
     passing-found passes = (slot, is, its.1, passes, before)
 
-    pub passing-on : returns slot.row false → IsPassing f kin t returns slot.row.pid (lane kin slot).next
+    pub passing-on : returns slot.row false → IsPassing f kin t returns slot.row.pid (node_of kin slot).next
     passing-on fails = record {
-      next = linked.links s (lane kin slot) t (ap (option_map (lane kin)) is) its.1;
+      next = linked.links s (node_of kin slot) t (ap (option_map (node_of kin)) is) its.1;
       past = λ j other there names most. elim (cases_eq other.row.pid slot.row.pid) [
         | inl same ↦
-            let at = linked.apart j s (lane kin other) (lane kin slot) (ap (option_map (lane kin)) there) (ap (option_map (lane kin)) is) same in
+            let at = linked.apart j s (node_of kin other) (node_of kin slot) (ap (option_map (node_of kin)) there) (ap (option_map (node_of kin)) is) same in
             let one : other ≡ slot = same_Some other slot (sym there ∙ ap f at ∙ is) in
             rw one fails
         | inr apart ↦ before j other there names (omega (arith, most, apart))
@@ -83,18 +83,18 @@ module _ (f : ℕ → Option Slot) (kin : Kin) (t : ℕ) (returns : ProcData →
     }
 
 -- every row is above 0
-pub find-above_zero : (test : ProcData → Bool) (ps : List ProcData) → AllByRecursion AtHome ps → find (λ p. ltb 0 p.pid && test p) ps ≡ find test ps
-find-above_zero test [] homes = refl
-find-above_zero test (p ∷ ps) homes =
-    let low = homes.0.block.0 in
+pub find-above_zero : (test : ProcData → Bool) (ps : List ProcData) → AllByRecursion InOwnBlock ps → find (λ p. ltb 0 p.pid && test p) ps ≡ find test ps
+find-above_zero test [] in_own_blocks = refl
+find-above_zero test (p ∷ ps) in_own_blocks =
+    let low = in_own_blocks.0.block.0 in
     let some : ltb 0 p.pid ≡ true = grind (arith, nat_tests, low) in
-    rw (some, find-above_zero test ps homes.1) refl
+    rw (some, find-above_zero test ps in_own_blocks.1) refl
 
 both_hold : (a b : Bool) → (a && b) ≡ true → (a ≡ true) × (b ≡ true)
 both_hold a b h = grind (arith, nat_tests, h)
 
 -- what the walk finds is what the list of rows has, for a test that the calls decide
-module _ {f : ℕ → Option Slot} {es : List (ℕ × ℕ)} {counts : List ℕ} (tied : IsTied f es counts) (kin : Kin) (t : ℕ) (returns : ProcData → Bool → Type 0)
+module _ {f : ℕ → Option Slot} {es : List (ℕ × ℕ)} {counts : List ℕ} (tied : IsTied f es counts) (kin : ListKind) (t : ℕ) (returns : ProcData → Bool → Type 0)
     (test : ProcData → Bool) (decides : DecidesRows returns (all_rows (look (rows_of f) es)) test) where
   abbrev rows : List ProcData
   rows = all_rows (look (rows_of f) es)
@@ -102,36 +102,36 @@ module _ {f : ℕ → Option Slot} {es : List (ℕ × ℕ)} {counts : List ℕ} 
   up : Rise rows
   up = Rise-all_rows _ (finds (rows_of f) es counts tied.slotted)
 
-  whole : find (λ p. ltb 0 p.pid && (is_this t (chief kin p) && test p)) rows ≡ find_named kin t test rows
-  whole = find-above_zero (λ p. is_this t (chief kin p) && test p) rows (homes-all_rows _ (finds (rows_of f) es counts tied.slotted))
+  whole : find (λ p. ltb 0 p.pid && (is_this t (list_owner kin p) && test p)) rows ≡ find_named kin t test rows
+  whole = find-above_zero (λ p. is_this t (list_owner kin p) && test p) rows (in_own_blocks-all_rows _ (finds (rows_of f) es counts tied.slotted))
 
   -- a row that passes is in the list, in a slot where no call returned false
-  passer : (r : ProcData) → process_of r.pid rows ≡ Some r → (is_this t (chief kin r) && test r) ≡ true
-      → (s : ℕ) × (slot : Slot) × (f s ≡ Some slot) × ((lane kin slot).chief ≡ Some t) × (slot.row.pid ≡ r.pid) × (returns slot.row false → ⊥)
+  passer : (r : ProcData) → process_of r.pid rows ≡ Some r → (is_this t (list_owner kin r) && test r) ≡ true
+      → (s : ℕ) × (slot : Slot) × (f s ≡ Some slot) × ((node_of kin slot).list_owner ≡ Some t) × (slot.row.pid ≡ r.pid) × (returns slot.row false → ⊥)
   passer r at passes =
-      let parts = both_hold (is_this t (chief kin r)) (test r) passes in
-      let key = key-of-row tied kin t r at (this-is t (chief kin r) parts.0) in
+      let parts = both_hold (is_this t (list_owner kin r)) (test r) passes in
+      let key = key-of-row tied kin t r at (this-is t (list_owner kin r) parts.0) in
       let its = member_slot f kin t key.0 r.pid key.1 in
       let own = row-of tied key.0 its.0 its.1 in
       let same : its.0.row ≡ r = same_Some _ _ (sym own ∙ ap (λ n. process_of n rows) its.2 ∙ at) in
       (key.0, its.0, its.1, its.3, its.2, λ fails. true≢false (sym parts.1 ∙ ap test (sym same) ∙ sym (decides its.0.row false own fails)))
 
   pub first-none : IsFirst f kin t returns None → find_named kin t test rows ≡ None
-  first-none none = sym whole ∙ next-none (λ p. is_this t (chief kin p) && test p) 0 rows up
+  first-none none = sym whole ∙ next-none (λ p. is_this t (list_owner kin p) && test p) 0 rows up
       (λ r at passes. let found = passer r at passes in absurd (found.5 (none found.0 found.1 found.2 found.3)))
 
   -- no row names a number that has no slot
   pub first-unnamed : lookup (nat_eq t) es ≡ None → find_named kin t test rows ≡ None
-  first-unnamed none = first-none (λ j other there names. let head = tied.laced.headed kin j other t there names in absurd (cc (none, head.1)))
+  first-unnamed none = first-none (λ j other there names. let head = tied.are_linked.headed kin j other t there names in absurd (cc (none, head.1)))
 
   pub first-some : (s : ℕ) (slot : Slot) → f s ≡ Some slot → IsFirst f kin t returns (Some s) → find_named kin t test rows ≡ Some slot.row
   first-some s slot is first =
       let own : first.0 ≡ slot = same_Some first.0 slot (sym first.1 ∙ is) in
       let there = row-of tied s slot is in
       let home = home-of tied s slot is in
-      let names : is_this t (chief kin slot.row) ≡ true = ap (is_this t) (chief-of tied kin s slot t is (ap (λ (x : Slot). (lane kin x).chief) (sym own) ∙ first.2)) ∙ same_number t in
+      let names : is_this t (list_owner kin slot.row) ≡ true = ap (is_this t) (list_owner-of tied kin s slot t is (ap (λ (x : Slot). (node_of kin x).list_owner) (sym own) ∙ first.2)) ∙ same_number t in
       let passes : test slot.row ≡ true = sym (decides slot.row true there (rw own at first.3)) in
-      sym whole ∙ next-found (λ p. is_this t (chief kin p) && test p) 0 slot.row.pid slot.row rows up there (rw (names, passes) refl) (omega (arith, home.block.0))
+      sym whole ∙ next-found (λ p. is_this t (list_owner kin p) && test p) 0 slot.row.pid slot.row rows up there (rw (names, passes) refl) (omega (arith, home.block.0))
       (λ r at both more.
       let found = passer r at both in
       elim (cases_lt r.pid slot.row.pid) [

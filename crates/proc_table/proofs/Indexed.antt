@@ -2,7 +2,7 @@
 use Rattle.std.proofs.Common.{◌≡◌, ℕ, ◌+◌, ◌-◌, ◌≤◌, true, false, List, map, ap, sym, ◌∙◌, refl, arith, inl, inr, is_some, nat_eq, cond, Option, Some, None}
 use Rattle.std.specs.Prelude.{◌≢◌, filter, not}
 use Rattle.std.proofs.lemmas.Bool.{true≢false}
-use Rattle.number_sets.specs.Members.{member}
+use Rattle.bit_sets.specs.Members.{member}
 use Rattle.proc_table.specs.declared.ProcData.{ProcData}
 use Rattle.proc_table.specs.Processes.{process_of, placed}
 use Rattle.proc_table.specs.Kept.{Rise, put_process}

@@ -16,8 +16,8 @@ pub mod Seen
 pub mod Next
 pub mod Linked
 pub mod Births
-pub mod Lanes
-pub mod Laced
+pub mod ListNodes
+pub mod LinkedLists
 pub mod Tied
 pub mod Least
 pub mod Firsts

@@ -37,7 +37,7 @@ module _ (f z : ℕ → Option Node) (linked : IsLinked f) (t w q passed : ℕ) 
   module _ (elsewhere : (u a : ℕ) (o : Option ℕ) → u ≢ t → IsNext (keys f) u a o → IsNext (keys z) u a o)
       (other : (b : ℕ) (o : Option ℕ) → IsHolder (keys f) t b → b ≢ passed → IsNext (keys f) t b o → IsNext (keys z) t b o)
       (here_is : IsNext (keys z) t passed fresh)
-      (own : (u : ℕ) → new.chief ≡ Some u → IsNext (keys z) u new.pid new.next) where
+      (own : (u : ℕ) → new.list_owner ≡ Some u → IsNext (keys z) u new.pid new.next) where
     -- the first link of a node that is not the place
     first_link : (s : ℕ) (old : Node) → f s ≡ Some old → (old.pid ≡ t → at ≢ None) → IsNext (keys z) old.pid 0 old.first
     first_link s old there off = elim (cases_eq old.pid t) [
@@ -50,7 +50,7 @@ module _ (f z : ℕ → Option Node) (linked : IsLinked f) (t w q passed : ℕ) 
         zero (Some p) stands off same = omega (arith, linked.above_zero w nw has_w, stands.1, same)
 
     -- the next link of a node that is not the place
-    next_link : (s u : ℕ) (old : Node) → f s ≡ Some old → old.chief ≡ Some u → old.pid ≢ passed → IsNext (keys z) u old.pid old.next
+    next_link : (s u : ℕ) (old : Node) → f s ≡ Some old → old.list_owner ≡ Some u → old.pid ≢ passed → IsNext (keys z) u old.pid old.next
     next_link s u old there tracer off = elim (cases_eq u t) [
       | inl same ↦ rw same (other old.pid old.next (inr (s, rw (← same, ← tracer) (ap (option_map key_of) there))) off (rw same at (linked.links s old u there tracer)))
       | inr differs ↦ elsewhere u old.pid old.next differs (linked.links s old u there tracer)
@@ -61,7 +61,7 @@ module _ (f z : ℕ → Option Node) (linked : IsLinked f) (t w q passed : ℕ) 
     first_here None stands is = rw (stands.0, ← stands.1) here_is
     first_here (Some p) stands is = first_link w nw has_w (λ same none. cc (none, is))
 
-    next_here : (u : ℕ) (o : Option ℕ) → StandsAt o nw t passed link → nw.chief ≡ Some u → IsNext (keys z) u nw.pid (with_link o nw fresh).next
+    next_here : (u : ℕ) (o : Option ℕ) → StandsAt o nw t passed link → nw.list_owner ≡ Some u → IsNext (keys z) u nw.pid (with_link o nw fresh).next
     next_here u None stands tracer = next_link w u nw has_w tracer (λ same. omega (arith, linked.above_zero w nw has_w, stands.1, same))
     next_here u (Some p) stands tracer = let same = same_Some u t (sym tracer ∙ stands.0) in rw (same, ← stands.1) here_is
 
@@ -98,11 +98,11 @@ module _ (f z : ℕ → Option Node) (linked : IsLinked f) (t w q passed : ℕ) 
         ]
       ];
       links = λ s node u is tracer. elim (cases_eq s q) [
-        | inl same ↦ let its = same_Some new node (sym gets_q ∙ ap z (sym same) ∙ is) in rw (← its) (own u (ap (λ n. n.chief) its ∙ tracer))
+        | inl same ↦ let its = same_Some new node (sym gets_q ∙ ap z (sym same) ∙ is) in rw (← its) (own u (ap (λ n. n.list_owner) its ∙ tracer))
         | inr apart ↦ elim (cases_eq s w) [
           | inl same ↦
               let its = same_Some (with_link at nw fresh) node (sym (gets_w (λ here. apart (same ∙ here))) ∙ ap z (sym same) ∙ is) in
-              let was : nw.chief ≡ Some u = sym (ap (λ k. k.1) (key_with_link at)) ∙ ap (λ n. n.chief) its ∙ tracer in
+              let was : nw.list_owner ≡ Some u = sym (ap (λ k. k.1) (key_with_link at)) ∙ ap (λ n. n.list_owner) its ∙ tracer in
               rw (← its) (let pid : (with_link at nw fresh).pid ≡ nw.pid = ap (λ k. k.0) (key_with_link at) in rw pid (next_here u at stands was))
           | inr off ↦ let there = sym (others s off apart) ∙ is in next_link s u node there tracer (at_place s node at stands there off)
         ]
@@ -110,7 +110,7 @@ module _ (f z : ℕ → Option Node) (linked : IsLinked f) (t w q passed : ℕ) 
     }
 
 -- the node of a key
-pub key_node : (f : ℕ → Option Node) (s p : ℕ) (u : Option ℕ) → keys f s ≡ Some (p, u) → (node : Node) × (f s ≡ Some node) × (node.pid ≡ p) × (node.chief ≡ u)
+pub key_node : (f : ℕ → Option Node) (s p : ℕ) (u : Option ℕ) → keys f s ≡ Some (p, u) → (node : Node) × (f s ≡ Some node) × (node.pid ≡ p) × (node.list_owner ≡ u)
 key_node f s p u there = search (rules, some_pair_parts)
 
 pub keys_apart : (f : ℕ → Option Node) → IsLinked f → (i j p : ℕ) (u v : Option ℕ) → keys f i ≡ Some (p, u) → keys f j ≡ Some (p, v) → i ≡ j
@@ -150,7 +150,7 @@ module _ (f g z : ℕ → Option Node) (linked : IsLinked f) (head t q passed : 
   holder : IsHolder (keys f) t passed
   holder = holder_at f (unwrap_or at head) t passed at link place.node place.there place.stands
 
-  pub IsLinked-joined : nq.chief ≡ None → new.chief ≡ Some t → new.next ≡ link → fresh ≡ Some q → IsLinked z
+  pub IsLinked-joined : nq.list_owner ≡ None → new.list_owner ≡ Some t → new.next ≡ link → fresh ≡ Some q → IsLinked z
   IsLinked-joined free traced linked_on pointed =
       let was : keys f q ≡ Some (nq.pid, None) = ap (option_map key_of) has_q ∙ ap (λ u. Some (nq.pid, u)) free in
       let is : keys z q ≡ Some (nq.pid, Some t) = ap (option_map key_of) gets_q ∙ ap (λ u. Some (new.pid, u)) traced ∙ ap (λ p. Some (p, Some t)) same_pid in
@@ -169,7 +169,7 @@ module _ (f g z : ℕ → Option Node) (linked : IsLinked f) (head t q passed : 
       (λ u its. let same = same_Some u t (sym its ∙ traced) in rw (same, same_pid, linked_on) (added-own (keys f) (keys z) q nq.pid t keys_z was is passed link below next above))
 
   -- the place before a member finds it
-  finds : nq.chief ≡ Some t → link ≡ Some q
+  finds : nq.list_owner ≡ Some t → link ≡ Some q
   finds traced = by link next last
     where
       was : keys f q ≡ Some (nq.pid, Some t)
@@ -182,7 +182,7 @@ module _ (f g z : ℕ → Option Node) (linked : IsLinked f) (head t q passed : 
           let same : next.0 ≡ nq.pid = omega (arith, next.3 q nq.pid was below, last s node.0 refl node.1, node.2) in
           ap Some (keys_apart f linked s q nq.pid (Some t) (Some t) (rw same at next.1) was)
 
-  pub IsLinked-left : nq.chief ≡ Some t → new.chief ≡ None → fresh ≡ nq.next → IsLinked z
+  pub IsLinked-left : nq.list_owner ≡ Some t → new.list_owner ≡ None → fresh ≡ nq.next → IsLinked z
   IsLinked-left traced free pointed =
       let was : keys f q ≡ Some (nq.pid, Some t) = ap (option_map key_of) has_q ∙ ap (λ u. Some (nq.pid, u)) traced in
       let is : keys z q ≡ Some (nq.pid, None) = ap (option_map key_of) gets_q ∙ ap (λ u. Some (new.pid, u)) free ∙ ap (λ p. Some (p, None)) same_pid in

@@ -5,7 +5,7 @@ use Rattle.std.specs.List.{AllByRecursion, cons_option, list_any}
 use Rattle.std.proofs.lemmas.Bool.Decides.{nat_tests}
 use Rattle.proc_table.specs.declared.ProcData.{ProcData}
 use Rattle.proc_table.specs.Processes.{process_of, placed}
-use Rattle.proc_table.specs.Kept.{AllAbove, Rise, AtHome, put_process}
+use Rattle.proc_table.specs.Kept.{AllAbove, Rise, InOwnBlock, put_process}
 use Rattle.proc_table.specs.Slots.{listing, pid_count, pid_count-is, all_rows}
 use Rattle.proc_table.proofs.Rows.{put_process-pid}
 use Rattle.proc_table.proofs.Rising.{none_above, Rise-map, Rise-filter, Lacks-from_any}
@@ -15,7 +15,7 @@ use Rattle.proc_table.proofs.Finds.{equal_or_not, below_or_not, find-set, find-w
 -- each number finds its own row, which is at home
 pub record IsFound (f : ℕ → Option ProcData) : Type 0 where
   pub named : (pid : ℕ) (row : ProcData) → f pid ≡ Some row → row.pid ≡ pid
-  pub home : (pid : ℕ) (row : ProcData) → f pid ≡ Some row → AtHome row
+  pub home : (pid : ℕ) (row : ProcData) → f pid ≡ Some row → InOwnBlock row
 
 module _ (f : ℕ → Option ProcData) where
   pub all-listing : (P : ProcData → Type 0) (first count : ℕ) → ((pid : ℕ) (row : ProcData) → first ≤ pid → f pid ≡ Some row → P row) → AllByRecursion P (listing f first count)
@@ -63,8 +63,8 @@ module _ (f : ℕ → Option ProcData) where
     pub Rise-all_rows : Rise (all_rows f)
     Rise-all_rows = Rise-listing found.named 1000 pid_count
 
-    pub homes-all_rows : AllByRecursion AtHome (all_rows f)
-    homes-all_rows = all-listing AtHome 1000 pid_count (λ pid row above is. found.home pid row is)
+    pub in_own_blocks-all_rows : AllByRecursion InOwnBlock (all_rows f)
+    in_own_blocks-all_rows = all-listing InOwnBlock 1000 pid_count (λ pid row above is. found.home pid row is)
 
     -- the list of all rows has what each number finds
     pub find-all_rows : (pid : ℕ) → process_of pid (all_rows f) ≡ f pid

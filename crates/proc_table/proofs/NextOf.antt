@@ -8,15 +8,15 @@ use Rattle.pid_blocks.specs.Blocks.{pid_block, InBlock}
 use Rattle.proc_table.specs.declared.ProcData.{ProcData}
 use Rattle.proc_table.specs.Processes.{process_of}
 use Rattle.proc_table.specs.Walks.{next_of}
-use Rattle.proc_table.specs.Kept.{Rise, AtHome}
+use Rattle.proc_table.specs.Kept.{Rise, InOwnBlock}
 use Rattle.proc_table.proofs.Every.{every_found}
 use Rattle.proc_table.proofs.Rows.{same_number, process_of-pid}
 use Rattle.proc_table.proofs.Least.{least_or_none}
 use Rattle.proc_table.proofs.Finds.{below_or_not}
 
 -- a row is of the user whose block has its number
-pub uid-from_block : (u n : ℕ) (row : ProcData) (ps : List ProcData) → IsUser u → AllByRecursion AtHome ps → process_of n ps ≡ Some row → InBlock (pid_block u) n → row.uid ≡ u
-uid-from_block u n row ps user homes found its = search (rules, every_found, process_of-pid)
+pub uid-from_block : (u n : ℕ) (row : ProcData) (ps : List ProcData) → IsUser u → AllByRecursion InOwnBlock ps → process_of n ps ≡ Some row → InBlock (pid_block u) n → row.uid ≡ u
+uid-from_block u n row ps user in_own_blocks found its = search (rules, every_found, process_of-pid)
 
 -- the first row above a number that passes a test
 module _ (test : ProcData → Bool) (after : ℕ) where
@@ -27,7 +27,7 @@ module _ (test : ProcData → Bool) (after : ℕ) where
   pub next-none : (ps : List ProcData) → Rise ps → ((r : ProcData) → process_of r.pid ps ≡ Some r → test r ≡ true → r.pid ≤ after) → find (λ p. ltb after p.pid && test p) ps ≡ None
   next-none ps up none = search (rules, least_or_none)
 
-module _ (u after : ℕ) (ps : List ProcData) (up : Rise ps) (homes : AllByRecursion AtHome ps) where
+module _ (u after : ℕ) (ps : List ProcData) (up : Rise ps) (in_own_blocks : AllByRecursion InOwnBlock ps) where
   -- the number of a user's row is of the user's block
   in_block : (r : ProcData) → process_of r.pid ps ≡ Some r → nat_eq r.uid u ≡ true → InBlock (pid_block u) r.pid
   in_block r there test = search (rules, nat_tests, every_found)

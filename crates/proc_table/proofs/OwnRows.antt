@@ -14,7 +14,7 @@ use Rattle.proc_table.specs.Processes.{of_user}
 use Rattle.proc_table.specs.Rows.{Rows}
 use Rattle.proc_table.specs.Seen.{owns}
 use Rattle.proc_table.specs.Fresh.{is_process, is_lwp, process_count, lwp_count_of, fresh_pid, fresh_tid}
-use Rattle.proc_table.specs.Kept.{AtHome, Housed, IsKept}
+use Rattle.proc_table.specs.Kept.{InOwnBlock, InOwnersBlock, TableInvariant}
 use Rattle.proc_table.specs.Laws.{only_of, SeesOwn, NextSeesOwn, ProcessSeesOwn, LwpSeesOwn, NumberSeesOwn, CountsSeeOwn, FreshSeesOwn}
 use Rattle.proc_table.proofs.Every.{every_found}
 use Rattle.proc_table.proofs.Finds.{equal_or_not}
@@ -90,21 +90,21 @@ or_next o p = elim o [ Some n ↦ Some n | None ↦ p ]
 pub next_free-same : (b : Block) (cursor : ℕ) (taken other : ℕ → Bool) → InBlock b cursor → ((n : ℕ) → InBlock b n → taken n ≡ other n) → next_free b cursor taken ≡ next_free b cursor other
 next_free-same b cursor taken other i h = search (rules, ap₂, first_free-same)
 
-module _ (u : ℕ) (rows : Rows) (user : IsUser u) (kept : IsKept rows) where
+module _ (u : ℕ) (rows : Rows) (user : IsUser u) (kept : TableInvariant rows) where
   -- a process with a number of the user's block is the user's
-  at_home : (n : ℕ) → InBlock (pid_block u) n → (p : ProcData) → AtHome p → nat_eq p.pid n ≡ true → own u p ≡ true
+  at_home : (n : ℕ) → InBlock (pid_block u) n → (p : ProcData) → InOwnBlock p → nat_eq p.pid n ≡ true → own u p ≡ true
   at_home n its p home is = search (rules, equal_or_not)
 
-  housed : (n : ℕ) → InBlock (tid_block u) n → (l : LwpData) → Housed rows l → nat_eq l.tid n ≡ true → its_lwp u rows l ≡ true
-  housed n its l house is = search (rules, equal_or_not, every_found, owns-kept)
+  in_owners_block : (n : ℕ) → InBlock (tid_block u) n → (l : LwpData) → InOwnersBlock rows l → nat_eq l.tid n ≡ true → its_lwp u rows l ≡ true
+  in_owners_block n its l house is = search (rules, equal_or_not, every_found, owns-kept)
 
   pub fresh_pid_own : fresh_pid u (only_of u rows) ≡ fresh_pid u rows
   fresh_pid_own = next_free-same (pid_block u) (get_or rows.pid_cursors (slot u) 0) (is_process (only_of u rows)) (is_process rows) (kept.pid_cursors u user)
-      (λ n its. any-only (λ p. nat_eq p.pid n) (own u) AtHome (at_home n its) rows.processes kept.homes)
+      (λ n its. any-only (λ p. nat_eq p.pid n) (own u) InOwnBlock (at_home n its) rows.processes kept.in_own_blocks)
 
   pub fresh_tid_own : fresh_tid u (only_of u rows) ≡ fresh_tid u rows
   fresh_tid_own = next_free-same (tid_block u) (get_or rows.tid_cursors (slot u) 0) (is_lwp (only_of u rows)) (is_lwp rows) (kept.tid_cursors u user)
-      (λ n its. any-only (λ l. nat_eq l.tid n) (its_lwp u rows) (Housed rows) (housed n its) rows.lwps kept.housed)
+      (λ n its. any-only (λ l. nat_eq l.tid n) (its_lwp u rows) (InOwnersBlock rows) (in_owners_block n its) rows.lwps kept.in_owners_block)
 
 pub fresh_own : FreshSeesOwn
 fresh_own = (fresh_pid_own, fresh_tid_own)

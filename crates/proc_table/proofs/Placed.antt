@@ -38,11 +38,11 @@ placed-first : (p : ProcData) (qs : List ProcData) → AllAbove p.pid qs → pla
 placed-first p qs all = search (rules, none_below, all_above)
 
 -- a row comes before the new one, or after it with all that follow
-pub record Stands (p q : ProcData) (qs : List ProcData) : Type 0 where
+pub record StandsIn (p q : ProcData) (qs : List ProcData) : Type 0 where
   pub greater : p.pid < q.pid
   pub first : placed p (q ∷ qs) ≡ p ∷ (q ∷ qs)
 
-pub stands : (p q : ProcData) (qs : List ProcData) → Rise (q ∷ qs) → (q.pid ≡ p.pid → ⊥) → (placed p (q ∷ qs) ≡ q ∷ placed p qs) ⊎ Stands p q qs
+pub stands : (p q : ProcData) (qs : List ProcData) → Rise (q ∷ qs) → (q.pid ≡ p.pid → ⊥) → (placed p (q ∷ qs) ≡ q ∷ placed p qs) ⊎ StandsIn p q qs
 stands p q qs r lacks = elim (cases_Bool (ltb q.pid p.pid)) [
   | inl e ↦ inl (placed-later p q qs (grind (arith, nat_tests)))
   | inr e ↦

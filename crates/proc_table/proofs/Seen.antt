@@ -16,7 +16,7 @@ use Rattle.proc_table.specs.Processes.{process_of}
 use Rattle.proc_table.specs.Seen.{seen_lwp, owns}
 use Rattle.proc_table.specs.Rows.{Rows}
 use Rattle.proc_table.specs.Keep.{keep}
-use Rattle.proc_table.specs.Kept.{Rise, Housed, IsKept}
+use Rattle.proc_table.specs.Kept.{Rise, InOwnersBlock, TableInvariant}
 use Rattle.proc_table.proofs.Every.{every_found}
 use Rattle.proc_table.proofs.Rows.{other_number, process_of-pid, lwp_of-tid}
 use Rattle.proc_table.proofs.Finds.{equal_or_not}
@@ -59,14 +59,14 @@ tid-owner : (u n : ℕ) → IsUser u → InBlock (tid_block u) n → tid_owner n
 unfolding tid_owner
 tid-owner u n user home = omega (arith, user.0, user.1, home.0, home.1)
 
-module _ (u : ℕ) (rows : Rows) (kept : IsKept rows) where
-  same_owner : (l : LwpData) → Housed rows l → nat_eq (tid_owner l.tid) u ≡ owns u l.pid rows.processes
+module _ (u : ℕ) (rows : Rows) (kept : TableInvariant rows) where
+  same_owner : (l : LwpData) → InOwnersBlock rows l → nat_eq (tid_owner l.tid) u ≡ owns u l.pid rows.processes
   same_owner l h = search (rules, every_found, tid-owner, owns-kept, is_some)
 
   pub lwps-counted : count_by (λ l. nat_eq (tid_owner l.tid) u) rows.lwps ≡ count_by (λ l. owns u l.pid rows.processes) rows.lwps
-  lwps-counted = counted rows.lwps kept.housed
+  lwps-counted = counted rows.lwps kept.in_owners_block
     where
-      counted : (ls : List LwpData) → AllByRecursion (Housed rows) ls → count_by (λ l. nat_eq (tid_owner l.tid) u) ls ≡ count_by (λ l. owns u l.pid rows.processes) ls
+      counted : (ls : List LwpData) → AllByRecursion (InOwnersBlock rows) ls → count_by (λ l. nat_eq (tid_owner l.tid) u) ls ≡ count_by (λ l. owns u l.pid rows.processes) ls
       counted [] all = refl
       counted (l ∷ ls) all =
           sum_by-cons (λ k. cond (nat_eq (tid_owner k.tid) u) 1 0) l ls ∙ omega (arith, counted ls all.1, ap {B = ℕ} (λ b. cond b 1 0) (same_owner l all.0), sum_by-cons (λ k. cond (owns u k.pid rows.processes) 1 0) l ls)
@@ -109,7 +109,7 @@ module _ (u : ℕ) where
   pid-seen n ps r = search (rules, seen_process-kept, owns-kept, is_some, cases_Bool, process_of-pid)
 
 -- no process has a number outside all blocks
-pub pid-outside : (n : ℕ) (rows : Rows) → IsKept rows → (((1000 ≤ n) × (n < 65000)) → ⊥) → process_of n rows.processes ≡ None
+pub pid-outside : (n : ℕ) (rows : Rows) → TableInvariant rows → (((1000 ≤ n) × (n < 65000)) → ⊥) → process_of n rows.processes ≡ None
 pid-outside n rows kept out = search (rules, every_found, process_of-pid)
 
 -- what a user sees, by what a number finds

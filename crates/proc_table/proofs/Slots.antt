@@ -11,12 +11,12 @@ use Rattle.pid_blocks.specs.Users.{IsUser}
 use Rattle.pid_blocks.specs.Blocks.{slot}
 use Rattle.proc_table.specs.declared.ProcData.{ProcData}
 use Rattle.proc_table.specs.Processes.{process_of, placed}
-use Rattle.proc_table.specs.Kept.{AtHome, Rise, put_process}
+use Rattle.proc_table.specs.Kept.{InOwnBlock, Rise, put_process}
 use Rattle.proc_table.specs.Slots.{all_rows, look, IsStored, IsSlotted}
 use Rattle.proc_table.proofs.Rows.{same_number}
 use Rattle.proc_table.proofs.Rising.{Lacks-from_any}
 use Rattle.proc_table.proofs.Finds.{equal_or_not}
-use Rattle.proc_table.proofs.Listing.{IsFound, Rise-all_rows, homes-all_rows, find-all_rows, all_rows-added, all_rows-set, all_rows-removed, all_rows-none}
+use Rattle.proc_table.proofs.Listing.{IsFound, Rise-all_rows, in_own_blocks-all_rows, find-all_rows, all_rows-added, all_rows-set, all_rows-removed, all_rows-none}
 use Rattle.proc_table.proofs.Counts.{of, count-placed, count-set, count-without, count-below, tally-set}
 
 -- numbers with slots, and slots with rows
@@ -50,7 +50,7 @@ module _ (slots : ℕ → Option ProcData) (es : List (ℕ × ℕ)) (owned : IsS
         by None is off = refl
         by (Some k) is off = others k (apart pid k off is)
 
-    pub IsStored-changed : ((k : ℕ) → now ≡ Some k → (r : ProcData) × (row ≡ Some r) × (r.pid ≡ n)) → ((r : ProcData) → row ≡ Some r → AtHome r) → IsStored slots' es'
+    pub IsStored-changed : ((k : ℕ) → now ≡ Some k → (r : ProcData) × (row ≡ Some r) × (r.pid ≡ n)) → ((r : ProcData) → row ≡ Some r → InOwnBlock r) → IsStored slots' es'
     IsStored-changed its own = record {
       named = λ pid k is. elim (equal_or_not n pid) [
         | inl here ↦ let at = sym (rw here.0 at (change pid)) ∙ is in let new = its k at in (new.0, sym (ap (option_and_then slots') at) ∙ gives ∙ new.1, new.2 ∙ here.1)
@@ -74,7 +74,7 @@ module _ (slots : ℕ → Option ProcData) (es : List (ℕ × ℕ)) (counts : Li
   rising = Rise-all_rows _ finds
 
   pub tally-below : (u : ℕ) → IsUser u → get_or counts (slot u) 0 ≤ 1000
-  tally-below u user = omega (arith, kept.tally u user, count-below u (all_rows (look slots es)) user rising (homes-all_rows _ finds))
+  tally-below u user = omega (arith, kept.tally u user, count-below u (all_rows (look slots es)) user rising (in_own_blocks-all_rows _ finds))
 
   -- a number whose row is in the list has a slot
   pub slot_there : (pid : ℕ) → IsSome (process_of pid (all_rows (look slots es))) → IsSome (lookup (nat_eq pid) es)
@@ -82,11 +82,11 @@ module _ (slots : ℕ → Option ProcData) (es : List (ℕ × ℕ)) (counts : Li
 
   module _ (slots' : ℕ → Option ProcData) (es' : List (ℕ × ℕ)) (at : ℕ) (others : (k : ℕ) → k ≢ at → slots' k ≡ slots k) where
     pub IsSlotted-added : (new : ProcData) → slots at ≡ None → slots' at ≡ Some new → ((pid : ℕ) → lookup (nat_eq pid) es' ≡ cond (nat_eq new.pid pid) (Some at) (lookup (nat_eq pid) es))
-        → list_any (λ p. nat_eq p.pid new.pid) (all_rows (look slots es)) ≡ false → AtHome new → length counts ≡ 64
+        → list_any (λ p. nat_eq p.pid new.pid) (all_rows (look slots es)) ≡ false → InOwnBlock new → length counts ≡ 64
         → IsSlotted slots' es' (set counts (slot new.uid) (get_or counts (slot new.uid) 0 + 1)) × (all_rows (look slots' es') ≡ placed new (all_rows (look slots es)))
     IsSlotted-added new vacant has change fresh home long =
         let apart : (pid k : ℕ) → pid ≢ new.pid → lookup (nat_eq pid) es ≡ Some k → k ≢ at = λ pid k off is same. let its = kept.stored.named pid k is in cc (its.1, ap slots same, vacant) in
-        let stored = IsStored-changed slots es kept.stored slots' es' at others new.pid (Some at) (Some new) change has apart (λ k is. (new, refl, refl)) (λ r is. subst AtHome (same_Some new r is) home) in
+        let stored = IsStored-changed slots es kept.stored slots' es' at others new.pid (Some at) (Some new) change has apart (λ k is. (new, refl, refl)) (λ r is. subst InOwnBlock (same_Some new r is) home) in
         let what = look-changed slots es kept.stored slots' es' at others new.pid (Some at) (Some new) change has apart in
         let rows = all_rows-added _ _ finds (found slots' es' stored) new fresh what in
         let count = λ (u : ℕ). count-placed u new _ rising (Lacks-from_any new.pid _ fresh) in (
@@ -107,11 +107,11 @@ module _ (slots : ℕ → Option ProcData) (es : List (ℕ × ℕ)) (counts : Li
         let its = sym (find-all_rows _ finds new.pid) ∙ there in
         let home = kept.stored.home new.pid before its in
         let number : before.pid ≡ new.pid = finds.named new.pid before its in
-        let at_home : AtHome new = record { user = rw uids at home.user; block = rw (uids, number) at home.block } in
+        let at_home : InOwnBlock new = record { user = rw uids at home.user; block = rw (uids, number) at home.block } in
         let change : (pid : ℕ) → lookup (nat_eq pid) es' ≡ cond (nat_eq new.pid pid) (Some at) (lookup (nat_eq pid) es) =
         λ pid. ap (lookup (nat_eq pid)) same ∙ elim (equal_or_not new.pid pid) [ inl h ↦ rw (h.0, ← h.1) is | inr h ↦ rw h.0 refl ] in
         let apart = λ (pid k : ℕ) (off : pid ≢ new.pid). λ (at_k : lookup (nat_eq pid) es ≡ Some k). slots_apart slots es kept.stored new.pid pid at k is at_k off in
-        let stored = IsStored-changed slots es kept.stored slots' es' at others new.pid (Some at) (Some new) change has apart (λ k is. (new, refl, refl)) (λ r is. subst AtHome (same_Some new r is) at_home) in
+        let stored = IsStored-changed slots es kept.stored slots' es' at others new.pid (Some at) (Some new) change has apart (λ k is. (new, refl, refl)) (λ r is. subst InOwnBlock (same_Some new r is) at_home) in
         let what = look-changed slots es kept.stored slots' es' at others new.pid (Some at) (Some new) change has apart in
         let rows = all_rows-set _ _ finds (found slots' es' stored) new (ap is_some its) what in
         (record { stored = stored; tally = λ u user. rw rows (kept.tally u user ∙ sym (count-set u new before (all_rows (look slots es)) rising there uids)) }, rows)

@@ -8,7 +8,7 @@ use Rattle.proc_table.specs.declared.ProcData.{ProcData}
 use Rattle.proc_table.specs.Processes.{process_of}
 use Rattle.proc_table.specs.Rows.{Rows}
 use Rattle.proc_table.specs.Edits.{own_lwp}
-use Rattle.proc_table.specs.Kept.{IsKept, Named, set_process}
+use Rattle.proc_table.specs.Kept.{TableInvariant, Named, set_process}
 use Rattle.proc_table.proofs.Every.{every_found}
 use Rattle.proc_table.proofs.Finds.{find-set}
 use Rattle.proc_table.proofs.Rows.{same_number}
@@ -33,10 +33,10 @@ module _ (rows : Rows) (p new : ProcData) (at : process_of new.pid rows.processe
   pub process_there : p.uid ≡ new.uid → IsSomeAnd (process_of new.pid rows.processes) (λ was. was.uid ≡ new.uid)
   process_there same = rw at same
 
-  pub named-same : IsKept rows → new.tracer ≡ p.tracer → new.parent ≡ p.parent → Named rows new
+  pub named-same : TableInvariant rows → new.tracer ≡ p.tracer → new.parent ≡ p.parent → Named rows new
   named-same kept tracer parent = search (rules, every_found)
 
-  pub named-untraced : IsKept rows → new.tracer ≡ None → new.parent ≡ p.parent → Named rows new
+  pub named-untraced : TableInvariant rows → new.tracer ≡ None → new.parent ≡ p.parent → Named rows new
   named-untraced kept tracer parent = search (rules, every_found)
 
 -- and of an LWP

@@ -1,12 +1,12 @@
 -- The rows with the set of their processes' numbers.
 use Rattle.std.specs.Prelude.{◌≡◌, ℕ, ◌+◌, List, is_some}
-use Rattle.number_sets.specs.Members.{member, room}
+use Rattle.bit_sets.specs.Members.{member, room}
 use Rattle.proc_table.specs.Processes.{process_of}
 use Rattle.proc_table.specs.Rows.{Rows}
-use Rattle.proc_table.specs.Kept.{IsKept}
+use Rattle.proc_table.specs.Kept.{TableInvariant}
 
 -- what the tables maintain of their rows and of the set of process numbers, counted from 1000
 pub record IsIndexed (pids : List ℕ) (rows : Rows) : Type 0 where
-  pub kept : IsKept rows
+  pub kept : TableInvariant rows
   pub room : room pids ≡ 64000
   pub numbers : (n : ℕ) → member pids n ≡ is_some (process_of (n + 1000) rows.processes)

@@ -30,7 +30,7 @@ abbrev pub IsRow : Rows → ℕ → Type 0
 IsRow rows n = is_process rows n ≡ true
 
 -- a process of a user, with a number in the user's block
-pub record AtHome (p : ProcData) : Type 0 where
+pub record InOwnBlock (p : ProcData) : Type 0 where
   pub user : IsUser p.uid
   pub block : InBlock (pid_block p.uid) p.pid
 
@@ -40,16 +40,16 @@ pub record Named (rows : Rows) (p : ProcData) : Type 0 where
   pub parent : p.parent ≢ 1 → IsRow rows p.parent
 
 -- the LWP's process is a row, and the LWP's number is in the block of that process's user
-abbrev pub Housed : Rows → LwpData → Type 0
-Housed rows l = (p : ProcData) × (process_of l.pid rows.processes ≡ Some p) × InBlock (tid_block p.uid) l.tid
+abbrev pub InOwnersBlock : Rows → LwpData → Type 0
+InOwnersBlock rows l = (p : ProcData) × (process_of l.pid rows.processes ≡ Some p) × InBlock (tid_block p.uid) l.tid
 
 -- what the tables maintain of their rows
-pub record IsKept (rows : Rows) : Type 0 where
+pub record TableInvariant (rows : Rows) : Type 0 where
   pub rising : Rise rows.processes
   pub differ : Differ rows.lwps
-  pub homes : AllByRecursion AtHome rows.processes
+  pub in_own_blocks : AllByRecursion InOwnBlock rows.processes
   pub named : AllByRecursion (Named rows) rows.processes
-  pub housed : AllByRecursion (Housed rows) rows.lwps
+  pub in_owners_block : AllByRecursion (InOwnersBlock rows) rows.lwps
   pub pid_slots : length rows.pid_cursors ≡ 64
   pub tid_slots : length rows.tid_cursors ≡ 64
   pub pid_cursors : (u : ℕ) → IsUser u → InBlock (pid_block u) (get_or rows.pid_cursors (slot u) 0)

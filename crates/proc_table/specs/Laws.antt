@@ -7,7 +7,7 @@ use Rattle.proc_table.specs.Rows.{Rows}
 use Rattle.proc_table.specs.Seen.{owns, seen_process, seen_lwp, find_seen}
 use Rattle.proc_table.specs.Walks.{next_of, next_tracee, next_child}
 use Rattle.proc_table.specs.Fresh.{process_count, lwp_count_of, fresh_pid, fresh_tid}
-use Rattle.proc_table.specs.Kept.{Rise, IsKept}
+use Rattle.proc_table.specs.Kept.{Rise, TableInvariant}
 
 -- p has the least number of the rows above a number that pass a test
 pub record IsLeast (test : ProcData → Bool) (after : ℕ) (processes : List ProcData) (p : ProcData) : Type 0 where
@@ -51,7 +51,7 @@ SeesOwn ask = (u : ℕ) (rows : Rows) → ask u (only_of u rows) ≡ ask u rows
 
 -- and so it does for rows that the tables maintain
 abbrev pub KeptSeesOwn : {A : Type 0} → (ℕ → Rows → A) → Type 0
-KeptSeesOwn ask = (u : ℕ) (rows : Rows) → IsUser u → IsKept rows → ask u (only_of u rows) ≡ ask u rows
+KeptSeesOwn ask = (u : ℕ) (rows : Rows) → IsUser u → TableInvariant rows → ask u (only_of u rows) ≡ ask u rows
 
 abbrev pub NextSeesOwn : Type 0
 NextSeesOwn = (after : ℕ) → SeesOwn (λ u rows. next_of u after rows.processes)

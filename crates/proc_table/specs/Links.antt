@@ -6,13 +6,13 @@ use Rattle.std.specs.Option.{option_map}
 -- first row of its own list and of the next row in the list that contains it
 pub record Node : Type 0 where
   pub pid : ℕ
-  pub chief : Option ℕ
+  pub list_owner : Option ℕ
   pub first : Option ℕ
   pub next : Option ℕ
 
 -- what lists are built from: a node's pid and the number whose list contains it
 abbrev pub key_of : Node → ℕ × Option ℕ
-key_of node = (node.pid, node.chief)
+key_of node = (node.pid, node.list_owner)
 
 -- the key at each slot
 abbrev pub keys : (ℕ → Option Node) → ℕ → Option (ℕ × Option ℕ)
@@ -28,7 +28,7 @@ pub record IsLinked (nodes : ℕ → Option Node) : Type 0 where
   pub apart : (i j : ℕ) (a b : Node) → nodes i ≡ Some a → nodes j ≡ Some b → a.pid ≡ b.pid → i ≡ j
   pub above_zero : (s : ℕ) (node : Node) → nodes s ≡ Some node → 0 < node.pid
   pub heads : (s : ℕ) (node : Node) → nodes s ≡ Some node → IsNext (keys nodes) node.pid 0 node.first
-  pub links : (s : ℕ) (node : Node) (t : ℕ) → nodes s ≡ Some node → node.chief ≡ Some t → IsNext (keys nodes) t node.pid node.next
+  pub links : (s : ℕ) (node : Node) (t : ℕ) → nodes s ≡ Some node → node.list_owner ≡ Some t → IsNext (keys nodes) t node.pid node.next
 
 -- a node with this as its first link, or as its next link where the place is a member's
 abbrev pub with_link : Option ℕ → Node → Option ℕ → Node
@@ -38,7 +38,7 @@ with_link (Some p) node link = record node { next = link }
 -- the node is the head of the list of t, or its member with the pid `passed`, and `link` is its link in this list
 abbrev pub StandsAt : Option ℕ → Node → ℕ → ℕ → Option ℕ → Type 0
 StandsAt None node t passed link = (node.pid ≡ t) × (passed ≡ 0) × (link ≡ node.first)
-StandsAt (Some p) node t passed link = (node.chief ≡ Some t) × (passed ≡ node.pid) × (link ≡ node.next)
+StandsAt (Some p) node t passed link = (node.list_owner ≡ Some t) × (passed ≡ node.pid) × (link ≡ node.next)
 
 -- a place in the list of t, whose head is in the slot `head`: the head, or the member in the slot `at`
 pub record IsPlace (nodes : ℕ → Option Node) (head t : ℕ) (at : Option ℕ) (passed : ℕ) (link : Option ℕ) : Type 0 where

@@ -6,7 +6,7 @@ use Rattle.std.specs.Map.{lookup}
 use Rattle.pid_blocks.specs.Users.{IsUser}
 use Rattle.pid_blocks.specs.Blocks.{slot}
 use Rattle.proc_table.specs.declared.ProcData.{ProcData}
-use Rattle.proc_table.specs.Kept.{AtHome}
+use Rattle.proc_table.specs.Kept.{InOwnBlock}
 
 -- what contracts see of the processes alone: the rows by rising number, and how many more fit without allocation
 pub record ProcRows : Type 0 where
@@ -37,7 +37,7 @@ look slots es pid = option_and_then slots (lookup (nat_eq pid) es)
 -- each number's slot contains the row with the number, which is at home
 pub record IsStored (slots : ℕ → Option ProcData) (es : List (ℕ × ℕ)) : Type 0 where
   pub named : (pid slot : ℕ) → lookup (nat_eq pid) es ≡ Some slot → (row : ProcData) × (slots slot ≡ Some row) × (row.pid ≡ pid)
-  pub home : (pid : ℕ) (row : ProcData) → look slots es pid ≡ Some row → AtHome row
+  pub home : (pid : ℕ) (row : ProcData) → look slots es pid ≡ Some row → InOwnBlock row
 
 -- the number of each user's rows
 abbrev pub IsTally : List ℕ → List ProcData → Type 0

@@ -7,7 +7,7 @@ ghost use Rattle.std.specs.Map.{lookup};
 ghost use Rattle.slab.specs.Slab.{get, slab_len, ContainsKey};
 ghost use Rattle.proc_table.specs.Links.{keys, key_of, IsNext, IsLinked, IsPlace, with_link};
 ghost use Rattle.std.specs.Fn.{FnReturnsAt};
-ghost use Rattle.proc_table.specs.Lanes.{links_in, put_links, other, pick, lane, lanes, rows_of, IsLaced, IsHead, IsFirst};
+ghost use Rattle.proc_table.specs.ListNodes.{links_in, put_links, other, pick, node_of, nodes_of, rows_of, AreLinked, IsHead, IsFirst};
 
 use crate::ProcData;
 use number_map::NumberMap;
@@ -15,7 +15,7 @@ use slab::Slab;
 
 /// How rows name a process: as their tracer, or as their parent.
 #[derive(Clone, Copy, Debug, PartialEq, Eq, Drop)]
-pub enum Kin {
+pub enum ListKind {
     Tracees,
     Children,
 }
@@ -24,7 +24,7 @@ pub enum Kin {
 #[derive(Clone, Copy, Debug, PartialEq, Eq, Drop)]
 pub struct Links {
     /// The process whose list contains the row.
-    pub chief: Option<u32>,
+    pub list_owner: Option<u32>,
     /// The slot of the first row of the process's own list.
     pub first: Option<usize>,
     /// The slot of the next row in the list that contains this one.
@@ -50,10 +50,10 @@ pub struct Place {
 impl Links {
     /// Returns the links of a row in no list, whose own list is empty.
     pub fn none() -> Links
-        ensures { result ≡ record { chief = None; first = None; next = None } }
+        ensures { result ≡ record { list_owner = None; first = None; next = None } }
     {
         Links {
-            chief: None,
+            list_owner: None,
             first: None,
             next: None,
         }
@@ -61,26 +61,26 @@ impl Links {
 }
 
 /// Returns the links of one kind.
-pub fn links_of(kin: Kin, slot: &Slot) -> Links
+pub fn links_of(kin: ListKind, slot: &Slot) -> Links
     ensures { result ≡ links_in kin slot.now }
 {
     match kin {
-        Kin::Tracees => slot.tracees,
-        Kin::Children => slot.children,
+        ListKind::Tracees => slot.tracees,
+        ListKind::Children => slot.children,
     }
 }
 
 /// Returns the slot with other links of one kind.
-fn with_links(kin: Kin, links: Links, slot: &Slot) -> Slot
+fn with_links(kin: ListKind, links: Links, slot: &Slot) -> Slot
     ensures { result ≡ put_links kin links slot.now }
 {
     match kin {
-        Kin::Tracees => Slot {
+        ListKind::Tracees => Slot {
             row: slot.row,
             tracees: links,
             children: slot.children,
         },
-        Kin::Children => Slot {
+        ListKind::Children => Slot {
             row: slot.row,
             tracees: slot.tracees,
             children: links,
@@ -89,25 +89,31 @@ fn with_links(kin: Kin, links: Links, slot: &Slot) -> Slot
 }
 
 /// Writes the links of one kind.
-#[tactic(auto, using(crate::proofs::Lanes::put_laws))]
-fn set_links(nodes: &mut Slab<Slot>, kin: Kin, at: usize, links: Links)
+#[tactic(auto, using(crate::proofs::ListNodes::put_laws))]
+fn set_links(nodes: &mut Slab<Slot>, kin: ListKind, at: usize, links: Links)
     requires { ContainsKey nodes.old at }
     ensures here { (slot : Slot) → get nodes.old at ≡ Some slot → get nodes.new at ≡ Some (put_links kin links slot) }
     ensures others { (s : ℕ) → s ≢ at → get nodes.new s ≡ get nodes.old s }
     ensures rows { (s : ℕ) → rows_of (get nodes.new) s ≡ rows_of (get nodes.old) s }
-    ensures apart { (s : ℕ) → lanes (other kin) (get nodes.new) s ≡ lanes (other kin) (get nodes.old) s }
+    ensures apart { (s : ℕ) → nodes_of (other kin) (get nodes.new) s ≡ nodes_of (other kin) (get nodes.old) s }
     ensures len { slab_len nodes.new ≡ slab_len nodes.old }
     ensures capacity { nodes.new.capacity ≡ nodes.old.capacity }
 {
     nodes[at] = with_links(kin, links, &nodes[at]);
 }
 
-/// Returns the last place before `pid` in the list of `chief`, whose head is in this slot.
-pub fn place_before(nodes: &Slab<Slot>, kin: Kin, head: usize, chief: u32, pid: u32) -> Place
-    requires linked { IsLinked (lanes kin (get nodes.now)) }
-    requires there { IsHead (get nodes.now) head chief }
+/// Returns the last place before `pid` in the list of `list_owner`, whose head is in this slot.
+pub fn place_before(
+    nodes: &Slab<Slot>,
+    kin: ListKind,
+    head: usize,
+    list_owner: u32,
+    pid: u32,
+) -> Place
+    requires linked { IsLinked (nodes_of kin (get nodes.now)) }
+    requires there { IsHead (get nodes.now) head list_owner }
     requires positive { 0 < pid }
-    ensures place { IsPlace (lanes kin (get nodes.now)) head chief result.at result.passed result.link }
+    ensures place { IsPlace (nodes_of kin (get nodes.now)) head list_owner result.at result.passed result.link }
     ensures before { result.passed < pid }
     ensures last { (s : ℕ) (slot : Slot) → result.link ≡ Some s → get nodes.now s ≡ Some slot → pid ≤ slot.row.pid }
 {
@@ -127,12 +133,18 @@ pub fn place_before(nodes: &Slab<Slot>, kin: Kin, head: usize, chief: u32, pid: 
 }
 
 /// Writes the link of a place.
-fn set_link(nodes: &mut Slab<Slot>, kin: Kin, head: usize, at: Option<usize>, link: Option<usize>)
+fn set_link(
+    nodes: &mut Slab<Slot>,
+    kin: ListKind,
+    head: usize,
+    at: Option<usize>,
+    link: Option<usize>,
+)
     requires { ContainsKey nodes.old (unwrap_or at head) }
-    ensures here { (slot : Slot) → get nodes.old (unwrap_or at head) ≡ Some slot → lanes kin (get nodes.new) (unwrap_or at head) ≡ Some (with_link at (lane kin slot) link) }
+    ensures here { (slot : Slot) → get nodes.old (unwrap_or at head) ≡ Some slot → nodes_of kin (get nodes.new) (unwrap_or at head) ≡ Some (with_link at (node_of kin slot) link) }
     ensures others { (s : ℕ) → s ≢ unwrap_or at head → get nodes.new s ≡ get nodes.old s }
     ensures rows { (s : ℕ) → rows_of (get nodes.new) s ≡ rows_of (get nodes.old) s }
-    ensures apart { (s : ℕ) → lanes (other kin) (get nodes.new) s ≡ lanes (other kin) (get nodes.old) s }
+    ensures apart { (s : ℕ) → nodes_of (other kin) (get nodes.new) s ≡ nodes_of (other kin) (get nodes.old) s }
     ensures len { slab_len nodes.new ≡ slab_len nodes.old }
     ensures capacity { nodes.new.capacity ≡ nodes.old.capacity }
 {
@@ -151,143 +163,155 @@ fn set_link(nodes: &mut Slab<Slot>, kin: Kin, head: usize, at: Option<usize>, li
 }
 
 /// Writes whose list contains a row, and the row's link there.
-fn set_chief(nodes: &mut Slab<Slot>, kin: Kin, slot: usize, chief: Option<u32>, next: Option<usize>)
+fn set_list_owner(
+    nodes: &mut Slab<Slot>,
+    kin: ListKind,
+    slot: usize,
+    list_owner: Option<u32>,
+    next: Option<usize>,
+)
     requires { ContainsKey nodes.old slot }
-    ensures here { (was : Slot) → get nodes.old slot ≡ Some was → lanes kin (get nodes.new) slot ≡ Some (record { pid = was.row.pid; chief = chief; first = (lane kin was).first; next = next }) }
+    ensures here { (was : Slot) → get nodes.old slot ≡ Some was → nodes_of kin (get nodes.new) slot ≡ Some (record { pid = was.row.pid; list_owner = list_owner; first = (node_of kin was).first; next = next }) }
     ensures others { (s : ℕ) → s ≢ slot → get nodes.new s ≡ get nodes.old s }
     ensures rows { (s : ℕ) → rows_of (get nodes.new) s ≡ rows_of (get nodes.old) s }
-    ensures apart { (s : ℕ) → lanes (other kin) (get nodes.new) s ≡ lanes (other kin) (get nodes.old) s }
+    ensures apart { (s : ℕ) → nodes_of (other kin) (get nodes.new) s ≡ nodes_of (other kin) (get nodes.old) s }
     ensures len { slab_len nodes.new ≡ slab_len nodes.old }
     ensures capacity { nodes.new.capacity ≡ nodes.old.capacity }
 {
     let mut links = links_of(kin, &nodes[slot]);
-    links.chief = chief;
+    links.list_owner = list_owner;
     links.next = next;
     set_links(nodes, kin, slot, links);
 }
 
-/// Adds the row in `slot`, which is in no list, to the list of `chief`.
-fn link(nodes: &mut Slab<Slot>, kin: Kin, head: usize, chief: u32, slot: usize)
-    requires linked { IsLinked (lanes kin (get nodes.old)) }
-    requires there { IsHead (get nodes.old) head chief }
-    requires free { IsSomeAnd (get nodes.old slot) (λ was. (lane kin was).chief ≡ None) }
-    ensures linked { IsLinked (lanes kin (get nodes.new)) }
-    ensures joins { keys (lanes kin (get nodes.new)) slot ≡ option_map (λ was. (was.row.pid, Some chief)) (get nodes.old slot) }
-    ensures others { (s : ℕ) → s ≢ slot → keys (lanes kin (get nodes.new)) s ≡ keys (lanes kin (get nodes.old)) s }
+/// Adds the row in `slot`, which is in no list, to the list of `list_owner`.
+fn link(nodes: &mut Slab<Slot>, kin: ListKind, head: usize, list_owner: u32, slot: usize)
+    requires linked { IsLinked (nodes_of kin (get nodes.old)) }
+    requires there { IsHead (get nodes.old) head list_owner }
+    requires free { IsSomeAnd (get nodes.old slot) (λ was. (node_of kin was).list_owner ≡ None) }
+    ensures linked { IsLinked (nodes_of kin (get nodes.new)) }
+    ensures joins { keys (nodes_of kin (get nodes.new)) slot ≡ option_map (λ was. (was.row.pid, Some list_owner)) (get nodes.old slot) }
+    ensures others { (s : ℕ) → s ≢ slot → keys (nodes_of kin (get nodes.new)) s ≡ keys (nodes_of kin (get nodes.old)) s }
     ensures rows { (s : ℕ) → rows_of (get nodes.new) s ≡ rows_of (get nodes.old) s }
-    ensures apart { (s : ℕ) → lanes (other kin) (get nodes.new) s ≡ lanes (other kin) (get nodes.old) s }
+    ensures apart { (s : ℕ) → nodes_of (other kin) (get nodes.new) s ≡ nodes_of (other kin) (get nodes.old) s }
     ensures len { slab_len nodes.new ≡ slab_len nodes.old }
     ensures capacity { nodes.new.capacity ≡ nodes.old.capacity }
 {
     let pid = nodes[slot].row.pid.get();
-    let place = place_before(nodes, kin, head, chief, pid);
+    let place = place_before(nodes, kin, head, list_owner, pid);
     set_link(nodes, kin, head, place.at, Some(slot));
-    set_chief(nodes, kin, slot, Some(chief), place.link);
+    set_list_owner(nodes, kin, slot, Some(list_owner), place.link);
 }
 
-/// Removes the row in `slot` from the list of `chief`.
-fn unlink(nodes: &mut Slab<Slot>, kin: Kin, head: usize, chief: u32, slot: usize)
-    requires linked { IsLinked (lanes kin (get nodes.old)) }
-    requires there { IsHead (get nodes.old) head chief }
-    requires its { IsSomeAnd (get nodes.old slot) (λ was. (lane kin was).chief ≡ Some chief) }
-    ensures linked { IsLinked (lanes kin (get nodes.new)) }
-    ensures leaves { keys (lanes kin (get nodes.new)) slot ≡ option_map (λ was. (was.row.pid, None)) (get nodes.old slot) }
-    ensures others { (s : ℕ) → s ≢ slot → keys (lanes kin (get nodes.new)) s ≡ keys (lanes kin (get nodes.old)) s }
+/// Removes the row in `slot` from the list of `list_owner`.
+fn unlink(nodes: &mut Slab<Slot>, kin: ListKind, head: usize, list_owner: u32, slot: usize)
+    requires linked { IsLinked (nodes_of kin (get nodes.old)) }
+    requires there { IsHead (get nodes.old) head list_owner }
+    requires its { IsSomeAnd (get nodes.old slot) (λ was. (node_of kin was).list_owner ≡ Some list_owner) }
+    ensures linked { IsLinked (nodes_of kin (get nodes.new)) }
+    ensures leaves { keys (nodes_of kin (get nodes.new)) slot ≡ option_map (λ was. (was.row.pid, None)) (get nodes.old slot) }
+    ensures others { (s : ℕ) → s ≢ slot → keys (nodes_of kin (get nodes.new)) s ≡ keys (nodes_of kin (get nodes.old)) s }
     ensures rows { (s : ℕ) → rows_of (get nodes.new) s ≡ rows_of (get nodes.old) s }
-    ensures apart { (s : ℕ) → lanes (other kin) (get nodes.new) s ≡ lanes (other kin) (get nodes.old) s }
+    ensures apart { (s : ℕ) → nodes_of (other kin) (get nodes.new) s ≡ nodes_of (other kin) (get nodes.old) s }
     ensures len { slab_len nodes.new ≡ slab_len nodes.old }
     ensures capacity { nodes.new.capacity ≡ nodes.old.capacity }
 {
     let pid = nodes[slot].row.pid.get();
     let next = links_of(kin, &nodes[slot]).next;
-    let place = place_before(nodes, kin, head, chief, pid);
+    let place = place_before(nodes, kin, head, list_owner, pid);
     set_link(nodes, kin, head, place.at, next);
-    set_chief(nodes, kin, slot, None, None);
+    set_list_owner(nodes, kin, slot, None, None);
 }
 
 /// Removes the row in `slot` from the list that contains it, if any.
-fn leave(nodes: &mut Slab<Slot>, slots: &NumberMap<usize>, kin: Kin, slot: usize)
-    requires laced { IsLaced (get nodes.old) slots.now.entries }
+fn leave(nodes: &mut Slab<Slot>, slots: &NumberMap<usize>, kin: ListKind, slot: usize)
+    requires are_linked { AreLinked (get nodes.old) slots.now.entries }
     requires there { ContainsKey nodes.old slot }
-    ensures laced { IsLaced (get nodes.new) slots.now.entries }
-    ensures here { keys (lanes kin (get nodes.new)) slot ≡ option_map (λ was. (was.row.pid, None)) (get nodes.old slot) }
-    ensures others { (s : ℕ) → s ≢ slot → keys (lanes kin (get nodes.new)) s ≡ keys (lanes kin (get nodes.old)) s }
+    ensures are_linked { AreLinked (get nodes.new) slots.now.entries }
+    ensures here { keys (nodes_of kin (get nodes.new)) slot ≡ option_map (λ was. (was.row.pid, None)) (get nodes.old slot) }
+    ensures others { (s : ℕ) → s ≢ slot → keys (nodes_of kin (get nodes.new)) s ≡ keys (nodes_of kin (get nodes.old)) s }
     ensures rows { (s : ℕ) → rows_of (get nodes.new) s ≡ rows_of (get nodes.old) s }
-    ensures apart { (s : ℕ) → lanes (other kin) (get nodes.new) s ≡ lanes (other kin) (get nodes.old) s }
+    ensures apart { (s : ℕ) → nodes_of (other kin) (get nodes.new) s ≡ nodes_of (other kin) (get nodes.old) s }
     ensures len { slab_len nodes.new ≡ slab_len nodes.old }
     ensures capacity { nodes.new.capacity ≡ nodes.old.capacity }
 {
-    if let Some(chief) = links_of(kin, &nodes[slot]).chief {
-        let head = slots.get(chief).unwrap();
-        unlink(nodes, kin, head, chief, slot);
+    if let Some(list_owner) = links_of(kin, &nodes[slot]).list_owner {
+        let head = slots.get(list_owner).unwrap();
+        unlink(nodes, kin, head, list_owner, slot);
     }
 }
 
-/// Adds the row in `slot`, which is in no list, to the list of `chief`, if any.
-fn join(nodes: &mut Slab<Slot>, slots: &NumberMap<usize>, kin: Kin, slot: usize, chief: Option<u32>)
-    requires laced { IsLaced (get nodes.old) slots.now.entries }
-    requires free { IsSomeAnd (get nodes.old slot) (λ was. (lane kin was).chief ≡ None) }
-    requires chief { (t : ℕ) → chief ≡ Some t → (h : ℕ) × (lookup (nat_eq t) slots.now.entries ≡ Some h) × IsHead (get nodes.old) h t }
-    ensures laced { IsLaced (get nodes.new) slots.now.entries }
-    ensures here { keys (lanes kin (get nodes.new)) slot ≡ option_map (λ was. (was.row.pid, chief)) (get nodes.old slot) }
-    ensures others { (s : ℕ) → s ≢ slot → keys (lanes kin (get nodes.new)) s ≡ keys (lanes kin (get nodes.old)) s }
+/// Adds the row in `slot`, which is in no list, to the list of `list_owner`, if any.
+fn join(
+    nodes: &mut Slab<Slot>,
+    slots: &NumberMap<usize>,
+    kin: ListKind,
+    slot: usize,
+    list_owner: Option<u32>,
+)
+    requires are_linked { AreLinked (get nodes.old) slots.now.entries }
+    requires free { IsSomeAnd (get nodes.old slot) (λ was. (node_of kin was).list_owner ≡ None) }
+    requires list_owner { (t : ℕ) → list_owner ≡ Some t → (h : ℕ) × (lookup (nat_eq t) slots.now.entries ≡ Some h) × IsHead (get nodes.old) h t }
+    ensures are_linked { AreLinked (get nodes.new) slots.now.entries }
+    ensures here { keys (nodes_of kin (get nodes.new)) slot ≡ option_map (λ was. (was.row.pid, list_owner)) (get nodes.old slot) }
+    ensures others { (s : ℕ) → s ≢ slot → keys (nodes_of kin (get nodes.new)) s ≡ keys (nodes_of kin (get nodes.old)) s }
     ensures rows { (s : ℕ) → rows_of (get nodes.new) s ≡ rows_of (get nodes.old) s }
-    ensures apart { (s : ℕ) → lanes (other kin) (get nodes.new) s ≡ lanes (other kin) (get nodes.old) s }
+    ensures apart { (s : ℕ) → nodes_of (other kin) (get nodes.new) s ≡ nodes_of (other kin) (get nodes.old) s }
     ensures len { slab_len nodes.new ≡ slab_len nodes.old }
     ensures capacity { nodes.new.capacity ≡ nodes.old.capacity }
 {
-    if let Some(chief) = chief {
-        let head = slots.get(chief).unwrap();
-        link(nodes, kin, head, chief, slot);
+    if let Some(list_owner) = list_owner {
+        let head = slots.get(list_owner).unwrap();
+        link(nodes, kin, head, list_owner, slot);
     }
 }
 
-/// Moves the row in `slot` from the list that contains it, if any, to the list of `chief`, or to none.
+/// Moves the row in `slot` from the list that contains it, if any, to the list of `list_owner`, or to none.
 #[inline(never)]
 fn rehang(
     nodes: &mut Slab<Slot>,
     slots: &NumberMap<usize>,
-    kin: Kin,
+    kin: ListKind,
     slot: usize,
-    chief: Option<u32>,
+    list_owner: Option<u32>,
 )
-    requires laced { IsLaced (get nodes.old) slots.now.entries }
+    requires are_linked { AreLinked (get nodes.old) slots.now.entries }
     requires there { ContainsKey nodes.old slot }
-    requires chief { (t : ℕ) → chief ≡ Some t → (h : ℕ) × (lookup (nat_eq t) slots.now.entries ≡ Some h) × IsHead (get nodes.old) h t }
-    ensures laced { IsLaced (get nodes.new) slots.now.entries }
-    ensures here { keys (lanes kin (get nodes.new)) slot ≡ option_map (λ was. (was.row.pid, chief)) (get nodes.old slot) }
-    ensures others { (s : ℕ) → s ≢ slot → keys (lanes kin (get nodes.new)) s ≡ keys (lanes kin (get nodes.old)) s }
+    requires list_owner { (t : ℕ) → list_owner ≡ Some t → (h : ℕ) × (lookup (nat_eq t) slots.now.entries ≡ Some h) × IsHead (get nodes.old) h t }
+    ensures are_linked { AreLinked (get nodes.new) slots.now.entries }
+    ensures here { keys (nodes_of kin (get nodes.new)) slot ≡ option_map (λ was. (was.row.pid, list_owner)) (get nodes.old slot) }
+    ensures others { (s : ℕ) → s ≢ slot → keys (nodes_of kin (get nodes.new)) s ≡ keys (nodes_of kin (get nodes.old)) s }
     ensures rows { (s : ℕ) → rows_of (get nodes.new) s ≡ rows_of (get nodes.old) s }
-    ensures apart { (s : ℕ) → lanes (other kin) (get nodes.new) s ≡ lanes (other kin) (get nodes.old) s }
+    ensures apart { (s : ℕ) → nodes_of (other kin) (get nodes.new) s ≡ nodes_of (other kin) (get nodes.old) s }
     ensures len { slab_len nodes.new ≡ slab_len nodes.old }
     ensures capacity { nodes.new.capacity ≡ nodes.old.capacity }
 {
     leave(nodes, slots, kin, slot);
-    join(nodes, slots, kin, slot, chief);
+    join(nodes, slots, kin, slot, list_owner);
 }
 
-/// Moves the row in `slot` to the list of `chief`, or to none, if it isn't there yet. Allocates nothing.
+/// Moves the row in `slot` to the list of `list_owner`, or to none, if it isn't there yet. Allocates nothing.
 #[inline(always)]
 pub fn relink(
     nodes: &mut Slab<Slot>,
     slots: &NumberMap<usize>,
-    kin: Kin,
+    kin: ListKind,
     slot: usize,
-    chief: Option<u32>,
+    list_owner: Option<u32>,
 )
-    requires laced { IsLaced (get nodes.old) slots.now.entries }
+    requires are_linked { AreLinked (get nodes.old) slots.now.entries }
     requires there { ContainsKey nodes.old slot }
-    requires chief { (t : ℕ) → chief ≡ Some t → (h : ℕ) × (lookup (nat_eq t) slots.now.entries ≡ Some h) × IsHead (get nodes.old) h t }
-    ensures laced { IsLaced (get nodes.new) slots.now.entries }
-    ensures here { keys (lanes kin (get nodes.new)) slot ≡ option_map (λ was. (was.row.pid, chief)) (get nodes.old slot) }
-    ensures others { (s : ℕ) → s ≢ slot → keys (lanes kin (get nodes.new)) s ≡ keys (lanes kin (get nodes.old)) s }
+    requires list_owner { (t : ℕ) → list_owner ≡ Some t → (h : ℕ) × (lookup (nat_eq t) slots.now.entries ≡ Some h) × IsHead (get nodes.old) h t }
+    ensures are_linked { AreLinked (get nodes.new) slots.now.entries }
+    ensures here { keys (nodes_of kin (get nodes.new)) slot ≡ option_map (λ was. (was.row.pid, list_owner)) (get nodes.old slot) }
+    ensures others { (s : ℕ) → s ≢ slot → keys (nodes_of kin (get nodes.new)) s ≡ keys (nodes_of kin (get nodes.old)) s }
     ensures rows { (s : ℕ) → rows_of (get nodes.new) s ≡ rows_of (get nodes.old) s }
-    ensures apart { (s : ℕ) → lanes (other kin) (get nodes.new) s ≡ lanes (other kin) (get nodes.old) s }
+    ensures apart { (s : ℕ) → nodes_of (other kin) (get nodes.new) s ≡ nodes_of (other kin) (get nodes.old) s }
     ensures len { slab_len nodes.new ≡ slab_len nodes.old }
     ensures capacity { nodes.new.capacity ≡ nodes.old.capacity }
 {
-    if links_of(kin, &nodes[slot]).chief != chief {
-        rehang(nodes, slots, kin, slot, chief);
+    if links_of(kin, &nodes[slot]).list_owner != list_owner {
+        rehang(nodes, slots, kin, slot, list_owner);
     }
 }
 
@@ -299,61 +323,61 @@ pub fn relink_both(
     tracer: Option<u32>,
     parent: Option<u32>,
 )
-    requires laced { IsLaced (get nodes.old) slots.now.entries }
+    requires are_linked { AreLinked (get nodes.old) slots.now.entries }
     requires there { ContainsKey nodes.old slot }
-    requires chiefs { (kin : Kin) (t : ℕ) → pick kin tracer parent ≡ Some t → (h : ℕ) × (lookup (nat_eq t) slots.now.entries ≡ Some h) × IsHead (get nodes.old) h t }
-    ensures laced { IsLaced (get nodes.new) slots.now.entries }
-    ensures here { (kin : Kin) → keys (lanes kin (get nodes.new)) slot ≡ option_map (λ was. (was.row.pid, pick kin tracer parent)) (get nodes.old slot) }
-    ensures others { (kin : Kin) (s : ℕ) → s ≢ slot → keys (lanes kin (get nodes.new)) s ≡ keys (lanes kin (get nodes.old)) s }
+    requires list_owners { (kin : ListKind) (t : ℕ) → pick kin tracer parent ≡ Some t → (h : ℕ) × (lookup (nat_eq t) slots.now.entries ≡ Some h) × IsHead (get nodes.old) h t }
+    ensures are_linked { AreLinked (get nodes.new) slots.now.entries }
+    ensures here { (kin : ListKind) → keys (nodes_of kin (get nodes.new)) slot ≡ option_map (λ was. (was.row.pid, pick kin tracer parent)) (get nodes.old slot) }
+    ensures others { (kin : ListKind) (s : ℕ) → s ≢ slot → keys (nodes_of kin (get nodes.new)) s ≡ keys (nodes_of kin (get nodes.old)) s }
     ensures rows { (s : ℕ) → rows_of (get nodes.new) s ≡ rows_of (get nodes.old) s }
     ensures len { slab_len nodes.new ≡ slab_len nodes.old }
     ensures capacity { nodes.new.capacity ≡ nodes.old.capacity }
 {
-    relink(nodes, slots, Kin::Tracees, slot, tracer);
-    relink(nodes, slots, Kin::Children, slot, parent);
+    relink(nodes, slots, ListKind::Tracees, slot, tracer);
+    relink(nodes, slots, ListKind::Children, slot, parent);
 }
 
-/// Returns the slot of the first row above `after` in the list of `chief`: by the link of `after` if that is
+/// Returns the slot of the first row above `after` in the list of `list_owner`: by the link of `after` if that is
 /// in the list, and else by a walk of the list.
 pub fn next_slot(
     nodes: &Slab<Slot>,
     slots: &NumberMap<usize>,
-    kin: Kin,
+    kin: ListKind,
     head: usize,
-    chief: u32,
+    list_owner: u32,
     after: u32,
 ) -> Option<usize>
-    requires laced { IsLaced (get nodes.now) slots.now.entries }
-    requires there { IsHead (get nodes.now) head chief }
+    requires are_linked { AreLinked (get nodes.now) slots.now.entries }
+    requires there { IsHead (get nodes.now) head list_owner }
     requires at { (n h : ℕ) → lookup (nat_eq n) slots.now.entries ≡ Some h → IsHead (get nodes.now) h n }
     requires below { (s : ℕ) (slot : Slot) → get nodes.now s ≡ Some slot → slot.row.pid < 65000 }
-    ensures { IsNext (keys (lanes kin (get nodes.now))) chief after result }
+    ensures { IsNext (keys (nodes_of kin (get nodes.now))) list_owner after result }
 {
     if after == 0 {
         return links_of(kin, &nodes[head]).first;
     }
     if let Some(at) = slots.get(after) {
         let links = links_of(kin, &nodes[at]);
-        if links.chief == Some(chief) {
+        if links.list_owner == Some(list_owner) {
             return links.next;
         }
     }
-    place_before(nodes, kin, head, chief, after.saturating_add(1)).link
+    place_before(nodes, kin, head, list_owner, after.saturating_add(1)).link
 }
 
-/// Returns the slot of the first row in the list of `chief` that passes the test, if any. No row is copied.
+/// Returns the slot of the first row in the list of `list_owner` that passes the test, if any. No row is copied.
 #[inline(always)]
 pub fn first_slot<F: Fn(&ProcData) -> bool>(
     nodes: &Slab<Slot>,
-    kin: Kin,
+    kin: ListKind,
     head: usize,
-    chief: u32,
+    list_owner: u32,
     test: F,
 ) -> Option<usize>
-    requires linked { IsLinked (lanes kin (get nodes.now)) }
-    requires there { IsHead (get nodes.now) head chief }
+    requires linked { IsLinked (nodes_of kin (get nodes.now)) }
+    requires there { IsHead (get nodes.now) head list_owner }
     requires callable { F.IsAlwaysCallable test }
-    ensures { IsFirst (get nodes.now) kin chief (FnReturnsAt F.Fn test) result }
+    ensures { IsFirst (get nodes.now) kin list_owner (FnReturnsAt F.Fn test) result }
 {
     let mut passed = 0;
     let mut link = links_of(kin, &nodes[head]).first;

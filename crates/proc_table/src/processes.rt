@@ -4,12 +4,12 @@ ghost use Rattle.std.specs.Prelude.{◌≡◌, ℕ, ◌+◌, ◌<◌, ◌≤◌,
 ghost use Rattle.std.specs.List.{list_any};
 ghost use Rattle.proc_table.specs.Processes.{process_of, placed};
 ghost use Rattle.std.specs.Fn.{FnReturnsAt};
-ghost use Rattle.proc_table.specs.Lanes.{chief, parent_named, unlinked, next_named, find_named};
+ghost use Rattle.proc_table.specs.ListNodes.{list_owner, parent_named, unlinked, next_named, find_named};
 ghost use Rattle.proc_table.specs.Walks.{next_tracee, next_child, find_tracee, find_child, DecidesRows};
-ghost use Rattle.proc_table.specs.Kept.{AtHome, put_process};
+ghost use Rattle.proc_table.specs.Kept.{InOwnBlock, put_process};
 
 use crate::ProcData;
-use crate::links::{Kin, Links, Slot, first_slot, next_slot, relink_both};
+use crate::links::{Links, ListKind, Slot, first_slot, next_slot, relink_both};
 use number_map::NumberMap;
 use pid_blocks::{Pid, Uid};
 use slab::Slab;
@@ -68,7 +68,7 @@ impl Model for Processes {
     ghost use Rattle.std.specs.Prelude.{◌-◌, min};
     ghost use Rattle.slab.specs.Slab.{slab_len, get};
     ghost use Rattle.proc_table.specs.Slots.{ProcRows, all_rows, look};
-    ghost use Rattle.proc_table.specs.Lanes.{rows_of, IsTied};
+    ghost use Rattle.proc_table.specs.ListNodes.{rows_of, IsTied};
 
     ghost Value = { ProcRows };
 
@@ -149,7 +149,7 @@ impl Processes {
     }
 
     /// Returns the first row above a number that names this process.
-    fn next_named(&self, kin: Kin, pid: Pid, after: u32) -> Option<ProcData>
+    fn next_named(&self, kin: ListKind, pid: Pid, after: u32) -> Option<ProcData>
         ensures { result ≡ next_named kin pid after self.now.rows }
     {
         let number = pid.get();
@@ -162,7 +162,7 @@ impl Processes {
     pub fn next_tracee(&self, pid: Pid, after: u32) -> Option<ProcData>
         ensures { result ≡ next_tracee pid after self.now.rows }
     {
-        self.next_named(Kin::Tracees, pid, after)
+        self.next_named(ListKind::Tracees, pid, after)
     }
 
     /// Returns the first row above a number whose parent is this process.
@@ -171,12 +171,17 @@ impl Processes {
         ensures { result ≡ next_child pid after self.now.rows }
     {
         let _number = pid.get();
-        self.next_named(Kin::Children, pid, after)
+        self.next_named(ListKind::Children, pid, after)
     }
 
     /// Returns the first row that names this process and passes the test.
     #[inline(always)]
-    fn find_named<F: Fn(&ProcData) -> bool>(&self, kin: Kin, pid: Pid, test: F) -> Option<ProcData>
+    fn find_named<F: Fn(&ProcData) -> bool>(
+        &self,
+        kin: ListKind,
+        pid: Pid,
+        test: F,
+    ) -> Option<ProcData>
         requires callable { F.IsAlwaysCallable test }
         ensures { (t : ProcData → Bool) → DecidesRows (FnReturnsAt F.Fn test) self.now.rows t → result ≡ find_named kin pid t self.now.rows }
     {
@@ -191,7 +196,7 @@ impl Processes {
         requires callable { F.IsAlwaysCallable test }
         ensures { (t : ProcData → Bool) → DecidesRows (FnReturnsAt F.Fn test) self.now.rows t → result ≡ find_tracee pid t self.now.rows }
     {
-        self.find_named(Kin::Tracees, pid, test)
+        self.find_named(ListKind::Tracees, pid, test)
     }
 
     /// Returns the first row whose parent is this process and that passes the test.
@@ -200,7 +205,7 @@ impl Processes {
         ensures { (t : ProcData → Bool) → DecidesRows (FnReturnsAt F.Fn test) self.now.rows t → result ≡ find_child pid t self.now.rows }
     {
         let _number = pid.get();
-        self.find_named(Kin::Children, pid, test)
+        self.find_named(ListKind::Children, pid, test)
     }
 
     /// Returns the number of the user's rows.
@@ -214,8 +219,8 @@ impl Processes {
     pub fn add(&mut self, row: ProcData)
         requires room { 0 < self.old.spare }
         requires fresh { list_any (λ p. p.pid == row.pid) self.old.rows ≡ false }
-        requires home { AtHome row }
-        requires named { (kin : Kin) (t : ℕ) → chief kin row ≡ Some t → list_any (λ p. p.pid == t) self.old.rows ≡ true }
+        requires home { InOwnBlock row }
+        requires named { (kin : ListKind) (t : ℕ) → list_owner kin row ≡ Some t → list_any (λ p. p.pid == t) self.old.rows ≡ true }
         ensures rows { self.new.rows ≡ placed row self.old.rows }
         ensures spare { self.old.spare ≤ self.new.spare + 1 }
     {
@@ -231,7 +236,7 @@ impl Processes {
     /// tracer and parent. Allocates nothing.
     pub fn set(&mut self, row: ProcData)
         requires there { IsSomeAnd (process_of row.pid self.old.rows) (λ was. was.uid ≡ row.uid) }
-        requires named { (kin : Kin) (t : ℕ) → chief kin row ≡ Some t → list_any (λ p. p.pid == t) self.old.rows ≡ true }
+        requires named { (kin : ListKind) (t : ℕ) → list_owner kin row ≡ Some t → list_any (λ p. p.pid == t) self.old.rows ≡ true }
         ensures rows { self.new.rows ≡ map (put_process row) self.old.rows }
         ensures spare { self.new.spare ≡ self.old.spare }
     {
@@ -250,7 +255,7 @@ impl Processes {
     /// Removes the row with this number, which no row names.
     pub fn remove(&mut self, pid: Pid)
         requires there { IsSome (process_of pid self.old.rows) }
-        requires unnamed { (kin : Kin) → next_named kin pid 0 self.old.rows ≡ None }
+        requires unnamed { (kin : ListKind) → next_named kin pid 0 self.old.rows ≡ None }
         ensures rows { self.new.rows ≡ filter (λ p. not (p.pid == pid)) self.old.rows }
         ensures spare { self.old.spare ≤ self.new.spare }
     {

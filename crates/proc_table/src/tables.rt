@@ -10,12 +10,12 @@ ghost use Rattle.std.specs.Fn.{FnReturnsAt};
 ghost use Rattle.proc_table.specs.Walks.{next_of, next_tracee, next_child, find_tracee, find_child, DecidesRows};
 ghost use Rattle.proc_table.specs.Fresh.{no_rows, fresh_pid, fresh_tid, add_process, add_lwp, process_count, lwp_count_of, lwp_count, is_process, is_lwp};
 ghost use Rattle.proc_table.specs.Edits.{map_lwps, IsLwpChange};
-ghost use Rattle.proc_table.specs.Kept.{IsKept, IsRow, AtHome, Named, put_process, set_process, set_lwp, drop_process, drop_lwp};
+ghost use Rattle.proc_table.specs.Kept.{TableInvariant, IsRow, InOwnBlock, Named, put_process, set_process, set_lwp, drop_process, drop_lwp};
 
 use crate::ProcData;
 use crate::processes::Processes;
+use bit_sets::NumberSet;
 use lwp_table::{LwpData, LwpTable};
-use number_sets::NumberSet;
 use pid_blocks::{
     FIRST_PID, FIRST_TID, PIDS, Pid, TIDS, Tid, Uid, cursor_after, next_free, pid_block, tid_block,
 };
@@ -115,7 +115,7 @@ impl Tables {
 
     /// States what the tables maintain, for proofs.
     pub fn kept(&self)
-        ensures { IsKept self.now.rows }
+        ensures { TableInvariant self.now.rows }
     {
         let _ = &self.processes;
     }
@@ -123,7 +123,7 @@ impl Tables {
     /// Returns the process with this number, if any.
     pub fn process(&self, pid: Pid) -> Option<ProcData>
         ensures row { result ≡ process_of pid self.now.rows.processes }
-        ensures kept { IsKept self.now.rows }
+        ensures kept { TableInvariant self.now.rows }
     {
         self.numbered(pid.get())
     }
@@ -131,7 +131,7 @@ impl Tables {
     /// Returns the process with this number, if any.
     pub fn numbered(&self, number: u32) -> Option<ProcData>
         ensures row { result ≡ process_of number self.now.rows.processes }
-        ensures kept { IsKept self.now.rows }
+        ensures kept { TableInvariant self.now.rows }
     {
         self.processes.get(number)
     }
@@ -139,7 +139,7 @@ impl Tables {
     /// Returns the LWP with this number, if any.
     pub fn lwp(&self, tid: Tid) -> Option<LwpData>
         ensures row { result ≡ lwp_of tid self.now.rows.lwps }
-        ensures kept { IsKept self.now.rows }
+        ensures kept { TableInvariant self.now.rows }
     {
         self.lwps.get(tid)
     }
@@ -147,7 +147,7 @@ impl Tables {
     /// Returns the oldest LWP of a process, if any.
     pub fn first_lwp(&self, pid: Pid) -> Option<LwpData>
         ensures row { result ≡ first_lwp pid self.now.rows.lwps }
-        ensures kept { IsKept self.now.rows }
+        ensures kept { TableInvariant self.now.rows }
     {
         self.lwps.first_of(pid)
     }
@@ -156,7 +156,7 @@ impl Tables {
     pub fn next_lwp(&self, pid: Pid, after: Tid) -> Option<LwpData>
         requires { IsSomeAnd (lwp_of after self.now.rows.lwps) (λ l. l.pid ≡ pid) }
         ensures row { result ≡ next_lwp pid after self.now.rows.lwps }
-        ensures kept { IsKept self.now.rows }
+        ensures kept { TableInvariant self.now.rows }
     {
         self.lwps.next_of(pid, after)
     }
@@ -164,7 +164,7 @@ impl Tables {
     /// Returns the LWP at this place in order of birth, if any.
     pub fn lwp_at(&self, place: usize) -> Option<LwpData>
         ensures row { result ≡ slice_get self.now.rows.lwps place }
-        ensures kept { IsKept self.now.rows }
+        ensures kept { TableInvariant self.now.rows }
     {
         self.lwps.at(place)
     }
@@ -172,7 +172,7 @@ impl Tables {
     /// Returns the user's process with this number, if any.
     pub fn seen_process(&self, uid: Uid, number: u32) -> Option<ProcData>
         ensures row { result ≡ seen_process uid number self.now.rows }
-        ensures kept { IsKept self.now.rows }
+        ensures kept { TableInvariant self.now.rows }
     {
         let row = self.processes.find(number)?;
         if row.uid == uid { Some(*row) } else { None }
@@ -190,7 +190,7 @@ impl Tables {
     #[tactic(auto, using(crate::proofs::Seen::home_laws))]
     pub fn seen_lwp(&self, uid: Uid, number: u32) -> Option<LwpData>
         ensures row { result ≡ seen_lwp uid number self.now.rows }
-        ensures kept { IsKept self.now.rows }
+        ensures kept { TableInvariant self.now.rows }
     {
         let pid = self.lwp_process(number)?;
         if !self.owns(uid, pid) {
@@ -221,7 +221,7 @@ impl Tables {
     /// LWPs' numbers.
     pub fn find_seen(&self, uid: Uid, number: u32) -> Option<Pid>
         ensures seen { result ≡ find_seen uid number self.now.rows }
-        ensures kept { IsKept self.now.rows }
+        ensures kept { TableInvariant self.now.rows }
     {
         let _ = &self.processes;
         if number < FIRST_TID {
@@ -234,7 +234,7 @@ impl Tables {
     /// Returns the user's first process above a number, if any.
     pub fn next_of(&self, uid: Uid, after: u32) -> Option<ProcData>
         ensures row { result ≡ next_of uid after self.now.rows.processes }
-        ensures kept { IsKept self.now.rows }
+        ensures kept { TableInvariant self.now.rows }
     {
         let block = pid_block(uid);
         let first = after.saturating_add(1).max(block.first) - FIRST_PID;
@@ -247,7 +247,7 @@ impl Tables {
     /// Returns the first process above a number that this process traces, if any.
     pub fn next_tracee(&self, pid: Pid, after: u32) -> Option<ProcData>
         ensures row { result ≡ next_tracee pid after self.now.rows.processes }
-        ensures kept { IsKept self.now.rows }
+        ensures kept { TableInvariant self.now.rows }
     {
         self.processes.next_tracee(pid, after)
     }
@@ -255,7 +255,7 @@ impl Tables {
     /// Returns the first process above a number whose parent is this process, if any.
     pub fn next_child(&self, pid: Pid, after: u32) -> Option<ProcData>
         ensures row { result ≡ next_child pid after self.now.rows.processes }
-        ensures kept { IsKept self.now.rows }
+        ensures kept { TableInvariant self.now.rows }
     {
         self.processes.next_child(pid, after)
     }
@@ -266,7 +266,7 @@ impl Tables {
         requires callable { F.IsAlwaysCallable test }
         // the result of the definition, for any test that the closure decides on the rows
         ensures row { (t : ProcData → Bool) → DecidesRows (FnReturnsAt F.Fn test) self.now.rows.processes t → result ≡ find_tracee pid t self.now.rows.processes }
-        ensures kept { IsKept self.now.rows }
+        ensures kept { TableInvariant self.now.rows }
     {
         self.processes.find_tracee(pid, test)
     }
@@ -277,7 +277,7 @@ impl Tables {
         requires callable { F.IsAlwaysCallable test }
         // the result of the definition, for any test that the closure decides on the rows
         ensures row { (t : ProcData → Bool) → DecidesRows (FnReturnsAt F.Fn test) self.now.rows.processes t → result ≡ find_child pid t self.now.rows.processes }
-        ensures kept { IsKept self.now.rows }
+        ensures kept { TableInvariant self.now.rows }
     {
         self.processes.find_child(pid, test)
     }
@@ -285,7 +285,7 @@ impl Tables {
     /// Returns the number of the user's processes.
     pub fn process_count(&self, uid: Uid) -> usize
         ensures count { result ≡ process_count uid self.now.rows }
-        ensures kept { IsKept self.now.rows }
+        ensures kept { TableInvariant self.now.rows }
     {
         self.processes.count(uid)
     }
@@ -293,7 +293,7 @@ impl Tables {
     /// Returns the number of the user's LWPs.
     pub fn lwp_count_of(&self, uid: Uid) -> usize
         ensures count { result ≡ lwp_count_of uid self.now.rows }
-        ensures kept { IsKept self.now.rows }
+        ensures kept { TableInvariant self.now.rows }
     {
         self.lwps.user_count(uid)
     }
@@ -301,7 +301,7 @@ impl Tables {
     /// Returns the number of a process's LWPs.
     pub fn lwp_count(&self, pid: Pid) -> usize
         ensures count { result ≡ lwp_count pid self.now.rows }
-        ensures kept { IsKept self.now.rows }
+        ensures kept { TableInvariant self.now.rows }
     {
         self.lwps.count(pid)
     }
@@ -309,7 +309,7 @@ impl Tables {
     /// Returns where the search for the user's next process number begins.
     pub fn pid_cursor(&self, uid: Uid) -> u32
         ensures cursor { result ≡ get_or self.now.rows.pid_cursors (slot uid) 0 }
-        ensures kept { IsKept self.now.rows }
+        ensures kept { TableInvariant self.now.rows }
     {
         self.pid_cursors[uid.slot()]
     }
@@ -317,7 +317,7 @@ impl Tables {
     /// Returns where the search for the user's next LWP number begins.
     pub fn tid_cursor(&self, uid: Uid) -> u32
         ensures cursor { result ≡ get_or self.now.rows.tid_cursors (slot uid) 0 }
-        ensures kept { IsKept self.now.rows }
+        ensures kept { TableInvariant self.now.rows }
     {
         self.tid_cursors[uid.slot()]
     }
@@ -326,7 +326,7 @@ impl Tables {
     #[tactic(auto, using(crate::proofs::Seen::home_laws))]
     fn lwp_process(&self, number: u32) -> Option<Pid>
         ensures process { result ≡ option_map (λ l. l.pid) (lwp_of number self.now.rows.lwps) }
-        ensures kept { IsKept self.now.rows }
+        ensures kept { TableInvariant self.now.rows }
     {
         let _ = &self.lwps;
         let tid = Tid::new(number)?;
@@ -353,7 +353,7 @@ impl Tables {
         ensures free { result ≡ fresh_pid uid self.now.rows }
         ensures home { IfSome result (λ n. InBlock (pid_block uid) n) }
         ensures fresh { IfSome result (λ n. is_process self.now.rows n ≡ false) }
-        ensures kept { IsKept self.now.rows }
+        ensures kept { TableInvariant self.now.rows }
     {
         let cursor = self.pid_cursor(uid);
         let number = next_free(pid_block(uid), cursor, |n| self.is_process(n))?;
@@ -365,7 +365,7 @@ impl Tables {
         ensures free { result ≡ fresh_tid uid self.now.rows }
         ensures home { IfSome result (λ n. InBlock (tid_block uid) n) }
         ensures fresh { IfSome result (λ n. is_lwp self.now.rows n ≡ false) }
-        ensures kept { IsKept self.now.rows }
+        ensures kept { TableInvariant self.now.rows }
     {
         let cursor = self.tid_cursor(uid);
         let number = next_free(tid_block(uid), cursor, |n| self.is_lwp(n))?;
@@ -376,7 +376,7 @@ impl Tables {
     pub fn add_process(&mut self, row: ProcData)
         requires room { 0 < self.old.spare_processes }
         requires fresh { is_process self.old.rows row.pid ≡ false }
-        requires home { AtHome row }
+        requires home { InOwnBlock row }
         requires named { Named self.old.rows row }
         ensures rows { self.new.rows ≡ add_process row self.old.rows }
         ensures spare { self.old.spare_processes ≤ self.new.spare_processes + 1 }

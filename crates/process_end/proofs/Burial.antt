@@ -1,8 +1,8 @@
 -- The end of a process without LWPs that no row names and no LWP waits for: its own row, and its collector's.
 use Rattle.std.proofs.Common.{◌≡◌, ℕ, List, [], ◌∷◌, Bool, true, false, not, ◌&&◌, ◌||◌, ◌==◌, if◌then◌else◌, Option, Some, None, is_none, refl, sym, ap, ◌∙◌, eqb-true, rules, option_map}
 use Rattle.std.proofs.Math.Bool.{or-false}
-use Rattle.trace_stop.proofs.Words.{AllByRecursion, list_any, SIGKILL, LwpData, ProcData, process_of, is_live, is_this, traces, Rows, Rise, set_process, drop_process, notified, unless, holds_of}
-use Rattle.trace_stop.proofs.Words.{orphaned, dead, uncollected, collector, waits_where, released}
+use Rattle.trace_stop.proofs.CommonNames.{AllByRecursion, list_any, SIGKILL, LwpData, ProcData, process_of, is_live, is_this, traces, Rows, Rise, set_process, drop_process, notified, unless, holds_of}
+use Rattle.trace_stop.proofs.CommonNames.{orphaned, dead, uncollected, collector, waits_where, released}
 use Rattle.std.proofs.Math.Path.{fun_ext}
 use Rattle.process_end.specs.Laws.{end_alone}
 use Rattle.process_end.specs.Leaving.{LeavingRow, LeavingLwp, IsLeaving}
@@ -11,10 +11,10 @@ use Rattle.trace_stop.proofs.Passes.{passes, any_same, each_equal}
 use Rattle.trace_stop.proofs.Numbers.{the_row}
 use Rattle.process_end.proofs.Turned.{notified_row, notified_lwp, notified_lwp-miss, turned, turned_lwp, moved, is_gone, gone-true, gone-false, told-miss, turned-dead, turned-safe, turned-fallen, turned_lwp-safe}
 use Rattle.process_end.proofs.Twice.{alone, Told, notified_lwp-moved}
-use Rattle.process_end.proofs.Tells.{tells, tells-value, told_by, parent_after}
+use Rattle.process_end.proofs.NotifiedOnce.{tells, tells-value, told_by, parent_after}
 use Rattle.process_end.proofs.LeafFirst.{told, told-is}
 use Rattle.trace_stop.proofs.Found.{any_by_number}
-use Rattle.process_end.proofs.LeafLaw.{this_holds}
+use Rattle.process_end.proofs.LeafEndsFirst.{this_holds}
 use Rattle.process_end.proofs.Leaving.{is_alone, end_alone_turned, live_q, told_alive, Told-of, out, same_lwp, put_tell, put_tell_lwp, drop_each, set_tell}
 use Rattle.process_end.proofs.LeafSteps.{untold_gone}
 use Rattle.process_end.proofs.LeafTells.{same_test}

@@ -1,7 +1,7 @@
 -- The processes that end with a process.
 use Rattle.std.proofs.Math.Bool.{and-false, and-true, or-false}
-use Rattle.trace_stop.proofs.Words.{nat_tests, AllByRecursion, list_any, SIGTRAP, bit, ProcData, process_of, is_live, is_this, traces, reporting, Rows, each, Rise, notified, detached, untraced}
-use Rattle.trace_stop.proofs.Words.{is_live_of, IsLiveOf, Linked, Stands}
+use Rattle.trace_stop.proofs.CommonNames.{nat_tests, AllByRecursion, list_any, SIGTRAP, bit, ProcData, process_of, is_live, is_this, traces, reporting, Rows, each, Rise, notified, detached, untraced}
+use Rattle.trace_stop.proofs.CommonNames.{is_live_of, IsLiveOf, Linked, MidStepInvariant}
 use Rattle.std.proofs.Common.{◌≡◌, ℕ, zero, suc, List, [], ◌∷◌, filter_map, Bool, true, false, ◌&&◌, ◌||◌, ◌==◌, if◌then◌else◌, Some, IfSome, is_some, refl, sym, ap, ◌∙◌, arith, rules}
 use Rattle.std.proofs.Math.Path.{fun_ext}
 use Rattle.trace_stop.specs.declared.Settings.{Settings}
@@ -55,14 +55,14 @@ dooms_alone settings ps q found all n =
     (All-imply (λ r. is_doomed settings ps q r ≡ (r.pid == q)) _ (λ r e. ap (λ b. (r.pid == n) && b) e) ps all)
     ∙ one_number q n ps found
 
-pub untracing : (rows : Rows) → Stands rows → (q : ℕ) → traces_live q rows ≡ false → AllByRecursion (Untracing rows.processes q) rows.processes
+pub untracing : (rows : Rows) → MidStepInvariant rows → (q : ℕ) → traces_live q rows ≡ false → AllByRecursion (Untracing rows.processes q) rows.processes
 untracing rows s q leaf =
     All-imply (λ r. ((is_live r && traces q r) ≡ false) × Linked rows r) (Untracing rows.processes q)
     (λ r h. record { free = λ live. sym (ap (λ b. b && traces q r) live) ∙ h.0; tracer = If_more (IsLiveOf rows r.uid) (NoZombie rows.processes) (no_zombie rows s.rising r.uid) r.tracer h.1.tracer })
     rows.processes (All-both _ (Linked rows) rows.processes (none_of _ rows.processes leaf) s.linked)
 
 -- of the rows q alone ends
-pub doomed_alone : (settings : Settings) (rows : Rows) (q : ℕ) → Stands rows → traces_live q rows ≡ false → AllByRecursion (λ r. is_doomed settings rows.processes q r ≡ (r.pid == q)) rows.processes
+pub doomed_alone : (settings : Settings) (rows : Rows) (q : ℕ) → MidStepInvariant rows → traces_live q rows ≡ false → AllByRecursion (λ r. is_doomed settings rows.processes q r ≡ (r.pid == q)) rows.processes
 doomed_alone settings rows q s leaf =
     All-imply (λ r. process_of r.pid rows.processes ≡ Some r) _ (λ r own. ap (λ b. (r.pid == q) || b) (at_live r own (is_live r) refl) ∙ or-false (r.pid == q)) rows.processes (own_rows rows.processes s.rising)
   where

@@ -1,12 +1,12 @@
 -- The rows, when a process that is doomed and traces no live one ends before the process that dooms it.
-use Rattle.trace_stop.proofs.Words.{nat_tests, AllByRecursion, list_any, SIGKILL, ProcData, LwpData, process_of, is_live, Rows, each, Rise, holds_of, process_after, lwp_after, notifies_of, end_each}
+use Rattle.trace_stop.proofs.CommonNames.{nat_tests, AllByRecursion, list_any, SIGKILL, ProcData, LwpData, process_of, is_live, Rows, each, Rise, holds_of, process_after, lwp_after, notifies_of, end_each}
 use Rattle.std.proofs.Common.{◌≡◌, ℕ, List, filter_map, Bool, true, false, ◌||◌, ◌==◌, Some, sym, ap, ◌∙◌, subst, arith, rules}
 use Rattle.trace_stop.proofs.Every.{All-imply, All-both, any_holds}
 use Rattle.trace_stop.proofs.Passes.{passes, any_same, any_or, any_edited, KeepsNumbers, KeepsOwners, own_rows, rise_edited, each_twice, each_agree}
 use Rattle.process_end.proofs.Doomed.{NoZombie}
 use Rattle.process_end.proofs.Turned.{heard, heard_lwp, fallen, notified_row, notified_lwp, turned, turned_lwp}
 use Rattle.process_end.proofs.Twice.{alone, rest, Told, told-pid, twice, lwp_twice}
-use Rattle.process_end.proofs.Tells.{tells, tells-is, tells-names, told_by-names, Names, third-whom, tells_twice}
+use Rattle.process_end.proofs.NotifiedOnce.{tells, tells-is, tells-names, told_by-names, Names, third-whom, tells_twice}
 
 -- What an end keeps of a row's number, and of an LWP's process
 

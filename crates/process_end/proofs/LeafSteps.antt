@@ -1,5 +1,5 @@
 -- Rows that name a process that ends, each taken from it: its end is as it was.
-use Rattle.trace_stop.proofs.Words.{nat_tests, option_and_then, AllByRecursion, LwpData, ProcData, process_of, is_live, Rows, each, by_owner, Rise, unless, orphaned}
+use Rattle.trace_stop.proofs.CommonNames.{nat_tests, option_and_then, AllByRecursion, LwpData, ProcData, process_of, is_live, Rows, each, by_owner, Rise, unless, orphaned}
 use Rattle.std.proofs.Common.{◌≡◌, ℕ, Bool, true, false, not, ◌&&◌, ◌==◌, Option, Some, None, IfSome, is_none, refl, sym, ap, ◌∙◌, true≢false, eqb-true, subst, arith, rules}
 use Rattle.std.proofs.Math.Bool.{and-false}
 use Rattle.process_end.specs.Laws.{end_alone}
@@ -9,7 +9,7 @@ use Rattle.trace_stop.proofs.Passes.{passes, KeepsNumbers}
 use Rattle.trace_stop.proofs.Numbers.{the_row}
 use Rattle.process_end.proofs.Turned.{turned, turned_lwp, is_gone, gone-true, turned-dead}
 use Rattle.process_end.proofs.Twice.{alone, Told}
-use Rattle.process_end.proofs.Tells.{tells, told_by, tells_any, parent_after}
+use Rattle.process_end.proofs.NotifiedOnce.{tells, told_by, tells_any, parent_after}
 use Rattle.process_end.proofs.LeafFirst.{told}
 use Rattle.process_end.proofs.Leaving.{Fit, leaving_each, Ends, stepped_same, told_alive, Told-of, put, put_keeps, out, same_lwp}
 

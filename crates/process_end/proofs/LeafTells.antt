@@ -1,5 +1,5 @@
 -- A zombie is taken from its tracer, which ends, and its parent is notified: the tracer's end is as it was.
-use Rattle.trace_stop.proofs.Words.{nat_tests, AllByRecursion, list_any, LwpData, ProcData, process_of, is_live, is_this, traces, Rows, each, Rise, unless, orphaned, uncollected, released}
+use Rattle.trace_stop.proofs.CommonNames.{nat_tests, AllByRecursion, list_any, LwpData, ProcData, process_of, is_live, is_this, traces, Rows, each, Rise, unless, orphaned, uncollected, released}
 use Rattle.std.proofs.Common.{◌≡◌, ℕ, Bool, true, false, ◌&&◌, ◌||◌, ◌==◌, if◌then◌else◌, Option, Some, None, IfSome, refl, sym, ap, ◌∙◌, true≢false, eqb-true, eq-eqb, arith, rules}
 use Rattle.std.proofs.Math.Bool.{or-false, or_comm}
 use Rattle.process_end.specs.Laws.{end_alone}
@@ -9,7 +9,7 @@ use Rattle.trace_stop.proofs.Passes.{passes, any_or}
 use Rattle.trace_stop.proofs.Numbers.{the_row}
 use Rattle.process_end.proofs.Turned.{heard, heard_lwp, notified_row, notified_lwp, turned, turned_lwp, moved, told-miss, turned-dead, turned-safe, turned-fallen, turned_lwp-safe, turned_lwp-fallen}
 use Rattle.process_end.proofs.Twice.{alone, Told, told-live, told-pid, moved-pid, told_twice, notified_lwp-moved, notified_lwp-told, released-told, released_told, told_lwp_twice}
-use Rattle.process_end.proofs.Tells.{tells, told_by, parent_after}
+use Rattle.process_end.proofs.NotifiedOnce.{tells, told_by, parent_after}
 use Rattle.process_end.proofs.LeafFirst.{told, told-is, notified_lwp-pid}
 use Rattle.trace_stop.proofs.Found.{any_by_number}
 use Rattle.process_end.proofs.Leaving.{Fit, leaving_each, Ends, stepped, told_after, told_alive, Told-of, put_tell, put_tell_lwp, put_keeps}

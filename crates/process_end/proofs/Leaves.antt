@@ -1,5 +1,5 @@
 -- Among the tracees below a process that ends, there is one without live tracees.
-use Rattle.trace_stop.proofs.Words.{nat_tests, ProcData, process_of, is_live, is_this, traces, Rows, Stands}
+use Rattle.trace_stop.proofs.CommonNames.{nat_tests, ProcData, process_of, is_live, is_this, traces, Rows, MidStepInvariant}
 use Rattle.std.proofs.Common.{◌≡◌, ℕ, zero, suc, ◌+◌, ◌<◌, length, Bool, true, false, ◌&&◌, ◌||◌, ◌==◌, Option, Some, None, refl, sym, ap, ◌∙◌, arith, true≢false, eqb-true, subst, rules}
 use Rattle.trace_stop.specs.declared.Settings.{Settings}
 use Rattle.trace_stop.specs.End.{tracer_in, tracer_of, meets, dooms}
@@ -8,13 +8,13 @@ use Rattle.process_end.specs.Laws.{traces_live, TraceeDoomed, LeafExists}
 use Rattle.trace_stop.proofs.Every.{and_left, and_right, by_bool, any_holds}
 use Rattle.trace_stop.proofs.Passes.{passes, own_rows}
 use Rattle.trace_stop.proofs.Chains.{meets-suc, no_ring, chains_end, chains_meet, tracee_deeper, meets-up}
-use Rattle.process_end.proofs.LeafLaw.{dooms_meets, dooms_chained}
+use Rattle.process_end.proofs.LeafEndsFirst.{dooms_meets, dooms_chained}
 
 pub this_is : (x : ℕ) (o : Option ℕ) → is_this x o ≡ true → o ≡ Some x
 this_is x None is = absurd (true≢false (sym is))
 this_is x (Some t) is = grind (arith, nat_tests, is)
 
-module _ (settings : Settings) (rows : Rows) (p : ℕ) (kills : settings.kill_on_debugger_exit ≡ true) (s : Stands rows) where
+module _ (settings : Settings) (rows : Rows) (p : ℕ) (kills : settings.kill_on_debugger_exit ≡ true) (s : MidStepInvariant rows) where
   -- a chain of one link more
   longer : (x y : ℕ) → tracer_of rows.processes y ≡ Some x → ((x == p) || dooms settings rows.processes p x) ≡ true → meets 250 rows.processes p y ≡ true
   longer x y link is = search (rules, meets-up, chains_meet, meets-suc, dooms_meets)

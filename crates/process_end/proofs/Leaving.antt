@@ -2,7 +2,7 @@
 use Rattle.std.proofs.Common.{◌≡◌, ℕ, List, filter, filter_map, Bool, true, false, not, ◌&&◌, ◌==◌, if◌then◌else◌, Option, Some, None, IfSome, refl, sym, ap, ◌∙◌, eqb-true, eq-eqb, subst, [], ◌∷◌, arith, rules}
 use Rattle.std.proofs.Math.Bool.{and-false}
 use Rattle.std.proofs.Math.Path.{fun_ext}
-use Rattle.trace_stop.proofs.Words.{option_and_then, AllByRecursion, list_any, LwpData, ProcData, process_of, is_live, Rows, each, by_owner, Rise, set_process, drop_process, notified}
+use Rattle.trace_stop.proofs.CommonNames.{option_and_then, AllByRecursion, list_any, LwpData, ProcData, process_of, is_live, Rows, each, by_owner, Rise, set_process, drop_process, notified}
 use Rattle.proc_table.proofs.Changes.{change_process-at}
 use Rattle.process_end.specs.Leaving.{LeavingRow, LeavingLwp, IsLeaving}
 use Rattle.process_end.specs.Laws.{end_alone}
@@ -11,9 +11,9 @@ use Rattle.trace_stop.proofs.Passes.{passes, any_same, any_edited, KeepsNumbers,
 use Rattle.process_end.proofs.Doomed.{end_each_same}
 use Rattle.process_end.proofs.Turned.{heard, heard_lwp, fallen, notified_row, notified_lwp, turned, turned_lwp}
 use Rattle.process_end.proofs.Twice.{alone, Told}
-use Rattle.process_end.proofs.Tells.{tells, tells-names, Names}
+use Rattle.process_end.proofs.NotifiedOnce.{tells, tells-names, Names}
 use Rattle.process_end.proofs.LeafFirst.{told, told-is, end_turned}
-use Rattle.trace_stop.proofs.Told.{notified-one}
+use Rattle.trace_stop.proofs.Notified.{notified-one}
 use Rattle.trace_stop.proofs.Edited.{lwps_left}
 
 -- The end of q alone, row by row

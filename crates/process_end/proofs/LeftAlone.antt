@@ -1,6 +1,6 @@
 -- Tracees detached one after another.
-use Rattle.trace_stop.proofs.Words.{nat_tests, option_and_then, AllByRecursion, no_flags, shows, PL_FLAG_EXITED, LwpData, ProcData, process_of, is_live, is_this, traces, reporting, Rows, by_owner}
-use Rattle.trace_stop.proofs.Words.{is_numbered, Rise, reported, untraced, untraced_lwp, detached, left_alone, lost_signals, Stands, is_live_at}
+use Rattle.trace_stop.proofs.CommonNames.{nat_tests, option_and_then, AllByRecursion, no_flags, shows, PL_FLAG_EXITED, LwpData, ProcData, process_of, is_live, is_this, traces, reporting, Rows, by_owner}
+use Rattle.trace_stop.proofs.CommonNames.{is_numbered, Rise, reported, untraced, untraced_lwp, detached, left_alone, lost_signals, MidStepInvariant, is_live_at}
 use Rattle.std.proofs.Common.{◌≡◌, ℕ, ◌<◌, List, filter_map, Bool, true, false, ◌&&◌, ◌==◌, if◌then◌else◌, Option, Some, None, IfSome, refl, sym, ap, ◌∙◌, eqb-true, arith, count_by, option_map}
 use Rattle.process_end.specs.Laws.{traces_live}
 use Rattle.process_end.specs.Descent.{spares, IsLiveTracee}
@@ -9,7 +9,7 @@ use Rattle.trace_stop.proofs.Passes.{passes, each_same, each_twice}
 use Rattle.trace_stop.proofs.Numbers.{the_row}
 use Rattle.trace_stop.proofs.Edited.{edit_none, lwps_left}
 use Rattle.trace_stop.proofs.Found.{any_by_number}
-use Rattle.process_end.proofs.LeafLives.{one_fewer}
+use Rattle.process_end.proofs.LeafEndsNoOther.{one_fewer}
 use Rattle.process_end.proofs.Descents.{TraceeRow, tracee_row}
 
 abbrev pub left_row : (ProcData → Bool) → (ProcData → ℕ) → ProcData → Option ProcData
@@ -37,7 +37,7 @@ left_by rows n c lost p rise at is =
 abbrev pub is_tracee : ℕ → ProcData → Bool
 is_tracee q r = is_live r && traces q r
 
-module _ (q : ℕ) (rows : Rows) (s : Stands rows) (t : ℕ) (is : IsLiveTracee q rows t) where
+module _ (q : ℕ) (rows : Rows) (s : MidStepInvariant rows) (t : ℕ) (is : IsLiveTracee q rows t) where
   row : TraceeRow q rows t
   row = tracee_row q rows t s is
 

@@ -3,9 +3,9 @@ pub mod Turned
 pub mod Twice
 pub mod Tells
 pub mod LeafFirst
-pub mod LeafLaw
+pub mod LeafEndsFirst
 pub mod Leaves
-pub mod LeafLives
+pub mod LeafEndsNoOther
 pub mod Descents
 pub mod LwpEdits
 pub mod Leaving

@@ -1,5 +1,5 @@
 -- A walk that takes out the LWPs of a process, and what the end of a vfork wait keeps of an LWP.
-use Rattle.trace_stop.proofs.Words.{AllByRecursion, LwpData, Differ, lwp_of, first_lwp, ProcData, Rows, drop_lwp, released, not-false}
+use Rattle.trace_stop.proofs.CommonNames.{AllByRecursion, LwpData, Differ, lwp_of, first_lwp, ProcData, Rows, drop_lwp, released, not-false}
 use Rattle.std.proofs.Common.{◌≡◌, ℕ, ◌<◌, Bool, true, false, List, [], ◌∷◌, length, filter, refl, ap, ◌∙◌, arith, Some, None, subst, eq-eqb, eqb-true, not, ◌==◌, IfSome}
 use Rattle.lwp_table.proofs.CountLemmas.{length-without}
 use Rattle.proc_table.proofs.Every.{every_untested}

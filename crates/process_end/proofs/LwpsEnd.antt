@@ -1,8 +1,8 @@
 -- The LWPs of a process that ends, and those that wait for it.
 use Rattle.std.proofs.Common.{◌≡◌, ℕ, List, [], ◌∷◌, map, filter, filter_map, Bool, true, false, not, ◌&&◌, ◌==◌, if◌then◌else◌, Option, Some, None, IfSome, is_none, is_some, refl, sym, ap, ◌∙◌, true≢false, eqb-true, eq-eqb, subst, arith}
-use Rattle.trace_stop.proofs.Words.{option_and_then, AllByRecursion, LwpData, Mode, User, InCall, VforkWait, ProcData, State, Run, Trace, Job, Zombie, process_of, is_live, is_zombie_state, traces}
-use Rattle.trace_stop.proofs.Words.{Rows, each, by_owner, own_lwp, map_lwps, Housed, waits_where, released, lwp_after, IsLiveOf, IsLiveChild, Linked, IfEnded, FitProcess, Standing, WithOwner}
-use Rattle.trace_stop.proofs.Words.{waited_for, IsSound, is_live_at}
+use Rattle.trace_stop.proofs.CommonNames.{option_and_then, AllByRecursion, LwpData, Mode, User, InCall, VforkWait, ProcData, State, Run, Trace, Job, Zombie, process_of, is_live, is_zombie_state, traces}
+use Rattle.trace_stop.proofs.CommonNames.{Rows, each, by_owner, own_lwp, map_lwps, InOwnersBlock, waits_where, released, lwp_after, IsLiveOf, IsLiveChild, Linked, IfEnded, FitProcess, Standing, WithOwner}
+use Rattle.trace_stop.proofs.CommonNames.{waited_for, IsSound, is_live_at}
 use Rattle.std.proofs.Math.Path.{fun_ext}
 use Rattle.proc_table.proofs.Changes.{map-id}
 use Rattle.proc_table.proofs.Rows.{process_of-pid}
@@ -68,9 +68,9 @@ module _ (rows : Rows) (s : IsSound rows) (q : ℕ) (p : ProcData) (at : process
     stands : Standing rows r l
 
   owned : AllByRecursion Owned rows.lwps
-  owned = All-imply (λ l. Housed rows l × WithOwner rows (Standing rows) l) Owned
+  owned = All-imply (λ l. InOwnersBlock rows l × WithOwner rows (Standing rows) l) Owned
       (λ l h. record { r = h.0.0; found = h.0.1; number = process_of-pid l.pid h.0.0 ps h.0.1; stands = h.1 h.0.0 h.0.1 }) rows.lwps
-      (All-both (Housed rows) (WithOwner rows (Standing rows)) rows.lwps s.stands.housed s.stands.standing)
+      (All-both (InOwnersBlock rows) (WithOwner rows (Standing rows)) rows.lwps s.stands.in_owners_block s.stands.standing)
 
   made_of : (l : LwpData) (o : Owned l) → by_owner (lwp_made q) l (process_of l.pid ps) ≡ (if l.pid == q then None else Some (released over o.r l))
   made_of l o = ap (by_owner (lwp_made q) l) o.found ∙ ap (λ n. if n == q then None else Some (released over o.r l)) o.number

@@ -1,6 +1,6 @@
 -- A tracee or a child that is taken from a process that ends, over the tables' edits.
-use Rattle.trace_stop.proofs.Words.{nat_tests, list_any, ProcData, LwpData, process_of, is_live, traces, Rows, each, next_tracee, next_child, AtHome, IsKept, IsRow, Named, set_process, drop_process}
-use Rattle.trace_stop.proofs.Words.{IsLeast, LeastOrNone, notified, orphaned, uncollected, collector}
+use Rattle.trace_stop.proofs.CommonNames.{nat_tests, list_any, ProcData, LwpData, process_of, is_live, traces, Rows, each, next_tracee, next_child, InOwnBlock, TableInvariant, IsRow, Named, set_process, drop_process}
+use Rattle.trace_stop.proofs.CommonNames.{IsLeast, LeastOrNone, notified, orphaned, uncollected, collector}
 use Rattle.std.proofs.Common.{◌≡◌, ℕ, ◌<◌, Bool, true, false, ◌&&◌, ◌||◌, ◌==◌, if◌then◌else◌, Option, Some, None, is_none, is_some, refl, sym, ap, ◌∙◌, arith, true≢false, eqb-true, subst, [], ◌∷◌, not, count_by, option_map}
 use Rattle.trace_stop.proofs.Passes.{passes}
 use Rattle.proc_table.proofs.Every.{every_found}
@@ -15,7 +15,7 @@ use Rattle.process_end.proofs.Twice.{alone}
 use Rattle.process_end.proofs.Leaving.{is_alone, same_lwp, put, out, put_tell, put_tell_lwp, set_each, drop_each, set_tell}
 use Rattle.process_end.proofs.LeafSteps.{orphan, out_leaving, out_same, put_leaving, put_same}
 use Rattle.process_end.proofs.LeafTells.{untrace, unless_this, untold_leaving, untold_same}
-use Rattle.process_end.proofs.LeafLives.{one_fewer}
+use Rattle.process_end.proofs.LeafEndsNoOther.{one_fewer}
 use Rattle.process_end.proofs.Unnamed.{its_row, out_passes, orphan_passes, untold_passes, none_edited}
 
 -- The collector
@@ -28,10 +28,10 @@ collector_some z m some = grind (arith, nat_tests)
 
 -- Walks
 
-pub tracee_at : (q : ℕ) (rows : Rows) (z : ProcData) → IsKept rows → next_tracee q 0 rows.processes ≡ Some z → (process_of z.pid rows.processes ≡ Some z) × (traces q z ≡ true)
+pub tracee_at : (q : ℕ) (rows : Rows) (z : ProcData) → TableInvariant rows → next_tracee q 0 rows.processes ≡ Some z → (process_of z.pid rows.processes ≡ Some z) × (traces q z ≡ true)
 tracee_at q rows z kept at = let least : IsLeast (traces q) 0 rows.processes z = subst (LeastOrNone (traces q) 0 rows.processes) at (next_tracee-least q 0 rows.processes kept.rising) in (least.row, least.passes)
 
-pub child_at : (q : ℕ) (rows : Rows) (z : ProcData) → IsKept rows → next_child q 0 rows.processes ≡ Some z → (process_of z.pid rows.processes ≡ Some z) × ((z.parent == q) ≡ true)
+pub child_at : (q : ℕ) (rows : Rows) (z : ProcData) → TableInvariant rows → next_child q 0 rows.processes ≡ Some z → (process_of z.pid rows.processes ≡ Some z) × ((z.parent == q) ≡ true)
 child_at q rows z kept at = let least : IsLeast (λ r. r.parent == q) 0 rows.processes z = subst (LeastOrNone (λ r. r.parent == q) 0 rows.processes) at (next_child-least q 0 rows.processes kept.rising) in (least.row, least.passes)
 
 -- A tracee
@@ -49,7 +49,7 @@ pub record Step (q : ℕ) (t : ProcData → Bool) (rows rows' : Rows) : Type 0 w
   pub fewer : count_by t rows'.processes < count_by t rows.processes
   pub same : (w : ℕ) → end_alone q w rows' ≡ end_alone q w rows
 
-module _ (q : ℕ) (rows rows' : Rows) (kept : IsKept rows) (v : IsLeaving q rows) (z : ProcData) (at : process_of z.pid rows.processes ≡ Some z) where
+module _ (q : ℕ) (rows rows' : Rows) (kept : TableInvariant rows) (v : IsLeaving q rows) (z : ProcData) (at : process_of z.pid rows.processes ≡ Some z) where
   pub listed : IsRow rows z.pid
   listed = found_row z.pid z rows.processes at
 
@@ -115,9 +115,9 @@ module _ (q : ℕ) (rows rows' : Rows) (kept : IsKept rows) (v : IsLeaving q row
   -- A child
   module _ (untraced : list_any (traces q) rows.processes ≡ false) (child : (z.parent == q) ≡ true) where
     q_row : (q == 1) ≡ false
-    q_row = by_bool (q == 1) (λ one. any_holds (λ r. (r.pid == q) && is_live r) AtHome ⊥
+    q_row = by_bool (q == 1) (λ one. any_holds (λ r. (r.pid == q) && is_live r) InOwnBlock ⊥
         (λ r home is. let low = home.block.0 in let same : r.pid ≡ q = eqb-true r.pid q (and_left (r.pid == q) (is_live r) is) in let first : q ≡ 1 = eqb-true q 1 one in omega (arith, low, same, first))
-        rows.processes kept.homes v.here)
+        rows.processes kept.in_own_blocks v.here)
 
     pub child-ended : (is_live z || is_some z.tracer) ≡ false → is_live z ≡ false
     child-ended stays = grind (arith, stays)

@@ -1,7 +1,7 @@
 -- What the end of a process makes of each row, including the rows that are notified of it.
 use Rattle.std.proofs.Common.{◌≡◌, ℕ, Bool, true, false, ◌&&◌, ◌==◌, if◌then◌else◌, Option, Some, None, is_none, refl, ap, arith, bit_or, rules}
-use Rattle.trace_stop.proofs.Words.{option_and_then, without, SIGKILL, SIGCHLD, ProcData, LwpData, is_live, by_owner, unwanted, posted_process, posted_lwp, orphaned, dead, uncollected, process_after}
-use Rattle.trace_stop.proofs.Words.{released, lwp_after}
+use Rattle.trace_stop.proofs.CommonNames.{option_and_then, without, SIGKILL, SIGCHLD, ProcData, LwpData, is_live, by_owner, unwanted, posted_process, posted_lwp, orphaned, dead, uncollected, process_after}
+use Rattle.trace_stop.proofs.CommonNames.{released, lwp_after}
 use Rattle.std.proofs.lemmas.Nat.Bits.{bit_at_or, bit_at_xor, same_from_bits}
 
 -- SIGCHLD posted to a process, and to an LWP of it

@@ -1,6 +1,6 @@
 -- One row, when a process that is doomed and traces no live one ends before the process that dooms it.
 use Rattle.std.proofs.Common.{◌≡◌, ℕ, Bool, true, false, not, ◌&&◌, ◌||◌, ◌==◌, if◌then◌else◌, Option, Some, None, refl, sym, ap, ◌∙◌, arith, rules}
-use Rattle.trace_stop.proofs.Words.{option_and_then, SIGKILL, by_owner, ProcData, LwpData, is_live, unless, holds_of, orphaned, dead, uncollected, released, nat_tests}
+use Rattle.trace_stop.proofs.CommonNames.{option_and_then, SIGKILL, by_owner, ProcData, LwpData, is_live, unless, holds_of, orphaned, dead, uncollected, released, nat_tests}
 use Rattle.process_end.proofs.Turned.{heard, heard_lwp, heard_twice, heard_lwp_twice, moved, notified_row, notified_lwp, turned, turned_lwp, turned-fallen, turned-safe, turned_lwp-fallen, turned_lwp-safe}
 
 -- the doom of q alone, and a doom without q

@@ -1,7 +1,7 @@
 -- A row that no row names may be taken out, and what each step on the way to a process's end leaves fewer of.
 use Rattle.std.proofs.Common.{◌≡◌, ℕ, List, [], ◌∷◌, find, filter_map, Bool, true, false, not, ◌&&◌, ◌==◌, Option, Some, None, IfSome, refl, sym, ap, ◌∙◌, arith, true≢false, eqb-true, eq-eqb, rules, ltb}
 use Rattle.std.proofs.Math.Bool.{and-false}
-use Rattle.trace_stop.proofs.Words.{nat_tests, AllByRecursion, list_any, first_lwp, ProcData, process_of, is_live, is_this, traces, Rows, next_tracee, next_child, AtHome, IsKept}
+use Rattle.trace_stop.proofs.CommonNames.{nat_tests, AllByRecursion, list_any, first_lwp, ProcData, process_of, is_live, is_this, traces, Rows, next_tracee, next_child, InOwnBlock, TableInvariant}
 use Rattle.process_end.specs.Leaving.{LeavingRow, LeavingLwp, IsLeaving}
 use Rattle.trace_stop.proofs.Every.{by_bool, All-imply, find_some, find_none, none_of, none_passes}
 use Rattle.trace_stop.proofs.Passes.{passes, any_edited}
@@ -12,17 +12,17 @@ use Rattle.process_end.proofs.LeafSteps.{orphan}
 use Rattle.process_end.proofs.LeafTells.{untrace}
 
 -- no row passes a test where none above zero does
-pub none_from : (t : ProcData → Bool) (ps : List ProcData) → AllByRecursion AtHome ps → find (λ p. ltb 0 p.pid && t p) ps ≡ None → list_any t ps ≡ false
-none_from t [] homes none = refl
-none_from t (p ∷ ps) homes none = grind (arith, nat_tests, none_from t ps homes.1)
+pub none_from : (t : ProcData → Bool) (ps : List ProcData) → AllByRecursion InOwnBlock ps → find (λ p. ltb 0 p.pid && t p) ps ≡ None → list_any t ps ≡ false
+none_from t [] in_own_blocks none = refl
+none_from t (p ∷ ps) in_own_blocks none = grind (arith, nat_tests, none_from t ps in_own_blocks.1)
 
 -- no row has the number 1
-pub not_one : (n : ℕ) (ps : List ProcData) → AllByRecursion AtHome ps → (p : ProcData) → process_of n ps ≡ Some p → (n == 1) ≡ false
-not_one n ps homes p at = search (rules, find_some, eqb-true, by_bool)
+pub not_one : (n : ℕ) (ps : List ProcData) → AllByRecursion InOwnBlock ps → (p : ProcData) → process_of n ps ≡ Some p → (n == 1) ≡ false
+not_one n ps in_own_blocks p at = search (rules, find_some, eqb-true, by_bool)
 
 -- A zombie
 
-module _ (q : ℕ) (rows : Rows) (kept : IsKept rows) (v : IsLeaving q rows) (z : ProcData) (at : process_of z.pid rows.processes ≡ Some z) (ended : is_live z ≡ false) where
+module _ (q : ℕ) (rows : Rows) (kept : TableInvariant rows) (v : IsLeaving q rows) (z : ProcData) (at : process_of z.pid rows.processes ≡ Some z) (ended : is_live z ≡ false) where
   dead : v.alive z.pid ≡ false
   dead = sym (find_some (λ r. r.pid == z.pid) (LeavingRow v.alive q) rows.processes v.processes z at).0.lives ∙ ended
 
@@ -38,7 +38,7 @@ module _ (q : ℕ) (rows : Rows) (kept : IsKept rows) (v : IsLeaving q rows) (z 
   zombie-children = find_none _ rows.processes (All-imply (LeavingRow v.alive q) _ (λ r h.
       ap (λ b. ltb 0 r.pid && b) (by_bool (r.parent == z.pid) (λ is.
       let same = eqb-true r.parent z.pid is in
-      true≢false (sym (h.parent (λ one. true≢false (sym (eq-eqb z.pid 1 (sym same ∙ one)) ∙ not_one z.pid rows.processes kept.homes z at))) ∙ ap v.alive same ∙ dead)))
+      true≢false (sym (h.parent (λ one. true≢false (sym (eq-eqb z.pid 1 (sym same ∙ one)) ∙ not_one z.pid rows.processes kept.in_own_blocks z at))) ∙ ap v.alive same ∙ dead)))
       ∙ and-false (ltb 0 r.pid)) rows.processes v.processes)
 
   pub zombie-lwps : first_lwp z.pid rows.lwps ≡ None
@@ -54,7 +54,7 @@ left-lwps q rows v = find_none _ rows.lwps (All-imply (LeavingLwp v.alive q) _ (
 
 -- Steps
 
-pub its_row : (t : ProcData → Bool) (rows : Rows) (n : ℕ) (z : ProcData) → IsKept rows → process_of n rows.processes ≡ Some z → t z ≡ true → list_any (λ r. (r.pid == n) && t r) rows.processes ≡ true
+pub its_row : (t : ProcData → Bool) (rows : Rows) (n : ℕ) (z : ProcData) → TableInvariant rows → process_of n rows.processes ≡ Some z → t z ≡ true → list_any (λ r. (r.pid == n) && t r) rows.processes ≡ true
 its_row t rows n z kept at is = any_by_number t n rows.processes kept.rising ∙ ap (passes t) at ∙ is
 
 -- each of the steps

@@ -1,6 +1,6 @@
 //! Laws of the end of a process.
 
-ghost use Rattle.process_end.specs.Laws.{LeafEnd, DetachedEnd, LeafLaw, TraceeDoomed, LeafExists, LeafLives, LeafFewer, LeafDooms, EndSound};
+ghost use Rattle.process_end.specs.Laws.{LeafEnd, DetachedEnd, LeafEndsFirst, TraceeDoomed, LeafExists, LeafEndsNoOther, LeafEndLeavesFewer, LeafEndSparesNoDoomed, EndSound};
 
 /// A process without live tracees ends alone.
 pub fn leaf_end()
@@ -14,8 +14,8 @@ pub fn detached_end()
 
 /// Where a debugger's end kills, a process without live tracees that ends with another can end first: the result is
 /// the same.
-pub fn leaf_law()
-    ensures { LeafLaw }
+pub fn leaf_ends_first()
+    ensures { LeafEndsFirst }
 {}
 
 /// Where a debugger's end kills, a live tracee of a process that ends, or of a process that ends with it, ends with it
@@ -30,19 +30,19 @@ pub fn leaf_exists()
 {}
 
 /// Where a debugger's end kills, the end of a process without live tracees ends no other process.
-pub fn leaf_lives()
-    ensures { LeafLives }
+pub fn leaf_ends_no_other()
+    ensures { LeafEndsNoOther }
 {}
 
 /// Where a debugger's end kills, fewer processes are live after the end of a process without live tracees.
-pub fn leaf_fewer()
-    ensures { LeafFewer }
+pub fn leaf_end_leaves_fewer()
+    ensures { LeafEndLeavesFewer }
 {}
 
 /// If a process without live tracees ends before the one that it is to end with, all others that were to end with
 /// that one still are.
-pub fn leaf_dooms()
-    ensures { LeafDooms }
+pub fn leaf_end_spares_no_doomed()
+    ensures { LeafEndSparesNoDoomed }
 {}
 
 /// Sound rows are sound after the end of a live process.

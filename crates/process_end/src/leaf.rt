@@ -5,7 +5,7 @@ ghost use Rattle.std.specs.List.{list_any};
 ghost use Rattle.std.specs.Option.{option_and_then};
 ghost use Rattle.lwp_table.specs.Lwps.{first_lwp};
 ghost use Rattle.proc_table.specs.Edits.{map_lwps};
-ghost use Rattle.proc_table.specs.Kept.{IsKept};
+ghost use Rattle.proc_table.specs.Kept.{TableInvariant};
 ghost use Rattle.proc_table.specs.Processes.{process_of, is_live, traces};
 ghost use Rattle.proc_table.specs.Walks.{next_tracee, next_child};
 ghost use Rattle.trace_stop.specs.End.{released, waits_where, collector, uncollected};
@@ -19,7 +19,7 @@ use lwp_table::{Due, LwpData, Mode};
 use pid_blocks::Pid;
 use proc_table::{ProcData, State, Tables};
 use signals::SigSet;
-use trace_stop::notify;
+use trace_stop::post_sigchld;
 
 /// Removes the LWPs of a process.
 fn remove_lwps(tables: &mut Tables, pid: Pid)
@@ -118,8 +118,8 @@ fn orphaned(zombie: &ProcData, ended: Pid) -> ProcData
 
 /// Ends the tracing of a zombie by the process, and notifies the zombie's parent. Removes the zombie if it has no
 /// parent left to collect it.
-fn orphan_tracee(tables: &mut Tables, zombie: &ProcData, pid: Pid)
-    requires kept { IsKept tables.old.rows }
+fn drop_tracer(tables: &mut Tables, zombie: &ProcData, pid: Pid)
+    requires kept { TableInvariant tables.old.rows }
     requires leaving { IsLeaving pid tables.old.rows }
     requires there { process_of zombie.now.pid tables.old.rows.processes ≡ Some zombie.now }
     requires traced { traces pid zombie.now ≡ true }
@@ -136,7 +136,7 @@ fn orphan_tracee(tables: &mut Tables, zombie: &ProcData, pid: Pid)
         pid: zombie.pid,
         ..orphan
     });
-    notify(tables, parent);
+    post_sigchld(tables, parent);
 }
 
 /// Ends the tracing of the process's tracees, which are zombies.
@@ -147,7 +147,7 @@ fn orphan_tracees(tables: &mut Tables, pid: Pid)
     ensures same { (status : ℕ) → end_alone pid status tables.new.rows ≡ end_alone pid status tables.old.rows }
 {
     while let Some(zombie) = tables.next_tracee(pid, 0) {
-        orphan_tracee(tables, &zombie, pid);
+        drop_tracer(tables, &zombie, pid);
     }
 }
 
@@ -160,7 +160,7 @@ fn stays(child: &ProcData) -> bool
 
 /// Makes 1 the parent of a child of the process, or removes the child if it is a zombie that no process collects.
 fn orphan_child(tables: &mut Tables, child: &ProcData, pid: Pid)
-    requires kept { IsKept tables.old.rows }
+    requires kept { TableInvariant tables.old.rows }
     requires leaving { IsLeaving pid tables.old.rows }
     requires untraced { list_any (traces pid) tables.old.rows.processes ≡ false }
     requires there { process_of child.now.pid tables.old.rows.processes ≡ Some child.now }
@@ -196,7 +196,7 @@ fn orphan_children(tables: &mut Tables, pid: Pid)
 
 /// Makes a zombie of a process that has no LWP and that no process names, and notifies the process that collects
 /// it. Removes the row if there is no such process.
-fn bury(tables: &mut Tables, pid: Pid, status: u32)
+fn make_zombie(tables: &mut Tables, pid: Pid, status: u32)
     requires leaving { IsLeaving pid tables.old.rows }
     requires untraced { list_any (traces pid) tables.old.rows.processes ≡ false }
     requires childless { list_any (λ r. r.parent == pid) tables.old.rows.processes ≡ false }
@@ -216,7 +216,7 @@ fn bury(tables: &mut Tables, pid: Pid, status: u32)
         pending: SigSet::empty(),
         ..process
     });
-    notify(tables, told);
+    post_sigchld(tables, told);
 }
 
 /// Ends a process without live tracees. Allocates nothing.
@@ -229,5 +229,5 @@ pub fn end_leaf(tables: &mut Tables, pid: Pid, status: u32)
     end_lwps(tables, pid);
     orphan_tracees(tables, pid);
     orphan_children(tables, pid);
-    bury(tables, pid, status);
+    make_zombie(tables, pid, status);
 }

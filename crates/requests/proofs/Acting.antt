@@ -1,8 +1,8 @@
 -- An LWP at its turn, in sound rows, and changes of it and of its process.
-use Rattle.requests.proofs.Names.{◌≡◌, ℕ, ◌≤◌, true, false, ◌==◌, not, Option, Some, None, IfSome, is_some, refl, sym, ap, ◌∙◌, true≢false, subst, eqb, eq-eqb, rules, shows, PL_FLAG_EXITED, LwpData}
-use Rattle.requests.proofs.Names.{lwp_of, ProcData, is_live, is_run, reporting, process_of, Rows, change_process, change_lwp, lwp_count, seen_lwp, Shown, stop, MayStop, Linked, FitProcess, Standing}
-use Rattle.requests.proofs.Names.{FitLwp, WithOwner, IsSound, find_some, choose, find_edit, found_number, changed_own, OneProcess, process_sound, OneLwp, lwp_sound, own_lwps, run_quiet, may_stop}
-use Rattle.requests.proofs.Names.{stopped_sound, Reply, stops_or}
+use Rattle.requests.proofs.CommonNames.{◌≡◌, ℕ, ◌≤◌, true, false, ◌==◌, not, Option, Some, None, IfSome, is_some, refl, sym, ap, ◌∙◌, true≢false, subst, eqb, eq-eqb, rules, shows, PL_FLAG_EXITED, LwpData}
+use Rattle.requests.proofs.CommonNames.{lwp_of, ProcData, is_live, is_run, reporting, process_of, Rows, change_process, change_lwp, lwp_count, seen_lwp, Shown, stop, MayStop, Linked, FitProcess, Standing}
+use Rattle.requests.proofs.CommonNames.{FitLwp, WithOwner, IsSound, find_some, choose, find_edit, found_number, changed_own, OneProcess, process_sound, OneLwp, lwp_sound, own_lwps, run_quiet, may_stop}
+use Rattle.requests.proofs.CommonNames.{stopped_sound, Reply, stops_or}
 use Rattle.std.specs.Option.{IsSomeAnd}
 
 -- a process that isn't untraced is traced

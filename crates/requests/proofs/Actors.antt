@@ -1,15 +1,15 @@
 -- An LWP and its process are there after changes that keep their numbers.
-use Rattle.requests.proofs.Names.{◌≡◌, ◌∙◌, ℕ, true, false, true≢false, nat_eq, ◌&&◌, Bool, List, [], ◌∷◌, ◌++◌, inl, inr, refl, sym, ap, Option, Some, None, subst, rules, option_map, IsSomeAnd}
-use Rattle.requests.proofs.Names.{list_any, LwpData, Differ, lwp_of, has_lwp, ProcData, process_of, is_live, is_run, Rows, change, change_process, change_lwp, is_numbered, map_lwps, is_process}
-use Rattle.requests.proofs.Names.{add_process, add_lwp, IsKept, owns, seen_lwp, same_number, process_of-pid, row_found, found_row, lwp_of-map, is_process-map, cases_Bool, some_and, changed}
-use Rattle.requests.proofs.Names.{changed_lwp, filter_map-map, changed-pid, changed_lwp-keeps, own_lwp-keeps, is_live_at, find_some, own_lwps, find_passes, run_quiet, has, bit, without, IsSound}
-use Rattle.requests.proofs.Names.{without_signal, choose, settled_process, settled_lwp, settle, notified, stop, Shown, IsActing, HasLwp}
+use Rattle.requests.proofs.CommonNames.{◌≡◌, ◌∙◌, ℕ, true, false, true≢false, nat_eq, ◌&&◌, Bool, List, [], ◌∷◌, ◌++◌, inl, inr, refl, sym, ap, Option, Some, None, subst, rules, option_map, IsSomeAnd}
+use Rattle.requests.proofs.CommonNames.{list_any, LwpData, Differ, lwp_of, has_lwp, ProcData, process_of, is_live, is_run, Rows, change, change_process, change_lwp, is_numbered, map_lwps, is_process}
+use Rattle.requests.proofs.CommonNames.{add_process, add_lwp, TableInvariant, owns, seen_lwp, same_number, process_of-pid, row_found, found_row, lwp_of-map, is_process-map, cases_Bool, some_and, changed}
+use Rattle.requests.proofs.CommonNames.{changed_lwp, filter_map-map, changed-pid, changed_lwp-keeps, own_lwp-keeps, is_live_at, find_some, own_lwps, find_passes, run_quiet, has, bit, without, IsSound}
+use Rattle.requests.proofs.CommonNames.{without_signal, choose, settled_process, settled_lwp, settle, notified, stop, Shown, IsActing, HasLwp}
 use Rattle.proc_table.proofs.Rising.{Lacks-from_any}
 use Rattle.proc_table.proofs.Placed.{is_process-placed}
 use Rattle.requests.proofs.Acting.{Acting}
-use Rattle.requests.proofs.Signals.{taken_alike}
-use Rattle.requests.proofs.Lwps.{find_more}
-use Rattle.requests.proofs.Masks.{changed_process, changed_lwp as lwp_changed}
+use Rattle.requests.proofs.SoundAfterSignal.{taken_alike}
+use Rattle.requests.proofs.SoundAfterLwpChange.{find_more}
+use Rattle.requests.proofs.SoundAfterMask.{changed_process, changed_lwp as lwp_changed}
 
 pub acting_has : (p : ProcData) (l : LwpData) (rows : Rows) → IsActing p l rows → HasLwp p.pid l.tid rows
 acting_has p l rows a = record { process = found_row p.pid p rows.processes a.process; lwp = rw a.lwp a.own }
@@ -68,7 +68,7 @@ owns_itself p ps at = find_passes (λ q. nat_eq q.pid p.pid) (λ q. nat_eq q.pid
 pub has-lwp_added : (u : ℕ) (new : LwpData) (pid tid : ℕ) (rows : Rows) → HasLwp pid tid rows → HasLwp pid tid (add_lwp u new rows)
 has-lwp_added u new pid tid rows h = search (rules, some_and, find_more)
 
-pub has-process_added : (new : ProcData) (pid tid : ℕ) (rows : Rows) → IsKept rows → is_process rows new.pid ≡ false → HasLwp pid tid rows → HasLwp pid tid (add_process new rows)
+pub has-process_added : (new : ProcData) (pid tid : ℕ) (rows : Rows) → TableInvariant rows → is_process rows new.pid ≡ false → HasLwp pid tid rows → HasLwp pid tid (add_process new rows)
 has-process_added new pid tid rows kept free h = record { process = is_process-placed new pid rows.processes h.process kept.rising (Lacks-from_any new.pid rows.processes free); lwp = h.lwp }
 
 -- and after changes of chosen rows

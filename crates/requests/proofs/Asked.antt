@@ -1,9 +1,9 @@
 -- What a request of ptrace(2) comes to, by its refusals in their order.
-use Rattle.requests.proofs.Names.{nat_tests, ◌≡◌, ℕ, ◌<◌, List, IfSome, Bool, true, false, leb, if◌then◌else◌, Option, Some, None, is_some, refl, sym, ap, ◌∙◌, arith, subst, rules, IsSomeAnd}
-use Rattle.requests.proofs.Names.{option_map, lwp_of, ProcData, State, Run, Trace, Job, Zombie, process_of, is_live, named_by, reporting, traces, Rows, IsKept, seen_lwp, process_of-pid, lwp_of-tid}
-use Rattle.requests.proofs.Names.{seen_lwp-kept, lwp-within, Settings, IsSound, some_is, Request, command, told_stop, target_of, process_by, is_trace_me, is_attach, ptrace}
+use Rattle.requests.proofs.CommonNames.{nat_tests, ◌≡◌, ℕ, ◌<◌, List, IfSome, Bool, true, false, leb, if◌then◌else◌, Option, Some, None, is_some, refl, sym, ap, ◌∙◌, arith, subst, rules, IsSomeAnd}
+use Rattle.requests.proofs.CommonNames.{option_map, lwp_of, ProcData, State, Run, Trace, Job, Zombie, process_of, is_live, named_by, reporting, traces, Rows, TableInvariant, seen_lwp, process_of-pid, lwp_of-tid}
+use Rattle.requests.proofs.CommonNames.{seen_lwp-kept, lwp-within, Settings, IsSound, some_is, Request, command, told_stop, target_of, process_by, is_trace_me, is_attach, ptrace}
 use Rattle.proc_table.specs.Keep.{keep}
-use Rattle.trace_stop.proofs.Stopped.{IsStopped-from}
+use Rattle.trace_stop.proofs.StoppedByOwnLwp.{IsStopped-from}
 
 pub told_reports : (s : State) (tid : ℕ) → told_stop s ≡ Some tid → named_by s ≡ Some tid
 told_reports Run tid told = told
@@ -18,7 +18,7 @@ kept_some : {A : Type 0} (test : A → Bool) (o : Option A) (a : A) → keep tes
 kept_some test None a is = is
 kept_some test (Some b) a is = grind (arith, nat_tests)
 
-module _ (u target : ℕ) (rows : Rows) (p : ProcData) (kept : IsKept rows) (at : target_of u target rows ≡ Some p) (large : leb target 99999 ≡ false) where
+module _ (u target : ℕ) (rows : Rows) (p : ProcData) (kept : TableInvariant rows) (at : target_of u target rows ≡ Some p) (large : leb target 99999 ≡ false) where
   target_row : process_by rows (option_map (λ l. l.pid) (seen_lwp u target rows)) ≡ Some p
   target_row = rw large at at
 
@@ -28,7 +28,7 @@ module _ (u target : ℕ) (rows : Rows) (p : ProcData) (kept : IsKept rows) (at 
   pub target_within : target < 356000
   target_within = search (rules, target_lwp, lwp-within, lwp_of-tid)
 
-pub named_own : (u target tid : ℕ) (rows : Rows) (p : ProcData) → IsKept rows → target_of u target rows ≡ Some p → IsSomeAnd (lwp_of tid rows.lwps) (λ l. l.pid ≡ p.pid)
+pub named_own : (u target tid : ℕ) (rows : Rows) (p : ProcData) → TableInvariant rows → target_of u target rows ≡ Some p → IsSomeAnd (lwp_of tid rows.lwps) (λ l. l.pid ≡ p.pid)
     → IsSomeAnd (lwp_of (if leb target 99999 then tid else target) rows.lwps) (λ l. l.pid ≡ p.pid)
 named_own u target tid rows p kept at own = search (rules, target_lwp)
 

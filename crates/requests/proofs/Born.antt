@@ -1,19 +1,19 @@
 -- The empty host is sound, and spawning keeps a host sound.
-use Rattle.requests.proofs.Names.{nat_tests, ◌≡◌, ℕ, true, Option, Some, None, IfSome, refl, sym, arith, subst, IsUser, pid_block, tid_block, born, spawned, Rows, Settings, FitProcess, FitLwp}
-use Rattle.requests.proofs.Names.{IsSound, both, sound_rows-from, Numbers, room_for_process, spawn, spawn_with, Machine, empty, no_rows, sound, step, Due, Step}
+use Rattle.requests.proofs.CommonNames.{nat_tests, ◌≡◌, ℕ, true, Option, Some, None, IfSome, refl, sym, arith, subst, IsUser, pid_block, tid_block, born, spawned, Rows, Settings, FitProcess, FitLwp}
+use Rattle.requests.proofs.CommonNames.{IsSound, both, sound_rows-from, Numbers, room_for_process, spawn, spawn_with, Machine, empty, no_rows, sound, step, Due, Step}
 use Rattle.pid_blocks.specs.Blocks.{InBlock}
-use Rattle.trace_stop.proofs.Born.{born_sound}
+use Rattle.trace_stop.proofs.SoundAfterSpawn.{born_sound}
 use Rattle.requests.proofs.Room.{ProcessRoom, process_room}
-use Rattle.requests.proofs.After.{rows_sound, after_sound}
-use Rattle.requests.proofs.ViewLaws.{at_slot}
+use Rattle.requests.proofs.SoundWithoutEnded.{rows_sound, after_sound}
+use Rattle.requests.proofs.IsolationLaws.{at_slot}
 
 no_rows_sound : IsSound no_rows
 no_rows_sound = record {
   stands = record {
     rising = tt;
     differ = tt;
-    homes = tt;
-    housed = tt;
+    in_own_blocks = tt;
+    in_owners_block = tt;
     pid_slots = refl;
     tid_slots = refl;
     pid_cursors = λ u user. subst (InBlock (pid_block u)) (sym (at_slot (λ w. (pid_block w).first) u 0 user)) (omega arith, omega arith);

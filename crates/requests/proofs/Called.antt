@@ -1,6 +1,6 @@
 -- What a step is once its caller was looked up.
-use Rattle.requests.proofs.Names.{◌≡◌, ℕ, true, Some, refl, ap, ◌∙◌, eqb-true, rules, ProcData, is_live, is_run, seen_process, PlainStep, Machine, step, step_of, checked, calls, caller_of, Rows, Rise}
-use Rattle.requests.proofs.Names.{and_right, find_some, own_rows, Act, Step}
+use Rattle.requests.proofs.CommonNames.{◌≡◌, ℕ, true, Some, refl, ap, ◌∙◌, eqb-true, rules, ProcData, is_live, is_run, seen_process, PlainStep, Machine, step, step_of, checked, calls, caller_of, Rows, Rise}
+use Rattle.requests.proofs.CommonNames.{and_right, find_some, own_rows, Act, Step}
 use Rattle.requests.specs.Callers.{IsCaller, Calls}
 
 -- A spawn, a turn, or a step of a caller

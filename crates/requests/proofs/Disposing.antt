@@ -1,12 +1,12 @@
 -- Which dispositions a process may have, and its row with others.
-use Rattle.requests.proofs.Names.{◌≡◌, ℕ, Some, None, is_some, Bool, true, false, ◌==◌, not, ◌||◌, if◌then◌else◌, [], ◌∷◌, refl, sym, ap, ◌∙◌, arith, inl, inr, rules, cases_Bool, le-leb, set_of, has}
-use Rattle.requests.proofs.Names.{unmaskable_set, may_have, set_disposition, IsSignal, Disposition, ProcData, process_of, Rows, Rise, IsRow, set_process, found_row, process-set, change_process-at}
-use Rattle.requests.proofs.Names.{settle, some_is, is_refused, sigaction, Reply}
+use Rattle.requests.proofs.CommonNames.{◌≡◌, ℕ, Some, None, is_some, Bool, true, false, ◌==◌, not, ◌||◌, if◌then◌else◌, [], ◌∷◌, refl, sym, ap, ◌∙◌, arith, inl, inr, rules, cases_Bool, le-leb, set_of, has}
+use Rattle.requests.proofs.CommonNames.{unblockable_set, may_have, set_disposition, IsSignal, Disposition, ProcData, process_of, Rows, Rise, IsRow, set_process, found_row, process-set, change_process-at}
+use Rattle.requests.proofs.CommonNames.{settle, some_is, is_refused, sigaction, Reply}
 use Rattle.signals.proofs.Members.{members_after}
 use Rattle.signals.specs.Dispositions.{Actions}
 
-unmaskable : (s : ℕ) → IsSignal s → has unmaskable_set s ≡ ((s == 9) || (s == 17))
-unmaskable s is =
+unblockable : (s : ℕ) → IsSignal s → has unblockable_set s ≡ ((s == 9) || (s == 17))
+unblockable s is =
     (members_after (set_of (17 ∷ [])) 0 9 s (omega arith, omega arith) is).added ∙ (ap (λ b. b || (s == 9)) (members_after 0 0 17 s (omega arith, omega arith) is).added ∙ swapped (s == 17) (s == 9))
   where
     swapped : (a b : Bool) → ((false || a) || b) ≡ (b || a)
@@ -16,7 +16,7 @@ unmaskable s is =
     swapped false false = refl
 
 pub refused_is : (s : ℕ) (d : Disposition) → IsSignal s → is_refused s d ≡ not (may_have s d)
-refused_is s d is = search (rules, le-leb, unmaskable)
+refused_is s d is = search (rules, le-leb, unblockable)
 
 -- a process with other dispositions, settled
 module _ (rows rows1 : Rows) (p new : ProcData) (at : process_of p.pid rows.processes ≡ Some p) where

@@ -1,11 +1,11 @@
 -- After a step, what ended debuggers had installed goes; only the step's own user can have such.
-use Rattle.requests.proofs.Names.{◌≡◌, ℕ, ◌+◌, ◌<◌, List, [], length, map, filter, set, Bool, true, sym, ap, ◌∙◌, arith, subst, get_or, length-map, IsUser, slot, Rows, PlainStep, Outcome, Installed}
-use Rattle.requests.proofs.Names.{Machine, installed_by, is_live_number, after, sound, step, put_at, slots_differ, either}
+use Rattle.requests.proofs.CommonNames.{◌≡◌, ℕ, ◌+◌, ◌<◌, List, [], length, map, filter, set, Bool, true, sym, ap, ◌∙◌, arith, subst, get_or, length-map, IsUser, slot, Rows, PlainStep, Outcome, Installed}
+use Rattle.requests.proofs.CommonNames.{Machine, installed_by, is_live_number, after, sound, step, put_at, slots_differ, either}
 use Rattle.std.proofs.lemmas.List.{length-set, get_or-set_other}
 use Rattle.requests.specs.View.{view}
-use Rattle.requests.proofs.After.{slots_of, same_at}
-use Rattle.requests.proofs.ViewLaws.{other_step}
-use Rattle.requests.proofs.ViewSound.{sound_apart}
+use Rattle.requests.proofs.SoundWithoutEnded.{slots_of, same_at}
+use Rattle.requests.proofs.IsolationLaws.{other_step}
+use Rattle.requests.proofs.SoundHostIsApart.{users_are_apart_in_a_sound_host}
 use Rattle.std.proofs.Math.ListN.{get_or-map}
 
 -- the pairs of a user whose debugger lives in the rows
@@ -33,7 +33,7 @@ module _ (m : Machine) (u : ℕ) (user : IsUser u) (is : sound m ≡ true) (s : 
   at_user v other = either v u
       (λ me. subst (λ w. get_or was (slot w) [] ≡ get_or now (slot w) []) (sym me) (get_or-map (filter left) m.installed (slot u) [] ∙ sym (put_at u m.installed (filter left (installed_by u m)) [] user (slots_of m is))))
       (λ ne.
-      let kept : installed_by v (after m o).machine ≡ installed_by v m = ap (λ x. x.installed) (subst (λ a. view v a.machine ≡ view v m) same (other_step m v u s other user ne (sound_apart m is))) in
+      let kept : installed_by v (after m o).machine ≡ installed_by v m = ap (λ x. x.installed) (subst (λ a. view v a.machine ≡ view v m) same (other_step m v u s other user ne (users_are_apart_in_a_sound_host m is))) in
       kept ∙ sym (get_or-set_other m.installed (slot u) (slot v) (filter left (installed_by u m)) [] (slots_differ u v user other ne)))
 
   at : (k : ℕ) → k < length was → get_or was k [] ≡ get_or now k []

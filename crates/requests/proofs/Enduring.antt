@@ -1,20 +1,20 @@
 -- The processes that stay live over a step.
-use Rattle.requests.proofs.Names.{◌≡◌, ℕ, ℤ, Bool, true, false, ◌==◌, not, ◌&&◌, ◌||◌, leb, ltb, if◌then◌else◌, List, [], ◌∷◌, filter, filter_map, length, Option, Some, None, is_some, refl, sym, ◌∙◌, true≢false, rules, subst}
-use Rattle.requests.proofs.Names.{arith, nat_tests, inl, inr, cases_Bool, list_any, eq-eqb, eqb-true, SIGCHLD, Call, Action, Disposition, disposition_of, default_action, is_signal, has, LwpData, Due, Mode, User, InCall, VforkWait, born}
-use Rattle.requests.proofs.Names.{ProcData, State, Run, Trace, Job, Zombie, is_live, is_run, is_zombie_state, placed, spawned, process_of, lwp_of, Rows, seen_process, seen_lwp, Settings, Shown, info, Rule, Options, StatusKind, Collected}
-use Rattle.requests.proofs.Names.{posted_process, settled_process, continues, notifies, posted, stop, tracers, tracer_of, post, reported, collect, rows_after, without_report, add_lwp, add_process, is_numbered}
-use Rattle.requests.proofs.Names.{Request, Act, PlainStep, Reply, Outcome, answers, stops_or, stops_with, Numbers, room_for_process, room_for_lwp, in_mode, exit_stop, with_child, forked, exec_rows, forks, makes_lwp, leaves}
-use Rattle.requests.proofs.Names.{waits, due_stop, next_signal, without_signal, takes_by_default, takes_untraced, takes, acts, signal_or_act, due_or_more, turn_by, turn_seen, turn, trace_me, attach, shows_info, does, commands_stopped, commands}
-use Rattle.requests.proofs.Names.{is_attach, about, target_of, is_trace_me, ptrace, is_which, reach, reached, post_all, post_if_live, kill, spawn_with, is_refused, sigaction, wait, handles_stop, handles_status, handles}
-use Rattle.requests.proofs.Names.{Machine, installed_by, After, after, calls, checked, step, step_of, Step, no_options, policies_of, asks, PTRACE_FORK, PTRACE_LWP, traces, told_stop, bad_argument, EAGAIN, EINVAL, ESRCH, lwp_count}
-use Rattle.requests.proofs.Names.{All-any, and_left, and_right, both}
-use Rattle.requests.proofs.Names.{negsuc, option_map, after_exec, set_disposition, without, bit, plain, trap, PL_FLAG_EXITED, SIGTRAP, entry_flags, child_stop, due_at_birth, change_lwp}
+use Rattle.requests.proofs.CommonNames.{◌≡◌, ℕ, ℤ, Bool, true, false, ◌==◌, not, ◌&&◌, ◌||◌, leb, ltb, if◌then◌else◌, List, [], ◌∷◌, filter, filter_map, length, Option, Some, None, is_some, refl, sym, ◌∙◌, true≢false, rules, subst}
+use Rattle.requests.proofs.CommonNames.{arith, nat_tests, inl, inr, cases_Bool, list_any, eq-eqb, eqb-true, SIGCHLD, Call, Action, Disposition, disposition_of, default_action, is_signal, has, LwpData, Due, Mode, User, InCall, VforkWait, born}
+use Rattle.requests.proofs.CommonNames.{ProcData, State, Run, Trace, Job, Zombie, is_live, is_run, is_zombie_state, placed, spawned, process_of, lwp_of, Rows, seen_process, seen_lwp, Settings, Shown, info, Rule, Options, StatusKind, Collected}
+use Rattle.requests.proofs.CommonNames.{posted_process, settled_process, continues, notifies, posted, stop, tracers, tracer_of, post, reported, collect, rows_after, without_report, add_lwp, add_process, is_numbered}
+use Rattle.requests.proofs.CommonNames.{Request, Act, PlainStep, Reply, Outcome, answers, stops_or, stops_with, Numbers, room_for_process, room_for_lwp, in_mode, exit_stop, with_child, forked, exec_rows, forks, makes_lwp, leaves}
+use Rattle.requests.proofs.CommonNames.{waits, due_stop, next_signal, without_signal, takes_by_default, takes_untraced, takes, acts, signal_or_act, due_or_more, turn_by, turn_seen, turn, trace_me, attach, shows_info, does, commands_stopped, commands}
+use Rattle.requests.proofs.CommonNames.{is_attach, about, target_of, is_trace_me, ptrace, is_which, reach, reached, post_all, post_if_live, kill, spawn_with, is_refused, sigaction, wait, handles_stop, handles_status, handles}
+use Rattle.requests.proofs.CommonNames.{Machine, installed_by, After, after, calls, checked, step, step_of, Step, no_options, policies_of, asks, PTRACE_FORK, PTRACE_LWP, traces, told_stop, bad_argument, EAGAIN, EINVAL, ESRCH, lwp_count}
+use Rattle.requests.proofs.CommonNames.{All-any, and_left, and_right, both}
+use Rattle.requests.proofs.CommonNames.{negsuc, option_map, after_exec, set_disposition, without, bit, plain, trap, PL_FLAG_EXITED, SIGTRAP, entry_flags, child_stop, due_at_birth, change_lwp}
 use Rattle.std.proofs.lemmas.List.Folds.{list_any-append}
 use Rattle.trace_stop.proofs.Every.{any_forward, or_true}
 use Rattle.wait4.specs.Collect.{collected, collected_in, told, stays}
 use Rattle.requests.specs.Ending.{may_end, is_done, is_handled, is_ended}
 use Rattle.requests.proofs.Called.{by_step}
-use Rattle.requests.proofs.Steps.{choose}
+use Rattle.requests.proofs.SoundAfterCall.{choose}
 
 abbrev pub live_at : ℕ → ProcData → Bool
 live_at n p = (p.pid == n) && is_live p

@@ -1,7 +1,7 @@
 -- The stops at the entry and the exit of calls may be made: they are of traced processes.
-use Rattle.requests.proofs.Names.{◌≡◌, ℕ, ◌*◌, true, false, ◌==◌, ltb, if◌then◌else◌, Option, Some, None, IfSome, is_some, refl, sym, ap, ◌∙◌, true≢false, subst, eq-eqb, bit_and, lt-ltb, rules}
-use Rattle.requests.proofs.Names.{ltb-true, EventMask, Call, PTRACE_EXEC, PTRACE_SCE, PTRACE_SCX, PTRACE_FORK, PL_FLAG_SCE, PL_FLAG_SCX, PL_FLAG_EXEC, PL_FLAG_FORKED, PL_FLAG_EXITED, PL_FLAG_VFORKED}
-use Rattle.requests.proofs.Names.{asks, shows, stop_where, event_or_exit, entry_flags, exit_flags, ProcData, Shown, is_end, FitProcess, or_left, choose, zero_apart, trap, exit_stop}
+use Rattle.requests.proofs.CommonNames.{◌≡◌, ℕ, ◌*◌, true, false, ◌==◌, ltb, if◌then◌else◌, Option, Some, None, IfSome, is_some, refl, sym, ap, ◌∙◌, true≢false, subst, eq-eqb, bit_and, lt-ltb, rules}
+use Rattle.requests.proofs.CommonNames.{ltb-true, EventMask, Call, PTRACE_EXEC, PTRACE_SCE, PTRACE_SCX, PTRACE_FORK, PL_FLAG_SCE, PL_FLAG_SCX, PL_FLAG_EXEC, PL_FLAG_FORKED, PL_FLAG_EXITED, PL_FLAG_VFORKED}
+use Rattle.requests.proofs.CommonNames.{asks, shows, stop_where, event_or_exit, entry_flags, exit_flags, ProcData, Shown, is_end, FitProcess, or_left, choose, zero_apart, trap, exit_stop}
 use Rattle.std.proofs.Common.{option_map}
 use Rattle.event_masks.specs.declared.StopFlags.{StopFlags}
 use Rattle.event_masks.specs.Exits.{both}

@@ -1,17 +1,17 @@
 -- The clauses of a step, from what was done to the rows and what was answered.
-use Rattle.requests.proofs.Names.{◌≡◌, ◌≢◌, ℕ, Some, None, List, [], set, true, false, refl, sym, ap, ◌∙◌, subst, inl, inr, set-get_or, IsUser, slot, Rows, PlainStep, Reply, Outcome, answers, Installed}
-use Rattle.requests.proofs.Names.{Machine, after, takes_memory, is_refusal, may_want, step_fits, sound, Steps, ProcData, step, calls, caller_of, Rule, length, installed_by, le-leb, not, ◌<◌, ◌≤◌}
-use Rattle.requests.proofs.Names.{◌++◌, ◌∷◌, if◌then◌else◌, cases_Bool, attempted_reply, Errno, Step, Attempts, bare, with_handler, Result, Ok, Err, uncalled, installs, outcome_of, Tries, step_of}
+use Rattle.requests.proofs.CommonNames.{◌≡◌, ◌≢◌, ℕ, Some, None, List, [], set, true, false, refl, sym, ap, ◌∙◌, subst, inl, inr, set-get_or, IsUser, slot, Rows, PlainStep, Reply, Outcome, answers, Installed}
+use Rattle.requests.proofs.CommonNames.{Machine, after, takes_memory, is_refusal, may_want, step_fits, sound, Steps, ProcData, step, calls, caller_of, Rule, length, installed_by, le-leb, not, ◌<◌, ◌≤◌}
+use Rattle.requests.proofs.CommonNames.{◌++◌, ◌∷◌, if◌then◌else◌, cases_Bool, attempted_reply, Errno, Step, Attempts, bare, with_handler, Result, Ok, Err, uncalled, installs, outcome_of, Tries, step_of}
 use Rattle.requests.specs.Callers.{IsCaller, Calls, Barred}
 use Rattle.requests.specs.Making.{Makes}
 use Rattle.requests.specs.Ending.{may_end}
-use Rattle.requests.proofs.After.{all_left, left_live, answers_same, rows_sound}
+use Rattle.requests.proofs.SoundWithoutEnded.{all_left, left_live, answers_same, rows_sound}
 use Rattle.requests.proofs.Enduring.{Lives, step_enduring}
 use Rattle.requests.proofs.Called.{called, is_caller}
 use Rattle.requests.proofs.Drops.{left_in, kept_by, drops}
 use Rattle.requests.proofs.Installing.{installed_with, few_leb}
 use Rattle.requests.proofs.Replies.{cases_memory, other}
-use Rattle.requests.proofs.Refusing.{never_memory, refused_same}
+use Rattle.requests.proofs.RefusalsChangeNothing.{no_step_runs_out_of_memory, a_refusal_changes_nothing}
 use Rattle.requests.proofs.StaysSound.{sound_kept}
 
 module _ (u : ℕ) (s : PlainStep) (m : Machine) (user : IsUser u) (is : sound m ≡ true) (fits : step_fits s ≡ true) where
@@ -21,7 +21,7 @@ module _ (u : ℕ) (s : PlainStep) (m : Machine) (user : IsUser u) (is : sound m
     memory = memory;
     refused = λ refusal. elim (cases_memory r) [
       | inl e ↦ (memory e).0
-      | inr e ↦ let did = machine (other r e) in did.0 ∙ refused_same u s m user is (subst (λ x. is_refusal x ≡ true) did.1 refusal)
+      | inr e ↦ let did = machine (other r e) in did.0 ∙ a_refusal_changes_nothing u s m user is (subst (λ x. is_refusal x ≡ true) did.1 refusal)
     ];
     sound = elim (cases_memory r) [
       | inl e ↦ subst (λ x. sound x ≡ true) (sym (memory e).0) is
@@ -33,7 +33,7 @@ module _ (u : ℕ) (s : PlainStep) (m : Machine) (user : IsUser u) (is : sound m
   pub finished : {E : Type 0} (o : Outcome) (rows : Rows) (r : Result Reply E) → step u s m ≡ after m o → Attempts (takes_memory u s m) o m.rows rows r → Tries u s m (kept_by u rows m) r
   finished o rows (Ok r) same did = from_machine (kept_by u rows m) r
       (λ ok. (ap (λ x. kept_by u x m) did.gives.rows ∙ sym (drops m u user is s o same) ∙ sym (ap (λ a. a.machine) same), did.gives.reply ∙ sym (ap (λ a. a.reply) same)))
-      (λ e. absurd (never_memory u s m (ap (λ a. a.reply) same ∙ sym did.gives.reply ∙ e)))
+      (λ e. absurd (no_step_runs_out_of_memory u s m (ap (λ a. a.reply) same ∙ sym did.gives.reply ∙ e)))
   finished o rows (Err e) same did = from_machine (kept_by u rows m) (Reply.Errno Errno.ENOMEM) (λ plenty. absurd (plenty refl))
       (λ e. (
         ap (λ x. kept_by u x m) did.same ∙ ap (λ x. record m { installed = x }) (ap (set_at m.installed) (all_left m is u user) ∙ set-get_or m.installed (slot u) []),

@@ -1,16 +1,16 @@
 -- What is decided about a trace stop, and what a handle asks.
-use Rattle.requests.proofs.Names.{◌≡◌, ℕ, ◌≤◌, [], ◌∷◌, negsuc, Bool, true, false, ◌==◌, if◌then◌else◌, List, Option, Some, None, IfSome, refl, sym, ap, ◌∙◌, subst, eq-eqb}
-use Rattle.requests.proofs.Names.{true≢false, le-leb, LwpData, lwp_of, ProcData, State, Run, Trace, Job, Zombie, Rise, process_of, Rows, each, Settings, detach, IsSound, find_edit, Rule}
-use Rattle.requests.proofs.Names.{Decision, StatusKind, Collected, candidates, collect, answer, reported, rows_after, told, status_of, Outcome, answers, with_signal, done}
-use Rattle.requests.proofs.Names.{SIGCHLD, decided, cases_Bool, inl, inr, list_any, option_and_then, notified, posted_process, no_options, handles_stop, handles_status, handles, handled_by, continues_with, choose, by_kept, Reply}
+use Rattle.requests.proofs.CommonNames.{◌≡◌, ℕ, ◌≤◌, [], ◌∷◌, negsuc, Bool, true, false, ◌==◌, if◌then◌else◌, List, Option, Some, None, IfSome, refl, sym, ap, ◌∙◌, subst, eq-eqb}
+use Rattle.requests.proofs.CommonNames.{true≢false, le-leb, LwpData, lwp_of, ProcData, State, Run, Trace, Job, Zombie, Rise, process_of, Rows, each, Settings, detach, IsSound, find_edit, Rule}
+use Rattle.requests.proofs.CommonNames.{Decision, StatusKind, Collected, candidates, collect, answer, reported, rows_after, told, status_of, Outcome, answers, with_signal, done}
+use Rattle.requests.proofs.CommonNames.{SIGCHLD, decided, cases_Bool, inl, inr, list_any, option_and_then, notified, posted_process, no_options, handles_stop, handles_status, handles, handled_by, continues_with, choose, by_kept, Reply}
 use Rattle.stop_handlers.specs.declared.StopView.{StopView}
 use Rattle.wait4.specs.declared.StatusKind.TheVariants.{Continued}
 use Rattle.wait4.specs.Collect as wait
 use Rattle.requests.specs.declared.handlers.Decided.{Decided}
 use Rattle.trace_stop.proofs.Passes.{process_edited, rise_edited}
-use Rattle.requests.proofs.Forking.{heard}
+use Rattle.requests.proofs.SoundAfterFork.{heard}
 use Rattle.requests.proofs.Tracees.{continue_as}
-use Rattle.requests.proofs.Steps.{reported_row}
+use Rattle.requests.proofs.SoundAfterCall.{reported_row}
 
 within : (n : ℕ) (o : Outcome) (rows : Rows) → n ≤ 31 → with_signal n o rows ≡ o
 within n o rows small = rw (le-leb n 31 small) refl

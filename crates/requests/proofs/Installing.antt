@@ -1,5 +1,5 @@
 -- A host in which a debugger has installed one policy more.
-use Rattle.requests.proofs.Names.{◌≡◌, ℕ, ◌<◌, List, [], ◌∷◌, ◌++◌, set, false, leb, arith, leb-true, slot, Rule, Machine, After, installed_by, by_bool, Reply}
+use Rattle.requests.proofs.CommonNames.{◌≡◌, ℕ, ◌<◌, List, [], ◌∷◌, ◌++◌, set, false, leb, arith, leb-true, slot, Rule, Machine, After, installed_by, by_bool, Reply}
 
 abbrev pub installed_with : ℕ → ℕ → List Rule → Machine → After
 installed_with u debugger policy m = record {

@@ -1,6 +1,6 @@
 -- Whether the row with a number is live.
-use Rattle.requests.proofs.Names.{◌≡◌, ℕ, List, [], ◌∷◌, Bool, true, false, refl, sym, ap, ◌∙◌, ◌==◌, ◌&&◌, Some, None, inl, inr, true≢false, eq-eqb, eqb-true, list_any, cases_Bool, ProcData, is_live}
-use Rattle.requests.proofs.Names.{process_of, Rise, process_of-pid, and_left, and_right, both, by_bool, any_holds, the_row, find_passes, Rows, IsLiveOf}
+use Rattle.requests.proofs.CommonNames.{◌≡◌, ℕ, List, [], ◌∷◌, Bool, true, false, refl, sym, ap, ◌∙◌, ◌==◌, ◌&&◌, Some, None, inl, inr, true≢false, eq-eqb, eqb-true, list_any, cases_Bool, ProcData, is_live}
+use Rattle.requests.proofs.CommonNames.{process_of, Rise, process_of-pid, and_left, and_right, both, by_bool, any_holds, the_row, find_passes, Rows, IsLiveOf}
 
 pub live_found : (n : ℕ) (ps : List ProcData) (p : ProcData) → Rise ps → process_of n ps ≡ Some p → list_any (λ q. (q.pid == n) && is_live q) ps ≡ is_live p
 live_found n ps p rise at = by_live (is_live p) refl

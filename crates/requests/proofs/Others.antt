@@ -1,6 +1,6 @@
 -- The next process of a user that isn't the caller.
-use Rattle.requests.proofs.Names.{◌≡◌, ℕ, ◌<◌, List, [], ◌∷◌, Bool, true, false, cond, ◌==◌, ltb, ◌&&◌, not, Option, Some, None, refl, arith, lt-ltb, eqb-true, eq-eqb, subst, rules, option_map}
-use Rattle.requests.proofs.Names.{le-ltb, ltb-true, ProcData, AllAbove, Rise, and_left, by_bool, some_is, next_other, found_above}
+use Rattle.requests.proofs.CommonNames.{◌≡◌, ℕ, ◌<◌, List, [], ◌∷◌, Bool, true, false, cond, ◌==◌, ltb, ◌&&◌, not, Option, Some, None, refl, arith, lt-ltb, eqb-true, eq-eqb, subst, rules, option_map}
+use Rattle.requests.proofs.CommonNames.{le-ltb, ltb-true, ProcData, AllAbove, Rise, and_left, by_bool, some_is, next_other, found_above}
 use Rattle.proc_table.specs.Walks.{next_of}
 
 module _ (u caller : ℕ) where

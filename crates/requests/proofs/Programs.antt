@@ -1,9 +1,9 @@
 -- The changes that make an exec.
-use Rattle.requests.proofs.Names.{nat_tests, ◌≡◌, ◌≢◌, ℕ, ◌<◌, Bool, true, false, List, [], ◌∷◌, length, filter, find, map, filter_map, nat_eq, refl, sym, ap, ◌∙◌, arith, inl, inr, Option, Some, None}
-use Rattle.requests.proofs.Names.{true≢false, subst, eqb-true, rules, AllByRecursion, cases_Bool, after_exec, LwpData, Mode, User, InCall, VforkWait, LacksLwp, Differ, lwp_of, first_lwp, next_lwp}
-use Rattle.requests.proofs.Names.{without_lwp, ProcData, process_of, Rows, by_owner, each, change_process, Housed, drop_lwp, same_number, other_number, process_of-pid, changed_lwp, map-id}
-use Rattle.requests.proofs.Names.{filter_map-map, every_untested, found_tested, waits_where, released, IsLiveChild, waited_for, Standing, WithOwner, IsSound, All-imply, All-both, any_holds, find_some}
-use Rattle.requests.proofs.Names.{the_row, the_lwp, own_lwps, IsActing, HasLwp, settle, in_mode, exec_rows}
+use Rattle.requests.proofs.CommonNames.{nat_tests, ◌≡◌, ◌≢◌, ℕ, ◌<◌, Bool, true, false, List, [], ◌∷◌, length, filter, find, map, filter_map, nat_eq, refl, sym, ap, ◌∙◌, arith, inl, inr, Option, Some, None}
+use Rattle.requests.proofs.CommonNames.{true≢false, subst, eqb-true, rules, AllByRecursion, cases_Bool, after_exec, LwpData, Mode, User, InCall, VforkWait, LacksLwp, Differ, lwp_of, first_lwp, next_lwp}
+use Rattle.requests.proofs.CommonNames.{without_lwp, ProcData, process_of, Rows, by_owner, each, change_process, InOwnersBlock, drop_lwp, same_number, other_number, process_of-pid, changed_lwp, map-id}
+use Rattle.requests.proofs.CommonNames.{filter_map-map, every_untested, found_tested, waits_where, released, IsLiveChild, waited_for, Standing, WithOwner, IsSound, All-imply, All-both, any_holds, find_some}
+use Rattle.requests.proofs.CommonNames.{the_row, the_lwp, own_lwps, IsActing, HasLwp, settle, in_mode, exec_rows}
 use Rattle.std.specs.Prelude.{not, ◌==◌, if◌then◌else◌}
 use Rattle.proc_table.specs.Edits.{own_lwp}
 use Rattle.trace_stop.proofs.Children.{child_test, child_from}
@@ -138,10 +138,10 @@ module _ (p : ProcData) (l : LwpData) (rows : Rows) (s : IsSound rows) (a : IsAc
   exec_lwp q k = if q.pid == p.pid then (if k.tid == l.tid then Some (record k { mode = User }) else None) else Some (released (λ n. n == p.pid) q k)
 
   abbrev Known : LwpData → Type 0
-  Known k = Housed rows k × (WithOwner rows (Standing rows) k × (k.tid ≡ l.tid → k ≡ l))
+  Known k = InOwnersBlock rows k × (WithOwner rows (Standing rows) k × (k.tid ≡ l.tid → k ≡ l))
 
   knowns : AllByRecursion Known rows.lwps
-  knowns = All-both (Housed rows) (λ k. WithOwner rows (Standing rows) k × (k.tid ≡ l.tid → k ≡ l)) rows.lwps s.stands.housed
+  knowns = All-both (InOwnersBlock rows) (λ k. WithOwner rows (Standing rows) k × (k.tid ≡ l.tid → k ≡ l)) rows.lwps s.stands.in_owners_block
       (All-both (WithOwner rows (Standing rows)) (λ k. k.tid ≡ l.tid → k ≡ l) rows.lwps s.stands.standing (the_lwp l.tid rows.lwps l s.stands.differ a.lwp))
 
   exec_one : (o : Option ProcData) → process_of p.parent rows.processes ≡ o → (k : LwpData) → Known k

@@ -1,8 +1,8 @@
 -- Rows of processes that are left, with their numbers and users: what posting a signal leaves.
-use Rattle.requests.proofs.Names.{nat_tests, ◌≡◌, ℕ, Bool, ◌==◌, if◌then◌else◌, List, [], ◌∷◌, filter_map, Option, Some, None, IfSome, is_some, is_none, refl, ap, arith, rules, list_any, SIGKILL}
-use Rattle.requests.proofs.Names.{SIGCHLD, ProcData, process_of, Rows, each, change, is_numbered, Settings, posted_process, posted_lwp, continues, notified, notifies, posted, is_doomed, dooms}
-use Rattle.requests.proofs.Names.{process_after, lwp_after, notifies_of, left_alone, end_each, end, post}
-use Rattle.requests.proofs.Steps.{choose}
+use Rattle.requests.proofs.CommonNames.{nat_tests, ◌≡◌, ℕ, Bool, ◌==◌, if◌then◌else◌, List, [], ◌∷◌, filter_map, Option, Some, None, IfSome, is_some, is_none, refl, ap, arith, rules, list_any, SIGKILL}
+use Rattle.requests.proofs.CommonNames.{SIGCHLD, ProcData, process_of, Rows, each, change, is_numbered, Settings, posted_process, posted_lwp, continues, notified, notifies, posted, is_doomed, dooms}
+use Rattle.requests.proofs.CommonNames.{process_after, lwp_after, notifies_of, left_alone, end_each, end, post}
+use Rattle.requests.proofs.SoundAfterCall.{choose}
 
 abbrev pub SameNumber : ProcData → ProcData → Type 0
 SameNumber p q = (q.pid ≡ p.pid) × (q.uid ≡ p.uid)

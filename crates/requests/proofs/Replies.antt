@@ -1,5 +1,5 @@
 -- A reply is ENOMEM, or it isn't.
-use Rattle.requests.proofs.Names.{◌≡◌, ◌≢◌, false, refl, sym, ap, ◌∙◌, true≢false, ◌⊎◌, inl, inr, Reply, is_memory, Errno}
+use Rattle.requests.proofs.CommonNames.{◌≡◌, ◌≢◌, false, refl, sym, ap, ◌∙◌, true≢false, ◌⊎◌, inl, inr, Reply, is_memory, Errno}
 
 pub other : (r : Reply) → is_memory r ≡ false → r ≢ Reply.Errno Errno.ENOMEM
 other r none is = true≢false (sym (ap is_memory is) ∙ none)

@@ -1,6 +1,6 @@
 -- The numbers that a user's limits leave room for.
-use Rattle.requests.proofs.Names.{nat_tests, ◌≡◌, ℕ, zero, suc, ◌+◌, ◌-◌, ◌<◌, ◌≤◌, Bool, true, false, leb, if◌then◌else◌, Option, Some, None, IfSome, refl, arith, leb-false, slot, pid_block}
-use Rattle.requests.proofs.Names.{tid_block, first_free, next_free, Rows, is_process, is_lwp, fresh_pid, fresh_tid, process_count, lwp_count_of, Numbers, with_tid, room_for_lwp, room_for_process}
+use Rattle.requests.proofs.CommonNames.{nat_tests, ◌≡◌, ℕ, zero, suc, ◌+◌, ◌-◌, ◌<◌, ◌≤◌, Bool, true, false, leb, if◌then◌else◌, Option, Some, None, IfSome, refl, arith, leb-false, slot, pid_block}
+use Rattle.requests.proofs.CommonNames.{tid_block, first_free, next_free, Rows, is_process, is_lwp, fresh_pid, fresh_tid, process_count, lwp_count_of, Numbers, with_tid, room_for_lwp, room_for_process}
 use Rattle.std.specs.Prelude.{get_or}
 use Rattle.pid_blocks.specs.declared.Block.{Block}
 use Rattle.pid_blocks.specs.Blocks.{InBlock}

@@ -1,8 +1,8 @@
 -- A signal sent to one process, and to all others of a user.
-use Rattle.requests.proofs.Names.{nat_tests, ◌≡◌, ℕ, ◌-◌, ◌<◌, ◌≤◌, pos, negsuc, Bool, true, false, cond, ◌==◌, ltb, ◌&&◌, not, List, [], ◌∷◌, filter, filter_map, find, Option, Some, None, IfSome}
-use Rattle.requests.proofs.Names.{is_none, if◌then◌else◌, refl, sym, ap, ◌∙◌, arith, true≢false, eqb-true, ◌^◌, inl, inr, rules, option_map, int_lt, cases_lt, le-leb, AllByRecursion, list_any}
-use Rattle.requests.proofs.Names.{cons_option, ProcData, process_of, is_live, of_user, Rows, seen_process, AllAbove, Rise, AtHome, IsKept, process_of-pid, Settings, post, by_bool, All-imply, If_more}
-use Rattle.requests.proofs.Names.{some_is, reach, post_if_live, post_all, reached, kill, next_other, refuses, ESRCH, option_and_then, own_rows, process_edited, Reply}
+use Rattle.requests.proofs.CommonNames.{nat_tests, ◌≡◌, ℕ, ◌-◌, ◌<◌, ◌≤◌, pos, negsuc, Bool, true, false, cond, ◌==◌, ltb, ◌&&◌, not, List, [], ◌∷◌, filter, filter_map, find, Option, Some, None, IfSome}
+use Rattle.requests.proofs.CommonNames.{is_none, if◌then◌else◌, refl, sym, ap, ◌∙◌, arith, true≢false, eqb-true, ◌^◌, inl, inr, rules, option_map, int_lt, cases_lt, le-leb, AllByRecursion, list_any}
+use Rattle.requests.proofs.CommonNames.{cons_option, ProcData, process_of, is_live, of_user, Rows, seen_process, AllAbove, Rise, InOwnBlock, TableInvariant, process_of-pid, Settings, post, by_bool, All-imply, If_more}
+use Rattle.requests.proofs.CommonNames.{some_is, reach, post_if_live, post_all, reached, kill, next_other, refuses, ESRCH, option_and_then, own_rows, process_edited, Reply}
 use Rattle.std.specs.Prelude.{ℤ}
 use Rattle.std.specs.Int.{FitsUnsignedBits}
 use Rattle.requests.proofs.Living.{live_found, live_none}
@@ -131,14 +131,14 @@ module _ (settings : Settings) (s u caller : ℕ) where
   split [] = refl
   split (p ∷ ps) = grind (arith, nat_tests, split ps)
 
-  pub reach_others : (rows : Rows) → IsKept rows → reach u caller (negsuc 0) rows ≡ others 0 rows.processes
-  reach_others rows kept = split rows.processes ∙ sym (above_first (is_other u caller) rows.processes kept.homes)
+  pub reach_others : (rows : Rows) → TableInvariant rows → reach u caller (negsuc 0) rows ≡ others 0 rows.processes
+  reach_others rows kept = split rows.processes ∙ sym (above_first (is_other u caller) rows.processes kept.in_own_blocks)
 
   -- where there is none, and where there is one
-  pub reached_none : (rows : Rows) → IsKept rows → next 0 rows.processes ≡ None → reach u caller (negsuc 0) rows ≡ []
+  pub reached_none : (rows : Rows) → TableInvariant rows → next 0 rows.processes ≡ None → reach u caller (negsuc 0) rows ≡ []
   reached_none rows kept none = search (rules, negsuc, reach_others, above_none)
 
-  pub reached_some : (n : ℕ) (rows : Rows) → IsKept rows → next 0 rows.processes ≡ Some n
+  pub reached_some : (n : ℕ) (rows : Rows) → TableInvariant rows → next 0 rows.processes ≡ Some n
       → (reached settings s (reach u caller (negsuc 0) rows) rows).reply ≡ Reply.Done
       × ((reached settings s (reach u caller (negsuc 0) rows) rows).rows ≡ post_rest settings s u caller (Some n) rows)
   reached_some n rows kept some = by_next (next_other u caller 0 rows.processes) refl some
@@ -152,7 +152,7 @@ module _ (settings : Settings) (s u caller : ℕ) where
           let list : reach u caller (negsuc 0) rows ≡ p ∷ others p.pid rows.processes = reach_others rows kept ∙ above_next (is_other u caller) 0 rows.processes p kept.rising at in
           (ap (λ ps. (reached settings s ps rows).reply) list, ap (λ ps. (reached settings s ps rows).rows) list ∙ ap (λ m. post_rest settings s u caller (Some m) rows) same)
 
-  pub reached_others : (at : Option ℕ) (rows : Rows) → IsKept rows → at ≡ next 0 rows.processes → is_none at ≡ false
+  pub reached_others : (at : Option ℕ) (rows : Rows) → TableInvariant rows → at ≡ next 0 rows.processes → is_none at ≡ false
       → ((reached settings s (reach u caller (negsuc 0) rows) rows).reply ≡ Reply.Done)
       × ((reached settings s (reach u caller (negsuc 0) rows) rows).rows ≡ post_rest settings s u caller at rows)
   reached_others None rows kept is some = absurd (true≢false some)
@@ -199,20 +199,20 @@ module _ (settings : Settings) (s u n : ℕ) (rows : Rows) (rise : Rise rows.pro
   seen_reached m some = search (rules, only, some_is)
 
 -- no process has so great a number
-pub too_great : (u caller n : ℕ) (rows : Rows) → AllByRecursion AtHome rows.processes → 65000 ≤ n → reach u caller (pos n) rows ≡ []
-too_great u caller n rows homes great = none_of u n rows.processes (All-imply AtHome (λ p. (p.pid == n) ≡ false)
-    (λ p home. by_bool (p.pid == n) (λ e. let same = eqb-true p.pid n e in let high = home.block.1 in let last = home.user.1 in let first = home.user.0 in omega (arith, great))) rows.processes homes)
+pub too_great : (u caller n : ℕ) (rows : Rows) → AllByRecursion InOwnBlock rows.processes → 65000 ≤ n → reach u caller (pos n) rows ≡ []
+too_great u caller n rows in_own_blocks great = none_of u n rows.processes (All-imply InOwnBlock (λ p. (p.pid == n) ≡ false)
+    (λ p home. by_bool (p.pid == n) (λ e. let same = eqb-true p.pid n e in let high = home.block.1 in let last = home.user.1 in let first = home.user.0 in omega (arith, great))) rows.processes in_own_blocks)
 
 -- a number that is positive, and too great for 32 bits
 great_number : (z : ℤ) → int_lt z (pos 1) ≡ false → (FitsUnsignedBits 32 z → ⊥) → (n : ℕ) × (z ≡ pos n) × (65000 ≤ n)
 great_number (pos n) positive fits = (n, refl, elim (cases_lt n (2 ^ 32)) [ inl lt ↦ absurd (fits lt) | inr le ↦ omega (arith, le) ])
 great_number (negsuc n) positive fits = absurd (true≢false positive)
 
-pub nobody_reached : (settings : Settings) (u caller s : ℕ) (which : ℤ) (rows : Rows) → AllByRecursion AtHome rows.processes → s ≤ 31 → int_lt which (pos 1) ≡ false → (FitsUnsignedBits 32 which → ⊥)
+pub nobody_reached : (settings : Settings) (u caller s : ℕ) (which : ℤ) (rows : Rows) → AllByRecursion InOwnBlock rows.processes → s ≤ 31 → int_lt which (pos 1) ≡ false → (FitsUnsignedBits 32 which → ⊥)
     → kill settings u caller which s rows ≡ refuses ESRCH rows
-nobody_reached settings u caller s which rows homes signal positive fits =
+nobody_reached settings u caller s which rows in_own_blocks signal positive fits =
     let great = great_number which positive fits in
     let n = great.0 in
     let over : 65000 ≤ n = great.2 in
     let some : (n == 0) ≡ false = by_bool (n == 0) (λ e. let none = eqb-true n 0 e in omega (arith, over)) in
-    ap (λ z. kill settings u caller z s rows) great.1 ∙ rw (le-leb s 31 signal, some) (ap (λ ps. reached settings s ps rows) (too_great u caller n rows homes over))
+    ap (λ z. kill settings u caller z s rows) great.1 ∙ rw (le-leb s 31 signal, some) (ap (λ ps. reached settings s ps rows) (too_great u caller n rows in_own_blocks over))

@@ -1,16 +1,16 @@
 -- Every step keeps a host sound.
-use Rattle.requests.proofs.Names.{◌≡◌, ℕ, negsuc, [], ◌∷◌, true, refl, sym, subst, ProcData, IsUser, PlainStep, Machine, sound, reported, collect, no_options, policies_of, SoundKept, SoundRuns}
-use Rattle.requests.proofs.Names.{step_fits, step, step_of, calls, sigaction, ptrace, list, kill, wait, Step}
+use Rattle.requests.proofs.CommonNames.{◌≡◌, ℕ, negsuc, [], ◌∷◌, true, refl, sym, subst, ProcData, IsUser, PlainStep, Machine, sound, reported, collect, no_options, policies_of, SoundKept, SoundRuns}
+use Rattle.requests.proofs.CommonNames.{step_fits, step, step_of, calls, sigaction, ptrace, list, kill, wait, Step}
 use Rattle.requests.specs.Handle.{handle}
 use Rattle.requests.specs.Callers.{IsCaller}
-use Rattle.requests.proofs.After.{rows_sound, after_sound}
+use Rattle.requests.proofs.SoundWithoutEnded.{rows_sound, after_sound}
 use Rattle.requests.proofs.Born.{spawn_sound}
 use Rattle.requests.proofs.Called.{by_step}
-use Rattle.requests.proofs.Steps.{checked_sound, sigaction_rows, wait_rows}
-use Rattle.requests.proofs.Kills.{kill_rows, installed_sound}
-use Rattle.requests.proofs.Handling.{handles_sound}
-use Rattle.requests.proofs.Traced.{ptrace_rows}
-use Rattle.requests.proofs.Turns.{turn_sound}
+use Rattle.requests.proofs.SoundAfterCall.{checked_sound, sigaction_rows, wait_rows}
+use Rattle.requests.proofs.SoundAfterKill.{kill_rows, installed_sound}
+use Rattle.requests.proofs.SoundAfterHandle.{handles_sound}
+use Rattle.requests.proofs.SoundAfterRequest.{ptrace_rows}
+use Rattle.requests.proofs.SoundAfterTurn.{turn_sound}
 
 calls_sound : (u : ℕ) (s : PlainStep) (p : ProcData) (m : Machine) → IsUser u → step_fits s ≡ true → sound m ≡ true → IsCaller u p m.rows → sound (calls u s p m).machine ≡ true
 calls_sound u Step.Spawn p m user fits is c = spawn_sound m u user is

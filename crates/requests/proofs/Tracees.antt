@@ -1,12 +1,12 @@
 -- A stopped tracee in sound rows, and changes of its row and of its LWPs.
-use Rattle.requests.proofs.Names.{Gives, Attempts, Ok, Bool, ◌≡◌, ℕ, ◌≤◌, ◌==◌, arith, eqb-true, true, false, if◌then◌else◌, Option, Some, None, is_some, refl, sym, ap, ◌∙◌, true≢false, subst, eq-eqb, rules, IsSomeAnd}
-use Rattle.requests.proofs.Names.{nat_tests, EventMask, SIGKILL, LwpData, lwp_of, Differ, ProcData, State, Run, Trace, Job, Zombie, process_of, named_by, reporting, is_zombie_state, Rows}
-use Rattle.requests.proofs.Names.{change_process, change_lwp, is_numbered, map_lwps, lwp_count, lwp_count_of, owns, Rise, IsRow, AtHome, set_lwp, owns-kept, found_row, lwp_of-tid, every_found}
-use Rattle.requests.proofs.Names.{some_and, change_process-at, change_lwp-at, change-at, lwp_there, Settings, resume, IsSound, count_edit, changed_row, edit_none, Reply, Outcome, answers}
-use Rattle.requests.proofs.Names.{not_stepping, stepping, set_mask, continues_with, with_signal, choose}
+use Rattle.requests.proofs.CommonNames.{Gives, Attempts, Ok, Bool, ◌≡◌, ℕ, ◌≤◌, ◌==◌, arith, eqb-true, true, false, if◌then◌else◌, Option, Some, None, is_some, refl, sym, ap, ◌∙◌, true≢false, subst, eq-eqb, rules, IsSomeAnd}
+use Rattle.requests.proofs.CommonNames.{nat_tests, EventMask, SIGKILL, LwpData, lwp_of, Differ, ProcData, State, Run, Trace, Job, Zombie, process_of, named_by, reporting, is_zombie_state, Rows}
+use Rattle.requests.proofs.CommonNames.{change_process, change_lwp, is_numbered, map_lwps, lwp_count, lwp_count_of, owns, Rise, IsRow, InOwnBlock, set_lwp, owns-kept, found_row, lwp_of-tid, every_found}
+use Rattle.requests.proofs.CommonNames.{some_and, change_process-at, change_lwp-at, change-at, lwp_there, Settings, resume, IsSound, count_edit, changed_row, edit_none, Reply, Outcome, answers}
+use Rattle.requests.proofs.CommonNames.{not_stepping, stepping, set_mask, continues_with, with_signal, choose}
 use Rattle.trace_stop.specs.Reports.{IsStopped}
-use Rattle.trace_stop.proofs.Stopped.{IsStopped-from}
-use Rattle.requests.proofs.Masks.{Tracee, OwnLwp, not_stepping_tracee, not_stepping_lwp, set_mask_tracee, stepping_tracee}
+use Rattle.trace_stop.proofs.StoppedByOwnLwp.{IsStopped-from}
+use Rattle.requests.proofs.SoundAfterMask.{Tracee, OwnLwp, not_stepping_tracee, not_stepping_lwp, set_mask_tracee, stepping_tracee}
 
 -- A process with a number is found with its change
 
@@ -120,7 +120,7 @@ given g = record { gives = g; takes = tt; unrefused = tt; same = tt }
 
 pub few_own : (rows : Rows) (p : ProcData) → IsSound rows → process_of p.pid rows.processes ≡ Some p → lwp_count p.pid rows ≤ 1000
 few_own rows p s at =
-    let home = every_found AtHome (λ q. q.pid == p.pid) rows.processes p s.stands.homes at in
+    let home = every_found InOwnBlock (λ q. q.pid == p.pid) rows.processes p s.stands.in_own_blocks at in
     let few = s.stands.few_lwps p.uid home.user in
     let owns_it : owns p.uid p.pid rows.processes ≡ true = owns-kept p.uid p.pid rows.processes s.stands.rising ∙ rw (at, eq-eqb p.uid p.uid refl) refl in
     let less = count_edit (λ l. l.pid == p.pid) (λ l. owns p.uid l.pid rows.processes) (λ l. Some l) (λ l is. ap (λ n. owns p.uid n rows.processes) (eqb-true l.pid p.pid is) ∙ owns_it) rows.lwps in

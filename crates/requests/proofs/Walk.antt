@@ -1,6 +1,6 @@
 -- A walk over processes by rising numbers.
-use Rattle.requests.proofs.Names.{◌≡◌, ℕ, ◌<◌, List, [], ◌∷◌, ◌++◌, map, filter, find, Option, Bool, true, ◌&&◌, ltb, Some, None, refl, sym, ap, ◌∙◌, arith, lt-ltb, append-nil, rules, AllByRecursion}
-use Rattle.requests.proofs.Names.{le-ltb, ltb-true, ProcData, AllAbove, Rise, AtHome, and_left, found_above}
+use Rattle.requests.proofs.CommonNames.{◌≡◌, ℕ, ◌<◌, List, [], ◌∷◌, ◌++◌, map, filter, find, Option, Bool, true, ◌&&◌, ltb, Some, None, refl, sym, ap, ◌∙◌, arith, lt-ltb, append-nil, rules, AllByRecursion}
+use Rattle.requests.proofs.CommonNames.{le-ltb, ltb-true, ProcData, AllAbove, Rise, InOwnBlock, and_left, found_above}
 use Rattle.std.proofs.Common.{append_assoc}
 
 -- Processes that pass a test
@@ -16,7 +16,7 @@ module _ (t : ProcData → Bool) where
   above_none n [] is = refl
   above_none n (p ∷ ps) is = grind (arith, above_none n ps, is)
 
-  pub above_first : (ps : List ProcData) → AllByRecursion AtHome ps → above 0 ps ≡ filter t ps
+  pub above_first : (ps : List ProcData) → AllByRecursion InOwnBlock ps → above 0 ps ≡ filter t ps
   above_first [] all = refl
   above_first (p ∷ ps) all = let low = all.0.block.0 in let some : ltb 0 p.pid ≡ true = lt-ltb 0 p.pid (omega arith) in rw (some, above_first ps all.1) refl
 

@@ -11,16 +11,16 @@ use Rattle.requests.specs.Sound.{sound}
 use Rattle.requests.specs.Step.{step}
 
 -- a refused step changes nothing
-abbrev pub RefusedSame : Type 0
-RefusedSame = (u : ℕ) (s : PlainStep) (m : Machine) → IsUser u → sound m ≡ true → is_refusal (step u s m).reply ≡ true → (step u s m).machine ≡ m
+abbrev pub RefusalChangesNothing : Type 0
+RefusalChangesNothing = (u : ℕ) (s : PlainStep) (m : Machine) → IsUser u → sound m ≡ true → is_refusal (step u s m).reply ≡ true → (step u s m).machine ≡ m
 
 -- a step that answers Nothing, as a wait or a handle does where no child has something to report, changes nothing
-abbrev pub NothingSame : Type 0
-NothingSame = (u : ℕ) (s : PlainStep) (m : Machine) → sound m ≡ true → (step u s m).reply ≡ reply.Nothing → (step u s m).machine ≡ m
+abbrev pub NoReportChangesNothing : Type 0
+NoReportChangesNothing = (u : ℕ) (s : PlainStep) (m : Machine) → sound m ≡ true → (step u s m).reply ≡ reply.Nothing → (step u s m).machine ≡ m
 
 -- the machine never runs out of memory: only a host answers ENOMEM
-abbrev pub NeverMemory : Type 0
-NeverMemory = (u : ℕ) (s : PlainStep) (m : Machine) → (step u s m).reply ≢ reply.Errno ENOMEM
+abbrev pub NoStepRunsOutOfMemory : Type 0
+NoStepRunsOutOfMemory = (u : ℕ) (s : PlainStep) (m : Machine) → (step u s m).reply ≢ reply.Errno ENOMEM
 
 -- whether an answer is a list of numbers
 abbrev pub is_listing : Reply → Bool

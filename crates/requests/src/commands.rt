@@ -5,7 +5,7 @@ ghost use Rattle.std.specs.Int.RustNames.{bit_or};
 ghost use Rattle.pid_blocks.specs.declared.Errno.TheVariants as errno;
 ghost use Rattle.event_masks.specs.Exits.{all_events};
 ghost use Rattle.lwp_table.specs.Lwps.{lwp_of};
-ghost use Rattle.proc_table.specs.Kept.{IsKept};
+ghost use Rattle.proc_table.specs.Kept.{TableInvariant};
 ghost use Rattle.proc_table.specs.Processes.{process_of, reporting, traces};
 ghost use Rattle.proc_table.specs.Rows.{change_lwp};
 ghost use Rattle.trace_stop.specs.Stop.{resume, detach};
@@ -89,7 +89,7 @@ fn is_attach(request: Request) -> bool
 fn target_of(tables: &Tables, user: Uid, target: u32) -> Option<ProcData>
     ensures process { result ≡ target_of user target tables.now.rows }
     ensures row { IfSome result (λ p. process_of p.pid tables.now.rows.processes ≡ Some p) }
-    ensures kept { IsKept tables.now.rows }
+    ensures kept { TableInvariant tables.now.rows }
 {
     tables.kept();
     match tables.find_seen(user, target) {
@@ -113,7 +113,7 @@ fn told_stop(process: &ProcData) -> Option<Tid>
     ensures { result ≡ told_stop process.now.state }
 {
     match process.state {
-        State::Trace { tid, told, .. } if told => Some(tid),
+        State::Trace { tid, reported, .. } if reported => Some(tid),
         _ => None,
     }
 }

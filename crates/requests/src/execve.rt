@@ -3,7 +3,7 @@
 ghost use Rattle.std.specs.Prelude.{◌≡◌, ◌==◌, true, find};
 ghost use Rattle.event_masks.specs.declared.Call.TheVariants as call;
 ghost use Rattle.signals.specs.Table.{after_exec};
-ghost use Rattle.proc_table.specs.Kept.{IsKept, IsRow};
+ghost use Rattle.proc_table.specs.Kept.{TableInvariant, IsRow};
 ghost use Rattle.proc_table.specs.Processes.{process_of};
 ghost use Rattle.proc_table.specs.Rows.{change_process};
 ghost use Rattle.trace_stop.specs.Facts.{IsSound};
@@ -26,7 +26,7 @@ use trace_stop::settle;
 fn other_lwp(tables: &Tables, pid: Pid, tid: Tid) -> Option<LwpData>
     requires { HasLwp pid tid tables.now.rows }
     ensures other { result ≡ find (is_other pid tid) tables.now.rows.lwps }
-    ensures kept { IsKept tables.now.rows }
+    ensures kept { TableInvariant tables.now.rows }
 {
     let Some(first) = tables.first_lwp(pid) else {
         return None;

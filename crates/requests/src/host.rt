@@ -16,7 +16,7 @@ ghost use Rattle.requests.specs.Sound.{sound};
 use crate::dispatch::{called, uncalled};
 use crate::ending::drop_ended;
 use crate::handlers::HandlerTable;
-use crate::{Act, MOST_HANDLERS, Reply, Step};
+use crate::{Act, MAX_HANDLERS, Reply, Step};
 use event_masks::Call;
 use pid_blocks::{Errno, Pid, Uid};
 use proc_table::{ProcData, Tables};
@@ -166,7 +166,7 @@ impl<F: Decider + Send + Drop> Host<F> {
             Ok(caller) => caller,
             Err(refusal) => return Ok(refusal),
         };
-        if self.handlers.count(user) >= MOST_HANDLERS {
+        if self.handlers.count(user) >= MAX_HANDLERS {
             return Ok(Reply::Errno(Errno::EAGAIN));
         }
         match self.handlers.install(user, caller.pid, handler) {

@@ -2,7 +2,7 @@
 
 ghost use Rattle.std.specs.Prelude.{◌≡◌, true};
 ghost use Rattle.requests.specs.Laws.{SoundKept, SoundAtFirst, SoundRuns, step_fits};
-ghost use Rattle.requests.specs.Refusals.{ListingSame, NeverMemory, NothingSame, RefusedSame};
+ghost use Rattle.requests.specs.Refusals.{ListingSame, NoStepRunsOutOfMemory, NoReportChangesNothing, RefusalChangesNothing};
 
 use crate::PlainStep;
 
@@ -23,18 +23,18 @@ pub fn fits(step: PlainStep)
 {}
 
 /// A refused step changes nothing.
-pub fn refused_same()
-    ensures { RefusedSame }
+pub fn a_refusal_changes_nothing()
+    ensures { RefusalChangesNothing }
 {}
 
 /// A wait or a handle that has nothing to report changes nothing.
-pub fn nothing_same()
-    ensures { NothingSame }
+pub fn no_report_changes_nothing()
+    ensures { NoReportChangesNothing }
 {}
 
 /// No step of the machine runs out of memory: only the host answers ENOMEM.
-pub fn never_memory()
-    ensures { NeverMemory }
+pub fn no_step_runs_out_of_memory()
+    ensures { NoStepRunsOutOfMemory }
 {}
 
 /// A step that answers a list changes nothing.

@@ -27,7 +27,7 @@ use proc_table::{ProcData, State, Tables};
 use process_end::end;
 use signals::{Action, Disposition, Signal, default_action};
 use std::alloc::AllocError;
-use trace_stop::{Settings, Shown, notify};
+use trace_stop::{Settings, Shown, post_sigchld};
 
 /// Returns whether an LWP waits for the child of its vfork.
 fn waits(mode: Mode) -> bool
@@ -100,12 +100,12 @@ fn job_stop(tables: &mut Tables, signal: Signal, p: &ProcData, l: &LwpData) -> R
     tables.set_process(ProcData {
         state: State::Job {
             sig: signal,
-            told: false,
+            reported: false,
         },
         continued: false,
         ..row
     });
-    notify(tables, p.parent);
+    post_sigchld(tables, p.parent);
     job_stopped(l.tid, signal)
 }
 

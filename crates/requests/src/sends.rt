@@ -4,7 +4,7 @@ ghost use Rattle.std.specs.Prelude.{◌≡◌, ◌==◌, negsuc, filter, option_
 ghost use Rattle.proc_table.specs.Processes.{process_of, of_user};
 ghost use Rattle.proc_table.specs.Seen.{seen_process};
 ghost use Rattle.proc_table.specs.Walks.{next_of};
-ghost use Rattle.proc_table.specs.Kept.{IsKept};
+ghost use Rattle.proc_table.specs.Kept.{TableInvariant};
 ghost use Rattle.trace_stop.specs.Facts.{IsSound};
 ghost use Rattle.requests.specs.Outcome.{Gives};
 ghost use Rattle.requests.specs.Reach.{reach, post_if_live, reached, kill, next_other};
@@ -34,7 +34,7 @@ fn post_if_live(tables: &mut Tables, settings: Settings, pid: Pid, pass: Pass)
 /// Returns the number of the user's next process above `after`.
 fn next_pid(tables: &Tables, user: Uid, after: u32) -> Option<Pid>
     ensures next { result ≡ option_map (λ p. p.pid) (next_of user after tables.now.rows.processes) }
-    ensures kept { IsKept tables.now.rows }
+    ensures kept { TableInvariant tables.now.rows }
 {
     match tables.next_of(user, after) {
         Some(p) => Some(p.pid),
@@ -45,7 +45,7 @@ fn next_pid(tables: &Tables, user: Uid, after: u32) -> Option<Pid>
 /// Returns the number of the user's next process above `after` other than the caller.
 fn next_other(tables: &Tables, user: Uid, caller: Pid, after: u32) -> Option<Pid>
     ensures next { result ≡ option_map (λ p. p.pid) (next_other user caller after tables.now.rows.processes) }
-    ensures kept { IsKept tables.now.rows }
+    ensures kept { TableInvariant tables.now.rows }
 {
     let Some(pid) = next_pid(tables, user, after) else {
         return None;
@@ -77,7 +77,7 @@ fn kill_others(tables: &mut Tables, settings: Settings, user: Uid, caller: Pid, 
 /// Returns the number as a process number, if a process of the user has it.
 fn seen_pid(tables: &Tables, user: Uid, number: u32) -> Option<Pid>
     ensures seen { result ≡ option_map (λ p. p.pid) (seen_process user number tables.now.rows) }
-    ensures kept { IsKept tables.now.rows }
+    ensures kept { TableInvariant tables.now.rows }
 {
     match tables.seen_process(user, number) {
         Some(p) => Some(p.pid),

@@ -6,11 +6,11 @@ ghost use Rattle.lwp_table.specs.declared.Due.TheVariants as due;
 ghost use Rattle.proc_table.specs.Processes.{spawned};
 ghost use Rattle.proc_table.specs.Fresh.{fresh_pid, is_process, is_lwp, process_count};
 ghost use Rattle.requests.specs.declared.Reply.TheVariants as reply;
-ghost use Rattle.requests.specs.Leave.{most_processes, room_for_lwp};
+ghost use Rattle.requests.specs.Leave.{max_processes, room_for_lwp};
 ghost use Rattle.requests.specs.Calls.{spawn};
 ghost use Rattle.requests.specs.Memory.{Attempts};
 
-use crate::{MOST_LWPS, MOST_PROCESSES, Reply};
+use crate::{MAX_LWPS, MAX_PROCESSES, Reply};
 use event_masks::EventMask;
 use lwp_table::{Due, LwpData};
 use pid_blocks::{Errno, Pid, Tid, Uid};
@@ -24,7 +24,7 @@ pub fn room_for_lwp(tables: &Tables, user: Uid) -> Option<Tid>
     ensures home { IfSome result (λ n. InBlock (tid_block user) n) }
     ensures fresh { IfSome result (λ n. is_lwp tables.now.rows n ≡ false) }
 {
-    if tables.lwp_count_of(user) >= MOST_LWPS {
+    if tables.lwp_count_of(user) >= MAX_LWPS {
         return None;
     }
     tables.fresh_tid(user)
@@ -32,11 +32,11 @@ pub fn room_for_lwp(tables: &Tables, user: Uid) -> Option<Tid>
 
 /// Returns the number of the user's next process, or `None` where the user has 250.
 pub fn room_for_pid(tables: &Tables, user: Uid) -> Option<Pid>
-    ensures room { result ≡ (if leb most_processes (process_count user tables.now.rows) then None else fresh_pid user tables.now.rows) }
+    ensures room { result ≡ (if leb max_processes (process_count user tables.now.rows) then None else fresh_pid user tables.now.rows) }
     ensures home { IfSome result (λ n. InBlock (pid_block user) n) }
     ensures fresh { IfSome result (λ n. is_process tables.now.rows n ≡ false) }
 {
-    if tables.process_count(user) >= MOST_PROCESSES {
+    if tables.process_count(user) >= MAX_PROCESSES {
         return None;
     }
     tables.fresh_pid(user)

@@ -9,7 +9,7 @@ ghost use Rattle.requests.specs.Outcome.{Gives};
 ghost use Rattle.requests.specs.Ptrace.{closes_chain, traced_by, trace_me, stop_first, attach};
 
 use crate::stopping::plain;
-use crate::{MOST_PROCESSES, Reply};
+use crate::{MAX_PROCESSES, Reply};
 use event_masks::default_mask;
 use pid_blocks::{Errno, Pid};
 use proc_table::{ProcData, Tables};
@@ -79,7 +79,7 @@ fn closes_chain(tables: &Tables, pid: Pid, from: Pid) -> bool
     ensures { result ≡ closes_chain pid from tables.now.rows }
 {
     let mut at = from;
-    for links in 0..MOST_PROCESSES {
+    for links in 0..MAX_PROCESSES {
         let Some(tracer) = tracer_of(tables, at) else {
             return false;
         };

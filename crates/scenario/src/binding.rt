@@ -3,7 +3,7 @@ ghost use Rattle.std.specs.Prelude.{⊤, ◌≡◌, ◌≢◌, ◌≤◌, ◌↔
 ghost use Rattle.std.specs.Vec.Iter.{into_iter_items};
 ghost use Rattle.stop_handlers.specs.Decide.{decide};
 ghost use Rattle.stop_handlers.specs.Handlers.{MakesObeying};
-ghost use Rattle.scenario_text.specs.Plan.{asked, most_steps, policies_in};
+ghost use Rattle.scenario_text.specs.Plan.{asked, max_steps, policies_in};
 ghost use Rattle.scenario.specs.Binding.{IsBound};
 ghost use Rattle.scenario.specs.declared.running.RunFault.TheVariants.{Mismatch, Memory};
 
@@ -63,7 +63,7 @@ fn bound<F: Decider + Send + Drop>(
 ) -> Result<Vec<(Uid, Step<Handler<F>>)>, RunFault>
     requires { handlers.items ≡ policies_in scenario.now.steps }
     ensures ok { IfOk result (λ v. map asked v.items ≡ scenario.now.steps) }
-    ensures few { IfOk result (λ v. length v.items ≤ most_steps) }
+    ensures few { IfOk result (λ v. length v.items ≤ max_steps) }
     ensures err { IfErr result (λ e. e ≡ Memory) }
 {
     let shapes = scenario.shapes();
@@ -90,7 +90,7 @@ pub fn bind<F: Decider + Send + Drop>(
     handlers: Vec<Handler<F>>,
 ) -> Result<Vec<(Uid, Step<Handler<F>>)>, RunFault>
     ensures ok { IfOk result (λ v. map asked v.items ≡ scenario.now.steps) }
-    ensures few { IfOk result (λ v. length v.items ≤ most_steps) }
+    ensures few { IfOk result (λ v. length v.items ≤ max_steps) }
     ensures mismatch { IsErrOf result Mismatch ↔ (handlers.items ≢ policies_in scenario.now.steps) }
     ensures err { IfErr result (λ e. (e ≡ Mismatch) ⊎ (e ≡ Memory)) }
 {
@@ -102,7 +102,7 @@ pub fn bind<F: Decider + Send + Drop>(
 
 /// Returns a handler for each policy, in order, with the decider that `make` gives for the policy. An error means out
 /// of memory.
-pub fn handlers_of<F: Decider + Send + Drop, M: Fn(Policy) -> F>(
+pub fn handlers_from<F: Decider + Send + Drop, M: Fn(Policy) -> F>(
     alloc: Global,
     policies: &[Policy],
     make: M,
@@ -134,7 +134,7 @@ impl Decider for ByPolicyRef<'_> {
 
 /// Returns a handler for each policy, in order, which answers by it. A step that installs it is less than half as large
 /// as a step with a second copy of the policy. An error means out of memory.
-pub fn handlers_by<'a>(
+pub fn policy_handlers<'a>(
     alloc: Global,
     policies: &'a [Policy],
 ) -> Result<Vec<Handler<ByPolicyRef<'a>>>, AllocError>

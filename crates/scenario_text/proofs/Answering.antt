@@ -10,7 +10,7 @@ use Rattle.scenario_text.specs.Plan.{Plan}
 use Rattle.std.specs.Prelude.{IsUtf8}
 use Rattle.serde_json.specs.Data.{Data}
 use Rattle.serde_json.specs.Read.{read}
-use Rattle.scenario_text.specs.Scenarios.{plan_of, most_bytes, StandsFor, too_long, no_value, value, Answers, Yields, Tells, IsFront, Takes, IsPlanOf}
+use Rattle.scenario_text.specs.Scenarios.{plan_of, max_bytes, StandsFor, too_long, no_value, value, Answers, Yields, Tells, IsFront, Takes, IsPlanOf}
 
 pub answers_of : (P : Result Plan Fault → Type 0) (plan r : Result Plan Fault) → Yields (λ s. s) r plan → P plan → Answers r P
 answers_of P plan (Err Memory) y p = tt
@@ -26,7 +26,7 @@ weaker_answers P Q (Err Read) f a = tt
 weaker_answers P Q r f a = f r a
 
 -- what a long front has, the whole has
-longer : (bytes rest input : List ℕ) (q : Result Plan Fault) → most_bytes < length bytes → input ≡ bytes ++ rest → StandsFor bytes q → StandsFor input q
+longer : (bytes rest input : List ℕ) (q : Result Plan Fault) → max_bytes < length bytes → input ≡ bytes ++ rest → StandsFor bytes q → StandsFor input q
 longer bytes rest input q long is (too_long h) = too_long (simp (is, length-append) (omega arith))
 longer bytes rest input q long is (no_value short h) = absurd (omega arith)
 longer bytes rest input q long is (value d short h) = absurd (omega arith)
@@ -59,6 +59,6 @@ takes_more (Some a) (Some b) (Some c) xs ys n p q h =
     (xs ++ ys, simp length-append h, p ∙ ap (λ zs. xs ++ zs) q ∙ sym (append_assoc xs ys c))
 
 -- what was read of the text is its value
-pub whole_stands : (bytes : List ℕ) (r : Result Plan Fault) (o : Option Data) → read bytes ≡ o → length bytes ≤ most_bytes → IsUtf8 bytes → IsPlanOf r o → Answers r (StandsFor bytes)
+pub whole_stands : (bytes : List ℕ) (r : Result Plan Fault) (o : Option Data) → read bytes ≡ o → length bytes ≤ max_bytes → IsUtf8 bytes → IsPlanOf r o → Answers r (StandsFor bytes)
 whole_stands bytes r None is short good y = answers_of (StandsFor bytes) (Err BadJson) r y (no_value short (λ g. is))
 whole_stands bytes r (Some d) is short good y = answers_of (StandsFor bytes) (plan_of d) r y (value d short (good, is))

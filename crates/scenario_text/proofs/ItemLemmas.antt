@@ -7,11 +7,11 @@ use Rattle.json.proofs.Grammar.{value-begin_array}
 use Rattle.serde_json.specs.Data.{array, Items, no_items, item}
 use Rattle.serde_json.specs.Events.{items_len}
 use Rattle.serde_json.specs.Read.{of_json, of_items, converted}
-use Rattle.json_data.proofs.Loops.{next_item, last_item, read_array, what_was_read}
+use Rattle.json_values.proofs.Loops.{next_item, last_item, read_array, what_was_read}
 use Rattle.requests.specs.Run.{Asked}
 use Rattle.scenario_text.specs.declared.fault.Fault.{Fault}
 use Rattle.scenario_text.specs.Fields.{◌>>=◌}
-use Rattle.scenario_text.specs.Plan.{most_steps}
+use Rattle.scenario_text.specs.Plan.{max_steps}
 use Rattle.scenario_text.specs.Scenarios.{numbered, steps_from}
 use Rattle.scenario_text.specs.Streams.{IsArrayOfSteps, IsNextStep}
 
@@ -71,7 +71,7 @@ goes_on all left r steps more h going (d, x, was, is, after, less) =
       counted = λ ds. h.counted (item d ds) ∙ (rw long (omega arith));
     })
 
-pub ends : (all left r : List Token) (steps : List Asked) → HasRead all left steps → after_end_array left ≡ Some r → length steps ≤ most_steps
+pub ends : (all left r : List Token) (steps : List Asked) → HasRead all left steps → after_end_array left ≡ Some r → length steps ≤ max_steps
     → IsArrayOfSteps steps (converted of_json (value 126 (Token.begin_array ∷ all))) r
 ends all left r steps h over few = (
   h.front no_items,

@@ -9,13 +9,13 @@ use Rattle.serde_json.specs.Events.{items_len}
 use Rattle.serde_json.specs.Find.{get_member}
 use Rattle.serde_json.specs.Read.{of_json, converted}
 use Rattle.serde_json.proofs.Views.{get_member-put, get_member-put_other}
-use Rattle.json_data.specs.Reading.{members_among}
-use Rattle.json_data.proofs.Keys.{members_among-put}
-use Rattle.json_data.proofs.Loops.{what_was_read}
+use Rattle.json_values.specs.Reading.{members_among}
+use Rattle.json_values.proofs.Keys.{members_among-put}
+use Rattle.json_values.proofs.Loops.{what_was_read}
 use Rattle.trace_stop.specs.declared.Settings.{Settings}
 use Rattle.requests.specs.Run.{Asked}
 use Rattle.scenario_text.specs.Fields.{integer_of, optional}
-use Rattle.scenario_text.specs.Plan.{most_steps}
+use Rattle.scenario_text.specs.Plan.{max_steps}
 use Rattle.scenario_text.specs.Scenarios.{steps_from, settings_of, plan_of, head_of}
 use Rattle.scenario_text.specs.Streams.{IsArrayOfSteps, IsInteger, IsScenario}
 use Rattle.scenario_text.proofs.ObjectLemmas.{HasMembers, begins, goes_on, ends}
@@ -28,7 +28,7 @@ kill_key = codes "kill_on_debugger_exit"
 
 -- these are the steps of the member that was found last
 abbrev AreFound : Members → List Asked → Type 0
-AreFound found steps = (ds : Items) × (get_member steps_key found ≡ Some (array ds)) × (steps_from 1 ds ≡ Ok steps) × (items_len ds ≡ length steps) × (length steps ≤ most_steps)
+AreFound found steps = (ds : Items) × (get_member steps_key found ≡ Some (array ds)) × (steps_from 1 ds ≡ Ok steps) × (items_len ds ≡ length steps) × (length steps ≤ max_steps)
 
 -- the members before `left` have these steps, if any, and this setting
 pub record HasFound (all left : List Token) (steps : Option (List Asked)) (kill : ℤ) : Type 0 where
@@ -80,7 +80,7 @@ planned : (found : Members) (steps : List Asked) (kill : ℤ) (settings : Settin
     → members_among (steps_key ∷ kill_key ∷ []) found ≡ true → settings_of kill ≡ Ok settings → plan_of (object found) ≡ Ok (record { settings = settings; steps = steps })
 unfolding plan_of head_of
 planned found steps kill settings given setting only set =
-    let few : nat_lt most_steps (items_len given.0) ≡ false = grind (arith, nat_tests, given.3, given.4) in
+    let few : nat_lt max_steps (items_len given.0) ≡ false = grind (arith, nat_tests, given.3, given.4) in
     rw (given.1, setting, only, set, few, given.2) refl
 
 pub all_found : (all left r : List Token) (steps : List Asked) (kill : ℤ) (settings : Settings) → HasFound all left (Some steps) kill → read_key left ≡ Some (None, r) → settings_of kill ≡ Ok settings

@@ -6,7 +6,7 @@ use Rattle.json.specs.Json.{Json, members, value, read_key}
 use Rattle.json.proofs.Grammar.{value-begin_object, read_key-shorter}
 use Rattle.serde_json.specs.Data.{Data, object, Members, no_members, put}
 use Rattle.serde_json.specs.Read.{of_json, of_members, converted}
-use Rattle.json_data.proofs.Loops.{next_member, last_member, read_object}
+use Rattle.json_values.proofs.Loops.{next_member, last_member, read_object}
 
 -- the members before `left` of an object that nests `depth` deep are these
 pub record HasMembers (depth : ℕ) (all left : List Token) (found : Members) : Type 0 where

@@ -5,7 +5,7 @@ use Rattle.event_masks.specs.declared.Call.{Call}
 use Rattle.event_masks.specs.declared.Call.TheVariants as call
 use Rattle.requests.specs.declared.Act.{Act}
 use Rattle.requests.specs.declared.Act.TheVariants as act
-use Rattle.scenario_text.specs.declared.fields.Flaw.{Flaw}
+use Rattle.scenario_text.specs.declared.fields.KeyError.{KeyError}
 use Rattle.scenario_text.specs.declared.names.ActKind.{ActKind}
 use Rattle.scenario_text.specs.declared.names.ActKind.TheVariants as acts
 use Rattle.scenario_text.specs.declared.names.CallKind.{CallKind}
@@ -19,7 +19,7 @@ abbrev pub turn_keys : List (List ℕ)
 turn_keys = codes "user" ∷ codes "op" ∷ codes "lwp" ∷ codes "act" ∷ []
 
 -- the code of an exit is its exit status, the code of another call is its number
-abbrev pub call_of : CallKind → Data → Result Call Flaw
+abbrev pub call_of : CallKind → Data → Result Call KeyError
 call_of calls.Exit d = member_at (codes "code") d >>= number_within 0 255 >>= (λ code. Ok (call.Exit code))
 call_of calls.Fork d = Ok call.Fork
 call_of calls.Exec d = Ok call.Exec
@@ -38,33 +38,33 @@ call_keys calls.ThrExit = codes "call" ∷ []
 call_keys calls.ThrNew = codes "call" ∷ []
 call_keys calls.Other = codes "call" ∷ codes "code" ∷ []
 
-unfoldable pub raise_of : Data → Result Act Flaw
+unfoldable pub raise_of : Data → Result Act KeyError
 raise_of d = do
   signal ← word_at (codes "signal") d
   _ ← only (turn_keys ++ (codes "signal" ∷ [])) d
   Ok (act.Raise signal)
 
-unfoldable pub block_of : Data → Result Act Flaw
+unfoldable pub block_of : Data → Result Act KeyError
 block_of d = do
   set ← member_at (codes "set") d >>= set_of
   _ ← only (turn_keys ++ (codes "set" ∷ [])) d
   Ok (act.Block set)
 
-unfoldable pub enter_of : Data → Result Act Flaw
+unfoldable pub enter_of : Data → Result Act KeyError
 enter_of d = do
   kind ← name_at (codes "call") call_named d
   call ← call_of kind d
   _ ← only (turn_keys ++ call_keys kind) d
   Ok (act.Enter call)
 
-abbrev pub act_of : ActKind → Data → Result Act Flaw
+abbrev pub act_of : ActKind → Data → Result Act KeyError
 act_of acts.Compute d = only turn_keys d >>= (λ _. Ok act.Compute)
 act_of acts.Leave d = only turn_keys d >>= (λ _. Ok act.Leave)
 act_of acts.Raise d = raise_of d
 act_of acts.Block d = block_of d
 act_of acts.Enter d = enter_of d
 
-abbrev pub act_at : Data → Result Act Flaw
+abbrev pub act_at : Data → Result Act KeyError
 act_at d = do
   kind ← name_at (codes "act") act_named d
   act_of kind d

@@ -13,8 +13,8 @@ pub record Plan : Type 0 where
   pub settings : Settings
   pub steps : List Asked
 
-abbrev pub most_steps : ℕ
-most_steps = 100000
+abbrev pub max_steps : ℕ
+max_steps = 100000
 
 abbrev pub asked : ℕ × PlainStep → Asked
 asked s = record { uid = s.0; step = s.1 }

@@ -8,21 +8,21 @@ use Rattle.trace_stop.specs.declared.Settings.{Settings}
 use Rattle.requests.specs.Run.{Asked}
 use Rattle.scenario_text.specs.declared.fault.Fault.{Fault}
 use Rattle.scenario_text.specs.declared.fault.Fault.TheVariants.{Read, TooLong, BadJson, TooManySteps, BadShape, BadUser, BadName, BadNumber, TooManyRules, Memory}
-use Rattle.scenario_text.specs.declared.fields.Flaw.{Flaw}
-use Rattle.scenario_text.specs.declared.fields.Flaw.TheVariants as flaws
+use Rattle.scenario_text.specs.declared.fields.KeyError.{KeyError}
+use Rattle.scenario_text.specs.declared.fields.KeyError.TheVariants as flaws
 use Rattle.scenario_text.specs.Fields.{◌>>=◌, integer_of, array_at, optional_at, object_of, only}
-use Rattle.scenario_text.specs.Plan.{Plan, most_steps}
+use Rattle.scenario_text.specs.Plan.{Plan, max_steps}
 use Rattle.scenario_text.specs.Steps.{step_of}
 
 -- the flaw of the step with this number, as a fault
-abbrev pub at_step : ℕ → Flaw → Fault
+abbrev pub at_step : ℕ → KeyError → Fault
 at_step n flaws.Shape = BadShape n
 at_step n flaws.User = BadUser n
 at_step n flaws.Name = BadName n
 at_step n flaws.Number = BadNumber n
 at_step n flaws.TooManyRules = TooManyRules n
 
-abbrev pub numbered : {X : Type 0} → ℕ → Result X Flaw → Result X Fault
+abbrev pub numbered : {X : Type 0} → ℕ → Result X KeyError → Result X Fault
 numbered n (Ok x) = Ok x
 numbered n (Err flaw) = Err (at_step n flaw)
 
@@ -34,14 +34,14 @@ steps_from n (item d ds) = do
   Ok (step ∷ others)
 
 -- the value of `kill_on_debugger_exit`, 0 or 1
-abbrev pub settings_of : ℤ → Result Settings Flaw
+abbrev pub settings_of : ℤ → Result Settings KeyError
 settings_of (pos n) =
     if n == 1 then Ok (record { kill_on_debugger_exit = true })
     else (if n == 0 then Ok (record { kill_on_debugger_exit = false }) else Err flaws.Number)
 settings_of (negsuc n) = Err flaws.Number
 
 -- the array of steps, and the settings
-unfoldable pub head_of : Data → Result (Items × Settings) Flaw
+unfoldable pub head_of : Data → Result (Items × Settings) KeyError
 head_of d = do
   _ ← object_of d
   items ← array_at (codes "steps") d
@@ -51,7 +51,7 @@ head_of d = do
   Ok (items, settings)
 
 abbrev pub bounded : {X : Type 0} → Items → Result X Fault → Result X Fault
-bounded items r = if nat_lt most_steps (items_len items) then Err TooManySteps else r
+bounded items r = if nat_lt max_steps (items_len items) then Err TooManySteps else r
 
 -- the scenario that a JSON value is, or its first fault
 unfoldable pub plan_of : Data → Result Plan Fault
@@ -62,8 +62,8 @@ plan_of d = do
 
 -- ---- bytes
 
-abbrev pub most_bytes : ℕ
-most_bytes = 4194304
+abbrev pub max_bytes : ℕ
+max_bytes = 4194304
 
 -- the bytes have the value d, as `serde_json` reads them
 abbrev pub HasValue : List ℕ → Data → Type 0
@@ -74,9 +74,9 @@ HasNoValue bytes = IsUtf8 bytes → read bytes ≡ None
 
 -- the bytes have this scenario or this fault
 pub data StandsFor (bytes : List ℕ) : Result Plan Fault → Type 0 where
-  too_long : most_bytes < length bytes → StandsFor bytes (Err TooLong)
-  no_value : length bytes ≤ most_bytes → HasNoValue bytes → StandsFor bytes (Err BadJson)
-  value : (d : Data) → length bytes ≤ most_bytes → HasValue bytes d → StandsFor bytes (plan_of d)
+  too_long : max_bytes < length bytes → StandsFor bytes (Err TooLong)
+  no_value : length bytes ≤ max_bytes → HasNoValue bytes → StandsFor bytes (Err BadJson)
+  value : (d : Data) → length bytes ≤ max_bytes → HasValue bytes d → StandsFor bytes (plan_of d)
 
 -- ---- a returned result, mapped by view
 
@@ -108,7 +108,7 @@ Answers (Err e) P = P (Err e)
 
 -- the input, or more of it than a scenario may have
 abbrev pub IsFront : List ℕ → List ℕ → Type 0
-IsFront bytes input = (input ≡ bytes) ⊎ ((most_bytes < length bytes) × (rest : List ℕ) × (input ≡ bytes ++ rest))
+IsFront bytes input = (input ≡ bytes) ⊎ ((max_bytes < length bytes) × (rest : List ℕ) × (input ≡ bytes ++ rest))
 
 -- a reader lost no more bytes than these
 abbrev pub Takes : Option (List ℕ) → Option (List ℕ) → ℕ → Type 0

@@ -7,18 +7,18 @@ use Rattle.json.specs.declared.value.Value.{Value}
 use Rattle.serde_json.specs.Data.{Data, Items, array}
 use Rattle.serde_json.specs.Events.{items_len}
 use Rattle.serde_json.specs.Read.{of_json, converted}
-use Rattle.json_data.specs.Reading.{object_view}
+use Rattle.json_values.specs.Reading.{object_view}
 use Rattle.requests.specs.Run.{Asked}
 use Rattle.scenario_text.specs.declared.streaming.Key.{Key}
 use Rattle.scenario_text.specs.declared.streaming.Key.TheVariants.{Steps, KillOnDebuggerExit, End}
 use Rattle.scenario_text.specs.Fields.{integer_of}
-use Rattle.scenario_text.specs.Plan.{Plan, most_steps}
+use Rattle.scenario_text.specs.Plan.{Plan, max_steps}
 use Rattle.scenario_text.specs.Scenarios.{plan_of, steps_from}
 use Rattle.scenario_text.specs.Steps.{step_of}
 
 -- the value that was read is an array of these steps without a fault; the reader has the bytes after it left
 abbrev pub IsArrayOfSteps : List Asked → Option (Data × List Token) → List Token → Type 0
-IsArrayOfSteps steps r left = (ds : Items) × (r ≡ Some (array ds, left)) × (steps_from 1 ds ≡ Ok steps) × (items_len ds ≡ length steps) × (length steps ≤ most_steps)
+IsArrayOfSteps steps r left = (ds : Items) × (r ≡ Some (array ds, left)) × (steps_from 1 ds ≡ Ok steps) × (items_len ds ≡ length steps) × (length steps ≤ max_steps)
 
 -- the object that was read has these members
 abbrev pub AreMembers : {A : Type 0} → List (Bor (List ℕ) × Value A) → List Token → List Token → Type 0

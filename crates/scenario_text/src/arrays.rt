@@ -1,12 +1,12 @@
 //! Arrays of names and of signals. A repeated item counts once.
 ghost use Rattle.std.specs.Prelude.{◌≡◌};
-ghost use Rattle.json_data.specs.Reading.{view};
+ghost use Rattle.json_values.specs.Reading.{view};
 ghost use Rattle.event_masks.specs.Reading.{events_named, flag_named};
 ghost use Rattle.scenario_text.specs.Arrays.{with_option, options_of, mask_of, flags_of, signal_of, set_of};
 ghost use Rattle.scenario_text.specs.Fields.{name_in};
 ghost use Rattle.scenario_text.specs.Names.{option_named};
 
-use crate::fields::{Flaw, items_of, number_within, text_of};
+use crate::fields::{KeyError, items_of, number_within, text_of};
 use crate::names::{WaitOption, option_named};
 use event_masks::{EventMask, StopFlags};
 use json::Value;
@@ -30,14 +30,14 @@ fn with_option(options: Options, option: WaitOption) -> Options
     }
 }
 
-fn option_of(value: &Value<'_>) -> Result<WaitOption, Flaw>
+fn option_of(value: &Value<'_>) -> Result<WaitOption, KeyError>
     ensures { result ≡ name_in option_named (view value.now) }
 {
-    option_named(text_of(value)?).ok_or(Flaw::Name)
+    option_named(text_of(value)?).ok_or(KeyError::Name)
 }
 
 /// Returns the options of a wait4.
-pub(crate) fn options_of(value: &Value<'_>) -> Result<Options, Flaw>
+pub(crate) fn options_of(value: &Value<'_>) -> Result<Options, KeyError>
     ensures { result ≡ options_of (view value.now) }
 {
     let items = items_of(value)?;
@@ -51,14 +51,14 @@ pub(crate) fn options_of(value: &Value<'_>) -> Result<Options, Flaw>
     Ok(options)
 }
 
-fn events_of(value: &Value<'_>) -> Result<EventMask, Flaw>
+fn events_of(value: &Value<'_>) -> Result<EventMask, KeyError>
     ensures { result ≡ name_in events_named (view value.now) }
 {
-    EventMask::by_name(text_of(value)?).ok_or(Flaw::Name)
+    EventMask::by_name(text_of(value)?).ok_or(KeyError::Name)
 }
 
 /// Returns the events of an event mask. `PTRACE_SYSCALL` is two of them.
-pub(crate) fn mask_of(value: &Value<'_>) -> Result<EventMask, Flaw>
+pub(crate) fn mask_of(value: &Value<'_>) -> Result<EventMask, KeyError>
     ensures { result ≡ mask_of (view value.now) }
 {
     let items = items_of(value)?;
@@ -69,14 +69,14 @@ pub(crate) fn mask_of(value: &Value<'_>) -> Result<EventMask, Flaw>
     Ok(mask)
 }
 
-fn flag_of(value: &Value<'_>) -> Result<StopFlags, Flaw>
+fn flag_of(value: &Value<'_>) -> Result<StopFlags, KeyError>
     ensures { result ≡ name_in flag_named (view value.now) }
 {
-    StopFlags::by_name(text_of(value)?).ok_or(Flaw::Name)
+    StopFlags::by_name(text_of(value)?).ok_or(KeyError::Name)
 }
 
 /// Returns the flags of a stop.
-pub(crate) fn flags_of(value: &Value<'_>) -> Result<StopFlags, Flaw>
+pub(crate) fn flags_of(value: &Value<'_>) -> Result<StopFlags, KeyError>
     ensures { result ≡ flags_of (view value.now) }
 {
     let items = items_of(value)?;
@@ -88,18 +88,18 @@ pub(crate) fn flags_of(value: &Value<'_>) -> Result<StopFlags, Flaw>
 }
 
 /// Returns the signal with this number.
-pub(crate) fn signal_of(value: &Value<'_>) -> Result<Signal, Flaw>
+pub(crate) fn signal_of(value: &Value<'_>) -> Result<Signal, KeyError>
     ensures { result ≡ signal_of (view value.now) }
 {
     let number = number_within(value, 1, 31)?;
     match Signal::new(number) {
         Ok(signal) => Ok(signal),
-        Err(_) => Err(Flaw::Number),
+        Err(_) => Err(KeyError::Number),
     }
 }
 
 /// Returns a set of signals.
-pub(crate) fn set_of(value: &Value<'_>) -> Result<SigSet, Flaw>
+pub(crate) fn set_of(value: &Value<'_>) -> Result<SigSet, KeyError>
     ensures { result ≡ set_of (view value.now) }
 {
     let items = items_of(value)?;

@@ -19,7 +19,7 @@ mod streaming;
 mod tracing;
 
 pub use fault::Fault;
-pub use one_step::{MOST_STEP_BYTES, StepReader, parse_step};
+pub use one_step::{MAX_STEP_BYTES, StepReader, parse_step};
 pub use parsing::{one_answer, parse};
 pub use plan::{Scenario, USERS};
 pub use reading::read;

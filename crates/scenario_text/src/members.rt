@@ -4,7 +4,7 @@ ghost use Rattle.scenario_text.specs.Streams.{AreMembers};
 
 use crate::streaming::MAX_DEPTH;
 use json::{Reader, Token};
-use json_data::{Member, next_value};
+use json_values::{Member, next_value};
 use std::alloc::Global;
 
 /// Reads the members of the next object into `members`, in place of those that are there. Their memory is used again.

@@ -1,6 +1,6 @@
 //! Reads a text that is one step.
 ghost use Rattle.std.specs.Prelude.{◌≢◌, IfErr};
-ghost use Rattle.json_data.specs.Reading.{view};
+ghost use Rattle.json_values.specs.Reading.{view};
 ghost use Rattle.scenario_text.specs.Fields.{Gives};
 ghost use Rattle.scenario_text.specs.OneStep.{IsStep, AnswersBy};
 ghost use Rattle.scenario_text.specs.Plan.{asked};
@@ -11,13 +11,13 @@ ghost use Rattle.scenario_text.specs.declared.fault.Fault.TheVariants.{Read as R
 use crate::fault::Fault;
 use crate::steps::step_of;
 use json::{Scratch, Value};
-use json_data::{Refusal, from_slice};
+use json_values::{Refusal, from_slice};
 use pid_blocks::Uid;
 use requests::PlainStep;
 use std::alloc::Global;
 
 /// The most bytes of a step's text.
-pub const MOST_STEP_BYTES: usize = 65536;
+pub const MAX_STEP_BYTES: usize = 65536;
 
 /// Returns the step that a JSON value is. The error is its first flaw, as the fault of the step with number 1.
 fn step_at(value: &Value<'_>) -> Result<(Uid, PlainStep), Fault>
@@ -48,14 +48,14 @@ impl StepReader {
     ///
     /// # Errors
     ///
-    /// The first check that fails: at most `MOST_STEP_BYTES` bytes, a JSON text, and then the step's keys as `parse`
+    /// The first check that fails: at most `MAX_STEP_BYTES` bytes, a JSON text, and then the step's keys as `parse`
     /// checks them. The step has the number 1. `Memory` where memory runs out. Never `Read`. After an error the reader
     /// reads on as before.
     pub fn parse_step(&mut self, alloc: Global, bytes: &[u8]) -> Result<(Uid, PlainStep), Fault>
         ensures step { AnswersBy asked result (IsStep bytes.now) }
         ensures no_read { IfErr result (λ e. e ≢ ReadFault) }
     {
-        if bytes.len() > MOST_STEP_BYTES {
+        if bytes.len() > MAX_STEP_BYTES {
             return Err(Fault::TooLong);
         }
         match from_slice(alloc, bytes, &mut self.scratch) {

@@ -1,8 +1,8 @@
 //! From bytes to a scenario.
 ghost use Rattle.std.specs.Prelude.{List, ℕ, Result, Ok, ◌≡◌, ◌≢◌, ◌≤◌, length, IfOk, IfErr, codes, pos};
-ghost use Rattle.json_data.specs.Reading.{view, items_view, object_view};
+ghost use Rattle.json_values.specs.Reading.{view, items_view, object_view};
 ghost use Rattle.scenario_text.specs.Fields.{Gives, integer_of, optional_at};
-ghost use Rattle.scenario_text.specs.Plan.{Plan, most_steps, asked};
+ghost use Rattle.scenario_text.specs.Plan.{Plan, max_steps, asked};
 ghost use Rattle.scenario_text.specs.declared.fault.Fault.{Fault};
 ghost use Rattle.scenario_text.specs.declared.fault.Fault.TheVariants.{Read as ReadFault};
 ghost use Rattle.scenario_text.specs.Steps.{step_of};
@@ -10,31 +10,31 @@ ghost use Rattle.scenario_text.specs.Scenarios.{at_step, numbered, settings_of, 
 ghost use Rattle.serde_json.specs.Read.{read};
 
 use crate::fault::Fault;
-use crate::fields::{Flaw, integer_of, items_of, member, object_of, only};
-use crate::plan::{MOST_STEPS, Scenario};
+use crate::fields::{KeyError, integer_of, items_of, member, object_of, only};
+use crate::plan::{MAX_STEPS, Scenario};
 use crate::step_list::StepList;
 use crate::steps::step_of;
 use crate::streaming::stream;
 use json::{Scratch, Value};
-use json_data::{Member, Refusal, from_str, get};
+use json_values::{Member, Refusal, from_str, get};
 use pid_blocks::Uid;
 use requests::PlainStep;
 use std::alloc::Global;
 use trace_stop::Settings;
 
 /// The most bytes of a scenario's text.
-pub(crate) const MOST_BYTES: usize = 4194304;
+pub(crate) const MAX_BYTES: usize = 4194304;
 
-impl Flaw {
+impl KeyError {
     pub(crate) fn at(self, number: u32) -> Fault
         ensures { result ≡ at_step number self }
     {
         match self {
-            Flaw::Shape => Fault::BadShape(number),
-            Flaw::User => Fault::BadUser(number),
-            Flaw::Name => Fault::BadName(number),
-            Flaw::Number => Fault::BadNumber(number),
-            Flaw::TooManyRules => Fault::TooManyRules(number),
+            KeyError::Shape => Fault::BadShape(number),
+            KeyError::User => Fault::BadUser(number),
+            KeyError::Name => Fault::BadName(number),
+            KeyError::Number => Fault::BadNumber(number),
+            KeyError::TooManyRules => Fault::TooManyRules(number),
         }
     }
 }
@@ -59,9 +59,9 @@ fn push_step(steps: &mut StepList, value: &Value<'_>, number: u32) -> Result<(),
 }
 
 fn steps_of(alloc: Global, items: &[Value<'_>]) -> Result<StepList, Fault>
-    requires { length items.now ≤ most_steps }
+    requires { length items.now ≤ max_steps }
     ensures yields { Yields (λ xs. xs) result (steps_from 1 (items_view items.now)) }
-    ensures bound { IfOk result (λ xs. length xs ≤ most_steps) }
+    ensures bound { IfOk result (λ xs. length xs ≤ max_steps) }
     ensures no_read { IfErr result (λ e. e ≢ ReadFault) }
 {
     let mut steps = StepList::new(alloc);
@@ -71,7 +71,7 @@ fn steps_of(alloc: Global, items: &[Value<'_>]) -> Result<StepList, Fault>
     Ok(steps)
 }
 
-fn kill_at(scenario: &[Member<'_>]) -> Result<i64, Flaw>
+fn kill_at(scenario: &[Member<'_>]) -> Result<i64, KeyError>
     ensures { result ≡ optional_at (codes "kill_on_debugger_exit") (pos 1) integer_of (object_view scenario.now) }
 {
     match get(scenario, "kill_on_debugger_exit") {
@@ -80,18 +80,18 @@ fn kill_at(scenario: &[Member<'_>]) -> Result<i64, Flaw>
     }
 }
 
-pub(crate) fn settings_of(kill: i64) -> Result<Settings, Flaw>
+pub(crate) fn settings_of(kill: i64) -> Result<Settings, KeyError>
     ensures { result ≡ settings_of kill }
 {
     match kill {
         0 => Ok(Settings::detach_on_exit()),
         1 => Ok(Settings::standard()),
-        _ => Err(Flaw::Number),
+        _ => Err(KeyError::Number),
     }
 }
 
 #[tactic(auto, unfolding(crate::specs::Scenarios::head_of))]
-fn head_with<'v, 'a>(scenario: &'v [Member<'a>]) -> Result<(&'v [Value<'a>], Settings), Flaw>
+fn head_with<'v, 'a>(scenario: &'v [Member<'a>]) -> Result<(&'v [Value<'a>], Settings), KeyError>
     ensures { Gives (λ x. (items_view x.0.now, x.1)) result (head_of (object_view scenario.now)) }
 {
     let items = items_of(member(scenario, "steps")?)?;
@@ -102,7 +102,7 @@ fn head_with<'v, 'a>(scenario: &'v [Member<'a>]) -> Result<(&'v [Value<'a>], Set
 }
 
 #[tactic(auto, unfolding(crate::specs::Scenarios::head_of))]
-fn head_of<'v, 'a>(value: &'v Value<'a>) -> Result<(&'v [Value<'a>], Settings), Flaw>
+fn head_of<'v, 'a>(value: &'v Value<'a>) -> Result<(&'v [Value<'a>], Settings), KeyError>
     ensures { Gives (λ x. (items_view x.0.now, x.1)) result (head_of (view value.now)) }
 {
     head_with(object_of(value)?)
@@ -112,10 +112,10 @@ fn head_of<'v, 'a>(value: &'v Value<'a>) -> Result<(&'v [Value<'a>], Settings), 
 fn bounded_steps(alloc: Global, items: &[Value<'_>]) -> Result<StepList, Fault>
     ensures yields { Yields (λ xs. xs) result
         (bounded (items_view items.now) (steps_from 1 (items_view items.now))) }
-    ensures bound { IfOk result (λ xs. length xs ≤ most_steps) }
+    ensures bound { IfOk result (λ xs. length xs ≤ max_steps) }
     ensures no_read { IfErr result (λ e. e ≢ ReadFault) }
 {
-    if items.len() > MOST_STEPS {
+    if items.len() > MAX_STEPS {
         return Err(Fault::TooManySteps);
     }
     steps_of(alloc, items)
@@ -152,14 +152,14 @@ fn parse_whole(alloc: Global, text: &str) -> Result<Scenario, Fault>
 ///
 /// # Errors
 ///
-/// The first check that fails: at most `MOST_BYTES` bytes, a JSON text, the shape of the whole, at most `MOST_STEPS`
+/// The first check that fails: at most `MAX_BYTES` bytes, a JSON text, the shape of the whole, at most `MAX_STEPS`
 /// steps, and then each step in order. Of a step, the keys are checked in the order of its op, and then that it has no
 /// other keys. `Memory` where memory runs out. Never `Read`.
 pub fn parse(alloc: Global, bytes: &[u8]) -> Result<Scenario, Fault>
     ensures stands { Answers result (StandsFor bytes.now) }
     ensures no_read { IfErr result (λ e. e ≢ ReadFault) }
 {
-    if bytes.len() > MOST_BYTES {
+    if bytes.len() > MAX_BYTES {
         return Err(Fault::TooLong);
     }
     let Ok(text) = str::from_utf8(bytes) else {

@@ -8,9 +8,9 @@ use trace_stop::Settings;
 pub const USERS: usize = 64;
 
 /// The most steps of a scenario.
-pub(crate) const MOST_STEPS: usize = 100000;
+pub(crate) const MAX_STEPS: usize = 100000;
 
-/// At most `MOST_STEPS` steps of users in order, and the settings of the host for them.
+/// At most `MAX_STEPS` steps of users in order, and the settings of the host for them.
 #[derive(Drop)]
 pub struct Scenario {
     settings: Settings,
@@ -19,22 +19,22 @@ pub struct Scenario {
 
 impl Model for Scenario {
     ghost use Rattle.std.specs.Prelude.{◌≤◌, length};
-    ghost use Rattle.scenario_text.specs.Plan.{Plan, most_steps};
+    ghost use Rattle.scenario_text.specs.Plan.{Plan, max_steps};
 
     ghost Value = { Plan };
 
     ghost view = { λ s. record { settings = s.settings; steps = s.steps } };
 
-    ghost invariant = { λ s. length s.steps ≤ most_steps };
+    ghost invariant = { λ s. length s.steps ≤ max_steps };
 }
 
 impl Scenario {
     ghost use Rattle.std.specs.Prelude.{◌≡◌, ◌≤◌, length, map};
-    ghost use Rattle.scenario_text.specs.Plan.{Plan, asked, filled, most_steps, policies_in};
+    ghost use Rattle.scenario_text.specs.Plan.{Plan, asked, filled, max_steps, policies_in};
 
-    /// Creates the scenario of these steps. There are at most `MOST_STEPS` of them.
+    /// Creates the scenario of these steps. There are at most `MAX_STEPS` of them.
     pub fn new(settings: Settings, steps: StepList) -> Scenario
-        requires { length steps ≤ most_steps }
+        requires { length steps ≤ max_steps }
         ensures { result ≡ record { settings = settings; steps = steps } }
     {
         Scenario { settings, steps }
@@ -50,7 +50,7 @@ impl Scenario {
     /// Returns the steps in order, each with its user and without the policy that it installs.
     pub fn shapes(&self) -> &[(Uid, StepShape)]
         ensures steps { filled result.now (policies_in self.now.steps) ≡ self.now.steps }
-        ensures bound { length result.now ≤ most_steps }
+        ensures bound { length result.now ≤ max_steps }
     {
         self.steps.shapes()
     }

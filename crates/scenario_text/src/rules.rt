@@ -1,6 +1,6 @@
 //! The rules of a policy.
 ghost use Rattle.std.specs.Prelude.{◌≡◌, ◌≤◌, length, None, codes};
-ghost use Rattle.json_data.specs.Reading.{view, items_view, object_view};
+ghost use Rattle.json_values.specs.Reading.{view, items_view, object_view};
 ghost use Rattle.event_masks.specs.Exits.{no_flags};
 ghost use Rattle.scenario_text.specs.Arrays.{flags_of as flags_in};
 ghost use Rattle.scenario_text.specs.Fields.{each, only, optional_at, name_at};
@@ -8,15 +8,15 @@ ghost use Rattle.scenario_text.specs.Names.{decision_named};
 ghost use Rattle.scenario_text.specs.Rules.{some_signal_of, pass_at, decision_of, rule_keys, rule_of, rules_of};
 
 use crate::arrays::{flags_of, signal_of};
-use crate::fields::{Flaw, number_within, object_of, only, text};
+use crate::fields::{KeyError, number_within, object_of, only, text};
 use crate::names::{DecisionKind, decision_named};
 use event_masks::StopFlags;
 use json::Value;
-use json_data::{Member, get};
+use json_values::{Member, get};
 use signals::{Pass, Signal};
 use stop_handlers::{Decision, Policy, Rule};
 
-fn signal_at(rule: &[Member<'_>]) -> Result<Option<Signal>, Flaw>
+fn signal_at(rule: &[Member<'_>]) -> Result<Option<Signal>, KeyError>
     ensures { result ≡ optional_at (codes "signal") None some_signal_of (object_view rule.now) }
 {
     match get(rule, "signal") {
@@ -25,7 +25,7 @@ fn signal_at(rule: &[Member<'_>]) -> Result<Option<Signal>, Flaw>
     }
 }
 
-fn flags_at(rule: &[Member<'_>]) -> Result<StopFlags, Flaw>
+fn flags_at(rule: &[Member<'_>]) -> Result<StopFlags, KeyError>
     ensures { result ≡ optional_at (codes "flags") no_flags flags_in (object_view rule.now) }
 {
     match get(rule, "flags") {
@@ -34,7 +34,7 @@ fn flags_at(rule: &[Member<'_>]) -> Result<StopFlags, Flaw>
     }
 }
 
-fn pass_number_at(rule: &[Member<'_>]) -> Result<u32, Flaw>
+fn pass_number_at(rule: &[Member<'_>]) -> Result<u32, KeyError>
     ensures { result ≡ pass_at (object_view rule.now) }
 {
     match get(rule, "pass") {
@@ -44,22 +44,22 @@ fn pass_number_at(rule: &[Member<'_>]) -> Result<u32, Flaw>
 }
 
 /// Returns the signal with which a process is resumed.
-fn pass_at(rule: &[Member<'_>]) -> Result<Pass, Flaw>
+fn pass_at(rule: &[Member<'_>]) -> Result<Pass, KeyError>
     ensures { result ≡ pass_at (object_view rule.now) }
 {
     match Pass::new(pass_number_at(rule)?) {
         Ok(pass) => Ok(pass),
-        Err(_) => Err(Flaw::Number),
+        Err(_) => Err(KeyError::Number),
     }
 }
 
-fn kind_at(rule: &[Member<'_>]) -> Result<DecisionKind, Flaw>
+fn kind_at(rule: &[Member<'_>]) -> Result<DecisionKind, KeyError>
     ensures { result ≡ name_at (codes "decision") decision_named (object_view rule.now) }
 {
-    decision_named(text(rule, "decision")?).ok_or(Flaw::Name)
+    decision_named(text(rule, "decision")?).ok_or(KeyError::Name)
 }
 
-fn decision_of(rule: &[Member<'_>], kind: DecisionKind) -> Result<Decision, Flaw>
+fn decision_of(rule: &[Member<'_>], kind: DecisionKind) -> Result<Decision, KeyError>
     ensures { result ≡ decision_of kind (object_view rule.now) }
 {
     match kind {
@@ -72,7 +72,7 @@ fn decision_of(rule: &[Member<'_>], kind: DecisionKind) -> Result<Decision, Flaw
 }
 
 /// Checks that the rule has no other keys than those of such a decision.
-fn only_rule_keys(rule: &[Member<'_>], kind: DecisionKind) -> Result<(), Flaw>
+fn only_rule_keys(rule: &[Member<'_>], kind: DecisionKind) -> Result<(), KeyError>
     ensures { result ≡ only (rule_keys kind) (object_view rule.now) }
 {
     match kind {
@@ -86,7 +86,7 @@ fn only_rule_keys(rule: &[Member<'_>], kind: DecisionKind) -> Result<(), Flaw>
 }
 
 #[tactic(auto, unfolding(crate::specs::Rules::rule_of))]
-fn rule_with(rule: &[Member<'_>]) -> Result<Rule, Flaw>
+fn rule_with(rule: &[Member<'_>]) -> Result<Rule, KeyError>
     ensures { result ≡ rule_of (object_view rule.now) }
 {
     let signal = signal_at(rule)?;
@@ -102,14 +102,14 @@ fn rule_with(rule: &[Member<'_>]) -> Result<Rule, Flaw>
 }
 
 #[tactic(auto, unfolding(crate::specs::Rules::rule_of))]
-fn rule_of(value: &Value<'_>) -> Result<Rule, Flaw>
+fn rule_of(value: &Value<'_>) -> Result<Rule, KeyError>
     ensures { result ≡ rule_of (view value.now) }
 {
     rule_with(object_of(value)?)
 }
 
 /// Returns the policy of an array of at most 16 rules.
-fn few_rules(items: &[Value<'_>]) -> Result<Policy, Flaw>
+fn few_rules(items: &[Value<'_>]) -> Result<Policy, KeyError>
     requires { length items.now ≤ 16 }
     ensures { result ≡ each rule_of (items_view items.now) }
 {
@@ -124,17 +124,17 @@ fn few_rules(items: &[Value<'_>]) -> Result<Policy, Flaw>
     }
     match Policy::new(&rules[..items.len()]) {
         Ok(policy) => Ok(policy),
-        Err(_) => Err(Flaw::TooManyRules),
+        Err(_) => Err(KeyError::TooManyRules),
     }
 }
 
 /// Returns the policy of an array of rules. More than 16 rules are refused before any of them is read.
 #[tactic(auto, using(crate::proofs::CountLemmas::many_rules, crate::proofs::CountLemmas::few_rules))]
-pub(crate) fn rules_of(items: &[Value<'_>]) -> Result<Policy, Flaw>
+pub(crate) fn rules_of(items: &[Value<'_>]) -> Result<Policy, KeyError>
     ensures { result ≡ rules_of (items_view items.now) }
 {
     if items.len() > 16 {
-        return Err(Flaw::TooManyRules);
+        return Err(KeyError::TooManyRules);
     }
     few_rules(items)
 }

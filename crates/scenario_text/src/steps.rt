@@ -1,6 +1,6 @@
 //! A step of a scenario: its user, its op, and the keys of that op.
 ghost use Rattle.std.specs.Prelude.{◌≡◌, codes};
-ghost use Rattle.json_data.specs.Reading.{view, object_view};
+ghost use Rattle.json_values.specs.Reading.{view, object_view};
 ghost use Rattle.requests.specs.Handle.{no_options};
 ghost use Rattle.scenario_text.specs.Arrays.{options_of as options_in};
 ghost use Rattle.scenario_text.specs.Fields.{name_at, optional_at, Gives};
@@ -10,46 +10,46 @@ ghost use Rattle.scenario_text.specs.Steps.{user_at, spawn_of, wait4_of, kill_of
 
 use crate::acts::act_at;
 use crate::arrays::options_of;
-use crate::fields::{Flaw, integer, items_of, member, object_of, only, text, word};
+use crate::fields::{KeyError, integer, items_of, member, object_of, only, text, word};
 use crate::names::{Op, disposition_named, op_named};
 use crate::rules::rules_of;
 use crate::tracing::ptrace_of;
 use json::Value;
-use json_data::{Member, get};
+use json_values::{Member, get};
 use pid_blocks::Uid;
 use requests::PlainStep;
 use signals::Disposition;
 use wait4::Options;
 
-fn user_at(step: &[Member<'_>]) -> Result<Uid, Flaw>
+fn user_at(step: &[Member<'_>]) -> Result<Uid, KeyError>
     ensures { result ≡ user_at (object_view step.now) }
 {
     let number = integer(step, "user")?;
     if 1001 <= number && number <= 1064 {
         match Uid::new(number as u32) {
             Ok(user) => Ok(user),
-            Err(_) => Err(Flaw::User),
+            Err(_) => Err(KeyError::User),
         }
     } else {
-        Err(Flaw::User)
+        Err(KeyError::User)
     }
 }
 
-fn op_at(step: &[Member<'_>]) -> Result<Op, Flaw>
+fn op_at(step: &[Member<'_>]) -> Result<Op, KeyError>
     ensures { result ≡ name_at (codes "op") op_named (object_view step.now) }
 {
-    op_named(text(step, "op")?).ok_or(Flaw::Name)
+    op_named(text(step, "op")?).ok_or(KeyError::Name)
 }
 
 #[tactic(auto, unfolding(crate::specs::Steps::spawn_of))]
-fn spawn_of(step: &[Member<'_>]) -> Result<PlainStep, Flaw>
+fn spawn_of(step: &[Member<'_>]) -> Result<PlainStep, KeyError>
     ensures { result ≡ spawn_of (object_view step.now) }
 {
     only(step, &["user", "op"])?;
     Ok(PlainStep::Spawn)
 }
 
-fn options_at(step: &[Member<'_>]) -> Result<Options, Flaw>
+fn options_at(step: &[Member<'_>]) -> Result<Options, KeyError>
     ensures { result ≡ optional_at (codes "options") no_options options_in (object_view step.now) }
 {
     match get(step, "options") {
@@ -62,7 +62,7 @@ fn options_at(step: &[Member<'_>]) -> Result<Options, Flaw>
 }
 
 #[tactic(auto, unfolding(crate::specs::Steps::wait4_of))]
-fn wait4_of(step: &[Member<'_>]) -> Result<PlainStep, Flaw>
+fn wait4_of(step: &[Member<'_>]) -> Result<PlainStep, KeyError>
     ensures { result ≡ wait4_of (object_view step.now) }
 {
     let caller = word(step, "caller")?;
@@ -77,7 +77,7 @@ fn wait4_of(step: &[Member<'_>]) -> Result<PlainStep, Flaw>
 }
 
 #[tactic(auto, unfolding(crate::specs::Steps::kill_of))]
-fn kill_of(step: &[Member<'_>]) -> Result<PlainStep, Flaw>
+fn kill_of(step: &[Member<'_>]) -> Result<PlainStep, KeyError>
     ensures { result ≡ kill_of (object_view step.now) }
 {
     let caller = word(step, "caller")?;
@@ -87,14 +87,14 @@ fn kill_of(step: &[Member<'_>]) -> Result<PlainStep, Flaw>
     Ok(PlainStep::Kill { caller, which, sig })
 }
 
-fn disposition_at(step: &[Member<'_>]) -> Result<Disposition, Flaw>
+fn disposition_at(step: &[Member<'_>]) -> Result<Disposition, KeyError>
     ensures { result ≡ name_at (codes "action") disposition_named (object_view step.now) }
 {
-    disposition_named(text(step, "action")?).ok_or(Flaw::Name)
+    disposition_named(text(step, "action")?).ok_or(KeyError::Name)
 }
 
 #[tactic(auto, unfolding(crate::specs::Steps::sigaction_of))]
-fn sigaction_of(step: &[Member<'_>]) -> Result<PlainStep, Flaw>
+fn sigaction_of(step: &[Member<'_>]) -> Result<PlainStep, KeyError>
     ensures { result ≡ sigaction_of (object_view step.now) }
 {
     let caller = word(step, "caller")?;
@@ -109,7 +109,7 @@ fn sigaction_of(step: &[Member<'_>]) -> Result<PlainStep, Flaw>
 }
 
 #[tactic(auto, unfolding(crate::specs::Steps::list_of))]
-fn list_of(step: &[Member<'_>]) -> Result<PlainStep, Flaw>
+fn list_of(step: &[Member<'_>]) -> Result<PlainStep, KeyError>
     ensures { result ≡ list_of (object_view step.now) }
 {
     let caller = word(step, "caller")?;
@@ -118,7 +118,7 @@ fn list_of(step: &[Member<'_>]) -> Result<PlainStep, Flaw>
 }
 
 #[tactic(auto, unfolding(crate::specs::Steps::install_of))]
-fn install_of(step: &[Member<'_>]) -> Result<PlainStep, Flaw>
+fn install_of(step: &[Member<'_>]) -> Result<PlainStep, KeyError>
     ensures { result ≡ install_of (object_view step.now) }
 {
     let caller = word(step, "caller")?;
@@ -132,7 +132,7 @@ fn install_of(step: &[Member<'_>]) -> Result<PlainStep, Flaw>
 }
 
 #[tactic(auto, unfolding(crate::specs::Steps::handle_of))]
-fn handle_of(step: &[Member<'_>]) -> Result<PlainStep, Flaw>
+fn handle_of(step: &[Member<'_>]) -> Result<PlainStep, KeyError>
     ensures { result ≡ handle_of (object_view step.now) }
 {
     let caller = word(step, "caller")?;
@@ -141,7 +141,7 @@ fn handle_of(step: &[Member<'_>]) -> Result<PlainStep, Flaw>
 }
 
 #[tactic(auto, unfolding(crate::specs::Steps::turn_of))]
-fn turn_of(step: &[Member<'_>]) -> Result<PlainStep, Flaw>
+fn turn_of(step: &[Member<'_>]) -> Result<PlainStep, KeyError>
     ensures { result ≡ turn_of (object_view step.now) }
 {
     let tid = word(step, "lwp")?;
@@ -150,7 +150,7 @@ fn turn_of(step: &[Member<'_>]) -> Result<PlainStep, Flaw>
 }
 
 /// Returns the step with this op, from the keys of the op.
-fn rest_of(step: &[Member<'_>], op: Op) -> Result<PlainStep, Flaw>
+fn rest_of(step: &[Member<'_>], op: Op) -> Result<PlainStep, KeyError>
     ensures { result ≡ rest_of op (object_view step.now) }
 {
     match op {
@@ -168,7 +168,7 @@ fn rest_of(step: &[Member<'_>], op: Op) -> Result<PlainStep, Flaw>
 
 /// Returns the step with these keys. The error is its first flaw.
 #[tactic(auto, unfolding(crate::specs::Steps::step_of))]
-pub(crate) fn step_with(step: &[Member<'_>]) -> Result<(Uid, PlainStep), Flaw>
+pub(crate) fn step_with(step: &[Member<'_>]) -> Result<(Uid, PlainStep), KeyError>
     ensures { Gives asked result (step_of (object_view step.now)) }
 {
     let user = user_at(step)?;
@@ -179,7 +179,7 @@ pub(crate) fn step_with(step: &[Member<'_>]) -> Result<(Uid, PlainStep), Flaw>
 
 /// Returns the step that a JSON value is. The error is its first flaw.
 #[tactic(auto, unfolding(crate::specs::Steps::step_of))]
-pub(crate) fn step_of(value: &Value<'_>) -> Result<(Uid, PlainStep), Flaw>
+pub(crate) fn step_of(value: &Value<'_>) -> Result<(Uid, PlainStep), KeyError>
     ensures { Gives asked result (step_of (view value.now)) }
 {
     step_with(object_of(value)?)

@@ -7,17 +7,17 @@ ghost use Rattle.json.specs.Json.{value, read_key};
 ghost use Rattle.serde_json.specs.Data.{Data};
 ghost use Rattle.serde_json.specs.Read.{of_json, converted, read};
 ghost use Rattle.trace_stop.specs.declared.Settings.{Settings};
-ghost use Rattle.scenario_text.specs.Plan.{most_steps};
+ghost use Rattle.scenario_text.specs.Plan.{max_steps};
 ghost use Rattle.scenario_text.specs.Scenarios.{plan_of, settings_of};
 ghost use Rattle.scenario_text.specs.Streams.{IsArrayOfSteps, IsInteger, IsNextStep, IsScenario, text_of};
 
 use crate::members::read_members;
 use crate::parsing::settings_of;
-use crate::plan::{MOST_STEPS, Scenario};
+use crate::plan::{MAX_STEPS, Scenario};
 use crate::step_list::StepList;
 use crate::steps::step_with;
 use json::{Reader, Scratch, Token};
-use json_data::{Member, integer, next_value};
+use json_values::{Member, integer, next_value};
 use std::alloc::Global;
 
 /// The greatest depth of nested arrays and objects in a text.
@@ -53,7 +53,7 @@ fn read_integer<'a>(alloc: Global, reader: &mut Reader<'a>) -> Option<i64>
     }
 }
 
-/// Reads the steps of the next array, if it has at most `MOST_STEPS` steps without a fault.
+/// Reads the steps of the next array, if it has at most `MAX_STEPS` steps without a fault.
 fn read_steps<'a>(alloc: Global, reader: &mut Reader<'a>) -> Option<StepList>
     ensures steps { IfSome result (λ steps. IsArrayOfSteps steps (converted of_json (value 126 reader.old)) reader.new) }
     ensures shorter { IfSome result (λ v. length reader.new < length reader.old) }
@@ -64,7 +64,7 @@ fn read_steps<'a>(alloc: Global, reader: &mut Reader<'a>) -> Option<StepList>
     let mut steps = StepList::new(alloc);
     let mut members = Vec::new(alloc);
     'items: while !reader.take_end_array() {
-        if steps.len() == MOST_STEPS {
+        if steps.len() == MAX_STEPS {
             return None;
         }
         read_step(alloc, reader, &mut members, &mut steps)?;
@@ -100,7 +100,7 @@ fn next_key<'a>(reader: &mut Reader<'a>) -> Option<Key>
 }
 
 fn scenario_of(kill: i64, steps: StepList) -> Option<Scenario>
-    requires { length steps ≤ most_steps }
+    requires { length steps ≤ max_steps }
     ensures { IfSome result (λ s. (settings : Settings) × (settings_of kill ≡ Ok settings) × (s ≡ record { settings = settings; steps = steps })) }
 {
     match settings_of(kill) {

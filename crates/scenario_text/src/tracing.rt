@@ -1,23 +1,23 @@
 //! The requests of ptrace(2).
 ghost use Rattle.std.specs.Prelude.{◌≡◌, codes};
-ghost use Rattle.json_data.specs.Reading.{object_view};
+ghost use Rattle.json_values.specs.Reading.{object_view};
 ghost use Rattle.scenario_text.specs.Fields.{name_at, optional_at, word_of as word_in};
 ghost use Rattle.scenario_text.specs.Names.{request_named};
 ghost use Rattle.scenario_text.specs.Tracing.{trace_me_of, set_event_mask_of, request_of, asked_of, ptrace_of};
 
 use crate::arrays::mask_of;
-use crate::fields::{Flaw, member, only, text, word, word_of};
+use crate::fields::{KeyError, member, only, text, word, word_of};
 use crate::names::request_named;
-use json_data::{Member, get};
+use json_values::{Member, get};
 use requests::{PlainStep, Request};
 
-fn request_at(step: &[Member<'_>]) -> Result<Request, Flaw>
+fn request_at(step: &[Member<'_>]) -> Result<Request, KeyError>
     ensures { result ≡ name_at (codes "request") request_named (object_view step.now) }
 {
-    request_named(text(step, "request")?).ok_or(Flaw::Name)
+    request_named(text(step, "request")?).ok_or(KeyError::Name)
 }
 
-fn data_at(step: &[Member<'_>]) -> Result<u32, Flaw>
+fn data_at(step: &[Member<'_>]) -> Result<u32, KeyError>
     ensures { result ≡ optional_at (codes "data") 0 word_in (object_view step.now) }
 {
     match get(step, "data") {
@@ -27,7 +27,7 @@ fn data_at(step: &[Member<'_>]) -> Result<u32, Flaw>
 }
 
 #[tactic(auto, unfolding(crate::specs::Tracing::trace_me_of))]
-fn trace_me_of(step: &[Member<'_>], caller: u32) -> Result<PlainStep, Flaw>
+fn trace_me_of(step: &[Member<'_>], caller: u32) -> Result<PlainStep, KeyError>
     ensures { result ≡ trace_me_of caller (object_view step.now) }
 {
     only(step, &["user", "op", "caller", "request"])?;
@@ -40,7 +40,7 @@ fn trace_me_of(step: &[Member<'_>], caller: u32) -> Result<PlainStep, Flaw>
 }
 
 #[tactic(auto, unfolding(crate::specs::Tracing::set_event_mask_of))]
-fn set_event_mask_of(step: &[Member<'_>], caller: u32) -> Result<PlainStep, Flaw>
+fn set_event_mask_of(step: &[Member<'_>], caller: u32) -> Result<PlainStep, KeyError>
     ensures { result ≡ set_event_mask_of caller (object_view step.now) }
 {
     let target = word(step, "target")?;
@@ -56,7 +56,7 @@ fn set_event_mask_of(step: &[Member<'_>], caller: u32) -> Result<PlainStep, Flaw
 
 /// Returns a request with a target and data.
 #[tactic(auto, unfolding(crate::specs::Tracing::request_of))]
-fn request_of(step: &[Member<'_>], caller: u32, request: Request) -> Result<PlainStep, Flaw>
+fn request_of(step: &[Member<'_>], caller: u32, request: Request) -> Result<PlainStep, KeyError>
     ensures { result ≡ request_of caller request (object_view step.now) }
 {
     let target = word(step, "target")?;
@@ -70,7 +70,7 @@ fn request_of(step: &[Member<'_>], caller: u32, request: Request) -> Result<Plai
     })
 }
 
-fn asked_of(step: &[Member<'_>], caller: u32, request: Request) -> Result<PlainStep, Flaw>
+fn asked_of(step: &[Member<'_>], caller: u32, request: Request) -> Result<PlainStep, KeyError>
     ensures { result ≡ asked_of caller request (object_view step.now) }
 {
     match request {
@@ -82,7 +82,7 @@ fn asked_of(step: &[Member<'_>], caller: u32, request: Request) -> Result<PlainS
 
 /// Returns a ptrace step, from the keys of its request.
 #[tactic(auto, unfolding(crate::specs::Tracing::ptrace_of))]
-pub(crate) fn ptrace_of(step: &[Member<'_>]) -> Result<PlainStep, Flaw>
+pub(crate) fn ptrace_of(step: &[Member<'_>]) -> Result<PlainStep, KeyError>
     ensures { result ≡ ptrace_of (object_view step.now) }
 {
     let caller = word(step, "caller")?;

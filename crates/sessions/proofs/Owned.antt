@@ -6,7 +6,7 @@ use Rattle.requests.specs.Run.{Asked, asked_by, replies, last}
 use Rattle.requests.specs.View.{alone, view}
 use Rattle.requests.specs.Isolation.{Users, replies_to}
 use Rattle.requests.specs.Sound.{sound}
-use Rattle.requests.proofs.ViewSound.{sound_apart}
+use Rattle.requests.proofs.SoundHostIsApart.{users_are_apart_in_a_sound_host}
 use Rattle.visibility.proofs.Apart.{own_list_law}
 use Rattle.host_lock.specs.declared.journal.Entry.{Entry}
 use Rattle.host_lock.specs.Journal.{asked, IsLegal}
@@ -35,7 +35,7 @@ replies_own u (e ∷ es) = replies_more u e es _ refl (replies_own u es)
 
 pub own_entries : (m : Machine) (log : List Entry) → sound m ≡ true → Users (asked log) → IsLegal m log → OwnEntries m log
 own_entries m log is users legal u user =
-    let law = own_list_law m u (asked log) user users (sound_apart m is) in
+    let law = own_list_law m u (asked log) user users (users_are_apart_in_a_sound_host m is) in
     let steps = asked_own u log in (
       sym (replies_own u log) ∙ ap (replies_to u (asked log)) legal.replies_given ∙ law.0 ∙ ap (λ (l : List Asked). replies l (alone u m)) steps,
       law.1 ∙ ap (λ (l : List Asked). view u (last l (alone u m))) steps,

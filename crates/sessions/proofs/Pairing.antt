@@ -10,10 +10,10 @@ use Rattle.host_lock.specs.Journal.{entries_of}
 use Rattle.host_lock.specs.Answers.{GivesBack}
 use Rattle.host_lock.specs.declared.host.CloseRefusal.{CloseRefusal}
 use Rattle.host_lock.specs.declared.host.CloseRefusal.TheVariants.{Missing}
-use Rattle.host_lock.specs.Limits.{most_calls}
+use Rattle.host_lock.specs.Limits.{max_calls}
 use Rattle.host_lock.specs.Rule.{Each}
 use Rattle.host_lock.proofs.Totals.{all_of, each_of}
-use Rattle.host_lock.specs.Sessions.{SessionData, HostData, IsOf, Stands, new_session, new_sessions}
+use Rattle.host_lock.specs.Sessions.{SessionData, HostData, IsOf, InJournal, new_session, new_sessions}
 use Rattle.sessions.specs.declared.job.Job.{Job}
 use Rattle.sessions.specs.declared.job.Done.{Done}
 use Rattle.sessions.specs.declared.script.Script.{Script}
@@ -88,7 +88,7 @@ module _ {F : Type 0} (h : Machine) (z : TableId) where
       let same = steps_at ss js p k (record { uid = 0; steps = j.steps }) j (omega arith) in
       let new = session_at ss js p k (record { uid = 0; steps = j.steps }) j (omega arith) in
       let room = all_of HasRoom js p.2 k j lt in
-      let few : vec_len (slice_index_or js k j).steps ≤ most_calls = subst (λ (v : Vec PlainStep Global). vec_len v ≤ most_calls) (sym same) (short k (record { uid = 0; steps = j.steps }) (omega arith)) in (
+      let few : vec_len (slice_index_or js k j).steps ≤ max_calls = subst (λ (v : Vec PlainStep Global). vec_len v ≤ max_calls) (sym same) (short k (record { uid = 0; steps = j.steps }) (omega arith)) in (
         (ap (λ (x : SessionData). x.host) new ∙ sym id, ap (λ (x : SessionData). x.start) new ∙ sym start),
         ap (λ (x : SessionData). x.calls) new,
         ap (λ (x : SessionData). x.mine) new,
@@ -113,7 +113,7 @@ module _ {F : Type 0} (h : Machine) (z : TableId) where
   of_host e (j ∷ js) (d ∷ ds) a r = ((r.0.3 ∙ a.0.0.0, r.0.4 ∙ a.0.0.1), of_host e js ds a.1 r.1)
 
   -- each transcript is its script's, and the journal has just its entries
-  pub all_play : (log : List Entry) (ss : List (Script F)) (js : List (Job F)) (ds : List Done) → Prepared ss js → AllDone js ds → (xs : List SessionData) (ts : List Transcript) → xs ≡ map done_session ds → ts ≡ map done_transcript ds → All (Stands log) xs → AllPlay log ss ts
+  pub all_play : (log : List Entry) (ss : List (Script F)) (js : List (Job F)) (ds : List Done) → Prepared ss js → AllDone js ds → (xs : List SessionData) (ts : List Transcript) → xs ≡ map done_session ds → ts ≡ map done_transcript ds → All (InJournal log) xs → AllPlay log ss ts
   all_play log ss js ds p r xs ts is was stands =
       let len = jobs_length ss js p in
       let len' = pairs_length (λ j d. Did j.session j.steps.items d.replies.items d.session) js ds r in (
@@ -126,7 +126,7 @@ module _ {F : Type 0} (h : Machine) (z : TableId) where
             let here : slice_index_or xs k d.session ≡ x.session = ap (λ l. slice_index_or l k d.session) is ∙ get_or-map done_session ds k d d.session (omega arith) in
             let count = ap length is in
             let more = length_map done_session ds in
-            let stand : Stands log x.session = subst (Stands log) here (stands k d.session (omega arith)) in
+            let stand : InJournal log x.session = subst (InJournal log) here (stands k d.session (omega arith)) in
             subst (Plays log k (slice_index_or ss k s)) (sym there) (
               did.1,
               did.0,

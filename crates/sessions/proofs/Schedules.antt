@@ -8,7 +8,7 @@ use Rattle.requests.specs.Machine.{Machine}
 use Rattle.requests.specs.Memory.{is_memory}
 use Rattle.requests.specs.Run.{Asked, replies, last}
 use Rattle.requests.specs.View.{View, view, with_view, alone}
-use Rattle.requests.proofs.ViewSound.{sound_apart}
+use Rattle.requests.proofs.SoundHostIsApart.{users_are_apart_in_a_sound_host}
 use Rattle.visibility.proofs.ForeignLists.{alike_alone}
 use Rattle.host_lock.specs.declared.journal.Entry.{Entry}
 use Rattle.host_lock.specs.Journal.{asked, entry, entries_of}
@@ -37,7 +37,7 @@ alike_journals m n log journal u user is own theirs same alike =
     let b = theirs u user in
     let xs = asked (entries_by u log) in
     let ys = asked (entries_by u journal) in
-    let both = alike_alone u xs ys user (asked_mine u log) (asked_mine u journal) m (sound_apart m is) alike in (
+    let both = alike_alone u xs ys user (asked_mine u log) (asked_mine u journal) m (users_are_apart_in_a_sound_host m is) alike in (
       a.0 ∙ both.0 ∙ ap (λ (v : View). replies ys (with_view u v)) same ∙ sym b.0,
       a.1 ∙ both.1 ∙ ap (λ (v : View). view u (last ys (with_view u v))) same ∙ sym b.1,
     )

@@ -1,6 +1,6 @@
 -- A script that is ready to run, and its result.
 use Rattle.std.specs.Prelude.{◌≡◌, ℕ, ◌≤◌, List, [], Vec, vec_len, vec_capacity}
-use Rattle.host_lock.specs.Limits.{most_calls}
+use Rattle.host_lock.specs.Limits.{max_calls}
 use Rattle.host_lock.specs.Sessions.{SessionData, HostData, IsOf}
 use Rattle.requests.specs.Plain.{PlainStep}
 use Rattle.std.specs.Global.{Global}
@@ -19,7 +19,7 @@ HasRoom j = HasRoomFor (vec_len j.steps) j.replies
 
 -- the session is of this host and has made no call, and its script is short enough
 abbrev pub IsReady : {F : Type 0} → HostData → Job F → Type 0
-IsReady h j = IsOf h j.session × (j.session.calls ≡ 0) × (j.session.mine ≡ []) × (vec_len j.steps ≤ most_calls) × HasRoom j
+IsReady h j = IsOf h j.session × (j.session.calls ≡ 0) × (j.session.mine ≡ []) × (vec_len j.steps ≤ max_calls) × HasRoom j
 
 -- each job was done
 abbrev pub AllDone : {F : Type 0} → List (Job F) → List Done → Type 0

@@ -6,7 +6,7 @@ use Rattle.requests.specs.Machine.{Machine}
 use Rattle.requests.specs.Run.{replies, last}
 use Rattle.requests.specs.View.{view, alone}
 use Rattle.host_lock.specs.Journal.{asked, replay, entries_of}
-use Rattle.host_lock.specs.Limits.{most_sessions, most_calls}
+use Rattle.host_lock.specs.Limits.{max_sessions, max_calls}
 use Rattle.sessions.specs.declared.script.Script.{Script}
 use Rattle.sessions.specs.declared.script.Transcript.{Transcript}
 use Rattle.sessions.specs.declared.script.RunRefusal.{RunRefusal}
@@ -17,7 +17,7 @@ use Rattle.sessions.specs.Made.{made}
 
 -- one session can make all the steps
 abbrev pub IsShort : {F : Type 0} → Script F → Type 0
-IsShort s = vec_len s.steps ≤ most_calls
+IsShort s = vec_len s.steps ≤ max_calls
 
 -- the transcript has one reply for each step, in order; the journal's entries of this number are the steps with their
 -- replies, except those with the reply ENOMEM
@@ -41,9 +41,9 @@ OwnEntries m log = (u : ℕ) → IsUser u
 
 -- the refusals of a run of n scripts
 abbrev pub RefusesFor : ℕ → RunRefusal → Type 0
-RefusesFor n TooMany = most_sessions < n
-RefusesFor n Memory = (0 < n) × (n ≤ most_sessions)
-RefusesFor n Start = (0 < n) × (n ≤ most_sessions)
+RefusesFor n TooMany = max_sessions < n
+RefusesFor n Memory = (0 < n) × (n ≤ max_sessions)
+RefusesFor n Start = (0 < n) × (n ≤ max_sessions)
 
 abbrev pub uid_of : {F : Type 0} → Script F → ℕ
 uid_of s = s.uid

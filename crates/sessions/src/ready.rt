@@ -1,7 +1,7 @@
 //! The preparation of a run: all memory that it needs before its first worker starts.
 
 ghost use Rattle.std.specs.Prelude.{◌≡◌, ◌<◌, ◌≤◌, length, map, vec_len, All, IfOk};
-ghost use Rattle.host_lock.specs.Limits.{most_sessions};
+ghost use Rattle.host_lock.specs.Limits.{max_sessions};
 ghost use Rattle.host_lock.specs.Rule.{Each};
 ghost use Rattle.host_lock.specs.Sessions.{IsOpenable, new_sessions};
 ghost use Rattle.sessions.specs.Jobs.{HasRoom, HasRoomFor, job_session, job_steps};
@@ -44,7 +44,7 @@ pub(crate) fn prepare<F: Decider + Send + Drop>(
     host: Host<F>,
     scripts: Vec<Script<F>>,
 ) -> Result<Ready<F>, AllocError>
-    requires some_script { (0 < vec_len scripts) × (vec_len scripts ≤ most_sessions) }
+    requires some_script { (0 < vec_len scripts) × (vec_len scripts ≤ max_sessions) }
     ensures host { IfOk result (λ r. (r.host.start ≡ host) × (r.host.sessions ≡ vec_len scripts)) }
     ensures sessions { IfOk result (λ r. map job_session r.jobs.items ≡ new_sessions 0 r.host.id host (map uid_of scripts.items)) }
     ensures steps { IfOk result (λ r. map job_steps r.jobs.items ≡ map steps_of scripts.items) }

@@ -2,7 +2,7 @@
 ghost use Rattle.std.specs.Prelude.{◌≡◌, ◌≤◌, [], map, vec_len, All, IfOk, IfErr, OnOk};
 ghost use Rattle.requests.specs.Isolation.{Users};
 ghost use Rattle.host_lock.specs.Journal.{asked, IsLegal, replay};
-ghost use Rattle.host_lock.specs.Limits.{most_sessions};
+ghost use Rattle.host_lock.specs.Limits.{max_sessions};
 ghost use Rattle.host_lock.specs.Sessions.{IsBelow};
 ghost use Rattle.sessions.specs.Jobs.{HasRoomFor, done_session, done_transcript};
 ghost use Rattle.sessions.specs.Runs.{IsShort, AllPlay, OwnEntries, RefusesFor};
@@ -12,7 +12,7 @@ use crate::ready::{Ready, Room, prepare};
 use crate::script::{Gate, RunRefusal, Script, Transcript};
 use crate::worker::reversed;
 use crate::workers::run_all;
-use host_lock::{Journal, MOST_SESSIONS, Session};
+use host_lock::{Journal, MAX_SESSIONS, Session};
 use requests::Host;
 use std::alloc::Global;
 use std::sync::Wait;
@@ -43,7 +43,7 @@ pub fn run_sessions<F: Decider + Send + Drop, G: Gate, R: Threads + Wait + Sync>
     ensures transcripts { IfOk result (λ r. AllPlay r.1 scripts.items r.2.items) }
     ensures own { IfOk result (λ r. OwnEntries host r.1) }
     ensures none { IfOk result (λ r. vec_len scripts ≡ 0 → (r.0 ≡ host) × (r.1 ≡ [])) }
-    ensures few { OnOk result (vec_len scripts ≤ most_sessions) }
+    ensures few { OnOk result (vec_len scripts ≤ max_sessions) }
     ensures refuses { IfErr result (RefusesFor (vec_len scripts)) }
 {
     host.kept();
@@ -65,10 +65,10 @@ fn play<F: Decider + Send + Drop, G: Gate, R: Threads + Wait + Sync>(
     ensures entries { IfOk result (λ r. All (IsBelow (vec_len scripts)) r.1) }
     ensures transcripts { IfOk result (λ r. AllPlay r.1 scripts.items r.2.items) }
     ensures none { IfOk result (λ r. vec_len scripts ≡ 0 → (r.0 ≡ host) × (r.1 ≡ [])) }
-    ensures few { OnOk result (vec_len scripts ≤ most_sessions) }
+    ensures few { OnOk result (vec_len scripts ≤ max_sessions) }
     ensures refuses { IfErr result (RefusesFor (vec_len scripts)) }
 {
-    if scripts.len() > MOST_SESSIONS {
+    if scripts.len() > MAX_SESSIONS {
         return Err(RunRefusal::TooMany);
     }
     if scripts.is_empty() {

@@ -1,7 +1,7 @@
 //! One worker.
 
 ghost use Rattle.std.specs.Prelude.{◌≡◌, ◌≤◌, [], map, reverse, vec_len};
-ghost use Rattle.host_lock.specs.Limits.{most_calls};
+ghost use Rattle.host_lock.specs.Limits.{max_calls};
 ghost use Rattle.host_lock.specs.Sessions.{IsOf};
 ghost use Rattle.sessions.specs.Jobs.{HasRoomFor};
 ghost use Rattle.sessions.specs.Made.{Did};
@@ -26,7 +26,7 @@ pub(crate) fn work<F: Decider + Send + Drop, G: Gate, R: Wait>(
 ) -> Done
     requires of { IsOf host.now session }
     requires fresh { (session.calls ≡ 0) × (session.mine ≡ []) }
-    requires few { vec_len steps ≤ most_calls }
+    requires few { vec_len steps ≤ max_calls }
     requires room { HasRoomFor (vec_len steps) replies }
     ensures { Did session steps.items result.replies.items result.session }
 {

@@ -1,7 +1,7 @@
 //! One worker for each script.
 ghost use Rattle.std.specs.Prelude.{◌≡◌, ◌+◌, ◌≤◌, [], ◌∷◌, ◌++◌, map, vec_len, vec_capacity, IfSome};
 ghost use Rattle.std.specs.Thread.{IsSend, IsSync};
-ghost use Rattle.host_lock.specs.Limits.{most_calls};
+ghost use Rattle.host_lock.specs.Limits.{max_calls};
 ghost use Rattle.host_lock.specs.Rule.{Each};
 ghost use Rattle.host_lock.specs.Sessions.{IsOf};
 ghost use Rattle.sessions.specs.Made.{Did};
@@ -70,7 +70,7 @@ fn beside<F: Decider + Send + Drop, G: Gate, R: Threads + Wait + Sync>(
             requires send { IsSend F.row }
             requires of { IsOf host.now session }
             requires fresh { (session.calls ≡ 0) × (session.mine ≡ []) }
-            requires few { vec_len steps ≤ most_calls }
+            requires few { vec_len steps ≤ max_calls }
             requires replies { HasRoomFor (vec_len steps) replies }
             requires plan { (plan.session.value ≡ session) × (plan.steps.value ≡ steps) }
             requires jobs { Each (IsReady host.now) jobs.items }
@@ -84,7 +84,7 @@ fn beside<F: Decider + Send + Drop, G: Gate, R: Threads + Wait + Sync>(
                     move || -> Done
                         requires of { IsOf host.now session }
                         requires fresh { (session.calls ≡ 0) × (session.mine ≡ []) }
-                        requires few { vec_len steps ≤ most_calls }
+                        requires few { vec_len steps ≤ max_calls }
                         requires room { HasRoomFor (vec_len steps) replies }
                         ensures { Did session steps.items result.replies.items result.session }
                     { work(rt, alloc, host, session, steps, replies, gate) },

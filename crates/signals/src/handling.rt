@@ -37,7 +37,7 @@ impl Dispositions {
         ensures set { OnOk result (self.new ≡ set_disposition self.old signal disposition) }
         ensures refused { OnErr result (self.new ≡ self.old) }
     {
-        if SigSet::unmaskable().contains(signal) && disposition != Disposition::Default {
+        if SigSet::unblockable().contains(signal) && disposition != Disposition::Default {
             return Err(BadDisposition);
         }
         self.ignored = match disposition {

@@ -3,7 +3,7 @@
 ghost use Rattle.std.specs.Prelude.{◌≡◌, ◌<◌, ◌^◌, ◌==◌};
 ghost use Rattle.std.specs.Int.RustNames.{bit_or};
 ghost use Rattle.signals.specs.Sets.{bit, has, with, without, lowest};
-ghost use Rattle.signals.specs.Table.{stop_set, unmaskable_set, discard_set, maskable, opposed};
+ghost use Rattle.signals.specs.Table.{stop_set, unblockable_set, discard_set, maskable, opposed};
 
 use crate::{SigSet, Signal};
 
@@ -47,8 +47,8 @@ impl SigSet {
     }
 
     /// Returns SIGKILL and SIGSTOP, which can't be blocked, ignored or caught.
-    pub fn unmaskable() -> SigSet
-        ensures { result ≡ unmaskable_set }
+    pub fn unblockable() -> SigSet
+        ensures { result ≡ unblockable_set }
     {
         SigSet::of(Signal::kill()).with(Signal::stop())
     }
@@ -117,7 +117,7 @@ impl SigSet {
     pub fn maskable(&self) -> SigSet
         ensures { result ≡ maskable self.now }
     {
-        self.difference(SigSet::unmaskable())
+        self.difference(SigSet::unblockable())
     }
 
     /// Returns the signal with the least number in the set, or `None` if the set is empty.

@@ -14,5 +14,5 @@ pub use dice::Dice;
 pub use lines::{lines_of, step_in, steps_in};
 pub use rows::{Row, Section, rows_of, sections_of};
 pub use sessions::{check_replies, follow, host_after, together_and_alone};
-pub use trouble::Trouble;
+pub use trouble::TestError;
 pub use views::{check_hosts, sees_same};

@@ -1,6 +1,6 @@
 //! Sessions as lines of text: in each row a user's step, an arrow, and the expected reply.
 
-use crate::Trouble;
+use crate::TestError;
 use crate::rows::Row;
 use crate::steps::step_of;
 use pid_blocks::Uid;
@@ -27,11 +27,11 @@ pub fn step_in(
     alloc: Global,
     text: &str,
     policy: Option<&Policy>,
-) -> Result<(Uid, PlainStep), Trouble> {
+) -> Result<(Uid, PlainStep), TestError> {
     let words: Vec<&str> = text.split_whitespace().collect(alloc)?;
     match asked(words.as_slice(), policy) {
         Some(step) => Ok(step),
-        None => Err(Trouble::Line(format!(in alloc; "`{text}` is no step")?)),
+        None => Err(TestError::Line(format!(in alloc; "`{text}` is no step")?)),
     }
 }
 
@@ -40,7 +40,7 @@ pub fn steps_in(
     alloc: Global,
     lines: &[Row<'_>],
     policy: Option<&Policy>,
-) -> Result<Vec<(Uid, Step<Handler<ByPolicy>>)>, Trouble> {
+) -> Result<Vec<(Uid, Step<Handler<ByPolicy>>)>, TestError> {
     let mut steps = Vec::new(alloc);
     for line in lines {
         let (user, step) = step_in(alloc, line.given, policy)?;
@@ -55,7 +55,7 @@ pub fn lines_of<'a>(
     lines: &[Row<'a>],
     user: Uid,
     policy: Option<&Policy>,
-) -> Result<Vec<Row<'a>>, Trouble> {
+) -> Result<Vec<Row<'a>>, TestError> {
     let mut own = Vec::new(alloc);
     for line in lines {
         let (whose, _) = step_in(alloc, line.given, policy)?;

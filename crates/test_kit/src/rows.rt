@@ -1,6 +1,6 @@
 //! Tables of text: in each row what is given, an arrow, and what is expected. Sections part a longer text.
 
-use crate::Trouble;
+use crate::TestError;
 use std::alloc::Global;
 use std::fmt::Display;
 
@@ -13,7 +13,7 @@ pub struct Row<'a> {
 
 impl Row<'_> {
     /// Checks that what was found reads as the row says. The error names the row.
-    pub fn check<D: Display>(&self, alloc: Global, found: &D) -> Result<(), Trouble> {
+    pub fn check<D: Display>(&self, alloc: Global, found: &D) -> Result<(), TestError> {
         let found = format!(in alloc; "{found}")?;
         if found.as_str() == self.wanted {
             return Ok(());
@@ -21,19 +21,19 @@ impl Row<'_> {
         let given = self.given;
         let wanted = self.wanted;
         let said = format!(in alloc; "`{given}` gives `{found}`, and not `{wanted}`")?;
-        Err(Trouble::Line(said))
+        Err(TestError::Line(said))
     }
 }
 
 /// Returns the rows of a table: `GIVEN -> WANTED`, one a line. Empty lines and headings, `# NAME`, are left out, and blanks at the
 /// ends of both parts.
-pub fn rows_of(alloc: Global, table: &str) -> Result<Vec<Row<'_>>, Trouble> {
+pub fn rows_of(alloc: Global, table: &str) -> Result<Vec<Row<'_>>, TestError> {
     let mut rows = Vec::new(alloc);
     for line in table.lines() {
         let line = line.trim_ascii();
         if !line.is_empty() && !line.starts_with("# ") {
             let Some((given, wanted)) = line.split_once("->") else {
-                return Err(Trouble::Line(format!(in alloc; "`{line}` has no arrow")?));
+                return Err(TestError::Line(format!(in alloc; "`{line}` has no arrow")?));
             };
             rows.push(Row {
                 given: given.trim_ascii(),
@@ -61,11 +61,11 @@ fn section_of(text: &str) -> Option<Section<'_>> {
 }
 
 /// Returns the sections of a text, which empty lines part. A section begins with a heading `[START] NAME`.
-pub fn sections_of(alloc: Global, text: &str) -> Result<Vec<Section<'_>>, Trouble> {
+pub fn sections_of(alloc: Global, text: &str) -> Result<Vec<Section<'_>>, TestError> {
     let mut sections = Vec::new(alloc);
     for part in text.split("\n\n") {
         let Some(section) = section_of(part) else {
-            return Err(Trouble::Line(format!(in alloc; "`{part}` has no heading")?));
+            return Err(TestError::Line(format!(in alloc; "`{part}` has no heading")?));
         };
         sections.push(section)?;
     }

@@ -1,6 +1,6 @@
 //! Sessions made on hosts, each reply compared with its line.
 
-use crate::Trouble;
+use crate::TestError;
 use crate::lines::{lines_of, step_in, steps_in};
 use crate::rows::{Row, rows_of};
 use crate::views::check_hosts;
@@ -16,10 +16,10 @@ fn make<F: Decider + Send + Drop>(
     alloc: Global,
     host: &mut Host<F>,
     line: &Row<'_>,
-) -> Result<(), Trouble> {
+) -> Result<(), TestError> {
     let (user, step) = step_in(alloc, line.given, None)?;
     let Some(step) = step.with_handler(None) else {
-        return Err(Trouble::Wrong("a session without handlers installs one"));
+        return Err(TestError::Wrong("a session without handlers installs one"));
     };
     let reply = host.step(alloc, user, step);
     line.check(alloc, &reply)
@@ -30,7 +30,7 @@ pub fn follow<F: Decider + Send + Drop>(
     alloc: Global,
     host: &mut Host<F>,
     text: &str,
-) -> Result<(), Trouble> {
+) -> Result<(), TestError> {
     for line in rows_of(alloc, text)?.iter() {
         make(alloc, host, line)?;
     }
@@ -38,9 +38,9 @@ pub fn follow<F: Decider + Send + Drop>(
 }
 
 /// Checks that the replies are those of the lines, and no others.
-pub fn check_replies(alloc: Global, lines: &[Row<'_>], replies: &[Reply]) -> Result<(), Trouble> {
+pub fn check_replies(alloc: Global, lines: &[Row<'_>], replies: &[Reply]) -> Result<(), TestError> {
     if replies.len() != lines.len() {
-        return Err(Trouble::Wrong("there are more or fewer replies than lines"));
+        return Err(TestError::Wrong("there are more or fewer replies than lines"));
     }
     for (line, reply) in lines.iter().zip(replies.iter()) {
         line.check(alloc, reply)?;
@@ -53,7 +53,7 @@ pub fn host_after(
     alloc: Global,
     lines: &[Row<'_>],
     policy: Option<&Policy>,
-) -> Result<Host<ByPolicy>, Trouble> {
+) -> Result<Host<ByPolicy>, TestError> {
     let steps = steps_in(alloc, lines, policy)?;
     let mut host = Host::new(alloc, Settings::standard())?;
     let replies = run_list(alloc, &mut host, steps)?;
@@ -69,7 +69,7 @@ fn check_alone(
     lines: &[Row<'_>],
     user: Uid,
     policy: Option<&Policy>,
-) -> Result<(), Trouble> {
+) -> Result<(), TestError> {
     let own = lines_of(alloc, lines, user, policy)?;
     let alone = host_after(alloc, own.as_slice(), policy)?;
     check_hosts(
@@ -87,7 +87,7 @@ pub fn together_and_alone(
     alloc: Global,
     text: &str,
     policy: Option<&Policy>,
-) -> Result<(), Trouble> {
+) -> Result<(), TestError> {
     let lines = rows_of(alloc, text)?;
     let shared = host_after(alloc, lines.as_slice(), policy)?;
     check_alone(alloc, &shared, lines.as_slice(), Uid::new(1001)?, policy)?;

@@ -9,7 +9,7 @@ use thiserror::Error;
 
 /// The reason why a test fails, or a program ends early.
 #[derive(Debug, Drop, Error)]
-pub enum Trouble {
+pub enum TestError {
     /// Memory ran out.
     #[error("out of memory")]
     Memory,
@@ -24,56 +24,56 @@ pub enum Trouble {
     Line(String),
 }
 
-impl Trouble {
+impl TestError {
     /// Returns the exit status of a program that ends with the error.
     pub fn status(&self) -> u8 {
         match self {
-            Trouble::Memory | Trouble::Write => 3,
-            Trouble::Wrong(_) | Trouble::Line(_) => 1,
+            TestError::Memory | TestError::Write => 3,
+            TestError::Wrong(_) | TestError::Line(_) => 1,
         }
     }
 
     /// Returns the error with the name of the session in which it came.
-    pub fn within(self, alloc: Global, name: &str) -> Trouble {
+    pub fn within(self, alloc: Global, name: &str) -> TestError {
         match format!(in alloc; "{name}: {self}") {
-            Ok(text) => Trouble::Line(text),
-            Err(_) => Trouble::Memory,
+            Ok(text) => TestError::Line(text),
+            Err(_) => TestError::Memory,
         }
     }
 }
 
-impl From<AllocError> for Trouble {
-    fn from(_refused: AllocError) -> Trouble {
-        Trouble::Memory
+impl From<AllocError> for TestError {
+    fn from(_refused: AllocError) -> TestError {
+        TestError::Memory
     }
 }
 
-impl<T: Drop> From<AllocFailed<T>> for Trouble {
-    fn from(_refused: AllocFailed<T>) -> Trouble {
-        Trouble::Memory
+impl<T: Drop> From<AllocFailed<T>> for TestError {
+    fn from(_refused: AllocFailed<T>) -> TestError {
+        TestError::Memory
     }
 }
 
-impl From<io::Error> for Trouble {
-    fn from(_error: io::Error) -> Trouble {
-        Trouble::Write
+impl From<io::Error> for TestError {
+    fn from(_error: io::Error) -> TestError {
+        TestError::Write
     }
 }
 
-impl From<BadUser> for Trouble {
-    fn from(_error: BadUser) -> Trouble {
-        Trouble::Wrong("a user has no number")
+impl From<BadUser> for TestError {
+    fn from(_error: BadUser) -> TestError {
+        TestError::Wrong("a user has no number")
     }
 }
 
-impl From<BadSignal> for Trouble {
-    fn from(_error: BadSignal) -> Trouble {
-        Trouble::Wrong("a number is no signal's")
+impl From<BadSignal> for TestError {
+    fn from(_error: BadSignal) -> TestError {
+        TestError::Wrong("a number is no signal's")
     }
 }
 
-impl From<TooManyRules> for Trouble {
-    fn from(_error: TooManyRules) -> Trouble {
-        Trouble::Wrong("a policy has too many rules")
+impl From<TooManyRules> for TestError {
+    fn from(_error: TooManyRules) -> TestError {
+        TestError::Wrong("a policy has too many rules")
     }
 }

@@ -3,7 +3,7 @@
 ghost use Rattle.std.specs.Prelude.{◌≡◌, ◌↔◌, IsTrue, IfOk};
 ghost use Rattle.requests.specs.View.{view};
 
-use crate::Trouble;
+use crate::TestError;
 use pid_blocks::Uid;
 use requests::Host;
 use std::alloc::{AllocError, Global};
@@ -29,10 +29,10 @@ pub fn check_hosts(
     right: &Host<ByPolicy>,
     users: &[Uid],
     name: &'static str,
-) -> Result<(), Trouble> {
+) -> Result<(), TestError> {
     for user in users {
         if !sees_same(alloc, left, right, *user)? {
-            return Err(Trouble::Wrong(name));
+            return Err(TestError::Wrong(name));
         }
     }
     Ok(())

@@ -5,7 +5,7 @@ use Rattle.std.proofs.lemmas.List.{append_assoc, append-nil}
 use Rattle.std.proofs.lemmas.List.Elements.{filter-append}
 use Rattle.std.proofs.lemmas.Bool.{cases_lt}
 use Rattle.std.proofs.lemmas.Bool.Decides.{nat_tests}
-use Rattle.user_rows.proofs.ViewLists.{All-where, every, filter-all, filter-none}
+use Rattle.row_isolation.proofs.FilteredLists.{All-where, every, filter-all, filter-none}
 use Rattle.pid_blocks.specs.Blocks.{rising, users}
 use Rattle.pid_blocks.specs.Users.{IsUser}
 use Rattle.requests.specs.declared.Reply.{Reply}
@@ -13,7 +13,7 @@ use Rattle.requests.specs.Isolation.{Users, replies_to as replies_of}
 use Rattle.requests.specs.Machine.{empty}
 use Rattle.requests.specs.Run.{Asked, asked_by, replies}
 use Rattle.requests.specs.View.{alone}
-use Rattle.visibility.proofs.Apart.{own_list_law, empty_apart}
+use Rattle.visibility.proofs.Apart.{own_list_law, users_are_apart_at_first}
 use Rattle.scenario.specs.Lines.{Answered, Line, line, lines, lines_after, lines_of, text, text_of}
 use Rattle.threaded_runs.specs.Grouped.{grouped, answers_by, by_users, shown_grouped}
 use Rattle.scenario_text.specs.Plan.{Plan}
@@ -170,7 +170,7 @@ pub alone_answers : (u : ℕ) (plan : Plan) → IsUser u → Users plan.steps
     → answers_by u (answers_of plan) ≡ told_to u (replies (asked_by u plan.steps) (alone u (empty plan.settings)))
 alone_answers u plan user all =
     own_answers u plan.steps (replies plan.steps (empty plan.settings))
-    ∙ ap (told_to u) (own_list_law (empty plan.settings) u plan.steps user all (empty_apart plan.settings)).0
+    ∙ ap (told_to u) (own_list_law (empty plan.settings) u plan.steps user all (users_are_apart_at_first plan.settings)).0
 
 pub users_answered : (xs : List Asked) (rs : List Reply) → Users xs → ToUsers (paired xs rs)
 users_answered [] rs all = tt

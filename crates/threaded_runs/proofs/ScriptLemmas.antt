@@ -8,7 +8,7 @@ use Rattle.pid_blocks.specs.Blocks.{rising, users}
 use Rattle.pid_blocks.specs.Users.{IsUser}
 use Rattle.requests.specs.Plain.{PlainStep}
 use Rattle.requests.specs.Run.{Asked, asked_by}
-use Rattle.user_rows.proofs.ViewLists.{All-where, All-map}
+use Rattle.row_isolation.proofs.FilteredLists.{All-where, All-map}
 use Rattle.scenario.specs.Lines.{Answered}
 use Rattle.threaded_runs.specs.Grouped.{answers_by, by_users}
 use Rattle.threaded_runs.specs.Scripts.{steps_of, has_steps, scripts_in}

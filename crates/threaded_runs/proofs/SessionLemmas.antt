@@ -12,7 +12,7 @@ use Rattle.requests.specs.Machine.{empty}
 use Rattle.requests.specs.Memory.{is_memory}
 use Rattle.requests.specs.Run.{Asked, asked_by, replies}
 use Rattle.requests.specs.View.{alone}
-use Rattle.user_rows.proofs.ViewLists.{filter_same}
+use Rattle.row_isolation.proofs.FilteredLists.{filter_same}
 use Rattle.host_lock.specs.declared.journal.Entry.{Entry}
 use Rattle.host_lock.specs.Journal.{entry, asked, entries_of}
 use Rattle.sessions.specs.Made.{made}

@@ -10,7 +10,7 @@ use Rattle.pid_blocks.specs.Users.{IsUser}
 use Rattle.requests.specs.Plain.{PlainStep}
 use Rattle.requests.specs.Run.{Asked, asked_by}
 use Rattle.sessions.specs.declared.script.Script.{Script}
-use Rattle.requests.proofs.ViewLaws.{at_slot}
+use Rattle.requests.proofs.IsolationLaws.{at_slot}
 use Rattle.scenario_text.specs.Plan.{asked}
 use Rattle.threaded_runs.specs.Scripts.{has_steps, plain_script, some_steps, steps_of}
 use Rattle.threaded_runs.proofs.ScriptLemmas.{script_of}

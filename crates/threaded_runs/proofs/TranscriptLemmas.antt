@@ -13,7 +13,7 @@ use Rattle.host_lock.specs.Sessions.{IsBelow}
 use Rattle.sessions.specs.declared.script.Script.{Script}
 use Rattle.sessions.specs.declared.script.Transcript.{Transcript}
 use Rattle.sessions.specs.Runs.{AllPlay, IsShort, OwnEntries}
-use Rattle.scenario_text.specs.Plan.{Plan, most_steps}
+use Rattle.scenario_text.specs.Plan.{Plan, max_steps}
 use Rattle.scenario.specs.Runs.{answers_of}
 use Rattle.threaded_runs.specs.Grouped.{by_users}
 use Rattle.threaded_runs.specs.Scripts.{plain_script, scripts_in, told_by, IsMade}
@@ -71,7 +71,7 @@ short_scripts {F} most (s ∷ rest) all small =
     let here = all.0 in
     (omega arith, short_scripts most rest all.1 small)
 
-pub are_short : {F : Type 0} (ss : List (Script F)) (plan : Plan) → map plain_script ss ≡ scripts_in plan.steps → length plan.steps ≤ most_steps → All IsShort ss
+pub are_short : {F : Type 0} (ss : List (Script F)) (plan : Plan) → map plain_script ss ≡ scripts_in plan.steps → length plan.steps ≤ max_steps → All IsShort ss
 are_short {F} ss plan scripts small = All-from_recursion IsShort ss (short_scripts (length plan.steps) ss
     (subst (AllByRecursion (λ p. length p.1 ≤ length plan.steps)) (sym scripts) (All-imply (IsScript plan.steps) (λ p. length p.1 ≤ length plan.steps) (λ p is. is.short) (scripts_in plan.steps) (are_scripts plan.steps)))
     (omega arith))

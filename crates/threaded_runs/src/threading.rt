@@ -4,7 +4,7 @@ ghost use Rattle.std.specs.Prelude.{◌≡◌, ◌≢◌, ◌⊎◌, ◌↔◌, 
 ghost use Rattle.std.specs.List.{flat_map, AllByRecursion};
 ghost use Rattle.pid_blocks.specs.Blocks.{users};
 ghost use Rattle.requests.specs.Isolation.{Users};
-ghost use Rattle.scenario_text.specs.Plan.{most_steps, policies_in};
+ghost use Rattle.scenario_text.specs.Plan.{max_steps, policies_in};
 ghost use Rattle.scenario.specs.Runs.{answered, answers_of, Writes};
 ghost use Rattle.threaded_runs.specs.Grouped.{by_users, shown_grouped};
 ghost use Rattle.threaded_runs.specs.Scripts.{has_steps, plain_script, scripts_in, told_by, IsMade};
@@ -74,7 +74,7 @@ fn scripts_of<F: Decider + Send + Drop>(
     requires { handlers.items ≡ policies_in scenario.now.steps }
     ensures scripts { IfOk result (λ scripts. map plain_script scripts.items ≡ scripts_in scenario.now.steps) }
     ensures users { OnOk result (Users scenario.now.steps) }
-    ensures few { OnOk result (length scenario.now.steps ≤ most_steps) }
+    ensures few { OnOk result (length scenario.now.steps ≤ max_steps) }
 {
     let shapes = scenario.shapes();
     let mut scripts = empty_scripts(alloc, &counts_of(scenario))?;

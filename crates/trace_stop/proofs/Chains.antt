@@ -1,5 +1,5 @@
 -- Chains of tracers end within as many links as a user has processes, less one.
-use Rattle.trace_stop.proofs.Words.{cases_lt, nat_tests, AllByRecursion, list_any, ProcData, process_of, is_live, Rows, AtHome, IsLiveOf, Linked, Stands}
+use Rattle.trace_stop.proofs.CommonNames.{cases_lt, nat_tests, AllByRecursion, list_any, ProcData, process_of, is_live, Rows, InOwnBlock, IsLiveOf, Linked, MidStepInvariant}
 use Rattle.std.proofs.Common.{◌≡◌, ℕ, zero, suc, ◌+◌, ◌-◌, ◌≤◌, List, [], ◌∷◌, length, filter, Bool, true, false, not, ◌&&◌, ◌||◌, ◌==◌, Option, Some, None, IfSome, refl, sym, ap, ◌∙◌, arith, true≢false, eqb-true, eq-eqb, subst, rules, count_by}
 use Rattle.trace_stop.specs.End.{tracer_in, tracer_of, holds_of, meets}
 use Rattle.trace_stop.specs.Laws.{onward, chain, ChainsEnd, ChainsMeet, TraceeDeeper}
@@ -104,7 +104,7 @@ meets_within k m le ps x n is = subst (λ i. meets i ps x n ≡ true) (omega (ar
 
 -- A chain of rows without a ring
 
-module _ (rows : Rows) (s : Stands rows) where
+module _ (rows : Rows) (s : MidStepInvariant rows) where
   abbrev ps : List ProcData
   ps = rows.processes
 
@@ -157,7 +157,7 @@ module _ (rows : Rows) (s : Stands rows) where
           let one : length (chain 250 ps n) ≡ 1 = ap length bare in
           omega (arith, one)
       at_row (Some r) is =
-          let home = (find_some (λ x. x.pid == n) AtHome ps s.homes r is).0 in
+          let home = (find_some (λ x. x.pid == n) InOwnBlock ps s.in_own_blocks r is).0 in
           let few = s.few_processes r.uid home.user in
           let no = no_more r.uid (chain 250 ps n) ps (chain_differs 250 (omega arith) n) (chain_rows r.uid 250 n (of_user-found r.uid n r is refl)) in
           omega (arith, few, no)
@@ -175,7 +175,7 @@ onward_same : (f g : ℕ → List ℕ) → ((t : ℕ) → f t ≡ g t) → (o : 
 onward_same f g h None = refl
 onward_same f g h (Some t) = h t
 
-module _ (rows : Rows) (s : Stands rows) where
+module _ (rows : Rows) (s : MidStepInvariant rows) where
   abbrev qs : List ProcData
   qs = rows.processes
 

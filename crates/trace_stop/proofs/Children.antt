@@ -1,5 +1,5 @@
 -- The live children of a process, before and after a change.
-use Rattle.trace_stop.proofs.Words.{nat_tests, AllByRecursion, list_any, ProcData, is_live, Rows, IsLiveOf, IsLiveChild}
+use Rattle.trace_stop.proofs.CommonNames.{nat_tests, AllByRecursion, list_any, ProcData, is_live, Rows, IsLiveOf, IsLiveChild}
 use Rattle.std.proofs.Common.{◌≡◌, ℕ, List, filter_map, Bool, true, ◌==◌, ◌&&◌, Option, Some, eq-eqb, arith, rules}
 use Rattle.trace_stop.proofs.Every.{and_left, both, any_more, any_forward}
 

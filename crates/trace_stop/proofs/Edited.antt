@@ -1,5 +1,5 @@
 -- Lists whose elements are each changed, or taken out.
-use Rattle.trace_stop.proofs.Words.{nat_tests, AllByRecursion, list_any, cons_option, LwpData, Differ, LacksLwp, ProcData, Rows, by_owner, process_of}
+use Rattle.trace_stop.proofs.CommonNames.{nat_tests, AllByRecursion, list_any, cons_option, LwpData, Differ, LacksLwp, ProcData, Rows, by_owner, process_of}
 use Rattle.std.proofs.Common.{◌≡◌, ℕ, ◌+◌, ◌≤◌, List, [], ◌∷◌, find, filter_map, Bool, true, false, ◌==◌, Option, Some, None, IfSome, refl, sym, ap, ◌∙◌, arith, subst, eqb-true, true≢false, rules, count_by}
 use Rattle.trace_stop.proofs.Every.{by_bool, count-cons, All-imply, All-any, any_more, count_more}
 use Rattle.trace_stop.proofs.Passes.{passes, any_edited, count_edited}

@@ -1,5 +1,5 @@
 -- A fact of each element of a list, and tests and counts on lists.
-use Rattle.trace_stop.proofs.Words.{nat_tests, cases_Bool, AllByRecursion, list_any, list_all}
+use Rattle.trace_stop.proofs.CommonNames.{nat_tests, cases_Bool, AllByRecursion, list_any, list_all}
 use Rattle.std.proofs.Common.{◌≡◌, ◌+◌, List, [], ◌∷◌, ◌++◌, filter, find, filter_map, Bool, true, false, cond, not, ◌&&◌, ◌||◌, Option, Some, None, IfSome, refl, sym, ◌∙◌, eq-eqb, ◌==◌, ◌≢◌, arith, true≢false, if◌then◌else◌, is_some, inl, inr, ℕ, ◌≤◌, count_by}
 use Rattle.std.proofs.lemmas.List.Sums.{sum_by-cons, sum_by-append}
 use Rattle.proc_table.proofs.Every.{every_found, every_filter, found_tested}

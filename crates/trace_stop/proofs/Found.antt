@@ -1,5 +1,5 @@
 -- Rows that are found by their numbers.
-use Rattle.trace_stop.proofs.Words.{nat_tests, list_any, ProcData, process_of, is_live, Rows, is_process, IsRow, Rise, is_live_at, is_live_of}
+use Rattle.trace_stop.proofs.CommonNames.{nat_tests, list_any, ProcData, process_of, is_live, Rows, is_process, IsRow, Rise, is_live_at, is_live_of}
 use Rattle.std.proofs.Common.{◌≡◌, ◌∙◌, ℕ, Bool, true, ◌==◌, true≢false, List, [], ◌∷◌, nat_eq, sym, ap, refl, Option, Some, None, IsSome, is_some, arith, eq-eqb, ◌&&◌, eqb-true}
 use Rattle.proc_table.proofs.Rows.{row_found, process_of-pid}
 use Rattle.trace_stop.proofs.Every.{and_left, both, any_more, find_passes, and_right, any_holds}

@@ -1,9 +1,9 @@
 -- The test of soundness, and soundness as facts: each gives the other.
-use Rattle.trace_stop.proofs.Words.{nat_tests, AllByRecursion, list_any, list_all, le-leb, leb-true, IsUser, pid_block, tid_block, in_block, InBlock, slot, users, rising, LwpData, Mode, User, InCall}
-use Rattle.trace_stop.proofs.Words.{VforkWait, Differ, LacksLwp, ProcData, State, Run, Trace, Job, Zombie, is_live, is_run, is_job, reporting, process_of, Rows, process_count, lwp_count_of, lwp_count}
-use Rattle.trace_stop.proofs.Words.{Rise, AllAbove, AtHome, Housed, unwanted, rises, differ, implies, holds, exists, of_owner, is_live_of, sound_numbers, sound_limits, sound_links, sound_owners}
-use Rattle.trace_stop.proofs.Words.{names_own, is_state, sound_states, waits_for, sound_lwp, sound_lwps, sound_rows, IsLiveChild, Linked, IfEnded, FitProcess, waited_for, Standing, FitLwp, WithOwner}
-use Rattle.trace_stop.proofs.Words.{Stands, IsSound}
+use Rattle.trace_stop.proofs.CommonNames.{nat_tests, AllByRecursion, list_any, list_all, le-leb, leb-true, IsUser, pid_block, tid_block, in_block, InBlock, slot, users, rising, LwpData, Mode, User, InCall}
+use Rattle.trace_stop.proofs.CommonNames.{VforkWait, Differ, LacksLwp, ProcData, State, Run, Trace, Job, Zombie, is_live, is_run, is_job, reporting, process_of, Rows, process_count, lwp_count_of, lwp_count}
+use Rattle.trace_stop.proofs.CommonNames.{Rise, AllAbove, InOwnBlock, InOwnersBlock, unwanted, rises, differ, implies, holds, exists, of_owner, is_live_of, sound_numbers, sound_limits, sound_links, sound_owners}
+use Rattle.trace_stop.proofs.CommonNames.{names_own, is_state, sound_states, waits_for, sound_lwp, sound_lwps, sound_rows, IsLiveChild, Linked, IfEnded, FitProcess, waited_for, Standing, FitLwp, WithOwner}
+use Rattle.trace_stop.proofs.CommonNames.{MidStepInvariant, IsSound}
 use Rattle.std.proofs.Common.{◌≡◌, ℕ, zero, suc, ◌+◌, ◌<◌, ◌≤◌, List, [], ◌∷◌, length, map, zip, Bool, true, false, ◌==◌, ◌&&◌, ◌||◌, not, leb, ltb, Option, Some, None, is_some, is_none, IfSome, refl, sym, ap, arith, eqb, true≢false, eqb-true, subst, eq-eqb, get_or, rules}
 use Rattle.std.specs.Int.RustNames.{bit_and}
 use Rattle.pid_blocks.specs.declared.Block.{Block}
@@ -117,24 +117,24 @@ holds_if test (Some x) is = is
 pub owner_at : (rows : Rows) (test : ProcData → LwpData → Bool) (l : LwpData) → of_owner rows test l ≡ true → WithOwner rows (λ p k. test p k ≡ true) l
 owner_at rows test l is p at = subst (λ o. exists (λ q. test q l) o ≡ true) at is
 
-owner_test : (rows : Rows) (test : ProcData → LwpData → Bool) (l : LwpData) → Housed rows l → WithOwner rows (λ p k. test p k ≡ true) l → of_owner rows test l ≡ true
+owner_test : (rows : Rows) (test : ProcData → LwpData → Bool) (l : LwpData) → InOwnersBlock rows l → WithOwner rows (λ p k. test p k ≡ true) l → of_owner rows test l ≡ true
 owner_test rows test l home all = subst (λ o. exists (λ q. test q l) o ≡ true) (sym home.1) (all home.0 home.1)
 
 owner_found : (rows : Rows) (test : ProcData → LwpData → Bool) (l : LwpData) → of_owner rows test l ≡ true → (p : ProcData) × (process_of l.pid rows.processes ≡ Some p) × (test p l ≡ true)
 owner_found rows test l is = grind (arith, nat_tests)
 
-housed_from : (rows : Rows) (l : LwpData) → of_owner rows (λ p k. in_block (tid_block p.uid) k.tid) l ≡ true → Housed rows l
+housed_from : (rows : Rows) (l : LwpData) → of_owner rows (λ p k. in_block (tid_block p.uid) k.tid) l ≡ true → InOwnersBlock rows l
 housed_from rows l is = let f = owner_found rows (λ p k. in_block (tid_block p.uid) k.tid) l is in (f.0, f.1, block_in (tid_block f.0.uid) l.tid f.2)
 
-housed_test : (rows : Rows) (l : LwpData) → Housed rows l → of_owner rows (λ p k. in_block (tid_block p.uid) k.tid) l ≡ true
+housed_test : (rows : Rows) (l : LwpData) → InOwnersBlock rows l → of_owner rows (λ p k. in_block (tid_block p.uid) k.tid) l ≡ true
 housed_test rows l home = subst (λ o. exists (λ q. in_block (tid_block q.uid) l.tid) o ≡ true) (sym home.1) (in_block-from (tid_block home.0.uid) l.tid home.2)
 
--- homes
+-- in_own_blocks
 
-home_from : (p : ProcData) → (list_any (λ u. u == p.uid) users && in_block (pid_block p.uid) p.pid) ≡ true → AtHome p
+home_from : (p : ProcData) → (list_any (λ u. u == p.uid) users && in_block (pid_block p.uid) p.pid) ≡ true → InOwnBlock p
 home_from p is = search (rules, is_user, and_left, block_in, and_right)
 
-home_test : (p : ProcData) → AtHome p → (list_any (λ u. u == p.uid) users && in_block (pid_block p.uid) p.pid) ≡ true
+home_test : (p : ProcData) → InOwnBlock p → (list_any (λ u. u == p.uid) users && in_block (pid_block p.uid) p.pid) ≡ true
 home_test p h = both (list_any (λ u. u == p.uid) users) (in_block (pid_block p.uid) p.pid) (user_listed p.uid h.user) (in_block-from (pid_block p.uid) p.pid h.block)
 
 -- processes
@@ -212,8 +212,8 @@ IsSound-from rows is =
       stands = record {
         rising = Rise-from ps (and_left _ _ (and_left _ _ (and_left _ _ (and_left _ _ (and_left _ _ (and_left _ _ (and_left _ _ numbers)))))));
         differ = Differ-from rows.lwps (and_right _ _ (and_left _ _ (and_left _ _ (and_left _ _ (and_left _ _ (and_left _ _ (and_left _ _ numbers)))))));
-        homes = All-imply _ AtHome home_from ps (All-from_list_all _ ps (and_right _ _ (and_left _ _ (and_left _ _ (and_left _ _ (and_left _ _ (and_left _ _ numbers)))))));
-        housed = All-imply _ (Housed rows) (housed_from rows) rows.lwps (All-from_list_all _ rows.lwps (and_right _ _ (and_left _ _ (and_left _ _ (and_left _ _ (and_left _ _ numbers))))));
+        in_own_blocks = All-imply _ InOwnBlock home_from ps (All-from_list_all _ ps (and_right _ _ (and_left _ _ (and_left _ _ (and_left _ _ (and_left _ _ (and_left _ _ numbers)))))));
+        in_owners_block = All-imply _ (InOwnersBlock rows) (housed_from rows) rows.lwps (All-from_list_all _ rows.lwps (and_right _ _ (and_left _ _ (and_left _ _ (and_left _ _ (and_left _ _ numbers))))));
         pid_slots = pid_slots;
         tid_slots = tid_slots;
         pid_cursors = λ u user. block_in (pid_block u) _ (user_at (λ c. in_block (pid_block c.0) c.1) rows.pid_cursors 0 pid_slots (and_right _ _ (and_left _ _ numbers)) u user);
@@ -229,18 +229,18 @@ IsSound-from rows is =
       lwps = All-imply (λ l. of_owner rows (sound_lwp rows) l ≡ true) (WithOwner rows FitLwp) (λ l h p at. fit_lwp_from rows p l (owner_at rows (sound_lwp rows) l h p at)) rows.lwps fits;
     }
 
-numbers_test : (rows : Rows) → Stands rows → sound_numbers rows ≡ true
+numbers_test : (rows : Rows) → MidStepInvariant rows → sound_numbers rows ≡ true
 numbers_test rows s = both _ _ (both _ _ (both _ _ (both _ _ (both _ _ (both _ _ (both _ _
     (rises-from rows.processes s.rising)
     (differ-from rows.lwps s.differ))
-    (list_all-from_All _ rows.processes (All-imply AtHome _ home_test rows.processes s.homes)))
-    (list_all-from_All _ rows.lwps (All-imply (Housed rows) _ (housed_test rows) rows.lwps s.housed)))
+    (list_all-from_All _ rows.processes (All-imply InOwnBlock _ home_test rows.processes s.in_own_blocks)))
+    (list_all-from_All _ rows.lwps (All-imply (InOwnersBlock rows) _ (housed_test rows) rows.lwps s.in_owners_block)))
     (eq-eqb (length rows.pid_cursors) 64 s.pid_slots))
     (eq-eqb (length rows.tid_cursors) 64 s.tid_slots))
     (zip_users (λ c. in_block (pid_block c.0) c.1) rows.pid_cursors 0 (λ u user. in_block-from (pid_block u) _ (s.pid_cursors u user))))
     (zip_users (λ c. in_block (tid_block c.0) c.1) rows.tid_cursors 0 (λ u user. in_block-from (tid_block u) _ (s.tid_cursors u user)))
 
-limits_test : (rows : Rows) → Stands rows → sound_limits rows ≡ true
+limits_test : (rows : Rows) → MidStepInvariant rows → sound_limits rows ≡ true
 limits_test rows s = users_all (λ u. leb (process_count u rows) 250 && leb (lwp_count_of u rows) 1000)
     (λ u user. both _ _ (le-leb (process_count u rows) 250 (s.few_processes u user)) (le-leb (lwp_count_of u rows) 1000 (s.few_lwps u user)))
 
@@ -250,11 +250,11 @@ sound_rows-from rows s = both _ _ (both _ _ (both _ _ (both _ _ (both _ _
     (limits_test rows s.stands))
     (list_all-from_All _ rows.processes (All-imply (Linked rows) _ (links_test rows) rows.processes s.stands.linked)))
     (both _ _
-    (list_all-from_All (of_owner rows (λ p l. is_live p)) rows.lwps (All-imply (λ l. Housed rows l × WithOwner rows (Standing rows) l) _ (λ l h. owner_test rows (λ p k. is_live p) l h.0 (λ p at. (h.1 p at).live)) rows.lwps homed))
+    (list_all-from_All (of_owner rows (λ p l. is_live p)) rows.lwps (All-imply (λ l. InOwnersBlock rows l × WithOwner rows (Standing rows) l) _ (λ l h. owner_test rows (λ p k. is_live p) l h.0 (λ p at. (h.1 p at).live)) rows.lwps homed))
     (list_all-from_All (λ p. implies (is_live p) (leb 1 (lwp_count p.pid rows))) rows.processes (All-imply (Linked rows) _ (λ p l. implies_from (is_live p) _ (λ live. le-leb 1 (lwp_count p.pid rows) (l.peopled live))) rows.processes s.stands.linked))))
     (list_all-from_All (state_test rows) rows.processes (All-imply (λ p. Linked rows p × FitProcess p) _ (λ p h. fit_test rows p h.0.named h.1) rows.processes (All-both (Linked rows) FitProcess rows.processes s.stands.linked s.processes))))
-    (list_all-from_All (of_owner rows (sound_lwp rows)) rows.lwps (All-imply (λ l. (Housed rows l × WithOwner rows (Standing rows) l) × WithOwner rows FitLwp l) _
+    (list_all-from_All (of_owner rows (sound_lwp rows)) rows.lwps (All-imply (λ l. (InOwnersBlock rows l × WithOwner rows (Standing rows) l) × WithOwner rows FitLwp l) _
     (λ l h. owner_test rows (sound_lwp rows) l h.0.0 (λ p at. lwp_test rows p l (h.0.1 p at) (h.1 p at))) rows.lwps (All-both _ (WithOwner rows FitLwp) rows.lwps homed s.lwps)))
   where
-    homed : AllByRecursion (λ l. Housed rows l × WithOwner rows (Standing rows) l) rows.lwps
-    homed = All-both (Housed rows) (WithOwner rows (Standing rows)) rows.lwps s.stands.housed s.stands.standing
+    homed : AllByRecursion (λ l. InOwnersBlock rows l × WithOwner rows (Standing rows) l) rows.lwps
+    homed = All-both (InOwnersBlock rows) (WithOwner rows (Standing rows)) rows.lwps s.stands.in_owners_block s.stands.standing

@@ -1,6 +1,6 @@
 -- A number has one row.
 use Rattle.std.proofs.Common.{◌≡◌, ℕ, Bool, true, false, cond, ◌==◌, ◌&&◌, List, [], ◌∷◌, Some, refl, sym, ap, ◌∙◌, subst, eqb-true, eq-eqb}
-use Rattle.trace_stop.proofs.Words.{AllByRecursion, list_any, LwpData, lwp_of, Differ, LacksLwp, ProcData, process_of, Rise}
+use Rattle.trace_stop.proofs.CommonNames.{AllByRecursion, list_any, LwpData, lwp_of, Differ, LacksLwp, ProcData, process_of, Rise}
 use Rattle.trace_stop.proofs.Every.{and_left, and_right, any_holds, All-imply}
 use Rattle.trace_stop.proofs.Edited.{some_is}
 use Rattle.trace_stop.proofs.Passes.{own_rows}

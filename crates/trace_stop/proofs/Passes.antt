@@ -1,6 +1,6 @@
 -- Lists edited twice, and what is found after an edit.
 use Rattle.std.proofs.Common.{◌≡◌, ℕ, ◌+◌, ◌<◌, List, [], ◌∷◌, filter_map, find, Bool, true, false, cond, ◌||◌, ◌==◌, Option, Some, None, IfSome, refl, sym, ap, ◌∙◌, arith, eqb, eqb-true, eq-eqb, rules, count_by}
-use Rattle.trace_stop.proofs.Words.{option_and_then, AllByRecursion, list_any, cons_option, nat_tests, ProcData, LwpData, process_of, is_live, Rows, by_owner, each, AllAbove, Rise}
+use Rattle.trace_stop.proofs.CommonNames.{option_and_then, AllByRecursion, list_any, cons_option, nat_tests, ProcData, LwpData, process_of, is_live, Rows, by_owner, each, AllAbove, Rise}
 use Rattle.trace_stop.proofs.Every.{find_some, All-imply, All-any, All-both, count-cons}
 use Rattle.proc_table.proofs.Every.{every_found}
 

@@ -1,5 +1,5 @@
 -- A new process at its place among the others.
-use Rattle.trace_stop.proofs.Words.{nat_tests, list_any, cases_Bool, ProcData, process_of, placed, Rise, AllAbove}
+use Rattle.trace_stop.proofs.CommonNames.{nat_tests, list_any, cases_Bool, ProcData, process_of, placed, Rise, AllAbove}
 use Rattle.std.proofs.Common.{◌≡◌, ◌≢◌, ℕ, zero, suc, ◌+◌, ◌<◌, List, [], ◌∷◌, ◌++◌, filter, Bool, false, cond, ◌==◌, ◌||◌, ltb, Option, Some, None, IfSome, refl, ap, ◌∙◌, arith, eqb-true, lt-ltb, inl, inr, count_by}
 use Rattle.trace_stop.specs.End.{tracer_of, meets}
 use Rattle.trace_stop.proofs.Every.{by_bool, count-cons, count-append}

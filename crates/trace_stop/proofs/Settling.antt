@@ -1,13 +1,13 @@
 -- Settling makes rows sound that are so but for the pending sets of one process.
-use Rattle.trace_stop.proofs.Words.{nat_tests, without, LwpData, ProcData, is_live, process_of, Rows, change, change_process, is_numbered, unwanted, settled_process, settled_lwp, settle, FitProcess}
-use Rattle.trace_stop.proofs.Words.{FitLwp, IsSound, FitButPending, FitLwpButPending, IsSoundButPending}
+use Rattle.trace_stop.proofs.CommonNames.{nat_tests, without, LwpData, ProcData, is_live, process_of, Rows, change, change_process, is_numbered, unwanted, settled_process, settled_lwp, settle, FitProcess}
+use Rattle.trace_stop.proofs.CommonNames.{FitLwp, IsSound, FitButPending, FitLwpButPending, IsSoundButPending}
 use Rattle.std.proofs.Common.{◌≡◌, ◌≢◌, inl, ℕ, true, ◌==◌, Some, refl, sym, subst, eqb-true, bit_and, arith}
 use Rattle.std.proofs.lemmas.Nat.{and_le_l}
 use Rattle.signals.specs.Dispositions.{Actions}
 use Rattle.trace_stop.proofs.Bits.{without_apart}
-use Rattle.trace_stop.proofs.Changed.{Holds, holds_sound, sound_holds, row_is}
-use Rattle.trace_stop.proofs.Changes.{changes_hold}
-use Rattle.trace_stop.proofs.Posting.{pending_fits, lwp_pending_fits}
+use Rattle.trace_stop.proofs.SoundAfterEdit.{Holds, holds_sound, sound_holds, row_is}
+use Rattle.trace_stop.proofs.ProcessEdits.{changes_hold}
+use Rattle.trace_stop.proofs.SoundAfterSettle.{pending_fits, lwp_pending_fits}
 use Rattle.trace_stop.proofs.Single.{process_alone}
 use Rattle.trace_stop.proofs.Every.{not_same}
 

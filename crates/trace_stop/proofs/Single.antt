@@ -1,11 +1,11 @@
 -- A change of one process, and of one LWP.
-use Rattle.trace_stop.proofs.Words.{nat_tests, LwpData, lwp_of, ProcData, is_live, reporting, process_of, Rows, each, change, change_process, change_lwp, is_numbered, IsLiveChild, FitProcess}
-use Rattle.trace_stop.proofs.Words.{waited_for, FitLwp, IsSound}
+use Rattle.trace_stop.proofs.CommonNames.{nat_tests, LwpData, lwp_of, ProcData, is_live, reporting, process_of, Rows, each, change, change_process, change_lwp, is_numbered, IsLiveChild, FitProcess}
+use Rattle.trace_stop.proofs.CommonNames.{waited_for, FitLwp, IsSound}
 use Rattle.std.proofs.Common.{◌≡◌, ◌⊎◌, inl, ℕ, true, ◌==◌, if◌then◌else◌, Some, None, IfSome, refl, sym, subst, eqb-true, arith, rules}
 use Rattle.trace_stop.proofs.Every.{choose}
 use Rattle.trace_stop.proofs.Edited.{edit_none}
-use Rattle.trace_stop.proofs.Changed.{Row, Beside, Same, Stay, KeptLwp, nobody, holds_sound, sound_holds, row_is, like_self, kept_all, kept_waiting, kept_lwp, none_gone, no_ring, stay, edit_holds, lwps_alone}
-use Rattle.trace_stop.proofs.Changes.{Alike, changes_hold}
+use Rattle.trace_stop.proofs.SoundAfterEdit.{Row, Beside, Same, Stay, KeptLwp, nobody, holds_sound, sound_holds, row_is, like_self, kept_all, kept_waiting, kept_lwp, none_gone, no_ring, stay, edit_holds, lwps_alone}
+use Rattle.trace_stop.proofs.ProcessEdits.{Alike, changes_hold}
 
 -- One process
 
@@ -63,7 +63,7 @@ module _ (rows : Rows) (tid : ℕ) (p : ProcData) (l : LwpData) (g : LwpData →
   the_lwp q k b is = grind (arith, nat_tests)
 
   pub lwp_sound : IsSound (change_lwp tid g rows)
-  lwp_sound = subst IsSound (lwps_alone rows s.stands.housed (λ k. Some (to k))) (sound_holds made (edit_holds rows nobody (λ q. Some q) (λ q k. Some (to k)) FitProcess FitLwp FitProcess FitLwp (holds_sound rows s) (record {
+  lwp_sound = subst IsSound (lwps_alone rows s.stands.in_owners_block (λ k. Some (to k))) (sound_holds made (edit_holds rows nobody (λ q. Some q) (λ q k. Some (to k)) FitProcess FitLwp FitProcess FitLwp (holds_sound rows s) (record {
     same = same;
     ring = no_ring (λ q. Some q) rows.processes s.stands.rising same.process (λ q t is. is);
     gone = none_gone rows FitProcess (λ q k. Some (to k));

@@ -11,7 +11,7 @@ use Rattle.proc_table.specs.Processes.{is_live, reporting}
 use Rattle.proc_table.specs.Rows.{Rows}
 use Rattle.proc_table.specs.Fresh.{lwp_count}
 use Rattle.trace_stop.specs.declared.Shown.{Shown}
-use Rattle.trace_stop.specs.Facts.{FitProcess, FitLwp, WithOwner, Stands}
+use Rattle.trace_stop.specs.Facts.{FitProcess, FitLwp, WithOwner, MidStepInvariant}
 use Rattle.trace_stop.specs.Sound.{is_live_at}
 
 -- SIGCHLD may be posted to the process with the number: it is live, or the number is 1, which no row has
@@ -28,7 +28,7 @@ FitLwpButPending pid p l = (p.pid ≢ pid → FitLwp p l) × (p.pid ≡ pid → 
 
 -- rows that become sound when the pending sets of a live process are settled
 pub record IsSoundButPending (pid : ℕ) (rows : Rows) : Type 0 where
-  pub stands : Stands rows
+  pub stands : MidStepInvariant rows
   pub processes : AllByRecursion (FitButPending pid) rows.processes
   pub lwps : AllByRecursion (WithOwner rows (FitLwpButPending pid)) rows.lwps
 
@@ -45,7 +45,7 @@ FitOrReady pid p = (p.pid ≢ pid → FitProcess p) × (p.pid ≡ pid → Ready 
 
 -- rows that become sound when the LWP tid stops the process pid. An LWP that shows its exit isn't the last one
 pub record MayStop (pid tid : ℕ) (shown : Shown) (rows : Rows) : Type 0 where
-  pub stands : Stands rows
+  pub stands : MidStepInvariant rows
   pub processes : AllByRecursion (FitOrReady pid) rows.processes
   pub lwps : AllByRecursion (WithOwner rows FitLwp) rows.lwps
   pub own : IsSomeAnd (lwp_of tid rows.lwps) (λ l. l.pid ≡ pid)

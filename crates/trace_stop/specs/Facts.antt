@@ -4,7 +4,7 @@ use Rattle.std.specs.Int.RustNames.{bit_and}
 use Rattle.std.specs.List.{AllByRecursion}
 use Rattle.pid_blocks.specs.Users.{IsUser}
 use Rattle.pid_blocks.specs.Blocks.{slot, pid_block, tid_block, InBlock}
-use Rattle.signals.specs.Table.{unmaskable_set}
+use Rattle.signals.specs.Table.{unblockable_set}
 use Rattle.event_masks.specs.Exits.{shows}
 use Rattle.event_masks.specs.declared.TheConstants.StopFlags.{PL_FLAG_EXITED}
 use Rattle.lwp_table.specs.declared.LwpData.{LwpData}
@@ -17,7 +17,7 @@ use Rattle.proc_table.specs.declared.State.TheVariants.{Run, Trace, Job, Zombie}
 use Rattle.proc_table.specs.Processes.{is_live, is_run, is_job, reporting, is_this, process_of}
 use Rattle.proc_table.specs.Rows.{Rows}
 use Rattle.proc_table.specs.Fresh.{process_count, lwp_count_of, lwp_count}
-use Rattle.proc_table.specs.Kept.{Rise, AtHome, Housed}
+use Rattle.proc_table.specs.Kept.{Rise, InOwnBlock, InOwnersBlock}
 use Rattle.trace_stop.specs.Post.{unwanted}
 use Rattle.trace_stop.specs.End.{meets}
 use Rattle.trace_stop.specs.Sound.{is_live_of, is_live_child, is_end, names_own, is_due, mode_fits}
@@ -95,7 +95,7 @@ pub record Silent (l : LwpData) : Type 0 where
 pub record FitLwp (p : ProcData) (l : LwpData) : Type 0 where
   pub untraced : p.tracer ≡ None → UntracedLwp p l
   pub silent : is_this l.tid (reporting p) ≡ false → Silent l
-  pub blocked : bit_and l.blocked unmaskable_set ≡ 0
+  pub blocked : bit_and l.blocked unblockable_set ≡ 0
   pub mode : mode_fits l.mode ≡ true
 
 -- a fact of an LWP and its process
@@ -103,11 +103,11 @@ abbrev pub WithOwner : Rows → (ProcData → LwpData → Type 0) → LwpData �
 WithOwner rows P l = (p : ProcData) → process_of l.pid rows.processes ≡ Some p → P p l
 
 -- the numbers, limits and links of rows
-pub record Stands (rows : Rows) : Type 0 where
+pub record MidStepInvariant (rows : Rows) : Type 0 where
   pub rising : Rise rows.processes
   pub differ : Differ rows.lwps
-  pub homes : AllByRecursion AtHome rows.processes
-  pub housed : AllByRecursion (Housed rows) rows.lwps
+  pub in_own_blocks : AllByRecursion InOwnBlock rows.processes
+  pub in_owners_block : AllByRecursion (InOwnersBlock rows) rows.lwps
   pub pid_slots : length rows.pid_cursors ≡ 64
   pub tid_slots : length rows.tid_cursors ≡ 64
   pub pid_cursors : (u : ℕ) → IsUser u → InBlock (pid_block u) (get_or rows.pid_cursors (slot u) 0)
@@ -119,6 +119,6 @@ pub record Stands (rows : Rows) : Type 0 where
 
 -- these facts, and those of each process and each LWP
 pub record IsSound (rows : Rows) : Type 0 where
-  pub stands : Stands rows
+  pub stands : MidStepInvariant rows
   pub processes : AllByRecursion FitProcess rows.processes
   pub lwps : AllByRecursion (WithOwner rows FitLwp) rows.lwps

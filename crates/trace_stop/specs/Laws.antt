@@ -5,7 +5,7 @@ use Rattle.proc_table.specs.Processes.{process_of, is_live}
 use Rattle.proc_table.specs.Rows.{Rows}
 use Rattle.trace_stop.specs.Detach.{detached}
 use Rattle.trace_stop.specs.End.{tracer_of, meets}
-use Rattle.trace_stop.specs.Facts.{Stands, IsSound}
+use Rattle.trace_stop.specs.Facts.{MidStepInvariant, IsSound}
 
 -- what a link leads to
 abbrev pub onward : (ℕ → List ℕ) → Option ℕ → List ℕ
@@ -19,15 +19,15 @@ chain (suc links) processes n = n ∷ onward (chain links processes) (tracer_of 
 
 -- a chain of tracers has at most 249 links
 abbrev pub ChainsEnd : Type 0
-ChainsEnd = (rows : Rows) (n : ℕ) → Stands rows → length (chain 250 rows.processes n) ≤ 250
+ChainsEnd = (rows : Rows) (n : ℕ) → MidStepInvariant rows → length (chain 250 rows.processes n) ≤ 250
 
 -- so 249 links of a chain reach all that any number of links reaches
 abbrev pub ChainsMeet : Type 0
-ChainsMeet = (rows : Rows) (links p n : ℕ) → Stands rows → meets links rows.processes p n ≡ true → meets 249 rows.processes p n ≡ true
+ChainsMeet = (rows : Rows) (links p n : ℕ) → MidStepInvariant rows → meets links rows.processes p n ≡ true → meets 249 rows.processes p n ≡ true
 
 -- a tracee's chain of tracers is one longer than its tracer's
 abbrev pub TraceeDeeper : Type 0
-TraceeDeeper = (rows : Rows) (tracee tracer : ℕ) → Stands rows → tracer_of rows.processes tracee ≡ Some tracer
+TraceeDeeper = (rows : Rows) (tracee tracer : ℕ) → MidStepInvariant rows → tracer_of rows.processes tracee ≡ Some tracer
     → length (chain 250 rows.processes tracee) ≡ suc (length (chain 250 rows.processes tracer))
 
 -- sound rows are still sound after live processes were detached from their tracers

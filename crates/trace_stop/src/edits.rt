@@ -13,7 +13,7 @@ use signals::{SigSet, Signal};
 
 /// Returns a set of pending signals after a signal is posted: to this set if `here`, and else to another set
 /// of the process.
-pub fn put_signal(pending: SigSet, signal: Signal, here: bool) -> SigSet
+pub fn add_pending(pending: SigSet, signal: Signal, here: bool) -> SigSet
     ensures { result ≡ signal_put signal here pending }
 {
     let left = pending.difference(SigSet::opposed(signal));
@@ -61,7 +61,7 @@ impl Edit {
             Edit::Post { signal, to, lost } => {
                 let here = to == Some(l.tid);
                 LwpData {
-                    pending: put_signal(l.pending, signal, here).difference(lost),
+                    pending: add_pending(l.pending, signal, here).difference(lost),
                     ..*l
                 }
             }

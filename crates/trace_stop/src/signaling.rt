@@ -10,7 +10,7 @@ ghost use Rattle.trace_stop.specs.Before.{IsSoundButPending, MayTell};
 ghost use Rattle.trace_stop.specs.Post.{unwanted, continues, settle, posted_process, posted_lwp, notified, notifies, posted};
 ghost use Rattle.trace_stop.specs.Stop.{tracers};
 
-use crate::edits::{Edit, edit_lwps, put_signal};
+use crate::edits::{Edit, add_pending, edit_lwps};
 use pid_blocks::{Pid, Tid};
 use proc_table::{ProcData, State, Tables};
 use signals::{SigSet, Signal};
@@ -52,7 +52,7 @@ fn continues(signal: Signal, p: &ProcData) -> bool
 fn posted_process(p: &ProcData, signal: Signal, to: &Option<Tid>) -> ProcData
     ensures { result ≡ posted_process signal to.now p.now }
 {
-    let pending = put_signal(p.pending, signal, to.is_none()).difference(unwanted(p));
+    let pending = add_pending(p.pending, signal, to.is_none()).difference(unwanted(p));
     if continues(signal, p) {
         ProcData {
             state: State::Run,
@@ -106,7 +106,7 @@ fn put(tables: &mut Tables, pid: Pid, signal: Signal, to: &Option<Tid>) -> Optio
 }
 
 /// Posts SIGCHLD to the process with this number, if any.
-pub fn notify(tables: &mut Tables, number: u32)
+pub fn post_sigchld(tables: &mut Tables, number: u32)
     ensures rows { tables.new.rows ≡ notified (number ∷ []) tables.old.rows }
     ensures sound { IsSound tables.old.rows → MayTell tables.old.rows number → IsSound tables.new.rows }
 {
@@ -121,6 +121,6 @@ pub fn post_other(tables: &mut Tables, pid: Pid, signal: Signal, to: &Option<Tid
     ensures { tables.new.rows ≡ posted signal to.now pid tables.old.rows }
 {
     if let Some(parent) = put(tables, pid, signal, to) {
-        notify(tables, parent);
+        post_sigchld(tables, parent);
     }
 }

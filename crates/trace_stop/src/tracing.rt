@@ -8,7 +8,7 @@ ghost use Rattle.proc_table.specs.Rows.{is_numbered};
 ghost use Rattle.proc_table.specs.Kept.{IsRow};
 ghost use Rattle.trace_stop.specs.Before.{MayStop};
 ghost use Rattle.trace_stop.specs.Edits.{steps_cleared};
-ghost use Rattle.trace_stop.specs.Facts.{IsSound, Stands};
+ghost use Rattle.trace_stop.specs.Facts.{IsSound, MidStepInvariant};
 ghost use Rattle.trace_stop.specs.Detach.{resumed, detached};
 ghost use Rattle.trace_stop.specs.Sound.{is_live_at};
 ghost use Rattle.trace_stop.specs.Reports.{reporter, report_dropped, unreported};
@@ -16,7 +16,7 @@ ghost use Rattle.trace_stop.specs.Stop.{stop};
 
 use crate::Shown;
 use crate::edits::{Edit, edit_lwps};
-use crate::signaling::notify;
+use crate::signaling::post_sigchld;
 use event_masks::{EventMask, StopFlags};
 use lwp_table::LwpData;
 use pid_blocks::{Pid, Tid};
@@ -91,7 +91,7 @@ pub fn untrace(tables: &mut Tables, pid: Pid, lost: SigSet)
 
 /// Lets a process run on from a trace stop. Allocates nothing.
 pub fn run_on(tables: &mut Tables, pid: Pid)
-    requires stands { Stands tables.old.rows }
+    requires stands { MidStepInvariant tables.old.rows }
     requires there { IsRow tables.old.rows pid }
     ensures { tables.new.rows ≡ resumed pid tables.old.rows }
 {
@@ -116,7 +116,7 @@ pub fn stop(tables: &mut Tables, pid: Pid, tid: Tid, shown: &Shown)
         state: State::Trace {
             tid,
             sig: shown.sig,
-            told: false,
+            reported: false,
         },
         ..p
     });
@@ -127,7 +127,7 @@ pub fn stop(tables: &mut Tables, pid: Pid, tid: Tid, shown: &Shown)
         ..l
     });
     if let Some(tracer) = p.tracer {
-        notify(tables, tracer.get());
+        post_sigchld(tables, tracer.get());
     }
 }
 

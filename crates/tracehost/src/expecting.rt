@@ -1,8 +1,8 @@
 //! The comparison of a run's lines with those of a file.
-use crate::Trouble;
+use crate::CommandError;
 use crate::explaining::unread;
 use command_line::Shown;
-use expected_text::Difference;
+use line_diff::Difference;
 use pid_blocks::Uid;
 use scenario::{Fault, Scenario, StepShape};
 use std::alloc::{AllocError, Global};
@@ -14,13 +14,13 @@ pub(crate) fn read_expected<R: Files + AllocGlobal>(
     rt: &R,
     path: &str,
     explains: bool,
-) -> Result<Vec<u8>, Trouble> {
+) -> Result<Vec<u8>, CommandError> {
     match fs::read(rt, path) {
         Ok(bytes) => Ok(bytes),
         Err(error) if explains || error.kind() == io::ErrorKind::OutOfMemory => {
             Err(unread(rt.alloc(), path, &error))
         }
-        Err(_) => Err(Trouble::Fault(Fault::Read)),
+        Err(_) => Err(CommandError::Fault(Fault::Read)),
     }
 }
 
@@ -31,11 +31,11 @@ pub(crate) fn none_differs(
     shown: &Shown,
     path: &str,
     difference: Option<Difference<'_>>,
-) -> Result<(), Trouble> {
+) -> Result<(), CommandError> {
     match difference {
         Some(difference) => {
             let line = line_of_difference(alloc, scenario, shown, path, difference)?;
-            Err(Trouble::Different(line))
+            Err(CommandError::Different(line))
         }
         None => Ok(()),
     }

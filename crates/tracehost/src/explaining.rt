@@ -1,16 +1,16 @@
 //! Explanations of refused input: where the first mistakes are, and what was likely meant.
-use crate::Trouble;
+use crate::CommandError;
 use crate::expecting::count_of;
 use command_line::{Mode, Shown};
-use explanations::{Source, explain};
-use scenario::{Fault, MOST_STEP_BYTES, Scenario, parse};
+use diagnostics::{Source, explain};
+use scenario::{Fault, MAX_STEP_BYTES, Scenario, parse};
 use std::alloc::{AllocError, Global};
 use std::io::Read;
 use std::rt::Files;
 use std::{fs, io};
 
 /// How many bytes of a scenario are read: one more than it may have.
-const MOST_READ: u64 = 4194305;
+const MAX_READ: u64 = 4194305;
 
 const SCENARIO_PROMPT: &str =
     "tracehost: type a scenario as JSON, for example {\"steps\":[{\"user\":1001,\"op\":\"spawn\"}]}, and end it with Ctrl-D";
@@ -28,13 +28,13 @@ fn words_of(alloc: Global, error: &io::Error) -> Result<String, AllocError> {
 }
 
 /// The trouble of an input that can't be read: the fault alone where no memory is left for more.
-pub(crate) fn unread(alloc: Global, name: &str, error: &io::Error) -> Trouble {
+pub(crate) fn unread(alloc: Global, name: &str, error: &io::Error) -> CommandError {
     if error.kind() == io::ErrorKind::OutOfMemory {
-        return Trouble::Fault(Fault::Memory);
+        return CommandError::Fault(Fault::Memory);
     }
     match reason_of(alloc, name, error) {
-        Ok(reason) => Trouble::Explained(Fault::Read, reason),
-        Err(_) => Trouble::Fault(Fault::Read),
+        Ok(reason) => CommandError::Explained(Fault::Read, reason),
+        Err(_) => CommandError::Fault(Fault::Read),
     }
 }
 
@@ -47,7 +47,7 @@ fn reason_of(alloc: Global, name: &str, error: &io::Error) -> Result<String, All
 /// The bytes of a reader to their end, or to the first that is too many.
 fn front_of<I: Read + Drop>(alloc: Global, input: I) -> io::Result<Vec<u8>> {
     let mut bytes = Vec::new(alloc);
-    input.take(MOST_READ).read_to_end(&mut bytes)?;
+    input.take(MAX_READ).read_to_end(&mut bytes)?;
     Ok(bytes)
 }
 
@@ -60,7 +60,10 @@ fn bytes_of<R: Files + Input + AllocGlobal>(rt: &R, file: Option<&str>) -> io::R
 }
 
 /// The scenario of the bytes. Its explanation is printed where it is one, and else goes with the fault.
-fn parse_explained<R: Eprint + AllocGlobal>(rt: &R, bytes: &[u8]) -> Result<Scenario, Trouble> {
+fn parse_explained<R: Eprint + AllocGlobal>(
+    rt: &R,
+    bytes: &[u8],
+) -> Result<Scenario, CommandError> {
     let explanation = match explain(rt.alloc(), Source::Scenario, bytes) {
         Ok(explanation) => explanation,
         // no memory is left for more than the fault
@@ -71,8 +74,8 @@ fn parse_explained<R: Eprint + AllocGlobal>(rt: &R, bytes: &[u8]) -> Result<Scen
             let _ = eprint!(rt; "{explanation}");
             Ok(scenario)
         }
-        Err(Fault::Memory) => Err(Trouble::Fault(Fault::Memory)),
-        Err(fault) => Err(Trouble::Explained(fault, explanation)),
+        Err(Fault::Memory) => Err(CommandError::Fault(Fault::Memory)),
+        Err(fault) => Err(CommandError::Explained(fault, explanation)),
     }
 }
 
@@ -80,7 +83,7 @@ fn parse_explained<R: Eprint + AllocGlobal>(rt: &R, bytes: &[u8]) -> Result<Scen
 pub(crate) fn explained_scenario<R: Files + Input + Eprint + AllocGlobal>(
     rt: &R,
     file: Option<&str>,
-) -> Result<Scenario, Trouble> {
+) -> Result<Scenario, CommandError> {
     match bytes_of(rt, file) {
         Ok(bytes) => parse_explained(rt, bytes.as_slice()),
         Err(error) => Err(unread(rt.alloc(), file.unwrap_or("standard input"), &error)),
@@ -144,7 +147,7 @@ impl<'a, R: Eprint + AllocGlobal, I: Read> Explained<'a, R, I> {
     fn take(&mut self, byte: u8) {
         if byte == b'\n' {
             self.end_line();
-        } else if self.line.len() <= MOST_STEP_BYTES {
+        } else if self.line.len() <= MAX_STEP_BYTES {
             let _ = self.line.push(byte);
         }
     }

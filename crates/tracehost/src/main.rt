@@ -19,10 +19,10 @@ mod explaining;
 use crate::expecting::{none_differs, read_expected};
 use crate::explaining::{Explained, explain_empty_run, explained_scenario, prompt, unread};
 use command_line::{Asked, Message, Mode, Refusal, Shown, Terminals, asked_of};
-use expected_text::first_difference;
 use json_trace::TraceWriter;
-use line_sessions::{ServeFault, serve};
-use scenario::{Fault, RunFault, RunOptions, Scenario, Style, handlers_by, read, run};
+use line_diff::first_difference;
+use line_sessions::{ServeError, serve};
+use scenario::{Fault, RunFault, RunOptions, Scenario, Style, policy_handlers, read, run};
 use std::alloc::AllocError;
 use std::io::{BufReader, IsTerminal, Read, Write};
 use std::process::ExitCode;
@@ -39,7 +39,7 @@ const VERSION: &str = "0.4.0";
 
 /// Why the program ends with another status than 0.
 #[derive(Drop)]
-enum Trouble {
+enum CommandError {
     /// The command line is refused, or asks for help or the version.
     Command(Message),
     /// An argument isn't UTF-8.
@@ -53,52 +53,52 @@ enum Trouble {
     /// The run failed.
     Run(RunFault),
     /// The session ended before its input.
-    Serve(ServeFault),
+    Serve(ServeError),
     /// The run's lines aren't the expected ones; and a line about the first difference.
     Different(String),
 }
 
-impl From<io::Error> for Trouble {
-    fn from(error: io::Error) -> Trouble {
+impl From<io::Error> for CommandError {
+    fn from(error: io::Error) -> CommandError {
         if error.kind() == io::ErrorKind::OutOfMemory {
-            Trouble::Fault(Fault::Memory)
+            CommandError::Fault(Fault::Memory)
         } else {
-            Trouble::Words
+            CommandError::Words
         }
     }
 }
 
-impl From<AllocError> for Trouble {
-    fn from(_refused: AllocError) -> Trouble {
-        Trouble::Fault(Fault::Memory)
+impl From<AllocError> for CommandError {
+    fn from(_refused: AllocError) -> CommandError {
+        CommandError::Fault(Fault::Memory)
     }
 }
 
-impl From<Refusal> for Trouble {
-    fn from(refusal: Refusal) -> Trouble {
+impl From<Refusal> for CommandError {
+    fn from(refusal: Refusal) -> CommandError {
         match refusal {
-            Refusal::Command(message) => Trouble::Command(message),
-            Refusal::User => Trouble::User,
-            Refusal::Memory => Trouble::Fault(Fault::Memory),
+            Refusal::Command(message) => CommandError::Command(message),
+            Refusal::User => CommandError::User,
+            Refusal::Memory => CommandError::Fault(Fault::Memory),
         }
     }
 }
 
-impl From<Fault> for Trouble {
-    fn from(fault: Fault) -> Trouble {
-        Trouble::Fault(fault)
+impl From<Fault> for CommandError {
+    fn from(fault: Fault) -> CommandError {
+        CommandError::Fault(fault)
     }
 }
 
-impl From<RunFault> for Trouble {
-    fn from(fault: RunFault) -> Trouble {
-        Trouble::Run(fault)
+impl From<RunFault> for CommandError {
+    fn from(fault: RunFault) -> CommandError {
+        CommandError::Run(fault)
     }
 }
 
-impl From<ServeFault> for Trouble {
-    fn from(fault: ServeFault) -> Trouble {
-        Trouble::Serve(fault)
+impl From<ServeError> for CommandError {
+    fn from(fault: ServeError) -> CommandError {
+        CommandError::Serve(fault)
     }
 }
 
@@ -138,11 +138,11 @@ fn open_input<R: Files + AllocGlobal>(
     rt: &R,
     path: &str,
     explains: bool,
-) -> Result<R::File, Trouble> {
+) -> Result<R::File, CommandError> {
     match fs::open(rt, path) {
         Ok(file) => Ok(file),
         Err(error) if explains => Err(unread(rt.alloc(), path, &error)),
-        Err(_) => Err(Trouble::Fault(Fault::Read)),
+        Err(_) => Err(CommandError::Fault(Fault::Read)),
     }
 }
 
@@ -166,7 +166,7 @@ fn serve_reader<R: Print + AllocGlobal, I: Read + Drop>(
     settings: Settings,
     style: Style,
     input: I,
-) -> Result<(), Trouble> {
+) -> Result<(), CommandError> {
     let mut reader = BufReader::new(rt.alloc(), input)?;
     serve(
         rt.alloc(),
@@ -185,7 +185,7 @@ fn serve_input<R: Print + Eprint + AllocGlobal, I: Read + Drop>(
     style: Style,
     input: I,
     explains: bool,
-) -> Result<(), Trouble> {
+) -> Result<(), CommandError> {
     if explains {
         serve_reader(rt, settings, style, Explained::new(rt, input))
     } else {
@@ -200,7 +200,7 @@ fn serve_lines<R: Files + Input + Print + Eprint + AllocGlobal>(
     style: Style,
     file: Option<&str>,
     explains: bool,
-) -> Result<(), Trouble> {
+) -> Result<(), CommandError> {
     match file {
         Some(path) => serve_input(
             rt,
@@ -285,8 +285,8 @@ fn run_scenario<R: Files + Print + AllocGlobal + Threads + Wait + Sync>(
     shown: &Shown,
     expected: Option<&str>,
     explains: bool,
-) -> Result<(), Trouble> {
-    let handlers = handlers_by(rt.alloc(), scenario.policies())?;
+) -> Result<(), CommandError> {
+    let handlers = policy_handlers(rt.alloc(), scenario.policies())?;
     match expected {
         Some(path) => {
             let wanted = read_expected(rt, path, explains)?;
@@ -308,7 +308,7 @@ fn read_and_run<R: Files + Input + Print + Eprint + AllocGlobal + Threads + Wait
     explains: bool,
     shown: &Shown,
     expected: Option<&str>,
-) -> Result<(), Trouble> {
+) -> Result<(), CommandError> {
     if !explains {
         let scenario = scenario_of(rt, file)?;
         return run_scenario(rt, &scenario, shown, expected, false);
@@ -322,7 +322,7 @@ fn read_and_run<R: Files + Input + Print + Eprint + AllocGlobal + Threads + Wait
 fn go<R: Files + Input + Print + Eprint + Env + AllocGlobal + Threads + Wait + Sync>(
     rt: &R,
     terminals: Terminals,
-) -> Result<(), Trouble> {
+) -> Result<(), CommandError> {
     let words: Vec<String> = env::args(rt)?.collect(rt.alloc())?;
     let Asked {
         file,
@@ -363,34 +363,34 @@ fn report_command<R: Print + Eprint>(rt: &R, message: &Message) -> u8 {
 }
 
 /// Prints the trouble on standard error, and returns its status.
-fn report<R: Print + Eprint>(rt: &R, trouble: &Trouble) -> u8 {
+fn report<R: Print + Eprint>(rt: &R, trouble: &CommandError) -> u8 {
     match trouble {
-        Trouble::Command(message) => report_command(rt, message),
-        Trouble::Words => {
+        CommandError::Command(message) => report_command(rt, message),
+        CommandError::Words => {
             let _ = eprintln!(rt; "error: an argument is no text");
             2
         }
-        Trouble::User => {
+        CommandError::User => {
             let _ = eprintln!(rt; "error: a user is a number from 1001 to 1064");
             2
         }
-        Trouble::Fault(fault) => {
+        CommandError::Fault(fault) => {
             let _ = eprintln!(rt; "{fault}");
             fault.status()
         }
-        Trouble::Explained(fault, explanation) => {
+        CommandError::Explained(fault, explanation) => {
             let _ = eprint!(rt; "{fault}\n{explanation}");
             fault.status()
         }
-        Trouble::Run(fault) => {
+        CommandError::Run(fault) => {
             let _ = eprintln!(rt; "{fault}");
             fault.status()
         }
-        Trouble::Serve(fault) => {
+        CommandError::Serve(fault) => {
             let _ = eprintln!(rt; "{fault}");
             fault.status()
         }
-        Trouble::Different(line) => {
+        CommandError::Different(line) => {
             let _ = eprintln!(rt; "{line}");
             4
         }

@@ -10,7 +10,7 @@ use Rattle.lwp_table.specs.declared.LwpData.{LwpData}
 use Rattle.lwp_table.specs.Lwps.{LacksLwp, Differ}
 use Rattle.proc_table.specs.declared.ProcData.{ProcData}
 use Rattle.proc_table.specs.Rows.{Rows}
-use Rattle.proc_table.specs.Kept.{AtHome, Housed, IsKept}
+use Rattle.proc_table.specs.Kept.{InOwnBlock, InOwnersBlock, TableInvariant}
 use Rattle.proc_table.proofs.Every.{every_found}
 
 abbrev tids : List LwpData → List ℕ
@@ -32,12 +32,12 @@ below n q (l ∷ ls) all is = elim (cases_Bool (eqb q l.tid)) [
   | inr e ↦ below n q ls all.1 (rw e at is)
 ]
 
-numbered : (rows : Rows) → AllByRecursion AtHome rows.processes → (ls : List LwpData) → AllByRecursion (Housed rows) ls → AllByRecursion (λ l. l.tid < 356000) ls
-numbered rows homes [] all = tt
-numbered rows homes (l ∷ ls) all = (in_block all.0.0 (every_found AtHome (λ p. p.pid == l.pid) rows.processes all.0.0 homes all.0.1).user all.0.2, numbered rows homes ls all.1)
+numbered : (rows : Rows) → AllByRecursion InOwnBlock rows.processes → (ls : List LwpData) → AllByRecursion (InOwnersBlock rows) ls → AllByRecursion (λ l. l.tid < 356000) ls
+numbered rows in_own_blocks [] all = tt
+numbered rows in_own_blocks (l ∷ ls) all = (in_block all.0.0 (every_found InOwnBlock (λ p. p.pid == l.pid) rows.processes all.0.0 in_own_blocks all.0.1).user all.0.2, numbered rows in_own_blocks ls all.1)
   where
     in_block : (p : ProcData) → (1001 ≤ p.uid) × (p.uid ≤ 1064) → InBlock (tid_block p.uid) l.tid → l.tid < 356000
     in_block p user block = let low = user.0 in let high = user.1 in let end = block.1 in omega arith
 
-pub lwps_fit : (rows : Rows) → IsKept rows → length rows.lwps ≤ 356000
-lwps_fit rows kept = subst (λ n. n ≤ 356000) (length-map rows.lwps (λ l. l.tid)) (length-le_from_distinct_below (tids rows.lwps) 356000 (distinct rows.lwps kept.differ) (λ q is. below 356000 q rows.lwps (numbered rows kept.homes rows.lwps kept.housed) is))
+pub lwps_fit : (rows : Rows) → TableInvariant rows → length rows.lwps ≤ 356000
+lwps_fit rows kept = subst (λ n. n ≤ 356000) (length-map rows.lwps (λ l. l.tid)) (length-le_from_distinct_below (tids rows.lwps) 356000 (distinct rows.lwps kept.differ) (λ q is. below 356000 q rows.lwps (numbered rows kept.in_own_blocks rows.lwps kept.in_owners_block) is))

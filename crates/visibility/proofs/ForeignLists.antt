@@ -10,9 +10,9 @@ use Rattle.requests.specs.Machine.{Machine}
 use Rattle.requests.specs.Run.{Asked, last, replies, asked_by}
 use Rattle.requests.specs.View.{view, with_view, alone}
 use Rattle.requests.specs.Isolation.{Apart, Users, Ran, answered, host_after, replies_to, own_replies, own_view, AlikeWhich, AlikeSteps, spawns, lists, sigactions, kills, waits, installs, handles, ptraces, turns}
-use Rattle.requests.proofs.ViewFresh.{seen_lwp_same}
-use Rattle.requests.proofs.ViewSteps.{seen_same}
-use Rattle.requests.proofs.ViewLaws.{twin, alone_law, keeps_apart, run_is, seen_alone}
+use Rattle.requests.proofs.IsolationOfNewRows.{seen_lwp_same}
+use Rattle.requests.proofs.IsolationOfSteps.{seen_same}
+use Rattle.requests.proofs.IsolationLaws.{twin, alone_law, keeps_apart, run_is, seen_alone}
 use Rattle.visibility.specs.ForeignLists.{AlikeLists, ForeignNumbers, SameIsAlike, SeenByView, AgreeAlike}
 use Rattle.visibility.proofs.Foreign.{foreign_number}
 use Rattle.visibility.proofs.Apart.{alone_is_apart, own_list}

@@ -3,7 +3,7 @@
 
 ghost use Rattle.visibility.specs.WorkedRuns.{ForkIsFollowed};
 ghost use Rattle.visibility.specs.ForeignLists.{ForeignNumbers, SameIsAlike, SeenByView};
-ghost use Rattle.requests.specs.Isolation.{Alone, OneStep, OtherStep, OwnRun, TwoLists, KeepsApart, ForeignNumber, AloneApart, EmptyApart, OwnList, SoundApart, RunsArePrivate, TwoRuns};
+ghost use Rattle.requests.specs.Isolation.{Alone, OneStep, OtherStep, OwnRun, TwoLists, KeepsApart, ForeignNumber, ApartInAView, ApartAtFirst, OwnList, ApartInASoundHost, RunsArePrivate, TwoRuns};
 
 /// A run checked by computation: a debugger follows a fork.
 pub fn a_followed_fork()
@@ -70,19 +70,19 @@ pub fn keeps_apart()
 {}
 
 /// In a sound host users are separate.
-pub fn sound_apart()
-    ensures { SoundApart }
+pub fn users_are_apart_in_a_sound_host()
+    ensures { ApartInASoundHost }
 {}
 
 /// In the host with one user's view, in which no other user has made a step, users are separate and that user sees the
 /// same.
-pub fn alone_apart()
-    ensures { AloneApart }
+pub fn users_are_apart_in_a_view()
+    ensures { ApartInAView }
 {}
 
 /// In an unused host users are separate.
-pub fn empty_apart()
-    ensures { EmptyApart }
+pub fn users_are_apart_at_first()
+    ensures { ApartAtFirst }
 {}
 
 /// Apart from steps that ran out of memory, each user's replies and view are those of the user's own steps in a host

@@ -117,7 +117,7 @@ fn lwps_of(tables: &Tables, alloc: Global, user: Uid) -> Result<Vec<LwpData>, Al
 }
 
 /// Returns the installed policies of the user in order, each with its debugger. An error means out of memory.
-fn handlers_of<F: Decider + Send + Drop>(
+fn handlers_from<F: Decider + Send + Drop>(
     host: &Host<F>,
     alloc: Global,
     user: Uid,
@@ -145,7 +145,7 @@ pub fn user_view<F: Decider + Send + Drop>(
         lwps: lwps_of(tables, alloc, user)?,
         pid_cursor: tables.pid_cursor(user),
         tid_cursor: tables.tid_cursor(user),
-        handlers: handlers_of(host, alloc, user)?,
+        handlers: handlers_from(host, alloc, user)?,
         settings: host.settings(),
     })
 }

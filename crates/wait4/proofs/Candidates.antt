@@ -1,6 +1,6 @@
 -- The child that is reported, and whether there is a child, by the lists of tracees and of children, and by number.
 use Rattle.std.proofs.Common.{◌≡◌, ℕ, ℤ, pos, negsuc, List, [], ◌∷◌, find, Bool, true, ◌==◌, ◌&&◌, ◌||◌, ltb, Some, is_some, refl, sym, ap, ◌∙◌, subst, nat_eq, rules, arith}
-use Rattle.trace_stop.proofs.Words.{AllByRecursion, list_any, cases_Bool, nat_tests, ProcData, keep, process_of, traces, Rows, Rise, AtHome, LeastOrNone}
+use Rattle.trace_stop.proofs.CommonNames.{AllByRecursion, list_any, cases_Bool, nat_tests, ProcData, keep, process_of, traces, Rows, Rise, InOwnBlock, LeastOrNone}
 use Rattle.std.proofs.Math.Path.{fun_ext}
 use Rattle.proc_table.proofs.Seen.{any-found}
 use Rattle.proc_table.proofs.Least.{least_or_none}
@@ -52,10 +52,10 @@ pub or_first : (a b c : Bool) → a ≡ c → (a || b) ≡ (c || b)
 or_first a b c is = ap (λ d. d || b) is
 
 -- whether any is a child
-pub child-any : (caller k : ℕ) (ps : List ProcData) → AllByRecursion AtHome ps
+pub child-any : (caller k : ℕ) (ps : List ProcData) → AllByRecursion InOwnBlock ps
     → list_any (λ p. is_child caller p && fits (negsuc k) p) ps ≡ (is_some (find (λ p. ltb 0 p.pid && names_as Tracer caller p) ps) || is_some (find (λ p. ltb 0 p.pid && names_as Parent caller p) ps))
-child-any caller k [] homes = refl
-child-any caller k (p ∷ ps) homes = search (rules, child-any caller k ps homes.1, ltb, nat_tests, cases_Bool)
+child-any caller k [] in_own_blocks = refl
+child-any caller k (p ∷ ps) in_own_blocks = search (rules, child-any caller k ps in_own_blocks.1, ltb, nat_tests, cases_Bool)
 
 -- what holds of every process holds of the one that is reported
 pub reported-has : (P : ProcData → Type 0) (caller : ℕ) (which : ℤ) (options : Options) (rows : Rows) (p : ProcData) → AllByRecursion P rows.processes → reported caller which options rows ≡ Some p → P p
@@ -65,5 +65,5 @@ reported-has P caller which options rows p all is = (find_some (reportable optio
 pub reported-least : ReportedLeast
 reported-least rows caller which options s =
     subst (LeastOrNone (λ p. (is_child caller p && fits which p) && reportable options caller p) 0 rows.processes)
-    (find-above_zero (λ p. (is_child caller p && fits which p) && reportable options caller p) rows.processes s.stands.homes ∙ sym (find-filter (λ p. is_child caller p && fits which p) (reportable options caller) rows.processes))
+    (find-above_zero (λ p. (is_child caller p && fits which p) && reportable options caller p) rows.processes s.stands.in_own_blocks ∙ sym (find-filter (λ p. is_child caller p && fits which p) (reportable options caller) rows.processes))
     (least_or_none (λ p. (is_child caller p && fits which p) && reportable options caller p) 0 rows.processes s.stands.rising)

@@ -1,10 +1,10 @@
 -- The rows after one process is collected, as an edit of its row.
 use Rattle.std.proofs.Common.{◌≡◌, ℕ, List, [], ◌∷◌, filter, filter_map, map, Bool, true, false, cond, ◌==◌, ◌&&◌, not, Option, Some, None, refl, ap, ◌∙◌, nat_eq, if◌then◌else◌, rules}
-use Rattle.trace_stop.proofs.Words.{AllByRecursion, ProcData, is_live, process_of, Rows, each, Rise, put_process, set_process, drop_process, notified}
+use Rattle.trace_stop.proofs.CommonNames.{AllByRecursion, ProcData, is_live, process_of, Rows, each, Rise, put_process, set_process, drop_process, notified}
 use Rattle.proc_table.proofs.Finds.{equal_or_not}
 use Rattle.trace_stop.proofs.Edited.{lwps_left}
 use Rattle.trace_stop.proofs.Numbers.{the_row}
-use Rattle.trace_stop.proofs.Told.{notified-none}
+use Rattle.trace_stop.proofs.Notified.{notified-none}
 use Rattle.wait4.specs.Collect.{stays, collected, collect_one}
 use Rattle.std.proofs.Math.Bool.{and-false}
 

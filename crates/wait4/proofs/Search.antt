@@ -1,6 +1,6 @@
 -- Searches for the child that is reported.
 use Rattle.std.proofs.Common.{◌≡◌, ℕ, ◌<◌, ◌≤◌, List, [], ◌∷◌, filter, find, Bool, true, false, ◌&&◌, ◌||◌, ltb, leb, Option, Some, None, is_some, refl, sym, ap, ◌∙◌, arith, inl, inr, nat_eq, subst, true≢false, if◌then◌else◌, rules}
-use Rattle.trace_stop.proofs.Words.{AllByRecursion, list_any, cases_Bool, nat_tests, ProcData, keep, process_of, AllAbove, Rise, AtHome, IsLeast, LeastOrNone}
+use Rattle.trace_stop.proofs.CommonNames.{AllByRecursion, list_any, cases_Bool, nat_tests, ProcData, keep, process_of, AllAbove, Rise, InOwnBlock, IsLeast, LeastOrNone}
 use Rattle.proc_table.proofs.Rising.{none_above}
 use Rattle.proc_table.proofs.Finds.{equal_or_not}
 use Rattle.trace_stop.proofs.Passes.{found_above}
@@ -50,9 +50,9 @@ pub is_kept : (t : ProcData → Bool) (p : ProcData) → is_some (keep t (Some p
 is_kept t p = elim (cases_Bool (t p)) [ inl e ↦ rw e refl | inr e ↦ rw e refl ]
 
 -- no number outside all blocks is a row's
-pub none_outside : (n : ℕ) (ps : List ProcData) → AllByRecursion AtHome ps → 65000 ≤ n → process_of n ps ≡ None
-none_outside n [] homes far = refl
-none_outside n (q ∷ ps) homes far = search (rules, none_outside n ps homes.1 far, nat_tests)
+pub none_outside : (n : ℕ) (ps : List ProcData) → AllByRecursion InOwnBlock ps → 65000 ≤ n → process_of n ps ≡ None
+none_outside n [] in_own_blocks far = refl
+none_outside n (q ∷ ps) in_own_blocks far = search (rules, none_outside n ps in_own_blocks.1 far, nat_tests)
 
 -- Candidates
 

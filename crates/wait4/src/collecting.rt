@@ -4,14 +4,14 @@
 ghost use Rattle.std.specs.Prelude.{◌≡◌, ℕ, ◌&&◌, ◌==◌, ltb, true, pos, [], ◌∷◌, Some, IfSome, find, is_some};
 ghost use Rattle.std.specs.List.{list_any};
 ghost use Rattle.proc_table.specs.Processes.{process_of, traces};
-ghost use Rattle.proc_table.specs.Kept.{IsKept};
+ghost use Rattle.proc_table.specs.Kept.{TableInvariant};
 ghost use Rattle.trace_stop.specs.Facts.{IfEnded, IsSound};
 ghost use Rattle.wait4.specs.Collect.{is_child, is_own, fits, reportable, status_of, stays, names_as, lesser, reported, collect_one, collect, rows_after};
 
 use crate::{Collected, Options, Status};
 use pid_blocks::Pid;
 use proc_table::{ProcData, State, Tables};
-use trace_stop::notify;
+use trace_stop::post_sigchld;
 
 /// How a child names the caller.
 #[derive(Clone, Copy, Debug, PartialEq, Eq, Drop)]
@@ -40,8 +40,8 @@ fn reportable(options: Options, caller: Pid, p: &ProcData) -> bool
 {
     match p.state {
         State::Run => p.continued && is_own(caller, p) && options.continued,
-        State::Trace { told, .. } => !told && p.tracer == Some(caller),
-        State::Job { told, .. } => !told && p.parent == caller.get() && options.untraced,
+        State::Trace { reported, .. } => !reported && p.tracer == Some(caller),
+        State::Job { reported, .. } => !reported && p.parent == caller.get() && options.untraced,
         State::Zombie { .. } => p.tracer == Some(caller) || is_own(caller, p),
     }
 }
@@ -61,7 +61,7 @@ fn status_of(p: &ProcData) -> Status
 /// Returns the first process that names the caller in this way, as its tracer or as its parent, if any.
 fn first_of_kin(tables: &Tables, kin: Kin, caller: Pid) -> Option<ProcData>
     ensures row { result ≡ find (λ p. ltb 0 p.pid && names_as kin caller p) tables.now.rows.processes }
-    ensures kept { IsKept tables.now.rows }
+    ensures kept { TableInvariant tables.now.rows }
 {
     match kin {
         Kin::Tracer => tables.next_tracee(caller, 0),
@@ -72,7 +72,7 @@ fn first_of_kin(tables: &Tables, kin: Kin, caller: Pid) -> Option<ProcData>
 /// Returns the first process that names the caller in this way and has something to report.
 fn first_report(tables: &Tables, kin: Kin, caller: Pid, options: Options) -> Option<ProcData>
     ensures row { result ≡ find (λ p. names_as kin caller p && reportable options caller p) tables.now.rows.processes }
-    ensures kept { IsKept tables.now.rows }
+    ensures kept { TableInvariant tables.now.rows }
 {
     match kin {
         Kin::Tracer => tables.find_tracee(caller, |p| reportable(options, caller, p)),
@@ -94,7 +94,7 @@ fn lesser(a: Option<ProcData>, b: Option<ProcData>) -> Option<ProcData>
 /// Returns the process with this number, which isn't negative, if there is one.
 fn numbered(tables: &Tables, which: i64) -> Option<ProcData>
     ensures row { (n : ℕ) → which ≡ pos n → result ≡ process_of n tables.now.rows.processes }
-    ensures kept { IsKept tables.now.rows }
+    ensures kept { TableInvariant tables.now.rows }
 {
     tables.kept();
     match u32::try_from(which) {
@@ -107,7 +107,7 @@ fn numbered(tables: &Tables, which: i64) -> Option<ProcData>
 /// `which` is negative, the first child that has.
 fn reported(tables: &Tables, caller: Pid, which: i64, options: Options) -> Option<ProcData>
     ensures row { result ≡ reported caller which options tables.now.rows }
-    ensures kept { IsKept tables.now.rows }
+    ensures kept { TableInvariant tables.now.rows }
 {
     if which < 0 {
         let tracee = first_report(tables, Kin::Tracer, caller, options);
@@ -160,17 +160,20 @@ fn collect_one(tables: &mut Tables, caller: Pid, p: &ProcData)
             state: State::Trace {
                 tid,
                 sig,
-                told: true,
+                reported: true,
             },
             ..*p
         }),
         State::Job { sig, .. } => tables.set_process(ProcData {
-            state: State::Job { sig, told: true },
+            state: State::Job {
+                sig,
+                reported: true,
+            },
             ..*p
         }),
         State::Zombie { .. } if stays(caller, p) => {
             tables.set_process(ProcData { tracer: None, ..*p });
-            notify(tables, p.parent);
+            post_sigchld(tables, p.parent);
         }
         State::Zombie { .. } => tables.remove_process(p.pid),
     }

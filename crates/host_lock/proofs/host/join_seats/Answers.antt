@@ -4,7 +4,7 @@ use Rattle.requests.specs.Machine.{Machine}
 use Rattle.host_lock.specs.Views.{Idle, View}
 use Rattle.host_lock.specs.declared.view.Slot.{Slot}
 use Rattle.host_lock.specs.Rule.{session_view, both, Each}
-use Rattle.host_lock.specs.Limits.{most_calls}
+use Rattle.host_lock.specs.Limits.{max_calls}
 use Rattle.host_lock.proofs.Totals.{each_right}
 use Rattle.host_lock.specs.Sessions.{SessionData, IsAt, gathered}
 use Rattle.host_lock.proofs.Turns.{joins}
@@ -36,11 +36,11 @@ loop-session-preserved g c =
     let popped : c.loop-session.sessions.items ≡ c.pop-in-loop-session.new.self.items ++ s ∷ [] = search rules in
     let p = pops (IsAt shared.table_id h) c.args.sessions.items c.loop-session.sessions.items c.pop-in-loop-session.new.self.items order s c.requires.sessions inv.1.2 popped in
     let left : c.loop-session.seat.me.0 ≡ gathered h order b = ap (λ (m : Me (Slot g.row.F.Denot) View). m.0) inv.1.3 in
-    let right : c.into_seat.result.me.0 ≡ session_view h Idle (most_calls - s.calls) s.seen s.number s.mine =
-    ap (λ (m : Me (Slot g.row.F.Denot) View). m.0) c.into_seat.ensures.1 ∙ ap (λ (z : Machine). session_view z Idle (most_calls - s.calls) s.seen s.number s.mine) p.0.1 in
+    let right : c.into_seat.result.me.0 ≡ session_view h Idle (max_calls - s.calls) s.seen s.number s.mine =
+    ap (λ (m : Me (Slot g.row.F.Denot) View). m.0) c.into_seat.ensures.1 ∙ ap (λ (z : Machine). session_view z Idle (max_calls - s.calls) s.seen s.number s.mine) p.0.1 in
     let held = ap (λ (m : Me (Slot g.row.F.Denot) View). m.1) inv.1.3 in (
       c.join_seat.ensures.0 ∙ inv.0,
-      (order ++ s ∷ [], b + (most_calls - s.calls), p.1, c.join_seat.ensures.2 ∙ (λ j. ((ap (λ (z : View × View). both z.0 z.1) (λ i. (left i, right i)) ∙ joined h order s b (most_calls - s.calls)) j, held j))),
+      (order ++ s ∷ [], b + (max_calls - s.calls), p.1, c.join_seat.ensures.2 ∙ (λ j. ((ap (λ (z : View × View). both z.0 z.1) (λ i. (left i, right i)) ∙ joined h order s b (max_calls - s.calls)) j, held j))),
     )
 
 pub loop-session-init : goal.loop-session-init
@@ -50,5 +50,5 @@ loop-session-init g c =
     let popped : c.args.sessions.items ≡ c.pop.new.self.items ++ s ∷ [] = search rules in
     let at = (each_right (IsAt c.args.table.now.shared.table_id h) c.pop.new.self.items (s ∷ []) (subst (Each (IsAt c.args.table.now.shared.table_id h)) popped c.requires.sessions)).0 in (
       c.into_seat-seat.ensures.0 ∙ at.0,
-      (s ∷ [], most_calls - s.calls, popped, c.into_seat-seat.ensures.1 ∙ ap (λ (z : Machine). (session_view z Idle (most_calls - s.calls) s.seen s.number s.mine, [])) at.1),
+      (s ∷ [], max_calls - s.calls, popped, c.into_seat-seat.ensures.1 ∙ ap (λ (z : Machine). (session_view z Idle (max_calls - s.calls) s.seen s.number s.mine, [])) at.1),
     )

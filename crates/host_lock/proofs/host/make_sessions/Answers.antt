@@ -5,7 +5,7 @@ use Rattle.requests.specs.Machine.{Machine}
 use Rattle.host_lock.specs.Views.{View, Idle}
 use Rattle.host_lock.specs.declared.view.Slot.{Slot}
 use Rattle.host_lock.specs.Rule.{fresh_view, session_view, start_of}
-use Rattle.host_lock.specs.Limits.{most_calls}
+use Rattle.host_lock.specs.Limits.{max_calls}
 use Rattle.host_lock.specs.Sessions.{SessionData, new_session}
 use Rattle.host_lock.proofs.Openings.{splits_one, left_is, right_is, one_more}
 use Rattle.host_lock.proofs.host.make_sessions.Goals as goal
@@ -31,7 +31,7 @@ loop-i-preserved g c =
     let left : c.split_seat-seat.new.seat.me.0 ≡ fresh_view r (c.loop-i.i + 1) (k - 1) = left_is r c.loop-i.i k v c.split_seat-seat.new.seat.me.0 some_left was (ap (λ (m : Me (Slot g.row.F.Denot) View). m.0) split.2) in
     let none_held = ap (λ (m : Me (Slot g.row.F.Denot) View). m.1) split.2 ∙ ap (λ (m : Me (Slot g.row.F.Denot) View). m.1) inv.seat in
     let less : k - 1 ≡ length c.args.users.now - (c.loop-i.i + 1) = omega arith in
-    let right : c.split_seat-seat.result.me.0 ≡ session_view r Idle most_calls [] c.loop-i.i [] = right_is r c.loop-i.i k v c.split_seat-seat.result.me.0 some_left was (ap (λ (m : Me (Slot g.row.F.Denot) View). m.0) split.4) in
+    let right : c.split_seat-seat.result.me.0 ≡ session_view r Idle max_calls [] c.loop-i.i [] = right_is r c.loop-i.i k v c.split_seat-seat.result.me.0 some_left was (ap (λ (m : Me (Slot g.row.F.Denot) View). m.0) split.4) in
     let start_is : start_of c.split_seat-seat.result.me.0 ≡ r = ap start_of right in
     let listed : c.index-users-i.result ≡ get_or c.args.users.now c.loop-i.i c.index-users-i.result = search rules in
     let user : c.index-users-i.result ≡ get_or c.args.users.now c.loop-i.i 0 = listed ∙ get_or_default c.args.users.now c.loop-i.i c.index-users-i.result 0 (omega arith) in
@@ -52,7 +52,7 @@ make_session-requires-after_bounds g c =
     let some_left : 0 < k = omega arith in
     let was : c.loop-i.unsplit.me.0 ≡ fresh_view r c.loop-i.i k = ap (λ (m : Me (Slot g.row.F.Denot) View). m.0) inv.seat in
     let split = c.split_seat-seat.ensures in
-    let right : c.split_seat-seat.result.me.0 ≡ session_view r Idle most_calls [] c.loop-i.i [] = right_is r c.loop-i.i k c.loop-i.unsplit.me.0 c.split_seat-seat.result.me.0 some_left was (ap (λ (m : Me (Slot g.row.F.Denot) View). m.0) split.4) in
+    let right : c.split_seat-seat.result.me.0 ≡ session_view r Idle max_calls [] c.loop-i.i [] = right_is r c.loop-i.i k c.loop-i.unsplit.me.0 c.split_seat-seat.result.me.0 some_left was (ap (λ (m : Me (Slot g.row.F.Denot) View). m.0) split.4) in
     let none_held = ap (λ (m : Me (Slot g.row.F.Denot) View). m.1) split.4 in
     let start_is : start_of c.split_seat-seat.result.me.0 ≡ r = ap start_of right in
-    λ κs within. λ j. ((right ∙ ap (λ (z : Machine). session_view z Idle most_calls [] c.loop-i.i []) (sym start_is)) j, none_held j)
+    λ κs within. λ j. ((right ∙ ap (λ (z : Machine). session_view z Idle max_calls [] c.loop-i.i []) (sym start_is)) j, none_held j)

@@ -2,7 +2,7 @@ use Rattle.std.proofs.Common.{◌≡◌, ◌∙◌, length, rules, sym, subst, a
 use Rattle.atomic_table.specs.Table.{opening}
 use Rattle.requests.specs.Machine.{Machine}
 use Rattle.host_lock.specs.History.{history}
-use Rattle.host_lock.specs.Rule.{IsKept, opening_view, fresh_view}
+use Rattle.host_lock.specs.Rule.{SharedInvariant, opening_view, fresh_view}
 use Rattle.host_lock.specs.declared.view.Slot.{Slot}
 use Rattle.host_lock.specs.declared.view.Slot.TheVariants.{There}
 use Rattle.host_lock.proofs.Turns.{opens}
@@ -12,7 +12,7 @@ pub new-requires : goal.new-requires
 new-requires g c =
     let h = c.of.result.value in
     let items : c.push_reserved.new.self.items ≡ There (history h []) ∷ [] = search rules in
-    subst (λ (xs : List (Slot g.row.F.Denot)). IsKept h c.args.sessions (opening (0 ∷ 0 ∷ 0 ∷ []) xs (opening_view h c.args.sessions))) (sym items) (opens h c.args.sessions (omega arith))
+    subst (λ (xs : List (Slot g.row.F.Denot)). SharedInvariant h c.args.sessions (opening (0 ∷ 0 ∷ 0 ∷ []) xs (opening_view h c.args.sessions))) (sym items) (opens h c.args.sessions (omega arith))
 
 pub returns-in-Ok-clause-table : goal.returns-in-Ok-clause-table
 returns-in-Ok-clause-table g c =

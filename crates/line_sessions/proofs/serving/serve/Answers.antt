@@ -1,5 +1,5 @@
 use Rattle.std.proofs.Common.{ap}
-use Rattle.line_sessions.specs.declared.fault.ServeFault.TheVariants.{Memory}
+use Rattle.line_sessions.specs.declared.fault.ServeError.TheVariants.{Memory}
 use Rattle.line_sessions.proofs.AnswerLemmas.{serves_by, serves_from}
 use Rattle.line_sessions.proofs.TalkLemmas.{begins_not}
 use Rattle.line_sessions.proofs.serving.serve.Goals as goal

@@ -6,29 +6,29 @@ use Rattle.proc_table.proofs.Firsts.{member_slot, passing-first, passing-none, p
 use Rattle.proc_table.proofs.links.first_slot.Goals as goal
 
 pub loop-link-init : goal.loop-link-init
-loop-link-init g c = rw c.links_of-link.ensures (passing-first (get c.args.nodes.now) c.args.kin c.args.chief (FnReturnsAt g.F.Fn c.args.test) c.requires.linked c.args.head c.index.result.now c.index.ensures (rw c.index.ensures at c.requires.there))
+loop-link-init g c = rw c.links_of-link.ensures (passing-first (get c.args.nodes.now) c.args.kin c.args.list_owner (FnReturnsAt g.F.Fn c.args.test) c.requires.linked c.args.head c.index.result.now c.index.ensures (rw c.index.ensures at c.requires.there))
 
 pub index-slot-requires : goal.index-slot-requires
 index-slot-requires g c =
     let walk = rw c.in-Some.is at c.loop-link.invariant in
-    let there = member_slot (get c.args.nodes.now) c.args.kin c.args.chief c.in-Some.at walk.next.0 walk.next.1 in
+    let there = member_slot (get c.args.nodes.now) c.args.kin c.args.list_owner c.in-Some.at walk.next.0 walk.next.1 in
     ap is_some there.1
 
 pub returns-then-test : goal.returns-then-test
 returns-then-test g c =
-    passing-found (get c.args.nodes.now) c.args.kin c.args.chief (FnReturnsAt g.F.Fn c.args.test) c.requires.linked c.loop-link.passed c.in-Some.at c.index-slot.result.now c.index-slot.ensures
+    passing-found (get c.args.nodes.now) c.args.kin c.args.list_owner (FnReturnsAt g.F.Fn c.args.test) c.requires.linked c.loop-link.passed c.in-Some.at c.index-slot.result.now c.index-slot.ensures
     (rw c.in-Some.is at c.loop-link.invariant) (says_at g.F.Fn c.test.ensures c.if-test.true)
 
 pub loop-link-smaller : goal.loop-link-smaller
 loop-link-smaller g c =
-    let above = passing-above (get c.args.nodes.now) c.args.kin c.args.chief (FnReturnsAt g.F.Fn c.args.test) c.requires.linked c.loop-link.passed c.in-Some.at c.index-slot.result.now c.index-slot.ensures (rw c.in-Some.is at c.loop-link.invariant) in
+    let above = passing-above (get c.args.nodes.now) c.args.kin c.args.list_owner (FnReturnsAt g.F.Fn c.args.test) c.requires.linked c.loop-link.passed c.in-Some.at c.index-slot.result.now c.index-slot.ensures (rw c.in-Some.is at c.loop-link.invariant) in
     omega (arith, above, c.get-passed.ensures.number, c.get-passed.ensures.below)
 
 pub loop-link-preserved : goal.loop-link-preserved
 loop-link-preserved g c =
     rw (c.get-passed.ensures.number, c.links_of-link-in-Some.ensures)
-    (passing-on (get c.args.nodes.now) c.args.kin c.args.chief (FnReturnsAt g.F.Fn c.args.test) c.requires.linked c.loop-link.passed c.in-Some.at c.index-slot.result.now c.index-slot.ensures
+    (passing-on (get c.args.nodes.now) c.args.kin c.args.list_owner (FnReturnsAt g.F.Fn c.args.test) c.requires.linked c.loop-link.passed c.in-Some.at c.index-slot.result.now c.index-slot.ensures
     (rw c.in-Some.is at c.loop-link.invariant) (says_at g.F.Fn c.test.ensures c.if-test.false))
 
 pub returns : goal.returns
-returns g c = passing-none (get c.args.nodes.now) c.args.kin c.args.chief (FnReturnsAt g.F.Fn c.args.test) c.requires.linked c.loop-link.passed (rw c.in_default.is at c.loop-link.invariant)
+returns g c = passing-none (get c.args.nodes.now) c.args.kin c.args.list_owner (FnReturnsAt g.F.Fn c.args.test) c.requires.linked c.loop-link.passed (rw c.in_default.is at c.loop-link.invariant)

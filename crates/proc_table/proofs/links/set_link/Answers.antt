@@ -1,5 +1,5 @@
 use Rattle.slab.specs.Slab.{get}
-use Rattle.proc_table.proofs.Lanes.{put-first, put-next}
+use Rattle.proc_table.proofs.ListNodes.{put-first, put-next}
 use Rattle.proc_table.proofs.links.set_link.Goals as goal
 
 pub returns-in-None-clause-here : goal.returns-in-None-clause-here

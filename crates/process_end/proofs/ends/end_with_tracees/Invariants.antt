@@ -1,5 +1,5 @@
 use Rattle.std.proofs.Common.{◌≡◌, true, count_by}
-use Rattle.trace_stop.proofs.Words.{is_live, end, IsSound, is_live_at}
+use Rattle.trace_stop.proofs.CommonNames.{is_live, end, IsSound, is_live_at}
 use Rattle.process_end.specs.Descent.{kills, EndsToo}
 use Rattle.process_end.proofs.ends.end_with_tracees.Given as goal
 

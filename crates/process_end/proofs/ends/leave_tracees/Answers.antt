@@ -1,5 +1,5 @@
 use Rattle.std.proofs.Common.{◌≡◌, true, rules, sym, subst, ap, ◌∙◌}
-use Rattle.trace_stop.proofs.Words.{left_alone, is_live_at}
+use Rattle.trace_stop.proofs.CommonNames.{left_alone, is_live_at}
 use Rattle.process_end.specs.Descent.{spares}
 use Rattle.process_end.proofs.LeftAlone.{is_tracee, left_none, left_same, left_fewer, left_lives}
 use Rattle.process_end.proofs.ends.leave_tracees.Goals as goal

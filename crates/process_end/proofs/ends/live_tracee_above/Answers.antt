@@ -1,5 +1,5 @@
 use Rattle.std.proofs.Common.{◌≡◌, true, Some, rules}
-use Rattle.trace_stop.proofs.Words.{is_live, next_tracee}
+use Rattle.trace_stop.proofs.CommonNames.{is_live, next_tracee}
 use Rattle.process_end.proofs.Descents.{none_at_first, walk_found, walk_over, walk_more, walk_none}
 use Rattle.process_end.proofs.ends.live_tracee_above.Goals as goal
 

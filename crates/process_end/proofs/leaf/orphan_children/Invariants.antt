@@ -1,5 +1,5 @@
 use Rattle.std.proofs.Common.{◌≡◌, ℕ, false, count_by, ◌==◌}
-use Rattle.trace_stop.proofs.Words.{list_any, traces}
+use Rattle.trace_stop.proofs.CommonNames.{list_any, traces}
 use Rattle.process_end.specs.Laws.{end_alone}
 use Rattle.process_end.specs.Leaving.{IsLeaving}
 use Rattle.process_end.proofs.leaf.orphan_children.Given as goal

@@ -1,5 +1,5 @@
 use Rattle.std.proofs.Common.{rules, ◌==◌}
-use Rattle.trace_stop.proofs.Words.{released}
+use Rattle.trace_stop.proofs.CommonNames.{released}
 use Rattle.process_end.proofs.LwpEdits.{released-tid, released-pid}
 use Rattle.process_end.proofs.leaf.release.Goals as goal
 

@@ -1,7 +1,7 @@
 use Rattle.std.proofs.Common.{◌≡◌, true, false, eqb, eqb-true, sym, ap, ◌∙◌, subst}
-use Rattle.trace_stop.proofs.Words.{SIGKILL, IsSound, end, post}
+use Rattle.trace_stop.proofs.CommonNames.{SIGKILL, IsSound, end, post}
 use Rattle.trace_stop.proofs.Found.{live_row, listed}
-use Rattle.trace_stop.proofs.Posts.{post_sound}
+use Rattle.trace_stop.proofs.SoundAfterPost.{post_sound}
 use Rattle.process_end.proofs.posting.post_to.Goals as goal
 
 pub post_other-requires : goal.post_other-requires

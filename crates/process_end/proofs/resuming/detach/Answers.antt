@@ -1,8 +1,8 @@
 use Rattle.std.proofs.Common.{◌≡◌, true, false, sym, ap, ◌∙◌, refl, rules}
-use Rattle.trace_stop.proofs.Words.{process_of, is_numbered, end, running, resumed, detached, ends_process}
+use Rattle.trace_stop.proofs.CommonNames.{process_of, is_numbered, end, running, resumed, detached, ends_process}
 use Rattle.trace_stop.proofs.Found.{live_found}
-use Rattle.trace_stop.proofs.Stopped.{stopped_row, stopped_live}
-use Rattle.trace_stop.proofs.Detached.{resumed_sound, resumed_row}
+use Rattle.trace_stop.proofs.StoppedByOwnLwp.{stopped_row, stopped_live}
+use Rattle.trace_stop.proofs.SoundAfterDetach.{resumed_sound, resumed_row}
 use Rattle.process_end.proofs.resuming.detach.Goals as goal
 
 pub ends-requires : goal.ends-requires

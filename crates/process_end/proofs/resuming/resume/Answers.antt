@@ -1,8 +1,8 @@
 use Rattle.std.proofs.Common.{◌≡◌, true, false, sym, ap, ◌∙◌, refl}
-use Rattle.trace_stop.proofs.Words.{process_of, end, running, resumed, ends_process}
+use Rattle.trace_stop.proofs.CommonNames.{process_of, end, running, resumed, ends_process}
 use Rattle.trace_stop.proofs.Found.{live_found}
-use Rattle.trace_stop.proofs.Stopped.{stopped_row, stopped_live}
-use Rattle.trace_stop.proofs.Detached.{resumed_sound, resumed_row}
+use Rattle.trace_stop.proofs.StoppedByOwnLwp.{stopped_row, stopped_live}
+use Rattle.trace_stop.proofs.SoundAfterDetach.{resumed_sound, resumed_row}
 use Rattle.process_end.proofs.resuming.resume.Goals as goal
 
 pub ends-ends-requires : goal.ends-ends-requires

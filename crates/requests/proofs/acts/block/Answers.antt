@@ -1,4 +1,4 @@
-use Rattle.requests.proofs.Names.{sym, refl, ap, ◌∙◌, maskable, set_lwp, change_lwp-at}
+use Rattle.requests.proofs.CommonNames.{sym, refl, ap, ◌∙◌, maskable, set_lwp, change_lwp-at}
 use Rattle.requests.proofs.acts.block.Goals as goal
 
 pub returns : goal.returns

@@ -1,4 +1,4 @@
-use Rattle.requests.proofs.Names.{false, sym, refl, subst, HasLwp}
+use Rattle.requests.proofs.CommonNames.{false, sym, refl, subst, HasLwp}
 use Rattle.requests.proofs.Actors.{acting_has, has-lwp_changed}
 use Rattle.requests.proofs.acts.compute.Goals as goal
 

@@ -1,4 +1,4 @@
-use Rattle.requests.proofs.Names.{rules, ◌≡◌, ℕ, ◌≤◌, Some, refl, sym, ap, ◌∙◌, le-leb, LwpData, ProcData, Rows, Settings, post, raises}
+use Rattle.requests.proofs.CommonNames.{rules, ◌≡◌, ℕ, ◌≤◌, Some, refl, sym, ap, ◌∙◌, le-leb, LwpData, ProcData, Rows, Settings, post, raises}
 use Rattle.requests.proofs.Actors.{runs_live}
 use Rattle.requests.proofs.acts.raise.Goals as goal
 

@@ -1,4 +1,4 @@
-use Rattle.requests.proofs.Names.{false, sym, refl, ◌∙◌, change_lwp-at}
+use Rattle.requests.proofs.CommonNames.{false, sym, refl, ◌∙◌, change_lwp-at}
 use Rattle.requests.proofs.acts.stop_stepping.Goals as goal
 
 pub returns : goal.returns

@@ -1,4 +1,4 @@
-use Rattle.requests.proofs.Names.{rules, sym, ap, ◌∙◌, refl, named-same}
+use Rattle.requests.proofs.CommonNames.{rules, sym, ap, ◌∙◌, refl, named-same}
 use Rattle.requests.proofs.Disposing.{row_there, disposed_rows}
 use Rattle.requests.proofs.calls.sigaction.Goals as goal
 

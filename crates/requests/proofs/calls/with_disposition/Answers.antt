@@ -1,4 +1,4 @@
-use Rattle.requests.proofs.Names.{rules, cases_Bool}
+use Rattle.requests.proofs.CommonNames.{rules, cases_Bool}
 use Rattle.requests.proofs.Disposing.{refused_is}
 use Rattle.requests.proofs.calls.with_disposition.Goals as goal
 

@@ -1,4 +1,4 @@
-use Rattle.requests.proofs.Names.{◌≡◌, SIGKILL, arith, refl, ap, ◌∙◌, PTRACE_SCE, PTRACE_SCX, mask_with}
+use Rattle.requests.proofs.CommonNames.{◌≡◌, SIGKILL, arith, refl, ap, ◌∙◌, PTRACE_SCE, PTRACE_SCX, mask_with}
 use Rattle.requests.proofs.Tracees.{continue_as, kill_as, few_own, gives_as, given}
 use Rattle.requests.proofs.commands.command.Goals as goal
 

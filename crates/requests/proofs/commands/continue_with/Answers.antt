@@ -1,4 +1,4 @@
-use Rattle.requests.proofs.Names.{rules, not_stepping, set_mask, resume, Reply}
+use Rattle.requests.proofs.CommonNames.{rules, not_stepping, set_mask, resume, Reply}
 use Rattle.requests.proofs.Tracees.{signalled, is_tracee, masked_ready}
 use Rattle.requests.proofs.commands.continue_with.Goals as goal
 

@@ -1,4 +1,4 @@
-use Rattle.requests.proofs.Names.{rules, refl, detach, Reply}
+use Rattle.requests.proofs.CommonNames.{rules, refl, detach, Reply}
 use Rattle.requests.proofs.Tracees.{is_stopped, signalled}
 use Rattle.requests.proofs.commands.detach_with.Goals as goal
 

@@ -1,4 +1,4 @@
-use Rattle.requests.proofs.Names.{◌≡◌, sym, ◌∙◌, subst, rules, IsSomeAnd, lwp_of}
+use Rattle.requests.proofs.CommonNames.{◌≡◌, sym, ◌∙◌, subst, rules, IsSomeAnd, lwp_of}
 use Rattle.requests.proofs.Asked.{target_within, named_own, reporting_own, asks_tracee}
 use Rattle.requests.proofs.commands.ptrace.Goals as goal
 

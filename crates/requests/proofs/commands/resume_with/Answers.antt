@@ -1,4 +1,4 @@
-use Rattle.requests.proofs.Names.{rules, refl, resume, Reply}
+use Rattle.requests.proofs.CommonNames.{rules, refl, resume, Reply}
 use Rattle.requests.proofs.Tracees.{is_stopped, signalled}
 use Rattle.requests.proofs.commands.resume_with.Goals as goal
 

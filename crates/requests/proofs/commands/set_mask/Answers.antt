@@ -1,4 +1,4 @@
-use Rattle.requests.proofs.Names.{refl, sym, ◌∙◌, change_process-at, named-same}
+use Rattle.requests.proofs.CommonNames.{refl, sym, ◌∙◌, change_process-at, named-same}
 use Rattle.requests.proofs.commands.set_mask.Goals as goal
 
 pub set_process-requires-clause-named : goal.set_process-requires-clause-named

@@ -1,4 +1,4 @@
-use Rattle.requests.proofs.Names.{true, refl, sym, ◌∙◌}
+use Rattle.requests.proofs.CommonNames.{true, refl, sym, ◌∙◌}
 use Rattle.requests.proofs.Tracees.{lwp_may_change, lwp_changed}
 use Rattle.requests.proofs.commands.set_stepping.Goals as goal
 

@@ -1,4 +1,4 @@
-use Rattle.requests.proofs.Names.{stepping, rules, resume, Reply}
+use Rattle.requests.proofs.CommonNames.{stepping, rules, resume, Reply}
 use Rattle.requests.proofs.Tracees.{signalled, is_tracee, own_lwp, still_there, stepping_ready}
 use Rattle.requests.proofs.commands.step.Goals as goal
 

@@ -1,4 +1,4 @@
-use Rattle.requests.proofs.Names.{rules, refl, sym, ◌∙◌}
+use Rattle.requests.proofs.CommonNames.{rules, refl, sym, ◌∙◌}
 use Rattle.requests.proofs.Tracees.{lwp_may_change, lwp_changed}
 use Rattle.requests.proofs.commands.suspend.Goals as goal
 

@@ -1,4 +1,4 @@
-use Rattle.requests.proofs.Names.{rules, ap, ◌∙◌, set_mask, switched}
+use Rattle.requests.proofs.CommonNames.{rules, ap, ◌∙◌, set_mask, switched}
 use Rattle.requests.proofs.Tracees.{set_mask_as}
 use Rattle.requests.proofs.commands.switch.Goals as goal
 

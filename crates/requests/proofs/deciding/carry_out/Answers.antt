@@ -1,4 +1,4 @@
-use Rattle.requests.proofs.Names.{rules}
+use Rattle.requests.proofs.CommonNames.{rules}
 use Rattle.requests.proofs.Tracees.{kill_as}
 use Rattle.requests.proofs.Handled.{continued, detached}
 use Rattle.requests.proofs.deciding.carry_out.Goals as goal

@@ -1,4 +1,4 @@
-use Rattle.requests.proofs.Names.{◌≡◌, Some, is_some, refl, sym, ap, ◌∙◌, after_exec, set_process, process_of, process_of-pid, change_process-at, has_row, process_there, named-same}
+use Rattle.requests.proofs.CommonNames.{◌≡◌, Some, is_some, refl, sym, ap, ◌∙◌, after_exec, set_process, process_of, process_of-pid, change_process-at, has_row, process_there, named-same}
 use Rattle.requests.proofs.Actors.{row_itself}
 use Rattle.requests.proofs.execve.drop_handlers.Goals as goal
 

@@ -1,4 +1,4 @@
-use Rattle.requests.proofs.Names.{◌<◌, length, is_some, sym, ap, ◌∙◌, rules, subst, Rows}
+use Rattle.requests.proofs.CommonNames.{◌<◌, length, is_some, sym, ap, ◌∙◌, rules, subst, Rows}
 use Rattle.requests.proofs.Programs.{other_there, other_dropped, other_left, others_none, less_without}
 use Rattle.requests.proofs.execve.keep_lwp.Goals as goal
 

@@ -1,4 +1,4 @@
-use Rattle.requests.proofs.Names.{◌≡◌, length, HasLwp}
+use Rattle.requests.proofs.CommonNames.{◌≡◌, length, HasLwp}
 use Rattle.requests.specs.Programs.{only_lwp}
 use Rattle.requests.proofs.execve.keep_lwp.Given as goal
 

@@ -1,4 +1,4 @@
-use Rattle.requests.proofs.Names.{rules, eqb-true}
+use Rattle.requests.proofs.CommonNames.{rules, eqb-true}
 use Rattle.requests.proofs.Programs.{other_none, other_first, other_next}
 use Rattle.requests.proofs.execve.other_lwp.Goals as goal
 

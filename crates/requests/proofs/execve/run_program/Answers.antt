@@ -1,4 +1,4 @@
-use Rattle.requests.proofs.Names.{process_of, rules}
+use Rattle.requests.proofs.CommonNames.{process_of, rules}
 use Rattle.requests.proofs.Actors.{acting_has, has-settled}
 use Rattle.requests.proofs.Programs.{exec_done, has-dropped}
 use Rattle.requests.proofs.execve.run_program.Goals as goal

@@ -1,4 +1,4 @@
-use Rattle.requests.proofs.Names.{rules}
+use Rattle.requests.proofs.CommonNames.{rules}
 use Rattle.requests.proofs.Living.{live_found, live_none}
 use Rattle.requests.proofs.handlers.is_live.Goals as goal
 

@@ -1,4 +1,4 @@
-use Rattle.requests.proofs.Refusing as the
+use Rattle.requests.proofs.RefusalsChangeNothing as the
 use Rattle.requests.proofs.laws.a_list_changes_nothing.Goals as goal
 
 pub returns : goal.returns

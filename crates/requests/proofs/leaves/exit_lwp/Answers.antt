@@ -1,4 +1,4 @@
-use Rattle.requests.proofs.Names.{◌≡◌, false, ◌&&◌, leb, is_some, refl, rules, nat_tests, asks, PTRACE_LWP, LwpData, ProcData, Rows, remove_lwp, lwp_count, remove_lwp-is, Settings, exits_lwp}
+use Rattle.requests.proofs.CommonNames.{◌≡◌, false, ◌&&◌, leb, is_some, refl, rules, nat_tests, asks, PTRACE_LWP, LwpData, ProcData, Rows, remove_lwp, lwp_count, remove_lwp-is, Settings, exits_lwp}
 use Rattle.requests.proofs.Actors.{acting_has}
 use Rattle.requests.proofs.leaves.exit_lwp.Goals as goal
 

@@ -1,5 +1,5 @@
 use Rattle.requests.proofs.Actors.{acting_has, owns_itself, has-lwp_added}
-use Rattle.requests.proofs.Names.{rules}
+use Rattle.requests.proofs.CommonNames.{rules}
 use Rattle.requests.proofs.leaves.make_lwp.Goals as goal
 
 pub add_lwp-requires-clause-owner : goal.add_lwp-requires-clause-owner

@@ -1,10 +1,10 @@
-use Rattle.requests.proofs.Names.{◌≡◌, ◌<◌, rules, arith, ap, ◌∙◌, Some, None, ◌==◌}
+use Rattle.requests.proofs.CommonNames.{◌≡◌, ◌<◌, rules, arith, ap, ◌∙◌, Some, None, ◌==◌}
 use Rattle.proc_table.specs.Walks.{next_of}
 use Rattle.requests.proofs.Walk.{pids, above_first, listed_next, listed_all, next_over}
 use Rattle.requests.proofs.lists.pids_of.Goals as goal
 
 pub loop-p-init : goal.loop-p-init
-loop-p-init c = record { below = omega arith; listed = rw c.in_ok-pids.ensures.items (ap pids (above_first (λ p. p.uid == c.args.user) c.args.tables.now.rows.processes c.process_count.ensures.kept.homes)) }
+loop-p-init c = record { below = omega arith; listed = rw c.in_ok-pids.ensures.items (ap pids (above_first (λ p. p.uid == c.args.user) c.args.tables.now.rows.processes c.process_count.ensures.kept.in_own_blocks)) }
 
 pub loop-p-smaller : goal.loop-p-smaller
 loop-p-smaller c =

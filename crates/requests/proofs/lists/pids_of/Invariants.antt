@@ -1,4 +1,4 @@
-use Rattle.requests.proofs.Names.{◌≡◌, ◌++◌, ◌-◌, ◌<◌, ◌==◌, of_user}
+use Rattle.requests.proofs.CommonNames.{◌≡◌, ◌++◌, ◌-◌, ◌<◌, ◌==◌, of_user}
 use Rattle.requests.proofs.Walk.{above, pids}
 use Rattle.requests.proofs.lists.pids_of.Given as goal
 

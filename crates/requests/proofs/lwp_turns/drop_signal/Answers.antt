@@ -1,4 +1,4 @@
-use Rattle.requests.proofs.Names.{◌≡◌, true, false, refl, sym, ap, ◌∙◌, rules, has, without, bit, set_process, set_lwp, change_process-at, change_lwp-at, process_there, named-same, lwp_there}
+use Rattle.requests.proofs.CommonNames.{◌≡◌, true, false, refl, sym, ap, ◌∙◌, rules, has, without, bit, set_process, set_lwp, change_process-at, change_lwp-at, process_there, named-same, lwp_there}
 use Rattle.requests.proofs.lwp_turns.drop_signal.Goals as goal
 
 pub set_lwp-requires : goal.set_lwp-requires

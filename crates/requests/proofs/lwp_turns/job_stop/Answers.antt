@@ -1,4 +1,4 @@
-use Rattle.requests.proofs.Names.{rules, ◌≡◌, [], ◌∷◌, false, Some, is_some, refl, sym, ap, ◌∙◌, process_of, process_of-pid, change_process-at, has_row, process_there, named-same, notified, State}
+use Rattle.requests.proofs.CommonNames.{rules, ◌≡◌, [], ◌∷◌, false, Some, is_some, refl, sym, ap, ◌∙◌, process_of, process_of-pid, change_process-at, has_row, process_there, named-same, notified, State}
 use Rattle.requests.proofs.Actors.{row_itself}
 use Rattle.requests.proofs.lwp_turns.job_stop.Goals as goal
 
@@ -21,4 +21,4 @@ returns c =
     let pid = c.args.p.now.pid in
     let row = c.unwrap-row.result in
     let at : process_of pid rows.processes ≡ Some row = sym c.process.ensures.row ∙ c.unwrap-row.ensures in
-    record { rows = c.notify.ensures.rows ∙ ap (notified (c.args.p.now.parent ∷ [])) (c.set_process.ensures.rows ∙ sym (change_process-at pid (λ q. record q { state = State.Job c.args.signal false; continued = false }) rows row c.process.ensures.kept.rising at (process_of-pid pid row rows.processes at))); reply = search rules }
+    record { rows = c.post_sigchld.ensures.rows ∙ ap (notified (c.args.p.now.parent ∷ [])) (c.set_process.ensures.rows ∙ sym (change_process-at pid (λ q. record q { state = State.Job c.args.signal false; continued = false }) rows row c.process.ensures.kept.rising at (process_of-pid pid row rows.processes at))); reply = search rules }

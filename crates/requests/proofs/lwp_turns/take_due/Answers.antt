@@ -1,9 +1,9 @@
-use Rattle.requests.proofs.Names.{◌≡◌, refl, sym, ◌∙◌, subst, rules, LwpData, ProcData, Rows, change_lwp, IsKept, set_lwp, change_lwp-at, lwp_there, IsActing, HasLwp, Due}
+use Rattle.requests.proofs.CommonNames.{◌≡◌, refl, sym, ◌∙◌, subst, rules, LwpData, ProcData, Rows, change_lwp, TableInvariant, set_lwp, change_lwp-at, lwp_there, IsActing, HasLwp, Due}
 use Rattle.requests.proofs.Actors.{acting_has, has-lwp_changed}
 use Rattle.requests.proofs.lwp_turns.take_due.Goals as goal
 
 -- the due stop is gone
-gone : (p : ProcData) (l : LwpData) (rows rows' : Rows) → IsKept rows → IsActing p l rows → rows' ≡ set_lwp (record l { due = Due.Nothing }) rows → rows' ≡ change_lwp l.tid (λ k. record k { due = Due.Nothing }) rows
+gone : (p : ProcData) (l : LwpData) (rows rows' : Rows) → TableInvariant rows → IsActing p l rows → rows' ≡ set_lwp (record l { due = Due.Nothing }) rows → rows' ≡ change_lwp l.tid (λ k. record k { due = Due.Nothing }) rows
 gone p l rows rows' kept a set = set ∙ sym (change_lwp-at l.tid (λ k. record k { due = Due.Nothing }) rows l kept.differ a.lwp refl)
 
 pub set_lwp-requires : goal.set_lwp-requires

@@ -1,5 +1,5 @@
-use Rattle.requests.proofs.Names.{◌≡◌, true, sym, subst, IsSound, is_live_at, HasLwp}
-use Rattle.requests.proofs.Signals.{taken_alike}
+use Rattle.requests.proofs.CommonNames.{◌≡◌, true, sym, subst, IsSound, is_live_at, HasLwp}
+use Rattle.requests.proofs.SoundAfterSignal.{taken_alike}
 use Rattle.requests.proofs.Actors.{acting_from, taken_there, taken_live}
 use Rattle.requests.proofs.lwp_turns.take_signal.Goals as goal
 

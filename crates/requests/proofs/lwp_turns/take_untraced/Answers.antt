@@ -1,4 +1,4 @@
-use Rattle.requests.proofs.Names.{rules, ◌≡◌, ℕ, refl, sym, ap, ◌∙◌, disposition_of, default_action, LwpData, ProcData, Rows, Settings, end, takes_untraced, Action, Disposition}
+use Rattle.requests.proofs.CommonNames.{rules, ◌≡◌, ℕ, refl, sym, ap, ◌∙◌, disposition_of, default_action, LwpData, ProcData, Rows, Settings, end, takes_untraced, Action, Disposition}
 use Rattle.trace_stop.proofs.Found.{listed}
 use Rattle.requests.proofs.lwp_turns.take_untraced.Goals as goal
 

@@ -1,4 +1,4 @@
-use Rattle.requests.proofs.Names.{sym, ◌∙◌}
+use Rattle.requests.proofs.CommonNames.{sym, ◌∙◌}
 use Rattle.requests.proofs.Actors.{acting_seen}
 use Rattle.requests.proofs.lwp_turns.turn.Goals as goal
 

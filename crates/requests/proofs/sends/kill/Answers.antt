@@ -1,4 +1,4 @@
-use Rattle.requests.proofs.Names.{pos, rules}
+use Rattle.requests.proofs.CommonNames.{pos, rules}
 use Rattle.std.proofs.Math.Facts.{to_z-of_z}
 use Rattle.requests.proofs.Sending.{nobody_reached}
 use Rattle.requests.proofs.sends.kill.Goals as goal

@@ -1,4 +1,4 @@
-use Rattle.requests.proofs.Names.{◌≡◌, None, sym, ap, ◌∙◌, rules, reached}
+use Rattle.requests.proofs.CommonNames.{◌≡◌, None, sym, ap, ◌∙◌, rules, reached}
 use Rattle.requests.proofs.Sending.{unseen_reached, seen_reached}
 use Rattle.requests.proofs.sends.kill_one.Goals as goal
 

@@ -1,4 +1,4 @@
-use Rattle.requests.proofs.Names.{ap, ◌∙◌, not, rules}
+use Rattle.requests.proofs.CommonNames.{ap, ◌∙◌, not, rules}
 use Rattle.requests.proofs.Sending.{no_number, reached_none, reached_others, rest_next, post_rest, left, next_smaller}
 use Rattle.requests.proofs.sends.kill_others.Goals as goal
 

@@ -1,4 +1,4 @@
-use Rattle.requests.proofs.Names.{◌≡◌, negsuc, IsSound, reach, reached, Reply}
+use Rattle.requests.proofs.CommonNames.{◌≡◌, negsuc, IsSound, reach, reached, Reply}
 use Rattle.requests.proofs.Sending.{post_rest, left}
 use Rattle.requests.proofs.sends.kill_others.Given as goal
 

@@ -1,4 +1,4 @@
-use Rattle.requests.proofs.Names.{eq-eqb, eqb-true, rules, some_is}
+use Rattle.requests.proofs.CommonNames.{eq-eqb, eqb-true, rules, some_is}
 use Rattle.requests.proofs.Others.{other_same, other_next}
 use Rattle.requests.proofs.sends.next_other.Goals as goal
 

@@ -1,4 +1,4 @@
-use Rattle.requests.proofs.Names.{None, sym, ap, ◌∙◌, post}
+use Rattle.requests.proofs.CommonNames.{None, sym, ap, ◌∙◌, post}
 use Rattle.requests.proofs.Sending.{passes_signal, live_posts, dead_posts}
 use Rattle.requests.proofs.sends.post_if_live.Goals as goal
 

@@ -1,4 +1,4 @@
-use Rattle.requests.proofs.Names.{◌≡◌, Some, sym, refl, ◌∙◌, subst, lwp_of, lwp_of-tid, change_lwp-at, HasLwp, in_mode}
+use Rattle.requests.proofs.CommonNames.{◌≡◌, Some, sym, refl, ◌∙◌, subst, lwp_of, lwp_of-tid, change_lwp-at, HasLwp, in_mode}
 use Rattle.requests.proofs.Tracees.{lwp_may_change}
 use Rattle.requests.proofs.Actors.{has-lwp_changed}
 use Rattle.requests.proofs.stopping.set_mode.Goals as goal

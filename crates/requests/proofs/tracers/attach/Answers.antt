@@ -1,4 +1,4 @@
-use Rattle.requests.proofs.Names.{rules, found_row}
+use Rattle.requests.proofs.CommonNames.{rules, found_row}
 use Rattle.requests.proofs.Tracees.{row_changed}
 use Rattle.requests.proofs.tracers.attach.Goals as goal
 

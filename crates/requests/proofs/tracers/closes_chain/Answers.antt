@@ -1,4 +1,4 @@
-use Rattle.requests.proofs.Names.{◌≡◌, ◌-◌, ◌+◌, ◌<◌, false, arith, sym, ap, ◌∙◌, rules, meets}
+use Rattle.requests.proofs.CommonNames.{◌≡◌, ◌-◌, ◌+◌, ◌<◌, false, arith, sym, ap, ◌∙◌, rules, meets}
 use Rattle.std.specs.Prelude.{◌==◌}
 use Rattle.requests.proofs.Links.{meets-none, meets-here, meets-next, meets-over}
 use Rattle.requests.proofs.tracers.closes_chain.Goals as goal

@@ -1,4 +1,4 @@
-use Rattle.requests.proofs.Names.{◌≡◌, ◌-◌, meets}
+use Rattle.requests.proofs.CommonNames.{◌≡◌, ◌-◌, meets}
 use Rattle.requests.proofs.tracers.closes_chain.Given as goal
 
 -- what is left of the links gives the answer of the whole

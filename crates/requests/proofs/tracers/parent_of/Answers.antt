@@ -1,4 +1,4 @@
-use Rattle.requests.proofs.Names.{◌≡◌, Some, None, arith, sym, ◌∙◌, nat_eq, rules, nat_tests, process_of, Named, every_found, process_of-pid, found_row, row_found}
+use Rattle.requests.proofs.CommonNames.{◌≡◌, Some, None, arith, sym, ◌∙◌, nat_eq, rules, nat_tests, process_of, Named, every_found, process_of-pid, found_row, row_found}
 use Rattle.requests.proofs.tracers.parent_of.Goals as goal
 
 pub returns-in-Some : goal.returns-in-Some

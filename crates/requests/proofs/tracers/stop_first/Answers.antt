@@ -1,4 +1,4 @@
-use Rattle.requests.proofs.Names.{IfSome}
+use Rattle.requests.proofs.CommonNames.{IfSome}
 use Rattle.proc_table.proofs.LwpWalk.{IsLwp, first-found}
 use Rattle.requests.proofs.tracers.stop_first.Goals as goal
 

@@ -1,4 +1,4 @@
-use Rattle.requests.proofs.Names.{sym, ap, ◌∙◌, refl, rules, set_process, every_found, change_process-at, traced_by}
+use Rattle.requests.proofs.CommonNames.{sym, ap, ◌∙◌, refl, rules, set_process, every_found, change_process-at, traced_by}
 use Rattle.requests.proofs.tracers.trace.Goals as goal
 
 pub set_process-requires-clause-named : goal.set_process-requires-clause-named

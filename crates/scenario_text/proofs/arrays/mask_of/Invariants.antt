@@ -1,5 +1,5 @@
 use Rattle.std.proofs.Common.{◌≡◌, drop, Ok, fold}
-use Rattle.json_data.specs.Reading.{view, items_view}
+use Rattle.json_values.specs.Reading.{view, items_view}
 use Rattle.scenario_text.specs.Fields.{◌>>=◌, each, name_in}
 use Rattle.event_masks.specs.Reading.{events_named}
 use Rattle.event_masks.specs.Exits.{mask_with}

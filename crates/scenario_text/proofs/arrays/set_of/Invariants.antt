@@ -1,5 +1,5 @@
 use Rattle.std.proofs.Common.{◌≡◌, drop, Ok, fold}
-use Rattle.json_data.specs.Reading.{view, items_view}
+use Rattle.json_values.specs.Reading.{view, items_view}
 use Rattle.scenario_text.specs.Fields.{◌>>=◌, each}
 use Rattle.signals.specs.Sets.{with}
 use Rattle.scenario_text.specs.Arrays.{signal_of, set_of}

@@ -5,8 +5,8 @@ use Rattle.json.specs.Reads.{token_of}
 use Rattle.json.specs.Value.{value_view}
 use Rattle.json.proofs.Grammar.{read_key-shorter}
 use Rattle.serde_json.specs.Read.{of_json, converted}
-use Rattle.json_data.specs.Reading.{view, object_view}
-use Rattle.json_data.proofs.Lookups.{members_of-push}
+use Rattle.json_values.specs.Reading.{view, object_view}
+use Rattle.json_values.proofs.Lookups.{members_of-push}
 use Rattle.scenario_text.proofs.ObjectLemmas.{begins, goes_on, ends}
 use Rattle.scenario_text.proofs.members.read_members.Goals as goal
 

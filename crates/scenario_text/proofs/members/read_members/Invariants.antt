@@ -1,5 +1,5 @@
 use Rattle.std.proofs.Common.{length}
-use Rattle.json_data.specs.Reading.{members_of}
+use Rattle.json_values.specs.Reading.{members_of}
 use Rattle.scenario_text.proofs.ObjectLemmas.{HasMembers}
 use Rattle.scenario_text.proofs.members.read_members.Given as goal
 

@@ -4,8 +4,8 @@ use Rattle.scenario_text.specs.Scenarios.{StandsFor, too_long, no_value, value}
 use Rattle.scenario_text.proofs.Answering.{whole_stands}
 use Rattle.scenario_text.proofs.parsing.parse.Goals as goal
 
-pub returns-then-bytes-gt-MOST_BYTES-clause-stands : goal.returns-then-bytes-gt-MOST_BYTES-clause-stands
-returns-then-bytes-gt-MOST_BYTES-clause-stands c = too_long (omega arith)
+pub returns-then-bytes-gt-MAX_BYTES-clause-stands : goal.returns-then-bytes-gt-MAX_BYTES-clause-stands
+returns-then-bytes-gt-MAX_BYTES-clause-stands c = too_long (omega arith)
 
 pub returns-in_default-clause-stands : goal.returns-in_default-clause-stands
 returns-in_default-clause-stands c = no_value (omega arith) (search rules)

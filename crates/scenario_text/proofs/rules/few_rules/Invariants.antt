@@ -1,5 +1,5 @@
 use Rattle.std.proofs.Common.{◌≡◌, ◌++◌, ◌≤◌, length, take, drop, Ok}
-use Rattle.json_data.specs.Reading.{items_view}
+use Rattle.json_values.specs.Reading.{items_view}
 use Rattle.scenario_text.specs.Fields.{◌>>=◌, each}
 use Rattle.scenario_text.specs.Rules.{rule_of}
 use Rattle.scenario_text.proofs.rules.few_rules.Given as goal

@@ -1,6 +1,6 @@
 use Rattle.std.proofs.Common.{◌≡◌, ◌+◌, ◌≤◌, ◌++◌, length, vec_len, vec_capacity}
 use Rattle.std.specs.Vec.Iter.{into_iter_items}
-use Rattle.host_lock.specs.Limits.{most_calls}
+use Rattle.host_lock.specs.Limits.{max_calls}
 use Rattle.sessions.specs.Made.{Did}
 use Rattle.sessions.proofs.worker.work.Given as goal
 
@@ -9,6 +9,6 @@ invariant-loop-step g l =
     let left = into_iter_items l.step-iterator in record {
       split : l.yielded ++ left ≡ l.fn.steps.items;
       did : Did l.fn.session l.yielded l.replies.items l.session;
-      few : length l.yielded + length left ≤ most_calls;
+      few : length l.yielded + length left ≤ max_calls;
       room : length left + vec_len l.replies ≤ vec_capacity l.replies;
     }

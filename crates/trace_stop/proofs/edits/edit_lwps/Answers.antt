@@ -1,5 +1,5 @@
 use Rattle.std.proofs.Common.{◌≡◌, refl, rules}
-use Rattle.trace_stop.proofs.Words.{LwpData, edited}
+use Rattle.trace_stop.proofs.CommonNames.{LwpData, edited}
 use Rattle.trace_stop.specs.declared.edits.Edit.{Edit}
 use Rattle.trace_stop.specs.declared.edits.Edit.TheVariants.{Settle, Post, ClearStepping, Detach}
 use Rattle.trace_stop.proofs.edits.edit_lwps.Goals as goal

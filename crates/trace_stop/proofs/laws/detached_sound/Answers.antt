@@ -1,7 +1,7 @@
 use Rattle.std.proofs.Common.{◌≡◌, true, Some}
 use Rattle.proc_table.specs.Processes.{process_of, is_live}
 use Rattle.trace_stop.proofs.Every.{All-imply}
-use Rattle.trace_stop.proofs.Detached as law
+use Rattle.trace_stop.proofs.SoundAfterDetach as law
 use Rattle.trace_stop.proofs.Passes.{own_rows}
 use Rattle.trace_stop.proofs.laws.detached_sound.Goals as goal
 

@@ -1,5 +1,5 @@
 use Rattle.std.proofs.Common.{rules}
-use Rattle.trace_stop.proofs.Told.{notified-none}
+use Rattle.trace_stop.proofs.Notified.{notified-none}
 use Rattle.trace_stop.proofs.signaling.post_other.Goals as goal
 
 pub returns-in_default : goal.returns-in_default

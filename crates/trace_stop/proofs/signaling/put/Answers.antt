@@ -1,10 +1,10 @@
 use Rattle.std.proofs.Common.{◌≡◌, Some, sym, ap, ◌∙◌}
-use Rattle.trace_stop.proofs.Words.{ProcData, process_of, edited, posted_process, posted_lwp}
+use Rattle.trace_stop.proofs.CommonNames.{ProcData, process_of, edited, posted_process, posted_lwp}
 use Rattle.proc_table.proofs.Rows.{process_of-pid}
 use Rattle.proc_table.proofs.Changes.{change-done}
 use Rattle.proc_table.proofs.Stays.{named-same}
 use Rattle.trace_stop.proofs.Found.{row_there}
-use Rattle.trace_stop.proofs.Told.{posted_process-same}
+use Rattle.trace_stop.proofs.Notified.{posted_process-same}
 use Rattle.trace_stop.proofs.signaling.put.Goals as goal
 
 pub unwrap-p-requires : goal.unwrap-p-requires

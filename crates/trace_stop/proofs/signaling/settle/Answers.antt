@@ -1,5 +1,5 @@
 use Rattle.std.proofs.Common.{◌≡◌, Some, sym, ap, ◌∙◌, refl, subst}
-use Rattle.trace_stop.proofs.Words.{without, ProcData, process_of, edited, IsSound, settled_process, settled_lwp, settle}
+use Rattle.trace_stop.proofs.CommonNames.{without, ProcData, process_of, edited, IsSound, settled_process, settled_lwp, settle}
 use Rattle.proc_table.proofs.Rows.{process_of-pid}
 use Rattle.proc_table.proofs.Changes.{change-done}
 use Rattle.proc_table.proofs.Stays.{process_there, named-same}

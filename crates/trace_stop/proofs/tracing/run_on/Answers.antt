@@ -1,9 +1,9 @@
 use Rattle.std.proofs.Common.{◌≡◌, Some, sym, refl, rules}
-use Rattle.trace_stop.proofs.Words.{process_of, running}
+use Rattle.trace_stop.proofs.CommonNames.{process_of, running}
 use Rattle.proc_table.proofs.Stays.{process_there, named-same}
 use Rattle.trace_stop.proofs.Found.{row_there, own_row}
-use Rattle.trace_stop.proofs.Stopped.{reporter_there}
-use Rattle.trace_stop.proofs.Runs.{resumed-is}
+use Rattle.trace_stop.proofs.StoppedByOwnLwp.{reporter_there}
+use Rattle.trace_stop.proofs.RunOn.{resumed-is}
 use Rattle.trace_stop.proofs.tracing.run_on.Goals as goal
 
 pub unwrap-p-requires : goal.unwrap-p-requires

@@ -1,10 +1,10 @@
 use Rattle.std.proofs.Common.{◌≡◌, Some, None, [], ◌∷◌, sym, ap, ◌∙◌, refl, rules, subst, ℕ, false}
-use Rattle.trace_stop.proofs.Words.{lwp_of, process_of, set_process, set_lwp, IsKept, notified, IsSound, tracers, stop, LwpData, ProcData, Trace, Rows, change_process, change_lwp, tracer_in}
+use Rattle.trace_stop.proofs.CommonNames.{lwp_of, process_of, set_process, set_lwp, TableInvariant, notified, IsSound, tracers, stop, LwpData, ProcData, Trace, Rows, change_process, change_lwp, tracer_in}
 use Rattle.proc_table.proofs.Rows.{lwp_of-tid, process_of-pid}
 use Rattle.proc_table.proofs.Stays.{process_there, named-same, lwp_there}
 use Rattle.trace_stop.proofs.Found.{row_there, own_row}
-use Rattle.trace_stop.proofs.Told.{notified-none}
-use Rattle.trace_stop.proofs.Stops.{stopped_sound}
+use Rattle.trace_stop.proofs.Notified.{notified-none}
+use Rattle.trace_stop.proofs.SoundAfterStop.{stopped_sound}
 use Rattle.proc_table.proofs.Changes.{change_process-at, change_lwp-at}
 use Rattle.trace_stop.specs.declared.Shown.{Shown}
 use Rattle.trace_stop.proofs.tracing.stop.Goals as goal
@@ -17,7 +17,7 @@ stopped_by tid shown p = record p { state = Trace tid shown.sig false }
 abbrev showing : Shown → LwpData → LwpData
 showing shown l = record l { flags = shown.flags; child = shown.child; code = shown.code }
 
-stop-at : (pid tid : ℕ) (shown : Shown) (rows : Rows) (p : ProcData) (l : LwpData) → IsKept rows → process_of pid rows.processes ≡ Some p → lwp_of tid rows.lwps ≡ Some l
+stop-at : (pid tid : ℕ) (shown : Shown) (rows : Rows) (p : ProcData) (l : LwpData) → TableInvariant rows → process_of pid rows.processes ≡ Some p → lwp_of tid rows.lwps ≡ Some l
     → stop pid tid shown rows ≡ notified (tracers p.tracer) (set_lwp (showing shown l) (set_process (stopped_by tid shown p) rows))
 stop-at pid tid shown rows p l k at there =
     let shows = change_lwp-at tid (showing shown) rows l k.differ there (lwp_of-tid tid l rows.lwps there) in
@@ -52,8 +52,8 @@ returns-in-Some c =
     let there : lwp_of tid rows.lwps ≡ Some l = cc in
     let told : tracers p.tracer ≡ c.get.result ∷ [] = ap tracers c.in-Some.is ∙ ap (λ n. n ∷ []) (sym c.get.ensures.number) in
     let set = c.set_lwp.ensures.rows ∙ ap (set_lwp (showing shown l)) c.set_process.ensures.rows in
-    let done : c.notify.new.tables.rows ≡ stop pid tid shown rows =
-    c.notify.ensures.rows ∙ (ap (notified (c.get.result ∷ [])) set
+    let done : c.post_sigchld.new.tables.rows ≡ stop pid tid shown rows =
+    c.post_sigchld.ensures.rows ∙ (ap (notified (c.get.result ∷ [])) set
     ∙ (ap (λ ts. notified ts (set_lwp (showing shown l) (set_process (stopped_by tid shown p) rows))) (sym told) ∙ sym (stop-at pid tid shown rows p l c.process.ensures.kept at there))) in
     record { rows = done; sound = λ may. subst IsSound (sym done) (stopped_sound rows pid tid shown p l at there may) }
 

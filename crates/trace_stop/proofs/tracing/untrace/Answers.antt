@@ -1,13 +1,13 @@
 use Rattle.std.proofs.Common.{◌≡◌, Some, None, is_some, sym, ap, ◌∙◌, refl, subst, rules}
-use Rattle.trace_stop.proofs.Words.{without, nothing, no_events, ProcData, Run, process_of, is_numbered, map_lwps, set_process, edited, IsSound, untraced, untraced_lwp, detached, reporter}
-use Rattle.trace_stop.proofs.Words.{report_dropped}
+use Rattle.trace_stop.proofs.CommonNames.{without, nothing, no_events, ProcData, Run, process_of, is_numbered, map_lwps, set_process, edited, IsSound, untraced, untraced_lwp, detached, reporter}
+use Rattle.trace_stop.proofs.CommonNames.{report_dropped}
 use Rattle.proc_table.proofs.Rows.{process_of-pid}
 use Rattle.proc_table.proofs.Stays.{process_there, named-untraced}
 use Rattle.trace_stop.specs.declared.edits.Edit.TheVariants as edit
 use Rattle.trace_stop.proofs.Found.{own_row, live_row}
-use Rattle.trace_stop.proofs.Stopped.{reporter_there}
-use Rattle.trace_stop.proofs.Runs.{run_on-is}
-use Rattle.trace_stop.proofs.Posts.{untraced_sound}
+use Rattle.trace_stop.proofs.StoppedByOwnLwp.{reporter_there}
+use Rattle.trace_stop.proofs.RunOn.{run_on-is}
+use Rattle.trace_stop.proofs.SoundAfterPost.{untraced_sound}
 use Rattle.trace_stop.proofs.tracing.untrace.Goals as goal
 
 pub unwrap-p-requires : goal.unwrap-p-requires

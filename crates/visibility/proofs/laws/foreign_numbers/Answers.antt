@@ -1,5 +1,5 @@
 use Rattle.std.proofs.Common.{map}
-use Rattle.requests.proofs.ViewSound.{sound_apart}
+use Rattle.requests.proofs.SoundHostIsApart.{users_are_apart_in_a_sound_host}
 use Rattle.visibility.specs.Runs.{asked, told}
 use Rattle.visibility.proofs.ForeignLists.{foreign_runs}
 use Rattle.visibility.proofs.laws.foreign_numbers.Goals as goal
@@ -9,4 +9,4 @@ returns-clause-equal g c =
     let done = c.in_ok-told.ensures in
     λ alike. foreign_runs (map asked c.args.steps.items) (map asked c.args.others.items) (map told c.in_ok-told.told.items) (map told c.in_ok-told.said.items)
     c.args.first.now c.args.second.now c.both_lists.new.first c.both_lists.new.second c.args.user c.get-number.ensures.user done.users.0 done.users.1
-    (sound_apart c.args.first.now c.kept.ensures) (sound_apart c.args.second.now c.kept-2.ensures) done.first done.second c.requires.seen alike
+    (users_are_apart_in_a_sound_host c.args.first.now c.kept.ensures) (users_are_apart_in_a_sound_host c.args.second.now c.kept-2.ensures) done.first done.second c.requires.seen alike

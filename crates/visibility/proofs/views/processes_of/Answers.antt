@@ -5,7 +5,7 @@ use Rattle.visibility.proofs.Walked.{row_next}
 use Rattle.visibility.proofs.views.processes_of.Goals as goal
 
 pub loop-p-init : goal.loop-p-init
-loop-p-init c = record { below = omega arith; listed = rw c.in_ok-rows.ensures.items (above_first (λ p. p.uid == c.args.user) c.args.tables.now.rows.processes c.process_count.ensures.kept.homes) }
+loop-p-init c = record { below = omega arith; listed = rw c.in_ok-rows.ensures.items (above_first (λ p. p.uid == c.args.user) c.args.tables.now.rows.processes c.process_count.ensures.kept.in_own_blocks) }
 
 pub loop-p-smaller : goal.loop-p-smaller
 loop-p-smaller c =

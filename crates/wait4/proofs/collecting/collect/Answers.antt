@@ -1,10 +1,10 @@
 use Rattle.std.proofs.Common.{◌≡◌, ℤ, ◌&&◌, Bool, Some, None, w64, sym, ap, ◌∙◌, subst, if◌then◌else◌}
-use Rattle.trace_stop.proofs.Words.{list_any, process_of, IsSound, FitProcess}
+use Rattle.trace_stop.proofs.CommonNames.{list_any, process_of, IsSound, FitProcess}
 use Rattle.std.proofs.lemmas.Int.{to_z-of_z}
 use Rattle.trace_stop.proofs.Passes.{own_rows}
 use Rattle.wait4.specs.declared.Collected.TheVariants.{Nothing, NoChild}
 use Rattle.wait4.specs.Collect.{is_child, fits, candidates, reported, answer}
-use Rattle.wait4.proofs.CollectSound.{collect_sound}
+use Rattle.wait4.proofs.SoundAfterCollect.{collect_sound}
 use Rattle.wait4.proofs.Search.{answer-none}
 use Rattle.wait4.proofs.Candidates.{reported-has}
 use Rattle.wait4.proofs.collecting.collect.Goals as goal

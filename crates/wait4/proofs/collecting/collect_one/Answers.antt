@@ -1,5 +1,5 @@
 use Rattle.std.proofs.Common.{◌≡◌, [], ◌∷◌, Bool, true, false, not, Some, None, refl, sym, ap, ◌∙◌, if◌then◌else◌}
-use Rattle.trace_stop.proofs.Words.{ProcData, Trace, Job, is_zombie_state, notified}
+use Rattle.trace_stop.proofs.CommonNames.{ProcData, Trace, Job, is_zombie_state, notified}
 use Rattle.proc_table.proofs.Rows.{found_row}
 use Rattle.proc_table.proofs.Stays.{named-same, named-untraced}
 use Rattle.wait4.specs.Collect.{stays, collected, collected_in}
@@ -58,7 +58,7 @@ returns-in-Zombie c =
     let stay : stays c.args.caller p ≡ true = sym c.stays.ensures ∙ c.if-stays.true in
     let new : ProcData = record p { tracer = None } in
     let to : collected c.args.caller p ≡ Some new = ap (collected_in c.args.caller p) c.in-Zombie.is ∙ ap (λ (b : Bool). if b then Some new else None) stay in
-    c.notify.ensures.rows ∙ ap (notified (p.parent ∷ [])) c.set_process-in-Zombie.ensures.rows
+    c.post_sigchld.ensures.rows ∙ ap (notified (p.parent ∷ [])) c.set_process-in-Zombie.ensures.rows
     ∙ sym (collected-passed c.args.caller p rows c.requires.sound.stands.rising c.requires.there new refl to (ap (λ s. not (is_zombie_state s)) c.in-Zombie.is) stay)
 
 pub returns-in-Zombie-2 : goal.returns-in-Zombie-2

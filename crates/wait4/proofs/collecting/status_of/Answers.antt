@@ -1,5 +1,5 @@
 use Rattle.std.proofs.Common.{ap, is_some, subst, ◌≡◌, ℕ, true, rules}
-use Rattle.trace_stop.proofs.Words.{IfEnded, Ended, cases_Bool, nat_tests, is_end}
+use Rattle.trace_stop.proofs.CommonNames.{IfEnded, Ended, cases_Bool, nat_tests, is_end}
 use Rattle.wait4.specs.Status.{ended, IsStatus, word}
 use Rattle.wait4.proofs.collecting.status_of.Goals as goal
 

@@ -1,5 +1,5 @@
 use Rattle.wait4.proofs.laws.waits_are_apart.Goals as goal
-use Rattle.wait4.proofs.ViewLaws as law
+use Rattle.wait4.proofs.IsolationOfWaits as law
 
 pub returns-clause-reported : goal.returns-clause-reported
 returns-clause-reported c = law.own_reported

@@ -6,7 +6,7 @@ use Rattle.host_lock.specs.declared.journal.Entry.{Entry}
 use Rattle.host_lock.specs.History.{History}
 use Rattle.host_lock.specs.Journal.{StartsWith}
 use Rattle.host_lock.specs.Rule.{Each, Matches}
-use Rattle.host_lock.specs.Sessions.{Stands}
+use Rattle.host_lock.specs.Sessions.{InJournal}
 use Rattle.host_lock.proofs.Closings.{stand, each_reverse}
 use Rattle.host_lock.proofs.Totals.{all_of}
 use Rattle.host_lock.proofs.host.SharedHost.close.Goals as goal
@@ -18,5 +18,5 @@ returns-clause-sessions g c =
     let at : c.join_seats-seat.result.me.0 ≡ _ = ap (λ (m : Me (Slot g.row.F.Denot) View). m.0) got.3 in
     let seen = subst (λ (v : View). Each (StartsWith log) v.seen) at c.take_state.ensures.seen in
     let owns = subst (λ (v : View). Each (Matches c.self.inside.table.shared.key.sessions log) v.owns) at c.take_state.ensures.owns in
-    let all : Each (Stands log) c.args.sessions.items = subst (Each (Stands log)) (sym got.2) (each_reverse (Stands log) got.0 (stand c.self.inside.table.shared.key.sessions log got.0 seen owns)) in
-    all_of (Stands _) c.args.sessions.items (subst (λ (l : List Entry). Each (Stands l) c.args.sessions.items) (sym (ap (λ (k : History). k.log) c.host.view_is)) all)
+    let all : Each (InJournal log) c.args.sessions.items = subst (Each (InJournal log)) (sym got.2) (each_reverse (InJournal log) got.0 (stand c.self.inside.table.shared.key.sessions log got.0 seen owns)) in
+    all_of (InJournal _) c.args.sessions.items (subst (λ (l : List Entry). Each (InJournal l) c.args.sessions.items) (sym (ap (λ (k : History). k.log) c.host.view_is)) all)

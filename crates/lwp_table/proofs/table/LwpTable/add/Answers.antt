@@ -3,7 +3,7 @@ use Rattle.slab.specs.Slab.{get as slot_get}
 use Rattle.lwp_table.specs.Lwps.{has_lwp}
 use Rattle.lwp_table.specs.Kept.{ends_at}
 use Rattle.lwp_table.proofs.WordLemmas.{both_calm, lwp_of-fresh}
-use Rattle.lwp_table.proofs.KeptLemmas.{HasJoined, own_count, all_count, rows-added, IsKept-added}
+use Rattle.lwp_table.proofs.KeptLemmas.{HasJoined, own_count, all_count, rows-added, LwpTableInvariant-added}
 use Rattle.lwp_table.proofs.table.LwpTable.add.Goals.{After-insert}
 use Rattle.lwp_table.proofs.table.LwpTable.add.Goals as goal
 
@@ -30,7 +30,7 @@ joins c = record {
 
 pub invariant_of-self : goal.invariant_of-self
 invariant_of-self c =
-    IsKept-added c.self.invariant c.args.row c.insert_reserved-slot.result c.ends_of-own.result _ _ (joins (goal.at.invariant_of-self c).After-insert) c.insert-2.new.self.entries c.or.result c.or-2.result _ c.or.ensures c.or-2.ensures
+    LwpTableInvariant-added c.self.invariant c.args.row c.insert_reserved-slot.result c.ends_of-own.result _ _ (joins (goal.at.invariant_of-self c).After-insert) c.insert-2.new.self.entries c.or.result c.or-2.result _ c.or.ensures c.or-2.ensures
     (rw c.get-pid.ensures.number at c.insert-2.ensures.updates) c.user_place.result c.user_place.ensures.place c.user_place.ensures.below c.self.told (λ p none. none) (λ none. both_calm c.ends_of-own.result.may_pend c.args.row.pending (sym c.may_pend_with.ensures ∙ none))
 
 pub returns-clause-rows : goal.returns-clause-rows

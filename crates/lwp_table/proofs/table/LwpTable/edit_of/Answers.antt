@@ -6,13 +6,13 @@ use Rattle.slab.specs.Slab.{get as slot_get, with_value}
 use Rattle.slab.proofs.SlabLemmas.{Updates-with_value}
 use Rattle.lwp_table.specs.Kept.{own_node, may_pend, IsIndexed}
 use Rattle.lwp_table.proofs.WordLemmas.{both_calm}
-use Rattle.lwp_table.proofs.KeptLemmas.{IsKept-may, IsKept-marked}
-use Rattle.lwp_table.proofs.EditLemmas.{left_at, left_in, unsaid, unsaid-own, editing-first, editing-there, here, old_row, editing-on, seen-on, seen-all, IsKept-edited, editing-less, len-same, rows_of-edited}
+use Rattle.lwp_table.proofs.KeptLemmas.{LwpTableInvariant-may, LwpTableInvariant-marked}
+use Rattle.lwp_table.proofs.EditLemmas.{left_at, left_in, unsaid, unsaid-own, editing-first, editing-there, here, old_row, editing-on, seen-on, seen-all, LwpTableInvariant-edited, editing-less, len-same, rows_of-edited}
 use Rattle.lwp_table.proofs.table.LwpTable.edit_of.Goals as goal
 
 pub loop-link-init : goal.loop-link-init
 loop-link-init g c = record {
-  kept = IsKept-may c.self.invariant _ (unsaid c.args.pid (may_pend c.self.inside.heads.entries));
+  kept = LwpTableInvariant-may c.self.invariant _ (unsaid c.args.pid (may_pend c.self.inside.heads.entries));
   walk = (
     0,
     editing-first (slot_get c.self.inside.rows) (FnReturnsAt g.F.Fn c.args.edit) c.args.pid c.first_slot-link.result
@@ -68,7 +68,7 @@ loop-link-preserved g c =
     let next = (kept.own c.args.pid).next_is c.in-Some.at (own_node old) (ap (option_map own_node) c.index_mut-slot.ensures.value) on.0 in
     let same = len-same c.loop-link.self-inside.rows c.in-Some.at old (record old { row = new }) c.index_mut-slot.ensures.value in
     record {
-      kept = IsKept-edited kept c.in-Some.at old new _ (λ none. absurd (true≢false (sym (unsaid-own c.args.pid new.pid (may_pend c.loop-link.self-inside.heads.entries) (its.1 ∙ on.0)) ∙ none))) c.index_mut-slot.ensures.value its updates.changed updates.others;
+      kept = LwpTableInvariant-edited kept c.in-Some.at old new _ (λ none. absurd (true≢false (sym (unsaid-own c.args.pid new.pid (may_pend c.loop-link.self-inside.heads.entries) (its.1 ∙ on.0)) ∙ none))) c.index_mut-slot.ensures.value its updates.changed updates.others;
       walk = (
         old.born + 1,
         editing-on (slot_get c.self.inside.rows) f (FnReturnsAt g.F.Fn c.args.edit) c.args.pid c.loop-link.invariant.walk.0 c.in-Some.at walk old c.index_mut-slot.ensures.value new _ its.1 gave updates.changed updates.others
@@ -86,7 +86,7 @@ loop-link-preserved g c =
 pub invariant_of-self : goal.invariant_of-self
 invariant_of-self g c =
     let walk = rw c.in_default.is at c.loop-link.invariant.walk.1 in
-    IsKept-marked c.loop-link.invariant.kept c.args.pid c.loop-link.may_pend _ (rw c.get-2.ensures.number at c.mark.ensures.ends)
+    LwpTableInvariant-marked c.loop-link.invariant.kept c.args.pid c.loop-link.may_pend _ (rw c.get-2.ensures.number at c.mark.ensures.ends)
     (seen-all (slot_get c.self.inside.rows) (slot_get c.loop-link.self-inside.rows) (FnReturnsAt g.F.Fn c.args.edit) c.args.pid c.loop-link.invariant.walk.0 c.loop-link.may_pend walk c.loop-link.invariant.walk.2)
     (λ p off none. rw off none)
 

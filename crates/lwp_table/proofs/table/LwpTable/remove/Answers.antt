@@ -3,7 +3,7 @@ use Rattle.slab.specs.Slab.{get as slot_get}
 use Rattle.lwp_table.specs.declared.links.Ends.{Ends}
 use Rattle.lwp_table.specs.Kept.{place_of, ends_at}
 use Rattle.lwp_table.proofs.IndexLemmas.{some_of, slot_for, lwp_of-found}
-use Rattle.lwp_table.proofs.KeptLemmas.{HasLeft, neighbours, own_positive, user_positive, left_empty, IsKept-removed, rows-removed}
+use Rattle.lwp_table.proofs.KeptLemmas.{HasLeft, neighbours, own_positive, user_positive, left_empty, LwpTableInvariant-removed, rows-removed}
 use Rattle.lwp_table.proofs.table.LwpTable.remove.Goals.{After-without}
 use Rattle.lwp_table.proofs.table.LwpTable.remove.Goals as goal
 
@@ -49,7 +49,7 @@ leaves c =
 
 pub invariant_of-self : goal.invariant_of-self
 invariant_of-self c =
-    IsKept-removed c.self.invariant c.args.tid c.unwrap-slot.result c.remove-gone.result _ _ _ (leaves (goal.at.invariant_of-self c).After-without) c.put_ends.new.heads.entries c.without-self-inside.result
+    LwpTableInvariant-removed c.self.invariant c.args.tid c.unwrap-slot.result c.remove-gone.result _ _ _ (leaves (goal.at.invariant_of-self c).After-without) c.put_ends.new.heads.entries c.without-self-inside.result
     (λ p. c.put_ends.ensures.ends p ∙ ap (λ n. cond (nat_eq n p) c.without.result (ends_at c.self.inside.heads.entries p)) c.get-pid.ensures.number)
     c.without-self-inside.ensures.first c.without-self-inside.ensures.last c.without-self-inside.ensures.count c.user_place.result c.user_place.ensures.place c.user_place.ensures.below c.self.told (λ p none. none)
 

@@ -2,7 +2,7 @@ use Rattle.std.proofs.Common.{sym, ap, ◌∙◌, is_some}
 use Rattle.slab.specs.Slab.{get as slot_get}
 use Rattle.slab.proofs.SlabLemmas.{Updates-with_value}
 use Rattle.lwp_table.proofs.IndexLemmas.{some_and, slot_for}
-use Rattle.lwp_table.proofs.KeptLemmas.{pids, noted, IsKept-noted, IsKept-set, rows-set}
+use Rattle.lwp_table.proofs.KeptLemmas.{pids, noted, LwpTableInvariant-noted, LwpTableInvariant-set, rows-set}
 use Rattle.lwp_table.proofs.table.LwpTable.set.Goals as goal
 
 pub unwrap-slot-requires : goal.unwrap-slot-requires
@@ -19,7 +19,7 @@ invariant_of-self c =
     let its = rw (← c.self.view_is) at c.requires in
     let at = rw c.get-number.ensures.number at (sym c.get.ensures ∙ c.unwrap-slot.ensures) in
     let same = pids c.self.invariant row q old _ its at c.index-place.ensures updates.changed updates.others in
-    IsKept-set (IsKept-noted c.self.invariant row c.note.new.heads.entries (λ p none. none) c.note.ensures.ends) row q old _ its at c.index-place.ensures updates.changed updates.others
+    LwpTableInvariant-set (LwpTableInvariant-noted c.self.invariant row c.note.new.heads.entries (λ p none. none) c.note.ensures.ends) row q old _ its at c.index-place.ensures updates.changed updates.others
     (noted c.self.invariant row c.note.new.heads.entries (λ p none. none) c.note.ensures.ends q old c.index-place.ensures same)
 
 pub returns-clause-rows : goal.returns-clause-rows

@@ -1,9 +1,9 @@
 use Rattle.std.proofs.Common.{Some, ap, ◌∙◌, arith, nat_eq}
 use Rattle.std.specs.List.{list_any}
 use Rattle.slab.specs.Slab.{get}
-use Rattle.proc_table.specs.Lanes.{rows_of}
+use Rattle.proc_table.specs.ListNodes.{rows_of}
 use Rattle.proc_table.proofs.Slots.{tally-below}
-use Rattle.proc_table.proofs.Tied.{IsBorn, IsRehung, picked, head-row, added-laced, added-head, added}
+use Rattle.proc_table.proofs.Tied.{IsBorn, IsRehung, picked, head-row, added-are_linked, added-head, added}
 use Rattle.proc_table.proofs.processes.Processes.add.Goals.{After-insert, After-slot}
 use Rattle.proc_table.proofs.processes.Processes.add.Goals as goal
 
@@ -18,19 +18,19 @@ born c = record {
   home = c.requires.home;
 }
 
-pub relink_both-requires-clause-laced : goal.relink_both-requires-clause-laced
-relink_both-requires-clause-laced c = added-laced c.self.invariant (born (goal.at.relink_both-requires-clause-laced c).After-insert)
+pub relink_both-requires-clause-are_linked : goal.relink_both-requires-clause-are_linked
+relink_both-requires-clause-are_linked c = added-are_linked c.self.invariant (born (goal.at.relink_both-requires-clause-are_linked c).After-insert)
 
-pub relink_both-requires-clause-chiefs : goal.relink_both-requires-clause-chiefs
-relink_both-requires-clause-chiefs c = λ k t is.
+pub relink_both-requires-clause-list_owners : goal.relink_both-requires-clause-list_owners
+relink_both-requires-clause-list_owners c = λ k t is.
     let named = c.requires.named k t (rw (picked c.args.row _ _ c.tracer_of-tracer.ensures c.parent_of-parent.ensures k) at is) in
-    added-head c.self.invariant (born (goal.at.relink_both-requires-clause-chiefs c).After-insert) t (head-row c.self.invariant t (rw (← c.self.view_is) at named))
+    added-head c.self.invariant (born (goal.at.relink_both-requires-clause-list_owners c).After-insert) t (head-row c.self.invariant t (rw (← c.self.view_is) at named))
 
 pub overflow_add-self : goal.overflow_add-self
 overflow_add-self c = rw c.slot.ensures.place (omega (arith, tally-below (rows_of (get c.self.inside.nodes)) c.self.inside.slots.entries c.self.inside.counts c.self.invariant.slotted c.args.row.uid c.requires.home.user))
 
 rehung : (c : After-slot) → IsRehung (get c.insert_reserved-slot.new.self) (get c.relink_both.new.nodes) c.insert.new.self.entries c.insert_reserved-slot.result c.tracer_of-tracer.result c.parent_of-parent.result
-rehung c = record { laced = c.relink_both.ensures.laced; rows = c.relink_both.ensures.rows; here = c.relink_both.ensures.here; others = c.relink_both.ensures.others }
+rehung c = record { are_linked = c.relink_both.ensures.are_linked; rows = c.relink_both.ensures.rows; here = c.relink_both.ensures.here; others = c.relink_both.ensures.others }
 
 pub invariant_of-self : goal.invariant_of-self
 invariant_of-self c =

@@ -3,12 +3,12 @@ use Rattle.std.specs.Fn.{FnReturnsAt}
 use Rattle.slab.specs.Slab.{get}
 use Rattle.proc_table.specs.declared.ProcData.{ProcData}
 use Rattle.proc_table.specs.Walks.{DecidesRows}
-use Rattle.proc_table.specs.Lanes.{find_named, IsFirst}
+use Rattle.proc_table.specs.ListNodes.{find_named, IsFirst}
 use Rattle.proc_table.proofs.Firsts.{first-none, first-unnamed, first-some}
 use Rattle.proc_table.proofs.processes.Processes.find_named.Goals as goal
 
 pub first_slot-requires-clause-linked : goal.first_slot-requires-clause-linked
-first_slot-requires-clause-linked g c = c.self.invariant.laced.linked c.args.kin
+first_slot-requires-clause-linked g c = c.self.invariant.are_linked.linked c.args.kin
 
 pub returns-in_err-head : goal.returns-in_err-head
 returns-in_err-head g c = λ t decides.

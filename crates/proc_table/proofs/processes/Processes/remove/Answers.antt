@@ -1,7 +1,7 @@
 use Rattle.std.proofs.Common.{ap, sym, ◌∙◌, is_some, arith}
 use Rattle.slab.specs.Slab.{get}
 use Rattle.proc_table.specs.Processes.{process_of}
-use Rattle.proc_table.specs.Lanes.{next_named, rows_of}
+use Rattle.proc_table.specs.ListNodes.{next_named, rows_of}
 use Rattle.proc_table.proofs.Slots.{slot_there}
 use Rattle.proc_table.proofs.Tied.{IsWithout, removed}
 use Rattle.proc_table.proofs.processes.Processes.remove.Goals.{After-slot}
@@ -14,7 +14,7 @@ unwrap-slot-requires c =
 
 -- what is then kept, and of which rows
 after : (c : After-slot) → IsWithout (get c.self.inside.nodes) c.self.inside.slots.entries c.self.inside.counts c.args.pid c.remove-gone.result.row.uid (get c.remove-gone.new.self) c.remove.new.self.entries
-after c = removed c.self.invariant c.args.pid record { laced = c.relink_both.ensures.laced; rows = c.relink_both.ensures.rows; here = c.relink_both.ensures.here; others = c.relink_both.ensures.others }
+after c = removed c.self.invariant c.args.pid record { are_linked = c.relink_both.ensures.are_linked; rows = c.relink_both.ensures.rows; here = c.relink_both.ensures.here; others = c.relink_both.ensures.others }
     c.remove-gone.ensures.value c.remove-gone.ensures.updates.changed c.remove-gone.ensures.updates.others (rw c.get-number.ensures.number at (sym c.get.ensures ∙ c.unwrap-slot.ensures)) (rw c.get-number.ensures.number at c.remove.ensures.updates)
     (λ k. ap (λ v. next_named k c.args.pid 0 v.rows) c.self.view_is ∙ c.requires.unnamed k) c.self.told
 

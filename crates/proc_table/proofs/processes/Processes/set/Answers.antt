@@ -1,7 +1,7 @@
 use Rattle.std.proofs.Common.{Some, ap, sym, ◌∙◌, is_some}
 use Rattle.slab.specs.Slab.{get, with_value}
 use Rattle.slab.proofs.SlabLemmas.{Updates-with_value}
-use Rattle.proc_table.specs.Lanes.{rows_of}
+use Rattle.proc_table.specs.ListNodes.{rows_of}
 use Rattle.proc_table.proofs.Every.{some_and}
 use Rattle.proc_table.proofs.Slots.{slot_there}
 use Rattle.proc_table.proofs.Tied.{IsRehung, picked, head-row, written}
@@ -13,13 +13,13 @@ unwrap-slot-requires c =
     let was = some_and _ _ (rw (← c.self.view_is) at c.requires.there) in
     rw (c.get.ensures, c.get-number.ensures.number) (slot_there (rows_of (get c.self.inside.nodes)) c.self.inside.slots.entries c.self.inside.counts c.self.invariant.slotted c.args.row.pid (ap is_some was.1))
 
-pub relink_both-requires-clause-chiefs : goal.relink_both-requires-clause-chiefs
-relink_both-requires-clause-chiefs c = λ k t is.
+pub relink_both-requires-clause-list_owners : goal.relink_both-requires-clause-list_owners
+relink_both-requires-clause-list_owners c = λ k t is.
     let named = c.requires.named k t (rw (picked c.args.row _ _ c.tracer_of.ensures c.parent_of.ensures k) at is) in
     head-row c.self.invariant t (rw (← c.self.view_is) at named)
 
 rehung : (c : After-index) → IsRehung (get c.self.inside.nodes) (get c.relink_both.new.nodes) c.self.inside.slots.entries c.unwrap-slot.result c.tracer_of.result c.parent_of.result
-rehung c = record { laced = c.relink_both.ensures.laced; rows = c.relink_both.ensures.rows; here = c.relink_both.ensures.here; others = c.relink_both.ensures.others }
+rehung c = record { are_linked = c.relink_both.ensures.are_linked; rows = c.relink_both.ensures.rows; here = c.relink_both.ensures.here; others = c.relink_both.ensures.others }
 
 pub invariant_of-self : goal.invariant_of-self
 invariant_of-self c =

@@ -1,10 +1,10 @@
 use Rattle.std.proofs.Common.{◌≡◌, None, ap, ◌∙◌, arith}
 use Rattle.lwp_table.specs.Lwps.{first_lwp}
-use Rattle.proc_table.specs.declared.links.Kin.TheVariants.{Tracees}
-use Rattle.proc_table.specs.Lanes.{next_named}
+use Rattle.proc_table.specs.declared.links.ListKind.TheVariants.{Tracees}
+use Rattle.proc_table.specs.ListNodes.{next_named}
 use Rattle.proc_table.specs.Walks.{next_tracee, next_child}
 use Rattle.proc_table.specs.Fresh.{is_process}
-use Rattle.proc_table.proofs.Laced.{each_kin}
+use Rattle.proc_table.proofs.LinkedLists.{each_kin}
 use Rattle.proc_table.proofs.Tied.{children_named}
 use Rattle.proc_table.proofs.Indexed.{numbers-without}
 use Rattle.proc_table.proofs.Seen.{has_row}

@@ -1,4 +1,4 @@
-use Rattle.requests.proofs.Names.{◌≡◌, take}
+use Rattle.requests.proofs.CommonNames.{◌≡◌, take}
 use Rattle.requests.proofs.handlers.HandlerList.copy.Given as goal
 
 abbrev pub invariant-loop-installed : goal.invariant-loop-installed

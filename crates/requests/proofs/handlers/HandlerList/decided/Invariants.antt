@@ -1,4 +1,4 @@
-use Rattle.requests.proofs.Names.{◌≡◌, ◌≤◌, drop, decided, policies_in}
+use Rattle.requests.proofs.CommonNames.{◌≡◌, ◌≤◌, drop, decided, policies_in}
 use Rattle.requests.proofs.handlers.HandlerList.decided.Given as goal
 
 abbrev pub invariant-loop-installed : goal.invariant-loop-installed

@@ -1,4 +1,4 @@
-use Rattle.requests.proofs.Names.{rules, filter, ap, ◌∙◌, is_live_number}
+use Rattle.requests.proofs.CommonNames.{rules, filter, ap, ◌∙◌, is_live_number}
 use Rattle.std.proofs.lemmas.Fn.{filter_same}
 use Rattle.requests.proofs.handlers.HandlerList.drop_ended.Goals as goal
 

@@ -1,4 +1,4 @@
-use Rattle.requests.proofs.Names.{◌≡◌, take}
+use Rattle.requests.proofs.CommonNames.{◌≡◌, take}
 use Rattle.requests.proofs.handlers.HandlerTable.copy.Given as goal
 
 abbrev pub invariant-loop-list : goal.invariant-loop-list

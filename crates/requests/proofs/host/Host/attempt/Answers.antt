@@ -1,5 +1,5 @@
-use Rattle.requests.proofs.Names.{sym, ◌∙◌, bare, machine_of}
-use Rattle.requests.proofs.After.{rows_sound, few_installed}
+use Rattle.requests.proofs.CommonNames.{sym, ◌∙◌, bare, machine_of}
+use Rattle.requests.proofs.SoundWithoutEnded.{rows_sound, few_installed}
 use Rattle.requests.proofs.Finished.{host_barred, host_caller, host_uncalled, host_called}
 use Rattle.requests.proofs.host.Host.attempt.Goals as goal
 

@@ -1,4 +1,4 @@
-use Rattle.requests.proofs.Names.{arith, nat_tests}
+use Rattle.requests.proofs.CommonNames.{arith, nat_tests}
 use Rattle.requests.proofs.host.Host.caller.Goals as goal
 
 pub returns-in_default : goal.returns-in_default

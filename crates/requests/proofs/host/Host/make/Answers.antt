@@ -1,4 +1,4 @@
-use Rattle.requests.proofs.Names.{attempted_reply}
+use Rattle.requests.proofs.CommonNames.{attempted_reply}
 use Rattle.requests.proofs.Finished.{made_bare, other_kind}
 use Rattle.requests.proofs.host.Host.make.Goals as goal
 

@@ -1,4 +1,4 @@
-use Rattle.requests.proofs.Names.{subst, Steps, attempted_reply}
+use Rattle.requests.proofs.CommonNames.{subst, Steps, attempted_reply}
 use Rattle.requests.specs.declared.step.Step.TheVariants.{Install}
 use Rattle.requests.proofs.host.Host.step.Goals as goal
 

@@ -1,4 +1,4 @@
-use Rattle.requests.proofs.Names.{◌≡◌, ◌++◌, ap, ◌∙◌, sym, subst, List, ℕ, take, take_all, HasWritten}
+use Rattle.requests.proofs.CommonNames.{◌≡◌, ◌++◌, ap, ◌∙◌, sym, subst, List, ℕ, take, take_all, HasWritten}
 use Rattle.requests.proofs.Joins.{spaced, spaced_words}
 use Rattle.requests.proofs.printing.ListedDisplay.fmt.Goals as goal
 

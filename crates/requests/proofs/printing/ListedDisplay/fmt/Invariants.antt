@@ -1,4 +1,4 @@
-use Rattle.requests.proofs.Names.{◌++◌, take, HasWritten, IsPlainFormatter}
+use Rattle.requests.proofs.CommonNames.{◌++◌, take, HasWritten, IsPlainFormatter}
 use Rattle.requests.proofs.Joins.{spaced}
 use Rattle.requests.proofs.printing.ListedDisplay.fmt.Given as goal
 

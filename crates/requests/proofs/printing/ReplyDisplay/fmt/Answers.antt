@@ -1,4 +1,4 @@
-use Rattle.requests.proofs.Names.{rules, ap, sym, ◌∙◌, subst, List, ℕ, HasWritten, join_with_byte}
+use Rattle.requests.proofs.CommonNames.{rules, ap, sym, ◌∙◌, subst, List, ℕ, HasWritten, join_with_byte}
 use Rattle.requests.specs.Words.{reply_words, decision_words}
 use Rattle.requests.proofs.Joins.{handled_front, handled_words}
 use Rattle.requests.proofs.printing.ReplyDisplay.fmt.Goals as goal

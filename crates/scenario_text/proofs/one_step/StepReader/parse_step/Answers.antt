@@ -1,5 +1,5 @@
 use Rattle.std.proofs.Common.{rules, arith}
-use Rattle.json_data.specs.Reading.{view}
+use Rattle.json_values.specs.Reading.{view}
 use Rattle.scenario_text.specs.OneStep.{IsStep, too_long, no_value, value}
 use Rattle.scenario_text.specs.Plan.{asked}
 use Rattle.scenario_text.specs.Scenarios.{numbered}
@@ -7,8 +7,8 @@ use Rattle.scenario_text.specs.Steps.{step_of}
 use Rattle.scenario_text.proofs.Answering.{answers_by}
 use Rattle.scenario_text.proofs.one_step.StepReader.parse_step.Goals as goal
 
-pub returns-then-bytes-gt-MOST_STEP_BYTES-clause-step : goal.returns-then-bytes-gt-MOST_STEP_BYTES-clause-step
-returns-then-bytes-gt-MOST_STEP_BYTES-clause-step c = too_long (omega arith)
+pub returns-then-bytes-gt-MAX_STEP_BYTES-clause-step : goal.returns-then-bytes-gt-MAX_STEP_BYTES-clause-step
+returns-then-bytes-gt-MAX_STEP_BYTES-clause-step c = too_long (omega arith)
 
 pub returns-in-Ok-clause-step : goal.returns-in-Ok-clause-step
 returns-in-Ok-clause-step c =

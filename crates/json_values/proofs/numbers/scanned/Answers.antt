@@ -1,0 +1,15 @@
+use Rattle.std.proofs.Common.{◌≡◌, drop, true, false, ap, ◌∙◌, arith, take_all, length-drop}
+use Rattle.fast_float.specs.Text.{scan}
+use Rattle.serde_json.specs.Read.{number_of, number_from}
+use Rattle.json_values.proofs.NumberTexts.{with_minus, without_minus}
+use Rattle.json_values.proofs.numbers.scanned.Goals as goal
+
+pub returns-then-has_minus : goal.returns-then-has_minus
+returns-then-has_minus c =
+    let s = c.as_bytes-bytes.result.now in
+    let parts : c.scan.result ≡ scan (drop 1 s) = c.scan.ensures.parts ∙ ap scan (take_all _ (drop 1 s) (omega (arith, length-drop 1 s))) in
+    ap (number_from true) parts ∙ with_minus s c.if-has_minus.ensures ∙ ap number_of c.as_bytes-bytes.ensures.value
+
+pub returns-else-has_minus : goal.returns-else-has_minus
+returns-else-has_minus c =
+    ap (number_from false) c.scan-else-has_minus.ensures.parts ∙ without_minus c.as_bytes-bytes.result.now c.if-has_minus.ensures ∙ ap number_of c.as_bytes-bytes.ensures.value

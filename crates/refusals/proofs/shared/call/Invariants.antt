@@ -1,5 +1,0 @@
-use Rattle.host_lock.specs.Sessions.{IsSame}
-use Rattle.refusals.proofs.shared.call.Given as goal
-
-abbrev pub invariant-loop : goal.invariant-loop
-invariant-loop g l = IsSame l.initial.session l.session

@@ -1,6 +1,0 @@
-use Rattle.std.proofs.Common.{All}
-use Rattle.host_lock.specs.Sessions.{IsOf}
-use Rattle.refusals.proofs.shared.call_all.Given as goal
-
-abbrev pub invariant-loop-step : goal.invariant-loop-step
-invariant-loop-step g l = All (IsOf l.host) l.sessions.items

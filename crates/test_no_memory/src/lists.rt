@@ -1,0 +1,122 @@
+//! Lists of steps. A list or a step is refused where memory runs out.
+
+use crate::steps::{Case, Seen, TRIES, answer, new_host};
+use pid_blocks::Uid;
+use requests::{Host, PlainStep, Reply, Step};
+use scenario::{RunFault, Scenario, bind, handlers_from, policies};
+use std::alloc::Global;
+use stop_handlers::{ByPolicy, Handler, Policy};
+use test_kit::TestError;
+use visibility::run_list;
+
+/// Returns the policies of the scenario.
+fn policies_of(alloc: Global, scenario: &Scenario) -> Result<Vec<Policy>, TestError> {
+    for _ in 0..TRIES {
+        if let Ok(policies) = policies(alloc, scenario) {
+            return Ok(policies);
+        }
+    }
+    Err(TestError::Memory)
+}
+
+/// Returns a handler for each of the policies.
+fn policy_handlers(
+    alloc: Global,
+    policies: &[Policy],
+) -> Result<Vec<Handler<ByPolicy>>, TestError> {
+    for _ in 0..TRIES {
+        if let Ok(handlers) = handlers_from(alloc, policies, |policy: Policy| ByPolicy(policy)) {
+            return Ok(handlers);
+        }
+    }
+    Err(TestError::Memory)
+}
+
+/// Returns a handler for each policy of the scenario.
+pub fn handlers(case: &Case<'_>) -> Result<Vec<Handler<ByPolicy>>, TestError> {
+    let policies = policies_of(case.alloc, case.scenario)?;
+    policy_handlers(case.alloc, policies.as_slice())
+}
+
+/// Returns the steps of the scenario, with their handlers.
+pub fn bound(case: &Case<'_>) -> Result<Vec<(Uid, Step<Handler<ByPolicy>>)>, TestError> {
+    for _ in 0..TRIES {
+        let handlers = handlers(case)?;
+        match bind(case.alloc, case.scenario, handlers) {
+            Ok(steps) => return Ok(steps),
+            Err(RunFault::Memory) => {}
+            Err(_) => return Err(TestError::Wrong("the handlers are others")),
+        }
+    }
+    Err(TestError::Memory)
+}
+
+/// Checks that the step has this reply, unless the list refused it.
+fn check_reply(
+    alloc: Global,
+    host: &mut Host<ByPolicy>,
+    user: Uid,
+    step: &PlainStep,
+    reply: &Reply,
+) -> Result<(), TestError> {
+    if reply.is_memory() {
+        return Ok(());
+    }
+    let other = answer(alloc, host, user, step)?;
+    if other == *reply {
+        Ok(())
+    } else {
+        Err(TestError::Wrong("a list has other replies"))
+    }
+}
+
+/// Checks that the steps that weren't refused have the same replies when they are made one after another.
+fn check_replies(
+    case: &Case<'_>,
+    host: &mut Host<ByPolicy>,
+    replies: &[Reply],
+) -> Result<(), TestError> {
+    if replies.len() != case.scenario.shapes().len() {
+        return Err(TestError::Wrong("a list has not a reply for each step"));
+    }
+    for (step, reply) in case.scenario.steps().zip(replies.iter()) {
+        check_reply(case.alloc, host, step.0, &step.1, reply)?;
+    }
+    Ok(())
+}
+
+/// Makes the steps that weren't refused one after another on a new host. Checks that they have the same replies, and that
+/// users see the same at the end.
+fn check_answered(
+    case: &Case<'_>,
+    host: &Host<ByPolicy>,
+    replies: &[Reply],
+) -> Result<(), TestError> {
+    let mut other = new_host(case.alloc, case.scenario.settings())?;
+    check_replies(case, &mut other, replies)?;
+    case.check_hosts(host, &other, "a list leaves another host")
+}
+
+/// Makes the scenario's steps as a list, and returns the replies, or `None` where the list is refused.
+fn ran(case: &Case<'_>, host: &mut Host<ByPolicy>) -> Result<Option<Vec<Reply>>, TestError> {
+    let steps = bound(case)?;
+    Ok(run_list(case.alloc, host, steps).ok())
+}
+
+/// Checks that a refused list doesn't change the host, and that else the replies are those of steps made one by one.
+fn check_list(case: &Case<'_>, before: &Seen, host: &mut Host<ByPolicy>) -> Result<(), TestError> {
+    for _ in 0..TRIES {
+        if let Some(replies) = ran(case, host)? {
+            return check_answered(case, host, replies.as_slice());
+        }
+        before.is_still(case, host, "a refused list changed the host")?;
+    }
+    Err(TestError::Memory)
+}
+
+/// Does the same on a new host.
+pub fn check(case: &Case<'_>) -> Result<(), TestError> {
+    let mut host = new_host(case.alloc, case.scenario.settings())?;
+    let before = case.see(&host)?;
+    check_list(case, &before, &mut host)
+}

@@ -1,0 +1,201 @@
+//! Steps made one after another. A step is refused where memory runs out.
+
+ghost use Rattle.std.specs.Prelude.{◌≡◌, IfOk};
+ghost use Rattle.requests.specs.Machine.{empty};
+
+use pid_blocks::Uid;
+use requests::{Act, Host, PlainStep, Reply, Request};
+use scenario::Scenario;
+use std::alloc::Global;
+use stop_handlers::ByPolicy;
+use test_kit::TestError;
+use trace_stop::Settings;
+use visibility::{View, user_view};
+
+/// The number of tries of a call while it is refused.
+pub const TRIES: u32 = 30;
+
+/// A scenario, and its two users.
+#[derive(Clone, Copy, Drop)]
+pub struct Case<'a> {
+    pub alloc: Global,
+    pub scenario: &'a Scenario,
+    pub first: Uid,
+    pub second: Uid,
+}
+
+/// Both users' views of a host.
+#[derive(Drop)]
+pub struct Seen {
+    first: View,
+    second: View,
+}
+
+impl Seen {
+    /// Checks that the users still see the same of the host. The error has this name.
+    pub fn is_still(
+        &self,
+        case: &Case<'_>,
+        host: &Host<ByPolicy>,
+        name: &'static str,
+    ) -> Result<(), TestError> {
+        let now = case.see(host)?;
+        if self.first == now.first && self.second == now.second {
+            Ok(())
+        } else {
+            Err(TestError::Wrong(name))
+        }
+    }
+}
+
+/// Returns the user's view of the host.
+fn view_of(alloc: Global, host: &Host<ByPolicy>, user: Uid) -> Result<View, TestError> {
+    for _ in 0..TRIES {
+        if let Ok(view) = user_view(alloc, host, user) {
+            return Ok(view);
+        }
+    }
+    Err(TestError::Memory)
+}
+
+impl Case<'_> {
+    /// Returns both users' views of the host.
+    pub fn see(&self, host: &Host<ByPolicy>) -> Result<Seen, TestError> {
+        let first = view_of(self.alloc, host, self.first)?;
+        let second = view_of(self.alloc, host, self.second)?;
+        Ok(Seen { first, second })
+    }
+
+    /// Checks that the users see the same of both hosts. The error has this name.
+    pub fn check_hosts(
+        &self,
+        host: &Host<ByPolicy>,
+        other: &Host<ByPolicy>,
+        name: &'static str,
+    ) -> Result<(), TestError> {
+        let seen = self.see(host)?;
+        seen.is_still(self, other, name)
+    }
+}
+
+/// Creates an unused host.
+pub fn new_host(alloc: Global, settings: Settings) -> Result<Host<ByPolicy>, TestError>
+    ensures { IfOk result (λ host. host ≡ empty settings) }
+{
+    for _ in 0..TRIES {
+        if let Ok(host) = Host::new(alloc, settings) {
+            return Ok(host);
+        }
+    }
+    Err(TestError::Memory)
+}
+
+/// Makes a step, and returns the reply, or `None` where it is refused.
+fn replied(alloc: Global, host: &mut Host<ByPolicy>, user: Uid, step: &PlainStep) -> Option<Reply> {
+    let reply = host.step(alloc, user, step.by_policy());
+    if reply.is_memory() { None } else { Some(reply) }
+}
+
+/// Makes a step, retries while it is refused, and returns the reply.
+pub fn answer(
+    alloc: Global,
+    host: &mut Host<ByPolicy>,
+    user: Uid,
+    step: &PlainStep,
+) -> Result<Reply, TestError> {
+    for _ in 0..TRIES {
+        if let Some(reply) = replied(alloc, host, user, step) {
+            return Ok(reply);
+        }
+    }
+    Err(TestError::Memory)
+}
+
+/// Returns whether the step may take memory.
+fn takes_memory(step: &PlainStep) -> bool {
+    matches!(
+        step,
+        PlainStep::Spawn
+            | PlainStep::List { .. }
+            | PlainStep::Install { .. }
+            | PlainStep::Ptrace {
+                request: Request::GetLwpList,
+                ..
+            }
+            | PlainStep::Turn {
+                act: Act::Leave,
+                ..
+            }
+    )
+}
+
+/// Does the same, and checks after each refusal that the step may take memory and that users see the same as before.
+fn answer_from(
+    case: &Case<'_>,
+    before: &Seen,
+    host: &mut Host<ByPolicy>,
+    user: Uid,
+    step: &PlainStep,
+) -> Result<Reply, TestError> {
+    for _ in 0..TRIES {
+        if let Some(reply) = replied(case.alloc, host, user, step) {
+            return Ok(reply);
+        }
+        if !takes_memory(step) {
+            return Err(TestError::Wrong("a step that takes no memory is refused"));
+        }
+        before.is_still(case, host, "a refused step changed the host")?;
+    }
+    Err(TestError::Memory)
+}
+
+/// Does the same, with the users' present views as those before.
+fn answer_kept(
+    case: &Case<'_>,
+    host: &mut Host<ByPolicy>,
+    user: Uid,
+    step: &PlainStep,
+) -> Result<Reply, TestError> {
+    let before = case.see(host)?;
+    answer_from(case, &before, host, user, step)
+}
+
+/// A host after steps, and the replies to them.
+#[derive(Drop)]
+pub struct Made {
+    pub host: Host<ByPolicy>,
+    pub replies: Vec<(Uid, Reply)>,
+}
+
+/// Allocates room for `length` replies.
+fn room(alloc: Global, length: usize) -> Result<Vec<(Uid, Reply)>, TestError> {
+    for _ in 0..TRIES {
+        if let Ok(room) = Vec::with_capacity(alloc, length) {
+            return Ok(room);
+        }
+    }
+    Err(TestError::Memory)
+}
+
+/// Creates a host, and allocates room for the replies to the scenario's steps.
+fn new_made(case: &Case<'_>) -> Result<Made, TestError> {
+    let replies = room(case.alloc, case.scenario.shapes().len())?;
+    let host = new_host(case.alloc, case.scenario.settings())?;
+    Ok(Made { host, replies })
+}
+
+/// Makes the steps of the scenario.
+fn make_each(case: &Case<'_>, made: &mut Made) -> Result<(), TestError> {
+    for step in case.scenario.steps() {
+        let reply = answer_kept(case, &mut made.host, step.0, &step.1)?;
+        made.replies.push((step.0, reply))?;
+    }
+    Ok(())
+}
+
+/// Makes the steps of the scenario on a new host.
+pub fn make_all(case: &Case<'_>) -> Result<Made, TestError> {
+    let mut made = new_made(case)?;
+    make_each(case, &mut made)?;
+    Ok(made)
+}

@@ -1,0 +1,132 @@
+//! Runs of a whole scenario.
+
+use crate::lists::handlers;
+use crate::steps::{Case, Made, TRIES};
+use pid_blocks::Uid;
+use scenario::{RunFault, RunOptions, Style, render, run};
+use std::alloc::Global;
+use std::sync::Wait;
+use std::thread::Threads;
+use stop_handlers::{ByPolicy, Handler};
+use test_kit::TestError;
+use threaded_runs::run_threads;
+
+/// Room for every text, in bytes.
+const ROOM: usize = 16384;
+
+/// Returns whether a run succeeded. Checks that it then wrote the whole text, and that a refused run wrote nothing.
+fn is_done(ended: Result<(), RunFault>, written: &[u8], text: &[u8]) -> Result<bool, TestError> {
+    match ended {
+        Ok(()) if written == text => Ok(true),
+        Ok(()) => Err(TestError::Wrong("a run has another text")),
+        Err(RunFault::Memory | RunFault::Start) if written.is_empty() => Ok(false),
+        Err(RunFault::Memory | RunFault::Start) => Err(TestError::Wrong(
+            "a refused run has written",
+        )),
+        Err(RunFault::Write) => Err(TestError::Wrong("a writer has no room")),
+        Err(RunFault::Mismatch) => Err(TestError::Wrong("the handlers are others")),
+    }
+}
+
+/// Returns the options for the lines of the user, or of all users, in words.
+fn shown(user: &Option<Uid>) -> RunOptions {
+    RunOptions {
+        user: *user,
+        style: Style::Words,
+    }
+}
+
+/// The lines of one run: those of this user or of all users, with threads or without.
+#[derive(Drop)]
+struct Asked {
+    user: Option<Uid>,
+    threads: bool,
+}
+
+/// Runs the scenario with threads or without.
+fn run_into<R: Threads + Wait + Sync>(
+    rt: &R,
+    case: &Case<'_>,
+    handlers: Vec<Handler<ByPolicy>>,
+    asked: &Asked,
+    writer: &mut Vec<u8>,
+) -> Result<(), RunFault> {
+    let options = shown(&asked.user);
+    if asked.threads {
+        run_threads(rt, case.alloc, case.scenario, handlers, options, writer)
+    } else {
+        run(case.alloc, case.scenario, handlers, options, writer)
+    }
+}
+
+/// Allocates room for a text.
+fn room(alloc: Global) -> Result<Vec<u8>, TestError> {
+    for _ in 0..TRIES {
+        if let Ok(room) = Vec::with_capacity(alloc, ROOM) {
+            return Ok(room);
+        }
+    }
+    Err(TestError::Memory)
+}
+
+/// Returns whether a run succeeded, and checks that it then wrote the text.
+fn is_run<R: Threads + Wait + Sync>(
+    rt: &R,
+    case: &Case<'_>,
+    text: &[u8],
+    asked: &Asked,
+) -> Result<bool, TestError> {
+    let mut writer = room(case.alloc)?;
+    let handlers = handlers(case)?;
+    let ended = run_into(rt, case, handlers, asked, &mut writer);
+    is_done(ended, writer.as_slice(), text)
+}
+
+/// Checks that a run writes the text, and retries while it is refused.
+fn check_text<R: Threads + Wait + Sync>(
+    rt: &R,
+    case: &Case<'_>,
+    text: &[u8],
+    asked: &Asked,
+) -> Result<(), TestError> {
+    for _ in 0..TRIES {
+        if is_run(rt, case, text, asked)? {
+            return Ok(());
+        }
+    }
+    Err(TestError::Memory)
+}
+
+/// Returns the lines of the replies to the user, or to all users.
+pub fn lines(alloc: Global, made: &Made, user: &Option<Uid>) -> Result<String, TestError> {
+    for _ in 0..TRIES {
+        if let Ok(lines) = render(alloc, made.replies.as_slice(), shown(user)) {
+            return Ok(lines);
+        }
+    }
+    Err(TestError::Memory)
+}
+
+/// Checks that a run with or without threads writes the lines of the replies to the user, or to all users.
+fn check_user<R: Threads + Wait + Sync>(
+    rt: &R,
+    case: &Case<'_>,
+    made: &Made,
+    user: Option<Uid>,
+    threads: bool,
+) -> Result<(), TestError> {
+    let text = lines(case.alloc, made, &user)?;
+    let asked = Asked { user, threads };
+    check_text(rt, case, text.as_bytes(), &asked)
+}
+
+/// Checks that runs write the lines of the replies, and that refused runs write nothing.
+pub fn check<R: Threads + Wait + Sync>(
+    rt: &R,
+    case: &Case<'_>,
+    made: &Made,
+) -> Result<(), TestError> {
+    check_user(rt, case, made, None, false)?;
+    check_user(rt, case, made, Some(case.first), true)?;
+    check_user(rt, case, made, Some(case.second), true)
+}
