@@ -1,7 +1,7 @@
 pub mod Doomed
 pub mod Turned
 pub mod Twice
-pub mod Tells
+pub mod NotifiedOnce
 pub mod LeafFirst
 pub mod LeafEndsFirst
 pub mod Leaves

@@ -1,6 +1,6 @@
-pub mod ViewLists
-pub mod ViewSame
-pub mod ViewEdits
-pub mod ViewSignals
-pub mod ViewEnds
-pub mod ViewRows
+pub mod FilteredLists
+pub mod IsolationRelation
+pub mod IsolationOfEdits
+pub mod IsolationOfSignals
+pub mod IsolationOfEnds
+pub mod SoundRowsAreApart

@@ -1,8 +1,8 @@
-pub mod CollectSound
+pub mod SoundAfterCollect
 pub mod Search
 pub mod Whole
 pub mod Candidates
 pub mod CollectRows
 pub mod Unnamed
-pub mod ViewReports
-pub mod ViewLaws
+pub mod IsolationOfReports
+pub mod IsolationOfWaits
