@@ -1,5 +1,5 @@
 -- A walk along a list to the first row that passes a test, and that row among all rows.
-use Rattle.std.proofs.Common.{◌≡◌, ◌≢◌, ℕ, ◌<◌, ◌≤◌, Bool, true, false, List, [], ◌∷◌, Option, Some, None, true≢false, refl, subst, sym, ap, ◌∙◌, arith, inl, inr, nat_eq, rules}
+use Rattle.std.proofs.Common.{◌≡◌, ◌≢◌, ℕ, ◌<◌, ◌≤◌, Bool, true, false, List, [], ◌∷◌, Option, Some, None, true≢false, refl, sym, ap, ◌∙◌, arith, inl, inr, nat_eq, rules}
 use Rattle.std.specs.Prelude.{◌&&◌, ltb, find}
 use Rattle.std.specs.List.{AllByRecursion}
 use Rattle.std.specs.Map.{lookup}
@@ -11,7 +11,8 @@ use Rattle.proc_table.specs.declared.ProcData.{ProcData}
 use Rattle.proc_table.specs.declared.links.ListKind.{ListKind}
 use Rattle.proc_table.specs.declared.links.ListKind.TheVariants.{Children}
 use Rattle.proc_table.specs.declared.links.Slot.{Slot}
-use Rattle.proc_table.specs.Links.{Node, keys, key_of, IsNext, IsLinked}
+use Rattle.lwp_table.specs.Chain.{IsChain, anywhere, above}
+use Rattle.proc_table.specs.Links.{Node, keys, key_of, IsNext, members, IsLinked}
 use Rattle.proc_table.specs.Processes.{process_of, is_this}
 use Rattle.proc_table.specs.Walks.{DecidesRows, find_child}
 use Rattle.proc_table.specs.ListNodes.{list_owner, node_of, nodes_of, rows_of, find_named, IsTied, IsFirst}
@@ -23,7 +24,7 @@ use Rattle.proc_table.proofs.Tied.{key-of-row, list_owner-of, this-is, row-of, h
 use Rattle.proc_table.proofs.Listing.{Rise-all_rows, in_own_blocks-all_rows}
 use Rattle.proc_table.proofs.Slots.{finds}
 use Rattle.proc_table.proofs.NextOf.{next-found, next-none}
-use Rattle.proc_table.proofs.Linked.{key_node}
+use Rattle.proc_table.proofs.Linked.{key_node, as_member, member-of, list-of, IsNext-nearest}
 use Rattle.proc_table.proofs.ListNodes.{slot_at}
 
 -- the walk has passed the rows of the list up to this number, each of which fails, and is at the link to the next one
@@ -44,7 +45,7 @@ module _ (f : ℕ → Option Slot) (kin : ListKind) (t : ℕ) (returns : ProcDat
 
   pub passing-first : (head : ℕ) (slot : Slot) → f head ≡ Some slot → slot.row.pid ≡ t → IsPassing f kin t returns 0 (node_of kin slot).first
   passing-first head slot is number = record {
-    next = subst (λ n. IsNext (keys (nodes_of kin f)) n 0 (node_of kin slot).first) number (linked.heads head (node_of kin slot) (ap (option_map (node_of kin)) is));
+    next = IsNext-nearest (nodes_of kin f) t 0 anywhere (λ s node there any. linked.above_zero s node there) (λ k more. tt) (node_of kin slot).first (list-of (nodes_of kin f) linked head t (node_of kin slot) (ap (option_map (node_of kin)) is) number).first_is;
     past = λ j other there names none. absurd (omega (arith, none, linked.above_zero j (node_of kin other) (ap (option_map (node_of kin)) there)));
   }
 
@@ -70,9 +71,10 @@ module _ (f : ℕ → Option Slot) (kin : ListKind) (t : ℕ) (returns : ProcDat
     pub passing-found : returns slot.row true → IsFirst f kin t returns (Some s)
     passing-found passes = (slot, is, its.1, passes, before)
 
-    pub passing-on : returns slot.row false → IsPassing f kin t returns slot.row.pid (node_of kin slot).next
-    passing-on fails = record {
-      next = linked.links s (node_of kin slot) t (ap (option_map (node_of kin)) is) its.1;
+    pub passing-on : {first last : Option ℕ} → IsChain (members (nodes_of kin f)) t first last → returns slot.row false → IsPassing f kin t returns slot.row.pid (node_of kin slot).next
+    passing-on chain fails = record {
+      next = IsNext-nearest (nodes_of kin f) t slot.row.pid (above slot.row.pid) (λ s node there more. more) (λ k more. more) (node_of kin slot).next
+          (chain.next_is s (as_member (node_of kin slot) t) (member-of (nodes_of kin f) s (node_of kin slot) t (ap (option_map (node_of kin)) is) its.1) refl);
       past = λ j other there names most. elim (cases_eq other.row.pid slot.row.pid) [
         | inl same ↦
             let at = linked.apart j s (node_of kin other) (node_of kin slot) (ap (option_map (node_of kin)) there) (ap (option_map (node_of kin)) is) same in

@@ -13,9 +13,10 @@ pub mod Slots
 pub mod NextOf
 pub mod Indexed
 pub mod Seen
-pub mod Next
+pub mod Inserted
 pub mod Linked
 pub mod Births
+pub mod Places
 pub mod ListNodes
 pub mod LinkedLists
 pub mod Tied

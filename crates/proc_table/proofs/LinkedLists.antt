@@ -99,14 +99,14 @@ module _ (f g : ℕ → Option Slot) (es es' : List (ℕ × ℕ)) (q : ℕ) (are
     pub head-apart : IsHead f h t → IsHead g h t
     head-apart there = rw (others h apart) there
 
-  pub are_linked-born : (new : Slot) → f q ≡ None → g q ≡ Some new → ((k : ListKind) → (node_of k new).list_owner ≡ None) → ((k : ListKind) → (node_of k new).first ≡ None) → 0 < new.row.pid
+  pub are_linked-born : (new : Slot) → f q ≡ None → g q ≡ Some new → ((k : ListKind) → (node_of k new).list_owner ≡ None) → ((k : ListKind) → (node_of k new).first ≡ None) → ((k : ListKind) → (node_of k new).last ≡ None) → 0 < new.row.pid
       → lookup (nat_eq new.row.pid) es ≡ None → ((pid : ℕ) → lookup (nat_eq pid) es' ≡ cond (nat_eq new.row.pid pid) (Some q) (lookup (nat_eq pid) es)) → AreLinked g es'
-  are_linked-born new vacant has free empty positive fresh change = record {
+  are_linked-born new vacant has free no_first no_last positive fresh change = record {
     listed = λ s slot is. elim (cases_eq s q) [
       | inl here ↦ let its = same_Some new slot (sym has ∙ ap g (sym here) ∙ is) in rw (← its, here) (rw (same_number new.row.pid) at (change new.row.pid))
       | inr apart ↦ kept slot.row.pid s (are_linked.listed s slot (sym (others s apart) ∙ is))
     ];
-    linked = λ k. IsLinked-born (nodes_of k f) (nodes_of k g) q (node_of_others k) (node_of k new) (are_linked.linked k) (ap (option_map (node_of k)) vacant) (ap (option_map (node_of k)) has) (free k) (empty k) positive
+    linked = λ k. IsLinked-born (nodes_of k f) (nodes_of k g) q (node_of_others k) (node_of k new) (are_linked.linked k) (ap (option_map (node_of k)) vacant) (ap (option_map (node_of k)) has) (free k) (no_first k) (no_last k) positive
         (λ s node there same. let slot = slot_at k f s node there in cc (fresh, are_linked.listed s slot.0 slot.1, ap (λ (n : Node). n.pid) slot.2, same))
         (λ s node there names. let slot = slot_at k f s node there in let head = are_linked.headed k s slot.0 new.row.pid slot.1 (ap (λ (n : Node). n.list_owner) slot.2 ∙ names) in cc (fresh, head.1));
     headed = λ k s slot t is its. elim (cases_eq s q) [

@@ -146,7 +146,7 @@ module _ {f : ℕ → Option Slot} {es : List (ℕ × ℕ)} {counts : List ℕ} 
   module _ {f1 : ℕ → Option Slot} {es' : List (ℕ × ℕ)} {at : ℕ} {new : ProcData} (born : IsBorn f es new at f1 es') where
     pub added-are_linked : AreLinked f1 es'
     added-are_linked = are_linked-born f f1 es es' at tied.are_linked born.others (unlinked new) born.vacant born.has (each_kin (λ k. (node_of k (unlinked new)).list_owner ≡ None) Tracees refl refl)
-        (each_kin (λ k. (node_of k (unlinked new)).first ≡ None) Tracees refl refl) (omega (arith, born.home.block.0)) (no-slot new.pid born.fresh) born.change
+        (each_kin (λ k. (node_of k (unlinked new)).first ≡ None) Tracees refl refl) (each_kin (λ k. (node_of k (unlinked new)).last ≡ None) Tracees refl refl) (omega (arith, born.home.block.0)) (no-slot new.pid born.fresh) born.change
 
     pub added-head : (t : ℕ) → HasHead f es t → HasHead f1 es' t
     added-head t head =
@@ -185,8 +185,8 @@ module _ {f : ℕ → Option Slot} {es : List (ℕ × ℕ)} {counts : List ℕ} 
         ap (λ (p : ProcData). p.pid) (same_Some mid.row own.0 (sym (ap (option_map (λ (x : Slot). x.row)) has1) ∙ rehung.rows at ∙ own.1)) ∙ own.2
 
     set-node_of : (k : ListKind) → node_of k (record mid { row = new }) ≡ node_of k mid
-    set-node_of Tracees = λ i. record { pid = (sym same_pid) i; list_owner = mid.tracees.list_owner; first = mid.tracees.first; next = mid.tracees.next }
-    set-node_of Children = λ i. record { pid = (sym same_pid) i; list_owner = mid.children.list_owner; first = mid.children.first; next = mid.children.next }
+    set-node_of Tracees = λ i. record { pid = (sym same_pid) i; list_owner = mid.tracees.list_owner; first = mid.tracees.first; last = mid.tracees.last; prev = mid.tracees.prev; next = mid.tracees.next }
+    set-node_of Children = λ i. record { pid = (sym same_pid) i; list_owner = mid.children.list_owner; first = mid.children.first; last = mid.children.last; prev = mid.children.prev; next = mid.children.next }
 
     set-nodes_of : (k : ListKind) (s : ℕ) → nodes_of k g s ≡ nodes_of k f1 s
     set-nodes_of k s = elim (cases_eq s at) [

@@ -1,13 +1,16 @@
--- Lists through slots, each in rising order of pid.
-use Rattle.std.specs.Prelude.{◌≡◌, ℕ, ◌<◌, ◌≤◌, Option, Some, None, unwrap_or}
-use Rattle.std.specs.Option.{option_map}
+-- Doubly linked lists through slots, each in rising order of pid.
+use Rattle.std.specs.Prelude.{◌≡◌, ℕ, ◌<◌, ◌≤◌, ◌&&◌, Option, Some, None, is_none, nat_eq, if◌then◌else◌}
+use Rattle.std.specs.Option.{option_map, option_and_then}
+use Rattle.lwp_table.specs.Chain.{Node as Member, IsChain, leads_to}
 
--- what a list sees of a slot: the pid of its row, the number whose list contains the row, and the slots of the
--- first row of its own list and of the next row in the list that contains it
+-- what lists see of a slot: the pid of its row, the number whose list contains the row, the slots of the first and the
+-- last row of its own list, and of the rows before and after it in the list that contains it
 pub record Node : Type 0 where
   pub pid : ℕ
   pub list_owner : Option ℕ
   pub first : Option ℕ
+  pub last : Option ℕ
+  pub prev : Option ℕ
   pub next : Option ℕ
 
 -- what lists are built from: a node's pid and the number whose list contains it
@@ -23,25 +26,35 @@ abbrev pub IsNext : (ℕ → Option (ℕ × Option ℕ)) → ℕ → ℕ → Opt
 IsNext m t after None = (j p : ℕ) → m j ≡ Some (p, Some t) → p ≤ after
 IsNext m t after (Some s) = (p : ℕ) × (m s ≡ Some (p, Some t)) × (after < p) × ((j other : ℕ) → m j ≡ Some (other, Some t) → after < other → p ≤ other)
 
--- no two nodes have the same pid, a node's first link leads to the first of its own list, and its next link to the next
+-- the node as a member of the list of a number, if any
+abbrev pub member : Node → Option Member
+member node = option_map (λ t. record { key = node.pid; list = t; prev = node.prev; next = node.next }) node.list_owner
+
+abbrev pub members : (ℕ → Option Node) → ℕ → Option Member
+members nodes slot = option_and_then member (nodes slot)
+
+-- no two nodes have the same pid, and a node's first and last links lead to the ends of its own list
 pub record IsLinked (nodes : ℕ → Option Node) : Type 0 where
   pub apart : (i j : ℕ) (a b : Node) → nodes i ≡ Some a → nodes j ≡ Some b → a.pid ≡ b.pid → i ≡ j
   pub above_zero : (s : ℕ) (node : Node) → nodes s ≡ Some node → 0 < node.pid
-  pub heads : (s : ℕ) (node : Node) → nodes s ≡ Some node → IsNext (keys nodes) node.pid 0 node.first
-  pub links : (s : ℕ) (node : Node) (t : ℕ) → nodes s ≡ Some node → node.list_owner ≡ Some t → IsNext (keys nodes) t node.pid node.next
+  pub lists : (s : ℕ) (node : Node) → nodes s ≡ Some node → IsChain (members nodes) node.pid node.first node.last
 
--- a node with this as its first link, or as its next link where the place is a member's
-abbrev pub with_link : Option ℕ → Node → Option ℕ → Node
-with_link None node link = record node { first = link }
-with_link (Some p) node link = record node { next = link }
+-- the numbers from this one on
+abbrev pub at_least : ℕ → ℕ → Type 0
+at_least a p = a ≤ p
 
--- the node is the head of the list of t, or its member with the pid `passed`, and `link` is its link in this list
-abbrev pub StandsAt : Option ℕ → Node → ℕ → ℕ → Option ℕ → Type 0
-StandsAt None node t passed link = (node.pid ≡ t) × (passed ≡ 0) × (link ≡ node.first)
-StandsAt (Some p) node t passed link = (node.list_owner ≡ Some t) × (passed ≡ node.pid) × (link ≡ node.next)
+-- the node in slot s, after the link from `at` to what follows was changed; where `at` is none, it is the head's first link
+abbrev pub forward : ℕ → Option ℕ → Option ℕ → ℕ → Node → Node
+forward head at to s node = record node { first = if nat_eq head s && is_none at then to else node.first; next = if leads_to at s then to else node.next }
 
--- a place in the list of t, whose head is in the slot `head`: the head, or the member in the slot `at`
-pub record IsPlace (nodes : ℕ → Option Node) (head t : ℕ) (at : Option ℕ) (passed : ℕ) (link : Option ℕ) : Type 0 where
-  pub node : Node
-  pub there : nodes (unwrap_or at head) ≡ Some node
-  pub stands : StandsAt at node t passed link
+-- and after the link from `at` to what precedes was changed; where `at` is none, it is the head's last link
+abbrev pub backward : ℕ → Option ℕ → Option ℕ → ℕ → Node → Node
+backward head at to s node = record node { last = if nat_eq head s && is_none at then to else node.last; prev = if leads_to at s then to else node.prev }
+
+-- and after the node in slot q came to stand in the list of this number, or in none, between these two
+abbrev pub hung : ℕ → Option ℕ → Option ℕ → Option ℕ → ℕ → Node → Node
+hung q list_owner prev next s node = record node {
+  list_owner = if nat_eq q s then list_owner else node.list_owner;
+  prev = if nat_eq q s then prev else node.prev;
+  next = if nat_eq q s then next else node.next;
+}

@@ -36,7 +36,14 @@ abbrev pub list_owner : ListKind → ProcData → Option ℕ
 list_owner kin p = pick kin p.tracer (parent_named p.parent)
 
 abbrev pub node_of : ListKind → Slot → Node
-node_of kin slot = record { pid = slot.row.pid; list_owner = (links_in kin slot).list_owner; first = (links_in kin slot).first; next = (links_in kin slot).next }
+node_of kin slot = record {
+  pid = slot.row.pid;
+  list_owner = (links_in kin slot).list_owner;
+  first = (links_in kin slot).first;
+  last = (links_in kin slot).last;
+  prev = (links_in kin slot).prev;
+  next = (links_in kin slot).next;
+}
 
 abbrev pub nodes_of : ListKind → (ℕ → Option Slot) → ℕ → Option Node
 nodes_of kin f s = option_map (node_of kin) (f s)
@@ -75,7 +82,7 @@ IsFirst nodes kin t returns (Some s) = (slot : Slot) × (nodes s ≡ Some slot) 
 
 -- a row in no list, whose own list is empty
 abbrev pub no_links : Links
-no_links = record { list_owner = None; first = None; next = None }
+no_links = record { list_owner = None; first = None; last = None; prev = None; next = None }
 
 abbrev pub unlinked : ProcData → Slot
 unlinked row = record { row = row; tracees = no_links; children = no_links }

@@ -1,13 +1,15 @@
 //! The lists of each process's tracees and children. They run through the slots of the rows, in rising
-//! order of pid. A walk visits only the rows of one list, and a change allocates nothing.
+//! order of pid, with links both ways. A walk visits only the rows of one list, and a change allocates nothing.
+//! A row leaves its list, or joins one at the end, in the same time whatever the length of the list.
 
-ghost use Rattle.std.specs.Prelude.{◌≡◌, ◌≢◌, ℕ, ◌<◌, ◌≤◌, Some, None, IsSomeAnd, unwrap_or, nat_eq};
+ghost use Rattle.std.specs.Prelude.{◌≡◌, ◌≢◌, ℕ, ◌<◌, Some, None, IsSomeAnd, IfSome, nat_eq};
 ghost use Rattle.std.specs.Option.{option_map};
 ghost use Rattle.std.specs.Map.{lookup};
 ghost use Rattle.slab.specs.Slab.{get, slab_len, ContainsKey};
-ghost use Rattle.proc_table.specs.Links.{keys, key_of, IsNext, IsLinked, IsPlace, with_link};
+ghost use Rattle.proc_table.specs.Links.{keys, IsNext, IsLinked, members, at_least, forward, backward, hung};
+ghost use Rattle.lwp_table.specs.Chain.{IsNearest, up, down, below};
 ghost use Rattle.std.specs.Fn.{FnReturnsAt};
-ghost use Rattle.proc_table.specs.ListNodes.{links_in, put_links, other, pick, node_of, nodes_of, rows_of, AreLinked, IsHead, IsFirst};
+ghost use Rattle.proc_table.specs.ListNodes.{links_in, put_links, no_links, other, pick, node_of, nodes_of, rows_of, AreLinked, IsHead, IsFirst};
 
 use crate::ProcData;
 use number_map::NumberMap;
@@ -27,7 +29,11 @@ pub struct Links {
     pub list_owner: Option<u32>,
     /// The slot of the first row of the process's own list.
     pub first: Option<usize>,
-    /// The slot of the next row in the list that contains this one.
+    /// The slot of the last row of the process's own list.
+    pub last: Option<usize>,
+    /// The slot of the row before this one in the list that contains it.
+    pub prev: Option<usize>,
+    /// The slot of the row after this one in the list that contains it.
     pub next: Option<usize>,
 }
 
@@ -39,22 +45,23 @@ pub struct Slot {
     pub children: Links,
 }
 
-/// A place in a list: the head, or the row in the slot `at`; with the pid at this place and its link.
+/// A place in a list: between the rows in these slots, if any.
 #[derive(Clone, Copy, Debug, PartialEq, Eq, Drop)]
 pub struct Place {
-    pub at: Option<usize>,
-    pub passed: u32,
-    pub link: Option<usize>,
+    pub prev: Option<usize>,
+    pub next: Option<usize>,
 }
 
 impl Links {
     /// Returns the links of a row in no list, whose own list is empty.
     pub fn none() -> Links
-        ensures { result ≡ record { list_owner = None; first = None; next = None } }
+        ensures { result ≡ no_links }
     {
         Links {
             list_owner: None,
             first: None,
+            last: None,
+            prev: None,
             next: None,
         }
     }
@@ -102,47 +109,50 @@ fn set_links(nodes: &mut Slab<Slot>, kin: ListKind, at: usize, links: Links)
     nodes[at] = with_links(kin, links, &nodes[at]);
 }
 
-/// Returns the last place before `pid` in the list of `list_owner`, whose head is in this slot.
-pub fn place_before(
-    nodes: &Slab<Slot>,
-    kin: ListKind,
-    head: usize,
-    list_owner: u32,
-    pid: u32,
-) -> Place
+/// Returns the place of `pid` in the list of `list_owner`, whose head is in this slot. It looks at the last row
+/// before it walks, since numbers mostly rise.
+pub fn place_of(nodes: &Slab<Slot>, kin: ListKind, head: usize, list_owner: u32, pid: u32) -> Place
     requires linked { IsLinked (nodes_of kin (get nodes.now)) }
     requires there { IsHead (get nodes.now) head list_owner }
     requires positive { 0 < pid }
-    ensures place { IsPlace (nodes_of kin (get nodes.now)) head list_owner result.at result.passed result.link }
-    ensures before { result.passed < pid }
-    ensures last { (s : ℕ) (slot : Slot) → result.link ≡ Some s → get nodes.now s ≡ Some slot → pid ≤ slot.row.pid }
+    ensures prev { IsNearest down (members (nodes_of kin (get nodes.now))) list_owner (below pid) result.prev }
+    ensures next { IsNearest up (members (nodes_of kin (get nodes.now))) list_owner (at_least pid) result.next }
 {
-    let mut at = None;
+    let ends = links_of(kin, &nodes[head]);
+    if let Some(last) = ends.last {
+        if nodes[last].row.pid.get() < pid {
+            return Place {
+                prev: ends.last,
+                next: None,
+            };
+        }
+    }
     let mut passed = 0;
-    let mut link = links_of(kin, &nodes[head]).first;
-    while let Some(slot) = link {
+    let mut prev = None;
+    let mut next = ends.first;
+    while let Some(slot) = next {
         let number = nodes[slot].row.pid.get();
         if number >= pid {
-            return Place { at, passed, link };
+            return Place { prev, next };
         }
-        at = Some(slot);
         passed = number;
-        link = links_of(kin, &nodes[slot]).next;
+        prev = next;
+        next = links_of(kin, &nodes[slot]).next;
     }
-    Place { at, passed, link }
+    Place { prev, next }
 }
 
-/// Writes the link of a place.
-fn set_link(
+/// Writes the link from the row in the slot `at` to the next one, or the first link of the head.
+fn set_next(
     nodes: &mut Slab<Slot>,
     kin: ListKind,
     head: usize,
     at: Option<usize>,
-    link: Option<usize>,
+    to: Option<usize>,
 )
-    requires { ContainsKey nodes.old (unwrap_or at head) }
-    ensures here { (slot : Slot) → get nodes.old (unwrap_or at head) ≡ Some slot → nodes_of kin (get nodes.new) (unwrap_or at head) ≡ Some (with_link at (node_of kin slot) link) }
-    ensures others { (s : ℕ) → s ≢ unwrap_or at head → get nodes.new s ≡ get nodes.old s }
+    requires head { ContainsKey nodes.old head }
+    requires at { IfSome at (λ s. ContainsKey nodes.old s) }
+    ensures nodes { (s : ℕ) → nodes_of kin (get nodes.new) s ≡ option_map (forward head at to s) (nodes_of kin (get nodes.old) s) }
     ensures rows { (s : ℕ) → rows_of (get nodes.new) s ≡ rows_of (get nodes.old) s }
     ensures apart { (s : ℕ) → nodes_of (other kin) (get nodes.new) s ≡ nodes_of (other kin) (get nodes.old) s }
     ensures len { slab_len nodes.new ≡ slab_len nodes.old }
@@ -151,28 +161,58 @@ fn set_link(
     match at {
         None => {
             let mut links = links_of(kin, &nodes[head]);
-            links.first = link;
+            links.first = to;
             set_links(nodes, kin, head, links);
         }
         Some(slot) => {
             let mut links = links_of(kin, &nodes[slot]);
-            links.next = link;
+            links.next = to;
             set_links(nodes, kin, slot, links);
         }
     }
 }
 
-/// Writes whose list contains a row, and the row's link there.
-fn set_list_owner(
+/// Writes the link from the row in the slot `at` to the one before, or the last link of the head.
+fn set_prev(
+    nodes: &mut Slab<Slot>,
+    kin: ListKind,
+    head: usize,
+    at: Option<usize>,
+    to: Option<usize>,
+)
+    requires head { ContainsKey nodes.old head }
+    requires at { IfSome at (λ s. ContainsKey nodes.old s) }
+    ensures nodes { (s : ℕ) → nodes_of kin (get nodes.new) s ≡ option_map (backward head at to s) (nodes_of kin (get nodes.old) s) }
+    ensures rows { (s : ℕ) → rows_of (get nodes.new) s ≡ rows_of (get nodes.old) s }
+    ensures apart { (s : ℕ) → nodes_of (other kin) (get nodes.new) s ≡ nodes_of (other kin) (get nodes.old) s }
+    ensures len { slab_len nodes.new ≡ slab_len nodes.old }
+    ensures capacity { nodes.new.capacity ≡ nodes.old.capacity }
+{
+    match at {
+        None => {
+            let mut links = links_of(kin, &nodes[head]);
+            links.last = to;
+            set_links(nodes, kin, head, links);
+        }
+        Some(slot) => {
+            let mut links = links_of(kin, &nodes[slot]);
+            links.prev = to;
+            set_links(nodes, kin, slot, links);
+        }
+    }
+}
+
+/// Writes whose list contains a row, and the row's links there.
+fn hang(
     nodes: &mut Slab<Slot>,
     kin: ListKind,
     slot: usize,
     list_owner: Option<u32>,
+    prev: Option<usize>,
     next: Option<usize>,
 )
     requires { ContainsKey nodes.old slot }
-    ensures here { (was : Slot) → get nodes.old slot ≡ Some was → nodes_of kin (get nodes.new) slot ≡ Some (record { pid = was.row.pid; list_owner = list_owner; first = (node_of kin was).first; next = next }) }
-    ensures others { (s : ℕ) → s ≢ slot → get nodes.new s ≡ get nodes.old s }
+    ensures nodes { (s : ℕ) → nodes_of kin (get nodes.new) s ≡ option_map (hung slot list_owner prev next s) (nodes_of kin (get nodes.old) s) }
     ensures rows { (s : ℕ) → rows_of (get nodes.new) s ≡ rows_of (get nodes.old) s }
     ensures apart { (s : ℕ) → nodes_of (other kin) (get nodes.new) s ≡ nodes_of (other kin) (get nodes.old) s }
     ensures len { slab_len nodes.new ≡ slab_len nodes.old }
@@ -180,6 +220,7 @@ fn set_list_owner(
 {
     let mut links = links_of(kin, &nodes[slot]);
     links.list_owner = list_owner;
+    links.prev = prev;
     links.next = next;
     set_links(nodes, kin, slot, links);
 }
@@ -198,9 +239,10 @@ fn link(nodes: &mut Slab<Slot>, kin: ListKind, head: usize, list_owner: u32, slo
     ensures capacity { nodes.new.capacity ≡ nodes.old.capacity }
 {
     let pid = nodes[slot].row.pid.get();
-    let place = place_before(nodes, kin, head, list_owner, pid);
-    set_link(nodes, kin, head, place.at, Some(slot));
-    set_list_owner(nodes, kin, slot, Some(list_owner), place.link);
+    let place = place_of(nodes, kin, head, list_owner, pid);
+    set_next(nodes, kin, head, place.prev, Some(slot));
+    set_prev(nodes, kin, head, place.next, Some(slot));
+    hang(nodes, kin, slot, Some(list_owner), place.prev, place.next);
 }
 
 /// Removes the row in `slot` from the list of `list_owner`.
@@ -216,11 +258,10 @@ fn unlink(nodes: &mut Slab<Slot>, kin: ListKind, head: usize, list_owner: u32, s
     ensures len { slab_len nodes.new ≡ slab_len nodes.old }
     ensures capacity { nodes.new.capacity ≡ nodes.old.capacity }
 {
-    let pid = nodes[slot].row.pid.get();
-    let next = links_of(kin, &nodes[slot]).next;
-    let place = place_before(nodes, kin, head, list_owner, pid);
-    set_link(nodes, kin, head, place.at, next);
-    set_list_owner(nodes, kin, slot, None, None);
+    let links = links_of(kin, &nodes[slot]);
+    set_next(nodes, kin, head, links.prev, links.next);
+    set_prev(nodes, kin, head, links.next, links.prev);
+    hang(nodes, kin, slot, None, None, None);
 }
 
 /// Removes the row in `slot` from the list that contains it, if any.
@@ -362,7 +403,7 @@ pub fn next_slot(
             return links.next;
         }
     }
-    place_before(nodes, kin, head, list_owner, after.saturating_add(1)).link
+    place_of(nodes, kin, head, list_owner, after.saturating_add(1)).next
 }
 
 /// Returns the slot of the first row in the list of `list_owner` that passes the test, if any. No row is copied.

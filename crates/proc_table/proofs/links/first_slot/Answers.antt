@@ -2,6 +2,9 @@ use Rattle.std.proofs.Common.{ap, is_some, arith}
 use Rattle.std.specs.Fn.{FnReturnsAt}
 use Rattle.std.proofs.lemmas.Fn.{says_at}
 use Rattle.slab.specs.Slab.{get}
+use Rattle.std.specs.Option.{option_map}
+use Rattle.proc_table.specs.ListNodes.{node_of, nodes_of}
+use Rattle.proc_table.proofs.Linked.{list-of}
 use Rattle.proc_table.proofs.Firsts.{member_slot, passing-first, passing-none, passing-above, passing-found, passing-on}
 use Rattle.proc_table.proofs.links.first_slot.Goals as goal
 
@@ -28,7 +31,9 @@ pub loop-link-preserved : goal.loop-link-preserved
 loop-link-preserved g c =
     rw (c.get-passed.ensures.number, c.links_of-link-in-Some.ensures)
     (passing-on (get c.args.nodes.now) c.args.kin c.args.list_owner (FnReturnsAt g.F.Fn c.args.test) c.requires.linked c.loop-link.passed c.in-Some.at c.index-slot.result.now c.index-slot.ensures
-    (rw c.in-Some.is at c.loop-link.invariant) (says_at g.F.Fn c.test.ensures c.if-test.false))
+    (rw c.in-Some.is at c.loop-link.invariant)
+    (list-of (nodes_of c.args.kin (get c.args.nodes.now)) c.requires.linked c.args.head c.args.list_owner (node_of c.args.kin c.index.result.now) (ap (option_map (node_of c.args.kin)) c.index.ensures) (rw c.index.ensures at c.requires.there))
+    (says_at g.F.Fn c.test.ensures c.if-test.false))
 
 pub returns : goal.returns
 returns g c = passing-none (get c.args.nodes.now) c.args.kin c.args.list_owner (FnReturnsAt g.F.Fn c.args.test) c.requires.linked c.loop-link.passed (rw c.in_default.is at c.loop-link.invariant)

@@ -1,12 +1,30 @@
-use Rattle.std.proofs.Common.{refl, arith}
+use Rattle.std.proofs.Common.{ℕ, Some, refl, ap, ◌∙◌}
 use Rattle.slab.specs.Slab.{get}
-use Rattle.proc_table.proofs.ListNodes.{joined}
+use Rattle.std.specs.Option.{option_map}
+use Rattle.lwp_table.specs.Chain.{up, down, below}
+use Rattle.proc_table.specs.Links.{at_least}
+use Rattle.proc_table.specs.ListNodes.{node_of, nodes_of}
+use Rattle.proc_table.proofs.Linked.{IsLinked-joined, nearest-beyond}
+use Rattle.proc_table.proofs.ListNodes.{list-at, link-there, still-there}
 use Rattle.proc_table.proofs.links.link.Goals as goal
+
+pub set_next-requires-clause-at : goal.set_next-requires-clause-at
+set_next-requires-clause-at c = link-there down c.args.kin (get c.args.nodes.now) c.args.list_owner (below c.get-pid.result) c.place_of-place.result.prev c.place_of-place.ensures.prev
+
+pub set_prev-requires-clause-at : goal.set_prev-requires-clause-at
+set_prev-requires-clause-at c =
+    still-there (get c.args.nodes.now) (get c.set_next.new.nodes) c.set_next.ensures.rows c.place_of-place.result.next
+    (link-there up c.args.kin (get c.args.nodes.now) c.args.list_owner (at_least c.get-pid.result) c.place_of-place.result.next c.place_of-place.ensures.next)
 
 pub returns-clause-linked : goal.returns-clause-linked
 returns-clause-linked c =
-    let place = c.place_before-place.ensures in
-    let number = c.get-pid.ensures.number in
-    joined c.args.kin (get c.args.nodes.now) (get c.set_link.new.nodes) (get c.set_list_owner.new.nodes) c.requires.linked c.args.head c.args.list_owner c.args.slot _ _ _ _ c.index.result.now c.index.ensures place.place (omega (arith, place.before, number))
-    c.set_link.ensures.here c.set_link.ensures.others c.set_link.ensures.rows _ _ c.set_list_owner.ensures.here c.set_list_owner.ensures.others (λ s slot on there. omega (arith, place.last s slot on there, number))
-    (rw c.index.ensures at c.requires.free) refl refl refl
+    let f = get c.args.nodes.now in
+    let list = list-at c.args.kin f c.requires.linked c.args.head c.args.list_owner c.requires.there in
+    let node = node_of c.args.kin c.index.result.now in
+    let there = ap (option_map (node_of c.args.kin)) c.index.ensures in
+    let free = rw c.index.ensures at c.requires.free in
+    let turned : (s : ℕ) → _ = λ s. c.hang.ensures.nodes s ∙ ap (option_map _) (c.set_prev.ensures.nodes s ∙ ap (option_map _) (c.set_next.ensures.nodes s)) in
+    IsLinked-joined (nodes_of c.args.kin f) (nodes_of c.args.kin (get c.hang.new.nodes)) c.requires.linked c.args.head c.args.list_owner c.args.slot (node_of c.args.kin list.0) node
+    (ap (option_map (node_of c.args.kin)) list.1) list.2 there _ _ _ _ (Some c.args.list_owner) c.place_of-place.result.prev c.place_of-place.result.next turned free refl refl refl refl refl
+    (rw c.get-pid.ensures.number at c.place_of-place.ensures.prev)
+    (nearest-beyond (nodes_of c.args.kin f) c.requires.linked c.args.list_owner c.args.slot node there free c.place_of-place.result.next (rw c.get-pid.ensures.number at c.place_of-place.ensures.next))

@@ -1,16 +1,34 @@
-use Rattle.std.proofs.Common.{refl, arith, ap, sym, ◌∙◌}
-use Rattle.std.proofs.lemmas.Option.{same_Some}
+use Rattle.std.proofs.Common.{ℕ, None, refl, ap, ◌∙◌}
 use Rattle.slab.specs.Slab.{get}
-use Rattle.proc_table.specs.declared.links.Slot.{Slot}
-use Rattle.proc_table.specs.ListNodes.{node_of}
-use Rattle.proc_table.proofs.ListNodes.{left}
+use Rattle.std.specs.Option.{option_map}
+use Rattle.lwp_table.specs.Chain.{up, down, above, below}
+use Rattle.proc_table.specs.declared.links.Links.{Links}
+use Rattle.proc_table.specs.ListNodes.{node_of, nodes_of}
+use Rattle.proc_table.proofs.Linked.{as_member, member-of, IsLinked-left}
+use Rattle.proc_table.proofs.ListNodes.{list-at, link-there, still-there}
 use Rattle.proc_table.proofs.links.unlink.Goals as goal
+
+pub set_next-requires-clause-at : goal.set_next-requires-clause-at
+set_next-requires-clause-at c =
+    let f = get c.args.nodes.now in
+    let list = list-at c.args.kin f c.requires.linked c.args.head c.args.list_owner c.requires.there in
+    let node = node_of c.args.kin c.index.result.now in
+    rw (ap (λ (l : Links). l.prev) c.links_of-links.ensures) (link-there down c.args.kin f c.args.list_owner (below node.pid) node.prev
+    (list.3.prev_is c.args.slot (as_member node c.args.list_owner) (member-of (nodes_of c.args.kin f) c.args.slot node c.args.list_owner (ap (option_map (node_of c.args.kin)) c.index.ensures) (rw c.index.ensures at c.requires.its)) refl))
+
+pub set_prev-requires-clause-at : goal.set_prev-requires-clause-at
+set_prev-requires-clause-at c =
+    let f = get c.args.nodes.now in
+    let list = list-at c.args.kin f c.requires.linked c.args.head c.args.list_owner c.requires.there in
+    let node = node_of c.args.kin c.index.result.now in
+    rw (ap (λ (l : Links). l.next) c.links_of-links.ensures) (still-there f (get c.set_next.new.nodes) c.set_next.ensures.rows node.next (link-there up c.args.kin f c.args.list_owner (above node.pid) node.next
+    (list.3.next_is c.args.slot (as_member node c.args.list_owner) (member-of (nodes_of c.args.kin f) c.args.slot node c.args.list_owner (ap (option_map (node_of c.args.kin)) c.index.ensures) (rw c.index.ensures at c.requires.its)) refl)))
 
 pub returns-clause-linked : goal.returns-clause-linked
 returns-clause-linked c =
-    let place = c.place_before-place.ensures in
-    let number = c.get-pid.ensures.number in
-    let again = same_Some c.index-2.result.now c.index.result.now (sym c.index-2.ensures ∙ c.index.ensures) in
-    left c.args.kin (get c.args.nodes.now) (get c.set_link.new.nodes) (get c.set_list_owner.new.nodes) c.requires.linked c.args.head c.args.list_owner c.args.slot _ _ _ _ c.index.result.now c.index.ensures place.place (omega (arith, place.before, number))
-    c.set_link.ensures.here c.set_link.ensures.others c.set_link.ensures.rows _ _ c.set_list_owner.ensures.here c.set_list_owner.ensures.others (λ s slot on there. omega (arith, place.last s slot on there, number))
-    (rw c.index.ensures at c.requires.its) refl (ap (λ l. l.next) c.links_of-next.ensures ∙ ap (λ (x : Slot). (node_of c.args.kin x).next) again)
+    let f = get c.args.nodes.now in
+    let list = list-at c.args.kin f c.requires.linked c.args.head c.args.list_owner c.requires.there in
+    let turned : (s : ℕ) → _ = λ s. c.hang.ensures.nodes s ∙ ap (option_map _) (c.set_prev.ensures.nodes s ∙ ap (option_map _) (c.set_next.ensures.nodes s)) in
+    IsLinked-left (nodes_of c.args.kin f) (nodes_of c.args.kin (get c.hang.new.nodes)) c.requires.linked c.args.head c.args.list_owner c.args.slot (node_of c.args.kin list.0) (node_of c.args.kin c.index.result.now)
+    (ap (option_map (node_of c.args.kin)) list.1) list.2 (ap (option_map (node_of c.args.kin)) c.index.ensures) _ _ _ _ None None None turned (rw c.index.ensures at c.requires.its) refl
+    (ap (λ (l : Links). l.prev) c.links_of-links.ensures) (ap (λ (l : Links). l.next) c.links_of-links.ensures) (ap (λ (l : Links). l.next) c.links_of-links.ensures) (ap (λ (l : Links). l.prev) c.links_of-links.ensures)
