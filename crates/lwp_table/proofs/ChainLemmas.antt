@@ -1,10 +1,10 @@
--- What becomes of a list where a node joins at its end, or leaves.
+-- What becomes of a list where a node leaves it.
 use Rattle.std.proofs.Common.{◌≡◌, ◌≢◌, ℕ, ◌<◌, ◌≤◌, Bool, true, false, Option, Some, None, refl, sym, ap, subst, ◌∙◌, arith, inl, inr, ◌⊎◌, cond, is_none, rules}
 use Rattle.std.proofs.lemmas.Bool.{cases_eq}
 use Rattle.std.proofs.lemmas.Bool.Decides.{nat_tests}
 use Rattle.std.proofs.lemmas.Option.{same_Some}
 use Rattle.std.specs.Option.{option_map, option_or}
-use Rattle.lwp_table.specs.Chain.{Node, IsNearest, IsChain, AreApart, up, down, anywhere, above, below, leads_to, joined, bridged}
+use Rattle.lwp_table.specs.Chain.{Node, IsNearest, IsChain, AreApart, up, down, anywhere, above, below, leads_to, bridged}
 
 pub lt_or_le : (a b : ℕ) → (a < b) ⊎ (b ≤ a)
 lt_or_le a b = grind (arith)
@@ -45,96 +45,6 @@ IsChain-kept f g t first last forth back chain = record {
   where
     same : (le : ℕ → ℕ → Type 0) (P : ℕ → Type 0) (o : Option ℕ) → IsNearest le f t P o → IsNearest le g t P o
     same le P o near = nearest-fewer le f g t P P o (λ j node there on p. (node, back j node there on, on, refl, p)) (λ s was is there on p. (was, forth s was there on, on, refl, p)) near
-
--- a node with a later key than all comes last
-module _ (f g : ℕ → Option Node) (apart : AreApart f) (t : ℕ) (first last : Option ℕ) (chain : IsChain f t first last) (q : ℕ) (new : Node)
-    (vacant : f q ≡ None) (has : g q ≡ Some new) (list : new.list ≡ t) (prev : new.prev ≡ last) (next : new.next ≡ None)
-    (others : (s : ℕ) → s ≢ q → g s ≡ option_map (joined last q s) (f s)) (later : (s : ℕ) (was : Node) → f s ≡ Some was → was.key < new.key) where
-  not_q : (s : ℕ) (was : Node) → f s ≡ Some was → s ≢ q
-  not_q s was there same = cc (there, ap f same, vacant)
-
-  forth : (s : ℕ) (was : Node) → f s ≡ Some was → g s ≡ Some (joined last q s was)
-  forth s was there = others s (not_q s was there) ∙ ap (option_map (joined last q s)) there
-
-  back : (s : ℕ) (node : Node) → s ≢ q → g s ≡ Some node → (was : Node) × (f s ≡ Some was) × (joined last q s was ≡ node)
-  back s node off there = mapped (joined last q s) (f s) node (sym (others s off) ∙ there)
-
-  its : (s : ℕ) (node : Node) → s ≡ q → g s ≡ Some node → new ≡ node
-  its s node same there = same_Some new node (sym has ∙ ap g (sym same) ∙ there)
-
-  -- the one that was nearest stays so
-  stays_in : (P : ℕ → Type 0) (s : ℕ) → IsNearest up f t P (Some s) → IsNearest up g t P (Some s)
-  stays_in P s near = search (rules, forth, cases_eq, its, back, moved)
-
-  -- the new one is the nearest where there was none
-  comes_in : (P : ℕ → Type 0) → P new.key → IsNearest up f t P None → IsNearest up g t P (Some q)
-  comes_in P p none = search (rules, cases_eq, its, back)
-
-  first_in : (o : Option ℕ) → IsNearest up f t anywhere o → IsNearest up g t anywhere (option_or o (Some q))
-  first_in None near = comes_in anywhere tt near
-  first_in (Some s) near = stays_in anywhere s near
-
-  last_in : IsNearest down g t anywhere (Some q)
-  last_in = search (rules, cases_eq, its, back)
-
-  -- the last one has no later one
-  end : (s : ℕ) (was : Node) (o : Option ℕ) → IsNearest down f t anywhere o → o ≡ Some s → f s ≡ Some was → IsNearest up f t (above was.key) None
-  end s was None near is there = absurd (cc)
-  end s was (Some l) near is there = search (rules, same_Some)
-
-  -- and each other has one
-  goes_on : (s : ℕ) (was : Node) (o : Option ℕ) → IsNearest down f t anywhere o → leads_to o s ≡ false → f s ≡ Some was → was.list ≡ t → IsNearest up f t (above was.key) None → ⊥
-  goes_on s was None near off there on none = near s was there on tt
-  goes_on s was (Some l) near off there on none = search (rules, nat_tests)
-
-  next_in : (s : ℕ) (was : Node) → f s ≡ Some was → was.list ≡ t → (b : Bool) → leads_to last s ≡ b → (o : Option ℕ) → IsNearest up f t (above was.key) o → IsNearest up g t (above was.key) (cond b (Some q) o)
-  next_in s was there on true is o near = comes_in (above was.key) (later s was there) (end s was last chain.last_is (leads last s is) there)
-  next_in s was there on false is None near = absurd (goes_on s was last chain.last_is is there on near)
-  next_in s was there on false is (Some n) near = stays_in (above was.key) n near
-
-  prev_in : (P Q : ℕ → Type 0) (o : Option ℕ) → ((k : ℕ) → k < new.key → Q k → P k) → ((s : ℕ) (was : Node) → f s ≡ Some was → P was.key → Q was.key) → (Q new.key → ⊥) → IsNearest down f t P o → IsNearest down g t Q o
-  prev_in P Q o to from not near = nearest-fewer down f g t P Q o
-      (λ j node there on p. elim (cases_eq j q) [
-        | inl same ↦ absurd (not (subst Q (sym (ap (λ n. n.key) (its j node same there))) p))
-        | inr off ↦ let was = back j node off there in let key : was.0.key ≡ node.key = ap (λ n. n.key) was.2 in (was.0, was.1, ap (λ n. n.list) was.2 ∙ on, key, to was.0.key (later j was.0 was.1) (subst Q (sym key) p))
-      ])
-      (λ s was is there on p. (joined last q s was, forth s was there, on, refl, from s was there p)) near
-
-  pub IsChain-joined : IsChain g t (option_or first (Some q)) (Some q)
-  IsChain-joined = record {
-    first_is = first_in first chain.first_is;
-    last_is = last_in;
-    next_is = λ s node there on. elim (cases_eq s q) [
-      | inl same ↦ let is = its s node same there in rw (← is, next) (λ j other at on p. elim (cases_eq j q) [
-        | inl here ↦ omega (arith, p, ap (λ n. n.key) (its j other here at))
-        | inr off ↦ let was = back j other off at in omega (arith, p, later j was.0 was.1, ap (λ n. n.key) was.2)
-      ])
-      | inr off ↦ let was = back s node off there in let list : was.0.list ≡ t = ap (λ n. n.list) was.2 ∙ on in rw (← was.2) (next_in s was.0 was.1 list (leads_to last s) refl was.0.next (chain.next_is s was.0 was.1 list))
-    ];
-    prev_is = λ s node there on. elim (cases_eq s q) [
-      | inl same ↦ let is = its s node same there in rw (← is, prev) (prev_in anywhere (below new.key) last (λ k less p. tt) (λ s was at p. later s was at) (λ p. omega (arith, p)) chain.last_is)
-      | inr off ↦
-          let was = back s node off there in
-          let list : was.0.list ≡ t = ap (λ n. n.list) was.2 ∙ on in
-          rw (← was.2) (prev_in (below was.0.key) (below was.0.key) was.0.prev (λ k less p. p) (λ s was at p. p) (λ p. omega (arith, p, later s was.0 was.1)) (chain.prev_is s was.0 was.1 list))
-    ];
-  }
-
-  -- the last node is of the list
-  last_of : (o : Option ℕ) → IsNearest down f t anywhere o → (s : ℕ) (was : Node) → f s ≡ Some was → was.list ≢ t → leads_to o s ≡ false
-  last_of None near s was there off = refl
-  last_of (Some l) near s was there off = search (rules, nat_tests, same_Some)
-
-  -- the other lists stay
-  pub IsChain-joined_other : (u : ℕ) (a b : Option ℕ) → u ≢ t → IsChain f u a b → IsChain g u a b
-  IsChain-joined_other u a b off other = IsChain-kept f g u a b
-      (λ s node there on. forth s node there ∙ ap (λ c. Some (record node { next = cond c (Some q) node.next })) (last_of last chain.last_is s node there (λ same. off (sym on ∙ same))))
-      (λ s node there on.
-      let apart : s ≢ q = λ same. off (sym on ∙ sym (ap (λ n. n.list) (its s node same there)) ∙ list) in
-      let was = back s node apart there in
-      let same = ap (λ c. record was.0 { next = cond c (Some q) was.0.next }) (last_of last chain.last_is s was.0 was.1 (λ same. off (sym on ∙ sym (ap (λ n. n.list) was.2) ∙ same))) in
-      was.1 ∙ ap Some (sym same ∙ was.2))
-      other
 
 -- a node leaves its list, and its neighbours there are linked
 module _ (f g : ℕ → Option Node) (apart : AreApart f) (t : ℕ) (first last : Option ℕ) (chain : IsChain f t first last) (q : ℕ) (old : Node)

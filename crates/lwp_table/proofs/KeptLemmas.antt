@@ -14,7 +14,8 @@ use Rattle.lwp_table.specs.Lwps.{lwp_of, put_lwp, with_lwp, without_lwp, Differ}
 use Rattle.lwp_table.specs.Chain.{Node, IsNearest, IsChain, AreApart, up, down, anywhere, above, below, leads_to, joined, bridged}
 use Rattle.lwp_table.specs.Kept.{own_node, own_nodes, all_node, all_nodes, is_of, is_at, place_of, linked, closed_up, ends_at, may_pend, marked, no_ends, born_row, rows_of, IsIndexed, LwpTableInvariant}
 use Rattle.lwp_table.proofs.WordLemmas.{both_calm, test_same, test_apart}
-use Rattle.lwp_table.proofs.ChainLemmas.{IsChain-joined, IsChain-joined_other, IsChain-left, IsChain-left_other}
+use Rattle.lwp_table.proofs.ChainLemmas.{IsChain-left, IsChain-left_other}
+use Rattle.lwp_table.proofs.JoinLemmas.{IsChain-appended, IsChain-appended_other}
 use Rattle.lwp_table.proofs.Numbered.{count-without, count-put}
 use Rattle.lwp_table.proofs.WalkLemmas.{first-row}
 use Rattle.lwp_table.proofs.CountLemmas.{one, count-end, count-below, count-none, length-end, length-without, length-listing, at_yes, at_no, users_set}
@@ -146,11 +147,11 @@ module _ {f : ℕ → Option Slot} {es : List (ℕ × ℕ)} {hs : List (ℕ × E
     faces : (s : ℕ) → s ≢ q → option_map face (g s) ≡ option_map face (f s)
     faces = seen_same f joins.taken g q joins.others both both_g face (λ s slot. refl)
 
-    own_g : (s : ℕ) → s ≢ q → own_nodes g s ≡ option_map (joined own.last q s) (own_nodes f s)
-    own_g = seen f joins.taken g q joins.others both both_g own_node (joined own.last q) (λ s slot. refl)
+    own_g : (s : ℕ) → s ≢ q → own_nodes g s ≡ option_map (joined own.last None q s) (own_nodes f s)
+    own_g = seen f joins.taken g q joins.others both both_g own_node (joined own.last None q) (λ s slot. refl)
 
-    all_g : (s : ℕ) → s ≢ q → all_nodes g s ≡ option_map (joined all.last q s) (all_nodes f s)
-    all_g = seen f joins.taken g q joins.others both both_g all_node (joined all.last q) (λ s slot. refl)
+    all_g : (s : ℕ) → s ≢ q → all_nodes g s ≡ option_map (joined all.last None q s) (all_nodes f s)
+    all_g = seen f joins.taken g q joins.others both both_g all_node (joined all.last None q) (λ s slot. refl)
 
     vacant_es : lookup (nat_eq row.tid) es ≡ None
     vacant_es = no_slot f es births kept.indexed row.tid joins.fresh
@@ -180,15 +181,15 @@ module _ {f : ℕ → Option Slot} {es : List (ℕ × ℕ)} {hs : List (ℕ × E
         indexed = IsIndexed-added f es births kept.indexed g es' q faces new joins.vacant has refl vacant_es joins.change;
         own = λ p. elim (eqb_tells row.pid p) [
           | inl h ↦
-              let chain = IsChain-joined (own_nodes f) (own_nodes g) (nodes_apart f own_node (λ slot. refl) kept.indexed.apart) row.pid own.first own.last own_chain q (own_node new) (ap (option_map own_node) joins.vacant) (ap (option_map own_node) has) refl refl refl own_g
+              let chain = IsChain-appended (own_nodes f) (own_nodes g) (nodes_apart f own_node (λ slot. refl) kept.indexed.apart) row.pid own.first own.last own_chain q (own_node new) (ap (option_map own_node) joins.vacant) (ap (option_map own_node) has) refl refl refl own_g
               (nodes_earlier f own_node (λ slot. refl) births kept.indexed.earlier) in
               rw (ends p, h.0, ← h.1, first_is) chain
           | inr h ↦
-              rw (ends p, h.0) (IsChain-joined_other (own_nodes f) (own_nodes g) (nodes_apart f own_node (λ slot. refl) kept.indexed.apart) row.pid own.first own.last own_chain q (own_node new) (ap (option_map own_node) joins.vacant) (ap (option_map own_node) has) refl refl refl own_g
+              rw (ends p, h.0) (IsChain-appended_other (own_nodes f) (own_nodes g) (nodes_apart f own_node (λ slot. refl) kept.indexed.apart) row.pid own.first own.last own_chain q (own_node new) (ap (option_map own_node) joins.vacant) (ap (option_map own_node) has) refl refl refl own_g
               (nodes_earlier f own_node (λ slot. refl) births kept.indexed.earlier) p (ends_at hs p).first (ends_at hs p).last (λ e. h.1 (sym e)) (kept.own p))
         ];
         whole =
-            rw all_is (IsChain-joined (all_nodes f) (all_nodes g) (nodes_apart f all_node (λ slot. refl) kept.indexed.apart) 0 all.first all.last kept.whole q (all_node new) (ap (option_map all_node) joins.vacant) (ap (option_map all_node) has) refl refl refl all_g
+            rw all_is (IsChain-appended (all_nodes f) (all_nodes g) (nodes_apart f all_node (λ slot. refl) kept.indexed.apart) 0 all.first all.last kept.whole q (all_node new) (ap (option_map all_node) joins.vacant) (ap (option_map all_node) has) refl refl refl all_g
             (nodes_earlier f all_node (λ slot. refl) births kept.indexed.earlier));
         counted = λ p. rw (rows-added, count-end (is_of p) (rows_of f es births) row, ends p) (elim (eqb_tells row.pid p) [
           | inl h ↦ rw h.0 (omega (arith, kept.counted row.pid, ap (λ (e : Ends). e.count) joins.own_is, ap (λ n. count_by (is_of n) (rows_of f es births)) h.1))

@@ -1,6 +1,7 @@
 pub mod Numbered
 pub mod WordLemmas
 pub mod ChainLemmas
+pub mod JoinLemmas
 pub mod ListLemmas
 pub mod CountLemmas
 pub mod IndexLemmas

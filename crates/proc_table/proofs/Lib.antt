@@ -13,7 +13,6 @@ pub mod Slots
 pub mod NextOf
 pub mod Indexed
 pub mod Seen
-pub mod Inserted
 pub mod Linked
 pub mod Births
 pub mod Places

@@ -6,9 +6,9 @@ use Rattle.std.proofs.lemmas.Option.{some_pair_parts, same_Some}
 use Rattle.std.specs.Option.{option_map, option_and_then}
 use Rattle.lwp_table.specs.Chain.{Node as Member, IsNearest, IsChain, AreApart, up, down, above, below, leads_to}
 use Rattle.lwp_table.proofs.ChainLemmas.{IsChain-left, IsChain-left_other}
+use Rattle.lwp_table.proofs.JoinLemmas.{IsChain-joined, IsChain-joined_other}
 use Rattle.proc_table.specs.Links.{Node, key_of, keys, IsNext, member, members, at_least, IsLinked, forward, backward, hung}
 use Rattle.proc_table.proofs.Rows.{same_number, other_number}
-use Rattle.proc_table.proofs.Inserted.{IsChain-inserted, IsChain-inserted_other}
 
 -- the node of a key
 pub key_node : (f : ℕ → Option Node) (s p : ℕ) (u : Option ℕ) → keys f s ≡ Some (p, u) → (node : Node) × (f s ≡ Some node) × (node.pid ≡ p) × (node.list_owner ≡ u)
@@ -158,8 +158,8 @@ module _ (f z : ℕ → Option Node) (linked : IsLinked f) (head t q : ℕ) (own
       let node = node-of f s m there in
       cc (vacant, there, ap (members f) (linked.apart s q node.0 old node.1 has_q (ap (λ n. n.key) node.3 ∙ same))) in
       lists_changed
-      (rw (to_q, from_q, is_prev, is_next) (IsChain-inserted (members f) (members z) t own.first own.last chain q _ vacant has refl prev_is next_is others (members-apart f linked) fresh))
-      (IsChain-inserted_other (members f) (members z) t own.first own.last chain q _ vacant has refl prev_is next_is others (members-apart f linked) fresh)
+      (rw (to_q, from_q, is_prev, is_next) (IsChain-joined (members f) (members z) (members-apart f linked) t own.first own.last chain q _ vacant has refl prev_is next_is others fresh))
+      (IsChain-joined_other (members f) (members z) (members-apart f linked) t own.first own.last chain q _ vacant has refl prev_is next_is others fresh)
 
   pub IsLinked-left : old.list_owner ≡ Some t → list_owner ≡ None → before ≡ old.prev → after ≡ old.next → to ≡ old.next → from ≡ old.prev → IsLinked z
   IsLinked-left names free is_prev is_next to_next from_prev =

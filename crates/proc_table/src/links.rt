@@ -77,24 +77,6 @@ pub fn links_of(kin: ListKind, slot: &Slot) -> Links
     }
 }
 
-/// Returns the slot with other links of one kind.
-fn with_links(kin: ListKind, links: Links, slot: &Slot) -> Slot
-    ensures { result ≡ put_links kin links slot.now }
-{
-    match kin {
-        ListKind::Tracees => Slot {
-            row: slot.row,
-            tracees: links,
-            children: slot.children,
-        },
-        ListKind::Children => Slot {
-            row: slot.row,
-            tracees: slot.tracees,
-            children: links,
-        },
-    }
-}
-
 /// Writes the links of one kind.
 #[tactic(auto, using(crate::proofs::ListNodes::put_laws))]
 fn set_links(nodes: &mut Slab<Slot>, kin: ListKind, at: usize, links: Links)
@@ -106,7 +88,11 @@ fn set_links(nodes: &mut Slab<Slot>, kin: ListKind, at: usize, links: Links)
     ensures len { slab_len nodes.new ≡ slab_len nodes.old }
     ensures capacity { nodes.new.capacity ≡ nodes.old.capacity }
 {
-    nodes[at] = with_links(kin, links, &nodes[at]);
+    let slot = &mut nodes[at];
+    match kin {
+        ListKind::Tracees => slot.tracees = links,
+        ListKind::Children => slot.children = links,
+    }
 }
 
 /// Returns the place of `pid` in the list of `list_owner`, whose head is in this slot. It looks at the last row

@@ -1,25 +1,21 @@
--- What becomes of a list where a node comes to stand between two others.
-use Rattle.std.proofs.Common.{◌≡◌, ◌≢◌, ℕ, ◌≤◌, false, Option, Some, None, refl, sym, ap, ◌∙◌, arith, inl, inr, cond, is_none, rules}
+-- What becomes of a list where a node joins it, between two others or at the end.
+use Rattle.std.proofs.Common.{◌≡◌, ◌≢◌, ℕ, ◌<◌, ◌≤◌, false, Option, Some, None, refl, sym, ap, ◌∙◌, arith, inl, inr, cond, is_none, rules}
 use Rattle.std.proofs.lemmas.Bool.{cases_eq, cases_lt}
 use Rattle.std.proofs.lemmas.Bool.Decides.{nat_tests}
 use Rattle.std.proofs.lemmas.Option.{same_Some}
-use Rattle.std.specs.Option.{option_map}
-use Rattle.lwp_table.specs.Chain.{Node, IsNearest, IsChain, up, down, anywhere, above, below, leads_to}
+use Rattle.std.specs.Option.{option_map, option_or}
+use Rattle.lwp_table.specs.Chain.{Node, IsNearest, IsChain, AreApart, up, down, anywhere, above, below, leads_to, joined}
 use Rattle.lwp_table.proofs.ChainLemmas.{leads_to-self, mapped, IsChain-kept}
 
--- the node, after those before and after slot q were linked to it
-abbrev pub spread : Option ℕ → Option ℕ → ℕ → ℕ → Node → Node
-spread prev next q s node = record node { prev = cond (leads_to next s) (Some q) node.prev; next = cond (leads_to prev s) (Some q) node.next }
-
-module _ (f g : ℕ → Option Node) (t : ℕ) (first last : Option ℕ) (chain : IsChain f t first last) (q : ℕ) (new : Node)
+module _ (f g : ℕ → Option Node) (apart : AreApart f) (t : ℕ) (first last : Option ℕ) (chain : IsChain f t first last) (q : ℕ) (new : Node)
     (vacant : f q ≡ None) (has : g q ≡ Some new) (list : new.list ≡ t) (prev : IsNearest down f t (below new.key) new.prev) (next : IsNearest up f t (above new.key) new.next)
-    (others : (s : ℕ) → s ≢ q → g s ≡ option_map (spread new.prev new.next q s) (f s))
-    (apart : (s r : ℕ) (a b : Node) → f s ≡ Some a → f r ≡ Some b → a.key ≡ b.key → s ≡ r) (fresh : (s : ℕ) (was : Node) → f s ≡ Some was → was.key ≢ new.key) where
-  forth : (s : ℕ) (was : Node) → f s ≡ Some was → g s ≡ Some (spread new.prev new.next q s was)
-  forth s was there = others s (λ same. cc (there, ap f same, vacant)) ∙ ap (option_map (spread new.prev new.next q s)) there
+    (others : (s : ℕ) → s ≢ q → g s ≡ option_map (joined new.prev new.next q s) (f s))
+    (fresh : (s : ℕ) (was : Node) → f s ≡ Some was → was.key ≢ new.key) where
+  forth : (s : ℕ) (was : Node) → f s ≡ Some was → g s ≡ Some (joined new.prev new.next q s was)
+  forth s was there = others s (λ same. cc (there, ap f same, vacant)) ∙ ap (option_map (joined new.prev new.next q s)) there
 
-  back : (s : ℕ) (node : Node) → s ≢ q → g s ≡ Some node → (was : Node) × (f s ≡ Some was) × (spread new.prev new.next q s was ≡ node)
-  back s node off there = mapped (spread new.prev new.next q s) (f s) node (sym (others s off) ∙ there)
+  back : (s : ℕ) (node : Node) → s ≢ q → g s ≡ Some node → (was : Node) × (f s ≡ Some was) × (joined new.prev new.next q s was ≡ node)
+  back s node off there = mapped (joined new.prev new.next q s) (f s) node (sym (others s off) ∙ there)
 
   its : (s : ℕ) (node : Node) → s ≡ q → g s ≡ Some node → new ≡ node
   its s node same there = same_Some new node (sym has ∙ ap g (sym same) ∙ there)
@@ -32,7 +28,7 @@ module _ (f g : ℕ → Option Node) (t : ℕ) (first last : Option ℕ) (chain 
   stays : (le : ℕ → ℕ → Type 0) (P : ℕ → Type 0) (o : Option ℕ) → ((a b c : ℕ) → le a b → le b c → le a c) → (j : ℕ) (node : Node) → f j ≡ Some node → node.list ≡ t → P node.key → le node.key new.key → IsNearest le f t P o → IsNearest le g t P o
   stays le P None chained j node there on p before near = absurd (near j node there on p)
   stays le P (Some s) chained j node there on p before near = (
-    spread new.prev new.next q s near.0,
+    joined new.prev new.next q s near.0,
     forth s near.0 near.1,
     near.2,
     near.3,
@@ -108,8 +104,8 @@ module _ (f g : ℕ → Option Node) (t : ℕ) (first last : Option ℕ) (chain 
           ])
     ]
 
-  pub IsChain-inserted : IsChain g t (cond (is_none new.prev) (Some q) first) (cond (is_none new.next) (Some q) last)
-  IsChain-inserted = record {
+  pub IsChain-joined : IsChain g t (cond (is_none new.prev) (Some q) first) (cond (is_none new.next) (Some q) last)
+  IsChain-joined = record {
     first_is = first_in new.prev prev;
     last_is = last_in new.next next;
     next_is = λ s node there on. elim (cases_eq s q) [
@@ -127,15 +123,45 @@ module _ (f g : ℕ → Option Node) (t : ℕ) (first last : Option ℕ) (chain 
   neighbour le P None near s was there off = refl
   neighbour le P (Some l) near s was there off = search (rules, nat_tests, same_Some)
 
-  stays_same : (s : ℕ) (was : Node) → f s ≡ Some was → was.list ≢ t → spread new.prev new.next q s was ≡ was
+  stays_same : (s : ℕ) (was : Node) → f s ≡ Some was → was.list ≢ t → joined new.prev new.next q s was ≡ was
   stays_same s was there off = rw (neighbour down (below new.key) new.prev prev s was there off, neighbour up (above new.key) new.next next s was there off) refl
 
   -- the other lists stay
-  pub IsChain-inserted_other : (u : ℕ) (a b : Option ℕ) → u ≢ t → IsChain f u a b → IsChain g u a b
-  IsChain-inserted_other u a b off other = IsChain-kept f g u a b
+  pub IsChain-joined_other : (u : ℕ) (a b : Option ℕ) → u ≢ t → IsChain f u a b → IsChain g u a b
+  IsChain-joined_other u a b off other = IsChain-kept f g u a b
       (λ s node there on. forth s node there ∙ ap Some (stays_same s node there (λ same. off (sym on ∙ same))))
       (λ s node there on.
       let away : s ≢ q = λ same. off (sym on ∙ sym (ap (λ n. n.list) (its s node same there)) ∙ list) in
       let was = back s node away there in
       was.1 ∙ ap Some (sym (stays_same s was.0 was.1 (λ same. off (sym on ∙ sym (ap (λ n. n.list) was.2) ∙ same))) ∙ was.2))
       other
+
+-- a node with a later key than all comes last
+module _ (f g : ℕ → Option Node) (apart : AreApart f) (t : ℕ) (first last : Option ℕ) (chain : IsChain f t first last) (q : ℕ) (new : Node)
+    (vacant : f q ≡ None) (has : g q ≡ Some new) (list : new.list ≡ t) (prev : new.prev ≡ last) (next : new.next ≡ None)
+    (others : (s : ℕ) → s ≢ q → g s ≡ option_map (joined last None q s) (f s)) (later : (s : ℕ) (was : Node) → f s ≡ Some was → was.key < new.key) where
+  after_all : (o : Option ℕ) → IsNearest down f t anywhere o → IsNearest down f t (below new.key) o
+  after_all None none = λ j node there on less. none j node there on tt
+  after_all (Some s) near = (near.0, near.1, near.2, later s near.0 near.1, λ j other there on less. near.4 j other there on tt)
+
+  -- a list begins where it ends
+  begins : (a b : Option ℕ) → IsNearest up f t anywhere a → IsNearest down f t anywhere b → cond (is_none b) (Some q) a ≡ option_or a (Some q)
+  begins None None first_is last_is = refl
+  begins None (Some l) first_is last_is = absurd (first_is l last_is.0 last_is.1 last_is.2 tt)
+  begins (Some s) None first_is last_is = absurd (last_is s first_is.0 first_is.1 first_is.2 tt)
+  begins (Some s) (Some l) first_is last_is = refl
+
+  between : IsNearest down f t (below new.key) new.prev × IsNearest up f t (above new.key) new.next
+  between = (rw prev (after_all last chain.last_is), rw next (λ j node there on more. omega (arith, later j node there, more)))
+
+  linked : (s : ℕ) → s ≢ q → g s ≡ option_map (joined new.prev new.next q s) (f s)
+  linked = rw (prev, next) others
+
+  fresh : (s : ℕ) (was : Node) → f s ≡ Some was → was.key ≢ new.key
+  fresh s was there same = omega (arith, later s was there, same)
+
+  pub IsChain-appended : IsChain g t (option_or first (Some q)) (Some q)
+  IsChain-appended = rw (← begins first last chain.first_is chain.last_is) (rw (prev, next) at (IsChain-joined f g apart t first last chain q new vacant has list between.0 between.1 linked fresh))
+
+  pub IsChain-appended_other : (u : ℕ) (a b : Option ℕ) → u ≢ t → IsChain f u a b → IsChain g u a b
+  IsChain-appended_other = IsChain-joined_other f g apart t first last chain q new vacant has list between.0 between.1 linked fresh
