@@ -1,5 +1,5 @@
 -- What becomes of all lists where a node joins or leaves one.
-use Rattle.std.proofs.Common.{◌≡◌, ◌≢◌, ℕ, ◌<◌, true, false, Option, Some, None, IsSome, IfSome, is_some, refl, sym, ap, ◌∙◌, arith, inl, inr, cond, is_none, nat_eq, rules}
+use Rattle.std.proofs.Common.{◌≡◌, ◌≢◌, ℕ, ◌<◌, false, Option, Some, None, refl, sym, ap, ◌∙◌, arith, inl, inr, cond, is_none, nat_eq, rules}
 use Rattle.std.proofs.lemmas.Bool.{cases_lt}
 use Rattle.std.proofs.lemmas.Bool.Decides.{eqb_tells}
 use Rattle.std.proofs.lemmas.Option.{some_pair_parts, same_Some}
@@ -32,11 +32,6 @@ node-of f s m there = by (f s) refl there
     by : (o : Option Node) → f s ≡ o → option_and_then member o ≡ Some m → (node : Node) × (f s ≡ Some node) × (node.list_owner ≡ Some m.list) × (as_member node m.list ≡ m)
     by None at is = absurd (cc)
     by (Some node) at is = let parts = named node node.list_owner is in (node, at, parts.0, parts.1)
-
--- a link to a nearest member leads to a node
-pub nearest-there : (le : ℕ → ℕ → Type 0) (f : ℕ → Option Node) (t : ℕ) (P : ℕ → Type 0) (o : Option ℕ) → IsNearest le (members f) t P o → IfSome o (λ s. IsSome (f s))
-nearest-there le f t P None near = tt
-nearest-there le f t P (Some s) near = ap is_some (node-of f s near.0 near.1).1
 
 -- the nearest member above a number has the next key
 pub IsNext-nearest : (f : ℕ → Option Node) (t a : ℕ) (P : ℕ → Type 0) → ((s : ℕ) (node : Node) → f s ≡ Some node → P node.pid → a < node.pid) → ((k : ℕ) → a < k → P k) → (o : Option ℕ) → IsNearest up (members f) t P o → IsNext (keys f) t a o
@@ -106,20 +101,6 @@ module _ (f z : ℕ → Option Node) (linked : IsLinked f) (head t q : ℕ) (own
       by : (o : Option Node) → f s ≡ o → option_map (changed s) o ≡ Some node → (w : Node) × (f s ≡ Some w) × (changed s w ≡ node)
       by None at is = absurd (cc)
       by (Some w) at is = (w, at, same_Some (changed s w) node is)
-
-  its_key : (s : ℕ) (o : Option Node) → nat_eq q s ≡ true → option_map key_of (option_map (changed s) o) ≡ option_map (λ n. (n.pid, list_owner)) o
-  its_key s None here = refl
-  its_key s (Some node) here = rw here refl
-
-  other_key : (s : ℕ) (o : Option Node) → nat_eq q s ≡ false → option_map key_of (option_map (changed s) o) ≡ option_map key_of o
-  other_key s None off = refl
-  other_key s (Some node) off = rw off refl
-
-  pub keys-here : keys z q ≡ option_map (λ n. (n.pid, list_owner)) (f q)
-  keys-here = ap (option_map key_of) (changes q) ∙ its_key q (f q) (same_number q)
-
-  pub keys-others : (s : ℕ) → s ≢ q → keys z s ≡ keys f s
-  keys-others s off = ap (option_map key_of) (changes s) ∙ other_key s (f s) (other_number q s (λ same. off (sym same)))
 
   other_member : (s : ℕ) → nat_eq q s ≡ false → (o : Option Node) → option_and_then member (option_map (changed s) o) ≡ option_map (beside s) (option_and_then member o)
   other_member s off None = refl

@@ -9,7 +9,7 @@ abbrev pub up_to : ℕ → ℕ → Type 0
 up_to a p = p ≤ a
 
 -- the walk has passed the members up to a number that is below `pid`, and stands between these two
-pub record IsPassing (m : ℕ → Option Node) (t pid passed : ℕ) (prev next : Option ℕ) : Type 0 where
+pub record HasPassed (m : ℕ → Option Node) (t pid passed : ℕ) (prev next : Option ℕ) : Type 0 where
   pub prev_is : IsNearest down m t (up_to passed) prev
   pub next_is : IsNearest up m t (above passed) next
   pub before : passed < pid
@@ -28,7 +28,7 @@ module _ (m : ℕ → Option Node) (t pid : ℕ) where
   }
 
   -- the walk begins
-  pub passing-first : (o : Option ℕ) → ((s : ℕ) (node : Node) → m s ≡ Some node → 0 < node.key) → 0 < pid → IsNearest up m t anywhere o → IsPassing m t pid 0 None o
+  pub passing-first : (o : Option ℕ) → ((s : ℕ) (node : Node) → m s ≡ Some node → 0 < node.key) → 0 < pid → IsNearest up m t anywhere o → HasPassed m t pid 0 None o
   passing-first o above_zero positive first = record {
     prev_is = λ j node there on none. omega (arith, none, above_zero j node there);
     next_is = from o first;
@@ -41,7 +41,7 @@ module _ (m : ℕ → Option Node) (t pid : ℕ) where
 
   module _ (passed : ℕ) (prev : Option ℕ) where
     -- the walk passes a member
-    pub passing-on : (s : ℕ) (next : Option ℕ) (walk : IsPassing m t pid passed prev (Some s)) → walk.next_is.0.key < pid → IsNearest up m t (above walk.next_is.0.key) next → IsPassing m t pid walk.next_is.0.key (Some s) next
+    pub passing-on : (s : ℕ) (next : Option ℕ) (walk : HasPassed m t pid passed prev (Some s)) → walk.next_is.0.key < pid → IsNearest up m t (above walk.next_is.0.key) next → HasPassed m t pid walk.next_is.0.key (Some s) next
     passing-on s next walk less near = record {
       prev_is = (walk.next_is.0, walk.next_is.1, walk.next_is.2, omega arith, λ j other there on most. most);
       next_is = near;
@@ -49,7 +49,7 @@ module _ (m : ℕ → Option Node) (t pid : ℕ) where
     }
 
     -- and ends before a member whose number isn't less, or after all
-    pub place-found : (next : Option ℕ) → (walk : IsPassing m t pid passed prev next) → ((j : ℕ) (node : Node) → m j ≡ Some node → node.list ≡ t → passed < node.key → pid ≤ node.key) → IsPlace m t pid prev next
+    pub place-found : (next : Option ℕ) → (walk : HasPassed m t pid passed prev next) → ((j : ℕ) (node : Node) → m j ≡ Some node → node.list ≡ t → passed < node.key → pid ≤ node.key) → IsPlace m t pid prev next
     place-found next walk past = record { prev_is = lower prev walk.prev_is; next_is = upper next walk.next_is }
       where
         lower : (o : Option ℕ) → IsNearest down m t (up_to passed) o → IsNearest down m t (below pid) o
