@@ -1,10 +1,10 @@
-use Rattle.std.proofs.Common.{rules, ◌≡◌, ◌++◌, [], ◌∷◌, Vec, Global, sym, subst, ◌∙◌, arith}
+use Rattle.std.proofs.Common.{rules, ◌≡◌, ◌++◌, [], ◌∷◌, map, Vec, Global, sym, subst, ◌∙◌, arith}
 use denote.Param.{param}
 use denote.Param.Send.{IsSend, IsSync, param_send, sendable}
 use Rattle.std.proofs.Crossing.{crosses}
 use Rattle.stop_handlers.specs.contracts.handlers.Handler as Handler
 use Rattle.requests.specs.contracts.step.Step as Step
-use Rattle.requests.specs.Plain.{PlainStep}
+use Rattle.sessions.specs.Boxed.{SmallStep, own_step}
 use Rattle.host_lock.specs.contracts.host.SharedHost as SharedHost
 use Rattle.host_lock.specs.Sessions.{SessionData}
 use Rattle.host_lock.proofs.Crossing.{reply_send, session_send, step_send, host_sync}
@@ -19,12 +19,12 @@ use Rattle.sessions.proofs.workers.+run.Goals as goal
 
 pub beside-scope-returns : goal.beside-scope-returns
 beside-scope-returns g t c =
-    let R : Job g.row.F.Denot → Done → Type 0 = λ j d. Did j.session j.steps.items d.replies.items d.session in
+    let R : Job g.row.F.Denot → Done → Type 0 = λ j d. Did j.session (map own_step j.steps.items) d.replies.items d.session in
     let job : Job g.row.F.Denot = record { session = c.captures.session; steps = c.captures.steps; replies = c.captures.replies } in
     let one : Done = c.join-one.result in
     let same : c.in_ok-child.child.promise ≡ c.captures.plan = search rules in
-    let P : Plan g.row.F.Denot → Type 0 = λ p. Did p.session.value p.steps.value.items one.replies.items one.session in
-    let Q : SessionData × Vec PlainStep Global → Type 0 = λ z. Did z.0 z.1.items one.replies.items one.session in
+    let P : Plan g.row.F.Denot → Type 0 = λ p. Did p.session.value (map own_step p.steps.value.items) one.replies.items one.session in
+    let Q : SessionData × Vec SmallStep Global → Type 0 = λ z. Did z.0 (map own_step z.1.items) one.replies.items one.session in
     let did : R job one = subst Q (λ i. (c.requires.plan.0 i, c.requires.plan.1 i)) (subst P same c.join-one.ensures) in
     let len = c.in_ok-all.ensures.room.0 in
     let more = c.push_reserved.ensures.len in record {
