@@ -10,7 +10,8 @@ use Rattle.requests.proofs.SoundHostIsApart.{users_are_apart_in_a_sound_host}
 use Rattle.visibility.proofs.Apart.{own_list_law}
 use Rattle.host_lock.specs.declared.journal.Entry.{Entry}
 use Rattle.host_lock.specs.Journal.{asked, IsLegal}
-use Rattle.sessions.specs.Runs.{entries_by, OwnEntries, RanBy}
+use Rattle.sessions.specs.Runs.{entries_by, OwnEntries}
+use Rattle.sessions.specs.PlainRuns.{RanBy}
 
 abbrev asked_one : Entry → Asked
 asked_one e = record { uid = e.uid; step = e.step }

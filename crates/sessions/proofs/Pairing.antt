@@ -1,5 +1,5 @@
 -- Sessions, scripts, jobs and transcripts, place by place.
-use Rattle.std.proofs.Common.{◌≡◌, ℕ, zero, suc, ◌+◌, ◌<◌, ◌≤◌, List, [], ◌∷◌, ◌++◌, length, map, Vec, Global, vec_len, slice_index_or, sym, refl, ap, ◌∙◌, subst, arith, All}
+use Rattle.std.proofs.Common.{◌≡◌, ℕ, zero, suc, ◌+◌, ◌<◌, ◌≤◌, List, [], ◌∷◌, ◌++◌, length, map, Vec, Global, vec_len, slice_index_or, sym, refl, ap, ◌∙◌, subst, arith, All, ◌==◌, false, true≢false}
 use Rattle.std.specs.List.{AllByRecursion}
 use Rattle.std.proofs.lemmas.List.{get_or-map}
 use Rattle.std.proofs.lemmas.List.Elements.{All-from_recursion, recursion_from_All}
@@ -19,12 +19,13 @@ use Rattle.host_lock.specs.Sessions.{SessionData, HostData, IsOf, InJournal, new
 use Rattle.sessions.specs.declared.job.Job.{Job}
 use Rattle.sessions.specs.declared.job.Done.{Done}
 use Rattle.sessions.specs.declared.script.Script.{Script}
-use Rattle.sessions.specs.declared.boxed.BoxedScript.{BoxedScript}
+use Rattle.sessions.specs.declared.boxing.BoxedScript.{BoxedScript}
 use Rattle.sessions.specs.declared.script.Transcript.{Transcript}
 use Rattle.sessions.specs.Made.{Did, Pairs}
 use Rattle.sessions.specs.Jobs.{AllDone, IsReady, HasRoom, job_session, job_steps, done_session, done_transcript}
-use Rattle.sessions.specs.Boxed.{SmallStep, own_step, boxed_script}
-use Rattle.sessions.specs.Runs.{IsShort, AreFew, AllPlay, Answers, AllAnswer, plain_script, uid_of, steps_of}
+use Rattle.sessions.specs.Boxed.{SmallStep, own_step, boxed_script, uid_of, steps_of}
+use Rattle.sessions.specs.Runs.{IsShort, AllPlay}
+use Rattle.sessions.specs.PlainRuns.{AreFew, Answers, AllAnswer, plain_script}
 
 pub each_snoc : {A : Type 0} (P : A → Type 0) (xs : List A) (x : A) → Each P xs → P x → Each P (xs ++ x ∷ [])
 each_snoc P [] x e p = (p, tt)
@@ -81,6 +82,14 @@ plays_of log ss ts all = (
       let below : k < length (map plain_script ss) = subst (λ n. k < n) (sym (length_map plain_script ss)) lt in
       subst (λ q. Answers log k q (slice_index_or ts k t)) (get_or-map plain_script ss k s (0, []) lt) (all.1 k (0, []) t below),
 )
+
+pub some_of : (n : ℕ) → (n == 0) ≡ false → 0 < n
+some_of zero is = absurd (true≢false is)
+some_of (suc n) is = omega arith
+
+-- scripts of both kinds with the same users and steps are as many
+pub same_count : {F : Type 0} (bs : List (BoxedScript F)) (ss : List (Script F)) → map boxed_script bs ≡ map plain_script ss → length bs ≡ length ss
+same_count bs ss same = sym (length_map boxed_script bs) ∙ ap length same ∙ length_map plain_script ss
 
 short_each : {F : Type 0} (ss : List (Script F)) → AllByRecursion IsShort ss → AllByRecursion AreFew (map plain_script ss)
 short_each [] short = tt

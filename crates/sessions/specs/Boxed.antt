@@ -1,11 +1,11 @@
 -- Scripts whose handlers are on the heap, as the scripts that they stand for.
-use Rattle.std.specs.Prelude.{ℕ, List, map}
-use Rattle.std.specs.Global.{Box}
+use Rattle.std.specs.Prelude.{ℕ, List, map, Vec}
+use Rattle.std.specs.Global.{Box, Global}
 use Rattle.stop_handlers.specs.declared.Rule.{Rule}
 use Rattle.requests.specs.declared.step.Step.{Step}
 use Rattle.requests.specs.declared.step.Step.TheVariants as op
 use Rattle.requests.specs.Plain.{PlainStep}
-use Rattle.sessions.specs.declared.boxed.BoxedScript.{BoxedScript}
+use Rattle.sessions.specs.declared.boxing.BoxedScript.{BoxedScript}
 
 abbrev pub SmallStep : Type 0
 SmallStep = Step (Box (List Rule))
@@ -24,3 +24,9 @@ own_step (op.Turn tid act) = op.Turn tid act
 
 abbrev pub boxed_script : {F : Type 0} → BoxedScript F → ℕ × List PlainStep
 boxed_script s = (s.uid, map own_step s.steps.items)
+
+abbrev pub uid_of : {F : Type 0} → BoxedScript F → ℕ
+uid_of s = s.uid
+
+abbrev pub steps_of : {F : Type 0} → BoxedScript F → Vec SmallStep Global
+steps_of s = s.steps

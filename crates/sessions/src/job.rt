@@ -4,7 +4,7 @@ ghost use Rattle.std.specs.Prelude.{◌≡◌, map};
 ghost use Rattle.sessions.specs.Boxed.{own_step};
 ghost use Rattle.sessions.specs.Made.{Did};
 
-use crate::boxed::BoxedStep;
+use crate::boxing::BoxedStep;
 use host_lock::Session;
 use requests::Reply;
 use std::snapshot::Snapshot;

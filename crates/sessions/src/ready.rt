@@ -5,9 +5,9 @@ ghost use Rattle.host_lock.specs.Limits.{max_sessions};
 ghost use Rattle.host_lock.specs.Rule.{Each};
 ghost use Rattle.host_lock.specs.Sessions.{IsOpenable, new_sessions};
 ghost use Rattle.sessions.specs.Jobs.{HasRoom, HasRoomFor, job_session, job_steps};
-ghost use Rattle.sessions.specs.Runs.{uid_of, steps_of};
+ghost use Rattle.sessions.specs.Boxed.{uid_of, steps_of};
 
-use crate::boxed::BoxedScript;
+use crate::boxing::BoxedScript;
 use crate::job::{Done, Job};
 use crate::script::Transcript;
 use crate::worker::reversed;

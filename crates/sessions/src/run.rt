@@ -1,14 +1,14 @@
 //! Runs scripts of many users at the same time on one host.
-ghost use Rattle.std.specs.Prelude.{◌≡◌, ◌⊎◌, ◌<◌, ◌≤◌, [], map, vec_len, All, IfOk, IfErr, OnOk};
+ghost use Rattle.std.specs.Prelude.{◌≡◌, ◌<◌, ◌≤◌, [], map, vec_len, All, IfOk, IfErr, OnOk};
 ghost use Rattle.host_lock.specs.Journal.{IsLegal, replay};
 ghost use Rattle.host_lock.specs.Limits.{max_sessions};
 ghost use Rattle.host_lock.specs.Sessions.{IsBelow};
 ghost use Rattle.sessions.specs.Boxed.{boxed_script};
 ghost use Rattle.sessions.specs.Jobs.{HasRoomFor, done_session, done_transcript};
-ghost use Rattle.sessions.specs.Runs.{AreFew, IsShort, AllPlay, OwnEntries, Ran, RanBy, RefusesFor};
-ghost use Rattle.sessions.specs.declared.script.RunRefusal.TheVariants.{Memory, Start};
+ghost use Rattle.sessions.specs.Runs.{IsShort, AllPlay, OwnEntries, RefusesFor};
+ghost use Rattle.sessions.specs.PlainRuns.{AreFew, Ran, RanBy};
 
-use crate::boxed::{BoxedScript, boxed_scripts};
+use crate::boxing::{BoxedScript, boxed_scripts};
 use crate::job::Done;
 use crate::ready::{Ready, Room, prepare};
 use crate::script::{Gate, RunRefusal, Script, Transcript};
@@ -64,7 +64,8 @@ pub fn run_sessions<F: Decider + Send + Drop, G: Gate, R: Threads + Wait + Sync>
         log,
         transcripts,
     } = left;
-    Ok((host, Journal::of(log), transcripts))
+    let journal = Journal::of(log);
+    Ok((host, journal, transcripts))
 }
 
 /// Runs each script as `run_sessions` does, and keeps no journal.
@@ -118,7 +119,7 @@ fn play<F: Decider + Send + Drop, J: CallLog + Send + Drop, G: Gate, R: Threads 
     requires count { (0 < vec_len scripts) × (vec_len scripts ≤ max_sessions) }
     requires short { All AreFew (map boxed_script scripts.items) }
     ensures ran { IfOk result (λ r. RanBy host (map boxed_script scripts.items) (J.entries r.log) r.host r.transcripts.items) }
-    ensures refused { IfErr result (λ e. (e ≡ Memory) ⊎ (e ≡ Start)) }
+    ensures refuses { IfErr result (RefusesFor (vec_len scripts)) }
 {
     host.kept();
     let Ok(ready) = prepare(alloc, host, scripts) else {

@@ -7,7 +7,7 @@ ghost use Rattle.sessions.specs.Boxed.{own_step};
 ghost use Rattle.sessions.specs.Jobs.{HasRoomFor};
 ghost use Rattle.sessions.specs.Made.{Did};
 
-use crate::boxed::{BoxedStep, unboxed};
+use crate::boxing::{BoxedStep, unboxed};
 use crate::job::Done;
 use crate::script::Gate;
 use host_lock::{Answer, CallLog, Session, SharedHost};

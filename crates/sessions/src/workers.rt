@@ -67,7 +67,7 @@ fn beside<F: Decider + Send + Drop, J: CallLog + Send + Drop, G: Gate, R: Thread
         thread::scope_env(),
         rt,
         |scope| -> Option<Vec<Done>>
-            requires sync { IsSync R.row }
+            requires sync { IsSync R.row × IsSync G.row }
             requires send { IsSend F.row × IsSend J.row }
             requires of { IsOf host.now session }
             requires fresh { (session.calls ≡ 0) × (session.mine ≡ []) }

@@ -2,10 +2,10 @@ use Rattle.std.proofs.Common.{rules, ◌≡◌, ◌+◌, [], ◌∷◌, ◌++◌
 use Rattle.std.proofs.lemmas.List.{length-reverse}
 use Rattle.host_lock.specs.Rule.{Each}
 use Rattle.host_lock.specs.Sessions.{SessionData}
-use Rattle.sessions.specs.declared.boxed.BoxedScript.{BoxedScript}
+use Rattle.sessions.specs.declared.boxing.BoxedScript.{BoxedScript}
 use Rattle.sessions.specs.declared.job.Job.{Job}
 use Rattle.sessions.specs.Jobs.{HasRoom, job_session, job_steps}
-use Rattle.sessions.specs.Runs.{steps_of}
+use Rattle.sessions.specs.Boxed.{steps_of}
 use Rattle.sessions.proofs.Scripts.{next_step, reverse_twice}
 use Rattle.sessions.proofs.Pairing.{map_snoc, each_snoc}
 use Rattle.sessions.proofs.ready.pair.Goals as goal

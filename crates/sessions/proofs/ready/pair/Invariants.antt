@@ -1,9 +1,9 @@
 use Rattle.std.proofs.Common.{◌≡◌, ◌+◌, ◌≤◌, ◌++◌, List, length, map, reverse, vec_len, vec_capacity}
 use Rattle.host_lock.specs.Rule.{Each}
 use Rattle.host_lock.specs.Sessions.{SessionData}
-use Rattle.sessions.specs.declared.boxed.BoxedScript.{BoxedScript}
+use Rattle.sessions.specs.declared.boxing.BoxedScript.{BoxedScript}
 use Rattle.sessions.specs.Jobs.{HasRoom, job_session, job_steps}
-use Rattle.sessions.specs.Runs.{steps_of}
+use Rattle.sessions.specs.Boxed.{steps_of}
 use Rattle.sessions.proofs.ready.pair.Given as goal
 
 abbrev pub invariant-loop-script : goal.invariant-loop-script

@@ -2,7 +2,7 @@
 
 ghost use Rattle.std.specs.Prelude.{◌≡◌, map, IfOk};
 ghost use Rattle.sessions.specs.Boxed.{boxed_script, own_step};
-ghost use Rattle.sessions.specs.Runs.{plain_script};
+ghost use Rattle.sessions.specs.PlainRuns.{plain_script};
 
 use crate::script::Script;
 use pid_blocks::Uid;
