@@ -9,7 +9,7 @@ use Rattle.pid_blocks.specs.Blocks.{rising, users, slot}
 use Rattle.pid_blocks.specs.Users.{IsUser}
 use Rattle.requests.specs.Plain.{PlainStep}
 use Rattle.requests.specs.Run.{Asked, asked_by}
-use Rattle.sessions.specs.declared.boxed.BoxedScript.{BoxedScript}
+use Rattle.sessions.specs.declared.boxing.BoxedScript.{BoxedScript}
 use Rattle.sessions.specs.Boxed.{boxed_script, own_step}
 use Rattle.requests.proofs.IsolationLaws.{at_slot}
 use Rattle.scenario_text.specs.Plan.{asked}

@@ -11,10 +11,10 @@ use Rattle.requests.specs.Machine.{Machine, empty}
 use Rattle.requests.specs.Plain.{PlainStep}
 use Rattle.host_lock.specs.declared.journal.Entry.{Entry}
 use Rattle.host_lock.specs.Sessions.{IsBelow}
-use Rattle.sessions.specs.declared.boxed.BoxedScript.{BoxedScript}
+use Rattle.sessions.specs.declared.boxing.BoxedScript.{BoxedScript}
 use Rattle.sessions.specs.declared.script.Transcript.{Transcript}
 use Rattle.sessions.specs.Boxed.{boxed_script}
-use Rattle.sessions.specs.Runs.{AllAnswer, AreFew, Ran}
+use Rattle.sessions.specs.PlainRuns.{AllAnswer, AreFew, Ran}
 use Rattle.scenario_text.specs.Plan.{Plan, max_steps}
 use Rattle.scenario.specs.Runs.{answers_of}
 use Rattle.threaded_runs.specs.Grouped.{by_users}

@@ -4,7 +4,7 @@ use Rattle.std.proofs.lemmas.List.{length-map, map-append}
 use Rattle.std.proofs.lemmas.Fn.{filter_same}
 use Rattle.std.proofs.Math.ListN.{set}
 use Rattle.pid_blocks.specs.Blocks.{slot, users}
-use Rattle.sessions.specs.declared.boxed.BoxedScript.{BoxedScript}
+use Rattle.sessions.specs.declared.boxing.BoxedScript.{BoxedScript}
 use Rattle.sessions.specs.Boxed.{boxed_script, own_step}
 use Rattle.requests.specs.Plain.{PlainStep}
 use Rattle.requests.specs.Isolation.{Users}

@@ -1,8 +1,9 @@
-use Rattle.std.proofs.Common.{◌<◌, List, map, ap, subst, sym, ◌∙◌, arith, rules}
+use Rattle.std.proofs.Common.{◌≡◌, ℕ, ◌<◌, List, map, ap, subst, sym, ◌∙◌, arith, rules}
 use Rattle.std.specs.Prelude.{vec_len, All}
 use Rattle.requests.specs.Machine.{Machine, empty}
 use Rattle.requests.specs.Plain.{PlainStep}
-use Rattle.sessions.specs.Runs.{AreFew, Ran, RefusesFor}
+use Rattle.sessions.specs.Runs.{RefusesFor}
+use Rattle.sessions.specs.PlainRuns.{AreFew, Ran}
 use Rattle.threaded_runs.proofs.TranscriptLemmas.{told_in_all, few, are_few}
 use Rattle.threaded_runs.proofs.threading.transcripts_of.Goals as goal
 
