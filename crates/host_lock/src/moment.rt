@@ -39,7 +39,9 @@ impl Model for Moment {
 }
 
 impl Moment {
-    pub(crate) fn into_seat<F: Decider + Send + Drop, J: CallLog + Send + Drop>(self) -> HostSeat<F, J>
+    pub(crate) fn into_seat<F: Decider + Send + Drop, J: CallLog + Send + Drop>(
+        self,
+    ) -> HostSeat<F, J>
         ensures { (result.table_id ≡ self.host) × (result.me ≡ (moment_view self.start self.seen, [])) × IsLegal self.start self.seen }
     {
         let Moment { badge } = self;

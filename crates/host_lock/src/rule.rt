@@ -19,7 +19,8 @@ pub struct TableKey<F: Decider + Send + Drop> {
 
 pub struct HostRule;
 
-impl<F: Decider + Send + Drop, J: CallLog + Send + Drop> TableRule<Slot<F, J>, View, TableKey<F>> for HostRule {
+impl<F: Decider + Send + Drop, J: CallLog + Send + Drop> TableRule<Slot<F, J>, View, TableKey<F>>
+    for HostRule {
     ghost use Rattle.host_lock.specs.Rule.{SharedInvariant, opening_view};
 
     ghost holds = { λ o s. SharedInvariant o.start.value o.sessions s };

@@ -50,7 +50,9 @@ impl Model for Session {
 }
 
 impl Session {
-    pub(crate) fn into_seat<F: Decider + Send + Drop, J: CallLog + Send + Drop>(self) -> HostSeat<F, J>
+    pub(crate) fn into_seat<F: Decider + Send + Drop, J: CallLog + Send + Drop>(
+        self,
+    ) -> HostSeat<F, J>
         ensures { (result.table_id ≡ self.host) × (result.me ≡ (session_view self.start Idle (max_calls - self.calls) self.seen self.number self.mine, [])) }
     {
         let Session {

@@ -165,17 +165,17 @@ module _ {F : Type 0} (h : Machine) (z : TableId) where
       let len = jobs_length ss js p in
       let len' = pairs_length (λ j d. Did j.session (map own_step j.steps.items) d.replies.items d.session) js ds r in
       answers_of boxed_script log ss ts (ap length was ∙ length_map done_transcript ds ∙ len' ∙ len)
-        (λ k s t lt.
-            let d : Done = record { session = new_session 0 0 z h; replies = t.replies } in
-            let did = done_at ss js ds p r k s d lt in
-            let x : Done = slice_index_or ds k d in
-            let there : slice_index_or ts k t ≡ done_transcript x = ap (λ l. slice_index_or l k t) was ∙ get_or-map done_transcript ds k d t (omega arith) in
-            let here : slice_index_or xs k d.session ≡ x.session = ap (λ l. slice_index_or l k d.session) is ∙ get_or-map done_session ds k d d.session (omega arith) in
-            let count = ap length is in
-            let more = length_map done_session ds in
-            let stand : InJournal log x.session = subst (InJournal log) here (stands k d.session (omega arith)) in
-            subst (Answers log k (boxed_script (slice_index_or ss k s))) (sym there) (
-              did.1,
-              did.0,
-              ap (λ m. entries_of m log) (sym did.2) ∙ stand.1 ∙ did.6,
-            ))
+      (λ k s t lt.
+      let d : Done = record { session = new_session 0 0 z h; replies = t.replies } in
+      let did = done_at ss js ds p r k s d lt in
+      let x : Done = slice_index_or ds k d in
+      let there : slice_index_or ts k t ≡ done_transcript x = ap (λ l. slice_index_or l k t) was ∙ get_or-map done_transcript ds k d t (omega arith) in
+      let here : slice_index_or xs k d.session ≡ x.session = ap (λ l. slice_index_or l k d.session) is ∙ get_or-map done_session ds k d d.session (omega arith) in
+      let count = ap length is in
+      let more = length_map done_session ds in
+      let stand : InJournal log x.session = subst (InJournal log) here (stands k d.session (omega arith)) in
+      subst (Answers log k (boxed_script (slice_index_or ss k s))) (sym there) (
+        did.1,
+        did.0,
+        ap (λ m. entries_of m log) (sym did.2) ∙ stand.1 ∙ did.6,
+      ))

@@ -20,7 +20,12 @@ use stop_handlers::Decider;
 
 /// Runs each job in a thread of its own, all at the same time. Returns `None` where a thread could not be started.
 #[cycle(run)]
-pub(crate) fn run_all<F: Decider + Send + Drop, J: CallLog + Send + Drop, G: Gate, R: Threads + Wait + Sync>(
+pub(crate) fn run_all<
+    F: Decider + Send + Drop,
+    J: CallLog + Send + Drop,
+    G: Gate,
+    R: Threads + Wait + Sync,
+>(
     rt: &R,
     alloc: Global,
     host: &SharedHost<F, J>,

@@ -1,4 +1,4 @@
-use Rattle.std.proofs.Common.{◌≡◌, ℕ, List, length, map, vec_len, sym, refl, ap, ◌∙◌, subst, arith, All}
+use Rattle.std.proofs.Common.{ℕ, List, length, sym, refl, ap, ◌∙◌, subst, arith, All}
 use Rattle.requests.specs.Machine.{Machine}
 use Rattle.host_lock.specs.declared.journal.Entry.{Entry}
 use Rattle.host_lock.specs.Journal.{IsLegal, replay}

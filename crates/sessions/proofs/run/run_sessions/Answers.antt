@@ -1,4 +1,4 @@
-use Rattle.std.proofs.Common.{◌≡◌, ℕ, ◌<◌, ◌≤◌, List, length, map, vec_len, eqb-true, sym, ap, ◌∙◌, subst, arith, rules, All, IfErr}
+use Rattle.std.proofs.Common.{◌≡◌, ℕ, ◌<◌, ◌≤◌, List, length, vec_len, eqb-true, sym, ap, ◌∙◌, subst, arith, rules, All, IfErr}
 use Rattle.requests.specs.Plain.{PlainStep}
 use Rattle.host_lock.specs.declared.journal.Entry.{Entry}
 use Rattle.host_lock.specs.Limits.{max_sessions}
