@@ -16,19 +16,19 @@ use Rattle.host_lock.specs.Rule.{Each, Matches, Closes, session_view, both}
 use Rattle.host_lock.specs.Sessions.{SessionData, IsBelow, gathered, seen_by, account_of, InJournal}
 use Rattle.host_lock.proofs.Totals.{each_append, each_right}
 
-abbrev history_or : {F : Type 0} → History → Slot F → History
+abbrev history_or : {F J : Type 0} → History → Slot F J → History
 history_or d (There k) = k
 history_or d (Away u s) = d
 
 abbrev pub Known : Machine → ℕ → View → History → Type 0
 Known h n v k = (k.start ≡ h) × Each (StartsWith k.log) v.seen × Each (Matches n k.log) v.owns × Each (IsBelow n) k.log
 
-pub closes_with : {F : Type 0} (h : Machine) (n : ℕ) (v : View) (xs : List (Slot F)) (k : History) → Closes h n v xs → get_elem? xs 0 ≡ some (There k) → Known h n v k
+pub closes_with : {F J : Type 0} (h : Machine) (n : ℕ) (v : View) (xs : List (Slot F J)) (k : History) → Closes h n v xs → get_elem? xs 0 ≡ some (There k) → Known h n v k
 closes_with h n v xs k c e =
     let is : history h c.0 ≡ k = ap (history_or (history h [])) (some-injective (There (history h c.0)) (There k) (sym c.1 ∙ e)) in
     subst (Known h n v) is (refl, c.3, c.4, c.5)
 
-pub not_away : {F : Type 0} (h : Machine) (n : ℕ) (v : View) (xs : List (Slot F)) (u : ℕ) (s : PlainStep) → Closes h n v xs → get_elem? xs 0 ≡ some (Away u s) → ⊥
+pub not_away : {F J : Type 0} (h : Machine) (n : ℕ) (v : View) (xs : List (Slot F J)) (u : ℕ) (s : PlainStep) → Closes h n v xs → get_elem? xs 0 ≡ some (Away u s) → ⊥
 not_away h n v xs u s c e = let is : There (history h c.0) ≡ Away u s = some-injective (There (history h c.0)) (Away u s) (sym c.1 ∙ e) in cc
 
 pub pops : (P : SessionData → Type 0) (all rem rem' order : List SessionData) (s : SessionData) → Each P all → all ≡ rem ++ reverse order → rem ≡ rem' ++ s ∷ [] → P s × (all ≡ rem' ++ reverse (order ++ s ∷ []))

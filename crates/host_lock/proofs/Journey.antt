@@ -16,51 +16,51 @@ use Rattle.host_lock.specs.Rule.{M, nobody, has_slot, session_view, drawn, start
 use Rattle.host_lock.specs.Limits.{max_calls}
 use Rattle.host_lock.proofs.Logs.{entries_mine}
 
-module _ {F : Type 0} where
-  abbrev pub IsIdle : ℕ → (M F) → Type 0
+module _ {F J : Type 0} where
+  abbrev pub IsIdle : ℕ → (M F J) → Type 0
   IsIdle number m = m ≡ (session_view (start_of m.0) Idle m.0.budget (seen_of m.0) number (mine_of m.0), [])
 
-  abbrev slot_in : List (ℕ × (Slot F)) → (Slot F)
+  abbrev slot_in : List (ℕ × (Slot F J)) → (Slot F J)
   slot_in [] = Away 0 Rattle.requests.specs.declared.step.Step.TheVariants.Spawn
   slot_in (x ∷ xs) = x.1
 
-  abbrev history_in : (Slot F) → History
+  abbrev history_in : (Slot F J) → History
   history_in (There k) = k
   history_in (Away u s) = history nobody []
 
   -- what is known of the host that was taken out
-  abbrev pub IsFound : (M F) → ℕ → ℕ → ℕ → PlainStep → History → (M F) → Type 0
+  abbrev pub IsFound : (M F J) → ℕ → ℕ → ℕ → PlainStep → History → (M F J) → Type 0
   IsFound m u number ticket s state m' =
       (start_of m.0 ≡ state.start) × StartsWith state.log (seen_of m.0) × (entries_of number state.log ≡ mine_of m.0)
       × (m' ≡ (session_view state.start (Holding ticket) (m.0.budget - 1) state.log number (mine_of m.0), (0, Away u s) ∷ []))
 
-  pub finds : (m₀ m₁ m₂ m₃ : (M F)) (u number ticket : ℕ) (s : PlainStep) (state : History) (result : (Slot F)) → IsIdle number m₀ → m₁ ≡ (drawn m₀.0 ticket, m₀.1) → TakesSlot m₁.0 number ticket m₂ → m₂.1 ≡ (0, result) ∷ rest m₂.1
+  pub finds : (m₀ m₁ m₂ m₃ : (M F J)) (u number ticket : ℕ) (s : PlainStep) (state : History) (result : (Slot F J)) → IsIdle number m₀ → m₁ ≡ (drawn m₀.0 ticket, m₀.1) → TakesSlot m₁.0 number ticket m₂ → m₂.1 ≡ (0, result) ∷ rest m₂.1
       → result ≡ There state → m₃ ≡ (m₂.0, (0, Away u s) ∷ rest m₂.1) → IsFound m₀ u number ticket s state m₃
   finds m₀ m₁ m₂ m₃ u number ticket s state result e₀ e₁ t is₂ is e₃ =
       let h : Machine = start_of m₀.0 in
       let mine : List Entry = mine_of m₀.0 in
-      let now : m₁ ≡ (session_view h (Waiting ticket) (m₀.0.budget - 1) (seen_of m₀.0) number mine, []) = e₁ ∙ ap (λ (m : (M F)). (drawn m.0 ticket, m.1)) e₀ in
-      let t' : TakesSlot (session_view h (Waiting ticket) (m₀.0.budget - 1) (seen_of m₀.0) number mine) number ticket m₂ = subst (λ (m : (M F)). TakesSlot m.0 number ticket m₂) now t in
+      let now : m₁ ≡ (session_view h (Waiting ticket) (m₀.0.budget - 1) (seen_of m₀.0) number mine, []) = e₁ ∙ ap (λ (m : (M F J)). (drawn m.0 ticket, m.1)) e₀ in
+      let t' : TakesSlot (session_view h (Waiting ticket) (m₀.0.budget - 1) (seen_of m₀.0) number mine) number ticket m₂ = subst (λ (m : (M F J)). TakesSlot m.0 number ticket m₂) now t in
       let log : List Entry = t'.0 in
-      let held : m₂.1 ≡ (0, There (history h log)) ∷ [] = ap (λ (m : (M F)). m.1) t'.1 in
-      let home_is : history h log ≡ state = ap (λ (l : List (ℕ × (Slot F))). history_in (slot_in l)) (sym held ∙ is₂) ∙ ap history_in is in
+      let held : m₂.1 ≡ (0, There (history h log)) ∷ [] = ap (λ (m : (M F J)). m.1) t'.1 in
+      let home_is : history h log ≡ state = ap (λ (l : List (ℕ × (Slot F J))). history_in (slot_in l)) (sym held ∙ is₂) ∙ ap history_in is in
       let P : History → Type 0 = λ k. IsFound m₀ u number ticket s k m₃ in
-      subst P home_is (refl, t'.2, t'.3, e₃ ∙ ap (λ (m : (M F)). (m.0, (0, Away u s) ∷ rest m.1)) t'.1)
+      subst P home_is (refl, t'.2, t'.3, e₃ ∙ ap (λ (m : (M F J)). (m.0, (0, Away u s) ∷ rest m.1)) t'.1)
 
-  pub is_out : (number : ℕ) (m : (M F)) (k k' : History) (g : Stage) (x : (Slot F)) (b : ℕ) (mine : List Entry) → has_slot g ≡ 1 → m ≡ (session_view k.start g b k.log number mine, (0, x) ∷ []) → k' ≡ k → IsOut number k' m
+  pub is_out : (number : ℕ) (m : (M F J)) (k k' : History) (g : Stage) (x : (Slot F J)) (b : ℕ) (mine : List Entry) → has_slot g ≡ 1 → m ≡ (session_view k.start g b k.log number mine, (0, x) ∷ []) → k' ≡ k → IsOut number k' m
   is_out number m k k' g x b mine out e is =
-      subst (λ (z : History). IsOut number z m) (sym is) (g, x, out, e ∙ ap (λ (z : (M F)). (session_view k.start g z.0.budget k.log number (mine_of z.0), (0, x) ∷ [])) (sym e))
+      subst (λ (z : History). IsOut number z m) (sym is) (g, x, out, e ∙ ap (λ (z : (M F J)). (session_view k.start g z.0.budget k.log number (mine_of z.0), (0, x) ∷ [])) (sym e))
 
   -- the call is counted, and the state is as long as what is seen
-  pub counts_out : (m₀ m₃ m₄ : (M F)) (u number ticket : ℕ) (s : PlainStep) (state state' : History) (r : Reply) → IsFound m₀ u number ticket s state m₃ → HasCounted m₃.0 u number s ticket m₄
+  pub counts_out : (m₀ m₃ m₄ : (M F J)) (u number ticket : ℕ) (s : PlainStep) (state state' : History) (r : Reply) → IsFound m₀ u number ticket s state m₃ → HasCounted m₃.0 u number s ticket m₄
       → r ≡ reply_of u s (replay state.start state.log) → state' ≡ history state.start (state.log ++ entry u number s r ∷ [])
       → m₄ ≡ (session_view state'.start (Counted ticket) (m₀.0.budget - 1) state'.log number (mine_of m₀.0 ++ entry u number s r ∷ []), (0, Away u s) ∷ [])
   counts_out m₀ m₃ m₄ u number ticket s state state' r f c reply is =
-      let at : HasCounted (session_view state.start (Holding ticket) (m₀.0.budget - 1) state.log number (mine_of m₀.0)) u number s ticket m₄ = subst (λ (m : (M F)). HasCounted m.0 u number s ticket m₄) f.3 c in
+      let at : HasCounted (session_view state.start (Holding ticket) (m₀.0.budget - 1) state.log number (mine_of m₀.0)) u number s ticket m₄ = subst (λ (m : (M F J)). HasCounted m.0 u number s ticket m₄) f.3 c in
       at ∙ ap (λ (z : Reply). (session_view state.start (Counted ticket) (m₀.0.budget - 1) (state.log ++ entry u number s z ∷ []) number (mine_of m₀.0 ++ entry u number s z ∷ []), (0, Away u s) ∷ [])) (sym reply)
       ∙ ap (λ (k : History). (session_view k.start (Counted ticket) (m₀.0.budget - 1) k.log number (mine_of m₀.0 ++ entry u number s r ∷ []), (0, Away u s) ∷ [])) (sym is)
 
-  pub turned_none : (m₀ m₃ m₅ : (M F)) (u number ticket : ℕ) (s : PlainStep) (state state' : History) (r : Reply) → IsFound m₀ u number ticket s state m₃ → is_memory r ≡ true → IsLegal state'.start state'.log → state' ≡ state
+  pub turned_none : (m₀ m₃ m₅ : (M F J)) (u number ticket : ℕ) (s : PlainStep) (state state' : History) (r : Reply) → IsFound m₀ u number ticket s state m₃ → is_memory r ≡ true → IsLegal state'.start state'.log → state' ≡ state
       → m₅ ≡ (session_view state'.start Idle m₃.0.budget state'.log number (mine_of m₃.0), []) → HasTurned m₀.0 u number s r m₅
   turned_none m₀ m₃ m₅ u number ticket s state state' r f memory legal same e =
       let P : History → Type 0 = λ k. IsLegal k.start k.log × (m₅ ≡ (session_view k.start Idle m₃.0.budget k.log number (mine_of m₃.0), [])) in
@@ -71,16 +71,16 @@ module _ {F : Type 0} where
         state.log,
         f.1,
         f.2,
-        subst R (sym memory) (subst Q (sym f.0) (got.0, got.1 ∙ ap (λ (m : (M F)). (session_view state.start Idle m.0.budget state.log number (mine_of m.0), [])) f.3)),
+        subst R (sym memory) (subst Q (sym f.0) (got.0, got.1 ∙ ap (λ (m : (M F J)). (session_view state.start Idle m.0.budget state.log number (mine_of m.0), [])) f.3)),
       )
 
-  pub turned_one : (m₀ m₃ m₄ m₅ : (M F)) (u number ticket : ℕ) (s : PlainStep) (state state' : History) (r : Reply) → IsFound m₀ u number ticket s state m₃ → is_memory r ≡ false → IsLegal state'.start state'.log
+  pub turned_one : (m₀ m₃ m₄ m₅ : (M F J)) (u number ticket : ℕ) (s : PlainStep) (state state' : History) (r : Reply) → IsFound m₀ u number ticket s state m₃ → is_memory r ≡ false → IsLegal state'.start state'.log
       → state' ≡ history state.start (state.log ++ entry u number s r ∷ [])
       → m₄ ≡ (session_view state'.start (Counted ticket) (m₀.0.budget - 1) state'.log number (mine_of m₀.0 ++ entry u number s r ∷ []), (0, Away u s) ∷ [])
       → m₅ ≡ (session_view state'.start Idle m₄.0.budget state'.log number (mine_of m₄.0), []) → HasTurned m₀.0 u number s r m₅
   turned_one m₀ m₃ m₄ m₅ u number ticket s state state' r f memory legal is at e =
       let P : History → Type 0 = λ k. IsLegal k.start k.log × (m₅ ≡ (session_view k.start Idle (m₀.0.budget - 1) k.log number (mine_of m₀.0 ++ entry u number s r ∷ []), [])) in
-      let got = subst P is (legal, e ∙ ap (λ (m : (M F)). (session_view state'.start Idle m.0.budget state'.log number (mine_of m.0), [])) at) in
+      let got = subst P is (legal, e ∙ ap (λ (m : (M F J)). (session_view state'.start Idle m.0.budget state'.log number (mine_of m.0), [])) at) in
       let Q : Machine → Type 0 = λ h. IsLegal h (state.log ++ entry u number s r ∷ []) × (m₅ ≡ (session_view h Idle (m₀.0.budget - 1) (state.log ++ entry u number s r ∷ []) number (mine_of m₀.0 ++ entry u number s r ∷ []), [])) in
       let R : Bool → Type 0 = λ b. MatchBool b (IsLegal (start_of m₀.0) state.log × (m₅ ≡ (session_view (start_of m₀.0) Idle (m₀.0.budget - 1) state.log number (mine_of m₀.0), [])))
       (IsLegal (start_of m₀.0) (state.log ++ entry u number s r ∷ []) × (m₅ ≡ (session_view (start_of m₀.0) Idle (m₀.0.budget - 1) (state.log ++ entry u number s r ∷ []) number (mine_of m₀.0 ++ entry u number s r ∷ []), []))) in
@@ -93,23 +93,23 @@ IsSettled number calls v = IsAtRest number calls v × IsLegal (start_of v) (seen
 pub settled : (h : Machine) (b number calls : ℕ) (log mine : List Entry) (v : View) → b ≡ max_calls - calls → IsLegal h log → entries_of number log ≡ mine → v ≡ session_view h Idle b log number mine → IsSettled number calls v
 settled h b number calls log mine v is legal same e = subst (IsSettled number calls) (sym e) (ap (λ (z : ℕ). session_view h Idle z log number mine) is, legal, same)
 
-module _ {F : Type 0} where
-  settles_by : (h : Machine) (b number calls u : ℕ) (s : PlainStep) (r : Reply) (log mine : List Entry) (m : M F) → b ≡ max_calls - calls → entries_of number log ≡ mine → (c : Bool)
+module _ {F J : Type 0} where
+  settles_by : (h : Machine) (b number calls u : ℕ) (s : PlainStep) (r : Reply) (log mine : List Entry) (m : M F J) → b ≡ max_calls - calls → entries_of number log ≡ mine → (c : Bool)
       → MatchBool c (IsLegal h log × (m ≡ (session_view h Idle b log number mine, [])))
       (IsLegal h (log ++ entry u number s r ∷ []) × (m ≡ (session_view h Idle b (log ++ entry u number s r ∷ []) number (mine ++ entry u number s r ∷ []), [])))
       → IsSettled number calls m.0
-  settles_by h b number calls u s r log mine m is same true t = settled h b number calls log mine m.0 is t.0 same (ap (λ (z : M F). z.0) t.1)
+  settles_by h b number calls u s r log mine m is same true t = settled h b number calls log mine m.0 is t.0 same (ap (λ (z : M F J). z.0) t.1)
   settles_by h b number calls u s r log mine m is same false t =
       let e : Entry = entry u number s r in
-      settled h b number calls (log ++ e ∷ []) (mine ++ e ∷ []) m.0 is t.0 (entries_mine number log e (eq-eqb number number refl) ∙ ap (λ (l : List Entry). l ++ e ∷ []) same) (ap (λ (z : M F). z.0) t.1)
+      settled h b number calls (log ++ e ∷ []) (mine ++ e ∷ []) m.0 is t.0 (entries_mine number log e (eq-eqb number number refl) ∙ ap (λ (l : List Entry). l ++ e ∷ []) same) (ap (λ (z : M F J). z.0) t.1)
 
-  pub settles : (number calls u : ℕ) (s : PlainStep) (r : Reply) (v : View) (m₅ : M F) → IsAtRest number calls v → HasTurned v u number s r m₅ → IsSettled number (calls + 1) m₅.0
+  pub settles : (number calls u : ℕ) (s : PlainStep) (r : Reply) (v : View) (m₅ : M F J) → IsAtRest number calls v → HasTurned v u number s r m₅ → IsSettled number (calls + 1) m₅.0
   settles number calls u s r v m₅ rested t =
       let is : v.budget ≡ max_calls - calls = ap (λ (z : View). z.budget) rested in
       settles_by (start_of v) (v.budget - 1) number (calls + 1) u s r t.0 (mine_of v) m₅ (omega arith) t.2 (is_memory r) t.3
 
   -- the same of a session, which keeps a badge between two calls
-  pub badge_settles : (number calls u : ℕ) (s : PlainStep) (r : Reply) (views views' : List View) (m m₅ : M F) → IsAtRest number calls (view_in views) → views ≡ m.0 ∷ [] → HasTurned m.0 u number s r m₅ → views' ≡ m₅.0 ∷ []
+  pub badge_settles : (number calls u : ℕ) (s : PlainStep) (r : Reply) (views views' : List View) (m m₅ : M F J) → IsAtRest number calls (view_in views) → views ≡ m.0 ∷ [] → HasTurned m.0 u number s r m₅ → views' ≡ m₅.0 ∷ []
       → (views' ≡ view_in views' ∷ []) × IsSettled number (calls + 1) (view_in views')
   badge_settles number calls u s r views views' m m₅ rested was turned is =
       let done = settles number calls u s r m.0 m₅ (subst (λ (vs : List View). IsAtRest number calls (view_in vs)) was rested) turned in

@@ -61,19 +61,19 @@ between n log l x s t same =
 abbrev pub SeesMore : List Entry → View → View → Type 0
 SeesMore front v w = StartsWith (seen_of w) (seen_of v) × StartsWith (seen_of w) front × (mine_of w ≡ mine_of v) × (start_of w ≡ start_of v)
 
-module _ {F : Type 0} where
-  abbrev pub Joined : ℕ → (M F) → List Entry → (M F) → Type 0
+module _ {F J : Type 0} where
+  abbrev pub Joined : ℕ → (M F J) → List Entry → (M F J) → Type 0
   Joined number m front m' = m' ≡ (both (session_view (start_of m.0) Idle m.0.budget (seen_of m.0) number (mine_of m.0)) (moment_view (start_of m.0) front), [])
 
-  pub joined_is : (number : ℕ) (m n m' : M F) → m ≡ (session_view (start_of m.0) Idle m.0.budget (seen_of m.0) number (mine_of m.0), []) → n ≡ (moment_view (start_of m.0) (seen_of n.0), []) → m' ≡ (both m.0 n.0, m.1) → Joined number m (seen_of n.0) m'
+  pub joined_is : (number : ℕ) (m n m' : M F J) → m ≡ (session_view (start_of m.0) Idle m.0.budget (seen_of m.0) number (mine_of m.0), []) → n ≡ (moment_view (start_of m.0) (seen_of n.0), []) → m' ≡ (both m.0 n.0, m.1) → Joined number m (seen_of n.0) m'
   joined_is number m n m' e d is = is ∙ (λ i. (both (e i).0 (d i).0, (e i).1))
 
-  pub has_learned : (number slots found : ℕ) (front : List Entry) (m m₁ m₂ : M F) → Joined number m front m₁ → learned (step slots 0 0 0 none) m₁ found m₂ → IsLegal (start_of m.0) (seen_of m.0) → IsLegal (start_of m.0) front → entries_of number (seen_of m.0) ≡ mine_of m.0
+  pub has_learned : (number slots found : ℕ) (front : List Entry) (m m₁ m₂ : M F J) → Joined number m front m₁ → learned (step slots 0 0 0 none) m₁ found m₂ → IsLegal (start_of m.0) (seen_of m.0) → IsLegal (start_of m.0) front → entries_of number (seen_of m.0) ≡ mine_of m.0
       → HasLearned m.0 number front m₂
   has_learned number slots found front m m₁ m₂ is t legal legal_front own =
       let h : Machine = start_of m.0 in
       let x : List Entry = seen_of m.0 in
-      let at = subst (λ (z : M F). learned (step slots 0 0 0 none) z found m₂) is t in
+      let at = subst (λ (z : M F J). learned (step slots 0 0 0 none) z found m₂) is t in
       let log : List Entry = at.1.0 in
       let s : StartsWith log x = at.1.1.0 in
       let s' : StartsWith log front = at.1.1.1.0 in
@@ -91,7 +91,7 @@ module _ {F : Type 0} where
       )
 
   -- the same of a session, which keeps a badge between two calls
-  pub badge_learns : (number calls : ℕ) (front : List Entry) (views views' : List View) (m m' : M F) → IsSettled number calls (view_in views) → views ≡ m.0 ∷ [] → HasLearned m.0 number front m' → views' ≡ m'.0 ∷ []
+  pub badge_learns : (number calls : ℕ) (front : List Entry) (views views' : List View) (m m' : M F J) → IsSettled number calls (view_in views) → views ≡ m.0 ∷ [] → HasLearned m.0 number front m' → views' ≡ m'.0 ∷ []
       → (views' ≡ view_in views' ∷ []) × IsSettled number calls (view_in views') × SeesMore front (view_in views) (view_in views')
   badge_learns number calls front views views' m m' rested was t is =
       let s = subst (λ (vs : List View). IsSettled number calls (view_in vs)) was rested in
@@ -99,7 +99,7 @@ module _ {F : Type 0} where
       let v : View = session_view (start_of m.0) Idle m.0.budget t.0 number (mine_of m.0) in
       let Q : View → Type 0 = λ z. IsSettled number calls z × SeesMore front m.0 z in
       let q : Q v = (settled (start_of m.0) m.0.budget number calls t.0 (mine_of m.0) v budget t.4 t.5 refl, (t.2, t.3, refl, refl)) in
-      let at : Q m'.0 = subst Q (sym (ap (λ (z : M F). z.0) t.1)) q in
+      let at : Q m'.0 = subst Q (sym (ap (λ (z : M F J). z.0) t.1)) q in
       let R : List View → List View → Type 0 = λ old new. (new ≡ view_in new ∷ []) × IsSettled number calls (view_in new) × SeesMore front (view_in old) (view_in new) in
       subst (λ (z : List View × List View). R z.0 z.1) (λ i. (sym was i, sym is i)) (refl, at.0, at.1)
 

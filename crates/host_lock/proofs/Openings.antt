@@ -24,11 +24,11 @@ split_left_is : (h : Machine) (i k : ℕ) → split_left (fresh_view h i (suc k)
 split_left_is h i k = let e : suc k * max_calls - max_calls ≡ k * max_calls = omega arith in ap (λ (b : ℕ). record (fresh_view h (i + 1) k) { budget = b }) e
 
 -- a seat that owns k sessions from i on gives one away
-pub splits_one : (F : Type 0) (h r : Machine) (n id i k : ℕ) (v : View) → 0 < k → v ≡ fresh_view r i k → Splits (SharedInvariant {F = F} h n) id v (split_left v) (split_right v)
-splits_one F h r n id i zero v some e = absurd (omega arith)
-splits_one F h r n id i (suc k) v some e =
-    let P : View → Type 0 = λ z. Splits (SharedInvariant {F = F} h n) id z (split_left z) (split_right z) in
-    subst P (sym e) (subst (λ (z : View). Splits (SharedInvariant {F = F} h n) id (fresh_view r i (suc k)) z (session_view r Idle max_calls [] i [])) (sym (split_left_is r i k)) (splits h n r id i k))
+pub splits_one : (F J : Type 0) (h r : Machine) (n id i k : ℕ) (v : View) → 0 < k → v ≡ fresh_view r i k → Splits (SharedInvariant {F = F} {J = J} h n) id v (split_left v) (split_right v)
+splits_one F J h r n id i zero v some e = absurd (omega arith)
+splits_one F J h r n id i (suc k) v some e =
+    let P : View → Type 0 = λ z. Splits (SharedInvariant {F = F} {J = J} h n) id z (split_left z) (split_right z) in
+    subst P (sym e) (subst (λ (z : View). Splits (SharedInvariant {F = F} {J = J} h n) id (fresh_view r i (suc k)) z (session_view r Idle max_calls [] i [])) (sym (split_left_is r i k)) (splits h n r id i k))
 
 pub left_is : (r : Machine) (i k : ℕ) (v w : View) → 0 < k → v ≡ fresh_view r i k → w ≡ split_left v → w ≡ fresh_view r (i + 1) (k - 1)
 left_is r i zero v w some e is = absurd (omega arith)

@@ -81,18 +81,18 @@ module _ (h : Machine) (n : ℕ) where
   only_seat v d zero K k e = subst K (maybe.some-injective v d e) k
   only_seat v d (suc j) K k e = absurd (maybe.some-ne-none d (sym e))
 
-module _ {F : Type 0} where
+module _ {F J : Type 0} where
   module _ (h : Machine) (n : ℕ) where
-    abbrev Rule : State (Slot F) View → Type 0
+    abbrev Rule : State (Slot F J) View → Type 0
     Rule = SharedInvariant h n
 
-    slot_same : (log : List Entry) (views : List View) (homes : List (maybe.Option (Slot F))) (id : ℕ) (v w : View) → get_elem? views id ≡ some v → slot_of w ≡ slot_of v → InSlot h log views homes
+    slot_same : (log : List Entry) (views : List View) (homes : List (maybe.Option (Slot F J))) (id : ℕ) (v w : View) → get_elem? views id ≡ some v → slot_of w ≡ slot_of v → InSlot h log views homes
         → InSlot h log (set views id w) homes
     slot_same log views homes id v w at is slot =
         let same = total_same slot_of views id v w at is in
         ⊎_elim (λ (t : (total slot_of views ≡ 0) × (homes ≡ some (There (history h log)) ∷ [])). inl (same ∙ t.0, t.1)) (λ (t : (total slot_of views ≡ 1) × (homes ≡ none ∷ [])). inr (same ∙ t.0, t.1)) slot
 
-    pub draws : (slots id : ℕ) (m : (M F)) → m.0.stage ≡ Idle → 0 < m.0.budget → Allows Rule slots id m 1 (λ x. (x + 1) % 2 ^ 64) (drew (step slots 1 1 0 none) m)
+    pub draws : (slots id : ℕ) (m : (M F J)) → m.0.stage ≡ Idle → 0 < m.0.budget → Allows Rule slots id m 1 (λ x. (x + 1) % 2 ^ 64) (drew (step slots 1 1 0 none) m)
     draws slots id m idle room s r _ at _ =
         let v : View = m.0 in
         let w : View = drawn v r.ticket in
@@ -100,7 +100,7 @@ module _ {F : Type 0} where
         let b = total_set budget_of s.views id v w at in
         let c = total_set calls_of s.views id v w at in
         let owed : owes v.stage ≡ 0 = ap owes idle in
-        let P : List ℕ → Type 0 = λ ws. (w : View) × (a : Act (Slot F)) × Valid s.homes m.1 a × Rule record { words = set ws 1 ((get_or ws 1 0 + 1) % 2 ^ 64); homes = homes_after s.homes m.1 a; views = set s.views id w }
+        let P : List ℕ → Type 0 = λ ws. (w : View) × (a : Act (Slot F J)) × Valid s.homes m.1 a × Rule record { words = set ws 1 ((get_or ws 1 0 + 1) % 2 ^ 64); homes = homes_after s.homes m.1 a; views = set s.views id w }
         × drew (step slots 1 1 0 none) m (get_or ws 1 0) (w, carried_after m.1 a) in
         let none_yet : (t : ℕ) → has_ticket t v.stage ≡ 0 = λ t. ap (has_ticket t) idle in
         let moved : (t : ℕ) → total (ticket_of t) (set s.views id w) ≡ total (ticket_of t) s.views + once r.ticket t =
@@ -130,13 +130,13 @@ module _ {F : Type 0} where
           refl,
         )
 
-    at_most_one : (s : State (Slot F) View) (r : Rule s) (t : ℕ) → total (ticket_of t) s.views ≤ 1
+    at_most_one : (s : State (Slot F J) View) (r : Rule s) (t : ℕ) → total (ticket_of t) s.views ≤ 1
     at_most_one s r t =
         dite (dec_le r.serving t) (λ lo. dite (dec_le r.ticket t) (λ hi. let z = r.later t hi in omega arith) (λ hi. let z = r.out t lo (omega arith) in omega arith))
         (λ lo. let z = r.past t (omega arith) in omega arith)
 
     -- where a waiting seat's ticket is served, the slot is at slot
-    is_in_slot : (s : State (Slot F) View) (r : Rule s) (id : ℕ) (v : View) → get_elem? s.views id ≡ some v → v.stage ≡ Waiting r.serving
+    is_in_slot : (s : State (Slot F J) View) (r : Rule s) (id : ℕ) (v : View) → get_elem? s.views id ≡ some v → v.stage ≡ Waiting r.serving
         → (total slot_of s.views ≡ 0) × (s.homes ≡ some (There (history h r.log)) ∷ [])
     is_in_slot s r id v at waits =
         ⊎_elim (λ (t : (total slot_of s.views ≡ 0) × (s.homes ≡ some (There (history h r.log)) ∷ [])). t)
@@ -153,11 +153,11 @@ module _ {F : Type 0} where
         absurd (omega arith))
         r.slot
 
-    pub turns : (slots id : ℕ) (m : (M F)) (t : ℕ) → m.0.stage ≡ Waiting t → 0 < length m.0.owns → Allows Rule slots id m 0 (λ x. x) (turned (step slots 0 0 0 none) m)
+    pub turns : (slots id : ℕ) (m : (M F J)) (t : ℕ) → m.0.stage ≡ Waiting t → 0 < length m.0.owns → Allows Rule slots id m 0 (λ x. x) (turned (step slots 0 0 0 none) m)
     turns slots id m t waits some_part s r _ at _ =
         let v : View = m.0 in
         let f = r.seats id v at in
-        let P : List ℕ → Type 0 = λ ws. (w : View) × (a : Act (Slot F)) × Valid s.homes m.1 a × Rule record { words = set ws 0 (get_or ws 0 0); homes = homes_after s.homes m.1 a; views = set s.views id w }
+        let P : List ℕ → Type 0 = λ ws. (w : View) × (a : Act (Slot F J)) × Valid s.homes m.1 a × Rule record { words = set ws 0 (get_or ws 0 0); homes = homes_after s.homes m.1 a; views = set s.views id w }
         × turned (step slots 0 0 0 none) m (get_or ws 0 0) (w, carried_after m.1 a) in
         let same_ticket : (t' : ℕ) → m.0.stage ≡ Waiting t' → t ≡ t' = λ t' e. ap ticket_in (sym waits ∙ e) in
         subst P (sym r.words) (dite (ℕ_discrete r.serving t)
@@ -173,7 +173,7 @@ module _ {F : Type 0} where
         let tickets : (q : ℕ) → total (ticket_of q) (set s.views id w) ≡ total (ticket_of q) s.views = λ q. total_same (ticket_of q) s.views id v w at (sym (ap (has_ticket q) waits)) in (
           w,
           takes 0 (There (history h r.log)),
-          ap (λ (hs : List (maybe.Option (Slot F))). get_elem? hs 0) slot.1,
+          ap (λ (hs : List (maybe.Option (Slot F J))). get_elem? hs 0) slot.1,
           record {
             serving = r.serving;
             ticket = r.ticket;
@@ -181,7 +181,7 @@ module _ {F : Type 0} where
             words = refl;
             seats = seats_set (Fits h n r.serving r.log) (Fits h n r.serving r.log) s.views id w
                 (record { start_is = f.start_is; seen_is = (([], sym (append-nil r.log)), tt); owns_is = f.owns_is; turn_is = (sym hit, refl); works = omega arith }) (λ j d _ _ k. k) r.seats;
-            slot = inr (omega arith, ap (λ (hs : List (maybe.Option (Slot F))). set hs 0 none) slot.1);
+            slot = inr (omega arith, ap (λ (hs : List (maybe.Option (Slot F J))). set hs 0 none) slot.1);
             numbers = λ k. let e = total_same (number_of k) s.views id v w at refl in let o = r.numbers k in omega arith;
             parts = total_same parts_of s.views id v w at refl ∙ r.parts;
             given = r.given;
@@ -203,13 +203,13 @@ module _ {F : Type 0} where
           λ t' e. subst (λ b. MatchBool b (Takes m t' m) (m ≡ m)) (sym (ne_eqb r.serving t' (λ z. miss (z ∙ sym (same_ticket t' e))))) refl,
         )))
 
-    only_holder : (s : State (Slot F) View) (r : Rule s) (id j : ℕ) (v d : View) → id ≢ j → get_elem? s.views id ≡ some v → get_elem? s.views j ≡ some d → has_slot v.stage ≡ 1 → has_slot d.stage ≡ 0
+    only_holder : (s : State (Slot F J) View) (r : Rule s) (id j : ℕ) (v d : View) → id ≢ j → get_elem? s.views id ≡ some v → get_elem? s.views j ≡ some d → has_slot v.stage ≡ 1 → has_slot d.stage ≡ 0
     only_holder s r id j v d ne at at_d out =
         let two = total_two slot_of s.views id j v d ne at at_d in
         ⊎_elim (λ (t : (total slot_of s.views ≡ 0) × (s.homes ≡ some (There (history h r.log)) ∷ [])). let z = t.0 in absurd (omega arith)) (λ (t : (total slot_of s.views ≡ 1) × (s.homes ≡ none ∷ [])). let z = t.0 in omega arith) r.slot
 
     -- where the slot is out, it is not at slot
-    is_out : (s : State (Slot F) View) (r : Rule s) (id : ℕ) (v : View) → get_elem? s.views id ≡ some v → has_slot v.stage ≡ 1 → (total slot_of s.views ≡ 1) × (s.homes ≡ none ∷ [])
+    is_out : (s : State (Slot F J) View) (r : Rule s) (id : ℕ) (v : View) → get_elem? s.views id ≡ some v → has_slot v.stage ≡ 1 → (total slot_of s.views ≡ 1) × (s.homes ≡ none ∷ [])
     is_out s r id v at out =
         let one = total_one slot_of s.views id v at in
         ⊎_elim (λ (t : (total slot_of s.views ≡ 0) × (s.homes ≡ some (There (history h r.log)) ∷ [])). let z = t.0 in absurd (omega arith)) (λ (t : (total slot_of s.views ≡ 1) × (s.homes ≡ none ∷ [])). t) r.slot
@@ -218,7 +218,7 @@ module _ {F : Type 0} where
         → Allows Rule slots id (session_view h₀ (Holding t) b x k mine, (0, Away u s₀) ∷ []) 2 (λ x. (x + 1) % 2 ^ 64) (counted (step slots 2 1 0 none) (session_view h₀ (Holding t) b x k mine, (0, Away u s₀) ∷ []))
     counts_up slots id b t k u h₀ x mine s₀ s r _ at _ =
         let v : View = session_view h₀ (Holding t) b x k mine in
-        let c : List (ℕ × (Slot F)) = (0, Away u s₀) ∷ [] in
+        let c : List (ℕ × (Slot F J)) = (0, Away u s₀) ∷ [] in
         let e : Entry = next_entry h₀ x u k s₀ in
         let w : View = session_view h₀ (Counted t) b (x ++ e ∷ []) k (mine ++ e ∷ []) in
         let f = r.seats id v at in
@@ -230,7 +230,7 @@ module _ {F : Type 0} where
         let calls = total_set calls_of s.views id v w at in
         let bound = r.calls_left in
         let one = total_one calls_of s.views id v at in
-        let P : List ℕ → Type 0 = λ ws. (w : View) × (a : Act (Slot F)) × Valid s.homes c a × Rule record { words = set ws 2 ((get_or ws 2 0 + 1) % 2 ^ 64); homes = homes_after s.homes c a; views = set s.views id w }
+        let P : List ℕ → Type 0 = λ ws. (w : View) × (a : Act (Slot F J)) × Valid s.homes c a × Rule record { words = set ws 2 ((get_or ws 2 0 + 1) % 2 ^ 64); homes = homes_after s.homes c a; views = set s.views id w }
         × counted (step slots 2 1 0 none) (v, c) (get_or ws 2 0) (w, carried_after c a) in
         subst P (sym r.words) (
           w,
@@ -279,7 +279,7 @@ module _ {F : Type 0} where
         → Allows Rule slots id (session_view h₀ g b x k mine, (0, There (history h₀ x)) ∷ []) 0 (λ x. (x + 1) % 2 ^ 64) (released (step slots 0 1 0 none) (session_view h₀ g b x k mine, (0, There (history h₀ x)) ∷ []))
     releases slots id b k h₀ x mine g holds s r _ at _ =
         let v : View = session_view h₀ g b x k mine in
-        let c : List (ℕ × (Slot F)) = (0, There (history h₀ x)) ∷ [] in
+        let c : List (ℕ × (Slot F J)) = (0, There (history h₀ x)) ∷ [] in
         let w : View = session_view h₀ Idle b x k mine in
         let f = r.seats id v at in
         let seen : x ≡ r.log = ap first_seen (holder_seen r.serving r.log g (x ∷ []) holds f.turn_is) in
@@ -292,7 +292,7 @@ module _ {F : Type 0} where
         let moved : (q : ℕ) → total (ticket_of q) (set s.views id w) + once r.serving q ≡ total (ticket_of q) s.views = λ q. let z = total_set (ticket_of q) s.views id v w at in let y = mine_at q in omega arith in
         let less : r.serving < r.ticket = dite (dec_le r.ticket r.serving) (λ hi. let z = r.later r.serving hi in let y = moved r.serving in let one = once_same r.serving r.serving refl in absurd (omega arith)) (λ lo. omega arith) in
         let room = r.tickets_left in
-        let P : List ℕ → Type 0 = λ ws. (w : View) × (a : Act (Slot F)) × Valid s.homes c a × Rule record { words = set ws 0 ((get_or ws 0 0 + 1) % 2 ^ 64); homes = homes_after s.homes c a; views = set s.views id w }
+        let P : List ℕ → Type 0 = λ ws. (w : View) × (a : Act (Slot F J)) × Valid s.homes c a × Rule record { words = set ws 0 ((get_or ws 0 0 + 1) % 2 ^ 64); homes = homes_after s.homes c a; views = set s.views id w }
         × released (step slots 0 1 0 none) (v, c) (get_or ws 0 0) (w, carried_after c a) in
         subst P (sym r.words) (
           w,
@@ -309,7 +309,7 @@ module _ {F : Type 0} where
                 let idle = only_holder s r id j v d (λ z. ne (sym z)) at at_d holds in
                 record { start_is = q.start_is; seen_is = q.seen_is; owns_is = q.owns_is; turn_is = not_holder (r.serving + 1) r.log d.stage d.seen idle; works = q.works })
                 r.seats;
-            slot = inl (omega arith, ap (λ (hs : List (maybe.Option (Slot F))). set hs 0 (some (There (history h₀ x)))) away.1 ∙ ap (λ (z : Machine × List Entry). some (There (history z.0 z.1)) ∷ []) (λ i. (f.start_is i, seen i)));
+            slot = inl (omega arith, ap (λ (hs : List (maybe.Option (Slot F J))). set hs 0 (some (There (history h₀ x)))) away.1 ∙ ap (λ (z : Machine × List Entry). some (There (history z.0 z.1)) ∷ []) (λ i. (f.start_is i, seen i)));
             numbers = λ q. let y = total_same (number_of q) s.views id v w at refl in let o = r.numbers q in omega arith;
             parts = total_same parts_of s.views id v w at refl ∙ r.parts;
             given = r.given;
@@ -423,7 +423,7 @@ module _ {F : Type 0} where
         }
 
     -- a seat that has seen two beginnings keeps the longer one
-    pub learns : (slots id : ℕ) (m : (M F)) (x y : List Entry) → m.0.stage ≡ Idle → m.0.seen ≡ x ∷ y ∷ [] → Allows Rule slots id m 0 (λ x. x) (learned (step slots 0 0 0 none) m)
+    pub learns : (slots id : ℕ) (m : (M F J)) (x y : List Entry) → m.0.stage ≡ Idle → m.0.seen ≡ x ∷ y ∷ [] → Allows Rule slots id m 0 (λ x. x) (learned (step slots 0 0 0 none) m)
     learns slots id m x y idle two s r _ at _ =
         let v : View = m.0 in
         let l : List Entry = longer v.seen in
@@ -432,7 +432,7 @@ module _ {F : Type 0} where
         let none_v : has_slot v.stage ≡ 0 = ap has_slot idle in
         let starts = subst (Each (StartsWith r.log)) two f.seen_is in
         let start : StartsWith r.log l = subst (λ (ls : List (List Entry)). StartsWith r.log (longer ls)) (sym two) (longer_is (StartsWith r.log) x y starts.0 starts.1.0) in
-        let P : List ℕ → Type 0 = λ ws. (w : View) × (a : Act (Slot F)) × Valid s.homes m.1 a × Rule record { words = set ws 0 (get_or ws 0 0); homes = homes_after s.homes m.1 a; views = set s.views id w }
+        let P : List ℕ → Type 0 = λ ws. (w : View) × (a : Act (Slot F J)) × Valid s.homes m.1 a × Rule record { words = set ws 0 (get_or ws 0 0); homes = homes_after s.homes m.1 a; views = set s.views id w }
         × learned (step slots 0 0 0 none) m (get_or ws 0 0) (w, carried_after m.1 a) in
         let tickets : (q : ℕ) → total (ticket_of q) (set s.views id w) ≡ total (ticket_of q) s.views = λ q. total_same (ticket_of q) s.views id v w at refl in
         subst P (sym r.words) (
@@ -479,9 +479,9 @@ module _ {F : Type 0} where
       calls_left = omega arith;
     }
 
-    pub ends : (ws : List ℕ) (xs : List (Slot F)) (id : ℕ) (v : View) → n ≤ length v.owns → v.stage ≡ Idle → Final (Seen Rule id v) ws xs → Closes h n v xs
+    pub ends : (ws : List ℕ) (xs : List (Slot F J)) (id : ℕ) (v : View) → n ≤ length v.owns → v.stage ≡ Idle → Final (Seen Rule id v) ws xs → Closes h n v xs
     ends ws xs id v all idle fin =
-        let s : State (Slot F) View = fin.0 in
+        let s : State (Slot F J) View = fin.0 in
         let r : Rule s = fin.1.0 in
         let at : get_elem? s.views id ≡ some v = fin.1.1 in
         let f = r.seats id v at in
@@ -500,7 +500,7 @@ module _ {F : Type 0} where
         absurd (omega arith))
         r.slot in (
           r.log,
-          fin.4 0 (There (history h r.log)) (ap (λ (hs : List (maybe.Option (Slot F))). get_elem? hs 0) slot.1),
+          fin.4 0 (There (history h r.log)) (ap (λ (hs : List (maybe.Option (Slot F J))). get_elem? hs 0) slot.1),
           f.start_is,
           f.seen_is,
           f.owns_is,
@@ -508,27 +508,27 @@ module _ {F : Type 0} where
         )
 
   -- the view and the slots of a waiting seat
-  abbrev pub IsWaiting : ℕ → ℕ → (M F) → Type 0
+  abbrev pub IsWaiting : ℕ → ℕ → (M F J) → Type 0
   IsWaiting number ticket m = m ≡ (session_view (start_of m.0) (Waiting ticket) m.0.budget (seen_of m.0) number (mine_of m.0), [])
 
-  pub looks : (h : Machine) (n slots id number ticket : ℕ) (m : (M F)) → IsWaiting number ticket m → Allows (SharedInvariant h n) slots id m 0 (λ x. x) (turned (step slots 0 0 0 none) m)
-  looks h n slots id number ticket m e = let one : length m.0.owns ≡ 1 = ap (λ (z : (M F)). length z.0.owns) e in turns h n slots id m ticket (ap (λ (z : (M F)). z.0.stage) e) (omega arith)
+  pub looks : (h : Machine) (n slots id number ticket : ℕ) (m : (M F J)) → IsWaiting number ticket m → Allows (SharedInvariant h n) slots id m 0 (λ x. x) (turned (step slots 0 0 0 none) m)
+  looks h n slots id number ticket m e = let one : length m.0.owns ≡ 1 = ap (λ (z : (M F J)). length z.0.owns) e in turns h n slots id m ticket (ap (λ (z : (M F J)). z.0.stage) e) (omega arith)
 
-  takes₀ : (h : Machine) (b k ticket : ℕ) (x mine : List Entry) (m' : (M F)) → Takes (session_view h (Waiting ticket) b x k mine, []) ticket m' → TakesSlot (session_view h (Waiting ticket) b x k mine) k ticket m'
+  takes₀ : (h : Machine) (b k ticket : ℕ) (x mine : List Entry) (m' : (M F J)) → Takes (session_view h (Waiting ticket) b x k mine, []) ticket m' → TakesSlot (session_view h (Waiting ticket) b x k mine) k ticket m'
   takes₀ h b k ticket x mine m' t = (t.1, t.2 ∙ ap (λ (z : Machine). (session_view h (Holding ticket) b t.1 k mine, (0, There (history z t.1)) ∷ [])) (sym t.3), t.4.0, t.5.0)
 
-  told : (slots number ticket found : ℕ) (m m' : (M F)) → IsWaiting number ticket m → turned (step slots 0 0 0 none) m found m' → (b : Bool) → eqb found ticket ≡ b → MatchBool b (Takes m ticket m') (m' ≡ m)
-  told slots number ticket found m m' e t b is = subst (λ z. MatchBool z (Takes m ticket m') (m' ≡ m)) is (t ticket (ap (λ (z : (M F)). z.0.stage) e))
+  told : (slots number ticket found : ℕ) (m m' : (M F J)) → IsWaiting number ticket m → turned (step slots 0 0 0 none) m found m' → (b : Bool) → eqb found ticket ≡ b → MatchBool b (Takes m ticket m') (m' ≡ m)
+  told slots number ticket found m m' e t b is = subst (λ z. MatchBool z (Takes m ticket m') (m' ≡ m)) is (t ticket (ap (λ (z : (M F J)). z.0.stage) e))
 
-  pub takes_slot : (slots number ticket found : ℕ) (m m' : (M F)) → IsWaiting number ticket m → turned (step slots 0 0 0 none) m found m' → found ≡ ticket → TakesSlot m.0 number ticket m'
+  pub takes_slot : (slots number ticket found : ℕ) (m m' : (M F J)) → IsWaiting number ticket m → turned (step slots 0 0 0 none) m found m' → found ≡ ticket → TakesSlot m.0 number ticket m'
   takes_slot slots number ticket found m m' e t is =
-      subst (λ (z : (M F)). Takes z ticket m' → TakesSlot z.0 number ticket m') (sym e) (takes₀ (start_of m.0) m.0.budget number ticket (seen_of m.0) (mine_of m.0) m') (told slots number ticket found m m' e t true (eq-eqb found ticket is))
+      subst (λ (z : (M F J)). Takes z ticket m' → TakesSlot z.0 number ticket m') (sym e) (takes₀ (start_of m.0) m.0.budget number ticket (seen_of m.0) (mine_of m.0) m') (told slots number ticket found m m' e t true (eq-eqb found ticket is))
 
-  pub waits_on : (slots number ticket found : ℕ) (m m' : (M F)) → IsWaiting number ticket m → turned (step slots 0 0 0 none) m found m' → found ≢ ticket → m' ≡ m
+  pub waits_on : (slots number ticket found : ℕ) (m m' : (M F J)) → IsWaiting number ticket m → turned (step slots 0 0 0 none) m found m' → found ≢ ticket → m' ≡ m
   waits_on slots number ticket found m m' e t is = told slots number ticket found m m' e t false (ne_eqb found ticket is)
 
-  pub leaves : (h : Machine) (n slots id number : ℕ) (k : History) (g : Stage) (x : (Slot F)) (v : View) (m : (M F)) → has_slot g ≡ 1 → v ≡ session_view k.start g v.budget k.log number (mine_of v) → m ≡ (v, (0, There k) ∷ [])
+  pub leaves : (h : Machine) (n slots id number : ℕ) (k : History) (g : Stage) (x : (Slot F J)) (v : View) (m : (M F J)) → has_slot g ≡ 1 → v ≡ session_view k.start g v.budget k.log number (mine_of v) → m ≡ (v, (0, There k) ∷ [])
       → Allows (SharedInvariant h n) slots id m 0 (λ x. (x + 1) % 2 ^ 64) (released (step slots 0 1 0 none) m)
   leaves h n slots id number k g x v m out is now =
-      let P : (M F) → Type 0 = λ m. Allows (SharedInvariant h n) slots id m 0 (λ x. (x + 1) % 2 ^ 64) (released (step slots 0 1 0 none) m) in
+      let P : (M F J) → Type 0 = λ m. Allows (SharedInvariant h n) slots id m 0 (λ x. (x + 1) % 2 ^ 64) (released (step slots 0 1 0 none) m) in
       subst P (sym (now ∙ ap (λ (z : View). (z, (0, There k) ∷ [])) is)) (releases h n slots id v.budget number k.start k.log (mine_of v) g out)

@@ -36,5 +36,5 @@ RefusesFor host us (TooMany h) = (h ≡ host) × (max_sessions < length us)
 RefusesFor host us Memory = IsOpenable us
 
 -- fewer sessions were handed in than were opened, and all is given back
-abbrev pub GivesBack : {F : Type 0} → HostData → List SessionData → CloseRefusal F → Type 0
+abbrev pub GivesBack : {F J : Type 0} → HostData → List SessionData → CloseRefusal F J → Type 0
 GivesBack h ss (Missing host sessions) = (host ≡ h) × (sessions.items ≡ ss) × (length ss < h.sessions)

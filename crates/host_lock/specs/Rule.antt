@@ -196,19 +196,19 @@ view_in (v ∷ vs) = v
 abbrev pub IsHostTable : TableId → Type 0
 IsHostTable z = (z.words ≡ 3) × (z.slots ≡ 1)
 
-abbrev pub M : Type 0 → Type 0
-M F = Me (Slot F) View
+abbrev pub M : Type 0 → Type 0 → Type 0
+M F J = Me (Slot F J) View
 
-abbrev pub At : Type 0 → Type 0
-At F = table.Step (Slot F)
+abbrev pub At : Type 0 → Type 0 → Type 0
+At F J = table.Step (Slot F J)
 
-module _ {F : Type 0} where
+module _ {F J : Type 0} where
   -- the slot holds the rows at opening and the whole log; or it is out with one seat
-  abbrev pub InSlot : Machine → List Entry → List View → List (maybe.Option (Slot F)) → Type 0
+  abbrev pub InSlot : Machine → List Entry → List View → List (maybe.Option (Slot F J)) → Type 0
   InSlot start log views homes =
       ((total slot_of views ≡ 0) × (homes ≡ some (There (history start log)) ∷ [])) ⊎ ((total slot_of views ≡ 1) × (homes ≡ none ∷ []))
 
-  pub record SharedInvariant (start : Machine) (sessions : ℕ) (s : State (Slot F) View) : Type 0 where
+  pub record SharedInvariant (start : Machine) (sessions : ℕ) (s : State (Slot F J) View) : Type 0 where
     pub serving : ℕ
     pub ticket : ℕ
     -- the longest list
@@ -231,55 +231,55 @@ module _ {F : Type 0} where
     pub tickets_left : total budget_of s.views + ticket ≤ max_sessions * max_calls
     pub calls_left : total calls_of s.views + length log ≤ max_sessions * max_calls
 
-  abbrev pub drew : At F → M F → ℕ → M F → Type 0
+  abbrev pub drew : At F J → M F J → ℕ → M F J → Type 0
   drew st m n m' = m' ≡ (drawn m.0 n, m.1)
 
   -- it is the seat's turn: the host is out with it, and it has seen the log so far
-  abbrev pub Takes : M F → ℕ → M F → Type 0
+  abbrev pub Takes : M F J → ℕ → M F J → Type 0
   Takes m t m' =
       (start : Machine) × (log : List Entry) × (m' ≡ (taken m.0 t log, (0, There (history start log)) ∷ m.1)) × IfSome m.0.start (λ h. h ≡ start) × Each (StartsWith log) m.0.seen × Each (Tells log) m.0.owns
 
-  abbrev pub turned : At F → M F → ℕ → M F → Type 0
+  abbrev pub turned : At F J → M F J → ℕ → M F J → Type 0
   turned st m n m' = (t : ℕ) → m.0.stage ≡ Waiting t → MatchBool (n == t) (Takes m t m') (m' ≡ m)
 
-  abbrev pub count_slot : (Slot F) → View → View
+  abbrev pub count_slot : (Slot F J) → View → View
   count_slot (There k) v = v
   count_slot (Away u s) v = counts v.start u s v
 
   -- the call whose step is in the seat's slot
-  abbrev pub count_in : List (ℕ × (Slot F)) → View → View
+  abbrev pub count_in : List (ℕ × (Slot F J)) → View → View
   count_in [] v = v
   count_in (x ∷ xs) v = count_slot x.1 v
 
-  abbrev pub counted : At F → M F → ℕ → M F → Type 0
+  abbrev pub counted : At F J → M F J → ℕ → M F J → Type 0
   counted st m n m' = m' ≡ (count_in m.1 m.0, m.1)
 
-  abbrev pub released : At F → M F → ℕ → M F → Type 0
+  abbrev pub released : At F J → M F J → ℕ → M F J → Type 0
   released st m n m' = m' ≡ (staged m.0 Idle, [])
 
   -- the seat keeps the longer one of its two lists: both are beginnings of one list
-  abbrev pub learned : At F → M F → ℕ → M F → Type 0
+  abbrev pub learned : At F J → M F J → ℕ → M F J → Type 0
   learned st m n m' =
       (m' ≡ (record m.0 { seen = longer m.0.seen ∷ [] }, m.1)) × ((log : List Entry) × Each (StartsWith log) m.0.seen × Each (Tells log) m.0.owns)
 
   -- the knowledge at the end about a seat that was joined with all others
-  abbrev pub Closes : Machine → ℕ → View → List (Slot F) → Type 0
+  abbrev pub Closes : Machine → ℕ → View → List (Slot F J) → Type 0
   Closes h n v xs =
       (log : List Entry) × (get_elem? xs 0 ≡ some (There (history h log))) × IfSome v.start (λ z. z ≡ h) × Each (StartsWith log) v.seen × Each (Matches n log) v.owns × Each (λ (e : Entry). e.session < n) log
 
   -- the slot is out with the seat, which has seen the log so far
-  abbrev pub TakesSlot : View → ℕ → ℕ → M F → Type 0
+  abbrev pub TakesSlot : View → ℕ → ℕ → M F J → Type 0
   TakesSlot v number ticket m' =
       (log : List Entry) × (m' ≡ (session_view (start_of v) (Holding ticket) v.budget log number (mine_of v), (0, There (history (start_of v) log)) ∷ [])) × StartsWith log (seen_of v) × (entries_of number log ≡ mine_of v)
 
   -- the call is counted
-  abbrev pub HasCounted : View → ℕ → ℕ → PlainStep → ℕ → M F → Type 0
+  abbrev pub HasCounted : View → ℕ → ℕ → PlainStep → ℕ → M F J → Type 0
   HasCounted v u number s ticket m' =
       let e = next_entry (start_of v) (seen_of v) u number s in
       m' ≡ (session_view (start_of v) (Counted ticket) v.budget (seen_of v ++ e ∷ []) number (mine_of v ++ e ∷ []), (0, Away u s) ∷ [])
 
   -- one turn is over: after the log, no entry or one, which is the call's
-  abbrev pub HasTurned : View → ℕ → ℕ → PlainStep → Reply → M F → Type 0
+  abbrev pub HasTurned : View → ℕ → ℕ → PlainStep → Reply → M F J → Type 0
   HasTurned v u number s r m' =
       (log : List Entry) × StartsWith log (seen_of v) × (entries_of number log ≡ mine_of v)
       × MatchBool (is_memory r) (IsLegal (start_of v) log × (m' ≡ (session_view (start_of v) Idle (v.budget - 1) log number (mine_of v), [])))
@@ -287,10 +287,10 @@ module _ {F : Type 0} where
       IsLegal (start_of v) (log ++ e ∷ []) × (m' ≡ (session_view (start_of v) Idle (v.budget - 1) (log ++ e ∷ []) number (mine_of v ++ e ∷ []), [])))
 
   -- the seat has now also seen these entries
-  abbrev pub HasLearned : View → ℕ → List Entry → M F → Type 0
+  abbrev pub HasLearned : View → ℕ → List Entry → M F J → Type 0
   HasLearned v number front m' =
       (seen : List Entry) × (m' ≡ (session_view (start_of v) Idle v.budget seen number (mine_of v), [])) × StartsWith seen (seen_of v) × StartsWith seen front × IsLegal (start_of v) seen × (entries_of number seen ≡ mine_of v)
 
   -- the slot is out with the seat, and the seat's last list is that of k
-  abbrev pub IsOut : ℕ → History → M F → Type 0
-  IsOut number k m = (g : Stage) × (x : (Slot F)) × (has_slot g ≡ 1) × (m ≡ (session_view k.start g m.0.budget k.log number (mine_of m.0), (0, x) ∷ []))
+  abbrev pub IsOut : ℕ → History → M F J → Type 0
+  IsOut number k m = (g : Stage) × (x : (Slot F J)) × (has_slot g ≡ 1) × (m ≡ (session_view k.start g m.0.budget k.log number (mine_of m.0), (0, x) ∷ []))

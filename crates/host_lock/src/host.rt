@@ -10,8 +10,9 @@ ghost use Rattle.host_lock.specs.Limits.{max_sessions, max_calls};
 ghost use Rattle.host_lock.specs.Sessions.{IsOf, IsMomentOf, IsTrue, Learns, InJournal, new_session, new_sessions, IsOpenable, IsAt, IsBelow, SessionData, gathered, IsSame};
 ghost use Rattle.host_lock.specs.Views.{Idle};
 
+use crate::call_log::CallLog;
 use crate::door::FairLock;
-use crate::journal::Journal;
+use crate::journal::{Entry, Journal};
 use crate::limits::MAX_SESSIONS;
 use crate::moment::{Moment, learn, show};
 use crate::rule::{HostSeat, HostTable, JoinTwo, SplitOne, TableKey};
@@ -30,16 +31,16 @@ use std::sync::Wait;
 use stop_handlers::{Decider, Handler};
 
 /// A host that sessions share. Each may be in a thread of its own. Contracts see which shared host it is, the host at
-/// opening, and the number of sessions that were opened.
-pub struct SharedHost<F: Decider + Send + Drop> {
-    table: HostTable<F>,
+/// opening, and the number of sessions that were opened. `J` is what the host keeps of its answered calls.
+pub struct SharedHost<F: Decider + Send + Drop, J: CallLog + Send + Drop = Vec<Entry>> {
+    table: HostTable<F, J>,
     /// A call enters it before it draws its ticket, and leaves it at its end. No contract depends on it, since a call
     /// also waits for its ticket.
     door: FairLock,
     sessions: usize,
 }
 
-impl<F: Decider + Send + Drop> Drop for SharedHost<F> {
+impl<F: Decider + Send + Drop, J: CallLog + Send + Drop> Drop for SharedHost<F, J> {
     fn drop(self) {
         let SharedHost {
             table: _,
@@ -49,7 +50,7 @@ impl<F: Decider + Send + Drop> Drop for SharedHost<F> {
     }
 }
 
-impl<F: Decider + Send + Drop> Model for SharedHost<F> {
+impl<F: Decider + Send + Drop, J: CallLog + Send + Drop> Model for SharedHost<F, J> {
     ghost use Rattle.std.specs.Prelude.{◌≡◌, ◌<◌};
     ghost use Rattle.host_lock.specs.Sessions.{HostData};
     ghost use Rattle.host_lock.specs.Rule.{IsHostTable};
@@ -86,9 +87,9 @@ pub enum OpenRefusal<F: Decider + Send + Drop> {
 
 /// Why a shared host was not closed.
 #[derive(Drop)]
-pub enum CloseRefusal<F: Decider + Send + Drop> {
+pub enum CloseRefusal<F: Decider + Send + Drop, J: CallLog + Send + Drop = Vec<Entry>> {
     /// Fewer sessions were handed in than were opened. The shared host and these sessions are given back.
-    Missing(SharedHost<F>, Vec<Session>),
+    Missing(SharedHost<F, J>, Vec<Session>),
 }
 
 impl<F: Decider + Send + Drop> SharedHost<F> {
@@ -112,13 +113,36 @@ impl<F: Decider + Send + Drop> SharedHost<F> {
         SharedHost::open_for(alloc, host, users, 0)
     }
 
-    /// Shares a host as `open` does, with room in the journal for `calls` calls.
+    /// Returns the host and the journal, if all sessions are handed in. It allocates no memory. Otherwise the error
+    /// `Missing` gives the shared host and the sessions back.
+    pub fn close(self, sessions: Vec<Session>) -> Result<(Host<F>, Journal), CloseRefusal<F>>
+        requires { All (IsOf self) sessions.items }
+        ensures legal { IfOk result (λ r. IsLegal self.start r.1) }
+        ensures host { IfOk result (λ r. r.0 ≡ replay self.start r.1) }
+        ensures users { IfOk result (λ r. Users (asked r.1)) }
+        ensures sessions { IfOk result (λ r. All (InJournal r.1) sessions.items) }
+        ensures entries { IfOk result (λ r. All (IsBelow self.sessions) r.1) }
+        ensures all { OnOk result (self.sessions ≤ length sessions.items) }
+        ensures missing { IfErr result (GivesBack self sessions.items) }
+    {
+        match self.finish(sessions) {
+            Ok((host, entries)) => {
+                let journal = Journal::of(entries);
+                Ok((host, journal))
+            }
+            Err(refused) => Err(refused),
+        }
+    }
+}
+
+impl<F: Decider + Send + Drop, J: CallLog + Send + Drop> SharedHost<F, J> {
+    /// Shares a host as `open` does, with room in the log for `calls` calls.
     pub fn open_for(
         alloc: Global,
         host: Host<F>,
         users: &[Uid],
         calls: usize,
-    ) -> Result<(SharedHost<F>, Vec<Session>), OpenRefusal<F>>
+    ) -> Result<(SharedHost<F, J>, Vec<Session>), OpenRefusal<F>>
         ensures host { IfOk result (λ r. (r.0.start ≡ host) × (r.0.sessions ≡ length users.now)) }
         ensures sessions { IfOk result (λ r. r.1.items ≡ new_sessions 0 r.0.id host users.now) }
         ensures accepts { OnOk result (IsOpenable users.now) }
@@ -136,15 +160,15 @@ impl<F: Decider + Send + Drop> SharedHost<F> {
         }
     }
 
-    /// Returns the host and the journal, if all sessions are handed in. It allocates no memory. Otherwise the error
+    /// Returns the host and the log, if all sessions are handed in. It allocates no memory. Otherwise the error
     /// `Missing` gives the shared host and the sessions back.
-    pub fn close(self, sessions: Vec<Session>) -> Result<(Host<F>, Journal), CloseRefusal<F>>
+    pub fn finish(self, sessions: Vec<Session>) -> Result<(Host<F>, J), CloseRefusal<F, J>>
         requires { All (IsOf self) sessions.items }
-        ensures legal { IfOk result (λ r. IsLegal self.start r.1) }
-        ensures host { IfOk result (λ r. r.0 ≡ replay self.start r.1) }
-        ensures users { IfOk result (λ r. Users (asked r.1)) }
-        ensures sessions { IfOk result (λ r. All (InJournal r.1) sessions.items) }
-        ensures entries { IfOk result (λ r. All (IsBelow self.sessions) r.1) }
+        ensures legal { IfOk result (λ r. IsLegal self.start (J.entries r.1)) }
+        ensures host { IfOk result (λ r. r.0 ≡ replay self.start (J.entries r.1)) }
+        ensures users { IfOk result (λ r. Users (asked (J.entries r.1))) }
+        ensures sessions { IfOk result (λ r. All (InJournal (J.entries r.1)) sessions.items) }
+        ensures entries { IfOk result (λ r. All (IsBelow self.sessions) (J.entries r.1)) }
         ensures all { OnOk result (self.sessions ≤ length sessions.items) }
         ensures missing { IfErr result (GivesBack self sessions.items) }
     {
@@ -236,12 +260,12 @@ impl<F: Decider + Send + Drop> SharedHost<F> {
 }
 
 /// Creates the table with the host in its slot, and a seat that owns all sessions. An error means out of memory.
-fn make_table<F: Decider + Send + Drop>(
+fn make_table<F: Decider + Send + Drop, J: CallLog + Send + Drop>(
     alloc: Global,
     host: Host<F>,
     sessions: usize,
     calls: usize,
-) -> Result<(HostTable<F>, HostSeat<F>), AllocError>
+) -> Result<(HostTable<F, J>, HostSeat<F, J>), AllocError>
     requires { (0 < sessions) × (sessions ≤ max_sessions) }
     ensures table { IfOk result (λ t. IsHostTable t.0.shared.table_id × (t.0.shared.key.start.value ≡ host) × (t.0.shared.key.sessions ≡ sessions)) }
     ensures seat { IfOk result (λ t. (t.1.table_id ≡ t.0.shared.table_id) × (t.1.me ≡ (fresh_view host 0 sessions, []))) }
@@ -260,23 +284,27 @@ fn make_table<F: Decider + Send + Drop>(
 }
 
 /// Creates the first state of the slot, with room for `calls` calls. An error means out of memory.
-fn opening_state<F: Decider + Send + Drop>(
+fn opening_state<F: Decider + Send + Drop, J: CallLog + Send + Drop>(
     alloc: Global,
     host: Host<F>,
     calls: usize,
-) -> Result<SharedState<F>, AllocError>
+) -> Result<SharedState<F, J>, AllocError>
     ensures { IfOk result (λ state. state ≡ history host []) }
 {
     let start = Snapshot::of(&host);
     Ok(SharedState {
         host: Box::new(alloc, host)?,
-        journal: Journal::with_room(alloc, calls)?,
+        journal: J::with_room(alloc, calls)?,
         start,
     })
 }
 
 /// Creates a session that has made no call.
-fn make_session<F: Decider + Send + Drop>(uid: Uid, number: usize, seat: HostSeat<F>) -> Session
+fn make_session<F: Decider + Send + Drop, J: CallLog + Send + Drop>(
+    uid: Uid,
+    number: usize,
+    seat: HostSeat<F, J>,
+) -> Session
     requires { seat.me ≡ (session_view (start_of seat.me.0) Idle max_calls [] number [], []) }
     ensures { result ≡ new_session uid number seat.table_id (start_of seat.me.0) }
 {
@@ -289,10 +317,10 @@ fn make_session<F: Decider + Send + Drop>(uid: Uid, number: usize, seat: HostSea
 }
 
 /// Creates a session for each user. Its seat is split from the seat that owns all sessions.
-fn make_sessions<F: Decider + Send + Drop>(
+fn make_sessions<F: Decider + Send + Drop, J: CallLog + Send + Drop>(
     alloc: Global,
-    table: &HostTable<F>,
-    mut unsplit: HostSeat<F>,
+    table: &HostTable<F, J>,
+    mut unsplit: HostSeat<F, J>,
     users: &[Uid],
 ) -> Result<Vec<Session>, AllocError>
     requires table { IsHostTable table.now.shared.table_id × (unsplit.table_id ≡ table.now.shared.table_id) }
@@ -308,12 +336,12 @@ fn make_sessions<F: Decider + Send + Drop>(
 }
 
 /// Shares the host among the users. There are 1 to `MAX_SESSIONS` of them.
-fn share<F: Decider + Send + Drop>(
+fn share<F: Decider + Send + Drop, J: CallLog + Send + Drop>(
     alloc: Global,
     host: Host<F>,
     users: &[Uid],
     calls: usize,
-) -> Result<(SharedHost<F>, Vec<Session>), AllocError>
+) -> Result<(SharedHost<F, J>, Vec<Session>), AllocError>
     requires { (0 < length users.now) × (length users.now ≤ max_sessions) }
     ensures host { IfOk result (λ r. (r.0.start ≡ host) × (r.0.sessions ≡ length users.now)) }
     ensures sessions { IfOk result (λ r. r.1.items ≡ new_sessions 0 r.0.id host users.now) }
@@ -329,10 +357,10 @@ fn share<F: Decider + Send + Drop>(
 }
 
 /// Joins the seats of all sessions into one that owns all sessions.
-fn join_seats<F: Decider + Send + Drop>(
-    table: &HostTable<F>,
+fn join_seats<F: Decider + Send + Drop, J: CallLog + Send + Drop>(
+    table: &HostTable<F, J>,
     mut sessions: Vec<Session>,
-) -> HostSeat<F>
+) -> HostSeat<F, J>
     requires table { IsHostTable table.now.shared.table_id }
     requires some_session { 0 < vec_len sessions }
     requires sessions { Each (IsAt table.now.shared.table_id table.now.shared.key.start.value) sessions.items }
@@ -352,7 +380,10 @@ fn join_seats<F: Decider + Send + Drop>(
 }
 
 /// Takes the last state out of the slot.
-fn take_state<F: Decider + Send + Drop>(table: HostTable<F>, seat: HostSeat<F>) -> SharedState<F>
+fn take_state<F: Decider + Send + Drop, J: CallLog + Send + Drop>(
+    table: HostTable<F, J>,
+    seat: HostSeat<F, J>,
+) -> SharedState<F, J>
     requires table { IsHostTable table.shared.table_id × (seat.table_id ≡ table.shared.table_id) }
     requires all { (seat.me.0.stage ≡ Idle) × (table.shared.key.sessions ≤ length seat.me.0.owns) }
     ensures start { result.start ≡ table.shared.key.start.value }

@@ -1,10 +1,10 @@
 //! The journal of a shared host.
 
-ghost use Rattle.std.specs.Prelude.{◌≡◌, [], length, slice_get, option_map, ◌==◌, IfOk};
+ghost use Rattle.std.specs.Prelude.{◌≡◌, [], length, slice_get, option_map, ◌==◌};
 
 use pid_blocks::Uid;
 use requests::{PlainStep, Reply};
-use std::alloc::{AllocError, Global};
+use std::alloc::Global;
 use std::marker::Model;
 
 /// An answered call of a session.
@@ -20,7 +20,7 @@ pub struct Entry {
 /// The answered calls of all sessions, in the order in which the host made them.
 #[derive(Drop)]
 pub struct Journal {
-    pub(crate) entries: Vec<Entry>,
+    entries: Vec<Entry>,
 }
 
 impl Model for Journal {
@@ -42,13 +42,11 @@ impl Journal {
         }
     }
 
-    /// Creates an empty journal with room for `calls` entries. An error means out of memory.
-    pub(crate) fn with_room(alloc: Global, calls: usize) -> Result<Journal, AllocError>
-        ensures { IfOk result (λ journal. journal ≡ []) }
+    /// Creates the journal of these calls.
+    pub fn of(entries: Vec<Entry>) -> Journal
+        ensures { result ≡ entries.items }
     {
-        Ok(Journal {
-            entries: Vec::with_capacity(alloc, calls)?,
-        })
+        Journal { entries }
     }
 
     /// Returns the number of calls.

@@ -5,6 +5,7 @@ ghost use Rattle.host_lock.specs.Journal.{IsLegal, entries_of};
 ghost use Rattle.host_lock.specs.Rule.{HasLearned, IsHostTable, mine_of, moment_view, seen_of, session_view, shown, start_of};
 ghost use Rattle.host_lock.specs.Views.{Idle};
 
+use crate::call_log::CallLog;
 use crate::rule::{HostSeat, JoinTwo, Learn, SharedTable, Show};
 use crate::view::View;
 use atomic_table::Badge;
@@ -38,7 +39,9 @@ impl Model for Moment {
 }
 
 impl Moment {
-    pub(crate) fn into_seat<F: Decider + Send + Drop>(self) -> HostSeat<F>
+    pub(crate) fn into_seat<F: Decider + Send + Drop, J: CallLog + Send + Drop>(
+        self,
+    ) -> HostSeat<F, J>
         ensures { (result.table_id ≡ self.host) × (result.me ≡ (moment_view self.start self.seen, [])) × IsLegal self.start self.seen }
     {
         let Moment { badge } = self;
@@ -47,10 +50,10 @@ impl Moment {
 }
 
 /// Splits off a seat that has seen the same, and owns no session.
-pub(crate) fn show<F: Decider + Send + Drop>(
-    table: &SharedTable<F>,
-    seat: &mut HostSeat<F>,
-) -> HostSeat<F>
+pub(crate) fn show<F: Decider + Send + Drop, J: CallLog + Send + Drop>(
+    table: &SharedTable<F, J>,
+    seat: &mut HostSeat<F, J>,
+) -> HostSeat<F, J>
     requires table { IsHostTable table.now.table_id × (seat.old.table_id ≡ table.now.table_id) }
     requires rests { seat.old.me.0.stage ≡ Idle }
     ensures table { (seat.new.table_id ≡ seat.old.table_id) × (result.table_id ≡ seat.old.table_id) }
@@ -61,11 +64,11 @@ pub(crate) fn show<F: Decider + Send + Drop>(
 }
 
 /// Lets the seat of a session see what another seat has seen, which is given up. No word of the table changes.
-pub(crate) fn learn<F: Decider + Send + Drop>(
-    table: &SharedTable<F>,
-    seat: &mut HostSeat<F>,
+pub(crate) fn learn<F: Decider + Send + Drop, J: CallLog + Send + Drop>(
+    table: &SharedTable<F, J>,
+    seat: &mut HostSeat<F, J>,
     number: usize,
-    shown: HostSeat<F>,
+    shown: HostSeat<F, J>,
 )
     requires table { IsHostTable table.now.table_id × (seat.old.table_id ≡ table.now.table_id) × (shown.table_id ≡ table.now.table_id) }
     requires rests { seat.old.me ≡ (session_view (start_of seat.old.me.0) Idle seat.old.me.0.budget (seen_of seat.old.me.0) number (mine_of seat.old.me.0), []) }

@@ -2,6 +2,7 @@
 
 ghost use Rattle.host_lock.specs.Rule.{drew, turned, counted, released, learned};
 
+use crate::call_log::CallLog;
 use crate::view::{Slot, View};
 use atomic_table::{Join, Play, Seat, Shared, Split, Table, TableRule};
 use requests::Host;
@@ -18,7 +19,8 @@ pub struct TableKey<F: Decider + Send + Drop> {
 
 pub struct HostRule;
 
-impl<F: Decider + Send + Drop> TableRule<Slot<F>, View, TableKey<F>> for HostRule {
+impl<F: Decider + Send + Drop, J: CallLog + Send + Drop> TableRule<Slot<F, J>, View, TableKey<F>>
+    for HostRule {
     ghost use Rattle.host_lock.specs.Rule.{SharedInvariant, opening_view};
 
     ghost holds = { λ o s. SharedInvariant o.start.value o.sessions s };
@@ -26,44 +28,44 @@ impl<F: Decider + Send + Drop> TableRule<Slot<F>, View, TableKey<F>> for HostRul
     ghost first = { λ o. opening_view o.start.value o.sessions };
 }
 
-pub type HostTable<F> = Table<Slot<F>, View, TableKey<F>, HostRule, Global>;
+pub type HostTable<F, J> = Table<Slot<F, J>, View, TableKey<F>, HostRule, Global>;
 
-pub type SharedTable<F> = Shared<Slot<F>, View, TableKey<F>, HostRule>;
+pub type SharedTable<F, J> = Shared<Slot<F, J>, View, TableKey<F>, HostRule>;
 
-pub type HostSeat<F> = Seat<Slot<F>, View>;
+pub type HostSeat<F, J> = Seat<Slot<F, J>, View>;
 
 /// Addition to ticket.
 pub(crate) struct Draw;
 
-impl<F: Decider + Send + Drop> Play<Slot<F>, View> for Draw {
+impl<F: Decider + Send + Drop, J: CallLog + Send + Drop> Play<Slot<F, J>, View> for Draw {
     ghost then = { drew };
 }
 
 /// Load of serving. If it is the seat's ticket, the slot is then out with the seat.
 pub(crate) struct Turn;
 
-impl<F: Decider + Send + Drop> Play<Slot<F>, View> for Turn {
+impl<F: Decider + Send + Drop, J: CallLog + Send + Drop> Play<Slot<F, J>, View> for Turn {
     ghost then = { turned };
 }
 
 /// Addition to count: the step of the machine.
 pub(crate) struct Count;
 
-impl<F: Decider + Send + Drop> Play<Slot<F>, View> for Count {
+impl<F: Decider + Send + Drop, J: CallLog + Send + Drop> Play<Slot<F, J>, View> for Count {
     ghost then = { counted };
 }
 
 /// Addition to serving. The state is in the slot again.
 pub(crate) struct Release;
 
-impl<F: Decider + Send + Drop> Play<Slot<F>, View> for Release {
+impl<F: Decider + Send + Drop, J: CallLog + Send + Drop> Play<Slot<F, J>, View> for Release {
     ghost then = { released };
 }
 
 /// Load of serving, by a seat that has seen two beginnings of the journal: it keeps the longer one.
 pub(crate) struct Learn;
 
-impl<F: Decider + Send + Drop> Play<Slot<F>, View> for Learn {
+impl<F: Decider + Send + Drop, J: CallLog + Send + Drop> Play<Slot<F, J>, View> for Learn {
     ghost then = { learned };
 }
 

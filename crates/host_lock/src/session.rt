@@ -5,6 +5,7 @@ ghost use Rattle.host_lock.specs.Rule.{session_view};
 ghost use Rattle.host_lock.specs.Limits.{max_calls};
 ghost use Rattle.host_lock.specs.Views.{Idle};
 
+use crate::call_log::CallLog;
 use crate::limits::MAX_CALLS;
 use crate::rule::HostSeat;
 use crate::view::View;
@@ -49,7 +50,9 @@ impl Model for Session {
 }
 
 impl Session {
-    pub(crate) fn into_seat<F: Decider + Send + Drop>(self) -> HostSeat<F>
+    pub(crate) fn into_seat<F: Decider + Send + Drop, J: CallLog + Send + Drop>(
+        self,
+    ) -> HostSeat<F, J>
         ensures { (result.table_id ≡ self.host) × (result.me ≡ (session_view self.start Idle (max_calls - self.calls) self.seen self.number self.mine, [])) }
     {
         let Session {

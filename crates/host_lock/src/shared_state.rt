@@ -6,7 +6,8 @@ ghost use Rattle.requests.specs.Memory.{is_memory};
 ghost use Rattle.host_lock.specs.Journal.{replay, entry, IsLegal};
 ghost use Rattle.host_lock.specs.History.{history};
 
-use crate::journal::{Entry, Journal};
+use crate::call_log::CallLog;
+use crate::journal::Entry;
 use pid_blocks::{Errno, Uid};
 use requests::{Host, PlainStep, Reply, Step};
 use std::alloc::Global;
@@ -14,17 +15,17 @@ use std::marker::Model;
 use std::snapshot::Snapshot;
 use stop_handlers::{Decider, Handler};
 
-/// The host, the journal, and the host at opening, which only contracts see. The journal is legal from that host, and
-/// the present host is its replay. The host is large, so it is on the heap: each call takes the state out of its slot
+/// The host, what is kept of the journal, and the host at opening, which only contracts see. The journal is legal from
+/// that host, and the present host is its replay. The host is large, so it is on the heap: each call takes the state out of its slot
 /// and puts it back.
 #[derive(Drop)]
-pub struct SharedState<F: Decider + Send + Drop> {
+pub struct SharedState<F: Decider + Send + Drop, J: CallLog + Send + Drop> {
     pub(crate) host: Box<Host<F>>,
-    pub(crate) journal: Journal,
+    pub(crate) journal: J,
     pub(crate) start: Snapshot<Host<F>>,
 }
 
-impl<F: Decider + Send + Drop> Model for SharedState<F> {
+impl<F: Decider + Send + Drop, J: CallLog + Send + Drop> Model for SharedState<F, J> {
     ghost use Rattle.std.specs.Prelude.{◌≡◌, List};
     ghost use Rattle.host_lock.specs.History.{History};
     ghost use Rattle.host_lock.specs.Journal.{asked, replay, IsLegal};
@@ -32,9 +33,9 @@ impl<F: Decider + Send + Drop> Model for SharedState<F> {
 
     ghost Value = { History };
 
-    ghost view = { λ h. record { start = h.start.value; log = h.journal } };
+    ghost view = { λ h. record { start = h.start.value; log = J.entries h.journal } };
 
-    ghost invariant = { λ h. IsLegal h.start.value h.journal × (h.host.value ≡ replay h.start.value h.journal) × Users (asked h.journal) };
+    ghost invariant = { λ h. IsLegal h.start.value (J.entries h.journal) × (h.host.value ≡ replay h.start.value (J.entries h.journal)) × Users (asked (J.entries h.journal)) };
 }
 
 /// Makes a step on the host, and returns the reply with a copy. `None` where memory ran out.
@@ -59,7 +60,7 @@ fn answered<F: Decider + Send + Drop>(
     }
 }
 
-impl<F: Decider + Send + Drop> SharedState<F> {
+impl<F: Decider + Send + Drop, J: CallLog + Send + Drop> SharedState<F, J> {
     /// Makes a step, and adds it to the journal as `plain`, the same step. Changes nothing where memory runs out.
     pub(crate) fn make(
         &mut self,
@@ -78,13 +79,13 @@ impl<F: Decider + Send + Drop> SharedState<F> {
     {
         let _number = user.get();
         let SharedState { host, journal, .. } = self;
-        if journal.entries.reserve(1).is_err() {
+        if journal.make_room().is_err() {
             return Reply::Errno(Errno::ENOMEM);
         }
         let Some((reply, copy)) = answered(host.as_mut(), alloc, user, step) else {
             return Reply::Errno(Errno::ENOMEM);
         };
-        journal.entries.push_reserved(Entry {
+        journal.add(Entry {
             uid: user,
             session,
             step: *plain,

@@ -6,6 +6,7 @@ ghost use Rattle.host_lock.specs.History.{history};
 ghost use Rattle.host_lock.specs.Journal.{StartsWith, entries_of};
 ghost use Rattle.host_lock.specs.Rule.{session_view, start_of, seen_of, mine_of, TakesSlot, IsHostTable, HasCounted, HasTurned, IsOut};
 
+use crate::call_log::CallLog;
 use crate::rule::{Count, Draw, HostSeat, Release, SharedTable, Turn};
 use crate::shared_state::SharedState;
 use crate::view::Slot;
@@ -18,10 +19,10 @@ use stop_handlers::{Decider, Handler};
 
 /// Waits until the ticket is served. A call that is inside the door finds its ticket served at the first look, since
 /// the call before served it before it left. Contracts don't see the door, so the loop would also wait without it.
-pub(crate) fn take_turn<F: Decider + Send + Drop, R: Wait>(
+pub(crate) fn take_turn<F: Decider + Send + Drop, J: CallLog + Send + Drop, R: Wait>(
     rt: &R,
-    table: &SharedTable<F>,
-    seat: &mut HostSeat<F>,
+    table: &SharedTable<F, J>,
+    seat: &mut HostSeat<F, J>,
     number: usize,
     ticket: u64,
 )
@@ -41,9 +42,9 @@ pub(crate) fn take_turn<F: Decider + Send + Drop, R: Wait>(
 }
 
 /// Adds the call to the count.
-pub(crate) fn count_up<F: Decider + Send + Drop>(
-    table: &SharedTable<F>,
-    seat: &mut HostSeat<F>,
+pub(crate) fn count_up<F: Decider + Send + Drop, J: CallLog + Send + Drop>(
+    table: &SharedTable<F, J>,
+    seat: &mut HostSeat<F, J>,
     user: Uid,
     number: usize,
     step: &PlainStep,
@@ -58,11 +59,11 @@ pub(crate) fn count_up<F: Decider + Send + Drop>(
 }
 
 /// Puts the host back, and serves the next ticket.
-pub(crate) fn give_back<F: Decider + Send + Drop>(
-    table: &SharedTable<F>,
-    seat: &mut HostSeat<F>,
+pub(crate) fn give_back<F: Decider + Send + Drop, J: CallLog + Send + Drop>(
+    table: &SharedTable<F, J>,
+    seat: &mut HostSeat<F, J>,
     number: usize,
-    state: SharedState<F>,
+    state: SharedState<F, J>,
 )
     requires table { IsHostTable table.now.table_id × (seat.old.table_id ≡ table.now.table_id) }
     requires out { IsOut number state seat.old.me }
@@ -74,11 +75,11 @@ pub(crate) fn give_back<F: Decider + Send + Drop>(
 }
 
 /// Draws a ticket, waits until it is served, makes the step, and serves the next ticket. `plain` is the same step.
-pub(crate) fn turn<F: Decider + Send + Drop, R: Wait>(
+pub(crate) fn turn<F: Decider + Send + Drop, J: CallLog + Send + Drop, R: Wait>(
     rt: &R,
     alloc: Global,
-    table: &SharedTable<F>,
-    seat: &mut HostSeat<F>,
+    table: &SharedTable<F, J>,
+    seat: &mut HostSeat<F, J>,
     user: Uid,
     number: usize,
     step: Step<Handler<F>>,

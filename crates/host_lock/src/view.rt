@@ -1,5 +1,6 @@
 //! The knowledge of a seat at the table, and the content of the slot.
 
+use crate::call_log::CallLog;
 use crate::shared_state::SharedState;
 use pid_blocks::Uid;
 use requests::PlainStep;
@@ -19,7 +20,7 @@ impl Model for View {
 
 /// The content of slot 0: the host, or the step that is being made.
 #[derive(Drop)]
-pub enum Slot<F: Decider + Send + Drop> {
-    There(SharedState<F>),
+pub enum Slot<F: Decider + Send + Drop, J: CallLog + Send + Drop> {
+    There(SharedState<F, J>),
     Away(Uid, PlainStep),
 }

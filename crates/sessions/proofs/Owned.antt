@@ -1,5 +1,5 @@
 -- What each user's entries in a legal journal are.
-use Rattle.std.proofs.Common.{◌≡◌, ℕ, Bool, true, false, ◌==◌, List, [], ◌∷◌, map, refl, sym, ap, ◌∙◌, Result, Ok, Err, IfOk}
+use Rattle.std.proofs.Common.{◌≡◌, ℕ, Bool, true, false, ◌==◌, List, [], ◌∷◌, map, refl, sym, ap, ◌∙◌, arith}
 use Rattle.requests.specs.Machine.{Machine}
 use Rattle.requests.specs.declared.Reply.{Reply}
 use Rattle.requests.specs.Run.{Asked, asked_by, replies, last}
@@ -11,6 +11,7 @@ use Rattle.visibility.proofs.Apart.{own_list_law}
 use Rattle.host_lock.specs.declared.journal.Entry.{Entry}
 use Rattle.host_lock.specs.Journal.{asked, IsLegal}
 use Rattle.sessions.specs.Runs.{entries_by, OwnEntries}
+use Rattle.sessions.specs.PlainRuns.{RanBy}
 
 abbrev asked_one : Entry → Asked
 asked_one e = record { uid = e.uid; step = e.step }
@@ -41,7 +42,12 @@ own_entries m log is users legal u user =
       law.1 ∙ ap (λ (l : List Asked). view u (last l (alone u m))) steps,
     )
 
--- the same of a run
-pub own_runs : {H T E : Type 0} (m : Machine) (r : Result (H × List Entry × T) E) → sound m ≡ true → IfOk r (λ x. Users (asked x.1)) → IfOk r (λ x. IsLegal m x.1) → IfOk r (λ x. OwnEntries m x.1)
-own_runs m (Ok x) is users legal = own_entries m x.1 is users legal
-own_runs m (Err e) is users legal = tt
+-- a run of no scripts
+pub nothing_ran : (m : Machine) → sound m ≡ true → RanBy m [] [] m []
+nothing_ran m is = record {
+  legal = record { replies_given = refl };
+  host = refl;
+  entries = λ k e lt. absurd (omega arith);
+  transcripts = (refl, λ k p t lt. absurd (omega arith));
+  own = own_entries m [] is tt (record { replies_given = refl });
+}

@@ -1,6 +1,8 @@
 -- Sessions, scripts, jobs and transcripts, place by place.
-use Rattle.std.proofs.Common.{◌≡◌, ℕ, zero, suc, ◌+◌, ◌<◌, ◌≤◌, List, [], ◌∷◌, ◌++◌, length, map, Vec, Global, vec_len, slice_index_or, sym, refl, ap, ◌∙◌, subst, arith, All}
+use Rattle.std.proofs.Common.{◌≡◌, ℕ, zero, suc, ◌+◌, ◌<◌, ◌≤◌, List, [], ◌∷◌, ◌++◌, length, map, Vec, Global, vec_len, slice_index_or, sym, refl, ap, ◌∙◌, subst, arith, All, ◌==◌, false, true≢false}
+use Rattle.std.specs.List.{AllByRecursion}
 use Rattle.std.proofs.lemmas.List.{get_or-map}
+use Rattle.std.proofs.lemmas.List.Elements.{All-from_recursion, recursion_from_All}
 use mathlib.Core.List.{map-append}
 use Rattle.atomic_table.specs.Seated.{TableId}
 use Rattle.requests.specs.Machine.{Machine}
@@ -17,10 +19,13 @@ use Rattle.host_lock.specs.Sessions.{SessionData, HostData, IsOf, InJournal, new
 use Rattle.sessions.specs.declared.job.Job.{Job}
 use Rattle.sessions.specs.declared.job.Done.{Done}
 use Rattle.sessions.specs.declared.script.Script.{Script}
+use Rattle.sessions.specs.declared.boxing.BoxedScript.{BoxedScript}
 use Rattle.sessions.specs.declared.script.Transcript.{Transcript}
 use Rattle.sessions.specs.Made.{Did, Pairs}
 use Rattle.sessions.specs.Jobs.{AllDone, IsReady, HasRoom, job_session, job_steps, done_session, done_transcript}
-use Rattle.sessions.specs.Runs.{IsShort, Plays, AllPlay, uid_of, steps_of}
+use Rattle.sessions.specs.Boxed.{SmallStep, own_step, boxed_script, uid_of, steps_of}
+use Rattle.sessions.specs.Runs.{IsShort, AllPlay}
+use Rattle.sessions.specs.PlainRuns.{AreFew, Answers, AllAnswer, plain_script}
 
 pub each_snoc : {A : Type 0} (P : A → Type 0) (xs : List A) (x : A) → Each P xs → P x → Each P (xs ++ x ∷ [])
 each_snoc P [] x e p = (p, tt)
@@ -43,7 +48,7 @@ pairs_length R (x ∷ xs) [] p = absurd p
 pairs_length R (x ∷ xs) (y ∷ ys) p = let r = pairs_length R xs ys p.1 in omega arith
 
 -- no session is missing where all are handed in
-pub not_missing : {F : Type 0} (h : HostData) (ss : List SessionData) (r : CloseRefusal F) → GivesBack h ss r → h.sessions ≤ length ss → ⊥
+pub not_missing : {F J : Type 0} (h : HostData) (ss : List SessionData) (r : CloseRefusal F J) → GivesBack h ss r → h.sessions ≤ length ss → ⊥
 not_missing h ss (Missing host sessions) back all = absurd (omega (arith, back.2))
 
 pub new_sessions_length : (n : ℕ) (z : TableId) (h : Machine) (us : List ℕ) → length (new_sessions n z h us) ≡ length us
@@ -59,15 +64,52 @@ pub length_map : {A B : Type 0} (f : A → B) (xs : List A) → length (map f xs
 length_map f [] = refl
 length_map f (x ∷ xs) = ap suc (length_map f xs)
 
+-- answers place by place are all answers, of scripts of either kind
+pub answers_of : {S : Type 0} (f : S → ℕ × List PlainStep) (log : List Entry) (ss : List S) (ts : List Transcript) → length ts ≡ length ss
+    → ((k : ℕ) (s : S) (t : Transcript) → k < length ss → Answers log k (f (slice_index_or ss k s)) (slice_index_or ts k t)) → AllAnswer log (map f ss) ts
+answers_of f log [] ts long each = (long, λ k p t lt. absurd (omega arith))
+answers_of f log (x ∷ xs) ts long each = (
+  long ∙ sym (length_map f (x ∷ xs)),
+  λ k p t lt.
+      let below : k < length (x ∷ xs) = subst (λ n. k < n) (length_map f (x ∷ xs)) lt in
+      subst (λ q. Answers log k q (slice_index_or ts k t)) (sym (get_or-map f (x ∷ xs) k x p below)) (each k x t below),
+)
+
+pub plays_of : {F : Type 0} (log : List Entry) (ss : List (Script F)) (ts : List Transcript) → AllAnswer log (map plain_script ss) ts → AllPlay log ss ts
+plays_of log ss ts all = (
+  all.0 ∙ length_map plain_script ss,
+  λ k s t lt.
+      let below : k < length (map plain_script ss) = subst (λ n. k < n) (sym (length_map plain_script ss)) lt in
+      subst (λ q. Answers log k q (slice_index_or ts k t)) (get_or-map plain_script ss k s (0, []) lt) (all.1 k (0, []) t below),
+)
+
+pub some_of : (n : ℕ) → (n == 0) ≡ false → 0 < n
+some_of zero is = absurd (true≢false is)
+some_of (suc n) is = omega arith
+
+-- scripts of both kinds with the same users and steps are as many
+pub same_count : {F : Type 0} (bs : List (BoxedScript F)) (ss : List (Script F)) → map boxed_script bs ≡ map plain_script ss → length bs ≡ length ss
+same_count bs ss same = sym (length_map boxed_script bs) ∙ ap length same ∙ length_map plain_script ss
+
+short_each : {F : Type 0} (ss : List (Script F)) → AllByRecursion IsShort ss → AllByRecursion AreFew (map plain_script ss)
+short_each [] short = tt
+short_each (s ∷ rest) short =
+    let count = s.steps.ok.0 in
+    let here = short.0 in
+    (omega arith, short_each rest short.1)
+
+pub short_plain : {F : Type 0} (ss : List (Script F)) → All IsShort ss → All AreFew (map plain_script ss)
+short_plain ss short = All-from_recursion AreFew (map plain_script ss) (short_each ss (recursion_from_All IsShort ss short))
+
 module _ {F : Type 0} (h : Machine) (z : TableId) where
   -- what is known of the jobs that were made of the scripts
-  abbrev pub Prepared : List (Script F) → List (Job F) → Type 0
+  abbrev pub Prepared : List (BoxedScript F) → List (Job F) → Type 0
   Prepared ss js = (map job_session js ≡ new_sessions 0 z h (map uid_of ss)) × (map job_steps js ≡ map steps_of ss) × Each HasRoom js
 
-  pub jobs_length : (ss : List (Script F)) (js : List (Job F)) → Prepared ss js → length js ≡ length ss
+  pub jobs_length : (ss : List (BoxedScript F)) (js : List (Job F)) → Prepared ss js → length js ≡ length ss
   jobs_length ss js p = sym (length_map job_steps js) ∙ ap length p.1 ∙ length_map steps_of ss
 
-  pub session_at : (ss : List (Script F)) (js : List (Job F)) → Prepared ss js → (k : ℕ) (s : Script F) (j : Job F) → k < length ss → (slice_index_or js k j).session ≡ new_session (slice_index_or ss k s).uid k z h
+  pub session_at : (ss : List (BoxedScript F)) (js : List (Job F)) → Prepared ss js → (k : ℕ) (s : BoxedScript F) (j : Job F) → k < length ss → (slice_index_or js k j).session ≡ new_session (slice_index_or ss k s).uid k z h
   session_at ss js p k s j lt =
       let len = jobs_length ss js p in
       let us = length_map uid_of ss in
@@ -75,20 +117,25 @@ module _ {F : Type 0} (h : Machine) (z : TableId) where
       sym (get_or-map job_session js k j j.session (omega arith)) ∙ ap (λ l. slice_index_or l k j.session) p.0 ∙ new_session_at 0 z h (map uid_of ss) k j.session s.uid (omega arith)
       ∙ ap (λ m. new_session (slice_index_or (map uid_of ss) k s.uid) m z h) zero_more ∙ ap (λ u. new_session u k z h) (get_or-map uid_of ss k s s.uid lt)
 
-  pub steps_at : (ss : List (Script F)) (js : List (Job F)) → Prepared ss js → (k : ℕ) (s : Script F) (j : Job F) → k < length ss → (slice_index_or js k j).steps ≡ (slice_index_or ss k s).steps
+  pub steps_at : (ss : List (BoxedScript F)) (js : List (Job F)) → Prepared ss js → (k : ℕ) (s : BoxedScript F) (j : Job F) → k < length ss → (slice_index_or js k j).steps ≡ (slice_index_or ss k s).steps
   steps_at ss js p k s j lt =
       let len = jobs_length ss js p in
       sym (get_or-map job_steps js k j s.steps (omega arith)) ∙ ap (λ l. slice_index_or l k s.steps) p.1 ∙ get_or-map steps_of ss k s s.steps lt
 
   -- the jobs can be run on this host
-  pub ready : (d : HostData) (ss : List (Script F)) (js : List (Job F)) → d.id ≡ z → d.start ≡ h → All IsShort ss → Prepared ss js → Each (IsReady d) js
+  pub ready : (d : HostData) (ss : List (BoxedScript F)) (js : List (Job F)) → d.id ≡ z → d.start ≡ h → All AreFew (map boxed_script ss) → Prepared ss js → Each (IsReady d) js
   ready d ss js id start short p =
       let len = jobs_length ss js p in
       each_of (IsReady d) js (λ k j lt.
       let same = steps_at ss js p k (record { uid = 0; steps = j.steps }) j (omega arith) in
       let new = session_at ss js p k (record { uid = 0; steps = j.steps }) j (omega arith) in
       let room = all_of HasRoom js p.2 k j lt in
-      let few : vec_len (slice_index_or js k j).steps ≤ max_calls = subst (λ (v : Vec PlainStep Global). vec_len v ≤ max_calls) (sym same) (short k (record { uid = 0; steps = j.steps }) (omega arith)) in (
+      let all = length_map boxed_script ss in
+      let script : BoxedScript F = slice_index_or ss k (record { uid = 0; steps = j.steps }) in
+      let own = subst AreFew (get_or-map boxed_script ss k (record { uid = 0; steps = j.steps }) (0, []) (omega arith)) (short k (0, []) (omega arith)) in
+      let count = script.steps.ok.0 in
+      let same_count = length_map own_step script.steps.items in
+      let few : vec_len (slice_index_or js k j).steps ≤ max_calls = subst (λ (v : Vec SmallStep Global). vec_len v ≤ max_calls) (sym same) (omega arith) in (
         (ap (λ (x : SessionData). x.host) new ∙ sym id, ap (λ (x : SessionData). x.start) new ∙ sym start),
         ap (λ (x : SessionData). x.calls) new,
         ap (λ (x : SessionData). x.mine) new,
@@ -96,13 +143,13 @@ module _ {F : Type 0} (h : Machine) (z : TableId) where
         room,
       ))
 
-  pub done_at : (ss : List (Script F)) (js : List (Job F)) (ds : List Done) → Prepared ss js → AllDone js ds → (k : ℕ) (s : Script F) (d : Done) → k < length ss
-      → Did (new_session (slice_index_or ss k s).uid k z h) (slice_index_or ss k s).steps.items (slice_index_or ds k d).replies.items (slice_index_or ds k d).session
+  pub done_at : (ss : List (BoxedScript F)) (js : List (Job F)) (ds : List Done) → Prepared ss js → AllDone js ds → (k : ℕ) (s : BoxedScript F) (d : Done) → k < length ss
+      → Did (new_session (slice_index_or ss k s).uid k z h) (map own_step (slice_index_or ss k s).steps.items) (slice_index_or ds k d).replies.items (slice_index_or ds k d).session
   done_at ss js ds p r k s d lt =
       let len = jobs_length ss js p in
       let j : Job F = record { session = d.session; steps = s.steps; replies = d.replies } in
-      let did = pairs_at (λ j d. Did j.session j.steps.items d.replies.items d.session) js ds r k j d (omega arith) in
-      let P : SessionData × Vec PlainStep Global → Type 0 = λ w. Did w.0 w.1.items (slice_index_or ds k d).replies.items (slice_index_or ds k d).session in
+      let did = pairs_at (λ j d. Did j.session (map own_step j.steps.items) d.replies.items d.session) js ds r k j d (omega arith) in
+      let P : SessionData × Vec SmallStep Global → Type 0 = λ w. Did w.0 (map own_step w.1.items) (slice_index_or ds k d).replies.items (slice_index_or ds k d).session in
       subst P (λ i. (session_at ss js p k s j lt i, steps_at ss js p k s j lt i)) did
 
   -- the sessions are still of this host
@@ -113,23 +160,22 @@ module _ {F : Type 0} (h : Machine) (z : TableId) where
   of_host e (j ∷ js) (d ∷ ds) a r = ((r.0.3 ∙ a.0.0.0, r.0.4 ∙ a.0.0.1), of_host e js ds a.1 r.1)
 
   -- each transcript is its script's, and the journal has just its entries
-  pub all_play : (log : List Entry) (ss : List (Script F)) (js : List (Job F)) (ds : List Done) → Prepared ss js → AllDone js ds → (xs : List SessionData) (ts : List Transcript) → xs ≡ map done_session ds → ts ≡ map done_transcript ds → All (InJournal log) xs → AllPlay log ss ts
+  pub all_play : (log : List Entry) (ss : List (BoxedScript F)) (js : List (Job F)) (ds : List Done) → Prepared ss js → AllDone js ds → (xs : List SessionData) (ts : List Transcript) → xs ≡ map done_session ds → ts ≡ map done_transcript ds → All (InJournal log) xs → AllAnswer log (map boxed_script ss) ts
   all_play log ss js ds p r xs ts is was stands =
       let len = jobs_length ss js p in
-      let len' = pairs_length (λ j d. Did j.session j.steps.items d.replies.items d.session) js ds r in (
-        ap length was ∙ length_map done_transcript ds ∙ len' ∙ len,
-        λ k s t lt.
-            let d : Done = record { session = new_session 0 0 z h; replies = t.replies } in
-            let did = done_at ss js ds p r k s d lt in
-            let x : Done = slice_index_or ds k d in
-            let there : slice_index_or ts k t ≡ done_transcript x = ap (λ l. slice_index_or l k t) was ∙ get_or-map done_transcript ds k d t (omega arith) in
-            let here : slice_index_or xs k d.session ≡ x.session = ap (λ l. slice_index_or l k d.session) is ∙ get_or-map done_session ds k d d.session (omega arith) in
-            let count = ap length is in
-            let more = length_map done_session ds in
-            let stand : InJournal log x.session = subst (InJournal log) here (stands k d.session (omega arith)) in
-            subst (Plays log k (slice_index_or ss k s)) (sym there) (
-              did.1,
-              did.0,
-              ap (λ m. entries_of m log) (sym did.2) ∙ stand.1 ∙ did.6,
-            ),
-      )
+      let len' = pairs_length (λ j d. Did j.session (map own_step j.steps.items) d.replies.items d.session) js ds r in
+      answers_of boxed_script log ss ts (ap length was ∙ length_map done_transcript ds ∙ len' ∙ len)
+      (λ k s t lt.
+      let d : Done = record { session = new_session 0 0 z h; replies = t.replies } in
+      let did = done_at ss js ds p r k s d lt in
+      let x : Done = slice_index_or ds k d in
+      let there : slice_index_or ts k t ≡ done_transcript x = ap (λ l. slice_index_or l k t) was ∙ get_or-map done_transcript ds k d t (omega arith) in
+      let here : slice_index_or xs k d.session ≡ x.session = ap (λ l. slice_index_or l k d.session) is ∙ get_or-map done_session ds k d d.session (omega arith) in
+      let count = ap length is in
+      let more = length_map done_session ds in
+      let stand : InJournal log x.session = subst (InJournal log) here (stands k d.session (omega arith)) in
+      subst (Answers log k (boxed_script (slice_index_or ss k s))) (sym there) (
+        did.1,
+        did.0,
+        ap (λ m. entries_of m log) (sym did.2) ∙ stand.1 ∙ did.6,
+      ))

@@ -1,8 +1,8 @@
 -- A script that is ready to run, and its result.
-use Rattle.std.specs.Prelude.{◌≡◌, ℕ, ◌≤◌, List, [], Vec, vec_len, vec_capacity}
+use Rattle.std.specs.Prelude.{◌≡◌, ℕ, ◌≤◌, List, [], map, Vec, vec_len, vec_capacity}
 use Rattle.host_lock.specs.Limits.{max_calls}
 use Rattle.host_lock.specs.Sessions.{SessionData, HostData, IsOf}
-use Rattle.requests.specs.Plain.{PlainStep}
+use Rattle.sessions.specs.Boxed.{SmallStep, own_step}
 use Rattle.std.specs.Global.{Global}
 use Rattle.sessions.specs.declared.job.Job.{Job}
 use Rattle.sessions.specs.declared.job.Done.{Done}
@@ -23,12 +23,12 @@ IsReady h j = IsOf h j.session × (j.session.calls ≡ 0) × (j.session.mine ≡
 
 -- each job was done
 abbrev pub AllDone : {F : Type 0} → List (Job F) → List Done → Type 0
-AllDone js ds = Pairs (λ j d. Did j.session j.steps.items d.replies.items d.session) js ds
+AllDone js ds = Pairs (λ j d. Did j.session (map own_step j.steps.items) d.replies.items d.session) js ds
 
 abbrev pub job_session : {F : Type 0} → Job F → SessionData
 job_session j = j.session
 
-abbrev pub job_steps : {F : Type 0} → Job F → Vec PlainStep Global
+abbrev pub job_steps : {F : Type 0} → Job F → Vec SmallStep Global
 job_steps j = j.steps
 
 abbrev pub done_session : Done → SessionData

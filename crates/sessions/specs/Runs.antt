@@ -1,5 +1,5 @@
 -- The result of a run of scripts.
-use Rattle.std.specs.Prelude.{◌≡◌, ℕ, ◌<◌, ◌≤◌, ◌==◌, List, map, filter, length, Vec, vec_len, slice_index_or}
+use Rattle.std.specs.Prelude.{◌≡◌, ℕ, ◌<◌, ◌≤◌, ◌==◌, List, map, filter, length, vec_len, slice_index_or}
 use Rattle.host_lock.specs.declared.journal.Entry.{Entry}
 use Rattle.pid_blocks.specs.Users.{IsUser}
 use Rattle.requests.specs.Machine.{Machine}
@@ -11,8 +11,6 @@ use Rattle.sessions.specs.declared.script.Script.{Script}
 use Rattle.sessions.specs.declared.script.Transcript.{Transcript}
 use Rattle.sessions.specs.declared.script.RunRefusal.{RunRefusal}
 use Rattle.sessions.specs.declared.script.RunRefusal.TheVariants.{TooMany, Memory, Start}
-use Rattle.requests.specs.Plain.{PlainStep}
-use Rattle.std.specs.Global.{Global}
 use Rattle.sessions.specs.Made.{made}
 
 -- one session can make all the steps
@@ -44,9 +42,3 @@ abbrev pub RefusesFor : ℕ → RunRefusal → Type 0
 RefusesFor n TooMany = max_sessions < n
 RefusesFor n Memory = (0 < n) × (n ≤ max_sessions)
 RefusesFor n Start = (0 < n) × (n ≤ max_sessions)
-
-abbrev pub uid_of : {F : Type 0} → Script F → ℕ
-uid_of s = s.uid
-
-abbrev pub steps_of : {F : Type 0} → Script F → Vec PlainStep Global
-steps_of s = s.steps

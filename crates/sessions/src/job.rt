@@ -1,19 +1,21 @@
 //! A worker's job and its promise.
 
 ghost use Rattle.std.specs.Prelude.{◌≡◌, map};
+ghost use Rattle.sessions.specs.Boxed.{own_step};
 ghost use Rattle.sessions.specs.Made.{Did};
 
+use crate::boxing::BoxedStep;
 use host_lock::Session;
-use requests::{Reply, Step};
+use requests::Reply;
 use std::snapshot::Snapshot;
 use std::thread::Promise;
-use stop_handlers::{Decider, Handler};
+use stop_handlers::Decider;
 
 /// A session with its script, and room for the replies.
 #[derive(Drop)]
 pub struct Job<F: Decider + Send + Drop> {
     pub session: Session,
-    pub steps: Vec<Step<Handler<F>>>,
+    pub steps: Vec<BoxedStep<F>>,
     pub replies: Vec<Reply>,
 }
 
@@ -28,11 +30,11 @@ pub struct Done {
 #[derive(Drop)]
 pub struct Plan<F: Decider + Send + Drop> {
     pub(crate) session: Snapshot<Session>,
-    pub(crate) steps: Snapshot<Vec<Step<Handler<F>>>>,
+    pub(crate) steps: Snapshot<Vec<BoxedStep<F>>>,
 }
 
 impl<F: Decider + Send + Drop> Plan<F> {
-    pub(crate) fn of(session: &Session, steps: &Vec<Step<Handler<F>>>) -> Plan<F>
+    pub(crate) fn of(session: &Session, steps: &Vec<BoxedStep<F>>) -> Plan<F>
         ensures { (result.session.value ≡ session.now) × (result.steps.value ≡ steps.now) }
     {
         Plan {
@@ -43,5 +45,5 @@ impl<F: Decider + Send + Drop> Plan<F> {
 }
 
 impl<F: Decider + Send + Drop> Promise<Done> for Plan<F> {
-    ghost kept_by = { λ p r. Did p.session.value p.steps.value.items r.replies.items r.session };
+    ghost kept_by = { λ p r. Did p.session.value (map own_step p.steps.value.items) r.replies.items r.session };
 }

@@ -1,16 +1,17 @@
 //! The preparation of a run: all memory that it needs before its first worker starts.
 
-ghost use Rattle.std.specs.Prelude.{◌≡◌, ◌<◌, ◌≤◌, length, map, vec_len, All, IfOk};
+ghost use Rattle.std.specs.Prelude.{◌≡◌, ◌<◌, ◌≤◌, length, map, vec_len, IfOk};
 ghost use Rattle.host_lock.specs.Limits.{max_sessions};
 ghost use Rattle.host_lock.specs.Rule.{Each};
 ghost use Rattle.host_lock.specs.Sessions.{IsOpenable, new_sessions};
 ghost use Rattle.sessions.specs.Jobs.{HasRoom, HasRoomFor, job_session, job_steps};
-ghost use Rattle.sessions.specs.Runs.{IsShort, uid_of, steps_of};
+ghost use Rattle.sessions.specs.Boxed.{uid_of, steps_of};
 
+use crate::boxing::BoxedScript;
 use crate::job::{Done, Job};
-use crate::script::{Script, Transcript};
+use crate::script::Transcript;
 use crate::worker::reversed;
-use host_lock::{Session, SharedHost};
+use host_lock::{CallLog, Session, SharedHost};
 use pid_blocks::Uid;
 use requests::Host;
 use std::alloc::{AllocError, Global};
@@ -26,24 +27,24 @@ pub(crate) struct Room {
 }
 
 /// An open host, and its sessions.
-struct Opened<F: Decider + Send + Drop> {
-    host: SharedHost<F>,
+struct Opened<F: Decider + Send + Drop, J: CallLog + Send + Drop> {
+    host: SharedHost<F, J>,
     sessions: Vec<Session>,
 }
 
 /// An open host, a job for each script, and room for the results.
-pub(crate) struct Ready<F: Decider + Send + Drop> {
-    pub host: SharedHost<F>,
+pub(crate) struct Ready<F: Decider + Send + Drop, J: CallLog + Send + Drop> {
+    pub host: SharedHost<F, J>,
     pub jobs: Vec<Job<F>>,
     pub room: Room,
 }
 
 /// Opens the host, and allocates all memory that the run itself needs. An error means out of memory.
-pub(crate) fn prepare<F: Decider + Send + Drop>(
+pub(crate) fn prepare<F: Decider + Send + Drop, J: CallLog + Send + Drop>(
     alloc: Global,
     host: Host<F>,
-    scripts: Vec<Script<F>>,
-) -> Result<Ready<F>, AllocError>
+    scripts: Vec<BoxedScript<F>>,
+) -> Result<Ready<F, J>, AllocError>
     requires some_script { (0 < vec_len scripts) × (vec_len scripts ≤ max_sessions) }
     ensures host { IfOk result (λ r. (r.host.start ≡ host) × (r.host.sessions ≡ vec_len scripts)) }
     ensures sessions { IfOk result (λ r. map job_session r.jobs.items ≡ new_sessions 0 r.host.id host (map uid_of scripts.items)) }
@@ -64,7 +65,7 @@ pub(crate) fn prepare<F: Decider + Send + Drop>(
 /// Allocates room for the results of the scripts. An error means out of memory.
 fn room_for<F: Decider + Send + Drop>(
     alloc: Global,
-    scripts: &[Script<F>],
+    scripts: &[BoxedScript<F>],
 ) -> Result<Room, AllocError>
     ensures uids { IfOk result (λ r. r.uids.items ≡ map uid_of scripts.now) }
     ensures done { IfOk result (λ r. HasRoomFor (length scripts.now) r.done) }
@@ -84,7 +85,7 @@ fn room_for<F: Decider + Send + Drop>(
 }
 
 /// Returns how many calls the scripts make.
-fn calls_in<F: Decider + Send + Drop>(scripts: &[Script<F>]) -> usize {
+fn calls_in<F: Decider + Send + Drop>(scripts: &[BoxedScript<F>]) -> usize {
     let mut calls = 0usize;
     for script in scripts {
         calls = calls.saturating_add(script.steps.len());
@@ -92,13 +93,13 @@ fn calls_in<F: Decider + Send + Drop>(scripts: &[Script<F>]) -> usize {
     calls
 }
 
-/// Opens the host for the users, with room in its journal for `calls` calls.
-fn open_for<F: Decider + Send + Drop>(
+/// Opens the host for the users, with room in its log for `calls` calls.
+fn open_for<F: Decider + Send + Drop, J: CallLog + Send + Drop>(
     alloc: Global,
     host: Host<F>,
     uids: &[Uid],
     calls: usize,
-) -> Result<Opened<F>, AllocError>
+) -> Result<Opened<F, J>, AllocError>
     requires { IsOpenable uids.now }
     ensures host { IfOk result (λ o. (o.host.start ≡ host) × (o.host.sessions ≡ length uids.now)) }
     ensures sessions { IfOk result (λ o. o.sessions.items ≡ new_sessions 0 o.host.id host uids.now) }
@@ -111,7 +112,7 @@ fn open_for<F: Decider + Send + Drop>(
 
 fn uids_of<F: Decider + Send + Drop>(
     alloc: Global,
-    scripts: &[Script<F>],
+    scripts: &[BoxedScript<F>],
 ) -> Result<Vec<Uid>, AllocError>
     ensures { IfOk result (λ v. v.items ≡ map uid_of scripts.now) }
 {
@@ -126,7 +127,7 @@ fn uids_of<F: Decider + Send + Drop>(
 fn pair<F: Decider + Send + Drop>(
     alloc: Global,
     sessions: Vec<Session>,
-    scripts: Vec<Script<F>>,
+    scripts: Vec<BoxedScript<F>>,
 ) -> Result<Vec<Job<F>>, AllocError>
     requires { length sessions.items ≡ length scripts.items }
     ensures sessions { IfOk result (λ v. map job_session v.items ≡ sessions.items) }
@@ -148,11 +149,11 @@ fn pair<F: Decider + Send + Drop>(
 fn job<F: Decider + Send + Drop>(
     alloc: Global,
     session: Session,
-    script: Script<F>,
+    script: BoxedScript<F>,
 ) -> Result<Job<F>, AllocError>
     ensures { IfOk result (λ j. (j.session ≡ session) × (j.steps ≡ script.steps) × HasRoom j) }
 {
-    let Script { uid: _, steps } = script;
+    let BoxedScript { uid: _, steps } = script;
     let replies = Vec::with_capacity(alloc, steps.len())?;
     Ok(Job {
         session,

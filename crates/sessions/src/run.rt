@@ -1,18 +1,20 @@
 //! Runs scripts of many users at the same time on one host.
-ghost use Rattle.std.specs.Prelude.{◌≡◌, ◌≤◌, [], map, vec_len, All, IfOk, IfErr, OnOk};
-ghost use Rattle.requests.specs.Isolation.{Users};
-ghost use Rattle.host_lock.specs.Journal.{asked, IsLegal, replay};
+ghost use Rattle.std.specs.Prelude.{◌≡◌, ◌<◌, ◌≤◌, [], map, vec_len, All, IfOk, IfErr, OnOk};
+ghost use Rattle.host_lock.specs.Journal.{IsLegal, replay};
 ghost use Rattle.host_lock.specs.Limits.{max_sessions};
 ghost use Rattle.host_lock.specs.Sessions.{IsBelow};
+ghost use Rattle.sessions.specs.Boxed.{boxed_script};
 ghost use Rattle.sessions.specs.Jobs.{HasRoomFor, done_session, done_transcript};
 ghost use Rattle.sessions.specs.Runs.{IsShort, AllPlay, OwnEntries, RefusesFor};
+ghost use Rattle.sessions.specs.PlainRuns.{AreFew, Ran, RanBy};
 
+use crate::boxing::{BoxedScript, boxed_scripts};
 use crate::job::Done;
 use crate::ready::{Ready, Room, prepare};
 use crate::script::{Gate, RunRefusal, Script, Transcript};
 use crate::worker::reversed;
 use crate::workers::run_all;
-use host_lock::{Journal, MAX_SESSIONS, Session};
+use host_lock::{CallLog, Entry, Journal, MAX_SESSIONS, Session, Unkept};
 use requests::Host;
 use std::alloc::Global;
 use std::sync::Wait;
@@ -46,34 +48,80 @@ pub fn run_sessions<F: Decider + Send + Drop, G: Gate, R: Threads + Wait + Sync>
     ensures few { OnOk result (vec_len scripts ≤ max_sessions) }
     ensures refuses { IfErr result (RefusesFor (vec_len scripts)) }
 {
-    host.kept();
-    play(rt, alloc, host, scripts, gate)
-}
-
-/// Opens the host, runs the scripts, and closes it.
-fn play<F: Decider + Send + Drop, G: Gate, R: Threads + Wait + Sync>(
-    rt: &R,
-    alloc: Global,
-    host: Host<F>,
-    scripts: Vec<Script<F>>,
-    gate: &G,
-) -> Result<(Host<F>, Journal, Vec<Transcript>), RunRefusal>
-    requires { All IsShort scripts.items }
-    ensures legal { IfOk result (λ r. IsLegal host r.1) }
-    ensures users { IfOk result (λ r. Users (asked r.1)) }
-    ensures host { IfOk result (λ r. r.0 ≡ replay host r.1) }
-    ensures entries { IfOk result (λ r. All (IsBelow (vec_len scripts)) r.1) }
-    ensures transcripts { IfOk result (λ r. AllPlay r.1 scripts.items r.2.items) }
-    ensures none { IfOk result (λ r. vec_len scripts ≡ 0 → (r.0 ≡ host) × (r.1 ≡ [])) }
-    ensures few { OnOk result (vec_len scripts ≤ max_sessions) }
-    ensures refuses { IfErr result (RefusesFor (vec_len scripts)) }
-{
     if scripts.len() > MAX_SESSIONS {
         return Err(RunRefusal::TooMany);
     }
     if scripts.is_empty() {
+        host.kept();
         return Ok((host, Journal::empty(alloc), Vec::new(alloc)));
     }
+    let Ok(scripts) = boxed_scripts(alloc, scripts) else {
+        return Err(RunRefusal::Memory);
+    };
+    let left: Left<F, Vec<Entry>> = play(rt, alloc, host, scripts, gate)?;
+    let Left {
+        host,
+        log,
+        transcripts,
+    } = left;
+    let journal = Journal::of(log);
+    Ok((host, journal, transcripts))
+}
+
+/// Runs each script as `run_sessions` does, and keeps no journal.
+///
+/// # Errors
+///
+/// Those of `run_sessions`. The host is dropped.
+pub fn run_boxed<F: Decider + Send + Drop, G: Gate, R: Threads + Wait + Sync>(
+    rt: &R,
+    alloc: Global,
+    host: Host<F>,
+    scripts: Vec<BoxedScript<F>>,
+    gate: &G,
+) -> Result<(Host<F>, Vec<Transcript>), RunRefusal>
+    requires { All AreFew (map boxed_script scripts.items) }
+    ensures ran { IfOk result (λ r. Ran host (map boxed_script scripts.items) r.0 r.1.items) }
+    ensures few { OnOk result (vec_len scripts ≤ max_sessions) }
+    ensures refuses { IfErr result (RefusesFor (vec_len scripts)) }
+{
+    if MAX_SESSIONS < scripts.len() {
+        return Err(RunRefusal::TooMany);
+    }
+    if scripts.is_empty() {
+        host.kept();
+        return Ok((host, Vec::new(alloc)));
+    }
+    let left: Left<F, Unkept> = play(rt, alloc, host, scripts, gate)?;
+    let Left {
+        host,
+        log: _,
+        transcripts,
+    } = left;
+    Ok((host, transcripts))
+}
+
+/// What is left at the end of a run.
+struct Left<F: Decider + Send + Drop, J: CallLog + Send + Drop> {
+    host: Host<F>,
+    log: J,
+    transcripts: Vec<Transcript>,
+}
+
+/// Opens the host, runs the scripts, and closes it.
+fn play<F: Decider + Send + Drop, J: CallLog + Send + Drop, G: Gate, R: Threads + Wait + Sync>(
+    rt: &R,
+    alloc: Global,
+    host: Host<F>,
+    scripts: Vec<BoxedScript<F>>,
+    gate: &G,
+) -> Result<Left<F, J>, RunRefusal>
+    requires count { (0 < vec_len scripts) × (vec_len scripts ≤ max_sessions) }
+    requires short { All AreFew (map boxed_script scripts.items) }
+    ensures ran { IfOk result (λ r. RanBy host (map boxed_script scripts.items) (J.entries r.log) r.host r.transcripts.items) }
+    ensures refuses { IfErr result (RefusesFor (vec_len scripts)) }
+{
+    host.kept();
     let Ok(ready) = prepare(alloc, host, scripts) else {
         return Err(RunRefusal::Memory);
     };
@@ -88,8 +136,12 @@ fn play<F: Decider + Send + Drop, G: Gate, R: Threads + Wait + Sync>(
         return Err(RunRefusal::Start);
     };
     let (sessions, transcripts) = part(done, sessions, transcripts);
-    match host.close(sessions) {
-        Ok((host, journal)) => Ok((host, journal, transcripts)),
+    match host.finish(sessions) {
+        Ok((host, log)) => Ok(Left {
+            host,
+            log,
+            transcripts,
+        }),
         Err(_) => unreachable!(),
     }
 }

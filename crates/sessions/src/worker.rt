@@ -3,24 +3,26 @@
 ghost use Rattle.std.specs.Prelude.{◌≡◌, ◌≤◌, [], map, reverse, vec_len};
 ghost use Rattle.host_lock.specs.Limits.{max_calls};
 ghost use Rattle.host_lock.specs.Sessions.{IsOf};
+ghost use Rattle.sessions.specs.Boxed.{own_step};
 ghost use Rattle.sessions.specs.Jobs.{HasRoomFor};
 ghost use Rattle.sessions.specs.Made.{Did};
 
+use crate::boxing::{BoxedStep, unboxed};
 use crate::job::Done;
 use crate::script::Gate;
-use host_lock::{Answer, Session, SharedHost};
-use requests::{Reply, Step};
+use host_lock::{Answer, CallLog, Session, SharedHost};
+use requests::Reply;
 use std::alloc::Global;
 use std::sync::Wait;
-use stop_handlers::{Decider, Handler};
+use stop_handlers::Decider;
 
 /// Makes the steps of a script in order. `replies` has room for their replies.
-pub(crate) fn work<F: Decider + Send + Drop, G: Gate, R: Wait>(
+pub(crate) fn work<F: Decider + Send + Drop, J: CallLog + Send + Drop, G: Gate, R: Wait>(
     rt: &R,
     alloc: Global,
-    host: &SharedHost<F>,
+    host: &SharedHost<F, J>,
     mut session: Session,
-    steps: Vec<Step<Handler<F>>>,
+    steps: Vec<BoxedStep<F>>,
     mut replies: Vec<Reply>,
     gate: &G,
 ) -> Done
@@ -28,12 +30,13 @@ pub(crate) fn work<F: Decider + Send + Drop, G: Gate, R: Wait>(
     requires fresh { (session.calls ≡ 0) × (session.mine ≡ []) }
     requires few { vec_len steps ≤ max_calls }
     requires room { HasRoomFor (vec_len steps) replies }
-    ensures { Did session steps.items result.replies.items result.session }
+    ensures { Did session (map own_step steps.items) result.replies.items result.session }
 {
     let uid = session.uid();
     for step in steps {
         let index = session.calls_made() + 1;
         gate.before(uid, index);
+        let step = unboxed(step);
         let Answer::Reply(reply) = host.call(rt, alloc, &mut session, step) else {
             unreachable!()
         };

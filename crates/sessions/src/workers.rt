@@ -4,13 +4,14 @@ ghost use Rattle.std.specs.Thread.{IsSend, IsSync};
 ghost use Rattle.host_lock.specs.Limits.{max_calls};
 ghost use Rattle.host_lock.specs.Rule.{Each};
 ghost use Rattle.host_lock.specs.Sessions.{IsOf};
+ghost use Rattle.sessions.specs.Boxed.{own_step};
 ghost use Rattle.sessions.specs.Made.{Did};
 ghost use Rattle.sessions.specs.Jobs.{AllDone, IsReady, HasRoomFor};
 
 use crate::job::{Done, Job, Plan};
 use crate::script::Gate;
 use crate::worker::work;
-use host_lock::SharedHost;
+use host_lock::{CallLog, SharedHost};
 use std::alloc::Global;
 use std::sync::Wait;
 use std::thread;
@@ -19,10 +20,15 @@ use stop_handlers::Decider;
 
 /// Runs each job in a thread of its own, all at the same time. Returns `None` where a thread could not be started.
 #[cycle(run)]
-pub(crate) fn run_all<F: Decider + Send + Drop, G: Gate, R: Threads + Wait + Sync>(
+pub(crate) fn run_all<
+    F: Decider + Send + Drop,
+    J: CallLog + Send + Drop,
+    G: Gate,
+    R: Threads + Wait + Sync,
+>(
     rt: &R,
     alloc: Global,
-    host: &SharedHost<F>,
+    host: &SharedHost<F, J>,
     mut jobs: Vec<Job<F>>,
     done: Vec<Done>,
     gate: &G,
@@ -41,10 +47,10 @@ pub(crate) fn run_all<F: Decider + Send + Drop, G: Gate, R: Threads + Wait + Syn
 /// Runs one job in a thread of its own, and the others at the same time. Returns `None` where a thread could not be
 /// started.
 #[cycle(run)]
-fn beside<F: Decider + Send + Drop, G: Gate, R: Threads + Wait + Sync>(
+fn beside<F: Decider + Send + Drop, J: CallLog + Send + Drop, G: Gate, R: Threads + Wait + Sync>(
     rt: &R,
     alloc: Global,
-    host: &SharedHost<F>,
+    host: &SharedHost<F, J>,
     job: Job<F>,
     jobs: Vec<Job<F>>,
     done: Vec<Done>,
@@ -66,8 +72,8 @@ fn beside<F: Decider + Send + Drop, G: Gate, R: Threads + Wait + Sync>(
         thread::scope_env(),
         rt,
         |scope| -> Option<Vec<Done>>
-            requires sync { IsSync R.row }
-            requires send { IsSend F.row }
+            requires sync { IsSync R.row × IsSync G.row }
+            requires send { IsSend F.row × IsSend J.row }
             requires of { IsOf host.now session }
             requires fresh { (session.calls ≡ 0) × (session.mine ≡ []) }
             requires few { vec_len steps ≤ max_calls }
@@ -86,7 +92,7 @@ fn beside<F: Decider + Send + Drop, G: Gate, R: Threads + Wait + Sync>(
                         requires fresh { (session.calls ≡ 0) × (session.mine ≡ []) }
                         requires few { vec_len steps ≤ max_calls }
                         requires room { HasRoomFor (vec_len steps) replies }
-                        ensures { Did session steps.items result.replies.items result.session }
+                        ensures { Did session (map own_step steps.items) result.replies.items result.session }
                     { work(rt, alloc, host, session, steps, replies, gate) },
                 )
                 .ok()?;

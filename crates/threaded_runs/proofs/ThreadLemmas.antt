@@ -9,10 +9,11 @@ use Rattle.pid_blocks.specs.Blocks.{rising, users, slot}
 use Rattle.pid_blocks.specs.Users.{IsUser}
 use Rattle.requests.specs.Plain.{PlainStep}
 use Rattle.requests.specs.Run.{Asked, asked_by}
-use Rattle.sessions.specs.declared.script.Script.{Script}
+use Rattle.sessions.specs.declared.boxing.BoxedScript.{BoxedScript}
+use Rattle.sessions.specs.Boxed.{boxed_script, own_step}
 use Rattle.requests.proofs.IsolationLaws.{at_slot}
 use Rattle.scenario_text.specs.Plan.{asked}
-use Rattle.threaded_runs.specs.Scripts.{has_steps, plain_script, some_steps, steps_of}
+use Rattle.threaded_runs.specs.Scripts.{has_steps, some_steps, steps_of}
 use Rattle.threaded_runs.proofs.ScriptLemmas.{script_of}
 
 -- one user more, and one empty script
@@ -23,14 +24,14 @@ rising_more (suc n) m = ap (λ xs. m ∷ xs) (rising_more n (m + 1) ∙ ap (λ k
 abbrev pub unasked : ℕ → ℕ × List PlainStep
 unasked u = (u, [])
 
-pub empty_more : {F : Type 0} (ss : List (Script F)) (s : Script F) (number : ℕ) → 1001 ≤ number → s.uid ≡ number → s.steps.items ≡ []
-    → map plain_script ss ≡ map unasked (rising (number - 1001) 1001) → map plain_script (ss ++ s ∷ []) ≡ map unasked (rising (number + 1 - 1001) 1001)
+pub empty_more : {F : Type 0} (ss : List (BoxedScript F)) (s : BoxedScript F) (number : ℕ) → 1001 ≤ number → s.uid ≡ number → map own_step s.steps.items ≡ []
+    → map boxed_script ss ≡ map unasked (rising (number - 1001) 1001) → map boxed_script (ss ++ s ∷ []) ≡ map unasked (rising (number + 1 - 1001) 1001)
 empty_more ss s number least named none before =
     let count : number + 1 - 1001 ≡ suc (number - 1001) = omega arith in
     let last : 1001 + (number - 1001) ≡ number = omega arith in
     let more : rising (number + 1 - 1001) 1001 ≡ rising (number - 1001) 1001 ++ number ∷ [] =
     ap (λ n. rising n 1001) count ∙ rising_more (number - 1001) 1001 ∙ ap (λ k. rising (number - 1001) 1001 ++ k ∷ []) last in
-    map-append plain_script ss (s ∷ [])
+    map-append boxed_script ss (s ∷ [])
     ∙ ap₂ (λ (xs : List (ℕ × List PlainStep)) (x : ℕ × List PlainStep). xs ++ x ∷ []) before (ap₂ (λ (u : ℕ) (steps : List PlainStep). (u, steps)) named none)
     ∙ sym (map-append unasked (rising (number - 1001) 1001) (number ∷ []))
     ∙ ap (map unasked) (sym more)
@@ -81,17 +82,17 @@ one_asked done a user =
         let no : (a.uid == w) ≡ false = grind (arith, nat_tests) in
         ap (λ steps. (w, steps)) (steps_more w done a false no ∙ append-nil (steps_of w done))
 
-pub step_added : {F : Type 0} (ss : List (Script F)) (new d : Script F) (done : List Asked) (u : ℕ) (s : PlainStep) → IsUser u → map plain_script ss ≡ map (script_of done) users
-    → new.uid ≡ (get_or ss (slot u) d).uid → new.steps.items ≡ (get_or ss (slot u) d).steps.items ++ s ∷ []
-    → map plain_script (set ss (slot u) new) ≡ map (script_of (done ++ asked (u, s) ∷ [])) users
+pub step_added : {F : Type 0} (ss : List (BoxedScript F)) (new d : BoxedScript F) (done : List Asked) (u : ℕ) (s : PlainStep) → IsUser u → map boxed_script ss ≡ map (script_of done) users
+    → new.uid ≡ (get_or ss (slot u) d).uid → map own_step new.steps.items ≡ map own_step (get_or ss (slot u) d).steps.items ++ s ∷ []
+    → map boxed_script (set ss (slot u) new) ≡ map (script_of (done ++ asked (u, s) ∷ [])) users
 step_added {F} ss new d done u s user before named longer =
-    let long : length ss ≡ 64 = sym (length-map ss plain_script) ∙ ap length before in
+    let long : length ss ≡ 64 = sym (length-map ss boxed_script) ∙ ap length before in
     let old = get_or ss (slot u) d in
-    let was : plain_script old ≡ script_of done u =
-    sym (get_or-map plain_script ss (slot u) d (0, []) (omega arith)) ∙ ap (λ xs. get_or xs (slot u) (0, [])) before ∙ at_slot (script_of done) u (0, []) user in
+    let was : boxed_script old ≡ script_of done u =
+    sym (get_or-map boxed_script ss (slot u) d (0, []) (omega arith)) ∙ ap (λ xs. get_or xs (slot u) (0, [])) before ∙ at_slot (script_of done) u (0, []) user in
     let name : new.uid ≡ u = named ∙ ap (λ (p : ℕ × List PlainStep). p.0) was in
-    let steps : new.steps.items ≡ steps_of u done ++ s ∷ [] = longer ∙ ap (λ (p : ℕ × List PlainStep). p.1 ++ s ∷ []) was in
-    map-set plain_script ss (slot u) new
+    let steps : map own_step new.steps.items ≡ steps_of u done ++ s ∷ [] = longer ∙ ap (λ (p : ℕ × List PlainStep). p.1 ++ s ∷ []) was in
+    map-set boxed_script ss (slot u) new
     ∙ ap₂ (λ (xs : List (ℕ × List PlainStep)) (x : ℕ × List PlainStep). set xs (slot u) x) before (ap₂ (λ (w : ℕ) (list : List PlainStep). (w, list)) name steps)
     ∙ one_asked done (asked (u, s)) user
 
@@ -100,12 +101,12 @@ pub are_some : (steps : List PlainStep) (n : ℕ) → n ≡ length steps → not
 are_some [] n same = ap (λ k. not (k == 0)) same
 are_some (s ∷ rest) n same = let some : (n == 0) ≡ false = grind (arith, nat_tests) in ap not some
 
-pub kept_scripts : {F : Type 0} (ss : List (Script F)) → map plain_script (filter (λ s. has_steps (plain_script s)) ss) ≡ filter has_steps (map plain_script ss)
+pub kept_scripts : {F : Type 0} (ss : List (BoxedScript F)) → map boxed_script (filter (λ s. has_steps (boxed_script s)) ss) ≡ filter has_steps (map boxed_script ss)
 kept_scripts [] = refl
-kept_scripts (s ∷ rest) = kept (has_steps (plain_script s)) (kept_scripts rest)
+kept_scripts (s ∷ rest) = kept (has_steps (boxed_script s)) (kept_scripts rest)
   where
-    kept : (b : Bool) → map plain_script (filter (λ s. has_steps (plain_script s)) rest) ≡ filter has_steps (map plain_script rest)
-        → map plain_script (cond b (s ∷ filter (λ s. has_steps (plain_script s)) rest) (filter (λ s. has_steps (plain_script s)) rest))
-        ≡ cond b (plain_script s ∷ filter has_steps (map plain_script rest)) (filter has_steps (map plain_script rest))
-    kept true later = ap (λ xs. plain_script s ∷ xs) later
+    kept : (b : Bool) → map boxed_script (filter (λ s. has_steps (boxed_script s)) rest) ≡ filter has_steps (map boxed_script rest)
+        → map boxed_script (cond b (s ∷ filter (λ s. has_steps (boxed_script s)) rest) (filter (λ s. has_steps (boxed_script s)) rest))
+        ≡ cond b (boxed_script s ∷ filter has_steps (map boxed_script rest)) (filter has_steps (map boxed_script rest))
+    kept true later = ap (λ xs. boxed_script s ∷ xs) later
     kept false later = later

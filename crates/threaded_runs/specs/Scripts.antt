@@ -5,7 +5,6 @@ use Rattle.pid_blocks.specs.Blocks.{users}
 use Rattle.requests.specs.Memory.{is_memory}
 use Rattle.requests.specs.Plain.{PlainStep}
 use Rattle.requests.specs.Run.{Asked, asked_by}
-use Rattle.sessions.specs.declared.script.Script.{Script}
 use Rattle.sessions.specs.declared.script.Transcript.{Transcript}
 use Rattle.scenario.specs.Lines.{Answered}
 
@@ -23,9 +22,6 @@ has_steps s = some_steps s.1
 -- each user with steps, by rising number, with these steps
 abbrev pub scripts_in : List Asked → List (ℕ × List PlainStep)
 scripts_in list = filter has_steps (map (λ u. (u, steps_of u list)) users)
-
-abbrev pub plain_script : {F : Type 0} → Script F → ℕ × List PlainStep
-plain_script s = (s.uid, s.steps.items)
 
 -- no step ran out of memory
 abbrev pub IsMade : Transcript → Type 0

@@ -7,13 +7,14 @@ ghost use Rattle.requests.specs.Isolation.{Users};
 ghost use Rattle.scenario_text.specs.Plan.{max_steps, policies_in};
 ghost use Rattle.scenario.specs.Runs.{answered, answers_of, Writes};
 ghost use Rattle.threaded_runs.specs.Grouped.{by_users, shown_grouped};
-ghost use Rattle.threaded_runs.specs.Scripts.{has_steps, plain_script, scripts_in, told_by, IsMade};
+ghost use Rattle.sessions.specs.Boxed.{boxed_script};
+ghost use Rattle.threaded_runs.specs.Scripts.{has_steps, scripts_in, told_by, IsMade};
 ghost use Rattle.scenario.specs.declared.running.RunFault.TheVariants.{Mismatch, Memory, Start};
 
 use pid_blocks::Uid;
 use requests::{Host, Reply};
 use scenario::{RunFault, RunOptions, Scenario, USERS, bound_step, obey, write_lines};
-use sessions::{Gate, RunRefusal, Script, Transcript, run_sessions};
+use sessions::{BoxedScript, Gate, RunRefusal, Transcript, boxed, run_boxed};
 use std::alloc::{AllocError, Global};
 use std::io::Write;
 use std::sync::Wait;
@@ -44,22 +45,22 @@ fn counts_of(scenario: &Scenario) -> [usize; USERS] {
 fn empty_scripts<F: Decider + Send + Drop>(
     alloc: Global,
     counts: &[usize; USERS],
-) -> Result<Vec<Script<F>>, AllocError>
-    ensures { IfOk result (λ scripts. map plain_script scripts.items ≡ map (λ u. (u, [])) users) }
+) -> Result<Vec<BoxedScript<F>>, AllocError>
+    ensures { IfOk result (λ scripts. map boxed_script scripts.items ≡ map (λ u. (u, [])) users) }
 {
     let mut scripts = Vec::with_capacity(alloc, USERS)?;
     for number in 1001..1065 {
         if let Ok(uid) = Uid::new(number) {
             let steps = Vec::with_capacity(alloc, counts[uid.slot()])?;
-            scripts.push(Script { uid, steps })?;
+            scripts.push(BoxedScript { uid, steps })?;
         }
     }
     Ok(scripts)
 }
 
 /// Returns whether the script has steps.
-fn is_asked<F: Decider + Send + Drop>(script: &Script<F>) -> bool
-    ensures { result ≡ has_steps (plain_script script.now) }
+fn is_asked<F: Decider + Send + Drop>(script: &BoxedScript<F>) -> bool
+    ensures { result ≡ has_steps (boxed_script script.now) }
 {
     !script.steps.is_empty()
 }
@@ -70,9 +71,9 @@ fn scripts_of<F: Decider + Send + Drop>(
     alloc: Global,
     scenario: &Scenario,
     handlers: Vec<Handler<F>>,
-) -> Result<Vec<Script<F>>, AllocError>
+) -> Result<Vec<BoxedScript<F>>, AllocError>
     requires { handlers.items ≡ policies_in scenario.now.steps }
-    ensures scripts { IfOk result (λ scripts. map plain_script scripts.items ≡ scripts_in scenario.now.steps) }
+    ensures scripts { IfOk result (λ scripts. map boxed_script scripts.items ≡ scripts_in scenario.now.steps) }
     ensures users { OnOk result (Users scenario.now.steps) }
     ensures few { OnOk result (length scenario.now.steps ≤ max_steps) }
 {
@@ -83,7 +84,8 @@ fn scripts_of<F: Decider + Send + Drop>(
         let Some(step) = bound_step(&shape.1, &mut rest) else {
             unreachable!()
         };
-        scripts[shape.0.slot()].steps.push(step)?;
+        let small = boxed(alloc, step)?;
+        scripts[shape.0.slot()].steps.push(small)?;
     }
     scripts.retain(|script| is_asked(script));
     Ok(scripts)
@@ -144,8 +146,8 @@ fn transcripts_of<F: Decider + Send + Drop, R: Threads + Wait + Sync>(
 {
     let scripts = scripts_of(alloc, scenario, handlers)?;
     let host = Host::new(alloc, scenario.settings())?;
-    match run_sessions(rt, alloc, host, scripts, &NoGate) {
-        Ok((_host, _journal, transcripts)) => Ok(transcripts),
+    match run_boxed(rt, alloc, host, scripts, &NoGate) {
+        Ok((_host, transcripts)) => Ok(transcripts),
         Err(RunRefusal::Memory) => Err(RunFault::Memory),
         Err(RunRefusal::Start) => Err(RunFault::Start),
         Err(RunRefusal::TooMany) => unreachable!(),

@@ -13,9 +13,9 @@ join_seat-requires g c =
     let seat = c.args.seat.now in (
       c.requires.table.1,
       c.requires.table.2,
-      ap (λ (m : Me (Slot g.row.F.Denot) View). m.1) c.requires.shown,
+      ap (λ (m : Me (Slot g.row.F.Denot g.row.J.Denot) View). m.1) c.requires.shown,
       omega (arith, c.requires.table.0.0),
-      joins table.key.start.value table.key.sessions seat.id c.args.shown.id seat.me.0 c.args.shown.me.0 (ap (λ (m : Me (Slot g.row.F.Denot) View). m.0.stage) c.requires.rests) (ap (λ (m : Me (Slot g.row.F.Denot) View). m.0.stage) c.requires.shown),
+      joins table.key.start.value table.key.sessions seat.id c.args.shown.id seat.me.0 c.args.shown.me.0 (ap (λ (m : Me (Slot g.row.F.Denot g.row.J.Denot) View). m.0.stage) c.requires.rests) (ap (λ (m : Me (Slot g.row.F.Denot g.row.J.Denot) View). m.0.stage) c.requires.shown),
     )
 
 pub load-requires : goal.load-requires
@@ -25,7 +25,7 @@ load-requires g c =
     let joined = joined_is c.args.number c.args.seat.now.me c.args.shown.me seat.me c.requires.rests c.requires.shown c.join_seat.ensures.2 in (
       c.join_seat.ensures.0 ∙ c.requires.table.1,
       omega (arith, c.requires.table.0.0),
-      learns table.key.start.value table.key.sessions table.table_id.slots seat.id seat.me (seen_of c.args.seat.now.me.0) (seen_of c.args.shown.me.0) (ap (λ (m : Me (Slot g.row.F.Denot) View). m.0.stage) joined) (ap (λ (m : Me (Slot g.row.F.Denot) View). m.0.seen) joined),
+      learns table.key.start.value table.key.sessions table.table_id.slots seat.id seat.me (seen_of c.args.seat.now.me.0) (seen_of c.args.shown.me.0) (ap (λ (m : Me (Slot g.row.F.Denot g.row.J.Denot) View). m.0.stage) joined) (ap (λ (m : Me (Slot g.row.F.Denot g.row.J.Denot) View). m.0.seen) joined),
     )
 
 pub returns-clause-learned : goal.returns-clause-learned

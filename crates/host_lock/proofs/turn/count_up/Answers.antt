@@ -13,7 +13,7 @@ fetch_add-requires g c =
     let seat = c.args.seat.now in
     let v = seat.me.0 in
     let slots : ℕ = table.table_id.slots in
-    let P : Me (Slot g.row.F.Denot) View → Type 0 = λ m. Allows (SharedInvariant table.key.start.value table.key.sessions) slots seat.id m 2 (λ x. (x + 1) % 2 ^ 64) (counted (step slots 2 1 0 none) m) in (
+    let P : Me (Slot g.row.F.Denot g.row.J.Denot) View → Type 0 = λ m. Allows (SharedInvariant table.key.start.value table.key.sessions) slots seat.id m 2 (λ x. (x + 1) % 2 ^ 64) (counted (step slots 2 1 0 none) m) in (
       c.requires.table.1,
       omega (arith, c.requires.table.0.0),
       subst P (sym c.requires.holds)

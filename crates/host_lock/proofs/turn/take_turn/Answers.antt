@@ -19,7 +19,7 @@ pub returns-then-serving-ticket-clause-taken : goal.returns-then-serving-ticket-
 returns-then-serving-ticket-clause-taken g c =
     let waits : IsWaiting c.args.number c.args.ticket c.loop.seat.me = subst (IsWaiting c.args.number c.args.ticket) (sym c.loop.invariant.3) c.requires.waits in
     let found : c.load-serving.result ≡ c.args.ticket = search rules in
-    subst (λ (m : Me (Slot g.row.F.Denot) View). TakesSlot m.0 c.args.number c.args.ticket c.load-serving.new.seat.me) c.loop.invariant.3
+    subst (λ (m : Me (Slot g.row.F.Denot g.row.J.Denot) View). TakesSlot m.0 c.args.number c.args.ticket c.load-serving.new.seat.me) c.loop.invariant.3
     (takes_slot c.args.table.now.table_id.slots c.args.number c.args.ticket c.load-serving.result c.loop.seat.me c.load-serving.new.seat.me waits c.load-serving.ensures.2 found)
 
 pub loop-preserved : goal.loop-preserved

@@ -19,15 +19,15 @@ fetch_add-ticket-requires g c =
     let seat = c.args.seat.now in (
       c.requires.table.1,
       omega (arith, c.requires.table.0.0),
-      draws table.key.start.value table.key.sessions table.table_id.slots seat.id seat.me (ap (λ (m : Me (Slot g.row.F.Denot) View). m.0.stage) c.requires.rests) c.requires.room,
+      draws table.key.start.value table.key.sessions table.table_id.slots seat.id seat.me (ap (λ (m : Me (Slot g.row.F.Denot g.row.J.Denot) View). m.0.stage) c.requires.rests) c.requires.room,
     )
 
 pub exchange-requires : goal.exchange-requires
 exchange-requires g c =
     let t = c.take_turn.ensures.taken in
-    let held = ap (λ (m : Me (Slot g.row.F.Denot) View). m.1) t.1 in
-    let x : Slot g.row.F.Denot = There (history (start_of c.fetch_add-ticket.new.seat.me.0) t.0) in
-    (search rules, (x, held ∙ ap (λ (l : List (ℕ × Slot g.row.F.Denot)). (0, x) ∷ rest l) (sym held)))
+    let held = ap (λ (m : Me (Slot g.row.F.Denot g.row.J.Denot) View). m.1) t.1 in
+    let x : Slot g.row.F.Denot g.row.J.Denot = There (history (start_of c.fetch_add-ticket.new.seat.me.0) t.0) in
+    (search rules, (x, held ∙ ap (λ (l : List (ℕ × Slot g.row.F.Denot g.row.J.Denot)). (0, x) ∷ rest l) (sym held)))
 
 pub give_back-requires-clause-out : goal.give_back-requires-clause-out
 give_back-requires-clause-out g c =

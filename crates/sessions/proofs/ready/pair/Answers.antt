@@ -2,10 +2,10 @@ use Rattle.std.proofs.Common.{rules, ◌≡◌, ◌+◌, [], ◌∷◌, ◌++◌
 use Rattle.std.proofs.lemmas.List.{length-reverse}
 use Rattle.host_lock.specs.Rule.{Each}
 use Rattle.host_lock.specs.Sessions.{SessionData}
-use Rattle.sessions.specs.declared.script.Script.{Script}
+use Rattle.sessions.specs.declared.boxing.BoxedScript.{BoxedScript}
 use Rattle.sessions.specs.declared.job.Job.{Job}
 use Rattle.sessions.specs.Jobs.{HasRoom, job_session, job_steps}
-use Rattle.sessions.specs.Runs.{steps_of}
+use Rattle.sessions.specs.Boxed.{steps_of}
 use Rattle.sessions.proofs.Scripts.{next_step, reverse_twice}
 use Rattle.sessions.proofs.Pairing.{map_snoc, each_snoc}
 use Rattle.sessions.proofs.ready.pair.Goals as goal
@@ -30,8 +30,8 @@ pub loop-script-preserved : goal.loop-script-preserved
 loop-script-preserved g c =
     let inv = c.loop-script.invariant in
     let past : List SessionData = inv.0 in
-    let done : List (Script g.row.F.Denot) = inv.1 in
-    let script : Script g.row.F.Denot = c.in-Some.script in
+    let done : List (BoxedScript g.row.F.Denot) = inv.1 in
+    let script : BoxedScript g.row.F.Denot = c.in-Some.script in
     let session : SessionData = c.in-Some-pop.session in
     let one : Job g.row.F.Denot = c.in_ok-job.field-0 in
     let popped : c.loop-script.scripts.items ≡ c.pop.new.self.items ++ script ∷ [] = search rules in

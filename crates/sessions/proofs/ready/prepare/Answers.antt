@@ -1,7 +1,7 @@
 use Rattle.std.proofs.Common.{length, map, ap, ◌∙◌, arith}
 use Rattle.host_lock.specs.Sessions.{new_sessions}
 use Rattle.sessions.proofs.Pairing.{new_sessions_length, length_map}
-use Rattle.sessions.specs.Runs.{uid_of}
+use Rattle.sessions.specs.Boxed.{uid_of}
 use Rattle.sessions.proofs.ready.prepare.Goals as goal
 
 pub open_for-requires-after_bounds : goal.open_for-requires-after_bounds

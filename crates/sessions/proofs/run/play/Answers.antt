@@ -1,37 +1,42 @@
-use Rattle.std.proofs.Common.{◌≡◌, length, vec_len, eqb-true, sym, refl, ap, ◌∙◌, subst, arith, All}
-use Rattle.host_lock.specs.Sessions.{IsOf}
-use Rattle.sessions.specs.Jobs.{done_session}
+use Rattle.std.proofs.Common.{ℕ, List, length, sym, refl, ap, ◌∙◌, subst, arith, All}
+use Rattle.requests.specs.Machine.{Machine}
+use Rattle.host_lock.specs.declared.journal.Entry.{Entry}
+use Rattle.host_lock.specs.Journal.{IsLegal, replay}
+use Rattle.host_lock.specs.Sessions.{IsOf, IsBelow}
 use Rattle.host_lock.proofs.Totals.{all_of}
+use Rattle.sessions.specs.Boxed.{boxed_script}
+use Rattle.sessions.specs.Jobs.{done_session}
+use Rattle.sessions.proofs.Owned.{own_entries}
 use Rattle.sessions.proofs.Pairing.{ready, of_host, all_play, jobs_length, length_map, not_missing}
 use Rattle.sessions.proofs.run.play.Goals as goal
 
 pub run_all-requires-clause-jobs : goal.run_all-requires-clause-jobs
 run_all-requires-clause-jobs g c κs within =
     let e = c.in-Ok.ensures in
-    ready c.args.host c.in-Ok.ready.host.id c.in-Ok.ready.host c.args.scripts.items c.in-Ok.ready.jobs.items refl e.host.0 c.requires (e.sessions, e.steps, e.jobs)
+    ready c.args.host c.in-Ok.ready.host.id c.in-Ok.ready.host c.args.scripts.items c.in-Ok.ready.jobs.items refl e.host.0 c.requires.short (e.sessions, e.steps, e.jobs)
 
-pub close-requires-after_bounds : goal.close-requires-after_bounds
-close-requires-after_bounds g c κs within =
+pub finish-requires-after_bounds : goal.finish-requires-after_bounds
+finish-requires-after_bounds g c κs within =
     let e = c.in-Ok.ensures in
-    let can = ready c.args.host c.in-Ok.ready.host.id c.in-Ok.ready.host c.args.scripts.items c.in-Ok.ready.jobs.items refl e.host.0 c.requires (e.sessions, e.steps, e.jobs) in
+    let can = ready c.args.host c.in-Ok.ready.host.id c.in-Ok.ready.host c.args.scripts.items c.in-Ok.ready.jobs.items refl e.host.0 c.requires.short (e.sessions, e.steps, e.jobs) in
     let each = of_host c.args.host c.in-Ok.ready.host.id c.in-Ok.ready.host c.in-Ok.ready.jobs.items c.in-Some.done.items can c.in-Some.ensures.done in
     subst (All (IsOf c.in-Ok.ready.host)) (sym c.part-sessions.ensures.sessions) (all_of (IsOf c.in-Ok.ready.host) _ each)
 
-pub returns-clause-transcripts : goal.returns-clause-transcripts
-returns-clause-transcripts g c =
+pub returns-clause-ran : goal.returns-clause-ran
+returns-clause-ran g c =
     let e = c.in-Ok.ensures in
-    all_play c.args.host c.in-Ok.ready.host.id c.in-Ok-close.journal c.args.scripts.items c.in-Ok.ready.jobs.items c.in-Some.done.items (e.sessions, e.steps, e.jobs) c.in-Some.ensures.done
-    c.part-sessions.result.0.items c.part-sessions.result.1.items c.part-sessions.ensures.sessions c.part-sessions.ensures.transcripts c.in-Ok-close.ensures.sessions
-
-pub returns-then-is_empty-clause-entries : goal.returns-then-is_empty-clause-entries
-returns-then-is_empty-clause-entries g c = λ k d lt. let none = ap length c.empty.ensures in absurd (omega arith)
-
-pub returns-then-is_empty-clause-transcripts : goal.returns-then-is_empty-clause-transcripts
-returns-then-is_empty-clause-transcripts g c =
-    let none_yet = ap length c.new.ensures.items in
-    let empty : vec_len c.args.scripts ≡ 0 = eqb-true (vec_len c.args.scripts) 0 (sym c.is_empty.ensures ∙ c.if-is_empty.true) in
-    let none : length c.args.scripts.items ≡ 0 = omega (arith, empty) in
-    (none_yet ∙ sym none, λ k s t lt. absurd (omega (arith, none)))
+    let f = c.in-Ok-finish.ensures in
+    let log : List Entry = g.J.CallLog.entries c.in-Ok-finish.log in
+    let legal = subst (λ (m : Machine). IsLegal m log) e.host.0 f.legal in
+    let count = e.host.1 ∙ c.args.scripts.ok.0 ∙ sym (length_map boxed_script c.args.scripts.items) in
+    record {
+      legal = legal;
+      host = f.host ∙ ap (λ (m : Machine). replay m log) e.host.0;
+      entries = subst (λ (n : ℕ). All (IsBelow n) log) count f.entries;
+      transcripts = all_play c.args.host c.in-Ok.ready.host.id log c.args.scripts.items c.in-Ok.ready.jobs.items c.in-Some.done.items (e.sessions, e.steps, e.jobs) c.in-Some.ensures.done
+          c.part-sessions.result.0.items c.part-sessions.result.1.items c.part-sessions.ensures.sessions c.part-sessions.ensures.transcripts f.sessions;
+      own = own_entries c.args.host log c.kept.ensures f.users legal;
+    }
 
 pub run_all-requires-clause-room : goal.run_all-requires-clause-room
 run_all-requires-clause-room g c κs within =

@@ -1,7 +1,9 @@
-use Rattle.std.proofs.Common.{◌≡◌, ◌++◌, [], ◌∷◌, List, sym, subst, ap, ◌∙◌, arith, rules, append_assoc, append-nil, length-append, length, refl}
+use Rattle.std.proofs.Common.{◌≡◌, ◌++◌, [], ◌∷◌, List, sym, subst, ap, ◌∙◌, arith, rules, append_assoc, append-nil, length-append, length, map, refl}
+use mathlib.Core.List.{map-append}
 use Rattle.std.specs.Vec.Iter.{into_iter_items}
 use Rattle.std.proofs.lemmas.List.{nil_from_length}
 use Rattle.requests.specs.Plain.{PlainStep}
+use Rattle.sessions.specs.Boxed.{SmallStep, own_step}
 use Rattle.sessions.specs.Made.{Did}
 use Rattle.sessions.proofs.Scripts.{did_more}
 use Rattle.sessions.proofs.worker.work.Goals as goal
@@ -23,7 +25,7 @@ pub loop-step-preserved : goal.loop-step-preserved
 loop-step-preserved g c =
     let at = c.loop-step in
     let inv = at.invariant in
-    let s : PlainStep = c.in-Some.step in
+    let s : SmallStep = c.in-Some.step in
     let steps : into_iter_items at.step-iterator ≡ s ∷ into_iter_items c.next.new.self = c.in-Some.ensures.steps.0 in
     let less = ap length steps in
     let more = length-append at.yielded (s ∷ []) in
@@ -31,9 +33,13 @@ loop-step-preserved g c =
     let capacity = c.push_reserved.ensures.capacity in
     let few = inv.few in
     let room = inv.room in
+    let step = c.unboxed-step.result in
+    let longer : map own_step at.yielded ++ step ∷ [] ≡ map own_step (at.yielded ++ s ∷ []) =
+    ap (λ (x : PlainStep). map own_step at.yielded ++ x ∷ []) c.unboxed-step.ensures ∙ sym (map-append own_step at.yielded (s ∷ [])) in
     record {
       split = append_assoc at.yielded (s ∷ []) _ ∙ rw (← steps) inv.split;
-      did = did_more c.args.session at.session c.call.new.session at.yielded s at.replies.items c.push_reserved.new.self.items c.in-Reply.reply inv.did c.in-Reply.ensures.call c.push_reserved.ensures.items;
+      did = subst (λ (ss : List PlainStep). Did c.args.session ss c.push_reserved.new.self.items c.call.new.session) longer
+          (did_more c.args.session at.session c.call.new.session (map own_step at.yielded) step at.replies.items c.push_reserved.new.self.items c.in-Reply.reply inv.did c.in-Reply.ensures.call c.push_reserved.ensures.items);
       few = omega arith;
       room = omega arith;
     }
@@ -41,5 +47,5 @@ loop-step-preserved g c =
 pub returns : goal.returns
 returns g c =
     let none = nil_from_length _ (sym c.loop-step.step-iterator.rest.ok.0 ∙ c.in-None.ensures.steps.0) in
-    let all = sym (append-nil c.loop-step.yielded) ∙ ap (λ (xs : List PlainStep). c.loop-step.yielded ++ xs) (sym none) ∙ c.loop-step.invariant.split in
-    subst (λ (steps : List PlainStep). Did c.args.session steps c.loop-step.replies.items c.loop-step.session) all c.loop-step.invariant.did
+    let all = sym (append-nil c.loop-step.yielded) ∙ ap (λ (xs : List SmallStep). c.loop-step.yielded ++ xs) (sym none) ∙ c.loop-step.invariant.split in
+    subst (λ (steps : List SmallStep). Did c.args.session (map own_step steps) c.loop-step.replies.items c.loop-step.session) all c.loop-step.invariant.did

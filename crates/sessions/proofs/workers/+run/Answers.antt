@@ -1,13 +1,12 @@
-use Rattle.std.proofs.Common.{rules, ◌≡◌, ◌++◌, [], ◌∷◌, Vec, Global, sym, subst, ◌∙◌, arith}
+use Rattle.std.proofs.Common.{rules, ◌≡◌, ◌++◌, [], ◌∷◌, map, Vec, Global, sym, subst, ◌∙◌, arith}
 use denote.Param.{param}
 use denote.Param.Send.{IsSend, IsSync, param_send, sendable}
 use Rattle.std.proofs.Crossing.{crosses}
 use Rattle.stop_handlers.specs.contracts.handlers.Handler as Handler
-use Rattle.requests.specs.contracts.step.Step as Step
-use Rattle.requests.specs.Plain.{PlainStep}
+use Rattle.sessions.specs.Boxed.{SmallStep, own_step}
 use Rattle.host_lock.specs.contracts.host.SharedHost as SharedHost
 use Rattle.host_lock.specs.Sessions.{SessionData}
-use Rattle.host_lock.proofs.Crossing.{reply_send, session_send, step_send, host_sync}
+use Rattle.host_lock.proofs.Crossing.{reply_send, session_send, handler_send, host_sync}
 use Rattle.sessions.specs.declared.job.Job.{Job}
 use Rattle.sessions.specs.declared.job.Done.{Done}
 use Rattle.sessions.specs.declared.job.Plan.{Plan}
@@ -19,12 +18,12 @@ use Rattle.sessions.proofs.workers.+run.Goals as goal
 
 pub beside-scope-returns : goal.beside-scope-returns
 beside-scope-returns g t c =
-    let R : Job g.row.F.Denot → Done → Type 0 = λ j d. Did j.session j.steps.items d.replies.items d.session in
+    let R : Job g.row.F.Denot → Done → Type 0 = λ j d. Did j.session (map own_step j.steps.items) d.replies.items d.session in
     let job : Job g.row.F.Denot = record { session = c.captures.session; steps = c.captures.steps; replies = c.captures.replies } in
     let one : Done = c.join-one.result in
     let same : c.in_ok-child.child.promise ≡ c.captures.plan = search rules in
-    let P : Plan g.row.F.Denot → Type 0 = λ p. Did p.session.value p.steps.value.items one.replies.items one.session in
-    let Q : SessionData × Vec PlainStep Global → Type 0 = λ z. Did z.0 z.1.items one.replies.items one.session in
+    let P : Plan g.row.F.Denot → Type 0 = λ p. Did p.session.value (map own_step p.steps.value.items) one.replies.items one.session in
+    let Q : SessionData × Vec SmallStep Global → Type 0 = λ z. Did z.0 (map own_step z.1.items) one.replies.items one.session in
     let did : R job one = subst Q (λ i. (c.requires.plan.0 i, c.requires.plan.1 i)) (subst P same c.join-one.ensures) in
     let len = c.in_ok-all.ensures.room.0 in
     let more = c.push_reserved.ensures.len in record {
@@ -34,9 +33,9 @@ beside-scope-returns g t c =
 
 pub beside-scope-spawn_with-requires-send-F : goal.beside-scope-spawn_with-requires-send-F
 beside-scope-spawn_with-requires-send-F g t c κs within =
-    let r : IsSync (param 2 g.row.R) = c.requires.sync in
-    let step : IsSend (Step.the_row (Handler.the_row (param 0 g.row.F) g.F.Decider)) = step_send (param 0 g.row.F) g.F.Decider c.requires.send in
-    let host : IsSync (SharedHost.the_row (param 0 g.row.F) g.F.Decider) = host_sync (param 0 g.row.F) g.F.Decider c.requires.send in
-    let gate : IsSync (param 1 g.row.G) = search (crosses, sendable) depth 80 fits 100000 in
-    param_send 2 (arg-0-2 g.row.F g.row.G g.row.R g.F.laws g.G.laws g.R.laws g.F.Decider g.F.Decider-dict g.G.Gate g.G.Gate-dict g.R.Threads g.R.Threads-dict g.R.Wait g.R.Wait-dict g.F.Destruct-dict κs)
+    let r : IsSync (param 3 g.row.R) = c.requires.sync.0 in
+    let handler : IsSend (Handler.the_row (param 0 g.row.F) g.F.Decider) = handler_send (param 0 g.row.F) g.F.Decider c.requires.send.0 in
+    let host : IsSync (SharedHost.the_row (param 0 g.row.F) (param 1 g.row.J) g.F.Decider g.J.CallLog) = host_sync (param 0 g.row.F) (param 1 g.row.J) g.F.Decider g.J.CallLog c.requires.send.0 c.requires.send.1 in
+    let gate : IsSync (param 2 g.row.G) = c.requires.sync.1 in
+    param_send 2 (arg-0-2 g.row.F g.row.J g.row.G g.row.R g.F.laws g.J.laws g.G.laws g.R.laws g.F.Decider g.F.Decider-dict g.J.CallLog g.J.CallLog-dict g.G.Gate g.G.Gate-dict g.R.Threads g.R.Threads-dict g.R.Wait g.R.Wait-dict g.F.Destruct-dict g.J.Destruct-dict κs)
     (search (reply_send, session_send, crosses, sendable) depth 80 fits 100000)

@@ -1,7 +1,7 @@
 use Rattle.std.proofs.Common.{◌≡◌, ◌-◌, [], map}
 use Rattle.pid_blocks.specs.Blocks.{rising}
-use Rattle.threaded_runs.specs.Scripts.{plain_script}
+use Rattle.sessions.specs.Boxed.{boxed_script}
 use Rattle.threaded_runs.proofs.threading.empty_scripts.Given as goal
 
 abbrev pub invariant-loop-number : goal.invariant-loop-number
-invariant-loop-number g l = map plain_script l.scripts.items ≡ map (λ u. (u, [])) (rising (l.number - 1001) 1001)
+invariant-loop-number g l = map boxed_script l.scripts.items ≡ map (λ u. (u, [])) (rising (l.number - 1001) 1001)

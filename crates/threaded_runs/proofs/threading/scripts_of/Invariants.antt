@@ -4,7 +4,7 @@ use Rattle.pid_blocks.specs.Blocks.{users}
 use Rattle.requests.specs.Isolation.{Users}
 use Rattle.requests.specs.Plain.{PlainStep}
 use Rattle.scenario_text.specs.Plan.{filled, policies_in, asked as as_asked}
-use Rattle.threaded_runs.specs.Scripts.{plain_script}
+use Rattle.sessions.specs.Boxed.{boxed_script}
 use Rattle.threaded_runs.proofs.ScriptLemmas.{script_of}
 use Rattle.threaded_runs.proofs.threading.scripts_of.Given as goal
 
@@ -13,4 +13,4 @@ abbrev pub invariant-loop-shape : goal.invariant-loop-shape
 invariant-loop-shape g l =
     let left = filled (drop l.shape-index l.shapes) (into_iter_items l.rest) in
     (done : List (ℕ × PlainStep)) × (map as_asked done ++ left ≡ l.scenario.steps) × (policies_in left ≡ into_iter_items l.rest)
-    × Users (map as_asked done) × (map plain_script l.scripts.items ≡ map (script_of (map as_asked done)) users)
+    × Users (map as_asked done) × (map boxed_script l.scripts.items ≡ map (script_of (map as_asked done)) users)

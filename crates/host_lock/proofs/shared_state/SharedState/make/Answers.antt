@@ -1,5 +1,6 @@
-use Rattle.std.proofs.Common.{rules, ◌≡◌, List, [], ◌∷◌, ◌++◌, ◌∙◌, sym, subst}
+use Rattle.std.proofs.Common.{◌≡◌, List, [], ◌∷◌, ◌++◌, ◌∙◌, sym, ap, subst}
 use Rattle.requests.specs.Isolation.{Users}
+use Rattle.requests.specs.Plain.{PlainStep}
 use Rattle.host_lock.specs.declared.journal.Entry.{Entry}
 use Rattle.host_lock.specs.Journal.{asked, entry}
 use Rattle.host_lock.proofs.Logs.{made, users_more}
@@ -9,12 +10,20 @@ pub invariant_of-self-2 : goal.invariant_of-self-2
 invariant_of-self-2 g c =
     let did = c.in-Some.ensures.made in
     let e : Entry = entry c.args.user c.args.session c.args.step c.in-Some.copy in
-    let longer : c.push_reserved.new.self.items ≡ c.self.inside.journal ++ e ∷ [] = search rules in
-    let now = made c.self.inside.start.value c.as_mut.result.now c.answered.new.host c.self.inside.journal c.push_reserved.new.self.items e c.self.invariant.0 (c.as_mut.ensures.value ∙ c.self.invariant.1) (did.1 ∙ did.2) did.3 longer in
-    (now.0, now.1, subst (λ (l : List Entry). Users (asked l)) (sym longer) (users_more c.self.inside.journal e c.self.invariant.2 c.get-number.ensures.user))
+    let before : List Entry = g.J.CallLog.entries c.self.inside.journal in
+    let after : List Entry = g.J.CallLog.entries c.add.new.self in
+    let longer : after ≡ before ++ e ∷ [] =
+    c.add.ensures ∙ ap (λ (step : PlainStep). g.J.CallLog.entries c.make_room.new.self ++ entry c.args.user c.args.session step c.in-Some.copy ∷ []) c.requires.plain ∙ ap (λ (l : List Entry). l ++ e ∷ []) c.make_room.ensures.same in
+    let now = made c.self.inside.start.value c.as_mut.result.now c.answered.new.host before after e c.self.invariant.0 (c.as_mut.ensures.value ∙ c.self.invariant.1) (did.1 ∙ did.2) did.3 longer in
+    (now.0, now.1, subst (λ (l : List Entry). Users (asked l)) (sym longer) (users_more before e c.self.invariant.2 c.get-number.ensures.user))
 
 pub returns-clause-legal : goal.returns-clause-legal
 returns-clause-legal g c =
     let did = c.in-Some.ensures.made in
-    (made c.self.inside.start.value c.as_mut.result.now c.answered.new.host c.self.inside.journal c.push_reserved.new.self.items (entry c.args.user c.args.session c.args.step c.in-Some.copy)
-    c.self.invariant.0 (c.as_mut.ensures.value ∙ c.self.invariant.1) (did.1 ∙ did.2) did.3 (search rules)).0
+    let e : Entry = entry c.args.user c.args.session c.args.step c.in-Some.copy in
+    let before : List Entry = g.J.CallLog.entries c.self.inside.journal in
+    let after : List Entry = g.J.CallLog.entries c.add.new.self in
+    let longer : after ≡ before ++ e ∷ [] =
+    c.add.ensures ∙ ap (λ (step : PlainStep). g.J.CallLog.entries c.make_room.new.self ++ entry c.args.user c.args.session step c.in-Some.copy ∷ []) c.requires.plain ∙ ap (λ (l : List Entry). l ++ e ∷ []) c.make_room.ensures.same in
+    (made c.self.inside.start.value c.as_mut.result.now c.answered.new.host before after e
+    c.self.invariant.0 (c.as_mut.ensures.value ∙ c.self.invariant.1) (did.1 ∙ did.2) did.3 longer).0

@@ -9,13 +9,13 @@ use Rattle.host_lock.specs.Rule.{Each, Matches}
 use Rattle.host_lock.specs.Sessions.{InJournal}
 use Rattle.host_lock.proofs.Closings.{stand, each_reverse}
 use Rattle.host_lock.proofs.Totals.{all_of}
-use Rattle.host_lock.proofs.host.SharedHost.close.Goals as goal
+use Rattle.host_lock.proofs.host.SharedHost.finish.Goals as goal
 
 pub returns-clause-sessions : goal.returns-clause-sessions
 returns-clause-sessions g c =
     let got = c.join_seats-seat.ensures.seat in
     let log = c.take_state.result.log in
-    let at : c.join_seats-seat.result.me.0 ≡ _ = ap (λ (m : Me (Slot g.row.F.Denot) View). m.0) got.3 in
+    let at : c.join_seats-seat.result.me.0 ≡ _ = ap (λ (m : Me (Slot g.row.F.Denot g.row.J.Denot) View). m.0) got.3 in
     let seen = subst (λ (v : View). Each (StartsWith log) v.seen) at c.take_state.ensures.seen in
     let owns = subst (λ (v : View). Each (Matches c.self.inside.table.shared.key.sessions log) v.owns) at c.take_state.ensures.owns in
     let all : Each (InJournal log) c.args.sessions.items = subst (Each (InJournal log)) (sym got.2) (each_reverse (InJournal log) got.0 (stand c.self.inside.table.shared.key.sessions log got.0 seen owns)) in
