@@ -1,3 +1,4 @@
+pub mod FirstTokens
 pub mod Keys
 pub mod Lookups
 pub mod Loops

@@ -1,18 +1,24 @@
 -- The data that `serde_json` reads from a JSON value whose numbers are all in range.
-use Rattle.std.specs.Prelude.{ℕ, ◌&&◌, List, Bool, true, false, Option, Some, None, is_some, map}
+use Rattle.std.specs.Prelude.{◌≡◌, ℕ, ℤ, ◌&&◌, List, ◌∷◌, length, Bool, true, false, Option, Some, None, is_some, map, option_map, option_and_then}
 use Rattle.std.specs.Borrow.{Bor}
 use Rattle.std.specs.List.{list_any}
 use Rattle.std.specs.Str.{bytes_eq}
 use Rattle.json.specs.Json as json
+use Rattle.json.specs.Token.{Token}
 use Rattle.json.specs.Value.{value_view, members_view}
 use Rattle.json.specs.declared.error.Error.{Error}
 use Rattle.json.specs.declared.error.Error.TheVariants as error
 use Rattle.json.specs.declared.value.Value.{Value}
 use Rattle.serde_json.specs.Data.{Num, Data, null, boolean, number, string, array, object, Items, no_items, item, Members, no_members, member, put}
-use Rattle.serde_json.specs.Read.{number_of}
+use Rattle.serde_json.specs.Find.{as_i64, as_number, as_str, as_array, as_object}
+use Rattle.serde_json.specs.Read.{of_json, of_items, of_members, number_of, converted}
 use Rattle.serde_json.specs.View.{items_of}
 use Rattle.json_values.specs.declared.reading.Refusal.{Refusal}
 use Rattle.json_values.specs.declared.reading.Refusal.TheVariants.{Invalid, Memory}
+use Rattle.json_values.specs.declared.scalars.Scalar.{Scalar}
+use Rattle.json_values.specs.declared.scalars.Scalar.TheVariants as scalar
+use Rattle.json_values.specs.declared.scalars.Opening.{Opening}
+use Rattle.json_values.specs.declared.scalars.Opening.TheVariants as opening
 
 abbrev pub number_data : Option Num → Data
 number_data None = null
@@ -86,3 +92,52 @@ refusal error.Invalid = Invalid
 refusal error.OutOfMemory = Memory
 refusal error.TooLong = Memory
 refusal error.DuplicateKey = Invalid
+
+-- ---- values that are read without memory
+
+-- the integer that a scalar is
+abbrev pub integer_in : Scalar → Option ℤ
+integer_in (scalar.Integer z) = Some z
+integer_in (scalar.Text s) = None
+integer_in scalar.Other = None
+
+-- the text that a scalar is
+abbrev pub text_in : Scalar → Option (List ℕ)
+text_in (scalar.Integer z) = None
+text_in (scalar.Text s) = Some s.now
+text_in scalar.Other = None
+
+-- the scalar says which integer or which text a value is, if it is one
+pub record Says (s : Scalar) (d : Data) : Type 0 where
+  pub integer : integer_in s ≡ option_and_then as_i64 (as_number d)
+  pub text : text_in s ≡ as_str d
+
+-- the number that was read, in range, is the one that the scalar says
+abbrev pub IsNumber : Scalar → Option Num → Type 0
+IsNumber s read = (n : Num) × (read ≡ Some n) × Says s (number n)
+
+-- the tokens begin with a value that is no array and no object, and the scalar says what it is
+pub record IsScalar (s : Scalar) (tokens left : List Token) : Type 0 where
+  pub value : Data
+  pub read : (depth : ℕ) → converted of_json (json.value depth tokens) ≡ Some (value, left)
+  pub says : Says s value
+  pub no_array : as_array value ≡ None
+  pub no_object : as_object value ≡ None
+
+-- the tokens begin with the opening, and `left` follows it
+abbrev pub Opens : Opening → List Token → List Token → Type 0
+Opens opening.Array tokens left = tokens ≡ Token.begin_array ∷ left
+Opens opening.Object tokens left = tokens ≡ Token.begin_object ∷ left
+Opens (opening.Scalar s) tokens left = IsScalar s tokens left
+
+-- the items of an array, behind its bracket
+abbrev pub read_items : ℕ → List Token → Option (Items × List Token)
+read_items depth tokens = converted of_items (json.items (json.value depth) (length tokens) tokens)
+
+-- the members of an object, behind its brace
+abbrev pub read_members : ℕ → List Token → Option (Members × List Token)
+read_members depth tokens = converted (λ ms. of_members ms no_members) (json.members (json.value depth) (length tokens) tokens)
+
+-- the tokens that follow what was read
+abbrev pub rest : {A : Type 0} → Option (A × List Token) → Option (List Token)
+rest read = option_map (λ p. p.1) read

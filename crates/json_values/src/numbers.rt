@@ -1,10 +1,11 @@
 //! Numbers read from their texts.
-ghost use Rattle.std.specs.Prelude.{◌≡◌, ◌<◌, ◌≤◌, ◌^◌, ◌==◌, true, false, Some, IfSome, IsTrue, is_some, option_and_then, slice_index, length};
+ghost use Rattle.std.specs.Prelude.{◌≡◌, ◌<◌, ◌≤◌, ◌^◌, ◌==◌, true, false, Some, None, IfSome, IfOk, OnErr, IsTrue, is_some, option_and_then, slice_index, length};
 ghost use Rattle.std.specs.Str.Parse.{AllDigits, digits_value};
 ghost use Rattle.serde_json.specs.Find.{as_i64};
 ghost use Rattle.serde_json.specs.Read.{number_of, number_from, float_of};
 
 use fast_float::Numeral;
+use json::Invalid;
 
 fn has_minus(bytes: &[u8]) -> bool
     ensures { result ≡ (slice_index bytes.now 0 == 45) }
@@ -145,5 +146,36 @@ fn any_is_in_range(text: &str) -> bool
         negative_in_range(&numeral)
     } else {
         unsigned_in_range(&numeral)
+    }
+}
+
+/// Reads a number at one pass: a whole number that fits in `i64`, or `None` for another one that has a value.
+#[inline(always)]
+#[tactic(auto, using(crate::proofs::NumberTexts::integer_is_number))]
+pub(crate) fn number(text: &str) -> Result<Option<i64>, Invalid>
+    ensures ok { IfOk result (λ z. (is_some (number_of text.now) ≡ true) × (z ≡ option_and_then as_i64 (number_of text.now))) }
+    ensures invalid { OnErr result (number_of text.now ≡ None) }
+{
+    match short_integer(text.as_bytes()) {
+        Some(number) => Ok(Some(number)),
+        None => any_number(text),
+    }
+}
+
+#[tactic(auto, using(crate::proofs::NumberTexts::integer_is_number))]
+fn any_number(text: &str) -> Result<Option<i64>, Invalid>
+    ensures ok { IfOk result (λ z. (is_some (number_of text.now) ≡ true) × (z ≡ option_and_then as_i64 (number_of text.now))) }
+    ensures invalid { OnErr result (number_of text.now ≡ None) }
+{
+    let (is_negative, numeral) = scanned(text);
+    let (integer, is_in_range) = if is_negative {
+        (negative(&numeral), negative_in_range(&numeral))
+    } else {
+        (unsigned(&numeral), unsigned_in_range(&numeral))
+    };
+    if is_in_range {
+        Ok(integer)
+    } else {
+        Err(Invalid)
     }
 }
