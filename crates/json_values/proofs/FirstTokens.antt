@@ -1,5 +1,5 @@
 -- What the first token of a value says of it.
-use Rattle.std.proofs.Common.{◌≡◌, ◌⊎◌, inl, inr, ℕ, ◌-◌, ◌<◌, List, [], ◌∷◌, length, Bool, Bor, Some, None, option_map, refl, ap, ap₂, ◌∙◌, subst}
+use Rattle.std.proofs.Common.{◌≡◌, ◌⊎◌, inl, inr, ℕ, ℤ, ◌-◌, ◌<◌, List, [], ◌∷◌, length, Bool, Bor, Some, None, option_map, option_and_then, refl, ap, ap₂, ◌∙◌, subst}
 use Rattle.json.specs.Token.{Token}
 use Rattle.json.specs.Json.{items, members, parse_map, value}
 use Rattle.json.specs.Reads.{token_of}
@@ -7,6 +7,7 @@ use Rattle.json.specs.declared.token.Token as json_token
 use Rattle.json.specs.declared.token.Token.TheVariants as json_variant
 use Rattle.json.proofs.Grammar.{left_some, value-begin_array, value-begin_object, value_is}
 use Rattle.serde_json.specs.Data.{Data, null, boolean, number, string, array, object}
+use Rattle.serde_json.specs.Find.{as_i64, as_number, as_str, as_array, as_object}
 use Rattle.serde_json.specs.Read.{of_json, number_of, converted}
 use Rattle.json_values.specs.Reading.{IsNumber, IsScalar, Opens, Says, read_items, read_members, rest}
 use Rattle.json_values.specs.declared.scalars.Opening.{Opening}
@@ -109,3 +110,21 @@ module _ (depth : ℕ) (o : Opening) (ts left : List Token) (deep : 0 < depth) (
   failed_object e none =
       let first : ts ≡ Token.begin_object ∷ left = subst (λ x. Opens x ts left) e opens in
       object_value depth ts left deep first ∙ ap (parse_map object) none
+
+-- ---- an integer or a text is no array and no object
+
+pub integer_is_plain : (d : Data) (z : ℤ) → Some z ≡ option_and_then as_i64 (as_number d) → (as_array d ≡ None) × (as_object d ≡ None)
+integer_is_plain null z e = absurd (cc)
+integer_is_plain (boolean b) z e = absurd (cc)
+integer_is_plain (number n) z e = (refl, refl)
+integer_is_plain (string s) z e = absurd (cc)
+integer_is_plain (array ds) z e = absurd (cc)
+integer_is_plain (object ms) z e = absurd (cc)
+
+pub text_is_plain : (d : Data) (s : List ℕ) → Some s ≡ as_str d → (as_array d ≡ None) × (as_object d ≡ None)
+text_is_plain null s e = absurd (cc)
+text_is_plain (boolean b) s e = absurd (cc)
+text_is_plain (number n) s e = absurd (cc)
+text_is_plain (string t) s e = (refl, refl)
+text_is_plain (array ds) s e = absurd (cc)
+text_is_plain (object ms) s e = absurd (cc)

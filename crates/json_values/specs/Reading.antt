@@ -93,7 +93,7 @@ refusal error.OutOfMemory = Memory
 refusal error.TooLong = Memory
 refusal error.DuplicateKey = Invalid
 
--- ---- values that are read without memory
+-- ---- values that are read without an allocation
 
 -- the integer that a scalar is
 abbrev pub integer_in : Scalar → Option ℤ

@@ -1,4 +1,4 @@
-//! Values that are read without memory.
+//! Values that are read without an allocation.
 ghost use Rattle.std.specs.Prelude.{◌≡◌, ◌<◌, ℕ, None, Some, IfOk, OnOk, OnErr, MatchResult, length};
 ghost use Rattle.json.specs.Json.{value};
 ghost use Rattle.serde_json.specs.Data.{Data};
@@ -8,11 +8,12 @@ ghost use Rattle.json_values.specs.Reading.{IsNumber, Opens, Says, read_items, r
 use crate::numbers::number;
 use json::{Invalid, Reader, Token};
 
-/// A value, as far as it is known without memory.
+/// A value, as far as it is known without an allocation.
 #[derive(Clone, Copy, Debug, Drop)]
 pub enum Scalar<'a> {
     /// A whole number that fits in `i64`.
     Integer(i64),
+    /// A string.
     Text(&'a str),
     /// Any other value.
     Other,
@@ -27,6 +28,7 @@ pub enum Opening<'a> {
     Scalar(Scalar<'a>),
 }
 
+/// Reads a number, which must not be too large.
 #[inline(always)]
 fn number_scalar<'a>(text: &str) -> Result<Scalar<'a>, Invalid>
     ensures ok { IfOk result (λ s. IsNumber s (number_of text.now)) }
@@ -56,8 +58,8 @@ pub fn open_value<'a>(reader: &mut Reader<'a>) -> Result<Opening<'a>, Invalid>
     }
 }
 
-/// Reads the next value without memory. Arrays and objects may nest `depth` deep. After an error the reader is at
-/// some later token, or has no more tokens.
+/// Reads the next value, and allocates nothing. Arrays and objects may nest `depth` deep. After an error the reader
+/// is at some later token, or has no more tokens.
 #[cycle(pass)]
 #[inline(always)]
 pub fn next_scalar<'a>(reader: &mut Reader<'a>, depth: usize) -> Result<Scalar<'a>, Invalid>
@@ -86,7 +88,7 @@ pub fn next_scalar<'a>(reader: &mut Reader<'a>, depth: usize) -> Result<Scalar<'
 /// Passes over the items of an array, and over its closing bracket.
 #[cycle(pass)]
 #[inline(never)]
-fn pass_items(reader: &mut Reader<'_>, depth: usize) -> Result<(), Invalid>
+pub fn pass_items(reader: &mut Reader<'_>, depth: usize) -> Result<(), Invalid>
     ensures value { MatchResult result (λ _. rest (read_items depth reader.old) ≡ Some reader.new) (λ _. read_items depth reader.old ≡ None) }
     ensures shorter { OnOk result (length reader.new < length reader.old) }
 {
@@ -99,7 +101,7 @@ fn pass_items(reader: &mut Reader<'_>, depth: usize) -> Result<(), Invalid>
 /// Passes over the members of an object, and over its closing brace.
 #[cycle(pass)]
 #[inline(never)]
-fn pass_members(reader: &mut Reader<'_>, depth: usize) -> Result<(), Invalid>
+pub fn pass_members(reader: &mut Reader<'_>, depth: usize) -> Result<(), Invalid>
     ensures value { MatchResult result (λ _. rest (read_members depth reader.old) ≡ Some reader.new) (λ _. read_members depth reader.old ≡ None) }
     ensures shorter { OnOk result (length reader.new < length reader.old) }
 {
@@ -109,7 +111,7 @@ fn pass_members(reader: &mut Reader<'_>, depth: usize) -> Result<(), Invalid>
     Ok(())
 }
 
-/// Passes over the next value, and checks it as `serde_json` does. It takes no memory. Arrays and objects may nest
+/// Passes over the next value, and checks it as `serde_json` does. It allocates nothing. Arrays and objects may nest
 /// `depth` deep.
 #[inline(always)]
 pub fn pass_value(reader: &mut Reader<'_>, depth: usize) -> Result<(), Invalid>
@@ -117,6 +119,5 @@ pub fn pass_value(reader: &mut Reader<'_>, depth: usize) -> Result<(), Invalid>
     ensures shorter { OnOk result (length reader.new < length reader.old) }
     ensures invalid { OnErr result (converted of_json (value depth reader.old) ≡ None) }
 {
-    next_scalar(reader, depth)?;
-    Ok(())
+    next_scalar(reader, depth).map(|_| ())
 }
