@@ -65,16 +65,6 @@ fn short_integer(bytes: &[u8]) -> Option<i64>
     Some(-(number as i64))
 }
 
-/// Returns the whole number of a text, or `None` if it has none that fits in `i64`.
-pub(crate) fn integer_of(text: &str) -> Option<i64>
-    ensures { result ≡ option_and_then as_i64 (number_of text.now) }
-{
-    match short_integer(text.as_bytes()) {
-        Some(number) => Some(number),
-        None => any_integer(text),
-    }
-}
-
 /// Returns whether a text begins with a minus, and the numeral after it.
 fn scanned(text: &str) -> (bool, Numeral<'_>)
     ensures { number_from result.0 result.1 ≡ number_of text.now }
@@ -84,17 +74,6 @@ fn scanned(text: &str) -> (bool, Numeral<'_>)
         (true, Numeral::scan(&bytes[1..]))
     } else {
         (false, Numeral::scan(bytes))
-    }
-}
-
-fn any_integer(text: &str) -> Option<i64>
-    ensures { result ≡ option_and_then as_i64 (number_of text.now) }
-{
-    let (is_negative, numeral) = scanned(text);
-    if is_negative {
-        negative(&numeral)
-    } else {
-        unsigned(&numeral)
     }
 }
 
@@ -108,45 +87,6 @@ fn negative_in_range(numeral: &Numeral<'_>) -> bool
     ensures { result ≡ is_some (number_from true numeral.now) }
 {
     negative(numeral).is_some() || is_finite(true, numeral)
-}
-
-/// Tests whether a text is a few digits, as nearly all numbers are. `false` decides nothing.
-#[inline(always)]
-fn are_few_digits(bytes: &[u8]) -> bool
-    ensures { result ≡ true → (0 < length bytes.now) × (length bytes.now ≤ 18) × AllDigits 10 bytes.now }
-{
-    if bytes.is_empty() || bytes.len() > 18 {
-        return false;
-    }
-    for byte in bytes {
-        if !byte.is_ascii_digit() {
-            return false;
-        }
-    }
-    true
-}
-
-/// Tests whether the number of a text has a value: a float must not be too large.
-#[tactic(auto, using(crate::proofs::NumberTexts::integer_is_number))]
-pub(crate) fn is_in_range(text: &str) -> bool
-    ensures { result ≡ is_some (number_of text.now) }
-{
-    let bytes = text.as_bytes();
-    if are_few_digits(bytes) {
-        return true;
-    }
-    short_integer(bytes).is_some() || any_is_in_range(text)
-}
-
-fn any_is_in_range(text: &str) -> bool
-    ensures { result ≡ is_some (number_of text.now) }
-{
-    let (is_negative, numeral) = scanned(text);
-    if is_negative {
-        negative_in_range(&numeral)
-    } else {
-        unsigned_in_range(&numeral)
-    }
 }
 
 /// Reads a number at one pass: a whole number that fits in `i64`, or `None` for another one that has a value.
