@@ -1,5 +1,5 @@
 -- Which keys an object has, once a member is put into it, and which keys are among others.
-use Rattle.std.proofs.Common.{◌≡◌, ℕ, zero, suc, ◌<◌, List, [], ◌∷◌, length, map, get_or, Bor, arith, Bool, true, false, ◌&&◌, ◌||◌, Ordering, Less, Equal, Greater, nat_cmp, is_eq, refl, sym, ap, ◌∙◌}
+use Rattle.std.proofs.Common.{◌≡◌, ℕ, List, Bool, true, false, ◌&&◌, Ordering, Less, Equal, Greater, nat_cmp, is_eq, refl, sym, ap, ◌∙◌}
 use Rattle.std.proofs.lemmas.Map.Text.{is_eq-slice_cmp}
 use Rattle.std.proofs.lemmas.Slice.Eq.{bytes_eq-Decides}
 use Rattle.std.specs.Cmp.Lexicographic.{slice_cmp}
@@ -32,13 +32,3 @@ put_at Greater keys k l d e ms is later =
 pub members_among-put : (keys : List (List ℕ)) (k : List ℕ) (d : Data) (ms : Members) → members_among keys (put k d ms) ≡ (list_any (bytes_eq k) keys && members_among keys ms)
 members_among-put keys k d no_members = refl
 members_among-put keys k d (member l e ms) = put_at _ keys k l d e ms refl (members_among-put keys k d ms)
-
-or_true : (a : Bool) → (a || true) ≡ true
-or_true true = refl
-or_true false = refl
-
--- a key that equals one of these
-pub list_any-at : (k : List ℕ) (keys : List (Bor (List ℕ))) (i : ℕ) (d : Bor (List ℕ)) → i < length keys → bytes_eq k (get_or keys i d).now ≡ true → list_any (bytes_eq k) (map (λ b. b.now) keys) ≡ true
-list_any-at k [] i d h e = absurd (omega (arith, h))
-list_any-at k (b ∷ bs) zero d h e = ap (λ a. a || list_any (bytes_eq k) (map (λ c. c.now) bs)) e
-list_any-at k (b ∷ bs) (suc i) d h e = ap (λ a. bytes_eq k b.now || a) (list_any-at k bs i d (omega (arith, h)) e) ∙ or_true (bytes_eq k b.now)

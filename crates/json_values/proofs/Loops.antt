@@ -1,9 +1,9 @@
 -- An array or an object that is read an item or a member at a time, with the data that is read from each.
-use Rattle.std.proofs.Common.{◌≡◌, ℕ, ◌-◌, ◌<◌, ◌≤◌, List, length, Option, Some, None, option_map, refl, ap, ◌∙◌, rules}
+use Rattle.std.proofs.Common.{◌≡◌, ℕ, zero, suc, ◌-◌, ◌<◌, ◌≤◌, List, length, Option, Some, None, option_map, refl, ap, ◌∙◌, arith, rules}
 use Rattle.json.specs.Token.{Token}
 use Rattle.json.specs.Json as json
 use Rattle.json.specs.Json.{Parse, parse_map, after_end_array, read_key, items, members}
-use Rattle.json.proofs.Grammar.{items_end, items_more, members_end, members_more}
+use Rattle.json.proofs.Grammar.{left, left-parse_map, items_end, items_fail, items_more, members_end, members_fail, members_more, members_no_key}
 use Rattle.serde_json.specs.Data.{Data, array, object, no_items, item, Members, no_members, put}
 use Rattle.serde_json.specs.Read.{of_json, of_items, of_members, converted}
 
@@ -52,3 +52,56 @@ next_member p found n k ts after left j d some key one is =
 
 pub last_member : (p : Parse json.Json) (found : Members) (n : ℕ) (ts left : List Token) → length ts ≤ n → read_key ts ≡ Some (None, left) → converted (λ ms. of_members ms found) (members p n ts) ≡ Some (found, left)
 last_member p found n ts left enough over = ap (converted (λ ms. of_members ms found)) (members_end p n ts left enough over)
+
+-- ---- where an item or a member has no data
+
+unmapped : {A : Type 0} (o : Option A) (r : List Token) → option_map {U = A × List Token} (λ a. (a, r)) o ≡ None → o ≡ None
+unmapped None r e = refl
+unmapped (Some a) r e = absurd (cc)
+
+-- the value isn't JSON, or a number in it is too large
+what_failed : {P : Type 0} (o : Option (json.Json × List Token)) → converted of_json o ≡ None → (o ≡ None → P) → ((j : json.Json) (r : List Token) → o ≡ Some (j, r) → of_json j ≡ None → P) → P
+what_failed None e no_value beyond = no_value refl
+what_failed (Some p) e no_value beyond = beyond p.0 p.1 refl (unmapped (of_json p.0) p.1 e)
+
+none_behind_item : (j : json.Json) (o : Option (json.Items × List Token)) → of_json j ≡ None → converted of_items (parse_map (json.item j) o) ≡ None
+none_behind_item j None is = refl
+none_behind_item j (Some p) is = rw is refl
+
+none_behind_member : (k : List ℕ) (j : json.Json) (found : Members) (o : Option (json.Members × List Token)) → of_json j ≡ None → converted (λ ms. of_members ms found) (parse_map (json.member k j) o) ≡ None
+none_behind_member k j found None is = refl
+none_behind_member k j found (Some p) is = rw is refl
+
+pub next_item_fails : (p : Parse json.Json) (n : ℕ) (ts : List Token) → after_end_array ts ≡ None → converted of_json (p ts) ≡ None → converted of_items (items p n ts) ≡ None
+unfolding items
+next_item_fails p zero ts going none = refl
+next_item_fails p (suc n) ts going none =
+    what_failed (p ts) none
+    (λ e. ap (converted of_items) (items_fail p (suc n) ts going e))
+    (λ j r one is. ap (converted of_items) (items_more p (suc n) ts r j (omega arith) going one) ∙ none_behind_item j _ is)
+
+pub next_member_fails : (p : Parse json.Json) (found : Members) (n : ℕ) (k : List ℕ) (ts after : List Token) → read_key ts ≡ Some (Some k, after) → converted of_json (p after) ≡ None
+    → converted (λ ms. of_members ms found) (members p n ts) ≡ None
+unfolding members
+next_member_fails p found zero k ts after key none = refl
+next_member_fails p found (suc n) k ts after key none =
+    what_failed (p after) none
+    (λ e. ap (converted (λ ms. of_members ms found)) (members_fail p (suc n) k ts after key e))
+    (λ j r one is. ap (converted (λ ms. of_members ms found)) (members_more p (suc n) k ts after r j (omega arith) key one) ∙ none_behind_member k j found _ is)
+
+pub no_key : (p : Parse json.Json) (found : Members) (n : ℕ) (ts : List Token) → read_key ts ≡ None → converted (λ ms. of_members ms found) (members p n ts) ≡ None
+no_key p found n ts none = ap (converted (λ ms. of_members ms found)) (members_no_key p n ts none)
+
+-- ---- an item that is passed over
+
+pub pass_item : (p : Parse json.Json) (n : ℕ) (ts r : List Token) (d : Data) → 0 < n → after_end_array ts ≡ None → converted of_json (p ts) ≡ Some (d, r)
+    → left (converted of_items (items p n ts)) ≡ left (converted of_items (items p (n - 1) r))
+pass_item p n ts r d some going was =
+    let j = what_was_read (p ts) d r was in
+    ap left (next_item p n ts r j.0 d some going j.1 j.2) ∙ left-parse_map (item d) _
+
+pub pass_member : (p : Parse json.Json) (found : Members) (n : ℕ) (k : List ℕ) (ts after r : List Token) (d : Data) → 0 < n → read_key ts ≡ Some (Some k, after) → converted of_json (p after) ≡ Some (d, r)
+    → converted (λ ms. of_members ms found) (members p n ts) ≡ converted (λ ms. of_members ms (put k d found)) (members p (n - 1) r)
+pass_member p found n k ts after r d some key was =
+    let j = what_was_read (p after) d r was in
+    next_member p found n k ts after r j.0 d some key j.1 j.2

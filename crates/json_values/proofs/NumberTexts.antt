@@ -1,7 +1,5 @@
 -- A number by its text, with or without a minus.
 use Rattle.std.proofs.Common.{pos, neg_ℤ, ◌≡◌, ℕ, ℤ, ◌^◌, ◌<◌, ◌≤◌, ◌==◌, List, [], ◌∷◌, length, drop, get_or, true, false, Option, Some, None, is_some, option_and_then, refl, sym, subst, ap, ◌∙◌, arith, append-nil, lt-ltb, ne_eqb, le-leb}
-use Rattle.std.proofs.Math.Nat.{pow-le-pow_right}
-use Rattle.std.proofs.lemmas.Int.Digits.{digits_value-lt}
 use Rattle.std.specs.Char.{digit_value}
 use Rattle.std.specs.Str.Parse.{AllDigits, digits_value}
 use Rattle.serde_json.specs.Data.{Num, unsigned, negative}
@@ -68,9 +66,3 @@ integer_of-negative s t n first tail h some is above small =
 pub integer_is_number : (o : Option Num) (z : ℤ) → option_and_then as_i64 o ≡ Some z → is_some o ≡ true
 integer_is_number None z e = absurd (cc)
 integer_is_number (Some n) z e = refl
-
-pub few_digits_in_range : (s : List ℕ) → (0 < length s) × (length s ≤ 18) × AllDigits 10 s → is_some (number_of s) ≡ true
-few_digits_in_range s h =
-    let below : digits_value 10 s < 10 ^ length s = digits_value-lt 10 s h.2 in
-    let most : 10 ^ length s ≤ 10 ^ 18 = pow-le-pow_right {n = 10} (omega arith) h.1 in
-    ap is_some (number_of-digits s h.2 h.0 (omega (arith, below, most)))

@@ -1,10 +1,11 @@
 //! Numbers read from their texts.
-ghost use Rattle.std.specs.Prelude.{◌≡◌, ◌<◌, ◌≤◌, ◌^◌, ◌==◌, true, false, Some, IfSome, IsTrue, is_some, option_and_then, slice_index, length};
+ghost use Rattle.std.specs.Prelude.{◌≡◌, ◌<◌, ◌≤◌, ◌^◌, ◌==◌, true, false, Some, None, IfSome, IfOk, OnErr, IsTrue, is_some, option_and_then, slice_index, length};
 ghost use Rattle.std.specs.Str.Parse.{AllDigits, digits_value};
 ghost use Rattle.serde_json.specs.Find.{as_i64};
 ghost use Rattle.serde_json.specs.Read.{number_of, number_from, float_of};
 
 use fast_float::Numeral;
+use json::Invalid;
 
 fn has_minus(bytes: &[u8]) -> bool
     ensures { result ≡ (slice_index bytes.now 0 == 45) }
@@ -64,16 +65,6 @@ fn short_integer(bytes: &[u8]) -> Option<i64>
     Some(-(number as i64))
 }
 
-/// Returns the whole number of a text, or `None` if it has none that fits in `i64`.
-pub(crate) fn integer_of(text: &str) -> Option<i64>
-    ensures { result ≡ option_and_then as_i64 (number_of text.now) }
-{
-    match short_integer(text.as_bytes()) {
-        Some(number) => Some(number),
-        None => any_integer(text),
-    }
-}
-
 /// Returns whether a text begins with a minus, and the numeral after it.
 fn scanned(text: &str) -> (bool, Numeral<'_>)
     ensures { number_from result.0 result.1 ≡ number_of text.now }
@@ -83,17 +74,6 @@ fn scanned(text: &str) -> (bool, Numeral<'_>)
         (true, Numeral::scan(&bytes[1..]))
     } else {
         (false, Numeral::scan(bytes))
-    }
-}
-
-fn any_integer(text: &str) -> Option<i64>
-    ensures { result ≡ option_and_then as_i64 (number_of text.now) }
-{
-    let (is_negative, numeral) = scanned(text);
-    if is_negative {
-        negative(&numeral)
-    } else {
-        unsigned(&numeral)
     }
 }
 
@@ -109,41 +89,33 @@ fn negative_in_range(numeral: &Numeral<'_>) -> bool
     negative(numeral).is_some() || is_finite(true, numeral)
 }
 
-/// Tests whether a text is a few digits, as nearly all numbers are. `false` decides nothing.
+/// Reads a number at one pass: a whole number that fits in `i64`, or `None` for another one that has a value.
 #[inline(always)]
-fn are_few_digits(bytes: &[u8]) -> bool
-    ensures { result ≡ true → (0 < length bytes.now) × (length bytes.now ≤ 18) × AllDigits 10 bytes.now }
-{
-    if bytes.is_empty() || bytes.len() > 18 {
-        return false;
-    }
-    for byte in bytes {
-        if !byte.is_ascii_digit() {
-            return false;
-        }
-    }
-    true
-}
-
-/// Tests whether the number of a text has a value: a float must not be too large.
 #[tactic(auto, using(crate::proofs::NumberTexts::integer_is_number))]
-pub(crate) fn is_in_range(text: &str) -> bool
-    ensures { result ≡ is_some (number_of text.now) }
+pub(crate) fn number(text: &str) -> Result<Option<i64>, Invalid>
+    ensures ok { IfOk result (λ z. (is_some (number_of text.now) ≡ true) × (z ≡ option_and_then as_i64 (number_of text.now))) }
+    ensures invalid { OnErr result (number_of text.now ≡ None) }
 {
-    let bytes = text.as_bytes();
-    if are_few_digits(bytes) {
-        return true;
+    match short_integer(text.as_bytes()) {
+        Some(number) => Ok(Some(number)),
+        None => any_number(text),
     }
-    short_integer(bytes).is_some() || any_is_in_range(text)
 }
 
-fn any_is_in_range(text: &str) -> bool
-    ensures { result ≡ is_some (number_of text.now) }
+#[tactic(auto, using(crate::proofs::NumberTexts::integer_is_number))]
+fn any_number(text: &str) -> Result<Option<i64>, Invalid>
+    ensures ok { IfOk result (λ z. (is_some (number_of text.now) ≡ true) × (z ≡ option_and_then as_i64 (number_of text.now))) }
+    ensures invalid { OnErr result (number_of text.now ≡ None) }
 {
     let (is_negative, numeral) = scanned(text);
-    if is_negative {
-        negative_in_range(&numeral)
+    let (integer, is_in_range) = if is_negative {
+        (negative(&numeral), negative_in_range(&numeral))
     } else {
-        unsigned_in_range(&numeral)
+        (unsigned(&numeral), unsigned_in_range(&numeral))
+    };
+    if is_in_range {
+        Ok(integer)
+    } else {
+        Err(Invalid)
     }
 }

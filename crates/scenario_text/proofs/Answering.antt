@@ -1,5 +1,5 @@
 -- From the plan of a value to the scenario of the bytes.
-use Rattle.std.proofs.Common.{◌≡◌, List, ℕ, Result, Ok, Err, Option, Some, None, IfSome, ◌<◌, ◌≤◌, ◌+◌, ◌++◌, [], length, ◌∙◌, inl, inr, refl, ap, sym, subst, arith}
+use Rattle.std.proofs.Common.{◌≡◌, List, ℕ, Result, Err, Option, Some, None, IfSome, ◌<◌, ◌≤◌, ◌+◌, ◌++◌, [], length, ◌∙◌, inl, inr, refl, ap, sym, subst, arith}
 use Rattle.std.proofs.lemmas.List.{length-append, append_assoc}
 use Rattle.std.specs.Io.KnownBytes.{Consumes}
 use Rattle.scenario_text.specs.declared.fault.Fault.{Fault}

@@ -1,7 +1,7 @@
-pub mod CountLemmas
 pub mod Answering
 pub mod RetryLemmas
-pub mod ItemLemmas
-pub mod MemberLemmas
-pub mod ObjectLemmas
 pub mod FilledLemmas
+pub mod ReadLoops
+pub mod Lists
+pub mod KeyLemmas
+pub mod Plans

@@ -1,4 +1,5 @@
 pub mod Fields
+pub mod Keys
 pub mod Names
 pub mod Plan
 pub mod Arrays
@@ -10,3 +11,5 @@ pub mod Faults
 pub mod Scenarios
 pub mod OneStep
 pub mod Streams
+pub mod Listing
+pub mod Whole

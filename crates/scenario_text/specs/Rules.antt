@@ -1,53 +1,78 @@
 -- The rules of a policy, from their JSON values.
-use Rattle.std.specs.Prelude.{ℕ, List, [], ◌∷◌, Option, Some, None, Result, Ok, Err, codes, nat_lt, if◌then◌else◌}
-use Rattle.serde_json.specs.Data.{Data, Items}
+use Rattle.std.specs.Prelude.{ℕ, List, Option, Some, None, Result, Ok, Err, codes, nat_lt, if◌then◌else◌}
+use Rattle.serde_json.specs.Data.{Data, Items, Members, array, object}
 use Rattle.serde_json.specs.Events.{items_len}
+use Rattle.serde_json.specs.Find.{get_member}
 use Rattle.event_masks.specs.Exits.{no_flags}
 use Rattle.stop_handlers.specs.declared.Rule.{Rule}
 use Rattle.stop_handlers.specs.declared.Decision.{Decision}
 use Rattle.stop_handlers.specs.declared.Decision.TheVariants as decision
 use Rattle.scenario_text.specs.declared.fields.KeyError.{KeyError}
-use Rattle.scenario_text.specs.declared.fields.KeyError.TheVariants.{TooManyRules}
+use Rattle.scenario_text.specs.declared.fields.KeyError.TheVariants.{Shape, TooManyRules}
+use Rattle.scenario_text.specs.declared.keys.Keys.{Keys}
+use Rattle.scenario_text.specs.declared.keys.TheConstants.Keys.{SIGNAL, FLAGS, DECISION, PASS}
 use Rattle.scenario_text.specs.declared.names.DecisionKind.{DecisionKind}
 use Rattle.scenario_text.specs.declared.names.DecisionKind.TheVariants as kind
-use Rattle.scenario_text.specs.Fields.{◌>>=◌, number_within, name_at, optional_at, only, each, object_of}
+use Rattle.scenario_text.specs.declared.rules.RuleFields.{RuleFields}
+use Rattle.scenario_text.specs.Fields.{◌>>=◌, Atom, atom_of, number_within, name_in, optional, required, each}
+use Rattle.scenario_text.specs.Keys.{◌∪◌, keys_in, only}
 use Rattle.scenario_text.specs.Names.{decision_named}
-use Rattle.scenario_text.specs.Arrays.{signal_of, flags_of}
+use Rattle.scenario_text.specs.Arrays.{signal_in, flags_of}
 
-abbrev pub some_signal_of : Data → Result (Option ℕ) KeyError
-some_signal_of d = do
-  signal ← signal_of d
+abbrev pub some_signal : Atom → Result (Option ℕ) KeyError
+some_signal a = do
+  signal ← signal_in a
   Ok (Some signal)
 
 -- the signal with which a process is resumed, 0 for none
-abbrev pub pass_at : Data → Result ℕ KeyError
-pass_at d = optional_at (codes "pass") 0 (number_within 0 31) d
+abbrev pub pass_in : Atom → Result ℕ KeyError
+pass_in a = number_within 0 31 a
 
-abbrev pub decision_of : DecisionKind → Data → Result Decision KeyError
-decision_of kind.Decline d = Ok decision.Decline
-decision_of kind.Leave d = Ok decision.Leave
-decision_of kind.Kill d = Ok decision.Kill
-decision_of kind.Continue d = pass_at d >>= (λ n. Ok (decision.Continue n))
-decision_of kind.Detach d = pass_at d >>= (λ n. Ok (decision.Detach n))
+-- what the keys of a rule say, by the values that they have
+abbrev pub rule_fields_by : (List ℕ → Option Data) → Keys → RuleFields
+rule_fields_by at keys = record {
+  keys = keys;
+  signal = optional None (λ d. some_signal (atom_of d)) (at (codes "signal"));
+  flags = optional no_flags flags_of (at (codes "flags"));
+  decision = required (λ d. name_in decision_named (atom_of d)) (at (codes "decision"));
+  pass = optional 0 (λ d. pass_in (atom_of d)) (at (codes "pass"));
+}
+
+abbrev pub rule_fields_in : Members → RuleFields
+rule_fields_in ms = rule_fields_by (λ k. get_member k ms) (keys_in ms)
+
+abbrev pub decision_of : DecisionKind → RuleFields → Result Decision KeyError
+decision_of kind.Decline f = Ok decision.Decline
+decision_of kind.Leave f = Ok decision.Leave
+decision_of kind.Kill f = Ok decision.Kill
+decision_of kind.Continue f = f.pass >>= (λ n. Ok (decision.Continue n))
+decision_of kind.Detach f = f.pass >>= (λ n. Ok (decision.Detach n))
 
 -- the keys of a rule with such a decision
-abbrev pub rule_keys : DecisionKind → List (List ℕ)
-rule_keys kind.Decline = codes "signal" ∷ codes "flags" ∷ codes "decision" ∷ []
-rule_keys kind.Leave = codes "signal" ∷ codes "flags" ∷ codes "decision" ∷ []
-rule_keys kind.Kill = codes "signal" ∷ codes "flags" ∷ codes "decision" ∷ []
-rule_keys kind.Continue = codes "signal" ∷ codes "flags" ∷ codes "decision" ∷ codes "pass" ∷ []
-rule_keys kind.Detach = codes "signal" ∷ codes "flags" ∷ codes "decision" ∷ codes "pass" ∷ []
+abbrev pub rule_keys : DecisionKind → Keys
+rule_keys kind.Decline = SIGNAL ∪ FLAGS ∪ DECISION
+rule_keys kind.Leave = SIGNAL ∪ FLAGS ∪ DECISION
+rule_keys kind.Kill = SIGNAL ∪ FLAGS ∪ DECISION
+rule_keys kind.Continue = SIGNAL ∪ FLAGS ∪ DECISION ∪ PASS
+rule_keys kind.Detach = SIGNAL ∪ FLAGS ∪ DECISION ∪ PASS
 
-unfoldable pub rule_of : Data → Result Rule KeyError
-rule_of d = do
-  _ ← object_of d
-  signal ← optional_at (codes "signal") None some_signal_of d
-  flags ← optional_at (codes "flags") no_flags flags_of d
-  kind ← name_at (codes "decision") decision_named d
-  decision ← decision_of kind d
-  _ ← only (rule_keys kind) d
+unfoldable pub rule_from : RuleFields → Result Rule KeyError
+rule_from f = do
+  signal ← f.signal
+  flags ← f.flags
+  kind ← f.decision
+  decision ← decision_of kind f
+  _ ← only (rule_keys kind) f.keys
   Ok (record { signal = signal; flags = flags; decision = decision })
 
+abbrev pub rule_of : Data → Result Rule KeyError
+rule_of (object ms) = rule_from (rule_fields_in ms)
+rule_of d = Err Shape
+
 -- at most 16 rules
-unfoldable pub rules_of : Items → Result (List Rule) KeyError
-rules_of items = if nat_lt 16 (items_len items) then Err TooManyRules else each rule_of items
+abbrev pub policy_of : Items → Result (List Rule) KeyError
+policy_of items = if nat_lt 16 (items_len items) then Err TooManyRules else each rule_of items
+
+abbrev pub rules_of : Data → Result (List Rule) KeyError
+rules_of (array ds) = policy_of ds
+rules_of d = Err Shape

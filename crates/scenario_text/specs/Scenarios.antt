@@ -1,8 +1,10 @@
 -- The scenario or the fault of some bytes.
-use Rattle.std.specs.Prelude.{⊤, ◌≡◌, ◌⊎◌, ℕ, ◌+◌, ◌<◌, ◌≤◌, true, false, nat_lt, ◌==◌, ℤ, pos, negsuc, List, [], ◌∷◌, ◌++◌, length, Option, Some, None, Result, Ok, Err, codes, if◌then◌else◌, IsUtf8}
+use Rattle.std.specs.Prelude.{⊤, ◌≡◌, ◌⊎◌, ℕ, ◌+◌, ◌<◌, ◌≤◌, Bool, true, false, nat_lt, ◌==◌, ℤ, pos, negsuc, List, [], ◌∷◌, ◌++◌, length, Option, Some, None, Result, Ok, Err, codes, if◌then◌else◌, IsUtf8}
 use Rattle.std.specs.Io.KnownBytes.{Consumes}
-use Rattle.serde_json.specs.Data.{Data, Items, no_items, item}
+use Rattle.json_values.specs.Reading.{members_among}
+use Rattle.serde_json.specs.Data.{Data, Items, no_items, item, Members, object}
 use Rattle.serde_json.specs.Events.{items_len}
+use Rattle.serde_json.specs.Find.{get_member}
 use Rattle.serde_json.specs.Read.{read}
 use Rattle.trace_stop.specs.declared.Settings.{Settings}
 use Rattle.requests.specs.Run.{Asked}
@@ -10,7 +12,7 @@ use Rattle.scenario_text.specs.declared.fault.Fault.{Fault}
 use Rattle.scenario_text.specs.declared.fault.Fault.TheVariants.{Read, TooLong, BadJson, TooManySteps, BadShape, BadUser, BadName, BadNumber, TooManyRules, Memory}
 use Rattle.scenario_text.specs.declared.fields.KeyError.{KeyError}
 use Rattle.scenario_text.specs.declared.fields.KeyError.TheVariants as flaws
-use Rattle.scenario_text.specs.Fields.{◌>>=◌, integer_of, array_at, optional_at, object_of, only}
+use Rattle.scenario_text.specs.Fields.{◌>>=◌, atom_of, integer, items_of, required, optional}
 use Rattle.scenario_text.specs.Plan.{Plan, max_steps}
 use Rattle.scenario_text.specs.Steps.{step_of}
 
@@ -40,15 +42,25 @@ settings_of (pos n) =
     else (if n == 0 then Ok (record { kill_on_debugger_exit = false }) else Err flaws.Number)
 settings_of (negsuc n) = Err flaws.Number
 
+-- the settings, if there are no other keys
+abbrev pub head_settings : Result ℤ KeyError → Bool → Result Settings KeyError
+head_settings (Err flaw) is_alone = Err flaw
+head_settings (Ok kill) false = Err flaws.Shape
+head_settings (Ok kill) true = settings_of kill
+
+-- the members have no keys but those of a scenario
+abbrev pub alone : Members → Result ⊤ KeyError
+alone ms = if members_among (codes "steps" ∷ codes "kill_on_debugger_exit" ∷ []) ms then Ok tt else Err flaws.Shape
+
 -- the array of steps, and the settings
 unfoldable pub head_of : Data → Result (Items × Settings) KeyError
-head_of d = do
-  _ ← object_of d
-  items ← array_at (codes "steps") d
-  kill ← optional_at (codes "kill_on_debugger_exit") (pos 1) integer_of d
-  _ ← only (codes "steps" ∷ codes "kill_on_debugger_exit" ∷ []) d
+head_of (object ms) = do
+  items ← required items_of (get_member (codes "steps") ms)
+  kill ← optional (pos 1) (λ d. integer (atom_of d)) (get_member (codes "kill_on_debugger_exit") ms)
+  _ ← alone ms
   settings ← settings_of kill
   Ok (items, settings)
+head_of d = Err flaws.Shape
 
 abbrev pub bounded : {X : Type 0} → Items → Result X Fault → Result X Fault
 bounded items r = if nat_lt max_steps (items_len items) then Err TooManySteps else r

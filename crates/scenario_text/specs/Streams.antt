@@ -1,45 +1,80 @@
--- A scenario read step by step.
-use Rattle.std.specs.Prelude.{◌≡◌, ◌+◌, ◌<◌, ◌≤◌, ◌++◌, ℤ, List, [], ◌∷◌, length, codes, ℕ, Option, Some, None, Ok}
-use Rattle.std.specs.Borrow.{Bor}
-use Rattle.json.specs.Json.{Json, value}
+-- Values that a reader's next tokens come to.
+use Rattle.std.specs.Prelude.{◌≡◌, ℕ, List, Option, Some, None, Result, Ok, Err}
+use Rattle.json.specs.Json.{value}
 use Rattle.json.specs.Token.{Token}
-use Rattle.json.specs.declared.value.Value.{Value}
-use Rattle.serde_json.specs.Data.{Data, Items, array}
-use Rattle.serde_json.specs.Events.{items_len}
+use Rattle.json.specs.declared.reader.Invalid.{Invalid}
+use Rattle.json_values.specs.Reading.{read_items, read_members}
+use Rattle.serde_json.specs.Data.{Data, Items, Members}
 use Rattle.serde_json.specs.Read.{of_json, converted}
-use Rattle.json_values.specs.Reading.{object_view}
-use Rattle.requests.specs.Run.{Asked}
-use Rattle.scenario_text.specs.declared.streaming.Key.{Key}
-use Rattle.scenario_text.specs.declared.streaming.Key.TheVariants.{Steps, KillOnDebuggerExit, End}
-use Rattle.scenario_text.specs.Fields.{integer_of}
-use Rattle.scenario_text.specs.Plan.{Plan, max_steps}
-use Rattle.scenario_text.specs.Scenarios.{plan_of, steps_from}
-use Rattle.scenario_text.specs.Steps.{step_of}
+use Rattle.scenario_text.specs.declared.fields.Fields.{Fields}
+use Rattle.scenario_text.specs.declared.keys.Key.{Key}
+use Rattle.scenario_text.specs.declared.keys.Key.TheVariants as key
+use Rattle.scenario_text.specs.declared.keys.TheConstants.Keys as keys
+use Rattle.scenario_text.specs.declared.rules.RuleFields.{RuleFields}
+use Rattle.scenario_text.specs.Arrays.{options_of, mask_of, set_of, flags_of}
+use Rattle.scenario_text.specs.Fields.{Atom, atom_of, integer, word, name_in}
+use Rattle.scenario_text.specs.Keys.{◌∪◌, key_set}
+use Rattle.scenario_text.specs.Names.{op_named, disposition_named, act_named, call_named, request_named, decision_named}
+use Rattle.scenario_text.specs.Rules.{some_signal, pass_in, rules_of}
+use Rattle.scenario_text.specs.Steps.{user_in}
 
--- the value that was read is an array of these steps without a fault; the reader has the bytes after it left
-abbrev pub IsArrayOfSteps : List Asked → Option (Data × List Token) → List Token → Type 0
-IsArrayOfSteps steps r left = (ds : Items) × (r ≡ Some (array ds, left)) × (steps_from 1 ds ≡ Ok steps) × (items_len ds ≡ length steps) × (length steps ≤ max_steps)
+-- the result fits the data that was read; an error means that none was
+abbrev pub Fits : {X D : Type 0} → (X → D → Type 0) → Option (D × List Token) → Result X Invalid → List Token → Type 0
+Fits {D = D} P read (Ok x) left = (d : D) × (read ≡ Some (d, left)) × P x d
+Fits P read (Err e) left = read ≡ None
 
--- the object that was read has these members
-abbrev pub AreMembers : {A : Type 0} → List (Bor (List ℕ) × Value A) → List Token → List Token → Type 0
-AreMembers ms ts left = (converted of_json (value 125 ts) ≡ Some (object_view ms, left)) × (length left < length ts)
+-- the next value
+abbrev pub Reads : {X : Type 0} → (X → Data → Type 0) → ℕ → Result X Invalid → List Token → List Token → Type 0
+Reads P depth r ts left = Fits P (converted of_json (value depth ts)) r left
 
--- the value that was read is the step that follows these
-abbrev pub IsNextStep : List Asked → List Asked → List Token → List Token → Type 0
-IsNextStep before after ts left =
-    (d : Data) × (x : Asked) × (converted of_json (value 125 ts) ≡ Some (d, left)) × (step_of d ≡ Ok x) × (after ≡ before ++ x ∷ [])
-    × (length left < length ts)
+-- the items of an array, behind its bracket
+abbrev pub ReadsItems : {X : Type 0} → (X → Items → Type 0) → ℕ → Result X Invalid → List Token → List Token → Type 0
+ReadsItems P depth r ts left = Fits P (read_items depth ts) r left
 
--- the value that was read is this whole number
-abbrev pub IsInteger : ℤ → List Token → List Token → Type 0
-IsInteger z ts left = (j : Json) × (d : Data) × (value 126 ts ≡ Some (j, left)) × (of_json j ≡ Some d) × (integer_of d ≡ Ok z) × (length left < length ts)
+-- the members of an object, behind its brace
+abbrev pub ReadsMembers : {X : Type 0} → (X → Members → Type 0) → ℕ → Result X Invalid → List Token → List Token → Type 0
+ReadsMembers P depth r ts left = Fits P (read_members depth ts) r left
 
--- the value that was read is this scenario
-abbrev pub IsScenario : Plan → Option (Data × List Token) → List Token → Type 0
-IsScenario plan r left = (d : Data) × (r ≡ Some (d, left)) × (plan_of d ≡ Ok plan)
+-- what the keys of a step say, once a key has an atom or a value
+abbrev pub with_atom : Key → Atom → Fields → Fields
+with_atom key.User a f = record f { user = user_in a }
+with_atom key.Op a f = record f { op = name_in op_named a }
+with_atom key.Caller a f = record f { caller = word a }
+with_atom key.Lwp a f = record f { lwp = word a }
+with_atom key.Act a f = record f { act = name_in act_named a }
+with_atom key.Which a f = record f { which = integer a }
+with_atom key.Request a f = record f { request = name_in request_named a }
+with_atom key.Target a f = record f { target = word a }
+with_atom key.Data a f = record f { «data» = word a }
+with_atom key.Call a f = record f { call = name_in call_named a }
+with_atom key.Code a f = record f { code = integer a }
+with_atom key.Signal a f = record f { signal = word a }
+with_atom key.Action a f = record f { action = name_in disposition_named a }
+with_atom k a f = f
 
--- a key's text; None is the end of the object
-abbrev pub text_of : Key → Option (List ℕ)
-text_of Steps = Some (codes "steps")
-text_of KillOnDebuggerExit = Some (codes "kill_on_debugger_exit")
-text_of End = None
+abbrev pub with_value : Key → Data → Fields → Fields
+with_value key.Options d f = record f { options = options_of d }
+with_value key.Rules d f = record f { rules = rules_of d }
+with_value key.Set d f = record f { set = set_of d }
+with_value key.Mask d f = record f { mask = mask_of d }
+with_value k d f = with_atom k (atom_of d) f
+
+-- the same, once the key with a name has a value
+abbrev pub with_named : Option Key → Data → Fields → Fields
+with_named None d f = record f { keys = keys.OTHER ∪ f.keys }
+with_named (Some k) d f = record (with_value k d f) { keys = key_set k ∪ f.keys }
+
+-- the same of a rule
+abbrev pub with_rule_atom : Key → Atom → RuleFields → RuleFields
+with_rule_atom key.Signal a f = record f { signal = some_signal a }
+with_rule_atom key.Decision a f = record f { decision = name_in decision_named a }
+with_rule_atom key.Pass a f = record f { pass = pass_in a }
+with_rule_atom k a f = f
+
+abbrev pub with_rule_value : Key → Data → RuleFields → RuleFields
+with_rule_value key.Flags d f = record f { flags = flags_of d }
+with_rule_value k d f = with_rule_atom k (atom_of d) f
+
+abbrev pub with_named_rule : Option Key → Data → RuleFields → RuleFields
+with_named_rule None d f = record f { keys = keys.OTHER ∪ f.keys }
+with_named_rule (Some k) d f = record (with_rule_value k d f) { keys = key_set k ∪ f.keys }

@@ -1,30 +1,21 @@
 //! The acts of an LWP at its turn.
-ghost use Rattle.std.specs.Prelude.{◌≡◌, ◌++◌, codes};
-ghost use Rattle.json_values.specs.Reading.{object_view};
-ghost use Rattle.scenario_text.specs.Acts.{call_of, call_keys, turn_keys, raise_of, block_of, enter_of, act_of, act_at};
-ghost use Rattle.scenario_text.specs.Fields.{name_at, number_within, only};
-ghost use Rattle.scenario_text.specs.Names.{act_named, call_named};
+ghost use Rattle.std.specs.Prelude.{◌≡◌};
+ghost use Rattle.scenario_text.specs.Acts.{call_of, call_keys, turn_keys, raise_of, block_of, enter_of, act_of};
 
-use crate::arrays::set_of;
-use crate::fields::{KeyError, member, number_within, only, text, word};
-use crate::names::{ActKind, CallKind, act_named, call_named};
+use crate::atoms::within;
+use crate::fields::{Fields, KeyError, only};
+use crate::keys::Keys;
+use crate::names::{ActKind, CallKind};
 use event_masks::Call;
-use json_values::Member;
 use requests::Act;
 
-fn call_kind_at(step: &[Member<'_>]) -> Result<CallKind, KeyError>
-    ensures { result ≡ name_at (codes "call") call_named (object_view step.now) }
-{
-    call_named(text(step, "call")?).ok_or(KeyError::Name)
-}
-
 /// Returns the call, with the exit code of an exit and the number of another call.
-fn call_of(step: &[Member<'_>], kind: CallKind) -> Result<Call, KeyError>
-    ensures { result ≡ call_of kind (object_view step.now) }
+fn call_of(step: &Fields, kind: CallKind) -> Result<Call, KeyError>
+    ensures { result ≡ call_of kind step.now }
 {
     match kind {
         CallKind::Exit => {
-            let code = number_within(member(step, "code")?, 0, 255)?;
+            let code = within(step.code?, 0, 255, KeyError::Number)?;
             Ok(Call::Exit(code as u8))
         }
         CallKind::Fork => Ok(Call::Fork),
@@ -32,73 +23,74 @@ fn call_of(step: &[Member<'_>], kind: CallKind) -> Result<Call, KeyError>
         CallKind::Vfork => Ok(Call::Vfork),
         CallKind::ThrExit => Ok(Call::ThrExit),
         CallKind::ThrNew => Ok(Call::ThrNew),
-        CallKind::Other => Ok(Call::Other(word(step, "code")?)),
+        CallKind::Other => {
+            let code = within(step.code?, 0, u32::MAX, KeyError::Number)?;
+            Ok(Call::Other(code))
+        }
     }
 }
 
-/// Checks that the step has no other keys than those of a turn that enters such a call.
-fn only_call_keys(step: &[Member<'_>], kind: CallKind) -> Result<(), KeyError>
-    ensures { result ≡ only (turn_keys ++ call_keys kind) (object_view step.now) }
+/// Returns the keys that every turn has.
+fn turn_keys() -> Keys
+    ensures { result ≡ turn_keys }
+{
+    Keys::USER | Keys::OP | Keys::LWP | Keys::ACT
+}
+
+/// Returns the keys of a turn that enters such a call.
+fn call_keys(kind: CallKind) -> Keys
+    ensures { result ≡ call_keys kind }
 {
     match kind {
-        CallKind::Exit | CallKind::Other => {
-            only(step, &["user", "op", "lwp", "act", "call", "code"])
-        }
+        CallKind::Exit | CallKind::Other => turn_keys() | Keys::CALL | Keys::CODE,
         CallKind::Fork | CallKind::Exec | CallKind::Vfork | CallKind::ThrExit | CallKind::ThrNew =>
-            only(step, &["user", "op", "lwp", "act", "call"]),
+            { turn_keys() | Keys::CALL }
     }
 }
 
 #[tactic(auto, unfolding(crate::specs::Acts::raise_of))]
-fn raise_of(step: &[Member<'_>]) -> Result<Act, KeyError>
-    ensures { result ≡ raise_of (object_view step.now) }
+fn raise_of(step: &Fields) -> Result<Act, KeyError>
+    ensures { result ≡ raise_of step.now }
 {
-    let signal = word(step, "signal")?;
-    only(step, &["user", "op", "lwp", "act", "signal"])?;
+    let signal = step.signal?;
+    only(turn_keys() | Keys::SIGNAL, step.keys)?;
     Ok(Act::Raise(signal))
 }
 
 #[tactic(auto, unfolding(crate::specs::Acts::block_of))]
-fn block_of(step: &[Member<'_>]) -> Result<Act, KeyError>
-    ensures { result ≡ block_of (object_view step.now) }
+fn block_of(step: &Fields) -> Result<Act, KeyError>
+    ensures { result ≡ block_of step.now }
 {
-    let set = set_of(member(step, "set")?)?;
-    only(step, &["user", "op", "lwp", "act", "set"])?;
+    let set = step.set?;
+    only(turn_keys() | Keys::SET, step.keys)?;
     Ok(Act::Block(set))
 }
 
 #[tactic(auto, unfolding(crate::specs::Acts::enter_of))]
-fn enter_of(step: &[Member<'_>]) -> Result<Act, KeyError>
-    ensures { result ≡ enter_of (object_view step.now) }
+fn enter_of(step: &Fields) -> Result<Act, KeyError>
+    ensures { result ≡ enter_of step.now }
 {
-    let kind = call_kind_at(step)?;
+    let kind = step.call?;
     let call = call_of(step, kind)?;
-    only_call_keys(step, kind)?;
+    only(call_keys(kind), step.keys)?;
     Ok(Act::Enter(call))
 }
 
-fn act_of(step: &[Member<'_>], kind: ActKind) -> Result<Act, KeyError>
-    ensures { result ≡ act_of kind (object_view step.now) }
+/// Returns the act of a turn, from its keys.
+pub(crate) fn act_of(step: &Fields, kind: ActKind) -> Result<Act, KeyError>
+    ensures { result ≡ act_of kind step.now }
 {
     match kind {
         ActKind::Compute => {
-            only(step, &["user", "op", "lwp", "act"])?;
+            only(turn_keys(), step.keys)?;
             Ok(Act::Compute)
         }
         ActKind::Leave => {
-            only(step, &["user", "op", "lwp", "act"])?;
+            only(turn_keys(), step.keys)?;
             Ok(Act::Leave)
         }
         ActKind::Raise => raise_of(step),
         ActKind::Block => block_of(step),
         ActKind::Enter => enter_of(step),
     }
-}
-
-/// Returns the act of a turn, from its keys.
-pub(crate) fn act_at(step: &[Member<'_>]) -> Result<Act, KeyError>
-    ensures { result ≡ act_at (object_view step.now) }
-{
-    let kind = act_named(text(step, "act")?).ok_or(KeyError::Name)?;
-    act_of(step, kind)
 }

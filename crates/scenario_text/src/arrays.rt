@@ -1,17 +1,31 @@
 //! Arrays of names and of signals. A repeated item counts once.
-ghost use Rattle.std.specs.Prelude.{◌≡◌};
-ghost use Rattle.json_values.specs.Reading.{view};
+ghost use Rattle.std.specs.Prelude.{◌≡◌, ◌<◌, OnOk, Result, length};
+ghost use Rattle.event_masks.specs.Exits.{mask_with, both};
 ghost use Rattle.event_masks.specs.Reading.{events_named, flag_named};
-ghost use Rattle.scenario_text.specs.Arrays.{with_option, options_of, mask_of, flags_of, signal_of, set_of};
-ghost use Rattle.scenario_text.specs.Fields.{name_in};
+ghost use Rattle.signals.specs.Sets.{with as signal_added};
+ghost use Rattle.scenario_text.specs.declared.fields.KeyError.{KeyError as Flaw};
+ghost use Rattle.scenario_text.specs.Arrays.{with_option, signal_in, adds, gather, gathered};
+ghost use Rattle.scenario_text.specs.Fields.{Atom, atom_in, name_in};
 ghost use Rattle.scenario_text.specs.Names.{option_named};
+ghost use Rattle.scenario_text.specs.Streams.{Reads, ReadsItems};
 
-use crate::fields::{KeyError, items_of, number_within, text_of};
+use crate::atoms::{signal_in, text};
+use crate::fields::KeyError;
 use crate::names::{WaitOption, option_named};
 use event_masks::{EventMask, StopFlags};
-use json::Value;
-use signals::{SigSet, Signal};
+use json::{Invalid, Reader};
+use json_values::{Opening, Scalar, next_scalar, open_value, pass_members};
+use signals::SigSet;
 use wait4::Options;
+
+/// A set that the items of an array make.
+pub(crate) trait Gathered: Copy + Drop {
+    ghost added: { Self → Atom → Result Self Flaw };
+
+    /// Returns the set with one more item.
+    fn with_item(self, item: &Scalar<'_>) -> Result<Self, KeyError>
+        ensures { result ≡ added self (atom_in item.now) };
+}
 
 /// Returns the options with one more. `WNOHANG` adds nothing: no wait blocks.
 fn with_option(options: Options, option: WaitOption) -> Options
@@ -30,82 +44,82 @@ fn with_option(options: Options, option: WaitOption) -> Options
     }
 }
 
-fn option_of(value: &Value<'_>) -> Result<WaitOption, KeyError>
-    ensures { result ≡ name_in option_named (view value.now) }
-{
-    option_named(text_of(value)?).ok_or(KeyError::Name)
-}
+/// The options of a wait4.
+impl Gathered for Options {
+    ghost added = { adds (name_in option_named) with_option };
 
-/// Returns the options of a wait4.
-pub(crate) fn options_of(value: &Value<'_>) -> Result<Options, KeyError>
-    ensures { result ≡ options_of (view value.now) }
-{
-    let items = items_of(value)?;
-    let mut options = Options {
-        untraced: false,
-        continued: false,
-    };
-    for item in items {
-        options = with_option(options, option_of(item)?);
-    }
-    Ok(options)
-}
-
-fn events_of(value: &Value<'_>) -> Result<EventMask, KeyError>
-    ensures { result ≡ name_in events_named (view value.now) }
-{
-    EventMask::by_name(text_of(value)?).ok_or(KeyError::Name)
-}
-
-/// Returns the events of an event mask. `PTRACE_SYSCALL` is two of them.
-pub(crate) fn mask_of(value: &Value<'_>) -> Result<EventMask, KeyError>
-    ensures { result ≡ mask_of (view value.now) }
-{
-    let items = items_of(value)?;
-    let mut mask = EventMask::none();
-    for item in items {
-        mask = mask.with(events_of(item)?);
-    }
-    Ok(mask)
-}
-
-fn flag_of(value: &Value<'_>) -> Result<StopFlags, KeyError>
-    ensures { result ≡ name_in flag_named (view value.now) }
-{
-    StopFlags::by_name(text_of(value)?).ok_or(KeyError::Name)
-}
-
-/// Returns the flags of a stop.
-pub(crate) fn flags_of(value: &Value<'_>) -> Result<StopFlags, KeyError>
-    ensures { result ≡ flags_of (view value.now) }
-{
-    let items = items_of(value)?;
-    let mut flags = StopFlags::none();
-    for item in items {
-        flags = flags.with(flag_of(item)?);
-    }
-    Ok(flags)
-}
-
-/// Returns the signal with this number.
-pub(crate) fn signal_of(value: &Value<'_>) -> Result<Signal, KeyError>
-    ensures { result ≡ signal_of (view value.now) }
-{
-    let number = number_within(value, 1, 31)?;
-    match Signal::new(number) {
-        Ok(signal) => Ok(signal),
-        Err(_) => Err(KeyError::Number),
+    fn with_item(self, item: &Scalar<'_>) -> Result<Options, KeyError> {
+        let option = option_named(text(item)?).ok_or(KeyError::Name)?;
+        Ok(with_option(self, option))
     }
 }
 
-/// Returns a set of signals.
-pub(crate) fn set_of(value: &Value<'_>) -> Result<SigSet, KeyError>
-    ensures { result ≡ set_of (view value.now) }
+/// The events of an event mask. `PTRACE_SYSCALL` is two of them.
+impl Gathered for EventMask {
+    ghost added = { adds (name_in events_named) mask_with };
+
+    fn with_item(self, item: &Scalar<'_>) -> Result<EventMask, KeyError> {
+        let events = EventMask::by_name(text(item)?).ok_or(KeyError::Name)?;
+        Ok(self.with(events))
+    }
+}
+
+/// The flags of a stop.
+impl Gathered for StopFlags {
+    ghost added = { adds (name_in flag_named) both };
+
+    fn with_item(self, item: &Scalar<'_>) -> Result<StopFlags, KeyError> {
+        let flag = StopFlags::by_name(text(item)?).ok_or(KeyError::Name)?;
+        Ok(self.with(flag))
+    }
+}
+
+/// A set of signals.
+impl Gathered for SigSet {
+    ghost added = { adds signal_in signal_added };
+
+    fn with_item(self, item: &Scalar<'_>) -> Result<SigSet, KeyError> {
+        Ok(self.with(signal_in(item)?))
+    }
+}
+
+/// Reads the items of the array that the reader is in.
+fn gather<S: Gathered>(
+    reader: &mut Reader<'_>,
+    depth: usize,
+    none: S,
+) -> Result<Result<S, KeyError>, Invalid>
+    ensures items { ReadsItems (λ x ds. x ≡ gather S.added none ds) depth result reader.old reader.new }
+    ensures shorter { OnOk result (length reader.new < length reader.old) }
 {
-    let items = items_of(value)?;
-    let mut set = SigSet::empty();
-    for item in items {
-        set = set.with(signal_of(item)?);
+    let mut set = Ok(none);
+    'items: while !reader.take_end_array() {
+        let item = next_scalar(reader, depth)?;
+        set = match set {
+            Ok(so_far) => so_far.with_item(&item),
+            Err(flaw) => Err(flaw),
+        };
     }
     Ok(set)
+}
+
+/// Reads the next value, which may be an array of items that make a set.
+pub(crate) fn read_set<S: Gathered>(
+    reader: &mut Reader<'_>,
+    depth: usize,
+    none: S,
+) -> Result<Result<S, KeyError>, Invalid>
+    requires { 0 < depth }
+    ensures set { Reads (λ x d. x ≡ gathered S.added none d) depth result reader.old reader.new }
+    ensures shorter { OnOk result (length reader.new < length reader.old) }
+{
+    let opening = open_value(reader)?;
+    match opening {
+        Opening::Array => gather(reader, depth - 1, none),
+        Opening::Object => {
+            pass_members(reader, depth - 1)?;
+            Ok(Err(KeyError::Shape))
+        }
+        Opening::Scalar(_) => Ok(Err(KeyError::Shape)),
+    }
 }

@@ -1,13 +1,19 @@
-//! One key of a JSON object, and its flaw.
-ghost use Rattle.std.specs.Prelude.{◌≡◌, map, IfOk};
-ghost use Rattle.json_values.specs.Reading.{view, items_view, object_view};
-ghost use Rattle.scenario_text.specs.Fields.{member_at, integer_of, integer_at, number_within, word_of, word_at, text_of, text_at, items_of, only, object_of, seen, Gives};
+//! What the keys of a step say.
+ghost use Rattle.std.specs.Prelude.{◌≡◌};
+ghost use Rattle.serde_json.specs.Data.{no_members};
+ghost use Rattle.scenario_text.specs.Keys.{only};
 
-use json::Value;
-use json_values::{Member, get, has_only, object};
+use crate::keys::Keys;
+use crate::names::{ActKind, CallKind, Op};
+use event_masks::EventMask;
+use pid_blocks::Uid;
+use requests::Request;
+use signals::{Disposition, SigSet};
+use stop_handlers::Policy;
+use wait4::Options;
 
 /// The flaw of a step.
-#[derive(Clone, Copy)]
+#[derive(Clone, Copy, Drop)]
 pub(crate) enum KeyError {
     Shape,
     User,
@@ -16,86 +22,71 @@ pub(crate) enum KeyError {
     TooManyRules,
 }
 
-pub(crate) fn member<'v, 'a>(object: &'v [Member<'a>], key: &str) -> Result<&'v Value<'a>, KeyError>
-    ensures { Gives (λ v. view v.now) result (member_at key.now (object_view object.now)) }
-{
-    get(object, key).ok_or(KeyError::Shape)
+/// What each key of a step says, or its flaw. A key that is missing has the flaw `Shape`, or its default if it may be
+/// missing.
+#[derive(Clone, Copy, Drop)]
+pub(crate) struct Fields {
+    /// The keys that the step has.
+    pub(crate) keys: Keys,
+    pub(crate) user: Result<Uid, KeyError>,
+    pub(crate) op: Result<Op, KeyError>,
+    pub(crate) caller: Result<u32, KeyError>,
+    pub(crate) which: Result<i64, KeyError>,
+    pub(crate) options: Result<Options, KeyError>,
+    pub(crate) signal: Result<u32, KeyError>,
+    pub(crate) action: Result<Disposition, KeyError>,
+    pub(crate) rules: Result<Policy, KeyError>,
+    pub(crate) lwp: Result<u32, KeyError>,
+    pub(crate) act: Result<ActKind, KeyError>,
+    pub(crate) call: Result<CallKind, KeyError>,
+    pub(crate) code: Result<i64, KeyError>,
+    pub(crate) set: Result<SigSet, KeyError>,
+    pub(crate) request: Result<Request, KeyError>,
+    pub(crate) target: Result<u32, KeyError>,
+    pub(crate) data: Result<u32, KeyError>,
+    pub(crate) mask: Result<EventMask, KeyError>,
 }
 
-/// Returns a whole number that fits i64.
-pub(crate) fn integer_of(value: &Value<'_>) -> Result<i64, KeyError>
-    ensures { result ≡ integer_of (view value.now) }
-{
-    json_values::integer(value).ok_or(KeyError::Shape)
-}
+impl Fields {
+    ghost use Rattle.scenario_text.specs.Steps.{fields_in};
 
-pub(crate) fn integer(object: &[Member<'_>], key: &str) -> Result<i64, KeyError>
-    ensures { result ≡ integer_at key.now (object_view object.now) }
-{
-    integer_of(member(object, key)?)
-}
-
-/// Returns a whole number from `least` to `greatest`.
-pub(crate) fn number_within(value: &Value<'_>, least: u32, greatest: u32) -> Result<u32, KeyError>
-    ensures { result ≡ number_within least greatest (view value.now) }
-{
-    let number = integer_of(value)?;
-    if i64::from(least) <= number && number <= i64::from(greatest) {
-        Ok(number as u32)
-    } else {
-        Err(KeyError::Number)
+    /// Returns what the keys of an empty object say.
+    pub(crate) fn none() -> Fields
+        ensures { result ≡ fields_in no_members }
+    {
+        Fields {
+            keys: Keys::NONE,
+            user: Err(KeyError::Shape),
+            op: Err(KeyError::Shape),
+            caller: Err(KeyError::Shape),
+            which: Err(KeyError::Shape),
+            options: Ok(Options {
+                untraced: false,
+                continued: false,
+            }),
+            signal: Err(KeyError::Shape),
+            action: Err(KeyError::Shape),
+            rules: Err(KeyError::Shape),
+            lwp: Err(KeyError::Shape),
+            act: Err(KeyError::Shape),
+            call: Err(KeyError::Shape),
+            code: Err(KeyError::Shape),
+            set: Err(KeyError::Shape),
+            request: Err(KeyError::Shape),
+            target: Err(KeyError::Shape),
+            data: Ok(0),
+            mask: Err(KeyError::Shape),
+        }
     }
 }
 
-/// Returns a whole number of 32 bits.
-pub(crate) fn word_of(value: &Value<'_>) -> Result<u32, KeyError>
-    ensures { result ≡ word_of (view value.now) }
+/// Checks that there are no keys but the allowed ones.
+pub(crate) fn only(allowed: Keys, keys: Keys) -> Result<(), KeyError>
+    ensures { result ≡ only allowed keys }
 {
-    number_within(value, 0, u32::MAX)
-}
-
-pub(crate) fn word(object: &[Member<'_>], key: &str) -> Result<u32, KeyError>
-    ensures { result ≡ word_at key.now (object_view object.now) }
-{
-    word_of(member(object, key)?)
-}
-
-/// Returns the text at a key.
-pub(crate) fn text<'a>(object: &[Member<'a>], key: &str) -> Result<&'a str, KeyError>
-    ensures { Gives (λ t. t.now) result (text_at key.now (object_view object.now)) }
-{
-    text_of(member(object, key)?)
-}
-
-/// Returns the items of an array.
-pub(crate) fn items_of<'v, 'a>(value: &'v Value<'a>) -> Result<&'v [Value<'a>], KeyError>
-    ensures { Gives (λ items. items_view items.now) result (items_of (view value.now)) }
-{
-    json_values::array(value).ok_or(KeyError::Shape)
-}
-
-/// Returns the text that the value is.
-pub(crate) fn text_of<'a>(value: &Value<'a>) -> Result<&'a str, KeyError>
-    ensures { Gives (λ t. t.now) result (text_of (view value.now)) }
-{
-    json_values::text(value).ok_or(KeyError::Shape)
-}
-
-/// Checks that the object has no other key than these.
-pub(crate) fn only(object: &[Member<'_>], keys: &[&str]) -> Result<(), KeyError>
-    ensures { result ≡ only (map (λ k. k.now) keys.now) (object_view object.now) }
-{
-    if has_only(object, keys) {
+    if keys.are_among(allowed) {
         Ok(())
     } else {
         Err(KeyError::Shape)
     }
-}
-
-/// Returns the members of an object.
-pub(crate) fn object_of<'v, 'a>(value: &'v Value<'a>) -> Result<&'v [Member<'a>], KeyError>
-    ensures shape { seen (λ _. tt) result ≡ object_of (view value.now) }
-    ensures members { IfOk result (λ members. object_view members.now ≡ view value.now) }
-{
-    object(value).ok_or(KeyError::Shape)
 }

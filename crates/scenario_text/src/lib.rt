@@ -3,8 +3,11 @@
 
 mod acts;
 mod arrays;
+mod atoms;
 mod fault;
 mod fields;
+mod keys;
+mod listing;
 mod members;
 mod names;
 mod one_step;
@@ -15,7 +18,7 @@ mod retrying;
 mod rules;
 mod step_list;
 mod steps;
-mod streaming;
+mod stop;
 mod tracing;
 
 pub use fault::Fault;

@@ -1,38 +1,169 @@
-//! The members of an object, read one after another.
-ghost use Rattle.std.specs.Prelude.{OnSome};
-ghost use Rattle.scenario_text.specs.Streams.{AreMembers};
+//! Reads what the keys of a step say.
+ghost use Rattle.std.specs.Prelude.{◌≡◌, ◌<◌, OnOk, length};
+ghost use Rattle.scenario_text.specs.Fields.{Gives, atom_in, name_in};
+ghost use Rattle.scenario_text.specs.Names.{op_named, disposition_named, act_named, call_named, request_named};
+ghost use Rattle.scenario_text.specs.Plan.{asked};
+ghost use Rattle.scenario_text.specs.Steps.{fields_in, step_of};
+ghost use Rattle.scenario_text.specs.Streams.{Reads, ReadsMembers, with_atom, with_named, with_value};
+ghost use Rattle.scenario_text.specs.Keys.{key_named};
 
-use crate::streaming::MAX_DEPTH;
-use json::{Reader, Token};
-use json_values::{Member, next_value};
-use std::alloc::Global;
+use crate::arrays::read_set;
+use crate::atoms::{integer, text, user_in, word};
+use crate::fields::{Fields, KeyError};
+use crate::keys::{Key, Keys, key_named, set_of};
+use crate::names::{
+    ActKind, CallKind, Op, act_named, call_named, disposition_named, op_named, request_named,
+};
+use crate::rules::read_rules;
+use crate::steps::step_from;
+use event_masks::EventMask;
+use json::{Invalid, Reader};
+use json_values::{Opening, Scalar, next_scalar, open_value, pass_items, pass_value};
+use pid_blocks::Uid;
+use requests::{PlainStep, Request};
+use signals::{Disposition, SigSet};
+use wait4::Options;
 
-/// Reads the members of the next object into `members`, in place of those that are there. Their memory is used again.
-/// `None` decides nothing.
-pub(crate) fn read_members<'a>(
-    alloc: Global,
-    reader: &mut Reader<'a>,
-    members: &mut Vec<Member<'a>>,
-) -> Option<()>
-    ensures { OnSome result (AreMembers members.new.items reader.old reader.new) }
+fn op_in(atom: &Scalar<'_>) -> Result<Op, KeyError>
+    ensures { result ≡ name_in op_named (atom_in atom.now) }
 {
-    members.clear();
-    let Some(Token::BeginObject) = reader.next() else {
-        return None;
-    };
-    'members: loop {
-        let Ok(key) = reader.next_key() else {
-            return None;
-        };
-        let Some(key) = key else {
-            return Some(());
-        };
-        let Ok(value) = next_value(alloc, reader, MAX_DEPTH - 3) else {
-            return None;
-        };
-        if members.reserve(1).is_err() {
-            return None;
+    op_named(text(atom)?).ok_or(KeyError::Name)
+}
+
+fn disposition_in(atom: &Scalar<'_>) -> Result<Disposition, KeyError>
+    ensures { result ≡ name_in disposition_named (atom_in atom.now) }
+{
+    disposition_named(text(atom)?).ok_or(KeyError::Name)
+}
+
+fn act_in(atom: &Scalar<'_>) -> Result<ActKind, KeyError>
+    ensures { result ≡ name_in act_named (atom_in atom.now) }
+{
+    act_named(text(atom)?).ok_or(KeyError::Name)
+}
+
+fn call_in(atom: &Scalar<'_>) -> Result<CallKind, KeyError>
+    ensures { result ≡ name_in call_named (atom_in atom.now) }
+{
+    call_named(text(atom)?).ok_or(KeyError::Name)
+}
+
+fn request_in(atom: &Scalar<'_>) -> Result<Request, KeyError>
+    ensures { result ≡ name_in request_named (atom_in atom.now) }
+{
+    request_named(text(atom)?).ok_or(KeyError::Name)
+}
+
+/// Sets what a key says whose value is a whole number or a text.
+fn set(fields: &mut Fields, key: Key, atom: &Scalar<'_>)
+    ensures { fields.new ≡ with_atom key (atom_in atom.now) fields.old }
+{
+    match key {
+        Key::User => fields.user = user_in(atom),
+        Key::Op => fields.op = op_in(atom),
+        Key::Caller => fields.caller = word(atom),
+        Key::Lwp => fields.lwp = word(atom),
+        Key::Act => fields.act = act_in(atom),
+        Key::Which => fields.which = integer(atom),
+        Key::Request => fields.request = request_in(atom),
+        Key::Target => fields.target = word(atom),
+        Key::Data => fields.data = word(atom),
+        Key::Call => fields.call = call_in(atom),
+        Key::Code => fields.code = integer(atom),
+        Key::Signal => fields.signal = word(atom),
+        Key::Action => fields.action = disposition_in(atom),
+        _ => {}
+    }
+}
+
+/// Reads the value of a key.
+fn read_value(
+    reader: &mut Reader<'_>,
+    depth: usize,
+    key: Key,
+    fields: &mut Fields,
+) -> Result<(), Invalid>
+    requires { 2 < depth }
+    ensures value { Reads (λ _ d. fields.new ≡ with_value key d fields.old) depth result reader.old reader.new }
+    ensures shorter { OnOk result (length reader.new < length reader.old) }
+{
+    match key {
+        Key::Options => {
+            let none = Options {
+                untraced: false,
+                continued: false,
+            };
+            fields.options = read_set(reader, depth, none)?;
         }
-        members.push_reserved((key, value));
+        Key::Rules => fields.rules = read_rules(reader, depth)?,
+        Key::Set => fields.set = read_set(reader, depth, SigSet::empty())?,
+        Key::Mask => fields.mask = read_set(reader, depth, EventMask::none())?,
+        _ => {
+            let atom = next_scalar(reader, depth)?;
+            set(fields, key, &atom);
+        }
+    }
+    Ok(())
+}
+
+/// Reads the value of the key with this name.
+fn read_named(
+    reader: &mut Reader<'_>,
+    depth: usize,
+    name: &str,
+    fields: &mut Fields,
+) -> Result<(), Invalid>
+    requires { 2 < depth }
+    ensures value { Reads (λ _ d. fields.new ≡ with_named (key_named name.now) d fields.old) depth result reader.old reader.new }
+    ensures shorter { OnOk result (length reader.new < length reader.old) }
+{
+    match key_named(name) {
+        Some(key) => {
+            read_value(reader, depth, key, fields)?;
+            fields.keys = set_of(key) | fields.keys;
+            Ok(())
+        }
+        None => {
+            pass_value(reader, depth)?;
+            fields.keys = Keys::OTHER | fields.keys;
+            Ok(())
+        }
+    }
+}
+
+/// Reads the members of the object that the reader is in.
+fn read_fields(reader: &mut Reader<'_>, depth: usize, fields: &mut Fields) -> Result<(), Invalid>
+    requires { 2 < depth }
+    ensures members { ReadsMembers (λ _ ms. fields.new ≡ fields_in ms) depth result reader.old reader.new }
+    ensures shorter { OnOk result (length reader.new < length reader.old) }
+{
+    *fields = Fields::none();
+    'members: while let Some(name) = reader.next_key()? {
+        read_named(reader, depth, name, fields)?;
+    }
+    Ok(())
+}
+
+/// Reads the next value, which may be a step. `fields` has what its keys say meanwhile.
+pub(crate) fn read_step(
+    reader: &mut Reader<'_>,
+    depth: usize,
+    fields: &mut Fields,
+) -> Result<Result<(Uid, PlainStep), KeyError>, Invalid>
+    requires { 3 < depth }
+    ensures step { Reads (λ x d. Gives asked x (step_of d)) depth result reader.old reader.new }
+    ensures shorter { OnOk result (length reader.new < length reader.old) }
+{
+    let opening = open_value(reader)?;
+    match opening {
+        Opening::Object => {
+            read_fields(reader, depth - 1, fields)?;
+            Ok(step_from(fields))
+        }
+        Opening::Array => {
+            pass_items(reader, depth - 1)?;
+            Ok(Err(KeyError::Shape))
+        }
+        Opening::Scalar(_) => Ok(Err(KeyError::Shape)),
     }
 }

@@ -1,17 +1,19 @@
 //! Reads a text that is one step.
 ghost use Rattle.std.specs.Prelude.{◌≢◌, IfErr};
-ghost use Rattle.json_values.specs.Reading.{view};
+ghost use Rattle.serde_json.specs.Read.{read};
 ghost use Rattle.scenario_text.specs.Fields.{Gives};
 ghost use Rattle.scenario_text.specs.OneStep.{IsStep, AnswersBy};
 ghost use Rattle.scenario_text.specs.Plan.{asked};
-ghost use Rattle.scenario_text.specs.Scenarios.{numbered};
+ghost use Rattle.scenario_text.specs.Whole.{TriesText};
 ghost use Rattle.scenario_text.specs.Steps.{step_of};
 ghost use Rattle.scenario_text.specs.declared.fault.Fault.TheVariants.{Read as ReadFault};
 
 use crate::fault::Fault;
-use crate::steps::step_of;
-use json::{Scratch, Value};
-use json_values::{Refusal, from_slice};
+use crate::fields::{Fields, KeyError};
+use crate::members::read_step;
+use crate::parsing::MAX_DEPTH;
+use crate::stop::Stop;
+use json::{Reader, Scratch};
 use pid_blocks::Uid;
 use requests::PlainStep;
 use std::alloc::Global;
@@ -19,15 +21,17 @@ use std::alloc::Global;
 /// The most bytes of a step's text.
 pub const MAX_STEP_BYTES: usize = 65536;
 
-/// Returns the step that a JSON value is. The error is its first flaw, as the fault of the step with number 1.
-fn step_at(value: &Value<'_>) -> Result<(Uid, PlainStep), Fault>
-    ensures step { Gives asked result (numbered 1 (step_of (view value.now))) }
-    ensures no_read { IfErr result (λ e. e ≢ ReadFault) }
+/// Returns the step of a text, or its first flaw.
+fn read_text(text: &str, scratch: &mut Scratch) -> Result<Result<(Uid, PlainStep), KeyError>, Stop>
+    ensures { TriesText (λ x d. Gives asked x (step_of d)) (read text.now) result }
 {
-    match step_of(value) {
-        Ok((user, step)) => Ok((user, step)),
-        Err(flaw) => Err(flaw.at(1)),
+    let mut reader = Reader::new(text, scratch)?;
+    let mut fields = Fields::none();
+    let step = read_step(&mut reader, MAX_DEPTH, &mut fields)?;
+    if reader.next().is_some() {
+        return Err(Stop::Invalid);
     }
+    Ok(step)
 }
 
 /// Reads steps one after another, and uses the memory of one again for the next. It keeps room for the longest text.
@@ -58,10 +62,14 @@ impl StepReader {
         if bytes.len() > MAX_STEP_BYTES {
             return Err(Fault::TooLong);
         }
-        match from_slice(alloc, bytes, &mut self.scratch) {
-            Ok(value) => step_at(&value),
-            Err(Refusal::Memory) => Err(Fault::Memory),
-            Err(Refusal::Invalid) => Err(Fault::BadJson),
+        let Ok(text) = str::from_utf8(bytes) else {
+            return Err(Fault::BadJson);
+        };
+        match read_text(text, &mut self.scratch) {
+            Ok(Ok(step)) => Ok(step),
+            Ok(Err(flaw)) => Err(flaw.at(1)),
+            Err(Stop::Invalid) => Err(Fault::BadJson),
+            Err(Stop::Memory) => Err(Fault::Memory),
         }
     }
 }

@@ -1,29 +1,33 @@
 //! From bytes to a scenario.
-ghost use Rattle.std.specs.Prelude.{List, ℕ, Result, Ok, ◌≡◌, ◌≢◌, ◌≤◌, length, IfOk, IfErr, codes, pos};
-ghost use Rattle.json_values.specs.Reading.{view, items_view, object_view};
-ghost use Rattle.scenario_text.specs.Fields.{Gives, integer_of, optional_at};
-ghost use Rattle.scenario_text.specs.Plan.{Plan, max_steps, asked};
+ghost use Rattle.std.specs.Prelude.{List, ℕ, Result, Err, ◌≡◌, ◌≢◌, ◌<◌, ◌≤◌, length, IfOk, IfErr};
+ghost use Rattle.json.specs.Json.{value};
+ghost use Rattle.json_values.specs.Reading.{read_members};
+ghost use Rattle.serde_json.specs.Data.{Members, object};
+ghost use Rattle.serde_json.specs.Read.{of_json, converted, read};
+ghost use Rattle.scenario_text.specs.Listing.{AreRead, IsNamed, Tries, taken};
+ghost use Rattle.scenario_text.specs.Plan.{Plan, max_steps};
 ghost use Rattle.scenario_text.specs.declared.fault.Fault.{Fault};
-ghost use Rattle.scenario_text.specs.declared.fault.Fault.TheVariants.{Read as ReadFault};
-ghost use Rattle.scenario_text.specs.Steps.{step_of};
-ghost use Rattle.scenario_text.specs.Scenarios.{at_step, numbered, settings_of, steps_from, head_of, plan_of, bounded, StandsFor, Yields, Pushes, Answers, IsPlanOf};
-ghost use Rattle.serde_json.specs.Read.{read};
+ghost use Rattle.scenario_text.specs.declared.fault.Fault.TheVariants.{Read as ReadFault, TooManySteps};
+ghost use Rattle.scenario_text.specs.Scenarios.{at_step, head_settings, settings_of, plan_of, StandsFor, Yields, Answers};
+ghost use Rattle.scenario_text.specs.Whole.{TriesText};
 
+use crate::atoms::integer;
 use crate::fault::Fault;
-use crate::fields::{KeyError, integer_of, items_of, member, object_of, only};
+use crate::fields::KeyError;
+use crate::listing::{Listed, read_steps};
 use crate::plan::{MAX_STEPS, Scenario};
 use crate::step_list::StepList;
-use crate::steps::step_of;
-use crate::streaming::stream;
-use json::{Scratch, Value};
-use json_values::{Member, Refusal, from_str, get};
-use pid_blocks::Uid;
-use requests::PlainStep;
+use crate::stop::Stop;
+use json::{Reader, Scratch};
+use json_values::{Opening, next_scalar, open_value, pass_items, pass_value};
 use std::alloc::Global;
 use trace_stop::Settings;
 
 /// The most bytes of a scenario's text.
 pub(crate) const MAX_BYTES: usize = 4194304;
+
+/// The greatest depth of nested arrays and objects in a text.
+pub(crate) const MAX_DEPTH: usize = 127;
 
 impl KeyError {
     pub(crate) fn at(self, number: u32) -> Fault
@@ -39,48 +43,7 @@ impl KeyError {
     }
 }
 
-fn push(steps: &mut StepList, user: Uid, step: &PlainStep) -> Result<(), Fault>
-    ensures { Pushes (λ xs. xs) steps.old steps.new result (Ok (asked (user, step.now))) }
-{
-    steps.push(user, step)?;
-    Ok(())
-}
-
-/// Adds the step that a value is. The error is its first flaw, as the fault of the step with this number, or `Memory`.
-fn push_step(steps: &mut StepList, value: &Value<'_>, number: u32) -> Result<(), Fault>
-    ensures pushes { Pushes (λ xs. xs) steps.old steps.new result
-        (numbered number (step_of (view value.now))) }
-    ensures no_read { IfErr result (λ e. e ≢ ReadFault) }
-{
-    match step_of(value) {
-        Ok((user, step)) => push(steps, user, &step),
-        Err(flaw) => Err(flaw.at(number)),
-    }
-}
-
-fn steps_of(alloc: Global, items: &[Value<'_>]) -> Result<StepList, Fault>
-    requires { length items.now ≤ max_steps }
-    ensures yields { Yields (λ xs. xs) result (steps_from 1 (items_view items.now)) }
-    ensures bound { IfOk result (λ xs. length xs ≤ max_steps) }
-    ensures no_read { IfErr result (λ e. e ≢ ReadFault) }
-{
-    let mut steps = StepList::new(alloc);
-    for (i, item) in items.iter().enumerate() {
-        push_step(&mut steps, item, i as u32 + 1)?;
-    }
-    Ok(steps)
-}
-
-fn kill_at(scenario: &[Member<'_>]) -> Result<i64, KeyError>
-    ensures { result ≡ optional_at (codes "kill_on_debugger_exit") (pos 1) integer_of (object_view scenario.now) }
-{
-    match get(scenario, "kill_on_debugger_exit") {
-        Some(value) => integer_of(value),
-        None => Ok(1),
-    }
-}
-
-pub(crate) fn settings_of(kill: i64) -> Result<Settings, KeyError>
+fn settings_of(kill: i64) -> Result<Settings, KeyError>
     ensures { result ≡ settings_of kill }
 {
     match kill {
@@ -90,62 +53,134 @@ pub(crate) fn settings_of(kill: i64) -> Result<Settings, KeyError>
     }
 }
 
-#[tactic(auto, unfolding(crate::specs::Scenarios::head_of))]
-fn head_with<'v, 'a>(scenario: &'v [Member<'a>]) -> Result<(&'v [Value<'a>], Settings), KeyError>
-    ensures { Gives (λ x. (items_view x.0.now, x.1)) result (head_of (object_view scenario.now)) }
+/// Returns the settings, if the scenario has no other keys.
+fn head_settings(kill: Result<i64, KeyError>, is_alone: bool) -> Result<Settings, KeyError>
+    ensures { result ≡ head_settings kill is_alone }
 {
-    let items = items_of(member(scenario, "steps")?)?;
-    let kill = kill_at(scenario)?;
-    only(scenario, &["steps", "kill_on_debugger_exit"])?;
-    let settings = settings_of(kill)?;
-    Ok((items, settings))
+    let kill = kill?;
+    if !is_alone {
+        return Err(KeyError::Shape);
+    }
+    settings_of(kill)
 }
 
-#[tactic(auto, unfolding(crate::specs::Scenarios::head_of))]
-fn head_of<'v, 'a>(value: &'v Value<'a>) -> Result<(&'v [Value<'a>], Settings), KeyError>
-    ensures { Gives (λ x. (items_view x.0.now, x.1)) result (head_of (view value.now)) }
-{
-    head_with(object_of(value)?)
-}
-
-#[tactic(auto, using(crate::proofs::CountLemmas::many_steps, crate::proofs::CountLemmas::few_steps))]
-fn bounded_steps(alloc: Global, items: &[Value<'_>]) -> Result<StepList, Fault>
-    ensures yields { Yields (λ xs. xs) result
-        (bounded (items_view items.now) (steps_from 1 (items_view items.now))) }
-    ensures bound { IfOk result (λ xs. length xs ≤ max_steps) }
+/// Returns the steps of a list of at most `MAX_STEPS`, or the fault of the first that has one.
+fn bounded_steps(list: Listed) -> Result<StepList, Fault>
+    requires { length list.steps ≤ list.count }
+    ensures many { max_steps < list.count → result ≡ Err TooManySteps }
+    ensures few { list.count ≤ max_steps → result ≡ taken list }
+    ensures bound { IfOk result (λ steps. length steps ≤ max_steps) }
     ensures no_read { IfErr result (λ e. e ≢ ReadFault) }
 {
-    if items.len() > MAX_STEPS {
+    if list.count > MAX_STEPS {
         return Err(Fault::TooManySteps);
     }
-    steps_of(alloc, items)
-}
-
-#[tactic(auto, unfolding(crate::specs::Scenarios::plan_of))]
-fn plan_of(alloc: Global, value: &Value<'_>) -> Result<Scenario, Fault>
-    ensures yields { Yields (λ s. s) result (plan_of (view value.now)) }
-    ensures no_read { IfErr result (λ e. e ≢ ReadFault) }
-{
-    match head_of(value) {
-        Ok((items, settings)) => {
-            let steps = bounded_steps(alloc, items)?;
-            Ok(Scenario::new(settings, steps))
-        }
-        Err(flaw) => Err(flaw.at(0)),
+    match list.flaw {
+        Some((number, flaw)) => Err(flaw.at(number)),
+        None => Ok(list.steps),
     }
 }
 
-/// Returns the scenario that a text's value is. The error is its first fault.
-fn parse_whole(alloc: Global, text: &str) -> Result<Scenario, Fault>
-    ensures yields { IsPlanOf result (read text.now) }
+/// Returns the scenario of what was read of its members: its steps, the value of `kill_on_debugger_exit`, and whether
+/// it has no other keys. The error is its first fault.
+fn scenario_of(
+    steps: Result<Listed, KeyError>,
+    kill: Result<i64, KeyError>,
+    is_alone: bool,
+) -> Result<Scenario, Fault>
+    requires { IfOk steps (λ list. length list.steps ≤ list.count) }
+    ensures yields { (ms : Members) → AreRead steps kill is_alone ms → Yields (λ s. s) result (plan_of (object ms)) }
     ensures no_read { IfErr result (λ e. e ≢ ReadFault) }
+{
+    let list = match steps {
+        Ok(list) => list,
+        Err(flaw) => return Err(flaw.at(0)),
+    };
+    let settings = match head_settings(kill, is_alone) {
+        Ok(settings) => settings,
+        Err(flaw) => return Err(flaw.at(0)),
+    };
+    let steps = bounded_steps(list)?;
+    Ok(Scenario::new(settings, steps))
+}
+
+/// A key of a scenario.
+#[derive(Clone, Copy, Drop)]
+pub(crate) enum ScenarioKey {
+    Steps,
+    KillOnDebuggerExit,
+    Other,
+}
+
+fn scenario_key(name: &str) -> ScenarioKey
+    ensures { IsNamed result name.now }
+{
+    if name == "steps" {
+        ScenarioKey::Steps
+    } else if name == "kill_on_debugger_exit" {
+        ScenarioKey::KillOnDebuggerExit
+    } else {
+        ScenarioKey::Other
+    }
+}
+
+/// Reads the members of the object that the reader is in.
+fn read_scenario_members(
+    alloc: Global,
+    reader: &mut Reader<'_>,
+    depth: usize,
+) -> Result<Result<Scenario, Fault>, Stop>
+    requires { 4 < depth }
+    ensures scenario { Tries (λ r ms. Yields (λ s. s) r (plan_of (object ms))) (read_members depth reader.old) result reader.new }
+    ensures no_read { IfOk result (λ r. IfErr r (λ e. e ≢ ReadFault)) }
+{
+    let mut steps = Err(KeyError::Shape);
+    let mut kill = Ok(1);
+    let mut is_alone = true;
+    'members: while let Some(name) = reader.next_key()? {
+        match scenario_key(name) {
+            ScenarioKey::Steps => steps = read_steps(alloc, reader, depth)?,
+            ScenarioKey::KillOnDebuggerExit => {
+                let atom = next_scalar(reader, depth)?;
+                kill = integer(&atom);
+            }
+            ScenarioKey::Other => {
+                pass_value(reader, depth)?;
+                is_alone = false;
+            }
+        }
+    }
+    Ok(scenario_of(steps, kill, is_alone))
+}
+
+/// Reads the next value, which may be a scenario.
+fn read_scenario(alloc: Global, reader: &mut Reader<'_>) -> Result<Result<Scenario, Fault>, Stop>
+    ensures scenario { Tries (λ r d. Yields (λ s. s) r (plan_of d)) (converted of_json (value 127 reader.old)) result reader.new }
+    ensures no_read { IfOk result (λ r. IfErr r (λ e. e ≢ ReadFault)) }
+{
+    let opening = open_value(reader)?;
+    match opening {
+        Opening::Object => read_scenario_members(alloc, reader, MAX_DEPTH - 1),
+        Opening::Array => {
+            pass_items(reader, MAX_DEPTH - 1)?;
+            Ok(Err(Fault::BadShape(0)))
+        }
+        Opening::Scalar(_) => Ok(Err(Fault::BadShape(0))),
+    }
+}
+
+/// Returns the scenario of a text, or the first fault of the value that the text is.
+fn read_text(alloc: Global, text: &str) -> Result<Result<Scenario, Fault>, Stop>
+    ensures scenario { TriesText (λ r d. Yields (λ s. s) r (plan_of d)) (read text.now) result }
+    ensures no_read { IfOk result (λ r. IfErr r (λ e. e ≢ ReadFault)) }
 {
     let mut scratch = Scratch::new(alloc);
-    match from_str(alloc, text, &mut scratch) {
-        Ok(value) => plan_of(alloc, &value),
-        Err(Refusal::Memory) => Err(Fault::Memory),
-        Err(Refusal::Invalid) => Err(Fault::BadJson),
+    let mut reader = Reader::new(text, &mut scratch)?;
+    let scenario = read_scenario(alloc, &mut reader)?;
+    if reader.next().is_some() {
+        return Err(Stop::Invalid);
     }
+    Ok(scenario)
 }
 
 /// Returns the scenario of the bytes of a JSON text.
@@ -165,9 +200,10 @@ pub fn parse(alloc: Global, bytes: &[u8]) -> Result<Scenario, Fault>
     let Ok(text) = str::from_utf8(bytes) else {
         return Err(Fault::BadJson);
     };
-    match stream(alloc, text) {
-        Some(scenario) => Ok(scenario),
-        None => parse_whole(alloc, text),
+    match read_text(alloc, text) {
+        Ok(result) => result,
+        Err(Stop::Invalid) => Err(Fault::BadJson),
+        Err(Stop::Memory) => Err(Fault::Memory),
     }
 }
 

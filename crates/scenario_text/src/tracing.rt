@@ -1,36 +1,23 @@
 //! The requests of ptrace(2).
-ghost use Rattle.std.specs.Prelude.{◌≡◌, codes};
-ghost use Rattle.json_values.specs.Reading.{object_view};
-ghost use Rattle.scenario_text.specs.Fields.{name_at, optional_at, word_of as word_in};
-ghost use Rattle.scenario_text.specs.Names.{request_named};
-ghost use Rattle.scenario_text.specs.Tracing.{trace_me_of, set_event_mask_of, request_of, asked_of, ptrace_of};
+ghost use Rattle.std.specs.Prelude.{◌≡◌};
+ghost use Rattle.scenario_text.specs.Tracing.{ptrace_keys, trace_me_of, set_event_mask_of, request_of, asked_of, ptrace_of};
 
-use crate::arrays::mask_of;
-use crate::fields::{KeyError, member, only, text, word, word_of};
-use crate::names::request_named;
-use json_values::{Member, get};
+use crate::fields::{Fields, KeyError, only};
+use crate::keys::Keys;
 use requests::{PlainStep, Request};
 
-fn request_at(step: &[Member<'_>]) -> Result<Request, KeyError>
-    ensures { result ≡ name_at (codes "request") request_named (object_view step.now) }
+/// Returns the keys that every ptrace step has.
+fn ptrace_keys() -> Keys
+    ensures { result ≡ ptrace_keys }
 {
-    request_named(text(step, "request")?).ok_or(KeyError::Name)
-}
-
-fn data_at(step: &[Member<'_>]) -> Result<u32, KeyError>
-    ensures { result ≡ optional_at (codes "data") 0 word_in (object_view step.now) }
-{
-    match get(step, "data") {
-        Some(value) => word_of(value),
-        None => Ok(0),
-    }
+    Keys::USER | Keys::OP | Keys::CALLER | Keys::REQUEST
 }
 
 #[tactic(auto, unfolding(crate::specs::Tracing::trace_me_of))]
-fn trace_me_of(step: &[Member<'_>], caller: u32) -> Result<PlainStep, KeyError>
-    ensures { result ≡ trace_me_of caller (object_view step.now) }
+fn trace_me_of(step: &Fields, caller: u32) -> Result<PlainStep, KeyError>
+    ensures { result ≡ trace_me_of caller step.now }
 {
-    only(step, &["user", "op", "caller", "request"])?;
+    only(ptrace_keys(), step.keys)?;
     Ok(PlainStep::Ptrace {
         caller,
         request: Request::TraceMe,
@@ -40,12 +27,12 @@ fn trace_me_of(step: &[Member<'_>], caller: u32) -> Result<PlainStep, KeyError>
 }
 
 #[tactic(auto, unfolding(crate::specs::Tracing::set_event_mask_of))]
-fn set_event_mask_of(step: &[Member<'_>], caller: u32) -> Result<PlainStep, KeyError>
-    ensures { result ≡ set_event_mask_of caller (object_view step.now) }
+fn set_event_mask_of(step: &Fields, caller: u32) -> Result<PlainStep, KeyError>
+    ensures { result ≡ set_event_mask_of caller step.now }
 {
-    let target = word(step, "target")?;
-    let mask = mask_of(member(step, "mask")?)?;
-    only(step, &["user", "op", "caller", "request", "target", "mask"])?;
+    let target = step.target?;
+    let mask = step.mask?;
+    only(ptrace_keys() | Keys::TARGET | Keys::MASK, step.keys)?;
     Ok(PlainStep::Ptrace {
         caller,
         request: Request::SetEventMask,
@@ -56,12 +43,12 @@ fn set_event_mask_of(step: &[Member<'_>], caller: u32) -> Result<PlainStep, KeyE
 
 /// Returns a request with a target and data.
 #[tactic(auto, unfolding(crate::specs::Tracing::request_of))]
-fn request_of(step: &[Member<'_>], caller: u32, request: Request) -> Result<PlainStep, KeyError>
-    ensures { result ≡ request_of caller request (object_view step.now) }
+fn request_of(step: &Fields, caller: u32, request: Request) -> Result<PlainStep, KeyError>
+    ensures { result ≡ request_of caller request step.now }
 {
-    let target = word(step, "target")?;
-    let data = data_at(step)?;
-    only(step, &["user", "op", "caller", "request", "target", "data"])?;
+    let target = step.target?;
+    let data = step.data?;
+    only(ptrace_keys() | Keys::TARGET | Keys::DATA, step.keys)?;
     Ok(PlainStep::Ptrace {
         caller,
         request,
@@ -70,8 +57,8 @@ fn request_of(step: &[Member<'_>], caller: u32, request: Request) -> Result<Plai
     })
 }
 
-fn asked_of(step: &[Member<'_>], caller: u32, request: Request) -> Result<PlainStep, KeyError>
-    ensures { result ≡ asked_of caller request (object_view step.now) }
+fn asked_of(step: &Fields, caller: u32, request: Request) -> Result<PlainStep, KeyError>
+    ensures { result ≡ asked_of caller request step.now }
 {
     match request {
         Request::TraceMe => trace_me_of(step, caller),
@@ -82,10 +69,10 @@ fn asked_of(step: &[Member<'_>], caller: u32, request: Request) -> Result<PlainS
 
 /// Returns a ptrace step, from the keys of its request.
 #[tactic(auto, unfolding(crate::specs::Tracing::ptrace_of))]
-pub(crate) fn ptrace_of(step: &[Member<'_>]) -> Result<PlainStep, KeyError>
-    ensures { result ≡ ptrace_of (object_view step.now) }
+pub(crate) fn ptrace_of(step: &Fields) -> Result<PlainStep, KeyError>
+    ensures { result ≡ ptrace_of step.now }
 {
-    let caller = word(step, "caller")?;
-    let request = request_at(step)?;
+    let caller = step.caller?;
+    let request = step.request?;
     asked_of(step, caller, request)
 }

@@ -1,5 +1,6 @@
-use Rattle.std.proofs.Common.{rules, arith}
-use Rattle.json_values.specs.Reading.{view}
+use Rattle.std.proofs.Common.{Ok, Err, sym, ap, ◌∙◌, rules, arith}
+use Rattle.serde_json.specs.Read.{read}
+use Rattle.scenario_text.specs.Fields.{seen}
 use Rattle.scenario_text.specs.OneStep.{IsStep, too_long, no_value, value}
 use Rattle.scenario_text.specs.Plan.{asked}
 use Rattle.scenario_text.specs.Scenarios.{numbered}
@@ -10,10 +11,20 @@ use Rattle.scenario_text.proofs.one_step.StepReader.parse_step.Goals as goal
 pub returns-then-bytes-gt-MAX_STEP_BYTES-clause-step : goal.returns-then-bytes-gt-MAX_STEP_BYTES-clause-step
 returns-then-bytes-gt-MAX_STEP_BYTES-clause-step c = too_long (omega arith)
 
-pub returns-in-Ok-clause-step : goal.returns-in-Ok-clause-step
-returns-in-Ok-clause-step c =
-    answers_by asked (IsStep c.args.bytes.now) c.step_at.result (numbered 1 (step_of (view c.in-Ok.value))) c.step_at.ensures.step
-    (value (view c.in-Ok.value) (omega arith) (search rules))
+pub returns-in-Ok-Ok-clause-step : goal.returns-in-Ok-Ok-clause-step
+returns-in-Ok-Ok-clause-step c =
+    let good = c.in-Ok.ensures.cases in
+    let was = c.in-Ok-Ok.ensures in
+    answers_by asked (IsStep c.args.bytes.now) (Ok c.in-Ok-Ok.step) (numbered 1 (step_of was.0)) (ap (numbered 1) (ap (seen asked) (sym c.in-Ok-Ok.field-0-is) ∙ was.2)) (value was.0 (omega arith) (good.1, ap read (sym good.0) ∙ was.1))
+
+pub returns-in-Ok-Err-clause-step : goal.returns-in-Ok-Err-clause-step
+returns-in-Ok-Err-clause-step c =
+    let good = c.in-Ok.ensures.cases in
+    let was = c.in-Ok-Err.ensures in
+    answers_by asked (IsStep c.args.bytes.now) (Err c.at.result) (numbered 1 (step_of was.0)) (ap Err c.at.ensures ∙ ap (numbered 1) (ap (seen asked) (sym c.in-Ok-Err.field-0-is) ∙ was.2)) (value was.0 (omega arith) (good.1, ap read (sym good.0) ∙ was.1))
 
 pub returns-in-Err-Invalid-clause-step : goal.returns-in-Err-Invalid-clause-step
 returns-in-Err-Invalid-clause-step c = no_value (omega arith) (search rules)
+
+pub returns-in_default-clause-step : goal.returns-in_default-clause-step
+returns-in_default-clause-step c = no_value (omega arith) (search rules)

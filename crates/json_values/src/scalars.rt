@@ -1,0 +1,123 @@
+//! Values that are read without an allocation.
+ghost use Rattle.std.specs.Prelude.{◌≡◌, ◌<◌, ℕ, None, Some, IfOk, OnOk, OnErr, MatchResult, length};
+ghost use Rattle.json.specs.Json.{value};
+ghost use Rattle.serde_json.specs.Data.{Data};
+ghost use Rattle.serde_json.specs.Read.{of_json, number_of, converted};
+ghost use Rattle.json_values.specs.Reading.{IsNumber, Opens, Says, read_items, read_members, rest};
+
+use crate::numbers::number;
+use json::{Invalid, Reader, Token};
+
+/// A value, as far as it is known without an allocation.
+#[derive(Clone, Copy, Debug, Drop)]
+pub enum Scalar<'a> {
+    /// A whole number that fits in `i64`.
+    Integer(i64),
+    /// A string.
+    Text(&'a str),
+    /// Any other value.
+    Other,
+}
+
+/// What comes first in a value.
+#[derive(Clone, Copy, Debug, Drop)]
+pub enum Opening<'a> {
+    Array,
+    Object,
+    /// The whole value, which is no array and no object.
+    Scalar(Scalar<'a>),
+}
+
+/// Reads a number, which must not be too large.
+#[inline(always)]
+fn number_scalar<'a>(text: &str) -> Result<Scalar<'a>, Invalid>
+    ensures ok { IfOk result (λ s. IsNumber s (number_of text.now)) }
+    ensures invalid { OnErr result (number_of text.now ≡ None) }
+{
+    match number(text)? {
+        Some(number) => Ok(Scalar::Integer(number)),
+        None => Ok(Scalar::Other),
+    }
+}
+
+/// Takes the bracket that opens an array, the brace that opens an object, or a whole value of another kind.
+#[inline(always)]
+pub fn open_value<'a>(reader: &mut Reader<'a>) -> Result<Opening<'a>, Invalid>
+    ensures opened { IfOk result (λ opening. Opens opening reader.old reader.new) }
+    ensures shorter { OnOk result (length reader.new < length reader.old) }
+    ensures invalid { OnErr result ((depth : ℕ) → converted of_json (value depth reader.old) ≡ None) }
+{
+    let token = reader.next().ok_or(Invalid)?;
+    match token {
+        Token::BeginArray => Ok(Opening::Array),
+        Token::BeginObject => Ok(Opening::Object),
+        Token::String(text) => Ok(Opening::Scalar(Scalar::Text(text))),
+        Token::Number(text) => Ok(Opening::Scalar(number_scalar(text)?)),
+        Token::Bool(_) | Token::Null => Ok(Opening::Scalar(Scalar::Other)),
+        Token::EndObject | Token::EndArray | Token::Key(_) | Token::Bad => Err(Invalid),
+    }
+}
+
+/// Reads the next value, and allocates nothing. Arrays and objects may nest `depth` deep. After an error the reader
+/// is at some later token, or has no more tokens.
+#[cycle(pass)]
+#[inline(always)]
+pub fn next_scalar<'a>(reader: &mut Reader<'a>, depth: usize) -> Result<Scalar<'a>, Invalid>
+    ensures ok { IfOk result (λ s. (d : Data) × (converted of_json (value depth reader.old) ≡ Some (d, reader.new)) × Says s d) }
+    ensures shorter { OnOk result (length reader.new < length reader.old) }
+    ensures invalid { OnErr result (converted of_json (value depth reader.old) ≡ None) }
+{
+    let opening = open_value(reader)?;
+    match opening {
+        Opening::Scalar(scalar) => Ok(scalar),
+        Opening::Array => if depth == 0 {
+            Err(Invalid)
+        } else {
+            pass_items(reader, depth - 1)?;
+            Ok(Scalar::Other)
+        },
+        Opening::Object => if depth == 0 {
+            Err(Invalid)
+        } else {
+            pass_members(reader, depth - 1)?;
+            Ok(Scalar::Other)
+        },
+    }
+}
+
+/// Passes over the items of an array, and over its closing bracket.
+#[cycle(pass)]
+#[inline(never)]
+pub fn pass_items(reader: &mut Reader<'_>, depth: usize) -> Result<(), Invalid>
+    ensures value { MatchResult result (λ _. rest (read_items depth reader.old) ≡ Some reader.new) (λ _. read_items depth reader.old ≡ None) }
+    ensures shorter { OnOk result (length reader.new < length reader.old) }
+{
+    while !reader.take_end_array() {
+        next_scalar(reader, depth)?;
+    }
+    Ok(())
+}
+
+/// Passes over the members of an object, and over its closing brace.
+#[cycle(pass)]
+#[inline(never)]
+pub fn pass_members(reader: &mut Reader<'_>, depth: usize) -> Result<(), Invalid>
+    ensures value { MatchResult result (λ _. rest (read_members depth reader.old) ≡ Some reader.new) (λ _. read_members depth reader.old ≡ None) }
+    ensures shorter { OnOk result (length reader.new < length reader.old) }
+{
+    while let Some(_) = reader.next_key()? {
+        next_scalar(reader, depth)?;
+    }
+    Ok(())
+}
+
+/// Passes over the next value, and checks it as `serde_json` does. It allocates nothing. Arrays and objects may nest
+/// `depth` deep.
+#[inline(always)]
+pub fn pass_value(reader: &mut Reader<'_>, depth: usize) -> Result<(), Invalid>
+    ensures ok { OnOk result ((d : Data) × (converted of_json (value depth reader.old) ≡ Some (d, reader.new))) }
+    ensures shorter { OnOk result (length reader.new < length reader.old) }
+    ensures invalid { OnErr result (converted of_json (value depth reader.old) ≡ None) }
+{
+    next_scalar(reader, depth).map(|_| ())
+}

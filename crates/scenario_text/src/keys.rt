@@ -1,0 +1,158 @@
+//! The keys of steps and of rules.
+ghost use Rattle.std.specs.Prelude.{◌≡◌};
+ghost use Rattle.scenario_text.specs.Keys.{key_named, key_set};
+
+use std::ops::BitOr;
+
+/// A set of keys. `OTHER` stands for all that neither steps nor rules have.
+#[derive(Clone, Copy, Drop)]
+pub(crate) struct Keys(pub(crate) u32);
+
+impl Keys {
+    ghost use Rattle.scenario_text.specs.Keys.{are_among};
+
+    pub(crate) const NONE: Keys = Keys(0);
+
+    pub(crate) const USER: Keys = Keys(1);
+
+    pub(crate) const OP: Keys = Keys(2);
+
+    pub(crate) const CALLER: Keys = Keys(4);
+
+    pub(crate) const LWP: Keys = Keys(8);
+
+    pub(crate) const ACT: Keys = Keys(16);
+
+    pub(crate) const WHICH: Keys = Keys(32);
+
+    pub(crate) const REQUEST: Keys = Keys(64);
+
+    pub(crate) const TARGET: Keys = Keys(128);
+
+    pub(crate) const DATA: Keys = Keys(256);
+
+    pub(crate) const CALL: Keys = Keys(512);
+
+    pub(crate) const CODE: Keys = Keys(1024);
+
+    pub(crate) const SIGNAL: Keys = Keys(2048);
+
+    pub(crate) const OPTIONS: Keys = Keys(4096);
+
+    pub(crate) const ACTION: Keys = Keys(8192);
+
+    pub(crate) const RULES: Keys = Keys(16384);
+
+    pub(crate) const SET: Keys = Keys(32768);
+
+    pub(crate) const MASK: Keys = Keys(65536);
+
+    pub(crate) const FLAGS: Keys = Keys(131072);
+
+    pub(crate) const DECISION: Keys = Keys(262144);
+
+    pub(crate) const PASS: Keys = Keys(524288);
+
+    pub(crate) const OTHER: Keys = Keys(1048576);
+
+    /// Tests whether all of these keys are among the allowed ones.
+    pub(crate) fn are_among(self, allowed: Keys) -> bool
+        ensures { result ≡ are_among allowed self }
+    {
+        allowed.0 & self.0 == self.0
+    }
+}
+
+impl BitOr for Keys {
+    ghost use Rattle.scenario_text.specs.Keys.{◌∪◌};
+
+    type Output = Keys;
+
+    ghost bitor_gives = { λ a b r. r ≡ a ∪ b };
+
+    fn bitor(self, other: Keys) -> Keys {
+        Keys(self.0 | other.0)
+    }
+}
+
+/// A key of a step or of a rule.
+#[derive(Clone, Copy)]
+pub(crate) enum Key {
+    User,
+    Op,
+    Caller,
+    Lwp,
+    Act,
+    Which,
+    Request,
+    Target,
+    Data,
+    Call,
+    Code,
+    Signal,
+    Options,
+    Action,
+    Rules,
+    Set,
+    Mask,
+    Flags,
+    Decision,
+    Pass,
+}
+
+/// Returns the key with this name, if steps or rules have it.
+pub(crate) fn key_named(text: &str) -> Option<Key>
+    ensures { result ≡ key_named text.now }
+{
+    match text {
+        "user" => Some(Key::User),
+        "op" => Some(Key::Op),
+        "caller" => Some(Key::Caller),
+        "lwp" => Some(Key::Lwp),
+        "act" => Some(Key::Act),
+        "which" => Some(Key::Which),
+        "request" => Some(Key::Request),
+        "target" => Some(Key::Target),
+        "data" => Some(Key::Data),
+        "call" => Some(Key::Call),
+        "code" => Some(Key::Code),
+        "signal" => Some(Key::Signal),
+        "options" => Some(Key::Options),
+        "action" => Some(Key::Action),
+        "rules" => Some(Key::Rules),
+        "set" => Some(Key::Set),
+        "mask" => Some(Key::Mask),
+        "flags" => Some(Key::Flags),
+        "decision" => Some(Key::Decision),
+        "pass" => Some(Key::Pass),
+        _ => None,
+    }
+}
+
+/// Returns the set of one key.
+pub(crate) fn set_of(key: Key) -> Keys
+    ensures { result ≡ key_set key }
+{
+    match key {
+        Key::User => Keys::USER,
+        Key::Op => Keys::OP,
+        Key::Caller => Keys::CALLER,
+        Key::Lwp => Keys::LWP,
+        Key::Act => Keys::ACT,
+        Key::Which => Keys::WHICH,
+        Key::Request => Keys::REQUEST,
+        Key::Target => Keys::TARGET,
+        Key::Data => Keys::DATA,
+        Key::Call => Keys::CALL,
+        Key::Code => Keys::CODE,
+        Key::Signal => Keys::SIGNAL,
+        Key::Options => Keys::OPTIONS,
+        Key::Action => Keys::ACTION,
+        Key::Rules => Keys::RULES,
+        Key::Set => Keys::SET,
+        Key::Mask => Keys::MASK,
+        Key::Flags => Keys::FLAGS,
+        Key::Decision => Keys::DECISION,
+        Key::Pass => Keys::PASS,
+    }
+}
