@@ -16,6 +16,10 @@ pub trait CallLog: Sized {
     /// There is room for one more.
     ghost has_room: { Self → Type 0 };
 
+    /// Creates a log of no calls. It allocates no memory.
+    fn empty(alloc: Global) -> Self
+        ensures { entries result ≡ [] };
+
     /// Creates a log of no calls, with room for `calls` of them. An error means out of memory.
     fn with_room(alloc: Global, calls: usize) -> Result<Self, AllocError>
         ensures { IfOk result (λ log. entries log ≡ []) };
@@ -36,6 +40,10 @@ impl CallLog for Vec<Entry> {
     ghost entries = { λ v. v.items };
 
     ghost has_room = { λ v. vec_len v < vec_capacity v };
+
+    fn empty(alloc: Global) -> Vec<Entry> {
+        Vec::new(alloc)
+    }
 
     fn with_room(alloc: Global, calls: usize) -> Result<Vec<Entry>, AllocError> {
         Vec::with_capacity(alloc, calls)
@@ -90,6 +98,10 @@ impl CallLog for Unkept {
     ghost entries = { λ u. u };
 
     ghost has_room = { λ _. ⊤ };
+
+    fn empty(_alloc: Global) -> Unkept {
+        Unkept { calls: None }
+    }
 
     fn with_room(_alloc: Global, _calls: usize) -> Result<Unkept, AllocError> {
         Ok(Unkept { calls: None })
