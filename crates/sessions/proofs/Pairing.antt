@@ -15,17 +15,16 @@ use Rattle.host_lock.specs.declared.host.CloseRefusal.TheVariants.{Missing}
 use Rattle.host_lock.specs.Limits.{max_calls}
 use Rattle.host_lock.specs.Rule.{Each}
 use Rattle.host_lock.proofs.Totals.{all_of, each_of}
-use Rattle.host_lock.specs.Sessions.{SessionData, HostData, IsOf, InJournal, new_session, new_sessions}
+use Rattle.host_lock.specs.Sessions.{SessionData, HostData, IsBelow, IsOf, InJournal, new_session, new_sessions}
 use Rattle.sessions.specs.declared.job.Job.{Job}
 use Rattle.sessions.specs.declared.job.Done.{Done}
-use Rattle.sessions.specs.declared.script.Script.{Script}
 use Rattle.sessions.specs.declared.boxing.BoxedScript.{BoxedScript}
 use Rattle.sessions.specs.declared.script.Transcript.{Transcript}
 use Rattle.sessions.specs.Made.{Did, Pairs}
 use Rattle.sessions.specs.Jobs.{AllDone, IsReady, HasRoom, job_session, job_steps, done_session, done_transcript}
 use Rattle.sessions.specs.Boxed.{SmallStep, own_step, boxed_script, uid_of, steps_of}
-use Rattle.sessions.specs.Runs.{IsShort, AllPlay}
-use Rattle.sessions.specs.PlainRuns.{AreFew, Answers, AllAnswer, plain_script}
+use Rattle.sessions.specs.Runs.{AllPlay, OwnEntries}
+use Rattle.sessions.specs.PlainRuns.{AreFew, Answers, AllAnswer, RanBy}
 
 pub each_snoc : {A : Type 0} (P : A → Type 0) (xs : List A) (x : A) → Each P xs → P x → Each P (xs ++ x ∷ [])
 each_snoc P [] x e p = (p, tt)
@@ -75,31 +74,44 @@ answers_of f log (x ∷ xs) ts long each = (
       subst (λ q. Answers log k q (slice_index_or ts k t)) (sym (get_or-map f (x ∷ xs) k x p below)) (each k x t below),
 )
 
-pub plays_of : {F : Type 0} (log : List Entry) (ss : List (Script F)) (ts : List Transcript) → AllAnswer log (map plain_script ss) ts → AllPlay log ss ts
-plays_of log ss ts all = (
-  all.0 ∙ length_map plain_script ss,
+pub plays_of : {S : Type 0} (f : S → ℕ × List PlainStep) (log : List Entry) (ss : List S) (ts : List Transcript) → AllAnswer log (map f ss) ts → AllPlay f log ss ts
+plays_of f log ss ts all = (
+  all.0 ∙ length_map f ss,
   λ k s t lt.
-      let below : k < length (map plain_script ss) = subst (λ n. k < n) (sym (length_map plain_script ss)) lt in
-      subst (λ q. Answers log k q (slice_index_or ts k t)) (get_or-map plain_script ss k s (0, []) lt) (all.1 k (0, []) t below),
+      let below : k < length (map f ss) = subst (λ n. k < n) (sym (length_map f ss)) lt in
+      subst (λ q. Answers log k q (slice_index_or ts k t)) (get_or-map f ss k s (0, []) lt) (all.1 k (0, []) t below),
 )
+
+-- what is known of a run, of the calls that it hands out
+pub kept_below : (m h : Machine) (ps : List (ℕ × List PlainStep)) (log calls : List Entry) (ts : List Transcript) (n : ℕ) → RanBy m ps log h ts → calls ≡ log → length ps ≡ n → All (IsBelow n) calls
+kept_below m h ps log calls ts n ran kept count =
+    subst (λ (l : List Entry). All (IsBelow n) l) (sym kept) (subst (λ (k : ℕ). All (IsBelow k) log) count ran.entries)
+
+pub kept_plays : {S : Type 0} (f : S → ℕ × List PlainStep) (m h : Machine) (ps : List (ℕ × List PlainStep)) (log calls : List Entry) (ts : List Transcript) (ss : List S) → RanBy m ps log h ts → calls ≡ log → ps ≡ map f ss → AllPlay f calls ss ts
+kept_plays f m h ps log calls ts ss ran kept same =
+    subst (λ (l : List Entry). AllPlay f l ss ts) (sym kept) (plays_of f log ss ts (subst (λ (qs : List (ℕ × List PlainStep)). AllAnswer log qs ts) same ran.transcripts))
+
+pub kept_own : (m h : Machine) (ps : List (ℕ × List PlainStep)) (log calls : List Entry) (ts : List Transcript) → RanBy m ps log h ts → calls ≡ log → OwnEntries m calls
+kept_own m h ps log calls ts ran kept = subst (λ (l : List Entry). OwnEntries m l) (sym kept) ran.own
 
 pub some_of : (n : ℕ) → (n == 0) ≡ false → 0 < n
 some_of zero is = absurd (true≢false is)
 some_of (suc n) is = omega arith
 
 -- scripts of both kinds with the same users and steps are as many
-pub same_count : {F : Type 0} (bs : List (BoxedScript F)) (ss : List (Script F)) → map boxed_script bs ≡ map plain_script ss → length bs ≡ length ss
-same_count bs ss same = sym (length_map boxed_script bs) ∙ ap length same ∙ length_map plain_script ss
+pub same_count : {B S : Type 0} (g : B → ℕ × List PlainStep) (f : S → ℕ × List PlainStep) (bs : List B) (ss : List S) → map g bs ≡ map f ss → length bs ≡ length ss
+same_count g f bs ss same = sym (length_map g bs) ∙ ap length same ∙ length_map f ss
 
-short_each : {F : Type 0} (ss : List (Script F)) → AllByRecursion IsShort ss → AllByRecursion AreFew (map plain_script ss)
-short_each [] short = tt
-short_each (s ∷ rest) short =
-    let count = s.steps.ok.0 in
-    let here = short.0 in
-    (omega arith, short_each rest short.1)
+module _ {S : Type 0} (f : S → ℕ × List PlainStep) (count : S → ℕ) (counts : (s : S) → count s ≡ length (f s).1) where
+  short_each : (ss : List S) → AllByRecursion (λ s. count s ≤ max_calls) ss → AllByRecursion AreFew (map f ss)
+  short_each [] short = tt
+  short_each (s ∷ rest) short =
+      let same = counts s in
+      let here = short.0 in
+      (omega arith, short_each rest short.1)
 
-pub short_plain : {F : Type 0} (ss : List (Script F)) → All IsShort ss → All AreFew (map plain_script ss)
-short_plain ss short = All-from_recursion AreFew (map plain_script ss) (short_each ss (recursion_from_All IsShort ss short))
+  pub short_plain : (ss : List S) → All (λ s. count s ≤ max_calls) ss → All AreFew (map f ss)
+  short_plain ss short = All-from_recursion AreFew (map f ss) (short_each ss (recursion_from_All (λ s. count s ≤ max_calls) ss short))
 
 module _ {F : Type 0} (h : Machine) (z : TableId) where
   -- what is known of the jobs that were made of the scripts

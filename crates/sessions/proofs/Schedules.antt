@@ -18,7 +18,7 @@ use Rattle.host_lock.proofs.Totals.{each_of}
 use Rattle.sessions.specs.declared.script.Script.{Script}
 use Rattle.sessions.specs.declared.script.Transcript.{Transcript}
 use Rattle.sessions.specs.Made.{made}
-use Rattle.sessions.specs.Runs.{Plays, AllPlay, entries_by}
+use Rattle.sessions.specs.Runs.{Plays, AllPlay, entries_by, plain_script}
 use Rattle.sessions.specs.Schedules.{IsOnlyScript, IsAnswered, EverySchedule, AlikeJournals}
 
 -- The steps of one user's entries
@@ -85,7 +85,7 @@ same_tests u i e there back = by_tests (e.uid == u) (e.session == i) refl refl
     by_tests false true is same = eq-eqb e.uid u (back (eqb-true e.session i same)) ∙ sym same
     by_tests false false is same = is ∙ sym same
 
-module _ {F : Type 0} (scripts : List (Script F)) (log : List Entry) (ts : List Transcript) (plays : AllPlay log scripts ts) (u i : ℕ) (s : Script F) (t : Transcript) (only : IsOnlyScript u scripts i s) where
+module _ {F : Type 0} (scripts : List (Script F)) (log : List Entry) (ts : List Transcript) (plays : AllPlay plain_script log scripts ts) (u i : ℕ) (s : Script F) (t : Transcript) (only : IsOnlyScript u scripts i s) where
   -- each entry is of its script's user
   of_script : (k : ℕ) → k < length scripts → Each (λ (e : Entry). (e.session == k) ≡ true → e.uid ≡ (slice_index_or scripts k s).uid) log
   of_script k lt =
@@ -112,7 +112,7 @@ module _ {F : Type 0} (scripts : List (Script F)) (log : List Entry) (ts : List 
       → (asked (entries_by u log) ≡ map (λ (x : PlainStep). record { uid = u; step = x }) s.steps.items) × (map (λ (e : Entry). e.reply) (entries_by u log) ≡ t.replies.items)
   entries_are below at answered =
       let lt : i < length scripts = slice_get_within scripts i s only.0 in
-      let p : Plays log i s t = subst (λ (x : Script F). Plays log i x t) (get_or_from_slice_get scripts i s s only.0) (subst (λ (x : Transcript). Plays log i (slice_index_or scripts i s) x) (get_or_from_slice_get ts i t t at) (plays.1 i s t lt)) in
+      let p : Plays plain_script log i s t = subst (λ (x : Script F). Plays plain_script log i x t) (get_or_from_slice_get scripts i s s only.0) (subst (λ (x : Transcript). Plays plain_script log i (slice_index_or scripts i s) x) (get_or_from_slice_get ts i t t at) (plays.1 i s t lt)) in
       let same : entries_by u log ≡ entries_of i log = same_kept (λ (e : Entry). e.uid == u) (λ (e : Entry). e.session == i) log (by_user log below of_script) in
       let is : entries_by u log ≡ made u i s.steps.items t.replies.items = same ∙ p.2 ∙ ap (λ (x : ℕ). made x i s.steps.items t.replies.items) only.1 in
       let all = made_all u i s.steps.items t.replies.items p.1 answered in

@@ -6,6 +6,9 @@ use Rattle.requests.specs.declared.step.Step.{Step}
 use Rattle.requests.specs.declared.step.Step.TheVariants as op
 use Rattle.requests.specs.Plain.{PlainStep}
 use Rattle.sessions.specs.declared.boxing.BoxedScript.{BoxedScript}
+use Rattle.sessions.specs.declared.boxing.AnyScript.{AnyScript}
+use Rattle.sessions.specs.declared.boxing.AnyScript.TheVariants.{InSteps, OnHeap}
+use Rattle.sessions.specs.Runs.{plain_script}
 
 abbrev pub SmallStep : Type 0
 SmallStep = Step (Box (List Rule))
@@ -24,6 +27,10 @@ own_step (op.Turn tid act) = op.Turn tid act
 
 abbrev pub boxed_script : {F : Type 0} → BoxedScript F → ℕ × List PlainStep
 boxed_script s = (s.uid, map own_step s.steps.items)
+
+abbrev pub any_script : {F : Type 0} → AnyScript F → ℕ × List PlainStep
+any_script (InSteps s) = plain_script s
+any_script (OnHeap s) = boxed_script s
 
 abbrev pub uid_of : {F : Type 0} → BoxedScript F → ℕ
 uid_of s = s.uid

@@ -6,14 +6,9 @@ use Rattle.host_lock.specs.declared.journal.Entry.{Entry}
 use Rattle.host_lock.specs.Journal.{replay, entries_of, IsLegal}
 use Rattle.host_lock.specs.Limits.{max_calls}
 use Rattle.host_lock.specs.Sessions.{IsBelow}
-use Rattle.sessions.specs.declared.script.Script.{Script}
 use Rattle.sessions.specs.declared.script.Transcript.{Transcript}
 use Rattle.sessions.specs.Made.{made}
 use Rattle.sessions.specs.Runs.{OwnEntries}
-
--- a script's user and steps
-abbrev pub plain_script : {F : Type 0} → Script F → ℕ × List PlainStep
-plain_script s = (s.uid, s.steps.items)
 
 -- one session can make all the steps
 abbrev pub AreFew : ℕ × List PlainStep → Type 0

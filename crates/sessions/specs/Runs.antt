@@ -3,6 +3,7 @@ use Rattle.std.specs.Prelude.{◌≡◌, ℕ, ◌<◌, ◌≤◌, ◌==◌, List
 use Rattle.host_lock.specs.declared.journal.Entry.{Entry}
 use Rattle.pid_blocks.specs.Users.{IsUser}
 use Rattle.requests.specs.Machine.{Machine}
+use Rattle.requests.specs.Plain.{PlainStep}
 use Rattle.requests.specs.Run.{replies, last}
 use Rattle.requests.specs.View.{view, alone}
 use Rattle.host_lock.specs.Journal.{asked, replay, entries_of}
@@ -17,14 +18,18 @@ use Rattle.sessions.specs.Made.{made}
 abbrev pub IsShort : {F : Type 0} → Script F → Type 0
 IsShort s = vec_len s.steps ≤ max_calls
 
--- the transcript has one reply for each step, in order; the journal's entries of this number are the steps with their
+-- a script's user and steps
+abbrev pub plain_script : {F : Type 0} → Script F → ℕ × List PlainStep
+plain_script s = (s.uid, s.steps.items)
+
+-- the transcript has one reply for each step of a script, in order, where `plain` gives its user and steps; the journal's entries of this number are the steps with their
 -- replies, except those with the reply ENOMEM
-abbrev pub Plays : {F : Type 0} → List Entry → ℕ → Script F → Transcript → Type 0
-Plays log k s t = (t.uid ≡ s.uid) × (length t.replies.items ≡ length s.steps.items) × (entries_of k log ≡ made s.uid k s.steps.items t.replies.items)
+abbrev pub Plays : {S : Type 0} → (S → ℕ × List PlainStep) → List Entry → ℕ → S → Transcript → Type 0
+Plays plain log k s t = (t.uid ≡ (plain s).0) × (length t.replies.items ≡ length (plain s).1) × (entries_of k log ≡ made (plain s).0 k (plain s).1 t.replies.items)
 
 -- one transcript for each script, in order
-abbrev pub AllPlay : {F : Type 0} → List Entry → List (Script F) → List Transcript → Type 0
-AllPlay {F} log ss ts = (length ts ≡ length ss) × ((k : ℕ) (s : Script F) (t : Transcript) → k < length ss → Plays log k (slice_index_or ss k s) (slice_index_or ts k t))
+abbrev pub AllPlay : {S : Type 0} → (S → ℕ × List PlainStep) → List Entry → List S → List Transcript → Type 0
+AllPlay {S} plain log ss ts = (length ts ≡ length ss) × ((k : ℕ) (s : S) (t : Transcript) → k < length ss → Plays plain log k (slice_index_or ss k s) (slice_index_or ts k t))
 
 -- the entries of a user
 abbrev pub entries_by : ℕ → List Entry → List Entry

@@ -13,14 +13,14 @@ use Rattle.host_lock.specs.Journal.{asked, IsLegal, replay}
 use Rattle.host_lock.specs.Sessions.{IsBelow}
 use Rattle.sessions.specs.declared.script.Script.{Script}
 use Rattle.sessions.specs.declared.script.Transcript.{Transcript}
-use Rattle.sessions.specs.Runs.{AllPlay, entries_by, OwnEntries}
+use Rattle.sessions.specs.Runs.{AllPlay, entries_by, plain_script, OwnEntries}
 
 -- what the clauses of `run_sessions` say of the host k, the journal and the transcripts of a run from the host m
 pub record IsRun {F : Type 0} (m : Machine) (scripts : Vec (Script F) Global) (k : Machine) (log : List Entry) (ts : List Transcript) : Type 0 where
   pub legal : IsLegal m log
   pub host : k ≡ replay m log
   pub entries : All (IsBelow (vec_len scripts)) log
-  pub transcripts : AllPlay log scripts.items ts
+  pub transcripts : AllPlay plain_script log scripts.items ts
   pub own : OwnEntries m log
 
 -- the script s, in place i, is the only one of the user

@@ -3,6 +3,7 @@
 
 mod boxing;
 mod job;
+mod kept;
 pub mod laws;
 mod ready;
 mod run;
@@ -10,6 +11,7 @@ mod script;
 mod worker;
 mod workers;
 
-pub use boxing::{BoxedScript, BoxedStep, boxed};
-pub use run::{run_boxed, run_sessions};
+pub use boxing::{AnyScript, BoxedScript, BoxedStep, Scripted, boxed};
+pub use kept::Kept;
+pub use run::run_sessions;
 pub use script::{Gate, RunRefusal, Script, Transcript};

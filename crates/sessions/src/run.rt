@@ -1,20 +1,21 @@
 //! Runs scripts of many users at the same time on one host.
 ghost use Rattle.std.specs.Prelude.{◌≡◌, ◌<◌, ◌≤◌, [], map, vec_len, All, IfOk, IfErr, OnOk};
 ghost use Rattle.host_lock.specs.Journal.{IsLegal, replay};
-ghost use Rattle.host_lock.specs.Limits.{max_sessions};
+ghost use Rattle.host_lock.specs.Limits.{max_calls, max_sessions};
 ghost use Rattle.host_lock.specs.Sessions.{IsBelow};
 ghost use Rattle.sessions.specs.Boxed.{boxed_script};
 ghost use Rattle.sessions.specs.Jobs.{HasRoomFor, done_session, done_transcript};
-ghost use Rattle.sessions.specs.Runs.{IsShort, AllPlay, OwnEntries, RefusesFor};
-ghost use Rattle.sessions.specs.PlainRuns.{AreFew, Ran, RanBy};
+ghost use Rattle.sessions.specs.Runs.{AllPlay, OwnEntries, RefusesFor};
+ghost use Rattle.sessions.specs.PlainRuns.{AreFew, RanBy};
 
-use crate::boxing::{BoxedScript, boxed_scripts};
+use crate::boxing::{BoxedScript, Scripted, boxed_scripts};
 use crate::job::Done;
+use crate::kept::Kept;
 use crate::ready::{Ready, Room, prepare};
-use crate::script::{Gate, RunRefusal, Script, Transcript};
+use crate::script::{Gate, RunRefusal, Transcript};
 use crate::worker::reversed;
 use crate::workers::run_all;
-use host_lock::{CallLog, Entry, Journal, MAX_SESSIONS, Session, Unkept};
+use host_lock::{CallLog, MAX_SESSIONS, Session};
 use requests::Host;
 use std::alloc::Global;
 use std::sync::Wait;
@@ -25,26 +26,32 @@ use stop_handlers::Decider;
 /// several scripts.
 ///
 /// Returns the host, the journal, and a transcript for each script. In the journal, a script's index is the number of
-/// its session.
+/// its session. Where `K` is `Unkept`, no call is kept, and only contracts see the journal.
 ///
 /// # Errors
 ///
 /// `TooMany` where there are more scripts than a host may have sessions, `Memory` where memory ran out before the first
 /// worker began, `Start` where a thread could not be started. The host is dropped.
-pub fn run_sessions<F: Decider + Send + Drop, G: Gate, R: Threads + Wait + Sync>(
+pub fn run_sessions<
+    F: Decider + Send + Drop,
+    S: Scripted<F>,
+    K: Kept,
+    G: Gate,
+    R: Threads + Wait + Sync,
+>(
     rt: &R,
     alloc: Global,
     host: Host<F>,
-    scripts: Vec<Script<F>>,
+    scripts: Vec<S>,
     gate: &G,
-) -> Result<(Host<F>, Journal, Vec<Transcript>), RunRefusal>
-    requires { All IsShort scripts.items }
-    ensures legal { IfOk result (λ r. IsLegal host r.1) }
-    ensures host { IfOk result (λ r. r.0 ≡ replay host r.1) }
-    ensures entries { IfOk result (λ r. All (IsBelow (vec_len scripts)) r.1) }
-    ensures transcripts { IfOk result (λ r. AllPlay r.1 scripts.items r.2.items) }
-    ensures own { IfOk result (λ r. OwnEntries host r.1) }
-    ensures none { IfOk result (λ r. vec_len scripts ≡ 0 → (r.0 ≡ host) × (r.1 ≡ [])) }
+) -> Result<(Host<F>, K, Vec<Transcript>), RunRefusal>
+    requires { All (λ s. S.count s ≤ max_calls) scripts.items }
+    ensures legal { IfOk result (λ r. IsLegal host (K.calls r.1)) }
+    ensures host { IfOk result (λ r. r.0 ≡ replay host (K.calls r.1)) }
+    ensures entries { IfOk result (λ r. All (IsBelow (vec_len scripts)) (K.calls r.1)) }
+    ensures transcripts { IfOk result (λ r. AllPlay S.plain (K.calls r.1) scripts.items r.2.items) }
+    ensures own { IfOk result (λ r. OwnEntries host (K.calls r.1)) }
+    ensures none { IfOk result (λ r. vec_len scripts ≡ 0 → (r.0 ≡ host) × (K.calls r.1 ≡ [])) }
     ensures few { OnOk result (vec_len scripts ≤ max_sessions) }
     ensures refuses { IfErr result (RefusesFor (vec_len scripts)) }
 {
@@ -53,52 +60,20 @@ pub fn run_sessions<F: Decider + Send + Drop, G: Gate, R: Threads + Wait + Sync>
     }
     if scripts.is_empty() {
         host.kept();
-        return Ok((host, Journal::empty(alloc), Vec::new(alloc)));
+        let log = K::Log::empty(alloc);
+        return Ok((host, K::of_log(log), Vec::new(alloc)));
     }
     let Ok(scripts) = boxed_scripts(alloc, scripts) else {
         return Err(RunRefusal::Memory);
     };
-    let left: Left<F, Vec<Entry>> = play(rt, alloc, host, scripts, gate)?;
+    let left: Left<F, K::Log> = play(rt, alloc, host, scripts, gate)?;
     let Left {
         host,
         log,
         transcripts,
     } = left;
-    let journal = Journal::of(log);
-    Ok((host, journal, transcripts))
-}
-
-/// Runs each script as `run_sessions` does, and keeps no journal.
-///
-/// # Errors
-///
-/// Those of `run_sessions`. The host is dropped.
-pub fn run_boxed<F: Decider + Send + Drop, G: Gate, R: Threads + Wait + Sync>(
-    rt: &R,
-    alloc: Global,
-    host: Host<F>,
-    scripts: Vec<BoxedScript<F>>,
-    gate: &G,
-) -> Result<(Host<F>, Vec<Transcript>), RunRefusal>
-    requires { All AreFew (map boxed_script scripts.items) }
-    ensures ran { IfOk result (λ r. Ran host (map boxed_script scripts.items) r.0 r.1.items) }
-    ensures few { OnOk result (vec_len scripts ≤ max_sessions) }
-    ensures refuses { IfErr result (RefusesFor (vec_len scripts)) }
-{
-    if MAX_SESSIONS < scripts.len() {
-        return Err(RunRefusal::TooMany);
-    }
-    if scripts.is_empty() {
-        host.kept();
-        return Ok((host, Vec::new(alloc)));
-    }
-    let left: Left<F, Unkept> = play(rt, alloc, host, scripts, gate)?;
-    let Left {
-        host,
-        log: _,
-        transcripts,
-    } = left;
-    Ok((host, transcripts))
+    let kept = K::of_log(log);
+    Ok((host, kept, transcripts))
 }
 
 /// What is left at the end of a run.

@@ -1,6 +1,7 @@
 -- The answers of the transcripts of scripts.
 use Rattle.std.proofs.Common.{◌≡◌, ℕ, ◌<◌, ◌≤◌, List, [], ◌∷◌, ◌++◌, length, get_or, map, refl, sym, ap, subst, ◌∙◌, arith}
-use Rattle.std.specs.Prelude.{All}
+use Rattle.std.specs.Prelude.{All, Vec, vec_len}
+use Rattle.std.specs.Global.{Global}
 use Rattle.std.specs.List.{flat_map, AllByRecursion}
 use Rattle.std.proofs.lemmas.List.{length-map, get_or-map}
 use Rattle.std.proofs.lemmas.List.Elements.{All-from_recursion, recursion_from_All}
@@ -10,10 +11,14 @@ use Rattle.requests.specs.Isolation.{Users}
 use Rattle.requests.specs.Machine.{Machine, empty}
 use Rattle.requests.specs.Plain.{PlainStep}
 use Rattle.host_lock.specs.declared.journal.Entry.{Entry}
+use Rattle.host_lock.specs.Journal.{IsLegal, replay}
+use Rattle.host_lock.specs.Limits.{max_calls}
 use Rattle.host_lock.specs.Sessions.{IsBelow}
 use Rattle.sessions.specs.declared.boxing.BoxedScript.{BoxedScript}
 use Rattle.sessions.specs.declared.script.Transcript.{Transcript}
-use Rattle.sessions.specs.Boxed.{boxed_script}
+use Rattle.sessions.specs.Boxed.{boxed_script, own_step}
+use Rattle.sessions.specs.Runs.{AllPlay, OwnEntries}
+use Rattle.sessions.proofs.Pairing.{answers_of}
 use Rattle.sessions.specs.PlainRuns.{AllAnswer, AreFew, Ran}
 use Rattle.scenario_text.specs.Plan.{Plan, max_steps}
 use Rattle.scenario.specs.Runs.{answers_of}
@@ -63,3 +68,28 @@ few {F} ss plan scripts = let long : length ss ≡ length (scripts_in plan.steps
 pub are_few : (plan : Plan) → length plan.steps ≤ max_steps → All AreFew (scripts_in plan.steps)
 are_few plan small =
     All-from_recursion AreFew (scripts_in plan.steps) (All-imply (IsScript plan.steps) AreFew (λ p is. let here = is.short in omega arith) (scripts_in plan.steps) (are_scripts plan.steps))
+
+each_few : {F : Type 0} (ss : List (BoxedScript F)) → AllByRecursion AreFew (map boxed_script ss) → AllByRecursion (λ (s : BoxedScript F). vec_len s.steps ≤ max_calls) ss
+each_few [] small = tt
+each_few (s ∷ rest) small =
+    let count = s.steps.ok.0 in
+    let same = length-map s.steps.items own_step in
+    let here = small.0 in
+    (omega (arith, count, same, here), each_few rest small.1)
+
+pub few_each : {F : Type 0} (ss : List (BoxedScript F)) (plan : Plan) → map boxed_script ss ≡ scripts_in plan.steps → length plan.steps ≤ max_steps → All (λ (s : BoxedScript F). vec_len s.steps ≤ max_calls) ss
+few_each {F} ss plan scripts small =
+    All-from_recursion (λ (s : BoxedScript F). vec_len s.steps ≤ max_calls) ss
+    (each_few ss (recursion_from_All AreFew (map boxed_script ss) (subst (λ (ps : List (ℕ × List PlainStep)). All AreFew ps) (sym scripts) (are_few plan small))))
+
+-- the clauses of a run, as one fact of the scripts' users and steps
+pub ran_of : {F : Type 0} (m h : Machine) (ss : Vec (BoxedScript F) Global) (log : List Entry) (ts : List Transcript) → IsLegal m log → h ≡ replay m log → All (IsBelow (vec_len ss)) log
+    → AllPlay boxed_script log ss.items ts → OwnEntries m log → Ran m (map boxed_script ss.items) h ts
+ran_of {F} m h ss log ts legal host entries plays own =
+    (log, record {
+      legal = legal;
+      host = host;
+      entries = subst (λ (n : ℕ). All (IsBelow n) log) (ss.ok.0 ∙ sym (length-map ss.items (boxed_script {F = F}))) entries;
+      transcripts = answers_of boxed_script log ss.items ts plays.0 plays.1;
+      own = own;
+    })

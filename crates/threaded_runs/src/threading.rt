@@ -11,10 +11,11 @@ ghost use Rattle.sessions.specs.Boxed.{boxed_script};
 ghost use Rattle.threaded_runs.specs.Scripts.{has_steps, scripts_in, told_by, IsMade};
 ghost use Rattle.scenario.specs.declared.running.RunFault.TheVariants.{Mismatch, Memory, Start};
 
+use host_lock::Unkept;
 use pid_blocks::Uid;
 use requests::{Host, Reply};
 use scenario::{RunFault, RunOptions, Scenario, USERS, bound_step, obey, write_lines};
-use sessions::{BoxedScript, Gate, RunRefusal, Transcript, boxed, run_boxed};
+use sessions::{BoxedScript, Gate, RunRefusal, Transcript, boxed, run_sessions};
 use std::alloc::{AllocError, Global};
 use std::io::Write;
 use std::sync::Wait;
@@ -146,8 +147,10 @@ fn transcripts_of<F: Decider + Send + Drop, R: Threads + Wait + Sync>(
 {
     let scripts = scripts_of(alloc, scenario, handlers)?;
     let host = Host::new(alloc, scenario.settings())?;
-    match run_boxed(rt, alloc, host, scripts, &NoGate) {
-        Ok((_host, transcripts)) => Ok(transcripts),
+    let ran: Result<(Host<F>, Unkept, Vec<Transcript>), RunRefusal> =
+        run_sessions(rt, alloc, host, scripts, &NoGate);
+    match ran {
+        Ok((_host, _calls, transcripts)) => Ok(transcripts),
         Err(RunRefusal::Memory) => Err(RunFault::Memory),
         Err(RunRefusal::Start) => Err(RunFault::Start),
         Err(RunRefusal::TooMany) => unreachable!(),

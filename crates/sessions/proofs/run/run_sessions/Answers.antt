@@ -1,16 +1,16 @@
-use Rattle.std.proofs.Common.{◌≡◌, ℕ, ◌<◌, ◌≤◌, List, length, vec_len, eqb-true, sym, ap, ◌∙◌, subst, arith, rules, All, IfErr}
+use Rattle.std.proofs.Common.{◌≡◌, ℕ, ◌<◌, ◌≤◌, List, length, map, vec_len, eqb-true, sym, ap, ◌∙◌, subst, arith, rules, All, IfErr}
 use Rattle.requests.specs.Plain.{PlainStep}
 use Rattle.host_lock.specs.declared.journal.Entry.{Entry}
 use Rattle.host_lock.specs.Limits.{max_sessions}
-use Rattle.host_lock.specs.Sessions.{IsBelow}
-use Rattle.sessions.specs.Runs.{AllPlay, OwnEntries, RefusesFor}
-use Rattle.sessions.specs.PlainRuns.{AreFew, AllAnswer, plain_script}
+use Rattle.sessions.specs.Boxed.{boxed_script}
+use Rattle.sessions.specs.Runs.{OwnEntries, RefusesFor}
+use Rattle.sessions.specs.PlainRuns.{AreFew}
 use Rattle.sessions.proofs.Owned.{nothing_ran}
-use Rattle.sessions.proofs.Pairing.{length_map, plays_of, same_count, short_plain, some_of}
+use Rattle.sessions.proofs.Pairing.{kept_below, kept_own, kept_plays, length_map, same_count, short_plain, some_of}
 use Rattle.sessions.proofs.run.run_sessions.Goals as goal
 
 pub returns-then-is_empty-clause-entries : goal.returns-then-is_empty-clause-entries
-returns-then-is_empty-clause-entries g c = λ k d lt. let none = ap length c.empty.ensures in absurd (omega arith)
+returns-then-is_empty-clause-entries g c = λ k d lt. let none = ap length (c.of_log.ensures ∙ c.empty-log.ensures) in absurd (omega arith)
 
 pub returns-then-is_empty-clause-transcripts : goal.returns-then-is_empty-clause-transcripts
 returns-then-is_empty-clause-transcripts g c =
@@ -20,36 +20,30 @@ returns-then-is_empty-clause-transcripts g c =
     (none_yet ∙ sym none, λ k s t lt. absurd (omega (arith, none)))
 
 pub returns-then-is_empty-clause-own : goal.returns-then-is_empty-clause-own
-returns-then-is_empty-clause-own g c = subst (λ (log : List Entry). OwnEntries c.args.host log) (sym c.empty.ensures) (nothing_ran c.args.host c.kept.ensures).own
+returns-then-is_empty-clause-own g c = subst (λ (log : List Entry). OwnEntries c.args.host log) (sym (c.of_log.ensures ∙ c.empty-log.ensures)) (nothing_ran c.args.host c.kept.ensures).own
 
 pub play-requires-clause-count : goal.play-requires-clause-count
 play-requires-clause-count g c κs within =
-    let count = c.in-Ok.scripts.ok.0 ∙ same_count c.in-Ok.scripts.items c.args.scripts.items c.in-Ok.ensures ∙ sym c.args.scripts.ok.0 in
+    let count = c.in-Ok.scripts.ok.0 ∙ same_count boxed_script g.S.Scripted.plain c.in-Ok.scripts.items c.args.scripts.items c.in-Ok.ensures ∙ sym c.args.scripts.ok.0 in
     let some : 0 < vec_len c.args.scripts = some_of (vec_len c.args.scripts) (sym c.is_empty.ensures ∙ c.if-is_empty.false) in
     let few : vec_len c.args.scripts ≤ max_sessions = search rules in
     subst (λ (n : ℕ). (0 < n) × (n ≤ max_sessions)) (sym count) (some, few)
 
 pub play-requires-clause-short : goal.play-requires-clause-short
-play-requires-clause-short g c κs within = subst (λ (ps : List (ℕ × List PlainStep)). All AreFew ps) (sym c.in-Ok.ensures) (short_plain c.args.scripts.items c.requires)
+play-requires-clause-short g c κs within = subst (λ (ps : List (ℕ × List PlainStep)). All AreFew ps) (sym c.in-Ok.ensures) (short_plain g.S.Scripted.plain g.S.Scripted.count g.met.S.Scripted.counts c.args.scripts.items c.requires)
 
 pub returns-in_err-left-clause-refuses : goal.returns-in_err-left-clause-refuses
 returns-in_err-left-clause-refuses g c =
-    let count = c.in-Ok.scripts.ok.0 ∙ same_count c.in-Ok.scripts.items c.args.scripts.items c.in-Ok.ensures ∙ sym c.args.scripts.ok.0 in
+    let count = c.in-Ok.scripts.ok.0 ∙ same_count boxed_script g.S.Scripted.plain c.in-Ok.scripts.items c.args.scripts.items c.in-Ok.ensures ∙ sym c.args.scripts.ok.0 in
     subst (λ (n : ℕ). IfErr c.from_residual.result (RefusesFor n)) count (search rules)
 
 pub returns-clause-entries : goal.returns-clause-entries
 returns-clause-entries g c =
-    let ran = c.in_ok-left.ensures.ran in
-    let count = ap length c.in-Ok.ensures ∙ length_map plain_script c.args.scripts.items ∙ sym c.args.scripts.ok.0 in
-    subst (λ (log : List Entry). All (IsBelow (vec_len c.args.scripts)) log) (sym c.of-journal.ensures) (subst (λ (n : ℕ). All (IsBelow n) c.in_ok-left.left.log.items) count ran.entries)
+    let count = ap length c.in-Ok.ensures ∙ length_map g.S.Scripted.plain c.args.scripts.items ∙ sym c.args.scripts.ok.0 in
+    kept_below _ _ _ _ _ _ (vec_len c.args.scripts) c.in_ok-left.ensures.ran c.of_log-kept.ensures count
 
 pub returns-clause-transcripts : goal.returns-clause-transcripts
-returns-clause-transcripts g c =
-    let ran = c.in_ok-left.ensures.ran in
-    let log = c.in_ok-left.left.log.items in
-    let ts = c.in_ok-left.left.transcripts.items in
-    let all = subst (λ (ps : List (ℕ × List PlainStep)). AllAnswer log ps ts) c.in-Ok.ensures ran.transcripts in
-    subst (λ (journal : List Entry). AllPlay journal c.args.scripts.items ts) (sym c.of-journal.ensures) (plays_of log c.args.scripts.items ts all)
+returns-clause-transcripts g c = kept_plays g.S.Scripted.plain _ _ _ _ _ _ c.args.scripts.items c.in_ok-left.ensures.ran c.of_log-kept.ensures c.in-Ok.ensures
 
 pub returns-clause-own : goal.returns-clause-own
-returns-clause-own g c = subst (λ (log : List Entry). OwnEntries c.args.host log) (sym c.of-journal.ensures) c.in_ok-left.ensures.ran.own
+returns-clause-own g c = kept_own _ _ _ _ _ _ c.in_ok-left.ensures.ran c.of_log-kept.ensures

@@ -1,15 +1,14 @@
 use Rattle.std.proofs.Common.{◌≡◌, ℕ, ◌<◌, List, ap, subst, sym, ◌∙◌, arith, rules}
-use Rattle.std.specs.Prelude.{vec_len, All}
+use Rattle.std.specs.Prelude.{vec_len}
 use Rattle.requests.specs.Machine.{Machine, empty}
 use Rattle.requests.specs.Plain.{PlainStep}
 use Rattle.sessions.specs.Runs.{RefusesFor}
-use Rattle.sessions.specs.PlainRuns.{AreFew, Ran}
-use Rattle.threaded_runs.proofs.TranscriptLemmas.{told_in_all, few, are_few}
+use Rattle.sessions.specs.PlainRuns.{Ran}
+use Rattle.threaded_runs.proofs.TranscriptLemmas.{told_in_all, few, few_each, ran_of}
 use Rattle.threaded_runs.proofs.threading.transcripts_of.Goals as goal
 
-pub run_boxed-requires : goal.run_boxed-requires
-run_boxed-requires g c =
-    (search rules, (search rules, (search rules, subst (λ (ps : List (ℕ × List PlainStep)). All AreFew ps) (sym c.in_ok-scripts.ensures.scripts) (are_few c.args.scenario.now c.in_ok-scripts.ensures.few))))
+pub run_sessions-requires : goal.run_sessions-requires
+run_sessions-requires g c = few_each c.in_ok-scripts.scripts.items c.args.scenario.now c.in_ok-scripts.ensures.scripts c.in_ok-scripts.ensures.few
 
 pub unreachable-requires : goal.unreachable-requires
 unreachable-requires g c =
@@ -21,5 +20,7 @@ unreachable-requires g c =
 pub returns-in-Ok-clause-told : goal.returns-in-Ok-clause-told
 returns-in-Ok-clause-told g c = λ made.
     let from : c.in_ok-host.host ≡ empty c.args.scenario.now.settings = c.in_ok-host.ensures ∙ ap empty c.settings.ensures in
+    let e = c.in-Ok.ensures in
+    let ran = ran_of _ c.in-Ok._host c.in_ok-scripts.scripts c.in-Ok._calls c.in-Ok.transcripts.items e.legal e.host e.entries e.transcripts e.own in
     told_in_all c.args.scenario.now c.in-Ok._host c.in-Ok.transcripts.items c.in_ok-scripts.ensures.users
-    (subst (λ (z : Machine × List (ℕ × List PlainStep)). Ran z.0 z.1 c.in-Ok._host c.in-Ok.transcripts.items) (λ i. (from i, c.in_ok-scripts.ensures.scripts i)) c.in-Ok.ensures.ran) made
+    (subst (λ (z : Machine × List (ℕ × List PlainStep)). Ran z.0 z.1 c.in-Ok._host c.in-Ok.transcripts.items) (λ i. (from i, c.in_ok-scripts.ensures.scripts i)) ran) made
