@@ -18,7 +18,7 @@ use Rattle.sessions.specs.declared.boxing.BoxedScript.{BoxedScript}
 use Rattle.sessions.specs.declared.script.Transcript.{Transcript}
 use Rattle.sessions.specs.Boxed.{boxed_script, own_step}
 use Rattle.sessions.specs.Runs.{AllPlay, OwnEntries}
-use Rattle.sessions.proofs.Pairing.{answers_of}
+use Rattle.sessions.proofs.Pairing.{answers_of as script_answers}
 use Rattle.sessions.specs.PlainRuns.{AllAnswer, AreFew, Ran}
 use Rattle.scenario_text.specs.Plan.{Plan, max_steps}
 use Rattle.scenario.specs.Runs.{answers_of}
@@ -85,11 +85,13 @@ few_each {F} ss plan scripts small =
 -- the clauses of a run, as one fact of the scripts' users and steps
 pub ran_of : {F : Type 0} (m h : Machine) (ss : Vec (BoxedScript F) Global) (log : List Entry) (ts : List Transcript) → IsLegal m log → h ≡ replay m log → All (IsBelow (vec_len ss)) log
     → AllPlay boxed_script log ss.items ts → OwnEntries m log → Ran m (map boxed_script ss.items) h ts
-ran_of {F} m h ss log ts legal host entries plays own =
-    (log, record {
-      legal = legal;
-      host = host;
-      entries = subst (λ (n : ℕ). All (IsBelow n) log) (ss.ok.0 ∙ sym (length-map ss.items (boxed_script {F = F}))) entries;
-      transcripts = answers_of boxed_script log ss.items ts plays.0 plays.1;
-      own = own;
-    })
+ran_of {F} m h ss log ts legal host entries plays own = (
+  log,
+  record {
+    legal = legal;
+    host = host;
+    entries = subst (λ (n : ℕ). All (IsBelow n) log) (ss.ok.0 ∙ sym (length-map ss.items (boxed_script {F = F}))) entries;
+    transcripts = script_answers boxed_script log ss.items ts plays.0 plays.1;
+    own = own;
+  },
+)

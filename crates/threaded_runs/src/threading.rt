@@ -147,9 +147,7 @@ fn transcripts_of<F: Decider + Send + Drop, R: Threads + Wait + Sync>(
 {
     let scripts = scripts_of(alloc, scenario, handlers)?;
     let host = Host::new(alloc, scenario.settings())?;
-    let ran: Result<(Host<F>, Unkept, Vec<Transcript>), RunRefusal> =
-        run_sessions(rt, alloc, host, scripts, &NoGate);
-    match ran {
+    match run_sessions::<F, BoxedScript<F>, Unkept, NoGate, R>(rt, alloc, host, scripts, &NoGate) {
         Ok((_host, _calls, transcripts)) => Ok(transcripts),
         Err(RunRefusal::Memory) => Err(RunFault::Memory),
         Err(RunRefusal::Start) => Err(RunFault::Start),

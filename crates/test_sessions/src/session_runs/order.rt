@@ -6,10 +6,10 @@ ghost use Rattle.stop_handlers.specs.Decide.{decide};
 ghost use Rattle.sessions.specs.Runs.{IsShort};
 
 use crate::hosts::expect;
-use host_lock::MAX_CALLS;
+use host_lock::{Journal, MAX_CALLS};
 use pid_blocks::Uid;
 use requests::{Host, Step};
-use sessions::{Gate, Script, run_sessions};
+use sessions::{Gate, RunRefusal, Script, Transcript, run_sessions};
 use std::alloc::Global;
 use std::sync::Wait;
 use std::sync::atomic::{AtomicU64, Ordering};
@@ -156,7 +156,9 @@ fn is_run<'a, R: Threads + Wait + Sync>(
     let Ok(host) = Host::new(alloc, Settings::standard()) else {
         return false;
     };
-    run_sessions(rt, alloc, host, scripts, order).is_ok()
+    let ran: Result<(Host<Counted<'a>>, Journal, Vec<Transcript>), RunRefusal> =
+        run_sessions(rt, alloc, host, scripts, order);
+    ran.is_ok()
 }
 
 pub fn a_gate_is_told_before_and_after_each_call<R: Threads + Wait + Sync>(

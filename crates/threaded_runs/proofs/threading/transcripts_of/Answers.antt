@@ -7,8 +7,10 @@ use Rattle.sessions.specs.PlainRuns.{Ran}
 use Rattle.threaded_runs.proofs.TranscriptLemmas.{told_in_all, few, few_each, ran_of}
 use Rattle.threaded_runs.proofs.threading.transcripts_of.Goals as goal
 
-pub run_sessions-requires : goal.run_sessions-requires
-run_sessions-requires g c = few_each c.in_ok-scripts.scripts.items c.args.scenario.now c.in_ok-scripts.ensures.scripts c.in_ok-scripts.ensures.few
+pub run_sessions-requires-after_bounds : goal.run_sessions-requires-after_bounds
+run_sessions-requires-after_bounds g c =
+    let small = few_each c.in_ok-scripts.scripts.items c.args.scenario.now c.in_ok-scripts.ensures.scripts c.in_ok-scripts.ensures.few in
+    search (rules, small)
 
 pub unreachable-requires : goal.unreachable-requires
 unreachable-requires g c =
