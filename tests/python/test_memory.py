@@ -3,7 +3,6 @@
 Each scenario is run in each mode. A run has at most 4 times the bytes of its scenario, and of the lines that it is
 compared with; where it prints more than its scenario, also 2 times what it prints.
 
-
     python3 tests/python/test_memory.py PROGRAM PEAK ROOM
 
 PEAK is bench/peak.c, built; ROOM is a folder for the scenario and the lines.
