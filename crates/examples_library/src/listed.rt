@@ -1,6 +1,6 @@
 //! A list of two users' steps, and each user's view.
 
-use crate::trouble::ExampleError;
+use crate::example_error::ExampleError;
 use pid_blocks::Uid;
 use requests::{Host, PlainStep, Request, Step};
 use std::alloc::{AllocError, Global};

@@ -5,12 +5,12 @@
 //! docs/FORMAT.md.
 #![tactic(auto)]
 
+mod example_error;
 mod listed;
 mod shared;
 mod stepped;
-mod trouble;
 
-use trouble::ExampleError;
+use example_error::ExampleError;
 
 fn main(rt: HostRuntime) -> Result<(), ExampleError> {
     stepped::sandbox(&rt, rt.alloc())?;

@@ -3,7 +3,7 @@
 ghost use Rattle.std.specs.Prelude.{◌≡◌, [], ◌∷◌, IfSome};
 ghost use Rattle.host_lock.specs.Sessions.{IsOf};
 
-use crate::trouble::ExampleError;
+use crate::example_error::ExampleError;
 use event_masks::Call;
 use host_lock::{Answer, Journal, Session, SharedHost};
 use pid_blocks::Uid;

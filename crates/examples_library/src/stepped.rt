@@ -2,7 +2,7 @@
 
 ghost use Rattle.stop_handlers.specs.Handlers.{Obeys};
 
-use crate::trouble::ExampleError;
+use crate::example_error::ExampleError;
 use event_masks::{Call, StopFlags};
 use pid_blocks::Uid;
 use requests::{Act, Host, Reply, Request, Step};

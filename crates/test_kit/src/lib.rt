@@ -7,12 +7,12 @@ mod lines;
 mod rows;
 mod sessions;
 mod steps;
-mod trouble;
+mod test_error;
 mod views;
 
 pub use dice::Dice;
 pub use lines::{lines_of, step_in, steps_in};
 pub use rows::{Row, Section, rows_of, sections_of};
 pub use sessions::{check_replies, follow, host_after, together_and_alone};
-pub use trouble::TestError;
+pub use test_error::TestError;
 pub use views::{check_hosts, sees_same};

@@ -1,7 +1,7 @@
 //! Opening, closing, and the journal between them.
 
 ghost use Rattle.std.specs.Prelude.{IfSome};
-ghost use Rattle.host_lock.specs.Sessions.{IsOf, IsSame};
+ghost use Rattle.host_lock.specs.Sessions.{IsOf};
 
 use super::pairs::{ask, close_one, close_two, open_two};
 use crate::hosts::{check_entry, expect, new_host};

@@ -3,7 +3,6 @@
 use super::pairs::{Left, run_beside};
 use crate::hosts::{check_lines, new_host, spawns, steps_of};
 use event_masks::StopFlags;
-use host_lock::Journal;
 use pid_blocks::Uid;
 use requests::Host;
 use signals::{Pass, Signal};

@@ -1,6 +1,6 @@
 //! The scripts of a run.
 
-ghost use Rattle.std.specs.Prelude.{◌≡◌, ◌<◌, ◌≤◌, All, IfOk, vec_len};
+ghost use Rattle.std.specs.Prelude.{◌<◌, ◌≤◌, All, IfOk};
 ghost use Rattle.sessions.specs.Runs.{IsShort};
 
 use super::writer::Writer;
