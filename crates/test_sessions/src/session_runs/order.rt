@@ -156,8 +156,9 @@ fn is_run<'a, R: Threads + Wait + Sync>(
     let Ok(host) = Host::new(alloc, Settings::standard()) else {
         return false;
     };
-    let ran: Result<(Host<Counted<'a>>, Journal, Vec<Transcript>), RunRefusal> =
-        run_sessions(rt, alloc, host, scripts, order);
+    let ran: Result<(Host<Counted<'a>>, Journal, Vec<Transcript>), RunRefusal> = run_sessions(
+        rt, alloc, host, scripts, order,
+    );
     ran.is_ok()
 }
 
