@@ -3,4 +3,5 @@ pub mod Keys
 pub mod Loops
 pub mod NumberTexts
 pub mod Places
+pub mod Runs
 pub mod Texts

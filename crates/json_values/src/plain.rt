@@ -89,16 +89,15 @@ fn word<'a>(lexer: &mut Lexer<'a>, place: Place) -> (Token<'a>, Place)
     (token, after_value(lexer))
 }
 
-/// Takes what may stand at the begin of a value.
+/// Takes what may stand at the begin of a value, but for a string.
 #[inline(always)]
 fn begin<'a>(lexer: &mut Lexer<'a>, place: Place) -> (Token<'a>, Place)
-    requires first { (is_blank (class (head lexer.old)) ≡ false) × (head lexer.old ≢ 125) × (head lexer.old ≢ 93) }
+    requires first { (is_blank (class (head lexer.old)) ≡ false) × (head lexer.old ≢ 34) × (head lexer.old ≢ 125) × (head lexer.old ≢ 93) }
     requires place { may_begin place ≡ true }
     ensures value { tokens_at place lexer.old ≡ token_of result.0 ∷ tokens_at result.1 lexer.new }
     ensures passed { NotBeforeComma result.1 lexer.new }
 {
     match lexer.peek() {
-        b'"' => string(lexer, place),
         b'{' => {
             lexer.skip();
             (Token::BeginObject, Place::Fresh)
@@ -148,6 +147,10 @@ fn read<'a>(lexer: &mut Lexer<'a>, place: Place) -> (Option<Token<'a>>, Place)
     ensures passed { NotBeforeComma result.1 lexer.new }
 {
     let byte = lexer.peek();
+    if byte == b'"' && place.may_begin() {
+        let (token, next) = string(lexer, place);
+        return (Some(token), next);
+    }
     if (byte == b'}') | (byte == b']') {
         if !place.may_close() {
             return refuse(place);

@@ -104,6 +104,7 @@ fn gather<S: Gathered>(
 }
 
 /// Reads the next value, which may be an array of items that make a set.
+#[inline(never)]
 pub(crate) fn read_set<S: Gathered>(
     reader: &mut Tokens<'_>,
     depth: usize,

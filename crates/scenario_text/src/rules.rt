@@ -287,6 +287,7 @@ fn read_policy(reader: &mut Tokens<'_>, depth: usize) -> Result<Result<Policy, K
 }
 
 /// Reads the next value, which may be an array of rules.
+#[inline(never)]
 pub(crate) fn read_rules(
     reader: &mut Tokens<'_>,
     depth: usize,

@@ -32,5 +32,5 @@ returns-then-not-may_begin-clause-value c =
     let t = c.args.lexer.now in
     let seen = c.peek-byte.ensures.value in
     let solid = ap (λ x. is_blank (class x)) (sym seen) ∙ sym c.is_space.ensures ∙ c.if-is_space.false in
-    let none = not_begun t c.args.place (sym c.may_begin.ensures ∙ c.if-not-may_begin.true) c.requires solid (grind arith) (grind arith) in
+    let none = not_begun t c.args.place (sym c.may_begin-2.ensures ∙ c.if-not-may_begin.true) c.requires solid (grind arith) (grind arith) in
     refused c.args.place _ t _ none c.refuse-then-not-may_begin.ensures
