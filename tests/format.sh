@@ -32,6 +32,10 @@ mkdir "$room/copy"
 git ls-files -z format tools crates schema include clients/c clients/python docs/FORMAT.md man | xargs -0 cp --parents -t "$room/copy"
 clients=(clients/c/names.c clients/c/tracehost_client.h clients/python/tracehost/names.py include/tracehost.h)
 parsers=(crates/scenario_text/src/names.rt crates/scenario_text/specs/Names.antt crates/diagnostics/src/tables.rt)
+keys=(crates/scenario_text/{src/members.rt,specs/Streams.antt})
+change "another kind of a key" 's/^kind = "integer"$/kind = "word"/' crates/diagnostics/src/tables.rt "${keys[@]}"
+change "one more key" 's/^# A key has$/[[key]]\nname = "spare"\nkind = "word"\n/' "${keys[@]}" \
+  crates/scenario_text/{src/keys.rt,specs/Keys.antt,proofs/KeyLemmas.antt}
 change "another name of a request" 's/PT_ATTACH/PT_SEIZE/' "${parsers[@]}" crates/json_trace/src/names.rt \
   schema/scenario.schema.json "${clients[@]}" docs/FORMAT.md man/tracehost.1
 change "another number of a request" 's/^number = 10$/number = 12/' crates/flat_forms/src/requests_by_number.rt \

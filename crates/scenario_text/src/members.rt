@@ -59,6 +59,7 @@ fn set(fields: &mut Fields, key: Key, atom: &Scalar<'_>)
     ensures { fields.new ≡ with_atom key (atom_in atom.now) fields.old }
 {
     match key {
+        // tools/format keys
         Key::User => fields.user = user_in(atom),
         Key::Op => fields.op = op_in(atom),
         Key::Caller => fields.caller = word(atom),
@@ -72,6 +73,7 @@ fn set(fields: &mut Fields, key: Key, atom: &Scalar<'_>)
         Key::Code => fields.code = integer(atom),
         Key::Signal => fields.signal = word(atom),
         Key::Action => fields.action = disposition_in(atom),
+        // end
         _ => {}
     }
 }
