@@ -11,7 +11,7 @@ ghost use Rattle.scenario.specs.Runs.{answers_of, shown, Writes};
 ghost use Rattle.threaded_runs.specs.Grouped.{shown_grouped};
 ghost use Rattle.sessions.specs.Boxed.{boxed_script, own_step};
 ghost use Rattle.threaded_runs.specs.Scripts.{answers_by_scripts, has_steps, scripts_in, told_by, IsMade};
-ghost use Rattle.scenario.specs.declared.running.RunFault.TheVariants.{Mismatch, Memory, Start};
+ghost use Rattle.scenario.specs.declared.running.RunFault.TheVariants.{Mismatch, Memory, Start, Write as WriteFault};
 
 use host_lock::Unkept;
 use pid_blocks::Uid;
@@ -24,6 +24,9 @@ use std::sync::Wait;
 use std::thread::Threads;
 use std::vec::IntoIter;
 use stop_handlers::{Decider, Handler};
+
+/// The bytes of a usual line. The texts of usual lines fit into the memory that the scripts leave.
+const USUAL_LINE: usize = 24;
 
 /// A gate that does nothing.
 struct NoGate;
@@ -111,47 +114,61 @@ fn scripts_of<F: Decider + Send + Drop>(
     Ok(scripts)
 }
 
-/// Adds the lines of the transcript that the options show. An error means that memory ran out, here or for one of the
-/// steps.
-fn push_transcript(
-    alloc: Global,
-    options: &RunOptions,
-    text: &mut String,
-    transcript: &Transcript,
-) -> Result<(), RunFault>
-    ensures text { OnOk result (string_bytes text.new
-        ≡ string_bytes text.old ++ shown options.now.style options.now.user (told_by transcript.now)) }
+/// Returns how many bytes the lines of the transcript usually have, if the options show them.
+fn usual_bytes(options: &RunOptions, transcript: &Transcript) -> usize {
+    match options.user {
+        Some(user) if user != transcript.uid => 0,
+        _ => transcript.replies.len().saturating_mul(USUAL_LINE),
+    }
+}
+
+/// Returns the lines of the transcript that the options show. An error means that memory ran out, here or for one of
+/// the steps.
+fn text_of(alloc: Global, options: &RunOptions, transcript: &Transcript) -> Result<String, RunFault>
+    ensures text { IfOk result (λ s. string_bytes s ≡ shown options.now.style options.now.user (told_by transcript.now)) }
     ensures made { OnOk result (IsMade transcript.now) }
     ensures err { IfErr result (λ e. e ≡ Memory) }
 {
+    let mut text = String::with_capacity(alloc, usual_bytes(options, transcript))?;
     let mut number = 0u64;
     for reply in &transcript.replies {
         if reply.is_memory() {
             return Err(RunFault::Memory);
         }
         number += 1;
-        push_shown(alloc, options, text, transcript.uid, number, reply)?;
+        push_shown(alloc, options, &mut text, transcript.uid, number, reply)?;
     }
-    Ok(())
+    Ok(text)
 }
 
-/// Returns the lines of the transcripts that the options show, one transcript after another. An error means that memory
-/// ran out, here or for one of the steps.
-fn text_of(
+/// Returns for each transcript its lines that the options show. An error means that memory ran out, here or for one of
+/// the steps.
+fn texts_of(
     alloc: Global,
     options: &RunOptions,
     transcripts: Vec<Transcript>,
-) -> Result<String, RunFault>
-    ensures text { IfOk result (λ s. string_bytes s
+) -> Result<Vec<String>, RunFault>
+    ensures texts { IfOk result (λ v. flat_map string_bytes v.items
         ≡ flat_map (shown options.now.style options.now.user) (map told_by transcripts.items)) }
     ensures made { OnOk result (AllByRecursion IsMade transcripts.items) }
     ensures err { IfErr result (λ e. e ≡ Memory) }
 {
-    let mut text = String::new(alloc);
+    let mut texts = Vec::with_capacity(alloc, transcripts.len())?;
     for transcript in transcripts {
-        push_transcript(alloc, options, &mut text, &transcript)?;
+        texts.push(text_of(alloc, options, &transcript)?)?;
     }
-    Ok(text)
+    Ok(texts)
+}
+
+/// Writes the texts in order, or a front of them where the writer fails.
+fn write_texts<W: Write>(writer: &mut W, texts: &[String]) -> Result<(), RunFault>
+    ensures writes { Writes result (W.contents writer.old) (W.contents writer.new) (flat_map string_bytes texts.now) }
+    ensures kind { IfErr result (λ e. e ≡ WriteFault) }
+{
+    for text in texts {
+        write_whole(writer, text.as_bytes())?;
+    }
+    Ok(())
 }
 
 /// Makes the scenario's steps on a new host, by a session for each user with steps, and returns the transcripts.
@@ -199,6 +216,6 @@ pub fn run_threads<F: Decider + Send + Drop, W: Write, R: Threads + Wait + Sync>
         return Err(RunFault::Mismatch);
     }
     let transcripts = transcripts_of(rt, alloc, scenario, handlers)?;
-    let lines = text_of(alloc, &options, transcripts)?;
-    write_whole(writer, lines.as_bytes())
+    let texts = texts_of(alloc, &options, transcripts)?;
+    write_texts(writer, texts.as_slice())
 }

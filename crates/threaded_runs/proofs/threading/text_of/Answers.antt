@@ -6,7 +6,7 @@ use Rattle.requests.specs.Memory.{is_memory}
 use Rattle.scenario.specs.Runs.{answered}
 use Rattle.scenario.proofs.LineLemmas.{counted_one, shown_after, text_next}
 use Rattle.threaded_runs.proofs.GroupLemmas.{told_to}
-use Rattle.threaded_runs.proofs.threading.push_transcript.Goals as goal
+use Rattle.threaded_runs.proofs.threading.text_of.Goals as goal
 
 pub loop-reply-preserved : goal.loop-reply-preserved
 loop-reply-preserved c =
