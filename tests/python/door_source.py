@@ -18,7 +18,7 @@ ATOMIC = 'try_lock|fetch_add|fetch_sub|load|store|swap|park|wake_one|wake_all|ex
 CALLED = 'try_for_a_while|prepare_wait|wait|notify_one|enter|leave|turn|take_turn|count_up|give_back|drop|make'
 TOKEN = re.compile(
     r'\b(?:for|if|else|match|while|loop|return|break|continue|Some|None)\b|&&|\|\||[!=<>]=|[!{}<>]'
-    rf'|\b(?:\w+\.)*(?:{ATOMIC}|{CALLED})(?:::<\w+>)?\((?:[^()]|\([^()]*\))*\)'
+    rf'|\b(?:\w+\.)*(?:{ATOMIC}|{CALLED})(?:::<\w+>)?\((?:[^()]|\((?:[^()]|\([^()]*\))*\))*\)'
 )
 FUNCTION = re.compile(r'^( *)(?:pub(?:\(crate\))? )?fn (\w+)\b[^\n]*(.*?)^\1\}$', re.DOTALL | re.MULTILINE)
 
@@ -38,7 +38,7 @@ SHAPES: dict[str, dict[str, str]] = {
             && ! is_called.swap(true,SeqCst)@swap-called { sleepers.notify_one }""",
     },
     'turn.rt': {
-        'turn': """fetch_add::<Draw>(seat,1,1)@draw take_turn exchange(seat,0,Slot::Away(user,*plain)) else { }
+        'turn': """fetch_add::<Draw>(seat,1,1)@draw take_turn exchange(seat,0,Slot::Away(user,Snapshot::of(plain))) else { }
             state.make if { give_back return } count_up give_back""",
         'take_turn': 'for { load::<Turn>(seat,0)@look-at-serving if == { return } }',
         'count_up': 'fetch_add::<Count>(seat,2,1)',
