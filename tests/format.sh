@@ -34,6 +34,10 @@ clients=(clients/c/names.c clients/c/tracehost_client.h clients/python/tracehost
   include/tracehost.h)
 manual=clients/python/tracehost/manual.py
 parsers=(crates/scenario_text/src/names.rt crates/scenario_text/specs/Names.antt crates/diagnostics/src/tables.rt)
+keys=(crates/scenario_text/{src/members.rt,specs/Streams.antt})
+change "another kind of a key" 's/^kind = "integer"$/kind = "word"/' crates/diagnostics/src/tables.rt "${keys[@]}"
+change "one more key" 's/^# A key has$/[[key]]\nname = "spare"\nkind = "word"\n/' "${keys[@]}" \
+  crates/scenario_text/{src/keys.rt,specs/Keys.antt,proofs/KeyLemmas.antt}
 change "another name of a request" 's/PT_ATTACH/PT_SEIZE/' "${parsers[@]}" crates/json_trace/src/names.rt \
   schema/scenario.schema.json "${clients[@]}" "$manual" docs/FORMAT.md man/tracehost.1
 change "another name of an op" 's/^name = "list"/name = "pids"/' "${parsers[@]}" crates/json_trace/src/names.rt \

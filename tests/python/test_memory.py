@@ -29,8 +29,6 @@ LOADS = {
 }
 
 MOST_BYTES = 4194304
-# What is known to take more than its bound, with how much more: replies of threads are in two lists.
-BEYOND = {('refusals', '--threads'): 1.25, ('lists of 64 users', '--threads'): 1.25}
 
 # Texts of nearly the most bytes: what stands before a unit that is written again and again, the unit, what is between
 # two of them, and what stands behind.
@@ -87,7 +85,7 @@ for name, make in LOADS.items():
         text = f'{name}, {mode}: {count} steps, {size} bytes, {printed} printed, at most {peak} in memory'
         text += f', {peak / size:.2f} times'
         print(text)
-        most = (TIMES * (size + compared) + 2 * longer) * BEYOND.get((name, mode), 1)
+        most = TIMES * (size + compared) + 2 * longer
         counts.check(status == 0 and peak <= most, text)
 for name, (front, unit, between, back) in HOSTILE.items():
     units = (MOST_BYTES - len(front) - len(back)) // len(unit + between)

@@ -150,34 +150,30 @@ def request_definition(form: Format) -> str:
 # ---- explanations: the tables of keys
 
 KINDS = {
-    "caller": "Kind::Number(WORD)",
+    "word": "Kind::Number(WORD)",
+    "integer": "Kind::Whole",
     "request": "Kind::Choice(Table::Request)",
-    "which": "Kind::Whole",
-    "options": "Kind::Names(Table::WaitOption)",
-    "signal": "Kind::Number(WORD)",
-    "action": "Kind::Name(Table::Action)",
-    "rules": "Kind::Rules",
-    "lwp": "Kind::Number(WORD)",
     "act": "Kind::Choice(Table::Act)",
-    "target": "Kind::Number(WORD)",
-    "data": "Kind::Number(WORD)",
-    "mask": "Kind::Names(Table::Event)",
-    "set": "Kind::Numbers(SIGNAL)",
     "call": "Kind::Choice(Table::Call)",
+    "action": "Kind::Name(Table::Action)",
+    "options": "Kind::Names(Table::WaitOption)",
+    "events": "Kind::Names(Table::Event)",
+    "signals": "Kind::Numbers(SIGNAL)",
+    "rules": "Kind::Rules",
     "pass": "Kind::Number(PASS)",
 }
 
 
-def key(entry: Entry, of: Key) -> str:
+def key(entry: Entry, of: Key, kinds: dict[str, str]) -> str:
     if of.name in ("caller", "target"):
         return of.name.upper()
-    kind = KINDS[of.name] if of.name != "code" else f"Kind::Number({str(entry.code).upper()})"
+    kind = KINDS[kinds[of.name]] if of.name != "code" else f"Kind::Number({str(entry.code).upper()})"
     return f'Key::{"Needed" if of.is_needed else "Optional"}("{of.name}", {kind})'
 
 
-def case(entry: Entry) -> str:
+def case(entry: Entry, kinds: dict[str, str]) -> str:
     """An entry of a table of cases, laid out as rustfmt does."""
-    keys = [key(entry, of) for of in entry.keys]
+    keys = [key(entry, of, kinds) for of in entry.keys]
     names = [of.name for of in entry.keys]
     if names == ["target", "data"]:
         return f'    Case("{entry.name}", ASKED),\n'
@@ -192,8 +188,10 @@ def case(entry: Entry) -> str:
     return f'    Case(\n        "{entry.name}",\n        &[\n{lines}        ],\n    ),\n'
 
 
-def cases(name: str, entries: tuple[Entry, ...]) -> str:
-    return f"pub(crate) const {name}: [Case; {len(entries)}] = [\n" + "".join(case(entry) for entry in entries) + "];\n"
+def cases(name: str, entries: tuple[Entry, ...], form: Format) -> str:
+    kinds = {key.name: key.kind for key in form.keys}
+    lines = "".join(case(entry, kinds) for entry in entries)
+    return f"pub(crate) const {name}: [Case; {len(entries)}] = [\n{lines}];\n"
 
 
 def span(name: str, ends: tuple[int, int]) -> str:
@@ -252,14 +250,14 @@ def explained_tables(form: Format) -> str:
         "use crate::format::{Case, Key, Kind, Range, Table};\n\n" + ranges + asked
     ) + "\n".join(
         [
-            cases("OPS", form.ops),
-            cases("REQUESTS", form.requests),
-            cases("EVENTS", form.events),
-            cases("WAIT_OPTIONS", form.options),
-            cases("ACTIONS", form.actions),
-            cases("ACTS", form.acts),
-            cases("CALLS", form.calls),
-            cases("DECISIONS", form.decisions),
-            cases("STOP_FLAGS", form.stop_flags),
+            cases("OPS", form.ops, form),
+            cases("REQUESTS", form.requests, form),
+            cases("EVENTS", form.events, form),
+            cases("WAIT_OPTIONS", form.options, form),
+            cases("ACTIONS", form.actions, form),
+            cases("ACTS", form.acts, form),
+            cases("CALLS", form.calls, form),
+            cases("DECISIONS", form.decisions, form),
+            cases("STOP_FLAGS", form.stop_flags, form),
         ]
     )

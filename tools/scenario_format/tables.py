@@ -22,6 +22,18 @@ class Key:
 
 
 @dataclasses.dataclass(frozen=True)
+class NamedKey:
+    """A key of steps or of rules, and the kind of its values."""
+
+    name: str
+    kind: str
+
+    @property
+    def variant(self) -> str:
+        return self.name.capitalize()
+
+
+@dataclasses.dataclass(frozen=True)
 class Entry:
     """A name of a table. format/scenario.toml says what its fields are."""
 
@@ -86,6 +98,7 @@ class Format:
 
     ranges: dict[str, tuple[int, int]]
     data: dict[str, Data]
+    keys: tuple[NamedKey, ...]
     ops: tuple[Entry, ...]
     requests: tuple[Entry, ...]
     acts: tuple[Entry, ...]
@@ -107,6 +120,7 @@ class Format:
         return cls(
             ranges={name: (least, most) for name, (least, most) in found["ranges"].items()},
             data={name: Data(**row) for name, row in found["data"].items()},
+            keys=tuple(NamedKey(**row) for row in found["key"]),
             ops=table("op"),
             requests=table("request"),
             acts=table("act"),

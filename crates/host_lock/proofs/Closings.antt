@@ -4,6 +4,7 @@ use Rattle.std.proofs.lemmas.List.{reverse-append}
 use mathlib.Core.Option.{some, some-injective}
 use mathlib.Core.List.{map-append}
 use lib.ListN.{get_elem?}
+use Rattle.std.specs.declared.snapshot.Snapshot.{Snapshot}
 use Rattle.requests.specs.Machine.{Machine}
 use Rattle.requests.specs.Plain.{PlainStep}
 use Rattle.host_lock.specs.declared.journal.Entry.{Entry}
@@ -28,7 +29,7 @@ closes_with h n v xs k c e =
     let is : history h c.0 ≡ k = ap (history_or (history h [])) (some-injective (There (history h c.0)) (There k) (sym c.1 ∙ e)) in
     subst (Known h n v) is (refl, c.3, c.4, c.5)
 
-pub not_away : {F J : Type 0} (h : Machine) (n : ℕ) (v : View) (xs : List (Slot F J)) (u : ℕ) (s : PlainStep) → Closes h n v xs → get_elem? xs 0 ≡ some (Away u s) → ⊥
+pub not_away : {F J : Type 0} (h : Machine) (n : ℕ) (v : View) (xs : List (Slot F J)) (u : ℕ) (s : Snapshot PlainStep) → Closes h n v xs → get_elem? xs 0 ≡ some (Away u s) → ⊥
 not_away h n v xs u s c e = let is : There (history h c.0) ≡ Away u s = some-injective (There (history h c.0)) (Away u s) (sym c.1 ∙ e) in cc
 
 pub pops : (P : SessionData → Type 0) (all rem rem' order : List SessionData) (s : SessionData) → Each P all → all ≡ rem ++ reverse order → rem ≡ rem' ++ s ∷ [] → P s × (all ≡ rem' ++ reverse (order ++ s ∷ []))

@@ -12,7 +12,7 @@ use Rattle.host_lock.specs.declared.view.Slot.{Slot}
 use Rattle.host_lock.specs.declared.view.Slot.TheVariants.{There, Away}
 use Rattle.host_lock.specs.History.{History, history}
 use Rattle.host_lock.specs.Journal.{replay, IsLegal, entries_of, StartsWith, entry}
-use Rattle.host_lock.specs.Rule.{M, nobody, has_slot, session_view, drawn, start_of, seen_of, mine_of, TakesSlot, HasCounted, HasTurned, IsOut, IsAtRest, view_in}
+use Rattle.host_lock.specs.Rule.{M, snapshot_of, nobody, has_slot, session_view, drawn, start_of, seen_of, mine_of, TakesSlot, HasCounted, HasTurned, IsOut, IsAtRest, view_in}
 use Rattle.host_lock.specs.Limits.{max_calls}
 use Rattle.host_lock.proofs.Logs.{entries_mine}
 
@@ -21,7 +21,7 @@ module _ {F J : Type 0} where
   IsIdle number m = m ≡ (session_view (start_of m.0) Idle m.0.budget (seen_of m.0) number (mine_of m.0), [])
 
   abbrev slot_in : List (ℕ × (Slot F J)) → (Slot F J)
-  slot_in [] = Away 0 Rattle.requests.specs.declared.step.Step.TheVariants.Spawn
+  slot_in [] = Away 0 (snapshot_of Rattle.requests.specs.declared.step.Step.TheVariants.Spawn)
   slot_in (x ∷ xs) = x.1
 
   abbrev history_in : (Slot F J) → History
@@ -32,10 +32,10 @@ module _ {F J : Type 0} where
   abbrev pub IsFound : (M F J) → ℕ → ℕ → ℕ → PlainStep → History → (M F J) → Type 0
   IsFound m u number ticket s state m' =
       (start_of m.0 ≡ state.start) × StartsWith state.log (seen_of m.0) × (entries_of number state.log ≡ mine_of m.0)
-      × (m' ≡ (session_view state.start (Holding ticket) (m.0.budget - 1) state.log number (mine_of m.0), (0, Away u s) ∷ []))
+      × (m' ≡ (session_view state.start (Holding ticket) (m.0.budget - 1) state.log number (mine_of m.0), (0, Away u (snapshot_of s)) ∷ []))
 
   pub finds : (m₀ m₁ m₂ m₃ : (M F J)) (u number ticket : ℕ) (s : PlainStep) (state : History) (result : (Slot F J)) → IsIdle number m₀ → m₁ ≡ (drawn m₀.0 ticket, m₀.1) → TakesSlot m₁.0 number ticket m₂ → m₂.1 ≡ (0, result) ∷ rest m₂.1
-      → result ≡ There state → m₃ ≡ (m₂.0, (0, Away u s) ∷ rest m₂.1) → IsFound m₀ u number ticket s state m₃
+      → result ≡ There state → m₃ ≡ (m₂.0, (0, Away u (snapshot_of s)) ∷ rest m₂.1) → IsFound m₀ u number ticket s state m₃
   finds m₀ m₁ m₂ m₃ u number ticket s state result e₀ e₁ t is₂ is e₃ =
       let h : Machine = start_of m₀.0 in
       let mine : List Entry = mine_of m₀.0 in
@@ -45,7 +45,7 @@ module _ {F J : Type 0} where
       let held : m₂.1 ≡ (0, There (history h log)) ∷ [] = ap (λ (m : (M F J)). m.1) t'.1 in
       let home_is : history h log ≡ state = ap (λ (l : List (ℕ × (Slot F J))). history_in (slot_in l)) (sym held ∙ is₂) ∙ ap history_in is in
       let P : History → Type 0 = λ k. IsFound m₀ u number ticket s k m₃ in
-      subst P home_is (refl, t'.2, t'.3, e₃ ∙ ap (λ (m : (M F J)). (m.0, (0, Away u s) ∷ rest m.1)) t'.1)
+      subst P home_is (refl, t'.2, t'.3, e₃ ∙ ap (λ (m : (M F J)). (m.0, (0, Away u (snapshot_of s)) ∷ rest m.1)) t'.1)
 
   pub is_out : (number : ℕ) (m : (M F J)) (k k' : History) (g : Stage) (x : (Slot F J)) (b : ℕ) (mine : List Entry) → has_slot g ≡ 1 → m ≡ (session_view k.start g b k.log number mine, (0, x) ∷ []) → k' ≡ k → IsOut number k' m
   is_out number m k k' g x b mine out e is =
@@ -54,11 +54,11 @@ module _ {F J : Type 0} where
   -- the call is counted, and the state is as long as what is seen
   pub counts_out : (m₀ m₃ m₄ : (M F J)) (u number ticket : ℕ) (s : PlainStep) (state state' : History) (r : Reply) → IsFound m₀ u number ticket s state m₃ → HasCounted m₃.0 u number s ticket m₄
       → r ≡ reply_of u s (replay state.start state.log) → state' ≡ history state.start (state.log ++ entry u number s r ∷ [])
-      → m₄ ≡ (session_view state'.start (Counted ticket) (m₀.0.budget - 1) state'.log number (mine_of m₀.0 ++ entry u number s r ∷ []), (0, Away u s) ∷ [])
+      → m₄ ≡ (session_view state'.start (Counted ticket) (m₀.0.budget - 1) state'.log number (mine_of m₀.0 ++ entry u number s r ∷ []), (0, Away u (snapshot_of s)) ∷ [])
   counts_out m₀ m₃ m₄ u number ticket s state state' r f c reply is =
       let at : HasCounted (session_view state.start (Holding ticket) (m₀.0.budget - 1) state.log number (mine_of m₀.0)) u number s ticket m₄ = subst (λ (m : (M F J)). HasCounted m.0 u number s ticket m₄) f.3 c in
-      at ∙ ap (λ (z : Reply). (session_view state.start (Counted ticket) (m₀.0.budget - 1) (state.log ++ entry u number s z ∷ []) number (mine_of m₀.0 ++ entry u number s z ∷ []), (0, Away u s) ∷ [])) (sym reply)
-      ∙ ap (λ (k : History). (session_view k.start (Counted ticket) (m₀.0.budget - 1) k.log number (mine_of m₀.0 ++ entry u number s r ∷ []), (0, Away u s) ∷ [])) (sym is)
+      at ∙ ap (λ (z : Reply). (session_view state.start (Counted ticket) (m₀.0.budget - 1) (state.log ++ entry u number s z ∷ []) number (mine_of m₀.0 ++ entry u number s z ∷ []), (0, Away u (snapshot_of s)) ∷ [])) (sym reply)
+      ∙ ap (λ (k : History). (session_view k.start (Counted ticket) (m₀.0.budget - 1) k.log number (mine_of m₀.0 ++ entry u number s r ∷ []), (0, Away u (snapshot_of s)) ∷ [])) (sym is)
 
   pub turned_none : (m₀ m₃ m₅ : (M F J)) (u number ticket : ℕ) (s : PlainStep) (state state' : History) (r : Reply) → IsFound m₀ u number ticket s state m₃ → is_memory r ≡ true → IsLegal state'.start state'.log → state' ≡ state
       → m₅ ≡ (session_view state'.start Idle m₃.0.budget state'.log number (mine_of m₃.0), []) → HasTurned m₀.0 u number s r m₅
@@ -76,7 +76,7 @@ module _ {F J : Type 0} where
 
   pub turned_one : (m₀ m₃ m₄ m₅ : (M F J)) (u number ticket : ℕ) (s : PlainStep) (state state' : History) (r : Reply) → IsFound m₀ u number ticket s state m₃ → is_memory r ≡ false → IsLegal state'.start state'.log
       → state' ≡ history state.start (state.log ++ entry u number s r ∷ [])
-      → m₄ ≡ (session_view state'.start (Counted ticket) (m₀.0.budget - 1) state'.log number (mine_of m₀.0 ++ entry u number s r ∷ []), (0, Away u s) ∷ [])
+      → m₄ ≡ (session_view state'.start (Counted ticket) (m₀.0.budget - 1) state'.log number (mine_of m₀.0 ++ entry u number s r ∷ []), (0, Away u (snapshot_of s)) ∷ [])
       → m₅ ≡ (session_view state'.start Idle m₄.0.budget state'.log number (mine_of m₄.0), []) → HasTurned m₀.0 u number s r m₅
   turned_one m₀ m₃ m₄ m₅ u number ticket s state state' r f memory legal is at e =
       let P : History → Type 0 = λ k. IsLegal k.start k.log × (m₅ ≡ (session_view k.start Idle (m₀.0.budget - 1) k.log number (mine_of m₀.0 ++ entry u number s r ∷ []), [])) in

@@ -16,7 +16,7 @@ use Rattle.host_lock.specs.declared.view.Slot.{Slot}
 use Rattle.host_lock.specs.declared.view.Slot.TheVariants.{There, Away}
 use Rattle.host_lock.specs.History.{History, history}
 use Rattle.host_lock.specs.Journal.{StartsWith, next_entry}
-use Rattle.host_lock.specs.Rule.{M, total, Each, once, has_ticket, has_slot, owes, times, Matches, AtTurn, Fits, ticket_of, slot_of, number_of, parts_of, budget_of, calls_of, InSlot, SharedInvariant, drawn, taken, drew, Takes, turned, learned, longer, shown, first_seen, ticket_in, counted, released, fresh, fresh_view, opening_view, both, session_view, Closes, Tells, start_of, seen_of, mine_of, TakesSlot}
+use Rattle.host_lock.specs.Rule.{M, total, Each, once, has_ticket, has_slot, owes, times, Matches, AtTurn, Fits, ticket_of, slot_of, number_of, parts_of, budget_of, calls_of, InSlot, SharedInvariant, snapshot_of, drawn, taken, drew, Takes, turned, learned, longer, shown, first_seen, ticket_in, counted, released, fresh, fresh_view, opening_view, both, session_view, Closes, Tells, start_of, seen_of, mine_of, TakesSlot}
 use Rattle.host_lock.specs.Limits.{max_sessions, max_calls}
 use Rattle.host_lock.proofs.Logs.{entries_mine, entries_other, starts_longer}
 use Rattle.host_lock.proofs.Moments.{longer_is}
@@ -215,10 +215,10 @@ module _ {F J : Type 0} where
         ⊎_elim (λ (t : (total slot_of s.views ≡ 0) × (s.homes ≡ some (There (history h r.log)) ∷ [])). let z = t.0 in absurd (omega arith)) (λ (t : (total slot_of s.views ≡ 1) × (s.homes ≡ none ∷ [])). t) r.slot
 
     pub counts_up : (slots id b t k u : ℕ) (h₀ : Machine) (x mine : List Entry) (s₀ : PlainStep)
-        → Allows Rule slots id (session_view h₀ (Holding t) b x k mine, (0, Away u s₀) ∷ []) 2 (λ x. (x + 1) % 2 ^ 64) (counted (step slots 2 1 0 none) (session_view h₀ (Holding t) b x k mine, (0, Away u s₀) ∷ []))
+        → Allows Rule slots id (session_view h₀ (Holding t) b x k mine, (0, Away u (snapshot_of s₀)) ∷ []) 2 (λ x. (x + 1) % 2 ^ 64) (counted (step slots 2 1 0 none) (session_view h₀ (Holding t) b x k mine, (0, Away u (snapshot_of s₀)) ∷ []))
     counts_up slots id b t k u h₀ x mine s₀ s r _ at _ =
         let v : View = session_view h₀ (Holding t) b x k mine in
-        let c : List (ℕ × (Slot F J)) = (0, Away u s₀) ∷ [] in
+        let c : List (ℕ × (Slot F J)) = (0, Away u (snapshot_of s₀)) ∷ [] in
         let e : Entry = next_entry h₀ x u k s₀ in
         let w : View = session_view h₀ (Counted t) b (x ++ e ∷ []) k (mine ++ e ∷ []) in
         let f = r.seats id v at in

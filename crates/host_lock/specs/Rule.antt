@@ -6,6 +6,7 @@ use lib.ListN.{get_elem?}
 use Rattle.atomic_table.specs.Table as table
 use Rattle.atomic_table.specs.Table.{State, Me}
 use Rattle.atomic_table.specs.Seated.{TableId}
+use Rattle.std.specs.declared.snapshot.Snapshot.{Snapshot}
 use Rattle.requests.specs.Machine.{Machine, empty}
 use Rattle.requests.specs.Plain.{PlainStep}
 use Rattle.requests.specs.declared.Reply.{Reply}
@@ -162,6 +163,10 @@ longer [] = []
 longer (x ∷ []) = x
 longer (x ∷ y ∷ zs) = if leb (length y) (length x) then x else y
 
+-- what the slot contains of a step that is being made
+abbrev pub snapshot_of : PlainStep → Snapshot PlainStep
+snapshot_of s = record { marker = record {}; value = s }
+
 -- the view of the seat of one session
 abbrev pub session_view : Machine → Stage → ℕ → List Entry → ℕ → List Entry → View
 session_view h g b seen n mine = record { start = Some h; stage = g; budget = b; seen = seen ∷ []; owns = account n mine ∷ [] }
@@ -244,7 +249,7 @@ module _ {F J : Type 0} where
 
   abbrev pub count_slot : (Slot F J) → View → View
   count_slot (There k) v = v
-  count_slot (Away u s) v = counts v.start u s v
+  count_slot (Away u s) v = counts v.start u s.value v
 
   -- the call whose step is in the seat's slot
   abbrev pub count_in : List (ℕ × (Slot F J)) → View → View
@@ -276,7 +281,7 @@ module _ {F J : Type 0} where
   abbrev pub HasCounted : View → ℕ → ℕ → PlainStep → ℕ → M F J → Type 0
   HasCounted v u number s ticket m' =
       let e = next_entry (start_of v) (seen_of v) u number s in
-      m' ≡ (session_view (start_of v) (Counted ticket) v.budget (seen_of v ++ e ∷ []) number (mine_of v ++ e ∷ []), (0, Away u s) ∷ [])
+      m' ≡ (session_view (start_of v) (Counted ticket) v.budget (seen_of v ++ e ∷ []) number (mine_of v ++ e ∷ []), (0, Away u (snapshot_of s)) ∷ [])
 
   -- one turn is over: after the log, no entry or one, which is the call's
   abbrev pub HasTurned : View → ℕ → ℕ → PlainStep → Reply → M F J → Type 0

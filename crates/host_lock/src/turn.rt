@@ -4,7 +4,7 @@ ghost use Rattle.host_lock.specs.Views.{Idle, Waiting, Holding, Counted};
 ghost use Rattle.host_lock.specs.declared.view.Slot.TheVariants.{There, Away};
 ghost use Rattle.host_lock.specs.History.{history};
 ghost use Rattle.host_lock.specs.Journal.{StartsWith, entries_of};
-ghost use Rattle.host_lock.specs.Rule.{session_view, start_of, seen_of, mine_of, TakesSlot, IsHostTable, HasCounted, HasTurned, IsOut};
+ghost use Rattle.host_lock.specs.Rule.{session_view, snapshot_of, start_of, seen_of, mine_of, TakesSlot, IsHostTable, HasCounted, HasTurned, IsOut};
 
 use crate::call_log::CallLog;
 use crate::rule::{Count, Draw, HostSeat, Release, SharedTable, Turn};
@@ -14,6 +14,7 @@ use pid_blocks::Uid;
 use requests::{PlainStep, Reply, Step};
 use std::alloc::Global;
 use std::hint::spin_loop;
+use std::snapshot::Snapshot;
 use std::sync::Wait;
 use stop_handlers::{Decider, Handler};
 
@@ -51,7 +52,7 @@ pub(crate) fn count_up<F: Decider + Send + Drop, J: CallLog + Send + Drop>(
     ticket: u64,
 )
     requires table { IsHostTable table.now.table_id × (seat.old.table_id ≡ table.now.table_id) }
-    requires holds { seat.old.me ≡ (session_view (start_of seat.old.me.0) (Holding ticket) seat.old.me.0.budget (seen_of seat.old.me.0) number (mine_of seat.old.me.0), (0, Away user step.now) ∷ []) }
+    requires holds { seat.old.me ≡ (session_view (start_of seat.old.me.0) (Holding ticket) seat.old.me.0.budget (seen_of seat.old.me.0) number (mine_of seat.old.me.0), (0, Away user (snapshot_of step.now)) ∷ []) }
     ensures table { seat.new.table_id ≡ seat.old.table_id }
     ensures counted { HasCounted seat.old.me.0 user number step.now ticket seat.new.me }
 {
@@ -94,7 +95,8 @@ pub(crate) fn turn<F: Decider + Send + Drop, J: CallLog + Send + Drop, R: Wait>(
 {
     let ticket = table.fetch_add::<Draw>(seat, 1, 1);
     take_turn(rt, table, seat, number, ticket);
-    let Slot::There(mut state) = table.exchange(seat, 0, Slot::Away(user, *plain)) else {
+    let Slot::There(mut state) = table.exchange(seat, 0, Slot::Away(user, Snapshot::of(plain)))
+    else {
         unreachable!()
     };
     let reply = state.make(alloc, user, number, step, plain);

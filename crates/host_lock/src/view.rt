@@ -5,6 +5,7 @@ use crate::shared_state::SharedState;
 use pid_blocks::Uid;
 use requests::PlainStep;
 use std::marker::Model;
+use std::snapshot::Snapshot;
 use stop_handlers::Decider;
 
 /// The knowledge of a seat. Only contracts use it: the program makes no value of it.
@@ -18,9 +19,9 @@ impl Model for View {
     ghost view = { λ _. spent };
 }
 
-/// The content of slot 0: the host, or the step that is being made.
+/// The content of slot 0: the host, or the step that is being made, which only contracts see.
 #[derive(Drop)]
 pub enum Slot<F: Decider + Send + Drop, J: CallLog + Send + Drop> {
     There(SharedState<F, J>),
-    Away(Uid, PlainStep),
+    Away(Uid, Snapshot<PlainStep>),
 }

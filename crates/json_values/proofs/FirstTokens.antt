@@ -1,12 +1,13 @@
 -- What the first token of a value says of it.
-use Rattle.std.proofs.Common.{◌≡◌, ◌⊎◌, inl, inr, ℕ, ℤ, ◌-◌, ◌<◌, List, [], ◌∷◌, length, Bool, Bor, Some, None, option_map, option_and_then, refl, ap, ap₂, ◌∙◌, subst}
+use Rattle.std.proofs.Common.{◌≡◌, ◌⊎◌, inl, inr, ℕ, ℤ, ◌-◌, ◌<◌, List, [], ◌∷◌, length, Bool, Bor, Option, Some, None, sym, option_map, option_and_then, refl, ap, ap₂, ◌∙◌, subst}
 use Rattle.json.specs.Token.{Token}
 use Rattle.json.specs.Json.{items, members, parse_map, value}
 use Rattle.json.specs.Reads.{token_of}
 use Rattle.json.specs.declared.token.Token as json_token
 use Rattle.json.specs.declared.token.Token.TheVariants as json_variant
 use Rattle.json.proofs.Grammar.{left_some, value-begin_array, value-begin_object, value_is}
-use Rattle.serde_json.specs.Data.{Data, null, boolean, number, string, array, object}
+use Rattle.std.proofs.lemmas.Option.{none-some}
+use Rattle.serde_json.specs.Data.{Num, Data, null, boolean, number, string, array, object}
 use Rattle.serde_json.specs.Find.{as_i64, as_number, as_str, as_array, as_object}
 use Rattle.serde_json.specs.Read.{of_json, number_of, converted}
 use Rattle.json_values.specs.Reading.{IsNumber, IsScalar, Opens, Says, read_items, read_members, rest}
@@ -128,3 +129,8 @@ text_is_plain (number n) s e = absurd (cc)
 text_is_plain (string t) s e = (refl, refl)
 text_is_plain (array ds) s e = absurd (cc)
 text_is_plain (object ms) s e = absurd (cc)
+
+-- a number that is an integer is said by it
+pub integer_number : (z : ℤ) (read : Option Num) → option_and_then as_i64 read ≡ Some z → IsNumber (scalar.Integer z) read
+integer_number z None e = absurd (none-some z e)
+integer_number z (Some n) e = (n, refl, record { integer = sym e; text = refl })

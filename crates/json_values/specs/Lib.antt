@@ -1,1 +1,5 @@
+pub mod Lexing
+pub mod Places
 pub mod Reading
+pub mod Sources
+pub mod Texts

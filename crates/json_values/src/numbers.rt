@@ -33,38 +33,6 @@ fn negative(numeral: &Numeral<'_>) -> Option<i64>
     if number < 0 { Some(number) } else { None }
 }
 
-/// Returns the number that digits write, if there are few of them and nothing else. `None` leaves it open.
-fn few_digits(bytes: &[u8]) -> Option<u64>
-    ensures { IfSome result (λ n. (n < 10 ^ 18) × (0 < length bytes.now) × AllDigits 10 bytes.now × (digits_value 10 bytes.now ≡ n)) }
-{
-    if bytes.is_empty() {
-        return None;
-    }
-    let mut number = 0u64;
-    for byte in bytes {
-        if !byte.is_ascii_digit() || number >= 100_000_000_000_000_000 {
-            return None;
-        }
-        number = number * 10 + u64::from(*byte - b'0');
-    }
-    Some(number)
-}
-
-/// Reads a whole number of a few digits, as nearly all numbers are, or one below 0. `None` leaves the number open.
-fn short_integer(bytes: &[u8]) -> Option<i64>
-    ensures { IfSome result (λ z. option_and_then as_i64 (number_of bytes.now) ≡ Some z) }
-{
-    if !has_minus(bytes) {
-        let number = few_digits(bytes)?;
-        return Some(number as i64);
-    }
-    let number = few_digits(&bytes[1..])?;
-    if number == 0 {
-        return None;
-    }
-    Some(-(number as i64))
-}
-
 /// Returns whether a text begins with a minus, and the numeral after it.
 fn scanned(text: &str) -> (bool, Numeral<'_>)
     ensures { number_from result.0 result.1 ≡ number_of text.now }
@@ -89,21 +57,9 @@ fn negative_in_range(numeral: &Numeral<'_>) -> bool
     negative(numeral).is_some() || is_finite(true, numeral)
 }
 
-/// Reads a number at one pass: a whole number that fits in `i64`, or `None` for another one that has a value.
-#[inline(always)]
+/// Reads a number: a whole number that fits in `i64`, or `None` for another one that has a value.
 #[tactic(auto, using(crate::proofs::NumberTexts::integer_is_number))]
 pub(crate) fn number(text: &str) -> Result<Option<i64>, Invalid>
-    ensures ok { IfOk result (λ z. (is_some (number_of text.now) ≡ true) × (z ≡ option_and_then as_i64 (number_of text.now))) }
-    ensures invalid { OnErr result (number_of text.now ≡ None) }
-{
-    match short_integer(text.as_bytes()) {
-        Some(number) => Ok(Some(number)),
-        None => any_number(text),
-    }
-}
-
-#[tactic(auto, using(crate::proofs::NumberTexts::integer_is_number))]
-fn any_number(text: &str) -> Result<Option<i64>, Invalid>
     ensures ok { IfOk result (λ z. (is_some (number_of text.now) ≡ true) × (z ≡ option_and_then as_i64 (number_of text.now))) }
     ensures invalid { OnErr result (number_of text.now ≡ None) }
 {

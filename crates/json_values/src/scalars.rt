@@ -6,7 +6,8 @@ ghost use Rattle.serde_json.specs.Read.{of_json, number_of, converted};
 ghost use Rattle.json_values.specs.Reading.{IsNumber, Opens, Says, read_items, read_members, rest};
 
 use crate::numbers::number;
-use json::{Invalid, Reader, Token};
+use crate::tokens::Tokens;
+use json::{Invalid, Token};
 
 /// A value, as far as it is known without an allocation.
 #[derive(Clone, Copy, Debug, Drop)]
@@ -42,11 +43,14 @@ fn number_scalar<'a>(text: &str) -> Result<Scalar<'a>, Invalid>
 
 /// Takes the bracket that opens an array, the brace that opens an object, or a whole value of another kind.
 #[inline(always)]
-pub fn open_value<'a>(reader: &mut Reader<'a>) -> Result<Opening<'a>, Invalid>
+pub fn open_value<'a>(reader: &mut Tokens<'a>) -> Result<Opening<'a>, Invalid>
     ensures opened { IfOk result (λ opening. Opens opening reader.old reader.new) }
     ensures shorter { OnOk result (length reader.new < length reader.old) }
     ensures invalid { OnErr result ((depth : ℕ) → converted of_json (value depth reader.old) ≡ None) }
 {
+    if let Some(integer) = reader.next_integer() {
+        return Ok(Opening::Scalar(Scalar::Integer(integer)));
+    }
     let token = reader.next().ok_or(Invalid)?;
     match token {
         Token::BeginArray => Ok(Opening::Array),
@@ -62,7 +66,7 @@ pub fn open_value<'a>(reader: &mut Reader<'a>) -> Result<Opening<'a>, Invalid>
 /// is at some later token, or has no more tokens.
 #[cycle(pass)]
 #[inline(always)]
-pub fn next_scalar<'a>(reader: &mut Reader<'a>, depth: usize) -> Result<Scalar<'a>, Invalid>
+pub fn next_scalar<'a>(reader: &mut Tokens<'a>, depth: usize) -> Result<Scalar<'a>, Invalid>
     ensures ok { IfOk result (λ s. (d : Data) × (converted of_json (value depth reader.old) ≡ Some (d, reader.new)) × Says s d) }
     ensures shorter { OnOk result (length reader.new < length reader.old) }
     ensures invalid { OnErr result (converted of_json (value depth reader.old) ≡ None) }
@@ -88,7 +92,7 @@ pub fn next_scalar<'a>(reader: &mut Reader<'a>, depth: usize) -> Result<Scalar<'
 /// Passes over the items of an array, and over its closing bracket.
 #[cycle(pass)]
 #[inline(never)]
-pub fn pass_items(reader: &mut Reader<'_>, depth: usize) -> Result<(), Invalid>
+pub fn pass_items(reader: &mut Tokens<'_>, depth: usize) -> Result<(), Invalid>
     ensures value { MatchResult result (λ _. rest (read_items depth reader.old) ≡ Some reader.new) (λ _. read_items depth reader.old ≡ None) }
     ensures shorter { OnOk result (length reader.new < length reader.old) }
 {
@@ -101,7 +105,7 @@ pub fn pass_items(reader: &mut Reader<'_>, depth: usize) -> Result<(), Invalid>
 /// Passes over the members of an object, and over its closing brace.
 #[cycle(pass)]
 #[inline(never)]
-pub fn pass_members(reader: &mut Reader<'_>, depth: usize) -> Result<(), Invalid>
+pub fn pass_members(reader: &mut Tokens<'_>, depth: usize) -> Result<(), Invalid>
     ensures value { MatchResult result (λ _. rest (read_members depth reader.old) ≡ Some reader.new) (λ _. read_members depth reader.old ≡ None) }
     ensures shorter { OnOk result (length reader.new < length reader.old) }
 {
@@ -114,7 +118,7 @@ pub fn pass_members(reader: &mut Reader<'_>, depth: usize) -> Result<(), Invalid
 /// Passes over the next value, and checks it as `serde_json` does. It allocates nothing. Arrays and objects may nest
 /// `depth` deep.
 #[inline(always)]
-pub fn pass_value(reader: &mut Reader<'_>, depth: usize) -> Result<(), Invalid>
+pub fn pass_value(reader: &mut Tokens<'_>, depth: usize) -> Result<(), Invalid>
     ensures ok { OnOk result ((d : Data) × (converted of_json (value depth reader.old) ≡ Some (d, reader.new))) }
     ensures shorter { OnOk result (length reader.new < length reader.old) }
     ensures invalid { OnErr result (converted of_json (value depth reader.old) ≡ None) }

@@ -1,6 +1,6 @@
 -- The user's next process, by what each number of the user's block finds.
-use Rattle.std.proofs.Common.{◌≡◌, ℕ, ◌<◌, ◌≤◌, Bool, true, List, Some, None, nat_eq, inl, inr, rules}
-use Rattle.std.specs.Prelude.{◌&&◌, ltb, find}
+use Rattle.std.proofs.Common.{◌≡◌, ℕ, ◌<◌, ◌≤◌, Bool, true, List, Option, Some, None, nat_eq, inl, inr, rules}
+use Rattle.std.specs.Prelude.{◌&&◌, ltb, find, option_map}
 use Rattle.std.specs.List.{AllByRecursion}
 use Rattle.std.proofs.lemmas.Bool.Decides.{nat_tests}
 use Rattle.pid_blocks.specs.Users.{IsUser}
@@ -11,7 +11,8 @@ use Rattle.proc_table.specs.Walks.{next_of}
 use Rattle.proc_table.specs.Kept.{Rise, InOwnBlock}
 use Rattle.proc_table.proofs.Every.{every_found}
 use Rattle.proc_table.proofs.Rows.{same_number, process_of-pid}
-use Rattle.proc_table.proofs.Least.{least_or_none}
+use Rattle.proc_table.specs.Laws.{LeastOrNone}
+use Rattle.proc_table.proofs.Least.{least_or_none, next_of-least}
 use Rattle.proc_table.proofs.Finds.{below_or_not}
 
 -- a row is of the user whose block has its number
@@ -40,3 +41,11 @@ module _ (u after : ℕ) (ps : List ProcData) (up : Rise ps) (in_own_blocks : Al
   pub next_of-none : ((k : ℕ) → after < k → InBlock (pid_block u) k → process_of k ps ≡ None) → next_of u after ps ≡ None
   next_of-none none = next-none (λ p. nat_eq p.uid u) after ps up
       (λ r there test. elim (below_or_not after r.pid) [ inl more ↦ absurd (cc (none r.pid more.1 (in_block r there test), there)) | inr most ↦ most.1 ])
+
+  -- the next row is the row with its number
+  pub next_of-numbered : (n : ℕ) → option_map (λ p. p.pid) (next_of u after ps) ≡ Some n → process_of n ps ≡ next_of u after ps
+  next_of-numbered n its = by (next_of u after ps) (next_of-least u after ps up) its
+    where
+      by : (o : Option ProcData) → LeastOrNone (λ p. nat_eq p.uid u) after ps o → option_map (λ p. p.pid) o ≡ Some n → process_of n ps ≡ o
+      by None least is = absurd (cc)
+      by (Some p) least is = let same : p.pid ≡ n = cc in rw (← same) least.row

@@ -214,6 +214,25 @@ module _ {f : ℕ → Option Slot} {es : List (ℕ × ℕ)} {counts : List ℕ} 
           all.1,
         )
 
+  -- a row with other pending signals, which stays in its lists
+  module _ {g : ℕ → Option Slot} {at : ℕ} {mid : Slot} (pending : ℕ) (has : f at ≡ Some mid) (has' : g at ≡ Some (record mid { row = record mid.row { pending = pending } })) (others : (s : ℕ) → s ≢ at → g s ≡ f s) where
+    in_place : IsRehung f f es at mid.row.tracer (parent_named mid.row.parent)
+    in_place = record {
+      are_linked = tied.are_linked;
+      rows = λ s. refl;
+      here = λ k. tied.list_owners k at ∙ ap (option_map (named k)) (ap (option_map (λ (x : Slot). x.row)) has) ∙ sym (ap (option_map (λ (was : Slot). (was.row.pid, list_owner k mid.row))) has);
+      others = λ k s apart. refl;
+    }
+
+    pub pending-written : IsTied g es counts × (all_rows (look (rows_of g) es) ≡ map (put_process (record mid.row { pending = pending })) (all_rows (look (rows_of f) es)))
+    pending-written = written in_place refl refl has has' others (tied.are_linked.listed at mid has) (rw (row-of at mid has) refl)
+
+    pub pending-listed : (pid : ℕ) (row : ProcData) → lookup (nat_eq pid) es ≡ Some at → process_of pid (all_rows (look (rows_of f) es)) ≡ Some row
+        → all_rows (look (rows_of g) es) ≡ map (put_process (record row { pending = pending })) (all_rows (look (rows_of f) es))
+    pending-listed pid row number there =
+        let own : mid.row ≡ row = same_Some mid.row row (sym (ap (option_map (λ (x : Slot). x.row)) has) ∙ sym (look-slot (rows_of f) es pid at number) ∙ sym (find-all_rows _ (finds (rows_of f) es counts tied.slotted) pid) ∙ there) in
+        pending-written.1 ∙ ap (λ (r : ProcData). map (put_process (record r { pending = pending })) (all_rows (look (rows_of f) es))) own
+
   -- one row less, which was taken out of its lists and whose number no row names
   pub removed : {f1 g : ℕ → Option Slot} {es' : List (ℕ × ℕ)} {at : ℕ} {mid : Slot} (pid : ℕ) → IsRehung f f1 es at None None → f1 at ≡ Some mid → g at ≡ None → ((s : ℕ) → s ≢ at → g s ≡ f1 s) → lookup (nat_eq pid) es ≡ Some at
       → ((n : ℕ) → lookup (nat_eq n) es' ≡ cond (nat_eq pid n) None (lookup (nat_eq n) es)) → ((k : ListKind) → next_named k pid 0 (all_rows (look (rows_of f) es)) ≡ None) → length counts ≡ 64

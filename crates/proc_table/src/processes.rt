@@ -12,6 +12,7 @@ use crate::ProcData;
 use crate::links::{Links, ListKind, Slot, first_slot, next_slot, relink_both};
 use number_map::NumberMap;
 use pid_blocks::{Pid, Uid};
+use signals::SigSet;
 use slab::Slab;
 use std::alloc::{AllocError, Global};
 use std::marker::Model;
@@ -250,6 +251,17 @@ impl Processes {
             parent_of(&row),
         );
         self.nodes[slot] = with_row(&self.nodes[slot], row);
+    }
+
+    /// Replaces the pending signals of the row with this number, in its place.
+    pub fn set_pending(&mut self, pid: Pid, pending: SigSet)
+        requires there { list_any (λ p. p.pid == pid) self.old.rows ≡ true }
+        ensures rows { (row : ProcData) → process_of pid self.old.rows ≡ Some row → self.new.rows ≡ map (put_process (record row { pending = pending })) self.old.rows }
+        ensures spare { self.new.spare ≡ self.old.spare }
+    {
+        let at = self.slots.get(pid.get()).unwrap();
+        let slot = &mut self.nodes[at];
+        slot.row.pending = pending;
     }
 
     /// Removes the row with this number, which no row names.

@@ -5,6 +5,7 @@ ghost use Rattle.pid_blocks.specs.Users.{IsUser};
 ghost use Rattle.pid_blocks.specs.Blocks.{slot, users, pid_block, tid_block, first_free, next_free, InBlock};
 ghost use Rattle.lwp_table.specs.Lwps.{first_lwp, lwp_of, next_lwp, put_lwp, ComputesRows, LeavesQuiet};
 ghost use Rattle.proc_table.specs.Processes.{process_of};
+ghost use Rattle.proc_table.specs.Rows.{change_process};
 ghost use Rattle.proc_table.specs.Seen.{seen_process, seen_lwp, find_seen, owns};
 ghost use Rattle.std.specs.Fn.{FnReturnsAt};
 ghost use Rattle.proc_table.specs.Walks.{next_of, next_tracee, next_child, find_tracee, find_child, DecidesRows};
@@ -19,6 +20,7 @@ use lwp_table::{LwpData, LwpTable};
 use pid_blocks::{
     FIRST_PID, FIRST_TID, PIDS, Pid, TIDS, Tid, Uid, cursor_after, next_free, pid_block, tid_block,
 };
+use signals::SigSet;
 use std::alloc::{AllocError, Global};
 use std::marker::Model;
 
@@ -231,9 +233,9 @@ impl Tables {
         }
     }
 
-    /// Returns the user's first process above a number, if any.
-    pub fn next_of(&self, uid: Uid, after: u32) -> Option<ProcData>
-        ensures row { result ≡ next_of uid after self.now.rows.processes }
+    /// Returns the number of the user's first process above a number, if any. It looks at no row.
+    pub fn next_pid(&self, uid: Uid, after: u32) -> Option<Pid>
+        ensures next { result ≡ option_map (λ p. p.pid) (next_of uid after self.now.rows.processes) }
         ensures kept { TableInvariant self.now.rows }
     {
         let block = pid_block(uid);
@@ -241,7 +243,16 @@ impl Tables {
         let place = self
             .pids
             .next(true, first, block.first + block.size - FIRST_PID)?;
-        self.processes.get(FIRST_PID + place)
+        Pid::new(FIRST_PID + place)
+    }
+
+    /// Returns the user's first process above a number, if any.
+    pub fn next_of(&self, uid: Uid, after: u32) -> Option<ProcData>
+        ensures row { result ≡ next_of uid after self.now.rows.processes }
+        ensures kept { TableInvariant self.now.rows }
+    {
+        let pid = self.next_pid(uid, after)?;
+        self.process(pid)
     }
 
     /// Returns the first process above a number that this process traces, if any.
@@ -412,6 +423,16 @@ impl Tables {
         ensures others { self.new.spare_lwps ≡ self.old.spare_lwps }
     {
         self.processes.set(row);
+    }
+
+    /// Replaces the pending signals of a process, in its place.
+    pub fn set_pending(&mut self, pid: Pid, pending: SigSet)
+        requires there { IsRow self.old.rows pid }
+        ensures rows { self.new.rows ≡ change_process pid (λ p. record p { pending = pending }) self.old.rows }
+        ensures spare { self.new.spare_processes ≡ self.old.spare_processes }
+        ensures others { self.new.spare_lwps ≡ self.old.spare_lwps }
+    {
+        self.processes.set_pending(pid, pending);
     }
 
     /// Replaces the row with the same number, which is of the same process.

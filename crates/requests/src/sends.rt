@@ -3,7 +3,6 @@
 ghost use Rattle.std.specs.Prelude.{◌≡◌, ◌==◌, negsuc, filter, option_map};
 ghost use Rattle.proc_table.specs.Processes.{process_of, of_user};
 ghost use Rattle.proc_table.specs.Seen.{seen_process};
-ghost use Rattle.proc_table.specs.Walks.{next_of};
 ghost use Rattle.proc_table.specs.Kept.{TableInvariant};
 ghost use Rattle.trace_stop.specs.Facts.{IsSound};
 ghost use Rattle.requests.specs.Outcome.{Gives};
@@ -31,27 +30,16 @@ fn post_if_live(tables: &mut Tables, settings: Settings, pid: Pid, pass: Pass)
     }
 }
 
-/// Returns the number of the user's next process above `after`.
-fn next_pid(tables: &Tables, user: Uid, after: u32) -> Option<Pid>
-    ensures next { result ≡ option_map (λ p. p.pid) (next_of user after tables.now.rows.processes) }
-    ensures kept { TableInvariant tables.now.rows }
-{
-    match tables.next_of(user, after) {
-        Some(p) => Some(p.pid),
-        None => None,
-    }
-}
-
 /// Returns the number of the user's next process above `after` other than the caller.
 fn next_other(tables: &Tables, user: Uid, caller: Pid, after: u32) -> Option<Pid>
     ensures next { result ≡ option_map (λ p. p.pid) (next_other user caller after tables.now.rows.processes) }
     ensures kept { TableInvariant tables.now.rows }
 {
-    let Some(pid) = next_pid(tables, user, after) else {
+    let Some(pid) = tables.next_pid(user, after) else {
         return None;
     };
     if pid == caller {
-        return next_pid(tables, user, caller.get());
+        return tables.next_pid(user, caller.get());
     }
     Some(pid)
 }

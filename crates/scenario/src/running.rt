@@ -1,14 +1,14 @@
 //! Runs a scenario and writes its lines.
-ghost use Rattle.std.specs.Prelude.{◌≡◌, ◌≢◌, ◌⊎◌, ◌↔◌, IsErrOf, map, string_bytes, IfOk, IfErr};
+ghost use Rattle.std.specs.Prelude.{◌≡◌, ◌≢◌, ◌↔◌, IsErrOf, string_bytes, IfOk, IfErr};
 ghost use Rattle.std.specs.Vec.Iter.{into_iter_items};
 ghost use Rattle.scenario_text.specs.Plan.{policies_in};
 ghost use Rattle.scenario.specs.Binding.{IsAnswered};
-ghost use Rattle.scenario.specs.Runs.{answered, answers_of, shown, Writes};
+ghost use Rattle.scenario.specs.Runs.{answers_of, shown, Writes};
 ghost use Rattle.scenario.specs.Faults.{run_fault_status};
 ghost use Rattle.scenario.specs.declared.running.RunFault.TheVariants.{Mismatch, Memory, Start, Write as WriteFault};
 
 use crate::binding::{bound_step, obey};
-use crate::lines::{count_reply, push_shown, render};
+use crate::lines::{count_reply, push_shown};
 use crate::retrying::write_some;
 use crate::style::Style;
 use pid_blocks::Uid;
@@ -113,7 +113,7 @@ fn text_of<F: Decider + Send + Drop>(
 }
 
 /// Writes all the bytes, or a front of them where the writer fails.
-fn write_whole<W: Write>(writer: &mut W, bytes: &[u8]) -> Result<(), RunFault>
+pub fn write_whole<W: Write>(writer: &mut W, bytes: &[u8]) -> Result<(), RunFault>
     ensures writes { Writes result (W.contents writer.old) (W.contents writer.new) bytes.now }
     ensures kind { IfErr result (λ e. e ≡ WriteFault) }
 {
@@ -126,20 +126,6 @@ fn write_whole<W: Write>(writer: &mut W, bytes: &[u8]) -> Result<(), RunFault>
         }
     }
     Ok(())
-}
-
-/// Writes the lines of the replies, or only those of one user.
-pub fn write_lines<W: Write>(
-    alloc: Global,
-    replies: &[(Uid, Reply)],
-    options: RunOptions,
-    writer: &mut W,
-) -> Result<(), RunFault>
-    ensures writes { Writes result (W.contents writer.old) (W.contents writer.new) (shown options.style options.user (map answered replies.now)) }
-    ensures kind { IfErr result (λ e. (e ≡ Memory) ⊎ (e ≡ WriteFault)) }
-{
-    let text = render(alloc, replies, options)?;
-    write_whole(writer, text.as_bytes())
 }
 
 /// The options of a run's output.

@@ -80,10 +80,14 @@ module _ (d : Data) (ms : Members) where
   -- a member of this name is put into a step, and into a rule
   pub fields_in-put : (k : List ℕ) → fields_in (put k d ms) ≡ with_named (key_named k) d (fields_in ms)
   fields_in-put k = of_named (λ q o. fields_in (put q d ms) ≡ with_named o d (fields_in ms)) key_rows k
+      -- tools/format keys of steps
       (put_fields (codes "user"), (put_fields (codes "op"), (put_fields (codes "caller"), (put_fields (codes "lwp"), (put_fields (codes "act"), (put_fields (codes "which"), (put_fields (codes "request"), (put_fields (codes "target"), (put_fields (codes "data"), (put_fields (codes "call"), (put_fields (codes "code"), (put_fields (codes "signal"), (put_fields (codes "options"), (put_fields (codes "action"), (put_fields (codes "rules"), (put_fields (codes "set"), (put_fields (codes "mask"), (put_fields (codes "flags"), (put_fields (codes "decision"), (put_fields (codes "pass"), tt))))))))))))))))))))
       (λ h. put_fields k ∙ rw (h.0, h.1.0, h.1.1.0, h.1.1.1.0, h.1.1.1.1.0, h.1.1.1.1.1.0, h.1.1.1.1.1.1.0, h.1.1.1.1.1.1.1.0, h.1.1.1.1.1.1.1.1.0, h.1.1.1.1.1.1.1.1.1.0, h.1.1.1.1.1.1.1.1.1.1.0, h.1.1.1.1.1.1.1.1.1.1.1.0, h.1.1.1.1.1.1.1.1.1.1.1.1.0, h.1.1.1.1.1.1.1.1.1.1.1.1.1.0, h.1.1.1.1.1.1.1.1.1.1.1.1.1.1.0, h.1.1.1.1.1.1.1.1.1.1.1.1.1.1.1.0, h.1.1.1.1.1.1.1.1.1.1.1.1.1.1.1.1.0, h.1.1.1.1.1.1.1.1.1.1.1.1.1.1.1.1.1.0, h.1.1.1.1.1.1.1.1.1.1.1.1.1.1.1.1.1.1.0, h.1.1.1.1.1.1.1.1.1.1.1.1.1.1.1.1.1.1.1.0) refl)
+      -- end
 
   pub rule_fields_in-put : (k : List ℕ) → rule_fields_in (put k d ms) ≡ with_named_rule (key_named k) d (rule_fields_in ms)
   rule_fields_in-put k = of_named (λ q o. rule_fields_in (put q d ms) ≡ with_named_rule o d (rule_fields_in ms)) key_rows k
+      -- tools/format keys of rules
       (put_rule (codes "user"), (put_rule (codes "op"), (put_rule (codes "caller"), (put_rule (codes "lwp"), (put_rule (codes "act"), (put_rule (codes "which"), (put_rule (codes "request"), (put_rule (codes "target"), (put_rule (codes "data"), (put_rule (codes "call"), (put_rule (codes "code"), (put_rule (codes "signal"), (put_rule (codes "options"), (put_rule (codes "action"), (put_rule (codes "rules"), (put_rule (codes "set"), (put_rule (codes "mask"), (put_rule (codes "flags"), (put_rule (codes "decision"), (put_rule (codes "pass"), tt))))))))))))))))))))
       (λ h. put_rule k ∙ rw (h.0, h.1.0, h.1.1.0, h.1.1.1.0, h.1.1.1.1.0, h.1.1.1.1.1.0, h.1.1.1.1.1.1.0, h.1.1.1.1.1.1.1.0, h.1.1.1.1.1.1.1.1.0, h.1.1.1.1.1.1.1.1.1.0, h.1.1.1.1.1.1.1.1.1.1.0, h.1.1.1.1.1.1.1.1.1.1.1.0, h.1.1.1.1.1.1.1.1.1.1.1.1.0, h.1.1.1.1.1.1.1.1.1.1.1.1.1.0, h.1.1.1.1.1.1.1.1.1.1.1.1.1.1.0, h.1.1.1.1.1.1.1.1.1.1.1.1.1.1.1.0, h.1.1.1.1.1.1.1.1.1.1.1.1.1.1.1.1.0, h.1.1.1.1.1.1.1.1.1.1.1.1.1.1.1.1.1.0, h.1.1.1.1.1.1.1.1.1.1.1.1.1.1.1.1.1.1.0, h.1.1.1.1.1.1.1.1.1.1.1.1.1.1.1.1.1.1.1.0) refl)
+      -- end

@@ -10,6 +10,7 @@ use Rattle.scenario_text.specs.declared.keys.Keys.{Keys}
 use Rattle.scenario_text.specs.declared.keys.TheConstants.Keys as keys
 use Rattle.scenario_text.specs.Names.{named}
 
+-- tools/format names
 abbrev pub key_rows : List (List ℕ × Key)
 key_rows =
     (codes "user", key.User)
@@ -33,11 +34,13 @@ key_rows =
     ∷ (codes "decision", key.Decision)
     ∷ (codes "pass", key.Pass)
     ∷ []
+-- end
 
 abbrev pub key_named : List ℕ → Option Key
 key_named = named key_rows
 
 -- the set of one key
+-- tools/format sets by key
 abbrev pub key_set : Key → Keys
 key_set key.User = keys.USER
 key_set key.Op = keys.OP
@@ -59,6 +62,7 @@ key_set key.Mask = keys.MASK
 key_set key.Flags = keys.FLAGS
 key_set key.Decision = keys.DECISION
 key_set key.Pass = keys.PASS
+-- end
 
 abbrev pub set_named : Option Key → Keys
 set_named None = keys.OTHER

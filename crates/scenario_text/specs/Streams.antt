@@ -36,6 +36,7 @@ abbrev pub ReadsMembers : {X : Type 0} → (X → Members → Type 0) → ℕ �
 ReadsMembers P depth r ts left = Fits P (read_members depth ts) r left
 
 -- what the keys of a step say, once a key has an atom or a value
+-- tools/format keys
 abbrev pub with_atom : Key → Atom → Fields → Fields
 with_atom key.User a f = record f { user = user_in a }
 with_atom key.Op a f = record f { op = name_in op_named a }
@@ -51,6 +52,7 @@ with_atom key.Code a f = record f { code = integer a }
 with_atom key.Signal a f = record f { signal = word a }
 with_atom key.Action a f = record f { action = name_in disposition_named a }
 with_atom k a f = f
+-- end
 
 abbrev pub with_value : Key → Data → Fields → Fields
 with_value key.Options d f = record f { options = options_of d }

@@ -13,8 +13,8 @@ use crate::atoms::{signal_in, text};
 use crate::fields::KeyError;
 use crate::names::{WaitOption, option_named};
 use event_masks::{EventMask, StopFlags};
-use json::{Invalid, Reader};
-use json_values::{Opening, Scalar, next_scalar, open_value, pass_members};
+use json::Invalid;
+use json_values::{Opening, Scalar, Tokens, next_scalar, open_value, pass_members};
 use signals::SigSet;
 use wait4::Options;
 
@@ -85,7 +85,7 @@ impl Gathered for SigSet {
 
 /// Reads the items of the array that the reader is in.
 fn gather<S: Gathered>(
-    reader: &mut Reader<'_>,
+    reader: &mut Tokens<'_>,
     depth: usize,
     none: S,
 ) -> Result<Result<S, KeyError>, Invalid>
@@ -104,8 +104,9 @@ fn gather<S: Gathered>(
 }
 
 /// Reads the next value, which may be an array of items that make a set.
+#[inline(never)]
 pub(crate) fn read_set<S: Gathered>(
-    reader: &mut Reader<'_>,
+    reader: &mut Tokens<'_>,
     depth: usize,
     none: S,
 ) -> Result<Result<S, KeyError>, Invalid>

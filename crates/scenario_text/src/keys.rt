@@ -11,6 +11,7 @@ pub(crate) struct Keys(pub(crate) u32);
 impl Keys {
     ghost use Rattle.scenario_text.specs.Keys.{are_among};
 
+    // tools/format sets of one key
     pub(crate) const NONE: Keys = Keys(0);
 
     pub(crate) const USER: Keys = Keys(1);
@@ -55,6 +56,8 @@ impl Keys {
 
     pub(crate) const OTHER: Keys = Keys(1048576);
 
+    // end
+
     /// Tests whether all of these keys are among the allowed ones.
     pub(crate) fn are_among(self, allowed: Keys) -> bool
         ensures { result ≡ are_among allowed self }
@@ -78,6 +81,7 @@ impl BitOr for Keys {
 /// A key of a step or of a rule.
 #[derive(Clone, Copy)]
 pub(crate) enum Key {
+    // tools/format keys
     User,
     Op,
     Caller,
@@ -98,6 +102,7 @@ pub(crate) enum Key {
     Flags,
     Decision,
     Pass,
+    // end
 }
 
 /// Returns the key with this name, if steps or rules have it.
@@ -105,6 +110,7 @@ pub(crate) fn key_named(text: &str) -> Option<Key>
     ensures { result ≡ key_named text.now }
 {
     match text {
+        // tools/format names
         "user" => Some(Key::User),
         "op" => Some(Key::Op),
         "caller" => Some(Key::Caller),
@@ -125,6 +131,7 @@ pub(crate) fn key_named(text: &str) -> Option<Key>
         "flags" => Some(Key::Flags),
         "decision" => Some(Key::Decision),
         "pass" => Some(Key::Pass),
+        // end
         _ => None,
     }
 }
@@ -134,6 +141,7 @@ pub(crate) fn set_of(key: Key) -> Keys
     ensures { result ≡ key_set key }
 {
     match key {
+        // tools/format sets by key
         Key::User => Keys::USER,
         Key::Op => Keys::OP,
         Key::Caller => Keys::CALLER,
@@ -154,5 +162,6 @@ pub(crate) fn set_of(key: Key) -> Keys
         Key::Flags => Keys::FLAGS,
         Key::Decision => Keys::DECISION,
         Key::Pass => Keys::PASS,
+        // end
     }
 }

@@ -14,8 +14,7 @@ use crate::members::read_step;
 use crate::plan::MAX_STEPS;
 use crate::step_list::StepList;
 use crate::stop::Stop;
-use json::Reader;
-use json_values::{Opening, open_value, pass_members, pass_value};
+use json_values::{Opening, Tokens, open_value, pass_members, pass_value};
 use pid_blocks::Uid;
 use requests::PlainStep;
 use std::alloc::{AllocError, Global};
@@ -79,7 +78,7 @@ impl Listed {
 
 /// Reads the next value, which may be a step, and adds it to the list.
 fn add_next(
-    reader: &mut Reader<'_>,
+    reader: &mut Tokens<'_>,
     depth: usize,
     fields: &mut Fields,
     list: &mut Listed,
@@ -105,7 +104,7 @@ fn add_next(
 }
 
 /// Reads the items of the array that the reader is in.
-fn read_list(alloc: Global, reader: &mut Reader<'_>, depth: usize) -> Result<Listed, Stop>
+fn read_list(alloc: Global, reader: &mut Tokens<'_>, depth: usize) -> Result<Listed, Stop>
     requires { 3 < depth }
     ensures list { Tries IsListOf (read_items depth reader.old) result reader.new }
     ensures shorter { OnOk result (length reader.new < length reader.old) }
@@ -126,7 +125,7 @@ fn read_list(alloc: Global, reader: &mut Reader<'_>, depth: usize) -> Result<Lis
 /// Reads the next value, which may be an array of steps.
 pub(crate) fn read_steps(
     alloc: Global,
-    reader: &mut Reader<'_>,
+    reader: &mut Tokens<'_>,
     depth: usize,
 ) -> Result<Result<Listed, KeyError>, Stop>
     requires { 4 < depth }

@@ -17,8 +17,8 @@ use crate::names::{
 use crate::rules::read_rules;
 use crate::steps::step_from;
 use event_masks::EventMask;
-use json::{Invalid, Reader};
-use json_values::{Opening, Scalar, next_scalar, open_value, pass_items, pass_value};
+use json::Invalid;
+use json_values::{Opening, Scalar, Tokens, next_scalar, open_value, pass_items, pass_value};
 use pid_blocks::Uid;
 use requests::{PlainStep, Request};
 use signals::{Disposition, SigSet};
@@ -59,6 +59,7 @@ fn set(fields: &mut Fields, key: Key, atom: &Scalar<'_>)
     ensures { fields.new ≡ with_atom key (atom_in atom.now) fields.old }
 {
     match key {
+        // tools/format keys
         Key::User => fields.user = user_in(atom),
         Key::Op => fields.op = op_in(atom),
         Key::Caller => fields.caller = word(atom),
@@ -72,13 +73,14 @@ fn set(fields: &mut Fields, key: Key, atom: &Scalar<'_>)
         Key::Code => fields.code = integer(atom),
         Key::Signal => fields.signal = word(atom),
         Key::Action => fields.action = disposition_in(atom),
+        // end
         _ => {}
     }
 }
 
 /// Reads the value of a key.
 fn read_value(
-    reader: &mut Reader<'_>,
+    reader: &mut Tokens<'_>,
     depth: usize,
     key: Key,
     fields: &mut Fields,
@@ -108,7 +110,7 @@ fn read_value(
 
 /// Reads the value of the key with this name.
 fn read_named(
-    reader: &mut Reader<'_>,
+    reader: &mut Tokens<'_>,
     depth: usize,
     name: &str,
     fields: &mut Fields,
@@ -132,7 +134,7 @@ fn read_named(
 }
 
 /// Reads the members of the object that the reader is in.
-fn read_fields(reader: &mut Reader<'_>, depth: usize, fields: &mut Fields) -> Result<(), Invalid>
+fn read_fields(reader: &mut Tokens<'_>, depth: usize, fields: &mut Fields) -> Result<(), Invalid>
     requires { 2 < depth }
     ensures members { ReadsMembers (λ _ ms. fields.new ≡ fields_in ms) depth result reader.old reader.new }
     ensures shorter { OnOk result (length reader.new < length reader.old) }
@@ -146,7 +148,7 @@ fn read_fields(reader: &mut Reader<'_>, depth: usize, fields: &mut Fields) -> Re
 
 /// Reads the next value, which may be a step. `fields` has what its keys say meanwhile.
 pub(crate) fn read_step(
-    reader: &mut Reader<'_>,
+    reader: &mut Tokens<'_>,
     depth: usize,
     fields: &mut Fields,
 ) -> Result<Result<(Uid, PlainStep), KeyError>, Invalid>

@@ -13,7 +13,8 @@ use crate::fields::{Fields, KeyError};
 use crate::members::read_step;
 use crate::parsing::MAX_DEPTH;
 use crate::stop::Stop;
-use json::{Reader, Scratch};
+use json_values::Tokens;
+use json::Scratch;
 use pid_blocks::Uid;
 use requests::PlainStep;
 use std::alloc::Global;
@@ -25,7 +26,7 @@ pub const MAX_STEP_BYTES: usize = 65536;
 fn read_text(text: &str, scratch: &mut Scratch) -> Result<Result<(Uid, PlainStep), KeyError>, Stop>
     ensures { TriesText (λ x d. Gives asked x (step_of d)) (read text.now) result }
 {
-    let mut reader = Reader::new(text, scratch)?;
+    let mut reader = Tokens::new(text, scratch)?;
     let mut fields = Fields::none();
     let step = read_step(&mut reader, MAX_DEPTH, &mut fields)?;
     if reader.next().is_some() {

@@ -18,8 +18,8 @@ use crate::listing::{Listed, read_steps};
 use crate::plan::{MAX_STEPS, Scenario};
 use crate::step_list::StepList;
 use crate::stop::Stop;
-use json::{Reader, Scratch};
-use json_values::{Opening, next_scalar, open_value, pass_items, pass_value};
+use json::Scratch;
+use json_values::{Opening, Tokens, next_scalar, open_value, pass_items, pass_value};
 use std::alloc::Global;
 use trace_stop::Settings;
 
@@ -127,7 +127,7 @@ fn scenario_key(name: &str) -> ScenarioKey
 /// Reads the members of the object that the reader is in.
 fn read_scenario_members(
     alloc: Global,
-    reader: &mut Reader<'_>,
+    reader: &mut Tokens<'_>,
     depth: usize,
 ) -> Result<Result<Scenario, Fault>, Stop>
     requires { 4 < depth }
@@ -154,7 +154,7 @@ fn read_scenario_members(
 }
 
 /// Reads the next value, which may be a scenario.
-fn read_scenario(alloc: Global, reader: &mut Reader<'_>) -> Result<Result<Scenario, Fault>, Stop>
+fn read_scenario(alloc: Global, reader: &mut Tokens<'_>) -> Result<Result<Scenario, Fault>, Stop>
     ensures scenario { Tries (λ r d. Yields (λ s. s) r (plan_of d)) (converted of_json (value 127 reader.old)) result reader.new }
     ensures no_read { IfOk result (λ r. IfErr r (λ e. e ≢ ReadFault)) }
 {
@@ -175,7 +175,7 @@ fn read_text(alloc: Global, text: &str) -> Result<Result<Scenario, Fault>, Stop>
     ensures no_read { IfOk result (λ r. IfErr r (λ e. e ≢ ReadFault)) }
 {
     let mut scratch = Scratch::new(alloc);
-    let mut reader = Reader::new(text, &mut scratch)?;
+    let mut reader = Tokens::new(text, &mut scratch)?;
     let scenario = read_scenario(alloc, &mut reader)?;
     if reader.next().is_some() {
         return Err(Stop::Invalid);

@@ -14,8 +14,8 @@ use crate::fields::{KeyError, only};
 use crate::keys::{Key, Keys, key_named, set_of};
 use crate::names::{DecisionKind, decision_named};
 use event_masks::StopFlags;
-use json::{Invalid, Reader};
-use json_values::{Opening, Scalar, next_scalar, open_value, pass_items, pass_members, pass_value};
+use json::Invalid;
+use json_values::{Opening, Scalar, Tokens, next_scalar, open_value, pass_items, pass_members, pass_value};
 use signals::{Pass, Signal};
 use stop_handlers::{Decision, Policy, Rule};
 
@@ -115,7 +115,7 @@ impl RuleFields {
     }
 
     /// Reads the value of a key.
-    fn read(&mut self, reader: &mut Reader<'_>, depth: usize, key: Key) -> Result<(), Invalid>
+    fn read(&mut self, reader: &mut Tokens<'_>, depth: usize, key: Key) -> Result<(), Invalid>
         requires { 0 < depth }
         ensures value { Reads (λ _ d. self.new ≡ with_rule_value key d self.old) depth result reader.old reader.new }
         ensures shorter { OnOk result (length reader.new < length reader.old) }
@@ -132,7 +132,7 @@ impl RuleFields {
     /// Reads the value of the key with this name.
     fn read_named(
         &mut self,
-        reader: &mut Reader<'_>,
+        reader: &mut Tokens<'_>,
         depth: usize,
         name: &str,
     ) -> Result<(), Invalid>
@@ -173,7 +173,7 @@ impl RuleFields {
 }
 
 /// Reads the members of the object that the reader is in.
-fn read_rule_fields(reader: &mut Reader<'_>, depth: usize) -> Result<RuleFields, Invalid>
+fn read_rule_fields(reader: &mut Tokens<'_>, depth: usize) -> Result<RuleFields, Invalid>
     requires { 0 < depth }
     ensures members { ReadsMembers (λ f ms. f ≡ rule_fields_in ms) depth result reader.old reader.new }
     ensures shorter { OnOk result (length reader.new < length reader.old) }
@@ -186,7 +186,7 @@ fn read_rule_fields(reader: &mut Reader<'_>, depth: usize) -> Result<RuleFields,
 }
 
 /// Reads the next value, which may be a rule.
-fn read_rule(reader: &mut Reader<'_>, depth: usize) -> Result<Result<Rule, KeyError>, Invalid>
+fn read_rule(reader: &mut Tokens<'_>, depth: usize) -> Result<Result<Rule, KeyError>, Invalid>
     requires { 1 < depth }
     ensures rule { Reads (λ x d. x ≡ rule_of d) depth result reader.old reader.new }
     ensures shorter { OnOk result (length reader.new < length reader.old) }
@@ -265,7 +265,7 @@ impl RuleList {
 }
 
 /// Reads the items of the array that the reader is in. More than 16 rules are refused before any of them is judged.
-fn read_policy(reader: &mut Reader<'_>, depth: usize) -> Result<Result<Policy, KeyError>, Invalid>
+fn read_policy(reader: &mut Tokens<'_>, depth: usize) -> Result<Result<Policy, KeyError>, Invalid>
     requires { 1 < depth }
     ensures policy { ReadsItems (λ x ds. x ≡ policy_of ds) depth result reader.old reader.new }
     ensures shorter { OnOk result (length reader.new < length reader.old) }
@@ -287,8 +287,9 @@ fn read_policy(reader: &mut Reader<'_>, depth: usize) -> Result<Result<Policy, K
 }
 
 /// Reads the next value, which may be an array of rules.
+#[inline(never)]
 pub(crate) fn read_rules(
-    reader: &mut Reader<'_>,
+    reader: &mut Tokens<'_>,
     depth: usize,
 ) -> Result<Result<Policy, KeyError>, Invalid>
     requires { 2 < depth }

@@ -1,8 +1,7 @@
 -- The lines of one user, and the lines grouped by user.
 use Rattle.std.proofs.Common.{◌≡◌, ◌≢◌, ◌⊎◌, ℕ, ◌+◌, ◌<◌, ◌≤◌, ◌==◌, Bool, true, false, cond, zero, suc, List, [], ◌∷◌, ◌++◌, map, Option, Some, None, eqb-true, if◌then◌else◌, refl, sym, ap, ap₂, ◌∙◌, inl, inr, arith}
 use Rattle.std.specs.List.{concat, AllByRecursion}
-use Rattle.std.proofs.lemmas.List.{append_assoc, append-nil}
-use Rattle.std.proofs.lemmas.List.Elements.{filter-append}
+use Rattle.std.proofs.lemmas.List.{append-nil}
 use Rattle.std.proofs.lemmas.Bool.{cases_lt}
 use Rattle.std.proofs.lemmas.Bool.Decides.{nat_tests}
 use Rattle.row_isolation.proofs.FilteredLists.{All-where, every, filter-all, filter-none}
@@ -14,8 +13,8 @@ use Rattle.requests.specs.Machine.{empty}
 use Rattle.requests.specs.Run.{Asked, asked_by, replies}
 use Rattle.requests.specs.View.{alone}
 use Rattle.visibility.proofs.Apart.{own_list_law, users_are_apart_at_first}
-use Rattle.scenario.specs.Lines.{Answered, Line, line, lines, lines_after, lines_of, text, text_of}
-use Rattle.threaded_runs.specs.Grouped.{grouped, answers_by, by_users, shown_grouped}
+use Rattle.scenario.specs.Lines.{Answered, Line, line, lines, lines_after, lines_of, text_of}
+use Rattle.threaded_runs.specs.Grouped.{answers_by, shown_grouped}
 use Rattle.scenario_text.specs.Plan.{Plan}
 use Rattle.scenario.specs.declared.style.Style.{Style}
 use Rattle.scenario.specs.Runs.{answers_of, paired, shown}
@@ -46,53 +45,7 @@ own_lines style u before others [] same = refl
 own_lines style u before others (a ∷ rest) same =
     own_line style u before others a rest (a.uid == u) refl same (λ before others same. own_lines style u before others rest same)
 
--- the users of the answers before, after more of them
-abbrev pub users_after : List ℕ → List Answered → List ℕ
-users_after before [] = before
-users_after before (a ∷ rest) = users_after (a.uid ∷ before) rest
-
-lines_append : (style : Style) (before : List ℕ) (xs ys : List Answered) → lines_after style before (xs ++ ys) ≡ lines_after style before xs ++ lines_after style (users_after before xs) ys
-lines_append style before [] ys = refl
-lines_append style before (a ∷ rest) ys = ap (λ ls. line style (replies_to a.uid before + 1) a ∷ ls) (lines_append style (a.uid ∷ before) rest ys)
-
-text_append : (xs ys : List Line) → text_of (xs ++ ys) ≡ text_of xs ++ text_of ys
-text_append [] ys = refl
-text_append (l ∷ rest) ys = ap (λ bytes. l.text ++ bytes) (text_append rest ys) ∙ sym (append_assoc l.text (text_of rest) (text_of ys))
-
--- the answers of one user add none to those of another
-other_count : (u w : ℕ) (before : List ℕ) (a : Answered) (rest : List Answered) (b : Bool) → (a.uid == u) ≡ b → u < w
-    → ((before : List ℕ) → replies_to w (users_after before (answers_by u rest)) ≡ replies_to w before)
-    → replies_to w (users_after before (cond b (a ∷ answers_by u rest) (answers_by u rest))) ≡ replies_to w before
-other_count u w before a rest true is above later =
-    let same = eqb-true a.uid u is in
-    let other : (a.uid == w) ≡ false = grind (arith, nat_tests) in
-    later (a.uid ∷ before) ∙ counted_other a.uid w before other
-other_count u w before a rest false is above later = later before
-
-other_counts : (u w : ℕ) (before : List ℕ) (answers : List Answered) → u < w → replies_to w (users_after before (answers_by u answers)) ≡ replies_to w before
-other_counts u w before [] above = refl
-other_counts u w before (a ∷ rest) above = other_count u w before a rest (a.uid == u) refl above (λ before. other_counts u w before rest above)
-
--- users one after another, without answers before
-abbrev pub lines_by_users : Style → List ℕ → List Answered → List ℕ
-lines_by_users style us answers = concat (map (λ u. text_of (lines_of u (lines style answers))) us)
-
-grouped_from : (style : Style) (n m : ℕ) (before : List ℕ) (answers : List Answered) → ((w : ℕ) → m ≤ w → replies_to w before ≡ 0)
-    → text_of (lines_after style before (by_users (rising n m) answers)) ≡ lines_by_users style (rising n m) answers
-grouped_from style zero m before answers none = refl
-grouped_from style (suc n) m before answers none =
-    let own = answers_by m answers in
-    let rest = by_users (rising n (m + 1)) answers in
-    let fresh : replies_to m before ≡ 0 = none m (omega arith) in
-    let later : (w : ℕ) → m + 1 ≤ w → replies_to w (users_after before own) ≡ 0 = λ w above. other_counts m w before answers (omega arith) ∙ none w (omega arith) in
-    ap text_of (lines_append style before own rest)
-    ∙ text_append (lines_after style before own) (lines_after style (users_after before own) rest)
-    ∙ ap₂ (λ (xs ys : List ℕ). xs ++ ys) (ap text_of (sym (own_lines style m [] before answers (sym fresh)))) (grouped_from style n (m + 1) (users_after before own) answers later)
-
-pub grouped_text : (style : Style) (answers : List Answered) → text style (by_users users answers) ≡ grouped style answers
-grouped_text style answers = grouped_from style 64 1001 [] answers (λ w above. refl)
-
--- a user's answers among those of some users
+-- a user's answers among those of a user
 own_again : (u : ℕ) (answers : List Answered) → answers_by u (answers_by u answers) ≡ answers_by u answers
 own_again u answers =
     filter-all (λ a. a.uid == u) (λ a. (a.uid == u) ≡ true) (λ a is. is) (answers_by u answers)
@@ -103,11 +56,11 @@ none_of_others u w answers differ =
     filter-none (λ a. a.uid == u) (λ a. a.uid ≡ w) (λ a same. grind (arith, nat_tests)) (answers_by w answers)
     (All-where (λ a. a.uid == w) (λ a. Unit {0}) (λ a. a.uid ≡ w) (λ a t is. eqb-true a.uid w is) answers (every answers))
 
-none_outside : (n m u : ℕ) (answers : List Answered) → (u < m) ⊎ (m + n ≤ u) → answers_by u (by_users (rising n m) answers) ≡ []
-none_outside zero m u answers outside = refl
-none_outside (suc n) m u answers outside =
-    filter-append (λ a. a.uid == u) (answers_by m answers) (by_users (rising n (m + 1)) answers)
-    ∙ ap₂ (λ (xs ys : List Answered). xs ++ ys) (none_of_others u m answers (apart outside)) (none_outside n (m + 1) u answers (later outside))
+-- where all but one user have nothing
+nothing_outside : (f : ℕ → List ℕ) (n m u : ℕ) → ((w : ℕ) → u ≢ w → f w ≡ []) → (u < m) ⊎ (m + n ≤ u) → concat (map f (rising n m)) ≡ []
+nothing_outside f zero m u none outside = refl
+nothing_outside f (suc n) m u none outside =
+    ap₂ (λ (xs ys : List ℕ). xs ++ ys) (none m (apart outside)) (nothing_outside f n (m + 1) u none (later outside))
   where
     apart : (u < m) ⊎ (m + suc n ≤ u) → u ≢ m
     apart (inl below) = λ same. omega arith
@@ -117,22 +70,29 @@ none_outside (suc n) m u answers outside =
     later (inl below) = inl (omega arith)
     later (inr above) = inr (omega arith)
 
-own_first : (n m u : ℕ) (answers : List Answered) → m ≤ u → (m < u) ⊎ (u ≤ m) → (m < u → answers_by u (by_users (rising n (m + 1)) answers) ≡ answers_by u answers)
-    → answers_by u (answers_by m answers) ++ answers_by u (by_users (rising n (m + 1)) answers) ≡ answers_by u answers
-own_first n m u answers above (inl after) later =
-    ap₂ (λ (xs ys : List Answered). xs ++ ys) (none_of_others u m answers (λ same. omega arith)) (later after)
-own_first n m u answers above (inr here) later =
+one_first : (f : ℕ → List ℕ) (n m u : ℕ) → ((w : ℕ) → u ≢ w → f w ≡ []) → (m < u) ⊎ (u ≤ m) → m ≤ u → (m < u → concat (map f (rising n (m + 1))) ≡ f u)
+    → f m ++ concat (map f (rising n (m + 1))) ≡ f u
+one_first f n m u none (inl after) least later =
+    ap₂ (λ (xs ys : List ℕ). xs ++ ys) (none m (λ same. omega arith)) (later after)
+one_first f n m u none (inr here) least later =
     let same : m ≡ u = omega arith in
-    ap₂ (λ (xs ys : List Answered). xs ++ ys) (ap (λ w. answers_by u (answers_by w answers)) same ∙ own_again u answers) (none_outside n (m + 1) u answers (inl (omega arith)))
-    ∙ append-nil (answers_by u answers)
+    ap₂ (λ (xs ys : List ℕ). xs ++ ys) (ap f same) (nothing_outside f n (m + 1) u none (inl (omega arith)))
+    ∙ append-nil (f u)
 
-own_among : (n m u : ℕ) (answers : List Answered) → m ≤ u → u < m + n → answers_by u (by_users (rising n m) answers) ≡ answers_by u answers
-own_among zero m u answers above below = absurd (omega arith)
-own_among (suc n) m u answers above below =
-    filter-append (λ a. a.uid == u) (answers_by m answers) (by_users (rising n (m + 1)) answers)
-    ∙ own_first n m u answers above (cases_lt m u) (λ after. own_among n (m + 1) u answers (omega arith) (omega arith))
+one_among : (f : ℕ → List ℕ) (n m u : ℕ) → ((w : ℕ) → u ≢ w → f w ≡ []) → m ≤ u → u < m + n → concat (map f (rising n m)) ≡ f u
+one_among f zero m u none above below = absurd (omega arith)
+one_among f (suc n) m u none above below = one_first f n m u none (cases_lt m u) above (λ after. one_among f n (m + 1) u none (omega arith) (omega arith))
 
--- where all answers are users', each one's are those among all users'
+-- what is shown of one user among the answers of a user
+shown_own : (style : Style) (u : ℕ) (answers : List Answered) → shown style (Some u) (answers_by u answers) ≡ shown style (Some u) answers
+shown_own style u answers =
+    ap text_of (own_lines style u [] [] (answers_by u answers) refl ∙ ap (lines style) (own_again u answers) ∙ sym (own_lines style u [] [] answers refl))
+
+shown_other : (style : Style) (u w : ℕ) (answers : List Answered) → u ≢ w → shown style (Some u) (answers_by w answers) ≡ []
+shown_other style u w answers differ =
+    ap text_of (own_lines style u [] [] (answers_by w answers) refl ∙ ap (lines style) (none_of_others u w answers differ))
+
+-- where all answers are to users, no one else has any
 abbrev pub ToUsers : List Answered → Type 0
 ToUsers answers = AllByRecursion (λ a. IsUser a.uid) answers
 
@@ -140,19 +100,28 @@ no_user : (u : ℕ) (answers : List Answered) → ToUsers answers → (u < 1001)
 no_user u answers known (inl below) = filter-none (λ a. a.uid == u) (λ a. IsUser a.uid) (λ a user. grind (arith, nat_tests)) answers known
 no_user u answers known (inr above) = filter-none (λ a. a.uid == u) (λ a. IsUser a.uid) (λ a user. grind (arith, nat_tests)) answers known
 
-pub own_of_users : (u : ℕ) (answers : List Answered) → ToUsers answers → answers_by u (by_users users answers) ≡ answers_by u answers
-own_of_users u answers known = among (cases_lt u 1001) (cases_lt u (1001 + 64))
-  where
-    among : (u < 1001) ⊎ (1001 ≤ u) → (u < 1001 + 64) ⊎ (1001 + 64 ≤ u) → answers_by u (by_users users answers) ≡ answers_by u answers
-    among (inl below) end = none_outside 64 1001 u answers (inl below) ∙ sym (no_user u answers known (inl below))
-    among (inr start) (inl end) = own_among 64 1001 u answers start end
-    among (inr start) (inr above) = none_outside 64 1001 u answers (inr above) ∙ sym (no_user u answers known (inr above))
+shown_none : (style : Style) (u : ℕ) (answers : List Answered) → ToUsers answers → (u < 1001) ⊎ (1001 + 64 ≤ u) → shown style (Some u) answers ≡ []
+shown_none style u answers known outside =
+    ap text_of (own_lines style u [] [] answers refl ∙ ap (lines style) (no_user u answers known outside))
 
--- what is shown of the answers of all users, one user after another
-pub shown_by_users : (style : Style) (user : Option ℕ) (answers : List Answered) → ToUsers answers → shown style user (by_users users answers) ≡ shown_grouped style user answers
-shown_by_users style None answers known = grouped_text style answers
-shown_by_users style (Some u) answers known =
-    ap text_of (own_lines style u [] [] (by_users users answers) refl ∙ ap (lines style) (own_of_users u answers known) ∙ sym (own_lines style u [] [] answers refl))
+-- what is shown of the answers of each user, one user after another
+texts_by : (style : Style) (us : List ℕ) (answers : List Answered)
+    → concat (map (λ u. shown style None (answers_by u answers)) us) ≡ concat (map (λ u. text_of (lines_of u (lines style answers))) us)
+texts_by style [] answers = refl
+texts_by style (u ∷ rest) answers = ap₂ (λ (xs ys : List ℕ). xs ++ ys) (ap text_of (sym (own_lines style u [] [] answers refl))) (texts_by style rest answers)
+
+shown_by_users : (style : Style) (user : Option ℕ) (answers : List Answered) → ToUsers answers
+    → concat (map (λ u. shown style user (answers_by u answers)) users) ≡ shown_grouped style user answers
+shown_by_users style None answers known = texts_by style users answers
+shown_by_users style (Some u) answers known = among (cases_lt u 1001) (cases_lt u (1001 + 64))
+  where
+    texts : ℕ → List ℕ
+    texts w = shown style (Some u) (answers_by w answers)
+
+    among : (u < 1001) ⊎ (1001 ≤ u) → (u < 1001 + 64) ⊎ (1001 + 64 ≤ u) → concat (map texts users) ≡ shown style (Some u) answers
+    among (inl below) end = nothing_outside texts 64 1001 u (λ w. shown_other style u w answers) (inl below) ∙ sym (shown_none style u answers known (inl below))
+    among (inr start) (inl end) = one_among texts 64 1001 u (λ w. shown_other style u w answers) start end ∙ shown_own style u answers
+    among (inr start) (inr above) = nothing_outside texts 64 1001 u (λ w. shown_other style u w answers) (inr above) ∙ sym (shown_none style u answers known (inr above))
 
 -- the answers of one user in a list of all users' answers
 own_answer : (u : ℕ) (x : Asked) (r : Reply) (xs : List Asked) (rs : List Reply) (b : Bool) → (x.uid == u) ≡ b → answers_by u (paired xs rs) ≡ told_to u (replies_of u xs rs)
@@ -178,5 +147,6 @@ users_answered (x ∷ xs) [] all = tt
 users_answered (x ∷ xs) (r ∷ rs) all = (all.0, users_answered xs rs all.1)
 
 -- so of a whole run
-pub shown_plan : (style : Style) (user : Option ℕ) (plan : Plan) → Users plan.steps → shown style user (by_users users (answers_of plan)) ≡ shown_grouped style user (answers_of plan)
+pub shown_plan : (style : Style) (user : Option ℕ) (plan : Plan) → Users plan.steps
+    → concat (map (λ u. shown style user (answers_by u (answers_of plan))) users) ≡ shown_grouped style user (answers_of plan)
 shown_plan style user plan all = shown_by_users style user (answers_of plan) (users_answered plan.steps (replies plan.steps (empty plan.settings)) all)

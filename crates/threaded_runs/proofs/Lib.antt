@@ -1,3 +1,4 @@
+pub mod FrontLemmas
 pub mod GroupLemmas
 pub mod ScriptLemmas
 pub mod SessionLemmas

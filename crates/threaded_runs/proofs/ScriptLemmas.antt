@@ -1,6 +1,6 @@
 -- Scripts of users: in rising order, each with its user's steps.
 use Rattle.std.proofs.Common.{◌≡◌, ℕ, zero, suc, ◌+◌, ◌<◌, ◌≤◌, ◌==◌, Bool, true, false, cond, List, [], ◌∷◌, ◌++◌, length, get_or, map, filter, inl, inr, refl, sym, ap, ap₂, ◌∙◌, eqb-true, arith}
-use Rattle.std.specs.List.{flat_map, AllByRecursion}
+use Rattle.std.specs.List.{concat, flat_map, AllByRecursion}
 use Rattle.std.proofs.lemmas.Bool.{cases_lt}
 use Rattle.std.proofs.lemmas.List.{length-map}
 use Rattle.std.proofs.lemmas.List.Sums.{length-filter, count_by-le-length}
@@ -10,7 +10,7 @@ use Rattle.requests.specs.Plain.{PlainStep}
 use Rattle.requests.specs.Run.{Asked, asked_by}
 use Rattle.row_isolation.proofs.FilteredLists.{All-where, All-map}
 use Rattle.scenario.specs.Lines.{Answered}
-use Rattle.threaded_runs.specs.Grouped.{answers_by, by_users}
+use Rattle.threaded_runs.specs.Grouped.{answers_by}
 use Rattle.threaded_runs.specs.Scripts.{steps_of, has_steps, scripts_in}
 
 abbrev pub script_of : List Asked → ℕ → ℕ × List PlainStep
@@ -105,13 +105,19 @@ no_steps u list none = sym (own_steps u list) ∙ ap (map (λ s. record { uid = 
     empty [] none = refl
     empty (s ∷ rest) none = cc
 
-pub scripts_answers : (n m : ℕ) (list : List Asked) (answers : List Answered) → ((u : ℕ) → asked_by u list ≡ [] → answers_by u answers ≡ [])
-    → flat_map (λ s. answers_by s.0 answers) (filter has_steps (map (script_of list) (rising n m))) ≡ by_users (rising n m) answers
-scripts_answers zero m list answers none = refl
-scripts_answers (suc n) m list answers none = kept (has_steps (script_of list m)) refl (scripts_answers n (m + 1) list answers none)
+-- so they add nothing to what is shown of each script's user
+pub shown_scripts : (shows : List Answered → List ℕ) (n m : ℕ) (list : List Asked) (answers : List Answered) → shows [] ≡ [] → ((u : ℕ) → asked_by u list ≡ [] → answers_by u answers ≡ [])
+    → flat_map shows (map (λ s. answers_by s.0 answers) (filter has_steps (map (script_of list) (rising n m)))) ≡ concat (map (λ u. shows (answers_by u answers)) (rising n m))
+shown_scripts shows zero m list answers nothing none = refl
+shown_scripts shows (suc n) m list answers nothing none = kept (has_steps (script_of list m)) refl (shown_scripts shows n (m + 1) list answers nothing none)
   where
-    kept : (b : Bool) → has_steps (script_of list m) ≡ b → flat_map (λ s. answers_by s.0 answers) (filter has_steps (map (script_of list) (rising n (m + 1)))) ≡ by_users (rising n (m + 1)) answers
-        → flat_map (λ s. answers_by s.0 answers) (cond b (script_of list m ∷ filter has_steps (map (script_of list) (rising n (m + 1)))) (filter has_steps (map (script_of list) (rising n (m + 1)))))
-        ≡ answers_by m answers ++ by_users (rising n (m + 1)) answers
-    kept true is later = ap (λ xs. answers_by m answers ++ xs) later
-    kept false is later = later ∙ sym (ap (λ xs. xs ++ by_users (rising n (m + 1)) answers) (none m (no_steps m list is)))
+    given : List (ℕ × List PlainStep) → List ℕ
+    given ss = flat_map shows (map (λ s. answers_by s.0 answers) ss)
+
+    others : List (ℕ × List PlainStep)
+    others = filter has_steps (map (script_of list) (rising n (m + 1)))
+
+    kept : (b : Bool) → has_steps (script_of list m) ≡ b → given others ≡ concat (map (λ u. shows (answers_by u answers)) (rising n (m + 1)))
+        → given (cond b (script_of list m ∷ others) others) ≡ shows (answers_by m answers) ++ concat (map (λ u. shows (answers_by u answers)) (rising n (m + 1)))
+    kept true is later = ap (λ xs. shows (answers_by m answers) ++ xs) later
+    kept false is later = later ∙ sym (ap (λ xs. xs ++ concat (map (λ u. shows (answers_by u answers)) (rising n (m + 1)))) (ap shows (none m (no_steps m list is)) ∙ nothing))

@@ -1,10 +1,9 @@
--- The transcripts of a run by sessions are the machine's answers, one user after another.
-use Rattle.std.proofs.Common.{◌≡◌, ℕ, suc, ◌<◌, ◌==◌, Bool, true, false, cond, if◌then◌else◌, List, [], ◌∷◌, ◌++◌, length, get_or, map, refl, sym, subst, ap, ap₂, ◌∙◌, eqb-true, arith}
-use Rattle.std.specs.List.{flat_map, AllByRecursion}
+-- Each transcript of a run by sessions has the machine's answers to its user.
+use Rattle.std.proofs.Common.{◌≡◌, ℕ, suc, ◌<◌, ◌==◌, Bool, true, false, cond, if◌then◌else◌, List, [], ◌∷◌, length, get_or, map, refl, sym, subst, ap, ap₂, ◌∙◌, eqb-true, arith}
+use Rattle.std.specs.List.{AllByRecursion}
 use Rattle.std.proofs.lemmas.Bool.{eq-eqb}
 use Rattle.std.proofs.lemmas.List.{get_or-map}
 use Rattle.std.proofs.lemmas.List.Elements.{All-from_recursion}
-use Rattle.pid_blocks.specs.Blocks.{users}
 use Rattle.requests.specs.Plain.{PlainStep}
 use Rattle.requests.specs.declared.Reply.{Reply}
 use Rattle.requests.specs.Isolation.{Users, replies_to}
@@ -19,10 +18,10 @@ use Rattle.sessions.specs.Made.{made}
 use Rattle.sessions.specs.Runs.{entries_by, OwnEntries}
 use Rattle.scenario_text.specs.Plan.{Plan}
 use Rattle.scenario.specs.Runs.{answers_of}
-use Rattle.threaded_runs.specs.Grouped.{answers_by, by_users}
-use Rattle.threaded_runs.specs.Scripts.{scripts_in}
+use Rattle.threaded_runs.specs.Grouped.{answers_by}
+use Rattle.threaded_runs.specs.Scripts.{answers_by_scripts, scripts_in}
 use Rattle.threaded_runs.proofs.GroupLemmas.{told_to, own_answers, alone_answers}
-use Rattle.threaded_runs.proofs.ScriptLemmas.{IsScript, RisingFrom, are_scripts, one_script, rising_scripts, scripts_answers, user_at}
+use Rattle.threaded_runs.proofs.ScriptLemmas.{IsScript, RisingFrom, are_scripts, one_script, rising_scripts, user_at}
 use Rattle.trace_stop.proofs.Every.{All-both}
 
 -- what the k-th script's replies say of the journal
@@ -137,13 +136,13 @@ told_at plan log ts ran k s t h =
     ap₂ told_to played.0 replied ∙ sym (alone_answers script.0 plan is.user ran.users)
 
 -- two lists with the same item at each index
-joined : {X Y A : Type 0} (f : X → List A) (g : Y → List A) (xs : List X) (ys : List Y) → length ys ≡ length xs
-    → ((k : ℕ) (x : X) (y : Y) → k < length xs → g (get_or ys k y) ≡ f (get_or xs k x)) → flat_map g ys ≡ flat_map f xs
+joined : {X Y A : Type 0} (f : X → A) (g : Y → A) (xs : List X) (ys : List Y) → length ys ≡ length xs
+    → ((k : ℕ) (x : X) (y : Y) → k < length xs → g (get_or ys k y) ≡ f (get_or xs k x)) → map g ys ≡ map f xs
 joined f g [] [] long same = refl
 joined f g [] (y ∷ ys) long same = absurd (omega arith)
 joined f g (x ∷ xs) [] long same = absurd (omega arith)
 joined {X} {Y} {A} f g (x ∷ xs) (y ∷ ys) long same =
-    ap₂ (λ (front back : List A). front ++ back) (same 0 x y (omega arith)) (joined f g xs ys (omega arith) (λ k a b h. same (suc k) a b (omega arith)))
+    ap₂ (λ (z : A) (zs : List A). z ∷ zs) (same 0 x y (omega arith)) (joined f g xs ys (omega arith) (λ k a b h. same (suc k) a b (omega arith)))
 
 -- a user without steps has no answers
 no_replies : (u : ℕ) (xs : List Asked) (rs : List Reply) → asked_by u xs ≡ [] → replies_to u xs rs ≡ []
@@ -155,12 +154,10 @@ no_replies u (x ∷ xs) (r ∷ rs) none = later (x.uid == u) none (no_replies u 
     later true some rest = cc
     later false same rest = rest same
 
-no_answers : (plan : Plan) (u : ℕ) → asked_by u plan.steps ≡ [] → answers_by u (answers_of plan) ≡ []
+pub no_answers : (plan : Plan) (u : ℕ) → asked_by u plan.steps ≡ [] → answers_by u (answers_of plan) ≡ []
 no_answers plan u none =
     own_answers u plan.steps (replies plan.steps (empty plan.settings)) ∙ ap (told_to u) (no_replies u plan.steps (replies plan.steps (empty plan.settings)) none)
 
-pub told_by_users : (plan : Plan) (log : List Entry) (ts : List (ℕ × List Reply)) → RanBySessions plan log ts
-    → flat_map (λ t. told_to t.0 t.1) ts ≡ by_users users (answers_of plan)
-told_by_users plan log ts ran =
+pub told_by_scripts : (plan : Plan) (log : List Entry) (ts : List (ℕ × List Reply)) → RanBySessions plan log ts → map (λ t. told_to t.0 t.1) ts ≡ answers_by_scripts plan
+told_by_scripts plan log ts ran =
     joined (λ (s : ℕ × List PlainStep). answers_by s.0 (answers_of plan)) (λ (t : ℕ × List Reply). told_to t.0 t.1) (scripts_in plan.steps) ts ran.long (told_at plan log ts ran)
-    ∙ scripts_answers 64 1001 plan.steps (answers_of plan) (no_answers plan)

@@ -1,11 +1,10 @@
 -- The answers of the transcripts of scripts.
-use Rattle.std.proofs.Common.{◌≡◌, ℕ, ◌<◌, ◌≤◌, List, [], ◌∷◌, ◌++◌, length, get_or, map, refl, sym, ap, subst, ◌∙◌, arith}
+use Rattle.std.proofs.Common.{◌≡◌, ℕ, ◌<◌, ◌≤◌, List, [], ◌∷◌, length, get_or, map, Option, Some, None, refl, sym, ap, subst, ◌∙◌, arith}
 use Rattle.std.specs.Prelude.{All, Vec, vec_len}
 use Rattle.std.specs.Global.{Global}
 use Rattle.std.specs.List.{flat_map, AllByRecursion}
 use Rattle.std.proofs.lemmas.List.{length-map, get_or-map}
 use Rattle.std.proofs.lemmas.List.Elements.{All-from_recursion, recursion_from_All}
-use Rattle.pid_blocks.specs.Blocks.{users}
 use Rattle.requests.specs.declared.Reply.{Reply}
 use Rattle.requests.specs.Isolation.{Users}
 use Rattle.requests.specs.Machine.{Machine, empty}
@@ -21,12 +20,13 @@ use Rattle.sessions.specs.Runs.{AllPlay, OwnEntries}
 use Rattle.sessions.proofs.Pairing.{answers_of as script_answers}
 use Rattle.sessions.specs.PlainRuns.{AllAnswer, AreFew, Ran}
 use Rattle.scenario_text.specs.Plan.{Plan, max_steps}
-use Rattle.scenario.specs.Runs.{answers_of}
-use Rattle.threaded_runs.specs.Grouped.{by_users}
-use Rattle.threaded_runs.specs.Scripts.{scripts_in, told_by, IsMade}
-use Rattle.threaded_runs.proofs.ScriptLemmas.{IsScript, are_scripts, few_scripts}
-use Rattle.threaded_runs.proofs.SessionLemmas.{IsReply, IsPlayed, ArePlayed, told_by_users}
-use Rattle.threaded_runs.proofs.GroupLemmas.{told_to}
+use Rattle.scenario.specs.declared.style.Style.{Style}
+use Rattle.scenario.specs.Runs.{answers_of, shown}
+use Rattle.threaded_runs.specs.Grouped.{shown_grouped}
+use Rattle.threaded_runs.specs.Scripts.{answers_by_scripts, scripts_in, told_by, IsMade}
+use Rattle.threaded_runs.proofs.ScriptLemmas.{IsScript, are_scripts, few_scripts, shown_scripts}
+use Rattle.threaded_runs.proofs.SessionLemmas.{IsReply, IsPlayed, ArePlayed, no_answers, told_by_scripts}
+use Rattle.threaded_runs.proofs.GroupLemmas.{shown_plan, told_to}
 use Rattle.trace_stop.proofs.Every.{All-imply}
 
 abbrev pub plain_transcript : Transcript → ℕ × List Reply
@@ -38,21 +38,21 @@ played log ps (y ∷ ys) all k s t h =
     let told : k < length (y ∷ ys) = subst (λ n. k < n) (sym all.0) h in
     subst (λ q. IsPlayed log k (get_or ps k s) q) (sym (get_or-map plain_transcript (y ∷ ys) k y t told)) (all.1 k s y h)
 
-told_plain : (ts : List Transcript) → flat_map told_by ts ≡ flat_map (λ t. told_to t.0 t.1) (map plain_transcript ts)
+told_plain : (ts : List Transcript) → map told_by ts ≡ map (λ t. told_to t.0 t.1) (map plain_transcript ts)
 told_plain [] = refl
-told_plain (t ∷ rest) = ap (λ xs. told_by t ++ xs) (told_plain rest)
+told_plain (t ∷ rest) = ap (λ xs. told_by t ∷ xs) (told_plain rest)
 
 made_plain : (ts : List Transcript) → AllByRecursion IsMade ts → AllByRecursion (λ t. AllByRecursion IsReply t.1) (map plain_transcript ts)
 made_plain [] made = tt
 made_plain (t ∷ rest) made = (made.0, made_plain rest made.1)
 
--- if memory didn't run out, the transcripts have the machine's answers to all users, one user after another
+-- if memory didn't run out, each transcript has the machine's answers to its user
 pub told_in_all : (plan : Plan) (h : Machine) (ts : List Transcript) → Users plan.steps → Ran (empty plan.settings) (scripts_in plan.steps) h ts → AllByRecursion IsMade ts
-    → flat_map told_by ts ≡ by_users users (answers_of plan)
+    → map told_by ts ≡ answers_by_scripts plan
 told_in_all plan h ts all ran made =
     let log = ran.0 in
     let is = ran.1 in
-    told_plain ts ∙ told_by_users plan log (map plain_transcript ts) (record {
+    told_plain ts ∙ told_by_scripts plan log (map plain_transcript ts) (record {
       users = all;
       below = recursion_from_All (IsBelow (length (scripts_in plan.steps))) log is.entries;
       long = length-map ts plain_transcript ∙ is.transcripts.0;
@@ -95,3 +95,12 @@ ran_of {F} m h ss log ts legal host entries plays own = (
     own = own;
   },
 )
+
+-- so what is shown of each is the text, grouped by user
+pub shown_transcripts : (style : Style) (user : Option ℕ) (plan : Plan) → Users plan.steps → flat_map (shown style user) (answers_by_scripts plan) ≡ shown_grouped style user (answers_of plan)
+shown_transcripts style user plan all =
+    shown_scripts (shown style user) 64 1001 plan.steps (answers_of plan) (shown_nothing user) (no_answers plan) ∙ shown_plan style user plan all
+  where
+    shown_nothing : (user : Option ℕ) → shown style user [] ≡ []
+    shown_nothing None = refl
+    shown_nothing (Some u) = refl

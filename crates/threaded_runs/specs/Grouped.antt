@@ -1,6 +1,6 @@
 -- The text of a run, grouped by user.
 use Rattle.std.specs.Prelude.{ℕ, ◌==◌, List, map, filter, Option, Some, None}
-use Rattle.std.specs.List.{concat, flat_map}
+use Rattle.std.specs.List.{concat}
 use Rattle.pid_blocks.specs.Blocks.{users}
 use Rattle.scenario.specs.Lines.{Answered, lines, lines_of, text_of}
 use Rattle.scenario.specs.Runs.{shown}
@@ -15,9 +15,6 @@ abbrev pub shown_grouped : Style → Option ℕ → List Answered → List ℕ
 shown_grouped style None answers = grouped style answers
 shown_grouped style (Some user) answers = shown style (Some user) answers
 
--- a user's answers, in order, and those of some users, one user after another
+-- a user's answers, in order
 abbrev pub answers_by : ℕ → List Answered → List Answered
 answers_by u answers = filter (λ a. a.uid == u) answers
-
-abbrev pub by_users : List ℕ → List Answered → List Answered
-by_users us answers = flat_map (λ u. answers_by u answers) us

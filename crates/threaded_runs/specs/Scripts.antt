@@ -6,7 +6,10 @@ use Rattle.requests.specs.Memory.{is_memory}
 use Rattle.requests.specs.Plain.{PlainStep}
 use Rattle.requests.specs.Run.{Asked, asked_by}
 use Rattle.sessions.specs.declared.script.Transcript.{Transcript}
+use Rattle.scenario_text.specs.Plan.{Plan}
 use Rattle.scenario.specs.Lines.{Answered}
+use Rattle.scenario.specs.Runs.{answers_of}
+use Rattle.threaded_runs.specs.Grouped.{answers_by}
 
 -- a user's steps, in order
 abbrev pub steps_of : ℕ → List Asked → List PlainStep
@@ -30,3 +33,7 @@ IsMade t = AllByRecursion (λ r. is_memory r ≡ false) t.replies.items
 -- the answers of a transcript
 abbrev pub told_by : Transcript → List Answered
 told_by t = map (λ r. record { uid = t.uid; reply = r }) t.replies.items
+
+-- the answers of each script's user, by rising user
+abbrev pub answers_by_scripts : Plan → List (List Answered)
+answers_by_scripts plan = map (λ s. answers_by s.0 (answers_of plan)) (scripts_in plan.steps)

@@ -1,26 +1,32 @@
 //! A run of a scenario with a session for each user, each in a thread of its own.
 
-ghost use Rattle.std.specs.Prelude.{◌≡◌, ◌≢◌, ◌⊎◌, ◌↔◌, ◌≤◌, ◌++◌, [], length, map, IsErrOf, IfOk, IfErr, OnOk};
+ghost use Rattle.std.specs.Prelude.{◌≡◌, ◌≢◌, ◌⊎◌, ◌↔◌, ◌≤◌, ◌++◌, [], length, map, option_map, string_bytes, IsErrOf, IfOk, IfErr, OnOk};
 ghost use Rattle.std.specs.List.{flat_map, AllByRecursion};
+ghost use Rattle.std.specs.Vec.Iter.{into_iter_items};
 ghost use Rattle.pid_blocks.specs.Blocks.{users};
 ghost use Rattle.requests.specs.Isolation.{Users};
 ghost use Rattle.scenario_text.specs.Plan.{max_steps, policies_in};
-ghost use Rattle.scenario.specs.Runs.{answered, answers_of, Writes};
-ghost use Rattle.threaded_runs.specs.Grouped.{by_users, shown_grouped};
-ghost use Rattle.sessions.specs.Boxed.{boxed_script};
-ghost use Rattle.threaded_runs.specs.Scripts.{has_steps, scripts_in, told_by, IsMade};
-ghost use Rattle.scenario.specs.declared.running.RunFault.TheVariants.{Mismatch, Memory, Start};
+ghost use Rattle.scenario.specs.Binding.{IsBound};
+ghost use Rattle.scenario.specs.Runs.{answers_of, shown, Writes};
+ghost use Rattle.threaded_runs.specs.Grouped.{shown_grouped};
+ghost use Rattle.sessions.specs.Boxed.{boxed_script, own_step};
+ghost use Rattle.threaded_runs.specs.Scripts.{answers_by_scripts, has_steps, scripts_in, told_by, IsMade};
+ghost use Rattle.scenario.specs.declared.running.RunFault.TheVariants.{Mismatch, Memory, Start, Write as WriteFault};
 
 use host_lock::Unkept;
 use pid_blocks::Uid;
-use requests::{Host, Reply};
-use scenario::{RunFault, RunOptions, Scenario, USERS, bound_step, obey, write_lines};
-use sessions::{BoxedScript, Gate, RunRefusal, Transcript, boxed, run_sessions};
+use requests::{Host, Step};
+use scenario::{RunFault, RunOptions, Scenario, StepShape, USERS, obey, push_shown, write_whole};
+use sessions::{BoxedScript, BoxedStep, Gate, RunRefusal, Transcript, run_sessions};
 use std::alloc::{AllocError, Global};
 use std::io::Write;
 use std::sync::Wait;
 use std::thread::Threads;
+use std::vec::IntoIter;
 use stop_handlers::{Decider, Handler};
+
+/// The bytes of a usual line. The texts of usual lines fit into the memory that the scripts leave.
+const USUAL_LINE: usize = 24;
 
 /// A gate that does nothing.
 struct NoGate;
@@ -66,6 +72,23 @@ fn is_asked<F: Decider + Send + Drop>(script: &BoxedScript<F>) -> bool
     !script.steps.is_empty()
 }
 
+/// Returns the step as a script keeps it: an install gets the next handler, on the heap. An error means out of memory.
+fn small_step<F: Decider + Send + Drop>(
+    alloc: Global,
+    shape: &StepShape,
+    handlers: &mut IntoIter<Handler<F>>,
+) -> Result<Option<BoxedStep<F>>, AllocError>
+    ensures { IfOk result (λ step. IsBound shape.now (into_iter_items handlers.old) (into_iter_items handlers.new) (option_map own_step step)) }
+{
+    match shape {
+        Step::Install { .. } => match handlers.next() {
+            Some(handler) => Ok(shape.with_handler(Some(Box::new(alloc, handler)?))),
+            None => Ok(None),
+        },
+        _ => Ok(shape.with_handler(None)),
+    }
+}
+
 /// Returns a script for each user with steps, by rising number of the users. Each install gets the next handler. An
 /// error means out of memory.
 fn scripts_of<F: Decider + Send + Drop>(
@@ -82,55 +105,70 @@ fn scripts_of<F: Decider + Send + Drop>(
     let mut scripts = empty_scripts(alloc, &counts_of(scenario))?;
     let mut rest = handlers.into_iter();
     for shape in shapes {
-        let Some(step) = bound_step(&shape.1, &mut rest) else {
+        let Some(small) = small_step(alloc, &shape.1, &mut rest)? else {
             unreachable!()
         };
-        let small = boxed(alloc, step)?;
         scripts[shape.0.slot()].steps.push(small)?;
     }
     scripts.retain(|script| is_asked(script));
     Ok(scripts)
 }
 
-/// Adds the replies of the transcript, each with its user. An error means that memory ran out, here or for one of the
-/// steps.
-fn add_replies(pairs: &mut Vec<(Uid, Reply)>, transcript: Transcript) -> Result<(), RunFault>
-    ensures told { OnOk result (map answered pairs.new.items ≡ map answered pairs.old.items ++ told_by transcript) }
-    ensures made { OnOk result (IsMade transcript) }
+/// Returns how many bytes the lines of the transcript usually have, if the options show them.
+fn usual_bytes(options: &RunOptions, transcript: &Transcript) -> usize {
+    match options.user {
+        Some(user) if user != transcript.uid => 0,
+        _ => transcript.replies.len().saturating_mul(USUAL_LINE),
+    }
+}
+
+/// Returns the lines of the transcript that the options show. An error means that memory ran out, here or for one of
+/// the steps.
+fn text_of(alloc: Global, options: &RunOptions, transcript: &Transcript) -> Result<String, RunFault>
+    ensures text { IfOk result (λ s. string_bytes s ≡ shown options.now.style options.now.user (told_by transcript.now)) }
+    ensures made { OnOk result (IsMade transcript.now) }
     ensures err { IfErr result (λ e. e ≡ Memory) }
 {
-    let Transcript { uid, replies } = transcript;
-    pairs.reserve(replies.len())?;
-    for reply in replies {
+    let mut text = String::with_capacity(alloc, usual_bytes(options, transcript))?;
+    let mut number = 0u64;
+    for reply in &transcript.replies {
         if reply.is_memory() {
             return Err(RunFault::Memory);
         }
-        pairs.push((uid, reply))?;
+        number += 1;
+        push_shown(alloc, options, &mut text, transcript.uid, number, reply)?;
     }
-    Ok(())
+    Ok(text)
 }
 
-/// Returns how many replies the transcripts have.
-fn count_replies(transcripts: &[Transcript]) -> usize {
-    let mut count = 0usize;
-    for transcript in transcripts {
-        count = count.saturating_add(transcript.replies.len());
-    }
-    count
-}
-
-/// Returns the replies of the transcripts in order, each with its user. An error means that memory ran out, here or for
-/// one of the steps.
-fn replies_in(alloc: Global, transcripts: Vec<Transcript>) -> Result<Vec<(Uid, Reply)>, RunFault>
-    ensures told { IfOk result (λ pairs. map answered pairs.items ≡ flat_map told_by transcripts.items) }
+/// Returns for each transcript its lines that the options show. An error means that memory ran out, here or for one of
+/// the steps.
+fn texts_of(
+    alloc: Global,
+    options: &RunOptions,
+    transcripts: Vec<Transcript>,
+) -> Result<Vec<String>, RunFault>
+    ensures texts { IfOk result (λ v. flat_map string_bytes v.items
+        ≡ flat_map (shown options.now.style options.now.user) (map told_by transcripts.items)) }
     ensures made { OnOk result (AllByRecursion IsMade transcripts.items) }
     ensures err { IfErr result (λ e. e ≡ Memory) }
 {
-    let mut pairs = Vec::with_capacity(alloc, count_replies(transcripts.as_slice()))?;
+    let mut texts = Vec::with_capacity(alloc, transcripts.len())?;
     for transcript in transcripts {
-        add_replies(&mut pairs, transcript)?;
+        texts.push(text_of(alloc, options, &transcript)?)?;
     }
-    Ok(pairs)
+    Ok(texts)
+}
+
+/// Writes the texts in order, or a front of them where the writer fails.
+fn write_texts<W: Write>(writer: &mut W, texts: &[String]) -> Result<(), RunFault>
+    ensures writes { Writes result (W.contents writer.old) (W.contents writer.new) (flat_map string_bytes texts.now) }
+    ensures kind { IfErr result (λ e. e ≡ WriteFault) }
+{
+    for text in texts {
+        write_whole(writer, text.as_bytes())?;
+    }
+    Ok(())
 }
 
 /// Makes the scenario's steps on a new host, by a session for each user with steps, and returns the transcripts.
@@ -141,7 +179,7 @@ fn transcripts_of<F: Decider + Send + Drop, R: Threads + Wait + Sync>(
     handlers: Vec<Handler<F>>,
 ) -> Result<Vec<Transcript>, RunFault>
     requires { handlers.items ≡ policies_in scenario.now.steps }
-    ensures told { IfOk result (λ ts. AllByRecursion IsMade ts.items → flat_map told_by ts.items ≡ by_users users (answers_of scenario.now)) }
+    ensures told { IfOk result (λ ts. AllByRecursion IsMade ts.items → map told_by ts.items ≡ answers_by_scripts scenario.now) }
     ensures users { OnOk result (Users scenario.now.steps) }
     ensures err { IfErr result (λ e. (e ≡ Memory) ⊎ (e ≡ Start)) }
 {
@@ -153,22 +191,6 @@ fn transcripts_of<F: Decider + Send + Drop, R: Threads + Wait + Sync>(
         Err(RunRefusal::Start) => Err(RunFault::Start),
         Err(RunRefusal::TooMany) => unreachable!(),
     }
-}
-
-/// Makes the scenario's steps by a session for each user with steps, and returns the replies, grouped by rising user.
-fn replies_by_user<F: Decider + Send + Drop, R: Threads + Wait + Sync>(
-    rt: &R,
-    alloc: Global,
-    scenario: &Scenario,
-    handlers: Vec<Handler<F>>,
-) -> Result<Vec<(Uid, Reply)>, RunFault>
-    requires { handlers.items ≡ policies_in scenario.now.steps }
-    ensures ok { IfOk result (λ v. map answered v.items ≡ by_users users (answers_of scenario.now)) }
-    ensures users { OnOk result (Users scenario.now.steps) }
-    ensures err { IfErr result (λ e. (e ≡ Memory) ⊎ (e ≡ Start)) }
-{
-    let transcripts = transcripts_of(rt, alloc, scenario, handlers)?;
-    replies_in(alloc, transcripts)
 }
 
 /// Makes the steps of the scenario on a new host as `run` does, but by a session for each user with steps, each in a
@@ -193,6 +215,7 @@ pub fn run_threads<F: Decider + Send + Drop, W: Write, R: Threads + Wait + Sync>
     if !obey(handlers.as_slice(), scenario.policies()) {
         return Err(RunFault::Mismatch);
     }
-    let replies = replies_by_user(rt, alloc, scenario, handlers)?;
-    write_lines(alloc, replies.as_slice(), options, writer)
+    let transcripts = transcripts_of(rt, alloc, scenario, handlers)?;
+    let texts = texts_of(alloc, &options, transcripts)?;
+    write_texts(writer, texts.as_slice())
 }

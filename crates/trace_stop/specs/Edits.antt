@@ -18,6 +18,10 @@ signal_put s here pending = let left = without pending (opposed s) in if here th
 abbrev pub step_cleared : LwpData → LwpData
 step_cleared l = record l { stepping = false }
 
+-- an LWP whose pending set loses the signals of two sets
+abbrev pub pending_taken : ℕ → ℕ → LwpData → LwpData
+pending_taken opposed lost l = record l { pending = without (without l.pending opposed) lost }
+
 -- an LWP after a change
 abbrev pub edited : Edit → LwpData → LwpData
 edited (Settle lost) l = record l { pending = without l.pending lost }

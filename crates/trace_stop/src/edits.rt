@@ -1,10 +1,8 @@
 //! Changes of all LWPs of one process.
 
 ghost use Rattle.std.specs.Prelude.{◌≡◌};
-ghost use Rattle.std.specs.Bool.{OnTrue};
-ghost use Rattle.lwp_table.specs.Lwps.{LeavesQuiet};
 ghost use Rattle.proc_table.specs.Edits.{map_lwps};
-ghost use Rattle.trace_stop.specs.Edits.{edited, signal_put};
+ghost use Rattle.trace_stop.specs.Edits.{edited, pending_taken, signal_put};
 
 use lwp_table::{Due, LwpData};
 use pid_blocks::{Pid, Tid};
@@ -42,13 +40,6 @@ pub enum Edit {
 }
 
 impl Edit {
-    /// Tests whether the change leaves LWPs without pending signals as they are.
-    fn leaves_quiet(&self) -> bool
-        ensures { OnTrue result (LeavesQuiet (edited self.now)) }
-    {
-        matches!(self, Edit::Settle(_) | Edit::Post { to: None, .. })
-    }
-
     /// Returns the LWP after the change.
     fn of(&self, l: &LwpData) -> LwpData
         ensures { result ≡ edited self.now l.now }
@@ -80,13 +71,31 @@ impl Edit {
     }
 }
 
+/// Takes the signals of two sets out of the pending set of each LWP of a process. Looks at no LWP if none may have
+/// pending signals.
+fn take_pending(tables: &mut Tables, pid: Pid, opposed: SigSet, lost: SigSet)
+    ensures { tables.new.rows ≡ map_lwps pid (pending_taken opposed lost) tables.old.rows }
+{
+    tables.edit_pending_lwps(
+        pid,
+        |l| LwpData {
+            pending: l.pending.difference(opposed).difference(lost),
+            ..*l
+        },
+    );
+}
+
 /// Changes each LWP of a process. Looks at the LWPs only if one may have pending signals, or the change is to others too.
 pub fn edit_lwps(tables: &mut Tables, pid: Pid, edit: &Edit)
     ensures { tables.new.rows ≡ map_lwps pid (edited edit.now) tables.old.rows }
 {
-    if edit.leaves_quiet() {
-        tables.edit_pending_lwps(pid, |l| edit.of(l));
-    } else {
-        tables.edit_lwps(pid, |l| edit.of(l));
+    match *edit {
+        Edit::Settle(lost) => take_pending(tables, pid, SigSet::empty(), lost),
+        Edit::Post {
+            signal,
+            to: None,
+            lost,
+        } => take_pending(tables, pid, SigSet::opposed(signal), lost),
+        _ => tables.edit_lwps(pid, |l| edit.of(l)),
     }
 }

@@ -1,13 +1,13 @@
 //! Signals posted to live processes and their LWPs, as kill(2) and thr_kill(2) post them.
 
-ghost use Rattle.std.specs.Prelude.{◌≡◌, ◌∷◌, [], None, Some, true};
+ghost use Rattle.std.specs.Prelude.{◌≡◌, ◌∷◌, [], None, Some, true, is_none};
 ghost use Rattle.proc_table.specs.Processes.{process_of};
 ghost use Rattle.proc_table.specs.Rows.{change, is_numbered};
 ghost use Rattle.proc_table.specs.Kept.{IsRow};
 ghost use Rattle.trace_stop.specs.declared.edits.Edit.TheVariants as edit;
 ghost use Rattle.trace_stop.specs.Facts.{IsSound};
 ghost use Rattle.trace_stop.specs.Before.{IsSoundButPending, MayTell};
-ghost use Rattle.trace_stop.specs.Post.{unwanted, continues, settle, posted_process, posted_lwp, notified, notifies, posted};
+ghost use Rattle.trace_stop.specs.Post.{unwanted, continues, settle, posted_set, posted_process, posted_lwp, notified, notifies, posted};
 ghost use Rattle.trace_stop.specs.Stop.{tracers};
 
 use crate::edits::{Edit, add_pending, edit_lwps};
@@ -34,10 +34,7 @@ pub fn settle(tables: &mut Tables, pid: Pid)
 {
     let p = tables.process(pid).unwrap();
     let lost = unwanted(&p);
-    tables.set_process(ProcData {
-        pending: p.pending.difference(lost),
-        ..p
-    });
+    tables.set_pending(pid, p.pending.difference(lost));
     edit_lwps(tables, pid, &Edit::Settle(lost));
 }
 
@@ -48,21 +45,11 @@ fn continues(signal: Signal, p: &ProcData) -> bool
     signal == Signal::cont() && matches!(p.state, State::Job { .. })
 }
 
-/// Returns a process after the signal is posted to it, or to an LWP of it.
-fn posted_process(p: &ProcData, signal: Signal, to: &Option<Tid>) -> ProcData
-    ensures { result ≡ posted_process signal to.now p.now }
+/// Returns the pending set of a process after the signal is posted to it, or to an LWP of it.
+fn posted_set(p: &ProcData, signal: Signal, to: &Option<Tid>) -> SigSet
+    ensures { result ≡ posted_set signal (is_none to.now) p.now p.now.pending }
 {
-    let pending = add_pending(p.pending, signal, to.is_none()).difference(unwanted(p));
-    if continues(signal, p) {
-        ProcData {
-            state: State::Run,
-            continued: true,
-            pending,
-            ..*p
-        }
-    } else {
-        ProcData { pending, ..*p }
-    }
+    add_pending(p.pending, signal, to.is_none()).difference(unwanted(p))
 }
 
 /// Returns what the post of the signal changes in the LWPs of the process.
@@ -76,17 +63,6 @@ fn posted_lwps(p: &ProcData, signal: Signal, to: &Option<Tid>) -> Edit
     }
 }
 
-/// Returns the parent of a process that the signal continues, or `None` if the signal doesn't continue it.
-fn parent_to_tell(p: &ProcData, signal: Signal) -> Option<u32>
-    ensures { tracers result ≡ notifies signal (Some p.now) }
-{
-    if continues(signal, p) {
-        Some(p.parent)
-    } else {
-        None
-    }
-}
-
 /// Puts a signal into the pending set of a process or of an LWP of it. SIGCONT continues a process that job
 /// control has stopped. Then the result is the process's parent, which the caller notifies.
 fn put(tables: &mut Tables, pid: Pid, signal: Signal, to: &Option<Tid>) -> Option<u32>
@@ -95,12 +71,20 @@ fn put(tables: &mut Tables, pid: Pid, signal: Signal, to: &Option<Tid>) -> Optio
     ensures notifies { tracers result ≡ notifies signal (process_of pid tables.old.rows.processes) }
 {
     let p = tables.process(pid).unwrap();
-    let parent = parent_to_tell(&p, signal);
+    let pending = posted_set(&p, signal, to);
     let edit = posted_lwps(&p, signal, to);
-    tables.set_process(ProcData {
-        pid,
-        ..posted_process(&p, signal, to)
-    });
+    let parent = if continues(signal, &p) {
+        tables.set_process(ProcData {
+            state: State::Run,
+            continued: true,
+            pending,
+            ..p
+        });
+        Some(p.parent)
+    } else {
+        tables.set_pending(pid, pending);
+        None
+    };
     edit_lwps(tables, pid, &edit);
     parent
 }

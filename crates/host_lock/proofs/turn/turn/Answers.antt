@@ -3,15 +3,28 @@ use Rattle.atomic_table.specs.Table.{Me, rest}
 use Rattle.requests.specs.Isolation.{reply_of}
 use Rattle.requests.specs.Memory.{is_memory}
 use Rattle.requests.specs.Plain.{PlainStep}
+use Rattle.std.specs.declared.snapshot.Snapshot.{Snapshot}
+use Rattle.requests.specs.Machine.{Machine}
+use Rattle.host_lock.specs.declared.journal.Entry.{Entry}
 use Rattle.host_lock.specs.Journal.{replay, entry}
 use Rattle.host_lock.specs.Views.{View, Holding, Counted}
 use Rattle.host_lock.specs.declared.view.Slot.{Slot}
 use Rattle.host_lock.specs.declared.view.Slot.TheVariants.{There, Away}
-use Rattle.host_lock.specs.Rule.{start_of, mine_of, HasTurned}
+use Rattle.host_lock.specs.Rule.{snapshot_of, session_view, start_of, seen_of, mine_of, HasTurned}
 use Rattle.host_lock.specs.History.{history}
 use Rattle.host_lock.proofs.Turns.{draws}
 use Rattle.host_lock.proofs.Journey.{finds, is_out, counts_out, turned_none, turned_one}
 use Rattle.host_lock.proofs.turn.turn.Goals as goal
+
+-- the slot's value is the step that was taken a snapshot of
+away_is : {F J : Type 0} (u : ℕ) (v : View) (others : List (ℕ × Slot F J)) (shown : Snapshot PlainStep) (m : Me (Slot F J) View) (s : PlainStep) → shown.value ≡ s → m ≡ (v, (0, Away u shown) ∷ others) → m ≡ (v, (0, Away u (snapshot_of s)) ∷ others)
+away_is u v others shown m s is e = e ∙ ap (λ x. (v, (0, Away u (snapshot_of x)) ∷ others)) is
+
+-- the seat's view is made of its own parts
+holds_slot : {F J : Type 0} (m : Me (Slot F J) View) (h : Machine) (ticket budget number : ℕ) (log mine : List Entry) (out : List (ℕ × Slot F J))
+    → m ≡ (session_view h (Holding ticket) budget log number mine, out) → m ≡ (session_view (start_of m.0) (Holding ticket) m.0.budget (seen_of m.0) number (mine_of m.0), out)
+holds_slot m h ticket budget number log mine out is =
+    subst (λ z. z ≡ (session_view (start_of z.0) (Holding ticket) z.0.budget (seen_of z.0) number (mine_of z.0), out)) (sym is) refl
 
 pub fetch_add-ticket-requires : goal.fetch_add-ticket-requires
 fetch_add-ticket-requires g c =
@@ -33,26 +46,32 @@ pub give_back-requires-clause-out : goal.give_back-requires-clause-out
 give_back-requires-clause-out g c =
     let told : is_memory c.make-reply.result ≡ true = sym c.is_memory.ensures ∙ c.if-is_memory.true in
     let f = finds c.args.seat.now.me c.fetch_add-ticket.new.seat.me c.take_turn.new.seat.me c.exchange.new.seat.me c.args.user c.args.number c.fetch_add-ticket.result c.args.plain.now c.in-There.state c.exchange.result c.requires.rests c.fetch_add-ticket.ensures.2
-    c.take_turn.ensures.taken c.exchange.ensures.2 c.in-There.is c.exchange.ensures.3 in
-    λ κs lives. is_out c.args.number c.exchange.new.seat.me c.in-There.state c.make-reply.new.self (Holding c.fetch_add-ticket.result) (Away c.args.user c.args.plain.now) _ (mine_of c.args.seat.now.me.0) refl f.3 (c.make-reply.ensures.memory told)
+    c.take_turn.ensures.taken c.exchange.ensures.2 c.in-There.is (away_is c.args.user _ _ _ _ _ c.of.ensures c.exchange.ensures.3) in
+    λ κs lives. is_out c.args.number c.exchange.new.seat.me c.in-There.state c.make-reply.new.self (Holding c.fetch_add-ticket.result) (Away c.args.user (snapshot_of c.args.plain.now)) _ (mine_of c.args.seat.now.me.0) refl f.3 (c.make-reply.ensures.memory told)
+
+pub count_up-requires-clause-holds : goal.count_up-requires-clause-holds
+count_up-requires-clause-holds g c =
+    let f = finds c.args.seat.now.me c.fetch_add-ticket.new.seat.me c.take_turn.new.seat.me c.exchange.new.seat.me c.args.user c.args.number c.fetch_add-ticket.result c.args.plain.now c.in-There.state c.exchange.result c.requires.rests c.fetch_add-ticket.ensures.2
+    c.take_turn.ensures.taken c.exchange.ensures.2 c.in-There.is (away_is c.args.user _ _ _ _ _ c.of.ensures c.exchange.ensures.3) in
+    λ κs lives. holds_slot c.exchange.new.seat.me _ _ _ _ _ _ _ f.3
 
 pub give_back-requires-2-clause-out : goal.give_back-requires-2-clause-out
 give_back-requires-2-clause-out g c =
     let told : is_memory c.make-reply.result ≡ false = sym c.is_memory.ensures ∙ c.if-is_memory.false in
     let f = finds c.args.seat.now.me c.fetch_add-ticket.new.seat.me c.take_turn.new.seat.me c.exchange.new.seat.me c.args.user c.args.number c.fetch_add-ticket.result c.args.plain.now c.in-There.state c.exchange.result c.requires.rests c.fetch_add-ticket.ensures.2
-    c.take_turn.ensures.taken c.exchange.ensures.2 c.in-There.is c.exchange.ensures.3 in
+    c.take_turn.ensures.taken c.exchange.ensures.2 c.in-There.is (away_is c.args.user _ _ _ _ _ c.of.ensures c.exchange.ensures.3) in
     let state = c.in-There.state in
     let r = c.make-reply.result in
     let P : PlainStep → Type 0 = λ s. (r ≡ reply_of c.args.user s (replay state.start state.log)) × (c.make-reply.new.self ≡ history state.start (state.log ++ entry c.args.user c.args.number s r ∷ [])) in
     let made = subst P (sym c.requires.plain) (c.make-reply.ensures.made told) in
     let now = counts_out c.args.seat.now.me c.exchange.new.seat.me c.count_up.new.seat.me c.args.user c.args.number c.fetch_add-ticket.result c.args.plain.now c.in-There.state c.make-reply.new.self c.make-reply.result f c.count_up.ensures.counted made.0 made.1 in
-    λ κs lives. is_out c.args.number c.count_up.new.seat.me c.make-reply.new.self c.make-reply.new.self (Counted c.fetch_add-ticket.result) (Away c.args.user c.args.plain.now) _ _ refl now refl
+    λ κs lives. is_out c.args.number c.count_up.new.seat.me c.make-reply.new.self c.make-reply.new.self (Counted c.fetch_add-ticket.result) (Away c.args.user (snapshot_of c.args.plain.now)) _ _ refl now refl
 
 pub returns-then-is_memory-clause-turned : goal.returns-then-is_memory-clause-turned
 returns-then-is_memory-clause-turned g c =
     let told : is_memory c.make-reply.result ≡ true = sym c.is_memory.ensures ∙ c.if-is_memory.true in
     let f = finds c.args.seat.now.me c.fetch_add-ticket.new.seat.me c.take_turn.new.seat.me c.exchange.new.seat.me c.args.user c.args.number c.fetch_add-ticket.result c.args.plain.now c.in-There.state c.exchange.result c.requires.rests c.fetch_add-ticket.ensures.2
-    c.take_turn.ensures.taken c.exchange.ensures.2 c.in-There.is c.exchange.ensures.3 in
+    c.take_turn.ensures.taken c.exchange.ensures.2 c.in-There.is (away_is c.args.user _ _ _ _ _ c.of.ensures c.exchange.ensures.3) in
     let P : PlainStep → Type 0 = λ s. HasTurned c.args.seat.now.me.0 c.args.user c.args.number s c.make-reply.result c.give_back.new.seat.me in
     subst P c.requires.plain
     (turned_none c.args.seat.now.me c.exchange.new.seat.me c.give_back.new.seat.me c.args.user c.args.number c.fetch_add-ticket.result c.args.plain.now c.in-There.state c.make-reply.new.self c.make-reply.result f told
@@ -62,7 +81,7 @@ pub returns-clause-turned : goal.returns-clause-turned
 returns-clause-turned g c =
     let told : is_memory c.make-reply.result ≡ false = sym c.is_memory.ensures ∙ c.if-is_memory.false in
     let f = finds c.args.seat.now.me c.fetch_add-ticket.new.seat.me c.take_turn.new.seat.me c.exchange.new.seat.me c.args.user c.args.number c.fetch_add-ticket.result c.args.plain.now c.in-There.state c.exchange.result c.requires.rests c.fetch_add-ticket.ensures.2
-    c.take_turn.ensures.taken c.exchange.ensures.2 c.in-There.is c.exchange.ensures.3 in
+    c.take_turn.ensures.taken c.exchange.ensures.2 c.in-There.is (away_is c.args.user _ _ _ _ _ c.of.ensures c.exchange.ensures.3) in
     let state = c.in-There.state in
     let r = c.make-reply.result in
     let M : PlainStep → Type 0 = λ s. (r ≡ reply_of c.args.user s (replay state.start state.log)) × (c.make-reply.new.self ≡ history state.start (state.log ++ entry c.args.user c.args.number s r ∷ [])) in

@@ -1,9 +1,13 @@
-use Rattle.std.proofs.Common.{◌≡◌, ℕ, [], ◌∷◌, None, ap, ◌∙◌, arith, rules}
+use Rattle.std.proofs.Common.{◌≡◌, ℕ, [], ◌∷◌, None, w64, subst, sym, ap, ◌∙◌, arith, rules}
+use Rattle.std.proofs.lemmas.Int.{to_z-of_z}
+use mir.Val.{SFits}
+use Rattle.json_values.specs.Reading.{IsScalar}
+use Rattle.json_values.specs.declared.scalars.Scalar.TheVariants as scalar
 use Rattle.json.specs.Json.{value}
 use Rattle.json.specs.Reads.{token_of}
 use Rattle.json.proofs.Grammar.{value_is}
 use Rattle.serde_json.specs.Read.{of_json, converted}
-use Rattle.json_values.proofs.FirstTokens.{no_token, string_scalar, number_scalar, other_scalar, number_beyond}
+use Rattle.json_values.proofs.FirstTokens.{no_token, string_scalar, integer_number, number_scalar, other_scalar, number_beyond}
 use Rattle.json_values.proofs.scalars.open_value.Goals as goal
 
 pub returns-in_err-token-clause-invalid : goal.returns-in_err-token-clause-invalid
@@ -38,3 +42,10 @@ pub returns-in-EndObject-clause-invalid : goal.returns-in-EndObject-clause-inval
 returns-in-EndObject-clause-invalid c = λ depth.
     let first : c.args.reader.now ≡ token_of c.in_ok-token.token ∷ c.next.new.self = grind arith in
     rw (value_is depth c.args.reader.now, first) (grind arith)
+
+pub returns-in-Some-clause-opened : goal.returns-in-Some-clause-opened
+returns-in-Some-clause-opened c =
+    let z = c.in-Some.integer in
+    let fits : SFits w64 z = search rules in
+    let read = c.in-Some.ensures in
+    subst (λ i. IsScalar (scalar.Integer i) c.args.reader.now c.next_integer.new.self) (sym (to_z-of_z w64 z fits)) (number_scalar (scalar.Integer z) read.0 _ _ read.1 (integer_number z _ read.2))

@@ -1,4 +1,4 @@
-use Rattle.std.proofs.Common.{◌≡◌, ℕ, ◌+◌, [], ◌∷◌, ◌++◌, List, map, length, filter, get_or, drop, Some, None, refl, ap, sym, subst, ◌∙◌, arith, rules}
+use Rattle.std.proofs.Common.{◌≡◌, ℕ, ◌+◌, [], ◌∷◌, ◌++◌, List, map, length, filter, get_or, drop, Some, None, option_map, refl, ap, sym, subst, ◌∙◌, arith, rules}
 use Rattle.std.specs.Vec.Iter.{into_iter_items}
 use Rattle.std.proofs.lemmas.List.{length-map, map-append}
 use Rattle.std.proofs.lemmas.Fn.{filter_same}
@@ -35,8 +35,8 @@ unreachable-requires g c =
     let at = c.loop-shape in
     let had = into_iter_items at.rest in
     let x = c.shape-item.result in
-    let bound = c.bound_step.ensures _ (first_before c.shapes-shapes.result.now at.shape-index x had had c.loop-shape-test.true (sym c.shape-item.is) at.invariant.2) in
-    let none : None ≡ Some (step_with (first_policy had) x.1) = sym c.in_default.is ∙ bound.1 in
+    let bound = c.in_ok-small.ensures _ (first_before c.shapes-shapes.result.now at.shape-index x had had c.loop-shape-test.true (sym c.shape-item.is) at.invariant.2) in
+    let none : None ≡ Some (step_with (first_policy had) x.1) = ap (option_map own_step) (sym c.in_default.is) ∙ bound.1 in
     absurd (cc)
 
 pub loop-shape-preserved : goal.loop-shape-preserved
@@ -47,27 +47,28 @@ loop-shape-preserved g c =
     let ss = c.shapes-shapes.result.now in
     let x = c.shape-item.result in
     let had = into_iter_items at.rest in
-    let left = into_iter_items c.bound_step.new.handlers in
+    let left = into_iter_items c.small_step.new.handlers in
     let more = c.loop-shape-test.true in
     let here = sym c.shape-item.is in
-    let bound = c.bound_step.ensures _ (first_before ss at.shape-index x had left more here inv.2) in
+    let bound = c.in_ok-small.ensures _ (first_before ss at.shape-index x had left more here inv.2) in
     let step = step_with (first_policy had) x.1 in
-    let same : Some c.in-Some.step ≡ Some step = sym c.in-Some.is ∙ bound.1 in
-    let entry : ℕ × PlainStep = (x.0, c.in-Some.step) in
+    let bare = own_step c.in-Some.small in
+    let same : Some bare ≡ Some step = ap (option_map own_step) (sym c.in-Some.is) ∙ bound.1 in
+    let entry : ℕ × PlainStep = (x.0, bare) in
     let old = c.index_mut.result.now in
     let new : BoxedScript g.row.F.Denot = record { uid = old.uid; steps = c.push.new.self } in
-    let longer : map own_step new.steps.items ≡ map own_step old.steps.items ++ c.in-Some.step ∷ [] =
-    ap (map own_step) c.in_ok-push.ensures.items ∙ map-append own_step old.steps.items (c.in_ok-small.small ∷ []) ∙ ap (λ (x : PlainStep). map own_step old.steps.items ++ x ∷ []) c.in_ok-small.ensures in
+    let longer : map own_step new.steps.items ≡ map own_step old.steps.items ++ bare ∷ [] =
+    ap (map own_step) c.in_ok-push.ensures.items ∙ map-append own_step old.steps.items (c.in-Some.small ∷ []) in
     let was : old ≡ get_or at.scripts.items (slot x.0) old = c.index_mut.ensures.value ∙ ap (λ k. get_or at.scripts.items k old) c.slot.ensures.place in (
       done ++ entry ∷ [],
-      one_bound done (done ++ entry ∷ []) x.0 c.in-Some.step step (filled (drop at.shape-index ss) had) (filled (drop (at.shape-index + 1) ss) left) c.args.scenario.now.steps
+      one_bound done (done ++ entry ∷ []) x.0 bare step (filled (drop at.shape-index ss) had) (filled (drop (at.shape-index + 1) ss) left) c.args.scenario.now.steps
           (cc) refl (filled_next ss at.shape-index x had left more here bound.0) inv.1,
       each_next ss at.shape-index x had left more here inv.2 bound.0,
       subst Users (sym (map-push asked done entry)) (Users-push (map asked done) (asked entry) inv.3 c.slot.ensures.user),
       ap (λ k. map boxed_script (set at.scripts.items k new)) c.slot.ensures.place
-          ∙ step_added at.scripts.items new old (map asked done) x.0 c.in-Some.step c.slot.ensures.user inv.4
+          ∙ step_added at.scripts.items new old (map asked done) x.0 bare c.slot.ensures.user inv.4
           (ap (λ (s : BoxedScript g.row.F.Denot). s.uid) was)
-          (longer ∙ ap (λ (s : BoxedScript g.row.F.Denot). map own_step s.steps.items ++ c.in-Some.step ∷ []) was)
+          (longer ∙ ap (λ (s : BoxedScript g.row.F.Denot). map own_step s.steps.items ++ bare ∷ []) was)
           ∙ ap (λ xs. map (script_of xs) users) (sym (map-push asked done entry)),
     )
 

@@ -1,0 +1,23 @@
+use Rattle.std.proofs.Common.{◌∷◌, refl, sym, ap, ◌∙◌, arith}
+use Rattle.json.specs.Token.{key, string}
+use Rattle.json.specs.Align.{is_blank}
+use Rattle.json.specs.Lex.{after_value, begins_colon, class, fresh, punctuate}
+use Rattle.json_values.proofs.Places.{a_key, a_string, at_operator, no_colon, no_string}
+use Rattle.json_values.proofs.plain.string.Goals as goal
+
+pub returns-in_default-clause-value : goal.returns-in_default-clause-value
+returns-in_default-clause-value c = no_string c.args.lexer.now c.args.place c.requires.1 c.requires.0 c.in_default.ensures.value
+
+pub returns-then-peek-eq58-clause-value : goal.returns-then-peek-eq58-clause-value
+returns-then-peek-eq58-clause-value c =
+    let after = c.string.new.self in
+    let next = sym c.in-Some.ensures.after ∙ at_operator 58 after refl (omega (arith, c.peek.ensures.value, c.if-peek-eq58.true)) in
+    a_key c.args.lexer.now c.args.place _ _ c.requires.1 c.requires.0 c.in-Some.ensures.value next ∙ ap (λ ls. key c.in-Some.text.now ∷ punctuate fresh ls) (sym c.skip.ensures)
+
+pub returns-else-peek-eq58-clause-value : goal.returns-else-peek-eq58-clause-value
+returns-else-peek-eq58-clause-value c =
+    let after = c.string.new.self in
+    let seen = c.peek.ensures.value in
+    let none = no_colon after (λ b. c.peek.ensures.end (ap (λ x. is_blank (class x)) seen ∙ b)) (λ e. c.if-peek-eq58.false (seen ∙ e)) in
+    a_string c.args.lexer.now c.args.place _ c.requires.1 c.requires.0 c.in-Some.ensures.value (ap begins_colon (sym c.in-Some.ensures.after) ∙ none)
+    ∙ ap (λ ts. string c.in-Some.text.now ∷ ts) (ap (punctuate after_value) (sym c.in-Some.ensures.after) ∙ sym c.after_value.ensures.same)

@@ -1,0 +1,12 @@
+use Rattle.std.proofs.Common.{◌<◌, ◌≤◌, get_or, length, ap, ◌∙◌, ⊎_elim, arith}
+use Rattle.std.proofs.lemmas.Bool.{cases_lt, eq-eqb}
+use Rattle.std.proofs.lemmas.List.{get_or_default, get_or_past}
+use Rattle.json_values.proofs.tokens.Tokens.new.Goals as goal
+
+pub new-requires : goal.new-requires
+new-requires c i e =
+    let d = c.args.text.now in
+    let same = c.as_bytes.ensures.value in
+    let inside : i < length d → ⊥ = λ h. c.in-None.ensures i (omega arith) (omega (arith, h, ap length same)) (eq-eqb _ 92 (ap (λ t. get_or t i 0) same ∙ get_or_default d i 0 32 h ∙ e)) in
+    let past : length d ≤ i → ⊥ = λ h. omega (arith, e, get_or_past d i 32 h) in
+    ⊎_elim inside past (cases_lt i (length d))

@@ -1,0 +1,11 @@
+use Rattle.std.proofs.Common.{◌≡◌, ◌-◌, ◌^◌, ◌<◌, ◌≤◌, length, take, drop}
+use Rattle.std.specs.Str.Parse.{AllDigits, digits_value}
+use Rattle.json_values.proofs.words.few_digits.Given as goal
+
+abbrev pub invariant-loop-end : goal.invariant-loop-end
+invariant-loop-end l =
+    (l.from ≤ l.end) × (l.end ≤ length l.bytes) × (l.value < 10 ^ 18)
+    × AllDigits 10 (take (l.end - l.from) (drop l.from l.bytes)) × (digits_value 10 (take (l.end - l.from) (drop l.from l.bytes)) ≡ l.value)
+
+abbrev pub decreases-loop-end : goal.decreases-loop-end
+decreases-loop-end l = length l.bytes - l.end

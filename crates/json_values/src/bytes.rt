@@ -1,0 +1,94 @@
+//! Where spaces, digits and plain text end.
+ghost use Rattle.std.specs.Prelude.{◌≡◌, ◌+◌, ◌≤◌, ◌||◌, [], true, length, drop, get_or, map};
+ghost use Rattle.std.specs.List.{prefix_len};
+ghost use Rattle.std.specs.Simd.Lanes.{mask_l};
+ghost use Rattle.json.specs.Align.{is_blank};
+ghost use Rattle.json.specs.Lex.{between, class, lex};
+ghost use Rattle.json.specs.Run.{is_plain, is_stop};
+ghost use Rattle.json.specs.Word.{head, is_operator, is_space};
+
+use std::simd::prelude::*;
+
+/// Returns the byte at a place, or a space past the end.
+#[inline(always)]
+pub(crate) fn byte_at(bytes: &[u8], at: usize) -> u8
+    ensures value { result ≡ get_or bytes.now at 32 }
+    ensures head { result ≡ head (drop at bytes.now) }
+{
+    if at < bytes.len() { bytes[at] } else { b' ' }
+}
+
+#[inline(always)]
+pub(crate) fn is_space(byte: u8) -> bool
+    ensures { result ≡ is_blank (class byte) }
+{
+    byte <= b' ' && matches!(byte, b' ' | b'\n' | b'\r' | b'\t')
+}
+
+/// Returns whether a byte ends a number or a literal before it.
+#[inline(always)]
+pub(crate) fn is_delimiter(byte: u8) -> bool
+    ensures { result ≡ (is_operator byte || is_space byte) }
+{
+    matches!(
+        byte,
+        b',' | b'}' | b']' | b' ' | b'\n' | b'\r' | b'\t' | b':' | b'{' | b'['
+    )
+}
+
+/// Returns where the spaces from a place on end.
+#[inline(always)]
+pub(crate) fn spaces_end(bytes: &[u8], from: usize) -> usize
+    requires { from ≤ length bytes.now }
+    ensures same { lex between (drop result bytes.now) ≡ lex between (drop from bytes.now) }
+    ensures ends { is_blank (class (head (drop result bytes.now))) ≡ true → drop result bytes.now ≡ [] }
+    ensures bound { result ≤ length bytes.now }
+{
+    let mut at = from;
+    while at < bytes.len() && is_space(bytes[at]) {
+        at += 1;
+    }
+    at
+}
+
+/// Returns which of 16 bytes end the plain text of a string, as a bit for each.
+#[inline(always)]
+fn stops(bytes: u8x16) -> u64
+    ensures { result ≡ mask_l (map is_stop bytes) }
+{
+    (bytes.simd_eq(u8x16::splat(b'"'))
+        | bytes.simd_eq(u8x16::splat(b'\\'))
+        | bytes.simd_lt(u8x16::splat(b' '))).to_bitmask()
+}
+
+/// Does what `plain_end` does, a byte at a time.
+#[inline(never)]
+fn plain_end_slowly(bytes: &[u8], from: usize) -> usize
+    requires { from ≤ length bytes.now }
+    ensures value { result ≡ from + prefix_len is_plain (drop from bytes.now) }
+    ensures bound { result ≤ length bytes.now }
+{
+    let mut at = from;
+    while at < bytes.len() && bytes[at] != b'"' && bytes[at] != b'\\' && bytes[at] >= b' ' {
+        at += 1;
+    }
+    at
+}
+
+/// Returns where the plain text of a string ends: at a quote, a backslash, a control byte or the end. Most names end
+/// within 16 bytes, which are looked at together.
+#[inline(always)]
+pub(crate) fn plain_end(bytes: &[u8], from: usize) -> usize
+    requires { from ≤ length bytes.now }
+    ensures value { result ≡ from + prefix_len is_plain (drop from bytes.now) }
+    ensures bound { result ≤ length bytes.now }
+{
+    if bytes.len() - from < 16 {
+        return plain_end_slowly(bytes, from);
+    }
+    let found = stops(u8x16::from_slice(&bytes[from..]));
+    if found == 0 {
+        return plain_end_slowly(bytes, from + 16);
+    }
+    from + found.trailing_zeros() as usize
+}

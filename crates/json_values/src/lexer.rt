@@ -1,0 +1,144 @@
+//! The lexemes of a text without escapes, each read where it stands.
+ghost use Rattle.std.specs.Prelude.{◌≡◌, ◌≤◌, ◌∷◌, ℕ, List, [], length, drop, true, Some, None, IfSome, MatchOption, option_and_then};
+ghost use Rattle.json.specs.Align.{is_blank, is_good};
+ghost use Rattle.json.specs.Lex.{token, operator, other, class, between, lex};
+ghost use Rattle.json.specs.Reads.{token_of};
+ghost use Rattle.json.specs.Text.{content, plain};
+ghost use Rattle.json.specs.Token.{number};
+ghost use Rattle.json.specs.Word.{after_number, head, literal, number_before, word};
+ghost use Rattle.serde_json.specs.Find.{as_i64};
+ghost use Rattle.serde_json.specs.Read.{number_of};
+ghost use Rattle.json_values.specs.Lexing.{HasNoEscape, LiteralOf};
+
+use crate::bytes::{byte_at, is_delimiter, plain_end, spaces_end};
+use crate::words::{is_literal, number_end, short_number};
+use json::Token;
+use std::marker::Model;
+
+/// A text without backslashes. A clause sees it from the next lexeme on.
+#[derive(Drop)]
+pub(crate) struct Lexer<'a> {
+    text: &'a str,
+    at: usize,
+}
+
+impl<'a> Model for Lexer<'a> {
+    ghost use Rattle.std.specs.Prelude.{ℕ, List, drop};
+    ghost use Rattle.json_values.specs.Texts.{IsLexer};
+
+    ghost Value = { List ℕ };
+
+    ghost view = { λ a. drop a.at a.text.now };
+
+    ghost invariant = { IsLexer };
+}
+
+impl<'a> Lexer<'a> {
+    pub(crate) fn new(text: &'a str) -> Lexer<'a>
+        requires { HasNoEscape text.now }
+        ensures { lex between result ≡ lex between text.now }
+    {
+        let at = spaces_end(text.as_bytes(), 0);
+        Lexer { text, at }
+    }
+
+    /// Returns the first byte of the next lexeme, or a space at the end.
+    #[inline(always)]
+    pub(crate) fn peek(&self) -> u8
+        ensures value { result ≡ head self.now }
+        ensures end { is_blank (class result) ≡ true → self.now ≡ [] }
+    {
+        byte_at(self.text.as_bytes(), self.at)
+    }
+
+    /// Passes over a comma, a colon, a bracket or a brace.
+    #[inline(always)]
+    pub(crate) fn skip(&mut self)
+        requires { class (head self.old) ≡ operator }
+        ensures { lex between self.new ≡ drop 1 (lex between self.old) }
+    {
+        self.at = spaces_end(self.text.as_bytes(), self.at + 1);
+    }
+
+    /// Takes a string, or returns `None` where it is none.
+    #[inline(always)]
+    pub(crate) fn string(&mut self) -> Option<&'a str>
+        requires { head self.old ≡ 34 }
+        ensures value { MatchOption result (content plain (drop 1 self.old) ≡ None) (λ s. content plain (drop 1 self.old) ≡ Some s.now) }
+        ensures after { IfSome result (λ _. lex between self.new ≡ drop 1 (lex between self.old)) }
+    {
+        let text = self.text;
+        let start = self.at + 1;
+        let stop = plain_end(text.as_bytes(), start);
+        if byte_at(text.as_bytes(), stop) != b'"' {
+            return None;
+        }
+        self.at = spaces_end(text.as_bytes(), stop + 1);
+        Some(&text[start..stop])
+    }
+
+    /// Takes a whole number of few digits. `None` leaves open what is there.
+    #[inline(always)]
+    pub(crate) fn integer(&mut self) -> Option<i64>
+        ensures { MatchOption result (self.new ≡ self.old) (λ z. (s : List ℕ)
+            × (lex between self.old ≡ token (number s) ∷ lex between self.new) × (option_and_then as_i64 (number_of s) ≡ Some z)) }
+    {
+        let bytes = self.text.as_bytes();
+        if self.peek() != b'-' {
+            let (value, end) = short_number(bytes, self.at)?;
+            self.at = spaces_end(bytes, end);
+            return Some(value as i64);
+        }
+        let (value, end) = short_number(bytes, self.at + 1)?;
+        if value == 0 {
+            return None;
+        }
+        self.at = spaces_end(bytes, end);
+        Some(-(value as i64))
+    }
+
+    /// Takes a literal of this name, and returns its token.
+    fn literal(&mut self, name: &[u8], token: Token<'a>) -> Token<'a>
+        requires { LiteralOf name.now (token_of token) }
+        ensures value { token_of result ≡ literal name.now (token_of token.entry) self.old }
+        ensures after { is_good (token_of result) ≡ true → lex between self.new ≡ drop 1 (lex between self.old) }
+    {
+        if !is_literal(self.text.as_bytes(), self.at, name) {
+            return Token::Bad;
+        }
+        self.at = spaces_end(self.text.as_bytes(), self.at + name.len());
+        token
+    }
+
+    fn number(&mut self) -> Token<'a>
+        requires { class (head self.old) ≡ other }
+        ensures value { token_of result ≡ number_before self.old (after_number self.old) }
+        ensures after { is_good (token_of result) ≡ true → lex between self.new ≡ drop 1 (lex between self.old) }
+    {
+        let text = self.text;
+        let start = self.at;
+        let Some(end) = number_end(text.as_bytes(), start) else {
+            return Token::Bad;
+        };
+        if !is_delimiter(byte_at(text.as_bytes(), end)) {
+            return Token::Bad;
+        }
+        self.at = spaces_end(text.as_bytes(), end);
+        Token::Number(&text[start..end])
+    }
+
+    /// Takes a number or a literal. A word that is neither is bad.
+    #[inline(never)]
+    pub(crate) fn word(&mut self) -> Token<'a>
+        requires { class (head self.old) ≡ other }
+        ensures value { token_of result ≡ word self.old }
+        ensures after { is_good (token_of result) ≡ true → lex between self.new ≡ drop 1 (lex between self.old) }
+    {
+        match self.peek() {
+            b't' => self.literal(b"true", Token::Bool(true)),
+            b'f' => self.literal(b"false", Token::Bool(false)),
+            b'n' => self.literal(b"null", Token::Null),
+            _ => self.number(),
+        }
+    }
+}

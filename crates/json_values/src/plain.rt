@@ -1,0 +1,243 @@
+//! The tokens of a text without escapes, at one pass over its bytes.
+ghost use Rattle.std.specs.Prelude.{◌≡◌, ◌≢◌, ◌⊎◌, ◌∷◌, ℕ, List, [], Some, None, MatchOption, MatchResult, option_and_then, option_map, true, false};
+ghost use Rattle.std.specs.Bool.{MatchBool};
+ghost use Rattle.json.specs.Json.{after_end_array, read_key};
+ghost use Rattle.json.specs.Lex.{after_value, between, class, lex, other, punctuate, tokens};
+ghost use Rattle.json.specs.Align.{is_blank};
+ghost use Rattle.json.specs.Reads.{token_of, Yields};
+ghost use Rattle.json.specs.Token.{number};
+ghost use Rattle.json.specs.Word.{head};
+ghost use Rattle.serde_json.specs.Find.{as_i64};
+ghost use Rattle.serde_json.specs.Read.{number_of};
+ghost use Rattle.json_values.specs.Lexing.{HasNoEscape};
+ghost use Rattle.json_values.specs.Places.{may_begin, may_close, refused_at, tokens_at, NotBeforeComma};
+
+use crate::bytes::is_space;
+use crate::lexer::Lexer;
+use json::{Invalid, Token};
+use std::marker::Model;
+
+/// What the reader has passed.
+#[derive(Clone, Copy, Drop)]
+pub(crate) enum Place {
+    AfterComma,
+    Fresh,
+    AfterValue,
+    /// A fault, after which no token comes.
+    Failed,
+}
+
+impl Place {
+    #[inline(always)]
+    fn may_close(self) -> bool
+        ensures { result ≡ may_close self }
+    {
+        matches!(self, Place::Fresh | Place::AfterValue)
+    }
+
+    #[inline(always)]
+    fn may_begin(self) -> bool
+        ensures { result ≡ may_begin self }
+    {
+        matches!(self, Place::Fresh | Place::AfterComma)
+    }
+}
+
+/// Passes over the comma that may follow a value.
+#[inline(always)]
+fn after_value(lexer: &mut Lexer<'_>) -> Place
+    ensures same { tokens_at result lexer.new ≡ punctuate after_value (lex between lexer.old) }
+    ensures passed { NotBeforeComma result lexer.new }
+{
+    if lexer.peek() == b',' {
+        lexer.skip();
+        Place::AfterComma
+    } else {
+        Place::AfterValue
+    }
+}
+
+/// Takes a key with its colon, or a string.
+#[inline(always)]
+fn string<'a>(lexer: &mut Lexer<'a>, place: Place) -> (Token<'a>, Place)
+    requires { (head lexer.old ≡ 34) × (may_begin place ≡ true) }
+    ensures value { tokens_at place lexer.old ≡ token_of result.0 ∷ tokens_at result.1 lexer.new }
+    ensures passed { NotBeforeComma result.1 lexer.new }
+{
+    let Some(text) = lexer.string() else {
+        return (Token::Bad, Place::Failed);
+    };
+    if lexer.peek() == b':' {
+        lexer.skip();
+        (Token::Key(text), Place::Fresh)
+    } else {
+        (Token::String(text), after_value(lexer))
+    }
+}
+
+/// Takes a number or a literal.
+#[inline(always)]
+fn word<'a>(lexer: &mut Lexer<'a>, place: Place) -> (Token<'a>, Place)
+    requires { (class (head lexer.old) ≡ other) × (may_begin place ≡ true) }
+    ensures value { tokens_at place lexer.old ≡ token_of result.0 ∷ tokens_at result.1 lexer.new }
+    ensures passed { NotBeforeComma result.1 lexer.new }
+{
+    let token = lexer.word();
+    if let Token::Bad = token {
+        return (Token::Bad, Place::Failed);
+    }
+    (token, after_value(lexer))
+}
+
+/// Takes what may stand at the begin of a value, but for a string.
+#[inline(always)]
+fn begin<'a>(lexer: &mut Lexer<'a>, place: Place) -> (Token<'a>, Place)
+    requires first { (is_blank (class (head lexer.old)) ≡ false) × (head lexer.old ≢ 34) × (head lexer.old ≢ 125) × (head lexer.old ≢ 93) }
+    requires place { may_begin place ≡ true }
+    ensures value { tokens_at place lexer.old ≡ token_of result.0 ∷ tokens_at result.1 lexer.new }
+    ensures passed { NotBeforeComma result.1 lexer.new }
+{
+    match lexer.peek() {
+        b'{' => {
+            lexer.skip();
+            (Token::BeginObject, Place::Fresh)
+        }
+        b'[' => {
+            lexer.skip();
+            (Token::BeginArray, Place::Fresh)
+        }
+        b',' | b':' | b'\\' => (Token::Bad, Place::Failed),
+        _ => word(lexer, place),
+    }
+}
+
+/// Takes a closing bracket or brace.
+#[inline(always)]
+fn close<'a>(lexer: &mut Lexer<'a>, place: Place) -> (Token<'a>, Place)
+    requires { ((head lexer.old ≡ 125) ⊎ (head lexer.old ≡ 93)) × (may_close place ≡ true) }
+    ensures value { tokens_at place lexer.old ≡ token_of result.0 ∷ tokens_at result.1 lexer.new }
+    ensures passed { NotBeforeComma result.1 lexer.new }
+{
+    let is_object = lexer.peek() == b'}';
+    lexer.skip();
+    let place = after_value(lexer);
+    if is_object {
+        (Token::EndObject, place)
+    } else {
+        (Token::EndArray, place)
+    }
+}
+
+/// Returns the one bad token, and none after it.
+#[cold]
+fn refuse<'a>(place: Place) -> (Option<Token<'a>>, Place)
+    ensures { Yields (refused_at place) result.0 [] × (result.1 ≡ Place.Failed) }
+{
+    if let Place::Failed = place {
+        (None, Place::Failed)
+    } else {
+        (Some(Token::Bad), Place::Failed)
+    }
+}
+
+#[inline(always)]
+fn read<'a>(lexer: &mut Lexer<'a>, place: Place) -> (Option<Token<'a>>, Place)
+    requires { NotBeforeComma place lexer.old }
+    ensures value { Yields (tokens_at place lexer.old) result.0 (tokens_at result.1 lexer.new) }
+    ensures passed { NotBeforeComma result.1 lexer.new }
+{
+    let byte = lexer.peek();
+    if byte == b'"' && place.may_begin() {
+        let (token, next) = string(lexer, place);
+        return (Some(token), next);
+    }
+    if (byte == b'}') | (byte == b']') {
+        if !place.may_close() {
+            return refuse(place);
+        }
+        let (token, next) = close(lexer, place);
+        return (Some(token), next);
+    }
+    if is_space(byte) {
+        return if place.may_close() {
+            (None, place)
+        } else {
+            refuse(place)
+        };
+    }
+    if !place.may_begin() {
+        return refuse(place);
+    }
+    let (token, next) = begin(lexer, place);
+    (Some(token), next)
+}
+
+/// A reader of a text without escapes. A clause sees the tokens that are still to come.
+#[derive(Drop)]
+pub(crate) struct PlainReader<'a> {
+    lexer: Lexer<'a>,
+    place: Place,
+}
+
+impl<'a> Model for PlainReader<'a> {
+    ghost use Rattle.std.specs.Prelude.{List};
+    ghost use Rattle.json.specs.Token.{Token as SpecToken, tokens_code};
+    ghost use Rattle.json_values.specs.Places.{tokens_at, NotBeforeComma};
+
+    ghost Value = { List SpecToken };
+
+    ghost coded = { tokens_code };
+
+    ghost view = { λ a. tokens_at a.place a.lexer };
+
+    ghost invariant = { λ a. NotBeforeComma a.place a.lexer };
+}
+
+impl<'a> PlainReader<'a> {
+    pub(crate) fn new(text: &'a str) -> PlainReader<'a>
+        requires { HasNoEscape text.now }
+        ensures { result ≡ tokens text.now }
+    {
+        PlainReader {
+            lexer: Lexer::new(text),
+            place: Place::Fresh,
+        }
+    }
+
+    #[inline(always)]
+    pub(crate) fn next(&mut self) -> Option<Token<'a>>
+        ensures { Yields self.old result self.new }
+    {
+        let (token, place) = read(&mut self.lexer, self.place);
+        self.place = place;
+        token
+    }
+
+    /// Takes a whole number of few digits. `None` leaves open what is there.
+    #[inline(always)]
+    pub(crate) fn integer(&mut self) -> Option<i64>
+        ensures { MatchOption result (self.new ≡ self.old) (λ z. (s : List ℕ) × (self.old ≡ number s ∷ self.new) × (option_and_then as_i64 (number_of s) ≡ Some z)) }
+    {
+        if !self.place.may_begin() {
+            return None;
+        }
+        let integer = self.lexer.integer();
+        if integer.is_some() {
+            self.place = after_value(&mut self.lexer);
+        }
+        integer
+    }
+
+    /// Takes the bracket that closes an array, if it is next.
+    #[inline(always)]
+    pub(crate) fn take_end_array(&mut self) -> bool
+        ensures { MatchBool result (after_end_array self.old ≡ Some self.new) ((after_end_array self.old ≡ None) × (self.new ≡ self.old)) }
+    {
+        if self.lexer.peek() != b']' || !self.place.may_close() {
+            return false;
+        }
+        self.lexer.skip();
+        self.place = after_value(&mut self.lexer);
+        true
+    }
+}
