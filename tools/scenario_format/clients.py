@@ -1,6 +1,11 @@
-"""The tables of the clients: the library's header, the client in C, and the one in Python."""
+"""The tables of the clients: the library's header, the clients in C, Python and Rust, and the viewer."""
 
 from __future__ import annotations
+
+import dataclasses
+import json
+import re
+import textwrap
 
 from .tables import Entry, Format, by_number, wrapped
 
@@ -130,4 +135,104 @@ def python_names(form: Format) -> str:
             python_class("Call(enum.Enum)", "A system call that an LWP enters.", calls),
             python_class("Decision(enum.Enum)", "What a stop handler does with a stop.", decisions),
         ]
+    )
+
+
+def python_ops(form: Format) -> str:
+    names = ", ".join(f'"{op.name}"' for op in form.ops if "caller" in op.needed)
+    return f"CALLER_OPS = ({names})\n"
+
+
+def python_usage(form: Format) -> str:
+    """The forms of the ops at the prompt, two in a line."""
+    forms = [form for op in form.ops for form in op.usage]
+    width = max(len(left) for left in forms[::2]) + 2
+    lines = [f"  {left:{width}}{right}".rstrip() for left, right in zip(forms[::2], [*forms[1::2], ""])]
+    return '_STEPS = """\\\n' + "\n".join(lines) + '"""\n'
+
+
+def python_help(form: Format) -> str:
+    """The help of the prompt for each name that has one."""
+    lines = []
+    for entry in [*form.ops, *form.acts, *form.calls, *form.requests]:
+        text = f'f"{entry.help} {{_PASS}}"' if entry.data == "signal" else f'"{entry.help}"'
+        if entry.help:
+            lines.append(f'    "{entry.name}": {text},\n')
+    return f"_NAMES = {{\n{''.join(lines)}}}\n"
+
+
+# ---- the client in Rust
+
+
+@dataclasses.dataclass(frozen=True)
+class Taken:
+    """What a request takes: its type, the name of a value, and the number that the library takes for it."""
+
+    kind: str = ""
+    name: str = ""
+    number: str = "0"
+
+
+TAKEN = {
+    "signal": Taken("(Option<Signal>)", "(signal)", "passed(signal)"),
+    "switch": Taken("(bool)", "(set)", "set.into()"),
+    "count": Taken("(u32)", "(most)", "most"),
+}
+MASK = Taken("(EventMask)", "(mask)", "mask.bits()")
+
+
+def taken(request: Entry) -> Taken:
+    return MASK if "mask" in request.needed else TAKEN.get(request.data or "", Taken())
+
+
+def rust_about(request: Entry) -> str:
+    """What a request does, without the words of the prompt."""
+    text = re.sub("^PID [^:]*: ", "", request.help)
+    text = text.replace(" where DATA is 0", "").replace("the first DATA", "at most so many")
+    if text[1].islower():
+        text = text[0].lower() + text[1:]
+    if request.data == "signal":
+        text += " It may be passed a signal."
+    reply = request.reply_names[0].title()
+    return text if reply == "Ok" else f"{text} Answered by [`Reply::{reply}`](crate::Reply::{reply})."
+
+
+def rust_requests(form: Format) -> str:
+    """The requests of ptrace(2), and their numbers."""
+    variants, arms = "", ""
+    for request in form.requests:
+        lines = textwrap.wrap(f"{request.name}: {rust_about(request)}", 112)
+        variants += "".join(f"    /// {line}\n" for line in lines) + f"    {request.variant}{taken(request).kind},\n"
+    for request in by_number(form.requests):
+        data = taken(request)
+        arms += f"            Request::{request.variant}{data.name} => ({request.number}, {data.number}),\n"
+    return (
+        "/// A request of ptrace(2), with its data.\n"
+        "#[derive(Clone, Copy, Debug, PartialEq, Eq, Hash)]\n"
+        f"pub enum Request {{\n{variants}}}\n\n"
+        "impl Request {\n"
+        "    /// The number in FreeBSD's `<sys/ptrace.h>`, and the data.\n"
+        "    pub(crate) fn numbers(self) -> (u32, u32) {\n"
+        f"        match self {{\n{arms}        }}\n    }}\n}}\n"
+    )
+
+
+# ---- the viewer
+
+
+def viewer_map(name: str, about: str, rows: list[tuple[str, list[str]]]) -> str:
+    items = [f"{key}: {json.dumps(values)}, " for key, values in rows]
+    lines = "".join(line.rstrip() + "\n" for line in wrapped(items, 120, "  ", "  "))
+    return f"/** {about} */\nconst {name} = new Map(Object.entries({{\n{lines}}}));\n"
+
+
+def viewer_ops(form: Format) -> str:
+    """The replies of each op, and its keys."""
+    answers = [(op.name, op.reply_names) for op in form.ops]
+    needed = [(op.name, op.needed) for op in form.ops]
+    by_act = [(act.name, act.needed) for act in form.acts]
+    return (
+        viewer_map("ANSWERS", "The replies of each op, beside `error` and `held`.", answers)
+        + viewer_map("NEEDED", "The keys that a step of each op has, beside `user` and `op`.", needed)
+        + viewer_map("NEEDED_BY_ACT", "The keys that an act has.", by_act)
     )

@@ -4,6 +4,7 @@ from __future__ import annotations
 
 import dataclasses
 import pathlib
+import re
 import tomllib
 from typing import Any
 
@@ -50,12 +51,16 @@ class Entry:
     effect: str = ""
     keys_text: str | None = None
     answers: str = ""
+    replies: tuple[str, ...] = ()
+    usage: tuple[str, ...] = ()
+    help: str = ""
 
     @classmethod
     def of(cls, row: dict[str, Any]) -> Entry:
         fields = dict(row)
         fields["keys"] = tuple(Key.of(text) for text in row.get("keys", ()))
-        fields["both"] = tuple(row.get("both", ()))
+        for field in ("both", "replies", "usage"):
+            fields[field] = tuple(row.get(field, ()))
         return cls(**fields)
 
     @property
@@ -63,6 +68,18 @@ class Entry:
         """The number in include/tracehost.h."""
         found = self.number if self.library is None else self.library
         assert found is not None, f"{self.name} has no number"
+        return found
+
+    @property
+    def needed(self) -> list[str]:
+        """The keys that may not be missing."""
+        return [key.name for key in self.keys if key.is_needed]
+
+    @property
+    def reply_names(self) -> list[str]:
+        """The replies to it, but for a refusal."""
+        found = list(self.replies) or re.findall(r"`(\w+)`", self.answers)
+        assert found, f"{self.name} has no replies"
         return found
 
 

@@ -36,6 +36,7 @@ const REPLIES = new Map(Object.entries({
 }));
 /** The members of a status, one of which says what its word means. */
 const MEANINGS = { exited: isWord, signaled: isSignal, stopped: isSignal, continued: oneOf(true) };
+// tools/format ops
 /** The replies of each op, beside `error` and `held`. */
 const ANSWERS = new Map(Object.entries({
   spawn: ["new"], ptrace: ["ok", "number", "info", "lwps", "mask"], wait4: ["status", "nothing"], kill: ["ok"],
@@ -48,7 +49,11 @@ const NEEDED = new Map(Object.entries({
   sigaction: ["caller", "signal", "action"], list: ["caller"], install: ["caller", "rules"], handle: ["caller"],
   turn: ["lwp", "act"],
 }));
-const NEEDED_BY_ACT = new Map(Object.entries({ enter: ["call"], raise: ["signal"], block: ["set"] }));
+/** The keys that an act has. */
+const NEEDED_BY_ACT = new Map(Object.entries({
+  compute: [], raise: ["signal"], block: ["set"], enter: ["call"], leave: [],
+}));
+// end
 /** The forms of all keys. */
 const KEYS = {
   caller: isWord, lwp: isWord, which: isWhole, signal: isWord, target: isWord, data: isWord, code: isWord,

@@ -18,9 +18,9 @@ CLIENT = pathlib.Path(__file__).resolve().parents[1]
 sys.path.insert(0, str(CLIENT))
 from tracehost.completion import complete_words
 from tracehost.manual import explain, topics
-from tracehost.names import Call, Request, Signal
+from tracehost.names import CALLER_OPS, Call, Request, Signal
 from tracehost.shell import Shell
-from tracehost.shell_words import ACTS, CALLER_OPS, Unclear, step_of
+from tracehost.shell_words import ACTS, Unclear, step_of
 
 
 class Words(unittest.TestCase):

@@ -5,8 +5,8 @@ from __future__ import annotations
 from collections.abc import Iterable, Sequence
 
 from .manual import topics
-from .names import OPTIONS, STOP_FLAGS, Action, Call, Decision, Request, Signal
-from .shell_words import ACTS, CALLER_OPS, FIRST_LWP, MASKS
+from .names import CALLER_OPS, OPTIONS, STOP_FLAGS, Action, Call, Decision, Request, Signal
+from .shell_words import ACTS, FIRST_LWP, MASKS
 
 _SIGNALS = list(Signal.__members__)
 

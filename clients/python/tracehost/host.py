@@ -172,9 +172,10 @@ class Host:
             return self._call_alone(name, arguments)
 
     def _call_alone(self, name: str, arguments: tuple[Any, ...]) -> Any:
-        if self._typed is not None:
+        typed = getattr(self._typed, name, None)
+        if typed is not None:
             try:
-                return getattr(self._typed, name)(*arguments)
+                return typed(*arguments)
             except NotTyped:
                 pass
         return getattr(self._text, name)(*arguments)

@@ -7,20 +7,25 @@ import os
 
 from .names import Signal
 
-_GENERAL = """\
+# tools/format usage
+_STEPS = """\
+  spawn                                      PID ptrace REQUEST TARGET [DATA]
+  PID wait4 [PID] [OPTION ..]                PID kill PID SIGNAL
+  PID sigaction SIGNAL default|ignore|catch  PID list
+  PID install RULE, ..                       PID handle
+  turn LWP compute|leave                     turn LWP enter CALL [CODE]
+  turn LWP raise SIGNAL                      turn LWP block [SIGNAL ..]"""
+# end
+_GENERAL = f"""\
 Steps (PID, LWP: a number; SIGNAL: a name or a number; [..]: may be left out):
-  spawn                              PID list
-  PID ptrace REQUEST TARGET [DATA]   PID wait4 [PID] [OPTION ..]
-  PID kill PID SIGNAL                PID sigaction SIGNAL default|ignore|catch
-  PID install RULE, ..               PID handle
-  turn LWP compute|leave             turn LWP enter CALL [CODE]
-  turn LWP raise SIGNAL              turn LWP block [SIGNAL ..]
+{_STEPS}
   a step of docs/FORMAT.md as JSON
 `ptrace` and `turn` may be left out: 1000 PT_ATTACH 1001, 100001 compute.
 The session: user UID, list, undo [N], save FILE, view [PAGE], quit.
 help NAME: an op, a request, an act, a call, a signal or an errno. Tab completes names and numbers."""
 
 _PASS = "DATA is a signal to pass on, or 0. It ends the target if that is its default action; others have no effect."
+# tools/format help
 _NAMES = {
     "spawn": "Makes a process with one LWP, and process 1 as its parent.",
     "ptrace": "PID ptrace REQUEST TARGET [DATA]: a request of a debugger, as ptrace(2). `help PT_ATTACH` and so on.",
@@ -60,6 +65,10 @@ _NAMES = {
     "PT_LWPINFO": "Describes an LWP: its stop, blocked and pending signals, child and system call.",
     "PT_GETNUMLWPS": "Counts the LWPs of the process.",
     "PT_GETLWPLIST": "Lists the first DATA LWPs of the process, in order of birth.",
+}
+# end
+_HELP = {
+    **_NAMES,
     "held": "The caller or the LWP doesn't run: stopped, suspended, or waiting for its vfork's child.",
 }
 _ERRNOS = {
@@ -76,15 +85,15 @@ _STOPS = {"SIGSTOP", "SIGTSTP", "SIGTTIN", "SIGTTOU"}
 
 def topics() -> list[str]:
     """The names that have help."""
-    return [*_NAMES, *_ERRNOS, *Signal.__members__]
+    return [*_HELP, *_ERRNOS, *Signal.__members__]
 
 
 def explain(name: str) -> str:
     """The help for a name; the general help for ""."""
     if not name:
         return _GENERAL
-    if name in _NAMES:
-        return _NAMES[name]
+    if name in _HELP:
+        return _HELP[name]
     if name in _ERRNOS:
         return f"{os.strerror(getattr(errno, name))}: {_ERRNOS[name]}."
     if name in Signal.__members__:

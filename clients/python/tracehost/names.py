@@ -142,6 +142,12 @@ class Decision(enum.Enum):
 # end
 
 
+# the ops that a process makes
+# tools/format ops
+CALLER_OPS = ("ptrace", "wait4", "kill", "sigaction", "list", "install", "handle")
+# end
+
+
 # the printed names, one bit each
 EVENTS: dict[str, EventMask] = {e.name: e for e in EventMask if e.name is not None and e & (e - 1) == 0}
 STOP_FLAGS: dict[str, StopFlag] = {f.name: f for f in StopFlag if f.name is not None}

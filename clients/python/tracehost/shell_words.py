@@ -5,10 +5,9 @@ from __future__ import annotations
 from collections.abc import Sequence
 from typing import Any
 
-from .names import EVENTS, OPTIONS, STOP_FLAGS, Action, Call, Decision, Request, Signal
+from .names import CALLER_OPS, EVENTS, OPTIONS, STOP_FLAGS, Action, Call, Decision, Request, Signal
 
 Step = dict[str, Any]
-CALLER_OPS = ("ptrace", "wait4", "kill", "sigaction", "list", "install", "handle")
 ACTS = ("compute", "raise", "block", "enter", "leave")
 MASKS = (*EVENTS, "PTRACE_SYSCALL")
 FIRST_LWP = 100_000
@@ -37,7 +36,7 @@ def step_of(words: Sequence[str], uid: int) -> Step:
         op, rest = "ptrace", words[1:]
     if op not in CALLER_OPS:
         raise Unclear(f"a process makes one of the calls {', '.join(CALLER_OPS)}")
-    return {"user": uid, "op": op, "caller": number, **_READERS[op](rest)}
+    return {"user": uid, "op": op, "caller": number, **_READERS.get(op, _nothing)(rest)}
 
 
 def _act(words: Sequence[str]) -> Step:
@@ -90,7 +89,7 @@ def _sigaction(words: Sequence[str]) -> Step:
 
 
 def _nothing(words: Sequence[str]) -> Step:
-    _count(words, 0, 0, "list and handle have no further words")
+    _count(words, 0, 0, "this op has no further words")
     return {}
 
 
@@ -113,13 +112,12 @@ def _rule(words: Sequence[str]) -> Step:
     return {**rule, **({"flags": flags} if flags else {}), **({"signal": signals[0]} if signals else {})}
 
 
+# an op that is missing here has its caller alone
 _READERS = {
     "ptrace": _ptrace,
     "wait4": _wait4,
     "kill": _kill,
     "sigaction": _sigaction,
-    "list": _nothing,
-    "handle": _nothing,
     "install": _install,
 }
 

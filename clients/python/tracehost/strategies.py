@@ -11,7 +11,7 @@ from typing import Any
 
 from hypothesis import strategies as st
 
-from .names import EVENTS, OPTIONS, STOP_FLAGS, Action, Call, Decision, Request, Signal
+from .names import CALLER_OPS, EVENTS, OPTIONS, STOP_FLAGS, Action, Call, Decision, Request, Signal
 from .steps import Act, Block, Compute, Enter, Leave, Raise
 
 __all__ = ["acts", "scenarios", "signals", "steps"]
@@ -65,15 +65,14 @@ def _steps_of(uid: int) -> st.SearchStrategy[Step]:
     numbers = signals().map(int)
     actions = st.sampled_from([action.value for action in Action])
     ops: dict[str, st.SearchStrategy[Step]] = {
+        **{op: st.fixed_dictionaries(caller) for op in CALLER_OPS},
         "spawn": st.just({}),
         "turn": st.builds(lambda lwp, act: {"lwp": lwp, **_act(act)}, lwps, acts()),
         "wait4": st.fixed_dictionaries({**caller, "which": which}, optional={"options": _names(list(OPTIONS))}),
         "ptrace": _requests(callers, st.one_of(tracees, lwps)),
         "kill": st.fixed_dictionaries({**caller, "which": which, "signal": numbers}),
         "sigaction": st.fixed_dictionaries({**caller, "signal": numbers, "action": actions}),
-        "list": st.fixed_dictionaries(caller),
         "install": st.fixed_dictionaries({**caller, "rules": st.lists(_rules(), max_size=3)}),
-        "handle": st.fixed_dictionaries(caller),
     }
     made = {op: st.builds(_step, st.just(uid), st.just(op), keys) for op, keys in ops.items()}
     often = ["ptrace", "wait4", "turn"]

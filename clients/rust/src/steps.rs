@@ -53,50 +53,54 @@ impl Disposition {
     }
 }
 
-/// A request of ptrace(2), with its data.
-#[derive(Clone, Copy, Debug, PartialEq, Eq, Hash)]
-pub enum Request {
-    /// PT_TRACE_ME: the caller's parent traces it. The target counts for nothing.
-    TraceMe,
-    /// PT_ATTACH.
-    Attach,
-    /// PT_CONTINUE, with a signal to pass on.
-    Continue(Option<Signal>),
-    /// PT_STEP, with a signal to pass on.
-    Step(Option<Signal>),
-    /// PT_TO_SCE, with a signal to pass on.
-    ToSce(Option<Signal>),
-    /// PT_TO_SCX, with a signal to pass on.
-    ToScx(Option<Signal>),
-    /// PT_SYSCALL, with a signal to pass on.
-    Syscall(Option<Signal>),
-    /// PT_DETACH, with a signal to pass on.
-    Detach(Option<Signal>),
-    /// PT_KILL.
-    Kill,
-    /// PT_SUSPEND.
-    Suspend,
-    /// PT_RESUME.
-    Resume,
-    /// PT_SET_EVENT_MASK.
-    SetEventMask(EventMask),
-    /// PT_GET_EVENT_MASK, answered by [`Reply::Mask`](crate::Reply::Mask).
-    GetEventMask,
-    /// PT_FOLLOW_FORK: sets the event PTRACE_FORK, or clears it.
-    FollowFork(bool),
-    /// PT_LWP_EVENTS: sets the event PTRACE_LWP, or clears it.
-    LwpEvents(bool),
-    /// PT_LWPINFO, answered by [`Reply::Info`](crate::Reply::Info).
-    LwpInfo,
-    /// PT_GETNUMLWPS, answered by [`Reply::Number`](crate::Reply::Number).
-    GetNumLwps,
-    /// PT_GETLWPLIST, for at most so many LWPs; answered by [`Reply::Lwps`](crate::Reply::Lwps).
-    GetLwpList(u32),
-}
-
 /// The number of a signal to pass on, 0 for none.
 fn passed(signal: Option<Signal>) -> u32 {
     signal.map_or(0, Signal::number)
+}
+
+// tools/format requests
+/// A request of ptrace(2), with its data.
+#[derive(Clone, Copy, Debug, PartialEq, Eq, Hash)]
+pub enum Request {
+    /// PT_TRACE_ME: the parent traces the caller.
+    TraceMe,
+    /// PT_ATTACH: the caller traces the target, whose first LWP stops with SIGSTOP.
+    Attach,
+    /// PT_CONTINUE: resumes the target. It may be passed a signal.
+    Continue(Option<Signal>),
+    /// PT_STEP: resumes the target; an LWP stops after its next compute. It may be passed a signal.
+    Step(Option<Signal>),
+    /// PT_TO_SCE: resumes the target, which stops at entries of system calls from now on. It may be passed a signal.
+    ToSce(Option<Signal>),
+    /// PT_TO_SCX: resumes the target, which stops at exits of system calls from now on. It may be passed a signal.
+    ToScx(Option<Signal>),
+    /// PT_SYSCALL: resumes the target, which stops at entries and exits of system calls from now on. It may be passed a
+    /// signal.
+    Syscall(Option<Signal>),
+    /// PT_DETACH: resumes the target, which is traced no more. It may be passed a signal.
+    Detach(Option<Signal>),
+    /// PT_KILL: SIGKILL ends the target.
+    Kill,
+    /// PT_SUSPEND: an LWP gets no turns until PT_RESUME.
+    Suspend,
+    /// PT_RESUME: an LWP gets turns again.
+    Resume,
+    /// PT_SET_EVENT_MASK: the events that the target stops for.
+    SetEventMask(EventMask),
+    /// PT_GET_EVENT_MASK: reads the events that the target stops for. Answered by [`Reply::Mask`](crate::Reply::Mask).
+    GetEventMask,
+    /// PT_FOLLOW_FORK: sets PTRACE_FORK, or clears it.
+    FollowFork(bool),
+    /// PT_LWP_EVENTS: sets PTRACE_LWP, or clears it.
+    LwpEvents(bool),
+    /// PT_LWPINFO: describes an LWP: its stop, blocked and pending signals, child and system call. Answered by
+    /// [`Reply::Info`](crate::Reply::Info).
+    LwpInfo,
+    /// PT_GETNUMLWPS: counts the LWPs of the process. Answered by [`Reply::Number`](crate::Reply::Number).
+    GetNumLwps,
+    /// PT_GETLWPLIST: lists at most so many LWPs of the process, in order of birth. Answered by
+    /// [`Reply::Lwps`](crate::Reply::Lwps).
+    GetLwpList(u32),
 }
 
 impl Request {
@@ -124,6 +128,7 @@ impl Request {
         }
     }
 }
+// end
 
 /// A system call that an LWP enters.
 #[derive(Clone, Copy, Debug, PartialEq, Eq, Hash)]

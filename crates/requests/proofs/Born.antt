@@ -5,7 +5,7 @@ use Rattle.pid_blocks.specs.Blocks.{InBlock}
 use Rattle.trace_stop.proofs.SoundAfterSpawn.{born_sound}
 use Rattle.requests.proofs.Room.{ProcessRoom, process_room}
 use Rattle.requests.proofs.SoundWithoutEnded.{rows_sound, after_sound}
-use Rattle.requests.proofs.IsolationLaws.{at_slot}
+use Rattle.requests.proofs.IsolationOfHosts.{at_slot}
 
 no_rows_sound : IsSound no_rows
 no_rows_sound = record {

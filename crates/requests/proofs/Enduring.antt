@@ -1,19 +1,19 @@
--- The processes that stay live over a step.
-use Rattle.requests.proofs.CommonNames.{◌≡◌, ℕ, ℤ, Bool, true, false, ◌==◌, not, ◌&&◌, ◌||◌, leb, ltb, if◌then◌else◌, List, [], ◌∷◌, filter, filter_map, length, Option, Some, None, is_some, refl, sym, ◌∙◌, true≢false, rules, subst}
-use Rattle.requests.proofs.CommonNames.{arith, nat_tests, inl, inr, cases_Bool, list_any, eq-eqb, eqb-true, SIGCHLD, Call, Action, Disposition, disposition_of, default_action, is_signal, has, LwpData, Due, Mode, User, InCall, VforkWait, born}
-use Rattle.requests.proofs.CommonNames.{ProcData, State, Run, Trace, Job, Zombie, is_live, is_run, is_zombie_state, placed, spawned, process_of, lwp_of, Rows, seen_process, seen_lwp, Settings, Shown, info, Rule, Options, StatusKind, Collected}
-use Rattle.requests.proofs.CommonNames.{posted_process, settled_process, continues, notifies, posted, stop, tracers, tracer_of, post, reported, collect, rows_after, without_report, add_lwp, add_process, is_numbered}
-use Rattle.requests.proofs.CommonNames.{Request, Act, PlainStep, Reply, Outcome, answers, stops_or, stops_with, Numbers, room_for_process, room_for_lwp, in_mode, exit_stop, with_child, forked, exec_rows, forks, makes_lwp, leaves}
-use Rattle.requests.proofs.CommonNames.{waits, due_stop, next_signal, without_signal, takes_by_default, takes_untraced, takes, acts, signal_or_act, due_or_more, turn_by, turn_seen, turn, trace_me, attach, shows_info, does, commands_stopped, commands}
-use Rattle.requests.proofs.CommonNames.{is_attach, about, target_of, is_trace_me, ptrace, is_which, reach, reached, post_all, post_if_live, kill, spawn_with, is_refused, sigaction, wait, handles_stop, handles_status, handles}
-use Rattle.requests.proofs.CommonNames.{Machine, installed_by, After, after, calls, checked, step, step_of, Step, no_options, policies_of, asks, PTRACE_FORK, PTRACE_LWP, traces, told_stop, bad_argument, EAGAIN, EINVAL, ESRCH, lwp_count}
-use Rattle.requests.proofs.CommonNames.{All-any, and_left, and_right, both}
-use Rattle.requests.proofs.CommonNames.{negsuc, option_map, after_exec, set_disposition, without, bit, plain, trap, PL_FLAG_EXITED, SIGTRAP, entry_flags, child_stop, due_at_birth, change_lwp}
+-- The processes that stay live over the work of a step, kind by kind.
+use Rattle.requests.proofs.CommonNames.{◌≡◌, ℕ, ℤ, Bool, true, false, ◌==◌, not, ◌&&◌, ◌||◌, leb, ltb, if◌then◌else◌, List, [], ◌∷◌, filter, filter_map, Option, Some, None, is_some, refl, sym, ◌∙◌}
+use Rattle.requests.proofs.CommonNames.{true≢false, rules, arith, nat_tests, inl, inr, cases_Bool, list_any, eq-eqb, eqb-true, SIGCHLD, Call, Action, Disposition, disposition_of, default_action}
+use Rattle.requests.proofs.CommonNames.{is_signal, has, LwpData, Due, Mode, User, InCall, VforkWait, born, ProcData, State, Run, Trace, Job, Zombie, is_live, is_run, is_zombie_state, placed}
+use Rattle.requests.proofs.CommonNames.{spawned, process_of, lwp_of, Rows, seen_lwp, Settings, Shown, info, Rule, Options, StatusKind, Collected, posted_process, settled_process, continues}
+use Rattle.requests.proofs.CommonNames.{notifies, posted, stop, tracers, tracer_of, post, reported, without_report, add_lwp, add_process, is_numbered, Request, Act, PlainStep, Reply, Outcome}
+use Rattle.requests.proofs.CommonNames.{answers, stops_or, stops_with, Numbers, room_for_process, room_for_lwp, in_mode, exit_stop, with_child, forked, exec_rows, forks, makes_lwp, leaves, waits}
+use Rattle.requests.proofs.CommonNames.{due_stop, next_signal, without_signal, takes_by_default, takes_untraced, takes, acts, signal_or_act, due_or_more, turn_by, turn_seen, turn, trace_me, attach}
+use Rattle.requests.proofs.CommonNames.{shows_info, does, commands_stopped, commands, is_attach, about, target_of, is_trace_me, ptrace, is_which, reach, reached, post_all, post_if_live, kill}
+use Rattle.requests.proofs.CommonNames.{spawn_with, is_refused, sigaction, wait, handles_stop, handles_status, handles, Machine, After, after, asks, PTRACE_FORK, PTRACE_LWP, traces}
+use Rattle.requests.proofs.CommonNames.{told_stop, bad_argument, EAGAIN, EINVAL, ESRCH, lwp_count, All-any, and_left, and_right, both, option_map, after_exec, set_disposition, without, bit, plain}
+use Rattle.requests.proofs.CommonNames.{trap, PL_FLAG_EXITED, SIGTRAP, entry_flags, child_stop, due_at_birth, change_lwp}
 use Rattle.std.proofs.lemmas.List.Folds.{list_any-append}
 use Rattle.trace_stop.proofs.Every.{any_forward, or_true}
 use Rattle.wait4.specs.Collect.{collected, collected_in, told, stays}
 use Rattle.requests.specs.Ending.{may_end, is_done, is_handled, is_ended}
-use Rattle.requests.proofs.Called.{by_step}
 use Rattle.requests.proofs.SoundAfterCall.{choose}
 
 abbrev pub live_at : ℕ → ProcData → Bool
@@ -99,7 +99,7 @@ module _ (p : ProcData) (live : is_live p ≡ true) (ps : List ProcData) where
 
 -- Outcomes that leave each live process live, unless the reply is one of these
 
-record Endures (but : Reply → Bool) (rows : Rows) (o : Outcome) : Type 0 where
+pub record Endures (but : Reply → Bool) (rows : Rows) (o : Outcome) : Type 0 where
   pub lives : but o.reply ≡ false → Lives rows.processes o.rows.processes
 
 leaves_live : (but : Reply → Bool) (rows now : Rows) (r : Reply) → Lives rows.processes now.processes → Endures but rows (answers r now)
@@ -188,7 +188,7 @@ acts_endures settings (Act.Block set) (VforkWait n) p l rows = left is_ended row
 acts_endures settings (Act.Enter k) (VforkWait n) p l rows = left is_ended rows (Reply.Errno EINVAL)
 acts_endures settings Act.Leave (VforkWait n) p l rows = left is_ended rows (Reply.Errno EINVAL)
 
-turn_endures : (settings : Settings) (u tid : ℕ) (a : Act) (rows : Rows) → Endures is_ended rows (turn settings u tid a rows)
+pub turn_endures : (settings : Settings) (u tid : ℕ) (a : Act) (rows : Rows) → Endures is_ended rows (turn settings u tid a rows)
 turn_endures settings u tid a rows =
     by_option (seen_lwp u tid rows) (λ o. Endures is_ended rows (turn_seen settings a rows o)) (left is_ended rows (Reply.Errno ESRCH)) (λ l.
     by_option (process_of l.pid rows.processes) (λ o. Endures is_ended rows (turn_by settings a l rows o)) (left is_ended rows (Reply.Errno ESRCH)) (λ p.
@@ -232,21 +232,21 @@ commands_endures settings caller r target «data» p rows =
     (by_option (told_stop p.state) (λ o. Endures is_done rows (commands_stopped settings r target «data» p rows o)) (left is_done rows _) (λ tid.
     choose (bad_argument r «data») _ _ (Endures is_done rows) (left is_done rows (Reply.Errno EINVAL)) (does_endures settings r «data» (if leb target 99999 then tid else target) p rows))))
 
-ptrace_endures : (settings : Settings) (u : ℕ) (caller : ProcData) (r : Request) (target «data» : ℕ) (rows : Rows) → Endures is_done rows (ptrace settings u caller r target «data» rows)
+pub ptrace_endures : (settings : Settings) (u : ℕ) (caller : ProcData) (r : Request) (target «data» : ℕ) (rows : Rows) → Endures is_done rows (ptrace settings u caller r target «data» rows)
 ptrace_endures settings u caller r target «data» rows = choose (is_trace_me r) _ _ (Endures is_done rows) (trace_me_endures caller rows)
     (by_option (target_of u target rows) (λ o. Endures is_done rows (about settings caller r target «data» o rows)) (left is_done rows (Reply.Errno ESRCH)) (λ p.
     choose (not (is_live p)) _ _ (Endures is_done rows) (left is_done rows (Reply.Errno ESRCH)) (choose (is_attach r) _ _ (Endures is_done rows) (attach_endures caller p rows) (commands_endures settings caller r target «data» p rows))))
 
 -- The other calls
 
-abbrev never : Reply → Bool
+abbrev pub never : Reply → Bool
 never r = false
 
-spawn_endures : (u : ℕ) (rows : Rows) (o : Option Numbers) → Endures never rows (spawn_with u rows o)
+pub spawn_endures : (u : ℕ) (rows : Rows) (o : Option Numbers) → Endures never rows (spawn_with u rows o)
 spawn_endures u rows None = left never rows (Reply.Errno EAGAIN)
 spawn_endures u rows (Some new) = leaves_live never rows _ _ (live_placed (spawned new.pid u) refl rows.processes)
 
-sigaction_endures : (p : ProcData) (s : ℕ) (d : Disposition) (rows : Rows) → Endures never rows (sigaction p s d rows)
+pub sigaction_endures : (p : ProcData) (s : ℕ) (d : Disposition) (rows : Rows) → Endures never rows (sigaction p s d rows)
 sigaction_endures p s d rows = choose (is_refused s d) _ _ (Endures never rows) (left never rows _)
     (leaves_live never rows _ _ (live_then (live_some (is_numbered p.pid) (λ q. record q { dispositions = set_disposition q.dispositions s d }) (λ q. refl) (λ q live. live) rows.processes) (live_settled p.pid _)))
 
@@ -267,7 +267,7 @@ module _ (settings : Settings) (s : ℕ) (mild : (s == 9) ≡ false) where
   reached_endures [] rows = all_live rows.processes
   reached_endures (p ∷ ps) rows = all_posted (p ∷ ps) rows
 
-  kill_endures : (u caller : ℕ) (which : ℤ) (rows : Rows) → Lives rows.processes (kill settings u caller which s rows).rows.processes
+  pub kill_endures : (u caller : ℕ) (which : ℤ) (rows : Rows) → Lives rows.processes (kill settings u caller which s rows).rows.processes
   kill_endures u caller which rows = choose (not (leb s 31) || not (is_which which)) _ _ (λ (o : Outcome). Lives rows.processes o.rows.processes) (all_live rows.processes) (reached_endures (reach u caller which rows) rows)
 
 -- only a zombie goes where it is collected
@@ -280,11 +280,11 @@ collected_spares caller p (Zombie word) live own = absurd (true≢false (sym own
 if_collected : (caller : ℕ) (p q : ProcData) → is_live q ≡ true → spares q (if q.pid == p.pid then collected caller q else Some q) ≡ true
 if_collected caller p q live = choose (q.pid == p.pid) _ _ (λ (o : Option ProcData). spares q o ≡ true) (collected_spares caller q q.state live live) (self_spared q live)
 
-report_live : (caller : ℕ) (o : Option ProcData) (rows : Rows) → Lives rows.processes (without_report caller o rows).processes
+pub report_live : (caller : ℕ) (o : Option ProcData) (rows : Rows) → Lives rows.processes (without_report caller o rows).processes
 report_live caller None rows = all_live rows.processes
 report_live caller (Some p) rows = live_then (live_edit (λ q. if q.pid == p.pid then collected caller q else Some q) (if_collected caller p) rows.processes) (live_notified (told caller p) _)
 
-wait_endures : (p : ProcData) (which : ℤ) (options : Options) (rows : Rows) → Endures never rows (wait p which options rows)
+pub wait_endures : (p : ProcData) (which : ℤ) (options : Options) (rows : Rows) → Endures never rows (wait p which options rows)
 wait_endures p which options rows = choose (not (is_which which)) _ _ (Endures never rows) (left never rows (Reply.Errno EINVAL)) (leaves_live never rows _ _ (report_live p.pid (reported p.pid which options rows) rows))
 
 handles_status_endures : (settings : Settings) (policies : List (List Rule)) (status : StatusKind) (p : ProcData) (rows now : Rows) (state : State) → Lives rows.processes now.processes → Endures is_handled rows (handles_status settings policies status p now state)
@@ -294,7 +294,7 @@ handles_status_endures settings policies status p rows now (Trace tid sig told) 
 handles_status_endures settings policies status p rows now (Job sig told) kept = leaves_live is_handled rows now _ kept
 handles_status_endures settings policies status p rows now (Zombie word) kept = leaves_live is_handled rows now _ kept
 
-handles_endures : (settings : Settings) (policies : List (List Rule)) (rows now : Rows) (o : Option ProcData) (c : Collected) → Lives rows.processes now.processes → Endures is_handled rows (handles settings policies rows now o c)
+pub handles_endures : (settings : Settings) (policies : List (List Rule)) (rows now : Rows) (o : Option ProcData) (c : Collected) → Lives rows.processes now.processes → Endures is_handled rows (handles settings policies rows now o c)
 handles_endures settings policies rows now o Collected.NoChild kept = left is_handled rows _
 handles_endures settings policies rows now o Collected.Nothing kept = left is_handled rows Reply.Nothing
 handles_endures settings policies rows now None (Collected.Got pid status) kept = leaves_live is_handled rows now _ kept
@@ -302,30 +302,8 @@ handles_endures settings policies rows now (Some p) (Collected.Got pid status) k
 
 -- Hosts
 
-record Enduring (s : PlainStep) (m : Machine) (a : After) : Type 0 where
+pub record Enduring (s : PlainStep) (m : Machine) (a : After) : Type 0 where
   pub lives : may_end s a.reply ≡ false → Lives m.rows.processes a.machine.rows.processes
 
-same_rows : (s : PlainStep) (m : Machine) (r : Reply) → Enduring s m (after m (answers r m.rows))
+pub same_rows : (s : PlainStep) (m : Machine) (r : Reply) → Enduring s m (after m (answers r m.rows))
 same_rows s m r = record { lives = λ is. all_live m.rows.processes }
-
-calls_enduring : (u : ℕ) (s : PlainStep) (p : ProcData) (m : Machine) → Enduring s m (calls u s p m)
-calls_enduring u Step.Spawn p m = record { lives = (spawn_endures u m.rows (room_for_process u m.rows)).lives }
-calls_enduring u (Step.List caller) p m = same_rows (Step.List caller) m _
-calls_enduring u (Step.Sigaction caller s d) p m = record { lives = (sigaction_endures p s d m.rows).lives }
-calls_enduring u (Step.Kill caller which s) p m = record { lives = λ mild. kill_endures m.settings s mild u p.pid which m.rows }
-calls_enduring u (Step.Wait4 caller which options) p m = record { lives = (wait_endures p which options m.rows).lives }
-calls_enduring u (Step.Install caller policy) p m = choose (leb 64 (length (installed_by u m))) _ _ (Enduring (Step.Install caller policy) m) (same_rows (Step.Install caller policy) m (Reply.Errno EAGAIN)) (record { lives = λ is. all_live m.rows.processes })
-calls_enduring u (Step.Handle caller) p m = record {
-  lives = (handles_endures m.settings (policies_of u p m) m.rows (rows_after p.pid (negsuc 0) no_options m.rows) (reported p.pid (negsuc 0) no_options m.rows) (collect p.pid (negsuc 0) no_options m.rows) (report_live p.pid (reported p.pid (negsuc 0) no_options m.rows) m.rows)).lives;
-}
-calls_enduring u (Step.Ptrace caller r target «data») p m = record { lives = (ptrace_endures m.settings u p r target «data» m.rows).lives }
-calls_enduring u (Step.Turn tid a) p m = record { lives = (turn_endures m.settings u tid a m.rows).lives }
-
-checked_enduring : (u : ℕ) (s : PlainStep) (o : Option ProcData) (m : Machine) → Enduring s m (checked u s o m)
-checked_enduring u s None m = same_rows s m (Reply.Errno ESRCH)
-checked_enduring u s (Some p) m = choose (not (is_live p)) _ _ (Enduring s m) (same_rows s m (Reply.Errno ESRCH)) (choose (not (is_run p)) _ _ (Enduring s m) (same_rows s m Reply.Held) (calls_enduring u s p m))
-
--- what a step leaves live
-pub step_enduring : (u : ℕ) (s : PlainStep) (m : Machine) → may_end s (step u s m).reply ≡ false → Lives m.rows.processes (step u s m).machine.rows.processes
-step_enduring u s m = (by_step (λ s. Enduring s m (step u s m)) (record { lives = (spawn_endures u m.rows (room_for_process u m.rows)).lives }) (λ tid a. record { lives = (turn_endures m.settings u tid a m.rows).lives })
-    (λ s n by. subst (λ o. Enduring s m (step_of u s m o)) (sym by) (checked_enduring u s (seen_process u n m.rows) m)) s).lives

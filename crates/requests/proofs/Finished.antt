@@ -1,18 +1,19 @@
 -- The clauses of a step, from what was done to the rows and what was answered.
-use Rattle.requests.proofs.CommonNames.{◌≡◌, ◌≢◌, ℕ, Some, None, List, [], set, true, false, refl, sym, ap, ◌∙◌, subst, inl, inr, set-get_or, IsUser, slot, Rows, PlainStep, Reply, Outcome, answers, Installed}
-use Rattle.requests.proofs.CommonNames.{Machine, after, takes_memory, is_refusal, may_want, step_fits, sound, Steps, ProcData, step, calls, caller_of, Rule, length, installed_by, le-leb, not, ◌<◌, ◌≤◌}
-use Rattle.requests.proofs.CommonNames.{◌++◌, ◌∷◌, if◌then◌else◌, cases_Bool, attempted_reply, Errno, Step, Attempts, bare, with_handler, Result, Ok, Err, uncalled, installs, outcome_of, Tries, step_of}
+use Rattle.requests.proofs.CommonNames.{◌≡◌, ◌≢◌, ℕ, Some, None, List, [], set, true, false, refl, sym, ap, ◌∙◌, subst, inl, inr, set-get_or, IsUser, slot, Rows, PlainStep, Reply, Outcome, answers}
+use Rattle.requests.proofs.CommonNames.{Installed, Machine, after, takes_memory, is_refusal, may_want, step_fits, sound, Steps, ProcData, step, calls, caller_of, Rule, length, installed_by, le-leb}
+use Rattle.requests.proofs.CommonNames.{not, ◌<◌, ◌≤◌, ◌++◌, ◌∷◌, if◌then◌else◌, cases_Bool, attempted_reply, Errno, Step, Attempts, Result, Ok, Err, uncalled, installs, outcome_of, Tries, step_of}
 use Rattle.requests.specs.Callers.{IsCaller, Calls, Barred}
-use Rattle.requests.specs.Making.{Makes}
 use Rattle.requests.specs.Ending.{may_end}
 use Rattle.requests.proofs.SoundWithoutEnded.{all_left, left_live, answers_same, rows_sound}
-use Rattle.requests.proofs.Enduring.{Lives, step_enduring}
+use Rattle.requests.proofs.Enduring.{Lives}
+use Rattle.requests.proofs.ProcessesEndure.{step_enduring}
 use Rattle.requests.proofs.Called.{called, is_caller}
 use Rattle.requests.proofs.Drops.{left_in, kept_by, drops}
 use Rattle.requests.proofs.Installing.{installed_with, few_leb}
 use Rattle.requests.proofs.Replies.{cases_memory, other}
 use Rattle.requests.proofs.RefusalsChangeNothing.{no_step_runs_out_of_memory, a_refusal_changes_nothing}
 use Rattle.requests.proofs.StaysSound.{sound_kept}
+use Rattle.requests.proofs.PerStep.{uncalled_after, calls_after}
 
 module _ (u : ℕ) (s : PlainStep) (m : Machine) (user : IsUser u) (is : sound m ≡ true) (fits : step_fits s ≡ true) where
   pub from_machine : (n : Machine) (r : Reply) → (r ≢ Reply.Errno Errno.ENOMEM → (n ≡ (step u s m).machine) × (r ≡ (step u s m).reply)) → (r ≡ Reply.Errno Errno.ENOMEM → (n ≡ m) × (may_want u s m ≡ true)) → Steps u s m n r
@@ -56,64 +57,6 @@ module _ (u : ℕ) (s : PlainStep) (m : Machine) (user : IsUser u) (is : sound m
 
   pub wants_at : may_want u s m ≡ true → Steps u s m m (Reply.Errno Errno.ENOMEM)
   wants_at wants = from_machine m (Reply.Errno Errno.ENOMEM) (λ plenty. absurd (plenty refl)) (λ e. (refl, wants))
-
--- a step changes the installed policies only by an install, and else as processes end
-uncalled_after : (u : ℕ) (s : PlainStep) (m : Machine) → uncalled u s m ≡ after m (outcome_of (uncalled u s m))
-uncalled_after u Step.Spawn m = refl
-uncalled_after u (Step.List n) m = refl
-uncalled_after u (Step.Sigaction n s d) m = refl
-uncalled_after u (Step.Kill n which s) m = refl
-uncalled_after u (Step.Wait4 n which options) m = refl
-uncalled_after u (Step.Install n policy) m = refl
-uncalled_after u (Step.Handle n) m = refl
-uncalled_after u (Step.Ptrace n r target «data») m = refl
-uncalled_after u (Step.Turn tid a) m = refl
-
--- a step that isn't an install
-pub other_kind : {A : Type 0} (s : Step A) → ((n : ℕ) (own : A) → s ≡ Step.Install n own → ⊥) → installs (bare s) ≡ false
-other_kind Step.Spawn none = refl
-other_kind (Step.List n) none = refl
-other_kind (Step.Sigaction n s d) none = refl
-other_kind (Step.Kill n which s) none = refl
-other_kind (Step.Wait4 n which options) none = refl
-other_kind (Step.Install n own) none = absurd (none n own refl)
-other_kind (Step.Handle n) none = refl
-other_kind (Step.Ptrace n r target «data») none = refl
-other_kind (Step.Turn tid a) none = refl
-
--- it needs no handler
-pub made_bare : {A : Type 0} (u : ℕ) (s : Step A) (m n : Machine) (r : Reply) → installs (bare s) ≡ false → Steps u (bare s) m n r → Makes u (with_handler None s) m n (Some r)
-made_bare u Step.Spawn m n r other made = made
-made_bare u (Step.List caller) m n r other made = made
-made_bare u (Step.Sigaction caller s d) m n r other made = made
-made_bare u (Step.Kill caller which s) m n r other made = made
-made_bare u (Step.Wait4 caller which options) m n r other made = made
-made_bare u (Step.Install caller own) m n r other made = absurd (cc)
-made_bare u (Step.Handle caller) m n r other made = made
-made_bare u (Step.Ptrace caller r target «data») m n answer other made = made
-made_bare u (Step.Turn tid a) m n r other made = made
-
-pub steps_made : (u : ℕ) (s : PlainStep) (m n : Machine) (r : Reply) → Makes u (with_handler {B = List Rule} None s) m n (Some r) → Steps u s m n r
-steps_made u Step.Spawn m n r h = h
-steps_made u (Step.List caller) m n r h = h
-steps_made u (Step.Sigaction caller sig disposition) m n r h = h
-steps_made u (Step.Kill caller which sig) m n r h = h
-steps_made u (Step.Wait4 caller which options) m n r h = h
-steps_made u (Step.Install caller own) m n r h = let none = h.0 in absurd (cc)
-steps_made u (Step.Handle caller) m n r h = h
-steps_made u (Step.Ptrace caller request target «data») m n r h = h
-steps_made u (Step.Turn tid act) m n r h = h
-
-calls_after : (u : ℕ) (s : PlainStep) (p : ProcData) (m : Machine) → installs s ≡ false → calls u s p m ≡ after m (outcome_of (calls u s p m))
-calls_after u Step.Spawn p m other = refl
-calls_after u (Step.List n) p m other = refl
-calls_after u (Step.Sigaction n s d) p m other = refl
-calls_after u (Step.Kill n which s) p m other = refl
-calls_after u (Step.Wait4 n which options) p m other = refl
-calls_after u (Step.Install n policy) p m other = absurd (cc)
-calls_after u (Step.Handle n) p m other = refl
-calls_after u (Step.Ptrace n r target «data») p m other = refl
-calls_after u (Step.Turn tid a) p m other = refl
 
 -- The same of a host's value h, which its user sees as m
 module _ {u : ℕ} {h m : Machine} (view : h ≡ m) (user : IsUser u) (kept : sound h ≡ true) where

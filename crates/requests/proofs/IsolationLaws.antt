@@ -1,108 +1,17 @@
 -- A step of a host, compared with the same step without any other user; the laws of isolation.
-use Rattle.requests.proofs.CommonNames.{◌≡◌, ◌≢◌, ℕ, zero, suc, ◌+◌, ◌<◌, List, [], ◌∷◌, filter, map, true, ◌==◌, ◌&&◌, not, if◌then◌else◌, Option, Some, None, IfSome, refl, sym, ap, ap₂, ◌∙◌, arith}
-use Rattle.requests.proofs.CommonNames.{eqb-true, subst, eq-eqb, get_or, add-zero, ◌++◌, length, leb, set, get_or-set_other, length-set, IsUser, pid_block, tid_block, slot, users, rising, pid_owner}
-use Rattle.requests.proofs.CommonNames.{ProcData, LwpData, is_live, is_run, of_user, Rows, owns, seen_process, Settings, PlainStep, Reply, Machine, Installed, installed_by, After, is_live_number, after}
-use Rattle.requests.proofs.CommonNames.{turn, checked, step, calls, GoodProc, LiveOwner, InBlock, Closed, Debugger, Apart, reply_of, host_after, replies_to, Users, KeepsApart, Alone, OneStep, OtherStep}
-use Rattle.requests.proofs.CommonNames.{TwoLists, OwnRun, own_replies, own_view, filter_only, filter-all, All-where, every, any_only, filter_same, Kept, Sim, own, own_lwp, not_own, either, is_own, named}
-use Rattle.requests.proofs.CommonNames.{owns_block, lwps_seen, find_passes, AllByRecursion, list_any, choose_both, All-imply, and_left, All-append, Rule, Outcome, refuses, install, policies_of, handles}
-use Rattle.requests.proofs.CommonNames.{no_options, kill, ptrace, collect, reported, rows_after, slots_differ, put_at, length-map, step_of, Step, Errno}
+use Rattle.requests.proofs.CommonNames.{◌≡◌, ◌≢◌, ℕ, List, [], ◌∷◌, filter, true, ◌==◌, ◌&&◌, not, Option, Some, None, IfSome, refl, sym, ap, ap₂, ◌∙◌, arith, subst, eq-eqb, get_or, IsUser}
+use Rattle.requests.proofs.CommonNames.{pid_block, tid_block, slot, ProcData, LwpData, is_live, is_run, of_user, Rows, owns, seen_process, Settings, PlainStep, Reply, Machine, Installed}
+use Rattle.requests.proofs.CommonNames.{installed_by, After, is_live_number, after, turn, checked, step, GoodProc, LiveOwner, InBlock, Closed, Debugger, Apart, reply_of, host_after, replies_to}
+use Rattle.requests.proofs.CommonNames.{Users, KeepsApart, Alone, OneStep, OtherStep, TwoLists, OwnRun, own_replies, own_view, filter_only, filter-all, All-where, every, Kept, Sim, own, own_lwp}
+use Rattle.requests.proofs.CommonNames.{not_own, either, owns_block, lwps_seen, find_passes, AllByRecursion, choose_both, All-imply, step_of}
 use Rattle.requests.specs.Run.{Asked, last, replies, asked_by}
 use Rattle.requests.specs.View.{View, view, with_view, alone}
-use Rattle.requests.proofs.IsolationOfNewRows.{answered, owns_same, Same}
+use Rattle.requests.proofs.IsolationOfNewRows.{answered, owns_same}
 use Rattle.requests.proofs.IsolationOfTurns.{turn_same}
-use Rattle.requests.proofs.IsolationOfSteps.{seen_same, seen_some, spawn_same, list_same, sigaction_same, wait_same, kill_same, ptrace_same, handle_same}
-use Rattle.std.specs.Prelude.{negsuc}
-use Rattle.std.proofs.Math.ListN.{get_or-map}
-use Rattle.requests.proofs.Called.{by_step}
-
--- the rows are what u sees of m's, and so are the policies and the settings
-pub record Twin (u : ℕ) (m k : Machine) : Type 0 where
-  pub rows : Sim u m.rows m.rows k.rows
-  pub installed : installed_by u m ≡ installed_by u k
-  pub settings : m.settings ≡ k.settings
-  pub slots : length k.installed ≡ 64
-
-pub record Stepped (u : ℕ) (m : Machine) (a b : After) : Type 0 where
-  pub rows : Sim u m.rows a.machine.rows b.machine.rows
-  pub reply : a.reply ≡ b.reply
-  pub installed : installed_by u a.machine ≡ installed_by u b.machine
-  pub mine : AllByRecursion (Debugger u a.machine.rows) (installed_by u a.machine)
-  pub others : (w : ℕ) → IsUser w → w ≢ u → installed_by w a.machine ≡ installed_by w m
-  pub slots : length a.machine.installed ≡ 64
-  pub settings : a.machine.settings ≡ b.machine.settings
-  pub unset : a.machine.settings ≡ m.settings
-
--- whether a number is live depends only on the rows of the number's user
-pub live_only : (w n : ℕ) (rows : Rows) → AllByRecursion GoodProc rows.processes → pid_owner n ≡ w → list_any (λ p. (p.pid == n) && is_live p) (of_user w rows.processes) ≡ is_live_number rows n
-live_only w n rows all here = any_only (λ p. (p.pid == n) && is_live p) (own w) GoodProc (λ p good is. is_own w p.uid (named here p good (eqb-true p.pid n (and_left (p.pid == n) (is_live p) is)))) rows.processes all
-
-pub live_other : {u : ℕ} {start c : Rows} → Kept u start c → AllByRecursion GoodProc start.processes → (w n : ℕ) → w ≢ u → pid_owner n ≡ w → is_live_number c n ≡ is_live_number start n
-live_other {u} {start} {c} k all w n ne here = sym (live_only w n c k.closed.processes here) ∙ ap (list_any (λ p. (p.pid == n) && is_live p)) (k.processes w ne) ∙ live_only w n start all here
-
-live_same : {u : ℕ} {start c v : Rows} → Sim u start c v → (n : ℕ) → pid_owner n ≡ u → is_live_number c n ≡ is_live_number v n
-live_same {u} {start} {c} {v} s n here = sym (live_only u n c s.kept.closed.processes here) ∙ ap (list_any (λ p. (p.pid == n) && is_live p)) s.processes
-
-abbrev left_of : Rows → List Installed → List Installed
-left_of rows pairs = filter (λ i. is_live_number rows i.debugger) pairs
-
-pub after_same : {u : ℕ} {m k : Machine} → IsUser u → Apart m → Twin u m k → (o p : Outcome) → Same u m.rows o p → Stepped u m (after m o) (after k p)
-after_same {u} {m} {k} user apart t o p s = record {
-  rows = s.rows;
-  reply = s.reply;
-  installed = get_or-map (left_of o.rows) m.installed (slot u) []
-      ∙ filter_same (λ i. is_live_number o.rows i.debugger) (λ i. is_live_number p.rows i.debugger) (Debugger u m.rows) (λ i g. live_same s.rows i.debugger g.0) (installed_by u m) (apart.installed u user)
-      ∙ ap (left_of p.rows) t.installed ∙ sym (get_or-map (left_of p.rows) k.installed (slot u) []);
-  mine = subst (AllByRecursion (Debugger u o.rows)) (sym (get_or-map (left_of o.rows) m.installed (slot u) [])) (All-where (λ i. is_live_number o.rows i.debugger) (Debugger u m.rows) (Debugger u o.rows) (λ i g is. (g.0, is)) (installed_by u m) (apart.installed u user));
-  others = λ w other ne. get_or-map (left_of o.rows) m.installed (slot w) []
-      ∙ filter-all (λ i. is_live_number o.rows i.debugger) (Debugger w m.rows) (λ i g. live_other s.rows.kept (apart.rows w other).processes w i.debugger ne g.0 ∙ g.1) (installed_by w m) (apart.installed w other);
-  slots = length-map m.installed (left_of o.rows) ∙ apart.slots;
-  settings = t.settings;
-  unset = refl;
-}
-
-abbrev with_one : ProcData → List Rule → List Installed → List Installed
-with_one p policy xs = xs ++ (record { debugger = p.pid; policy = policy } ∷ [])
-
-abbrev put_in : ℕ → List Installed → Machine → After
-put_in u xs h = record { machine = record h { installed = set h.installed (slot u) xs }; reply = Reply.Done }
-
-abbrev asked : ℕ → ProcData → List Rule → List Installed → Machine → After
-asked u p policy xs h = if leb 64 (length xs) then after h (refuses Errno.EAGAIN h.rows) else put_in u (with_one p policy xs) h
-
--- an installation
-install_same : {u : ℕ} {m k : Machine} → IsUser u → Apart m → Twin u m k → (p : ProcData) (policy : List Rule) → pid_owner p.pid ≡ u → is_live_number m.rows p.pid ≡ true → Stepped u m (install u p policy m) (install u p policy k)
-install_same {u} {m} {k} user apart t p policy here live = subst (λ xs. Stepped u m (install u p policy m) (asked u p policy xs k)) t.installed (choose_both (Stepped u m) (leb 64 (length (installed_by u m))) _ _ _ _
-    (λ full. after_same user apart t _ _ (answered t.rows _))
-    (λ room. record {
-      rows = t.rows;
-      reply = refl;
-      installed = put_at u m.installed more [] user apart.slots ∙ sym (put_at u k.installed more [] user t.slots);
-      mine = subst (AllByRecursion (Debugger u m.rows)) (sym (put_at u m.installed more [] user apart.slots)) (All-append (Debugger u m.rows) (installed_by u m) (record { debugger = p.pid; policy = policy } ∷ []) (apart.installed u user) ((here, live), tt));
-      others = λ w other ne. let differ = slots_differ u w user other ne in rw get_or-set_other refl;
-      slots = length-set m.installed (slot u) _ ∙ apart.slots;
-      settings = t.settings;
-      unset = refl;
-    }))
-  where
-    more : List Installed
-    more = with_one p policy (installed_by u m)
-
-pub calls_same : {u : ℕ} {m k : Machine} → IsUser u → Apart m → Twin u m k → (s : PlainStep) (p : ProcData) → GoodProc p → p.uid ≡ u → is_live_number m.rows p.pid ≡ true → Stepped u m (calls u s p m) (calls u s p k)
-calls_same user apart t Step.Spawn p good mine live = after_same user apart t _ _ (spawn_same t.rows)
-calls_same user apart t (Step.List caller) p good mine live = after_same user apart t _ _ (list_same t.rows)
-calls_same user apart t (Step.Sigaction caller sig d) p good mine live = after_same user apart t _ _ (sigaction_same t.rows p sig d (good.block ∙ mine))
-calls_same {u} {m} {k} user apart t (Step.Kill caller which sig) p good mine live = subst (λ z. Stepped u m (calls u (Step.Kill caller which sig) p m) (after k (kill z u p.pid which sig k.rows))) t.settings (after_same user apart t _ _ (kill_same t.rows m.settings p.pid which sig))
-calls_same user apart t (Step.Wait4 caller which options) p good mine live = after_same user apart t _ _ (wait_same t.rows p which options (good.block ∙ mine))
-calls_same user apart t (Step.Install caller policy) p good mine live = install_same user apart t p policy (good.block ∙ mine) live
-calls_same {u} {m} {k} user apart t (Step.Handle caller) p good mine live =
-    subst (λ z. Stepped u m (calls u (Step.Handle caller) p m) (after k (at z (policies_of u p k)))) t.settings
-    (subst (λ xs. Stepped u m (calls u (Step.Handle caller) p m) (after k (at m.settings (map (λ i. i.policy) (filter (λ i. i.debugger == p.pid) xs))))) t.installed
-    (after_same user apart t _ _ (handle_same t.rows m.settings (policies_of u p m) p.pid (good.block ∙ mine))))
-  where
-    at : Settings → List (List Rule) → Outcome
-    at z policies = handles z policies k.rows (rows_after p.pid (negsuc 0) no_options k.rows) (reported p.pid (negsuc 0) no_options k.rows) (collect p.pid (negsuc 0) no_options k.rows)
-calls_same {u} {m} {k} user apart t (Step.Ptrace caller r target «data») p good mine live = subst (λ z. Stepped u m (calls u (Step.Ptrace caller r target «data») p m) (after k (ptrace z u p r target «data» k.rows))) t.settings (after_same user apart t _ _ (ptrace_same t.rows m.settings p r target «data» good mine))
-calls_same {u} {m} {k} user apart t (Step.Turn tid a) p good mine live = subst (λ z. Stepped u m (calls u (Step.Turn tid a) p m) (after k (turn z u tid a k.rows))) t.settings (after_same user apart t _ _ (turn_same t.rows m.settings tid a))
+use Rattle.requests.proofs.IsolationOfSteps.{seen_same, seen_some, spawn_same}
+use Rattle.requests.proofs.PerStep.{by_step, calls_same}
+use Rattle.requests.proofs.IsolationOfHosts.{live_other, after_same, at_own, Twin, Stepped}
+pub use Rattle.requests.proofs.IsolationOfHosts.{live_only, at_slot}
 
 -- A step of any user
 
@@ -123,17 +32,6 @@ step_same {u} {m} {k} user apart t s = by_step (λ s. Stepped u m (step u s m) (
     (λ s n by. subst (λ o. Stepped u m (step_of u s m o) (step_of u s k o)) (sym by) (called_same user apart t s n)) s
 
 -- The host in which no other user has made a step
-
-pub get_or_users : {X : Type 0} (f : ℕ → X) (count n k : ℕ) (d : X) → k < count → get_or (map f (rising count n)) k d ≡ f (n + k)
-get_or_users f zero n k d lt = absurd (omega arith)
-get_or_users f (suc count) n zero d lt = ap f (sym (add-zero n))
-get_or_users f (suc count) n (suc k) d lt = get_or_users f count (n + 1) k d (omega arith) ∙ ap f (omega arith)
-
-pub at_slot : {X : Type 0} (f : ℕ → X) (u : ℕ) (d : X) → IsUser u → get_or (map f users) (slot u) d ≡ f u
-at_slot f u d user = get_or_users f 64 1001 (slot u) d (omega arith) ∙ ap f (omega arith)
-
-pub at_own : {X : Type 0} (u : ℕ) (x : X) (f : ℕ → X) (d : X) → IsUser u → get_or (map (λ w. if w == u then x else f w) users) (slot u) d ≡ x
-at_own u x f d user = at_slot (λ w. if w == u then x else f w) u d user ∙ rw (eq-eqb u u refl) refl
 
 pub twin : (u : ℕ) (m : Machine) → IsUser u → Apart m → Twin u m (alone u m)
 twin u m user apart = record {

@@ -10,10 +10,12 @@ pub mod Disposing
 pub mod Others
 pub mod Remaining
 pub mod Sending
+pub mod Refusing
 pub mod RefusalsChangeNothing
 pub mod IsolationOfNewRows
 pub mod IsolationOfTurns
 pub mod IsolationOfSteps
+pub mod IsolationOfHosts
 pub mod IsolationLaws
 pub mod SoundHostIsApart
 pub mod Living
@@ -39,5 +41,7 @@ pub mod SoundAfterTurn
 pub mod SoundAfterHandle
 pub mod StaysSound
 pub mod Enduring
+pub mod ProcessesEndure
+pub mod PerStep
 pub mod Handled
 pub mod Joins

@@ -19,14 +19,18 @@ with_handler handler (op.Handle caller) = Some (op.Handle caller)
 with_handler handler (op.Ptrace caller request target «data») = Some (op.Ptrace caller request target «data»)
 with_handler handler (op.Turn tid act) = Some (op.Turn tid act)
 
+-- the step with what f makes of its handler, if it installs one
+abbrev pub map_handler : {A : Type 0} {B : Type 0} → (A → B) → Step A → Step B
+map_handler f op.Spawn = op.Spawn
+map_handler f (op.List caller) = op.List caller
+map_handler f (op.Sigaction caller sig disposition) = op.Sigaction caller sig disposition
+map_handler f (op.Kill caller which sig) = op.Kill caller which sig
+map_handler f (op.Wait4 caller which options) = op.Wait4 caller which options
+map_handler f (op.Install caller own) = op.Install caller (f own)
+map_handler f (op.Handle caller) = op.Handle caller
+map_handler f (op.Ptrace caller request target «data») = op.Ptrace caller request target «data»
+map_handler f (op.Turn tid act) = op.Turn tid act
+
 -- the step without what it installs
 abbrev pub bare : {A : Type 0} → Step A → PlainStep
-bare op.Spawn = op.Spawn
-bare (op.List caller) = op.List caller
-bare (op.Sigaction caller sig disposition) = op.Sigaction caller sig disposition
-bare (op.Kill caller which sig) = op.Kill caller which sig
-bare (op.Wait4 caller which options) = op.Wait4 caller which options
-bare (op.Install caller own) = op.Install caller []
-bare (op.Handle caller) = op.Handle caller
-bare (op.Ptrace caller request target «data») = op.Ptrace caller request target «data»
-bare (op.Turn tid act) = op.Turn tid act
+bare s = map_handler (λ own. []) s

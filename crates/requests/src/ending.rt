@@ -24,11 +24,7 @@ fn may_end<H>(asked: &Step<H>, done: &Result<Reply, AllocError>) -> bool
         Step::Handle { .. } => matches!(done, Ok(Reply::Handled { .. })),
         Step::Ptrace { .. } => matches!(done, Ok(Reply::Done)),
         Step::Turn { .. } => matches!(done, Ok(Reply::Ended(_))),
-        Step::Spawn
-        | Step::List { .. }
-        | Step::Sigaction { .. }
-        | Step::Wait4 { .. }
-        | Step::Install { .. } => false,
+        _ => false,
     }
 }
 

@@ -50,15 +50,8 @@ all_bound done ss i ps all past so_far =
 -- a step that was made with no handler
 pub needs_none : (u : ℕ) (shape : Step ⊤) (ps : List (List Rule)) (m n : Machine) (r : Reply) → Makes u (with_handler {B = List Rule} None shape) m n (Some r)
     → (ps ≡ policies_after shape ps) × Steps u (step_with (first_policy ps) shape) m n r
-needs_none u op.Spawn ps m n r h = (refl, h)
-needs_none u (op.List caller) ps m n r h = (refl, h)
-needs_none u (op.Sigaction caller sig disposition) ps m n r h = (refl, h)
-needs_none u (op.Kill caller which sig) ps m n r h = (refl, h)
-needs_none u (op.Wait4 caller which options) ps m n r h = (refl, h)
 needs_none u (op.Install caller own) ps m n r h = let none = h.0 in absurd (cc)
-needs_none u (op.Handle caller) ps m n r h = (refl, h)
-needs_none u (op.Ptrace caller request target «data») ps m n r h = (refl, h)
-needs_none u (op.Turn tid act) ps m n r h = (refl, h)
+needs_none u shape ps m n r h = (refl, h)
 
 -- nor changed anything where it needs one
 pub nothing_made : (u : ℕ) (o : Option PlainStep) (m n : Machine) → Makes u o m n None → n ≡ m

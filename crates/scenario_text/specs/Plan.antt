@@ -2,10 +2,9 @@
 use Rattle.std.specs.Prelude.{⊤, ℕ, List, [], ◌∷◌, Option, Some, None}
 use Rattle.stop_handlers.specs.declared.Rule.{Rule}
 use Rattle.trace_stop.specs.declared.Settings.{Settings}
-use Rattle.requests.specs.Plain.{PlainStep}
+use Rattle.requests.specs.Plain.{PlainStep, map_handler}
 use Rattle.requests.specs.declared.step.Step.{Step}
-use Rattle.requests.specs.declared.step.Step.TheVariants.{Spawn, Sigaction, Kill, Wait4, Install, Handle, Ptrace, Turn}
-use Rattle.requests.specs.declared.step.Step.TheVariants as op
+use Rattle.requests.specs.declared.step.Step.TheVariants.{Install}
 use Rattle.requests.specs.Run.{Asked}
 
 -- the settings of the host, and the steps in order
@@ -32,15 +31,7 @@ policies_in (a ∷ rest) = policy_before a.step (policies_in rest)
 
 -- the step with b in place of its handler, if it installs one
 abbrev pub step_with : {A : Type 0} {B : Type 0} → B → Step A → Step B
-step_with b Spawn = Spawn
-step_with b (op.List caller) = op.List caller
-step_with b (Sigaction caller sig disposition) = Sigaction caller sig disposition
-step_with b (Kill caller which sig) = Kill caller which sig
-step_with b (Wait4 caller which options) = Wait4 caller which options
-step_with b (Install caller own) = Install caller b
-step_with b (Handle caller) = Handle caller
-step_with b (Ptrace caller request target «data») = Ptrace caller request target «data»
-step_with b (Turn tid act) = Turn tid act
+step_with b s = map_handler (λ own. b) s
 
 abbrev pub first_policy : List (List Rule) → List Rule
 first_policy [] = []

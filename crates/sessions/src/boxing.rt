@@ -78,46 +78,13 @@ pub fn boxed<F: Decider + Send + Drop>(
 ) -> Result<BoxedStep<F>, AllocError>
     ensures { IfOk result (λ boxed. own_step boxed ≡ step) }
 {
-    Ok(match step {
-        Step::Spawn => Step::Spawn,
-        Step::List { caller } => Step::List { caller },
-        Step::Sigaction {
-            caller,
-            sig,
-            disposition,
-        } => Step::Sigaction {
-            caller,
-            sig,
-            disposition,
-        },
-        Step::Kill { caller, which, sig } => Step::Kill { caller, which, sig },
-        Step::Wait4 {
-            caller,
-            which,
-            options,
-        } => Step::Wait4 {
-            caller,
-            which,
-            options,
-        },
-        Step::Install { caller, handler } => Step::Install {
+    match step {
+        Step::Install { caller, handler } => Ok(Step::Install {
             caller,
             handler: Box::new(alloc, handler)?,
-        },
-        Step::Handle { caller } => Step::Handle { caller },
-        Step::Ptrace {
-            caller,
-            request,
-            target,
-            data,
-        } => Step::Ptrace {
-            caller,
-            request,
-            target,
-            data,
-        },
-        Step::Turn { tid, act } => Step::Turn { tid, act },
-    })
+        }),
+        other => Ok(other.with_handler(None).unwrap()),
+    }
 }
 
 /// Returns the step with its handler in it, as a host makes it.
@@ -125,44 +92,11 @@ pub(crate) fn unboxed<F: Decider + Send + Drop>(boxed: BoxedStep<F>) -> Step<Han
     ensures { result ≡ own_step boxed }
 {
     match boxed {
-        Step::Spawn => Step::Spawn,
-        Step::List { caller } => Step::List { caller },
-        Step::Sigaction {
-            caller,
-            sig,
-            disposition,
-        } => Step::Sigaction {
-            caller,
-            sig,
-            disposition,
-        },
-        Step::Kill { caller, which, sig } => Step::Kill { caller, which, sig },
-        Step::Wait4 {
-            caller,
-            which,
-            options,
-        } => Step::Wait4 {
-            caller,
-            which,
-            options,
-        },
         Step::Install { caller, handler } => Step::Install {
             caller,
             handler: Box::into_inner(handler),
         },
-        Step::Handle { caller } => Step::Handle { caller },
-        Step::Ptrace {
-            caller,
-            request,
-            target,
-            data,
-        } => Step::Ptrace {
-            caller,
-            request,
-            target,
-            data,
-        },
-        Step::Turn { tid, act } => Step::Turn { tid, act },
+        other => other.with_handler(None).unwrap(),
     }
 }
 

@@ -1,20 +1,18 @@
 -- Lists of steps that differ in numbers that a user doesn't see.
-use Rattle.std.proofs.Common.{◌≡◌, ℕ, List, [], ◌∷◌, Option, refl, sym, ap, ap₂, ◌∙◌, ℤ, pos, negsuc, inl}
+use Rattle.std.proofs.Common.{◌≡◌, ℕ, List, [], ◌∷◌, Option, refl, sym, ap, ap₂, ◌∙◌}
 use Rattle.std.specs.List.{AllByRecursion}
 use Rattle.pid_blocks.specs.Users.{IsUser}
 use Rattle.proc_table.specs.Seen.{seen_process, seen_lwp}
-use Rattle.requests.specs.Plain.{PlainStep}
-use Rattle.requests.specs.declared.step.Step.TheVariants as op
 use Rattle.requests.specs.declared.Reply.{Reply}
 use Rattle.requests.specs.Machine.{Machine}
 use Rattle.requests.specs.Run.{Asked, last, replies, asked_by}
 use Rattle.requests.specs.View.{view, with_view, alone}
-use Rattle.requests.specs.Isolation.{Apart, Users, Ran, answered, host_after, replies_to, own_replies, own_view, AlikeWhich, AlikeSteps, spawns, lists, sigactions, kills, waits, installs, handles, ptraces, turns}
+use Rattle.requests.specs.Isolation.{Apart, Users, Ran, answered, host_after, replies_to, own_replies, own_view}
 use Rattle.requests.proofs.IsolationOfNewRows.{seen_lwp_same}
 use Rattle.requests.proofs.IsolationOfSteps.{seen_same}
 use Rattle.requests.proofs.IsolationLaws.{twin, alone_law, keeps_apart, run_is, seen_alone}
 use Rattle.visibility.specs.ForeignLists.{AlikeLists, ForeignNumbers, SameIsAlike, SeenByView, AgreeAlike}
-use Rattle.visibility.proofs.Foreign.{foreign_number}
+use Rattle.visibility.proofs.Foreign.{foreign_number, step_alike_itself}
 use Rattle.visibility.proofs.Apart.{alone_is_apart, own_list}
 use Rattle.visibility.proofs.Answered.{ran_is, answered_users}
 
@@ -81,21 +79,6 @@ seen_by_view m k u n user am ak same =
       a.0 ∙ ap (λ v. seen_process u n (with_view u v).rows) same ∙ sym b.0,
       a.1 ∙ ap (λ v. seen_lwp u n (with_view u v).rows) same ∙ sym b.1,
     )
-
-which_alike : (u : ℕ) (m : Machine) (a : ℤ) → AlikeWhich u m a a
-which_alike u m (pos n) = inl refl
-which_alike u m (negsuc n) = refl
-
-step_alike_itself : (u : ℕ) (m : Machine) (s : PlainStep) → AlikeSteps u m s s
-step_alike_itself u m op.Spawn = spawns
-step_alike_itself u m (op.List n) = lists n n (inl refl)
-step_alike_itself u m (op.Sigaction n sig d) = sigactions n n sig d (inl refl)
-step_alike_itself u m (op.Kill n a sig) = kills n n a a sig (inl refl) (which_alike u m a)
-step_alike_itself u m (op.Wait4 n a options) = waits n n a a options (inl refl) (which_alike u m a)
-step_alike_itself u m (op.Install n policy) = installs n n policy (inl refl)
-step_alike_itself u m (op.Handle n) = handles n n (inl refl)
-step_alike_itself u m (op.Ptrace n r a «data») = ptraces n n r a a «data» (inl refl) (inl refl)
-step_alike_itself u m (op.Turn n a) = turns n n a (inl refl)
 
 list_alike_itself : (u : ℕ) (xs : List Asked) (m : Machine) → AlikeLists u xs xs m
 list_alike_itself u [] m = tt

@@ -1,5 +1,5 @@
 use Rattle.requests.proofs.CommonNames.{attempted_reply}
-use Rattle.requests.proofs.Finished.{made_bare, other_kind}
+use Rattle.requests.proofs.PerStep.{made_bare, other_kind}
 use Rattle.requests.proofs.host.Host.make.Goals as goal
 
 pub returns : goal.returns
