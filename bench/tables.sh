@@ -1,8 +1,8 @@
 #!/usr/bin/env bash
 # Times the tables of processes and LWPs at 1,000, 10,000 and 30,000 LWPs of 64 users: proves and builds the
-# program table_times, runs it, and prints its figures, in nanoseconds an operation.
+# program test_tables, runs it, and prints its figures, in nanoseconds an operation.
 set -euo pipefail
-cd "$(dirname "$(readlink -f "${BASH_SOURCE[0]}")")/../crates/table_times"
+cd "$(dirname "$(readlink -f "${BASH_SOURCE[0]}")")/../crates/test_tables"
 log=$(mktemp)
 trap 'rm -f "$log"' EXIT
 if ! rt run >/dev/null 2>"$log"; then

@@ -1,8 +1,9 @@
-//! What the test crates share: sessions written as lines of text, users' views of two hosts compared, pseudo-random
-//! numbers, and one error type.
+//! What the test crates share: sessions written as lines of text, users' views of two hosts compared, a debugger whose
+//! tracee forks, pseudo-random numbers, and one error type.
 #![tactic(auto)]
 
 mod dice;
+mod forks;
 mod lines;
 mod rows;
 mod sessions;
@@ -11,8 +12,9 @@ mod test_error;
 mod views;
 
 pub use dice::Dice;
+pub use forks::{FORK_STOPS, fork_policy, rule};
 pub use lines::{lines_of, step_in, steps_in};
 pub use rows::{Row, Section, rows_of, sections_of};
 pub use sessions::{check_replies, follow, host_after, together_and_alone};
-pub use test_error::TestError;
+pub use test_error::{TestError, expect};
 pub use views::{check_hosts, sees_same};

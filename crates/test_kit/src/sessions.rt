@@ -1,9 +1,9 @@
 //! Sessions made on hosts, each reply compared with its line.
 
-use crate::TestError;
 use crate::lines::{lines_of, step_in, steps_in};
 use crate::rows::{Row, rows_of};
 use crate::views::check_hosts;
+use crate::{TestError, expect};
 use pid_blocks::Uid;
 use requests::{Host, Reply};
 use std::alloc::Global;
@@ -39,9 +39,8 @@ pub fn follow<F: Decider + Send + Drop>(
 
 /// Checks that the replies are those of the lines, and no others.
 pub fn check_replies(alloc: Global, lines: &[Row<'_>], replies: &[Reply]) -> Result<(), TestError> {
-    if replies.len() != lines.len() {
-        return Err(TestError::Wrong("there are more or fewer replies than lines"));
-    }
+    let name = "there are more or fewer replies than lines";
+    expect(replies.len() == lines.len(), name)?;
     for (line, reply) in lines.iter().zip(replies.iter()) {
         line.check(alloc, reply)?;
     }
@@ -72,13 +71,8 @@ fn check_alone(
 ) -> Result<(), TestError> {
     let own = lines_of(alloc, lines, user, policy)?;
     let alone = host_after(alloc, own.as_slice(), policy)?;
-    check_hosts(
-        alloc,
-        shared,
-        &alone,
-        &[user],
-        "a user sees another host than alone",
-    )
+    let name = "a user sees another host than alone";
+    check_hosts(alloc, shared, &alone, &[user], name)
 }
 
 /// Makes the session of the users 1001 and 1002 on one host, and each user's own steps on another. Checks that each line

@@ -42,6 +42,15 @@ impl TestError {
     }
 }
 
+/// Checks that something holds. The error has this name.
+pub fn expect(holds: bool, name: &'static str) -> Result<(), TestError> {
+    if holds {
+        Ok(())
+    } else {
+        Err(TestError::Wrong(name))
+    }
+}
+
 impl From<AllocError> for TestError {
     fn from(_refused: AllocError) -> TestError {
         TestError::Memory

@@ -3,7 +3,7 @@
 ghost use Rattle.std.specs.Prelude.{◌≡◌, ◌↔◌, IsTrue, IfOk};
 ghost use Rattle.requests.specs.View.{view};
 
-use crate::TestError;
+use crate::{TestError, expect};
 use pid_blocks::Uid;
 use requests::Host;
 use std::alloc::{AllocError, Global};
@@ -31,9 +31,7 @@ pub fn check_hosts(
     name: &'static str,
 ) -> Result<(), TestError> {
     for user in users {
-        if !sees_same(alloc, left, right, *user)? {
-            return Err(TestError::Wrong(name));
-        }
+        expect(sees_same(alloc, left, right, *user)?, name)?;
     }
     Ok(())
 }

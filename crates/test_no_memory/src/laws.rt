@@ -8,7 +8,7 @@ use pid_blocks::Uid;
 use requests::{Host, Reply, Step};
 use std::alloc::Global;
 use stop_handlers::ByPolicy;
-use test_kit::TestError;
+use test_kit::{TestError, expect};
 use trace_stop::Settings;
 use visibility::laws::{foreign_number, one_step, other_step, two_lists};
 
@@ -57,27 +57,8 @@ fn is_answered(reply: &Reply, other: &Reply) -> Result<bool, TestError> {
     if reply.is_memory() || other.is_memory() {
         return Ok(false);
     }
-    if reply == other {
-        Ok(true)
-    } else {
-        Err(TestError::Wrong("two hosts answer differently"))
-    }
-}
-
-/// Returns whether two equal hosts make a step, and checks that a host that refuses is as before.
-fn is_made_in_both(
-    case: &Case<'_>,
-    before: &Seen,
-    law: Law,
-    first: &mut Host<ByPolicy>,
-    second: &mut Host<ByPolicy>,
-) -> Result<bool, TestError>
-    requires { second.old ≡ first.old }
-{
-    let (reply, other) = law.replies(case.alloc, first, second, case.first);
-    check_refused(case, before, first, reply.is_memory())?;
-    check_refused(case, before, second, other.is_memory())?;
-    is_answered(&reply, &other)
+    expect(reply == other, "two hosts answer differently")?;
+    Ok(true)
 }
 
 /// Returns whether two unused hosts make a step, and checks that a host that refuses is as before.
@@ -89,7 +70,10 @@ fn is_made(
 ) -> Result<bool, TestError> {
     let mut first = new_host(case.alloc, settings)?;
     let mut second = new_host(case.alloc, settings)?;
-    is_made_in_both(case, before, law, &mut first, &mut second)
+    let (reply, other) = law.replies(case.alloc, &mut first, &mut second, case.first);
+    check_refused(case, before, &first, reply.is_memory())?;
+    check_refused(case, before, &second, other.is_memory())?;
+    is_answered(&reply, &other)
 }
 
 /// Checks a law of one step, and retries while a host refuses it.
@@ -135,92 +119,55 @@ fn check_other_step(
     Err(TestError::Memory)
 }
 
-/// Returns whether no step was refused.
-fn are_made(replies: &[Reply]) -> bool {
-    for reply in replies {
-        if reply.is_memory() {
-            return false;
-        }
-    }
-    true
-}
-
 /// Returns whether no step of both lists was refused, and checks that their replies are then the same.
 fn agree(replies: &[Reply], others: &[Reply]) -> Result<bool, TestError> {
-    if !are_made(replies) || !are_made(others) {
+    let mut all = replies.iter().chain(others.iter());
+    if all.any(|reply| reply.is_memory()) {
         return Ok(false);
     }
-    if replies == others {
-        Ok(true)
-    } else {
-        Err(TestError::Wrong("two lists have different replies"))
-    }
+    expect(replies == others, "two lists have different replies")?;
+    Ok(true)
 }
 
-/// Makes the scenario's steps in two hosts, and returns the replies, or `None` where the lists are refused.
-fn ran(
-    case: &Case<'_>,
-    first: &mut Host<ByPolicy>,
-    second: &mut Host<ByPolicy>,
-) -> Result<Option<(Vec<Reply>, Vec<Reply>)>, TestError>
-    requires { second.old ≡ first.old }
-{
+/// Returns whether two unused hosts make all of the scenario's steps, and checks that refused lists change neither.
+fn are_lists_made(case: &Case<'_>, before: &Seen, settings: Settings) -> Result<bool, TestError> {
     let steps = bound(case)?;
     let others = bound(case)?;
-    Ok(two_lists(case.alloc, first, second, case.first, steps, others).ok())
-}
-
-/// Returns whether both hosts make all of the scenario's steps, and checks that refused lists change neither.
-fn are_lists_made(
-    case: &Case<'_>,
-    before: &Seen,
-    first: &mut Host<ByPolicy>,
-    second: &mut Host<ByPolicy>,
-) -> Result<bool, TestError>
-    requires { second.old ≡ first.old }
-{
-    if let Some((replies, others)) = ran(case, first, second)? {
-        return agree(replies.as_slice(), others.as_slice());
-    }
-    before.is_still(case, first, "refused lists changed the first host")?;
-    before.is_still(case, second, "refused lists changed the second host")?;
-    Ok(false)
-}
-
-/// Returns whether two unused hosts make all of the scenario's steps.
-fn are_two_lists_made(
-    case: &Case<'_>,
-    before: &Seen,
-    settings: Settings,
-) -> Result<bool, TestError> {
     let mut first = new_host(case.alloc, settings)?;
     let mut second = new_host(case.alloc, settings)?;
-    are_lists_made(case, before, &mut first, &mut second)
+    let ran = two_lists(
+        case.alloc,
+        &mut first,
+        &mut second,
+        case.first,
+        steps,
+        others,
+    );
+    if let Ok((replies, others)) = ran {
+        return agree(replies.as_slice(), others.as_slice());
+    }
+    before.is_still(case, &first, "refused lists changed the first host")?;
+    before.is_still(case, &second, "refused lists changed the second host")?;
+    Ok(false)
 }
 
 /// Checks the scenario's steps on two hosts, and retries while they are refused.
 fn check_two_lists(case: &Case<'_>, before: &Seen, settings: Settings) -> Result<(), TestError> {
     for _ in 0..TRIES {
-        if are_two_lists_made(case, before, settings)? {
+        if are_lists_made(case, before, settings)? {
             return Ok(());
         }
     }
     Err(TestError::Memory)
 }
 
-/// Checks that refusals don't change the hosts, and that else two hosts give the same replies. It begins with the views of
-/// this unused host.
-fn check_from(case: &Case<'_>, before: &Seen, host: &mut Host<ByPolicy>) -> Result<(), TestError> {
-    let settings = case.scenario.settings();
-    check_law(case, before, settings, Law::OneStep)?;
-    check_law(case, before, settings, Law::ForeignNumber)?;
-    check_other_step(case, before, host)?;
-    check_two_lists(case, before, settings)
-}
-
-/// Does the same on a new host.
+/// Checks that refusals don't change the hosts, and that else two hosts give the same replies.
 pub fn check(case: &Case<'_>) -> Result<(), TestError> {
-    let mut host = new_host(case.alloc, case.scenario.settings())?;
+    let settings = case.scenario.settings();
+    let mut host = new_host(case.alloc, settings)?;
     let before = case.see(&host)?;
-    check_from(case, &before, &mut host)
+    check_law(case, &before, settings, Law::OneStep)?;
+    check_law(case, &before, settings, Law::ForeignNumber)?;
+    check_other_step(case, &before, &mut host)?;
+    check_two_lists(case, &before, settings)
 }

@@ -1,41 +1,29 @@
 //! Lists of steps. A list or a step is refused where memory runs out.
 
-use crate::steps::{Case, Seen, TRIES, answer, new_host};
+use crate::steps::{Case, TRIES, answer, new_host};
 use pid_blocks::Uid;
 use requests::{Host, PlainStep, Reply, Step};
-use scenario::{RunFault, Scenario, bind, handlers_from, policies};
+use scenario::{RunFault, bind, handlers_from, policies};
 use std::alloc::Global;
 use stop_handlers::{ByPolicy, Handler, Policy};
-use test_kit::TestError;
+use test_kit::{TestError, expect};
 use visibility::run_list;
 
-/// Returns the policies of the scenario.
-fn policies_of(alloc: Global, scenario: &Scenario) -> Result<Vec<Policy>, TestError> {
-    for _ in 0..TRIES {
-        if let Ok(policies) = policies(alloc, scenario) {
-            return Ok(policies);
-        }
-    }
-    Err(TestError::Memory)
+/// Returns a handler for each policy of the scenario, or `None` where that is refused.
+fn policy_handlers(case: &Case<'_>) -> Option<Vec<Handler<ByPolicy>>> {
+    let policies = policies(case.alloc, case.scenario).ok()?;
+    let make = |policy: Policy| ByPolicy(policy);
+    handlers_from(case.alloc, policies.as_slice(), make).ok()
 }
 
-/// Returns a handler for each of the policies.
-fn policy_handlers(
-    alloc: Global,
-    policies: &[Policy],
-) -> Result<Vec<Handler<ByPolicy>>, TestError> {
+/// Does the same, and retries while that is refused.
+pub fn handlers(case: &Case<'_>) -> Result<Vec<Handler<ByPolicy>>, TestError> {
     for _ in 0..TRIES {
-        if let Ok(handlers) = handlers_from(alloc, policies, |policy: Policy| ByPolicy(policy)) {
+        if let Some(handlers) = policy_handlers(case) {
             return Ok(handlers);
         }
     }
     Err(TestError::Memory)
-}
-
-/// Returns a handler for each policy of the scenario.
-pub fn handlers(case: &Case<'_>) -> Result<Vec<Handler<ByPolicy>>, TestError> {
-    let policies = policies_of(case.alloc, case.scenario)?;
-    policy_handlers(case.alloc, policies.as_slice())
 }
 
 /// Returns the steps of the scenario, with their handlers.
@@ -63,11 +51,7 @@ fn check_reply(
         return Ok(());
     }
     let other = answer(alloc, host, user, step)?;
-    if other == *reply {
-        Ok(())
-    } else {
-        Err(TestError::Wrong("a list has other replies"))
-    }
+    expect(other == *reply, "a list has other replies")
 }
 
 /// Checks that the steps that weren't refused have the same replies when they are made one after another.
@@ -104,19 +88,14 @@ fn ran(case: &Case<'_>, host: &mut Host<ByPolicy>) -> Result<Option<Vec<Reply>>,
 }
 
 /// Checks that a refused list doesn't change the host, and that else the replies are those of steps made one by one.
-fn check_list(case: &Case<'_>, before: &Seen, host: &mut Host<ByPolicy>) -> Result<(), TestError> {
-    for _ in 0..TRIES {
-        if let Some(replies) = ran(case, host)? {
-            return check_answered(case, host, replies.as_slice());
-        }
-        before.is_still(case, host, "a refused list changed the host")?;
-    }
-    Err(TestError::Memory)
-}
-
-/// Does the same on a new host.
 pub fn check(case: &Case<'_>) -> Result<(), TestError> {
     let mut host = new_host(case.alloc, case.scenario.settings())?;
     let before = case.see(&host)?;
-    check_list(case, &before, &mut host)
+    for _ in 0..TRIES {
+        if let Some(replies) = ran(case, &mut host)? {
+            return check_answered(case, &host, replies.as_slice());
+        }
+        before.is_still(case, &host, "a refused list changed the host")?;
+    }
+    Err(TestError::Memory)
 }

@@ -10,7 +10,7 @@ use requests::{Host, PlainStep, Reply};
 use std::alloc::Global;
 use std::sync::Wait;
 use stop_handlers::ByPolicy;
-use test_kit::TestError;
+use test_kit::{TestError, expect};
 
 /// Shares an unused host among a session of each of the users, and retries while that is refused.
 fn open(case: &Case<'_>) -> Result<(SharedHost<ByPolicy>, Vec<Session>), TestError>
@@ -87,11 +87,7 @@ fn check_call<R: Wait>(
         return Err(TestError::Wrong("a session is missing"));
     }
     let answered = call(rt, alloc, host, &mut sessions[place], step)?;
-    if answered == *reply {
-        Ok(())
-    } else {
-        Err(TestError::Wrong("a call has another reply"))
-    }
+    expect(answered == *reply, "a call has another reply")
 }
 
 /// Makes the scenario's steps in turn, each as a call of its user's session.

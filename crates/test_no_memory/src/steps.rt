@@ -8,7 +8,7 @@ use requests::{Act, Host, PlainStep, Reply, Request};
 use scenario::Scenario;
 use std::alloc::Global;
 use stop_handlers::ByPolicy;
-use test_kit::TestError;
+use test_kit::{TestError, expect};
 use trace_stop::Settings;
 use visibility::{View, user_view};
 
@@ -40,11 +40,7 @@ impl Seen {
         name: &'static str,
     ) -> Result<(), TestError> {
         let now = case.see(host)?;
-        if self.first == now.first && self.second == now.second {
-            Ok(())
-        } else {
-            Err(TestError::Wrong(name))
-        }
+        expect(self.first == now.first && self.second == now.second, name)
     }
 }
 
@@ -73,8 +69,7 @@ impl Case<'_> {
         other: &Host<ByPolicy>,
         name: &'static str,
     ) -> Result<(), TestError> {
-        let seen = self.see(host)?;
-        seen.is_still(self, other, name)
+        self.see(host)?.is_still(self, other, name)
     }
 }
 
@@ -130,26 +125,6 @@ fn takes_memory(step: &PlainStep) -> bool {
 }
 
 /// Does the same, and checks after each refusal that the step may take memory and that users see the same as before.
-fn answer_from(
-    case: &Case<'_>,
-    before: &Seen,
-    host: &mut Host<ByPolicy>,
-    user: Uid,
-    step: &PlainStep,
-) -> Result<Reply, TestError> {
-    for _ in 0..TRIES {
-        if let Some(reply) = replied(case.alloc, host, user, step) {
-            return Ok(reply);
-        }
-        if !takes_memory(step) {
-            return Err(TestError::Wrong("a step that takes no memory is refused"));
-        }
-        before.is_still(case, host, "a refused step changed the host")?;
-    }
-    Err(TestError::Memory)
-}
-
-/// Does the same, with the users' present views as those before.
 fn answer_kept(
     case: &Case<'_>,
     host: &mut Host<ByPolicy>,
@@ -157,7 +132,14 @@ fn answer_kept(
     step: &PlainStep,
 ) -> Result<Reply, TestError> {
     let before = case.see(host)?;
-    answer_from(case, &before, host, user, step)
+    for _ in 0..TRIES {
+        if let Some(reply) = replied(case.alloc, host, user, step) {
+            return Ok(reply);
+        }
+        expect(takes_memory(step), "a step that takes no memory is refused")?;
+        before.is_still(case, host, "a refused step changed the host")?;
+    }
+    Err(TestError::Memory)
 }
 
 /// A host after steps, and the replies to them.
@@ -167,8 +149,8 @@ pub struct Made {
     pub replies: Vec<(Uid, Reply)>,
 }
 
-/// Allocates room for `length` replies.
-fn room(alloc: Global, length: usize) -> Result<Vec<(Uid, Reply)>, TestError> {
+/// Allocates room for `length` items.
+pub fn room<T: Drop>(alloc: Global, length: usize) -> Result<Vec<T>, TestError> {
     for _ in 0..TRIES {
         if let Ok(room) = Vec::with_capacity(alloc, length) {
             return Ok(room);
@@ -177,25 +159,14 @@ fn room(alloc: Global, length: usize) -> Result<Vec<(Uid, Reply)>, TestError> {
     Err(TestError::Memory)
 }
 
-/// Creates a host, and allocates room for the replies to the scenario's steps.
-fn new_made(case: &Case<'_>) -> Result<Made, TestError> {
+/// Makes the steps of the scenario on a new host.
+pub fn make_all(case: &Case<'_>) -> Result<Made, TestError> {
     let replies = room(case.alloc, case.scenario.shapes().len())?;
     let host = new_host(case.alloc, case.scenario.settings())?;
-    Ok(Made { host, replies })
-}
-
-/// Makes the steps of the scenario.
-fn make_each(case: &Case<'_>, made: &mut Made) -> Result<(), TestError> {
+    let mut made = Made { host, replies };
     for step in case.scenario.steps() {
         let reply = answer_kept(case, &mut made.host, step.0, &step.1)?;
         made.replies.push((step.0, reply))?;
     }
-    Ok(())
-}
-
-/// Makes the steps of the scenario on a new host.
-pub fn make_all(case: &Case<'_>) -> Result<Made, TestError> {
-    let mut made = new_made(case)?;
-    make_each(case, &mut made)?;
     Ok(made)
 }

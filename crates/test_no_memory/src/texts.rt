@@ -1,7 +1,7 @@
 //! Runs of a whole scenario.
 
 use crate::lists::handlers;
-use crate::steps::{Case, Made, TRIES};
+use crate::steps::{Case, Made, TRIES, room};
 use pid_blocks::Uid;
 use scenario::{RunFault, RunOptions, Style, render, run};
 use std::alloc::Global;
@@ -59,16 +59,6 @@ fn run_into<R: Threads + Wait + Sync>(
     }
 }
 
-/// Allocates room for a text.
-fn room(alloc: Global) -> Result<Vec<u8>, TestError> {
-    for _ in 0..TRIES {
-        if let Ok(room) = Vec::with_capacity(alloc, ROOM) {
-            return Ok(room);
-        }
-    }
-    Err(TestError::Memory)
-}
-
 /// Returns whether a run succeeded, and checks that it then wrote the text.
 fn is_run<R: Threads + Wait + Sync>(
     rt: &R,
@@ -76,7 +66,7 @@ fn is_run<R: Threads + Wait + Sync>(
     text: &[u8],
     asked: &Asked,
 ) -> Result<bool, TestError> {
-    let mut writer = room(case.alloc)?;
+    let mut writer = room(case.alloc, ROOM)?;
     let handlers = handlers(case)?;
     let ended = run_into(rt, case, handlers, asked, &mut writer);
     is_done(ended, writer.as_slice(), text)

@@ -14,7 +14,7 @@ use std::sync::Wait;
 use std::sync::atomic::{AtomicUsize, Ordering};
 use std::thread::Threads;
 use stop_handlers::ByPolicy;
-use test_kit::TestError;
+use test_kit::{TestError, expect};
 
 /// The most steps of a script.
 const MAX_STEPS: usize = 1000;
@@ -37,11 +37,9 @@ impl Counts {
     /// Returns the number of calls, and checks that each that was begun was answered.
     fn calls(&self) -> Result<usize, TestError> {
         let begun = self.begun.load(Ordering::SeqCst);
-        if begun == self.answered.load(Ordering::SeqCst) {
-            Ok(begun)
-        } else {
-            Err(TestError::Wrong("a worker hasn't gone to its end"))
-        }
+        let answered = self.answered.load(Ordering::SeqCst);
+        expect(begun == answered, "a worker hasn't gone to its end")?;
+        Ok(begun)
     }
 }
 
@@ -120,13 +118,8 @@ fn ran<R: Threads + Wait + Sync>(
 
 /// Returns how many steps were not answered by ENOMEM.
 fn answered(transcript: &Transcript) -> usize {
-    let mut count: usize = 0;
-    for reply in transcript.replies.iter() {
-        if !reply.is_memory() {
-            count = count.wrapping_add(1);
-        }
-    }
-    count
+    let replies = transcript.replies.iter();
+    replies.filter(|reply| !reply.is_memory()).count()
 }
 
 /// Returns how many steps of all scripts were not answered by ENOMEM.
@@ -150,10 +143,7 @@ fn next_entry(journal: &Journal, session: usize, from: usize) -> Option<usize> {
 
 /// Returns whether the entry at this index has this reply.
 fn has_reply(journal: &Journal, place: usize, reply: &Reply) -> bool {
-    match journal.get(place) {
-        Some(entry) => entry.reply == *reply,
-        None => false,
-    }
+    matches!(journal.get(place), Some(entry) if entry.reply == *reply)
 }
 
 /// Returns whether the session's entries have the replies of the transcript other than ENOMEM, in order.
@@ -189,58 +179,37 @@ fn check_transcripts(journal: &Journal, transcripts: &[Transcript]) -> Result<()
 /// Checks that the entry's step has its reply on the host.
 fn check_entry(alloc: Global, host: &mut Host<ByPolicy>, entry: &Entry) -> Result<(), TestError> {
     let reply = answer(alloc, host, entry.uid, &entry.step)?;
-    if reply == entry.reply {
-        Ok(())
-    } else {
-        Err(TestError::Wrong("an entry has another reply"))
-    }
-}
-
-/// Checks that the entries' steps have their replies when they are made one after another.
-fn check_entries(
-    alloc: Global,
-    host: &mut Host<ByPolicy>,
-    journal: &Journal,
-) -> Result<(), TestError> {
-    for place in 0..journal.len() {
-        if let Some(entry) = journal.get(place) {
-            check_entry(alloc, host, entry)?;
-        }
-    }
-    Ok(())
+    expect(reply == entry.reply, "an entry has another reply")
 }
 
 /// Makes the journal's steps one after another on a new host. Checks that the replies and the users' views are the same.
 fn check_replay(case: &Case<'_>, left: &Left) -> Result<(), TestError> {
     let mut other = new_host(case.alloc, case.scenario.settings())?;
-    check_entries(case.alloc, &mut other, &left.journal)?;
+    for place in 0..left.journal.len() {
+        if let Some(entry) = left.journal.get(place) {
+            check_entry(case.alloc, &mut other, entry)?;
+        }
+    }
     case.check_hosts(&left.host, &other, "the journal leaves another host")
 }
 
 /// Checks that the results are consistent, and that each of the scenario's steps was a call.
 fn check_left(case: &Case<'_>, calls: usize, left: &Left) -> Result<(), TestError> {
-    if calls != case.scenario.shapes().len() {
-        return Err(TestError::Wrong("a step isn't made"));
-    }
+    expect(calls == case.scenario.shapes().len(), "a step isn't made")?;
     check_transcripts(&left.journal, left.transcripts.as_slice())?;
     check_replay(case, left)
-}
-
-/// Returns whether there are results, and checks them.
-fn is_left(case: &Case<'_>, gate: &Counts, ran: &Option<Left>) -> Result<bool, TestError> {
-    let calls = gate.calls()?;
-    let Some(left) = ran else {
-        return Ok(false);
-    };
-    check_left(case, calls, left)?;
-    Ok(true)
 }
 
 /// Returns whether the sessions ran, and checks their results.
 fn is_run<R: Threads + Wait + Sync>(rt: &R, case: &Case<'_>) -> Result<bool, TestError> {
     let gate = Counts::new();
     let ran = ran(rt, case, &gate)?;
-    is_left(case, &gate, &ran)
+    let calls = gate.calls()?;
+    let Some(left) = ran else {
+        return Ok(false);
+    };
+    check_left(case, calls, &left)?;
+    Ok(true)
 }
 
 /// Checks that the sessions run, and retries while that is refused.

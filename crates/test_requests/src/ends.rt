@@ -53,10 +53,7 @@ turn 100000 enter exit 0 -> ok
 turn 100000 leave -> ended 0
 turn 100001 compute -> error ESRCH 3
 
-[nothing] a zombie passes from its tracer to its parent
-spawn -> new 1000 100000
-turn 100000 enter fork -> ok
-turn 100000 leave -> new 1001 100001
+[a child] a zombie passes from its tracer to its parent
 spawn -> new 1002 100002
 ptrace 1002 PT_ATTACH 1001 -> ok
 wait4 1000 -1 -> nothing
@@ -83,10 +80,7 @@ turn 100000 enter exit 0 -> ok
 turn 100000 leave -> ended 0
 list 1001 -> pids 1001 1003
 
-[nothing] an exit code is shifted and the last lwp exits with 0
-spawn -> new 1000 100000
-turn 100000 enter fork -> ok
-turn 100000 leave -> new 1001 100001
+[a child] an exit code is shifted and the last lwp exits with 0
 turn 100001 enter exit 255 -> ok
 turn 100001 leave -> ended 65280
 list 1000 -> pids 1000 1001
@@ -143,10 +137,7 @@ turn 100002 leave -> ended 256
 turn 100001 compute -> ok
 wait4 1001 -1 -> status 1002 256
 
-[nothing] a zombie passes to its parent when its tracer ends
-spawn -> new 1000 100000
-turn 100000 enter fork -> ok
-turn 100000 leave -> new 1001 100001
+[a child] a zombie passes to its parent when its tracer ends
 spawn -> new 1002 100002
 sigaction 1000 20 catch -> ok
 ptrace 1002 PT_ATTACH 1001 -> ok
@@ -159,10 +150,7 @@ turn 100000 compute -> caught 20
 wait4 1000 -1 -> status 1001 9
 list 1000 -> pids 1000
 
-[nothing] an orphan is collected at once
-spawn -> new 1000 100000
-turn 100000 enter fork -> ok
-turn 100000 leave -> new 1001 100001
+[a child] an orphan is collected at once
 spawn -> new 1002 100002
 kill 1002 1000 9 -> ok
 list 1002 -> pids 1001 1002

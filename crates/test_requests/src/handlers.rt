@@ -12,25 +12,8 @@ use std::alloc::Global;
 use std::process::Abort;
 use std::test::Fail;
 use stop_handlers::{ByClosure, ByPolicy, Decider, Decision, Handler, Policy, Rule, StopView};
-use test_kit::{TestError, follow};
+use test_kit::{FORK_STOPS, TestError, expect, follow, fork_policy, rule};
 use trace_stop::Settings;
-
-/// A fork of the tracee of 1000, whose child 1000 traces too, and a signal. The only handler of 1000 continues at a fork,
-/// detaches at SIGUSR1 and kills at another SIGTRAP.
-const STOPS: &str = "
-ptrace 1000 PT_SET_EVENT_MASK 1001 8 -> ok
-ptrace 1000 PT_CONTINUE 1001 -> ok
-turn 100001 enter fork -> ok
-turn 100001 leave -> stopped 100001 5 flags=PL_FLAG_SCX+PL_FLAG_FORKED
-handle 1000 -> handled 1001 1407 at 100001 signal=5 flags=PL_FLAG_SCX+PL_FLAG_FORKED child=1002 code=2 by 0 continue 0
-handle 1000 -> handled 1002 4479 at 100002 signal=17 flags=PL_FLAG_SCX+PL_FLAG_CHILD child=0 code=2 by none decline
-kill 1000 1001 30 -> ok
-turn 100001 compute -> stopped 100001 30 flags=none
-handle 1000 -> handled 1001 7807 at 100001 signal=30 flags=none child=0 code=0 by 0 detach 0
-ptrace 1000 PT_CONTINUE 1001 -> error EPERM 1
-ptrace 1000 PT_CONTINUE 1002 -> ok
-handle 1000 -> nothing
-";
 
 /// A stop with SIGSTOP, for which the first handler has no rule. The second leaves it.
 const LEFT: &str = "
@@ -55,11 +38,7 @@ fn install<F: Decider + Send + Drop>(
     handler: Handler<F>,
 ) -> Result<(), TestError> {
     let reply = host.step(alloc, Uid::new(1001)?, Step::install(1000, handler));
-    if reply == Reply::Done {
-        Ok(())
-    } else {
-        Err(TestError::Wrong("an install is refused"))
-    }
+    expect(reply == Reply::Done, "an install is refused")
 }
 
 /// Returns a host on which the first user's process 1000 traces 1001, and has collected its stop.
@@ -69,14 +48,14 @@ fn with_tracee<F: Decider + Send + Drop>(alloc: Global) -> Result<Host<F>, TestE
     Ok(host)
 }
 
-/// Checks how the handler handles the stops, on a host of its own.
+/// Checks how the handler, the only one of 1000, handles the stops of a fork, on a host of its own.
 fn follow_fork<F: Decider + Send + Drop>(
     alloc: Global,
     handler: Handler<F>,
 ) -> Result<(), TestError> {
     let mut host = with_tracee(alloc)?;
     install(alloc, &mut host, handler)?;
-    follow(alloc, &mut host, STOPS)
+    follow(alloc, &mut host, FORK_STOPS)
 }
 
 /// Checks a decider that obeys the policy, on a host of its own.
@@ -126,20 +105,10 @@ fn a_closure_decides_by_cases(rt: HostRuntime) -> Result<(), Fail> {
     Ok(())
 }
 
-/// Returns a rule for a signal with any flags.
-fn rule(signal: Signal, decision: Decision) -> Rule {
-    Rule {
-        signal: Some(signal),
-        flags: StopFlags(0),
-        decision,
-    }
-}
-
-/// Returns the policy of one rule for a signal.
+/// Returns the policy of one rule, for a signal with any flags.
 fn one_rule(signal: u32, decision: Decision) -> Result<Policy, Fail> {
-    let signal = Signal::new(signal)?;
-    let policy = Policy::new(&[rule(signal, decision)])?;
-    Ok(policy)
+    let rule = rule(signal, StopFlags(0), decision)?;
+    Ok(Policy::new(&[rule])?)
 }
 
 /// Returns a handler that answers by the policy.
@@ -149,29 +118,9 @@ fn by_policy(policy: Policy) -> Handler<ByPolicy>
     Handler::new(policy, ByPolicy(policy))
 }
 
-/// Returns the rules of the handler of `follow_fork`.
-fn fork_policy(none: Pass) -> Result<Policy, Fail> {
-    let trap = Signal::new(5)?;
-    let usr = Signal::new(30)?;
-    let forks = Rule {
-        signal: Some(trap),
-        flags: StopFlags::PL_FLAG_FORKED,
-        decision: Decision::Continue(none),
-    };
-    let rules = [
-        forks,
-        rule(usr, Decision::Detach(none)),
-        rule(trap, Decision::Kill),
-    ];
-    let policy = Policy::new(&rules)?;
-    Ok(policy)
-}
-
 #[test]
 fn a_policy_decides_about_stops(rt: HostRuntime) -> Result<(), Fail> {
-    let none = Pass::new(0)?;
-    let policy = fork_policy(none)?;
-    follow_fork(rt.alloc(), by_policy(policy))?;
+    follow_fork(rt.alloc(), by_policy(fork_policy()?))?;
     Ok(())
 }
 

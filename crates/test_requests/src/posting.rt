@@ -14,10 +14,7 @@ turn 100000 raise 9 -> caught 30
 turn 100000 raise 9 -> caught 31
 turn 100000 raise 9 -> ended 9
 
-[nothing] sigcont takes stop signals out
-spawn -> new 1000 100000
-turn 100000 enter fork -> ok
-turn 100000 leave -> new 1001 100001
+[a child] sigcont takes stop signals out
 sigaction 1001 19 catch -> ok
 kill 1000 1001 17 -> ok
 kill 1000 1001 18 -> ok
@@ -27,10 +24,7 @@ kill 1000 1001 19 -> ok
 turn 100001 compute -> caught 19
 turn 100001 compute -> ok
 
-[nothing] a stop signal takes sigcont out
-spawn -> new 1000 100000
-turn 100000 enter fork -> ok
-turn 100000 leave -> new 1001 100001
+[a child] a stop signal takes sigcont out
 sigaction 1001 18 catch -> ok
 sigaction 1001 19 catch -> ok
 kill 1000 1001 19 -> ok
@@ -38,10 +32,7 @@ kill 1000 1001 18 -> ok
 turn 100001 compute -> caught 18
 turn 100001 compute -> ok
 
-[nothing] sigcont continues a job stopped process
-spawn -> new 1000 100000
-turn 100000 enter fork -> ok
-turn 100000 leave -> new 1001 100001
+[a child] sigcont continues a job stopped process
 kill 1000 1001 18 -> ok
 turn 100001 compute -> stopped 100001 18 flags=none
 turn 100001 compute -> held
@@ -56,10 +47,7 @@ turn 100001 leave -> ended 768
 wait4 1000 -1 -> status 1001 768
 wait4 1000 -1 -> error ECHILD 10
 
-[nothing] a parent is told of job stops
-spawn -> new 1000 100000
-turn 100000 enter fork -> ok
-turn 100000 leave -> new 1001 100001
+[a child] a parent is told of job stops
 sigaction 1000 20 catch -> ok
 kill 1000 1001 17 -> ok
 turn 100001 compute -> stopped 100001 17 flags=none
@@ -68,10 +56,7 @@ kill 1000 1001 19 -> ok
 turn 100000 compute -> caught 20
 turn 100000 compute -> ok
 
-[nothing] a tracer is told before the parent
-spawn -> new 1000 100000
-turn 100000 enter fork -> ok
-turn 100000 leave -> new 1001 100001
+[a child] a tracer is told before the parent
 spawn -> new 1002 100002
 sigaction 1000 20 catch -> ok
 sigaction 1002 20 catch -> ok
@@ -86,10 +71,7 @@ turn 100002 compute -> ok
 turn 100000 compute -> caught 20
 wait4 1000 -1 -> status 1001 9
 
-[nothing] a caught signal is met once and sigkill ends
-spawn -> new 1000 100000
-turn 100000 enter fork -> ok
-turn 100000 leave -> new 1001 100001
+[a child] a caught signal is met once and sigkill ends
 sigaction 1001 15 catch -> ok
 kill 1000 1001 15 -> ok
 turn 100001 compute -> caught 15

@@ -12,6 +12,12 @@ const TWO: &str = "
     1002 spawn -> new 2000 104000
     spawn -> new 1001 100001";
 
+/// The process 1000, and its child 1001.
+const CHILD: &str = "
+    spawn -> new 1000 100000
+    turn 100000 enter fork -> ok
+    turn 100000 leave -> new 1001 100001";
+
 /// Process 1000 attaches to 1001, and collects its stop.
 const TRACED: &str = "
     ptrace 1000 PT_ATTACH 1001 -> ok
@@ -57,6 +63,7 @@ fn begin(alloc: Global, host: &mut Host<ByPolicy>, start: &str) -> Result<(), Te
     match start {
         "nothing" => Ok(()),
         "two processes" => follow(alloc, host, TWO),
+        "a child" => follow(alloc, host, CHILD),
         "a tracee" => trace(alloc, host),
         "a vfork" => {
             trace(alloc, host)?;

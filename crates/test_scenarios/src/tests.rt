@@ -5,18 +5,14 @@ use std::test::Fail;
 use stop_handlers::{ByPolicy, Handler, Policy};
 use test_kit::{Row, TestError, rows_of};
 
-mod acts;
-mod arrays;
 mod faults;
 mod lines;
+mod ops;
 mod readers;
-mod rules;
 mod runs;
 mod sizes;
-mod steps;
 mod texts;
 mod threads;
-mod tracing;
 mod values;
 
 const SPAWN_AND_LIST: &str = r#"{"steps":[

@@ -7,17 +7,8 @@ use pid_blocks::Uid;
 use requests::{Host, Reply, Step};
 use std::alloc::{AllocError, Global};
 use stop_handlers::{ByPolicy, Handler, Policy};
-use test_kit::{Row, TestError, step_in};
+use test_kit::{Row, TestError, expect, step_in};
 use trace_stop::Settings;
-
-/// Checks that something holds. The error has this name.
-pub fn expect(holds: bool, name: &'static str) -> Result<(), TestError> {
-    if holds {
-        Ok(())
-    } else {
-        Err(TestError::Wrong(name))
-    }
-}
 
 /// Creates an unused host. `None` where memory ran out.
 pub fn new_host(alloc: Global) -> Option<Host<ByPolicy>> {
@@ -63,9 +54,8 @@ pub fn check_entry(
     policy: Option<&Policy>,
 ) -> Result<(), TestError> {
     let (user, step) = step_in(alloc, line.given, policy)?;
-    if entry.uid != user || entry.step != step {
-        return Err(TestError::Wrong("an entry has another step"));
-    }
+    let is_same = entry.uid == user && entry.step == step;
+    expect(is_same, "an entry has another step")?;
     line.check(alloc, &entry.reply)
 }
 
@@ -95,10 +85,8 @@ pub fn check_lines(
     policy: Option<&Policy>,
 ) -> Result<(), TestError> {
     let own = entries_of(alloc, journal, session)?;
-    expect(
-        own.len() == lines.len(),
-        "a session has more or fewer entries than lines",
-    )?;
+    let is_whole = own.len() == lines.len();
+    expect(is_whole, "a session has more or fewer entries than lines")?;
     for (entry, line) in own.iter().zip(lines.iter()) {
         check_entry(alloc, entry, line, policy)?;
     }
@@ -113,15 +101,11 @@ pub fn check_entry_replies(
     replies: &[Reply],
 ) -> Result<(), TestError> {
     let own = entries_of(alloc, journal, session)?;
-    expect(
-        own.len() == replies.len(),
-        "a session has more or fewer entries than replies",
-    )?;
+    let is_whole = own.len() == replies.len();
+    expect(is_whole, "a session has more or fewer entries than replies")?;
     for (entry, reply) in own.iter().zip(replies.iter()) {
-        expect(
-            entry.reply == *reply,
-            "a transcript differs from the journal",
-        )?;
+        let is_same = entry.reply == *reply;
+        expect(is_same, "a transcript differs from the journal")?;
     }
     Ok(())
 }

@@ -2,11 +2,9 @@
 //! journal by one thread.
 
 mod compare;
-mod replay;
 mod scripts;
 mod writer;
 
-use crate::hosts::expect;
 use crate::session_runs::Open;
 use compare::differences;
 use host_lock::Journal;
@@ -17,7 +15,7 @@ use std::alloc::Global;
 use std::sync::Wait;
 use std::thread::Threads;
 use stop_handlers::ByPolicy;
-use test_kit::TestError;
+use test_kit::{TestError, expect};
 
 const RUNS: u32 = 10;
 
@@ -72,24 +70,14 @@ fn tally_of(
 /// The results of a run: the host, the journal of its calls, and the replies to each session.
 type Left = (Host<ByPolicy>, Journal, Vec<Transcript>);
 
-/// Runs the scripts in threads on the host.
-fn run_on<R: Threads + Wait + Sync>(
-    rt: &R,
-    alloc: Global,
-    host: Host<ByPolicy>,
-    seed: u32,
-) -> Result<Left, TestError> {
+/// Runs the scripts in threads on an unused host.
+fn run<R: Threads + Wait + Sync>(rt: &R, alloc: Global, seed: u32) -> Result<Left, TestError> {
+    let host = Host::new(alloc, settings(seed))?;
     let scripts = scripts(alloc, seed)?;
     match run_sessions(rt, alloc, host, scripts, &Open) {
         Ok(left) => Ok(left),
         Err(_) => Err(TestError::Wrong("a run is refused")),
     }
-}
-
-/// Does the same on an unused host.
-fn run<R: Threads + Wait + Sync>(rt: &R, alloc: Global, seed: u32) -> Result<Left, TestError> {
-    let host = Host::new(alloc, settings(seed))?;
-    run_on(rt, alloc, host, seed)
 }
 
 /// Makes a run, and compares it with a replay of its journal by one thread.

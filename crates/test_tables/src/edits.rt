@@ -5,9 +5,10 @@ ghost use Rattle.proc_table.specs.Fresh.{is_process};
 ghost use Rattle.proc_table.specs.Kept.{IsRow, Named};
 ghost use Rattle.proc_table.specs.Seen.{owns};
 
-use lwp_table::{LwpData, LwpTable};
+use lwp_table::{Due, LwpData, LwpTable};
 use pid_blocks::{Pid, Tid, Uid};
 use proc_table::{ProcData, Tables};
+use signals::SigSet;
 use std::alloc::AllocError;
 
 /// Returns whether a process has the number.
@@ -82,17 +83,18 @@ pub fn forget(tables: &mut Tables, pid: Pid) -> bool {
     true
 }
 
-/// Adds an LWP, if its number is the next of the user and its process is the user's.
-pub fn start(tables: &mut Tables, uid: Uid, row: LwpData) -> Result<bool, AllocError> {
+/// Adds an LWP of the user's process, and returns its number; `None` where the user has no such process, or no number
+/// is left.
+pub fn start(tables: &mut Tables, uid: Uid, pid: Pid) -> Result<Option<Tid>, AllocError> {
     tables.reserve_lwp(1)?;
     let Some(tid) = tables.fresh_tid(uid) else {
-        return Ok(false);
+        return Ok(None);
     };
-    if tid != row.tid || !owns_process(tables, uid, row.pid) {
-        return Ok(false);
+    if !owns_process(tables, uid, pid) {
+        return Ok(None);
     }
-    tables.add_lwp(uid, row);
-    Ok(true)
+    tables.add_lwp(uid, LwpData::born(tid, pid, SigSet::empty(), Due::Born));
+    Ok(Some(tid))
 }
 
 /// Replaces the row with this number, if there is one and it is of the same process.
@@ -122,6 +124,50 @@ pub fn next_sibling(tables: &Tables, tid: Tid) -> Option<LwpData> {
         Some(row) => tables.next_lwp(row.pid, tid),
         None => None,
     }
+}
+
+/// Suspends or resumes the LWP, if there is one.
+pub fn suspend(tables: &mut Tables, tid: Tid, suspended: bool) -> bool {
+    let Some(was) = tables.lwp(tid) else {
+        return false;
+    };
+    tables.set_lwp(LwpData {
+        tid,
+        suspended,
+        ..was
+    });
+    true
+}
+
+/// Gives a process another tracer, if both exist.
+pub fn trace(tables: &mut Tables, pid: Pid, tracer: Pid) -> bool {
+    let Some(was) = tables.process(pid) else {
+        return false;
+    };
+    if !has(tables, tracer.get()) {
+        return false;
+    }
+    tables.set_process(ProcData {
+        pid,
+        tracer: Some(tracer),
+        parent: 1,
+        ..was
+    });
+    true
+}
+
+/// Returns how many LWPs a walk over the process meets.
+pub fn walk(tables: &Tables, pid: Pid) -> usize {
+    let mut met: usize = 0;
+    let mut next = tables.first_lwp(pid);
+    for _ in 0..4000 {
+        let Some(row) = next else {
+            return met;
+        };
+        met = met.wrapping_add(1);
+        next = tables.next_lwp(pid, row.tid);
+    }
+    met
 }
 
 /// Adds an LWP to a separate table of LWPs, if its number is free.

@@ -98,31 +98,18 @@ fn a_foreign_number_is_as_good_as_nobodys(rt: HostRuntime) -> Result<(), Fail> {
     Ok(())
 }
 
-/// Returns the replies to the first user's lines on one host, and to all lines on another.
+/// Returns the replies to the first user's lines on an unused host, and to all lines on another.
 fn both_lists(
-    alloc: Global,
-    one: &mut Host<ByPolicy>,
-    other: &mut Host<ByPolicy>,
-    own: &[Row<'_>],
-    all: &[Row<'_>],
-) -> Result<(Vec<Reply>, Vec<Reply>), TestError>
-    requires { other.old ≡ one.old }
-{
-    let user = Uid::new(1001)?;
-    let steps = steps_in(alloc, own, None)?;
-    let others = steps_in(alloc, all, None)?;
-    Ok(two_lists(alloc, one, other, user, steps, others)?)
-}
-
-/// Does the same on unused hosts.
-fn both_lists_from_nothing(
     alloc: Global,
     own: &[Row<'_>],
     all: &[Row<'_>],
 ) -> Result<(Vec<Reply>, Vec<Reply>), TestError> {
+    let steps = steps_in(alloc, own, None)?;
+    let others = steps_in(alloc, all, None)?;
+    let user = Uid::new(1001)?;
     let mut one = unused(alloc)?;
     let mut other = unused(alloc)?;
-    both_lists(alloc, &mut one, &mut other, own, all)
+    Ok(two_lists(alloc, &mut one, &mut other, user, steps, others)?)
 }
 
 const LISTS: &str = "
@@ -137,37 +124,24 @@ fn two_lists_in_which_a_user_asks_the_same(rt: HostRuntime) -> Result<(), Fail> 
     let alloc = rt.alloc();
     let all = rows_of(alloc, LISTS)?;
     let own = lines_of(alloc, all.as_slice(), Uid::new(1001)?, None)?;
-    let (first, both) = both_lists_from_nothing(alloc, own.as_slice(), all.as_slice())?;
+    let (first, both) = both_lists(alloc, own.as_slice(), all.as_slice())?;
     check_replies(alloc, own.as_slice(), first.as_slice())?;
     check_replies(alloc, all.as_slice(), both.as_slice())?;
     Ok(())
 }
 
-/// Returns the replies to two lists of steps of both users, each on a host of its own.
+/// Returns the replies to two lists of steps of both users, each on an unused host.
 fn alike_lists(
-    alloc: Global,
-    one: &mut Host<ByPolicy>,
-    other: &mut Host<ByPolicy>,
-    foreign: &[Row<'_>],
-    unused: &[Row<'_>],
-) -> Result<(Vec<Reply>, Vec<Reply>), TestError>
-    requires { other.old ≡ one.old }
-{
-    let user = Uid::new(1001)?;
-    let steps = steps_in(alloc, foreign, None)?;
-    let alike = steps_in(alloc, unused, None)?;
-    Ok(foreign_numbers(alloc, one, other, user, steps, alike)?)
-}
-
-/// Does the same on unused hosts.
-fn alike_lists_from_nothing(
     alloc: Global,
     foreign: &[Row<'_>],
     others: &[Row<'_>],
 ) -> Result<(Vec<Reply>, Vec<Reply>), TestError> {
+    let steps = steps_in(alloc, foreign, None)?;
+    let alike = steps_in(alloc, others, None)?;
+    let user = Uid::new(1001)?;
     let mut one = unused(alloc)?;
     let mut other = unused(alloc)?;
-    alike_lists(alloc, &mut one, &mut other, foreign, others)
+    Ok(foreign_numbers(alloc, &mut one, &mut other, user, steps, alike)?)
 }
 
 /// The first user names the second one's process and LWP.
@@ -200,7 +174,7 @@ fn two_lists_that_differ_in_foreign_numbers(rt: HostRuntime) -> Result<(), Fail>
     let alloc = rt.alloc();
     let foreign = rows_of(alloc, FOREIGN)?;
     let unused = rows_of(alloc, UNUSED)?;
-    let (named, unnamed) = alike_lists_from_nothing(alloc, foreign.as_slice(), unused.as_slice())?;
+    let (named, unnamed) = alike_lists(alloc, foreign.as_slice(), unused.as_slice())?;
     check_replies(alloc, foreign.as_slice(), named.as_slice())?;
     check_replies(alloc, unused.as_slice(), unnamed.as_slice())?;
     Ok(())

@@ -1,11 +1,10 @@
 //! Gates: one that does nothing, and one at which two scripts meet.
 
-use crate::hosts::expect;
 use pid_blocks::Uid;
 use sessions::Gate;
 use std::sync::atomic::{AtomicU64, Ordering};
 use std::thread;
-use test_kit::TestError;
+use test_kit::{TestError, expect};
 
 #[derive(Drop)]
 pub struct Open;
@@ -22,27 +21,10 @@ struct Counts {
     words: [AtomicU64; 11],
 }
 
-fn zero() -> AtomicU64 {
-    AtomicU64::new(0)
-}
-
 impl Counts {
     fn new() -> Counts {
-        Counts {
-            words: [
-                zero(),
-                zero(),
-                zero(),
-                zero(),
-                zero(),
-                zero(),
-                zero(),
-                zero(),
-                zero(),
-                zero(),
-                zero(),
-            ],
-        }
+        let words = [0; 11].map(|count: u64| AtomicU64::new(count));
+        Counts { words }
     }
 
     fn get(&self, index: u32) -> Option<&AtomicU64> {
@@ -77,27 +59,24 @@ impl Meet {
         Meet {
             entered: Counts::new(),
             left: Counts::new(),
-            first: zero(),
-            others: zero(),
-            failed: zero(),
+            first: AtomicU64::new(0),
+            others: AtomicU64::new(0),
+            failed: AtomicU64::new(0),
         }
     }
 
     /// Checks that both scripts met at each of their ten calls, and how many calls each user began.
     pub fn check(&self, first: u64, others: u64) -> Result<(), TestError> {
-        expect(
-            self.failed.load(Ordering::SeqCst) == 0,
-            "two scripts don't meet",
-        )?;
-        expect(
-            self.entered.are_two() && self.left.are_two(),
-            "a gate isn't called once before and after each call",
-        )?;
-        expect(
-            self.first.load(Ordering::SeqCst) == first
-                && self.others.load(Ordering::SeqCst) == others,
-            "a user has more or fewer calls",
-        )
+        let met = self.failed.load(Ordering::SeqCst) == 0;
+        expect(met, "two scripts don't meet")?;
+        let twice = self.entered.are_two() && self.left.are_two();
+        expect(twice, "a gate isn't called once before and after each call")?;
+        let (own, other) = (
+            self.first.load(Ordering::SeqCst),
+            self.others.load(Ordering::SeqCst),
+        );
+        let is_all = own == first && other == others;
+        expect(is_all, "a user has more or fewer calls")
     }
 }
 

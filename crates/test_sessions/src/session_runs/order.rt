@@ -5,7 +5,6 @@ ghost use Rattle.std.specs.Prelude.{⊤, ◌≡◌, IfSome, All};
 ghost use Rattle.stop_handlers.specs.Decide.{decide};
 ghost use Rattle.sessions.specs.Runs.{IsShort};
 
-use crate::hosts::expect;
 use host_lock::{Journal, MAX_CALLS};
 use pid_blocks::Uid;
 use requests::{Host, Step};
@@ -15,7 +14,7 @@ use std::sync::Wait;
 use std::sync::atomic::{AtomicU64, Ordering};
 use std::thread::Threads;
 use stop_handlers::{Decider, Decision, Handler, Policy, StopView};
-use test_kit::TestError;
+use test_kit::{TestError, expect};
 use trace_stop::Settings;
 
 /// A decider that answers by a policy, and counts its drop.
@@ -173,8 +172,6 @@ pub fn a_gate_is_told_before_and_after_each_call<R: Threads + Wait + Sync>(
     };
     let scripts = install_each(alloc, users, &order).ok_or(TestError::Memory)?;
     expect(is_run(rt, alloc, &order, scripts), "a run is refused")?;
-    expect(
-        order.first.are_in_order() && order.other.are_in_order(),
-        "a gate is called out of order",
-    )
+    let is_told = order.first.are_in_order() && order.other.are_in_order();
+    expect(is_told, "a gate is called out of order")
 }

@@ -3,14 +3,14 @@
 ghost use Rattle.std.specs.Prelude.{◌<◌, ◌≤◌, IfSome, All};
 ghost use Rattle.sessions.specs.Runs.{IsShort};
 
-use crate::hosts::{check_entry, check_entry_replies, expect, spawns};
+use crate::hosts::{check_entry, check_entry_replies, spawns};
 use host_lock::{Journal, MAX_CALLS};
 use pid_blocks::Uid;
 use requests::Step;
 use sessions::{Script, Transcript};
 use std::alloc::Global;
 use stop_handlers::ByPolicy;
-use test_kit::{TestError, check_replies, rows_of};
+use test_kit::{TestError, check_replies, expect, rows_of};
 
 /// Returns a script of `count` spawns of the user.
 fn spawn_often(alloc: Global, uid: Uid, count: u32) -> Option<Script<ByPolicy>>
@@ -46,10 +46,8 @@ pub fn check_own(
 ) -> Result<(), TestError>
     requires { (users ≤ 64) × (count < 65000) }
 {
-    expect(
-        transcripts.len() == users as usize,
-        "there are more or fewer transcripts than users",
-    )?;
+    let is_whole = transcripts.len() == users as usize;
+    expect(is_whole, "there are more or fewer transcripts than users")?;
     for slot in 0..users {
         let Some(transcript) = transcripts.get(slot as usize) else {
             return Err(TestError::Wrong("a transcript is missing"));

@@ -1,17 +1,17 @@
-//! Opening, closing, and the journal between them.
+//! Opening, closing, and the journal between them. A call after a moment stands behind it in the journal.
 
 ghost use Rattle.std.specs.Prelude.{IfSome};
 ghost use Rattle.host_lock.specs.Sessions.{IsOf};
 
 use super::pairs::{ask, close_one, close_two, open_two};
-use crate::hosts::{check_entry, expect, new_host};
+use crate::hosts::{check_entry, new_host};
 use host_lock::{Journal, MAX_CALLS, OpenRefusal, Session, SharedHost, budget_left};
 use pid_blocks::Uid;
 use requests::Host;
 use std::alloc::Global;
 use std::sync::Wait;
 use stop_handlers::ByPolicy;
-use test_kit::{Row, TestError, follow, rows_of, step_in};
+use test_kit::{Row, TestError, expect, follow, rows_of, step_in};
 
 pub fn a_session_makes_4294967295_calls() -> Result<(), TestError> {
     expect(
@@ -46,7 +46,7 @@ pub fn neither_none_nor_sixty_five_open_a_host(alloc: Global) -> Result<(), Test
 }
 
 /// Makes the calls in this order, each by its session, and checks the replies.
-pub fn call_in_turn<R: Wait>(
+fn call_in_turn<R: Wait>(
     rt: &R,
     alloc: Global,
     host: &SharedHost<ByPolicy>,
@@ -76,26 +76,23 @@ pub fn call_in_turn<R: Wait>(
 }
 
 /// Checks that the journal has these calls and no others.
-pub fn check_journal(
+fn check_journal(
     alloc: Global,
     journal: &Journal,
     lines: &[Row<'_>],
     sessions: &[usize],
 ) -> Result<(), TestError> {
     let count = lines.len();
-    if sessions.len() != count || journal.len() != count || journal.is_empty() {
-        return Err(TestError::Wrong("the journal has more or fewer entries than calls"));
-    }
-    if journal.get(count).is_some() {
-        return Err(TestError::Wrong("the journal has an entry past its end"));
-    }
+    let is_whole = sessions.len() == count && journal.len() == count && !journal.is_empty();
+    expect(is_whole, "the journal has more or fewer entries than calls")?;
+    let is_past = journal.get(count).is_some();
+    expect(!is_past, "the journal has an entry past its end")?;
     for (place, line) in lines.iter().enumerate() {
         let Some(entry) = journal.get(place) else {
             return Err(TestError::Wrong("an entry is missing"));
         };
-        if sessions.get(place) != Some(&entry.session) {
-            return Err(TestError::Wrong("an entry is of another session"));
-        }
+        let is_own = sessions.get(place) == Some(&entry.session);
+        expect(is_own, "an entry is of another session")?;
         check_entry(alloc, entry, line, None)?;
     }
     Ok(())
@@ -126,10 +123,7 @@ fn close_in_turn(
 }
 
 /// Shares a new host among a session of each of the users.
-pub fn open_new(
-    alloc: Global,
-    users: (Uid, Uid),
-) -> Option<(SharedHost<ByPolicy>, Session, Session)>
+fn open_new(alloc: Global, users: (Uid, Uid)) -> Option<(SharedHost<ByPolicy>, Session, Session)>
     ensures first { IfSome result (λ r. IsOf r.0 r.1) }
     ensures second { IfSome result (λ r. IsOf r.0 r.2) }
 {
@@ -137,28 +131,7 @@ pub fn open_new(
     open_two(alloc, host, users.0, users.1)
 }
 
-/// Makes these calls by two sessions, and returns the host and the journal. Both sessions close the host.
-fn called_in_turn<R: Wait>(
-    rt: &R,
-    alloc: Global,
-    users: (Uid, Uid),
-    made: (u32, u32),
-    lines: &[Row<'_>],
-    sessions: &[usize],
-) -> Result<(Host<ByPolicy>, Journal), TestError> {
-    let opened = open_new(alloc, users).ok_or(TestError::Memory)?;
-    let (host, mut first, mut second) = opened;
-    let (one, other) = (users.0.get(), users.1.get());
-    let is_new = is_shown(&first, one, 0, 0) && is_shown(&second, other, 1, 0);
-    expect(is_new, "a new session shows calls")?;
-    call_in_turn(rt, alloc, &host, &mut first, &mut second, lines, sessions)?;
-    match close_in_turn(alloc, host, first, second, users, made) {
-        Some(closed) => Ok(closed),
-        None => Err(TestError::Wrong("the host isn't closed")),
-    }
-}
-
-/// Makes these calls by two sessions of the users, checks the journal, and returns the host.
+/// Makes these calls by two sessions of the users, checks the journal, and returns the host. Both sessions close it.
 fn work_in_turn<R: Wait>(
     rt: &R,
     alloc: Global,
@@ -167,7 +140,14 @@ fn work_in_turn<R: Wait>(
     lines: &[Row<'_>],
     sessions: &[usize],
 ) -> Result<Host<ByPolicy>, TestError> {
-    let (host, journal) = called_in_turn(rt, alloc, users, made, lines, sessions)?;
+    let opened = open_new(alloc, users).ok_or(TestError::Memory)?;
+    let (host, mut first, mut second) = opened;
+    let (one, other) = (users.0.get(), users.1.get());
+    let is_new = is_shown(&first, one, 0, 0) && is_shown(&second, other, 1, 0);
+    expect(is_new, "a new session shows calls")?;
+    call_in_turn(rt, alloc, &host, &mut first, &mut second, lines, sessions)?;
+    let closed = close_in_turn(alloc, host, first, second, users, made);
+    let (host, journal) = closed.ok_or(TestError::Wrong("the host isn't closed"))?;
     check_journal(alloc, &journal, lines, sessions)?;
     Ok(host)
 }
@@ -205,4 +185,48 @@ pub fn a_host_waits_for_all_its_sessions<R: Wait>(rt: &R, alloc: Global) -> Resu
     let sessions = [0, 1, 0, 0];
     let mut host = work_in_turn(rt, alloc, users, (3, 1), lines.as_slice(), &sessions)?;
     follow(alloc, &mut host, NEXT)
+}
+
+/// Makes the first lines in the first session, and then the others in the second one, once it has learned the moment of
+/// the first.
+fn call_in_order<R: Wait>(
+    rt: &R,
+    alloc: Global,
+    host: &SharedHost<ByPolicy>,
+    first: &mut Session,
+    second: &mut Session,
+    lines: (&[Row<'_>], &[Row<'_>]),
+) -> Result<(), TestError>
+    requires first { IsOf host.now first.old }
+    requires second { IsOf host.now second.old }
+    ensures first { IsOf host.now first.new }
+    ensures second { IsOf host.now second.new }
+{
+    call_in_turn(rt, alloc, host, first, second, lines.0, &[0])?;
+    let moment = host.moment(first);
+    host.learn(second, moment);
+    call_in_turn(rt, alloc, host, first, second, lines.1, &[1])
+}
+
+/// A call of the second session, which has learned the moment after the call of the first one.
+const BOTH: &str = "
+spawn -> new 1000 100000
+1002 spawn -> new 2000 104000
+";
+
+pub fn a_call_stands_behind_the_moment_that_was_learned<R: Wait>(
+    rt: &R,
+    alloc: Global,
+) -> Result<(), TestError> {
+    let users = (Uid::new(1001)?, Uid::new(1002)?);
+    let earlier = rows_of(alloc, "spawn -> new 1000 100000")?;
+    let later = rows_of(alloc, "1002 spawn -> new 2000 104000")?;
+    let opened = open_new(alloc, users).ok_or(TestError::Memory)?;
+    let (host, mut first, mut second) = opened;
+    let lines = (earlier.as_slice(), later.as_slice());
+    call_in_order(rt, alloc, &host, &mut first, &mut second, lines)?;
+    let closed = close_two(alloc, host, first, second);
+    let (_host, journal) = closed.ok_or(TestError::Wrong("the host isn't closed"))?;
+    let lines = rows_of(alloc, BOTH)?;
+    check_journal(alloc, &journal, lines.as_slice(), &[0, 1])
 }

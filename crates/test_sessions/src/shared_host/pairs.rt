@@ -1,6 +1,6 @@
 //! Two sessions on one host.
 
-ghost use Rattle.std.specs.Prelude.{◌≡◌, [], ◌∷◌, IfSome};
+ghost use Rattle.std.specs.Prelude.{◌≡◌, IfSome};
 ghost use Rattle.host_lock.specs.Sessions.{IsOf, IsSame};
 
 use host_lock::{Answer, CloseRefusal, Journal, Session, SharedHost};
@@ -46,15 +46,6 @@ pub fn open_two(
     Some((host, first, second))
 }
 
-fn both(alloc: Global, first: Session, second: Session) -> Option<Vec<Session>>
-    ensures { IfSome result (λ v. v.items ≡ first ∷ second ∷ []) }
-{
-    let mut sessions = Vec::new(alloc);
-    sessions.push(first).ok()?;
-    sessions.push(second).ok()?;
-    Some(sessions)
-}
-
 /// Returns the host and the journal for both sessions.
 pub fn close_two(
     alloc: Global,
@@ -65,16 +56,8 @@ pub fn close_two(
     requires first { IsOf host first }
     requires second { IsOf host second }
 {
-    let sessions = both(alloc, first, second)?;
+    let sessions = vec![in alloc; first, second].ok()?;
     host.close(sessions).ok()
-}
-
-fn alone(alloc: Global, session: Session) -> Option<Vec<Session>>
-    ensures { IfSome result (λ v. v.items ≡ session ∷ []) }
-{
-    let mut sessions = Vec::new(alloc);
-    sessions.push(session).ok()?;
-    Some(sessions)
 }
 
 /// Tries to close the host with only one of its two sessions, and returns the host and this session.
@@ -86,7 +69,7 @@ pub fn close_one(
     requires { IsOf host session }
     ensures { IfSome result (λ r. (r.0 ≡ host) × (r.1 ≡ session)) }
 {
-    let sessions = alone(alloc, session)?;
+    let sessions = vec![in alloc; session].ok()?;
     let Err(CloseRefusal::Missing(host, mut sessions)) = host.close(sessions) else {
         return None;
     };
@@ -156,35 +139,7 @@ pub struct Left {
     pub second: Vec<Reply>,
 }
 
-/// Closes the host with both sessions, and returns the journal and the replies.
-fn hand_in(alloc: Global, host: SharedHost<ByPolicy>, first: Worked, second: Worked) -> Option<Left>
-    requires first { IsOf host first.session }
-    requires second { IsOf host second.session }
-{
-    let (_host, journal) = close_two(alloc, host, first.session, second.session)?;
-    Some(Left {
-        journal,
-        first: first.replies,
-        second: second.replies,
-    })
-}
-
-/// Makes the steps of both sessions in threads of their own, and closes the host.
-fn work_and_close<R: Threads + Wait + Sync>(
-    rt: &R,
-    alloc: Global,
-    host: SharedHost<ByPolicy>,
-    first: (Session, Vec<Step<Handler<ByPolicy>>>),
-    second: (Session, Vec<Step<Handler<ByPolicy>>>),
-) -> Option<Left>
-    requires first { IsOf host first.0 }
-    requires second { IsOf host second.0 }
-{
-    let (first, second) = work_beside(rt, alloc, &host, first, second);
-    hand_in(alloc, host, first?, second?)
-}
-
-/// Makes the steps of two users on the host, in threads of their own.
+/// Makes the steps of two users on the host, in threads of their own, and closes it with both sessions.
 pub fn run_beside<R: Threads + Wait + Sync>(
     rt: &R,
     alloc: Global,
@@ -193,5 +148,12 @@ pub fn run_beside<R: Threads + Wait + Sync>(
     (mine, theirs): (Vec<Step<Handler<ByPolicy>>>, Vec<Step<Handler<ByPolicy>>>),
 ) -> Option<Left> {
     let (host, first, second) = open_two(alloc, host, users.0, users.1)?;
-    work_and_close(rt, alloc, host, (first, mine), (second, theirs))
+    let (first, second) = work_beside(rt, alloc, &host, (first, mine), (second, theirs));
+    let (first, second) = (first?, second?);
+    let (_host, journal) = close_two(alloc, host, first.session, second.session)?;
+    Some(Left {
+        journal,
+        first: first.replies,
+        second: second.replies,
+    })
 }

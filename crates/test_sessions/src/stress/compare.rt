@@ -1,6 +1,5 @@
 //! Compares the threads' run of the scripts with a replay by one thread.
 
-use super::replay::{Replayed, replay};
 use super::scripts::{scripts, users};
 use host_lock::{Entry, Journal};
 use pid_blocks::Uid;
@@ -9,6 +8,7 @@ use sessions::{Script, Transcript};
 use std::alloc::{AllocError, Global};
 use stop_handlers::ByPolicy;
 use test_kit::sees_same;
+use trace_stop::Settings;
 
 /// Returns whether an entry is the session's step at this index, with the reply that the session got.
 fn is_at(entry: &Entry, script: &Script<ByPolicy>, transcript: &Transcript, place: usize) -> bool {
@@ -54,68 +54,43 @@ fn misplaced(
     Ok(count)
 }
 
-/// Returns 1 where the user's views of the two hosts differ, else 0.
-fn seen_otherwise(
+/// Makes the users' entries, in order, on an unused host. Returns that host, and how many replies differ.
+fn replay(
     alloc: Global,
-    left: &Host<ByPolicy>,
-    right: &Host<ByPolicy>,
-    user: Uid,
-) -> Result<usize, AllocError> {
-    Ok(if sees_same(alloc, left, right, user)? {
-        0
-    } else {
-        1
-    })
+    settings: Settings,
+    journal: &Journal,
+    users: &[Uid],
+) -> Result<(Host<ByPolicy>, usize), AllocError> {
+    let mut host = Host::new(alloc, settings)?;
+    let mut differ: usize = 0;
+    for place in 0..journal.len() {
+        if let Some(entry) = journal.get(place) {
+            if users.contains(&entry.uid) {
+                let reply = host.step(alloc, entry.uid, entry.step.by_policy());
+                if reply != entry.reply {
+                    differ = differ.wrapping_add(1);
+                }
+            }
+        }
+    }
+    Ok((host, differ))
 }
 
-/// Returns the number of differences from a replay, in its replies and in the user's view at the end.
+/// Returns how often a run differs from a replay of only these users' entries: in the replies, and in the users' views at
+/// the end.
 fn differences_from(
     alloc: Global,
     host: &Host<ByPolicy>,
-    replayed: &Replayed,
-    user: Uid,
-) -> Result<usize, AllocError> {
-    let seen = seen_otherwise(alloc, host, &replayed.host, user)?;
-    Ok(replayed.differ.wrapping_add(seen))
-}
-
-/// Returns the number of differences from a replay of only the user's entries.
-fn differences_alone(
-    alloc: Global,
-    host: &Host<ByPolicy>,
-    journal: &Journal,
-    user: Uid,
-) -> Result<usize, AllocError> {
-    let own = replay(alloc, host.settings(), journal, &[user])?;
-    differences_from(alloc, host, &own, user)
-}
-
-/// Returns the number of differences from the replay of all entries, and for each user from the replay of its own.
-fn differences_in(
-    alloc: Global,
-    host: &Host<ByPolicy>,
-    all: &Replayed,
     journal: &Journal,
     users: &[Uid],
 ) -> Result<usize, AllocError> {
-    let mut count = all.differ;
+    let (replayed, mut count) = replay(alloc, host.settings(), journal, users)?;
     for user in users {
-        let beside = seen_otherwise(alloc, host, &all.host, *user)?;
-        let alone = differences_alone(alloc, host, journal, *user)?;
-        count = count.wrapping_add(beside).wrapping_add(alone);
+        if !sees_same(alloc, host, &replayed, *user)? {
+            count = count.wrapping_add(1);
+        }
     }
     Ok(count)
-}
-
-/// Replays all entries in order, and returns the same number.
-fn differences_replayed(
-    alloc: Global,
-    host: &Host<ByPolicy>,
-    journal: &Journal,
-    users: &[Uid],
-) -> Result<usize, AllocError> {
-    let all = replay(alloc, host.settings(), journal, users)?;
-    differences_in(alloc, host, &all, journal, users)
 }
 
 /// Returns how often the threads' run differs from a replay of the journal by one thread: in the sessions' steps and
@@ -129,7 +104,10 @@ pub fn differences(
     transcripts: &[Transcript],
 ) -> Result<usize, AllocError> {
     let users = users(alloc, seed)?;
-    let misplaced = misplaced(alloc, seed, journal, transcripts)?;
-    let replayed = differences_replayed(alloc, host, journal, users.as_slice())?;
-    Ok(misplaced.wrapping_add(replayed))
+    let mut count = misplaced(alloc, seed, journal, transcripts)?;
+    count = count.wrapping_add(differences_from(alloc, host, journal, users.as_slice())?);
+    for user in users.iter() {
+        count = count.wrapping_add(differences_from(alloc, host, journal, &[*user])?);
+    }
+    Ok(count)
 }

@@ -4,33 +4,21 @@ use bitflags::Flags;
 use event_masks::{Call, EventMask, StopFlags, call_code, default_mask, entry_flags, exit_flags};
 use std::io;
 
-/// Prints the bits of the events and the flags with these names. No event or flag has the last name of each.
+/// The names of events. No event has the last one.
+const EVENTS: &str = "PTRACE_EXEC PTRACE_SCE PTRACE_SCX PTRACE_FORK PTRACE_LWP PTRACE_VFORK
+    PTRACE_SYSCALL PTRACE";
+
+/// The names of flags of stops. No flag has the last one.
+const FLAGS: &str = "PL_FLAG_SCE PL_FLAG_SCX PL_FLAG_EXEC PL_FLAG_FORKED PL_FLAG_CHILD PL_FLAG_BORN
+    PL_FLAG_EXITED PL_FLAG_VFORKED PL_FLAG_VFORK_DONE PL_FLAG_SYSCALL";
+
+/// Prints the bits of the events and the flags with these names.
 pub fn names(rt: &impl Print) -> io::Result<()> {
-    for name in [
-        "PTRACE_EXEC",
-        "PTRACE_SCE",
-        "PTRACE_SCX",
-        "PTRACE_FORK",
-        "PTRACE_LWP",
-        "PTRACE_VFORK",
-        "PTRACE_SYSCALL",
-        "PTRACE",
-    ] {
+    for name in EVENTS.split_whitespace() {
         let bits = EventMask::by_name(name).map_or(0, |mask| mask.bits());
         println!(rt; "event {name} {bits}")?;
     }
-    for name in [
-        "PL_FLAG_SCE",
-        "PL_FLAG_SCX",
-        "PL_FLAG_EXEC",
-        "PL_FLAG_FORKED",
-        "PL_FLAG_CHILD",
-        "PL_FLAG_BORN",
-        "PL_FLAG_EXITED",
-        "PL_FLAG_VFORKED",
-        "PL_FLAG_VFORK_DONE",
-        "PL_FLAG_SYSCALL",
-    ] {
+    for name in FLAGS.split_whitespace() {
         let bits = StopFlags::by_name(name).map_or(0, |flags| flags.bits());
         println!(rt; "flag {name} {bits}")?;
     }

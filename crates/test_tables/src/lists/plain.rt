@@ -48,30 +48,18 @@ impl Plain {
     }
 
     pub fn process(&self, number: u32) -> Option<ProcData> {
-        for p in &self.processes {
-            if p.pid.get() == number {
-                return Some(*p);
-            }
-        }
-        None
+        let mut rows = self.processes.iter().copied();
+        rows.find(|p| p.pid.get() == number)
     }
 
     pub fn lwp(&self, number: u32) -> Option<LwpData> {
-        for l in &self.lwps {
-            if l.tid.get() == number {
-                return Some(*l);
-            }
-        }
-        None
+        let mut rows = self.lwps.iter().copied();
+        rows.find(|l| l.tid.get() == number)
     }
 
     pub fn first_lwp(&self, pid: Pid) -> Option<LwpData> {
-        for l in &self.lwps {
-            if l.pid == pid {
-                return Some(*l);
-            }
-        }
-        None
+        let mut rows = self.lwps.iter().copied();
+        rows.find(|l| l.pid == pid)
     }
 
     /// Returns the LWP of the same process that was born next after this one.
@@ -88,30 +76,18 @@ impl Plain {
     }
 
     pub fn next_of(&self, uid: Uid, after: u32) -> Option<ProcData> {
-        for p in &self.processes {
-            if p.pid.get() > after && p.uid == uid {
-                return Some(*p);
-            }
-        }
-        None
+        let mut rows = self.processes.iter().copied();
+        rows.find(|p| p.pid.get() > after && p.uid == uid)
     }
 
     pub fn next_tracee(&self, pid: Pid, after: u32) -> Option<ProcData> {
-        for p in &self.processes {
-            if p.pid.get() > after && p.tracer == Some(pid) {
-                return Some(*p);
-            }
-        }
-        None
+        let mut rows = self.processes.iter().copied();
+        rows.find(|p| p.pid.get() > after && p.tracer == Some(pid))
     }
 
     pub fn next_child(&self, pid: Pid, after: u32) -> Option<ProcData> {
-        for p in &self.processes {
-            if p.pid.get() > after && p.parent == pid.get() {
-                return Some(*p);
-            }
-        }
-        None
+        let mut rows = self.processes.iter().copied();
+        rows.find(|p| p.pid.get() > after && p.parent == pid.get())
     }
 
     pub fn seen_process(&self, uid: Uid, number: u32) -> Option<ProcData> {

@@ -1,6 +1,6 @@
 use Rattle.std.proofs.Common.{IfSome}
-use Rattle.table_times.proofs.Walks.{Own}
-use Rattle.table_times.proofs.edits.walk.Given as goal
+use Rattle.test_tables.proofs.Walks.{Own}
+use Rattle.test_tables.proofs.edits.walk.Given as goal
 
 -- the walk is at a row of the process, or past its last
 abbrev pub invariant-loop : goal.invariant-loop

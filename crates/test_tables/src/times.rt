@@ -2,9 +2,7 @@
 //!
 //! The times differ from run to run, so the program prints them to standard error. The counts of operations are the
 //! same in each run, and it prints them to standard output.
-#![tactic(auto)]
 
-mod edits;
 mod host;
 
 use host::{Host, Kind};
@@ -78,10 +76,11 @@ fn tell_of(rt: &(impl Print + Eprint + Clock), alloc: Global, size: usize) -> io
     tell(rt, &mut host, size)
 }
 
-fn main(rt: HostRuntime) -> io::Result<()> {
+/// Prints the times and the counts.
+pub fn print(rt: &(impl Print + Eprint + Clock), alloc: Global) -> io::Result<()> {
     eprintln!(rt; "nanoseconds     add    get    set   walk remove next_of next_tracee  trace")?;
     for size in [1000, 10000, 30000] {
-        tell_of(&rt, rt.alloc(), size)?;
+        tell_of(rt, alloc, size)?;
     }
     Ok(())
 }

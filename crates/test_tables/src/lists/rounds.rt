@@ -1,10 +1,10 @@
 //! Rounds of edits, with a comparison of every reader after each.
 
-use crate::agree;
-use crate::both::Both;
+use super::agree;
+use super::both::Both;
+use super::lwps::edit_lwps;
+use super::tally::Tally;
 use crate::dice::Dice;
-use crate::lwps::edit_lwps;
-use crate::tally::Tally;
 use lwp_table::{LwpData, LwpTable};
 use pid_blocks::Uid;
 use std::alloc::{AllocError, Global};

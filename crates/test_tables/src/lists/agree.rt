@@ -1,8 +1,8 @@
 //! Compares the answers of each reader of the tables with those of the lists.
 
+use super::plain::{Plain, first_tid};
+use super::tally::Tally;
 use crate::edits::{next_born, next_sibling};
-use crate::plain::{Plain, first_tid};
-use crate::tally::Tally;
 use lwp_table::{LwpData, LwpTable};
 use pid_blocks::{Pid, Tid, Uid};
 use proc_table::Tables;
@@ -43,8 +43,7 @@ fn lwps(tally: &mut Tally, tables: &Tables, plain: &Plain) {
 /// Compares the readers at an LWP's number.
 pub fn lwp(tally: &mut Tally, tables: &Tables, plain: &Plain, tid: Tid) {
     let number = tid.get();
-    let same = tables.lwp(tid) == plain.lwp(number);
-    tally.see("lwp", same, 0, number);
+    tally.see("lwp", tables.lwp(tid) == plain.lwp(number), 0, number);
     let same = next_sibling(tables, tid) == plain.next_sibling(tid);
     tally.see("next_lwp", same, 0, number);
 }
@@ -123,8 +122,7 @@ fn sight(tally: &mut Tally, tables: &Tables, plain: &Plain, uid: Uid, number: u3
 
 /// Compares the readers of a separate table of LWPs with a list.
 pub fn lwp_table(tally: &mut Tally, table: &LwpTable, rows: &[LwpData], users: &[Uid]) {
-    let same = table.iter().eq(rows.iter().copied());
-    tally.see("iter", same, 0, 0);
+    tally.see("iter", table.iter().eq(rows.iter().copied()), 0, 0);
     tally.see("len", table.len() == rows.len(), 0, 0);
     tally.see("at past the last", table.at(rows.len()).is_none(), 0, 0);
     for (place, row) in rows.iter().enumerate() {
@@ -160,8 +158,7 @@ fn own_count(rows: &[LwpData], uid: Uid) -> usize {
 fn of_process(tally: &mut Tally, table: &LwpTable, rows: &[LwpData], pid: Pid) {
     let number = pid.get();
     let own = rows.iter().copied().filter(|row| row.pid == pid);
-    let same = table.of_process(pid).eq(own);
-    tally.see("of_process", same, number, 0);
+    tally.see("of_process", table.of_process(pid).eq(own), number, 0);
     let first = rows.iter().copied().find(|row| row.pid == pid);
     tally.see("first_of", table.first_of(pid) == first, number, 0);
     let count = rows.iter().filter(|row| row.pid == pid).count();

@@ -1,9 +1,10 @@
 //! Makes edits to the tables and to the lists, which must give the same answers.
 
+use super::agree;
+use super::plain::Plain;
+use super::tally::Tally;
 use crate::dice::Dice;
-use crate::plain::Plain;
-use crate::tally::Tally;
-use crate::{agree, edits};
+use crate::edits;
 use event_masks::{Call, EventMask, StopFlags};
 use lwp_table::{Due, LwpData, Mode};
 use pid_blocks::{Pid, Uid};
@@ -83,19 +84,15 @@ impl Both {
         }
     }
 
+    fn someone_unless(&mut self, none: bool, uid: Uid) -> Option<Pid> {
+        if none { None } else { self.someone(uid) }
+    }
+
     /// Returns a row for the process. The numbers of its tracer and its parent may be unused.
     fn row(&mut self, pid: Pid, uid: Uid) -> ProcData {
         let roll = self.dice.roll();
-        let tracer = if roll % 3 == 0 {
-            None
-        } else {
-            self.someone(uid)
-        };
-        let parent = if roll % 5 == 0 {
-            None
-        } else {
-            self.someone(uid)
-        };
+        let tracer = self.someone_unless(roll % 3 == 0, uid);
+        let parent = self.someone_unless(roll % 5 == 0, uid);
         ProcData {
             pid,
             uid,
@@ -201,8 +198,8 @@ impl Both {
         }
         let row = LwpData::born(tid, pid, SigSet::empty(), Due::Born);
         let made = self.plain.start(uid, row)?;
-        let same = edits::start(&mut self.tables, uid, row)? == made;
-        self.tally.see("start", same, 0, row.tid.get());
+        let same = edits::start(&mut self.tables, uid, pid)? == made.then_some(tid);
+        self.tally.see("start", same, 0, tid.get());
         agree::lwp(&mut self.tally, &self.tables, &self.plain, tid);
         Ok(())
     }

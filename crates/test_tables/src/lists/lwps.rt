@@ -1,8 +1,8 @@
 //! Makes edits to a separate table of LWPs and to a list, which must give the same answers.
 
+use super::tally::Tally;
 use crate::dice::Dice;
 use crate::edits;
-use crate::tally::Tally;
 use lwp_table::{Due, LwpData, LwpTable};
 use pid_blocks::{Pid, Tid};
 use signals::SigSet;
@@ -24,8 +24,7 @@ fn admit(
     row: LwpData,
 ) -> Result<(), AllocError> {
     let free = !rows.iter().any(|other| other.tid == row.tid);
-    let same = edits::admit(table, row)? == free;
-    tally.see("add", same, 0, row.tid.get());
+    tally.see("add", edits::admit(table, row)? == free, 0, row.tid.get());
     if free {
         rows.push(row)?;
     }
