@@ -1,6 +1,6 @@
 use Rattle.std.proofs.Common.{subst}
 use Rattle.requests.specs.Hosts.{Steps}
-use Rattle.requests.proofs.Finished.{steps_made}
+use Rattle.requests.proofs.PerStep.{steps_made}
 use Rattle.scenario.proofs.BindLemmas.{nothing_made}
 use Rattle.open_sessions.proofs.session.make_step.Goals as goal
 
