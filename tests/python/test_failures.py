@@ -61,13 +61,18 @@ def lines_of(text: bytes, user: int) -> bytes:
     return b''.join(line for line in text.splitlines(keepends=True) if line.startswith(b'%d ' % user))
 
 
+def texts_by_users(text: bytes) -> list[bytes]:
+    """The lines of each user with lines, by rising user."""
+    texts: dict[int, bytes] = {}
+    for line in text.splitlines(keepends=True):
+        user = int(line.split(b' ', 1)[0])
+        texts[user] = texts.get(user, b'') + line
+    return [texts[user] for user in sorted(texts)]
+
+
 def by_users(text: bytes) -> bytes:
     """The lines user by user, each user's in their order."""
-    def user(line: bytes) -> int:
-        return int(line.split(b' ', 1)[0])
-
-    lines = sorted(text.splitlines(keepends=True), key=user)
-    return b''.join(lines)
+    return b''.join(texts_by_users(text))
 
 
 def ways(program: str, file: str, text: bytes) -> Iterator[tuple[Command, bytes, Ends]]:
@@ -129,13 +134,22 @@ def failing_reads(shim: Shim, program: str, file: str, text: bytes) -> Iterator[
         yield Run(command, data, {'READ': '1-'}, (end,))
 
 
+def fronts(texts: list[bytes], most: int) -> Iterator[bytes]:
+    """What is written before each write of texts, one after another, where a write takes at most so many bytes."""
+    front = b''
+    for text in texts:
+        for at in range(0, len(text), most):
+            yield front
+            front += text[at : at + most]
+
+
 def failing_writes(program: str, file: str, text: bytes) -> Iterator[Run]:
-    """Each write fails, is interrupted, or moves one byte: a front of the text is left where one failed."""
-    for command, text in (((program, file), text), ((program, '--threads', file), by_users(text))):
-        most = 16
-        for n in range(1, len(text) // most + 1):
+    """Each write fails, is interrupted, or moves one byte: a front of the text is left where one failed. With threads,
+    each user's text is written by itself."""
+    for command, texts in (((program, file), [text]), ((program, '--threads', file), texts_by_users(text))):
+        most, text = 16, b''.join(texts)
+        for n, front in enumerate(fronts(texts, most), 1):
             few = {'MOST': most, 'WRITE': n}
-            front = text[: most * (n - 1)]
             for error in WRITE_ERRORS:
                 yield Run(command, b'', {**few, 'ERROR': error}, (cannot_write(front),))
             yield Run(command, b'', {**few, 'ERROR': errno.EINTR}, (whole(text),))
