@@ -43,13 +43,13 @@ def name_rows(form: Format) -> str:
     rows = [f'(codes "{key.name}", key.{key.variant})' for key in form.keys]
     return "abbrev pub key_rows : List (List ℕ × Key)\nkey_rows =\n" + "".join(
         f"    {'∷ ' if number else ''}{row}\n" for number, row in enumerate([*rows, "[]"])
-    )
+    ) + "\n"
 
 
 def set_rows(form: Format) -> str:
     return "abbrev pub key_set : Key → Keys\n" + "".join(
         f"key_set key.{key.variant} = keys.{key.name.upper()}\n" for key in form.keys
-    )
+    ) + "\n"
 
 
 def atoms(form: Format) -> list[NamedKey]:
@@ -72,7 +72,7 @@ def set_definition(form: Format) -> str:
     rows = [
         f"with_atom key.{key.variant} a f = record f {{ {field(key)} = {ATOMS[key.kind][1]} a }}\n" for key in atoms(form)
     ]
-    return "abbrev pub with_atom : Key → Atom → Fields → Fields\n" + "".join(rows) + "with_atom k a f = f\n"
+    return "abbrev pub with_atom : Key → Atom → Fields → Fields\n" + "".join(rows) + "with_atom k a f = f\n\n"
 
 
 def facts(form: Format, lemma: str) -> str:

@@ -34,6 +34,7 @@ key_rows =
     ∷ (codes "decision", key.Decision)
     ∷ (codes "pass", key.Pass)
     ∷ []
+
 -- end
 
 abbrev pub key_named : List ℕ → Option Key
@@ -62,6 +63,7 @@ key_set key.Mask = keys.MASK
 key_set key.Flags = keys.FLAGS
 key_set key.Decision = keys.DECISION
 key_set key.Pass = keys.PASS
+
 -- end
 
 abbrev pub set_named : Option Key → Keys

@@ -52,6 +52,7 @@ with_atom key.Code a f = record f { code = integer a }
 with_atom key.Signal a f = record f { signal = word a }
 with_atom key.Action a f = record f { action = name_in disposition_named a }
 with_atom k a f = f
+
 -- end
 
 abbrev pub with_value : Key → Data → Fields → Fields

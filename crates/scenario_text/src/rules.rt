@@ -15,7 +15,9 @@ use crate::keys::{Key, Keys, key_named, set_of};
 use crate::names::{DecisionKind, decision_named};
 use event_masks::StopFlags;
 use json::Invalid;
-use json_values::{Opening, Scalar, Tokens, next_scalar, open_value, pass_items, pass_members, pass_value};
+use json_values::{
+    Opening, Scalar, Tokens, next_scalar, open_value, pass_items, pass_members, pass_value,
+};
 use signals::{Pass, Signal};
 use stop_handlers::{Decision, Policy, Rule};
 
