@@ -3,20 +3,22 @@
 
     python3 bench/threads.py [PROGRAM] [--runs N] [--steps N] [--busy N]
 
-PROGRAM is the built program (default: crates/tracehost/out/tracehost, which ./tracehost builds). Scenarios of 2, 6, 9,
-16, 33 and 64 users have the same number of steps in all (default 20,000), made by a fixed rule, in three shapes:
+PROGRAM is the built program (default: crates/tracehost/out/tracehost, which ./tracehost builds). Scenarios of 1, 2, 6,
+9, 16, 33 and 64 users have the same number of steps in all (default 20,000), made by a fixed rule, in three shapes:
 
 - `even`: the users in turn;
-- `half`: one user makes half of the steps;
+- `half`: one user makes half of the steps, if there are two users or more;
 - `random`: users by chance, some more often than others, lists among the steps.
 
 Each scenario is run N times (default 20) plain and with --threads, one right after the other: first as the machine is,
-then with busy loops (default: twice as many as there are processors). The rows have wall times in seconds, and the
-median and the longest run with --threads in times the median plain run.
+then with busy loops (default: twice as many as there are processors). The rows have wall times in seconds, the median
+and the longest run with --threads in times the median plain run, and the processor time of the median run with
+--threads in times that of the median plain run.
 
 Before anything is timed, each scenario's lines with --threads are compared with the plain run's, grouped by rising
 user. The status is 1 if they differ, or if a bound is passed: with the busy loops 3 for the median run and 10 for the
-longest, else 2 for the median run of 64 users.
+longest, else 2 for the median run of 64 users, and 1.7 for its processor time. A processor of a virtual machine can be
+slower than the others for a while: `taskset -c` with those of one speed gives figures that can be compared.
 """
 
 import argparse
@@ -31,7 +33,7 @@ import time
 
 import scenarios
 
-COUNTS = (2, 6, 9, 16, 33, 64)
+COUNTS = (1, 2, 6, 9, 16, 33, 64)
 MAKES = (scenarios.attach_cycles, scenarios.forks_and_exits, scenarios.threads, scenarios.chains_that_end)
 
 
@@ -49,6 +51,8 @@ def even(users, length):
 def half(users, length):
     """Every other step is the first user's, the others are the other users' in turn."""
     first, *others = sources_of(users)
+    if not others:
+        return even(users, length)
     return [next(others[n // 2 % len(others)] if n % 2 else first) for n in range(length)]
 
 
@@ -84,10 +88,14 @@ def lines(program, *words):
 
 
 def timed(program, *words):
-    """The wall time of one run, in seconds."""
+    """The wall time and the processor time of one run, in seconds."""
+    quiet = [(os.POSIX_SPAWN_OPEN, 1, os.devnull, os.O_WRONLY, 0)]
     began = time.perf_counter()
-    subprocess.run([program, *words], stdout=subprocess.DEVNULL, check=True)
-    return time.perf_counter() - began
+    child = os.posix_spawn(program, [program, *words], os.environ, file_actions=quiet)
+    _, status, used = os.wait4(child, 0)
+    if status != 0:
+        sys.exit(f'bench/threads.py: {program} {" ".join(words)} ended with status {status}')
+    return time.perf_counter() - began, used.ru_utime + used.ru_stime
 
 
 @contextlib.contextmanager
@@ -103,24 +111,25 @@ def busy(loops):
 
 
 # of the columns after the shape and the users
-WIDTHS = (13, 8, 15, 8, 13, 8)
+WIDTHS = (13, 8, 15, 8, 13, 8, 17)
 
 
 def measure(program, made, runs, loops):
     """A line for each scenario. Answers how many passed a bound."""
     passed = 0
     print(f'\nwith {loops} busy loops' if loops else '\nas the machine is')
-    heads = ('plain: median', 'longest', 'threads: median', 'longest', 'times: median', 'longest')
+    heads = ('plain: median', 'longest', 'threads: median', 'longest', 'times: median', 'longest', 'processor: median')
     print(f'{"shape":8} {"users":>5} ' + ' '.join(f'{head:>{width}}' for head, width in zip(heads, WIDTHS)))
     for shape, users, file in made:
         pairs = [(timed(program, file), timed(program, '--threads', file)) for _ in range(runs)]
-        plain, threads = zip(*pairs)
+        (plain, plain_work), (threads, work) = (zip(*runs_of) for runs_of in zip(*pairs))
         median = statistics.median(plain)
         usual, longest = statistics.median(threads) / median, max(threads) / median
-        beyond = usual > 3 or longest > 10 if loops else users == 64 and usual > 2
+        worked = statistics.median(work) / statistics.median(plain_work)
+        beyond = usual > 3 or longest > 10 if loops else users == 64 and (usual > 2 or worked > 1.7)
         passed += beyond
         seconds = (median, max(plain), statistics.median(threads), max(threads))
-        texts = [f'{it:.3f}' for it in seconds] + [f'{usual:.2f}', f'{longest:.2f}']
+        texts = [f'{it:.3f}' for it in seconds] + [f'{it:.2f}' for it in (usual, longest, worked)]
         row = f'{shape:8} {users:5} ' + ' '.join(f'{text:>{width}}' for text, width in zip(texts, WIDTHS))
         print(row + ('  FAILED' if beyond else ''), flush=True)
     return passed

@@ -1,6 +1,6 @@
 #!/usr/bin/env bash
 # Sessions that wait sleep until they are woken: by strace, no thread of a run with --threads yields the processor, no
-# sleep ends by a timeout, each wake is of one thread, and there are fewer sleeps than steps.  Two, nine and 64 users,
+# sleep ends by a timeout, each wake is of one thread, and there are fewer than 16 sleeps a user.  Two, nine and 64 users,
 # ten runs each.  First, that no caller sleeps for good at an open door: door.py goes through all orders of a few
 # callers' steps on a sequentially consistent machine, and compares the machine's steps with the sources.
 #

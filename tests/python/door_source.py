@@ -28,13 +28,13 @@ SHAPES: dict[str, dict[str, str]] = {
     'host.rt': {'call': 'if ! { return } door.enter turn inside.leave'},
     'door.rt': {
         'enter': 'match lock.try_lock()@enter { Some { } None wait }',
-        'wait': """trying.fetch_add(1,SeqCst)@begin-to-try
+        'wait': """if { } else { } trying.fetch_add(1,SeqCst)@begin-to-try
             for { if Some try_for_a_while { trying.fetch_sub(1,SeqCst)@got-in return { } }
             sleepers.prepare_wait is_called.store(false,SeqCst)@store-before-sleep
             trying.fetch_sub(1,SeqCst)@try-no-more if Some lock.try_lock()@last-look { return { } } call.wait
             trying.fetch_add(1,SeqCst)@try-again is_called.store(false,SeqCst)@store-after-sleep }""",
         'try_for_a_while': 'for { for { } if Some lock.try_lock()@try { return Some } } None',
-        'leave': """{ } drop@open trying.load(SeqCst)@see-who-tries == if && ! is_called.load(SeqCst)@see-called
+        'leave': """{ } drop@open if { return } trying.load(SeqCst)@see-who-tries == if && ! is_called.load(SeqCst)@see-called
             && ! is_called.swap(true,SeqCst)@swap-called { sleepers.notify_one }""",
     },
     'turn.rt': {

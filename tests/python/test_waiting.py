@@ -14,6 +14,8 @@ from counting import Counts
 
 program = sys.argv[1]
 STEPS = 4000
+# a worker announces its calls, so it sleeps a few times for all of them
+SLEEPS = 16
 
 
 def trace(scenario: str, log: str) -> list[str]:
@@ -39,7 +41,7 @@ with tempfile.TemporaryDirectory() as room:
                 'wakes of more than one thread': sum(
                     re.search(r'FUTEX_WAKE\w*, (?!1\b)', line) is not None for line in lines
                 ),
-                'sleeps': sleeps if sleeps >= STEPS else 0,
+                'sleeps': sleeps if sleeps >= SLEEPS * users else 0,
             }
             for what, count in faults.items():
                 counts.check(count == 0, f'{users} users, {STEPS} steps: {count} {what}')

@@ -13,6 +13,36 @@ const TRIES: u32 = 5;
 /// The number of spin hints between two tries. All tries together take about as long as a sleep and a wake.
 const HINTS: u32 = 1024;
 
+/// How many announced calls a session makes in a row before it wakes a sleeping caller: some milliseconds of them.
+const TURN: u32 = 4096;
+
+/// How many of the calls that a session has announced are still to come.
+#[derive(Drop)]
+pub(crate) struct Announced {
+    pub(crate) calls: u32,
+}
+
+impl Announced {
+    /// Returns that no calls are announced.
+    pub(crate) fn none() -> Announced {
+        Announced { calls: 0 }
+    }
+
+    /// Returns whether a call is to come.
+    pub(crate) fn is_some(&self) -> bool {
+        self.calls != 0
+    }
+
+    /// Counts a call, and returns whether the session goes on with its turn.
+    pub(crate) fn goes_on(&mut self) -> bool {
+        if self.calls == 0 {
+            return false;
+        }
+        self.calls -= 1;
+        self.calls % TURN != 0
+    }
+}
+
 /// A lock that callers only try. A caller that fails for too long sleeps until it is called. A leaving caller calls one
 /// sleeper, and only if no caller is awake and trying, so that most calls end without a wake.
 ///
@@ -58,22 +88,24 @@ impl FairLock {
     }
 
     /// Waits until no other caller is inside. Most calls end sooner than a sleeper wakes, so the caller first tries for
-    /// a while. It tries seldom, so that the caller inside can make some calls in between.
-    pub(crate) fn enter<R: Wait>(&self, rt: &R) -> LockGuard<'_> {
+    /// a while, unless it comes for many calls: then it can sleep at once.
+    pub(crate) fn enter<R: Wait>(&self, rt: &R, for_many: bool) -> LockGuard<'_> {
         match self.lock.try_lock() {
             Some(lock) => LockGuard { door: self, lock },
-            None => self.wait(rt),
+            None => self.wait(rt, for_many),
         }
     }
 
-    /// Tries for a while and then sleeps, until it gets in.
-    fn wait<R: Wait>(&self, rt: &R) -> LockGuard<'_> {
+    /// Tries for a while and then sleeps, until it gets in. It sleeps first if it comes for many calls.
+    fn wait<R: Wait>(&self, rt: &R, for_many: bool) -> LockGuard<'_> {
+        let mut tries = if for_many { 0 } else { TRIES };
         self.trying.fetch_add(1, SeqCst);
         for _ in rt.forever() {
-            if let Some(lock) = self.try_for_a_while() {
+            if let Some(lock) = self.try_for_a_while(tries) {
                 self.trying.fetch_sub(1, SeqCst);
                 return LockGuard { door: self, lock };
             }
+            tries = TRIES;
             let call = self.sleepers.prepare_wait();
             self.is_called.store(false, SeqCst);
             self.trying.fetch_sub(1, SeqCst);
@@ -87,8 +119,9 @@ impl FairLock {
         unreachable!()
     }
 
-    fn try_for_a_while(&self) -> Option<MutexGuard<'_, ()>> {
-        for _ in 0..TRIES {
+    /// Tries so many times. It tries seldom, so that the caller inside can make some calls in between.
+    fn try_for_a_while(&self, tries: u32) -> Option<MutexGuard<'_, ()>> {
+        for _ in 0..tries {
             for _ in 0..HINTS {
                 spin_loop();
             }
@@ -101,10 +134,13 @@ impl FairLock {
 }
 
 impl LockGuard<'_> {
-    /// Opens the door for the next caller.
-    pub(crate) fn leave(self) {
+    /// Opens the door for the next caller. A caller that goes on with its turn calls no sleeper.
+    pub(crate) fn leave(self, goes_on: bool) {
         let LockGuard { door, lock } = self;
         drop(lock);
+        if goes_on {
+            return;
+        }
         let nobody_tries = door.trying.load(SeqCst) == 0;
         if nobody_tries && !door.is_called.load(SeqCst) && !door.is_called.swap(true, SeqCst) {
             door.sleepers.notify_one();

@@ -11,7 +11,7 @@ ghost use Rattle.host_lock.specs.Sessions.{IsOf, IsMomentOf, IsTrue, Learns, InJ
 ghost use Rattle.host_lock.specs.Views.{Idle};
 
 use crate::call_log::CallLog;
-use crate::door::FairLock;
+use crate::door::{Announced, FairLock};
 use crate::journal::{Entry, Journal};
 use crate::limits::MAX_SESSIONS;
 use crate::moment::{Moment, learn, show};
@@ -210,7 +210,7 @@ impl<F: Decider + Send + Drop, J: CallLog + Send + Drop> SharedHost<F, J> {
         let badge = mem::replace(&mut session.badge, Badge::blank());
         let mut seat = badge.into_seat();
         let plain = step.plain();
-        let inside = self.door.enter(rt);
+        let inside = self.door.enter(rt, session.announced.is_some());
         let reply = turn(
             rt,
             alloc,
@@ -221,7 +221,7 @@ impl<F: Decider + Send + Drop, J: CallLog + Send + Drop> SharedHost<F, J> {
             step,
             &plain,
         );
-        inside.leave();
+        inside.leave(session.announced.goes_on());
         session.badge = seat.into_badge();
         session.calls_made += 1;
         Answer::Reply(reply)
@@ -312,6 +312,7 @@ fn make_session<F: Decider + Send + Drop, J: CallLog + Send + Drop>(
         uid,
         number,
         calls_made: 0,
+        announced: Announced::none(),
         badge: seat.into_badge(),
     }
 }

@@ -6,6 +6,7 @@ ghost use Rattle.host_lock.specs.Limits.{max_calls};
 ghost use Rattle.host_lock.specs.Views.{Idle};
 
 use crate::call_log::CallLog;
+use crate::door::Announced;
 use crate::limits::MAX_CALLS;
 use crate::rule::HostSeat;
 use crate::view::View;
@@ -21,6 +22,8 @@ pub struct Session {
     pub(crate) uid: Uid,
     pub(crate) number: usize,
     pub(crate) calls_made: u32,
+    /// No contract depends on it.
+    pub(crate) announced: Announced,
     pub(crate) badge: Badge<View>,
 }
 
@@ -59,6 +62,7 @@ impl Session {
             uid: _,
             number: _,
             calls_made: _,
+            announced: _,
             badge,
         } = self;
         badge.into_seat()
@@ -83,6 +87,16 @@ impl Session {
         ensures { result ≡ self.now.calls }
     {
         self.calls_made
+    }
+
+    /// Announces that the session makes so many calls in a row, and waits for no other session between them. Then it
+    /// wakes a sleeping caller only at some of these calls and at the last one, so that the host stays on one processor
+    /// for longer. Until the announced calls are made, other callers may sleep while the host is free. No answer
+    /// depends on it.
+    pub fn announce(&mut self, calls: u32)
+        ensures { self.new ≡ self.old }
+    {
+        self.announced = Announced { calls };
     }
 }
 

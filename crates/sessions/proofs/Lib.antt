@@ -1,3 +1,4 @@
+pub mod CommonNames
 pub mod Scripts
 pub mod Pairing
 pub mod Owned

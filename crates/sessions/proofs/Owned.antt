@@ -1,38 +1,19 @@
 -- What each user's entries in a legal journal are.
-use Rattle.std.proofs.Common.{◌≡◌, ℕ, Bool, true, false, ◌==◌, List, [], ◌∷◌, map, refl, sym, ap, ◌∙◌, arith}
-use Rattle.requests.specs.Machine.{Machine}
+use Rattle.std.proofs.Common.{◌≡◌, ℕ, true, List, [], ◌∷◌, map, refl, sym, ap, ◌∙◌, arith}
+use Rattle.sessions.proofs.CommonNames.{Machine, Asked, asked_by, replies, last, alone, view, users_are_apart_in_a_sound_host, Entry, asked, IsLegal, entries_by, OwnEntries, RanBy}
 use Rattle.requests.specs.declared.Reply.{Reply}
-use Rattle.requests.specs.Run.{Asked, asked_by, replies, last}
-use Rattle.requests.specs.View.{alone, view}
 use Rattle.requests.specs.Isolation.{Users, replies_to}
 use Rattle.requests.specs.Sound.{sound}
-use Rattle.requests.proofs.SoundHostIsApart.{users_are_apart_in_a_sound_host}
 use Rattle.visibility.proofs.Apart.{own_list_law}
-use Rattle.host_lock.specs.declared.journal.Entry.{Entry}
-use Rattle.host_lock.specs.Journal.{asked, IsLegal}
-use Rattle.sessions.specs.Runs.{entries_by, OwnEntries}
-use Rattle.sessions.specs.PlainRuns.{RanBy}
-
-abbrev asked_one : Entry → Asked
-asked_one e = record { uid = e.uid; step = e.step }
-
-asked_more : (u : ℕ) (e : Entry) (es : List Entry) (b : Bool) → (e.uid == u) ≡ b → asked_by u (asked es) ≡ asked (entries_by u es) → asked_by u (asked (e ∷ es)) ≡ asked (entries_by u (e ∷ es))
-asked_more u e es true is rest = rw is (ap (λ (l : List Asked). asked_one e ∷ l) rest)
-asked_more u e es false is rest = rw is rest
 
 -- the user's steps of a journal are the steps of the user's entries
 pub asked_own : (u : ℕ) (log : List Entry) → asked_by u (asked log) ≡ asked (entries_by u log)
 asked_own u [] = refl
-asked_own u (e ∷ es) = asked_more u e es _ refl (asked_own u es)
-
-replies_more : (u : ℕ) (e : Entry) (es : List Entry) (b : Bool) → (e.uid == u) ≡ b → replies_to u (asked es) (map (λ (x : Entry). x.reply) es) ≡ map (λ (x : Entry). x.reply) (entries_by u es)
-    → replies_to u (asked (e ∷ es)) (map (λ (x : Entry). x.reply) (e ∷ es)) ≡ map (λ (x : Entry). x.reply) (entries_by u (e ∷ es))
-replies_more u e es true is rest = rw is (ap (λ (l : List Reply). e.reply ∷ l) rest)
-replies_more u e es false is rest = rw is rest
+asked_own u (e ∷ es) = grind (arith, asked_own u es)
 
 pub replies_own : (u : ℕ) (log : List Entry) → replies_to u (asked log) (map (λ (x : Entry). x.reply) log) ≡ map (λ (x : Entry). x.reply) (entries_by u log)
 replies_own u [] = refl
-replies_own u (e ∷ es) = replies_more u e es _ refl (replies_own u es)
+replies_own u (e ∷ es) = grind (arith, replies_own u es)
 
 pub own_entries : (m : Machine) (log : List Entry) → sound m ≡ true → Users (asked log) → IsLegal m log → OwnEntries m log
 own_entries m log is users legal u user =
@@ -43,8 +24,8 @@ own_entries m log is users legal u user =
     )
 
 -- a run of no scripts
-pub nothing_ran : (m : Machine) → sound m ≡ true → RanBy m [] [] m []
-nothing_ran m is = record {
+pub nothing_ran : {O : Type 0} (made_of : O → List Reply) (m : Machine) → sound m ≡ true → RanBy made_of m [] [] m []
+nothing_ran made_of m is = record {
   legal = record { replies_given = refl };
   host = refl;
   entries = λ k e lt. absurd (omega arith);

@@ -1,35 +1,18 @@
 -- What two runs of scripts give a user.
-use Rattle.std.proofs.Common.{◌≡◌, ℕ, ◌<◌, Bool, true, false, ◌==◌, if◌then◌else◌, List, [], ◌∷◌, length, map, filter, Some, Vec, Global, vec_len, slice_get, slice_index_or, sym, refl, ap, ap₂, ◌∙◌, subst, arith, All, eqb-true, eq-eqb, true≢false}
-use Rattle.std.specs.List.{AllByRecursion}
+use Rattle.std.proofs.Common.{◌≡◌, ℕ, ◌<◌, Bool, true, false, ◌==◌, if◌then◌else◌, List, [], ◌∷◌, length, map, filter, Some, Vec, Global, vec_len, slice_get, slice_index_or, sym, refl, ap, ap₂, ◌∙◌, subst, arith, All, eq-eqb}
+use Rattle.sessions.proofs.CommonNames.{AllByRecursion, nat_tests, recursion_from_All, PlainStep, Machine, is_memory, Asked, replies, last, View, view, with_view, alone}
+use Rattle.sessions.proofs.CommonNames.{users_are_apart_in_a_sound_host, Entry, asked, entry, entries_of, IsBelow, Transcript, made, Plays, AllPlay, entries_by, plain_script, whole}
 use Rattle.std.proofs.lemmas.Option.{slice_get-get_or, get_or_from_slice_get, slice_get_within}
-use Rattle.requests.specs.Plain.{PlainStep}
 use Rattle.requests.specs.declared.Reply.{Reply}
-use Rattle.requests.specs.Machine.{Machine}
-use Rattle.requests.specs.Memory.{is_memory}
-use Rattle.requests.specs.Run.{Asked, replies, last}
-use Rattle.requests.specs.View.{View, view, with_view, alone}
-use Rattle.requests.proofs.SoundHostIsApart.{users_are_apart_in_a_sound_host}
 use Rattle.visibility.proofs.ForeignLists.{alike_alone}
-use Rattle.host_lock.specs.declared.journal.Entry.{Entry}
-use Rattle.host_lock.specs.Journal.{asked, entry, entries_of}
-use Rattle.host_lock.specs.Sessions.{IsBelow}
-use Rattle.host_lock.specs.Rule.{Each}
-use Rattle.host_lock.proofs.Totals.{each_of}
 use Rattle.sessions.specs.declared.script.Script.{Script}
-use Rattle.sessions.specs.declared.script.Transcript.{Transcript}
-use Rattle.sessions.specs.Made.{made}
-use Rattle.sessions.specs.Runs.{Plays, AllPlay, entries_by, plain_script}
 use Rattle.sessions.specs.Schedules.{IsOnlyScript, IsAnswered, EverySchedule, AlikeJournals}
 
 -- The steps of one user's entries
 
 asked_mine : (u : ℕ) (log : List Entry) → AllByRecursion (λ (a : Asked). a.uid ≡ u) (asked (entries_by u log))
 asked_mine u [] = tt
-asked_mine u (e ∷ es) = by_test (e.uid == u) refl (asked_mine u es)
-  where
-    by_test : (b : Bool) → (e.uid == u) ≡ b → AllByRecursion (λ (a : Asked). a.uid ≡ u) (asked (entries_by u es)) → AllByRecursion (λ (a : Asked). a.uid ≡ u) (asked (entries_by u (e ∷ es)))
-    by_test true is rest = rw is (eqb-true e.uid u is, rest)
-    by_test false is rest = rw is rest
+asked_mine u (e ∷ es) = grind (arith, nat_tests, asked_mine u es)
 
 pub alike_journals : AlikeJournals
 alike_journals m n log journal u user is own theirs same alike =
@@ -50,25 +33,17 @@ same_kept p q [] e = refl
 same_kept p q (x ∷ xs) e = ap₂ (λ b rest. if b then x ∷ rest else rest) e.0 (same_kept p q xs e.1)
 
 -- the entries that pass a test are what P says, so each that passes is
-where_kept : {A : Type 0} (t : A → Bool) (P : A → Type 0) (xs : List A) → Each P (filter t xs) → Each (λ x. t x ≡ true → P x) xs
+where_kept : {A : Type 0} (t : A → Bool) (P : A → Type 0) (xs : List A) → AllByRecursion P (filter t xs) → AllByRecursion (λ x. t x ≡ true → P x) xs
 where_kept t P [] e = tt
-where_kept {A} t P (x ∷ xs) e = by_test (t x) refl (where_kept t P xs)
-  where
-    by_test : (b : Bool) → t x ≡ b → (Each P (filter t xs) → Each (λ y. t y ≡ true → P y) xs) → Each (λ y. t y ≡ true → P y) (x ∷ xs)
-    by_test true is rest = let kept : Each P (x ∷ filter t xs) = subst (λ b. Each P (if b then x ∷ filter t xs else filter t xs)) is e in (λ _. kept.0, rest kept.1)
-    by_test false is rest = let kept : Each P (filter t xs) = subst (λ b. Each P (if b then x ∷ filter t xs else filter t xs)) is e in (λ yes. absurd (true≢false (sym yes ∙ is)), rest kept)
+where_kept t P (x ∷ xs) e = (λ is. grind (arith, is, e), where_kept t P xs (grind (arith, e)))
 
-made_by : (u n : ℕ) (ss : List PlainStep) (rs : List Reply) → Each (λ (e : Entry). e.uid ≡ u) (made u n ss rs)
+pub made_by : (u n : ℕ) (ss : List PlainStep) (rs : List Reply) → AllByRecursion (λ (e : Entry). e.uid ≡ u) (made u n ss rs)
 made_by u n [] rs = tt
 made_by u n (s ∷ ss) [] = tt
-made_by u n (s ∷ ss) (r ∷ rs) = by_test (is_memory r) (made_by u n ss rs)
-  where
-    by_test : (b : Bool) → Each (λ (e : Entry). e.uid ≡ u) (made u n ss rs) → Each (λ (e : Entry). e.uid ≡ u) (if b then made u n ss rs else entry u n s r ∷ made u n ss rs)
-    by_test true rest = rest
-    by_test false rest = (refl, rest)
+made_by u n (s ∷ ss) (r ∷ rs) = grind (arith, made_by u n ss rs)
 
 -- the entries of answered steps have the steps and the replies
-made_all : (u n : ℕ) (ss : List PlainStep) (rs : List Reply) → length rs ≡ length ss → AllByRecursion (λ r. is_memory r ≡ false) rs
+pub made_all : (u n : ℕ) (ss : List PlainStep) (rs : List Reply) → length rs ≡ length ss → AllByRecursion (λ r. is_memory r ≡ false) rs
     → (asked (made u n ss rs) ≡ map (λ (s : PlainStep). record { uid = u; step = s }) ss) × (map (λ (e : Entry). e.reply) (made u n ss rs) ≡ rs)
 made_all u n [] [] len none = (refl, refl)
 made_all u n [] (r ∷ rs) len none = absurd (omega arith)
@@ -78,24 +53,19 @@ made_all u n (s ∷ ss) (r ∷ rs) len none =
     rw none.0 (ap (λ (xs : List Asked). record { uid = u; step = s } ∷ xs) rest.0, ap (λ (qs : List Reply). r ∷ qs) rest.1)
 
 same_tests : (u i : ℕ) (e : Entry) → (e.uid ≡ u → e.session ≡ i) → (e.session ≡ i → e.uid ≡ u) → (e.uid == u) ≡ (e.session == i)
-same_tests u i e there back = by_tests (e.uid == u) (e.session == i) refl refl
-  where
-    by_tests : (b c : Bool) → (e.uid == u) ≡ b → (e.session == i) ≡ c → (e.uid == u) ≡ (e.session == i)
-    by_tests true c is same = is ∙ sym (eq-eqb e.session i (there (eqb-true e.uid u is)))
-    by_tests false true is same = eq-eqb e.uid u (back (eqb-true e.session i same)) ∙ sym same
-    by_tests false false is same = is ∙ sym same
+same_tests u i e there back = grind (arith, nat_tests, there, back)
 
-module _ {F : Type 0} (scripts : List (Script F)) (log : List Entry) (ts : List Transcript) (plays : AllPlay plain_script log scripts ts) (u i : ℕ) (s : Script F) (t : Transcript) (only : IsOnlyScript u scripts i s) where
+module _ {F : Type 0} (scripts : List (Script F)) (log : List Entry) (ts : List (Transcript (Vec Reply Global))) (plays : AllPlay plain_script whole log scripts ts) (u i : ℕ) (s : Script F) (t : Transcript (Vec Reply Global)) (only : IsOnlyScript u scripts i s) where
   -- each entry is of its script's user
-  of_script : (k : ℕ) → k < length scripts → Each (λ (e : Entry). (e.session == k) ≡ true → e.uid ≡ (slice_index_or scripts k s).uid) log
+  of_script : (k : ℕ) → k < length scripts → AllByRecursion (λ (e : Entry). (e.session == k) ≡ true → e.uid ≡ (slice_index_or scripts k s).uid) log
   of_script k lt =
       let p = plays.1 k s t lt in
       let z = slice_index_or scripts k s in
       where_kept (λ (e : Entry). e.session == k) (λ (e : Entry). e.uid ≡ z.uid) log
-      (subst (Each (λ (e : Entry). e.uid ≡ z.uid)) (sym p.2) (made_by z.uid k z.steps.items (slice_index_or ts k t).replies.items))
+      (subst (AllByRecursion (λ (e : Entry). e.uid ≡ z.uid)) (sym p.2) (made_by z.uid k z.steps.items (slice_index_or ts k t).replies.items))
 
-  by_user : (es : List Entry) → Each (λ (e : Entry). e.session < length scripts) es
-      → ((k : ℕ) → k < length scripts → Each (λ (e : Entry). (e.session == k) ≡ true → e.uid ≡ (slice_index_or scripts k s).uid) es)
+  by_user : (es : List Entry) → AllByRecursion (λ (e : Entry). e.session < length scripts) es
+      → ((k : ℕ) → k < length scripts → AllByRecursion (λ (e : Entry). (e.session == k) ≡ true → e.uid ≡ (slice_index_or scripts k s).uid) es)
       → AllByRecursion (λ (e : Entry). (e.uid == u) ≡ (e.session == i)) es
   by_user [] below of = tt
   by_user (e ∷ es) below of =
@@ -108,11 +78,11 @@ module _ {F : Type 0} (scripts : List (Script F)) (log : List Entry) (ts : List 
       )
 
   -- the user's entries are those of the answered script
-  pub entries_are : Each (λ (e : Entry). e.session < length scripts) log → slice_get ts i ≡ Some t → IsAnswered t
+  pub entries_are : AllByRecursion (λ (e : Entry). e.session < length scripts) log → slice_get ts i ≡ Some t → IsAnswered t
       → (asked (entries_by u log) ≡ map (λ (x : PlainStep). record { uid = u; step = x }) s.steps.items) × (map (λ (e : Entry). e.reply) (entries_by u log) ≡ t.replies.items)
   entries_are below at answered =
       let lt : i < length scripts = slice_get_within scripts i s only.0 in
-      let p : Plays plain_script log i s t = subst (λ (x : Script F). Plays plain_script log i x t) (get_or_from_slice_get scripts i s s only.0) (subst (λ (x : Transcript). Plays plain_script log i (slice_index_or scripts i s) x) (get_or_from_slice_get ts i t t at) (plays.1 i s t lt)) in
+      let p : Plays plain_script whole log i s t = subst (λ (x : Script F). Plays plain_script whole log i x t) (get_or_from_slice_get scripts i s s only.0) (subst (λ (x : Transcript (Vec Reply Global)). Plays plain_script whole log i (slice_index_or scripts i s) x) (get_or_from_slice_get ts i t t at) (plays.1 i s t lt)) in
       let same : entries_by u log ≡ entries_of i log = same_kept (λ (e : Entry). e.uid == u) (λ (e : Entry). e.session == i) log (by_user log below of_script) in
       let is : entries_by u log ≡ made u i s.steps.items t.replies.items = same ∙ p.2 ∙ ap (λ (x : ℕ). made x i s.steps.items t.replies.items) only.1 in
       let all = made_all u i s.steps.items t.replies.items p.1 answered in
@@ -130,5 +100,5 @@ every_schedule F m n scripts others k l log journal ts ws a b u i j s z t w user
       ap (view u) a.host ∙ first.1 ∙ ap₂ (λ (xs : List Asked) (h : Machine). view u (last xs h)) asks from ∙ sym second.1 ∙ sym (ap (view u) b.host),
     )
   where
-    below : (ss : Vec (Script F) Global) (es : List Entry) → All (IsBelow (vec_len ss)) es → Each (λ (e : Entry). e.session < length ss.items) es
-    below ss es all = subst (λ (x : ℕ). Each (IsBelow x) es) ss.ok.0 (each_of (IsBelow (vec_len ss)) es all)
+    below : (ss : Vec (Script F) Global) (es : List Entry) → All (IsBelow (vec_len ss)) es → AllByRecursion (λ (e : Entry). e.session < length ss.items) es
+    below ss es all = subst (λ (x : ℕ). AllByRecursion (IsBelow x) es) ss.ok.0 (recursion_from_All (IsBelow (vec_len ss)) es all)

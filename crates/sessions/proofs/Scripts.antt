@@ -1,15 +1,7 @@
 -- A script, step by step.
-use Rattle.std.proofs.Common.{◌≡◌, ℕ, ◌+◌, Bool, true, false, cond, List, [], ◌∷◌, ◌++◌, length, reverse, sym, refl, ap, ◌∙◌, subst, arith, append_assoc, append-nil, length-append, MatchBool}
-use Rattle.std.proofs.lemmas.List.{reverse-append}
-use Rattle.requests.specs.Plain.{PlainStep}
+use Rattle.std.proofs.Common.{◌≡◌, ℕ, ◌+◌, Bool, true, false, cond, List, [], ◌∷◌, ◌++◌, length, reverse, sym, refl, ap, ◌∙◌, arith, append_assoc, append-nil, length-append, MatchBool}
+use Rattle.sessions.proofs.CommonNames.{reverse-append, PlainStep, is_memory, Entry, entry, made, Did, Pairs, StartsWith, SessionData, Makes, Calls}
 use Rattle.requests.specs.declared.Reply.{Reply}
-use Rattle.requests.specs.Memory.{is_memory}
-use Rattle.host_lock.specs.declared.journal.Entry.{Entry}
-use Rattle.host_lock.specs.Journal.{entry}
-use Rattle.sessions.specs.Made.{made, Did, Pairs}
-use Rattle.host_lock.specs.Journal.{StartsWith}
-use Rattle.host_lock.specs.Sessions.{SessionData, Makes}
-use Rattle.host_lock.specs.Answers.{Calls}
 use Rattle.host_lock.specs.declared.host.Answer.TheVariants.{Reply as Answered}
 
 abbrev pub one : ℕ → ℕ → PlainStep → Reply → List Entry
@@ -19,12 +11,7 @@ pub made_more : (u n : ℕ) (ss : List PlainStep) (rs : List Reply) (s : PlainSt
 made_more u n [] [] s r e = refl
 made_more u n [] (q ∷ rs) s r e = absurd (omega arith)
 made_more u n (t ∷ ss) [] s r e = absurd (omega arith)
-made_more u n (t ∷ ss) (q ∷ rs) s r e =
-    let rec = made_more u n ss rs s r (omega arith) in
-    elim (is_memory q) as (λ b. cond b (made u n (ss ++ s ∷ []) (rs ++ r ∷ [])) (entry u n t q ∷ made u n (ss ++ s ∷ []) (rs ++ r ∷ [])) ≡ cond b (made u n ss rs) (entry u n t q ∷ made u n ss rs) ++ one u n s r) [
-      | true ↦ rec
-      | false ↦ ap (λ l. entry u n t q ∷ l) rec
-    ]
+made_more u n (t ∷ ss) (q ∷ rs) s r e = grind (arith, e, made_more u n ss rs s r)
 
 -- the next step of a reversed list
 pub next_step : {A : Type 0} (all done rem rem' : List A) (s : A) → all ≡ done ++ reverse rem → rem ≡ rem' ++ s ∷ [] → all ≡ (done ++ s ∷ []) ++ reverse rem'
@@ -38,8 +25,7 @@ mine_more w w' s r false t = t.3
 pub did_more : (v w w' : SessionData) (done : List PlainStep) (s : PlainStep) (rs rs' : List Reply) (r : Reply) → Did v done rs w → Calls w s (Answered r) w' → rs' ≡ rs ++ r ∷ [] → Did v (done ++ s ∷ []) rs' w'
 did_more v w w' done s rs rs' r d c is =
     let goes = c.1.0 in
-    let P : List Reply → Type 0 = λ z. Did v (done ++ s ∷ []) z w' in
-    subst P (sym is) (
+    rw is (
       length-append rs (r ∷ []) ∙ ap (λ (k : ℕ). k + 1) d.0 ∙ sym (length-append done (s ∷ [])),
       goes.0 ∙ d.1,
       goes.1 ∙ d.2,
@@ -48,10 +34,6 @@ did_more v w w' done s rs rs' r d c is =
       goes.2 ∙ ap (λ (k : ℕ). k + 1) d.5 ∙ sym (length-append done (s ∷ [])),
       mine_more w w' s r (is_memory r) c.1.1 ∙ ap (λ (z : List Entry × ℕ × ℕ). z.0 ++ one z.1 z.2 s r) (λ i. (d.6 i, d.1 i, d.2 i)) ∙ sym (made_more v.uid v.number done rs s r d.0),
     )
-
-pub reverse_twice : {A : Type 0} (l : List A) → l ≡ reverse (reverse l)
-reverse_twice [] = refl
-reverse_twice (x ∷ xs) = ap (λ l. x ∷ l) (reverse_twice xs) ∙ sym (ap reverse (reverse-append (x ∷ []) xs) ∙ reverse-append (reverse xs) (x ∷ []))
 
 pub pairs_more : {A B : Type 0} (R : A → B → Type 0) (xs : List A) (ys : List B) (x : A) (y : B) → Pairs R xs ys → R x y → Pairs R (xs ++ x ∷ []) (ys ++ y ∷ [])
 pairs_more R [] [] x y p r = (r, tt)

@@ -16,15 +16,22 @@ SmallStep = Step (Box (List Rule))
 abbrev pub own_step : SmallStep → PlainStep
 own_step s = map_handler (λ handler. handler.value) s
 
-abbrev pub boxed_script : {F : Type 0} → BoxedScript F → ℕ × List PlainStep
+abbrev pub boxed_script : {F T : Type 0} → BoxedScript F T → ℕ × List PlainStep
 boxed_script s = (s.uid, map own_step s.steps.items)
 
-abbrev pub any_script : {F : Type 0} → AnyScript F → ℕ × List PlainStep
-any_script (InSteps s) = plain_script s
+abbrev pub any_script : {F T : Type 0} → AnyScript F T → ℕ × List PlainStep
+any_script (InSteps s r) = plain_script s
 any_script (OnHeap s) = boxed_script s
 
-abbrev pub uid_of : {F : Type 0} → BoxedScript F → ℕ
+abbrev pub report_of : {F T : Type 0} → BoxedScript F T → T
+report_of s = s.report
+
+abbrev pub any_report : {F T : Type 0} → AnyScript F T → T
+any_report (InSteps s r) = r
+any_report (OnHeap s) = report_of s
+
+abbrev pub uid_of : {F T : Type 0} → BoxedScript F T → ℕ
 uid_of s = s.uid
 
-abbrev pub steps_of : {F : Type 0} → BoxedScript F → Vec SmallStep Global
+abbrev pub steps_of : {F T : Type 0} → BoxedScript F T → Vec SmallStep Global
 steps_of s = s.steps

@@ -1,5 +1,6 @@
 -- A script that is ready to run, and its result.
 use Rattle.std.specs.Prelude.{◌≡◌, ℕ, ◌≤◌, List, [], map, Vec, vec_len, vec_capacity}
+use Rattle.requests.specs.declared.Reply.{Reply}
 use Rattle.host_lock.specs.Limits.{max_calls}
 use Rattle.host_lock.specs.Sessions.{SessionData, HostData, IsOf}
 use Rattle.sessions.specs.Boxed.{SmallStep, own_step}
@@ -14,25 +15,32 @@ abbrev pub HasRoomFor : {A : Type 0} → ℕ → Vec A Global → Type 0
 HasRoomFor n v = (v.items ≡ []) × (vec_len v ≡ 0) × (n ≤ vec_capacity v)
 
 -- there is room for the replies
-abbrev pub HasRoom : {F : Type 0} → Job F → Type 0
+abbrev pub HasRoom : {F T : Type 0} → Job F T → Type 0
 HasRoom j = HasRoomFor (vec_len j.steps) j.replies
 
 -- the session is of this host and has made no call, and its script is short enough
-abbrev pub IsReady : {F : Type 0} → HostData → Job F → Type 0
+abbrev pub IsReady : {F T : Type 0} → HostData → Job F T → Type 0
 IsReady h j = IsOf h j.session × (j.session.calls ≡ 0) × (j.session.mine ≡ []) × (vec_len j.steps ≤ max_calls) × HasRoom j
 
--- each job was done
-abbrev pub AllDone : {F : Type 0} → List (Job F) → List Done → Type 0
-AllDone js ds = Pairs (λ j d. Did j.session (map own_step j.steps.items) d.replies.items d.session) js ds
+-- the job was done, and its output was made of the replies as its report has it
+abbrev pub IsDone : {F T O : Type 0} → (O → List Reply) → (T → ℕ → O → Type 0) → Job F T → Done O → Type 0
+IsDone made_of tells j d = Did j.session (map own_step j.steps.items) (made_of d.output) d.session × tells j.report j.session.uid d.output
 
-abbrev pub job_session : {F : Type 0} → Job F → SessionData
+-- each job was done
+abbrev pub AllDone : {F T O : Type 0} → (O → List Reply) → (T → ℕ → O → Type 0) → List (Job F T) → List (Done O) → Type 0
+AllDone made_of tells js ds = Pairs (IsDone made_of tells) js ds
+
+abbrev pub job_session : {F T : Type 0} → Job F T → SessionData
 job_session j = j.session
 
-abbrev pub job_steps : {F : Type 0} → Job F → Vec SmallStep Global
+abbrev pub job_steps : {F T : Type 0} → Job F T → Vec SmallStep Global
 job_steps j = j.steps
 
-abbrev pub done_session : Done → SessionData
+abbrev pub job_report : {F T : Type 0} → Job F T → T
+job_report j = j.report
+
+abbrev pub done_session : {O : Type 0} → Done O → SessionData
 done_session d = d.session
 
-abbrev pub done_transcript : Done → Transcript
-done_transcript d = record { uid = d.session.uid; replies = d.replies }
+abbrev pub done_transcript : {O : Type 0} → Done O → Transcript O
+done_transcript d = record { uid = d.session.uid; replies = d.output }

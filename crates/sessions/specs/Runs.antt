@@ -1,9 +1,11 @@
 -- The result of a run of scripts.
-use Rattle.std.specs.Prelude.{◌≡◌, ℕ, ◌<◌, ◌≤◌, ◌==◌, List, map, filter, length, vec_len, slice_index_or}
+use Rattle.std.specs.Prelude.{◌≡◌, ℕ, ◌<◌, ◌≤◌, ◌==◌, List, map, filter, length, Vec, vec_len, slice_index_or}
+use Rattle.std.specs.Global.{Global}
 use Rattle.host_lock.specs.declared.journal.Entry.{Entry}
 use Rattle.pid_blocks.specs.Users.{IsUser}
 use Rattle.requests.specs.Machine.{Machine}
 use Rattle.requests.specs.Plain.{PlainStep}
+use Rattle.requests.specs.declared.Reply.{Reply}
 use Rattle.requests.specs.Run.{replies, last}
 use Rattle.requests.specs.View.{view, alone}
 use Rattle.host_lock.specs.Journal.{asked, replay, entries_of}
@@ -22,14 +24,24 @@ IsShort s = vec_len s.steps ≤ max_calls
 abbrev pub plain_script : {F : Type 0} → Script F → ℕ × List PlainStep
 plain_script s = (s.uid, s.steps.items)
 
+-- the replies themselves, where they are handed out
+abbrev pub whole : Vec Reply Global → List Reply
+whole replies = replies.items
+
 -- the transcript has one reply for each step of a script, in order, where `plain` gives its user and steps; the journal's entries of this number are the steps with their
 -- replies, except those with the reply ENOMEM
-abbrev pub Plays : {S : Type 0} → (S → ℕ × List PlainStep) → List Entry → ℕ → S → Transcript → Type 0
-Plays plain log k s t = (t.uid ≡ (plain s).0) × (length t.replies.items ≡ length (plain s).1) × (entries_of k log ≡ made (plain s).0 k (plain s).1 t.replies.items)
+abbrev pub Plays : {S O : Type 0} → (S → ℕ × List PlainStep) → (O → List Reply) → List Entry → ℕ → S → Transcript O → Type 0
+Plays plain made_of log k s t =
+    (t.uid ≡ (plain s).0) × (length (made_of t.replies) ≡ length (plain s).1) × (entries_of k log ≡ made (plain s).0 k (plain s).1 (made_of t.replies))
 
 -- one transcript for each script, in order
-abbrev pub AllPlay : {S : Type 0} → (S → ℕ × List PlainStep) → List Entry → List S → List Transcript → Type 0
-AllPlay {S} plain log ss ts = (length ts ≡ length ss) × ((k : ℕ) (s : S) (t : Transcript) → k < length ss → Plays plain log k (slice_index_or ss k s) (slice_index_or ts k t))
+abbrev pub AllPlay : {S O : Type 0} → (S → ℕ × List PlainStep) → (O → List Reply) → List Entry → List S → List (Transcript O) → Type 0
+AllPlay {S} {O} plain made_of log ss ts =
+    (length ts ≡ length ss) × ((k : ℕ) (s : S) (t : Transcript O) → k < length ss → Plays plain made_of log k (slice_index_or ss k s) (slice_index_or ts k t))
+
+-- each transcript was made as its script's report has it
+abbrev pub AllTell : {S O : Type 0} → (S → ℕ → O → Type 0) → List S → List (Transcript O) → Type 0
+AllTell {S} {O} tells ss ts = (k : ℕ) (s : S) (t : Transcript O) → k < length ss → tells (slice_index_or ss k s) (slice_index_or ts k t).uid (slice_index_or ts k t).replies
 
 -- the entries of a user
 abbrev pub entries_by : ℕ → List Entry → List Entry

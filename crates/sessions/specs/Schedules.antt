@@ -5,6 +5,7 @@ use Rattle.std.specs.List.{AllByRecursion}
 use Rattle.pid_blocks.specs.Users.{IsUser}
 use Rattle.requests.specs.Machine.{Machine}
 use Rattle.requests.specs.Memory.{is_memory}
+use Rattle.requests.specs.declared.Reply.{Reply}
 use Rattle.requests.specs.Sound.{sound}
 use Rattle.requests.specs.View.{view, alone}
 use Rattle.visibility.specs.ForeignLists.{AlikeLists}
@@ -13,14 +14,14 @@ use Rattle.host_lock.specs.Journal.{asked, IsLegal, replay}
 use Rattle.host_lock.specs.Sessions.{IsBelow}
 use Rattle.sessions.specs.declared.script.Script.{Script}
 use Rattle.sessions.specs.declared.script.Transcript.{Transcript}
-use Rattle.sessions.specs.Runs.{AllPlay, entries_by, plain_script, OwnEntries}
+use Rattle.sessions.specs.Runs.{AllPlay, entries_by, plain_script, whole, OwnEntries}
 
 -- what the clauses of `run_sessions` say of the host k, the journal and the transcripts of a run from the host m
-pub record IsRun {F : Type 0} (m : Machine) (scripts : Vec (Script F) Global) (k : Machine) (log : List Entry) (ts : List Transcript) : Type 0 where
+pub record IsRun {F : Type 0} (m : Machine) (scripts : Vec (Script F) Global) (k : Machine) (log : List Entry) (ts : List (Transcript (Vec Reply Global))) : Type 0 where
   pub legal : IsLegal m log
   pub host : k ≡ replay m log
   pub entries : All (IsBelow (vec_len scripts)) log
-  pub transcripts : AllPlay plain_script log scripts.items ts
+  pub transcripts : AllPlay plain_script whole log scripts.items ts
   pub own : OwnEntries m log
 
 -- the script s, in place i, is the only one of the user
@@ -28,15 +29,15 @@ abbrev pub IsOnlyScript : {F : Type 0} → ℕ → List (Script F) → ℕ → S
 IsOnlyScript {F} u ss i s = (slice_get ss i ≡ Some s) × (s.uid ≡ u) × ((j : ℕ) (z : Script F) → slice_get ss j ≡ Some z → z.uid ≡ u → j ≡ i)
 
 -- no reply is ENOMEM
-abbrev pub IsAnswered : Transcript → Type 0
+abbrev pub IsAnswered : Transcript (Vec Reply Global) → Type 0
 IsAnswered t = AllByRecursion (λ r. is_memory r ≡ false) t.replies.items
 
 -- two runs on hosts of which a user sees the same: if the user's only scripts in them have the same steps, and each of
 -- these is answered, then the replies are the same, and so is what the user sees at the end
 abbrev pub EverySchedule : Type 0 → Type 0
-EverySchedule F = (m n : Machine) (scripts others : Vec (Script F) Global) (k l : Machine) (log journal : List Entry) (ts ws : List Transcript)
+EverySchedule F = (m n : Machine) (scripts others : Vec (Script F) Global) (k l : Machine) (log journal : List Entry) (ts ws : List (Transcript (Vec Reply Global)))
     → IsRun m scripts k log ts → IsRun n others l journal ws
-    → (u i j : ℕ) (s z : Script F) (t w : Transcript) → IsUser u → view u m ≡ view u n
+    → (u i j : ℕ) (s z : Script F) (t w : Transcript (Vec Reply Global)) → IsUser u → view u m ≡ view u n
     → IsOnlyScript u scripts.items i s → IsOnlyScript u others.items j z → s.steps.items ≡ z.steps.items
     → slice_get ts i ≡ Some t → slice_get ws j ≡ Some w → IsAnswered t → IsAnswered w
     → (t.replies.items ≡ w.replies.items) × (view u k ≡ view u l)

@@ -4,9 +4,10 @@ ghost use Rattle.std.specs.Prelude.{◌≡◌, ℕ, List, length, map, vec_len, 
 ghost use Rattle.std.proofs.Common.{sym, ◌∙◌};
 ghost use Rattle.std.proofs.lemmas.List.{length-map};
 ghost use Rattle.requests.specs.Plain.{PlainStep};
-ghost use Rattle.sessions.specs.Boxed.{any_script, boxed_script, own_step};
+ghost use Rattle.sessions.specs.Boxed.{any_report, any_script, boxed_script, own_step, report_of};
 ghost use Rattle.sessions.specs.Runs.{plain_script};
 
+use crate::report::{Report, Whole};
 use crate::script::Script;
 use pid_blocks::Uid;
 use requests::Step;
@@ -16,55 +17,71 @@ use stop_handlers::{Decider, Handler};
 /// A step with its handler on the heap. It takes about a fifth of the memory.
 pub type BoxedStep<F> = Step<Box<Handler<F>>>;
 
-/// The steps of one user, in order, with their handlers on the heap.
+/// The steps of one user, in order, with their handlers on the heap, and what is made of the replies.
 #[derive(Drop)]
-pub struct BoxedScript<F: Decider + Send + Drop> {
+pub struct BoxedScript<F: Decider + Send + Drop, T: Drop = Whole> {
     pub uid: Uid,
     pub steps: Vec<BoxedStep<F>>,
+    pub report: T,
 }
 
-/// A script of either kind.
+/// A script of either kind, and what is made of the replies.
 #[derive(Drop)]
-pub enum AnyScript<F: Decider + Send + Drop> {
+pub enum AnyScript<F: Decider + Send + Drop, T: Drop = Whole> {
     /// Its handlers are in the steps.
-    InSteps(Script<F>),
+    InSteps(Script<F>, T),
     /// Its handlers are on the heap.
-    OnHeap(BoxedScript<F>),
+    OnHeap(BoxedScript<F, T>),
 }
 
 /// A script with its handlers in the steps or on the heap.
 pub trait Scripted<F: Decider + Send + Drop>: Sized + Drop {
+    /// What is made of the replies.
+    type Report: Report;
+
     /// The user and the steps, in order.
     ghost plain: { Self → ℕ × List PlainStep };
 
     /// How many steps there are.
     ghost count: { Self → ℕ };
 
+    /// What is made of the replies.
+    ghost report: { Self → Self.Report };
+
     /// Returns the script, with its kind.
-    fn any(self) -> AnyScript<F>
-        ensures { any_script result ≡ plain self };
+    fn any(self) -> AnyScript<F, Self::Report>
+        ensures script { any_script result ≡ plain self }
+        ensures report { any_report result ≡ report self };
 
     ghost counts: { (s : Self) → count s ≡ length (plain s).1 };
 }
 
 impl<F: Decider + Send + Drop> Scripted<F> for Script<F> {
+    type Report = Whole;
+
     ghost plain = { plain_script };
 
     ghost count = { λ s. vec_len s.steps };
 
+    ghost report = { λ _. record {} };
+
     fn any(self) -> AnyScript<F> {
-        AnyScript::InSteps(self)
+        AnyScript::InSteps(self, Whole)
     }
 
     ghost counts = { λ s. s.steps.ok.0 };
 }
 
-impl<F: Decider + Send + Drop> Scripted<F> for BoxedScript<F> {
+impl<F: Decider + Send + Drop, T: Report> Scripted<F> for BoxedScript<F, T> {
+    type Report = T;
+
     ghost plain = { boxed_script };
 
     ghost count = { λ s. vec_len s.steps };
 
-    fn any(self) -> AnyScript<F> {
+    ghost report = { report_of };
+
+    fn any(self) -> AnyScript<F, T> {
         AnyScript::OnHeap(self)
     }
 
@@ -101,29 +118,34 @@ pub(crate) fn unboxed<F: Decider + Send + Drop>(boxed: BoxedStep<F>) -> Step<Han
 }
 
 /// Moves the handlers of the script to the heap. An error means out of memory.
-fn boxed_one<F: Decider + Send + Drop>(
+fn boxed_one<F: Decider + Send + Drop, T: Report>(
     alloc: Global,
     script: Script<F>,
-) -> Result<BoxedScript<F>, AllocError>
-    ensures { IfOk result (λ s. boxed_script s ≡ plain_script script) }
+    report: T,
+) -> Result<BoxedScript<F, T>, AllocError>
+    ensures { IfOk result (λ s. (boxed_script s ≡ plain_script script) × (s.report ≡ report)) }
 {
     let Script { uid, steps } = script;
     let mut small = Vec::with_capacity(alloc, steps.len())?;
     for step in steps {
         small.push(boxed(alloc, step)?)?;
     }
-    Ok(BoxedScript { uid, steps: small })
+    Ok(BoxedScript {
+        uid,
+        steps: small,
+        report,
+    })
 }
 
 /// Moves the handlers of the script to the heap, if they are in its steps. An error means out of memory.
-fn boxed_any<F: Decider + Send + Drop>(
+fn boxed_any<F: Decider + Send + Drop, T: Report>(
     alloc: Global,
-    script: AnyScript<F>,
-) -> Result<BoxedScript<F>, AllocError>
-    ensures { IfOk result (λ s. boxed_script s ≡ any_script script) }
+    script: AnyScript<F, T>,
+) -> Result<BoxedScript<F, T>, AllocError>
+    ensures { IfOk result (λ s. (boxed_script s ≡ any_script script) × (report_of s ≡ any_report script)) }
 {
     match script {
-        AnyScript::InSteps(script) => boxed_one(alloc, script),
+        AnyScript::InSteps(script, report) => boxed_one(alloc, script, report),
         AnyScript::OnHeap(script) => Ok(script),
     }
 }
@@ -132,8 +154,9 @@ fn boxed_any<F: Decider + Send + Drop>(
 pub(crate) fn boxed_scripts<F: Decider + Send + Drop, S: Scripted<F>>(
     alloc: Global,
     scripts: Vec<S>,
-) -> Result<Vec<BoxedScript<F>>, AllocError>
-    ensures { IfOk result (λ v. map boxed_script v.items ≡ map S.plain scripts.items) }
+) -> Result<Vec<BoxedScript<F, S::Report>>, AllocError>
+    ensures scripts { IfOk result (λ v. map boxed_script v.items ≡ map S.plain scripts.items) }
+    ensures reports { IfOk result (λ v. map report_of v.items ≡ map S.report scripts.items) }
 {
     let mut small = Vec::with_capacity(alloc, scripts.len())?;
     for script in scripts {

@@ -5,45 +5,50 @@ ghost use Rattle.sessions.specs.Boxed.{own_step};
 ghost use Rattle.sessions.specs.Made.{Did};
 
 use crate::boxing::BoxedStep;
+use crate::report::Report;
 use host_lock::Session;
 use requests::Reply;
 use std::snapshot::Snapshot;
 use std::thread::Promise;
 use stop_handlers::Decider;
 
-/// A session with its script, and room for the replies.
+/// A session with its script, room for the replies, and what is made of them.
 #[derive(Drop)]
-pub struct Job<F: Decider + Send + Drop> {
+pub struct Job<F: Decider + Send + Drop, T: Drop> {
     pub session: Session,
     pub steps: Vec<BoxedStep<F>>,
     pub replies: Vec<Reply>,
+    pub report: T,
 }
 
-/// A session after its script, with the replies.
+/// A session after its script, with what was made of the replies.
 #[derive(Drop)]
-pub struct Done {
+pub struct Done<O: Drop> {
     pub session: Session,
-    pub replies: Vec<Reply>,
+    pub output: O,
 }
 
-/// A worker's promise: to make these steps by this session.
+/// A worker's promise: to make these steps by this session, and this report of the replies.
 #[derive(Drop)]
-pub struct Plan<F: Decider + Send + Drop> {
+pub struct Plan<F: Decider + Send + Drop, T: Drop> {
     pub(crate) session: Snapshot<Session>,
     pub(crate) steps: Snapshot<Vec<BoxedStep<F>>>,
+    pub(crate) report: Snapshot<T>,
 }
 
-impl<F: Decider + Send + Drop> Plan<F> {
-    pub(crate) fn of(session: &Session, steps: &Vec<BoxedStep<F>>) -> Plan<F>
-        ensures { (result.session.value ≡ session.now) × (result.steps.value ≡ steps.now) }
+impl<F: Decider + Send + Drop, T: Drop> Plan<F, T> {
+    pub(crate) fn of(session: &Session, steps: &Vec<BoxedStep<F>>, report: &T) -> Plan<F, T>
+        ensures { (result.session.value ≡ session.now) × (result.steps.value ≡ steps.now) × (result.report.value ≡ report.now) }
     {
         Plan {
             session: Snapshot::of(session),
             steps: Snapshot::of(steps),
+            report: Snapshot::of(report),
         }
     }
 }
 
-impl<F: Decider + Send + Drop> Promise<Done> for Plan<F> {
-    ghost kept_by = { λ p r. Did p.session.value (map own_step p.steps.value.items) r.replies.items r.session };
+impl<F: Decider + Send + Drop, T: Report> Promise<Done<T::Output>> for Plan<F, T> {
+    ghost kept_by = { λ p r. Did p.session.value (map own_step p.steps.value.items) (T.made_of r.output) r.session
+        × T.tells p.report.value p.session.value.uid r.output };
 }

@@ -6,6 +6,7 @@ mod job;
 mod kept;
 pub mod laws;
 mod ready;
+mod report;
 mod run;
 mod script;
 mod worker;
@@ -13,5 +14,6 @@ mod workers;
 
 pub use boxing::{AnyScript, BoxedScript, BoxedStep, Scripted, boxed};
 pub use kept::Kept;
+pub use report::{Report, Whole};
 pub use run::run_sessions;
 pub use script::{Gate, RunRefusal, Script, Transcript};

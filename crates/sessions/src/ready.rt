@@ -4,11 +4,12 @@ ghost use Rattle.std.specs.Prelude.{◌≡◌, ◌<◌, ◌≤◌, length, map, 
 ghost use Rattle.host_lock.specs.Limits.{max_sessions};
 ghost use Rattle.host_lock.specs.Rule.{Each};
 ghost use Rattle.host_lock.specs.Sessions.{IsOpenable, new_sessions};
-ghost use Rattle.sessions.specs.Jobs.{HasRoom, HasRoomFor, job_session, job_steps};
-ghost use Rattle.sessions.specs.Boxed.{uid_of, steps_of};
+ghost use Rattle.sessions.specs.Jobs.{HasRoom, HasRoomFor, job_report, job_session, job_steps};
+ghost use Rattle.sessions.specs.Boxed.{report_of, uid_of, steps_of};
 
 use crate::boxing::BoxedScript;
 use crate::job::{Done, Job};
+use crate::report::Report;
 use crate::script::Transcript;
 use crate::worker::reversed;
 use host_lock::{CallLog, Session, SharedHost};
@@ -19,11 +20,11 @@ use stop_handlers::Decider;
 
 /// The scripts' users, and room for the workers' results.
 #[derive(Drop)]
-pub(crate) struct Room {
+pub(crate) struct Room<O: Drop> {
     pub uids: Vec<Uid>,
-    pub done: Vec<Done>,
+    pub done: Vec<Done<O>>,
     pub sessions: Vec<Session>,
-    pub transcripts: Vec<Transcript>,
+    pub transcripts: Vec<Transcript<O>>,
 }
 
 /// An open host, and its sessions.
@@ -33,22 +34,23 @@ struct Opened<F: Decider + Send + Drop, J: CallLog + Send + Drop> {
 }
 
 /// An open host, a job for each script, and room for the results.
-pub(crate) struct Ready<F: Decider + Send + Drop, J: CallLog + Send + Drop> {
+pub(crate) struct Ready<F: Decider + Send + Drop, J: CallLog + Send + Drop, T: Drop, O: Drop> {
     pub host: SharedHost<F, J>,
-    pub jobs: Vec<Job<F>>,
-    pub room: Room,
+    pub jobs: Vec<Job<F, T>>,
+    pub room: Room<O>,
 }
 
 /// Opens the host, and allocates all memory that the run itself needs. An error means out of memory.
-pub(crate) fn prepare<F: Decider + Send + Drop, J: CallLog + Send + Drop>(
+pub(crate) fn prepare<F: Decider + Send + Drop, J: CallLog + Send + Drop, T: Report>(
     alloc: Global,
     host: Host<F>,
-    scripts: Vec<BoxedScript<F>>,
-) -> Result<Ready<F, J>, AllocError>
+    scripts: Vec<BoxedScript<F, T>>,
+) -> Result<Ready<F, J, T, T::Output>, AllocError>
     requires some_script { (0 < vec_len scripts) × (vec_len scripts ≤ max_sessions) }
     ensures host { IfOk result (λ r. (r.host.start ≡ host) × (r.host.sessions ≡ vec_len scripts)) }
     ensures sessions { IfOk result (λ r. map job_session r.jobs.items ≡ new_sessions 0 r.host.id host (map uid_of scripts.items)) }
     ensures steps { IfOk result (λ r. map job_steps r.jobs.items ≡ map steps_of scripts.items) }
+    ensures reports { IfOk result (λ r. map job_report r.jobs.items ≡ map report_of scripts.items) }
     ensures jobs { IfOk result (λ r. Each HasRoom r.jobs.items) }
     ensures done { IfOk result (λ r. HasRoomFor (vec_len scripts) r.room.done) }
     ensures sessions_room { IfOk result (λ r. HasRoomFor (vec_len scripts) r.room.sessions) }
@@ -63,10 +65,10 @@ pub(crate) fn prepare<F: Decider + Send + Drop, J: CallLog + Send + Drop>(
 }
 
 /// Allocates room for the results of the scripts. An error means out of memory.
-fn room_for<F: Decider + Send + Drop>(
+fn room_for<F: Decider + Send + Drop, T: Report>(
     alloc: Global,
-    scripts: &[BoxedScript<F>],
-) -> Result<Room, AllocError>
+    scripts: &[BoxedScript<F, T>],
+) -> Result<Room<T::Output>, AllocError>
     ensures uids { IfOk result (λ r. r.uids.items ≡ map uid_of scripts.now) }
     ensures done { IfOk result (λ r. HasRoomFor (length scripts.now) r.done) }
     ensures sessions { IfOk result (λ r. HasRoomFor (length scripts.now) r.sessions) }
@@ -85,7 +87,7 @@ fn room_for<F: Decider + Send + Drop>(
 }
 
 /// Returns how many calls the scripts make.
-fn calls_in<F: Decider + Send + Drop>(scripts: &[BoxedScript<F>]) -> usize {
+fn calls_in<F: Decider + Send + Drop, T: Report>(scripts: &[BoxedScript<F, T>]) -> usize {
     let mut calls = 0usize;
     for script in scripts {
         calls = calls.saturating_add(script.steps.len());
@@ -110,9 +112,9 @@ fn open_for<F: Decider + Send + Drop, J: CallLog + Send + Drop>(
     }
 }
 
-fn uids_of<F: Decider + Send + Drop>(
+fn uids_of<F: Decider + Send + Drop, T: Report>(
     alloc: Global,
-    scripts: &[BoxedScript<F>],
+    scripts: &[BoxedScript<F, T>],
 ) -> Result<Vec<Uid>, AllocError>
     ensures { IfOk result (λ v. v.items ≡ map uid_of scripts.now) }
 {
@@ -124,14 +126,15 @@ fn uids_of<F: Decider + Send + Drop>(
 }
 
 /// Pairs each session with its script and with room for the replies.
-fn pair<F: Decider + Send + Drop>(
+fn pair<F: Decider + Send + Drop, T: Report>(
     alloc: Global,
     sessions: Vec<Session>,
-    scripts: Vec<BoxedScript<F>>,
-) -> Result<Vec<Job<F>>, AllocError>
+    scripts: Vec<BoxedScript<F, T>>,
+) -> Result<Vec<Job<F, T>>, AllocError>
     requires { length sessions.items ≡ length scripts.items }
     ensures sessions { IfOk result (λ v. map job_session v.items ≡ sessions.items) }
     ensures steps { IfOk result (λ v. map job_steps v.items ≡ map steps_of scripts.items) }
+    ensures reports { IfOk result (λ v. map job_report v.items ≡ map report_of scripts.items) }
     ensures jobs { IfOk result (λ v. Each HasRoom v.items) }
 {
     let mut jobs = Vec::with_capacity(alloc, scripts.len())?;
@@ -146,18 +149,23 @@ fn pair<F: Decider + Send + Drop>(
     Ok(jobs)
 }
 
-fn job<F: Decider + Send + Drop>(
+fn job<F: Decider + Send + Drop, T: Report>(
     alloc: Global,
     session: Session,
-    script: BoxedScript<F>,
-) -> Result<Job<F>, AllocError>
-    ensures { IfOk result (λ j. (j.session ≡ session) × (j.steps ≡ script.steps) × HasRoom j) }
+    script: BoxedScript<F, T>,
+) -> Result<Job<F, T>, AllocError>
+    ensures { IfOk result (λ j. (j.session ≡ session) × (j.steps ≡ script.steps) × (j.report ≡ script.report) × HasRoom j) }
 {
-    let BoxedScript { uid: _, steps } = script;
+    let BoxedScript {
+        uid: _,
+        steps,
+        report,
+    } = script;
     let replies = Vec::with_capacity(alloc, steps.len())?;
     Ok(Job {
         session,
         steps,
         replies,
+        report,
     })
 }

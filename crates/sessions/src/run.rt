@@ -3,15 +3,16 @@ ghost use Rattle.std.specs.Prelude.{◌≡◌, ◌<◌, ◌≤◌, [], map, vec_
 ghost use Rattle.host_lock.specs.Journal.{IsLegal, replay};
 ghost use Rattle.host_lock.specs.Limits.{max_calls, max_sessions};
 ghost use Rattle.host_lock.specs.Sessions.{IsBelow};
-ghost use Rattle.sessions.specs.Boxed.{boxed_script};
+ghost use Rattle.sessions.specs.Boxed.{boxed_script, report_of};
 ghost use Rattle.sessions.specs.Jobs.{HasRoomFor, done_session, done_transcript};
-ghost use Rattle.sessions.specs.Runs.{AllPlay, OwnEntries, RefusesFor};
+ghost use Rattle.sessions.specs.Runs.{AllPlay, AllTell, OwnEntries, RefusesFor};
 ghost use Rattle.sessions.specs.PlainRuns.{AreFew, RanBy};
 
 use crate::boxing::{BoxedScript, Scripted, boxed_scripts};
 use crate::job::Done;
 use crate::kept::Kept;
 use crate::ready::{Ready, Room, prepare};
+use crate::report::Report;
 use crate::script::{Gate, RunRefusal, Transcript};
 use crate::worker::reversed;
 use crate::workers::run_all;
@@ -44,12 +45,13 @@ pub fn run_sessions<
     host: Host<F>,
     scripts: Vec<S>,
     gate: &G,
-) -> Result<(Host<F>, K, Vec<Transcript>), RunRefusal>
+) -> Result<(Host<F>, K, Vec<Transcript<<S::Report as Report>::Output>>), RunRefusal>
     requires { All (λ s. S.count s ≤ max_calls) scripts.items }
     ensures legal { IfOk result (λ r. IsLegal host (K.calls r.1)) }
     ensures host { IfOk result (λ r. r.0 ≡ replay host (K.calls r.1)) }
     ensures entries { IfOk result (λ r. All (IsBelow (vec_len scripts)) (K.calls r.1)) }
-    ensures transcripts { IfOk result (λ r. AllPlay S.plain (K.calls r.1) scripts.items r.2.items) }
+    ensures transcripts { IfOk result (λ r. AllPlay S.plain S.Report.made_of (K.calls r.1) scripts.items r.2.items) }
+    ensures reports { IfOk result (λ r. AllTell (λ s. S.Report.tells (S.report s)) scripts.items r.2.items) }
     ensures own { IfOk result (λ r. OwnEntries host (K.calls r.1)) }
     ensures none { IfOk result (λ r. vec_len scripts ≡ 0 → (r.0 ≡ host) × (K.calls r.1 ≡ [])) }
     ensures few { OnOk result (vec_len scripts ≤ max_sessions) }
@@ -66,7 +68,9 @@ pub fn run_sessions<
     let Ok(scripts) = boxed_scripts(alloc, scripts) else {
         return Err(RunRefusal::Memory);
     };
-    let left: Left<F, K::Log> = play(rt, alloc, host, scripts, gate)?;
+    let left: Left<F, K::Log, <S::Report as Report>::Output> = play(
+        rt, alloc, host, scripts, gate,
+    )?;
     let Left {
         host,
         log,
@@ -77,23 +81,30 @@ pub fn run_sessions<
 }
 
 /// What is left at the end of a run.
-struct Left<F: Decider + Send + Drop, J: CallLog + Send + Drop> {
+struct Left<F: Decider + Send + Drop, J: CallLog + Send + Drop, O: Drop> {
     host: Host<F>,
     log: J,
-    transcripts: Vec<Transcript>,
+    transcripts: Vec<Transcript<O>>,
 }
 
 /// Opens the host, runs the scripts, and closes it.
-fn play<F: Decider + Send + Drop, J: CallLog + Send + Drop, G: Gate, R: Threads + Wait + Sync>(
+fn play<
+    F: Decider + Send + Drop,
+    J: CallLog + Send + Drop,
+    T: Report,
+    G: Gate,
+    R: Threads + Wait + Sync,
+>(
     rt: &R,
     alloc: Global,
     host: Host<F>,
-    scripts: Vec<BoxedScript<F>>,
+    scripts: Vec<BoxedScript<F, T>>,
     gate: &G,
-) -> Result<Left<F, J>, RunRefusal>
+) -> Result<Left<F, J, T::Output>, RunRefusal>
     requires count { (0 < vec_len scripts) × (vec_len scripts ≤ max_sessions) }
     requires short { All AreFew (map boxed_script scripts.items) }
-    ensures ran { IfOk result (λ r. RanBy host (map boxed_script scripts.items) (J.entries r.log) r.host r.transcripts.items) }
+    ensures ran { IfOk result (λ r. RanBy T.made_of host (map boxed_script scripts.items) (J.entries r.log) r.host r.transcripts.items) }
+    ensures reports { IfOk result (λ r. AllTell T.tells (map report_of scripts.items) r.transcripts.items) }
     ensures refuses { IfErr result (RefusesFor (vec_len scripts)) }
 {
     host.kept();
@@ -122,11 +133,11 @@ fn play<F: Decider + Send + Drop, J: CallLog + Send + Drop, G: Gate, R: Threads 
 }
 
 /// Splits the results into sessions and transcripts.
-fn part(
-    done: Vec<Done>,
+fn part<O: Drop>(
+    done: Vec<Done<O>>,
     mut sessions: Vec<Session>,
-    mut transcripts: Vec<Transcript>,
-) -> (Vec<Session>, Vec<Transcript>)
+    mut transcripts: Vec<Transcript<O>>,
+) -> (Vec<Session>, Vec<Transcript<O>>)
     requires sessions { HasRoomFor (vec_len done) sessions }
     requires transcripts { HasRoomFor (vec_len done) transcripts }
     ensures sessions { result.0.items ≡ map done_session done.items }
@@ -134,10 +145,10 @@ fn part(
 {
     let mut done = reversed(done);
     while let Some(one) = done.pop() {
-        let Done { session, replies } = one;
+        let Done { session, output } = one;
         transcripts.push_reserved(Transcript {
             uid: session.uid(),
-            replies,
+            replies: output,
         });
         sessions.push_reserved(session);
     }

@@ -11,11 +11,11 @@ pub struct Script<F: Decider + Send + Drop> {
     pub steps: Vec<Step<Handler<F>>>,
 }
 
-/// The replies to a script, one for each step.
+/// The replies to a script, one for each step, or what was made of them.
 #[derive(Debug, Drop)]
-pub struct Transcript {
+pub struct Transcript<T: Drop = Vec<Reply>> {
     pub uid: Uid,
-    pub replies: Vec<Reply>,
+    pub replies: T,
 }
 
 /// The reason why scripts did not run, or not to their end. The host is dropped.
@@ -36,4 +36,9 @@ pub trait Gate: Sync {
 
     /// The call was answered.
     fn after(&self, user: Uid, index: u32);
+
+    /// Returns whether the gate may wait for another session. If not, each session makes many calls in a row.
+    fn may_wait(&self) -> bool {
+        true
+    }
 }

@@ -1,6 +1,6 @@
 //! One worker.
 
-ghost use Rattle.std.specs.Prelude.{◌≡◌, ◌≤◌, [], map, reverse, vec_len};
+ghost use Rattle.std.specs.Prelude.{◌≡◌, ◌≤◌, [], length, map, reverse, vec_len};
 ghost use Rattle.host_lock.specs.Limits.{max_calls};
 ghost use Rattle.host_lock.specs.Sessions.{IsOf};
 ghost use Rattle.sessions.specs.Boxed.{own_step};
@@ -9,6 +9,7 @@ ghost use Rattle.sessions.specs.Made.{Did};
 
 use crate::boxing::{BoxedStep, unboxed};
 use crate::job::Done;
+use crate::report::Report;
 use crate::script::Gate;
 use host_lock::{Answer, CallLog, Session, SharedHost};
 use requests::Reply;
@@ -16,23 +17,40 @@ use std::alloc::Global;
 use std::sync::Wait;
 use stop_handlers::Decider;
 
-/// Makes the steps of a script in order. `replies` has room for their replies.
-pub(crate) fn work<F: Decider + Send + Drop, J: CallLog + Send + Drop, G: Gate, R: Wait>(
+/// Announces the calls for these steps, if the gate never waits.
+fn announce<F: Decider + Send + Drop, G: Gate>(
+    session: &mut Session,
+    steps: &[BoxedStep<F>],
+    gate: &G,
+)
+    requires { length steps.now ≤ max_calls }
+    ensures { session.new ≡ session.old }
+{
+    if !gate.may_wait() {
+        session.announce(steps.len() as u32);
+    }
+}
+
+/// Makes the steps of a script in order, and then the report of the replies. `replies` has room for these.
+pub(crate) fn work<F: Decider + Send + Drop, J: CallLog + Send + Drop, T: Report, G: Gate, R: Wait>(
     rt: &R,
     alloc: Global,
     host: &SharedHost<F, J>,
     mut session: Session,
     steps: Vec<BoxedStep<F>>,
     mut replies: Vec<Reply>,
+    report: T,
     gate: &G,
-) -> Done
+) -> Done<T::Output>
     requires of { IsOf host.now session }
     requires fresh { (session.calls ≡ 0) × (session.mine ≡ []) }
     requires few { vec_len steps ≤ max_calls }
     requires room { HasRoomFor (vec_len steps) replies }
-    ensures { Did session (map own_step steps.items) result.replies.items result.session }
+    ensures did { Did session (map own_step steps.items) (T.made_of result.output) result.session }
+    ensures tells { T.tells report session.uid result.output }
 {
     let uid = session.uid();
+    announce(&mut session, steps.as_slice(), gate);
     for step in steps {
         let index = session.calls_made() + 1;
         gate.before(uid, index);
@@ -43,7 +61,8 @@ pub(crate) fn work<F: Decider + Send + Drop, J: CallLog + Send + Drop, G: Gate, 
         replies.push_reserved(reply);
         gate.after(uid, index);
     }
-    Done { session, replies }
+    let output = report.report(alloc, uid, replies);
+    Done { session, output }
 }
 
 /// Returns the items in reverse order.

@@ -1,14 +1,10 @@
 -- One text written after another.
-use Rattle.std.specs.Prelude.{⊤}
+use Rattle.threaded_runs.proofs.CommonNames.{⊤, take-append-drop, Appends, Writes, Front, appends_more}
 use Rattle.std.proofs.Common.{◌≡◌, ℕ, List, [], ◌++◌, length, take, drop, Option, Result, Ok, Err, sym, ap, subst, ◌∙◌, append_assoc, append-nil}
-use Rattle.std.proofs.lemmas.List.{take-append-drop}
 use Rattle.std.proofs.Math.Seq.{take-append_seam}
 use Rattle.std.specs.Result.{IsErrAnd}
-use Rattle.std.specs.Io.KnownBytes.{Appends}
 use Rattle.scenario.specs.declared.running.RunFault.{RunFault}
 use Rattle.scenario.specs.declared.running.RunFault.TheVariants.{Write}
-use Rattle.scenario.specs.Runs.{Writes}
-use Rattle.scenario.proofs.WriteLemmas.{Front, appends_more}
 
 module _ (a b c : Option (List ℕ)) where
   -- one more text was written

@@ -1,3 +1,4 @@
+pub mod CommonNames
 pub mod FrontLemmas
 pub mod GroupLemmas
 pub mod ScriptLemmas

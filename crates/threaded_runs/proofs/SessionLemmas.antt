@@ -1,28 +1,16 @@
 -- Each transcript of a run by sessions has the machine's answers to its user.
-use Rattle.std.proofs.Common.{◌≡◌, ℕ, suc, ◌<◌, ◌==◌, Bool, true, false, cond, if◌then◌else◌, List, [], ◌∷◌, length, get_or, map, refl, sym, subst, ap, ap₂, ◌∙◌, eqb-true, arith}
-use Rattle.std.specs.List.{AllByRecursion}
-use Rattle.std.proofs.lemmas.Bool.{eq-eqb}
-use Rattle.std.proofs.lemmas.List.{get_or-map}
-use Rattle.std.proofs.lemmas.List.Elements.{All-from_recursion}
-use Rattle.requests.specs.Plain.{PlainStep}
-use Rattle.requests.specs.declared.Reply.{Reply}
-use Rattle.requests.specs.Isolation.{Users, replies_to}
-use Rattle.requests.specs.Machine.{empty}
+use Rattle.std.proofs.Common.{◌≡◌, ℕ, suc, ◌<◌, ◌==◌, false, List, [], ◌∷◌, length, get_or, map, refl, sym, subst, ap, ap₂, ◌∙◌, arith}
+use Rattle.threaded_runs.proofs.CommonNames.{AllByRecursion, nat_tests, get_or-map, All-from_recursion, PlainStep, Reply, Users, empty, Asked, asked_by, replies}
+use Rattle.threaded_runs.proofs.CommonNames.{alone, Entry, entries_by, OwnEntries, Plan, answers_by, answers_by_scripts, scripts_in, told_to, All-both}
+use Rattle.requests.specs.Isolation.{replies_to}
 use Rattle.requests.specs.Memory.{is_memory}
-use Rattle.requests.specs.Run.{Asked, asked_by, replies}
-use Rattle.requests.specs.View.{alone}
 use Rattle.row_isolation.proofs.FilteredLists.{filter_same}
-use Rattle.host_lock.specs.declared.journal.Entry.{Entry}
-use Rattle.host_lock.specs.Journal.{entry, asked, entries_of}
+use Rattle.host_lock.specs.Journal.{asked, entries_of}
 use Rattle.sessions.specs.Made.{made}
-use Rattle.sessions.specs.Runs.{entries_by, OwnEntries}
-use Rattle.scenario_text.specs.Plan.{Plan}
+use Rattle.sessions.proofs.Schedules.{made_all, made_by}
 use Rattle.scenario.specs.Runs.{answers_of}
-use Rattle.threaded_runs.specs.Grouped.{answers_by}
-use Rattle.threaded_runs.specs.Scripts.{answers_by_scripts, scripts_in}
-use Rattle.threaded_runs.proofs.GroupLemmas.{told_to, own_answers, alone_answers}
+use Rattle.threaded_runs.proofs.GroupLemmas.{own_answers, alone_answers}
 use Rattle.threaded_runs.proofs.ScriptLemmas.{IsScript, RisingFrom, are_scripts, one_script, rising_scripts, user_at}
-use Rattle.trace_stop.proofs.Every.{All-both}
 
 -- what the k-th script's replies say of the journal
 abbrev pub IsPlayed : List Entry → ℕ → ℕ × List PlainStep → ℕ × List Reply → Type 0
@@ -34,76 +22,28 @@ ArePlayed log ss ts = (k : ℕ) (s : ℕ × List PlainStep) (t : ℕ × List Rep
 abbrev pub IsReply : Reply → Type 0
 IsReply r = is_memory r ≡ false
 
--- a script's entries have its user, and all its steps and replies if memory didn't run out
-made_by : (u n : ℕ) (ss : List PlainStep) (rs : List Reply) → AllByRecursion (λ e. e.uid ≡ u) (made u n ss rs)
-made_by u n [] rs = tt
-made_by u n (s ∷ ss) [] = tt
-made_by u n (s ∷ ss) (r ∷ rs) = kept (is_memory r) (made_by u n ss rs)
-  where
-    kept : (b : Bool) → AllByRecursion (λ e. e.uid ≡ u) (made u n ss rs) → AllByRecursion (λ e. e.uid ≡ u) (if b then made u n ss rs else entry u n s r ∷ made u n ss rs)
-    kept true rest = rest
-    kept false rest = (refl, rest)
-
-made_replies : (u n : ℕ) (ss : List PlainStep) (rs : List Reply) → AllByRecursion IsReply rs → length rs ≡ length ss → map (λ e. e.reply) (made u n ss rs) ≡ rs
-made_replies u n [] [] told same = refl
-made_replies u n [] (r ∷ rs) told same = absurd (omega arith)
-made_replies u n (s ∷ ss) [] told same = refl
-made_replies u n (s ∷ ss) (r ∷ rs) told same =
-    ap (λ b. map (λ (e : Entry). e.reply) (if b then made u n ss rs else entry u n s r ∷ made u n ss rs)) told.0
-    ∙ ap (λ xs. r ∷ xs) (made_replies u n ss rs told.1 (omega arith))
-
-made_steps : (u n : ℕ) (ss : List PlainStep) (rs : List Reply) → AllByRecursion IsReply rs → length rs ≡ length ss → asked (made u n ss rs) ≡ map (λ s. record { uid = u; step = s }) ss
-made_steps u n [] rs told same = refl
-made_steps u n (s ∷ ss) [] told same = absurd (omega arith)
-made_steps u n (s ∷ ss) (r ∷ rs) told same =
-    ap (λ b. asked (if b then made u n ss rs else entry u n s r ∷ made u n ss rs)) told.0
-    ∙ ap (λ (xs : List Asked). record { uid = u; step = s } ∷ xs) (made_steps u n ss rs told.1 (omega arith))
-
 -- each entry's user is that of its script
 abbrev pub FromScripts : List Entry → List (ℕ × List PlainStep) → Type 0
 FromScripts log ss = AllByRecursion (λ e. e.uid ≡ user_at ss e.session) log
 
-later_entries : (P : Entry → Type 0) (e : Entry) (rest : List Entry) (b : Bool) → AllByRecursion P (cond b (e ∷ rest) rest) → AllByRecursion P rest
-later_entries P e rest true all = all.1
-later_entries P e rest false all = all
-
 from_each : (ss : List (ℕ × List PlainStep)) (log : List Entry) → ((j : ℕ) → j < length ss → AllByRecursion (λ e. e.uid ≡ user_at ss j) (entries_of j log))
     → AllByRecursion (λ e. e.session < length ss) log → FromScripts log ss
 from_each ss [] own below = tt
-from_each ss (e ∷ rest) own below =
-    let here : AllByRecursion (λ x. x.uid ≡ user_at ss e.session) (e ∷ entries_of e.session rest) =
-    subst (λ b. AllByRecursion (λ x. x.uid ≡ user_at ss e.session) (cond b (e ∷ entries_of e.session rest) (entries_of e.session rest))) (eq-eqb e.session e.session refl) (own e.session below.0) in
-    (here.0, from_each ss rest (λ j h. later_entries (λ x. x.uid ≡ user_at ss j) e (entries_of j rest) (e.session == j) (own j h)) below.1)
+from_each ss (e ∷ rest) own below = (grind (arith, nat_tests, own e.session below.0), from_each ss rest (λ j h. grind (arith, own j h)) below.1)
 
 from_scripts : (log : List Entry) (ss : List (ℕ × List PlainStep)) (ts : List (ℕ × List Reply)) → ArePlayed log ss ts → AllByRecursion (λ e. e.session < length ss) log → FromScripts log ss
-from_scripts log ss ts played below = from_each ss log own below
-  where
-    own : (j : ℕ) → j < length ss → AllByRecursion (λ e. e.uid ≡ user_at ss j) (entries_of j log)
-    own j h =
-        let here = played j (0, []) (0, []) h in
-        let user = get_or-map (λ (s : ℕ × List PlainStep). s.0) ss j (0, []) 0 h in
-        subst (λ es. AllByRecursion (λ e. e.uid ≡ user_at ss j) es) (sym here.2)
-        (subst (λ u. AllByRecursion (λ e. e.uid ≡ u) (made (get_or ss j (0, [])).0 j (get_or ss j (0, [])).1 (get_or ts j (0, [])).1)) (sym user)
-        (made_by (get_or ss j (0, [])).0 j (get_or ss j (0, [])).1 (get_or ts j (0, [])).1))
+from_scripts log ss ts played below =
+    from_each ss log (λ j h.
+    let here = played j (0, []) (0, []) h in
+    let user = get_or-map (λ (s : ℕ × List PlainStep). s.0) ss j (0, []) 0 h in
+    rw (here.2, user) (made_by (get_or ss j (0, [])).0 j (get_or ss j (0, [])).1 (get_or ts j (0, [])).1)) below
 
 -- so the entries of a script's user are the script's
-same_test : (m : ℕ) (ss : List (ℕ × List PlainStep)) (k : ℕ) → RisingFrom m ss → k < length ss → (e : Entry) → (e.uid ≡ user_at ss e.session) × (e.session < length ss)
-    → (b : Bool) → (e.session == k) ≡ b → (e.uid == user_at ss k) ≡ b
-same_test m ss k rises h e from true is =
-    eq-eqb e.uid (user_at ss k) (from.0 ∙ ap (user_at ss) (eqb-true e.session k is))
-same_test m ss k rises h e from false is = other (e.uid == user_at ss k) refl
-  where
-    other : (b : Bool) → (e.uid == user_at ss k) ≡ b → b ≡ false
-    other false same = refl
-    other true same =
-        let one : e.session ≡ k = one_script m ss e.session k rises from.1 h (sym from.0 ∙ eqb-true e.uid (user_at ss k) same) in
-        sym (eq-eqb e.session k one) ∙ is
-
 own_entries : (m : ℕ) (log : List Entry) (ss : List (ℕ × List PlainStep)) (k : ℕ) → RisingFrom m ss → k < length ss → FromScripts log ss → AllByRecursion (λ e. e.session < length ss) log
     → entries_by (user_at ss k) log ≡ entries_of k log
 own_entries m log ss k rises h from below =
     filter_same (λ e. e.uid == user_at ss k) (λ e. e.session == k) (λ e. (e.uid ≡ user_at ss e.session) × (e.session < length ss))
-    (λ e is. same_test m ss k rises h e is (e.session == k) refl) log (All-both (λ e. e.uid ≡ user_at ss e.session) (λ e. e.session < length ss) log from below)
+    (λ e from. grind (arith, nat_tests, from.0, one_script m ss e.session k rises from.1 h)) log (All-both (λ e. e.uid ≡ user_at ss e.session) (λ e. e.session < length ss) log from below)
 
 -- what is known of a run's journal and transcripts
 pub record RanBySessions (plan : Plan) (log : List Entry) (ts : List (ℕ × List Reply)) : Type 0 where
@@ -127,12 +67,11 @@ told_at plan log ts ran k s t h =
     let user : user_at ss k ≡ script.0 = get_or-map (λ (s : ℕ × List PlainStep). s.0) ss k s 0 h in
     let entries : entries_by script.0 log ≡ made script.0 k script.1 told.1 =
     ap (λ u. entries_by u log) (sym user) ∙ own_entries 1001 log ss k (rising_scripts 64 1001 plan.steps) h from ran.below ∙ played.2 in
-    let made_all = All-from_recursion (λ (t : ℕ × List Reply). AllByRecursion IsReply t.1) ts ran.made k t (subst (λ n. k < n) (sym ran.long) h) in
-    let own = (ran.own script.0 is.user).0 in
+    let told_all = All-from_recursion (λ (t : ℕ × List Reply). AllByRecursion IsReply t.1) ts ran.made k t (subst (λ n. k < n) (sym ran.long) h) in
+    let all = made_all script.0 k script.1 told.1 played.1 told_all in
     let replied : told.1 ≡ replies (asked_by script.0 plan.steps) (alone script.0 (empty plan.settings)) =
-    sym (made_replies script.0 k script.1 told.1 made_all played.1) ∙ ap (map (λ (e : Entry). e.reply)) (sym entries) ∙ own
-    ∙ ap (λ es. replies (asked es) (alone script.0 (empty plan.settings))) entries
-    ∙ ap (λ xs. replies xs (alone script.0 (empty plan.settings))) (made_steps script.0 k script.1 told.1 made_all played.1 ∙ is.steps) in
+    sym all.1 ∙ ap (map (λ (e : Entry). e.reply)) (sym entries) ∙ (ran.own script.0 is.user).0
+    ∙ ap (λ xs. replies xs (alone script.0 (empty plan.settings))) (ap asked entries ∙ all.0 ∙ is.steps) in
     ap₂ told_to played.0 replied ∙ sym (alone_answers script.0 plan is.user ran.users)
 
 -- two lists with the same item at each index
@@ -141,18 +80,13 @@ joined : {X Y A : Type 0} (f : X → A) (g : Y → A) (xs : List X) (ys : List Y
 joined f g [] [] long same = refl
 joined f g [] (y ∷ ys) long same = absurd (omega arith)
 joined f g (x ∷ xs) [] long same = absurd (omega arith)
-joined {X} {Y} {A} f g (x ∷ xs) (y ∷ ys) long same =
-    ap₂ (λ (z : A) (zs : List A). z ∷ zs) (same 0 x y (omega arith)) (joined f g xs ys (omega arith) (λ k a b h. same (suc k) a b (omega arith)))
+joined f g (x ∷ xs) (y ∷ ys) long same = let here = same 0 x y (omega arith) in let later = joined f g xs ys (omega arith) (λ k a b h. same (suc k) a b (omega arith)) in cc
 
 -- a user without steps has no answers
 no_replies : (u : ℕ) (xs : List Asked) (rs : List Reply) → asked_by u xs ≡ [] → replies_to u xs rs ≡ []
 no_replies u [] rs none = refl
 no_replies u (x ∷ xs) [] none = refl
-no_replies u (x ∷ xs) (r ∷ rs) none = later (x.uid == u) none (no_replies u xs rs)
-  where
-    later : (b : Bool) → cond b (x ∷ asked_by u xs) (asked_by u xs) ≡ [] → (asked_by u xs ≡ [] → replies_to u xs rs ≡ []) → (if b then r ∷ replies_to u xs rs else replies_to u xs rs) ≡ []
-    later true some rest = cc
-    later false same rest = rest same
+no_replies u (x ∷ xs) (r ∷ rs) none = grind (arith, none, no_replies u xs rs)
 
 pub no_answers : (plan : Plan) (u : ℕ) → asked_by u plan.steps ≡ [] → answers_by u (answers_of plan) ≡ []
 no_answers plan u none =

@@ -1,30 +1,20 @@
 -- One script more, one step more, one transcript more.
-use Rattle.std.proofs.Common.{◌≡◌, ◌≢◌, ◌⊎◌, ℕ, zero, suc, ◌+◌, ◌-◌, ◌<◌, ◌≤◌, ◌==◌, Bool, true, false, cond, not, List, [], ◌∷◌, ◌++◌, length, get_or, map, filter, refl, sym, ap, ap₂, ◌∙◌, inl, inr, arith}
-use Rattle.std.proofs.Math.ListN.{set}
-use Rattle.std.proofs.lemmas.List.{append-nil, length-map, map-append, map-set, get_or-map}
-use Rattle.std.proofs.lemmas.List.Elements.{filter-append}
-use Rattle.std.proofs.lemmas.Bool.{cases_lt, eq-eqb}
-use Rattle.std.proofs.lemmas.Bool.Decides.{nat_tests}
-use Rattle.pid_blocks.specs.Blocks.{rising, users, slot}
-use Rattle.pid_blocks.specs.Users.{IsUser}
-use Rattle.requests.specs.Plain.{PlainStep}
-use Rattle.requests.specs.Run.{Asked, asked_by}
-use Rattle.sessions.specs.declared.boxing.BoxedScript.{BoxedScript}
-use Rattle.sessions.specs.Boxed.{boxed_script, own_step}
+use Rattle.std.proofs.Common.{◌≡◌, ◌≢◌, ℕ, zero, suc, ◌+◌, ◌-◌, ◌<◌, ◌≤◌, ◌==◌, cond, not, List, [], ◌∷◌, ◌++◌, length, get_or, map, filter, refl, sym, ap, ap₂, ◌∙◌, inl, inr, arith}
+use Rattle.threaded_runs.proofs.CommonNames.{set, length-map, map-append, map-set, get_or-map, cases_lt, nat_tests, rising, users, slot, IsUser, PlainStep, Asked, BoxedScript, boxed_script, own_step, has_steps, some_steps, steps_of}
+use Rattle.std.proofs.lemmas.List.{append-nil}
 use Rattle.requests.proofs.IsolationLaws.{at_slot}
 use Rattle.scenario_text.specs.Plan.{asked}
-use Rattle.threaded_runs.specs.Scripts.{has_steps, some_steps, steps_of}
 use Rattle.threaded_runs.proofs.ScriptLemmas.{script_of}
 
 -- one user more, and one empty script
 rising_more : (n m : ℕ) → rising (suc n) m ≡ rising n m ++ (m + n) ∷ []
-rising_more zero m = ap (λ k. k ∷ []) (omega arith)
-rising_more (suc n) m = ap (λ xs. m ∷ xs) (rising_more n (m + 1) ∙ ap (λ k. rising n (m + 1) ++ k ∷ []) (omega arith))
+rising_more zero m = grind (arith)
+rising_more (suc n) m = grind (arith, rising_more n (m + 1))
 
 abbrev pub unasked : ℕ → ℕ × List PlainStep
 unasked u = (u, [])
 
-pub empty_more : {F : Type 0} (ss : List (BoxedScript F)) (s : BoxedScript F) (number : ℕ) → 1001 ≤ number → s.uid ≡ number → map own_step s.steps.items ≡ []
+pub empty_more : {F T : Type 0} (ss : List (BoxedScript F T)) (s : BoxedScript F T) (number : ℕ) → 1001 ≤ number → s.uid ≡ number → map own_step s.steps.items ≡ []
     → map boxed_script ss ≡ map unasked (rising (number - 1001) 1001) → map boxed_script (ss ++ s ∷ []) ≡ map unasked (rising (number + 1 - 1001) 1001)
 empty_more ss s number least named none before =
     let count : number + 1 - 1001 ≡ suc (number - 1001) = omega arith in
@@ -42,50 +32,30 @@ map_other f g zero m u below other = refl
 map_other {X} f g (suc n) m u below other =
     ap₂ (λ (x : X) (xs : List X). x ∷ xs) (sym (other m (λ same. omega arith))) (map_other f g n (m + 1) u (omega arith) other)
 
-set_here : {X : Type 0} (f g : ℕ → X) (n m u : ℕ) → m ≤ u → (m < u) ⊎ (u ≤ m) → ((w : ℕ) → w ≢ u → g w ≡ f w)
-    → (m < u → set (map f (rising n (m + 1))) (u - (m + 1)) (g u) ≡ map g (rising n (m + 1))) → set (map f (rising (suc n) m)) (u - m) (g u) ≡ map g (rising (suc n) m)
-set_here {X} f g n m u least (inl above) other later =
-    let place : u - m ≡ suc (u - (m + 1)) = omega arith in
-    ap (λ k. set (f m ∷ map f (rising n (m + 1))) k (g u)) place
-    ∙ ap₂ (λ (x : X) (xs : List X). x ∷ xs) (sym (other m (λ same. omega arith))) (later above)
-set_here {X} f g n m u least (inr most) other later =
-    let place : u - m ≡ 0 = omega arith in
-    let same : u ≡ m = omega arith in
-    ap (λ k. set (f m ∷ map f (rising n (m + 1))) k (g u)) place
-    ∙ ap₂ (λ (x : X) (xs : List X). x ∷ xs) (ap g same) (map_other f g n (m + 1) u (omega arith) other)
-
 set_user : {X : Type 0} (f g : ℕ → X) (n m u : ℕ) → m ≤ u → u < m + n → ((w : ℕ) → w ≢ u → g w ≡ f w) → set (map f (rising n m)) (u - m) (g u) ≡ map g (rising n m)
 set_user f g zero m u least most other = absurd (omega arith)
-set_user f g (suc n) m u least most other =
-    set_here f g n m u least (cases_lt m u) other (λ above. set_user f g n (m + 1) u (omega arith) (omega arith) other)
+set_user {X} f g (suc n) m u least most other = elim (cases_lt m u) [
+  | inl above ↦ let place : u - m ≡ suc (u - (m + 1)) = omega arith in rw place
+      (ap₂ (λ (x : X) (xs : List X). x ∷ xs) (sym (other m (λ same. omega arith))) (set_user f g n (m + 1) u (omega arith) (omega arith) other))
+  | inr most ↦ let same : u ≡ m = omega arith in let place : u - m ≡ 0 = omega arith in rw place
+      (ap₂ (λ (x : X) (xs : List X). x ∷ xs) (ap g same) (map_other f g n (m + 1) u (omega arith) other))
+]
 
 -- one step more of all, and of a user
-steps_more : (w : ℕ) (done : List Asked) (a : Asked) (b : Bool) → (a.uid == w) ≡ b → steps_of w (done ++ a ∷ []) ≡ steps_of w done ++ cond b (a.step ∷ []) []
-steps_more w done a b is =
-    ap (map (λ (x : Asked). x.step)) (filter-append (λ (x : Asked). x.uid == w) done (a ∷ []))
-    ∙ map-append (λ (x : Asked). x.step) (asked_by w done) (asked_by w (a ∷ []))
-    ∙ ap (λ xs. steps_of w done ++ xs) (one b is)
-  where
-    one : (b : Bool) → (a.uid == w) ≡ b → map (λ (x : Asked). x.step) (cond (a.uid == w) (a ∷ []) []) ≡ cond b (a.step ∷ []) []
-    one true is = ap (λ t. map (λ (x : Asked). x.step) (cond t (a ∷ []) [])) is
-    one false is = ap (λ t. map (λ (x : Asked). x.step) (cond t (a ∷ []) [])) is
+steps_more : (w : ℕ) (done : List Asked) (a : Asked) → steps_of w (done ++ a ∷ []) ≡ steps_of w done ++ cond (a.uid == w) (a.step ∷ []) []
+steps_more w [] a = grind (arith)
+steps_more w (d ∷ done) a = grind (arith, steps_more w done a)
 
 one_asked : (done : List Asked) (a : Asked) → IsUser a.uid
     → set (map (script_of done) users) (slot a.uid) (a.uid, steps_of a.uid done ++ a.step ∷ []) ≡ map (script_of (done ++ a ∷ [])) users
 one_asked done a user =
-    let mine = steps_more a.uid done a true (eq-eqb a.uid a.uid refl) in
-    ap (λ steps. set (map (script_of done) users) (slot a.uid) (a.uid, steps)) (sym mine)
-    ∙ set_user (script_of done) (script_of (done ++ a ∷ [])) 64 1001 a.uid user.0 (omega arith) other
-  where
-    other : (w : ℕ) → w ≢ a.uid → script_of (done ++ a ∷ []) w ≡ script_of done w
-    other w differ =
-        let no : (a.uid == w) ≡ false = grind (arith, nat_tests) in
-        ap (λ steps. (w, steps)) (steps_more w done a false no ∙ append-nil (steps_of w done))
+    let mine : steps_of a.uid (done ++ a ∷ []) ≡ steps_of a.uid done ++ a.step ∷ [] = grind (arith, nat_tests, steps_more a.uid done a) in
+    rw (← mine) (set_user (script_of done) (script_of (done ++ a ∷ [])) 64 1001 a.uid user.0 (omega arith) (λ w differ. grind (arith, nat_tests, steps_more w done a, append-nil (steps_of w done))))
 
-pub step_added : {F : Type 0} (ss : List (BoxedScript F)) (new d : BoxedScript F) (done : List Asked) (u : ℕ) (s : PlainStep) → IsUser u → map boxed_script ss ≡ map (script_of done) users
+pub step_added : {F T : Type 0} (ss : List (BoxedScript F T)) (new d : BoxedScript F T) (done : List Asked) (u : ℕ) (s : PlainStep) → IsUser u → map boxed_script ss ≡ map (script_of done) users
     → new.uid ≡ (get_or ss (slot u) d).uid → map own_step new.steps.items ≡ map own_step (get_or ss (slot u) d).steps.items ++ s ∷ []
     → map boxed_script (set ss (slot u) new) ≡ map (script_of (done ++ asked (u, s) ∷ [])) users
-step_added {F} ss new d done u s user before named longer =
+step_added ss new d done u s user before named longer =
     let long : length ss ≡ 64 = sym (length-map ss boxed_script) ∙ ap length before in
     let old = get_or ss (slot u) d in
     let was : boxed_script old ≡ script_of done u =
@@ -98,15 +68,9 @@ step_added {F} ss new d done u s user before named longer =
 
 -- the users with steps
 pub are_some : (steps : List PlainStep) (n : ℕ) → n ≡ length steps → not (n == 0) ≡ some_steps steps
-are_some [] n same = ap (λ k. not (k == 0)) same
-are_some (s ∷ rest) n same = let some : (n == 0) ≡ false = grind (arith, nat_tests) in ap not some
+are_some [] n same = grind (arith, nat_tests, same)
+are_some (s ∷ rest) n same = grind (arith, nat_tests, same)
 
-pub kept_scripts : {F : Type 0} (ss : List (BoxedScript F)) → map boxed_script (filter (λ s. has_steps (boxed_script s)) ss) ≡ filter has_steps (map boxed_script ss)
+pub kept_scripts : {F T : Type 0} (ss : List (BoxedScript F T)) → map boxed_script (filter (λ s. has_steps (boxed_script s)) ss) ≡ filter has_steps (map boxed_script ss)
 kept_scripts [] = refl
-kept_scripts (s ∷ rest) = kept (has_steps (boxed_script s)) (kept_scripts rest)
-  where
-    kept : (b : Bool) → map boxed_script (filter (λ s. has_steps (boxed_script s)) rest) ≡ filter has_steps (map boxed_script rest)
-        → map boxed_script (cond b (s ∷ filter (λ s. has_steps (boxed_script s)) rest) (filter (λ s. has_steps (boxed_script s)) rest))
-        ≡ cond b (boxed_script s ∷ filter has_steps (map boxed_script rest)) (filter has_steps (map boxed_script rest))
-    kept true later = ap (λ xs. boxed_script s ∷ xs) later
-    kept false later = later
+kept_scripts (s ∷ rest) = grind (arith, kept_scripts rest)

@@ -1,15 +1,19 @@
 -- A script for each user with steps, and the answers of its transcript.
-use Rattle.std.specs.Prelude.{◌≡◌, ℕ, Bool, true, false, List, [], ◌∷◌, map, filter}
+use Rattle.std.specs.Prelude.{◌≡◌, ℕ, Bool, true, false, List, [], ◌∷◌, map, filter, Option, IfSome, String, string_bytes}
+use Rattle.std.specs.Global.{Global}
 use Rattle.std.specs.List.{AllByRecursion}
 use Rattle.pid_blocks.specs.Blocks.{users}
+use Rattle.requests.specs.declared.Reply.{Reply}
 use Rattle.requests.specs.Memory.{is_memory}
 use Rattle.requests.specs.Plain.{PlainStep}
 use Rattle.requests.specs.Run.{Asked, asked_by}
 use Rattle.sessions.specs.declared.script.Transcript.{Transcript}
 use Rattle.scenario_text.specs.Plan.{Plan}
 use Rattle.scenario.specs.Lines.{Answered}
-use Rattle.scenario.specs.Runs.{answers_of}
+use Rattle.scenario.specs.Runs.{answers_of, shown}
+use Rattle.scenario.specs.declared.running.RunOptions.{RunOptions}
 use Rattle.threaded_runs.specs.Grouped.{answers_by}
+use Rattle.threaded_runs.specs.declared.lines.UserLines.{UserLines}
 
 -- a user's steps, in order
 abbrev pub steps_of : ℕ → List Asked → List PlainStep
@@ -26,13 +30,33 @@ has_steps s = some_steps s.1
 abbrev pub scripts_in : List Asked → List (ℕ × List PlainStep)
 scripts_in list = filter has_steps (map (λ u. (u, steps_of u list)) users)
 
+-- replies to a user
+abbrev pub told_to : ℕ → List Reply → List Answered
+told_to u rs = map (λ r. record { uid = u; reply = r }) rs
+
+-- the replies of which a user's lines were made
+abbrev pub replies_in : UserLines → List Reply
+replies_in lines = lines.replies.value.items
+
+-- the text of a transcript
+abbrev pub text_in : Transcript UserLines → Option (String Global)
+text_in t = t.replies.text
+
+-- memory ran out for none of these replies
+abbrev pub AreMade : List Reply → Type 0
+AreMade rs = AllByRecursion (λ r. is_memory r ≡ false) rs
+
+-- the lines, if there are any, are those that the options show of the replies, and memory ran out for none of these
+abbrev pub Shows : RunOptions → ℕ → UserLines → Type 0
+Shows options u lines = IfSome lines.text (λ s. (string_bytes s ≡ shown options.style options.user (told_to u (replies_in lines))) × AreMade (replies_in lines))
+
 -- no step ran out of memory
-abbrev pub IsMade : Transcript → Type 0
-IsMade t = AllByRecursion (λ r. is_memory r ≡ false) t.replies.items
+abbrev pub IsMade : Transcript UserLines → Type 0
+IsMade t = AreMade (replies_in t.replies)
 
 -- the answers of a transcript
-abbrev pub told_by : Transcript → List Answered
-told_by t = map (λ r. record { uid = t.uid; reply = r }) t.replies.items
+abbrev pub told_by : Transcript UserLines → List Answered
+told_by t = told_to t.uid (replies_in t.replies)
 
 -- the answers of each script's user, by rising user
 abbrev pub answers_by_scripts : Plan → List (List Answered)

@@ -1,22 +1,23 @@
 //! A run of a scenario with a session for each user, each in a thread of its own.
 
-ghost use Rattle.std.specs.Prelude.{◌≡◌, ◌≢◌, ◌⊎◌, ◌↔◌, ◌≤◌, ◌++◌, [], length, map, option_map, string_bytes, IsErrOf, IfOk, IfErr, OnOk};
+ghost use Rattle.std.specs.Prelude.{◌≡◌, ◌≢◌, ◌⊎◌, ◌↔◌, ◌≤◌, ◌++◌, [], length, map, option_map, string_bytes, Some, IsErrOf, IfOk, IfErr, OnOk};
 ghost use Rattle.std.specs.List.{flat_map, AllByRecursion};
 ghost use Rattle.std.specs.Vec.Iter.{into_iter_items};
 ghost use Rattle.pid_blocks.specs.Blocks.{users};
 ghost use Rattle.requests.specs.Isolation.{Users};
 ghost use Rattle.scenario_text.specs.Plan.{max_steps, policies_in};
 ghost use Rattle.scenario.specs.Binding.{IsBound};
-ghost use Rattle.scenario.specs.Runs.{answers_of, shown, Writes};
+ghost use Rattle.scenario.specs.Runs.{answers_of, Writes};
 ghost use Rattle.threaded_runs.specs.Grouped.{shown_grouped};
 ghost use Rattle.sessions.specs.Boxed.{boxed_script, own_step};
-ghost use Rattle.threaded_runs.specs.Scripts.{answers_by_scripts, has_steps, scripts_in, told_by, IsMade};
+ghost use Rattle.threaded_runs.specs.Scripts.{answers_by_scripts, has_steps, scripts_in, text_in, told_by, IsMade, Shows};
 ghost use Rattle.scenario.specs.declared.running.RunFault.TheVariants.{Mismatch, Memory, Start, Write as WriteFault};
 
+use crate::lines::{LineReport, UserLines};
 use host_lock::Unkept;
 use pid_blocks::Uid;
 use requests::{Host, Step};
-use scenario::{RunFault, RunOptions, Scenario, StepShape, USERS, obey, push_shown, write_whole};
+use scenario::{RunFault, RunOptions, Scenario, StepShape, USERS, obey, write_whole};
 use sessions::{BoxedScript, BoxedStep, Gate, RunRefusal, Transcript, run_sessions};
 use std::alloc::{AllocError, Global};
 use std::io::Write;
@@ -25,9 +26,6 @@ use std::thread::Threads;
 use std::vec::IntoIter;
 use stop_handlers::{Decider, Handler};
 
-/// The bytes of a usual line. The texts of usual lines fit into the memory that the scripts leave.
-const USUAL_LINE: usize = 24;
-
 /// A gate that does nothing.
 struct NoGate;
 
@@ -35,6 +33,10 @@ impl Gate for NoGate {
     fn before(&self, _user: Uid, _index: u32) {}
 
     fn after(&self, _user: Uid, _index: u32) {}
+
+    fn may_wait(&self) -> bool {
+        false
+    }
 }
 
 /// Returns how many steps each user has, in the order of the users.
@@ -52,21 +54,25 @@ fn counts_of(scenario: &Scenario) -> [usize; USERS] {
 fn empty_scripts<F: Decider + Send + Drop>(
     alloc: Global,
     counts: &[usize; USERS],
-) -> Result<Vec<BoxedScript<F>>, AllocError>
+) -> Result<Vec<BoxedScript<F, ()>>, AllocError>
     ensures { IfOk result (λ scripts. map boxed_script scripts.items ≡ map (λ u. (u, [])) users) }
 {
     let mut scripts = Vec::with_capacity(alloc, USERS)?;
     for number in 1001..1065 {
         if let Ok(uid) = Uid::new(number) {
             let steps = Vec::with_capacity(alloc, counts[uid.slot()])?;
-            scripts.push(BoxedScript { uid, steps })?;
+            scripts.push(BoxedScript {
+                uid,
+                steps,
+                report: (),
+            })?;
         }
     }
     Ok(scripts)
 }
 
 /// Returns whether the script has steps.
-fn is_asked<F: Decider + Send + Drop>(script: &BoxedScript<F>) -> bool
+fn is_asked<F: Decider + Send + Drop>(script: &BoxedScript<F, ()>) -> bool
     ensures { result ≡ has_steps (boxed_script script.now) }
 {
     !script.steps.is_empty()
@@ -95,7 +101,7 @@ fn scripts_of<F: Decider + Send + Drop>(
     alloc: Global,
     scenario: &Scenario,
     handlers: Vec<Handler<F>>,
-) -> Result<Vec<BoxedScript<F>>, AllocError>
+) -> Result<Vec<BoxedScript<F, ()>>, AllocError>
     requires { handlers.items ≡ policies_in scenario.now.steps }
     ensures scripts { IfOk result (λ scripts. map boxed_script scripts.items ≡ scripts_in scenario.now.steps) }
     ensures users { OnOk result (Users scenario.now.steps) }
@@ -114,48 +120,39 @@ fn scripts_of<F: Decider + Send + Drop>(
     Ok(scripts)
 }
 
-/// Returns how many bytes the lines of the transcript usually have, if the options show them.
-fn usual_bytes(options: &RunOptions, transcript: &Transcript) -> usize {
-    match options.user {
-        Some(user) if user != transcript.uid => 0,
-        _ => transcript.replies.len().saturating_mul(USUAL_LINE),
-    }
-}
-
-/// Returns the lines of the transcript that the options show. An error means that memory ran out, here or for one of
-/// the steps.
-fn text_of(alloc: Global, options: &RunOptions, transcript: &Transcript) -> Result<String, RunFault>
-    ensures text { IfOk result (λ s. string_bytes s ≡ shown options.now.style options.now.user (told_by transcript.now)) }
-    ensures made { OnOk result (IsMade transcript.now) }
-    ensures err { IfErr result (λ e. e ≡ Memory) }
-{
-    let mut text = String::with_capacity(alloc, usual_bytes(options, transcript))?;
-    let mut number = 0u64;
-    for reply in &transcript.replies {
-        if reply.is_memory() {
-            return Err(RunFault::Memory);
-        }
-        number += 1;
-        push_shown(alloc, options, &mut text, transcript.uid, number, reply)?;
-    }
-    Ok(text)
-}
-
-/// Returns for each transcript its lines that the options show. An error means that memory ran out, here or for one of
-/// the steps.
-fn texts_of(
+/// Returns the scripts with reports of the lines that the options show. An error means out of memory.
+fn reported<F: Decider + Send + Drop>(
     alloc: Global,
+    scripts: Vec<BoxedScript<F, ()>>,
     options: &RunOptions,
-    transcripts: Vec<Transcript>,
-) -> Result<Vec<String>, RunFault>
-    ensures texts { IfOk result (λ v. flat_map string_bytes v.items
-        ≡ flat_map (shown options.now.style options.now.user) (map told_by transcripts.items)) }
-    ensures made { OnOk result (AllByRecursion IsMade transcripts.items) }
+) -> Result<Vec<BoxedScript<F, LineReport>>, AllocError>
+    ensures scripts { IfOk result (λ v. map boxed_script v.items ≡ map boxed_script scripts.items) }
+    ensures reports { IfOk result (λ v. AllByRecursion (λ s. s.report.options ≡ options.now) v.items) }
+{
+    let mut all = Vec::with_capacity(alloc, scripts.len())?;
+    for script in scripts {
+        let BoxedScript {
+            uid,
+            steps,
+            report: _,
+        } = script;
+        let report = LineReport { options: *options };
+        all.push(BoxedScript { uid, steps, report })?;
+    }
+    Ok(all)
+}
+
+/// Returns the texts of the transcripts. An error means that memory ran out for one of them.
+fn texts_of(alloc: Global, transcripts: Vec<Transcript<UserLines>>) -> Result<Vec<String>, RunFault>
+    ensures texts { IfOk result (λ v. map text_in transcripts.items ≡ map (λ text. Some text) v.items) }
     ensures err { IfErr result (λ e. e ≡ Memory) }
 {
     let mut texts = Vec::with_capacity(alloc, transcripts.len())?;
     for transcript in transcripts {
-        texts.push(text_of(alloc, options, &transcript)?)?;
+        let Some(text) = transcript.replies.into_text() else {
+            return Err(RunFault::Memory);
+        };
+        texts.push(text)?;
     }
     Ok(texts)
 }
@@ -171,21 +168,26 @@ fn write_texts<W: Write>(writer: &mut W, texts: &[String]) -> Result<(), RunFaul
     Ok(())
 }
 
-/// Makes the scenario's steps on a new host, by a session for each user with steps, and returns the transcripts.
+/// Makes the scenario's steps on a new host, by a session for each user with steps, and returns the users' lines.
 fn transcripts_of<F: Decider + Send + Drop, R: Threads + Wait + Sync>(
     rt: &R,
     alloc: Global,
     scenario: &Scenario,
     handlers: Vec<Handler<F>>,
-) -> Result<Vec<Transcript>, RunFault>
+    options: &RunOptions,
+) -> Result<Vec<Transcript<UserLines>>, RunFault>
     requires { handlers.items ≡ policies_in scenario.now.steps }
     ensures told { IfOk result (λ ts. AllByRecursion IsMade ts.items → map told_by ts.items ≡ answers_by_scripts scenario.now) }
+    ensures shows { IfOk result (λ ts. AllByRecursion (λ t. Shows options.now t.uid t.replies) ts.items) }
     ensures users { OnOk result (Users scenario.now.steps) }
     ensures err { IfErr result (λ e. (e ≡ Memory) ⊎ (e ≡ Start)) }
 {
     let scripts = scripts_of(alloc, scenario, handlers)?;
+    let scripts = reported(alloc, scripts, options)?;
     let host = Host::new(alloc, scenario.settings())?;
-    match run_sessions::<F, BoxedScript<F>, Unkept, NoGate, R>(rt, alloc, host, scripts, &NoGate) {
+    match run_sessions::<F, BoxedScript<F, LineReport>, Unkept, NoGate, R>(
+        rt, alloc, host, scripts, &NoGate,
+    ) {
         Ok((_host, _calls, transcripts)) => Ok(transcripts),
         Err(RunRefusal::Memory) => Err(RunFault::Memory),
         Err(RunRefusal::Start) => Err(RunFault::Start),
@@ -215,7 +217,7 @@ pub fn run_threads<F: Decider + Send + Drop, W: Write, R: Threads + Wait + Sync>
     if !obey(handlers.as_slice(), scenario.policies()) {
         return Err(RunFault::Mismatch);
     }
-    let transcripts = transcripts_of(rt, alloc, scenario, handlers)?;
-    let texts = texts_of(alloc, &options, transcripts)?;
+    let transcripts = transcripts_of(rt, alloc, scenario, handlers, &options)?;
+    let texts = texts_of(alloc, transcripts)?;
     write_texts(writer, texts.as_slice())
 }

@@ -1,6 +1,5 @@
 use Rattle.std.proofs.Common.{◌≡◌, ◌++◌, map}
-use Rattle.std.specs.Vec.Iter.{into_iter_items}
-use Rattle.sessions.specs.Boxed.{own_step}
+use Rattle.sessions.proofs.CommonNames.{into_iter_items, own_step}
 use Rattle.sessions.proofs.boxing.boxed_one.Given as goal
 
 abbrev pub invariant-loop-step : goal.invariant-loop-step

@@ -1,5 +1,5 @@
 use Rattle.std.proofs.Common.{◌≡◌, map, take}
-use Rattle.sessions.specs.Boxed.{uid_of}
+use Rattle.sessions.proofs.CommonNames.{uid_of}
 use Rattle.sessions.proofs.ready.uids_of.Given as goal
 
 abbrev pub invariant-loop-script : goal.invariant-loop-script

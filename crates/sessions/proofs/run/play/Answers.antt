@@ -1,25 +1,19 @@
 use Rattle.std.proofs.Common.{ℕ, List, length, sym, refl, ap, ◌∙◌, subst, arith, All}
-use Rattle.requests.specs.Machine.{Machine}
-use Rattle.host_lock.specs.declared.journal.Entry.{Entry}
-use Rattle.host_lock.specs.Journal.{IsLegal, replay}
-use Rattle.host_lock.specs.Sessions.{IsOf, IsBelow}
-use Rattle.host_lock.proofs.Totals.{all_of}
-use Rattle.sessions.specs.Boxed.{boxed_script}
-use Rattle.sessions.specs.Jobs.{done_session}
+use Rattle.sessions.proofs.CommonNames.{length-map, Machine, Entry, IsLegal, replay, IsOf, IsBelow, all_of, boxed_script, done_session}
 use Rattle.sessions.proofs.Owned.{own_entries}
-use Rattle.sessions.proofs.Pairing.{ready, of_host, all_play, jobs_length, length_map, not_missing}
+use Rattle.sessions.proofs.Pairing.{ready, of_host, all_play, all_tell, jobs_length, not_missing}
 use Rattle.sessions.proofs.run.play.Goals as goal
 
 pub run_all-requires-clause-jobs : goal.run_all-requires-clause-jobs
 run_all-requires-clause-jobs g c κs within =
     let e = c.in-Ok.ensures in
-    ready c.args.host c.in-Ok.ready.host.id c.in-Ok.ready.host c.args.scripts.items c.in-Ok.ready.jobs.items refl e.host.0 c.requires.short (e.sessions, e.steps, e.jobs)
+    ready c.args.host c.in-Ok.ready.host.id c.in-Ok.ready.host c.args.scripts.items c.in-Ok.ready.jobs.items refl e.host.0 c.requires.short (e.sessions, e.steps, e.reports, e.jobs)
 
 pub finish-requires-after_bounds : goal.finish-requires-after_bounds
 finish-requires-after_bounds g c κs within =
     let e = c.in-Ok.ensures in
-    let can = ready c.args.host c.in-Ok.ready.host.id c.in-Ok.ready.host c.args.scripts.items c.in-Ok.ready.jobs.items refl e.host.0 c.requires.short (e.sessions, e.steps, e.jobs) in
-    let each = of_host c.args.host c.in-Ok.ready.host.id c.in-Ok.ready.host c.in-Ok.ready.jobs.items c.in-Some.done.items can c.in-Some.ensures.done in
+    let can = ready c.args.host c.in-Ok.ready.host.id c.in-Ok.ready.host c.args.scripts.items c.in-Ok.ready.jobs.items refl e.host.0 c.requires.short (e.sessions, e.steps, e.reports, e.jobs) in
+    let each = of_host c.args.host c.in-Ok.ready.host.id g.T.Report.made_of g.T.Report.tells c.in-Ok.ready.host c.in-Ok.ready.jobs.items c.in-Some.done.items can c.in-Some.ensures.done in
     subst (All (IsOf c.in-Ok.ready.host)) (sym c.part-sessions.ensures.sessions) (all_of (IsOf c.in-Ok.ready.host) _ each)
 
 pub returns-clause-ran : goal.returns-clause-ran
@@ -28,37 +22,43 @@ returns-clause-ran g c =
     let f = c.in-Ok-finish.ensures in
     let log : List Entry = g.J.CallLog.entries c.in-Ok-finish.log in
     let legal = subst (λ (m : Machine). IsLegal m log) e.host.0 f.legal in
-    let count = e.host.1 ∙ c.args.scripts.ok.0 ∙ sym (length_map boxed_script c.args.scripts.items) in
+    let count = e.host.1 ∙ c.args.scripts.ok.0 ∙ sym (length-map c.args.scripts.items boxed_script) in
     record {
       legal = legal;
       host = f.host ∙ ap (λ (m : Machine). replay m log) e.host.0;
       entries = subst (λ (n : ℕ). All (IsBelow n) log) count f.entries;
-      transcripts = all_play c.args.host c.in-Ok.ready.host.id log c.args.scripts.items c.in-Ok.ready.jobs.items c.in-Some.done.items (e.sessions, e.steps, e.jobs) c.in-Some.ensures.done
+      transcripts = all_play c.args.host c.in-Ok.ready.host.id g.T.Report.made_of g.T.Report.tells log c.args.scripts.items c.in-Ok.ready.jobs.items c.in-Some.done.items (e.sessions, e.steps, e.reports, e.jobs) c.in-Some.ensures.done
           c.part-sessions.result.0.items c.part-sessions.result.1.items c.part-sessions.ensures.sessions c.part-sessions.ensures.transcripts f.sessions;
       own = own_entries c.args.host log c.kept.ensures f.users legal;
     }
 
+pub returns-clause-reports : goal.returns-clause-reports
+returns-clause-reports g c =
+    let e = c.in-Ok.ensures in
+    all_tell c.args.host c.in-Ok.ready.host.id g.T.Report.made_of g.T.Report.tells c.args.scripts.items c.in-Ok.ready.jobs.items c.in-Some.done.items (e.sessions, e.steps, e.reports, e.jobs) c.in-Some.ensures.done
+    c.part-sessions.result.1.items c.part-sessions.ensures.transcripts
+
 pub run_all-requires-clause-room : goal.run_all-requires-clause-room
 run_all-requires-clause-room g c κs within =
     let e = c.in-Ok.ensures in
-    let len = jobs_length c.args.host c.in-Ok.ready.host.id c.args.scripts.items c.in-Ok.ready.jobs.items (e.sessions, e.steps, e.jobs) in
+    let len = jobs_length c.args.host c.in-Ok.ready.host.id c.args.scripts.items c.in-Ok.ready.jobs.items (e.sessions, e.steps, e.reports, e.jobs) in
     (e.done.0, e.done.1, omega (arith, len, e.done.2))
 
 pub part-sessions-requires-clause-sessions : goal.part-sessions-requires-clause-sessions
 part-sessions-requires-clause-sessions g c =
     let e = c.in-Ok.ensures in
-    let len = jobs_length c.args.host c.in-Ok.ready.host.id c.args.scripts.items c.in-Ok.ready.jobs.items (e.sessions, e.steps, e.jobs) in
+    let len = jobs_length c.args.host c.in-Ok.ready.host.id c.args.scripts.items c.in-Ok.ready.jobs.items (e.sessions, e.steps, e.reports, e.jobs) in
     (e.sessions_room.0, e.sessions_room.1, omega (arith, len, c.in-Some.ensures.room.0, e.sessions_room.2))
 
 pub part-sessions-requires-clause-transcripts : goal.part-sessions-requires-clause-transcripts
 part-sessions-requires-clause-transcripts g c =
     let e = c.in-Ok.ensures in
-    let len = jobs_length c.args.host c.in-Ok.ready.host.id c.args.scripts.items c.in-Ok.ready.jobs.items (e.sessions, e.steps, e.jobs) in
+    let len = jobs_length c.args.host c.in-Ok.ready.host.id c.args.scripts.items c.in-Ok.ready.jobs.items (e.sessions, e.steps, e.reports, e.jobs) in
     (e.transcripts_room.0, e.transcripts_room.1, omega (arith, len, c.in-Some.ensures.room.0, e.transcripts_room.2))
 
 pub unreachable-requires : goal.unreachable-requires
 unreachable-requires g c =
     let e = c.in-Ok.ensures in
-    let len = jobs_length c.args.host c.in-Ok.ready.host.id c.args.scripts.items c.in-Ok.ready.jobs.items (e.sessions, e.steps, e.jobs) in
-    let all = ap length c.part-sessions.ensures.sessions ∙ length_map done_session c.in-Some.done.items in
+    let len = jobs_length c.args.host c.in-Ok.ready.host.id c.args.scripts.items c.in-Ok.ready.jobs.items (e.sessions, e.steps, e.reports, e.jobs) in
+    let all = ap length c.part-sessions.ensures.sessions ∙ length-map c.in-Some.done.items done_session in
     not_missing c.in-Ok.ready.host c.part-sessions.result.0.items c.in-Err.field-0 c.in-Err.ensures.missing (omega (arith, len, all, c.in-Some.ensures.room.0, e.host.1))

@@ -1,10 +1,7 @@
 use Rattle.std.proofs.Common.{◌≡◌, ◌++◌, [], ◌∷◌, List, sym, subst, ap, ◌∙◌, arith, rules, append_assoc, append-nil, length-append, length, map, refl}
 use mathlib.Core.List.{map-append}
-use Rattle.std.specs.Vec.Iter.{into_iter_items}
-use Rattle.std.proofs.lemmas.List.{nil_from_length}
-use Rattle.requests.specs.Plain.{PlainStep}
-use Rattle.sessions.specs.Boxed.{SmallStep, own_step}
-use Rattle.sessions.specs.Made.{Did}
+use Rattle.sessions.proofs.CommonNames.{into_iter_items, nil_from_length, PlainStep, SmallStep, own_step, Did}
+use Rattle.requests.specs.declared.Reply.{Reply}
 use Rattle.sessions.proofs.Scripts.{did_more}
 use Rattle.sessions.proofs.worker.work.Goals as goal
 
@@ -16,7 +13,7 @@ loop-step-init g c =
     let count = c.args.steps.ok.0 in
     record {
       split = all;
-      did = (ap length none_yet, refl, refl, refl, refl, c.requires.fresh.0, c.requires.fresh.1);
+      did = subst (Did c.args.session [] c.args.replies.items) (sym c.announce.ensures) (ap length none_yet, refl, refl, refl, refl, c.requires.fresh.0, c.requires.fresh.1);
       few = omega (arith, left, count, c.requires.few);
       room = omega (arith, left, count, c.requires.room.1, c.requires.room.2);
     }
@@ -44,8 +41,9 @@ loop-step-preserved g c =
       room = omega arith;
     }
 
-pub returns : goal.returns
-returns g c =
+pub returns-clause-did : goal.returns-clause-did
+returns-clause-did g c =
     let none = nil_from_length _ (sym c.loop-step.step-iterator.rest.ok.0 ∙ c.in-None.ensures.steps.0) in
     let all = sym (append-nil c.loop-step.yielded) ∙ ap (λ (xs : List SmallStep). c.loop-step.yielded ++ xs) (sym none) ∙ c.loop-step.invariant.split in
-    subst (λ (steps : List SmallStep). Did c.args.session (map own_step steps) c.loop-step.replies.items c.loop-step.session) all c.loop-step.invariant.did
+    let did = subst (λ (steps : List SmallStep). Did c.args.session (map own_step steps) c.loop-step.replies.items c.loop-step.session) all c.loop-step.invariant.did in
+    subst (λ (rs : List Reply). Did c.args.session (map own_step c.args.steps.items) rs c.loop-step.session) (sym c.report-output.ensures.made) did

@@ -1,8 +1,5 @@
 use Rattle.std.proofs.Common.{◌≡◌, ◌+◌, ◌≤◌, ◌++◌, map, length, vec_len, vec_capacity}
-use Rattle.std.specs.Vec.Iter.{into_iter_items}
-use Rattle.host_lock.specs.Limits.{max_calls}
-use Rattle.sessions.specs.Boxed.{own_step}
-use Rattle.sessions.specs.Made.{Did}
+use Rattle.sessions.proofs.CommonNames.{into_iter_items, max_calls, own_step, Did}
 use Rattle.sessions.proofs.worker.work.Given as goal
 
 abbrev pub invariant-loop-step : goal.invariant-loop-step

@@ -1,6 +1,5 @@
 use Rattle.std.proofs.Common.{◌≡◌, ◌-◌, [], map}
-use Rattle.pid_blocks.specs.Blocks.{rising}
-use Rattle.sessions.specs.Boxed.{boxed_script}
+use Rattle.threaded_runs.proofs.CommonNames.{rising, boxed_script}
 use Rattle.threaded_runs.proofs.threading.empty_scripts.Given as goal
 
 abbrev pub invariant-loop-number : goal.invariant-loop-number

@@ -1,7 +1,5 @@
 use Rattle.std.proofs.Common.{not, map, sym, ap, ◌∙◌}
-use Rattle.std.proofs.lemmas.List.{length-map}
-use Rattle.std.specs.Prelude.{vec_len}
-use Rattle.sessions.specs.Boxed.{own_step}
+use Rattle.threaded_runs.proofs.CommonNames.{length-map, vec_len, own_step}
 use Rattle.threaded_runs.proofs.ThreadLemmas.{are_some}
 use Rattle.threaded_runs.proofs.threading.is_asked.Goals as goal
 

@@ -1,17 +1,9 @@
 use Rattle.std.proofs.Common.{◌≡◌, ℕ, ◌+◌, [], ◌∷◌, ◌++◌, List, map, length, filter, get_or, drop, Some, None, option_map, refl, ap, sym, subst, ◌∙◌, arith, rules}
-use Rattle.std.specs.Vec.Iter.{into_iter_items}
-use Rattle.std.proofs.lemmas.List.{length-map, map-append}
+use Rattle.threaded_runs.proofs.CommonNames.{into_iter_items, length-map, map-append, set, slot, users, BoxedScript, boxed_script, own_step, PlainStep, Users, filled, first_policy, policies_in, step_with, has_steps}
 use Rattle.std.proofs.lemmas.Fn.{filter_same}
-use Rattle.std.proofs.Math.ListN.{set}
-use Rattle.pid_blocks.specs.Blocks.{slot, users}
-use Rattle.sessions.specs.declared.boxing.BoxedScript.{BoxedScript}
-use Rattle.sessions.specs.Boxed.{boxed_script, own_step}
-use Rattle.requests.specs.Plain.{PlainStep}
-use Rattle.requests.specs.Isolation.{Users}
 use Rattle.visibility.proofs.Answered.{map-push, Users-push}
-use Rattle.scenario_text.specs.Plan.{asked, filled, first_policy, policies_in, step_with}
+use Rattle.scenario_text.specs.Plan.{asked}
 use Rattle.scenario_text.proofs.FilledLemmas.{length_filled}
-use Rattle.threaded_runs.specs.Scripts.{has_steps}
 use Rattle.scenario.proofs.BindLemmas.{all_bound, each_next, filled_next, first_before, one_bound}
 use Rattle.threaded_runs.proofs.ScriptLemmas.{script_of}
 use Rattle.threaded_runs.proofs.ThreadLemmas.{step_added, kept_scripts}
@@ -26,9 +18,7 @@ loop-shape-init g c =
 pub index_mut-requires : goal.index_mut-requires
 index_mut-requires g c =
     let long : length c.loop-shape.scripts.items ≡ 64 = sym (length-map c.loop-shape.scripts.items boxed_script) ∙ ap length c.loop-shape.invariant.4 in
-    let same = c.loop-shape.scripts.ok.0 in
-    let below = c.slot.ensures.below in
-    omega (arith, long, same, below)
+    omega (arith, long, c.loop-shape.scripts.ok.0, c.slot.ensures.below)
 
 pub unreachable-requires : goal.unreachable-requires
 unreachable-requires g c =
@@ -56,7 +46,7 @@ loop-shape-preserved g c =
     let same : Some bare ≡ Some step = ap (option_map own_step) (sym c.in-Some.is) ∙ bound.1 in
     let entry : ℕ × PlainStep = (x.0, bare) in
     let old = c.index_mut.result.now in
-    let new : BoxedScript g.row.F.Denot = record { uid = old.uid; steps = c.push.new.self } in
+    let new : BoxedScript g.row.F.Denot (Unit {0}) = record { uid = old.uid; steps = c.push.new.self; report = old.report } in
     let longer : map own_step new.steps.items ≡ map own_step old.steps.items ++ bare ∷ [] =
     ap (map own_step) c.in_ok-push.ensures.items ∙ map-append own_step old.steps.items (c.in-Some.small ∷ []) in
     let was : old ≡ get_or at.scripts.items (slot x.0) old = c.index_mut.ensures.value ∙ ap (λ k. get_or at.scripts.items k old) c.slot.ensures.place in (
@@ -67,27 +57,23 @@ loop-shape-preserved g c =
       subst Users (sym (map-push asked done entry)) (Users-push (map asked done) (asked entry) inv.3 c.slot.ensures.user),
       ap (λ k. map boxed_script (set at.scripts.items k new)) c.slot.ensures.place
           ∙ step_added at.scripts.items new old (map asked done) x.0 bare c.slot.ensures.user inv.4
-          (ap (λ (s : BoxedScript g.row.F.Denot). s.uid) was)
-          (longer ∙ ap (λ (s : BoxedScript g.row.F.Denot). map own_step s.steps.items ++ bare ∷ []) was)
+          (ap (λ (s : BoxedScript g.row.F.Denot (Unit {0})). s.uid) was)
+          (longer ∙ ap (λ (s : BoxedScript g.row.F.Denot (Unit {0})). map own_step s.steps.items ++ bare ∷ []) was)
           ∙ ap (λ xs. map (script_of xs) users) (sym (map-push asked done entry)),
     )
 
 pub returns-clause-users : goal.returns-clause-users
 returns-clause-users g c =
     let inv = c.loop-shape.invariant in
-    let past = c.loop-shape-test.false in
-    subst Users (all_bound inv.0 c.shapes-shapes.result.now c.loop-shape.shape-index (into_iter_items c.loop-shape.rest) c.args.scenario.now.steps (omega (arith, past)) inv.1) inv.3
+    subst Users (all_bound inv.0 c.shapes-shapes.result.now c.loop-shape.shape-index (into_iter_items c.loop-shape.rest) c.args.scenario.now.steps (omega (arith, c.loop-shape-test.false)) inv.1) inv.3
 
 pub returns-clause-few : goal.returns-clause-few
 returns-clause-few g c =
-    let few = c.shapes-shapes.ensures.bound in
-    let count = sym (ap length c.shapes-shapes.ensures.steps) ∙ length_filled c.shapes-shapes.result.now (policies_in c.args.scenario.now.steps) in
-    omega (arith, few, count)
+    omega (arith, c.shapes-shapes.ensures.bound, ap length c.shapes-shapes.ensures.steps, length_filled c.shapes-shapes.result.now (policies_in c.args.scenario.now.steps))
 
 pub returns-clause-scripts : goal.returns-clause-scripts
 returns-clause-scripts g c =
     let inv = c.loop-shape.invariant in
-    let past = c.loop-shape-test.false in
-    let all = all_bound inv.0 c.shapes-shapes.result.now c.loop-shape.shape-index (into_iter_items c.loop-shape.rest) c.args.scenario.now.steps (omega (arith, past)) inv.1 in
-    let kept = filter_same _ (λ (s : BoxedScript g.row.F.Denot). has_steps (boxed_script s)) _ (λ x b f' k. search rules) _ _ c.retain.ensures.filtered in
+    let all = all_bound inv.0 c.shapes-shapes.result.now c.loop-shape.shape-index (into_iter_items c.loop-shape.rest) c.args.scenario.now.steps (omega (arith, c.loop-shape-test.false)) inv.1 in
+    let kept = filter_same _ (λ (s : BoxedScript g.row.F.Denot (Unit {0})). has_steps (boxed_script s)) _ (λ x b f' k. search rules) _ _ c.retain.ensures.filtered in
     ap (map boxed_script) kept ∙ kept_scripts c.loop-shape.scripts.items ∙ ap (filter has_steps) (inv.4 ∙ ap (λ xs. map (script_of xs) users) all)

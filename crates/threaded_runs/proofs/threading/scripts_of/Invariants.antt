@@ -1,10 +1,6 @@
 use Rattle.std.proofs.Common.{◌≡◌, ℕ, ◌++◌, List, map, drop}
-use Rattle.std.specs.Vec.Iter.{into_iter_items}
-use Rattle.pid_blocks.specs.Blocks.{users}
-use Rattle.requests.specs.Isolation.{Users}
-use Rattle.requests.specs.Plain.{PlainStep}
-use Rattle.scenario_text.specs.Plan.{filled, policies_in, asked as as_asked}
-use Rattle.sessions.specs.Boxed.{boxed_script}
+use Rattle.threaded_runs.proofs.CommonNames.{into_iter_items, users, Users, PlainStep, filled, policies_in, boxed_script}
+use Rattle.scenario_text.specs.Plan.{asked as as_asked}
 use Rattle.threaded_runs.proofs.ScriptLemmas.{script_of}
 use Rattle.threaded_runs.proofs.threading.scripts_of.Given as goal
 

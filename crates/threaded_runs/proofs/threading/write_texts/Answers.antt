@@ -1,10 +1,5 @@
 use Rattle.std.proofs.Common.{◌≡◌, ℕ, ◌+◌, ◌<◌, ◌++◌, List, Option, String, Err, drop, get_or, length, sym, ap, subst, ◌∙◌, string_bytes}
-use Rattle.std.specs.Global.{Global}
-use Rattle.std.specs.Io.KnownBytes.{Appends}
-use Rattle.std.specs.List.{flat_map}
-use Rattle.std.proofs.lemmas.List.{at_drop_more}
-use Rattle.scenario.proofs.WriteLemmas.{Front}
-use Rattle.scenario.specs.Runs.{Writes}
+use Rattle.threaded_runs.proofs.CommonNames.{Global, Appends, flat_map, at_drop_more, Front, Writes}
 use Rattle.threaded_runs.proofs.FrontLemmas.{front_failed, front_next}
 use Rattle.threaded_runs.proofs.threading.write_texts.Goals as goal
 

@@ -1,6 +1,5 @@
 use Rattle.std.proofs.Common.{drop, string_bytes}
-use Rattle.std.specs.List.{flat_map}
-use Rattle.scenario.proofs.WriteLemmas.{Front}
+use Rattle.threaded_runs.proofs.CommonNames.{flat_map, Front}
 use Rattle.threaded_runs.proofs.threading.write_texts.Given as goal
 
 abbrev pub invariant-loop-text : goal.invariant-loop-text

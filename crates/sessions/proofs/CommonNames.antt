@@ -1,0 +1,28 @@
+-- The words of scripts, jobs and runs, from one place.
+pub use Rattle.host_lock.proofs.Totals.{all_of, each_of}
+pub use Rattle.host_lock.specs.Answers.{Calls, GivesBack}
+pub use Rattle.host_lock.specs.Journal.{IsLegal, StartsWith, asked, entries_of, entry, replay}
+pub use Rattle.host_lock.specs.Limits.{max_calls, max_sessions}
+pub use Rattle.host_lock.specs.Rule.{Each}
+pub use Rattle.host_lock.specs.Sessions.{HostData, InJournal, IsBelow, IsOf, Makes, SessionData, new_session, new_sessions}
+pub use Rattle.host_lock.specs.declared.journal.Entry.{Entry}
+pub use Rattle.requests.proofs.SoundHostIsApart.{users_are_apart_in_a_sound_host}
+pub use Rattle.requests.specs.Machine.{Machine}
+pub use Rattle.requests.specs.Memory.{is_memory}
+pub use Rattle.requests.specs.Plain.{PlainStep}
+pub use Rattle.requests.specs.Run.{Asked, asked_by, last, replies}
+pub use Rattle.requests.specs.View.{View, alone, view, with_view}
+pub use Rattle.sessions.specs.Boxed.{SmallStep, boxed_script, own_step, report_of, steps_of, uid_of}
+pub use Rattle.sessions.specs.Jobs.{AllDone, HasRoom, IsDone, IsReady, done_session, done_transcript, job_report, job_session, job_steps}
+pub use Rattle.sessions.specs.Made.{Did, Pairs, made}
+pub use Rattle.sessions.specs.PlainRuns.{AllAnswer, Answers, AreFew, RanBy}
+pub use Rattle.sessions.specs.Runs.{AllPlay, AllTell, OwnEntries, Plays, RefusesFor, entries_by, plain_script, whole}
+pub use Rattle.sessions.specs.declared.boxing.BoxedScript.{BoxedScript}
+pub use Rattle.sessions.specs.declared.job.Done.{Done}
+pub use Rattle.sessions.specs.declared.job.Job.{Job}
+pub use Rattle.sessions.specs.declared.script.Transcript.{Transcript}
+pub use Rattle.std.proofs.lemmas.Bool.Decides.{nat_tests}
+pub use Rattle.std.proofs.lemmas.List.{get_or-map, length-map, length-reverse, nil_from_length, reverse-append, reverse-reverse}
+pub use Rattle.std.proofs.lemmas.List.Elements.{All-from_recursion, recursion_from_All}
+pub use Rattle.std.specs.List.{AllByRecursion}
+pub use Rattle.std.specs.Vec.Iter.{into_iter_items}

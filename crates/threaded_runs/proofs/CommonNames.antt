@@ -1,0 +1,33 @@
+-- The words of runs, scripts and answers, from one place.
+pub use Rattle.host_lock.specs.declared.journal.Entry.{Entry}
+pub use Rattle.pid_blocks.specs.Blocks.{rising, slot, users}
+pub use Rattle.pid_blocks.specs.Users.{IsUser}
+pub use Rattle.requests.specs.Isolation.{Users}
+pub use Rattle.requests.specs.Machine.{Machine, empty}
+pub use Rattle.requests.specs.Plain.{PlainStep}
+pub use Rattle.requests.specs.Run.{Asked, asked_by, replies}
+pub use Rattle.requests.specs.View.{alone}
+pub use Rattle.requests.specs.declared.Reply.{Reply}
+pub use Rattle.row_isolation.proofs.FilteredLists.{All-map, All-where}
+pub use Rattle.scenario.proofs.WriteLemmas.{Front, appends_more}
+pub use Rattle.scenario.specs.Lines.{Answered, lines, lines_after, lines_of, text_of}
+pub use Rattle.scenario.specs.Runs.{Writes, answered, paired, shown}
+pub use Rattle.scenario.specs.declared.style.Style.{Style}
+pub use Rattle.scenario_text.specs.Plan.{Plan, filled, first_policy, max_steps, policies_in, step_with}
+pub use Rattle.sessions.specs.Boxed.{boxed_script, own_step}
+pub use Rattle.sessions.specs.PlainRuns.{AllAnswer, AreFew, Ran}
+pub use Rattle.sessions.specs.Runs.{AllPlay, AllTell, OwnEntries, RefusesFor, entries_by}
+pub use Rattle.sessions.specs.declared.boxing.BoxedScript.{BoxedScript}
+pub use Rattle.std.proofs.Math.ListN.{set}
+pub use Rattle.std.proofs.lemmas.Bool.{cases_eq, cases_lt, eq-eqb}
+pub use Rattle.std.proofs.lemmas.Bool.Decides.{nat_tests}
+pub use Rattle.std.proofs.lemmas.List.{at_drop_more, get_or-map, length-map, map-append, map-set, take-append-drop}
+pub use Rattle.std.proofs.lemmas.List.Elements.{All-from_recursion, recursion_from_All}
+pub use Rattle.std.specs.Global.{Global}
+pub use Rattle.std.specs.Io.KnownBytes.{Appends}
+pub use Rattle.std.specs.List.{AllByRecursion, concat, flat_map}
+pub use Rattle.std.specs.Prelude.{All, Vec, vec_len, ⊤}
+pub use Rattle.std.specs.Vec.Iter.{into_iter_items}
+pub use Rattle.threaded_runs.specs.Grouped.{answers_by, shown_grouped}
+pub use Rattle.threaded_runs.specs.Scripts.{AreMade, IsMade, Shows, answers_by_scripts, has_steps, replies_in, scripts_in, some_steps, steps_of, text_in, told_by, told_to}
+pub use Rattle.trace_stop.proofs.Every.{All-both, All-imply}
