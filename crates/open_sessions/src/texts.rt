@@ -6,7 +6,7 @@ ghost use Rattle.open_sessions.specs.Lasting.{line_reply};
 
 use crate::answers::Answer;
 use reply_json::refusal_json;
-use scenario::{Fault, Style, USERS, push_line};
+use scenario::{Fault, ObjectWriter, Style, USERS, push_line};
 use std::alloc::{AllocError, Global};
 
 /// Adds a refusal in words: the line that names the fault for which a line is not a step.
@@ -56,7 +56,9 @@ pub(crate) fn push_last(
         None => Ok(()),
         Some(Ok(answer)) => {
             let user = answer.0;
-            push_line(alloc, style, text, user, made[user.slot()], &answer.1)
+            let number = made[user.slot()];
+            let mut objects = ObjectWriter::new(alloc);
+            push_line(alloc, style, &mut objects, text, user, number, &answer.1)
         }
         Some(Err(fault)) => push_refusal(alloc, style, *fault, text),
     }

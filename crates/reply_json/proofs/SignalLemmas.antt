@@ -1,5 +1,5 @@
 -- No signal has a number outside 1 to 31.
-use Rattle.std.proofs.Common.{◌≡◌, ◌≢◌, ◌⊎◌, ℕ, ◌<◌, ◌≤◌, ◌==◌, Bool, true, List, [], ◌∷◌, find, Option, None, refl, ap, arith, inl, inr}
+use Rattle.std.proofs.Common.{◌≡◌, ◌≢◌, ◌⊎◌, ℕ, ◌<◌, ◌==◌, Bool, true, List, [], ◌∷◌, find, Option, None, refl, ap, arith}
 use Rattle.std.specs.Prelude.{◌&&◌}
 use Rattle.std.specs.Option.{option_map_or}
 use Rattle.std.proofs.lemmas.Bool.{ne_eqb, leb-true, and_parts}
@@ -18,11 +18,8 @@ none_outside (r ∷ rows) n h out =
     let range = and_parts _ _ parts.0 in
     let low = leb-true 1 r.number range.0 in
     let high = leb-true r.number 31 range.1 in
-    rw (ne_eqb r.number n (differs r.number low high out)) (none_outside rows n parts.1 out)
-  where
-    differs : (m : ℕ) → 1 ≤ m → m ≤ 31 → (n < 1) ⊎ (31 < n) → m ≢ n
-    differs m low high (inl below) = λ same. omega arith
-    differs m low high (inr above) = λ same. omega arith
+    let differs : r.number ≢ n = grind (arith, low, high, out) in
+    rw (ne_eqb r.number n differs) (none_outside rows n parts.1 out)
 
 pub no_name : (n : ℕ) → (n < 1) ⊎ (31 < n) → signal_name n ≡ []
 unfolding table

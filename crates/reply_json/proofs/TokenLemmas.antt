@@ -2,14 +2,14 @@
 use Rattle.std.proofs.Common.{◌≡◌, ℕ, ◌≤◌, List, [], ◌∷◌, ◌++◌, map, Some, option_and_then, refl, sym, ap, ◌∙◌, append_assoc, append-nil}
 use Rattle.event_masks.specs.Names.{names_of}
 use Rattle.std.specs.Prelude.{OnOk, Result, Ok, Err}
-use Rattle.json.specs.Json.{Json, array, document, string, if_last, max_depth, value}
+use Rattle.json.specs.Json.{Json, document, string, if_last, max_depth, value}
 use Rattle.json.specs.Lex.{tokens}
 use Rattle.json.specs.Print.{print}
-use Rattle.json.specs.Token.{Token, key, begin_object, end_object, begin_array, end_array}
+use Rattle.json.specs.Token.{Token, key, end_object}
 use Rattle.json.specs.Tree.{json_tokens, items_tokens, members_tokens, depth}
 use Rattle.json.specs.Value.{items_of}
 use Rattle.json.proofs.Printed.Trees.{value-json_tokens}
-use Rattle.reply_json.specs.Objects.{Member, members_of, object_of, json_text, value_tokens, member_tokens}
+use Rattle.reply_json.specs.Objects.{Member, members_of, json_text, member_tokens}
 
 -- the tokens of an object's members, and the brace that closes it
 pub members-members : (ms : List Member) → members_tokens (members_of ms) ≡ member_tokens ms ++ end_object ∷ []
@@ -35,17 +35,6 @@ document-back j shallow back =
 abbrev pub name_tokens : ℕ → List (List ℕ × ℕ) → List Token
 name_tokens bits rows = items_tokens (items_of (map (λ text. string text) (names_of rows bits)))
 
--- ---- brackets
-
--- an object: the brace that opens it, its members, and the brace that closes it
-pub object_put : {E : Type 0} (r : Result (Unit {0}) E) (ms : List Member) (old opened filled new : List Token)
-    → opened ≡ old ++ begin_object ∷ [] → filled ≡ opened ++ member_tokens ms → OnOk r (new ≡ filled ++ end_object ∷ [])
-    → OnOk r (new ≡ old ++ json_tokens (object_of ms))
-object_put (Err e) ms old opened filled new o f n = tt
-object_put (Ok u) ms old opened filled new o f n =
-    let ends = members-members ms in
-    rw (n, f, o, ends) (simp append_assoc)
-
 -- ---- tokens after tokens
 
 pub tokens_put : {E : Type 0} (r : Result (Unit {0}) E) (ts us old mid new : List Token)
@@ -53,6 +42,4 @@ pub tokens_put : {E : Type 0} (r : Result (Unit {0}) E) (ts us old mid new : Lis
 tokens_put (Err e) ts us old mid new m n = tt
 tokens_put (Ok u) ts us old mid new m n = rw (n, m) (append_assoc old ts us)
 
-pub members_put : {E : Type 0} (r : Result (Unit {0}) E) (ms ns : List Member) (old mid new : List Token)
-    → mid ≡ old ++ member_tokens ms → OnOk r (new ≡ mid ++ member_tokens ns) → OnOk r (new ≡ old ++ member_tokens (ms ++ ns))
-members_put r ms ns old mid new m n = rw (member_tokens-append ms ns) (tokens_put r (member_tokens ms) (member_tokens ns) old mid new m n)
+pub ruleset put_rules = (member_tokens-append, members-members, append_assoc)

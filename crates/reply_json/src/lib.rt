@@ -7,4 +7,4 @@ mod objects;
 mod statuses;
 mod stops;
 
-pub use objects::{refusal_json, reply_json};
+pub use objects::{ObjectWriter, refusal_json};

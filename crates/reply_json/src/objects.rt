@@ -17,10 +17,11 @@ use pid_blocks::{Errno, Pid, Tid, Uid};
 use requests::Reply;
 use signals::Signal;
 use std::alloc::{AllocError, Global};
+use std::mem;
 use stop_handlers::{Decision, StopView};
 use wait4::Status;
 
-/// The initial capacity for a reply's text, in bytes: enough for most replies.
+/// The initial capacity for the text of a refusal, in bytes.
 const ROOM: usize = 256;
 
 /// Returns the reply's word.
@@ -87,6 +88,7 @@ fn push_handling(
 }
 
 /// Writes what a wait reported, and what handlers decided about it.
+#[tactic(auto, using(crate::proofs::TokenLemmas::put_rules))]
 fn push_handled(
     out: &mut Writer,
     pid: Pid,
@@ -153,6 +155,7 @@ fn push_head(out: &mut Writer, uid: Uid, number: u64, word: &str) -> Result<(), 
 }
 
 /// Writes all members of the reply's object.
+#[tactic(auto, using(crate::proofs::TokenLemmas::put_rules))]
 fn push_all(out: &mut Writer, uid: Uid, number: u64, reply: &Reply) -> Result<(), AllocError>
     ensures { Puts result out.old out.new (member_tokens (head_members uid number (reply_word reply.now) ++ reply_members reply.now)) }
 {
@@ -161,6 +164,7 @@ fn push_all(out: &mut Writer, uid: Uid, number: u64, reply: &Reply) -> Result<()
 }
 
 /// Writes the reply's object.
+#[tactic(auto, using(crate::proofs::TokenLemmas::put_rules))]
 fn push_object(out: &mut Writer, uid: Uid, number: u64, reply: &Reply) -> Result<(), AllocError>
     ensures { Puts result out.old out.new (reply_tokens uid number reply.now) }
 {
@@ -178,15 +182,42 @@ fn text_of(out: Writer) -> String
     String::from_utf8(out.into_inner()).unwrap()
 }
 
-/// Returns the reply to a user's step with this number as one JSON object, without a space or a line feed. An error
-/// means out of memory.
-pub fn reply_json(alloc: Global, uid: Uid, number: u64, reply: &Reply) -> Result<String, AllocError>
-    ensures text { IfOk result (λ text. string_bytes text ≡ reply_json uid number reply.now) }
-    ensures reads_back { OnOk result (document (reply_json uid number reply.now) ≡ Some (reply_value uid number reply.now)) }
-{
-    let mut out = Writer::new(Vec::with_capacity(alloc, ROOM)?);
-    push_object(&mut out, uid, number, reply)?;
-    Ok(text_of(out))
+/// Writes the objects of replies, one after another in the same memory.
+#[derive(Drop)]
+pub struct ObjectWriter {
+    bytes: Vec<u8>,
+}
+
+impl ObjectWriter {
+    /// Creates a writer. It takes no memory before its first object.
+    pub fn new(alloc: Global) -> ObjectWriter {
+        ObjectWriter {
+            bytes: Vec::new(alloc),
+        }
+    }
+
+    /// Adds the reply to a user's step with this number to the text, as one JSON object, without a space or a line
+    /// feed. An error means out of memory.
+    pub fn push_reply(
+        &mut self,
+        alloc: Global,
+        text: &mut String,
+        uid: Uid,
+        number: u64,
+        reply: &Reply,
+    ) -> Result<(), AllocError>
+        ensures text { OnOk result (string_bytes text.new ≡ string_bytes text.old ++ reply_json uid number reply.now) }
+        ensures reads_back { OnOk result (document (reply_json uid number reply.now) ≡ Some (reply_value uid number reply.now)) }
+    {
+        let mut bytes = mem::replace(&mut self.bytes, Vec::new(alloc));
+        bytes.clear();
+        let mut out = Writer::new(bytes);
+        push_object(&mut out, uid, number, reply)?;
+        let object = text_of(out);
+        text.push_str(object.as_str())?;
+        self.bytes = object.into_bytes();
+        Ok(())
+    }
 }
 
 /// Returns an object with the name of the fault for which a line is not a step. An error means out of memory.

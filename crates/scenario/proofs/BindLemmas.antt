@@ -1,10 +1,9 @@
 -- One more step with its handler.
 use Rattle.std.specs.Prelude.{⊤}
-use Rattle.std.proofs.Common.{◌≡◌, ℕ, ◌+◌, ◌<◌, ◌≤◌, List, [], ◌∷◌, ◌++◌, length, get_or, map, drop, Option, Some, None, refl, sym, ap, subst, ◌∙◌, append_assoc, append-nil, arith}
+use Rattle.std.proofs.Common.{◌≡◌, ℕ, ◌+◌, ◌<◌, ◌≤◌, List, [], ◌∷◌, ◌++◌, length, get_or, map, drop, Option, Some, None, sym, ap, subst, ◌∙◌, append_assoc, append-nil, arith}
 use Rattle.std.proofs.lemmas.List.{at_drop_all, at_drop_more, length-append}
 use Rattle.stop_handlers.specs.declared.Rule.{Rule}
 use Rattle.requests.specs.declared.step.Step.{Step}
-use Rattle.requests.specs.declared.step.Step.TheVariants as op
 use Rattle.requests.specs.declared.Reply.{Reply}
 use Rattle.requests.specs.Hosts.{Steps}
 use Rattle.requests.specs.Machine.{Machine}
@@ -33,36 +32,25 @@ module _ (ss : List (ℕ × Step ⊤)) (i : ℕ) (x : ℕ × Step ⊤) (ps qs : 
 -- the steps so far and one more
 pub one_bound : (done now : List (ℕ × PlainStep)) (u : ℕ) (s t : PlainStep) (left rest all : List Asked) → s ≡ t → now ≡ done ++ (u, s) ∷ [] → left ≡ asked (u, t) ∷ rest
     → map asked done ++ left ≡ all → map asked now ++ rest ≡ all
-one_bound done now u s t left rest all same pushed first so_far =
-    ap (λ xs. map asked xs ++ rest) (pushed ∙ ap (λ y. done ++ (u, y) ∷ []) same)
-    ∙ ap (λ xs. xs ++ rest) (map-push asked done (u, t))
-    ∙ append_assoc (map asked done) (asked (u, t) ∷ []) rest
-    ∙ sym (ap (λ xs. map asked done ++ xs) first) ∙ so_far
+one_bound done now u s t left rest all same pushed first so_far = grind (arith, map-push asked done (u, t), append_assoc {A = Asked})
 
 pub one_longer : {X : Type 0} (done now : List X) (x : X) (n : ℕ) → now ≡ done ++ x ∷ [] → length done ≡ n → length now ≡ n + 1
 one_longer done now x n pushed count = ap length pushed ∙ simp length-append (omega (arith, count))
 
 -- no step is left
 pub all_bound : (done : List (ℕ × PlainStep)) (ss : List (ℕ × Step ⊤)) (i : ℕ) (ps : List (List Rule)) (all : List Asked) → length ss ≤ i → map asked done ++ filled (drop i ss) ps ≡ all → map asked done ≡ all
-all_bound done ss i ps all past so_far =
-    sym (append-nil (map asked done)) ∙ sym (at_drop_all (λ xs. map asked done ++ filled xs ps) ss i past) ∙ so_far
+all_bound done ss i ps all past so_far = let past = at_drop_all (λ xs. filled xs ps) ss i past in grind (arith, past, append-nil {A = Asked})
 
 -- a step that was made with no handler
 pub needs_none : (u : ℕ) (shape : Step ⊤) (ps : List (List Rule)) (m n : Machine) (r : Reply) → Makes u (with_handler {B = List Rule} None shape) m n (Some r)
     → (ps ≡ policies_after shape ps) × Steps u (step_with (first_policy ps) shape) m n r
-needs_none u (op.Install caller own) ps m n r h = let none = h.0 in absurd (cc)
-needs_none u shape ps m n r h = (refl, h)
+needs_none u shape ps m n r h = grind arith
 
 -- nor changed anything where it needs one
 pub nothing_made : (u : ℕ) (o : Option PlainStep) (m n : Machine) → Makes u o m n None → n ≡ m
-nothing_made u None m n h = h.1
-nothing_made u (Some s) m n h = absurd h
+nothing_made u o m n h = grind arith
 
 -- a step that was made with the handler that it was bound to
 pub made_bound : (u : ℕ) (shape : Step ⊤) (ps qs others : List (List Rule)) (s : PlainStep) (o : Option PlainStep) (m n k : Machine) (r : Reply) → IsBound shape ps qs o
     → policy_before (step_with (first_policy ps) shape) others ≡ ps → o ≡ Some s → n ≡ m → Steps u s n k r → (qs ≡ policies_after shape ps) × Steps u (step_with (first_policy ps) shape) m k r
-made_bound u shape ps qs others s o m n k r bound had is kept steps =
-    let b = bound others had in
-    let both : Some s ≡ Some (step_with (first_policy ps) shape) = sym is ∙ b.1 in
-    let same : s ≡ step_with (first_policy ps) shape = cc in
-    (b.0, subst (λ x. Steps u (step_with (first_policy ps) shape) x k r) kept (subst (λ t. Steps u t n k r) same steps))
+made_bound u shape ps qs others s o m n k r bound had is kept steps = let b = bound others had in grind (arith, b)

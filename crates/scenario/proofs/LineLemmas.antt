@@ -1,9 +1,8 @@
 -- One more line, and one more reply of a user.
-use Rattle.std.proofs.Common.{◌≡◌, ℕ, ◌+◌, ◌-◌, ◌<◌, ◌≤◌, ◌==◌, Bool, true, false, cond, List, [], ◌∷◌, ◌++◌, length, get_or, map, drop, Option, Some, None, count_by, replicate, refl, sym, ap, ◌∙◌, inl, inr, arith}
+use Rattle.std.proofs.Common.{◌≡◌, ℕ, ◌+◌, ◌-◌, ◌<◌, ◌≤◌, ◌==◌, Bool, cond, List, [], ◌∷◌, ◌++◌, length, get_or, map, drop, Option, Some, None, count_by, replicate, refl, sym, ap, ◌∙◌, arith}
 use Rattle.std.proofs.Math.ListN.{set}
 use Rattle.std.proofs.lemmas.List.{append_assoc, at_drop_more, length-set, get_or-set_same, get_or-set_other, get_or-replicate, get_or_past}
 use Rattle.std.proofs.lemmas.List.Sums.{count_by-le-length, sum_by-cons}
-use Rattle.std.proofs.lemmas.Bool.{cases_lt}
 use Rattle.std.proofs.lemmas.Bool.Decides.{nat_tests}
 use Rattle.requests.specs.declared.Reply.{Reply}
 use Rattle.scenario.specs.Lines.{Answered, Line, line, lines_after, lines_of, text_of}
@@ -27,42 +26,23 @@ counted_start = record { users = refl; each = λ k h. get_or-replicate 64 k 0 0 
 pub counted_one : (u user : ℕ) (before : List ℕ) (b : Bool) → (u == user) ≡ b → replies_to user (u ∷ before) ≡ cond b 1 0 + replies_to user before
 counted_one u user before b is = sum_by-cons (λ x. cond (x == user) 1 0) u before ∙ ap (λ t. cond t 1 0 + replies_to user before) is
 
-counted_at : (made before : List ℕ) (u k : ℕ) → 1001 ≤ u → u ≤ 1064 → Counted made before → k < 64 → (b : Bool) → (u == (k + 1001)) ≡ b
-    → get_or (set made (u - 1001) (get_or made (u - 1001) 0 + 1)) k 0 ≡ replies_to (k + 1001) (u ∷ before)
-counted_at made before u k low high counted small true same =
-    let there : u - 1001 ≡ k = grind (arith, nat_tests) in
-    let users = counted.users in
-    let room : u - 1001 < length made = omega arith in
-    let own = counted_one u (k + 1001) before true same in
-    let here : get_or (set made (u - 1001) (get_or made (u - 1001) 0 + 1)) k 0 ≡ replies_to (k + 1001) before + 1 =
-    ap (λ j. get_or (set made (u - 1001) (get_or made (u - 1001) 0 + 1)) j 0) (sym there) ∙ get_or-set_same made (u - 1001) _ 0 room
-    ∙ ap (λ j. get_or made j 0 + 1) there ∙ ap (λ n. n + 1) (counted.each k small) in
-    here ∙ omega (arith, own)
-counted_at made before u k low high counted small false other =
-    let apart : k ≡ u - 1001 → ⊥ = λ eq. grind (arith, nat_tests) in
-    let own = counted_one u (k + 1001) before false other in
-    get_or-set_other made (u - 1001) k _ 0 apart ∙ counted.each k small ∙ omega (arith, own)
-
 -- what the slot of a user says
 pub counted_number : (made before : List ℕ) (u : ℕ) → 1001 ≤ u → u ≤ 1064 → Counted made before → get_or made (u - 1001) 0 ≡ replies_to u before
-counted_number made before u low high counted =
-    let small : u - 1001 < 64 = omega arith in
-    let back : u - 1001 + 1001 ≡ u = omega arith in
-    counted.each (u - 1001) small ∙ ap (λ v. replies_to v before) back
+counted_number made before u low high counted = let own = counted.each (u - 1001) in grind (arith, own)
 
 -- the slot of the user counts one more, and the others stay
 pub counted_more : (made before : List ℕ) (u : ℕ) → 1001 ≤ u → u ≤ 1064 → Counted made before → Counted (set made (u - 1001) (get_or made (u - 1001) 0 + 1)) (u ∷ before)
 counted_more made before u low high counted = record {
   users = length-set made _ _ ∙ counted.users;
-  each = λ k small. counted_at made before u k low high counted small _ refl;
+  each = λ k small.
+      let own = counted_one u (k + 1001) before _ refl in
+      let was = counted.each k small in
+      grind (arith, nat_tests, counted.users, was, own, get_or-set_same {A = ℕ}, get_or-set_other {A = ℕ});
 }
 
 -- no slot counts more replies than there were
 pub counted_few : (made before : List ℕ) → Counted made before → (k : ℕ) → get_or made k 0 ≤ length before
-counted_few made before counted k = elim (cases_lt k 64) [
-  | inl small ↦ let n = counted.each k small in let few = count_by-le-length (λ u. u == (k + 1001)) before in omega arith
-  | inr large ↦ let users = counted.users in let long : length made ≤ k = omega arith in let past = get_or_past made k 0 long in omega arith
-]
+counted_few made before counted k = let own = counted.each k in grind (arith, counted.users, own, count_by-le-length (λ u. u == (k + 1001)) before, get_or_past made k 0)
 
 abbrev pub shown_lines : Option ℕ → List Line → List ℕ
 shown_lines None list = text_of list
@@ -73,30 +53,19 @@ abbrev pub shown_after : Style → Option ℕ → List ℕ → List Answered →
 shown_after style user before answers = shown_lines user (lines_after style before answers)
 
 pub shown_whole : (style : Style) (user : Option ℕ) (answers : List Answered) → shown_after style user [] answers ≡ shown style user answers
-shown_whole style None answers = refl
-shown_whole style (Some user) answers = refl
+shown_whole style user answers = grind arith
 
 pub shown_none : (style : Style) (user : Option ℕ) (before : List ℕ) → shown_after style user before [] ≡ []
-shown_none style None before = refl
-shown_none style (Some user) before = refl
-
-first_of_one : (user : ℕ) (l : Line) (list : List Line) (b : Bool) → (l.uid == user) ≡ b → shown_lines (Some user) (l ∷ list) ≡ shown_line (Some user) l ++ shown_lines (Some user) list
-first_of_one user l list true is = rw is refl
-first_of_one user l list false is = rw is refl
+shown_none style user before = grind arith
 
 first_line : (user : Option ℕ) (l : Line) (list : List Line) → shown_lines user (l ∷ list) ≡ shown_line user l ++ shown_lines user list
-first_line None l list = refl
-first_line (Some user) l list = first_of_one user l list _ refl
+first_line user l list = grind arith
 
 -- after one more line, the text so far and the lines to come are still the whole text
 pub text_next : (style : Style) (user : Option ℕ) (a : Answered) (rest : List Answered) (before : List ℕ) (number : ℕ) (old new all : List ℕ)
     → number ≡ replies_to a.uid before + 1 → new ≡ old ++ shown_line user (line style number a)
     → old ++ shown_after style user before (a ∷ rest) ≡ all → new ++ shown_after style user (a.uid ∷ before) rest ≡ all
-text_next style user a rest before number old new all number_is new_is whole =
-    let later = lines_after style (a.uid ∷ before) rest in
-    ap (λ xs. xs ++ shown_lines user later) new_is ∙ append_assoc old (shown_line user (line style number a)) (shown_lines user later)
-    ∙ ap (λ n. old ++ (shown_line user (line style n a) ++ shown_lines user later)) number_is
-    ∙ ap (λ xs. old ++ xs) (sym (first_line user (line style (replies_to a.uid before + 1) a) later)) ∙ whole
+text_next style user a rest before number old new all number_is new_is whole = grind (arith, number_is, new_is, first_line, append_assoc {A = ℕ})
 
 -- the same of the reply at a place in a list
 pub text_more : (style : Style) (user : Option ℕ) (es : List (ℕ × Reply)) (i : ℕ) (e : ℕ × Reply) (before : List ℕ) (number : ℕ) (old new all : List ℕ) → i < length es → get_or es i e ≡ e

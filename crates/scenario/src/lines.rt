@@ -12,7 +12,7 @@ use crate::style::Style;
 use arrayvec::ArrayString;
 use itoa::Buffer;
 use pid_blocks::Uid;
-use reply_json::reply_json;
+use reply_json::ObjectWriter;
 use requests::Reply;
 use scenario_text::USERS;
 use std::alloc::{AllocError, Global};
@@ -38,6 +38,7 @@ fn push_words(text: &mut String, uid: Uid, number: u64, reply: &Reply) -> Result
 /// Adds the line of a reply as a JSON object.
 fn push_object(
     alloc: Global,
+    objects: &mut ObjectWriter,
     text: &mut String,
     uid: Uid,
     number: u64,
@@ -46,15 +47,15 @@ fn push_object(
     ensures { OnOk result (string_bytes text.new
         ≡ string_bytes text.old ++ (line style.Json number (answered (uid, reply.now))).text) }
 {
-    let object = reply_json(alloc, uid, number, reply)?;
-    writeln!(text, "{object}")?;
-    Ok(())
+    objects.push_reply(alloc, text, uid, number, reply)?;
+    text.push_str("\n")
 }
 
-/// Adds the line of the user's reply with this number.
+/// Adds the line of the user's reply with this number. A JSON line is put together in `objects`.
 pub fn push_line(
     alloc: Global,
     style: Style,
+    objects: &mut ObjectWriter,
     text: &mut String,
     uid: Uid,
     number: u64,
@@ -65,7 +66,7 @@ pub fn push_line(
 {
     match style {
         Style::Words => push_words(text, uid, number, reply),
-        Style::Json => push_object(alloc, text, uid, number, reply),
+        Style::Json => push_object(alloc, objects, text, uid, number, reply),
     }
 }
 
@@ -73,6 +74,7 @@ pub fn push_line(
 pub fn push_shown(
     alloc: Global,
     options: &RunOptions,
+    objects: &mut ObjectWriter,
     text: &mut String,
     uid: Uid,
     number: u64,
@@ -86,7 +88,7 @@ pub fn push_shown(
         None => true,
     };
     if is_shown {
-        push_line(alloc, options.style, text, uid, number, reply)?;
+        push_line(alloc, options.style, objects, text, uid, number, reply)?;
     }
     Ok(())
 }
@@ -114,10 +116,19 @@ pub fn render(
     ensures { IfOk result (λ s. string_bytes s ≡ shown options.style options.user (map answered replies.now)) }
 {
     let mut text = String::new(alloc);
+    let mut objects = ObjectWriter::new(alloc);
     let mut made = [0u64; USERS];
     for reply in replies {
         let number = count_reply(&mut made, reply.0);
-        push_shown(alloc, &options, &mut text, reply.0, number, &reply.1)?;
+        push_shown(
+            alloc,
+            &options,
+            &mut objects,
+            &mut text,
+            reply.0,
+            number,
+            &reply.1,
+        )?;
     }
     Ok(text)
 }

@@ -12,6 +12,7 @@ use crate::lines::{count_reply, push_shown};
 use crate::retrying::write_some;
 use crate::style::Style;
 use pid_blocks::Uid;
+use reply_json::ObjectWriter;
 use requests::{Host, Reply};
 use scenario_text::{Scenario, StepShape, USERS};
 use std::alloc::{AllocError, AllocFailed, Global};
@@ -98,6 +99,7 @@ fn text_of<F: Decider + Send + Drop>(
     let mut host = Host::new(alloc, scenario.settings())?;
     let mut rest = handlers.into_iter();
     let mut text = String::new(alloc);
+    let mut objects = ObjectWriter::new(alloc);
     let mut made = [0u64; USERS];
     for shape in shapes {
         let Some(reply) = reply_of(alloc, &mut host, shape.0, &shape.1, &mut rest) else {
@@ -107,7 +109,15 @@ fn text_of<F: Decider + Send + Drop>(
             return Err(RunFault::Memory);
         }
         let number = count_reply(&mut made, shape.0);
-        push_shown(alloc, options, &mut text, shape.0, number, &reply)?;
+        push_shown(
+            alloc,
+            options,
+            &mut objects,
+            &mut text,
+            shape.0,
+            number,
+            &reply,
+        )?;
     }
     Ok(text)
 }
