@@ -1,7 +1,6 @@
 -- Words with one bit changed, and the places of bits.
-use Rattle.std.proofs.Common.{◌≡◌, ◌≢◌, ℕ, ◌<◌, ◌≤◌, ◌+◌, ◌-◌, ◌*◌, ◌/◌, ◌%◌, ◌^◌, ◌==◌, Bool, true, false, not, List, length, get_or, set, w64, ap, sym, ◌∙◌, inl, inr, refl, arith, if◌then◌else◌}
+use Rattle.std.proofs.Common.{◌≡◌, ◌≢◌, ℕ, ◌<◌, ◌≤◌, ◌+◌, ◌-◌, ◌*◌, ◌/◌, ◌%◌, ◌^◌, ◌==◌, Bool, true, false, not, List, length, get_or, set, w64, ap, sym, ◌∙◌, arith, if◌then◌else◌}
 use Rattle.std.specs.Int.{bit_at}
-use Rattle.std.proofs.lemmas.Bool.{cases_eq, cases_lt, true≢false}
 use Rattle.std.proofs.lemmas.List.{get_or-set_same, get_or-set_other}
 use Rattle.std.proofs.lemmas.Nat.{shr-shr}
 use Rattle.std.proofs.lemmas.Nat.Bits.{bit_at-lt, bit_at_not, bit_at_above}
@@ -14,12 +13,7 @@ member-here words n v within = ap (λ x. has_bit x (n % 64)) (get_or-set_same wo
 pub member-others : (words : List ℕ) (n v : ℕ) → n / 64 < length words
     → ((i : ℕ) → i < 64 → i ≢ n % 64 → has_bit v i ≡ has_bit (get_or words (n / 64) 0) i)
     → (m : ℕ) → m ≢ n → member (set words (n / 64) v) m ≡ member words m
-member-others words n v within stays m apart = elim (cases_eq (m / 64) (n / 64)) [
-  | inl e ↦
-      let at : get_or (set words (n / 64) v) (m / 64) 0 ≡ v = ap (λ i. get_or (set words (n / 64) v) i 0) e ∙ get_or-set_same words (n / 64) v 0 within in
-      ap (λ x. has_bit x (m % 64)) at ∙ stays (m % 64) (omega arith) (λ same. apart (omega arith)) ∙ ap (λ i. has_bit (get_or words i 0) (m % 64)) (sym e)
-  | inr other ↦ ap (λ x. has_bit x (m % 64)) (get_or-set_other words (n / 64) (m / 64) v 0 other)
-]
+member-others words n v within stays m apart = grind (arith, get_or-set_same words (n / 64) v 0 within, get_or-set_other words (n / 64) (m / 64) v 0, stays (m % 64))
 
 -- the bits of a word shifted to the right are that much higher in the word
 pub has_bit-shifted : (word from i : ℕ) → has_bit (word / 2 ^ from) i ≡ has_bit word (from + i)
@@ -33,10 +27,7 @@ has_bit-none word i e = ap (λ d. d == 1) e
 
 -- the places of a word's 1s are below 64
 pub has_bit-below : (word i : ℕ) → word < 2 ^ 64 → has_bit word i ≡ true → i < 64
-has_bit-below word i fits e = elim (cases_lt i 64) [
-  | inl below ↦ below
-  | inr above ↦ absurd (true≢false (sym e ∙ has_bit-none word i (bit_at_above word 64 i fits above)))
-]
+has_bit-below word i fits e = grind (arith, bit_at_above word 64 i fits)
 
 pub has_bit-up : (word from i : ℕ) → from ≤ i → has_bit word i ≡ has_bit (word / 2 ^ from) (i - from)
 has_bit-up word from i low =
@@ -45,26 +36,7 @@ has_bit-up word from i low =
 
 -- the complement's bits
 pub has_bit-not : (word i : ℕ) → word < 2 ^ 64 → i < 64 → has_bit (18446744073709551615 - word) i ≡ not (has_bit word i)
-has_bit-not word i fits below = elim (cases_eq (bit_at word i) 1) [
-  | inl one ↦ has_bit-none _ i (bit_at_not w64 word i fits below ∙ omega arith) ∙ ap not (sym (has_bit-one word i one))
-  | inr other ↦
-      let zero : bit_at word i ≡ 0 = omega (arith, bit_at-lt word i) in
-      has_bit-one _ i (bit_at_not w64 word i fits below ∙ omega arith) ∙ ap not (sym (has_bit-none word i zero))
-]
-
--- what is said of a number by its mark
-abbrev mark : Bool → Bool → Bool
-mark wanted bit = if wanted then bit else not bit
-
-marked : (wanted bit : Bool) → mark wanted bit ≡ true → bit ≡ wanted
-marked true bit e = e
-marked false true e = sym e
-marked false false e = refl
-
-unmarked : (wanted bit : Bool) → mark wanted bit ≡ false → bit ≡ not wanted
-unmarked true bit e = e
-unmarked false true e = refl
-unmarked false false e = sym e
+has_bit-not word i fits below = grind (arith, bit_at_not w64 word i fits below, bit_at-lt word i)
 
 -- the numbers of a word, by the word's marks
 abbrev pub Marks : List ℕ → ℕ → Bool → ℕ → Type 0
@@ -76,12 +48,9 @@ member-at words at n i word place = ap (λ w. has_bit (get_or words w 0) (n % 64
 
 pub next-here : (words : List ℕ) (at place word : ℕ) (wanted : Bool) → Marks words at wanted word → place < 64
     → has_bit word place ≡ true → member words (at / 64 * 64 + place) ≡ wanted
-next-here words at place word wanted marks below one =
-    member-at words at _ place (omega arith) (omega arith) ∙ marked wanted _ (sym (marks place below) ∙ one)
+next-here words at place word wanted marks below one = grind (arith, member-at words at (at / 64 * 64 + place) place, marks place below)
 
 pub next-before : (words : List ℕ) (at place word : ℕ) (wanted : Bool) → Marks words at wanted word → place < 64
     → ((i : ℕ) → at % 64 ≤ i → i < place → has_bit word i ≡ false)
     → (n : ℕ) → at ≤ n → n < at / 64 * 64 + place → member words n ≡ not wanted
-next-before words at place word wanted marks below none n low high =
-    member-at words at n (n % 64) (omega arith) refl
-    ∙ unmarked wanted _ (sym (marks (n % 64) (omega arith)) ∙ none (n % 64) (omega arith) (omega arith))
+next-before words at place word wanted marks below none n low high = grind (arith, member-at words at n (n % 64), marks (n % 64), none (n % 64))

@@ -1,20 +1,14 @@
 -- One write after another.
-use Rattle.std.proofs.Common.{◌≡◌, ℕ, ◌-◌, List, [], ◌++◌, length, take, drop, Option, Some, None, sym, ap, subst, ◌∙◌}
+use Rattle.std.proofs.Common.{◌≡◌, ℕ, ◌-◌, List, [], ◌++◌, length, take, drop, Option, ap, ◌∙◌, arith}
 use Rattle.std.specs.Io.KnownBytes.{Appends, Keeps}
 use Rattle.std.proofs.lemmas.List.{append_assoc, take-append-drop, length-drop}
 use Rattle.std.proofs.Math.Seq.{take-append_seam, take-length}
 
 pub appends_more : (a b c : Option (List ℕ)) (xs ys : List ℕ) → Appends a b xs → Appends b c ys → Appends a c (xs ++ ys)
-appends_more None b c xs ys p q = tt
-appends_more (Some a) None c xs ys p q = absurd p
-appends_more (Some a) (Some b) None xs ys p q = absurd q
-appends_more (Some a) (Some b) (Some c) xs ys p q = q ∙ ap (λ zs. zs ++ ys) p ∙ append_assoc a xs ys
+appends_more a b c xs ys p q = grind (arith, append_assoc {A = ℕ})
 
 pub appends_kept : (a b c : Option (List ℕ)) (xs : List ℕ) → Appends a b xs → Keeps b c → Appends a c xs
-appends_kept None b c xs p q = tt
-appends_kept (Some a) None c xs p q = absurd p
-appends_kept (Some a) (Some b) None xs p q = absurd q
-appends_kept (Some a) (Some b) (Some c) xs p q = q ∙ p
+appends_kept a b c xs p q = grind arith
 
 -- what has been written is a front of all
 abbrev pub Front : Option (List ℕ) → Option (List ℕ) → List ℕ → List ℕ → Type 0
@@ -24,25 +18,16 @@ pub front_more : (a b c : Option (List ℕ)) (rest all : List ℕ) (n : ℕ) →
 front_more a b c rest all n f q =
     (f.0 ++ take n rest, append_assoc f.0 (take n rest) (drop n rest) ∙ ap (λ xs. f.0 ++ xs) (take-append-drop n rest) ∙ f.1, appends_more a b c f.0 (take n rest) f.2 q)
 
+pub front_is : (a b : Option (List ℕ)) (rest all : List ℕ) → Front a b rest all → (n : ℕ) × Appends a b (take n all)
+front_is a b rest all f = (length f.0, rw (← f.1, take-append_seam) f.2)
+
 pub front_taken : (a b c : Option (List ℕ)) (rest all : List ℕ) → Front a b rest all → Keeps b c → (n : ℕ) × Appends a c (take n all)
-front_taken a b c rest all f q =
-    let front : f.0 ≡ take (length f.0) all = sym (take-append_seam f.0 rest) ∙ ap (take (length f.0)) f.1 in
-    (length f.0, let P : List ℕ → Type 0 = λ xs. Appends a c xs in subst P front (appends_kept a b c f.0 f.2 q))
+front_taken a b c rest all f q = front_is a c rest all (f.0, f.1, appends_kept a b c f.0 f.2 q)
 
 -- the same, where the rest is a slice `&rest[n..]`
 pub front_sliced : (a b c : Option (List ℕ)) (rest all : List ℕ) (n : ℕ) → Front a b rest all → Appends b c (take n rest) → Front a c (take (length rest - n) (drop n rest)) all
-front_sliced a b c rest all n f q =
-    let P : List ℕ → Type 0 = λ xs. Front a c xs all in
-    subst P (sym (ap (λ k. take k (drop n rest)) (sym (length-drop n rest)) ∙ take-length (drop n rest))) (front_more a b c rest all n f q)
+front_sliced a b c rest all n f q = rw (← length-drop n rest, take-length) (front_more a b c rest all n f q)
 
 -- the same, where a write took no byte
 pub front_ended : (a b c : Option (List ℕ)) (rest all : List ℕ) → Front a b rest all → Appends b c [] → (n : ℕ) × Appends a c (take n all)
-front_ended a b c rest all f q =
-    let moved : Front a c rest all = front_more a b c rest all 0 f q in
-    let front : moved.0 ≡ take (length moved.0) all = sym (take-append_seam moved.0 rest) ∙ ap (take (length moved.0)) moved.1 in
-    (length moved.0, let P : List ℕ → Type 0 = λ xs. Appends a c xs in subst P front moved.2)
-
-pub front_is : (a b : Option (List ℕ)) (rest all : List ℕ) → Front a b rest all → (n : ℕ) × Appends a b (take n all)
-front_is a b rest all f =
-    let front : f.0 ≡ take (length f.0) all = sym (take-append_seam f.0 rest) ∙ ap (take (length f.0)) f.1 in
-    (length f.0, let P : List ℕ → Type 0 = λ xs. Appends a b xs in subst P front f.2)
+front_ended a b c rest all f q = front_is a c rest all (front_more a b c rest all 0 f q)

@@ -1,5 +1,5 @@
 -- Words written one after another, each after its separator.
-use Rattle.std.proofs.Common.{◌≡◌, ℕ, ◌+◌, ◌<◌, Bool, true, false, List, [], ◌∷◌, ◌++◌, length, drop, get_or, map, filter, refl, sym, ap, ◌∙◌}
+use Rattle.std.proofs.Common.{◌≡◌, ℕ, ◌+◌, ◌<◌, Bool, true, false, List, [], ◌∷◌, ◌++◌, length, drop, get_or, map, filter, refl, arith}
 use Rattle.std.proofs.Common.{Bor, ◌==◌}
 use Rattle.std.specs.Int.RustNames.{bit_and}
 use Rattle.std.specs.List.{flat_map}
@@ -31,8 +31,7 @@ pub passed_over : {X : Type 0} (none between : List ℕ) (empty : Bool) (test : 
     → done ++ ending none between empty (chosen test text (drop (i + 1) xs) ++ last) ≡ all
 passed_over none between empty test text xs last i d done all h fails before =
     let next = at_drop_more (λ ys. ending none between empty (chosen test text ys ++ last)) xs i d h in
-    let here : ending none between empty (chosen test text (drop i xs) ++ last) ≡ ending none between empty (chosen test text (drop (i + 1) xs) ++ last) = next ∙ rw fails refl in
-    ap (λ ys. done ++ ys) (sym here) ∙ before
+    grind (arith, next)
 
 -- one that passes it is written
 pub one_written : {X : Type 0} (none between : List ℕ) (empty after : Bool) (test : X → Bool) (text : X → List ℕ) (xs : List X) (last : List (List ℕ)) (i : ℕ) (d : X) (done all : List ℕ)
@@ -42,20 +41,9 @@ pub one_written : {X : Type 0} (none between : List ℕ) (empty after : Bool) (t
     → (done ++ (separator between empty ++ text (get_or xs i d))) ++ ending none between after (chosen test text (drop (i + 1) xs) ++ last) ≡ all
 one_written none between empty after test text xs last i d done all h passes before is =
     let next = at_drop_more (λ ys. ending none between empty (chosen test text ys ++ last)) xs i d h in
-    let rest = chosen test text (drop (i + 1) xs) ++ last in
-    let word = text (get_or xs i d) in
-    let here : ending none between empty (chosen test text (drop i xs) ++ last) ≡ separator between empty ++ (word ++ ending none between false rest) = next ∙ rw passes (one_more none between empty word rest) in
-    ap (λ b. (done ++ (separator between empty ++ word)) ++ ending none between b rest) is
-    ∙ append_assoc done (separator between empty ++ word) (ending none between false rest)
-    ∙ ap (λ ys. done ++ ys) (append_assoc (separator between empty) word (ending none between false rest) ∙ sym here) ∙ before
-
-flag_names_at : (bits : ℕ) (n : Bor (List ℕ) × ℕ) (ns : List (Bor (List ℕ) × ℕ)) (b : Bool) → (bit_and bits n.1 == n.1) ≡ b
-    → chosen (λ n. bit_and bits n.1 == n.1) (λ n. n.0.now) ns ≡ map (λ n. n.0) (filter (λ n. bit_and bits n.1 == n.1) (map named_bit ns))
-    → chosen (λ n. bit_and bits n.1 == n.1) (λ n. n.0.now) (n ∷ ns) ≡ map (λ n. n.0) (filter (λ n. bit_and bits n.1 == n.1) (map named_bit (n ∷ ns)))
-flag_names_at bits n ns true is e = rw is (ap (λ ws. n.0.now ∷ ws) e)
-flag_names_at bits n ns false is e = rw is e
+    grind (arith, next, one_more, append_assoc {A = ℕ})
 
 -- the names of the flags of a set, from references to them
 pub flag_names : (bits : ℕ) (ns : List (Bor (List ℕ) × ℕ)) → chosen (λ n. bit_and bits n.1 == n.1) (λ n. n.0.now) ns ≡ map (λ n. n.0) (filter (λ n. bit_and bits n.1 == n.1) (map named_bit ns))
 flag_names bits [] = refl
-flag_names bits (n ∷ ns) = flag_names_at bits n ns _ refl (flag_names bits ns)
+flag_names bits (n ∷ ns) = let more = flag_names bits ns in grind (arith, more)

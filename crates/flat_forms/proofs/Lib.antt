@@ -1,1 +1,1 @@
-pub mod Unflat
+pub mod SameFlat

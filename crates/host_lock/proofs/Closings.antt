@@ -1,36 +1,19 @@
 -- What is known at the end.
-use Rattle.std.proofs.Common.{◌≡◌, ℕ, ◌+◌, List, [], ◌∷◌, ◌++◌, map, reverse, sym, refl, ap, ◌∙◌, subst, append_assoc, Some}
-use Rattle.std.proofs.lemmas.List.{reverse-append}
-use mathlib.Core.Option.{some, some-injective}
-use mathlib.Core.List.{map-append}
-use lib.ListN.{get_elem?}
-use Rattle.std.specs.declared.snapshot.Snapshot.{Snapshot}
-use Rattle.requests.specs.Machine.{Machine}
-use Rattle.requests.specs.Plain.{PlainStep}
-use Rattle.host_lock.specs.declared.journal.Entry.{Entry}
-use Rattle.host_lock.specs.Views.{Idle, View}
-use Rattle.host_lock.specs.declared.view.Slot.{Slot}
-use Rattle.host_lock.specs.declared.view.Slot.TheVariants.{There, Away}
-use Rattle.host_lock.specs.History.{History, history}
-use Rattle.host_lock.specs.Journal.{StartsWith}
-use Rattle.host_lock.specs.Rule.{Each, Matches, Closes, session_view, both}
-use Rattle.host_lock.specs.Sessions.{SessionData, IsBelow, gathered, seen_by, account_of, InJournal}
+use Rattle.host_lock.proofs.CommonNames.{◌≡◌, ℕ, ◌+◌, List, [], ◌∷◌, ◌++◌, map, reverse, sym, refl, ap, ◌∙◌, subst, append_assoc, Some, reverse-append, some, map-append, get_elem?, Snapshot, Machine, PlainStep, Entry, Idle, View}
+use Rattle.host_lock.proofs.CommonNames.{Slot, There, Away, History, history, StartsWith, Each, Matches, Closes, session_view, both, SessionData, IsBelow, gathered, seen_by, account_of, InJournal}
 use Rattle.host_lock.proofs.Totals.{each_append, each_right}
-
-abbrev history_or : {F J : Type 0} → History → Slot F J → History
-history_or d (There k) = k
-history_or d (Away u s) = d
 
 abbrev pub Known : Machine → ℕ → View → History → Type 0
 Known h n v k = (k.start ≡ h) × Each (StartsWith k.log) v.seen × Each (Matches n k.log) v.owns × Each (IsBelow n) k.log
 
 pub closes_with : {F J : Type 0} (h : Machine) (n : ℕ) (v : View) (xs : List (Slot F J)) (k : History) → Closes h n v xs → get_elem? xs 0 ≡ some (There k) → Known h n v k
 closes_with h n v xs k c e =
-    let is : history h c.0 ≡ k = ap (history_or (history h [])) (some-injective (There (history h c.0)) (There k) (sym c.1 ∙ e)) in
+    let home = c.1 in
+    let is : history h c.0 ≡ k = cc in
     subst (Known h n v) is (refl, c.3, c.4, c.5)
 
 pub not_away : {F J : Type 0} (h : Machine) (n : ℕ) (v : View) (xs : List (Slot F J)) (u : ℕ) (s : Snapshot PlainStep) → Closes h n v xs → get_elem? xs 0 ≡ some (Away u s) → ⊥
-not_away h n v xs u s c e = let is : There (history h c.0) ≡ Away u s = some-injective (There (history h c.0)) (Away u s) (sym c.1 ∙ e) in cc
+not_away h n v xs u s c e = let home = c.1 in cc
 
 pub pops : (P : SessionData → Type 0) (all rem rem' order : List SessionData) (s : SessionData) → Each P all → all ≡ rem ++ reverse order → rem ≡ rem' ++ s ∷ [] → P s × (all ≡ rem' ++ reverse (order ++ s ∷ []))
 pops P all rem rem' order s each is was =

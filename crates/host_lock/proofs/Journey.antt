@@ -1,32 +1,12 @@
 -- One call, from step to step.
-use Rattle.std.proofs.Common.{◌≡◌, ℕ, ◌-◌, Bool, true, false, List, [], ◌∷◌, ◌++◌, sym, refl, ap, ◌∙◌, subst, arith, MatchBool, eq-eqb, ◌+◌}
-use Rattle.atomic_table.specs.Table.{rest}
-use Rattle.requests.specs.Machine.{Machine}
-use Rattle.requests.specs.Plain.{PlainStep}
-use Rattle.requests.specs.declared.Reply.{Reply}
-use Rattle.requests.specs.Isolation.{reply_of}
-use Rattle.requests.specs.Memory.{is_memory}
-use Rattle.host_lock.specs.declared.journal.Entry.{Entry}
-use Rattle.host_lock.specs.Views.{Stage, Idle, Waiting, Holding, Counted, View}
-use Rattle.host_lock.specs.declared.view.Slot.{Slot}
-use Rattle.host_lock.specs.declared.view.Slot.TheVariants.{There, Away}
-use Rattle.host_lock.specs.History.{History, history}
-use Rattle.host_lock.specs.Journal.{replay, IsLegal, entries_of, StartsWith, entry}
-use Rattle.host_lock.specs.Rule.{M, snapshot_of, nobody, has_slot, session_view, drawn, start_of, seen_of, mine_of, TakesSlot, HasCounted, HasTurned, IsOut, IsAtRest, view_in}
-use Rattle.host_lock.specs.Limits.{max_calls}
+use Rattle.host_lock.proofs.CommonNames.{get_or, ◌≡◌, ℕ, ◌-◌, Bool, true, false, List, [], ◌∷◌, ◌++◌, sym, refl, ap, ◌∙◌, subst, arith, MatchBool, eq-eqb, ◌+◌, rest, Machine, PlainStep, Reply, reply_of, is_memory, Entry, Stage, Idle}
+use Rattle.host_lock.proofs.CommonNames.{Holding, Counted, View, Slot, There, Away, History, history, replay, IsLegal, entries_of, StartsWith, entry, M, snapshot_of, has_slot, session_view, drawn, start_of, seen_of, mine_of}
+use Rattle.host_lock.proofs.CommonNames.{TakesSlot, HasCounted, HasTurned, IsOut, IsAtRest, view_in, max_calls}
 use Rattle.host_lock.proofs.Logs.{entries_mine}
 
 module _ {F J : Type 0} where
   abbrev pub IsIdle : ℕ → (M F J) → Type 0
   IsIdle number m = m ≡ (session_view (start_of m.0) Idle m.0.budget (seen_of m.0) number (mine_of m.0), [])
-
-  abbrev slot_in : List (ℕ × (Slot F J)) → (Slot F J)
-  slot_in [] = Away 0 (snapshot_of Rattle.requests.specs.declared.step.Step.TheVariants.Spawn)
-  slot_in (x ∷ xs) = x.1
-
-  abbrev history_in : (Slot F J) → History
-  history_in (There k) = k
-  history_in (Away u s) = history nobody []
 
   -- what is known of the host that was taken out
   abbrev pub IsFound : (M F J) → ℕ → ℕ → ℕ → PlainStep → History → (M F J) → Type 0
@@ -34,18 +14,17 @@ module _ {F J : Type 0} where
       (start_of m.0 ≡ state.start) × StartsWith state.log (seen_of m.0) × (entries_of number state.log ≡ mine_of m.0)
       × (m' ≡ (session_view state.start (Holding ticket) (m.0.budget - 1) state.log number (mine_of m.0), (0, Away u (snapshot_of s)) ∷ []))
 
+  -- a slot's one value
+  one_value : (k k' : History) (x : Slot F J) (l others : List (ℕ × Slot F J)) → l ≡ (0, There k) ∷ [] → l ≡ (0, x) ∷ others → x ≡ There k' → k ≡ k'
+  one_value k k' x l others e d is = let at : There k ≡ x = ap (λ (z : List (ℕ × Slot F J)). (get_or z 0 (0, x)).1) (sym e ∙ d) in cc
+
   pub finds : (m₀ m₁ m₂ m₃ : (M F J)) (u number ticket : ℕ) (s : PlainStep) (state : History) (result : (Slot F J)) → IsIdle number m₀ → m₁ ≡ (drawn m₀.0 ticket, m₀.1) → TakesSlot m₁.0 number ticket m₂ → m₂.1 ≡ (0, result) ∷ rest m₂.1
       → result ≡ There state → m₃ ≡ (m₂.0, (0, Away u (snapshot_of s)) ∷ rest m₂.1) → IsFound m₀ u number ticket s state m₃
   finds m₀ m₁ m₂ m₃ u number ticket s state result e₀ e₁ t is₂ is e₃ =
-      let h : Machine = start_of m₀.0 in
-      let mine : List Entry = mine_of m₀.0 in
-      let now : m₁ ≡ (session_view h (Waiting ticket) (m₀.0.budget - 1) (seen_of m₀.0) number mine, []) = e₁ ∙ ap (λ (m : (M F J)). (drawn m.0 ticket, m.1)) e₀ in
-      let t' : TakesSlot (session_view h (Waiting ticket) (m₀.0.budget - 1) (seen_of m₀.0) number mine) number ticket m₂ = subst (λ (m : (M F J)). TakesSlot m.0 number ticket m₂) now t in
-      let log : List Entry = t'.0 in
-      let held : m₂.1 ≡ (0, There (history h log)) ∷ [] = ap (λ (m : (M F J)). m.1) t'.1 in
-      let home_is : history h log ≡ state = ap (λ (l : List (ℕ × (Slot F J))). history_in (slot_in l)) (sym held ∙ is₂) ∙ ap history_in is in
-      let P : History → Type 0 = λ k. IsFound m₀ u number ticket s k m₃ in
-      subst P home_is (refl, t'.2, t'.3, e₃ ∙ ap (λ (m : (M F J)). (m.0, (0, Away u (snapshot_of s)) ∷ rest m.1)) t'.1)
+      let t' = rw (e₁ ∙ ap (λ (m : (M F J)). (drawn m.0 ticket, m.1)) e₀) at t in
+      let held : m₂.1 ≡ (0, There (history (start_of m₀.0) t'.0)) ∷ [] = ap (λ (m : (M F J)). m.1) t'.1 in
+      let home_is : history (start_of m₀.0) t'.0 ≡ state = one_value _ state result m₂.1 (rest m₂.1) held is₂ is in
+      subst (λ k. IsFound m₀ u number ticket s k m₃) home_is (refl, t'.2, t'.3, e₃ ∙ ap (λ (m : (M F J)). (m.0, (0, Away u (snapshot_of s)) ∷ rest m.1)) t'.1)
 
   pub is_out : (number : ℕ) (m : (M F J)) (k k' : History) (g : Stage) (x : (Slot F J)) (b : ℕ) (mine : List Entry) → has_slot g ≡ 1 → m ≡ (session_view k.start g b k.log number mine, (0, x) ∷ []) → k' ≡ k → IsOut number k' m
   is_out number m k k' g x b mine out e is =
@@ -55,24 +34,12 @@ module _ {F J : Type 0} where
   pub counts_out : (m₀ m₃ m₄ : (M F J)) (u number ticket : ℕ) (s : PlainStep) (state state' : History) (r : Reply) → IsFound m₀ u number ticket s state m₃ → HasCounted m₃.0 u number s ticket m₄
       → r ≡ reply_of u s (replay state.start state.log) → state' ≡ history state.start (state.log ++ entry u number s r ∷ [])
       → m₄ ≡ (session_view state'.start (Counted ticket) (m₀.0.budget - 1) state'.log number (mine_of m₀.0 ++ entry u number s r ∷ []), (0, Away u (snapshot_of s)) ∷ [])
-  counts_out m₀ m₃ m₄ u number ticket s state state' r f c reply is =
-      let at : HasCounted (session_view state.start (Holding ticket) (m₀.0.budget - 1) state.log number (mine_of m₀.0)) u number s ticket m₄ = subst (λ (m : (M F J)). HasCounted m.0 u number s ticket m₄) f.3 c in
-      at ∙ ap (λ (z : Reply). (session_view state.start (Counted ticket) (m₀.0.budget - 1) (state.log ++ entry u number s z ∷ []) number (mine_of m₀.0 ++ entry u number s z ∷ []), (0, Away u (snapshot_of s)) ∷ [])) (sym reply)
-      ∙ ap (λ (k : History). (session_view k.start (Counted ticket) (m₀.0.budget - 1) k.log number (mine_of m₀.0 ++ entry u number s r ∷ []), (0, Away u (snapshot_of s)) ∷ [])) (sym is)
+  counts_out m₀ m₃ m₄ u number ticket s state state' r f c reply is = rw (is, reply) (rw f.3 at c)
 
   pub turned_none : (m₀ m₃ m₅ : (M F J)) (u number ticket : ℕ) (s : PlainStep) (state state' : History) (r : Reply) → IsFound m₀ u number ticket s state m₃ → is_memory r ≡ true → IsLegal state'.start state'.log → state' ≡ state
       → m₅ ≡ (session_view state'.start Idle m₃.0.budget state'.log number (mine_of m₃.0), []) → HasTurned m₀.0 u number s r m₅
   turned_none m₀ m₃ m₅ u number ticket s state state' r f memory legal same e =
-      let P : History → Type 0 = λ k. IsLegal k.start k.log × (m₅ ≡ (session_view k.start Idle m₃.0.budget k.log number (mine_of m₃.0), [])) in
-      let got : P state = subst P same (legal, e) in
-      let Q : Machine → Type 0 = λ h. IsLegal h state.log × (m₅ ≡ (session_view h Idle (m₀.0.budget - 1) state.log number (mine_of m₀.0), [])) in
-      let R : Bool → Type 0 = λ b. MatchBool b (IsLegal (start_of m₀.0) state.log × (m₅ ≡ (session_view (start_of m₀.0) Idle (m₀.0.budget - 1) state.log number (mine_of m₀.0), [])))
-      (IsLegal (start_of m₀.0) (state.log ++ entry u number s r ∷ []) × (m₅ ≡ (session_view (start_of m₀.0) Idle (m₀.0.budget - 1) (state.log ++ entry u number s r ∷ []) number (mine_of m₀.0 ++ entry u number s r ∷ []), []))) in (
-        state.log,
-        f.1,
-        f.2,
-        subst R (sym memory) (subst Q (sym f.0) (got.0, got.1 ∙ ap (λ (m : (M F J)). (session_view state.start Idle m.0.budget state.log number (mine_of m.0), [])) f.3)),
-      )
+      (state.log, f.1, f.2, rw memory (rw f.0 (rw (sym same) (legal, e ∙ ap (λ (m : (M F J)). (session_view state'.start Idle m.0.budget state'.log number (mine_of m.0), [])) f.3))))
 
   pub turned_one : (m₀ m₃ m₄ m₅ : (M F J)) (u number ticket : ℕ) (s : PlainStep) (state state' : History) (r : Reply) → IsFound m₀ u number ticket s state m₃ → is_memory r ≡ false → IsLegal state'.start state'.log
       → state' ≡ history state.start (state.log ++ entry u number s r ∷ [])
@@ -81,10 +48,7 @@ module _ {F J : Type 0} where
   turned_one m₀ m₃ m₄ m₅ u number ticket s state state' r f memory legal is at e =
       let P : History → Type 0 = λ k. IsLegal k.start k.log × (m₅ ≡ (session_view k.start Idle (m₀.0.budget - 1) k.log number (mine_of m₀.0 ++ entry u number s r ∷ []), [])) in
       let got = subst P is (legal, e ∙ ap (λ (m : (M F J)). (session_view state'.start Idle m.0.budget state'.log number (mine_of m.0), [])) at) in
-      let Q : Machine → Type 0 = λ h. IsLegal h (state.log ++ entry u number s r ∷ []) × (m₅ ≡ (session_view h Idle (m₀.0.budget - 1) (state.log ++ entry u number s r ∷ []) number (mine_of m₀.0 ++ entry u number s r ∷ []), [])) in
-      let R : Bool → Type 0 = λ b. MatchBool b (IsLegal (start_of m₀.0) state.log × (m₅ ≡ (session_view (start_of m₀.0) Idle (m₀.0.budget - 1) state.log number (mine_of m₀.0), [])))
-      (IsLegal (start_of m₀.0) (state.log ++ entry u number s r ∷ []) × (m₅ ≡ (session_view (start_of m₀.0) Idle (m₀.0.budget - 1) (state.log ++ entry u number s r ∷ []) number (mine_of m₀.0 ++ entry u number s r ∷ []), []))) in
-      (state.log, f.1, f.2, subst R (sym memory) (subst Q (sym f.0) got))
+      (state.log, f.1, f.2, rw memory (rw f.0 got))
 
 -- what a session's type keeps
 abbrev pub IsSettled : ℕ → ℕ → View → Type 0
@@ -112,5 +76,4 @@ module _ {F J : Type 0} where
   pub badge_settles : (number calls u : ℕ) (s : PlainStep) (r : Reply) (views views' : List View) (m m₅ : M F J) → IsAtRest number calls (view_in views) → views ≡ m.0 ∷ [] → HasTurned m.0 u number s r m₅ → views' ≡ m₅.0 ∷ []
       → (views' ≡ view_in views' ∷ []) × IsSettled number (calls + 1) (view_in views')
   badge_settles number calls u s r views views' m m₅ rested was turned is =
-      let done = settles number calls u s r m.0 m₅ (subst (λ (vs : List View). IsAtRest number calls (view_in vs)) was rested) turned in
-      subst (λ (vs : List View). (vs ≡ view_in vs ∷ []) × IsSettled number (calls + 1) (view_in vs)) (sym is) (refl, done)
+      rw is (refl, settles number calls u s r m.0 m₅ (rw was at rested) turned)

@@ -1,3 +1,4 @@
+pub mod CommonNames
 pub mod Logs
 pub mod Memories
 pub mod Totals

@@ -1,16 +1,11 @@
 -- What is known of a step that found memory, and of a list that found none.
-use Rattle.std.proofs.Common.{◌≡◌, ◌≢◌, ℕ, true, false, refl, sym, ap, ◌∙◌, true≢false}
+use Rattle.host_lock.proofs.CommonNames.{⊎_elim, ◌≡◌, ◌≢◌, ℕ, true, false, sym, ap, ◌∙◌, true≢false, PlainStep, Reply, reply_of, host_after, Machine, is_memory}
 use Rattle.pid_blocks.specs.declared.Errno.TheVariants as errno
-use Rattle.requests.specs.Plain.{PlainStep}
-use Rattle.requests.specs.declared.Reply.{Reply}
 use Rattle.requests.specs.declared.Reply.TheVariants as reply
-use Rattle.requests.specs.Isolation.{reply_of, host_after}
-use Rattle.requests.specs.Machine.{Machine}
-use Rattle.requests.specs.Memory.{is_memory}
 use Rattle.requests.specs.Refusals.{is_listing}
 use Rattle.requests.specs.Sound.{sound}
 use Rattle.requests.proofs.RefusalsChangeNothing.{listing_same}
-use Rattle.requests.proofs.Replies.{other}
+use Rattle.requests.proofs.Replies.{other, cases_memory}
 
 -- what a step that found memory did
 pub steps : (u : ℕ) (s : PlainStep) (m after : Machine) (r : Reply) → is_memory r ≡ false → (r ≢ reply.Errno errno.ENOMEM → (after ≡ host_after u s m) × (r ≡ reply_of u s m))
@@ -18,27 +13,7 @@ pub steps : (u : ℕ) (s : PlainStep) (m after : Machine) (r : Reply) → is_mem
 steps u s m after r plenty machine = machine (other r plenty)
 
 memory_is : (r : Reply) → is_memory r ≡ true → r ≡ reply.Errno errno.ENOMEM
-memory_is (reply.Errno errno.ENOMEM) is = refl
-memory_is (reply.Errno errno.EPERM) is = absurd (true≢false (sym is))
-memory_is (reply.Errno errno.ESRCH) is = absurd (true≢false (sym is))
-memory_is (reply.Errno errno.ECHILD) is = absurd (true≢false (sym is))
-memory_is (reply.Errno errno.EBUSY) is = absurd (true≢false (sym is))
-memory_is (reply.Errno errno.EINVAL) is = absurd (true≢false (sym is))
-memory_is (reply.Errno errno.EAGAIN) is = absurd (true≢false (sym is))
-memory_is reply.Done is = absurd (true≢false (sym is))
-memory_is (reply.New pid tid) is = absurd (true≢false (sym is))
-memory_is (reply.Number n) is = absurd (true≢false (sym is))
-memory_is (reply.Status pid status) is = absurd (true≢false (sym is))
-memory_is reply.Nothing is = absurd (true≢false (sym is))
-memory_is (reply.Info i) is = absurd (true≢false (sym is))
-memory_is (reply.Lwps ns) is = absurd (true≢false (sym is))
-memory_is (reply.Pids ns) is = absurd (true≢false (sym is))
-memory_is (reply.Mask mask) is = absurd (true≢false (sym is))
-memory_is (reply.Handled pid status view index decision) is = absurd (true≢false (sym is))
-memory_is (reply.Stopped tid sig flags) is = absurd (true≢false (sym is))
-memory_is (reply.Caught sig) is = absurd (true≢false (sym is))
-memory_is (reply.Ended status) is = absurd (true≢false (sym is))
-memory_is reply.Held is = absurd (true≢false (sym is))
+memory_is r is = ⊎_elim (λ wants. wants) (λ plenty. absurd (true≢false (sym is ∙ plenty))) (cases_memory r)
 
 -- a call that ran out of memory changed nothing
 pub wanted : (m after : Machine) (r : Reply) → is_memory r ≡ true → (r ≡ reply.Errno errno.ENOMEM → after ≡ m) → after ≡ m

@@ -1,18 +1,9 @@
 -- Moments: a session sees what another one had seen, and its calls stand behind that.
-use Rattle.std.proofs.Common.{◌≡◌, ℕ, ◌+◌, ◌-◌, ◌<◌, ◌≤◌, ◌==◌, Bool, true, false, leb, if◌then◌else◌, List, [], ◌∷◌, ◌++◌, length, get_or, drop, sym, refl, ap, ap₂, ◌∙◌, subst, arith, ⊎_elim, MatchBool, length-append, append-nil, append_assoc}
+use Rattle.host_lock.proofs.CommonNames.{◌≡◌, ℕ, ◌+◌, ◌-◌, ◌<◌, ◌≤◌, ◌==◌, Bool, true, false, leb, if◌then◌else◌, List, [], ◌∷◌, ◌++◌, length, get_or, drop, sym, refl, ap, ap₂, ◌∙◌, subst, arith, ⊎_elim, MatchBool, length-append}
+use Rattle.host_lock.proofs.CommonNames.{append-nil, append_assoc, nil_from_length, filter-append, none, step, Entry, entries_of, StartsWith, IsLegal, entry, max_calls, Idle, View, M, both, HasLearned, learned, longer}
+use Rattle.host_lock.proofs.CommonNames.{moment_view, session_view, start_of, seen_of, mine_of, view_in, Makes}
 use Rattle.std.proofs.lemmas.Bool.Decides.{leb_tells}
-use Rattle.std.proofs.lemmas.List.{nil_from_length}
-use Rattle.std.proofs.lemmas.List.Elements.{filter-append}
-use mathlib.Core.Option.{none}
-use Rattle.atomic_table.specs.Table.{step}
-use Rattle.requests.specs.Machine.{Machine}
-use Rattle.host_lock.specs.declared.journal.Entry.{Entry}
 use Rattle.host_lock.specs.Answers.{CallsInOrder}
-use Rattle.host_lock.specs.Journal.{entries_of, StartsWith, IsLegal, entry}
-use Rattle.host_lock.specs.Limits.{max_calls}
-use Rattle.host_lock.specs.Views.{Idle, View}
-use Rattle.host_lock.specs.Rule.{M, both, HasLearned, learned, longer, moment_view, session_view, start_of, seen_of, mine_of, view_in}
-use Rattle.host_lock.specs.Sessions.{Makes}
 use Rattle.host_lock.proofs.Journey.{IsSettled, settled}
 
 -- of two beginnings of one list the longer one begins with the other
@@ -32,11 +23,10 @@ starts_through x y z s t = (t.0 ++ s.0, s.1 ∙ ap (λ (l : List Entry). l ++ s.
 
 -- the longer of two lists is one of them
 pub longer_is : (P : List Entry → Type 0) (x y : List Entry) → P x → P y → P (longer (x ∷ y ∷ []))
-longer_is P x y p q = by_test (leb (length y) (length x))
-  where
-    by_test : (b : Bool) → P (if b then x else y)
-    by_test true = p
-    by_test false = q
+longer_is P x y p q = elim (leb (length y) (length x)) as (λ b. P (if b then x else y)) [
+  | true ↦ p
+  | false ↦ q
+]
 
 longer_starts : (log x y : List Entry) → StartsWith log x → StartsWith log y → StartsWith (longer (x ∷ y ∷ [])) x × StartsWith (longer (x ∷ y ∷ [])) y
 longer_starts log x y s t =
@@ -51,10 +41,8 @@ between : (n : ℕ) (log l x : List Entry) → StartsWith log l → StartsWith l
 between n log l x s t same =
     let first : entries_of n l ≡ entries_of n x ++ entries_of n t.0 = ap (entries_of n) t.1 ∙ filter-append (λ (e : Entry). e.session == n) x t.0 in
     let whole : entries_of n log ≡ entries_of n l ++ entries_of n s.0 = ap (entries_of n) s.1 ∙ filter-append (λ (e : Entry). e.session == n) l s.0 in
-    let a = ap length first ∙ length-append (entries_of n x) (entries_of n t.0) in
-    let b = ap length whole ∙ length-append (entries_of n l) (entries_of n s.0) in
-    let c = ap length same in
-    let no_more : entries_of n t.0 ≡ [] = nil_from_length (entries_of n t.0) (omega (arith, a, b, c)) in
+    let no_more : entries_of n t.0 ≡ [] =
+    nil_from_length (entries_of n t.0) (omega (arith, ap length first ∙ length-append (entries_of n x) (entries_of n t.0), ap length whole ∙ length-append (entries_of n l) (entries_of n s.0), ap length same)) in
     first ∙ ap (λ (z : List Entry). entries_of n x ++ z) no_more ∙ append-nil (entries_of n x)
 
 -- the seat has seen more
@@ -71,37 +59,29 @@ module _ {F J : Type 0} where
   pub has_learned : (number slots found : ℕ) (front : List Entry) (m m₁ m₂ : M F J) → Joined number m front m₁ → learned (step slots 0 0 0 none) m₁ found m₂ → IsLegal (start_of m.0) (seen_of m.0) → IsLegal (start_of m.0) front → entries_of number (seen_of m.0) ≡ mine_of m.0
       → HasLearned m.0 number front m₂
   has_learned number slots found front m m₁ m₂ is t legal legal_front own =
-      let h : Machine = start_of m.0 in
-      let x : List Entry = seen_of m.0 in
-      let at = subst (λ (z : M F J). learned (step slots 0 0 0 none) z found m₂) is t in
+      let at = rw is at t in
       let log : List Entry = at.1.0 in
-      let s : StartsWith log x = at.1.1.0 in
+      let s : StartsWith log (seen_of m.0) = at.1.1.0 in
       let s' : StartsWith log front = at.1.1.1.0 in
-      let told : entries_of number log ≡ mine_of m.0 = at.1.2.0 in
-      let l : List Entry = longer (x ∷ front ∷ []) in
-      let starts = longer_starts log x front s s' in
-      let below : StartsWith log l = longer_is (StartsWith log) x front s s' in
+      let starts = longer_starts log (seen_of m.0) front s s' in
       let none_added : m.0.budget + 0 ≡ m.0.budget = omega arith in (
-        l,
-        at.0 ∙ ap (λ (z : ℕ). (session_view h Idle z l number (mine_of m.0), [])) none_added,
+        longer (seen_of m.0 ∷ front ∷ []),
+        rw none_added at at.0,
         starts.0,
         starts.1,
-        longer_is (IsLegal h) x front legal legal_front,
-        between number log l x below starts.0 (told ∙ sym own) ∙ own,
+        longer_is (IsLegal (start_of m.0)) (seen_of m.0) front legal legal_front,
+        between number log _ (seen_of m.0) (longer_is (StartsWith log) (seen_of m.0) front s s') starts.0 (at.1.2.0 ∙ sym own) ∙ own,
       )
 
   -- the same of a session, which keeps a badge between two calls
   pub badge_learns : (number calls : ℕ) (front : List Entry) (views views' : List View) (m m' : M F J) → IsSettled number calls (view_in views) → views ≡ m.0 ∷ [] → HasLearned m.0 number front m' → views' ≡ m'.0 ∷ []
       → (views' ≡ view_in views' ∷ []) × IsSettled number calls (view_in views') × SeesMore front (view_in views) (view_in views')
   badge_learns number calls front views views' m m' rested was t is =
-      let s = subst (λ (vs : List View). IsSettled number calls (view_in vs)) was rested in
+      let s = rw was at rested in
       let budget : m.0.budget ≡ max_calls - calls = ap (λ (z : View). z.budget) s.0 in
-      let v : View = session_view (start_of m.0) Idle m.0.budget t.0 number (mine_of m.0) in
-      let Q : View → Type 0 = λ z. IsSettled number calls z × SeesMore front m.0 z in
-      let q : Q v = (settled (start_of m.0) m.0.budget number calls t.0 (mine_of m.0) v budget t.4 t.5 refl, (t.2, t.3, refl, refl)) in
-      let at : Q m'.0 = subst Q (sym (ap (λ (z : M F J). z.0) t.1)) q in
-      let R : List View → List View → Type 0 = λ old new. (new ≡ view_in new ∷ []) × IsSettled number calls (view_in new) × SeesMore front (view_in old) (view_in new) in
-      subst (λ (z : List View × List View). R z.0 z.1) (λ i. (sym was i, sym is i)) (refl, at.0, at.1)
+      let now = ap (λ (z : M F J). z.0) t.1 in
+      let done = settled (start_of m.0) m.0.budget number calls t.0 (mine_of m.0) m'.0 budget t.4 t.5 now in
+      rw (is, was) (refl, done, rw now (t.2, t.3, refl, refl))
 
 pub calls_in_order : CallsInOrder
 calls_in_order v v' w w' s t r q journal first made seen second told stands =

@@ -1,12 +1,7 @@
 -- The sessions of a new host.
-use Rattle.std.proofs.Common.{◌≡◌, ℕ, zero, suc, ◌+◌, ◌-◌, ◌*◌, ◌<◌, List, [], ◌∷◌, ◌++◌, length, drop, get_or, sym, ap, ◌∙◌, subst, arith, append_assoc, drop-cons, add-one}
-use Rattle.atomic_table.specs.Table.{Splits}
+use Rattle.host_lock.proofs.CommonNames.{◌≡◌, ℕ, zero, suc, ◌+◌, ◌-◌, ◌*◌, ◌<◌, List, [], ◌∷◌, ◌++◌, length, drop, get_or, sym, ap, ◌∙◌, arith, append_assoc, drop-cons, add-one, Splits, Machine, Idle, View, SharedInvariant}
+use Rattle.host_lock.proofs.CommonNames.{fresh_view, session_view, split_left, split_right, max_calls, SessionData, new_session, new_sessions}
 use Rattle.atomic_table.specs.Seated.{TableId}
-use Rattle.requests.specs.Machine.{Machine}
-use Rattle.host_lock.specs.Views.{Idle, View}
-use Rattle.host_lock.specs.Rule.{SharedInvariant, fresh_view, session_view, split_left, split_right}
-use Rattle.host_lock.specs.Limits.{max_calls}
-use Rattle.host_lock.specs.Sessions.{SessionData, new_session, new_sessions}
 use Rattle.host_lock.proofs.Turns.{splits}
 
 pub new_sessions_at : (us : List ℕ) (i : ℕ) (z : TableId) (h : Machine) → i < length us → new_sessions i z h (drop i us) ≡ new_session (get_or us i 0) i z h ∷ new_sessions (i + 1) z h (drop (i + 1) us)
@@ -16,9 +11,7 @@ new_sessions_at us i z h lt =
 
 pub one_more : (us : List ℕ) (i : ℕ) (z : TableId) (h : Machine) (xs ys : List SessionData) → i < length us → xs ++ new_sessions i z h (drop i us) ≡ new_sessions 0 z h us → ys ≡ xs ++ new_session (get_or us i 0) i z h ∷ []
     → ys ++ new_sessions (i + 1) z h (drop (i + 1) us) ≡ new_sessions 0 z h us
-one_more us i z h xs ys lt all is =
-    ap (λ (l : List SessionData). l ++ new_sessions (i + 1) z h (drop (i + 1) us)) is ∙ append_assoc xs (new_session (get_or us i 0) i z h ∷ []) (new_sessions (i + 1) z h (drop (i + 1) us))
-    ∙ ap (λ (l : List SessionData). xs ++ l) (sym (new_sessions_at us i z h lt)) ∙ all
+one_more us i z h xs ys lt all is = rw is (simp (append_assoc, ← new_sessions_at us i z h lt) all)
 
 split_left_is : (h : Machine) (i k : ℕ) → split_left (fresh_view h i (suc k)) ≡ fresh_view h (i + 1) k
 split_left_is h i k = let e : suc k * max_calls - max_calls ≡ k * max_calls = omega arith in ap (λ (b : ℕ). record (fresh_view h (i + 1) k) { budget = b }) e
@@ -26,9 +19,7 @@ split_left_is h i k = let e : suc k * max_calls - max_calls ≡ k * max_calls = 
 -- a seat that owns k sessions from i on gives one away
 pub splits_one : (F J : Type 0) (h r : Machine) (n id i k : ℕ) (v : View) → 0 < k → v ≡ fresh_view r i k → Splits (SharedInvariant {F = F} {J = J} h n) id v (split_left v) (split_right v)
 splits_one F J h r n id i zero v some e = absurd (omega arith)
-splits_one F J h r n id i (suc k) v some e =
-    let P : View → Type 0 = λ z. Splits (SharedInvariant {F = F} {J = J} h n) id z (split_left z) (split_right z) in
-    subst P (sym e) (subst (λ (z : View). Splits (SharedInvariant {F = F} {J = J} h n) id (fresh_view r i (suc k)) z (session_view r Idle max_calls [] i [])) (sym (split_left_is r i k)) (splits h n r id i k))
+splits_one F J h r n id i (suc k) v some e = rw e (rw (split_left_is r i k) (splits h n r id i k))
 
 pub left_is : (r : Machine) (i k : ℕ) (v w : View) → 0 < k → v ≡ fresh_view r i k → w ≡ split_left v → w ≡ fresh_view r (i + 1) (k - 1)
 left_is r i zero v w some e is = absurd (omega arith)

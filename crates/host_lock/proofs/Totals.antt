@@ -1,11 +1,7 @@
 -- Totals over the views of all seats.
-use Rattle.std.proofs.Common.{◌≡◌, ◌≢◌, ℕ, zero, suc, ◌+◌, ◌≤◌, List, [], ◌∷◌, ◌++◌, set, cond, sym, refl, ap, subst, ⊎_elim, arith, eq-eqb, ne_eqb}
-use mathlib.Core.Option.{some, some-injective, some-ne-none}
-use native.Mathlib.Decide.{ℕ_discrete}
-use lib.ListN.{get_elem?}
-use Rattle.atomic_table.proofs.Lists.{at_set, at_snoc}
+use Rattle.host_lock.proofs.CommonNames.{◌≡◌, ◌≢◌, ℕ, zero, suc, ◌+◌, ◌≤◌, List, [], ◌∷◌, ◌++◌, set, cond, sym, refl, ap, subst, ⊎_elim, arith, eq-eqb, ne_eqb, some, some-injective, some-ne-none, ℕ_discrete, get_elem?, at_set}
+use Rattle.host_lock.proofs.CommonNames.{dite, at_snoc, total, once, Each}
 use Rattle.std.specs.List.{All}
-use Rattle.host_lock.specs.Rule.{total, once, Each}
 
 pub once_same : (n t : ℕ) → n ≡ t → once n t ≡ 1
 once_same n t e = ap (λ b. cond b 1 0) (eq-eqb n t e)
@@ -36,14 +32,9 @@ module _ {V : Type 0} where
   total_two f (x ∷ xs) (suc i) (suc j) v w ne e d = let r = total_two f xs i j v w (λ q. ne (ap suc q)) e d in omega arith
 
   -- some seat makes the total positive
-  find_in : (f : V → ℕ) (x : V) (xs : List V) → Dec (f x ≡ 0) → f x + total f xs ≡ 1 → (total f xs ≡ 1 → (i : ℕ) × (v : V) × (get_elem? xs i ≡ some v) × (f v ≡ 1))
-      → (i : ℕ) × (v : V) × (get_elem? (x ∷ xs) i ≡ some v) × (f v ≡ 1)
-  find_in f x xs (yes z) e rec = let r = rec (omega arith) in (suc r.0, r.1, r.2, r.3)
-  find_in f x xs (no nz) e rec = (zero, x, refl, omega arith)
-
   pub total_find : (f : V → ℕ) (l : List V) → total f l ≡ 1 → (i : ℕ) × (v : V) × (get_elem? l i ≡ some v) × (f v ≡ 1)
   total_find f [] e = absurd (omega arith)
-  total_find f (x ∷ xs) e = find_in f x xs (ℕ_discrete (f x) 0) e (total_find f xs)
+  total_find f (x ∷ xs) e = dite (ℕ_discrete (f x) 0) (λ z. let r = total_find f xs (omega arith) in (suc r.0, r.1, r.2, r.3)) (λ nz. (zero, x, refl, omega arith))
 
   -- a fact of each seat, after one has another view
   pub seats_set : (K K' : V → Type 0) (l : List V) (id : ℕ) (w : V) → K' w → ((j : ℕ) (d : V) → j ≢ id → get_elem? l j ≡ some d → K d → K' d)

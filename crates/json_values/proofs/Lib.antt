@@ -1,3 +1,4 @@
+pub mod CommonNames
 pub mod FirstTokens
 pub mod Keys
 pub mod Loops

@@ -19,7 +19,7 @@ Ends text = is_blank (class (head text)) ≡ true → text ≡ []
 abbrev pub piece : List ℕ → ℕ → ℕ → List ℕ
 piece text from end = take (end - from) (drop from text)
 
--- digits, at least one and at most 18, which write this value
+-- digits, at least one, which write this value, below 10^18
 pub record AreDigits (text : List ℕ) (from end value : ℕ) : Type 0 where
   pub later : from < end
   pub within : end ≤ length text

@@ -53,6 +53,7 @@ impl<'a> Lexer<'a> {
 
     /// Passes over a comma, a colon, a bracket or a brace.
     #[inline(always)]
+    #[tactic(auto, using(crate::proofs::Texts::past_operator))]
     pub(crate) fn skip(&mut self)
         requires { class (head self.old) ≡ operator }
         ensures { lex between self.new ≡ drop 1 (lex between self.old) }
@@ -129,6 +130,7 @@ impl<'a> Lexer<'a> {
 
     /// Takes a number or a literal. A word that is neither is bad.
     #[inline(never)]
+    #[tactic(auto, using(crate::proofs::Texts::literal_true, crate::proofs::Texts::literal_false, crate::proofs::Texts::literal_null), unfolding(json::specs::Word::word))]
     pub(crate) fn word(&mut self) -> Token<'a>
         requires { class (head self.old) ≡ other }
         ensures value { token_of result ≡ word self.old }

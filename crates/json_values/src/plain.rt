@@ -91,6 +91,7 @@ fn word<'a>(lexer: &mut Lexer<'a>, place: Place) -> (Token<'a>, Place)
 
 /// Takes what may stand at the begin of a value, but for a string.
 #[inline(always)]
+#[tactic(auto, using(crate::proofs::Places::opens_array, crate::proofs::Places::opens_object, crate::proofs::Places::stray))]
 fn begin<'a>(lexer: &mut Lexer<'a>, place: Place) -> (Token<'a>, Place)
     requires first { (is_blank (class (head lexer.old)) ≡ false) × (head lexer.old ≢ 34) × (head lexer.old ≢ 125) × (head lexer.old ≢ 93) }
     requires place { may_begin place ≡ true }
@@ -113,6 +114,7 @@ fn begin<'a>(lexer: &mut Lexer<'a>, place: Place) -> (Token<'a>, Place)
 
 /// Takes a closing bracket or brace.
 #[inline(always)]
+#[tactic(auto, using(crate::proofs::Places::closes_array, crate::proofs::Places::closes_object))]
 fn close<'a>(lexer: &mut Lexer<'a>, place: Place) -> (Token<'a>, Place)
     requires { ((head lexer.old ≡ 125) ⊎ (head lexer.old ≡ 93)) × (may_close place ≡ true) }
     ensures value { tokens_at place lexer.old ≡ token_of result.0 ∷ tokens_at result.1 lexer.new }
@@ -141,6 +143,7 @@ fn refuse<'a>(place: Place) -> (Option<Token<'a>>, Place)
 }
 
 #[inline(always)]
+#[tactic(auto, using(crate::proofs::Places::ended, crate::proofs::Places::not_begun, crate::proofs::Places::not_closed, crate::proofs::Places::refused))]
 fn read<'a>(lexer: &mut Lexer<'a>, place: Place) -> (Option<Token<'a>>, Place)
     requires { NotBeforeComma place lexer.old }
     ensures value { Yields (tokens_at place lexer.old) result.0 (tokens_at result.1 lexer.new) }
@@ -215,6 +218,7 @@ impl<'a> PlainReader<'a> {
 
     /// Takes a whole number of few digits. `None` leaves open what is there.
     #[inline(always)]
+    #[tactic(auto, using(crate::proofs::Places::on_some, crate::proofs::Places::a_number))]
     pub(crate) fn integer(&mut self) -> Option<i64>
         ensures { MatchOption result (self.new ≡ self.old) (λ z. (s : List ℕ) × (self.old ≡ number s ∷ self.new) × (option_and_then as_i64 (number_of s) ≡ Some z)) }
     {

@@ -88,6 +88,7 @@ fn exponent(bytes: &[u8], from: usize) -> Option<usize>
 }
 
 /// Returns where the number at a place ends, if one is there.
+#[tactic(auto, unfolding(json::specs::Word::after_number))]
 pub(crate) fn number_end(bytes: &[u8], from: usize) -> Option<usize>
     requires { from ≤ length bytes.now }
     ensures { EndsAt bytes.now from result (after_number (drop from bytes.now)) }
@@ -106,7 +107,7 @@ pub(crate) fn is_literal(bytes: &[u8], from: usize, name: &[u8]) -> bool
     rest.starts_with(name) && is_delimiter(byte_at(rest, name.len()))
 }
 
-/// Returns the number that the digits at a place write and where they end, if there are at most 17. `None` leaves it open.
+/// Returns the number that the digits at a place write and where they end, if it is below 10^18. `None` leaves it open.
 #[inline(always)]
 fn few_digits(bytes: &[u8], from: usize) -> Option<(u64, usize)>
     requires { from ≤ length bytes.now }

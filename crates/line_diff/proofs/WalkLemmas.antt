@@ -25,16 +25,10 @@ slice_get-drop (suc n) [] = refl
 slice_get-drop (suc n) (line ∷ lines) = slice_get-drop n lines
 
 take_one : (xs ys : List (List ℕ)) → slice_get xs 0 ≡ slice_get ys 0 → take 1 xs ≡ take 1 ys
-take_one [] [] e = refl
-take_one [] (y ∷ ys) e = cc
-take_one (x ∷ xs) [] e = cc
-take_one (x ∷ xs) (y ∷ ys) e = cc
+take_one xs ys e = grind arith
 
 line_there-injective : (xs ys : List ℕ) → line_there xs ≡ line_there ys → xs ≡ ys
-line_there-injective [] [] e = refl
-line_there-injective [] (y ∷ ys) e = cc
-line_there-injective (x ∷ xs) [] e = cc
-line_there-injective (x ∷ xs) (y ∷ ys) e = cc
+line_there-injective xs ys e = grind arith
 
 -- a text's first line, and what follows it
 pub record Splits (text line behind : List ℕ) : Type 0 where
@@ -43,7 +37,7 @@ pub record Splits (text line behind : List ℕ) : Type 0 where
   pub others : drop 1 (lines_in text) ≡ lines_in behind
 
 there : (text rest : List ℕ) (n : ℕ) (line behind : List ℕ) → drop n (lines_in text) ≡ lines_in rest → Splits rest line behind → slice_get (lines_in text) n ≡ line_there line
-there text rest n line behind e s = slice_get-drop n (lines_in text) ∙ ap (λ ls. slice_get ls 0) e ∙ s.first
+there text rest n line behind e s = grind (arith, slice_get-drop, s.first)
 
 lines_on : (text rest : List ℕ) (n : ℕ) (line behind : List ℕ) → drop n (lines_in text) ≡ lines_in rest → Splits rest line behind → drop (n + 1) (lines_in text) ≡ lines_in behind
 lines_on text rest n line behind e s = sym (drop-drop 1 n (lines_in text)) ∙ ap (drop 1) e ∙ s.others
@@ -51,18 +45,15 @@ lines_on text rest n line behind e s = sym (drop-drop 1 n (lines_in text)) ∙ a
 -- one more line is the same
 pub agrees_more : (expected got e g : List ℕ) (n : ℕ) (line e' g' : List ℕ) → Agrees expected got e g n → Splits e line e' → Splits g line g' → length e' ≤ length e - 1 → length g' ≤ length g - 1 → 1 ≤ length e + length g → Agrees expected got e' g' (n + 1)
 agrees_more expected got e g n line e' g' a s t shorter short some =
-    let firsts : slice_get (lines_in e) 0 ≡ slice_get (lines_in g) 0 = s.first ∙ sym t.first in
-    let ones : take 1 (drop a.before (lines_in expected)) ≡ take 1 (drop a.before (lines_in got)) =
-    ap (take 1) a.expected_lines ∙ take_one _ _ firsts ∙ sym (ap (take 1) a.got_lines) in
+    let ones = take_one (lines_in e) (lines_in g) (s.first ∙ sym t.first) in
     record {
       before = a.before + 1;
-      number = ap (λ k. k + 1) a.number;
+      number = omega (arith, a.number);
       room = let room = a.room in omega (arith, ap length s.text_is, ap length t.text_is, length-append line e', length-append line g');
-      same = take-add a.before 1 (lines_in expected) ∙ ap (λ ls. ls ++ take 1 (drop a.before (lines_in expected))) a.same
-          ∙ ap (λ ls. take a.before (lines_in got) ++ ls) ones ∙ sym (take-add a.before 1 (lines_in got));
+      same = grind (arith, take-add, ones);
       expected_lines = lines_on expected e a.before line e' a.expected_lines s;
       got_lines = lines_on got g a.before line g' a.got_lines t;
-      whole = λ q. a.whole (sym s.text_is ∙ ap (λ xs. line ++ xs) q ∙ t.text_is);
+      whole = grind (arith, a.whole, s.text_is, t.text_is);
     }
 
 -- the next lines are not
@@ -75,9 +66,9 @@ differs_here expected got e g d line other e' g' a s t p q apart =
       before = a.before;
       number = a.number;
       same = a.same;
-      expected_there = p ∙ sym left;
-      got_there = q ∙ sym right;
-      differ = λ same. apart (line_there-injective line other (sym left ∙ same ∙ right));
+      expected_there = cc;
+      got_there = cc;
+      differ = λ same. apart (line_there-injective line other (cc));
     }
 
 -- texts with a difference are not the same
@@ -86,10 +77,7 @@ differ_apart expected got d is same = is.differ (ap (λ text. slice_get (lines_i
 
 -- what the test for other lines says
 pub ne_apart : (xs ys : List ℕ) (r : Bool) → r ≡ not (bytes_eq xs ys) → r ≡ true → xs ≢ ys
-ne_apart xs ys r is other same = let e = (bytes_eq-Decides xs ys).1 same in cc
+ne_apart xs ys r is other = grind (arith, bytes_eq-Decides)
 
 pub ne_same : (xs ys : List ℕ) (r : Bool) → r ≡ not (bytes_eq xs ys) → r ≡ false → xs ≡ ys
-ne_same xs ys r is alike = (bytes_eq-Decides xs ys).0 (not_false (bytes_eq xs ys) (sym is ∙ alike)) where
-  not_false : (b : Bool) → not b ≡ false → b ≡ true
-  not_false true e = refl
-  not_false false e = cc
+ne_same xs ys r is alike = grind (arith, bytes_eq-Decides)

@@ -23,6 +23,7 @@ fn feed_at(text: &[u8]) -> Option<usize>
 }
 
 /// Returns the length of the first line of the text.
+#[tactic(auto, using(crate::proofs::LineLemmas::first_line))]
 fn line_length(text: &[u8]) -> usize
     ensures { result ≡ line_length text.now }
 {
@@ -33,6 +34,7 @@ fn line_length(text: &[u8]) -> usize
 }
 
 /// Returns the first line of the text, and the rest of the text. Both are empty where the text is.
+#[tactic(auto, using(crate::proofs::LineLemmas::first_line))]
 fn split_line(text: &[u8]) -> (&[u8], &[u8])
     ensures text { result.0.now ++ result.1.now ≡ text.now }
     ensures line { slice_get (lines_in text.now) 0 ≡ line_there result.0.now }

@@ -1,15 +1,9 @@
 -- Counts of rows.
-use Rattle.std.proofs.Common.{◌≡◌, ◌≢◌, ℕ, zero, suc, ◌+◌, ◌<◌, ◌≤◌, inl, inr, get_or, set, Bool, true, false, List, [], ◌∷◌, ◌++◌, Option, Some, None, refl, sym, ap, ◌∙◌, arith, cond, nat_eq, length, count_by, ◌==◌, rules}
-use Rattle.std.specs.List.{find}
-use Rattle.std.proofs.lemmas.List.Sums.{sum_by-cons, count_by-le-length}
-use Rattle.std.proofs.lemmas.Bool.{cases_eq}
-use Rattle.std.proofs.lemmas.Bool.Decides.{nat_tests}
-use Rattle.std.proofs.lemmas.List.{get_or-set_same, get_or-set_other}
-use Rattle.lwp_table.specs.declared.LwpData.{LwpData}
+use Rattle.lwp_table.proofs.CommonNames.{◌≡◌, ◌≢◌, ℕ, zero, suc, ◌+◌, ◌<◌, ◌≤◌, get_or, set, Bool, true, false, List, [], ◌∷◌, ◌++◌, Option, Some, None, refl, sym, ap, ◌∙◌, arith, cond, nat_eq}
+use Rattle.lwp_table.proofs.CommonNames.{length, count_by, ◌==◌, rules, find, sum_by-cons, count_by-le-length, nat_tests, get_or-set_same, get_or-set_other, LwpData, lwp_of, without_lwp, Differ}
+use Rattle.lwp_table.proofs.CommonNames.{listing, place_of, is_at}
 use Rattle.pid_blocks.specs.Blocks.{tid_owner}
-use Rattle.lwp_table.specs.Lwps.{lwp_of, without_lwp, Differ}
 use Rattle.lwp_table.proofs.Numbered.{count-without}
-use Rattle.lwp_table.specs.Kept.{listing, place_of, is_at}
 use Rattle.lwp_table.proofs.WordLemmas.{test_same, test_apart}
 
 -- one for yes
@@ -40,8 +34,7 @@ count-all [] = refl
 count-all (x ∷ xs) = omega (arith, count-cons (λ l. true) x xs, count-all xs)
 
 pub length-without : (tid : ℕ) (row : LwpData) (xs : List LwpData) → Differ xs → lwp_of tid xs ≡ Some row → length (without_lwp tid xs) + 1 ≡ length xs
-length-without tid row xs differ there =
-    omega (arith, count-without (λ (l : LwpData). l.tid) (λ l. true) tid row xs differ there, count-all xs, count-all (without_lwp tid xs))
+length-without tid row xs differ there = grind (arith, nat_tests, count-without (λ (l : LwpData). l.tid) (λ l. true) tid row xs differ there, count-all xs, count-all (without_lwp tid xs))
 
 -- a row's number is of one user's
 pub at_yes : (owner : ℕ) (row : LwpData) → owner ≡ place_of row.tid → is_at owner row ≡ true
@@ -58,10 +51,7 @@ count-owner uid place xs is = search (rules, count_by, nat_tests)
 -- the counts of users after a change of one of them
 pub users_set : (users : List ℕ) (xs ys : List LwpData) (owner n : ℕ) → length users ≡ 64 → owner < 64 → n ≡ count_by (is_at owner) ys → ((place : ℕ) → place ≢ owner → count_by (is_at place) ys ≡ count_by (is_at place) xs)
     → ((place : ℕ) → place < 64 → get_or users place 0 ≡ count_by (is_at place) xs) → (place : ℕ) → place < 64 → get_or (set users owner n) place 0 ≡ count_by (is_at place) ys
-users_set users xs ys owner n long within own others counted place its = elim (cases_eq place owner) [
-  | inl same ↦ rw same (get_or-set_same users owner n 0 (omega (arith, within, long)) ∙ own)
-  | inr off ↦ get_or-set_other users owner place n 0 off ∙ counted place its ∙ sym (others place off)
-]
+users_set users xs ys owner n long within own others counted place its = grind (arith, nat_tests, get_or-set_same users owner n, get_or-set_other users owner place n, others place, counted place)
 
 -- no row passes, so none is counted
 pub count-none : (p : LwpData → Bool) (xs : List LwpData) → find p xs ≡ None → count_by p xs ≡ 0

@@ -1,44 +1,22 @@
 -- What a table keeps after each change, and the rows that it then has.
-use Rattle.std.proofs.Common.{◌≡◌, ◌≢◌, ℕ, ◌+◌, ◌-◌, ◌<◌, ◌≤◌, Bool, true, false, ◌&&◌, ◌||◌, not, List, [], ◌∷◌, ◌++◌, Option, Some, None, IsSome, IfSome, is_some, refl, sym, ap, subst, ◌∙◌, arith, inl, inr, cond, nat_eq, is_none, length, count_by, get_or, set, unwrap_or, replicate, rules}
-use Rattle.std.specs.Map.{lookup}
-use Rattle.std.specs.Option.{option_map, option_or, IsSomeAnd}
-use Rattle.std.proofs.lemmas.Bool.{cases_eq}
-use Rattle.std.proofs.lemmas.Bool.Decides.{eqb_tells}
-use Rattle.std.proofs.lemmas.Option.{same_Some}
-use Rattle.std.proofs.lemmas.List.{get_or-replicate, length-map}
-use Rattle.lwp_table.specs.declared.LwpData.{LwpData}
-use Rattle.lwp_table.specs.declared.links.Slot.{Slot}
-use Rattle.lwp_table.specs.declared.links.Ends.{Ends}
+use Rattle.lwp_table.proofs.CommonNames.{◌≡◌, ◌≢◌, ℕ, ◌+◌, ◌-◌, ◌<◌, ◌≤◌, Bool, true, false, ◌&&◌, ◌||◌, not, List, [], ◌∷◌, ◌++◌, Option, Some, None, IsSome, IfSome, is_some, refl, sym, ap, subst}
+use Rattle.lwp_table.proofs.CommonNames.{◌∙◌, arith, inl, inr, cond, nat_eq, is_none, length, count_by, get_or, set, unwrap_or, replicate, rules, lookup, option_map, option_or, IsSomeAnd, eqb_tells}
+use Rattle.lwp_table.proofs.CommonNames.{nat_tests, same_Some, get_or-replicate, length-map, LwpData, Slot, Ends, lwp_of, put_lwp, with_lwp, without_lwp, Differ, Node, IsNearest, IsChain, AreApart}
+use Rattle.lwp_table.proofs.CommonNames.{up, down, anywhere, joined, bridged, own_node, own_nodes, all_node, all_nodes, is_of, is_at, place_of, linked, closed_up, ends_at, may_pend, marked, no_ends}
+use Rattle.lwp_table.proofs.CommonNames.{born_row, rows_of, IsIndexed, LwpTableInvariant}
 use Rattle.lwp_table.specs.declared.links.Link.TheVariants.{NextOwn, NextAll}
-use Rattle.lwp_table.specs.Lwps.{lwp_of, put_lwp, with_lwp, without_lwp, Differ}
-use Rattle.lwp_table.specs.Chain.{Node, IsNearest, IsChain, AreApart, up, down, anywhere, above, below, leads_to, joined, bridged}
-use Rattle.lwp_table.specs.Kept.{own_node, own_nodes, all_node, all_nodes, is_of, is_at, place_of, linked, closed_up, ends_at, may_pend, marked, no_ends, born_row, rows_of, IsIndexed, LwpTableInvariant}
 use Rattle.lwp_table.proofs.WordLemmas.{both_calm, test_same, test_apart}
 use Rattle.lwp_table.proofs.ChainLemmas.{IsChain-left, IsChain-left_other}
 use Rattle.lwp_table.proofs.JoinLemmas.{IsChain-appended, IsChain-appended_other}
 use Rattle.lwp_table.proofs.Numbered.{count-without, count-put}
 use Rattle.lwp_table.proofs.WalkLemmas.{first-row}
 use Rattle.lwp_table.proofs.CountLemmas.{one, count-end, count-below, count-none, length-end, length-without, length-listing, at_yes, at_no, users_set}
-use Rattle.lwp_table.proofs.IndexLemmas.{some_and, came, carried, differ, face, lwp_of-slot, lwp_of-found, no_slot, IsIndexed-added, rows_of-added, IsIndexed-removed, rows_of-removed, IsIndexed-set, rows_of-set}
-
--- a change of slots as their faces or nodes show it
-shown : {X : Type 0} (h : Slot → X) (k : X → X) (l : Slot → Slot) → ((slot : Slot) → h (l slot) ≡ k (h slot)) → (o : Option Slot) → option_map h (option_map l o) ≡ option_map k (option_map h o)
-shown h k l same None = refl
-shown h k l same (Some slot) = ap Some (same slot)
-
-hidden : {X : Type 0} (h : Slot → X) (l : Slot → Slot) → ((slot : Slot) → h (l slot) ≡ h slot) → (o : Option Slot) → option_map h (option_map l o) ≡ option_map h o
-hidden h l same None = refl
-hidden h l same (Some slot) = ap Some (same slot)
+use Rattle.lwp_table.proofs.IndexLemmas.{some_and, came, carried, differ, face, lwp_of-slot, lwp_of-found, no_slot, IsIndexed-added, rows_of-added, IsIndexed-removed, rows_of-removed, IsIndexed-set}
+use Rattle.lwp_table.proofs.IndexLemmas.{rows_of-set}
 
 -- a slot that has a value keeps one
 pub onto : (f g : ℕ → Option Slot) (l : ℕ → Slot → Slot) → ((s : ℕ) → g s ≡ option_map (l s) (f s)) → (o : Option ℕ) → IfSome o (λ s. IsSome (f s)) → IfSome o (λ s. IsSome (g s))
-onto f g l links None there = tt
-onto f g l links (Some s) there = search (rules, is_some)
-
--- a link to a node leads to no slot without one
-no_lead : (le : ℕ → ℕ → Type 0) (f : ℕ → Option Node) (t q : ℕ) (P : ℕ → Type 0) (o : Option ℕ) → f q ≡ None → IsNearest le f t P o → leads_to o q ≡ false
-no_lead le f t q P None vacant near = refl
-no_lead le f t q P (Some a) vacant near = test_apart a q (λ same. cc (near.1, ap f same, vacant))
+onto f g l links o there = grind (arith, nat_tests)
 
 -- what a list sees of slots: their births differ, and all are below the next one
 module _ (f : ℕ → Option Slot) (node : Slot → Node) (keys : (slot : Slot) → (node slot).key ≡ slot.born) where
@@ -51,15 +29,14 @@ module _ (f : ℕ → Option Slot) (node : Slot → Node) (keys : (slot : Slot) 
 -- one slot is taken or vacated, and then each slot is changed on its own: what is seen of the others
 module _ (f mid g : ℕ → Option Slot) (q : ℕ) (others : (s : ℕ) → s ≢ q → mid s ≡ f s) (l : ℕ → Slot → Slot) (links : (s : ℕ) → g s ≡ option_map (l s) (mid s)) where
   pub seen : {X : Type 0} (h : Slot → X) (k : ℕ → X → X) → ((s : ℕ) (slot : Slot) → h (l s slot) ≡ k s (h slot)) → (s : ℕ) → s ≢ q → option_map h (g s) ≡ option_map (k s) (option_map h (f s))
-  seen h k same s off = ap (option_map h) (links s ∙ ap (option_map (l s)) (others s off)) ∙ shown h (k s) (l s) (same s) (f s)
+  seen h k same s off = grind (arith, nat_tests)
 
   pub seen_same : {X : Type 0} (h : Slot → X) → ((s : ℕ) (slot : Slot) → h (l s slot) ≡ h slot) → (s : ℕ) → s ≢ q → option_map h (g s) ≡ option_map h (f s)
-  seen_same h same s off = ap (option_map h) (links s ∙ ap (option_map (l s)) (others s off)) ∙ hidden h (l s) (same s) (f s)
+  seen_same h same s off = grind (arith, nat_tests)
 
 -- a list with no first node has no last one
 no_last : (f : ℕ → Option Node) (t : ℕ) (o : Option ℕ) → IsNearest down f t anywhere o → IsNearest up f t anywhere None → o ≡ None
-no_last f t None last first = refl
-no_last f t (Some l) last first = absurd (first l last.0 last.1 last.2 tt)
+no_last f t o last first = grind (arith, nat_tests)
 
 -- a list with a slot has a first one
 pub first_there : (f : ℕ → Option Slot) (p : ℕ) (o : Option ℕ) → IsNearest up (own_nodes f) p anywhere o → (s : ℕ) (slot : Slot) → f s ≡ Some slot → slot.row.pid ≡ p → is_some o ≡ true
@@ -72,12 +49,7 @@ pub quiet_kept : (f g : ℕ → Option Slot) (may more : ℕ → Bool) (q : ℕ)
     → ((s : ℕ) (slot : Slot) → g s ≡ Some slot → more slot.row.pid ≡ false → may slot.row.pid ≡ false)
     → ((slot : Slot) → g q ≡ Some slot → more slot.row.pid ≡ false → slot.row.pending ≡ 0)
     → (s : ℕ) (slot : Slot) → g s ≡ Some slot → more slot.row.pid ≡ false → slot.row.pending ≡ 0
-quiet_kept f g may more q faces quiet lower own s slot there none = elim (cases_eq s q) [
-  | inl here ↦ own slot (ap g (sym here) ∙ there) none
-  | inr off ↦
-      let was = carried g f s slot (sym (faces s off)) there in
-      ap (λ (r : LwpData). r.pending) (sym was.3) ∙ quiet s was.0 was.1 (ap (λ (r : LwpData). may r.pid) was.3 ∙ lower s slot there none)
-]
+quiet_kept f g may more q faces quiet lower own s slot there none = grind (arith, nat_tests, carried g f s slot, faces s, quiet s, lower s slot there, own slot)
 
 -- nodes that are the same make the same lists
 IsChain-same : (f g : ℕ → Option Node) (t : ℕ) (first last : Option ℕ) → ((s : ℕ) → f s ≡ g s) → IsChain f t first last → IsChain g t first last
@@ -128,30 +100,20 @@ module _ {f : ℕ → Option Slot} {es : List (ℕ × ℕ)} {hs : List (ℕ × E
     abbrev both : ℕ → Slot → Slot
     both s slot = linked NextAll all.last (Some q) s (linked NextOwn own.last (Some q) s slot)
 
-    both_g : (s : ℕ) → g s ≡ option_map (both s) (joins.taken s)
-    both_g s = joins.links_all s ∙ ap (option_map (linked NextAll all.last (Some q) s)) (joins.links_own s) ∙ each (joins.taken s)
-      where
-        each : (o : Option Slot) → option_map (linked NextAll all.last (Some q) s) (option_map (linked NextOwn own.last (Some q) s) o) ≡ option_map (both s) o
-        each None = refl
-        each (Some slot) = refl
-
     own_chain : IsChain (own_nodes f) row.pid own.first own.last
     own_chain = subst (λ (e : Ends). IsChain (own_nodes f) row.pid e.first e.last) (sym joins.own_is) (kept.own row.pid)
 
     has : g q ≡ Some new
-    has =
-        let a : leads_to own.last q ≡ false = no_lead down (own_nodes f) row.pid q anywhere _ (ap (option_map own_node) joins.vacant) own_chain.last_is in
-        let b : leads_to all.last q ≡ false = no_lead down (all_nodes f) 0 q anywhere _ (ap (option_map all_node) joins.vacant) kept.whole.last_is in
-        both_g q ∙ ap (option_map (both q)) joins.put ∙ rw (a, b) refl
+    has = grind (arith, nat_tests, test_apart, own_chain)
 
     faces : (s : ℕ) → s ≢ q → option_map face (g s) ≡ option_map face (f s)
-    faces = seen_same f joins.taken g q joins.others both both_g face (λ s slot. refl)
+    faces = grind (arith, nat_tests, seen_same, face)
 
     own_g : (s : ℕ) → s ≢ q → own_nodes g s ≡ option_map (joined own.last None q s) (own_nodes f s)
-    own_g = seen f joins.taken g q joins.others both both_g own_node (joined own.last None q) (λ s slot. refl)
+    own_g = grind (arith, nat_tests, seen)
 
     all_g : (s : ℕ) → s ≢ q → all_nodes g s ≡ option_map (joined all.last None q s) (all_nodes f s)
-    all_g = seen f joins.taken g q joins.others both both_g all_node (joined all.last None q) (λ s slot. refl)
+    all_g = grind (arith, nat_tests, seen)
 
     vacant_es : lookup (nat_eq row.tid) es ≡ None
     vacant_es = no_slot f es births kept.indexed row.tid joins.fresh
@@ -168,13 +130,10 @@ module _ {f : ℕ → Option Slot} {es : List (ℕ × ℕ)} {hs : List (ℕ × E
 
       -- the new row's process may have pending signals if it might before, or the row has some
       pend_is : (p : ℕ) → row.pid ≡ p → may_pend hs' p ≡ pend
-      pend_is p is = ap (λ (e : Ends). e.may_pend) (ends p ∙ ap (λ b. cond b (record { first = first; last = Some q; count = own.count + 1; may_pend = pend }) (ends_at hs p)) (ap (nat_eq row.pid) (sym is) ∙ test_same row.pid))
+      pend_is p is = grind (arith, nat_tests, ends p)
 
       lower : (s : ℕ) (slot : Slot) → g s ≡ Some slot → may_pend hs' slot.row.pid ≡ false → may slot.row.pid ≡ false
-      lower s slot there none = elim (eqb_tells row.pid slot.row.pid) [
-        | inl h ↦ told slot.row.pid (ap (may_pend hs) (sym h.1) ∙ ap (λ (e : Ends). e.may_pend) (sym joins.own_is) ∙ (calm (sym (pend_is slot.row.pid h.1) ∙ none)).0)
-        | inr h ↦ told slot.row.pid (ap (λ (e : Ends). e.may_pend) (sym (ends slot.row.pid ∙ ap (λ b. cond b (record { first = first; last = Some q; count = own.count + 1; may_pend = pend }) (ends_at hs slot.row.pid)) h.0)) ∙ none)
-      ]
+      lower s slot there none = grind (arith, nat_tests, pend_is, ends)
 
       pub LwpTableInvariant-added : LwpTableInvariant g es' hs' (record { first = first_all; last = Some q; count = all.count + 1; may_pend = false }) (births + 1) (set users owner (get_or users owner 0 + 1)) (may_pend hs')
       LwpTableInvariant-added = record {
@@ -219,10 +178,7 @@ module _ {f : ℕ → Option Slot} {es : List (ℕ × ℕ)} {hs : List (ℕ × E
 
     -- neither list sees a change
     set_nodes : (node : Slot → Node) → node old ≡ node (record old { row = row }) → (s : ℕ) → option_map node (f s) ≡ option_map node (g s)
-    set_nodes node same s = elim (cases_eq s q) [
-      | inl here ↦ rw here (ap (option_map node) had ∙ ap Some same ∙ sym (ap (option_map node) has))
-      | inr off ↦ sym (ap (option_map node) (same_g s off))
-    ]
+    set_nodes node same s = grind (arith, nat_tests, has)
 
     pub rows-set : rows_of g es births ≡ with_lwp row (rows_of f es births)
     rows-set = rows_of-set f es births kept.indexed g es q set_faces old (record old { row = row }) had has refl (sym found.0) refl
@@ -239,22 +195,12 @@ module _ {f : ℕ → Option Slot} {es : List (ℕ × ℕ)} {hs : List (ℕ × E
       counted = λ p. kept.counted p ∙ counts (is_of p) (ap (λ n. nat_eq n p) pids);
       total = kept.total ∙ sym (ap length rows-set ∙ length-map (rows_of f es births) (put_lwp row));
       homes = λ place within. kept.homes place within ∙ counts (is_at place) (ap (λ n. nat_eq (place_of n) place) found.0);
-      quiet = quiet_kept f g may may q set_faces kept.quiet (λ s slot there none. none)
-          (λ slot there none. let same = same_Some slot (record old { row = row }) (sym there ∙ has) in
-          ap (λ (x : Slot). x.row.pending) same ∙ calm (ap (λ (x : Slot). may x.row.pid) (sym same) ∙ none));
+      quiet = quiet_kept f g may may q set_faces kept.quiet (λ s slot there none. none) (λ slot there none. grind (arith, nat_tests));
     }
 
   -- less is said of pending signals
   pub LwpTableInvariant-may : (more : ℕ → Bool) → ((p : ℕ) → more p ≡ false → may p ≡ false) → LwpTableInvariant f es hs all births users more
-  LwpTableInvariant-may more told = record {
-    indexed = kept.indexed;
-    own = kept.own;
-    whole = kept.whole;
-    counted = kept.counted;
-    total = kept.total;
-    homes = kept.homes;
-    quiet = λ s slot there none. kept.quiet s slot there (told slot.row.pid none);
-  }
+  LwpTableInvariant-may more told = grind (arith, nat_tests)
 
   -- it is noted of one process whether its rows may have pending signals
   pub LwpTableInvariant-marked : (pid : ℕ) (b : Bool) (hs' : List (ℕ × Ends)) → ((p : ℕ) → ends_at hs' p ≡ cond (nat_eq pid p) (marked b (ends_at hs p)) (ends_at hs p))
@@ -262,33 +208,22 @@ module _ {f : ℕ → Option Slot} {es : List (ℕ × ℕ)} {hs : List (ℕ × E
       → ((p : ℕ) → nat_eq pid p ≡ false → may_pend hs p ≡ false → may p ≡ false) → LwpTableInvariant f es hs' all births users (may_pend hs')
   LwpTableInvariant-marked pid b hs' marks calm told = record {
     indexed = kept.indexed;
-    own = λ p. subst (λ (e : Ends). IsChain (own_nodes f) p e.first e.last) (sym (marks p)) (elim (eqb_tells pid p) [ inl h ↦ rw h.0 (kept.own p) | inr h ↦ rw h.0 (kept.own p) ]);
+    own = λ p. grind (arith, nat_tests, marks p, kept.own p);
     whole = kept.whole;
-    counted = λ p. ap (λ (e : Ends). e.count) (marks p) ∙ elim (eqb_tells pid p) [ inl h ↦ rw h.0 (kept.counted p) | inr h ↦ rw h.0 (kept.counted p) ];
+    counted = λ p. grind (arith, nat_tests, marks p, kept.counted p);
     total = kept.total;
     homes = kept.homes;
-    quiet = λ s slot there none. elim (eqb_tells pid slot.row.pid) [
-      | inl h ↦
-          let first = first_there f slot.row.pid (ends_at hs slot.row.pid).first (kept.own slot.row.pid).first_is s slot there refl in
-          let is : may_pend hs' slot.row.pid ≡ b = ap (λ (e : Ends). e.may_pend) (marks slot.row.pid ∙ ap (λ t. cond t (marked b (ends_at hs slot.row.pid)) (ends_at hs slot.row.pid)) h.0) ∙ ap (λ t. cond t b (ends_at hs slot.row.pid).may_pend) first in
-          calm (sym is ∙ none) s slot there (sym h.1)
-      | inr h ↦ kept.quiet s slot there (told slot.row.pid h.0 (ap (λ (e : Ends). e.may_pend) (sym (marks slot.row.pid ∙ ap (λ t. cond t (marked b (ends_at hs slot.row.pid)) (ends_at hs slot.row.pid)) h.0)) ∙ none))
-    ];
+    quiet = λ s slot there none. grind (arith, nat_tests, marks slot.row.pid, first_there f slot.row.pid (ends_at hs slot.row.pid).first (kept.own slot.row.pid).first_is s slot there, calm, told slot.row.pid, kept.quiet s slot there);
   }
 
   -- it is noted that a row's process may have pending signals, if it may already or the row has some
   module _ (row : LwpData) (hs' : List (ℕ × Ends)) (told : (p : ℕ) → may_pend hs p ≡ false → may p ≡ false)
       (marks : (p : ℕ) → ends_at hs' p ≡ cond (nat_eq row.pid p) (marked (may_pend hs row.pid || not (nat_eq row.pending 0)) (ends_at hs p)) (ends_at hs p)) where
     pub LwpTableInvariant-noted : LwpTableInvariant f es hs' all births users (may_pend hs')
-    LwpTableInvariant-noted = LwpTableInvariant-marked row.pid (may_pend hs row.pid || not (nat_eq row.pending 0)) hs' marks
-        (λ none s slot there on. kept.quiet s slot there (told slot.row.pid (ap (may_pend hs) on ∙ (both_calm (may_pend hs row.pid) row.pending none).0))) (λ p off none. told p none)
+    LwpTableInvariant-noted = grind (arith, nat_tests, LwpTableInvariant-marked, both_calm)
 
     pub noted : (s : ℕ) (slot : Slot) → f s ≡ Some slot → slot.row.pid ≡ row.pid → may_pend hs' row.pid ≡ false → row.pending ≡ 0
-    noted s slot there on none =
-        let first = first_there f row.pid (ends_at hs row.pid).first (kept.own row.pid).first_is s slot there on in
-        let b = may_pend hs row.pid || not (nat_eq row.pending 0) in
-        let is : may_pend hs' row.pid ≡ b = ap (λ (e : Ends). e.may_pend) (marks row.pid ∙ ap (λ t. cond t (marked b (ends_at hs row.pid)) (ends_at hs row.pid)) (test_same row.pid)) ∙ ap (λ t. cond t b (may_pend hs row.pid)) first in
-        (both_calm (may_pend hs row.pid) row.pending (sym is ∙ none)).1
+    noted s slot there on none = grind (arith, nat_tests, marks row.pid, first_there f row.pid (ends_at hs row.pid).first (kept.own row.pid).first_is s slot there on, both_calm)
 
   -- what is known of a row that goes
   module _ (q : ℕ) (old : Slot) (had : f q ≡ Some old) where
@@ -306,28 +241,17 @@ module _ {f : ℕ → Option Slot} {es : List (ℕ × ℕ)} {hs : List (ℕ × E
     -- its neighbours are in their slots when it has left
     module _ (rest : ℕ → Option Slot) (others : (s : ℕ) → s ≢ q → rest s ≡ f s) where
       still : (node : Slot → Node) (le : ℕ → ℕ → Type 0) (t : ℕ) (P : ℕ → Type 0) (o : Option ℕ) → ((n : Slot) → (node n).key ≡ n.born) → (P old.born → ⊥) → IsNearest le (λ s. option_map node (f s)) t P o → IfSome o (λ s. IsSome (rest s))
-      still node le t P None keys not near = tt
-      still node le t P (Some s) keys not near =
-          let slot = came node (f s) near.0 near.1 in
-          let off : s ≢ q = λ same. not (subst P (ap (λ n. n.key) (sym slot.2) ∙ keys slot.0 ∙ ap (λ (x : Slot). x.born) (same_Some slot.0 old (sym slot.1 ∙ ap f same ∙ had))) near.3) in
-          ap is_some (others s off ∙ slot.1)
+      still node le t P o keys not near = grind (arith, nat_tests, came, same_Some)
 
       pub neighbours : IfSome old.own.prev (λ s. IsSome (rest s)) × IfSome old.own.next (λ s. IsSome (rest s)) × IfSome old.all.prev (λ s. IsSome (rest s)) × IfSome old.all.next (λ s. IsSome (rest s))
       neighbours =
-          let own = kept.own old.row.pid in (
-            still own_node down old.row.pid (below old.born) old.own.prev (λ n. refl) (λ p. omega (arith, p)) (own.prev_is q (own_node old) (ap (option_map own_node) had) refl),
-            still own_node up old.row.pid (above old.born) old.own.next (λ n. refl) (λ p. omega (arith, p)) (own.next_is q (own_node old) (ap (option_map own_node) had) refl),
-            still all_node down 0 (below old.born) old.all.prev (λ n. refl) (λ p. omega (arith, p)) (kept.whole.prev_is q (all_node old) (ap (option_map all_node) had) refl),
-            still all_node up 0 (above old.born) old.all.next (λ n. refl) (λ p. omega (arith, p)) (kept.whole.next_is q (all_node old) (ap (option_map all_node) had) refl),
-          )
+          let own = kept.own old.row.pid in
+          grind (arith, nat_tests, still, own.prev_is q (own_node old), own.next_is q (own_node old), kept.whole.prev_is q (all_node old), kept.whole.next_is q (all_node old))
 
   -- a row goes
   module _ (tid q : ℕ) (old : Slot) (g : ℕ → Option Slot) (es' : List (ℕ × ℕ)) (left : Ends) (leaves : HasLeft f es hs tid q old g es' left) where
-    tid_is : old.row.tid ≡ tid
-    tid_is = (lwp_of-found f es births kept.indexed tid q old leaves.at leaves.had).0
-
     change : (p : ℕ) → lookup (nat_eq p) es' ≡ cond (nat_eq old.row.tid p) None (lookup (nat_eq p) es)
-    change = rw tid_is leaves.change
+    change = grind (arith, nat_tests, lwp_of-found)
 
     gone_g : g q ≡ None
     gone_g = leaves.closed q ∙ ap (option_map (closed_up old q)) leaves.gone
@@ -345,13 +269,13 @@ module _ {f : ℕ → Option Slot} {es : List (ℕ × ℕ)} {hs : List (ℕ × E
     without = rows_of-removed f es births kept.indexed g es' q left_faces old leaves.had gone_g change
 
     pub rows-removed : rows_of g es' births ≡ without_lwp tid (rows_of f es births)
-    rows-removed = rw (← tid_is) without
+    rows-removed = grind (arith, nat_tests, without, lwp_of-found)
 
     indexed : IsIndexed g es' births
     indexed = IsIndexed-removed f es births kept.indexed g es' q left_faces old leaves.had gone_g change
 
     fewer : (p : LwpData → Bool) → count_by p (rows_of g es' births) + cond (p old.row) 1 0 ≡ count_by p (rows_of f es births)
-    fewer p = rw without (counts_without q old leaves.had p)
+    fewer p = grind (arith, nat_tests, without, counts_without q old leaves.had p)
 
     chain_left : IsChain (own_nodes g) old.row.pid left.first left.last
     chain_left = rw (leaves.first, leaves.last) (IsChain-left (own_nodes f) (own_nodes g) (nodes_apart f own_node (λ slot. refl) kept.indexed.apart) old.row.pid (ends_at hs old.row.pid).first (ends_at hs old.row.pid).last (kept.own old.row.pid) q (own_node old)
@@ -360,28 +284,18 @@ module _ {f : ℕ → Option Slot} {es : List (ℕ × ℕ)} {hs : List (ℕ × E
     -- a list with no first row is empty
     pub left_empty : left.first ≡ None → left ≡ no_ends
     left_empty none =
-        let near = subst (IsNearest up (own_nodes g) old.row.pid anywhere) none chain_left.first_is in
-        let last = no_last (own_nodes g) old.row.pid left.last chain_left.last_is near in
-        let zero = count-none (is_of old.row.pid) (rows_of g es' births) (first-row g es' births indexed old.row.pid None near) in
-        let count : left.count ≡ 0 = omega (arith, zero, fewer (is_of old.row.pid), leaves.count, kept.counted old.row.pid, ap one (test_same old.row.pid)) in
-        let pends : left.may_pend ≡ false = leaves.pends ∙ ap (λ o. is_some o && (ends_at hs old.row.pid).may_pend) none in
-        (λ i. record { first = none i; last = last i; count = count i; may_pend = pends i })
+        let zero = count-none (is_of old.row.pid) (rows_of g es' births) (grind (arith, nat_tests, first-row g es' births indexed old.row.pid None, chain_left)) in
+        grind (arith, nat_tests, no_last (own_nodes g) old.row.pid left.last, chain_left, fewer (is_of old.row.pid), leaves.count, kept.counted old.row.pid, leaves.pends)
 
     module _ (hs' : List (ℕ × Ends)) (all' : Ends) (ends : (p : ℕ) → ends_at hs' p ≡ cond (nat_eq old.row.pid p) left (ends_at hs p))
         (all_first : all'.first ≡ cond (is_none old.all.prev) old.all.next all.first) (all_last : all'.last ≡ cond (is_none old.all.next) old.all.prev all.last) (all_fewer : all'.count + 1 ≡ all.count)
         (owner : ℕ) (owner_is : owner ≡ place_of tid) (within : owner < 64) (long : length users ≡ 64) (told : (p : ℕ) → may_pend hs p ≡ false → may p ≡ false) where
       its_owner : owner ≡ place_of old.row.tid
-      its_owner = owner_is ∙ ap place_of (sym tid_is)
+      its_owner = grind (arith, nat_tests, lwp_of-found)
 
       -- a row is left in the list, so the ends tell of pending signals as before
       lower_left : (s : ℕ) (slot : Slot) → g s ≡ Some slot → may_pend hs' slot.row.pid ≡ false → may slot.row.pid ≡ false
-      lower_left s slot there none = elim (eqb_tells old.row.pid slot.row.pid) [
-        | inl h ↦
-            let first = first_there g slot.row.pid left.first (subst (λ p. IsNearest up (own_nodes g) p anywhere left.first) h.1 chain_left.first_is) s slot there refl in
-            let is : may_pend hs' slot.row.pid ≡ may_pend hs old.row.pid = ap (λ (e : Ends). e.may_pend) (ends slot.row.pid ∙ ap (λ b. cond b left (ends_at hs slot.row.pid)) h.0) ∙ leaves.pends ∙ ap (λ b. b && may_pend hs old.row.pid) first in
-            told slot.row.pid (ap (may_pend hs) (sym h.1) ∙ sym is ∙ none)
-        | inr h ↦ told slot.row.pid (ap (λ (e : Ends). e.may_pend) (sym (ends slot.row.pid ∙ ap (λ b. cond b left (ends_at hs slot.row.pid)) h.0)) ∙ none)
-      ]
+      lower_left s slot there none = grind (arith, nat_tests, eqb_tells old.row.pid slot.row.pid, first_there g slot.row.pid left.first, ends slot.row.pid, chain_left)
 
       pub LwpTableInvariant-removed : LwpTableInvariant g es' hs' all' births (set users owner (get_or users owner 0 - 1)) (may_pend hs')
       LwpTableInvariant-removed = record {
@@ -395,10 +309,7 @@ module _ {f : ℕ → Option Slot} {es : List (ℕ × ℕ)} {hs : List (ℕ × E
         whole =
             rw (all_first, all_last) (IsChain-left (all_nodes f) (all_nodes g) (nodes_apart f all_node (λ slot. refl) kept.indexed.apart) 0 all.first all.last kept.whole q (all_node old)
             (ap (option_map all_node) leaves.had) refl (ap (option_map all_node) gone_g) left_all);
-        counted = λ p. rw (ends p) (elim (eqb_tells old.row.pid p) [
-          | inl h ↦ rw h.0 (omega (arith, kept.counted p, leaves.count, fewer (is_of p), ap (λ n. (ends_at hs n).count) h.1, ap one h.0))
-          | inr h ↦ rw h.0 (omega (arith, kept.counted p, fewer (is_of p), ap one h.0))
-        ]);
+        counted = λ p. grind (arith, nat_tests, ends p, kept.counted p, leaves.count, fewer (is_of p));
         total = rw without (omega (arith, kept.total, all_fewer, length-without old.row.tid old.row (rows_of f es births) (differ f es births kept.indexed) (lwp_of-slot f es births kept.indexed q old leaves.had)));
         homes = users_set users (rows_of f es births) (rows_of g es' births) owner _ long within
             (omega (arith, kept.homes owner within, fewer (is_at owner), ap one (at_yes owner old.row its_owner)))
@@ -409,23 +320,13 @@ module _ {f : ℕ → Option Slot} {es : List (ℕ × ℕ)} {hs : List (ℕ × E
 
 -- an empty list, and an empty table
 IsChain-none : (f : ℕ → Option Node) (t : ℕ) → ((s : ℕ) → f s ≡ None) → IsChain f t None None
-IsChain-none f t none = record {
-  first_is = λ j node there on any. cc (there, none j);
-  last_is = λ j node there on any. cc (there, none j);
-  next_is = λ j node there on. absurd (cc (there, none j));
-  prev_is = λ j node there on. absurd (cc (there, none j));
-}
+IsChain-none f t none = grind (arith, nat_tests)
 
 pub LwpTableInvariant-none : (f : ℕ → Option Slot) (es : List (ℕ × ℕ)) (hs : List (ℕ × Ends)) → ((s : ℕ) → f s ≡ None) → es ≡ [] → hs ≡ [] → LwpTableInvariant f es hs no_ends 0 (replicate 64 0) (may_pend hs)
 LwpTableInvariant-none f es hs none no_es no_hs = record {
-  indexed = record {
-    listed = λ s slot there. absurd (cc (there, none s));
-    named = λ tid s at. absurd (cc (rw no_es at at));
-    earlier = λ s slot there. absurd (cc (there, none s));
-    apart = λ i j a b there_a there_b same. absurd (cc (there_a, none i));
-  };
-  own = λ p. rw no_hs (IsChain-none (own_nodes f) p (λ s. ap (option_map own_node) (none s)));
-  whole = IsChain-none (all_nodes f) 0 (λ s. ap (option_map all_node) (none s));
+  indexed = grind (arith, nat_tests);
+  own = λ p. grind (arith, nat_tests, IsChain-none);
+  whole = grind (arith, nat_tests, IsChain-none);
   counted = λ p. rw no_hs refl;
   total = refl;
   homes = λ place within. get_or-replicate 64 place 0 0 (omega (arith, within));

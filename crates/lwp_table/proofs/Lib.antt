@@ -1,3 +1,4 @@
+pub mod CommonNames
 pub mod Numbered
 pub mod WordLemmas
 pub mod ChainLemmas

@@ -1,11 +1,7 @@
 -- Rows that are found by numbers of their own, whatever the rows are.
-use Rattle.std.proofs.Common.{◌≡◌, ℕ, ◌+◌, Bool, true, false, not, List, [], ◌∷◌, Some, map, refl, sym, ap, subst, ◌∙◌, arith, inl, inr, cond, nat_eq, count_by, is_some, rules}
-use Rattle.std.specs.Prelude.{filter, option_map}
-use Rattle.std.specs.List.{find, list_any}
-use Rattle.std.proofs.lemmas.Bool.{cases_Bool}
-use Rattle.std.proofs.lemmas.Bool.Decides.{nat_tests, eqb_tells}
-use Rattle.std.proofs.lemmas.List.Sums.{sum_by-cons}
-use Rattle.lwp_table.specs.Lwps.{Lacks, Once}
+use Rattle.lwp_table.proofs.CommonNames.{◌≡◌, ℕ, ◌+◌, Bool, false, not, List, [], ◌∷◌, Some, map, refl, sym, arith, inl, inr, cond, nat_eq, count_by, is_some, rules, filter, find, list_any}
+use Rattle.lwp_table.proofs.CommonNames.{cases_Bool, nat_tests, eqb_tells, sum_by-cons, Lacks, Once}
+use Rattle.std.specs.Prelude.{option_map}
 
 pub any-found : {A : Type 0} (test : A → Bool) (xs : List A) → list_any test xs ≡ is_some (find test xs)
 any-found test [] = refl
@@ -13,18 +9,12 @@ any-found test (x ∷ xs) = elim (cases_Bool (test x)) [ inl e ↦ rw e refl | i
 
 module _ {A : Type 0} (number : A → ℕ) where
   pub found-number : (n : ℕ) (x : A) (xs : List A) → find (λ y. nat_eq (number y) n) xs ≡ Some x → number x ≡ n
-  found-number n x [] found = absurd (cc)
-  found-number n x (y ∷ ys) found = elim (eqb_tells (number y) n) [
-    | inl h ↦ let its : Some y ≡ Some x = rw h.0 at found in let same : y ≡ x = cc in ap number (sym same) ∙ h.1
-    | inr h ↦ found-number n x ys (rw h.0 at found)
-  ]
+  found-number n x [] found = grind (arith, nat_tests)
+  found-number n x (y ∷ ys) found = grind (arith, nat_tests, found-number n x ys)
 
   pub lacks-any : (n : ℕ) (xs : List A) → list_any (λ y. nat_eq (number y) n) xs ≡ false → Lacks number n xs
-  lacks-any n [] none = tt
-  lacks-any n (y ∷ ys) none = elim (eqb_tells (number y) n) [
-    | inl h ↦ absurd (cc (rw h.0 at none))
-    | inr h ↦ (h.1, lacks-any n ys (rw h.0 at none))
-  ]
+  lacks-any n [] none = grind (arith, nat_tests)
+  lacks-any n (y ∷ ys) none = grind (arith, nat_tests, lacks-any n ys)
 
   pub find-map : (f : A → A) → ((x : A) → number (f x) ≡ number x) → (n : ℕ) (xs : List A)
       → find (λ y. nat_eq (number y) n) (map f xs) ≡ option_map f (find (λ y. nat_eq (number y) n) xs)
@@ -50,19 +40,8 @@ module _ {A : Type 0} (number : A → ℕ) where
   -- the row with a number changed is a new row put in its place
   pub map-changed : (n : ℕ) (f : A → A) (x : A) (xs : List A) → Once number xs → find (λ y. nat_eq (number y) n) xs ≡ Some x → number (f x) ≡ n
       → map (λ y. cond (nat_eq (number y) n) (f y) y) xs ≡ map (put (f x)) xs
-  map-changed n f x [] once found its = refl
-  map-changed n f x (y ∷ ys) once found its = elim (eqb_tells (number y) n) [
-    | inl h ↦
-        let at : Some y ≡ Some x = rw h.0 at found in
-        let same : y ≡ x = cc in
-        let here : nat_eq (number y) (number (f x)) ≡ true = rw its h.0 in
-        let lacks : Lacks number n ys = rw h.1 at once.0 in
-        let rest : map (put (f x)) ys ≡ ys = subst (λ m. map (λ z. cond (nat_eq (number z) m) (f x) z) ys ≡ ys) (sym its) (map-lacks (λ z. f x) n ys lacks) in
-        rw (h.0, here) (ap (λ z. f z ∷ map (λ y. cond (nat_eq (number y) n) (f y) y) ys) same ∙ ap (λ zs. f x ∷ zs) (map-lacks f n ys lacks ∙ sym rest))
-    | inr h ↦
-        let there : nat_eq (number y) (number (f x)) ≡ false = rw its h.0 in
-        rw (h.0, there) (ap (λ zs. y ∷ zs) (map-changed n f x ys once.1 (rw h.0 at found) its))
-  ]
+  map-changed n f x [] once found its = grind (arith, nat_tests)
+  map-changed n f x (y ∷ ys) once found its = grind (arith, nat_tests, map-changed n f x ys once.1, eqb_tells (number y) n, map-lacks (λ z. f x) n ys, map-lacks f n ys)
 
   -- the counts of rows that pass a test, under edits
   module _ (p : A → Bool) where
@@ -71,26 +50,10 @@ module _ {A : Type 0} (number : A → ℕ) where
 
     pub count-without : (n : ℕ) (was : A) (xs : List A) → Once number xs → find (λ y. nat_eq (number y) n) xs ≡ Some was
         → count_by p (filter (λ x. not (nat_eq (number x) n)) xs) + cond (p was) 1 0 ≡ count_by p xs
-    count-without n was [] once found = absurd (cc)
-    count-without n was (y ∷ ys) once found = elim (eqb_tells (number y) n) [
-      | inl h ↦
-          let its : Some y ≡ Some was = rw h.0 at found in
-          let row : y ≡ was = cc in
-          let passes = ap {B = ℕ} (λ z. cond (p z) 1 0) row in
-          let rest = ap (count_by p) (filter-lacks n ys (rw h.1 at once.0)) in
-          rw h.0 (omega (arith, rest, passes, count-cons y ys))
-      | inr h ↦ rw h.0 (omega (arith, count-without n was ys once.1 (rw h.0 at found), count-cons y ys, count-cons y (filter (λ x. not (nat_eq (number x) n)) ys)))
-    ]
+    count-without n was [] once found = grind (arith, nat_tests)
+    count-without n was (y ∷ ys) once found = grind (arith, nat_tests, count-without n was ys once.1, filter-lacks, count-cons)
 
     pub count-put : (new was : A) (xs : List A) → Once number xs → find (λ y. nat_eq (number y) (number new)) xs ≡ Some was → p was ≡ p new
         → count_by p (map (put new) xs) ≡ count_by p xs
     count-put new was [] once found same = refl
-    count-put new was (y ∷ ys) once found same = elim (eqb_tells (number y) (number new)) [
-      | inl h ↦
-          let its : Some y ≡ Some was = rw h.0 at found in
-          let row : y ≡ was = cc in
-          let passes = ap {B = ℕ} (λ b. cond b 1 0) (ap p row ∙ same) in
-          let rest = ap (count_by p) (map-lacks (λ z. new) (number new) ys (rw h.1 at once.0)) in
-          rw h.0 (omega (arith, rest, passes, count-cons y ys, count-cons new (map (put new) ys)))
-      | inr h ↦ rw h.0 (omega (arith, count-put new was ys once.1 (rw h.0 at found) same, count-cons y ys, count-cons y (map (put new) ys)))
-    ]
+    count-put new was (y ∷ ys) once found same = grind (arith, nat_tests, count-put new was ys once.1, count-cons, map-lacks (λ z. new) (number new) ys)

@@ -1,16 +1,7 @@
 -- Walks along the links, and the rows that they meet.
-use Rattle.std.proofs.Common.{◌≡◌, ℕ, ◌+◌, ◌-◌, ◌<◌, ◌≤◌, Bool, true, false, inl, inr, List, [], ◌∷◌, Option, Some, None, IfSome, refl, sym, ap, subst, ◌∙◌, arith, nat_eq, filter, rules}
-use Rattle.std.specs.Option.{option_map, IsSomeAnd}
-use Rattle.std.specs.Map.{lookup}
-use Rattle.std.proofs.lemmas.Bool.{cases_Bool}
-use Rattle.std.proofs.lemmas.Bool.Decides.{nat_tests}
-use Rattle.std.proofs.lemmas.Option.{same_Some}
-use Rattle.lwp_table.specs.declared.LwpData.{LwpData}
-use Rattle.lwp_table.specs.declared.links.Slot.{Slot}
-use Rattle.lwp_table.specs.Chain.{Node, IsNearest, IsChain, up, anywhere, above}
-use Rattle.lwp_table.specs.Kept.{own_node, own_nodes, all_node, all_nodes, is_of, born_row, listing, rows_of, IsIndexed, from_slot, rows_from, IsWalk}
-use Rattle.std.specs.List.{find}
-use Rattle.lwp_table.specs.Lwps.{lwp_of, first_lwp, next_lwp}
+use Rattle.lwp_table.proofs.CommonNames.{◌≡◌, ℕ, ◌+◌, ◌-◌, ◌<◌, ◌≤◌, Bool, true, false, List, [], ◌∷◌, Option, Some, None, IfSome, refl, sym, ap, subst, ◌∙◌, arith, nat_eq, filter, rules, option_map}
+use Rattle.lwp_table.proofs.CommonNames.{IsSomeAnd, lookup, cases_Bool, nat_tests, same_Some, LwpData, Slot, Node, IsNearest, IsChain, up, anywhere, above, own_node, own_nodes, all_node, all_nodes}
+use Rattle.lwp_table.proofs.CommonNames.{is_of, born_row, listing, rows_of, IsIndexed, from_slot, rows_from, IsWalk, find, lwp_of, first_lwp, next_lwp}
 use Rattle.lwp_table.proofs.WordLemmas.{test_same, next_lwp-after}
 use Rattle.lwp_table.proofs.ListLemmas.{rows_after-listing, filter-skip, filter-first}
 use Rattle.lwp_table.proofs.IndexLemmas.{some_and, came, numbered, born_in, born_of, lwp_of-found}
@@ -25,7 +16,7 @@ head (x ∷ xs) = Some x
 
 find-head : (p : LwpData → Bool) (xs : List LwpData) → find p xs ≡ head (filter p xs)
 find-head p [] = refl
-find-head p (x ∷ xs) = elim (cases_Bool (p x)) [ inl e ↦ rw e refl | inr e ↦ rw e (find-head p xs) ]
+find-head p (x ∷ xs) = search (rules, find-head p xs, cases_Bool)
 
 -- a walk along a list, whose rows are those that pass a test
 module _ (f : ℕ → Option Slot) (es : List (ℕ × ℕ)) (births : ℕ) (indexed : IsIndexed f es births) (node : Slot → Node) (list : ℕ) (p : LwpData → Bool)
@@ -39,30 +30,27 @@ module _ (f : ℕ → Option Slot) (es : List (ℕ × ℕ)) (births : ℕ) (inde
       → filter p (listing (born_row f es) from (births - from)) ≡ filter p (rows_from f es births o)
   nearest P from to back None near most =
       let all : from + (births - from) - births ≡ 0 = omega (arith, most) in
-      filter-skip (born_row f es) p births from (births - from) most (omega (arith, most))
-      (λ j x least less is. fails j x is (λ s slot there on key. near s (node slot) (ap (option_map node) there) on (subst P (sym key) (to j least))))
-      ∙ ap (λ n. filter p (listing (born_row f es) births n)) all
+      rw (
+        filter-skip (born_row f es) p births from (births - from) most (omega (arith, most))
+            (λ j x least less is. fails j x is (λ s slot there on key. near s (node slot) (ap (option_map node) there) on (subst P (sym key) (to j least)))),
+        all,
+      ) refl
   nearest P from to back (Some s) near most =
       let slot = came node (f s) near.0 near.1 in
-      let key : near.0.key ≡ slot.0.born = ap (λ n. n.key) (sym slot.2) ∙ keys slot.0 in
+      let key : near.0.key ≡ slot.0.born = grind (arith, nat_tests, keys slot.0) in
       let least : from ≤ slot.0.born = omega (arith, key, back near.0.key near.3) in
       let less : slot.0.born < births = indexed.earlier s slot.0 slot.1 in
       let left : from + (births - from) - slot.0.born ≡ births - slot.0.born = omega (arith, least, less) in
-      filter-skip (born_row f es) p slot.0.born from (births - from) least (omega (arith, least, less))
-      (λ j x from_j before is. fails j x is (λ t other there on at. omega (arith, before, key, at, near.4 t (node other) (ap (option_map node) there) on (subst P (sym at) (to j from_j)))))
-      ∙ ap (λ n. filter p (listing (born_row f es) slot.0.born n)) left
-      ∙ sym (ap (λ o. filter p (from_slot f es births o)) slot.1)
+      let skip = filter-skip (born_row f es) p slot.0.born from (births - from) least (omega (arith, least, less))
+      (λ j x from_j before is. fails j x is (λ t other there on at. omega (arith, before, key, at, near.4 t (node other) (ap (option_map node) there) on (subst P (sym at) (to j from_j))))) in
+      grind (arith, nat_tests)
 
   walk-first : (o : Option ℕ) → IsNearest up (λ j. option_map node (f j)) list anywhere o → filter p (rows_of f es births) ≡ filter p (rows_from f es births o)
-  walk-first o near =
-      let all : births ≡ births - 0 = omega arith in
-      ap (λ n. filter p (listing (born_row f es) 0 n)) all ∙ nearest anywhere 0 (λ k least. tt) (λ k p. omega arith) o near (omega arith)
+  walk-first o near = grind (arith, nat_tests, nearest anywhere 0 (λ k least. tt))
 
   -- the row at which the walk is
   walk-here : (s : ℕ) (slot : Slot) → f s ≡ Some slot → (node slot).list ≡ list → filter p (rows_from f es births (Some s)) ≡ slot.row ∷ filter p (listing (born_row f es) (slot.born + 1) (births - (slot.born + 1)))
-  walk-here s slot there on =
-      ap (λ o. filter p (from_slot f es births o)) there
-      ∙ filter-first (born_row f es) p slot.born births slot.row (born_of f es births indexed s slot there) (passes slot on) (indexed.earlier s slot there)
+  walk-here s slot there on = grind (arith, nat_tests, filter-first (born_row f es) p slot.born births slot.row (born_of f es births indexed s slot there) (passes slot on) (indexed.earlier s slot there))
 
   -- a step of the walk
   walk-next : (s : ℕ) (slot : Slot) (next : Option ℕ) → f s ≡ Some slot → IsNearest up (λ j. option_map node (f j)) list (above slot.born) next
@@ -84,9 +72,7 @@ module _ (f : ℕ → Option Slot) (es : List (ℕ × ℕ)) (births : ℕ) (inde
   all-first o near = sym (filter-true (rows_of f es births)) ∙ walk-first f es births indexed all_node 0 (λ x. true) (λ slot. refl) (λ slot on. refl) (λ slot its. refl) o near ∙ filter-true (rows_from f es births o)
 
   pub all-step : (s : ℕ) (slot : Slot) → f s ≡ Some slot → IsNearest up (all_nodes f) 0 (above slot.born) slot.all.next → rows_from f es births (Some s) ≡ slot.row ∷ rows_from f es births slot.all.next
-  all-step s slot there near =
-      sym (filter-true (rows_from f es births (Some s))) ∙ walk-step f es births indexed all_node 0 (λ x. true) (λ slot. refl) (λ slot on. refl) (λ slot its. refl) s slot slot.all.next there refl near
-      ∙ ap (λ xs. slot.row ∷ xs) (filter-true (rows_from f es births slot.all.next))
+  all-step s slot there near = grind (arith, nat_tests, filter-true, walk-step f es births indexed all_node 0 (λ x. true) (λ slot. refl) (λ slot on. refl) (λ slot its. refl) s slot slot.all.next there refl near)
 
   module _ (pid : ℕ) where
     of_pid : (slot : Slot) → is_of pid slot.row ≡ true → slot.row.pid ≡ pid
@@ -106,8 +92,7 @@ module _ (f : ℕ → Option Slot) (es : List (ℕ × ℕ)) (births : ℕ) (inde
     found xs P None near same = find-head (is_of pid) xs ∙ ap head same
     found xs P (Some s) near same =
         let slot = came own_node (f s) near.0 near.1 in
-        let on : slot.0.row.pid ≡ pid = ap (λ n. n.list) slot.2 ∙ near.2 in
-        find-head (is_of pid) xs ∙ ap head (same ∙ walk-here f es births indexed own_node pid (is_of pid) (λ slot. refl) of_own of_pid s slot.0 slot.1 on) ∙ sym (ap (option_map (λ (x : Slot). x.row)) slot.1)
+        grind (arith, nat_tests, find-head (is_of pid) xs, walk-here f es births indexed own_node pid (is_of pid) (λ slot. refl) of_own of_pid s slot.0 slot.1)
 
     pub first-row : (o : Option ℕ) → IsNearest up (own_nodes f) pid anywhere o → first_lwp pid (rows_of f es births) ≡ row_at f o
     first-row o near = found (rows_of f es births) anywhere o near (left-first o near)
@@ -116,32 +101,22 @@ module _ (f : ℕ → Option Slot) (es : List (ℕ × ℕ)) (births : ℕ) (inde
     pub next-row : (at : ℕ) (was : Slot) (next : Option ℕ) → f at ≡ Some was → IsNearest up (own_nodes f) pid (above was.born) next → next_lwp pid was.row.tid (rows_of f es births) ≡ row_at f next
     next-row at was next there near =
         let all : 0 + births - (was.born + 1) ≡ births - (was.born + 1) = omega arith in
-        next_lwp-after pid was.row.tid (rows_of f es births) ∙ ap (first_lwp pid) (rows_after-listing (born_row f es) (numbered f es births indexed) was.born was.row (born_of f es births indexed at was there) 0 births (omega arith) (omega (arith, indexed.earlier at was there))
-        ∙ ap (listing (born_row f es) (was.born + 1)) all) ∙ found _ (above was.born) next near (walk-next f es births indexed own_node pid (is_of pid) (λ slot. refl) of_own of_pid at was next there near)
+        let after = rows_after-listing (born_row f es) (numbered f es births indexed) was.born was.row (born_of f es births indexed at was there) 0 births (omega arith) (omega (arith, indexed.earlier at was there)) in
+        next_lwp-after pid was.row.tid (rows_of f es births) ∙ ap (first_lwp pid) (rw all at after) ∙ found _ (above was.born) next near (walk-next f es births indexed own_node pid (is_of pid) (λ slot. refl) of_own of_pid at was next there near)
 
     -- the link in the slot of the process's row with this number leads to the process's next row
     pub next-near : (first last : Option ℕ) → IsChain (own_nodes f) pid first last → (tid at : ℕ) (was : Slot) → IsSomeAnd (lwp_of tid (rows_of f es births)) (λ row. row.pid ≡ pid) → lookup (nat_eq tid) es ≡ Some at → f at ≡ Some was
         → IsNearest up (own_nodes f) pid (above was.born) was.own.next × (next_lwp pid tid (rows_of f es births) ≡ row_at f was.own.next)
-    next-near first last chain tid at was its listed there =
-        let row = some_and _ _ its in
-        let found = lwp_of-found f es births indexed tid at was listed there in
-        let on = ap (λ (r : LwpData). r.pid) (same_Some was.row row.0 (sym found.1 ∙ row.1)) ∙ row.2 in
-        let near = chain.next_is at (own_node was) (ap (option_map own_node) there) on in
-        (near, ap (λ n. next_lwp pid n (rows_of f es births)) (sym found.0) ∙ next-row at was was.own.next there near)
+    next-near first last chain tid at was its listed there = grind (arith, nat_tests, some_and, lwp_of-found f es births indexed tid at was listed there, chain.next_is at (own_node was), next-row at was was.own.next there)
 
 -- a link leads to a slot of its list
 walk_there : (f : ℕ → Option Slot) (node : Slot → Node) (list : ℕ) (P : ℕ → Type 0) (o : Option ℕ) → IsNearest up (λ j. option_map node (f j)) list P o → IfSome o (λ s. IsSomeAnd (f s) (λ slot. (node slot).list ≡ list))
-walk_there f node list P None near = tt
-walk_there f node list P (Some s) near = let slot = came node (f s) near.0 near.1 in rw slot.1 (ap (λ n. n.list) slot.2 ∙ near.2)
+walk_there f node list P o near = grind (arith, nat_tests, came)
 
 module _ (f : ℕ → Option Slot) (es : List (ℕ × ℕ)) (births : ℕ) (node : Slot → Node) (list : ℕ) where
   -- a walk begins
   pub IsWalk-first : (first last : Option ℕ) → IsIndexed f es births → IsChain (λ j. option_map node (f j)) list first last → IsWalk f es births node list first
-  IsWalk-first first last indexed chain = record {
-    indexed = indexed;
-    next_is = λ s slot there on. chain.next_is s (node slot) (ap (option_map node) there) on;
-    there = walk_there f node list anywhere first chain.first_is;
-  }
+  IsWalk-first first last indexed chain = record { indexed = indexed; next_is = λ s slot there on. chain.next_is s (node slot) (ap (option_map node) there) on; there = walk_there f node list anywhere first chain.first_is }
 
   -- the slot at which a walk is belongs to its list
   pub walk_on : (s : ℕ) (slot : Slot) → IsWalk f es births node list (Some s) → f s ≡ Some slot → (node slot).list ≡ list

@@ -1,9 +1,7 @@
 -- Words on rows that proofs use in addition to those of Lwps, and how they agree where the LWPs' numbers differ.
-use Rattle.std.proofs.Common.{◌≡◌, ◌≢◌, ℕ, Bool, true, false, ◌||◌, not, true≢false, List, [], ◌∷◌, None, refl, sym, arith, cond, nat_eq, is_some, rules}
-use Rattle.std.proofs.lemmas.Bool.Decides.{nat_tests}
-use Rattle.lwp_table.specs.declared.LwpData.{LwpData}
+use Rattle.lwp_table.proofs.CommonNames.{◌≡◌, ◌≢◌, ℕ, Bool, true, false, ◌||◌, not, List, [], ◌∷◌, None, refl, sym, arith, cond, nat_eq, is_some, rules, nat_tests, LwpData, lwp_of, first_lwp}
+use Rattle.lwp_table.proofs.CommonNames.{next_lwp, has_lwp}
 use Rattle.lwp_table.proofs.Numbered.{any-found}
-use Rattle.lwp_table.specs.Lwps.{lwp_of, first_lwp, next_lwp, has_lwp}
 
 pub test_same : (a : ℕ) → nat_eq a a ≡ true
 test_same a = grind (arith, nat_tests)
@@ -13,8 +11,7 @@ test_apart a b off = grind (arith, nat_tests)
 
 -- neither before nor at a row are signals pending
 pub both_calm : (before : Bool) (pending : ℕ) → (before || not (nat_eq pending 0)) ≡ false → (before ≡ false) × (pending ≡ 0)
-both_calm true pending none = absurd (true≢false none)
-both_calm false pending none = (refl, grind (arith, nat_tests))
+both_calm before pending none = grind (arith, nat_tests)
 
 -- the rows born after the one with this number
 abbrev pub rows_after : ℕ → List LwpData → List LwpData

@@ -1,9 +1,8 @@
 -- What a number finds among entries.
-use Rattle.std.proofs.Common.{◌≡◌, ◌≢◌, ℕ, zero, suc, ◌+◌, ◌<◌, ◌≤◌, true, false, List, [], Option, Some, None, refl, ap, ◌∙◌, inl, inr, arith, nat_eq}
+use Rattle.std.proofs.Common.{◌≡◌, ◌≢◌, ℕ, zero, suc, ◌+◌, ◌<◌, ◌≤◌, true, false, List, [], Option, None, refl, ap, arith, nat_eq}
 use Rattle.std.specs.List.{cons_option}
 use Rattle.std.specs.Map.{lookup}
 use Rattle.std.specs.Option.{option_map}
-use Rattle.std.proofs.lemmas.Bool.{cases_eq}
 use Rattle.std.proofs.lemmas.Bool.Decides.{nat_tests}
 use Rattle.number_map.specs.Pages.{entries_from}
 
@@ -16,29 +15,26 @@ test_apart a b off = grind (arith, nat_tests)
 module _ {V : Type 0} where
   -- another number's entry is passed by
   pass : (n from : ℕ) (o : Option V) (rest : List (ℕ × V)) → n ≢ from → lookup (nat_eq n) (cons_option (option_map (λ v. (from, v)) o) rest) ≡ lookup (nat_eq n) rest
-  pass n from None rest off = refl
-  pass n from (Some v) rest off = rw (test_apart n from off) refl
+  pass n from o rest off = grind (arith, test_apart)
 
   -- the number's own entry
   meet : (n : ℕ) (o : Option V) (rest : List (ℕ × V)) → lookup (nat_eq n) rest ≡ None → lookup (nat_eq n) (cons_option (option_map (λ v. (n, v)) o) rest) ≡ o
-  meet n None rest none = none
-  meet n (Some v) rest none = rw (test_same n) refl
+  meet n o rest none = grind (arith, test_same)
 
   module _ (f : ℕ → Option V) where
     lookup-before : (n from count : ℕ) → n < from → lookup (nat_eq n) (entries_from f from count) ≡ None
     lookup-before n from zero less = refl
-    lookup-before n from (suc count) less = pass n from (f from) (entries_from f (from + 1) count) (omega (arith, less)) ∙ lookup-before n (from + 1) count (omega (arith, less))
+    lookup-before n from (suc count) less = grind (arith, pass, lookup-before n (from + 1) count)
 
     pub lookup-past : (n from count : ℕ) → from + count ≤ n → lookup (nat_eq n) (entries_from f from count) ≡ None
     lookup-past n from zero past = refl
-    lookup-past n from (suc count) past = pass n from (f from) (entries_from f (from + 1) count) (omega (arith, past)) ∙ lookup-past n (from + 1) count (omega (arith, past))
+    lookup-past n from (suc count) past = grind (arith, pass, lookup-past n (from + 1) count)
 
     pub lookup-within : (n from count : ℕ) → from ≤ n → n < from + count → lookup (nat_eq n) (entries_from f from count) ≡ f n
     lookup-within n from zero least less = absurd (omega (arith, least, less))
-    lookup-within n from (suc count) least less = elim (cases_eq n from) [
-      | inl same ↦ rw same (meet from (f from) (entries_from f (from + 1) count) (lookup-before from (from + 1) count (omega arith)))
-      | inr off ↦ pass n from (f from) (entries_from f (from + 1) count) off ∙ lookup-within n (from + 1) count (omega (arith, least, off)) (omega (arith, less))
-    ]
+    lookup-within n from (suc count) least less =
+        let later = lookup-within n (from + 1) count in
+        grind (arith, pass n from (f from) (entries_from f (from + 1) count), meet from (f from) (entries_from f (from + 1) count), lookup-before from (from + 1) count, later)
 
     pub entries-none : ((n : ℕ) → f n ≡ None) → (from count : ℕ) → entries_from f from count ≡ []
     entries-none none from zero = refl

@@ -1,7 +1,6 @@
 -- What changes of cells and pages do to the values of numbers.
-use Rattle.std.proofs.Common.{◌≡◌, ℕ, zero, suc, ◌+◌, ◌*◌, ◌/◌, ◌%◌, ◌<◌, ◌≤◌, List, Option, Some, None, IsSome, length, get_or, replicate, count_by, cond, refl, sym, ap, ◌∙◌, inl, inr, arith, nat_eq}
+use Rattle.std.proofs.Common.{◌≡◌, ℕ, zero, suc, ◌+◌, ◌*◌, ◌/◌, ◌%◌, ◌<◌, ◌≤◌, List, Option, None, IsSome, length, get_or, replicate, count_by, cond, refl, sym, ap, ◌∙◌, arith, nat_eq}
 use Rattle.std.specs.Map.{lookup}
-use Rattle.std.proofs.lemmas.Bool.{cases_eq, cases_lt}
 use Rattle.std.proofs.lemmas.List.{get_or_past, get_or_default, get_or-replicate, length-replicate}
 use Rattle.std.proofs.lemmas.List.Sums.{sum_by-cons}
 use Rattle.number_map.specs.Pages.{cell, entries_of, is_own, IsPaged}
@@ -26,10 +25,7 @@ module _ {V : Type 0} (pages : List ℕ) (cells : List (Option V)) (paged : IsPa
 
   -- what a number finds is in its cell
   pub found : (n : ℕ) → lookup (nat_eq n) (entries_of pages cells) ≡ cell pages cells n
-  found n = elim (cases_lt n (128 * length pages)) [
-    | inl less ↦ lookup-within (cell pages cells) n 0 (128 * length pages) (omega arith) (omega (arith, less))
-    | inr past ↦ lookup-past (cell pages cells) n 0 (128 * length pages) (omega (arith, past)) ∙ sym (cell-past n (omega (arith, past, paged.full)))
-  ]
+  found n = grind (arith, lookup-within (cell pages cells) n 0 (128 * length pages), lookup-past (cell pages cells) n 0 (128 * length pages), cell-past n, paged.full)
 
   -- what a read of the directory and then of the cells gives
   pub read : (n page : ℕ) (value : Option V) → n < 524288 → page ≡ get_or pages (n / 128) page → value ≡ get_or cells (128 * page + n % 128) value → value ≡ lookup (nat_eq n) (entries_of pages cells)
@@ -40,39 +36,17 @@ module _ {V : Type 0} (pages : List ℕ) (cells : List (Option V)) (paged : IsPa
   pub lookup-beyond : (n : ℕ) → 524288 ≤ n → lookup (nat_eq n) (entries_of pages cells) ≡ None
   lookup-beyond n past = found n ∙ cell-past n past
 
-  some-own : (n : ℕ) (v : V) → cell pages cells n ≡ Some v → (n < 524288) × (0 < get_or pages (n / 128) 0)
-  some-own n v is = elim (cases_lt n 524288) [
-    | inl less ↦ elim (cases_eq (get_or pages (n / 128) 0) 0) [
-      | inl shared ↦ absurd (let none = cell-shared n shared in cc (none, is))
-      | inr own ↦ (less, omega (arith, own))
-    ]
-    | inr past ↦ absurd (let none = cell-past n past in cc (none, is))
-  ]
-
   -- a number that finds a value has a page of its own
   pub found-own : (n : ℕ) → IsSome (lookup (nat_eq n) (entries_of pages cells)) → (n < 524288) × (0 < get_or pages (n / 128) 0)
-  found-own n there = by (cell pages cells n) refl (rw (found n) at there)
-    where
-      by : (o : Option V) → cell pages cells n ≡ o → IsSome o → (n < 524288) × (0 < get_or pages (n / 128) 0)
-      by None is there = absurd (cc)
-      by (Some v) is there = some-own n v is
+  found-own n there = grind (arith, found n, cell-past n, cell-shared n)
 
--- a new map's pages and cells
-module _ {V : Type 0} where
-  none_at : (n i : ℕ) → get_or (replicate n (nothing V)) i None ≡ None
-  none_at n i = elim (cases_lt i n) [
-    | inl less ↦ get_or-replicate n i None None less
-    | inr past ↦ get_or_past (replicate n None) i None (omega (arith, past, length-replicate n (nothing V)))
-  ]
+-- ---- a new map's pages and cells
 
-  pub cell-none : (pages : List ℕ) (k n : ℕ) → cell {V = V} pages (replicate k None) n ≡ None
-  cell-none pages k n = none_at k (128 * get_or pages (n / 128) 0 + n % 128)
+all_same : {A : Type 0} (a : A) (n i : ℕ) → get_or (replicate n a) i a ≡ a
+all_same a n i = grind (arith, get_or-replicate n i a a, get_or_past (replicate n a) i a, length-replicate n a)
 
-zero_at : (n i : ℕ) → ◌≡◌ {A = ℕ} (get_or (replicate n 0) i 0) 0
-zero_at n i = elim (cases_lt i n) [
-  | inl less ↦ get_or-replicate n i 0 0 less
-  | inr past ↦ get_or_past (replicate n 0) i 0 (omega (arith, past, length-replicate {A = ℕ} n 0))
-]
+pub cell-none : {V : Type 0} (pages : List ℕ) (k n : ℕ) → cell {V = V} pages (replicate k None) n ≡ None
+cell-none {V} pages k n = all_same (nothing V) k (128 * get_or pages (n / 128) 0 + n % 128)
 
 pub none-own : (n : ℕ) → count_by is_own (replicate n 0) ≡ 0
 none-own zero = refl
@@ -82,7 +56,7 @@ pub IsPaged-none : {V : Type 0} (n k : ℕ) → n ≡ 4096 → k ≡ 128 → IsP
 IsPaged-none {V} n k is_n is_k = record {
   full = length-replicate {A = ℕ} n 0 ∙ is_n;
   size = omega (arith, length-replicate k (nothing V), none-own n, is_k);
-  within = λ i. omega (arith, zero_at n i, length-replicate k (nothing V), is_k);
-  empty = λ i less. none_at k i;
-  apart = λ i j same own. absurd (omega (arith, zero_at n i, own));
+  within = λ i. omega (arith, all_same {A = ℕ} 0 n i, length-replicate k (nothing V), is_k);
+  empty = λ i less. all_same (nothing V) k i;
+  apart = λ i j same own. absurd (omega (arith, all_same {A = ℕ} 0 n i, own));
 }

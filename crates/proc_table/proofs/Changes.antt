@@ -1,17 +1,8 @@
 -- Changes of a process, of an LWP, and of a process with its LWPs, as edits of single rows.
-use Rattle.std.proofs.Common.{◌≡◌, ℕ, false, List, [], ◌∷◌, map, refl, ap, ◌∙◌, arith, inl, inr, cond, nat_eq, is_some, Option, Some, None, rules}
-use Rattle.std.specs.Prelude.{filter_map}
+use Rattle.proc_table.proofs.CommonNames.{◌≡◌, ℕ, false, List, [], ◌∷◌, map, refl, ap, ◌∙◌, arith, cond, nat_eq, is_some, Option, Some, None, rules, filter_map, nat_tests, LwpData, Differ, lwp_of}
+use Rattle.proc_table.proofs.CommonNames.{with_lwp, without_lwp, ProcData, process_of, Rows, change, change_process, change_lwp, remove_lwp, by_owner, is_numbered, own_lwp, map_lwps, Rise}
+use Rattle.proc_table.proofs.CommonNames.{put_process, set_process, set_lwp, drop_lwp, any-found, lacks-any, map-changed, map-lacks}
 use Rattle.std.proofs.Math.Path.{fun_ext}
-use Rattle.std.proofs.lemmas.Bool.{cases_Bool}
-use Rattle.std.proofs.lemmas.Bool.Decides.{nat_tests}
-use Rattle.lwp_table.specs.declared.LwpData.{LwpData}
-use Rattle.lwp_table.specs.Lwps.{Differ, lwp_of, with_lwp, without_lwp}
-use Rattle.proc_table.specs.declared.ProcData.{ProcData}
-use Rattle.proc_table.specs.Processes.{process_of}
-use Rattle.proc_table.specs.Rows.{Rows, change, change_process, change_lwp, remove_lwp, by_owner, is_numbered}
-use Rattle.proc_table.specs.Edits.{own_lwp, map_lwps}
-use Rattle.proc_table.specs.Kept.{Rise, put_process, set_process, set_lwp, drop_lwp}
-use Rattle.lwp_table.proofs.Numbered.{any-found, lacks-any, map-changed, map-lacks}
 use Rattle.proc_table.proofs.Every.{every_found, every_untested}
 use Rattle.proc_table.proofs.Rising.{once}
 use Rattle.proc_table.proofs.Rows.{process_of-pid}
@@ -55,11 +46,7 @@ module _ (pid : ℕ) (f : ProcData → ProcData) (g : ProcData → LwpData → L
 
   by_found : (p : ProcData) (l : LwpData) (o : Option ProcData) (ps : List ProcData) → process_of pid ps ≡ Some p → process_of l.pid ps ≡ o
       → by_owner lwp_changed l o ≡ Some (own_lwp pid (g p) l)
-  by_found p l None ps found at = elim (cases_Bool (nat_eq l.pid pid)) [
-    | inl e ↦ let same : l.pid ≡ pid = grind (arith, nat_tests) in absurd (let h : process_of pid ps ≡ None = rw (← same) at in cc)
-    | inr e ↦ rw e refl
-  ]
-  by_found p l (Some q) ps found at = search (rules, process_of-pid, cases_Bool, nat_tests)
+  by_found p l o ps found at = grind (arith, nat_tests, process_of-pid)
 
   pub change-at : (rows : Rows) (p : ProcData) → Rise rows.processes → process_of pid rows.processes ≡ Some p → (f p).pid ≡ pid
       → change (is_numbered pid) f g rows ≡ map_lwps pid (g p) (set_process (f p) rows)
@@ -78,8 +65,7 @@ module _ (n : ℕ) (f : ProcData → ProcData) (g : ProcData → LwpData → Lwp
   none-changed ps none = map-lacks (λ (p : ProcData). p.pid) f n ps (lacks-any (λ (p : ProcData). p.pid) n ps (any-found (λ p. nat_eq p.pid n) ps ∙ ap is_some none))
 
   none-own : (l : LwpData) (o : Option ProcData) (ps : List ProcData) → process_of n ps ≡ None → process_of l.pid ps ≡ o → by_owner (lwp_changed n f g) l o ≡ Some l
-  none-own l None ps none at = refl
-  none-own l (Some q) ps none at = rw (absent n q l.pid ps none at) refl
+  none-own l o ps none at = grind (arith, nat_tests, absent)
 
   pub change-none : (rows : Rows) → process_of n rows.processes ≡ None → change (is_numbered n) f g rows ≡ rows
   change-none rows none =
@@ -94,10 +80,7 @@ map_lwps-none pid rows = ap (λ ls. record rows { lwps = ls }) (unchanged rows.l
   where
     unchanged : (ls : List LwpData) → map (own_lwp pid (λ l. l)) ls ≡ ls
     unchanged [] = refl
-    unchanged (l ∷ ls) = elim (cases_Bool (nat_eq l.pid pid)) [
-      | inl e ↦ rw e (ap (λ xs. l ∷ xs) (unchanged ls))
-      | inr e ↦ rw e (ap (λ xs. l ∷ xs) (unchanged ls))
-    ]
+    unchanged (l ∷ ls) = grind (arith, nat_tests, unchanged ls)
 
 -- an LWP taken out
 pub remove_lwp-is : (tid : ℕ) (rows : Rows) → remove_lwp tid rows ≡ drop_lwp tid rows
@@ -105,10 +88,7 @@ remove_lwp-is tid rows = ap (λ ls. record rows { lwps = ls }) (gone rows.lwps)
   where
     gone : (ls : List LwpData) → filter_map (λ l. cond (nat_eq l.tid tid) None (Some l)) ls ≡ without_lwp tid ls
     gone [] = refl
-    gone (l ∷ ls) = elim (cases_Bool (nat_eq l.tid tid)) [
-      | inl e ↦ rw e (gone ls)
-      | inr e ↦ rw e (ap (λ xs. l ∷ xs) (gone ls))
-    ]
+    gone (l ∷ ls) = grind (arith, nat_tests, gone ls)
 
 -- the row of a process edited, and then its LWPs
 pub change-done : (pid : ℕ) (f : ProcData → ProcData) (g : ProcData → LwpData → LwpData) (h : LwpData → LwpData) (p q : ProcData) (rows rows1 rows2 : Rows)

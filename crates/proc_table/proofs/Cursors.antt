@@ -1,12 +1,6 @@
 -- Cursors of the users' blocks.
-use Rattle.std.proofs.Common.{◌≡◌, ℕ, zero, suc, ◌+◌, ◌-◌, ◌<◌, List, ◌∷◌, ◌++◌, length, set, get_or, map, refl, ap, ◌∙◌, arith, rules}
-use Rattle.std.specs.Prelude.{replicate}
-use Rattle.std.proofs.lemmas.List.{get_or-set_same, get_or-set_other}
-use Rattle.std.proofs.lemmas.Bool.{cases_Bool}
-use Rattle.std.proofs.lemmas.Bool.Decides.{nat_tests}
-use Rattle.pid_blocks.specs.Users.{IsUser}
-use Rattle.pid_blocks.specs.Blocks.{slot, users, rising, cursor_after, InBlock}
-use Rattle.pid_blocks.specs.declared.Block.{Block}
+use Rattle.proc_table.proofs.CommonNames.{◌≡◌, ℕ, zero, suc, ◌+◌, ◌-◌, ◌<◌, List, ◌∷◌, ◌++◌, length, set, get_or, map, refl, ap, arith, rules, replicate, get_or-set_same, get_or-set_other, cases_Bool}
+use Rattle.proc_table.proofs.CommonNames.{nat_tests, IsUser, slot, users, rising, cursor_after, InBlock, Block}
 
 -- cursors stay in their blocks
 pub InBlock-after : (b : Block) (n : ℕ) → InBlock b n → 0 < b.size → InBlock b (cursor_after b n)
@@ -20,8 +14,8 @@ cursors-set block cursors v c user len home all u its = search (rules, cases_Boo
 -- a list of one value for each of some numbers that rise
 pub get_or-rising : (f : ℕ → ℕ) (n m k d : ℕ) → k < n → get_or (map f (rising n m)) k d ≡ f (m + k)
 get_or-rising f zero m k d h = absurd (omega arith)
-get_or-rising f (suc n) m zero d h = ap f (omega arith)
-get_or-rising f (suc n) m (suc k) d h = get_or-rising f n (m + 1) k d (omega arith) ∙ ap f (omega arith)
+get_or-rising f (suc n) m zero d h = grind (arith, nat_tests)
+get_or-rising f (suc n) m (suc k) d h = grind (arith, nat_tests, get_or-rising f n (m + 1) k d)
 
 pub length-rising : (f : ℕ → ℕ) (n m : ℕ) → length (map f (rising n m)) ≡ n
 length-rising f zero m = refl
@@ -29,10 +23,7 @@ length-rising f (suc n) m = ap suc (length-rising f n (m + 1))
 
 -- the first number of each user's block
 pub cursors-first : (block : ℕ → Block) → ((u : ℕ) → 0 < (block u).size) → (u : ℕ) → IsUser u → InBlock (block u) (get_or (map (λ v. (block v).first) users) (slot u) 0)
-cursors-first block some u its =
-    let at : get_or (map (λ v. (block v).first) (rising 64 1001)) (slot u) 0 ≡ (block (1001 + slot u)).first = get_or-rising (λ v. (block v).first) 64 1001 (slot u) 0 (omega (arith, its.0, its.1)) in
-    let same : 1001 + slot u ≡ u = omega (arith, its.0, its.1) in
-    rw (at, same) (omega arith, omega (arith, some u))
+cursors-first block some u its = grind (arith, nat_tests, get_or-rising (λ v. (block v).first) 64 1001 (slot u) 0)
 
 -- a list filled from its start, one place further
 pub filled : (f : ℕ → ℕ) (n i : ℕ) (numbers : List ℕ) (v : ℕ) → i < n → numbers ≡ map f (rising i 1001) ++ replicate (n - i) 0 → v ≡ f (1001 + i)

@@ -1,8 +1,5 @@
 -- Lists of which each element is something.
-use Rattle.std.proofs.Common.{◌≡◌, Bool, true, false, List, [], ◌∷◌, ◌++◌, map, inl, inr, Some, None, rules}
-use Rattle.std.specs.Prelude.{filter, find}
-use Rattle.std.specs.List.{AllByRecursion}
-use Rattle.std.proofs.lemmas.Bool.{cases_Bool}
+use Rattle.proc_table.proofs.CommonNames.{nat_tests, ◌≡◌, Bool, true, false, List, [], ◌∷◌, ◌++◌, map, Some, None, rules, arith, filter, find, AllByRecursion, cases_Bool}
 pub use Rattle.lwp_table.proofs.IndexLemmas.{some_of, some_and}
 
 module _ {A : Type 0} (P Q : A → Type 0) where
@@ -28,23 +25,14 @@ module _ {A : Type 0} (P : A → Type 0) where
   every_append (a ∷ xs) ys p q = (p.0, every_append xs ys p.1 q)
 
   pub every_found : (test : A → Bool) (xs : List A) (a : A) → AllByRecursion P xs → find test xs ≡ Some a → P a
-  every_found test [] a p found = absurd (cc)
-  every_found test (b ∷ xs) a p found = elim (cases_Bool (test b)) [
-    | inl e ↦ let its : Some b ≡ Some a = rw e at found in let same : b ≡ a = cc in rw (← same) p.0
-    | inr e ↦ every_found test xs a p.1 (rw e at found)
-  ]
+  every_found test [] a p found = grind (arith, nat_tests)
+  every_found test (b ∷ xs) a p found = grind (arith, nat_tests, every_found test xs a p.1)
 
 module _ {A : Type 0} (test : A → Bool) where
   pub every_untested : (xs : List A) → find test xs ≡ None → AllByRecursion (λ a. test a ≡ false) xs
-  every_untested [] none = tt
-  every_untested (a ∷ xs) none = elim (cases_Bool (test a)) [
-    | inl e ↦ absurd (let h : Some a ≡ None = rw e at none in cc)
-    | inr e ↦ (e, every_untested xs (rw e at none))
-  ]
+  every_untested [] none = grind (arith, nat_tests)
+  every_untested (a ∷ xs) none = grind (arith, nat_tests, every_untested xs)
 
   pub found_tested : (xs : List A) (a : A) → find test xs ≡ Some a → test a ≡ true
-  found_tested [] a found = absurd (cc)
-  found_tested (b ∷ xs) a found = elim (cases_Bool (test b)) [
-    | inl e ↦ let its : Some b ≡ Some a = rw e at found in let same : b ≡ a = cc in rw (← same) e
-    | inr e ↦ found_tested xs a (rw e at found)
-  ]
+  found_tested [] a found = grind (arith, nat_tests)
+  found_tested (b ∷ xs) a found = grind (arith, nat_tests, found_tested xs a)

@@ -1,23 +1,7 @@
 -- A walk along a list to the first row that passes a test, and that row among all rows.
-use Rattle.std.proofs.Common.{◌≡◌, ◌≢◌, ℕ, ◌<◌, ◌≤◌, Bool, true, false, List, [], ◌∷◌, Option, Some, None, true≢false, refl, sym, ap, ◌∙◌, arith, inl, inr, nat_eq, rules}
-use Rattle.std.specs.Prelude.{◌&&◌, ltb, find}
-use Rattle.std.specs.List.{AllByRecursion}
-use Rattle.std.specs.Map.{lookup}
-use Rattle.std.specs.Option.{option_map}
-use Rattle.std.proofs.lemmas.Bool.{cases_Bool, cases_lt, cases_eq}
-use Rattle.std.proofs.lemmas.Bool.Decides.{nat_tests}
-use Rattle.std.proofs.lemmas.Option.{same_Some}
-use Rattle.proc_table.specs.declared.ProcData.{ProcData}
-use Rattle.proc_table.specs.declared.links.ListKind.{ListKind}
-use Rattle.proc_table.specs.declared.links.ListKind.TheVariants.{Children}
-use Rattle.proc_table.specs.declared.links.Slot.{Slot}
-use Rattle.lwp_table.specs.Chain.{IsChain, anywhere, above}
-use Rattle.proc_table.specs.Links.{Node, keys, key_of, IsNext, members, IsLinked}
-use Rattle.proc_table.specs.Processes.{process_of, is_this}
-use Rattle.proc_table.specs.Walks.{DecidesRows, find_child}
-use Rattle.proc_table.specs.ListNodes.{list_owner, node_of, nodes_of, rows_of, find_named, IsTied, IsFirst}
-use Rattle.proc_table.specs.Slots.{all_rows, look}
-use Rattle.proc_table.specs.Kept.{InOwnBlock, Rise}
+use Rattle.proc_table.proofs.CommonNames.{◌≡◌, ◌≢◌, ℕ, ◌<◌, ◌≤◌, Bool, true, false, List, [], ◌∷◌, Option, Some, None, refl, sym, ap, ◌∙◌, arith, nat_eq, rules, ◌&&◌, ltb, find, AllByRecursion}
+use Rattle.proc_table.proofs.CommonNames.{lookup, option_map, cases_Bool, cases_lt, nat_tests, same_Some, ProcData, ListKind, Children, Slot, IsChain, anywhere, above, keys, key_of, IsNext, members}
+use Rattle.proc_table.proofs.CommonNames.{IsLinked, process_of, is_this, DecidesRows, find_child, list_owner, node_of, nodes_of, rows_of, find_named, IsTied, IsFirst, all_rows, look, InOwnBlock, Rise}
 use Rattle.proc_table.proofs.Rows.{same_number}
 use Rattle.proc_table.proofs.Finds.{equal_or_not}
 use Rattle.proc_table.proofs.Tied.{key-of-row, list_owner-of, this-is, row-of, home-of}
@@ -34,10 +18,7 @@ pub record IsPassing (f : ℕ → Option Slot) (kin : ListKind) (t : ℕ) (retur
 
 -- the slot of a member
 pub member_slot : (f : ℕ → Option Slot) (kin : ListKind) (t s p : ℕ) → keys (nodes_of kin f) s ≡ Some (p, Some t) → (slot : Slot) × (f s ≡ Some slot) × (slot.row.pid ≡ p) × ((node_of kin slot).list_owner ≡ Some t)
-member_slot f kin t s p there =
-    let node = key_node (nodes_of kin f) s p (Some t) there in
-    let its = slot_at kin f s node.0 node.1 in
-    (its.0, its.1, ap (λ (n : Node). n.pid) its.2 ∙ node.2, ap (λ (n : Node). n.list_owner) its.2 ∙ node.3)
+member_slot f kin t s p there = search (rules, key_node, slot_at, cases_Bool, nat_tests, same_Some)
 
 module _ (f : ℕ → Option Slot) (kin : ListKind) (t : ℕ) (returns : ProcData → Bool → Type 0) (linked : IsLinked (nodes_of kin f)) where
   member_key : (j : ℕ) (other : Slot) → f j ≡ Some other → (node_of kin other).list_owner ≡ Some t → keys (nodes_of kin f) j ≡ Some (other.row.pid, Some t)
@@ -46,7 +27,7 @@ module _ (f : ℕ → Option Slot) (kin : ListKind) (t : ℕ) (returns : ProcDat
   pub passing-first : (head : ℕ) (slot : Slot) → f head ≡ Some slot → slot.row.pid ≡ t → IsPassing f kin t returns 0 (node_of kin slot).first
   passing-first head slot is number = record {
     next = IsNext-nearest (nodes_of kin f) t 0 anywhere (λ s node there any. linked.above_zero s node there) (λ k more. tt) (node_of kin slot).first (list-of (nodes_of kin f) linked head t (node_of kin slot) (ap (option_map (node_of kin)) is) number).first_is;
-    past = λ j other there names none. absurd (omega (arith, none, linked.above_zero j (node_of kin other) (ap (option_map (node_of kin)) there)));
+    past = λ j other there names none. grind (arith, nat_tests, linked.above_zero j (node_of kin other));
   }
 
   pub passing-none : (passed : ℕ) → IsPassing f kin t returns passed None → IsFirst f kin t returns None
@@ -54,19 +35,13 @@ module _ (f : ℕ → Option Slot) (kin : ListKind) (t : ℕ) (returns : ProcDat
 
   module _ (passed s : ℕ) (slot : Slot) (is : f s ≡ Some slot) (walk : IsPassing f kin t returns passed (Some s)) where
     its : (slot.row.pid ≡ walk.next.0) × ((node_of kin slot).list_owner ≡ Some t)
-    its =
-        let found = member_slot f kin t s walk.next.0 walk.next.1 in
-        let same : slot ≡ found.0 = same_Some slot found.0 (sym is ∙ found.1) in
-        (ap (λ (x : Slot). x.row.pid) same ∙ found.2, ap (λ (x : Slot). (node_of kin x).list_owner) same ∙ found.3)
+    its = search (rules, member_slot, same_Some, cases_Bool, nat_tests)
 
     pub passing-above : passed < slot.row.pid
     passing-above = let above = walk.next.2 in let number = its.0 in omega (arith, above, number)
 
     before : (j : ℕ) (other : Slot) → f j ≡ Some other → (node_of kin other).list_owner ≡ Some t → other.row.pid < slot.row.pid → returns other.row false
-    before j other there names less = elim (cases_lt passed other.row.pid) [
-      | inl more ↦ absurd (let least = walk.next.3 j other.row.pid (member_key j other there names) more in let number = its.0 in omega (arith, least, number, less))
-      | inr past ↦ walk.past j other there names past
-    ]
+    before j other there names less = search (rules, cases_lt passed other.row.pid, member_key j other there names, its, cases_Bool, nat_tests)
 
     pub passing-found : returns slot.row true → IsFirst f kin t returns (Some s)
     passing-found passes = (slot, is, its.1, passes, before)
@@ -75,25 +50,13 @@ module _ (f : ℕ → Option Slot) (kin : ListKind) (t : ℕ) (returns : ProcDat
     passing-on chain fails = record {
       next = IsNext-nearest (nodes_of kin f) t slot.row.pid (above slot.row.pid) (λ s node there more. more) (λ k more. more) (node_of kin slot).next
           (chain.next_is s (as_member (node_of kin slot) t) (member-of (nodes_of kin f) s (node_of kin slot) t (ap (option_map (node_of kin)) is) its.1) refl);
-      past = λ j other there names most. elim (cases_eq other.row.pid slot.row.pid) [
-        | inl same ↦
-            let at = linked.apart j s (node_of kin other) (node_of kin slot) (ap (option_map (node_of kin)) there) (ap (option_map (node_of kin)) is) same in
-            let one : other ≡ slot = same_Some other slot (sym there ∙ ap f at ∙ is) in
-            rw one fails
-        | inr apart ↦ before j other there names (omega (arith, most, apart))
-      ];
+      past = λ j other there names most. grind (arith, nat_tests, linked.apart j s (node_of kin other) (node_of kin slot), before j other there names);
     }
 
 -- every row is above 0
 pub find-above_zero : (test : ProcData → Bool) (ps : List ProcData) → AllByRecursion InOwnBlock ps → find (λ p. ltb 0 p.pid && test p) ps ≡ find test ps
-find-above_zero test [] in_own_blocks = refl
-find-above_zero test (p ∷ ps) in_own_blocks =
-    let low = in_own_blocks.0.block.0 in
-    let some : ltb 0 p.pid ≡ true = grind (arith, nat_tests, low) in
-    rw (some, find-above_zero test ps in_own_blocks.1) refl
-
-both_hold : (a b : Bool) → (a && b) ≡ true → (a ≡ true) × (b ≡ true)
-both_hold a b h = grind (arith, nat_tests, h)
+find-above_zero test [] in_own_blocks = search (rules)
+find-above_zero test (p ∷ ps) in_own_blocks = search (rules, find-above_zero test ps in_own_blocks.1)
 
 -- what the walk finds is what the list of rows has, for a test that the calls decide
 module _ {f : ℕ → Option Slot} {es : List (ℕ × ℕ)} {counts : List ℕ} (tied : IsTied f es counts) (kin : ListKind) (t : ℕ) (returns : ProcData → Bool → Type 0)
@@ -110,17 +73,10 @@ module _ {f : ℕ → Option Slot} {es : List (ℕ × ℕ)} {counts : List ℕ} 
   -- a row that passes is in the list, in a slot where no call returned false
   passer : (r : ProcData) → process_of r.pid rows ≡ Some r → (is_this t (list_owner kin r) && test r) ≡ true
       → (s : ℕ) × (slot : Slot) × (f s ≡ Some slot) × ((node_of kin slot).list_owner ≡ Some t) × (slot.row.pid ≡ r.pid) × (returns slot.row false → ⊥)
-  passer r at passes =
-      let parts = both_hold (is_this t (list_owner kin r)) (test r) passes in
-      let key = key-of-row tied kin t r at (this-is t (list_owner kin r) parts.0) in
-      let its = member_slot f kin t key.0 r.pid key.1 in
-      let own = row-of tied key.0 its.0 its.1 in
-      let same : its.0.row ≡ r = same_Some _ _ (sym own ∙ ap (λ n. process_of n rows) its.2 ∙ at) in
-      (key.0, its.0, its.1, its.3, its.2, λ fails. true≢false (sym parts.1 ∙ ap test (sym same) ∙ sym (decides its.0.row false own fails)))
+  passer r at passes = grind (arith, nat_tests, key-of-row tied kin t r, this-is t (list_owner kin r), member_slot f kin t, row-of tied, its, same_Some)
 
   pub first-none : IsFirst f kin t returns None → find_named kin t test rows ≡ None
-  first-none none = sym whole ∙ next-none (λ p. is_this t (list_owner kin p) && test p) 0 rows up
-      (λ r at passes. let found = passer r at passes in absurd (found.5 (none found.0 found.1 found.2 found.3)))
+  first-none none = search (rules, next-none (λ p. is_this t (list_owner kin p) && test p) 0, whole, up, passer, cases_Bool, nat_tests)
 
   -- no row names a number that has no slot
   pub first-unnamed : lookup (nat_eq t) es ≡ None → find_named kin t test rows ≡ None
@@ -128,18 +84,11 @@ module _ {f : ℕ → Option Slot} {es : List (ℕ × ℕ)} {counts : List ℕ} 
 
   pub first-some : (s : ℕ) (slot : Slot) → f s ≡ Some slot → IsFirst f kin t returns (Some s) → find_named kin t test rows ≡ Some slot.row
   first-some s slot is first =
-      let own : first.0 ≡ slot = same_Some first.0 slot (sym first.1 ∙ is) in
-      let there = row-of tied s slot is in
+      let names = list_owner-of tied kin s slot t is (grind (arith, nat_tests)) in
       let home = home-of tied s slot is in
-      let names : is_this t (list_owner kin slot.row) ≡ true = ap (is_this t) (list_owner-of tied kin s slot t is (ap (λ (x : Slot). (node_of kin x).list_owner) (sym own) ∙ first.2)) ∙ same_number t in
-      let passes : test slot.row ≡ true = sym (decides slot.row true there (rw own at first.3)) in
-      sym whole ∙ next-found (λ p. is_this t (list_owner kin p) && test p) 0 slot.row.pid slot.row rows up there (rw (names, passes) refl) (omega (arith, home.block.0))
-      (λ r at both more.
-      let found = passer r at both in
-      elim (cases_lt r.pid slot.row.pid) [
-        | inl less ↦ absurd (found.5 (first.4 found.0 found.1 found.2 found.3 (let number = found.4 in let same = ap (λ (x : Slot). x.row.pid) own in omega (arith, number, same, less))))
-        | inr most ↦ most
-      ])
+      let passes : test slot.row ≡ true = grind (arith, nat_tests, decides slot.row true (row-of tied s slot is)) in
+      sym whole ∙ next-found (λ p. is_this t (list_owner kin p) && test p) 0 slot.row.pid slot.row rows up (row-of tied s slot is) (rw (names, same_number t, passes) refl) (omega (arith, home.block.0))
+      (λ r at both more. let found = passer r at both in grind (arith, nat_tests, found.5, first.4 found.0 found.1 found.2 found.3))
 
 -- a row with this parent names it, unless the number is 1
 pub child_found : (n : ℕ) → n ≢ 1 → (test : ProcData → Bool) (ps : List ProcData) → find_named Children n test ps ≡ find_child n test ps

@@ -1,3 +1,4 @@
+pub mod CommonNames
 pub mod Every
 pub mod Rows
 pub mod Rising

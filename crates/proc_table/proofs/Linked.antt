@@ -1,13 +1,11 @@
 -- What becomes of all lists where a node joins or leaves one.
-use Rattle.std.proofs.Common.{◌≡◌, ◌≢◌, ℕ, ◌<◌, false, Option, Some, None, refl, sym, ap, ◌∙◌, arith, inl, inr, cond, is_none, nat_eq, rules}
-use Rattle.std.proofs.lemmas.Bool.{cases_lt}
-use Rattle.std.proofs.lemmas.Bool.Decides.{eqb_tells}
-use Rattle.std.proofs.lemmas.Option.{some_pair_parts, same_Some}
-use Rattle.std.specs.Option.{option_map, option_and_then}
-use Rattle.lwp_table.specs.Chain.{Node as Member, IsNearest, IsChain, AreApart, up, down, above, below, leads_to}
+use Rattle.proc_table.proofs.CommonNames.{◌≡◌, ◌≢◌, ℕ, ◌<◌, false, Option, Some, None, refl, sym, ap, ◌∙◌, arith, inl, inr, cond, is_none, nat_eq, rules, cases_lt, eqb_tells, nat_tests}
+use Rattle.proc_table.proofs.CommonNames.{some_pair_parts, same_Some, option_map, option_and_then, IsNearest, IsChain, AreApart, up, down, above, below, leads_to, Node, keys, IsNext, members}
+use Rattle.proc_table.proofs.CommonNames.{at_least, IsLinked, forward, backward, hung}
+use Rattle.lwp_table.specs.Chain.{Node as Member}
 use Rattle.lwp_table.proofs.ChainLemmas.{IsChain-left, IsChain-left_other}
 use Rattle.lwp_table.proofs.JoinLemmas.{IsChain-joined, IsChain-joined_other}
-use Rattle.proc_table.specs.Links.{Node, key_of, keys, IsNext, member, members, at_least, IsLinked, forward, backward, hung}
+use Rattle.proc_table.specs.Links.{member}
 use Rattle.proc_table.proofs.Rows.{same_number, other_number}
 
 -- the node of a key
@@ -23,38 +21,26 @@ member-of f s node t there names = ap (option_and_then member) there ∙ ap (opt
 
 -- and a member is such a node
 pub node-of : (f : ℕ → Option Node) (s : ℕ) (m : Member) → members f s ≡ Some m → (node : Node) × (f s ≡ Some node) × (node.list_owner ≡ Some m.list) × (as_member node m.list ≡ m)
-node-of f s m there = by (f s) refl there
-  where
-    named : (node : Node) (u : Option ℕ) → option_map (as_member node) u ≡ Some m → (u ≡ Some m.list) × (as_member node m.list ≡ m)
-    named node None is = absurd (cc)
-    named node (Some t) is = let same = same_Some (as_member node t) m is in let list : t ≡ m.list = ap (λ n. n.list) same in (ap Some list, ap (as_member node) (sym list) ∙ same)
-
-    by : (o : Option Node) → f s ≡ o → option_and_then member o ≡ Some m → (node : Node) × (f s ≡ Some node) × (node.list_owner ≡ Some m.list) × (as_member node m.list ≡ m)
-    by None at is = absurd (cc)
-    by (Some node) at is = let parts = named node node.list_owner is in (node, at, parts.0, parts.1)
+node-of f s m there = grind (arith, nat_tests, same_Some)
 
 -- the nearest member above a number has the next key
 pub IsNext-nearest : (f : ℕ → Option Node) (t a : ℕ) (P : ℕ → Type 0) → ((s : ℕ) (node : Node) → f s ≡ Some node → P node.pid → a < node.pid) → ((k : ℕ) → a < k → P k) → (o : Option ℕ) → IsNearest up (members f) t P o → IsNext (keys f) t a o
-IsNext-nearest f t a P from to None near = λ j p there. elim (cases_lt a p) [
-  | inl more ↦ let node = key_node f j p (Some t) there in absurd (near j (as_member node.0 t) (member-of f j node.0 t node.1 node.3) refl (to node.0.pid (omega (arith, more, node.2))))
+IsNext-nearest f t a P from to None near = λ j p there. let node = key_node f j p (Some t) there in elim (cases_lt a p) [
+  | inl more ↦ absurd (near j (as_member node.0 t) (member-of f j node.0 t node.1 node.3) refl (to node.0.pid (omega (arith, more, node.2))))
   | inr most ↦ most
 ]
 IsNext-nearest f t a P from to (Some s) near =
-    let own = node-of f s near.0 near.1 in
-    let key : own.0.pid ≡ near.0.key = ap (λ n. n.key) own.3 in (
+    let own = node-of f s near.0 near.1 in (
       own.0.pid,
-      ap (option_map key_of) own.1 ∙ ap (λ u. Some (own.0.pid, u)) (own.2 ∙ ap Some near.2),
-      from s own.0 own.1 (rw key near.3),
+      grind (arith, nat_tests),
+      grind (arith, nat_tests, from s own.0 own.1),
       λ j other there more.
           let node = key_node f j other (Some t) there in
-          omega (arith, key, node.2, near.4 j (as_member node.0 t) (member-of f j node.0 t node.1 node.3) refl (to node.0.pid (omega (arith, more, node.2)))),
+          let least = near.4 j (as_member node.0 t) (member-of f j node.0 t node.1 node.3) refl (to node.0.pid (omega (arith, more, node.2))) in grind (arith, nat_tests),
     )
 
 members-apart : (f : ℕ → Option Node) → IsLinked f → AreApart (members f)
-members-apart f linked i j a b there_a there_b same =
-    let one = node-of f i a there_a in
-    let two = node-of f j b there_b in
-    linked.apart i j one.0 two.0 one.1 two.1 (ap (λ n. n.key) one.3 ∙ same ∙ sym (ap (λ n. n.key) two.3))
+members-apart f linked i j a b there_a there_b same = grind (arith, nat_tests, node-of)
 
 pub positive-members : (f : ℕ → Option Node) → IsLinked f → (s : ℕ) (m : Member) → members f s ≡ Some m → 0 < m.key
 positive-members f linked s m there = let node = node-of f s m there in omega (arith, linked.above_zero s node.0 node.1, ap (λ n. n.key) node.3)
@@ -65,17 +51,7 @@ list-of f linked head t own there number = rw (← number) (linked.lists head ow
 
 -- a member from the number of a node in no list on is above it
 pub nearest-beyond : (f : ℕ → Option Node) → IsLinked f → (t q : ℕ) (old : Node) → f q ≡ Some old → old.list_owner ≡ None → (o : Option ℕ) → IsNearest up (members f) t (at_least old.pid) o → IsNearest up (members f) t (above old.pid) o
-nearest-beyond f linked t q old there free = by
-  where
-    not : (s : ℕ) (m : Member) → members f s ≡ Some m → m.key ≢ old.pid
-    not s m at same =
-        let node = node-of f s m at in
-        let one = same_Some node.0 old (sym node.1 ∙ ap f (linked.apart s q node.0 old node.1 there (ap (λ n. n.key) node.3 ∙ same)) ∙ there) in
-        cc (sym node.2 ∙ ap (λ n. n.list_owner) one ∙ free)
-
-    by : (o : Option ℕ) → IsNearest up (members f) t (at_least old.pid) o → IsNearest up (members f) t (above old.pid) o
-    by None none = λ j node at on more. none j node at on (omega (arith, more))
-    by (Some s) near = let least = near.3 in (near.0, near.1, near.2, omega (arith, least, not s near.0 near.1), λ j other at on more. near.4 j other at on (omega (arith, more)))
+nearest-beyond f linked t q old there free = grind (arith, nat_tests, node-of, same_Some)
 
 -- the links beside a place in the list of t are turned, and the node in q comes to stand in this list or in none
 module _ (f z : ℕ → Option Node) (linked : IsLinked f) (head t q : ℕ) (own old : Node) (has_head : f head ≡ Some own) (number : own.pid ≡ t) (has_q : f q ≡ Some old)
@@ -88,39 +64,23 @@ module _ (f z : ℕ → Option Node) (linked : IsLinked f) (head t q : ℕ) (own
   abbrev beside : ℕ → Member → Member
   beside s node = record node { prev = cond (leads_to after s) from node.prev; next = cond (leads_to before s) to node.next }
 
-  changes : (s : ℕ) → z s ≡ option_map (changed s) (f s)
-  changes s = turned s ∙ by (f s)
-    where
-      by : (o : Option Node) → option_map (hung q list_owner prev next s) (option_map (backward head after from s) (option_map (forward head before to s) o)) ≡ option_map (changed s) o
-      by None = refl
-      by (Some node) = refl
-
   was : (s : ℕ) (node : Node) → z s ≡ Some node → (w : Node) × (f s ≡ Some w) × (changed s w ≡ node)
-  was s node there = by (f s) refl (sym (changes s) ∙ there)
-    where
-      by : (o : Option Node) → f s ≡ o → option_map (changed s) o ≡ Some node → (w : Node) × (f s ≡ Some w) × (changed s w ≡ node)
-      by None at is = absurd (cc)
-      by (Some w) at is = (w, at, same_Some (changed s w) node is)
+  was s node there = grind (arith, nat_tests, same_Some)
 
   other_member : (s : ℕ) → nat_eq q s ≡ false → (o : Option Node) → option_and_then member (option_map (changed s) o) ≡ option_map (beside s) (option_and_then member o)
-  other_member s off None = refl
-  other_member s off (Some node) = rw off (by node.list_owner)
-    where
-      by : (u : Option ℕ) → option_map (λ t. record { key = node.pid; list = t; prev = cond (leads_to after s) from node.prev; next = cond (leads_to before s) to node.next }) u ≡ option_map (beside s) (option_map (as_member node) u)
-      by None = refl
-      by (Some t) = refl
+  other_member s off o = grind (arith, nat_tests)
 
   members-others : (s : ℕ) → s ≢ q → members z s ≡ option_map (beside s) (members f s)
-  members-others s off = ap (option_and_then member) (changes s) ∙ other_member s (other_number q s (λ same. off (sym same))) (f s)
+  members-others s off = grind (arith, nat_tests, other_member, other_number)
 
   members-here : members z q ≡ option_map (λ t. record { key = old.pid; list = t; prev = prev; next = next }) list_owner
-  members-here = ap (option_and_then member) (changes q ∙ ap (option_map (changed q)) has_q) ∙ rw (same_number q) refl
+  members-here = grind (arith, nat_tests, same_number)
 
   -- the lists of all, where that of t and those of others are known
   lists_changed : IsChain (members z) t (cond (is_none before) to own.first) (cond (is_none after) from own.last) → ((u : ℕ) (a b : Option ℕ) → u ≢ t → IsChain (members f) u a b → IsChain (members z) u a b) → IsLinked z
   lists_changed here others = record {
-    apart = λ i j a b there_a there_b same. let x = was i a there_a in let y = was j b there_b in linked.apart i j x.0 y.0 x.1 y.1 (ap (λ n. n.pid) x.2 ∙ same ∙ sym (ap (λ n. n.pid) y.2));
-    above_zero = λ s node there. let w = was s node there in rw (← w.2) (linked.above_zero s w.0 w.1);
+    apart = λ i j a b there_a there_b same. grind (arith, nat_tests, was i a there_a, was j b there_b, linked.apart i j);
+    above_zero = λ s node there. grind (arith, nat_tests, was s node there, linked.above_zero s);
     lists = λ s node there. let w = was s node there in rw (← w.2) (elim (eqb_tells head s) [
       | inl h ↦ let same = same_Some own w.0 (sym has_head ∙ ap f h.1 ∙ w.1) in rw (h.0, ← same, number) here
       | inr h ↦ rw h.0 (others w.0.pid w.0.first w.0.last (λ same. h.1 (linked.apart head s own w.0 has_head w.1 (number ∙ sym same))) (linked.lists s w.0 w.1))

@@ -1,43 +1,25 @@
 -- What a write of links does to what the lists and the table's rows see of a slot.
-use Rattle.std.proofs.Common.{◌≡◌, ◌≢◌, ℕ, Bool, true, false, ◌&&◌, Option, Some, None, IsSome, IfSome, is_some, nat_eq, inl, inr, refl, sym, ap, ◌∙◌, rules}
-use Rattle.std.specs.Option.{option_map}
-use Rattle.std.proofs.lemmas.Bool.{cases_eq}
-use Rattle.std.proofs.lemmas.Option.{same_Some}
-use Rattle.proc_table.specs.declared.ProcData.{ProcData}
-use Rattle.proc_table.specs.declared.links.ListKind.{ListKind}
-use Rattle.proc_table.specs.declared.links.ListKind.TheVariants.{Tracees, Children}
-use Rattle.proc_table.specs.declared.links.Links.{Links}
-use Rattle.proc_table.specs.declared.links.Slot.{Slot}
-use Rattle.lwp_table.specs.Chain.{Node as Member, IsNearest, IsChain}
-use Rattle.proc_table.specs.Links.{Node, members, IsLinked, forward, backward, hung}
-use Rattle.proc_table.specs.ListNodes.{links_in, put_links, other, node_of, nodes_of, rows_of, IsHead}
+use Rattle.proc_table.proofs.CommonNames.{nat_tests, ◌≡◌, ◌≢◌, ℕ, Bool, false, ◌&&◌, Option, Some, None, IsSome, IfSome, nat_eq, refl, sym, ap, ◌∙◌, rules, arith, option_map, cases_eq, same_Some}
+use Rattle.proc_table.proofs.CommonNames.{ProcData, ListKind, Links, Slot, IsNearest, IsChain, Node, members, IsLinked, forward, backward, hung, links_in, put_links, other, node_of, nodes_of, rows_of}
+use Rattle.proc_table.proofs.CommonNames.{IsHead}
+use Rattle.lwp_table.specs.Chain.{Node as Member}
 use Rattle.proc_table.proofs.Every.{some_and}
 use Rattle.proc_table.proofs.Rows.{same_number, other_number}
 use Rattle.proc_table.proofs.Linked.{as_member, node-of, list-of}
 
 never : (b : Bool) → (b && false) ≡ false
-never true = refl
-never false = refl
-
-put-row : (kin : ListKind) (l : Links) (slot : Slot) → (put_links kin l slot).row ≡ slot.row
-put-row Tracees l slot = refl
-put-row Children l slot = refl
-
-put-other : (kin : ListKind) (l : Links) (slot : Slot) → node_of (other kin) (put_links kin l slot) ≡ node_of (other kin) slot
-put-other Tracees l slot = refl
-put-other Children l slot = refl
+never b = grind (arith, nat_tests)
 
 pub put-node_of : (kin : ListKind) (l : Links) (slot : Slot) → node_of kin (put_links kin l slot) ≡ record { pid = slot.row.pid; list_owner = l.list_owner; first = l.first; last = l.last; prev = l.prev; next = l.next }
-put-node_of Tracees l slot = refl
-put-node_of Children l slot = refl
+put-node_of kin l slot = grind (arith, nat_tests)
 
 -- the links of one kind written in one slot
 module _ (f g : ℕ → Option Slot) (at : ℕ) (kin : ListKind) (l : Links) (was : Slot) (has : f at ≡ Some was) (gets : g at ≡ Some (put_links kin l was)) (others : (s : ℕ) → s ≢ at → g s ≡ f s) where
   pub put-rows : (s : ℕ) → rows_of g s ≡ rows_of f s
-  put-rows s = search (rules, cases_eq, put-row)
+  put-rows s = grind (arith, nat_tests)
 
   pub put-others : (s : ℕ) → nodes_of (other kin) g s ≡ nodes_of (other kin) f s
-  put-others s = search (rules, cases_eq, put-other)
+  put-others s = grind (arith, nat_tests)
 
 -- the links that a slot had, with some of them changed
 module _ (f g : ℕ → Option Slot) (at : ℕ) (kin : ListKind) (x : Slot) (r l : Links) (has : f at ≡ Some x) (read : r ≡ links_in kin x)
@@ -46,14 +28,7 @@ module _ (f g : ℕ → Option Slot) (at : ℕ) (kin : ListKind) (x : Slot) (r l
   seen links = record { pid = x.row.pid; list_owner = links.list_owner; first = links.first; last = links.last; prev = links.prev; next = links.next }
 
   put-nodes : (change : ℕ → Node → Node) → seen l ≡ change at (node_of kin x) → ((s : ℕ) (node : Node) → s ≢ at → change s node ≡ node) → (s : ℕ) → nodes_of kin g s ≡ option_map (change s) (nodes_of kin f s)
-  put-nodes change here off s = elim (cases_eq s at) [
-    | inl same ↦ rw same (ap (option_map (node_of kin)) (writes x has) ∙ ap Some (put-node_of kin l x ∙ here) ∙ sym (ap (λ o. option_map (change at) (option_map (node_of kin) o)) has))
-    | inr apart ↦ ap (option_map (node_of kin)) (others s apart) ∙ sym (unchanged (f s) apart)
-  ]
-    where
-      unchanged : (o : Option Slot) → s ≢ at → option_map (change s) (option_map (node_of kin) o) ≡ option_map (node_of kin) o
-      unchanged None apart = refl
-      unchanged (Some slot) apart = ap Some (off s (node_of kin slot) apart)
+  put-nodes change here off s = grind (arith, nat_tests, cases_eq s, put-node_of kin l x)
 
   module _ (to : Option ℕ) where
     pub put-first : l ≡ record r { first = to } → (s : ℕ) → nodes_of kin g s ≡ option_map (forward at None to s) (nodes_of kin f s)
@@ -71,9 +46,7 @@ module _ (f g : ℕ → Option Slot) (at : ℕ) (kin : ListKind) (x : Slot) (r l
         (λ s node apart. rw (other_number at s (λ same. apart (sym same)), never (nat_eq head s)) refl)
 
   pub put-hung : (list_owner prev next : Option ℕ) → l ≡ record r { list_owner = list_owner; prev = prev; next = next } → (s : ℕ) → nodes_of kin g s ≡ option_map (hung at list_owner prev next s) (nodes_of kin f s)
-  put-hung list_owner prev next is = put-nodes (hung at list_owner prev next)
-      (ap seen is ∙ ap (λ (links : Links). seen (record links { list_owner = list_owner; prev = prev; next = next })) read ∙ rw (same_number at) refl)
-      (λ s node apart. rw (other_number at s (λ same. apart (sym same))) refl)
+  put-hung list_owner prev next is = grind (arith, nat_tests, put-nodes (hung at list_owner prev next), same_number, other_number)
 
 -- from what a list sees of a slot to the slot
 pub slot_at : (kin : ListKind) (f : ℕ → Option Slot) (s : ℕ) (node : Node) → nodes_of kin f s ≡ Some node → (slot : Slot) × (f s ≡ Some slot) × (node_of kin slot ≡ node)
@@ -95,25 +68,14 @@ list-ends kin f linked head t own ends there number read = rw read (list-of (nod
 
 -- a link to a nearest member leads to a slot
 pub link-there : (le : ℕ → ℕ → Type 0) (kin : ListKind) (f : ℕ → Option Slot) (t : ℕ) (P : ℕ → Type 0) (o : Option ℕ) → IsNearest le (members (nodes_of kin f)) t P o → IfSome o (λ s. IsSome (f s))
-link-there le kin f t P None near = tt
-link-there le kin f t P (Some s) near =
-    let node = node-of (nodes_of kin f) s near.0 near.1 in
-    ap is_some (slot_at kin f s node.0 node.1).1
+link-there le kin f t P o near = grind (arith, nat_tests, node-of, slot_at)
 
 -- the row of a member's slot
 pub member-row : (kin : ListKind) (f : ℕ → Option Slot) (s : ℕ) (m : Member) (slot : Slot) → members (nodes_of kin f) s ≡ Some m → f s ≡ Some slot → as_member (node_of kin slot) m.list ≡ m
-member-row kin f s m slot there is =
-    let node = node-of (nodes_of kin f) s m there in
-    ap (λ n. as_member n m.list) (same_Some (node_of kin slot) node.0 (sym (ap (option_map (node_of kin)) is) ∙ node.1)) ∙ node.3
+member-row kin f s m slot there is = grind (arith, nat_tests, node-of, as_member, same_Some)
 
 -- a slot that has a row keeps one where rows stay
 pub still-there : (f g : ℕ → Option Slot) → ((s : ℕ) → rows_of g s ≡ rows_of f s) → (o : Option ℕ) → IfSome o (λ s. IsSome (f s)) → IfSome o (λ s. IsSome (g s))
-still-there f g rows None there = tt
-still-there f g rows (Some s) there = by (f s) (g s) (rows s) there
-  where
-    by : (was now : Option Slot) → option_map (λ (x : Slot). x.row) now ≡ option_map (λ (x : Slot). x.row) was → is_some was ≡ true → is_some now ≡ true
-    by None now same none = absurd (cc)
-    by (Some a) None same some = absurd (cc)
-    by (Some a) (Some b) same some = refl
+still-there f g rows o there = grind (arith, nat_tests)
 
 pub ruleset put_laws = (put-rows, put-others)

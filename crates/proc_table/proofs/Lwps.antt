@@ -1,11 +1,6 @@
 -- LWPs' numbers that differ, under edits of the rows.
-use Rattle.std.proofs.Common.{◌≡◌, ℕ, Bool, false, List, [], ◌∷◌, ◌++◌, map, sym, ◌∙◌, inl, inr, nat_eq}
-use Rattle.std.specs.Prelude.{filter}
-use Rattle.std.specs.List.{list_any}
-use Rattle.std.proofs.lemmas.Bool.{cases_Bool}
-use Rattle.lwp_table.specs.declared.LwpData.{LwpData}
-use Rattle.lwp_table.specs.Lwps.{LacksLwp, Differ, put_lwp, with_lwp}
-use Rattle.lwp_table.proofs.Numbered.{put-number, lacks-any}
+use Rattle.proc_table.proofs.CommonNames.{nat_tests, ◌≡◌, ℕ, Bool, false, List, [], ◌∷◌, ◌++◌, map, sym, ◌∙◌, nat_eq, arith, filter, list_any, cases_Bool, LwpData, LacksLwp, Differ, with_lwp}
+use Rattle.proc_table.proofs.CommonNames.{put-number, lacks-any}
 use Rattle.proc_table.proofs.Every.{every_map, every_filter, every_append}
 
 module _ (f : LwpData → LwpData) (same : (l : LwpData) → (f l).tid ≡ l.tid) where
@@ -18,17 +13,11 @@ module _ (f : LwpData → LwpData) (same : (l : LwpData) → (f l).tid ≡ l.tid
 
 module _ (test : LwpData → Bool) where
   pub Differ-filter : (ls : List LwpData) → Differ ls → Differ (filter test ls)
-  Differ-filter [] r = tt
-  Differ-filter (l ∷ ls) r = elim (cases_Bool (test l)) [
-    | inl e ↦ rw e (every_filter (λ k. k.tid ≡ l.tid → ⊥) (λ k. k.tid ≡ l.tid → ⊥) test (λ k e h. h) ls r.0, Differ-filter ls r.1)
-    | inr e ↦ rw e (Differ-filter ls r.1)
-  ]
-
-pub put_lwp-tid : (new l : LwpData) → (put_lwp new l).tid ≡ l.tid
-put_lwp-tid new l = put-number (λ (k : LwpData). k.tid) new l
+  Differ-filter [] r = grind (arith, nat_tests)
+  Differ-filter (l ∷ ls) r = grind (arith, nat_tests, Differ-filter ls r.1, cases_Bool (test l), every_filter (λ k. k.tid ≡ l.tid → ⊥) (λ k. k.tid ≡ l.tid → ⊥) test (λ k e h. h) ls r.0)
 
 pub Differ-with_lwp : (new : LwpData) (ls : List LwpData) → Differ ls → Differ (with_lwp new ls)
-Differ-with_lwp new ls r = Differ-map (put_lwp new) (put_lwp-tid new) ls r
+Differ-with_lwp new ls r = grind (arith, nat_tests, Differ-map, put-number)
 
 pub LacksLwp-from_any : (n : ℕ) (ls : List LwpData) → list_any (λ l. nat_eq l.tid n) ls ≡ false → LacksLwp n ls
 LacksLwp-from_any n ls none = lacks-any (λ (l : LwpData). l.tid) n ls none

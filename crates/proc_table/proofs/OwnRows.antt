@@ -1,21 +1,9 @@
 -- A user's queries, where no other user has rows.
-use Rattle.std.proofs.Common.{◌≡◌, ℕ, zero, suc, ◌+◌, ◌<◌, ◌≤◌, List, [], ◌∷◌, filter, find, Bool, true, false, cond, ◌&&◌, leb, ltb, if◌then◌else◌, Option, Some, None, refl, ap, ap₂, ◌∙◌, arith, nat_eq, rules}
-use Rattle.std.specs.Prelude.{count_by, get_or, option_map}
-use Rattle.std.specs.List.{AllByRecursion, list_any}
-use Rattle.std.proofs.Math.Path.{fun_ext}
-use Rattle.std.proofs.lemmas.Bool.{cases_Bool}
-use Rattle.std.proofs.lemmas.List.Sums.{sum_by-cons}
-use Rattle.pid_blocks.specs.Users.{IsUser}
-use Rattle.pid_blocks.specs.declared.Block.{Block}
-use Rattle.pid_blocks.specs.Blocks.{pid_block, tid_block, slot, first_free, next_free, InBlock}
-use Rattle.proc_table.specs.declared.ProcData.{ProcData}
-use Rattle.lwp_table.specs.declared.LwpData.{LwpData}
-use Rattle.proc_table.specs.Processes.{of_user}
-use Rattle.proc_table.specs.Rows.{Rows}
-use Rattle.proc_table.specs.Seen.{owns}
-use Rattle.proc_table.specs.Fresh.{is_process, is_lwp, process_count, lwp_count_of, fresh_pid, fresh_tid}
-use Rattle.proc_table.specs.Kept.{InOwnBlock, InOwnersBlock, TableInvariant}
-use Rattle.proc_table.specs.Laws.{only_of, SeesOwn, NextSeesOwn, ProcessSeesOwn, LwpSeesOwn, NumberSeesOwn, CountsSeeOwn, FreshSeesOwn}
+use Rattle.proc_table.proofs.CommonNames.{nat_tests, ◌≡◌, ℕ, zero, suc, ◌+◌, ◌<◌, ◌≤◌, List, [], ◌∷◌, filter, find, Bool, true, false, cond, ◌&&◌, leb, ltb, if◌then◌else◌, Option, Some, None, refl}
+use Rattle.proc_table.proofs.CommonNames.{ap₂, arith, nat_eq, rules, count_by, get_or, AllByRecursion, list_any, cases_Bool, sum_by-cons, IsUser, Block, pid_block, tid_block, slot, first_free}
+use Rattle.proc_table.proofs.CommonNames.{next_free, InBlock, ProcData, LwpData, of_user, Rows, owns, is_process, is_lwp, process_count, lwp_count_of, fresh_pid, fresh_tid, InOwnersBlock}
+use Rattle.proc_table.proofs.CommonNames.{TableInvariant, only_of, SeesOwn, NextSeesOwn, ProcessSeesOwn, LwpSeesOwn, NumberSeesOwn, CountsSeeOwn, FreshSeesOwn}
+use Rattle.std.specs.Prelude.{option_map}
 use Rattle.proc_table.proofs.Every.{every_found}
 use Rattle.proc_table.proofs.Finds.{equal_or_not}
 use Rattle.proc_table.proofs.Seen.{owns-kept}
@@ -42,8 +30,7 @@ always [] = tt
 always (x ∷ xs) = (tt, always xs)
 
 second : (a b : Bool) → (a && b) ≡ true → b ≡ true
-second true b e = e
-second false b e = absurd (cc)
+second a b e = grind (arith, nat_tests)
 
 abbrev own : ℕ → ProcData → Bool
 own u p = nat_eq p.uid u
@@ -61,9 +48,7 @@ pub process_own : ProcessSeesOwn
 process_own n u rows = find-only (λ p. nat_eq p.pid n && nat_eq p.uid u) (own u) (λ p. Unit {0}) (λ p any is. second (nat_eq p.pid n) (nat_eq p.uid u) is) rows.processes (always rows.processes)
 
 pub lwp_own : LwpSeesOwn
-lwp_own n u rows =
-    ap (λ (test : LwpData → Bool). find (λ l. nat_eq l.tid n && test l) (filter (its_lwp u rows) rows.lwps)) (fun_ext (λ l. owns_own u l.pid rows.processes))
-    ∙ find-only (λ l. nat_eq l.tid n && its_lwp u rows l) (its_lwp u rows) (λ l. Unit {0}) (λ l any is. second (nat_eq l.tid n) (its_lwp u rows l) is) rows.lwps (always rows.lwps)
+lwp_own n u rows = grind (arith, nat_tests, owns_own u, always rows.lwps, find-only, second)
 
 pub number_own : NumberSeesOwn
 number_own n u rows = ap₂ (λ (o : Option ProcData) (k : Option LwpData). if leb n 99999 then option_map (λ (p : ProcData). p.pid) o else option_map (λ (l : LwpData). l.pid) k) (process_own n u rows) (lwp_own n u rows)
@@ -72,9 +57,7 @@ pub process_count_own : SeesOwn process_count
 process_count_own u rows = count-only (own u) (own u) (λ p. Unit {0}) (λ p any is. is) rows.processes (always rows.processes)
 
 pub lwp_count_own : SeesOwn lwp_count_of
-lwp_count_own u rows =
-    ap (λ (test : LwpData → Bool). count_by test (filter (its_lwp u rows) rows.lwps)) (fun_ext (λ l. owns_own u l.pid rows.processes))
-    ∙ count-only (its_lwp u rows) (its_lwp u rows) (λ l. Unit {0}) (λ l any is. is) rows.lwps (always rows.lwps)
+lwp_count_own u rows = grind (arith, nat_tests, owns_own u, always rows.lwps, count-only)
 
 pub counts_own : CountsSeeOwn
 counts_own = (process_count_own, lwp_count_own)
@@ -91,16 +74,11 @@ pub next_free-same : (b : Block) (cursor : ℕ) (taken other : ℕ → Bool) →
 next_free-same b cursor taken other i h = search (rules, ap₂, first_free-same)
 
 module _ (u : ℕ) (rows : Rows) (user : IsUser u) (kept : TableInvariant rows) where
-  -- a process with a number of the user's block is the user's
-  at_home : (n : ℕ) → InBlock (pid_block u) n → (p : ProcData) → InOwnBlock p → nat_eq p.pid n ≡ true → own u p ≡ true
-  at_home n its p home is = search (rules, equal_or_not)
-
   in_owners_block : (n : ℕ) → InBlock (tid_block u) n → (l : LwpData) → InOwnersBlock rows l → nat_eq l.tid n ≡ true → its_lwp u rows l ≡ true
   in_owners_block n its l house is = search (rules, equal_or_not, every_found, owns-kept)
 
   pub fresh_pid_own : fresh_pid u (only_of u rows) ≡ fresh_pid u rows
-  fresh_pid_own = next_free-same (pid_block u) (get_or rows.pid_cursors (slot u) 0) (is_process (only_of u rows)) (is_process rows) (kept.pid_cursors u user)
-      (λ n its. any-only (λ p. nat_eq p.pid n) (own u) InOwnBlock (at_home n its) rows.processes kept.in_own_blocks)
+  fresh_pid_own = grind (arith, nat_tests, next_free-same (pid_block u) (get_or rows.pid_cursors (slot u) 0) (is_process (only_of u rows)) (is_process rows) (kept.pid_cursors u user), any-only)
 
   pub fresh_tid_own : fresh_tid u (only_of u rows) ≡ fresh_tid u rows
   fresh_tid_own = next_free-same (tid_block u) (get_or rows.tid_cursors (slot u) 0) (is_lwp (only_of u rows)) (is_lwp rows) (kept.tid_cursors u user)

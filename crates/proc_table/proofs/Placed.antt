@@ -1,12 +1,6 @@
 -- The place of a new process among rising numbers.
-use Rattle.std.proofs.Common.{◌≡◌, ℕ, ◌<◌, ◌≤◌, Bool, true, false, List, [], ◌∷◌, arith, refl, sym, ap, rules, inl, inr, nat_eq, Some, ◌⊎◌}
-use Rattle.std.specs.Prelude.{◌≢◌, filter, ltb}
-use Rattle.std.specs.List.{list_any, AllByRecursion}
-use Rattle.std.proofs.lemmas.Bool.{cases_Bool, cases_eq}
-use Rattle.std.proofs.lemmas.Bool.Decides.{nat_tests}
-use Rattle.proc_table.specs.declared.ProcData.{ProcData}
-use Rattle.proc_table.specs.Processes.{placed, process_of}
-use Rattle.proc_table.specs.Kept.{AllAbove, Rise}
+use Rattle.proc_table.proofs.CommonNames.{◌≡◌, ℕ, ◌<◌, ◌≤◌, Bool, true, false, List, [], ◌∷◌, arith, refl, sym, rules, inl, inr, nat_eq, Some, ◌⊎◌, ◌≢◌, filter, ltb, list_any, AllByRecursion}
+use Rattle.proc_table.proofs.CommonNames.{cases_Bool, cases_eq, nat_tests, ProcData, placed, process_of, AllAbove, Rise}
 use Rattle.proc_table.proofs.Every.{every_append, every_filter}
 use Rattle.proc_table.proofs.Rows.{same_number, other_number, row_found, found_row}
 use Rattle.proc_table.proofs.Rising.{Lacks, AllAbove-lower as lower}
@@ -17,9 +11,6 @@ below n q = ltb q.pid n
 abbrev pub above : ℕ → ProcData → Bool
 above n q = ltb n q.pid
 
-ltb-yes : (m n : ℕ) → m < n → ltb m n ≡ true
-ltb-yes m n h = grind (arith, nat_tests)
-
 ltb-no : (m n : ℕ) → n ≤ m → ltb m n ≡ false
 ltb-no m n h = grind (arith, nat_tests)
 
@@ -29,10 +20,10 @@ none_below n (q ∷ qs) a = let no : ltb q.pid n ≡ false = ltb-no q.pid n (ome
 
 all_above : (n : ℕ) (qs : List ProcData) → AllAbove n qs → filter (above n) qs ≡ qs
 all_above n [] a = refl
-all_above n (q ∷ qs) a = let yes : ltb n q.pid ≡ true = ltb-yes n q.pid a.0 in rw yes (ap (λ xs. q ∷ xs) (all_above n qs a.1))
+all_above n (q ∷ qs) a = grind (arith, nat_tests, all_above n qs a.1)
 
 placed-later : (p q : ProcData) (qs : List ProcData) → q.pid < p.pid → placed p (q ∷ qs) ≡ q ∷ placed p qs
-placed-later p q qs less = rw (ltb-yes q.pid p.pid less, ltb-no p.pid q.pid (omega (arith, less))) refl
+placed-later p q qs less = grind (arith, nat_tests, ltb-no)
 
 placed-first : (p : ProcData) (qs : List ProcData) → AllAbove p.pid qs → placed p qs ≡ p ∷ qs
 placed-first p qs all = search (rules, none_below, all_above)
@@ -43,14 +34,7 @@ pub record StandsIn (p q : ProcData) (qs : List ProcData) : Type 0 where
   pub first : placed p (q ∷ qs) ≡ p ∷ (q ∷ qs)
 
 pub stands : (p q : ProcData) (qs : List ProcData) → Rise (q ∷ qs) → (q.pid ≡ p.pid → ⊥) → (placed p (q ∷ qs) ≡ q ∷ placed p qs) ⊎ StandsIn p q qs
-stands p q qs r lacks = elim (cases_Bool (ltb q.pid p.pid)) [
-  | inl e ↦ inl (placed-later p q qs (grind (arith, nat_tests)))
-  | inr e ↦
-      let differ : q.pid ≢ p.pid = lacks in
-      let least : p.pid ≤ q.pid = grind (arith, nat_tests) in
-      let greater : p.pid < q.pid = omega arith in
-      inr record { greater = greater; first = placed-first p (q ∷ qs) (greater, lower p.pid q.pid (omega arith) qs r.0) }
-]
+stands p q qs r lacks = grind (arith, nat_tests, cases_Bool (ltb q.pid p.pid), placed-later p q qs, placed-first p (q ∷ qs), lower p.pid q.pid)
 
 module _ (p : ProcData) where
   pub process_of-placed : (n : ℕ) → n ≢ p.pid → (ps : List ProcData) → Rise ps → Lacks p.pid ps → process_of n (placed p ps) ≡ process_of n ps
@@ -65,9 +49,7 @@ module _ (p : ProcData) where
   is_process-placed n ps any r l = search (rules, cases_eq, found_row, placed-found, row_found, process_of-placed)
 
 pub every_placed : (P : ProcData → Type 0) (p : ProcData) (ps : List ProcData) → P p → AllByRecursion P ps → AllByRecursion P (placed p ps)
-every_placed P p ps new all =
-    every_append P (filter (below p.pid) ps) (p ∷ filter (above p.pid) ps) (every_filter P P (below p.pid) (λ q e h. h) ps all)
-    (new, every_filter P P (above p.pid) (λ q e h. h) ps all)
+every_placed P p ps new all = grind (arith, nat_tests, every_append P, every_filter P P)
 
 -- numbers rise with a new one at its place
 pub Rise-placed : (p : ProcData) (ps : List ProcData) → Rise ps → Lacks p.pid ps → Rise (placed p ps)

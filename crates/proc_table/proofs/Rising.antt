@@ -1,14 +1,7 @@
 -- Numbers that rise, under edits of the rows.
-use Rattle.std.proofs.Common.{◌≡◌, ℕ, ◌<◌, ◌≤◌, Bool, true, false, List, [], ◌∷◌, map, refl, arith, inl, inr, nat_eq, Some, None}
-use Rattle.std.specs.Prelude.{filter, ◌&&◌}
-use Rattle.std.specs.List.{list_any}
-use Rattle.std.proofs.lemmas.Bool.{cases_Bool}
-use Rattle.std.proofs.lemmas.Bool.Decides.{nat_tests}
-use Rattle.lwp_table.specs.Lwps.{Lacks as LacksNumber, Once}
-use Rattle.lwp_table.proofs.Numbered.{lacks-any}
-use Rattle.proc_table.specs.declared.ProcData.{ProcData}
-use Rattle.proc_table.specs.Processes.{process_of}
-use Rattle.proc_table.specs.Kept.{AllAbove, Rise}
+use Rattle.proc_table.proofs.CommonNames.{◌≡◌, ℕ, ◌<◌, ◌≤◌, Bool, true, false, List, [], ◌∷◌, map, refl, arith, nat_eq, Some, None, filter, ◌&&◌, list_any, cases_Bool, nat_tests, Once, lacks-any}
+use Rattle.proc_table.proofs.CommonNames.{ProcData, process_of, AllAbove, Rise}
+use Rattle.lwp_table.specs.Lwps.{Lacks as LacksNumber}
 use Rattle.proc_table.proofs.Every.{every_weaken, every_map, every_filter}
 use Rattle.proc_table.proofs.Rows.{other_number}
 
@@ -29,11 +22,8 @@ module _ (f : ProcData → ProcData) (same : (p : ProcData) → (f p).pid ≡ p.
 
 module _ (test : ProcData → Bool) where
   pub Rise-filter : (ps : List ProcData) → Rise ps → Rise (filter test ps)
-  Rise-filter [] r = tt
-  Rise-filter (p ∷ ps) r = elim (cases_Bool (test p)) [
-    | inl e ↦ rw e (every_filter (λ q. p.pid < q.pid) (λ q. p.pid < q.pid) test (λ q e h. h) ps r.0, Rise-filter ps r.1)
-    | inr e ↦ rw e (Rise-filter ps r.1)
-  ]
+  Rise-filter [] r = grind (arith, nat_tests)
+  Rise-filter (p ∷ ps) r = grind (arith, nat_tests, Rise-filter ps r.1, cases_Bool (test p), every_filter (λ q. p.pid < q.pid) (λ q. p.pid < q.pid) test (λ q e h. h) ps r.0)
 
 pub AllAbove-lower : (m n : ℕ) → m ≤ n → (qs : List ProcData) → AllAbove n qs → AllAbove m qs
 AllAbove-lower m n h qs a = every_weaken (λ q. n < q.pid) (λ q. m < q.pid) (λ q more. omega (arith, more, h)) qs a
@@ -49,16 +39,5 @@ none_above n m h (p ∷ ps) a = let no : nat_eq p.pid m ≡ false = other_number
 
 -- if a user owns a process, the row with its number is found and is the user's
 pub owned_found : (u n : ℕ) (ps : List ProcData) → Rise ps → list_any (λ p. nat_eq p.pid n && nat_eq p.uid u) ps ≡ true → (p : ProcData) × (process_of n ps ≡ Some p) × (p.uid ≡ u)
-owned_found u n [] r any = absurd (cc)
-owned_found u n (p ∷ ps) r any = elim (cases_Bool (nat_eq p.pid n)) [
-  | inl e ↦ elim (cases_Bool (nat_eq p.uid u)) [
-    | inl k ↦ (p, rw e refl, grind (arith, nat_tests))
-    | inr k ↦ absurd (
-        let number : p.pid ≡ n = grind (arith, nat_tests) in
-        let rest = owned_found u n ps r.1 (rw (e, k) at any) in
-        let none : process_of n ps ≡ None = none_above p.pid n (omega (arith, number)) ps r.0 in
-        let some : process_of n ps ≡ Some rest.0 = rest.1 in
-        cc)
-  ]
-  | inr e ↦ rw e (owned_found u n ps r.1 (rw e at any))
-]
+owned_found u n [] r any = grind (arith, nat_tests)
+owned_found u n (p ∷ ps) r any = grind (arith, nat_tests, owned_found u n ps r.1, none_above)

@@ -1,15 +1,7 @@
 -- Rows found by their numbers, before and after edits.
-use Rattle.std.proofs.Common.{◌≡◌, ℕ, true, false, List, [], ◌∷◌, map, refl, sym, ap, ◌∙◌, arith, nat_eq, is_some, Some, rules}
-use Rattle.std.specs.Prelude.{filter, not, option_map, ◌≢◌}
-use Rattle.std.specs.List.{list_any}
-use Rattle.std.proofs.lemmas.Bool.{cases_Bool}
-use Rattle.std.proofs.lemmas.Bool.Decides.{nat_tests}
-use Rattle.lwp_table.specs.declared.LwpData.{LwpData}
-use Rattle.lwp_table.specs.Lwps.{lwp_of}
-use Rattle.lwp_table.proofs.Numbered.{any-found, found-number, find-map, put-number}
-use Rattle.proc_table.specs.declared.ProcData.{ProcData}
-use Rattle.proc_table.specs.Processes.{process_of}
-use Rattle.proc_table.specs.Kept.{put_process}
+use Rattle.proc_table.proofs.CommonNames.{◌≡◌, ℕ, true, false, List, [], ◌∷◌, map, refl, sym, ap, ◌∙◌, arith, nat_eq, is_some, Some, rules, filter, not, ◌≢◌, list_any, cases_Bool, nat_tests, LwpData}
+use Rattle.proc_table.proofs.CommonNames.{lwp_of, any-found, found-number, find-map, put-number, ProcData, process_of, put_process}
+use Rattle.std.specs.Prelude.{option_map}
 use Rattle.proc_table.proofs.Every.{some_of}
 
 pub same_number : (n : ℕ) → nat_eq n n ≡ true

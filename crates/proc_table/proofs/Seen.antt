@@ -1,25 +1,13 @@
 -- Look-ups by a number that elements have once, with a further test.
-use Rattle.std.proofs.Common.{◌≡◌, ℕ, ◌<◌, ◌≤◌, Bool, true, false, List, [], ◌∷◌, Option, Some, None, refl, sym, ap, ◌∙◌, nat_eq, cond, arith, inl, inr, is_some, rules}
-use Rattle.std.specs.Prelude.{◌&&◌, find, count_by, option_map}
-use Rattle.std.specs.Option.{option_eq}
-use Rattle.std.specs.List.{AllByRecursion, list_any}
-use Rattle.std.proofs.lemmas.Bool.{cases_Bool}
-use Rattle.std.proofs.lemmas.List.Sums.{sum_by-cons}
-use Rattle.pid_blocks.specs.Users.{IsUser}
-use Rattle.pid_blocks.specs.Blocks.{tid_block, tid_owner, InBlock}
-use Rattle.lwp_table.specs.declared.LwpData.{LwpData}
-use Rattle.lwp_table.specs.Lwps.{Lacks, Once, Differ, lwp_of}
+use Rattle.proc_table.proofs.CommonNames.{nat_tests, ◌≡◌, ℕ, ◌<◌, ◌≤◌, Bool, true, false, List, [], ◌∷◌, Option, Some, None, refl, sym, ap, ◌∙◌, nat_eq, cond, arith, is_some, rules, ◌&&◌, find}
+use Rattle.proc_table.proofs.CommonNames.{count_by, option_eq, AllByRecursion, list_any, cases_Bool, sum_by-cons, LwpData, Lacks, Once, Differ, lwp_of, ProcData, process_of, seen_lwp, owns, Rows}
+use Rattle.proc_table.proofs.CommonNames.{keep, Rise, InOwnersBlock, TableInvariant}
+use Rattle.std.specs.Prelude.{option_map}
+use Rattle.pid_blocks.specs.Blocks.{tid_owner}
 use Rattle.lwp_table.proofs.Numbered.{any-found as any-is_some}
 use Rattle.proc_table.proofs.Rising.{once}
-use Rattle.proc_table.specs.declared.ProcData.{ProcData}
-use Rattle.proc_table.specs.Processes.{process_of}
-use Rattle.proc_table.specs.Seen.{seen_lwp, owns}
-use Rattle.proc_table.specs.Rows.{Rows}
-use Rattle.proc_table.specs.Keep.{keep}
-use Rattle.proc_table.specs.Kept.{Rise, InOwnersBlock, TableInvariant}
 use Rattle.proc_table.proofs.Every.{every_found}
 use Rattle.proc_table.proofs.Rows.{other_number, process_of-pid, lwp_of-tid}
-use Rattle.proc_table.proofs.Finds.{equal_or_not}
 
 module _ {A : Type 0} (number : A → ℕ) where
   module _ (test : A → Bool) (n : ℕ) where
@@ -28,14 +16,8 @@ module _ {A : Type 0} (number : A → ℕ) where
     none_found (x ∷ xs) all = let other : nat_eq (number x) n ≡ false = other_number (number x) n all.0 in rw other (none_found xs all.1)
 
     pub find-kept : (xs : List A) → Once number xs → find (λ a. nat_eq (number a) n && test a) xs ≡ keep test (find (λ a. nat_eq (number a) n) xs)
-    find-kept [] once = refl
-    find-kept (x ∷ xs) once = elim (equal_or_not (number x) n) [
-      | inl h ↦ elim (cases_Bool (test x)) [
-        | inl e ↦ rw (h.0, e) refl
-        | inr e ↦ rw (h.0, e) (none_found xs (rw h.1 at once.0))
-      ]
-      | inr h ↦ rw h.0 (find-kept xs once.1)
-    ]
+    find-kept [] once = grind (arith, nat_tests)
+    find-kept (x ∷ xs) once = grind (arith, nat_tests, find-kept xs once.1, none_found)
 
   pub any-found : (test : A → Bool) (xs : List A) → list_any test xs ≡ is_some (find test xs)
   any-found test xs = any-is_some test xs
@@ -54,14 +36,10 @@ seen_lwp-kept u n rows d = find-kept (λ (l : LwpData). l.tid) (λ l. owns u l.p
 pub has_row : (n : ℕ) (ps : List ProcData) → is_some (process_of n ps) ≡ list_any (λ p. nat_eq p.pid n) ps
 has_row n ps = sym (any-found (λ (p : ProcData). p.pid) (λ p. nat_eq p.pid n) ps)
 
--- the owner of an LWP's number owns its process
-tid-owner : (u n : ℕ) → IsUser u → InBlock (tid_block u) n → tid_owner n ≡ u
-unfolding tid_owner
-tid-owner u n user home = omega (arith, user.0, user.1, home.0, home.1)
-
 module _ (u : ℕ) (rows : Rows) (kept : TableInvariant rows) where
   same_owner : (l : LwpData) → InOwnersBlock rows l → nat_eq (tid_owner l.tid) u ≡ owns u l.pid rows.processes
-  same_owner l h = search (rules, every_found, tid-owner, owns-kept, is_some)
+  unfolding tid_owner
+  same_owner l h = grind (arith, nat_tests, every_found, owns-kept, is_some)
 
   pub lwps-counted : count_by (λ l. nat_eq (tid_owner l.tid) u) rows.lwps ≡ count_by (λ l. owns u l.pid rows.processes) rows.lwps
   lwps-counted = counted rows.lwps kept.in_owners_block
@@ -84,16 +62,13 @@ module _ (u : ℕ) (ps : List ProcData) where
   mine l = owns u l.pid ps
 
   pub home-none : (o : Option LwpData) → option_map (λ (l : LwpData). l.pid) o ≡ None → keep mine o ≡ None
-  home-none None h = refl
-  home-none (Some l) h = absurd (cc)
+  home-none o h = grind (arith, nat_tests)
 
   pub home-own : (pid : ℕ) (o : Option LwpData) → option_map (λ (l : LwpData). l.pid) o ≡ Some pid → owns u pid ps ≡ true → keep mine o ≡ o
-  home-own pid None h own = refl
-  home-own pid (Some l) h own = let same : l.pid ≡ pid = cc in let its : owns u l.pid ps ≡ true = rw same own in rw its refl
+  home-own pid o h own = grind (arith, nat_tests)
 
   pub home-other : (pid : ℕ) (o : Option LwpData) → option_map (λ (l : LwpData). l.pid) o ≡ Some pid → owns u pid ps ≡ false → keep mine o ≡ None
-  home-other pid None h own = refl
-  home-other pid (Some l) h own = let same : l.pid ≡ pid = cc in let its : owns u l.pid ps ≡ false = rw same own in rw its refl
+  home-other pid o h own = grind (arith, nat_tests)
 
 -- and a process by its user
 module _ (u : ℕ) where
@@ -101,8 +76,7 @@ module _ (u : ℕ) where
   its_user p = nat_eq p.uid u
 
   pub eq-kept : (o : Option ProcData) → option_eq nat_eq (option_map (λ (p : ProcData). p.uid) o) (Some u) ≡ is_some (keep its_user o)
-  eq-kept None = refl
-  eq-kept (Some p) = elim (cases_Bool (nat_eq p.uid u)) [ inl e ↦ rw e refl | inr e ↦ rw e refl ]
+  eq-kept o = grind (arith, nat_tests)
 
   -- the number of the row that is seen, where one is
   pub pid-seen : (n : ℕ) (ps : List ProcData) → Rise ps → option_map (λ (p : ProcData). p.pid) (find (λ p. nat_eq p.pid n && nat_eq p.uid u) ps) ≡ cond (owns u n ps) (Some n) None

@@ -1,18 +1,7 @@
 -- What a change of one slot does to what each number finds.
-use Rattle.std.proofs.Common.{◌≡◌, ◌≢◌, ℕ, ◌+◌, ◌-◌, ◌<◌, ◌≤◌, true, false, List, [], Option, Some, None, IsSome, is_some, refl, sym, ap, ◌∙◌, nat_eq, cond, arith, inl, inr, length, get_or, set, replicate, map, subst, rules}
-use Rattle.std.specs.Prelude.{filter, not, count_by}
-use Rattle.std.specs.List.{list_any}
-use Rattle.std.specs.Option.{option_and_then}
-use Rattle.std.specs.Map.{lookup}
-use Rattle.std.proofs.lemmas.Bool.Decides.{nat_tests}
-use Rattle.std.proofs.lemmas.Option.{same_Some}
-use Rattle.std.proofs.lemmas.List.{get_or-replicate}
-use Rattle.pid_blocks.specs.Users.{IsUser}
-use Rattle.pid_blocks.specs.Blocks.{slot}
-use Rattle.proc_table.specs.declared.ProcData.{ProcData}
-use Rattle.proc_table.specs.Processes.{process_of, placed}
-use Rattle.proc_table.specs.Kept.{InOwnBlock, Rise, put_process}
-use Rattle.proc_table.specs.Slots.{all_rows, look, IsStored, IsSlotted}
+use Rattle.proc_table.proofs.CommonNames.{◌≡◌, ◌≢◌, ℕ, ◌+◌, ◌-◌, ◌<◌, ◌≤◌, false, List, [], Option, Some, None, IsSome, is_some, refl, sym, ap, ◌∙◌, nat_eq, cond, arith, inl, inr, length, get_or, set}
+use Rattle.proc_table.proofs.CommonNames.{replicate, map, subst, rules, filter, not, count_by, list_any, option_and_then, lookup, nat_tests, same_Some, get_or-replicate, IsUser, slot, ProcData}
+use Rattle.proc_table.proofs.CommonNames.{process_of, placed, InOwnBlock, Rise, put_process, all_rows, look, IsStored, IsSlotted}
 use Rattle.proc_table.proofs.Rows.{same_number}
 use Rattle.proc_table.proofs.Rising.{Lacks-from_any}
 use Rattle.proc_table.proofs.Finds.{equal_or_not}
@@ -41,28 +30,15 @@ module _ (slots : ℕ → Option ProcData) (es : List (ℕ × ℕ)) (owned : IsS
       (change : (pid : ℕ) → lookup (nat_eq pid) es' ≡ cond (nat_eq n pid) now (lookup (nat_eq pid) es)) (gives : option_and_then slots' now ≡ row)
       (apart : (pid k : ℕ) → pid ≢ n → lookup (nat_eq pid) es ≡ Some k → k ≢ slot) where
     pub look-changed : (pid : ℕ) → look slots' es' pid ≡ cond (nat_eq pid n) row (look slots es pid)
-    look-changed pid = elim (equal_or_not pid n) [
-      | inl here ↦ let turned : nat_eq n pid ≡ true = grind (arith, nat_tests, here.1) in rw here.0 (ap (option_and_then slots') (rw turned at (change pid)) ∙ gives)
-      | inr off ↦ let turned : nat_eq n pid ≡ false = grind (arith, nat_tests, off.1) in rw off.0 (ap (option_and_then slots') (rw turned at (change pid)) ∙ by (lookup (nat_eq pid) es) refl off.1)
-    ]
-      where
-        by : (o : Option ℕ) → lookup (nat_eq pid) es ≡ o → pid ≢ n → option_and_then slots' o ≡ option_and_then slots o
-        by None is off = refl
-        by (Some k) is off = others k (apart pid k off is)
+    look-changed pid = grind (arith, nat_tests)
 
     pub IsStored-changed : ((k : ℕ) → now ≡ Some k → (r : ProcData) × (row ≡ Some r) × (r.pid ≡ n)) → ((r : ProcData) → row ≡ Some r → InOwnBlock r) → IsStored slots' es'
     IsStored-changed its own = record {
       named = λ pid k is. elim (equal_or_not n pid) [
-        | inl here ↦ let at = sym (rw here.0 at (change pid)) ∙ is in let new = its k at in (new.0, sym (ap (option_and_then slots') at) ∙ gives ∙ new.1, new.2 ∙ here.1)
-        | inr off ↦
-            let before = sym (rw off.0 at (change pid)) ∙ is in
-            let was = owned.named pid k before in
-            (was.0, others k (apart pid k (λ e. off.1 (sym e)) before) ∙ was.1, was.2)
+        | inl here ↦ let new = its k (grind (arith, nat_tests, change pid, here.0)) in (new.0, grind (arith, nat_tests, change pid, here.0, new.1), grind (arith, nat_tests, here.1, new.2))
+        | inr off ↦ let was = owned.named pid k (grind (arith, nat_tests, change pid, off.0)) in (was.0, grind (arith, nat_tests, others k, apart pid k, off.1, was.1), was.2)
       ];
-      home = λ pid r is. elim (equal_or_not pid n) [
-        | inl here ↦ own r (sym (rw here.0 at (look-changed pid)) ∙ is)
-        | inr off ↦ owned.home pid r (sym (rw off.0 at (look-changed pid)) ∙ is)
-      ];
+      home = λ pid r is. grind (arith, nat_tests, look-changed pid, own r, owned.home pid r);
     }
 
 -- what is kept after each change, and the rows that there are then
@@ -108,8 +84,7 @@ module _ (slots : ℕ → Option ProcData) (es : List (ℕ × ℕ)) (counts : Li
         let home = kept.stored.home new.pid before its in
         let number : before.pid ≡ new.pid = finds.named new.pid before its in
         let at_home : InOwnBlock new = record { user = rw uids at home.user; block = rw (uids, number) at home.block } in
-        let change : (pid : ℕ) → lookup (nat_eq pid) es' ≡ cond (nat_eq new.pid pid) (Some at) (lookup (nat_eq pid) es) =
-        λ pid. ap (lookup (nat_eq pid)) same ∙ elim (equal_or_not new.pid pid) [ inl h ↦ rw (h.0, ← h.1) is | inr h ↦ rw h.0 refl ] in
+        let change : (pid : ℕ) → lookup (nat_eq pid) es' ≡ cond (nat_eq new.pid pid) (Some at) (lookup (nat_eq pid) es) = λ pid. grind (arith, nat_tests) in
         let apart = λ (pid k : ℕ) (off : pid ≢ new.pid). λ (at_k : lookup (nat_eq pid) es ≡ Some k). slots_apart slots es kept.stored new.pid pid at k is at_k off in
         let stored = IsStored-changed slots es kept.stored slots' es' at others new.pid (Some at) (Some new) change has apart (λ k is. (new, refl, refl)) (λ r is. subst InOwnBlock (same_Some new r is) at_home) in
         let what = look-changed slots es kept.stored slots' es' at others new.pid (Some at) (Some new) change has apart in
@@ -125,16 +100,13 @@ module _ (slots : ℕ → Option ProcData) (es : List (ℕ × ℕ)) (counts : Li
         let rows = all_rows-removed _ _ finds (found slots' es' stored) gone what in
         let its = look-slot slots es gone at is ∙ has in
         let user = (kept.stored.home gone before its).user in
-        let there = find-all_rows _ finds gone ∙ its in
-        let less = rw (same_number before.uid) at (count-without before.uid gone before (all_rows (look slots es)) rising there) in (
+        let less = λ (u : ℕ). count-without u gone before (all_rows (look slots es)) rising (find-all_rows _ finds gone ∙ its) in (
           user,
-          omega (arith, less, kept.tally before.uid user),
+          grind (arith, nat_tests, less before.uid, kept.tally before.uid user),
           record {
             stored = stored;
-            tally = tally-set counts (all_rows (look slots es)) (all_rows (look slots' es')) before.uid _ long user
-                (rw rows (omega (arith, less, kept.tally before.uid user)))
-                (λ u apart. let other : nat_eq before.uid u ≡ false = grind (arith, nat_tests, apart) in let same = rw other at (count-without u gone before (all_rows (look slots es)) rising there) in rw rows (omega (arith, same)))
-                kept.tally;
+            tally = tally-set counts (all_rows (look slots es)) (all_rows (look slots' es')) before.uid _ long user (rw rows (grind (arith, nat_tests, less before.uid, kept.tally before.uid user)))
+                (λ u apart. grind (arith, nat_tests, rows, less u)) kept.tally;
           },
           rows,
         )
@@ -142,12 +114,9 @@ module _ (slots : ℕ → Option ProcData) (es : List (ℕ × ℕ)) (counts : Li
 -- no slot
 pub IsSlotted-none : (slots : ℕ → Option ProcData) (es : List (ℕ × ℕ)) → es ≡ [] → IsSlotted slots es (replicate 64 0) × (all_rows (look slots es) ≡ [])
 IsSlotted-none slots es none =
-    let rows = all_rows-none (look slots es) (λ pid. ap (λ es. look slots es pid) none) in (
+    let rows = all_rows-none (look slots es) (λ pid. grind (arith, nat_tests)) in (
       record {
-        stored = record {
-          named = λ pid slot is. absurd (cc (rw none at is));
-          home = λ pid row is. absurd (cc (rw none at is));
-        };
+        stored = record { named = λ pid slot is. absurd (cc (rw none at is)); home = λ pid row is. absurd (cc (rw none at is)) };
         tally = λ u user. get_or-replicate 64 (slot u) 0 0 (omega (arith, user.0, user.1)) ∙ sym (ap (count_by (of u)) rows);
       },
       rows,

@@ -1,14 +1,6 @@
 -- What edits of rows ask, and rows that are found after changes that keep numbers.
-use Rattle.std.proofs.Common.{◌≡◌, ◌∙◌, ℕ, refl, inl, inr, nat_eq, Some, None, IsSome, rules}
-use Rattle.std.specs.Prelude.{IsSomeAnd}
-use Rattle.std.proofs.lemmas.Bool.{cases_Bool}
-use Rattle.lwp_table.specs.declared.LwpData.{LwpData}
-use Rattle.lwp_table.specs.Lwps.{lwp_of}
-use Rattle.proc_table.specs.declared.ProcData.{ProcData}
-use Rattle.proc_table.specs.Processes.{process_of}
-use Rattle.proc_table.specs.Rows.{Rows}
-use Rattle.proc_table.specs.Edits.{own_lwp}
-use Rattle.proc_table.specs.Kept.{TableInvariant, Named, set_process}
+use Rattle.proc_table.proofs.CommonNames.{◌≡◌, ◌∙◌, ℕ, refl, inl, inr, nat_eq, Some, None, IsSome, rules, IsSomeAnd, cases_Bool, LwpData, lwp_of, ProcData, process_of, Rows, own_lwp, TableInvariant}
+use Rattle.proc_table.proofs.CommonNames.{Named, set_process}
 use Rattle.proc_table.proofs.Every.{every_found}
 use Rattle.proc_table.proofs.Finds.{find-set}
 use Rattle.proc_table.proofs.Rows.{same_number}

@@ -70,6 +70,7 @@ impl Clone for Tables {
 }
 
 /// Returns 64 numbers that rise from the first one by steps, one for each user.
+#[tactic(auto, using(crate::proofs::Cursors::filled))]
 fn cursors(first: u32, step: u32) -> [u32; 64]
     requires { first + step * 64 < 2 ^ 32 }
     ensures { result ≡ map (λ u. first + step * slot u) users }
@@ -83,6 +84,7 @@ fn cursors(first: u32, step: u32) -> [u32; 64]
 
 impl Tables {
     /// Returns the tables of an unused host. Fails when out of memory.
+    #[tactic(auto, using(crate::proofs::KeepsLwps::keeps_none))]
     pub fn new(alloc: Global) -> Result<Tables, AllocError>
         ensures { IfOk result (λ tables. tables.rows ≡ no_rows) }
     {
@@ -219,8 +221,7 @@ impl Tables {
         if self.owns(uid, pid) { Some(pid) } else { None }
     }
 
-    /// Returns the user's process that a number names: up to 99999 by its own number, and above that by one of its
-    /// LWPs' numbers.
+    /// Returns the user's process with the number, or with an LWP of that number where it is above 99999.
     pub fn find_seen(&self, uid: Uid, number: u32) -> Option<Pid>
         ensures seen { result ≡ find_seen uid number self.now.rows }
         ensures kept { TableInvariant self.now.rows }
@@ -247,6 +248,7 @@ impl Tables {
     }
 
     /// Returns the user's first process above a number, if any.
+    #[tactic(auto, using(crate::proofs::NextOf::next_of_numbered))]
     pub fn next_of(&self, uid: Uid, after: u32) -> Option<ProcData>
         ensures row { result ≡ next_of uid after self.now.rows.processes }
         ensures kept { TableInvariant self.now.rows }
@@ -282,8 +284,7 @@ impl Tables {
         self.processes.find_tracee(pid, test)
     }
 
-    /// Returns the first process, by rising number, whose parent is this process and that passes the test, if any. It
-    /// takes one look at each child up to that one.
+    /// Returns the process's first child, by rising number, that passes the test. It looks once at each up to that one.
     pub fn find_child<F: Fn(&ProcData) -> bool>(&self, pid: Pid, test: F) -> Option<ProcData>
         requires callable { F.IsAlwaysCallable test }
         // the result of the definition, for any test that the closure decides on the rows
@@ -415,6 +416,7 @@ impl Tables {
     }
 
     /// Replaces the row with the same number, which is of the same user.
+    #[tactic(auto, using(crate::proofs::KeepsProcesses::keeps_set_process, crate::proofs::Indexed::numbers_set, crate::proofs::Tied::named_list_owners))]
     pub fn set_process(&mut self, row: ProcData)
         requires there { IsSomeAnd (process_of row.pid self.old.rows.processes) (λ was. was.uid ≡ row.uid) }
         requires named { Named self.old.rows row }
@@ -486,6 +488,7 @@ impl Tables {
     }
 
     /// Removes an LWP.
+    #[tactic(auto, using(crate::proofs::KeepsLwps::keeps_drop_lwp))]
     pub fn remove_lwp(&mut self, tid: Tid)
         requires { IsSome (lwp_of tid self.old.rows.lwps) }
         ensures rows { self.new.rows ≡ drop_lwp tid self.old.rows }

@@ -1,24 +1,68 @@
 -- The way down the tracees of a process that ends, and one turn of its end.
-use Rattle.trace_stop.proofs.CommonNames.{nat_tests, AllByRecursion, SIGKILL, ProcData, process_of, is_live, traces, Rows, next_tracee, InOwnBlock, TableInvariant, LeastOrNone, IsLeast, MidStepInvariant, IsSound, is_live_at}
-use Rattle.std.proofs.Common.{◌≡◌, ℕ, ◌-◌, ◌<◌, ◌≤◌, List, true, false, ◌&&◌, ◌||◌, ◌==◌, not, Option, Some, None, length, refl, sym, ap, ◌∙◌, arith, true≢false, eq-eqb, subst, inl, inr, unwrap_or, rules, count_by, ltb, MatchOption}
-use Rattle.std.proofs.Math.Bool.{and-false}
+use Rattle.process_end.proofs.CommonNames.{◌≡◌, ℕ, zero, suc, ◌+◌, ◌-◌, ◌<◌, ◌≤◌, List, Bool, true, false, ◌&&◌, ◌||◌, ◌==◌, Option, Some, None, length, refl, sym, ap, ◌∙◌, arith, true≢false, eq-eqb, eqb-true, subst}
+use Rattle.process_end.proofs.CommonNames.{unwrap_or, rules, count_by, ltb, MatchOption, and-false, nat_tests, AllByRecursion, SIGKILL, ProcData, process_of, is_live, is_this, traces, Rows, next_tracee, InOwnBlock}
+use Rattle.process_end.proofs.CommonNames.{TableInvariant, LeastOrNone, IsLeast, MidStepInvariant, IsSound, is_live_at, end, tracer_in, tracer_of, meets, dooms, chain, traces_live, end_alone, EndSound, TraceeDoomed}
+use Rattle.process_end.proofs.CommonNames.{LeafExists, kills, traces_live_above, IsLiveTracee, EndsToo, or_true, and_left, and_right, by_bool, any_holds, All-both, none_of, none_passes, some_is, passes, own_rows}
+use Rattle.process_end.proofs.CommonNames.{any_by_number, listed, live_row, meets-suc, no_ring, chains_end, chains_meet, tracee_deeper, meets-more, end_at}
 use Rattle.proc_table.proofs.Least.{next_tracee-least}
 use Rattle.proc_table.proofs.Finds.{below_or_not}
-use Rattle.proc_table.proofs.Rows.{process_of-pid}
-use Rattle.trace_stop.specs.End.{tracer_in, tracer_of, holds_of, meets, dooms, end}
-use Rattle.trace_stop.specs.Laws.{chain}
-use Rattle.process_end.specs.Laws.{traces_live, end_alone, EndSound}
-use Rattle.process_end.specs.Descent.{kills, traces_live_above, IsLiveTracee, EndsToo}
-use Rattle.trace_stop.proofs.Every.{or_true, and_left, and_right, both, by_bool, All-both, none_of, none_passes}
-use Rattle.trace_stop.proofs.Edited.{some_is}
-use Rattle.trace_stop.proofs.Passes.{passes, own_rows}
-use Rattle.trace_stop.proofs.Found.{any_by_number, listed, live_row}
-use Rattle.process_end.proofs.LeafEndsFirst.{dooms_meets, q_traced, leaf_ends_first, leaf_end_spares_no_doomed}
-use Rattle.trace_stop.proofs.Chains.{meets-suc, no_ring, chains_end, tracee_deeper}
-use Rattle.process_end.proofs.Leaves.{this_is, tracee_doomed}
-use Rattle.process_end.proofs.LeafEndsNoOther.{leaf_ends_no_other, leaf_end_leaves_fewer}
-use Rattle.trace_stop.proofs.SoundAfterPost.{end_at}
-use Rattle.process_end.proofs.Doomed.{leaf_end}
+use Rattle.trace_stop.specs.End.{holds_of}
+use Rattle.process_end.proofs.LeafEnd.{is_kills, leaf_end, leaf_ends_no_other, leaf_end_leaves_fewer}
+use Rattle.process_end.proofs.LeafEndsFirst.{dooms_is, dooms_meets, q_traced, law, dooms_left}
+
+-- A live tracee
+
+this_is : (x : ℕ) (o : Option ℕ) → is_this x o ≡ true → o ≡ Some x
+this_is x None is = absurd (true≢false (sym is))
+this_is x (Some t) is = grind (arith, nat_tests, is)
+
+tracee_is : (x : ℕ) (rows : Rows) → MidStepInvariant rows → (y : ProcData) → process_of y.pid rows.processes ≡ Some y → (is_live y && traces x y) ≡ true → IsLiveTracee x rows y.pid
+tracee_is x rows s y own is = record {
+  live = any_by_number is_live y.pid rows.processes s.rising ∙ ap (passes is_live) own ∙ and_left (is_live y) (traces x y) is;
+  link = ap tracer_in own ∙ this_is x y.tracer (and_right (is_live y) (traces x y) is);
+}
+
+module _ (rows : Rows) (s : MidStepInvariant rows) where
+  -- a chain of one link more
+  longer : (p x t : ℕ) → tracer_of rows.processes t ≡ Some x → EndsToo p rows x → meets 250 rows.processes p t ≡ true
+  longer p x t link ends = let met = dooms_meets rows p x s.rising in
+      meets-more 249 rows.processes p t (chains_meet rows 251 p t s (rw (meets-suc 250 rows.processes p t, link) (grind (arith, nat_tests, ends, met))))
+
+  tracee_ends : (p x t : ℕ) → EndsToo p rows x → IsLiveTracee x rows t → ((t == p) ≡ false) × (dooms kills rows.processes p t ≡ true)
+  tracee_ends p x t ends is =
+      let met = longer p x t is.link ends in
+      let other : (t == p) ≡ false = by_bool (t == p) (λ same. true≢false (sym (subst (λ n. meets 250 rows.processes p n ≡ true) (eqb-true t p same) met) ∙ no_ring rows s p)) in
+      (other, dooms_is rows p s.rising t (λ same. is.live) ∙ rw (is.live, met) (or_true (t == p)))
+
+  pub ends_below : (p x t : ℕ) → IsLiveTracee x rows t → EndsToo p rows x → EndsToo p rows t
+  ends_below p x t is ends = ap (λ b. (t == p) || b) (tracee_ends p x t ends is).1 ∙ or_true (t == p)
+
+  abbrev Leaf : ℕ → Type 0
+  Leaf p = (q : ℕ) × ((q == p) ≡ false) × (dooms kills rows.processes p q ≡ true) × (traces_live q rows ≡ false)
+
+  -- each tracee is one link further from where its chain ends
+  walk : (p fuel x : ℕ) → 250 < length (chain 250 rows.processes x) + fuel → (x == p) ≡ false → dooms kills rows.processes p x ≡ true → Leaf p
+  walk p zero x deep other is = let short = chains_end rows x s in absurd (omega (arith, short, deep))
+  walk p (suc fuel) x deep other is = by_leaf (traces_live x rows) refl (walk p fuel)
+    where
+      by_leaf : (b : Bool) → traces_live x rows ≡ b → ((y : ℕ) → 250 < length (chain 250 rows.processes y) + fuel → (y == p) ≡ false → dooms kills rows.processes p y ≡ true → Leaf p) → Leaf p
+      by_leaf false leaf next = (x, other, is, leaf)
+      by_leaf true some next = any_holds (λ r. is_live r && traces x r) (λ r. process_of r.pid rows.processes ≡ Some r) (Leaf p)
+          (λ r own h.
+          let t = tracee_is x rows s r own h in
+          let k = tracee_ends p x r.pid (rw is (or_true (x == p))) t in
+          let more = tracee_deeper rows r.pid x s t.link in
+          next r.pid (omega (arith, deep, more)) k.0 k.1)
+          rows.processes (own_rows rows.processes s.rising) some
+
+  pub deeper : (x t : ℕ) → IsLiveTracee x rows t → 250 - length (chain 250 rows.processes t) < 250 - length (chain 250 rows.processes x)
+  deeper x t is = search (rules, tracee_deeper, chains_end)
+
+pub tracee_doomed : TraceeDoomed
+tracee_doomed settings rows p x y on s is own live = rw (is_kills settings on) (tracee_ends rows s p x y.pid (rw (is_kills settings on) at is) (tracee_is x rows s y own live))
+
+pub leaf_exists : LeafExists
+leaf_exists settings rows p x on s other is = rw (is_kills settings on) (walk rows s p 251 x (omega arith) other (rw (is_kills settings on) at is))
 
 -- What a walk over tracees has found
 
@@ -55,86 +99,55 @@ module _ (q after : ℕ) (rows : Rows) (kept : TableInvariant rows) where
 -- every number is above 0
 pub none_above_zero : (q : ℕ) (rows : Rows) → AllByRecursion InOwnBlock rows.processes → traces_live_above 0 q rows ≡ false → traces_live q rows ≡ false
 none_above_zero q rows in_own_blocks none =
-    none_passes (λ r. is_live r && traces q r) (λ r. InOwnBlock r × ((ltb 0 r.pid && (is_live r && traces q r)) ≡ false))
-    (λ r h. let low = h.0.block.0 in elim (below_or_not 0 r.pid) [
-      | inl above ↦ sym (ap (λ b. b && (is_live r && traces q r)) above.0) ∙ h.1
-      | inr below ↦ let zero = below.1 in absurd (omega (arith, low, zero))
-    ])
+    none_passes (λ r. is_live r && traces q r) (λ r. InOwnBlock r × ((ltb 0 r.pid && (is_live r && traces q r)) ≡ false)) (λ r h. let low = h.0.block.0 in let is = h.1 in grind (arith, nat_tests, low, is))
     rows.processes (All-both InOwnBlock _ rows.processes in_own_blocks (none_of (λ r. ltb 0 r.pid && (is_live r && traces q r)) rows.processes none))
 
 pub sought : (q : ℕ) (rows : Rows) → AllByRecursion InOwnBlock rows.processes → (o : Option ℕ) → MatchOption o (traces_live_above 0 q rows ≡ false) (IsLiveTracee q rows) → MatchOption o (traces_live q rows ≡ false) (IsLiveTracee q rows)
 sought q rows in_own_blocks None none = none_above_zero q rows in_own_blocks none
 sought q rows in_own_blocks (Some t) is = is
 
--- The way down
-
-live_number : (n : ℕ) (rows : Rows) → MidStepInvariant rows → is_live_at n rows ≡ passes is_live (process_of n rows.processes)
-live_number n rows s = any_by_number is_live n rows.processes s.rising
-
--- the row of a live tracee
-pub record TraceeRow (n : ℕ) (rows : Rows) (t : ℕ) : Type 0 where
-  pub row : ProcData
-  pub own : process_of row.pid rows.processes ≡ Some row
-  pub number : row.pid ≡ t
-  pub traced : (is_live row && traces n row) ≡ true
-
-pub tracee_row : (n : ℕ) (rows : Rows) (t : ℕ) → MidStepInvariant rows → IsLiveTracee n rows t → TraceeRow n rows t
-tracee_row n rows t s is = search (rules, live_number, passes, process_of-pid, both, eq-eqb)
-
-module _ (rows : Rows) (s : MidStepInvariant rows) where
-  pub ends_below : (p x t : ℕ) → IsLiveTracee x rows t → EndsToo p rows x → EndsToo p rows t
-  ends_below p x t is ends =
-      let r = tracee_row x rows t s is in
-      let k = tracee_doomed kills rows p x r.row refl s ends r.own r.traced in
-      ap (λ b. (t == p) || b) (ap (dooms kills rows.processes p) (sym r.number) ∙ k.1) ∙ or_true (t == p)
-
-  pub deeper : (x t : ℕ) → IsLiveTracee x rows t → 250 - length (chain 250 rows.processes t) < 250 - length (chain 250 rows.processes x)
-  deeper x t is = search (rules, tracee_deeper, least, chains_end)
-
 -- sound rows are sound after the end of a live process
 pub end_sound : EndSound
 end_sound settings rows p status s word live = search (rules, live_row, end_at)
 
-turned_round : (m n : ℕ) → (m == n) ≡ false → (n == m) ≡ false
-turned_round m n e = grind (arith, nat_tests)
-
 -- One turn: q ends with p, is not p, and traces no live process
-module _ (rows rows' : Rows) (p q status : ℕ) (s : IsSound rows) (other : (q == p) ≡ false) (ends : EndsToo p rows q) (leaf : traces_live q rows ≡ false) (ended : rows' ≡ end_alone q SIGKILL rows) where
+pub record Turn (rows rows' : Rows) (p q : ℕ) : Type 0 where
+  pub sound : IsSound rows'
+  pub live : is_live_at p rows ≡ true → is_live_at p rows' ≡ true
+  pub same : (status : ℕ) → end kills p status rows' ≡ end kills p status rows
+  pub fewer : count_by is_live rows'.processes < count_by is_live rows.processes
+  pub ends : (o : Option ℕ) → o ≡ tracer_of rows.processes q → EndsToo p rows' (unwrap_or o p)
+
+module _ (rows : Rows) (p q : ℕ) (s : IsSound rows) (other : (q == p) ≡ false) (ends : EndsToo p rows q) (leaf : traces_live q rows ≡ false) where
   doomed : dooms kills rows.processes p q ≡ true
-  doomed = sym (ap (λ b. b || dooms kills rows.processes p q) other) ∙ ends
+  doomed = ap (λ b. b || dooms kills rows.processes p q) (sym other) ∙ ends
 
   pub lives : is_live_at q rows ≡ true
-  lives = live_number q rows s.stands ∙ (dooms_meets kills rows p s.stands q other doomed).0
+  lives = (dooms_meets rows p q s.stands.rising other doomed).0
 
-  made : rows' ≡ end kills q SIGKILL rows
-  made = ended ∙ sym (leaf_end kills rows q SIGKILL refl s.stands (listed rows q lives) leaf)
+  abbrev left : Rows
+  left = end kills q SIGKILL rows
 
-  pub turn_sound : IsSound rows'
-  turn_sound = subst IsSound (sym made) (end_sound kills rows q SIGKILL s refl lives)
+  turn_ends : (o : Option ℕ) → o ≡ tracer_of rows.processes q → EndsToo p left (unwrap_or o p)
+  turn_ends None link = rw (eq-eqb p p refl) refl
+  turn_ends (Some t) link =
+      let met : dooms kills rows.processes p t ≡ true = rw (← link) at (q_traced rows p q s.stands other doomed leaf) in
+      let ring = no_ring rows s.stands q in
+      let chained = meets-suc 249 rows.processes q q ∙ ap (holds_of (λ n. (n == q) || meets 249 rows.processes q n)) (sym link) in
+      let was = dooms_left rows p q s.stands other doomed leaf t in
+      grind (arith, nat_tests, met, ring, chained, was)
 
-  pub turn_lives : is_live_at p rows ≡ true → is_live_at p rows' ≡ true
-  turn_lives live =
-      subst (λ rs. is_live_at p rs ≡ true) (sym made)
-      (leaf_ends_no_other kills rows q SIGKILL p refl s.stands lives leaf ∙ both (is_live_at p rows) (not (p == q)) live (ap not (turned_round q p other)))
-
-  pub turn_same : end kills p status rows' ≡ end kills p status rows
-  turn_same = ap (end kills p status) made ∙ sym (leaf_ends_first kills rows p q status refl s.stands other doomed leaf)
-
-  pub turn_fewer : count_by is_live rows'.processes < count_by is_live rows.processes
-  turn_fewer = subst (λ (rs : Rows). count_by is_live rs.processes < count_by is_live rows.processes) (sym made) (leaf_end_leaves_fewer kills rows q SIGKILL refl s.stands lives leaf)
-
-  pub turn_ends : (o : Option ℕ) → o ≡ tracer_of rows.processes q → EndsToo p rows' (unwrap_or o p)
-  turn_ends o is = at_tracer o is (q_traced kills rows p q status refl s.stands other doomed leaf)
-    where
-      at_tracer : (o : Option ℕ) → o ≡ tracer_of rows.processes q → holds_of (dooms kills rows.processes p) (tracer_of rows.processes q) ≡ true → EndsToo p rows' (unwrap_or o p)
-      at_tracer None link ends = ap (λ b. b || dooms kills rows'.processes p p) (eq-eqb p p refl)
-      at_tracer (Some t) link ends =
-          let apart : (t == q) ≡ false = by_bool (t == q) (λ same. true≢false (sym (meets-suc 249 rows.processes q q ∙ ap (holds_of (λ n. (n == q) || meets 249 rows.processes q n)) (sym link) ∙ ap (λ b. b || meets 249 rows.processes q t) same) ∙ no_ring rows s.stands q)) in
-          let met : dooms kills rows.processes p t ≡ true = subst (λ o. holds_of (dooms kills rows.processes p) o ≡ true) (sym link) ends in
-          ap (λ b. (t == p) || b)
-          (ap (λ (rs : Rows). dooms kills rs.processes p t) made ∙ leaf_end_spares_no_doomed kills rows p q t refl s.stands other doomed leaf ∙ both (dooms kills rows.processes p t) (not (t == q)) met (ap not apart))
-          ∙ or_true (t == p)
+  pub turn : (rows' : Rows) (w : ℕ) → w ≡ SIGKILL → rows' ≡ end_alone q w rows → Turn rows rows' p q
+  turn rows' w word ended = rw (ended ∙ ap (λ n. end_alone q n rows) word ∙ sym (leaf_end kills rows q SIGKILL refl s.stands (listed rows q lives) leaf)) record {
+    sound = end_sound kills rows q SIGKILL s refl lives;
+    live = λ live. let same = leaf_ends_no_other kills rows q SIGKILL p refl s.stands lives leaf in grind (arith, nat_tests, same, live, other);
+    same = λ status. sym (law rows p q s.stands other doomed leaf status);
+    fewer = leaf_end_leaves_fewer kills rows q SIGKILL refl s.stands lives leaf;
+    ends = turn_ends;
+  }
 
 -- the last turn
 pub last_turn : (rows rows' : Rows) (p status : ℕ) → MidStepInvariant rows → is_live_at p rows ≡ true → traces_live p rows ≡ false → rows' ≡ end_alone p status rows → rows' ≡ end kills p status rows
 last_turn rows rows' p status s live leaf ended = ended ∙ sym (leaf_end kills rows p status refl s (listed rows p live) leaf)
+
+pub ruleset walking = (none_at_first, walk_over, walk_more, walk_none)

@@ -1,12 +1,8 @@
 -- A walk that takes out the LWPs of a process, and what the end of a vfork wait keeps of an LWP.
-use Rattle.trace_stop.proofs.CommonNames.{AllByRecursion, LwpData, Differ, lwp_of, first_lwp, ProcData, Rows, drop_lwp, released, not-false}
-use Rattle.std.proofs.Common.{◌≡◌, ℕ, ◌<◌, Bool, true, false, List, [], ◌∷◌, length, filter, refl, ap, ◌∙◌, arith, Some, None, subst, eq-eqb, eqb-true, not, ◌==◌, IfSome}
+use Rattle.process_end.proofs.CommonNames.{AllByRecursion, LwpData, Differ, lwp_of, first_lwp, ProcData, Rows, drop_lwp, released, not-false, ◌≡◌, ℕ, ◌<◌, Bool, true, false, List, [], ◌∷◌, length, filter, refl, ap, ◌∙◌}
+use Rattle.process_end.proofs.CommonNames.{arith, Some, None, subst, eq-eqb, eqb-true, not, ◌==◌, IfSome, every_untested, the_lwp, without_lwps, All-imply}
 use Rattle.lwp_table.proofs.CountLemmas.{length-without}
-use Rattle.proc_table.proofs.Every.{every_untested}
 use Rattle.proc_table.proofs.LwpWalk.{IsLwp, first-found}
-use Rattle.trace_stop.proofs.Numbers.{the_lwp}
-use Rattle.process_end.specs.Leaving.{without_lwps}
-use Rattle.trace_stop.proofs.Every.{All-imply}
 
 -- Lists
 
@@ -42,3 +38,5 @@ released-tid over r l = grind arith
 
 pub released-pid : (over : ℕ → Bool) (r : ProcData) (l : LwpData) → (released over r l).pid ≡ l.pid
 released-pid over r l = grind arith
+
+pub ruleset removing = (found, removed_same, removed_less, removed_all)

@@ -18,6 +18,7 @@ use signals::{SigSet, Signal};
 use trace_stop::{Settings, untrace};
 
 /// Returns a live process above a number that this process traces, if any.
+#[tactic(auto, using(crate::proofs::Descents::walking))]
 fn live_tracee_above(tables: &Tables, pid: Pid, number: u32) -> Option<Pid>
     ensures { MatchOption result (traces_live_above number pid tables.now.rows ≡ false) (IsLiveTracee pid tables.now.rows) }
 {
@@ -32,6 +33,7 @@ fn live_tracee_above(tables: &Tables, pid: Pid, number: u32) -> Option<Pid>
 }
 
 /// Returns a live process that this one traces, if any: one above the number `passed` if there is one.
+#[tactic(auto, using(crate::proofs::Descents::sought))]
 fn live_tracee(tables: &Tables, pid: Pid, passed: u32) -> Option<Pid>
     requires { IsSound tables.now.rows }
     ensures { MatchOption result (traces_live pid tables.now.rows ≡ false) (IsLiveTracee pid tables.now.rows) }
@@ -44,6 +46,7 @@ fn live_tracee(tables: &Tables, pid: Pid, passed: u32) -> Option<Pid>
 
 /// Returns the process itself or a process further down its tracees: one without live tracees. Of its own
 /// tracees, those up to the number `passed` come last.
+#[tactic(auto, using(crate::proofs::Descents::ends_below, crate::proofs::Descents::deeper))]
 fn leaf_below(tables: &Tables, from: Pid, passed: u32) -> Pid
     requires { IsSound tables.now.rows }
     ensures leaf { traces_live result tables.now.rows ≡ false }
@@ -69,6 +72,7 @@ pub fn tracer_of(tables: &Tables, pid: Pid) -> Option<Pid>
 }
 
 /// Ends a process, its live tracees, their live tracees and so on, each before its tracer. Allocates nothing.
+#[tactic(auto, using(crate::proofs::Descents::lives, crate::proofs::Descents::last_turn))]
 fn end_with_tracees(tables: &mut Tables, pid: Pid, status: u32)
     requires sound { IsSound tables.old.rows }
     requires live { is_live_at pid tables.old.rows ≡ true }
@@ -113,6 +117,7 @@ fn leave_tracee(tables: &mut Tables, tracee: Pid)
 }
 
 /// Detaches the live tracees of a process that ends.
+#[tactic(auto, using(crate::proofs::LeftAlone::leaving))]
 fn leave_tracees(tables: &mut Tables, pid: Pid)
     requires sound { IsSound tables.old.rows }
     requires live { is_live_at pid tables.old.rows ≡ true }

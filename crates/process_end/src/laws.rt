@@ -3,6 +3,7 @@
 ghost use Rattle.process_end.specs.Laws.{LeafEnd, DetachedEnd, LeafEndsFirst, TraceeDoomed, LeafExists, LeafEndsNoOther, LeafEndLeavesFewer, LeafEndSparesNoDoomed, EndSound};
 
 /// A process without live tracees ends alone.
+#[tactic(auto, using(crate::proofs::LeafEnd::leaf_end))]
 pub fn leaf_end()
     ensures { LeafEnd }
 {}
@@ -25,6 +26,7 @@ pub fn tracee_doomed()
 {}
 
 /// If other processes end with a process, one of them has no live tracee.
+#[tactic(auto, using(crate::proofs::Descents::leaf_exists))]
 pub fn leaf_exists()
     ensures { LeafExists }
 {}
@@ -41,11 +43,13 @@ pub fn leaf_end_leaves_fewer()
 
 /// If a process without live tracees ends before the one that it is to end with, all others that were to end with
 /// that one still are.
+#[tactic(auto, using(crate::proofs::LeafEndsFirst::leaf_end_spares_no_doomed))]
 pub fn leaf_end_spares_no_doomed()
     ensures { LeafEndSparesNoDoomed }
 {}
 
 /// Sound rows are sound after the end of a live process.
+#[tactic(auto, using(crate::proofs::Descents::end_sound))]
 pub fn end_sound()
     ensures { EndSound }
 {}

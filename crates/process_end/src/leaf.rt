@@ -22,6 +22,7 @@ use signals::SigSet;
 use trace_stop::post_sigchld;
 
 /// Removes the LWPs of a process.
+#[tactic(auto, using(crate::proofs::LwpEdits::removing))]
 fn remove_lwps(tables: &mut Tables, pid: Pid)
     ensures { tables.new.rows ≡ without_lwps pid tables.old.rows }
 {
@@ -78,6 +79,7 @@ fn parent_of(tables: &Tables, pid: Pid) -> Option<ProcData>
 }
 
 /// Removes the LWPs of a process, and ends the waits of its parent's LWPs for it.
+#[tactic(auto, using(crate::proofs::LwpsEnd::lwps_ending))]
 fn end_lwps(tables: &mut Tables, pid: Pid)
     requires sound { IsSound tables.old.rows }
     requires live { is_live_at pid tables.old.rows ≡ true }
@@ -140,6 +142,7 @@ fn drop_tracer(tables: &mut Tables, zombie: &ProcData, pid: Pid)
 }
 
 /// Ends the tracing of the process's tracees, which are zombies.
+#[tactic(auto, using(crate::proofs::Taken::taking))]
 fn orphan_tracees(tables: &mut Tables, pid: Pid)
     requires leaving { IsLeaving pid tables.old.rows }
     ensures leaving { IsLeaving pid tables.new.rows }
@@ -181,6 +184,7 @@ fn orphan_child(tables: &mut Tables, child: &ProcData, pid: Pid)
 }
 
 /// Makes 1 the parent of each child of the process, or removes the child if it is a zombie that no process collects.
+#[tactic(auto, using(crate::proofs::Taken::taking))]
 fn orphan_children(tables: &mut Tables, pid: Pid)
     requires leaving { IsLeaving pid tables.old.rows }
     requires untraced { list_any (traces pid) tables.old.rows.processes ≡ false }
@@ -196,6 +200,7 @@ fn orphan_children(tables: &mut Tables, pid: Pid)
 
 /// Makes a zombie of a process that has no LWP and that no process names, and notifies the process that collects
 /// it. Removes the row if there is no such process.
+#[tactic(auto, using(crate::proofs::Burial::burying))]
 fn make_zombie(tables: &mut Tables, pid: Pid, status: u32)
     requires leaving { IsLeaving pid tables.old.rows }
     requires untraced { list_any (traces pid) tables.old.rows.processes ≡ false }
@@ -220,6 +225,7 @@ fn make_zombie(tables: &mut Tables, pid: Pid, status: u32)
 }
 
 /// Ends a process without live tracees. Allocates nothing.
+#[tactic(auto, using(crate::proofs::LwpsEnd::lwps_ending))]
 pub fn end_leaf(tables: &mut Tables, pid: Pid, status: u32)
     requires sound { IsSound tables.old.rows }
     requires live { is_live_at pid tables.old.rows ≡ true }

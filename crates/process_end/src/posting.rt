@@ -12,6 +12,7 @@ use signals::Signal;
 use trace_stop::{Settings, post_other};
 
 /// Posts a signal to a live process, or to an LWP of it; SIGKILL ends the process.
+#[tactic(auto, using(trace_stop::proofs::Found::listed))]
 fn post_to(tables: &mut Tables, settings: Settings, pid: Pid, signal: Signal, to: &Option<Tid>)
     requires sound { IsSound tables.old.rows }
     requires live { is_live_at pid tables.old.rows ≡ true }

@@ -14,6 +14,7 @@ use signals::{Pass, SigSet};
 use trace_stop::{Settings, run_on, untrace};
 
 /// Tests whether a process ends when it is resumed with the signal.
+#[tactic(auto, using(trace_stop::proofs::Found::row_there))]
 fn ends(tables: &Tables, pid: Pid, pass: Pass) -> bool
     requires { IsRow tables.now.rows pid }
     ensures { result ≡ ends_process pass (process_of pid tables.now.rows.processes) }
@@ -27,6 +28,7 @@ fn ends(tables: &Tables, pid: Pid, pass: Pass) -> bool
 
 /// Resumes a process from a trace stop with a signal, or with none; the signal may end it. Allocates
 /// nothing.
+#[tactic(auto, using(trace_stop::proofs::StoppedByOwnLwp::stopped_row, crate::proofs::Resumed::runs_live))]
 pub fn resume(tables: &mut Tables, settings: Settings, pid: Pid, pass: Pass)
     requires sound { IsSound tables.old.rows }
     requires stopped { IsStopped pid tables.old.rows }
@@ -42,6 +44,7 @@ pub fn resume(tables: &mut Tables, settings: Settings, pid: Pid, pass: Pass)
 
 /// Detaches a process from its tracer, with a signal or with none, as PT_DETACH of ptrace(2) does. The signal may
 /// end the process. Allocates nothing.
+#[tactic(auto, using(trace_stop::proofs::StoppedByOwnLwp::stopped_row, crate::proofs::Resumed::runs_live))]
 pub fn detach(tables: &mut Tables, settings: Settings, pid: Pid, pass: Pass)
     requires sound { IsSound tables.old.rows }
     requires stopped { IsStopped pid tables.old.rows }

@@ -1,14 +1,13 @@
 -- An LWP at its turn, in sound rows, and changes of it and of its process.
-use Rattle.requests.proofs.CommonNames.{◌≡◌, ℕ, ◌≤◌, true, false, ◌==◌, not, Option, Some, None, IfSome, is_some, refl, sym, ap, ◌∙◌, true≢false, subst, eqb, eq-eqb, rules, shows, PL_FLAG_EXITED, LwpData}
-use Rattle.requests.proofs.CommonNames.{lwp_of, ProcData, is_live, is_run, reporting, process_of, Rows, change_process, change_lwp, lwp_count, seen_lwp, Shown, stop, MayStop, Linked, FitProcess, Standing}
+use Rattle.requests.proofs.CommonNames.{◌≡◌, ℕ, ◌≤◌, true, false, ◌==◌, not, Option, Some, None, IfSome, is_some, sym, ap, ◌∙◌, true≢false, subst, eq-eqb, rules, shows, PL_FLAG_EXITED, LwpData, arith}
+use Rattle.requests.proofs.CommonNames.{nat_tests, lwp_of, ProcData, is_live, is_run, reporting, process_of, Rows, change_process, change_lwp, lwp_count, seen_lwp, Shown, stop, FitProcess, Standing}
 use Rattle.requests.proofs.CommonNames.{FitLwp, WithOwner, IsSound, find_some, choose, find_edit, found_number, changed_own, OneProcess, process_sound, OneLwp, lwp_sound, own_lwps, run_quiet, may_stop}
 use Rattle.requests.proofs.CommonNames.{stopped_sound, Reply, stops_or}
 use Rattle.std.specs.Option.{IsSomeAnd}
 
 -- a process that isn't untraced is traced
 pub traced_where : {X : Type 0} (o : Option X) → (o ≡ None → ⊥) → is_some o ≡ true
-traced_where None h = absurd (h refl)
-traced_where (Some x) h = refl
+traced_where o h = grind (arith, nat_tests, h)
 
 pub record Acting (rows : Rows) (p : ProcData) (l : LwpData) : Type 0 where
   pub sound : IsSound rows
@@ -34,9 +33,6 @@ module _ (rows : Rows) (p : ProcData) (l : LwpData) (a : Acting rows p l) where
   pub its_fit : FitProcess p
   its_fit = (find_some (λ q. q.pid == p.pid) FitProcess rows.processes a.sound.processes p a.home).0
 
-  pub its_link : Linked rows p
-  its_link = (find_some (λ q. q.pid == p.pid) (Linked rows) rows.processes a.sound.stands.linked p a.home).0
-
   pub lwp_fit : FitLwp p l
   lwp_fit = (find_some (λ k. k.tid == l.tid) (WithOwner rows FitLwp) rows.lwps a.sound.lwps l a.there).0 p owner_is
 
@@ -45,23 +41,13 @@ module _ (rows : Rows) (p : ProcData) (l : LwpData) (a : Acting rows p l) where
 
   -- the LWP changed, and its process changed
   pub acting_lwp : (g : LwpData → LwpData) → OneLwp rows p l g → Acting (change_lwp l.tid g rows) p (g l)
-  acting_lwp g c = search (rules, lwp_sound, owner_is, find_edit, choose, eqb, eq-eqb)
+  acting_lwp g c = search (rules, lwp_sound, owner_is, find_edit, choose, eq-eqb)
 
   pub acting_process : (f : ProcData → ProcData) → OneProcess p f → is_run (f p) ≡ true → Acting (change_process p.pid f rows) (f p) l
-  acting_process f c run = record {
-    sound = process_sound rows p.pid p f a.sound a.home c;
-    home = subst (λ n. process_of n (change_process p.pid f rows).processes ≡ Some (f p)) (sym (c.same p).0) (changed_own p f rows.processes (λ q. (c.same q).0) a.home);
-    there = a.there;
-    own = a.own ∙ sym (c.same p).0;
-    run = run;
-  }
-
-  -- a trace stop of the LWP
-  pub acting_may_stop : (shown : Shown) → is_some p.tracer ≡ true → (shows shown.flags PL_FLAG_EXITED ≡ true → 2 ≤ lwp_count p.pid rows) → MayStop p.pid l.tid shown rows
-  acting_may_stop shown traced exits = may_stop rows p.pid l.tid shown p a.sound a.home a.run traced (subst (λ o. IsSomeAnd o (λ (k : LwpData). k.pid ≡ p.pid)) (sym a.there) a.own) exits
+  acting_process f c run = grind (arith, nat_tests, process_sound rows p.pid p f a.sound a.home c, changed_own p f rows.processes (λ q. (c.same q).0) a.home, c.same p, a, run)
 
   pub acting_stops : (shown : Shown) → is_some p.tracer ≡ true → (shows shown.flags PL_FLAG_EXITED ≡ true → 2 ≤ lwp_count p.pid rows) → IsSound (stop p.pid l.tid shown rows)
-  acting_stops shown traced exits = stopped_sound rows p.pid l.tid shown p l a.home a.there (acting_may_stop shown traced exits)
+  acting_stops shown traced exits = stopped_sound rows p.pid l.tid shown p l a.home a.there (may_stop rows p.pid l.tid shown p a.sound a.home a.run traced (subst (λ o. IsSomeAnd o (λ (k : LwpData). k.pid ≡ p.pid)) (sym a.there) a.own) exits)
 
 -- a stop that may be made: of a traced process, and not of an LWP's exit
 pub record MayMake (p : ProcData) (shown : Shown) : Type 0 where

@@ -1,9 +1,9 @@
 -- An LWP and its process are there after changes that keep their numbers.
-use Rattle.requests.proofs.CommonNames.{◌≡◌, ◌∙◌, ℕ, true, false, true≢false, nat_eq, ◌&&◌, Bool, List, [], ◌∷◌, ◌++◌, inl, inr, refl, sym, ap, Option, Some, None, subst, rules, option_map, IsSomeAnd}
-use Rattle.requests.proofs.CommonNames.{list_any, LwpData, Differ, lwp_of, has_lwp, ProcData, process_of, is_live, is_run, Rows, change, change_process, change_lwp, is_numbered, map_lwps, is_process}
-use Rattle.requests.proofs.CommonNames.{add_process, add_lwp, TableInvariant, owns, seen_lwp, same_number, process_of-pid, row_found, found_row, lwp_of-map, is_process-map, cases_Bool, some_and, changed}
-use Rattle.requests.proofs.CommonNames.{changed_lwp, filter_map-map, changed-pid, changed_lwp-keeps, own_lwp-keeps, is_live_at, find_some, own_lwps, find_passes, run_quiet, has, bit, without, IsSound}
-use Rattle.requests.proofs.CommonNames.{without_signal, choose, settled_process, settled_lwp, settle, notified, stop, Shown, IsActing, HasLwp}
+use Rattle.requests.proofs.CommonNames.{◌≡◌, ℕ, true, false, nat_eq, ◌&&◌, Bool, List, [], ◌∷◌, ◌++◌, refl, sym, Option, Some, subst, rules, option_map, IsSomeAnd, arith, nat_tests, LwpData, Differ}
+use Rattle.requests.proofs.CommonNames.{lwp_of, has_lwp, ProcData, process_of, is_live, is_run, Rows, change, change_process, change_lwp, is_numbered, map_lwps, is_process, add_process, add_lwp}
+use Rattle.requests.proofs.CommonNames.{TableInvariant, owns, seen_lwp, same_number, process_of-pid, row_found, found_row, lwp_of-map, is_process-map, some_and, changed, changed_lwp, filter_map-map}
+use Rattle.requests.proofs.CommonNames.{changed-pid, changed_lwp-keeps, own_lwp-keeps, is_live_at, find_some, own_lwps, find_passes, run_quiet, bit, without, IsSound, without_signal, choose}
+use Rattle.requests.proofs.CommonNames.{settled_process, settled_lwp, settle, stop, Shown, IsActing, HasLwp}
 use Rattle.proc_table.proofs.Rising.{Lacks-from_any}
 use Rattle.proc_table.proofs.Placed.{is_process-placed}
 use Rattle.requests.proofs.Acting.{Acting}
@@ -15,24 +15,15 @@ pub acting_has : (p : ProcData) (l : LwpData) (rows : Rows) → IsActing p l row
 acting_has p l rows a = record { process = found_row p.pid p rows.processes a.process; lwp = rw a.lwp a.own }
 
 owner_kept : (pid : ℕ) (g : LwpData → LwpData) → ((k : LwpData) → (g k).pid ≡ k.pid) → (o : Option LwpData) → IsSomeAnd o (λ l. l.pid ≡ pid) → IsSomeAnd (option_map g o) (λ l. l.pid ≡ pid)
-owner_kept pid g own None is = is
-owner_kept pid g own (Some l) is = own l ∙ is
+owner_kept pid g own o is = search (rules)
 
 pub has-lwp_changed : (n : ℕ) (g : LwpData → LwpData) → ((k : LwpData) → (g k).tid ≡ k.tid) → ((k : LwpData) → (g k).pid ≡ k.pid)
     → (pid tid : ℕ) (rows : Rows) → HasLwp pid tid rows → HasLwp pid tid (change_lwp n g rows)
-has-lwp_changed n g same own pid tid rows h = record {
-  process = h.process;
-  lwp = subst (λ o. IsSomeAnd o (λ l. l.pid ≡ pid))
-      (sym (ap (lwp_of tid) (filter_map-map (λ l. Some (changed_lwp n g l)) (changed_lwp n g) (λ l. refl) rows.lwps) ∙ lwp_of-map (changed_lwp n g) (changed_lwp-keeps (λ l. l.tid) g same n) tid rows.lwps))
-      (owner_kept pid (changed_lwp n g) (changed_lwp-keeps (λ l. l.pid) g own n) (lwp_of tid rows.lwps) h.lwp);
-}
+has-lwp_changed n g same own pid tid rows h = grind (arith, nat_tests, h, filter_map-map (λ l. Some (changed_lwp n g l)) (changed_lwp n g) (λ l. refl) rows.lwps, lwp_of-map (changed_lwp n g) (changed_lwp-keeps (λ l. l.tid) g same n) tid rows.lwps, owner_kept pid (changed_lwp n g) (changed_lwp-keeps (λ l. l.pid) g own n) (lwp_of tid rows.lwps) h.lwp)
 
 pub has-process_changed : (n : ℕ) (f : ProcData → ProcData) → ((q : ProcData) → (f q).pid ≡ q.pid)
     → (pid tid : ℕ) (rows : Rows) → HasLwp pid tid rows → HasLwp pid tid (change_process n f rows)
-has-process_changed n f same pid tid rows h = record {
-  process = ap (list_any (λ q. nat_eq q.pid pid)) (filter_map-map (λ q. Some (changed n f q)) (changed n f) (λ q. refl) rows.processes) ∙ is_process-map (changed n f) (changed-pid n f same) pid rows.processes ∙ h.process;
-  lwp = h.lwp;
-}
+has-process_changed n f same pid tid rows h = grind (arith, nat_tests, h, filter_map-map (λ q. Some (changed n f q)) (changed n f) (λ q. refl) rows.processes, is_process-map (changed n f) (changed-pid n f same) pid rows.processes)
 
 -- a process that runs lives
 pub runs_live : (p : ProcData) (rows : Rows) → process_of p.pid rows.processes ≡ Some p → is_run p ≡ true → is_live_at p.pid rows ≡ true
@@ -44,17 +35,13 @@ row_itself n p ps at = subst (λ m. process_of m ps ≡ Some p) (sym (process_of
 
 -- after an LWP has taken a signal, its process and it are there
 pub taken_there : (s : ℕ) (p : ProcData) (l : LwpData) (rows : Rows) → IsActing p l rows → HasLwp p.pid l.tid (without_signal s p l rows)
-taken_there s p l rows a = choose (has l.pending s) _ _ (HasLwp p.pid l.tid)
-    (λ e. has-lwp_changed l.tid (λ k. record k { pending = without k.pending (bit s) }) (λ k. refl) (λ k. refl) p.pid l.tid rows (acting_has p l rows a))
-    (λ e. has-process_changed p.pid (λ q. record q { pending = without q.pending (bit s) }) (λ q. refl) p.pid l.tid rows (acting_has p l rows a))
+taken_there s p l rows a = grind (arith, nat_tests, choose, has-lwp_changed l.tid (λ k. record k { pending = without k.pending (bit s) }) (λ k. refl) (λ k. refl) p.pid l.tid rows (acting_has p l rows a), has-process_changed p.pid (λ q. record q { pending = without q.pending (bit s) }) (λ q. refl) p.pid l.tid rows (acting_has p l rows a))
 
 pub acting_from : (p : ProcData) (l : LwpData) (rows : Rows) → IsSound rows → IsActing p l rows → is_run p ≡ true → Acting rows p l
 acting_from p l rows sound a run = record { sound = sound; home = a.process; there = a.lwp; own = a.own; run = run }
 
 pub taken_live : (s : ℕ) (p : ProcData) (l : LwpData) (rows : Rows) → Acting rows p l → is_live_at p.pid (without_signal s p l rows) ≡ true
-taken_live s p l rows a =
-    let k = taken_alike rows p l a s in
-    subst (λ n. is_live_at n (without_signal s p l rows) ≡ true) k.pid (runs_live k.process (without_signal s p l rows) k.acting.home k.acting.run)
+taken_live s p l rows a = grind (arith, nat_tests, runs_live (taken_alike rows p l a s).process (without_signal s p l rows) (taken_alike rows p l a s).acting.home (taken_alike rows p l a s).acting.run)
 
 -- the LWP that a user sees by its number, and its process
 pub acting_seen : (u tid : ℕ) (rows : Rows) (l : LwpData) (p : ProcData) → Differ rows.lwps → seen_lwp u tid rows ≡ Some l → process_of l.pid rows.processes ≡ Some p → IsActing p l rows
@@ -75,29 +62,15 @@ has-process_added new pid tid rows kept free h = record { process = is_process-p
 module _ (chosen : ProcData → Bool) (f : ProcData → ProcData) (g : ProcData → LwpData → LwpData) (numbered : (p : ProcData) → (f p).pid ≡ p.pid)
     (named : (p : ProcData) (l : LwpData) → (g p l).tid ≡ l.tid) (owned : (p : ProcData) (l : LwpData) → (g p l).pid ≡ l.pid) where
   pub has-change : (pid tid : ℕ) (rows : Rows) → HasLwp pid tid rows → HasLwp pid tid (change chosen f g rows)
-  has-change pid tid rows h =
-      let p = row_found pid rows.processes h.process in
-      let l = some_and (λ k. k.pid ≡ pid) (lwp_of tid rows.lwps) h.lwp in
-      let owner : process_of l.0.pid rows.processes ≡ Some p.0 = rw l.2 p.1 in
-      record {
-        process = found_row pid _ _ (changed_process pid chosen f g rows p.0 numbered p.1);
-        lwp = subst (λ o. IsSomeAnd o (λ k. k.pid ≡ pid)) (sym (lwp_changed tid chosen f g rows l.0 p.0 named l.1 owner))
-            (choose (chosen p.0) (g p.0 l.0) l.0 (λ k. k.pid ≡ pid) (λ e. owned p.0 l.0 ∙ l.2) (λ e. l.2));
-      }
-
-pub has-notified : (pids : List ℕ) (pid tid : ℕ) (rows : Rows) → HasLwp pid tid rows → HasLwp pid tid (notified pids rows)
-has-notified pids pid tid rows h = search (rules, has-change)
+  has-change pid tid rows h = grind (arith, nat_tests, found_row, changed_process pid chosen f g rows (row_found pid rows.processes h.process).0 numbered (row_found pid rows.processes h.process).1, lwp_changed tid chosen f g rows (some_and (λ k. k.pid ≡ pid) (lwp_of tid rows.lwps) h.lwp).0 (row_found pid rows.processes h.process).0 named (some_and (λ k. k.pid ≡ pid) (lwp_of tid rows.lwps) h.lwp).1)
 
 pub has-stop : (at of : ℕ) (shown : Shown) (pid tid : ℕ) (rows : Rows) → HasLwp pid tid rows → HasLwp pid tid (stop at of shown rows)
-has-stop at of shown pid tid rows h = search (rules, has-lwp_changed, has-process_changed, has-notified)
+has-stop at of shown pid tid rows h = search (rules, has-lwp_changed, has-process_changed, has-change)
 
 -- a new LWP is found
 pub lwp_added : (new : LwpData) (ls : List LwpData) → has_lwp new.tid ls ≡ false → lwp_of new.tid (ls ++ (new ∷ [])) ≡ Some new
 lwp_added new [] free = rw (same_number new.tid) refl
-lwp_added new (l ∷ ls) free = elim (cases_Bool (nat_eq l.tid new.tid)) [
-  | inl e ↦ absurd (true≢false (sym (rw e refl) ∙ free))
-  | inr e ↦ rw e (lwp_added new ls (rw e at free))
-]
+lwp_added new (l ∷ ls) free = grind (arith, nat_tests, lwp_added new ls, same_number, free)
 
 pub has-settled : (n pid tid : ℕ) (rows : Rows) → HasLwp pid tid rows → HasLwp pid tid (settle n rows)
 has-settled n pid tid rows h = has-change (is_numbered n) settled_process settled_lwp (λ p. refl) (λ p l. refl) (λ p l. refl) pid tid rows h

@@ -1,6 +1,6 @@
 -- What a step is once its caller was looked up.
-use Rattle.requests.proofs.CommonNames.{◌≡◌, ℕ, true, Some, refl, ap, ◌∙◌, eqb-true, rules, ProcData, is_live, is_run, seen_process, PlainStep, Machine, step, step_of, checked, calls, caller_of}
-use Rattle.requests.proofs.CommonNames.{Rows, Rise, and_right, find_some, own_rows}
+use Rattle.requests.proofs.CommonNames.{◌≡◌, ℕ, true, Some, refl, ap, ◌∙◌, eqb-true, rules, ProcData, is_live, is_run, seen_process, PlainStep, Machine, step, step_of, checked, calls, caller_of, Rows}
+use Rattle.requests.proofs.CommonNames.{Rise, and_right, find_some, own_rows}
 use Rattle.requests.specs.Callers.{IsCaller, Calls}
 
 -- A caller's step

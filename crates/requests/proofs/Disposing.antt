@@ -1,19 +1,12 @@
 -- Which dispositions a process may have, and its row with others.
-use Rattle.requests.proofs.CommonNames.{◌≡◌, ℕ, Some, None, is_some, Bool, true, false, ◌==◌, not, ◌||◌, if◌then◌else◌, [], ◌∷◌, refl, sym, ap, ◌∙◌, arith, inl, inr, rules, cases_Bool, le-leb, set_of, has}
-use Rattle.requests.proofs.CommonNames.{unblockable_set, may_have, set_disposition, IsSignal, Disposition, ProcData, process_of, Rows, Rise, IsRow, set_process, found_row, process-set, change_process-at}
-use Rattle.requests.proofs.CommonNames.{settle, some_is, is_refused, sigaction, Reply}
+use Rattle.requests.proofs.CommonNames.{◌≡◌, ℕ, Some, None, is_some, ◌==◌, not, ◌||◌, if◌then◌else◌, [], ◌∷◌, refl, ap, arith, rules, cases_Bool, le-leb, set_of, has, nat_tests, unblockable_set, may_have}
+use Rattle.requests.proofs.CommonNames.{set_disposition, IsSignal, Disposition, ProcData, process_of, Rows, Rise, IsRow, set_process, found_row, process-set, change_process-at, settle, some_is, is_refused}
+use Rattle.requests.proofs.CommonNames.{sigaction, Reply}
 use Rattle.signals.proofs.Members.{members_after}
 use Rattle.signals.specs.Dispositions.{Actions}
 
 unblockable : (s : ℕ) → IsSignal s → has unblockable_set s ≡ ((s == 9) || (s == 17))
-unblockable s is =
-    (members_after (set_of (17 ∷ [])) 0 9 s (omega arith, omega arith) is).added ∙ (ap (λ b. b || (s == 9)) (members_after 0 0 17 s (omega arith, omega arith) is).added ∙ swapped (s == 17) (s == 9))
-  where
-    swapped : (a b : Bool) → ((false || a) || b) ≡ (b || a)
-    swapped true true = refl
-    swapped true false = refl
-    swapped false true = refl
-    swapped false false = refl
+unblockable s is = grind (arith, nat_tests, members_after (set_of (17 ∷ [])) 0 9 s (omega arith, omega arith) is, members_after 0 0 17 s (omega arith, omega arith) is)
 
 pub refused_is : (s : ℕ) (d : Disposition) → IsSignal s → is_refused s d ≡ not (may_have s d)
 refused_is s d is = search (rules, le-leb, unblockable)
@@ -29,11 +22,4 @@ module _ (rows rows1 : Rows) (p new : ProcData) (at : process_of p.pid rows.proc
       → Some actions ≡ (if is_refused s d then None else Some (set_disposition p.dispositions s d)) → new ≡ record p { dispositions = actions }
       → rows1 ≡ set_process new rows → rows2 ≡ settle p.pid rows1
       → (rows2 ≡ (sigaction p s d rows).rows) × (Reply.Done ≡ (sigaction p s d rows).reply)
-  disposed_rows s d actions rows2 rise taken its set settled = elim (cases_Bool (is_refused s d)) [
-    | inl e ↦ absurd (let none : Some actions ≡ None = rw e at taken in cc)
-    | inr e ↦
-        let some : Some actions ≡ Some (set_disposition p.dispositions s d) = rw e at taken in
-        let same : actions ≡ set_disposition p.dispositions s d = some_is _ _ some in
-        let one = change_process-at p.pid (λ q. record q { dispositions = set_disposition q.dispositions s d }) rows p rise at refl in
-        rw e (settled ∙ ap (settle p.pid) (set ∙ ap (λ q. set_process q rows) (its ∙ ap (λ a. record p { dispositions = a }) same) ∙ sym one), refl)
-  ]
+  disposed_rows s d actions rows2 rise taken its set settled = grind (arith, nat_tests, cases_Bool (is_refused s d), some_is, change_process-at p.pid (λ q. record q { dispositions = set_disposition q.dispositions s d }) rows p rise at refl)

@@ -26,9 +26,6 @@ module _ (m : Machine) (u : ℕ) (user : IsUser u) (is : sound m ≡ true) (s : 
   abbrev now : List (List Installed)
   now = set m.installed (slot u) (filter left (installed_by u m))
 
-  count : length was ≡ length m.installed
-  count = length-map m.installed (filter left)
-
   at_user : (v : ℕ) → IsUser v → get_or was (slot v) [] ≡ get_or now (slot v) []
   at_user v other = either v u
       (λ me. subst (λ w. get_or was (slot w) [] ≡ get_or now (slot w) []) (sym me) (get_or-map (filter left) m.installed (slot u) [] ∙ sym (put_at u m.installed (filter left (installed_by u m)) [] user (slots_of m is))))
@@ -38,8 +35,8 @@ module _ (m : Machine) (u : ℕ) (user : IsUser u) (is : sound m ≡ true) (s : 
 
   at : (k : ℕ) → k < length was → get_or was k [] ≡ get_or now k []
   at k lt =
-      let small : k < 64 = omega (arith, lt, count, slots_of m is) in
+      let small : k < 64 = omega (arith, lt, (length-map m.installed (filter left)), slots_of m is) in
       subst (λ n. get_or was n [] ≡ get_or now n []) (omega arith) (at_user (k + 1001) (omega arith, omega arith))
 
   pub drops : (after m o).machine ≡ kept_by u o.rows m
-  drops = ap (λ xs. record m { rows = o.rows; installed = xs }) (same_at was now [] (count ∙ sym (length-set m.installed (slot u) (filter left (installed_by u m)))) at)
+  drops = ap (λ xs. record m { rows = o.rows; installed = xs }) (same_at was now [] ((length-map m.installed (filter left)) ∙ sym (length-set m.installed (slot u) (filter left (installed_by u m)))) at)

@@ -1,17 +1,16 @@
 -- The clauses of a step, from what was done to the rows and what was answered.
-use Rattle.requests.proofs.CommonNames.{◌≡◌, ◌≢◌, ℕ, Some, None, List, [], set, true, false, refl, sym, ap, ◌∙◌, subst, inl, inr, set-get_or, IsUser, slot, Rows, PlainStep, Reply, Outcome, answers}
-use Rattle.requests.proofs.CommonNames.{Installed, Machine, after, takes_memory, is_refusal, may_want, step_fits, sound, Steps, ProcData, step, calls, caller_of, Rule, length, installed_by, le-leb}
-use Rattle.requests.proofs.CommonNames.{not, ◌<◌, ◌≤◌, ◌++◌, ◌∷◌, if◌then◌else◌, cases_Bool, attempted_reply, Errno, Step, Attempts, Result, Ok, Err, uncalled, installs, outcome_of, Tries, step_of}
+use Rattle.requests.proofs.CommonNames.{◌≡◌, ◌≢◌, ℕ, Some, None, List, [], set, true, false, refl, sym, ap, ◌∙◌, subst, inl, inr, set-get_or, IsUser, slot, Rows, PlainStep, Reply, Outcome, answers, arith}
+use Rattle.requests.proofs.CommonNames.{nat_tests, Installed, Machine, after, takes_memory, is_refusal, may_want, step_fits, sound, Steps, ProcData, step, calls, caller_of, Rule, length, installed_by}
+use Rattle.requests.proofs.CommonNames.{le-leb, not, ◌<◌, ◌≤◌, ◌++◌, ◌∷◌, if◌then◌else◌, cases_Bool, attempted_reply, Errno, Step, Attempts, Result, Ok, Err, uncalled, installs, outcome_of, Tries, step_of}
 use Rattle.requests.specs.Callers.{IsCaller, Calls, Barred}
 use Rattle.requests.specs.Ending.{may_end}
 use Rattle.requests.proofs.SoundWithoutEnded.{all_left, left_live, answers_same, rows_sound}
-use Rattle.requests.proofs.Enduring.{Lives}
-use Rattle.requests.proofs.ProcessesEndure.{step_enduring}
+use Rattle.requests.proofs.Outcomes.{Lives}
 use Rattle.requests.proofs.Called.{called, is_caller}
 use Rattle.requests.proofs.Drops.{left_in, kept_by, drops}
 use Rattle.requests.proofs.Installing.{installed_with, few_leb}
 use Rattle.requests.proofs.Replies.{cases_memory, other}
-use Rattle.requests.proofs.RefusalsChangeNothing.{no_step_runs_out_of_memory, a_refusal_changes_nothing}
+use Rattle.requests.proofs.RefusalsChangeNothing.{no_step_runs_out_of_memory, a_refusal_changes_nothing, step_fair}
 use Rattle.requests.proofs.StaysSound.{sound_kept}
 use Rattle.requests.proofs.PerStep.{uncalled_after, calls_after}
 
@@ -32,9 +31,7 @@ module _ (u : ℕ) (s : PlainStep) (m : Machine) (user : IsUser u) (is : sound m
 
   -- once the pairs of the user's ended debuggers are gone
   pub finished : {E : Type 0} (o : Outcome) (rows : Rows) (r : Result Reply E) → step u s m ≡ after m o → Attempts (takes_memory u s m) o m.rows rows r → Tries u s m (kept_by u rows m) r
-  finished o rows (Ok r) same did = from_machine (kept_by u rows m) r
-      (λ ok. (ap (λ x. kept_by u x m) did.gives.rows ∙ sym (drops m u user is s o same) ∙ sym (ap (λ a. a.machine) same), did.gives.reply ∙ sym (ap (λ a. a.reply) same)))
-      (λ e. absurd (no_step_runs_out_of_memory u s m (ap (λ a. a.reply) same ∙ sym did.gives.reply ∙ e)))
+  finished o rows (Ok r) same did = grind (arith, nat_tests, from_machine (kept_by u rows m) r (λ ok. (ap (λ x. kept_by u x m) did.gives.rows ∙ sym (drops m u user is s o same) ∙ sym (ap (λ a. a.machine) same), did.gives.reply ∙ sym (ap (λ a. a.reply) same))) (λ e. absurd (no_step_runs_out_of_memory u s m (ap (λ a. a.reply) same ∙ sym did.gives.reply ∙ e))), no_step_runs_out_of_memory)
   finished o rows (Err e) same did = from_machine (kept_by u rows m) (Reply.Errno Errno.ENOMEM) (λ plenty. absurd (plenty refl))
       (λ e. (
         ap (λ x. kept_by u x m) did.same ∙ ap (λ x. record m { installed = x }) (ap (set_at m.installed) (all_left m is u user) ∙ set-get_or m.installed (slot u) []),
@@ -46,9 +43,7 @@ module _ (u : ℕ) (s : PlainStep) (m : Machine) (user : IsUser u) (is : sound m
 
   -- which are none where the step ends no process
   pub none_ended : {E : Type 0} (o : Outcome) (rows : Rows) (r : Result Reply E) → step u s m ≡ after m o → Attempts (takes_memory u s m) o m.rows rows r → may_end s (attempted_reply r) ≡ false → set m.installed (slot u) (left_in rows u m) ≡ m.installed
-  none_ended o rows (Ok r) same did none =
-      let lives : Lives m.rows.processes o.rows.processes = subst (λ a. Lives m.rows.processes a.machine.rows.processes) same (step_enduring u s m (subst (λ x. may_end s x ≡ false) (did.gives.reply ∙ sym (ap (λ a. a.reply) same)) none)) in
-      ap (λ x. (kept_by u x m).installed) did.gives.rows ∙ ap (λ ys. set m.installed (slot u) ys) (left_live m is o.rows lives.at u user) ∙ set-get_or m.installed (slot u) []
+  none_ended o rows (Ok r) same did none = grind (arith, nat_tests, left_live m is o.rows (subst (λ a. Lives m.rows.processes a.machine.rows.processes) same ((step_fair u s m).lives (subst (λ x. may_end s x ≡ false) (did.gives.reply ∙ sym (ap (λ a. a.reply) same)) none))).at u user, set-get_or m.installed (slot u) [])
   none_ended o rows (Err e) same did none = ap (λ x. (kept_by u x m).installed) did.same ∙ ap (λ ys. set m.installed (slot u) ys) (all_left m is u user) ∙ set-get_or m.installed (slot u) []
 
   -- a refusal before anything was done
@@ -69,21 +64,15 @@ module _ {u : ℕ} {h m : Machine} (view : h ≡ m) (user : IsUser u) (kept : so
   -- a step once what ended debuggers had installed is gone
   module _ {E : Type 0} (s : PlainStep) (fits : step_fits s ≡ true) {rows : Rows} {left : List (List Installed)} {r : Result Reply E} (keeps : left ≡ (if may_end s (attempted_reply r) then set h.installed (slot u) (left_in rows u h) else h.installed)) where
     only_left : (o : Outcome) → step u s h ≡ after h o → Attempts (takes_memory u s h) o h.rows rows r → left ≡ set h.installed (slot u) (left_in rows u h)
-    only_left o same did = elim (cases_Bool (may_end s (attempted_reply r))) [
-      | inl e ↦ rw e at keeps
-      | inr e ↦ let all : left ≡ h.installed = rw e at keeps in all ∙ sym (none_ended u s h user kept fits o rows r same did e)
-    ]
-
-    host_done : (o : Outcome) → step u s h ≡ after h o → Attempts (takes_memory u s h) o h.rows rows r → Tries u s h (record h { rows = rows; installed = left }) r
-    host_done o same did = subst (λ x. Tries u s h (record h { rows = rows; installed = x }) r) (sym (only_left o same did)) (finished u s h user kept fits o rows r same did)
+    only_left o same did = grind (arith, nat_tests, cases_Bool (may_end s (attempted_reply r)), none_ended)
 
     pub host_uncalled : caller_of s ≡ None → Attempts (takes_memory u s h) (outcome_of (uncalled u s h)) h.rows rows r → Tries u s h (record h { rows = rows; installed = left }) r
-    host_uncalled none did = host_done (outcome_of (uncalled u s h)) (ap (step_of u s h) none ∙ uncalled_after u s h) did
+    host_uncalled none did = subst (λ x. Tries u s h (record h { rows = rows; installed = x }) r) (sym (only_left (outcome_of (uncalled u s h)) (ap (step_of u s h) none ∙ uncalled_after u s h) did)) (finished u s h user kept fits (outcome_of (uncalled u s h)) rows r (ap (step_of u s h) none ∙ uncalled_after u s h) did)
 
     pub host_called : {n : ℕ} {p : ProcData} → Calls u n m.rows p → caller_of s ≡ Some n → installs s ≡ false → Attempts (takes_memory u s h) (outcome_of (calls u s p h)) h.rows rows r → Tries u s h (record h { rows = rows; installed = left }) r
     host_called {n} {p} found by kind did =
         let f : Calls u n h.rows p = subst (λ x. Calls u n x.rows p) (sym view) found in
-        host_done (outcome_of (calls u s p h)) (called u n s h by p f.seen f.live f.runs ∙ calls_after u s p h kind) did
+        (subst (λ x. Tries u s h (record h { rows = rows; installed = x }) r) (sym (only_left (outcome_of (calls u s p h)) (called u n s h by p f.seen f.live f.runs ∙ calls_after u s p h kind) did)) (finished u s h user kept fits (outcome_of (calls u s p h)) rows r (called u n s h by p f.seen f.live f.runs ∙ calls_after u s p h kind) did))
 
   module _ {n : ℕ} {p : ProcData} (found : Calls u n m.rows p) where
     by_host : Calls u n h.rows p
@@ -102,8 +91,7 @@ module _ {u : ℕ} {h m : Machine} (view : h ≡ m) (user : IsUser u) (kept : so
       made few = called u n (Step.Install n policy) h refl p by_host.seen by_host.live by_host.runs ∙ rw (few_leb (length (installed_by u h)) few) refl
 
       pub host_installed : {xs : List (List Installed)} → length (installed_by u h) < 64 → xs ≡ set h.installed (slot u) (installed_by u h ++ (record { debugger = p.pid; policy = policy } ∷ [])) → Steps u (Step.Install n policy) h (record h { installed = xs }) Reply.Done
-      host_installed {xs} few done = from_machine u (Step.Install n policy) h user kept refl (record h { installed = xs }) Reply.Done
-          (λ ok. (ap (λ ys. record h { installed = ys }) done ∙ sym (ap (λ a. a.machine) (made few)), sym (ap (λ a. a.reply) (made few)))) (λ e. absurd (other Reply.Done refl e))
+      host_installed {xs} few done = grind (arith, nat_tests, from_machine u (Step.Install n policy) h user kept refl (record h { installed = xs }) Reply.Done (λ ok. (ap (λ ys. record h { installed = ys }) done ∙ sym (ap (λ a. a.machine) (made few)), sym (ap (λ a. a.reply) (made few)))) (λ e. absurd (other Reply.Done refl e)), other)
 
       pub host_wants : {xs : List (List Installed)} → length (installed_by u h) < 64 → xs ≡ h.installed → Steps u (Step.Install n policy) h (record h { installed = xs }) (Reply.Errno Errno.ENOMEM)
       host_wants few same = subst (λ xs. Steps u (Step.Install n policy) h (record h { installed = xs }) (Reply.Errno Errno.ENOMEM)) (sym same) (wants_at u (Step.Install n policy) h user kept refl (ap (λ a. not (is_refusal a.reply)) (made few)))

@@ -1,9 +1,9 @@
 -- A step of a host, compared with the same step without any other user; the laws of isolation.
-use Rattle.requests.proofs.CommonNames.{◌≡◌, ◌≢◌, ℕ, List, [], ◌∷◌, filter, true, ◌==◌, ◌&&◌, not, Option, Some, None, IfSome, refl, sym, ap, ap₂, ◌∙◌, arith, subst, eq-eqb, get_or, IsUser}
-use Rattle.requests.proofs.CommonNames.{pid_block, tid_block, slot, ProcData, LwpData, is_live, is_run, of_user, Rows, owns, seen_process, Settings, PlainStep, Reply, Machine, Installed}
-use Rattle.requests.proofs.CommonNames.{installed_by, After, is_live_number, after, turn, checked, step, GoodProc, LiveOwner, InBlock, Closed, Debugger, Apart, reply_of, host_after, replies_to}
-use Rattle.requests.proofs.CommonNames.{Users, KeepsApart, Alone, OneStep, OtherStep, TwoLists, OwnRun, own_replies, own_view, filter_only, filter-all, All-where, every, Kept, Sim, own, own_lwp}
-use Rattle.requests.proofs.CommonNames.{not_own, either, owns_block, lwps_seen, find_passes, AllByRecursion, choose_both, All-imply, step_of}
+use Rattle.requests.proofs.CommonNames.{◌≡◌, ◌≢◌, ℕ, List, [], ◌∷◌, filter, true, ◌==◌, ◌&&◌, not, Option, Some, None, IfSome, refl, sym, ap, ap₂, ◌∙◌, arith, subst, eq-eqb, get_or, IsUser, nat_tests}
+use Rattle.requests.proofs.CommonNames.{pid_block, tid_block, slot, ProcData, LwpData, is_live, is_run, of_user, Rows, owns, seen_process, Settings, PlainStep, Machine, Installed, installed_by}
+use Rattle.requests.proofs.CommonNames.{is_live_number, after, turn, checked, step, GoodProc, LiveOwner, Closed, Debugger, Apart, reply_of, host_after, replies_to, Users, KeepsApart, Alone, OneStep}
+use Rattle.requests.proofs.CommonNames.{OtherStep, TwoLists, OwnRun, own_replies, own_view, filter_only, filter-all, All-where, every, Kept, Sim, own, own_lwp, not_own, either, owns_block, lwps_seen}
+use Rattle.requests.proofs.CommonNames.{find_passes, AllByRecursion, choose_both, All-imply, step_of}
 use Rattle.requests.specs.Run.{Asked, last, replies, asked_by}
 use Rattle.requests.specs.View.{View, view, with_view, alone}
 use Rattle.requests.proofs.IsolationOfNewRows.{answered, owns_same}
@@ -52,9 +52,6 @@ twin u m user apart = record {
     closed : Closed u m.rows
     closed = apart.rows u user
 
-stepped : (u : ℕ) (s : PlainStep) (m : Machine) → IsUser u → Apart m → Stepped u m (step u s m) (step u s (alone u m))
-stepped u s m user apart = step_same user apart (twin u m user apart) s
-
 -- Views
 
 abbrev made : List ProcData → List LwpData → ℕ → ℕ → List Installed → Settings → View
@@ -76,14 +73,11 @@ seen_twin u start a b s pairs settings = view_of_parts
     lwps : filter (λ l. owns u l.pid a.rows.processes) a.rows.lwps ≡ filter (own_lwp u) a.rows.lwps
     lwps = lwps_seen u a.rows s.kept.closed.processes s.kept.closed.in_owners_block
 
-seen_again : (u : ℕ) (m : Machine) (a b : After) → Stepped u m a b → view u a.machine ≡ view u b.machine
-seen_again u m a b s = seen_twin u m.rows a.machine b.machine s.rows s.installed s.settings
-
 pub seen_alone : (m : Machine) (u : ℕ) → IsUser u → Apart m → view u (alone u m) ≡ view u m
 seen_alone m u user apart = let t = twin u m user apart in sym (seen_twin u m.rows m (alone u m) t.rows t.installed t.settings)
 
 pub alone_law : Alone
-alone_law m u s user apart = let both = stepped u s m user apart in (both.reply, seen_again u m (step u s m) (step u s (alone u m)) both)
+alone_law m u s user apart = let both = (step_same user apart (twin u m user apart) s) in (both.reply, (seen_twin u m.rows (step u s m).machine (step u s (alone u m)).machine both.rows both.installed both.settings))
 
 pub one_step : OneStep
 one_step m k u s user am ak same =
@@ -101,23 +95,13 @@ keeps_apart m u s user apart = record {
 }
   where
     both : Stepped u m (step u s m) (step u s (alone u m))
-    both = stepped u s m user apart
+    both = step_same user apart (twin u m user apart) s
 
     k : Kept u m.rows (step u s m).machine.rows
     k = both.rows.kept
 
     closed : (w : ℕ) → IsUser w → w ≢ u → Closed w (step u s m).machine.rows
-    closed w other ne = let was = apart.rows w other in record {
-      processes = k.closed.processes;
-      lwps = k.closed.lwps;
-      in_owners_block = k.closed.in_owners_block;
-      rising = k.closed.rising;
-      user = other;
-      pid_slots = k.closed.pid_slots;
-      tid_slots = k.closed.tid_slots;
-      pid_cursor = subst (InBlock (pid_block w)) (sym (k.pid_cursor w other ne)) was.pid_cursor;
-      tid_cursor = subst (InBlock (tid_block w)) (sym (k.tid_cursor w other ne)) was.tid_cursor;
-    }
+    closed w other ne = grind (arith, nat_tests, apart.rows w other, k.closed, k.pid_cursor w other ne, k.tid_cursor w other ne, other)
 
 pub other_step : OtherStep
 other_step m u w s user other ne apart = view_of_parts
@@ -126,7 +110,7 @@ other_step m u w s user other ne apart = view_of_parts
     (k.pid_cursor u user ne) (k.tid_cursor u user ne) (both.others u user ne) both.unset
   where
     both : Stepped w m (step w s m) (step w s (alone w m))
-    both = stepped w s m other apart
+    both = step_same other apart (twin w m other apart) s
 
     k : Kept w m.rows (step w s m).machine.rows
     k = both.rows.kept
@@ -139,24 +123,10 @@ other_step m u w s user other ne apart = view_of_parts
 pub run_is : (xs : List Asked) (m : Machine) (u : ℕ) → IsUser u → Users xs → Apart m
     → (replies_to u xs (replies xs m) ≡ own_replies u (asked_by u xs) (view u m)) × (view u (last xs m) ≡ own_view u (asked_by u xs) (view u m))
 run_is [] m u user all apart = (refl, refl)
-run_is (x ∷ xs) m u user all apart =
-    let rest : (replies_to u xs (replies xs (host_after x.uid x.step m)) ≡ own_replies u (asked_by u xs) (view u (host_after x.uid x.step m))) × (view u (last xs (host_after x.uid x.step m)) ≡ own_view u (asked_by u xs) (view u (host_after x.uid x.step m))) = run_is xs (host_after x.uid x.step m) u user all.1 (keeps_apart m x.uid x.step all.0 apart) in
-    either x.uid u (λ me.
-    let law = alone_law m u x.step user apart in
-    let said : reply_of x.uid x.step m ≡ reply_of u x.step (alone u m) = ap (λ w. reply_of w x.step m) me ∙ law.0 in
-    let next_view : view u (host_after x.uid x.step m) ≡ view u (host_after u x.step (alone u m)) = ap (λ w. view u (host_after w x.step m)) me ∙ law.1 in
-    rw (eq-eqb x.uid u me) (ap₂ (λ (r : Reply) (rs : List Reply). r ∷ rs) said (rest.0 ∙ ap (own_replies u (asked_by u xs)) next_view), rest.1 ∙ ap (own_view u (asked_by u xs)) next_view))
-    (λ ne.
-    let next_view : view u (host_after x.uid x.step m) ≡ view u m = other_step m u x.uid x.step user all.0 (λ e. ne (sym e)) apart in
-    rw (not_own u x.uid ne) (rest.0 ∙ ap (own_replies u (asked_by u xs)) next_view, rest.1 ∙ ap (own_view u (asked_by u xs)) next_view))
+run_is (x ∷ xs) m u user all apart = grind (arith, nat_tests, run_is xs (host_after x.uid x.step m) u user all.1 (keeps_apart m x.uid x.step all.0 apart), either, alone_law m u x.step user apart, eq-eqb, ap₂, other_step, not_own)
 
 pub own_run : OwnRun
 own_run m u xs user all apart = run_is xs m u user all apart
 
 pub two_lists : TwoLists
-two_lists m k u xs ys user all each am ak same asks =
-    let a = run_is xs m u user all am in
-    let b = run_is ys k u user each ak in (
-      a.0 ∙ ap (λ cs. own_replies u cs (view u m)) asks ∙ ap (own_replies u (asked_by u ys)) same ∙ sym b.0,
-      a.1 ∙ ap (λ cs. own_view u cs (view u m)) asks ∙ ap (own_view u (asked_by u ys)) same ∙ sym b.1,
-    )
+two_lists m k u xs ys user all each am ak same asks = grind (arith, nat_tests, run_is xs m u user all am, run_is ys k u user each ak)

@@ -1,8 +1,8 @@
 -- The work of a step on a host, compared with the same work without any other user.
-use Rattle.requests.proofs.CommonNames.{◌≡◌, ◌≢◌, ℕ, zero, suc, ◌+◌, ◌<◌, List, [], ◌∷◌, filter, map, true, ◌==◌, ◌&&◌, if◌then◌else◌, refl, sym, ap, ◌∙◌, arith, eqb-true, subst, eq-eqb, get_or}
-use Rattle.requests.proofs.CommonNames.{add-zero, ◌++◌, length, leb, set, get_or-set_other, length-set, IsUser, slot, users, rising, pid_owner, ProcData, is_live, of_user, Rows, Reply, Machine}
-use Rattle.requests.proofs.CommonNames.{Installed, installed_by, After, is_live_number, after, GoodProc, Debugger, Apart, filter-all, All-where, any_only, filter_same, Kept, Sim, own, is_own, named}
-use Rattle.requests.proofs.CommonNames.{AllByRecursion, list_any, choose_both, and_left, All-append, Rule, Outcome, refuses, install, slots_differ, put_at, length-map, Errno}
+use Rattle.requests.proofs.CommonNames.{◌≡◌, ◌≢◌, ℕ, zero, suc, ◌+◌, ◌<◌, List, [], ◌∷◌, filter, map, true, ◌==◌, ◌&&◌, if◌then◌else◌, refl, sym, ap, ◌∙◌, arith, eqb-true, subst, eq-eqb, get_or, nat_tests}
+use Rattle.requests.proofs.CommonNames.{◌++◌, length, leb, set, get_or-set_other, length-set, IsUser, slot, users, rising, pid_owner, ProcData, is_live, of_user, Rows, Reply, Machine, Installed}
+use Rattle.requests.proofs.CommonNames.{installed_by, After, is_live_number, after, GoodProc, Debugger, Apart, filter-all, All-where, any_only, filter_same, Kept, Sim, own, is_own, named, AllByRecursion}
+use Rattle.requests.proofs.CommonNames.{list_any, choose_both, and_left, All-append, Rule, Outcome, refuses, install, slots_differ, put_at, length-map, Errno}
 use Rattle.requests.proofs.IsolationOfNewRows.{answered, Same}
 use Rattle.std.proofs.Math.ListN.{get_or-map}
 
@@ -82,8 +82,7 @@ install_same {u} {m} {k} user apart t p policy here live = subst (λ xs. Stepped
 
 pub get_or_users : {X : Type 0} (f : ℕ → X) (count n k : ℕ) (d : X) → k < count → get_or (map f (rising count n)) k d ≡ f (n + k)
 get_or_users f zero n k d lt = absurd (omega arith)
-get_or_users f (suc count) n zero d lt = ap f (sym (add-zero n))
-get_or_users f (suc count) n (suc k) d lt = get_or_users f count (n + 1) k d (omega arith) ∙ ap f (omega arith)
+get_or_users f (suc count) n k d lt = grind (arith, nat_tests, get_or_users f count (n + 1), lt)
 
 pub at_slot : {X : Type 0} (f : ℕ → X) (u : ℕ) (d : X) → IsUser u → get_or (map f users) (slot u) d ≡ f u
 at_slot f u d user = get_or_users f 64 1001 (slot u) d (omega arith) ∙ ap f (omega arith)

@@ -1,13 +1,12 @@
 -- AllByRecursion step, on all rows and on a user's.
-use Rattle.requests.proofs.CommonNames.{nat_tests, ◌≡◌, ℕ, ℤ, pos, negsuc, List, [], ◌∷◌, filter, map, take, Bool, true, false, ◌==◌, ◌&&◌, ◌||◌, not, leb, if◌then◌else◌, Option, Some, None, is_some}
-use Rattle.requests.proofs.CommonNames.{IfSome, refl, sym, ap, ap₂, ◌∙◌, true≢false, eqb-true, subst, eq-eqb, arith, rules, pid_owner, tid_owner, EventMask, PTRACE_SCE, PTRACE_SCX, PTRACE_FORK, PTRACE_LWP}
-use Rattle.requests.proofs.CommonNames.{mask_with, SIGKILL, SIGSTOP, is_signal, set_disposition, Disposition, ProcData, State, Run, Trace, Job, Zombie, LwpData, lwp_of, first_lwp, is_live, process_of}
-use Rattle.requests.proofs.CommonNames.{of_user, traces, named_by, Rows, change_process, seen_process, seen_lwp, find_seen, Settings, Options, Collected, StatusKind, reported, collect, rows_after, LwpInfo}
-use Rattle.requests.proofs.CommonNames.{info, lwp_info, Rule, Decision, Request, Outcome, Numbers, room_for_process, plain, spawn_with, spawn, list, is_default, sigaction, collect_reply, wait, is_which}
-use Rattle.requests.proofs.CommonNames.{reach, post_if_live, post_all, reached, kill, traced_by, trace_me, stop_first, attach, told_stop, bad_argument, not_stepping, set_mask, continues_with, switched}
-use Rattle.requests.proofs.CommonNames.{shows_info, does, commands_stopped, commands, is_attach, about, process_by, target_of, is_trace_me, ptrace, decided, view_of, done, handles_stop, handles_status}
-use Rattle.requests.proofs.CommonNames.{handles, no_options, GoodProc, GoodLwp, All-where, Sim, own, row_query, rows_query, lwp_query, lwps_query, process_same, If_more, branch_rows, process_same_after}
-use Rattle.requests.proofs.CommonNames.{lwp_same_after, change_same, and_left, and_right, pid_in_block, tid_in_block, AllByRecursion, Reply}
+use Rattle.requests.proofs.CommonNames.{nat_tests, ◌≡◌, ℕ, ℤ, pos, negsuc, List, [], ◌∷◌, map, take, true, false, ◌==◌, ◌&&◌, ◌||◌, not, leb, if◌then◌else◌, Option, Some, None, is_some, IfSome, refl, sym}
+use Rattle.requests.proofs.CommonNames.{ap, ap₂, ◌∙◌, eqb-true, subst, eq-eqb, arith, pid_owner, tid_owner, EventMask, PTRACE_SCE, PTRACE_SCX, PTRACE_FORK, PTRACE_LWP, mask_with, SIGKILL, is_signal}
+use Rattle.requests.proofs.CommonNames.{set_disposition, Disposition, ProcData, State, Trace, LwpData, lwp_of, first_lwp, is_live, process_of, of_user, traces, named_by, Rows, seen_process, find_seen}
+use Rattle.requests.proofs.CommonNames.{Settings, Options, Collected, StatusKind, reported, collect, rows_after, info, lwp_info, Rule, Decision, Request, Numbers, room_for_process, spawn_with, spawn, list}
+use Rattle.requests.proofs.CommonNames.{is_default, sigaction, collect_reply, wait, is_which, reach, post_if_live, post_all, reached, kill, stop_first, attach, told_stop, bad_argument, not_stepping}
+use Rattle.requests.proofs.CommonNames.{set_mask, continues_with, switched, shows_info, does, commands_stopped, commands, is_attach, about, process_by, target_of, is_trace_me, ptrace, decided, view_of}
+use Rattle.requests.proofs.CommonNames.{done, handles_stop, handles_status, handles, no_options, GoodProc, GoodLwp, All-where, Sim, own, row_query, rows_query, lwp_query, lwps_query, process_same, If_more}
+use Rattle.requests.proofs.CommonNames.{branch_rows, process_same_after, lwp_same_after, change_same, and_left, and_right, pid_in_block, tid_in_block, AllByRecursion, Reply}
 use Rattle.std.proofs.Common.{option_map}
 use Rattle.row_isolation.proofs.FilteredLists.{find_some}
 use Rattle.row_isolation.proofs.IsolationOfSignals.{settle_same, is_numbered_foreign, own_some}
@@ -25,8 +24,7 @@ seen_some {u} {start} {c} s n = If_more _ (λ p. GoodProc p × (p.uid ≡ u) × 
 -- Spawn, list, sigaction and wait4
 
 spawn_with_same : {u : ℕ} {start c v : Rows} → Sim u start c v → (o : Option Numbers) → IfSome o (ProcessRoom u c) → Same u start (spawn_with u c o) (spawn_with u v o)
-spawn_with_same s None g = answered s _
-spawn_with_same {u} s (Some new) g = search (rules, answered, born_same, pid_in_block, tid_in_block)
+spawn_with_same s o g = grind (arith, nat_tests, answered, born_same, pid_in_block, tid_in_block)
 
 pub spawn_same : {u : ℕ} {start c v : Rows} → Sim u start c v → Same u start (spawn u c) (spawn u v)
 spawn_same {u} {start} {c} {v} s = subst (λ o. Same u start (spawn u c) (spawn_with u v o)) (room_for_process_same s) (spawn_with_same s (room_for_process u c) (process_room u c s.kept.closed.pid_cursor s.kept.closed.tid_cursor))
@@ -59,39 +57,25 @@ reached_same s settings sig [] all = answered s _
 reached_same {u} {start} {c} {v} s settings sig (p ∷ ps) all = answered (post_all_same settings sig (p ∷ ps) all c v s) _
 
 reach_same : {u : ℕ} {start c v : Rows} → Sim u start c v → (caller : ℕ) (which : ℤ) → reach u caller which c ≡ reach u caller which v
-reach_same s caller (pos n) = ap (filter (λ p. p.pid == n)) (of_user_same s)
-reach_same s caller (negsuc n) = ap (filter (λ p. not (p.pid == caller))) (of_user_same s)
+reach_same s caller which = grind (arith, nat_tests, of_user_same)
 
 reach_own : (u caller : ℕ) (which : ℤ) (c : Rows) → AllByRecursion GoodProc c.processes → AllByRecursion (λ p. pid_owner p.pid ≡ u) (reach u caller which c)
 reach_own u caller (pos n) c all = All-where (λ p. p.pid == n) (λ p. pid_owner p.pid ≡ u) (λ p. pid_owner p.pid ≡ u) (λ p g is. g) (of_user u c.processes) (All-where (own u) GoodProc (λ p. pid_owner p.pid ≡ u) (λ p good is. good.block ∙ eqb-true p.uid u is) c.processes all)
 reach_own u caller (negsuc n) c all = All-where (λ p. not (p.pid == caller)) (λ p. pid_owner p.pid ≡ u) (λ p. pid_owner p.pid ≡ u) (λ p g is. g) (of_user u c.processes) (All-where (own u) GoodProc (λ p. pid_owner p.pid ≡ u) (λ p good is. good.block ∙ eqb-true p.uid u is) c.processes all)
 
 pub kill_same : {u : ℕ} {start c v : Rows} → Sim u start c v → (settings : Settings) (caller : ℕ) (which : ℤ) (sig : ℕ) → Same u start (kill settings u caller which sig c) (kill settings u caller which sig v)
-kill_same {u} {start} {c} {v} s settings caller which sig = branch (not (leb sig 31) || not (is_which which)) _ refl (λ b. answered s _) (λ b.
-    subst (λ ps. Same u start (reached settings sig (reach u caller which c) c) (reached settings sig ps v)) (reach_same s caller which) (reached_same s settings sig (reach u caller which c) (reach_own u caller which c s.kept.closed.processes)))
+kill_same {u} {start} {c} {v} s settings caller which sig = grind (arith, nat_tests, branch, answered, reach_same s caller which, reached_same s settings sig (reach u caller which c) (reach_own u caller which c s.kept.closed.processes))
 
 -- Requests
-
-traced_same : {u : ℕ} {start c v : Rows} → Sim u start c v → (n tracer : ℕ) → pid_owner n ≡ u → pid_owner tracer ≡ u → Sim u start (change_process n (traced_by tracer) c) (change_process n (traced_by tracer) v)
-traced_same s n tracer here by = process_same_after s n here (traced_by tracer) (λ q good is e. (refl, refl, record { user = good.user; block = good.block; tracer = by ∙ sym is; parent = good.parent; reporting = good.reporting; collector = λ dead none. absurd (cc) }, λ live. live))
-
-pub trace_me_same : {u : ℕ} {start c v : Rows} → Sim u start c v → (p : ProcData) → GoodProc p → p.uid ≡ u → Same u start (trace_me p c) (trace_me p v)
-trace_me_same s p good mine = grind (arith, nat_tests, branch, is_some, answered, meets_same, traced_same, eq-eqb)
 
 first_some : {u : ℕ} {start c v : Rows} → Sim u start c v → (n : ℕ) → pid_owner n ≡ u → IfSome (first_lwp n c.lwps) (λ l. tid_owner l.tid ≡ u)
 first_some {u} {start} {c} s n here = If_more _ (λ l. tid_owner l.tid ≡ u) (λ l g. g.0.block ∙ ap pid_owner (eqb-true l.pid n g.1) ∙ here) (first_lwp n c.lwps) (find_some (λ l. l.pid == n) GoodLwp c.lwps s.kept.closed.lwps)
 
 stop_first_same : {u : ℕ} {start c v : Rows} → Sim u start c v → (n : ℕ) → pid_owner n ≡ u → (o : Option LwpData) → IfSome o (λ l. tid_owner l.tid ≡ u) → Sim u start (stop_first n o c) (stop_first n o v)
-stop_first_same s n here None g = s
-stop_first_same s n here (Some l) g = stop_same s n l.tid (plain SIGSTOP) here g
+stop_first_same s n here o g = grind (arith, nat_tests, stop_same)
 
 pub attach_same : {u : ℕ} {start c v : Rows} → Sim u start c v → (me p : ProcData) → pid_owner me.pid ≡ u → pid_owner p.pid ≡ u → Same u start (attach me p c) (attach me p v)
-attach_same {u} {start} {c} {v} s me p by here =
-    branch (p.pid == me.pid) _ refl (λ b. answered s _) (λ b.
-    branch (is_some p.tracer) _ refl (λ b. answered s _) (λ b.
-    branch _ _ (meets_same s 250 p.pid me.pid here) (λ b. answered s _) (λ b.
-    answered (subst (λ o. Sim u start (stop_first p.pid (first_lwp p.pid c.lwps) (change_process p.pid (traced_by me.pid) c)) (stop_first p.pid o (change_process p.pid (traced_by me.pid) v))) (lwp_query s (λ l. l.pid == p.pid) (λ l well is. ap pid_owner (eqb-true l.pid p.pid is) ∙ here))
-    (stop_first_same (traced_same s p.pid me.pid here by) p.pid here (first_lwp p.pid c.lwps) (first_some s p.pid here))) _)))
+attach_same s me p by here = grind (arith, nat_tests, branch, answered, meets_same, lwp_query, eqb-true, stop_first_same, first_some, process_same_after)
 
 not_stepping_same : {u : ℕ} {start c v : Rows} → Sim u start c v → (n : ℕ) → pid_owner n ≡ u → Sim u start (not_stepping n c) (not_stepping n v)
 not_stepping_same s n here = change_same s _ (λ p. p) (λ p l. record l { stepping = false }) (is_numbered_foreign n here) (λ p good is e. (refl, refl, good, λ live. live)) (λ p l good well. (refl, record { block = well.block; waits = well.waits }))
@@ -105,13 +89,7 @@ continues_with_same s settings mask sig p here = answered (resume_same (not_step
 pub lwp_of_same : {u : ℕ} {start c v : Rows} → Sim u start c v → (tid : ℕ) → tid_owner tid ≡ u → lwp_of tid c.lwps ≡ lwp_of tid v.lwps
 lwp_of_same s tid here = lwp_query s (λ l. l.tid == tid) (λ l well is. sym well.block ∙ ap tid_owner (eqb-true l.tid tid is) ∙ here)
 
-shows_info_same : {u : ℕ} {start c v : Rows} → Sim u start c v → (o : Option LwpInfo) → Same u start (shows_info o c) (shows_info o v)
-shows_info_same s None = answered s _
-shows_info_same s (Some i) = answered s _
-
 does_same : {u : ℕ} {start c v : Rows} → Sim u start c v → (settings : Settings) (r : Request) («data» tid : ℕ) (p : ProcData) → pid_owner p.pid ≡ u → tid_owner tid ≡ u → Same u start (does settings r «data» tid p c) (does settings r «data» tid p v)
-does_same s settings Request.TraceMe «data» tid p here t = answered s _
-does_same s settings Request.Attach «data» tid p here t = answered s _
 does_same s settings Request.Continue «data» tid p here t = continues_with_same s settings (λ mask. mask) «data» p here
 does_same s settings Request.Step «data» tid p here t = answered (resume_same (lwp_same_after (not_stepping_same s p.pid here) tid t (λ l. record l { stepping = true }) (λ l well is. (refl, record { block = well.block; waits = well.waits }))) settings p.pid «data» here) _
 does_same s settings Request.Suspend «data» tid p here t = answered (lwp_same_after s tid t (λ l. record l { suspended = true }) (λ l well is. (refl, record { block = well.block; waits = well.waits }))) _
@@ -119,8 +97,7 @@ does_same s settings Request.Resume «data» tid p here t = answered (lwp_same_a
 does_same s settings Request.Detach «data» tid p here t = answered (detach_same s settings p.pid «data» here) _
 does_same s settings Request.Kill «data» tid p here t = answered (resume_same s settings p.pid SIGKILL here) _
 does_same s settings Request.SetEventMask «data» tid p here t = answered (set_mask_same s (λ mask. record { 0 = «data» }) p.pid here) _
-does_same s settings Request.GetEventMask «data» tid p here t = answered s _
-does_same {u} {start} {c} {v} s settings Request.LwpInfo «data» tid p here t = subst (λ o. Same u start (shows_info (info p tid c) c) (shows_info o v)) (ap (option_map (lwp_info _)) (lwp_of_same s tid t)) (shows_info_same s (info p tid c))
+does_same {u} {start} {c} {v} s settings Request.LwpInfo «data» tid p here t = subst (λ o. Same u start (shows_info (info p tid c) c) (shows_info o v)) (ap (option_map (lwp_info _)) (lwp_of_same s tid t)) (grind (arith, nat_tests, answered))
 does_same s settings Request.GetNumLwps «data» tid p here t = record { rows = s; reply = ap Reply.Number (lwp_count_same s p.pid here) }
 does_same s settings Request.GetLwpList «data» tid p here t = record { rows = s; reply = ap (λ ls. Reply.Lwps (take «data» (map (λ l. l.tid) ls))) (lwps_query s (λ l. l.pid == p.pid) (λ l well is. ap pid_owner (eqb-true l.pid p.pid is) ∙ here)) }
 does_same s settings Request.ToSce «data» tid p here t = continues_with_same s settings (λ mask. mask_with mask PTRACE_SCE) «data» p here
@@ -128,21 +105,11 @@ does_same s settings Request.ToScx «data» tid p here t = continues_with_same s
 does_same s settings Request.Syscall «data» tid p here t = continues_with_same s settings (λ mask. mask_with (mask_with mask PTRACE_SCE) PTRACE_SCX) «data» p here
 does_same s settings Request.FollowFork «data» tid p here t = answered (set_mask_same s (switched PTRACE_FORK «data») p.pid here) _
 does_same s settings Request.LwpEvents «data» tid p here t = answered (set_mask_same s (switched PTRACE_LWP «data») p.pid here) _
+does_same s settings r «data» tid p here t = answered s _
 
 commands_stopped_same : {u : ℕ} {start c v : Rows} → Sim u start c v → (settings : Settings) (r : Request) (target «data» : ℕ) (p : ProcData) → pid_owner p.pid ≡ u → (leb target 99999 ≡ false → tid_owner target ≡ u) → (o : Option ℕ) → IfSome o (λ t. tid_owner t ≡ u) → Same u start (commands_stopped settings r target «data» p c o) (commands_stopped settings r target «data» p v o)
 commands_stopped_same s settings r target «data» p here lwp None g = answered s _
-commands_stopped_same {u} s settings r target «data» p here lwp (Some tid) g = branch (bad_argument r «data») _ refl (λ b. answered s _) (λ b. does_same s settings r «data» (if leb target 99999 then tid else target) p here (by_target (leb target 99999) refl))
-  where
-    by_target : (b : Bool) → leb target 99999 ≡ b → tid_owner (if b then tid else target) ≡ u
-    by_target true is = g
-    by_target false is = lwp is
-
-told_own : (u : ℕ) (st : State) → IfSome (named_by st) (λ t. tid_owner t ≡ u) → IfSome (told_stop st) (λ t. tid_owner t ≡ u)
-told_own u Run g = tt
-told_own u (Trace tid sig true) g = g
-told_own u (Trace tid sig false) g = tt
-told_own u (Job sig told) g = tt
-told_own u (Zombie w) g = tt
+commands_stopped_same {u} s settings r target «data» p here lwp (Some tid) g = branch (bad_argument r «data») _ refl (λ b. answered s _) (λ b. does_same s settings r «data» (if leb target 99999 then tid else target) p here (grind (arith, nat_tests, g, lwp)))
 
 abbrev pub Target : ℕ → ℕ → ProcData → Type 0
 Target u target p = GoodProc p × (p.uid ≡ u) × (leb target 99999 ≡ false → tid_owner target ≡ u)
@@ -151,7 +118,7 @@ commands_same : {u : ℕ} {start c v : Rows} → Sim u start c v → (settings :
 commands_same {u} s settings me r target «data» p g =
     branch (not (is_some p.tracer)) _ refl (λ b. answered s _) (λ b.
     branch (not (traces me.pid p)) _ refl (λ b. answered s _) (λ b.
-    commands_stopped_same s settings r target «data» p (g.0.block ∙ g.1) g.2 (told_stop p.state) (told_own u p.state (subst (λ w. IfSome (named_by p.state) (λ t. tid_owner t ≡ w)) g.1 g.0.reporting))))
+    commands_stopped_same s settings r target «data» p (g.0.block ∙ g.1) g.2 (told_stop p.state) (grind (arith, nat_tests))))
 
 about_same : {u : ℕ} {start c v : Rows} → Sim u start c v → (settings : Settings) (me : ProcData) (r : Request) (target «data» : ℕ) → pid_owner me.pid ≡ u → (o : Option ProcData) → IfSome o (Target u target) → Same u start (about settings me r target «data» o c) (about settings me r target «data» o v)
 about_same s settings me r target «data» by None g = answered s _
@@ -163,51 +130,33 @@ find_same : {u : ℕ} {start c v : Rows} → Sim u start c v → (target : ℕ) 
 find_same s target = ap₂ (λ (o : Option ProcData) (q : Option LwpData). if leb target 99999 then option_map (λ p. p.pid) o else option_map (λ l. l.pid) q) (seen_same s target) (seen_lwp_same s target)
 
 find_facts : {u : ℕ} {start c v : Rows} → Sim u start c v → (target : ℕ) → IfSome (find_seen u target c) (λ n. (pid_owner n ≡ u) × (leb target 99999 ≡ false → tid_owner target ≡ u))
-find_facts {u} {start} {c} s target = by_size (leb target 99999) refl (seen_process u target c) (seen_lwp u target c) (seen_some s target) (seen_lwp_some s target)
-  where
-    by_size : (b : Bool) → leb target 99999 ≡ b → (o : Option ProcData) (q : Option LwpData) → IfSome o (λ p. GoodProc p × (p.uid ≡ u) × (p.pid ≡ target)) → IfSome q (λ l. GoodLwp l × (pid_owner l.pid ≡ u) × (l.tid ≡ target))
-        → IfSome (if b then option_map (λ p. p.pid) o else option_map (λ l. l.pid) q) (λ n. (pid_owner n ≡ u) × (leb target 99999 ≡ false → tid_owner target ≡ u))
-    by_size true is None q g h = tt
-    by_size true is (Some p) q g h = (g.0.block ∙ g.1, λ big. absurd (true≢false (sym is ∙ big)))
-    by_size false is o None g h = tt
-    by_size false is o (Some l) g h = (h.1, λ big. ap tid_owner (sym h.2) ∙ h.0.block ∙ h.1)
+find_facts s target = grind (arith, nat_tests, seen_some s target, seen_lwp_some s target)
 
 by_same : {u : ℕ} {start c v : Rows} → Sim u start c v → (o : Option ℕ) → IfSome o (λ n. pid_owner n ≡ u) → process_by c o ≡ process_by v o
-by_same s None g = refl
-by_same s (Some n) g = process_same s n g
+by_same s o g = grind (arith, nat_tests, process_same)
 
 target_same : {u : ℕ} {start c v : Rows} → Sim u start c v → (target : ℕ) → target_of u target c ≡ target_of u target v
 target_same {u} {start} {c} {v} s target = by_same s (find_seen u target c) (If_more _ (λ n. pid_owner n ≡ u) (λ n g. g.0) (find_seen u target c) (find_facts s target)) ∙ ap (process_by v) (find_same s target)
 
-target_facts : {u : ℕ} {start c v : Rows} → Sim u start c v → (target : ℕ) → IfSome (target_of u target c) (Target u target)
-target_facts {u} {start} {c} s target = by_number (find_seen u target c) (find_facts s target)
-  where
-    by_number : (o : Option ℕ) → IfSome o (λ n. (pid_owner n ≡ u) × (leb target 99999 ≡ false → tid_owner target ≡ u)) → IfSome (process_by c o) (Target u target)
-    by_number None g = tt
-    by_number (Some n) g = If_more _ (Target u target) (λ p h. (h.0, h.1, g.1)) (process_of n c.processes) (own_some s n g.0)
-
 pub ptrace_same : {u : ℕ} {start c v : Rows} → Sim u start c v → (settings : Settings) (me : ProcData) (r : Request) (target «data» : ℕ) → GoodProc me → me.uid ≡ u → Same u start (ptrace settings u me r target «data» c) (ptrace settings u me r target «data» v)
-ptrace_same {u} {start} {c} {v} s settings me r target «data» good mine = branch (is_trace_me r) _ refl (λ b. trace_me_same s me good mine) (λ b.
-    subst (λ o. Same u start (about settings me r target «data» (target_of u target c) c) (about settings me r target «data» o v)) (target_same s target) (about_same s settings me r target «data» (good.block ∙ mine) (target_of u target c) (target_facts s target)))
+ptrace_same {u} {start} {c} {v} s settings me r target «data» good mine = branch (is_trace_me r) _ refl (λ b. (grind (arith, nat_tests, branch, answered, meets_same, eq-eqb, process_same_after))) (λ b.
+    subst (λ o. Same u start (about settings me r target «data» (target_of u target c) c) (about settings me r target «data» o v)) (target_same s target) (about_same s settings me r target «data» (good.block ∙ mine) (target_of u target c) (grind (arith, nat_tests, find_facts s target, own_some s))))
 
 -- Handlers
 
 done_same : {u : ℕ} {start c v : Rows} → Sim u start c v → (settings : Settings) (d : Decision) (p : ProcData) → pid_owner p.pid ≡ u → Sim u start (done settings d p c) (done settings d p v)
-done_same s settings Decision.Decline p here = s
-done_same s settings Decision.Leave p here = s
 done_same s settings (Decision.Continue sig) p here = (continues_with_same s settings (λ mask. mask) sig p here).rows
 done_same s settings (Decision.Detach sig) p here = detach_same s settings p.pid sig here
 done_same s settings Decision.Kill p here = resume_same s settings p.pid SIGKILL here
+done_same s settings d p here = s
 
 handles_stop_same : {u : ℕ} {start c v : Rows} → Sim u start c v → (settings : Settings) (policies : List (List Rule)) (p : ProcData) (tid sig : ℕ) (status : StatusKind) → pid_owner p.pid ≡ u → (o : Option LwpData) → Same u start (handles_stop settings policies p tid sig status c o) (handles_stop settings policies p tid sig status v o)
 handles_stop_same s settings policies p tid sig status here None = answered s _
 handles_stop_same s settings policies p tid sig status here (Some l) = answered (done_same s settings (decided policies 0 (view_of p tid sig l)).decision p here) _
 
 handles_status_same : {u : ℕ} {start c v : Rows} → Sim u start c v → (settings : Settings) (policies : List (List Rule)) (status : StatusKind) (p : ProcData) → pid_owner p.pid ≡ u → (st : State) → IfSome (named_by st) (λ t. tid_owner t ≡ u) → Same u start (handles_status settings policies status p c st) (handles_status settings policies status p v st)
-handles_status_same s settings policies status p here Run g = answered s _
 handles_status_same {u} {start} {c} {v} s settings policies status p here (Trace tid sig told) g = subst (λ o. Same u start (handles_stop settings policies p tid sig status c (lwp_of tid c.lwps)) (handles_stop settings policies p tid sig status v o)) (lwp_of_same s tid g) (handles_stop_same s settings policies p tid sig status here (lwp_of tid c.lwps))
-handles_status_same s settings policies status p here (Job sig told) g = answered s _
-handles_status_same s settings policies status p here (Zombie w) g = answered s _
+handles_status_same s settings policies status p here st g = answered s _
 
 handles_same : {u : ℕ} {start c v d w : Rows} → Sim u start c v → Sim u start d w → (settings : Settings) (policies : List (List Rule)) (o : Option ProcData) → IfSome o (λ p. GoodProc p × (p.uid ≡ u)) → (k : Collected) → Same u start (handles settings policies c d o k) (handles settings policies v w o k)
 handles_same s t settings policies o g Collected.NoChild = answered s _
@@ -219,10 +168,4 @@ handles_same {u} s t settings policies (Some p) g (Collected.Got pid status) = h
 pub handle_same : {u : ℕ} {start c v : Rows} → Sim u start c v → (settings : Settings) (policies : List (List Rule)) (n : ℕ) → pid_owner n ≡ u
     → Same u start (handles settings policies c (rows_after n (negsuc 0) no_options c) (reported n (negsuc 0) no_options c) (collect n (negsuc 0) no_options c))
     (handles settings policies v (rows_after n (negsuc 0) no_options v) (reported n (negsuc 0) no_options v) (collect n (negsuc 0) no_options v))
-handle_same {u} {start} {c} {v} s settings policies n here =
-    subst (λ k. Same u start before (handles settings policies v (rows_after n (negsuc 0) no_options v) (reported n (negsuc 0) no_options v) k)) (collect_same s n (negsuc 0) no_options here)
-    (subst (λ o. Same u start before (handles settings policies v (rows_after n (negsuc 0) no_options v) o (collect n (negsuc 0) no_options c))) (reported_same s n (negsuc 0) no_options here)
-    (handles_same s (rows_after_same s n (negsuc 0) no_options here) settings policies (reported n (negsuc 0) no_options c) (reported_some s n (negsuc 0) no_options here) (collect n (negsuc 0) no_options c)))
-  where
-    before : Outcome
-    before = handles settings policies c (rows_after n (negsuc 0) no_options c) (reported n (negsuc 0) no_options c) (collect n (negsuc 0) no_options c)
+handle_same {u} {start} {c} {v} s settings policies n here = grind (arith, nat_tests, collect_same s n (negsuc 0) no_options here, reported_same s n (negsuc 0) no_options here, handles_same s (rows_after_same s n (negsuc 0) no_options here) settings policies (reported n (negsuc 0) no_options c) (reported_some s n (negsuc 0) no_options here) (collect n (negsuc 0) no_options c))

@@ -1,5 +1,6 @@
 -- Words that are written one after another, each after what precedes it.
-use Rattle.requests.proofs.CommonNames.{◌≡◌, ℕ, List, [], ◌∷◌, ◌++◌, map, codes, decimal, refl, sym, ap, ◌∙◌, append-nil, Option, join_with_byte, flat_map, append_assoc, Decision, StatusKind, Reply}
+use Rattle.requests.proofs.CommonNames.{◌≡◌, ℕ, List, [], ◌∷◌, ◌++◌, map, codes, decimal, refl, sym, ap, append-nil, Option, join_with_byte, flat_map, append_assoc, Decision, StatusKind, Reply, arith}
+use Rattle.requests.proofs.CommonNames.{nat_tests}
 use Rattle.requests.specs.Texts.{view_words}
 use Rattle.requests.specs.Words.{reply_words, decision_words, index_text, flags_word}
 use Rattle.stop_handlers.specs.declared.StopView.{StopView}
@@ -21,21 +22,13 @@ handled_front pid status view index rest =
 join_append : (byte : ℕ) (x : List ℕ) (xs : List (List ℕ)) (y : List ℕ) (ys : List (List ℕ))
     → join_with_byte byte (x ∷ xs) ++ (byte ∷ join_with_byte byte (y ∷ ys)) ≡ join_with_byte byte (x ∷ (xs ++ y ∷ ys))
 join_append byte x [] y ys = refl
-join_append byte x (v ∷ vs) y ys =
-    append_assoc x (byte ∷ join_with_byte byte (v ∷ vs)) (byte ∷ join_with_byte byte (y ∷ ys))
-    ∙ ap (λ text. x ++ (byte ∷ text)) (join_append byte v vs y ys)
+join_append byte x (v ∷ vs) y ys = grind (arith, nat_tests, append_assoc, join_append byte v vs y ys)
 
 handled_list : (pid : ℕ) (status : StatusKind) (view : StopView) (index : Option ℕ) (d : List (List ℕ))
     → codes "handled " ++ (decimal pid ++ (codes " " ++ (decimal (word status) ++ (codes " at " ++ (join_with_byte 32 (view_words view) ++ (32 ∷ join_with_byte 32 (codes "by" ∷ index_text index ∷ d)))))))
     ≡ codes "handled " ++ (decimal pid ++ (codes " " ++ (decimal (word status) ++ (codes " at " ++ join_with_byte 32 (view_words view ++ (codes "by" ∷ index_text index ∷ d))))))
-handled_list pid status view index d =
-    ap (λ text. codes "handled " ++ (decimal pid ++ (codes " " ++ (decimal (word status) ++ (codes " at " ++ text)))))
-    (join_append 32 (decimal view.tid) ((codes "signal=" ++ decimal view.sig) ∷ flags_word view.flags ∷ (codes "child=" ++ decimal view.child) ∷ (codes "code=" ++ decimal view.code) ∷ []) (codes "by") (index_text index ∷ d))
+handled_list pid status view index d = grind (arith, nat_tests, join_append 32 (decimal view.tid) ((codes "signal=" ++ decimal view.sig) ∷ flags_word view.flags ∷ (codes "child=" ++ decimal view.child) ∷ (codes "code=" ++ decimal view.code) ∷ []) (codes "by") (index_text index ∷ d))
 
 pub handled_words : (pid : ℕ) (status : StatusKind) (view : StopView) (index : Option ℕ) (d : Decision)
     → handled_front pid status view index (join_with_byte 32 (decision_words d)) ≡ join_with_byte 32 (reply_words (Reply.Handled pid status view index d))
-handled_words pid status view index Decision.Decline = handled_list pid status view index (decision_words Decision.Decline)
-handled_words pid status view index Decision.Leave = handled_list pid status view index (decision_words Decision.Leave)
-handled_words pid status view index (Decision.Continue n) = handled_list pid status view index (decision_words (Decision.Continue n))
-handled_words pid status view index (Decision.Detach n) = handled_list pid status view index (decision_words (Decision.Detach n))
-handled_words pid status view index Decision.Kill = handled_list pid status view index (decision_words Decision.Kill)
+handled_words pid status view index d = grind (arith, nat_tests, handled_list)

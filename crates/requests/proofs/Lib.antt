@@ -10,7 +10,7 @@ pub mod Disposing
 pub mod Others
 pub mod Remaining
 pub mod Sending
-pub mod Refusing
+pub mod Outcomes
 pub mod RefusalsChangeNothing
 pub mod IsolationOfNewRows
 pub mod IsolationOfTurns
@@ -40,8 +40,6 @@ pub mod SoundAfterFork
 pub mod SoundAfterTurn
 pub mod SoundAfterHandle
 pub mod StaysSound
-pub mod Enduring
-pub mod ProcessesEndure
 pub mod PerStep
 pub mod Handled
 pub mod Joins

@@ -1,9 +1,8 @@
 -- The tables by kinds of steps: a new kind has a line in each. What the work of a kind does is proved in the files that are
 -- used here, and what holds of every step in those that use this one.
-use Rattle.requests.proofs.CommonNames.{◌≡◌, ℕ, true, Some, refl, ◌∙◌, rules, ProcData, PlainStep, Machine, calls, caller_of, Act, Step, None, List, false, subst, IsUser, Reply, Outcome}
-use Rattle.requests.proofs.CommonNames.{after, step_fits, sound, Steps, Rule, length, installed_by, bare, with_handler, uncalled, installs, outcome_of, filter, map, ◌==◌, leb, Settings}
-use Rattle.requests.proofs.CommonNames.{is_live_number, turn, GoodProc, Apart, own, policies_of, handles, no_options, kill, ptrace, collect, reported, rows_after, negsuc, sigaction, list}
-use Rattle.requests.proofs.CommonNames.{wait, EINVAL, EAGAIN, room_for_process, spawn, is_refused}
+use Rattle.requests.proofs.CommonNames.{◌≡◌, ℕ, true, Some, refl, ◌∙◌, rules, ProcData, PlainStep, Machine, calls, caller_of, Act, Step, None, List, false, subst, IsUser, Reply, Outcome, after, step_fits}
+use Rattle.requests.proofs.CommonNames.{sound, Steps, Rule, bare, with_handler, uncalled, installs, outcome_of, filter, map, ◌==◌, Settings, is_live_number, turn, GoodProc, Apart, own, policies_of}
+use Rattle.requests.proofs.CommonNames.{handles, no_options, kill, ptrace, collect, reported, rows_after, negsuc, sigaction, list, wait, room_for_process, spawn}
 use Rattle.requests.specs.Callers.{IsCaller}
 use Rattle.requests.specs.Making.{Makes}
 use Rattle.requests.proofs.SoundWithoutEnded.{rows_sound, after_sound}
@@ -12,35 +11,27 @@ use Rattle.requests.proofs.IsolationOfTurns.{turn_same}
 use Rattle.requests.proofs.IsolationOfSteps.{spawn_same, list_same, sigaction_same, wait_same, kill_same, ptrace_same, handle_same}
 use Rattle.requests.specs.Handle.{handle}
 use Rattle.requests.proofs.Born.{spawn_sound}
-use Rattle.requests.proofs.SoundAfterCall.{sigaction_rows, wait_rows, choose}
+use Rattle.requests.proofs.SoundAfterCall.{sigaction_rows, wait_rows}
 use Rattle.requests.proofs.SoundAfterKill.{kill_rows, installed_sound}
 use Rattle.requests.proofs.SoundAfterHandle.{handles_sound}
 use Rattle.requests.proofs.SoundAfterRequest.{ptrace_rows}
 use Rattle.requests.proofs.SoundAfterTurn.{turn_sound}
 use Rattle.requests.proofs.IsolationOfHosts.{after_same, install_same, Twin, Stepped}
-use Rattle.requests.proofs.Enduring.{all_live, turn_endures, ptrace_endures, spawn_endures, sigaction_endures, report_live, wait_endures, handles_endures, same_rows, Enduring, kill_endures}
-use Rattle.requests.proofs.Refusing.{left, done, turn_fair, ptrace_fair, spawn_fair, kill_fair, wait_fair, handles_fair, hosted, install_fair, Fair, FairStep}
+use Rattle.requests.proofs.Outcomes.{left, never, turn_fair, ptrace_fair, spawn_fair, sigaction_fair, kill_fair, wait_fair, handle_fair, hosted, install_fair, FairStep}
 
 -- ---- the kinds of steps
 
 -- a spawn, a turn, or a step of a caller
 pub by_step : (R : PlainStep → Type 0) → R Step.Spawn → ((tid : ℕ) (a : Act) → R (Step.Turn tid a)) → ((s : PlainStep) (n : ℕ) → caller_of s ≡ Some n → R s) → (s : PlainStep) → R s
 by_step R spawns turns calls Step.Spawn = spawns
-by_step R spawns turns calls (Step.List n) = calls (Step.List n) n refl
-by_step R spawns turns calls (Step.Sigaction n s d) = calls (Step.Sigaction n s d) n refl
-by_step R spawns turns calls (Step.Kill n which s) = calls (Step.Kill n which s) n refl
-by_step R spawns turns calls (Step.Wait4 n which options) = calls (Step.Wait4 n which options) n refl
-by_step R spawns turns calls (Step.Install n policy) = calls (Step.Install n policy) n refl
-by_step R spawns turns calls (Step.Handle n) = calls (Step.Handle n) n refl
-by_step R spawns turns calls (Step.Ptrace n r target «data») = calls (Step.Ptrace n r target «data») n refl
 by_step R spawns turns calls (Step.Turn tid a) = turns tid a
+by_step R spawns turns calls s = calls s _ refl
 
 -- ---- installs, and all others
 
 -- a step that isn't an install
 pub other_kind : {A : Type 0} (s : Step A) → ((n : ℕ) (own : A) → s ≡ Step.Install n own → ⊥) → installs (bare s) ≡ false
-other_kind (Step.Install n own) none = absurd (none n own refl)
-other_kind s none = refl
+other_kind s none = search (rules, own)
 
 -- it needs no handler
 pub made_bare : {A : Type 0} (u : ℕ) (s : Step A) (m n : Machine) (r : Reply) → installs (bare s) ≡ false → Steps u (bare s) m n r → Makes u (with_handler None s) m n (Some r)
@@ -48,8 +39,7 @@ made_bare u (Step.Install caller own) m n r other made = absurd (cc)
 made_bare u s m n r other made = made
 
 pub steps_made : (u : ℕ) (s : PlainStep) (m n : Machine) (r : Reply) → Makes u (with_handler {B = List Rule} None s) m n (Some r) → Steps u s m n r
-steps_made u (Step.Install caller own) m n r h = let none = h.0 in absurd (cc)
-steps_made u s m n r h = h
+steps_made u s m n r h = search (rules, own)
 
 -- it changes the installed policies only as processes end
 pub uncalled_after : (u : ℕ) (s : PlainStep) (m : Machine) → uncalled u s m ≡ after m (outcome_of (uncalled u s m))
@@ -74,31 +64,17 @@ calls_sound u (Step.Handle n) p m user fits is c = after_sound m (handle u p m) 
 calls_sound u (Step.Ptrace n r target «data») p m user fits is c = after_sound m (ptrace m.settings u p r target «data» m.rows) is (ptrace_rows m.settings u p r target «data» m.rows (rows_sound m is) c)
 calls_sound u (Step.Turn tid a) p m user fits is c = turn_sound m u tid a fits is
 
--- one that is refused changes nothing
-pub calls_fair : (u : ℕ) (s : PlainStep) (p : ProcData) (m : Machine) → FairStep m (calls u s p m)
-calls_fair u Step.Spawn p m = hosted m (spawn u m.rows) (spawn_fair u m.rows (room_for_process u m.rows))
-calls_fair u (Step.List caller) p m = hosted m (list u m.rows) (left m.rows _ refl)
-calls_fair u (Step.Sigaction caller s d) p m = hosted m (sigaction p s d m.rows) (choose (is_refused s d) _ _ (Fair m.rows) (left m.rows (Reply.Errno EINVAL) refl) (done m.rows _ _ refl refl))
-calls_fair u (Step.Kill caller which s) p m = hosted m (kill m.settings u p.pid which s m.rows) (kill_fair m.settings u p.pid which s m.rows)
-calls_fair u (Step.Wait4 caller which options) p m = hosted m (wait p which options m.rows) (wait_fair p which options m.rows)
-calls_fair u (Step.Install caller policy) p m = install_fair u p policy m
-calls_fair u (Step.Handle caller) p m = search (rules, hosted, handles_fair)
-calls_fair u (Step.Ptrace caller r target «data») p m = hosted m (ptrace m.settings u p r target «data» m.rows) (ptrace_fair m.settings u p r target «data» m.rows)
-calls_fair u (Step.Turn tid a) p m = hosted m (turn m.settings u tid a m.rows) (turn_fair m.settings u tid a m.rows)
-
--- it ends none but the processes that it may end
-pub calls_enduring : (u : ℕ) (s : PlainStep) (p : ProcData) (m : Machine) → Enduring s m (calls u s p m)
-calls_enduring u Step.Spawn p m = record { lives = (spawn_endures u m.rows (room_for_process u m.rows)).lives }
-calls_enduring u (Step.List caller) p m = same_rows (Step.List caller) m _
-calls_enduring u (Step.Sigaction caller s d) p m = record { lives = (sigaction_endures p s d m.rows).lives }
-calls_enduring u (Step.Kill caller which s) p m = record { lives = λ mild. kill_endures m.settings s mild u p.pid which m.rows }
-calls_enduring u (Step.Wait4 caller which options) p m = record { lives = (wait_endures p which options m.rows).lives }
-calls_enduring u (Step.Install caller policy) p m = choose (leb 64 (length (installed_by u m))) _ _ (Enduring (Step.Install caller policy) m) (same_rows (Step.Install caller policy) m (Reply.Errno EAGAIN)) (record { lives = λ is. all_live m.rows.processes })
-calls_enduring u (Step.Handle caller) p m = record {
-  lives = (handles_endures m.settings (policies_of u p m) m.rows (rows_after p.pid (negsuc 0) no_options m.rows) (reported p.pid (negsuc 0) no_options m.rows) (collect p.pid (negsuc 0) no_options m.rows) (report_live p.pid (reported p.pid (negsuc 0) no_options m.rows) m.rows)).lives;
-}
-calls_enduring u (Step.Ptrace caller r target «data») p m = record { lives = (ptrace_endures m.settings u p r target «data» m.rows).lives }
-calls_enduring u (Step.Turn tid a) p m = record { lives = (turn_endures m.settings u tid a m.rows).lives }
+-- one that is refused changes nothing, none is out of memory, and it ends none but the processes that it may end
+pub calls_fair : (u : ℕ) (s : PlainStep) (p : ProcData) (m : Machine) → FairStep s m (calls u s p m)
+calls_fair u Step.Spawn p m = hosted _ m (spawn u m.rows) (spawn_fair u m.rows (room_for_process u m.rows))
+calls_fair u (Step.List caller) p m = hosted _ m (list u m.rows) (left never m.rows _ refl)
+calls_fair u (Step.Sigaction caller s d) p m = hosted _ m (sigaction p s d m.rows) (sigaction_fair p s d m.rows)
+calls_fair u (Step.Kill caller which s) p m = hosted _ m (kill m.settings u p.pid which s m.rows) (kill_fair m.settings u p.pid which s m.rows)
+calls_fair u (Step.Wait4 caller which options) p m = hosted _ m (wait p which options m.rows) (wait_fair p which options m.rows)
+calls_fair u (Step.Install caller policy) p m = install_fair u caller p policy m
+calls_fair u (Step.Handle caller) p m = hosted _ m (handle u p m) (handle_fair m.settings (policies_of u p m) p.pid m.rows)
+calls_fair u (Step.Ptrace caller r target «data») p m = hosted _ m (ptrace m.settings u p r target «data» m.rows) (ptrace_fair m.settings u p r target «data» m.rows)
+calls_fair u (Step.Turn tid a) p m = hosted _ m (turn m.settings u tid a m.rows) (turn_fair m.settings u tid a m.rows)
 
 -- it does the same on what its user sees of the host
 pub calls_same : {u : ℕ} {m k : Machine} → IsUser u → Apart m → Twin u m k → (s : PlainStep) (p : ProcData) → GoodProc p → p.uid ≡ u → is_live_number m.rows p.pid ≡ true → Stepped u m (calls u s p m) (calls u s p k)

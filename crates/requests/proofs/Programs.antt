@@ -1,9 +1,9 @@
 -- The changes that make an exec.
-use Rattle.requests.proofs.CommonNames.{nat_tests, ◌≡◌, ◌≢◌, ℕ, ◌<◌, Bool, true, false, List, [], ◌∷◌, length, filter, find, map, filter_map, nat_eq, refl, sym, ap, ◌∙◌, arith, inl, inr, Option, Some, None}
-use Rattle.requests.proofs.CommonNames.{true≢false, subst, eqb-true, rules, AllByRecursion, cases_Bool, after_exec, LwpData, Mode, User, InCall, VforkWait, LacksLwp, Differ, lwp_of, first_lwp, next_lwp}
-use Rattle.requests.proofs.CommonNames.{without_lwp, ProcData, process_of, Rows, by_owner, each, change_process, InOwnersBlock, drop_lwp, same_number, other_number, process_of-pid, changed_lwp, map-id}
-use Rattle.requests.proofs.CommonNames.{filter_map-map, every_untested, found_tested, waits_where, released, IsLiveChild, waited_for, Standing, WithOwner, IsSound, All-imply, All-both, any_holds, find_some}
-use Rattle.requests.proofs.CommonNames.{the_row, the_lwp, own_lwps, IsActing, HasLwp, settle, in_mode, exec_rows}
+use Rattle.requests.proofs.CommonNames.{nat_tests, ◌≡◌, ◌≢◌, ℕ, ◌<◌, Bool, true, false, List, [], ◌∷◌, length, filter, find, map, filter_map, nat_eq, refl, sym, ap, ◌∙◌, arith, Option, Some, None}
+use Rattle.requests.proofs.CommonNames.{true≢false, eqb-true, rules, AllByRecursion, cases_Bool, after_exec, LwpData, User, LacksLwp, Differ, lwp_of, first_lwp, next_lwp, without_lwp, ProcData, process_of}
+use Rattle.requests.proofs.CommonNames.{Rows, by_owner, each, change_process, InOwnersBlock, drop_lwp, same_number, other_number, process_of-pid, changed_lwp, map-id, filter_map-map, every_untested}
+use Rattle.requests.proofs.CommonNames.{found_tested, released, IsLiveChild, Standing, WithOwner, IsSound, All-imply, All-both, any_holds, find_some, the_row, the_lwp, own_lwps, IsActing, HasLwp, settle}
+use Rattle.requests.proofs.CommonNames.{in_mode, exec_rows}
 use Rattle.std.specs.Prelude.{not, ◌==◌, if◌then◌else◌}
 use Rattle.proc_table.specs.Edits.{own_lwp}
 use Rattle.trace_stop.proofs.Children.{child_test, child_from}
@@ -17,21 +17,11 @@ use Rattle.std.proofs.lemmas.List.Sums.{length-filter, count_by-le-length}
 module _ (pid tid : ℕ) where
   pub other_none : (ls : List LwpData) → first_lwp pid ls ≡ None → find (is_other pid tid) ls ≡ None
   other_none [] none = refl
-  other_none (l ∷ ls) none = elim (cases_Bool (nat_eq l.pid pid)) [
-    | inl e ↦ absurd (let h : Some l ≡ None = rw e at none in cc)
-    | inr e ↦ rw e (other_none ls (rw e at none))
-  ]
+  other_none (l ∷ ls) none = grind (arith, nat_tests, other_none ls, none)
 
   pub other_first : (f : LwpData) (ls : List LwpData) → first_lwp pid ls ≡ Some f → nat_eq f.tid tid ≡ false → find (is_other pid tid) ls ≡ Some f
   other_first f [] first apart = absurd (cc)
-  other_first f (l ∷ ls) first apart = elim (cases_Bool (nat_eq l.pid pid)) [
-    | inl e ↦
-        let its : Some l ≡ Some f = rw e at first in
-        let same : l ≡ f = cc in
-        let off : nat_eq l.tid tid ≡ false = rw same apart in
-        rw (e, off) its
-    | inr e ↦ rw e (other_first f ls (rw e at first) apart)
-  ]
+  other_first f (l ∷ ls) first apart = grind (arith, nat_tests, other_first f ls, first, apart)
 
   other_rest : (ls : List LwpData) → LacksLwp tid ls → find (is_other pid tid) ls ≡ first_lwp pid ls
   other_rest [] lacks = refl
@@ -39,70 +29,46 @@ module _ (pid tid : ℕ) where
 
   first_lacks : (f : LwpData) (ls : List LwpData) → first_lwp pid ls ≡ Some f → LacksLwp f.tid ls → ⊥
   first_lacks f [] first lacks = cc
-  first_lacks f (l ∷ ls) first lacks = elim (cases_Bool (nat_eq l.pid pid)) [
-    | inl e ↦ let its : Some l ≡ Some f = rw e at first in let same : l ≡ f = cc in lacks.0 (ap (λ k. k.tid) same)
-    | inr e ↦ first_lacks f ls (rw e at first) lacks.1
-  ]
+  first_lacks f (l ∷ ls) first lacks = grind (arith, nat_tests, first_lacks f ls, first, lacks)
 
   pub other_next : (f : LwpData) (ls : List LwpData) → Differ ls → first_lwp pid ls ≡ Some f → f.tid ≡ tid → find (is_other pid tid) ls ≡ next_lwp pid tid ls
   other_next f [] d first same = absurd (cc)
-  other_next f (l ∷ ls) d first same = elim (cases_Bool (nat_eq l.pid pid)) [
-    | inl e ↦
-        let its : Some l ≡ Some f = rw e at first in
-        let one : l ≡ f = cc in
-        let number : l.tid ≡ tid = ap (λ k. k.tid) one ∙ same in
-        let here : nat_eq l.tid tid ≡ true = rw number (same_number tid) in
-        rw (e, here) (other_rest ls (subst (λ n. LacksLwp n ls) number d.0))
-    | inr e ↦
-        let rest : first_lwp pid ls ≡ Some f = rw e at first in
-        let apart : nat_eq l.tid tid ≡ false = other_number l.tid tid (λ h. first_lacks f ls rest (subst (λ n. LacksLwp n ls) (h ∙ sym same) d.0)) in
-        rw (e, apart) (other_next f ls d.1 rest same)
-  ]
+  other_next f (l ∷ ls) d first same = grind (arith, nat_tests, other_next f ls d.1, other_rest ls, first_lacks f ls, same_number, first, same, d)
 
 -- One LWP less
 
 pub less_without : (n : ℕ) (l : LwpData) (ls : List LwpData) → lwp_of n ls ≡ Some l → length (without_lwp n ls) < length ls
 less_without n l [] at = absurd (cc)
-less_without n l (k ∷ ls) at = elim (cases_Bool (nat_eq k.tid n)) [
-  | inl e ↦ let few = count_by-le-length (λ k. not (nat_eq k.tid n)) ls in let same = length-filter (λ k. not (nat_eq k.tid n)) ls in rw e (omega (arith, few, same))
-  | inr e ↦ let less = less_without n l ls (rw e at at) in rw e (omega (arith, less))
-]
+less_without n l (k ∷ ls) at = grind (arith, nat_tests, less_without n l ls, count_by-le-length, length-filter, at)
 
 lwp_without : (n t : ℕ) → n ≢ t → (ls : List LwpData) → lwp_of n (without_lwp t ls) ≡ lwp_of n ls
 lwp_without n t apart [] = refl
 lwp_without n t apart (l ∷ ls) = search (rules, lwp_without n t apart ls, cases_Bool, other_number, eqb-true)
 
 module _ (pid tid : ℕ) (x : LwpData) (rows : Rows) (d : Differ rows.lwps) (is : find (is_other pid tid) rows.lwps ≡ Some x) where
-  passes : is_other pid tid x ≡ true
-  passes = found_tested (is_other pid tid) rows.lwps x is
-
   pub other_there : lwp_of x.tid rows.lwps ≡ Some x
   other_there = (find_some (is_other pid tid) (λ k. lwp_of k.tid rows.lwps ≡ Some k) rows.lwps (own_lwps rows.lwps d) x is).0
 
   pub other_dropped : only_lwp pid tid (drop_lwp x.tid rows) ≡ only_lwp pid tid rows
   other_dropped = ap (λ ls. record rows { lwps = ls }) (filter_within (λ k. not (is_other pid tid k)) (λ k. not (nat_eq k.tid x.tid)) rows.lwps
       (All-imply (λ k. k.tid ≡ x.tid → k ≡ x) (λ k. not (nat_eq k.tid x.tid) ≡ false → not (is_other pid tid k) ≡ false)
-      (λ k same off. ap not (ap (is_other pid tid) (same (eqb-true k.tid x.tid (not_false _ off))) ∙ passes)) rows.lwps (the_lwp x.tid rows.lwps x d other_there)))
+      (λ k same off. ap not (ap (is_other pid tid) (same (eqb-true k.tid x.tid (not_false _ off))) ∙ (found_tested (is_other pid tid) rows.lwps x is))) rows.lwps (the_lwp x.tid rows.lwps x d other_there)))
     where
       not_false : (b : Bool) → not b ≡ false → b ≡ true
       not_false true e = refl
       not_false false e = absurd (true≢false e)
 
   pub other_left : HasLwp pid tid rows → HasLwp pid tid (drop_lwp x.tid rows)
-  other_left h = search (rules, lwp_without, passes, same_number)
+  other_left h = search (rules, lwp_without, (found_tested (is_other pid tid) rows.lwps x is), same_number)
 
 pub others_none : (pid tid : ℕ) (rows : Rows) → find (is_other pid tid) rows.lwps ≡ None → rows ≡ only_lwp pid tid rows
-others_none pid tid rows none = ap (λ ls. record rows { lwps = ls })
-    (sym (filter_all (λ k. not (is_other pid tid k)) rows.lwps (All-imply (λ k. is_other pid tid k ≡ false) (λ k. not (is_other pid tid k) ≡ true) (λ k off. ap not off) rows.lwps (every_untested (is_other pid tid) rows.lwps none))))
+others_none pid tid rows none = grind (arith, nat_tests, filter_all (λ k. not (is_other pid tid k)) rows.lwps (All-imply (λ k. is_other pid tid k ≡ false) (λ k. not (is_other pid tid k) ≡ true) (λ k off. ap not off) rows.lwps (every_untested (is_other pid tid) rows.lwps none)))
 
 -- An exec is these changes, one after another
 
 walked : {X : Type 0} (to : X → Option X) (f g : X → X) (t : X → Bool) (xs : List X) → AllByRecursion (λ x. to x ≡ (if t (f x) then Some (g (f x)) else None)) xs → filter_map to xs ≡ map g (filter t (map f xs))
 walked to f g t [] all = refl
-walked to f g t (x ∷ xs) all = elim (cases_Bool (t (f x))) [
-  | inl e ↦ let here : to x ≡ Some (g (f x)) = all.0 ∙ rw e refl in rw (here, e, walked to f g t xs all.1) refl
-  | inr e ↦ let here : to x ≡ None = all.0 ∙ rw e refl in rw (here, e, walked to f g t xs all.1) refl
-]
+walked to f g t (x ∷ xs) all = grind (arith, nat_tests, cases_Bool, walked to f g t xs all.1)
 
 abbrev freed_lwp : Option ProcData → ℕ → LwpData → LwpData
 freed_lwp None child l = l
@@ -112,16 +78,6 @@ freed_rows : (o : Option ProcData) (child : ℕ) (rows : Rows) → parent_freed 
 freed_rows None child rows = ap (λ ls. record rows { lwps = ls }) (sym (map-id rows.lwps))
 freed_rows (Some parent) child rows = refl
 
--- an LWP that doesn't wait stays as it is
-freed_idle : (o : Option ProcData) (child : ℕ) (l : LwpData) → waits_where (λ n. n == child) l.mode ≡ false → freed_lwp o child l ≡ l
-freed_idle None child l idle = refl
-freed_idle (Some parent) child l idle = search (rules, cases_Bool)
-
-awaited : (m : Mode) (child : ℕ) → waits_where (λ n. n == child) m ≡ true → waited_for m ≡ Some child
-awaited User child is = absurd (true≢false (sym is))
-awaited (InCall call) child is = absurd (true≢false (sym is))
-awaited (VforkWait c) child is = ap (λ n. Some n) (eqb-true c child is)
-
 module _ (p : ProcData) (l : LwpData) (rows : Rows) (s : IsSound rows) (a : IsActing p l rows) where
   -- an LWP that waits for the process is its parent's
   its_child : (q : ProcData) → IsLiveChild rows q p.pid → p.parent ≡ q.pid
@@ -129,7 +85,7 @@ module _ (p : ProcData) (l : LwpData) (rows : Rows) (s : IsSound rows) (a : IsAc
       (λ r one is. let c = child_from q p.pid r is in ap (λ x. x.parent) (sym (one c.pid)) ∙ c.parent) rows.processes (the_row p.pid rows.processes p s.stands.rising a.process) live
 
   freed_own : (o : Option ProcData) → process_of p.parent rows.processes ≡ o → (k : LwpData) (q : ProcData) → process_of k.pid rows.processes ≡ Some q → Standing rows q k → freed_lwp o p.pid k ≡ released (λ n. n == p.pid) q k
-  freed_own o at k q home stood = search (rules, cases_Bool, awaited, its_child, process_of-pid, same_number, freed_idle)
+  freed_own o at k q home stood = grind (arith, nat_tests, cases_Bool, its_child, process_of-pid, same_number, eqb-true)
 
   abbrev to_user : LwpData → LwpData
   to_user k = changed_lwp l.tid (λ j. record j { mode = User }) k
@@ -146,7 +102,7 @@ module _ (p : ProcData) (l : LwpData) (rows : Rows) (s : IsSound rows) (a : IsAc
 
   exec_one : (o : Option ProcData) → process_of p.parent rows.processes ≡ o → (k : LwpData) → Known k
       → by_owner exec_lwp k (process_of k.pid rows.processes) ≡ (if not (is_other p.pid l.tid (to_user k)) then Some (freed_lwp o p.pid (to_user k)) else None)
-  exec_one o at k known = grind (arith, nat_tests, process_of-pid, cases_Bool, eqb-true, same_number, freed_idle, freed_own)
+  exec_one o at k known = grind (arith, nat_tests, process_of-pid, cases_Bool, eqb-true, same_number, freed_own)
 
   exec_rows_of : (o : Option ProcData) → process_of p.parent rows.processes ≡ o
       → change_process p.pid (λ q. record q { dispositions = after_exec q.dispositions }) (parent_freed o p.pid (only_lwp p.pid l.tid (in_mode User l.tid rows)))
@@ -162,11 +118,7 @@ module _ (p : ProcData) (l : LwpData) (rows : Rows) (s : IsSound rows) (a : IsAc
       → rows' ≡ change_process p.pid (λ q. record q { dispositions = after_exec q.dispositions }) freed → done ≡ settle p.pid rows' → done ≡ exec_rows p l rows
   exec_done moved kept freed rows' done move keep free drop settled = search (rules, exec_rows_of)
 
-pub has-freed : (o : Option ProcData) (child pid tid : ℕ) (rows : Rows) → HasLwp pid tid rows → HasLwp pid tid (parent_freed o child rows)
-has-freed None child pid tid rows h = h
-has-freed (Some parent) child pid tid rows h = has-lwps_mapped parent.pid (released (λ n. n == child) parent) (released-tid (λ n. n == child) parent) (released-pid (λ n. n == child) parent) pid tid rows h
-
 -- after the process has dropped its handlers, it and its LWP are there
 pub has-dropped : (o : Option ProcData) (pid tid : ℕ) (kept freed dropped : Rows) → HasLwp pid tid kept → freed ≡ parent_freed o pid kept
     → dropped ≡ change_process pid (λ q. record q { dispositions = after_exec q.dispositions }) freed → HasLwp pid tid dropped
-has-dropped o pid tid kept freed dropped h free drop = search (rules, has-process_changed, has-freed)
+has-dropped o pid tid kept freed dropped h free drop = grind (arith, nat_tests, has-process_changed, has-lwps_mapped, released-tid, released-pid)

@@ -1,7 +1,8 @@
 -- Rows of processes that are left, with their numbers and users: what posting a signal leaves.
-use Rattle.requests.proofs.CommonNames.{nat_tests, ◌≡◌, ℕ, Bool, ◌==◌, if◌then◌else◌, List, [], ◌∷◌, filter_map, Option, Some, None, IfSome, is_some, is_none, refl, ap, arith, rules, list_any, SIGKILL}
-use Rattle.requests.proofs.CommonNames.{SIGCHLD, ProcData, process_of, Rows, each, change, is_numbered, Settings, posted_process, posted_lwp, continues, notified, notifies, posted, is_doomed, dooms}
-use Rattle.requests.proofs.CommonNames.{process_after, lwp_after, notifies_of, left_alone, end_each, end, post}
+use Rattle.requests.proofs.CommonNames.{nat_tests, ◌≡◌, ℕ, Bool, ◌==◌, if◌then◌else◌, List, filter_map, Option, Some, None, IfSome, refl, arith, rules, list_any, SIGKILL, SIGCHLD, ProcData, process_of}
+use Rattle.requests.proofs.CommonNames.{Rows, each, change, is_numbered, Settings, posted_process, posted_lwp, continues, notifies, posted, process_after, lwp_after, notifies_of, left_alone, end_each, end}
+use Rattle.requests.proofs.CommonNames.{post, sym, edit_none}
+use Rattle.trace_stop.proofs.Passes.{filter_map_twice}
 use Rattle.requests.proofs.SoundAfterCall.{choose}
 
 abbrev pub SameNumber : ProcData → ProcData → Type 0
@@ -13,24 +14,11 @@ pub record Remain (ps qs : List ProcData) : Type 0 where
   pub made : qs ≡ filter_map to ps
   pub same : (p : ProcData) → IfSome (to p) (SameNumber p)
 
--- one edit after another
-abbrev then_to : (ProcData → Option ProcData) → Option ProcData → Option ProcData
-then_to g None = None
-then_to g (Some q) = g q
-
-edits_join : (f g : ProcData → Option ProcData) (ps : List ProcData) → filter_map g (filter_map f ps) ≡ filter_map (λ p. then_to g (f p)) ps
-edits_join f g [] = refl
-edits_join f g (p ∷ ps) = grind (arith, nat_tests, edits_join f g ps)
-
 pub remain_then : (ps qs rs : List ProcData) → Remain ps qs → Remain qs rs → Remain ps rs
-remain_then ps qs rs a b = search (rules, edits_join)
-
-all_there : (ps : List ProcData) → ps ≡ filter_map (λ p. Some p) ps
-all_there [] = refl
-all_there (p ∷ ps) = ap (λ qs. p ∷ qs) (all_there ps)
+remain_then ps qs rs a b = search (rules, filter_map_twice)
 
 pub remain_all : (ps : List ProcData) → Remain ps ps
-remain_all ps = record { to = λ p. Some p; made = all_there ps; same = λ p. (refl, refl) }
+remain_all ps = record { to = λ p. Some p; made = sym (edit_none (λ p. Some p) (λ p. refl) ps); same = λ p. (refl, refl) }
 
 -- each edit of chosen processes that keeps their numbers and users
 remain_some : (chosen : ProcData → Bool) (f : ProcData → ProcData) → ((p : ProcData) → SameNumber p (f p)) → (ps : List ProcData) → Remain ps (filter_map (λ p. Some (if chosen p then f p else p)) ps)
@@ -39,34 +27,25 @@ remain_some chosen f keeps ps = search (rules, choose)
 posted_keeps : (s : ℕ) (to : Option ℕ) (p : ProcData) → SameNumber p (posted_process s to p)
 posted_keeps s to p = choose (continues s p) _ _ (SameNumber p) (refl, refl) (refl, refl)
 
-remain_notified : (pids : List ℕ) (rows : Rows) → Remain rows.processes (notified pids rows).processes
-remain_notified pids rows = remain_some (λ p. list_any (λ n. n == p.pid) pids) (posted_process SIGCHLD None) (posted_keeps SIGCHLD None) rows.processes
-
 remain_posted : (s : ℕ) (to : Option ℕ) (pid : ℕ) (rows : Rows) → Remain rows.processes (posted s to pid rows).processes
 remain_posted s to pid rows =
     let first = change (is_numbered pid) (posted_process s to) (posted_lwp s to) rows in
     remain_then rows.processes first.processes (posted s to pid rows).processes
-    (remain_some (is_numbered pid) (posted_process s to) (posted_keeps s to) rows.processes) (remain_notified (notifies s (process_of pid rows.processes)) first)
+    (remain_some (is_numbered pid) (posted_process s to) (posted_keeps s to) rows.processes) (remain_some (λ p. list_any (λ n. n == p.pid) (notifies s (process_of pid rows.processes))) (posted_process SIGCHLD None) (posted_keeps SIGCHLD None) first.processes)
 
 -- the end of a process
 after_keeps : (ends : ProcData → Bool) (over : ℕ → Bool) (p status : ℕ) (q : ProcData) → IfSome (process_after ends over p status q) (SameNumber q)
-after_keeps ends over p status q = search (rules, choose, is_none)
+after_keeps ends over p status q = search (rules, choose)
 
 remain_end_each : (ends : ProcData → Bool) (over : ℕ → Bool) (p status : ℕ) (rows : Rows) → Remain rows.processes (end_each ends over p status rows).processes
 remain_end_each ends over p status rows =
     let after = each (process_after ends over p status) (lwp_after ends over) rows in
     remain_then rows.processes after.processes (end_each ends over p status rows).processes
     (record { to = process_after ends over p status; made = refl; same = after_keeps ends over p status })
-    (remain_notified (filter_map (notifies_of ends over p status) rows.processes) after)
+    (remain_some (λ p'. list_any (λ n. n == p'.pid) (filter_map (notifies_of ends over p status) rows.processes)) (posted_process SIGCHLD None) (posted_keeps SIGCHLD None) after.processes)
 
 remain_left : (settings : Settings) (p : ℕ) (rows : Rows) → Remain rows.processes (left_alone settings p rows).processes
-remain_left settings p rows = search (rules, choose, remain_all, remain_some, is_some)
-
-pub remain_end : (settings : Settings) (p status : ℕ) (rows : Rows) → Remain rows.processes (end settings p status rows).processes
-remain_end settings p status rows =
-    let left = left_alone settings p rows in
-    remain_then rows.processes left.processes (end settings p status rows).processes (remain_left settings p rows)
-    (remain_end_each (is_doomed settings left.processes p) (dooms settings left.processes p) p status left)
+remain_left settings p rows = search (rules, choose, remain_all, remain_some)
 
 pub remain_post : (settings : Settings) (s : ℕ) (to : Option ℕ) (pid : ℕ) (rows : Rows) → Remain rows.processes (post settings s to pid rows).processes
-remain_post settings s to pid rows = choose (s == SIGKILL) (end settings pid SIGKILL rows) (posted s to pid rows) (λ r. Remain rows.processes r.processes) (remain_end settings pid SIGKILL rows) (remain_posted s to pid rows)
+remain_post settings s to pid rows = choose (s == SIGKILL) (end settings pid SIGKILL rows) (posted s to pid rows) (λ r. Remain rows.processes r.processes) (grind (arith, nat_tests, remain_then, remain_left, remain_end_each)) (remain_posted s to pid rows)

@@ -1,8 +1,8 @@
 -- A signal sent to one process, and to all others of a user.
-use Rattle.requests.proofs.CommonNames.{nat_tests, ◌≡◌, ℕ, ◌-◌, ◌<◌, ◌≤◌, pos, negsuc, Bool, true, false, cond, ◌==◌, ltb, ◌&&◌, not, List, [], ◌∷◌, filter, filter_map, find, Option, Some, None, IfSome}
-use Rattle.requests.proofs.CommonNames.{is_none, if◌then◌else◌, refl, sym, ap, ◌∙◌, arith, true≢false, eqb-true, ◌^◌, inl, inr, rules, option_map, int_lt, cases_lt, le-leb, AllByRecursion, list_any}
-use Rattle.requests.proofs.CommonNames.{cons_option, ProcData, process_of, is_live, of_user, Rows, seen_process, AllAbove, Rise, InOwnBlock, TableInvariant, process_of-pid, Settings, post, by_bool, All-imply, If_more}
-use Rattle.requests.proofs.CommonNames.{some_is, reach, post_if_live, post_all, reached, kill, next_other, refuses, ESRCH, option_and_then, own_rows, process_edited, Reply}
+use Rattle.requests.proofs.CommonNames.{nat_tests, ◌≡◌, ℕ, ◌-◌, ◌<◌, ◌≤◌, pos, negsuc, Bool, true, false, ◌==◌, ltb, ◌&&◌, not, List, [], ◌∷◌, filter, filter_map, find, Option, Some, None, IfSome, is_none}
+use Rattle.requests.proofs.CommonNames.{if◌then◌else◌, refl, sym, ap, ◌∙◌, arith, true≢false, eqb-true, rules, option_map, int_lt, cases_lt, le-leb, AllByRecursion, list_any, ProcData, process_of, is_live}
+use Rattle.requests.proofs.CommonNames.{of_user, Rows, seen_process, AllAbove, Rise, InOwnBlock, TableInvariant, process_of-pid, Settings, post, by_bool, All-imply, If_more, some_is, reach, post_if_live}
+use Rattle.requests.proofs.CommonNames.{post_all, reached, kill, next_other, refuses, ESRCH, own_rows, process_edited, Reply}
 use Rattle.std.specs.Prelude.{ℤ}
 use Rattle.std.specs.Int.{FitsUnsignedBits}
 use Rattle.requests.proofs.Living.{live_found, live_none}
@@ -29,31 +29,17 @@ pub passes_signal : (k n : ℕ) → (if k == 0 then None else Some k) ≡ Some n
 passes_signal k n = search (rules, some_is)
 
 pub no_number : (o : Option ℕ) → is_none o ≡ true → o ≡ None
-no_number None is = refl
-no_number (Some n) is = absurd (true≢false (sym is))
+no_number o is = grind (arith, nat_tests)
 
 -- What it leaves
 
 remain_posted : (settings : Settings) (s : ℕ) (o : Option ProcData) (rows : Rows) → Remain rows.processes (post_if_live settings s o rows).processes
-remain_posted settings s None rows = remain_all rows.processes
-remain_posted settings s (Some p) rows = search (rules, remain_post, remain_all)
+remain_posted settings s o rows = grind (arith, nat_tests, remain_all, remain_post)
 
 -- an unused number stays free
-gone : (ps qs : List ProcData) (n : ℕ) → Remain ps qs → process_of n ps ≡ None → process_of n qs ≡ None
-gone ps qs n r none = rw r.made (lacking ps none)
-  where
-    lacking : (xs : List ProcData) → process_of n xs ≡ None → process_of n (filter_map r.to xs) ≡ None
-    lacking [] is = refl
-    lacking (p ∷ xs) is = by_head (p.pid == n) refl is (lacking xs)
-      where
-        by_row : (o : Option ProcData) → IfSome o (SameNumber p) → (p.pid == n) ≡ false → process_of n (filter_map r.to xs) ≡ None → process_of n (cons_option o (filter_map r.to xs)) ≡ None
-        by_row None same e rest = rest
-        by_row (Some q) same e rest = let other : (q.pid == n) ≡ false = rw same.0 e in rw other rest
-
-        by_head : (b : Bool) → (p.pid == n) ≡ b → cond b (Some p) (process_of n xs) ≡ None → (process_of n xs ≡ None → process_of n (filter_map r.to xs) ≡ None)
-            → process_of n (cons_option (r.to p) (filter_map r.to xs)) ≡ None
-        by_head true e h rest = absurd (let bad : Some p ≡ None = h in cc)
-        by_head false e h rest = by_row (r.to p) (r.same p) e (rest h)
+gone : (f : ProcData → Option ProcData) → ((p : ProcData) → IfSome (f p) (SameNumber p)) → (n : ℕ) (ps : List ProcData) → process_of n ps ≡ None → process_of n (filter_map f ps) ≡ None
+gone f same n [] is = refl
+gone f same n (p ∷ ps) is = grind (arith, nat_tests, gone f same n ps, same p, is)
 
 -- A list of processes of which some are gone: those get nothing
 
@@ -65,7 +51,7 @@ module _ (settings : Settings) (s : ℕ) (t : ProcData → Bool) (alike : (p q :
   still_gone : (n : ℕ) (ps : List ProcData) (rows : Rows) → AllByRecursion (Gone f rows) ps → AllByRecursion (Gone f (post_if_live settings s (process_of n rows.processes) rows)) ps
   still_gone n ps rows all =
       let after = post_if_live settings s (process_of n rows.processes) rows in
-      All-imply (Gone f rows) (Gone f after) (λ p was none. gone rows.processes after.processes p.pid (remain_posted settings s (process_of n rows.processes) rows) (was none)) ps all
+      All-imply (Gone f rows) (Gone f after) (λ p was none. let r = remain_posted settings s (process_of n rows.processes) rows in rw r.made (gone r.to r.same p.pid rows.processes (was none))) ps all
 
   abbrev Passed : List ProcData → Rows → Type 0
   Passed ps rows = post_all settings s (filter t (filter_map f ps)) rows ≡ post_all settings s (filter t ps) rows
@@ -84,13 +70,7 @@ module _ (settings : Settings) (s : ℕ) (t : ProcData → Bool) (alike : (p q :
   pub as_they_are : (rows after : Rows) → Rise rows.processes → Remain rows.processes after.processes → post_all settings s (filter t after.processes) after ≡ post_all settings s (filter t rows.processes) after
   as_they_are rows after rise r =
       ap (λ ps. post_all settings s (filter t ps) after) r.made ∙ passed_over settings s t alike r.to r.same rows.processes after
-      (All-imply (λ p. process_of p.pid rows.processes ≡ Some p) (Gone r.to after) lost rows.processes (own_rows rows.processes rise))
-    where
-      number : (p : ProcData) → IfSome (r.to p) (λ q. q.pid ≡ p.pid)
-      number p = If_more (SameNumber p) (λ q. q.pid ≡ p.pid) (λ q h. h.0) (r.to p) (r.same p)
-
-      lost : (p : ProcData) → process_of p.pid rows.processes ≡ Some p → r.to p ≡ None → process_of p.pid after.processes ≡ None
-      lost p own none = rw r.made (process_edited r.to number p.pid rows.processes rise ∙ ap (option_and_then r.to) own ∙ none)
+      (All-imply (λ p. process_of p.pid rows.processes ≡ Some p) (Gone r.to after) (λ p own none. grind (arith, nat_tests, r, process_edited r.to (λ q. If_more (SameNumber q) (λ k. k.pid ≡ q.pid) (λ k h. h.0) (r.to q) (r.same q)) p.pid rows.processes rise, own, none)) rows.processes (own_rows rows.processes rise))
 
 -- All others of a user
 
@@ -115,8 +95,9 @@ module _ (settings : Settings) (s u caller : ℕ) where
   abbrev next : ℕ → List ProcData → Option ℕ
   next n ps = option_map (λ p. p.pid) (next_other u caller n ps)
 
-  pub rest_is : (n : ℕ) (rows : Rows) → Rise rows.processes → post_rest settings s u caller (next n rows.processes) rows ≡ post_all settings s (others n rows.processes) rows
-  rest_is n rows rise = search (rules, above_none, above_next)
+  -- those above a number, by the first of them
+  others_are : (n : ℕ) (ps : List ProcData) → Rise ps → others n ps ≡ (elim (next_other u caller n ps) [ None ↦ [] | Some p ↦ p ∷ others p.pid ps ])
+  others_are n ps rise = search (rules, above_none, above_next)
 
   alike : (n : ℕ) (p q : ProcData) → SameNumber p q → (ltb n q.pid && is_other u caller q) ≡ (ltb n p.pid && is_other u caller p)
   alike n p q same = rw (same.0, same.1) refl
@@ -125,7 +106,7 @@ module _ (settings : Settings) (s u caller : ℕ) where
   pub rest_next : (n : ℕ) (rows after : Rows) (at : Option ℕ) → Rise rows.processes → Rise after.processes
       → after ≡ post_if_live settings s (process_of n rows.processes) rows → at ≡ next n after.processes
       → post_rest settings s u caller at after ≡ post_rest settings s u caller (Some n) rows
-  rest_next n rows after at rise rises posted is = search (rules, remain_posted, rest_is, as_they_are, ltb, alike)
+  rest_next n rows after at rise rises posted is = grind (arith, nat_tests, remain_posted, as_they_are, alike, others_are)
 
   split : (ps : List ProcData) → filter (λ p. not (p.pid == caller)) (of_user u ps) ≡ filter (is_other u caller) ps
   split [] = refl
@@ -136,27 +117,12 @@ module _ (settings : Settings) (s u caller : ℕ) where
 
   -- where there is none, and where there is one
   pub reached_none : (rows : Rows) → TableInvariant rows → next 0 rows.processes ≡ None → reach u caller (negsuc 0) rows ≡ []
-  reached_none rows kept none = search (rules, negsuc, reach_others, above_none)
-
-  pub reached_some : (n : ℕ) (rows : Rows) → TableInvariant rows → next 0 rows.processes ≡ Some n
-      → (reached settings s (reach u caller (negsuc 0) rows) rows).reply ≡ Reply.Done
-      × ((reached settings s (reach u caller (negsuc 0) rows) rows).rows ≡ post_rest settings s u caller (Some n) rows)
-  reached_some n rows kept some = by_next (next_other u caller 0 rows.processes) refl some
-    where
-      by_next : (o : Option ProcData) → next_other u caller 0 rows.processes ≡ o → option_map (λ p. p.pid) o ≡ Some n
-          → ((reached settings s (reach u caller (negsuc 0) rows) rows).reply ≡ Reply.Done)
-          × ((reached settings s (reach u caller (negsuc 0) rows) rows).rows ≡ post_rest settings s u caller (Some n) rows)
-      by_next None at h = absurd (let bad : None ≡ Some n = h in cc)
-      by_next (Some p) at h =
-          let same : p.pid ≡ n = some_is p.pid n h in
-          let list : reach u caller (negsuc 0) rows ≡ p ∷ others p.pid rows.processes = reach_others rows kept ∙ above_next (is_other u caller) 0 rows.processes p kept.rising at in
-          (ap (λ ps. (reached settings s ps rows).reply) list, ap (λ ps. (reached settings s ps rows).rows) list ∙ ap (λ m. post_rest settings s u caller (Some m) rows) same)
+  reached_none rows kept none = search (rules, reach_others, above_none)
 
   pub reached_others : (at : Option ℕ) (rows : Rows) → TableInvariant rows → at ≡ next 0 rows.processes → is_none at ≡ false
       → ((reached settings s (reach u caller (negsuc 0) rows) rows).reply ≡ Reply.Done)
       × ((reached settings s (reach u caller (negsuc 0) rows) rows).rows ≡ post_rest settings s u caller at rows)
-  reached_others None rows kept is some = absurd (true≢false some)
-  reached_others (Some n) rows kept is some = reached_some n rows kept (sym is)
+  reached_others at rows kept is some = rw (is, reach_others rows kept, others_are 0 rows.processes kept.rising) (grind (arith, nat_tests, some, is))
 
   pub next_smaller : (n : ℕ) (ps : List ProcData) (at : Option ℕ) → n < 65000 → at ≡ next n ps → left at < left (Some n)
   next_smaller n ps at below is = by_next (next_other u caller n ps) refl is
@@ -174,7 +140,7 @@ module _ (u n : ℕ) where
 
   others_above : (m : ℕ) (ps : List ProcData) → n ≤ m → AllAbove m ps → AllByRecursion (λ p. (p.pid == n) ≡ false) ps
   others_above m [] le over = tt
-  others_above m (p ∷ ps) le over = (by_bool (p.pid == n) (λ e. let same = eqb-true p.pid n e in let high = over.0 in omega arith), others_above m ps le over.1)
+  others_above m (p ∷ ps) le over = grind (arith, nat_tests, others_above m ps le over.1, le, over)
 
   abbrev found : List ProcData → Option ProcData
   found ps = find (λ p. (p.pid == n) && (p.uid == u)) ps
@@ -205,14 +171,8 @@ too_great u caller n rows in_own_blocks great = none_of u n rows.processes (All-
 
 -- a number that is positive, and too great for 32 bits
 great_number : (z : ℤ) → int_lt z (pos 1) ≡ false → (FitsUnsignedBits 32 z → ⊥) → (n : ℕ) × (z ≡ pos n) × (65000 ≤ n)
-great_number (pos n) positive fits = (n, refl, elim (cases_lt n (2 ^ 32)) [ inl lt ↦ absurd (fits lt) | inr le ↦ omega (arith, le) ])
-great_number (negsuc n) positive fits = absurd (true≢false positive)
+great_number z positive fits = grind (arith, nat_tests, cases_lt)
 
 pub nobody_reached : (settings : Settings) (u caller s : ℕ) (which : ℤ) (rows : Rows) → AllByRecursion InOwnBlock rows.processes → s ≤ 31 → int_lt which (pos 1) ≡ false → (FitsUnsignedBits 32 which → ⊥)
     → kill settings u caller which s rows ≡ refuses ESRCH rows
-nobody_reached settings u caller s which rows in_own_blocks signal positive fits =
-    let great = great_number which positive fits in
-    let n = great.0 in
-    let over : 65000 ≤ n = great.2 in
-    let some : (n == 0) ≡ false = by_bool (n == 0) (λ e. let none = eqb-true n 0 e in omega (arith, over)) in
-    ap (λ z. kill settings u caller z s rows) great.1 ∙ rw (le-leb s 31 signal, some) (ap (λ ps. reached settings s ps rows) (too_great u caller n rows in_own_blocks over))
+nobody_reached settings u caller s which rows in_own_blocks signal positive fits = grind (arith, nat_tests, le-leb s 31 signal, too_great u caller (great_number which positive fits).0 rows in_own_blocks (great_number which positive fits).2)

@@ -1,8 +1,8 @@
 -- Steps of a caller keep a host sound, kind by kind.
 use Rattle.requests.proofs.CommonNames.{◌≡◌, ℕ, ℤ, Bool, true, false, ◌&&◌, not, if◌then◌else◌, Option, Some, None, refl, subst, ESRCH, EINVAL, set_disposition, Disposition, ProcData, is_live, is_run}
-use Rattle.requests.proofs.CommonNames.{process_of, Rows, seen_process, IsSound, All-filter, find_some, disposed_sound, own_rows, Options, reportable, candidates, is_child, fits, reported, rows_after}
-use Rattle.requests.proofs.CommonNames.{without_report, Reply, PlainStep, answers, refuses, sigaction, wait, is_which, Machine, after, sound, checked, calls, collect_sound, Rise, is_refused, IsLiveOf, ap}
-use Rattle.requests.proofs.CommonNames.{run_quiet}
+use Rattle.requests.proofs.CommonNames.{arith, nat_tests, process_of, Rows, seen_process, IsSound, All-filter, find_some, disposed_sound, own_rows, Options, reportable, candidates, is_child, fits}
+use Rattle.requests.proofs.CommonNames.{reported, rows_after, Reply, PlainStep, answers, refuses, sigaction, wait, is_which, Machine, after, sound, checked, calls, collect_sound, Rise, is_refused}
+use Rattle.requests.proofs.CommonNames.{IsLiveOf, ap, run_quiet}
 use Rattle.requests.proofs.SoundWithoutEnded.{rows_sound, after_sound}
 use Rattle.requests.specs.Callers.{IsCaller}
 use Rattle.requests.proofs.Called.{is_caller}
@@ -31,23 +31,17 @@ checked_sound u s m n is done = by_caller (seen_process u n m.rows) refl
     by_caller (Some p) e = at_run p e (is_live p) refl (is_run p) refl
 
 pub choose : {X : Type 0} (b : Bool) (x y : X) (R : X → Type 0) → R x → R y → R (if b then x else y)
-choose true x y R h k = h
-choose false x y R h k = k
+choose b x y R h k = grind (arith, nat_tests)
 
 pub sigaction_rows : (u : ℕ) (rows : Rows) (p : ProcData) (sig : ℕ) (d : Disposition) → IsSound rows → IsCaller u p rows → IsSound (sigaction p sig d rows).rows
 sigaction_rows u rows p sig d s c = choose (is_refused sig d) (refuses EINVAL rows) _ (λ o. IsSound o.rows) s (disposed_sound rows p.pid p (λ q. set_disposition q.dispositions sig d) s c.at (caller_live u rows p c))
 
 -- a child that reports is found by its number
 pub reported_row : (rows : Rows) (caller : ℕ) (which : ℤ) (options : Options) (p : ProcData) → Rise rows.processes → reported caller which options rows ≡ Some p → process_of p.pid rows.processes ≡ Some p
-reported_row rows caller which options p rise found = (find_some (reportable options caller) (λ r. process_of r.pid rows.processes ≡ Some r) (candidates caller which rows)
-    (All-filter (λ r. is_child caller r && fits which r) (λ r. process_of r.pid rows.processes ≡ Some r) rows.processes (own_rows rows.processes rise)) p found).0
+reported_row rows caller which options p rise found = grind (arith, nat_tests, find_some (reportable options caller) (λ r. process_of r.pid rows.processes ≡ Some r) (candidates caller which rows) (All-filter (λ r. is_child caller r && fits which r) (λ r. process_of r.pid rows.processes ≡ Some r) rows.processes (own_rows rows.processes rise)) p found)
 
 pub rows_after_sound : (rows : Rows) (caller : ℕ) (which : ℤ) (options : Options) → IsSound rows → IsSound (rows_after caller which options rows)
-rows_after_sound rows caller which options s = by_report (reported caller which options rows) refl
-  where
-    by_report : (o : Option ProcData) → reported caller which options rows ≡ o → IsSound (without_report caller o rows)
-    by_report None e = s
-    by_report (Some q) e = collect_sound caller q rows s (reported_row rows caller which options q s.stands.rising e)
+rows_after_sound rows caller which options s = grind (arith, nat_tests, collect_sound, reported_row)
 
 pub wait_rows : (p : ProcData) (which : ℤ) (options : Options) (rows : Rows) → IsSound rows → IsSound (wait p which options rows).rows
 wait_rows p which options rows s = choose (not (is_which which)) (refuses EINVAL rows) _ (λ o. IsSound o.rows) s (rows_after_sound rows p.pid which options s)

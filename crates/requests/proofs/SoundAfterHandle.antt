@@ -1,5 +1,5 @@
 -- A stop that installed policies decide on keeps a host sound.
-use Rattle.requests.proofs.CommonNames.{◌≡◌, ℕ, negsuc, Bool, true, ◌==◌, List, Option, Some, None, is_some, refl, ap, subst, SIGKILL, LwpData, lwp_of, ProcData, State, Run, Trace, Job, Zombie, named_by}
+use Rattle.requests.proofs.CommonNames.{◌≡◌, ℕ, negsuc, Bool, true, ◌==◌, List, Option, Some, None, is_some, refl, ap, subst, SIGKILL, LwpData, lwp_of, ProcData, State, Trace, named_by, arith, nat_tests}
 use Rattle.requests.proofs.CommonNames.{process_of, Rows, Settings, resume, detach, FitProcess, IsSound, detach_sound, Rule, Decision, StatusKind, Collected, reported, rows_after, told, view_of, decided}
 use Rattle.requests.proofs.CommonNames.{done, no_options, handles_stop, handles_status, handles, continues_with, every_found}
 use Rattle.wait4.specs.Collect as wait
@@ -9,11 +9,10 @@ use Rattle.requests.proofs.SoundAfterCall.{rows_after_sound, reported_row}
 
 -- what a decision does to a tracee
 decision_sound : (settings : Settings) (d : Decision) (p q : ProcData) (rows : Rows) → Tracee rows q → q.pid ≡ p.pid → IsSound (done settings d p rows)
-decision_sound settings Decision.Decline p q rows t same = t.sound
-decision_sound settings Decision.Leave p q rows t same = t.sound
 decision_sound settings (Decision.Continue s) p q rows t same = subst (λ n. IsSound (continues_with settings (λ mask. mask) s (record p { pid = n }) rows).rows) same (continues_sound settings (λ mask. mask) s rows q t)
 decision_sound settings (Decision.Detach s) p q rows t same = subst (λ n. IsSound (detach settings n s rows)) same (detach_sound settings rows q.pid q t.sound t.home t.live s)
 decision_sound settings Decision.Kill p q rows t same = subst (λ n. IsSound (resume settings n SIGKILL rows)) same (resumes_sound rows q t settings SIGKILL)
+decision_sound settings d p q rows t same = t.sound
 
 module _ (settings : Settings) (caller : ℕ) (policies : List (List Rule)) (rows : Rows) (s : IsSound rows) where
   abbrev after : Rows
@@ -32,21 +31,13 @@ module _ (settings : Settings) (caller : ℕ) (policies : List (List Rule)) (row
     traced : is_some p.tracer ≡ true
     traced = (every_found FitProcess (λ r. r.pid == p.pid) rows.processes p s.processes (reported_row rows caller (negsuc 0) no_options p s.stands.rising found)).stopped (ap (λ x. is_some (named_by x)) stops)
 
-    tracee : Tracee after (record now_seen { pending = left.0 })
-    tracee = record { sound = after_is_sound; home = left.1; live = refl; traced = traced }
-
     stop_sound : (status : StatusKind) (o : Option LwpData) → IsSound (handles_stop settings policies p tid sig status after o).rows
     stop_sound status None = after_is_sound
-    stop_sound status (Some l) = decision_sound settings (decided policies 0 (view_of p tid sig l)).decision p (record now_seen { pending = left.0 }) after tracee refl
+    stop_sound status (Some l) = decision_sound settings (decided policies 0 (view_of p tid sig l)).decision p (record now_seen { pending = left.0 }) after (record { sound = after_is_sound; home = left.1; live = refl; traced = traced }) refl
 
   status_sound : (status : StatusKind) (p : ProcData) → reported caller (negsuc 0) no_options rows ≡ Some p → (x : State) → p.state ≡ x → IsSound (handles_status settings policies status p after x).rows
-  status_sound status p found Run is = after_is_sound
   status_sound status p found (Trace tid sig told) is = stop_sound p found tid sig told is status (lwp_of tid after.lwps)
-  status_sound status p found (Job sig told) is = after_is_sound
-  status_sound status p found (Zombie w) is = after_is_sound
+  status_sound status p found x is = after_is_sound
 
   pub handles_sound : (o : Option ProcData) → reported caller (negsuc 0) no_options rows ≡ o → (c : Collected) → IsSound (handles settings policies rows after o c).rows
-  handles_sound o found Collected.NoChild = s
-  handles_sound o found Collected.Nothing = s
-  handles_sound None found (Collected.Got pid status) = after_is_sound
-  handles_sound (Some p) found (Collected.Got pid status) = status_sound status p found p.state refl
+  handles_sound o found c = grind (arith, nat_tests, after_is_sound, status_sound)

@@ -1,61 +1,31 @@
 -- An LWP that changes its mode, that is made, or that exits keeps rows sound.
-use Rattle.requests.proofs.CommonNames.{◌≡◌, inl, ℕ, ◌≤◌, Bool, true, false, ◌==◌, ◌&&◌, leb, if◌then◌else◌, List, [], ◌∷◌, ◌++◌, find, Option, Some, None, IfSome, is_some, refl, sym, ap, ◌∙◌, true≢false}
-use Rattle.requests.proofs.CommonNames.{subst, arith, eqb-true, eq-eqb, rules, leb-false, IsUser, PL_FLAG_EXITED, PTRACE_LWP, PTRACE_SCX, asks, shows, LwpData, Mode, born, lwp_of, ProcData, reporting, Rows}
-use Rattle.requests.proofs.CommonNames.{owner, by_owner, each, change_lwp, remove_lwp, add_lwp, lwp_count, InOwnBlock, Settings, Shown, unwanted, stop, is_due, mode_fits, IsLiveChild, FitProcess, waited_for}
-use Rattle.requests.proofs.CommonNames.{FitLwp, IsSound, and_left, by_bool, find_some, choose, some_is, one_gone, Row, Beside, Same, Like, Stay, KeptRow, KeptLwp, nobody, holds_sound, sound_holds, row_is}
-use Rattle.requests.proofs.CommonNames.{like_self, kept_row, kept_all, kept_lwp, none_gone, no_ring, stay_where, edit_holds, lwps_alone, own_lwps, zero_apart, Outcome, trap, due_stop, in_mode, due_at_birth}
-use Rattle.requests.proofs.CommonNames.{exits_lwp, Call}
+use Rattle.requests.proofs.CommonNames.{◌≡◌, inl, ℕ, ◌≤◌, Bool, true, false, ◌==◌, leb, if◌then◌else◌, List, [], ◌∷◌, ◌++◌, find, Option, Some, None, IfSome, refl, sym, subst, arith, eqb-true, eq-eqb}
+use Rattle.requests.proofs.CommonNames.{rules, leb-false, IsUser, PL_FLAG_EXITED, shows, LwpData, Mode, born, lwp_of, ProcData, reporting, Rows, owner, by_owner, each, change_lwp, remove_lwp, add_lwp}
+use Rattle.requests.proofs.CommonNames.{lwp_count, InOwnBlock, Settings, Shown, stop, is_due, mode_fits, IsLiveChild, FitProcess, waited_for, FitLwp, IsSound, and_left, by_bool, find_some, choose, some_is}
+use Rattle.requests.proofs.CommonNames.{one_gone, Row, Beside, Same, Like, Stay, KeptRow, KeptLwp, nobody, holds_sound, sound_holds, row_is, like_self, kept_row, kept_all, kept_lwp, none_gone, no_ring}
+use Rattle.requests.proofs.CommonNames.{stay_where, edit_holds, lwps_alone, own_lwps, zero_apart, Outcome, due_stop, in_mode, due_at_birth, exits_lwp, nat_tests}
 use Rattle.lwp_table.specs.declared.Due.{Due}
 use Rattle.trace_stop.proofs.SoundAfterThread.{joined_sound}
-use Rattle.requests.proofs.Acting.{traced_where, Acting, its_live, its_quiet, lwp_fit, lwp_stands, acting_lwp, acting_stops}
+use Rattle.requests.proofs.Acting.{Acting, its_live, its_quiet, lwp_fit, lwp_stands, acting_lwp, acting_stops}
 use Rattle.requests.proofs.Room.{LwpRoom}
 use Rattle.requests.proofs.SoundAfterSignal.{end_sound}
 
-shows_none : (f : LwpData) → f.flags.0 ≡ 0 → shows f.flags PL_FLAG_EXITED ≡ false
-shows_none f none = rw none refl
-
 pub find_more : {X : Type 0} (q : X → Bool) (xs ys : List X) (x : X) → find q xs ≡ Some x → find q (xs ++ ys) ≡ Some x
 find_more q [] ys x is = absurd (grind (arith, is))
-find_more {X} q (y ∷ xs) ys x is = search (rules, find_more q xs ys x, find)
+find_more {X} q (y ∷ xs) ys x is = search (rules, find_more q xs ys x)
 
 module _ (rows : Rows) (p : ProcData) (l : LwpData) (a : Acting rows p l) where
   -- modes, and stops that were due
 
   pub in_mode_acting : (mode : Mode) → IfSome (waited_for mode) (IsLiveChild rows p) → mode_fits mode ≡ true → Acting (in_mode mode l.tid rows) p (record l { mode = mode })
-  in_mode_acting mode waits fits = acting_lwp rows p l a (λ k. record k { mode = mode }) (record {
-    same = λ k. (refl, refl, refl);
-    waits = waits;
-    fit = λ fit. record {
-      untraced = λ none. let was = fit.untraced none in record { due = was.due; stepping = was.stepping; suspended = was.suspended; pending = was.pending };
-      silent = λ off. let was = fit.silent off in record { flags = was.flags; child = was.child; code = was.code };
-      blocked = fit.blocked;
-      mode = fits;
-    };
-  })
-
-  pub due_acting : Acting (change_lwp l.tid (λ k. record k { due = Due.Nothing }) rows) p (record l { due = Due.Nothing })
-  due_acting = acting_lwp rows p l a (λ k. record k { due = Due.Nothing }) (record {
-    same = λ k. (refl, refl, refl);
-    waits = (lwp_stands rows p l a).waits;
-    fit = λ fit. record {
-      untraced = λ none. let was = fit.untraced none in record { due = refl; stepping = was.stepping; suspended = was.suspended; pending = was.pending };
-      silent = λ off. let was = fit.silent off in record { flags = was.flags; child = was.child; code = was.code };
-      blocked = fit.blocked;
-      mode = fit.mode;
-    };
-  })
+  in_mode_acting mode waits fits = acting_lwp rows p l a (λ k. record k { mode = mode }) (record { same = λ k. (refl, refl, refl); waits = waits; fit = λ fit. grind (arith, nat_tests) })
 
   due_shown : (d : Due) (shown : Shown) → due_stop d ≡ Some shown → (is_due d ≡ true) × (shows shown.flags PL_FLAG_EXITED ≡ false)
-  due_shown Due.Nothing shown is = absurd (grind (arith, is))
-  due_shown Due.Born shown is = (refl, subst (λ (x : Shown). shows x.flags PL_FLAG_EXITED ≡ false) (some_is _ shown is) refl)
-  due_shown Due.Begun shown is = (refl, subst (λ (x : Shown). shows x.flags PL_FLAG_EXITED ≡ false) (some_is _ shown is) refl)
-  due_shown Due.VforkDone shown is = (refl, subst (λ (x : Shown). shows x.flags PL_FLAG_EXITED ≡ false) (some_is _ shown is) refl)
+  due_shown d shown is = grind (arith, nat_tests, is)
 
   pub due_sound : (shown : Shown) → due_stop l.due ≡ Some shown → IsSound (stop p.pid l.tid shown (change_lwp l.tid (λ k. record k { due = Due.Nothing }) rows))
-  due_sound shown is =
-      let d = due_shown l.due shown is in
-      acting_stops (change_lwp l.tid (λ k. record k { due = Due.Nothing }) rows) p (record l { due = Due.Nothing }) due_acting shown
-      (traced_where p.tracer (λ none. true≢false (sym d.0 ∙ ((lwp_fit rows p l a).untraced none).due))) (λ on. absurd (true≢false (sym on ∙ d.1)))
+  due_sound shown is = acting_stops (change_lwp l.tid (λ k. record k { due = Due.Nothing }) rows) p (record l { due = Due.Nothing }) (acting_lwp rows p l a (λ k. record k { due = Due.Nothing }) (record { same = λ k. (refl, refl, refl); waits = (lwp_stands rows p l a).waits; fit = λ fit. grind (arith, nat_tests) })) shown
+      (grind (arith, nat_tests, due_shown l.due shown is, lwp_fit rows p l a)) (grind (arith, nat_tests, due_shown l.due shown is))
 
   -- where LWPs of the process alone go, of which one stays, or its row is changed, and it reports nothing
 
@@ -64,7 +34,7 @@ module _ (rows : Rows) (p : ProcData) (l : LwpData) (a : Acting rows p l) where
 
   -- an LWP of it, which shows nothing
   pub quiet_lwp : {after : Rows} {Q' : ProcData → LwpData → Type 0} (q r : ProcData) (x k : LwpData) → Beside rows FitProcess FitLwp q x → (q.pid == p.pid) ≡ true → k.flags ≡ x.flags → IfSome (waited_for k.mode) (IsLiveChild rows q) → Q' r k → KeptLwp rows after nobody Q' q r k
-  quiet_lwp {after} {Q'} q r x k b mine flags waits fits = search (rules, shows_none, its_number, its_quiet)
+  quiet_lwp q r x k b mine flags waits fits = grind (arith, nat_tests, its_number, its_quiet)
 
   -- and its row
   pub quiet_row : {after : Rows} {P' : ProcData → Type 0} (q r : ProcData) → Row rows FitProcess q → (q.pid == p.pid) ≡ true → Like q r → reporting r ≡ reporting q → 1 ≤ lwp_count p.pid after → P' r → KeptRow rows after nobody P' q r
@@ -84,9 +54,7 @@ module _ (rows : Rows) (p : ProcData) (l : LwpData) (a : Acting rows p l) where
   stays : (q : ProcData) → Row rows FitProcess q → (q.pid == p.pid) ≡ false → Stay rows left q
   stays q row other = stay_where rows (λ r. Some r) gone same (λ x. lwp_of x.tid rows.lwps ≡ Some x) (own_lwps rows.lwps a.sound.stands.differ) q row.at (λ x there own. (
     x,
-    rw (by_bool (x.tid == l.tid) (λ is.
-        let one : l ≡ x = some_is l x (sym a.there ∙ (ap (λ n. lwp_of n rows.lwps) (sym (eqb-true x.tid l.tid is)) ∙ there)) in
-        true≢false (sym (eq-eqb q.pid p.pid (sym own ∙ (ap (λ (k : LwpData). k.pid) (sym one) ∙ a.own))) ∙ other))) refl,
+    rw (by_bool (x.tid == l.tid) (grind (arith, nat_tests, some_is, eqb-true, eq-eqb))) refl,
   ))
 
   pub removed_sound : 2 ≤ lwp_count p.pid rows → IsSound (remove_lwp l.tid rows)
@@ -113,40 +81,12 @@ module _ (rows : Rows) (p : ProcData) (l : LwpData) (a : Acting rows p l) where
           by_home x other (Some q) = rw other refl
 
   pub exits_lwp_sound : (settings : Settings) → IsSound (exits_lwp settings p l rows).rows
-  exits_lwp_sound settings = choose (leb (lwp_count p.pid rows) 1) _ _ (λ (o : Outcome). IsSound o.rows) (λ e. end_sound rows p l a settings 0 refl) (λ more.
-      let one = leb-false (lwp_count p.pid rows) 1 more in
-      let two : 2 ≤ lwp_count p.pid rows = omega (arith, one) in
-      choose (is_some p.tracer && asks p.mask PTRACE_LWP) _ _ (λ (o : Outcome). IsSound o.rows)
-      (λ e. acting_stops rows p l a (trap PL_FLAG_EXITED 0 Call.ThrExit) (and_left (is_some p.tracer) (asks p.mask PTRACE_LWP) e) (λ shown. two)) (λ e. removed_sound two))
+  exits_lwp_sound settings = choose (leb (lwp_count p.pid rows) 1) _ _ (λ (o : Outcome). IsSound o.rows) (λ e. end_sound rows p l a settings 0 refl) (grind (arith, nat_tests, leb-false, choose, acting_stops, and_left, removed_sound))
 
   -- a new LWP
 
-  birth_due : p.tracer ≡ None → is_due (due_at_birth p) ≡ false
-  birth_due none = subst (λ (o : Option ℕ). is_due (if is_some o && asks p.mask PTRACE_LWP then Due.Born else (if is_some o && asks p.mask PTRACE_SCX then Due.Begun else Due.Nothing)) ≡ false) (sym none) refl
-
   pub joined_acting : (tid : ℕ) → LwpRoom p.uid rows tid → Acting (add_lwp p.uid (born tid p.pid l.blocked (due_at_birth p)) rows) p l
-  joined_acting tid room = record {
-    sound = joined_sound rows p (born tid p.pid l.blocked (due_at_birth p)) a.sound (record {
-      home = a.home;
-      live = its_live rows p l a;
-      own = refl;
-      tid = room.tid;
-      new = room.new;
-      few = room.few;
-      here = refl;
-      waits = refl;
-      fits = record {
-        untraced = λ none. record { due = birth_due none; stepping = refl; suspended = refl; pending = zero_apart (unwanted p) };
-        silent = λ off. record { flags = refl; child = refl; code = refl };
-        blocked = (lwp_fit rows p l a).blocked;
-        mode = refl;
-      };
-    });
-    home = a.home;
-    there = find_more (λ k. k.tid == l.tid) rows.lwps (born tid p.pid l.blocked (due_at_birth p) ∷ []) l a.there;
-    own = a.own;
-    run = a.run;
-  }
+  joined_acting tid room = grind (arith, nat_tests, joined_sound rows p (born tid p.pid l.blocked (due_at_birth p)) a.sound, a, its_live rows p l a, room, lwp_fit rows p l a, zero_apart, find_more (λ k. k.tid == l.tid) rows.lwps (born tid p.pid l.blocked (due_at_birth p) ∷ []) l a.there)
 
   pub its_user : IsUser p.uid
   its_user = (find_some (λ q. q.pid == p.pid) InOwnBlock rows.processes a.sound.stands.in_own_blocks p a.home).0.user

@@ -1,8 +1,8 @@
 -- Masks, steps and suspended LWPs of a traced process keep rows sound.
-use Rattle.requests.proofs.CommonNames.{nat_tests, ◌≡◌, inl, ℕ, Bool, true, false, ◌==◌, ◌&&◌, if◌then◌else◌, Some, None, is_some, refl, sym, ap, ◌∙◌, true≢false, subst, eqb, eqb-true, eq-eqb, arith, rules}
-use Rattle.requests.proofs.CommonNames.{EventMask, LwpData, lwp_of, ProcData, is_live, process_of, Rows, change, change_lwp, is_numbered, Settings, resume, names_own, FitProcess, Standing, FitLwp}
-use Rattle.requests.proofs.CommonNames.{WithOwner, IsSound, and_left, and_right, find_some, any_holds, choose, find_edit, holds_sound, sound_holds, changed_row, changed_own, changes_hold, live_fits}
-use Rattle.requests.proofs.CommonNames.{live_state, process_sound, lwp_sound, resume_sound, own_lwps, not_stepping, stepping, suspend, set_mask, continues_with}
+use Rattle.requests.proofs.CommonNames.{nat_tests, ◌≡◌, inl, ℕ, Bool, true, false, ◌==◌, ◌&&◌, if◌then◌else◌, Some, is_some, refl, ap, ◌∙◌, subst, eqb-true, eq-eqb, arith, rules, EventMask, LwpData}
+use Rattle.requests.proofs.CommonNames.{lwp_of, ProcData, is_live, process_of, Rows, change, change_lwp, is_numbered, Settings, resume, names_own, FitProcess, Standing, FitLwp, WithOwner, IsSound}
+use Rattle.requests.proofs.CommonNames.{and_left, and_right, find_some, any_holds, choose, find_edit, holds_sound, sound_holds, changed_row, changed_own, changes_hold, live_fits, live_state, process_sound}
+use Rattle.requests.proofs.CommonNames.{lwp_sound, resume_sound, own_lwps, not_stepping, stepping, suspend, set_mask, continues_with}
 
 -- a live traced process in sound rows
 pub record Tracee (rows : Rows) (p : ProcData) : Type 0 where
@@ -18,8 +18,7 @@ pub record OwnLwp (rows : Rows) (p : ProcData) (tid : ℕ) : Type 0 where
   pub own : lwp.pid ≡ p.pid
 
 pub named_lwp : (rows : Rows) (p : ProcData) (tid : ℕ) → IsSound rows → names_own rows p tid ≡ true → OwnLwp rows p tid
-named_lwp rows p tid s named = any_holds (λ l. (l.tid == tid) && (l.pid == p.pid)) (λ l. lwp_of l.tid rows.lwps ≡ Some l) (OwnLwp rows p tid)
-    (λ l at is. record { lwp = l; there = subst (λ n. lwp_of n rows.lwps ≡ Some l) (eqb-true l.tid tid (and_left (l.tid == tid) (l.pid == p.pid) is)) at; own = eqb-true l.pid p.pid (and_right (l.tid == tid) (l.pid == p.pid) is) }) rows.lwps (own_lwps rows.lwps s.stands.differ) named
+named_lwp rows p tid s named = grind (arith, nat_tests, any_holds (λ l. (l.tid == tid) && (l.pid == p.pid)) (λ l. lwp_of l.tid rows.lwps ≡ Some l) (OwnLwp rows p tid) (λ l at is. record { lwp = l; there = subst (λ n. lwp_of n rows.lwps ≡ Some l) (eqb-true l.tid tid (and_left (l.tid == tid) (l.pid == p.pid) is)) at; own = eqb-true l.pid p.pid (and_right (l.tid == tid) (l.pid == p.pid) is) }) rows.lwps (own_lwps rows.lwps s.stands.differ) named, eqb-true, and_left, and_right)
 
 -- rows that are found after a change
 
@@ -29,37 +28,19 @@ changed_process n chosen f g rows p same at = changed_row n chosen f rows.proces
 
 pub changed_lwp : (n : ℕ) (chosen : ProcData → Bool) (f : ProcData → ProcData) (g : ProcData → LwpData → LwpData) (rows : Rows) (l : LwpData) (p : ProcData) → ((q : ProcData) (k : LwpData) → (g q k).tid ≡ k.tid)
     → lwp_of n rows.lwps ≡ Some l → process_of l.pid rows.processes ≡ Some p → lwp_of n (change chosen f g rows).lwps ≡ Some (if chosen p then g p l else l)
-changed_lwp n chosen f g rows l p same there home = search (rules, find_edit, choose, eqb)
+changed_lwp n chosen f g rows l p same there home = search (rules, find_edit, choose)
 
 -- No LWP steps
 
 pub stepless_fits : (p : ProcData) (l : LwpData) → FitLwp p l → FitLwp p (record l { stepping = false })
 stepless_fits p l fit = grind (arith, nat_tests)
 
-pub not_stepping_sound : (rows : Rows) (pid : ℕ) → IsSound rows → IsSound (not_stepping pid rows)
-not_stepping_sound rows pid s = sound_holds (not_stepping pid rows) (changes_hold rows (is_numbered pid) (λ p. p) (λ p l. record l { stepping = false }) FitProcess FitLwp FitProcess FitLwp (holds_sound rows s) (record {
-  same = λ p. (refl, refl, refl, refl);
-  same_lwp = λ p l. (refl, refl, refl, refl);
-  live = λ p row is. refl;
-  named = λ p row is. inl refl;
-  fits = λ p row is. row.fact;
-  rest = λ p row is. row.fact;
-  fit_lwp = λ p l b is. stepless_fits p l b.fact;
-  rest_lwp = λ p l b is. b.fact;
-}))
-
 same_either : {X : Type 0} (b : Bool) (x : X) → (if b then x else x) ≡ x
-same_either true x = refl
-same_either false x = refl
+same_either b x = grind (arith, nat_tests)
 
 module _ (rows : Rows) (p : ProcData) (t : Tracee rows p) where
   pub not_stepping_tracee : Tracee (not_stepping p.pid rows) p
-  not_stepping_tracee = record {
-    sound = not_stepping_sound rows p.pid t.sound;
-    home = subst (λ q. process_of p.pid (not_stepping p.pid rows).processes ≡ Some q) (same_either (p.pid == p.pid) p) (changed_process p.pid (is_numbered p.pid) (λ q. q) (λ q l. record l { stepping = false }) rows p (λ q. refl) t.home);
-    live = t.live;
-    traced = t.traced;
-  }
+  not_stepping_tracee = grind (arith, nat_tests, sound_holds (not_stepping p.pid rows) (changes_hold rows (is_numbered p.pid) (λ q. q) (λ q l. record l { stepping = false }) FitProcess FitLwp FitProcess FitLwp (holds_sound rows t.sound) (grind (arith, nat_tests, stepless_fits))), changed_process p.pid (is_numbered p.pid) (λ q. q) (λ q l. record l { stepping = false }) rows p (λ q. refl) t.home, t)
 
   its_fit : FitProcess p
   its_fit = (find_some (λ q. q.pid == p.pid) FitProcess rows.processes t.sound.processes p t.home).0
@@ -70,32 +51,14 @@ module _ (rows : Rows) (p : ProcData) (t : Tracee rows p) where
     owner_is : process_of o.lwp.pid rows.processes ≡ Some p
     owner_is = ap (λ n. process_of n rows.processes) o.own ∙ t.home
 
-    stood : Standing rows p o.lwp
-    stood = (find_some (λ k. k.tid == tid) (WithOwner rows (Standing rows)) rows.lwps t.sound.stands.standing o.lwp o.there).0 p owner_is
-
     pub not_stepping_lwp : OwnLwp (not_stepping p.pid rows) p tid
-    not_stepping_lwp = record {
-      lwp = record o.lwp { stepping = false };
-      there = subst (λ b. lwp_of tid (not_stepping p.pid rows).lwps ≡ Some (if b then record o.lwp { stepping = false } else o.lwp)) (eq-eqb p.pid p.pid refl) (changed_lwp tid (is_numbered p.pid) (λ q. q) (λ q l. record l { stepping = false }) rows o.lwp p (λ q k. refl) o.there owner_is);
-      own = o.own;
-    }
-
-    not_free : (R : Type 0) → p.tracer ≡ None → R
-    not_free R none = absurd (true≢false (sym t.traced ∙ ap is_some none))
+    not_stepping_lwp = record { lwp = record o.lwp { stepping = false }; there = grind (arith, nat_tests, eq-eqb p.pid p.pid refl, changed_lwp tid (is_numbered p.pid) (λ q. q) (λ q l. record l { stepping = false }) rows o.lwp p (λ q k. refl) o.there owner_is); own = o.own }
 
     pub suspend_sound : (on : Bool) → IsSound (suspend on tid rows)
-    suspend_sound on = lwp_sound rows tid p o.lwp (λ l. record l { suspended = on }) t.sound o.there owner_is (record {
-      same = λ k. (refl, refl, refl);
-      waits = stood.waits;
-      fit = λ fit. record { untraced = not_free _; silent = λ off. let was = fit.silent off in record { flags = was.flags; child = was.child; code = was.code }; blocked = fit.blocked; mode = fit.mode };
-    })
+    suspend_sound on = lwp_sound rows tid p o.lwp (λ l. record l { suspended = on }) t.sound o.there owner_is (record { same = λ k. (refl, refl, refl); waits = ((find_some (λ k. k.tid == tid) (WithOwner rows (Standing rows)) rows.lwps t.sound.stands.standing o.lwp o.there).0 p owner_is).waits; fit = λ fit. grind (arith, nat_tests, t.traced) })
 
     pub step_sound : IsSound (change_lwp tid (λ l. record l { stepping = true }) rows)
-    step_sound = lwp_sound rows tid p o.lwp (λ l. record l { stepping = true }) t.sound o.there owner_is (record {
-      same = λ k. (refl, refl, refl);
-      waits = stood.waits;
-      fit = λ fit. record { untraced = not_free _; silent = λ off. let was = fit.silent off in record { flags = was.flags; child = was.child; code = was.code }; blocked = fit.blocked; mode = fit.mode };
-    })
+    step_sound = lwp_sound rows tid p o.lwp (λ l. record l { stepping = true }) t.sound o.there owner_is (record { same = λ k. (refl, refl, refl); waits = ((find_some (λ k. k.tid == tid) (WithOwner rows (Standing rows)) rows.lwps t.sound.stands.standing o.lwp o.there).0 p owner_is).waits; fit = λ fit. grind (arith, nat_tests, t.traced) })
 
   -- Its mask
 
@@ -103,21 +66,10 @@ module _ (rows : Rows) (p : ProcData) (t : Tracee rows p) where
   masked mask q = record q { mask = mask q.mask }
 
   pub set_mask_sound : (mask : EventMask → EventMask) → IsSound (set_mask mask p.pid rows)
-  set_mask_sound mask = process_sound rows p.pid p (masked mask) t.sound t.home (record {
-    same = λ q. (refl, refl, refl, refl);
-    live = refl;
-    named = inl refl;
-    fits = record { stopped = its_fit.stopped; job = its_fit.job; continued = its_fit.continued; untraced = λ none. absurd (true≢false (sym t.traced ∙ ap is_some none)); ended = live_fits (masked mask p) p.state (live_state p t.live) };
-    fit_lwp = λ l fit. record { untraced = λ none. absurd (true≢false (sym t.traced ∙ ap is_some none)); silent = fit.silent; blocked = fit.blocked; mode = fit.mode };
-  })
+  set_mask_sound mask = process_sound rows p.pid p (masked mask) t.sound t.home (record { same = λ q. (refl, refl, refl, refl); live = refl; named = inl refl; fits = grind (arith, nat_tests, its_fit, live_fits, live_state, t.traced, t.live); fit_lwp = λ l fit. grind (arith, nat_tests, t.traced) })
 
   pub set_mask_tracee : (mask : EventMask → EventMask) → Tracee (set_mask mask p.pid rows) (masked mask p)
-  set_mask_tracee mask = record {
-    sound = set_mask_sound mask;
-    home = changed_own p (masked mask) rows.processes (λ q. refl) t.home;
-    live = t.live;
-    traced = t.traced;
-  }
+  set_mask_tracee mask = grind (arith, nat_tests, set_mask_sound mask, changed_own p (masked mask) rows.processes (λ q. refl) t.home, t)
 
   pub resumes_sound : (settings : Settings) (sig : ℕ) → IsSound (resume settings p.pid sig rows)
   resumes_sound settings sig = resume_sound settings rows p.pid p t.sound t.home t.live sig
@@ -128,7 +80,4 @@ stepping_tracee rows p tid t o =
     record { sound = step_sound (not_stepping p.pid rows) p less tid (not_stepping_lwp rows p t tid o); home = less.home; live = t.live; traced = t.traced }
 
 pub continues_sound : (settings : Settings) (mask : EventMask → EventMask) (sig : ℕ) (rows : Rows) (p : ProcData) → Tracee rows p → IsSound (continues_with settings mask sig p rows).rows
-continues_sound settings mask sig rows p t =
-    let masks = set_mask_tracee rows p t mask in
-    let less = not_stepping_tracee (set_mask mask p.pid rows) (masked rows p t mask p) masks in
-    resumes_sound (not_stepping p.pid (set_mask mask p.pid rows)) (masked rows p t mask p) less settings sig
+continues_sound settings mask sig rows p t = resumes_sound (not_stepping p.pid (set_mask mask p.pid rows)) (masked rows p t mask p) (not_stepping_tracee (set_mask mask p.pid rows) (masked rows p t mask p) (set_mask_tracee rows p t mask)) settings sig

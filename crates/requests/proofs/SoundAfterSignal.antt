@@ -1,13 +1,12 @@
 -- Pending signals that an LWP takes, and what they do, keep rows sound.
-use Rattle.requests.proofs.CommonNames.{◌≡◌, inl, inr, ℕ, Bool, true, false, ◌==◌, not, [], ◌∷◌, Option, Some, None, IfSome, is_some, refl, sym, ap, ◌∙◌, true≢false, subst, eqb-true, bit_or, rules, le-leb}
-use Rattle.requests.proofs.CommonNames.{has, bit, without, lowest, SIGTRAP, unblockable_set, is_signal, maskable, disposition_of, default_action, IsSignal, IsLowest, Action, Disposition, LwpData, Mode, User}
-use Rattle.requests.proofs.CommonNames.{InCall, VforkWait, ProcData, Job, is_live, is_this, process_of, Rows, change_process, change_lwp, Settings, unwanted, notified, end, stop, is_end, Linked, FitProcess}
-use Rattle.requests.proofs.CommonNames.{FitLwp, IsSound, both, by_bool, find_some, choose, not_some, If_more, changed_own, process_sound, pending_fits, end_at, post_sound, Outcome, in_user_mode}
-use Rattle.requests.proofs.CommonNames.{next_signal, without_signal, plain, takes_by_default, takes_untraced, takes, computes, raises}
+use Rattle.requests.proofs.CommonNames.{◌≡◌, ℕ, Bool, true, false, ◌==◌, not, [], ◌∷◌, Option, Some, None, IfSome, is_some, refl, sym, ap, ◌∙◌, true≢false, subst, eqb-true, rules, le-leb, arith, nat_tests}
+use Rattle.requests.proofs.CommonNames.{has, bit, without, SIGTRAP, is_signal, maskable, disposition_of, default_action, IsSignal, Action, LwpData, Mode, ProcData, Job, is_live, Rows, change_process}
+use Rattle.requests.proofs.CommonNames.{change_lwp, Settings, unwanted, notified, end, stop, is_end, Linked, FitProcess, FitLwp, IsSound, both, by_bool, find_some, choose, changed_own, process_sound}
+use Rattle.requests.proofs.CommonNames.{pending_fits, end_at, post_sound, Outcome, in_user_mode, next_signal, without_signal, plain, takes_by_default, takes_untraced, takes, computes, raises}
 use Rattle.signals.proofs.Members.{lowest-some}
 use Rattle.trace_stop.proofs.Bits.{without_apart, without_less}
 use Rattle.trace_stop.proofs.SoundAfterNotify.{live_told, notified_sound}
-use Rattle.requests.proofs.Acting.{Acting, its_live, its_quiet, its_fit, lwp_stands, lwp_fit, acting_lwp, acting_process, acting_stops, traced_where}
+use Rattle.requests.proofs.Acting.{Acting, its_live, its_quiet, its_fit, lwp_stands, lwp_fit, acting_lwp, acting_process, acting_stops}
 use Rattle.requests.proofs.SoundAfterMask.{stepless_fits}
 
 -- the row of the process and that of the LWP, with the same numbers and the same tracer and parent
@@ -39,53 +38,20 @@ module _ (rows : Rows) (p : ProcData) (l : LwpData) (a : Acting rows p l) where
   taken_lwp s k = record k { pending = without k.pending (bit s) }
 
   pub taken_alike : (s : ℕ) → Alike (without_signal s p l rows) p l
-  taken_alike s = choose (has l.pending s) (change_lwp l.tid (taken_lwp s) rows) (change_process p.pid (taken s) rows) (λ r. Alike r p l)
-      (λ e. alike_of p (taken_lwp s l) (acting_lwp rows p l a (taken_lwp s) (record { same = λ k. (refl, refl, refl); waits = (lwp_stands rows p l a).waits; fit = fewer_pending_lwp p l s })) refl refl refl refl)
-      (λ e. alike_of (taken s p) l (acting_process rows p l a (taken s) (record {
-        same = λ q. (refl, refl, refl, refl);
-        live = refl;
-        named = inl refl;
-        fits = fewer_pending p s (its_fit rows p l a) (its_live rows p l a);
-        fit_lwp = λ k fit. record { untraced = λ none. let was = fit.untraced none in record { due = was.due; stepping = was.stepping; suspended = was.suspended; pending = was.pending }; silent = fit.silent; blocked = fit.blocked; mode = fit.mode };
-      }) a.run) refl refl refl refl)
+  taken_alike s = grind (arith, nat_tests, choose (has l.pending s) (change_lwp l.tid (taken_lwp s) rows) (change_process p.pid (taken s) rows) (λ r. Alike r p l) (λ e. alike_of p (taken_lwp s l) (acting_lwp rows p l a (taken_lwp s) (record { same = λ k. (refl, refl, refl); waits = (lwp_stands rows p l a).waits; fit = fewer_pending_lwp p l s })) refl refl refl refl) (grind (arith, nat_tests, acting_process, fewer_pending, its_fit, its_live)), fewer_pending_lwp p l s, acting_process, fewer_pending, its_fit, its_live)
 
   -- a stop for job control
 
   abbrev job_stopped : ℕ → ProcData → ProcData
   job_stopped s q = record q { state = Job s false; continued = false }
 
-  pub job_process_sound : (s : ℕ) → p.tracer ≡ None → IsSound (change_process p.pid (job_stopped s) rows)
-  job_process_sound s free = process_sound rows p.pid p (job_stopped s) a.sound a.home (record {
-    same = λ q. (refl, refl, refl, refl);
-    live = sym (its_live rows p l a);
-    named = inr refl;
-    fits = record {
-      stopped = λ is. absurd (true≢false (sym is));
-      job = λ is. free;
-      continued = λ on. absurd (true≢false (sym on));
-      untraced = λ none. let was = (its_fit rows p l a).untraced none in record { mask = was.mask; pending = was.pending };
-      ended = tt;
-    };
-    fit_lwp = λ k fit. record {
-      untraced = λ none. let was = fit.untraced none in record { due = was.due; stepping = was.stepping; suspended = was.suspended; pending = was.pending };
-      silent = λ off. fit.silent (ap (is_this k.tid) (its_quiet rows p l a));
-      blocked = fit.blocked;
-      mode = fit.mode;
-    };
-  })
-
   -- its parent is notified
   pub job_stop_sound : (s : ℕ) → p.tracer ≡ None → IsSound (notified (p.parent ∷ []) (change_process p.pid (job_stopped s) rows))
-  job_stop_sound s free = notified_sound made (p.parent ∷ []) made_sound ((λ ne. live_told made p.uid p.parent ((find_some (λ q. q.pid == p.pid) (Linked made) made.processes made_sound.stands.linked (job_stopped s p) found).0.parent ne) ne), tt)
-    where
-      made : Rows
-      made = change_process p.pid (job_stopped s) rows
-
-      made_sound : IsSound made
-      made_sound = job_process_sound s free
-
-      found : process_of p.pid made.processes ≡ Some (job_stopped s p)
-      found = changed_own p (job_stopped s) rows.processes (λ q. refl) a.home
+  job_stop_sound s free =
+      let made = change_process p.pid (job_stopped s) rows in
+      let sound : IsSound made = process_sound rows p.pid p (job_stopped s) a.sound a.home (grind (arith, nat_tests, its_live rows p l a, its_fit rows p l a, its_quiet rows p l a, free)) in
+      let found = changed_own p (job_stopped s) rows.processes (λ q. refl) a.home in
+      notified_sound made (p.parent ∷ []) sound ((λ ne. live_told made p.uid p.parent ((find_some (λ q. q.pid == p.pid) (Linked made) made.processes sound.stands.linked (job_stopped s p) found).0.parent ne) ne), tt)
 
   pub end_sound : (settings : Settings) (status : ℕ) → is_end status ≡ true → IsSound (end settings p.pid status rows)
   end_sound settings status word = end_at rows p.pid p a.sound a.home (its_live rows p l a) settings status word
@@ -95,42 +61,28 @@ module _ (rows : Rows) (p : ProcData) (l : LwpData) (a : Acting rows p l) where
 abbrev IfTaken : Mode → Option ℕ → Type 0
 IfTaken m o = IfSome (in_user_mode m o) IsSignal
 
-taken_signal : (m : Mode) (set : ℕ) → IfTaken m (lowest set)
-taken_signal User set = If_more (IsLowest set) IsSignal (λ n low. low.signal) (lowest set) (lowest-some set)
-taken_signal (InCall call) set = tt
-taken_signal (VforkWait child) set = tt
-
 pub next_is_signal : (p : ProcData) (l : LwpData) → IfSome (next_signal p l) IsSignal
-next_is_signal p l = taken_signal l.mode (without (bit_or l.pending p.pending) l.blocked)
+next_is_signal p l = search (rules, lowest-some)
 
 abbrev is_end_action : Action → Bool
 is_end_action Action.End = true
 is_end_action Action.Stop = false
 is_end_action Action.Discard = false
 
--- the signals that end a process by default are words of ends
-ends_by_default : (s : ℕ) → IsSignal s → default_action s ≡ Action.End → is_end s ≡ true
-ends_by_default s sig is = search (rules, both, le-leb, by_bool, eqb-true)
-
 module _ (settings : Settings) (s : ℕ) (sig : IsSignal s) (rows : Rows) (p : ProcData) (l : LwpData) (k : Alike rows p l) where
   abbrev q : ProcData
   q = k.process
 
   by_action : (x : Action) → default_action s ≡ x → p.tracer ≡ None → IsSound (takes_by_default settings s x p l rows).rows
-  by_action Action.End e free = subst (λ n. IsSound (end settings n s rows)) k.pid (end_sound rows q k.lwp k.acting settings s (ends_by_default s sig e))
+  by_action Action.End e free = subst (λ n. IsSound (end settings n s rows)) k.pid (end_sound rows q k.lwp k.acting settings s (search (rules, both, le-leb, by_bool, eqb-true)))
   by_action Action.Stop e free = search (rules, job_stop_sound)
   by_action Action.Discard e free = k.acting.sound
-
-  by_disposition : (d : Disposition) → p.tracer ≡ None → IsSound (takes_untraced settings s d p l rows).rows
-  by_disposition Disposition.Default free = by_action (default_action s) refl free
-  by_disposition Disposition.Ignore free = k.acting.sound
-  by_disposition Disposition.Catch free = k.acting.sound
 
   pub takes_sound : IsSound (takes settings s p l rows).rows
   takes_sound = choose (is_some p.tracer) _ (takes_untraced settings s (disposition_of p.dispositions s) p l rows) (λ (o : Outcome). IsSound o.rows)
       (λ e. subst (λ n. IsSound (stop n l.tid (plain s) rows)) k.pid (subst (λ n. IsSound (stop q.pid n (plain s) rows)) k.tid
       (acting_stops rows q k.lwp k.acting (plain s) (ap is_some k.tracer ∙ e) (λ is. absurd (true≢false (sym is))))))
-      (λ e. by_disposition (disposition_of p.dispositions s) (not_some p.tracer e))
+      (λ e. (search (rules, by_action)))
 
 -- Acts in user mode, except calls
 
@@ -139,26 +91,11 @@ module _ (rows : Rows) (p : ProcData) (l : LwpData) (a : Acting rows p l) where
   raise_sound settings s = choose (not (is_signal s)) _ _ (λ (o : Outcome). IsSound o.rows) (λ e. a.sound) (λ e. post_sound rows p.pid p a.sound a.home (its_live rows p l a) settings s (Some l.tid))
 
   pub block_sound : (set : ℕ) → IsSound (change_lwp l.tid (λ k. record k { blocked = maskable set }) rows)
-  block_sound set = (acting_lwp rows p l a (λ k. record k { blocked = maskable set }) (record {
-    same = λ k. (refl, refl, refl);
-    waits = (lwp_stands rows p l a).waits;
-    fit = λ fit. record {
-      untraced = λ none. let was = fit.untraced none in record { due = was.due; stepping = was.stepping; suspended = was.suspended; pending = was.pending };
-      silent = λ off. let was = fit.silent off in record { flags = was.flags; child = was.child; code = was.code };
-      blocked = without_apart set unblockable_set;
-      mode = fit.mode;
-    };
-  })).sound
+  block_sound set = (acting_lwp rows p l a (λ k. record k { blocked = maskable set }) (grind (arith, nat_tests, lwp_stands, without_apart))).sound
 
   -- a step is over
   pub stepped_acting : Acting (change_lwp l.tid (λ k. record k { stepping = false }) rows) p (record l { stepping = false })
-  stepped_acting = acting_lwp rows p l a (λ k. record k { stepping = false }) (record {
-    same = λ k. (refl, refl, refl);
-    waits = (lwp_stands rows p l a).waits;
-    fit = stepless_fits p l;
-  })
+  stepped_acting = acting_lwp rows p l a (λ k. record k { stepping = false }) (grind (arith, nat_tests, lwp_stands, stepless_fits))
 
   pub compute_sound : IsSound (computes p l rows).rows
-  compute_sound = choose l.stepping _ _ (λ (o : Outcome). IsSound o.rows)
-      (λ e. acting_stops (change_lwp l.tid (λ k. record k { stepping = false }) rows) p (record l { stepping = false }) stepped_acting (plain SIGTRAP) (traced_where p.tracer (λ none. true≢false (sym e ∙ ((lwp_fit rows p l a).untraced none).stepping))) (λ is. absurd (true≢false (sym is))))
-      (λ e. a.sound)
+  compute_sound = choose l.stepping _ _ (λ (o : Outcome). IsSound o.rows) (λ e. acting_stops (change_lwp l.tid (λ k. record k { stepping = false }) rows) p (record l { stepping = false }) stepped_acting (plain SIGTRAP) (grind (arith, nat_tests, e, lwp_fit rows p l a)) (grind (arith, nat_tests))) (λ e. a.sound)

@@ -1,8 +1,8 @@
 -- A host whose rows are sound after a step is sound, once the pairs of ended debuggers are gone.
-use Rattle.requests.proofs.CommonNames.{nat_tests, ◌≡◌, ℕ, ◌+◌, ◌≤◌, List, [], ◌∷◌, length, map, filter, zip, Bool, true, ◌==◌, ◌&&◌, leb, refl, ap, ◌∙◌, arith, eqb-true, subst, eq-eqb, get_or, rules}
-use Rattle.requests.proofs.CommonNames.{length-map, AllByRecursion, list_any, list_all, le-leb, leb-true, IsUser, slot, pid_block, users, ProcData, is_live, Rows, InOwnBlock, is_live_of, sound_rows, IsLiveOf}
-use Rattle.requests.proofs.CommonNames.{MidStepInvariant, IsSound, and_left, and_right, both, All-from_list_all, list_all-from_All, All-imply, any_holds, any_more, IsSound-from, sound_rows-from, user_at, zip_users}
-use Rattle.requests.proofs.CommonNames.{Outcome, answers, Reply, Installed, Machine, installed_by, is_live_number, after, sound_installed, sound, ◌<◌}
+use Rattle.requests.proofs.CommonNames.{◌≡◌, ℕ, ◌+◌, ◌≤◌, List, [], ◌∷◌, length, map, filter, zip, Bool, true, ◌==◌, ◌&&◌, leb, ap, ◌∙◌, arith, eqb-true, subst, eq-eqb, get_or, rules, length-map}
+use Rattle.requests.proofs.CommonNames.{nat_tests, AllByRecursion, list_any, list_all, le-leb, IsUser, slot, pid_block, users, ProcData, is_live, Rows, InOwnBlock, is_live_of, sound_rows, IsLiveOf}
+use Rattle.requests.proofs.CommonNames.{MidStepInvariant, IsSound, and_left, and_right, both, All-from_list_all, list_all-from_All, any_holds, any_more, IsSound-from, sound_rows-from, user_at, zip_users}
+use Rattle.requests.proofs.CommonNames.{Outcome, answers, Reply, Installed, Machine, installed_by, is_live_number, after, sound_installed, sound, ◌<◌, filter-all, All-where}
 use Rattle.pid_blocks.specs.Blocks.{InBlock}
 use Rattle.std.proofs.lemmas.List.{same_lists, get_or_default}
 use Rattle.std.proofs.lemmas.List.Sums.{length-filter, count_by-le-length}
@@ -15,16 +15,7 @@ any_of_user rows u n user home [] all is = is
 any_of_user rows u n user home (p ∷ ps) all is = search (rules, any_of_user rows u n user home ps all.1, and_left, eq-eqb, eqb-true, and_right)
 
 home_of : (rows : Rows) → MidStepInvariant rows → (u n : ℕ) → IsLiveOf rows u n → InBlock (pid_block u) n
-home_of rows s u n live = any_holds (λ p. (p.pid == n) && (p.uid == u) && is_live p) InOwnBlock (InBlock (pid_block u) n)
-    (λ p at is. let same = and_left _ (is_live p) is in subst (λ m. InBlock (pid_block u) m) (eqb-true p.pid n (and_left (p.pid == n) (p.uid == u) same)) (subst (λ w. InBlock (pid_block w) p.pid) (eqb-true p.uid u (and_right (p.pid == n) (p.uid == u) same)) at.block)) rows.processes s.in_own_blocks live
-
-filter_all : {X : Type 0} (q : X → Bool) (P Q : X → Type 0) → ((x : X) → P x → q x ≡ true → Q x) → (xs : List X) → AllByRecursion P xs → AllByRecursion Q (filter q xs)
-filter_all q P Q h [] all = tt
-filter_all {X} q P Q h (x ∷ xs) all = grind (arith, nat_tests, filter_all q P Q h xs all.1)
-
-filter_each : {X : Type 0} (q : X → Bool) (xs : List X) → AllByRecursion (λ x. q x ≡ true) xs → filter q xs ≡ xs
-filter_each q [] all = refl
-filter_each q (x ∷ xs) all = rw all.0 (ap (λ ys. x ∷ ys) (filter_each q xs all.1))
+home_of rows s u n live = any_holds (λ p. (p.pid == n) && (p.uid == u) && is_live p) InOwnBlock (InBlock (pid_block u) n) (λ p at is. grind (arith, nat_tests, at.block, is)) rows.processes s.in_own_blocks live
 
 -- two lists of one length that agree at each place
 pub same_at : {X : Type 0} (xs ys : List X) (e : X) → length xs ≡ length ys → ((k : ℕ) → k < length xs → get_or xs k e ≡ get_or ys k e) → xs ≡ ys
@@ -38,17 +29,14 @@ rows_sound m is = IsSound-from m.rows (and_left (sound_rows m.rows) (sound_insta
 
 -- What soundness says of a user's pairs
 module _ (m : Machine) (is : sound m ≡ true) where
-  pairs : sound_installed m ≡ true
-  pairs = and_right (sound_rows m.rows) (sound_installed m) is
-
   pub slots_of : length m.installed ≡ 64
-  slots_of = eqb-true (length m.installed) 64 (and_left (length m.installed == 64) (list_all (pairs_test m.rows) (zip users m.installed)) pairs)
+  slots_of = eqb-true (length m.installed) 64 (and_left (length m.installed == 64) (list_all (pairs_test m.rows) (zip users m.installed)) (and_right (sound_rows m.rows) (sound_installed m) is))
 
   pub pairs_of : (u : ℕ) → IsUser u → pairs_test m.rows (u, installed_by u m) ≡ true
-  pairs_of u user = user_at (pairs_test m.rows) m.installed [] slots_of (and_right (length m.installed == 64) (list_all (pairs_test m.rows) (zip users m.installed)) pairs) u user
+  pairs_of u user = user_at (pairs_test m.rows) m.installed [] slots_of (and_right (length m.installed == 64) (list_all (pairs_test m.rows) (zip users m.installed)) (and_right (sound_rows m.rows) (sound_installed m) is)) u user
 
   pub few_installed : (u : ℕ) → IsUser u → length (installed_by u m) ≤ 64
-  few_installed u user = leb-true (length (installed_by u m)) 64 (and_left (leb (length (installed_by u m)) 64) (list_all (λ i. is_live_of m.rows u i.debugger) (installed_by u m)) (pairs_of u user))
+  few_installed u user = grind (arith, nat_tests, pairs_of u user)
 
   pub live_pairs : (u : ℕ) → IsUser u → AllByRecursion (λ i. is_live_of m.rows u i.debugger ≡ true) (installed_by u m)
   live_pairs u user = All-from_list_all (λ i. is_live_of m.rows u i.debugger) (installed_by u m) (and_right (leb (length (installed_by u m)) 64) (list_all (λ i. is_live_of m.rows u i.debugger) (installed_by u m)) (pairs_of u user))
@@ -67,7 +55,7 @@ after_sound m o is s = both (sound_rows o.rows) (sound_installed (after m o).mac
         let fewer = count_by-le-length left (installed_by u m) in
         rw (get_or-map (filter left) m.installed (slot u) []) (both (leb (length (filter left (installed_by u m))) 64) (list_all (λ i. is_live_of o.rows u i.debugger) (filter left (installed_by u m))) (le-leb (length (filter left (installed_by u m))) 64 (omega (arith, few, count, fewer)))
         (list_all-from_All (λ i. is_live_of o.rows u i.debugger) (filter left (installed_by u m))
-        (filter_all left (λ i. is_live_of m.rows u i.debugger ≡ true) (λ i. is_live_of o.rows u i.debugger ≡ true)
+        (All-where left (λ i. is_live_of m.rows u i.debugger ≡ true) (λ i. is_live_of o.rows u i.debugger ≡ true)
         (λ i was still. any_of_user o.rows u i.debugger user (home_of m.rows (rows_sound m is).stands u i.debugger was) o.rows.processes s.stands.in_own_blocks still) (installed_by u m) (live_pairs m is u user))))
 
 live_number : (rows : Rows) (u n : ℕ) → IsLiveOf rows u n → is_live_number rows n ≡ true
@@ -75,7 +63,7 @@ live_number rows u n is = search (rules, any_more, both, and_left, and_right)
 
 -- no pair of a user goes where each live process stays live
 pub left_live : (m : Machine) → sound m ≡ true → (rows : Rows) → ((n : ℕ) → is_live_number m.rows n ≡ true → is_live_number rows n ≡ true) → (u : ℕ) → IsUser u → filter (λ i. is_live_number rows i.debugger) (installed_by u m) ≡ installed_by u m
-left_live m is rows stays u user = filter_each (λ i. is_live_number rows i.debugger) (installed_by u m) (All-imply (λ i. is_live_of m.rows u i.debugger ≡ true) (λ i. is_live_number rows i.debugger ≡ true) (λ i was. stays i.debugger (live_number m.rows u i.debugger was)) (installed_by u m) (live_pairs m is u user))
+left_live m is rows stays u user = filter-all (λ i. is_live_number rows i.debugger) (λ i. is_live_of m.rows u i.debugger ≡ true) (λ i was. stays i.debugger (live_number m.rows u i.debugger was)) (installed_by u m) (live_pairs m is u user)
 
 pub all_left : (m : Machine) → sound m ≡ true → (u : ℕ) → IsUser u → filter (λ i. is_live_number m.rows i.debugger) (installed_by u m) ≡ installed_by u m
 all_left m is u user = left_live m is m.rows (λ n live. live) u user

@@ -1,44 +1,31 @@
 -- A stopped tracee in sound rows, and changes of its row and of its LWPs.
-use Rattle.requests.proofs.CommonNames.{Gives, Attempts, Ok, Bool, ◌≡◌, ℕ, ◌≤◌, ◌==◌, arith, eqb-true, true, false, if◌then◌else◌, Option, Some, None, is_some, refl, sym, ap, ◌∙◌, true≢false, subst, eq-eqb, rules, IsSomeAnd}
-use Rattle.requests.proofs.CommonNames.{nat_tests, EventMask, SIGKILL, LwpData, lwp_of, Differ, ProcData, State, Run, Trace, Job, Zombie, process_of, named_by, reporting, is_zombie_state, Rows}
-use Rattle.requests.proofs.CommonNames.{change_process, change_lwp, is_numbered, map_lwps, lwp_count, lwp_count_of, owns, Rise, IsRow, InOwnBlock, set_lwp, owns-kept, found_row, lwp_of-tid, every_found}
-use Rattle.requests.proofs.CommonNames.{some_and, change_process-at, change_lwp-at, change-at, lwp_there, Settings, resume, IsSound, count_edit, changed_row, edit_none, Reply, Outcome, answers}
-use Rattle.requests.proofs.CommonNames.{not_stepping, stepping, set_mask, continues_with, with_signal, choose}
+use Rattle.requests.proofs.CommonNames.{Gives, Attempts, Ok, Bool, ◌≡◌, ℕ, ◌≤◌, ◌==◌, arith, eqb-true, true, false, if◌then◌else◌, Option, Some, None, is_some, refl, sym, ap, ◌∙◌, true≢false, subst}
+use Rattle.requests.proofs.CommonNames.{eq-eqb, rules, IsSomeAnd, nat_tests, EventMask, SIGKILL, LwpData, lwp_of, Differ, ProcData, process_of, reporting, Rows, change_process, change_lwp, is_numbered}
+use Rattle.requests.proofs.CommonNames.{map_lwps, lwp_count, lwp_count_of, owns, Rise, IsRow, InOwnBlock, set_lwp, owns-kept, found_row, lwp_of-tid, every_found, some_and, change_process-at, change_lwp-at}
+use Rattle.requests.proofs.CommonNames.{change-at, lwp_there, Settings, resume, IsSound, count_edit, changed_row, edit_none, Reply, Outcome, answers, not_stepping, stepping, set_mask, continues_with}
+use Rattle.requests.proofs.CommonNames.{with_signal, choose}
 use Rattle.trace_stop.specs.Reports.{IsStopped}
 use Rattle.trace_stop.proofs.StoppedByOwnLwp.{IsStopped-from}
 use Rattle.requests.proofs.SoundAfterMask.{Tracee, OwnLwp, not_stepping_tracee, not_stepping_lwp, set_mask_tracee, stepping_tracee}
 
 -- A process with a number is found with its change
 
-pub process_changed : (n : ℕ) (f : ProcData → ProcData) (rows : Rows) (p : ProcData) → ((q : ProcData) → (f q).pid ≡ q.pid) → process_of n rows.processes ≡ Some p
-    → process_of n (change_process n f rows).processes ≡ Some (if p.pid == n then f p else p)
-process_changed n f rows p same at = changed_row n (is_numbered n) f rows.processes p same at
-
 pub row_changed : (n : ℕ) (f : ProcData → ProcData) (rows : Rows) (p : ProcData) → ((q : ProcData) → (f q).pid ≡ q.pid) → process_of n rows.processes ≡ Some p → IsRow (change_process n f rows) n
-row_changed n f rows p same at = found_row n (if p.pid == n then f p else p) (change_process n f rows).processes (process_changed n f rows p same at)
+row_changed n f rows p same at = found_row n (if p.pid == n then f p else p) (change_process n f rows).processes (changed_row n (is_numbered n) f rows.processes p same at)
 
 -- An LWP found by its own number, and its edit
 
-pub lwp_at_own : (n : ℕ) (k : LwpData) (rows : Rows) → lwp_of n rows.lwps ≡ Some k → lwp_of k.tid rows.lwps ≡ Some k
-lwp_at_own n k rows at = ap (λ m. lwp_of m rows.lwps) (lwp_of-tid n k rows.lwps at) ∙ at
-
 pub lwp_may_change : (n : ℕ) (k : LwpData) (rows : Rows) → lwp_of n rows.lwps ≡ Some k → IsSomeAnd (lwp_of k.tid rows.lwps) (λ was. was.pid ≡ k.pid)
-lwp_may_change n k rows at = lwp_there rows k k (lwp_at_own n k rows at) refl
+lwp_may_change n k rows at = lwp_there rows k k (ap (λ m. lwp_of m rows.lwps) (lwp_of-tid n k rows.lwps at) ∙ at) refl
 
 pub lwp_changed : (n : ℕ) (f : LwpData → LwpData) (k : LwpData) (rows rows1 : Rows) → ((l : LwpData) → (f l).tid ≡ l.tid) → Differ rows.lwps → lwp_of n rows.lwps ≡ Some k → rows1 ≡ set_lwp (f k) rows → rows1 ≡ change_lwp n f rows
 lwp_changed n f k rows rows1 same d at put = put ∙ sym (change_lwp-at n f rows k d at (same k ∙ lwp_of-tid n k rows.lwps at))
 
 -- A stopped tracee
 
-live_state : (s : State) → is_some (named_by s) ≡ true → is_zombie_state s ≡ false
-live_state Run reports = refl
-live_state (Trace tid sig told) reports = refl
-live_state (Job sig told) reports = refl
-live_state (Zombie w) reports = absurd (true≢false (sym reports))
-
 module _ (rows : Rows) (p : ProcData) (s : IsSound rows) (at : process_of p.pid rows.processes ≡ Some p) (reports : is_some (reporting p) ≡ true) where
   pub is_tracee : Tracee rows p
-  is_tracee = search (rules, live_state, every_found)
+  is_tracee = grind (arith, nat_tests, every_found)
 
   pub is_stopped : IsStopped p.pid rows
   is_stopped = by_lwp (reporting p) refl reports
@@ -53,9 +40,7 @@ own_lwp rows p tid own = let l = some_and (λ (k : LwpData). k.pid ≡ p.pid) (l
 -- Masks
 
 pub set_mask_as : (mask : EventMask → EventMask) (rows : Rows) (p : ProcData) → Rise rows.processes → process_of p.pid rows.processes ≡ Some p → set_mask (λ old. mask p.mask) p.pid rows ≡ set_mask mask p.pid rows
-set_mask_as mask rows p up at =
-    change_process-at p.pid (λ q. record q { mask = mask p.mask }) rows p up at refl
-    ∙ sym (change_process-at p.pid (λ q. record q { mask = mask q.mask }) rows p up at refl)
+set_mask_as mask rows p up at = grind (arith, nat_tests, change_process-at p.pid (λ q. record q { mask = mask p.mask }) rows p up at refl, change_process-at p.pid (λ q. record q { mask = mask q.mask }) rows p up at refl)
 
 -- LWPs that don't step
 
@@ -63,10 +48,7 @@ abbrev calm : LwpData → LwpData
 calm l = record l { stepping = false }
 
 pub not_stepping-is : (rows : Rows) (p : ProcData) → Rise rows.processes → process_of p.pid rows.processes ≡ Some p → not_stepping p.pid rows ≡ map_lwps p.pid calm rows
-not_stepping-is rows p up at =
-    change-at p.pid (λ q. q) (λ q l. calm l) rows p up at refl
-    ∙ ap (map_lwps p.pid calm) (sym (change_process-at p.pid (λ q. q) rows p up at refl)
-    ∙ ap (λ ps. record rows { processes = ps }) (edit_none (λ q. Some (if q.pid == p.pid then q else q)) (λ q. choose (q.pid == p.pid) q q (λ r. Some r ≡ Some q) (λ e. refl) (λ e. refl)) rows.processes))
+not_stepping-is rows p up at = grind (arith, nat_tests, change-at p.pid (λ q. q) (λ q l. calm l) rows p up at refl, change_process-at p.pid (λ q. q) rows p up at refl, edit_none (λ q. Some (if q.pid == p.pid then q else q)) (λ q. choose (q.pid == p.pid) q q (λ r. Some r ≡ Some q) (λ e. refl) (λ e. refl)) rows.processes, choose)
 
 -- what a tracee that is to run on is, before it does
 pub record Ready (p : ProcData) (rows to : Rows) : Type 0 where
@@ -79,22 +61,14 @@ ready p q rows to same pids t reports = search (rules, is_stopped)
 
 pub masked_ready : (p : ProcData) (mask : EventMask) (rows rows1 rows2 : Rows) → Tracee rows p → is_some (reporting p) ≡ true → rows1 ≡ set_mask (λ old. mask) p.pid rows → rows2 ≡ map_lwps p.pid calm rows1
     → Ready p rows2 (not_stepping p.pid (set_mask (λ old. mask) p.pid rows))
-masked_ready p mask rows rows1 rows2 t reports put done =
-    let q : ProcData = record p { mask = mask } in
-    let masks : Tracee (set_mask (λ old. mask) p.pid rows) q = set_mask_tracee rows p t (λ old. mask) in
-    ready p q rows2 (not_stepping p.pid (set_mask (λ old. mask) p.pid rows))
-    (done ∙ (ap (map_lwps p.pid calm) put ∙ sym (not_stepping-is (set_mask (λ old. mask) p.pid rows) q masks.sound.stands.rising masks.home)))
-    refl (not_stepping_tracee (set_mask (λ old. mask) p.pid rows) q masks) reports
+masked_ready p mask rows rows1 rows2 t reports put done = grind (arith, nat_tests, ready p (record p { mask = mask }) rows2 (not_stepping p.pid (set_mask (λ old. mask) p.pid rows)), not_stepping-is (set_mask (λ old. mask) p.pid rows) (record p { mask = mask }) (set_mask_tracee rows p t (λ old. mask)).sound.stands.rising (set_mask_tracee rows p t (λ old. mask)).home, not_stepping_tracee (set_mask (λ old. mask) p.pid rows) (record p { mask = mask }) (set_mask_tracee rows p t (λ old. mask)))
 
 module _ (p : ProcData) (tid : ℕ) (rows rows1 : Rows) (t : Tracee rows p) (o : OwnLwp rows p tid) (done : rows1 ≡ map_lwps p.pid calm rows) where
-  calmed : rows1 ≡ not_stepping p.pid rows
-  calmed = done ∙ sym (not_stepping-is rows p t.sound.stands.rising t.home)
-
   pub still_there : is_some (lwp_of tid rows1.lwps) ≡ true
-  still_there = subst (λ (r : Rows). is_some (lwp_of tid r.lwps) ≡ true) (sym calmed) (ap is_some (not_stepping_lwp rows p t tid o).there)
+  still_there = subst (λ (r : Rows). is_some (lwp_of tid r.lwps) ≡ true) (sym (done ∙ sym (not_stepping-is rows p t.sound.stands.rising t.home))) (ap is_some (not_stepping_lwp rows p t tid o).there)
 
   pub stepping_ready : (rows2 : Rows) → is_some (reporting p) ≡ true → rows2 ≡ change_lwp tid (λ l. record l { stepping = true }) rows1 → Ready p rows2 (stepping p.pid tid rows)
-  stepping_ready rows2 reports put = ready p p rows2 (stepping p.pid tid rows) (put ∙ ap (change_lwp tid (λ l. record l { stepping = true })) calmed) refl (stepping_tracee rows p tid t o) reports
+  stepping_ready rows2 reports put = ready p p rows2 (stepping p.pid tid rows) (put ∙ ap (change_lwp tid (λ l. record l { stepping = true })) (done ∙ sym (not_stepping-is rows p t.sound.stands.rising t.home))) refl (stepping_tracee rows p tid t o) reports
 
 -- Arguments that are a signal's number or 0
 

@@ -26,11 +26,11 @@ module _ (t : ProcData → Bool) where
 
   pub next_over : (n : ℕ) (ps : List ProcData) (p : ProcData) → first_above n ps ≡ Some p → n < p.pid
   next_over n [] p is = absurd (grind (arith, is))
-  next_over n (q ∷ ps) p is = search (rules, next_over n ps p, ltb, ltb-true, and_left)
+  next_over n (q ∷ ps) p is = search (rules, next_over n ps p, ltb-true, and_left)
 
   pub above_next : (n : ℕ) (ps : List ProcData) (p : ProcData) → Rise ps → first_above n ps ≡ Some p → above n ps ≡ p ∷ above p.pid ps
   above_next n [] p rise is = absurd (grind (arith, is))
-  above_next n (q ∷ ps) p rise is = search (rules, above_next n ps p rise.1, ltb, le-ltb, above_under, ltb-true, and_left, found_above)
+  above_next n (q ∷ ps) p rise is = search (rules, above_next n ps p rise.1, le-ltb, above_under, ltb-true, and_left, found_above)
 
 abbrev pub pids : List ProcData → List ℕ
 pids ps = map (λ p. p.pid) ps

@@ -46,6 +46,7 @@ fn compute(tables: &mut Tables, p: &ProcData, l: &LwpData) -> Reply
 }
 
 /// Raise: posts a signal to the LWP itself. Refused with EINVAL where the number is not a signal's.
+#[tactic(auto, using(crate::proofs::Actors::runs_live))]
 fn raise(tables: &mut Tables, settings: Settings, number: u32, p: &ProcData, l: &LwpData) -> Reply
     requires sound { IsSound tables.old.rows }
     requires acting { IsActing p.now l.now tables.old.rows }

@@ -16,6 +16,7 @@ use trace_stop::settle;
 use wait4::{Collected, Options, collect};
 
 /// Returns the dispositions with a new one for the signal; `None` where sigaction(2) refuses that.
+#[tactic(auto, using(crate::proofs::Disposing::refused_is))]
 fn with_disposition(
     dispositions: &Dispositions,
     sig: u32,
@@ -42,6 +43,7 @@ fn disposed(p: &ProcData, dispositions: Dispositions) -> ProcData
 
 /// Sets the disposition of a signal for the caller, a process that runs, as sigaction(2) does. Refused with EINVAL
 /// where the number is not a signal's, and for SIGKILL and SIGSTOP unless the disposition is the default one.
+#[tactic(auto, using(crate::proofs::Disposing::row_there))]
 pub fn sigaction(
     tables: &mut Tables,
     caller: &ProcData,

@@ -33,6 +33,7 @@ use trace_stop::{Settings, clear_stepping};
 /// Makes a request of ptrace(2) by a process that runs. A target up to 99999 names a process, and its LWP that reports
 /// a stop. A greater one names an LWP, and its process. Refused as the manual page says. An error means out of memory
 /// for the list of PT_GETLWPLIST. A refused request changes nothing, and nor does an error.
+#[tactic(auto, using(std::proofs::lemmas::Bool::Decides::nat_tests, crate::proofs::Asked::target_within, crate::proofs::Asked::asks_tracee))]
 pub fn ptrace(
     tables: &mut Tables,
     alloc: Global,
@@ -131,6 +132,7 @@ fn named_lwp(target: u32, reporting: Tid) -> Tid
 
 /// Makes a request of the tracer about an LWP of its stopped tracee. Refused with EINVAL where `data` is wrong. An
 /// error means out of memory for a list of LWPs.
+#[tactic(auto, using(std::proofs::lemmas::Bool::Decides::nat_tests, crate::proofs::Tracees::few_own, crate::proofs::Tracees::continue_as, crate::proofs::Tracees::kill_as, crate::proofs::Tracees::given, crate::proofs::Tracees::gives_as))]
 fn command(
     tables: &mut Tables,
     alloc: Global,
@@ -202,6 +204,7 @@ pub fn continue_with(
 
 /// PT_STEP: resumes the process with a signal or with 0. Of its LWPs only this one steps. Refused with EINVAL where
 /// `data` is above 31.
+#[tactic(auto, using(crate::proofs::Tracees::still_there, crate::proofs::Tracees::is_tracee, crate::proofs::Tracees::own_lwp))]
 fn step(tables: &mut Tables, settings: Settings, process: &ProcData, lwp: Tid, data: u32) -> Reply
     requires sound { IsSound tables.old.rows }
     requires at { process_of process.now.pid tables.old.rows.processes ≡ Some process.now }
@@ -246,6 +249,7 @@ fn suspend(tables: &mut Tables, lwp: Tid, suspended: bool) -> Reply
 
 /// PT_DETACH: ends the tracing of the process, and resumes it with a signal or with 0. Refused with EINVAL where
 /// `data` is above 31.
+#[tactic(auto, using(crate::proofs::Tracees::is_stopped))]
 pub fn detach_with(tables: &mut Tables, settings: Settings, process: &ProcData, data: u32) -> Reply
     requires sound { IsSound tables.old.rows }
     requires at { process_of process.now.pid tables.old.rows.processes ≡ Some process.now }
@@ -261,6 +265,7 @@ pub fn detach_with(tables: &mut Tables, settings: Settings, process: &ProcData, 
 }
 
 /// Resumes the process with a signal or with 0. Refused with EINVAL where the number is above 31.
+#[tactic(auto, using(crate::proofs::Tracees::is_stopped))]
 pub fn resume_with(
     tables: &mut Tables,
     settings: Settings,

@@ -19,6 +19,7 @@ use trace_stop::Settings;
 use wait4::{Collected, Options, Status, collect};
 
 /// Carries out a decision about the trace stop of a process.
+#[tactic(auto, using(crate::proofs::Tracees::kill_as))]
 fn carry_out(tables: &mut Tables, settings: Settings, process: &ProcData, decision: Decision)
     requires sound { IsSound tables.old.rows }
     requires at { process_of process.now.pid tables.old.rows.processes ≡ Some process.now }

@@ -23,6 +23,7 @@ use process_end::release;
 use trace_stop::settle;
 
 /// Returns the oldest LWP of the process whose number differs from `tid`.
+#[tactic(auto, using(std::proofs::lemmas::Bool::Decides::nat_tests, crate::proofs::Programs::other_none, crate::proofs::Programs::other_first, crate::proofs::Programs::other_next))]
 fn other_lwp(tables: &Tables, pid: Pid, tid: Tid) -> Option<LwpData>
     requires { HasLwp pid tid tables.now.rows }
     ensures other { result ≡ find (is_other pid tid) tables.now.rows.lwps }
@@ -39,6 +40,7 @@ fn other_lwp(tables: &Tables, pid: Pid, tid: Tid) -> Option<LwpData>
 }
 
 /// Removes the other LWPs of a process.
+#[tactic(auto, using(crate::proofs::Programs::other_there, crate::proofs::Programs::other_left, crate::proofs::Programs::other_dropped, crate::proofs::Programs::others_none))]
 fn keep_lwp(tables: &mut Tables, pid: Pid, tid: Tid)
     requires { HasLwp pid tid tables.old.rows }
     ensures rows { tables.new.rows ≡ only_lwp pid tid tables.old.rows }
@@ -59,6 +61,7 @@ fn release_parent(tables: &mut Tables, p: &ProcData)
 }
 
 /// Makes the process catch no signal any more.
+#[tactic(auto, using(proc_table::proofs::Seen::has_row))]
 fn drop_handlers(tables: &mut Tables, pid: Pid)
     requires { IsRow tables.old.rows pid }
     ensures { tables.new.rows

@@ -151,6 +151,7 @@ impl<F: Decider + Send + Drop> HandlerList<F> {
 }
 
 /// Returns whether a live process has the number.
+#[tactic(auto, using(crate::proofs::Living::live_found, crate::proofs::Living::live_none))]
 pub fn is_live(tables: &Tables, pid: Pid) -> bool
     ensures { result ≡ is_live_number tables.now.rows pid }
 {

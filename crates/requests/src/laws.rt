@@ -12,6 +12,7 @@ pub fn stays_sound()
 {}
 
 /// An unused host is sound, and so is a sound host after any list of steps.
+#[tactic(auto, using(crate::proofs::Born::empty_sound))]
 pub fn runs_stay_sound()
     ensures first { SoundAtFirst }
     ensures runs { SoundRuns }
@@ -33,6 +34,7 @@ pub fn no_report_changes_nothing()
 {}
 
 /// No step of the machine runs out of memory: only the host answers ENOMEM.
+#[tactic(auto, using(crate::proofs::RefusalsChangeNothing::no_step_runs_out_of_memory))]
 pub fn no_step_runs_out_of_memory()
     ensures { NoStepRunsOutOfMemory }
 {}

@@ -66,6 +66,7 @@ fn due_at_birth(p: &ProcData) -> Due
 
 /// thr_new: adds an LWP to the process. Refused with EAGAIN where the user has 1000. An error means out of memory, and
 /// changes nothing.
+#[tactic(auto, using(crate::proofs::Actors::owns_itself))]
 fn make_lwp(tables: &mut Tables, p: &ProcData, l: &LwpData) -> Result<Reply, AllocError>
     requires { IsActing p.now l.now tables.old.rows }
     ensures { let room = room_for_lwp p.now.uid tables.old.rows in
@@ -88,6 +89,7 @@ fn make_lwp(tables: &mut Tables, p: &ProcData, l: &LwpData) -> Result<Reply, All
 
 /// Does the work of a call when its LWP leaves it. Refused with EAGAIN where a limit leaves no room for the process or
 /// LWP that the call makes. An error means out of memory, and changes nothing.
+#[tactic(auto, using(crate::proofs::Actors::runs_live))]
 pub fn leave(
     tables: &mut Tables,
     settings: Settings,

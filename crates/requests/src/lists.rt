@@ -12,6 +12,7 @@ use proc_table::Tables;
 use std::alloc::{AllocError, Global};
 
 /// Returns the numbers of the user's processes in rising order. An error means out of memory.
+#[tactic(auto, using(std::proofs::lemmas::Bool::Decides::nat_tests, crate::proofs::Walk::above_first))]
 fn pids_of(tables: &Tables, alloc: Global, user: Uid) -> Result<NumList, AllocError>
     ensures { IfOk result (λ list. list ≡ map (λ p. p.pid) (of_user user tables.now.rows.processes)) }
 {

@@ -63,6 +63,7 @@ fn next_signal(p: &ProcData, l: &LwpData) -> Option<Signal>
 }
 
 /// Removes a pending signal from the LWP's own set, or else from its process's.
+#[tactic(auto, using(proc_table::proofs::Stays::lwp_there))]
 fn drop_signal(tables: &mut Tables, signal: Signal, p: &ProcData, l: &LwpData)
     requires { IsActing p.now l.now tables.old.rows }
     ensures { tables.new.rows ≡ without_signal signal p.now l.now tables.old.rows }
@@ -92,6 +93,7 @@ fn job_stopped(tid: Tid, signal: Signal) -> Reply
 }
 
 /// Stops a process for job control, and notifies its parent.
+#[tactic(auto, using(proc_table::proofs::Seen::has_row))]
 fn job_stop(tables: &mut Tables, signal: Signal, p: &ProcData, l: &LwpData) -> Reply
     requires { IsRow tables.old.rows p.now.pid }
     ensures { Gives (job_stops signal p.now l.now tables.old.rows) tables.new.rows result }
@@ -110,6 +112,7 @@ fn job_stop(tables: &mut Tables, signal: Signal, p: &ProcData, l: &LwpData) -> R
 }
 
 /// Acts on a signal that an untraced process takes, by the signal's disposition.
+#[tactic(auto, using(trace_stop::proofs::Found::listed))]
 fn take_untraced(
     tables: &mut Tables,
     settings: Settings,
@@ -159,6 +162,7 @@ fn take_signal(
 }
 
 /// Stops the LWP with its due stop, and clears it.
+#[tactic(auto, using(proc_table::proofs::Stays::lwp_there))]
 fn take_due(tables: &mut Tables, p: &ProcData, l: &LwpData, shown: &Shown) -> Reply
     requires { IsActing p.now l.now tables.old.rows }
     ensures { let cleared = change_lwp l.now.tid (λ k. record k { due = due.Nothing }) tables.old.rows in

@@ -17,6 +17,7 @@ use signals::Pass;
 use trace_stop::Settings;
 
 /// Posts the signal to the process with this number, if it exists and is live. Signal 0 is not posted.
+#[tactic(auto, using(crate::proofs::Sending::dead_posts))]
 fn post_if_live(tables: &mut Tables, settings: Settings, pid: Pid, pass: Pass)
     requires sound { IsSound tables.old.rows }
     ensures rows { tables.new.rows ≡ post_if_live settings pass (process_of pid tables.old.rows.processes) tables.old.rows }
@@ -31,6 +32,7 @@ fn post_if_live(tables: &mut Tables, settings: Settings, pid: Pid, pass: Pass)
 }
 
 /// Returns the number of the user's next process above `after` other than the caller.
+#[tactic(auto, using(std::proofs::lemmas::Bool::Decides::nat_tests, crate::proofs::Others::other_laws))]
 fn next_other(tables: &Tables, user: Uid, caller: Pid, after: u32) -> Option<Pid>
     ensures next { result ≡ option_map (λ p. p.pid) (next_other user caller after tables.now.rows.processes) }
     ensures kept { TableInvariant tables.now.rows }
@@ -46,6 +48,7 @@ fn next_other(tables: &Tables, user: Uid, caller: Pid, after: u32) -> Option<Pid
 
 /// Sends the signal to all of the user's processes except the caller, by rising number. Refused with ESRCH where there
 /// is none.
+#[tactic(auto, using(std::proofs::lemmas::Bool::Decides::nat_tests, crate::proofs::Sending::no_number, crate::proofs::Sending::reached_none, crate::proofs::Sending::next_smaller, crate::proofs::Sending::rest_next))]
 fn kill_others(tables: &mut Tables, settings: Settings, user: Uid, caller: Pid, pass: Pass) -> Reply
     requires sound { IsSound tables.old.rows }
     ensures { Gives (reached settings pass (reach user caller (negsuc 0) tables.old.rows) tables.old.rows)

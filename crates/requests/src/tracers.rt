@@ -19,6 +19,7 @@ use trace_stop::stop;
 
 /// PT_TRACE_ME: the caller's parent becomes its tracer. Refused with EBUSY where the caller is traced, with EPERM where
 /// no process is its parent, and with EINVAL where it would trace itself by a chain of tracers.
+#[tactic(auto, using(std::proofs::lemmas::Bool::Decides::nat_tests))]
 pub fn trace_me(tables: &mut Tables, caller: &ProcData) -> Reply
     requires at { process_of caller.now.pid tables.old.rows.processes ≡ Some caller.now }
     ensures { Gives (trace_me caller.now tables.old.rows) tables.new.rows result }
@@ -39,6 +40,7 @@ pub fn trace_me(tables: &mut Tables, caller: &ProcData) -> Reply
 /// PT_ATTACH: the caller becomes the tracer of the process, whose first LWP stops with SIGSTOP. Refused with EINVAL for
 /// the caller itself, with EBUSY where the process is traced, and with EINVAL where the caller would trace itself by a
 /// chain of tracers.
+#[tactic(auto, using(proc_table::proofs::Rows::found_row, crate::proofs::Tracees::row_changed))]
 pub fn attach(tables: &mut Tables, caller: &ProcData, process: &ProcData) -> Reply
     requires caller { process_of caller.now.pid tables.old.rows.processes ≡ Some caller.now }
     requires at { process_of process.now.pid tables.old.rows.processes ≡ Some process.now }
@@ -75,6 +77,7 @@ fn parent_of(tables: &Tables, process: &ProcData) -> Option<Pid>
 
 /// Returns whether the chain of tracers from the process `from` leads to `pid`. A chain has fewer links than a user has
 /// processes at most.
+#[tactic(auto, using(crate::proofs::Links::link_laws))]
 fn closes_chain(tables: &Tables, pid: Pid, from: Pid) -> bool
     ensures { result ≡ closes_chain pid from tables.now.rows }
 {
@@ -92,6 +95,7 @@ fn closes_chain(tables: &Tables, pid: Pid, from: Pid) -> bool
 }
 
 /// Sets the tracer of a process, with the default event mask.
+#[tactic(auto, using(proc_table::proofs::Every::every_found))]
 fn trace(tables: &mut Tables, process: &ProcData, tracer: Pid)
     requires at { process_of process.now.pid tables.old.rows.processes ≡ Some process.now }
     requires tracer { IsRow tables.old.rows tracer }

@@ -1,10 +1,11 @@
 -- Filters, and what is looked up in a filtered list.
-use Rattle.std.proofs.Common.{◌≡◌, ◌<◌, List, [], ◌∷◌, map, filter, find, filter_map, Bool, true, false, Option, Some, None, IfSome, refl, sym, ap, ◌∙◌, arith, ltb}
-use Rattle.trace_stop.proofs.CommonNames.{AllByRecursion, cons_option, list_any, ProcData, placed, AllAbove, Rise}
+use Rattle.std.proofs.Common.{◌≡◌, ◌<◌, List, [], ◌∷◌, map, filter, find, filter_map, Bool, true, false, Option, Some, None, IfSome, refl, arith, ltb}
+use Rattle.trace_stop.proofs.CommonNames.{nat_tests, AllByRecursion, cons_option, list_any, ProcData, placed, AllAbove, Rise}
 use Rattle.std.proofs.lemmas.List.Elements.{filter-append}
 use Rattle.proc_table.proofs.Every.{every_filter}
 use Rattle.trace_stop.proofs.Every.{All-any, All-both, All-edit}
-use Rattle.trace_stop.proofs.Placed.{IsFree, split}
+use Rattle.proc_table.proofs.Placed.{stands}
+use Rattle.trace_stop.proofs.Placed.{IsFree}
 
 pub find_some : {X : Type 0} (q : X → Bool) (P : X → Type 0) → (xs : List X) → AllByRecursion P xs → IfSome (find q xs) (λ x. P x × (q x ≡ true))
 find_some q P [] e = tt
@@ -82,10 +83,9 @@ Rise-edit f P h (r ∷ rows) p e = kept (f r) (h r p.0) (Rise-edit f P h rows p.
     kept (Some s) g rest all = (rw g all, rest)
 
 -- a new row is placed among those that pass, or is none of them
-module _ (p : ProcData → Bool) (r : ProcData) (rows : List ProcData) where
-  pub placed-only : p r ≡ true → filter p (placed r rows) ≡ placed r (filter p rows)
-  placed-only is = rw (filter-append p (filter (λ x. ltb x.pid r.pid) rows) (r ∷ filter (λ x. ltb r.pid x.pid) rows), is, filter-swap p (λ x. ltb x.pid r.pid) rows, filter-swap p (λ x. ltb r.pid x.pid) rows) refl
+pub placed-only : (p : ProcData → Bool) (r : ProcData) (rows : List ProcData) → p r ≡ true → filter p (placed r rows) ≡ placed r (filter p rows)
+placed-only p r rows is = rw (filter-append p (filter (λ x. ltb x.pid r.pid) rows) (r ∷ filter (λ x. ltb r.pid x.pid) rows), is, filter-swap p (λ x. ltb x.pid r.pid) rows, filter-swap p (λ x. ltb r.pid x.pid) rows) refl
 
-  pub placed-other : p r ≡ false → Rise rows → IsFree r.pid rows → filter p (placed r rows) ≡ filter p rows
-  placed-other is e free = rw (filter-append p (filter (λ x. ltb x.pid r.pid) rows) (r ∷ filter (λ x. ltb r.pid x.pid) rows), is)
-      (sym (filter-append p (filter (λ x. ltb x.pid r.pid) rows) (filter (λ x. ltb r.pid x.pid) rows)) ∙ ap (filter p) (split r.pid rows e free))
+pub placed-other : (p : ProcData → Bool) (r : ProcData) (rows : List ProcData) → p r ≡ false → Rise rows → IsFree r.pid rows → filter p (placed r rows) ≡ filter p rows
+placed-other p r [] is e free = rw is refl
+placed-other p r (q ∷ rows) is e free = grind (arith, nat_tests, stands r q rows e, is, free, placed-other p r rows is e.1)

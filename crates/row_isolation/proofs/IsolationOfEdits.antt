@@ -1,6 +1,6 @@
 -- The other primitives: one process, one LWP, new rows; and branches of rows.
-use Rattle.std.proofs.Common.{◌≡◌, ◌≢◌, ℕ, ◌<◌, List, [], ◌∷◌, ◌++◌, length, filter_map, Bool, true, false, ◌==◌, if◌then◌else◌, Option, Some, None, refl, sym, ap, ◌∙◌, arith, eqb, eqb-true, subst, append-nil, get_or, set, get_or-set_same, get_or-set_other, length-set, inl, rules}
-use Rattle.trace_stop.proofs.CommonNames.{AllByRecursion, IsUser, ProcData, LwpData, is_live, placed, Rows, owner, by_owner, each, change, edit_processes, edit_lwps, change_process}
+use Rattle.std.proofs.Common.{filter, ◌≡◌, ◌≢◌, ℕ, ◌<◌, List, [], ◌∷◌, ◌++◌, length, Bool, true, false, ◌==◌, if◌then◌else◌, Option, Some, refl, sym, ap, ◌∙◌, arith, eqb, eqb-true, subst, append-nil, get_or, set, get_or-set_same, get_or-set_other, length-set, inl, rules}
+use Rattle.trace_stop.proofs.CommonNames.{of_user, AllByRecursion, IsUser, ProcData, LwpData, is_live, placed, Rows, owner, by_owner, each, change, edit_processes, edit_lwps, change_process}
 use Rattle.trace_stop.proofs.CommonNames.{change_lwp, remove_lwp, is_process, add_process, add_lwp}
 use Rattle.std.proofs.lemmas.List.Elements.{filter-append}
 use Rattle.pid_blocks.specs.Blocks.{pid_owner, tid_owner, pid_block, tid_block, slot, cursor_after, InBlock}
@@ -36,11 +36,11 @@ pub change_same : {u : ℕ} {start c v : Rows} → Sim u start c v → (chosen :
     → ((p : ProcData) (l : LwpData) → GoodProc p → GoodLwp l → StaysLwp l (lwp p l))
     → Sim u start (change chosen process lwp c) (change chosen process lwp v)
 change_same s chosen process lwp foreign mine mine_lwp = each_same s (λ p. Some (if chosen p then process p else p)) (λ p l. Some (if chosen p then lwp p l else l)) (record {
-  mine = λ p good is. kin_of p _ (stays_if p (process p) (chosen p) good (mine p good is));
+  mine = λ p good is. grind (arith, mine p good is, good);
   foreign = λ p good ne. rw (foreign p good ne) refl;
-  lwp = λ p l good well is here. choose (chosen p) (lwp p l) l (StaysLwp l) (λ e. mine_lwp p l good well) (λ e. (refl, well));
+  lwp = λ p l good well is here. grind (arith, mine_lwp p l good well, well);
   foreign_lwp = λ p l good well ne here. rw (foreign p good ne) refl;
-  live = λ p l good is live. let st = stays_if p (process p) (chosen p) good (mine p good is) in inl (st.3 live);
+  live = λ p l good is live. inl (grind (arith, mine p good is, live));
 })
 
 -- processes alone
@@ -65,13 +65,10 @@ process_same_after {u} s n here f stays = edit_same s (λ p. Some (if p.pid == n
 
 -- LWPs alone
 lwps_alone : (g : LwpData → Option LwpData) (rows : Rows) → AllByRecursion (LiveOwner rows.processes) rows.lwps → each (λ p. Some p) (λ p l. g l) rows ≡ edit_lwps g rows
-lwps_alone g rows in_owners_block =
-    ap (λ ps. record rows { processes = ps; lwps = filter_map (λ l. by_owner (λ p k. g k) l (owner rows l)) rows.lwps }) (edit_none (λ p. Some p) (λ p. refl) rows.processes)
-    ∙ ap (λ ls. record rows { lwps = ls }) (filter_map_same _ g rows.lwps (All-imply (LiveOwner rows.processes) _ (λ l house. by_row l (owner rows l) house) rows.lwps in_owners_block))
-  where
-    by_row : (l : LwpData) (o : Option ProcData) → LiveRow o → by_owner (λ p k. g k) l o ≡ g l
-    by_row l None no_row = absurd no_row
-    by_row l (Some p) live = refl
+lwps_alone g rows in_owners_block = rw (
+  edit_none (λ p. Some p) (λ p. refl) rows.processes,
+  filter_map_same (λ l. by_owner (λ p k. g k) l (owner rows l)) g rows.lwps (All-imply (LiveOwner rows.processes) _ (λ l house. grind (arith, house)) rows.lwps in_owners_block),
+) refl
 
 seen_housed : {u : ℕ} {start c v : Rows} → Sim u start c v → AllByRecursion (LiveOwner v.processes) v.lwps
 seen_housed {u} {start} {c} {v} s = subst (AllByRecursion (LiveOwner v.processes)) s.lwps (All-where (own_lwp u) (LiveOwner c.processes) (LiveOwner v.processes) (λ l house is. subst LiveRow (process_same s l.pid (eqb-true (pid_owner l.pid) u is)) house) c.lwps s.kept.closed.in_owners_block)
@@ -106,43 +103,33 @@ module _ {u : ℕ} {start c v : Rows} (s : Sim u start c v) (tid : ℕ) (here : 
 pub slots_differ : (u w : ℕ) → IsUser u → IsUser w → w ≢ u → slot w ≢ slot u
 slots_differ u w user other ne e = ne (omega arith)
 
-pub slot_in : {X : Type 0} (u : ℕ) (xs : List X) → IsUser u → length xs ≡ 64 → slot u < length xs
-slot_in u xs user is = omega arith
-
 pub put_at : {X : Type 0} (u : ℕ) (xs : List X) (x d : X) → IsUser u → length xs ≡ 64 → get_or (set xs (slot u) x) (slot u) d ≡ x
-put_at u xs x d user is = let lt = slot_in u xs user is in rw get_or-set_same refl
+put_at u xs x d user is = let lt : slot u < length xs = omega arith in rw get_or-set_same refl
+
+-- the cursors of all rows and of those that u sees, once u's cursor has moved
+cursors_moved : (u : ℕ) → IsUser u → (cs vs starts : List ℕ) (x : ℕ) → length cs ≡ 64 → length vs ≡ 64 → ((w : ℕ) → IsUser w → w ≢ u → get_or cs (slot w) 0 ≡ get_or starts (slot w) 0)
+    → (length (set cs (slot u) x) ≡ 64) × (length (set vs (slot u) x) ≡ 64) × (get_or (set cs (slot u) x) (slot u) 0 ≡ x) × (get_or (set cs (slot u) x) (slot u) 0 ≡ get_or (set vs (slot u) x) (slot u) 0)
+    × ((w : ℕ) → IsUser w → w ≢ u → get_or (set cs (slot u) x) (slot w) 0 ≡ get_or starts (slot w) 0)
+cursors_moved u user cs vs starts x c_slots v_slots kept =
+    let c_is = put_at u cs x 0 user c_slots in
+    let v_is = put_at u vs x 0 user v_slots in
+    (length-set cs (slot u) x ∙ c_slots, length-set vs (slot u) x ∙ v_slots, c_is, c_is ∙ sym v_is, λ w other ne. let differ = slots_differ u w user other ne in rw get_or-set_other (kept w other ne))
 
 -- a new process of u
 pub process_added_same : {u : ℕ} {start c v : Rows} → Sim u start c v → (p : ProcData) → p.uid ≡ u → GoodProc p → InBlock (pid_block u) p.pid → is_process c p.pid ≡ false → Sim u start (add_process p c) (add_process p v)
-process_added_same {u} {start} {c} {v} s p mine good block free = subst (λ w. Sim u start (at w c) (at w v)) (sym mine) (record {
-  kept = record {
-    closed = record {
-      processes = every_placed GoodProc p c.processes good s.kept.closed.processes;
-      lwps = s.kept.closed.lwps;
-      in_owners_block = All-imply (LiveOwner c.processes) (LiveOwner (placed p c.processes)) in_owners_block c.lwps s.kept.closed.in_owners_block;
-      rising = Rise-placed p c.processes s.kept.closed.rising (Lacks-from_any p.pid c.processes free);
-      user = user;
-      pid_slots = length-set c.pid_cursors (slot u) _ ∙ s.kept.closed.pid_slots;
-      tid_slots = s.kept.closed.tid_slots;
-      pid_cursor = subst (InBlock (pid_block u)) (sym (put_at u c.pid_cursors _ 0 user s.kept.closed.pid_slots)) (InBlock-after (pid_block u) p.pid block (omega arith));
-      tid_cursor = s.kept.closed.tid_cursor;
-    };
-    processes = λ w ne. placed-other (own w) p c.processes (not_own w p.uid (λ e. ne (sym e ∙ mine))) s.kept.closed.rising free ∙ s.kept.processes w ne;
-    lwps = s.kept.lwps;
-    pid_cursor = λ w other ne. let differ = slots_differ u w user other ne in rw get_or-set_other (s.kept.pid_cursor w other ne);
-    tid_cursor = s.kept.tid_cursor;
-  };
-  processes = placed-only (own u) p c.processes (is_own u p.uid mine) ∙ ap (placed p) s.processes;
-  lwps = s.lwps;
-  pid_cursor = put_at u c.pid_cursors _ 0 user s.kept.closed.pid_slots ∙ sym (put_at u v.pid_cursors _ 0 user s.pid_slots);
-  tid_cursor = s.tid_cursor;
-  pid_slots = length-set v.pid_cursors (slot u) _ ∙ s.pid_slots;
-  tid_slots = s.tid_slots;
-})
+process_added_same {u} {start} {c} {v} s p mine good block free =
+    let closed = s.kept.closed in
+    let user = closed.user in
+    let moved = cursors_moved u user c.pid_cursors v.pid_cursors start.pid_cursors (cursor_after (pid_block u) p.pid) closed.pid_slots s.pid_slots s.kept.pid_cursor in
+    let within = subst (InBlock (pid_block u)) (sym moved.2) (InBlock-after (pid_block u) p.pid block (omega arith)) in
+    let processes = every_placed GoodProc p c.processes good closed.processes in
+    let owners = All-imply (LiveOwner c.processes) (LiveOwner (placed p c.processes)) in_owners_block c.lwps closed.in_owners_block in
+    let rising = Rise-placed p c.processes closed.rising (Lacks-from_any p.pid c.processes free) in
+    let other : (w : ℕ) → w ≢ u → of_user w (placed p c.processes) ≡ of_user w start.processes =
+    λ w ne. placed-other (own w) p c.processes (not_own w p.uid (λ e. ne (sym e ∙ mine))) closed.rising free ∙ s.kept.processes w ne in
+    let own_processes = placed-only (own u) p c.processes (is_own u p.uid mine) ∙ ap (placed p) s.processes in
+    subst (λ w. Sim u start (at w c) (at w v)) (sym mine) (assumption)
   where
-    user : IsUser u
-    user = s.kept.closed.user
-
     at : ℕ → Rows → Rows
     at w rows = record rows { processes = placed p rows.processes; pid_cursors = set rows.pid_cursors (slot w) (cursor_after (pid_block w) p.pid) }
 
@@ -151,34 +138,17 @@ process_added_same {u} {start} {c} {v} s p mine good block free = subst (λ w. S
 
 -- a new LWP of u
 pub lwp_added_same : {u : ℕ} {start c v : Rows} → Sim u start c v → (l : LwpData) → pid_owner l.pid ≡ u → GoodLwp l → LiveOwner c.processes l → InBlock (tid_block u) l.tid → Sim u start (add_lwp u l c) (add_lwp u l v)
-lwp_added_same {u} {start} {c} {v} s l mine well house block = record {
-  kept = record {
-    closed = record {
-      processes = s.kept.closed.processes;
-      lwps = All-append GoodLwp c.lwps (l ∷ []) s.kept.closed.lwps (well, tt);
-      in_owners_block = All-append (LiveOwner c.processes) c.lwps (l ∷ []) s.kept.closed.in_owners_block (house, tt);
-      rising = s.kept.closed.rising;
-      user = user;
-      pid_slots = s.kept.closed.pid_slots;
-      tid_slots = length-set c.tid_cursors (slot u) _ ∙ s.kept.closed.tid_slots;
-      pid_cursor = s.kept.closed.pid_cursor;
-      tid_cursor = subst (InBlock (tid_block u)) (sym (put_at u c.tid_cursors _ 0 user s.kept.closed.tid_slots)) (InBlock-after (tid_block u) l.tid block (omega arith));
-    };
-    processes = s.kept.processes;
-    lwps = λ w ne. filter-append (own_lwp w) c.lwps (l ∷ []) ∙ (rw (not_own w (pid_owner l.pid) (λ e. ne (sym e ∙ mine)), append-nil) (s.kept.lwps w ne));
-    pid_cursor = s.kept.pid_cursor;
-    tid_cursor = λ w other ne. let differ = slots_differ u w user other ne in rw get_or-set_other (s.kept.tid_cursor w other ne);
-  };
-  processes = s.processes;
-  lwps = filter-append (own_lwp u) c.lwps (l ∷ []) ∙ (rw (is_own u (pid_owner l.pid) mine) (ap (λ xs. xs ++ l ∷ []) s.lwps));
-  pid_cursor = s.pid_cursor;
-  tid_cursor = put_at u c.tid_cursors _ 0 user s.kept.closed.tid_slots ∙ sym (put_at u v.tid_cursors _ 0 user s.tid_slots);
-  pid_slots = s.pid_slots;
-  tid_slots = length-set v.tid_cursors (slot u) _ ∙ s.tid_slots;
-}
-  where
-    user : IsUser u
-    user = s.kept.closed.user
+lwp_added_same {u} {start} {c} {v} s l mine well house block =
+    let closed = s.kept.closed in
+    let user = closed.user in
+    let moved = cursors_moved u user c.tid_cursors v.tid_cursors start.tid_cursors (cursor_after (tid_block u) l.tid) closed.tid_slots s.tid_slots s.kept.tid_cursor in
+    let within = subst (InBlock (tid_block u)) (sym moved.2) (InBlock-after (tid_block u) l.tid block (omega arith)) in
+    let lwps = All-append GoodLwp c.lwps (l ∷ []) closed.lwps (well, tt) in
+    let owners = All-append (LiveOwner c.processes) c.lwps (l ∷ []) closed.in_owners_block (house, tt) in
+    let other : (w : ℕ) → w ≢ u → filter (own_lwp w) (c.lwps ++ (l ∷ [])) ≡ filter (own_lwp w) start.lwps =
+    λ w ne. filter-append (own_lwp w) c.lwps (l ∷ []) ∙ rw (not_own w (pid_owner l.pid) (λ e. ne (sym e ∙ mine)), append-nil) (s.kept.lwps w ne) in
+    let own_lwps : filter (own_lwp u) (c.lwps ++ (l ∷ [])) ≡ v.lwps ++ (l ∷ []) = filter-append (own_lwp u) c.lwps (l ∷ []) ∙ rw (is_own u (pid_owner l.pid) mine) (ap (λ xs. xs ++ l ∷ []) s.lwps) in
+    assumption
 
 -- A branch of rows
 

@@ -1,6 +1,6 @@
 -- Posting signals, and running on.
 use Rattle.std.proofs.Common.{◌≡◌, ◌≢◌, ℕ, List, [], ◌∷◌, Bool, false, ◌==◌, if◌then◌else◌, Option, Some, None, option_map, IfSome, refl, sym, ap, ◌∙◌, arith, subst, inl, rules}
-use Rattle.trace_stop.proofs.CommonNames.{AllByRecursion, list_any, IsUser, SIGCHLD, ProcData, LwpData, process_of, Rows, is_numbered, change, settled_process, settle, continues, posted_process, posted_lwp}
+use Rattle.trace_stop.proofs.CommonNames.{settled_lwp, nat_tests, AllByRecursion, list_any, IsUser, SIGCHLD, ProcData, LwpData, process_of, Rows, is_numbered, change, settled_process, settle, posted_process, posted_lwp}
 use Rattle.trace_stop.proofs.CommonNames.{notified, notifies, posted, reported, run_on, resumed, detached}
 use Rattle.pid_blocks.specs.Blocks.{pid_owner}
 use Rattle.row_isolation.specs.Closed.{Mine, GoodProc, GoodLwp}
@@ -24,16 +24,13 @@ user_not_one u n user mine e = let here = sym mine ∙ ap pid_owner e ∙ owner_
 -- no other user's number is in a list of u's numbers
 pub not_among : {u : ℕ} (n : ℕ) (ns : List ℕ) → Mines u ns → n ≢ 1 → pid_owner n ≢ u → list_any (λ m. m == n) ns ≡ false
 not_among n [] all one ne = refl
-not_among {u} n (m ∷ ms) all one ne = rw (not_own n m (λ e. ne (ap pid_owner (sym e) ∙ all.0 (λ i. one (sym e ∙ i)))), not_among n ms all.1 one ne) refl
+not_among {u} n (m ∷ ms) all one ne = grind (arith, nat_tests, all.0, one, ne, not_among n ms all.1 one ne)
 
 pub is_numbered_foreign : {u : ℕ} (n : ℕ) → pid_owner n ≡ u → (p : ProcData) → GoodProc p → p.uid ≢ u → is_numbered n p ≡ false
 is_numbered_foreign n here p good ne = not_own n p.pid (λ e. ne (named here p good e))
 
-settled_stays : (p : ProcData) → GoodProc p → Stays p (settled_process p)
-settled_stays p good = (refl, refl, record { user = good.user; block = good.block; tracer = good.tracer; parent = good.parent; reporting = good.reporting; collector = good.collector }, λ l. l)
-
 pub settle_same : {u : ℕ} {start c v : Rows} → Sim u start c v → (n : ℕ) → pid_owner n ≡ u → Sim u start (settle n c) (settle n v)
-settle_same s n here = search (rules, change_same, is_numbered_foreign, settled_stays)
+settle_same s n here = change_same s (is_numbered n) settled_process settled_lwp (is_numbered_foreign n here) (λ p good is e. grind (arith, good)) (λ p l good well. (refl, record { block = well.block; waits = well.waits }))
 
 posted_stays : (s : ℕ) (to : Option ℕ) (p : ProcData) → GoodProc p → Stays p (posted_process s to p)
 posted_stays s to p good = search (rules, choose)
@@ -44,8 +41,7 @@ notified_same s ns all = change_same s (λ p. list_any (λ n. n == p.pid) ns) (p
     (λ p good is e. posted_stays SIGCHLD None p good) (λ p l good well. (refl, record { block = well.block; waits = well.waits }))
 
 notifies_mine : (u sig : ℕ) (o : Option ProcData) → IfSome o (λ p. GoodProc p × (p.uid ≡ u)) → Mines u (notifies sig o)
-notifies_mine u sig None g = tt
-notifies_mine u sig (Some p) g = choose (continues sig p) (p.parent ∷ []) [] (Mines u) (λ e. (λ ne. g.0.parent ne ∙ g.1, tt)) (λ e. tt)
+notifies_mine u sig o g = grind (arith, g)
 
 pub own_some : {u : ℕ} {start c v : Rows} → Sim u start c v → (n : ℕ) → pid_owner n ≡ u → IfSome (process_of n c.processes) (λ p. GoodProc p × (p.uid ≡ u))
 own_some {u} {start} {c} s n here = at_number c.processes s.kept.closed.processes n (λ o. IfSome o (λ p. GoodProc p × (p.uid ≡ u))) tt (λ p is good at. (good, named here p good at))
@@ -76,8 +72,7 @@ run_on_same s chosen process lwp foreign stays stays_lwp = each_same s (λ p. So
     kept p good = stays_if p (process p) (chosen p) good (λ e. stays p good)
 
     then_lwp : (p : ProcData) (l : LwpData) (o : Option LwpData) → KinLwp l o → KinLwp l (option_map (lwp p) o)
-    then_lwp p l None k = tt
-    then_lwp p l (Some m) k = let st = stays_lwp p m k.1 in (st.0 ∙ k.0, st.1)
+    then_lwp p l o k = grind (arith, stays_lwp p, k)
 
 pub resumed_same : {u : ℕ} {start c v : Rows} → Sim u start c v → (n : ℕ) → pid_owner n ≡ u → Sim u start (resumed n c) (resumed n v)
 resumed_same s n here = search (rules, run_on_same, is_numbered_foreign)

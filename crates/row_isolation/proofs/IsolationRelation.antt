@@ -2,9 +2,10 @@
 -- user's rows, and that other users' rows are as they were.
 use Rattle.std.proofs.Common.{◌≡◌, ◌≢◌, ℕ, List, length, filter, find, filter_map, Bool, true, false, ◌==◌, Option, Some, None, IfSome, refl, sym, ap, ◌∙◌, arith, eqb, eqb-true, subst, eq-eqb, get_or, inl, inr, ◌⊎◌, rules}
 use Rattle.trace_stop.proofs.CommonNames.{AllByRecursion, nat_tests, IsUser, ProcData, LwpData, is_live, process_of, of_user, Rows, by_owner, each}
+use Rattle.std.proofs.lemmas.Bool.{cases_eq}
 use Rattle.pid_blocks.specs.Blocks.{pid_owner, slot}
 use Rattle.row_isolation.specs.Closed.{GoodProc, GoodLwp, LiveRow, LiveOwner, Closed}
-use Rattle.trace_stop.proofs.Every.{not_same, All-both, All-edit}
+use Rattle.trace_stop.proofs.Every.{All-both, All-edit}
 use Rattle.trace_stop.proofs.Edited.{If_more}
 use Rattle.trace_stop.proofs.Passes.{filter_map_same}
 use Rattle.row_isolation.proofs.FilteredLists.{find_only, find_some, filter_only, filter_edit, filter_untouched, find_edit, All-where, Rise-edit}
@@ -40,7 +41,7 @@ pub not_own : (u n : ℕ) → n ≢ u → eqb n u ≡ false
 not_own u n ne = grind (arith, nat_tests)
 
 pub either : (n m : ℕ) {R : Type 0} → (n ≡ m → R) → (n ≢ m → R) → R
-either n m {R} yes' no' = search (rules, eqb, eqb-true, not_same)
+either n m is ne = elim (cases_eq n m) [ inl e ↦ is e | inr e ↦ ne e ]
 
 -- Queries
 
@@ -68,11 +69,7 @@ process_same s n mine = row_query s (λ p. p.pid == n) (λ p good is. named mine
 
 -- the row of a number, if there is one
 pub at_number : (ps : List ProcData) → AllByRecursion GoodProc ps → (n : ℕ) (R : Option ProcData → Type 0) → R None → ((p : ProcData) → process_of n ps ≡ Some p → GoodProc p → p.pid ≡ n → R (Some p)) → R (process_of n ps)
-at_number ps all n R none some = by_row (process_of n ps) refl (find_some (λ p. p.pid == n) GoodProc ps all)
-  where
-    by_row : (o : Option ProcData) → process_of n ps ≡ o → IfSome o (λ p. GoodProc p × ((p.pid == n) ≡ true)) → R o
-    by_row None is g = none
-    by_row (Some p) is g = some p is g.0 (eqb-true p.pid n g.1)
+at_number ps all n R none some = grind (arith, nat_tests, find_some (λ p. p.pid == n) GoodProc ps all, none, some)
 
 -- Each row on its own
 
@@ -98,68 +95,47 @@ module _ {u : ℕ} {start c v : Rows} (s : Sim u start c v) (f : ProcData → Op
 
   -- a process, afterwards
   kin : (p : ProcData) → GoodProc p → Kin p (f p)
-  kin p good = either p.uid u (k.mine p good) (λ ne. subst (Kin p) (sym (k.foreign p good ne)) (refl, refl, good))
-
-  kins : (R : ProcData → ProcData → Type 0) → ((p q : ProcData) → (q.pid ≡ p.pid) × (q.uid ≡ p.uid) × GoodProc q → R p q) → (p : ProcData) → GoodProc p → IfSome (f p) (R p)
-  kins R h p good = If_more _ (R p) (h p) (f p) (kin p good)
+  kin p good = either p.uid u (k.mine p good) (λ ne. grind (arith, k.foreign p good ne, good))
 
   live_after : (n : ℕ) (p : ProcData) → process_of n c.processes ≡ Some p → LiveRow (f p) → LiveRow (process_of n after)
-  live_after n p is = search (rules, find_edit, kins, eqb, all)
+  live_after n p is live = grind (arith, find_edit (λ q. q.pid == n) f GoodProc (λ q good. grind (arith, kin q good)) c.processes all p, is, live)
 
   -- an LWP, with what its process becomes
   abbrev to : LwpData → Option LwpData
   to l = by_owner g l (process_of l.pid c.processes)
 
   kin_lwp : (p : ProcData) (l : LwpData) → GoodProc p → GoodLwp l → p.pid ≡ l.pid → KinLwp l (g p l)
-  kin_lwp p l good well here = either p.uid u (λ is. k.lwp p l good well is here) (λ ne. subst (KinLwp l) (sym (k.foreign_lwp p l good well ne here)) (refl, well))
+  kin_lwp p l good well here = either p.uid u (λ is. k.lwp p l good well is here) (λ ne. grind (arith, k.foreign_lwp p l good well ne here, well))
 
   kin_to : (l : LwpData) → GoodLwp l → KinLwp l (to l)
   kin_to l well = at_number c.processes all l.pid (λ o. KinLwp l (by_owner g l o)) (refl, well) (λ p is good here. kin_lwp p l good well here)
 
-  kins_to : (R : LwpData → LwpData → Type 0) → ((l m : LwpData) → (m.pid ≡ l.pid) × GoodLwp m → R l m) → (l : LwpData) → GoodLwp l → IfSome (to l) (R l)
-  kins_to R h l well = If_more _ (R l) (h l) (to l) (kin_to l well)
-
   foreign_to : (l : LwpData) → GoodLwp l → pid_owner l.pid ≢ u → to l ≡ Some l
   foreign_to l well ne = at_number c.processes all l.pid (λ o. by_owner g l o ≡ Some l) refl (λ p is good here. k.foreign_lwp p l good well (λ e. ne (sym (ap pid_owner here) ∙ good.block ∙ e)) here)
 
-  live_to : (l : LwpData) → GoodLwp l × LiveOwner c.processes l → IfSome (to l) (LiveOwner after)
-  live_to l h = at_number c.processes all l.pid (λ o. LiveRow o → IfSome (by_owner g l o) (LiveOwner after)) (λ no_row. absurd no_row) at_row h.1
-    where
-      still : (p : ProcData) → process_of l.pid c.processes ≡ Some p → GoodProc p → p.pid ≡ l.pid → LiveRow (f p) → IfSome (g p l) (LiveOwner after)
-      still p is good here live = If_more _ (LiveOwner after) (λ m j. subst (λ n. LiveRow (process_of n after)) (sym j.0) (live_after l.pid p is live)) (g p l) (kin_lwp p l good h.0 here)
+  still : (p : ProcData) (l : LwpData) → process_of l.pid c.processes ≡ Some p → GoodProc p → GoodLwp l → p.pid ≡ l.pid → LiveRow (f p) → IfSome (g p l) (LiveOwner after)
+  still p l is good well here live = If_more _ (LiveOwner after) (λ m j. rw j.0 (live_after l.pid p is live)) (g p l) (kin_lwp p l good well here)
 
-      at_row : (p : ProcData) → process_of l.pid c.processes ≡ Some p → GoodProc p → p.pid ≡ l.pid → is_live p ≡ true → IfSome (g p l) (LiveOwner after)
-      at_row p is good here live = either p.uid u
-          (λ mine. elim (k.live p l good mine live) [ inl on ↦ still p is good here on | inr gone ↦ subst (λ o. IfSome o (LiveOwner after)) (sym gone) tt ])
-          (λ ne. still p is good here (subst LiveRow (sym (k.foreign p good ne)) live))
+  live_to : (l : LwpData) → GoodLwp l × LiveOwner c.processes l → IfSome (to l) (LiveOwner after)
+  live_to l h = at_number c.processes all l.pid (λ o. LiveRow o → IfSome (by_owner g l o) (LiveOwner after)) (λ no_row. absurd no_row) (λ p is good here live. either p.uid u
+      (λ mine. grind (arith, k.live p l good mine live, still p l is good h.0 here))
+      (λ ne. still p l is good h.0 here (subst LiveRow (sym (k.foreign p good ne)) live))) h.1
 
   pub each_same : Sim u start (each f g c) (each f g v)
-  each_same = record {
-    kept = record {
-      closed = record {
-        processes = All-edit f GoodProc GoodProc (kins (λ p q. GoodProc q) (λ p q j. j.2)) c.processes all;
-        lwps = All-edit to GoodLwp GoodLwp (kins_to (λ l m. GoodLwp m) (λ l m j. j.1)) c.lwps s.kept.closed.lwps;
-        in_owners_block = All-edit to (λ l. GoodLwp l × LiveOwner c.processes l) (LiveOwner after) live_to c.lwps (All-both GoodLwp (LiveOwner c.processes) c.lwps s.kept.closed.lwps s.kept.closed.in_owners_block);
-        rising = Rise-edit f GoodProc (kins (λ p q. q.pid ≡ p.pid) (λ p q j. j.0)) c.processes all s.kept.closed.rising;
-        user = s.kept.closed.user;
-        pid_slots = s.kept.closed.pid_slots;
-        tid_slots = s.kept.closed.tid_slots;
-        pid_cursor = s.kept.closed.pid_cursor;
-        tid_cursor = s.kept.closed.tid_cursor;
-      };
-      processes = λ w ne. filter_untouched (own w) f GoodProc (λ p good is. k.foreign p good (λ e. ne (sym (eqb-true p.uid w is) ∙ e)))
-          (λ p good is. If_more _ (λ q. own w q ≡ false) (λ q j. ap (λ n. eqb n w) j.1 ∙ is) (f p) (kin p good)) c.processes all ∙ s.kept.processes w ne;
-      lwps = λ w ne. filter_untouched (own_lwp w) to GoodLwp (λ l well is. foreign_to l well (λ e. ne (sym (eqb-true (pid_owner l.pid) w is) ∙ e)))
-          (λ l well is. If_more _ (λ m. own_lwp w m ≡ false) (λ m j. ap (λ n. eqb (pid_owner n) w) j.0 ∙ is) (to l) (kin_to l well)) c.lwps s.kept.closed.lwps ∙ s.kept.lwps w ne;
-      pid_cursor = s.kept.pid_cursor;
-      tid_cursor = s.kept.tid_cursor;
-    };
-    processes = filter_edit (own u) f GoodProc (kins (λ p q. own u q ≡ own u p) (λ p q j. ap (λ n. eqb n u) j.1)) c.processes all ∙ ap (filter_map f) s.processes;
-    lwps = filter_edit (own_lwp u) to GoodLwp (kins_to (λ l m. own_lwp u m ≡ own_lwp u l) (λ l m j. ap (λ n. eqb (pid_owner n) u) j.0)) c.lwps s.kept.closed.lwps
-        ∙ filter_map_same to _ (filter (own_lwp u) c.lwps) (All-where (own_lwp u) GoodLwp (λ l. to l ≡ by_owner g l (process_of l.pid v.processes)) (λ l well is. ap (by_owner g l) (process_same s l.pid (eqb-true (pid_owner l.pid) u is))) c.lwps s.kept.closed.lwps)
-        ∙ ap (filter_map (λ l. by_owner g l (process_of l.pid v.processes))) s.lwps;
-    pid_cursor = s.pid_cursor;
-    tid_cursor = s.tid_cursor;
-    pid_slots = s.pid_slots;
-    tid_slots = s.tid_slots;
-  }
+  each_same =
+      let closed = s.kept.closed in
+      let processes = All-edit f GoodProc GoodProc (λ p good. grind (arith, kin p good)) c.processes all in
+      let lwps = All-edit to GoodLwp GoodLwp (λ l well. grind (arith, kin_to l well)) c.lwps closed.lwps in
+      let owners = All-edit to (λ l. GoodLwp l × LiveOwner c.processes l) (LiveOwner after) live_to c.lwps (All-both GoodLwp (LiveOwner c.processes) c.lwps closed.lwps closed.in_owners_block) in
+      let rising = Rise-edit f GoodProc (λ p good. grind (arith, kin p good)) c.processes all closed.rising in
+      let other_processes : (w : ℕ) → w ≢ u → of_user w after ≡ of_user w start.processes = λ w ne.
+      filter_untouched (own w) f GoodProc (λ p good is. k.foreign p good (λ e. ne (sym (eqb-true p.uid w is) ∙ e)))
+      (λ p good is. grind (arith, nat_tests, kin p good, is)) c.processes all ∙ s.kept.processes w ne in
+      let other_lwps : (w : ℕ) → w ≢ u → filter (own_lwp w) (filter_map to c.lwps) ≡ filter (own_lwp w) start.lwps = λ w ne.
+      filter_untouched (own_lwp w) to GoodLwp (λ l well is. foreign_to l well (λ e. ne (sym (eqb-true (pid_owner l.pid) w is) ∙ e)))
+      (λ l well is. grind (arith, nat_tests, kin_to l well, is)) c.lwps closed.lwps ∙ s.kept.lwps w ne in
+      let own_processes = filter_edit (own u) f GoodProc (λ p good. grind (arith, nat_tests, kin p good)) c.processes all ∙ ap (filter_map f) s.processes in
+      let own_lwps = filter_edit (own_lwp u) to GoodLwp (λ l well. grind (arith, nat_tests, kin_to l well)) c.lwps closed.lwps
+      ∙ filter_map_same to _ (filter (own_lwp u) c.lwps) (All-where (own_lwp u) GoodLwp (λ l. to l ≡ by_owner g l (process_of l.pid v.processes)) (λ l well is. ap (by_owner g l) (process_same s l.pid (eqb-true (pid_owner l.pid) u is))) c.lwps closed.lwps)
+      ∙ ap (filter_map (λ l. by_owner g l (process_of l.pid v.processes))) s.lwps in
+      assumption

@@ -1,16 +1,13 @@
 -- From the plan of a value to the scenario of the bytes.
-use Rattle.std.proofs.Common.{◌≡◌, List, ℕ, Result, Err, Option, Some, None, IfSome, ◌<◌, ◌≤◌, ◌+◌, ◌++◌, [], length, ◌∙◌, inl, inr, refl, ap, sym, subst, arith}
+use Rattle.std.proofs.Common.{◌≡◌, List, ℕ, Result, Err, Option, Some, None, IfSome, ◌≤◌, ◌+◌, ◌++◌, length, refl, ap, sym, subst, arith}
 use Rattle.std.proofs.lemmas.List.{length-append, append_assoc}
 use Rattle.std.specs.Io.KnownBytes.{Consumes}
 use Rattle.scenario_text.specs.declared.fault.Fault.{Fault}
-use Rattle.scenario_text.specs.declared.fault.Fault.TheVariants.{Read, Memory, BadJson}
+use Rattle.scenario_text.specs.declared.fault.Fault.TheVariants.{Read, Memory}
 use Rattle.scenario_text.specs.Fields.{Gives}
 use Rattle.scenario_text.specs.OneStep.{AnswersBy}
 use Rattle.scenario_text.specs.Plan.{Plan}
-use Rattle.std.specs.Prelude.{IsUtf8}
-use Rattle.serde_json.specs.Data.{Data}
-use Rattle.serde_json.specs.Read.{read}
-use Rattle.scenario_text.specs.Scenarios.{plan_of, max_bytes, StandsFor, too_long, no_value, value, Answers, Yields, Tells, IsFront, Takes, IsPlanOf}
+use Rattle.scenario_text.specs.Scenarios.{plan_of, StandsFor, too_long, no_value, value, Answers, Yields, Tells, IsFront, Takes}
 
 pub answers_of : (P : Result Plan Fault → Type 0) (plan r : Result Plan Fault) → Yields (λ s. s) r plan → P plan → Answers r P
 answers_of P plan (Err Memory) y p = tt
@@ -26,14 +23,10 @@ weaker_answers P Q (Err Read) f a = tt
 weaker_answers P Q r f a = f r a
 
 -- what a long front has, the whole has
-longer : (bytes rest input : List ℕ) (q : Result Plan Fault) → max_bytes < length bytes → input ≡ bytes ++ rest → StandsFor bytes q → StandsFor input q
-longer bytes rest input q long is (too_long h) = too_long (simp (is, length-append) (omega arith))
-longer bytes rest input q long is (no_value short h) = absurd (omega arith)
-longer bytes rest input q long is (value d short h) = absurd (omega arith)
+pub ruleset stands = (too_long, no_value, value, length-append)
 
 pub front_stands : (bytes input : List ℕ) (q : Result Plan Fault) → IsFront bytes input → StandsFor bytes q → StandsFor input q
-front_stands bytes input q (inl e) s = let P : List ℕ → Type 0 = λ xs. StandsFor xs q in subst P (sym e) s
-front_stands bytes input q (inr h) s = longer bytes h.1 input q h.0 h.2 s
+front_stands bytes input q front s = grind (arith, stands)
 
 pub some_weaker : {X : Type 0} (o : Option X) (P Q : X → Type 0) → ((x : X) → P x → Q x) → IfSome o P → IfSome o Q
 some_weaker None P Q f h = tt
@@ -52,13 +45,4 @@ one bytes r q (value d s h) (value e t k) = let a = h.1 in let b = k.1 in let sa
 
 -- what two reads lost one after the other
 pub takes_more : (a b c : Option (List ℕ)) (xs ys : List ℕ) (n : ℕ) → Consumes a b xs → Consumes b c ys → length xs + length ys ≤ n → Takes a c n
-takes_more None b c xs ys n p q h = ([], omega arith, tt)
-takes_more (Some a) None c xs ys n p q h = absurd p
-takes_more (Some a) (Some b) None xs ys n p q h = absurd q
-takes_more (Some a) (Some b) (Some c) xs ys n p q h =
-    (xs ++ ys, simp length-append h, p ∙ ap (λ zs. xs ++ zs) q ∙ sym (append_assoc xs ys c))
-
--- what was read of the text is its value
-pub whole_stands : (bytes : List ℕ) (r : Result Plan Fault) (o : Option Data) → read bytes ≡ o → length bytes ≤ max_bytes → IsUtf8 bytes → IsPlanOf r o → Answers r (StandsFor bytes)
-whole_stands bytes r None is short good y = answers_of (StandsFor bytes) (Err BadJson) r y (no_value short (λ g. is))
-whole_stands bytes r (Some d) is short good y = answers_of (StandsFor bytes) (plan_of d) r y (value d short (good, is))
+takes_more a b c xs ys n p q h = (xs ++ ys, simp length-append h, grind (arith, append_assoc {A = ℕ}))

@@ -1,6 +1,6 @@
 -- What the keys of an object say, once a member is put into it.
 use Rattle.std.specs.Prelude.{⊤}
-use Rattle.std.proofs.Common.{◌≡◌, ℕ, ◌⊎◌, inl, inr, List, [], ◌∷◌, Option, Some, None, true, false, Ordering, Less, Equal, Greater, nat_cmp, is_eq, refl, sym, ap, ap₂, ◌∙◌, arith, bit_or, true≢false}
+use Rattle.std.proofs.Common.{◌≡◌, ℕ, ◌⊎◌, inl, inr, List, [], ◌∷◌, Option, Some, None, true, false, Ordering, Less, Equal, Greater, nat_cmp, is_eq, refl, sym, ap, ap₂, ◌∙◌, arith, bit_or}
 use Rattle.std.proofs.Math.Path.{fun_ext}
 use Rattle.std.proofs.lemmas.Bool.{cases_Bool}
 use Rattle.std.proofs.lemmas.Map.Text.{is_eq-slice_cmp}
@@ -47,10 +47,7 @@ abbrev found : List ℕ → Data → Members → List ℕ → Option Data
 found k d ms q = if bytes_eq k q then Some d else get_member q ms
 
 found-put : (k : List ℕ) (d : Data) (ms : Members) (q : List ℕ) → get_member q (put k d ms) ≡ found k d ms q
-found-put k d ms q = by_test (cases_Bool (bytes_eq k q)) where
-  by_test : ((bytes_eq k q ≡ true) ⊎ (bytes_eq k q ≡ false)) → get_member q (put k d ms) ≡ found k d ms q
-  by_test (inl e) = let same : k ≡ q = (bytes_eq-Decides k q).0 e in rw (e, sym same) (get_member-put k d ms)
-  by_test (inr e) = rw e (get_member-put_other q k d ms (λ (h : q ≡ k). true≢false (sym ((bytes_eq-Decides k q).1 (sym h)) ∙ e)))
+found-put k d ms q = grind (arith, get_member-put, get_member-put_other, bytes_eq-Decides)
 
 -- a fact of every row of a table, and of a text that is in none
 abbrev OfRows : {X : Type 0} → (List ℕ → Option X → Type 0) → List (List ℕ × X) → Type 0

@@ -84,6 +84,7 @@ impl Gathered for SigSet {
 }
 
 /// Reads the items of the array that the reader is in.
+#[tactic(auto, using(crate::proofs::ReadLoops::ends, crate::proofs::ReadLoops::bind_ok))]
 fn gather<S: Gathered>(
     reader: &mut Tokens<'_>,
     depth: usize,
@@ -105,6 +106,7 @@ fn gather<S: Gathered>(
 
 /// Reads the next value, which may be an array of items that make a set.
 #[inline(never)]
+#[tactic(auto, using(crate::proofs::ReadLoops::opened))]
 pub(crate) fn read_set<S: Gathered>(
     reader: &mut Tokens<'_>,
     depth: usize,

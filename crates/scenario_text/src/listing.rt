@@ -104,6 +104,7 @@ fn add_next(
 }
 
 /// Reads the items of the array that the reader is in.
+#[tactic(auto, using(crate::proofs::ReadLoops::ends, crate::proofs::Lists::is_list))]
 fn read_list(alloc: Global, reader: &mut Tokens<'_>, depth: usize) -> Result<Listed, Stop>
     requires { 3 < depth }
     ensures list { Tries IsListOf (read_items depth reader.old) result reader.new }
@@ -123,6 +124,7 @@ fn read_list(alloc: Global, reader: &mut Tokens<'_>, depth: usize) -> Result<Lis
 }
 
 /// Reads the next value, which may be an array of steps.
+#[tactic(auto, using(crate::proofs::ReadLoops::opened))]
 pub(crate) fn read_steps(
     alloc: Global,
     reader: &mut Tokens<'_>,

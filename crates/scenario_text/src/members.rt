@@ -134,6 +134,7 @@ fn read_named(
 }
 
 /// Reads the members of the object that the reader is in.
+#[tactic(auto, using(crate::proofs::ReadLoops::ends))]
 fn read_fields(reader: &mut Tokens<'_>, depth: usize, fields: &mut Fields) -> Result<(), Invalid>
     requires { 2 < depth }
     ensures members { ReadsMembers (λ _ ms. fields.new ≡ fields_in ms) depth result reader.old reader.new }
@@ -147,6 +148,7 @@ fn read_fields(reader: &mut Tokens<'_>, depth: usize, fields: &mut Fields) -> Re
 }
 
 /// Reads the next value, which may be a step. `fields` has what its keys say meanwhile.
+#[tactic(auto, using(crate::proofs::ReadLoops::opened))]
 pub(crate) fn read_step(
     reader: &mut Tokens<'_>,
     depth: usize,

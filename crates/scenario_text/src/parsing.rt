@@ -83,6 +83,7 @@ fn bounded_steps(list: Listed) -> Result<StepList, Fault>
 
 /// Returns the scenario of what was read of its members: its steps, the value of `kill_on_debugger_exit`, and whether
 /// it has no other keys. The error is its first fault.
+#[tactic(auto, using(std::proofs::lemmas::Bool::Decides::nat_tests), unfolding(crate::specs::Scenarios::plan_of, crate::specs::Scenarios::head_of))]
 fn scenario_of(
     steps: Result<Listed, KeyError>,
     kill: Result<i64, KeyError>,
@@ -125,6 +126,7 @@ fn scenario_key(name: &str) -> ScenarioKey
 }
 
 /// Reads the members of the object that the reader is in.
+#[tactic(auto, using(crate::proofs::ReadLoops::ends))]
 fn read_scenario_members(
     alloc: Global,
     reader: &mut Tokens<'_>,
@@ -154,6 +156,7 @@ fn read_scenario_members(
 }
 
 /// Reads the next value, which may be a scenario.
+#[tactic(auto, using(crate::proofs::ReadLoops::opened))]
 fn read_scenario(alloc: Global, reader: &mut Tokens<'_>) -> Result<Result<Scenario, Fault>, Stop>
     ensures scenario { Tries (λ r d. Yields (λ s. s) r (plan_of d)) (converted of_json (value 127 reader.old)) result reader.new }
     ensures no_read { IfOk result (λ r. IfErr r (λ e. e ≢ ReadFault)) }
@@ -190,6 +193,7 @@ fn read_text(alloc: Global, text: &str) -> Result<Result<Scenario, Fault>, Stop>
 /// The first check that fails: at most `MAX_BYTES` bytes, a JSON text, the shape of the whole, at most `MAX_STEPS`
 /// steps, and then each step in order. Of a step, the keys are checked in the order of its op, and then that it has no
 /// other keys. `Memory` where memory runs out. Never `Read`.
+#[tactic(auto, using(crate::specs::Scenarios::too_long, crate::specs::Scenarios::no_value, crate::specs::Scenarios::value))]
 pub fn parse(alloc: Global, bytes: &[u8]) -> Result<Scenario, Fault>
     ensures stands { Answers result (StandsFor bytes.now) }
     ensures no_read { IfErr result (λ e. e ≢ ReadFault) }

@@ -175,6 +175,7 @@ impl RuleFields {
 }
 
 /// Reads the members of the object that the reader is in.
+#[tactic(auto, using(crate::proofs::ReadLoops::ends))]
 fn read_rule_fields(reader: &mut Tokens<'_>, depth: usize) -> Result<RuleFields, Invalid>
     requires { 0 < depth }
     ensures members { ReadsMembers (λ f ms. f ≡ rule_fields_in ms) depth result reader.old reader.new }
@@ -188,6 +189,7 @@ fn read_rule_fields(reader: &mut Tokens<'_>, depth: usize) -> Result<RuleFields,
 }
 
 /// Reads the next value, which may be a rule.
+#[tactic(auto, using(crate::proofs::ReadLoops::opened))]
 fn read_rule(reader: &mut Tokens<'_>, depth: usize) -> Result<Result<Rule, KeyError>, Invalid>
     requires { 1 < depth }
     ensures rule { Reads (λ x d. x ≡ rule_of d) depth result reader.old reader.new }
@@ -267,6 +269,7 @@ impl RuleList {
 }
 
 /// Reads the items of the array that the reader is in. More than 16 rules are refused before any of them is judged.
+#[tactic(auto, using(crate::proofs::ReadLoops::ends, crate::proofs::Lists::few_rules, crate::proofs::Lists::many_rules))]
 fn read_policy(reader: &mut Tokens<'_>, depth: usize) -> Result<Result<Policy, KeyError>, Invalid>
     requires { 1 < depth }
     ensures policy { ReadsItems (λ x ds. x ≡ policy_of ds) depth result reader.old reader.new }
@@ -290,6 +293,7 @@ fn read_policy(reader: &mut Tokens<'_>, depth: usize) -> Result<Result<Policy, K
 
 /// Reads the next value, which may be an array of rules.
 #[inline(never)]
+#[tactic(auto, using(crate::proofs::ReadLoops::opened))]
 pub(crate) fn read_rules(
     reader: &mut Tokens<'_>,
     depth: usize,

@@ -132,6 +132,7 @@ impl StepList {
     }
 
     /// Adds a step of a user. An error means out of memory, and changes nothing.
+    #[tactic(auto, using(crate::proofs::FilledLemmas::filled_more, crate::proofs::FilledLemmas::policies_more))]
     pub fn push(&mut self, user: Uid, step: &PlainStep) -> Result<(), AllocError>
         ensures ok { OnOk result (self.new ≡ self.old ++ asked (user, step.now) ∷ []) }
         ensures err { OnErr result (self.new ≡ self.old) }

@@ -1,30 +1,23 @@
 -- Sets of signals as numbers, bit by bit.
-use Rattle.std.proofs.Common.{◌≡◌, ℕ, zero, suc, ◌+◌, ◌-◌, ◌%◌, ◌^◌, min, max, ◌<◌, ◌≤◌, Bool, true, false, arith, refl, sym, ap, ◌∙◌, bit_and, bit_or, w32, inl, inr, ◌⊎◌, rules}
+use Rattle.std.proofs.Common.{◌≡◌, ℕ, zero, suc, ◌+◌, ◌-◌, ◌^◌, ◌<◌, ◌≤◌, Bool, true, false, arith, refl, sym, ap, ◌∙◌, bit_and, bit_or, w32, rules}
 use Rattle.std.specs.Int.{bit_at, trailing_zeros}
 use Rattle.std.proofs.lemmas.Nat.{or_lt, xor_lt, pow_pos, and_le_l}
 use Rattle.std.proofs.lemmas.Nat.Bits.{bit_at_and, bit_at_or, bit_at_xor, bit_at_not, bit_at-lt, same_from_bits_below, and_pow, bit_at-trailing_zeros, bit_at_above}
-use Rattle.std.specs.Prelude.{Some, None, find, Result, Ok, Err, OkIff}
+use Rattle.std.specs.Prelude.{Some, find, Result, Ok, Err, OkIff}
 use Rattle.std.specs.Result.{result_ok}
 use Rattle.std.proofs.lemmas.Bool.{cases_lt}
 use Rattle.std.specs.List.{range_with_len}
 use Rattle.signals.specs.Sets.{without, has, lowest}
 use Rattle.signals.proofs.Rising.{find-over, find-here}
 
--- one bit of a difference, computed in the two ways
-one_less : (x y : ℕ) → x < 2 → y < 2 → min x (1 - y) ≡ (max x y + y) % 2
-one_less x y a b = omega arith
-
+-- a difference, computed in two ways
 pub difference-is : (a b : ℕ) → a < 2 ^ 31 → b < 2 ^ 31 → bit_and a (2 ^ 32 - 1 - b) ≡ without a b
 difference-is a b small other =
     let narrow : a < 2 ^ 32 = omega arith in
     let wide : b < 2 ^ 32 = omega arith in
     let below : bit_and a (2 ^ 32 - 1 - b) ≤ a = and_le_l a (2 ^ 32 - 1 - b) in
     same_from_bits_below 32 (bit_and a (2 ^ 32 - 1 - b)) (without a b) (omega arith) (xor_lt 32 (bit_or a b) b (or_lt 32 a b narrow wide) wide)
-    (λ i within.
-    bit_at_and a (2 ^ 32 - 1 - b) i
-    ∙ (ap (min (bit_at a i)) (bit_at_not w32 b i wide within)
-    ∙ (one_less (bit_at a i) (bit_at b i) (bit_at-lt a i) (bit_at-lt b i)
-    ∙ sym (bit_at_xor (bit_or a b) b i ∙ ap (λ x. (x + bit_at b i) % 2) (bit_at_or a b i)))))
+    (λ i within. grind (arith, bit_at_not w32 b i wide within, bit_at_and, bit_at_xor, bit_at_or, bit_at-lt))
 
 -- a number is in the set where its bit is 1
 pub has-one : (set k : ℕ) → bit_at set k ≡ 1 → has set (k + 1) ≡ true
@@ -49,13 +42,8 @@ least-some : (set : ℕ) → 0 < set → set < 2 ^ 31 → (trailing_zeros w32 se
 least-some set some small =
     let k = trailing_zeros w32 set in
     let at = bit_at-trailing_zeros w32 set some (omega arith) in
-    let within : k < 31 = by_place (cases_lt k 31) at.1 in
-    let turned : 1 + k ≡ k + 1 = omega arith in
-    (within, find-first (has set) 1 31 k within (λ i less. let e : i + 1 ≡ 1 + i = omega arith in rw e at (has-zero set i (at.2 i less))) (let e : k + 1 ≡ 1 + k = omega arith in rw e at (has-one set k at.1)) ∙ ap (λ x. Some x) turned)
-  where
-    by_place : (trailing_zeros w32 set < 31) ⊎ (31 ≤ trailing_zeros w32 set) → bit_at set (trailing_zeros w32 set) ≡ 1 → trailing_zeros w32 set < 31
-    by_place (inl below) one = below
-    by_place (inr above) one = absurd (let none : bit_at set (trailing_zeros w32 set) ≡ 0 = bit_at_above set 31 _ small above in let clash : 0 ≡ 1 = sym none ∙ one in omega arith)
+    let within : k < 31 = grind (arith, at.1, bit_at_above set 31 k small) in
+    (within, find-first (has set) 1 31 k within (λ i less. grind (arith, has-zero set i (at.2 i less))) (grind (arith, has-one set k at.1)) ∙ ap (λ x. Some x) (omega arith))
 
 zeros-of-none : trailing_zeros w32 0 ≡ 32
 unfolding lib.Count.count_trailing_zeros
@@ -63,8 +51,4 @@ zeros-of-none = refl
 
 pub lowest-is : {E : Type 0} (set : ℕ) (r : Result ℕ E) → set < 2 ^ 31 → OkIff r ((1 ≤ trailing_zeros w32 set + 1) × (trailing_zeros w32 set + 1 ≤ 31)) (trailing_zeros w32 set + 1) → result_ok r ≡ lowest set
 lowest-is set (Ok n) small h = search (rules, cases_lt, w32, least-some, zeros-of-none)
-lowest-is set (Err e) small h = of_none (cases_lt 0 set)
-  where
-    of_none : (0 < set) ⊎ (set ≤ 0) → None ≡ lowest set
-    of_none (inl some) = absurd (h (omega arith, (let within = (least-some set some small).0 in omega arith)))
-    of_none (inr none) = let empty : set ≡ 0 = omega arith in sym (ap lowest empty)
+lowest-is set (Err e) small h = grind (arith, least-some set)

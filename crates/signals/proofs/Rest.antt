@@ -1,6 +1,6 @@
 -- A set's signals, rising: the lowest one and then those of the set without it.
 use Rattle.std.proofs.lemmas.Bool.Decides.{nat_tests}
-use Rattle.std.proofs.Common.{◌≡◌, ℕ, zero, suc, ◌+◌, ◌<◌, ◌≤◌, Bool, true, false, [], ◌∷◌, arith, refl, inl, inr, ◌⊎◌, rules}
+use Rattle.std.proofs.Common.{◌≡◌, ℕ, zero, suc, ◌+◌, ◌<◌, ◌≤◌, Bool, true, false, [], ◌∷◌, arith, refl, inl, inr, rules}
 use Rattle.std.specs.Prelude.{◌==◌, not, ◌&&◌, filter, Some, None}
 use Rattle.std.specs.List.{range_with_len}
 use Rattle.std.proofs.lemmas.Bool.{cases_lt, cases_Bool, eq-eqb, ne_eqb}
@@ -26,18 +26,14 @@ filter-first p q n from (suc left) low high passes before others = search (rules
 
 pub members-first : (set n : ℕ) → lowest set ≡ Some n → members set ≡ n ∷ members (without set (bit n))
 unfolding members
-members-first set n first = by_lowest (rw first at (lowest-some set))
-  where
-    below : IsLowest set n → (m : ℕ) → 1 ≤ m → m < n → (has set m ≡ true) ⊎ (has set m ≡ false) → has set m ≡ false
-    below h m low less (inl there) = absurd (let high = h.signal.1 in let least = h.least m (low, omega arith) there in omega arith)
-    below h m low less (inr gone) = gone
-
-    by_lowest : IsLowest set n → members set ≡ n ∷ members (without set (bit n))
-    by_lowest h =
-        let high = h.signal.1 in
-        filter-first (has set) (has (without set (bit n))) n 1 31 h.signal.0 (omega arith) h.member
-        (λ m low less. below h m low less (cases_Bool (has set m)))
-        (λ m low less. (members_after set 0 n m h.signal (low, omega arith)).removed)
+members-first set n first =
+    let h : IsLowest set n = rw first at (lowest-some set) in
+    filter-first (has set) (has (without set (bit n))) n 1 31 h.signal.0 (omega arith) h.member
+    (λ m low less. elim (cases_Bool (has set m)) [
+      | inl there ↦ absurd (omega (arith, less, h.least m (low, omega (arith, less, h.signal.1)) there))
+      | inr gone ↦ gone
+    ])
+    (λ m low less. (members_after set 0 n m h.signal (low, omega arith)).removed)
 
 pub members-none : (set : ℕ) → lowest set ≡ None → members set ≡ []
 unfolding members

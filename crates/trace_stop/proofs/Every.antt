@@ -1,57 +1,45 @@
 -- A fact of each element of a list, and tests and counts on lists.
-use Rattle.trace_stop.proofs.CommonNames.{nat_tests, cases_Bool, AllByRecursion, list_any, list_all}
-use Rattle.std.proofs.Common.{◌≡◌, ◌+◌, List, [], ◌∷◌, ◌++◌, filter, find, filter_map, Bool, true, false, cond, not, ◌&&◌, ◌||◌, Option, Some, None, IfSome, refl, sym, ◌∙◌, eq-eqb, ◌==◌, ◌≢◌, arith, true≢false, if◌then◌else◌, is_some, inl, inr, ℕ, ◌≤◌, count_by}
-use Rattle.std.proofs.lemmas.List.Sums.{sum_by-cons, sum_by-append}
-use Rattle.proc_table.proofs.Every.{every_found, every_filter, found_tested}
+use Rattle.trace_stop.proofs.CommonNames.{◌≤◌, nat_tests, AllByRecursion, list_any, list_all, ◌≡◌, ◌+◌, List, [], ◌∷◌, ◌++◌, filter, find, filter_map, Bool, true, false, cond, not, ◌&&◌, ◌||◌, Option, Some, None, IfSome, refl, sym}
+use Rattle.trace_stop.proofs.CommonNames.{arith, true≢false, if◌then◌else◌, is_some, count_by, every_found}
+use Rattle.std.proofs.lemmas.List.Elements.{All-from_recursion, recursion_from_All}
+use Rattle.std.proofs.lemmas.List.Sums.{AllPass-from_list_all, list_all-from_AllPass, sum_by-cons, sum_by-append}
+use Rattle.proc_table.proofs.Every.{every_filter, found_tested}
 pub use Rattle.proc_table.proofs.Every.{every_weaken as All-imply, every_both as All-both, every_append as All-append}
-pub use Rattle.std.proofs.lemmas.Bool.{and_from as both, or_left, or_right, false_from_ne_true as by_bool, not-true as not_true}
+pub use Rattle.std.proofs.lemmas.Bool.{eqb-false as not_same, cond_both, and_from as both, or_left, or_right, false_from_ne_true as by_bool, not-true as not_true}
 
 pub and_left : (a b : Bool) → (a && b) ≡ true → a ≡ true
-and_left true b is = refl
-and_left false b is = absurd (true≢false (sym is))
+and_left a b is = grind (arith, is)
 
 pub and_right : (a b : Bool) → (a && b) ≡ true → b ≡ true
-and_right true b is = is
-and_right false b is = absurd (true≢false (sym is))
+and_right a b is = grind (arith, is)
 
 pub implies_at : (a b : Bool) → (not a || b) ≡ true → a ≡ true → b ≡ true
-implies_at true b is it = is
-implies_at false b is it = absurd (true≢false (sym it))
+implies_at a b is it = grind (arith, is, it)
 
 pub implies_from : (a b : Bool) → (a ≡ true → b ≡ true) → (not a || b) ≡ true
-implies_from true b h = h refl
-implies_from false b h = refl
+implies_from a b h = grind (arith, h)
 
 pub or_true : (b : Bool) → (b || true) ≡ true
-or_true true = refl
-or_true false = refl
+or_true b = grind arith
 
--- either way of a choice
+-- either way of a choice, and of two
 pub choose : {X : Type 0} (b : Bool) (x y : X) (R : X → Type 0) → (b ≡ true → R x) → (b ≡ false → R y) → R (if b then x else y)
-choose true x y R h k = h refl
-choose false x y R h k = k refl
+choose b x y R h k = cond_both b x y R h k
 
 pub choose_both : {X Y : Type 0} (R : X → Y → Type 0) (b : Bool) (x y : X) (v w : Y) → (b ≡ true → R x v) → (b ≡ false → R y w) → R (if b then x else y) (if b then v else w)
-choose_both R true x y v w h k = h refl
-choose_both R false x y v w h k = k refl
-
-pub not_same : (a b : ℕ) → (a == b) ≡ false → a ≢ b
-not_same a b is same = true≢false (sym (eq-eqb a b same) ∙ is)
+choose_both R b x y v w h k = grind (arith, h, k)
 
 -- what isn't there
 pub not_some : {X : Type 0} (o : Option X) → is_some o ≡ false → o ≡ None
-not_some None is = refl
-not_some (Some x) is = absurd (true≢false is)
+not_some o is = grind (arith, is)
 
 -- a fact of each element
 
 pub All-from_list_all : {X : Type 0} (q : X → Bool) (xs : List X) → list_all q xs ≡ true → AllByRecursion (λ x. q x ≡ true) xs
-All-from_list_all q [] is = tt
-All-from_list_all q (x ∷ xs) is = (and_left (q x) (list_all q xs) is, All-from_list_all q xs (and_right (q x) (list_all q xs) is))
+All-from_list_all q xs is = recursion_from_All _ xs (AllPass-from_list_all q xs is)
 
 pub list_all-from_All : {X : Type 0} (q : X → Bool) (xs : List X) → AllByRecursion (λ x. q x ≡ true) xs → list_all q xs ≡ true
-list_all-from_All q [] all = refl
-list_all-from_All q (x ∷ xs) all = both (q x) (list_all q xs) all.0 (list_all-from_All q xs all.1)
+list_all-from_All q xs all = list_all-from_AllPass q xs (All-from_recursion _ xs all)
 
 pub All-any : {X : Type 0} (P : X → Type 0) → ((x : X) → P x) → (xs : List X) → AllByRecursion P xs
 All-any P h [] = tt
@@ -70,14 +58,11 @@ find_some q P xs all x is = (every_found P q xs x all is, found_tested q xs x is
 -- what holds of every element holds of one that passes
 pub any_holds : {X : Type 0} (q : X → Bool) (P : X → Type 0) (R : Type 0) → ((x : X) → P x → q x ≡ true → R) → (xs : List X) → AllByRecursion P xs → list_any q xs ≡ true → R
 any_holds q P R h [] all is = absurd (true≢false (sym is))
-any_holds q P R h (x ∷ xs) all is = elim (cases_Bool (q x)) [
-  | inl e ↦ h x all.0 e
-  | inr e ↦ any_holds q P R h xs all.1 (rw e at is)
-]
+any_holds q P R h (x ∷ xs) all is = grind (arith, is, h x all.0, any_holds q P R h xs all.1)
 
 -- one that is found passes another test, where that holds of it
 pub find_passes : {X : Type 0} (q t : X → Bool) (xs : List X) (x : X) → find q xs ≡ Some x → t x ≡ true → list_any t xs ≡ true
-find_passes q t [] x is pass = absurd (grind (arith, is))
+find_passes q t [] x is pass = absurd (cc)
 find_passes q t (y ∷ xs) x is pass = grind (arith, find_passes q t xs x, is, pass)
 
 pub find_none : {X : Type 0} (q : X → Bool) (xs : List X) → AllByRecursion (λ x. q x ≡ false) xs → find q xs ≡ None
@@ -86,7 +71,7 @@ find_none q (x ∷ xs) all = rw (all.0, find_none q xs all.1) refl
 
 pub none_of : {X : Type 0} (q : X → Bool) (xs : List X) → list_any q xs ≡ false → AllByRecursion (λ x. q x ≡ false) xs
 none_of q [] is = tt
-none_of q (x ∷ xs) is = (grind (arith, is), none_of q xs (grind (arith, is)))
+none_of q (x ∷ xs) is = grind (arith, is, none_of q xs)
 
 pub none_passes : {X : Type 0} (q : X → Bool) (P : X → Type 0) → ((x : X) → P x → q x ≡ false) → (xs : List X) → AllByRecursion P xs → list_any q xs ≡ false
 none_passes q P h [] all = refl
@@ -110,14 +95,9 @@ count-append q xs ys = sum_by-append (λ y. cond (q y) 1 0) xs ys
 -- of elements that pass a test, and pass another
 pub count_more : {X : Type 0} (q t : X → Bool) (xs : List X) → AllByRecursion (λ x. q x ≡ true → t x ≡ true) xs → count_by q xs ≤ count_by t xs
 count_more q t [] all = omega arith
-count_more q t (x ∷ xs) all = let one = less (q x) (t x) all.0 in let some = count-cons q x xs in let every = count-cons t x xs in let rest = count_more q t xs all.1 in omega (arith, one, some, every, rest)
-  where
-    less : (a b : Bool) → (a ≡ true → b ≡ true) → cond {A = ℕ} a 1 0 ≤ cond b 1 0
-    less true b h = rw (h refl) (omega arith)
-    less false true h = omega arith
-    less false false h = omega arith
+count_more q t (x ∷ xs) all = grind (arith, all.0, count-cons q x xs, count-cons t x xs, count_more q t xs all.1)
 
 -- tests that agree on each element
 pub count_same : {X : Type 0} (q t : X → Bool) (xs : List X) → AllByRecursion (λ x. q x ≡ t x) xs → count_by q xs ≡ count_by t xs
 count_same q t [] all = refl
-count_same q t (x ∷ xs) all = count-cons q x xs ∙ (rw (all.0, count_same q t xs all.1) refl ∙ sym (count-cons t x xs))
+count_same q t (x ∷ xs) all = grind (arith, all.0, count-cons q x xs, count-cons t x xs, count_same q t xs all.1)

@@ -1,14 +1,15 @@
 -- Rows that are found by their numbers.
-use Rattle.trace_stop.proofs.CommonNames.{nat_tests, list_any, ProcData, process_of, is_live, Rows, is_process, IsRow, Rise, is_live_at, is_live_of}
-use Rattle.std.proofs.Common.{◌≡◌, ◌∙◌, ℕ, Bool, true, ◌==◌, true≢false, List, [], ◌∷◌, nat_eq, sym, ap, refl, Option, Some, None, IsSome, is_some, arith, eq-eqb, ◌&&◌, eqb-true}
-use Rattle.proc_table.proofs.Rows.{row_found, process_of-pid}
-use Rattle.trace_stop.proofs.Every.{and_left, both, any_more, find_passes, and_right, any_holds}
-use Rattle.trace_stop.proofs.Passes.{passes, above_none, own_rows}
+use Rattle.trace_stop.proofs.CommonNames.{nat_tests, list_any, ProcData, process_of, is_live, Rows, is_process, IsRow, Rise, is_live_at, is_live_of, ◌≡◌, ◌∙◌, ℕ, Bool, true, ◌==◌, List, [], ◌∷◌, ap, refl, Some, IsSome, is_some, arith, ◌&&◌}
+use Rattle.trace_stop.proofs.CommonNames.{process_of-pid, lwp_of-tid, none_above}
+use Rattle.proc_table.proofs.Rows.{row_found}
+use Rattle.proc_table.proofs.Stays.{lwp_there}
+use Rattle.trace_stop.proofs.Every.{and_left, any_more, find_passes, any_holds}
+use Rattle.trace_stop.proofs.Passes.{passes, own_rows}
 
 -- a test of the row with a number
 pub any_by_number : (t : ProcData → Bool) (n : ℕ) (ps : List ProcData) → Rise ps → list_any (λ r. (r.pid == n) && t r) ps ≡ passes t (process_of n ps)
 any_by_number t n [] rise = refl
-any_by_number t n (p ∷ ps) rise = grind (arith, nat_tests, rise.0, above_none n ps, any_by_number t n ps rise.1)
+any_by_number t n (p ∷ ps) rise = grind (arith, nat_tests, none_above p.pid n, any_by_number t n ps rise.1, rise.0)
 
 -- a live process is a process
 pub listed : (rows : Rows) (q : ℕ) → is_live_at q rows ≡ true → is_process rows q ≡ true
@@ -24,14 +25,10 @@ own_row n p ps at = ap (λ m. process_of m ps) (process_of-pid n p ps at) ∙ at
 
 -- a live process is found by its number
 pub live_row : (rows : Rows) (n : ℕ) → Rise rows.processes → is_live_at n rows ≡ true → (p : ProcData) × (process_of n rows.processes ≡ Some p) × (is_live p ≡ true)
-live_row rows n up is = by_row (process_of n rows.processes) refl (sym (any_by_number is_live n rows.processes up) ∙ is)
-  where
-    by_row : (o : Option ProcData) → process_of n rows.processes ≡ o → passes is_live o ≡ true → (p : ProcData) × (process_of n rows.processes ≡ Some p) × (is_live p ≡ true)
-    by_row None at live = absurd (true≢false (sym live))
-    by_row (Some p) at live = (p, at, live)
+live_row rows n up is = grind (arith, nat_tests, any_by_number is_live n rows.processes up, is)
 
 pub live_found : (rows : Rows) (n : ℕ) (p : ProcData) → process_of n rows.processes ≡ Some p → is_live p ≡ true → is_live_at n rows ≡ true
-live_found rows n p at live = find_passes (λ r. nat_eq r.pid n) (λ r. nat_eq r.pid n && is_live r) rows.processes p at (both (nat_eq p.pid n) (is_live p) (eq-eqb p.pid n (process_of-pid n p rows.processes at)) live)
+live_found rows n p at live = grind (arith, nat_tests, find_passes, process_of-pid)
 
 -- The live process that a row names
 
@@ -43,16 +40,7 @@ pub record LiveRow (rows : Rows) (u n : ℕ) : Type 0 where
   pub live : is_live row ≡ true
 
 pub live_named : (rows : Rows) → Rise rows.processes → (u n : ℕ) → is_live_of rows u n ≡ true → LiveRow rows u n
-live_named rows rise u n is =
-    any_holds (λ p. (p.pid == n) && (p.uid == u) && is_live p) (λ p. process_of p.pid rows.processes ≡ Some p) (LiveRow rows u n)
-    (λ p own h.
-    let two = and_left ((p.pid == n) && (p.uid == u)) (is_live p) h in
-    let same = eqb-true p.pid n (and_left (p.pid == n) (p.uid == u) two) in
-    record {
-      row = p;
-      found = ap (λ m. process_of m rows.processes) (sym same) ∙ own;
-      number = same;
-      user = eqb-true p.uid u (and_right (p.pid == n) (p.uid == u) two);
-      live = and_right ((p.pid == n) && (p.uid == u)) (is_live p) h;
-    })
-    rows.processes (own_rows rows.processes rise) is
+live_named rows rise u n is = any_holds _ _ _ (λ p own h. grind (arith, nat_tests, own, h)) rows.processes (own_rows rows.processes rise) is
+
+-- for goals on rows that are found
+pub ruleset found_rows = (row_there, lwp_of-tid, lwp_there)

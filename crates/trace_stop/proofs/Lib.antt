@@ -27,3 +27,4 @@ pub mod SoundAfterLink
 pub mod SoundAfterThread
 pub mod Found
 pub mod CommonNames
+pub mod CommonLemmas

@@ -1,8 +1,8 @@
 -- A stopped process runs on: its reporting LWP, and its LWPs.
-use Rattle.std.proofs.Common.{◌≡◌, ℕ, Bool, true, false, List, [], ◌∷◌, map, refl, sym, ap, ◌∙◌, arith, inl, inr, cond, nat_eq, Option, Some, None, rules, filter_map, option_map}
-use Rattle.trace_stop.proofs.CommonNames.{cases_Bool, nat_tests, shows, PL_FLAG_EXITED, LwpData, LacksLwp, Differ, lwp_of, with_lwp, without_lwp, ProcData, process_of, reporting, Rows, by_owner}
-use Rattle.trace_stop.proofs.CommonNames.{is_numbered, own_lwp, map_lwps, TableInvariant, put_process, set_process, run_on, reported, resumed, running, MidStepInvariant, IsStopped, reporter, unreported, report_dropped}
-use Rattle.proc_table.proofs.Rows.{same_number, other_number, process_of-pid, lwp_of-tid}
+use Rattle.trace_stop.proofs.CommonNames.{◌≡◌, ℕ, Bool, true, false, List, [], ◌∷◌, map, refl, sym, ap, ◌∙◌, arith, cond, nat_eq, Option, Some, None, rules, filter_map, option_map, nat_tests, shows, PL_FLAG_EXITED, LwpData, LacksLwp}
+use Rattle.trace_stop.proofs.CommonNames.{Differ, lwp_of, with_lwp, without_lwp, ProcData, process_of, reporting, Rows, by_owner, is_numbered, own_lwp, map_lwps, TableInvariant, set_process, run_on, reported, resumed, running}
+use Rattle.trace_stop.proofs.CommonNames.{MidStepInvariant, IsStopped, reporter, unreported, report_dropped, process_of-pid, lwp_of-tid}
+use Rattle.proc_table.proofs.Rows.{same_number}
 use Rattle.proc_table.proofs.LwpWalk.{unput}
 use Rattle.proc_table.proofs.Changes.{changed, changed-at, filter_map-map, map_lwps-none}
 use Rattle.trace_stop.proofs.StoppedByOwnLwp.{own_reporter}
@@ -13,7 +13,7 @@ dropped gone l ls = cond gone (without_lwp l.tid ls) (with_lwp (unreported l) ls
 
 removed-none : (n : ℕ) (ls : List LwpData) → LacksLwp n ls → without_lwp n ls ≡ ls
 removed-none n [] a = refl
-removed-none n (l ∷ ls) a = rw (other_number l.tid n a.0, removed-none n ls a.1) refl
+removed-none n (l ∷ ls) a = grind (arith, nat_tests, a.0, removed-none n ls a.1)
 
 module _ (pid tid : ℕ) (p : ProcData) (g : LwpData → LwpData) (h : LwpData → Option LwpData)
     (reports : reporting p ≡ Some tid)
@@ -24,37 +24,12 @@ module _ (pid tid : ℕ) (p : ProcData) (g : LwpData → LwpData) (h : LwpData �
 
   quiet : (ls : List LwpData) → LacksLwp tid ls → filter_map h ls ≡ map (own_lwp pid g) ls
   quiet [] a = refl
-  quiet (x ∷ ls) a = rw (silent x (other_number x.tid tid a.0), quiet ls a.1) refl
-
-  its_report : (l : LwpData) (b : Bool) → l.tid ≡ tid → l.pid ≡ pid → shows l.flags PL_FLAG_EXITED ≡ b → h l ≡ cond b None (Some (g (unreported l)))
-  its_report l b its own e = grind (arith, nat_tests)
+  quiet (x ∷ ls) a = grind (arith, nat_tests, a.0, silent x, quiet ls a.1)
 
   pub reported-lwps : (l : LwpData) (b : Bool) → l.tid ≡ tid → l.pid ≡ pid → shows l.flags PL_FLAG_EXITED ≡ b → (ls : List LwpData) → Differ ls → lwp_of tid ls ≡ Some l
       → filter_map h ls ≡ map (own_lwp pid g) (dropped b l ls)
   reported-lwps l b its own e [] d found = absurd (cc)
-  reported-lwps l b its own_ e (x ∷ ls) d found = elim (cases_Bool (nat_eq x.tid tid)) [
-    | inl k ↦ let at : Some x ≡ Some l = rw k at found in let same : x ≡ l = cc in first l b its own_ e x ls same (rw (same, its) at d.0)
-    | inr k ↦ later l b its x ls k (silent x k) (reported-lwps l b its own_ e ls d.1 (rw k at found))
-  ]
-    where
-      first : (l : LwpData) (b : Bool) → l.tid ≡ tid → l.pid ≡ pid → shows l.flags PL_FLAG_EXITED ≡ b → (x : LwpData) (ls : List LwpData) → x ≡ l → LacksLwp tid ls
-          → filter_map h (x ∷ ls) ≡ map (own_lwp pid g) (dropped b l (x ∷ ls))
-      first l true its its_own e x ls same a =
-          let gone : h x ≡ None = ap h same ∙ its_report l true its its_own e in
-          let test : nat_eq x.tid l.tid ≡ true = rw same (same_number l.tid) in
-          let lacks : LacksLwp l.tid ls = rw its a in
-          rw (gone, test, removed-none l.tid ls lacks) (quiet ls a)
-      first l false its its_own e x ls same a =
-          let stays : h x ≡ Some (g (unreported l)) = ap h same ∙ its_report l false its its_own e in
-          let test : nat_eq x.tid l.tid ≡ true = rw same (same_number l.tid) in
-          let lacks : LacksLwp l.tid ls = rw its a in
-          let here : nat_eq l.pid pid ≡ true = rw its_own (same_number pid) in
-          rw (stays, test, unput (unreported l) ls lacks, here) (ap (λ xs. g (unreported l) ∷ xs) (quiet ls a))
-
-      later : (l : LwpData) (b : Bool) → l.tid ≡ tid → (x : LwpData) (ls : List LwpData) → nat_eq x.tid tid ≡ false → h x ≡ Some (own_lwp pid g x) → filter_map h ls ≡ map (own_lwp pid g) (dropped b l ls)
-          → filter_map h (x ∷ ls) ≡ map (own_lwp pid g) (dropped b l (x ∷ ls))
-      later l true its x ls k same rest = let test : nat_eq x.tid l.tid ≡ false = rw its k in rw (same, test) (ap (λ xs. own_lwp pid g x ∷ xs) rest)
-      later l false its x ls k same rest = let test : nat_eq x.tid l.tid ≡ false = rw its k in rw (same, test) (ap (λ xs. own_lwp pid g x ∷ xs) rest)
+  reported-lwps l b its own e (x ∷ ls) d found = grind (arith, nat_tests, its, own, e, found, d.0, mine l, silent x, quiet ls, removed-none tid ls, unput (unreported l) ls, reported-lwps l b its own e ls d.1)
 
 module _ (pid : ℕ) (f : ProcData → ProcData) (g : ProcData → LwpData → LwpData) where
   abbrev runs : ProcData → LwpData → Option LwpData
@@ -71,32 +46,18 @@ module _ (pid : ℕ) (f : ProcData → ProcData) (g : ProcData → LwpData → L
   run_on-at rows s k named =
       let ps = rows.processes in
       let tid = lwp_of-tid s.tid s.l rows.lwps s.named in
-      ap (λ qs. record rows { processes = qs; lwps = filter_map (λ x. by_owner runs x (process_of x.pid ps)) rows.lwps })
-      (filter_map-map (λ q. Some (changed pid f q)) (changed pid f) (λ q. refl) ps ∙ changed-at pid f s.p ps k.rising s.at named)
-      ∙ (ap (λ ls. record rows { processes = map (put_process (f s.p)) ps; lwps = ls })
-      (reported-lwps pid s.tid s.p (g s.p) (λ x. by_owner runs x (process_of x.pid ps)) s.reports (its s.p ps s.at) (not_its ps) s.l (shows s.l.flags PL_FLAG_EXITED) tid s.own refl rows.lwps k.differ s.named)
-      ∙ by_flag (shows s.l.flags PL_FLAG_EXITED) refl)
-    where
-      by_flag : (b : Bool) → shows s.l.flags PL_FLAG_EXITED ≡ b
-          → record rows { processes = map (put_process (f s.p)) rows.processes; lwps = map (own_lwp pid (g s.p)) (dropped b s.l rows.lwps) } ≡ map_lwps pid (g s.p) (report_dropped (Some s.l) (set_process (f s.p) rows))
-      by_flag true e = rw e refl
-      by_flag false e = rw e refl
+      rw (
+        filter_map-map (λ q. Some (changed pid f q)) (changed pid f) (λ q. refl) ps ∙ changed-at pid f s.p ps k.rising s.at named,
+        reported-lwps pid s.tid s.p (g s.p) (λ x. by_owner runs x (process_of x.pid ps)) s.reports (its s.p ps s.at) (not_its ps) s.l (shows s.l.flags PL_FLAG_EXITED) tid s.own refl rows.lwps k.differ s.named,
+      ) (grind arith)
 
   -- and of a process in no trace stop
   pub run_on-calm : (rows : Rows) (p : ProcData) → TableInvariant rows → process_of pid rows.processes ≡ Some p → reporting p ≡ None → (f p).pid ≡ pid
       → run_on (is_numbered pid) f g rows ≡ map_lwps pid (g p) (set_process (f p) rows)
-  run_on-calm rows p k at calm named =
-      let ps = rows.processes in
-      ap (λ qs. record rows { processes = qs; lwps = filter_map (λ x. by_owner runs x (process_of x.pid ps)) rows.lwps })
-      (filter_map-map (λ q. Some (changed pid f q)) (changed pid f) (λ q. refl) ps ∙ changed-at pid f p ps k.rising at named)
-      ∙ ap (λ ls. record rows { processes = map (put_process (f p)) ps; lwps = ls })
-      (filter_map-map (λ x. by_owner runs x (process_of x.pid ps)) (own_lwp pid (g p)) silent_lwp rows.lwps)
-    where
-      silent_lwp : (x : LwpData) → by_owner runs x (process_of x.pid rows.processes) ≡ Some (own_lwp pid (g p) x)
-      silent_lwp x = elim (cases_Bool (nat_eq x.pid pid)) [
-        | inl e ↦ its p rows.processes at x e ∙ (rw (calm, e) refl)
-        | inr e ↦ not_its rows.processes x e ∙ (rw e refl)
-      ]
+  run_on-calm rows p k at calm named = rw (
+    filter_map-map (λ q. Some (changed pid f q)) (changed pid f) (λ q. refl) rows.processes ∙ changed-at pid f p rows.processes k.rising at named,
+    filter_map-map (λ x. by_owner runs x (process_of x.pid rows.processes)) (own_lwp pid (g p)) (λ x. grind (arith, nat_tests, its p rows.processes at x, not_its rows.processes x, calm)) rows.lwps,
+  ) refl
 
   pub run_on-is : (rows : Rows) (p : ProcData) → MidStepInvariant rows → TableInvariant rows → process_of pid rows.processes ≡ Some p → (f p).pid ≡ pid → (o : Option ℕ) → reporting p ≡ o
       → run_on (is_numbered pid) f g rows ≡ map_lwps pid (g p) (report_dropped (reporter o rows.lwps) (set_process (f p) rows))

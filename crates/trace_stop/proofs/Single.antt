@@ -1,11 +1,9 @@
 -- A change of one process, and of one LWP.
-use Rattle.trace_stop.proofs.CommonNames.{nat_tests, LwpData, lwp_of, ProcData, is_live, reporting, process_of, Rows, each, change, change_process, change_lwp, is_numbered, IsLiveChild, FitProcess}
-use Rattle.trace_stop.proofs.CommonNames.{waited_for, FitLwp, IsSound}
-use Rattle.std.proofs.Common.{◌≡◌, ◌⊎◌, inl, ℕ, true, ◌==◌, if◌then◌else◌, Some, None, IfSome, refl, sym, subst, eqb-true, arith, rules}
-use Rattle.trace_stop.proofs.Every.{choose}
-use Rattle.trace_stop.proofs.Edited.{edit_none}
-use Rattle.trace_stop.proofs.SoundAfterEdit.{Row, Beside, Same, Stay, KeptLwp, nobody, holds_sound, sound_holds, row_is, like_self, kept_all, kept_waiting, kept_lwp, none_gone, no_ring, stay, edit_holds, lwps_alone}
-use Rattle.trace_stop.proofs.ProcessEdits.{Alike, changes_hold}
+use Rattle.trace_stop.proofs.CommonNames.{nat_tests, LwpData, lwp_of, ProcData, is_live, reporting, process_of, Rows, each, change, change_process, change_lwp, is_numbered, IsLiveChild, FitProcess, waited_for, FitLwp, IsSound, ◌≡◌, ◌⊎◌}
+use Rattle.trace_stop.proofs.CommonNames.{inl, ℕ, true, ◌==◌, if◌then◌else◌, Some, None, IfSome, refl, sym, subst, eqb-true, arith, rules}
+use Rattle.trace_stop.proofs.SoundAfterEdit.{lwps_alone}
+use Rattle.trace_stop.proofs.ProcessEdits.{Alike}
+use Rattle.trace_stop.proofs.CommonLemmas.{edit_none, lwp_is, Row, Same, Stay, nobody, holds_sound, sound_holds, row_is, like_self, kept_all, none_gone, no_ring, stay, edit_holds, changes_hold}
 
 -- One process
 
@@ -27,9 +25,9 @@ module _ (rows : Rows) (pid : ℕ) (p : ProcData) (f : ProcData → ProcData) (s
   process_sound = subst IsSound (process_alone pid f rows) (sound_holds (change (is_numbered pid) f (λ q l. l) rows) (changes_hold rows (is_numbered pid) f (λ q l. l) FitProcess FitLwp FitProcess FitLwp (holds_sound rows s) (record {
     same = c.same;
     same_lwp = λ q l. (refl, refl, refl, refl);
-    live = λ q row is. subst (λ r. is_live (f r) ≡ is_live r) (mine q row is) c.live;
-    named = λ q row is. subst (λ r. (reporting (f r) ≡ reporting r) ⊎ (reporting (f r) ≡ None)) (mine q row is) c.named;
-    fits = λ q row is. subst (λ r. FitProcess (f r)) (mine q row is) c.fits;
+    live = λ q row is. rw (← mine q row is) c.live;
+    named = λ q row is. rw (← mine q row is) c.named;
+    fits = λ q row is. rw (← mine q row is) c.fits;
     rest = λ q row is. row.fact;
     fit_lwp = λ q l b is. subst (λ r. FitLwp r l → FitLwp (f r) l) (mine q b.row is) (c.fit_lwp l) b.fact;
     rest_lwp = λ q l b is. b.fact;
@@ -50,17 +48,10 @@ module _ (rows : Rows) (tid : ℕ) (p : ProcData) (l : LwpData) (g : LwpData →
   made = each (λ q. Some q) (λ q k. Some (to k)) rows
 
   same : Same (λ q. Some q) (λ q k. Some (to k))
-  same = record { process = λ q. (refl, refl); lwp = λ q k. choose (k.tid == tid) (g k) k (λ j. (j.tid ≡ k.tid) × (j.pid ≡ k.pid)) (λ e. ((c.same k).0, (c.same k).1)) (λ e. (refl, refl)) }
+  same = record { process = λ q. (refl, refl); lwp = λ q k. grind (arith, c.same k) }
 
   stays : (q : ProcData) → Row rows FitProcess q → Stay rows made q
   stays q row = stay rows (λ r. Some r) (λ r k. Some (to k)) same q row.at (λ k. (to k, refl))
-
-  -- the LWP and its process
-  abbrev Changed : ProcData → LwpData → Type 0
-  Changed q k = (FitLwp q k → FitLwp q (g k)) × IfSome (waited_for (g k).mode) (IsLiveChild rows q)
-
-  the_lwp : (q : ProcData) (k : LwpData) → Beside rows FitProcess FitLwp q k → (k.tid == tid) ≡ true → Changed q k
-  the_lwp q k b is = grind (arith, nat_tests)
 
   pub lwp_sound : IsSound (change_lwp tid g rows)
   lwp_sound = subst IsSound (lwps_alone rows s.stands.in_owners_block (λ k. Some (to k))) (sound_holds made (edit_holds rows nobody (λ q. Some q) (λ q k. Some (to k)) FitProcess FitLwp FitProcess FitLwp (holds_sound rows s) (record {
@@ -68,7 +59,5 @@ module _ (rows : Rows) (tid : ℕ) (p : ProcData) (l : LwpData) (g : LwpData →
     ring = no_ring (λ q. Some q) rows.processes s.stands.rising same.process (λ q t is. is);
     gone = none_gone rows FitProcess (λ q k. Some (to k));
     process = λ q row. kept_all row (like_self q) (inl refl) (stays q row) row.fact;
-    lwp = λ q k b on. choose (k.tid == tid) (g k) k (KeptLwp rows made nobody FitLwp q q)
-        (λ e. let its = the_lwp q k b e in kept_waiting b (stays q b.row) (c.same k).2 its.1 (its.0 b.fact))
-        (λ e. kept_lwp b (stays q b.row) refl refl b.fact);
+    lwp = λ q k b on. grind (arith, nat_tests, b.fact, b.stood, c, at, home, lwp_is b at, stays q b.row);
   })))

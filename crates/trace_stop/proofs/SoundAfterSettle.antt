@@ -1,7 +1,6 @@
 -- Settling and posting keep rows sound.
-use Rattle.trace_stop.proofs.CommonNames.{nat_tests, LwpData, ProcData, State, Run, Trace, Job, Zombie, is_live, is_zombie_state, reporting, Rows, change, unwanted, continues, posted_set, posted_process}
-use Rattle.trace_stop.proofs.CommonNames.{posted_lwp, IfEnded, FitProcess, FitLwp}
-use Rattle.std.proofs.Common.{◌≡◌, ◌⊎◌, inl, ℕ, Bool, true, false, if◌then◌else◌, Option, None, is_none, refl, sym, ◌∙◌, true≢false, bit_and, arith, rules}
+use Rattle.trace_stop.proofs.CommonNames.{nat_tests, LwpData, ProcData, State, Run, is_live, is_zombie_state, reporting, Rows, change, unwanted, posted_process, posted_lwp, IfEnded, FitProcess, FitLwp, ◌≡◌, ◌⊎◌, inl}
+use Rattle.trace_stop.proofs.CommonNames.{ℕ, Bool, true, false, Option, None, is_none, refl, sym, ◌∙◌, bit_and, arith, rules}
 use Rattle.trace_stop.proofs.Every.{and_right}
 use Rattle.trace_stop.proofs.Bits.{without_apart}
 use Rattle.trace_stop.proofs.SoundAfterEdit.{Holds}
@@ -9,10 +8,7 @@ use Rattle.trace_stop.proofs.ProcessEdits.{changes_hold}
 
 -- a live process is no zombie
 pub live_fits : (p : ProcData) (s : State) → is_zombie_state s ≡ false → IfEnded p s
-live_fits p Run live = tt
-live_fits p (Trace tid sig told) live = tt
-live_fits p (Job sig told) live = tt
-live_fits p (Zombie w) live = absurd (true≢false live)
+live_fits p s live = grind (arith, live)
 
 pub live_state : (p : ProcData) → is_live p ≡ true → is_zombie_state p.state ≡ false
 live_state p live = grind (arith, nat_tests)
@@ -30,27 +26,17 @@ beside_fits p q l tracer report wants fit = grind (arith, nat_tests)
 
 -- A process that a signal is posted to
 
-pub posted_fits : (s : ℕ) (to : Option ℕ) (p : ProcData) → FitProcess p → is_live p ≡ true → FitProcess (posted_process s to p)
-posted_fits s to p fit live = search (rules, is_none, pending_fits, without_apart, and_right)
-
 pub posted_report : (s : ℕ) (to : Option ℕ) (p : ProcData) → reporting (posted_process s to p) ≡ reporting p
 posted_report s to p = grind (arith, nat_tests)
 
-same_of : {X : Type 0} (view : ProcData → X) (b : Bool) (x y p : ProcData) → view x ≡ view p → view y ≡ view p → view (if b then x else y) ≡ view p
-same_of view true x y p h k = h
-same_of view false x y p h k = k
-
 pub posted_same : {X : Type 0} (view : ProcData → X) (s : ℕ) (to : Option ℕ) (p : ProcData) → ((n : ℕ) → view (record p { pending = n }) ≡ view p) → ((n : ℕ) → view (record p { pending = n; state = Run; continued = true }) ≡ view p) → view (posted_process s to p) ≡ view p
-posted_same view s to p h k = same_of view (continues s p) (record p { pending = posted_set s (is_none to) p p.pending; state = Run; continued = true }) (record p { pending = posted_set s (is_none to) p p.pending }) p (k _) (h _)
+posted_same view s to p h k = grind (arith, h, k)
 
 pub posted_live : (s : ℕ) (to : Option ℕ) (p : ProcData) → is_live p ≡ true → is_live (posted_process s to p) ≡ true
 posted_live s to p live = grind (arith, nat_tests)
 
 unwanted_posted : (s : ℕ) (to : Option ℕ) (p : ProcData) → unwanted (posted_process s to p) ≡ unwanted p
 unwanted_posted s to p = posted_same unwanted s to p (λ n. refl) (λ n. refl)
-
-pub posted_fit_lwp : (s : ℕ) (to : Option ℕ) (p : ProcData) (l : LwpData) → FitLwp p l → FitLwp (posted_process s to p) (posted_lwp s to p l)
-posted_fit_lwp s to p l fit = search (rules, lwp_pending_fits, posted_same, posted_report, bit_and, unwanted_posted, without_apart)
 
 -- Posting to chosen live processes
 abbrev pub LiveFit : (ProcData → Bool) → ProcData → Type 0
@@ -62,8 +48,8 @@ post_chosen rows chosen s to held = changes_hold rows chosen (posted_process s t
   same_lwp = λ p l. (refl, refl, refl, refl);
   live = λ p row is. posted_live s to p (row.fact.1 is) ∙ sym (row.fact.1 is);
   named = λ p row is. inl (posted_report s to p);
-  fits = λ p row is. posted_fits s to p row.fact.0 (row.fact.1 is);
+  fits = λ p row is. let fit = row.fact.0 in let live = row.fact.1 is in search (rules, is_none, pending_fits, without_apart, and_right);
   rest = λ p row is. row.fact.0;
-  fit_lwp = λ p l b is. posted_fit_lwp s to p l b.fact;
+  fit_lwp = λ p l b is. let fit = b.fact in search (rules, lwp_pending_fits, posted_same, posted_report, bit_and, unwanted_posted, without_apart);
   rest_lwp = λ p l b is. b.fact;
 })

@@ -1,17 +1,12 @@
 -- A process in a trace stop is stopped by an LWP of its own.
-use Rattle.std.proofs.Common.{◌≡◌, ℕ, true, Option, List, Some, None, IsSome, is_some, ap, arith, nat_eq, rules, IfSome, ◌&&◌, sym, eqb-true, ◌∙◌}
-use Rattle.trace_stop.proofs.CommonNames.{list_any, nat_tests, LwpData, Differ, lwp_of, ProcData, process_of, reporting, is_live, Rows, IsRow, MidStepInvariant, IsStopped}
-use Rattle.proc_table.proofs.Every.{every_found}
-use Rattle.proc_table.proofs.Rows.{process_of-pid, found_row}
-use Rattle.trace_stop.proofs.Every.{and_left, and_right, any_holds}
+use Rattle.trace_stop.proofs.CommonNames.{◌≡◌, ℕ, true, Option, List, Some, IsSome, arith, nat_eq, rules, IfSome, ◌&&◌, list_any, nat_tests, LwpData, Differ, lwp_of, ProcData, process_of, reporting, is_live, Rows, IsRow, MidStepInvariant}
+use Rattle.trace_stop.proofs.CommonNames.{IsStopped, every_found, process_of-pid, found_row}
+use Rattle.trace_stop.proofs.Every.{any_holds}
 use Rattle.trace_stop.proofs.Numbers.{own_lwps}
 
 -- the LWP with the number is the process's, where one of the process's has it
 pub own_found : (tid pid : ℕ) (ls : List LwpData) → Differ ls → list_any (λ l. nat_eq l.tid tid && nat_eq l.pid pid) ls ≡ true → (l : LwpData) × (lwp_of tid ls ≡ Some l) × (l.pid ≡ pid)
-own_found tid pid ls d any =
-    any_holds (λ l. nat_eq l.tid tid && nat_eq l.pid pid) (λ l. lwp_of l.tid ls ≡ Some l) ((l : LwpData) × (lwp_of tid ls ≡ Some l) × (l.pid ≡ pid))
-    (λ l own is. (l, ap (λ n. lwp_of n ls) (sym (eqb-true l.tid tid (and_left (nat_eq l.tid tid) (nat_eq l.pid pid) is))) ∙ own, eqb-true l.pid pid (and_right (nat_eq l.tid tid) (nat_eq l.pid pid) is)))
-    ls (own_lwps ls d) any
+own_found tid pid ls d any = any_holds _ _ _ (λ l own is. grind (arith, nat_tests, own, is)) ls (own_lwps ls d) any
 
 pub own_reporter : (pid tid : ℕ) (rows : Rows) (p : ProcData) → MidStepInvariant rows → process_of pid rows.processes ≡ Some p → reporting p ≡ Some tid → (l : LwpData) × (lwp_of tid rows.lwps ≡ Some l) × (l.pid ≡ pid)
 own_reporter pid tid rows p stands at reports = search (rules, every_found, own_found, process_of-pid)
@@ -21,8 +16,7 @@ IsStopped-from pid tid rows p stands at reports = search (rules, own_reporter)
 
 -- the LWP that a process names is there
 pub reporter_there : (pid : ℕ) (rows : Rows) (p : ProcData) → MidStepInvariant rows → process_of pid rows.processes ≡ Some p → (o : Option ℕ) → reporting p ≡ o → IfSome o (λ tid. IsSome (lwp_of tid rows.lwps))
-reporter_there pid rows p stands at None e = tt
-reporter_there pid rows p stands at (Some tid) e = ap is_some (own_reporter pid tid rows p stands at e).1
+reporter_there pid rows p stands at o e = grind (arith, own_reporter pid)
 
 -- a stopped process is a row, and live
 pub stopped_row : (pid : ℕ) (rows : Rows) → IsStopped pid rows → IsRow rows pid

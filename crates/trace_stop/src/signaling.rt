@@ -27,6 +27,7 @@ pub fn unwanted(p: &ProcData) -> SigSet
 }
 
 /// Removes the signals whose action is nothing from an untraced process's pending sets.
+#[tactic(auto, using(crate::proofs::Found::found_rows))]
 pub fn settle(tables: &mut Tables, pid: Pid)
     requires there { IsRow tables.old.rows pid }
     ensures rows { tables.new.rows ≡ settle pid tables.old.rows }
@@ -65,6 +66,7 @@ fn posted_lwps(p: &ProcData, signal: Signal, to: &Option<Tid>) -> Edit
 
 /// Puts a signal into the pending set of a process or of an LWP of it. SIGCONT continues a process that job
 /// control has stopped. Then the result is the process's parent, which the caller notifies.
+#[tactic(auto, using(crate::proofs::Found::found_rows))]
 fn put(tables: &mut Tables, pid: Pid, signal: Signal, to: &Option<Tid>) -> Option<u32>
     requires there { IsRow tables.old.rows pid }
     ensures rows { tables.new.rows ≡ change (is_numbered pid) (posted_process signal to.now) (posted_lwp signal to.now) tables.old.rows }
@@ -90,6 +92,7 @@ fn put(tables: &mut Tables, pid: Pid, signal: Signal, to: &Option<Tid>) -> Optio
 }
 
 /// Posts SIGCHLD to the process with this number, if any.
+#[tactic(auto, using(crate::proofs::Notified::tells_none))]
 pub fn post_sigchld(tables: &mut Tables, number: u32)
     ensures rows { tables.new.rows ≡ notified (number ∷ []) tables.old.rows }
     ensures sound { IsSound tables.old.rows → MayTell tables.old.rows number → IsSound tables.new.rows }
@@ -100,6 +103,7 @@ pub fn post_sigchld(tables: &mut Tables, number: u32)
 }
 
 /// Posts a signal other than SIGKILL to a process, or to an LWP of it. Allocates nothing.
+#[tactic(auto, using(crate::proofs::Notified::tells_none))]
 pub fn post_other(tables: &mut Tables, pid: Pid, signal: Signal, to: &Option<Tid>)
     requires { IsRow tables.old.rows pid }
     ensures { tables.new.rows ≡ posted signal to.now pid tables.old.rows }

@@ -46,6 +46,7 @@ fn unreported(l: &LwpData) -> LwpData
 }
 
 /// Drops what an LWP has reported, and removes the LWP if it has exited.
+#[tactic(auto, using(crate::proofs::Found::found_rows))]
 fn drop_report(tables: &mut Tables, tid: Tid)
     requires { IsSome (lwp_of tid tables.old.rows.lwps) }
     ensures { tables.new.rows ≡ report_dropped (lwp_of tid tables.old.rows.lwps) tables.old.rows }
@@ -70,6 +71,7 @@ fn drop_stop(tables: &mut Tables, reporting: &Option<Tid>)
 
 /// Ends the tracing of a live process. The signals of the set `lost` leave its pending sets. Allocates
 /// nothing.
+#[tactic(auto, using(crate::proofs::Found::live_row))]
 pub fn untrace(tables: &mut Tables, pid: Pid, lost: SigSet)
     requires sound { IsSound tables.old.rows }
     requires live { is_live_at pid tables.old.rows ≡ true }
@@ -90,6 +92,7 @@ pub fn untrace(tables: &mut Tables, pid: Pid, lost: SigSet)
 }
 
 /// Lets a process run on from a trace stop. Allocates nothing.
+#[tactic(auto, using(crate::proofs::Found::found_rows))]
 pub fn run_on(tables: &mut Tables, pid: Pid)
     requires stands { MidStepInvariant tables.old.rows }
     requires there { IsRow tables.old.rows pid }
@@ -104,6 +107,7 @@ pub fn run_on(tables: &mut Tables, pid: Pid)
 }
 
 /// Stops a process for its tracer by an LWP of it, and notifies the tracer.
+#[tactic(auto, using(crate::proofs::Found::found_rows))]
 pub fn stop(tables: &mut Tables, pid: Pid, tid: Tid, shown: &Shown)
     requires process { IsRow tables.old.rows pid }
     requires lwp { IsSomeAnd (lwp_of tid tables.old.rows.lwps) (λ l. l.pid ≡ pid) }

@@ -1,12 +1,9 @@
 -- What debuggers have installed, compared as pairs.
-use Rattle.std.proofs.Common.{◌≡◌, ℕ, List, [], ◌∷◌, map, Bool, refl, sym, ap, ◌∙◌}
-use Rattle.std.specs.Prelude.{IsTrue, ◌↔◌}
-use Rattle.std.specs.Bool.{one_answer}
+use Rattle.visibility.proofs.CommonNames.{◌≡◌, ℕ, List, [], ◌∷◌, map, Bool, refl, sym, ap, ◌∙◌, IsTrue, ◌↔◌, Rule, Installed, View}
+use Rattle.std.specs.Bool.{one_answer, Decides}
 use Rattle.std.specs.Cmp.Lexicographic.{pointwise}
-use Rattle.stop_handlers.specs.declared.Rule.{Rule}
-use Rattle.requests.specs.Machine.{Installed}
-use Rattle.visibility.specs.Same.{same_installed}
-use Rattle.visibility.specs.Equal.{same_handlers}
+use Rattle.visibility.specs.Same.{same_installed, same_view}
+use Rattle.visibility.specs.Equal.{same_handlers, view_decides}
 use Rattle.visibility.proofs.Walked.{as_pair, as_installed}
 
 pairs_back : (pairs : List (ℕ × List Rule)) → map as_pair (map as_installed pairs) ≡ pairs
@@ -17,3 +14,6 @@ pub pairs_same : (r : Bool) (mine others : List (ℕ × List Rule)) (v w : List 
 pairs_same r mine others v w mine_is others_is same = one_answer r (pointwise same_installed v w)
     (λ e. sym mine_is ∙ ap (map as_installed) (same.0 e) ∙ others_is, λ e. same.1 (sym (pairs_back mine) ∙ ap (map as_pair) (mine_is ∙ e ∙ sym others_is) ∙ pairs_back others))
     (same_handlers v w)
+
+pub exact_of : (r : Bool) (v w : View) → r ≡ same_view v w → Decides r (v ≡ w)
+exact_of r v w same = rw same (view_decides v w)

@@ -1,30 +1,17 @@
 -- Rows gathered by a walk: those had so far, and those that are left.
-use Rattle.std.proofs.Common.{◌≡◌, ℕ, zero, suc, ◌+◌, ◌≤◌, List, [], ◌∷◌, ◌++◌, filter, map, drop, length, Option, Some, None, Bool, true, false, refl, sym, ap, ◌∙◌, arith, append_assoc, append-nil, inl, inr, rules}
-use Rattle.std.specs.Prelude.{slice_get, option_map, find, is_some}
-use Rattle.std.specs.List.{list_any}
-use Rattle.std.proofs.lemmas.Bool.{cases_Bool}
-use Rattle.std.proofs.lemmas.List.{length-append}
-use Rattle.std.proofs.lemmas.Option.{slice_get_within}
+use Rattle.visibility.proofs.CommonNames.{◌≡◌, ℕ, zero, suc, ◌+◌, ◌≤◌, List, [], ◌∷◌, ◌++◌, filter, map, drop, length, Option, Some, None, Bool, true, false, refl, arith, append_assoc, append-nil}
+use Rattle.visibility.proofs.CommonNames.{rules, slice_get, option_map, length-append, slice_get_within, ProcData, Rise, Rule, Installed, above, first_above, above_next}
+use Rattle.std.proofs.Math.Seq.{drop-cons}
+use Rattle.std.proofs.lemmas.Option.{get_or_from_slice_get}
 use Rattle.visibility.proofs.Answered.{map-push}
-use Rattle.proc_table.specs.declared.ProcData.{ProcData}
-use Rattle.proc_table.specs.Kept.{Rise}
-use Rattle.stop_handlers.specs.declared.Rule.{Rule}
-use Rattle.requests.specs.Machine.{Installed}
-use Rattle.requests.proofs.Walk.{above, first_above, above_next}
 
 -- one process more
 pub row_next : (t : ProcData → Bool) (n : ℕ) (ps : List ProcData) (p : ProcData) (had all : List ProcData) → Rise ps → first_above t n ps ≡ Some p → had ++ above t n ps ≡ all → (had ++ (p ∷ [])) ++ above t p.pid ps ≡ all
-row_next t n ps p had all rise is listed = append_assoc had (p ∷ []) (above t p.pid ps) ∙ ap (λ xs. had ++ xs) (sym (above_next t n ps p rise is)) ∙ listed
-
-pub any_found : {X : Type 0} (t : X → Bool) (xs : List X) → is_some (find t xs) ≡ list_any t xs
-any_found t [] = refl
-any_found t (x ∷ xs) = elim (cases_Bool (t x)) [ inl e ↦ rw e refl | inr e ↦ rw e (any_found t xs) ]
+row_next t n ps p had all rise is listed = rw (append_assoc had (p ∷ []) (above t p.pid ps), ← above_next t n ps p rise is) listed
 
 -- what a place has, and what is left from there
 pub left_at : {X : Type 0} (xs : List X) (i : ℕ) (x : X) → slice_get xs i ≡ Some x → drop i xs ≡ x ∷ drop (suc i) xs
-left_at [] i x is = absurd (grind (arith, is))
-left_at (y ∷ ys) zero x is = grind (arith, is)
-left_at (y ∷ ys) (suc i) x is = left_at ys i x is
+left_at xs i x is = rw (drop-cons xs i x (slice_get_within xs i x is), get_or_from_slice_get xs i x x is) refl
 
 pub none_left : {X : Type 0} (xs : List X) (i : ℕ) → slice_get xs i ≡ None → drop i xs ≡ []
 none_left [] zero is = refl
@@ -45,19 +32,19 @@ module _ {X : Type 0} (t : X → Bool) (xs : List X) (i : ℕ) (x : X) (had now 
 
 -- the walk's end
 pub all_had : {X : Type 0} (t : X → Bool) (xs : List X) (i : ℕ) (had all : List X) → slice_get xs i ≡ None → had ++ filter t (drop i xs) ≡ all → had ≡ all
-all_had t xs i had all is was = sym (append-nil had) ∙ ap (λ ys. had ++ filter t ys) (sym (none_left xs i is)) ∙ was
+all_had t xs i had all is was = search (rules, none_left, append-nil)
 
 -- a list copied by places, each element written by f
 module _ {X Y : Type 0} (f : X → Y) (xs : List Y) (ps : List X) where
   pub copied_next : (p : X) → slice_get xs (length ps) ≡ Some (f p) → map f ps ++ drop (length ps) xs ≡ xs
       → (length (ps ++ (p ∷ [])) ≤ length xs) × (map f (ps ++ (p ∷ [])) ++ drop (length (ps ++ (p ∷ []))) xs ≡ xs)
-  copied_next p is was = (let here = slice_get_within xs (length ps) (f p) is in omega (arith, here, longer), rw (longer, map-push f ps p) (append_assoc (map f ps) (f p ∷ []) (drop (suc (length ps)) xs) ∙ ap (λ ys. map f ps ++ ys) (sym (left_at xs (length ps) (f p) is)) ∙ was))
-    where
-      longer : length (ps ++ (p ∷ [])) ≡ suc (length ps)
-      longer = let sum = length-append ps (p ∷ []) in omega (arith, sum)
+  copied_next p is was =
+      let longer : length (ps ++ (p ∷ [])) ≡ suc (length ps) = simp length-append (omega arith) in
+      let here = slice_get_within xs (length ps) (f p) is in
+      (omega (arith, here, longer), rw (longer, map-push f ps p, append_assoc (map f ps) (f p ∷ []) (drop (suc (length ps)) xs), ← left_at xs (length ps) (f p) is) was)
 
   pub copied_all : slice_get xs (length ps) ≡ None → map f ps ++ drop (length ps) xs ≡ xs → map f ps ≡ xs
-  copied_all is was = sym (append-nil (map f ps)) ∙ ap (λ ys. map f ps ++ ys) (sym (none_left xs (length ps) is)) ∙ was
+  copied_all is was = search (rules, none_left, append-nil)
 
 -- what a debugger has installed, and the pair that it is read as
 abbrev pub as_pair : Installed → ℕ × List Rule
@@ -67,9 +54,7 @@ abbrev pub as_installed : ℕ × List Rule → Installed
 as_installed pair = record { debugger = pair.0; policy = pair.1 }
 
 pub some_installed : (o : Option Installed) (pair : ℕ × List Rule) → option_map as_pair o ≡ Some pair → o ≡ Some (as_installed pair)
-some_installed None pair is = absurd (cc)
-some_installed (Some i) pair is = let same : as_pair i ≡ pair = cc in ap (λ p. Some (as_installed p)) same
+some_installed o pair is = grind (arith, is)
 
 pub none_installed : (o : Option Installed) → option_map as_pair o ≡ None → o ≡ None
-none_installed None is = refl
-none_installed (Some i) is = absurd (cc)
+none_installed o is = grind (arith, is)

@@ -11,16 +11,19 @@ pub fn a_followed_fork()
 {}
 
 /// A step gives its user the reply and the view that it gives in a host where no other user has made a step.
+#[tactic(auto, using(requests::proofs::IsolationLaws::alone_law))]
 pub fn alone()
     ensures { Alone }
 {}
 
 /// One step in two hosts of which its user sees the same: the reply is the same, and so is the view afterwards.
+#[tactic(auto, using(requests::proofs::IsolationLaws::one_step))]
 pub fn one_step()
     ensures { OneStep }
 {}
 
 /// A step of another user doesn't change what a user sees, whatever its reply.
+#[tactic(auto, using(requests::proofs::IsolationLaws::other_step))]
 pub fn other_step()
     ensures { OtherStep }
 {}
@@ -45,6 +48,7 @@ pub fn own_list()
 
 /// Numbers that a user doesn't see are interchangeable as caller, target, `which` or LWP: the reply and the host are
 /// the same.
+#[tactic(auto, using(crate::proofs::Foreign::foreign_number))]
 pub fn foreign_number()
     ensures { ForeignNumber }
 {}

@@ -1,16 +1,20 @@
 -- The child that is reported, and whether there is a child, by the lists of tracees and of children, and by number.
-use Rattle.std.proofs.Common.{◌≡◌, ℕ, ℤ, pos, negsuc, List, [], ◌∷◌, find, Bool, true, ◌==◌, ◌&&◌, ◌||◌, ltb, Some, is_some, refl, sym, ap, ◌∙◌, subst, nat_eq, rules, arith}
-use Rattle.trace_stop.proofs.CommonNames.{AllByRecursion, list_any, cases_Bool, nat_tests, ProcData, keep, process_of, traces, Rows, Rise, InOwnBlock, LeastOrNone}
+use Rattle.std.proofs.Common.{None, if◌then◌else◌, true, SFits, to_z, of_z, w64, false, Option, ◌≡◌, ℕ, ℤ, pos, negsuc, List, [], ◌∷◌, find, Bool, ◌&&◌, ◌||◌, ltb, Some, is_some, refl, sym, ap, ◌∙◌, subst, nat_eq, rules, arith}
+use Rattle.trace_stop.proofs.CommonNames.{AllByRecursion, list_any, cases_Bool, nat_tests, ProcData, keep, process_of, Rows, Rise, InOwnBlock, LeastOrNone}
 use Rattle.std.proofs.Math.Path.{fun_ext}
 use Rattle.proc_table.proofs.Seen.{any-found}
 use Rattle.proc_table.proofs.Least.{least_or_none}
 use Rattle.trace_stop.proofs.Every.{All-filter, find_some}
 use Rattle.wait4.specs.declared.Options.{Options}
 use Rattle.wait4.specs.declared.collecting.Kin.TheVariants.{Tracer, Parent}
-use Rattle.wait4.specs.Collect.{is_child, fits, names_as, reportable, lesser, candidates, reported}
+use Rattle.std.proofs.lemmas.Int.{to_z-of_z}
+use Rattle.wait4.specs.declared.Collected.TheVariants.{Nothing, NoChild}
+use Rattle.wait4.specs.Collect.{answer, collect, is_child, fits, names_as, reportable, lesser, candidates, reported}
 use Rattle.wait4.specs.Laws.{ReportedLeast}
 use Rattle.proc_table.proofs.Firsts.{find-above_zero}
-use Rattle.wait4.proofs.Search.{find-filter, find-lesser, only_numbered}
+use Rattle.wait4.proofs.Whole.{is_negative, is_natural, read_back}
+use Rattle.std.specs.Int.Signed.{lt_z}
+use Rattle.wait4.proofs.Search.{answer-none, find-filter, find-lesser, only_numbered}
 
 same_find : (s t : ProcData → Bool) → ((p : ProcData) → s p ≡ t p) → (ps : List ProcData) → find s ps ≡ find t ps
 same_find s t h ps = ap (λ f. find f ps) (fun_ext h)
@@ -21,21 +25,15 @@ module _ (caller : ℕ) (options : Options) (rows : Rows) (up : Rise rows.proces
       ≡ lesser (find (λ p. names_as Tracer caller p && reportable options caller p) rows.processes) (find (λ p. names_as Parent caller p && reportable options caller p) rows.processes)
   reported-any k =
       find-filter (λ p. is_child caller p && fits (negsuc k) p) (reportable options caller) rows.processes
-      ∙ same_find _ (λ p. (names_as Tracer caller p && reportable options caller p) || (names_as Parent caller p && reportable options caller p)) (λ p. either (traces caller p) (p.parent == caller) (reportable options caller p)) rows.processes
+      ∙ same_find _ (λ p. (names_as Tracer caller p && reportable options caller p) || (names_as Parent caller p && reportable options caller p)) (λ p. grind arith) rows.processes
       ∙ find-lesser (λ p. names_as Tracer caller p && reportable options caller p) (λ p. names_as Parent caller p && reportable options caller p) rows.processes up
-    where
-      either : (a b c : Bool) → (((a || b) && true) && c) ≡ ((a && c) || (b && c))
-      either a b c = grind (arith, nat_tests)
 
   -- for the one with a number
   pub reported-numbered : (n : ℕ) → reported caller (pos n) options rows ≡ keep (λ p. is_child caller p && reportable options caller p) (process_of n rows.processes)
   reported-numbered n =
       find-filter (λ p. is_child caller p && fits (pos n) p) (reportable options caller) rows.processes
-      ∙ same_find _ (λ p. nat_eq p.pid n && (is_child caller p && reportable options caller p)) (λ p. moved (is_child caller p) (nat_eq p.pid n) (reportable options caller p)) rows.processes
+      ∙ same_find _ (λ p. nat_eq p.pid n && (is_child caller p && reportable options caller p)) (λ p. grind arith) rows.processes
       ∙ only_numbered (λ p. is_child caller p && reportable options caller p) n rows.processes up
-    where
-      moved : (a b c : Bool) → ((a && b) && c) ≡ (b && (a && c))
-      moved a b c = grind (arith, nat_tests)
 
 -- whether it is a child
 module _ (caller : ℕ) (rows : Rows) (up : Rise rows.processes) where
@@ -46,16 +44,28 @@ module _ (caller : ℕ) (rows : Rows) (up : Rise rows.processes) where
       ∙ ap is_some (only_numbered (is_child caller) n rows.processes up)
     where
       turned : (a b : Bool) → (a && b) ≡ (b && a)
-      turned a b = grind (arith, nat_tests)
-
-pub or_first : (a b c : Bool) → a ≡ c → (a || b) ≡ (c || b)
-or_first a b c is = ap (λ d. d || b) is
+      turned a b = grind arith
 
 -- whether any is a child
 pub child-any : (caller k : ℕ) (ps : List ProcData) → AllByRecursion InOwnBlock ps
     → list_any (λ p. is_child caller p && fits (negsuc k) p) ps ≡ (is_some (find (λ p. ltb 0 p.pid && names_as Tracer caller p) ps) || is_some (find (λ p. ltb 0 p.pid && names_as Parent caller p) ps))
 child-any caller k [] in_own_blocks = refl
 child-any caller k (p ∷ ps) in_own_blocks = search (rules, child-any caller k ps in_own_blocks.1, ltb, nat_tests, cases_Bool)
+
+-- the same of a signed number of 64 bits, as a call reads it
+module _ (caller : ℕ) (which : ℤ) (fit : SFits w64 which) (rows : Rows) where
+  pub child-negative : AllByRecursion InOwnBlock rows.processes → lt_z (to_z w64 (of_z w64 which)) (pos 0) ≡ true → list_any (λ p. is_child caller p && fits which p) rows.processes
+      ≡ (is_some (find (λ p. ltb 0 p.pid && names_as Tracer caller p) rows.processes) || is_some (find (λ p. ltb 0 p.pid && names_as Parent caller p) rows.processes))
+  child-negative blocks is = let k = is_negative which fit is in rw k.1 (child-any caller k.0 rows.processes blocks)
+
+  pub child-natural : Rise rows.processes → lt_z (to_z w64 (of_z w64 which)) (pos 0) ≡ false → (o : Option ProcData) → ((n : ℕ) → to_z w64 (of_z w64 which) ≡ pos n → o ≡ process_of n rows.processes)
+      → list_any (λ p. is_child caller p && fits which p) rows.processes ≡ is_some (keep (is_child caller) o)
+  child-natural up is o found = let n = is_natural which fit is in rw (n.1, found n.0 (read_back which fit n.0 n.1)) (child-numbered caller rows up n.0)
+
+-- what a wait answers that reports no process
+pub answer-unreported : (caller : ℕ) (which : ℤ) → SFits w64 which → (options : Options) (rows : Rows) → reported caller (to_z w64 (of_z w64 which)) options rows ≡ None
+    → collect caller which options rows ≡ (if list_any (λ p. is_child caller p && fits (to_z w64 (of_z w64 which)) p) rows.processes then Nothing else NoChild)
+answer-unreported caller which fit options rows none = rw (to_z-of_z w64 which fit) (ap (answer (candidates caller which rows)) (rw (to_z-of_z w64 which fit) at none) ∙ answer-none (λ p. is_child caller p && fits which p) rows.processes)
 
 -- what holds of every process holds of the one that is reported
 pub reported-has : (P : ProcData → Type 0) (caller : ℕ) (which : ℤ) (options : Options) (rows : Rows) (p : ProcData) → AllByRecursion P rows.processes → reported caller which options rows ≡ Some p → P p

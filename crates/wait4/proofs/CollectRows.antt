@@ -1,12 +1,11 @@
 -- The rows after one process is collected, as an edit of its row.
-use Rattle.std.proofs.Common.{◌≡◌, ℕ, List, [], ◌∷◌, filter, filter_map, map, Bool, true, false, cond, ◌==◌, ◌&&◌, not, Option, Some, None, refl, ap, ◌∙◌, nat_eq, if◌then◌else◌, rules}
-use Rattle.trace_stop.proofs.CommonNames.{AllByRecursion, ProcData, is_live, process_of, Rows, each, Rise, put_process, set_process, drop_process, notified}
+use Rattle.std.proofs.Common.{arith, ◌≡◌, ℕ, List, [], ◌∷◌, filter, filter_map, map, true, false, cond, ◌==◌, not, Option, Some, None, refl, ap, ◌∙◌, nat_eq, if◌then◌else◌, rules}
+use Rattle.trace_stop.proofs.CommonNames.{nat_tests, nat_tests, AllByRecursion, ProcData, is_live, process_of, Rows, each, Rise, put_process, set_process, drop_process, notified}
 use Rattle.proc_table.proofs.Finds.{equal_or_not}
 use Rattle.trace_stop.proofs.Edited.{lwps_left}
 use Rattle.trace_stop.proofs.Numbers.{the_row}
 use Rattle.trace_stop.proofs.Notified.{notified-none}
-use Rattle.wait4.specs.Collect.{stays, collected, collect_one}
-use Rattle.std.proofs.Math.Bool.{and-false}
+use Rattle.wait4.specs.Collect.{told, stays, collected, collect_one}
 
 -- an edit of the row with one number
 module _ (f : ProcData → Option ProcData) (n : ℕ) (p : ProcData) where
@@ -15,7 +14,7 @@ module _ (f : ProcData → Option ProcData) (n : ℕ) (p : ProcData) where
 
   pub edit-put : (new : ProcData) → new.pid ≡ n → f p ≡ Some new → (qs : List ProcData) → AllByRecursion (λ q. q.pid ≡ n → q ≡ p) qs → filter_map edit_at qs ≡ map (put_process new) qs
   edit-put new its to [] all = refl
-  edit-put new its to (q ∷ qs) all = search (rules, edit-put new its to qs all.1, equal_or_not)
+  edit-put new its to (q ∷ qs) all = grind (arith, nat_tests, its, to, all.0, edit-put new its to qs all.1)
 
   pub edit-drop : f p ≡ None → (qs : List ProcData) → AllByRecursion (λ q. q.pid ≡ n → q ≡ p) qs → filter_map edit_at qs ≡ filter (λ q. not (q.pid == n)) qs
   edit-drop to [] all = refl
@@ -29,29 +28,19 @@ module _ (caller : ℕ) (p : ProcData) (rows : Rows) (up : Rise rows.processes) 
   made = each (λ q. if q.pid == p.pid then collected caller q else Some q) (λ q l. Some l) rows
 
   put : (new : ProcData) → new.pid ≡ p.pid → collected caller p ≡ Some new → made ≡ set_process new rows
-  put new its to =
-      ap (λ ls. record rows { processes = filter_map (edit_at (collected caller) p.pid p) rows.processes; lwps = ls }) (lwps_left rows)
-      ∙ ap (λ ps. record rows { processes = ps }) (edit-put (collected caller) p.pid p new its to rows.processes only)
+  put new its to = rw (lwps_left rows, edit-put (collected caller) p.pid p new its to rows.processes only) refl
+
+  drop : collected caller p ≡ None → made ≡ drop_process p.pid rows
+  drop to = rw (lwps_left rows, edit-drop (collected caller) p.pid p to rows.processes only) refl
 
   -- no process is notified of a stop, or of a process that continues
   pub collected-seen : (new : ProcData) → new.pid ≡ p.pid → collected caller p ≡ Some new → is_live p ≡ true → collect_one caller p rows ≡ set_process new rows
-  collected-seen new its to live =
-      ap (λ (b : Bool). notified (if not b && stays caller p then p.parent ∷ [] else []) made) live
-      ∙ notified-none made
-      ∙ put new its to
+  collected-seen new its to live = let none : told caller p ≡ [] = grind (arith, live) in ap (λ ns. notified ns made) none ∙ notified-none made ∙ put new its to
 
   -- the parent is notified of a zombie that stays
   pub collected-passed : (new : ProcData) → new.pid ≡ p.pid → collected caller p ≡ Some new → is_live p ≡ false → stays caller p ≡ true → collect_one caller p rows ≡ notified (p.parent ∷ []) (set_process new rows)
-  collected-passed new its to ended stay =
-      ap (λ (b : Bool). notified (if not b && stays caller p then p.parent ∷ [] else []) made) ended
-      ∙ ap (λ (b : Bool). notified (if b then p.parent ∷ [] else []) made) stay
-      ∙ ap (notified (p.parent ∷ [])) (put new its to)
+  collected-passed new its to ended stay = let one : told caller p ≡ p.parent ∷ [] = grind (arith, ended, stay) in ap (λ ns. notified ns made) one ∙ ap (notified (p.parent ∷ [])) (put new its to)
 
   -- and no process of a zombie that is gone
   pub collected-gone : collected caller p ≡ None → stays caller p ≡ false → collect_one caller p rows ≡ drop_process p.pid rows
-  collected-gone to leaves =
-      ap (λ (b : Bool). notified (if not (is_live p) && b then p.parent ∷ [] else []) made) leaves
-      ∙ ap (λ (b : Bool). notified (if b then p.parent ∷ [] else []) made) (and-false (not (is_live p)))
-      ∙ notified-none made
-      ∙ ap (λ ls. record rows { processes = filter_map (edit_at (collected caller) p.pid p) rows.processes; lwps = ls }) (lwps_left rows)
-      ∙ ap (λ ps. record rows { processes = ps }) (edit-drop (collected caller) p.pid p to rows.processes only)
+  collected-gone to leaves = let none : told caller p ≡ [] = grind (arith, leaves) in ap (λ ns. notified ns made) none ∙ notified-none made ∙ drop to

@@ -1,15 +1,15 @@
 -- What is collected, among one user's rows.
-use Rattle.std.proofs.Common.{◌≡◌, ◌≢◌, ℕ, ℤ, [], ◌∷◌, find, true, ◌==◌, ◌&&◌, not, if◌then◌else◌, Option, Some, None, IfSome, refl, sym, ap, ◌∙◌, true≢false, eqb-true, subst, eq-eqb, inl, rules}
-use Rattle.trace_stop.proofs.CommonNames.{IsUser, ProcData, State, Run, Trace, Job, Zombie, is_live, is_zombie_state, named_by, Rows}
-use Rattle.pid_blocks.specs.Blocks.{pid_owner, tid_owner}
+use Rattle.std.proofs.Common.{arith, ◌≡◌, ◌≢◌, ℕ, ℤ, find, true, ◌==◌, ◌&&◌, if◌then◌else◌, Option, Some, IfSome, refl, ap, ◌∙◌, eqb-true, subst, eq-eqb, inl, rules}
+use Rattle.trace_stop.proofs.CommonNames.{nat_tests, IsUser, ProcData, State, Rows}
+use Rattle.pid_blocks.specs.Blocks.{pid_owner}
 use Rattle.wait4.specs.declared.Options.{Options}
 use Rattle.wait4.specs.Collect.{answer, is_child, fits, reportable, collected_in, collected, stays, told, collect_one, candidates, reported, collect, without_report, rows_after}
-use Rattle.row_isolation.specs.Closed.{GoodProc, LiveRow}
+use Rattle.row_isolation.specs.Closed.{GoodProc}
 use Rattle.row_isolation.proofs.FilteredLists.{find_some, All-where}
 use Rattle.row_isolation.proofs.IsolationRelation.{Sim, Kin, not_own, either, named, rows_query, each_same}
 use Rattle.trace_stop.proofs.Edited.{If_more}
-use Rattle.row_isolation.proofs.IsolationOfSignals.{Mines, user_not_one, notified_same}
-use Rattle.trace_stop.proofs.Every.{choose, and_left}
+use Rattle.row_isolation.proofs.IsolationOfSignals.{user_not_one, notified_same}
+use Rattle.trace_stop.proofs.Every.{and_left}
 
 pub child_own : (u caller : ℕ) → IsUser u → pid_owner caller ≡ u → (p : ProcData) → GoodProc p → is_child caller p ≡ true → p.uid ≡ u
 child_own u caller user mine p good is = search (rules, eqb-true, user_not_one, either, not_own)
@@ -34,32 +34,19 @@ stays_parent : (caller : ℕ) (p : ProcData) → stays caller p ≡ true → p.p
 stays_parent caller p is one = search (rules, eq-eqb)
 
 collected_kin : (caller : ℕ) (p : ProcData) → GoodProc p → (st : State) → p.state ≡ st → Kin p (collected_in caller p st)
-collected_kin caller p good Run e = (refl, refl, record { user = good.user; block = good.block; tracer = good.tracer; parent = good.parent; reporting = good.reporting; collector = good.collector })
-collected_kin caller p good (Trace tid sig told) e = (refl, refl, record { user = good.user; block = good.block; tracer = good.tracer; parent = good.parent; reporting = subst (λ x. IfSome (named_by x) (λ t. tid_owner t ≡ p.uid)) e good.reporting; collector = λ dead. absurd (true≢false dead) })
-collected_kin caller p good (Job sig told) e = (refl, refl, record { user = good.user; block = good.block; tracer = good.tracer; parent = good.parent; reporting = tt; collector = λ dead. absurd (true≢false dead) })
-collected_kin caller p good (Zombie status) e = search (rules, choose, stays_parent)
-
-collected_live : (caller : ℕ) (p : ProcData) (st : State) → p.state ≡ st → is_live p ≡ true → LiveRow (collected_in caller p st)
-collected_live caller p Run e live = live
-collected_live caller p (Trace tid sig told) e live = refl
-collected_live caller p (Job sig told) e live = refl
-collected_live caller p (Zombie status) e live = absurd (true≢false (sym live ∙ ap (λ x. not (is_zombie_state x)) e))
-
-told_mine : {u : ℕ} (caller : ℕ) (p : ProcData) → GoodProc p → p.uid ≡ u → Mines u (told caller p)
-told_mine {u} caller p good mine = choose (not (is_live p) && stays caller p) (p.parent ∷ []) [] (Mines u) (λ e. (λ ne. good.parent ne ∙ mine, tt)) (λ e. tt)
+collected_kin caller p good st e = grind (arith, nat_tests, good, e, stays_parent caller p)
 
 pub collect_one_same : {u : ℕ} {start c v : Rows} → Sim u start c v → (caller : ℕ) (p : ProcData) → GoodProc p → p.uid ≡ u → Sim u start (collect_one caller p c) (collect_one caller p v)
 collect_one_same {u} s caller p good mine = notified_same (each_same s (λ q. if q.pid == p.pid then collected caller q else Some q) (λ q l. Some l) (record {
-  mine = λ q g is. choose (q.pid == p.pid) (collected caller q) (Some q) (Kin q) (λ e. collected_kin caller q g q.state refl) (λ e. (refl, refl, g));
+  mine = λ q g is. grind (arith, collected_kin caller q g q.state refl, g);
   foreign = λ q g ne. rw (not_own p.pid q.pid (λ e. ne (named (good.block ∙ mine) q g e))) refl;
   lwp = λ q l g well is here. (refl, well);
   foreign_lwp = λ q l g well ne here. refl;
-  live = λ q l g is live. inl (choose (q.pid == p.pid) (collected caller q) (Some q) LiveRow (λ e. collected_live caller q q.state refl live) (λ e. live));
-})) (told caller p) (told_mine caller p good mine)
+  live = λ q l g is live. inl (grind (arith, live));
+})) (told caller p) (grind (arith, good.parent, mine))
 
 pub rows_after_same : {u : ℕ} {start c v : Rows} → Sim u start c v → (caller : ℕ) (which : ℤ) (options : Options) → pid_owner caller ≡ u → Sim u start (rows_after caller which options c) (rows_after caller which options v)
 rows_after_same {u} {start} {c} {v} s caller which options mine = subst (λ o. Sim u start (rows_after caller which options c) (without_report caller o v)) (reported_same s caller which options mine) (at_row (reported caller which options c) (reported_some s caller which options mine))
   where
     at_row : (o : Option ProcData) → IfSome o (λ p. GoodProc p × (p.uid ≡ u)) → Sim u start (without_report caller o c) (without_report caller o v)
-    at_row None g = s
-    at_row (Some p) g = collect_one_same s caller p g.0 g.1
+    at_row o g = grind (arith, g, s, collect_one_same s caller)

@@ -1,5 +1,5 @@
 -- A wait among all rows, and among one user's own rows.
-use Rattle.std.proofs.Common.{◌≡◌, ◌≢◌, ℕ, ℤ, true, Option, Some, None, refl, sym, rules}
+use Rattle.std.proofs.Common.{arith, ◌≡◌, ◌≢◌, ℕ, ℤ, true, Option, sym, rules}
 use Rattle.pid_blocks.specs.Blocks.{pid_owner}
 use Rattle.trace_stop.proofs.CommonNames.{ProcData, Rows, owns, only_of, IsSound}
 use Rattle.row_isolation.specs.Closed.{Closed}
@@ -12,12 +12,10 @@ use Rattle.wait4.proofs.IsolationOfReports.{reported_same, collect_same, rows_af
 
 -- collecting takes no number
 pid_cursors_left : (caller : ℕ) (o : Option ProcData) (rows : Rows) → (without_report caller o rows).pid_cursors ≡ rows.pid_cursors
-pid_cursors_left caller None rows = refl
-pid_cursors_left caller (Some p) rows = refl
+pid_cursors_left caller o rows = grind arith
 
 tid_cursors_left : (caller : ℕ) (o : Option ProcData) (rows : Rows) → (without_report caller o rows).tid_cursors ≡ rows.tid_cursors
-tid_cursors_left caller None rows = refl
-tid_cursors_left caller (Some p) rows = refl
+tid_cursors_left caller o rows = grind arith
 
 module _ (rows : Rows) (u caller : ℕ) (which : ℤ) (options : Options) (s : IsSound rows) (is : owns u caller rows.processes ≡ true) where
   closed : Closed u rows

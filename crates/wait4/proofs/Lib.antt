@@ -6,3 +6,4 @@ pub mod CollectRows
 pub mod Unnamed
 pub mod IsolationOfReports
 pub mod IsolationOfWaits
+mod LemmaSets

@@ -1,16 +1,14 @@
 -- A signed number of 64 bits is negative, or one from 0 on.
-use Rattle.std.proofs.Common.{◌≡◌, ℕ, ℤ, pos, negsuc, true, false, true≢false, w64, SFits, to_z, of_z, ltb, refl, sym, ap, ◌∙◌, rules}
+use Rattle.std.proofs.Common.{arith, ◌≡◌, ℕ, ℤ, pos, negsuc, true, false, w64, SFits, to_z, of_z, sym, ap, ◌∙◌}
 use Rattle.std.specs.Int.Signed.{lt_z}
 use Rattle.std.proofs.lemmas.Bool.Decides.{nat_tests}
 use Rattle.std.proofs.lemmas.Int.{to_z-of_z}
 
 below_zero : (z : ℤ) → lt_z z (pos 0) ≡ true → (k : ℕ) × (z ≡ negsuc k)
-below_zero (pos n) is = search (rules, ltb, pos, nat_tests)
-below_zero (negsuc k) is = (k, refl)
+below_zero z is = grind (arith, nat_tests, is)
 
 from_zero : (z : ℤ) → lt_z z (pos 0) ≡ false → (n : ℕ) × (z ≡ pos n)
-from_zero (pos n) is = (n, refl)
-from_zero (negsuc k) is = absurd (true≢false is)
+from_zero z is = grind (arith, nat_tests, is)
 
 module _ (z : ℤ) (fits : SFits w64 z) where
   pub is_negative : lt_z (to_z w64 (of_z w64 z)) (pos 0) ≡ true → (k : ℕ) × (z ≡ negsuc k)

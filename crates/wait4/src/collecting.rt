@@ -92,6 +92,7 @@ fn lesser(a: Option<ProcData>, b: Option<ProcData>) -> Option<ProcData>
 }
 
 /// Returns the process with this number, which isn't negative, if there is one.
+#[tactic(auto, using(crate::proofs::LemmaSets::of_number))]
 fn numbered(tables: &Tables, which: i64) -> Option<ProcData>
     ensures row { (n : ℕ) → which ≡ pos n → result ≡ process_of n tables.now.rows.processes }
     ensures kept { TableInvariant tables.now.rows }
@@ -105,6 +106,7 @@ fn numbered(tables: &Tables, which: i64) -> Option<ProcData>
 
 /// Returns the child that is reported: the child with the number `which` if it has something to report, or, if
 /// `which` is negative, the first child that has.
+#[tactic(auto, using(crate::proofs::LemmaSets::of_report))]
 fn reported(tables: &Tables, caller: Pid, which: i64, options: Options) -> Option<ProcData>
     ensures row { result ≡ reported caller which options tables.now.rows }
     ensures kept { TableInvariant tables.now.rows }
@@ -145,6 +147,7 @@ fn stays(caller: Pid, p: &ProcData) -> bool
 
 /// Collects what a process reports to the caller. A stop is marked as reported, and a process is no longer
 /// marked as continued. A zombie is removed, or passes from its tracer to its parent, which SIGCHLD notifies.
+#[tactic(auto, using(crate::proofs::LemmaSets::of_one))]
 fn collect_one(tables: &mut Tables, caller: Pid, p: &ProcData)
     requires sound { IsSound tables.old.rows }
     requires there { process_of p.now.pid tables.old.rows.processes ≡ Some p.now }

@@ -11,18 +11,16 @@ more bits place = let e : place + 1 ≡ 1 + place = omega arith in ap (λ k. bit
 added : (bits set place n new : ℕ) → set ≡ bits % 2 ^ place → bits / 2 ^ place % 2 ≡ 1 → n ≡ place + 1 → new ≡ bit_or set (2 ^ (n - 1)) → new ≡ bits % 2 ^ (place + 1)
 added bits set place n new is one at e =
     let low : n - 1 ≡ place = omega arith in
-    let some : 0 < 2 ^ place = pow_pos place in
-    let below : set < 2 ^ place = omega arith in
-    let once : 1 * 2 ^ place ≡ 2 ^ place = omega arith in
-    e ∙ (ap (λ k. bit_or set (2 ^ k)) low ∙ (ap (bit_or set) (sym once) ∙ (or_comm set (1 * 2 ^ place) ∙ (or_shifted 1 place set below
-    ∙ (ap (λ s. 1 * 2 ^ place + s) is ∙ sym (more bits place ∙ ap (λ d. d * 2 ^ place + bits % 2 ^ place) one))))))
+    let below : set < 2 ^ place = let some : 0 < 2 ^ place = pow_pos place in omega arith in
+    let both = or_shifted 1 place set below in
+    let twice = more bits place in
+    e ∙ rw low (grind (arith, both, twice, one, is, or_comm set (1 * 2 ^ place)))
 
 -- where it is 0, nothing is
 same : (bits set place new : ℕ) → set ≡ bits % 2 ^ place → bits / 2 ^ place % 2 ≢ 1 → new ≡ set → new ≡ bits % 2 ^ (place + 1)
 same bits set place new is other e =
     let none : bits / 2 ^ place % 2 ≡ 0 = omega arith in
-    let left : 0 * 2 ^ place + bits % 2 ^ place ≡ bits % 2 ^ place = omega arith in
-    e ∙ (is ∙ sym (more bits place ∙ (ap (λ d. d * 2 ^ place + bits % 2 ^ place) none ∙ left)))
+    grind (arith, more bits place, none, is, e)
 
 pub loop-place-preserved : goal.loop-place-preserved
 loop-place-preserved c = elim c.if-bits-place-eq1.branch [

@@ -1,4 +1,4 @@
-use Rattle.flat_forms.proofs.Unflat as law
+use Rattle.flat_forms.proofs.SameFlat as law
 use Rattle.flat_forms.proofs.laws.flat_forms_differ.Goals as goal
 
 pub returns-clause-alike : goal.returns-clause-alike

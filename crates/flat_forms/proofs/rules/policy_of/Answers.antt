@@ -28,11 +28,7 @@ rules-last (a ∷ rs) r = ap (both (rule_numbered a)) (rules-last rs r) ∙ both
 
 more : (rs : List FlatRule) (ks : List Rule) (i : ℕ) (d : FlatRule) (o : Option Rule) (v : Rule) → i < length rs → i < length ks → rules_numbered (take i rs) ≡ Some (take i ks)
     → o ≡ rule_numbered (get_or rs i d) → o ≡ Some v → rules_numbered (take (i + 1) rs) ≡ Some (take (i + 1) (set ks i v))
-more rs ks i d o v within room is reads found =
-    ap rules_numbered (take_more rs i d within)
-    ∙ (rules-last (take i rs) (get_or rs i d)
-    ∙ (ap (λ x. with_last x (rule_numbered (get_or rs i d))) is
-    ∙ (ap (with_last (Some (take i ks))) (sym reads ∙ found) ∙ ap (λ l. Some l) (sym (take_more_set ks i v room)))))
+more rs ks i d o v within room is reads found = simp (take_more rs i d within, take_more_set ks i v room, rules-last, is, sym reads ∙ found)
 
 no_rest : (o : Option Rule) → both o None ≡ None
 no_rest None = refl

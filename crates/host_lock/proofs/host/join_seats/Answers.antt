@@ -1,12 +1,5 @@
-use Rattle.std.proofs.Common.{rules, ◌≡◌, ℕ, ◌-◌, ◌+◌, ◌++◌, [], ◌∷◌, List, ap, subst, ◌∙◌, arith}
-use Rattle.atomic_table.specs.Table.{Me}
-use Rattle.requests.specs.Machine.{Machine}
-use Rattle.host_lock.specs.Views.{Idle, View}
-use Rattle.host_lock.specs.declared.view.Slot.{Slot}
-use Rattle.host_lock.specs.Rule.{session_view, both, Each}
-use Rattle.host_lock.specs.Limits.{max_calls}
+use Rattle.host_lock.proofs.CommonNames.{rules, ◌≡◌, ℕ, ◌-◌, ◌+◌, ◌++◌, [], ◌∷◌, List, ap, subst, ◌∙◌, arith, Me, Machine, Idle, View, Slot, session_view, both, Each, max_calls, SessionData, IsAt, gathered}
 use Rattle.host_lock.proofs.Totals.{each_right}
-use Rattle.host_lock.specs.Sessions.{SessionData, IsAt, gathered}
 use Rattle.host_lock.proofs.Turns.{joins}
 use Rattle.host_lock.proofs.Closings.{pops, joined}
 use Rattle.host_lock.proofs.host.join_seats.Goals as goal

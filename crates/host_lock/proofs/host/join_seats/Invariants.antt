@@ -1,5 +1,4 @@
-use Rattle.std.proofs.Common.{◌≡◌, ℕ, ◌++◌, List, [], reverse, vec_len}
-use Rattle.host_lock.specs.Sessions.{SessionData, gathered}
+use Rattle.host_lock.proofs.CommonNames.{◌≡◌, ℕ, ◌++◌, List, [], reverse, vec_len, SessionData, gathered}
 use Rattle.host_lock.proofs.host.join_seats.Given as goal
 
 abbrev pub invariant-loop-session : goal.invariant-loop-session

@@ -1,12 +1,5 @@
-use Rattle.std.proofs.Common.{rules, ◌≡◌, ℕ, ◌+◌, ◌-◌, ◌<◌, ◌++◌, [], ◌∷◌, length, get_or, sym, ap, ◌∙◌, arith}
-use Rattle.std.proofs.lemmas.List.{get_or_default}
-use Rattle.atomic_table.specs.Table.{Me}
-use Rattle.requests.specs.Machine.{Machine}
-use Rattle.host_lock.specs.Views.{View, Idle}
-use Rattle.host_lock.specs.declared.view.Slot.{Slot}
-use Rattle.host_lock.specs.Rule.{fresh_view, session_view, start_of}
-use Rattle.host_lock.specs.Limits.{max_calls}
-use Rattle.host_lock.specs.Sessions.{SessionData, new_session}
+use Rattle.host_lock.proofs.CommonNames.{rules, ◌≡◌, ℕ, ◌+◌, ◌-◌, ◌<◌, ◌++◌, [], ◌∷◌, length, get_or, sym, ap, ◌∙◌, arith, get_or_default, Me, Machine, View, Idle, Slot, fresh_view, session_view, start_of, max_calls, SessionData}
+use Rattle.host_lock.proofs.CommonNames.{new_session}
 use Rattle.host_lock.proofs.Openings.{splits_one, left_is, right_is, one_more}
 use Rattle.host_lock.proofs.host.make_sessions.Goals as goal
 

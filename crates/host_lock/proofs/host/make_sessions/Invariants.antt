@@ -1,6 +1,4 @@
-use Rattle.std.proofs.Common.{◌≡◌, ◌-◌, ◌≤◌, ◌++◌, [], length, drop, vec_capacity, vec_len}
-use Rattle.host_lock.specs.Rule.{fresh_view, start_of}
-use Rattle.host_lock.specs.Sessions.{new_sessions}
+use Rattle.host_lock.proofs.CommonNames.{◌≡◌, ◌-◌, ◌≤◌, ◌++◌, [], length, drop, vec_capacity, vec_len, fresh_view, start_of, new_sessions}
 use Rattle.host_lock.proofs.host.make_sessions.Given as goal
 
 abbrev pub invariant-loop-i : goal.invariant-loop-i

@@ -1,10 +1,4 @@
-use Rattle.std.proofs.Common.{◌≡◌, ◌∙◌, length, rules, sym, subst, ap, [], ◌∷◌, ◌++◌, List, arith}
-use Rattle.atomic_table.specs.Table.{opening}
-use Rattle.requests.specs.Machine.{Machine}
-use Rattle.host_lock.specs.History.{history}
-use Rattle.host_lock.specs.Rule.{SharedInvariant, opening_view, fresh_view}
-use Rattle.host_lock.specs.declared.view.Slot.{Slot}
-use Rattle.host_lock.specs.declared.view.Slot.TheVariants.{There}
+use Rattle.host_lock.proofs.CommonNames.{◌≡◌, ◌∙◌, length, rules, sym, subst, ap, [], ◌∷◌, ◌++◌, List, arith, opening, Machine, history, SharedInvariant, opening_view, fresh_view, Slot, There}
 use Rattle.host_lock.proofs.Turns.{opens}
 use Rattle.host_lock.proofs.host.make_table.Goals as goal
 

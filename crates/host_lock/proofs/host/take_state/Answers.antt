@@ -1,7 +1,5 @@
-use Rattle.std.proofs.Common.{List, ap, ◌∙◌}
-use mathlib.Core.Option.{some}
+use Rattle.host_lock.proofs.CommonNames.{List, ap, ◌∙◌, some, Slot}
 use Rattle.std.specs.Slots.{slots_items}
-use Rattle.host_lock.specs.declared.view.Slot.{Slot}
 use Rattle.host_lock.proofs.Turns.{ends}
 use Rattle.host_lock.proofs.Closings.{closes_with, not_away}
 use Rattle.host_lock.proofs.host.take_state.Goals as goal

@@ -1,8 +1,4 @@
-use Rattle.std.proofs.Common.{◌∙◌, ap, arith}
-use Rattle.atomic_table.specs.Table.{Me}
-use Rattle.host_lock.specs.Rule.{seen_of}
-use Rattle.host_lock.specs.Views.{View}
-use Rattle.host_lock.specs.declared.view.Slot.{Slot}
+use Rattle.host_lock.proofs.CommonNames.{◌∙◌, ap, arith, Me, seen_of, View, Slot}
 use Rattle.host_lock.proofs.Moments.{joined_is, has_learned}
 use Rattle.host_lock.proofs.Turns.{joins, learns}
 use Rattle.host_lock.proofs.moment.learn.Goals as goal

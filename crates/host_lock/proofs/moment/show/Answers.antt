@@ -1,4 +1,4 @@
-use Rattle.std.proofs.Common.{arith}
+use Rattle.host_lock.proofs.CommonNames.{arith}
 use Rattle.host_lock.proofs.Turns.{shows}
 use Rattle.host_lock.proofs.moment.show.Goals as goal
 

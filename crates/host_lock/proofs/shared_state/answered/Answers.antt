@@ -1,5 +1,4 @@
-use Rattle.std.proofs.Common.{◌≡◌, sym, ◌∙◌, false}
-use Rattle.requests.specs.Memory.{is_memory}
+use Rattle.host_lock.proofs.CommonNames.{◌≡◌, sym, ◌∙◌, false, is_memory}
 use Rattle.host_lock.proofs.Memories.{steps, wanted, listed}
 use Rattle.host_lock.proofs.shared_state.answered.Goals as goal
 

@@ -1,9 +1,4 @@
-use Rattle.std.proofs.Common.{◌≡◌, ℕ, ◌∙◌, List, [], ◌∷◌, sym, ap, arith}
-use Rattle.atomic_table.specs.Table.{Me, rest}
-use Rattle.host_lock.specs.Views.{View, Idle}
-use Rattle.host_lock.specs.declared.view.Slot.{Slot}
-use Rattle.host_lock.specs.declared.view.Slot.TheVariants.{There}
-use Rattle.host_lock.specs.Rule.{staged}
+use Rattle.host_lock.proofs.CommonNames.{◌≡◌, ℕ, ◌∙◌, List, [], ◌∷◌, sym, ap, arith, Me, rest, View, Idle, Slot, There, staged}
 use Rattle.host_lock.proofs.Turns.{leaves}
 use Rattle.host_lock.proofs.turn.give_back.Goals as goal
 

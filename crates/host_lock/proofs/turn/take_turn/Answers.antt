@@ -1,8 +1,4 @@
-use Rattle.std.proofs.Common.{◌≡◌, ◌≢◌, ◌∙◌, sym, subst, arith, rules}
-use Rattle.atomic_table.specs.Table.{Me}
-use Rattle.host_lock.specs.Views.{View}
-use Rattle.host_lock.specs.declared.view.Slot.{Slot}
-use Rattle.host_lock.specs.Rule.{TakesSlot}
+use Rattle.host_lock.proofs.CommonNames.{◌≡◌, ◌≢◌, ◌∙◌, sym, subst, arith, rules, Me, View, Slot, TakesSlot}
 use Rattle.host_lock.proofs.Turns.{IsWaiting, looks, takes_slot, waits_on}
 use Rattle.host_lock.proofs.turn.take_turn.Goals as goal
 

@@ -1,17 +1,5 @@
-use Rattle.std.proofs.Common.{◌≡◌, ℕ, ◌∙◌, List, [], ◌∷◌, ◌++◌, true, false, sym, ap, subst, arith, rules, refl}
-use Rattle.atomic_table.specs.Table.{Me, rest}
-use Rattle.requests.specs.Isolation.{reply_of}
-use Rattle.requests.specs.Memory.{is_memory}
-use Rattle.requests.specs.Plain.{PlainStep}
-use Rattle.std.specs.declared.snapshot.Snapshot.{Snapshot}
-use Rattle.requests.specs.Machine.{Machine}
-use Rattle.host_lock.specs.declared.journal.Entry.{Entry}
-use Rattle.host_lock.specs.Journal.{replay, entry}
-use Rattle.host_lock.specs.Views.{View, Holding, Counted}
-use Rattle.host_lock.specs.declared.view.Slot.{Slot}
-use Rattle.host_lock.specs.declared.view.Slot.TheVariants.{There, Away}
-use Rattle.host_lock.specs.Rule.{snapshot_of, session_view, start_of, seen_of, mine_of, HasTurned}
-use Rattle.host_lock.specs.History.{history}
+use Rattle.host_lock.proofs.CommonNames.{◌≡◌, ℕ, ◌∙◌, List, [], ◌∷◌, ◌++◌, true, false, sym, ap, subst, arith, rules, refl, Me, rest, reply_of, is_memory, PlainStep, Snapshot, Machine, Entry, replay, entry, View, Holding, Counted}
+use Rattle.host_lock.proofs.CommonNames.{Slot, There, Away, snapshot_of, session_view, start_of, seen_of, mine_of, HasTurned, history}
 use Rattle.host_lock.proofs.Turns.{draws}
 use Rattle.host_lock.proofs.Journey.{finds, is_out, counts_out, turned_none, turned_one}
 use Rattle.host_lock.proofs.turn.turn.Goals as goal
@@ -23,8 +11,7 @@ away_is u v others shown m s is e = e ∙ ap (λ x. (v, (0, Away u (snapshot_of 
 -- the seat's view is made of its own parts
 holds_slot : {F J : Type 0} (m : Me (Slot F J) View) (h : Machine) (ticket budget number : ℕ) (log mine : List Entry) (out : List (ℕ × Slot F J))
     → m ≡ (session_view h (Holding ticket) budget log number mine, out) → m ≡ (session_view (start_of m.0) (Holding ticket) m.0.budget (seen_of m.0) number (mine_of m.0), out)
-holds_slot m h ticket budget number log mine out is =
-    subst (λ z. z ≡ (session_view (start_of z.0) (Holding ticket) z.0.budget (seen_of z.0) number (mine_of z.0), out)) (sym is) refl
+holds_slot m h ticket budget number log mine out is = rw is refl
 
 pub fetch_add-ticket-requires : goal.fetch_add-ticket-requires
 fetch_add-ticket-requires g c =

@@ -1,21 +1,12 @@
-use Rattle.std.proofs.Common.{drop, sym, ap, ◌∙◌, arith}
-use Rattle.std.proofs.lemmas.List.{length-drop}
-use Rattle.std.proofs.lemmas.List.Sums.{prefix_len-le-length}
-use lib.Count.{count_trailing_zeros}
-use Rattle.json.specs.Run.{is_plain}
+use Rattle.json_values.proofs.CommonNames.{nat_tests, drop, sym, ap, ◌∙◌, arith, length-drop, prefix_len-le-length, count_trailing_zeros, is_plain}
 use Rattle.json_values.proofs.Runs.{run_stops, run_through}
 use Rattle.json_values.proofs.bytes.plain_end.Goals as goal
 
 pub returns-then-found-eq0-clause-value : goal.returns-then-found-eq0-clause-value
-returns-then-found-eq0-clause-value c =
-    let run = run_through c.args.bytes.now c.args.from (omega arith) (omega (arith, c.stops-found.ensures, c.if-found-eq0.true)) in
-    omega (arith, run, c.plain_end_slowly-then-found-eq0.ensures.value)
+returns-then-found-eq0-clause-value c = grind (arith, nat_tests, run_through)
 
 pub returns-clause-value : goal.returns-clause-value
-returns-clause-value c =
-    let found = c.stops-found.ensures in
-    let run = run_stops c.args.bytes.now c.args.from (omega arith) (omega (arith, found, c.if-found-eq0.false)) ∙ ap (count_trailing_zeros 64) (sym found) in
-    omega (arith, run)
+returns-clause-value c = grind (arith, nat_tests, run_stops)
 
 pub returns-clause-bound : goal.returns-clause-bound
 returns-clause-bound c =

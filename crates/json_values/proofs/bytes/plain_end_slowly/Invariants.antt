@@ -1,6 +1,4 @@
-use Rattle.std.proofs.Common.{◌≡◌, ◌+◌, ◌-◌, ◌≤◌, length, drop}
-use Rattle.std.specs.List.{prefix_len}
-use Rattle.json.specs.Run.{is_plain}
+use Rattle.json_values.proofs.CommonNames.{◌≡◌, ◌+◌, ◌-◌, ◌≤◌, length, drop, prefix_len, is_plain}
 use Rattle.json_values.proofs.bytes.plain_end_slowly.Given as goal
 
 abbrev pub invariant-loop-at : goal.invariant-loop-at

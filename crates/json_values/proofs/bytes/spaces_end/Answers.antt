@@ -1,7 +1,4 @@
-use Rattle.std.proofs.Common.{◌∙◌, ap, sym, arith}
-use Rattle.std.proofs.lemmas.List.{get_or_default}
-use Rattle.json.specs.Align.{is_blank}
-use Rattle.json.specs.Lex.{class}
+use Rattle.json_values.proofs.CommonNames.{◌∙◌, ap, sym, arith, get_or_default, is_blank, class}
 use Rattle.json_values.proofs.Texts.{past_space}
 use Rattle.json_values.proofs.bytes.spaces_end.Goals as goal
 

@@ -1,5 +1,4 @@
-use Rattle.std.proofs.Common.{◌≡◌, ◌-◌, ◌≤◌, length, drop}
-use Rattle.json.specs.Lex.{between, lex}
+use Rattle.json_values.proofs.CommonNames.{◌≡◌, ◌-◌, ◌≤◌, length, drop, between, lex}
 use Rattle.json_values.proofs.bytes.spaces_end.Given as goal
 
 abbrev pub invariant-loop-at : goal.invariant-loop-at

@@ -1,4 +1,4 @@
-use Rattle.std.proofs.lemmas.Simd.{zip2_splat}
+use Rattle.json_values.proofs.CommonNames.{zip2_splat}
 use Rattle.json_values.proofs.Runs.{below, hit, stop_mask}
 use Rattle.json_values.proofs.bytes.stops.Goals as goal
 

@@ -1,6 +1,5 @@
-use Rattle.std.proofs.Common.{◌≡◌, drop, true, false, ap, ◌∙◌, arith, take_all, length-drop}
-use Rattle.fast_float.specs.Text.{scan}
-use Rattle.serde_json.specs.Read.{number_of, number_from}
+use Rattle.json_values.proofs.CommonNames.{nat_tests, ◌≡◌, drop, true, ap, ◌∙◌, arith, take_all, scan, number_of, number_from}
+use Rattle.std.proofs.Common.{length-drop}
 use Rattle.json_values.proofs.NumberTexts.{with_minus, without_minus}
 use Rattle.json_values.proofs.numbers.scanned.Goals as goal
 
@@ -11,5 +10,4 @@ returns-then-has_minus c =
     ap (number_from true) parts ∙ with_minus s c.if-has_minus.ensures ∙ ap number_of c.as_bytes-bytes.ensures.value
 
 pub returns-else-has_minus : goal.returns-else-has_minus
-returns-else-has_minus c =
-    ap (number_from false) c.scan-else-has_minus.ensures.parts ∙ without_minus c.as_bytes-bytes.result.now c.if-has_minus.ensures ∙ ap number_of c.as_bytes-bytes.ensures.value
+returns-else-has_minus c = grind (arith, nat_tests, without_minus)

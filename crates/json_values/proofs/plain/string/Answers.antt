@@ -1,7 +1,4 @@
-use Rattle.std.proofs.Common.{◌∷◌, refl, sym, ap, ◌∙◌, arith}
-use Rattle.json.specs.Token.{key, string}
-use Rattle.json.specs.Align.{is_blank}
-use Rattle.json.specs.Lex.{after_value, begins_colon, class, fresh, punctuate}
+use Rattle.json_values.proofs.CommonNames.{nat_tests, ◌∷◌, sym, ap, ◌∙◌, arith, string, is_blank, after_value, begins_colon, class, punctuate}
 use Rattle.json_values.proofs.Places.{a_key, a_string, at_operator, no_colon, no_string}
 use Rattle.json_values.proofs.plain.string.Goals as goal
 
@@ -9,10 +6,7 @@ pub returns-in_default-clause-value : goal.returns-in_default-clause-value
 returns-in_default-clause-value c = no_string c.args.lexer.now c.args.place c.requires.1 c.requires.0 c.in_default.ensures.value
 
 pub returns-then-peek-eq58-clause-value : goal.returns-then-peek-eq58-clause-value
-returns-then-peek-eq58-clause-value c =
-    let after = c.string.new.self in
-    let next = sym c.in-Some.ensures.after ∙ at_operator 58 after refl (omega (arith, c.peek.ensures.value, c.if-peek-eq58.true)) in
-    a_key c.args.lexer.now c.args.place _ _ c.requires.1 c.requires.0 c.in-Some.ensures.value next ∙ ap (λ ls. key c.in-Some.text.now ∷ punctuate fresh ls) (sym c.skip.ensures)
+returns-then-peek-eq58-clause-value c = grind (arith, nat_tests, at_operator, a_key)
 
 pub returns-else-peek-eq58-clause-value : goal.returns-else-peek-eq58-clause-value
 returns-else-peek-eq58-clause-value c =

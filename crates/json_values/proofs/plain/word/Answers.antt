@@ -1,14 +1,9 @@
-use Rattle.std.proofs.Common.{◌≡◌, ◌∷◌, true, sym, ap, ◌∙◌, subst}
-use Rattle.json.specs.Align.{is_good}
-use Rattle.json.specs.Lex.{after_value, punctuate, token}
-use Rattle.json.specs.Reads.{token_of}
+use Rattle.json_values.proofs.CommonNames.{nat_tests, arith, ◌≡◌, ◌∷◌, true, sym, ap, ◌∙◌, subst, is_good, after_value, punctuate, token, token_of}
 use Rattle.json_values.proofs.Places.{a_word, at_word, bad_word, behind, good, IsWord, word_is}
 use Rattle.json_values.proofs.plain.word.Goals as goal
 
 pub returns-in-Bad-clause-value : goal.returns-in-Bad-clause-value
-returns-in-Bad-clause-value c =
-    let t = c.args.lexer.now in
-    bad_word t c.args.place c.requires.1 (at_word t c.requires.0 ∙ ap (λ w. token w ∷ behind t) (sym c.in-Bad.ensures.value))
+returns-in-Bad-clause-value c = grind (arith, nat_tests, bad_word, at_word, behind)
 
 pub returns : goal.returns
 returns c =

@@ -1,8 +1,4 @@
-use Rattle.std.proofs.Common.{◌≡◌, ℕ, ◌+◌, ◌*◌, ◌≤◌, length}
-use Rattle.json.specs.Json.{items, members, value}
-use Rattle.serde_json.specs.Data.{Members}
-use Rattle.serde_json.specs.Read.{of_items, of_members, converted}
-use Rattle.json_values.specs.Reading.{read_items, read_members, rest}
+use Rattle.json_values.proofs.CommonNames.{◌≡◌, ℕ, ◌+◌, ◌*◌, ◌≤◌, length, items, members, value, Members, of_items, of_members, converted, read_items, read_members, rest}
 use Rattle.json_values.proofs.scalars.+pass.Given as goal
 
 abbrev pub decreases-next_scalar : goal.decreases-next_scalar

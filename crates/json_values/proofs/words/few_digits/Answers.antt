@@ -1,8 +1,5 @@
-use Rattle.std.proofs.Common.{◌≡◌, ◌+◌, ◌-◌, ◌<◌, get_or, drop, length, take, sym, ap, ◌∙◌, subst, arith}
+use Rattle.json_values.proofs.CommonNames.{◌≡◌, ◌+◌, ◌-◌, ◌<◌, get_or, drop, length, take, sym, ap, ◌∙◌, subst, arith, get_or-drop, length-drop, digit_value, AllDigits, digits_value}
 use Rattle.std.proofs.lemmas.Int.Digits.{digits_more, digits_value_more}
-use Rattle.std.proofs.lemmas.List.{get_or-drop, length-drop}
-use Rattle.std.specs.Char.{digit_value}
-use Rattle.std.specs.Str.Parse.{AllDigits, digits_value}
 use Rattle.json_values.proofs.words.few_digits.Goals as goal
 
 pub loop-end-preserved : goal.loop-end-preserved

@@ -1,5 +1,4 @@
-use Rattle.std.proofs.Common.{◌≡◌, ◌-◌, ◌^◌, ◌<◌, ◌≤◌, length, take, drop}
-use Rattle.std.specs.Str.Parse.{AllDigits, digits_value}
+use Rattle.json_values.proofs.CommonNames.{◌≡◌, ◌-◌, ◌^◌, ◌<◌, ◌≤◌, length, take, drop, AllDigits, digits_value}
 use Rattle.json_values.proofs.words.few_digits.Given as goal
 
 abbrev pub invariant-loop-end : goal.invariant-loop-end

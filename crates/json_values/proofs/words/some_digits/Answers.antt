@@ -1,9 +1,4 @@
-use Rattle.std.proofs.Common.{◌≡◌, ◌+◌, cond, drop, None, Some, sym, ap, ◌∙◌, arith}
-use Rattle.std.proofs.lemmas.Bool.{ne_eqb}
-use Rattle.std.proofs.lemmas.List.{drop-drop, length-drop}
-use Rattle.std.proofs.lemmas.List.Sums.{prefix_len-le-length}
-use Rattle.std.specs.Char.{is_ascii_digit}
-use Rattle.std.specs.List.{prefix_len}
+use Rattle.json_values.proofs.CommonNames.{◌≡◌, ◌+◌, cond, drop, None, Some, sym, ap, ◌∙◌, arith, ne_eqb, drop-drop, length-drop, prefix_len-le-length, is_ascii_digit, prefix_len}
 use Rattle.json_values.proofs.words.some_digits.Goals as goal
 
 pub returns-else-end-from : goal.returns-else-end-from

@@ -1,7 +1,6 @@
 use Rattle.std.proofs.Common.{◌≤◌, ◌+◌, length, arith}
 use Rattle.std.proofs.lemmas.Bool.Decides.{nat_tests}
 use Rattle.line_diff.proofs.WalkLemmas.{agrees_more, differs_here, ne_apart, ne_same}
-use Rattle.line_diff.proofs.comparing.first_difference.Goals.{then-not-is_empty, else-not-is_empty+then-not-is_empty-2}
 use Rattle.line_diff.proofs.comparing.first_difference.Goals as goal
 
 pub returns-then-ne-clause-first : goal.returns-then-ne-clause-first
@@ -18,10 +17,7 @@ loop-expected_rest-preserved c =
     let e = c.split_line in
     let g = c.split_line-in-loop-expected_rest in
     let same = ne_same e.result.0.now g.result.0.now c.ne.result c.ne.ensures c.if-ne.false in
-    let some : 1 ≤ length c.loop-expected_rest.expected_rest.now + length c.loop-expected_rest.got_rest.now = elim c.if-not-is_empty.branch [
-      | then-not-is_empty w ↦ grind (arith, nat_tests, c.is_empty.ensures, w.if-not-is_empty.true)
-      | else-not-is_empty+then-not-is_empty-2 w ↦ grind (arith, nat_tests, w.is_empty-else-not-is_empty.ensures, w.if-not-is_empty-2.true)
-    ] in
+    let some : 1 ≤ length c.loop-expected_rest.expected_rest.now + length c.loop-expected_rest.got_rest.now = grind (arith, nat_tests) in
     agrees_more _ _ _ _ _ e.result.0.now e.result.1.now g.result.1.now c.loop-expected_rest.invariant
     (record { text_is = e.ensures.text; first = e.ensures.line; others = e.ensures.rest })
     (record { text_is = rw same g.ensures.text; first = rw same g.ensures.line; others = g.ensures.rest })

@@ -1,9 +1,5 @@
-use Rattle.std.proofs.Common.{ap, is_some, arith}
-use Rattle.std.specs.Fn.{FnReturnsAt}
+use Rattle.proc_table.proofs.CommonNames.{nat_tests, ap, arith, FnReturnsAt, get, option_map, node_of, nodes_of}
 use Rattle.std.proofs.lemmas.Fn.{says_at}
-use Rattle.slab.specs.Slab.{get}
-use Rattle.std.specs.Option.{option_map}
-use Rattle.proc_table.specs.ListNodes.{node_of, nodes_of}
 use Rattle.proc_table.proofs.Linked.{list-of}
 use Rattle.proc_table.proofs.Firsts.{member_slot, passing-first, passing-none, passing-above, passing-found, passing-on}
 use Rattle.proc_table.proofs.links.first_slot.Goals as goal
@@ -12,10 +8,7 @@ pub loop-link-init : goal.loop-link-init
 loop-link-init g c = rw c.links_of-link.ensures (passing-first (get c.args.nodes.now) c.args.kin c.args.list_owner (FnReturnsAt g.F.Fn c.args.test) c.requires.linked c.args.head c.index.result.now c.index.ensures (rw c.index.ensures at c.requires.there))
 
 pub index-slot-requires : goal.index-slot-requires
-index-slot-requires g c =
-    let walk = rw c.in-Some.is at c.loop-link.invariant in
-    let there = member_slot (get c.args.nodes.now) c.args.kin c.args.list_owner c.in-Some.at walk.next.0 walk.next.1 in
-    ap is_some there.1
+index-slot-requires g c = grind (arith, nat_tests, member_slot)
 
 pub returns-then-test : goal.returns-then-test
 returns-then-test g c =
@@ -23,9 +16,7 @@ returns-then-test g c =
     (rw c.in-Some.is at c.loop-link.invariant) (says_at g.F.Fn c.test.ensures c.if-test.true)
 
 pub loop-link-smaller : goal.loop-link-smaller
-loop-link-smaller g c =
-    let above = passing-above (get c.args.nodes.now) c.args.kin c.args.list_owner (FnReturnsAt g.F.Fn c.args.test) c.requires.linked c.loop-link.passed c.in-Some.at c.index-slot.result.now c.index-slot.ensures (rw c.in-Some.is at c.loop-link.invariant) in
-    omega (arith, above, c.get-passed.ensures.number, c.get-passed.ensures.below)
+loop-link-smaller g c = grind (arith, nat_tests, passing-above)
 
 pub loop-link-preserved : goal.loop-link-preserved
 loop-link-preserved g c =

@@ -1,6 +1,4 @@
-use Rattle.std.proofs.Common.{◌-◌}
-use Rattle.std.specs.Fn.{FnReturnsAt}
-use Rattle.slab.specs.Slab.{get}
+use Rattle.proc_table.proofs.CommonNames.{◌-◌, FnReturnsAt, get}
 use Rattle.proc_table.proofs.Firsts.{IsPassing}
 use Rattle.proc_table.proofs.links.first_slot.Given as goal
 

@@ -1,5 +1,4 @@
-use Rattle.std.proofs.Common.{Some, ◌∙◌}
-use Rattle.slab.specs.Slab.{get}
+use Rattle.proc_table.proofs.CommonNames.{Some, ◌∙◌, get}
 use Rattle.proc_table.proofs.LinkedLists.{are_linked-moved}
 use Rattle.proc_table.proofs.links.join.Goals as goal
 

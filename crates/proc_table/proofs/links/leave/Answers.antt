@@ -1,19 +1,12 @@
-use Rattle.std.proofs.Common.{None, ap, sym, ◌∙◌, is_some, subst}
-use Rattle.std.proofs.lemmas.Option.{same_Some}
-use Rattle.slab.specs.Slab.{get}
-use Rattle.proc_table.specs.ListNodes.{IsHead}
+use Rattle.proc_table.proofs.CommonNames.{nat_tests, arith, None, get}
 use Rattle.proc_table.proofs.LinkedLists.{are_linked-moved}
 use Rattle.proc_table.proofs.links.leave.Goals as goal
 
 pub unwrap-head-requires : goal.unwrap-head-requires
-unwrap-head-requires c =
-    let head = c.requires.are_linked.headed c.args.kin c.args.slot c.index.result.now c.in-Some.list_owner c.index.ensures (ap (λ l. l.list_owner) (sym c.links_of.ensures) ∙ c.in-Some.is) in
-    ap is_some (c.get.ensures ∙ head.1)
+unwrap-head-requires c = grind (arith, nat_tests, c.requires.are_linked.headed c.args.kin c.args.slot c.index.result.now c.in-Some.list_owner)
 
 pub unlink-requires-clause-there : goal.unlink-requires-clause-there
-unlink-requires-clause-there c =
-    let head = c.requires.are_linked.headed c.args.kin c.args.slot c.index.result.now c.in-Some.list_owner c.index.ensures (ap (λ l. l.list_owner) (sym c.links_of.ensures) ∙ c.in-Some.is) in
-    subst (λ h. IsHead (get c.args.nodes.now) h c.in-Some.list_owner) (same_Some head.0 c.unwrap-head.result (sym head.1 ∙ sym c.get.ensures ∙ c.unwrap-head.ensures)) head.2
+unlink-requires-clause-there c = grind (arith, nat_tests, c.requires.are_linked.headed c.args.kin c.args.slot c.index.result.now c.in-Some.list_owner)
 
 pub returns-in-Some-clause-are_linked : goal.returns-in-Some-clause-are_linked
 returns-in-Some-clause-are_linked c =

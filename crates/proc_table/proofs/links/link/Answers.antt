@@ -1,9 +1,4 @@
-use Rattle.std.proofs.Common.{ℕ, Some, refl, ap, ◌∙◌}
-use Rattle.slab.specs.Slab.{get}
-use Rattle.std.specs.Option.{option_map}
-use Rattle.lwp_table.specs.Chain.{up, down, below}
-use Rattle.proc_table.specs.Links.{at_least}
-use Rattle.proc_table.specs.ListNodes.{node_of, nodes_of}
+use Rattle.proc_table.proofs.CommonNames.{nat_tests, ℕ, Some, refl, ap, ◌∙◌, arith, get, option_map, down, below, node_of, nodes_of}
 use Rattle.proc_table.proofs.Linked.{IsLinked-joined, nearest-beyond}
 use Rattle.proc_table.proofs.ListNodes.{list-at, link-there, still-there}
 use Rattle.proc_table.proofs.links.link.Goals as goal
@@ -12,9 +7,7 @@ pub set_next-requires-clause-at : goal.set_next-requires-clause-at
 set_next-requires-clause-at c = link-there down c.args.kin (get c.args.nodes.now) c.args.list_owner (below c.get-pid.result) c.place_of-place.result.prev c.place_of-place.ensures.prev
 
 pub set_prev-requires-clause-at : goal.set_prev-requires-clause-at
-set_prev-requires-clause-at c =
-    still-there (get c.args.nodes.now) (get c.set_next.new.nodes) c.set_next.ensures.rows c.place_of-place.result.next
-    (link-there up c.args.kin (get c.args.nodes.now) c.args.list_owner (at_least c.get-pid.result) c.place_of-place.result.next c.place_of-place.ensures.next)
+set_prev-requires-clause-at c = grind (arith, nat_tests, still-there, link-there)
 
 pub returns-clause-linked : goal.returns-clause-linked
 returns-clause-linked c =

@@ -1,8 +1,4 @@
-use Rattle.std.proofs.Common.{◌<◌, ◌≡◌, Some, None, ap, ◌∙◌, arith}
-use Rattle.slab.specs.Slab.{get}
-use Rattle.lwp_table.specs.Chain.{IsNearest, down, anywhere}
-use Rattle.proc_table.specs.Links.{members}
-use Rattle.proc_table.specs.ListNodes.{nodes_of}
+use Rattle.proc_table.proofs.CommonNames.{nat_tests, ◌<◌, ◌≡◌, Some, None, ap, ◌∙◌, arith, get, IsNearest, down, anywhere, members, nodes_of}
 use Rattle.proc_table.proofs.Linked.{positive-members}
 use Rattle.proc_table.proofs.ListNodes.{list-ends, link-there, member-row}
 use Rattle.proc_table.proofs.Places.{IsPlace, place-last, passing-first, passing-on, place-found}
@@ -37,12 +33,7 @@ loop-next-init c =
     passing-first (members (nodes_of c.args.kin f)) c.args.list_owner c.args.pid c.links_of-ends.result.first (positive-members (nodes_of c.args.kin f) c.requires.linked) c.requires.positive list.first_is
 
 pub returns-then-number-pid-clause-prev : goal.returns-then-number-pid-clause-prev
-returns-then-number-pid-clause-prev c =
-    let f = get c.args.nodes.now in
-    let walk = rw c.in-Some-next.is at c.loop-next.invariant in
-    let its = member-row c.args.kin f c.in-Some-next.slot walk.next_is.0 c.index-in-Some-next.result.now walk.next_is.1 c.index-in-Some-next.ensures in
-    (place-found (members (nodes_of c.args.kin f)) c.args.list_owner c.args.pid c.loop-next.passed c.loop-next.prev (Some c.in-Some-next.slot) walk
-    (λ j node there on more. omega (arith, walk.next_is.4 j node there on more, ap (λ n. n.key) its, c.get-number.ensures.number, c.if-number-pid.true))).prev_is
+returns-then-number-pid-clause-prev c = grind (arith, nat_tests, member-row, place-found)
 
 pub loop-next-preserved : goal.loop-next-preserved
 loop-next-preserved c =

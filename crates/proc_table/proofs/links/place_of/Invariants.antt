@@ -1,7 +1,4 @@
-use Rattle.std.proofs.Common.{◌-◌}
-use Rattle.slab.specs.Slab.{get}
-use Rattle.proc_table.specs.Links.{members}
-use Rattle.proc_table.specs.ListNodes.{nodes_of}
+use Rattle.proc_table.proofs.CommonNames.{◌-◌, get, members, nodes_of}
 use Rattle.proc_table.proofs.Places.{HasPassed}
 use Rattle.proc_table.proofs.links.place_of.Given as goal
 

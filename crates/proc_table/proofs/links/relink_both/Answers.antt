@@ -1,5 +1,4 @@
-use Rattle.slab.specs.Slab.{get}
-use Rattle.proc_table.specs.declared.links.ListKind.TheVariants.{Tracees, Children}
+use Rattle.proc_table.proofs.CommonNames.{get, Tracees, Children}
 use Rattle.proc_table.proofs.LinkedLists.{head-kept}
 use Rattle.proc_table.proofs.links.relink_both.Goals as goal
 

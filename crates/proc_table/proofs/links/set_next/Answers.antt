@@ -1,5 +1,4 @@
-use Rattle.std.proofs.Common.{refl}
-use Rattle.slab.specs.Slab.{get}
+use Rattle.proc_table.proofs.CommonNames.{refl, get}
 use Rattle.proc_table.proofs.ListNodes.{put-first, put-next}
 use Rattle.proc_table.proofs.links.set_next.Goals as goal
 

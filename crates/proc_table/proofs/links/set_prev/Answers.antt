@@ -1,5 +1,4 @@
-use Rattle.std.proofs.Common.{refl}
-use Rattle.slab.specs.Slab.{get}
+use Rattle.proc_table.proofs.CommonNames.{refl, get}
 use Rattle.proc_table.proofs.ListNodes.{put-last, put-prev}
 use Rattle.proc_table.proofs.links.set_prev.Goals as goal
 

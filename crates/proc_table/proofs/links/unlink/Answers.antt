@@ -1,20 +1,14 @@
-use Rattle.std.proofs.Common.{ℕ, None, refl, ap, ◌∙◌}
-use Rattle.slab.specs.Slab.{get}
-use Rattle.std.specs.Option.{option_map}
-use Rattle.lwp_table.specs.Chain.{up, down, above, below}
-use Rattle.proc_table.specs.declared.links.Links.{Links}
-use Rattle.proc_table.specs.ListNodes.{node_of, nodes_of}
+use Rattle.proc_table.proofs.CommonNames.{nat_tests, arith, ℕ, None, refl, ap, ◌∙◌, get, option_map, up, down, above, below, Links, node_of, nodes_of}
 use Rattle.proc_table.proofs.Linked.{as_member, member-of, IsLinked-left}
 use Rattle.proc_table.proofs.ListNodes.{list-at, link-there, still-there}
 use Rattle.proc_table.proofs.links.unlink.Goals as goal
 
 pub set_next-requires-clause-at : goal.set_next-requires-clause-at
 set_next-requires-clause-at c =
-    let f = get c.args.nodes.now in
-    let list = list-at c.args.kin f c.requires.linked c.args.head c.args.list_owner c.requires.there in
+    let list = list-at c.args.kin (get c.args.nodes.now) c.requires.linked c.args.head c.args.list_owner c.requires.there in
     let node = node_of c.args.kin c.index.result.now in
-    rw (ap (λ (l : Links). l.prev) c.links_of-links.ensures) (link-there down c.args.kin f c.args.list_owner (below node.pid) node.prev
-    (list.3.prev_is c.args.slot (as_member node c.args.list_owner) (member-of (nodes_of c.args.kin f) c.args.slot node c.args.list_owner (ap (option_map (node_of c.args.kin)) c.index.ensures) (rw c.index.ensures at c.requires.its)) refl))
+    let near = list.3.prev_is c.args.slot (as_member node c.args.list_owner) (grind (arith, nat_tests)) refl in
+    rw (ap (λ (l : Links). l.prev) c.links_of-links.ensures) (link-there down c.args.kin (get c.args.nodes.now) c.args.list_owner (below node.pid) node.prev near)
 
 pub set_prev-requires-clause-at : goal.set_prev-requires-clause-at
 set_prev-requires-clause-at c =

@@ -1,6 +1,4 @@
-use Rattle.std.proofs.Common.{◌≡◌, ◌+◌, ◌*◌, ◌-◌, ◌++◌, map}
-use Rattle.std.specs.Prelude.{replicate}
-use Rattle.pid_blocks.specs.Blocks.{slot, rising}
+use Rattle.proc_table.proofs.CommonNames.{◌≡◌, ◌+◌, ◌*◌, ◌-◌, ◌++◌, map, replicate, slot, rising}
 use Rattle.proc_table.proofs.tables.cursors.Given as goal
 
 abbrev pub invariant-loop-user : goal.invariant-loop-user

@@ -1,6 +1,4 @@
-use Rattle.std.proofs.Common.{◌≡◌, true, count_by}
-use Rattle.trace_stop.proofs.CommonNames.{is_live, end, IsSound, is_live_at}
-use Rattle.process_end.specs.Descent.{kills, EndsToo}
+use Rattle.process_end.proofs.CommonNames.{◌≡◌, true, count_by, is_live, end, IsSound, is_live_at, kills, EndsToo}
 use Rattle.process_end.proofs.ends.end_with_tracees.Given as goal
 
 -- p is still to end, and its end makes what it would have made at first

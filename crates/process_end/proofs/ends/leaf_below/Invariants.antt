@@ -1,6 +1,4 @@
-use Rattle.std.proofs.Common.{ℕ, ◌-◌, length}
-use Rattle.trace_stop.specs.Laws.{chain}
-use Rattle.process_end.specs.Descent.{EndsToo}
+use Rattle.process_end.proofs.CommonNames.{ℕ, ◌-◌, length, chain, EndsToo}
 use Rattle.process_end.proofs.ends.leaf_below.Given as goal
 
 abbrev pub invariant-loop-tracee : goal.invariant-loop-tracee

@@ -1,6 +1,4 @@
-use Rattle.std.proofs.Common.{◌≡◌, true, count_by}
-use Rattle.trace_stop.proofs.CommonNames.{left_alone, IsSound, is_live_at}
-use Rattle.process_end.specs.Descent.{spares}
+use Rattle.process_end.proofs.CommonNames.{◌≡◌, true, count_by, left_alone, IsSound, is_live_at, spares}
 use Rattle.process_end.proofs.LeftAlone.{is_tracee}
 use Rattle.process_end.proofs.ends.leave_tracees.Given as goal
 

@@ -1,5 +1,5 @@
 use Rattle.process_end.proofs.laws.detached_end.Goals as goal
-use Rattle.process_end.proofs.Doomed as doomed
+use Rattle.process_end.proofs.LeafEnd as law
 
 pub returns : goal.returns
-returns c = doomed.detached_end
+returns c = law.detached_end

@@ -1,5 +1,5 @@
 use Rattle.process_end.proofs.laws.leaf_ends_first.Goals as goal
-use Rattle.process_end.proofs.LeafEndsFirst as leaf
+use Rattle.process_end.proofs.LeafEndsFirst as law
 
 pub returns : goal.returns
-returns c = leaf.leaf_ends_first
+returns c = law.leaf_ends_first

@@ -1,41 +1,20 @@
-use Rattle.std.proofs.Common.{◌≡◌, ◌||◌, true, false, rules, is_some}
+use Rattle.process_end.proofs.CommonNames.{◌≡◌, false, rules, found_row}
 use Rattle.proc_table.specs.Processes.{is_live}
-use Rattle.process_end.proofs.Orphans.{listed, child-ended, child_out, child_out-untraced, child-named, child_put, child_put-untraced}
-use Rattle.process_end.proofs.Unnamed.{zombie-tracees, zombie-children, zombie-lwps}
+use Rattle.process_end.proofs.Taken.{child_is_named, child_step, zombie_tracees, zombie_children, zombie_lwps}
 use Rattle.process_end.proofs.leaf.orphan_child.Goals as goal
 
 pub set_process-requires-clause-named : goal.set_process-requires-clause-named
-set_process-requires-clause-named c = child-named c.args.pid c.args.tables.now.rows c.args.tables.now.rows c.requires.kept c.requires.leaving c.args.child.now c.requires.there c.requires.untraced c.requires.child
+set_process-requires-clause-named c = search (rules, child_is_named)
 
 pub remove_process-requires : goal.remove_process-requires
-remove_process-requires c =
-    let rows = c.args.tables.now.rows in
-    let z = c.args.child.now in
-    let stays : (is_live z || is_some z.tracer) ≡ false = search rules in
-    let ended = child-ended c.args.pid rows rows c.requires.kept c.requires.leaving z c.requires.there c.requires.untraced c.requires.child stays in
-    record {
-      there = listed c.args.pid rows rows c.requires.kept c.requires.leaving z c.requires.there;
-      tracees = zombie-tracees c.args.pid rows c.requires.kept c.requires.leaving z c.requires.there ended;
-      children = zombie-children c.args.pid rows c.requires.kept c.requires.leaving z c.requires.there ended;
-      lwps = zombie-lwps c.args.pid rows c.requires.kept c.requires.leaving z c.requires.there ended;
-    }
+remove_process-requires c = let ended : is_live c.args.child.now ≡ false = search rules in search (rules, found_row, zombie_tracees, zombie_children, zombie_lwps)
 
 pub returns-then-stays : goal.returns-then-stays
 returns-then-stays c =
-    let rows = c.args.tables.now.rows in
-    let rows' = c.set_process.new.self.rows in
-    let z = c.args.child.now in
-    let q = c.args.pid in
-    let stays : (is_live z || is_some z.tracer) ≡ true = search rules in
-    let d = child_put q rows rows' c.requires.kept c.requires.leaving z c.requires.there c.requires.untraced c.requires.child stays c.set_process.ensures.rows in
-    record { leaving = d.leaving; untraced = child_put-untraced q rows rows' c.requires.kept c.requires.leaving z c.requires.there c.requires.untraced c.requires.child stays c.set_process.ensures.rows; fewer = d.fewer; same = d.same }
+    let d = child_step c.args.pid c.args.tables.now.rows c.set_process.new.self.rows c.requires.kept c.requires.leaving c.args.child.now c.requires.there c.requires.untraced c.requires.child (search rules) in
+    record { leaving = d.0.leaving; untraced = d.1; fewer = d.0.fewer; same = d.0.same }
 
 pub returns-else-stays : goal.returns-else-stays
 returns-else-stays c =
-    let rows = c.args.tables.now.rows in
-    let rows' = c.remove_process.new.self.rows in
-    let z = c.args.child.now in
-    let q = c.args.pid in
-    let stays : (is_live z || is_some z.tracer) ≡ false = search rules in
-    let d = child_out q rows rows' c.requires.kept c.requires.leaving z c.requires.there c.requires.untraced c.requires.child stays c.remove_process.ensures.rows in
-    record { leaving = d.leaving; untraced = child_out-untraced q rows rows' c.requires.kept c.requires.leaving z c.requires.there c.requires.untraced c.requires.child stays c.remove_process.ensures.rows; fewer = d.fewer; same = d.same }
+    let d = child_step c.args.pid c.args.tables.now.rows c.remove_process.new.self.rows c.requires.kept c.requires.leaving c.args.child.now c.requires.there c.requires.untraced c.requires.child (search rules) in
+    record { leaving = d.0.leaving; untraced = d.1; fewer = d.0.fewer; same = d.0.same }

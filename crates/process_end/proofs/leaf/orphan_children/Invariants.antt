@@ -1,7 +1,4 @@
-use Rattle.std.proofs.Common.{◌≡◌, ℕ, false, count_by, ◌==◌}
-use Rattle.trace_stop.proofs.CommonNames.{list_any, traces}
-use Rattle.process_end.specs.Laws.{end_alone}
-use Rattle.process_end.specs.Leaving.{IsLeaving}
+use Rattle.process_end.proofs.CommonNames.{◌≡◌, ℕ, false, count_by, ◌==◌, list_any, traces, end_alone, IsLeaving}
 use Rattle.process_end.proofs.leaf.orphan_children.Given as goal
 
 abbrev pub invariant-loop-child : goal.invariant-loop-child

@@ -1,7 +1,5 @@
-use Rattle.std.proofs.Common.{◌≡◌, ℕ, count_by}
+use Rattle.process_end.proofs.CommonNames.{◌≡◌, ℕ, count_by, end_alone, IsLeaving}
 use Rattle.proc_table.specs.Processes.{traces}
-use Rattle.process_end.specs.Laws.{end_alone}
-use Rattle.process_end.specs.Leaving.{IsLeaving}
 use Rattle.process_end.proofs.leaf.orphan_tracees.Given as goal
 
 abbrev pub invariant-loop-zombie : goal.invariant-loop-zombie

@@ -1,5 +1,4 @@
-use Rattle.std.proofs.Common.{◌≡◌, length}
-use Rattle.process_end.specs.Leaving.{without_lwps}
+use Rattle.process_end.proofs.CommonNames.{◌≡◌, length, without_lwps}
 use Rattle.process_end.proofs.leaf.remove_lwps.Given as goal
 
 abbrev pub invariant-loop-lwp : goal.invariant-loop-lwp

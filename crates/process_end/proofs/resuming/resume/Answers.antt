@@ -1,40 +1,14 @@
-use Rattle.std.proofs.Common.{◌≡◌, true, false, sym, ap, ◌∙◌, refl}
-use Rattle.trace_stop.proofs.CommonNames.{process_of, end, running, resumed, ends_process}
-use Rattle.trace_stop.proofs.Found.{live_found}
-use Rattle.trace_stop.proofs.StoppedByOwnLwp.{stopped_row, stopped_live}
-use Rattle.trace_stop.proofs.SoundAfterDetach.{resumed_sound, resumed_row}
+use Rattle.std.proofs.Common.{sym, ap, ◌∙◌, rules}
+use Rattle.trace_stop.specs.End.{end}
+use Rattle.process_end.proofs.Resumed.{runs_sound}
 use Rattle.process_end.proofs.resuming.resume.Goals as goal
 
-pub ends-ends-requires : goal.ends-ends-requires
-ends-ends-requires c = stopped_row c.args.pid c.args.tables.now.rows c.requires.stopped
-
-pub run_on-requires-clause-there : goal.run_on-requires-clause-there
-run_on-requires-clause-there c = stopped_row c.args.pid c.args.tables.now.rows c.requires.stopped
-
 pub end-requires-clause-sound : goal.end-requires-clause-sound
-end-requires-clause-sound c =
-    let rows = c.args.tables.now.rows in
-    let s = c.requires.stopped in
-    rw c.run_on.ensures (resumed_sound rows c.args.pid s.p c.requires.sound s.at (stopped_live c.args.pid rows s))
-
-pub end-requires-clause-live : goal.end-requires-clause-live
-end-requires-clause-live c =
-    let rows = c.args.tables.now.rows in
-    let pid = c.args.pid in
-    let s = c.requires.stopped in
-    rw c.run_on.ensures (live_found (resumed pid rows) pid (running s.p) (resumed_row rows pid s.p c.requires.sound s.at (stopped_live pid rows s)) refl)
+end-requires-clause-sound c = search (rules, runs_sound)
 
 pub returns-then-ends-clause-rows : goal.returns-then-ends-clause-rows
-returns-then-ends-clause-rows c =
-    let rows = c.args.tables.now.rows in
-    let pid = c.args.pid in
-    let test : ends_process c.args.pass (process_of pid rows.processes) ≡ true = sym c.ends-ends.ensures ∙ c.if-ends.true in
-    rw test (c.end.ensures.rows ∙ (ap (λ n. end c.args.settings pid n c.run_on.new.tables.rows) c.number.ensures.number ∙ ap (end c.args.settings pid c.args.pass) c.run_on.ensures))
+returns-then-ends-clause-rows c = rw (sym c.ends-ends.ensures ∙ c.if-ends.true)
+    (c.end.ensures.rows ∙ (ap (λ n. end c.args.settings c.args.pid n c.run_on.new.tables.rows) c.number.ensures.number ∙ ap (end c.args.settings c.args.pid c.args.pass) c.run_on.ensures))
 
 pub returns-else-ends : goal.returns-else-ends
-returns-else-ends c =
-    let rows = c.args.tables.now.rows in
-    let pid = c.args.pid in
-    let s = c.requires.stopped in
-    let test : ends_process c.args.pass (process_of pid rows.processes) ≡ false = sym c.ends-ends.ensures ∙ c.if-ends.false in
-    record { rows = rw test c.run_on.ensures; sound = rw c.run_on.ensures (resumed_sound rows pid s.p c.requires.sound s.at (stopped_live pid rows s)) }
+returns-else-ends c = record { rows = rw (sym c.ends-ends.ensures ∙ c.if-ends.false) c.run_on.ensures; sound = search (rules, runs_sound) }

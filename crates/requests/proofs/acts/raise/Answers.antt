@@ -1,12 +1,8 @@
 use Rattle.requests.proofs.CommonNames.{rules, ◌≡◌, ℕ, ◌≤◌, Some, refl, sym, ap, ◌∙◌, le-leb, LwpData, ProcData, Rows, Settings, post, raises}
-use Rattle.requests.proofs.Actors.{runs_live}
 use Rattle.requests.proofs.acts.raise.Goals as goal
 
 posts : (settings : Settings) (s : ℕ) (p : ProcData) (l : LwpData) (rows : Rows) → 1 ≤ s → s ≤ 31 → (raises settings s p l rows).rows ≡ post settings s (Some l.tid) p.pid rows
 posts settings s p l rows least greatest = rw (le-leb 1 s least, le-leb s 31 greatest) refl
-
-pub post_lwp-requires-clause-live : goal.post_lwp-requires-clause-live
-post_lwp-requires-clause-live c = runs_live c.args.p.now c.args.tables.now.rows c.requires.acting.process c.requires.runs
 
 pub returns-else-eq : goal.returns-else-eq
 returns-else-eq c =

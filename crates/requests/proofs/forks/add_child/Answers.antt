@@ -1,5 +1,5 @@
-use Rattle.requests.proofs.CommonNames.{◌≡◌, ℕ, Bool, false, Some, ◌++◌, ◌∷◌, [], List, refl, sym, subst, rules, IsSomeAnd, LwpData, born, has_lwp, lwp_of, ProcData, process_of, Rows, is_process}
-use Rattle.requests.proofs.CommonNames.{add_process, add_lwp, TableInvariant, Named, every_found, found_row, IsActing, HasLwp, forked, Due}
+use Rattle.requests.proofs.CommonNames.{◌≡◌, ℕ, Bool, false, Some, ◌++◌, ◌∷◌, [], List, refl, sym, subst, rules, IsSomeAnd, LwpData, born, has_lwp, lwp_of, ProcData, process_of, Rows, is_process, arith}
+use Rattle.requests.proofs.CommonNames.{nat_tests, add_process, add_lwp, TableInvariant, Named, every_found, found_row, IsActing, HasLwp, forked, Due}
 use Rattle.requests.proofs.Actors.{acting_has, lwp_added, has-lwp_added, has-process_added, has-stop}
 use Rattle.requests.proofs.forks.add_child.Goals as goal
 
@@ -20,11 +20,7 @@ pub stop-requires-clause-lwp : goal.stop-requires-clause-lwp
 stop-requires-clause-lwp c = rw (c.add_lwp.ensures.rows, c.add_process.ensures.rows, c.born.ensures) (child_found c.args.tid c.args.pid c.args.l.now.blocked c.args.tables.now.rows.lwps c.requires.own_fresh)
 
 pub returns-else-followed-clause-there : goal.returns-else-followed-clause-there
-returns-else-followed-clause-there c =
-    rw (c.add_lwp.ensures.rows, c.add_process.ensures.rows) (parent_there c.args.p.now.uid c.forked.result c.born.result c.args.p.now c.args.l.now c.args.tables.now.rows c.kept.ensures
-    (subst (λ (q : ProcData). is_process c.args.tables.now.rows q.pid ≡ false) (sym c.forked.ensures) c.requires.fresh) c.requires.acting)
+returns-else-followed-clause-there c = grind (arith, nat_tests, parent_there c.args.p.now.uid c.forked.result c.born.result c.args.p.now c.args.l.now c.args.tables.now.rows c.kept.ensures (subst (λ (q : ProcData). is_process c.args.tables.now.rows q.pid ≡ false) (sym c.forked.ensures) c.requires.fresh) c.requires.acting)
 
 pub returns-then-followed-clause-there : goal.returns-then-followed-clause-there
-returns-then-followed-clause-there c =
-    rw (c.stop.ensures.rows, c.add_lwp.ensures.rows, c.add_process.ensures.rows) (has-stop c.args.pid c.args.tid c.child_stop.result c.args.p.now.pid c.args.l.now.tid _ (parent_there c.args.p.now.uid c.forked.result c.born.result c.args.p.now c.args.l.now c.args.tables.now.rows c.kept.ensures
-    (subst (λ (q : ProcData). is_process c.args.tables.now.rows q.pid ≡ false) (sym c.forked.ensures) c.requires.fresh) c.requires.acting))
+returns-then-followed-clause-there c = grind (arith, nat_tests, has-stop, parent_there c.args.p.now.uid c.forked.result c.born.result c.args.p.now c.args.l.now c.args.tables.now.rows c.kept.ensures (subst (λ (q : ProcData). is_process c.args.tables.now.rows q.pid ≡ false) (sym c.forked.ensures) c.requires.fresh) c.requires.acting)

@@ -1,16 +1,10 @@
-use Rattle.requests.proofs.CommonNames.{◌≡◌, ◌<◌, rules, arith, ap, ◌∙◌, Some, None, ◌==◌}
+use Rattle.requests.proofs.CommonNames.{◌≡◌, rules, arith, ◌∙◌, Some, None, ◌==◌, nat_tests}
 use Rattle.proc_table.specs.Walks.{next_of}
-use Rattle.requests.proofs.Walk.{pids, above_first, listed_next, listed_all, next_over}
+use Rattle.requests.proofs.Walk.{listed_next, listed_all, next_over}
 use Rattle.requests.proofs.lists.pids_of.Goals as goal
 
-pub loop-p-init : goal.loop-p-init
-loop-p-init c = record { below = omega arith; listed = rw c.in_ok-pids.ensures.items (ap pids (above_first (λ p. p.uid == c.args.user) c.args.tables.now.rows.processes c.process_count.ensures.kept.in_own_blocks)) }
-
 pub loop-p-smaller : goal.loop-p-smaller
-loop-p-smaller c =
-    let at : next_of c.args.user c.loop-p.after c.args.tables.now.rows.processes ≡ Some c.in-Some.p = cc in
-    let over : c.loop-p.after < c.in-Some.p.pid = next_over (λ p. p.uid == c.args.user) c.loop-p.after c.args.tables.now.rows.processes c.in-Some.p at in
-    omega (arith, over, c.get-after.ensures.number, c.get-after.ensures.below)
+loop-p-smaller c = grind (arith, nat_tests, next_over (λ p. p.uid == c.args.user) c.loop-p.after c.args.tables.now.rows.processes c.in-Some.p cc)
 
 pub loop-p-preserved : goal.loop-p-preserved
 loop-p-preserved c =

@@ -1,4 +1,4 @@
-use Rattle.requests.proofs.CommonNames.{◌≡◌, true, sym, subst, IsSound, is_live_at, HasLwp}
+use Rattle.requests.proofs.CommonNames.{sym, subst, HasLwp, arith, nat_tests}
 use Rattle.requests.proofs.SoundAfterSignal.{taken_alike}
 use Rattle.requests.proofs.Actors.{acting_from, taken_there, taken_live}
 use Rattle.requests.proofs.lwp_turns.take_signal.Goals as goal
@@ -7,10 +7,4 @@ pub stop_with-requires : goal.stop_with-requires
 stop_with-requires c = subst (HasLwp c.args.p.now.pid c.args.l.now.tid) (sym c.drop_signal.ensures) (taken_there c.args.signal c.args.p.now c.args.l.now c.args.tables.now.rows c.requires.acting)
 
 pub take_untraced-requires : goal.take_untraced-requires
-take_untraced-requires c =
-    let rows = c.args.tables.now.rows in
-    let a = acting_from c.args.p.now c.args.l.now rows c.requires.sound c.requires.acting c.requires.runs in
-    record {
-      sound = subst IsSound (sym c.drop_signal.ensures) (taken_alike rows c.args.p.now c.args.l.now a c.args.signal).acting.sound;
-      live = subst (λ r. is_live_at c.args.p.now.pid r ≡ true) (sym c.drop_signal.ensures) (taken_live c.args.signal c.args.p.now c.args.l.now rows a);
-    }
+take_untraced-requires c = grind (arith, nat_tests, taken_alike c.args.tables.now.rows c.args.p.now c.args.l.now (acting_from c.args.p.now c.args.l.now c.args.tables.now.rows c.requires.sound c.requires.acting c.requires.runs) c.args.signal, taken_live c.args.signal c.args.p.now c.args.l.now c.args.tables.now.rows (acting_from c.args.p.now c.args.l.now c.args.tables.now.rows c.requires.sound c.requires.acting c.requires.runs))

@@ -1,13 +1,9 @@
 use Rattle.requests.proofs.CommonNames.{rules, ◌≡◌, ℕ, refl, sym, ap, ◌∙◌, disposition_of, default_action, LwpData, ProcData, Rows, Settings, end, takes_untraced, Action, Disposition}
-use Rattle.trace_stop.proofs.Found.{listed}
 use Rattle.requests.proofs.lwp_turns.take_untraced.Goals as goal
 
 ended : (settings : Settings) (s : ℕ) (p : ProcData) (l : LwpData) (rows : Rows) → disposition_of p.dispositions s ≡ Disposition.Default → default_action s ≡ Action.End
     → (takes_untraced settings s (disposition_of p.dispositions s) p l rows).rows ≡ end settings p.pid s rows
 ended settings s p l rows d a = rw (d, a) refl
-
-pub job_stop-requires : goal.job_stop-requires
-job_stop-requires c = listed c.args.tables.now.rows c.args.p.now.pid c.requires.live
 
 pub returns-in-End : goal.returns-in-End
 returns-in-End c =

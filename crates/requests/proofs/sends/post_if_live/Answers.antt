@@ -1,5 +1,5 @@
 use Rattle.requests.proofs.CommonNames.{None, sym, ap, ◌∙◌, post}
-use Rattle.requests.proofs.Sending.{passes_signal, live_posts, dead_posts}
+use Rattle.requests.proofs.Sending.{passes_signal, live_posts}
 use Rattle.requests.proofs.sends.post_if_live.Goals as goal
 
 pub returns-then-is_live-clause-rows : goal.returns-then-is_live-clause-rows
@@ -8,6 +8,3 @@ returns-then-is_live-clause-rows c =
     let its = passes_signal c.args.pass c.in-Some.signal (sym c.signal.ensures ∙ c.in-Some.is) in
     c.post.ensures.rows ∙ (ap (λ s. post c.args.settings s None c.args.pid rows) its.1
     ∙ sym (live_posts c.args.settings c.args.pass c.args.pid rows c.requires.sound.stands.rising (sym c.is_live.ensures ∙ c.if-is_live.true) its.0))
-
-pub returns-else-is_live-clause-rows : goal.returns-else-is_live-clause-rows
-returns-else-is_live-clause-rows c = sym (dead_posts c.args.settings c.args.pass c.args.pid c.args.tables.now.rows c.requires.sound.stands.rising (sym c.is_live.ensures ∙ c.if-is_live.false))

@@ -1,4 +1,4 @@
-use Rattle.requests.proofs.CommonNames.{◌≡◌, Some, sym, refl, ◌∙◌, subst, lwp_of, lwp_of-tid, change_lwp-at, HasLwp, in_mode}
+use Rattle.requests.proofs.CommonNames.{◌≡◌, sym, refl, ◌∙◌, subst, lwp_of-tid, change_lwp-at, HasLwp, in_mode, arith, nat_tests}
 use Rattle.requests.proofs.Tracees.{lwp_may_change}
 use Rattle.requests.proofs.Actors.{has-lwp_changed}
 use Rattle.requests.proofs.stopping.set_mode.Goals as goal
@@ -7,11 +7,7 @@ pub set_lwp-requires : goal.set_lwp-requires
 set_lwp-requires c = lwp_may_change c.args.tid c.unwrap-l.result c.args.tables.now.rows (sym c.lwp.ensures.row ∙ c.unwrap-l.ensures)
 
 done : (c : goal.After-set_lwp) → c.set_lwp.new.self.rows ≡ in_mode c.args.mode c.args.tid c.args.tables.now.rows
-done c =
-    let rows = c.args.tables.now.rows in
-    let l = c.unwrap-l.result in
-    let at : lwp_of c.args.tid rows.lwps ≡ Some l = sym c.lwp.ensures.row ∙ c.unwrap-l.ensures in
-    c.set_lwp.ensures.rows ∙ sym (change_lwp-at c.args.tid (λ k. record k { mode = c.args.mode }) rows l c.lwp.ensures.kept.differ at (lwp_of-tid c.args.tid l rows.lwps at))
+done c = grind (arith, nat_tests, change_lwp-at c.args.tid (λ k. record k { mode = c.args.mode }) c.args.tables.now.rows c.unwrap-l.result c.lwp.ensures.kept.differ (sym c.lwp.ensures.row ∙ c.unwrap-l.ensures) (lwp_of-tid c.args.tid c.unwrap-l.result c.args.tables.now.rows.lwps (sym c.lwp.ensures.row ∙ c.unwrap-l.ensures)))
 
 pub returns-clause-rows : goal.returns-clause-rows
 returns-clause-rows c = done c

@@ -1,5 +1,4 @@
-use Rattle.std.proofs.Common.{refl, sym, ap, ◌∙◌, rules}
-use Rattle.trace_stop.proofs.CommonNames.{without}
+use Rattle.trace_stop.proofs.CommonNames.{refl, rules}
 use Rattle.trace_stop.proofs.Bits.{none_without}
 use Rattle.trace_stop.specs.Edits.{pending_taken}
 use Rattle.trace_stop.proofs.edits.take_pending.Goals as goal
@@ -12,5 +11,5 @@ edit_pending_lwps-requires-clause-change c = (
     number = λ l. refl;
     process = λ l. refl;
   },
-  λ l quiet. ap (λ x. record l { pending = x }) (ap (λ x. without (without x c.args.opposed) c.args.lost) quiet ∙ ap (λ x. without x c.args.lost) (none_without c.args.opposed) ∙ none_without c.args.lost ∙ sym quiet),
+  λ l quiet. rw quiet (simp none_without),
 )

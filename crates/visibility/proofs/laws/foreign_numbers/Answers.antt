@@ -1,6 +1,4 @@
-use Rattle.std.proofs.Common.{map}
-use Rattle.requests.proofs.SoundHostIsApart.{users_are_apart_in_a_sound_host}
-use Rattle.visibility.specs.Runs.{asked, told}
+use Rattle.visibility.proofs.CommonNames.{map, users_are_apart_in_a_sound_host, asked, told}
 use Rattle.visibility.proofs.ForeignLists.{foreign_runs}
 use Rattle.visibility.proofs.laws.foreign_numbers.Goals as goal
 

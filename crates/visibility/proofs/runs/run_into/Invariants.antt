@@ -1,8 +1,5 @@
 -- what was handed over so far is a run of the machine
-use Rattle.std.proofs.Common.{◌≡◌, ◌+◌, ◌++◌, map, length, vec_len, vec_capacity}
-use Rattle.std.specs.Vec.Iter.{into_iter_items, into_iter_len}
-use Rattle.requests.specs.Isolation.{Ran, Users}
-use Rattle.visibility.specs.Runs.{asked, told, Wanting}
+use Rattle.visibility.proofs.CommonNames.{◌≡◌, ◌+◌, ◌++◌, map, length, vec_len, vec_capacity, into_iter_items, into_iter_len, Ran, Users, asked, told, Wanting}
 use Rattle.visibility.proofs.runs.run_into.Given as goal
 
 abbrev pub invariant-loop-user : goal.invariant-loop-user

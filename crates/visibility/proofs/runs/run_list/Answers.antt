@@ -1,6 +1,4 @@
-use Rattle.std.proofs.Common.{map}
-use Rattle.requests.proofs.SoundHostIsApart.{users_are_apart_in_a_sound_host}
-use Rattle.visibility.specs.Runs.{asked, told}
+use Rattle.visibility.proofs.CommonNames.{map, users_are_apart_in_a_sound_host, asked, told}
 use Rattle.visibility.proofs.Answered.{runs_are_private}
 use Rattle.visibility.proofs.runs.run_list.Goals as goal
 

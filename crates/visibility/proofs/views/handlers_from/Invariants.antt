@@ -1,5 +1,4 @@
-use Rattle.std.proofs.Common.{◌≡◌, ◌++◌, ◌-◌, ◌≤◌, map, drop, length}
-use Rattle.requests.specs.Machine.{installed_by}
+use Rattle.visibility.proofs.CommonNames.{◌≡◌, ◌++◌, ◌-◌, ◌≤◌, map, drop, length, installed_by}
 use Rattle.visibility.proofs.views.handlers_from.Given as goal
 
 abbrev pub invariant-loop-pair : goal.invariant-loop-pair

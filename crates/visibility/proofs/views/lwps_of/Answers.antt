@@ -1,9 +1,6 @@
-use Rattle.std.proofs.Common.{◌≡◌, rules, arith, ap, sym, ◌∙◌, Some, Bool}
-use Rattle.std.specs.Prelude.{slice_get, is_some}
-use Rattle.std.proofs.lemmas.Option.{slice_get_within}
-use Rattle.proc_table.specs.Seen.{owns}
-use Rattle.lwp_table.specs.declared.LwpData.{LwpData}
-use Rattle.visibility.proofs.Walked.{any_found, had_next, out_next, all_had}
+use Rattle.visibility.proofs.CommonNames.{◌≡◌, rules, arith, ap, sym, ◌∙◌, Some, Bool, slice_get, is_some, slice_get_within, owns, LwpData}
+use Rattle.visibility.proofs.Walked.{had_next, out_next, all_had}
+use Rattle.lwp_table.proofs.Numbered.{any-found}
 use Rattle.visibility.proofs.Counted.{lwps_fit}
 use Rattle.visibility.proofs.views.lwps_of.Goals as goal
 use Rattle.visibility.proofs.views.lwps_of.Goals.{then-is_some+in_ok-push, else-is_some}
@@ -19,7 +16,7 @@ loop-l-preserved c =
     let at : slice_get c.args.tables.now.rows.lwps c.loop-l.place ≡ Some c.in-Some.l = cc in
     let here = slice_get_within c.args.tables.now.rows.lwps c.loop-l.place c.in-Some.l at in
     let mine : LwpData → Bool = (λ w. owns c.args.user w.pid c.args.tables.now.rows.processes) in
-    let owned : c.is_some.result ≡ owns c.args.user c.in-Some.l.pid c.args.tables.now.rows.processes = rw (← c.get.ensures.number) (c.is_some.ensures ∙ ap is_some c.seen_process.ensures.row ∙ any_found _ c.args.tables.now.rows.processes) in
+    let owned : c.is_some.result ≡ owns c.args.user c.in-Some.l.pid c.args.tables.now.rows.processes = rw (← c.get.ensures.number) (c.is_some.ensures ∙ ap is_some c.seen_process.ensures.row ∙ sym (any-found _ c.args.tables.now.rows.processes)) in
     record {
       within = omega (arith, here);
       kept = elim c.if-is_some.branch [

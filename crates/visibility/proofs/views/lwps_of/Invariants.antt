@@ -1,5 +1,4 @@
-use Rattle.std.proofs.Common.{◌≡◌, ◌++◌, ◌-◌, ◌≤◌, filter, drop, length}
-use Rattle.proc_table.specs.Seen.{owns}
+use Rattle.visibility.proofs.CommonNames.{◌≡◌, ◌++◌, ◌-◌, ◌≤◌, filter, drop, length, owns}
 use Rattle.visibility.proofs.views.lwps_of.Given as goal
 
 abbrev pub invariant-loop-l : goal.invariant-loop-l

@@ -1,6 +1,4 @@
-use Rattle.std.proofs.Common.{◌≡◌, ◌++◌, ◌-◌, ◌<◌, ◌==◌}
-use Rattle.proc_table.specs.Processes.{of_user}
-use Rattle.requests.proofs.Walk.{above}
+use Rattle.visibility.proofs.CommonNames.{◌≡◌, ◌++◌, ◌-◌, ◌<◌, ◌==◌, of_user, above}
 use Rattle.visibility.proofs.views.processes_of.Given as goal
 
 abbrev pub invariant-loop-p : goal.invariant-loop-p

@@ -1,4 +1,4 @@
-use Rattle.std.proofs.Common.{◌≡◌, [], ◌∷◌, rules}
+use Rattle.host_lock.proofs.CommonNames.{◌≡◌, [], ◌∷◌, rules}
 use Rattle.host_lock.proofs.Journey.{badge_settles}
 use Rattle.host_lock.proofs.host.SharedHost.call.Goals as goal
 

@@ -1,12 +1,4 @@
-use Rattle.std.proofs.Common.{◌≡◌, List, sym, ap, subst}
-use Rattle.atomic_table.specs.Table.{Me}
-use Rattle.host_lock.specs.Views.{View}
-use Rattle.host_lock.specs.declared.view.Slot.{Slot}
-use Rattle.host_lock.specs.declared.journal.Entry.{Entry}
-use Rattle.host_lock.specs.History.{History}
-use Rattle.host_lock.specs.Journal.{StartsWith}
-use Rattle.host_lock.specs.Rule.{Each, Matches}
-use Rattle.host_lock.specs.Sessions.{InJournal}
+use Rattle.host_lock.proofs.CommonNames.{◌≡◌, List, sym, ap, subst, Me, View, Slot, Entry, History, StartsWith, Each, Matches, InJournal}
 use Rattle.host_lock.proofs.Closings.{stand, each_reverse}
 use Rattle.host_lock.proofs.Totals.{all_of}
 use Rattle.host_lock.proofs.host.SharedHost.finish.Goals as goal

@@ -1,4 +1,4 @@
-use Rattle.std.proofs.Common.{refl, sym, ◌∙◌, length, eqb-true}
+use Rattle.host_lock.proofs.CommonNames.{refl, sym, ◌∙◌, length, eqb-true}
 use Rattle.host_lock.proofs.host.SharedHost.open_for.Goals as goal
 
 pub returns-then-is_empty-clause-refuses : goal.returns-then-is_empty-clause-refuses

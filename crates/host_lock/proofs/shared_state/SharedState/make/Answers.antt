@@ -1,8 +1,4 @@
-use Rattle.std.proofs.Common.{◌≡◌, List, [], ◌∷◌, ◌++◌, ◌∙◌, sym, ap, subst}
-use Rattle.requests.specs.Isolation.{Users}
-use Rattle.requests.specs.Plain.{PlainStep}
-use Rattle.host_lock.specs.declared.journal.Entry.{Entry}
-use Rattle.host_lock.specs.Journal.{asked, entry}
+use Rattle.host_lock.proofs.CommonNames.{◌≡◌, List, [], ◌∷◌, ◌++◌, ◌∙◌, sym, ap, subst, Users, PlainStep, Entry, asked, entry}
 use Rattle.host_lock.proofs.Logs.{made, users_more}
 use Rattle.host_lock.proofs.shared_state.SharedState.make.Goals as goal
 

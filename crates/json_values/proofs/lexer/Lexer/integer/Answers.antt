@@ -1,9 +1,4 @@
-use Rattle.std.proofs.Common.{◌≡◌, ◌+◌, ◌<◌, ◌∷◌, drop, get_or, Some, sym, ap, ◌∙◌, w64, arith}
-use Rattle.std.proofs.lemmas.Int.{to_z_pos, ints}
-use Rattle.json.specs.Lex.{between, lex, token}
-use Rattle.json.specs.Token.{number}
-use Rattle.json.specs.Word.{head}
-use Rattle.json_values.specs.Lexing.{IsWholeAt, piece}
+use Rattle.json_values.proofs.CommonNames.{◌≡◌, ◌+◌, ◌<◌, ◌∷◌, drop, get_or, Some, sym, ap, ◌∙◌, w64, arith, to_z_pos, ints, between, lex, token, number, head, IsWholeAt, piece}
 use Rattle.json_values.proofs.Texts.{head_at, negative_number, negative_value, past_number, whole_number, whole_value}
 use Rattle.json_values.proofs.lexer.Lexer.integer.Goals as goal
 

@@ -1,7 +1,4 @@
-use Rattle.std.proofs.Common.{◌≡◌, ◌+◌, ◌&&◌, nat_eq, true, length, drop, sym, ap, ◌∙◌}
-use Rattle.json.specs.Word.{ends_word}
-use Rattle.std.specs.List.{starts_with}
-use Rattle.json.specs.Lex.{between, lex}
+use Rattle.json_values.proofs.CommonNames.{◌≡◌, ◌+◌, ◌&&◌, nat_eq, true, length, drop, sym, ap, ◌∙◌, ends_word, starts_with, between, lex}
 use Rattle.json_values.proofs.Texts.{past_literal}
 use Rattle.json_values.proofs.lexer.Lexer.literal.Goals as goal
 

@@ -1,6 +1,4 @@
-use Rattle.std.proofs.Common.{◌<◌, ◌≤◌, get_or, length, ap, ◌∙◌, ⊎_elim, arith}
-use Rattle.std.proofs.lemmas.Bool.{cases_lt, eq-eqb}
-use Rattle.std.proofs.lemmas.List.{get_or_default, get_or_past}
+use Rattle.json_values.proofs.CommonNames.{◌<◌, ◌≤◌, get_or, length, ap, ◌∙◌, ⊎_elim, arith, cases_lt, eq-eqb, get_or_default, get_or_past}
 use Rattle.json_values.proofs.tokens.Tokens.new.Goals as goal
 
 pub new-requires : goal.new-requires

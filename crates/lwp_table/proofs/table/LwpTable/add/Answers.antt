@@ -1,7 +1,5 @@
-use Rattle.std.proofs.Common.{ap, sym, ◌∙◌, arith}
+use Rattle.lwp_table.proofs.CommonNames.{ap, sym, ◌∙◌, arith, has_lwp, ends_at}
 use Rattle.slab.specs.Slab.{get as slot_get}
-use Rattle.lwp_table.specs.Lwps.{has_lwp}
-use Rattle.lwp_table.specs.Kept.{ends_at}
 use Rattle.lwp_table.proofs.WordLemmas.{both_calm, lwp_of-fresh}
 use Rattle.lwp_table.proofs.KeptLemmas.{HasJoined, own_count, all_count, rows-added, LwpTableInvariant-added}
 use Rattle.lwp_table.proofs.table.LwpTable.add.Goals.{After-insert}

@@ -1,13 +1,10 @@
-use Rattle.std.proofs.Common.{◌+◌, ◌<◌, refl, sym, ap, subst, ◌∙◌, is_some, true≢false, arith}
-use Rattle.std.specs.Fn.{FnReturnsAt}
+use Rattle.lwp_table.proofs.CommonNames.{nat_tests, rules, ◌+◌, refl, sym, ap, ◌∙◌, is_some, true≢false, arith, FnReturnsAt, option_map, Updates-with_value, own_node, may_pend, IsIndexed}
 use Rattle.std.proofs.lemmas.Fn.{says_at}
-use Rattle.std.specs.Option.{option_map}
-use Rattle.slab.specs.Slab.{get as slot_get, with_value}
-use Rattle.slab.proofs.SlabLemmas.{Updates-with_value}
-use Rattle.lwp_table.specs.Kept.{own_node, may_pend, IsIndexed}
+use Rattle.slab.specs.Slab.{get as slot_get}
 use Rattle.lwp_table.proofs.WordLemmas.{both_calm}
 use Rattle.lwp_table.proofs.KeptLemmas.{LwpTableInvariant-may, LwpTableInvariant-marked}
-use Rattle.lwp_table.proofs.EditLemmas.{left_at, left_in, unsaid, unsaid-own, editing-first, editing-there, here, old_row, editing-on, seen-on, seen-all, LwpTableInvariant-edited, editing-less, len-same, rows_of-edited}
+use Rattle.lwp_table.proofs.EditLemmas.{left_at, left_in, unsaid, unsaid-own, editing-first, editing-there, here, old_row, editing-on, seen-on, seen-all, LwpTableInvariant-edited, editing-less}
+use Rattle.lwp_table.proofs.EditLemmas.{len-same, rows_of-edited}
 use Rattle.lwp_table.proofs.table.LwpTable.edit_of.Goals as goal
 
 pub loop-link-init : goal.loop-link-init
@@ -27,30 +24,10 @@ loop-link-init g c = record {
 }
 
 pub index_mut-slot-requires : goal.index_mut-slot-requires
-index_mut-slot-requires g c =
-    let walk = rw c.in-Some.is at c.loop-link.invariant.walk.1 in
-    let there = editing-there (slot_get c.self.inside.rows) (slot_get c.loop-link.self-inside.rows) (FnReturnsAt g.F.Fn c.args.edit) c.args.pid c.loop-link.invariant.walk.0 c.in-Some.at walk in
-    ap is_some there.1
+index_mut-slot-requires g c = grind (arith, nat_tests, editing-there)
 
 pub loop-link-smaller : goal.loop-link-smaller
-loop-link-smaller g c =
-    let f = slot_get c.loop-link.self-inside.rows in
-    let old = c.index_mut-slot.result.now in
-    let new = c.edit-slot.result in
-    let kept = c.loop-link.invariant.kept in
-    let walk = rw c.in-Some.is at c.loop-link.invariant.walk.1 in
-    let gave : FnReturnsAt g.F.Fn c.args.edit old.row new = says_at g.F.Fn c.edit-slot.ensures refl in
-    let there = old_row (slot_get c.self.inside.rows) f (FnReturnsAt g.F.Fn c.args.edit) c.args.pid c.loop-link.invariant.walk.0 c.in-Some.at walk old c.index_mut-slot.ensures.value
-    c.self.inside.slots.entries c.self.inside.births c.args.self.now.rows c.self.invariant.indexed (ap (λ v. v.rows) c.self.view_is) in
-    let its = c.requires.keeps old.row new there gave in
-    let updates = Updates-with_value c.loop-link.self-inside.rows c.in-Some.at (record old { row = new }) (ap is_some c.index_mut-slot.ensures.value) in
-    let on = here (slot_get c.self.inside.rows) f (FnReturnsAt g.F.Fn c.args.edit) c.args.pid c.loop-link.invariant.walk.0 c.in-Some.at walk old c.index_mut-slot.ensures.value in
-    let further = editing-on (slot_get c.self.inside.rows) f (FnReturnsAt g.F.Fn c.args.edit) c.args.pid c.loop-link.invariant.walk.0 c.in-Some.at walk old c.index_mut-slot.ensures.value new _ its.1 gave updates.changed updates.others
-    kept.indexed.apart ((kept.own c.args.pid).next_is c.in-Some.at (own_node old) (ap (option_map own_node) c.index_mut-slot.ensures.value) on.0) in
-    let births = c.loop-link.self-inside.births in
-    let left = ap (left_at f births) c.in-Some.is ∙ ap (left_in births) c.index_mut-slot.ensures.value in
-    let less = editing-less (slot_get c.self.inside.rows) _ (FnReturnsAt g.F.Fn c.args.edit) c.args.pid births old.born old.own.next further (kept.indexed.earlier c.in-Some.at old c.index_mut-slot.ensures.value) in
-    subst (λ n. left_at (slot_get (with_value c.loop-link.self-inside.rows c.in-Some.at (record old { row = new }))) births old.own.next < n) (sym left) less
+loop-link-smaller g c = search (rules, says_at, old_row, here, editing-on, left_at, left_in, editing-less)
 
 pub loop-link-preserved : goal.loop-link-preserved
 loop-link-preserved g c =

@@ -1,7 +1,4 @@
-use Rattle.std.proofs.Common.{◌≡◌, ℕ, true, cond, nat_eq}
-use Rattle.std.specs.Fn.{FnReturnsAt}
-use Rattle.slab.specs.Slab.{get, slab_len}
-use Rattle.lwp_table.specs.Kept.{may_pend, LwpTableInvariant}
+use Rattle.lwp_table.proofs.CommonNames.{◌≡◌, ℕ, true, cond, nat_eq, FnReturnsAt, get, slab_len, may_pend, LwpTableInvariant}
 use Rattle.lwp_table.proofs.EditLemmas.{IsEditing, IsSeen, left_at}
 use Rattle.lwp_table.proofs.table.LwpTable.edit_of.Given as goal
 

@@ -1,5 +1,5 @@
+use Rattle.lwp_table.proofs.CommonNames.{all_node}
 use Rattle.slab.specs.Slab.{get as slot_get}
-use Rattle.lwp_table.specs.Kept.{all_node}
 use Rattle.lwp_table.proofs.WalkLemmas.{IsWalk-first}
 use Rattle.lwp_table.proofs.table.LwpTable.iter.Goals as goal
 

@@ -1,4 +1,4 @@
-use Rattle.std.proofs.Common.{None, ap, slice_index_or}
+use Rattle.lwp_table.proofs.CommonNames.{None, ap, slice_index_or}
 use Rattle.slab.specs.Slab.{get as slot_get}
 use Rattle.lwp_table.proofs.KeptLemmas.{LwpTableInvariant-none}
 use Rattle.lwp_table.proofs.table.LwpTable.new.Goals as goal

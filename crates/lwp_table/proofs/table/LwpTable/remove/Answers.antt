@@ -1,32 +1,23 @@
-use Rattle.std.proofs.Common.{ap, sym, ◌∙◌, ◌&&◌, is_some, is_none, arith, cond, nat_eq}
+use Rattle.lwp_table.proofs.CommonNames.{nat_tests, ap, sym, ◌∙◌, ◌&&◌, is_some, is_none, arith, cond, nat_eq, Ends, ends_at}
 use Rattle.slab.specs.Slab.{get as slot_get}
-use Rattle.lwp_table.specs.declared.links.Ends.{Ends}
-use Rattle.lwp_table.specs.Kept.{place_of, ends_at}
 use Rattle.lwp_table.proofs.IndexLemmas.{some_of, slot_for, lwp_of-found}
 use Rattle.lwp_table.proofs.KeptLemmas.{HasLeft, neighbours, own_positive, user_positive, left_empty, LwpTableInvariant-removed, rows-removed}
 use Rattle.lwp_table.proofs.table.LwpTable.remove.Goals.{After-without}
 use Rattle.lwp_table.proofs.table.LwpTable.remove.Goals as goal
 
 pub unwrap-slot-requires : goal.unwrap-slot-requires
-unwrap-slot-requires c =
-    let row = some_of _ (rw (← c.self.view_is, ← c.get-number.ensures.number) at c.requires) in
-    ap is_some (c.get.ensures ∙ (slot_for (slot_get c.self.inside.rows) _ _ c.self.invariant.indexed c.get-number.result row.0 row.1).2)
+unwrap-slot-requires c = grind (arith, nat_tests, some_of, slot_for (slot_get c.self.inside.rows) _ _ c.self.invariant.indexed c.get-number.result)
 
 pub close_up-requires : goal.close_up-requires
-close_up-requires c =
-    let there = neighbours c.self.invariant c.unwrap-slot.result c.remove-gone.result c.remove-gone.ensures.value (slot_get c.remove-gone.new.self) c.remove-gone.ensures.updates.others in
-    record { own_prev = there.0; own_next = there.1; all_prev = there.2; all_next = there.3 }
+close_up-requires c = grind (arith, nat_tests, neighbours c.self.invariant c.unwrap-slot.result c.remove-gone.result c.remove-gone.ensures.value (slot_get c.remove-gone.new.self) c.remove-gone.ensures.updates.others)
 
 pub without-requires : goal.without-requires
-without-requires c =
-    let own = c.ends_of-own.ensures ∙ ap (ends_at c.self.inside.heads.entries) c.get-pid.ensures.number in
-    omega (arith, ap (λ (e : Ends). e.count) own, own_positive c.self.invariant c.unwrap-slot.result c.remove-gone.result c.remove-gone.ensures.value)
+without-requires c = grind (arith, nat_tests, own_positive c.self.invariant c.unwrap-slot.result c.remove-gone.result)
 
 pub overflow_sub-self : goal.overflow_sub-self
 overflow_sub-self c =
-    let gone = c.remove-gone.result in
-    let tid = (lwp_of-found (slot_get c.self.inside.rows) _ _ c.self.invariant.indexed c.get-number.result c.unwrap-slot.result gone (sym c.get.ensures ∙ c.unwrap-slot.ensures) c.remove-gone.ensures.value).0 in
-    omega (arith, user_positive c.self.invariant c.unwrap-slot.result gone c.remove-gone.ensures.value c.user_place.result (c.user_place.ensures.place ∙ ap place_of (sym (tid ∙ c.get-number.ensures.number))) c.user_place.ensures.below)
+    let found = lwp_of-found (slot_get c.self.inside.rows) _ _ c.self.invariant.indexed c.get-number.result c.unwrap-slot.result c.remove-gone.result in
+    grind (arith, nat_tests, found, user_positive c.self.invariant c.unwrap-slot.result c.remove-gone.result)
 
 -- what the steps up to the new ends establish
 leaves : (c : After-without) → HasLeft (slot_get c.self.inside.rows) c.self.inside.slots.entries c.self.inside.heads.entries c.args.tid c.unwrap-slot.result c.remove-gone.result (slot_get c.close_up.new.slots) c.remove.new.self.entries c.without.result

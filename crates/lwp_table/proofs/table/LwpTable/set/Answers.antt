@@ -1,14 +1,11 @@
-use Rattle.std.proofs.Common.{sym, ap, ◌∙◌, is_some}
+use Rattle.lwp_table.proofs.CommonNames.{nat_tests, arith, sym, ap, ◌∙◌, is_some, Updates-with_value}
 use Rattle.slab.specs.Slab.{get as slot_get}
-use Rattle.slab.proofs.SlabLemmas.{Updates-with_value}
 use Rattle.lwp_table.proofs.IndexLemmas.{some_and, slot_for}
 use Rattle.lwp_table.proofs.KeptLemmas.{pids, noted, LwpTableInvariant-noted, LwpTableInvariant-set, rows-set}
 use Rattle.lwp_table.proofs.table.LwpTable.set.Goals as goal
 
 pub unwrap-slot-requires : goal.unwrap-slot-requires
-unwrap-slot-requires c =
-    let row = some_and _ _ (rw (← c.self.view_is, ← c.get-number.ensures.number) at c.requires) in
-    ap is_some (c.get.ensures ∙ (slot_for (slot_get c.self.inside.rows) _ _ c.self.invariant.indexed c.get-number.result row.0 row.1).2)
+unwrap-slot-requires c = grind (arith, nat_tests, some_and, slot_for (slot_get c.self.inside.rows) _ _ c.self.invariant.indexed c.get-number.result)
 
 pub invariant_of-self : goal.invariant_of-self
 invariant_of-self c =

@@ -1,4 +1,4 @@
-use Rattle.std.proofs.Common.{ap}
+use Rattle.lwp_table.proofs.CommonNames.{ap}
 use Rattle.lwp_table.proofs.CloneLemmas.{slots-same}
 use Rattle.lwp_table.proofs.table.LwpTableClone.clone.Goals as goal
 

@@ -1,7 +1,4 @@
-use Rattle.std.proofs.Common.{Some, ap, ◌∙◌, arith, nat_eq}
-use Rattle.std.specs.List.{list_any}
-use Rattle.slab.specs.Slab.{get}
-use Rattle.proc_table.specs.ListNodes.{rows_of}
+use Rattle.proc_table.proofs.CommonNames.{nat_tests, arith, get, rows_of}
 use Rattle.proc_table.proofs.Slots.{tally-below}
 use Rattle.proc_table.proofs.Tied.{IsBorn, IsRehung, picked, head-row, added-are_linked, added-head, added}
 use Rattle.proc_table.proofs.processes.Processes.add.Goals.{After-insert, After-slot}
@@ -9,14 +6,7 @@ use Rattle.proc_table.proofs.processes.Processes.add.Goals as goal
 
 -- what the steps up to the index establish
 born : (c : After-insert) → IsBorn (get c.self.inside.nodes) c.self.inside.slots.entries c.args.row c.insert_reserved-slot.result (get c.insert_reserved-slot.new.self) c.insert.new.self.entries
-born c = record {
-  vacant = c.insert_reserved-slot.ensures.was_vacant;
-  has = c.insert_reserved-slot.ensures.updates.changed ∙ ap Some c.unlinked.ensures;
-  others = c.insert_reserved-slot.ensures.updates.others;
-  change = rw c.get.ensures.number at c.insert.ensures.updates;
-  fresh = ap (λ v. list_any (λ p. nat_eq p.pid c.args.row.pid) v.rows) c.self.view_is ∙ c.requires.fresh;
-  home = c.requires.home;
-}
+born c = grind (arith, nat_tests)
 
 pub relink_both-requires-clause-are_linked : goal.relink_both-requires-clause-are_linked
 relink_both-requires-clause-are_linked c = added-are_linked c.self.invariant (born (goal.at.relink_both-requires-clause-are_linked c).After-insert)

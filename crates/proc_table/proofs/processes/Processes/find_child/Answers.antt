@@ -1,4 +1,4 @@
-use Rattle.std.proofs.Common.{◌≢◌, ◌∙◌, arith}
+use Rattle.proc_table.proofs.CommonNames.{◌≢◌, ◌∙◌, arith}
 use Rattle.proc_table.proofs.Firsts.{child_found}
 use Rattle.proc_table.proofs.processes.Processes.find_child.Goals as goal
 

@@ -1,5 +1,4 @@
-use Rattle.std.proofs.Common.{ap, get_or, None}
-use Rattle.slab.specs.Slab.{get}
+use Rattle.proc_table.proofs.CommonNames.{ap, get_or, None, get}
 use Rattle.proc_table.proofs.Tied.{tied-none}
 use Rattle.proc_table.proofs.processes.Processes.new.Goals as goal
 

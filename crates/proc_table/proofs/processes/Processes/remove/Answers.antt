@@ -1,16 +1,11 @@
-use Rattle.std.proofs.Common.{ap, sym, ◌∙◌, is_some, arith}
-use Rattle.slab.specs.Slab.{get}
-use Rattle.proc_table.specs.Processes.{process_of}
-use Rattle.proc_table.specs.ListNodes.{next_named, rows_of}
+use Rattle.proc_table.proofs.CommonNames.{nat_tests, ap, sym, ◌∙◌, arith, get, next_named, rows_of}
 use Rattle.proc_table.proofs.Slots.{slot_there}
 use Rattle.proc_table.proofs.Tied.{IsWithout, removed}
 use Rattle.proc_table.proofs.processes.Processes.remove.Goals.{After-slot}
 use Rattle.proc_table.proofs.processes.Processes.remove.Goals as goal
 
 pub unwrap-slot-requires : goal.unwrap-slot-requires
-unwrap-slot-requires c =
-    let there = ap (λ v. is_some (process_of c.args.pid v.rows)) c.self.view_is ∙ c.requires.there in
-    rw (c.get.ensures, c.get-number.ensures.number) (slot_there (rows_of (get c.self.inside.nodes)) c.self.inside.slots.entries c.self.inside.counts c.self.invariant.slotted c.args.pid there)
+unwrap-slot-requires c = grind (arith, nat_tests, slot_there (rows_of (get c.self.inside.nodes)) c.self.inside.slots.entries c.self.inside.counts c.self.invariant.slotted c.args.pid)
 
 -- what is then kept, and of which rows
 after : (c : After-slot) → IsWithout (get c.self.inside.nodes) c.self.inside.slots.entries c.self.inside.counts c.args.pid c.remove-gone.result.row.uid (get c.remove-gone.new.self) c.remove.new.self.entries

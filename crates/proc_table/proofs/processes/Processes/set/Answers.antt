@@ -1,7 +1,4 @@
-use Rattle.std.proofs.Common.{Some, ap, sym, ◌∙◌, is_some}
-use Rattle.slab.specs.Slab.{get, with_value}
-use Rattle.slab.proofs.SlabLemmas.{Updates-with_value}
-use Rattle.proc_table.specs.ListNodes.{rows_of}
+use Rattle.proc_table.proofs.CommonNames.{nat_tests, arith, Some, ap, sym, ◌∙◌, is_some, get, with_value, Updates-with_value, rows_of}
 use Rattle.proc_table.proofs.Every.{some_and}
 use Rattle.proc_table.proofs.Slots.{slot_there}
 use Rattle.proc_table.proofs.Tied.{IsRehung, picked, head-row, written}
@@ -9,9 +6,7 @@ use Rattle.proc_table.proofs.processes.Processes.set.Goals.{After-index}
 use Rattle.proc_table.proofs.processes.Processes.set.Goals as goal
 
 pub unwrap-slot-requires : goal.unwrap-slot-requires
-unwrap-slot-requires c =
-    let was = some_and _ _ (rw (← c.self.view_is) at c.requires.there) in
-    rw (c.get.ensures, c.get-number.ensures.number) (slot_there (rows_of (get c.self.inside.nodes)) c.self.inside.slots.entries c.self.inside.counts c.self.invariant.slotted c.args.row.pid (ap is_some was.1))
+unwrap-slot-requires c = grind (arith, nat_tests, some_and, slot_there (rows_of (get c.self.inside.nodes)) c.self.inside.slots.entries c.self.inside.counts c.self.invariant.slotted c.args.row.pid)
 
 pub relink_both-requires-clause-list_owners : goal.relink_both-requires-clause-list_owners
 relink_both-requires-clause-list_owners c = λ k t is.

@@ -1,12 +1,9 @@
-use Rattle.std.proofs.Common.{ap, sym, ◌∙◌, is_some}
-use Rattle.slab.proofs.SlabLemmas.{Updates-with_value}
+use Rattle.proc_table.proofs.CommonNames.{nat_tests, arith, ap, sym, ◌∙◌, is_some, Updates-with_value}
 use Rattle.proc_table.proofs.Tied.{head-row, pending-written, pending-listed}
 use Rattle.proc_table.proofs.processes.Processes.set_pending.Goals as goal
 
 pub unwrap-at-requires : goal.unwrap-at-requires
-unwrap-at-requires c =
-    let head = head-row c.self.invariant c.args.pid (rw (← c.self.view_is) at c.requires.there) in
-    rw (c.get-2.ensures, c.get.ensures.number) (ap is_some head.1)
+unwrap-at-requires c = grind (arith, nat_tests, head-row c.self.invariant c.args.pid)
 
 pub invariant_of-self : goal.invariant_of-self
 invariant_of-self c =

@@ -1,4 +1,4 @@
-use Rattle.std.proofs.Common.{ap}
+use Rattle.proc_table.proofs.CommonNames.{ap}
 use Rattle.lwp_table.proofs.CloneLemmas.{slots-same}
 use Rattle.proc_table.proofs.processes.ProcessesClone.clone.Goals as goal
 

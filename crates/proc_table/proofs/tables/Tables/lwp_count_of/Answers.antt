@@ -1,5 +1,4 @@
-use Rattle.std.proofs.Common.{ap, ◌∙◌}
-use Rattle.proc_table.specs.Fresh.{lwp_count_of}
+use Rattle.proc_table.proofs.CommonNames.{ap, ◌∙◌, lwp_count_of}
 use Rattle.proc_table.proofs.Seen.{lwps-counted}
 use Rattle.proc_table.proofs.tables.Tables.lwp_count_of.Goals as goal
 

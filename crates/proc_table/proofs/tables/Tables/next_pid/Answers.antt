@@ -1,30 +1,19 @@
-use Rattle.std.proofs.Common.{◌≡◌, ℕ, ◌+◌, ◌-◌, ◌<◌, arith, Option, Some, None, sym, ap, ◌∙◌}
+use Rattle.proc_table.proofs.CommonNames.{nat_tests, ◌≡◌, ℕ, ◌+◌, ◌-◌, ◌<◌, arith, Option, Some, sym, ap, ◌∙◌, SomeIff, pid_block, InBlock, ProcData, next_of}
 use Rattle.std.specs.Prelude.{option_map}
-use Rattle.std.specs.Option.{SomeIff}
-use Rattle.pid_blocks.specs.Blocks.{pid_block, InBlock}
-use Rattle.proc_table.specs.declared.ProcData.{ProcData}
-use Rattle.proc_table.specs.Walks.{next_of}
 use Rattle.proc_table.proofs.NextOf.{next_of-found, next_of-none, uid-from_block}
 use Rattle.proc_table.proofs.Rows.{process_of-pid}
 use Rattle.proc_table.proofs.Indexed.{absent, present}
 use Rattle.proc_table.proofs.tables.Tables.next_pid.Goals as goal
 
 known : (o : Option ℕ) (P : Type 0) (n : ℕ) → SomeIff o P n → P → o ≡ Some n
-known None P n h holds = absurd (h holds)
-known (Some m) P n h holds = ap Some h.1
+known o P n h holds = grind (arith, nat_tests)
 
 pub returns-in_err-place-clause-next : goal.returns-in_err-place-clause-next
 returns-in_err-place-clause-next c =
     let has = c.self.invariant in
-    let ps = c.self.inside.processes.rows in
-    let first = ap (λ b. b.first) c.pid_block-block.ensures.block in
-    let size = ap (λ b. b.size) c.pid_block-block.ensures.block in
-    let user = c.pid_block-block.ensures.user in
-    c.from_residual.ensures
-    ∙ ap (option_map (λ (p : ProcData). p.pid)) (sym (next_of-none c.args.uid c.args.after ps has.kept.rising has.kept.in_own_blocks
-    (λ k more its. absent c.self.inside.pids ps has.numbers k (omega (arith, its.0, user))
-    (c.in_err-place.ensures.none (k - 1000) (omega (arith, more, its.0, first, user, c.max-first.ensures, c.saturating_add.ensures)) (omega (arith, its.1, its.0, first, size, user))))))
-    ∙ ap (λ v. option_map (λ (p : ProcData). p.pid) (next_of c.args.uid c.args.after v.rows.processes)) c.self.view_is
+    let none = next_of-none c.args.uid c.args.after c.self.inside.processes.rows has.kept.rising has.kept.in_own_blocks
+    (λ k more its. absent c.self.inside.pids c.self.inside.processes.rows has.numbers k (grind (arith, nat_tests)) (grind (arith, nat_tests, c.in_err-place.ensures.none (k - 1000)))) in
+    grind (arith, nat_tests)
 
 pub returns-clause-next : goal.returns-clause-next
 returns-clause-next c =

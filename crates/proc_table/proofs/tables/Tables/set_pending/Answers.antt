@@ -1,13 +1,9 @@
-use Rattle.std.proofs.Common.{◌≡◌, ℕ, Some, sym, ap, subst, ◌∙◌, refl}
-use Rattle.proc_table.specs.declared.ProcData.{ProcData}
-use Rattle.proc_table.specs.Processes.{process_of}
-use Rattle.proc_table.specs.Rows.{Rows, change_process}
-use Rattle.proc_table.specs.Kept.{TableInvariant, IsRow, set_process}
+use Rattle.proc_table.proofs.CommonNames.{nat_tests, arith, ◌≡◌, ℕ, Some, sym, subst, refl, ProcData, process_of, Rows, change_process, TableInvariant, IsRow, set_process}
 use Rattle.proc_table.proofs.Rows.{process_of-pid, row_found}
 use Rattle.proc_table.proofs.Changes.{change_process-at}
 use Rattle.proc_table.proofs.Stays.{process_there, named-same}
-use Rattle.proc_table.proofs.KeepsProcesses.{keeps-set_process}
-use Rattle.proc_table.proofs.Indexed.{numbers-set}
+use Rattle.proc_table.proofs.KeepsProcesses.{keeps_set_process}
+use Rattle.proc_table.proofs.Indexed.{numbers_set}
 use Rattle.proc_table.proofs.tables.Tables.set_pending.Goals as goal
 
 -- a process's pending signals replaced
@@ -23,7 +19,7 @@ module _ (rows : Rows) (kept : TableInvariant rows) (pid : ℕ) (there : IsRow r
     with_pending p = record p { pending = pending }
 
     stays : TableInvariant (set_process (with_pending row.0) rows)
-    stays = keeps-set_process (with_pending row.0) rows kept (process_there rows row.0 (with_pending row.0) own refl) (named-same rows row.0 (with_pending row.0) own kept refl refl)
+    stays = keeps_set_process (with_pending row.0) rows kept (process_there rows row.0 (with_pending row.0) own refl) (named-same rows row.0 (with_pending row.0) own kept refl refl)
 
     done : set_process (with_pending row.0) rows ≡ change_process pid with_pending rows
     done = sym (change_process-at pid with_pending rows row.0 kept.rising row.1 (process_of-pid pid row.0 rows.processes row.1))
@@ -33,15 +29,10 @@ invariant_of-self c =
     let has = c.self.invariant in
     let there = subst (λ v. IsRow v.rows c.args.pid) (sym c.self.view_is) c.requires.there in
     let its = row _ has.kept c.args.pid there in
-    let put = c.set_pending.ensures.rows its.0 its.1 in record {
-      kept = rw put (stays _ has.kept c.args.pid there c.args.pending);
-      room = has.room;
-      numbers = rw put (numbers-set c.self.inside.pids (with_pending _ has.kept c.args.pid there c.args.pending its.0) c.self.inside.processes.rows has.numbers);
-    }
+    grind (arith, nat_tests, c.set_pending.ensures.rows its.0 its.1, stays _ has.kept c.args.pid there c.args.pending, numbers_set c.self.inside.pids)
 
 pub returns-clause-rows : goal.returns-clause-rows
 returns-clause-rows c =
-    let has = c.self.invariant in
     let there = subst (λ v. IsRow v.rows c.args.pid) (sym c.self.view_is) c.requires.there in
-    let its = row _ has.kept c.args.pid there in
-    rw (c.set_pending.ensures.rows its.0 its.1) (done _ has.kept c.args.pid there c.args.pending) ∙ ap (λ v. change_process c.args.pid (with_pending _ has.kept c.args.pid there c.args.pending) v.rows) c.self.view_is
+    let its = row _ c.self.invariant.kept c.args.pid there in
+    grind (arith, nat_tests, c.set_pending.ensures.rows its.0 its.1, done _ c.self.invariant.kept c.args.pid there c.args.pending)

@@ -1,4 +1,4 @@
-use Rattle.std.proofs.Common.{◌≡◌, ◌∷◌, [], ◌++◌, List, ℕ, ap, sym, ◌∙◌, rules, append_assoc, append-nil, refl, codes}
+use Rattle.std.proofs.Common.{◌≡◌, ◌∷◌, [], ◌++◌, List, ℕ, ap, sym, ◌∙◌, rules, append_assoc, append-nil, refl, codes, arith}
 use Rattle.std.proofs.Output.{has_written_append, has_written_of_eq}
 use Rattle.signals.specs.Names.{signal_name, named}
 use Rattle.signals.specs.Sets.{members, without, bit}
@@ -13,7 +13,7 @@ loop-other-preserved g c =
     let ys : List ℕ = c.loop-other.yielded in
     let n : ℕ = c.in-Some-other.other in
     record {
-      whole = c.loop-other.invariant.whole ∙ (ap (λ r. ys ++ r) c.in-Some-other.ensures.steps ∙ sym (append_assoc ys (n ∷ []) c.next.new.self));
+      whole = grind (arith, append_assoc {A = ℕ});
       wrote = λ plain.
           let name : List ℕ = c.name-name-in-loop-other.result.now in
           let text : bars ys ++ (codes " | " ++ name) ≡ bars (ys ++ n ∷ []) = ap (λ m. bars ys ++ (codes " | " ++ m)) c.name-name-in-loop-other.ensures ∙ bars-last ys n in
@@ -29,9 +29,7 @@ returns g c = record {
       let name : List ℕ = c.name-name.result.now in
       let first = c.in_ok-write.ensures.writes plain refl in
       let middle = c.loop-other.invariant.wrote first.plain in
-      let gone : ys ≡ members (without set (bit n)) =
-      sym (append-nil ys) ∙ (ap (λ r. ys ++ r) (sym c.in-None.ensures.steps.0) ∙ (sym c.loop-other.invariant.whole
-      ∙ (c.into_iter-other-iterator.ensures.into_iter_gives ∙ (c.signals-other-items.ensures ∙ ap members c.without.ensures)))) in
+      let gone : ys ≡ members (without set (bit n)) = grind (arith, append-nil {A = ℕ}) in
       let names : name ++ bars ys ≡ named (members set) =
       ap (λ m. m ++ bars ys) c.name-name.ensures ∙ (ap (λ ns. signal_name n ++ bars ns) gone ∙ named-first set n (sym c.lowest.ensures ∙ c.in-Some.is)) in
       let text : (codes "SigSet(" ++ name) ++ (bars ys ++ codes ")") ≡ codes "SigSet(" ++ (named (members set) ++ codes ")") =

@@ -1,4 +1,4 @@
-use Rattle.std.proofs.Common.{◌≡◌, ◌∷◌, [], ◌++◌, List, ℕ, ap, sym, ◌∙◌, rules, append_assoc, append-nil, refl}
+use Rattle.std.proofs.Common.{◌≡◌, ◌∷◌, [], ◌++◌, List, ℕ, ap, sym, ◌∙◌, rules, append_assoc, append-nil, refl, arith}
 use Rattle.std.proofs.Output.{has_written_append, has_written_of_eq}
 use Rattle.std.specs.Prelude.{decimal}
 use Rattle.signals.specs.Sets.{members, without, bit, set_text}
@@ -13,7 +13,7 @@ loop-signal-preserved g c =
     let ys : List ℕ = c.loop-signal.yielded in
     let n : ℕ = c.in-Some-signal.signal in
     record {
-      whole = c.loop-signal.invariant.whole ∙ (ap (λ r. ys ++ r) c.in-Some-signal.ensures.steps ∙ sym (append_assoc ys (n ∷ []) c.next.new.self));
+      whole = grind (arith, append_assoc {A = ℕ});
       wrote = λ plain.
           let text : after ys ++ (44 ∷ decimal c.number-in-loop-signal.result) ≡ after (ys ++ n ∷ []) = ap (λ m. after ys ++ (44 ∷ decimal m)) c.number-in-loop-signal.ensures.number ∙ after-last ys n in
           has_written_of_eq _ _ _ _ _ text (has_written_append _ _ _ _ _ _ (c.loop-signal.invariant.wrote plain) (search rules));
@@ -25,9 +25,7 @@ returns-clause-writes g c = λ plain ok.
     let set : ℕ = c.args.self.now in
     let n : ℕ = c.in-Some.first in
     let first = c.in_ok-write.ensures.writes plain refl in
-    let gone : ys ≡ members (without set (bit n)) =
-    sym (append-nil ys) ∙ (ap (λ r. ys ++ r) (sym c.in-None.ensures.steps.0) ∙ (sym c.loop-signal.invariant.whole
-    ∙ (c.into_iter-signal-iterator.ensures.into_iter_gives ∙ (c.signals-signal-items.ensures ∙ ap members c.without.ensures)))) in
+    let gone : ys ≡ members (without set (bit n)) = grind (arith, append-nil {A = ℕ}) in
     let text : decimal c.number.result ++ after ys ≡ set_text set =
     ap (λ m. decimal m ++ after ys) c.number.ensures.number ∙ (ap (λ ns. decimal n ++ after ns) gone ∙ text-first set n (sym c.lowest.ensures ∙ c.in-Some.is)) in
     has_written_of_eq _ _ _ _ _ text (has_written_append _ _ _ _ _ _ first (c.loop-signal.invariant.wrote first.plain))
