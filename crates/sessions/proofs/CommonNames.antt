@@ -13,7 +13,7 @@ pub use Rattle.requests.specs.Plain.{PlainStep}
 pub use Rattle.requests.specs.Run.{Asked, asked_by, last, replies}
 pub use Rattle.requests.specs.View.{View, alone, view, with_view}
 pub use Rattle.sessions.specs.Boxed.{SmallStep, boxed_script, own_step, report_of, steps_of, uid_of}
-pub use Rattle.sessions.specs.Jobs.{AllDone, HasRoom, IsDone, IsReady, done_session, done_transcript, job_report, job_session, job_steps}
+pub use Rattle.sessions.specs.Jobs.{AllDone, Drafted, IsBegun, IsDone, IsReady, done_session, done_transcript, job_report, job_session, job_steps}
 pub use Rattle.sessions.specs.Made.{Did, Pairs, made}
 pub use Rattle.sessions.specs.PlainRuns.{AllAnswer, Answers, AreFew, RanBy}
 pub use Rattle.sessions.specs.Runs.{AllPlay, AllTell, OwnEntries, Plays, RefusesFor, entries_by, plain_script, whole}

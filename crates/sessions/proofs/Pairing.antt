@@ -1,7 +1,7 @@
 -- Sessions, scripts, jobs and transcripts, place by place.
 use Rattle.std.proofs.Common.{◌≡◌, ℕ, zero, suc, ◌+◌, ◌<◌, ◌≤◌, List, [], ◌∷◌, ◌++◌, length, map, Vec, Global, vec_len, slice_index_or, sym, refl, ap, ◌∙◌, subst, arith, All, ◌==◌, false}
 use Rattle.sessions.proofs.CommonNames.{AllByRecursion, nat_tests, get_or-map, length-map, All-from_recursion, recursion_from_All, Machine, PlainStep, Entry, entries_of, GivesBack, max_calls, Each, all_of, each_of, SessionData, HostData}
-use Rattle.sessions.proofs.CommonNames.{IsBelow, IsOf, InJournal, new_session, new_sessions, Job, Done, BoxedScript, Transcript, Did, Pairs, AllDone, IsDone, IsReady, HasRoom, job_report, job_session}
+use Rattle.sessions.proofs.CommonNames.{IsBelow, IsOf, InJournal, new_session, new_sessions, Job, Done, BoxedScript, Transcript, Did, Pairs, AllDone, IsDone, IsReady, IsBegun, Drafted, job_report, job_session}
 use Rattle.sessions.proofs.CommonNames.{job_steps, done_session, done_transcript, SmallStep, own_step, boxed_script, report_of, uid_of, steps_of, AllPlay, AllTell, OwnEntries, AreFew, Answers, AllAnswer, RanBy}
 use mathlib.Core.List.{map-append}
 use Rattle.atomic_table.specs.Seated.{TableId}
@@ -103,15 +103,15 @@ module _ {S : Type 0} (f : S → ℕ × List PlainStep) (count : S → ℕ) (cou
   pub short_plain : (ss : List S) → All (λ s. count s ≤ max_calls) ss → All AreFew (map f ss)
   short_plain ss short = All-from_recursion AreFew (map f ss) (short_each ss (recursion_from_All (λ s. count s ≤ max_calls) ss short))
 
-module _ {F T : Type 0} (h : Machine) (z : TableId) where
+module _ {F T D : Type 0} (drafted : Drafted D T) (h : Machine) (z : TableId) where
   -- what is known of the jobs that were made of the scripts
-  abbrev pub Prepared : List (BoxedScript F T) → List (Job F T) → Type 0
-  Prepared ss js = (map job_session js ≡ new_sessions 0 z h (map uid_of ss)) × (map job_steps js ≡ map steps_of ss) × (map job_report js ≡ map report_of ss) × Each HasRoom js
+  abbrev pub Prepared : List (BoxedScript F T) → List (Job F T D) → Type 0
+  Prepared ss js = (map job_session js ≡ new_sessions 0 z h (map uid_of ss)) × (map job_steps js ≡ map steps_of ss) × (map job_report js ≡ map report_of ss) × Each (IsBegun drafted) js
 
-  pub jobs_length : (ss : List (BoxedScript F T)) (js : List (Job F T)) → Prepared ss js → length js ≡ length ss
+  pub jobs_length : (ss : List (BoxedScript F T)) (js : List (Job F T D)) → Prepared ss js → length js ≡ length ss
   jobs_length ss js p = same_count job_steps steps_of js ss p.1
 
-  pub session_at : (ss : List (BoxedScript F T)) (js : List (Job F T)) → Prepared ss js → (k : ℕ) (s : BoxedScript F T) (j : Job F T) → k < length ss → (slice_index_or js k j).session ≡ new_session (slice_index_or ss k s).uid k z h
+  pub session_at : (ss : List (BoxedScript F T)) (js : List (Job F T D)) → Prepared ss js → (k : ℕ) (s : BoxedScript F T) (j : Job F T D) → k < length ss → (slice_index_or js k j).session ≡ new_session (slice_index_or ss k s).uid k z h
   session_at ss js p k s j lt =
       let len = jobs_length ss js p in
       let us = length-map ss uid_of in
@@ -120,15 +120,15 @@ module _ {F T : Type 0} (h : Machine) (z : TableId) where
       ∙ ap (λ m. new_session (slice_index_or (map uid_of ss) k s.uid) m z h) zero_more ∙ ap (λ u. new_session u k z h) (get_or-map uid_of ss k s s.uid lt)
 
   -- the jobs can be run on this host
-  pub ready : (d : HostData) (ss : List (BoxedScript F T)) (js : List (Job F T)) → d.id ≡ z → d.start ≡ h → All AreFew (map boxed_script ss) → Prepared ss js → Each (IsReady d) js
+  pub ready : (d : HostData) (ss : List (BoxedScript F T)) (js : List (Job F T D)) → d.id ≡ z → d.start ≡ h → All AreFew (map boxed_script ss) → Prepared ss js → Each (IsReady drafted d) js
   ready d ss js id start short p =
       let len = jobs_length ss js p in
-      each_of (IsReady d) js (λ k j lt.
-      let s : BoxedScript F T = record { uid = 0; steps = j.steps; report = j.report } in
+      each_of (IsReady drafted d) js (λ k j lt.
+      let s : BoxedScript F T = record { uid = 0; steps = j.steps; report = j.report.value } in
       let script = slice_index_or ss k s in
       let same = same_at job_steps steps_of js ss p.1 k j s (omega arith) in
       let new = session_at ss js p k s j (omega arith) in
-      let room = all_of HasRoom js p.3 k j lt in
+      let room = all_of (IsBegun drafted) js p.3 k j lt in
       let all = length-map ss boxed_script in
       let own = subst AreFew (get_or-map boxed_script ss k s (0, []) (omega arith)) (short k (0, []) (omega arith)) in
       let count = script.steps.ok.0 in
@@ -142,12 +142,12 @@ module _ {F T : Type 0} (h : Machine) (z : TableId) where
       ))
 
   module _ {O : Type 0} (made_of : O → List Reply) (tells : T → ℕ → O → Type 0) where
-    pub done_at : (ss : List (BoxedScript F T)) (js : List (Job F T)) (ds : List (Done O)) → Prepared ss js → AllDone made_of tells js ds → (k : ℕ) (s : BoxedScript F T) (d : Done O) → k < length ss
+    pub done_at : (ss : List (BoxedScript F T)) (js : List (Job F T D)) (ds : List (Done O)) → Prepared ss js → AllDone made_of tells js ds → (k : ℕ) (s : BoxedScript F T) (d : Done O) → k < length ss
         → Did (new_session (slice_index_or ss k s).uid k z h) (map own_step (slice_index_or ss k s).steps.items) (made_of (slice_index_or ds k d).output) (slice_index_or ds k d).session
         × tells (slice_index_or ss k s).report (slice_index_or ss k s).uid (slice_index_or ds k d).output
     done_at ss [] ds p r k s d lt = let none = jobs_length ss [] p in absurd (omega arith)
     done_at ss (j ∷ others) ds p r k s d lt =
-        let js : List (Job F T) = j ∷ others in
+        let js : List (Job F T D) = j ∷ others in
         let len = jobs_length ss js p in
         let did = pairs_at (IsDone made_of tells) js ds r k j d (omega arith) in
         let P : SessionData × Vec SmallStep Global × T → Type 0 =
@@ -155,17 +155,17 @@ module _ {F T : Type 0} (h : Machine) (z : TableId) where
         subst P (λ i. (session_at ss js p k s j lt i, same_at job_steps steps_of js ss p.1 k j s lt i, same_at job_report report_of js ss p.2 k j s lt i)) did
 
     -- the sessions are still of this host
-    pub of_host : (e : HostData) (js : List (Job F T)) (ds : List (Done O)) → Each (IsReady e) js → AllDone made_of tells js ds → Each (IsOf e) (map done_session ds)
+    pub of_host : (e : HostData) (js : List (Job F T D)) (ds : List (Done O)) → Each (IsReady drafted e) js → AllDone made_of tells js ds → Each (IsOf e) (map done_session ds)
     of_host e [] [] a r = tt
     of_host e [] (d ∷ ds) a r = absurd r
     of_host e (j ∷ js) [] a r = absurd r
     of_host e (j ∷ js) (d ∷ ds) a r = ((r.0.0.3 ∙ a.0.0.0, r.0.0.4 ∙ a.0.0.1), of_host e js ds a.1 r.1)
 
     -- each transcript is its script's, and the journal has just its entries
-    pub all_play : (log : List Entry) (ss : List (BoxedScript F T)) (js : List (Job F T)) (ds : List (Done O)) → Prepared ss js → AllDone made_of tells js ds → (xs : List SessionData) (ts : List (Transcript O)) → xs ≡ map done_session ds → ts ≡ map done_transcript ds → All (InJournal log) xs → AllAnswer made_of log (map boxed_script ss) ts
+    pub all_play : (log : List Entry) (ss : List (BoxedScript F T)) (js : List (Job F T D)) (ds : List (Done O)) → Prepared ss js → AllDone made_of tells js ds → (xs : List SessionData) (ts : List (Transcript O)) → xs ≡ map done_session ds → ts ≡ map done_transcript ds → All (InJournal log) xs → AllAnswer made_of log (map boxed_script ss) ts
     all_play log ss js ds p r xs ts is was stands =
         let len = jobs_length ss js p in
-        let len' = pairs_length (IsDone {F = F} {T = T} made_of tells) js ds r in
+        let len' = pairs_length (IsDone {F = F} {T = T} {D = D} made_of tells) js ds r in
         answers_of boxed_script made_of log ss ts (ap length was ∙ length-map ds done_transcript ∙ len' ∙ len)
         (λ k s t lt.
         let d : Done O = record { session = new_session 0 0 z h; output = t.replies } in
@@ -182,12 +182,12 @@ module _ {F T : Type 0} (h : Machine) (z : TableId) where
           ap (λ m. entries_of m log) (sym did.2) ∙ stand.1 ∙ did.6,
         ))
 
-    pub all_tell : (ss : List (BoxedScript F T)) (js : List (Job F T)) (ds : List (Done O)) → Prepared ss js → AllDone made_of tells js ds → (ts : List (Transcript O)) → ts ≡ map done_transcript ds → AllTell tells (map report_of ss) ts
+    pub all_tell : (ss : List (BoxedScript F T)) (js : List (Job F T D)) (ds : List (Done O)) → Prepared ss js → AllDone made_of tells js ds → (ts : List (Transcript O)) → ts ≡ map done_transcript ds → AllTell tells (map report_of ss) ts
     all_tell [] js ds p r ts was = λ k q t lt. absurd (omega arith)
     all_tell (first ∷ rest) js ds p r ts was = λ k q t lt.
         let ss : List (BoxedScript F T) = first ∷ rest in
         let len = jobs_length ss js p in
-        let len' = pairs_length (IsDone {F = F} {T = T} made_of tells) js ds r in
+        let len' = pairs_length (IsDone {F = F} {T = T} {D = D} made_of tells) js ds r in
         let all = length-map ss (report_of {F = F}) in
         let below : k < length ss = omega (arith, all, lt) in
         let d : Done O = record { session = new_session 0 0 z h; output = t.replies } in

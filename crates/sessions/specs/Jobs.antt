@@ -1,5 +1,5 @@
 -- A script that is ready to run, and its result.
-use Rattle.std.specs.Prelude.{◌≡◌, ℕ, ◌≤◌, List, [], map, Vec, vec_len, vec_capacity}
+use Rattle.std.specs.Prelude.{◌≡◌, ℕ, ◌+◌, ◌≤◌, List, [], map, Vec, vec_len, vec_capacity}
 use Rattle.requests.specs.declared.Reply.{Reply}
 use Rattle.host_lock.specs.Limits.{max_calls}
 use Rattle.host_lock.specs.Sessions.{SessionData, HostData, IsOf}
@@ -14,30 +14,38 @@ use Rattle.sessions.specs.Made.{Did, Pairs}
 abbrev pub HasRoomFor : {A : Type 0} → ℕ → Vec A Global → Type 0
 HasRoomFor n v = (v.items ≡ []) × (vec_len v ≡ 0) × (n ≤ vec_capacity v)
 
--- there is room for the replies
-abbrev pub HasRoom : {F T : Type 0} → Job F T → Type 0
-HasRoom j = HasRoomFor (vec_len j.steps) j.replies
+-- the list has these items, and room for n more
+abbrev pub HasRoomAfter : {A : Type 0} → List A → ℕ → Vec A Global → Type 0
+HasRoomAfter items n v = (v.items ≡ items) × (vec_len v + n ≤ vec_capacity v)
+
+-- what a draft's relation says: of a report, its user, the room that is left, and the replies so far
+abbrev pub Drafted : Type 0 → Type 0 → Type 1
+Drafted D T = D → T → ℕ → ℕ → List Reply → Type 0
+
+-- the draft has room for the replies, and none yet
+abbrev pub IsBegun : {F T D : Type 0} → Drafted D T → Job F T D → Type 0
+IsBegun drafted j = drafted j.draft j.report.value j.session.uid (vec_len j.steps) []
 
 -- the session is of this host and has made no call, and its script is short enough
-abbrev pub IsReady : {F T : Type 0} → HostData → Job F T → Type 0
-IsReady h j = IsOf h j.session × (j.session.calls ≡ 0) × (j.session.mine ≡ []) × (vec_len j.steps ≤ max_calls) × HasRoom j
+abbrev pub IsReady : {F T D : Type 0} → Drafted D T → HostData → Job F T D → Type 0
+IsReady drafted h j = IsOf h j.session × (j.session.calls ≡ 0) × (j.session.mine ≡ []) × (vec_len j.steps ≤ max_calls) × IsBegun drafted j
 
 -- the job was done, and its output was made of the replies as its report has it
-abbrev pub IsDone : {F T O : Type 0} → (O → List Reply) → (T → ℕ → O → Type 0) → Job F T → Done O → Type 0
-IsDone made_of tells j d = Did j.session (map own_step j.steps.items) (made_of d.output) d.session × tells j.report j.session.uid d.output
+abbrev pub IsDone : {F T D O : Type 0} → (O → List Reply) → (T → ℕ → O → Type 0) → Job F T D → Done O → Type 0
+IsDone made_of tells j d = Did j.session (map own_step j.steps.items) (made_of d.output) d.session × tells j.report.value j.session.uid d.output
 
 -- each job was done
-abbrev pub AllDone : {F T O : Type 0} → (O → List Reply) → (T → ℕ → O → Type 0) → List (Job F T) → List (Done O) → Type 0
+abbrev pub AllDone : {F T D O : Type 0} → (O → List Reply) → (T → ℕ → O → Type 0) → List (Job F T D) → List (Done O) → Type 0
 AllDone made_of tells js ds = Pairs (IsDone made_of tells) js ds
 
-abbrev pub job_session : {F T : Type 0} → Job F T → SessionData
+abbrev pub job_session : {F T D : Type 0} → Job F T D → SessionData
 job_session j = j.session
 
-abbrev pub job_steps : {F T : Type 0} → Job F T → Vec SmallStep Global
+abbrev pub job_steps : {F T D : Type 0} → Job F T D → Vec SmallStep Global
 job_steps j = j.steps
 
-abbrev pub job_report : {F T : Type 0} → Job F T → T
-job_report j = j.report
+abbrev pub job_report : {F T D : Type 0} → Job F T D → T
+job_report j = j.report.value
 
 abbrev pub done_session : {O : Type 0} → Done O → SessionData
 done_session d = d.session

@@ -7,18 +7,17 @@ ghost use Rattle.sessions.specs.Made.{Did};
 use crate::boxing::BoxedStep;
 use crate::report::Report;
 use host_lock::Session;
-use requests::Reply;
 use std::snapshot::Snapshot;
 use std::thread::Promise;
 use stop_handlers::Decider;
 
-/// A session with its script, room for the replies, and what is made of them.
+/// A session with its script, and the draft of the report of its replies.
 #[derive(Drop)]
-pub struct Job<F: Decider + Send + Drop, T: Drop> {
+pub struct Job<F: Decider + Send + Drop, T: Drop, D: Drop> {
     pub session: Session,
     pub steps: Vec<BoxedStep<F>>,
-    pub replies: Vec<Reply>,
-    pub report: T,
+    pub report: Snapshot<T>,
+    pub draft: D,
 }
 
 /// A session after its script, with what was made of the replies.
@@ -33,11 +32,15 @@ pub struct Done<O: Drop> {
 pub struct Plan<F: Decider + Send + Drop, T: Drop> {
     pub(crate) session: Snapshot<Session>,
     pub(crate) steps: Snapshot<Vec<BoxedStep<F>>>,
-    pub(crate) report: Snapshot<T>,
+    pub(crate) report: Snapshot<Snapshot<T>>,
 }
 
 impl<F: Decider + Send + Drop, T: Drop> Plan<F, T> {
-    pub(crate) fn of(session: &Session, steps: &Vec<BoxedStep<F>>, report: &T) -> Plan<F, T>
+    pub(crate) fn of(
+        session: &Session,
+        steps: &Vec<BoxedStep<F>>,
+        report: &Snapshot<T>,
+    ) -> Plan<F, T>
         ensures { (result.session.value ≡ session.now) × (result.steps.value ≡ steps.now) × (result.report.value ≡ report.now) }
     {
         Plan {
@@ -50,5 +53,5 @@ impl<F: Decider + Send + Drop, T: Drop> Plan<F, T> {
 
 impl<F: Decider + Send + Drop, T: Report> Promise<Done<T::Output>> for Plan<F, T> {
     ghost kept_by = { λ p r. Did p.session.value (map own_step p.steps.value.items) (T.made_of r.output) r.session
-        × T.tells p.report.value p.session.value.uid r.output };
+        × T.tells p.report.value.value p.session.value.uid r.output };
 }

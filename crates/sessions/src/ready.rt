@@ -4,7 +4,7 @@ ghost use Rattle.std.specs.Prelude.{◌≡◌, ◌<◌, ◌≤◌, length, map, 
 ghost use Rattle.host_lock.specs.Limits.{max_sessions};
 ghost use Rattle.host_lock.specs.Rule.{Each};
 ghost use Rattle.host_lock.specs.Sessions.{IsOpenable, new_sessions};
-ghost use Rattle.sessions.specs.Jobs.{HasRoom, HasRoomFor, job_report, job_session, job_steps};
+ghost use Rattle.sessions.specs.Jobs.{HasRoomFor, IsBegun, job_report, job_session, job_steps};
 ghost use Rattle.sessions.specs.Boxed.{report_of, uid_of, steps_of};
 
 use crate::boxing::BoxedScript;
@@ -16,6 +16,7 @@ use host_lock::{CallLog, Session, SharedHost};
 use pid_blocks::Uid;
 use requests::Host;
 use std::alloc::{AllocError, Global};
+use std::snapshot::Snapshot;
 use stop_handlers::Decider;
 
 /// The scripts' users, and room for the workers' results.
@@ -34,9 +35,15 @@ struct Opened<F: Decider + Send + Drop, J: CallLog + Send + Drop> {
 }
 
 /// An open host, a job for each script, and room for the results.
-pub(crate) struct Ready<F: Decider + Send + Drop, J: CallLog + Send + Drop, T: Drop, O: Drop> {
+pub(crate) struct Ready<
+    F: Decider + Send + Drop,
+    J: CallLog + Send + Drop,
+    T: Drop,
+    D: Drop,
+    O: Drop,
+> {
     pub host: SharedHost<F, J>,
-    pub jobs: Vec<Job<F, T>>,
+    pub jobs: Vec<Job<F, T, D>>,
     pub room: Room<O>,
 }
 
@@ -45,13 +52,13 @@ pub(crate) fn prepare<F: Decider + Send + Drop, J: CallLog + Send + Drop, T: Rep
     alloc: Global,
     host: Host<F>,
     scripts: Vec<BoxedScript<F, T>>,
-) -> Result<Ready<F, J, T, T::Output>, AllocError>
+) -> Result<Ready<F, J, T, T::Draft, T::Output>, AllocError>
     requires some_script { (0 < vec_len scripts) × (vec_len scripts ≤ max_sessions) }
     ensures host { IfOk result (λ r. (r.host.start ≡ host) × (r.host.sessions ≡ vec_len scripts)) }
     ensures sessions { IfOk result (λ r. map job_session r.jobs.items ≡ new_sessions 0 r.host.id host (map uid_of scripts.items)) }
     ensures steps { IfOk result (λ r. map job_steps r.jobs.items ≡ map steps_of scripts.items) }
     ensures reports { IfOk result (λ r. map job_report r.jobs.items ≡ map report_of scripts.items) }
-    ensures jobs { IfOk result (λ r. Each HasRoom r.jobs.items) }
+    ensures jobs { IfOk result (λ r. Each (IsBegun T.drafted) r.jobs.items) }
     ensures done { IfOk result (λ r. HasRoomFor (vec_len scripts) r.room.done) }
     ensures sessions_room { IfOk result (λ r. HasRoomFor (vec_len scripts) r.room.sessions) }
     ensures transcripts_room { IfOk result (λ r. HasRoomFor (vec_len scripts) r.room.transcripts) }
@@ -125,17 +132,17 @@ fn uids_of<F: Decider + Send + Drop, T: Report>(
     Ok(uids)
 }
 
-/// Pairs each session with its script and with room for the replies.
+/// Pairs each session with its script, and begins the draft of its report.
 fn pair<F: Decider + Send + Drop, T: Report>(
     alloc: Global,
     sessions: Vec<Session>,
     scripts: Vec<BoxedScript<F, T>>,
-) -> Result<Vec<Job<F, T>>, AllocError>
+) -> Result<Vec<Job<F, T, T::Draft>>, AllocError>
     requires { length sessions.items ≡ length scripts.items }
     ensures sessions { IfOk result (λ v. map job_session v.items ≡ sessions.items) }
     ensures steps { IfOk result (λ v. map job_steps v.items ≡ map steps_of scripts.items) }
     ensures reports { IfOk result (λ v. map job_report v.items ≡ map report_of scripts.items) }
-    ensures jobs { IfOk result (λ v. Each HasRoom v.items) }
+    ensures jobs { IfOk result (λ v. Each (IsBegun T.drafted) v.items) }
 {
     let mut jobs = Vec::with_capacity(alloc, scripts.len())?;
     let mut sessions = reversed(sessions);
@@ -153,19 +160,20 @@ fn job<F: Decider + Send + Drop, T: Report>(
     alloc: Global,
     session: Session,
     script: BoxedScript<F, T>,
-) -> Result<Job<F, T>, AllocError>
-    ensures { IfOk result (λ j. (j.session ≡ session) × (j.steps ≡ script.steps) × (j.report ≡ script.report) × HasRoom j) }
+) -> Result<Job<F, T, T::Draft>, AllocError>
+    ensures { IfOk result (λ j. (j.session ≡ session) × (j.steps ≡ script.steps) × (j.report.value ≡ script.report) × IsBegun T.drafted j) }
 {
     let BoxedScript {
         uid: _,
         steps,
         report,
     } = script;
-    let replies = Vec::with_capacity(alloc, steps.len())?;
+    let told = Snapshot::of(&report);
+    let draft = report.begin(alloc, session.uid(), steps.len())?;
     Ok(Job {
         session,
         steps,
-        replies,
-        report,
+        report: told,
+        draft,
     })
 }

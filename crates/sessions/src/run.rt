@@ -23,11 +23,12 @@ use std::sync::Wait;
 use std::thread::Threads;
 use stop_handlers::Decider;
 
-/// Runs each script by a session in a thread of its own, all at the same time, and waits for their end. A user may have
-/// several scripts.
+/// Runs each script by a session of its own, all at the same time, and waits for their end. The first runs in the
+/// calling thread, each other in a thread of its own. A user may have several scripts.
 ///
-/// Returns the host, the journal, and a transcript for each script. In the journal, a script's index is the number of
-/// its session. Where `K` is `Unkept`, no call is kept, and only contracts see the journal.
+/// Returns the host, the journal, and a transcript for each script, with what its `Report` makes of the replies. In the
+/// journal, a script's index is the number of its session. Where `K` is `Unkept`, no call is kept, and only contracts
+/// see the journal.
 ///
 /// # Errors
 ///

@@ -4,7 +4,6 @@ ghost use Rattle.std.specs.Prelude.{◌≡◌, ◌≤◌, [], length, map, rever
 ghost use Rattle.host_lock.specs.Limits.{max_calls};
 ghost use Rattle.host_lock.specs.Sessions.{IsOf};
 ghost use Rattle.sessions.specs.Boxed.{own_step};
-ghost use Rattle.sessions.specs.Jobs.{HasRoomFor};
 ghost use Rattle.sessions.specs.Made.{Did};
 
 use crate::boxing::{BoxedStep, unboxed};
@@ -12,8 +11,8 @@ use crate::job::Done;
 use crate::report::Report;
 use crate::script::Gate;
 use host_lock::{Answer, CallLog, Session, SharedHost};
-use requests::Reply;
 use std::alloc::Global;
+use std::snapshot::Snapshot;
 use std::sync::Wait;
 use stop_handlers::Decider;
 
@@ -31,23 +30,23 @@ fn announce<F: Decider + Send + Drop, G: Gate>(
     }
 }
 
-/// Makes the steps of a script in order, and then the report of the replies. `replies` has room for these.
+/// Makes the steps of a script in order, and the report of the replies, of which `draft` is the draft.
 pub(crate) fn work<F: Decider + Send + Drop, J: CallLog + Send + Drop, T: Report, G: Gate, R: Wait>(
     rt: &R,
     alloc: Global,
     host: &SharedHost<F, J>,
     mut session: Session,
     steps: Vec<BoxedStep<F>>,
-    mut replies: Vec<Reply>,
-    report: T,
+    report: Snapshot<T>,
+    mut draft: T::Draft,
     gate: &G,
 ) -> Done<T::Output>
     requires of { IsOf host.now session }
     requires fresh { (session.calls ≡ 0) × (session.mine ≡ []) }
     requires few { vec_len steps ≤ max_calls }
-    requires room { HasRoomFor (vec_len steps) replies }
+    requires begun { T.drafted draft report.value session.uid (vec_len steps) [] }
     ensures did { Did session (map own_step steps.items) (T.made_of result.output) result.session }
-    ensures tells { T.tells report session.uid result.output }
+    ensures tells { T.tells report.value session.uid result.output }
 {
     let uid = session.uid();
     announce(&mut session, steps.as_slice(), gate);
@@ -58,11 +57,14 @@ pub(crate) fn work<F: Decider + Send + Drop, J: CallLog + Send + Drop, T: Report
         let Answer::Reply(reply) = host.call(rt, alloc, &mut session, step) else {
             unreachable!()
         };
-        replies.push_reserved(reply);
+        T::add(&mut draft, alloc, reply);
         gate.after(uid, index);
     }
-    let output = report.report(alloc, uid, replies);
-    Done { session, output }
+    let _ = report;
+    Done {
+        session,
+        output: T::end(draft),
+    }
 }
 
 /// Returns the items in reverse order.

@@ -19,7 +19,8 @@ use std::thread;
 use std::thread::Threads;
 use stop_handlers::Decider;
 
-/// Runs each job in a thread of its own, all at the same time. Returns `None` where a thread could not be started.
+/// Runs all jobs at the same time, the first in the calling thread and each other in a thread of its own. Returns `None`
+/// where a thread could not be started.
 #[cycle(run)]
 pub(crate) fn run_all<
     F: Decider + Send + Drop,
@@ -31,11 +32,11 @@ pub(crate) fn run_all<
     rt: &R,
     alloc: Global,
     host: &SharedHost<F, J>,
-    mut jobs: Vec<Job<F, T>>,
+    mut jobs: Vec<Job<F, T, T::Draft>>,
     done: Vec<Done<T::Output>>,
     gate: &G,
 ) -> Option<Vec<Done<T::Output>>>
-    requires jobs { Each (IsReady host.now) jobs.items }
+    requires jobs { Each (IsReady T.drafted host.now) jobs.items }
     requires room { HasRoomFor (vec_len jobs) done }
     ensures room { IfSome result (λ v. (vec_len v ≡ vec_len jobs) × (vec_capacity v ≡ vec_capacity done)) }
     ensures done { IfSome result (λ v. AllDone T.made_of T.tells jobs.items v.items) }
@@ -43,7 +44,42 @@ pub(crate) fn run_all<
     let Some(job) = jobs.pop() else {
         return Some(done);
     };
+    if jobs.is_empty() {
+        return Some(run_here(rt, alloc, host, job, done, gate));
+    }
     beside(rt, alloc, host, job, jobs, done, gate)
+}
+
+/// Runs the job in the calling thread.
+fn run_here<
+    F: Decider + Send + Drop,
+    J: CallLog + Send + Drop,
+    T: Report,
+    G: Gate,
+    R: Wait,
+>(
+    rt: &R,
+    alloc: Global,
+    host: &SharedHost<F, J>,
+    job: Job<F, T, T::Draft>,
+    mut done: Vec<Done<T::Output>>,
+    gate: &G,
+) -> Vec<Done<T::Output>>
+    requires job { IsReady T.drafted host.now job }
+    requires room { HasRoomFor 1 done }
+    ensures room { (vec_len result ≡ 1) × (vec_capacity result ≡ vec_capacity done) }
+    ensures done { AllDone T.made_of T.tells (job ∷ []) result.items }
+{
+    let Job {
+        session,
+        steps,
+        report,
+        draft,
+    } = job;
+    done.push_reserved(work(
+        rt, alloc, host, session, steps, report, draft, gate,
+    ));
+    done
 }
 
 /// Runs one job in a thread of its own, and the others at the same time. Returns `None` where a thread could not be
@@ -59,13 +95,13 @@ fn beside<
     rt: &R,
     alloc: Global,
     host: &SharedHost<F, J>,
-    job: Job<F, T>,
-    jobs: Vec<Job<F, T>>,
+    job: Job<F, T, T::Draft>,
+    jobs: Vec<Job<F, T, T::Draft>>,
     done: Vec<Done<T::Output>>,
     gate: &G,
 ) -> Option<Vec<Done<T::Output>>>
-    requires job { IsReady host.now job }
-    requires jobs { Each (IsReady host.now) jobs.items }
+    requires job { IsReady T.drafted host.now job }
+    requires jobs { Each (IsReady T.drafted host.now) jobs.items }
     requires room { HasRoomFor (vec_len jobs + 1) done }
     ensures room { IfSome result (λ v. (vec_len v ≡ vec_len jobs + 1) × (vec_capacity v ≡ vec_capacity done)) }
     ensures done { IfSome result (λ v. AllDone T.made_of T.tells (jobs.items ++ job ∷ []) v.items) }
@@ -73,8 +109,8 @@ fn beside<
     let Job {
         session,
         steps,
-        replies,
         report,
+        draft,
     } = job;
     let plan = Plan::of(&session, &steps, &report);
     thread::scope(
@@ -82,16 +118,16 @@ fn beside<
         rt,
         |scope| -> Option<Vec<Done<T::Output>>>
             requires sync { IsSync R.row × IsSync G.row }
-            requires send { IsSend F.row × IsSend J.row × IsSend T.row × IsSend T.Output.row }
+            requires send { IsSend F.row × IsSend J.row × IsSend T.Draft.row × IsSend T.Output.row }
             requires of { IsOf host.now session }
             requires fresh { (session.calls ≡ 0) × (session.mine ≡ []) }
             requires few { vec_len steps ≤ max_calls }
-            requires replies { HasRoomFor (vec_len steps) replies }
+            requires begun { T.drafted draft report.value session.uid (vec_len steps) [] }
             requires plan { (plan.session.value ≡ session) × (plan.steps.value ≡ steps) × (plan.report.value ≡ report) }
-            requires jobs { Each (IsReady host.now) jobs.items }
+            requires jobs { Each (IsReady T.drafted host.now) jobs.items }
             requires room { HasRoomFor (vec_len jobs + 1) done }
             ensures room { IfSome result (λ v. (vec_len v ≡ vec_len jobs + 1) × (vec_capacity v ≡ vec_capacity done)) }
-            ensures done { IfSome result (λ v. AllDone T.made_of T.tells (jobs.items ++ record { session = session; steps = steps; replies = replies; report = report } ∷ []) v.items) }
+            ensures done { IfSome result (λ v. AllDone T.made_of T.tells (jobs.items ++ record { session = session; steps = steps; report = report; draft = draft } ∷ []) v.items) }
         {
             let child = scope
                 .spawn_with(
@@ -100,10 +136,10 @@ fn beside<
                         requires of { IsOf host.now session }
                         requires fresh { (session.calls ≡ 0) × (session.mine ≡ []) }
                         requires few { vec_len steps ≤ max_calls }
-                        requires room { HasRoomFor (vec_len steps) replies }
+                        requires begun { T.drafted draft report.value session.uid (vec_len steps) [] }
                         ensures did { Did session (map own_step steps.items) (T.made_of result.output) result.session }
-                        ensures tells { T.tells report session.uid result.output }
-                    { work(rt, alloc, host, session, steps, replies, report, gate) },
+                        ensures tells { T.tells report.value session.uid result.output }
+                    { work(rt, alloc, host, session, steps, report, draft, gate) },
                 )
                 .ok()?;
             let rest = run_all(rt, alloc, host, jobs, done, gate);

@@ -4,4 +4,5 @@ pub mod GroupLemmas
 pub mod ScriptLemmas
 pub mod SessionLemmas
 pub mod ThreadLemmas
+pub mod LineLemmas
 pub mod TranscriptLemmas

@@ -1,2 +1,3 @@
 pub mod Grouped
+pub mod Unseen
 pub mod Scripts

@@ -1,5 +1,5 @@
 -- A script for each user with steps, and the answers of its transcript.
-use Rattle.std.specs.Prelude.{◌≡◌, ℕ, Bool, true, false, List, [], ◌∷◌, map, filter, Option, IfSome, String, string_bytes}
+use Rattle.std.specs.Prelude.{◌≡◌, ℕ, ◌+◌, ◌<◌, ◌^◌, Bool, true, false, List, [], ◌∷◌, length, map, filter, Option, IfSome, String, string_bytes}
 use Rattle.std.specs.Global.{Global}
 use Rattle.std.specs.List.{AllByRecursion}
 use Rattle.pid_blocks.specs.Blocks.{users}
@@ -13,6 +13,9 @@ use Rattle.scenario.specs.Lines.{Answered}
 use Rattle.scenario.specs.Runs.{answers_of, shown}
 use Rattle.scenario.specs.declared.running.RunOptions.{RunOptions}
 use Rattle.threaded_runs.specs.Grouped.{answers_by}
+use Rattle.threaded_runs.specs.Unseen.{unseen_in}
+use Rattle.threaded_runs.specs.declared.lines.LineReport.{LineReport}
+use Rattle.threaded_runs.specs.declared.lines.LineDraft.{LineDraft}
 use Rattle.threaded_runs.specs.declared.lines.UserLines.{UserLines}
 
 -- a user's steps, in order
@@ -36,7 +39,7 @@ told_to u rs = map (λ r. record { uid = u; reply = r }) rs
 
 -- the replies of which a user's lines were made
 abbrev pub replies_in : UserLines → List Reply
-replies_in lines = lines.replies.value.items
+replies_in lines = unseen_in lines.replies
 
 -- the text of a transcript
 abbrev pub text_in : Transcript UserLines → Option (String Global)
@@ -49,6 +52,11 @@ AreMade rs = AllByRecursion (λ r. is_memory r ≡ false) rs
 -- the lines, if there are any, are those that the options show of the replies, and memory ran out for none of these
 abbrev pub Shows : RunOptions → ℕ → UserLines → Type 0
 Shows options u lines = IfSome lines.text (λ s. (string_bytes s ≡ shown options.style options.user (told_to u (replies_in lines))) × AreMade (replies_in lines))
+
+-- the draft has the lines so far, if memory didn't run out, and room for `left` more replies
+abbrev pub DrawnUp : LineDraft → LineReport → ℕ → ℕ → List Reply → Type 0
+DrawnUp d r u left rs = (d.options ≡ r.options) × (d.uid ≡ u) × (unseen_in d.replies ≡ rs) × (d.number ≡ length rs) × (d.number + left < 2 ^ 64)
+    × IfSome d.text (λ s. (string_bytes s ≡ shown d.options.style d.options.user (told_to u rs)) × AreMade rs)
 
 -- no step ran out of memory
 abbrev pub IsMade : Transcript UserLines → Type 0

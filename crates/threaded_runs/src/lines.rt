@@ -1,20 +1,21 @@
 //! The lines of one user, which the user's own thread makes.
 
-ghost use Rattle.std.specs.Prelude.{◌≡◌, false, string_bytes, IfOk, IfErr, OnOk};
-ghost use Rattle.std.specs.List.{AllByRecursion};
+ghost use Rattle.std.specs.Prelude.{◌≡◌, ◌×◌, ◌++◌, false, Some, string_bytes, IfSome, IfOk};
 ghost use Rattle.requests.specs.Memory.{is_memory};
-ghost use Rattle.scenario.specs.Runs.{shown};
-ghost use Rattle.threaded_runs.specs.Scripts.{replies_in, told_to, Shows};
-ghost use Rattle.scenario.specs.declared.running.RunFault.TheVariants.{Memory};
+ghost use Rattle.scenario.specs.Lines.{line};
+ghost use Rattle.scenario.specs.Runs.{answered};
+ghost use Rattle.scenario.specs.Shown.{shown_line};
+ghost use Rattle.threaded_runs.specs.Scripts.{replies_in, DrawnUp, Shows};
 
 use pid_blocks::Uid;
 use requests::Reply;
-use scenario::{ObjectWriter, RunFault, RunOptions, push_shown};
+use scenario::{ObjectWriter, RunOptions, push_shown};
 use sessions::Report;
-use std::alloc::Global;
+use std::alloc::{AllocError, Global};
+use std::marker::Model;
 use std::snapshot::Snapshot;
 
-/// The bytes of a usual line. The texts of usual lines fit into the memory that the scripts leave.
+/// The bytes of a usual line.
 const USUAL_LINE: usize = 24;
 
 /// Reports the lines of the replies that the options show.
@@ -23,12 +24,43 @@ pub(crate) struct LineReport {
     pub(crate) options: RunOptions,
 }
 
+/// A reply, and the replies before it, which only contracts see.
+#[derive(Drop)]
+struct Replies {
+    before: Option<Snapshot<Replies>>,
+    last: Reply,
+}
+
+impl Model for Replies {
+    ghost use Rattle.std.specs.Prelude.{List, ◌++◌, ◌∷◌, [], length};
+    ghost use Rattle.requests.specs.declared.Reply.{Reply};
+    ghost use Rattle.threaded_runs.specs.Unseen.{unseen_in};
+
+    ghost Value = { List Reply };
+
+    ghost view = { λ r. unseen_in r.before ++ r.last ∷ [] };
+
+    ghost size = { length };
+}
+
+/// The lines of a user's replies so far, and the replies, which only contracts see. There are no lines once memory ran
+/// out, here or for one of the steps.
+#[derive(Drop)]
+pub(crate) struct LineDraft {
+    options: RunOptions,
+    uid: Uid,
+    number: u64,
+    text: Option<String>,
+    objects: ObjectWriter,
+    replies: Option<Snapshot<Replies>>,
+}
+
 /// The lines of a user's replies, and the replies, which only contracts see. There are no lines where memory ran out,
 /// here or for one of the steps.
 #[derive(Drop)]
 pub(crate) struct UserLines {
     text: Option<String>,
-    replies: Snapshot<Vec<Reply>>,
+    replies: Option<Snapshot<Replies>>,
 }
 
 impl UserLines {
@@ -42,17 +74,58 @@ impl UserLines {
 }
 
 impl Report for LineReport {
+    type Draft = LineDraft;
+
     type Output = UserLines;
 
     ghost made_of = { replies_in };
 
     ghost tells = { λ r u lines. Shows r.options u lines };
 
-    fn report(self, alloc: Global, uid: Uid, replies: Vec<Reply>) -> UserLines {
-        UserLines {
-            text: text_of(alloc, &self.options, uid, replies.as_slice()).ok(),
-            replies: Snapshot::of(&replies),
-        }
+    ghost drafted = { DrawnUp };
+
+    fn begin(self, alloc: Global, uid: Uid, replies: usize) -> Result<LineDraft, AllocError> {
+        let LineReport { options } = self;
+        let text = String::with_capacity(alloc, usual_bytes(&options, uid, replies))?;
+        Ok(LineDraft {
+            options,
+            uid,
+            number: 0,
+            text: Some(text),
+            objects: ObjectWriter::new(alloc),
+            replies: None,
+        })
+    }
+
+    fn add(draft: &mut LineDraft, alloc: Global, reply: Reply) {
+        draft.number = draft.number.saturating_add(1);
+        let text = draft.text.take();
+        draft.text = longer(
+            alloc,
+            &draft.options,
+            &mut draft.objects,
+            text,
+            draft.uid,
+            draft.number,
+            &reply,
+        );
+        let replies = Replies {
+            before: draft.replies.take(),
+            last: reply,
+        };
+        draft.replies = Some(Snapshot::of(&replies));
+    }
+
+    fn end(draft: LineDraft) -> UserLines {
+        let LineDraft {
+            options: _,
+            uid: _,
+            number: _,
+            text,
+            objects: _,
+            replies,
+        } = draft;
+        UserLines { text, replies }
     }
 }
 
@@ -64,27 +137,24 @@ fn usual_bytes(options: &RunOptions, uid: Uid, replies: usize) -> usize {
     }
 }
 
-/// Returns the lines of the replies to the user that the options show. An error means that memory ran out, here or for
-/// one of the steps.
-fn text_of(
+/// Returns the text with the line of a reply, if the options show it. Returns `None` where memory ran out, here, before
+/// or for the step.
+fn longer(
     alloc: Global,
     options: &RunOptions,
+    objects: &mut ObjectWriter,
+    text: Option<String>,
     uid: Uid,
-    replies: &[Reply],
-) -> Result<String, RunFault>
-    ensures text { IfOk result (λ s. string_bytes s ≡ shown options.now.style options.now.user (told_to uid replies.now)) }
-    ensures made { OnOk result (AllByRecursion (λ r. is_memory r ≡ false) replies.now) }
-    ensures err { IfErr result (λ e. e ≡ Memory) }
+    number: u64,
+    reply: &Reply,
+) -> Option<String>
+    ensures { IfSome result (λ new. (is_memory reply.now ≡ false) × (old : String Global) × (text ≡ Some old)
+        × (string_bytes new ≡ string_bytes old ++ shown_line options.now.user (line options.now.style number (answered (uid, reply.now))))) }
 {
-    let mut text = String::with_capacity(alloc, usual_bytes(options, uid, replies.len()))?;
-    let mut objects = ObjectWriter::new(alloc);
-    let mut number = 0u64;
-    for reply in replies {
-        if reply.is_memory() {
-            return Err(RunFault::Memory);
-        }
-        number += 1;
-        push_shown(alloc, options, &mut objects, &mut text, uid, number, reply)?;
+    let mut text = text?;
+    if reply.is_memory() {
+        return None;
     }
-    Ok(text)
+    push_shown(alloc, options, objects, &mut text, uid, number, reply).ok()?;
+    Some(text)
 }

@@ -15,12 +15,12 @@ pub beside-scope-returns : goal.beside-scope-returns
 beside-scope-returns g t c =
     let made_of = g.T.Report.made_of in
     let tells = g.T.Report.tells in
-    let job : Job g.row.F.Denot g.row.T.Denot = record { session = c.captures.session; steps = c.captures.steps; replies = c.captures.replies; report = c.captures.report } in
+    let job : Job g.row.F.Denot g.row.T.Denot g.row.T-Draft.Denot = record { session = c.captures.session; steps = c.captures.steps; report = c.captures.report; draft = c.captures.draft } in
     let one = c.join-one.result in
     let same : c.in_ok-child.child.promise ≡ c.captures.plan = search rules in
     let Q : SessionData × Vec SmallStep Global × g.row.T.Denot → Type 0 = λ z. Did z.0 (map own_step z.1.items) (made_of one.output) one.session × tells z.2 z.0.uid one.output in
-    let P : Plan g.row.F.Denot g.row.T.Denot → Type 0 = λ p. Q (p.session.value, p.steps.value, p.report.value) in
-    let did : IsDone made_of tells job one = subst Q (λ i. (c.requires.plan.0 i, c.requires.plan.1 i, c.requires.plan.2 i)) (subst P same c.join-one.ensures) in
+    let P : Plan g.row.F.Denot g.row.T.Denot → Type 0 = λ p. Q (p.session.value, p.steps.value, p.report.value.value) in
+    let did : IsDone made_of tells job one = subst Q (λ i. (c.requires.plan.0 i, c.requires.plan.1 i, (c.requires.plan.2 i).value)) (subst P same c.join-one.ensures) in
     let len = c.in_ok-all.ensures.room.0 in
     let more = c.push_reserved.ensures.len in record {
       room = (omega arith, c.push_reserved.ensures.capacity ∙ c.in_ok-all.ensures.room.1);
@@ -33,10 +33,10 @@ beside-scope-spawn_with-requires-send-F g t c κs within =
     let handler : IsSend (Handler.the_row (param 0 g.row.F) g.F.Decider) = handler_send (param 0 g.row.F) g.F.Decider c.requires.send.0 in
     let host : IsSync (SharedHost.the_row (param 0 g.row.F) (param 1 g.row.J) g.F.Decider g.J.CallLog) = host_sync (param 0 g.row.F) (param 1 g.row.J) g.F.Decider g.J.CallLog c.requires.send.0 c.requires.send.1 in
     let gate : IsSync (param 3 g.row.G) = c.requires.sync.1 in
-    let report : IsSend (param 2 g.row.T) = c.requires.send.2 in
-    param_send 2 (arg-0-2 g.row.F g.row.J g.row.T g.row.G g.row.R g.row.T-Output g.F.laws g.J.laws g.T.laws g.G.laws g.R.laws g.T.Output.laws g.F.Decider g.F.Decider-dict g.J.CallLog g.J.CallLog-dict g.T.Report g.T.Report-dict g.G.Gate g.G.Gate-dict g.R.Threads g.R.Threads-dict g.R.Wait g.R.Wait-dict g.F.Destruct-dict g.J.Destruct-dict g.T.Destruct-dict g.T.Output.Destruct-dict κs)
+    let draft : IsSend (param 5 g.row.T-Draft) = c.requires.send.2 in
+    param_send 2 (arg-0-2 g.row.F g.row.J g.row.T g.row.G g.row.R g.row.T-Draft g.row.T-Output g.F.laws g.J.laws g.T.laws g.G.laws g.R.laws g.T.Draft.laws g.T.Output.laws g.F.Decider g.F.Decider-dict g.J.CallLog g.J.CallLog-dict g.T.Report g.T.Report-dict g.G.Gate g.G.Gate-dict g.R.Threads g.R.Threads-dict g.R.Wait g.R.Wait-dict g.F.Destruct-dict g.J.Destruct-dict g.T.Destruct-dict g.T.Draft.Destruct-dict g.T.Output.Destruct-dict κs)
     (search (reply_send, session_send, crosses, sendable) depth 80 fits 100000)
 
 pub beside-scope-spawn_with-requires-clause-runs : goal.beside-scope-spawn_with-requires-clause-runs
 beside-scope-spawn_with-requires-clause-runs g t c κs within =
-    (c.requires.of, (c.requires.fresh, (c.requires.few, (c.requires.replies, (search rules, search rules, search rules, search rules, search rules, search rules)))))
+    (c.requires.of, (c.requires.fresh, (c.requires.few, (c.requires.begun, (search rules, search rules, search rules, search rules, search rules, search rules, search rules)))))

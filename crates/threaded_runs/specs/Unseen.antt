@@ -1,0 +1,8 @@
+-- Replies that only contracts see.
+use Rattle.std.specs.Prelude.{List, [], Option, Some, None}
+use Rattle.std.specs.declared.snapshot.Snapshot.{Snapshot}
+use Rattle.requests.specs.declared.Reply.{Reply}
+
+abbrev pub unseen_in : Option (Snapshot (List Reply)) → List Reply
+unseen_in None = []
+unseen_in (Some replies) = replies.value
