@@ -1,6 +1,7 @@
 //! The lines of one user, which the user's own thread makes.
 
-ghost use Rattle.std.specs.Prelude.{◌≡◌, ◌×◌, ◌++◌, false, Some, string_bytes, IfSome, IfOk};
+ghost use Rattle.std.specs.Prelude.{◌≡◌, ◌++◌, false, Some, String, string_bytes, IfSome};
+ghost use Rattle.std.specs.Global.{Global};
 ghost use Rattle.requests.specs.Memory.{is_memory};
 ghost use Rattle.scenario.specs.Lines.{line};
 ghost use Rattle.scenario.specs.Runs.{answered};
