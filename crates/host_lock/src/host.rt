@@ -205,12 +205,13 @@ impl<F: Decider + Send + Drop, J: CallLog + Send + Drop> SharedHost<F, J> {
         ensures told { IsTrue session.new }
     {
         if !budget_left(session.calls_made) {
+            self.door.let_go(&mut session.announced);
             return Answer::Spent;
         }
         let badge = mem::replace(&mut session.badge, Badge::blank());
         let mut seat = badge.into_seat();
         let plain = step.plain();
-        let inside = self.door.enter(rt, session.announced.is_some());
+        self.door.enter(rt, &session.announced);
         let reply = turn(
             rt,
             alloc,
@@ -221,7 +222,7 @@ impl<F: Decider + Send + Drop, J: CallLog + Send + Drop> SharedHost<F, J> {
             step,
             &plain,
         );
-        inside.leave(session.announced.goes_on());
+        self.door.leave(&mut session.announced);
         session.badge = seat.into_badge();
         session.calls_made += 1;
         Answer::Reply(reply)

@@ -89,14 +89,13 @@ impl Session {
         self.calls_made
     }
 
-    /// Announces that the session makes so many calls in a row, and waits for no other session between them. Then it
-    /// wakes a sleeping caller only at some of these calls and at the last one, so that the host stays on one processor
-    /// for longer. Until the announced calls are made, other callers may sleep while the host is free. No answer
-    /// depends on it.
+    /// Announces that the session makes so many calls in a row, and waits for no other session between them. Then many
+    /// of these calls are made before another session's call, so that the host stays on one processor for longer. Until
+    /// the announced calls are made, the calls of other sessions may wait. No answer depends on it.
     pub fn announce(&mut self, calls: u32)
         ensures { self.new ≡ self.old }
     {
-        self.announced = Announced { calls };
+        self.announced.announce(calls);
     }
 }
 

@@ -3,7 +3,10 @@ use Rattle.host_lock.proofs.Journey.{badge_settles}
 use Rattle.host_lock.proofs.host.SharedHost.call.Goals as goal
 
 pub invariant_of-session : goal.invariant_of-session
-invariant_of-session g c =
+invariant_of-session g c = c.session.invariant
+
+pub invariant_of-session-2 : goal.invariant_of-session-2
+invariant_of-session-2 g c =
     let s = c.session.inside in
     let was : s.badge.views ≡ c.into_seat-seat.result.me.0 ∷ [] = search rules in
     let t = badge_settles s.number s.calls_made s.uid c.args.step c.turn-reply.result s.badge.views c.into_badge.result.views c.into_seat-seat.result.me c.turn-reply.new.seat.me c.session.invariant.1 was c.turn-reply.ensures.turned c.into_badge.ensures.2 in
