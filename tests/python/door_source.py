@@ -14,8 +14,11 @@ from counting import Counts
 SOURCES = Path(__file__).resolve().parents[2] / 'crates' / 'host_lock' / 'src'
 EVENT_COUNT = 'rattle/crossbeam_utils/src/sync/event_count.rt'
 
-ATOMIC = 'try_lock|fetch_add|fetch_sub|load|store|swap|park|wake_one|wake_all|exchange|peek'
-CALLED = 'try_for_a_while|prepare_wait|wait|notify_one|enter|leave|turn|take_turn|count_up|give_back|drop|make'
+ATOMIC = 'fetch_add|fetch_sub|load|store|swap|park|wake_one|wake_all|exchange|peek'
+CALLED = (
+    'try_lock|try_for_a_while|prepare_wait|wait|notify_one|enter|leave|let_go|left_in_turn|call_sleeper'
+    '|turn|take_turn|count_up|give_back|drop|make'
+)
 TOKEN = re.compile(
     r'\b(?:for|if|else|match|while|loop|return|break|continue|Some|None)\b|&&|\|\||[!=<>]=|[!{}<>]'
     rf'|\b(?:\w+\.)*(?:{ATOMIC}|{CALLED})(?:::<\w+>)?\((?:[^()]|\((?:[^()]|\([^()]*\))*\))*\)'
@@ -25,17 +28,21 @@ FUNCTION = re.compile(r'^( *)(?:pub(?:\(crate\))? )?fn (\w+)\b[^\n]*(.*?)^\1\}$'
 # The shape of each function. A call's step of door.py comes after `@`; `exchange` and the count move the host, which
 # only the caller inside does, and `make` is its step.
 SHAPES: dict[str, dict[str, str]] = {
-    'host.rt': {'call': 'if ! { return } door.enter turn inside.leave'},
+    'host.rt': {'call': 'if ! { door.let_go return } door.enter turn door.leave'},
     'door.rt': {
-        'enter': 'match lock.try_lock()@enter { Some { } None wait }',
+        'enter': 'if ! && ! try_lock@enter { wait }',
+        'try_lock': '! is_locked.load(SeqCst) && ! is_locked.swap(true,SeqCst)',
         'wait': """if { } else { } trying.fetch_add(1,SeqCst)@begin-to-try
-            for { if Some try_for_a_while { trying.fetch_sub(1,SeqCst)@got-in return { } }
+            for { if try_for_a_while { trying.fetch_sub(1,SeqCst)@got-in return }
             sleepers.prepare_wait is_called.store(false,SeqCst)@store-before-sleep
-            trying.fetch_sub(1,SeqCst)@try-no-more if Some lock.try_lock()@last-look { return { } } call.wait
+            trying.fetch_sub(1,SeqCst)@try-no-more if try_lock@last-look { return } call.wait
             trying.fetch_add(1,SeqCst)@try-again is_called.store(false,SeqCst)@store-after-sleep }""",
-        'try_for_a_while': 'for { for { } if Some lock.try_lock()@try { return Some } } None',
-        'leave': """{ } drop@open if { return } trying.load(SeqCst)@see-who-tries == if && ! is_called.load(SeqCst)@see-called
+        'try_for_a_while': 'for { if try_lock@try { return } for { } }',
+        'leave': """announced.left_in_turn != if == { is_locked.store(false,SeqCst)@open }
+            if == || ==@look-ahead { call_sleeper }""",
+        'call_sleeper': """trying.load(SeqCst)@see-who-tries == if && ! is_called.load(SeqCst)@see-called
             && ! is_called.swap(true,SeqCst)@swap-called { sleepers.notify_one }""",
+        'let_go': 'if { leave }',
     },
     'turn.rt': {
         'turn': """fetch_add::<Draw>(seat,1,1)@draw take_turn exchange(seat,0,Slot::Away(user,Snapshot::of(plain))) else { }
@@ -64,7 +71,8 @@ BEHIND: dict[str, list[tuple[str, str]]] = {
     'take_turn': [('turn.rt', 'take_turn')],
     'count_up': [('turn.rt', 'count_up')],
     'give_back': [('turn.rt', 'give_back')],
-    'inside.leave': [('door.rt', 'leave')],
+    'door.leave': [('door.rt', 'leave')],
+    'call_sleeper': [('door.rt', 'call_sleeper')],
     'sleepers.notify_one': [('event_count.rt', 'notify_one')],
 }
 # a key is also dropped by the return after the last look, which no word of the source shows
@@ -132,7 +140,7 @@ def see_changes(counts: Counts) -> None:
     for old, new in (
         (rf'({before}.*?\n) *{re.escape(called)}\n( *){re.escape(trying)}', rf'\1\2{trying}\n\2{called}'),
         (r'load\(SeqCst\) == 0', 'load(SeqCst) != 0'),
-        (r'\n *door\.sleepers\.notify_one\(\);', ''),
+        (r'\n *self\.sleepers\.notify_one\(\);', ''),
     ):
         changed = re.sub(old, new, text)
         counts.check(changed != text and shapes_in(changed) != shapes_in(text), f'a change of door.rt is not seen: {old}')

@@ -1,4 +1,4 @@
-//! A run of a scenario with a session for each user, each in a thread of its own.
+//! A run of a scenario with a session for each user, each in its own thread.
 
 ghost use Rattle.std.specs.Prelude.{◌≡◌, ◌≢◌, ◌⊎◌, ◌↔◌, ◌≤◌, ◌++◌, [], length, map, option_map, string_bytes, Some, IsErrOf, IfOk, IfErr, OnOk};
 ghost use Rattle.std.specs.List.{flat_map, AllByRecursion};
