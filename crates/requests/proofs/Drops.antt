@@ -1,6 +1,6 @@
 -- After a step, what ended debuggers had installed goes; only the step's own user can have such.
 use Rattle.requests.proofs.CommonNames.{◌≡◌, ℕ, ◌+◌, ◌<◌, List, [], length, map, filter, set, Bool, true, sym, ap, ◌∙◌, arith, subst, get_or, length-map, IsUser, slot, Rows, PlainStep, Outcome, Installed}
-use Rattle.requests.proofs.CommonNames.{Machine, installed_by, is_live_number, after, sound, step, put_at, slots_differ, either}
+use Rattle.requests.proofs.CommonNames.{Machine, installed_by, is_live_at, after, sound, step, put_at, slots_differ, either}
 use Rattle.std.proofs.lemmas.List.{length-set, get_or-set_other}
 use Rattle.requests.specs.View.{view}
 use Rattle.requests.proofs.SoundWithoutEnded.{slots_of, same_at}
@@ -10,7 +10,7 @@ use Rattle.std.proofs.Math.ListN.{get_or-map}
 
 -- the pairs of a user whose debugger lives in the rows
 abbrev pub left_in : Rows → ℕ → Machine → List Installed
-left_in rows u m = filter (λ i. is_live_number rows i.debugger) (installed_by u m)
+left_in rows u m = filter (λ i. is_live_at i.debugger rows) (installed_by u m)
 
 -- the host with other rows, and only the user's pairs of live debuggers
 abbrev pub kept_by : ℕ → Rows → Machine → Machine
@@ -18,7 +18,7 @@ kept_by u rows m = record m { rows = rows; installed = set m.installed (slot u) 
 
 module _ (m : Machine) (u : ℕ) (user : IsUser u) (is : sound m ≡ true) (s : PlainStep) (o : Outcome) (same : step u s m ≡ after m o) where
   abbrev left : Installed → Bool
-  left i = is_live_number o.rows i.debugger
+  left i = is_live_at i.debugger o.rows
 
   abbrev was : List (List Installed)
   was = map (filter left) m.installed

@@ -1,12 +1,12 @@
 -- AllByRecursion step, on all rows and on a user's.
-use Rattle.requests.proofs.CommonNames.{nat_tests, ◌≡◌, ℕ, ℤ, pos, negsuc, List, [], ◌∷◌, map, take, true, false, ◌==◌, ◌&&◌, ◌||◌, not, leb, if◌then◌else◌, Option, Some, None, is_some, IfSome, refl, sym}
-use Rattle.requests.proofs.CommonNames.{ap, ap₂, ◌∙◌, eqb-true, subst, eq-eqb, arith, pid_owner, tid_owner, EventMask, PTRACE_SCE, PTRACE_SCX, PTRACE_FORK, PTRACE_LWP, mask_with, SIGKILL, is_signal}
+use Rattle.requests.proofs.CommonNames.{nat_tests, ◌≡◌, ℕ, ℤ, pos, negsuc, List, [], ◌∷◌, map, take, true, false, ◌==◌, ◌&&◌, not, leb, if◌then◌else◌, Option, Some, None, is_some, IfSome, refl, sym}
+use Rattle.requests.proofs.CommonNames.{ap, ap₂, ◌∙◌, eqb-true, subst, eq-eqb, arith, pid_owner, tid_owner, EventMask, PTRACE_SCE, PTRACE_SCX, PTRACE_FORK, PTRACE_LWP, mask_with, SIGKILL}
 use Rattle.requests.proofs.CommonNames.{set_disposition, Disposition, ProcData, State, Trace, LwpData, lwp_of, first_lwp, is_live, process_of, of_user, traces, named_by, Rows, seen_process, find_seen}
-use Rattle.requests.proofs.CommonNames.{Settings, Options, Collected, StatusKind, reported, collect, rows_after, info, lwp_info, Rule, Decision, Request, Numbers, room_for_process, spawn_with, spawn, list}
-use Rattle.requests.proofs.CommonNames.{is_default, sigaction, collect_reply, wait, is_which, reach, post_if_live, post_all, reached, kill, stop_first, attach, told_stop, bad_argument, not_stepping}
-use Rattle.requests.proofs.CommonNames.{set_mask, continues_with, switched, shows_info, does, commands_stopped, commands, is_attach, about, process_by, target_of, is_trace_me, ptrace, decided, view_of}
-use Rattle.requests.proofs.CommonNames.{done, handles_stop, handles_status, handles, no_options, GoodProc, GoodLwp, All-where, Sim, own, row_query, rows_query, lwp_query, lwps_query, process_same, If_more}
-use Rattle.requests.proofs.CommonNames.{branch_rows, process_same_after, lwp_same_after, change_same, and_left, and_right, pid_in_block, tid_in_block, AllByRecursion, Reply}
+use Rattle.requests.proofs.CommonNames.{Settings, Options, Collected, StatusKind, reported, collect, rows_after, info, lwp_info, Rule, Decision, Request, Numbers, room_for_process, spawn_with, spawn}
+use Rattle.requests.proofs.CommonNames.{list, is_refused, sigaction, collect_reply, wait, is_which, reach, post_if_live, post_all, reached, kill, stop_first, attach, told_stop, bad_argument}
+use Rattle.requests.proofs.CommonNames.{not_stepping, set_mask, continues_with, switched, shows_info, does, commands_stopped, commands, is_attach, about, target_of, is_trace_me, ptrace, decided}
+use Rattle.requests.proofs.CommonNames.{view_of, done, handles_stop, handles_status, handles, no_options, GoodProc, GoodLwp, All-where, Sim, own, row_query, rows_query, lwp_query, lwps_query}
+use Rattle.requests.proofs.CommonNames.{process_same, If_more, branch_rows, process_same_after, lwp_same_after, change_same, and_left, and_right, pid_in_block, tid_in_block, AllByRecursion, Reply}
 use Rattle.std.proofs.Common.{option_map}
 use Rattle.row_isolation.proofs.FilteredLists.{find_some}
 use Rattle.row_isolation.proofs.IsolationOfSignals.{settle_same, is_numbered_foreign, own_some}
@@ -36,7 +36,7 @@ pub list_same : {u : ℕ} {start c v : Rows} → Sim u start c v → Same u star
 list_same s = record { rows = s; reply = ap (λ ps. Reply.Pids (map (λ p. p.pid) ps)) (of_user_same s) }
 
 pub sigaction_same : {u : ℕ} {start c v : Rows} → Sim u start c v → (p : ProcData) (sig : ℕ) (d : Disposition) → pid_owner p.pid ≡ u → Same u start (sigaction p sig d c) (sigaction p sig d v)
-sigaction_same s p sig d here = branch (not (is_signal sig) || (((sig == 9) || (sig == 17)) && not (is_default d))) _ refl (λ b. answered s _) (λ b. answered (settle_same (process_same_after s p.pid here (λ q. record q { dispositions = set_disposition q.dispositions sig d }) (λ q good is e. (refl, refl, record { user = good.user; block = good.block; tracer = good.tracer; parent = good.parent; reporting = good.reporting; collector = good.collector }, λ live. live))) p.pid here) _)
+sigaction_same s p sig d here = branch (is_refused sig d) _ refl (λ b. answered s _) (λ b. answered (settle_same (process_same_after s p.pid here (λ q. record q { dispositions = set_disposition q.dispositions sig d }) (λ q good is e. (refl, refl, record { user = good.user; block = good.block; tracer = good.tracer; parent = good.parent; reporting = good.reporting; collector = good.collector }, λ live. live))) p.pid here) _)
 
 pub wait_same : {u : ℕ} {start c v : Rows} → Sim u start c v → (p : ProcData) (which : ℤ) (options : Options) → pid_owner p.pid ≡ u → Same u start (wait p which options c) (wait p which options v)
 wait_same s p which options here = branch (not (is_which which)) _ refl (λ b. answered s _) (λ b. record { rows = rows_after_same s p.pid which options here; reply = ap collect_reply (collect_same s p.pid which options here) })
@@ -132,11 +132,8 @@ find_same s target = ap₂ (λ (o : Option ProcData) (q : Option LwpData). if le
 find_facts : {u : ℕ} {start c v : Rows} → Sim u start c v → (target : ℕ) → IfSome (find_seen u target c) (λ n. (pid_owner n ≡ u) × (leb target 99999 ≡ false → tid_owner target ≡ u))
 find_facts s target = grind (arith, nat_tests, seen_some s target, seen_lwp_some s target)
 
-by_same : {u : ℕ} {start c v : Rows} → Sim u start c v → (o : Option ℕ) → IfSome o (λ n. pid_owner n ≡ u) → process_by c o ≡ process_by v o
-by_same s o g = grind (arith, nat_tests, process_same)
-
 target_same : {u : ℕ} {start c v : Rows} → Sim u start c v → (target : ℕ) → target_of u target c ≡ target_of u target v
-target_same {u} {start} {c} {v} s target = by_same s (find_seen u target c) (If_more _ (λ n. pid_owner n ≡ u) (λ n g. g.0) (find_seen u target c) (find_facts s target)) ∙ ap (process_by v) (find_same s target)
+target_same s target = grind (arith, nat_tests, process_same, find_facts s target, find_same s target)
 
 pub ptrace_same : {u : ℕ} {start c v : Rows} → Sim u start c v → (settings : Settings) (me : ProcData) (r : Request) (target «data» : ℕ) → GoodProc me → me.uid ≡ u → Same u start (ptrace settings u me r target «data» c) (ptrace settings u me r target «data» v)
 ptrace_same {u} {start} {c} {v} s settings me r target «data» good mine = branch (is_trace_me r) _ refl (λ b. (grind (arith, nat_tests, branch, answered, meets_same, eq-eqb, process_same_after))) (λ b.

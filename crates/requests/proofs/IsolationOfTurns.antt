@@ -1,13 +1,13 @@
 -- The turn of an LWP, on all rows and on a user's.
-use Rattle.requests.proofs.CommonNames.{◌≡◌, ◌≢◌, ℕ, ◌*◌, [], ◌∷◌, Bool, true, false, ◌==◌, ◌&&◌, ◌||◌, not, leb, if◌then◌else◌, Option, Some, None, is_some, IfSome, refl, sym, ap, ◌∙◌, true≢false, subst}
-use Rattle.requests.proofs.CommonNames.{arith, nat_tests, rules, pid_owner, tid_owner, Call, asks, entry_flags, PTRACE_FORK, PTRACE_LWP, without, bit, SIGTRAP, is_signal, after_exec, maskable}
+use Rattle.requests.proofs.CommonNames.{◌≡◌, ◌≢◌, ℕ, ◌*◌, [], ◌∷◌, Bool, true, false, ◌==◌, ◌&&◌, ◌||◌, not, leb, if◌then◌else◌, Option, Some, None, is_some, IfSome, refl, sym, ap, ◌∙◌, true≢false}
+use Rattle.requests.proofs.CommonNames.{subst, arith, nat_tests, rules, pid_owner, tid_owner, Call, asks, entry_flags, PTRACE_FORK, PTRACE_LWP, without, bit, SIGTRAP, is_signal, after_exec, maskable}
 use Rattle.requests.proofs.CommonNames.{disposition_of, default_action, Action, Disposition, ProcData, Job, LwpData, Mode, User, InCall, VforkWait, born, is_run, process_of, Rows, seen_lwp, add_lwp}
 use Rattle.requests.proofs.CommonNames.{add_process, Settings, released, Shown, Act, Reply, stops_with, stops_or, trap, Numbers, room_for_lwp, room_for_process, in_mode, exit_stop, forked, child_stop}
 use Rattle.requests.proofs.CommonNames.{with_child, forks, exec_rows, makes_lwp, exits_lwp, leaves, due_at_birth, waits, due_stop, next_signal, without_signal, plain, job_stops, takes_by_default}
 use Rattle.requests.proofs.CommonNames.{takes_untraced, acts, signal_or_act, due_or_more, turn_by, turn_seen, turn, GoodProc, GoodLwp, LiveRow, Sim, not_own, named, process_same, at_number, each_same}
-use Rattle.requests.proofs.CommonNames.{choose, run_quiet, Stays, stays_if, kin_of, branch_rows, process_same_after, lwp_same_after, lwp_removed_same, lwp_added_same, pid_in_block, tid_in_block, Due}
+use Rattle.requests.proofs.CommonNames.{choose, run_quiet, waited_for, Stays, stays_if, kin_of, branch_rows, process_same_after, lwp_same_after, lwp_removed_same, lwp_added_same, pid_in_block}
+use Rattle.requests.proofs.CommonNames.{tid_in_block, Due}
 use Rattle.std.proofs.Common.{option_map}
-use Rattle.requests.specs.Isolation.{waited_for}
 use Rattle.row_isolation.proofs.IsolationOfSignals.{settle_same, notified_same}
 use Rattle.row_isolation.proofs.IsolationOfEnds.{end_same, released_kin, released_foreign, post_same, stop_same}
 use Rattle.requests.proofs.Room.{LwpRoom, ProcessRoom, lwp_room, process_room}

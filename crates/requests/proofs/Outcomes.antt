@@ -12,7 +12,7 @@ use Rattle.requests.proofs.CommonNames.{is_refusal, is_memory, told, handled_by,
 use Rattle.std.proofs.lemmas.List.Folds.{list_any-append}
 use Rattle.trace_stop.proofs.Every.{any_forward, or_true}
 use Rattle.wait4.specs.Collect.{collected, collected_in}
-use Rattle.requests.specs.Ending.{may_end, is_done, is_handled, is_ended}
+use Rattle.requests.specs.Ending.{may_end}
 use Rattle.requests.specs.Refusals.{is_listing}
 use Rattle.requests.proofs.SoundWithoutEnded.{answers_same}
 use Rattle.requests.proofs.SoundAfterCall.{choose}
@@ -94,6 +94,9 @@ by_option o R none some = grind (arith, nat_tests)
 
 -- The turn of an LWP
 
+abbrev pub is_ended : Reply → Bool
+is_ended r = may_end (Step.Turn 0 Act.Leave) r
+
 stops_live : (rows now : Rows) (shown : Shown) (p : ProcData) (l : LwpData) → Lives rows.processes now.processes → Fair is_ended rows (stops_with shown p l now)
 stops_live rows now shown p l kept = done is_ended rows _ _ refl refl (live_then kept (live_stop p.pid l.tid shown now))
 
@@ -151,13 +154,13 @@ turn_fair settings u tid a rows =
 
 -- The requests of a debugger
 
-commands_fair : (settings : Settings) (caller : ProcData) (r : Request) (target «data» : ℕ) (p : ProcData) (rows : Rows) → Fair is_done rows (commands settings caller r target «data» p rows)
+commands_fair : (settings : Settings) (caller : ProcData) (r : Request) (target «data» : ℕ) (p : ProcData) (rows : Rows) → Fair (may_end (Step.Ptrace caller.pid r target «data»)) rows (commands settings caller r target «data» p rows)
 commands_fair settings caller r target «data» p rows = grind (arith, nat_tests, choose, left, by_option, excepted)
 
-pub ptrace_fair : (settings : Settings) (u : ℕ) (caller : ProcData) (r : Request) (target «data» : ℕ) (rows : Rows) → Fair is_done rows (ptrace settings u caller r target «data» rows)
-ptrace_fair settings u caller r target «data» rows = choose (is_trace_me r) _ _ (Fair is_done rows) (search (rules, choose, left, excepted))
-    (by_option (target_of u target rows) (λ o. Fair is_done rows (about settings caller r target «data» o rows)) (left is_done rows (Reply.Errno ESRCH) refl) (λ p.
-    choose (not (is_live p)) _ _ (Fair is_done rows) (left is_done rows (Reply.Errno ESRCH) refl) (choose (is_attach r) _ _ (Fair is_done rows) (search (rules, choose, left, excepted)) (commands_fair settings caller r target «data» p rows))))
+pub ptrace_fair : (settings : Settings) (u : ℕ) (caller : ProcData) (r : Request) (target «data» : ℕ) (rows : Rows) → Fair (may_end (Step.Ptrace caller.pid r target «data»)) rows (ptrace settings u caller r target «data» rows)
+ptrace_fair settings u caller r target «data» rows = choose (is_trace_me r) _ _ (Fair (may_end (Step.Ptrace caller.pid r target «data»)) rows) (search (rules, choose, left, excepted))
+    (by_option (target_of u target rows) (λ o. Fair (may_end (Step.Ptrace caller.pid r target «data»)) rows (about settings caller r target «data» o rows)) (left _ rows (Reply.Errno ESRCH) refl) (λ p.
+    choose (not (is_live p)) _ _ (Fair (may_end (Step.Ptrace caller.pid r target «data»)) rows) (left _ rows (Reply.Errno ESRCH) refl) (choose (is_attach r) _ _ (Fair (may_end (Step.Ptrace caller.pid r target «data»)) rows) (search (rules, choose, left, excepted)) (commands_fair settings caller r target «data» p rows))))
 
 -- The other calls
 
@@ -193,10 +196,10 @@ report_live caller (Some p) rows = live_then (live_edit (λ q. if q.pid == p.pid
 pub wait_fair : (p : ProcData) (which : ℤ) (options : Options) (rows : Rows) → Fair never rows (wait p which options rows)
 wait_fair p which options rows = choose (not (is_which which)) _ _ (Fair never rows) (left never rows (Reply.Errno EINVAL) refl) (grind (arith, nat_tests, left, by_option, done, report_live))
 
-handles_fair : (settings : Settings) (policies : List (List Rule)) (rows now : Rows) (o : Option ProcData) (c : Collected) → Lives rows.processes now.processes → Fair is_handled rows (handles settings policies rows now o c)
+handles_fair : (settings : Settings) (policies : List (List Rule)) (rows now : Rows) (o : Option ProcData) (c : Collected) → Lives rows.processes now.processes → Fair (may_end (Step.Handle 0)) rows (handles settings policies rows now o c)
 handles_fair settings policies rows now o c kept = grind (arith, nat_tests, left, done, by_option, excepted)
 
-pub handle_fair : (settings : Settings) (policies : List (List Rule)) (caller : ℕ) (rows : Rows) → Fair is_handled rows (handled_by settings policies caller rows)
+pub handle_fair : (settings : Settings) (policies : List (List Rule)) (caller : ℕ) (rows : Rows) → Fair (may_end (Step.Handle caller)) rows (handled_by settings policies caller rows)
 handle_fair settings policies caller rows = handles_fair settings policies rows (rows_after caller (negsuc 0) no_options rows) (reported caller (negsuc 0) no_options rows) (collect caller (negsuc 0) no_options rows) (report_live caller (reported caller (negsuc 0) no_options rows) rows)
 
 -- Hosts

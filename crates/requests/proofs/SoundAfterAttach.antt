@@ -1,7 +1,8 @@
 -- A process that gets a tracer, by its own request or by an attach, keeps rows sound.
-use Rattle.requests.proofs.CommonNames.{nat_tests, ◌≡◌, ◌≢◌, ℕ, Bool, true, false, ◌==◌, List, [], ◌∷◌, find, Option, Some, None, refl, sym, subst, arith, eqb-true, eq-eqb, rules, count_by, default_mask}
-use Rattle.requests.proofs.CommonNames.{SIGSTOP, LwpData, lwp_of, first_lwp, ProcData, is_live, is_run, process_of, Rows, change_process, Ready, FitOrReady, MayStop, IsLiveOf, Linked, FitProcess, IsSound}
-use Rattle.requests.proofs.CommonNames.{All-imply, find_some, count-cons, choose, not_some, sound_holds, live_fits, live_state, own_lwps, plain, closes_chain, traced_by, trace_me, stop_first, attach}
+use Rattle.requests.proofs.CommonNames.{nat_tests, ◌≡◌, ◌≢◌, ℕ, Bool, true, false, ◌==◌, List, [], ◌∷◌, find, Option, Some, None, refl, sym, subst, arith, eqb-true, eq-eqb, rules, count_by}
+use Rattle.requests.proofs.CommonNames.{default_mask, SIGSTOP, LwpData, lwp_of, first_lwp, ProcData, is_live, is_run, process_of, Rows, change_process, Ready, FitOrReady, MayStop, IsLiveOf, Linked}
+use Rattle.requests.proofs.CommonNames.{FitProcess, IsSound, All-imply, find_some, count-cons, choose, not_some, sound_holds, live_fits, live_state, own_lwps, plain, closes_chain, traced_by, trace_me}
+use Rattle.requests.proofs.CommonNames.{stop_first, attach}
 use Rattle.trace_stop.proofs.SoundAfterStop as stops
 use Rattle.trace_stop.proofs.SoundAfterLink.{Traced, linked_holds, linked_row}
 

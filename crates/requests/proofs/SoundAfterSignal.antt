@@ -1,8 +1,9 @@
 -- Pending signals that an LWP takes, and what they do, keep rows sound.
-use Rattle.requests.proofs.CommonNames.{◌≡◌, ℕ, Bool, true, false, ◌==◌, not, [], ◌∷◌, Option, Some, None, IfSome, is_some, refl, sym, ap, ◌∙◌, true≢false, subst, eqb-true, rules, le-leb, arith, nat_tests}
-use Rattle.requests.proofs.CommonNames.{has, bit, without, SIGTRAP, is_signal, maskable, disposition_of, default_action, IsSignal, Action, LwpData, Mode, ProcData, Job, is_live, Rows, change_process}
-use Rattle.requests.proofs.CommonNames.{change_lwp, Settings, unwanted, notified, end, stop, is_end, Linked, FitProcess, FitLwp, IsSound, both, by_bool, find_some, choose, changed_own, process_sound}
-use Rattle.requests.proofs.CommonNames.{pending_fits, end_at, post_sound, Outcome, in_user_mode, next_signal, without_signal, plain, takes_by_default, takes_untraced, takes, computes, raises}
+use Rattle.requests.proofs.CommonNames.{◌≡◌, ℕ, Bool, true, false, ◌==◌, not, [], ◌∷◌, Option, Some, None, IfSome, is_some, refl, sym, ap, ◌∙◌, true≢false, subst, eqb-true, rules, le-leb, arith}
+use Rattle.requests.proofs.CommonNames.{nat_tests, has, bit, without, SIGTRAP, is_signal, maskable, disposition_of, default_action, IsSignal, Action, LwpData, Mode, ProcData, Job, is_live, Rows}
+use Rattle.requests.proofs.CommonNames.{change_process, change_lwp, Settings, unwanted, notified, end, stop, is_end, Linked, FitProcess, FitLwp, IsSound, both, by_bool, find_some, choose, changed_own}
+use Rattle.requests.proofs.CommonNames.{process_sound, pending_fits, end_at, post_sound, Outcome, in_user_mode, next_signal, without_signal, plain, takes_by_default, takes_untraced, takes, computes}
+use Rattle.requests.proofs.CommonNames.{raises}
 use Rattle.signals.proofs.Members.{lowest-some}
 use Rattle.trace_stop.proofs.Bits.{without_apart, without_less}
 use Rattle.trace_stop.proofs.SoundAfterNotify.{live_told, notified_sound}

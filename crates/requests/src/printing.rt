@@ -1,8 +1,7 @@
 //! The text of replies.
 ghost use Rattle.std.specs.Prelude.{◌∷◌, Some, map, decimal};
 ghost use Rattle.std.specs.List.{join_with_byte};
-ghost use Rattle.requests.specs.Words.{index_text, decision_words, reply_words};
-ghost use Rattle.requests.specs.Texts.{view_words, rest_words};
+ghost use Rattle.requests.specs.Words.{index_text, decision_words, view_words, rest_words, reply_words};
 
 use crate::Reply;
 use itoa::Buffer;
