@@ -1,7 +1,6 @@
 -- What a step is once its caller was looked up.
 use Rattle.requests.proofs.CommonNames.{◌≡◌, ℕ, true, Some, refl, ap, ◌∙◌, eqb-true, rules, ProcData, is_live, is_run, seen_process, PlainStep, Machine, step, step_of, checked, calls, caller_of, Rows}
-use Rattle.requests.proofs.CommonNames.{Rise, and_right, find_some, own_rows}
-use Rattle.requests.specs.Callers.{IsCaller, Calls}
+use Rattle.requests.proofs.CommonNames.{Rise, and_right, find_some, own_rows, IsCaller, Calls}
 
 -- A caller's step
 pub called : (u n : ℕ) (s : PlainStep) (m : Machine) → caller_of s ≡ Some n → (p : ProcData) → seen_process u n m.rows ≡ Some p → is_live p ≡ true → is_run p ≡ true → step u s m ≡ calls u s p m

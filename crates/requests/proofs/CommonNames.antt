@@ -18,7 +18,7 @@ pub use Rattle.std.proofs.Common.{IfSome, ap, append-nil, ap₂, arith, drop, eq
 pub use Rattle.std.proofs.Common.{subst, suc, sym, take, true≢false, zero, ◌-◌, ◌<◌, ◌∙◌}
 pub use Rattle.std.proofs.lemmas.Bool.{cases_Bool, cases_lt, le-leb, le-ltb, leb-false, leb-true, ltb-true}
 pub use Rattle.std.proofs.lemmas.Bool.Decides.{nat_tests}
-pub use Rattle.std.proofs.lemmas.List.{append_assoc, length-map, set-get_or, take_all}
+pub use Rattle.std.proofs.lemmas.List.{append_assoc, length-map, set-get_or, take_all, same_lists, get_or_default}
 pub use Rattle.signals.specs.Laws.{IsSignal}
 pub use Rattle.proc_table.proofs.Changes.{change-at, change_lwp-at, change_process-at, changed, changed_lwp, filter_map-map, map-id, remove_lwp-is}
 pub use Rattle.proc_table.proofs.Every.{every_found, every_untested, found_tested, some_and}
@@ -32,10 +32,10 @@ pub use Rattle.trace_stop.proofs.SoundAfterEdit.{lwps_alone, no_ring, nobody, no
 pub use Rattle.trace_stop.proofs.ProcessEdits.{changed_own, changed_row, changes_hold}
 pub use Rattle.trace_stop.proofs.Edited.{If_more, count_edit, edit_none, find_edit, if_at, one_gone, some_is}
 pub use Rattle.trace_stop.proofs.Every.{All-any, All-append, All-both, All-filter, All-from_list_all, All-imply, and_left, and_right, any_holds, any_more, both, by_bool, choose, choose_both}
-pub use Rattle.trace_stop.proofs.Every.{count-cons, find_some, list_all-from_All, not_some, or_left}
+pub use Rattle.trace_stop.proofs.Every.{count-cons, find_some, list_all-from_All, not_some, or_left, any_forward, or_true}
 pub use Rattle.trace_stop.proofs.FromSound.{IsSound-from, sound_rows-from, user_at, zip_users}
 pub use Rattle.trace_stop.proofs.Numbers.{one_row, own_lwps, the_lwp, the_row}
-pub use Rattle.trace_stop.proofs.Passes.{found_above, own_rows, process_edited}
+pub use Rattle.trace_stop.proofs.Passes.{found_above, own_rows, process_edited, rise_edited, filter_map_twice}
 pub use Rattle.trace_stop.proofs.SoundAfterSettle.{live_fits, live_state, pending_fits}
 pub use Rattle.trace_stop.proofs.SoundAfterPost.{detach_sound, end_at, post_sound, resume_sound}
 pub use Rattle.trace_stop.proofs.Settling.{disposed_sound, redisposed_lwp, settle_sound, zero_apart}
@@ -49,7 +49,7 @@ pub use Rattle.row_isolation.proofs.IsolationRelation.{Kept, Sim, at_number, eac
 pub use Rattle.wait4.proofs.SoundAfterCollect.{by_kept, collect_sound}
 pub use Rattle.requests.specs.Actors.{HasLwp, IsActing}
 pub use Rattle.requests.specs.Calls.{collect_reply, is_refused, list, sigaction, spawn, spawn_with, wait}
-pub use Rattle.requests.specs.Handle.{decided, done, handled_by, handles, handles_status, handles_stop, install, no_options, policies_in, policies_of, view_of}
+pub use Rattle.requests.specs.Handle.{decided, done, handled_by, handles, handles_status, handles_stop, install, no_options, policies_in, policies_of, view_of, handle}
 pub use Rattle.requests.specs.Hosts.{Steps, Tries, machine_of}
 pub use Rattle.requests.specs.Isolation.{Alone, Apart, Debugger, KeepsApart, OneStep, OtherStep, OwnRun, ApartInASoundHost, TwoLists, Users, host_after, own_replies, own_view, replies_to, reply_of}
 pub use Rattle.requests.specs.Laws.{SoundKept, SoundRuns, act_fits, step_fits}
@@ -64,3 +64,6 @@ pub use Rattle.requests.specs.Sound.{sound, sound_installed}
 pub use Rattle.requests.specs.Step.{caller_of, calls, checked, installs, step, step_of, uncalled}
 pub use Rattle.requests.specs.Turn.{acts, computes, due_or_more, due_stop, in_user_mode, job_stops, next_signal, plain, raises, signal_or_act, takes, takes_by_default, takes_untraced, turn, turn_by}
 pub use Rattle.requests.specs.Turn.{turn_of, turn_seen, waits, without_signal}
+pub use Rattle.requests.specs.Callers.{IsCaller, Calls, Barred}
+pub use Rattle.std.proofs.Math.ListN.{get_or-map, replicate}
+pub use Rattle.requests.specs.Ending.{may_end}

@@ -1,12 +1,10 @@
 -- After a step, what ended debuggers had installed goes; only the step's own user can have such.
-use Rattle.requests.proofs.CommonNames.{◌≡◌, ℕ, ◌+◌, ◌<◌, List, [], length, map, filter, set, Bool, true, sym, ap, ◌∙◌, arith, subst, get_or, length-map, IsUser, slot, Rows, PlainStep, Outcome, Installed}
-use Rattle.requests.proofs.CommonNames.{Machine, installed_by, is_live_at, after, sound, step, put_at, slots_differ, either}
-use Rattle.std.proofs.lemmas.List.{length-set, get_or-set_other}
+use Rattle.requests.proofs.CommonNames.{◌≡◌, ℕ, ◌+◌, ◌<◌, List, [], length, map, filter, set, Bool, true, sym, ap, ◌∙◌, arith, subst, get_or, length-map, IsUser, slot, Rows, PlainStep, Outcome}
+use Rattle.requests.proofs.CommonNames.{Installed, Machine, installed_by, is_live_at, after, sound, step, put_at, slots_differ, either, get_or-map, length-set, get_or-set_other}
 use Rattle.requests.specs.View.{view}
 use Rattle.requests.proofs.SoundWithoutEnded.{slots_of, same_at}
 use Rattle.requests.proofs.IsolationLaws.{other_step}
 use Rattle.requests.proofs.SoundHostIsApart.{users_are_apart_in_a_sound_host}
-use Rattle.std.proofs.Math.ListN.{get_or-map}
 
 -- the pairs of a user whose debugger lives in the rows
 abbrev pub left_in : Rows → ℕ → Machine → List Installed

@@ -1,7 +1,6 @@
 -- The stops at the entry and the exit of calls may be made: they are of traced processes.
 use Rattle.requests.proofs.CommonNames.{◌≡◌, Bool, ℕ, ◌*◌, true, false, ◌==◌, ltb, Option, IfSome, is_some, eq-eqb, lt-ltb, rules, arith, nat_tests, ltb-true, EventMask, Call, PL_FLAG_EXITED, shows}
-use Rattle.requests.proofs.CommonNames.{stop_where, entry_flags, ProcData, Shown, is_end, FitProcess, or_left, choose, zero_apart, trap, exit_stop}
-use Rattle.std.proofs.Common.{option_map}
+use Rattle.requests.proofs.CommonNames.{stop_where, entry_flags, ProcData, Shown, is_end, FitProcess, or_left, choose, zero_apart, trap, exit_stop, option_map}
 use Rattle.event_masks.specs.declared.StopFlags.{StopFlags}
 use Rattle.requests.proofs.Acting.{traced_where, MayMake}
 

@@ -2,9 +2,7 @@
 use Rattle.requests.proofs.CommonNames.{◌≡◌, ◌≢◌, ℕ, Some, None, List, [], set, true, false, refl, sym, ap, ◌∙◌, subst, inl, inr, set-get_or, IsUser, slot, Rows, PlainStep, Reply, Outcome, answers}
 use Rattle.requests.proofs.CommonNames.{arith, nat_tests, Installed, Machine, after, takes_memory, is_refusal, may_want, step_fits, sound, Steps, ProcData, step, calls, caller_of, Rule, length}
 use Rattle.requests.proofs.CommonNames.{installed_by, le-leb, not, ◌<◌, ◌≤◌, ◌++◌, ◌∷◌, if◌then◌else◌, cases_Bool, attempted_reply, Errno, Step, Attempts, Result, Ok, Err, uncalled, installs}
-use Rattle.requests.proofs.CommonNames.{outcome_of, Tries, step_of}
-use Rattle.requests.specs.Callers.{IsCaller, Calls, Barred}
-use Rattle.requests.specs.Ending.{may_end}
+use Rattle.requests.proofs.CommonNames.{outcome_of, Tries, step_of, IsCaller, Calls, Barred, may_end}
 use Rattle.requests.proofs.SoundWithoutEnded.{all_left, left_live, answers_same, rows_sound}
 use Rattle.requests.proofs.Outcomes.{Lives}
 use Rattle.requests.proofs.Called.{called, is_caller}

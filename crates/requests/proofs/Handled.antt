@@ -1,10 +1,9 @@
 -- What is decided about a trace stop, and what a handle asks.
-use Rattle.requests.proofs.CommonNames.{◌≡◌, ℕ, ◌≤◌, negsuc, ◌==◌, if◌then◌else◌, List, Option, Some, None, IfSome, refl, sym, ap, ap₂, subst, eq-eqb, arith, nat_tests, le-leb, LwpData, ProcData, rules}
-use Rattle.requests.proofs.CommonNames.{State, Rise, process_of, Rows, each, Settings, detach, IsSound, find_edit, Rule, Decision, StatusKind, Collected, collect, reported, rows_after, told, Outcome}
-use Rattle.requests.proofs.CommonNames.{answers, with_signal, done, no_options, handles_status, handles, handled_by, continues_with, choose, by_kept, Reply}
+use Rattle.requests.proofs.CommonNames.{◌≡◌, ℕ, ◌≤◌, negsuc, ◌==◌, if◌then◌else◌, List, Option, Some, None, IfSome, refl, sym, ap, ap₂, subst, eq-eqb, arith, nat_tests, le-leb, LwpData, ProcData}
+use Rattle.requests.proofs.CommonNames.{rules, State, Rise, process_of, Rows, each, Settings, detach, IsSound, find_edit, Rule, Decision, StatusKind, Collected, collect, reported, rows_after, told}
+use Rattle.requests.proofs.CommonNames.{Outcome, answers, with_signal, done, no_options, handles_status, handles, handled_by, continues_with, choose, by_kept, Reply, process_edited, rise_edited}
 use Rattle.stop_handlers.specs.declared.StopView.{StopView}
 use Rattle.wait4.specs.Collect as wait
-use Rattle.trace_stop.proofs.Passes.{process_edited, rise_edited}
 use Rattle.requests.proofs.SoundAfterFork.{heard}
 use Rattle.requests.proofs.Tracees.{continue_as}
 use Rattle.requests.proofs.SoundAfterCall.{reported_row}

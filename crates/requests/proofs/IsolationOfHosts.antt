@@ -1,10 +1,9 @@
 -- The work of a step on a host, compared with the same work without any other user.
-use Rattle.requests.proofs.CommonNames.{◌≡◌, ◌≢◌, ℕ, zero, suc, ◌+◌, ◌<◌, List, [], ◌∷◌, filter, map, true, ◌==◌, ◌&&◌, if◌then◌else◌, refl, sym, ap, ◌∙◌, arith, eqb-true, subst, eq-eqb, get_or, nat_tests}
-use Rattle.requests.proofs.CommonNames.{◌++◌, length, leb, set, get_or-set_other, length-set, IsUser, slot, users, rising, pid_owner, ProcData, is_live, of_user, Rows, Reply, Machine, Installed}
-use Rattle.requests.proofs.CommonNames.{installed_by, After, is_live_at, after, GoodProc, Debugger, Apart, filter-all, All-where, any_only, filter_same, Kept, Sim, own, is_own, named, AllByRecursion}
-use Rattle.requests.proofs.CommonNames.{list_any, choose_both, and_left, All-append, Rule, Outcome, refuses, install, slots_differ, put_at, length-map, Errno}
+use Rattle.requests.proofs.CommonNames.{◌≡◌, ◌≢◌, ℕ, zero, suc, ◌+◌, ◌<◌, List, [], ◌∷◌, filter, map, true, ◌==◌, ◌&&◌, if◌then◌else◌, refl, sym, ap, ◌∙◌, arith, eqb-true, subst, eq-eqb, get_or}
+use Rattle.requests.proofs.CommonNames.{nat_tests, ◌++◌, length, leb, set, get_or-set_other, length-set, IsUser, slot, users, rising, pid_owner, ProcData, is_live, of_user, Rows, Reply, Machine}
+use Rattle.requests.proofs.CommonNames.{Installed, installed_by, After, is_live_at, after, GoodProc, Debugger, Apart, filter-all, All-where, any_only, filter_same, Kept, Sim, own, is_own, named}
+use Rattle.requests.proofs.CommonNames.{AllByRecursion, list_any, choose_both, and_left, All-append, Rule, Outcome, refuses, install, slots_differ, put_at, length-map, Errno, get_or-map}
 use Rattle.requests.proofs.IsolationOfNewRows.{answered, Same}
-use Rattle.std.proofs.Math.ListN.{get_or-map}
 
 -- the rows are what u sees of m's, and so are the policies and the settings
 pub record Twin (u : ℕ) (m k : Machine) : Type 0 where

@@ -7,7 +7,7 @@ use Rattle.requests.proofs.CommonNames.{list, is_refused, sigaction, collect_rep
 use Rattle.requests.proofs.CommonNames.{not_stepping, set_mask, continues_with, switched, shows_info, does, commands_stopped, commands, is_attach, about, target_of, is_trace_me, ptrace, decided}
 use Rattle.requests.proofs.CommonNames.{view_of, done, handles_stop, handles_status, handles, no_options, GoodProc, GoodLwp, All-where, Sim, own, row_query, rows_query, lwp_query, lwps_query}
 use Rattle.requests.proofs.CommonNames.{process_same, If_more, branch_rows, process_same_after, lwp_same_after, change_same, and_left, and_right, pid_in_block, tid_in_block, AllByRecursion, Reply}
-use Rattle.std.proofs.Common.{option_map}
+use Rattle.requests.proofs.CommonNames.{option_map}
 use Rattle.row_isolation.proofs.FilteredLists.{find_some}
 use Rattle.row_isolation.proofs.IsolationOfSignals.{settle_same, is_numbered_foreign, own_some}
 use Rattle.row_isolation.proofs.IsolationOfEnds.{meets_same, post_same, stop_same, resume_same, detach_same}

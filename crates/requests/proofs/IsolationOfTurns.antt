@@ -6,8 +6,7 @@ use Rattle.requests.proofs.CommonNames.{add_process, Settings, released, Shown, 
 use Rattle.requests.proofs.CommonNames.{with_child, forks, exec_rows, makes_lwp, exits_lwp, leaves, due_at_birth, waits, due_stop, next_signal, without_signal, plain, job_stops, takes_by_default}
 use Rattle.requests.proofs.CommonNames.{takes_untraced, acts, signal_or_act, due_or_more, turn_by, turn_seen, turn, GoodProc, GoodLwp, LiveRow, Sim, not_own, named, process_same, at_number, each_same}
 use Rattle.requests.proofs.CommonNames.{choose, run_quiet, waited_for, Stays, stays_if, kin_of, branch_rows, process_same_after, lwp_same_after, lwp_removed_same, lwp_added_same, pid_in_block}
-use Rattle.requests.proofs.CommonNames.{tid_in_block, Due}
-use Rattle.std.proofs.Common.{option_map}
+use Rattle.requests.proofs.CommonNames.{tid_in_block, Due, option_map}
 use Rattle.row_isolation.proofs.IsolationOfSignals.{settle_same, notified_same}
 use Rattle.row_isolation.proofs.IsolationOfEnds.{end_same, released_kin, released_foreign, post_same, stop_same}
 use Rattle.requests.proofs.Room.{LwpRoom, ProcessRoom, lwp_room, process_room}

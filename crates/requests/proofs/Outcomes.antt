@@ -1,18 +1,17 @@
 -- What the work of a step leaves, kind by kind: a refused call changes nothing, none is out of memory, and each live process
 -- stays live, unless the answer is one that may end a process.
-use Rattle.requests.proofs.CommonNames.{◌≡◌, ℕ, ℤ, Bool, true, false, ◌==◌, not, ◌&&◌, ◌||◌, leb, if◌then◌else◌, List, [], ◌∷◌, filter, filter_map, Option, Some, None, is_some, refl, sym, ◌∙◌, true≢false}
-use Rattle.requests.proofs.CommonNames.{rules, arith, nat_tests, cases_Bool, list_any, SIGCHLD, Call, Action, Disposition, is_signal, has, LwpData, Due, Mode, User, InCall, VforkWait, born, ProcData}
-use Rattle.requests.proofs.CommonNames.{State, Trace, Job, is_live, is_run, is_zombie_state, placed, spawned, process_of, Rows, seen_lwp, Settings, Shown, Rule, Options, Collected, posted_process}
-use Rattle.requests.proofs.CommonNames.{settled_process, notifies, posted, stop, tracers, tracer_of, reported, without_report, add_lwp, add_process, is_numbered, Request, Act, Reply, Outcome, PlainStep}
-use Rattle.requests.proofs.CommonNames.{Step, Machine, After, after, answers, refuses, stops_or, stops_with, Numbers, room_for_process, in_mode, exit_stop, with_child, forked, exec_rows, forks, leaves}
-use Rattle.requests.proofs.CommonNames.{waits, due_stop, next_signal, without_signal, takes_by_default, takes, acts, signal_or_act, due_or_more, turn_by, turn_seen, turn, commands, is_attach, about}
-use Rattle.requests.proofs.CommonNames.{target_of, is_trace_me, ptrace, is_which, reach, reached, post_all, post_if_live, kill, spawn_with, sigaction, wait, handles, asks, PTRACE_FORK, EAGAIN}
-use Rattle.requests.proofs.CommonNames.{EINVAL, ESRCH, All-any, and_right, option_map, after_exec, set_disposition, without, bit, plain, trap, PL_FLAG_EXITED, SIGTRAP, entry_flags, child_stop, change_lwp}
-use Rattle.requests.proofs.CommonNames.{is_refusal, is_memory, told, handled_by, no_options, rows_after, collect, negsuc, sound, install, installed_by, length, ap}
+use Rattle.requests.proofs.CommonNames.{◌≡◌, ℕ, ℤ, Bool, true, false, ◌==◌, not, ◌&&◌, ◌||◌, leb, if◌then◌else◌, List, [], ◌∷◌, filter, filter_map, Option, Some, None, is_some, refl, sym, ◌∙◌}
+use Rattle.requests.proofs.CommonNames.{true≢false, rules, arith, nat_tests, cases_Bool, list_any, SIGCHLD, Call, Action, Disposition, is_signal, has, LwpData, Due, Mode, User, InCall, VforkWait}
+use Rattle.requests.proofs.CommonNames.{born, ProcData, State, Trace, Job, is_live, is_run, is_zombie_state, placed, spawned, process_of, Rows, seen_lwp, Settings, Shown, Rule, Options, Collected}
+use Rattle.requests.proofs.CommonNames.{posted_process, settled_process, notifies, posted, stop, tracers, tracer_of, reported, without_report, add_lwp, add_process, is_numbered, Request, Act, Reply}
+use Rattle.requests.proofs.CommonNames.{Outcome, PlainStep, Step, Machine, After, after, answers, refuses, stops_or, stops_with, Numbers, room_for_process, in_mode, exit_stop, with_child, forked}
+use Rattle.requests.proofs.CommonNames.{exec_rows, forks, leaves, waits, due_stop, next_signal, without_signal, takes_by_default, takes, acts, signal_or_act, due_or_more, turn_by, turn_seen, turn}
+use Rattle.requests.proofs.CommonNames.{commands, is_attach, about, target_of, is_trace_me, ptrace, is_which, reach, reached, post_all, post_if_live, kill, spawn_with, sigaction, wait, handles, asks}
+use Rattle.requests.proofs.CommonNames.{PTRACE_FORK, EAGAIN, EINVAL, ESRCH, All-any, and_right, option_map, after_exec, set_disposition, without, bit, plain, trap, PL_FLAG_EXITED, SIGTRAP}
+use Rattle.requests.proofs.CommonNames.{entry_flags, child_stop, change_lwp, is_refusal, is_memory, told, handled_by, no_options, rows_after, collect, negsuc, sound, install, installed_by, length, ap}
+use Rattle.requests.proofs.CommonNames.{may_end, any_forward, or_true}
 use Rattle.std.proofs.lemmas.List.Folds.{list_any-append}
-use Rattle.trace_stop.proofs.Every.{any_forward, or_true}
 use Rattle.wait4.specs.Collect.{collected, collected_in}
-use Rattle.requests.specs.Ending.{may_end}
 use Rattle.requests.specs.Refusals.{is_listing}
 use Rattle.requests.proofs.SoundWithoutEnded.{answers_same}
 use Rattle.requests.proofs.SoundAfterCall.{choose}

@@ -1,9 +1,7 @@
 -- The numbers that a user's limits leave room for.
 use Rattle.requests.proofs.CommonNames.{nat_tests, ◌≡◌, ℕ, zero, suc, ◌+◌, ◌-◌, ◌<◌, ◌≤◌, Bool, false, Option, Some, None, IfSome, arith, slot, pid_block, tid_block, first_free, next_free, Rows}
-use Rattle.requests.proofs.CommonNames.{is_process, is_lwp, process_count, lwp_count_of, Numbers, room_for_lwp, room_for_process}
-use Rattle.std.specs.Prelude.{get_or}
+use Rattle.requests.proofs.CommonNames.{is_process, is_lwp, process_count, lwp_count_of, Numbers, room_for_lwp, room_for_process, get_or, InBlock}
 use Rattle.pid_blocks.specs.declared.Block.{Block}
-use Rattle.pid_blocks.specs.Blocks.{InBlock}
 
 -- a free number between two
 record Free (taken : ℕ → Bool) (low high n : ℕ) : Type 0 where

@@ -1,9 +1,8 @@
 -- A signal sent to one process, and to all others of a user.
-use Rattle.requests.proofs.CommonNames.{nat_tests, ◌≡◌, ℕ, ◌-◌, ◌<◌, ◌≤◌, pos, negsuc, Bool, true, false, ◌==◌, ltb, ◌&&◌, not, List, [], ◌∷◌, filter, filter_map, find, Option, Some, None, IfSome, is_none}
-use Rattle.requests.proofs.CommonNames.{if◌then◌else◌, refl, sym, ap, ◌∙◌, arith, true≢false, eqb-true, rules, option_map, int_lt, cases_lt, le-leb, AllByRecursion, list_any, ProcData, process_of, is_live}
-use Rattle.requests.proofs.CommonNames.{of_user, Rows, seen_process, AllAbove, Rise, InOwnBlock, TableInvariant, process_of-pid, Settings, post, by_bool, All-imply, If_more, some_is, reach, post_if_live}
-use Rattle.requests.proofs.CommonNames.{post_all, reached, kill, next_other, refuses, ESRCH, own_rows, process_edited, Reply}
-use Rattle.std.specs.Prelude.{ℤ}
+use Rattle.requests.proofs.CommonNames.{nat_tests, ◌≡◌, ℕ, ◌-◌, ◌<◌, ◌≤◌, pos, negsuc, Bool, true, false, ◌==◌, ltb, ◌&&◌, not, List, [], ◌∷◌, filter, filter_map, find, Option, Some, None, IfSome}
+use Rattle.requests.proofs.CommonNames.{is_none, if◌then◌else◌, refl, sym, ap, ◌∙◌, arith, true≢false, eqb-true, rules, option_map, int_lt, cases_lt, le-leb, AllByRecursion, list_any, ProcData}
+use Rattle.requests.proofs.CommonNames.{process_of, is_live, of_user, Rows, seen_process, AllAbove, Rise, InOwnBlock, TableInvariant, process_of-pid, Settings, post, by_bool, All-imply, If_more}
+use Rattle.requests.proofs.CommonNames.{some_is, reach, post_if_live, post_all, reached, kill, next_other, refuses, ESRCH, own_rows, process_edited, Reply, ℤ}
 use Rattle.std.specs.Int.{FitsUnsignedBits}
 use Rattle.requests.proofs.Living.{live_found, live_none}
 use Rattle.requests.proofs.Walk.{above, above_none, above_first, above_next, next_over}

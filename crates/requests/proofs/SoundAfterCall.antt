@@ -2,9 +2,8 @@
 use Rattle.requests.proofs.CommonNames.{◌≡◌, ℕ, ℤ, Bool, true, false, ◌&&◌, not, if◌then◌else◌, Option, Some, None, refl, subst, ESRCH, EINVAL, set_disposition, Disposition, ProcData, is_live, is_run}
 use Rattle.requests.proofs.CommonNames.{arith, nat_tests, process_of, Rows, seen_process, IsSound, All-filter, find_some, disposed_sound, own_rows, Options, reportable, candidates, is_child, fits}
 use Rattle.requests.proofs.CommonNames.{reported, rows_after, Reply, PlainStep, answers, refuses, sigaction, wait, is_which, Machine, after, sound, checked, calls, collect_sound, Rise, is_refused}
-use Rattle.requests.proofs.CommonNames.{IsLiveOf, ap, run_quiet}
+use Rattle.requests.proofs.CommonNames.{IsLiveOf, ap, run_quiet, IsCaller}
 use Rattle.requests.proofs.SoundWithoutEnded.{rows_sound, after_sound}
-use Rattle.requests.specs.Callers.{IsCaller}
 use Rattle.requests.proofs.Called.{is_caller}
 use Rattle.requests.proofs.Living.{live_row}
 

@@ -1,10 +1,9 @@
 -- An LWP that changes its mode, that is made, or that exits keeps rows sound.
 use Rattle.requests.proofs.CommonNames.{◌≡◌, inl, ℕ, ◌≤◌, Bool, true, false, ◌==◌, leb, if◌then◌else◌, List, [], ◌∷◌, ◌++◌, find, Option, Some, None, IfSome, refl, sym, subst, arith, eqb-true, eq-eqb}
 use Rattle.requests.proofs.CommonNames.{rules, leb-false, IsUser, PL_FLAG_EXITED, shows, LwpData, Mode, born, lwp_of, ProcData, reporting, Rows, owner, by_owner, each, change_lwp, remove_lwp, add_lwp}
-use Rattle.requests.proofs.CommonNames.{lwp_count, InOwnBlock, Settings, Shown, stop, is_due, mode_fits, IsLiveChild, FitProcess, waited_for, FitLwp, IsSound, and_left, by_bool, find_some, choose, some_is}
-use Rattle.requests.proofs.CommonNames.{one_gone, Row, Beside, Same, Like, Stay, KeptRow, KeptLwp, nobody, holds_sound, sound_holds, row_is, like_self, kept_row, kept_all, kept_lwp, none_gone, no_ring}
-use Rattle.requests.proofs.CommonNames.{stay_where, edit_holds, lwps_alone, own_lwps, zero_apart, Outcome, due_stop, in_mode, due_at_birth, exits_lwp, nat_tests}
-use Rattle.lwp_table.specs.declared.Due.{Due}
+use Rattle.requests.proofs.CommonNames.{lwp_count, InOwnBlock, Settings, Shown, stop, is_due, mode_fits, IsLiveChild, FitProcess, waited_for, FitLwp, IsSound, and_left, by_bool, find_some, choose}
+use Rattle.requests.proofs.CommonNames.{some_is, one_gone, Row, Beside, Same, Like, Stay, KeptRow, KeptLwp, nobody, holds_sound, sound_holds, row_is, like_self, kept_row, kept_all, kept_lwp}
+use Rattle.requests.proofs.CommonNames.{none_gone, no_ring, stay_where, edit_holds, lwps_alone, own_lwps, zero_apart, Outcome, due_stop, in_mode, due_at_birth, exits_lwp, nat_tests, Due}
 use Rattle.trace_stop.proofs.SoundAfterThread.{joined_sound}
 use Rattle.requests.proofs.Acting.{Acting, its_live, its_quiet, lwp_fit, lwp_stands, acting_lwp, acting_stops}
 use Rattle.requests.proofs.Room.{LwpRoom}

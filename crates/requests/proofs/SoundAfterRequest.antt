@@ -1,13 +1,12 @@
 -- Each request of a debugger keeps a host sound.
 use Rattle.requests.proofs.CommonNames.{◌≡◌, ℕ, true, false, ◌==◌, ◌&&◌, leb, if◌then◌else◌, Option, Some, None, is_some, sym, subst, eqb-true, eq-eqb, rules, list_any, PTRACE_SCE, PTRACE_SCX, arith}
-use Rattle.requests.proofs.CommonNames.{nat_tests, PTRACE_FORK, PTRACE_LWP, mask_with, SIGKILL, LwpData, lwp_of, ProcData, is_live, process_of, Rows, owns, seen_lwp, find_seen, Settings, IsLiveOf, IsSound}
-use Rattle.requests.proofs.CommonNames.{and_left, and_right, both, find_some, choose, some_is, if_at, found_number, one_row, own_lwps, find_passes, detach_sound, Request, Outcome, attach, told_stop}
-use Rattle.requests.proofs.CommonNames.{bad_argument, stepping, switched, does, commands_stopped, commands, is_attach, is_trace_me, ptrace}
+use Rattle.requests.proofs.CommonNames.{nat_tests, PTRACE_FORK, PTRACE_LWP, mask_with, SIGKILL, LwpData, lwp_of, ProcData, is_live, process_of, Rows, owns, seen_lwp, find_seen, Settings, IsLiveOf}
+use Rattle.requests.proofs.CommonNames.{IsSound, and_left, and_right, both, find_some, choose, some_is, if_at, found_number, one_row, own_lwps, find_passes, detach_sound, Request, Outcome, attach}
+use Rattle.requests.proofs.CommonNames.{told_stop, bad_argument, stepping, switched, does, commands_stopped, commands, is_attach, is_trace_me, ptrace, IsCaller}
 use Rattle.requests.proofs.Asked.{told_reports}
 use Rattle.requests.proofs.SoundAfterCall.{caller_live, live_caller}
 use Rattle.requests.proofs.SoundAfterMask.{Tracee, OwnLwp, named_lwp, suspend_sound, set_mask_sound, resumes_sound, stepping_tracee, continues_sound}
 use Rattle.requests.proofs.SoundAfterAttach.{trace_me_sound, attach_sound}
-use Rattle.requests.specs.Callers.{IsCaller}
 
 -- the process that a target names
 

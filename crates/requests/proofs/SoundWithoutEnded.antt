@@ -1,12 +1,10 @@
 -- A host whose rows are sound after a step is sound, once the pairs of ended debuggers are gone.
 use Rattle.requests.proofs.CommonNames.{◌≡◌, ℕ, ◌+◌, ◌≤◌, List, [], ◌∷◌, length, map, filter, zip, Bool, true, ◌==◌, ◌&&◌, leb, ap, ◌∙◌, arith, eqb-true, subst, eq-eqb, get_or, rules, length-map}
 use Rattle.requests.proofs.CommonNames.{nat_tests, AllByRecursion, list_any, list_all, le-leb, IsUser, slot, pid_block, users, ProcData, is_live, Rows, InOwnBlock, is_live_of, sound_rows, IsLiveOf}
-use Rattle.requests.proofs.CommonNames.{MidStepInvariant, IsSound, and_left, and_right, both, All-from_list_all, list_all-from_All, any_holds, any_more, IsSound-from, sound_rows-from, user_at, zip_users}
-use Rattle.requests.proofs.CommonNames.{Outcome, answers, Reply, Installed, Machine, installed_by, is_live_at, after, sound_installed, sound, ◌<◌, filter-all, All-where}
-use Rattle.pid_blocks.specs.Blocks.{InBlock}
-use Rattle.std.proofs.lemmas.List.{same_lists, get_or_default}
+use Rattle.requests.proofs.CommonNames.{MidStepInvariant, IsSound, and_left, and_right, both, All-from_list_all, list_all-from_All, any_holds, any_more, IsSound-from, sound_rows-from, user_at}
+use Rattle.requests.proofs.CommonNames.{zip_users, Outcome, answers, Reply, Installed, Machine, installed_by, is_live_at, after, sound_installed, sound, ◌<◌, filter-all, All-where, get_or-map}
+use Rattle.requests.proofs.CommonNames.{same_lists, get_or_default, InBlock}
 use Rattle.std.proofs.lemmas.List.Sums.{length-filter, count_by-le-length}
-use Rattle.std.proofs.Math.ListN.{get_or-map}
 
 -- a live process with a number of the user's block is the user's
 any_of_user : (rows : Rows) (u n : ℕ) → IsUser u → InBlock (pid_block u) n → (ps : List ProcData) → AllByRecursion InOwnBlock ps

@@ -1,5 +1,9 @@
 -- A run checked by computation: its replies. Further runs are row files, tests/rows/runs.
-use Rattle.requests.specs.CommonNames.{◌≡◌, ℕ, negsuc, true, List, [], ◌∷◌, EventMask, StopFlags, Call, StatusKind, PlainStep, Step, Request, Act, Reply}
+use Rattle.requests.specs.CommonNames.{◌≡◌, ℕ, negsuc, true, List, [], ◌∷◌, EventMask, StopFlags, Call, StatusKind, PlainStep}
+use Rattle.requests.specs.declared.step.Step.{Step}
+use Rattle.requests.specs.declared.Request.{Request}
+use Rattle.requests.specs.declared.Act.{Act}
+use Rattle.requests.specs.declared.Reply.{Reply}
 use Rattle.lwpinfo.specs.declared.Event.TheVariants as event
 use Rattle.requests.specs.Machine.{Machine, empty}
 use Rattle.requests.specs.Handle.{no_options}
