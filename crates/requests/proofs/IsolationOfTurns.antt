@@ -4,9 +4,8 @@ use Rattle.requests.proofs.CommonNames.{subst, arith, nat_tests, rules, pid_owne
 use Rattle.requests.proofs.CommonNames.{disposition_of, default_action, Action, Disposition, ProcData, Job, LwpData, Mode, User, InCall, VforkWait, born, is_run, process_of, Rows, seen_lwp, add_lwp}
 use Rattle.requests.proofs.CommonNames.{add_process, Settings, released, Shown, Act, Reply, stops_with, stops_or, trap, Numbers, room_for_lwp, room_for_process, in_mode, exit_stop, forked, child_stop}
 use Rattle.requests.proofs.CommonNames.{with_child, forks, exec_rows, makes_lwp, exits_lwp, leaves, due_at_birth, waits, due_stop, next_signal, without_signal, plain, job_stops, takes_by_default}
-use Rattle.requests.proofs.CommonNames.{takes_untraced, acts, signal_or_act, due_or_more, turn_by, turn_seen, turn, GoodProc, GoodLwp, LiveRow, Sim, not_own, named, process_same, at_number, each_same}
-use Rattle.requests.proofs.CommonNames.{choose, run_quiet, waited_for, Stays, stays_if, kin_of, branch_rows, process_same_after, lwp_same_after, lwp_removed_same, lwp_added_same, pid_in_block}
-use Rattle.requests.proofs.CommonNames.{tid_in_block, Due, option_map}
+use Rattle.requests.proofs.CommonNames.{takes_untraced, acts, signal_or_act, due_or_more, turn_by, turn_seen, turn, GoodProc, GoodLwp, LiveRow, Sim, named, process_same, at_number, each_same, choose}
+use Rattle.requests.proofs.CommonNames.{run_quiet, waited_for, kin_of, branch_rows, process_same_after, lwp_same_after, lwp_removed_same, lwp_added_same, pid_in_block, tid_in_block, Due, option_map}
 use Rattle.row_isolation.proofs.IsolationOfSignals.{settle_same, notified_same}
 use Rattle.row_isolation.proofs.IsolationOfEnds.{end_same, released_kin, released_foreign, post_same, stop_same}
 use Rattle.requests.proofs.Room.{LwpRoom, ProcessRoom, lwp_room, process_room}
@@ -70,15 +69,6 @@ exec_rows_same : {u : ℕ} {start c v : Rows} → Sim u start c v → (p : ProcD
 exec_rows_same {u} s p l here = settle_same (each_same s
     (λ q. Some (if q.pid == p.pid then record q { dispositions = after_exec q.dispositions } else q))
     (λ q k. if q.pid == p.pid then (if k.tid == l.tid then Some (record k { mode = User }) else None) else Some (released (λ n. n == p.pid) q k)) (grind (arith, nat_tests, kin_of, choose, released_kin, released_foreign))) p.pid here
-  where
-    not_numbered : (q : ProcData) → GoodProc q → q.uid ≢ u → (q.pid == p.pid) ≡ false
-    not_numbered q good ne = not_own p.pid q.pid (λ e. ne (named here q good e))
-
-    not_over : (n : ℕ) → pid_owner n ≢ u → (n == p.pid) ≡ false
-    not_over n ne = not_own p.pid n (λ e. ne (ap pid_owner e ∙ here))
-
-    kept : (q : ProcData) → GoodProc q → Stays q (if q.pid == p.pid then record q { dispositions = after_exec q.dispositions } else q)
-    kept q good = stays_if q (record q { dispositions = after_exec q.dispositions }) (q.pid == p.pid) good (λ e. (refl, refl, record { user = good.user; block = good.block; tracer = good.tracer; parent = good.parent; reporting = good.reporting; collector = good.collector }, λ live. live))
 
 makes_lwp_same : {u : ℕ} {start c v : Rows} → Sim u start c v → (p : ProcData) (l : LwpData) → Turning u c p l → (o : Option ℕ) → IfSome o (LwpRoom u c) → Same u start (makes_lwp p l c o) (makes_lwp p l v o)
 makes_lwp_same s p l t None g = answered s _

@@ -2,16 +2,16 @@
 -- stays live, unless the answer is one that may end a process.
 use Rattle.requests.proofs.CommonNames.{◌≡◌, ℕ, ℤ, Bool, true, false, ◌==◌, not, ◌&&◌, ◌||◌, leb, if◌then◌else◌, List, [], ◌∷◌, filter, filter_map, Option, Some, None, is_some, refl, sym, ◌∙◌}
 use Rattle.requests.proofs.CommonNames.{true≢false, rules, arith, nat_tests, cases_Bool, list_any, SIGCHLD, Call, Action, Disposition, is_signal, has, LwpData, Due, Mode, User, InCall, VforkWait}
-use Rattle.requests.proofs.CommonNames.{born, ProcData, State, Trace, Job, is_live, is_run, is_zombie_state, placed, spawned, process_of, Rows, seen_lwp, Settings, Shown, Rule, Options, Collected}
-use Rattle.requests.proofs.CommonNames.{posted_process, settled_process, notifies, posted, stop, tracers, tracer_of, reported, without_report, add_lwp, add_process, is_numbered, Request, Act, Reply}
-use Rattle.requests.proofs.CommonNames.{Outcome, PlainStep, Step, Machine, After, after, answers, refuses, stops_or, stops_with, Numbers, room_for_process, in_mode, exit_stop, with_child, forked}
-use Rattle.requests.proofs.CommonNames.{exec_rows, forks, leaves, waits, due_stop, next_signal, without_signal, takes_by_default, takes, acts, signal_or_act, due_or_more, turn_by, turn_seen, turn}
-use Rattle.requests.proofs.CommonNames.{commands, is_attach, about, target_of, is_trace_me, ptrace, is_which, reach, reached, post_all, post_if_live, kill, spawn_with, sigaction, wait, handles, asks}
+use Rattle.requests.proofs.CommonNames.{born, ProcData, Trace, Job, is_live, is_run, placed, spawned, process_of, Rows, seen_lwp, Settings, Shown, Rule, Options, Collected, posted_process}
+use Rattle.requests.proofs.CommonNames.{settled_process, notifies, posted, stop, tracers, tracer_of, reported, without_report, add_lwp, add_process, is_numbered, Request, Act, Reply, Outcome}
+use Rattle.requests.proofs.CommonNames.{PlainStep, Step, Machine, After, after, answers, refuses, stops_or, stops_with, Numbers, room_for_process, in_mode, exit_stop, with_child, forked, exec_rows}
+use Rattle.requests.proofs.CommonNames.{forks, leaves, waits, due_stop, next_signal, without_signal, takes_by_default, takes, acts, signal_or_act, due_or_more, turn_by, turn_seen, turn, commands}
+use Rattle.requests.proofs.CommonNames.{is_attach, about, target_of, is_trace_me, ptrace, is_which, reach, reached, post_all, post_if_live, kill, spawn_with, sigaction, wait, handles, asks}
 use Rattle.requests.proofs.CommonNames.{PTRACE_FORK, EAGAIN, EINVAL, ESRCH, All-any, and_right, option_map, after_exec, set_disposition, without, bit, plain, trap, PL_FLAG_EXITED, SIGTRAP}
 use Rattle.requests.proofs.CommonNames.{entry_flags, child_stop, change_lwp, is_refusal, is_memory, told, handled_by, no_options, rows_after, collect, negsuc, sound, install, installed_by, length, ap}
 use Rattle.requests.proofs.CommonNames.{may_end, any_forward, or_true}
 use Rattle.std.proofs.lemmas.List.Folds.{list_any-append}
-use Rattle.wait4.specs.Collect.{collected, collected_in}
+use Rattle.wait4.specs.Collect.{collected}
 use Rattle.requests.specs.Refusals.{is_listing}
 use Rattle.requests.proofs.SoundWithoutEnded.{answers_same}
 use Rattle.requests.proofs.SoundAfterCall.{choose}
@@ -185,12 +185,9 @@ pub kill_fair : (settings : Settings) (u caller : ℕ) (which : ℤ) (s : ℕ) (
 kill_fair settings u caller which s rows = choose (not (leb s 31) || not (is_which which)) _ _ (Fair (λ r. s == 9) rows) (left (λ r. s == 9) rows (Reply.Errno EINVAL) refl) (reached_fair settings s (reach u caller which rows) rows)
 
 -- only a zombie goes where it is collected
-collected_spares : (caller : ℕ) (p : ProcData) (s : State) → is_live p ≡ true → not (is_zombie_state s) ≡ true → spares p (collected_in caller p s) ≡ true
-collected_spares caller p s live own = grind (arith, nat_tests, live, own)
-
 report_live : (caller : ℕ) (o : Option ProcData) (rows : Rows) → Lives rows.processes (without_report caller o rows).processes
 report_live caller None rows = all_live rows.processes
-report_live caller (Some p) rows = live_then (live_edit (λ q. if q.pid == p.pid then collected caller q else Some q) (λ q live. grind (arith, nat_tests, collected_spares caller q q.state live live)) rows.processes) (live_notified (told caller p) _)
+report_live caller (Some p) rows = live_then (live_edit (λ q. if q.pid == p.pid then collected caller q else Some q) (λ q live. grind (arith, nat_tests, live)) rows.processes) (live_notified (told caller p) _)
 
 pub wait_fair : (p : ProcData) (which : ℤ) (options : Options) (rows : Rows) → Fair never rows (wait p which options rows)
 wait_fair p which options rows = choose (not (is_which which)) _ _ (Fair never rows) (left never rows (Reply.Errno EINVAL) refl) (grind (arith, nat_tests, left, by_option, done, report_live))

@@ -42,9 +42,6 @@ module _ (rows : Rows) (p : ProcData) (l : LwpData) (a : Acting rows p l) where
   found_lwp = find_edit (λ k. k.tid == l.tid) (λ k. by_owner exec_lwp k (owner rows k)) (λ x. If_more (λ k. (k.tid ≡ x.tid) × (k.pid ≡ x.pid)) (λ k. (k.tid == l.tid) ≡ (x.tid == l.tid)) (λ k n. ap (λ m. m == l.tid) n.0) (by_owner exec_lwp x (owner rows x)) (same_lwp rows to exec_lwp same x)) rows.lwps l (record l { mode = User }) a.there
       (ap (by_owner exec_lwp l) (owner_is rows p l a) ∙ rw (eq-eqb p.pid p.pid refl, eq-eqb l.tid l.tid refl) refl)
 
-  user_fits : (q : ProcData) (k : LwpData) → FitLwp q k → FitLwp q (record k { mode = User })
-  user_fits q k fit = grind (arith, nat_tests)
-
   -- the rows, except for pending signals
   pub exec_but_pending : IsSoundButPending p.pid made
   exec_but_pending = record { stands = held.stands; processes = held.processes; lwps = held.lwps }
@@ -70,7 +67,7 @@ module _ (rows : Rows) (p : ProcData) (l : LwpData) (a : Acting rows p l) where
             (λ e. quiet_row rows p l a q (redisposed q) row e (record { live = refl; tracer = inl refl; parent = refl }) refl some (apart q _ e, λ its. (redisposed_fits (after_exec q.dispositions) q row.fact (alive q row e), alive q row e)))
             (λ e. kept_all row (like_self q) (inl refl) (stay rows to exec_lwp same q row.at (λ k. (released waits_for_it q k, rw e refl))) (λ ne. row.fact, other q _ e));
         lwp = λ q k b on. choose_both (λ r o. IfSome o (KeptLwp rows made nobody (FitLwpButPending p.pid) q r)) (q.pid == p.pid) (redisposed q) q (if k.tid == l.tid then Some (record k { mode = User }) else None) (Some (released waits_for_it q k))
-            (grind (arith, nat_tests, by_lwp, nobody, quiet_lwp, redisposed_lwp, user_fits))
+            (grind (arith, nat_tests, by_lwp, nobody, quiet_lwp, redisposed_lwp))
             (λ e. record {
               exited = λ shown. let two = b.stood.exited (subst (λ f. shows f PL_FLAG_EXITED ≡ true) (released_flags waits_for_it q k) shown) in let more = (stay rows to exec_lwp same q b.row.at (λ k. (released waits_for_it q k, rw e refl))).count in omega (arith, two, more);
               waits = If_more _ (λ c. IsLiveChild rows q c × (nobody c ≡ false)) (λ c h. (h.0, refl)) (waited_for (released waits_for_it q k).mode) (released_waits waits_for_it q k (IsLiveChild rows q) b.stood.waits);

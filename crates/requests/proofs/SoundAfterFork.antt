@@ -1,7 +1,7 @@
 -- A fork keeps rows sound.
-use Rattle.requests.proofs.CommonNames.{◌≡◌, ◌≢◌, ℕ, Bool, true, false, ◌==◌, if◌then◌else◌, List, [], ◌∷◌, ◌++◌, find, Some, None, IfSome, is_some, refl, sym, ap, ◌∙◌, true≢false, subst, eqb, arith}
+use Rattle.requests.proofs.CommonNames.{◌≡◌, ◌≢◌, ℕ, Bool, true, false, ◌==◌, if◌then◌else◌, List, [], ◌∷◌, ◌++◌, find, Some, None, is_some, refl, sym, ap, ◌∙◌, true≢false, subst, eqb, arith}
 use Rattle.requests.proofs.CommonNames.{nat_tests, eqb-true, eq-eqb, rules, list_any, Call, SIGCHLD, LwpData, born, lwp_of, ProcData, Trace, is_live, process_of, Rows, change_process, change_lwp}
-use Rattle.requests.proofs.CommonNames.{add_process, add_lwp, posted_process, posted_lwp, notified, tracer_of, tracers, stop, Shown, MayStop, IsLiveOf, IsLiveChild, IsSound, and_left, by_bool, choose}
+use Rattle.requests.proofs.CommonNames.{add_process, add_lwp, posted_process, posted_lwp, notified, tracer_of, tracers, stop, Shown, MayStop, IsLiveChild, IsSound, and_left, by_bool, choose}
 use Rattle.requests.proofs.CommonNames.{find_edit, zero_apart, find_passes, sound_ready, stopped_sound, Numbers, forked, child_stop, with_child, changed_own, Due, find_some}
 use Rattle.std.specs.Option.{IsSomeAnd}
 use Rattle.trace_stop.proofs.Children.{child_test, child_passes}
@@ -45,11 +45,8 @@ module _ (call : Call) (rows : Rows) (p : ProcData) (l : LwpData) (a : Acting ro
   abbrev made : Bool → Rows
   made followed = add_lwp p.uid its_lwp (add_process (child followed) rows)
 
-  its_tracer : (b : Bool) → IfSome (if b then p.tracer else None) (IsLiveOf rows p.uid)
-  its_tracer b = grind (arith, nat_tests, find_some)
-
   pub made_sound : (followed : Bool) → (followed ≡ true → is_some p.tracer ≡ true) → IsSound (made followed)
-  made_sound followed traced = born_sound rows (child followed) its_lwp a.sound (grind (arith, nat_tests, room, its_user rows p l a, its_tracer followed, (live_row rows p a.home (its_live rows p l a)), traced, lwp_fit rows p l a, zero_apart))
+  made_sound followed traced = born_sound rows (child followed) its_lwp a.sound (grind (arith, nat_tests, room, its_user rows p l a, find_some, (live_row rows p a.home (its_live rows p l a)), traced, lwp_fit rows p l a, zero_apart))
 
   -- unused numbers
   other_pid : p.pid ≢ new.pid
