@@ -7,7 +7,7 @@ use Rattle.requests.proofs.SoundWithoutEnded.{all_left, left_live, answers_same,
 use Rattle.requests.proofs.Outcomes.{Lives}
 use Rattle.requests.proofs.Called.{called, is_caller}
 use Rattle.requests.proofs.Drops.{left_in, kept_by, drops}
-use Rattle.requests.proofs.Installing.{installed_with, few_leb}
+use Rattle.requests.proofs.Installing.{installed_with}
 use Rattle.requests.proofs.Replies.{cases_memory, other}
 use Rattle.requests.proofs.RefusalsChangeNothing.{no_step_runs_out_of_memory, a_refusal_changes_nothing, step_fair}
 use Rattle.requests.proofs.StaysSound.{sound_kept}
@@ -33,12 +33,9 @@ module _ (u : ℕ) (s : PlainStep) (m : Machine) (user : IsUser u) (is : sound m
   finished o rows (Ok r) same did = grind (arith, nat_tests, from_machine (kept_by u rows m) r (λ ok. (ap (λ x. kept_by u x m) did.gives.rows ∙ sym (drops m u user is s o same) ∙ sym (ap (λ a. a.machine) same), did.gives.reply ∙ sym (ap (λ a. a.reply) same))) (λ e. absurd (no_step_runs_out_of_memory u s m (ap (λ a. a.reply) same ∙ sym did.gives.reply ∙ e))), no_step_runs_out_of_memory)
   finished o rows (Err e) same did = from_machine (kept_by u rows m) (Reply.Errno Errno.ENOMEM) (λ plenty. absurd (plenty refl))
       (λ e. (
-        ap (λ x. kept_by u x m) did.same ∙ ap (λ x. record m { installed = x }) (ap (set_at m.installed) (all_left m is u user) ∙ set-get_or m.installed (slot u) []),
+        ap (λ x. kept_by u x m) did.same ∙ ap (λ x. record m { installed = x }) (ap (λ ys. set m.installed (slot u) ys) (all_left m is u user) ∙ set-get_or m.installed (slot u) []),
         rw (did.takes, ap (λ a. is_refusal a.reply) same ∙ did.unrefused) refl,
       ))
-    where
-      set_at : List (List Installed) → List Installed → List (List Installed)
-      set_at xs ys = set xs (slot u) ys
 
   -- which are none where the step ends no process
   pub none_ended : {E : Type 0} (o : Outcome) (rows : Rows) (r : Result Reply E) → step u s m ≡ after m o → Attempts (takes_memory u s m) o m.rows rows r → may_end s (attempted_reply r) ≡ false → set m.installed (slot u) (left_in rows u m) ≡ m.installed
@@ -87,7 +84,7 @@ module _ {u : ℕ} {h m : Machine} (view : h ≡ m) (user : IsUser u) (kept : so
           (called u n (Step.Install n policy) m refl p found.seen found.live found.runs ∙ rw (le-leb 64 (length (installed_by u m)) many) refl)
 
       made : length (installed_by u h) < 64 → step u (Step.Install n policy) h ≡ installed_with u p.pid policy h
-      made few = called u n (Step.Install n policy) h refl p by_host.seen by_host.live by_host.runs ∙ rw (few_leb (length (installed_by u h)) few) refl
+      made few = called u n (Step.Install n policy) h refl p by_host.seen by_host.live by_host.runs ∙ grind (arith, nat_tests, few)
 
       pub host_installed : {xs : List (List Installed)} → length (installed_by u h) < 64 → xs ≡ set h.installed (slot u) (installed_by u h ++ (record { debugger = p.pid; policy = policy } ∷ [])) → Steps u (Step.Install n policy) h (record h { installed = xs }) Reply.Done
       host_installed {xs} few done = grind (arith, nat_tests, from_machine u (Step.Install n policy) h user kept refl (record h { installed = xs }) Reply.Done (λ ok. (ap (λ ys. record h { installed = ys }) done ∙ sym (ap (λ a. a.machine) (made few)), sym (ap (λ a. a.reply) (made few)))) (λ e. absurd (other Reply.Done refl e)), other)

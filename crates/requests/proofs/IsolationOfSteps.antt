@@ -1,12 +1,13 @@
 -- AllByRecursion step, on all rows and on a user's.
-use Rattle.requests.proofs.CommonNames.{rules, nat_tests, ◌≡◌, ℕ, ℤ, pos, negsuc, List, [], ◌∷◌, map, take, true, false, ◌==◌, ◌&&◌, not, leb, Option, IfSome, refl, sym, ap, ◌∙◌, eqb-true, subst}
-use Rattle.requests.proofs.CommonNames.{eq-eqb, arith, pid_owner, tid_owner, EventMask, PTRACE_SCE, PTRACE_SCX, PTRACE_FORK, PTRACE_LWP, mask_with, SIGKILL, set_disposition, Disposition, ProcData}
-use Rattle.requests.proofs.CommonNames.{State, LwpData, lwp_of, first_lwp, process_of, of_user, named_by, Rows, seen_process, find_seen, Settings, Options, Collected, StatusKind, reported, collect}
-use Rattle.requests.proofs.CommonNames.{rows_after, info, lwp_info, Rule, Decision, Request, Numbers, room_for_process, spawn_with, spawn, list, is_refused, sigaction, collect_reply, wait, is_which}
-use Rattle.requests.proofs.CommonNames.{reach, post_if_live, post_all, reached, kill, stop_first, attach, not_stepping, set_mask, continues_with, switched, shows_info, does, commands_stopped}
-use Rattle.requests.proofs.CommonNames.{commands, about, target_of, is_trace_me, ptrace, done, handles_stop, handles_status, handles, no_options, GoodProc, GoodLwp, All-where, Sim, own, row_query}
-use Rattle.requests.proofs.CommonNames.{rows_query, lwp_query, lwps_query, process_same, If_more, branch_rows, process_same_after, lwp_same_after, change_same, and_left, and_right, pid_in_block}
-use Rattle.requests.proofs.CommonNames.{tid_in_block, AllByRecursion, Reply, option_map}
+use Rattle.requests.proofs.CommonNames.{is_some, traces, told_stop}
+use Rattle.requests.proofs.CommonNames.{rules, nat_tests, ◌≡◌, ℕ, ℤ, pos, negsuc, List, [], ◌∷◌, map, take, true, false, ◌==◌, ◌&&◌, not, leb, if◌then◌else◌, Option, Some, None, IfSome, refl, sym, ap}
+use Rattle.requests.proofs.CommonNames.{◌∙◌, eqb-true, subst, eq-eqb, arith, pid_owner, tid_owner, EventMask, PTRACE_SCE, PTRACE_SCX, PTRACE_FORK, PTRACE_LWP, mask_with, SIGKILL, set_disposition}
+use Rattle.requests.proofs.CommonNames.{Disposition, ProcData, State, Trace, LwpData, lwp_of, first_lwp, is_live, process_of, of_user, named_by, Rows, seen_process, find_seen, Settings, Options}
+use Rattle.requests.proofs.CommonNames.{Collected, StatusKind, reported, collect, rows_after, info, lwp_info, Rule, Decision, Request, Numbers, room_for_process, spawn_with, spawn, list, is_refused}
+use Rattle.requests.proofs.CommonNames.{sigaction, collect_reply, wait, is_which, reach, post_if_live, post_all, reached, kill, stop_first, attach, bad_argument, not_stepping, set_mask}
+use Rattle.requests.proofs.CommonNames.{continues_with, switched, shows_info, does, commands_stopped, commands, is_attach, about, target_of, is_trace_me, ptrace, decided, view_of, done, handles_stop}
+use Rattle.requests.proofs.CommonNames.{handles_status, handles, no_options, GoodProc, GoodLwp, All-where, Sim, own, row_query, rows_query, lwp_query, lwps_query, process_same, If_more, branch_rows}
+use Rattle.requests.proofs.CommonNames.{process_same_after, lwp_same_after, change_same, and_left, and_right, pid_in_block, tid_in_block, AllByRecursion, Reply, option_map}
 use Rattle.row_isolation.proofs.FilteredLists.{find_some}
 use Rattle.row_isolation.proofs.IsolationOfSignals.{settle_same, is_numbered_foreign, own_some}
 use Rattle.row_isolation.proofs.IsolationOfEnds.{meets_same, post_same, stop_same, resume_same, detach_same}
@@ -43,7 +44,8 @@ wait_same s p which options here = branch (not (is_which which)) _ refl (λ b. a
 -- Kill
 
 if_live_same : {u : ℕ} {start c v : Rows} → Sim u start c v → (settings : Settings) (sig : ℕ) (o : Option ProcData) → IfSome o (λ p. GoodProc p × (p.uid ≡ u)) → Sim u start (post_if_live settings sig o c) (post_if_live settings sig o v)
-if_live_same s settings sig o g = search (rules, branch_rows, post_same)
+if_live_same s settings sig None g = s
+if_live_same s settings sig (Some p) g = branch_rows (is_live p && not (sig == 0)) _ refl (λ b. post_same s settings sig None p.pid (g.0.block ∙ g.1)) (λ b. s)
 
 post_all_same : {u : ℕ} {start : Rows} (settings : Settings) (sig : ℕ) (ps : List ProcData) → AllByRecursion (λ p. pid_owner p.pid ≡ u) ps → (c v : Rows) → Sim u start c v → Sim u start (post_all settings sig ps c) (post_all settings sig ps v)
 post_all_same settings sig [] all c v s = s
@@ -51,7 +53,8 @@ post_all_same {u} {start} settings sig (p ∷ ps) all c v s = post_all_same sett
     (subst (λ o. Sim u start (post_if_live settings sig (process_of p.pid c.processes) c) (post_if_live settings sig o v)) (process_same s p.pid all.0) (if_live_same s settings sig (process_of p.pid c.processes) (own_some s p.pid all.0)))
 
 reached_same : {u : ℕ} {start c v : Rows} → Sim u start c v → (settings : Settings) (sig : ℕ) (ps : List ProcData) → AllByRecursion (λ p. pid_owner p.pid ≡ u) ps → Same u start (reached settings sig ps c) (reached settings sig ps v)
-reached_same s settings sig ps all = search (rules, answered, post_all_same)
+reached_same s settings sig [] all = answered s _
+reached_same {u} {start} {c} {v} s settings sig (p ∷ ps) all = answered (post_all_same settings sig (p ∷ ps) all c v s) _
 
 reach_same : {u : ℕ} {start c v : Rows} → Sim u start c v → (caller : ℕ) (which : ℤ) → reach u caller which c ≡ reach u caller which v
 reach_same s caller which = grind (arith, nat_tests, of_user_same)
@@ -105,16 +108,23 @@ does_same s settings Request.LwpEvents «data» tid p here t = answered (set_mas
 does_same s settings r «data» tid p here t = answered s _
 
 commands_stopped_same : {u : ℕ} {start c v : Rows} → Sim u start c v → (settings : Settings) (r : Request) (target «data» : ℕ) (p : ProcData) → pid_owner p.pid ≡ u → (leb target 99999 ≡ false → tid_owner target ≡ u) → (o : Option ℕ) → IfSome o (λ t. tid_owner t ≡ u) → Same u start (commands_stopped settings r target «data» p c o) (commands_stopped settings r target «data» p v o)
-commands_stopped_same s settings r target «data» p here lwp o g = search (rules, branch, answered, does_same)
+commands_stopped_same s settings r target «data» p here lwp None g = answered s _
+commands_stopped_same {u} s settings r target «data» p here lwp (Some tid) g = branch (bad_argument r «data») _ refl (λ b. answered s _) (λ b. does_same s settings r «data» (if leb target 99999 then tid else target) p here (grind (arith, nat_tests, g, lwp)))
 
 abbrev pub Target : ℕ → ℕ → ProcData → Type 0
 Target u target p = GoodProc p × (p.uid ≡ u) × (leb target 99999 ≡ false → tid_owner target ≡ u)
 
 commands_same : {u : ℕ} {start c v : Rows} → Sim u start c v → (settings : Settings) (me : ProcData) (r : Request) (target «data» : ℕ) (p : ProcData) → Target u target p → Same u start (commands settings me r target «data» p c) (commands settings me r target «data» p v)
-commands_same s settings me r target «data» p g = search (rules, branch, answered, commands_stopped_same)
+commands_same {u} s settings me r target «data» p g =
+    branch (not (is_some p.tracer)) _ refl (λ b. answered s _) (λ b.
+    branch (not (traces me.pid p)) _ refl (λ b. answered s _) (λ b.
+    commands_stopped_same s settings r target «data» p (g.0.block ∙ g.1) g.2 (told_stop p.state) (grind (arith, nat_tests))))
 
 about_same : {u : ℕ} {start c v : Rows} → Sim u start c v → (settings : Settings) (me : ProcData) (r : Request) (target «data» : ℕ) → pid_owner me.pid ≡ u → (o : Option ProcData) → IfSome o (Target u target) → Same u start (about settings me r target «data» o c) (about settings me r target «data» o v)
-about_same s settings me r target «data» by o g = search (rules, branch, answered, attach_same, commands_same)
+about_same s settings me r target «data» by None g = answered s _
+about_same s settings me r target «data» by (Some p) g =
+    branch (not (is_live p)) _ refl (λ b. answered s _) (λ b.
+    branch (is_attach r) _ refl (λ b. attach_same s me p by (g.0.block ∙ g.1)) (λ b. commands_same s settings me r target «data» p g))
 
 find_facts : {u : ℕ} {start c v : Rows} → Sim u start c v → (target : ℕ) → IfSome (find_seen u target c) (λ n. (pid_owner n ≡ u) × (leb target 99999 ≡ false → tid_owner target ≡ u))
 find_facts s target = grind (arith, nat_tests, seen_some s target, seen_lwp_some s target)
@@ -129,16 +139,24 @@ ptrace_same {u} {start} {c} {v} s settings me r target «data» good mine = bran
 -- Handlers
 
 done_same : {u : ℕ} {start c v : Rows} → Sim u start c v → (settings : Settings) (d : Decision) (p : ProcData) → pid_owner p.pid ≡ u → Sim u start (done settings d p c) (done settings d p v)
-done_same s settings d p here = search (rules, continues_with_same, detach_same, resume_same)
+done_same s settings (Decision.Continue sig) p here = (continues_with_same s settings (λ mask. mask) sig p here).rows
+done_same s settings (Decision.Detach sig) p here = detach_same s settings p.pid sig here
+done_same s settings Decision.Kill p here = resume_same s settings p.pid SIGKILL here
+done_same s settings d p here = s
 
 handles_stop_same : {u : ℕ} {start c v : Rows} → Sim u start c v → (settings : Settings) (policies : List (List Rule)) (p : ProcData) (tid sig : ℕ) (status : StatusKind) → pid_owner p.pid ≡ u → (o : Option LwpData) → Same u start (handles_stop settings policies p tid sig status c o) (handles_stop settings policies p tid sig status v o)
-handles_stop_same s settings policies p tid sig status here o = search (rules, answered, done_same)
+handles_stop_same s settings policies p tid sig status here None = answered s _
+handles_stop_same s settings policies p tid sig status here (Some l) = answered (done_same s settings (decided policies 0 (view_of p tid sig l)).decision p here) _
 
 handles_status_same : {u : ℕ} {start c v : Rows} → Sim u start c v → (settings : Settings) (policies : List (List Rule)) (status : StatusKind) (p : ProcData) → pid_owner p.pid ≡ u → (st : State) → IfSome (named_by st) (λ t. tid_owner t ≡ u) → Same u start (handles_status settings policies status p c st) (handles_status settings policies status p v st)
-handles_status_same s settings policies status p here st g = search (rules, answered, handles_stop_same, lwp_of_same s)
+handles_status_same {u} {start} {c} {v} s settings policies status p here (Trace tid sig told) g = subst (λ o. Same u start (handles_stop settings policies p tid sig status c (lwp_of tid c.lwps)) (handles_stop settings policies p tid sig status v o)) (lwp_of_same s tid g) (handles_stop_same s settings policies p tid sig status here (lwp_of tid c.lwps))
+handles_status_same s settings policies status p here st g = answered s _
 
 handles_same : {u : ℕ} {start c v d w : Rows} → Sim u start c v → Sim u start d w → (settings : Settings) (policies : List (List Rule)) (o : Option ProcData) → IfSome o (λ p. GoodProc p × (p.uid ≡ u)) → (k : Collected) → Same u start (handles settings policies c d o k) (handles settings policies v w o k)
-handles_same s t settings policies o g k = search (rules, answered, handles_status_same)
+handles_same s t settings policies o g Collected.NoChild = answered s _
+handles_same s t settings policies o g Collected.Nothing = answered s _
+handles_same s t settings policies None g (Collected.Got pid status) = answered t _
+handles_same {u} s t settings policies (Some p) g (Collected.Got pid status) = handles_status_same t settings policies status p (g.0.block ∙ g.1) p.state (subst (λ x. IfSome (named_by p.state) (λ n. tid_owner n ≡ x)) g.1 g.0.reporting)
 
 -- the work of a handle, with the policies of its caller
 pub handle_same : {u : ℕ} {start c v : Rows} → Sim u start c v → (settings : Settings) (policies : List (List Rule)) (n : ℕ) → pid_owner n ≡ u

@@ -1,6 +1,6 @@
 -- The turn of an LWP, on all rows and on a user's.
-use Rattle.requests.proofs.CommonNames.{◌≡◌, ◌≢◌, ℕ, ◌*◌, [], ◌∷◌, Bool, true, false, ◌==◌, ◌&&◌, ◌||◌, not, leb, if◌then◌else◌, Option, Some, None, is_some, IfSome, refl, sym, ap, ◌∙◌, true≢false}
-use Rattle.requests.proofs.CommonNames.{subst, arith, nat_tests, rules, pid_owner, tid_owner, Call, asks, entry_flags, PTRACE_FORK, PTRACE_LWP, without, bit, SIGTRAP, is_signal, after_exec, maskable}
+use Rattle.requests.proofs.CommonNames.{◌≡◌, ◌≢◌, ℕ, ◌*◌, [], ◌∷◌, Bool, false, ◌==◌, ◌&&◌, ◌||◌, not, leb, if◌then◌else◌, Option, Some, None, is_some, IfSome, refl, sym, ap, ◌∙◌, true≢false, subst}
+use Rattle.requests.proofs.CommonNames.{arith, nat_tests, rules, pid_owner, tid_owner, Call, asks, entry_flags, PTRACE_FORK, PTRACE_LWP, without, bit, SIGTRAP, is_signal, after_exec, maskable}
 use Rattle.requests.proofs.CommonNames.{disposition_of, default_action, Action, Disposition, ProcData, Job, LwpData, Mode, User, InCall, VforkWait, born, is_run, process_of, Rows, seen_lwp, add_lwp}
 use Rattle.requests.proofs.CommonNames.{add_process, Settings, released, Shown, Act, Reply, stops_with, stops_or, trap, Numbers, room_for_lwp, room_for_process, in_mode, exit_stop, forked, child_stop}
 use Rattle.requests.proofs.CommonNames.{with_child, forks, exec_rows, makes_lwp, exits_lwp, leaves, due_at_birth, waits, due_stop, next_signal, without_signal, plain, job_stops, takes_by_default}
@@ -131,12 +131,9 @@ due_or_more_same : {u : ℕ} {start c v : Rows} → Sim u start c v → (setting
 due_or_more_same s settings a p l t (Some shown) = stops_with_same (lwp_same_after s l.tid (own_tid t) (λ k. record k { due = Due.Nothing }) (λ k well is. (refl, record { block = well.block; waits = well.waits }))) shown p l (own_pid t) (own_tid t)
 due_or_more_same s settings a p l t None = signal_or_act_same s settings a p l t (next_signal p l)
 
-not_held : (a b d : Bool) → (not a || b || d) ≡ false → a ≡ true
-not_held a b d is = search (rules)
-
 turn_by_same : {u : ℕ} {start c v : Rows} → Sim u start c v → (settings : Settings) (a : Act) (l : LwpData) → GoodLwp l → pid_owner l.pid ≡ u → Same u start (turn_by settings a l c (process_of l.pid c.processes)) (turn_by settings a l v (process_of l.pid c.processes))
 turn_by_same {u} {start} {c} {v} s settings a l well mine = at_number c.processes s.kept.closed.processes l.pid (λ o. Same u start (turn_by settings a l c o) (turn_by settings a l v o)) (answered s _) (λ p is good same.
-    branch (not (is_run p) || l.suspended || waits l.mode) _ refl (λ b. answered s _) (λ b. due_or_more_same s settings a p l (grind (arith, nat_tests, named, run_quiet, not_held)) (due_stop l.due)))
+    branch (not (is_run p) || l.suspended || waits l.mode) _ refl (λ b. answered s _) (λ b. due_or_more_same s settings a p l (grind (arith, nat_tests, named, run_quiet, b)) (due_stop l.due)))
 
 pub turn_same : {u : ℕ} {start c v : Rows} → Sim u start c v → (settings : Settings) (tid : ℕ) (a : Act) → Same u start (turn settings u tid a c) (turn settings u tid a v)
 turn_same {u} {start} {c} {v} s settings tid a = subst (λ o. Same u start (turn settings u tid a c) (turn_seen settings a v o)) (seen_lwp_same s tid) (by_lwp (seen_lwp u tid c) (seen_lwp_some s tid))

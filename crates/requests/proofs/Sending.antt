@@ -27,9 +27,6 @@ module _ (settings : Settings) (s n : ℕ) (rows : Rows) (rise : Rise rows.proce
 pub passes_signal : (k n : ℕ) → (if k == 0 then None else Some k) ≡ Some n → ((k == 0) ≡ false) × (n ≡ k)
 passes_signal k n = search (rules, some_is)
 
-pub no_number : (o : Option ℕ) → is_none o ≡ true → o ≡ None
-no_number o is = grind (arith, nat_tests)
-
 -- What it leaves
 
 remain_posted : (settings : Settings) (s : ℕ) (o : Option ProcData) (rows : Rows) → Remain rows.processes (post_if_live settings s o rows).processes
@@ -124,11 +121,7 @@ module _ (settings : Settings) (s u caller : ℕ) where
   reached_others at rows kept is some = rw (is, reach_others rows kept, others_are 0 rows.processes kept.rising) (grind (arith, nat_tests, some, is))
 
   pub next_smaller : (n : ℕ) (ps : List ProcData) (at : Option ℕ) → n < 65000 → at ≡ next n ps → left at < left (Some n)
-  next_smaller n ps at below is = by_next (next_other u caller n ps) refl is
-    where
-      by_next : (o : Option ProcData) → next_other u caller n ps ≡ o → at ≡ option_map (λ p. p.pid) o → left at < left (Some n)
-      by_next None h same = rw same (omega arith)
-      by_next (Some p) h same = let over = next_over (is_other u caller) n ps p h in rw same (omega (arith, below, over))
+  next_smaller n ps at below is = grind (arith, nat_tests, next_over (is_other u caller) n ps, is, below)
 
 -- A process by its number
 

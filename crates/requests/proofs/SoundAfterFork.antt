@@ -52,9 +52,6 @@ module _ (call : Call) (rows : Rows) (p : ProcData) (l : LwpData) (a : Acting ro
   other_pid : p.pid ≢ new.pid
   other_pid same = grind (arith, nat_tests, find_passes (λ q. q.pid == p.pid) (λ q. q.pid == new.pid) rows.processes p a.home, same, room.free)
 
-  not_tid : (l.tid == new.tid) ≡ false
-  not_tid = search (rules, by_bool, eqb-true, find_passes, eq-eqb)
-
   -- the rows that are found then
   found_parent : (followed : Bool) → process_of p.pid (made followed).processes ≡ Some p
   found_parent followed = process_of-other (child followed) rows.processes a.sound.stands.rising room.free p.pid other_pid ∙ a.home
@@ -111,7 +108,7 @@ module _ (call : Call) (rows : Rows) (p : ProcData) (l : LwpData) (a : Acting ro
     stopped_forked : Forked after
     stopped_forked =
         let parent = heard stopping told p.pid p (search (rules, other_process, found_parent, by_bool, other_pid, eqb-true)) in
-        let forker = heard_lwp stopping told l.tid l p (other_lwp l.tid new.tid shows_it (made true) l (λ k. refl) (found_forker true) not_tid) (ap (λ n. process_of n stopping.processes) a.own ∙ (search (rules, other_process, found_parent, by_bool, other_pid, eqb-true))) in
+        let forker = heard_lwp stopping told l.tid l p (other_lwp l.tid new.tid shows_it (made true) l (λ k. refl) (found_forker true) (search (rules, by_bool, eqb-true, find_passes, eq-eqb))) (ap (λ n. process_of n stopping.processes) a.own ∙ (search (rules, other_process, found_parent, by_bool, other_pid, eqb-true))) in
         let its = heard stopping told new.pid (stops_it (child true)) (changed_own (child true) stops_it (made true).processes (λ q. refl) (found_child true)) in
         let q : ProcData = record p { pending = parent.0 } in
         record {

@@ -61,23 +61,15 @@ module _ (rows : Rows) (p : ProcData) (l : LwpData) (a : Acting rows p l) where
     same = same;
     ring = no_ring (λ q. Some q) rows.processes a.sound.stands.rising same.process (λ q t is. is);
     gone = none_gone rows FitProcess gone;
-    process = λ q row. by_number (q.pid == p.pid) (KeptRow rows left nobody FitProcess q q) (λ mine. quiet_row q q row mine (like_self q) refl some row.fact) (λ other. kept_all row (like_self q) (inl refl) (stays q row other) row.fact);
+    process = λ q row. choose (q.pid == p.pid) q q (λ r. KeptRow rows left nobody FitProcess q q) (λ mine. quiet_row q q row mine (like_self q) refl some row.fact) (λ other. kept_all row (like_self q) (inl refl) (stays q row other) row.fact);
     lwp = λ q x b on. choose (x.tid == l.tid) None (Some x) (λ o. IfSome o (KeptLwp rows left nobody FitLwp q q)) (λ e. tt)
-        (λ e. by_number (q.pid == p.pid) (KeptLwp rows left nobody FitLwp q q x) (λ mine. quiet_lwp q q x x b mine refl b.stood.waits b.fact) (λ other. kept_lwp b (stays q b.row other) refl refl b.fact));
+        (λ e. choose (q.pid == p.pid) q q (λ r. KeptLwp rows left nobody FitLwp q q x) (λ mine. quiet_lwp q q x x b mine refl b.stood.waits b.fact) (λ other. kept_lwp b (stays q b.row other) refl refl b.fact));
   })))
     where
-      by_number : (b : Bool) (R : Type 0) → (b ≡ true → R) → (b ≡ false → R) → R
-      by_number true R h k = h refl
-      by_number false R h k = k refl
-
       some : 1 ≤ lwp_count p.pid left
       some =
-          let most = one_gone (λ x. x.pid == p.pid) l.tid (λ x. by_owner gone x (owner rows x)) (λ x other own. (x, by_home x other (owner rows x), own)) rows.lwps a.sound.stands.differ in
+          let most = one_gone (λ x. x.pid == p.pid) l.tid (λ x. by_owner gone x (owner rows x)) (λ x other own. (x, grind (arith, nat_tests, other), own)) rows.lwps a.sound.stands.differ in
           omega (arith, two, most)
-        where
-          by_home : (x : LwpData) → (x.tid == l.tid) ≡ false → (o : Option ProcData) → by_owner gone x o ≡ Some x
-          by_home x other None = refl
-          by_home x other (Some q) = rw other refl
 
   pub exits_lwp_sound : (settings : Settings) → IsSound (exits_lwp settings p l rows).rows
   exits_lwp_sound settings = choose (leb (lwp_count p.pid rows) 1) _ _ (λ (o : Outcome). IsSound o.rows) (λ e. end_sound rows p l a settings 0 refl) (grind (arith, nat_tests, leb-false, choose, acting_stops, and_left, removed_sound))
