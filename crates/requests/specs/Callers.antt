@@ -1,8 +1,7 @@
 -- The caller of a step.
 use Rattle.requests.specs.CommonNames.{◌≡◌, ◌≢◌, ℕ, true, Some, Errno, ProcData, process_of, is_live, is_run, Rows, seen_process, PlainStep, Reply}
 use Rattle.requests.specs.Outcome.{answers}
-use Rattle.requests.specs.Machine.{Machine, after}
-use Rattle.requests.specs.Step.{step, caller_of}
+use Rattle.requests.specs.Step.{Machine, after, step, caller_of}
 
 -- a process of the user that runs
 pub record IsCaller (user : ℕ) (p : ProcData) (rows : Rows) : Type 0 where

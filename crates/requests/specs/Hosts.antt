@@ -1,9 +1,8 @@
 -- A host, as the machine sees it, and its step.
 use Rattle.requests.specs.CommonNames.{◌≡◌, ◌≢◌, ℕ, true, List, Result, ENOMEM, Table, Settings, Reply, PlainStep}
-use Rattle.requests.specs.Machine.{Machine, Installed}
 use Rattle.requests.specs.Memory.{is_refusal, may_want, attempted_reply}
 use Rattle.requests.specs.Sound.{sound}
-use Rattle.requests.specs.Step.{step}
+use Rattle.requests.specs.Step.{Machine, Installed, step}
 
 abbrev pub machine_of : Settings → Table → List (List Installed) → Machine
 machine_of settings t installed = record { rows = t.rows; installed = installed; settings = settings }

@@ -1,9 +1,8 @@
 -- The invariant that every step keeps.
 use Rattle.requests.specs.CommonNames.{◌≡◌, ℕ, Bool, true, List, AllByRecursion, IsUser, status_fits, Act, PlainStep, Step, Settings}
-use Rattle.requests.specs.Machine.{Machine, empty}
 use Rattle.requests.specs.Run.{Asked, last}
 use Rattle.requests.specs.Sound.{sound}
-use Rattle.requests.specs.Step.{step}
+use Rattle.requests.specs.Step.{Machine, empty, step}
 
 -- whether a step's numbers fit their types: the status of an exit that is entered is a byte
 abbrev pub act_fits : Act → Bool

@@ -1,9 +1,8 @@
 -- The effect of a refused step, and an answer that the machine never gives.
 use Rattle.requests.specs.CommonNames.{◌≡◌, ◌≢◌, ℕ, Bool, true, false, IsUser, ENOMEM, PlainStep, Reply}
-use Rattle.requests.specs.Machine.{Machine}
 use Rattle.requests.specs.Memory.{is_refusal}
 use Rattle.requests.specs.Sound.{sound}
-use Rattle.requests.specs.Step.{step}
+use Rattle.requests.specs.Step.{Machine, step}
 
 -- a refused step changes nothing
 abbrev pub RefusalChangesNothing : Type 0

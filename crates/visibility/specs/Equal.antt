@@ -37,16 +37,17 @@ rule = decides _ (λ a b is. Prim.search rules) (λ a. Prim.search rules)
 
 process : (p q : ProcData) → Decides (same_process p q) (p ≡ q)
 process p q =
-    let h = both _ _ (unsigned_Decides p.pid q.pid) (both _ _ (unsigned_Decides p.uid q.uid) (both _ _ (unsigned_Decides p.parent q.parent) (both _ _ (tracer p.tracer q.tracer) (both _ _ (state p.state q.state)
-        (both _ _ (booleans_Decides p.continued q.continued) (both _ _ (unsigned_Decides p.mask.0 q.mask.0)
-        (both _ _ (both _ _ (unsigned_Decides p.dispositions.ignored q.dispositions.ignored) (unsigned_Decides p.dispositions.caught q.dispositions.caught)) (unsigned_Decides p.pending q.pending)))))))) in
+    let h = both _ _ (unsigned_Decides p.pid q.pid) (both _ _ (unsigned_Decides p.uid q.uid) (both _ _ (unsigned_Decides p.parent q.parent) (both _ _ (tracer p.tracer q.tracer)
+    (both _ _ (state p.state q.state) (both _ _ (booleans_Decides p.continued q.continued) (both _ _ (unsigned_Decides p.mask.0 q.mask.0)
+    (both _ _ (both _ _ (unsigned_Decides p.dispositions.ignored q.dispositions.ignored) (unsigned_Decides p.dispositions.caught q.dispositions.caught))
+    (unsigned_Decides p.pending q.pending)))))))) in
     (λ is. let e = h.0 is in Prim.search rules, λ e. h.1 (Prim.search rules))
 
 lwp : (l k : LwpData) → Decides (same_lwp l k) (l ≡ k)
 lwp l k =
     let h = both _ _ (unsigned_Decides l.tid k.tid) (both _ _ (unsigned_Decides l.pid k.pid) (both _ _ (mode l.mode k.mode) (both _ _ (booleans_Decides l.suspended k.suspended)
-        (both _ _ (booleans_Decides l.stepping k.stepping) (both _ _ (unsigned_Decides l.blocked k.blocked) (both _ _ (unsigned_Decides l.pending k.pending) (both _ _ (due l.due k.due)
-        (both _ _ (unsigned_Decides l.flags.0 k.flags.0) (both _ _ (unsigned_Decides l.child k.child) (unsigned_Decides l.code k.code)))))))))) in
+    (both _ _ (booleans_Decides l.stepping k.stepping) (both _ _ (unsigned_Decides l.blocked k.blocked) (both _ _ (unsigned_Decides l.pending k.pending) (both _ _ (due l.due k.due)
+    (both _ _ (unsigned_Decides l.flags.0 k.flags.0) (both _ _ (unsigned_Decides l.child k.child) (unsigned_Decides l.code k.code)))))))))) in
     (λ is. let e = h.0 is in Prim.search rules, λ e. h.1 (Prim.search rules))
 
 installed : (a b : Installed) → Decides (same_installed a b) (a ≡ b)
@@ -60,8 +61,8 @@ same_handlers = pointwise_decides installed
 pub view_decides : (v w : View) → Decides (same_view v w) (v ≡ w)
 view_decides v w =
     let h = both _ _ (pointwise_decides process v.processes w.processes) (both _ _ (pointwise_decides lwp v.lwps w.lwps) (both _ _ (unsigned_Decides v.pid_cursor w.pid_cursor)
-        (both _ _ (unsigned_Decides v.tid_cursor w.tid_cursor) (both _ _ (same_handlers v.installed w.installed)
-        (booleans_Decides v.settings.kill_on_debugger_exit w.settings.kill_on_debugger_exit))))) in
+    (both _ _ (unsigned_Decides v.tid_cursor w.tid_cursor) (both _ _ (same_handlers v.installed w.installed)
+    (booleans_Decides v.settings.kill_on_debugger_exit w.settings.kill_on_debugger_exit))))) in
     (λ is. let e = h.0 is in Prim.search rules, λ e. h.1 (Prim.search rules))
 
 pub views_equiv : IsEquivalence same_view
