@@ -153,10 +153,9 @@ handles_status_same {u} {start} {c} {v} s settings policies status p here (Trace
 handles_status_same s settings policies status p here st g = answered s _
 
 handles_same : {u : ℕ} {start c v d w : Rows} → Sim u start c v → Sim u start d w → (settings : Settings) (policies : List (List Rule)) (o : Option ProcData) → IfSome o (λ p. GoodProc p × (p.uid ≡ u)) → (k : Collected) → Same u start (handles settings policies c d o k) (handles settings policies v w o k)
-handles_same s t settings policies o g Collected.NoChild = answered s _
-handles_same s t settings policies o g Collected.Nothing = answered s _
 handles_same s t settings policies None g (Collected.Got pid status) = answered t _
 handles_same {u} s t settings policies (Some p) g (Collected.Got pid status) = handles_status_same t settings policies status p (g.0.block ∙ g.1) p.state (subst (λ x. IfSome (named_by p.state) (λ n. tid_owner n ≡ x)) g.1 g.0.reporting)
+handles_same s t settings policies o g k = answered s _
 
 -- the work of a handle, with the policies of its caller
 pub handle_same : {u : ℕ} {start c v : Rows} → Sim u start c v → (settings : Settings) (policies : List (List Rule)) (n : ℕ) → pid_owner n ≡ u

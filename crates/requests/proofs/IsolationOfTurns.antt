@@ -110,8 +110,7 @@ by_default_same s settings sig Action.Discard p l good mine = answered s _
 
 untraced_same : {u : ℕ} {start c v : Rows} → Sim u start c v → (settings : Settings) (sig : ℕ) (d : Disposition) (p : ProcData) (l : LwpData) → GoodProc p → p.uid ≡ u → Same u start (takes_untraced settings sig d p l c) (takes_untraced settings sig d p l v)
 untraced_same s settings sig Disposition.Default p l good mine = by_default_same s settings sig (default_action sig) p l good mine
-untraced_same s settings sig Disposition.Ignore p l good mine = answered s _
-untraced_same s settings sig Disposition.Catch p l good mine = answered s _
+untraced_same s settings sig d p l good mine = answered s _
 
 -- Acts
 

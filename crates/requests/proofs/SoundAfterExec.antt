@@ -46,9 +46,6 @@ module _ (rows : Rows) (p : ProcData) (l : LwpData) (a : Acting rows p l) where
   pub exec_but_pending : IsSoundButPending p.pid made
   exec_but_pending = record { stands = held.stands; processes = held.processes; lwps = held.lwps }
     where
-      apart : (q : ProcData) (R : Type 0) → (q.pid == p.pid) ≡ true → q.pid ≢ p.pid → R
-      apart q R is ne = absurd (ne (eqb-true q.pid p.pid is))
-
       other : (q : ProcData) (R : Type 0) → (q.pid == p.pid) ≡ false → q.pid ≡ p.pid → R
       other q R is same_pid = absurd (true≢false (sym (eq-eqb q.pid p.pid same_pid) ∙ is))
 
@@ -64,7 +61,7 @@ module _ (rows : Rows) (p : ProcData) (l : LwpData) (a : Acting rows p l) where
         ring = no_ring to rows.processes a.sound.stands.rising same.process (λ q. choose (q.pid == p.pid) (redisposed q) q (Leaves q) (λ e t is. is) (λ e t is. is));
         gone = none_gone rows FitProcess exec_lwp;
         process = λ q row. choose (q.pid == p.pid) (redisposed q) q (KeptRow rows made nobody (FitButPending p.pid) q)
-            (λ e. quiet_row rows p l a q (redisposed q) row e (record { live = refl; tracer = inl refl; parent = refl }) refl some (apart q _ e, λ its. (redisposed_fits (after_exec q.dispositions) q row.fact (alive q row e), alive q row e)))
+            (λ e. quiet_row rows p l a q (redisposed q) row e (record { live = refl; tracer = inl refl; parent = refl }) refl some (λ ne. absurd (ne (eqb-true q.pid p.pid e)), λ its. (redisposed_fits (after_exec q.dispositions) q row.fact (alive q row e), alive q row e)))
             (λ e. kept_all row (like_self q) (inl refl) (stay rows to exec_lwp same q row.at (λ k. (released waits_for_it q k, rw e refl))) (λ ne. row.fact, other q _ e));
         lwp = λ q k b on. choose_both (λ r o. IfSome o (KeptLwp rows made nobody (FitLwpButPending p.pid) q r)) (q.pid == p.pid) (redisposed q) q (if k.tid == l.tid then Some (record k { mode = User }) else None) (Some (released waits_for_it q k))
             (grind (arith, nat_tests, by_lwp, nobody, quiet_lwp, redisposed_lwp))

@@ -300,6 +300,7 @@ fn set_events(tables: &mut Tables, process: &ProcData, bits: u32) -> Reply
 }
 
 /// PT_FOLLOW_FORK and PT_LWP_EVENTS: sets the event in the mask of the process, or for 0 clears it.
+#[tactic(auto, using(std::proofs::lemmas::Bool::Decides::nat_tests, crate::proofs::Tracees::set_mask_as))]
 fn switch(tables: &mut Tables, process: &ProcData, event: EventMask, on: u32) -> Reply
     requires sound { IsSound tables.old.rows }
     requires at { process_of process.now.pid tables.old.rows.processes ≡ Some process.now }

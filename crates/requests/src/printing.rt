@@ -19,6 +19,7 @@ struct Listed<'a> {
 impl fmt::Display for Listed<'_> {
     ghost output = { λ l. Some (join_with_byte 32 (l.word.now ∷ map (λ n. decimal n) l.numbers.now)) };
 
+    #[tactic(auto, using(std::proofs::lemmas::List::take_all, crate::proofs::Joins::spaced_words, std::proofs::lemmas::Bool::Decides::nat_tests))]
     fn fmt<W: fmt::Write>(&self, f: &mut fmt::Formatter<W>) -> fmt::Result {
         f.write_str(self.word)?;
         let mut digits = Buffer::new();

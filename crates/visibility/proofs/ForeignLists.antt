@@ -12,14 +12,13 @@ use Rattle.visibility.proofs.Answered.{told_alike, answered_users}
 pub alike_lists : (u : ℕ) (xs ys : List Asked) → IsUser u → (m : Machine) → Apart m → AlikeLists u xs ys m
     → (own_replies u xs (view u m) ≡ own_replies u ys (view u m)) × (own_view u xs (view u m) ≡ own_view u ys (view u m))
 alike_lists u [] [] user m apart alike = (refl, refl)
-alike_lists u [] (y ∷ ys) user m apart alike = absurd alike
-alike_lists u (x ∷ xs) [] user m apart alike = absurd alike
 alike_lists u (x ∷ xs) (y ∷ ys) user m apart alike =
     let same = foreign_number m u x.step y.step user apart alike.0 in
     let by_x = alone_law m u x.step user apart in
     let by_y = alone_law m u y.step user apart in
     let rest = alike_lists u xs ys user (host_after u x.step m) (keeps_apart m u x.step user apart) alike.1 in
     rw (← by_x.0, ← by_x.1, ← by_y.0, ← by_y.1, ← same.0, ← same.1) (ap (λ rs. reply_of u x.step m ∷ rs) rest.0, rest.1)
+alike_lists u xs ys user m apart alike = absurd alike
 
 -- the same from a host in which the others have rows too
 pub alike_views : (u : ℕ) (xs ys : List Asked) → IsUser u → (m : Machine) → Apart m → AlikeLists u xs ys (alone u m)
