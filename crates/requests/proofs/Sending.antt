@@ -4,7 +4,7 @@ use Rattle.requests.proofs.CommonNames.{is_none, if◌then◌else◌, refl, sym,
 use Rattle.requests.proofs.CommonNames.{process_of, is_live, of_user, Rows, seen_process, AllAbove, Rise, InOwnBlock, TableInvariant, process_of-pid, Settings, post, by_bool, All-imply, If_more}
 use Rattle.requests.proofs.CommonNames.{some_is, reach, post_if_live, post_all, reached, kill, next_other, refuses, ESRCH, own_rows, process_edited, Reply, ℤ}
 use Rattle.std.specs.Int.{FitsUnsignedBits}
-use Rattle.requests.proofs.Living.{live_found, live_none}
+use Rattle.requests.proofs.SoundAfterCall.{live_found, live_none}
 use Rattle.requests.proofs.Walk.{above, above_none, above_first, above_next, next_over}
 use Rattle.requests.proofs.Remaining.{Remain, SameNumber, remain_all, remain_post}
 

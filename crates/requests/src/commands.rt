@@ -32,7 +32,7 @@ use trace_stop::{Settings, clear_stepping};
 /// Makes a request of ptrace(2) by a process that runs. A target up to 99999 names a process, and its LWP that reports
 /// a stop. A greater one names an LWP, and its process. Refused as the manual page says. An error means out of memory
 /// for the list of PT_GETLWPLIST. A refused request changes nothing, and nor does an error.
-#[tactic(auto, using(std::proofs::lemmas::Bool::Decides::nat_tests, crate::proofs::Asked::target_within, crate::proofs::Asked::asks_tracee))]
+#[tactic(auto, using(std::proofs::lemmas::Bool::Decides::nat_tests, crate::proofs::SoundAfterRequest::target_within, crate::proofs::SoundAfterRequest::asks_tracee))]
 pub fn ptrace(
     tables: &mut Tables,
     alloc: Global,

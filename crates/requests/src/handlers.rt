@@ -152,7 +152,7 @@ impl<F: Decider + Send + Drop> HandlerList<F> {
 }
 
 /// Returns whether a live process has the number.
-#[tactic(auto, using(crate::proofs::Living::live_found, crate::proofs::Living::live_none))]
+#[tactic(auto, using(crate::proofs::SoundAfterCall::live_found, crate::proofs::SoundAfterCall::live_none))]
 pub fn is_live(tables: &Tables, pid: Pid) -> bool
     ensures { result ≡ is_live_at pid tables.now.rows }
 {
