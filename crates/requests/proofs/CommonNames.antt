@@ -16,7 +16,7 @@ pub use Rattle.requests.specs.CommonNames.{GoodProc, LiveOwner, LiveRow, InBlock
 pub use Rattle.std.specs.Fmt.{HasWritten, IsPlainFormatter}
 pub use Rattle.std.proofs.Common.{IfSome, ap, append-nil, ap₂, arith, drop, eq-eqb, eqb, eqb-true, filter_map, get_or-set_other, inl, inr, length-append, length-set, lt-ltb, nat_eq, refl, rules}
 pub use Rattle.std.proofs.Common.{subst, suc, sym, take, true≢false, zero, ◌-◌, ◌<◌, ◌∙◌}
-pub use Rattle.std.proofs.lemmas.Bool.{cases_Bool, cases_lt, le-leb, le-ltb, leb-false, leb-true, ltb-true}
+pub use Rattle.std.proofs.lemmas.Bool.{cases_Bool, cases_lt, le-leb, le-ltb, leb-false, leb-true, ltb-true, not-false}
 pub use Rattle.std.proofs.lemmas.Bool.Decides.{nat_tests}
 pub use Rattle.std.proofs.lemmas.List.{append_assoc, length-map, set-get_or, take_all, same_lists, get_or_default}
 pub use Rattle.signals.specs.Laws.{IsSignal}

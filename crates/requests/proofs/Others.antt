@@ -1,12 +1,9 @@
 -- The next process of a user that isn't the caller.
-use Rattle.requests.proofs.CommonNames.{◌≡◌, ℕ, ◌<◌, List, [], ◌∷◌, Bool, ◌==◌, Some, None, refl, arith, lt-ltb, eqb-true, eq-eqb, rules, option_map, nat_tests, le-ltb, ltb-true, ProcData, AllAbove}
-use Rattle.requests.proofs.CommonNames.{Rise, and_left, by_bool, some_is, next_other, found_above}
+use Rattle.requests.proofs.CommonNames.{◌≡◌, ℕ, ◌<◌, List, [], ◌∷◌, Some, None, refl, arith, lt-ltb, eqb-true, eq-eqb, rules, option_map, nat_tests, le-ltb, ltb-true, ProcData, AllAbove, Rise}
+use Rattle.requests.proofs.CommonNames.{and_left, by_bool, some_is, next_other, found_above}
 use Rattle.proc_table.specs.Walks.{next_of}
 
 module _ (u caller : ℕ) where
-  abbrev its : ProcData → Bool
-  its p = p.uid == u
-
   pub other_same : (after : ℕ) (ps : List ProcData) → (option_map (λ p. p.pid) (next_of u after ps) ≡ Some caller → ⊥) → next_other u caller after ps ≡ next_of u after ps
   other_same after [] h = refl
   other_same after (p ∷ ps) h = grind (arith, nat_tests, other_same after ps, eqb-true, h)

@@ -111,7 +111,7 @@ other_process n pid f rows p same at other = find_edit (λ q. q.pid == n) (λ q.
 other_lwp : (n tid : ℕ) (g : LwpData → LwpData) (rows : Rows) (l : LwpData) → ((k : LwpData) → (g k).tid ≡ k.tid) → lwp_of n rows.lwps ≡ Some l → (l.tid == tid) ≡ false → lwp_of n (change_lwp tid g rows).lwps ≡ Some l
 other_lwp n tid g rows l same there other = find_edit (λ k. k.tid == n) (λ k. Some (if k.tid == tid then g k else k)) (λ k. choose (k.tid == tid) (g k) k (λ j. (j.tid == n) ≡ (k.tid == n)) (λ e. ap (λ m. eqb m n) (same k)) (λ e. refl)) rows.lwps l l there (rw other refl)
 
-find_last : {X : Type 0} (q : X → Bool) (xs : List X) (x : X) → list_any q xs ≡ false → q x ≡ true → find q (xs ++ (x ∷ [])) ≡ Some x
+pub find_last : {X : Type 0} (q : X → Bool) (xs : List X) (x : X) → list_any q xs ≡ false → q x ≡ true → find q (xs ++ (x ∷ [])) ≡ Some x
 find_last q [] x none is = rw is refl
 find_last {X} q (y ∷ xs) x none is = search (rules, find_last q xs x)
 
