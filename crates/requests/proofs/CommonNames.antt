@@ -67,3 +67,4 @@ pub use Rattle.requests.specs.Turn.{turn_of, turn_seen, waits, without_signal}
 pub use Rattle.requests.specs.Callers.{IsCaller, Calls, Barred}
 pub use Rattle.std.proofs.Math.ListN.{get_or-map, replicate}
 pub use Rattle.requests.specs.Ending.{may_end}
+pub use Rattle.std.proofs.lemmas.List.Folds.{list_any-append, list_all-append, find-append}

@@ -9,8 +9,7 @@ use Rattle.requests.proofs.CommonNames.{forks, leaves, waits, due_stop, next_sig
 use Rattle.requests.proofs.CommonNames.{is_attach, about, target_of, is_trace_me, ptrace, is_which, reach, reached, post_all, post_if_live, kill, spawn_with, sigaction, wait, handles, asks}
 use Rattle.requests.proofs.CommonNames.{PTRACE_FORK, EAGAIN, EINVAL, ESRCH, All-any, and_right, option_map, after_exec, set_disposition, without, bit, plain, trap, PL_FLAG_EXITED, SIGTRAP}
 use Rattle.requests.proofs.CommonNames.{entry_flags, child_stop, change_lwp, is_refusal, is_memory, told, handled_by, no_options, rows_after, collect, negsuc, sound, install, installed_by, length, ap}
-use Rattle.requests.proofs.CommonNames.{may_end, any_forward, or_true}
-use Rattle.std.proofs.lemmas.List.Folds.{list_any-append}
+use Rattle.requests.proofs.CommonNames.{may_end, any_forward, or_true, list_any-append}
 use Rattle.wait4.specs.Collect.{collected}
 use Rattle.requests.specs.Refusals.{is_listing}
 use Rattle.requests.proofs.SoundWithoutEnded.{answers_same}

@@ -3,8 +3,7 @@ use Rattle.requests.proofs.CommonNames.{◌≡◌, ℕ, ℤ, Bool, true, false, 
 use Rattle.requests.proofs.CommonNames.{true≢false, nat_tests, subst, eqb-true, eq-eqb, get_or, set, get_or-set_other, length-set, list_all, le-leb, leb-false, IsUser, slot, users, EINVAL, EAGAIN}
 use Rattle.requests.proofs.CommonNames.{ProcData, is_live, process_of, Rows, Settings, post, is_live_of, sound_rows, IsSound, and_left, both, choose, found_number, zip_users, post_sound, Rule}
 use Rattle.requests.proofs.CommonNames.{refuses, is_which, reach, post_if_live, post_all, reached, kill, install, Installed, Machine, installed_by, after, sound_installed, sound, list_all-from_All}
-use Rattle.requests.proofs.CommonNames.{put_at, slots_differ, IsCaller}
-use Rattle.std.proofs.lemmas.List.Folds.{list_all-append}
+use Rattle.requests.proofs.CommonNames.{put_at, slots_differ, IsCaller, list_all-append}
 use Rattle.requests.proofs.SoundWithoutEnded.{pairs_test, rows_sound, after_sound, slots_of, pairs_of, live_pairs}
 use Rattle.requests.proofs.SoundAfterCall.{live_caller}
 

@@ -1,16 +1,17 @@
 -- What a request of ptrace(2) comes to, by its refusals in their order, and that it keeps a host sound.
 use Rattle.requests.proofs.CommonNames.{nat_tests, ◌≡◌, ℕ, ◌<◌, List, IfSome, true, false, leb, if◌then◌else◌, Option, Some, is_some, refl, arith, rules, IsSomeAnd, lwp_of, ProcData, State}
 use Rattle.requests.proofs.CommonNames.{process_of, is_live, named_by, traces, Rows, TableInvariant, process_of-pid, lwp_of-tid, seen_lwp-kept, lwp-within, Settings, IsSound, some_is, Request}
-use Rattle.requests.proofs.CommonNames.{command, told_stop, target_of, is_trace_me, is_attach, ptrace, ◌≢◌, Bool, ◌==◌, [], ◌∷◌, find, None, sym, subst, eqb-true, eq-eqb, count_by, default_mask}
-use Rattle.requests.proofs.CommonNames.{SIGSTOP, LwpData, first_lwp, is_run, change_process, Ready, FitOrReady, MayStop, IsLiveOf, Linked, FitProcess, All-imply, find_some, count-cons, choose}
-use Rattle.requests.proofs.CommonNames.{not_some, sound_holds, live_fits, live_state, own_lwps, plain, closes_chain, traced_by, trace_me, stop_first, attach, ◌&&◌, list_any, PTRACE_SCE, PTRACE_SCX}
-use Rattle.requests.proofs.CommonNames.{PTRACE_FORK, PTRACE_LWP, mask_with, SIGKILL, owns, seen_lwp, find_seen, and_left, and_right, both, if_at, found_number, one_row, find_passes, detach_sound}
-use Rattle.requests.proofs.CommonNames.{Outcome, bad_argument, stepping, switched, does, commands_stopped, commands, IsCaller}
+use Rattle.requests.proofs.CommonNames.{command, told_stop, target_of, is_trace_me, is_attach, ptrace, ◌≢◌, ◌==◌, None, sym, subst, eqb-true, eq-eqb, default_mask, SIGSTOP, LwpData, first_lwp, is_run}
+use Rattle.requests.proofs.CommonNames.{change_process, Ready, FitOrReady, MayStop, IsLiveOf, Linked, FitProcess, All-imply, find_some, choose, not_some, sound_holds, live_fits, live_state, own_lwps}
+use Rattle.requests.proofs.CommonNames.{plain, closes_chain, traced_by, trace_me, stop_first, attach, ◌&&◌, list_any, PTRACE_SCE, PTRACE_SCX, PTRACE_FORK, PTRACE_LWP, mask_with, SIGKILL, owns}
+use Rattle.requests.proofs.CommonNames.{seen_lwp, find_seen, and_left, and_right, both, if_at, found_number, one_row, find_passes, detach_sound, Outcome, bad_argument, stepping, switched, does}
+use Rattle.requests.proofs.CommonNames.{commands_stopped, commands, IsCaller}
 use Rattle.trace_stop.proofs.StoppedByOwnLwp.{IsStopped-from}
 use Rattle.trace_stop.proofs.SoundAfterLink.{Traced, linked_holds, linked_row}
 use Rattle.requests.proofs.SoundAfterCall.{caller_live, live_caller}
 use Rattle.requests.proofs.SoundAfterMask.{Tracee, OwnLwp, named_lwp, suspend_sound, set_mask_sound, resumes_sound, stepping_tracee, continues_sound}
 use Rattle.trace_stop.proofs.SoundAfterStop as stops
+use Rattle.lwp_table.proofs.CountLemmas.{count-none}
 
 pub told_reports : (s : State) (tid : ℕ) → told_stop s ≡ Some tid → named_by s ≡ Some tid
 told_reports s tid told = grind (arith, nat_tests)
@@ -44,10 +45,6 @@ own_row n ps o at = grind (arith, nat_tests, process_of-pid)
 
 -- ---- A process that gets a tracer, by its own request or by an attach, keeps rows sound.
 
-none_counted : {X : Type 0} (t : X → Bool) (xs : List X) → find t xs ≡ None → count_by t xs ≡ 0
-none_counted t [] is = refl
-none_counted {X} t (x ∷ xs) is = search (rules, none_counted t xs, count-cons)
-
 module _ (rows : Rows) (p : ProcData) (n : ℕ) (s : IsSound rows) (at : process_of p.pid rows.processes ≡ Some p) (live : is_live p ≡ true) (free : p.tracer ≡ None)
     (tracer : IsLiveOf rows p.uid n) (other : n ≢ p.pid) (far : closes_chain p.pid n rows ≡ false) where
   abbrev tracee : ProcData
@@ -79,7 +76,7 @@ module _ (rows : Rows) (p : ProcData) (n : ℕ) (s : IsSound rows) (at : process
   attached_sound = by_first (first_lwp p.pid rows.lwps) refl
     where
       by_first : (o : Option LwpData) → first_lwp p.pid rows.lwps ≡ o → IsSound (stop_first p.pid o made)
-      by_first None e = absurd (grind (arith, nat_tests, find_some (λ q. q.pid == p.pid) (Linked rows) rows.processes s.stands.linked p at, live, none_counted (λ l. l.pid == p.pid) rows.lwps e))
+      by_first None e = absurd (grind (arith, nat_tests, find_some (λ q. q.pid == p.pid) (Linked rows) rows.processes s.stands.linked p at, live, count-none (λ l. l.pid == p.pid) rows.lwps e))
       by_first (Some l) e =
           let found = find_some (λ k. k.pid == p.pid) (λ k. lwp_of k.tid rows.lwps ≡ Some k) rows.lwps (own_lwps rows.lwps s.stands.differ) l e in
           stopped_sound l found.0 (eqb-true l.pid p.pid found.1)
