@@ -1,9 +1,11 @@
--- An LWP at its turn, in sound rows, and changes of it and of its process.
+-- An LWP at its turn, in sound rows, and changes of it and of its process; the stops at the entry and the exit of calls.
 use Rattle.requests.proofs.CommonNames.{◌≡◌, ℕ, ◌≤◌, true, false, ◌==◌, not, Option, Some, None, IfSome, is_some, sym, ap, ◌∙◌, true≢false, subst, eq-eqb, rules, shows, PL_FLAG_EXITED, LwpData, arith}
 use Rattle.requests.proofs.CommonNames.{nat_tests, lwp_of, ProcData, is_live, is_run, reporting, process_of, Rows, change_process, change_lwp, lwp_count, seen_lwp, Shown, stop, FitProcess, Standing}
-use Rattle.requests.proofs.CommonNames.{FitLwp, WithOwner, IsSound, find_some, choose, find_edit, found_number, changed_own, OneProcess, process_sound, OneLwp, lwp_sound, own_lwps, run_quiet, may_stop}
-use Rattle.requests.proofs.CommonNames.{stopped_sound, Reply, stops_or}
+use Rattle.requests.proofs.CommonNames.{FitLwp, WithOwner, IsSound, find_some, choose, find_edit, found_number, changed_own, OneProcess, process_sound, OneLwp, lwp_sound, own_lwps, run_quiet}
+use Rattle.requests.proofs.CommonNames.{may_stop, stopped_sound, Reply, stops_or, Bool, ◌*◌, ltb, lt-ltb, ltb-true, EventMask, Call, stop_where, entry_flags, is_end, or_left, zero_apart, trap}
+use Rattle.requests.proofs.CommonNames.{exit_stop, option_map}
 use Rattle.std.specs.Option.{IsSomeAnd}
+use Rattle.event_masks.specs.declared.StopFlags.{StopFlags}
 
 -- a process that isn't untraced is traced
 pub traced_where : {X : Type 0} (o : Option X) → (o ≡ None → ⊥) → is_some o ≡ true
@@ -57,3 +59,35 @@ pub record MayMake (p : ProcData) (shown : Shown) : Type 0 where
 pub stops_or_sound : (rows : Rows) (p q : ProcData) (l k : LwpData) (o : Option Shown) (r : Reply) → Acting rows q k → q.pid ≡ p.pid → k.tid ≡ l.tid → IfSome o (MayMake q) → IsSound (stops_or o r p l rows).rows
 stops_or_sound rows p q l k None r a pid tid may = a.sound
 stops_or_sound rows p q l k (Some shown) r a pid tid may = subst (λ n. IsSound (stop n l.tid shown rows)) pid (subst (λ n. IsSound (stop q.pid n shown rows)) tid (acting_stops rows q k a shown may.traced (λ is. absurd (true≢false (sym is ∙ may.stays)))))
+
+-- ---- The stops at the entry and the exit of calls may be made: they are of traced processes.
+
+-- the flags of a stop that may be made
+pub record MayShow (p : ProcData) (flags : StopFlags) : Type 0 where
+  pub traced : is_some p.tracer ≡ true
+  pub stays : shows flags PL_FLAG_EXITED ≡ false
+
+-- whether the LWP is still there after the call
+abbrev pub goes_on : Call → Bool
+goes_on Call.ThrExit = false
+goes_on c = true
+
+module _ (p : ProcData) (fit : FitProcess p) where
+  where_may : (event : EventMask) (flags : StopFlags) → (0 == event.0) ≡ false → shows flags PL_FLAG_EXITED ≡ false → IfSome (stop_where p.mask event flags) (MayShow p)
+  where_may event flags some stays = search (rules, choose, traced_where, zero_apart)
+
+  -- at the entry
+  pub entry_may : (c : Call) → IfSome (option_map (λ flags. trap flags 0 c) (entry_flags p.mask)) (MayMake p)
+  entry_may c = search (rules, where_may)
+
+  -- at the exit of calls but thr_exit
+  pub exit_may : (c : Call) (child : ℕ) → goes_on c ≡ true → IfSome (exit_stop p c child) (MayMake p)
+  exit_may c child on = grind (arith, nat_tests, where_may, choose, traced_where, zero_apart)
+
+-- the same of a row with the same tracer
+pub same_may : (p q : ProcData) → q.tracer ≡ p.tracer → (o : Option Shown) → IfSome o (MayMake p) → IfSome o (MayMake q)
+same_may p q same o may = search (rules)
+
+-- the word of an exit
+pub exit_word : (status : ℕ) → ltb status 256 ≡ true → is_end (status * 256) ≡ true
+exit_word status byte = search (rules, ltb-true, or_left, eq-eqb, lt-ltb)

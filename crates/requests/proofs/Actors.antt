@@ -1,9 +1,9 @@
 -- An LWP and its process are there after changes that keep their numbers.
-use Rattle.requests.proofs.CommonNames.{◌≡◌, ℕ, true, false, nat_eq, ◌&&◌, Bool, List, [], ◌∷◌, ◌++◌, refl, sym, Option, Some, subst, rules, option_map, IsSomeAnd, arith, nat_tests, LwpData, Differ}
-use Rattle.requests.proofs.CommonNames.{lwp_of, has_lwp, ProcData, process_of, is_live, is_run, Rows, change, change_process, change_lwp, is_numbered, map_lwps, is_process, add_process, add_lwp}
-use Rattle.requests.proofs.CommonNames.{TableInvariant, owns, seen_lwp, same_number, process_of-pid, row_found, found_row, lwp_of-map, is_process-map, some_and, changed, changed_lwp, filter_map-map}
-use Rattle.requests.proofs.CommonNames.{changed-pid, changed_lwp-keeps, own_lwp-keeps, is_live_at, find_some, own_lwps, find_passes, run_quiet, bit, without, IsSound, without_signal, choose}
-use Rattle.requests.proofs.CommonNames.{settled_process, settled_lwp, settle, stop, Shown, IsActing, HasLwp}
+use Rattle.requests.proofs.CommonNames.{◌≡◌, ℕ, true, false, nat_eq, ◌&&◌, Bool, List, refl, sym, Option, Some, subst, rules, option_map, IsSomeAnd, arith, nat_tests, LwpData, Differ, lwp_of}
+use Rattle.requests.proofs.CommonNames.{ProcData, process_of, is_live, is_run, Rows, change, change_process, change_lwp, is_numbered, map_lwps, is_process, add_process, add_lwp, TableInvariant, owns}
+use Rattle.requests.proofs.CommonNames.{seen_lwp, same_number, process_of-pid, row_found, found_row, lwp_of-map, is_process-map, some_and, changed, changed_lwp, filter_map-map, changed-pid}
+use Rattle.requests.proofs.CommonNames.{changed_lwp-keeps, own_lwp-keeps, is_live_at, find_some, own_lwps, find_passes, run_quiet, bit, without, IsSound, without_signal, choose, settled_process}
+use Rattle.requests.proofs.CommonNames.{settled_lwp, settle, stop, Shown, IsActing, HasLwp}
 use Rattle.proc_table.proofs.Rising.{Lacks-from_any}
 use Rattle.proc_table.proofs.Placed.{is_process-placed}
 use Rattle.requests.proofs.Acting.{Acting}
@@ -66,11 +66,6 @@ module _ (chosen : ProcData → Bool) (f : ProcData → ProcData) (g : ProcData 
 
 pub has-stop : (at of : ℕ) (shown : Shown) (pid tid : ℕ) (rows : Rows) → HasLwp pid tid rows → HasLwp pid tid (stop at of shown rows)
 has-stop at of shown pid tid rows h = search (rules, has-lwp_changed, has-process_changed, has-change)
-
--- a new LWP is found
-pub lwp_added : (new : LwpData) (ls : List LwpData) → has_lwp new.tid ls ≡ false → lwp_of new.tid (ls ++ (new ∷ [])) ≡ Some new
-lwp_added new [] free = rw (same_number new.tid) refl
-lwp_added new (l ∷ ls) free = grind (arith, nat_tests, lwp_added new ls, same_number, free)
 
 pub has-settled : (n pid tid : ℕ) (rows : Rows) → HasLwp pid tid rows → HasLwp pid tid (settle n rows)
 has-settled n pid tid rows h = has-change (is_numbered n) settled_process settled_lwp (λ p. refl) (λ p l. refl) (λ p l. refl) pid tid rows h

@@ -1,63 +1,41 @@
 -- The names that proofs speak by: those of the library, of the crates below, and of this crate's definitions.
+pub use Rattle.requests.specs.CommonNames.{AllByRecursion, flat_map, join_with_byte, list_all, list_any, Err, Ok, Result, IsSomeAnd, count_by, int_lt, option_map, Bool, List, None, Option, Some, []}
+pub use Rattle.requests.specs.CommonNames.{codes, decimal, false, filter, find, get_or, if◌then◌else◌, is_none, is_some, leb, length, ltb, map, negsuc, not, pos, set, true, zip, ℕ, ℤ, ◌&&◌, ◌*◌, ◌++◌}
+pub use Rattle.requests.specs.CommonNames.{◌+◌, ◌==◌, ◌||◌, ◌∷◌, ◌≡◌, ◌≢◌, ◌≤◌, ◌⊎◌, first_free, next_free, pid_block, pid_owner, rising, slot, tid_block, tid_owner, users, IsUser, Errno, EAGAIN}
+pub use Rattle.requests.specs.CommonNames.{EINVAL, ESRCH, bit, has, set_of, without, SIGCHLD, SIGKILL, SIGSTOP, SIGTRAP, after_exec, default_action, disposition_of, is_signal, maskable, may_have}
+pub use Rattle.requests.specs.CommonNames.{set_disposition, unblockable_set, Action, Disposition, asks, default_mask, entry_flags, mask_with, shows, stop_where, Call, EventMask, PTRACE_FORK}
+pub use Rattle.requests.specs.CommonNames.{PTRACE_LWP, PTRACE_SCE, PTRACE_SCX, PL_FLAG_EXITED, Differ, LacksLwp, born, first_lwp, has_lwp, lwp_of, next_lwp, without_lwp, Due, LwpData, Mode, InCall}
+pub use Rattle.requests.specs.CommonNames.{User, VforkWait, map_lwps, add_lwp, add_process, is_lwp, is_process, lwp_count, lwp_count_of, process_count, AllAbove, InOwnBlock, InOwnersBlock}
+pub use Rattle.requests.specs.CommonNames.{TableInvariant, IsRow, Named, Rise, drop_lwp, set_lwp, set_process, is_live, is_run, is_zombie_state, named_by, of_user, placed, process_of, reporting}
+pub use Rattle.requests.specs.CommonNames.{spawned, traces, Rows, by_owner, change, change_lwp, change_process, each, is_numbered, owner, remove_lwp, find_seen, owns, seen_lwp, seen_process, ProcData}
+pub use Rattle.requests.specs.CommonNames.{State, Job, Trace, end, end_each, left_alone, lwp_after, meets, notifies_of, process_after, released, tracer_of, continues, notified, notifies, posted}
+pub use Rattle.requests.specs.CommonNames.{posted_lwp, posted_process, settle, settled_lwp, settled_process, unwanted, is_due, is_end, is_live_at, is_live_of, mode_fits, names_own, sound_rows}
+pub use Rattle.requests.specs.CommonNames.{status_fits, detach, post, resume, stop, tracers, Settings, Shown, info, lwp_info, answer, candidates, collect, fits, is_child, reportable, reported}
+pub use Rattle.requests.specs.CommonNames.{rows_after, told, without_report, Collected, Options, StatusKind, Decision, Rule, PlainStep, bare, with_handler, Act, Reply, Request, Step, Closed, GoodLwp}
+pub use Rattle.requests.specs.CommonNames.{GoodProc, LiveOwner, LiveRow, InBlock}
 pub use Rattle.std.specs.Fmt.{HasWritten, IsPlainFormatter}
-pub use Rattle.std.specs.List.{AllByRecursion, flat_map, join_with_byte, list_all, list_any}
-pub use Rattle.std.specs.Prelude.{Err, Ok, Result, IsSomeAnd, count_by, int_lt, option_map}
-pub use Rattle.std.proofs.Common.{Bool, IfSome, List, None, Option, Some, [], ap, append-nil, ap₂, arith, codes, decimal, drop, eq-eqb, eqb, eqb-true, false, filter, filter_map, find, get_or}
-pub use Rattle.std.proofs.Common.{get_or-set_other, if◌then◌else◌, inl, inr, is_none, is_some, leb, length, length-append, length-set, lt-ltb, ltb, map, nat_eq, negsuc, not, pos, refl, rules, set, subst}
-pub use Rattle.std.proofs.Common.{suc, sym, take, true, true≢false, zero, zip, ℕ, ℤ, ◌&&◌, ◌*◌, ◌++◌, ◌+◌, ◌-◌, ◌<◌, ◌==◌, ◌||◌, ◌∙◌, ◌∷◌, ◌≡◌, ◌≢◌, ◌≤◌, ◌⊎◌}
-pub use Rattle.std.proofs.lemmas.Bool.{cases_Bool, cases_lt, le-leb, le-ltb, leb-false, leb-true, ltb-true}
+pub use Rattle.std.proofs.Common.{IfSome, ap, append-nil, ap₂, arith, drop, eq-eqb, eqb, eqb-true, filter_map, get_or-set_other, inl, inr, length-append, length-set, lt-ltb, nat_eq, refl, rules}
+pub use Rattle.std.proofs.Common.{subst, suc, sym, take, true≢false, zero, ◌-◌, ◌<◌, ◌∙◌}
+pub use Rattle.std.proofs.lemmas.Bool.{cases_Bool, cases_lt, le-leb, le-ltb, leb-false, leb-true, ltb-true, not-false}
 pub use Rattle.std.proofs.lemmas.Bool.Decides.{nat_tests}
-pub use Rattle.std.proofs.lemmas.List.{append_assoc, length-map, set-get_or, take_all}
-pub use Rattle.pid_blocks.specs.Blocks.{first_free, next_free, pid_block, pid_owner, rising, slot, tid_block, tid_owner, users}
-pub use Rattle.pid_blocks.specs.Users.{IsUser}
-pub use Rattle.pid_blocks.specs.declared.Errno.{Errno}
-pub use Rattle.pid_blocks.specs.declared.Errno.TheVariants.{EAGAIN, EINVAL, ESRCH}
+pub use Rattle.std.proofs.lemmas.List.{append_assoc, length-map, set-get_or, take_all, same_lists, get_or_default}
 pub use Rattle.signals.specs.Laws.{IsSignal}
-pub use Rattle.signals.specs.Sets.{bit, has, set_of, without}
-pub use Rattle.signals.specs.Table.{SIGCHLD, SIGKILL, SIGSTOP, SIGTRAP, after_exec, default_action, disposition_of, is_signal, maskable, may_have, set_disposition, unblockable_set}
-pub use Rattle.signals.specs.declared.Action.{Action}
-pub use Rattle.signals.specs.declared.Disposition.{Disposition}
-pub use Rattle.event_masks.specs.Exits.{asks, default_mask, entry_flags, mask_with, shows, stop_where}
-pub use Rattle.event_masks.specs.declared.Call.{Call}
-pub use Rattle.event_masks.specs.declared.EventMask.{EventMask}
-pub use Rattle.event_masks.specs.declared.TheConstants.EventMask.{PTRACE_FORK, PTRACE_LWP, PTRACE_SCE, PTRACE_SCX}
-pub use Rattle.event_masks.specs.declared.TheConstants.StopFlags.{PL_FLAG_EXITED}
-pub use Rattle.lwp_table.specs.Lwps.{Differ, LacksLwp, born, first_lwp, has_lwp, lwp_of, next_lwp, without_lwp}
-pub use Rattle.lwp_table.specs.declared.Due.{Due}
-pub use Rattle.lwp_table.specs.declared.LwpData.{LwpData}
-pub use Rattle.lwp_table.specs.declared.Mode.{Mode}
-pub use Rattle.lwp_table.specs.declared.Mode.TheVariants.{InCall, User, VforkWait}
-pub use Rattle.proc_table.specs.Edits.{map_lwps}
-pub use Rattle.proc_table.specs.Fresh.{add_lwp, add_process, is_lwp, is_process, lwp_count, lwp_count_of, process_count}
-pub use Rattle.proc_table.specs.Kept.{AllAbove, InOwnBlock, InOwnersBlock, TableInvariant, IsRow, Named, Rise, drop_lwp, set_lwp, set_process}
-pub use Rattle.proc_table.specs.Processes.{is_live, is_run, is_zombie_state, named_by, of_user, placed, process_of, reporting, spawned, traces}
-pub use Rattle.proc_table.specs.Rows.{Rows, by_owner, change, change_lwp, change_process, each, is_numbered, owner, remove_lwp}
-pub use Rattle.proc_table.specs.Seen.{find_seen, owns, seen_lwp, seen_process}
-pub use Rattle.proc_table.specs.declared.ProcData.{ProcData}
-pub use Rattle.proc_table.specs.declared.State.{State}
-pub use Rattle.proc_table.specs.declared.State.TheVariants.{Job, Trace}
 pub use Rattle.proc_table.proofs.Changes.{change-at, change_lwp-at, change_process-at, changed, changed_lwp, filter_map-map, map-id, remove_lwp-is}
 pub use Rattle.proc_table.proofs.Every.{every_found, every_untested, found_tested, some_and}
 pub use Rattle.proc_table.proofs.Rows.{found_row, is_process-map, lwp_of-map, lwp_of-tid, other_number, process_of-pid, row_found, same_number}
 pub use Rattle.proc_table.proofs.Seen.{lwp-within, owns-kept, seen_lwp-kept}
 pub use Rattle.proc_table.proofs.Stays.{changed-pid, changed_lwp-keeps, lwp_there, named-same, own_lwp-keeps, process-set, process_there}
 pub use Rattle.trace_stop.specs.Before.{FitButPending, FitLwpButPending, FitOrReady, IsSoundButPending, MayStop, Ready}
-pub use Rattle.trace_stop.specs.End.{end, end_each, left_alone, lwp_after, meets, notifies_of, process_after, released, tracer_of}
 pub use Rattle.trace_stop.specs.Facts.{FitLwp, FitProcess, IsLiveChild, IsLiveOf, IsSound, Linked, Standing, MidStepInvariant, WithOwner, waited_for}
-pub use Rattle.trace_stop.specs.Post.{continues, notified, notifies, posted, posted_lwp, posted_process, settle, settled_lwp, settled_process, unwanted}
-pub use Rattle.trace_stop.specs.Sound.{is_due, is_end, is_live_at, is_live_of, mode_fits, names_own, sound_rows, status_fits}
-pub use Rattle.trace_stop.specs.Stop.{detach, post, resume, stop, tracers}
-pub use Rattle.trace_stop.specs.declared.Settings.{Settings}
-pub use Rattle.trace_stop.specs.declared.Shown.{Shown}
-pub use Rattle.trace_stop.proofs.SoundAfterEdit.{Beside, Holds, KeptLwp, KeptRow, Leaves, Like, Row, Same, Stay, edit_holds, found_number, holds_sound, kept_all, kept_lwp, kept_row, like_self, lwps_alone}
-pub use Rattle.trace_stop.proofs.SoundAfterEdit.{no_ring, nobody, none_gone, row_is, same_lwp, sound_holds, stay, stay_where}
+pub use Rattle.trace_stop.proofs.SoundAfterEdit.{Beside, Holds, KeptLwp, KeptRow, Leaves, Like, Row, Same, Stay, edit_holds, found_number, holds_sound, kept_all, kept_lwp, kept_row, like_self}
+pub use Rattle.trace_stop.proofs.SoundAfterEdit.{lwps_alone, no_ring, nobody, none_gone, row_is, same_lwp, sound_holds, stay, stay_where}
 pub use Rattle.trace_stop.proofs.ProcessEdits.{changed_own, changed_row, changes_hold}
 pub use Rattle.trace_stop.proofs.Edited.{If_more, count_edit, edit_none, find_edit, if_at, one_gone, some_is}
-pub use Rattle.trace_stop.proofs.Every.{All-any, All-append, All-both, All-filter, All-from_list_all, All-imply, and_left, and_right, any_holds, any_more, both, by_bool, choose, choose_both, count-cons}
-pub use Rattle.trace_stop.proofs.Every.{find_some, list_all-from_All, not_some, or_left}
+pub use Rattle.trace_stop.proofs.Every.{All-any, All-append, All-both, All-filter, All-from_list_all, All-imply, and_left, and_right, any_holds, any_more, both, by_bool, choose, choose_both}
+pub use Rattle.trace_stop.proofs.Every.{count-cons, find_some, list_all-from_All, not_some, or_left, any_forward, or_true}
 pub use Rattle.trace_stop.proofs.FromSound.{IsSound-from, sound_rows-from, user_at, zip_users}
 pub use Rattle.trace_stop.proofs.Numbers.{one_row, own_lwps, the_lwp, the_row}
-pub use Rattle.trace_stop.proofs.Passes.{found_above, own_rows, process_edited}
+pub use Rattle.trace_stop.proofs.Passes.{found_above, own_rows, process_edited, rise_edited, filter_map_twice}
 pub use Rattle.trace_stop.proofs.SoundAfterSettle.{live_fits, live_state, pending_fits}
 pub use Rattle.trace_stop.proofs.SoundAfterPost.{detach_sound, end_at, post_sound, resume_sound}
 pub use Rattle.trace_stop.proofs.Settling.{disposed_sound, redisposed_lwp, settle_sound, zero_apart}
@@ -68,35 +46,25 @@ pub use Rattle.row_isolation.proofs.IsolationOfEdits.{slots_differ, stays_if}
 pub use Rattle.row_isolation.proofs.FilteredLists.{All-where, any_only, every, filter-all, filter_only, filter_same}
 pub use Rattle.row_isolation.proofs.SoundRowsAreApart.{live_owner, lwps_seen, owns_block, owns_owner, pid_in_block, sound_closed, tid_in_block}
 pub use Rattle.row_isolation.proofs.IsolationRelation.{Kept, Sim, at_number, each_same, either, is_own, lwp_query, lwps_query, named, not_own, own, own_lwp, process_same, row_query, rows_query}
-pub use Rattle.lwpinfo.specs.Info.{info, lwp_info}
-pub use Rattle.wait4.specs.Collect.{answer, candidates, collect, fits, is_child, reportable, reported, rows_after, told, without_report}
-pub use Rattle.wait4.specs.declared.Collected.{Collected}
-pub use Rattle.wait4.specs.declared.Options.{Options}
-pub use Rattle.wait4.specs.declared.StatusKind.{StatusKind}
 pub use Rattle.wait4.proofs.SoundAfterCollect.{by_kept, collect_sound}
-pub use Rattle.stop_handlers.specs.declared.Decision.{Decision}
-pub use Rattle.stop_handlers.specs.declared.Rule.{Rule}
 pub use Rattle.requests.specs.Actors.{HasLwp, IsActing}
-pub use Rattle.requests.specs.Calls.{collect_reply, is_default, is_refused, list, sigaction, spawn, spawn_with, wait}
-pub use Rattle.requests.specs.Commands.{command, with_signal}
-pub use Rattle.requests.specs.Handle.{decided, done, handled_by, handles, handles_status, handles_stop, install, no_options, policies_in, policies_of, view_of}
+pub use Rattle.requests.specs.Calls.{collect_reply, is_refused, list, sigaction, spawn, spawn_with, wait}
+pub use Rattle.requests.specs.Handle.{decided, done, handled_by, handles, handles_status, handles_stop, install, no_options, policies_in, policies_of, view_of, handle}
 pub use Rattle.requests.specs.Hosts.{Steps, Tries, machine_of}
-pub use Rattle.requests.specs.Isolation.{Alone, Apart, Closed, Debugger, GoodLwp, GoodProc, InBlock, KeepsApart, LiveOwner, LiveRow, OneStep, OtherStep, OwnRun, ApartInASoundHost, TwoLists, Users}
-pub use Rattle.requests.specs.Isolation.{host_after, own_replies, own_view, replies_to, reply_of}
+pub use Rattle.requests.specs.Isolation.{Alone, Apart, Debugger, KeepsApart, OneStep, OtherStep, OwnRun, ApartInASoundHost, TwoLists, Users, host_after, own_replies, own_view, replies_to, reply_of}
 pub use Rattle.requests.specs.Laws.{SoundKept, SoundRuns, act_fits, step_fits}
 pub use Rattle.requests.specs.Leave.{Numbers, child_stop, due_at_birth, exec_rows, exit_stop, exits_lwp, forked, forks, in_mode, leaves, makes_lwp, room_for_lwp, room_for_process, with_child}
-pub use Rattle.requests.specs.Machine.{After, Installed, Machine, after, empty, installed_by, is_live_number, outcome_of}
+pub use Rattle.requests.specs.Machine.{After, Installed, Machine, after, empty, installed_by, outcome_of}
 pub use Rattle.requests.specs.Memory.{Attempts, attempted_reply, is_memory, is_refusal, may_want, takes_memory}
 pub use Rattle.requests.specs.Outcome.{Gives, Outcome, answers, refuses, stops_or, stops_with, trap}
-pub use Rattle.requests.specs.Plain.{PlainStep, bare, with_handler}
-pub use Rattle.requests.specs.Ptrace.{about, attach, bad_argument, closes_chain, commands, commands_stopped, continues_with, does, is_attach, is_trace_me, not_stepping, process_by, ptrace, set_mask}
-pub use Rattle.requests.specs.Ptrace.{shows_info, stepping, stop_first, suspend, switched, target_of, told_stop, trace_me, traced_by}
+pub use Rattle.requests.specs.Ptrace.{about, attach, bad_argument, closes_chain, command, commands, commands_stopped, continues_with, does, is_attach, is_trace_me, not_stepping, ptrace, set_mask}
+pub use Rattle.requests.specs.Ptrace.{shows_info, stepping, stop_first, suspend, switched, target_of, told_stop, trace_me, traced_by, with_signal}
 pub use Rattle.requests.specs.Reach.{is_which, kill, next_other, post_all, post_if_live, reach, reached}
 pub use Rattle.requests.specs.Sound.{sound, sound_installed}
 pub use Rattle.requests.specs.Step.{caller_of, calls, checked, installs, step, step_of, uncalled}
 pub use Rattle.requests.specs.Turn.{acts, computes, due_or_more, due_stop, in_user_mode, job_stops, next_signal, plain, raises, signal_or_act, takes, takes_by_default, takes_untraced, turn, turn_by}
 pub use Rattle.requests.specs.Turn.{turn_of, turn_seen, waits, without_signal}
-pub use Rattle.requests.specs.declared.Act.{Act}
-pub use Rattle.requests.specs.declared.Reply.{Reply}
-pub use Rattle.requests.specs.declared.Request.{Request}
-pub use Rattle.requests.specs.declared.step.Step.{Step}
+pub use Rattle.requests.specs.Callers.{IsCaller, Calls, Barred}
+pub use Rattle.std.proofs.Math.ListN.{get_or-map, replicate}
+pub use Rattle.requests.specs.Ending.{may_end}
+pub use Rattle.std.proofs.lemmas.List.Folds.{list_any-append, list_all-append, find-append}

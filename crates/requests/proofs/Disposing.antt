@@ -1,15 +1,10 @@
 -- Which dispositions a process may have, and its row with others.
-use Rattle.requests.proofs.CommonNames.{◌≡◌, ℕ, Some, None, is_some, ◌==◌, not, ◌||◌, if◌then◌else◌, [], ◌∷◌, refl, ap, arith, rules, cases_Bool, le-leb, set_of, has, nat_tests, unblockable_set, may_have}
-use Rattle.requests.proofs.CommonNames.{set_disposition, IsSignal, Disposition, ProcData, process_of, Rows, Rise, IsRow, set_process, found_row, process-set, change_process-at, settle, some_is, is_refused}
-use Rattle.requests.proofs.CommonNames.{sigaction, Reply}
-use Rattle.signals.proofs.Members.{members_after}
+use Rattle.requests.proofs.CommonNames.{◌≡◌, ℕ, Some, None, is_some, not, if◌then◌else◌, refl, ap, arith, rules, cases_Bool, le-leb, nat_tests, may_have, set_disposition, IsSignal, Disposition}
+use Rattle.requests.proofs.CommonNames.{ProcData, process_of, Rows, Rise, IsRow, set_process, found_row, process-set, change_process-at, settle, some_is, is_refused, sigaction, Reply}
 use Rattle.signals.specs.Dispositions.{Actions}
 
-unblockable : (s : ℕ) → IsSignal s → has unblockable_set s ≡ ((s == 9) || (s == 17))
-unblockable s is = grind (arith, nat_tests, members_after (set_of (17 ∷ [])) 0 9 s (omega arith, omega arith) is, members_after 0 0 17 s (omega arith, omega arith) is)
-
 pub refused_is : (s : ℕ) (d : Disposition) → IsSignal s → is_refused s d ≡ not (may_have s d)
-refused_is s d is = search (rules, le-leb, unblockable)
+refused_is s d is = search (rules, le-leb)
 
 -- a process with other dispositions, settled
 module _ (rows rows1 : Rows) (p new : ProcData) (at : process_of p.pid rows.processes ≡ Some p) where

@@ -1,18 +1,62 @@
--- The clauses of a step, from what was done to the rows and what was answered.
-use Rattle.requests.proofs.CommonNames.{◌≡◌, ◌≢◌, ℕ, Some, None, List, [], set, true, false, refl, sym, ap, ◌∙◌, subst, inl, inr, set-get_or, IsUser, slot, Rows, PlainStep, Reply, Outcome, answers, arith}
-use Rattle.requests.proofs.CommonNames.{nat_tests, Installed, Machine, after, takes_memory, is_refusal, may_want, step_fits, sound, Steps, ProcData, step, calls, caller_of, Rule, length, installed_by}
-use Rattle.requests.proofs.CommonNames.{le-leb, not, ◌<◌, ◌≤◌, ◌++◌, ◌∷◌, if◌then◌else◌, cases_Bool, attempted_reply, Errno, Step, Attempts, Result, Ok, Err, uncalled, installs, outcome_of, Tries, step_of}
-use Rattle.requests.specs.Callers.{IsCaller, Calls, Barred}
-use Rattle.requests.specs.Ending.{may_end}
-use Rattle.requests.proofs.SoundWithoutEnded.{all_left, left_live, answers_same, rows_sound}
+-- The clauses of a step, from what was done to the rows and what was answered; first what it leaves of the policies.
+use Rattle.requests.proofs.CommonNames.{ℕ, List, [], ◌∷◌, ◌++◌, set, slot, Rule, Machine, After, installed_by, Reply, ◌≡◌, ◌+◌, ◌<◌, length, map, filter, Bool, true, sym, ap, ◌∙◌, arith, subst}
+use Rattle.requests.proofs.CommonNames.{get_or, length-map, IsUser, Rows, PlainStep, Outcome, Installed, is_live_at, after, sound, step, put_at, slots_differ, either, get_or-map, length-set}
+use Rattle.requests.proofs.CommonNames.{get_or-set_other, ◌≢◌, Some, None, false, refl, inl, inr, set-get_or, answers, nat_tests, takes_memory, is_refusal, may_want, step_fits, Steps, ProcData, calls}
+use Rattle.requests.proofs.CommonNames.{caller_of, le-leb, not, ◌≤◌, if◌then◌else◌, cases_Bool, attempted_reply, Errno, Step, Attempts, Result, Ok, Err, uncalled, installs, outcome_of, Tries, step_of}
+use Rattle.requests.proofs.CommonNames.{IsCaller, Calls, Barred, may_end}
+use Rattle.requests.specs.View.{view}
+use Rattle.requests.proofs.SoundWithoutEnded.{slots_of, same_at, all_left, left_live, answers_same, rows_sound}
+use Rattle.requests.proofs.IsolationLaws.{other_step}
+use Rattle.requests.proofs.SoundHostIsApart.{users_are_apart_in_a_sound_host}
 use Rattle.requests.proofs.Outcomes.{Lives}
-use Rattle.requests.proofs.Called.{called, is_caller}
-use Rattle.requests.proofs.Drops.{left_in, kept_by, drops}
-use Rattle.requests.proofs.Installing.{installed_with, few_leb}
+use Rattle.requests.proofs.SoundAfterCall.{called, is_caller}
 use Rattle.requests.proofs.Replies.{cases_memory, other}
 use Rattle.requests.proofs.RefusalsChangeNothing.{no_step_runs_out_of_memory, a_refusal_changes_nothing, step_fair}
 use Rattle.requests.proofs.StaysSound.{sound_kept}
 use Rattle.requests.proofs.PerStep.{uncalled_after, calls_after}
+
+abbrev pub installed_with : ℕ → ℕ → List Rule → Machine → After
+installed_with u debugger policy m = record {
+  machine = record m { installed = set m.installed (slot u) (installed_by u m ++ (record { debugger = debugger; policy = policy } ∷ [])) };
+  reply = Reply.Done;
+}
+
+-- ---- After a step, what ended debuggers had installed goes; only the step's own user can have such.
+
+-- the pairs of a user whose debugger lives in the rows
+abbrev pub left_in : Rows → ℕ → Machine → List Installed
+left_in rows u m = filter (λ i. is_live_at i.debugger rows) (installed_by u m)
+
+-- the host with other rows, and only the user's pairs of live debuggers
+abbrev pub kept_by : ℕ → Rows → Machine → Machine
+kept_by u rows m = record m { rows = rows; installed = set m.installed (slot u) (left_in rows u m) }
+
+module _ (m : Machine) (u : ℕ) (user : IsUser u) (is : sound m ≡ true) (s : PlainStep) (o : Outcome) (same : step u s m ≡ after m o) where
+  abbrev left : Installed → Bool
+  left i = is_live_at i.debugger o.rows
+
+  abbrev was : List (List Installed)
+  was = map (filter left) m.installed
+
+  abbrev now : List (List Installed)
+  now = set m.installed (slot u) (filter left (installed_by u m))
+
+  at_user : (v : ℕ) → IsUser v → get_or was (slot v) [] ≡ get_or now (slot v) []
+  at_user v other = either v u
+      (λ me. subst (λ w. get_or was (slot w) [] ≡ get_or now (slot w) []) (sym me) (get_or-map (filter left) m.installed (slot u) [] ∙ sym (put_at u m.installed (filter left (installed_by u m)) [] user (slots_of m is))))
+      (λ ne.
+      let kept : installed_by v (after m o).machine ≡ installed_by v m = ap (λ x. x.installed) (subst (λ a. view v a.machine ≡ view v m) same (other_step m v u s other user ne (users_are_apart_in_a_sound_host m is))) in
+      kept ∙ sym (get_or-set_other m.installed (slot u) (slot v) (filter left (installed_by u m)) [] (slots_differ u v user other ne)))
+
+  at : (k : ℕ) → k < length was → get_or was k [] ≡ get_or now k []
+  at k lt =
+      let small : k < 64 = omega (arith, lt, (length-map m.installed (filter left)), slots_of m is) in
+      subst (λ n. get_or was n [] ≡ get_or now n []) (omega arith) (at_user (k + 1001) (omega arith, omega arith))
+
+  pub drops : (after m o).machine ≡ kept_by u o.rows m
+  drops = ap (λ xs. record m { rows = o.rows; installed = xs }) (same_at was now [] ((length-map m.installed (filter left)) ∙ sym (length-set m.installed (slot u) (filter left (installed_by u m)))) at)
+
+-- ---- The clauses of a step, from what was done to the rows and what was answered.
 
 module _ (u : ℕ) (s : PlainStep) (m : Machine) (user : IsUser u) (is : sound m ≡ true) (fits : step_fits s ≡ true) where
   pub from_machine : (n : Machine) (r : Reply) → (r ≢ Reply.Errno Errno.ENOMEM → (n ≡ (step u s m).machine) × (r ≡ (step u s m).reply)) → (r ≡ Reply.Errno Errno.ENOMEM → (n ≡ m) × (may_want u s m ≡ true)) → Steps u s m n r
@@ -34,12 +78,9 @@ module _ (u : ℕ) (s : PlainStep) (m : Machine) (user : IsUser u) (is : sound m
   finished o rows (Ok r) same did = grind (arith, nat_tests, from_machine (kept_by u rows m) r (λ ok. (ap (λ x. kept_by u x m) did.gives.rows ∙ sym (drops m u user is s o same) ∙ sym (ap (λ a. a.machine) same), did.gives.reply ∙ sym (ap (λ a. a.reply) same))) (λ e. absurd (no_step_runs_out_of_memory u s m (ap (λ a. a.reply) same ∙ sym did.gives.reply ∙ e))), no_step_runs_out_of_memory)
   finished o rows (Err e) same did = from_machine (kept_by u rows m) (Reply.Errno Errno.ENOMEM) (λ plenty. absurd (plenty refl))
       (λ e. (
-        ap (λ x. kept_by u x m) did.same ∙ ap (λ x. record m { installed = x }) (ap (set_at m.installed) (all_left m is u user) ∙ set-get_or m.installed (slot u) []),
+        ap (λ x. kept_by u x m) did.same ∙ ap (λ x. record m { installed = x }) (ap (λ ys. set m.installed (slot u) ys) (all_left m is u user) ∙ set-get_or m.installed (slot u) []),
         rw (did.takes, ap (λ a. is_refusal a.reply) same ∙ did.unrefused) refl,
       ))
-    where
-      set_at : List (List Installed) → List Installed → List (List Installed)
-      set_at xs ys = set xs (slot u) ys
 
   -- which are none where the step ends no process
   pub none_ended : {E : Type 0} (o : Outcome) (rows : Rows) (r : Result Reply E) → step u s m ≡ after m o → Attempts (takes_memory u s m) o m.rows rows r → may_end s (attempted_reply r) ≡ false → set m.installed (slot u) (left_in rows u m) ≡ m.installed
@@ -88,7 +129,7 @@ module _ {u : ℕ} {h m : Machine} (view : h ≡ m) (user : IsUser u) (kept : so
           (called u n (Step.Install n policy) m refl p found.seen found.live found.runs ∙ rw (le-leb 64 (length (installed_by u m)) many) refl)
 
       made : length (installed_by u h) < 64 → step u (Step.Install n policy) h ≡ installed_with u p.pid policy h
-      made few = called u n (Step.Install n policy) h refl p by_host.seen by_host.live by_host.runs ∙ rw (few_leb (length (installed_by u h)) few) refl
+      made few = called u n (Step.Install n policy) h refl p by_host.seen by_host.live by_host.runs ∙ grind (arith, nat_tests, few)
 
       pub host_installed : {xs : List (List Installed)} → length (installed_by u h) < 64 → xs ≡ set h.installed (slot u) (installed_by u h ++ (record { debugger = p.pid; policy = policy } ∷ [])) → Steps u (Step.Install n policy) h (record h { installed = xs }) Reply.Done
       host_installed {xs} few done = grind (arith, nat_tests, from_machine u (Step.Install n policy) h user kept refl (record h { installed = xs }) Reply.Done (λ ok. (ap (λ ys. record h { installed = ys }) done ∙ sym (ap (λ a. a.machine) (made few)), sym (ap (λ a. a.reply) (made few)))) (λ e. absurd (other Reply.Done refl e)), other)

@@ -1,7 +1,7 @@
 -- A step of a host, compared with the same step without any other user; the laws of isolation.
 use Rattle.requests.proofs.CommonNames.{◌≡◌, ◌≢◌, ℕ, List, [], ◌∷◌, filter, true, ◌==◌, ◌&&◌, not, Option, Some, None, IfSome, refl, sym, ap, ap₂, ◌∙◌, arith, subst, eq-eqb, get_or, IsUser, nat_tests}
 use Rattle.requests.proofs.CommonNames.{pid_block, tid_block, slot, ProcData, LwpData, is_live, is_run, of_user, Rows, owns, seen_process, Settings, PlainStep, Machine, Installed, installed_by}
-use Rattle.requests.proofs.CommonNames.{is_live_number, after, turn, checked, step, GoodProc, LiveOwner, Closed, Debugger, Apart, reply_of, host_after, replies_to, Users, KeepsApart, Alone, OneStep}
+use Rattle.requests.proofs.CommonNames.{is_live_at, after, turn, checked, step, GoodProc, LiveOwner, Closed, Debugger, Apart, reply_of, host_after, replies_to, Users, KeepsApart, Alone, OneStep}
 use Rattle.requests.proofs.CommonNames.{OtherStep, TwoLists, OwnRun, own_replies, own_view, filter_only, filter-all, All-where, every, Kept, Sim, own, own_lwp, not_own, either, owns_block, lwps_seen}
 use Rattle.requests.proofs.CommonNames.{find_passes, AllByRecursion, choose_both, All-imply, step_of}
 use Rattle.requests.specs.Run.{Asked, last, replies, asked_by}
@@ -15,7 +15,7 @@ pub use Rattle.requests.proofs.IsolationOfHosts.{live_only, at_slot}
 
 -- A step of any user
 
-seen_live : (u n : ℕ) (rows : Rows) (p : ProcData) → seen_process u n rows ≡ Some p → is_live p ≡ true → is_live_number rows p.pid ≡ true
+seen_live : (u n : ℕ) (rows : Rows) (p : ProcData) → seen_process u n rows ≡ Some p → is_live p ≡ true → is_live_at p.pid rows ≡ true
 seen_live u n rows p is live = find_passes (λ q. (q.pid == n) && (q.uid == u)) (λ q. (q.pid == p.pid) && is_live q) rows.processes p is (rw (eq-eqb p.pid p.pid refl, live) refl)
 
 checked_same : {u : ℕ} {m k : Machine} → IsUser u → Apart m → Twin u m k → (s : PlainStep) (n : ℕ) (o : Option ProcData) → seen_process u n m.rows ≡ o → IfSome o (λ p. GoodProc p × (p.uid ≡ u) × (p.pid ≡ n)) → Stepped u m (checked u s o m) (checked u s o k)

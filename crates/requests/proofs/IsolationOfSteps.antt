@@ -1,13 +1,13 @@
 -- AllByRecursion step, on all rows and on a user's.
-use Rattle.requests.proofs.CommonNames.{nat_tests, ◌≡◌, ℕ, ℤ, pos, negsuc, List, [], ◌∷◌, map, take, true, false, ◌==◌, ◌&&◌, ◌||◌, not, leb, if◌then◌else◌, Option, Some, None, is_some, IfSome, refl, sym}
-use Rattle.requests.proofs.CommonNames.{ap, ap₂, ◌∙◌, eqb-true, subst, eq-eqb, arith, pid_owner, tid_owner, EventMask, PTRACE_SCE, PTRACE_SCX, PTRACE_FORK, PTRACE_LWP, mask_with, SIGKILL, is_signal}
-use Rattle.requests.proofs.CommonNames.{set_disposition, Disposition, ProcData, State, Trace, LwpData, lwp_of, first_lwp, is_live, process_of, of_user, traces, named_by, Rows, seen_process, find_seen}
-use Rattle.requests.proofs.CommonNames.{Settings, Options, Collected, StatusKind, reported, collect, rows_after, info, lwp_info, Rule, Decision, Request, Numbers, room_for_process, spawn_with, spawn, list}
-use Rattle.requests.proofs.CommonNames.{is_default, sigaction, collect_reply, wait, is_which, reach, post_if_live, post_all, reached, kill, stop_first, attach, told_stop, bad_argument, not_stepping}
-use Rattle.requests.proofs.CommonNames.{set_mask, continues_with, switched, shows_info, does, commands_stopped, commands, is_attach, about, process_by, target_of, is_trace_me, ptrace, decided, view_of}
-use Rattle.requests.proofs.CommonNames.{done, handles_stop, handles_status, handles, no_options, GoodProc, GoodLwp, All-where, Sim, own, row_query, rows_query, lwp_query, lwps_query, process_same, If_more}
-use Rattle.requests.proofs.CommonNames.{branch_rows, process_same_after, lwp_same_after, change_same, and_left, and_right, pid_in_block, tid_in_block, AllByRecursion, Reply}
-use Rattle.std.proofs.Common.{option_map}
+use Rattle.requests.proofs.CommonNames.{is_some, traces, told_stop}
+use Rattle.requests.proofs.CommonNames.{rules, nat_tests, ◌≡◌, ℕ, ℤ, pos, negsuc, List, [], ◌∷◌, map, take, true, false, ◌==◌, ◌&&◌, not, leb, if◌then◌else◌, Option, Some, None, IfSome, refl, sym, ap}
+use Rattle.requests.proofs.CommonNames.{◌∙◌, eqb-true, subst, eq-eqb, arith, pid_owner, tid_owner, EventMask, PTRACE_SCE, PTRACE_SCX, PTRACE_FORK, PTRACE_LWP, mask_with, SIGKILL, set_disposition}
+use Rattle.requests.proofs.CommonNames.{Disposition, ProcData, State, Trace, LwpData, lwp_of, first_lwp, is_live, process_of, of_user, named_by, Rows, seen_process, find_seen, Settings, Options}
+use Rattle.requests.proofs.CommonNames.{Collected, StatusKind, reported, collect, rows_after, info, lwp_info, Rule, Decision, Request, Numbers, room_for_process, spawn_with, spawn, list, is_refused}
+use Rattle.requests.proofs.CommonNames.{sigaction, collect_reply, wait, is_which, reach, post_if_live, post_all, reached, kill, stop_first, attach, bad_argument, not_stepping, set_mask}
+use Rattle.requests.proofs.CommonNames.{continues_with, switched, shows_info, does, commands_stopped, commands, is_attach, about, target_of, is_trace_me, ptrace, decided, view_of, done, handles_stop}
+use Rattle.requests.proofs.CommonNames.{handles_status, handles, no_options, GoodProc, GoodLwp, All-where, Sim, own, row_query, rows_query, lwp_query, lwps_query, process_same, If_more, branch_rows}
+use Rattle.requests.proofs.CommonNames.{process_same_after, lwp_same_after, change_same, and_left, and_right, pid_in_block, tid_in_block, AllByRecursion, Reply, option_map}
 use Rattle.row_isolation.proofs.FilteredLists.{find_some}
 use Rattle.row_isolation.proofs.IsolationOfSignals.{settle_same, is_numbered_foreign, own_some}
 use Rattle.row_isolation.proofs.IsolationOfEnds.{meets_same, post_same, stop_same, resume_same, detach_same}
@@ -33,10 +33,10 @@ pub of_user_same : {u : ℕ} {start c v : Rows} → Sim u start c v → of_user 
 of_user_same {u} s = rows_query s (own u) (λ p good is. eqb-true p.uid u is)
 
 pub list_same : {u : ℕ} {start c v : Rows} → Sim u start c v → Same u start (list u c) (list u v)
-list_same s = record { rows = s; reply = ap (λ ps. Reply.Pids (map (λ p. p.pid) ps)) (of_user_same s) }
+list_same s = search (rules, of_user_same s)
 
 pub sigaction_same : {u : ℕ} {start c v : Rows} → Sim u start c v → (p : ProcData) (sig : ℕ) (d : Disposition) → pid_owner p.pid ≡ u → Same u start (sigaction p sig d c) (sigaction p sig d v)
-sigaction_same s p sig d here = branch (not (is_signal sig) || (((sig == 9) || (sig == 17)) && not (is_default d))) _ refl (λ b. answered s _) (λ b. answered (settle_same (process_same_after s p.pid here (λ q. record q { dispositions = set_disposition q.dispositions sig d }) (λ q good is e. (refl, refl, record { user = good.user; block = good.block; tracer = good.tracer; parent = good.parent; reporting = good.reporting; collector = good.collector }, λ live. live))) p.pid here) _)
+sigaction_same s p sig d here = branch (is_refused sig d) _ refl (λ b. answered s _) (λ b. answered (settle_same (process_same_after s p.pid here (λ q. record q { dispositions = set_disposition q.dispositions sig d }) (λ q good is e. (refl, refl, record { user = good.user; block = good.block; tracer = good.tracer; parent = good.parent; reporting = good.reporting; collector = good.collector }, λ live. live))) p.pid here) _)
 
 pub wait_same : {u : ℕ} {start c v : Rows} → Sim u start c v → (p : ProcData) (which : ℤ) (options : Options) → pid_owner p.pid ≡ u → Same u start (wait p which options c) (wait p which options v)
 wait_same s p which options here = branch (not (is_which which)) _ refl (λ b. answered s _) (λ b. record { rows = rows_after_same s p.pid which options here; reply = ap collect_reply (collect_same s p.pid which options here) })
@@ -126,17 +126,11 @@ about_same s settings me r target «data» by (Some p) g =
     branch (not (is_live p)) _ refl (λ b. answered s _) (λ b.
     branch (is_attach r) _ refl (λ b. attach_same s me p by (g.0.block ∙ g.1)) (λ b. commands_same s settings me r target «data» p g))
 
-find_same : {u : ℕ} {start c v : Rows} → Sim u start c v → (target : ℕ) → find_seen u target c ≡ find_seen u target v
-find_same s target = ap₂ (λ (o : Option ProcData) (q : Option LwpData). if leb target 99999 then option_map (λ p. p.pid) o else option_map (λ l. l.pid) q) (seen_same s target) (seen_lwp_same s target)
-
 find_facts : {u : ℕ} {start c v : Rows} → Sim u start c v → (target : ℕ) → IfSome (find_seen u target c) (λ n. (pid_owner n ≡ u) × (leb target 99999 ≡ false → tid_owner target ≡ u))
 find_facts s target = grind (arith, nat_tests, seen_some s target, seen_lwp_some s target)
 
-by_same : {u : ℕ} {start c v : Rows} → Sim u start c v → (o : Option ℕ) → IfSome o (λ n. pid_owner n ≡ u) → process_by c o ≡ process_by v o
-by_same s o g = grind (arith, nat_tests, process_same)
-
 target_same : {u : ℕ} {start c v : Rows} → Sim u start c v → (target : ℕ) → target_of u target c ≡ target_of u target v
-target_same {u} {start} {c} {v} s target = by_same s (find_seen u target c) (If_more _ (λ n. pid_owner n ≡ u) (λ n g. g.0) (find_seen u target c) (find_facts s target)) ∙ ap (process_by v) (find_same s target)
+target_same s target = grind (arith, nat_tests, process_same, find_facts s target, seen_same s target, seen_lwp_same s target)
 
 pub ptrace_same : {u : ℕ} {start c v : Rows} → Sim u start c v → (settings : Settings) (me : ProcData) (r : Request) (target «data» : ℕ) → GoodProc me → me.uid ≡ u → Same u start (ptrace settings u me r target «data» c) (ptrace settings u me r target «data» v)
 ptrace_same {u} {start} {c} {v} s settings me r target «data» good mine = branch (is_trace_me r) _ refl (λ b. (grind (arith, nat_tests, branch, answered, meets_same, eq-eqb, process_same_after))) (λ b.
@@ -159,10 +153,9 @@ handles_status_same {u} {start} {c} {v} s settings policies status p here (Trace
 handles_status_same s settings policies status p here st g = answered s _
 
 handles_same : {u : ℕ} {start c v d w : Rows} → Sim u start c v → Sim u start d w → (settings : Settings) (policies : List (List Rule)) (o : Option ProcData) → IfSome o (λ p. GoodProc p × (p.uid ≡ u)) → (k : Collected) → Same u start (handles settings policies c d o k) (handles settings policies v w o k)
-handles_same s t settings policies o g Collected.NoChild = answered s _
-handles_same s t settings policies o g Collected.Nothing = answered s _
 handles_same s t settings policies None g (Collected.Got pid status) = answered t _
 handles_same {u} s t settings policies (Some p) g (Collected.Got pid status) = handles_status_same t settings policies status p (g.0.block ∙ g.1) p.state (subst (λ x. IfSome (named_by p.state) (λ n. tid_owner n ≡ x)) g.1 g.0.reporting)
+handles_same s t settings policies o g k = answered s _
 
 -- the work of a handle, with the policies of its caller
 pub handle_same : {u : ℕ} {start c v : Rows} → Sim u start c v → (settings : Settings) (policies : List (List Rule)) (n : ℕ) → pid_owner n ≡ u

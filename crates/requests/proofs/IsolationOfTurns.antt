@@ -1,13 +1,11 @@
 -- The turn of an LWP, on all rows and on a user's.
-use Rattle.requests.proofs.CommonNames.{◌≡◌, ◌≢◌, ℕ, ◌*◌, [], ◌∷◌, Bool, true, false, ◌==◌, ◌&&◌, ◌||◌, not, leb, if◌then◌else◌, Option, Some, None, is_some, IfSome, refl, sym, ap, ◌∙◌, true≢false, subst}
+use Rattle.requests.proofs.CommonNames.{◌≡◌, ◌≢◌, ℕ, ◌*◌, [], ◌∷◌, Bool, false, ◌==◌, ◌&&◌, ◌||◌, not, leb, if◌then◌else◌, Option, Some, None, is_some, IfSome, refl, sym, ap, ◌∙◌, true≢false, subst}
 use Rattle.requests.proofs.CommonNames.{arith, nat_tests, rules, pid_owner, tid_owner, Call, asks, entry_flags, PTRACE_FORK, PTRACE_LWP, without, bit, SIGTRAP, is_signal, after_exec, maskable}
 use Rattle.requests.proofs.CommonNames.{disposition_of, default_action, Action, Disposition, ProcData, Job, LwpData, Mode, User, InCall, VforkWait, born, is_run, process_of, Rows, seen_lwp, add_lwp}
 use Rattle.requests.proofs.CommonNames.{add_process, Settings, released, Shown, Act, Reply, stops_with, stops_or, trap, Numbers, room_for_lwp, room_for_process, in_mode, exit_stop, forked, child_stop}
 use Rattle.requests.proofs.CommonNames.{with_child, forks, exec_rows, makes_lwp, exits_lwp, leaves, due_at_birth, waits, due_stop, next_signal, without_signal, plain, job_stops, takes_by_default}
-use Rattle.requests.proofs.CommonNames.{takes_untraced, acts, signal_or_act, due_or_more, turn_by, turn_seen, turn, GoodProc, GoodLwp, LiveRow, Sim, not_own, named, process_same, at_number, each_same}
-use Rattle.requests.proofs.CommonNames.{choose, run_quiet, Stays, stays_if, kin_of, branch_rows, process_same_after, lwp_same_after, lwp_removed_same, lwp_added_same, pid_in_block, tid_in_block, Due}
-use Rattle.std.proofs.Common.{option_map}
-use Rattle.requests.specs.Isolation.{waited_for}
+use Rattle.requests.proofs.CommonNames.{takes_untraced, acts, signal_or_act, due_or_more, turn_by, turn_seen, turn, GoodProc, GoodLwp, LiveRow, Sim, named, process_same, at_number, each_same, choose}
+use Rattle.requests.proofs.CommonNames.{run_quiet, waited_for, kin_of, branch_rows, process_same_after, lwp_same_after, lwp_removed_same, lwp_added_same, pid_in_block, tid_in_block, Due, option_map}
 use Rattle.row_isolation.proofs.IsolationOfSignals.{settle_same, notified_same}
 use Rattle.row_isolation.proofs.IsolationOfEnds.{end_same, released_kin, released_foreign, post_same, stop_same}
 use Rattle.requests.proofs.Room.{LwpRoom, ProcessRoom, lwp_room, process_room}
@@ -71,15 +69,6 @@ exec_rows_same : {u : ℕ} {start c v : Rows} → Sim u start c v → (p : ProcD
 exec_rows_same {u} s p l here = settle_same (each_same s
     (λ q. Some (if q.pid == p.pid then record q { dispositions = after_exec q.dispositions } else q))
     (λ q k. if q.pid == p.pid then (if k.tid == l.tid then Some (record k { mode = User }) else None) else Some (released (λ n. n == p.pid) q k)) (grind (arith, nat_tests, kin_of, choose, released_kin, released_foreign))) p.pid here
-  where
-    not_numbered : (q : ProcData) → GoodProc q → q.uid ≢ u → (q.pid == p.pid) ≡ false
-    not_numbered q good ne = not_own p.pid q.pid (λ e. ne (named here q good e))
-
-    not_over : (n : ℕ) → pid_owner n ≢ u → (n == p.pid) ≡ false
-    not_over n ne = not_own p.pid n (λ e. ne (ap pid_owner e ∙ here))
-
-    kept : (q : ProcData) → GoodProc q → Stays q (if q.pid == p.pid then record q { dispositions = after_exec q.dispositions } else q)
-    kept q good = stays_if q (record q { dispositions = after_exec q.dispositions }) (q.pid == p.pid) good (λ e. (refl, refl, record { user = good.user; block = good.block; tracer = good.tracer; parent = good.parent; reporting = good.reporting; collector = good.collector }, λ live. live))
 
 makes_lwp_same : {u : ℕ} {start c v : Rows} → Sim u start c v → (p : ProcData) (l : LwpData) → Turning u c p l → (o : Option ℕ) → IfSome o (LwpRoom u c) → Same u start (makes_lwp p l c o) (makes_lwp p l v o)
 makes_lwp_same s p l t None g = answered s _
@@ -121,8 +110,7 @@ by_default_same s settings sig Action.Discard p l good mine = answered s _
 
 untraced_same : {u : ℕ} {start c v : Rows} → Sim u start c v → (settings : Settings) (sig : ℕ) (d : Disposition) (p : ProcData) (l : LwpData) → GoodProc p → p.uid ≡ u → Same u start (takes_untraced settings sig d p l c) (takes_untraced settings sig d p l v)
 untraced_same s settings sig Disposition.Default p l good mine = by_default_same s settings sig (default_action sig) p l good mine
-untraced_same s settings sig Disposition.Ignore p l good mine = answered s _
-untraced_same s settings sig Disposition.Catch p l good mine = answered s _
+untraced_same s settings sig d p l good mine = answered s _
 
 -- Acts
 
@@ -142,12 +130,9 @@ due_or_more_same : {u : ℕ} {start c v : Rows} → Sim u start c v → (setting
 due_or_more_same s settings a p l t (Some shown) = stops_with_same (lwp_same_after s l.tid (own_tid t) (λ k. record k { due = Due.Nothing }) (λ k well is. (refl, record { block = well.block; waits = well.waits }))) shown p l (own_pid t) (own_tid t)
 due_or_more_same s settings a p l t None = signal_or_act_same s settings a p l t (next_signal p l)
 
-not_held : (a b d : Bool) → (not a || b || d) ≡ false → a ≡ true
-not_held a b d is = search (rules)
-
 turn_by_same : {u : ℕ} {start c v : Rows} → Sim u start c v → (settings : Settings) (a : Act) (l : LwpData) → GoodLwp l → pid_owner l.pid ≡ u → Same u start (turn_by settings a l c (process_of l.pid c.processes)) (turn_by settings a l v (process_of l.pid c.processes))
 turn_by_same {u} {start} {c} {v} s settings a l well mine = at_number c.processes s.kept.closed.processes l.pid (λ o. Same u start (turn_by settings a l c o) (turn_by settings a l v o)) (answered s _) (λ p is good same.
-    branch (not (is_run p) || l.suspended || waits l.mode) _ refl (λ b. answered s _) (λ b. due_or_more_same s settings a p l (grind (arith, nat_tests, named, run_quiet, not_held)) (due_stop l.due)))
+    branch (not (is_run p) || l.suspended || waits l.mode) _ refl (λ b. answered s _) (λ b. due_or_more_same s settings a p l (grind (arith, nat_tests, named, run_quiet, b)) (due_stop l.due)))
 
 pub turn_same : {u : ℕ} {start c v : Rows} → Sim u start c v → (settings : Settings) (tid : ℕ) (a : Act) → Same u start (turn settings u tid a c) (turn settings u tid a v)
 turn_same {u} {start} {c} {v} s settings tid a = subst (λ o. Same u start (turn settings u tid a c) (turn_seen settings a v o)) (seen_lwp_same s tid) (by_lwp (seen_lwp u tid c) (seen_lwp_some s tid))

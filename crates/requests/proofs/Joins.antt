@@ -1,8 +1,7 @@
 -- Words that are written one after another, each after what precedes it.
 use Rattle.requests.proofs.CommonNames.{◌≡◌, ℕ, List, [], ◌∷◌, ◌++◌, map, codes, decimal, refl, sym, ap, append-nil, Option, join_with_byte, flat_map, append_assoc, Decision, StatusKind, Reply, arith}
 use Rattle.requests.proofs.CommonNames.{nat_tests}
-use Rattle.requests.specs.Texts.{view_words}
-use Rattle.requests.specs.Words.{reply_words, decision_words, index_text, flags_word}
+use Rattle.requests.specs.Words.{reply_words, decision_words, index_text, flags_word, view_words}
 use Rattle.stop_handlers.specs.declared.StopView.{StopView}
 use Rattle.wait4.specs.Status.{word}
 

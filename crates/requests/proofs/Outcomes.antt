@@ -1,18 +1,16 @@
 -- What the work of a step leaves, kind by kind: a refused call changes nothing, none is out of memory, and each live process
 -- stays live, unless the answer is one that may end a process.
-use Rattle.requests.proofs.CommonNames.{◌≡◌, ℕ, ℤ, Bool, true, false, ◌==◌, not, ◌&&◌, ◌||◌, leb, if◌then◌else◌, List, [], ◌∷◌, filter, filter_map, Option, Some, None, is_some, refl, sym, ◌∙◌, true≢false}
-use Rattle.requests.proofs.CommonNames.{rules, arith, nat_tests, cases_Bool, list_any, SIGCHLD, Call, Action, Disposition, is_signal, has, LwpData, Due, Mode, User, InCall, VforkWait, born, ProcData}
-use Rattle.requests.proofs.CommonNames.{State, Trace, Job, is_live, is_run, is_zombie_state, placed, spawned, process_of, Rows, seen_lwp, Settings, Shown, Rule, Options, Collected, posted_process}
-use Rattle.requests.proofs.CommonNames.{settled_process, notifies, posted, stop, tracers, tracer_of, reported, without_report, add_lwp, add_process, is_numbered, Request, Act, Reply, Outcome, PlainStep}
-use Rattle.requests.proofs.CommonNames.{Step, Machine, After, after, answers, refuses, stops_or, stops_with, Numbers, room_for_process, in_mode, exit_stop, with_child, forked, exec_rows, forks, leaves}
-use Rattle.requests.proofs.CommonNames.{waits, due_stop, next_signal, without_signal, takes_by_default, takes, acts, signal_or_act, due_or_more, turn_by, turn_seen, turn, commands, is_attach, about}
-use Rattle.requests.proofs.CommonNames.{target_of, is_trace_me, ptrace, is_which, reach, reached, post_all, post_if_live, kill, spawn_with, sigaction, wait, handles, asks, PTRACE_FORK, EAGAIN}
-use Rattle.requests.proofs.CommonNames.{EINVAL, ESRCH, All-any, and_right, option_map, after_exec, set_disposition, without, bit, plain, trap, PL_FLAG_EXITED, SIGTRAP, entry_flags, child_stop, change_lwp}
-use Rattle.requests.proofs.CommonNames.{is_refusal, is_memory, told, handled_by, no_options, rows_after, collect, negsuc, sound, install, installed_by, length, ap}
-use Rattle.std.proofs.lemmas.List.Folds.{list_any-append}
-use Rattle.trace_stop.proofs.Every.{any_forward, or_true}
-use Rattle.wait4.specs.Collect.{collected, collected_in}
-use Rattle.requests.specs.Ending.{may_end, is_done, is_handled, is_ended}
+use Rattle.requests.proofs.CommonNames.{◌≡◌, ℕ, ℤ, Bool, true, false, ◌==◌, not, ◌&&◌, ◌||◌, leb, if◌then◌else◌, List, [], ◌∷◌, filter, filter_map, Option, Some, None, is_some, refl, sym, ◌∙◌}
+use Rattle.requests.proofs.CommonNames.{true≢false, rules, arith, nat_tests, cases_Bool, list_any, SIGCHLD, Call, Action, Disposition, is_signal, has, LwpData, Due, Mode, User, InCall, VforkWait}
+use Rattle.requests.proofs.CommonNames.{born, ProcData, Trace, Job, is_live, is_run, placed, spawned, process_of, Rows, seen_lwp, Settings, Shown, Rule, Options, Collected, posted_process}
+use Rattle.requests.proofs.CommonNames.{settled_process, notifies, posted, stop, tracers, tracer_of, reported, without_report, add_lwp, add_process, is_numbered, Request, Act, Reply, Outcome}
+use Rattle.requests.proofs.CommonNames.{PlainStep, Step, Machine, After, after, answers, refuses, stops_or, stops_with, Numbers, room_for_process, in_mode, exit_stop, with_child, forked, exec_rows}
+use Rattle.requests.proofs.CommonNames.{forks, leaves, waits, due_stop, next_signal, without_signal, takes_by_default, takes, acts, signal_or_act, due_or_more, turn_by, turn_seen, turn, commands}
+use Rattle.requests.proofs.CommonNames.{is_attach, about, target_of, is_trace_me, ptrace, is_which, reach, reached, post_all, post_if_live, kill, spawn_with, sigaction, wait, handles, asks}
+use Rattle.requests.proofs.CommonNames.{PTRACE_FORK, EAGAIN, EINVAL, ESRCH, All-any, and_right, option_map, after_exec, set_disposition, without, bit, plain, trap, PL_FLAG_EXITED, SIGTRAP}
+use Rattle.requests.proofs.CommonNames.{entry_flags, child_stop, change_lwp, is_refusal, is_memory, told, handled_by, no_options, rows_after, collect, negsuc, sound, install, installed_by, length, ap}
+use Rattle.requests.proofs.CommonNames.{may_end, any_forward, or_true, list_any-append}
+use Rattle.wait4.specs.Collect.{collected}
 use Rattle.requests.specs.Refusals.{is_listing}
 use Rattle.requests.proofs.SoundWithoutEnded.{answers_same}
 use Rattle.requests.proofs.SoundAfterCall.{choose}
@@ -94,6 +92,9 @@ by_option o R none some = grind (arith, nat_tests)
 
 -- The turn of an LWP
 
+abbrev pub is_ended : Reply → Bool
+is_ended r = may_end (Step.Turn 0 Act.Leave) r
+
 stops_live : (rows now : Rows) (shown : Shown) (p : ProcData) (l : LwpData) → Lives rows.processes now.processes → Fair is_ended rows (stops_with shown p l now)
 stops_live rows now shown p l kept = done is_ended rows _ _ refl refl (live_then kept (live_stop p.pid l.tid shown now))
 
@@ -151,13 +152,13 @@ turn_fair settings u tid a rows =
 
 -- The requests of a debugger
 
-commands_fair : (settings : Settings) (caller : ProcData) (r : Request) (target «data» : ℕ) (p : ProcData) (rows : Rows) → Fair is_done rows (commands settings caller r target «data» p rows)
+commands_fair : (settings : Settings) (caller : ProcData) (r : Request) (target «data» : ℕ) (p : ProcData) (rows : Rows) → Fair (may_end (Step.Ptrace caller.pid r target «data»)) rows (commands settings caller r target «data» p rows)
 commands_fair settings caller r target «data» p rows = grind (arith, nat_tests, choose, left, by_option, excepted)
 
-pub ptrace_fair : (settings : Settings) (u : ℕ) (caller : ProcData) (r : Request) (target «data» : ℕ) (rows : Rows) → Fair is_done rows (ptrace settings u caller r target «data» rows)
-ptrace_fair settings u caller r target «data» rows = choose (is_trace_me r) _ _ (Fair is_done rows) (search (rules, choose, left, excepted))
-    (by_option (target_of u target rows) (λ o. Fair is_done rows (about settings caller r target «data» o rows)) (left is_done rows (Reply.Errno ESRCH) refl) (λ p.
-    choose (not (is_live p)) _ _ (Fair is_done rows) (left is_done rows (Reply.Errno ESRCH) refl) (choose (is_attach r) _ _ (Fair is_done rows) (search (rules, choose, left, excepted)) (commands_fair settings caller r target «data» p rows))))
+pub ptrace_fair : (settings : Settings) (u : ℕ) (caller : ProcData) (r : Request) (target «data» : ℕ) (rows : Rows) → Fair (may_end (Step.Ptrace caller.pid r target «data»)) rows (ptrace settings u caller r target «data» rows)
+ptrace_fair settings u caller r target «data» rows = choose (is_trace_me r) _ _ (Fair (may_end (Step.Ptrace caller.pid r target «data»)) rows) (search (rules, choose, left, excepted))
+    (by_option (target_of u target rows) (λ o. Fair (may_end (Step.Ptrace caller.pid r target «data»)) rows (about settings caller r target «data» o rows)) (left _ rows (Reply.Errno ESRCH) refl) (λ p.
+    choose (not (is_live p)) _ _ (Fair (may_end (Step.Ptrace caller.pid r target «data»)) rows) (left _ rows (Reply.Errno ESRCH) refl) (choose (is_attach r) _ _ (Fair (may_end (Step.Ptrace caller.pid r target «data»)) rows) (search (rules, choose, left, excepted)) (commands_fair settings caller r target «data» p rows))))
 
 -- The other calls
 
@@ -183,20 +184,17 @@ pub kill_fair : (settings : Settings) (u caller : ℕ) (which : ℤ) (s : ℕ) (
 kill_fair settings u caller which s rows = choose (not (leb s 31) || not (is_which which)) _ _ (Fair (λ r. s == 9) rows) (left (λ r. s == 9) rows (Reply.Errno EINVAL) refl) (reached_fair settings s (reach u caller which rows) rows)
 
 -- only a zombie goes where it is collected
-collected_spares : (caller : ℕ) (p : ProcData) (s : State) → is_live p ≡ true → not (is_zombie_state s) ≡ true → spares p (collected_in caller p s) ≡ true
-collected_spares caller p s live own = grind (arith, nat_tests, live, own)
-
 report_live : (caller : ℕ) (o : Option ProcData) (rows : Rows) → Lives rows.processes (without_report caller o rows).processes
 report_live caller None rows = all_live rows.processes
-report_live caller (Some p) rows = live_then (live_edit (λ q. if q.pid == p.pid then collected caller q else Some q) (λ q live. grind (arith, nat_tests, collected_spares caller q q.state live live)) rows.processes) (live_notified (told caller p) _)
+report_live caller (Some p) rows = live_then (live_edit (λ q. if q.pid == p.pid then collected caller q else Some q) (λ q live. grind (arith, nat_tests, live)) rows.processes) (live_notified (told caller p) _)
 
 pub wait_fair : (p : ProcData) (which : ℤ) (options : Options) (rows : Rows) → Fair never rows (wait p which options rows)
 wait_fair p which options rows = choose (not (is_which which)) _ _ (Fair never rows) (left never rows (Reply.Errno EINVAL) refl) (grind (arith, nat_tests, left, by_option, done, report_live))
 
-handles_fair : (settings : Settings) (policies : List (List Rule)) (rows now : Rows) (o : Option ProcData) (c : Collected) → Lives rows.processes now.processes → Fair is_handled rows (handles settings policies rows now o c)
+handles_fair : (settings : Settings) (policies : List (List Rule)) (rows now : Rows) (o : Option ProcData) (c : Collected) → Lives rows.processes now.processes → Fair (may_end (Step.Handle 0)) rows (handles settings policies rows now o c)
 handles_fair settings policies rows now o c kept = grind (arith, nat_tests, left, done, by_option, excepted)
 
-pub handle_fair : (settings : Settings) (policies : List (List Rule)) (caller : ℕ) (rows : Rows) → Fair is_handled rows (handled_by settings policies caller rows)
+pub handle_fair : (settings : Settings) (policies : List (List Rule)) (caller : ℕ) (rows : Rows) → Fair (may_end (Step.Handle caller)) rows (handled_by settings policies caller rows)
 handle_fair settings policies caller rows = handles_fair settings policies rows (rows_after caller (negsuc 0) no_options rows) (reported caller (negsuc 0) no_options rows) (collect caller (negsuc 0) no_options rows) (report_live caller (reported caller (negsuc 0) no_options rows) rows)
 
 -- Hosts

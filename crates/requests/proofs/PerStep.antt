@@ -1,15 +1,13 @@
 -- The tables by kinds of steps: a new kind has a line in each. What the work of a kind does is proved in the files that are
 -- used here, and what holds of every step in those that use this one.
-use Rattle.requests.proofs.CommonNames.{◌≡◌, ℕ, true, Some, refl, ◌∙◌, rules, ProcData, PlainStep, Machine, calls, caller_of, Act, Step, None, List, false, subst, IsUser, Reply, Outcome, after, step_fits}
-use Rattle.requests.proofs.CommonNames.{sound, Steps, Rule, bare, with_handler, uncalled, installs, outcome_of, filter, map, ◌==◌, Settings, is_live_number, turn, GoodProc, Apart, own, policies_of}
-use Rattle.requests.proofs.CommonNames.{handles, no_options, kill, ptrace, collect, reported, rows_after, negsuc, sigaction, list, wait, room_for_process, spawn}
-use Rattle.requests.specs.Callers.{IsCaller}
+use Rattle.requests.proofs.CommonNames.{◌≡◌, ℕ, true, Some, refl, ◌∙◌, rules, ProcData, PlainStep, Machine, calls, caller_of, Act, Step, None, List, false, subst, IsUser, Reply, Outcome, after}
+use Rattle.requests.proofs.CommonNames.{step_fits, sound, Steps, Rule, bare, with_handler, uncalled, installs, outcome_of, filter, map, ◌==◌, Settings, is_live_at, turn, GoodProc, Apart, own}
+use Rattle.requests.proofs.CommonNames.{policies_of, handles, no_options, kill, ptrace, collect, reported, rows_after, negsuc, sigaction, list, wait, room_for_process, spawn, IsCaller, handle}
 use Rattle.requests.specs.Making.{Makes}
 use Rattle.requests.proofs.SoundWithoutEnded.{rows_sound, after_sound}
 use Rattle.requests.proofs.Replies.{other}
 use Rattle.requests.proofs.IsolationOfTurns.{turn_same}
 use Rattle.requests.proofs.IsolationOfSteps.{spawn_same, list_same, sigaction_same, wait_same, kill_same, ptrace_same, handle_same}
-use Rattle.requests.specs.Handle.{handle}
 use Rattle.requests.proofs.Born.{spawn_sound}
 use Rattle.requests.proofs.SoundAfterCall.{sigaction_rows, wait_rows}
 use Rattle.requests.proofs.SoundAfterKill.{kill_rows, installed_sound}
@@ -77,7 +75,7 @@ calls_fair u (Step.Ptrace caller r target «data») p m = hosted _ m (ptrace m.s
 calls_fair u (Step.Turn tid a) p m = hosted _ m (turn m.settings u tid a m.rows) (turn_fair m.settings u tid a m.rows)
 
 -- it does the same on what its user sees of the host
-pub calls_same : {u : ℕ} {m k : Machine} → IsUser u → Apart m → Twin u m k → (s : PlainStep) (p : ProcData) → GoodProc p → p.uid ≡ u → is_live_number m.rows p.pid ≡ true → Stepped u m (calls u s p m) (calls u s p k)
+pub calls_same : {u : ℕ} {m k : Machine} → IsUser u → Apart m → Twin u m k → (s : PlainStep) (p : ProcData) → GoodProc p → p.uid ≡ u → is_live_at p.pid m.rows ≡ true → Stepped u m (calls u s p m) (calls u s p k)
 calls_same user apart t Step.Spawn p good mine live = after_same user apart t _ _ (spawn_same t.rows)
 calls_same user apart t (Step.List caller) p good mine live = after_same user apart t _ _ (list_same t.rows)
 calls_same user apart t (Step.Sigaction caller sig d) p good mine live = after_same user apart t _ _ (sigaction_same t.rows p sig d (good.block ∙ mine))

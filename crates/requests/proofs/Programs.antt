@@ -1,10 +1,9 @@
 -- The changes that make an exec.
-use Rattle.requests.proofs.CommonNames.{nat_tests, ◌≡◌, ◌≢◌, ℕ, ◌<◌, Bool, true, false, List, [], ◌∷◌, length, filter, find, map, filter_map, nat_eq, refl, sym, ap, ◌∙◌, arith, Option, Some, None}
-use Rattle.requests.proofs.CommonNames.{true≢false, eqb-true, rules, AllByRecursion, cases_Bool, after_exec, LwpData, User, LacksLwp, Differ, lwp_of, first_lwp, next_lwp, without_lwp, ProcData, process_of}
-use Rattle.requests.proofs.CommonNames.{Rows, by_owner, each, change_process, InOwnersBlock, drop_lwp, same_number, other_number, process_of-pid, changed_lwp, map-id, filter_map-map, every_untested}
-use Rattle.requests.proofs.CommonNames.{found_tested, released, IsLiveChild, Standing, WithOwner, IsSound, All-imply, All-both, any_holds, find_some, the_row, the_lwp, own_lwps, IsActing, HasLwp, settle}
-use Rattle.requests.proofs.CommonNames.{in_mode, exec_rows}
-use Rattle.std.specs.Prelude.{not, ◌==◌, if◌then◌else◌}
+use Rattle.requests.proofs.CommonNames.{not-false, nat_tests, ◌≡◌, ◌≢◌, ℕ, ◌<◌, Bool, true, false, List, [], ◌∷◌, length, filter, find, map, filter_map, nat_eq, refl, sym, ap, ◌∙◌, arith, Option}
+use Rattle.requests.proofs.CommonNames.{Some, None, eqb-true, rules, AllByRecursion, cases_Bool, after_exec, LwpData, User, LacksLwp, Differ, lwp_of, first_lwp, next_lwp, without_lwp, ProcData}
+use Rattle.requests.proofs.CommonNames.{process_of, Rows, by_owner, each, change_process, InOwnersBlock, drop_lwp, same_number, other_number, process_of-pid, changed_lwp, map-id, filter_map-map}
+use Rattle.requests.proofs.CommonNames.{every_untested, found_tested, released, IsLiveChild, Standing, WithOwner, IsSound, All-imply, All-both, any_holds, find_some, the_row, the_lwp, own_lwps}
+use Rattle.requests.proofs.CommonNames.{IsActing, HasLwp, settle, in_mode, exec_rows, not, ◌==◌, if◌then◌else◌}
 use Rattle.proc_table.specs.Edits.{own_lwp}
 use Rattle.trace_stop.proofs.Children.{child_test, child_from}
 use Rattle.process_end.proofs.LwpEdits.{filter_within, filter_all, released-tid, released-pid}
@@ -52,11 +51,7 @@ module _ (pid tid : ℕ) (x : LwpData) (rows : Rows) (d : Differ rows.lwps) (is 
   pub other_dropped : only_lwp pid tid (drop_lwp x.tid rows) ≡ only_lwp pid tid rows
   other_dropped = ap (λ ls. record rows { lwps = ls }) (filter_within (λ k. not (is_other pid tid k)) (λ k. not (nat_eq k.tid x.tid)) rows.lwps
       (All-imply (λ k. k.tid ≡ x.tid → k ≡ x) (λ k. not (nat_eq k.tid x.tid) ≡ false → not (is_other pid tid k) ≡ false)
-      (λ k same off. ap not (ap (is_other pid tid) (same (eqb-true k.tid x.tid (not_false _ off))) ∙ (found_tested (is_other pid tid) rows.lwps x is))) rows.lwps (the_lwp x.tid rows.lwps x d other_there)))
-    where
-      not_false : (b : Bool) → not b ≡ false → b ≡ true
-      not_false true e = refl
-      not_false false e = absurd (true≢false e)
+      (λ k same off. ap not (ap (is_other pid tid) (same (eqb-true k.tid x.tid (not-false _ off))) ∙ (found_tested (is_other pid tid) rows.lwps x is))) rows.lwps (the_lwp x.tid rows.lwps x d other_there)))
 
   pub other_left : HasLwp pid tid rows → HasLwp pid tid (drop_lwp x.tid rows)
   other_left h = search (rules, lwp_without, (found_tested (is_other pid tid) rows.lwps x is), same_number)

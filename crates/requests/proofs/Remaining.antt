@@ -1,8 +1,7 @@
 -- Rows of processes that are left, with their numbers and users: what posting a signal leaves.
-use Rattle.requests.proofs.CommonNames.{nat_tests, ◌≡◌, ℕ, Bool, ◌==◌, if◌then◌else◌, List, filter_map, Option, Some, None, IfSome, refl, arith, rules, list_any, SIGKILL, SIGCHLD, ProcData, process_of}
-use Rattle.requests.proofs.CommonNames.{Rows, each, change, is_numbered, Settings, posted_process, posted_lwp, continues, notifies, posted, process_after, lwp_after, notifies_of, left_alone, end_each, end}
-use Rattle.requests.proofs.CommonNames.{post, sym, edit_none}
-use Rattle.trace_stop.proofs.Passes.{filter_map_twice}
+use Rattle.requests.proofs.CommonNames.{nat_tests, ◌≡◌, ℕ, Bool, ◌==◌, if◌then◌else◌, List, filter_map, Option, Some, None, IfSome, refl, arith, rules, list_any, SIGKILL, SIGCHLD, ProcData}
+use Rattle.requests.proofs.CommonNames.{process_of, Rows, each, change, is_numbered, Settings, posted_process, posted_lwp, continues, notifies, posted, process_after, lwp_after, notifies_of}
+use Rattle.requests.proofs.CommonNames.{left_alone, end_each, end, post, sym, edit_none, filter_map_twice}
 use Rattle.requests.proofs.SoundAfterCall.{choose}
 
 abbrev pub SameNumber : ProcData → ProcData → Type 0

@@ -1,9 +1,7 @@
 -- The numbers that a user's limits leave room for.
-use Rattle.requests.proofs.CommonNames.{nat_tests, ◌≡◌, ℕ, zero, suc, ◌+◌, ◌-◌, ◌<◌, ◌≤◌, Bool, false, Option, Some, None, IfSome, arith, slot, pid_block, tid_block, first_free, next_free, Rows}
-use Rattle.requests.proofs.CommonNames.{is_process, is_lwp, process_count, lwp_count_of, Numbers, room_for_lwp, room_for_process}
-use Rattle.std.specs.Prelude.{get_or}
+use Rattle.requests.proofs.CommonNames.{nat_tests, ◌≡◌, ℕ, zero, suc, ◌+◌, ◌-◌, ◌<◌, ◌≤◌, Bool, false, IfSome, arith, slot, pid_block, tid_block, first_free, next_free, Rows, is_process, is_lwp}
+use Rattle.requests.proofs.CommonNames.{process_count, lwp_count_of, Numbers, room_for_lwp, room_for_process, get_or, InBlock}
 use Rattle.pid_blocks.specs.declared.Block.{Block}
-use Rattle.pid_blocks.specs.Blocks.{InBlock}
 
 -- a free number between two
 record Free (taken : ℕ → Bool) (low high n : ℕ) : Type 0 where
@@ -14,9 +12,6 @@ record Free (taken : ℕ → Bool) (low high n : ℕ) : Type 0 where
 first_free_is : (taken : ℕ → Bool) (count n : ℕ) → IfSome (first_free taken count n) (Free taken n (n + count))
 first_free_is taken zero n = tt
 first_free_is taken (suc count) n = grind (arith, nat_tests, first_free_is taken count (n + 1))
-
-abbrev or_next : Option ℕ → Option ℕ → Option ℕ
-or_next o p = elim o [ Some n ↦ Some n | None ↦ p ]
 
 next_free_is : (b : Block) (cursor : ℕ) (taken : ℕ → Bool) → InBlock b cursor → IfSome (next_free b cursor taken) (Free taken b.first (b.first + b.size))
 next_free_is b cursor taken i = grind (arith, nat_tests, first_free_is taken (b.first + b.size - cursor) cursor, first_free_is taken (cursor - b.first) b.first, i)

@@ -1,11 +1,10 @@
 -- A signal sent to one process, and to all others of a user.
-use Rattle.requests.proofs.CommonNames.{nat_tests, ◌≡◌, ℕ, ◌-◌, ◌<◌, ◌≤◌, pos, negsuc, Bool, true, false, ◌==◌, ltb, ◌&&◌, not, List, [], ◌∷◌, filter, filter_map, find, Option, Some, None, IfSome, is_none}
-use Rattle.requests.proofs.CommonNames.{if◌then◌else◌, refl, sym, ap, ◌∙◌, arith, true≢false, eqb-true, rules, option_map, int_lt, cases_lt, le-leb, AllByRecursion, list_any, ProcData, process_of, is_live}
-use Rattle.requests.proofs.CommonNames.{of_user, Rows, seen_process, AllAbove, Rise, InOwnBlock, TableInvariant, process_of-pid, Settings, post, by_bool, All-imply, If_more, some_is, reach, post_if_live}
-use Rattle.requests.proofs.CommonNames.{post_all, reached, kill, next_other, refuses, ESRCH, own_rows, process_edited, Reply}
-use Rattle.std.specs.Prelude.{ℤ}
+use Rattle.requests.proofs.CommonNames.{nat_tests, ◌≡◌, ℕ, ◌-◌, ◌<◌, ◌≤◌, pos, negsuc, Bool, true, false, ◌==◌, ltb, ◌&&◌, not, List, [], ◌∷◌, filter, filter_map, find, Option, Some, None, IfSome}
+use Rattle.requests.proofs.CommonNames.{is_none, if◌then◌else◌, refl, sym, ap, ◌∙◌, arith, true≢false, eqb-true, rules, option_map, int_lt, cases_lt, le-leb, AllByRecursion, list_any, ProcData}
+use Rattle.requests.proofs.CommonNames.{process_of, is_live, of_user, Rows, seen_process, AllAbove, Rise, InOwnBlock, TableInvariant, process_of-pid, Settings, post, by_bool, All-imply, If_more}
+use Rattle.requests.proofs.CommonNames.{some_is, reach, post_if_live, post_all, reached, kill, next_other, refuses, ESRCH, own_rows, process_edited, Reply, ℤ}
 use Rattle.std.specs.Int.{FitsUnsignedBits}
-use Rattle.requests.proofs.Living.{live_found, live_none}
+use Rattle.requests.proofs.SoundAfterCall.{live_found, live_none}
 use Rattle.requests.proofs.Walk.{above, above_none, above_first, above_next, next_over}
 use Rattle.requests.proofs.Remaining.{Remain, SameNumber, remain_all, remain_post}
 
@@ -27,9 +26,6 @@ module _ (settings : Settings) (s n : ℕ) (rows : Rows) (rise : Rise rows.proce
 -- a number that isn't 0 is a signal's
 pub passes_signal : (k n : ℕ) → (if k == 0 then None else Some k) ≡ Some n → ((k == 0) ≡ false) × (n ≡ k)
 passes_signal k n = search (rules, some_is)
-
-pub no_number : (o : Option ℕ) → is_none o ≡ true → o ≡ None
-no_number o is = grind (arith, nat_tests)
 
 -- What it leaves
 
@@ -125,11 +121,7 @@ module _ (settings : Settings) (s u caller : ℕ) where
   reached_others at rows kept is some = rw (is, reach_others rows kept, others_are 0 rows.processes kept.rising) (grind (arith, nat_tests, some, is))
 
   pub next_smaller : (n : ℕ) (ps : List ProcData) (at : Option ℕ) → n < 65000 → at ≡ next n ps → left at < left (Some n)
-  next_smaller n ps at below is = by_next (next_other u caller n ps) refl is
-    where
-      by_next : (o : Option ProcData) → next_other u caller n ps ≡ o → at ≡ option_map (λ p. p.pid) o → left at < left (Some n)
-      by_next None h same = rw same (omega arith)
-      by_next (Some p) h same = let over = next_over (is_other u caller) n ps p h in rw same (omega (arith, below, over))
+  next_smaller n ps at below is = grind (arith, nat_tests, next_over (is_other u caller) n ps, is, below)
 
 -- A process by its number
 

@@ -1,12 +1,33 @@
--- Steps of a caller keep a host sound, kind by kind.
-use Rattle.requests.proofs.CommonNames.{◌≡◌, ℕ, ℤ, Bool, true, false, ◌&&◌, not, if◌then◌else◌, Option, Some, None, refl, subst, ESRCH, EINVAL, set_disposition, Disposition, ProcData, is_live, is_run}
-use Rattle.requests.proofs.CommonNames.{arith, nat_tests, process_of, Rows, seen_process, IsSound, All-filter, find_some, disposed_sound, own_rows, Options, reportable, candidates, is_child, fits}
-use Rattle.requests.proofs.CommonNames.{reported, rows_after, Reply, PlainStep, answers, refuses, sigaction, wait, is_which, Machine, after, sound, checked, calls, collect_sound, Rise, is_refused}
-use Rattle.requests.proofs.CommonNames.{IsLiveOf, ap, run_quiet}
+-- Steps of a caller: what they are once it was looked up, and that each kind keeps a host sound.
+use Rattle.requests.proofs.CommonNames.{◌≡◌, ℕ, true, Some, refl, ap, ◌∙◌, eqb-true, rules, ProcData, is_live, is_run, seen_process, PlainStep, Machine, step, step_of, checked, calls, caller_of, Rows}
+use Rattle.requests.proofs.CommonNames.{Rise, and_right, find_some, own_rows, IsCaller, Calls, List, [], ◌∷◌, false, ◌==◌, ◌&&◌, None, eq-eqb, list_any, arith, nat_tests, process_of, process_of-pid}
+use Rattle.requests.proofs.CommonNames.{any_holds, the_row, find_passes, IsLiveOf, ℤ, Bool, not, if◌then◌else◌, Option, subst, ESRCH, EINVAL, set_disposition, Disposition, IsSound, All-filter}
+use Rattle.requests.proofs.CommonNames.{disposed_sound, Options, reportable, candidates, is_child, fits, reported, rows_after, Reply, answers, refuses, sigaction, wait, is_which, after, sound}
+use Rattle.requests.proofs.CommonNames.{collect_sound, is_refused, run_quiet}
 use Rattle.requests.proofs.SoundWithoutEnded.{rows_sound, after_sound}
-use Rattle.requests.specs.Callers.{IsCaller}
-use Rattle.requests.proofs.Called.{is_caller}
-use Rattle.requests.proofs.Living.{live_row}
+
+-- A caller's step
+pub called : (u n : ℕ) (s : PlainStep) (m : Machine) → caller_of s ≡ Some n → (p : ProcData) → seen_process u n m.rows ≡ Some p → is_live p ≡ true → is_run p ≡ true → step u s m ≡ calls u s p m
+called u n s m by p seen live run = ap (step_of u s m) by ∙ (ap (λ o. checked u s o m) seen ∙ rw (live, run) refl)
+
+-- A caller that was found
+pub is_caller : (u n : ℕ) (rows : Rows) (p : ProcData) → Rise rows.processes → Calls u n rows p → IsCaller u p rows
+is_caller u n rows p rise c = search (rules, find_some, own_rows, eqb-true, and_right)
+
+-- ---- Whether the row with a number is live.
+
+pub live_found : (n : ℕ) (ps : List ProcData) (p : ProcData) → Rise ps → process_of n ps ≡ Some p → list_any (λ q. (q.pid == n) && is_live q) ps ≡ is_live p
+live_found n ps p rise at = grind (arith, nat_tests, find_passes (λ q. q.pid == n) (λ q. (q.pid == n) && is_live q) ps p at, process_of-pid n p ps at, any_holds (λ q. (q.pid == n) && is_live q) (λ q. q.pid ≡ n → q ≡ p) (is_live p ≡ true) (λ q same is. grind (arith, nat_tests, same, is)) ps (the_row n ps p rise at))
+
+pub live_none : (n : ℕ) (ps : List ProcData) → process_of n ps ≡ None → list_any (λ q. (q.pid == n) && is_live q) ps ≡ false
+live_none n [] none = refl
+live_none n (q ∷ ps) none = grind (arith, nat_tests, live_none n ps, none)
+
+-- a live process is one of its user's
+pub live_row : (rows : Rows) (p : ProcData) → process_of p.pid rows.processes ≡ Some p → is_live p ≡ true → IsLiveOf rows p.uid p.pid
+live_row rows p at live = find_passes (λ q. q.pid == p.pid) (λ q. (q.pid == p.pid) && (q.uid == p.uid) && is_live q) rows.processes p at (rw (eq-eqb p.pid p.pid refl, eq-eqb p.uid p.uid refl, live) refl)
+
+-- ---- Steps of a caller keep a host sound, kind by kind.
 
 -- a caller lives
 pub caller_live : (u : ℕ) (rows : Rows) (p : ProcData) → IsCaller u p rows → is_live p ≡ true

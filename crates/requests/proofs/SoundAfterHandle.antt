@@ -1,11 +1,29 @@
--- A stop that installed policies decide on keeps a host sound.
-use Rattle.requests.proofs.CommonNames.{◌≡◌, ℕ, negsuc, Bool, true, ◌==◌, List, Option, Some, None, is_some, refl, ap, subst, SIGKILL, LwpData, lwp_of, ProcData, State, Trace, named_by, arith, nat_tests}
-use Rattle.requests.proofs.CommonNames.{process_of, Rows, Settings, resume, detach, FitProcess, IsSound, detach_sound, Rule, Decision, StatusKind, Collected, reported, rows_after, told, view_of, decided}
-use Rattle.requests.proofs.CommonNames.{done, no_options, handles_stop, handles_status, handles, continues_with, every_found}
-use Rattle.wait4.specs.Collect as wait
-use Rattle.requests.proofs.Handled.{row_left}
+-- What is decided about a trace stop and what a handle asks, and that it keeps a host sound.
+use Rattle.requests.proofs.CommonNames.{◌≡◌, ℕ, ◌≤◌, negsuc, ◌==◌, if◌then◌else◌, List, Option, Some, None, IfSome, refl, sym, ap, ap₂, subst, eq-eqb, arith, nat_tests, le-leb, LwpData, ProcData}
+use Rattle.requests.proofs.CommonNames.{rules, State, Rise, process_of, Rows, each, Settings, detach, IsSound, find_edit, Rule, Decision, StatusKind, Collected, collect, reported, rows_after, told}
+use Rattle.requests.proofs.CommonNames.{Outcome, answers, with_signal, done, no_options, handles_status, handles, handled_by, continues_with, choose, by_kept, Reply, process_edited, rise_edited, Bool}
+use Rattle.requests.proofs.CommonNames.{true, is_some, SIGKILL, lwp_of, Trace, named_by, resume, FitProcess, detach_sound, view_of, decided, handles_stop, every_found}
+use Rattle.requests.proofs.SoundAfterTurn.{heard}
+use Rattle.requests.proofs.Tracees.{continue_as}
+use Rattle.requests.proofs.SoundAfterCall.{reported_row, rows_after_sound}
 use Rattle.requests.proofs.SoundAfterMask.{Tracee, resumes_sound, continues_sound}
-use Rattle.requests.proofs.SoundAfterCall.{rows_after_sound, reported_row}
+use Rattle.wait4.specs.Collect as wait
+
+within : (n : ℕ) (o : Outcome) (rows : Rows) → n ≤ 31 → with_signal n o rows ≡ o
+within n o rows small = rw (le-leb n 31 small) refl
+
+pub continued : (settings : Settings) (p : ProcData) (rows after : Rows) (s n : ℕ) → n ≡ s → n ≤ 31 → Rise rows.processes → process_of p.pid rows.processes ≡ Some p
+    → after ≡ (with_signal n (continues_with settings (λ old. p.mask) n p rows) rows).rows → after ≡ done settings (Decision.Continue s) p rows
+continued settings p rows after s n same small rise at done = search (rules, continue_as settings (λ mask. mask) p.mask n p rows rise at refl, within n (continues_with settings (λ mask. mask) n p rows) rows small)
+
+pub detached : (settings : Settings) (p : ProcData) (rows after : Rows) (s n : ℕ) → n ≡ s → n ≤ 31
+    → after ≡ (with_signal n (answers Reply.Done (detach settings p.pid n rows)) rows).rows → after ≡ done settings (Decision.Detach s) p rows
+detached settings p rows after s n same small done = search (rules, within n (answers Reply.Done (detach settings p.pid n rows)) rows small, same, done)
+
+-- The handling of a stop depends only on the process's number
+done_pid : (settings : Settings) (d : Decision) (p q : ProcData) (rows : Rows) → q.pid ≡ p.pid → done settings d q rows ≡ done settings d p rows
+done_pid settings Decision.Kill p q rows same = ap (λ n. done settings Decision.Kill (record p { pid = n }) rows) same
+done_pid settings d p q rows same = ap (λ n. done settings d (record p { pid = n }) rows) same
 
 -- what a decision does to a tracee
 decision_sound : (settings : Settings) (d : Decision) (p q : ProcData) (rows : Rows) → Tracee rows q → q.pid ≡ p.pid → IsSound (done settings d p rows)
@@ -18,6 +36,39 @@ module _ (settings : Settings) (caller : ℕ) (policies : List (List Rule)) (row
   abbrev after : Rows
   after = rows_after caller (negsuc 0) no_options rows
 
+  module _ (p : ProcData) (found : reported caller (negsuc 0) no_options rows ≡ Some p) where
+    abbrev to : ProcData → Option ProcData
+    to q = if q.pid == p.pid then wait.collected caller q else Some q
+
+    same_pid : (q : ProcData) → IfSome (to q) (λ r. (r.pid == p.pid) ≡ (q.pid == p.pid))
+    same_pid q = by_kept caller p q (λ o. IfSome o (λ r. (r.pid == p.pid) ≡ (q.pid == p.pid))) (λ no. tt) (λ r k. ap (λ n. n == p.pid) k.pid)
+
+    -- the row of what was collected, where it is left
+    pub row_left : (z : ProcData) → wait.collected caller p ≡ Some z → (m : ℕ) × (process_of p.pid after.processes ≡ Some (record z { pending = m }))
+    row_left z is = subst (λ (r : Rows). (m : ℕ) × (process_of p.pid r.processes ≡ Some (record z { pending = m }))) (ap (λ o. wait.without_report caller o rows) (sym found))
+        (heard (each to (λ q l. Some l) rows) (told caller p) p.pid z (find_edit (λ q. q.pid == p.pid) to same_pid rows.processes p z (reported_row rows caller (negsuc 0) no_options p s.stands.rising found) (rw (eq-eqb p.pid p.pid refl) is)))
+
+    -- it is gone where it is not left
+    row_gone : wait.collected caller p ≡ None → process_of p.pid after.processes ≡ None
+    row_gone gone = grind (arith, nat_tests, reported_row, process_edited, eq-eqb, choose, rise_edited, wait.without_report, by_kept)
+
+    -- a handle of the row after the collection
+    abbrev handled_after : StatusKind → Outcome
+    handled_after status = handles settings policies rows after (process_of p.pid after.processes) (Collected.Got p.pid status)
+
+    by_state : (status : StatusKind) (x : State) → p.state ≡ x → handles_status settings policies status p after x ≡ handled_after status
+    by_state status x is = grind (arith, nat_tests, wait.collected_in, row_gone, row_left, done_pid)
+
+  -- a handle asks about the row of what it collected, as it is after the collection
+  pub asked : (pid : ℕ) (status : StatusKind) → collect caller (negsuc 0) no_options rows ≡ Collected.Got pid status
+      → handled_by settings policies caller rows ≡ handles settings policies rows after (process_of pid after.processes) (Collected.Got pid status)
+  asked pid status is = grind (arith, nat_tests, ap₂, by_state)
+
+  pub asked_at : (rows1 : Rows) → rows1 ≡ after → (pid : ℕ) (status : StatusKind) → collect caller (negsuc 0) no_options rows ≡ Collected.Got pid status → (o : Option ProcData) → o ≡ process_of pid rows1.processes
+      → handles settings policies rows rows1 o (Collected.Got pid status) ≡ handled_by settings policies caller rows
+  asked_at rows1 left pid status is o at = grind (arith, nat_tests, asked)
+
+  -- a stop that installed policies decide on keeps rows sound
   after_is_sound : IsSound after
   after_is_sound = rows_after_sound rows caller (negsuc 0) no_options s
 
@@ -26,7 +77,7 @@ module _ (settings : Settings) (caller : ℕ) (policies : List (List Rule)) (row
     now_seen = record p { state = Trace tid sig true }
 
     left : (m : ℕ) × (process_of p.pid after.processes ≡ Some (record now_seen { pending = m }))
-    left = row_left settings caller policies rows s p found now_seen (ap (wait.collected_in caller p) stops)
+    left = row_left p found now_seen (ap (wait.collected_in caller p) stops)
 
     traced : is_some p.tracer ≡ true
     traced = (every_found FitProcess (λ r. r.pid == p.pid) rows.processes p s.processes (reported_row rows caller (negsuc 0) no_options p s.stands.rising found)).stopped (ap (λ x. is_some (named_by x)) stops)

@@ -1,12 +1,11 @@
 -- Kills and installed policies keep a host sound.
-use Rattle.requests.proofs.CommonNames.{◌≡◌, ℕ, ℤ, Bool, true, false, ◌==◌, ◌&&◌, ◌||◌, not, leb, List, [], ◌∷◌, ◌++◌, length, length-append, zip, Option, Some, None, refl, sym, ◌∙◌, arith, true≢false}
-use Rattle.requests.proofs.CommonNames.{nat_tests, subst, eqb-true, eq-eqb, get_or, set, get_or-set_other, length-set, list_all, le-leb, leb-false, IsUser, slot, users, EINVAL, EAGAIN, ProcData, is_live}
-use Rattle.requests.proofs.CommonNames.{process_of, Rows, Settings, post, is_live_of, sound_rows, IsSound, and_left, both, choose, found_number, zip_users, post_sound, Rule, refuses, is_which, reach}
-use Rattle.requests.proofs.CommonNames.{post_if_live, post_all, reached, kill, install, Installed, Machine, installed_by, after, sound_installed, sound, list_all-from_All, put_at, slots_differ}
-use Rattle.std.proofs.lemmas.List.Folds.{list_all-append}
+use Rattle.requests.proofs.CommonNames.{◌≡◌, ℕ, ℤ, Bool, true, false, ◌==◌, ◌&&◌, ◌||◌, not, leb, List, [], ◌∷◌, ◌++◌, length, length-append, zip, Option, Some, None, refl, sym, ◌∙◌, arith}
+use Rattle.requests.proofs.CommonNames.{true≢false, nat_tests, subst, eqb-true, eq-eqb, get_or, set, get_or-set_other, length-set, list_all, le-leb, leb-false, IsUser, slot, users, EINVAL, EAGAIN}
+use Rattle.requests.proofs.CommonNames.{ProcData, is_live, process_of, Rows, Settings, post, is_live_of, sound_rows, IsSound, and_left, both, choose, found_number, zip_users, post_sound, Rule}
+use Rattle.requests.proofs.CommonNames.{refuses, is_which, reach, post_if_live, post_all, reached, kill, install, Installed, Machine, installed_by, after, sound_installed, sound, list_all-from_All}
+use Rattle.requests.proofs.CommonNames.{put_at, slots_differ, IsCaller, list_all-append}
 use Rattle.requests.proofs.SoundWithoutEnded.{pairs_test, rows_sound, after_sound, slots_of, pairs_of, live_pairs}
 use Rattle.requests.proofs.SoundAfterCall.{live_caller}
-use Rattle.requests.specs.Callers.{IsCaller}
 
 posted_if_live : (settings : Settings) (sig n : ℕ) (rows : Rows) → IsSound rows → (o : Option ProcData) → process_of n rows.processes ≡ o → IsSound (post_if_live settings sig o rows)
 posted_if_live settings sig n rows s None at = s

@@ -1,18 +1,16 @@
 -- An LWP that changes its mode, that is made, or that exits keeps rows sound.
 use Rattle.requests.proofs.CommonNames.{◌≡◌, inl, ℕ, ◌≤◌, Bool, true, false, ◌==◌, leb, if◌then◌else◌, List, [], ◌∷◌, ◌++◌, find, Option, Some, None, IfSome, refl, sym, subst, arith, eqb-true, eq-eqb}
 use Rattle.requests.proofs.CommonNames.{rules, leb-false, IsUser, PL_FLAG_EXITED, shows, LwpData, Mode, born, lwp_of, ProcData, reporting, Rows, owner, by_owner, each, change_lwp, remove_lwp, add_lwp}
-use Rattle.requests.proofs.CommonNames.{lwp_count, InOwnBlock, Settings, Shown, stop, is_due, mode_fits, IsLiveChild, FitProcess, waited_for, FitLwp, IsSound, and_left, by_bool, find_some, choose, some_is}
-use Rattle.requests.proofs.CommonNames.{one_gone, Row, Beside, Same, Like, Stay, KeptRow, KeptLwp, nobody, holds_sound, sound_holds, row_is, like_self, kept_row, kept_all, kept_lwp, none_gone, no_ring}
-use Rattle.requests.proofs.CommonNames.{stay_where, edit_holds, lwps_alone, own_lwps, zero_apart, Outcome, due_stop, in_mode, due_at_birth, exits_lwp, nat_tests}
-use Rattle.lwp_table.specs.declared.Due.{Due}
+use Rattle.requests.proofs.CommonNames.{lwp_count, InOwnBlock, Settings, Shown, stop, is_due, mode_fits, IsLiveChild, FitProcess, waited_for, FitLwp, IsSound, and_left, by_bool, find_some, choose}
+use Rattle.requests.proofs.CommonNames.{some_is, one_gone, Row, Beside, Same, Like, Stay, KeptRow, KeptLwp, nobody, holds_sound, sound_holds, row_is, like_self, kept_row, kept_all, kept_lwp}
+use Rattle.requests.proofs.CommonNames.{none_gone, no_ring, stay_where, edit_holds, lwps_alone, own_lwps, zero_apart, Outcome, due_stop, in_mode, due_at_birth, exits_lwp, nat_tests, Due, find-append}
 use Rattle.trace_stop.proofs.SoundAfterThread.{joined_sound}
 use Rattle.requests.proofs.Acting.{Acting, its_live, its_quiet, lwp_fit, lwp_stands, acting_lwp, acting_stops}
 use Rattle.requests.proofs.Room.{LwpRoom}
 use Rattle.requests.proofs.SoundAfterSignal.{end_sound}
 
 pub find_more : {X : Type 0} (q : X → Bool) (xs ys : List X) (x : X) → find q xs ≡ Some x → find q (xs ++ ys) ≡ Some x
-find_more q [] ys x is = absurd (grind (arith, is))
-find_more {X} q (y ∷ xs) ys x is = search (rules, find_more q xs ys x)
+find_more q xs ys x is = rw (find-append q xs ys, is) refl
 
 module _ (rows : Rows) (p : ProcData) (l : LwpData) (a : Acting rows p l) where
   -- modes, and stops that were due
@@ -62,23 +60,15 @@ module _ (rows : Rows) (p : ProcData) (l : LwpData) (a : Acting rows p l) where
     same = same;
     ring = no_ring (λ q. Some q) rows.processes a.sound.stands.rising same.process (λ q t is. is);
     gone = none_gone rows FitProcess gone;
-    process = λ q row. by_number (q.pid == p.pid) (KeptRow rows left nobody FitProcess q q) (λ mine. quiet_row q q row mine (like_self q) refl some row.fact) (λ other. kept_all row (like_self q) (inl refl) (stays q row other) row.fact);
+    process = λ q row. choose (q.pid == p.pid) q q (λ r. KeptRow rows left nobody FitProcess q q) (λ mine. quiet_row q q row mine (like_self q) refl some row.fact) (λ other. kept_all row (like_self q) (inl refl) (stays q row other) row.fact);
     lwp = λ q x b on. choose (x.tid == l.tid) None (Some x) (λ o. IfSome o (KeptLwp rows left nobody FitLwp q q)) (λ e. tt)
-        (λ e. by_number (q.pid == p.pid) (KeptLwp rows left nobody FitLwp q q x) (λ mine. quiet_lwp q q x x b mine refl b.stood.waits b.fact) (λ other. kept_lwp b (stays q b.row other) refl refl b.fact));
+        (λ e. choose (q.pid == p.pid) q q (λ r. KeptLwp rows left nobody FitLwp q q x) (λ mine. quiet_lwp q q x x b mine refl b.stood.waits b.fact) (λ other. kept_lwp b (stays q b.row other) refl refl b.fact));
   })))
     where
-      by_number : (b : Bool) (R : Type 0) → (b ≡ true → R) → (b ≡ false → R) → R
-      by_number true R h k = h refl
-      by_number false R h k = k refl
-
       some : 1 ≤ lwp_count p.pid left
       some =
-          let most = one_gone (λ x. x.pid == p.pid) l.tid (λ x. by_owner gone x (owner rows x)) (λ x other own. (x, by_home x other (owner rows x), own)) rows.lwps a.sound.stands.differ in
+          let most = one_gone (λ x. x.pid == p.pid) l.tid (λ x. by_owner gone x (owner rows x)) (λ x other own. (x, grind (arith, nat_tests, other), own)) rows.lwps a.sound.stands.differ in
           omega (arith, two, most)
-        where
-          by_home : (x : LwpData) → (x.tid == l.tid) ≡ false → (o : Option ProcData) → by_owner gone x o ≡ Some x
-          by_home x other None = refl
-          by_home x other (Some q) = rw other refl
 
   pub exits_lwp_sound : (settings : Settings) → IsSound (exits_lwp settings p l rows).rows
   exits_lwp_sound settings = choose (leb (lwp_count p.pid rows) 1) _ _ (λ (o : Outcome). IsSound o.rows) (λ e. end_sound rows p l a settings 0 refl) (grind (arith, nat_tests, leb-false, choose, acting_stops, and_left, removed_sound))

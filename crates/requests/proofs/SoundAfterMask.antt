@@ -35,9 +35,6 @@ changed_lwp n chosen f g rows l p same there home = search (rules, find_edit, ch
 pub stepless_fits : (p : ProcData) (l : LwpData) → FitLwp p l → FitLwp p (record l { stepping = false })
 stepless_fits p l fit = grind (arith, nat_tests)
 
-same_either : {X : Type 0} (b : Bool) (x : X) → (if b then x else x) ≡ x
-same_either b x = grind (arith, nat_tests)
-
 module _ (rows : Rows) (p : ProcData) (t : Tracee rows p) where
   pub not_stepping_tracee : Tracee (not_stepping p.pid rows) p
   not_stepping_tracee = grind (arith, nat_tests, sound_holds (not_stepping p.pid rows) (changes_hold rows (is_numbered p.pid) (λ q. q) (λ q l. record l { stepping = false }) FitProcess FitLwp FitProcess FitLwp (holds_sound rows t.sound) (grind (arith, nat_tests, stepless_fits))), changed_process p.pid (is_numbered p.pid) (λ q. q) (λ q l. record l { stepping = false }) rows p (λ q. refl) t.home, t)

@@ -1,13 +1,93 @@
--- Each request of a debugger keeps a host sound.
-use Rattle.requests.proofs.CommonNames.{◌≡◌, ℕ, true, false, ◌==◌, ◌&&◌, leb, if◌then◌else◌, Option, Some, None, is_some, sym, subst, eqb-true, eq-eqb, rules, list_any, PTRACE_SCE, PTRACE_SCX, arith}
-use Rattle.requests.proofs.CommonNames.{nat_tests, PTRACE_FORK, PTRACE_LWP, mask_with, SIGKILL, LwpData, lwp_of, ProcData, is_live, process_of, Rows, owns, seen_lwp, find_seen, Settings, IsLiveOf, IsSound}
-use Rattle.requests.proofs.CommonNames.{and_left, and_right, both, find_some, choose, some_is, if_at, found_number, one_row, own_lwps, find_passes, detach_sound, Request, Outcome, attach, told_stop}
-use Rattle.requests.proofs.CommonNames.{bad_argument, stepping, switched, does, commands_stopped, commands, is_attach, is_trace_me, ptrace}
-use Rattle.requests.proofs.Asked.{told_reports}
+-- What a request of ptrace(2) comes to, by its refusals in their order, and that it keeps a host sound.
+use Rattle.requests.proofs.CommonNames.{nat_tests, ◌≡◌, ℕ, ◌<◌, List, IfSome, true, false, leb, if◌then◌else◌, Option, Some, is_some, refl, arith, rules, IsSomeAnd, lwp_of, ProcData, State}
+use Rattle.requests.proofs.CommonNames.{process_of, is_live, named_by, traces, Rows, TableInvariant, process_of-pid, lwp_of-tid, seen_lwp-kept, lwp-within, Settings, IsSound, some_is, Request}
+use Rattle.requests.proofs.CommonNames.{command, told_stop, target_of, is_trace_me, is_attach, ptrace, ◌≢◌, ◌==◌, None, sym, subst, eqb-true, eq-eqb, default_mask, SIGSTOP, LwpData, first_lwp, is_run}
+use Rattle.requests.proofs.CommonNames.{change_process, Ready, FitOrReady, MayStop, IsLiveOf, Linked, FitProcess, All-imply, find_some, choose, not_some, sound_holds, live_fits, live_state, own_lwps}
+use Rattle.requests.proofs.CommonNames.{plain, closes_chain, traced_by, trace_me, stop_first, attach, ◌&&◌, list_any, PTRACE_SCE, PTRACE_SCX, PTRACE_FORK, PTRACE_LWP, mask_with, SIGKILL, owns}
+use Rattle.requests.proofs.CommonNames.{seen_lwp, find_seen, and_left, and_right, both, if_at, found_number, one_row, find_passes, detach_sound, Outcome, bad_argument, stepping, switched, does}
+use Rattle.requests.proofs.CommonNames.{commands_stopped, commands, IsCaller}
+use Rattle.trace_stop.proofs.StoppedByOwnLwp.{IsStopped-from}
+use Rattle.trace_stop.proofs.SoundAfterLink.{Traced, linked_holds, linked_row}
 use Rattle.requests.proofs.SoundAfterCall.{caller_live, live_caller}
 use Rattle.requests.proofs.SoundAfterMask.{Tracee, OwnLwp, named_lwp, suspend_sound, set_mask_sound, resumes_sound, stepping_tracee, continues_sound}
-use Rattle.requests.proofs.SoundAfterAttach.{trace_me_sound, attach_sound}
-use Rattle.requests.specs.Callers.{IsCaller}
+use Rattle.trace_stop.proofs.SoundAfterStop as stops
+use Rattle.lwp_table.proofs.CountLemmas.{count-none}
+
+pub told_reports : (s : State) (tid : ℕ) → told_stop s ≡ Some tid → named_by s ≡ Some tid
+told_reports s tid told = grind (arith, nat_tests)
+
+-- The LWP that a target names
+
+module _ (u target : ℕ) (rows : Rows) (p : ProcData) (kept : TableInvariant rows) (at : target_of u target rows ≡ Some p) (large : leb target 99999 ≡ false) where
+  pub target_lwp : IsSomeAnd (lwp_of target rows.lwps) (λ l. l.pid ≡ p.pid)
+  target_lwp = grind (arith, nat_tests, seen_lwp-kept, process_of-pid)
+
+  pub target_within : target < 356000
+  target_within = search (rules, target_lwp, lwp-within, lwp_of-tid)
+
+pub named_own : (u target tid : ℕ) (rows : Rows) (p : ProcData) → TableInvariant rows → target_of u target rows ≡ Some p → IsSomeAnd (lwp_of tid rows.lwps) (λ l. l.pid ≡ p.pid)
+    → IsSomeAnd (lwp_of (if leb target 99999 then tid else target) rows.lwps) (λ l. l.pid ≡ p.pid)
+named_own u target tid rows p kept at own = search (rules, target_lwp)
+
+-- the LWP that reports a stop is the process's
+pub reporting_own : (rows : Rows) (p : ProcData) (tid : ℕ) → IsSound rows → process_of p.pid rows.processes ≡ Some p → told_stop p.state ≡ Some tid → IsSomeAnd (lwp_of tid rows.lwps) (λ l. l.pid ≡ p.pid)
+reporting_own rows p tid s at told = grind (arith, nat_tests, told_reports, IsStopped-from p.pid tid rows p s.stands at, some_is, told)
+
+-- a request about a tracee of the caller, in a stop that was reported to it
+pub asks_tracee : (settings : Settings) (u : ℕ) (caller : ProcData) (r : Request) (target «data» : ℕ) (rows : Rows) (p : ProcData) (tid : ℕ)
+    → is_trace_me r ≡ false → target_of u target rows ≡ Some p → is_live p ≡ true → is_attach r ≡ false → is_some p.tracer ≡ true → traces caller.pid p ≡ true → told_stop p.state ≡ Some tid
+    → ptrace settings u caller r target «data» rows ≡ command settings r «data» (if leb target 99999 then tid else target) p rows
+asks_tracee settings u caller r target «data» rows p tid me at live new traced mine told = rw (me, at, live, new, traced, mine, told) refl
+
+-- a process that a number finds is found by its own
+pub own_row : (n : ℕ) (ps : List ProcData) (o : Option ProcData) → o ≡ process_of n ps → IfSome o (λ p. process_of p.pid ps ≡ Some p)
+own_row n ps o at = grind (arith, nat_tests, process_of-pid)
+
+-- ---- A process that gets a tracer, by its own request or by an attach, keeps rows sound.
+
+module _ (rows : Rows) (p : ProcData) (n : ℕ) (s : IsSound rows) (at : process_of p.pid rows.processes ≡ Some p) (live : is_live p ≡ true) (free : p.tracer ≡ None)
+    (tracer : IsLiveOf rows p.uid n) (other : n ≢ p.pid) (far : closes_chain p.pid n rows ≡ false) where
+  abbrev tracee : ProcData
+  tracee = traced_by n p
+
+  abbrev made : Rows
+  made = change_process p.pid (traced_by n) rows
+
+  abbrev Others : ProcData → Type 0
+  Others = Traced rows p n default_mask s at tracer other far
+
+  run_fits : is_run p ≡ true → FitProcess tracee
+  run_fits run = grind (arith, nat_tests, live_fits, live_state)
+
+  -- one that runs
+  pub run_traced_sound : is_run p ≡ true → IsSound made
+  run_traced_sound run = grind (arith, nat_tests, sound_holds made (record { stands = (linked_holds rows p n default_mask s at tracer other far).stands; processes = All-imply Others FitProcess (λ q h. grind (arith, nat_tests, h, run_fits run, eqb-true q.pid p.pid, eq-eqb q.pid p.pid)) made.processes (linked_holds rows p n default_mask s at tracer other far).processes; lwps = (linked_holds rows p n default_mask s at tracer other far).lwps }), run_fits run, eqb-true, eq-eqb)
+
+  pub attached_may_stop : (l : LwpData) → lwp_of l.tid rows.lwps ≡ Some l → l.pid ≡ p.pid → MayStop p.pid l.tid (plain SIGSTOP) made
+  attached_may_stop l there own =
+      let held = linked_holds rows p n default_mask s at tracer other far in
+      let kept = All-imply Others (FitOrReady p.pid) (λ q h. (h.0, λ same. subst Ready (sym (h.1 same)) (grind (arith, nat_tests, find_some)))) made.processes held.processes in
+      grind (arith, nat_tests, held, kept, there, own)
+
+  stopped_sound : (l : LwpData) → lwp_of l.tid rows.lwps ≡ Some l → l.pid ≡ p.pid → IsSound (stop_first p.pid (Some l) made)
+  stopped_sound l there own = stops.stopped_sound made p.pid l.tid (plain SIGSTOP) tracee l (linked_row rows p n default_mask s at tracer other far) there (attached_may_stop l there own)
+
+  pub attached_sound : IsSound (stop_first p.pid (first_lwp p.pid rows.lwps) made)
+  attached_sound = by_first (first_lwp p.pid rows.lwps) refl
+    where
+      by_first : (o : Option LwpData) → first_lwp p.pid rows.lwps ≡ o → IsSound (stop_first p.pid o made)
+      by_first None e = absurd (grind (arith, nat_tests, find_some (λ q. q.pid == p.pid) (Linked rows) rows.processes s.stands.linked p at, live, count-none (λ l. l.pid == p.pid) rows.lwps e))
+      by_first (Some l) e =
+          let found = find_some (λ k. k.pid == p.pid) (λ k. lwp_of k.tid rows.lwps ≡ Some k) rows.lwps (own_lwps rows.lwps s.stands.differ) l e in
+          stopped_sound l found.0 (eqb-true l.pid p.pid found.1)
+
+pub trace_me_sound : (rows : Rows) (p : ProcData) → IsSound rows → process_of p.pid rows.processes ≡ Some p → is_live p ≡ true → is_run p ≡ true → IsSound (trace_me p rows).rows
+trace_me_sound rows p s at live run = grind (arith, nat_tests, find_some (λ q. q.pid == p.pid) (Linked rows) rows.processes s.stands.linked p at, choose, run_traced_sound, not_some, eq-eqb)
+
+pub attach_sound : (rows : Rows) (caller p : ProcData) → IsSound rows → process_of p.pid rows.processes ≡ Some p → is_live p ≡ true → IsLiveOf rows p.uid caller.pid → IsSound (attach caller p rows).rows
+attach_sound rows caller p s at live tracer = grind (arith, nat_tests, choose, attached_sound, not_some, eq-eqb)
+
+-- ---- Each request of a debugger keeps a host sound.
 
 -- the process that a target names
 
@@ -46,16 +126,16 @@ module _ (settings : Settings) (u : ℕ) (caller : ProcData) (r : Request) (targ
     home : process_of p.pid rows.processes ≡ Some p
     home = subst (λ n. process_of n rows.processes ≡ Some p) (sym (found_number m rows.processes p at)) at
 
-    stopped_sound : is_some p.tracer ≡ true → (o : Option ℕ) → told_stop p.state ≡ o → IsSound (commands_stopped settings r target «data» p rows o).rows
-    stopped_sound traced None told = s
-    stopped_sound traced (Some tid) told = choose (bad_argument r «data») _ _ (λ (x : Outcome). IsSound x.rows) (λ e. s)
+    tracee_sound : is_some p.tracer ≡ true → (o : Option ℕ) → told_stop p.state ≡ o → IsSound (commands_stopped settings r target «data» p rows o).rows
+    tracee_sound traced None told = s
+    tracee_sound traced (Some tid) told = choose (bad_argument r «data») _ _ (λ (x : Outcome). IsSound x.rows) (λ e. s)
         (λ e. does_sound settings r «data» (if leb target 99999 then tid else target) p rows (record { sound = s; home = home; live = live; traced = traced }) (search (rules, named_lwp, if_at, told_reports, seen_lwp_owned, (found_number m rows.processes p at), find_some, some_is)))
 
     tracer : IsLiveOf rows p.uid caller.pid
     tracer = search (rules, owned_uid, live_caller, find_some, find_passes, both, eq-eqb, and_right, seen_lwp_owned, some_is)
 
     pub live_sound : IsSound (if is_attach r then attach caller p rows else commands settings caller r target «data» p rows).rows
-    live_sound = choose (is_attach r) _ _ (λ (x : Outcome). IsSound x.rows) (λ e. attach_sound rows caller p s home live tracer) (λ e. (search (rules, choose, stopped_sound)))
+    live_sound = choose (is_attach r) _ _ (λ (x : Outcome). IsSound x.rows) (λ e. attach_sound rows caller p s home live tracer) (λ e. (search (rules, choose, tracee_sound)))
 
   pub ptrace_rows : IsSound (ptrace settings u caller r target «data» rows).rows
   ptrace_rows = choose (is_trace_me r) _ _ (λ (x : Outcome). IsSound x.rows) (λ e. trace_me_sound rows caller s c.at (caller_live u rows caller c) c.runs) (λ e. (search (rules, live_sound)))

@@ -1,8 +1,8 @@
 -- Pending signals that an LWP takes, and what they do, keep rows sound.
-use Rattle.requests.proofs.CommonNames.{◌≡◌, ℕ, Bool, true, false, ◌==◌, not, [], ◌∷◌, Option, Some, None, IfSome, is_some, refl, sym, ap, ◌∙◌, true≢false, subst, eqb-true, rules, le-leb, arith, nat_tests}
-use Rattle.requests.proofs.CommonNames.{has, bit, without, SIGTRAP, is_signal, maskable, disposition_of, default_action, IsSignal, Action, LwpData, Mode, ProcData, Job, is_live, Rows, change_process}
-use Rattle.requests.proofs.CommonNames.{change_lwp, Settings, unwanted, notified, end, stop, is_end, Linked, FitProcess, FitLwp, IsSound, both, by_bool, find_some, choose, changed_own, process_sound}
-use Rattle.requests.proofs.CommonNames.{pending_fits, end_at, post_sound, Outcome, in_user_mode, next_signal, without_signal, plain, takes_by_default, takes_untraced, takes, computes, raises}
+use Rattle.requests.proofs.CommonNames.{◌≡◌, ℕ, true, false, ◌==◌, not, [], ◌∷◌, Some, None, IfSome, is_some, refl, sym, ap, ◌∙◌, true≢false, subst, eqb-true, rules, le-leb, arith, nat_tests, has}
+use Rattle.requests.proofs.CommonNames.{bit, without, SIGTRAP, is_signal, maskable, disposition_of, default_action, IsSignal, Action, LwpData, ProcData, Job, is_live, Rows, change_process, change_lwp}
+use Rattle.requests.proofs.CommonNames.{Settings, unwanted, notified, end, stop, is_end, Linked, FitProcess, FitLwp, IsSound, both, by_bool, find_some, choose, changed_own, process_sound}
+use Rattle.requests.proofs.CommonNames.{pending_fits, end_at, post_sound, Outcome, next_signal, without_signal, plain, takes_by_default, takes_untraced, takes, computes, raises}
 use Rattle.signals.proofs.Members.{lowest-some}
 use Rattle.trace_stop.proofs.Bits.{without_apart, without_less}
 use Rattle.trace_stop.proofs.SoundAfterNotify.{live_told, notified_sound}
@@ -58,16 +58,8 @@ module _ (rows : Rows) (p : ProcData) (l : LwpData) (a : Acting rows p l) where
 
 -- the signal that an LWP takes
 
-abbrev IfTaken : Mode → Option ℕ → Type 0
-IfTaken m o = IfSome (in_user_mode m o) IsSignal
-
 pub next_is_signal : (p : ProcData) (l : LwpData) → IfSome (next_signal p l) IsSignal
 next_is_signal p l = search (rules, lowest-some)
-
-abbrev is_end_action : Action → Bool
-is_end_action Action.End = true
-is_end_action Action.Stop = false
-is_end_action Action.Discard = false
 
 module _ (settings : Settings) (s : ℕ) (sig : IsSignal s) (rows : Rows) (p : ProcData) (l : LwpData) (k : Alike rows p l) where
   abbrev q : ProcData

@@ -1,12 +1,10 @@
 -- A host whose rows are sound after a step is sound, once the pairs of ended debuggers are gone.
 use Rattle.requests.proofs.CommonNames.{◌≡◌, ℕ, ◌+◌, ◌≤◌, List, [], ◌∷◌, length, map, filter, zip, Bool, true, ◌==◌, ◌&&◌, leb, ap, ◌∙◌, arith, eqb-true, subst, eq-eqb, get_or, rules, length-map}
 use Rattle.requests.proofs.CommonNames.{nat_tests, AllByRecursion, list_any, list_all, le-leb, IsUser, slot, pid_block, users, ProcData, is_live, Rows, InOwnBlock, is_live_of, sound_rows, IsLiveOf}
-use Rattle.requests.proofs.CommonNames.{MidStepInvariant, IsSound, and_left, and_right, both, All-from_list_all, list_all-from_All, any_holds, any_more, IsSound-from, sound_rows-from, user_at, zip_users}
-use Rattle.requests.proofs.CommonNames.{Outcome, answers, Reply, Installed, Machine, installed_by, is_live_number, after, sound_installed, sound, ◌<◌, filter-all, All-where}
-use Rattle.pid_blocks.specs.Blocks.{InBlock}
-use Rattle.std.proofs.lemmas.List.{same_lists, get_or_default}
+use Rattle.requests.proofs.CommonNames.{MidStepInvariant, IsSound, and_left, and_right, both, All-from_list_all, list_all-from_All, any_holds, any_more, IsSound-from, sound_rows-from, user_at}
+use Rattle.requests.proofs.CommonNames.{zip_users, Outcome, answers, Reply, Installed, Machine, installed_by, is_live_at, after, sound_installed, sound, ◌<◌, filter-all, All-where, get_or-map}
+use Rattle.requests.proofs.CommonNames.{same_lists, get_or_default, InBlock}
 use Rattle.std.proofs.lemmas.List.Sums.{length-filter, count_by-le-length}
-use Rattle.std.proofs.Math.ListN.{get_or-map}
 
 -- a live process with a number of the user's block is the user's
 any_of_user : (rows : Rows) (u n : ℕ) → IsUser u → InBlock (pid_block u) n → (ps : List ProcData) → AllByRecursion InOwnBlock ps
@@ -46,7 +44,7 @@ after_sound m o is s = both (sound_rows o.rows) (sound_installed (after m o).mac
     (both _ _ (eq-eqb (length (map (filter left) m.installed)) 64 (length-map m.installed (filter left) ∙ slots_of m is)) (zip_users (pairs_test o.rows) (map (filter left) m.installed) [] each))
   where
     left : Installed → Bool
-    left i = is_live_number o.rows i.debugger
+    left i = is_live_at i.debugger o.rows
 
     each : (u : ℕ) → IsUser u → pairs_test o.rows (u, get_or (map (filter left) m.installed) (slot u) []) ≡ true
     each u user =
@@ -58,14 +56,14 @@ after_sound m o is s = both (sound_rows o.rows) (sound_installed (after m o).mac
         (All-where left (λ i. is_live_of m.rows u i.debugger ≡ true) (λ i. is_live_of o.rows u i.debugger ≡ true)
         (λ i was still. any_of_user o.rows u i.debugger user (home_of m.rows (rows_sound m is).stands u i.debugger was) o.rows.processes s.stands.in_own_blocks still) (installed_by u m) (live_pairs m is u user))))
 
-live_number : (rows : Rows) (u n : ℕ) → IsLiveOf rows u n → is_live_number rows n ≡ true
+live_number : (rows : Rows) (u n : ℕ) → IsLiveOf rows u n → is_live_at n rows ≡ true
 live_number rows u n is = search (rules, any_more, both, and_left, and_right)
 
 -- no pair of a user goes where each live process stays live
-pub left_live : (m : Machine) → sound m ≡ true → (rows : Rows) → ((n : ℕ) → is_live_number m.rows n ≡ true → is_live_number rows n ≡ true) → (u : ℕ) → IsUser u → filter (λ i. is_live_number rows i.debugger) (installed_by u m) ≡ installed_by u m
-left_live m is rows stays u user = filter-all (λ i. is_live_number rows i.debugger) (λ i. is_live_of m.rows u i.debugger ≡ true) (λ i was. stays i.debugger (live_number m.rows u i.debugger was)) (installed_by u m) (live_pairs m is u user)
+pub left_live : (m : Machine) → sound m ≡ true → (rows : Rows) → ((n : ℕ) → is_live_at n m.rows ≡ true → is_live_at n rows ≡ true) → (u : ℕ) → IsUser u → filter (λ i. is_live_at i.debugger rows) (installed_by u m) ≡ installed_by u m
+left_live m is rows stays u user = filter-all (λ i. is_live_at i.debugger rows) (λ i. is_live_of m.rows u i.debugger ≡ true) (λ i was. stays i.debugger (live_number m.rows u i.debugger was)) (installed_by u m) (live_pairs m is u user)
 
-pub all_left : (m : Machine) → sound m ≡ true → (u : ℕ) → IsUser u → filter (λ i. is_live_number m.rows i.debugger) (installed_by u m) ≡ installed_by u m
+pub all_left : (m : Machine) → sound m ≡ true → (u : ℕ) → IsUser u → filter (λ i. is_live_at i.debugger m.rows) (installed_by u m) ≡ installed_by u m
 all_left m is u user = left_live m is m.rows (λ n live. live) u user
 
 -- an answer that changes no row leaves the host
@@ -73,7 +71,7 @@ pub answers_same : (m : Machine) (r : Reply) → sound m ≡ true → (after m (
 answers_same m r is = ap (λ xs. record m { installed = xs }) (same_at (map (filter left) m.installed) m.installed [] count at)
   where
     left : Installed → Bool
-    left i = is_live_number m.rows i.debugger
+    left i = is_live_at i.debugger m.rows
 
     count : length (map (filter left) m.installed) ≡ length m.installed
     count = length-map m.installed (filter left)

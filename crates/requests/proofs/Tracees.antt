@@ -1,7 +1,7 @@
 -- A stopped tracee in sound rows, and changes of its row and of its LWPs.
-use Rattle.requests.proofs.CommonNames.{Gives, Attempts, Ok, Bool, ◌≡◌, ℕ, ◌≤◌, ◌==◌, arith, eqb-true, true, false, if◌then◌else◌, Option, Some, None, is_some, refl, sym, ap, ◌∙◌, true≢false, subst}
-use Rattle.requests.proofs.CommonNames.{eq-eqb, rules, IsSomeAnd, nat_tests, EventMask, SIGKILL, LwpData, lwp_of, Differ, ProcData, process_of, reporting, Rows, change_process, change_lwp, is_numbered}
-use Rattle.requests.proofs.CommonNames.{map_lwps, lwp_count, lwp_count_of, owns, Rise, IsRow, InOwnBlock, set_lwp, owns-kept, found_row, lwp_of-tid, every_found, some_and, change_process-at, change_lwp-at}
+use Rattle.requests.proofs.CommonNames.{some_is, Gives, Attempts, Ok, Bool, ◌≡◌, ℕ, ◌≤◌, ◌==◌, arith, eqb-true, true, false, if◌then◌else◌, Some, is_some, refl, sym, ap, ◌∙◌, subst, eq-eqb, rules}
+use Rattle.requests.proofs.CommonNames.{IsSomeAnd, nat_tests, EventMask, SIGKILL, LwpData, lwp_of, Differ, ProcData, process_of, reporting, Rows, change_process, change_lwp, is_numbered, map_lwps}
+use Rattle.requests.proofs.CommonNames.{lwp_count, lwp_count_of, owns, Rise, IsRow, InOwnBlock, set_lwp, owns-kept, found_row, lwp_of-tid, every_found, some_and, change_process-at, change_lwp-at}
 use Rattle.requests.proofs.CommonNames.{change-at, lwp_there, Settings, resume, IsSound, count_edit, changed_row, edit_none, Reply, Outcome, answers, not_stepping, stepping, set_mask, continues_with}
 use Rattle.requests.proofs.CommonNames.{with_signal, choose}
 use Rattle.trace_stop.specs.Reports.{IsStopped}
@@ -28,11 +28,7 @@ module _ (rows : Rows) (p : ProcData) (s : IsSound rows) (at : process_of p.pid 
   is_tracee = grind (arith, nat_tests, every_found)
 
   pub is_stopped : IsStopped p.pid rows
-  is_stopped = by_lwp (reporting p) refl reports
-    where
-      by_lwp : (o : Option ℕ) → reporting p ≡ o → is_some o ≡ true → IsStopped p.pid rows
-      by_lwp None is some = absurd (true≢false (sym some))
-      by_lwp (Some tid) is some = IsStopped-from p.pid tid rows p s.stands at is
+  is_stopped = grind (arith, nat_tests, some_is, IsStopped-from, s.stands, at, reports)
 
 pub own_lwp : (rows : Rows) (p : ProcData) (tid : ℕ) → IsSomeAnd (lwp_of tid rows.lwps) (λ l. l.pid ≡ p.pid) → OwnLwp rows p tid
 own_lwp rows p tid own = let l = some_and (λ (k : LwpData). k.pid ≡ p.pid) (lwp_of tid rows.lwps) own in record { lwp = l.0; there = l.1; own = l.2 }

@@ -1,7 +1,6 @@
 -- A walk over processes by rising numbers.
-use Rattle.requests.proofs.CommonNames.{◌≡◌, ℕ, ◌<◌, List, [], ◌∷◌, ◌++◌, map, filter, find, Option, Bool, true, ◌&&◌, ltb, Some, None, refl, sym, ap, ◌∙◌, arith, lt-ltb, append-nil, rules, AllByRecursion}
-use Rattle.requests.proofs.CommonNames.{le-ltb, ltb-true, ProcData, AllAbove, Rise, InOwnBlock, and_left, found_above}
-use Rattle.std.proofs.Common.{append_assoc}
+use Rattle.requests.proofs.CommonNames.{◌≡◌, ℕ, ◌<◌, List, [], ◌∷◌, ◌++◌, map, filter, find, Option, Bool, true, ◌&&◌, ltb, Some, None, refl, sym, ap, ◌∙◌, arith, lt-ltb, append-nil, rules}
+use Rattle.requests.proofs.CommonNames.{AllByRecursion, le-ltb, ltb-true, ProcData, AllAbove, Rise, InOwnBlock, and_left, found_above, append_assoc}
 
 -- Processes that pass a test
 module _ (t : ProcData → Bool) where

@@ -1,15 +1,5 @@
 -- The LWP of a turn, its process, and its mode after a fork.
-use Rattle.std.specs.Prelude.{◌≡◌, ℕ, Some, IsSomeAnd}
-use Rattle.event_masks.specs.declared.Call.{Call}
-use Rattle.event_masks.specs.declared.Call.TheVariants as call
-use Rattle.lwp_table.specs.declared.LwpData.{LwpData}
-use Rattle.lwp_table.specs.declared.Mode.{Mode}
-use Rattle.lwp_table.specs.declared.Mode.TheVariants.{User, VforkWait}
-use Rattle.lwp_table.specs.Lwps.{lwp_of}
-use Rattle.proc_table.specs.declared.ProcData.{ProcData}
-use Rattle.proc_table.specs.Processes.{process_of}
-use Rattle.proc_table.specs.Kept.{IsRow}
-use Rattle.proc_table.specs.Rows.{Rows}
+use Rattle.requests.specs.CommonNames.{◌≡◌, ℕ, Some, IsSomeAnd, LwpData, lwp_of, ProcData, process_of, IsRow, Rows, Call, Mode, User, VforkWait}
 
 -- an LWP and its process, as the rows have them
 pub record IsActing (p : ProcData) (l : LwpData) (rows : Rows) : Type 0 where
@@ -24,10 +14,5 @@ pub record HasLwp (pid tid : ℕ) (rows : Rows) : Type 0 where
 
 -- the mode of an LWP after a fork: after a vfork it waits for the child
 abbrev pub mode_after : Call → ℕ → Mode
-mode_after call.Vfork child = VforkWait child
-mode_after call.Fork child = User
-mode_after call.Exec child = User
-mode_after call.ThrNew child = User
-mode_after call.ThrExit child = User
-mode_after (call.Exit status) child = User
-mode_after (call.Other code) child = User
+mode_after Call.Vfork child = VforkWait child
+mode_after call child = User

@@ -1,16 +1,7 @@
 -- The caller of a step.
-use Rattle.std.specs.Prelude.{◌≡◌, ◌≢◌, ℕ, true, Some}
-use Rattle.pid_blocks.specs.declared.Errno.TheVariants as errno
-use Rattle.proc_table.specs.declared.ProcData.{ProcData}
-use Rattle.proc_table.specs.Processes.{process_of, is_live, is_run}
-use Rattle.proc_table.specs.Rows.{Rows}
-use Rattle.proc_table.specs.Seen.{seen_process}
-use Rattle.requests.specs.Plain.{PlainStep}
-use Rattle.requests.specs.declared.Reply.{Reply}
-use Rattle.requests.specs.declared.Reply.TheVariants as reply
+use Rattle.requests.specs.CommonNames.{◌≡◌, ◌≢◌, ℕ, true, Some, Errno, ProcData, process_of, is_live, is_run, Rows, seen_process, PlainStep, Reply}
 use Rattle.requests.specs.Outcome.{answers}
-use Rattle.requests.specs.Machine.{Machine, after}
-use Rattle.requests.specs.Step.{step, caller_of}
+use Rattle.requests.specs.Step.{Machine, after, step, caller_of}
 
 -- a process of the user that runs
 pub record IsCaller (user : ℕ) (p : ProcData) (rows : Rows) : Type 0 where
@@ -27,4 +18,4 @@ pub record Calls (user n : ℕ) (rows : Rows) (p : ProcData) : Type 0 where
 -- every step with that number as its caller gets this reply and changes nothing
 pub record Barred (user n : ℕ) (m : Machine) (r : Reply) : Type 0 where
   pub answer : (s : PlainStep) → caller_of s ≡ Some n → step user s m ≡ after m (answers r m.rows)
-  pub other : r ≢ reply.Errno errno.ENOMEM
+  pub other : r ≢ Reply.Errno Errno.ENOMEM

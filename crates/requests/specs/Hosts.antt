@@ -1,15 +1,8 @@
 -- A host, as the machine sees it, and its step.
-use Rattle.std.specs.Prelude.{◌≡◌, ◌≢◌, ℕ, true, List, Result}
-use Rattle.pid_blocks.specs.declared.Errno.TheVariants.{ENOMEM}
-use Rattle.proc_table.specs.Kept.{Table}
-use Rattle.trace_stop.specs.declared.Settings.{Settings}
-use Rattle.requests.specs.declared.Reply.{Reply}
-use Rattle.requests.specs.declared.Reply.TheVariants as reply
-use Rattle.requests.specs.Machine.{Machine, Installed}
+use Rattle.requests.specs.CommonNames.{◌≡◌, ◌≢◌, ℕ, true, List, Result, ENOMEM, Table, Settings, Reply, PlainStep}
 use Rattle.requests.specs.Memory.{is_refusal, may_want, attempted_reply}
-use Rattle.requests.specs.Plain.{PlainStep}
 use Rattle.requests.specs.Sound.{sound}
-use Rattle.requests.specs.Step.{step}
+use Rattle.requests.specs.Step.{Machine, Installed, step}
 
 abbrev pub machine_of : Settings → Table → List (List Installed) → Machine
 machine_of settings t installed = record { rows = t.rows; installed = installed; settings = settings }
@@ -17,8 +10,8 @@ machine_of settings t installed = record { rows = t.rows; installed = installed;
 -- the host after a step of a user, and the reply: those of the machine; or, where the step takes memory and the machine
 -- wouldn't refuse it, ENOMEM and the host as it was
 pub record Steps (u : ℕ) (s : PlainStep) (m n : Machine) (r : Reply) : Type 0 where
-  pub machine : r ≢ reply.Errno ENOMEM → (n ≡ (step u s m).machine) × (r ≡ (step u s m).reply)
-  pub memory : r ≡ reply.Errno ENOMEM → (n ≡ m) × (may_want u s m ≡ true)
+  pub machine : r ≢ Reply.Errno ENOMEM → (n ≡ (step u s m).machine) × (r ≡ (step u s m).reply)
+  pub memory : r ≡ Reply.Errno ENOMEM → (n ≡ m) × (may_want u s m ≡ true)
   pub refused : is_refusal r ≡ true → n ≡ m
   pub sound : sound n ≡ true
 

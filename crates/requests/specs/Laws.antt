@@ -1,28 +1,16 @@
 -- The invariant that every step keeps.
-use Rattle.std.specs.Prelude.{◌≡◌, ℕ, Bool, true, List}
-use Rattle.std.specs.List.{AllByRecursion}
-use Rattle.pid_blocks.specs.Users.{IsUser}
-use Rattle.trace_stop.specs.Sound.{status_fits}
-use Rattle.requests.specs.declared.Act.{Act}
-use Rattle.requests.specs.declared.Act.TheVariants as act
-use Rattle.requests.specs.Plain.{PlainStep}
-use Rattle.requests.specs.declared.step.Step.TheVariants as op
-use Rattle.trace_stop.specs.declared.Settings.{Settings}
-use Rattle.requests.specs.Machine.{Machine, empty}
+use Rattle.requests.specs.CommonNames.{◌≡◌, ℕ, Bool, true, List, AllByRecursion, IsUser, status_fits, Act, PlainStep, Step, Settings}
 use Rattle.requests.specs.Run.{Asked, last}
 use Rattle.requests.specs.Sound.{sound}
-use Rattle.requests.specs.Step.{step}
+use Rattle.requests.specs.Step.{Machine, empty, step}
 
 -- whether a step's numbers fit their types: the status of an exit that is entered is a byte
 abbrev pub act_fits : Act → Bool
-act_fits act.Compute = true
-act_fits (act.Raise s) = true
-act_fits (act.Block set) = true
-act_fits (act.Enter call) = status_fits call
-act_fits act.Leave = true
+act_fits (Act.Enter call) = status_fits call
+act_fits a = true
 
 abbrev pub step_fits : PlainStep → Bool
-step_fits (op.Turn tid a) = act_fits a
+step_fits (Step.Turn tid a) = act_fits a
 step_fits s = true
 
 -- every step of every user keeps a host sound

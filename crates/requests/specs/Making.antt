@@ -1,9 +1,7 @@
 -- A step that may need a handler, where none is given.
-use Rattle.std.specs.Prelude.{◌≡◌, ℕ, Option, Some, None}
-use Rattle.requests.specs.declared.Reply.{Reply}
+use Rattle.requests.specs.CommonNames.{◌≡◌, ℕ, Option, Some, None, Reply, PlainStep}
 use Rattle.requests.specs.Hosts.{Steps}
 use Rattle.requests.specs.Machine.{Machine}
-use Rattle.requests.specs.Plain.{PlainStep}
 
 -- the host after a user's step, and the reply; a step that needs a handler is not made
 abbrev pub Makes : ℕ → Option PlainStep → Machine → Machine → Option Reply → Type 0

@@ -1,10 +1,5 @@
 -- The changes of an exec, in order.
-use Rattle.std.specs.Prelude.{ℕ, Bool, ◌==◌, ◌&&◌, not, filter, Option, Some, None}
-use Rattle.lwp_table.specs.declared.LwpData.{LwpData}
-use Rattle.proc_table.specs.declared.ProcData.{ProcData}
-use Rattle.proc_table.specs.Rows.{Rows}
-use Rattle.proc_table.specs.Edits.{map_lwps}
-use Rattle.trace_stop.specs.End.{released}
+use Rattle.requests.specs.CommonNames.{ℕ, Bool, ◌==◌, ◌&&◌, not, filter, Option, Some, None, LwpData, ProcData, Rows, map_lwps, released}
 
 -- an LWP of the process with another number
 abbrev pub is_other : ℕ → ℕ → LwpData → Bool

@@ -1,14 +1,8 @@
 -- The effect of a refused step, and an answer that the machine never gives.
-use Rattle.std.specs.Prelude.{◌≡◌, ◌≢◌, ℕ, Bool, true, false}
-use Rattle.pid_blocks.specs.Users.{IsUser}
-use Rattle.pid_blocks.specs.declared.Errno.TheVariants.{ENOMEM}
-use Rattle.requests.specs.Plain.{PlainStep}
-use Rattle.requests.specs.declared.Reply.{Reply}
-use Rattle.requests.specs.declared.Reply.TheVariants as reply
-use Rattle.requests.specs.Machine.{Machine}
+use Rattle.requests.specs.CommonNames.{◌≡◌, ◌≢◌, ℕ, Bool, true, false, IsUser, ENOMEM, PlainStep, Reply}
 use Rattle.requests.specs.Memory.{is_refusal}
 use Rattle.requests.specs.Sound.{sound}
-use Rattle.requests.specs.Step.{step}
+use Rattle.requests.specs.Step.{Machine, step}
 
 -- a refused step changes nothing
 abbrev pub RefusalChangesNothing : Type 0
@@ -16,16 +10,16 @@ RefusalChangesNothing = (u : ℕ) (s : PlainStep) (m : Machine) → IsUser u →
 
 -- a step that answers Nothing, as a wait or a handle does where no child has something to report, changes nothing
 abbrev pub NoReportChangesNothing : Type 0
-NoReportChangesNothing = (u : ℕ) (s : PlainStep) (m : Machine) → sound m ≡ true → (step u s m).reply ≡ reply.Nothing → (step u s m).machine ≡ m
+NoReportChangesNothing = (u : ℕ) (s : PlainStep) (m : Machine) → sound m ≡ true → (step u s m).reply ≡ Reply.Nothing → (step u s m).machine ≡ m
 
 -- the machine never runs out of memory: only a host answers ENOMEM
 abbrev pub NoStepRunsOutOfMemory : Type 0
-NoStepRunsOutOfMemory = (u : ℕ) (s : PlainStep) (m : Machine) → (step u s m).reply ≢ reply.Errno ENOMEM
+NoStepRunsOutOfMemory = (u : ℕ) (s : PlainStep) (m : Machine) → (step u s m).reply ≢ Reply.Errno ENOMEM
 
 -- whether an answer is a list of numbers
 abbrev pub is_listing : Reply → Bool
-is_listing (reply.Lwps tids) = true
-is_listing (reply.Pids pids) = true
+is_listing (Reply.Lwps tids) = true
+is_listing (Reply.Pids pids) = true
 is_listing r = false
 
 -- a step that answers a list changes nothing

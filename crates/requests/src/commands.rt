@@ -13,9 +13,8 @@ ghost use Rattle.trace_stop.specs.Facts.{IsSound};
 ghost use Rattle.lwpinfo.specs.Info.{info, lwp_list};
 ghost use Rattle.requests.specs.declared.Reply.TheVariants as reply;
 ghost use Rattle.requests.specs.Outcome.{Gives, answers, refuses};
-ghost use Rattle.requests.specs.Ptrace.{ptrace, is_trace_me, is_attach, target_of, told_stop, stepping, suspend, set_mask, continues_with, switched, shows_info};
+ghost use Rattle.requests.specs.Ptrace.{ptrace, is_trace_me, is_attach, target_of, told_stop, stepping, suspend, set_mask, continues_with, switched, shows_info, command, with_signal};
 ghost use Rattle.requests.specs.Callers.{IsCaller};
-ghost use Rattle.requests.specs.Commands.{command, with_signal};
 ghost use Rattle.requests.specs.Memory.{Attempts, lists};
 
 use crate::tracers::{attach, trace_me};
@@ -33,7 +32,7 @@ use trace_stop::{Settings, clear_stepping};
 /// Makes a request of ptrace(2) by a process that runs. A target up to 99999 names a process, and its LWP that reports
 /// a stop. A greater one names an LWP, and its process. Refused as the manual page says. An error means out of memory
 /// for the list of PT_GETLWPLIST. A refused request changes nothing, and nor does an error.
-#[tactic(auto, using(std::proofs::lemmas::Bool::Decides::nat_tests, crate::proofs::Asked::target_within, crate::proofs::Asked::asks_tracee))]
+#[tactic(auto, using(std::proofs::lemmas::Bool::Decides::nat_tests, crate::proofs::SoundAfterRequest::target_within, crate::proofs::SoundAfterRequest::asks_tracee))]
 pub fn ptrace(
     tables: &mut Tables,
     alloc: Global,
@@ -301,6 +300,7 @@ fn set_events(tables: &mut Tables, process: &ProcData, bits: u32) -> Reply
 }
 
 /// PT_FOLLOW_FORK and PT_LWP_EVENTS: sets the event in the mask of the process, or for 0 clears it.
+#[tactic(auto, using(std::proofs::lemmas::Bool::Decides::nat_tests, crate::proofs::Tracees::set_mask_as))]
 fn switch(tables: &mut Tables, process: &ProcData, event: EventMask, on: u32) -> Reply
     requires sound { IsSound tables.old.rows }
     requires at { process_of process.now.pid tables.old.rows.processes ≡ Some process.now }

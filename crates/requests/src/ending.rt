@@ -2,8 +2,8 @@
 
 ghost use Rattle.std.specs.Prelude.{◌≡◌, [], set, get_or, filter, if◌then◌else◌};
 ghost use Rattle.pid_blocks.specs.Blocks.{slot};
+ghost use Rattle.trace_stop.specs.Sound.{is_live_at};
 ghost use Rattle.requests.specs.Ending.{may_end};
-ghost use Rattle.requests.specs.Machine.{is_live_number};
 ghost use Rattle.requests.specs.Memory.{attempted_reply};
 ghost use Rattle.requests.specs.Plain.{bare};
 
@@ -37,7 +37,7 @@ pub fn drop_ended<F: Decider + Send + Drop, H>(
     done: &Result<Reply, AllocError>,
 )
     ensures { handlers.new ≡ (if may_end (bare asked.now) (attempted_reply done.now)
-        then set handlers.old (slot user) (filter (λ i. is_live_number tables.now.rows i.debugger) (get_or handlers.old (slot user) []))
+        then set handlers.old (slot user) (filter (λ i. is_live_at i.debugger tables.now.rows) (get_or handlers.old (slot user) []))
         else handlers.old) }
 {
     if may_end(asked, done) {

@@ -2,7 +2,8 @@
 
 ghost use Rattle.std.specs.Prelude.{◌≡◌, ℕ, ◌≤◌, ◌<◌, ◌++◌, ◌∷◌, [], Some, None, map, filter, length, set, get_or, option_map, slice_get, OnOk, OnErr, IfOk};
 ghost use Rattle.pid_blocks.specs.Blocks.{slot, users};
-ghost use Rattle.requests.specs.Machine.{Installed, is_live_number};
+ghost use Rattle.trace_stop.specs.Sound.{is_live_at};
+ghost use Rattle.requests.specs.Machine.{Installed};
 ghost use Rattle.requests.specs.Handle.{decided, is_decline, policies_in};
 
 use pid_blocks::{Pid, Uid};
@@ -143,7 +144,7 @@ impl<F: Decider + Send + Drop> HandlerList<F> {
 
     /// Drops the handlers of processes that have ended.
     fn drop_ended(&mut self, tables: &Tables)
-        ensures { self.new ≡ filter (λ i. is_live_number tables.now.rows i.debugger) self.old }
+        ensures { self.new ≡ filter (λ i. is_live_at i.debugger tables.now.rows) self.old }
     {
         self.installed
             .retain(|installed| is_live(tables, installed.debugger));
@@ -151,9 +152,9 @@ impl<F: Decider + Send + Drop> HandlerList<F> {
 }
 
 /// Returns whether a live process has the number.
-#[tactic(auto, using(crate::proofs::Living::live_found, crate::proofs::Living::live_none))]
+#[tactic(auto, using(crate::proofs::SoundAfterCall::live_found, crate::proofs::SoundAfterCall::live_none))]
 pub fn is_live(tables: &Tables, pid: Pid) -> bool
-    ensures { result ≡ is_live_number tables.now.rows pid }
+    ensures { result ≡ is_live_at pid tables.now.rows }
 {
     match tables.process(pid) {
         Some(p) => p.is_live(),
@@ -238,7 +239,7 @@ impl<F: Decider + Send + Drop> HandlerTable<F> {
 
     /// Drops the handlers of the user's processes that have ended.
     pub fn drop_ended(&mut self, user: Uid, tables: &Tables)
-        ensures { self.new ≡ set self.old (slot user) (filter (λ i. is_live_number tables.now.rows i.debugger) (get_or self.old (slot user) [])) }
+        ensures { self.new ≡ set self.old (slot user) (filter (λ i. is_live_at i.debugger tables.now.rows) (get_or self.old (slot user) [])) }
     {
         self.users[user.slot()].drop_ended(tables);
     }

@@ -1,8 +1,7 @@
 //! The text of replies.
 ghost use Rattle.std.specs.Prelude.{◌∷◌, Some, map, decimal};
 ghost use Rattle.std.specs.List.{join_with_byte};
-ghost use Rattle.requests.specs.Words.{index_text, decision_words, reply_words};
-ghost use Rattle.requests.specs.Texts.{view_words, rest_words};
+ghost use Rattle.requests.specs.Words.{index_text, decision_words, view_words, rest_words, reply_words};
 
 use crate::Reply;
 use itoa::Buffer;
@@ -20,6 +19,7 @@ struct Listed<'a> {
 impl fmt::Display for Listed<'_> {
     ghost output = { λ l. Some (join_with_byte 32 (l.word.now ∷ map (λ n. decimal n) l.numbers.now)) };
 
+    #[tactic(auto, using(std::proofs::lemmas::List::take_all, crate::proofs::Joins::spaced_words, std::proofs::lemmas::Bool::Decides::nat_tests))]
     fn fmt<W: fmt::Write>(&self, f: &mut fmt::Formatter<W>) -> fmt::Result {
         f.write_str(self.word)?;
         let mut digits = Buffer::new();

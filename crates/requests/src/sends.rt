@@ -48,7 +48,7 @@ fn next_other(tables: &Tables, user: Uid, caller: Pid, after: u32) -> Option<Pid
 
 /// Sends the signal to all of the user's processes except the caller, by rising number. Refused with ESRCH where there
 /// is none.
-#[tactic(auto, using(std::proofs::lemmas::Bool::Decides::nat_tests, crate::proofs::Sending::no_number, crate::proofs::Sending::reached_none, crate::proofs::Sending::next_smaller, crate::proofs::Sending::rest_next))]
+#[tactic(auto, using(std::proofs::lemmas::Bool::Decides::nat_tests, crate::proofs::Sending::reached_none, crate::proofs::Sending::next_smaller, crate::proofs::Sending::rest_next))]
 fn kill_others(tables: &mut Tables, settings: Settings, user: Uid, caller: Pid, pass: Pass) -> Reply
     requires sound { IsSound tables.old.rows }
     ensures { Gives (reached settings pass (reach user caller (negsuc 0) tables.old.rows) tables.old.rows)

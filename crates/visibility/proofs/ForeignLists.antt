@@ -12,25 +12,19 @@ use Rattle.visibility.proofs.Answered.{told_alike, answered_users}
 pub alike_lists : (u : ℕ) (xs ys : List Asked) → IsUser u → (m : Machine) → Apart m → AlikeLists u xs ys m
     → (own_replies u xs (view u m) ≡ own_replies u ys (view u m)) × (own_view u xs (view u m) ≡ own_view u ys (view u m))
 alike_lists u [] [] user m apart alike = (refl, refl)
-alike_lists u [] (y ∷ ys) user m apart alike = absurd alike
-alike_lists u (x ∷ xs) [] user m apart alike = absurd alike
 alike_lists u (x ∷ xs) (y ∷ ys) user m apart alike =
     let same = foreign_number m u x.step y.step user apart alike.0 in
     let by_x = alone_law m u x.step user apart in
     let by_y = alone_law m u y.step user apart in
     let rest = alike_lists u xs ys user (host_after u x.step m) (keeps_apart m u x.step user apart) alike.1 in
     rw (← by_x.0, ← by_x.1, ← by_y.0, ← by_y.1, ← same.0, ← same.1) (ap (λ rs. reply_of u x.step m ∷ rs) rest.0, rest.1)
-
--- the same from a host in which the others have rows too
-pub alike_views : (u : ℕ) (xs ys : List Asked) → IsUser u → (m : Machine) → Apart m → AlikeLists u xs ys (alone u m)
-    → (own_replies u xs (view u m) ≡ own_replies u ys (view u m)) × (own_view u xs (view u m) ≡ own_view u ys (view u m))
-alike_views u xs ys user m apart alike = rw (seen_alone m u user apart) at (alike_lists u xs ys user (alone u m) (alone_is_apart m u user apart) alike)
+alike_lists u xs ys user m apart alike = absurd alike
 
 pub foreign_numbers : ForeignNumbers
 foreign_numbers m k u xs ys user all each am ak same alike =
     let a = run_is xs m u user all am in
     let b = run_is ys k u user each ak in
-    rw (a.0, a.1, b.0, b.1, ← same) (alike_views u (asked_by u xs) (asked_by u ys) user m am alike)
+    rw (a.0, a.1, b.0, b.1, ← same) (rw (seen_alone m u user am) at (alike_lists u (asked_by u xs) (asked_by u ys) user (alone u m) (alone_is_apart m u user am) alike))
 
 -- two runs in which some steps ran out of memory
 pub foreign_runs : (xs ys : List Asked) (rs ss : List (Option Reply)) (m k m' k' : Machine) (u : ℕ) → IsUser u → Users xs → Users ys → Apart m → Apart k
@@ -56,9 +50,6 @@ seen_by_view m k u n user am ak same =
     let b = seen_in_view k u n user ak in
     (a.0 ∙ ap (λ v. seen_process u n (with_view u v).rows) same ∙ sym b.0, a.1 ∙ ap (λ v. seen_lwp u n (with_view u v).rows) same ∙ sym b.1)
 
-list_alike_itself : (u : ℕ) (xs : List Asked) (m : Machine) → AlikeLists u xs xs m
-list_alike_itself u [] m = tt
-list_alike_itself u (x ∷ xs) m = (step_alike_itself u m x.step, list_alike_itself u xs (host_after u x.step m))
-
 pub same_is_alike : SameIsAlike
-same_is_alike m u xs = list_alike_itself u xs m
+same_is_alike m u [] = tt
+same_is_alike m u (x ∷ xs) = (step_alike_itself u m x.step, same_is_alike (host_after u x.step m) u xs)

@@ -1,8 +1,7 @@
 -- Rows gathered by a walk: those had so far, and those that are left.
 use Rattle.visibility.proofs.CommonNames.{◌≡◌, ℕ, zero, suc, ◌+◌, ◌≤◌, List, [], ◌∷◌, ◌++◌, filter, map, drop, length, Option, Some, None, Bool, true, false, refl, arith, append_assoc, append-nil}
-use Rattle.visibility.proofs.CommonNames.{rules, slice_get, option_map, length-append, slice_get_within, ProcData, Rise, Rule, Installed, above, first_above, above_next}
+use Rattle.visibility.proofs.CommonNames.{rules, slice_get, option_map, length-append, slice_get_within, ProcData, Rise, Rule, Installed, above, first_above, above_next, get_or_from_slice_get}
 use Rattle.std.proofs.Math.Seq.{drop-cons}
-use Rattle.std.proofs.lemmas.Option.{get_or_from_slice_get}
 use Rattle.visibility.proofs.Answered.{map-push}
 
 -- one process more

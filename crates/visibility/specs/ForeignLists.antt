@@ -1,7 +1,5 @@
 -- Lists of all users' steps that differ in numbers that a user doesn't see.
-use Rattle.std.specs.Prelude.{◌≡◌, ℕ, List, [], ◌∷◌, Option}
-use Rattle.pid_blocks.specs.Users.{IsUser}
-use Rattle.proc_table.specs.Seen.{seen_process, seen_lwp}
+use Rattle.requests.specs.CommonNames.{◌≡◌, ℕ, List, [], ◌∷◌, Option, IsUser, seen_process, seen_lwp}
 use Rattle.requests.specs.declared.Reply.{Reply}
 use Rattle.requests.specs.Machine.{Machine}
 use Rattle.requests.specs.Run.{Asked, last, replies, asked_by}
@@ -12,9 +10,8 @@ use Rattle.requests.specs.Isolation.{Apart, Users, replies_to, host_after, Alike
 -- see there
 abbrev pub AlikeLists : ℕ → List Asked → List Asked → Machine → Type 0
 AlikeLists u [] [] m = Unit {0}
-AlikeLists u [] (y ∷ ys) m = ⊥
-AlikeLists u (x ∷ xs) [] m = ⊥
 AlikeLists u (x ∷ xs) (y ∷ ys) m = AlikeSteps u m x.step y.step × AlikeLists u xs ys (host_after u x.step m)
+AlikeLists u xs ys m = ⊥
 
 -- two lists of all users' steps, from hosts of which the user sees the same: where the user's own steps differ only in
 -- such numbers, the user's replies and the user's views at the end are the same

@@ -1,6 +1,5 @@
 -- Steps of a host, as the machine sees them, and their answers.
-use Rattle.std.specs.Prelude.{◌≡◌, ℕ, true, List, [], ◌∷◌, Option, Some, None, if◌then◌else◌}
-use Rattle.requests.specs.Plain.{PlainStep}
+use Rattle.requests.specs.CommonNames.{◌≡◌, ℕ, true, List, [], ◌∷◌, Option, Some, None, if◌then◌else◌, PlainStep}
 use Rattle.requests.specs.declared.Reply.{Reply}
 use Rattle.requests.specs.Machine.{Machine}
 use Rattle.requests.specs.Memory.{is_memory, may_want}
@@ -24,16 +23,14 @@ Did (Some r) u s m k = (r ≡ reply_of u s m) × (k ≡ host_after u s m)
 
 -- in a run from m, only steps that take memory and aren't refused run out of memory
 abbrev pub Wanting : List Asked → List (Option Reply) → Machine → Type 0
-Wanting [] rs m = Unit {0}
-Wanting (x ∷ xs) [] m = Unit {0}
 Wanting (x ∷ xs) (None ∷ rs) m = (may_want x.uid x.step m ≡ true) × Wanting xs rs m
 Wanting (x ∷ xs) (Some r ∷ rs) m = Wanting xs rs (host_after x.uid x.step m)
+Wanting xs rs m = Unit {0}
 
 -- P of the replies, if neither step ran out of memory
 abbrev pub BothTold : Option Reply → Option Reply → (Reply → Reply → Type 0) → Type 0
-BothTold None s P = Unit {0}
-BothTold (Some r) None P = Unit {0}
 BothTold (Some r) (Some q) P = P r q
+BothTold o p P = Unit {0}
 
 -- if the answered steps of a user are the same in two runs, so are the user's replies, and the user's views afterwards
 abbrev pub Agree : ℕ → List Asked → List Asked → List (Option Reply) → List (Option Reply) → Machine → Machine → Type 0

@@ -1,13 +1,9 @@
 -- The equality of views.
-use Rattle.std.specs.Prelude.{Bool, ◌&&◌, ◌==◌}
+use Rattle.requests.specs.CommonNames.{Bool, ◌&&◌, ◌==◌, LwpData, ProcData, Rule, Settings}
 use Rattle.std.specs.Cmp.Lexicographic.{pointwise}
-use Rattle.lwp_table.specs.declared.LwpData.{LwpData}
 use Rattle.lwp_table.specs.contracts.LwpDataPartialEq.TheImpl as lwps
-use Rattle.proc_table.specs.declared.ProcData.{ProcData}
 use Rattle.proc_table.specs.contracts.ProcDataPartialEq.TheImpl as processes
-use Rattle.stop_handlers.specs.declared.Rule.{Rule}
 use Rattle.stop_handlers.specs.contracts.RulePartialEq.TheImpl as policies
-use Rattle.trace_stop.specs.declared.Settings.{Settings}
 use Rattle.trace_stop.specs.contracts.SettingsPartialEq.TheImpl as settings
 use Rattle.requests.specs.Machine.{Installed}
 use Rattle.requests.specs.View.{View}

@@ -1,5 +1,5 @@
 use Rattle.requests.proofs.CommonNames.{sym, ◌∙◌, arith, nat_tests}
-use Rattle.requests.proofs.Asked.{named_own, reporting_own}
+use Rattle.requests.proofs.SoundAfterRequest.{named_own, reporting_own}
 use Rattle.requests.proofs.commands.ptrace.Goals as goal
 
 pub command-requires-clause-own : goal.command-requires-clause-own

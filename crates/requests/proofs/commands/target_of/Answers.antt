@@ -1,4 +1,4 @@
-use Rattle.requests.proofs.Asked.{own_row}
+use Rattle.requests.proofs.SoundAfterRequest.{own_row}
 use Rattle.requests.proofs.commands.target_of.Goals as goal
 
 pub returns-in-Some-clause-row : goal.returns-in-Some-clause-row

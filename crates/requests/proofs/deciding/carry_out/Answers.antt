@@ -1,5 +1,5 @@
 use Rattle.requests.proofs.CommonNames.{arith, nat_tests}
-use Rattle.requests.proofs.Handled.{continued, detached}
+use Rattle.requests.proofs.SoundAfterHandle.{continued, detached}
 use Rattle.requests.proofs.deciding.carry_out.Goals as goal
 
 pub returns-in-Continue : goal.returns-in-Continue

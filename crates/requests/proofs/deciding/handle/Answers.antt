@@ -1,5 +1,5 @@
 use Rattle.requests.proofs.CommonNames.{rules, refl, sym, ◌∙◌, [], get_or, slot, policies_in, process_of-pid}
-use Rattle.requests.proofs.Handled.{asked_at}
+use Rattle.requests.proofs.SoundAfterHandle.{asked_at}
 use Rattle.requests.proofs.Tracees.{gives_as}
 use Rattle.requests.proofs.deciding.handle.Goals as goal
 

@@ -1,13 +1,14 @@
-use Rattle.requests.proofs.CommonNames.{◌≡◌, ℕ, Bool, false, Some, ◌++◌, ◌∷◌, [], List, refl, sym, subst, rules, IsSomeAnd, LwpData, born, has_lwp, lwp_of, ProcData, process_of, Rows, is_process, arith}
-use Rattle.requests.proofs.CommonNames.{nat_tests, add_process, add_lwp, TableInvariant, Named, every_found, found_row, IsActing, HasLwp, forked, Due}
-use Rattle.requests.proofs.Actors.{acting_has, lwp_added, has-lwp_added, has-process_added, has-stop}
+use Rattle.requests.proofs.CommonNames.{same_number, ◌==◌, ◌≡◌, ℕ, Bool, false, Some, ◌++◌, ◌∷◌, [], List, refl, sym, subst, rules, IsSomeAnd, LwpData, born, has_lwp, lwp_of, ProcData, process_of}
+use Rattle.requests.proofs.CommonNames.{Rows, is_process, arith, nat_tests, add_process, add_lwp, TableInvariant, Named, every_found, found_row, IsActing, HasLwp, forked, Due}
+use Rattle.requests.proofs.Actors.{acting_has, has-lwp_added, has-process_added, has-stop}
+use Rattle.requests.proofs.SoundAfterTurn.{find_last}
 use Rattle.requests.proofs.forks.add_child.Goals as goal
 
 forked_named : (followed : Bool) (p : ProcData) (pid : ℕ) (rows : Rows) → TableInvariant rows → process_of p.pid rows.processes ≡ Some p → Named rows (forked followed p pid)
 forked_named followed p pid rows kept at = search (rules, every_found, found_row)
 
 child_found : (tid pid blocked : ℕ) (ls : List LwpData) → has_lwp tid ls ≡ false → IsSomeAnd (lwp_of tid (ls ++ (born tid pid blocked Due.Nothing ∷ []))) (λ l. l.pid ≡ pid)
-child_found tid pid blocked ls free = rw (lwp_added (born tid pid blocked Due.Nothing) ls free) refl
+child_found tid pid blocked ls free = rw (find_last (λ k. k.tid == tid) ls (born tid pid blocked Due.Nothing) free (same_number tid)) refl
 
 parent_there : (u : ℕ) (new : ProcData) (child : LwpData) (p : ProcData) (l : LwpData) (rows : Rows) → TableInvariant rows → is_process rows new.pid ≡ false → IsActing p l rows
     → HasLwp p.pid l.tid (add_lwp u child (add_process new rows))

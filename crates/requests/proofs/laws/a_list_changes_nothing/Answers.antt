@@ -1,5 +1,4 @@
-use Rattle.requests.proofs.RefusalsChangeNothing as the
 use Rattle.requests.proofs.laws.a_list_changes_nothing.Goals as goal
 
 pub returns : goal.returns
-returns c = the.listing_same
+returns c = Rattle.requests.proofs.RefusalsChangeNothing.listing_same

@@ -1,5 +1,4 @@
-use Rattle.requests.proofs.RefusalsChangeNothing as the
 use Rattle.requests.proofs.laws.a_refusal_changes_nothing.Goals as goal
 
 pub returns : goal.returns
-returns c = the.a_refusal_changes_nothing
+returns c = Rattle.requests.proofs.RefusalsChangeNothing.a_refusal_changes_nothing

@@ -1,5 +1,4 @@
 use Rattle.requests.proofs.laws.runs_stay_sound.Goals as goal
-use Rattle.requests.proofs.StaysSound as law
 
 pub returns-clause-runs : goal.returns-clause-runs
-returns-clause-runs c = law.sound_runs
+returns-clause-runs c = Rattle.requests.proofs.StaysSound.sound_runs

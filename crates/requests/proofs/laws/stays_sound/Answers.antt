@@ -1,5 +1,4 @@
 use Rattle.requests.proofs.laws.stays_sound.Goals as goal
-use Rattle.requests.proofs.StaysSound as law
 
 pub returns : goal.returns
-returns c = law.sound_kept
+returns c = Rattle.requests.proofs.StaysSound.sound_kept

@@ -1,4 +1,4 @@
-use Rattle.std.proofs.Common.{◌≡◌, length, take}
+use Rattle.visibility.proofs.CommonNames.{◌≡◌, length, take}
 use Rattle.visibility.proofs.equality.same_pairs.Given as goal
 
 abbrev pub invariant-loop-i : goal.invariant-loop-i

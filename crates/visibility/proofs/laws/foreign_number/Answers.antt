@@ -1,4 +1,4 @@
-use Rattle.visibility.specs.Runs.{told}
+use Rattle.visibility.proofs.CommonNames.{told}
 use Rattle.visibility.proofs.Steps.{did, unseen_numbers}
 use Rattle.visibility.proofs.laws.foreign_number.Goals as goal
 

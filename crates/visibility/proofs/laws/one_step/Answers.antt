@@ -1,4 +1,4 @@
-use Rattle.visibility.specs.Runs.{told}
+use Rattle.visibility.proofs.CommonNames.{told}
 use Rattle.visibility.proofs.Steps.{did, both_steps}
 use Rattle.visibility.proofs.laws.one_step.Goals as goal
 

@@ -1,4 +1,4 @@
-use Rattle.visibility.specs.Runs.{told}
+use Rattle.visibility.proofs.CommonNames.{told}
 use Rattle.visibility.proofs.Steps.{did, step_of_another}
 use Rattle.visibility.proofs.laws.other_step.Goals as goal
 

@@ -1,5 +1,4 @@
-use Rattle.visibility.proofs.Apart as laws
 use Rattle.visibility.proofs.machine.users_are_apart_at_first.Goals as goal
 
 pub returns : goal.returns
-returns c = laws.users_are_apart_at_first
+returns c = Rattle.visibility.proofs.Apart.users_are_apart_at_first

@@ -1,5 +1,4 @@
-use Rattle.requests.proofs.CommonNames.{◌≡◌, []}
-use Rattle.std.proofs.Math.ListN.{replicate}
+use Rattle.requests.proofs.CommonNames.{◌≡◌, [], replicate}
 use Rattle.requests.proofs.handlers.HandlerTable.new.Given as goal
 
 abbrev pub invariant-loop : goal.invariant-loop

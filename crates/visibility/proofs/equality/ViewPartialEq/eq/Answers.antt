@@ -1,4 +1,4 @@
-use Rattle.std.proofs.Common.{rules}
+use Rattle.visibility.proofs.CommonNames.{rules}
 use Rattle.visibility.proofs.Pairs.{exact_of}
 use Rattle.visibility.proofs.equality.ViewPartialEq.eq.Goals as goal
 
