@@ -48,10 +48,8 @@ pub record Ended (p : ProcData) (w : ℕ) : Type 0 where
   pub collector : p.tracer ≡ None → p.parent ≢ 1
 
 abbrev pub IfEnded : ProcData → State → Type 0
-IfEnded p Run = Unit {0}
-IfEnded p (Trace tid sig told) = Unit {0}
-IfEnded p (Job sig told) = Unit {0}
 IfEnded p (Zombie w) = Ended p w
+IfEnded p other = Unit {0}
 
 -- an untraced process has nothing that only a tracer gives, and no pending signal whose action is nothing
 pub record Untraced (p : ProcData) : Type 0 where
