@@ -5,9 +5,6 @@ use Rattle.lwp_table.proofs.CommonNames.{IsNearest, IsChain, AreApart, up, down,
 pub lt_or_le : (a b : ℕ) → (a < b) ⊎ (b ≤ a)
 lt_or_le a b = grind (arith)
 
-pub leads_to-self : (s : ℕ) → leads_to (Some s) s ≡ true
-leads_to-self s = grind (arith, nat_tests)
-
 -- a link that leads to a slot is that slot's
 pub leads : (o : Option ℕ) (s : ℕ) → leads_to o s ≡ true → o ≡ Some s
 leads o s is = grind (arith, nat_tests)

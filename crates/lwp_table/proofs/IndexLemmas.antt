@@ -1,5 +1,5 @@
 -- From slots with birth numbers to the rows in order of birth, and what a change of one slot does.
-use Rattle.lwp_table.proofs.CommonNames.{◌≡◌, ◌≢◌, ℕ, suc, ◌+◌, not, List, [], ◌∷◌, ◌++◌, Option, Some, None, IsSome, refl, sym, ap, ◌∙◌, arith, cond, nat_eq, rules, lookup, option_map, IsSomeAnd}
+use Rattle.lwp_table.proofs.CommonNames.{◌≡◌, ◌≢◌, ℕ, ◌+◌, not, List, [], ◌∷◌, ◌++◌, Option, Some, None, IsSome, refl, sym, ap, ◌∙◌, arith, cond, nat_eq, rules, lookup, option_map, IsSomeAnd}
 use Rattle.lwp_table.proofs.CommonNames.{cases_eq, nat_tests, same_Some, some_pair_parts, LwpData, Slot, lwp_of, put_lwp, with_lwp, without_lwp, Differ, born_row, rows_of, IsIndexed}
 use Rattle.lwp_table.proofs.WordLemmas.{test_same, test_apart}
 use Rattle.lwp_table.proofs.ListLemmas.{AreNumbered, differ-listing, listing-end, listing-same, lwp_of-none, lwp_of-listing, listing-kept, listing-mapped}

@@ -1,5 +1,5 @@
 -- A user's queries, where no other user has rows.
-use Rattle.proc_table.proofs.CommonNames.{nat_tests, ◌≡◌, ℕ, zero, suc, ◌+◌, ◌<◌, ◌≤◌, List, [], ◌∷◌, filter, find, Bool, true, false, cond, ◌&&◌, leb, ltb, if◌then◌else◌, Option, Some, None, refl}
+use Rattle.proc_table.proofs.CommonNames.{nat_tests, ◌≡◌, ℕ, zero, suc, ◌+◌, ◌<◌, ◌≤◌, List, [], ◌∷◌, filter, find, Bool, true, false, cond, ◌&&◌, leb, ltb, if◌then◌else◌, Option, Some, refl}
 use Rattle.proc_table.proofs.CommonNames.{ap₂, arith, nat_eq, rules, count_by, get_or, AllByRecursion, list_any, cases_Bool, sum_by-cons, IsUser, Block, pid_block, tid_block, slot, first_free}
 use Rattle.proc_table.proofs.CommonNames.{next_free, InBlock, ProcData, LwpData, of_user, Rows, owns, is_process, is_lwp, process_count, lwp_count_of, fresh_pid, fresh_tid, InOwnersBlock}
 use Rattle.proc_table.proofs.CommonNames.{TableInvariant, only_of, SeesOwn, NextSeesOwn, ProcessSeesOwn, LwpSeesOwn, NumberSeesOwn, CountsSeeOwn, FreshSeesOwn}
@@ -66,9 +66,6 @@ counts_own = (process_count_own, lwp_count_own)
 first_free-same : (taken other : ℕ → Bool) (count n : ℕ) → ((m : ℕ) → n ≤ m → m < n + count → taken m ≡ other m) → first_free taken count n ≡ first_free other count n
 first_free-same taken other zero n h = refl
 first_free-same taken other (suc count) n h = ap₂ (λ (b : Bool) (r : Option ℕ). elim b [ true ↦ r | false ↦ Some n ]) (h n (omega arith) (omega arith)) (first_free-same taken other count (n + 1) (λ m le lt. h m (omega arith) (omega arith)))
-
-abbrev or_next : Option ℕ → Option ℕ → Option ℕ
-or_next o p = elim o [ Some n ↦ Some n | None ↦ p ]
 
 pub next_free-same : (b : Block) (cursor : ℕ) (taken other : ℕ → Bool) → InBlock b cursor → ((n : ℕ) → InBlock b n → taken n ≡ other n) → next_free b cursor taken ≡ next_free b cursor other
 next_free-same b cursor taken other i h = search (rules, ap₂, first_free-same)
