@@ -51,9 +51,7 @@ module _ (f g : ℕ → Option Node) (apart : AreApart f) (t : ℕ) (first last 
   -- the nearest node before the node is the only place that leads to it
   no_link_up : (P : ℕ → Type 0) (o b : Option ℕ) → IsNearest up f t P o → IsNearest down f t (below old.key) b → ((s : ℕ) (was : Node) → b ≡ Some s → f s ≡ Some was → was.list ≡ t → P was.key) → b ≢ None → o ≢ Some q
   no_link_up P o None near prev after some is = some refl
-  no_link_up P o (Some p) near prev after some is =
-      let its = found up P o q old is has near in
-      omega (arith, its.1 p prev.0 prev.1 prev.2 (after p prev.0 refl prev.1 prev.2), prev.3)
+  no_link_up P o (Some p) near prev after some is = omega (arith, (found up P o q old is has near).1 p prev.0 prev.1 prev.2 (after p prev.0 refl prev.1 prev.2), prev.3)
 
   prev_q : IsNearest down f t (below old.key) old.prev
   prev_q = chain.prev_is q old has list

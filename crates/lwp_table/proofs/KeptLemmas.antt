@@ -244,9 +244,7 @@ module _ {f : ℕ → Option Slot} {es : List (ℕ × ℕ)} {hs : List (ℕ × E
       still node le t P o keys not near = grind (arith, nat_tests, came, same_Some)
 
       pub neighbours : IfSome old.own.prev (λ s. IsSome (rest s)) × IfSome old.own.next (λ s. IsSome (rest s)) × IfSome old.all.prev (λ s. IsSome (rest s)) × IfSome old.all.next (λ s. IsSome (rest s))
-      neighbours =
-          let own = kept.own old.row.pid in
-          grind (arith, nat_tests, still, own.prev_is q (own_node old), own.next_is q (own_node old), kept.whole.prev_is q (all_node old), kept.whole.next_is q (all_node old))
+      neighbours = grind (arith, nat_tests, still, (kept.own old.row.pid).prev_is q (own_node old), (kept.own old.row.pid).next_is q (own_node old), kept.whole.prev_is q (all_node old), kept.whole.next_is q (all_node old))
 
   -- a row goes
   module _ (tid q : ℕ) (old : Slot) (g : ℕ → Option Slot) (es' : List (ℕ × ℕ)) (left : Ends) (leaves : HasLeft f es hs tid q old g es' left) where
@@ -283,9 +281,7 @@ module _ {f : ℕ → Option Slot} {es : List (ℕ × ℕ)} {hs : List (ℕ × E
 
     -- a list with no first row is empty
     pub left_empty : left.first ≡ None → left ≡ no_ends
-    left_empty none =
-        let zero = count-none (is_of old.row.pid) (rows_of g es' births) (grind (arith, nat_tests, first-row g es' births indexed old.row.pid None, chain_left)) in
-        grind (arith, nat_tests, no_last (seen_by own_node g) old.row.pid left.last, chain_left, fewer (is_of old.row.pid), leaves.count, kept.counted old.row.pid, leaves.pends)
+    left_empty none = grind (arith, nat_tests, no_last (seen_by own_node g) old.row.pid left.last, chain_left, fewer (is_of old.row.pid), leaves.count, kept.counted old.row.pid, leaves.pends, count-none (is_of old.row.pid) (rows_of g es' births) (grind (arith, nat_tests, first-row g es' births indexed old.row.pid None, chain_left)))
 
     module _ (hs' : List (ℕ × Ends)) (all' : Ends) (ends : (p : ℕ) → ends_at hs' p ≡ cond (nat_eq old.row.pid p) left (ends_at hs p))
         (all_first : all'.first ≡ cond (is_none old.all.prev) old.all.next all.first) (all_last : all'.last ≡ cond (is_none old.all.next) old.all.prev all.last) (all_fewer : all'.count + 1 ≡ all.count)
