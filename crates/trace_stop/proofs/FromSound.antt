@@ -1,13 +1,14 @@
 -- The test of soundness, and soundness as facts: each gives the other.
-use Rattle.trace_stop.proofs.CommonNames.{nat_tests, AllByRecursion, list_any, list_all, le-leb, leb-true, IsUser, pid_block, tid_block, in_block, InBlock, slot, users, rising, LwpData, Mode, Differ, LacksLwp, ProcData, is_live, is_run}
-use Rattle.trace_stop.proofs.CommonNames.{is_job, reporting, Rows, process_count, lwp_count_of, lwp_count, Rise, AllAbove, InOwnBlock, InOwnersBlock, unwanted, rises, differ, implies, holds, exists, of_owner, is_live_of}
-use Rattle.trace_stop.proofs.CommonNames.{sound_numbers, sound_limits, names_own, is_state, waits_for, sound_lwp, sound_rows, IsLiveChild, Linked, State, IfEnded, FitProcess, waited_for, Standing, FitLwp, IsSound, ◌≡◌, ℕ, zero, suc, ◌+◌}
+use Rattle.trace_stop.proofs.CommonNames.{nat_tests, AllByRecursion, list_any, list_all, le-leb, leb-true, IsUser, pid_block, tid_block, in_block, InBlock, slot, users, rising, LwpData, Mode, Differ, ProcData, is_live, is_run}
+use Rattle.trace_stop.proofs.CommonNames.{is_job, reporting, Rows, process_count, lwp_count_of, lwp_count, Rise, InOwnBlock, InOwnersBlock, unwanted, pairwise, implies, holds, exists, of_owner, is_live_of}
+use Rattle.trace_stop.proofs.CommonNames.{sound_numbers, sound_limits, names_own, is_state, is_live_child, sound_lwp, sound_rows, IsLiveChild, Linked, State, IfEnded, FitProcess, waited_for, Standing, FitLwp, IsSound, ◌≡◌, ℕ, zero, suc, ◌+◌}
 use Rattle.trace_stop.proofs.CommonNames.{◌<◌, ◌≤◌, List, [], ◌∷◌, length, map, Bool, true, ◌==◌, ◌&&◌, ◌||◌, not, Option, None, is_some, is_none, IfSome, refl, arith, eqb-true, eq-eqb, rules}
 use Rattle.std.proofs.Common.{zip, leb, ltb, get_or}
 use Rattle.std.specs.Bool.{Decides}
 use Rattle.std.specs.Int.RustNames.{bit_and}
 use Rattle.pid_blocks.specs.declared.Block.{Block}
 use Rattle.trace_stop.specs.End.{meets}
+use Rattle.proc_table.proofs.Changes.{map-id}
 use Rattle.trace_stop.proofs.Every.{implies_at, implies_from, not_true, All-from_list_all, list_all-from_All}
 use Rattle.trace_stop.proofs.CommonLemmas.{and_left, and_right, both, All-imply, All-both}
 
@@ -49,30 +50,22 @@ zip_users q xs d h = zip_from q 64 1001 xs d (λ k lt. let place : slot (1001 + 
 block_tells : (b : Block) (n : ℕ) → Decides (in_block b n) (InBlock b n)
 block_tells b n = grind (arith, nat_tests)
 
-above_tells : (n : ℕ) (ps : List ProcData) → Decides (list_all (λ m. ltb n m) (map (λ p. p.pid) ps)) (AllAbove n ps)
-above_tells n [] = (λ is. tt, λ h. refl)
-above_tells n (p ∷ ps) = grind (arith, nat_tests, above_tells n ps)
-
-rises_tells : (ps : List ProcData) → Decides (rises (map (λ p. p.pid) ps)) (Rise ps)
-rises_tells [] = (λ is. tt, λ h. refl)
-rises_tells (p ∷ ps) = grind (arith, above_tells p.pid ps, rises_tells ps)
-
-lacks_tells : (n : ℕ) (ls : List LwpData) → Decides (not (list_any (λ m. m == n) (map (λ l. l.tid) ls))) (LacksLwp n ls)
-lacks_tells n [] = (λ is. tt, λ h. refl)
-lacks_tells n (l ∷ ls) = grind (arith, nat_tests, lacks_tells n ls)
-
-differ_tells : (ls : List LwpData) → Decides (differ (map (λ l. l.tid) ls)) (Differ ls)
-differ_tells [] = (λ is. tt, λ h. refl)
-differ_tells (l ∷ ls) = grind (arith, lacks_tells l.tid ls, differ_tells ls)
+mapped_tells : {X Y : Type 0} (f : X → Y) (q : Y → Bool) (P : X → Type 0) → ((x : X) → Decides (q (f x)) (P x)) → (xs : List X) → Decides (list_all q (map f xs)) (AllByRecursion P xs)
+mapped_tells f q P h [] = (λ is. tt, λ h. refl)
+mapped_tells f q P h (x ∷ xs) = grind (arith, h x, mapped_tells f q P h xs)
 
 every_tells : {X : Type 0} (q : X → Bool) (P : X → Type 0) → ((x : X) → Decides (q x) (P x)) → (xs : List X) → Decides (list_all q xs) (AllByRecursion P xs)
-every_tells q P h [] = (λ is. tt, λ h. refl)
-every_tells q P h (x ∷ xs) = grind (arith, h x, every_tells q P h xs)
+every_tells q P h xs = rw map-id at (mapped_tells (λ x. x) q P h xs)
+
+rises_tells : (ps : List ProcData) → Decides (pairwise ltb (map (λ p. p.pid) ps)) (Rise ps)
+rises_tells [] = (λ is. tt, λ h. refl)
+rises_tells (p ∷ ps) = grind (arith, mapped_tells (λ (q : ProcData). q.pid) (ltb p.pid) (λ q. p.pid < q.pid) (λ q. grind (arith, nat_tests)) ps, rises_tells ps)
+
+differ_tells : (ls : List LwpData) → Decides (pairwise (λ m n. not (n == m)) (map (λ l. l.tid) ls)) (Differ ls)
+differ_tells [] = (λ is. tt, λ h. refl)
+differ_tells (l ∷ ls) = grind (arith, mapped_tells (λ (k : LwpData). k.tid) (λ n. not (n == l.tid)) (λ k. k.tid ≡ l.tid → ⊥) (λ k. grind (arith, nat_tests)) ls, differ_tells ls)
 
 -- a process on its own, an LWP's process, and what rows say of them
-
-pub none_is : {X : Type 0} (o : Option X) → is_none o ≡ true → o ≡ None
-none_is o is = grind (arith, is)
 
 home_tells : (p : ProcData) → Decides (list_any (λ u. u == p.uid) users && in_block (pid_block p.uid) p.pid) (InOwnBlock p)
 home_tells p =
@@ -112,7 +105,7 @@ fit_from rows p is = search (rules, and_left, and_right, implies_at, none_tells,
 fit_test : (rows : Rows) (p : ProcData) → IfSome (reporting p) (λ tid. names_own rows p tid ≡ true) → FitProcess p → state_test rows p ≡ true
 fit_test rows p named f = grind (arith, nat_tests)
 
-waits_tell : (rows : Rows) (p : ProcData) (m : Mode) → Decides (waits_for rows p m) (IfSome (waited_for m) (IsLiveChild rows p))
+waits_tell : (rows : Rows) (p : ProcData) (m : Mode) → Decides (holds (is_live_child rows p) (waited_for m)) (IfSome (waited_for m) (IsLiveChild rows p))
 waits_tell rows p m = grind (arith, nat_tests)
 
 standing_from : (rows : Rows) (p : ProcData) (l : LwpData) → is_live p ≡ true → sound_lwp rows p l ≡ true → Standing rows p l
