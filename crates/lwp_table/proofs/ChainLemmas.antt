@@ -1,6 +1,14 @@
 -- What becomes of a list where a node leaves it.
 use Rattle.lwp_table.proofs.CommonNames.{◌≡◌, ◌≢◌, ℕ, ◌<◌, ◌≤◌, Bool, true, false, Option, Some, None, refl, ap, ◌∙◌, arith, inl, inr, ◌⊎◌, cond, is_none, nat_tests, same_Some, option_map, Node}
-use Rattle.lwp_table.proofs.CommonNames.{IsNearest, IsChain, AreApart, up, down, anywhere, above, below, leads_to, bridged}
+use Rattle.lwp_table.proofs.CommonNames.{IsNearest, IsChain, up, down, anywhere, above, below, leads_to}
+
+-- no two slots have the same key
+abbrev pub AreApart : (ℕ → Option Node) → Type 0
+AreApart f = (i j : ℕ) (a b : Node) → f i ≡ Some a → f j ≡ Some b → a.key ≡ b.key → i ≡ j
+
+-- the node, after the one between `prev` and `next` has left its list
+abbrev pub bridged : Option ℕ → Option ℕ → ℕ → Node → Node
+bridged prev next s node = record node { prev = cond (leads_to next s) prev node.prev; next = cond (leads_to prev s) next node.next }
 
 pub lt_or_le : (a b : ℕ) → (a < b) ⊎ (b ≤ a)
 lt_or_le a b = grind (arith)

@@ -1,12 +1,12 @@
 -- What a table keeps after each change, and the rows that it then has.
 use Rattle.lwp_table.proofs.CommonNames.{◌≡◌, ◌≢◌, ℕ, ◌+◌, ◌-◌, ◌<◌, ◌≤◌, Bool, true, false, ◌&&◌, ◌||◌, not, List, [], ◌∷◌, ◌++◌, Option, Some, None, IsSome, IfSome, is_some, refl, sym, ap, subst}
 use Rattle.lwp_table.proofs.CommonNames.{◌∙◌, arith, inl, inr, cond, nat_eq, is_none, length, count_by, get_or, set, unwrap_or, replicate, rules, lookup, option_map, option_or, IsSomeAnd, eqb_tells}
-use Rattle.lwp_table.proofs.CommonNames.{nat_tests, same_Some, get_or-replicate, length-map, LwpData, Slot, Ends, lwp_of, put_lwp, with_lwp, without_lwp, Differ, Node, IsNearest, IsChain, AreApart}
-use Rattle.lwp_table.proofs.CommonNames.{up, down, anywhere, joined, bridged, own_node, seen_by, all_node, is_of, is_at, place_of, linked, closed_up, ends_at, may_pend, marked, no_ends}
+use Rattle.lwp_table.proofs.CommonNames.{nat_tests, same_Some, get_or-replicate, length-map, LwpData, Slot, Ends, lwp_of, put_lwp, with_lwp, without_lwp, Differ, Node, IsNearest, IsChain}
+use Rattle.lwp_table.proofs.CommonNames.{up, down, anywhere, joined, own_node, seen_by, all_node, is_of, is_at, place_of, linked, closed_up, ends_at, may_pend, marked, no_ends}
 use Rattle.lwp_table.proofs.CommonNames.{born_row, rows_of, IsIndexed, LwpTableInvariant}
 use Rattle.lwp_table.specs.declared.links.Link.TheVariants.{NextOwn, NextAll}
 use Rattle.lwp_table.proofs.WordLemmas.{both_calm, test_same, test_apart}
-use Rattle.lwp_table.proofs.ChainLemmas.{IsChain-left, IsChain-left_other}
+use Rattle.lwp_table.proofs.ChainLemmas.{AreApart, bridged, IsChain-left, IsChain-left_other}
 use Rattle.lwp_table.proofs.JoinLemmas.{IsChain-appended, IsChain-appended_other}
 use Rattle.lwp_table.proofs.Numbered.{count-without, count-put}
 use Rattle.lwp_table.proofs.WalkLemmas.{first-row}

@@ -1,9 +1,9 @@
 -- What becomes of all lists where a node joins or leaves one.
 use Rattle.proc_table.proofs.CommonNames.{◌≡◌, ◌≢◌, ℕ, ◌<◌, false, Option, Some, None, refl, sym, ap, ◌∙◌, arith, inl, inr, cond, is_none, nat_eq, rules, cases_lt, eqb_tells, nat_tests}
-use Rattle.proc_table.proofs.CommonNames.{some_pair_parts, same_Some, option_map, option_and_then, IsNearest, IsChain, AreApart, up, down, above, below, leads_to, Node, keys, IsNext, members}
+use Rattle.proc_table.proofs.CommonNames.{some_pair_parts, same_Some, option_map, option_and_then, IsNearest, IsChain, up, down, above, below, leads_to, Node, keys, IsNext, members}
 use Rattle.proc_table.proofs.CommonNames.{at_least, IsLinked, forward, backward, hung}
 use Rattle.lwp_table.specs.Chain.{Node as Member}
-use Rattle.lwp_table.proofs.ChainLemmas.{IsChain-left, IsChain-left_other}
+use Rattle.lwp_table.proofs.ChainLemmas.{AreApart, IsChain-left, IsChain-left_other}
 use Rattle.lwp_table.proofs.JoinLemmas.{IsChain-joined, IsChain-joined_other}
 use Rattle.proc_table.specs.Links.{member}
 use Rattle.proc_table.proofs.Rows.{same_number, other_number}

@@ -1,10 +1,15 @@
 -- The list of all rows that numbers find.
 use Rattle.proc_table.proofs.CommonNames.{◌≡◌, ℕ, zero, suc, ◌+◌, ◌<◌, ◌≤◌, false, [], Option, Some, None, IsSome, refl, nat_eq, cond, arith, ◌⊎◌, map, filter, not, AllByRecursion}
-use Rattle.proc_table.proofs.CommonNames.{cons_option, list_any, nat_tests, ProcData, process_of, placed, AllAbove, Rise, InOwnBlock, put_process, listing, pid_count, pid_count-is, all_rows}
+use Rattle.proc_table.proofs.CommonNames.{cons_option, list_any, nat_tests, ProcData, process_of, placed, AllAbove, Rise, InOwnBlock, put_process, listing, all_rows}
+use Rattle.proc_table.specs.Slots.{pid_count}
 use Rattle.proc_table.proofs.Rows.{put_process-pid}
 use Rattle.proc_table.proofs.Rising.{none_above, Rise-map, Rise-filter, Lacks-from_any}
 use Rattle.proc_table.proofs.Placed.{Rise-placed}
 use Rattle.proc_table.proofs.Finds.{find-set, find-without, find-placed, rising_same}
+
+pid_count-is : pid_count ≡ 64000
+unfolding pid_count
+pid_count-is = refl
 
 -- each number finds its own row, which is at home
 pub record IsFound (f : ℕ → Option ProcData) : Type 0 where

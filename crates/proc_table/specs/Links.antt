@@ -12,13 +12,9 @@ pub record Node : Type 0 where
   pub prev : Option ℕ
   pub next : Option ℕ
 
--- what lists are built from: a node's pid and the number whose list contains it
-abbrev pub key_of : Node → ℕ × Option ℕ
-key_of node = (node.pid, node.list_owner)
-
--- the key at each slot
+-- what lists are built from, at each slot: the node's pid and the number whose list contains it
 abbrev pub keys : (ℕ → Option Node) → ℕ → Option (ℕ × Option ℕ)
-keys nodes slot = option_map key_of (nodes slot)
+keys nodes slot = option_map (λ node. (node.pid, node.list_owner)) (nodes slot)
 
 -- the slot `o` has the least pid above `after` in the list of t, or there is none
 abbrev pub IsNext : (ℕ → Option (ℕ × Option ℕ)) → ℕ → ℕ → Option ℕ → Type 0

@@ -1,5 +1,5 @@
 -- How slots contain the rows of processes: a slot for each number, and a row in each slot.
-use Rattle.proc_table.specs.CommonNames.{◌≡◌, ℕ, List, ◌==◌, Option, Some, nat_eq, count_by, get_or, refl, option_and_then, lookup, IsUser, slot, listing, ProcData}
+use Rattle.proc_table.specs.CommonNames.{◌≡◌, ℕ, List, ◌==◌, Option, Some, nat_eq, count_by, get_or, option_and_then, lookup, IsUser, slot, listing, ProcData}
 use Rattle.proc_table.specs.Kept.{InOwnBlock}
 
 -- what contracts see of the processes alone: the rows by rising number, and how many more fit without allocation
@@ -8,12 +8,8 @@ pub record ProcRows : Type 0 where
   pub spare : ℕ
 
 -- how many numbers all blocks have together. It does not unfold, so no list of all numbers is ever computed
-pub pid_count : ℕ
+unfoldable pub pid_count : ℕ
 pid_count = 64000
-
-pub pid_count-is : pid_count ≡ 64000
-unfolding pid_count
-pid_count-is = refl
 
 -- the rows of all numbers, by rising number
 abbrev pub all_rows : (ℕ → Option ProcData) → List ProcData

@@ -8,7 +8,7 @@ pub use Rattle.trace_stop.specs.CommonNames.{is_this, length, list_all, list_any
 pub use Rattle.trace_stop.specs.CommonNames.{pid_block, process_count, process_of, reporting, set_lwp, shows, slot, suc, tid_block, traces, true, users, without, zero, ℕ, ◌&&◌, ◌==◌, ◌||◌, ◌∷◌, ◌≡◌}
 pub use Rattle.trace_stop.specs.CommonNames.{Job, count_by, filter, find, keep, is_process, by_owner, edit_lwps, owns, only_of, LeastOrNone, ◌<◌, ◌≢◌, ◌≤◌}
 pub use Rattle.std.specs.List.{cons_option}
-pub use Rattle.proc_table.specs.CommonNames.{cursor_after, nat_eq, refl, with_lwp, without_lwp, ◌++◌, ◌+◌}
+pub use Rattle.proc_table.specs.CommonNames.{cursor_after, nat_eq, with_lwp, without_lwp, ◌++◌, ◌+◌}
 pub use Rattle.pid_blocks.specs.Blocks.{rising}
 pub use Rattle.lwp_table.specs.Lwps.{LacksLwp, Once, first_lwp}
 pub use Rattle.proc_table.specs.Edits.{own_lwp}
@@ -36,7 +36,7 @@ pub use Rattle.proc_table.proofs.Rising.{Lacks-from_any, none_above, once}
 pub use Rattle.proc_table.proofs.Rows.{found_row, lwp_of-tid, process_of-pid}
 pub use Rattle.proc_table.proofs.Stays.{named-same, process_there}
 pub use Rattle.signals.specs.Dispositions.{Actions}
-pub use Rattle.std.proofs.Common.{IsSome, ap, arith, cond, eq-eqb, eqb-true, inl, inr, length-set, rules, subst, sym, true≢false, ◌∙◌, ◌⊎◌}
+pub use Rattle.std.proofs.Common.{IsSome, ap, arith, cond, eq-eqb, eqb-true, inl, inr, length-set, refl, rules, subst, sym, true≢false, ◌∙◌, ◌⊎◌}
 
 -- the tracer of a process that was found
 abbrev pub tracer_in : Option ProcData → Option ℕ

@@ -11,8 +11,7 @@ abbrev pub edited : Edit → LwpData → LwpData
 edited (Settle lost) l = record l { pending = without l.pending lost }
 edited (Post s to lost) l = record l { pending = without (signal_put s (is_this l.tid to) l.pending) lost }
 edited ClearStepping l = record l { stepping = false }
-edited (Detach lost unwanted) l =
-    record l { stepping = false; suspended = false; due = Nothing; pending = without (without l.pending lost) unwanted }
+edited (Detach lost unwanted) l = record l { stepping = false; suspended = false; due = Nothing; pending = without (without l.pending lost) unwanted }
 
 -- the rows in which no LWP of a process steps
 abbrev pub steps_cleared : ℕ → Rows → Rows

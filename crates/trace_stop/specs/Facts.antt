@@ -3,8 +3,7 @@ use Rattle.trace_stop.specs.CommonNames.{◌≡◌, ◌≢◌, ◌≤◌, ℕ, t
 use Rattle.trace_stop.specs.CommonNames.{unblockable_set, shows, PL_FLAG_EXITED, LwpData, Differ, ProcData, State, Zombie, is_live, is_run, is_job, reporting, is_this, process_of, Rows, process_count}
 use Rattle.trace_stop.specs.CommonNames.{lwp_count_of, lwp_count, Rise, InOwnBlock, InOwnersBlock}
 use Rattle.trace_stop.specs.Post.{unwanted}
-use Rattle.trace_stop.specs.End.{meets}
-pub use Rattle.trace_stop.specs.End.{waited_for}
+pub use Rattle.trace_stop.specs.End.{meets, waited_for}
 use Rattle.trace_stop.specs.Sound.{is_live_of, is_live_child, is_end, names_own, is_due, mode_fits}
 
 -- a live process of the user has the number
