@@ -12,9 +12,6 @@ use Rattle.event_masks.specs.Names.{event_table, stop_table}
 abbrev pub mask : ℕ → EventMask
 mask bits = record { 0 = bits }
 
-abbrev pub flags : ℕ → StopFlags
-flags bits = record { 0 = bits }
-
 -- the mask with these bits, if each is an event's
 abbrev pub mask_of_bits : ℕ → Option EventMask
 mask_of_bits bits = if bit_or bits all_events == all_events then Some (mask bits) else None
@@ -28,4 +25,4 @@ events_named name =
 
 -- the stop flag with the name
 abbrev pub flag_named : List ℕ → Option StopFlags
-flag_named name = option_map (λ bits. flags bits) (find_name stop_table name)
+flag_named name = option_map (λ bits. record { 0 = bits }) (find_name stop_table name)

@@ -7,7 +7,8 @@ pub record ProcRows : Type 0 where
   pub rows : List ProcData
   pub spare : ℕ
 
--- how many numbers all blocks have together. It does not unfold, so no list of all numbers is ever computed
+-- how many numbers all blocks have together. It unfolds only where a proof says so, and no list of all numbers is ever
+-- computed
 unfoldable pub pid_count : ℕ
 pid_count = 64000
 
