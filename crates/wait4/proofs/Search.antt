@@ -1,10 +1,6 @@
 -- Searches for the child that is reported.
-use Rattle.std.proofs.Common.{◌≡◌, ℕ, ◌≤◌, List, [], ◌∷◌, filter, find, Bool, ◌&&◌, ◌||◌, Option, Some, None, refl, arith, nat_eq, if◌then◌else◌, rules}
-use Rattle.trace_stop.proofs.CommonNames.{AllByRecursion, list_any, cases_Bool, nat_tests, ProcData, keep, process_of, AllAbove, Rise, InOwnBlock}
-use Rattle.proc_table.proofs.Rising.{none_above}
-use Rattle.trace_stop.proofs.Passes.{found_above}
-use Rattle.wait4.specs.declared.Collected.TheVariants.{Nothing, NoChild}
-use Rattle.wait4.specs.Collect.{lesser, answer}
+use Rattle.wait4.proofs.CommonNames.{◌≡◌, ℕ, ◌≤◌, List, [], ◌∷◌, filter, find, Bool, ◌&&◌, ◌||◌, Option, Some, None, refl, arith, nat_eq, if◌then◌else◌, rules, AllByRecursion, list_any, cases_Bool}
+use Rattle.wait4.proofs.CommonNames.{nat_tests, ProcData, keep, process_of, AllAbove, Rise, InOwnBlock, none_above, found_above, Nothing, NoChild, lesser, answer}
 
 -- The first of two kinds is the lesser of the first ones of each
 

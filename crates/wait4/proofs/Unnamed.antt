@@ -1,9 +1,6 @@
 -- No row names a zombie, and it has no LWP.
-use Rattle.std.proofs.Common.{◌≡◌, ℕ, false, ◌==◌, Option, Some, None, IfSome, arith}
-use Rattle.trace_stop.proofs.CommonNames.{nat_tests, first_lwp, ProcData, is_live, is_this, process_of, Rows, next_tracee, next_child, InOwnBlock, IsLiveOf, MidStepInvariant}
-use Rattle.trace_stop.proofs.Every.{All-imply, All-both, find_none}
-use Rattle.trace_stop.proofs.Found.{live_named}
-use Rattle.proc_table.proofs.Every.{every_found}
+use Rattle.wait4.proofs.CommonNames.{◌≡◌, ℕ, false, ◌==◌, Option, Some, None, IfSome, arith, nat_tests, first_lwp, ProcData, is_live, is_this, process_of, Rows, next_tracee, next_child, InOwnBlock}
+use Rattle.wait4.proofs.CommonNames.{IsLiveOf, MidStepInvariant, All-imply, All-both, find_none, live_named, every_found}
 
 module _ (rows : Rows) (p : ProcData) (s : MidStepInvariant rows) (at : process_of p.pid rows.processes ≡ Some p) (ended : is_live p ≡ false) where
   not_live : (u : ℕ) → IsLiveOf rows u p.pid → ⊥

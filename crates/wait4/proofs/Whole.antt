@@ -1,8 +1,5 @@
 -- A signed number of 64 bits is negative, or one from 0 on.
-use Rattle.std.proofs.Common.{arith, ◌≡◌, ℕ, ℤ, pos, negsuc, true, false, w64, SFits, to_z, of_z, sym, ap, ◌∙◌}
-use Rattle.std.specs.Int.Signed.{lt_z}
-use Rattle.std.proofs.lemmas.Bool.Decides.{nat_tests}
-use Rattle.std.proofs.lemmas.Int.{to_z-of_z}
+use Rattle.wait4.proofs.CommonNames.{arith, ◌≡◌, ℕ, ℤ, pos, negsuc, true, false, w64, SFits, to_z, of_z, sym, ap, ◌∙◌, lt_z, nat_tests, to_z-of_z}
 
 below_zero : (z : ℤ) → lt_z z (pos 0) ≡ true → (k : ℕ) × (z ≡ negsuc k)
 below_zero z is = grind (arith, nat_tests, is)
