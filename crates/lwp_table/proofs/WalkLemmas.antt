@@ -1,5 +1,5 @@
 -- Walks along the links, and the rows that they meet.
-use Rattle.lwp_table.proofs.CommonNames.{◌≡◌, ℕ, ◌+◌, ◌-◌, ◌<◌, ◌≤◌, Bool, true, false, List, [], ◌∷◌, Option, Some, None, IfSome, refl, sym, ap, subst, ◌∙◌, arith, nat_eq, filter, rules, option_map}
+use Rattle.lwp_table.proofs.CommonNames.{◌≡◌, ℕ, ◌+◌, ◌-◌, ◌<◌, ◌≤◌, Bool, true, false, List, [], ◌∷◌, Option, Some, None, refl, sym, ap, subst, ◌∙◌, arith, nat_eq, filter, rules, option_map}
 use Rattle.std.specs.Option.{option_and_then}
 use Rattle.lwp_table.proofs.CommonNames.{IsSomeAnd, lookup, cases_Bool, nat_tests, same_Some, LwpData, Slot, Node, IsNearest, IsChain, up, anywhere, above, own_node, seen_by, all_node}
 use Rattle.lwp_table.proofs.CommonNames.{is_of, born_row, listing, rows_of, IsIndexed, rows_from, IsWalk, find, lwp_of, first_lwp, next_lwp}
@@ -109,14 +109,10 @@ module _ (f : ℕ → Option Slot) (es : List (ℕ × ℕ)) (births : ℕ) (inde
         → IsNearest up (seen_by own_node f) pid (above was.born) was.own.next × (next_lwp pid tid (rows_of f es births) ≡ row_at f was.own.next)
     next-near first last chain tid at was its listed there = grind (arith, nat_tests, some_and, lwp_of-found f es births indexed tid at was listed there, chain.next_is at (own_node was), next-row at was was.own.next there)
 
--- a link leads to a slot of its list
-walk_there : (f : ℕ → Option Slot) (node : Slot → Node) (list : ℕ) (P : ℕ → Type 0) (o : Option ℕ) → IsNearest up (seen_by node f) list P o → IfSome o (λ s. IsSomeAnd (f s) (λ slot. (node slot).list ≡ list))
-walk_there f node list P o near = grind (arith, nat_tests, came)
-
 module _ (f : ℕ → Option Slot) (es : List (ℕ × ℕ)) (births : ℕ) (node : Slot → Node) (list : ℕ) where
   -- a walk begins
   pub IsWalk-first : (first last : Option ℕ) → IsIndexed f es births → IsChain (seen_by node f) list first last → IsWalk f es births node list first
-  IsWalk-first first last indexed chain = record { indexed = indexed; next_is = λ s slot there on. chain.next_is s (node slot) (ap (option_map node) there) on; there = walk_there f node list anywhere first chain.first_is }
+  IsWalk-first first last indexed chain = record { indexed = indexed; next_is = λ s slot there on. chain.next_is s (node slot) (ap (option_map node) there) on; there = grind (arith, nat_tests, came, chain.first_is) }
 
   -- the slot at which a walk is belongs to its list
   pub walk_on : (s : ℕ) (slot : Slot) → IsWalk f es births node list (Some s) → f s ≡ Some slot → (node slot).list ≡ list
