@@ -26,8 +26,8 @@ pub use Rattle.trace_stop.specs.End.{waits_where}
 pub use Rattle.trace_stop.specs.Facts.{Ended, FitLwp, FitProcess, IfEnded, IsLiveChild, IsLiveOf, IsSound, Linked, MidStepInvariant, Silent, Standing, WithOwner, waited_for}
 pub use Rattle.trace_stop.specs.Post.{continues, notified, notifies, posted, posted_lwp, posted_process, posted_set, settle, settled_lwp, settled_process, unwanted}
 pub use Rattle.trace_stop.specs.Reports.{IsStopped, report_dropped, reporter, unreported}
-pub use Rattle.trace_stop.specs.Sound.{holds, implies, is_end, is_live_at, is_live_child, is_live_of, is_state, names_own, of_owner, pairwise, sound_limits, sound_links, sound_lwp}
-pub use Rattle.trace_stop.specs.Sound.{sound_numbers, sound_owners, sound_rows, sound_states}
+pub use Rattle.trace_stop.specs.Sound.{holds, implies, is_end, is_live_at, is_live_child, is_live_of, is_state, names_own, of_owner, pairwise, sound_limits, sound_link, sound_lwp}
+pub use Rattle.trace_stop.specs.Sound.{sound_numbers, sound_owners, sound_rows, sound_state}
 pub use Rattle.trace_stop.specs.Stop.{detach, ends_process, post, resume, stop, tracers}
 pub use Rattle.proc_table.proofs.Changes.{change-done, change_process-at}
 pub use Rattle.proc_table.proofs.Cursors.{InBlock-after, cursors-set}
