@@ -66,10 +66,7 @@ differ_tells (l ∷ ls) = grind (arith, mapped_tells (λ (k : LwpData). k.tid) (
 -- a process on its own, an LWP's process, and what rows say of them
 
 home_tells : (p : ProcData) → Decides (list_any (λ u. u == p.uid) users && in_block (pid_block p.uid) p.pid) (InOwnBlock p)
-home_tells p =
-    let user = user_tells p.uid in
-    let block = block_tells (pid_block p.uid) p.pid in
-    (λ is. record { user = user.0 (and_left _ _ is); block = block.0 (and_right _ _ is) }, λ h. both _ _ (user.1 h.user) (block.1 h.block))
+home_tells p = (λ is. record { user = (user_tells p.uid).0 (and_left _ _ is); block = (block_tells (pid_block p.uid) p.pid).0 (and_right _ _ is) }, λ h. both _ _ ((user_tells p.uid).1 h.user) ((block_tells (pid_block p.uid) p.pid).1 h.block))
 
 abbrev people_test : Rows → ProcData → Bool
 people_test rows p = implies (is_live p) (leb 1 (lwp_count p.pid rows))
